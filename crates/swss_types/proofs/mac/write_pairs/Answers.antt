@@ -1,0 +1,5 @@
+use Rattle.swss_types.proofs.Fronts.{take-front_kept, on_err}
+use Rattle.swss_types.proofs.mac.write_pairs.Goals as goal
+
+pub returns-in_err-write_behind-in-len1-up-clause-err : goal.returns-in_err-write_behind-in-len1-up-clause-err
+returns-in_err-write_behind-in-len1-up-clause-err c = on_err _ (take-front_kept _ _ _ _ c.in_err-write_behind-in-len1-up.ensures.err c.in_ok-write_pair-in-len1-up.ensures.ok)

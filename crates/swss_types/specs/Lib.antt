@@ -1,0 +1,14 @@
+pub mod Address
+pub mod Hex
+pub mod Interface
+pub mod Ip
+pub mod IpParts
+pub mod Lanes
+pub mod Laws
+pub mod Mac
+pub mod Number
+pub mod Outside
+pub mod OutsideMemory
+pub mod Parts
+pub mod Prefix
+pub mod Tagging

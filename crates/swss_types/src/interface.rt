@@ -1,0 +1,63 @@
+// Names of interfaces.
+ghost use Rattle.std.specs.Prelude.{◌≡◌, ◌++◌, OnOk, OnErr};
+ghost use Rattle.std.specs.Fmt.{decimal};
+ghost use Rattle.swss_types.specs.Interface.{if_name_of, if_name_text};
+
+use crate::{OutOfMemory, read_number, write_number};
+
+/// The name of a port, a VLAN's interface or a loopback interface, by its number: `Ethernet0`, `Vlan10`, `Loopback0`.
+/// It is proper where an Ethernet or Loopback number is at most 999999 and a Vlan number is 1 to 4094.
+#[derive(Clone, Copy, Debug, PartialEq, Eq, PartialOrd, Ord)]
+pub enum IfName {
+    /// A port.
+    Ethernet(u32),
+    /// The interface of a VLAN.
+    Vlan(u16),
+    /// A loopback interface.
+    Loopback(u32),
+}
+
+impl IfName {
+    /// The name that the text is, or None where it is none.
+    pub fn read(text: &[u8]) -> Option<IfName>
+        ensures { result ≡ if_name_of text.now }
+    {
+        if let Some(number) = text.strip_prefix(b"Ethernet") {
+            return read_number(number, 999_999).map(IfName::Ethernet);
+        }
+        if let Some(number) = text.strip_prefix(b"Vlan") {
+            return match read_number(number, 4094) {
+                Some(vlan) if vlan > 0 => Some(IfName::Vlan(vlan as u16)),
+                _ => None,
+            };
+        }
+        let number = text.strip_prefix(b"Loopback")?;
+        read_number(number, 999_999).map(IfName::Loopback)
+    }
+
+    /// Appends the written name.
+    pub fn write(&self, out: &mut Vec<u8>) -> Result<(), OutOfMemory>
+        ensures ok { OnOk result (out.new.items ≡ out.old.items ++ if_name_text self.now) }
+        ensures err { OnErr result (out.new.items ≡ out.old.items) }
+    {
+        match self {
+            IfName::Ethernet(port) => write_named(out, b"Ethernet", *port),
+            IfName::Vlan(vlan) => write_named(out, b"Vlan", u32::from(*vlan)),
+            IfName::Loopback(number) => write_named(out, b"Loopback", *number),
+        }
+    }
+}
+
+/// Appends a word and the decimal form of a number.
+fn write_named(out: &mut Vec<u8>, word: &[u8], number: u32) -> Result<(), OutOfMemory>
+    ensures ok { OnOk result (out.new.items ≡ out.old.items ++ (word.now ++ decimal number)) }
+    ensures err { OnErr result (out.new.items ≡ out.old.items) }
+{
+    let before = out.len();
+    out.extend_from_slice(word)?;
+    if let Err(error) = write_number(out, u64::from(number)) {
+        out.truncate(before);
+        return Err(error);
+    }
+    Ok(())
+}

@@ -1,0 +1,179 @@
+// The lanes of a port.
+ghost use Rattle.std.specs.Prelude.{◌≡◌, [], ◌∷◌, ◌++◌, ◌<◌, length, slice_index, flat_map, IfOk, OnOk, OnErr, take, option_map};
+ghost use Rattle.std.specs.Fmt.{decimal};
+ghost use Rattle.std.specs.Prelude.{◌==◌};
+ghost use Rattle.std.proofs.Common.{rules};
+ghost use Rattle.std.specs.Cmp.{partial_order_from_own_ties};
+ghost use Rattle.std.specs.Cmp.Rules.{comparing};
+ghost use Rattle.std.specs.Cmp.Lexicographic.{slice_cmp, pointwise};
+ghost use Rattle.std.specs.Ordering.{nat_cmp, as_partial_cmp};
+ghost use Rattle.swss_types.specs.Lanes.{lanes_of, lanes_in, lanes_text, rising, IsLaneList};
+ghost use Rattle.swss_types.specs.Parts.{parts_at};
+
+use crate::{OutOfMemory, cut_at, insert_rising, read_number, write_number};
+use std::alloc::Global;
+use std::cmp::Ordering;
+use std::marker::Model;
+
+/// The serial lanes of a port: 1 to 8 rising numbers below 512.
+#[derive(Debug, Drop)]
+pub struct Lanes {
+    lanes: Vec<u16>,
+}
+
+impl Model for Lanes {
+    ghost use Rattle.std.specs.Prelude.{List, ℕ};
+    ghost use Rattle.swss_types.specs.Lanes.{IsLaneList};
+
+    ghost Value = { List ℕ };
+
+    ghost view = { λ l. l.lanes.items };
+
+    ghost invariant = { λ l. IsLaneList l.lanes.items };
+}
+
+impl Lanes {
+    /// The lanes that the text lists, or None where it is no list of lanes.
+    pub fn read(alloc: Global, text: &[u8]) -> Result<Option<Lanes>, OutOfMemory>
+        ensures { IfOk result (λ lanes. lanes ≡ lanes_of text.now) }
+    {
+        let Some(numbers) = read_numbers(alloc, text)? else {
+            return Ok(None);
+        };
+        let lanes = in_order(alloc, &numbers)?;
+        if lanes.len() != numbers.len() || numbers.len() > 8 {
+            return Ok(None);
+        }
+        Ok(Some(Lanes { lanes }))
+    }
+
+    /// The lanes, rising.
+    pub fn items(&self) -> &[u16]
+        ensures value { result.now ≡ self.now }
+        ensures lanes { IsLaneList result.now }
+    {
+        self.lanes.as_slice()
+    }
+
+    /// The least lane.
+    pub fn first(&self) -> u16
+        ensures { result ≡ slice_index self.now 0 }
+    {
+        self.lanes[0]
+    }
+
+    /// Appends the written form: the lanes, rising, joined by commas.
+    pub fn write(&self, out: &mut Vec<u8>) -> Result<(), OutOfMemory>
+        ensures ok { OnOk result (out.new.items ≡ out.old.items ++ lanes_text self.now) }
+        ensures err { OnErr result (out.new.items ≡ out.old.items) }
+    {
+        let before = out.len();
+        if let Err(error) = write_joined(out, self.items()) {
+            out.truncate(before);
+            return Err(error);
+        }
+        Ok(())
+    }
+
+    /// The same lanes once more.
+    pub fn copy(&self) -> Result<Lanes, OutOfMemory>
+        ensures { IfOk result (λ lanes. lanes ≡ self.now) }
+    {
+        Ok(Lanes {
+            lanes: self.lanes.clone()?,
+        })
+    }
+}
+
+impl PartialEq for Lanes {
+    ghost eq = { pointwise ◌==◌ };
+
+    ghost laws = { Prim.search (comparing, rules) };
+
+    fn eq(&self, other: &Lanes) -> bool {
+        self.lanes.as_slice() == other.lanes.as_slice()
+    }
+}
+
+impl Eq for Lanes {
+    ghost laws = { Prim.search (comparing, rules) };
+}
+
+impl PartialOrd for Lanes {
+    ghost partial_cmp = { as_partial_cmp (slice_cmp nat_cmp) };
+
+    ghost laws = { partial_order_from_own_ties (Prim.search (comparing, rules)) (Prim.search (comparing, rules)) };
+
+    fn partial_cmp(&self, other: &Lanes) -> Option<Ordering> {
+        Some(self.cmp(other))
+    }
+}
+
+impl Ord for Lanes {
+    ghost cmp = { slice_cmp nat_cmp };
+
+    ghost total = { Prim.search (comparing, rules) };
+
+    ghost matches_partial_cmp = { Prim.search (comparing, rules) };
+
+    ghost matches_eq = { Prim.search (comparing, rules) };
+
+    fn cmp(&self, other: &Lanes) -> Ordering {
+        self.lanes.as_slice().cmp(other.lanes.as_slice())
+    }
+}
+
+/// The numbers below 512 that the text lists between commas, or None where a part is no such number.
+fn read_numbers(alloc: Global, text: &[u8]) -> Result<Option<Vec<u16>>, OutOfMemory>
+    ensures { IfOk result (λ numbers. option_map (λ n. n.items) numbers ≡ lanes_in (parts_at 44 text.now)) }
+{
+    let mut numbers = Vec::new(alloc);
+    let mut left = Some(text);
+    while let Some(list) = left {
+        let (part, behind) = cut_at(list, b',');
+        let Some(number) = read_number(part, 511) else {
+            return Ok(None);
+        };
+        numbers.push(number as u16)?;
+        left = behind;
+    }
+    Ok(Some(numbers))
+}
+
+/// The numbers in rising order, each once.
+fn in_order(alloc: Global, numbers: &[u16]) -> Result<Vec<u16>, OutOfMemory>
+    ensures { IfOk result (λ lanes. lanes.items ≡ rising [] numbers.now) }
+{
+    let mut lanes = Vec::new(alloc);
+    for number in numbers {
+        insert_rising(&mut lanes, *number)?;
+    }
+    Ok(lanes)
+}
+
+/// Appends numbers joined by commas. An Err may leave some of them.
+fn write_joined(out: &mut Vec<u8>, lanes: &[u16]) -> Result<(), OutOfMemory>
+    ensures ok { OnOk result (out.new.items ≡ out.old.items ++ lanes_text lanes.now) }
+    ensures err { OnErr result (take (length out.old.items) out.new.items ≡ out.old.items) }
+{
+    match lanes {
+        [] => Ok(()),
+        [first, others @ ..] => {
+            write_number(out, u64::from(*first))?;
+            write_behind(out, others)?;
+            Ok(())
+        }
+    }
+}
+
+/// Appends each number behind a comma. An Err may leave some of them.
+fn write_behind(out: &mut Vec<u8>, lanes: &[u16]) -> Result<(), OutOfMemory>
+    ensures ok { OnOk result (out.new.items ≡ out.old.items ++ flat_map (λ lane. 44 ∷ decimal lane) lanes.now) }
+    ensures err { OnErr result (take (length out.old.items) out.new.items ≡ out.old.items) }
+{
+    for lane in lanes {
+        out.push(b',')?;
+        write_number(out, u64::from(*lane))?;
+    }
+    Ok(())
+}

@@ -1,0 +1,98 @@
+// A text of a table: a name, a value, or a key that does not read.
+ghost use Rattle.std.specs.Prelude.{◌≡◌, ◌==◌, IfOk, MatchOption};
+ghost use Rattle.std.specs.Str.{IsUtf8};
+ghost use Rattle.std.proofs.Common.{rules};
+ghost use Rattle.std.specs.Cmp.{partial_order_from_own_ties};
+ghost use Rattle.std.specs.Cmp.Rules.{comparing};
+ghost use Rattle.std.specs.Cmp.Lexicographic.{slice_cmp, pointwise};
+ghost use Rattle.std.specs.Ordering.{nat_cmp, as_partial_cmp};
+
+use crate::OutOfMemory;
+use std::alloc::Global;
+use std::cmp::Ordering;
+use std::marker::Model;
+use std::str;
+
+/// A list of bytes that is valid UTF-8. Texts are ordered byte by byte.
+#[derive(Debug, Drop)]
+pub struct Text {
+    text: String,
+}
+
+impl Model for Text {
+    ghost use Rattle.std.specs.Prelude.{List, ℕ};
+    ghost use Rattle.std.specs.String.{string_bytes};
+
+    ghost Value = { List ℕ };
+
+    ghost view = { λ t. string_bytes t.text };
+}
+
+impl Text {
+    /// The text of these bytes: None exactly where they are not UTF-8.
+    pub fn new(alloc: Global, bytes: &[u8]) -> Result<Option<Text>, OutOfMemory>
+        ensures { IfOk result (λ text. MatchOption text (¬ IsUtf8 bytes.now) (λ t. (t ≡ bytes.now) × IsUtf8 bytes.now)) }
+    {
+        match str::from_utf8(bytes) {
+            Ok(text) => Ok(Some(Text {
+                text: String::from_str(alloc, text)?,
+            })),
+            Err(_) => Ok(None),
+        }
+    }
+
+    /// The bytes of the text.
+    pub fn bytes(&self) -> &[u8]
+        ensures value { result.now ≡ self.now }
+        ensures utf8 { IsUtf8 result.now }
+    {
+        self.text.as_str().as_bytes()
+    }
+
+    /// The same text once more.
+    pub fn copy(&self) -> Result<Text, OutOfMemory>
+        ensures { IfOk result (λ text. text ≡ self.now) }
+    {
+        Ok(Text {
+            text: self.text.clone()?,
+        })
+    }
+}
+
+impl PartialEq for Text {
+    ghost eq = { pointwise ◌==◌ };
+
+    ghost laws = { Prim.search (comparing, rules) };
+
+    fn eq(&self, other: &Text) -> bool {
+        self.bytes() == other.bytes()
+    }
+}
+
+impl Eq for Text {
+    ghost laws = { Prim.search (comparing, rules) };
+}
+
+impl PartialOrd for Text {
+    ghost partial_cmp = { as_partial_cmp (slice_cmp nat_cmp) };
+
+    ghost laws = { partial_order_from_own_ties (Prim.search (comparing, rules)) (Prim.search (comparing, rules)) };
+
+    fn partial_cmp(&self, other: &Text) -> Option<Ordering> {
+        Some(self.cmp(other))
+    }
+}
+
+impl Ord for Text {
+    ghost cmp = { slice_cmp nat_cmp };
+
+    ghost total = { Prim.search (comparing, rules) };
+
+    ghost matches_partial_cmp = { Prim.search (comparing, rules) };
+
+    ghost matches_eq = { Prim.search (comparing, rules) };
+
+    fn cmp(&self, other: &Text) -> Ordering {
+        self.bytes().cmp(other.bytes())
+    }
+}
