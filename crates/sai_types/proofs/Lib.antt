@@ -1,0 +1,10 @@
+mod Apart
+mod Decided
+mod Entries
+mod Found
+mod Keys
+mod Legal
+mod Maps
+mod Refer
+mod Things
+mod Whole

@@ -1,0 +1,73 @@
+-- What contracts see of a chip, and what its calls answer and leave.
+use Rattle.std.specs.Prelude.{◌≡◌, ℕ, ◌<◌, Bool, true, false, ◌&&◌, ◌⊎◌, List, [], ◌∷◌, ◌++◌, map, Some}
+use Rattle.sai_types.specs.declared.ids.Rid.{Rid}
+use Rattle.sai_types.specs.declared.body.Call.{Call}
+use Rattle.sai_types.specs.declared.body.Object.{Object}
+use Rattle.sai_types.specs.declared.answer.ChipAnswer.{ChipAnswer}
+use Rattle.sai_types.specs.declared.answer.ChipAnswer.TheVariants as answer
+use Rattle.sai_types.specs.declared.answer.ListAnswer.{ListAnswer}
+use Rattle.sai_types.specs.declared.answer.ListAnswer.TheVariants as listed
+use Rattle.sai_types.specs.Objects.{Objects}
+use Rattle.sai_types.specs.Refusal.{refusal_of, is_legal, IsLegal}
+use Rattle.sai_types.specs.After.{after_call, makes_id, next_id}
+
+-- the objects in the order of their entries; the calls that took effect, in order; the room for each kind; whether each call so far was legal; how often the chip failed
+pub record ChipState : Type 0 where
+  pub objects : Objects
+  pub effects : List (Call Rid)
+  pub capacities : List ℕ
+  pub clean : Bool
+  pub faults : ℕ
+
+-- a new chip
+abbrev pub new_chip : List ℕ → ChipState
+new_chip capacities = record { objects = []; effects = []; capacities = capacities; clean = true; faults = 0 }
+
+-- a call that took effect: it was legal, the objects changed by it, and it ends the list of effects
+pub record TakesEffect (old : ChipState) (c : Call Rid) (new : ChipState) : Type 0 where
+  pub legal : IsLegal old.capacities old.objects c
+  pub objects : new.objects ≡ after_call (next_id old.effects) old.objects c
+  pub effects : new.effects ≡ old.effects ++ c ∷ []
+
+-- a call without effect
+pub record StaysSame (old new : ChipState) : Type 0 where
+  pub objects : new.objects ≡ old.objects
+  pub effects : new.effects ≡ old.effects
+
+-- a call that was refused by the chip's table
+abbrev pub IsRefused : ChipState → Call Rid → ChipAnswer → ChipState → Type 0
+IsRefused old c refusal new = (refusal_of old.capacities old.objects c ≡ Some refusal) × StaysSame old new × (new.faults ≡ old.faults)
+
+-- what each answer says
+abbrev pub Answers : ChipState → Call Rid → ChipAnswer → ChipState → Type 0
+Answers old c (answer.Made id) new = TakesEffect old c new × (makes_id c ≡ true) × (id.0 ≡ next_id old.effects) × (new.faults ≡ old.faults)
+Answers old c answer.Done new = TakesEffect old c new × (makes_id c ≡ false) × (new.faults ≡ old.faults)
+Answers old c answer.Exists new = IsRefused old c answer.Exists new
+Answers old c answer.BadReference new = IsRefused old c answer.BadReference new
+Answers old c answer.NotFound new = IsRefused old c answer.NotFound new
+Answers old c answer.InUse new = IsRefused old c answer.InUse new
+Answers old c answer.Full new = IsRefused old c answer.Full new
+Answers old c answer.Failed new = (StaysSame old new ⊎ TakesEffect old c new) × (old.faults < new.faults)
+Answers old c answer.NoMemory new = StaysSame old new × (new.faults ≡ old.faults)
+
+-- a call and its answer: the chip stays clean only where the call was legal, and keeps its room
+pub record IsAnswered (old : ChipState) (c : Call Rid) (a : ChipAnswer) (new : ChipState) : Type 0 where
+  pub answer : Answers old c a new
+  pub clean : new.clean ≡ (old.clean && is_legal old.capacities old.objects c)
+  pub capacities : new.capacities ≡ old.capacities
+
+-- an object as a list of the chip gives it
+abbrev pub objects_of : Objects → List (Object Rid)
+objects_of objects = map (λ o. record { entry = o.0; body = o.1 }) objects
+
+abbrev pub Lists : ChipState → ListAnswer → List (Object Rid) → List (Object Rid) → ChipState → Type 0
+Lists old listed.Done out out' new = (out' ≡ out ++ objects_of old.objects) × (new.faults ≡ old.faults)
+Lists old listed.Failed out out' new = (out' ≡ out) × (old.faults < new.faults)
+Lists old listed.NoMemory out out' new = (out' ≡ out) × (new.faults ≡ old.faults)
+
+-- a list of the chip and its answer: each object once, and nothing changes but the count of faults
+pub record IsListed (old : ChipState) (a : ListAnswer) (out out' : List (Object Rid)) (new : ChipState) : Type 0 where
+  pub answer : Lists old a out out' new
+  pub same : StaysSame old new
+  pub clean : new.clean ≡ old.clean
+  pub capacities : new.capacities ≡ old.capacities

@@ -1,0 +1,10 @@
+pub mod After
+pub mod Alike
+pub mod ChipState
+pub mod Decided
+pub mod Forwarding
+pub mod Made
+pub mod Named
+pub mod Objects
+pub mod Pairing
+pub mod Refusal

@@ -1,0 +1,7 @@
+-- Pairs of places. Own.
+use Rattle.std.specs.Prelude.{◌≢◌, ℕ, List, [], ◌∷◌}
+
+-- neither place of the pair is there
+abbrev pub IsFree : List (ℕ × ℕ) → (ℕ × ℕ) → Type 0
+IsFree [] pair = Unit {0}
+IsFree (p ∷ ps) pair = (p.0 ≢ pair.0) × (p.1 ≢ pair.1) × IsFree ps pair
