@@ -1,0 +1,230 @@
+-- what clashes with a body, and what refers to an entry, by marks
+use Rattle.std.proofs.Common.{◌≡◌, ℕ, ◌==◌, Bool, true, false, ◌||◌, ◌&&◌, List, [], ◌∷◌, refl, sym, ap, ◌∙◌, rules}
+use Rattle.std.specs.List.{list_any}
+use Rattle.std.specs.Cmp.{both_tied}
+use Rattle.swss_types.specs.declared.address.Ip.{Ip}
+use Rattle.swss_types.specs.declared.address.Mac.{Mac}
+use Rattle.swss_types.specs.declared.tagging.Tagging.{Tagging}
+use Rattle.swss_types.specs.declared.address.Prefix.{Prefix}
+use Rattle.swss_types.specs.contracts.address.IpEq.TheImpl.Laws as equal_ip
+use Rattle.swss_types.specs.contracts.address.IpOrd.TheImpl.Laws as ordered_ip
+use Rattle.swss_types.specs.contracts.address.PrefixEq.TheImpl.Laws as equal_prefix
+use Rattle.swss_types.specs.contracts.address.PrefixOrd.TheImpl.Laws as ordered_prefix
+use Rattle.sai_types.specs.declared.ids.Rid.{Rid}
+use Rattle.sai_types.specs.declared.body.RifOn.{RifOn}
+use Rattle.sai_types.specs.declared.body.RifOn.TheVariants as on
+use Rattle.sai_types.specs.declared.body.To.{To}
+use Rattle.sai_types.specs.declared.body.To.TheVariants as to
+use Rattle.sai_types.specs.declared.body.Entry.{Entry}
+use Rattle.sai_types.specs.declared.body.Entry.TheVariants as entry
+use Rattle.sai_types.specs.declared.body.Body.{Body}
+use Rattle.sai_types.specs.declared.body.Body.TheVariants as body
+use Rattle.sai_types.specs.Refusal.{clash, refers_to, refers_to_id, stands_on, targets, same_ip, same_prefix, same_id, same_base}
+use Rattle.sai_types.specs.Objects.{Objects}
+use Rattle.sai_chip.specs.declared.mark.Mark.{Mark}
+use Rattle.sai_chip.specs.declared.mark.Mark.TheVariants as mark
+use Rattle.sai_chip.specs.Tally.{is_mark}
+use Rattle.sai_chip.specs.Marks.{lane_marks, base_marks, target_marks, has_mark, stands, refers}
+use Rattle.sai_chip.proofs.Standing.{any-same}
+
+mark_of_port : (a b : Rid) → is_mark (mark.BridgePort a) (mark.BridgePort b) ≡ same_id b a
+mark_of_port a b = search rules
+
+mark_of_vlan : (a b : ℕ) → is_mark (mark.Vlan a) (mark.Vlan b) ≡ (b == a)
+mark_of_vlan a b = search rules
+
+mark_of_ip : (a b : Ip) → is_mark (mark.Own a) (mark.Own b) ≡ same_ip b a
+mark_of_ip a b = sym (ordered_ip.matches_eq-law a b) ∙ equal_ip.laws-law.symm a b
+
+mark_of_prefix : (a b : Prefix) → is_mark (mark.Route a) (mark.Route b) ≡ same_prefix b a
+mark_of_prefix a b = sym (ordered_prefix.matches_eq-law a b) ∙ equal_prefix.laws-law.symm a b
+
+mark_of_base : (a b : RifOn Rid) → is_mark (mark.Rif a) (mark.Rif b) ≡ same_base b a
+mark_of_base (on.Port a) (on.Port b) = search rules
+mark_of_base (on.Port a) (on.Vlan b) = refl
+mark_of_base (on.Vlan a) (on.Port b) = refl
+mark_of_base (on.Vlan a) (on.Vlan b) = search rules
+
+mark_of_member : (a c b d : Rid) → is_mark (mark.VlanMember a c) (mark.VlanMember b d) ≡ (same_id b a && same_id d c)
+mark_of_member a c b d = search rules
+
+mark_of_group_member : (a c b d : Rid) → is_mark (mark.GroupMember a c) (mark.GroupMember b d) ≡ (same_id b a && same_id d c)
+mark_of_group_member a c b d = search rules
+
+mark_of_neighbor : (a b : Rid) (x y : Ip) → is_mark (mark.Neighbor a x) (mark.Neighbor b y) ≡ (same_id b a && same_ip y x)
+mark_of_neighbor a b x y = sym (both_tied (same_id b a) (same_ip y x) _ _ (sym (mark_of_port a b)) (sym (mark_of_ip x y)))
+
+mark_of_next_hop : (a b : Rid) (x y : Ip) → is_mark (mark.NextHop a x) (mark.NextHop b y) ≡ (same_id b a && same_ip y x)
+mark_of_next_hop a b x y = sym (both_tied (same_id b a) (same_ip y x) _ _ (sym (mark_of_port a b)) (sym (mark_of_ip x y)))
+
+mark_of_lane : (a b : ℕ) → is_mark (mark.Lane a) (mark.Lane b) ≡ (b == a)
+mark_of_lane a b = search rules
+
+mark_of_id : (a b : Rid) → is_mark (refers a) (refers b) ≡ same_id a b
+mark_of_id a b = search rules
+
+mark_of_neigh : (a b : Rid) (x y : Ip) → is_mark (mark.RefersTo (entry.Neigh a x)) (mark.RefersTo (entry.Neigh b y)) ≡ (same_id a b && same_ip x y)
+mark_of_neigh a b x y = sym (both_tied (same_id a b) (same_ip x y) _ _ (sym (mark_of_id a b)) (ordered_ip.matches_eq-law x y))
+
+or_none : (b : Bool) → (b || false) ≡ b
+or_none true = refl
+or_none false = refl
+
+no_lane : (m : Mark) (lanes : List ℕ) → ((l : ℕ) → is_mark (mark.Lane l) m ≡ false) → list_any (λ k. is_mark k m) (lane_marks lanes) ≡ false
+no_lane m [] none = refl
+no_lane m (lane ∷ lanes) none = rw (none lane) (no_lane m lanes none)
+
+no_base : (m : Mark) (on : RifOn Rid) → ((r : Rid) → is_mark (refers r) m ≡ false) → list_any (λ k. is_mark k m) (base_marks on) ≡ false
+no_base m (on.Port p) none = rw (none p) refl
+no_base m (on.Vlan v) none = rw (none v) refl
+
+no_target : (m : Mark) (to : To Rid) → ((r : Rid) → is_mark (refers r) m ≡ false) → list_any (λ k. is_mark k m) (target_marks to) ≡ false
+no_target m to.Drop none = refl
+no_target m (to.Rif r) none = rw (none r) refl
+no_target m (to.NextHop r) none = rw (none r) refl
+no_target m (to.Group r) none = rw (none r) refl
+
+pub clash-vlan : (v : ℕ) (o : Body Rid) → clash (body.Vlan v) o ≡ has_mark (mark.Vlan v) o
+clash-vlan v (body.Vlan w) = sym (or_none _ ∙ mark_of_vlan w v)
+clash-vlan v (body.Port lanes speed mtu up) = sym (no_lane (mark.Vlan v) lanes (λ l. refl))
+clash-vlan v (body.Rif on) = sym (no_base (mark.Vlan v) on (λ r. refl))
+clash-vlan v (body.Route prefix to) = sym (no_target (mark.Vlan v) to (λ r. refl))
+clash-vlan v _ = refl
+
+pub clash-bridge_port : (p : Rid) (o : Body Rid) → clash (body.BridgePort p) o ≡ has_mark (mark.BridgePort p) o
+clash-bridge_port p (body.BridgePort q) = sym (or_none _ ∙ mark_of_port q p)
+clash-bridge_port p (body.Port lanes speed mtu up) = sym (no_lane (mark.BridgePort p) lanes (λ l. refl))
+clash-bridge_port p (body.Rif on) = sym (no_base (mark.BridgePort p) on (λ r. refl))
+clash-bridge_port p (body.Route prefix to) = sym (no_target (mark.BridgePort p) to (λ r. refl))
+clash-bridge_port p _ = refl
+
+pub clash-vlan_member : (v p : Rid) (t : Tagging) (o : Body Rid) → clash (body.VlanMember v p t) o ≡ has_mark (mark.VlanMember v p) o
+clash-vlan_member v p t (body.VlanMember w q u) = sym (or_none _ ∙ mark_of_member w q v p)
+clash-vlan_member v p t (body.Port lanes speed mtu up) = sym (no_lane (mark.VlanMember v p) lanes (λ l. refl))
+clash-vlan_member v p t (body.Rif on) = sym (no_base (mark.VlanMember v p) on (λ r. refl))
+clash-vlan_member v p t (body.Route prefix to) = sym (no_target (mark.VlanMember v p) to (λ r. refl))
+clash-vlan_member v p t _ = refl
+
+pub clash-own : (ip : Ip) (o : Body Rid) → clash (body.OwnAddress ip) o ≡ has_mark (mark.Own ip) o
+clash-own ip (body.OwnAddress other) = sym (or_none _ ∙ mark_of_ip other ip)
+clash-own ip (body.Port lanes speed mtu up) = sym (no_lane (mark.Own ip) lanes (λ l. refl))
+clash-own ip (body.Rif on) = sym (no_base (mark.Own ip) on (λ r. refl))
+clash-own ip (body.Route prefix to) = sym (no_target (mark.Own ip) to (λ r. refl))
+clash-own ip _ = refl
+
+pub clash-neighbor : (r : Rid) (ip : Ip) (mac : Mac) (o : Body Rid) → clash (body.Neighbor r ip mac) o ≡ has_mark (mark.Neighbor r ip) o
+clash-neighbor r ip mac (body.Neighbor s other mac') = sym (or_none _ ∙ mark_of_neighbor s r other ip)
+clash-neighbor r ip mac (body.Port lanes speed mtu up) = sym (no_lane (mark.Neighbor r ip) lanes (λ l. refl))
+clash-neighbor r ip mac (body.Rif on) = sym (no_base (mark.Neighbor r ip) on (λ r. refl))
+clash-neighbor r ip mac (body.Route prefix to) = sym (no_target (mark.Neighbor r ip) to (λ r. refl))
+clash-neighbor r ip mac _ = refl
+
+pub clash-next_hop : (r : Rid) (ip : Ip) (o : Body Rid) → clash (body.NextHop r ip) o ≡ has_mark (mark.NextHop r ip) o
+clash-next_hop r ip (body.NextHop s other) = sym (or_none _ ∙ mark_of_next_hop s r other ip)
+clash-next_hop r ip (body.Port lanes speed mtu up) = sym (no_lane (mark.NextHop r ip) lanes (λ l. refl))
+clash-next_hop r ip (body.Rif on) = sym (no_base (mark.NextHop r ip) on (λ r. refl))
+clash-next_hop r ip (body.Route prefix to) = sym (no_target (mark.NextHop r ip) to (λ r. refl))
+clash-next_hop r ip _ = refl
+
+pub clash-group_member : (g n : Rid) (o : Body Rid) → clash (body.GroupMember g n) o ≡ has_mark (mark.GroupMember g n) o
+clash-group_member g n (body.GroupMember h m) = sym (or_none _ ∙ mark_of_group_member h m g n)
+clash-group_member g n (body.Port lanes speed mtu up) = sym (no_lane (mark.GroupMember g n) lanes (λ l. refl))
+clash-group_member g n (body.Rif on) = sym (no_base (mark.GroupMember g n) on (λ r. refl))
+clash-group_member g n (body.Route prefix to) = sym (no_target (mark.GroupMember g n) to (λ r. refl))
+clash-group_member g n _ = refl
+
+pub clash-rif : (on : RifOn Rid) (o : Body Rid) → clash (body.Rif on) o ≡ has_mark (mark.Rif on) o
+clash-rif on (body.Rif other) = sym (ap (λ b. is_mark (mark.Rif other) (mark.Rif on) || b) (no_base (mark.Rif on) other (λ r. refl)) ∙ or_none _ ∙ mark_of_base other on)
+clash-rif on (body.Port lanes speed mtu up) = sym (no_lane (mark.Rif on) lanes (λ l. refl))
+clash-rif on (body.Route prefix to) = sym (no_target (mark.Rif on) to (λ r. refl))
+clash-rif on _ = refl
+
+pub clash-route : (prefix : Prefix) (t : To Rid) (o : Body Rid) → clash (body.Route prefix t) o ≡ has_mark (mark.Route prefix) o
+clash-route prefix t (body.Route other to) = sym (ap (λ b. is_mark (mark.Route other) (mark.Route prefix) || b) (no_target (mark.Route prefix) to (λ r. refl)) ∙ or_none _ ∙ mark_of_prefix other prefix)
+clash-route prefix t (body.Port lanes speed mtu up) = sym (no_lane (mark.Route prefix) lanes (λ l. refl))
+clash-route prefix t (body.Rif on) = sym (no_base (mark.Route prefix) on (λ r. refl))
+clash-route prefix t _ = refl
+
+pub clash-group : (o : Body Rid) → clash body.Group o ≡ false
+clash-group o = refl
+
+lane_among : (l : ℕ) (lanes : List ℕ) → list_any (λ k. is_mark k (mark.Lane l)) (lane_marks lanes) ≡ list_any (λ other. l == other) lanes
+lane_among l [] = refl
+lane_among l (lane ∷ lanes) = let one = mark_of_lane lane l in let others = lane_among l lanes in cc
+
+any_never : {X : Type 0} (p : X → Bool) → ((x : X) → p x ≡ false) → (xs : List X) → list_any p xs ≡ false
+any_never p none [] = refl
+any_never p none (x ∷ xs) = rw (none x) (any_never p none xs)
+
+clash-port : (lanes : List ℕ) (speed mtu : ℕ) (up : Bool) (o : Body Rid) → clash (body.Port lanes speed mtu up) o ≡ list_any (λ lane. has_mark (mark.Lane lane) o) lanes
+clash-port lanes speed mtu up (body.Port others s m u) = any-same _ _ (λ l. sym (lane_among l others)) lanes
+clash-port lanes speed mtu up (body.Rif on) = sym (any_never _ (λ l. no_base (mark.Lane l) on (λ r. refl)) lanes)
+clash-port lanes speed mtu up (body.Route prefix to) = sym (any_never _ (λ l. no_target (mark.Lane l) to (λ r. refl)) lanes)
+clash-port lanes speed mtu up _ = sym (any_never _ (λ l. refl) lanes)
+
+or_parts : (a b c d : Bool) → ((a || b) || (c || d)) ≡ ((a || c) || (b || d))
+or_parts true b c d = refl
+or_parts false true true d = refl
+or_parts false true false d = refl
+or_parts false false c d = refl
+
+any-or : {X : Type 0} (p q : X → Bool) (xs : List X) → list_any (λ x. p x || q x) xs ≡ (list_any p xs || list_any q xs)
+any-or p q [] = refl
+any-or p q (x ∷ xs) = ap (λ b. (p x || q x) || b) (any-or p q xs) ∙ or_parts (p x) (q x) (list_any p xs) (list_any q xs)
+
+any-any : {X Y : Type 0} (p : X → Y → Bool) (xs : List X) (ys : List Y) → list_any (λ x. list_any (p x) ys) xs ≡ list_any (λ y. list_any (λ x. p x y) xs) ys
+any-any p [] ys = sym (any_never _ (λ y. refl) ys)
+any-any p (x ∷ xs) ys = ap (λ b. list_any (p x) ys || b) (any-any p xs ys) ∙ sym (any-or (p x) (λ y. list_any (λ x'. p x' y) xs) ys)
+
+-- a port clashes where one of its lanes stands
+pub clashes-port : (lanes : List ℕ) (speed mtu : ℕ) (up : Bool) (objects : Objects) → list_any (λ o. clash (body.Port lanes speed mtu up) o.1) objects ≡ list_any (λ lane. stands (mark.Lane lane) objects) lanes
+clashes-port lanes speed mtu up objects =
+    any-same _ _ (λ o. clash-port lanes speed mtu up o.1) objects
+    ∙ sym (any-any (λ lane o. has_mark (mark.Lane lane) o.1) lanes objects)
+
+id_in_base : (r : Rid) (on : RifOn Rid) → stands_on on r ≡ list_any (λ k. is_mark k (refers r)) (base_marks on)
+id_in_base r (on.Port p) = sym (or_none _ ∙ mark_of_id p r)
+id_in_base r (on.Vlan v) = sym (or_none _ ∙ mark_of_id v r)
+
+id_in_target : (r : Rid) (to : To Rid) → targets to r ≡ list_any (λ k. is_mark k (refers r)) (target_marks to)
+id_in_target r to.Drop = refl
+id_in_target r (to.Rif a) = sym (or_none _ ∙ mark_of_id a r)
+id_in_target r (to.NextHop a) = sym (or_none _ ∙ mark_of_id a r)
+id_in_target r (to.Group a) = sym (or_none _ ∙ mark_of_id a r)
+
+two_ids : (a b r : Rid) → (same_id a r || same_id b r) ≡ list_any (λ k. is_mark k (refers r)) (refers a ∷ refers b ∷ [])
+two_ids a b r = let one = mark_of_id a r in let two = mark_of_id b r in let none = or_none (is_mark (refers b) (refers r)) in cc
+
+refers-id : (r : Rid) (b : Body Rid) → refers_to_id b r ≡ has_mark (refers r) b
+refers-id r (body.Port lanes speed mtu up) = sym (no_lane (refers r) lanes (λ l. refl))
+refers-id r (body.BridgePort port) = sym (or_none _ ∙ mark_of_id port r)
+refers-id r (body.VlanMember vlan bridge_port tagging) = two_ids vlan bridge_port r
+refers-id r (body.Rif on) = id_in_base r on
+refers-id r (body.Neighbor rif ip mac) = sym (or_none _ ∙ mark_of_id rif r)
+refers-id r (body.NextHop rif ip) = sym (or_none _ ∙ mark_of_id rif r)
+refers-id r (body.GroupMember group next_hop) = two_ids group next_hop r
+refers-id r (body.Route prefix to) = id_in_target r to
+refers-id r _ = refl
+
+pub refers-mark : (e : Entry Rid) (b : Body Rid) → refers_to b e ≡ has_mark (mark.RefersTo e) b
+refers-mark (entry.Oid r) b = refers-id r b
+refers-mark (entry.Neigh r ip) (body.NextHop rif other) = sym (or_none _ ∙ mark_of_neigh rif r other ip)
+refers-mark e (body.Port lanes speed mtu up) = sym (no_lane (mark.RefersTo e) lanes (λ l. refl))
+refers-mark (entry.Neigh r ip) (body.Rif on) = sym (no_base (mark.RefersTo (entry.Neigh r ip)) on (λ r. refl))
+refers-mark (entry.Neigh r ip) (body.Route prefix to) = sym (no_target (mark.RefersTo (entry.Neigh r ip)) to (λ r. refl))
+refers-mark (entry.Own ip) (body.Rif on) = sym (no_base (mark.RefersTo (entry.Own ip)) on (λ r. refl))
+refers-mark (entry.Own ip) (body.Route prefix to) = sym (no_target (mark.RefersTo (entry.Own ip)) to (λ r. refl))
+refers-mark (entry.Route p) (body.Rif on) = sym (no_base (mark.RefersTo (entry.Route p)) on (λ r. refl))
+refers-mark (entry.Route p) (body.Route prefix to) = sym (no_target (mark.RefersTo (entry.Route p)) to (λ r. refl))
+refers-mark _ _ = refl
+
+-- an entry is referred to where its mark stands
+pub refers-stands : (e : Entry Rid) (objects : Objects) → list_any (λ o. refers_to o.1 e) objects ≡ stands (mark.RefersTo e) objects
+refers-stands e objects = any-same _ _ (λ o. refers-mark e o.1) objects
+
+-- a body that a mark stands for clashes where the mark stands
+pub clashes-by : (b d : Body Rid) (m : Mark) (objects : Objects) (r : Bool) → b ≡ d → ((o : Body Rid) → clash d o ≡ has_mark m o) → r ≡ stands m objects → r ≡ list_any (λ o. clash b o.1) objects
+clashes-by b d m objects r e same h = h ∙ sym (any-same _ _ (λ o. ap (λ x. clash x o.1) e ∙ same o.1) objects)
+
+pub clashes-never : (b : Body Rid) (objects : Objects) → b ≡ body.Group → false ≡ list_any (λ o. clash b o.1) objects
+clashes-never b objects e = sym (any_never _ (λ o. ap (λ x. clash x o.1) e ∙ clash-group o.1) objects)

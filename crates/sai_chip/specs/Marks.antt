@@ -1,0 +1,77 @@
+-- What the objects of a chip take up. Own.
+use Rattle.std.specs.Prelude.{◌≡◌, ℕ, Bool, List, [], ◌∷◌, Option, Some, None, sum_by}
+use Rattle.std.specs.List.{list_any}
+use Rattle.std.specs.Map.{values_of}
+use Rattle.sai_types.specs.declared.ids.Rid.{Rid}
+use Rattle.sai_types.specs.declared.body.Body.{Body}
+use Rattle.sai_types.specs.declared.body.Body.TheVariants as body
+use Rattle.sai_types.specs.declared.body.Entry.TheVariants as entry
+use Rattle.sai_types.specs.declared.body.RifOn.{RifOn}
+use Rattle.sai_types.specs.declared.body.RifOn.TheVariants as on
+use Rattle.sai_types.specs.declared.body.To.{To}
+use Rattle.sai_types.specs.declared.body.To.TheVariants as to
+use Rattle.sai_types.specs.declared.body.Entry.{Entry}
+use Rattle.sai_types.specs.Objects.{Objects, kind_of, body_at}
+use Rattle.sai_chip.specs.declared.mark.Mark.{Mark}
+use Rattle.sai_chip.specs.declared.mark.Mark.TheVariants as mark
+use Rattle.sai_chip.specs.Tally.{Tally, is_mark, claims, count_at}
+
+-- a reference to the object with this identifier
+abbrev pub refers : Rid → Mark
+refers r = mark.RefersTo (entry.Oid r)
+
+abbrev pub lane_marks : List ℕ → List Mark
+lane_marks [] = []
+lane_marks (lane ∷ lanes) = mark.Lane lane ∷ lane_marks lanes
+
+abbrev pub base_marks : RifOn Rid → List Mark
+base_marks (on.Port p) = refers p ∷ []
+base_marks (on.Vlan v) = refers v ∷ []
+
+abbrev pub target_marks : To Rid → List Mark
+target_marks to.Drop = []
+target_marks (to.Rif r) = refers r ∷ []
+target_marks (to.NextHop n) = refers n ∷ []
+target_marks (to.Group g) = refers g ∷ []
+
+-- the natural key, the lanes and the references of a body
+abbrev pub key_marks : Body Rid → List Mark
+key_marks (body.Port lanes speed mtu up) = lane_marks lanes
+key_marks (body.Vlan vlan) = mark.Vlan vlan ∷ []
+key_marks (body.BridgePort port) = mark.BridgePort port ∷ refers port ∷ []
+key_marks (body.VlanMember vlan bridge_port tagging) = mark.VlanMember vlan bridge_port ∷ refers vlan ∷ refers bridge_port ∷ []
+key_marks (body.Rif on) = mark.Rif on ∷ base_marks on
+key_marks (body.OwnAddress ip) = mark.Own ip ∷ []
+key_marks (body.Neighbor rif ip mac) = mark.Neighbor rif ip ∷ refers rif ∷ []
+key_marks (body.NextHop rif ip) = mark.NextHop rif ip ∷ refers rif ∷ mark.RefersTo (entry.Neigh rif ip) ∷ []
+key_marks body.Group = []
+key_marks (body.GroupMember group next_hop) = mark.GroupMember group next_hop ∷ refers group ∷ refers next_hop ∷ []
+key_marks (body.Route prefix to) = mark.Route prefix ∷ target_marks to
+
+-- what a body takes up
+abbrev pub marks_of : Body Rid → List Mark
+marks_of b = mark.Of (kind_of b) ∷ key_marks b
+
+-- whether a body takes it up
+abbrev pub has_mark : Mark → Body Rid → Bool
+has_mark m b = list_any (λ k. is_mark k m) (marks_of b)
+
+-- whether one of the objects takes it up
+abbrev pub stands : Mark → Objects → Bool
+stands m objects = list_any (λ o. has_mark m o.1) objects
+
+-- how often the objects take it up
+abbrev pub standing : Mark → Objects → ℕ
+standing m objects = sum_by (λ b. claims m (marks_of b)) (values_of objects)
+
+-- each mark is counted as often as it stands
+pub record IsCounted (objects : Objects) (counts : Tally) : Type 0 where
+  pub each : (m : Mark) → count_at counts m ≡ standing m objects
+
+-- what the body of an object takes up, where there is one
+abbrev pub marks_if : Option (Body Rid) → List Mark
+marks_if None = []
+marks_if (Some b) = marks_of b
+
+abbrev pub marks_at : Objects → Entry Rid → List Mark
+marks_at objects e = marks_if (body_at objects e)

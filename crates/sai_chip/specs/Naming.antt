@@ -1,0 +1,47 @@
+-- What the objects of a list stand for, found by their entries and groups. Own.
+use Rattle.std.specs.Prelude.{◌≡◌, List, [], Option, Some, map, if◌then◌else◌}
+use Rattle.std.specs.BTreeMap.{is_at}
+use Rattle.std.specs.BTreeSet.{insert_key}
+use Rattle.std.specs.Map.{lookup}
+use Rattle.std.specs.Option.{unwrap_or}
+use Rattle.std.specs.declared.cmp.Ordering.{Ordering}
+use Rattle.sai_types.specs.declared.ids.Rid.{Rid}
+use Rattle.sai_types.specs.declared.hop.Hop.{Hop}
+use Rattle.sai_types.specs.declared.body.Object.{Object}
+use Rattle.sai_types.specs.declared.thing.Thing.{Thing}
+use Rattle.sai_types.specs.contracts.ids.RidOrd.TheImpl as rid_ord
+use Rattle.sai_types.specs.contracts.thing.ThingOrd.TheImpl as thing_ord
+use Rattle.sai_types.specs.declared.body.Entry.{Entry}
+use Rattle.sai_types.specs.Objects.{Objects, body_at}
+use Rattle.sai_types.specs.Refusal.{same_id}
+use Rattle.sai_types.specs.Named.{both, hop_cmp, hops_among}
+
+abbrev pub rid_cmp : Rid → Rid → Ordering
+rid_cmp = rid_ord.ghosts.cmp
+
+-- the order of things: by kind, and within a kind by what they are
+abbrev pub thing_cmp : Thing → Thing → Ordering
+thing_cmp = thing_ord.ghosts.cmp
+
+-- objects as entries with their bodies
+abbrev pub entries_of : List (Object Rid) → Objects
+entries_of objects = map (λ o. (o.entry, o.body)) objects
+
+abbrev pub GroupHops : Type 0
+GroupHops = List (Rid × Option (List Hop))
+
+-- the hops of a group: none where it has no entry
+abbrev pub hops_in : GroupHops → Rid → Option (List Hop)
+hops_in groups g = unwrap_or (lookup (is_at (rid_cmp g)) groups) (Some [])
+
+-- the hops that the members among these objects give to each group
+pub record AreHops (objects : Objects) (members : Objects) (groups : GroupHops) : Type 0 where
+  pub each : (g : Rid) → hops_in groups g ≡ hops_among objects g members
+
+-- the hops of a group where a member of another or of the same is added
+abbrev pub with_hop : Rid → Option Hop → Rid → Option (List Hop) → Option (List Hop)
+with_hop group hop g others = if same_id group g then both (insert_key hop_cmp) others hop else others
+
+-- bodies that are found as those of a list
+pub record AreBodies (objects : Objects) (bodies : Objects) : Type 0 where
+  pub each : (e : Entry Rid) → body_at bodies e ≡ body_at objects e

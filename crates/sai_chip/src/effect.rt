@@ -1,0 +1,80 @@
+// What calls leave.
+ghost use Rattle.std.specs.Prelude.{◌≡◌, ◌<◌, IfOk, OnOk, OnErr};
+ghost use Rattle.sai_types.specs.After.{after_call, entry_of, has_id, makes_id, with_attr};
+
+use crate::held::Held;
+use sai_types::{Attr, Body, Call, Entry, Rid};
+use swss_types::OutOfMemory;
+
+/// Makes the effect of a call on the objects; `id` is the identifier of the object that it makes, where that has one.
+pub fn make_effect(held: &mut Held, call: &Call<Rid>, id: Rid) -> Result<(), OutOfMemory>
+    ensures ok { OnOk result (held.new ≡ after_call id.0 held.old call.now) }
+    ensures err { OnErr result (held.new ≡ held.old) }
+{
+    match call {
+        Call::Create(body) => held.put(entry_of(id, body), body.copy()?),
+        Call::Set(entry, attr) => set(held, entry, attr),
+        Call::Remove(entry) => held.remove(entry),
+    }
+}
+
+/// Sets an attribute of an object, if there is one with the entry.
+fn set(held: &mut Held, entry: &Entry<Rid>, attr: &Attr<Rid>) -> Result<(), OutOfMemory>
+    ensures ok { OnOk result (held.new ≡ after_call 0 held.old (Call.Set entry.now attr.now)) }
+    ensures err { OnErr result (held.new ≡ held.old) }
+{
+    let Some(body) = held.body(entry) else {
+        return Ok(());
+    };
+    let body = with_attr(body, attr)?;
+    held.put(*entry, body)
+}
+
+/// Whether a call makes an object with an identifier.
+pub fn makes_id(call: &Call<Rid>) -> bool
+    ensures { result ≡ makes_id call.now }
+{
+    match call {
+        Call::Create(body) => has_id(body),
+        _ => false,
+    }
+}
+
+/// Own addresses, neighbours and routes have no identifier.
+fn has_id(body: &Body<Rid>) -> bool
+    ensures { result ≡ has_id body.now }
+{
+    !matches!(
+        body,
+        Body::OwnAddress { .. } | Body::Neighbor { .. } | Body::Route { .. }
+    )
+}
+
+/// The entry of a new object: its key, or this identifier.
+fn entry_of(id: Rid, body: &Body<Rid>) -> Entry<Rid>
+    ensures { result ≡ entry_of id.0 body.now }
+{
+    match body {
+        Body::OwnAddress { ip } => Entry::Own(*ip),
+        Body::Neighbor { rif, ip, .. } => Entry::Neigh(*rif, *ip),
+        Body::Route { prefix, .. } => Entry::Route(*prefix),
+        _ => Entry::Oid(id),
+    }
+}
+
+/// A body with a new value of an attribute that its kind has.
+fn with_attr(body: &Body<Rid>, attr: &Attr<Rid>) -> Result<Body<Rid>, OutOfMemory>
+    ensures { IfOk result (λ new. new ≡ with_attr body.now attr.now) }
+{
+    let mut new = body.copy()?;
+    match (&mut new, attr) {
+        (Body::Port { speed, .. }, Attr::Speed(value)) => *speed = *value,
+        (Body::Port { mtu, .. }, Attr::Mtu(value)) => *mtu = *value,
+        (Body::Port { up, .. }, Attr::Up(value)) => *up = *value,
+        (Body::VlanMember { tagging, .. }, Attr::Tagging(value)) => *tagging = *value,
+        (Body::Neighbor { mac, .. }, Attr::Mac(value)) => *mac = *value,
+        (Body::Route { to, .. }, Attr::To(value)) => *to = *value,
+        _ => {}
+    }
+    Ok(new)
+}

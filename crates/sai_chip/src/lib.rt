@@ -1,0 +1,22 @@
+//! A simulated SAI chip in memory.
+#![tactic(auto)]
+
+mod effect;
+mod fail;
+mod forward;
+mod forwarding;
+mod held;
+mod mark;
+mod marks;
+mod names;
+mod sim;
+mod table;
+mod tally;
+mod things;
+mod ways;
+
+pub use fail::Fail;
+pub use forward::Forward;
+pub use sim::SimChip;
+pub use things::named;
+pub use ways::Ways;

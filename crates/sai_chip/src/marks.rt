@@ -1,0 +1,131 @@
+// What bodies take up on a chip.
+ghost use Rattle.std.specs.Prelude.{◌≡◌, [], ◌∷◌, ◌++◌, OnOk, IfOk};
+ghost use Rattle.sai_types.specs.Objects.{kind_of};
+ghost use Rattle.sai_chip.specs.Marks.{marks_of, key_marks, lane_marks, base_marks, target_marks, refers};
+
+use crate::mark::Mark;
+use sai_types::{Body, Entry, Kind, Rid, RifOn, To};
+use std::alloc::Global;
+use swss_types::{OutOfMemory, Prefix};
+
+/// The kind of a body.
+pub fn kind_of(body: &Body<Rid>) -> Kind
+    ensures { result ≡ kind_of body.now }
+{
+    match body {
+        Body::Port { .. } => Kind::Port,
+        Body::Vlan { .. } => Kind::Vlan,
+        Body::BridgePort { .. } => Kind::BridgePort,
+        Body::VlanMember { .. } => Kind::VlanMember,
+        Body::Rif { .. } => Kind::Rif,
+        Body::OwnAddress { .. } => Kind::OwnAddress,
+        Body::Neighbor { .. } => Kind::Neighbor,
+        Body::NextHop { .. } => Kind::NextHop,
+        Body::Group => Kind::Group,
+        Body::GroupMember { .. } => Kind::GroupMember,
+        Body::Route { .. } => Kind::Route,
+    }
+}
+
+/// What a body takes up: a place among its kind, its natural key, its lanes and its references.
+pub fn marks_of(alloc: Global, body: &Body<Rid>) -> Result<Vec<Mark>, OutOfMemory>
+    ensures { IfOk result (λ marks. marks.items ≡ marks_of body.now) }
+{
+    let mut marks = Vec::new(alloc);
+    marks.push(Mark::Of(kind_of(body)))?;
+    push_keys(&mut marks, body)?;
+    Ok(marks)
+}
+
+/// Puts the marks of a body's natural key, lanes and references last.
+fn push_keys(marks: &mut Vec<Mark>, body: &Body<Rid>) -> Result<(), OutOfMemory>
+    ensures { OnOk result (marks.new.items ≡ marks.old.items ++ key_marks body.now) }
+{
+    match body {
+        Body::Port { lanes, .. } => push_lanes(marks, lanes.items()),
+        Body::Vlan { vlan } => push_all(marks, &[Mark::Vlan(*vlan)]),
+        Body::BridgePort { port } => push_all(marks, &[Mark::BridgePort(*port), refers(*port)]),
+        Body::VlanMember {
+            vlan,
+            bridge_port,
+            ..
+        } => push_all(
+            marks,
+            &[
+                Mark::VlanMember(*vlan, *bridge_port),
+                refers(*vlan),
+                refers(*bridge_port),
+            ],
+        ),
+        Body::Rif { on } => push_all(marks, &[Mark::Rif(*on), refers(base(*on))]),
+        Body::OwnAddress { ip } => push_all(marks, &[Mark::Own(*ip)]),
+        Body::Neighbor { rif, ip, .. } => {
+            push_all(marks, &[Mark::Neighbor(*rif, *ip), refers(*rif)])
+        }
+        Body::NextHop { rif, ip } => push_all(
+            marks,
+            &[
+                Mark::NextHop(*rif, *ip),
+                refers(*rif),
+                Mark::RefersTo(Entry::Neigh(*rif, *ip)),
+            ],
+        ),
+        Body::Group => Ok(()),
+        Body::GroupMember { group, next_hop } => push_all(
+            marks,
+            &[
+                Mark::GroupMember(*group, *next_hop),
+                refers(*group),
+                refers(*next_hop),
+            ],
+        ),
+        Body::Route { prefix, to } => push_route(marks, *prefix, *to),
+    }
+}
+
+/// A reference to the object with this identifier.
+pub fn refers(id: Rid) -> Mark
+    ensures { result ≡ refers id }
+{
+    Mark::RefersTo(Entry::Oid(id))
+}
+
+/// What a router interface stands on.
+fn base(on: RifOn<Rid>) -> Rid
+    ensures { base_marks on ≡ refers result ∷ [] }
+{
+    match on {
+        RifOn::Port(port) => port,
+        RifOn::Vlan(vlan) => vlan,
+    }
+}
+
+/// Puts the marks of a route last.
+fn push_route(marks: &mut Vec<Mark>, prefix: Prefix, to: To<Rid>) -> Result<(), OutOfMemory>
+    ensures { OnOk result (marks.new.items ≡ marks.old.items ++ Mark.Route prefix ∷ target_marks to) }
+{
+    marks.push(Mark::Route(prefix))?;
+    match to {
+        To::Drop => {}
+        To::Rif(id) | To::NextHop(id) | To::Group(id) => marks.push(refers(id))?,
+    }
+    Ok(())
+}
+
+/// Puts each of the marks last.
+fn push_all(marks: &mut Vec<Mark>, more: &[Mark]) -> Result<(), OutOfMemory>
+    ensures { OnOk result (marks.new.items ≡ marks.old.items ++ more.now) }
+{
+    marks.extend_from_slice(more)?;
+    Ok(())
+}
+
+/// Puts a mark for each lane last.
+fn push_lanes(marks: &mut Vec<Mark>, lanes: &[u16]) -> Result<(), OutOfMemory>
+    ensures { OnOk result (marks.new.items ≡ marks.old.items ++ lane_marks lanes.now) }
+{
+    for lane in lanes {
+        marks.push(Mark::Lane(*lane))?;
+    }
+    Ok(())
+}

@@ -1,0 +1,218 @@
+// What identifiers stand for.
+ghost use Rattle.std.specs.Prelude.{◌≡◌, [], IfOk, option_map};
+ghost use Rattle.sai_types.specs.Named.{base_on, both, bridge_port_at, goal_by, hop_on, next_hop_at, port_at, rif_at, thing_by, vlan_at};
+ghost use Rattle.sai_chip.specs.Naming.{hops_in};
+
+use sai_types::{Base, Body, Entry, Goal, Hop, Hops, PortThing, Rid, RifOn, Thing, To};
+use std::alloc::Global;
+use std::collections::BTreeMap;
+use swss_types::{Ip, Mac, OutOfMemory, Prefix, Tagging};
+
+/// Bodies by their entries.
+pub type Bodies = BTreeMap<Entry<Rid>, Body<Rid>>;
+
+/// The hops of each group that has members: None where a member's next hop is absent.
+pub type GroupHops = BTreeMap<Rid, Option<Hops>>;
+
+/// A port is named by its first lane.
+fn port_at(bodies: &Bodies, port: Rid) -> Option<u16>
+    ensures { result ≡ port_at bodies.now.entries port }
+{
+    match bodies.get(&Entry::Oid(port)) {
+        Some(Body::Port { lanes, .. }) => Some(lanes.first()),
+        _ => None,
+    }
+}
+
+/// A VLAN is named by its number.
+fn vlan_at(bodies: &Bodies, vlan: Rid) -> Option<u16>
+    ensures { result ≡ vlan_at bodies.now.entries vlan }
+{
+    match bodies.get(&Entry::Oid(vlan)) {
+        Some(Body::Vlan { vlan }) => Some(*vlan),
+        _ => None,
+    }
+}
+
+/// A bridge port is named by its port.
+fn bridge_port_at(bodies: &Bodies, bridge_port: Rid) -> Option<u16>
+    ensures { result ≡ bridge_port_at bodies.now.entries bridge_port }
+{
+    match bodies.get(&Entry::Oid(bridge_port)) {
+        Some(Body::BridgePort { port }) => port_at(bodies, *port),
+        _ => None,
+    }
+}
+
+/// What a router interface stands on.
+fn base_on(bodies: &Bodies, on: &RifOn<Rid>) -> Option<Base>
+    ensures { result ≡ base_on bodies.now.entries on.now }
+{
+    match on {
+        RifOn::Port(port) => Some(Base::Port(port_at(bodies, *port)?)),
+        RifOn::Vlan(vlan) => Some(Base::Vlan(vlan_at(bodies, *vlan)?)),
+    }
+}
+
+/// A router interface is named by its base.
+fn rif_at(bodies: &Bodies, rif: Rid) -> Option<Base>
+    ensures { result ≡ rif_at bodies.now.entries rif }
+{
+    match bodies.get(&Entry::Oid(rif)) {
+        Some(Body::Rif { on }) => base_on(bodies, on),
+        _ => None,
+    }
+}
+
+/// A neighbour is named by its interface and address.
+fn hop_on(bodies: &Bodies, rif: Rid, ip: Ip) -> Option<Hop>
+    ensures { result ≡ hop_on bodies.now.entries rif ip }
+{
+    let on = rif_at(bodies, rif)?;
+    Some(Hop { on, ip })
+}
+
+/// A next hop is named as its neighbour.
+pub fn next_hop_at(bodies: &Bodies, next_hop: Rid) -> Option<Hop>
+    ensures { result ≡ next_hop_at bodies.now.entries next_hop }
+{
+    match bodies.get(&Entry::Oid(next_hop)) {
+        Some(Body::NextHop { rif, ip }) => hop_on(bodies, *rif, *ip),
+        _ => None,
+    }
+}
+
+/// The hops of a group once more, without a hop where it has no member.
+fn hops_at(alloc: Global, groups: &GroupHops, group: Rid) -> Result<Option<Hops>, OutOfMemory>
+    ensures { IfOk result (λ hops. hops ≡ hops_in groups.now.entries group) }
+{
+    Ok(match groups.get(&group) {
+        Some(Some(hops)) => Some(hops.copy()?),
+        Some(None) => None,
+        None => Some(Hops::new(alloc)),
+    })
+}
+
+/// Where a route points.
+fn goal_at(
+    alloc: Global,
+    bodies: &Bodies,
+    groups: &GroupHops,
+    to: &To<Rid>,
+) -> Result<Option<Goal>, OutOfMemory>
+    ensures { IfOk result (λ goal. goal ≡ goal_by (hops_in groups.now.entries) bodies.now.entries to.now) }
+{
+    Ok(match to {
+        To::Drop => Some(Goal::Drop),
+        To::Rif(rif) => rif_at(bodies, *rif).map(Goal::Direct),
+        To::NextHop(next_hop) => next_hop_at(bodies, *next_hop).map(Goal::Via),
+        To::Group(group) => hops_at(alloc, groups, *group)?.map(Goal::Group),
+    })
+}
+
+/// What an object stands for: None where a reference is absent.
+pub fn thing_at(
+    alloc: Global,
+    bodies: &Bodies,
+    groups: &GroupHops,
+    entry: &Entry<Rid>,
+    body: &Body<Rid>,
+) -> Result<Option<Thing>, OutOfMemory>
+    ensures { IfOk result (λ thing. thing ≡ thing_by (hops_in groups.now.entries) bodies.now.entries (entry.now, body.now)) }
+{
+    match body {
+        Body::Port {
+            lanes,
+            speed,
+            mtu,
+            up,
+        } => Ok(Some(Thing::Port(PortThing {
+            lanes: lanes.copy()?,
+            speed: *speed,
+            mtu: *mtu,
+            up: *up,
+        }))),
+        Body::Vlan { vlan } => Ok(Some(Thing::Vlan(*vlan))),
+        Body::BridgePort { port } => Ok(port_at(bodies, *port).map(Thing::BridgePort)),
+        Body::VlanMember {
+            vlan,
+            bridge_port,
+            tagging,
+        } => Ok(member_at(bodies, *vlan, *bridge_port, *tagging)),
+        Body::Rif { on } => Ok(base_on(bodies, on).map(Thing::Rif)),
+        Body::OwnAddress { ip } => Ok(Some(Thing::Own(*ip))),
+        Body::Neighbor { rif, ip, mac } => Ok(neighbor_at(bodies, *rif, *ip, *mac)),
+        Body::NextHop { rif, ip } => Ok(hop_on(bodies, *rif, *ip).map(Thing::NextHop)),
+        Body::Group => group_at(alloc, groups, entry),
+        Body::GroupMember { group, next_hop } => {
+            group_member_at(alloc, bodies, groups, *group, *next_hop)
+        }
+        Body::Route { prefix, to } => route_at(alloc, bodies, groups, *prefix, to),
+    }
+}
+
+/// A route as a thing.
+fn route_at(
+    alloc: Global,
+    bodies: &Bodies,
+    groups: &GroupHops,
+    prefix: Prefix,
+    to: &To<Rid>,
+) -> Result<Option<Thing>, OutOfMemory>
+    ensures { IfOk result (λ thing. thing ≡ option_map (Thing.Route prefix) (goal_by (hops_in groups.now.entries) bodies.now.entries to.now)) }
+{
+    match goal_at(alloc, bodies, groups, to)? {
+        Some(goal) => Ok(Some(Thing::Route(prefix, goal))),
+        None => Ok(None),
+    }
+}
+
+/// A member of a VLAN as a thing.
+fn member_at(bodies: &Bodies, vlan: Rid, bridge_port: Rid, tagging: Tagging) -> Option<Thing>
+    ensures { result ≡ both (λ v p. Thing.VlanMember v p tagging) (vlan_at bodies.now.entries vlan) (bridge_port_at bodies.now.entries bridge_port) }
+{
+    let vlan = vlan_at(bodies, vlan)?;
+    let port = bridge_port_at(bodies, bridge_port)?;
+    Some(Thing::VlanMember(vlan, port, tagging))
+}
+
+/// A neighbour as a thing.
+fn neighbor_at(bodies: &Bodies, rif: Rid, ip: Ip, mac: Mac) -> Option<Thing>
+    ensures { result ≡ option_map (λ h. Thing.Neighbor h mac) (hop_on bodies.now.entries rif ip) }
+{
+    let hop = hop_on(bodies, rif, ip)?;
+    Some(Thing::Neighbor(hop, mac))
+}
+
+/// A group as a thing, named by the hops of its members.
+fn group_at(
+    alloc: Global,
+    groups: &GroupHops,
+    entry: &Entry<Rid>,
+) -> Result<Option<Thing>, OutOfMemory>
+    ensures { IfOk result (λ thing. thing ≡ thing_by (hops_in groups.now.entries) [] (entry.now, Body.Group)) }
+{
+    match entry {
+        Entry::Oid(group) => Ok(hops_at(alloc, groups, *group)?.map(Thing::Group)),
+        _ => Ok(None),
+    }
+}
+
+/// A member of a group as a thing.
+fn group_member_at(
+    alloc: Global,
+    bodies: &Bodies,
+    groups: &GroupHops,
+    group: Rid,
+    next_hop: Rid,
+) -> Result<Option<Thing>, OutOfMemory>
+    ensures { IfOk result (λ thing. thing ≡ both Thing.GroupMember (hops_in groups.now.entries group) (next_hop_at bodies.now.entries next_hop)) }
+{
+    let Some(hop) = next_hop_at(bodies, next_hop) else {
+        return Ok(None);
+    };
+    match hops_at(alloc, groups, group)? {
+        Some(hops) => Ok(Some(Thing::GroupMember(hops, hop))),
+        None => Ok(None),
+    }
+}

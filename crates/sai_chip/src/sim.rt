@@ -1,0 +1,235 @@
+// A simulated SAI chip.
+ghost use Rattle.std.specs.Prelude.{◌≡◌, ◌<◌, true, ◌⊎◌, [], ◌++◌, Some, slice_get, length, is_some, option_copied, IfOk, OnOk, OnErr};
+ghost use Rattle.sai_types.specs.ChipState.{IsAnswered, IsListed, objects_of};
+ghost use Rattle.sai_types.specs.Refusal.{refusal_of};
+ghost use Rattle.sai_types.specs.Forwarding.{forward};
+ghost use Rattle.sai_types.specs.Named.{named, those};
+ghost use Rattle.sai_chip.specs.Forward.{answer_of};
+ghost use Rattle.sai_chip.specs.SimChip.{effect_at};
+ghost use Rattle.sai_chip.specs.Sim.{FailsBy, IsCalled, IsListing, ListsBy, ResultsBy, counted, effect_answer, fault_of, is_failed, new_sim, refusal_at, with_effect};
+
+use crate::effect::{make_effect, makes_id};
+use crate::fail::{Fail, Failing};
+use crate::forward::Forward;
+use crate::forwarding::forward_by;
+use crate::held::Held;
+use crate::table::{level, refusal};
+use sai_types::{Call, Caps, Chip, ChipAnswer, Kind, ListAnswer, Object, Rid};
+use std::alloc::Global;
+use std::marker::Model;
+use swss_types::{Ip, OutOfMemory};
+
+/// A SAI chip in memory, with a capacity for each kind of object. It fails at chosen calls.
+#[derive(Drop)]
+pub struct SimChip {
+    held: Held,
+    effects: Vec<Call<Rid>>,
+    made: u64,
+    caps: Caps,
+    clean: bool,
+    fails: Failing,
+    calls: u64,
+    faults: u64,
+}
+
+impl Model for SimChip {
+    ghost use Rattle.sai_chip.specs.Sim.{Sim};
+    ghost use Rattle.sai_chip.specs.SimChip.{IsInOrder};
+
+    ghost Value = { Sim };
+
+    ghost view = { λ s. record { chip = record { objects = s.held; effects = s.effects.items; capacities = s.caps.0; clean = s.clean; faults = s.faults }; fails = s.fails; calls = s.calls } };
+
+    ghost invariant = { λ s. IsInOrder s.effects.items s.made s.faults s.calls };
+}
+
+impl SimChip {
+    /// An empty chip with these capacities. It fails at the calls that `fails` lists; of several entries for one call
+    /// the first counts.
+    pub fn new(alloc: Global, caps: Caps, fails: Vec<Fail>) -> SimChip
+        ensures { result ≡ new_sim caps.0 fails.items }
+    {
+        SimChip {
+            held: Held::new(alloc),
+            effects: Vec::new(alloc),
+            made: 0,
+            caps,
+            clean: true,
+            fails: Failing::new(alloc, fails),
+            calls: 0,
+            faults: 0,
+        }
+    }
+
+    /// Effect k, counted from 1: None exactly where k is 0 or greater than the number of effects.
+    pub fn effect(&self, k: u64) -> Option<&Call<Rid>>
+        ensures { option_copied result ≡ effect_at self.now.chip.effects k }
+    {
+        self.effects.get(k.checked_sub(1)? as usize)
+    }
+
+    /// Where the chip sends the packets of an address: to the switch itself where the address is its own, else where
+    /// the route of the longest prefix that covers the address points, with its hops in rising order, else nowhere.
+    pub fn forward(&self, alloc: Global, ip: Ip) -> Result<Forward, OutOfMemory>
+        ensures { IfOk result (λ f. f ≡ answer_of (forward (those (named self.now.chip.objects)) ip)) }
+    {
+        let things = self.held.things(alloc)?;
+        forward_by(alloc, &things, ip)
+    }
+
+    /// The objects on the chip, each once, in the order of their entries.
+    pub fn objects(&self, alloc: Global) -> Result<Vec<Object<Rid>>, OutOfMemory>
+        ensures { IfOk result (λ objects. objects.items ≡ objects_of self.now.chip.objects) }
+    {
+        let mut objects = Vec::new(alloc);
+        match self.held.list(&mut objects) {
+            ListAnswer::Done => Ok(objects),
+            _ => Err(OutOfMemory),
+        }
+    }
+
+    /// Whether the next call fails, and with effect. None where it does not fail.
+    fn fault(&mut self) -> Result<Option<bool>, OutOfMemory>
+        ensures found { IfOk result (λ fault. fault ≡ fault_of self.old) }
+        ensures kept { self.new ≡ self.old }
+    {
+        if self.calls == u64::MAX {
+            return Ok(None);
+        }
+        self.fails.at(self.calls + 1)
+    }
+
+    /// The refusal of a call, None where it is legal.
+    fn refusal(&self, call: &Call<Rid>) -> Option<ChipAnswer>
+        ensures { result ≡ refusal_at self.now call.now }
+    {
+        refusal(&self.held, &self.caps, call)
+    }
+
+    /// Makes the effect of a call, which is legal or not, and its answer.
+    fn make(&mut self, call: &Call<Rid>) -> Result<ChipAnswer, OutOfMemory>
+        ensures ok { IfOk result (λ a. (a ≡ effect_answer self.old call.now) × (self.new ≡ with_effect self.old call.now)) }
+        ensures err { OnErr result (self.new ≡ self.old) }
+    {
+        let makes = makes_id(call);
+        let id = Rid(self.made + 1);
+        let copy = call.copy()?;
+        self.effects.reserve(1)?;
+        make_effect(&mut self.held, call, id)?;
+        self.effects.push(copy)?;
+        if makes {
+            self.made = id.0;
+            Ok(ChipAnswer::Made(id))
+        } else {
+            Ok(ChipAnswer::Done)
+        }
+    }
+
+    /// Counts a call: whether it was legal, and whether the chip failed at it.
+    fn count(&mut self, legal: bool, failed: bool)
+        requires { failed ≡ true → self.old.calls < 18446744073709551615 }
+        ensures { self.new ≡ counted legal failed self.old }
+    {
+        self.clean = self.clean && legal;
+        self.faults += u64::from(failed);
+        self.calls = self.calls.saturating_add(1);
+    }
+
+    /// What a call with this refusal answers. It makes the effect where there is one.
+    fn answer(&mut self, call: &Call<Rid>, refusal: Option<ChipAnswer>) -> ChipAnswer
+        ensures { ResultsBy (fault_of self.old) refusal self.old call.now result self.new }
+    {
+        match self.fault() {
+            Ok(fault) => self.answer_by(call, fault, refusal),
+            Err(_) => ChipAnswer::NoMemory,
+        }
+    }
+
+    /// The same, at a fault or none.
+    fn answer_by(
+        &mut self,
+        call: &Call<Rid>,
+        fault: Option<bool>,
+        refusal: Option<ChipAnswer>,
+    ) -> ChipAnswer
+        ensures { ResultsBy fault refusal self.old call.now result self.new }
+    {
+        match (fault, refusal) {
+            (None, None) => self.make(call).unwrap_or(ChipAnswer::NoMemory),
+            (None, Some(refusal)) => refusal,
+            (Some(after), refusal) => self.fail(call, after && refusal.is_none()),
+        }
+    }
+
+    /// Fails at a call, with its effect or without.
+    fn fail(&mut self, call: &Call<Rid>, takes: bool) -> ChipAnswer
+        ensures { FailsBy takes self.old call.now result self.new }
+    {
+        if !takes {
+            return ChipAnswer::Failed;
+        }
+        match self.make(call) {
+            Ok(_) => ChipAnswer::Failed,
+            Err(_) => ChipAnswer::NoMemory,
+        }
+    }
+
+    /// What a listing answers, and appends.
+    fn answer_list(&mut self, out: &mut Vec<Object<Rid>>) -> ListAnswer
+        ensures lists { ListsBy (fault_of self.old) result out.old.items (objects_of self.old.chip.objects) out.new.items }
+        ensures kept { self.new ≡ self.old }
+    {
+        match self.fault() {
+            Ok(None) => self.held.list(out),
+            Ok(Some(_)) => ListAnswer::Failed,
+            Err(_) => ListAnswer::NoMemory,
+        }
+    }
+}
+
+impl Chip for SimChip {
+    ghost state = { λ s. s.chip };
+
+    fn call(&mut self, call: &Call<Rid>) -> ChipAnswer
+        ensures answered { IsAnswered self.old.chip call.now result self.new.chip }
+        ensures called { IsCalled self.old call.now result self.new }
+    {
+        let refusal = self.refusal(call);
+        let answer = self.answer(call, refusal);
+        self.count(refusal.is_none(), is_failed(&answer));
+        answer
+    }
+
+    fn list(&mut self, out: &mut Vec<Object<Rid>>) -> ListAnswer
+        ensures listed { IsListed self.old.chip result out.old.items out.new.items self.new.chip }
+        ensures called { IsListing self.old result out.old.items out.new.items self.new }
+    {
+        let answer = self.answer_list(out);
+        let failed = matches!(answer, ListAnswer::Failed);
+        self.count(true, failed);
+        answer
+    }
+
+    fn capacity(&self, kind: Kind) -> u64 {
+        self.caps.0[level(kind)]
+    }
+
+    fn used(&self, kind: Kind) -> u64 {
+        self.held.used(kind)
+    }
+
+    fn effects(&self) -> u64 {
+        self.effects.len() as u64
+    }
+
+    fn faults(&self) -> u64 {
+        self.faults
+    }
+}
+
+/// Whether the answer is that the chip failed.
+fn is_failed(answer: &ChipAnswer) -> bool
+    ensures { result ≡ is_failed answer.now }
+{
+    matches!(answer, ChipAnswer::Failed)
+}

@@ -1,0 +1,137 @@
+// What stands on a chip, up to identifiers.
+ghost use Rattle.std.specs.Prelude.{◌≡◌, Some, IfOk, OnOk, map, if◌then◌else◌};
+ghost use Rattle.std.specs.BTreeMap.{is_at};
+ghost use Rattle.std.specs.BTreeSet.{insert_key};
+ghost use Rattle.std.specs.List.Sorted.{IsPermutation, IsSorted};
+ghost use Rattle.sai_types.specs.Named.{both, hop_cmp, named, thing_by, those, with_member};
+ghost use Rattle.sai_types.specs.Objects.{body_at, entry_cmp};
+ghost use Rattle.sai_types.specs.declared.body.Entry.{Entry};
+ghost use Rattle.sai_types.specs.declared.ids.Rid.{Rid};
+ghost use Rattle.sai_chip.specs.Naming.{AreBodies, AreHops, entries_of, hops_in, thing_cmp, with_hop};
+
+use crate::names::{Bodies, GroupHops, next_hop_at, thing_at};
+use sai_types::{Body, Hop, Hops, Object, Rid, Thing};
+use std::alloc::Global;
+use std::collections::BTreeMap;
+use swss_types::OutOfMemory;
+
+/// Each object with its identifiers replaced by natural keys, a group by the hops of its members, in rising order.
+/// An object with an absent reference is left out.
+pub fn named(alloc: Global, objects: &[Object<Rid>]) -> Result<Vec<Thing>, OutOfMemory>
+    ensures { IfOk result (λ things. IsPermutation (those (named (entries_of objects.now))) things.items × IsSorted thing_cmp things.items) }
+{
+    let mut things = things_of(alloc, objects)?;
+    things.sort()?;
+    Ok(things)
+}
+
+/// The same, in the order of the objects.
+pub fn things_of(alloc: Global, objects: &[Object<Rid>]) -> Result<Vec<Thing>, OutOfMemory>
+    ensures { IfOk result (λ things. things.items ≡ those (named (entries_of objects.now))) }
+{
+    let bodies = bodies_of(alloc, objects)?;
+    let groups = group_hops(alloc, &bodies, objects)?;
+    list_things(alloc, &bodies, &groups, objects)
+}
+
+/// The bodies by their entries; of several with one entry, the first.
+fn bodies_of(alloc: Global, objects: &[Object<Rid>]) -> Result<Bodies, OutOfMemory>
+    ensures { IfOk result (λ bodies. AreBodies (entries_of objects.now) bodies.entries) }
+{
+    let mut bodies = BTreeMap::new(alloc);
+    let mut left = objects.len();
+    while 0 < left {
+        left -= 1;
+        put_body(&mut bodies, &objects[left])?;
+    }
+    Ok(bodies)
+}
+
+/// Puts the body of an object, in place of one with the same entry.
+fn put_body(bodies: &mut Bodies, object: &Object<Rid>) -> Result<(), OutOfMemory>
+    ensures { OnOk result ((e : Entry Rid) → body_at bodies.new.entries e ≡ (if is_at (entry_cmp object.now.entry) e then Some object.now.body else body_at bodies.old.entries e)) }
+{
+    bodies.insert(object.entry, object.body.copy()?)?;
+    Ok(())
+}
+
+/// The hops of each group that has members.
+fn group_hops(
+    alloc: Global,
+    bodies: &Bodies,
+    objects: &[Object<Rid>],
+) -> Result<GroupHops, OutOfMemory>
+    ensures { IfOk result (λ groups. AreHops bodies.now.entries (entries_of objects.now) groups.entries) }
+{
+    let mut groups = BTreeMap::new(alloc);
+    let mut left = objects.len();
+    while 0 < left {
+        left -= 1;
+        put_member(alloc, bodies, &mut groups, &objects[left].body)?;
+    }
+    Ok(groups)
+}
+
+/// Puts the hop of a body to the hops of its group, where it is a member of one.
+fn put_member(
+    alloc: Global,
+    bodies: &Bodies,
+    groups: &mut GroupHops,
+    body: &Body<Rid>,
+) -> Result<(), OutOfMemory>
+    ensures { OnOk result ((g : Rid) → hops_in groups.new.entries g ≡ with_member bodies.now.entries g body.now (hops_in groups.old.entries g)) }
+{
+    match body {
+        Body::GroupMember { group, next_hop } => {
+            put_hop(alloc, groups, *group, next_hop_at(bodies, *next_hop))
+        }
+        _ => Ok(()),
+    }
+}
+
+/// Puts a hop to the hops of a group; None is the hop of a next hop that is absent.
+fn put_hop(
+    alloc: Global,
+    groups: &mut GroupHops,
+    group: Rid,
+    hop: Option<Hop>,
+) -> Result<(), OutOfMemory>
+    ensures { OnOk result ((g : Rid) → hops_in groups.new.entries g ≡ with_hop group hop g (hops_in groups.old.entries g)) }
+{
+    let others = match groups.remove(&group) {
+        Some(others) => others,
+        None => Some(Hops::new(alloc)),
+    };
+    let hops = add_hop(others, hop)?;
+    groups.insert(group, hops)?;
+    Ok(())
+}
+
+/// Hops with one more, where there are both.
+fn add_hop(hops: Option<Hops>, hop: Option<Hop>) -> Result<Option<Hops>, OutOfMemory>
+    ensures { IfOk result (λ more. more ≡ both (insert_key hop_cmp) hops hop) }
+{
+    let (Some(mut hops), Some(hop)) = (hops, hop) else {
+        return Ok(None);
+    };
+    hops.put(hop)?;
+    Ok(Some(hops))
+}
+
+/// The things of these objects, in their order.
+fn list_things(
+    alloc: Global,
+    bodies: &Bodies,
+    groups: &GroupHops,
+    objects: &[Object<Rid>],
+) -> Result<Vec<Thing>, OutOfMemory>
+    ensures { IfOk result (λ things. things.items ≡ those (map (thing_by (hops_in groups.now.entries) bodies.now.entries) (entries_of objects.now))) }
+{
+    let mut things = Vec::new(alloc);
+    for object in objects {
+        if let Some(thing) = thing_at(alloc, bodies, groups, &object.entry, &object.body)? {
+            things.push(thing)?;
+        }
+    }
+    Ok(things)
+}

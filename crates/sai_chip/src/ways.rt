@@ -1,0 +1,50 @@
+// Next hops with their Ethernet addresses.
+ghost use Rattle.std.specs.Prelude.{◌≡◌, [], ◌∷◌, ◌++◌, OnOk, OnErr};
+
+use sai_types::Hop;
+use std::alloc::Global;
+use std::marker::Model;
+use swss_types::{Mac, OutOfMemory};
+
+/// Next hops with their Ethernet addresses.
+#[derive(Debug, Drop)]
+pub struct Ways {
+    ways: Vec<(Hop, Mac)>,
+}
+
+impl Model for Ways {
+    ghost use Rattle.std.specs.Prelude.{List};
+    ghost use Rattle.sai_types.specs.declared.hop.Hop.{Hop};
+    ghost use Rattle.swss_types.specs.declared.address.Mac.{Mac};
+
+    ghost Value = { List (Hop × Mac) };
+
+    ghost view = { λ w. w.ways.items };
+}
+
+impl Ways {
+    /// No hop.
+    pub fn new(alloc: Global) -> Ways
+        ensures { result ≡ [] }
+    {
+        Ways {
+            ways: Vec::new(alloc),
+        }
+    }
+
+    /// Puts a hop last.
+    pub fn push(&mut self, way: (Hop, Mac)) -> Result<(), OutOfMemory>
+        ensures ok { OnOk result (self.new ≡ self.old ++ way ∷ []) }
+        ensures err { OnErr result (self.new ≡ self.old) }
+    {
+        self.ways.push(way)?;
+        Ok(())
+    }
+
+    /// The hops, in order.
+    pub fn items(&self) -> &[(Hop, Mac)]
+        ensures { result.now ≡ self.now }
+    {
+        self.ways.as_slice()
+    }
+}
