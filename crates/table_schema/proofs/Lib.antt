@@ -1,0 +1,12 @@
+pub mod Places
+pub mod Keys
+pub mod Plans
+pub mod Writes
+pub mod Merges
+pub mod Parts
+pub mod Texts
+pub mod KeyTexts
+pub mod ProperKeys
+pub mod Hops
+pub mod ProperNames
+pub mod RowLists

@@ -1,0 +1,138 @@
+-- what a row names are proper keys
+use Rattle.std.proofs.Common.{◌≡◌, ℕ, ◌==◌, ◌&&◌, Bool, true, false, cond, leb, ltb, List, [], ◌∷◌, length, map, Option, None, Some, Result, Ok, Err, codes, refl, subst}
+use Rattle.std.specs.BTreeSet.{insert_key}
+use Rattle.std.specs.List.{AllByRecursion}
+use Rattle.swss_types.specs.Address.{IsProperIp}
+use Rattle.swss_types.specs.Interface.{if_name_of, IsProperIfName}
+use Rattle.swss_types.specs.Ip.{ip_of}
+use Rattle.swss_types.specs.Parts.{parts_at}
+use Rattle.swss_types.specs.declared.address.Ip.{Ip}
+use Rattle.swss_types.specs.declared.interface.IfName.{IfName}
+use Rattle.swss_types.specs.declared.interface.IfName.TheVariants as name
+use Rattle.swss_types.proofs.Proper.{IsProperIp-ip_of}
+use Rattle.table_schema.specs.Broken.{bad, and_then}
+use Rattle.table_schema.specs.Fields.{Pairs, value_of}
+use Rattle.table_schema.specs.Hop.{hop_cmp}
+use Rattle.table_schema.specs.KeyText.{on_switch}
+use Rattle.table_schema.specs.Names.{base_names, names_of, names_of_route, route_names}
+use Rattle.table_schema.specs.Plan.{Ports}
+use Rattle.table_schema.specs.ProperKey.{IsProperKey, AreProperKeys}
+use Rattle.table_schema.specs.RouteRules.{drops_of, filled, forwarding_of, hop_at, hop_of, hop_on, hops_of, hops_with, is_zero, route_row_of, route_target, target_of}
+use Rattle.table_schema.specs.Rules.{row_of}
+use Rattle.table_schema.specs.declared.key.Key.{Key}
+use Rattle.table_schema.specs.declared.key.Key.TheVariants as key
+use Rattle.table_schema.specs.declared.row.BadRow.{BadRow}
+use Rattle.table_schema.specs.declared.row.BadWhy.TheVariants.{BadValue, CountsDiffer, TooManyHops}
+use Rattle.table_schema.specs.declared.row.Row.{Row}
+use Rattle.table_schema.specs.declared.row.Row.TheVariants as row
+use Rattle.table_schema.specs.declared.row.RouteRow.{RouteRow}
+use Rattle.table_schema.specs.declared.row.RouteRow.TheVariants as route
+use Rattle.table_schema.specs.declared.row_hop.RowHop.{RowHop}
+use Rattle.table_schema.proofs.Hops.{AllByRecursion-insert_key}
+use Rattle.table_schema.proofs.KeyTexts.{IsTyped, IsProperKey-typed}
+use Rattle.table_schema.proofs.ProperKeys.{proper_on_switch}
+
+-- a rule that holds, and what stands behind it
+both_hold : {T U : Type 0} (r : Result T BadRow) (f : T → Result U BadRow) (y : U) → and_then r f ≡ Ok y → (x : T) × (r ≡ Ok x) × (f x ≡ Ok y)
+both_hold (Err e) f y h = cc
+both_hold (Ok x) f y h = (x, refl, h)
+
+-- the first of two answers, where the other is a broken rule
+first_chosen : {T : Type 0} (b : Bool) (x : Result T BadRow) (e : BadRow) (y : T) → cond b x (Err e) ≡ Ok y → x ≡ Ok y
+first_chosen true x e y h = h
+first_chosen false x e y h = cc
+
+last_chosen : {T : Type 0} (b : Bool) (x : Result T BadRow) (e : BadRow) (y : T) → cond b (Err e) x ≡ Ok y → x ≡ Ok y
+last_chosen true x e y h = cc
+last_chosen false x e y h = h
+
+abbrev good : {T : Type 0} → T → Result T BadRow
+good x = Ok x
+
+ok_is : {T : Type 0} (x y : T) → good x ≡ Ok y → x ≡ y
+ok_is x y h = cc
+
+-- a hop is an address on an interface of the switch
+abbrev pub IsTypedHop : RowHop → Type 0
+IsTypedHop hop = IsTyped (key.Neigh hop.on hop.ip)
+
+typed_hop_at : (several : Bool) (on : IfName) (o : Option Ip) (hop : RowHop) → IsProperIfName on × (on_switch (Some on) ≡ Some on) → ((ip : Ip) → o ≡ Some ip → IsProperIp ip) → hop_at several on o ≡ Ok hop → IsTypedHop hop
+typed_hop_at several on None hop proper h e = cc
+typed_hop_at several on (Some ip) hop proper h e =
+    let made : RowHop = record { on = on; ip = ip } in
+    let is : made ≡ hop = ok_is made hop (last_chosen (several && is_zero ip) (Ok made) (record { why = BadValue; field = 7 }) hop e) in
+    subst IsTypedHop is ((proper.0, h ip refl), proper.1)
+
+typed_hop_on : (several : Bool) (o : Option IfName) (a : Option Ip) (hop : RowHop) → ((on : IfName) → o ≡ Some on → IsProperIfName on × (on_switch (Some on) ≡ Some on)) → ((ip : Ip) → a ≡ Some ip → IsProperIp ip) → hop_on several o a ≡ Ok hop → IsTypedHop hop
+typed_hop_on several None a hop proper h e = cc
+typed_hop_on several (Some on) a hop proper h e = typed_hop_at several on a hop (proper on refl) h e
+
+typed_hop : (several : Bool) (ip on : List ℕ) (hop : RowHop) → hop_of several ip on ≡ Ok hop → IsTypedHop hop
+typed_hop several ip on hop e = typed_hop_on several (on_switch (if_name_of on)) (ip_of ip) hop (proper_on_switch on) (IsProperIp-ip_of ip) e
+
+typed_hops : (several : Bool) (hops : List RowHop) (ips names : List (List ℕ)) (all : List RowHop) → AllByRecursion IsTypedHop hops → hops_with several hops ips names ≡ Ok all → AllByRecursion IsTypedHop all
+typed_hops several hops [] names all h e = let is : hops ≡ all = cc in subst (AllByRecursion IsTypedHop) is h
+typed_hops several hops (ip ∷ ips) [] all h e = let is : hops ≡ all = cc in subst (AllByRecursion IsTypedHop) is h
+typed_hops several hops (ip ∷ ips) (on ∷ names) all h e =
+    let parts = both_hold (hop_of several ip on) (λ hop. hops_with several (insert_key hop_cmp hops hop) ips names) all e in
+    typed_hops several (insert_key hop_cmp hops parts.0) ips names all (AllByRecursion-insert_key IsTypedHop hops parts.0 (typed_hop several ip on parts.0 parts.1) h) parts.2
+
+typed_hops_of : (ips names : List (List ℕ)) (all : List RowHop) → hops_of ips names ≡ Ok all → AllByRecursion IsTypedHop all
+typed_hops_of ips names all e =
+    let same = first_chosen (length ips == length names) (cond (leb (length ips) 128) (hops_with (ltb 1 (length ips)) [] ips names) (bad TooManyHops 7)) (record { why = CountsDiffer; field = 8 }) all e in
+    let few = first_chosen (leb (length ips) 128) (hops_with (ltb 1 (length ips)) [] ips names) (record { why = TooManyHops; field = 7 }) all same in
+    typed_hops (ltb 1 (length ips)) [] ips names all tt few
+
+-- a target whose interface or hops are proper
+abbrev pub IsTypedTarget : RouteRow → Type 0
+IsTypedTarget route.Drop = Unit {0}
+IsTypedTarget (route.Direct on) = IsProperIfName on
+IsTypedTarget (route.Hops hops) = AllByRecursion IsTypedHop hops
+
+typed_target : (hops : List RowHop) → AllByRecursion IsTypedHop hops → IsTypedTarget (target_of hops)
+typed_target [] h = h
+typed_target (hop ∷ []) h = elim (is_zero hop.ip) as (λ b. IsTypedTarget (cond b (route.Direct hop.on) (route.Hops (hop ∷ [])))) [ true ↦ h.0.0.0 | false ↦ h ]
+typed_target (hop ∷ other ∷ others) h = h
+
+typed_forwarding : (fields : Pairs) (target : RouteRow) → forwarding_of fields ≡ Ok target → IsTypedTarget target
+typed_forwarding fields target e =
+    let ips = both_hold (filled 7 (value_of (codes "nexthop") fields)) (λ ips. and_then (filled 8 (value_of (codes "ifname") fields)) (λ names. and_then (hops_of (parts_at 44 ips) (parts_at 44 names)) (λ hops. Ok (target_of hops)))) target e in
+    let names = both_hold (filled 8 (value_of (codes "ifname") fields)) (λ names. and_then (hops_of (parts_at 44 ips.0) (parts_at 44 names)) (λ hops. Ok (target_of hops))) target ips.2 in
+    let hops = both_hold (hops_of (parts_at 44 ips.0) (parts_at 44 names.0)) (λ hops. Ok (target_of hops)) target names.2 in
+    let is : target_of hops.0 ≡ target = ok_is (target_of hops.0) target hops.2 in
+    subst IsTypedTarget is (typed_target hops.0 (typed_hops_of (parts_at 44 ips.0) (parts_at 44 names.0) hops.0 hops.1))
+
+typed_route_target : (drops : Bool) (fields : Pairs) (target : RouteRow) → route_target drops fields ≡ Ok target → IsTypedTarget target
+typed_route_target true fields target e = let is : route.Drop ≡ target = cc in subst IsTypedTarget is tt
+typed_route_target false fields target e = typed_forwarding fields target e
+
+typed_route : (fields : Pairs) (target : RouteRow) → route_row_of fields ≡ Ok target → IsTypedTarget target
+typed_route fields target e = let drops = both_hold (drops_of fields) (λ d. route_target d fields) target e in typed_route_target drops.0 fields target drops.2
+
+proper_hops : (hops : List RowHop) → AllByRecursion IsTypedHop hops → AreProperKeys (map (λ h. key.Neigh h.on h.ip) hops)
+proper_hops [] h = tt
+proper_hops (hop ∷ hops) h = (IsProperKey-typed (key.Neigh hop.on hop.ip) h.0, proper_hops hops h.1)
+
+proper_targets : (target : RouteRow) → IsTypedTarget target → AreProperKeys (route_names target)
+proper_targets route.Drop h = tt
+proper_targets (route.Direct on) h = (IsProperKey-typed (key.Intf on) h, tt)
+proper_targets (route.Hops hops) h = proper_hops hops h
+
+proper_base : (on : IfName) → IsProperIfName on → AreProperKeys (base_names on)
+proper_base (name.Ethernet port) h = (IsProperKey-typed (key.Port port) h, tt)
+proper_base (name.Vlan vlan) h = (IsProperKey-typed (key.Vlan vlan) h, tt)
+proper_base (name.Loopback number) h = tt
+
+-- what a row of a proper key names are proper keys
+pub AreProperKeys-names_of : (plan : Ports) (k : Key) (fields : Pairs) (r : Row) → IsProperKey k → row_of plan k fields ≡ Ok r → AreProperKeys (names_of k r)
+AreProperKeys-names_of plan (key.Port port) fields r h e = tt
+AreProperKeys-names_of plan (key.Vlan vlan) fields r h e = tt
+AreProperKeys-names_of plan (key.Member vlan port) fields r h e = (IsProperKey-typed (key.Vlan vlan) h.parts.0, (IsProperKey-typed (key.Port port) h.parts.1, tt))
+AreProperKeys-names_of plan (key.Intf on) fields r h e = proper_base on h.parts
+AreProperKeys-names_of plan (key.Addr on ip len) fields r h e = (IsProperKey-typed (key.Intf on) h.parts.0, tt)
+AreProperKeys-names_of plan (key.Neigh on ip) fields r h e = (IsProperKey-typed (key.Intf on) h.parts.0, tt)
+AreProperKeys-names_of plan (key.Route prefix) fields r h e =
+    let parts = both_hold (route_row_of fields) (λ target. Ok (row.Route target)) r e in
+    let is : row.Route parts.0 ≡ r = ok_is (row.Route parts.0) r parts.2 in
+    subst (λ x. AreProperKeys (names_of_route x)) is (proper_targets parts.0 (typed_route fields parts.0 parts.1))
+AreProperKeys-names_of plan (key.Other text) fields r h e = tt

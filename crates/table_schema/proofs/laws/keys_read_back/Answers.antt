@@ -1,0 +1,5 @@
+use Rattle.table_schema.proofs.ProperKeys.{IsProperKey-key_of}
+use Rattle.table_schema.proofs.laws.keys_read_back.Goals as goal
+
+pub returns-clause-proper : goal.returns-clause-proper
+returns-clause-proper c = IsProperKey-key_of

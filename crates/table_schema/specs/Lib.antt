@@ -1,0 +1,13 @@
+pub mod Broken
+pub mod Fields
+pub mod Hop
+pub mod Key
+pub mod KeyText
+pub mod Names
+pub mod Plan
+pub mod PlanIndex
+pub mod ProperKey
+pub mod RouteRules
+pub mod Rows
+pub mod Rules
+pub mod Split

@@ -1,0 +1,37 @@
+-- What a row names: the keys of the rows that it stands on (own).
+use Rattle.std.specs.Prelude.{List, [], ◌∷◌, map}
+use Rattle.swss_types.specs.declared.interface.IfName.{IfName}
+use Rattle.swss_types.specs.declared.interface.IfName.TheVariants as name
+use Rattle.table_schema.specs.declared.key.Key.{Key}
+use Rattle.table_schema.specs.declared.key.Key.TheVariants as key
+use Rattle.table_schema.specs.declared.row.Row.{Row}
+use Rattle.table_schema.specs.declared.row.Row.TheVariants as row
+use Rattle.table_schema.specs.declared.row.RouteRow.{RouteRow}
+use Rattle.table_schema.specs.declared.row.RouteRow.TheVariants as route
+
+-- an interface stands on its port or VLAN
+abbrev pub base_names : IfName → List Key
+base_names (name.Ethernet port) = key.Port port ∷ []
+base_names (name.Vlan vlan) = key.Vlan vlan ∷ []
+base_names (name.Loopback number) = []
+
+-- a route stands on its interface, or on the neighbours that are its hops
+abbrev pub route_names : RouteRow → List Key
+route_names route.Drop = []
+route_names (route.Direct on) = key.Intf on ∷ []
+route_names (route.Hops hops) = map (λ h. key.Neigh h.on h.ip) hops
+
+abbrev pub names_of_route : Row → List Key
+names_of_route (row.Route target) = route_names target
+names_of_route _ = []
+
+-- the names of a row of this key, in order
+abbrev pub names_of : Key → Row → List Key
+names_of (key.Port port) r = []
+names_of (key.Vlan vlan) r = []
+names_of (key.Member vlan port) r = key.Vlan vlan ∷ key.Port port ∷ []
+names_of (key.Intf on) r = base_names on
+names_of (key.Addr on ip len) r = key.Intf on ∷ []
+names_of (key.Neigh on ip) r = key.Intf on ∷ []
+names_of (key.Route prefix) r = names_of_route r
+names_of (key.Other text) r = []

@@ -1,0 +1,110 @@
+-- The rules by which a route's row reads (SWSS schema; the order of the rules is own).
+use Rattle.std.specs.Prelude.{ℕ, ◌==◌, ◌&&◌, ◌||◌, nat_lt, nat_le, Bool, true, false, List, [], ◌∷◌, length, Option, Some, None, Result, Ok, codes, bytes_eq, if◌then◌else◌}
+use Rattle.std.specs.BTreeSet.{insert_key}
+use Rattle.swss_types.specs.Interface.{if_name_of}
+use Rattle.swss_types.specs.Ip.{ip_of}
+use Rattle.swss_types.specs.Parts.{parts_at}
+use Rattle.swss_types.specs.declared.address.Ip.{Ip}
+use Rattle.swss_types.specs.declared.interface.IfName.{IfName}
+use Rattle.table_schema.specs.Broken.{bad, and_then}
+use Rattle.table_schema.specs.Fields.{Pairs, value_of}
+use Rattle.table_schema.specs.Hop.{hop_cmp}
+use Rattle.table_schema.specs.KeyText.{on_switch}
+use Rattle.table_schema.specs.declared.row.BadRow.{BadRow}
+use Rattle.table_schema.specs.declared.row.BadWhy.TheVariants.{Unsupported, MissingField, BadValue, CountsDiffer, TooManyHops}
+use Rattle.table_schema.specs.declared.row.RouteRow.{RouteRow}
+use Rattle.table_schema.specs.declared.row.RouteRow.TheVariants as route
+use Rattle.table_schema.specs.declared.row_hop.RowHop.{RowHop}
+
+-- an element that says nothing
+abbrev pub is_blank : List ℕ → Bool
+is_blank part = bytes_eq part [] || bytes_eq part (codes "na")
+
+abbrev pub are_blank : List (List ℕ) → Bool
+are_blank [] = true
+are_blank (part ∷ parts) = is_blank part && are_blank parts
+
+-- a field of what the service does not have: all its elements say nothing
+abbrev pub unused : ℕ → Option (List ℕ) → Result (Unit {0}) BadRow
+unused field None = Ok tt
+unused field (Some text) = if are_blank (parts_at 44 text) then Ok tt else bad Unsupported field
+
+-- next-hop groups by name, MPLS, VXLAN and SRv6 are not there
+abbrev pub unused_fields : Pairs → Result (Unit {0}) BadRow
+unused_fields fields =
+    and_then (unused 10 (value_of (codes "nexthop_group") fields)) (λ _.
+    and_then (unused 11 (value_of (codes "mpls_nh") fields)) (λ _.
+    and_then (unused 12 (value_of (codes "vni_label") fields)) (λ _.
+    and_then (unused 13 (value_of (codes "router_mac") fields)) (λ _.
+    unused 14 (value_of (codes "segment") fields)))))
+
+-- `true`, `false` or nothing
+abbrev pub blackhole_of : Option (List ℕ) → Result Bool BadRow
+blackhole_of None = Ok false
+blackhole_of (Some text) =
+    if bytes_eq text [] then Ok false
+    else if bytes_eq text (codes "true") then Ok true
+    else if bytes_eq text (codes "false") then Ok false
+    else bad BadValue 9
+
+-- a field that must not be absent or empty
+abbrev pub filled : ℕ → Option (List ℕ) → Result (List ℕ) BadRow
+filled field None = bad MissingField field
+filled field (Some []) = bad MissingField field
+filled field (Some (b ∷ bs)) = Ok (b ∷ bs)
+
+-- the address 0.0.0.0 or ::
+abbrev pub is_zero : Ip → Bool
+is_zero ip = ip.bits == 0
+
+-- a hop of one or of several; a zero address is none of several
+abbrev pub hop_at : Bool → IfName → Option Ip → Result RowHop BadRow
+hop_at several on None = bad BadValue 7
+hop_at several on (Some ip) = if several && is_zero ip then bad BadValue 7 else Ok (record { on = on; ip = ip })
+
+abbrev pub hop_on : Bool → Option IfName → Option Ip → Result RowHop BadRow
+hop_on several None ip = bad Unsupported 8
+hop_on several (Some on) ip = hop_at several on ip
+
+-- the hop that an address and the name of an Ethernet or Vlan interface write
+abbrev pub hop_of : Bool → List ℕ → List ℕ → Result RowHop BadRow
+hop_of several ip on = hop_on several (on_switch (if_name_of on)) (ip_of ip)
+
+-- hops put among others, each once and rising
+abbrev pub hops_with : Bool → List RowHop → List (List ℕ) → List (List ℕ) → Result (List RowHop) BadRow
+hops_with several hops [] names = Ok hops
+hops_with several hops (ip ∷ ips) [] = Ok hops
+hops_with several hops (ip ∷ ips) (on ∷ names) = and_then (hop_of several ip on) (λ hop. hops_with several (insert_key hop_cmp hops hop) ips names)
+
+-- as many addresses as names, at most 128, and a hop at each pair
+abbrev pub hops_of : List (List ℕ) → List (List ℕ) → Result (List RowHop) BadRow
+hops_of ips names =
+    if length ips == length names
+    then (if nat_le (length ips) 128 then hops_with (nat_lt 1 (length ips)) [] ips names else bad TooManyHops 7)
+    else bad CountsDiffer 8
+
+-- one hop with a zero address is the interface itself
+abbrev pub target_of : List RowHop → RouteRow
+target_of [] = route.Hops []
+target_of (hop ∷ []) = if is_zero hop.ip then route.Direct hop.on else route.Hops (hop ∷ [])
+target_of (hop ∷ other ∷ others) = route.Hops (hop ∷ other ∷ others)
+
+-- the hops of a route that drops nothing
+abbrev pub forwarding_of : Pairs → Result RouteRow BadRow
+forwarding_of fields =
+    and_then (filled 7 (value_of (codes "nexthop") fields)) (λ ips.
+    and_then (filled 8 (value_of (codes "ifname") fields)) (λ names.
+    and_then (hops_of (parts_at 44 ips) (parts_at 44 names)) (λ hops.
+    Ok (target_of hops))))
+
+abbrev pub route_target : Bool → Pairs → Result RouteRow BadRow
+route_target true fields = Ok route.Drop
+route_target false fields = forwarding_of fields
+
+-- whether a route drops its packets
+abbrev pub drops_of : Pairs → Result Bool BadRow
+drops_of fields = and_then (unused_fields fields) (λ _. blackhole_of (value_of (codes "blackhole") fields))
+
+-- where a route's row sends its packets
+abbrev pub route_row_of : Pairs → Result RouteRow BadRow
+route_row_of fields = and_then (drops_of fields) (λ drops. route_target drops fields)

@@ -1,0 +1,53 @@
+// Laws of keys, rows and plans. The functions do nothing; their contracts are the laws.
+ghost use Rattle.std.specs.Prelude.{◌≡◌, ◌++◌, [], ◌∷◌, List, ℕ, Ok, Contains};
+ghost use Rattle.std.specs.BTreeSet.{insert_key};
+ghost use Rattle.std.specs.Cmp.{IsTotalOrder};
+ghost use Rattle.std.specs.Str.{IsUtf8};
+ghost use Rattle.std.proofs.lemmas.Map.Lookups.{CmpEqualImpliesEq};
+ghost use Rattle.table_schema.specs.Fields.{HasRisingKeys, HasRisingNames, Pairs, merged};
+ghost use Rattle.table_schema.specs.Hop.{AreRisingHops, hop_cmp};
+ghost use Rattle.table_schema.specs.Key.{key_cmp};
+ghost use Rattle.table_schema.specs.KeyText.{key_of, key_text};
+ghost use Rattle.table_schema.specs.Names.{names_of};
+ghost use Rattle.table_schema.specs.Plan.{IsPlan, Ports, plan_of};
+ghost use Rattle.table_schema.specs.ProperKey.{AreProperKeys, IsProperKey};
+ghost use Rattle.table_schema.specs.Rows.{Rows, HasRisingRows, after_write, after_writes, rows_of};
+ghost use Rattle.table_schema.specs.Rules.{row_of};
+ghost use Rattle.table_schema.specs.declared.key.Key.{Key};
+ghost use Rattle.table_schema.specs.declared.row.Row.{Row};
+ghost use Rattle.table_schema.specs.declared.row_hop.RowHop.{RowHop};
+ghost use Rattle.table_schema.specs.declared.write.Write.{Write};
+
+/// Keys are in a total order, and keys that compare equal are equal.
+pub fn keys_are_ordered()
+    ensures order { IsTotalOrder key_cmp }
+    ensures exact { CmpEqualImpliesEq key_cmp }
+{}
+
+/// Each key that a text is is proper: its written form reads as the key again. So no two proper keys share one.
+pub fn keys_read_back()
+    ensures proper { (text : List ℕ) → IsUtf8 text → Contains text 58 → IsProperKey (key_of text) }
+    ensures once { (a b : Key) → IsProperKey a → IsProperKey b → key_text a ≡ key_text b → a ≡ b }
+{}
+
+/// What a row of a proper key names are proper keys.
+pub fn names_are_proper()
+    ensures { (plan : Ports) (key : Key) (fields : Pairs) (row : Row) → IsProperKey key → row_of plan key fields ≡ Ok row → AreProperKeys (names_of key row) }
+{}
+
+/// A hop more keeps hops rising, and one that is there changes nothing.
+pub fn hops_collapse()
+    ensures rising { (hops : List RowHop) (hop : RowHop) → AreRisingHops hops → AreRisingHops (insert_key hop_cmp hops hop) }
+    ensures once { (hops : List RowHop) (hop : RowHop) → AreRisingHops hops → Contains hops hop → insert_key hop_cmp hops hop ≡ hops }
+{}
+
+/// The rows of writes rise by their keys, and one write more is applied to the rows of the others.
+pub fn rows_are_a_fold()
+    ensures rising { (writes : List Write) → HasRisingRows (rows_of writes) }
+    ensures more { (writes : List Write) (write : Write) → rows_of (writes ++ write ∷ []) ≡ after_write (rows_of writes) write }
+{}
+
+/// What the lines of a plan read as is a plan.
+pub fn plans_are_plans()
+    ensures { (lines : List (List ℕ)) (ports : Ports) → plan_of lines ≡ Ok ports → IsPlan ports }
+{}

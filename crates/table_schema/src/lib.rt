@@ -1,0 +1,36 @@
+//! SONiC's application tables: keys, fields, writes, rows and the port plan (SWSS schema).
+#![tactic(auto)]
+
+mod broken;
+pub mod field;
+mod fields;
+mod key;
+mod key_text;
+mod laws;
+mod naming;
+mod plan;
+mod route_rules;
+mod row;
+mod row_hop;
+mod row_hops;
+mod rules;
+mod split;
+mod table;
+#[cfg(test)]
+mod tests;
+mod write;
+
+pub use fields::Fields;
+pub use key::Key;
+pub use key_text::{has_colon, read_key};
+pub use laws::{
+    hops_collapse, keys_are_ordered, keys_read_back, names_are_proper, plans_are_plans,
+    rows_are_a_fold,
+};
+pub use naming::names;
+pub use plan::{PlanWhy, PortPlan};
+pub use row::{BadRow, BadWhy, PortRow, RouteRow, Row};
+pub use row_hop::RowHop;
+pub use row_hops::RowHops;
+pub use rules::read_row;
+pub use write::{Sent, Write};

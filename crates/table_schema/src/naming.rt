@@ -1,0 +1,53 @@
+// What a row names.
+ghost use Rattle.std.specs.Prelude.{◌≡◌, IfOk, map};
+ghost use Rattle.table_schema.specs.Names.{base_names, names_of, route_names};
+
+use crate::{Key, RouteRow, Row, RowHop};
+use std::alloc::Global;
+use swss_types::{IfName, OutOfMemory};
+
+/// The keys of the rows that a row of this key stands on, in order.
+pub fn names(alloc: Global, key: &Key, row: &Row) -> Result<Vec<Key>, OutOfMemory>
+    ensures { IfOk result (λ names. names.items ≡ names_of key.now row.now) }
+{
+    match (key, row) {
+        (Key::Member(vlan, port), _) => Ok(vec![in alloc; Key::Vlan(*vlan), Key::Port(*port)]?),
+        (Key::Intf(on), _) => base_names(alloc, *on),
+        (Key::Addr(on, ..) | Key::Neigh(on, _), _) => Ok(vec![in alloc; Key::Intf(*on)]?),
+        (Key::Route(_), Row::Route(target)) => route_names(alloc, target),
+        _ => Ok(Vec::new(alloc)),
+    }
+}
+
+/// The port or VLAN of an interface.
+fn base_names(alloc: Global, on: IfName) -> Result<Vec<Key>, OutOfMemory>
+    ensures { IfOk result (λ names. names.items ≡ base_names on) }
+{
+    match on {
+        IfName::Ethernet(port) => Ok(vec![in alloc; Key::Port(port)]?),
+        IfName::Vlan(vlan) => Ok(vec![in alloc; Key::Vlan(vlan)]?),
+        IfName::Loopback(_) => Ok(Vec::new(alloc)),
+    }
+}
+
+/// The interface of a route, or the neighbours that are its hops.
+fn route_names(alloc: Global, target: &RouteRow) -> Result<Vec<Key>, OutOfMemory>
+    ensures { IfOk result (λ names. names.items ≡ route_names target.now) }
+{
+    match target {
+        RouteRow::Drop => Ok(Vec::new(alloc)),
+        RouteRow::Direct(on) => Ok(vec![in alloc; Key::Intf(*on)]?),
+        RouteRow::Hops(hops) => hop_names(alloc, hops.items()),
+    }
+}
+
+/// The neighbours that are hops.
+fn hop_names(alloc: Global, hops: &[RowHop]) -> Result<Vec<Key>, OutOfMemory>
+    ensures { IfOk result (λ names. names.items ≡ map (λ h. Key.Neigh h.on h.ip) hops.now) }
+{
+    let mut names = Vec::with_capacity(alloc, hops.len())?;
+    for hop in hops {
+        names.push(Key::Neigh(hop.on, hop.ip))?;
+    }
+    Ok(names)
+}
