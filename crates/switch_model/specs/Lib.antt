@@ -1,0 +1,7 @@
+pub mod Desired
+pub mod Good
+pub mod History
+pub mod Marks
+pub mod Promises
+pub mod Sound
+pub mod Things

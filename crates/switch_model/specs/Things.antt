@@ -1,0 +1,87 @@
+-- What a row stands for on the chip. The objects are those that SONiC's orchestration agent makes for a row of the table; own: an interface's address as an object of its own.
+use Rattle.std.specs.Prelude.{◌≡◌, ℕ, Bool, true, false, List, [], ◌∷◌, ◌++◌, map, Option, Some, None, option_map}
+use Rattle.std.specs.BTreeMap.{is_at}
+use Rattle.std.specs.BTreeSet.{insert_key}
+use Rattle.std.specs.Map.{lookup}
+use Rattle.std.specs.Ordering.{nat_cmp}
+use Rattle.swss_types.specs.declared.address.Ip.{Ip}
+use Rattle.swss_types.specs.declared.address.Mac.{Mac}
+use Rattle.swss_types.specs.declared.address.Prefix.{Prefix}
+use Rattle.swss_types.specs.declared.interface.IfName.{IfName}
+use Rattle.swss_types.specs.declared.interface.IfName.TheVariants as name
+use Rattle.swss_types.specs.declared.tagging.Tagging.{Tagging}
+use Rattle.table_schema.specs.declared.key.Key.{Key}
+use Rattle.table_schema.specs.declared.key.Key.TheVariants as key
+use Rattle.table_schema.specs.declared.row.Row.{Row}
+use Rattle.table_schema.specs.declared.row.Row.TheVariants as row
+use Rattle.table_schema.specs.declared.row.RouteRow.{RouteRow}
+use Rattle.table_schema.specs.declared.row.RouteRow.TheVariants as route
+use Rattle.table_schema.specs.declared.row_hop.RowHop.{RowHop}
+use Rattle.table_schema.specs.Plan.{Ports, lanes_in_plan}
+use Rattle.sai_types.specs.declared.hop.Base.{Base}
+use Rattle.sai_types.specs.declared.hop.Base.TheVariants as base
+use Rattle.sai_types.specs.declared.hop.Hop.{Hop}
+use Rattle.sai_types.specs.declared.thing.Goal.{Goal}
+use Rattle.sai_types.specs.declared.thing.Goal.TheVariants as goal
+use Rattle.sai_types.specs.declared.thing.Thing.{Thing}
+use Rattle.sai_types.specs.declared.thing.Thing.TheVariants as thing
+use Rattle.sai_types.specs.Named.{first_lane, hop_cmp, both}
+
+-- the first lane of a port of the plan
+abbrev pub lane_of : Ports → ℕ → Option ℕ
+lane_of plan port = option_map first_lane (lanes_in_plan plan port)
+
+-- what an interface's router interface stands on; a loopback interface has none
+abbrev pub base_of : Ports → IfName → Option Base
+base_of plan (name.Ethernet port) = option_map base.Port (lane_of plan port)
+base_of plan (name.Vlan vlan) = Some (base.Vlan vlan)
+base_of plan (name.Loopback number) = None
+
+abbrev pub hop_of : Ports → RowHop → Option Hop
+hop_of plan hop = option_map (λ b. record { on = b; ip = hop.ip }) (base_of plan hop.on)
+
+-- the hops of a row as hops of the chip, rising
+abbrev pub hops_of : Ports → List RowHop → Option (List Hop)
+hops_of plan [] = Some []
+hops_of plan (hop ∷ hops) = both (insert_key hop_cmp) (hops_of plan hops) (hop_of plan hop)
+
+-- a member for each hop
+abbrev pub members_of : List Hop → List Hop → List Thing
+members_of group [] = []
+members_of group (hop ∷ hops) = thing.GroupMember group hop ∷ members_of group hops
+
+-- a route to one hop, or to a group of hops, which it brings along
+abbrev pub route_to : Prefix → List Hop → List Thing
+route_to prefix [] = []
+route_to prefix (hop ∷ []) = thing.Route prefix (goal.Via hop) ∷ []
+route_to prefix (hop ∷ next ∷ hops) =
+    let group = hop ∷ next ∷ hops in
+    thing.Route prefix (goal.Group group) ∷ thing.Group group ∷ members_of group group
+
+abbrev pub from_hops : Prefix → Option (List Hop) → List Thing
+from_hops prefix None = []
+from_hops prefix (Some hops) = route_to prefix hops
+
+abbrev pub from_base : (Base → List Thing) → Option Base → List Thing
+from_base f None = []
+from_base f (Some b) = f b
+
+abbrev pub from_lane : (ℕ → List Thing) → Option ℕ → List Thing
+from_lane f None = []
+from_lane f (Some lane) = f lane
+
+abbrev pub route_things : Ports → Prefix → RouteRow → List Thing
+route_things plan prefix route.Drop = thing.Route prefix goal.Drop ∷ []
+route_things plan prefix (route.Direct on) = from_base (λ b. thing.Route prefix (goal.Direct b) ∷ []) (base_of plan on)
+route_things plan prefix (route.Hops hops) = from_hops prefix (hops_of plan hops)
+
+-- the things of a row: none for a loopback interface, nor where a port is not in the plan
+abbrev pub things_of : Ports → Key → Row → List Thing
+things_of plan (key.Port port) (row.Port r) = from_lane (λ lane. thing.Port (record { lanes = r.lanes; speed = r.speed; mtu = r.mtu; up = r.up }) ∷ []) (lane_of plan port)
+things_of plan (key.Vlan vlan) row.Vlan = thing.Vlan vlan ∷ []
+things_of plan (key.Member vlan port) (row.Member tagging) = from_lane (λ lane. thing.BridgePort lane ∷ thing.VlanMember vlan lane tagging ∷ []) (lane_of plan port)
+things_of plan (key.Intf on) row.Intf = from_base (λ b. thing.Rif b ∷ []) (base_of plan on)
+things_of plan (key.Addr on ip len) row.Addr = thing.Own ip ∷ []
+things_of plan (key.Neigh on ip) (row.Neigh mac) = from_base (λ b. thing.Neighbor (record { on = b; ip = ip }) mac ∷ thing.NextHop (record { on = b; ip = ip }) ∷ []) (base_of plan on)
+things_of plan (key.Route prefix) (row.Route r) = route_things plan prefix r
+things_of plan _ _ = []

@@ -1,0 +1,14 @@
+//! What the switch state service is to do: the definitions that its parts are proved to meet, and the log that they speak of.
+#![tactic(auto)]
+
+mod laws;
+mod log;
+mod mark;
+mod wait;
+mod waits;
+
+pub use laws::{closed_rows_are_ready, ready_rows_are_closed};
+pub use log::Log;
+pub use mark::{Mark, MarkEvent};
+pub use wait::Wait;
+pub use waits::Waits;

@@ -1,0 +1,98 @@
+// The log of a session.
+ghost use Rattle.std.specs.Prelude.{◌≡◌, [], ◌∷◌, ◌++◌, length, OnOk, OnErr};
+
+use crate::Mark;
+use std::alloc::Global;
+use std::marker::Model;
+use swss_types::OutOfMemory;
+use table_schema::Sent;
+
+/// What happened in a session: the writes taken, in order; the marks, in order; and the ends of the rounds, each the
+/// number of marks at it.
+#[derive(Debug, Drop)]
+pub struct Log {
+    taken: Vec<Sent>,
+    marks: Vec<Mark>,
+    ends: Vec<u64>,
+}
+
+impl Model for Log {
+    ghost use Rattle.switch_model.specs.History.{History};
+
+    ghost Value = { History };
+
+    ghost view = { λ l. record { taken = l.taken.items; marks = l.marks.items; ends = l.ends.items } };
+}
+
+impl Log {
+    ghost use Rattle.switch_model.specs.History.{no_history, with_write, with_mark, with_end};
+
+    /// The empty log.
+    pub fn new(alloc: Global) -> Log
+        ensures { result ≡ no_history }
+    {
+        Log {
+            taken: Vec::new(alloc),
+            marks: Vec::new(alloc),
+            ends: Vec::new(alloc),
+        }
+    }
+
+    /// The writes taken, in order.
+    pub fn taken(&self) -> &[Sent]
+        ensures { result.now ≡ self.now.taken }
+    {
+        self.taken.as_slice()
+    }
+
+    /// The marks, in order.
+    pub fn marks(&self) -> &[Mark]
+        ensures { result.now ≡ self.now.marks }
+    {
+        self.marks.as_slice()
+    }
+
+    /// For each round that ended the number of marks at its end.
+    pub fn ends(&self) -> &[u64]
+        ensures { result.now ≡ self.now.ends }
+    {
+        self.ends.as_slice()
+    }
+
+    /// Makes room for one more write.
+    pub fn reserve(&mut self) -> Result<(), OutOfMemory>
+        ensures { self.new ≡ self.old }
+    {
+        self.taken.reserve(1)?;
+        Ok(())
+    }
+
+    /// Records that a write was taken.
+    pub fn take(&mut self, sent: Sent) -> Result<(), OutOfMemory>
+        ensures ok { OnOk result (self.new ≡ with_write self.old sent) }
+        ensures err { OnErr result (self.new ≡ self.old) }
+    {
+        self.taken.push(sent)?;
+        Ok(())
+    }
+
+    /// Records a mark.
+    pub fn mark(&mut self, mark: Mark) -> Result<(), OutOfMemory>
+        ensures ok { OnOk result (self.new ≡ with_mark self.old mark) }
+        ensures err { OnErr result (self.new ≡ self.old) }
+    {
+        self.marks.push(mark)?;
+        Ok(())
+    }
+
+    /// Records a mark at which a round ends.
+    pub fn mark_end(&mut self, mark: Mark) -> Result<(), OutOfMemory>
+        ensures ok { OnOk result (self.new ≡ with_end (with_mark self.old mark)) }
+        ensures err { OnErr result (self.new ≡ self.old) }
+    {
+        self.ends.reserve(1)?;
+        self.marks.push(mark)?;
+        self.ends.push(self.marks.len() as u64)?;
+        Ok(())
+    }
+}

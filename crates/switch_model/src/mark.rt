@@ -1,0 +1,44 @@
+// Marks of the log.
+use crate::Waits;
+use sai_types::Mode;
+
+/// What a mark records.
+#[derive(Debug, Drop)]
+pub enum MarkEvent {
+    /// A settling ended: the keys that wait, and how many turns it made.
+    Settled {
+        /// The keys that wait.
+        waits: Waits,
+        /// How many turns the settling made.
+        turns: u64,
+    },
+    /// The chip failed: its count of faults before the call and after it.
+    Faulted {
+        /// The count before the call.
+        before: u64,
+        /// The count after the call.
+        after: u64,
+    },
+    /// The control plane restarted.
+    Restarted,
+    /// A restarted control plane begins to bring the chip to its view.
+    ApplyBegan {
+        /// How.
+        mode: Mode,
+        /// The keys that wait.
+        waits: Waits,
+    },
+    /// It is done.
+    ApplyEnded,
+}
+
+/// What happened at a moment, with the numbers of writes taken and of chip calls that had taken effect by then.
+#[derive(Debug, Drop)]
+pub struct Mark {
+    /// How many writes were taken.
+    pub taken: u64,
+    /// How many chip calls had taken effect.
+    pub effects: u64,
+    /// What happened.
+    pub event: MarkEvent,
+}
