@@ -1,0 +1,8 @@
+//! The rows of the application tables, as the writes so far leave them.
+#![tactic(auto)]
+
+mod rows;
+#[cfg(test)]
+mod tests;
+
+pub use rows::Rows;

@@ -1,0 +1,102 @@
+// The rows of the application tables.
+ghost use Rattle.std.specs.Prelude.{◌≡◌, [], length, option_map, IfOk, OnOk, OnErr, unwrap_or};
+ghost use Rattle.std.specs.Map.{keys_of};
+ghost use Rattle.table_schema.specs.Rows.{HasRisingRows, after_write, fields_at};
+ghost use Rattle.table_schema.specs.Fields.{merged};
+
+use std::alloc::Global;
+use std::collections::{BTreeMap, btree_map};
+use std::marker::Model;
+use swss_types::OutOfMemory;
+use table_schema::{Fields, Key, Write};
+
+/// Rows by their keys: what a list of writes makes of no row.
+#[derive(Debug, Drop)]
+pub struct Rows {
+    rows: BTreeMap<Key, Fields>,
+    alloc: Global,
+}
+
+impl Model for Rows {
+    ghost use Rattle.std.specs.Prelude.{List, ℕ};
+    ghost use Rattle.table_schema.specs.declared.key.Key.{Key};
+
+    ghost Value = { List (Key × List (List ℕ × List ℕ)) };
+
+    ghost view = { λ r. r.rows.entries };
+}
+
+impl Rows {
+    /// No row.
+    pub fn new(alloc: Global) -> Rows
+        ensures { result ≡ [] }
+    {
+        Rows {
+            rows: BTreeMap::new(alloc),
+            alloc,
+        }
+    }
+
+    /// Lays the fields of a Set over the key's row, later values winning, or takes the row of a Del away.
+    pub fn apply(&mut self, write: &Write) -> Result<(), OutOfMemory>
+        ensures ok { OnOk result (self.new ≡ after_write self.old write.now) }
+        ensures err { OnErr result (self.new ≡ self.old) }
+    {
+        match write {
+            Write::Set(key, fields) => {
+                let row = self.merged(key, fields)?;
+                self.rows.insert(key.copy()?, row)?;
+            }
+            Write::Del(key) => {
+                self.rows.remove(key);
+            }
+        }
+        Ok(())
+    }
+
+    /// The fields of a row: None exactly where there is no row of this key.
+    pub fn get(&self, key: &Key) -> Option<&Fields>
+        ensures { option_map (λ fields. fields.now) result ≡ fields_at self.now key.now }
+    {
+        self.rows.get(key)
+    }
+
+    /// The keys, in order.
+    pub fn keys(&self) -> Result<Vec<Key>, OutOfMemory>
+        ensures { IfOk result (λ keys. keys.items ≡ keys_of self.now) }
+    {
+        let mut keys = Vec::with_capacity(self.alloc, self.rows.len())?;
+        for (key, _) in self.rows.iter() {
+            keys.push(key.copy()?)?;
+        }
+        Ok(keys)
+    }
+
+    /// The rows, in key order.
+    pub fn iter(&self) -> btree_map::Iter<'_, Key, Fields>
+        ensures rest { result ≡ self.now }
+        ensures rising { HasRisingRows self.now }
+    {
+        self.rows.iter()
+    }
+
+    /// How many rows there are.
+    pub fn len(&self) -> usize
+        ensures count { result ≡ length self.now }
+        ensures rising { HasRisingRows self.now }
+    {
+        self.rows.len()
+    }
+
+    /// A key's row with fields laid over it.
+    fn merged(&self, key: &Key, fields: &Fields) -> Result<Fields, OutOfMemory>
+        ensures { IfOk result (λ row. row ≡ merged (unwrap_or (fields_at self.now key.now) []) fields.now) }
+    {
+        let mut row = match self.rows.get(key) {
+            Some(row) => row.copy()?,
+            None => Fields::new(self.alloc),
+        };
+        row.merge(fields)?;
+        Ok(row)
+    }
+}
