@@ -1,0 +1,14 @@
+//! The core of the switch state service: it takes writes, and brings the chip to the rows that they come to.
+#![tactic(auto)]
+
+mod answer;
+mod applied;
+mod attempt;
+mod state;
+mod settle;
+mod turn;
+
+pub use answer::{Settled, TakeFault};
+pub use applied::Applied;
+pub use state::Core;
+pub use switch_model::{Log, Mark, MarkEvent, Wait, Waits};
