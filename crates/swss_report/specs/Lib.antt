@@ -1,0 +1,2 @@
+pub mod ChipLine
+pub mod Round
