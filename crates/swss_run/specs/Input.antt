@@ -1,0 +1,22 @@
+-- What reading a source to its end comes to. Own.
+use Rattle.std.specs.Prelude.{◌≡◌, ℕ, ◌<◌, ◌≤◌, List, [], length, Option, Some, None, IfSome}
+use Rattle.swss_types.specs.Outside.{Gives, HasRisen}
+use Rattle.swss_run.specs.declared.input.Input.{Input}
+use Rattle.swss_run.specs.declared.input.Input.TheVariants as input
+
+-- the source gave these bytes and then answered that nothing is left
+pub record GaveAll (old : Option (List ℕ)) (bytes : List ℕ) (new : Option (List ℕ)) : Type 0 where
+  pub gives : Gives old bytes new
+  pub ends : IfSome new (λ rest. rest ≡ [])
+  pub few : length bytes ≤ 67108864
+
+-- the source gave more bytes than a script may have
+pub record GaveTooMuch (old new : Option (List ℕ)) : Type 0 where
+  pub bytes : List ℕ
+  pub gives : Gives old bytes new
+  pub many : 67108864 < length bytes
+
+abbrev pub IsInput : Option (List ℕ) → ℕ → Input → Option (List ℕ) → ℕ → Type 0
+IsInput old faults (input.Whole bytes) new faults' = GaveAll old bytes.items new
+IsInput old faults input.TooLong new faults' = GaveTooMuch old new
+IsInput old faults input.Failed new faults' = HasRisen faults faults'

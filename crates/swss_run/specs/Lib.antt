@@ -1,0 +1,6 @@
+pub mod Input
+pub mod Output
+pub mod Read
+pub mod Run
+pub mod Status
+pub mod Words

@@ -1,0 +1,18 @@
+//! The top call of the switch state service: from the words and the script's bytes to the report's bytes.
+#![tactic(auto)]
+
+mod input;
+mod outcome;
+mod output;
+mod run;
+mod standard;
+mod status;
+#[cfg(test)]
+mod tests;
+mod words;
+
+pub use outcome::Outcome;
+pub use run::swss_main;
+pub use standard::{StdinSource, StdoutSink};
+pub use status::Status;
+pub use swss_script::{Refused, Why};
