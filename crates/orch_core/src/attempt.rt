@@ -79,7 +79,13 @@ impl Core {
     }
 
     /// Makes the object of a row. A chip that refuses the call, which is legal, counts as one that fails.
-    fn make<C: Chip>(&mut self, chip: &mut C, key: &Key, row: Row, body: Body<Rid>) -> Result<Tried, OutOfMemory>
+    fn make<C: Chip>(
+        &mut self,
+        chip: &mut C,
+        key: &Key,
+        row: Row,
+        body: Body<Rid>,
+    ) -> Result<Tried, OutOfMemory>
         ensures { self.new.to_sync ≡ self.old.to_sync }
     {
         if self.log_size(chip.effects()).saturating_add(2) > self.limit {

@@ -4,8 +4,8 @@
 mod answer;
 mod applied;
 mod attempt;
-mod state;
 mod settle;
+mod state;
 mod turn;
 
 pub use answer::{Settled, TakeFault};

@@ -27,7 +27,12 @@ pub struct Core {
 impl Core {
     /// A core that has taken nothing. Its chip is empty and clean, has made no call, and has these capacities. The log
     /// has so many places.
-    pub fn new(alloc: Global, plan: PortPlan, caps: Caps, log_limit: u64) -> Result<Core, OutOfMemory> {
+    pub fn new(
+        alloc: Global,
+        plan: PortPlan,
+        caps: Caps,
+        log_limit: u64,
+    ) -> Result<Core, OutOfMemory> {
         Ok(Core {
             alloc,
             plan,

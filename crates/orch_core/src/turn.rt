@@ -44,7 +44,10 @@ impl Core {
     /// The least key to sync behind those that wait.
     fn next_key(&self) -> Result<Option<Key>, OutOfMemory> {
         let next = match self.waiting.last() {
-            Some((last, _)) => self.to_sync.range((Bound::Excluded(last), Bound::Unbounded)).next(),
+            Some((last, _)) => self
+                .to_sync
+                .range((Bound::Excluded(last), Bound::Unbounded))
+                .next(),
             None => self.to_sync.first(),
         };
         match next {
