@@ -12,6 +12,8 @@ mod names;
 mod sim;
 mod table;
 mod tally;
+#[cfg(test)]
+mod tests;
 mod things;
 mod ways;
 

@@ -1,10 +1,10 @@
-mod Apart
-mod Decided
-mod Entries
-mod Found
-mod Keys
-mod Legal
-mod Maps
-mod Refer
-mod Things
-mod Whole
+pub mod Apart
+pub mod Decided
+pub mod Entries
+pub mod Found
+pub mod Keys
+pub mod Legal
+pub mod Maps
+pub mod Refer
+pub mod Things
+pub mod Whole
