@@ -2,6 +2,7 @@ pub mod Places
 pub mod Keys
 pub mod Plans
 pub mod Writes
+pub mod LastValues
 pub mod Merges
 pub mod Parts
 pub mod Texts

@@ -3,6 +3,7 @@ pub mod Fields
 pub mod Hop
 pub mod Key
 pub mod KeyText
+pub mod LastValue
 pub mod Names
 pub mod Plan
 pub mod PlanIndex

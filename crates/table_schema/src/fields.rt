@@ -4,6 +4,7 @@ ghost use Rattle.table_schema.specs.Fields.{HasRisingNames, IsPlace, merged, val
 
 use std::alloc::Global;
 use std::cmp::Ordering;
+use std::collections::BTreeMap;
 use std::marker::Model;
 use swss_types::{OutOfMemory, Text};
 
@@ -32,6 +33,16 @@ impl Fields {
         Fields {
             pairs: Vec::new(alloc),
         }
+    }
+
+    /// The fields of pairs in any order: the value of a name is its last one. It is what putting one pair after the other
+    /// comes to, in n log n steps.
+    pub fn from_pairs(alloc: Global, pairs: Vec<(Text, Text)>) -> Result<Fields, OutOfMemory>
+        ensures { IfOk result (λ fields. fields ≡ merged [] pairs.items) }
+    {
+        Ok(Fields {
+            pairs: into_rising(alloc, by_name(alloc, pairs)?)?,
+        })
     }
 
     /// Puts a value under a name, in the place of one that is there.
@@ -86,6 +97,29 @@ impl Fields {
             pairs: copy_pairs(*self.pairs.allocator(), self.pairs.as_slice())?,
         })
     }
+}
+
+/// The last value of each name.
+fn by_name(alloc: Global, pairs: Vec<(Text, Text)>) -> Result<BTreeMap<Text, Text>, OutOfMemory>
+    ensures { IfOk result (λ named. named.entries ≡ merged [] pairs.items) }
+{
+    let mut named = BTreeMap::new(alloc);
+    for (name, value) in pairs {
+        named.insert(name, value)?;
+    }
+    Ok(named)
+}
+
+/// The names and values of a map, the names rising.
+fn into_rising(alloc: Global, named: BTreeMap<Text, Text>) -> Result<Vec<(Text, Text)>, OutOfMemory>
+    ensures same { IfOk result (λ pairs. pairs.items ≡ named.entries) }
+    ensures rising { IfOk result (λ pairs. HasRisingNames pairs.items) }
+{
+    let mut pairs = Vec::with_capacity(alloc, named.len())?;
+    for pair in named {
+        pairs.push(pair)?;
+    }
+    Ok(pairs)
 }
 
 /// Where a name stands among the pairs, or where a pair with it is to be put.

@@ -4,10 +4,11 @@ ghost use Rattle.std.specs.BTreeSet.{insert_key};
 ghost use Rattle.std.specs.Cmp.{IsTotalOrder};
 ghost use Rattle.std.specs.Str.{IsUtf8};
 ghost use Rattle.std.proofs.lemmas.Map.Lookups.{CmpEqualImpliesEq};
-ghost use Rattle.table_schema.specs.Fields.{HasRisingKeys, HasRisingNames, Pairs, merged};
+ghost use Rattle.table_schema.specs.Fields.{HasRisingKeys, HasRisingNames, Pairs, merged, value_of};
 ghost use Rattle.table_schema.specs.Hop.{AreRisingHops, hop_cmp};
 ghost use Rattle.table_schema.specs.Key.{key_cmp};
 ghost use Rattle.table_schema.specs.KeyText.{key_of, key_text};
+ghost use Rattle.table_schema.specs.LastValue.{last_value};
 ghost use Rattle.table_schema.specs.Names.{names_of};
 ghost use Rattle.table_schema.specs.Plan.{IsPlan, Ports, plan_of};
 ghost use Rattle.table_schema.specs.ProperKey.{AreProperKeys, IsProperKey};
@@ -33,6 +34,12 @@ pub fn keys_read_back()
 /// What a row of a proper key names are proper keys.
 pub fn names_are_proper()
     ensures { (plan : Ports) (key : Key) (fields : Pairs) (row : Row) → IsProperKey key → row_of plan key fields ≡ Ok row → AreProperKeys (names_of key row) }
+{}
+
+/// Pairs that are laid one over the other have rising names, and the value of each name is its last one.
+pub fn last_values_stay()
+    ensures rising { (pairs : Pairs) → HasRisingNames (merged [] pairs) }
+    ensures last { (pairs : Pairs) (name : List ℕ) → value_of name (merged [] pairs) ≡ last_value name pairs }
 {}
 
 /// A hop more keeps hops rising, and one that is there changes nothing.

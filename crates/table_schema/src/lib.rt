@@ -24,8 +24,8 @@ pub use fields::Fields;
 pub use key::Key;
 pub use key_text::{has_colon, read_key};
 pub use laws::{
-    hops_collapse, keys_are_ordered, keys_read_back, names_are_proper, plans_are_plans,
-    rows_are_a_fold,
+    hops_collapse, keys_are_ordered, keys_read_back, last_values_stay, names_are_proper,
+    plans_are_plans, rows_are_a_fold,
 };
 pub use naming::names;
 pub use plan::{PlanWhy, PortPlan};

@@ -218,3 +218,31 @@ fn a_plan_has_at_most_256_ports(rt: HostRuntime) -> Result<(), OutOfMemory> {
     );
     Ok(())
 }
+
+#[test]
+fn later_values_win_among_pairs_in_any_order(rt: HostRuntime) -> Result<(), OutOfMemory> {
+    let alloc = rt.alloc();
+    let cases = [
+        ("", ""),
+        ("b=1 a=2", "a=2 b=1 "),
+        ("b=1 a=2 b=3 c= a=4 b=5", "a=4 b=5 c= "),
+        ("zz=1 z=2 zzz=3 z=", "z= zz=1 zzz=3 "),
+    ];
+    for (words, wanted) in cases {
+        let mut pairs = Vec::new(alloc);
+        for word in words.split_whitespace() {
+            let (name, value) = word.split_once('=').expect(&rt, "a name and a value");
+            pairs.push((text(&rt, alloc, name)?, text(&rt, alloc, value)?))?;
+        }
+        let fields = Fields::from_pairs(alloc, pairs)?;
+        let mut out = Vec::new(alloc);
+        for field in fields.items() {
+            out.extend_from_slice(field.0.bytes())?;
+            out.push(b'=')?;
+            out.extend_from_slice(field.1.bytes())?;
+            out.push(b' ')?;
+        }
+        assert_eq!(rt; out.as_slice(), wanted.as_bytes(), "{words}");
+    }
+    Ok(())
+}
