@@ -1,1 +1,5 @@
 pub mod Ready
+pub mod ReadRows
+pub mod References
+pub mod Worked
+pub mod WorkedWaits

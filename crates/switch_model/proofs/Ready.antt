@@ -1,5 +1,5 @@
 -- ready rows, level by level
-use Rattle.std.proofs.Common.{◌≡◌, ℕ, zero, suc, ◌<◌, ◌≤◌, Bool, true, false, ◌&&◌, cond, List, [], ◌∷◌, map, Option, None, Some, refl, sym, ap, ◌∙◌, subst, arith}
+use Rattle.std.proofs.Common.{◌≡◌, ℕ, zero, suc, ◌<◌, ◌≤◌, Bool, true, false, ◌&&◌, cond, List, [], ◌∷◌, map, Option, None, Some, refl, ap, ◌∙◌, subst, arith}
 use Rattle.std.specs.Option.{is_some}
 use Rattle.swss_types.specs.declared.interface.IfName.{IfName}
 use Rattle.swss_types.specs.declared.interface.IfName.TheVariants as name
@@ -14,7 +14,7 @@ use Rattle.table_schema.specs.declared.row_hop.RowHop.{RowHop}
 use Rattle.switch_model.specs.Desired.{IsClosed, have_rows, where_named, ready_below, ready_rows}
 use Rattle.switch_model.specs.Good.{TypedRows}
 
-both_true : (a b : Bool) → (a && b) ≡ true → (a ≡ true) × (b ≡ true)
+pub both_true : (a b : Bool) → (a && b) ≡ true → (a ≡ true) × (b ≡ true)
 both_true true true h = (refl, refl)
 both_true true false h = cc
 both_true false b h = cc
@@ -59,6 +59,14 @@ named f k (Some s) r h =
 -- what a ready row names is ready
 pub IsClosed-ready : (rows : TypedRows) → IsClosed (ready_rows rows)
 IsClosed-ready rows k r h = have_rows-more (ready_below 3 rows) (ready_below 4 rows) (ready_below-more 3 rows) (names_of k r) (named (ready_below 3 rows) k (rows k) r h)
+
+there : (f : TypedRows) (k : Key) (o : Option Row) (r : Row) → where_named f k o ≡ Some r → o ≡ Some r
+there f k None r h = cc
+there f k (Some s) r h = ap Some ((chosen (have_rows f (names_of k s)) s r h).1)
+
+-- a ready row is there
+pub ready-there : (rows : TypedRows) (k : Key) (r : Row) → ready_rows rows k ≡ Some r → rows k ≡ Some r
+ready-there rows k r h = there (ready_below 3 rows) k (rows k) r h
 
 -- the level of a key: it names only keys of lower levels
 abbrev key_level : Key → ℕ

@@ -1,5 +1,5 @@
 -- The promises: what holds of a session's log and of the calls that its chip made. Own.
-use Rattle.std.specs.Prelude.{◌≡◌, ℕ, ◌+◌, ◌<◌, ◌≤◌, Bool, true, false, List, [], ◌∷◌, length, take, Option, Some, None, if◌then◌else◌}
+use Rattle.std.specs.Prelude.{◌≡◌, ℕ, ◌≤◌, List, [], ◌∷◌, length, take, Option, Some, None}
 use Rattle.swss_types.specs.declared.address.Prefix.{Prefix}
 use Rattle.table_schema.specs.declared.key.Key.TheVariants as key
 use Rattle.table_schema.specs.declared.row.Row.{Row}
@@ -7,14 +7,13 @@ use Rattle.table_schema.specs.declared.write.Sent.{Sent}
 use Rattle.table_schema.specs.Plan.{Ports}
 use Rattle.sai_types.specs.declared.ids.Rid.{Rid}
 use Rattle.sai_types.specs.declared.body.Call.{Call}
-use Rattle.sai_types.specs.declared.plan.Mode.{Mode}
 use Rattle.sai_types.specs.declared.thing.Goal.{Goal}
 use Rattle.sai_types.specs.declared.thing.Thing.TheVariants as thing
-use Rattle.sai_types.specs.After.{after_call, makes_id, chip_after, next_id}
+use Rattle.sai_types.specs.After.{chip_after}
 use Rattle.sai_types.specs.Alike.{IsIn, IsAlike}
 use Rattle.sai_types.specs.Named.{named}
 use Rattle.sai_types.specs.Objects.{Objects}
-use Rattle.sai_types.specs.Refusal.{IsLegal}
+use Rattle.sai_types.specs.Made.{AreLegal}
 use Rattle.switch_model.specs.declared.mark.Mark.{Mark}
 use Rattle.switch_model.specs.declared.mark.MarkEvent.{MarkEvent}
 use Rattle.switch_model.specs.declared.mark.MarkEvent.TheVariants as event
@@ -24,14 +23,6 @@ use Rattle.switch_model.specs.Marks.{Waiting, applied_rows, ReasonsAreTrue, Name
 use Rattle.switch_model.specs.Good.{TypedRows, good_rows}
 use Rattle.table_schema.specs.Rows.{rows_of}
 use Rattle.switch_model.specs.Things.{things_of}
-
-abbrev pub after_made : ℕ → Call Rid → ℕ
-after_made made c = if makes_id c then made + 1 else made
-
--- each of these calls is legal in the objects that the calls before it left
-abbrev pub AreLegal : List ℕ → ℕ → Objects → List (Call Rid) → Type 0
-AreLegal capacities made objects [] = Unit {0}
-AreLegal capacities made objects (c ∷ cs) = IsLegal capacities objects c × AreLegal capacities (after_made made c) (after_call (made + 1) objects c) cs
 
 -- the good rows of the first so many writes taken
 abbrev pub good_rows_at : Ports → List Sent → ℕ → TypedRows

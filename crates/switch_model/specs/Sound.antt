@@ -1,18 +1,10 @@
 -- A core and its chip that keep the promises. Own.
-use Rattle.std.specs.Prelude.{◌≡◌, ◌≢◌, ℕ, ◌<◌, ◌≤◌, Bool, true, false, List, [], ◌∷◌, length, Option, Some, None}
+use Rattle.std.specs.Prelude.{◌≡◌, ◌≢◌, ℕ, ◌≤◌, Bool, true, false, List, [], ◌∷◌, length}
 use Rattle.table_schema.specs.declared.key.Key.{Key}
-use Rattle.table_schema.specs.declared.row.Row.{Row}
 use Rattle.table_schema.specs.Plan.{Ports}
-use Rattle.sai_types.specs.declared.ids.Rid.{Rid}
-use Rattle.sai_types.specs.declared.body.Body.{Body}
-use Rattle.sai_types.specs.declared.body.Entry.{Entry}
-use Rattle.sai_types.specs.declared.body.Entry.TheVariants as entry
-use Rattle.sai_types.specs.declared.thing.Thing.{Thing}
 use Rattle.sai_types.specs.After.{chip_after}
 use Rattle.sai_types.specs.Alike.{IsIn, IsAlike}
 use Rattle.sai_types.specs.ChipState.{ChipState}
-use Rattle.sai_types.specs.Named.{thing_of}
-use Rattle.sai_types.specs.Objects.{Objects, body_at}
 use Rattle.switch_model.specs.declared.mark.Mark.{Mark}
 use Rattle.switch_model.specs.declared.mark.MarkEvent.{MarkEvent}
 use Rattle.switch_model.specs.declared.mark.MarkEvent.TheVariants as event

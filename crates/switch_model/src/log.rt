@@ -25,7 +25,9 @@ impl Model for Log {
 }
 
 impl Log {
-    ghost use Rattle.switch_model.specs.History.{no_history, with_write, with_mark, with_end};
+    ghost use Rattle.table_schema.specs.declared.write.Sent.{Sent};
+    ghost use Rattle.switch_model.specs.declared.mark.Mark.{Mark};
+    ghost use Rattle.switch_model.specs.History.{History, no_history, with_write, with_mark, with_end};
 
     /// The empty log.
     pub fn new(alloc: Global) -> Log
@@ -59,14 +61,6 @@ impl Log {
         self.ends.as_slice()
     }
 
-    /// Makes room for one more write.
-    pub fn reserve(&mut self) -> Result<(), OutOfMemory>
-        ensures { self.new ≡ self.old }
-    {
-        self.taken.reserve(1)?;
-        Ok(())
-    }
-
     /// Records that a write was taken.
     pub fn take(&mut self, sent: Sent) -> Result<(), OutOfMemory>
         ensures ok { OnOk result (self.new ≡ with_write self.old sent) }
@@ -74,6 +68,14 @@ impl Log {
     {
         self.taken.push(sent)?;
         Ok(())
+    }
+
+    /// Takes the last write out again, if there is one.
+    pub fn take_back(&mut self)
+        ensures last { (h : History) (sent : Sent) → self.old ≡ with_write h sent → self.new ≡ h }
+        ensures none { self.old.taken ≡ [] → self.new ≡ self.old }
+    {
+        self.taken.pop();
     }
 
     /// Records a mark.
@@ -94,5 +96,22 @@ impl Log {
         self.marks.push(mark)?;
         self.ends.push(self.marks.len() as u64)?;
         Ok(())
+    }
+
+    /// Takes the last mark out again, with the end of a round at it.
+    pub fn unmark(&mut self)
+        ensures { (h : History) (mark : Mark) → self.old ≡ with_end (with_mark h mark) → self.new ≡ h }
+    {
+        self.marks.pop();
+        self.ends.pop();
+    }
+
+    /// Records another mark in place of the last, at which a round ends.
+    pub fn replace_last(&mut self, mark: Mark)
+        ensures { (h : History) (last : Mark) → self.old ≡ with_end (with_mark h last) → self.new ≡ with_end (with_mark h mark) }
+    {
+        // The place of the last mark is free then, so this asks for no memory.
+        self.marks.pop();
+        let _ = self.marks.push(mark);
     }
 }

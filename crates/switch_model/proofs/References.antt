@@ -1,0 +1,222 @@
+-- whatever a thing of closed rows that read refers to is a thing of them
+use Rattle.std.proofs.Common.{◌≡◌, inl, inr, ℕ, true, List, [], ◌∷◌, map, Option, None, Some, refl, sym, ap, ◌∙◌, subst}
+use Rattle.std.specs.BTreeSet.{insert_key}
+use Rattle.std.specs.Option.{is_some}
+use Rattle.std.specs.Ordering.{match_ordering}
+use Rattle.std.specs.Prelude.{option_map}
+use Rattle.std.specs.declared.cmp.Ordering.{Ordering}
+use Rattle.std.specs.declared.cmp.Ordering.TheVariants.{Less, Equal, Greater}
+use Rattle.swss_types.specs.declared.address.Ip.{Ip}
+use Rattle.swss_types.specs.declared.address.Mac.{Mac}
+use Rattle.swss_types.specs.declared.address.Prefix.{Prefix}
+use Rattle.swss_types.specs.declared.interface.IfName.{IfName}
+use Rattle.swss_types.specs.declared.interface.IfName.TheVariants as name
+use Rattle.swss_types.specs.declared.tagging.Tagging.{Tagging}
+use Rattle.table_schema.specs.Names.{names_of, base_names, route_names}
+use Rattle.table_schema.specs.Plan.{Ports}
+use Rattle.table_schema.specs.Rows.{Rows}
+use Rattle.table_schema.specs.declared.key.Key.{Key}
+use Rattle.table_schema.specs.declared.key.Key.TheVariants as key
+use Rattle.table_schema.specs.declared.row.Row.{Row}
+use Rattle.table_schema.specs.declared.row.Row.TheVariants as row
+use Rattle.table_schema.specs.declared.row.RouteRow.{RouteRow}
+use Rattle.table_schema.specs.declared.row.RouteRow.TheVariants as route
+use Rattle.table_schema.specs.declared.row_hop.RowHop.{RowHop}
+use Rattle.sai_types.specs.declared.hop.Base.{Base}
+use Rattle.sai_types.specs.declared.hop.Base.TheVariants as base
+use Rattle.sai_types.specs.declared.hop.Hop.{Hop}
+use Rattle.sai_types.specs.declared.thing.Goal.TheVariants as goal
+use Rattle.sai_types.specs.declared.thing.Thing.{Thing}
+use Rattle.sai_types.specs.declared.thing.Thing.TheVariants as thing
+use Rattle.sai_types.specs.Alike.{IsIn, NaturalKey, natural_key}
+use Rattle.sai_types.specs.Alike as natural
+use Rattle.sai_types.specs.Named.{both, first_lane, hop_cmp}
+use Rattle.switch_model.specs.Desired.{IsClosed, IsThingOf, desired_view, have_rows, ready_rows}
+use Rattle.switch_model.specs.Good.{TypedRows, good_rows}
+use Rattle.switch_model.specs.References.{Reference, base_reference, references, IsTo, IsSelfContained}
+use Rattle.switch_model.specs.References as refer
+use Rattle.switch_model.specs.Things.{base_of, from_base, from_hops, from_lane, hop_of, hops_of, lane_of, members_of, route_things, route_to, things_of}
+use Rattle.switch_model.proofs.ReadRows.{IsRead, IsRead-good, intf_read, neigh_read, port_read, vlan_read}
+use Rattle.switch_model.proofs.Ready.{IsClosed-ready, both_true, ready-there}
+
+row_there : (o : Option Row) → is_some o ≡ true → (r : Row) × (o ≡ Some r)
+row_there None h = cc
+row_there (Some r) h = (r, refl)
+
+-- the rows of one name and of two
+one_there : (rows : TypedRows) (k : Key) → have_rows rows (k ∷ []) ≡ true → (r : Row) × (rows k ≡ Some r)
+one_there rows k h = row_there (rows k) ((both_true (is_some (rows k)) true h).0)
+
+two_there : (rows : TypedRows) (k q : Key) → have_rows rows (k ∷ q ∷ []) ≡ true → ((r : Row) × (rows k ≡ Some r)) × ((r : Row) × (rows q ≡ Some r))
+two_there rows k q h =
+    let parts = both_true (is_some (rows k)) (have_rows rows (q ∷ [])) h in
+    (row_there (rows k) parts.0, one_there rows q parts.1)
+
+some_is : (n m : ℕ) (o : Option ℕ) → o ≡ Some n → o ≡ Some m → n ≡ m
+some_is n m o h k = cc
+
+mapped : {X Y : Type 0} (f : X → Y) (o : Option X) (y : Y) → option_map f o ≡ Some y → (x : X) × (o ≡ Some x) × (f x ≡ y)
+mapped f None y h = cc
+mapped f (Some x) y h = (x, refl, cc)
+
+both_mapped : {A B C : Type 0} (f : A → B → C) (o : Option A) (p : Option B) (y : C) → both f o p ≡ Some y → (a : A) × (b : B) × (o ≡ Some a) × (p ≡ Some b) × (f a b ≡ y)
+both_mapped f None p y h = absurd cc
+both_mapped f (Some a) None y h = absurd cc
+both_mapped f (Some a) (Some b) y h = (a, b, refl, refl, cc)
+
+abbrev AllIn : {X : Type 0} → (X → Type 0) → List X → Type 0
+AllIn P [] = Unit {0}
+AllIn P (x ∷ xs) = P x × AllIn P xs
+
+one_of : {X : Type 0} (P : X → Type 0) (x : X) (xs : List X) → AllIn P xs → IsIn x xs → P x
+one_of P x [] all h = absurd h
+one_of P x (y ∷ ys) all (inl e) = subst P (sym e) all.0
+one_of P x (y ∷ ys) all (inr h) = one_of P x ys all.1 h
+
+AllIn-insert : {X : Type 0} (P : X → Type 0) (cmp : X → X → Ordering) (xs : List X) (x : X) → P x → AllIn P xs → AllIn P (insert_key cmp xs x)
+AllIn-insert P cmp [] x h all = (h, tt)
+AllIn-insert P cmp (y ∷ ys) x h all = by (cmp x y) (AllIn-insert P cmp ys x h all.1)
+  where
+    by : (o : Ordering) → AllIn P (insert_key cmp ys x) → AllIn P (match_ordering o (x ∷ y ∷ ys) (y ∷ ys) (y ∷ insert_key cmp ys x))
+    by Less more = (h, all)
+    by Equal more = all
+    by Greater more = (all.0, more)
+
+module _ (plan : Ports) (rows : TypedRows) (closed : IsClosed rows) (read : (k : Key) (r : Row) → rows k ≡ Some r → IsRead plan k r) where
+  -- some thing of the rows is what the reference is to
+  abbrev IsMet : Reference → Type 0
+  IsMet reference = (y : Thing) × IsThingOf plan rows y × IsTo reference y
+
+  abbrev AreMet : Thing → Type 0
+  AreMet x = AllIn IsMet (references x)
+
+  -- a thing of a row meets the references to its natural key
+  met_by : (k : Key) (r : Row) (y : Thing) → rows k ≡ Some r → IsIn y (things_of plan k r) → IsMet (refer.ToThing (natural_key y))
+  met_by k r y is h = (y, (k, r, is, h), refl)
+
+  port_met : (port lane : ℕ) (r : Row) → rows (key.Port port) ≡ Some r → lane_of plan port ≡ Some lane → IsMet (refer.ToPort lane)
+  port_met port lane r is at =
+      let p = port_read plan port r (read (key.Port port) r is) in
+      let here : lane_of plan port ≡ Some (first_lane (p.0).lanes) = ap (option_map first_lane) p.2 in
+      let same : first_lane (p.0).lanes ≡ lane = some_is (first_lane (p.0).lanes) lane (lane_of plan port) here at in
+      let made = thing.Port (record { lanes = (p.0).lanes; speed = (p.0).speed; mtu = (p.0).mtu; up = (p.0).up }) in
+      (made, (key.Port port, row.Port p.0, is ∙ ap Some p.1, subst (λ o. IsIn made (from_lane (λ lane. made ∷ []) o)) (sym here) (inl refl)), same)
+
+  vlan_met : (vlan : ℕ) (r : Row) → rows (key.Vlan vlan) ≡ Some r → IsMet (refer.ToThing (natural.Vlan vlan))
+  vlan_met vlan r is = met_by (key.Vlan vlan) row.Vlan (thing.Vlan vlan) (is ∙ ap Some (vlan_read plan vlan r (read (key.Vlan vlan) r is))) (inl refl)
+
+  -- what an interface stands on
+  base_met : (on : IfName) (b : Base) → have_rows rows (base_names on) ≡ true → base_of plan on ≡ Some b → IsMet (base_reference b)
+  base_met (name.Ethernet port) b named h =
+      let there = one_there rows (key.Port port) named in
+      let lane = mapped base.Port (lane_of plan port) b h in
+      subst (λ x. IsMet (base_reference x)) lane.2 (port_met port lane.0 there.0 there.1 lane.1)
+  base_met (name.Vlan vlan) b named h =
+      let there = one_there rows (key.Vlan vlan) named in
+      let is : base.Vlan vlan ≡ b = cc in
+      subst (λ x. IsMet (base_reference x)) is (vlan_met vlan there.0 there.1)
+  base_met (name.Loopback number) b named h = absurd cc
+
+  rif_met : (on : IfName) (b : Base) (r : Row) → rows (key.Intf on) ≡ Some r → base_of plan on ≡ Some b → IsMet (refer.ToThing (natural.Rif b))
+  rif_met on b r is at =
+      met_by (key.Intf on) row.Intf (thing.Rif b) (is ∙ ap Some (intf_read plan on r (read (key.Intf on) r is)))
+      (subst (λ o. IsIn (thing.Rif b) (from_base (λ b. thing.Rif b ∷ []) o)) (sym at) (inl refl))
+
+  abbrev through : Base → Ip → Hop
+  through b ip = record { on = b; ip = ip }
+
+  abbrev IsHopMet : Hop → Type 0
+  IsHopMet hop = IsMet (refer.ToThing (natural.NextHop hop))
+
+  hop_met : (on : IfName) (ip : Ip) (b : Base) (r : Row) → rows (key.Neigh on ip) ≡ Some r → base_of plan on ≡ Some b → IsHopMet (through b ip)
+  hop_met on ip b r is at =
+      let mac = neigh_read plan on ip r (read (key.Neigh on ip) r is) in
+      met_by (key.Neigh on ip) (row.Neigh mac.0) (thing.NextHop (through b ip)) (is ∙ ap Some mac.1)
+      (subst (λ o. IsIn (thing.NextHop (through b ip)) (from_base (λ b. thing.Neighbor (through b ip) mac.0 ∷ thing.NextHop (through b ip) ∷ []) o)) (sym at) (inr (inl refl)))
+
+  hops_met : (hops : List RowHop) (group : List Hop) → have_rows rows (map (λ h. key.Neigh h.on h.ip) hops) ≡ true → hops_of plan hops ≡ Some group → AllIn IsHopMet group
+  hops_met [] group named h = let is : [] ≡ group = cc in subst (AllIn IsHopMet) is tt
+  hops_met (hop ∷ hops) group named h =
+      let first = both_true (is_some (rows (key.Neigh hop.on hop.ip))) (have_rows rows (map (λ h. key.Neigh h.on h.ip) hops)) named in
+      let there = row_there (rows (key.Neigh hop.on hop.ip)) first.0 in
+      let parts = both_mapped (insert_key hop_cmp) (hops_of plan hops) (hop_of plan hop) group h in
+      let on = mapped (λ b. through b hop.ip) (base_of plan hop.on) parts.1 parts.3 in
+      let here = subst IsHopMet on.2 (hop_met hop.on hop.ip on.0 there.0 there.1 on.1) in
+      subst (AllIn IsHopMet) parts.4 (AllIn-insert IsHopMet hop_cmp parts.0 parts.1 here (hops_met hops parts.0 first.1 parts.2))
+
+  members_met : (group hops : List Hop) → IsMet (refer.ToThing (natural.Group group)) → AllIn IsHopMet hops → AllIn AreMet (members_of group hops)
+  members_met group [] whole all = tt
+  members_met group (hop ∷ hops) whole all = ((whole, (all.0, tt)), members_met group hops whole all.1)
+
+  -- a route's things
+  route_met : (prefix : Prefix) (group : List Hop) → AllIn IsHopMet group → ((y : Thing) → IsIn y (route_to prefix group) → IsMet (refer.ToThing (natural_key y))) → AllIn AreMet (route_to prefix group)
+  route_met prefix [] all there = tt
+  route_met prefix (hop ∷ []) all there = ((all.0, tt), tt)
+  route_met prefix (hop ∷ next ∷ hops) all there =
+      let group = hop ∷ next ∷ hops in
+      let whole = there (thing.Group group) (inr (inl refl)) in
+      ((whole, tt), (tt, members_met group group whole all))
+
+  hops_by : (prefix : Prefix) (hops : List RowHop) (o : Option (List Hop)) → rows (key.Route prefix) ≡ Some (row.Route (route.Hops hops)) → have_rows rows (map (λ h. key.Neigh h.on h.ip) hops) ≡ true → hops_of plan hops ≡ o → AllIn AreMet (from_hops prefix o)
+  hops_by prefix hops None is named at = tt
+  hops_by prefix hops (Some group) is named at =
+      route_met prefix group (hops_met hops group named at)
+      (λ y h. met_by (key.Route prefix) (row.Route (route.Hops hops)) y is (subst (λ o. IsIn y (from_hops prefix o)) (sym at) h))
+
+  direct_by : (prefix : Prefix) (on : IfName) (o : Option Base) → have_rows rows (key.Intf on ∷ []) ≡ true → base_of plan on ≡ o → AllIn AreMet (from_base (λ b. thing.Route prefix (goal.Direct b) ∷ []) o)
+  direct_by prefix on None named at = tt
+  direct_by prefix on (Some b) named at =
+      let there = one_there rows (key.Intf on) named in
+      ((rif_met on b there.0 there.1 at, tt), tt)
+
+  target_met : (prefix : Prefix) (target : RouteRow) → rows (key.Route prefix) ≡ Some (row.Route target) → have_rows rows (route_names target) ≡ true → AllIn AreMet (route_things plan prefix target)
+  target_met prefix route.Drop is named = (tt, tt)
+  target_met prefix (route.Direct on) is named = direct_by prefix on (base_of plan on) named refl
+  target_met prefix (route.Hops hops) is named = hops_by prefix hops (hops_of plan hops) is named refl
+
+  member_by : (vlan port : ℕ) (tagging : Tagging) (o : Option ℕ) → rows (key.Member vlan port) ≡ Some (row.Member tagging) → have_rows rows (key.Vlan vlan ∷ key.Port port ∷ []) ≡ true → lane_of plan port ≡ o → AllIn AreMet (from_lane (λ lane. thing.BridgePort lane ∷ thing.VlanMember vlan lane tagging ∷ []) o)
+  member_by vlan port tagging None is named at = tt
+  member_by vlan port tagging (Some lane) is named at =
+      let there = two_there rows (key.Vlan vlan) (key.Port port) named in
+      let bridged = met_by (key.Member vlan port) (row.Member tagging) (thing.BridgePort lane) is
+      (subst (λ o. IsIn (thing.BridgePort lane) (from_lane (λ lane. thing.BridgePort lane ∷ thing.VlanMember vlan lane tagging ∷ []) o)) (sym at) (inl refl)) in
+      ((port_met port lane (there.1).0 (there.1).1 at, tt), ((vlan_met vlan (there.0).0 (there.0).1, (bridged, tt)), tt))
+
+  rif_by : (on : IfName) (o : Option Base) → have_rows rows (base_names on) ≡ true → base_of plan on ≡ o → AllIn AreMet (from_base (λ b. thing.Rif b ∷ []) o)
+  rif_by on None named at = tt
+  rif_by on (Some b) named at = ((base_met on b named at, tt), tt)
+
+  neigh_by : (on : IfName) (ip : Ip) (mac : Mac) (o : Option Base) → rows (key.Neigh on ip) ≡ Some (row.Neigh mac) → have_rows rows (key.Intf on ∷ []) ≡ true → base_of plan on ≡ o → AllIn AreMet (from_base (λ b. thing.Neighbor (through b ip) mac ∷ thing.NextHop (through b ip) ∷ []) o)
+  neigh_by on ip mac None is named at = tt
+  neigh_by on ip mac (Some b) is named at =
+      let there = one_there rows (key.Intf on) named in
+      let rif = rif_met on b there.0 there.1 at in
+      let beside = met_by (key.Neigh on ip) (row.Neigh mac) (thing.Neighbor (through b ip) mac) is
+      (subst (λ o. IsIn (thing.Neighbor (through b ip) mac) (from_base (λ b. thing.Neighbor (through b ip) mac ∷ thing.NextHop (through b ip) ∷ []) o)) (sym at) (inl refl)) in
+      ((rif, tt), ((rif, (beside, tt)), tt))
+
+  port_by : (port : ℕ) (made : ℕ → Thing) (o : Option ℕ) → ((lane : ℕ) → AreMet (made lane)) → AllIn AreMet (from_lane (λ lane. made lane ∷ []) o)
+  port_by port made None each = tt
+  port_by port made (Some lane) each = (each lane, tt)
+
+  -- the things of a row of this key
+  row_met : (k : Key) (r : Row) → rows k ≡ Some r → have_rows rows (names_of k r) ≡ true → AllIn AreMet (things_of plan k r)
+  row_met (key.Port port) (row.Port p) is named = port_by port (λ lane. thing.Port (record { lanes = p.lanes; speed = p.speed; mtu = p.mtu; up = p.up })) (lane_of plan port) (λ lane. tt)
+  row_met (key.Vlan vlan) row.Vlan is named = (tt, tt)
+  row_met (key.Member vlan port) (row.Member tagging) is named = member_by vlan port tagging (lane_of plan port) is named refl
+  row_met (key.Intf on) row.Intf is named = rif_by on (base_of plan on) named refl
+  row_met (key.Addr on ip len) row.Addr is named = (tt, tt)
+  row_met (key.Neigh on ip) (row.Neigh mac) is named = neigh_by on ip mac (base_of plan on) is named refl
+  row_met (key.Route prefix) (row.Route target) is named = target_met prefix target is named
+  row_met _ _ is named = tt
+
+  -- closed rows that read have all that their things refer to
+  pub IsSelfContained-closed : IsSelfContained (IsThingOf plan rows)
+  IsSelfContained-closed x reference (k, r, is, h) refers =
+      one_of IsMet reference (references x) (one_of AreMet x (things_of plan k r) (row_met k r is (closed k r is)) h) refers
+
+-- and so has the desired view
+pub IsSelfContained-desired_view : (plan : Ports) (rows : Rows) → IsSelfContained (desired_view plan rows)
+IsSelfContained-desired_view plan rows =
+    IsSelfContained-closed plan (ready_rows (good_rows plan rows)) (IsClosed-ready (good_rows plan rows))
+    (λ k r h. IsRead-good plan rows k r (ready-there (good_rows plan rows) k r h))
