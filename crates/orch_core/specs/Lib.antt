@@ -1,0 +1,10 @@
+pub mod Called
+pub mod Difference
+pub mod Keeps
+pub mod Settling
+pub mod Standing
+pub mod State
+pub mod Step
+pub mod Taken
+pub mod Tried
+pub mod Turn

@@ -1,12 +1,21 @@
 // Trying one key: bringing what is applied of it to its row.
-ghost use Rattle.std.specs.Prelude.{◌≡◌};
+ghost use Rattle.std.specs.Prelude.{◌≡◌, Ok};
+ghost use Rattle.std.specs.BTreeMap.{insert_entry};
+ghost use Rattle.table_schema.specs.Key.{key_cmp};
+ghost use Rattle.sai_types.specs.Alike.{IsIn};
+ghost use Rattle.orch_core.specs.declared.applied.Applied.{Applied};
+ghost use Rattle.orch_core.specs.declared.attempt.Tried.TheVariants as tried;
+ghost use Rattle.orch_core.specs.Standing.{Entries};
+ghost use Rattle.orch_core.specs.Step.{IsCreation, IsRemoval};
+ghost use Rattle.orch_core.specs.Tried.{IsSteady, IsTried, tried_without};
 
+use crate::called::{Uncalled, change, make};
+use crate::step::Step;
 use crate::{Applied, Core};
-use sai_types::{Body, Call, Chip, ChipAnswer, Rid, RifOn};
-use std::collections::btree_map::Entry;
+use sai_types::{Body, Call, Chip, Entry, Rid};
 use switch_model::Wait;
-use swss_types::{IfName, OutOfMemory};
-use table_schema::{Key, PortRow, Row, read_row};
+use swss_types::OutOfMemory;
+use table_schema::{Key, Row};
 
 /// What trying a key came to.
 #[derive(Debug, Drop)]
@@ -21,85 +30,87 @@ pub(crate) enum Tried {
     LogFull,
 }
 
-/// What a row stands for.
-enum Standing {
-    /// An object with this body.
-    Object(Body<Rid>),
-    /// No object.
-    Nothing,
-    /// Its object can't stand yet.
-    Waits(Wait),
-}
-
 impl Core {
-    /// The key's row, where it reads.
-    fn good_row(&self, key: &Key) -> Result<Option<Row>, OutOfMemory> {
-        match self.rows.get(key) {
-            Some(fields) => Ok(read_row(self.alloc, &self.plan, key, fields)?.ok()),
-            None => Ok(None),
-        }
-    }
-
     /// Brings what is applied of a key to its row, where nothing stands in the way.
     pub(crate) fn attempt<C: Chip>(&mut self, chip: &mut C, key: &Key) -> Result<Tried, OutOfMemory>
-        ensures { self.new.to_sync ≡ self.old.to_sync }
+        requires steady { IsSteady self.old (C.state chip.old) }
+        requires due { IsIn key.now self.old.to_sync }
+        ensures { IsTried key.now self.old (C.state chip.old) result self.new (C.state chip.new) }
     {
-        let Some(row) = self.good_row(key)? else {
-            return Ok(Tried::Done);
-        };
-        match self.body_of(key, &row)? {
-            Standing::Object(body) => self.make(chip, key, row, body),
-            Standing::Nothing => Ok(Tried::Done),
-            Standing::Waits(wait) => Ok(Tried::Waits(wait)),
+        match self.next_step(key)? {
+            Step::Nothing => Ok(Tried::Done),
+            Step::Waits(wait) => Ok(Tried::Waits(wait)),
+            Step::Create(row, body) => self.create(chip, key, row, body),
+            Step::Remove(id) => self.remove(chip, key, id),
+            Step::Change(row) => self.change_port(chip, key, row),
         }
     }
 
-    /// What a row stands for.
-    fn body_of(&self, key: &Key, row: &Row) -> Result<Standing, OutOfMemory> {
-        match (key, row) {
-            (Key::Port(_), Row::Port(port)) => Ok(Standing::Object(Body::Port {
-                lanes: port.lanes.copy()?,
-                speed: port.speed,
-                mtu: port.mtu,
-                up: port.up,
-            })),
-            (Key::Intf(IfName::Ethernet(port)), Row::Intf) => Ok(self.interface_on(*port)),
-            _ => Ok(Standing::Nothing),
-        }
-    }
-
-    /// What an interface on a port stands for.
-    fn interface_on(&self, port: u32) -> Standing {
-        match self.applied.get(&Key::Port(port)) {
-            Some(applied) => Standing::Object(Body::Rif {
-                on: RifOn::Port(applied.id),
-            }),
-            None => Standing::Waits(Wait::Missing(Key::Port(port))),
-        }
-    }
-
-    /// Makes the object of a row. A chip that refuses the call, which is legal, counts as one that fails.
-    fn make<C: Chip>(
+    /// Makes the object of a row.
+    fn create<C: Chip>(
         &mut self,
         chip: &mut C,
         key: &Key,
         row: Row,
         body: Body<Rid>,
     ) -> Result<Tried, OutOfMemory>
-        ensures { self.new.to_sync ≡ self.old.to_sync }
+        requires steady { IsSteady self.old (C.state chip.old) }
+        requires due { IsIn key.now self.old.to_sync }
+        requires step { IsCreation self.old key.now row body }
+        ensures { IsTried key.now self.old (C.state chip.old) result self.new (C.state chip.new) }
     {
-        if self.log_size(chip.effects()).saturating_add(2) > self.limit {
+        if self.is_full(chip.effects(), 1) {
             return Ok(Tried::LogFull);
         }
-        let place = self.applied.entry(key.copy()?)?;
-        let faults = chip.faults();
-        match chip.call(&Call::Create(body)) {
-            ChipAnswer::Made(id) => {
-                place.insert_entry(Applied { row, id });
+        // The place is made before the call.
+        self.applied
+            .insert(key.copy()?, Applied { row, id: Rid(0) })?;
+        match make(chip, body) {
+            Ok(id) => self.name(key, id),
+            Err(why) => {
+                self.applied.remove(key);
+                without(why)
+            }
+        }
+    }
+
+    /// Gives an applied row the identifier of its object.
+    fn name(&mut self, key: &Key, id: Rid) -> Result<Tried, OutOfMemory>
+        ensures is { result ≡ Ok tried.Done }
+        ensures named { (entries : Entries) (a : Applied) → self.old.applied ≡ insert_entry key_cmp entries key.now a → self.new ≡ record self.old { applied = insert_entry key_cmp entries key.now (record a { id = id }) } }
+    {
+        if let Some(applied) = self.applied.get_mut(key) {
+            applied.id = id;
+        }
+        Ok(Tried::Done)
+    }
+
+    /// Removes the object of a key that no applied row names.
+    fn remove<C: Chip>(&mut self, chip: &mut C, key: &Key, id: Rid) -> Result<Tried, OutOfMemory>
+        requires steady { IsSteady self.old (C.state chip.old) }
+        requires due { IsIn key.now self.old.to_sync }
+        requires step { IsRemoval self.old key.now id }
+        ensures { IsTried key.now self.old (C.state chip.old) result self.new (C.state chip.new) }
+    {
+        if self.is_full(chip.effects(), 1) {
+            return Ok(Tried::LogFull);
+        }
+        match change(chip, &Call::Remove(Entry::Oid(id))) {
+            Ok(()) => {
+                self.applied.remove(key);
                 Ok(Tried::Done)
             }
-            ChipAnswer::NoMemory => Err(OutOfMemory),
-            _ => Ok(Tried::Faulted(faults)),
+            Err(why) => without(why),
         }
+    }
+}
+
+/// What trying a key came to where a call had no success.
+pub(crate) fn without(why: Uncalled) -> Result<Tried, OutOfMemory>
+    ensures { result ≡ tried_without why }
+{
+    match why {
+        Uncalled::NoMemory => Err(OutOfMemory),
+        Uncalled::Faulted(before) => Ok(Tried::Faulted(before)),
     }
 }

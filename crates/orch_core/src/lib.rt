@@ -4,11 +4,17 @@
 mod answer;
 mod applied;
 mod attempt;
+mod called;
+mod difference;
+mod laws;
 mod settle;
 mod state;
+mod step;
+mod take;
 mod turn;
 
 pub use answer::{Settled, TakeFault};
 pub use applied::Applied;
+pub use laws::kept_is_sound;
 pub use state::Core;
 pub use switch_model::{Log, Mark, MarkEvent, Wait, Waits};

@@ -1,12 +1,20 @@
-// The core's state, and taking writes.
-use crate::{Applied, TakeFault};
+// The core's state.
+ghost use Rattle.std.specs.Prelude.{◌≡◌, ◌↔◌, ◌+◌, ◌^◌, ◌<◌, true, IfOk};
+ghost use Rattle.table_schema.specs.Plan.{IsPlan};
+ghost use Rattle.sai_types.specs.ChipState.{new_chip};
+ghost use Rattle.orch_core.specs.Keeps.{IsKept};
+ghost use Rattle.orch_core.specs.Standing.{HasRoom};
+ghost use Rattle.orch_core.specs.State.{new_state, size_of};
+
+use crate::Applied;
 use row_store::Rows;
 use sai_types::Caps;
 use std::alloc::Global;
 use std::collections::{BTreeMap, BTreeSet};
+use std::marker::Model;
 use switch_model::{Log, Wait};
 use swss_types::OutOfMemory;
-use table_schema::{Key, PortPlan, Sent, Write};
+use table_schema::{Key, PortPlan};
 
 /// The state of the service: the rows that the writes come to, the keys that are to be brought to the chip, what is
 /// applied, and the log.
@@ -24,6 +32,14 @@ pub struct Core {
     pub(crate) listed: u64,
 }
 
+impl Model for Core {
+    ghost use Rattle.orch_core.specs.State.{State};
+
+    ghost Value = { State };
+
+    ghost view = { λ c. record { plan = c.plan; capacities = c.caps.0; limit = c.limit; rows = c.rows; to_sync = c.to_sync.keys; applied = c.applied.entries; waiting = c.waiting.items; log = c.log; listed = c.listed } };
+}
+
 impl Core {
     /// A core that has taken nothing. Its chip is empty and clean, has made no call, and has these capacities. The log
     /// has so many places.
@@ -32,7 +48,10 @@ impl Core {
         plan: PortPlan,
         caps: Caps,
         log_limit: u64,
-    ) -> Result<Core, OutOfMemory> {
+    ) -> Result<Core, OutOfMemory>
+        ensures new { IfOk result (λ core. core ≡ new_state plan caps.0 log_limit) }
+        ensures kept { IsPlan plan → HasRoom plan caps.0 → IfOk result (λ core. IsKept core (new_chip caps.0)) }
+    {
         Ok(Core {
             alloc,
             plan,
@@ -47,62 +66,50 @@ impl Core {
         })
     }
 
-    /// The places that the log takes: one for each write taken, each of the chip's effects, each mark and each key that
-    /// a mark lists.
-    pub(crate) fn log_size(&self, effects: u64) -> u64 {
-        effects
-            .saturating_add(self.log.taken().len() as u64)
-            .saturating_add(self.log.marks().len() as u64)
-            .saturating_add(self.listed)
-    }
-
-    /// Takes a write; `effects` is the number of the chip's effects.
-    pub fn take(&mut self, sent: Sent, effects: u64) -> Result<Result<(), TakeFault>, OutOfMemory> {
-        if self.log_size(effects) >= self.limit {
-            return Ok(Err(TakeFault::LogFull(sent)));
-        }
-        let key = key_of_write(&sent.write).copy()?;
-        self.log.reserve()?;
-        let is_new = self.to_sync.insert(key)?;
-        if let Err(error) = self.rows.apply(&sent.write) {
-            if is_new {
-                self.to_sync.remove(key_of_write(&sent.write));
-            }
-            return Err(error);
-        }
-        self.log.take(sent)?;
-        Ok(Ok(()))
-    }
-
-    /// The keys that waited in the last turn, in key order, each with its reason.
-    pub fn waiting(&self) -> &[(Key, Wait)] {
-        self.waiting.as_slice()
+    /// Whether the log has no room for so many places more; `effects` is the number of the chip's effects.
+    pub(crate) fn is_full(&self, effects: u64, need: u64) -> bool
+        ensures full { (result ≡ true) ↔ (self.now.limit < size_of self.now effects + need) }
+        ensures fits { self.now.limit < 2 ^ 64 }
+    {
+        let size = u128::from(effects)
+            + self.log.taken().len() as u128
+            + self.log.marks().len() as u128
+            + self.listed as u128;
+        size + need as u128 > self.limit as u128
     }
 
     /// The rows of the tables.
-    pub fn rows(&self) -> &Rows {
+    pub fn rows(&self) -> &Rows
+        ensures { result.now ≡ self.now.rows }
+    {
         &self.rows
     }
 
     /// The port plan.
-    pub fn plan(&self) -> &PortPlan {
+    pub fn plan(&self) -> &PortPlan
+        ensures { result.now ≡ self.now.plan }
+    {
         &self.plan
     }
 
+    /// The keys that waited in the last turn, in key order, each with its reason.
+    pub fn waiting(&self) -> &[(Key, Wait)]
+        ensures { result.now ≡ self.now.waiting }
+    {
+        self.waiting.as_slice()
+    }
+
     /// The log.
-    pub fn log(&self) -> &Log {
+    pub fn log(&self) -> &Log
+        ensures { result.now ≡ self.now.log }
+    {
         &self.log
     }
 
     /// Hands the log over.
-    pub fn into_log(self) -> Log {
+    pub fn into_log(self) -> Log
+        ensures { result ≡ self.log }
+    {
         self.log
-    }
-}
-
-/// The key that a write names.
-fn key_of_write(write: &Write) -> &Key {
-    match write {
-        Write::Set(key, _) | Write::Del(key) => key,
     }
 }

@@ -1,5 +1,7 @@
 // A turn: each key that is to be brought to the chip is tried once, in key order.
-ghost use Rattle.std.specs.Prelude.{◌≤◌, length};
+ghost use Rattle.std.specs.Prelude.{◌≡◌, IfOk, option_map};
+ghost use Rattle.orch_core.specs.Tried.{IsSteady};
+ghost use Rattle.orch_core.specs.Turn.{IsNextKey, IsTurned};
 
 use crate::Core;
 use crate::attempt::Tried;
@@ -22,13 +24,11 @@ pub(crate) enum Turned {
 impl Core {
     /// Tries each key to sync once. What is done leaves the keys to sync; the others wait, each with its reason.
     pub(crate) fn turn<C: Chip>(&mut self, chip: &mut C) -> Result<Turned, OutOfMemory>
-        ensures fewer { length self.new.to_sync.keys ≤ length self.old.to_sync.keys }
+        requires steady { IsSteady self.old (C.state chip.old) }
+        ensures { IsTurned self.old (C.state chip.old) result self.new (C.state chip.new) }
     {
         self.waiting.clear();
-        for _ in 0..self.to_sync.len() {
-            let Some(key) = self.next_key()? else {
-                break;
-            };
+        while let Some(key) = self.next_key()? {
             match self.attempt(chip, &key)? {
                 Tried::Done => {
                     self.to_sync.remove(&key);
@@ -41,18 +41,26 @@ impl Core {
         Ok(Turned::Whole)
     }
 
+    /// The next key to try.
+    fn next_key(&self) -> Result<Option<Key>, OutOfMemory>
+        ensures { IfOk result (λ next. IsNextKey self.now next) }
+    {
+        match self.least_behind() {
+            Some(key) => Ok(Some(key.copy()?)),
+            None => Ok(None),
+        }
+    }
+
     /// The least key to sync behind those that wait.
-    fn next_key(&self) -> Result<Option<Key>, OutOfMemory> {
-        let next = match self.waiting.last() {
+    fn least_behind(&self) -> Option<&Key>
+        ensures { IsNextKey self.now (option_map (λ k. k.now) result) }
+    {
+        match self.waiting.last() {
             Some((last, _)) => self
                 .to_sync
                 .range((Bound::Excluded(last), Bound::Unbounded))
                 .next(),
-            None => self.to_sync.first(),
-        };
-        match next {
-            Some(key) => Ok(Some(key.copy()?)),
-            None => Ok(None),
+            None => self.to_sync.iter().next(),
         }
     }
 }

@@ -1,0 +1,309 @@
+-- what a settling comes to
+use Rattle.std.proofs.Common.{◌≡◌, ◌⊎◌, inl, inr, ℕ, suc, ◌+◌, ◌<◌, Bool, true, false, cond, List, [], ◌∷◌, ◌++◌, length, map, Option, None, Some, Result, Ok, Err, refl, sym, ap, ◌∙◌, subst, arith}
+use Rattle.std.proofs.Math.Seq.{take-length}
+use Rattle.std.proofs.lemmas.Bool.{false≢true}
+use Rattle.std.proofs.lemmas.List.{length-append}
+use Rattle.std.specs.BTreeMap.{is_at}
+use Rattle.swss_types.specs.declared.out_of_memory.OutOfMemory.{OutOfMemory}
+use Rattle.table_schema.specs.Key.{key_cmp}
+use Rattle.table_schema.specs.Plan.{Ports}
+use Rattle.table_schema.specs.Rows.{rows_of}
+use Rattle.table_schema.specs.declared.key.Key.{Key}
+use Rattle.table_schema.specs.declared.row.Row.{Row}
+use Rattle.table_schema.specs.declared.write.Sent.{Sent}
+use Rattle.sai_types.specs.declared.ids.Rid.{Rid}
+use Rattle.sai_types.specs.declared.body.Call.{Call}
+use Rattle.sai_types.specs.Alike.{IsAlike, IsIn}
+use Rattle.sai_types.specs.ChipState.{ChipState}
+use Rattle.switch_model.specs.Desired.{IsClosed, IsThingOf}
+use Rattle.switch_model.specs.Good.{TypedRows, good_rows}
+use Rattle.switch_model.specs.History.{History}
+use Rattle.switch_model.specs.Marks.{NameFirstKinds, ReasonsAreTrue, applied_rows, writes_of}
+use Rattle.switch_model.specs.Promises.{AreTrueMarks, IsTrueMark, good_rows_at}
+use Rattle.switch_model.specs.Sound.{AreWithin, IsSound, is_suspect}
+use Rattle.switch_model.specs.declared.mark.Mark.{Mark}
+use Rattle.switch_model.specs.declared.mark.MarkEvent.{MarkEvent}
+use Rattle.switch_model.specs.declared.mark.MarkEvent.TheVariants as event
+use Rattle.switch_model.specs.declared.wait.Wait.{Wait}
+use Rattle.orch_core.specs.Keeps.{IsKept, Keeps}
+use Rattle.orch_core.specs.declared.answer.Settled.{Settled}
+use Rattle.orch_core.specs.declared.answer.Settled.TheVariants as settled
+use Rattle.orch_core.specs.Settling.{HasRested, IsFilled, IsSame, IsSettled, IsSettling, is_marked, listing, mark_at, open_mark, opened, with_ending}
+use Rattle.orch_core.specs.Standing.{rows_applied}
+use Rattle.orch_core.specs.State.{State, core_of, keys_listed, size_of}
+use Rattle.orch_core.specs.Tried.{IsSteady}
+use Rattle.orch_core.specs.Turn.{BringsNew, EndsFaulted, IsBehind, IsRest, IsTurning, IsUnder, WaitTruly, waiting_keys}
+use Rattle.orch_core.proofs.Alike.{alike-stands}
+use Rattle.orch_core.proofs.Keyed.{is_at-refl, same_key}
+use Rattle.orch_core.proofs.Logged.{keeps-mark, listed-more, suspect-more}
+use Rattle.orch_core.proofs.Turning.{under-none}
+
+-- a core that keeps its promises is sound
+pub sound-kept : (core : State) (chip : ChipState) → IsKept core chip → IsSound (core_of core) chip
+sound-kept core chip kept = record {
+  clean = kept.keeps.clean;
+  capacities = kept.keeps.capacities;
+  objects = kept.keeps.objects;
+  counts = kept.keeps.counts;
+  rows = kept.keeps.rows;
+  legality = kept.keeps.legality;
+  marks = kept.keeps.marks;
+  to_sync = λ k apart. queued k apart (kept.keeps.to_sync k);
+  closed = kept.keeps.closed;
+  alike = λ known. alike-stands core.plan core.applied _ chip.objects kept.keeps.plan kept.keeps.whole (kept.stands known);
+}
+  where
+    queued : (k : Key) → ¬ (rows_applied core.applied k ≡ good_rows core.plan core.rows k) → IsIn k core.to_sync ⊎ (rows_applied core.applied k ≡ good_rows core.plan core.rows k) → IsIn k core.to_sync
+    queued k apart (inl h) = h
+    queued k apart (inr e) = absurd (apart e)
+
+-- the last mark of a log is taken out again
+front_true : (plan : Ports) (capacities : List ℕ) (taken : List Sent) (es : List (Call Rid)) (before : Option Mark) (marks : List Mark) (mark : Mark) → AreTrueMarks plan capacities taken es before (marks ++ mark ∷ []) → AreTrueMarks plan capacities taken es before marks
+front_true plan capacities taken es before [] mark h = tt
+front_true plan capacities taken es before (m ∷ marks) mark (one, h) = (one, front_true plan capacities taken es (Some m) marks mark h)
+
+front_within : (t e : ℕ) (marks : List Mark) (mark : Mark) → AreWithin t e (marks ++ mark ∷ []) → AreWithin t e marks
+front_within t e [] mark h = tt
+front_within t e (m ∷ marks) mark (a, b, h) = (a, b, front_within t e marks mark h)
+
+unmarked : (core : State) (chip : ChipState) (h : History) (last : Mark) → keys_listed last.event ≡ 0 → Keeps (record core { log = with_ending h last }) chip → Keeps (record core { log = h }) chip
+unmarked core chip h last none keeps = record {
+  clean = keeps.clean;
+  capacities = keeps.capacities;
+  objects = keeps.objects;
+  whole = keeps.whole;
+  counts = front_within (length h.taken) (length chip.effects) h.marks last keeps.counts;
+  rows = keeps.rows;
+  legality = keeps.legality;
+  marks = front_true core.plan core.capacities h.taken chip.effects None h.marks last keeps.marks;
+  to_sync = keeps.to_sync;
+  closed = keeps.closed;
+  plan = keeps.plan;
+  room = keeps.room;
+  served = keeps.served;
+  listed = keeps.listed ∙ listed-more h.marks last ∙ omega (arith, none);
+}
+
+pub keeps-unmark : (core : State) (chip : ChipState) (h : History) (last : Mark) → keys_listed last.event ≡ 0 → core.log ≡ with_ending h last → Keeps core chip → Keeps (record core { log = h }) chip
+keeps-unmark core chip h last none is keeps = unmarked core chip h last none (subst (λ l. Keeps (record core { log = l }) chip) is keeps)
+
+-- the rows at a mark: those that are applied
+rows_by : (s : State) (good : TypedRows) (ws : List (Key × Wait)) (k : Key) → IsIn k (waiting_keys ws) ⊎ (rows_applied s.applied k ≡ good k) → applied_rows (map (λ w. (w.0, w.1, rows_applied s.applied w.0)) ws) good k ≡ rows_applied s.applied k
+rows_by s good [] k (inl h) = elim h [ ]
+rows_by s good [] k (inr e) = sym e
+rows_by s good (w ∷ ws) k h = by (rows_by s good ws k) (is_at (key_cmp k) w.0) refl h
+  where
+    past : is_at (key_cmp k) w.0 ≡ false → IsIn k (waiting_keys (w ∷ ws)) ⊎ (rows_applied s.applied k ≡ good k) → IsIn k (waiting_keys ws) ⊎ (rows_applied s.applied k ≡ good k)
+    past apart (inl (inl e)) = absurd (false≢true (sym apart ∙ ap (λ x. is_at (key_cmp k) x) (sym e) ∙ is_at-refl k))
+    past apart (inl (inr h)) = inl h
+    past apart (inr e) = inr e
+
+    by : (IsIn k (waiting_keys ws) ⊎ (rows_applied s.applied k ≡ good k) → applied_rows (map (λ w. (w.0, w.1, rows_applied s.applied w.0)) ws) good k ≡ rows_applied s.applied k) → (t : Bool) → is_at (key_cmp k) w.0 ≡ t → IsIn k (waiting_keys (w ∷ ws)) ⊎ (rows_applied s.applied k ≡ good k) → cond t (rows_applied s.applied w.0) (applied_rows (map (λ w. (w.0, w.1, rows_applied s.applied w.0)) ws) good k) ≡ rows_applied s.applied k
+    by ih true at h = ap (rows_applied s.applied) (sym (same_key k w.0 at))
+    by ih false at h = ih (past at h)
+
+no_more : {X : Type 0} (xs : List X) → xs ++ [] ≡ xs
+no_more [] = refl
+no_more (x ∷ xs) = ap (λ l. x ∷ l) (no_more xs)
+
+reasons : (s : State) (ws : List (Key × Wait)) → WaitTruly s ws → ReasonsAreTrue s.plan s.capacities (good_rows s.plan s.rows) (rows_applied s.applied) (map (λ w. (w.0, w.1, rows_applied s.applied w.0)) ws)
+reasons s [] h = tt
+reasons s (w ∷ ws) (one, h) = (one.0, reasons s ws h)
+
+kinds : (s : State) (ws : List (Key × Wait)) → WaitTruly s ws → NameFirstKinds s.plan s.capacities (good_rows s.plan s.rows) (rows_applied s.applied) (map (λ w. (w.0, w.1, rows_applied s.applied w.0)) ws)
+kinds s [] h = tt
+kinds s (w ∷ ws) (one, h) = (one.1, kinds s ws h)
+
+-- a core whose turns ended can be marked as settled
+module _ (s : State) (chip : ChipState) (steady : IsSteady s chip) (rest : IsRest s []) (truly : WaitTruly s s.waiting) where
+  good_at : good_rows_at s.plan s.log.taken (length s.log.taken) ≡ good_rows s.plan s.rows
+  good_at = ap (λ ws. good_rows s.plan (rows_of (writes_of ws))) (take-length s.log.taken) ∙ ap (good_rows s.plan) (sym steady.keeps.rows)
+
+  queued : (k : Key) → IsIn k (waiting_keys s.waiting) ⊎ (rows_applied s.applied k ≡ good_rows s.plan s.rows k)
+  queued k = by (steady.keeps.to_sync k)
+    where
+      by : IsIn k s.to_sync ⊎ (rows_applied s.applied k ≡ good_rows s.plan s.rows k) → IsIn k (waiting_keys s.waiting) ⊎ (rows_applied s.applied k ≡ good_rows s.plan s.rows k)
+      by (inl h) = inl (subst (IsIn k) (rest ∙ no_more (waiting_keys s.waiting)) h)
+      by (inr e) = inr e
+
+  rows_at : applied_rows (listing s) (good_rows_at s.plan s.log.taken (length s.log.taken)) ≡ rows_applied s.applied
+  rows_at = ap (applied_rows (listing s)) good_at ∙ (λ i. λ k. rows_by s (good_rows s.plan s.rows) s.waiting k (queued k) i)
+
+  pub true-settled : (turns : ℕ) (before : Option Mark) → IsTrueMark s.plan s.capacities s.log.taken chip.effects before (mark_at s (length chip.effects) (event.Settled (listing s) turns)) (event.Settled (listing s) turns)
+  true-settled turns before = record {
+    alike =
+        subst (λ o. IsAlike o (IsThingOf s.plan (applied_rows (listing s) (good_rows_at s.plan s.log.taken (length s.log.taken))))) steady.keeps.objects
+        (subst (λ f. IsAlike chip.objects (IsThingOf s.plan f)) (sym rows_at) (alike-stands s.plan s.applied _ chip.objects steady.keeps.plan steady.keeps.whole steady.stands));
+    closed = subst IsClosed (sym rows_at) steady.keeps.closed;
+    reasons =
+        subst (λ f. ReasonsAreTrue s.plan s.capacities (good_rows_at s.plan s.log.taken (length s.log.taken)) f (listing s)) (sym rows_at)
+        (subst (λ g. ReasonsAreTrue s.plan s.capacities g (rows_applied s.applied) (listing s)) (sym good_at) (reasons s s.waiting truly));
+    kinds =
+        subst (λ f. NameFirstKinds s.plan s.capacities (good_rows_at s.plan s.log.taken (length s.log.taken)) f (listing s)) (sym rows_at)
+        (subst (λ g. NameFirstKinds s.plan s.capacities g (rows_applied s.applied) (listing s)) (sym good_at) (kinds s s.waiting truly));
+  }
+
+  abbrev listed_row : Key × Wait → Key × Wait × Option Row
+  listed_row w = (w.0, w.1, rows_applied s.applied w.0)
+
+  lengths : (ws : List (Key × Wait)) → length (map listed_row ws) ≡ length ws
+  lengths [] = refl
+  lengths (w ∷ ws) = ap suc (lengths ws)
+
+  pub kept-settled : (turns : ℕ) → IsKept (record s { log = with_ending s.log (mark_at s (length chip.effects) (event.Settled (listing s) turns)); listed = s.listed + length s.waiting }) chip
+  kept-settled turns =
+      let mark = mark_at s (length chip.effects) (event.Settled (listing s) turns) in
+      record {
+        keeps = keeps-mark s chip mark steady.keeps (s.listed + length s.waiting) (omega arith) (omega arith) (true-settled turns) (omega (arith, steady.keeps.listed, listed-more s.log.marks mark, lengths s.waiting));
+        stands = λ known. steady.stands;
+      }
+
+-- a core whose chip failed is marked so
+pub kept-faulted : (s : State) (chip : ChipState) (before : ℕ) → Keeps s chip → IsKept (record s { log = with_ending s.log (mark_at s (length chip.effects) (event.Faulted before chip.faults)) }) chip
+kept-faulted s chip before keeps =
+    let mark = mark_at s (length chip.effects) (event.Faulted before chip.faults) in
+    record {
+      keeps = keeps-mark s chip mark keeps s.listed (omega arith) (omega arith) (λ b. tt) (omega (arith, keeps.listed, listed-more s.log.marks mark));
+      stands = λ known. absurd (false≢true (sym known ∙ suspect-more s.log.marks mark));
+    }
+
+-- steps after steps
+pub under-after : (old : State) (chip : ChipState) (mid : State) (chip1 : ChipState) (new : State) (chip2 : ChipState) → IsUnder old chip mid chip1 → IsUnder mid chip1 new chip2 → IsUnder old chip new chip2
+under-after old chip mid chip1 new chip2 a b = record {
+  steady = b.steady;
+  behind = b.behind ∙ ap (λ (s : State). record s { to_sync = new.to_sync; applied = new.applied; waiting = new.waiting }) a.behind;
+  brings = λ first.
+      let one = a.brings first in
+      let two = b.brings one.new_keys in
+      record { new_keys = two.new_keys; few = omega (arith, one.few, two.few) };
+  faults = b.faults ∙ a.faults;
+}
+
+pub faulted-after : (old : State) (chip : ChipState) (mid : State) (chip1 : ChipState) (count : ℕ) (new : State) (chip2 : ChipState) → IsUnder old chip mid chip1 → EndsFaulted mid chip1 count new chip2 → EndsFaulted old chip count new chip2
+faulted-after old chip mid chip1 count new chip2 a b = record {
+  keeps = b.keeps;
+  behind = b.behind ∙ ap (λ (s : State). record s { to_sync = new.to_sync; applied = new.applied; waiting = new.waiting }) a.behind;
+  before = b.before ∙ a.faults;
+  rose = omega (arith, b.rose, a.faults);
+}
+
+-- where nothing is left to sync nothing waits
+no_waits : (s : State) → IsRest s [] → s.to_sync ≡ [] → s.waiting ≡ []
+no_waits s rest none = by s.waiting (sym none ∙ rest)
+  where
+    by : (ws : List (Key × Wait)) → [] ≡ waiting_keys ws ++ [] → ws ≡ []
+    by [] e = refl
+    by (w ∷ ws) e = absurd cc
+
+pub rested-none : (old : State) (chip : ChipState) (new : State) (chip' : ChipState) → IsSettling old chip new chip' → new.to_sync ≡ [] → HasRested old chip new chip'
+rested-none old chip new chip' settling none =
+    let quiet : new.waiting ≡ [] = by settling.waits in
+    record {
+      under = settling.under;
+      rest = none ∙ ap (λ ws. waiting_keys ws ++ []) (sym quiet);
+      truly = subst (WaitTruly new) (sym quiet) tt;
+    }
+  where
+    by : (new.waiting ≡ []) ⊎ IsRest new [] → new.waiting ≡ []
+    by (inl e) = e
+    by (inr rest) = no_waits new rest none
+
+pub settling-first : (old : State) (chip : ChipState) (new : State) → IsSteady old chip → new ≡ record old { waiting = [] } → IsSettling old chip new chip
+settling-first old chip new steady e = subst (λ n. IsSettling old chip n chip) (sym e) (record { under = under-none old chip [] steady; waits = inl refl })
+
+pub settling-more : (old : State) (chip : ChipState) (mid : State) (chip1 : ChipState) (new : State) (chip2 : ChipState) → IsSettling old chip mid chip1 → IsTurning mid chip1 new chip2 × IsRest new [] → IsSettling old chip new chip2
+settling-more old chip mid chip1 new chip2 settling (turning, rest) = record { under = under-after old chip mid chip1 new chip2 settling.under turning.under; waits = inr rest }
+
+pub rested-idle : (old : State) (chip : ChipState) (mid : State) (chip1 : ChipState) (new : State) (chip2 : ChipState) → IsSettling old chip mid chip1 → IsTurning mid chip1 new chip2 × IsRest new [] → length new.to_sync ≡ length mid.to_sync → HasRested old chip new chip2
+rested-idle old chip mid chip1 new chip2 settling (turning, rest) same = record { under = under-after old chip mid chip1 new chip2 settling.under turning.under; rest = rest; truly = turning.idle same }
+
+-- a settling begins on a core with an open mark
+pub steady-opened : (old : State) (chip : ChipState) → IsKept old chip → is_suspect old.log.marks ≡ false → IsSteady (record old { log = with_ending old.log open_mark }) chip
+steady-opened old chip kept known = record {
+  keeps = keeps-mark old chip open_mark kept.keeps old.listed (omega arith) (omega arith) (λ b. tt) (omega (arith, kept.keeps.listed, listed-more old.log.marks open_mark));
+  stands = kept.stands known;
+}
+
+-- a settling on a core with an open mark, by its end; h is the log before it
+module _ (old : State) (chip : ChipState) (known : is_suspect old.log.marks ≡ false) (new : State) (chip' : ChipState) where
+  module _ (mid : State) (under : IsUnder (opened old) chip mid chip') where
+    log_is : mid.log ≡ with_ending old.log open_mark
+    log_is = ap (λ (s : State). s.log) under.behind
+
+    abbrev closed_log : State
+    closed_log = record mid { log = old.log }
+
+    steady-closed : IsSteady closed_log chip'
+    steady-closed = record { keeps = keeps-unmark mid chip' old.log open_mark refl log_is under.steady.keeps; stands = under.steady.stands }
+
+    pub kept-closed : IsKept closed_log chip'
+    kept-closed = record { keeps = steady-closed.keeps; stands = λ s. under.steady.stands }
+
+    taken_is : mark_at mid (length chip'.effects) ≡ mark_at old (length chip'.effects)
+    taken_is = ap (λ (l : History). λ (e : MarkEvent). record { taken = length l.taken; effects = length chip'.effects; event = e }) log_is
+
+    brings-closed : BringsNew (opened old) (length chip.effects) mid (length chip'.effects) → BringsNew old (length chip.effects) closed_log (length chip'.effects)
+    brings-closed b first = let c = b first in record { new_keys = c.new_keys; few = c.few }
+
+  -- what stays of a core behind which steps were made
+  module _ (mid : State) (behind : IsBehind (opened old) mid) where
+    same-behind : (log : History) (listed : ℕ) → IsSame old (record mid { log = log; listed = listed })
+    same-behind log listed = record { plan = ap (λ (s : State). s.plan) behind; capacities = ap (λ (s : State). s.capacities) behind; limit = ap (λ (s : State). s.limit) behind }
+
+  -- what an ended settling is
+  pub ended-settled : IsFilled old.log (opened old) chip (Ok settled.Settled) new chip' → IsKept new chip' × IsSettled old chip (Ok settled.Settled) new chip' × IsSame old new
+  ended-settled (mid, turns, rested, is) =
+      let steady = steady-closed mid rested.under in
+      let same : with_ending old.log (mark_at mid (length chip'.effects) (event.Settled (listing mid) turns)) ≡ with_ending old.log (mark_at old (length chip'.effects) (event.Settled (listing mid) turns)) = ap (λ f. with_ending old.log (f (event.Settled (listing mid) turns))) (taken_is mid rested.under) in
+      let last = record mid { log = with_ending old.log (mark_at old (length chip'.effects) (event.Settled (listing mid) turns)); listed = mid.listed + length mid.waiting } in
+      let new_is : new ≡ last = is ∙ ap (λ l. record mid { log = l; listed = mid.listed + length mid.waiting }) same in (
+        subst (λ n. IsKept n chip') (sym new_is) (kept-settled (closed_log mid rested.under) chip' steady rested.rest (truly-log mid old.log mid.waiting rested.truly) turns),
+        (turns, ap (λ (s : State). s.log) new_is ∙ ap (λ l. with_ending old.log (mark_at old (length chip'.effects) (event.Settled l turns))) (ap listing (sym new_is)), subst (λ n. IsRest n []) (sym new_is) rested.rest, rested.under.faults),
+        subst (IsSame old) (sym new_is) (same-behind mid rested.under.behind (with_ending old.log (mark_at old (length chip'.effects) (event.Settled (listing mid) turns))) (mid.listed + length mid.waiting)),
+      )
+    where
+      truly-log : (s : State) (l : History) (ws : List (Key × Wait)) → WaitTruly s ws → WaitTruly (record s { log = l }) ws
+      truly-log s l [] h = tt
+      truly-log s l (w ∷ ws) (one, h) = (one, truly-log s l ws h)
+
+  pub ended-faulted : IsFilled old.log (opened old) chip (Ok settled.Faulted) new chip' → IsKept new chip' × IsSettled old chip (Ok settled.Faulted) new chip' × IsSame old new
+  ended-faulted (mid, faulted, is) =
+      let log_was : mid.log ≡ with_ending old.log open_mark = ap (λ (s : State). s.log) faulted.behind in
+      let keeps = keeps-unmark mid chip' old.log open_mark refl log_was faulted.keeps in
+      let same : with_ending old.log (mark_at mid (length chip'.effects) (event.Faulted chip.faults chip'.faults)) ≡ with_ending old.log (mark_at old (length chip'.effects) (event.Faulted chip.faults chip'.faults)) = ap (λ (l : History). with_ending old.log (record { taken = length l.taken; effects = length chip'.effects; event = event.Faulted chip.faults chip'.faults })) log_was in
+      let new_is : new ≡ record mid { log = with_ending old.log (mark_at old (length chip'.effects) (event.Faulted chip.faults chip'.faults)) } = is ∙ ap (λ l. record mid { log = l }) same in (
+        subst (λ n. IsKept n chip') (sym new_is) (kept-faulted (record mid { log = old.log }) chip' chip.faults keeps),
+        (ap (λ (s : State). s.log) new_is, faulted.rose),
+        subst (IsSame old) (sym new_is) (same-behind mid faulted.behind (with_ending old.log (mark_at old (length chip'.effects) (event.Faulted chip.faults chip'.faults))) mid.listed),
+      )
+
+  pub ended-full : (mid : State) → IsFilled old.log (opened old) chip (Ok settled.LogFull) mid chip' → new ≡ record mid { log = old.log } → IsKept new chip' × IsSettled old chip (Ok settled.LogFull) new chip' × IsSame old new
+  ended-full mid (under, full) is = (
+    subst (λ n. IsKept n chip') (sym is) (kept-closed mid under),
+    (
+      ap (λ (s : State). s.log) is,
+      ap (λ (s : State). s.listed) is ∙ ap (λ (s : State). s.listed) under.behind,
+      subst (λ n. n.limit < size_of n (length chip'.effects) + 2 + length n.to_sync) (sym is) (omega (arith, full, sizes)),
+      subst (λ n. BringsNew old (length chip.effects) n (length chip'.effects)) (sym is) (brings-closed mid under under.brings),
+      under.faults,
+    ),
+    subst (IsSame old) (sym is) (same-behind mid under.behind old.log mid.listed),
+  )
+    where
+      sizes : size_of mid (length chip'.effects) ≡ size_of (record mid { log = old.log }) (length chip'.effects) + 1
+      sizes = omega (arith, ap (λ (l : History). length l.taken) (log_is mid under), ap (λ (l : History). length l.marks) (log_is mid under), length-append old.log.marks (open_mark ∷ []))
+
+  pub ended-err : (e : OutOfMemory) (mid : State) → IsFilled old.log (opened old) chip (Err e) mid chip' → new ≡ record mid { log = old.log } → IsKept new chip' × IsSettled old chip (Err e) new chip' × IsSame old new
+  ended-err e mid under is = (subst (λ n. IsKept n chip') (sym is) (kept-closed mid under), (ap (λ (s : State). s.log) is, under.faults), subst (IsSame old) (sym is) (same-behind mid under.behind old.log mid.listed))
+
+  pub ended-marked : (r : Result Settled OutOfMemory) → is_marked r ≡ true → IsFilled old.log (opened old) chip r new chip' → IsKept new chip' × IsSettled old chip r new chip' × IsSame old new
+  ended-marked (Ok settled.Settled) is filled = ended-settled filled
+  ended-marked (Ok settled.Faulted) is filled = ended-faulted filled
+  ended-marked (Ok settled.LogFull) is filled = absurd (false≢true is)
+  ended-marked (Err e) is filled = absurd (false≢true is)
+
+  pub ended-unmarked : (r : Result Settled OutOfMemory) (mid : State) → is_marked r ≡ false → IsFilled old.log (opened old) chip r mid chip' → ((h : History) (last : Mark) → mid.log ≡ with_ending h last → new ≡ record mid { log = h }) → IsKept new chip' × IsSettled old chip r new chip' × IsSame old new
+  ended-unmarked (Ok settled.Settled) mid is filled closes = absurd (false≢true (sym is))
+  ended-unmarked (Ok settled.Faulted) mid is filled closes = absurd (false≢true (sym is))
+  ended-unmarked (Ok settled.LogFull) mid is filled closes = ended-full mid filled (closes old.log open_mark (log_is mid filled.0))
+  ended-unmarked (Err e) mid is filled closes = ended-err e mid filled (closes old.log open_mark (log_is mid filled))
