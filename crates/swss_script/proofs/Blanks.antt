@@ -1,6 +1,6 @@
 -- the words of a text, one after the other
 use Rattle.std.proofs.Common.{◌≡◌, ℕ, suc, ◌+◌, ◌-◌, ◌<◌, ◌≤◌, ◌==◌, Bool, true, false, ◌||◌, cond, not, List, [], ◌∷◌, length, get_or, take, drop, filter, Some, None, refl, sym, ap, ◌∙◌, subst, arith, ltb, length-drop, length-take, inl, inr}
-use Rattle.std.proofs.lemmas.List.{nil_from_length, get_or-drop}
+use Rattle.std.proofs.lemmas.List.{drop_all, nil_from_length, get_or-drop}
 use Rattle.std.proofs.Math.Seq.{drop-cons}
 use Rattle.std.proofs.Math.Nat.{eq-zero-or-pos}
 use Rattle.std.specs.List.{position, position_or_len, slice_split}
@@ -9,7 +9,7 @@ use Rattle.std.proofs.lemmas.Bool.{ltb-true, ltb-false, lt-ltb, eqb-true}
 use Rattle.std.proofs.lemmas.List.Splits.{slice_split-cons_yes, slice_split_first, slice_split_none}
 use Rattle.std.proofs.lemmas.List.Sums.{fails_before_first, passes_at_first}
 use Rattle.std.proofs.lemmas.Str.{IsCharBoundary-before_ascii, IsCharBoundary-after_ascii}
-use Rattle.swss_script.specs.Words.{is_blank, words_in}
+use Rattle.swss_script.specs.Words.{behind_word, from_blank, from_word, is_blank, words_in}
 
 abbrev in_word : ℕ → Bool
 in_word byte = not (is_blank byte)
@@ -123,22 +123,36 @@ words_last text some h =
     let past : length text ≤ position_or_len is_blank text = ltb-false _ _ (chosen_none (ltb (position_or_len is_blank text) (length text)) (position_or_len is_blank text) h) in
     ap (filter (λ w. ltb 0 (length w))) (slice_split_none is_blank text (λ k d within. fails_before_first is_blank text k d (omega arith))) ∙ kept text [] some
 
+-- what stands behind the first word
+behind_found : (text left rest : List ℕ) (start end : ℕ) → position in_word text ≡ Some start → left ≡ drop start text → position is_blank left ≡ Some end → rest ≡ drop end left → rest ≡ behind_word text
+behind_found text left rest start end at left_is end_at rest_is =
+    let from : left ≡ from_word text = left_is ∙ ap (λ i. drop i text) (sym (found in_word text start at).0) in
+    rest_is ∙ ap (λ i. drop i left) (sym (found is_blank left end end_at).0) ∙ ap from_blank from
+
+behind_last : (text left : List ℕ) (start : ℕ) → position in_word text ≡ Some start → left ≡ drop start text → position is_blank left ≡ None → [] ≡ behind_word text
+behind_last text left start at left_is none =
+    let from : left ≡ from_word text = left_is ∙ ap (λ i. drop i text) (sym (found in_word text start at).0) in
+    let past : length left ≤ position_or_len is_blank left = ltb-false _ _ (chosen_none (ltb (position_or_len is_blank left) (length left)) (position_or_len is_blank left) none) in
+    sym (drop_all (position_or_len is_blank left) left past) ∙ ap from_blank from
+
 -- the first word, where a blank ends it
-pub next_found : (text left word rest : List ℕ) (start end : ℕ) → position in_word text ≡ Some start → left ≡ drop start text → position is_blank left ≡ Some end → word ≡ take (end - 0) (drop 0 left) → rest ≡ drop end left → (words_in text ≡ word ∷ words_in rest) × (length rest < length text)
+pub next_found : (text left word rest : List ℕ) (start end : ℕ) → position in_word text ≡ Some start → left ≡ drop start text → position is_blank left ≡ Some end → word ≡ take (end - 0) (drop 0 left) → rest ≡ drop end left → (words_in text ≡ word ∷ words_in rest) × (rest ≡ behind_word text) × (length rest < length text)
 next_found text left word rest start end at left_is end_at word_is rest_is =
     let from = words_from text start at in
     let begins : is_blank (get_or left 0 0) ≡ false = ap (λ l. is_blank (get_or l 0 0)) left_is ∙ from.2 in
     let first = words_first left end begins end_at in
     let whole : word ≡ take end left = let z : end - 0 ≡ end = omega arith in word_is ∙ ap (λ n. take n left) z in (
       from.0 ∙ ap words_in (sym left_is) ∙ first.0 ∙ ap (λ w. w ∷ words_in (drop end left)) (sym whole) ∙ ap (λ r. word ∷ words_in r) (sym rest_is),
+      behind_found text left rest start end at left_is end_at rest_is,
       omega (arith, first.1, first.2, ap length rest_is, length-drop end left, ap length left_is, length-drop start text),
     )
 
 -- the first word, where the text ends it
-pub next_last : (text left : List ℕ) (start : ℕ) → position in_word text ≡ Some start → left ≡ drop start text → position is_blank left ≡ None → (words_in text ≡ left ∷ []) × (0 < length text)
+pub next_last : (text left : List ℕ) (start : ℕ) → position in_word text ≡ Some start → left ≡ drop start text → position is_blank left ≡ None → (words_in text ≡ left ∷ []) × ([] ≡ behind_word text) × (0 < length text)
 next_last text left start at left_is none =
     let from = words_from text start at in
     let some : 0 < length left = subst (λ l. 0 < length l) (sym left_is) from.1 in (
       from.0 ∙ ap words_in (sym left_is) ∙ words_last left some none,
+      behind_last text left start at left_is none,
       omega (arith, some, ap length left_is, length-drop start text),
     )

@@ -1,3 +1,8 @@
-pub mod Accepted
+pub mod Batches
 pub mod Blanks
-pub mod Reading
+pub mod Joins
+pub mod LinesIn
+pub mod PlacedWrites
+pub mod PlainAccepted
+pub mod PlainReading
+pub mod Steps

@@ -1,6 +1,14 @@
-pub mod Laws
-pub mod Limits
+pub mod Batch
+pub mod Built
+pub mod Fails
+pub mod Fields
 pub mod Line
-pub mod Places
+pub mod Lines
+pub mod PlainLaws
+pub mod PlainLimits
+pub mod PlainLine
+pub mod PlainPlaces
+pub mod PlainScript
 pub mod Script
+pub mod Sections
 pub mod Words

@@ -1,94 +1,163 @@
 -- Lines of a script, by their words. Own.
-use Rattle.std.specs.Prelude.{ℕ, ◌==◌, nat_lt, Bool, ◌&&◌, ◌||◌, List, [], ◌∷◌, ◌++◌, length, Option, Some, None, codes, bytes_eq, if◌then◌else◌}
+use Rattle.std.specs.Prelude.{ℕ, ◌==◌, nat_lt, Bool, true, false, ◌||◌, List, [], ◌∷◌, ◌++◌, Option, Some, None, option_map, option_and_then, codes, bytes_eq, if◌then◌else◌}
 use Rattle.std.specs.Char.{is_ascii_alphanumeric}
-use Rattle.std.specs.List.{list_all, list_any, starts_with}
-use Rattle.swss_types.specs.declared.interface.IfName.TheVariants as name
-use Rattle.table_schema.specs.Fields.{Pairs, with_pair}
-use Rattle.table_schema.specs.KeyText.{key_of}
-use Rattle.table_schema.specs.Split.{split_once}
+use Rattle.std.specs.List.{list_all, starts_with}
+use Rattle.swss_types.specs.Ip.{ip_of}
+use Rattle.swss_types.specs.Number.{number_within}
+use Rattle.sai_types.specs.declared.kind.Kind.{Kind}
+use Rattle.sai_types.specs.declared.kind.Kind.TheVariants as kind
+use Rattle.table_schema.specs.Fields.{Pairs}
 use Rattle.table_schema.specs.declared.key.Key.{Key}
-use Rattle.table_schema.specs.declared.key.Key.TheVariants as key
 use Rattle.table_schema.specs.declared.write.Write.TheVariants as write
-use Rattle.swss_script.specs.Words.{words_in}
+use Rattle.swss_script.specs.Batch.{batch_of, key_in_word}
+use Rattle.swss_script.specs.Fields.{fields_of, set_fields}
+use Rattle.swss_script.specs.Words.{behind_word, two_words, words_in}
+use Rattle.swss_script.specs.declared.line.HeadLine.{HeadLine}
+use Rattle.swss_script.specs.declared.line.HeadLine.TheVariants as head
 use Rattle.swss_script.specs.declared.line.Line.{Line}
-use Rattle.swss_script.specs.declared.line.Line.TheVariants.{Blank, Port, Producer, Set, Settle, ShowChip, NotYet}
+use Rattle.swss_script.specs.declared.line.Line.TheVariants.{Blank, Head, Producer, Put, Batch, Block, Restart, Settle, Shown, Other}
+use Rattle.swss_script.specs.declared.parts.Show.{Show}
+use Rattle.swss_script.specs.declared.parts.Show.TheVariants as show
 
 -- `port NAME LANES`: a name, a space and lanes, as a port plan takes them
-abbrev pub port_line : List (List ℕ) → Line
-port_line [] = NotYet
-port_line (port ∷ []) = NotYet
-port_line (port ∷ lanes ∷ []) = Port (port ++ 32 ∷ lanes)
-port_line (port ∷ lanes ∷ other ∷ others) = NotYet
+abbrev pub port_line : List (List ℕ) → Option HeadLine
+port_line words = option_map (λ parts. head.Port (parts.0 ++ 32 ∷ parts.1)) (two_words words)
 
--- the keys of this stage: a port's, and an interface's on a port
-abbrev pub first_key : Key → Option Key
-first_key (key.Port port) = Some (key.Port port)
-first_key (key.Intf (name.Ethernet port)) = Some (key.Intf (name.Ethernet port))
-first_key _ = None
+-- the kind of a word
+abbrev pub kind_of : List ℕ → Option Kind
+kind_of word =
+    if bytes_eq word (codes "PORT") then Some kind.Port
+    else if bytes_eq word (codes "VLAN") then Some kind.Vlan
+    else if bytes_eq word (codes "BRIDGE_PORT") then Some kind.BridgePort
+    else if bytes_eq word (codes "VLAN_MEMBER") then Some kind.VlanMember
+    else if bytes_eq word (codes "RIF") then Some kind.Rif
+    else if bytes_eq word (codes "OWN_ADDRESS") then Some kind.OwnAddress
+    else if bytes_eq word (codes "NEIGHBOR") then Some kind.Neighbor
+    else if bytes_eq word (codes "NEXT_HOP") then Some kind.NextHop
+    else if bytes_eq word (codes "GROUP") then Some kind.Group
+    else if bytes_eq word (codes "GROUP_MEMBER") then Some kind.GroupMember
+    else if bytes_eq word (codes "ROUTE") then Some kind.Route
+    else None
 
--- a key has a colon
-abbrev pub key_in_word : List ℕ → Option Key
-key_in_word word = if list_any (λ byte. byte == 58) word then first_key (key_of word) else None
+abbrev pub chip_with : Option Kind → Option ℕ → Option HeadLine
+chip_with None most = None
+chip_with (Some k) None = None
+chip_with (Some k) (Some most) = Some (head.Chip k most)
 
-abbrev pub with_name : Option (List ℕ × List ℕ) → Option (List ℕ × List ℕ)
-with_name None = None
-with_name (Some field) = if nat_lt 0 (length field.0) then Some field else None
+-- `chip KIND MAX`
+abbrev pub chip_line : List (List ℕ) → Option HeadLine
+chip_line words = option_and_then (λ parts. chip_with (kind_of parts.0) (number_within 1000000 parts.1)) (two_words words)
 
--- `F=V`: a name, which is not empty and ends at the first `=`, and a value
-abbrev pub field_of : List ℕ → Option (List ℕ × List ℕ)
-field_of word = with_name (split_once 61 word)
+-- whether a failing call takes effect before it fails
+abbrev pub is_after : List ℕ → Option Bool
+is_after word = if bytes_eq word (codes "before") then Some false else if bytes_eq word (codes "after") then Some true else None
 
-abbrev pub with_field : Pairs → Option (List ℕ × List ℕ) → Option Pairs
-with_field fields None = None
-with_field fields (Some field) = Some (with_pair fields field.0 field.1)
+abbrev pub fail_with : Option ℕ → Option Bool → Option HeadLine
+fail_with None after = None
+fail_with (Some number) None = None
+fail_with (Some number) (Some after) = if nat_lt 0 number then Some (head.Fail (record { at = number; after = after })) else None
 
--- fields with those of these words, in their order: a later value of a name wins
-abbrev pub fields_from : Option Pairs → List (List ℕ) → Option Pairs
-fields_from None words = None
-fields_from (Some fields) [] = Some fields
-fields_from (Some fields) (word ∷ words) = fields_from (with_field fields (field_of word)) words
+-- `fail N before` and `fail N after`
+abbrev pub fail_line : List (List ℕ) → Option HeadLine
+fail_line words = option_and_then (λ parts. fail_with (number_within 1000000000 parts.0) (is_after parts.1)) (two_words words)
 
--- the fields of a Set: no field at all stands for the field NULL with the value NULL
-abbrev pub fields_of : List (List ℕ) → Option Pairs
-fields_of [] = Some ((codes "NULL", codes "NULL") ∷ [])
-fields_of (word ∷ words) = fields_from (Some []) (word ∷ words)
-
-abbrev pub set_with : Option Key → Option Pairs → Line
-set_with None fields = NotYet
-set_with (Some k) None = NotYet
-set_with (Some k) (Some fields) = Set (write.Set k fields)
-
--- `set KEY F=V ..`
-abbrev pub set_line : List (List ℕ) → Line
-set_line [] = NotYet
-set_line (word ∷ words) = set_with (key_in_word word) (fields_of words)
+-- `image JSON`
+abbrev pub image_line : List (List ℕ) → Option HeadLine
+image_line [] = None
+image_line (word ∷ words) = Some head.Image
 
 -- a producer's name has letters, digits, `_` and `-`
 abbrev pub is_name : List ℕ → Bool
 is_name word = list_all (λ byte. is_ascii_alphanumeric byte || byte == 95 || byte == 45) word
 
--- `settle`, `producer NAME` and `show chip`
-abbrev pub plain_line : List ℕ → List (List ℕ) → Line
-plain_line first [] = if bytes_eq first (codes "settle") then Settle else NotYet
-plain_line first (word ∷ []) =
-    if bytes_eq first (codes "producer") && is_name word then Producer
-    else if bytes_eq first (codes "show") && bytes_eq word (codes "chip") then ShowChip
-    else NotYet
-plain_line first (word ∷ other ∷ others) = NotYet
+-- `producer NAME`
+abbrev pub producer_line : List (List ℕ) → Line
+producer_line (word ∷ []) = if is_name word then Producer word else Other
+producer_line words = Other
 
--- a line by its first word and the others
-abbrev pub line_by : List ℕ → List (List ℕ) → Line
-line_by first others =
+abbrev pub set_with : Option Key → Option Pairs → Line
+set_with None fields = Other
+set_with (Some key) None = Other
+set_with (Some key) (Some fields) = Put (write.Set key (set_fields fields))
+
+-- `set KEY F=V ..`
+abbrev pub set_line : List (List ℕ) → Line
+set_line [] = Other
+set_line (word ∷ words) = set_with (key_in_word word) (fields_of words)
+
+abbrev pub del_with : Option Key → Line
+del_with None = Other
+del_with (Some key) = Put (write.Del key)
+
+-- `del KEY`
+abbrev pub del_line : List (List ℕ) → Line
+del_line (word ∷ []) = del_with (key_in_word word)
+del_line words = Other
+
+-- `json` alone, and `json JSON`
+abbrev pub json_line : List (List ℕ) → List ℕ → Line
+json_line [] text = Block
+json_line (word ∷ words) text = Batch (batch_of text)
+
+-- a word that stands alone
+abbrev pub alone : Line → List (List ℕ) → Line
+alone line [] = line
+alone line (word ∷ words) = Other
+
+abbrev pub show_of : List ℕ → Option Show
+show_of word =
+    if bytes_eq word (codes "chip") then Some show.Chip
+    else if bytes_eq word (codes "tables") then Some show.Tables
+    else if bytes_eq word (codes "ignored") then Some show.Ignored
+    else if bytes_eq word (codes "waiting") then Some show.Waiting
+    else if bytes_eq word (codes "warm") then Some show.Warm
+    else if bytes_eq word (codes "ready") then Some show.Ready
+    else if bytes_eq word (codes "calls") then Some show.Calls
+    else if bytes_eq word (codes "counts") then Some show.Counts
+    else if bytes_eq word (codes "image") then Some show.Image
+    else None
+
+-- where an address is looked up
+abbrev pub forward_to : List ℕ → List ℕ → Option Show
+forward_to word address = if bytes_eq word (codes "forward") then option_map show.Forward (ip_of address) else None
+
+abbrev pub shown : Option Show → Line
+shown None = Other
+shown (Some what) = Shown what
+
+-- `show WHAT`
+abbrev pub show_line : List (List ℕ) → Line
+show_line (word ∷ []) = shown (show_of word)
+show_line (word ∷ address ∷ []) = shown (forward_to word address)
+show_line words = Other
+
+-- a line by its first word, the others, and the text behind the first
+abbrev pub line_by : List ℕ → List (List ℕ) → List ℕ → Line
+line_by first others behind =
     if starts_with ◌==◌ first (codes "#") then Blank
-    else if bytes_eq first (codes "port") then port_line others
+    else if bytes_eq first (codes "port") then Head (port_line others)
+    else if bytes_eq first (codes "chip") then Head (chip_line others)
+    else if bytes_eq first (codes "fail") then Head (fail_line others)
+    else if bytes_eq first (codes "image") then Head (image_line others)
+    else if bytes_eq first (codes "producer") then producer_line others
     else if bytes_eq first (codes "set") then set_line others
-    else plain_line first others
+    else if bytes_eq first (codes "del") then del_line others
+    else if bytes_eq first (codes "json") then json_line others behind
+    else if bytes_eq first (codes "restart") then alone Restart others
+    else if bytes_eq first (codes "settle") then alone Settle others
+    else if bytes_eq first (codes "show") then show_line others
+    else Other
 
 -- a line by its words: one without a word is blank, and one whose first word begins with `#`
-abbrev pub line_with : List (List ℕ) → Line
-line_with [] = Blank
-line_with (first ∷ others) = line_by first others
+abbrev pub line_with : List (List ℕ) → List ℕ → Line
+line_with [] behind = Blank
+line_with (first ∷ others) behind = line_by first others behind
 
 -- what a line says
 abbrev pub line_of : List ℕ → Line
-line_of text = line_with (words_in text)
+line_of text = line_with (words_in text) (behind_word text)
+
+-- a block begins
+abbrev pub is_block : Line → Bool
+is_block Block = true
+is_block line = false

@@ -1,81 +1,182 @@
--- Scripts of this stage: ports of the plan, then at most one producer with the rows that it sets, then at most one
--- settling, then shows of the chip. Own.
-use Rattle.std.specs.Prelude.{◌≡◌, ℕ, ◌+◌, nat_lt, ◌&&◌, List, [], ◌∷◌, length, Option, Some, None, option_map, Result, Ok, Err, if◌then◌else◌}
-use Rattle.std.specs.Str.{is_utf8}
-use Rattle.std.specs.Str.Lines.{lines}
+-- What the bytes of a script mean: the lines one after the other, each in its place, or the first refusal. Own.
+use Rattle.std.specs.Prelude.{◌≡◌, ℕ, ◌+◌, ◌==◌, nat_lt, Bool, true, false, not, List, [], ◌∷◌, ◌++◌, length, map, slice_index_or, slice_set, Option, Some, None, option_and_then, Result, Ok, Err, bytes_eq, if◌then◌else◌}
+use Rattle.std.specs.List.{list_any, position}
+use Rattle.sai_types.specs.Objects.{level}
+use Rattle.sai_types.specs.declared.caps.Caps.{Caps}
+use Rattle.sai_types.specs.declared.kind.Kind.{Kind}
 use Rattle.table_schema.specs.Plan.{Ports, plan_step}
 use Rattle.table_schema.specs.declared.plan.PlanWhy.{PlanWhy}
-use Rattle.table_schema.specs.declared.write.Write.{Write}
-use Rattle.swss_script.specs.Limits.{is_within_limits}
-use Rattle.swss_script.specs.Line.{line_of}
+use Rattle.swss_script.specs.Batch.{batch_of}
+use Rattle.swss_script.specs.Built.{is_built}
+use Rattle.swss_script.specs.Line.{is_block, line_of}
+use Rattle.swss_script.specs.Lines.{block_of, is_end, is_too_long, line_text, lines_in, text_of}
+use Rattle.swss_script.specs.declared.draft.Draft.{Draft}
+use Rattle.swss_script.specs.declared.draft.Place.{Place}
+use Rattle.swss_script.specs.declared.draft.Place.TheVariants as place
+use Rattle.swss_script.specs.declared.line.HeadLine.{HeadLine}
+use Rattle.swss_script.specs.declared.line.HeadLine.TheVariants as head
 use Rattle.swss_script.specs.declared.line.Line.{Line}
-use Rattle.swss_script.specs.declared.line.Line.TheVariants.{Blank, Port, Producer, Set, Settle, ShowChip}
+use Rattle.swss_script.specs.declared.line.Line.TheVariants.{Blank, Head, Producer, Put, Batch, Block, Restart, Settle, Shown, Other}
+use Rattle.swss_script.specs.declared.parts.Act.{Act}
+use Rattle.swss_script.specs.declared.parts.Act.TheVariants as act
+use Rattle.swss_script.specs.declared.parts.Fail2.{Fail2}
+use Rattle.swss_script.specs.declared.parts.Show.{Show}
 use Rattle.swss_script.specs.declared.refused.Refused.{Refused}
 use Rattle.swss_script.specs.declared.refused.Why.{Why}
 use Rattle.swss_script.specs.declared.refused.Why.TheVariants as why
 use Rattle.swss_script.specs.declared.script.Script.{Script}
 
--- what a script says: the ports of its plan, the writes of its producer in order, and how often the chip is shown at its end
-pub record Said : Type 0 where
-  pub plan : Ports
-  pub writes : List Write
-  pub shows : ℕ
+-- the capacities of a chip, where the head sets none
+abbrev pub default_caps : Caps
+default_caps = record { 0 = 256 ∷ 4094 ∷ 256 ∷ 16384 ∷ 1024 ∷ 2048 ∷ 16384 ∷ 16384 ∷ 512 ∷ 16384 ∷ 65536 ∷ [] }
 
-abbrev pub said_with : Ports → List Write → ℕ → Said
-said_with plan writes shows = record { plan = plan; writes = writes; shows = shows }
+-- ---- sections and rounds
 
--- a line before others, unless it is skipped
-abbrev pub with_line : Line → List Line → List Line
-with_line Blank others = others
-with_line line others = line ∷ others
+-- a section of a producer ends
+abbrev pub section_ended : ℕ → Draft → Draft
+section_ended producer d = record d { sections = d.sections ++ (record { producer = producer; acts = d.acts }) ∷ []; acts = [] }
 
--- what the lines say that are not skipped
-abbrev pub told : List (List ℕ) → List Line
-told [] = []
-told (text ∷ texts) = with_line (line_of text) (told texts)
+-- a round ends, with its shows
+abbrev pub round_ended : Draft → Draft
+round_ended d = record d { script = record d.script { rounds = d.script.rounds ++ (record { sections = d.sections; shows = d.shows }) ∷ [] }; sections = []; shows = [] }
 
--- behind the settling, how often the chip is shown
-abbrev pub shows_of : List Line → Option ℕ
-shows_of [] = Some 0
-shows_of (ShowChip ∷ others) = option_map (λ shows. shows + 1) (shows_of others)
-shows_of (line ∷ others) = None
+abbrev pub ended_in : Place → Draft → Draft
+ended_in place.Head d = d
+ended_in (place.Section producer) d = section_ended producer d
+ended_in place.Settled d = round_ended d
 
--- behind the producer, its writes and the shows
-abbrev pub section_of : List Line → Option (List Write × ℕ)
-section_of [] = Some ([], 0)
-section_of (Set write ∷ others) = option_map (λ rest. (write ∷ rest.0, rest.1)) (section_of others)
-section_of (Settle ∷ others) = option_map (λ shows. ([], shows)) (shows_of others)
-section_of (line ∷ others) = None
+-- what is open ends: a section, or a round that was settled
+abbrev pub ended : Draft → Draft
+ended d = ended_in d.place d
 
--- behind the ports of a plan, or of the fault of one
-abbrev pub head_of : Result Ports PlanWhy → List Line → Option Said
-head_of (Err fault) others = None
-head_of (Ok plan) [] = Some (said_with plan [] 0)
-head_of (Ok plan) (Port text ∷ others) = head_of (plan_step plan text) others
-head_of (Ok plan) (Producer ∷ others) = option_map (λ rest. said_with plan rest.0 rest.1) (section_of others)
-head_of (Ok plan) (Settle ∷ others) = option_map (λ shows. said_with plan [] shows) (shows_of others)
-head_of (Ok plan) (line ∷ others) = None
+-- a section of a producer begins
+abbrev pub section_begun : Draft → ℕ → Draft
+section_begun d producer = record (ended d) { place = place.Section producer }
 
--- a refusal of the whole script
-abbrev pub refused : Why → Result Said Refused
-refused reason = Err (record { line = 0; why = reason })
+-- a round is settled
+abbrev pub settled : Draft → Draft
+settled d = record (ended d) { place = place.Settled }
 
-abbrev pub or_refused : Option Said → Result Said Refused
-or_refused None = refused why.NotYet
-or_refused (Some said) = Ok said
+-- the script at its end: where the last round is not settled, a settle is added
+abbrev pub script_at : Place → Draft → Script
+script_at place.Settled d = (ended d).script
+script_at _ d = (ended (settled d)).script
 
--- what the bytes of a script say, or why they are refused: a text of lines in their places, within the limits
-abbrev pub script_of : List ℕ → Result Said Refused
-script_of bytes =
-    if nat_lt 67108864 (length bytes) then refused why.TooLong
-    else if is_utf8 bytes && is_within_limits bytes then or_refused (head_of (Ok []) (told (lines bytes)))
-    else refused why.NotYet
+-- ---- what a line adds
 
--- what a script says that was read
-abbrev pub said : Script → Said
-said script = said_with script.plan script.writes.items script.shows
+abbrev pub with_plan : Draft → Result Ports PlanWhy → Result Draft Why
+with_plan d (Ok plan) = Ok (record d { script = record d.script { plan = plan } })
+with_plan d (Err fault) = Err (why.BadPlan fault)
 
--- the answer is the script that the bytes are, or their refusal
-abbrev pub IsScript : List ℕ → Result Script Refused → Type 0
-IsScript bytes (Ok script) = script_of bytes ≡ Ok (said script)
-IsScript bytes (Err refusal) = script_of bytes ≡ Err refusal
+abbrev pub with_capacity : Draft → Kind → ℕ → Result Draft Why
+with_capacity d kind most =
+    if slice_index_or d.kinds (level kind) false then Err why.HeadTwice
+    else Ok (record d { script = record d.script { caps = record { 0 = slice_set d.script.caps.0 (level kind) most } }; kinds = slice_set d.kinds (level kind) true })
+
+abbrev pub with_fail : Draft → Fail2 → Result Draft Why
+with_fail d fail =
+    if list_any (λ other. other.at == fail.at) d.script.fails then Err why.HeadTwice
+    else Ok (record d { script = record d.script { fails = d.script.fails ++ fail ∷ [] } })
+
+-- a line of the head: an image is not looked into before the service has images
+abbrev pub with_head : Draft → HeadLine → Result Draft Why
+with_head d (head.Port text) = with_plan d (plan_step d.script.plan text)
+with_head d (head.Chip kind most) = with_capacity d kind most
+with_head d (head.Fail fail) = with_fail d fail
+with_head d head.Image = Err why.NotYet
+
+abbrev pub in_head : Place → Draft → Option HeadLine → Result Draft Why
+in_head place.Head d (Some line) = with_head d line
+in_head _ d line = Err why.BadHead
+
+-- a producer that was named before keeps its number, and a new one has the next, up to 4
+abbrev pub named : Draft → List ℕ → Option ℕ → Result Draft Why
+named d name (Some at) = Ok (section_begun d (at + 1))
+named d name None =
+    if nat_lt (length d.script.producers) 4 then Ok (section_begun (record d { script = record d.script { producers = d.script.producers ++ name ∷ [] } }) (length d.script.producers + 1))
+    else Err why.TooManyProducers
+
+abbrev pub in_section : Place → Draft → List Act → Result Draft Why
+in_section (place.Section producer) d acts = Ok (record d { acts = d.acts ++ acts })
+in_section _ d acts = Err why.BadWord
+
+abbrev pub shown_in : Place → Draft → Show → Result Draft Why
+shown_in place.Settled d what = Ok (record d { shows = d.shows ++ what ∷ [] })
+shown_in _ d what = Err why.BadWord
+
+-- a line in its place
+abbrev pub with_line : Draft → Line → Result Draft Why
+with_line d Blank = Ok d
+with_line d (Head line) = in_head d.place d line
+with_line d (Producer name) = named d name (position (bytes_eq name) d.script.producers)
+with_line d (Put write) = in_section d.place d (act.Write write ∷ [])
+with_line d (Batch (Some writes)) = in_section d.place d (map act.Write writes)
+with_line d (Batch None) = Err why.BadJson
+with_line d Block = Err why.BadJson
+with_line d Restart = in_section d.place d (act.Restart ∷ [])
+with_line d Settle = Ok (settled d)
+with_line d (Shown what) = shown_in d.place d what
+with_line d Other = Err why.BadWord
+
+-- a form that the service does not have yet is refused as the last thing
+abbrev pub if_built : Bool → Result Draft Why → Result Draft Why
+if_built false (Ok d) = Err why.NotYet
+if_built _ answer = answer
+
+abbrev pub add : Draft → Line → Result Draft Why
+add d line = if_built (is_built line) (with_line d line)
+
+-- ---- lines one after the other
+
+abbrev pub in_block : Result Draft Why → Result Draft Why
+in_block (Ok d) = Ok (record d { block = true })
+in_block (Err reason) = Err reason
+
+-- a block: the lines up to its end are the JSON of a batch
+abbrev pub with_block : Draft → List (List ℕ) → Result Draft Why
+with_block d lines = in_block (add d (Batch (option_and_then batch_of (block_of lines))))
+
+-- a line with those behind it
+abbrev pub add_with : Draft → Line → List (List ℕ) → Result Draft Why
+add_with d line lines = if is_block line then with_block d lines else add d line
+
+abbrev pub with_text : Draft → Option (List ℕ) → List (List ℕ) → Result Draft Why
+with_text d None lines = Err why.NotUtf8
+with_text d (Some text) lines = add_with d (line_of text) lines
+
+abbrev pub step_by : Draft → List ℕ → List (List ℕ) → Result Draft Why
+step_by d text lines =
+    if is_too_long text then Err why.LineTooLong
+    else if d.block then Ok (record d { block = not (is_end text) })
+    else with_text d (text_of text) lines
+
+-- a numbered line with those behind it
+abbrev pub step : Draft → ℕ → List ℕ → List (List ℕ) → Result Draft Why
+step d number line lines = if nat_lt 1000000 number then Err why.TooManyLines else step_by d (line_text line) lines
+
+-- the script, or the line and reason of the first refusal, where so many lines were read and these follow
+abbrev pub script_from : Result Draft Why → ℕ → List (List ℕ) → Result Script Refused
+script_from (Err reason) number lines = Err (record { line = number; why = reason })
+script_from (Ok d) number [] = Ok (script_at d.place d)
+script_from (Ok d) number (line ∷ lines) = script_from (step d (number + 1) line lines) (number + 1) lines
+
+-- before the first line
+abbrev pub begun : Draft
+begun = record {
+  script = record { plan = []; caps = default_caps; fails = []; image = []; producers = []; rounds = [] };
+  kinds = false ∷ false ∷ false ∷ false ∷ false ∷ false ∷ false ∷ false ∷ false ∷ false ∷ false ∷ [];
+  place = place.Head;
+  sections = [];
+  acts = [];
+  shows = [];
+  block = false;
+}
+
+-- the script that the bytes are, or their refusal
+abbrev pub script_of : List ℕ → Result Script Refused
+script_of bytes = if nat_lt 67108864 (length bytes) then Err (record { line = 0; why = why.TooLong }) else script_from (Ok begun) 0 (lines_in bytes)
+
+-- a draft that was to come to a value, or to be refused
+abbrev pub Becomes : Result Draft Why → Result (Unit {0}) Why → Draft → Type 0
+Becomes meant (Ok done) d = meant ≡ Ok d
+Becomes meant (Err reason) d = meant ≡ Err reason

@@ -1,13 +1,12 @@
-// What an accepted script is by its lines, whatever their places.
+// What an accepted script is by its lines.
 ghost use Rattle.std.specs.Prelude.{◌≡◌, ℕ, List, Ok};
-ghost use Rattle.table_schema.specs.Plan.{plan_of};
-ghost use Rattle.swss_script.specs.Laws.{port_lines, set_lines, show_lines};
-ghost use Rattle.swss_script.specs.Script.{Said, script_of};
+ghost use Rattle.swss_script.specs.Script.{script_of};
+ghost use Rattle.swss_script.specs.Sections.{script_writes, text_writes, writes_of};
+ghost use Rattle.swss_script.specs.declared.script.Script.{Script};
 
-/// A script that is accepted has the plan of its port lines, exactly the writes of its set lines in their order, and as
-/// many shows as it has lines that show the chip.
-pub fn script_is_its_lines()
-    ensures plan { (bytes : List ℕ) (said : Said) → script_of bytes ≡ Ok said → plan_of (port_lines bytes) ≡ Ok said.plan }
-    ensures writes { (bytes : List ℕ) (said : Said) → script_of bytes ≡ Ok said → said.writes ≡ set_lines bytes }
-    ensures shows { (bytes : List ℕ) (said : Said) → script_of bytes ≡ Ok said → said.shows ≡ show_lines bytes }
+/// A script that is accepted has the writes of its lines, each in its round and by its producer, in order, and no others. So
+/// what a producer writes in a round is what the lines of its sections in that round write.
+pub fn script_has_the_writes_of_its_lines()
+    ensures all { (bytes : List ℕ) (script : Script) → script_of bytes ≡ Ok script → script_writes script ≡ text_writes bytes }
+    ensures each { (bytes : List ℕ) (script : Script) (round : ℕ) (name : List ℕ) → script_of bytes ≡ Ok script → writes_of round name (script_writes script) ≡ writes_of round name (text_writes bytes) }
 {}

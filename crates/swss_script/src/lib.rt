@@ -1,15 +1,30 @@
 //! The script language: what a script's bytes mean, or the first fault in them.
 #![tactic(auto)]
 
+mod batch;
+mod built;
+mod draft;
+mod fails;
+mod fields;
 mod laws;
-mod limits;
+#[cfg(test)]
+mod limit_tests;
 mod line;
+mod lines;
+mod lists;
+mod parts;
+mod plain;
 mod refused;
 mod script;
 #[cfg(test)]
 mod tests;
 mod words;
 
-pub use laws::script_is_its_lines;
-pub use refused::{Refused, Why};
-pub use script::{Script, read_script};
+pub use draft::DEFAULT_CAPS;
+pub use fails::Fails;
+pub use laws::script_has_the_writes_of_its_lines;
+pub use lists::{Acts, Producers, RoundList, Sections, Shows, Writes};
+pub use parts::{Act, Fail2, Round, Section, Show};
+pub use plain::{PlainScript, read_script, script_is_its_lines};
+pub use refused::{ImageFault, Refused, Why};
+pub use script::Script;

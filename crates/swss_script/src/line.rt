@@ -1,64 +1,105 @@
-// Lines of a script. This stage has ports, one producer, the rows of ports and of their interfaces, one settling, and
-// the chip as it stands then.
-ghost use Rattle.std.specs.Prelude.{◌≡◌, ◌++◌, ◌∷◌, IfOk, Some, []};
-ghost use Rattle.swss_script.specs.Line.{field_of, fields_from, fields_of, first_key, is_name, key_in_word, line_of, plain_line, port_line, set_line};
+// Lines of a script, by their words.
+ghost use Rattle.std.specs.Prelude.{◌≡◌, ◌==◌, ◌++◌, ◌∷◌, false, codes, IfOk, option_map};
+ghost use Rattle.std.specs.List.{starts_with};
+ghost use Rattle.swss_script.specs.Line.{alone, chip_line, del_line, fail_line, forward_to, image_line, is_after, is_block, is_name, json_line, kind_of, line_by, line_of, port_line, producer_line, set_line, show_line, show_of, shown};
 ghost use Rattle.swss_script.specs.Words.{words_in};
 
-use crate::words::next_word;
+use crate::batch::{key_in_word, read_batch};
+use crate::fields::{copy_text, read_fields, set_fields};
+use crate::words::{next_word, one_word, two_words};
+use crate::{Fail2, Show, Writes};
+use sai_types::Kind;
 use std::alloc::Global;
-use swss_types::{IfName, OutOfMemory, Text};
-use table_schema::{Fields, Key, Write, read_key};
+use swss_types::{Ip, OutOfMemory, Text, read_number};
+use table_schema::Write;
 
 /// A line of a script.
 #[derive(Debug, Drop)]
 pub enum Line {
     /// Nothing, or a comment.
     Blank,
-    /// A port of the plan: its name, a space and its lanes.
-    Port(Text),
-    /// A section of a producer begins.
-    Producer,
+    /// A line of the head, or None where the words behind its first are wrong.
+    Head(Option<HeadLine>),
+    /// A section of this producer begins.
+    Producer(Text),
     /// A write.
-    Set(Write),
+    Put(Write),
+    /// A batch, or None where it is none.
+    Batch(Option<Writes>),
+    /// A batch begins that ends at a line of its own.
+    Block,
+    /// The service restarts.
+    Restart,
     /// The round ends.
     Settle,
-    /// The chip is shown.
-    ShowChip,
+    /// Something is shown.
+    Shown(Show),
     /// A line that is none of these.
-    NotYet,
+    Other,
+}
+
+/// A line of the head.
+#[derive(Debug, Drop)]
+pub enum HeadLine {
+    /// A port of the plan: its name, a space and its lanes.
+    Port(Text),
+    /// The capacity of a kind.
+    Chip(Kind, u64),
+    /// A chip call fails.
+    Fail(Fail2),
+    /// The rows of an image.
+    Image,
+}
+
+/// Whether a block begins with a line.
+pub fn is_block(line: &Line) -> bool
+    ensures { result ≡ is_block line.now }
+{
+    matches!(line, Line::Block)
 }
 
 /// The line that a text is.
 pub fn read_line(alloc: Global, text: &str) -> Result<Line, OutOfMemory>
     ensures { IfOk result (λ line. line ≡ line_of text.now) }
 {
-    let Some((first, others)) = next_word(text) else {
+    let Some((first, behind)) = next_word(text) else {
         return Ok(Line::Blank);
     };
     if first.as_bytes().starts_with(b"#") {
         return Ok(Line::Blank);
     }
-    match first.as_bytes() {
-        b"port" => read_port(alloc, others),
-        b"set" => read_set(alloc, others),
-        _ => Ok(read_plain(first, others)),
+    read_words(alloc, first, behind)
+}
+
+/// The line of a first word and the text behind it.
+fn read_words(alloc: Global, first: &str, behind: &str) -> Result<Line, OutOfMemory>
+    requires { starts_with ◌==◌ first.now (codes "#") ≡ false }
+    ensures { IfOk result (λ line. line ≡ line_by first.now (words_in behind.now) behind.now) }
+{
+    match first {
+        "port" => Ok(Line::Head(read_port(alloc, behind)?)),
+        "chip" => Ok(Line::Head(read_chip(behind))),
+        "fail" => Ok(Line::Head(read_fail(behind))),
+        "image" => Ok(Line::Head(read_image(behind))),
+        "producer" => read_producer(alloc, behind),
+        "set" => read_set(alloc, behind),
+        "del" => read_del(alloc, behind),
+        "json" => read_json(alloc, behind),
+        "restart" => Ok(alone(Line::Restart, behind)),
+        "settle" => Ok(alone(Line::Settle, behind)),
+        "show" => Ok(read_show(behind)),
+        _ => Ok(Line::Other),
     }
 }
 
 /// The words behind `port`: a name and lanes.
-fn read_port(alloc: Global, text: &str) -> Result<Line, OutOfMemory>
+fn read_port(alloc: Global, text: &str) -> Result<Option<HeadLine>, OutOfMemory>
     ensures { IfOk result (λ line. line ≡ port_line (words_in text.now)) }
 {
-    let Some((name, behind)) = next_word(text) else {
-        return Ok(Line::NotYet);
-    };
-    let Some((lanes, behind)) = next_word(behind) else {
-        return Ok(Line::NotYet);
-    };
-    if next_word(behind).is_some() {
-        return Ok(Line::NotYet);
+    match two_words(text) {
+        Some((name, lanes)) => Ok(Some(HeadLine::Port(join(alloc, name, lanes)?))),
+        None => Ok(None),
     }
-    Ok(Line::Port(join(alloc, name, lanes)?))
 }
 
 /// Two words and a space between them.
@@ -71,116 +112,82 @@ fn join(alloc: Global, first: &str, second: &str) -> Result<Text, OutOfMemory>
     copy_text(alloc, text.as_str())
 }
 
-/// A text of a table with these characters.
-fn copy_text(alloc: Global, text: &str) -> Result<Text, OutOfMemory>
-    ensures { IfOk result (λ copy. copy ≡ text.now) }
+/// The words behind `chip`: a kind and a capacity.
+fn read_chip(text: &str) -> Option<HeadLine>
+    ensures { result ≡ chip_line (words_in text.now) }
 {
-    match Text::new(alloc, text.as_bytes())? {
-        Some(copy) => Ok(copy),
-        None => unreachable!(),
-    }
+    let (kind, most) = two_words(text)?;
+    let kind = read_kind(kind)?;
+    let most = read_number(most.as_bytes(), 1_000_000)?;
+    Some(HeadLine::Chip(kind, u64::from(most)))
 }
 
-/// The words behind `set`: a key and its fields.
-fn read_set(alloc: Global, text: &str) -> Result<Line, OutOfMemory>
-    ensures { IfOk result (λ line. line ≡ set_line (words_in text.now)) }
+/// The kind of a word.
+fn read_kind(word: &str) -> Option<Kind>
+    ensures { result ≡ kind_of word.now }
 {
-    let Some((word, behind)) = next_word(text) else {
-        return Ok(Line::NotYet);
-    };
-    let Some(key) = read_first_key(alloc, word)? else {
-        return Ok(Line::NotYet);
-    };
-    match read_fields(alloc, behind)? {
-        Some(fields) => Ok(Line::Set(Write::Set(key, fields))),
-        None => Ok(Line::NotYet),
-    }
-}
-
-/// The key of a port or of an interface on a port.
-fn read_first_key(alloc: Global, word: &str) -> Result<Option<Key>, OutOfMemory>
-    ensures { IfOk result (λ key. key ≡ key_in_word word.now) }
-{
-    if !word.as_bytes().contains(&b':') {
-        return Ok(None);
-    }
-    Ok(first_key(read_key(alloc, word.as_bytes())?))
-}
-
-/// The key, where it is one of this stage.
-fn first_key(key: Key) -> Option<Key>
-    ensures { result ≡ first_key key }
-{
-    match key {
-        Key::Port(port) => Some(Key::Port(port)),
-        Key::Intf(IfName::Ethernet(port)) => Some(Key::Intf(IfName::Ethernet(port))),
+    match word {
+        "PORT" => Some(Kind::Port),
+        "VLAN" => Some(Kind::Vlan),
+        "BRIDGE_PORT" => Some(Kind::BridgePort),
+        "VLAN_MEMBER" => Some(Kind::VlanMember),
+        "RIF" => Some(Kind::Rif),
+        "OWN_ADDRESS" => Some(Kind::OwnAddress),
+        "NEIGHBOR" => Some(Kind::Neighbor),
+        "NEXT_HOP" => Some(Kind::NextHop),
+        "GROUP" => Some(Kind::Group),
+        "GROUP_MEMBER" => Some(Kind::GroupMember),
+        "ROUTE" => Some(Kind::Route),
         _ => None,
     }
 }
 
-/// The fields of a Set, each a name and a value: later values of a name win, and no field at all stands for the field
-/// NULL.
-fn read_fields(alloc: Global, text: &str) -> Result<Option<Fields>, OutOfMemory>
-    ensures { IfOk result (λ fields. fields ≡ fields_of (words_in text.now)) }
+/// The words behind `fail`: a number from 1, and `before` or `after`.
+fn read_fail(text: &str) -> Option<HeadLine>
+    ensures { result ≡ fail_line (words_in text.now) }
 {
-    if next_word(text).is_some() {
-        return read_given_fields(alloc, text);
-    }
-    let mut fields = Fields::new(alloc);
-    fields.put(copy_text(alloc, "NULL")?, copy_text(alloc, "NULL")?)?;
-    Ok(Some(fields))
-}
-
-/// The fields that the words are.
-fn read_given_fields(alloc: Global, text: &str) -> Result<Option<Fields>, OutOfMemory>
-    ensures { IfOk result (λ fields. fields ≡ fields_from (Some []) (words_in text.now)) }
-{
-    let mut fields = Fields::new(alloc);
-    let mut left = text;
-    while let Some((word, behind)) = next_word(left) {
-        let Some((name, value)) = read_field(alloc, word)? else {
-            return Ok(None);
-        };
-        fields.put(name, value)?;
-        left = behind;
-    }
-    Ok(Some(fields))
-}
-
-/// A name, which is not empty and ends at the first `=`, and a value.
-fn read_field(alloc: Global, word: &str) -> Result<Option<(Text, Text)>, OutOfMemory>
-    ensures { IfOk result (λ field. field ≡ field_of word.now) }
-{
-    match word.split_once('=') {
-        Some((name, value)) if !name.is_empty() => Ok(Some((
-            copy_text(alloc, name)?,
-            copy_text(alloc, value)?,
-        ))),
-        _ => Ok(None),
+    let (number, when) = two_words(text)?;
+    let at = read_number(number.as_bytes(), 1_000_000_000)?;
+    let after = read_after(when)?;
+    if at > 0 {
+        Some(HeadLine::Fail(Fail2 {
+            at: u64::from(at),
+            after,
+        }))
+    } else {
+        None
     }
 }
 
-/// A line that holds no more than its words.
-fn read_plain(first: &str, others: &str) -> Line
-    ensures { result ≡ plain_line first.now (words_in others.now) }
+/// Whether a failing call takes effect before it fails.
+fn read_after(word: &str) -> Option<bool>
+    ensures { result ≡ is_after word.now }
 {
-    let Some((word, behind)) = next_word(others) else {
-        return if first == "settle" {
-            Line::Settle
-        } else {
-            Line::NotYet
-        };
-    };
-    if next_word(behind).is_some() {
-        return Line::NotYet;
+    match word {
+        "before" => Some(false),
+        "after" => Some(true),
+        _ => None,
     }
-    if first == "producer" && is_name(word) {
-        return Line::Producer;
+}
+
+/// The text behind `image`.
+fn read_image(text: &str) -> Option<HeadLine>
+    ensures { result ≡ image_line (words_in text.now) }
+{
+    match next_word(text) {
+        Some(_) => Some(HeadLine::Image),
+        None => None,
     }
-    if first == "show" && word == "chip" {
-        return Line::ShowChip;
+}
+
+/// The word behind `producer`: a name.
+fn read_producer(alloc: Global, text: &str) -> Result<Line, OutOfMemory>
+    ensures { IfOk result (λ line. line ≡ producer_line (words_in text.now)) }
+{
+    match one_word(text) {
+        Some(name) if is_name(name) => Ok(Line::Producer(copy_text(alloc, name)?)),
+        _ => Ok(Line::Other),
     }
-    Line::NotYet
 }
 
 /// Whether a word is a producer's name: of letters, digits, `_` and `-`.
@@ -190,4 +197,105 @@ fn is_name(word: &str) -> bool
     word.as_bytes().iter().all(|byte| byte.is_ascii_alphanumeric()
         || *byte == b'_'
         || *byte == b'-')
+}
+
+/// The words behind `set`: a key and its fields.
+fn read_set(alloc: Global, text: &str) -> Result<Line, OutOfMemory>
+    ensures { IfOk result (λ line. line ≡ set_line (words_in text.now)) }
+{
+    let Some((word, behind)) = next_word(text) else {
+        return Ok(Line::Other);
+    };
+    let Some(key) = key_in_word(alloc, word)? else {
+        return Ok(Line::Other);
+    };
+    match read_fields(alloc, behind)? {
+        Some(fields) => Ok(Line::Put(Write::Set(key, set_fields(alloc, fields)?))),
+        None => Ok(Line::Other),
+    }
+}
+
+/// The word behind `del`: a key.
+fn read_del(alloc: Global, text: &str) -> Result<Line, OutOfMemory>
+    ensures { IfOk result (λ line. line ≡ del_line (words_in text.now)) }
+{
+    let Some(word) = one_word(text) else {
+        return Ok(Line::Other);
+    };
+    match key_in_word(alloc, word)? {
+        Some(key) => Ok(Line::Put(Write::Del(key))),
+        None => Ok(Line::Other),
+    }
+}
+
+/// The text behind `json`: a batch, or nothing where a block follows.
+fn read_json(alloc: Global, text: &str) -> Result<Line, OutOfMemory>
+    ensures { IfOk result (λ line. line ≡ json_line (words_in text.now) text.now) }
+{
+    match next_word(text) {
+        Some(_) => Ok(Line::Batch(read_batch(alloc, text.as_bytes())?)),
+        None => Ok(Line::Block),
+    }
+}
+
+/// A line whose first word stands alone.
+fn alone(line: Line, text: &str) -> Line
+    ensures { result ≡ alone line (words_in text.now) }
+{
+    match next_word(text) {
+        Some(_) => Line::Other,
+        None => line,
+    }
+}
+
+/// The words behind `show`.
+fn read_show(text: &str) -> Line
+    ensures { result ≡ show_line (words_in text.now) }
+{
+    if let Some(word) = one_word(text) {
+        return shown(show_of(word));
+    }
+    match two_words(text) {
+        Some((word, address)) => shown(forward_to(word, address)),
+        None => Line::Other,
+    }
+}
+
+/// A line that shows this.
+fn shown(what: Option<Show>) -> Line
+    ensures { result ≡ shown what }
+{
+    match what {
+        Some(what) => Line::Shown(what),
+        None => Line::Other,
+    }
+}
+
+/// What a word shows.
+fn show_of(word: &str) -> Option<Show>
+    ensures { result ≡ show_of word.now }
+{
+    match word {
+        "chip" => Some(Show::Chip),
+        "tables" => Some(Show::Tables),
+        "ignored" => Some(Show::Ignored),
+        "waiting" => Some(Show::Waiting),
+        "warm" => Some(Show::Warm),
+        "ready" => Some(Show::Ready),
+        "calls" => Some(Show::Calls),
+        "counts" => Some(Show::Counts),
+        "image" => Some(Show::Image),
+        _ => None,
+    }
+}
+
+/// The way of an address.
+fn forward_to(word: &str, address: &str) -> Option<Show>
+    ensures { result ≡ forward_to word.now address.now }
+{
+    if word == "forward" {
+        Ip::read(address.as_bytes()).map(Show::Forward)
+    } else {
+        None
+    }
 }

@@ -1,110 +1,132 @@
-// Scripts of this stage: ports of the plan, then at most one producer with the rows that it sets, then at most one
-// settling, then shows of the chip.
-ghost use Rattle.std.specs.Prelude.{◌≡◌, ◌+◌, ◌<◌, ◌≤◌, [], Ok, IfOk, length, option_map};
-ghost use Rattle.std.specs.Str.Lines.{lines};
-ghost use Rattle.swss_script.specs.Places.{IsStep};
-ghost use Rattle.swss_script.specs.Script.{IsScript, head_of, said, told};
+// Scripts, and how they are read.
+ghost use Rattle.std.specs.Prelude.{◌≡◌, ◌≤◌, IfOk, Ok, length};
+ghost use Rattle.swss_script.specs.Lines.{lines_in, text_of};
+ghost use Rattle.swss_script.specs.Script.{Becomes, begun, script_from, script_of, step, with_block, with_text};
 
-use crate::limits::is_within_limits;
-use crate::line::{Line, read_line};
-use crate::{Refused, Why};
+use crate::batch::read_batch;
+use crate::draft::Draft;
+use crate::line::{Line, is_block, read_line};
+use crate::lines::{as_text, block, is_end, is_too_long, line_text, next_line};
+use crate::{Fails, Producers, Refused, RoundList, Why};
+use row_store::Rows;
+use sai_types::Caps;
 use std::alloc::Global;
-use std::str;
 use swss_types::OutOfMemory;
-use table_schema::{PortPlan, Write};
+use table_schema::PortPlan;
 
 /// The most bytes of a script.
 const MOST_BYTES: usize = 67_108_864;
 
-/// A script that was read.
+/// The most lines of a script.
+const MOST_LINES: u64 = 1_000_000;
+
+/// A script.
 #[derive(Debug, Drop)]
 pub struct Script {
     /// The ports.
     pub plan: PortPlan,
-    /// The writes of the one producer, in order.
-    pub writes: Vec<Write>,
-    /// How often the chip is shown at the end.
-    pub shows: u64,
+    /// The capacities of the chip.
+    pub caps: Caps,
+    /// The chip calls that fail.
+    pub fails: Fails,
+    /// The rows that the service begins with.
+    pub image: Rows,
+    /// The names of the producers: a producer's number is the place of its name, from 1.
+    pub producers: Producers,
+    /// The rounds, in order.
+    pub rounds: RoundList,
 }
 
-/// The part of a script that a line stands in.
-#[derive(Clone, Copy, Debug, PartialEq, Eq)]
-enum Place {
-    Head,
-    Section,
-    Shows,
-}
-
-/// The script that the bytes are. It is refused as a whole (line 0): TooLong where it has more than 67,108,864 bytes,
-/// and NotYet where it is otherwise no script of this stage.
-pub fn read_script(alloc: Global, bytes: &[u8]) -> Result<Result<Script, Refused>, OutOfMemory>
-    ensures { IfOk result (λ answer. IsScript bytes.now answer) }
-{
-    if bytes.len() > MOST_BYTES {
-        return Ok(Err(refuse(Why::TooLong)));
+impl Script {
+    /// The script that the bytes are, or the first faulty line with the first of its faults.
+    pub fn read(alloc: Global, bytes: &[u8]) -> Result<Result<Script, Refused>, OutOfMemory>
+        ensures { IfOk result (λ answer. answer ≡ script_of bytes.now) }
+    {
+        if bytes.len() > MOST_BYTES {
+            return Ok(Err(Refused {
+                line: 0,
+                why: Why::TooLong,
+            }));
+        }
+        read_lines(alloc, bytes)
     }
-    let Ok(text) = str::from_utf8(bytes) else {
-        return Ok(Err(refuse(Why::NotYet)));
+}
+
+/// The script of the lines of a text.
+fn read_lines(alloc: Global, bytes: &[u8]) -> Result<Result<Script, Refused>, OutOfMemory>
+    ensures { IfOk result (λ answer. answer ≡ script_from (Ok begun) 0 (lines_in bytes.now)) }
+{
+    let mut draft = Draft::new(alloc)?;
+    let mut number = 0;
+    let mut left = bytes;
+    while let Some((line, rest)) = next_line(left) {
+        number += 1;
+        match add_line(alloc, &mut draft, number, line, rest)? {
+            Ok(()) => left = rest,
+            Err(why) => return Ok(Err(Refused { line: number, why })),
+        }
+    }
+    Ok(Ok(draft.finish(alloc)?))
+}
+
+/// Adds a numbered line to a draft, with the text behind it.
+fn add_line(
+    alloc: Global,
+    draft: &mut Draft,
+    number: u64,
+    line: &[u8],
+    rest: &[u8],
+) -> Result<Result<(), Why>, OutOfMemory>
+    requires { length draft.old.script.producers ≤ 4 }
+    ensures { IfOk result (λ answer. Becomes (step draft.old number line.now (lines_in rest.now)) answer draft.new) }
+{
+    if number > MOST_LINES {
+        return Ok(Err(Why::TooManyLines));
+    }
+    let text = line_text(line);
+    if is_too_long(text) {
+        return Ok(Err(Why::LineTooLong));
+    }
+    if draft.block {
+        draft.block = !is_end(text);
+        return Ok(Ok(()));
+    }
+    add_text(alloc, draft, text, rest)
+}
+
+/// Adds a line that belongs to no block, with the text behind it.
+fn add_text(
+    alloc: Global,
+    draft: &mut Draft,
+    bytes: &[u8],
+    rest: &[u8],
+) -> Result<Result<(), Why>, OutOfMemory>
+    requires { length draft.old.script.producers ≤ 4 }
+    ensures { IfOk result (λ answer. Becomes (with_text draft.old (text_of bytes.now) (lines_in rest.now)) answer draft.new) }
+{
+    let Some(text) = as_text(bytes) else {
+        return Ok(Err(Why::NotUtf8));
     };
-    if !is_within_limits(text) {
-        return Ok(Err(refuse(Why::NotYet)));
-    }
-    match read_lines(alloc, text)? {
-        Some(script) => Ok(Ok(script)),
-        None => Ok(Err(refuse(Why::NotYet))),
+    let line = read_line(alloc, text)?;
+    if is_block(&line) {
+        add_block(alloc, draft, rest)
+    } else {
+        draft.add(alloc, line)
     }
 }
 
-/// The refusal of a script as a whole.
-fn refuse(why: Why) -> Refused
-    ensures { result ≡ record { line = 0; why = why } }
+/// Adds the block that a text begins with.
+fn add_block(alloc: Global, draft: &mut Draft, rest: &[u8]) -> Result<Result<(), Why>, OutOfMemory>
+    requires { length draft.old.script.producers ≤ 4 }
+    ensures { IfOk result (λ answer. Becomes (with_block draft.old (lines_in rest.now)) answer draft.new) }
 {
-    Refused { line: 0, why }
-}
-
-/// The script that the lines of a text are, or None where one of them is out of its place.
-fn read_lines(alloc: Global, text: &str) -> Result<Option<Script>, OutOfMemory>
-    requires { length (lines text.now) ≤ 1000000 }
-    ensures { IfOk result (λ script. option_map said script ≡ head_of (Ok []) (told (lines text.now))) }
-{
-    let mut script = Script {
-        plan: PortPlan::new(alloc)?,
-        writes: Vec::new(alloc),
-        shows: 0,
+    let batch = match block(rest) {
+        Some(text) => read_batch(alloc, text)?,
+        None => None,
     };
-    let mut place = Place::Head;
-    for line in text.lines() {
-        let said = read_line(alloc, line)?;
-        match add_line(&mut script, place, said)? {
-            Some(next) => place = next,
-            None => return Ok(None),
-        }
+    if let Err(why) = draft.add(alloc, Line::Batch(batch))? {
+        return Ok(Err(why));
     }
-    Ok(Some(script))
-}
-
-/// Adds a line to a script, and answers the place behind it, or None where the line is out of its place.
-fn add_line(script: &mut Script, place: Place, line: Line) -> Result<Option<Place>, OutOfMemory>
-    requires { script.old.shows < 1000000 }
-    ensures step { IfOk result (λ next. IsStep place (said script.old) line next (said script.new)) }
-    ensures shows { script.new.shows ≤ script.old.shows + 1 }
-{
-    match (place, line) {
-        (_, Line::Blank) => Ok(Some(place)),
-        (Place::Head, Line::Port(text)) => match script.plan.put(text.bytes())? {
-            Ok(()) => Ok(Some(Place::Head)),
-            Err(_) => Ok(None),
-        },
-        (Place::Head, Line::Producer) => Ok(Some(Place::Section)),
-        (Place::Section, Line::Set(write)) => {
-            script.writes.push(write)?;
-            Ok(Some(Place::Section))
-        }
-        (Place::Head | Place::Section, Line::Settle) => Ok(Some(Place::Shows)),
-        (Place::Shows, Line::ShowChip) => {
-            script.shows += 1;
-            Ok(Some(Place::Shows))
-        }
-        _ => Ok(None),
-    }
+    draft.block = true;
+    Ok(Ok(()))
 }

@@ -1,33 +1,50 @@
-// What no clause says: that the definitions mean the language as it is described, and that calls succeed where there is
+// What no clause says: that the definitions mean the language as it is described, and that scripts are read where there is
 // memory.
-use super::*;
+use crate::draft::Draft;
+use crate::line::HeadLine;
+use crate::{Act, DEFAULT_CAPS, Fail2, Refused, Script, Section, Show, Why};
+use sai_types::Kind;
 use std::alloc::Global;
+use std::process::Abort;
 use std::test::Fail;
 use swss_types::{OutOfMemory, write_number};
 use table_schema::{Fields, Key, PortPlan, Write};
 
-/// What a script says: a line for each port of its plan in the order of the first lanes, for each write in order, and for
-/// the number of its shows; or the line and the reason of its refusal.
-fn summary(alloc: Global, script: &[u8]) -> Result<Vec<u8>, OutOfMemory> {
+/// What a script says, a line for each thing in it, or the line and the reason of its refusal.
+pub fn summary(alloc: Global, bytes: &[u8]) -> Result<Vec<u8>, OutOfMemory> {
     let mut out = Vec::new(alloc);
-    match read_script(alloc, script)? {
-        Ok(script) => {
-            add_plan(&mut out, &script.plan)?;
-            for write in &script.writes {
-                add_write(&mut out, write)?;
-            }
-            out.extend_from_slice(b"shows ")?;
-            write_number(&mut out, script.shows)?;
-        }
-        Err(refused) => {
-            write_number(&mut out, refused.line)?;
-            out.extend_from_slice(match refused.why {
-                Why::TooLong => b" too-long".as_slice(),
-                Why::NotYet => b" not-yet".as_slice(),
-            })?;
-        }
+    match Script::read(alloc, bytes)? {
+        Ok(script) => add_script(&mut out, &script)?,
+        Err(refused) => add_refused(&mut out, refused)?,
     }
     Ok(out)
+}
+
+fn add_script(out: &mut Vec<u8>, script: &Script) -> Result<(), OutOfMemory> {
+    add_plan(out, &script.plan)?;
+    for name in script.producers.items() {
+        add_words(out, &[b"name", name.bytes()])?;
+    }
+    for round in script.rounds.items() {
+        add_words(out, &[b"round"])?;
+        for section in round.sections.items() {
+            add_section(out, section)?;
+        }
+        for show in round.shows.items() {
+            add_words(out, &[b"show", show_name(*show)])?;
+        }
+    }
+    Ok(())
+}
+
+/// A line of words, with a blank behind each.
+fn add_words(out: &mut Vec<u8>, words: &[&[u8]]) -> Result<(), OutOfMemory> {
+    for word in words {
+        out.extend_from_slice(word)?;
+        out.push(b' ')?;
+    }
+    out.push(b'\n')?;
+    Ok(())
 }
 
 fn add_plan(out: &mut Vec<u8>, plan: &PortPlan) -> Result<(), OutOfMemory> {
@@ -45,195 +62,530 @@ fn add_plan(out: &mut Vec<u8>, plan: &PortPlan) -> Result<(), OutOfMemory> {
     Ok(())
 }
 
-fn add_write(out: &mut Vec<u8>, write: &Write) -> Result<(), OutOfMemory> {
-    match write {
-        Write::Set(key, fields) => add_set(out, key, fields),
-        Write::Del(_) => Ok(()),
+fn add_section(out: &mut Vec<u8>, section: &Section) -> Result<(), OutOfMemory> {
+    out.extend_from_slice(b"section ")?;
+    write_number(out, u64::from(section.producer))?;
+    out.push(b'\n')?;
+    for act in section.acts.items() {
+        match act {
+            Act::Write(Write::Set(key, fields)) => add_set(out, key, fields)?,
+            Act::Write(Write::Del(key)) => add_key(out, b"del ", key)?,
+            Act::Restart => add_words(out, &[b"restart"])?,
+        }
     }
+    Ok(())
 }
 
 fn add_set(out: &mut Vec<u8>, key: &Key, fields: &Fields) -> Result<(), OutOfMemory> {
-    out.extend_from_slice(b"set ")?;
-    key.write(out)?;
+    add_key(out, b"set ", key)?;
     for field in fields.items() {
-        out.push(b' ')?;
-        out.extend_from_slice(field.0.bytes())?;
-        out.push(b'=')?;
-        out.extend_from_slice(field.1.bytes())?;
+        add_words(out, &[b" ", field.0.bytes(), b"=", field.1.bytes()])?;
     }
+    Ok(())
+}
+
+fn add_key(out: &mut Vec<u8>, word: &[u8], key: &Key) -> Result<(), OutOfMemory> {
+    out.extend_from_slice(word)?;
+    key.write(out)?;
     out.push(b'\n')?;
     Ok(())
 }
 
-#[test]
-fn reads_scripts(rt: HostRuntime) -> Result<(), Fail> {
-    let cases = [
-        ("", "shows 0"),
-        ("\n\r\n  \t \n# a comment\n \t# another\n", "shows 0"),
-        (
-            "port Ethernet0 0,1,2,3\nproducer a\nset PORT_TABLE:Ethernet0 lanes=0,1,2,3 admin_status=up\nset INTF_TABLE:Ethernet0 NULL=NULL\nsettle\nshow chip\n",
-            "port Ethernet0 0,1,2,3\nset PORT_TABLE:Ethernet0 admin_status=up lanes=0,1,2,3\nset INTF_TABLE:Ethernet0 NULL=NULL\nshows 1",
-        ),
-        // the same, with comments, blanks, carriage returns and no newline at its end
-        (
-            "# ports\r\n\tport  Ethernet0\t 0,1,2,3 \r\n\r\nproducer a\r\n #rows\r\n set\tPORT_TABLE:Ethernet0   lanes=0,1,2,3\tadmin_status=up\t\r\nset INTF_TABLE:Ethernet0\r\nsettle\r\n\r\n  show   chip\t",
-            "port Ethernet0 0,1,2,3\nset PORT_TABLE:Ethernet0 admin_status=up lanes=0,1,2,3\nset INTF_TABLE:Ethernet0 NULL=NULL\nshows 1",
-        ),
-        // no settling, no section, and several shows
-        (
-            "port Ethernet8 9,8\nport Ethernet4 4",
-            "port Ethernet4 4\nport Ethernet8 8,9\nshows 0",
-        ),
-        ("producer A-z_09", "shows 0"),
-        (
-            "producer a\nset PORT_TABLE:Ethernet0 a=1",
-            "set PORT_TABLE:Ethernet0 a=1\nshows 0",
-        ),
-        ("settle\nshow chip\n#\nshow chip\n", "shows 2"),
-        ("port Ethernet0 0\nsettle\n", "port Ethernet0 0\nshows 0"),
-        // a comment begins at a word, and not inside one
-        (
-            "producer a\nset PORT_TABLE:Ethernet0 a#b=c#d #=# =\n",
-            "0 not-yet",
-        ),
-        (
-            "producer a\nset PORT_TABLE:Ethernet0 a#b=c#d #=#\n",
-            "set PORT_TABLE:Ethernet0 #=# a#b=c#d\nshows 0",
-        ),
-        // names end at the first `=`, values may be empty, and later values win
-        (
-            "producer a\nset INTF_TABLE:Ethernet12 b=1 a==x= c= b=2 b=3\nset INTF_TABLE:Ethernet12 b=4\n",
-            "set INTF_TABLE:Ethernet12 a==x= b=3 c=\nset INTF_TABLE:Ethernet12 b=4\nshows 0",
-        ),
-        (
-            "producer a\nset PORT_TABLE:Ethernet0 größe=ü\n",
-            "set PORT_TABLE:Ethernet0 größe=ü\nshows 0",
-        ),
-        // without a newline a carriage return is a part of the last word
-        (
-            "producer a\nset PORT_TABLE:Ethernet0 a=1\r",
-            "set PORT_TABLE:Ethernet0 a=1\r\nshows 0",
-        ),
-        ("settle\r", "0 not-yet"),
-        ("settle\r\r\n", "0 not-yet"),
-        ("settle\r\n", "shows 0"),
-    ];
+fn show_name(show: Show) -> &'static [u8] {
+    match show {
+        Show::Chip => b"chip",
+        Show::Tables => b"tables",
+        Show::Ignored => b"ignored",
+        _ => b"another",
+    }
+}
+
+fn add_refused(out: &mut Vec<u8>, refused: Refused) -> Result<(), OutOfMemory> {
+    write_number(out, refused.line)?;
+    out.push(b' ')?;
+    out.extend_from_slice(match refused.why {
+        Why::TooLong => b"too-long".as_slice(),
+        Why::TooManyLines => b"too-many-lines",
+        Why::LineTooLong => b"line-too-long",
+        Why::NotUtf8 => b"not-utf8",
+        Why::BadHead => b"bad-head",
+        Why::HeadTwice => b"head-twice",
+        Why::BadPlan(_) => b"bad-plan",
+        Why::BadImage(_) => b"bad-image",
+        Why::TooManyProducers => b"too-many-producers",
+        Why::BadJson => b"bad-json",
+        Why::BadWord => b"bad-word",
+        Why::NotYet => b"not-yet",
+    })?;
+    Ok(())
+}
+
+/// Each script says what is wanted.
+fn expect(rt: &impl Abort, alloc: Global, cases: &[(&str, &str)]) -> Result<(), Fail> {
     for (script, said) in cases {
-        let summary = summary(rt.alloc(), script.as_bytes())?;
+        let summary = summary(alloc, script.as_bytes())?;
         assert_eq!(rt; summary.as_slice(), said.as_bytes(), "{script}");
     }
     Ok(())
 }
 
-#[test]
-fn refuses_what_is_not_yet(rt: HostRuntime) -> Result<(), Fail> {
-    let cases = [
-        // lines that are none
-        b"what\n".as_slice(),
-        b"Settle\n",
-        b"settle now\n",
-        b"producer\n",
-        b"producer a b\n",
-        b"producer a.b\n",
-        b"producer \xc3\xbc\n",
-        b"port Ethernet0\n",
-        b"port Ethernet0 0 1\n",
-        b"settle\nshow\n",
-        b"settle\nshow tables\n",
-        b"settle\nshow chip now\n",
-        b"producer a\nset\n",
-        b"producer a\nset PORT_TABLE:Ethernet0 a\n",
-        b"producer a\nset PORT_TABLE:Ethernet0 =1\n",
-        b"producer a\nset PORT_TABLE:Ethernet0 a=1 # b=2\n",
-        b"producer a\ndel PORT_TABLE:Ethernet0\n",
-        b"chip ROUTE 10\n",
-        // keys of other tables, and texts that are no keys
-        b"producer a\nset Ethernet0 a=1\n",
-        b"producer a\nset PORT_TABLE:PortConfigDone count=4\n",
-        b"producer a\nset INTF_TABLE:Vlan100 a=1\n",
-        b"producer a\nset INTF_TABLE:Loopback0 a=1\n",
-        b"producer a\nset INTF_TABLE:Ethernet0:10.0.0.0/31 a=1\n",
-        b"producer a\nset VLAN_TABLE:Vlan100 a=1\n",
-        // a plan that is refused
-        b"port Ethernet0 0\nport Ethernet0 1\n",
-        b"port Ethernet0 0\nport Ethernet4 0\n",
-        b"port eth0 0\n",
-        b"port Ethernet0 512\n",
-        // lines out of their places
-        b"set PORT_TABLE:Ethernet0 a=1\n",
-        b"show chip\n",
-        b"producer a\nport Ethernet0 0\n",
-        b"producer a\nproducer a\n",
-        b"producer a\nshow chip\n",
-        b"settle\nsettle\n",
-        b"settle\nproducer a\n",
-        b"settle\nport Ethernet0 0\n",
-        b"settle\nset PORT_TABLE:Ethernet0 a=1\n",
-        b"settle\nshow chip\nsettle\n",
-        // bytes that are no text
-        b"\xff",
-        b"# \xc3\n",
-        b"\xef\xbb\xbfsettle\n",
-    ];
-    for (number, script) in cases.iter().enumerate() {
-        let summary = summary(rt.alloc(), *script)?;
-        assert_eq!(rt; summary.as_slice(), b"0 not-yet".as_slice(), "{number}");
-    }
-    Ok(())
-}
+const EVERY_FORM: &[u8] = b"# the ports\r
+port Ethernet4 7,6,5,4\r
+\tport  Ethernet0\t0 \r
+\r
+producer config
+set PORT_TABLE:Ethernet0 lanes=0 a=1 lanes=0,1 x#=#y
+  # a comment
+set INTF_TABLE:Ethernet0
+del PORT_TABLE:Ethernet4
+producer b-g_P2
+json [{\"OP\":\"SET\",\"PORT_TABLE:Ethernet4\":{\"b\":\"2\",\"a\":\"1\",\"b\":\"3\"}}, {\"INTF_TABLE:Ethernet4\":{\"\":\"\"},\"OP\":\"DEL\"}]
+producer config
+json
+[ {\"A:b\": {}, \"OP\": \"SET\"},
+  {\"OP\":\"DEL\",\"OP\":\"SET\",\"INTF_TABLE:Ethernet0\":{\"\":\"x\"}} ]
+ end\t
+set :
+settle
+show chip
+show tables
+# between
+show ignored
+settle
+producer last
+";
 
-/// A text of so many bytes.
-fn of_bytes(alloc: Global, count: usize, byte: u8) -> Result<Vec<u8>, OutOfMemory> {
-    Ok(vec![in alloc; byte; count]?)
-}
+const EVERY_MEANING: &[u8] = b"port Ethernet0 0
+port Ethernet4 4,5,6,7
+name config 
+name b-g_P2 
+name last 
+round 
+section 1
+set PORT_TABLE:Ethernet0
+  a = 1 
+  lanes = 0,1 
+  x# = #y 
+set INTF_TABLE:Ethernet0
+  NULL = NULL 
+del PORT_TABLE:Ethernet4
+section 2
+set PORT_TABLE:Ethernet4
+  a = 1 
+  b = 3 
+del INTF_TABLE:Ethernet4
+section 1
+set A:b
+  NULL = NULL 
+set INTF_TABLE:Ethernet0
+   = x 
+set :
+  NULL = NULL 
+show chip 
+show tables 
+show ignored 
+round 
+round 
+section 3
+";
 
 #[test]
-fn keeps_the_limits(rt: HostRuntime) -> Result<(), Fail> {
-    let alloc = rt.alloc();
-    let cases = [
-        // lines: each newline ends one
-        (1_000_000, b'\n', b"".as_slice(), b"shows 0".as_slice()),
-        (1_000_001, b'\n', b"", b"0 not-yet"),
-        (999_999, b'\n', b"#", b"shows 0"),
-        (1_000_000, b'\n', b"#", b"0 not-yet"),
-        // bytes of a line without its end
-        (65_536, b'\t', b"\r\n", b"shows 0"),
-        (65_536, b'\t', b"", b"shows 0"),
-        (65_537, b'\t', b"", b"0 not-yet"),
-        (65_536, b'#', b"\r\r\n", b"0 not-yet"),
-    ];
-    for (count, byte, end, said) in cases {
-        let mut script = of_bytes(alloc, count, byte)?;
-        script.extend_from_slice(end)?;
-        let summary = summary(alloc, &script)?;
-        assert_eq!(rt; summary.as_slice(), said, "{count}");
-    }
-    Ok(())
-}
-
-#[test]
-fn keeps_the_limit_of_bytes(rt: HostRuntime) -> Result<(), Fail> {
-    let alloc = rt.alloc();
-    let mut script = of_bytes(alloc, 67_108_864, b'\xff')?;
-    let at_most = summary(alloc, &script)?;
-    assert_eq!(rt; at_most.as_slice(), b"0 not-yet".as_slice());
-    script.push(b'\n')?;
-    let too_long = summary(alloc, &script)?;
-    assert_eq!(rt; too_long.as_slice(), b"0 too-long".as_slice());
-    Ok(())
-}
-
-#[test]
-fn reads_a_long_script(rt: HostRuntime) -> Result<(), Fail> {
-    let alloc = rt.alloc();
-    let mut text = Vec::new(alloc);
-    text.extend_from_slice(b"producer a\n")?;
-    for _ in 0..200_000u64 {
-        text.extend_from_slice(b"set PORT_TABLE:Ethernet0 a=1\n")?;
-    }
-    match read_script(alloc, &text)? {
-        Ok(script) => assert_eq!(rt; script.writes.len(), 200_000),
+fn reads_every_form(rt: HostRuntime) -> Result<(), Fail> {
+    let said = summary(rt.alloc(), EVERY_FORM)?;
+    assert_eq!(rt; said.as_slice(), EVERY_MEANING);
+    match Script::read(rt.alloc(), EVERY_FORM)? {
+        Ok(script) => {
+            assert_eq!(rt; script.caps, DEFAULT_CAPS);
+            assert_eq!(rt; script.fails.items().len(), 0);
+            assert_eq!(rt; script.image.len(), 0);
+        }
         Err(_) => assert!(rt; false),
     }
+    Ok(())
+}
+
+#[test]
+fn settles_are_added(rt: HostRuntime) -> Result<(), Fail> {
+    expect(
+        &rt,
+        rt.alloc(),
+        &[
+            ("", "round \n"),
+            ("\n\r\n \t \n#\n \t# set\n", "round \n"),
+            ("producer a", "name a \nround \nsection 1\n"),
+            ("port Ethernet0 0\n", "port Ethernet0 0\nround \n"),
+            ("settle", "round \n"),
+            ("settle\nsettle\nshow chip", "round \nround \nshow chip \n"),
+            // two sections of one producer, one behind the other and in another round
+            (
+                "producer a\nproducer a\ndel a:\nsettle\nproducer b\nproducer a\ndel :b\ndel :c",
+                "name a \nname b \nround \nsection 1\nsection 1\ndel a:\nround \nsection 2\nsection 1\ndel :b\ndel :c\n",
+            ),
+            // a producer behind the last settle
+            (
+                "settle\nshow chip\nproducer a\ndel a:\n",
+                "name a \nround \nshow chip \nround \nsection 1\ndel a:\n",
+            ),
+        ],
+    )
+}
+
+#[test]
+fn reads_ends_and_blanks(rt: HostRuntime) -> Result<(), Fail> {
+    expect(
+        &rt,
+        rt.alloc(),
+        &[
+            ("settle\r\n", "round \n"),
+            ("settle\r\r\n", "1 bad-word"),
+            // in a last line without a newline a carriage return is a part of the last word
+            ("settle\r", "1 bad-word"),
+            (
+                "producer a\ndel a:\r",
+                "name a \nround \nsection 1\ndel a:\r\n",
+            ),
+            (
+                "producer a\r\n\tdel\t \ta:  \r\n",
+                "name a \nround \nsection 1\ndel a:\n",
+            ),
+            ("\r", "1 bad-word"),
+            ("\r\n", "round \n"),
+            ("\x0csettle", "1 bad-word"),
+            ("\u{a0}settle", "1 bad-word"),
+            ("\u{feff}settle\n", "1 bad-word"),
+            (
+                "producer a\nset a: ü=ß",
+                "name a \nround \nsection 1\nset a:\n  ü = ß \n",
+            ),
+            // a field ends at its first `=`, and a value may be empty
+            (
+                "producer a\nset a: b==c d=",
+                "name a \nround \nsection 1\nset a:\n  b = =c \n  d =  \n",
+            ),
+        ],
+    )
+}
+
+#[test]
+fn refuses_heads(rt: HostRuntime) -> Result<(), Fail> {
+    expect(
+        &rt,
+        rt.alloc(),
+        &[
+            ("port Ethernet0", "1 bad-head"),
+            ("\nport Ethernet0 0 1\n", "2 bad-head"),
+            ("port", "1 bad-head"),
+            ("producer a\nport Ethernet0 0\n", "2 bad-head"),
+            ("settle\nport Ethernet0 0\n", "2 bad-head"),
+            ("settle\nport\n", "2 bad-head"),
+            ("chip ROUTE", "1 bad-head"),
+            ("chip ROUTE 1000001", "1 bad-head"),
+            ("chip ROUTE 01", "1 bad-head"),
+            ("chip ROUTE 1 1", "1 bad-head"),
+            ("chip route 1", "1 bad-head"),
+            ("chip ROUTES 1", "1 bad-head"),
+            ("producer a\nchip ROUTE 1", "2 bad-head"),
+            ("fail 0 before", "1 bad-head"),
+            ("fail 1000000001 after", "1 bad-head"),
+            ("fail 1 during", "1 bad-head"),
+            ("fail 1", "1 bad-head"),
+            ("settle\nfail 1 before", "2 bad-head"),
+            ("image", "1 bad-head"),
+            ("producer a\nimage {}", "2 bad-head"),
+            ("port eth0 0", "1 bad-plan"),
+            ("port Ethernet0 512", "1 bad-plan"),
+            ("port Ethernet0 0\n\nport Ethernet0 1\n", "3 bad-plan"),
+            ("port Ethernet0 0\nport Ethernet4 1,0\n", "2 bad-plan"),
+            (
+                "port Ethernet0 0\nport Ethernet4 1\n",
+                "port Ethernet0 0\nport Ethernet4 1\nround \n",
+            ),
+        ],
+    )
+}
+
+#[test]
+fn refuses_words(rt: HostRuntime) -> Result<(), Fail> {
+    expect(
+        &rt,
+        rt.alloc(),
+        &[
+            ("what", "1 bad-word"),
+            ("settle\nSettle", "2 bad-word"),
+            ("settle now", "1 bad-word"),
+            ("restart now", "1 bad-word"),
+            ("restart", "1 bad-word"),
+            ("settle\nrestart", "2 bad-word"),
+            ("end", "1 bad-word"),
+            ("producer", "1 bad-word"),
+            ("producer a b", "1 bad-word"),
+            ("producer a.b", "1 bad-word"),
+            ("producer ü", "1 bad-word"),
+            ("producer a#b", "1 bad-word"),
+            ("producer a\nset", "2 bad-word"),
+            ("producer a\nset a", "2 bad-word"),
+            ("producer a\nset a: b", "2 bad-word"),
+            ("producer a\nset a: =b", "2 bad-word"),
+            ("producer a\nset a: b=c # d", "2 bad-word"),
+            ("producer a\ndel", "2 bad-word"),
+            ("producer a\ndel a", "2 bad-word"),
+            ("producer a\ndel a: b", "2 bad-word"),
+            ("producer a\njson[]", "2 bad-word"),
+            ("settle\nshow", "2 bad-word"),
+            ("settle\nshow chips", "2 bad-word"),
+            ("settle\nshow chip chip", "2 bad-word"),
+            ("settle\nshow forward", "2 bad-word"),
+            ("settle\nshow forward 1.2.3", "2 bad-word"),
+            ("settle\nshow forward 1.2.3.4 5", "2 bad-word"),
+            ("settle\nshow back 1.2.3.4", "2 bad-word"),
+            // lines out of their places
+            ("set a: b=c", "1 bad-word"),
+            ("del a:", "1 bad-word"),
+            ("settle\nset a: b=c", "2 bad-word"),
+            ("settle\ndel VLAN_TABLE:Vlan1", "2 bad-word"),
+            ("json [{\"a:\":{},\"OP\":\"SET\"}]", "1 bad-word"),
+            ("settle\njson\n[]\nend\n", "2 bad-word"),
+            ("show chip", "1 bad-word"),
+            ("producer a\nshow chip", "2 bad-word"),
+            ("producer a\nshow warm", "2 bad-word"),
+            // the first faulty line
+        ],
+    )
+}
+
+#[test]
+fn refuses_bytes_that_are_no_text(rt: HostRuntime) -> Result<(), Fail> {
+    let cases = [
+        (b"what\n\xff".as_slice(), b"1 bad-word".as_slice()),
+        (b"\xff\nwhat", b"1 not-utf8"),
+        (b"settle\n# \xc3\n", b"2 not-utf8"),
+        (b"# \xc3\xbc\n\xbc\n", b"2 not-utf8"),
+        (b"producer a\nset a: b=\xc3\xbc\xc3\n", b"2 not-utf8"),
+        (b"producer a\nport \xff", b"2 not-utf8"),
+        // in a block they are no JSON
+        (b"producer a\njson\n[]\n\xff\nend\n", b"2 bad-json"),
+        (b"producer a\njson\n[\"\xc3\"]\nend\n", b"2 bad-json"),
+    ];
+    for (number, (script, said)) in cases.iter().enumerate() {
+        let summary = summary(rt.alloc(), *script)?;
+        assert_eq!(rt; summary.as_slice(), *said, "case {number}");
+    }
+    Ok(())
+}
+
+#[test]
+fn counts_producers_by_their_names(rt: HostRuntime) -> Result<(), Fail> {
+    expect(
+        &rt,
+        rt.alloc(),
+        &[
+            (
+                "producer a\nproducer b\nproducer c\nproducer d\nproducer a\nproducer D\n",
+                "6 too-many-producers",
+            ),
+            (
+                "producer a\nsettle\nproducer b\nproducer c\nsettle\nproducer d\nproducer e",
+                "7 too-many-producers",
+            ),
+            (
+                "producer d\nproducer c\nproducer b\nproducer a\nproducer b",
+                "name d \nname c \nname b \nname a \nround \nsection 1\nsection 2\nsection 3\nsection 4\nsection 3\n",
+            ),
+        ],
+    )
+}
+
+#[test]
+fn refuses_batches(rt: HostRuntime) -> Result<(), Fail> {
+    let alloc = rt.alloc();
+    let batches = [
+        // no JSON, or text behind it
+        b"[".as_slice(),
+        b"[]]",
+        b"[] #",
+        b"[],",
+        b"[{\"VLAN_TABLE:Vlan10\":{\"a\":\"1\"},\"OP\":\"S",
+        // no list of objects of two members
+        b"{}",
+        b"null",
+        b"[[]]",
+        b"[{}]",
+        b"[{\"OP\":\"SET\"}]",
+        b"[{\"a:\":{}}]",
+        b"[{\"a:\":{},\"b:\":{}}]",
+        b"[{\"a:\":{},\"OP\":\"SET\",\"b\":1}]",
+        b"[{\"a\":{},\"OP\":\"SET\"}]",
+        // no operation, or no fields
+        b"[{\"a:\":{},\"OP\":\"set\"}]",
+        b"[{\"a:\":{},\"OP\":1}]",
+        b"[{\"a:\":{},\"op\":\"SET\"}]",
+        b"[{\"a:\":[],\"OP\":\"SET\"}]",
+        b"[{\"a:\":{\"b\":1},\"OP\":\"SET\"}]",
+        b"[{\"a:\":{\"b\":null},\"OP\":\"DEL\"}]",
+        b"[{\"a:\":{},\"OP\":\"SET\"},1]",
+    ];
+    for (number, batch) in batches.iter().enumerate() {
+        let mut line = Vec::from_slice(alloc, b"producer a\njson ")?;
+        line.extend_from_slice(*batch)?;
+        let said = summary(alloc, &line)?;
+        assert_eq!(rt; said.as_slice(), b"2 bad-json".as_slice(), "line {number}");
+        let mut block = Vec::from_slice(alloc, b"producer a\n\njson\n")?;
+        block.extend_from_slice(*batch)?;
+        block.extend_from_slice(b"\nend\nwhat\n")?;
+        let said = summary(alloc, &block)?;
+        assert_eq!(rt; said.as_slice(), b"3 bad-json".as_slice(), "block {number}");
+    }
+    Ok(())
+}
+
+/// A batch of nothing within so many brackets, in a section.
+fn nested(alloc: Global, depth: usize) -> Result<Vec<u8>, OutOfMemory> {
+    let mut script = Vec::from_slice(alloc, b"producer a\njson ")?;
+    for _ in 0..depth {
+        script.push(b'[')?;
+    }
+    for _ in 0..depth {
+        script.push(b']')?;
+    }
+    Ok(script)
+}
+
+#[test]
+fn reads_blocks(rt: HostRuntime) -> Result<(), Fail> {
+    expect(
+        &rt,
+        rt.alloc(),
+        &[
+            ("producer a\njson\n[]\nend", "name a \nround \nsection 1\n"),
+            (
+                "producer a\n json \t\r\n\r\n\n[\n]\r\n \tend\t \r\ndel a:",
+                "name a \nround \nsection 1\ndel a:\n",
+            ),
+            // what is inside is JSON, comments and empty lines too
+            ("producer a\njson\n# none\n[]\nend", "2 bad-json"),
+            ("producer a\njson\nend", "2 bad-json"),
+            ("producer a\njson\n[]\nend end\nend\n", "2 bad-json"),
+            ("producer a\njson\n[]\n#end\nend\n", "2 bad-json"),
+            // an end that is missing
+            ("producer a\njson\n[]\n", "2 bad-json"),
+            ("producer a\njson", "2 bad-json"),
+            ("producer a\njson\n[]\nend\r", "2 bad-json"),
+            ("what\njson", "1 bad-word"),
+            // a string may not go over lines
+            (
+                "producer a\njson\n[{\"OP\":\"DEL\",\"a:\n\":{}}]\nend",
+                "2 bad-json",
+            ),
+            // only the batch that is not in its place is a wrong word
+            ("json\n[]\nend", "1 bad-word"),
+            ("json\n[\nend", "1 bad-json"),
+            ("settle\njson [", "2 bad-json"),
+            // what follows
+            ("producer a\njson\n[]\nend\nend\n", "5 bad-word"),
+        ],
+    )?;
+    let alloc = rt.alloc();
+    let deep = summary(alloc, &nested(alloc, 2)?)?;
+    assert_eq!(rt; deep.as_slice(), b"2 bad-json".as_slice());
+    let deeper = summary(alloc, &nested(alloc, 100_000)?)?;
+    assert_eq!(rt; deeper.as_slice(), b"2 bad-json".as_slice());
+    Ok(())
+}
+
+#[test]
+fn refuses_what_is_not_yet(rt: HostRuntime) -> Result<(), Fail> {
+    expect(
+        &rt,
+        rt.alloc(),
+        &[
+            ("chip ROUTE 1000000", "1 not-yet"),
+            ("port Ethernet0 0\nchip PORT 0", "2 not-yet"),
+            ("fail 1 before", "1 not-yet"),
+            ("fail 1000000000 after", "1 not-yet"),
+            ("image {}", "1 not-yet"),
+            ("\nimage what", "2 not-yet"),
+            ("producer a\nrestart", "2 not-yet"),
+            ("settle\nshow waiting", "2 not-yet"),
+            ("settle\nshow warm", "2 not-yet"),
+            ("settle\nshow ready", "2 not-yet"),
+            ("settle\nshow calls", "2 not-yet"),
+            ("settle\nshow counts", "2 not-yet"),
+            ("settle\nshow image", "2 not-yet"),
+            ("settle\nshow forward 1.2.3.4", "2 not-yet"),
+            ("settle\nshow forward ::", "2 not-yet"),
+            ("producer a\nset VLAN_TABLE:Vlan10 a=1", "2 not-yet"),
+            ("producer a\ndel VLAN_TABLE:Vlan10", "2 not-yet"),
+            (
+                "producer a\ndel VLAN_MEMBER_TABLE:Vlan10:Ethernet0",
+                "2 not-yet",
+            ),
+            ("producer a\ndel INTF_TABLE:Vlan10", "2 not-yet"),
+            ("producer a\ndel INTF_TABLE:Loopback0", "2 not-yet"),
+            (
+                "producer a\ndel INTF_TABLE:Ethernet0:10.0.0.1/24",
+                "2 not-yet",
+            ),
+            (
+                "producer a\ndel NEIGH_TABLE:Ethernet0:10.0.0.1",
+                "2 not-yet",
+            ),
+            ("producer a\ndel ROUTE_TABLE:10.0.0.0/8", "2 not-yet"),
+            (
+                "producer a\njson [{\"ROUTE_TABLE:::/0\":{},\"OP\":\"SET\"}]",
+                "2 not-yet",
+            ),
+            (
+                "producer a\njson\n[{\"a:\":{},\"OP\":\"SET\"},{\"VLAN_TABLE:Vlan1\":{},\"OP\":\"DEL\"}]\nend\nwhat",
+                "2 not-yet",
+            ),
+            // it is tried last
+            ("set VLAN_TABLE:Vlan10 a=1", "1 bad-word"),
+            ("producer a\nset VLAN_TABLE:Vlan10 a", "2 bad-word"),
+            (
+                "producer a\nset VLAN_TABLE:Vlan4095 a=1",
+                "name a \nround \nsection 1\nset VLAN_TABLE:Vlan4095\n  a = 1 \n",
+            ),
+            (
+                "producer a\njson [{\"VLAN_TABLE:Vlan10\":{\"a\":1},\"OP\":\"SET\"}]",
+                "2 bad-json",
+            ),
+        ],
+    )
+}
+
+#[test]
+fn heads_stand_once(rt: HostRuntime) -> Result<(), Fail> {
+    let alloc = rt.alloc();
+    let mut draft = Draft::new(alloc)?;
+    let first = draft.add_to_head(Some(HeadLine::Chip(Kind::Route, 7)))?;
+    assert_eq!(rt; first, Ok(()));
+    let other = draft.add_to_head(Some(HeadLine::Chip(Kind::Port, 0)))?;
+    assert_eq!(rt; other, Ok(()));
+    let again = draft.add_to_head(Some(HeadLine::Chip(Kind::Route, 8)))?;
+    assert_eq!(rt; again, Err(Why::HeadTwice));
+    for (at, after, answer) in [
+        (3, false, Ok(())),
+        (5, true, Ok(())),
+        (3, true, Err(Why::HeadTwice)),
+        (5, true, Err(Why::HeadTwice)),
+        (4, true, Ok(())),
+    ] {
+        let fail = draft.add_to_head(Some(HeadLine::Fail(Fail2 { at, after })))?;
+        assert_eq!(rt; fail, answer);
+    }
+    let script = draft.finish(alloc)?;
+    assert_eq!(rt;
+        script.caps.0,
+        [0, 4094, 256, 16384, 1024, 2048, 16384, 16384, 512, 16384, 7]
+    );
+    let fails = [
+        Fail2 {
+            at: 3,
+            after: false,
+        },
+        Fail2 { at: 5, after: true },
+        Fail2 { at: 4, after: true },
+    ];
+    assert_eq!(rt; script.fails.items(), fails.as_slice());
     Ok(())
 }

@@ -1,7 +1,7 @@
 // Words of a line.
 ghost use Rattle.std.specs.Prelude.{◌≡◌, ◌<◌, not, length, option_map};
 ghost use Rattle.std.specs.List.{position};
-ghost use Rattle.swss_script.specs.Words.{is_blank, IsNextWord};
+ghost use Rattle.swss_script.specs.Words.{is_blank, IsNextWord, the_word, two_words, words_in};
 
 /// The first word of a text and the text behind it, or None where there is no word. Spaces and tabs separate words.
 pub fn next_word(text: &str) -> Option<(&str, &str)>
@@ -13,6 +13,26 @@ pub fn next_word(text: &str) -> Option<(&str, &str)>
         Some(end) => Some((&text[..end], &text[end..])),
         None => Some((text, "")),
     }
+}
+
+/// The one word of a text, or None where it has none or more.
+pub fn one_word(text: &str) -> Option<&str>
+    ensures { option_map (λ word. word.now) result ≡ the_word (words_in text.now) }
+{
+    let (word, behind) = next_word(text)?;
+    match next_word(behind) {
+        Some(_) => None,
+        None => Some(word),
+    }
+}
+
+/// The two words of a text, or None where it has fewer or more.
+pub fn two_words(text: &str) -> Option<(&str, &str)>
+    ensures { option_map (λ words. (words.0.now, words.1.now)) result ≡ two_words (words_in text.now) }
+{
+    let (first, behind) = next_word(text)?;
+    let second = one_word(behind)?;
+    Some((first, second))
 }
 
 /// The place of the first byte of a word.

@@ -1,13 +1,11 @@
-use Rattle.std.proofs.Common.{◌≡◌, ◌≤◌, [], Ok, length, drop}
-use Rattle.std.specs.Str.Lines.{lines}
-use Rattle.swss_script.specs.Places.{in_place}
-use Rattle.swss_script.specs.Script.{head_of, said, told}
+use Rattle.std.proofs.Common.{◌≡◌, ◌≤◌, length, Ok}
+use Rattle.swss_script.specs.Lines.{lines_in}
+use Rattle.swss_script.specs.Script.{begun, script_from}
 use Rattle.swss_script.proofs.script.read_lines.Given as goal
 
--- what was said so far, with what the lines that are left say in their place, is what all lines say
+-- the draft so far, with the lines that are left, comes to what all lines come to
 abbrev pub invariant-loop-line : goal.invariant-loop-line
-invariant-loop-line l =
-    (goal.iterator-loop-line).can_next l.line-iterator
-    × (goal.iterator-loop-line).is_finite l.line-iterator
-    × (l.script.shows ≤ length l.yielded)
-    × (in_place l.place (said l.script) (told (drop (length l.yielded) (lines l.fn.text))) ≡ head_of (Ok []) (told (lines l.fn.text)))
+invariant-loop-line l = (l.number ≤ 1000000) × (length l.draft.script.producers ≤ 4) × (script_from (Ok l.draft) l.number (lines_in l.left) ≡ script_from (Ok begun) 0 (lines_in l.fn.bytes))
+
+abbrev pub decreases-loop-line : goal.decreases-loop-line
+decreases-loop-line l = length l.left

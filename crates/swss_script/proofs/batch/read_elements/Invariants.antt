@@ -1,0 +1,8 @@
+use Rattle.std.proofs.Common.{◌≡◌, ◌++◌, drop, option_map}
+use Rattle.serde_json.specs.View.{items_view}
+use Rattle.swss_script.specs.Batch.{writes_in}
+use Rattle.swss_script.proofs.batch.read_elements.Given as goal
+
+-- the writes so far, with those of the elements that are left, are those of all elements
+abbrev pub invariant-loop-element : goal.invariant-loop-element
+invariant-loop-element l = option_map (λ more. l.writes ++ more) (writes_in (items_view (drop l.element-index l.elements))) ≡ writes_in (items_view l.elements)

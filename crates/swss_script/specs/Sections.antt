@@ -1,0 +1,89 @@
+-- The writes of a script, and those of its lines, each with its round and the name of its producer. Own.
+use Rattle.std.specs.Prelude.{ℕ, ◌+◌, ◌-◌, ◌==◌, Bool, false, not, ◌&&◌, List, [], ◌∷◌, ◌++◌, map, filter, slice_index_or, Some, option_and_then, bytes_eq, if◌then◌else◌}
+use Rattle.table_schema.specs.declared.write.Write.{Write}
+use Rattle.swss_script.specs.Batch.{batch_of}
+use Rattle.swss_script.specs.Line.{is_block, line_of}
+use Rattle.swss_script.specs.Lines.{block_of, is_end, line_text, lines_in}
+use Rattle.swss_script.specs.declared.line.Line.{Line}
+use Rattle.swss_script.specs.declared.line.Line.TheVariants.{Producer, Put, Batch, Settle}
+use Rattle.swss_script.specs.declared.parts.Act.{Act}
+use Rattle.swss_script.specs.declared.parts.Act.TheVariants as act
+use Rattle.swss_script.specs.declared.parts.Round.{Round}
+use Rattle.swss_script.specs.declared.parts.Section.{Section}
+use Rattle.swss_script.specs.declared.script.Script.{Script}
+
+-- a write of a round, counted from 1, by the producer of this name
+pub record Placed : Type 0 where
+  pub round : ℕ
+  pub producer : List ℕ
+  pub write : Write
+
+abbrev pub placed : ℕ → List ℕ → Write → Placed
+placed round name write = record { round = round; producer = name; write = write }
+
+-- ---- the writes of a script
+
+abbrev pub acts_writes : ℕ → List ℕ → List Act → List Placed
+acts_writes round name [] = []
+acts_writes round name (act.Write write ∷ acts) = placed round name write ∷ acts_writes round name acts
+acts_writes round name (act.Restart ∷ acts) = acts_writes round name acts
+
+-- the name of the producer with this number
+abbrev pub name_of : List (List ℕ) → ℕ → List ℕ
+name_of names number = slice_index_or names (number - 1) []
+
+abbrev pub sections_writes : List (List ℕ) → ℕ → List Section → List Placed
+sections_writes names round [] = []
+sections_writes names round (section ∷ sections) = acts_writes round (name_of names section.producer) section.acts ++ sections_writes names round sections
+
+abbrev pub rounds_writes : List (List ℕ) → ℕ → List Round → List Placed
+rounds_writes names number [] = []
+rounds_writes names number (round ∷ rounds) = sections_writes names number round.sections ++ rounds_writes names (number + 1) rounds
+
+-- the writes of a script, in order
+abbrev pub script_writes : Script → List Placed
+script_writes script = rounds_writes script.producers 1 script.rounds
+
+-- ---- the writes of lines
+
+-- a line, where that which begins a block is the batch of the block's lines
+abbrev pub whole_line : Line → List (List ℕ) → Line
+whole_line line lines = if is_block line then Batch (option_and_then batch_of (block_of lines)) else line
+
+-- what the lines say, one after the other: the lines of a block are a part of its first
+abbrev pub told : Bool → List (List ℕ) → List Line
+told block [] = []
+told block (line ∷ lines) =
+    if block then told (not (is_end (line_text line))) lines
+    else whole_line (line_of (line_text line)) lines ∷ told (is_block (line_of (line_text line))) lines
+
+abbrev pub line_writes : ℕ → List ℕ → Line → List Placed
+line_writes round name (Put write) = placed round name write ∷ []
+line_writes round name (Batch (Some writes)) = map (placed round name) writes
+line_writes round name line = []
+
+-- the round behind a line
+abbrev pub round_behind : ℕ → Line → ℕ
+round_behind round Settle = round + 1
+round_behind round line = round
+
+-- the producer of the section behind a line: behind a settle there is none
+abbrev pub name_behind : List ℕ → Line → List ℕ
+name_behind name (Producer other) = other
+name_behind name Settle = []
+name_behind name line = name
+
+-- the writes of lines that begin in this round, in a section of this producer
+abbrev pub lines_writes : ℕ → List ℕ → List Line → List Placed
+lines_writes round name [] = []
+lines_writes round name (line ∷ lines) = line_writes round name line ++ lines_writes (round_behind round line) (name_behind name line) lines
+
+-- the writes of the lines of a text, in order
+abbrev pub text_writes : List ℕ → List Placed
+text_writes bytes = lines_writes 1 [] (told false (lines_in bytes))
+
+-- ---- a producer in a round
+
+-- the writes of a producer in a round
+abbrev pub writes_of : ℕ → List ℕ → List Placed → List Write
+writes_of round name writes = map (λ p. p.write) (filter (λ p. p.round == round && bytes_eq p.producer name) writes)

@@ -1,0 +1,270 @@
+// The lists of a script.
+ghost use Rattle.std.specs.Prelude.{◌≡◌, [], ◌∷◌, ◌++◌, OnOk, OnErr, map};
+ghost use Rattle.swss_script.specs.declared.parts.Act.TheVariants as act;
+
+use crate::{Act, Round, Section, Show};
+use std::alloc::Global;
+use std::marker::Model;
+use swss_types::{OutOfMemory, Text};
+use table_schema::Write;
+
+/// The names of the producers, in order of first appearance.
+#[derive(Debug, Drop)]
+pub struct Producers {
+    names: Vec<Text>,
+}
+
+impl Model for Producers {
+    ghost use Rattle.std.specs.Prelude.{List, ℕ};
+
+    ghost Value = { List (List ℕ) };
+
+    ghost view = { λ l. l.names.items };
+}
+
+impl Producers {
+    /// No name.
+    pub fn new(alloc: Global) -> Producers
+        ensures { result ≡ [] }
+    {
+        Producers {
+            names: Vec::new(alloc),
+        }
+    }
+
+    /// Puts a name last.
+    pub fn push(&mut self, name: Text) -> Result<(), OutOfMemory>
+        ensures ok { OnOk result (self.new ≡ self.old ++ name ∷ []) }
+        ensures err { OnErr result (self.new ≡ self.old) }
+    {
+        self.names.push(name)?;
+        Ok(())
+    }
+
+    /// The names.
+    pub fn items(&self) -> &[Text]
+        ensures { result.now ≡ self.now }
+    {
+        self.names.as_slice()
+    }
+}
+
+/// Rounds, in order.
+#[derive(Debug, Drop)]
+pub struct RoundList {
+    rounds: Vec<Round>,
+}
+
+impl Model for RoundList {
+    ghost use Rattle.std.specs.Prelude.{List};
+    ghost use Rattle.swss_script.specs.declared.parts.Round.{Round};
+
+    ghost Value = { List Round };
+
+    ghost view = { λ l. l.rounds.items };
+}
+
+impl RoundList {
+    /// No round.
+    pub fn new(alloc: Global) -> RoundList
+        ensures { result ≡ [] }
+    {
+        RoundList {
+            rounds: Vec::new(alloc),
+        }
+    }
+
+    /// Puts a round last.
+    pub fn push(&mut self, round: Round) -> Result<(), OutOfMemory>
+        ensures ok { OnOk result (self.new ≡ self.old ++ round ∷ []) }
+        ensures err { OnErr result (self.new ≡ self.old) }
+    {
+        self.rounds.push(round)?;
+        Ok(())
+    }
+
+    /// The rounds.
+    pub fn items(&self) -> &[Round]
+        ensures { result.now ≡ self.now }
+    {
+        self.rounds.as_slice()
+    }
+}
+
+/// The sections of a round, in order.
+#[derive(Debug, Drop)]
+pub struct Sections {
+    sections: Vec<Section>,
+}
+
+impl Model for Sections {
+    ghost use Rattle.std.specs.Prelude.{List};
+    ghost use Rattle.swss_script.specs.declared.parts.Section.{Section};
+
+    ghost Value = { List Section };
+
+    ghost view = { λ l. l.sections.items };
+}
+
+impl Sections {
+    /// No section.
+    pub fn new(alloc: Global) -> Sections
+        ensures { result ≡ [] }
+    {
+        Sections {
+            sections: Vec::new(alloc),
+        }
+    }
+
+    /// Puts a section last.
+    pub fn push(&mut self, section: Section) -> Result<(), OutOfMemory>
+        ensures ok { OnOk result (self.new ≡ self.old ++ section ∷ []) }
+        ensures err { OnErr result (self.new ≡ self.old) }
+    {
+        self.sections.push(section)?;
+        Ok(())
+    }
+
+    /// The sections.
+    pub fn items(&self) -> &[Section]
+        ensures { result.now ≡ self.now }
+    {
+        self.sections.as_slice()
+    }
+}
+
+/// What is shown behind a round, in order.
+#[derive(Debug, Drop)]
+pub struct Shows {
+    shows: Vec<Show>,
+}
+
+impl Model for Shows {
+    ghost use Rattle.std.specs.Prelude.{List};
+    ghost use Rattle.swss_script.specs.declared.parts.Show.{Show};
+
+    ghost Value = { List Show };
+
+    ghost view = { λ l. l.shows.items };
+}
+
+impl Shows {
+    /// No show.
+    pub fn new(alloc: Global) -> Shows
+        ensures { result ≡ [] }
+    {
+        Shows {
+            shows: Vec::new(alloc),
+        }
+    }
+
+    /// Puts a show last.
+    pub fn push(&mut self, show: Show) -> Result<(), OutOfMemory>
+        ensures ok { OnOk result (self.new ≡ self.old ++ show ∷ []) }
+        ensures err { OnErr result (self.new ≡ self.old) }
+    {
+        self.shows.push(show)?;
+        Ok(())
+    }
+
+    /// The shows.
+    pub fn items(&self) -> &[Show]
+        ensures { result.now ≡ self.now }
+    {
+        self.shows.as_slice()
+    }
+}
+
+/// What a producer does in a section, in order.
+#[derive(Debug, Drop)]
+pub struct Acts {
+    acts: Vec<Act>,
+}
+
+impl Model for Acts {
+    ghost use Rattle.std.specs.Prelude.{List};
+    ghost use Rattle.swss_script.specs.declared.parts.Act.{Act};
+
+    ghost Value = { List Act };
+
+    ghost view = { λ l. l.acts.items };
+}
+
+impl Acts {
+    /// No act.
+    pub fn new(alloc: Global) -> Acts
+        ensures { result ≡ [] }
+    {
+        Acts {
+            acts: Vec::new(alloc),
+        }
+    }
+
+    /// Puts an act last.
+    pub fn push(&mut self, act: Act) -> Result<(), OutOfMemory>
+        ensures ok { OnOk result (self.new ≡ self.old ++ act ∷ []) }
+        ensures err { OnErr result (self.new ≡ self.old) }
+    {
+        self.acts.push(act)?;
+        Ok(())
+    }
+
+    /// Puts writes last, in their order.
+    pub fn push_writes(&mut self, writes: Writes) -> Result<(), OutOfMemory>
+        ensures { OnOk result (self.new ≡ self.old ++ map act.Write writes) }
+    {
+        for write in writes.writes {
+            self.acts.push(Act::Write(write))?;
+        }
+        Ok(())
+    }
+
+    /// The acts.
+    pub fn items(&self) -> &[Act]
+        ensures { result.now ≡ self.now }
+    {
+        self.acts.as_slice()
+    }
+}
+
+/// Writes to the tables, in order.
+#[derive(Debug, Drop)]
+pub struct Writes {
+    writes: Vec<Write>,
+}
+
+impl Model for Writes {
+    ghost use Rattle.std.specs.Prelude.{List};
+    ghost use Rattle.table_schema.specs.declared.write.Write.{Write};
+
+    ghost Value = { List Write };
+
+    ghost view = { λ l. l.writes.items };
+}
+
+impl Writes {
+    /// No write.
+    pub fn new(alloc: Global) -> Writes
+        ensures { result ≡ [] }
+    {
+        Writes {
+            writes: Vec::new(alloc),
+        }
+    }
+
+    /// Puts a write last.
+    pub fn push(&mut self, write: Write) -> Result<(), OutOfMemory>
+        ensures ok { OnOk result (self.new ≡ self.old ++ write ∷ []) }
+        ensures err { OnErr result (self.new ≡ self.old) }
+    {
+        self.writes.push(write)?;
+        Ok(())
+    }
+
+    /// The writes.
+    pub fn items(&self) -> &[Write]
+        ensures { result.now ≡ self.now }
+    {
+        self.writes.as_slice()
+    }
+}
