@@ -2,7 +2,7 @@
 use Rattle.std.specs.Prelude.{◌≡◌, ℕ, Bool, true, false, List, Option, None}
 use Rattle.swss_types.specs.Outside.{HasRisen}
 use Rattle.switch_model.specs.History.{no_history}
-use Rattle.swss_script.specs.Script.{Said}
+use Rattle.swss_script.specs.PlainScript.{Said}
 use Rattle.swss_run.specs.Read.{WasRead, WasRefused}
 use Rattle.swss_run.specs.declared.outcome.Outcome.{Outcome}
 use Rattle.swss_run.specs.declared.status.Status.{Status}

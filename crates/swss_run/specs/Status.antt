@@ -19,6 +19,16 @@ status_number status.OutOfMemory = 7
 
 abbrev pub why_text : Why → List ℕ
 why_text why.TooLong = codes "too-long"
+why_text why.TooManyLines = codes "too-many-lines"
+why_text why.LineTooLong = codes "line-too-long"
+why_text why.NotUtf8 = codes "not-utf8"
+why_text why.BadHead = codes "bad-head"
+why_text why.HeadTwice = codes "head-twice"
+why_text (why.BadPlan fault) = codes "bad-plan"
+why_text (why.BadImage fault) = codes "bad-image"
+why_text why.TooManyProducers = codes "too-many-producers"
+why_text why.BadJson = codes "bad-json"
+why_text why.BadWord = codes "bad-word"
 why_text why.NotYet = codes "not-yet"
 
 abbrev pub refused_text : Refused → List ℕ

@@ -5,6 +5,7 @@ mod input;
 mod outcome;
 mod output;
 mod run;
+mod session;
 mod standard;
 mod status;
 #[cfg(test)]

@@ -4,23 +4,23 @@ ghost use Rattle.std.specs.String.{string_bytes};
 ghost use Rattle.swss_types.specs.Outside.{HasRisen};
 ghost use Rattle.switch_model.specs.History.{no_history};
 ghost use Rattle.swss_run.specs.Read.{IsScriptRead};
+ghost use Rattle.swss_script.specs.PlainScript.{said};
 ghost use Rattle.swss_run.specs.Run.{HasNoSession, SaysOfScript, ends_early};
+ghost use Rattle.swss_run.specs.Session.{IsRun, IsTakable, TellsOfSession};
 ghost use Rattle.swss_run.specs.Words.{is_command};
 
 use crate::input::{Input, read_all};
-use crate::output::{Output, write_all};
+use crate::session::run_round;
 use crate::words::is_run;
 use crate::{Outcome, Refused, Status, Why};
-use orch_core::{Core, Log, Settled};
+use orch_core::{Core, Log};
 use sai_chip::SimChip;
-use sai_types::{Caps, Chip};
+use sai_types::Caps;
 use std::alloc::Global;
 use std::sync::Wait;
 use std::thread::Threads;
-use swss_report::round_lines;
-use swss_script::{Script, read_script};
+use swss_script::{PlainScript, read_script};
 use swss_types::{Gate, OutOfMemory, Sink, Source};
-use table_schema::{Sent, Write};
 
 /// How many objects of each kind the chip has room for, in the order of the kinds.
 pub const CAPACITIES: Caps = Caps([
@@ -52,6 +52,10 @@ pub fn swss_main<R: Threads + Wait + Sync, S: Source, K: Sink, G: Gate + Sync>(
 
     // On wrong words, a refused script and a fault of reading no session begins and nothing is written.
     ensures early { ends_early result.status ≡ true → HasNoSession result (K.holds sink.old) (K.holds sink.new) }
+
+    // Of a session every chip call was legal, every mark is true, the writes taken are the script's in order, each once,
+    // and the sink took the whole report, or the front of it that the status allows. The log is never full.
+    ensures session { TellsOfSession result.status result (S.left source.old) (S.left source.new) (K.holds sink.old) (K.holds sink.new) }
 {
     run(alloc, words, source, sink)
 }
@@ -63,6 +67,7 @@ fn run<S: Source, K: Sink>(alloc: Global, words: &[String], source: &mut S, sink
     ensures read_fault { result.status ≡ Status.ReadFault → HasRisen (S.faults source.old) (S.faults source.new) }
     ensures write_fault { result.status ≡ Status.WriteFault → HasRisen (K.faults sink.old) (K.faults sink.new) }
     ensures early { ends_early result.status ≡ true → HasNoSession result (K.holds sink.old) (K.holds sink.new) }
+    ensures session { TellsOfSession result.status result (S.left source.old) (S.left source.new) (K.holds sink.old) (K.holds sink.new) }
 {
     if !is_run(words) {
         return at_once(alloc, Status::Usage);
@@ -85,7 +90,7 @@ fn at_once(alloc: Global, status: Status) -> Outcome
 }
 
 /// The script that the source gives, or the status that ends the run.
-fn read_input<S: Source>(alloc: Global, source: &mut S) -> Result<Script, Status>
+fn read_input<S: Source>(alloc: Global, source: &mut S) -> Result<PlainScript, Status>
     ensures { IsScriptRead (S.left source.old) (S.faults source.old) result (S.left source.new) (S.faults source.new) }
 {
     match read_all(alloc, source) {
@@ -104,82 +109,27 @@ fn read_input<S: Source>(alloc: Global, source: &mut S) -> Result<Script, Status
 }
 
 /// Runs a script on a new chip, and writes its report.
-fn run_script<K: Sink>(alloc: Global, script: Script, sink: &mut K) -> Outcome
+fn run_script<K: Sink>(alloc: Global, script: PlainScript, sink: &mut K) -> Outcome
+    requires takable { IsTakable (said script) }
     ensures ran { ends_early result.status ≡ false }
     ensures write_fault { result.status ≡ Status.WriteFault → HasRisen (K.faults sink.old) (K.faults sink.new) }
+    ensures session { IsRun (said script) result (K.holds sink.old) (K.holds sink.new) }
 {
-    let Script {
+    let PlainScript {
         plan,
         writes,
         shows,
     } = script;
+    // A plan has at most 256 ports, so the chip has room for all of them.
+    let _ports = plan.len();
     let Ok(mut core) = Core::new(alloc, plan, CAPACITIES, LOG_LIMIT) else {
         return at_once(alloc, Status::OutOfMemory);
     };
     let mut chip = SimChip::new(alloc, CAPACITIES, Vec::new(alloc));
-    let status = match take_all(&mut core, writes) {
-        Taken::All => end_round(alloc, &mut core, &mut chip, shows, sink),
-        Taken::LogFull => Status::LogFull,
-        Taken::NoMemory => Status::OutOfMemory,
-    };
+    let status = run_round(alloc, &mut core, &mut chip, writes, shows, sink);
     Outcome {
         status,
         log: core.into_log(),
         chip: Some(chip),
-    }
-}
-
-/// How taking the writes of a round ended.
-#[derive(Clone, Copy, Debug, PartialEq, Eq)]
-enum Taken {
-    /// All were taken.
-    All,
-    /// The log was full.
-    LogFull,
-    /// Memory was refused.
-    NoMemory,
-}
-
-/// Takes the writes in order, numbered from 0, from the one producer.
-fn take_all(core: &mut Core, writes: Vec<Write>) -> Taken {
-    for (number, write) in writes.into_iter().enumerate() {
-        let sent = Sent {
-            from: 1,
-            number: number as u64,
-            write,
-        };
-        match core.take(sent, 0) {
-            Ok(Ok(())) => {}
-            Ok(Err(_)) => return Taken::LogFull,
-            Err(OutOfMemory) => return Taken::NoMemory,
-        }
-    }
-    Taken::All
-}
-
-/// Settles the round, and writes its lines.
-fn end_round<K: Sink>(
-    alloc: Global,
-    core: &mut Core,
-    chip: &mut SimChip,
-    shows: u64,
-    sink: &mut K,
-) -> Status
-    ensures ran { ends_early result ≡ false }
-    ensures write_fault { result ≡ Status.WriteFault → HasRisen (K.faults sink.old) (K.faults sink.new) }
-{
-    let ended = match core.settle(chip) {
-        Ok(Settled::Settled) => Status::Done,
-        Ok(Settled::Faulted) => Status::ChipFault,
-        Ok(Settled::LogFull) => return Status::LogFull,
-        Err(OutOfMemory) => return Status::OutOfMemory,
-    };
-    match round_lines(alloc, core.plan(), shows, core.log(), chip) {
-        Ok(lines) => match write_all(sink, &lines) {
-            Output::Written => ended,
-            Output::Failed => Status::WriteFault,
-            Output::NoMemory => Status::OutOfMemory,
-        },
-        Err(OutOfMemory) => Status::OutOfMemory,
     }
 }

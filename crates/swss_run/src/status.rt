@@ -1,6 +1,6 @@
 // How a run ended.
 ghost use Rattle.std.specs.Prelude.{◌≡◌, IfOk};
-ghost use Rattle.swss_run.specs.Status.{refused_text, status_line, status_number};
+ghost use Rattle.swss_run.specs.Status.{refused_text, status_line, status_number, why_text};
 
 use std::alloc::Global;
 use swss_script::{Refused, Why};
@@ -66,13 +66,29 @@ impl Status {
 fn refused_line(alloc: Global, refused: &Refused) -> Result<Vec<u8>, OutOfMemory>
     ensures { IfOk result (λ line. line.items ≡ refused_text refused.now) }
 {
-    let why: &[u8] = match refused.why {
-        Why::TooLong => b"too-long",
-        Why::NotYet => b"not-yet",
-    };
     let mut line = Vec::from_slice(alloc, b"script refused: line ")?;
     write_number(&mut line, refused.line)?;
     line.extend_from_slice(b": ")?;
-    line.extend_from_slice(why)?;
+    line.extend_from_slice(why_text(refused.why))?;
     Ok(line)
+}
+
+/// The text of a reason.
+fn why_text(why: Why) -> &'static [u8]
+    ensures { result.now ≡ why_text why }
+{
+    match why {
+        Why::TooLong => b"too-long",
+        Why::TooManyLines => b"too-many-lines",
+        Why::LineTooLong => b"line-too-long",
+        Why::NotUtf8 => b"not-utf8",
+        Why::BadHead => b"bad-head",
+        Why::HeadTwice => b"head-twice",
+        Why::BadPlan(_) => b"bad-plan",
+        Why::BadImage(_) => b"bad-image",
+        Why::TooManyProducers => b"too-many-producers",
+        Why::BadJson => b"bad-json",
+        Why::BadWord => b"bad-word",
+        Why::NotYet => b"not-yet",
+    }
 }
