@@ -1,5 +1,5 @@
 -- setting on a port what differs from its row, call by call
-use Rattle.std.proofs.Common.{◌≡◌, ℕ, ◌<◌, ◌==◌, ◌&&◌, Bool, true, false, cond, [], ◌∷◌, Option, None, Some, option_map, Result, Ok, Err, refl, sym, ap, ◌∙◌, subst, arith}
+use Rattle.std.proofs.Common.{◌≡◌, ℕ, ◌+◌, ◌<◌, ◌≤◌, ◌==◌, ◌&&◌, Bool, true, false, cond, [], ◌∷◌, length, Option, None, Some, option_map, Result, Ok, Err, refl, sym, ap, ◌∙◌, subst, arith}
 use Rattle.std.proofs.lemmas.Bool.{eq-eqb}
 use Rattle.std.proofs.lemmas.Map.{lookup-none}
 use Rattle.std.proofs.lemmas.Map.Entries.{none_below_head}
@@ -11,10 +11,12 @@ use Rattle.std.specs.declared.cmp.Ordering.{Ordering}
 use Rattle.std.specs.declared.cmp.Ordering.TheVariants.{Less, Equal, Greater}
 use Rattle.swss_types.specs.declared.out_of_memory.OutOfMemory.{OutOfMemory}
 use Rattle.table_schema.specs.Key.{key_cmp}
+use Rattle.table_schema.specs.Names.{names_of}
 use Rattle.table_schema.specs.Plan.{lanes_in_plan}
 use Rattle.table_schema.specs.declared.key.Key.{Key}
 use Rattle.table_schema.specs.declared.key.Key.TheVariants as key
 use Rattle.table_schema.specs.declared.row.PortRow.{PortRow}
+use Rattle.table_schema.specs.declared.row.Row.{Row}
 use Rattle.table_schema.specs.declared.row.Row.TheVariants as row
 use Rattle.table_schema.proofs.Keys.{key_total}
 use Rattle.sai_types.specs.declared.ids.Rid.{Rid}
@@ -27,6 +29,8 @@ use Rattle.sai_types.specs.After.{after_call, next_id}
 use Rattle.sai_types.specs.Alike.{IsIn}
 use Rattle.sai_types.specs.ChipState.{ChipState, TakesEffect}
 use Rattle.sai_types.specs.Refusal.{IsLegal, has_attr}
+use Rattle.switch_model.specs.Desired.{have_rows}
+use Rattle.switch_model.specs.Good.{good_rows}
 use Rattle.orch_core.specs.declared.applied.Applied.{Applied}
 use Rattle.orch_core.specs.declared.attempt.Tried.{Tried}
 use Rattle.orch_core.specs.declared.attempt.Tried.TheVariants as tried
@@ -35,15 +39,17 @@ use Rattle.orch_core.specs.declared.called.Uncalled.TheVariants as uncalled
 use Rattle.orch_core.specs.Called.{IsDone, StaysClean}
 use Rattle.orch_core.specs.Difference.{IsDifference, IsSet, IsSetting, applied_with, difference_of, first_difference, first_to_set, row_with, value_with}
 use Rattle.orch_core.specs.Standing.{Entries, IsPlanned, Stands, applied_at, rows_applied}
-use Rattle.orch_core.specs.State.{State}
+use Rattle.orch_core.specs.Due.{CallIsDue}
+use Rattle.orch_core.specs.State.{State, size_of}
 use Rattle.orch_core.specs.Step.{IsChange, asks_same, same_admin}
 use Rattle.orch_core.specs.Tried.{IsSteady, IsTouched, IsTried, Touches, tried_without}
 use Rattle.orch_core.proofs.Changing.{legal-set-port, stands-set-port}
-use Rattle.orch_core.proofs.Effects.{keeps-effect}
+use Rattle.orch_core.proofs.Due.{free-good, places-of}
+use Rattle.orch_core.proofs.Effects.{grown-after, grown-one, keeps-effect}
 use Rattle.orch_core.proofs.Good.{planned-good, served-good}
 use Rattle.orch_core.proofs.Keyed.{found-beside, found-put}
 use Rattle.orch_core.proofs.Standing.{closed-stands, no_route-stands}
-use Rattle.orch_core.proofs.Trying.{applied_port, apart-at, keeps-applied, same_ports, some_applied, tried-without}
+use Rattle.orch_core.proofs.Trying.{applied_port, apart-at, keeps-applied, same_ports, some_applied, touched-none, tried-without}
 
 -- ---- the applied row in place
 
@@ -132,6 +138,10 @@ no_difference p r none = by (p.speed == r.speed) (p.mtu == r.mtu) (same_admin p.
     by true true false h = absurd cc
     by true true true h = refl
 
+-- a row does not differ from itself
+same-port : (r : PortRow) → first_difference r r ≡ None
+same-port r = ap (λ b. first_to_set r b (r.mtu == r.mtu) (same_admin r.up r.up)) (eq-eqb r.speed r.speed refl) ∙ ap (λ b. first_to_set r true b (same_admin r.up r.up)) (eq-eqb r.mtu r.mtu refl) ∙ ap (first_to_set r true true) (same_admin-refl r.up)
+
 -- ---- setting an attribute
 
 module _ (k : Key) (t : Attr Rid) (old : State) (chip : ChipState) (id : Rid) (steady : IsSteady old chip) (due : IsIn k old.to_sync) (setting : IsSetting old k id t) where
@@ -165,6 +175,7 @@ module _ (k : Key) (t : Attr Rid) (old : State) (chip : ChipState) (id : Rid) (s
         touches = record { same = refl; others = others-noted };
         keeps = keeps-applied old noted.applied new k (keeps-effect old chip new (call.Set (entry.Oid id) t) steady.keeps takes stays (no_route-stands old.plan noted.applied new.objects stands-noted)) due others-noted (closed-stands old.plan noted.applied new.objects stands-noted);
         stands = stands-noted;
+        grown = grown-one chip (call.Set (entry.Oid id) t) new takes;
         few = λ none. absurd (was_there none);
         still = λ zero none. absurd (was_there none);
         faults = faults;
@@ -175,8 +186,8 @@ module _ (k : Key) (t : Attr Rid) (old : State) (chip : ChipState) (id : Rid) (s
   pub set-noted : (new : State) (chip' : ChipState) → IsDone chip (call.Set (entry.Oid id) t) (Ok tt) chip' → ((a : Applied) → applied_at old.applied k ≡ Some a → IsStrictlySortedBy key_cmp (keys_of old.applied) → new ≡ record old { applied = insert_entry key_cmp old.applied k (applied_with a t) }) → IsSet k t old chip (Ok tried.Done) new chip'
   set-noted new chip' is e = subst (λ n. IsSet k t old chip (Ok tried.Done) n chip') (sym (e setting.a setting.there steady.stands.sorted)) (set-done chip' is.stays is.answer.0 is.answer.1)
 
-  pub not-set : (why : Uncalled) (chip' : ChipState) → IsDone chip (call.Set (entry.Oid id) t) (Err why) chip' → IsSet k t old chip (tried_without why) old chip'
-  not-set why chip' is = by why (tried-without k old chip chip' (call.Set (entry.Oid id) t) steady refl is.stays why is.answer)
+  pub not-set : (why : Uncalled) (chip' : ChipState) → size_of old (length chip.effects) + 1 ≤ old.limit → IsDone chip (call.Set (entry.Oid id) t) (Err why) chip' → IsSet k t old chip (tried_without why) old chip'
+  not-set why chip' fits is = by why (tried-without k old chip chip' (call.Set (entry.Oid id) t) steady fits refl is.stays why is.answer)
     where
       by : (w : Uncalled) → IsTried k old chip (tried_without w) old chip' → IsSet k t old chip (tried_without w) old chip'
       by uncalled.NoMemory h = h
@@ -192,20 +203,10 @@ pub record IsChanging (k : Key) (old : State) (chip : ChipState) (new : State) (
 
 pub changing-first : (k : Key) (r : PortRow) (old : State) (chip : ChipState) → IsSteady old chip → IsChange old k r → IsChanging k old chip old chip
 changing-first k r old chip steady step = record {
-  touched = record {
-    touches = record { same = refl; others = λ q apart. refl };
-    keeps = steady.keeps;
-    stands = steady.stands;
-    few = λ none. omega arith;
-    still = λ zero none. none;
-    faults = refl;
-  };
+  touched = touched-none k old chip steady;
   a = step.a;
   there = step.there;
 }
-
-touched-same : (k : Key) (n : ℕ) (old : State) (chip : ChipState) (new : State) (chip' : ChipState) → IsTouched n k old chip new chip' → new ≡ record old { applied = new.applied }
-touched-same k n old chip new chip' touched = touched.touches.same
 
 module _ (k : Key) (r : PortRow) (old : State) (chip : ChipState) (step : IsChange old k r) (mid : State) (between : ChipState) (changing : IsChanging k old chip mid between) where
   abbrev mid_same : mid ≡ record old { applied = mid.applied }
@@ -245,6 +246,7 @@ module _ (k : Key) (r : PortRow) (old : State) (chip : ChipState) (step : IsChan
     touches = touches-after new touched.touches;
     keeps = touched.keeps;
     stands = touched.stands;
+    grown = grown-after chip between chip' changing.touched.grown touched.grown;
     few = λ none. omega (arith, changing.touched.few none, touched.few (changing.touched.still refl none));
     still = λ zero none. touched.still refl (changing.touched.still refl none);
     faults = touched.faults ∙ changing.touched.faults;
@@ -268,19 +270,41 @@ module _ (k : Key) (r : PortRow) (old : State) (chip : ChipState) (step : IsChan
       (subst (λ x. rank (difference_of (value_with x t) r) < rank (difference_of x r)) (sym of.1)
       (subst (λ d. rank (first_difference (row_with of.0 t) r) < rank d) (sym first) (fewer of.0 r t first))))
 
+  -- what differs is due
+  pub changing-call : (id : Rid) (t : Attr Rid) → IsIn k old.to_sync → IsDifference mid.applied k r (Some (id, t)) → CallIsDue mid
+  changing-call id t due (a, there, named, differs) = record {
+    key = k;
+    queued = changing-due due;
+    differs = λ same. apart (sym differs ∙ ap (λ x. difference_of x r) (some_row a.row (row.Port r) (sym (ap (option_map (λ x. x.row)) there) ∙ same ∙ good)) ∙ same-port r);
+    free = free-good mid between changing-steady k (row.Port r) good (ap (λ x. have_rows (rows_applied mid.applied) (names_of x (row.Port r))) step.is);
+  }
+    where
+      good : good_rows mid.plan mid.rows k ≡ Some (row.Port r)
+      good = ap (λ (s : State). good_rows s.plan s.rows k) mid_same ∙ step.good
+
+      some_row : (x y : Row) → Some x ≡ Some y → x ≡ y
+      some_row x y h = cc
+
+      apart : Some t ≡ None → ⊥
+      apart h = cc
+
   -- the call had no success, or there is no room for it
-  pub changing-stopped : (t : Attr Rid) (result : Result Tried OutOfMemory) (new : State) (chip' : ChipState) → IsSet k t mid between result new chip' → ¬ (result ≡ Ok tried.Done) → IsTried k old chip result new chip'
-  changing-stopped t (Ok tried.Done) new chip' is never = absurd (never refl)
-  changing-stopped t (Ok (tried.Waits w)) new chip' is never = absurd is
-  changing-stopped t (Ok (tried.Faulted before)) new chip' is never = record {
+  pub changing-stopped : (id : Rid) (t : Attr Rid) → IsIn k old.to_sync → IsDifference mid.applied k r (Some (id, t)) → (result : Result Tried OutOfMemory) (new : State) (chip' : ChipState) → IsSet k t mid between result new chip' → ¬ (result ≡ Ok tried.Done) → IsTried k old chip result new chip'
+  changing-stopped id t due differs (Ok tried.Done) new chip' is never = absurd (never refl)
+  changing-stopped id t due differs (Ok (tried.Waits w)) new chip' is never = absurd is
+  changing-stopped id t due differs (Ok (tried.Faulted before)) new chip' is never = record {
     touches = touches-after new is.touches;
     keeps = is.keeps;
+    grown = grown-after chip between chip' changing.touched.grown is.grown;
+    places = places-of 1 1 mid old (length chip'.effects) (ap (λ (s : State). size_of s 0 + 1) (sym mid_same)) (ap (λ (s : State). s.limit) (sym mid_same)) is.places;
     few = λ none. omega (arith, changing.touched.few none, is.few (changing.touched.still refl none));
     before = is.before ∙ changing.touched.faults;
     rose = subst (λ n. n < chip'.faults) changing.touched.faults is.rose;
   }
-  changing-stopped t (Ok tried.LogFull) new chip' is never = (touched-after new chip' is.0, is.1)
-  changing-stopped t (Err e) new chip' is never = touched-after new chip' is
+  changing-stopped id t due differs (Ok tried.LogFull) new chip' (core_stays, chip_stays, full) never =
+      subst (λ c. IsTried k old chip (Ok tried.LogFull) new c) (sym chip_stays)
+      (subst (λ n. IsTried k old chip (Ok tried.LogFull) n between) (sym core_stays) (changing.touched, changing-call id t due differs, full))
+  changing-stopped id t due differs (Err e) new chip' is never = touched-after new chip' is
 
   -- nothing differs any more
   pub changing-done : IsSteady old chip → IsDifference mid.applied k r None → IsTried k old chip (Ok tried.Done) mid between
@@ -294,6 +318,7 @@ module _ (k : Key) (r : PortRow) (old : State) (chip : ChipState) (step : IsChan
           touches = changing.touched.touches;
           keeps = changing.touched.keeps;
           stands = changing.touched.stands;
+          grown = changing.touched.grown;
           few = λ none. omega (arith, changing.touched.few none);
           still = λ zero. absurd (omega (arith, zero));
           faults = changing.touched.faults;

@@ -1,7 +1,7 @@
 -- what holds of a core's log and of the chip when a call takes effect
 use Rattle.std.proofs.Common.{◌≡◌, ◌⊎◌, inl, inr, ℕ, zero, suc, ◌+◌, ◌≤◌, Bool, true, false, cond, List, [], ◌∷◌, ◌++◌, length, count_by, Option, None, Some, if◌then◌else◌, refl, sym, ap, ◌∙◌, subst, arith}
 use Rattle.std.proofs.Math.Seq.{take-length}
-use Rattle.std.proofs.lemmas.List.{length-append, take-append-le}
+use Rattle.std.proofs.lemmas.List.{append-nil, append_assoc, length-append, take-append-le}
 use Rattle.std.proofs.lemmas.List.Sums.{sum_by-append, sum_by-cons}
 use Rattle.sai_types.specs.declared.ids.Rid.{Rid}
 use Rattle.sai_types.specs.declared.body.Call.{Call}
@@ -20,10 +20,20 @@ use Rattle.switch_model.specs.Sound.{AreWithin}
 use Rattle.switch_model.specs.declared.mark.Mark.{Mark}
 use Rattle.switch_model.specs.declared.mark.MarkEvent.{MarkEvent}
 use Rattle.switch_model.specs.declared.mark.MarkEvent.TheVariants as event
-use Rattle.orch_core.specs.Called.{StaysClean}
+use Rattle.orch_core.specs.Called.{IsGrown, StaysClean}
 use Rattle.orch_core.specs.Keeps.{Keeps}
 use Rattle.orch_core.specs.State.{State}
 use Rattle.orch_core.proofs.Standing.{HasNoRoute, no_route-named}
+
+-- the effects only grow
+pub grown-same : (old new : ChipState) → new.effects ≡ old.effects → IsGrown old new
+grown-same old new same = record { calls = []; grown = same ∙ sym (append-nil old.effects) }
+
+pub grown-one : (old : ChipState) (c : Call Rid) (new : ChipState) → TakesEffect old c new → IsGrown old new
+grown-one old c new takes = record { calls = c ∷ []; grown = takes.effects }
+
+pub grown-after : (old mid new : ChipState) → IsGrown old mid → IsGrown mid new → IsGrown old new
+grown-after old mid new a b = record { calls = a.calls ++ b.calls; grown = b.grown ∙ ap (λ es. es ++ b.calls) a.grown ∙ append_assoc old.effects a.calls b.calls }
 
 count-one : (b : Bool) (n : ℕ) → n + (0 + cond b 1 0) ≡ (if b then n + 1 else n)
 count-one true n = omega arith

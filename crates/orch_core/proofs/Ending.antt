@@ -1,9 +1,11 @@
 -- what a settling comes to
-use Rattle.std.proofs.Common.{◌≡◌, ◌⊎◌, inl, inr, ℕ, suc, ◌+◌, ◌<◌, Bool, true, false, cond, List, [], ◌∷◌, ◌++◌, length, map, Option, None, Some, Result, Ok, Err, refl, sym, ap, ◌∙◌, subst, arith}
+use Rattle.std.proofs.Common.{◌≡◌, ◌⊎◌, inl, inr, ℕ, suc, ◌+◌, Bool, true, false, cond, List, [], ◌∷◌, ◌++◌, length, map, Option, None, Some, Result, Ok, Err, refl, sym, ap, ◌∙◌, subst, arith}
 use Rattle.std.proofs.Math.Seq.{take-length}
 use Rattle.std.proofs.lemmas.Bool.{false≢true}
 use Rattle.std.proofs.lemmas.List.{length-append}
 use Rattle.std.specs.BTreeMap.{is_at}
+use Rattle.std.specs.List.Sorted.{IsStrictlySortedBy}
+use Rattle.std.specs.Result.{IsErr}
 use Rattle.swss_types.specs.declared.out_of_memory.OutOfMemory.{OutOfMemory}
 use Rattle.table_schema.specs.Key.{key_cmp}
 use Rattle.table_schema.specs.Plan.{Ports}
@@ -28,15 +30,19 @@ use Rattle.switch_model.specs.declared.wait.Wait.{Wait}
 use Rattle.orch_core.specs.Keeps.{IsKept, Keeps}
 use Rattle.orch_core.specs.declared.answer.Settled.{Settled}
 use Rattle.orch_core.specs.declared.answer.Settled.TheVariants as settled
-use Rattle.orch_core.specs.Settling.{HasRested, IsFilled, IsSame, IsSettled, IsSettling, is_marked, listing, mark_at, open_mark, opened, with_ending}
+use Rattle.orch_core.specs.declared.settle.Rested.{Rested}
+use Rattle.orch_core.specs.Due.{CallIsDue}
+use Rattle.orch_core.specs.Settling.{HasNoMark, HasRested, IsFilled, IsFull, IsFullBeside, IsRested, IsSame, IsSettled, IsSettling, MarkIsDue, Settles, is_marked, listing, mark_at, open_mark, opened, with_ending}
 use Rattle.orch_core.specs.Standing.{rows_applied}
 use Rattle.orch_core.specs.State.{State, core_of, keys_listed, size_of}
 use Rattle.orch_core.specs.Tried.{IsSteady}
-use Rattle.orch_core.specs.Turn.{BringsNew, EndsFaulted, IsBehind, IsRest, IsTurning, IsUnder, WaitTruly, waiting_keys}
+use Rattle.orch_core.specs.Turn.{BringsNew, EndsFaulted, IsBehind, IsRest, IsTurning, IsUnder, OnlyLeave, WaitTruly, waiting_keys}
 use Rattle.orch_core.proofs.Alike.{alike-stands}
+use Rattle.orch_core.proofs.Due.{places-of}
+use Rattle.orch_core.proofs.Effects.{grown-after, grown-same}
 use Rattle.orch_core.proofs.Keyed.{is_at-refl, same_key}
 use Rattle.orch_core.proofs.Logged.{keeps-mark, listed-more, suspect-more}
-use Rattle.orch_core.proofs.Turning.{under-none}
+use Rattle.orch_core.proofs.Turning.{leave-after, leave-same, under-none}
 
 -- a core that keeps its promises is sound
 pub sound-kept : (core : State) (chip : ChipState) → IsKept core chip → IsSound (core_of core) chip
@@ -172,6 +178,8 @@ pub under-after : (old : State) (chip : ChipState) (mid : State) (chip1 : ChipSt
 under-after old chip mid chip1 new chip2 a b = record {
   steady = b.steady;
   behind = b.behind ∙ ap (λ (s : State). record s { to_sync = new.to_sync; applied = new.applied; waiting = new.waiting }) a.behind;
+  leave = leave-after old.to_sync mid.to_sync new.to_sync a.leave b.leave;
+  grown = grown-after chip chip1 chip2 a.grown b.grown;
   brings = λ first.
       let one = a.brings first in
       let two = b.brings one.new_keys in
@@ -179,10 +187,17 @@ under-after old chip mid chip1 new chip2 a b = record {
   faults = b.faults ∙ a.faults;
 }
 
+pub rested-err : (old : State) (chip : ChipState) (r : Result Rested OutOfMemory) (new : State) (chip' : ChipState) → IsErr r → IsUnder old chip new chip' → IsRested old chip r new chip'
+rested-err old chip (Ok t) new chip' err under = absurd (false≢true err)
+rested-err old chip (Err e) new chip' err under = under
+
 pub faulted-after : (old : State) (chip : ChipState) (mid : State) (chip1 : ChipState) (count : ℕ) (new : State) (chip2 : ChipState) → IsUnder old chip mid chip1 → EndsFaulted mid chip1 count new chip2 → EndsFaulted old chip count new chip2
 faulted-after old chip mid chip1 count new chip2 a b = record {
   keeps = b.keeps;
   behind = b.behind ∙ ap (λ (s : State). record s { to_sync = new.to_sync; applied = new.applied; waiting = new.waiting }) a.behind;
+  leave = leave-after old.to_sync mid.to_sync new.to_sync a.leave b.leave;
+  grown = grown-after chip chip1 chip2 a.grown b.grown;
+  places = places-of 1 1 mid old (length chip2.effects) (ap (λ (s : State). size_of s 0 + 1) (sym a.behind)) (ap (λ (s : State). s.limit) (sym a.behind)) b.places;
   before = b.before ∙ a.faults;
   rose = omega (arith, b.rose, a.faults);
 }
@@ -195,13 +210,20 @@ no_waits s rest none = by s.waiting (sym none ∙ rest)
     by [] e = refl
     by (w ∷ ws) e = absurd cc
 
+sorted-none : IsStrictlySortedBy key_cmp []
+unfolding IsStrictlySortedBy
+sorted-none = tt
+
 pub rested-none : (old : State) (chip : ChipState) (new : State) (chip' : ChipState) → IsSettling old chip new chip' → new.to_sync ≡ [] → HasRested old chip new chip'
 rested-none old chip new chip' settling none =
     let quiet : new.waiting ≡ [] = by settling.waits in
     record {
       under = settling.under;
-      rest = none ∙ ap (λ ws. waiting_keys ws ++ []) (sym quiet);
-      truly = subst (WaitTruly new) (sym quiet) tt;
+      due = record {
+        rest = none ∙ ap (λ ws. waiting_keys ws ++ []) (sym quiet);
+        order = subst (IsStrictlySortedBy key_cmp) (sym none) sorted-none;
+        truly = subst (WaitTruly new) (sym quiet) tt;
+      };
     }
   where
     by : (new.waiting ≡ []) ⊎ IsRest new [] → new.waiting ≡ []
@@ -214,8 +236,11 @@ settling-first old chip new steady e = subst (λ n. IsSettling old chip n chip) 
 pub settling-more : (old : State) (chip : ChipState) (mid : State) (chip1 : ChipState) (new : State) (chip2 : ChipState) → IsSettling old chip mid chip1 → IsTurning mid chip1 new chip2 × IsRest new [] → IsSettling old chip new chip2
 settling-more old chip mid chip1 new chip2 settling (turning, rest) = record { under = under-after old chip mid chip1 new chip2 settling.under turning.under; waits = inr rest }
 
-pub rested-idle : (old : State) (chip : ChipState) (mid : State) (chip1 : ChipState) (new : State) (chip2 : ChipState) → IsSettling old chip mid chip1 → IsTurning mid chip1 new chip2 × IsRest new [] → length new.to_sync ≡ length mid.to_sync → HasRested old chip new chip2
-rested-idle old chip mid chip1 new chip2 settling (turning, rest) same = record { under = under-after old chip mid chip1 new chip2 settling.under turning.under; rest = rest; truly = turning.idle same }
+pub rested-idle : (old : State) (chip : ChipState) (mid : State) (chip1 : ChipState) (new : State) (chip2 : ChipState) → IsSettling old chip mid chip1 → IsTurning mid chip1 new chip2 × IsRest new [] → length new.to_sync ≡ length mid.to_sync → IsStrictlySortedBy key_cmp new.to_sync → HasRested old chip new chip2
+rested-idle old chip mid chip1 new chip2 settling (turning, rest) same order = record {
+  under = under-after old chip mid chip1 new chip2 settling.under turning.under;
+  due = record { rest = rest; order = order; truly = turning.idle same };
+}
 
 -- a settling begins on a core with an open mark
 pub steady-opened : (old : State) (chip : ChipState) → IsKept old chip → is_suspect old.log.marks ≡ false → IsSteady (record old { log = with_ending old.log open_mark }) chip
@@ -224,86 +249,126 @@ steady-opened old chip kept known = record {
   stands = kept.stands known;
 }
 
+-- what is due hangs on neither the log nor the count of its keys
+due-beside : (s : State) (log : History) (listed : ℕ) → CallIsDue s → CallIsDue (record s { log = log; listed = listed })
+due-beside s log listed due = record { key = due.key; queued = due.queued; differs = due.differs; free = due.free }
+
+truly-beside : (s : State) (log : History) (listed : ℕ) (ws : List (Key × Wait)) → WaitTruly s ws → WaitTruly (record s { log = log; listed = listed }) ws
+truly-beside s log listed [] h = tt
+truly-beside s log listed (w ∷ ws) (one, h) = (one, truly-beside s log listed ws h)
+
+mark-beside : (s : State) (log : History) (listed : ℕ) → MarkIsDue s → MarkIsDue (record s { log = log; listed = listed })
+mark-beside s log listed due = record { rest = due.rest; order = due.order; truly = truly-beside s log listed s.waiting due.truly }
+
+-- a settling that made no mark's place
+pub settles-none : (old new : State) (chip : ChipState) (r : Result Settled OutOfMemory) → IsKept old chip → IsErr r → new ≡ old → Settles old chip r new chip
+settles-none old new chip (Ok t) kept err same = absurd (false≢true err)
+settles-none old new chip (Err e) kept err same = subst (λ n. Settles old chip (Err e) n chip) (sym same) (record {
+  kept = kept;
+  ended = record { log = refl; listed = refl; faults = refl };
+  same = record { plan = refl; capacities = refl; limit = refl; rows = refl };
+  sync = leave-same old.to_sync old.to_sync refl;
+  grown = grown-same chip chip refl;
+})
+
 -- a settling on a core with an open mark, by its end; h is the log before it
-module _ (old : State) (chip : ChipState) (known : is_suspect old.log.marks ≡ false) (new : State) (chip' : ChipState) where
+module _ (old : State) (chip : ChipState) (new : State) (chip' : ChipState) where
+  -- what stays of a core behind which steps were made
+  same-behind : (mid : State) → IsBehind (opened old) mid → (log : History) (listed : ℕ) → IsSame old (record mid { log = log; listed = listed })
+  same-behind mid behind log listed = record { plan = ap (λ (s : State). s.plan) behind; capacities = ap (λ (s : State). s.capacities) behind; limit = ap (λ (s : State). s.limit) behind; rows = ap (λ (s : State). s.rows) behind }
+
+  -- the mark at the end tells how many writes were taken
+  taken-behind : (mid : State) → IsBehind (opened old) mid → mark_at mid (length chip'.effects) ≡ mark_at old (length chip'.effects)
+  taken-behind mid behind = ap (λ (s : State). λ (e : MarkEvent). record { taken = length s.log.taken; effects = length chip'.effects; event = e }) behind
+
   module _ (mid : State) (under : IsUnder (opened old) chip mid chip') where
     log_is : mid.log ≡ with_ending old.log open_mark
     log_is = ap (λ (s : State). s.log) under.behind
 
-    abbrev closed_log : State
-    closed_log = record mid { log = old.log }
+    listed_is : mid.listed ≡ old.listed
+    listed_is = ap (λ (s : State). s.listed) under.behind
 
-    steady-closed : IsSteady closed_log chip'
+    abbrev closed : State
+    closed = record mid { log = old.log }
+
+    steady-closed : IsSteady closed chip'
     steady-closed = record { keeps = keeps-unmark mid chip' old.log open_mark refl log_is under.steady.keeps; stands = under.steady.stands }
 
-    pub kept-closed : IsKept closed_log chip'
+    kept-closed : IsKept closed chip'
     kept-closed = record { keeps = steady-closed.keeps; stands = λ s. under.steady.stands }
 
-    taken_is : mark_at mid (length chip'.effects) ≡ mark_at old (length chip'.effects)
-    taken_is = ap (λ (l : History). λ (e : MarkEvent). record { taken = length l.taken; effects = length chip'.effects; event = e }) log_is
+    sizes : size_of mid (length chip'.effects) ≡ size_of closed (length chip'.effects) + 1
+    sizes = omega (arith, ap (λ (l : History). length l.taken) log_is, ap (λ (l : History). length l.marks) log_is, length-append old.log.marks (open_mark ∷ []))
 
-    brings-closed : BringsNew (opened old) (length chip.effects) mid (length chip'.effects) → BringsNew old (length chip.effects) closed_log (length chip'.effects)
+    unmarked-closed : HasNoMark old chip closed chip'
+    unmarked-closed = record { log = refl; listed = listed_is; faults = under.faults }
+
+    full-closed : IsFullBeside mid (length chip'.effects) → IsFull closed (length chip'.effects)
+    full-closed (inl (due, full)) = inl (due-beside mid old.log mid.listed due, omega (arith, full, sizes))
+    full-closed (inr (due, full)) = inr (mark-beside mid old.log mid.listed due, omega (arith, full, sizes))
+
+    brings-closed : BringsNew (opened old) (length chip.effects) mid (length chip'.effects) → BringsNew old (length chip.effects) closed (length chip'.effects)
     brings-closed b first = let c = b first in record { new_keys = c.new_keys; few = c.few }
 
-  -- what stays of a core behind which steps were made
-  module _ (mid : State) (behind : IsBehind (opened old) mid) where
-    same-behind : (log : History) (listed : ℕ) → IsSame old (record mid { log = log; listed = listed })
-    same-behind log listed = record { plan = ap (λ (s : State). s.plan) behind; capacities = ap (λ (s : State). s.capacities) behind; limit = ap (λ (s : State). s.limit) behind }
+    settles-closed : (r : Result Settled OutOfMemory) → IsSettled old chip r closed chip' → new ≡ closed → Settles old chip r new chip'
+    settles-closed r ended is = subst (λ n. Settles old chip r n chip') (sym is) (record {
+      kept = kept-closed;
+      ended = ended;
+      same = same-behind mid under.behind old.log mid.listed;
+      sync = under.leave;
+      grown = under.grown;
+    })
 
-  -- what an ended settling is
-  pub ended-settled : IsFilled old.log (opened old) chip (Ok settled.Settled) new chip' → IsKept new chip' × IsSettled old chip (Ok settled.Settled) new chip' × IsSame old new
-  ended-settled (mid, turns, rested, is) =
-      let steady = steady-closed mid rested.under in
-      let same : with_ending old.log (mark_at mid (length chip'.effects) (event.Settled (listing mid) turns)) ≡ with_ending old.log (mark_at old (length chip'.effects) (event.Settled (listing mid) turns)) = ap (λ f. with_ending old.log (f (event.Settled (listing mid) turns))) (taken_is mid rested.under) in
-      let last = record mid { log = with_ending old.log (mark_at old (length chip'.effects) (event.Settled (listing mid) turns)); listed = mid.listed + length mid.waiting } in
-      let new_is : new ≡ last = is ∙ ap (λ l. record mid { log = l; listed = mid.listed + length mid.waiting }) same in (
-        subst (λ n. IsKept n chip') (sym new_is) (kept-settled (closed_log mid rested.under) chip' steady rested.rest (truly-log mid old.log mid.waiting rested.truly) turns),
-        (turns, ap (λ (s : State). s.log) new_is ∙ ap (λ l. with_ending old.log (mark_at old (length chip'.effects) (event.Settled l turns))) (ap listing (sym new_is)), subst (λ n. IsRest n []) (sym new_is) rested.rest, rested.under.faults),
-        subst (IsSame old) (sym new_is) (same-behind mid rested.under.behind (with_ending old.log (mark_at old (length chip'.effects) (event.Settled (listing mid) turns))) (mid.listed + length mid.waiting)),
-      )
+  by-settled : IsFilled old.log (opened old) chip (Ok settled.Settled) new chip' → Settles old chip (Ok settled.Settled) new chip'
+  by-settled (mid, turns, rested, is, places) = record {
+    kept = subst (λ n. IsKept n chip') (sym new_is) (kept-settled (closed mid rested.under) chip' (steady-closed mid rested.under) rested.due.rest (truly-beside mid old.log mid.listed mid.waiting rested.due.truly) turns);
+    ended = record {
+      turns = turns;
+      log = ap (λ (s : State). s.log) new_is ∙ ap (λ (s : State). with_ending old.log (mark_at old (length chip'.effects) (event.Settled (listing s) turns))) (sym new_is);
+      listed = ap (λ (s : State). s.listed) new_is ∙ ap (λ n. n + length mid.waiting) (listed_is mid rested.under) ∙ ap (λ (s : State). old.listed + length s.waiting) (sym new_is);
+      due = subst MarkIsDue (sym new_is) (mark-beside mid marked (mid.listed + length mid.waiting) rested.due);
+      places = places;
+      faults = rested.under.faults;
+    };
+    same = subst (IsSame old) (sym new_is) (same-behind mid rested.under.behind marked (mid.listed + length mid.waiting));
+    sync = subst (λ (s : State). OnlyLeave old.to_sync s.to_sync) (sym new_is) rested.under.leave;
+    grown = rested.under.grown;
+  }
     where
-      truly-log : (s : State) (l : History) (ws : List (Key × Wait)) → WaitTruly s ws → WaitTruly (record s { log = l }) ws
-      truly-log s l [] h = tt
-      truly-log s l (w ∷ ws) (one, h) = (one, truly-log s l ws h)
+      marked : History
+      marked = with_ending old.log (mark_at old (length chip'.effects) (event.Settled (listing mid) turns))
 
-  pub ended-faulted : IsFilled old.log (opened old) chip (Ok settled.Faulted) new chip' → IsKept new chip' × IsSettled old chip (Ok settled.Faulted) new chip' × IsSame old new
-  ended-faulted (mid, faulted, is) =
-      let log_was : mid.log ≡ with_ending old.log open_mark = ap (λ (s : State). s.log) faulted.behind in
-      let keeps = keeps-unmark mid chip' old.log open_mark refl log_was faulted.keeps in
-      let same : with_ending old.log (mark_at mid (length chip'.effects) (event.Faulted chip.faults chip'.faults)) ≡ with_ending old.log (mark_at old (length chip'.effects) (event.Faulted chip.faults chip'.faults)) = ap (λ (l : History). with_ending old.log (record { taken = length l.taken; effects = length chip'.effects; event = event.Faulted chip.faults chip'.faults })) log_was in
-      let new_is : new ≡ record mid { log = with_ending old.log (mark_at old (length chip'.effects) (event.Faulted chip.faults chip'.faults)) } = is ∙ ap (λ l. record mid { log = l }) same in (
-        subst (λ n. IsKept n chip') (sym new_is) (kept-faulted (record mid { log = old.log }) chip' chip.faults keeps),
-        (ap (λ (s : State). s.log) new_is, faulted.rose),
-        subst (IsSame old) (sym new_is) (same-behind mid faulted.behind (with_ending old.log (mark_at old (length chip'.effects) (event.Faulted chip.faults chip'.faults))) mid.listed),
-      )
+      new_is : new ≡ record mid { log = marked; listed = mid.listed + length mid.waiting }
+      new_is = is ∙ ap (λ f. record mid { log = with_ending old.log (f (event.Settled (listing mid) turns)); listed = mid.listed + length mid.waiting }) (taken-behind mid rested.under.behind)
 
-  pub ended-full : (mid : State) → IsFilled old.log (opened old) chip (Ok settled.LogFull) mid chip' → new ≡ record mid { log = old.log } → IsKept new chip' × IsSettled old chip (Ok settled.LogFull) new chip' × IsSame old new
-  ended-full mid (under, full) is = (
-    subst (λ n. IsKept n chip') (sym is) (kept-closed mid under),
-    (
-      ap (λ (s : State). s.log) is,
-      ap (λ (s : State). s.listed) is ∙ ap (λ (s : State). s.listed) under.behind,
-      subst (λ n. n.limit < size_of n (length chip'.effects) + 2 + length n.to_sync) (sym is) (omega (arith, full, sizes)),
-      subst (λ n. BringsNew old (length chip.effects) n (length chip'.effects)) (sym is) (brings-closed mid under under.brings),
-      under.faults,
-    ),
-    subst (IsSame old) (sym is) (same-behind mid under.behind old.log mid.listed),
-  )
+  by-faulted : IsFilled old.log (opened old) chip (Ok settled.Faulted) new chip' → Settles old chip (Ok settled.Faulted) new chip'
+  by-faulted (mid, ends, is) = record {
+    kept = subst (λ n. IsKept n chip') (sym new_is) (kept-faulted (record mid { log = old.log }) chip' chip.faults (keeps-unmark mid chip' old.log open_mark refl (ap (λ (s : State). s.log) ends.behind) ends.keeps));
+    ended = record {
+      log = ap (λ (s : State). s.log) new_is;
+      listed = ap (λ (s : State). s.listed) new_is ∙ ap (λ (s : State). s.listed) ends.behind;
+      places = places-of 1 2 (opened old) old (length chip'.effects) (omega (arith, length-append old.log.marks (open_mark ∷ []))) refl ends.places;
+      rose = ends.rose;
+    };
+    same = subst (IsSame old) (sym new_is) (same-behind mid ends.behind marked mid.listed);
+    sync = subst (λ (s : State). OnlyLeave old.to_sync s.to_sync) (sym new_is) ends.leave;
+    grown = ends.grown;
+  }
     where
-      sizes : size_of mid (length chip'.effects) ≡ size_of (record mid { log = old.log }) (length chip'.effects) + 1
-      sizes = omega (arith, ap (λ (l : History). length l.taken) (log_is mid under), ap (λ (l : History). length l.marks) (log_is mid under), length-append old.log.marks (open_mark ∷ []))
+      marked : History
+      marked = with_ending old.log (mark_at old (length chip'.effects) (event.Faulted chip.faults chip'.faults))
 
-  pub ended-err : (e : OutOfMemory) (mid : State) → IsFilled old.log (opened old) chip (Err e) mid chip' → new ≡ record mid { log = old.log } → IsKept new chip' × IsSettled old chip (Err e) new chip' × IsSame old new
-  ended-err e mid under is = (subst (λ n. IsKept n chip') (sym is) (kept-closed mid under), (ap (λ (s : State). s.log) is, under.faults), subst (IsSame old) (sym is) (same-behind mid under.behind old.log mid.listed))
+      new_is : new ≡ record mid { log = marked }
+      new_is = is ∙ ap (λ f. record mid { log = with_ending old.log (f (event.Faulted chip.faults chip'.faults)) }) (taken-behind mid ends.behind)
 
-  pub ended-marked : (r : Result Settled OutOfMemory) → is_marked r ≡ true → IsFilled old.log (opened old) chip r new chip' → IsKept new chip' × IsSettled old chip r new chip' × IsSame old new
-  ended-marked (Ok settled.Settled) is filled = ended-settled filled
-  ended-marked (Ok settled.Faulted) is filled = ended-faulted filled
-  ended-marked (Ok settled.LogFull) is filled = absurd (false≢true is)
-  ended-marked (Err e) is filled = absurd (false≢true is)
+  pub settles-marked : (r : Result Settled OutOfMemory) → is_marked r ≡ true → IsFilled old.log (opened old) chip r new chip' → Settles old chip r new chip'
+  settles-marked (Ok settled.Settled) is filled = by-settled filled
+  settles-marked (Ok settled.Faulted) is filled = by-faulted filled
+  settles-marked (Ok settled.LogFull) is filled = absurd (false≢true is)
+  settles-marked (Err e) is filled = absurd (false≢true is)
 
-  pub ended-unmarked : (r : Result Settled OutOfMemory) (mid : State) → is_marked r ≡ false → IsFilled old.log (opened old) chip r mid chip' → ((h : History) (last : Mark) → mid.log ≡ with_ending h last → new ≡ record mid { log = h }) → IsKept new chip' × IsSettled old chip r new chip' × IsSame old new
-  ended-unmarked (Ok settled.Settled) mid is filled closes = absurd (false≢true (sym is))
-  ended-unmarked (Ok settled.Faulted) mid is filled closes = absurd (false≢true (sym is))
-  ended-unmarked (Ok settled.LogFull) mid is filled closes = ended-full mid filled (closes old.log open_mark (log_is mid filled.0))
-  ended-unmarked (Err e) mid is filled closes = ended-err e mid filled (closes old.log open_mark (log_is mid filled))
+  pub settles-unmarked : (r : Result Settled OutOfMemory) (mid : State) → is_marked r ≡ false → IsFilled old.log (opened old) chip r mid chip' → ((h : History) (last : Mark) → mid.log ≡ with_ending h last → new ≡ record mid { log = h }) → Settles old chip r new chip'
+  settles-unmarked (Ok settled.Settled) mid is filled closes = absurd (false≢true (sym is))
+  settles-unmarked (Ok settled.Faulted) mid is filled closes = absurd (false≢true (sym is))
+  settles-unmarked (Ok settled.LogFull) mid is (under, full) closes = settles-closed mid under (Ok settled.LogFull) (unmarked-closed mid under, full-closed mid under full, brings-closed mid under under.brings) (closes old.log open_mark (log_is mid under))
+  settles-unmarked (Err e) mid is under closes = settles-closed mid under (Err e) (unmarked-closed mid under) (closes old.log open_mark (log_is mid under))

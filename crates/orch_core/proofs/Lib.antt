@@ -11,6 +11,7 @@ pub mod Changing
 pub mod Effects
 pub mod Logged
 pub mod Good
+pub mod Due
 pub mod Trying
 pub mod Differing
 pub mod Queue

@@ -54,6 +54,17 @@ remove-middle (x ∷ front) k rest h =
     let p = parts x (front ++ k ∷ rest) h in
     rw (turned x k (all_at x front k rest p.0)) (ap (λ ys. x ∷ ys) (remove-middle front k rest p.1))
 
+-- what is left without a key stays in order
+together : (x : Key) (xs : List Key) → AllByRecursion (λ y. key_cmp x y ≡ Less) xs → IsStrictlySortedBy key_cmp xs → IsStrictlySortedBy key_cmp (x ∷ xs)
+unfolding IsStrictlySortedBy
+together x xs h hs = (h, hs)
+
+pub sorted-without : (front : List Key) (k : Key) (rest : List Key) → IsStrictlySortedBy key_cmp (front ++ k ∷ rest) → IsStrictlySortedBy key_cmp (front ++ rest)
+sorted-without [] k rest h = (parts k rest h).1
+sorted-without (x ∷ front) k rest h =
+    let p = parts x (front ++ k ∷ rest) h in
+    together x (front ++ rest) (all_behind x front k rest p.0) (sorted-without front k rest p.1)
+
 below_all : (k : Key) (ks : List Key) (q : Key) → AllByRecursion (λ y. key_cmp k y ≡ Less) ks → IsIn q ks → key_cmp k q ≡ Less
 below_all k [] q h there = elim there [ ]
 below_all k (y ∷ ks) q (h, hs) (inl e) = ap (key_cmp k) e ∙ h

@@ -59,7 +59,7 @@ owner plan entries objects stands e b found =
 pub applied-row : (entries : Entries) (k : Key) (r : Row) → rows_applied entries k ≡ Some r → (a : Applied) × (applied_at entries k ≡ Some a) × (a.row ≡ r)
 applied-row entries k r h = mapped (λ a. a.row) (applied_at entries k) r h
 
-has_base : (entries : Entries) (k : Key) (r : Row) (b : Body Rid) → IsPort k r b ⊎ IsInterface entries k r b → have_rows (rows_applied entries) (names_of k r) ≡ true
+pub has_base : (entries : Entries) (k : Key) (r : Row) (b : Body Rid) → IsPort k r b ⊎ IsInterface entries k r b → have_rows (rows_applied entries) (names_of k r) ≡ true
 has_base entries k r b (inl port) = ap (λ x. have_rows (rows_applied entries) (names_of x r)) port.key_is
 has_base entries k r b (inr on) =
     ap (λ x. have_rows (rows_applied entries) (names_of x r)) on.key_is

@@ -32,14 +32,15 @@ use Rattle.orch_core.specs.declared.applied.Applied.{Applied}
 use Rattle.orch_core.specs.declared.attempt.Tried.TheVariants as tried
 use Rattle.orch_core.specs.declared.called.Uncalled.{Uncalled}
 use Rattle.orch_core.specs.declared.called.Uncalled.TheVariants as uncalled
-use Rattle.orch_core.specs.Called.{IsDone, IsMade, StaysClean, Unanswered}
+use Rattle.orch_core.specs.Called.{IsDone, IsGrown, IsMade, StaysClean, Unanswered}
+use Rattle.orch_core.specs.Due.{HadPlaces}
 use Rattle.orch_core.specs.Keeps.{Keeps}
 use Rattle.orch_core.specs.Standing.{Entries, IsPlanned, Stands, applied_at, body_of, rows_applied}
-use Rattle.orch_core.specs.State.{State}
+use Rattle.orch_core.specs.State.{State, size_of}
 use Rattle.orch_core.specs.Step.{IsApplied, IsCreation, IsKnown, IsRemoval, IsStep, IsWaitOf, asks_same, same_admin, step_to, wait_for}
-use Rattle.orch_core.specs.Tried.{IsSteady, IsTried, tried_without}
+use Rattle.orch_core.specs.Tried.{IsSteady, IsTouched, IsTried, tried_without}
 use Rattle.orch_core.proofs.Changing.{legal-remove-free, stands-remove}
-use Rattle.orch_core.proofs.Effects.{keeps-effect, keeps-same}
+use Rattle.orch_core.proofs.Effects.{grown-one, grown-same, keeps-effect, keeps-same}
 use Rattle.orch_core.proofs.Good.{IsServedRow, OfPort, OfIntf, planned-good, served-good}
 use Rattle.orch_core.proofs.Keyed.{found-beside, found-gone, found-left, found-put, is_at-refl, is_at-symm, same_key}
 use Rattle.orch_core.proofs.Making.{legal-make, makes_id-make, stands-make}
@@ -108,8 +109,20 @@ one_more chip new c takes = omega (arith, ap length takes.effects, length-append
 no_more : (n : ℕ) (chip new : ChipState) → StaysSame chip new → length new.effects ≤ length chip.effects + n
 no_more n chip new same = omega (arith, ap length same.effects)
 
+-- no call yet
+pub touched-none : (k : Key) (old : State) (chip : ChipState) → IsSteady old chip → IsTouched 0 k old chip old chip
+touched-none k old chip steady = record {
+  touches = record { same = refl; others = λ q apart. refl };
+  keeps = steady.keeps;
+  stands = steady.stands;
+  grown = grown-same chip chip refl;
+  few = λ none. omega arith;
+  still = λ zero none. none;
+  faults = refl;
+}
+
 -- a call without success
-module _ (k : Key) (old : State) (chip new : ChipState) (c : Call Rid) (steady : IsSteady old chip) (route : makes_route c ≡ false) (stays : StaysClean chip new) where
+module _ (k : Key) (old : State) (chip new : ChipState) (c : Call Rid) (steady : IsSteady old chip) (fits : size_of old (length chip.effects) + 1 ≤ old.limit) (route : makes_route c ≡ false) (stays : StaysClean chip new) where
   unanswered-keeps : StaysSame chip new ⊎ TakesEffect chip c new → Keeps old new
   unanswered-keeps (inl same) = keeps-same old chip new steady.keeps same stays
   unanswered-keeps (inr takes) = keeps-effect old chip new c steady.keeps takes stays (subst HasNoRoute (sym takes.objects) (no_route-call (next_id chip.effects) chip.objects c steady.keeps.whole.sorted (no_route-stands old.plan old.applied chip.objects steady.stands) route))
@@ -118,11 +131,24 @@ module _ (k : Key) (old : State) (chip new : ChipState) (c : Call Rid) (steady :
   unanswered-few (inl same) = no_more 1 chip new same
   unanswered-few (inr takes) = one_more chip new c takes
 
+  unanswered-grown : StaysSame chip new ⊎ TakesEffect chip c new → IsGrown chip new
+  unanswered-grown (inl same) = grown-same chip new same.effects
+  unanswered-grown (inr takes) = grown-one chip c new takes
+
+  unanswered-places : StaysSame chip new ⊎ TakesEffect chip c new → HadPlaces 1 old (length new.effects)
+  unanswered-places either = let grown = unanswered-grown either in record {
+    made = length chip.effects;
+    before = omega (arith, ap length grown.grown, length-append chip.effects grown.calls);
+    last = unanswered-few either;
+    fits = fits;
+  }
+
   pub tried-without : (why : Uncalled) → Unanswered chip c why new → IsTried k old chip (tried_without why) old new
   tried-without uncalled.NoMemory (same, faults) = record {
     touches = record { same = refl; others = λ q apart. refl };
     keeps = keeps-same old chip new steady.keeps same stays;
     stands = subst (Stands old.plan old.applied) (sym same.objects) steady.stands;
+    grown = grown-same chip new same.effects;
     few = λ none. no_more 0 chip new same;
     still = λ zero none. none;
     faults = faults;
@@ -130,6 +156,8 @@ module _ (k : Key) (old : State) (chip new : ChipState) (c : Call Rid) (steady :
   tried-without (uncalled.Faulted count) (either, before, rose) = record {
     touches = record { same = refl; others = λ q apart. refl };
     keeps = unanswered-keeps either;
+    grown = unanswered-grown either;
+    places = unanswered-places either;
     few = λ none. unanswered-few either;
     before = before;
     rose = rose;
@@ -166,6 +194,7 @@ module _ (k : Key) (old : State) (chip : ChipState) (r : Row) (b : Body Rid) (st
             touches = record { same = refl; others = others-made };
             keeps = keeps-applied old made.applied new k (keeps-effect old chip new (call.Create b) steady.keeps takes stays (no_route-stands old.plan made.applied new.objects stands)) due others-made (closed-stands old.plan made.applied new.objects stands);
             stands = stands;
+            grown = grown-one chip (call.Create b) new takes;
             few = λ none. one_more chip new (call.Create b) takes;
             still = λ zero. absurd (omega (arith, zero));
             faults = faults;
@@ -178,10 +207,10 @@ module _ (k : Key) (old : State) (chip : ChipState) (r : Row) (b : Body Rid) (st
       subst (λ n. IsTried k old chip (Ok tried.Done) n chip') (sym (e ∙ ap (λ x. record old { applied = insert_entry key_cmp old.applied k (record { row = r; id = x }) }) is.answer.1))
       (tried-done chip' is.stays is.answer.0 is.answer.2)
 
-  pub tried-unmade : (why : Uncalled) (a : Applied) (new : State) (chip' : ChipState) → IsMade chip b (Err why) chip' → new ≡ record old { applied = remove_entry (is_at (key_cmp k)) (insert_entry key_cmp old.applied k a) } → IsTried k old chip (tried_without why) new chip'
-  tried-unmade why a new chip' is e =
+  pub tried-unmade : (why : Uncalled) (a : Applied) (new : State) (chip' : ChipState) → size_of old (length chip.effects) + 1 ≤ old.limit → IsMade chip b (Err why) chip' → new ≡ record old { applied = remove_entry (is_at (key_cmp k)) (insert_entry key_cmp old.applied k a) } → IsTried k old chip (tried_without why) new chip'
+  tried-unmade why a new chip' fits is e =
       subst (λ n. IsTried k old chip (tried_without why) n chip') (sym (e ∙ ap (λ es. record old { applied = es }) (remove-insert k a old.applied step.absent)))
-      (tried-without k old chip chip' (call.Create b) steady (no_route-body old.applied k r b step.body) is.stays why is.answer)
+      (tried-without k old chip chip' (call.Create b) steady fits (no_route-body old.applied k r b step.body) is.stays why is.answer)
 
 -- the removal of a key's object
 module _ (k : Key) (old : State) (chip : ChipState) (id : Rid) (steady : IsSteady old chip) (due : IsIn k old.to_sync) (step : IsRemoval old k id) where
@@ -214,6 +243,7 @@ module _ (k : Key) (old : State) (chip : ChipState) (id : Rid) (steady : IsStead
             touches = record { same = refl; others = others-gone };
             keeps = keeps-applied old gone.applied new k (keeps-effect old chip new (call.Remove (entry.Oid id)) steady.keeps takes stays (no_route-stands old.plan gone.applied new.objects stands)) due others-gone (closed-stands old.plan gone.applied new.objects stands);
             stands = stands;
+            grown = grown-one chip (call.Remove (entry.Oid id)) new takes;
             few = λ none. one_more chip new (call.Remove (entry.Oid id)) takes;
             still = λ zero. absurd (omega (arith, zero));
             faults = faults;
@@ -224,8 +254,8 @@ module _ (k : Key) (old : State) (chip : ChipState) (id : Rid) (steady : IsStead
   pub tried-removed : (new : State) (chip' : ChipState) → IsDone chip (call.Remove (entry.Oid id)) (Ok tt) chip' → new ≡ record old { applied = remove_entry (is_at (key_cmp k)) old.applied } → IsTried k old chip (Ok tried.Done) new chip'
   tried-removed new chip' is e = subst (λ n. IsTried k old chip (Ok tried.Done) n chip') (sym e) (tried-gone chip' is.stays is.answer.0 is.answer.1)
 
-  pub tried-unremoved : (why : Uncalled) (chip' : ChipState) → IsDone chip (call.Remove (entry.Oid id)) (Err why) chip' → IsTried k old chip (tried_without why) old chip'
-  tried-unremoved why chip' is = tried-without k old chip chip' (call.Remove (entry.Oid id)) steady refl is.stays why is.answer
+  pub tried-unremoved : (why : Uncalled) (chip' : ChipState) → size_of old (length chip.effects) + 1 ≤ old.limit → IsDone chip (call.Remove (entry.Oid id)) (Err why) chip' → IsTried k old chip (tried_without why) old chip'
+  tried-unremoved why chip' fits is = tried-without k old chip chip' (call.Remove (entry.Oid id)) steady fits refl is.stays why is.answer
 
 -- what is to be done for a key
 pub held-step : (s : State) (p : ℕ) (a b : Applied) → IsKnown s → good_rows s.plan s.rows (key.Port p) ≡ None → applied_at s.applied (key.Port p) ≡ Some a → applied_at s.applied (key.Intf (name.Ethernet p)) ≡ Some b → IsWaitOf s (key.Port p) (Rattle.switch_model.specs.declared.wait.Wait.TheVariants.Held (key.Intf (name.Ethernet p)))

@@ -3,6 +3,7 @@ use Rattle.std.proofs.Common.{◌≡◌, ◌⊎◌, inl, inr, ℕ, suc, ◌+◌,
 use Rattle.std.proofs.lemmas.Bool.{false≢true}
 use Rattle.std.proofs.lemmas.List.{length-append}
 use Rattle.std.specs.BTreeMap.{is_at}
+use Rattle.std.specs.List.Sorted.{IsStrictlySortedBy}
 use Rattle.std.specs.Set.{remove_key}
 use Rattle.table_schema.specs.Key.{key_cmp}
 use Rattle.table_schema.specs.declared.key.Key.{Key}
@@ -13,11 +14,14 @@ use Rattle.switch_model.specs.declared.wait.Wait.{Wait}
 use Rattle.swss_types.specs.declared.out_of_memory.OutOfMemory.{OutOfMemory}
 use Rattle.orch_core.specs.Keeps.{Keeps}
 use Rattle.orch_core.specs.Standing.{rows_applied}
-use Rattle.orch_core.specs.State.{State}
+use Rattle.orch_core.specs.State.{State, size_of}
 use Rattle.orch_core.specs.Step.{IsWaitOf}
 use Rattle.orch_core.specs.Tried.{IsFaulted, IsSteady, IsTouched, IsWaiting}
-use Rattle.orch_core.specs.Turn.{AreNew, Brings, EndsFaulted, IsBehind, IsNext, IsNextKey, IsRest, IsTrying, IsTurning, IsUnder, WaitTruly, waiting_keys}
+use Rattle.orch_core.specs.Turn.{AreNew, Brings, EndsFaulted, IsBehind, IsNext, IsNextKey, IsRest, IsTrying, IsTurning, IsUnder, OnlyLeave, WaitTruly, waiting_keys}
+use Rattle.orch_core.proofs.Due.{places-of}
+use Rattle.orch_core.proofs.Effects.{grown-after, grown-same}
 use Rattle.orch_core.proofs.Keyed.{is_at-refl, same_key}
+use Rattle.orch_core.proofs.Queue.{sorted-without}
 
 -- neither the limit nor the keys that wait have a part in what is kept
 pub keeps-queue : (core : State) (chip : ChipState) (to_sync : List Key) (waiting : List (Key × Wait)) → Keeps core chip → ((q : Key) → IsIn q to_sync ⊎ (rows_applied core.applied q ≡ good_rows core.plan core.rows q)) → Keeps (record core { to_sync = to_sync; waiting = waiting }) chip
@@ -70,11 +74,20 @@ truly-queue : (s : State) (to_sync : List Key) (waiting ws : List (Key × Wait))
 truly-queue s to_sync waiting [] h = tt
 truly-queue s to_sync waiting (w ∷ ws) (one, h) = (one, truly-queue s to_sync waiting ws h)
 
+-- keys that leave
+pub leave-same : (old new : List Key) → new ≡ old → OnlyLeave old new
+leave-same old new same = record { each = λ k h. subst (IsIn k) same h; order = λ sorted. subst (IsStrictlySortedBy key_cmp) (sym same) sorted }
+
+pub leave-after : (old mid new : List Key) → OnlyLeave old mid → OnlyLeave mid new → OnlyLeave old new
+leave-after old mid new a b = record { each = λ k h. a.each k (b.each k h); order = λ sorted. b.order (a.order sorted) }
+
 -- no step yet
 pub under-none : (old : State) (chip : ChipState) (waiting : List (Key × Wait)) → IsSteady old chip → IsUnder old chip (record old { waiting = waiting }) chip
 under-none old chip waiting steady = record {
   steady = steady-queue old chip old.to_sync waiting steady steady.keeps.to_sync;
   behind = refl;
+  leave = leave-same old.to_sync old.to_sync refl;
+  grown = grown-same chip chip refl;
   brings = λ new_keys. record { new_keys = new_keys; few = omega arith };
   faults = refl;
 }
@@ -144,12 +157,20 @@ module _ (old : State) (chip : ChipState) (mid : State) (chip1 : ChipState) (k :
           few = omega (arith, b.few, touched.few (b.new_keys k due), lengths);
         }
 
+    leave_done : OnlyLeave old.to_sync left
+    leave_done = leave-after old.to_sync mid.to_sync left trying.turning.under.leave (record {
+      each = λ q h. subst (IsIn q) (sym keys) (in-past (waiting_keys mid.waiting) k at.others q h);
+      order = λ sorted. sorted-without (waiting_keys mid.waiting) k at.others (subst (IsStrictlySortedBy key_cmp) keys sorted);
+    })
+
     trying_done : IsTrying old chip last chip2
     trying_done = record {
       turning = record {
         under = record {
           steady = steady_done;
           behind = ap (λ (s : State). record s { to_sync = left }) touched.touches.same ∙ ap (λ (s : State). record s { to_sync = left; applied = new.applied }) trying.turning.under.behind ∙ ap (λ ws. record old { to_sync = left; applied = new.applied; waiting = ws }) (sym same_waiting);
+          leave = leave_done;
+          grown = grown-after chip chip1 chip2 trying.turning.under.grown touched.grown;
           brings = brings_done;
           faults = touched.faults ∙ trying.turning.under.faults;
         };
@@ -172,6 +193,8 @@ module _ (old : State) (chip : ChipState) (mid : State) (chip1 : ChipState) (k :
           under = record {
             steady = steady-queue mid chip1 mid.to_sync (mid.waiting ++ (k, w) ∷ []) trying.turning.under.steady trying.turning.under.steady.keeps.to_sync;
             behind = ap (λ (s : State). record s { waiting = mid.waiting ++ (k, w) ∷ [] }) trying.turning.under.behind;
+            leave = trying.turning.under.leave;
+            grown = trying.turning.under.grown;
             brings = λ first. let b = trying.turning.under.brings first in record { new_keys = b.new_keys; few = b.few };
             faults = trying.turning.under.faults;
           };
@@ -191,6 +214,8 @@ module _ (old : State) (chip : ChipState) (mid : State) (chip1 : ChipState) (k :
   under-stopped new chip2 touched = record {
     steady = record { keeps = touched.keeps; stands = touched.stands };
     behind = behind_by;
+    leave = leave-after old.to_sync mid.to_sync new.to_sync trying.turning.under.leave (leave-same mid.to_sync new.to_sync same_keys');
+    grown = grown-after chip chip1 chip2 trying.turning.under.grown touched.grown;
     brings = λ first.
         let b = trying.turning.under.brings first in
         record {
@@ -214,6 +239,9 @@ module _ (old : State) (chip : ChipState) (mid : State) (chip1 : ChipState) (k :
   ends-faulted count new chip2 faulted = record {
     keeps = faulted.keeps;
     behind = faulted.touches.same ∙ ap (λ (s : State). record s { applied = new.applied }) trying.turning.under.behind ∙ ap (λ ks. record old { to_sync = ks; applied = new.applied; waiting = mid.waiting }) (sym (ap (λ (s : State). s.to_sync) faulted.touches.same)) ∙ ap (λ ws. record old { to_sync = new.to_sync; applied = new.applied; waiting = ws }) (sym (ap (λ (s : State). s.waiting) faulted.touches.same));
+    leave = leave-after old.to_sync mid.to_sync new.to_sync trying.turning.under.leave (leave-same mid.to_sync new.to_sync (ap (λ (s : State). s.to_sync) faulted.touches.same));
+    grown = grown-after chip chip1 chip2 trying.turning.under.grown faulted.grown;
+    places = places-of 1 1 mid old (length chip2.effects) (ap (λ (s : State). size_of s 0 + 1) (sym trying.turning.under.behind)) (ap (λ (s : State). s.limit) (sym trying.turning.under.behind)) faulted.places;
     before = faulted.before ∙ trying.turning.under.faults;
     rose = omega (arith, faulted.rose, trying.turning.under.faults);
   }

@@ -1,5 +1,5 @@
 -- What a legal call of the chip comes to. Own.
-use Rattle.std.specs.Prelude.{◌≡◌, ◌⊎◌, ◌<◌, Result, Ok, Err}
+use Rattle.std.specs.Prelude.{◌≡◌, ◌⊎◌, ◌<◌, List, ◌++◌, Result, Ok, Err}
 use Rattle.sai_types.specs.After.{next_id}
 use Rattle.sai_types.specs.ChipState.{ChipState, StaysSame, TakesEffect}
 use Rattle.sai_types.specs.declared.ids.Rid.{Rid}
@@ -8,6 +8,11 @@ use Rattle.sai_types.specs.declared.body.Call.{Call}
 use Rattle.sai_types.specs.declared.body.Call.TheVariants as call
 use Rattle.orch_core.specs.declared.called.Uncalled.{Uncalled}
 use Rattle.orch_core.specs.declared.called.Uncalled.TheVariants as uncalled
+
+-- the calls that took effect stay, and more may follow
+pub record IsGrown (old new : ChipState) : Type 0 where
+  pub calls : List (Call Rid)
+  pub grown : new.effects ≡ old.effects ++ calls
 
 -- the chip keeps its room, and stays as clean as it was
 pub record StaysClean (old new : ChipState) : Type 0 where

@@ -71,5 +71,5 @@ abbrev pub IsSet : Key → Attr Rid → State → ChipState → Result Tried Out
 IsSet k t old chip (Ok tried.Done) new chip' = IsTouched 0 k old chip new chip' × (applied_at new.applied k ≡ option_map (λ a. applied_with a t) (applied_at old.applied k))
 IsSet k t old chip (Ok (tried.Waits w)) new chip' = ⊥
 IsSet k t old chip (Ok (tried.Faulted before)) new chip' = IsFaulted k old chip before new chip'
-IsSet k t old chip (Ok tried.LogFull) new chip' = IsTouched 0 k old chip new chip' × (new.limit < size_of new (length chip'.effects) + 1)
+IsSet k t old chip (Ok tried.LogFull) new chip' = (new ≡ old) × (chip' ≡ chip) × (old.limit < size_of old (length chip.effects) + 1)
 IsSet k t old chip (Err e) new chip' = IsTouched 0 k old chip new chip'

@@ -1,5 +1,6 @@
 pub mod Called
 pub mod Difference
+pub mod Due
 pub mod Keeps
 pub mod Settling
 pub mod Standing

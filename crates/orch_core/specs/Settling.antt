@@ -1,25 +1,35 @@
 -- What a settling comes to. Own.
-use Rattle.std.specs.Prelude.{◌≡◌, ◌⊎◌, ℕ, Bool, true, false, ◌+◌, ◌<◌, [], length, map, Result, Ok, Err}
+use Rattle.std.specs.Prelude.{◌≡◌, ◌⊎◌, ℕ, Bool, true, false, ◌+◌, ◌<◌, ◌≤◌, [], length, map, Result, Ok, Err}
 use Rattle.swss_types.specs.declared.out_of_memory.OutOfMemory.{OutOfMemory}
+use Rattle.std.specs.List.Sorted.{IsStrictlySortedBy}
+use Rattle.table_schema.specs.Key.{key_cmp}
 use Rattle.sai_types.specs.ChipState.{ChipState}
 use Rattle.switch_model.specs.History.{History, with_end, with_mark}
 use Rattle.switch_model.specs.Marks.{Waiting}
 use Rattle.switch_model.specs.declared.mark.Mark.{Mark}
 use Rattle.switch_model.specs.declared.mark.MarkEvent.{MarkEvent}
 use Rattle.switch_model.specs.declared.mark.MarkEvent.TheVariants as event
+use Rattle.orch_core.specs.Called.{IsGrown}
+use Rattle.orch_core.specs.Due.{CallIsDue, HadPlaces}
+use Rattle.orch_core.specs.Keeps.{IsKept}
 use Rattle.orch_core.specs.Standing.{rows_applied}
 use Rattle.orch_core.specs.State.{State, size_of}
-use Rattle.orch_core.specs.Turn.{BringsNew, EndsFaulted, IsRest, IsUnder, WaitTruly}
+use Rattle.orch_core.specs.Turn.{BringsNew, EndsFaulted, IsRest, IsUnder, OnlyLeave, WaitTruly}
 use Rattle.orch_core.specs.declared.answer.Settled.{Settled}
 use Rattle.orch_core.specs.declared.answer.Settled.TheVariants as settled
 use Rattle.orch_core.specs.declared.settle.Rested.{Rested}
 use Rattle.orch_core.specs.declared.settle.Rested.TheVariants as rested
 
--- the turns ended: what is left to sync waits, each key for a true reason
+-- the mark is due: what is left to sync waits, in key order, each key for a true reason
+pub record MarkIsDue (s : State) : Type 0 where
+  pub rest : IsRest s []
+  pub order : IsStrictlySortedBy key_cmp s.to_sync
+  pub truly : WaitTruly s s.waiting
+
+-- the turns ended, and the mark is due
 pub record HasRested (old : State) (chip : ChipState) (new : State) (chip' : ChipState) : Type 0 where
   pub under : IsUnder old chip new chip'
-  pub rest : IsRest new []
-  pub truly : WaitTruly new new.waiting
+  pub due : MarkIsDue new
 
 -- the turns of a settling so far: no key waits yet, or what is left waits
 pub record IsSettling (old : State) (chip : ChipState) (new : State) (chip' : ChipState) : Type 0 where
@@ -29,7 +39,7 @@ pub record IsSettling (old : State) (chip : ChipState) (new : State) (chip' : Ch
 abbrev pub IsRested : State → ChipState → Result Rested OutOfMemory → State → ChipState → Type 0
 IsRested old chip (Ok (rested.Rested turns)) new chip' = HasRested old chip new chip'
 IsRested old chip (Ok (rested.Faulted before)) new chip' = EndsFaulted old chip before new chip'
-IsRested old chip (Ok rested.LogFull) new chip' = IsUnder old chip new chip' × (new.limit < size_of new (length chip'.effects) + 1)
+IsRested old chip (Ok rested.LogFull) new chip' = IsUnder old chip new chip' × CallIsDue new × (new.limit < size_of new (length chip'.effects) + 1)
 IsRested old chip (Err e) new chip' = IsUnder old chip new chip'
 
 -- the keys that wait, as a mark lists them: each with its reason and its applied row
@@ -60,34 +70,71 @@ is_marked (Err e) = false
 
 -- filling in the last mark of a log, which is h without it: the keys that wait, or nothing where the log has no room for them
 abbrev pub IsFilling : History → State → ℕ → ℕ → Result Settled OutOfMemory → State → Type 0
-IsFilling h old effects turns (Ok settled.Settled) new = new ≡ record old { log = with_ending h (mark_at old effects (event.Settled (listing old) turns)); listed = old.listed + length old.waiting }
+IsFilling h old effects turns (Ok settled.Settled) new = (new ≡ record old { log = with_ending h (mark_at old effects (event.Settled (listing old) turns)); listed = old.listed + length old.waiting }) × (size_of new effects ≤ new.limit)
 IsFilling h old effects turns (Ok settled.Faulted) new = ⊥
 IsFilling h old effects turns (Ok settled.LogFull) new = (new ≡ old) × (old.limit < size_of old effects + length old.waiting)
 IsFilling h old effects turns (Err e) new = new ≡ old
+
+-- the log is full where the mark has its place: a chip call is due, or the mark with its keys
+abbrev pub IsFullBeside : State → ℕ → Type 0
+IsFullBeside s effects = (CallIsDue s × (s.limit < size_of s effects + 1)) ⊎ (MarkIsDue s × (s.limit < size_of s effects + length s.waiting))
 
 -- a settling whose last mark is to be filled in
 abbrev pub IsFilled : History → State → ChipState → Result Settled OutOfMemory → State → ChipState → Type 0
 IsFilled h old chip (Ok settled.Settled) new chip' =
     (mid : State) × (turns : ℕ) × HasRested old chip mid chip'
     × (new ≡ record mid { log = with_ending h (mark_at mid (length chip'.effects) (event.Settled (listing mid) turns)); listed = mid.listed + length mid.waiting })
+    × (size_of new (length chip'.effects) ≤ new.limit)
 IsFilled h old chip (Ok settled.Faulted) new chip' =
     (mid : State) × EndsFaulted old chip chip.faults mid chip'
     × (new ≡ record mid { log = with_ending h (mark_at mid (length chip'.effects) (event.Faulted chip.faults chip'.faults)) })
-IsFilled h old chip (Ok settled.LogFull) new chip' = IsUnder old chip new chip' × (new.limit < size_of new (length chip'.effects) + 1 + length new.to_sync)
+IsFilled h old chip (Ok settled.LogFull) new chip' = IsUnder old chip new chip' × IsFullBeside new (length chip'.effects)
 IsFilled h old chip (Err e) new chip' = IsUnder old chip new chip'
 
--- the plan, the room and the places of the log stay
+-- the plan, the room, the places of the log and the rows stay
 pub record IsSame (old new : State) : Type 0 where
   pub plan : new.plan ≡ old.plan
   pub capacities : new.capacities ≡ old.capacities
   pub limit : new.limit ≡ old.limit
+  pub rows : new.rows ≡ old.rows
 
--- how a settling ended: the last mark lists the keys that wait, which are those left to sync, with true reasons (the promises, in soundness); or it tells that the chip failed; or the log has no room for what comes next; after the last and want of memory the log is as before
+-- the log is full: an event is due that needs more places than are left; a chip call needs two, the mark one and one more for each key that it lists
+abbrev pub IsFull : State → ℕ → Type 0
+IsFull s effects = (CallIsDue s × (s.limit < size_of s effects + 2)) ⊎ (MarkIsDue s × (s.limit < size_of s effects + 1 + length s.waiting))
+
+-- no mark was made, and the chip did not fail
+pub record HasNoMark (old : State) (chip : ChipState) (new : State) (chip' : ChipState) : Type 0 where
+  pub log : new.log ≡ old.log
+  pub listed : new.listed ≡ old.listed
+  pub faults : chip'.faults ≡ chip.faults
+
+-- the mark lists the keys that wait, which are those left to sync, in key order and with true reasons; it had its places
+pub record MarksSettled (old : State) (chip : ChipState) (new : State) (chip' : ChipState) : Type 0 where
+  pub turns : ℕ
+  pub log : new.log ≡ with_ending old.log (mark_at old (length chip'.effects) (event.Settled (listing new) turns))
+  pub listed : new.listed ≡ old.listed + length new.waiting
+  pub due : MarkIsDue new
+  pub places : size_of new (length chip'.effects) ≤ new.limit
+  pub faults : chip'.faults ≡ chip.faults
+
+-- the mark tells that the chip failed; the failed call had its two places
+pub record MarksFaulted (old : State) (chip : ChipState) (new : State) (chip' : ChipState) : Type 0 where
+  pub log : new.log ≡ with_ending old.log (mark_at old (length chip'.effects) (event.Faulted chip.faults chip'.faults))
+  pub listed : new.listed ≡ old.listed
+  pub places : HadPlaces 2 old (length chip'.effects)
+  pub rose : chip.faults < chip'.faults
+
+-- how a settling ended: with a mark; or the log is full; after the last and want of memory the log is as before
 abbrev pub IsSettled : State → ChipState → Result Settled OutOfMemory → State → ChipState → Type 0
-IsSettled old chip (Ok settled.Settled) new chip' =
-    (turns : ℕ) × (new.log ≡ with_ending old.log (mark_at old (length chip'.effects) (event.Settled (listing new) turns))) × IsRest new [] × (chip'.faults ≡ chip.faults)
-IsSettled old chip (Ok settled.Faulted) new chip' =
-    (new.log ≡ with_ending old.log (mark_at old (length chip'.effects) (event.Faulted chip.faults chip'.faults))) × (chip.faults < chip'.faults)
-IsSettled old chip (Ok settled.LogFull) new chip' =
-    (new.log ≡ old.log) × (new.listed ≡ old.listed) × (new.limit < size_of new (length chip'.effects) + 2 + length new.to_sync) × BringsNew old (length chip.effects) new (length chip'.effects) × (chip'.faults ≡ chip.faults)
-IsSettled old chip (Err e) new chip' = (new.log ≡ old.log) × (chip'.faults ≡ chip.faults)
+IsSettled old chip (Ok settled.Settled) new chip' = MarksSettled old chip new chip'
+IsSettled old chip (Ok settled.Faulted) new chip' = MarksFaulted old chip new chip'
+IsSettled old chip (Ok settled.LogFull) new chip' = HasNoMark old chip new chip' × IsFull new (length chip'.effects) × BringsNew old (length chip.effects) new (length chip'.effects)
+IsSettled old chip (Err e) new chip' = HasNoMark old chip new chip'
+
+-- all that a settling comes to: the promises are kept; how it ended; what stays; keys to sync only leave, and effects only come
+pub record Settles (old : State) (chip : ChipState) (result : Result Settled OutOfMemory) (new : State) (chip' : ChipState) : Type 0 where
+  pub kept : IsKept new chip'
+  pub ended : IsSettled old chip result new chip'
+  pub same : IsSame old new
+  pub sync : OnlyLeave old.to_sync new.to_sync
+  pub grown : IsGrown chip chip'

@@ -5,6 +5,8 @@ use Rattle.sai_types.specs.ChipState.{ChipState}
 use Rattle.swss_types.specs.declared.out_of_memory.OutOfMemory.{OutOfMemory}
 use Rattle.switch_model.specs.Good.{good_rows}
 use Rattle.switch_model.specs.declared.wait.Wait.{Wait}
+use Rattle.orch_core.specs.Called.{IsGrown}
+use Rattle.orch_core.specs.Due.{CallIsDue, HadPlaces}
 use Rattle.orch_core.specs.Keeps.{Keeps}
 use Rattle.orch_core.specs.Standing.{Stands, rows_applied}
 use Rattle.orch_core.specs.State.{State, size_of}
@@ -28,14 +30,17 @@ pub record IsTouched (n : ℕ) (k : Key) (old : State) (chip : ChipState) (new :
   pub touches : Touches k old new
   pub keeps : Keeps new chip'
   pub stands : Stands new.plan new.applied chip'.objects
+  pub grown : IsGrown chip chip'
   pub few : MakesFew n k old chip chip'
   pub still : n ≡ 0 → rows_applied old.applied k ≡ None → rows_applied new.applied k ≡ None
   pub faults : chip'.faults ≡ chip.faults
 
--- the chip failed
+-- the chip failed; its call had a place beside that of the mark
 pub record IsFaulted (k : Key) (old : State) (chip : ChipState) (count : ℕ) (new : State) (chip' : ChipState) : Type 0 where
   pub touches : Touches k old new
   pub keeps : Keeps new chip'
+  pub grown : IsGrown chip chip'
+  pub places : HadPlaces 1 old (length chip'.effects)
   pub few : MakesFew 1 k old chip chip'
   pub before : count ≡ chip.faults
   pub rose : chip.faults < chip'.faults
@@ -50,7 +55,7 @@ abbrev pub IsTried : Key → State → ChipState → Result Tried OutOfMemory �
 IsTried k old chip (Ok tried.Done) new chip' = IsTouched 1 k old chip new chip' × (rows_applied new.applied k ≡ good_rows old.plan old.rows k)
 IsTried k old chip (Ok (tried.Waits w)) new chip' = IsWaiting k old chip w new chip'
 IsTried k old chip (Ok (tried.Faulted before)) new chip' = IsFaulted k old chip before new chip'
-IsTried k old chip (Ok tried.LogFull) new chip' = IsTouched 0 k old chip new chip' × (new.limit < size_of new (length chip'.effects) + 1)
+IsTried k old chip (Ok tried.LogFull) new chip' = IsTouched 0 k old chip new chip' × CallIsDue new × (new.limit < size_of new (length chip'.effects) + 1)
 IsTried k old chip (Err e) new chip' = IsTouched 0 k old chip new chip'
 
 -- a core and its chip before the next step

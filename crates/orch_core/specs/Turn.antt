@@ -2,12 +2,15 @@
 use Rattle.std.specs.Prelude.{◌≡◌, ℕ, ◌+◌, ◌<◌, ◌≤◌, List, [], ◌∷◌, ◌++◌, length, map, Option, Some, None, Result, Ok, Err}
 use Rattle.swss_types.specs.declared.out_of_memory.OutOfMemory.{OutOfMemory}
 use Rattle.std.specs.BTreeMap.{is_at}
+use Rattle.std.specs.List.Sorted.{IsStrictlySortedBy}
 use Rattle.std.specs.Set.{remove_key}
 use Rattle.table_schema.specs.Key.{key_cmp}
 use Rattle.table_schema.specs.declared.key.Key.{Key}
 use Rattle.sai_types.specs.Alike.{IsIn}
 use Rattle.sai_types.specs.ChipState.{ChipState}
 use Rattle.switch_model.specs.declared.wait.Wait.{Wait}
+use Rattle.orch_core.specs.Called.{IsGrown}
+use Rattle.orch_core.specs.Due.{CallIsDue, HadPlaces}
 use Rattle.orch_core.specs.Keeps.{Keeps}
 use Rattle.orch_core.specs.Standing.{rows_applied}
 use Rattle.orch_core.specs.State.{State, size_of}
@@ -55,10 +58,17 @@ BringsNew old effects new effects' = AreNew old → Brings old effects new effec
 abbrev pub IsBehind : State → State → Type 0
 IsBehind old new = new ≡ record old { to_sync = new.to_sync; applied = new.applied; waiting = new.waiting }
 
+-- keys only leave, and those that are left stay in order
+pub record OnlyLeave (old new : List Key) : Type 0 where
+  pub each : (k : Key) → IsIn k new → IsIn k old
+  pub order : IsStrictlySortedBy key_cmp old → IsStrictlySortedBy key_cmp new
+
 -- steps towards the rows, after which what stands is known
 pub record IsUnder (old : State) (chip : ChipState) (new : State) (chip' : ChipState) : Type 0 where
   pub steady : IsSteady new chip'
   pub behind : IsBehind old new
+  pub leave : OnlyLeave old.to_sync new.to_sync
+  pub grown : IsGrown chip chip'
   pub brings : BringsNew old (length chip.effects) new (length chip'.effects)
   pub faults : chip'.faults ≡ chip.faults
 
@@ -74,16 +84,19 @@ pub record IsTrying (old : State) (chip : ChipState) (new : State) (chip' : Chip
   pub rest : List Key
   pub left : IsRest new rest
 
--- the chip failed, and what stands on it is not known
+-- the chip failed, and what stands on it is not known; its call had a place beside that of the mark
 pub record EndsFaulted (old : State) (chip : ChipState) (count : ℕ) (new : State) (chip' : ChipState) : Type 0 where
   pub keeps : Keeps new chip'
   pub behind : IsBehind old new
+  pub leave : OnlyLeave old.to_sync new.to_sync
+  pub grown : IsGrown chip chip'
+  pub places : HadPlaces 1 old (length chip'.effects)
   pub before : count ≡ chip.faults
   pub rose : chip.faults < chip'.faults
 
--- how a turn ended: each key was tried, and those that are left wait; or the chip failed; or the log has no room for a call
+-- how a turn ended: each key was tried, and those that are left wait; or the chip failed; or a call is due and the log has no room for it
 abbrev pub IsTurned : State → ChipState → Result Turned OutOfMemory → State → ChipState → Type 0
 IsTurned old chip (Ok turned.Whole) new chip' = IsTurning old chip new chip' × IsRest new []
 IsTurned old chip (Ok (turned.Faulted before)) new chip' = EndsFaulted old chip before new chip'
-IsTurned old chip (Ok turned.LogFull) new chip' = IsUnder old chip new chip' × (new.limit < size_of new (length chip'.effects) + 1)
+IsTurned old chip (Ok turned.LogFull) new chip' = IsUnder old chip new chip' × CallIsDue new × (new.limit < size_of new (length chip'.effects) + 1)
 IsTurned old chip (Err e) new chip' = IsUnder old chip new chip'

@@ -5,8 +5,10 @@ ghost use Rattle.orch_core.specs.Keeps.{IsKept};
 ghost use Rattle.switch_model.specs.History.{History};
 ghost use Rattle.switch_model.specs.declared.mark.Mark.{Mark};
 ghost use Rattle.switch_model.specs.declared.mark.MarkEvent.TheVariants as event;
-ghost use Rattle.orch_core.specs.Settling.{IsFilled, IsFilling, IsRested, IsSame, IsSettled, is_marked, listing, mark_at, opened, with_ending};
+ghost use Rattle.orch_core.specs.Settling.{IsFilled, IsFilling, IsRested, IsSame, IsSettled, Settles, is_marked, listing, mark_at, opened, with_ending};
+ghost use Rattle.orch_core.specs.Called.{IsGrown};
 ghost use Rattle.orch_core.specs.Tried.{IsSteady};
+ghost use Rattle.orch_core.specs.Turn.{OnlyLeave};
 
 use crate::turn::Turned;
 use crate::{Core, Mark, MarkEvent, Settled, Waits};
@@ -34,6 +36,17 @@ impl Core {
         ensures kept { IsKept self.new (C.state chip.new) }
         ensures ended { IsSettled self.old (C.state chip.old) result self.new (C.state chip.new) }
         ensures same { IsSame self.old self.new }
+        ensures sync { OnlyLeave self.old.to_sync self.new.to_sync }
+        ensures grown { IsGrown (C.state chip.old) (C.state chip.new) }
+    {
+        self.settle_with_mark(chip)
+    }
+
+    /// The same.
+    fn settle_with_mark<C: Chip>(&mut self, chip: &mut C) -> Result<Settled, OutOfMemory>
+        requires kept { IsKept self.old (C.state chip.old) }
+        requires known { is_suspect self.old.log.marks ≡ false }
+        ensures { Settles self.old (C.state chip.old) result self.new (C.state chip.new) }
     {
         self.open_mark()?;
         let ended = self.settle_in_place(chip);

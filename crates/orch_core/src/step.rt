@@ -155,6 +155,6 @@ fn change_to(row: Row) -> Step
 {
     match row {
         Row::Port(port) => Step::Change(port),
-        other => Step::Nothing,
+        _ => Step::Nothing,
     }
 }

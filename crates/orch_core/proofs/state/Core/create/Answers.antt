@@ -1,8 +1,9 @@
-use Rattle.std.proofs.Common.{rules, ◌≡◌, ◌∙◌, ap}
+use Rattle.std.proofs.Common.{rules, ◌≡◌, ◌∙◌, length, ap}
 use Rattle.std.specs.BTreeMap.{insert_entry}
 use Rattle.table_schema.specs.Key.{key_cmp}
 use Rattle.orch_core.specs.State.{State}
-use Rattle.orch_core.proofs.Trying.{legal-creation, tried-made, tried-unmade}
+use Rattle.orch_core.proofs.Due.{due-creation, fits-from, full-from}
+use Rattle.orch_core.proofs.Trying.{legal-creation, touched-none, tried-made, tried-unmade}
 use Rattle.orch_core.proofs.state.Core.create.Goals as goal
 
 pub make-requires-clause-legal : goal.make-requires-clause-legal
@@ -15,4 +16,11 @@ returns-in-Ok g c =
     rw c.name.ensures.is (tried-made c.args.key.now c.args.self.now (g.C.Chip.state c.args.chip.now) c.args.row c.args.body c.requires.steady c.requires.due c.requires.step c.in-Ok.id c.name.new.self (g.C.Chip.state c.make.new.chip) (search rules) is)
 
 pub returns-in-Err : goal.returns-in-Err
-returns-in-Err g c = rw c.without.ensures (tried-unmade c.args.key.now c.args.self.now (g.C.Chip.state c.args.chip.now) c.args.row c.args.body c.requires.steady c.requires.due c.requires.step c.in-Err.why (record { row = c.args.row; id = record { 0 = 0 } }) _ (g.C.Chip.state c.make.new.chip) (search rules) (search rules))
+returns-in-Err g c = rw c.without.ensures (tried-unmade c.args.key.now c.args.self.now (g.C.Chip.state c.args.chip.now) c.args.row c.args.body c.requires.steady c.requires.due c.requires.step c.in-Err.why (record { row = c.args.row; id = record { 0 = 0 } }) _ (g.C.Chip.state c.make.new.chip) (fits-from c.args.self.now c.effects.result (length (g.C.Chip.state c.args.chip.now).effects) c.is_full.result (search rules) (search rules) (search rules)) (search rules) (search rules))
+
+pub returns-then-is_full : goal.returns-then-is_full
+returns-then-is_full g c = (
+  touched-none c.args.key.now c.args.self.now (g.C.Chip.state c.args.chip.now) c.requires.steady,
+  due-creation c.args.self.now (g.C.Chip.state c.args.chip.now) c.requires.steady c.args.key.now c.args.row c.args.body c.requires.due c.requires.step,
+  full-from c.args.self.now c.effects.result (length (g.C.Chip.state c.args.chip.now).effects) c.is_full.result c.is_full.ensures.full c.if-is_full.true c.effects.ensures,
+)

@@ -54,4 +54,4 @@ pub returns-in-LogFull : goal.returns-in-LogFull
 returns-in-LogFull g c =
     let next = subst (IsNextKey c.loop-key.self) c.in-Some.is c.in_ok-key.ensures in
     let full = tried_as c.in-Some.key c.loop-key.self (g.C.Chip.state c.loop-key.chip) c.attempt.new.self (g.C.Chip.state c.attempt.new.chip) (c.in_ok-attempt.was ∙ ap Ok c.in-LogFull.is) c.attempt.ensures in
-    (under-stopped c.args.self.now (g.C.Chip.state c.args.chip.now) c.loop-key.self (g.C.Chip.state c.loop-key.chip) c.in-Some.key c.loop-key.invariant next c.attempt.new.self (g.C.Chip.state c.attempt.new.chip) full.0, full.1)
+    (under-stopped c.args.self.now (g.C.Chip.state c.args.chip.now) c.loop-key.self (g.C.Chip.state c.loop-key.chip) c.in-Some.key c.loop-key.invariant next c.attempt.new.self (g.C.Chip.state c.attempt.new.chip) full.0, full.1, full.2)
