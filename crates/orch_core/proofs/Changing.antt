@@ -4,7 +4,6 @@ use Rattle.std.specs.BTreeMap.{insert_entry, is_at}
 use Rattle.std.specs.Map.{remove_entry}
 use Rattle.std.specs.List.{list_any}
 use Rattle.std.proofs.lemmas.Bool.{false≢true}
-use Rattle.swss_types.specs.declared.interface.IfName.{IfName}
 use Rattle.swss_types.specs.declared.interface.IfName.TheVariants as name
 use Rattle.table_schema.specs.Key.{key_cmp}
 use Rattle.table_schema.specs.Plan.{Ports, IsPlan}
@@ -16,14 +15,13 @@ use Rattle.sai_types.specs.declared.ids.Rid.{Rid}
 use Rattle.sai_types.specs.declared.body.Attr.{Attr}
 use Rattle.sai_types.specs.declared.body.Attr.TheVariants as attr
 use Rattle.sai_types.specs.declared.body.Body.{Body}
-use Rattle.sai_types.specs.declared.body.Body.TheVariants as body
 use Rattle.sai_types.specs.declared.body.Call.TheVariants as call
 use Rattle.sai_types.specs.declared.body.Entry.{Entry}
 use Rattle.sai_types.specs.declared.body.Entry.TheVariants as entry
 use Rattle.sai_types.specs.After.{after_call, after_set, with_attr}
 use Rattle.sai_types.specs.Made.{AreSorted, IsWhole, same_entry}
 use Rattle.sai_types.specs.Objects.{Objects, body_at, entry_cmp}
-use Rattle.sai_types.specs.Refusal.{IsLegal, has_attr, refers_to, remove_refusal, set_refusal}
+use Rattle.sai_types.specs.Refusal.{IsLegal, refers_to, remove_refusal}
 use Rattle.sai_types.proofs.Found.{body_at-insert, body_at-remove, same-refl, same-symm}
 use Rattle.orch_core.specs.declared.applied.Applied.{Applied}
 use Rattle.orch_core.specs.Difference.{row_with}
@@ -37,13 +35,6 @@ use Rattle.orch_core.proofs.Planned.{not_true}
 use Rattle.orch_core.proofs.Standing.{owner}
 
 -- ---- removing the object of a row
-
--- a port is free where its interface is not applied, and all else is
-pub is_free-port : (entries : Entries) (p : ℕ) → applied_at entries (key.Intf (name.Ethernet p)) ≡ None → IsFree entries (key.Port p)
-is_free-port entries p none n same = let number : n ≡ p = cc in ap (λ x. applied_at entries (key.Intf (name.Ethernet x))) number ∙ none
-
-pub is_free-interface : (entries : Entries) (on : IfName) → IsFree entries (key.Intf on)
-is_free-interface entries on n same = absurd cc
 
 removal_from : (objects : Objects) (e : Entry Rid) (b : Body Rid) → body_at objects e ≡ Some b → list_any (λ o. refers_to o.1 e) objects ≡ false → remove_refusal objects e (body_at objects e) ≡ None
 removal_from objects e b found unused = rw (found, unused) refl
@@ -145,12 +136,6 @@ lanes_with r (attr.Mtu m) = refl
 lanes_with r (attr.Up u) = refl
 lanes_with r _ = refl
 
-set_from : (objects : Objects) (r : PortRow) (t : Attr Rid) → has_attr (port_body r) t ≡ true → set_refusal objects (Some (port_body r)) t ≡ None
-set_from objects r (attr.Speed s) has = refl
-set_from objects r (attr.Mtu m) has = refl
-set_from objects r (attr.Up u) has = refl
-set_from objects r _ has = absurd cc
-
 some_body : (r : PortRow) (b : Body Rid) → Some (port_body r) ≡ Some b → b ≡ port_body r
 some_body r b h = cc
 
@@ -162,9 +147,6 @@ module _ (plan : Ports) (entries : Entries) (objects : Objects) (stands : Stands
   port_stands =
       let has = stands.stand (key.Port p) a at in
       has.2 ∙ ap Some (some_body r has.0 (sym (ap (body_of entries (key.Port p)) row_is) ∙ has.1))
-
-  pub legal-set : (capacities : List ℕ) (t : Attr Rid) → has_attr (port_body r) t ≡ true → IsLegal capacities objects (call.Set port_entry t)
-  legal-set capacities t has = ap (λ o. set_refusal objects o t) port_stands ∙ set_from objects r t has
 
   module _ (is : IsPlan plan) (t : Attr Rid) where
     abbrev new : Applied
@@ -235,10 +217,6 @@ module _ (plan : Ports) (entries : Entries) (objects : Objects) (stands : Stands
       stand = λ q c h. stand_by q c (row_in q c h);
       tied = λ e d h. tied_by e d (object_in e d h);
     }
-
--- an attribute of an applied port can be set
-pub legal-set-port : (plan : Ports) (capacities : List ℕ) (entries : Entries) (objects : Objects) (p : ℕ) (a : Applied) (r : PortRow) (t : Attr Rid) → Stands plan entries objects → applied_at entries (key.Port p) ≡ Some a → a.row ≡ row.Port r → has_attr (body.Port r.lanes r.speed r.mtu r.up) t ≡ true → IsLegal capacities objects (call.Set (entry.Oid a.id) t)
-legal-set-port plan capacities entries objects p a r t stands at row_is has = legal-set plan entries objects stands p a r at row_is capacities t has
 
 -- the port's row has its new value then, and the others stand
 pub stands-set-port : (plan : Ports) (entries : Entries) (n : ℕ) (objects : Objects) (p : ℕ) (a : Applied) (r : PortRow) (t : Attr Rid) → IsPlan plan → Stands plan entries objects → applied_at entries (key.Port p) ≡ Some a → a.row ≡ row.Port r → Stands plan (insert_entry key_cmp entries (key.Port p) (record { row = row.Port (row_with r t); id = a.id })) (after_call n objects (call.Set (entry.Oid a.id) t))

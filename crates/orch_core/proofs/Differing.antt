@@ -22,13 +22,11 @@ use Rattle.table_schema.proofs.Keys.{key_total}
 use Rattle.sai_types.specs.declared.ids.Rid.{Rid}
 use Rattle.sai_types.specs.declared.body.Attr.{Attr}
 use Rattle.sai_types.specs.declared.body.Attr.TheVariants as attr
-use Rattle.sai_types.specs.declared.body.Body.TheVariants as body
 use Rattle.sai_types.specs.declared.body.Call.TheVariants as call
 use Rattle.sai_types.specs.declared.body.Entry.TheVariants as entry
 use Rattle.sai_types.specs.After.{after_call, next_id}
 use Rattle.sai_types.specs.Alike.{IsIn}
 use Rattle.sai_types.specs.ChipState.{ChipState, TakesEffect}
-use Rattle.sai_types.specs.Refusal.{IsLegal, has_attr}
 use Rattle.switch_model.specs.Desired.{have_rows}
 use Rattle.switch_model.specs.Good.{good_rows}
 use Rattle.orch_core.specs.declared.applied.Applied.{Applied}
@@ -43,13 +41,13 @@ use Rattle.orch_core.specs.Due.{CallIsDue}
 use Rattle.orch_core.specs.State.{State, size_of}
 use Rattle.orch_core.specs.Step.{IsChange, asks_same, same_admin}
 use Rattle.orch_core.specs.Tried.{IsSteady, IsTouched, IsTried, Touches, tried_without}
-use Rattle.orch_core.proofs.Changing.{legal-set-port, stands-set-port}
+use Rattle.orch_core.proofs.Changing.{stands-set-port}
 use Rattle.orch_core.proofs.Due.{free-good, places-of}
 use Rattle.orch_core.proofs.Effects.{grown-after, grown-one, keeps-effect}
 use Rattle.orch_core.proofs.Good.{planned-good, served-good}
 use Rattle.orch_core.proofs.Keyed.{found-beside, found-put}
 use Rattle.orch_core.proofs.Standing.{closed-stands, no_route-stands}
-use Rattle.orch_core.proofs.Trying.{applied_port, apart-at, keeps-applied, same_ports, some_applied, touched-none, tried-without}
+use Rattle.orch_core.proofs.Trying.{applied_port, apart-at, keeps-applied, same_ports, some_applied, tried-without}
 
 -- ---- the applied row in place
 
@@ -118,16 +116,6 @@ fewer p r t first = by (p.speed == r.speed) (p.mtu == r.mtu) (same_admin p.up r.
         (subst (λ b. rank (first_to_set r b (p.mtu == r.mtu) (same_admin r.up r.up)) < 1) (sym speed) (subst (λ b. rank (first_to_set r true b (same_admin r.up r.up)) < 1) (sym mtu) (subst (λ b. rank (first_to_set r true true b) < 1) (sym (same_admin-refl r.up)) nothing)))
     by true true true speed mtu h = absurd cc
 
--- what differs is an attribute of a port
-of_port : (p r : PortRow) (t : Attr Rid) → first_difference p r ≡ Some t → has_attr (body.Port p.lanes p.speed p.mtu p.up) t ≡ true
-of_port p r t first = by (p.speed == r.speed) (p.mtu == r.mtu) (same_admin p.up r.up) first
-  where
-    by : (s m u : Bool) → first_to_set r s m u ≡ Some t → has_attr (body.Port p.lanes p.speed p.mtu p.up) t ≡ true
-    by false m u h = ap (has_attr (body.Port p.lanes p.speed p.mtu p.up)) (sym (some_attr (attr.Speed r.speed) t h))
-    by true false u h = ap (has_attr (body.Port p.lanes p.speed p.mtu p.up)) (sym (some_attr (attr.Mtu r.mtu) t h))
-    by true true false h = ap (has_attr (body.Port p.lanes p.speed p.mtu p.up)) (sym (some_attr (attr.Up r.up) t h))
-    by true true true h = absurd cc
-
 -- where nothing differs, the rows ask for the same
 no_difference : (p r : PortRow) → first_difference p r ≡ None → asks_same (row.Port p) (row.Port r) ≡ true
 no_difference p r none = by (p.speed == r.speed) (p.mtu == r.mtu) (same_admin p.up r.up) none
@@ -147,9 +135,6 @@ same-port r = ap (λ b. first_to_set r b (r.mtu == r.mtu) (same_admin r.up r.up)
 module _ (k : Key) (t : Attr Rid) (old : State) (chip : ChipState) (id : Rid) (steady : IsSteady old chip) (due : IsIn k old.to_sync) (setting : IsSetting old k id t) where
   at_port : applied_at old.applied (key.Port setting.port) ≡ Some setting.a
   at_port = ap (applied_at old.applied) (sym setting.is) ∙ setting.there
-
-  pub legal-setting : IsLegal chip.capacities chip.objects (call.Set (entry.Oid id) t)
-  legal-setting = subst (λ i. IsLegal chip.capacities chip.objects (call.Set (entry.Oid i) t)) setting.named (legal-set-port old.plan chip.capacities old.applied chip.objects setting.port setting.a setting.now t steady.stands at_port setting.row_is setting.has)
 
   abbrev noted : State
   noted = record old { applied = insert_entry key_cmp old.applied k (applied_with setting.a t) }
@@ -201,13 +186,6 @@ pub record IsChanging (k : Key) (old : State) (chip : ChipState) (new : State) (
   pub a : Applied
   pub there : applied_at new.applied k ≡ Some a
 
-pub changing-first : (k : Key) (r : PortRow) (old : State) (chip : ChipState) → IsSteady old chip → IsChange old k r → IsChanging k old chip old chip
-changing-first k r old chip steady step = record {
-  touched = touched-none k old chip steady;
-  a = step.a;
-  there = step.there;
-}
-
 module _ (k : Key) (r : PortRow) (old : State) (chip : ChipState) (step : IsChange old k r) (mid : State) (between : ChipState) (changing : IsChanging k old chip mid between) where
   abbrev mid_same : mid ≡ record old { applied = mid.applied }
   mid_same = changing.touched.touches.same
@@ -220,20 +198,6 @@ module _ (k : Key) (r : PortRow) (old : State) (chip : ChipState) (step : IsChan
 
   port_at : (a : Applied) → applied_at mid.applied k ≡ Some a → (f : PortRow) × (a.row ≡ row.Port f) × (lanes_in_plan mid.plan step.port ≡ Some f.lanes)
   port_at a there = applied_port mid step.port a (record { served = changing.touched.keeps.served; objects = between.objects; stands = changing.touched.stands }) (ap (applied_at mid.applied) (sym step.is) ∙ there)
-
-  pub changing-setting : (id : Rid) (t : Attr Rid) → IsDifference mid.applied k r (Some (id, t)) → IsSetting mid k id t
-  changing-setting id t (a, there, named, differs) =
-      let of = port_at a there in
-      record {
-        port = step.port;
-        is = step.is;
-        a = a;
-        there = there;
-        named = named;
-        now = of.0;
-        row_is = of.1;
-        has = of_port of.0 r t (sym (ap (λ x. difference_of x r) of.1) ∙ differs);
-      }
 
   touches-after : (new : State) → Touches k mid new → Touches k old new
   touches-after new touches = record {
@@ -251,24 +215,6 @@ module _ (k : Key) (r : PortRow) (old : State) (chip : ChipState) (step : IsChan
     still = λ zero none. touched.still refl (changing.touched.still refl none);
     faults = touched.faults ∙ changing.touched.faults;
   }
-
-  -- an attribute was set
-  pub changing-more : (id : Rid) (t : Attr Rid) → IsDifference mid.applied k r (Some (id, t)) → (new : State) (chip' : ChipState) → IsSet k t mid between (Ok tried.Done) new chip' → IsChanging k old chip new chip'
-  changing-more id t (a, there, named, differs) new chip' (touched, is) = record {
-    touched = touched-after new chip' touched;
-    a = applied_with a t;
-    there = is ∙ ap (option_map (λ x. applied_with x t)) there;
-  }
-
-  -- and less differs
-  pub changing-fewer : (id : Rid) (t : Attr Rid) → IsDifference mid.applied k r (Some (id, t)) → (new : State) (chip' : ChipState) → IsSet k t mid between (Ok tried.Done) new chip' → left_to_set (applied_at new.applied k) r < left_to_set (applied_at mid.applied k) r
-  changing-fewer id t (a, there, named, differs) new chip' (touched, is) =
-      let of = port_at a there in
-      let first = sym (ap (λ x. difference_of x r) of.1) ∙ differs in
-      subst (λ o. left_to_set o r < left_to_set (applied_at mid.applied k) r) (sym (is ∙ ap (option_map (λ x. applied_with x t)) there))
-      (subst (λ o. rank (difference_of (value_with a.row t) r) < left_to_set o r) (sym there)
-      (subst (λ x. rank (difference_of (value_with x t) r) < rank (difference_of x r)) (sym of.1)
-      (subst (λ d. rank (first_difference (row_with of.0 t) r) < rank d) (sym first) (fewer of.0 r t first))))
 
   -- what differs is due
   pub changing-call : (id : Rid) (t : Attr Rid) → IsIn k old.to_sync → IsDifference mid.applied k r (Some (id, t)) → CallIsDue mid

@@ -39,10 +39,10 @@ use Rattle.orch_core.specs.Tried.{IsSteady}
 use Rattle.orch_core.specs.Turn.{BringsNew, EndsFaulted, IsBehind, IsRest, IsTurning, IsUnder, OnlyLeave, WaitTruly, waiting_keys}
 use Rattle.orch_core.proofs.Alike.{alike-stands}
 use Rattle.orch_core.proofs.Due.{places-of}
-use Rattle.orch_core.proofs.Effects.{grown-after, grown-same}
+use Rattle.orch_core.proofs.Effects.{grown-after}
 use Rattle.orch_core.proofs.Keyed.{is_at-refl, same_key}
 use Rattle.orch_core.proofs.Logged.{keeps-mark, listed-more, suspect-more}
-use Rattle.orch_core.proofs.Turning.{leave-after, leave-same, under-none}
+use Rattle.orch_core.proofs.Turning.{leave-after, under-none}
 
 -- a core that keeps its promises is sound
 pub sound-kept : (core : State) (chip : ChipState) → IsKept core chip → IsSound (core_of core) chip
@@ -259,17 +259,6 @@ truly-beside s log listed (w ∷ ws) (one, h) = (one, truly-beside s log listed 
 
 mark-beside : (s : State) (log : History) (listed : ℕ) → MarkIsDue s → MarkIsDue (record s { log = log; listed = listed })
 mark-beside s log listed due = record { rest = due.rest; order = due.order; truly = truly-beside s log listed s.waiting due.truly }
-
--- a settling that made no mark's place
-pub settles-none : (old new : State) (chip : ChipState) (r : Result Settled OutOfMemory) → IsKept old chip → IsErr r → new ≡ old → Settles old chip r new chip
-settles-none old new chip (Ok t) kept err same = absurd (false≢true err)
-settles-none old new chip (Err e) kept err same = subst (λ n. Settles old chip (Err e) n chip) (sym same) (record {
-  kept = kept;
-  ended = record { log = refl; listed = refl; faults = refl };
-  same = record { plan = refl; capacities = refl; limit = refl; rows = refl };
-  sync = leave-same old.to_sync old.to_sync refl;
-  grown = grown-same chip chip refl;
-})
 
 -- a settling on a core with an open mark, by its end; h is the log before it
 module _ (old : State) (chip : ChipState) (new : State) (chip' : ChipState) where

@@ -27,12 +27,6 @@ read_ok : (x : Result Row BadRow) (r : Row) → row_read x ≡ Some r → x ≡ 
 read_ok (Ok v) r h = cc
 read_ok (Err e) r h = absurd cc
 
-abbrev lanes_read : List ℕ → Result (List ℕ) BadRow
-lanes_read lanes = Ok lanes
-
-ok_is : (x y : List ℕ) → lanes_read x ≡ lanes_read y → x ≡ y
-ok_is x y h = cc
-
 planned_if : (t : Bool) (there lanes ls : List ℕ) → bytes_eq there lanes ≡ t → cond t (Ok lanes) (bad (Rattle.table_schema.specs.declared.row.BadWhy.TheVariants.LanesDiffer) 1) ≡ Ok ls → Some there ≡ Some ls
 planned_if true there lanes ls same h = ap Some (((bytes_eq-Decides there lanes).0 same)) ∙ cc
 planned_if false there lanes ls same h = absurd cc

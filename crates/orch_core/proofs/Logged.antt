@@ -27,9 +27,9 @@ use Rattle.table_schema.specs.declared.write.Write.{Write}
 use Rattle.table_schema.specs.declared.write.Write.TheVariants as write
 use Rattle.table_schema.proofs.Keys.{key_total}
 use Rattle.switch_model.specs.Desired.{IsClosed, IsThingOf}
-use Rattle.switch_model.specs.Good.{TypedRows, good_row, good_rows}
+use Rattle.switch_model.specs.Good.{good_row, good_rows}
 use Rattle.switch_model.specs.History.{with_end, with_mark}
-use Rattle.switch_model.specs.Marks.{ReasonsAreTrue, NameFirstKinds, Waiting, applied_rows, writes_of}
+use Rattle.switch_model.specs.Marks.{ReasonsAreTrue, NameFirstKinds, applied_rows, writes_of}
 use Rattle.switch_model.specs.Promises.{AreTrueMarks, EffectsAreLegal, EndsApply, IsTrueMark, good_rows_at}
 use Rattle.switch_model.specs.Sound.{AreWithin, is_fault, is_suspect}
 use Rattle.switch_model.specs.declared.mark.Mark.{Mark}
@@ -56,10 +56,6 @@ writes_of-more (t ∷ sent) s = ap (λ ws. t.write ∷ ws) (writes_of-more sent 
 
 rows-more : (sent : List Sent) (s : Sent) → rows_of (writes_of (sent ++ s ∷ [])) ≡ after_write (rows_of (writes_of sent)) s.write
 rows-more sent s = ap (after_writes []) (writes_of-more sent s) ∙ after_writes-more [] (writes_of sent) s.write
-
--- a removal leaves what is found elsewhere
-past_removed : {X : Type 0} (t u : Bool) (x : X) (rest rest' : Option X) → (t ≡ true → u ≡ false) → rest ≡ rest' → (o : Option X) → o ≡ cond u (Some x) rest → cond t rest' (cond u (Some x) rest) ≡ cond t rest' o
-past_removed t u x rest rest' apart e o is = ap (cond t rest') (sym is)
 
 apart_from : (k q x : Key) → is_at (key_cmp q) k ≡ false → is_at (key_cmp k) x ≡ true → is_at (key_cmp q) x ≡ false
 apart_from k q x apart at = ap (is_at (key_cmp q)) (sym (same_key k x at)) ∙ apart
@@ -103,9 +99,6 @@ good-front : (plan : Ports) (taken : List Sent) (s : Sent) (n : ℕ) → n ≤ l
 good-front plan taken s n le = ap (λ ts. good_rows plan (rows_of (writes_of ts))) (take-append-le n taken (s ∷ []) le)
 
 module _ (plan : Ports) (capacities : List ℕ) (taken : List Sent) (s : Sent) (es : List (Call Rid)) where
-  abbrev IsGood : TypedRows → Mark → Waiting → Type 0
-  IsGood good mark waits = IsAlike (chip_after es mark.effects) (IsThingOf plan (applied_rows waits good))
-
   ended-taken : (began : Mark) (mark : Mark) (e : MarkEvent) → good_rows_at plan (taken ++ s ∷ []) began.taken ≡ good_rows_at plan taken began.taken → EndsApply plan taken es mark began e → EndsApply plan (taken ++ s ∷ []) es mark began e
   ended-taken began mark (event.ApplyBegan mode waits) same h = subst (λ g. IsAlike (chip_after es mark.effects) (IsThingOf plan (applied_rows waits g))) (sym same) h
   ended-taken began mark (event.Settled waits turns) same h = h

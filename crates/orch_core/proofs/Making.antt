@@ -18,7 +18,7 @@ use Rattle.sai_types.specs.declared.body.Call.TheVariants as call
 use Rattle.sai_types.specs.declared.body.Entry.{Entry}
 use Rattle.sai_types.specs.declared.body.Entry.TheVariants as entry
 use Rattle.sai_types.specs.declared.body.RifOn.TheVariants as on
-use Rattle.sai_types.specs.After.{after_call, entry_of, makes_id}
+use Rattle.sai_types.specs.After.{after_call, entry_of}
 use Rattle.sai_types.specs.Made.{IsWhole, same_entry}
 use Rattle.sai_types.specs.Objects.{Objects, body_at, is_kind_of, is_of, is_there, kind_of, used}
 use Rattle.sai_types.specs.Refusal.{IsLegal, capacity_of, clash, create_refusal, refers_well}
@@ -133,14 +133,6 @@ legal-make plan capacities entries made objects k r b is room whole stands plann
     (refers_by plan entries objects is stands k r b planned none new)
     (any-none (clash b) objects (λ e d in_it. free_at plan entries objects is stands k r b planned none new e d (found-in objects e d whole.sorted in_it)))
     (room_by plan entries objects is stands k r b planned none capacities made room whole new)
-
-makes_by : (entries : Entries) (k : Key) (r : Row) (b : Body Rid) → IsPort k r b ⊎ IsInterface entries k r b → makes_id (call.Create b) ≡ true
-makes_by entries k r b (inl x) = ap (λ z. makes_id (call.Create z)) x.body_is
-makes_by entries k r b (inr x) = ap (λ z. makes_id (call.Create z)) x.body_is
-
--- the object of a row has an identifier
-pub makes_id-make : (entries : Entries) (k : Key) (r : Row) (b : Body Rid) → body_of entries k r ≡ Some b → makes_id (call.Create b) ≡ true
-makes_id-make entries k r b h = makes_by entries k r b (parts entries k r b h)
 
 -- ---- what stands then
 

@@ -147,9 +147,6 @@ no_route-named objects sorted none p g h =
     let of = object-of_thing objects objects (Some (thing.Route p g)) h in
     false≢true (sym (none of.0 of.1 (found-in objects of.0 of.1 sorted of.2)) ∙ route-body objects of.0 of.1 p g (sym of.3))
 
-pub no_routes : (plan : Ports) (entries : Entries) (objects : Objects) → AreSorted objects → Stands plan entries objects → (p : Prefix) (g : Goal) → IsIn (Some (thing.Route p g)) (named objects) → ⊥
-no_routes plan entries objects sorted stands p g h = no_route-named objects sorted (no_route-stands plan entries objects stands) p g h
-
 -- ---- who holds a port
 
 only_holder : (entries : Entries) (p : ℕ) (k : Key) (r : Row) (b : Body Rid) → IsPort k r b ⊎ IsInterface entries k r b → IsIn (key.Port p) (names_of k r) → k ≡ key.Intf (name.Ethernet p)

@@ -43,7 +43,7 @@ use Rattle.orch_core.proofs.Changing.{legal-remove-free, stands-remove}
 use Rattle.orch_core.proofs.Effects.{grown-one, grown-same, keeps-effect, keeps-same}
 use Rattle.orch_core.proofs.Good.{IsServedRow, OfPort, OfIntf, planned-good, served-good}
 use Rattle.orch_core.proofs.Keyed.{found-beside, found-gone, found-left, found-put, is_at-refl, is_at-symm, same_key}
-use Rattle.orch_core.proofs.Making.{legal-make, makes_id-make, stands-make}
+use Rattle.orch_core.proofs.Making.{legal-make, stands-make}
 use Rattle.orch_core.proofs.Standing.{HasNoRoute, closed-stands, held, makes_route, no_route-body, no_route-call, no_route-stands}
 
 pub apart-at : (q k : Key) → ¬ (q ≡ k) → is_at (key_cmp q) k ≡ false
@@ -170,9 +170,6 @@ module _ (k : Key) (old : State) (chip : ChipState) (r : Row) (b : Body Rid) (st
 
   pub legal-creation : IsLegal chip.capacities chip.objects (call.Create b)
   legal-creation = subst (λ x. IsLegal x chip.objects (call.Create b)) (sym steady.keeps.capacities) (legal-make old.plan old.capacities old.applied (made_of chip) chip.objects k r b steady.keeps.plan steady.keeps.room steady.keeps.whole steady.stands planned step.absent step.body)
-
-  pub named-creation : makes_id (call.Create b) ≡ true
-  named-creation = makes_id-make old.applied k r b step.body
 
   module _ (new : ChipState) (stays : StaysClean chip new) where
     abbrev applied : Applied

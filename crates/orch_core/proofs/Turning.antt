@@ -1,5 +1,5 @@
 -- what a turn comes to, key by key
-use Rattle.std.proofs.Common.{◌≡◌, ◌⊎◌, inl, inr, ℕ, suc, ◌+◌, ◌<◌, Bool, true, false, List, [], ◌∷◌, ◌++◌, length, None, Some, Result, Ok, Err, refl, sym, ap, ◌∙◌, subst, arith}
+use Rattle.std.proofs.Common.{◌≡◌, ◌⊎◌, inl, inr, ◌+◌, Bool, true, false, List, [], ◌∷◌, ◌++◌, length, None, Some, Result, Ok, Err, refl, sym, ap, ◌∙◌, subst, arith}
 use Rattle.std.proofs.lemmas.Bool.{false≢true}
 use Rattle.std.proofs.lemmas.List.{length-append}
 use Rattle.std.specs.BTreeMap.{is_at}
@@ -14,11 +14,10 @@ use Rattle.switch_model.specs.declared.wait.Wait.{Wait}
 use Rattle.swss_types.specs.declared.out_of_memory.OutOfMemory.{OutOfMemory}
 use Rattle.orch_core.specs.Keeps.{Keeps}
 use Rattle.orch_core.specs.Standing.{rows_applied}
-use Rattle.orch_core.specs.State.{State, size_of}
+use Rattle.orch_core.specs.State.{State}
 use Rattle.orch_core.specs.Step.{IsWaitOf}
-use Rattle.orch_core.specs.Tried.{IsFaulted, IsSteady, IsTouched, IsWaiting}
+use Rattle.orch_core.specs.Tried.{IsSteady, IsTouched, IsWaiting}
 use Rattle.orch_core.specs.Turn.{AreNew, Brings, EndsFaulted, IsBehind, IsNext, IsNextKey, IsRest, IsTrying, IsTurning, IsUnder, OnlyLeave, WaitTruly, waiting_keys}
-use Rattle.orch_core.proofs.Due.{places-of}
 use Rattle.orch_core.proofs.Effects.{grown-after, grown-same}
 use Rattle.orch_core.proofs.Keyed.{is_at-refl, same_key}
 use Rattle.orch_core.proofs.Queue.{sorted-without}
@@ -109,14 +108,6 @@ module _ (old : State) (chip : ChipState) (mid : State) (chip1 : ChipState) (k :
 
   pub due : IsIn k mid.to_sync
   due = subst (IsIn k) (sym keys) (in-behind (waiting_keys mid.waiting) (k ∷ at.others) k (inl refl))
-
-  -- there are more keys to sync than wait
-  more_keys : (ws : List (Key × Wait)) → length (waiting_keys ws) ≡ length ws
-  more_keys [] = refl
-  more_keys (w ∷ ws) = ap suc (more_keys ws)
-
-  pub measure : length mid.waiting < length mid.to_sync
-  measure = omega (arith, ap length keys, length-append (waiting_keys mid.waiting) (k ∷ at.others), more_keys mid.waiting)
 
   -- a key that is done leaves the keys to sync
   module _ (new : State) (chip2 : ChipState) (touched : IsTouched 1 k mid chip1 new chip2) (done : rows_applied new.applied k ≡ good_rows mid.plan mid.rows k) where
@@ -234,21 +225,6 @@ module _ (old : State) (chip : ChipState) (mid : State) (chip1 : ChipState) (k :
       still : Brings old (length chip.effects) mid (length chip1.effects) → (q : Key) (t : Bool) → is_at (key_cmp q) k ≡ t → IsIn q mid.to_sync → rows_applied new.applied q ≡ None
       still b q true same h = subst (λ x. rows_applied new.applied x ≡ None) (sym (same_key q k same)) (touched.still refl (b.new_keys k due))
       still b q false apart h = touched.touches.others q (λ e. false≢true (sym apart ∙ ap (λ x. is_at (key_cmp x) k) e ∙ is_at-refl k)) ∙ b.new_keys q h
-
-  pub ends-faulted : (count : ℕ) (new : State) (chip2 : ChipState) → IsFaulted k mid chip1 count new chip2 → EndsFaulted old chip count new chip2
-  ends-faulted count new chip2 faulted = record {
-    keeps = faulted.keeps;
-    behind = faulted.touches.same ∙ ap (λ (s : State). record s { applied = new.applied }) trying.turning.under.behind ∙ ap (λ ks. record old { to_sync = ks; applied = new.applied; waiting = mid.waiting }) (sym (ap (λ (s : State). s.to_sync) faulted.touches.same)) ∙ ap (λ ws. record old { to_sync = new.to_sync; applied = new.applied; waiting = ws }) (sym (ap (λ (s : State). s.waiting) faulted.touches.same));
-    leave = leave-after old.to_sync mid.to_sync new.to_sync trying.turning.under.leave (leave-same mid.to_sync new.to_sync (ap (λ (s : State). s.to_sync) faulted.touches.same));
-    grown = grown-after chip chip1 chip2 trying.turning.under.grown faulted.grown;
-    places = places-of 1 1 mid old (length chip2.effects) (ap (λ (s : State). size_of s 0 + 1) (sym trying.turning.under.behind)) (ap (λ (s : State). s.limit) (sym trying.turning.under.behind)) faulted.places;
-    before = faulted.before ∙ trying.turning.under.faults;
-    rose = omega (arith, faulted.rose, trying.turning.under.faults);
-  }
-
--- all keys were tried
-pub turned-whole : (old : State) (chip : ChipState) (mid : State) (chip1 : ChipState) (trying : IsTrying old chip mid chip1) → IsNextKey mid None → IsTurning old chip mid chip1 × IsRest mid []
-turned-whole old chip mid chip1 trying none = (trying.turning, subst (IsRest mid) (none trying.rest trying.left) trying.left)
 
 -- want of memory ends a turn
 pub turned-err : (old : State) (chip : ChipState) (r : Result Rattle.orch_core.specs.declared.turn.Turned.Turned OutOfMemory) (new : State) (chip' : ChipState) → Rattle.std.specs.Result.IsErr r → IsUnder old chip new chip' → Rattle.orch_core.specs.Turn.IsTurned old chip r new chip'
