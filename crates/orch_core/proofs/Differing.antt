@@ -270,4 +270,5 @@ module _ (k : Key) (r : PortRow) (old : State) (chip : ChipState) (step : IsChan
           faults = changing.touched.faults;
         },
         ap (option_map (λ a. a.row)) changing.there ∙ ap Some (of.1 ∙ ap row.Port same) ∙ sym step.good,
+        free-good old chip steady k (row.Port r) step.good (ap (λ x. have_rows (rows_applied old.applied) (names_of x (row.Port r))) step.is),
       )

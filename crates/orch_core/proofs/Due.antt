@@ -185,6 +185,13 @@ module _ (s : State) (chip : ChipState) (steady : IsSteady s chip) (k : Key) whe
   free-gone gone free (wait.NoRoom kd) (x, reads, named, over) = none_some (sym gone ∙ reads)
   free-gone gone free (wait.Busy worker) h = h
 
+  -- a row that is applied
+  pub free-same : rows_applied s.applied k ≡ good_rows s.plan s.rows k → HasNoReason s k
+  free-same same (wait.Held q) (gone, x, at, held) = none_some (sym gone ∙ sym same ∙ at)
+  free-same same (wait.Missing q) (x, reads, missing) = free-good x reads (steady.keeps.closed k x (same ∙ reads)) (wait.Missing q) (x, reads, missing)
+  free-same same (wait.NoRoom kd) (x, reads, named, over) = free-good x reads named (wait.NoRoom kd) (x, reads, named, over)
+  free-same same (wait.Busy worker) h = h
+
   -- the calls that are due
   pub free-creation : (r : Row) (b : Body Rid) → IsCreation s k r b → HasNoReason s k
   free-creation r b step = free-good r step.good (has_base s.applied k r b (parts s.applied k r b step.body))

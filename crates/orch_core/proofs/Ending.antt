@@ -1,5 +1,5 @@
 -- what a settling comes to
-use Rattle.std.proofs.Common.{◌≡◌, ◌⊎◌, inl, inr, ℕ, suc, ◌+◌, Bool, true, false, cond, List, [], ◌∷◌, ◌++◌, length, map, Option, None, Some, Result, Ok, Err, refl, sym, ap, ◌∙◌, subst, arith}
+use Rattle.std.proofs.Common.{◌≡◌, ◌⊎◌, inl, inr, ℕ, suc, ◌+◌, Bool, true, false, cond, List, [], ◌∷◌, ◌++◌, length, map, Option, None, Some, Result, Ok, Err, refl, sym, ap, ◌∙◌, subst, arith, ◌<◌}
 use Rattle.std.proofs.Math.Seq.{take-length}
 use Rattle.std.proofs.lemmas.Bool.{false≢true}
 use Rattle.std.proofs.lemmas.List.{length-append}
@@ -32,11 +32,13 @@ use Rattle.orch_core.specs.declared.answer.Settled.{Settled}
 use Rattle.orch_core.specs.declared.answer.Settled.TheVariants as settled
 use Rattle.orch_core.specs.declared.settle.Rested.{Rested}
 use Rattle.orch_core.specs.Due.{CallIsDue}
-use Rattle.orch_core.specs.Settling.{HasNoMark, HasRested, IsFilled, IsFull, IsFullBeside, IsRested, IsSame, IsSettled, IsSettling, MarkIsDue, Settles, is_marked, listing, mark_at, open_mark, opened, with_ending}
+use Rattle.orch_core.specs.Settling.{HasNoMark, HasRested, IsFilled, IsFull, IsFullBeside, IsRested, IsSame, IsSettled, IsSettling, MarkIsDue, Settles, TurnTo, is_marked, listing, mark_at, open_mark, opened, with_ending}
 use Rattle.orch_core.specs.Standing.{rows_applied}
 use Rattle.orch_core.specs.State.{State, core_of, keys_listed, size_of}
 use Rattle.orch_core.specs.Tried.{IsSteady}
-use Rattle.orch_core.specs.Turn.{BringsNew, EndsFaulted, IsBehind, IsRest, IsTurning, IsUnder, OnlyLeave, WaitTruly, waiting_keys}
+use Rattle.orch_core.specs.Turn.{BringsNew, EndsFaulted, IsBehind, IsRest, IsTurned, IsUnder, OnlyLeave, WaitTruly, waiting_keys}
+use Rattle.orch_core.specs.Turns.{IsTurn, TakeTurns}
+use Rattle.orch_core.specs.declared.turn.Turned.TheVariants as turned
 use Rattle.orch_core.proofs.Alike.{alike-stands}
 use Rattle.orch_core.proofs.Due.{places-of}
 use Rattle.orch_core.proofs.Effects.{grown-after}
@@ -214,8 +216,8 @@ sorted-none : IsStrictlySortedBy key_cmp []
 unfolding IsStrictlySortedBy
 sorted-none = tt
 
-pub rested-none : (old : State) (chip : ChipState) (new : State) (chip' : ChipState) → IsSettling old chip new chip' → new.to_sync ≡ [] → HasRested old chip new chip'
-rested-none old chip new chip' settling none =
+pub rested-none : (turns : ℕ) (old : State) (chip : ChipState) (new : State) (chip' : ChipState) → IsSettling turns old chip new chip' → new.to_sync ≡ [] → HasRested turns old chip new chip'
+rested-none turns old chip new chip' settling none =
     let quiet : new.waiting ≡ [] = by settling.waits in
     record {
       under = settling.under;
@@ -224,23 +226,55 @@ rested-none old chip new chip' settling none =
         order = subst (IsStrictlySortedBy key_cmp) (sym none) sorted-none;
         truly = subst (WaitTruly new) (sym quiet) tt;
       };
+      taken = subst (λ n. TurnTo n old new) (none_more turns) (settling.continue 0 (rows_applied new.applied) new.to_sync (none, refl, none));
     }
   where
     by : (new.waiting ≡ []) ⊎ IsRest new [] → new.waiting ≡ []
     by (inl e) = e
     by (inr rest) = no_waits new rest none
 
-pub settling-first : (old : State) (chip : ChipState) (new : State) → IsSteady old chip → new ≡ record old { waiting = [] } → IsSettling old chip new chip
-settling-first old chip new steady e = subst (λ n. IsSettling old chip n chip) (sym e) (record { under = under-none old chip [] steady; waits = inl refl })
+    none_more : (n : ℕ) → n + 0 ≡ n
+    none_more n = omega arith
 
-pub settling-more : (old : State) (chip : ChipState) (mid : State) (chip1 : ChipState) (new : State) (chip2 : ChipState) → IsSettling old chip mid chip1 → IsTurning mid chip1 new chip2 × IsRest new [] → IsSettling old chip new chip2
-settling-more old chip mid chip1 new chip2 settling (turning, rest) = record { under = under-after old chip mid chip1 new chip2 settling.under turning.under; waits = inr rest }
+pub settling-first : (old : State) (chip : ChipState) (new : State) → IsSteady old chip → new ≡ record old { waiting = [] } → IsSettling 0 old chip new chip
+settling-first old chip new steady e = subst (λ n. IsSettling 0 old chip n chip) (sym e) (record {
+  under = under-none old chip [] steady;
+  waits = inl refl;
+  few = omega arith;
+  continue = λ n applied left h. subst (λ m. TakeTurns old.plan old.capacities (good_rows old.plan old.rows) m (rows_applied old.applied) old.to_sync applied left) (none_before n) h;
+})
+  where
+    none_before : (n : ℕ) → n ≡ 0 + n
+    none_before n = omega arith
 
-pub rested-idle : (old : State) (chip : ChipState) (mid : State) (chip1 : ChipState) (new : State) (chip2 : ChipState) → IsSettling old chip mid chip1 → IsTurning mid chip1 new chip2 × IsRest new [] → length new.to_sync ≡ length mid.to_sync → IsStrictlySortedBy key_cmp new.to_sync → HasRested old chip new chip2
-rested-idle old chip mid chip1 new chip2 settling (turning, rest) same order = record {
-  under = under-after old chip mid chip1 new chip2 settling.under turning.under;
-  due = record { rest = rest; order = order; truly = turning.idle same };
-}
+-- one turn more
+module _ (turns : ℕ) (old : State) (chip : ChipState) (mid : State) (chip1 : ChipState) (new : State) (chip2 : ChipState) (settling : IsSettling turns old chip mid chip1) (whole : IsTurned mid chip1 (Ok turned.Whole) new chip2) (some : 0 < length mid.to_sync) where
+  under-more : IsUnder old chip new chip2
+  under-more = under-after old chip mid chip1 new chip2 settling.under whole.0.under
+
+  turn_is : IsTurn old.plan old.capacities (good_rows old.plan old.rows) (rows_applied mid.applied) mid.to_sync (rows_applied new.applied) new.to_sync
+  turn_is = subst (λ (s : State). IsTurn s.plan s.capacities (good_rows s.plan s.rows) (rows_applied mid.applied) mid.to_sync (rows_applied new.applied) new.to_sync) settling.under.behind whole.2
+
+  pub settling-more : ¬ (length new.to_sync ≡ length mid.to_sync) → IsSettling (turns + 1) old chip new chip2
+  settling-more other = record {
+    under = under-more;
+    waits = inr whole.1;
+    few = omega (arith, settling.few, fewer);
+    continue = λ n applied left h. subst (λ m. TakeTurns old.plan old.capacities (good_rows old.plan old.rows) m (rows_applied old.applied) old.to_sync applied left) (one_more n) (settling.continue (suc n) applied left (some, rows_applied new.applied, new.to_sync, turn_is, inr (fewer, h)));
+  }
+    where
+      fewer : length new.to_sync < length mid.to_sync
+      fewer = omega (arith, other, whole.0.fewer)
+
+      one_more : (n : ℕ) → turns + suc n ≡ turns + 1 + n
+      one_more n = omega arith
+
+  pub rested-idle : length new.to_sync ≡ length mid.to_sync → IsStrictlySortedBy key_cmp new.to_sync → HasRested (turns + 1) old chip new chip2
+  rested-idle same order = record {
+    under = under-more;
+    due = record { rest = whole.1; order = order; truly = whole.0.idle same };
+    taken = settling.continue 1 (rows_applied new.applied) new.to_sync (some, rows_applied new.applied, new.to_sync, turn_is, inl (same, refl, refl, refl));
+  }
 
 -- a settling begins on a core with an open mark
 pub steady-opened : (old : State) (chip : ChipState) → IsKept old chip → is_suspect old.log.marks ≡ false → IsSteady (record old { log = with_ending old.log open_mark }) chip
@@ -313,6 +347,7 @@ module _ (old : State) (chip : ChipState) (new : State) (chip' : ChipState) wher
     kept = subst (λ n. IsKept n chip') (sym new_is) (kept-settled (closed mid rested.under) chip' (steady-closed mid rested.under) rested.due.rest (truly-beside mid old.log mid.listed mid.waiting rested.due.truly) turns);
     ended = record {
       turns = turns;
+      taken = subst (λ (s : State). TurnTo turns old s) (sym new_is) rested.taken;
       log = ap (λ (s : State). s.log) new_is ∙ ap (λ (s : State). with_ending old.log (mark_at old (length chip'.effects) (event.Settled (listing s) turns))) (sym new_is);
       listed = ap (λ (s : State). s.listed) new_is ∙ ap (λ n. n + length mid.waiting) (listed_is mid rested.under) ∙ ap (λ (s : State). old.listed + length s.waiting) (sym new_is);
       due = subst MarkIsDue (sym new_is) (mark-beside mid marked (mid.listed + length mid.waiting) rested.due);

@@ -40,6 +40,7 @@ use Rattle.orch_core.specs.State.{State, size_of}
 use Rattle.orch_core.specs.Step.{IsApplied, IsCreation, IsKnown, IsRemoval, IsStep, IsWaitOf, asks_same, same_admin, step_to, wait_for}
 use Rattle.orch_core.specs.Tried.{IsSteady, IsTouched, IsTried, tried_without}
 use Rattle.orch_core.proofs.Changing.{legal-remove-free, stands-remove}
+use Rattle.orch_core.proofs.Due.{free-creation, free-gone}
 use Rattle.orch_core.proofs.Effects.{grown-one, grown-same, keeps-effect, keeps-same}
 use Rattle.orch_core.proofs.Good.{IsServedRow, OfPort, OfIntf, planned-good, served-good}
 use Rattle.orch_core.proofs.Keyed.{found-beside, found-gone, found-left, found-put, is_at-refl, is_at-symm, same_key}
@@ -110,8 +111,8 @@ no_more : (n : ℕ) (chip new : ChipState) → StaysSame chip new → length new
 no_more n chip new same = omega (arith, ap length same.effects)
 
 -- no call yet
-pub touched-none : (k : Key) (old : State) (chip : ChipState) → IsSteady old chip → IsTouched 0 k old chip old chip
-touched-none k old chip steady = record {
+pub touched-none : (n : ℕ) (k : Key) (old : State) (chip : ChipState) → IsSteady old chip → IsTouched n k old chip old chip
+touched-none n k old chip steady = record {
   touches = record { same = refl; others = λ q apart. refl };
   keeps = steady.keeps;
   stands = steady.stands;
@@ -197,6 +198,7 @@ module _ (k : Key) (old : State) (chip : ChipState) (r : Row) (b : Body Rid) (st
             faults = faults;
           },
           ap (option_map (λ a. a.row)) (found-put old.applied k applied) ∙ sym step.good,
+          free-creation old chip steady k r b step,
         )
 
   pub tried-made : (id : Rid) (new : State) (chip' : ChipState) → IsMade chip b (Ok id) chip' → new ≡ record old { applied = insert_entry key_cmp old.applied k (record { row = r; id = id }) } → IsTried k old chip (Ok tried.Done) new chip'
@@ -246,6 +248,7 @@ module _ (k : Key) (old : State) (chip : ChipState) (id : Rid) (steady : IsStead
             faults = faults;
           },
           ap (option_map (λ a. a.row)) (found-gone old.applied k steady.stands.sorted) ∙ sym step.good,
+          free-gone old chip steady k step.good step.free,
         )
 
   pub tried-removed : (new : State) (chip' : ChipState) → IsDone chip (call.Remove (entry.Oid id)) (Ok tt) chip' → new ≡ record old { applied = remove_entry (is_at (key_cmp k)) old.applied } → IsTried k old chip (Ok tried.Done) new chip'

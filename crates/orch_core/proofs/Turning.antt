@@ -1,5 +1,5 @@
 -- what a turn comes to, key by key
-use Rattle.std.proofs.Common.{◌≡◌, ◌⊎◌, inl, inr, ◌+◌, Bool, true, false, List, [], ◌∷◌, ◌++◌, length, None, Some, Result, Ok, Err, refl, sym, ap, ◌∙◌, subst, arith}
+use Rattle.std.proofs.Common.{◌≡◌, ◌⊎◌, inl, inr, ◌+◌, Bool, true, false, if◌then◌else◌, List, [], ◌∷◌, ◌++◌, length, None, Some, Result, Ok, Err, refl, sym, ap, ◌∙◌, subst, arith}
 use Rattle.std.proofs.lemmas.Bool.{false≢true}
 use Rattle.std.proofs.lemmas.List.{length-append}
 use Rattle.std.specs.BTreeMap.{is_at}
@@ -10,14 +10,17 @@ use Rattle.table_schema.specs.declared.key.Key.{Key}
 use Rattle.sai_types.specs.Alike.{IsIn}
 use Rattle.sai_types.specs.ChipState.{ChipState}
 use Rattle.switch_model.specs.Good.{good_rows}
+use Rattle.switch_model.specs.Marks.{IsTrueReason}
 use Rattle.switch_model.specs.declared.wait.Wait.{Wait}
 use Rattle.swss_types.specs.declared.out_of_memory.OutOfMemory.{OutOfMemory}
+use Rattle.orch_core.specs.Due.{HasNoReason}
 use Rattle.orch_core.specs.Keeps.{Keeps}
 use Rattle.orch_core.specs.Standing.{rows_applied}
 use Rattle.orch_core.specs.State.{State}
 use Rattle.orch_core.specs.Step.{IsWaitOf}
 use Rattle.orch_core.specs.Tried.{IsSteady, IsTouched, IsWaiting}
-use Rattle.orch_core.specs.Turn.{AreNew, Brings, EndsFaulted, IsBehind, IsNext, IsNextKey, IsRest, IsTrying, IsTurning, IsUnder, OnlyLeave, WaitTruly, waiting_keys}
+use Rattle.orch_core.specs.Turn.{AreNew, Brings, Completes, EndsFaulted, IsBehind, IsNext, IsNextKey, IsRest, IsTrying, IsTurning, IsUnder, OnlyLeave, TurnsTo, WaitTruly, waiting_keys}
+use Rattle.orch_core.specs.Turns.{IsTurn, with_good}
 use Rattle.orch_core.proofs.Effects.{grown-after, grown-same}
 use Rattle.orch_core.proofs.Keyed.{is_at-refl, same_key}
 use Rattle.orch_core.proofs.Queue.{sorted-without}
@@ -97,6 +100,7 @@ trying-first old new chip steady e =
       turning = record { under = under-none old chip [] steady; fewer = omega arith; idle = λ same. tt };
       rest = old.to_sync;
       left = refl;
+      completes = λ applied left h. h;
     })
 
 module _ (old : State) (chip : ChipState) (mid : State) (chip1 : ChipState) (k : Key) (trying : IsTrying old chip mid chip1) (next : IsNextKey mid (Some k)) where
@@ -110,7 +114,7 @@ module _ (old : State) (chip : ChipState) (mid : State) (chip1 : ChipState) (k :
   due = subst (IsIn k) (sym keys) (in-behind (waiting_keys mid.waiting) (k ∷ at.others) k (inl refl))
 
   -- a key that is done leaves the keys to sync
-  module _ (new : State) (chip2 : ChipState) (touched : IsTouched 1 k mid chip1 new chip2) (done : rows_applied new.applied k ≡ good_rows mid.plan mid.rows k) where
+  module _ (new : State) (chip2 : ChipState) (touched : IsTouched 1 k mid chip1 new chip2) (done : rows_applied new.applied k ≡ good_rows mid.plan mid.rows k) (free : HasNoReason mid k) where
     abbrev left : List Key
     left = waiting_keys mid.waiting ++ at.others
 
@@ -154,6 +158,23 @@ module _ (old : State) (chip : ChipState) (mid : State) (chip1 : ChipState) (k :
       order = λ sorted. sorted-without (waiting_keys mid.waiting) k at.others (subst (IsStrictlySortedBy key_cmp) keys sorted);
     })
 
+    -- the applied rows, key by key
+    rows_by : (q : Key) (t : Bool) → is_at (key_cmp k) q ≡ t → rows_applied new.applied q ≡ (if t then good_rows old.plan old.rows q else rows_applied mid.applied q)
+    rows_by q true same = subst (λ x. rows_applied new.applied x ≡ good_rows old.plan old.rows x) (same_key k q same) (done ∙ ap (λ (s : State). good_rows s.plan s.rows k) trying.turning.under.behind)
+    rows_by q false apart = touched.touches.others q (λ e. false≢true (sym apart ∙ ap (is_at (key_cmp k)) e ∙ is_at-refl k))
+
+    rows_are : with_good (good_rows old.plan old.rows) (rows_applied mid.applied) k ≡ rows_applied new.applied
+    rows_are = λ i. λ q. sym (rows_by q (is_at (key_cmp k) q) refl) i
+
+    completes_done : Completes old last at.others
+    completes_done applied rest h =
+        subst (λ ws. IsTurn old.plan old.capacities (good_rows old.plan old.rows) (rows_applied old.applied) old.to_sync applied (waiting_keys ws ++ rest)) (sym same_waiting)
+        (trying.completes applied rest (subst (λ ks. IsTurn old.plan old.capacities (good_rows old.plan old.rows) (rows_applied mid.applied) ks applied rest) (sym at.is)
+        (inr (λ reason. no_reason reason.0 reason.1, subst (λ a. IsTurn old.plan old.capacities (good_rows old.plan old.rows) a at.others applied rest) (sym rows_are) h))))
+      where
+        no_reason : (w : Wait) → ¬ (IsTrueReason old.plan old.capacities (good_rows old.plan old.rows) (rows_applied mid.applied) k w)
+        no_reason = subst (λ (s : State). (w : Wait) → ¬ (IsTrueReason s.plan s.capacities (good_rows s.plan s.rows) (rows_applied mid.applied) k w)) trying.turning.under.behind free
+
     trying_done : IsTrying old chip last chip2
     trying_done = record {
       turning = record {
@@ -170,6 +191,7 @@ module _ (old : State) (chip : ChipState) (mid : State) (chip1 : ChipState) (k :
       };
       rest = at.others;
       left = ap (λ ws. waiting_keys ws ++ at.others) (sym same_waiting);
+      completes = completes_done;
     }
 
     pub trying-done : (final : State) → final ≡ record new { to_sync = remove_key (is_at (key_cmp k)) new.to_sync } → IsTrying old chip final chip2
@@ -193,12 +215,19 @@ module _ (old : State) (chip : ChipState) (mid : State) (chip1 : ChipState) (k :
           idle = λ same. truly-queue mid mid.to_sync (mid.waiting ++ (k, w) ∷ []) (mid.waiting ++ (k, w) ∷ []) (truly-more mid mid.waiting (k, w) (trying.turning.idle same) waits.reason);
         };
         rest = at.others;
-        left = keys ∙ moved mid.waiting;
+        left = keys ∙ moved mid.waiting at.others;
+        completes = λ applied rest h.
+            subst (IsTurn old.plan old.capacities (good_rows old.plan old.rows) (rows_applied old.applied) old.to_sync applied) (moved mid.waiting rest)
+            (trying.completes applied (k ∷ rest) (subst (λ ks. IsTurn old.plan old.capacities (good_rows old.plan old.rows) (rows_applied mid.applied) ks applied (k ∷ rest)) (sym at.is)
+            (inl ((w, reason_is), rest, refl, h))));
       }))
     where
-      moved : (ws : List (Key × Wait)) → waiting_keys ws ++ k ∷ at.others ≡ waiting_keys (ws ++ (k, w) ∷ []) ++ at.others
-      moved [] = refl
-      moved (x ∷ ws) = ap (λ l. x.0 ∷ l) (moved ws)
+      moved : (ws : List (Key × Wait)) (rest : List Key) → waiting_keys ws ++ k ∷ rest ≡ waiting_keys (ws ++ (k, w) ∷ []) ++ rest
+      moved [] rest = refl
+      moved (x ∷ ws) rest = ap (λ l. x.0 ∷ l) (moved ws rest)
+
+      reason_is : IsTrueReason old.plan old.capacities (good_rows old.plan old.rows) (rows_applied mid.applied) k w
+      reason_is = subst (λ (s : State). IsTrueReason s.plan s.capacities (good_rows s.plan s.rows) (rows_applied mid.applied) k w) trying.turning.under.behind waits.reason.0
 
   -- a key that was not brought further leaves what stands known
   pub under-stopped : (new : State) (chip2 : ChipState) → IsTouched 0 k mid chip1 new chip2 → IsUnder old chip new chip2
@@ -225,6 +254,17 @@ module _ (old : State) (chip : ChipState) (mid : State) (chip1 : ChipState) (k :
       still : Brings old (length chip.effects) mid (length chip1.effects) → (q : Key) (t : Bool) → is_at (key_cmp q) k ≡ t → IsIn q mid.to_sync → rows_applied new.applied q ≡ None
       still b q true same h = subst (λ x. rows_applied new.applied x ≡ None) (sym (same_key q k same)) (touched.still refl (b.new_keys k due))
       still b q false apart h = touched.touches.others q (λ e. false≢true (sym apart ∙ ap (λ x. is_at (key_cmp x) k) e ∙ is_at-refl k)) ∙ b.new_keys q h
+
+-- all keys were tried
+pub turned-whole : (old : State) (chip : ChipState) (mid : State) (chip1 : ChipState) → IsTrying old chip mid chip1 → IsNextKey mid None → IsTurning old chip mid chip1 × IsRest mid [] × TurnsTo old mid
+turned-whole old chip mid chip1 trying none =
+    let no_rest = none trying.rest trying.left in
+    let left : IsRest mid [] = subst (IsRest mid) no_rest trying.left in (
+      trying.turning,
+      left,
+      subst (IsTurn old.plan old.capacities (good_rows old.plan old.rows) (rows_applied old.applied) old.to_sync (rows_applied mid.applied)) (sym left)
+          (trying.completes (rows_applied mid.applied) [] (subst (λ ks. IsTurn old.plan old.capacities (good_rows old.plan old.rows) (rows_applied mid.applied) ks (rows_applied mid.applied) []) (sym no_rest) (refl, refl))),
+    )
 
 -- want of memory ends a turn
 pub turned-err : (old : State) (chip : ChipState) (r : Result Rattle.orch_core.specs.declared.turn.Turned.Turned OutOfMemory) (new : State) (chip' : ChipState) → Rattle.std.specs.Result.IsErr r → IsUnder old chip new chip' → Rattle.orch_core.specs.Turn.IsTurned old chip r new chip'

@@ -9,3 +9,4 @@ pub mod Step
 pub mod Taken
 pub mod Tried
 pub mod Turn
+pub mod Turns

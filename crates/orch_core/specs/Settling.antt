@@ -1,10 +1,12 @@
 -- What a settling comes to. Own.
-use Rattle.std.specs.Prelude.{◌≡◌, ◌⊎◌, ℕ, Bool, true, false, ◌+◌, ◌<◌, ◌≤◌, [], length, map, Result, Ok, Err}
+use Rattle.std.specs.Prelude.{◌≡◌, ◌⊎◌, ℕ, Bool, true, false, ◌+◌, ◌<◌, ◌≤◌, List, [], length, map, Result, Ok, Err}
 use Rattle.swss_types.specs.declared.out_of_memory.OutOfMemory.{OutOfMemory}
 use Rattle.std.specs.List.Sorted.{IsStrictlySortedBy}
 use Rattle.table_schema.specs.Key.{key_cmp}
+use Rattle.table_schema.specs.declared.key.Key.{Key}
 use Rattle.sai_types.specs.ChipState.{ChipState}
 use Rattle.switch_model.specs.History.{History, with_end, with_mark}
+use Rattle.switch_model.specs.Good.{TypedRows, good_rows}
 use Rattle.switch_model.specs.Marks.{Waiting}
 use Rattle.switch_model.specs.declared.mark.Mark.{Mark}
 use Rattle.switch_model.specs.declared.mark.MarkEvent.{MarkEvent}
@@ -14,6 +16,7 @@ use Rattle.orch_core.specs.Due.{CallIsDue, HadPlaces}
 use Rattle.orch_core.specs.Keeps.{IsKept}
 use Rattle.orch_core.specs.Standing.{rows_applied}
 use Rattle.orch_core.specs.State.{State, size_of}
+use Rattle.orch_core.specs.Turns.{TakeTurns}
 use Rattle.orch_core.specs.Turn.{BringsNew, EndsFaulted, IsRest, IsUnder, OnlyLeave, WaitTruly}
 use Rattle.orch_core.specs.declared.answer.Settled.{Settled}
 use Rattle.orch_core.specs.declared.answer.Settled.TheVariants as settled
@@ -26,18 +29,31 @@ pub record MarkIsDue (s : State) : Type 0 where
   pub order : IsStrictlySortedBy key_cmp s.to_sync
   pub truly : WaitTruly s s.waiting
 
--- the turns ended, and the mark is due
-pub record HasRested (old : State) (chip : ChipState) (new : State) (chip' : ChipState) : Type 0 where
+-- so many turns came from the one core to the other
+abbrev pub TurnTo : ℕ → State → State → Type 0
+TurnTo n old new = TakeTurns old.plan old.capacities (good_rows old.plan old.rows) n (rows_applied old.applied) old.to_sync (rows_applied new.applied) new.to_sync
+
+-- so many turns ended, and the mark is due
+pub record HasRested (turns : ℕ) (old : State) (chip : ChipState) (new : State) (chip' : ChipState) : Type 0 where
   pub under : IsUnder old chip new chip'
   pub due : MarkIsDue new
+  pub taken : TurnTo turns old new
 
--- the turns of a settling so far: no key waits yet, or what is left waits
-pub record IsSettling (old : State) (chip : ChipState) (new : State) (chip' : ChipState) : Type 0 where
+-- turns from here would follow so many that were made
+abbrev pub Continue : ℕ → State → State → Type 0
+Continue turns old new =
+    (n : ℕ) (applied : TypedRows) (left : List Key) → TakeTurns old.plan old.capacities (good_rows old.plan old.rows) n (rows_applied new.applied) new.to_sync applied left
+    → TakeTurns old.plan old.capacities (good_rows old.plan old.rows) (turns + n) (rows_applied old.applied) old.to_sync applied left
+
+-- the turns of a settling so far, each of which took a key away: no key waits yet, or what is left waits
+pub record IsSettling (turns : ℕ) (old : State) (chip : ChipState) (new : State) (chip' : ChipState) : Type 0 where
   pub under : IsUnder old chip new chip'
   pub waits : (new.waiting ≡ []) ⊎ IsRest new []
+  pub few : turns + length new.to_sync ≤ length old.to_sync
+  pub continue : Continue turns old new
 
 abbrev pub IsRested : State → ChipState → Result Rested OutOfMemory → State → ChipState → Type 0
-IsRested old chip (Ok (rested.Rested turns)) new chip' = HasRested old chip new chip'
+IsRested old chip (Ok (rested.Rested turns)) new chip' = HasRested turns old chip new chip'
 IsRested old chip (Ok (rested.Faulted before)) new chip' = EndsFaulted old chip before new chip'
 IsRested old chip (Ok rested.LogFull) new chip' = IsUnder old chip new chip' × CallIsDue new × (new.limit < size_of new (length chip'.effects) + 1)
 IsRested old chip (Err e) new chip' = IsUnder old chip new chip'
@@ -82,7 +98,7 @@ IsFullBeside s effects = (CallIsDue s × (s.limit < size_of s effects + 1)) ⊎ 
 -- a settling whose last mark is to be filled in
 abbrev pub IsFilled : History → State → ChipState → Result Settled OutOfMemory → State → ChipState → Type 0
 IsFilled h old chip (Ok settled.Settled) new chip' =
-    (mid : State) × (turns : ℕ) × HasRested old chip mid chip'
+    (mid : State) × (turns : ℕ) × HasRested turns old chip mid chip'
     × (new ≡ record mid { log = with_ending h (mark_at mid (length chip'.effects) (event.Settled (listing mid) turns)); listed = mid.listed + length mid.waiting })
     × (size_of new (length chip'.effects) ≤ new.limit)
 IsFilled h old chip (Ok settled.Faulted) new chip' =
@@ -108,9 +124,10 @@ pub record HasNoMark (old : State) (chip : ChipState) (new : State) (chip' : Chi
   pub listed : new.listed ≡ old.listed
   pub faults : chip'.faults ≡ chip.faults
 
--- the mark lists the keys that wait, which are those left to sync, in key order and with true reasons; it had its places
+-- the mark lists the keys that wait, which are those left to sync, in key order and with true reasons, and the number of turns that left them; it had its places
 pub record MarksSettled (old : State) (chip : ChipState) (new : State) (chip' : ChipState) : Type 0 where
   pub turns : ℕ
+  pub taken : TurnTo turns old new
   pub log : new.log ≡ with_ending old.log (mark_at old (length chip'.effects) (event.Settled (listing new) turns))
   pub listed : new.listed ≡ old.listed + length new.waiting
   pub due : MarkIsDue new

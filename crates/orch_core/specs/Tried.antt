@@ -6,7 +6,7 @@ use Rattle.swss_types.specs.declared.out_of_memory.OutOfMemory.{OutOfMemory}
 use Rattle.switch_model.specs.Good.{good_rows}
 use Rattle.switch_model.specs.declared.wait.Wait.{Wait}
 use Rattle.orch_core.specs.Called.{IsGrown}
-use Rattle.orch_core.specs.Due.{CallIsDue, HadPlaces}
+use Rattle.orch_core.specs.Due.{CallIsDue, HadPlaces, HasNoReason}
 use Rattle.orch_core.specs.Keeps.{Keeps}
 use Rattle.orch_core.specs.Standing.{Stands, rows_applied}
 use Rattle.orch_core.specs.State.{State, size_of}
@@ -52,7 +52,7 @@ pub record IsWaiting (k : Key) (old : State) (chip : ChipState) (w : Wait) (new 
   pub reason : IsWaitOf old k w
 
 abbrev pub IsTried : Key → State → ChipState → Result Tried OutOfMemory → State → ChipState → Type 0
-IsTried k old chip (Ok tried.Done) new chip' = IsTouched 1 k old chip new chip' × (rows_applied new.applied k ≡ good_rows old.plan old.rows k)
+IsTried k old chip (Ok tried.Done) new chip' = IsTouched 1 k old chip new chip' × (rows_applied new.applied k ≡ good_rows old.plan old.rows k) × HasNoReason old k
 IsTried k old chip (Ok (tried.Waits w)) new chip' = IsWaiting k old chip w new chip'
 IsTried k old chip (Ok (tried.Faulted before)) new chip' = IsFaulted k old chip before new chip'
 IsTried k old chip (Ok tried.LogFull) new chip' = IsTouched 0 k old chip new chip' × CallIsDue new × (new.limit < size_of new (length chip'.effects) + 1)

@@ -8,6 +8,7 @@ use Rattle.table_schema.specs.Key.{key_cmp}
 use Rattle.table_schema.specs.declared.key.Key.{Key}
 use Rattle.sai_types.specs.Alike.{IsIn}
 use Rattle.sai_types.specs.ChipState.{ChipState}
+use Rattle.switch_model.specs.Good.{TypedRows, good_rows}
 use Rattle.switch_model.specs.declared.wait.Wait.{Wait}
 use Rattle.orch_core.specs.Called.{IsGrown}
 use Rattle.orch_core.specs.Due.{CallIsDue, HadPlaces}
@@ -16,6 +17,7 @@ use Rattle.orch_core.specs.Standing.{rows_applied}
 use Rattle.orch_core.specs.State.{State, size_of}
 use Rattle.orch_core.specs.Step.{IsWaitOf}
 use Rattle.orch_core.specs.Tried.{IsSteady}
+use Rattle.orch_core.specs.Turns.{IsTurn}
 use Rattle.orch_core.specs.declared.turn.Turned.{Turned}
 use Rattle.orch_core.specs.declared.turn.Turned.TheVariants as turned
 
@@ -72,6 +74,16 @@ pub record IsUnder (old : State) (chip : ChipState) (new : State) (chip' : ChipS
   pub brings : BringsNew old (length chip.effects) new (length chip'.effects)
   pub faults : chip'.faults ≡ chip.faults
 
+-- a turn came from the one core to the other
+abbrev pub TurnsTo : State → State → Type 0
+TurnsTo old new = IsTurn old.plan old.capacities (good_rows old.plan old.rows) (rows_applied old.applied) old.to_sync (rows_applied new.applied) new.to_sync
+
+-- a turn over these keys from here would end the turn that began there
+abbrev pub Completes : State → State → List Key → Type 0
+Completes old new rest =
+    (applied : TypedRows) (left : List Key) → IsTurn old.plan old.capacities (good_rows old.plan old.rows) (rows_applied new.applied) rest applied left
+    → IsTurn old.plan old.capacities (good_rows old.plan old.rows) (rows_applied old.applied) old.to_sync applied (waiting_keys new.waiting ++ left)
+
 -- a turn so far: where it brought nothing, each key that waits has its true reason
 pub record IsTurning (old : State) (chip : ChipState) (new : State) (chip' : ChipState) : Type 0 where
   pub under : IsUnder old chip new chip'
@@ -83,6 +95,7 @@ pub record IsTrying (old : State) (chip : ChipState) (new : State) (chip' : Chip
   pub turning : IsTurning old chip new chip'
   pub rest : List Key
   pub left : IsRest new rest
+  pub completes : Completes old new rest
 
 -- the chip failed, and what stands on it is not known; its call had a place beside that of the mark
 pub record EndsFaulted (old : State) (chip : ChipState) (count : ℕ) (new : State) (chip' : ChipState) : Type 0 where
@@ -96,7 +109,7 @@ pub record EndsFaulted (old : State) (chip : ChipState) (count : ℕ) (new : Sta
 
 -- how a turn ended: each key was tried, and those that are left wait; or the chip failed; or a call is due and the log has no room for it
 abbrev pub IsTurned : State → ChipState → Result Turned OutOfMemory → State → ChipState → Type 0
-IsTurned old chip (Ok turned.Whole) new chip' = IsTurning old chip new chip' × IsRest new []
+IsTurned old chip (Ok turned.Whole) new chip' = IsTurning old chip new chip' × IsRest new [] × TurnsTo old new
 IsTurned old chip (Ok (turned.Faulted before)) new chip' = EndsFaulted old chip before new chip'
 IsTurned old chip (Ok turned.LogFull) new chip' = IsUnder old chip new chip' × CallIsDue new × (new.limit < size_of new (length chip'.effects) + 1)
 IsTurned old chip (Err e) new chip' = IsUnder old chip new chip'

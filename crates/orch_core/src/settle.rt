@@ -97,17 +97,19 @@ impl Core {
     {
         self.waiting.clear();
         let mut turns = 0u64;
-        while !self.to_sync.is_empty() {
-            let before = self.to_sync.len();
-            turns = turns.saturating_add(1);
+        let mut left = self.to_sync.len();
+        while left > 0 {
+            turns += 1;
             match self.turn(chip)? {
                 Turned::Whole => {}
                 Turned::Faulted(faults) => return Ok(Rested::Faulted(faults)),
                 Turned::LogFull => return Ok(Rested::LogFull),
             }
-            if self.to_sync.len() == before {
+            let still = self.to_sync.len();
+            if still == left {
                 return Ok(Rested::Rested(turns));
             }
+            left = still;
         }
         Ok(Rested::Rested(turns))
     }

@@ -20,7 +20,7 @@ returns-in-Err g c = rw c.without.ensures (tried-unmade c.args.key.now c.args.se
 
 pub returns-then-is_full : goal.returns-then-is_full
 returns-then-is_full g c = (
-  touched-none c.args.key.now c.args.self.now (g.C.Chip.state c.args.chip.now) c.requires.steady,
+  touched-none 0 c.args.key.now c.args.self.now (g.C.Chip.state c.args.chip.now) c.requires.steady,
   due-creation c.args.self.now (g.C.Chip.state c.args.chip.now) c.requires.steady c.args.key.now c.args.row c.args.body c.requires.due c.requires.step,
   full-from c.args.self.now c.effects.result (length (g.C.Chip.state c.args.chip.now).effects) c.is_full.result c.is_full.ensures.full c.if-is_full.true c.effects.ensures,
 )

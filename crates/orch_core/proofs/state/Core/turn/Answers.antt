@@ -10,7 +10,7 @@ use Rattle.orch_core.specs.Tried.{IsTried}
 use Rattle.orch_core.specs.Turn.{IsNextKey}
 use Rattle.orch_core.specs.contracts.state.Core.{the_view}
 use Rattle.orch_core.specs.declared.attempt.Tried.{Tried}
-use Rattle.orch_core.proofs.Turning.{due, trying-done, trying-first, trying-waits, turned-err, under-stopped}
+use Rattle.orch_core.proofs.Turning.{due, trying-done, trying-first, trying-waits, turned-err, turned-whole, under-stopped}
 use Rattle.orch_core.proofs.state.Core.turn.Goals as goal
 
 abbrev tried_as : (k : Key) (old : State) (chip : Rattle.sai_types.specs.ChipState.ChipState) (new : State) (chip' : Rattle.sai_types.specs.ChipState.ChipState) {r s : Result Tried OutOfMemory} → r ≡ s → IsTried k old chip r new chip' → IsTried k old chip s new chip'
@@ -33,14 +33,14 @@ pub loop-key-preserved-in-Done : goal.loop-key-preserved-in-Done
 loop-key-preserved-in-Done g c =
     let next = subst (IsNextKey c.loop-key.self) c.in-Some.is c.in_ok-key.ensures in
     let done = tried_as c.in-Some.key c.loop-key.self (g.C.Chip.state c.loop-key.chip) c.attempt.new.self (g.C.Chip.state c.attempt.new.chip) (c.in_ok-attempt.was ∙ ap Ok c.in-Done.is) c.attempt.ensures in
-    trying-done c.args.self.now (g.C.Chip.state c.args.chip.now) c.loop-key.self (g.C.Chip.state c.loop-key.chip) c.in-Some.key c.loop-key.invariant next c.attempt.new.self (g.C.Chip.state c.attempt.new.chip) done.0 done.1 _
+    trying-done c.args.self.now (g.C.Chip.state c.args.chip.now) c.loop-key.self (g.C.Chip.state c.loop-key.chip) c.in-Some.key c.loop-key.invariant next c.attempt.new.self (g.C.Chip.state c.attempt.new.chip) done.0 done.1 done.2 _
     (ap (λ (ks : List Key). record (the_view c.self-in-Some.inside) { to_sync = ks }) c.remove.ensures.keys ∙ ap (λ (s : State). record s { to_sync = remove_key (is_at (key_cmp c.in-Some.key)) s.to_sync }) c.self-in-Some.view_is)
 
 pub loop-key-preserved-in-Done-2 : goal.loop-key-preserved-in-Done-2
 loop-key-preserved-in-Done-2 g c =
     let next = subst (IsNextKey c.loop-key.self) c.in-Some.is c.in_ok-key.ensures in
     let done = tried_as c.in-Some.key c.loop-key.self (g.C.Chip.state c.loop-key.chip) c.attempt.new.self (g.C.Chip.state c.attempt.new.chip) (c.in_ok-attempt.was ∙ ap Ok c.in-Done.is) c.attempt.ensures in
-    trying-done c.args.self.now (g.C.Chip.state c.args.chip.now) c.loop-key.self (g.C.Chip.state c.loop-key.chip) c.in-Some.key c.loop-key.invariant next c.attempt.new.self (g.C.Chip.state c.attempt.new.chip) done.0 done.1 _
+    trying-done c.args.self.now (g.C.Chip.state c.args.chip.now) c.loop-key.self (g.C.Chip.state c.loop-key.chip) c.in-Some.key c.loop-key.invariant next c.attempt.new.self (g.C.Chip.state c.attempt.new.chip) done.0 done.1 done.2 _
     (ap (λ (ks : List Key). record (the_view c.self-in-Some.inside) { to_sync = ks }) c.remove.ensures.keys ∙ ap (λ (s : State). record s { to_sync = remove_key (is_at (key_cmp c.in-Some.key)) s.to_sync }) c.self-in-Some.view_is)
 
 pub loop-key-preserved : goal.loop-key-preserved
@@ -55,3 +55,6 @@ returns-in-LogFull g c =
     let next = subst (IsNextKey c.loop-key.self) c.in-Some.is c.in_ok-key.ensures in
     let full = tried_as c.in-Some.key c.loop-key.self (g.C.Chip.state c.loop-key.chip) c.attempt.new.self (g.C.Chip.state c.attempt.new.chip) (c.in_ok-attempt.was ∙ ap Ok c.in-LogFull.is) c.attempt.ensures in
     (under-stopped c.args.self.now (g.C.Chip.state c.args.chip.now) c.loop-key.self (g.C.Chip.state c.loop-key.chip) c.in-Some.key c.loop-key.invariant next c.attempt.new.self (g.C.Chip.state c.attempt.new.chip) full.0, full.1, full.2)
+
+pub returns : goal.returns
+returns g c = turned-whole c.args.self.now (g.C.Chip.state c.args.chip.now) c.loop-key.self (g.C.Chip.state c.loop-key.chip) c.loop-key.invariant (subst (IsNextKey c.loop-key.self) c.in_default.is c.in_ok-key.ensures)
