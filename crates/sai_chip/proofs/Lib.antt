@@ -2,7 +2,12 @@ mod Answered
 mod Clashes
 mod Counting
 mod Entries
+mod GroupNames
+mod HopSets
 mod Indexed
 mod Kept
+mod MarkRanges
+mod Members
+pub mod Replays
 mod SameNames
 mod Standing

@@ -1,7 +1,9 @@
 pub mod Failing
 pub mod Forward
 pub mod Marks
+pub mod Members
 pub mod Naming
+pub mod Replay
 pub mod Sim
 pub mod SimChip
 pub mod Tally

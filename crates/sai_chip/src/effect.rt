@@ -1,6 +1,7 @@
 // What calls leave.
 ghost use Rattle.std.specs.Prelude.{◌≡◌, ◌<◌, IfOk, OnOk, OnErr};
 ghost use Rattle.sai_types.specs.After.{after_call, entry_of, has_id, makes_id, with_attr};
+ghost use Rattle.sai_types.specs.Made.{entry_named};
 
 use crate::held::Held;
 use sai_types::{Attr, Body, Call, Entry, Rid};
@@ -37,6 +38,16 @@ pub fn makes_id(call: &Call<Rid>) -> bool
     match call {
         Call::Create(body) => has_id(body),
         _ => false,
+    }
+}
+
+/// The entry that a call names, which for a create is that of the new object with this identifier.
+pub fn entry_named(id: Rid, call: &Call<Rid>) -> Entry<Rid>
+    ensures { result ≡ entry_named id.0 call.now }
+{
+    match call {
+        Call::Create(body) => entry_of(id, body),
+        Call::Set(entry, _) | Call::Remove(entry) => *entry,
     }
 }
 

@@ -4,15 +4,18 @@ ghost use Rattle.std.specs.BTreeMap.{insert_entry, is_at};
 ghost use Rattle.std.specs.Map.{remove_entry};
 ghost use Rattle.sai_types.specs.ChipState.{objects_of};
 ghost use Rattle.sai_chip.specs.Sim.{Appends};
-ghost use Rattle.sai_types.specs.Named.{named, those};
+ghost use Rattle.sai_types.specs.Named.{hops_at, named, those};
 ghost use Rattle.sai_types.specs.Objects.{body_at, entry_cmp, used};
 ghost use Rattle.sai_chip.specs.Marks.{stands, marks_at};
+ghost use Rattle.sai_chip.specs.Members.{HasHops, group_in};
+ghost use Rattle.sai_chip.specs.Replay.{thing_at};
 
 use crate::mark::Mark;
 use crate::marks::marks_of;
+use crate::names::{GroupHops, thing_at};
 use crate::tally::Counts;
-use crate::things::things_of;
-use sai_types::{Body, Entry, Kind, ListAnswer, Object, Rid, Thing};
+use crate::things::{hops_of, things_of};
+use sai_types::{Body, Entry, Hops, Kind, ListAnswer, Object, Rid, Thing, To};
 use std::alloc::Global;
 use std::collections::BTreeMap;
 use std::marker::Model;
@@ -123,6 +126,36 @@ impl Held {
         things_of(alloc, &objects)
     }
 
+    /// What the object with this entry stands for: None where there is none, and where a reference is absent.
+    pub fn thing(&self, entry: &Entry<Rid>) -> Result<Option<Thing>, OutOfMemory>
+        ensures { IfOk result (λ thing. thing ≡ thing_at self.now entry.now) }
+    {
+        let Some(body) = self.objects.get(entry) else {
+            return Ok(None);
+        };
+        let groups = self.groups_in(entry, body)?;
+        thing_at(self.alloc, &self.objects, &groups, entry, body)
+    }
+
+    /// The hops of the group by whose hops an object is named, where there is one.
+    fn groups_in(&self, entry: &Entry<Rid>, body: &Body<Rid>) -> Result<GroupHops, OutOfMemory>
+        ensures { IfOk result (λ groups. HasHops self.now entry.now body.now groups.entries) }
+    {
+        let mut groups = BTreeMap::new(self.alloc);
+        if let Some(group) = group_in(entry, body) {
+            groups.insert(group, self.hops(group)?)?;
+        }
+        Ok(groups)
+    }
+
+    /// The hops of a group's members: None where the next hop of one is absent.
+    fn hops(&self, group: Rid) -> Result<Option<Hops>, OutOfMemory>
+        ensures { IfOk result (λ hops. hops ≡ hops_at self.now group) }
+    {
+        let members = self.counts.members(self.alloc, group)?;
+        hops_of(self.alloc, &self.objects, &members)
+    }
+
     /// What the object with this entry takes up: nothing where there is none.
     fn marks_at(&self, entry: &Entry<Rid>) -> Result<Vec<Mark>, OutOfMemory>
         ensures { IfOk result (λ marks. marks.items ≡ marks_at self.now entry.now) }
@@ -149,4 +182,22 @@ fn push_objects(
         })?;
     }
     Ok(())
+}
+
+/// The group by whose hops an object is named.
+fn group_in(entry: &Entry<Rid>, body: &Body<Rid>) -> Option<Rid>
+    ensures { result ≡ group_in entry.now body.now }
+{
+    match (entry, body) {
+        (Entry::Oid(group), Body::Group) => Some(*group),
+        (_, Body::GroupMember { group, .. }) => Some(*group),
+        (
+            _,
+            Body::Route {
+                to: To::Group(group),
+                ..
+            },
+        ) => Some(*group),
+        _ => None,
+    }
 }

@@ -9,6 +9,7 @@ mod held;
 mod mark;
 mod marks;
 mod names;
+mod replay;
 mod sim;
 mod table;
 mod tally;
@@ -19,6 +20,7 @@ mod ways;
 
 pub use fail::Fail;
 pub use forward::Forward;
+pub use replay::Replay;
 pub use sim::SimChip;
 pub use things::named;
 pub use ways::Ways;

@@ -1,9 +1,14 @@
 // How often each mark stands.
-ghost use Rattle.std.specs.Prelude.{◌≡◌, ◌+◌, ◌-◌, [], OnOk, OnErr, if◌then◌else◌};
+ghost use Rattle.std.specs.Prelude.{◌≡◌, ◌+◌, ◌-◌, [], nat_lt, IfOk, OnOk, OnErr, if◌then◌else◌};
+ghost use Rattle.std.specs.List.{list_any};
+ghost use Rattle.sai_types.specs.declared.ids.Rid.{Rid};
+ghost use Rattle.sai_types.specs.Refusal.{same_id};
+ghost use Rattle.sai_chip.specs.Members.{member_of};
 ghost use Rattle.sai_chip.specs.Tally.{count_at, is_mark, claims};
 ghost use Rattle.sai_chip.specs.declared.mark.Mark.{Mark};
 
 use crate::mark::Mark;
+use sai_types::Rid;
 use std::alloc::Global;
 use std::collections::BTreeMap;
 use std::marker::Model;
@@ -90,5 +95,42 @@ impl Counts {
         for mark in marks {
             self.lower(mark);
         }
+    }
+
+    /// The next hops that are members of the group, each once.
+    pub fn members(&self, alloc: Global, group: Rid) -> Result<Vec<Rid>, OutOfMemory>
+        ensures { IfOk result (λ members. (n : Rid) → list_any (same_id n) members.items ≡ nat_lt 0 (count_at self.now (Mark.GroupMember group n))) }
+    {
+        members_of(alloc, &self.counts, group)
+    }
+}
+
+/// The next hops whose marks as members of the group stand. These marks stand together, since marks are in order.
+fn members_of(
+    alloc: Global,
+    counts: &BTreeMap<Mark, u64>,
+    group: Rid,
+) -> Result<Vec<Rid>, OutOfMemory>
+    ensures { IfOk result (λ members. (n : Rid) → list_any (same_id n) members.items ≡ nat_lt 0 (count_at counts.now.entries (Mark.GroupMember group n))) }
+{
+    let mut members = Vec::new(alloc);
+    for (mark, count) in counts.range(Mark::GroupMember(group, Rid(0))..) {
+        let Some(next_hop) = member_of(mark, group) else {
+            break;
+        };
+        if 0 < *count {
+            members.push(next_hop)?;
+        }
+    }
+    Ok(members)
+}
+
+/// The next hop that the mark says is a member of the group.
+fn member_of(mark: &Mark, group: Rid) -> Option<Rid>
+    ensures { result ≡ member_of group mark.now }
+{
+    match mark {
+        Mark::GroupMember(of, next_hop) if *of == group => Some(*next_hop),
+        _ => None,
     }
 }

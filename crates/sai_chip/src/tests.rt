@@ -3,5 +3,6 @@ mod answers;
 mod failing;
 mod naming;
 mod network;
+mod replaying;
 mod rooms;
 mod steps;

@@ -7,6 +7,7 @@ ghost use Rattle.sai_types.specs.Named.{both, hop_cmp, named, thing_by, those, w
 ghost use Rattle.sai_types.specs.Objects.{body_at, entry_cmp};
 ghost use Rattle.sai_types.specs.declared.body.Entry.{Entry};
 ghost use Rattle.sai_types.specs.declared.ids.Rid.{Rid};
+ghost use Rattle.sai_chip.specs.Members.{hops_by};
 ghost use Rattle.sai_chip.specs.Naming.{AreBodies, AreHops, entries_of, hops_in, thing_cmp, with_hop};
 
 use crate::names::{Bodies, GroupHops, next_hop_at, thing_at};
@@ -105,6 +106,23 @@ fn put_hop(
     let hops = add_hop(others, hop)?;
     groups.insert(group, hops)?;
     Ok(())
+}
+
+/// The hops of these next hops, rising: None where one is absent.
+pub fn hops_of(
+    alloc: Global,
+    bodies: &Bodies,
+    next_hops: &[Rid],
+) -> Result<Option<Hops>, OutOfMemory>
+    ensures { IfOk result (λ hops. hops ≡ hops_by bodies.now.entries next_hops.now) }
+{
+    let mut hops = Some(Hops::new(alloc));
+    let mut left = next_hops.len();
+    while 0 < left {
+        left -= 1;
+        hops = add_hop(hops, next_hop_at(bodies, next_hops[left]))?;
+    }
+    Ok(hops)
 }
 
 /// Hops with one more, where there are both.

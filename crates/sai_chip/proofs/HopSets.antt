@@ -1,0 +1,164 @@
+-- hops put in their places: what the list holds, in whatever order they came
+use Rattle.std.proofs.Common.{◌≡◌, ℕ, ◌-◌, ◌<◌, ◌≤◌, Bool, true, false, ◌||◌, List, [], ◌∷◌, drop, get_or, length, Option, None, Some, Ordering, refl, sym, ap, ap₂, ◌∙◌}
+use Rattle.std.specs.declared.cmp.Ordering.TheVariants.{Less, Equal, Greater}
+use Rattle.std.specs.Ordering.{is_eq, match_ordering, ordering_reverse, ordering_then}
+use Rattle.std.specs.BTreeMap.{is_at}
+use Rattle.std.specs.BTreeSet.{BTreeSet, insert_key}
+use Rattle.std.specs.Cmp.{IsTotalOrder, eq_by_cmp_equiv}
+use Rattle.std.specs.List.{AllByRecursion, list_any}
+use Rattle.std.specs.List.Sorted.{IsStrictlySortedBy}
+use Rattle.std.proofs.lemmas.Bool.{false≢true}
+use Rattle.std.proofs.lemmas.Map.Lookups.{CmpEqualImpliesEq, btree_set_from_contains, exact_unsigned}
+use Rattle.swss_types.specs.declared.address.Family.{Family}
+use Rattle.swss_types.specs.declared.address.Family.TheVariants.{V4, V6}
+use Rattle.swss_types.specs.declared.address.Ip.{Ip}
+use Rattle.swss_types.specs.contracts.address.FamilyOrd.TheImpl as family_ord
+use Rattle.swss_types.specs.contracts.address.IpOrd.TheImpl as ip_ord
+use Rattle.sai_types.specs.declared.ids.Rid.{Rid}
+use Rattle.sai_types.specs.declared.hop.Base.{Base}
+use Rattle.sai_types.specs.declared.hop.Base.TheVariants as base
+use Rattle.sai_types.specs.declared.hop.Hop.{Hop}
+use Rattle.sai_types.specs.contracts.hop.BaseOrd.TheImpl as base_ord
+use Rattle.sai_types.specs.contracts.hop.HopOrd.TheImpl.Laws as ordered_hop
+use Rattle.sai_types.specs.Objects.{Objects}
+use Rattle.sai_types.specs.Named.{both, hop_cmp, next_hop_at}
+use Rattle.sai_chip.specs.Members.{hops_by}
+use Rattle.sai_chip.proofs.SameNames.{drop-before}
+
+then_first : (a b : Ordering) → ordering_then a b ≡ Equal → a ≡ Equal
+then_first Less b h = h
+then_first Equal b h = refl
+then_first Greater b h = h
+
+then_last : (a b : Ordering) → ordering_then a b ≡ Equal → b ≡ Equal
+then_last Less b h = cc
+then_last Equal b h = h
+then_last Greater b h = cc
+
+family_exact : CmpEqualImpliesEq family_ord.ghosts.cmp
+family_exact V4 V4 h = refl
+family_exact V6 V6 h = refl
+family_exact x y h = cc
+
+ip_exact : CmpEqualImpliesEq ip_ord.ghosts.cmp
+ip_exact x y h = let made : Family → ℕ → Ip = λ f b. record { family = f; bits = b } in ap₂ made (family_exact x.family y.family (then_first _ _ h)) (exact_unsigned x.bits y.bits (then_last _ _ h))
+
+base_exact : CmpEqualImpliesEq base_ord.ghosts.cmp
+base_exact (base.Port m) (base.Port n) h = ap base.Port (exact_unsigned m n h)
+base_exact (base.Vlan m) (base.Vlan n) h = ap base.Vlan (exact_unsigned m n h)
+base_exact x y h = cc
+
+-- hops that compare equal are equal
+hop_exact : CmpEqualImpliesEq hop_cmp
+hop_exact x y h = let made : Base → Ip → Hop = λ on ip. record { on = on; ip = ip } in ap₂ made (base_exact x.on y.on (then_first _ _ h)) (ip_exact x.ip y.ip (then_last _ _ h))
+
+-- either is true where one is
+pub or_true : (b : Bool) → (b || true) ≡ true
+or_true true = refl
+or_true false = refl
+
+or_again : (a b r : Bool) → b ≡ a → (b || r) ≡ (a || (b || r))
+or_again true true r e = refl
+or_again false false r e = refl
+or_again true false r e = absurd cc
+or_again false true r e = absurd cc
+
+or_swap : (a b r : Bool) → (b || (a || r)) ≡ (a || (b || r))
+or_swap true true r = refl
+or_swap true false r = refl
+or_swap false b r = refl
+
+module _ {K : Type 0} (R : K → K → Ordering) (o : IsTotalOrder R) where
+  alike : (q k x : K) → is_eq (R k x) ≡ true → is_at (R q) x ≡ is_at (R q) k
+  alike q k x same = (eq_by_cmp_equiv o).symm q x ∙ sym ((eq_by_cmp_equiv o).congr k x q same) ∙ (eq_by_cmp_equiv o).symm k q
+
+  any_step : (q k x : K) (xs : List K) (r : Ordering) → R k x ≡ r
+      → list_any (is_at (R q)) (insert_key R xs k) ≡ (is_at (R q) k || list_any (is_at (R q)) xs)
+      → list_any (is_at (R q)) (match_ordering r (k ∷ x ∷ xs) (x ∷ xs) (x ∷ insert_key R xs k)) ≡ (is_at (R q) k || (is_at (R q) x || list_any (is_at (R q)) xs))
+  any_step q k x xs Less e h = refl
+  any_step q k x xs Equal e h = or_again (is_at (R q) k) (is_at (R q) x) (list_any (is_at (R q)) xs) (alike q k x (ap is_eq e))
+  any_step q k x xs Greater e h = ap (λ b. is_at (R q) x || b) h ∙ or_swap (is_at (R q) k) (is_at (R q) x) (list_any (is_at (R q)) xs)
+
+  -- what a set holds where a key was put
+  any-insert_key : (q k : K) (xs : List K) → list_any (is_at (R q)) (insert_key R xs k) ≡ (is_at (R q) k || list_any (is_at (R q)) xs)
+  any-insert_key q k [] = refl
+  any-insert_key q k (x ∷ xs) = any_step q k x xs (R k x) refl (any-insert_key q k xs)
+
+  all_above : (k x : K) (xs : List K) → R k x ≡ Less → AllByRecursion (λ y. R x y ≡ Less) xs → AllByRecursion (λ y. R k y ≡ Less) xs
+  all_above k x [] less h = tt
+  all_above k x (y ∷ ys) less h = (o.trans k x y less h.0, all_above k x ys less h.1)
+
+  all_step : (P : K → Type 0) (k x : K) (xs : List K) (r : Ordering) → P k → AllByRecursion P (x ∷ xs) → AllByRecursion P (insert_key R xs k) → AllByRecursion P (match_ordering r (k ∷ x ∷ xs) (x ∷ xs) (x ∷ insert_key R xs k))
+  all_step P k x xs Less here h others = (here, h)
+  all_step P k x xs Equal here h others = h
+  all_step P k x xs Greater here h others = (h.0, others)
+
+  all-insert_key : (P : K → Type 0) (k : K) (xs : List K) → P k → AllByRecursion P xs → AllByRecursion P (insert_key R xs k)
+  all-insert_key P k [] here h = (here, tt)
+  all-insert_key P k (x ∷ xs) here h = all_step P k x xs (R k x) here h (all-insert_key P k xs here h.1)
+
+  sorted_step : (k x : K) (xs : List K) (r : Ordering) → R k x ≡ r → IsStrictlySortedBy R (x ∷ xs) → IsStrictlySortedBy R (insert_key R xs k) → IsStrictlySortedBy R (match_ordering r (k ∷ x ∷ xs) (x ∷ xs) (x ∷ insert_key R xs k))
+  unfolding IsStrictlySortedBy
+  sorted_step k x xs Less e h others = ((e, all_above k x xs e h.0), h)
+  sorted_step k x xs Equal e h others = h
+  sorted_step k x xs Greater e h others = (all-insert_key (λ y. R x y ≡ Less) k xs (o.antisymm x k ∙ ap ordering_reverse e) h.0, others)
+
+  -- keys stay in order where one is put
+  sorted-insert_key : (k : K) (xs : List K) → IsStrictlySortedBy R xs → IsStrictlySortedBy R (insert_key R xs k)
+  unfolding IsStrictlySortedBy
+  sorted-insert_key k [] h = (tt, tt)
+  sorted-insert_key k (x ∷ xs) h = sorted_step k x xs (R k x) refl h (sorted-insert_key k xs h.1)
+
+  no_key_sorted : IsStrictlySortedBy R []
+  unfolding IsStrictlySortedBy
+  no_key_sorted = tt
+
+abbrev is_absent : Option Hop → Bool
+is_absent None = true
+is_absent (Some h) = false
+
+abbrev is_hop : Hop → Option Hop → Bool
+is_hop q None = false
+is_hop q (Some h) = is_at (hop_cmp q) h
+
+module _ (objects : Objects) where
+  -- hops against the next hops that they are of: none where one is absent, else rising, and each that one has
+  abbrev Describes : List Rid → Option (List Hop) → Type 0
+  Describes ns None = list_any (λ n. is_absent (next_hop_at objects n)) ns ≡ true
+  Describes ns (Some hs) = (list_any (λ n. is_absent (next_hop_at objects n)) ns ≡ false) × IsStrictlySortedBy hop_cmp hs × ((q : Hop) → list_any (is_at (hop_cmp q)) hs ≡ list_any (λ n. is_hop q (next_hop_at objects n)) ns)
+
+  described_step : (n : Rid) (ns : List Rid) (hops : Option (List Hop)) (hop : Option Hop) → next_hop_at objects n ≡ hop → Describes ns hops → Describes (n ∷ ns) (both (insert_key hop_cmp) hops hop)
+  described_step n ns None hop e d = ap (λ b. is_absent (next_hop_at objects n) || b) d ∙ or_true (is_absent (next_hop_at objects n))
+  described_step n ns (Some hs) None e d = ap (λ h. is_absent h || list_any (λ m. is_absent (next_hop_at objects m)) ns) e
+  described_step n ns (Some hs) (Some h) e d = (
+    ap (λ x. is_absent x || list_any (λ m. is_absent (next_hop_at objects m)) ns) e ∙ d.0,
+    sorted-insert_key hop_cmp ordered_hop.total-law h hs d.1,
+    λ q.
+        any-insert_key hop_cmp ordered_hop.total-law q h hs
+        ∙ ap (λ b. is_at (hop_cmp q) h || b) (d.2 q)
+        ∙ ap (λ x. is_hop q x || list_any (λ m. is_hop q (next_hop_at objects m)) ns) (sym e),
+  )
+
+  described : (ns : List Rid) → Describes ns (hops_by objects ns)
+  described [] = (refl, no_key_sorted hop_cmp ordered_hop.total-law, λ q. refl)
+  described (n ∷ ns) = described_step n ns (hops_by objects ns) (next_hop_at objects n) refl (described ns)
+
+  same_described : (ns ms : List Rid) (a b : Option (List Hop)) → ((p : Rid → Bool) → list_any p ns ≡ list_any p ms) → Describes ns a → Describes ms b → a ≡ b
+  same_described ns ms None None same d e = refl
+  same_described ns ms None (Some ks) same d e = absurd (false≢true (sym e.0 ∙ sym (same (λ n. is_absent (next_hop_at objects n))) ∙ d))
+  same_described ns ms (Some hs) None same d e = absurd (false≢true (sym d.0 ∙ same (λ n. is_absent (next_hop_at objects n)) ∙ e))
+  same_described ns ms (Some hs) (Some ks) same d e =
+      let set : List Hop → BTreeSet Hop = λ keys. record { keys = keys } in
+      ap Some (btree_set_from_contains ordered_hop.total-law (set hs) (set ks) d.1 e.1 (λ q. d.2 q ∙ same (λ n. is_hop q (next_hop_at objects n)) ∙ sym (e.2 q)) hop_exact)
+
+  -- the hops of next hops don't depend on the order in which these stand, nor on how often
+  pub hops_by-same : (ns ms : List Rid) → ((p : Rid → Bool) → list_any p ns ≡ list_any p ms) → hops_by objects ns ≡ hops_by objects ms
+  hops_by-same ns ms same = same_described ns ms (hops_by objects ns) (hops_by objects ms) same (described ns) (described ms)
+
+-- one more next hop in front
+pub hops_by-before : (objects : Objects) (ns : List Rid) (left : ℕ) (d : Rid) (hop : Option Hop) (hops new : Option (List Hop)) → 0 < left → left ≤ length ns → hops ≡ hops_by objects (drop left ns) → hop ≡ next_hop_at objects (get_or ns (left - 1) d) → new ≡ both (insert_key hop_cmp) hops hop → new ≡ hops_by objects (drop (left - 1) ns)
+hops_by-before objects ns left d hop hops new some within found one more =
+    more
+    ∙ ap (both (insert_key hop_cmp) hops) one
+    ∙ ap (λ hs. both (insert_key hop_cmp) hs (next_hop_at objects (get_or ns (left - 1) d))) found
+    ∙ ap (hops_by objects) (sym (drop-before ns left d some within))

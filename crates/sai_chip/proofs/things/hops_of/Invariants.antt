@@ -1,0 +1,13 @@
+use Rattle.std.proofs.Common.{◌≡◌, ◌≤◌, drop, length}
+use Rattle.sai_chip.specs.Members.{hops_by}
+use Rattle.sai_chip.proofs.things.hops_of.Given as goal
+
+-- the hops are those of the next hops from this place on
+abbrev pub invariant-loop-left : goal.invariant-loop-left
+invariant-loop-left l = record {
+  within : l.left ≤ length l.next_hops;
+  found : l.hops ≡ hops_by l.bodies.entries (drop l.left l.next_hops);
+}
+
+abbrev pub decreases-loop-left : goal.decreases-loop-left
+decreases-loop-left l = l.left
