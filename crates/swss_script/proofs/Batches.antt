@@ -52,8 +52,8 @@ elements-more writes elements n element write within at read =
     ∙ ap (λ es. option_map (λ more. writes ++ more) (writes_in (items_view es))) (sym split)
 
 -- one member more
-pub texts_more : (texts : Pairs) (name : List ℕ) (value : Data) (members : Members) (text : List ℕ) → Some text ≡ as_str value
+pub texts-more : (texts : Pairs) (name : List ℕ) (value : Data) (members : Members) (text : List ℕ) → Some text ≡ as_str value
     → option_map (λ more. (texts ++ (name, text) ∷ []) ++ more) (texts_in members) ≡ option_map (λ more. texts ++ more) (texts_in (member name value members))
-texts_more texts name value members text read =
+texts-more texts name value members text read =
     option_map_push texts (name, text) (texts_in members)
     ∙ ap (λ v. option_map (λ more. texts ++ more) (with_field (text_field name v) (texts_in members))) read

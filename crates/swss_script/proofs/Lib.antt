@@ -2,6 +2,7 @@ pub mod Batches
 pub mod Blanks
 pub mod Joins
 pub mod LinesIn
+pub mod Numbered
 pub mod PlacedWrites
 pub mod PlainAccepted
 pub mod PlainReading

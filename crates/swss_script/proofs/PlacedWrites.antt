@@ -146,12 +146,12 @@ record Moves (names : List (List ℕ)) (d : Draft) (line : Line) (e : Draft) : T
   writes : so_far names e ≡ so_far names d ++ line_writes (next_round d) (current names d.place) line
 
 -- nothing that counts has changed
-record IsStill (d e : Draft) : Type 0 where
-  place : e.place ≡ d.place
-  block : e.block ≡ d.block
-  rounds : e.script.rounds ≡ d.script.rounds
-  sections : e.sections ≡ d.sections
-  acts : e.acts ≡ d.acts
+pub record IsStill (d e : Draft) : Type 0 where
+  pub place : e.place ≡ d.place
+  pub block : e.block ≡ d.block
+  pub rounds : e.script.rounds ≡ d.script.rounds
+  pub sections : e.sections ≡ d.sections
+  pub acts : e.acts ≡ d.acts
 
 still-to : (d middle e : Draft) → IsStill d middle → middle ≡ e → IsStill d e
 still-to d middle e still is = subst (IsStill d) is still
@@ -184,13 +184,13 @@ still-head d e (head.Chip kind most) h = still-if _ _ d _ e (record { place = re
 still-head d e (head.Fail fail) h = still-if _ _ d _ e (record { place = refl; block = refl; rounds = refl; sections = refl; acts = refl }) h
 still-head d e head.Image h = cc
 
-still-in_head : (p : Place) (d e : Draft) (line : Option HeadLine) → in_head p d line ≡ Ok e → IsStill d e
+pub still-in_head : (p : Place) (d e : Draft) (line : Option HeadLine) → in_head p d line ≡ Ok e → IsStill d e
 still-in_head place.Head d e (Some line) h = still-head d e line h
 still-in_head place.Head d e None h = cc
 still-in_head (place.Section producer) d e line h = cc
 still-in_head place.Settled d e line h = cc
 
-still-shown : (p : Place) (d e : Draft) (what : Show) → shown_in p d what ≡ Ok e → IsStill d e
+pub still-shown : (p : Place) (d e : Draft) (what : Show) → shown_in p d what ≡ Ok e → IsStill d e
 still-shown place.Settled d e what h = still-to d _ e (record { place = refl; block = refl; rounds = refl; sections = refl; acts = refl }) (same-ok _ _ h)
 still-shown place.Head d e what h = cc
 still-shown (place.Section producer) d e what h = cc
@@ -385,7 +385,7 @@ steps-in names d e bytes rest true is tidy begins h =
     subst (λ g. Steps names d (told (not (is_end bytes)) rest) g (told g.block rest)) (same-ok _ _ h) inside
 steps-in names d e bytes rest false is tidy begins h = steps-text names d e bytes rest (is_utf8 bytes) tidy begins is h
 
-steps-if : (wrong : Bool) (reason : Why) (answer : Result Draft Why) (e : Draft) → cond wrong (Err reason) answer ≡ Ok e → answer ≡ Ok e
+pub steps-if : (wrong : Bool) (reason : Why) (answer : Result Draft Why) (e : Draft) → cond wrong (Err reason) answer ≡ Ok e → answer ≡ Ok e
 steps-if true reason answer e h = cc
 steps-if false reason answer e h = h
 
@@ -423,7 +423,7 @@ begins-by d number line rest script (Ok e) is more h =
     let here = begins-step d e number line rest is in
     (here.0 ++ behind.0, behind.1 ∙ ap (λ ns. ns ++ behind.0) here.1 ∙ append_assoc d.script.producers here.0 behind.0)
 
-same-script : (x y : Script) (r : Result Script Refused) → r ≡ Ok x → r ≡ Ok y → x ≡ y
+pub same-script : (x y : Script) (r : Result Script Refused) → r ≡ Ok x → r ≡ Ok y → x ≡ y
 same-script x y r h k = cc
 
 begins : (d : Draft) (number : ℕ) (lines : List (List ℕ)) (script : Script) → script_from (Ok d) number lines ≡ Ok script → BeginsWith script.producers d
@@ -453,7 +453,7 @@ writes-from d number [] script tidy h =
     ap (λ s. rounds_writes script.producers 1 s.rounds) (sym is) ∙ writes-at script.producers d.place d refl tidy ∙ sym (nil (so_far script.producers d))
 writes-from d number (line ∷ lines) script tidy h = writes-by d (number + 1) line lines script (step d (number + 1) line lines) refl tidy (λ e tidy_e k. writes-from e (number + 1) lines script tidy_e k) h
 
-accepted : (long : Bool) (refused : Refused) (answer : Result Script Refused) (script : Script) → cond long (Err refused) answer ≡ Ok script → answer ≡ Ok script
+pub accepted : (long : Bool) (refused : Refused) (answer : Result Script Refused) (script : Script) → cond long (Err refused) answer ≡ Ok script → answer ≡ Ok script
 accepted true refused answer script h = cc
 accepted false refused answer script h = h
 

@@ -26,7 +26,7 @@ abbrev pub HasFew : Draft → Type 0
 HasFew d = length d.script.producers ≤ 4
 
 -- the same producers
-abbrev AreKept : Draft → Draft → Type 0
+abbrev pub AreKept : Draft → Draft → Type 0
 AreKept d d' = d'.script.producers ≡ d.script.producers
 
 kept-to : (d middle d' : Draft) → AreKept d middle → middle ≡ d' → AreKept d d'
@@ -57,7 +57,7 @@ kept-head d d' (head.Chip kind most) h = kept-if _ _ d _ d' refl h
 kept-head d d' (head.Fail fail) h = kept-if _ _ d _ d' refl h
 kept-head d d' head.Image h = cc
 
-kept-in_head : (p : Place) (d d' : Draft) (line : Option HeadLine) → in_head p d line ≡ Ok d' → AreKept d d'
+pub kept-in_head : (p : Place) (d d' : Draft) (line : Option HeadLine) → in_head p d line ≡ Ok d' → AreKept d d'
 kept-in_head place.Head d d' (Some line) h = kept-head d d' line h
 kept-in_head place.Head d d' None h = cc
 kept-in_head (place.Section producer) d d' line h = cc
@@ -68,7 +68,7 @@ kept-in_section (place.Section producer) d d' acts h = kept-to d _ d' refl (same
 kept-in_section place.Head d d' acts h = cc
 kept-in_section place.Settled d d' acts h = cc
 
-kept-shown : (p : Place) (d d' : Draft) (what : Show) → shown_in p d what ≡ Ok d' → AreKept d d'
+pub kept-shown : (p : Place) (d d' : Draft) (what : Show) → shown_in p d what ≡ Ok d' → AreKept d d'
 kept-shown place.Settled d d' what h = kept-to d _ d' refl (same-ok _ _ h)
 kept-shown place.Head d d' what h = cc
 kept-shown (place.Section producer) d d' what h = cc

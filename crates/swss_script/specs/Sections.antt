@@ -84,6 +84,23 @@ text_writes bytes = lines_writes 1 [] (told false (lines_in bytes))
 
 -- ---- a producer in a round
 
--- the writes of a producer in a round
+-- of placed writes, those of a producer in a round
 abbrev pub writes_of : ℕ → List ℕ → List Placed → List Write
 writes_of round name writes = map (λ p. p.write) (filter (λ p. p.round == round && bytes_eq p.producer name) writes)
+
+abbrev pub acts_of : List Act → List Write
+acts_of [] = []
+acts_of (act.Write write ∷ acts) = write ∷ acts_of acts
+acts_of (act.Restart ∷ acts) = acts_of acts
+
+abbrev pub sections_by : ℕ → List Section → List Write
+sections_by producer [] = []
+sections_by producer (section ∷ sections) = (if section.producer == producer then acts_of section.acts else []) ++ sections_by producer sections
+
+abbrev pub sections_from : ℕ → ℕ → ℕ → List Round → List Write
+sections_from number round producer [] = []
+sections_from number round producer (r ∷ rounds) = (if number == round then sections_by producer r.sections else []) ++ sections_from (number + 1) round producer rounds
+
+-- the writes of a producer in a round of a script, in order: rounds and producers are counted from 1
+abbrev pub sections_of : Script → ℕ → ℕ → List Write
+sections_of script round producer = sections_from 1 round producer script.rounds

@@ -114,7 +114,6 @@ pub fn key_in_word(alloc: Global, word: &str) -> Result<Option<Key>, OutOfMemory
 }
 
 /// The names and values of an object, or None where a value is no string.
-#[tactic(auto, using(crate::proofs::Batches::texts_more))]
 fn read_texts(
     alloc: Global,
     members: &Map<String, Value>,

@@ -1,0 +1,301 @@
+-- producers by their numbers
+use Rattle.std.proofs.Common.{◌≡◌, ℕ, ◌+◌, ◌-◌, ◌<◌, ◌≤◌, ◌==◌, nat_lt, Bool, true, false, cond, not, ◌&&◌, List, [], ◌∷◌, ◌++◌, length, get_or, map, filter, Option, Some, None, option_and_then, Result, Ok, Err, refl, sym, ap, ap₂, ◌∙◌, subst, arith, ltb, length-append, bytes_eq, inl, inr}
+use Rattle.std.proofs.Math.Seq.{get_or-append_seam}
+use Rattle.std.proofs.lemmas.Bool.{cases_lt, eq-eqb, eqb-true, ltb-false, ltb-true}
+use Rattle.std.proofs.lemmas.List.{get_or_append_left}
+use Rattle.std.proofs.lemmas.List.Sums.{fails_before_first}
+use Rattle.std.proofs.lemmas.Slice.Eq.{bytes_eq-Decides}
+use Rattle.std.specs.Bool.{one_answer}
+use Rattle.std.specs.List.{AllByRecursion, position, position_or_len}
+use Rattle.table_schema.specs.declared.write.Write.{Write}
+use Rattle.swss_script.specs.Batch.{batch_of}
+use Rattle.swss_script.specs.Built.{is_built}
+use Rattle.swss_script.specs.Line.{is_block, line_of}
+use Rattle.swss_script.specs.Lines.{block_of, is_end, is_too_long, line_text, lines_in, text_of}
+use Rattle.swss_script.specs.Script.{add, begun, ended_in, if_built, in_block, in_section, named, script_at, script_from, script_of, section_begun, settled, step, step_by, with_block, with_line, with_text}
+use Rattle.swss_script.specs.Sections.{Placed, placed, acts_of, acts_writes, name_of, rounds_writes, sections_by, sections_from, sections_of, sections_writes, text_writes, writes_of}
+use Rattle.swss_script.specs.declared.draft.Draft.{Draft}
+use Rattle.swss_script.specs.declared.draft.Place.{Place}
+use Rattle.swss_script.specs.declared.draft.Place.TheVariants as place
+use Rattle.swss_script.specs.declared.line.Line.{Line}
+use Rattle.swss_script.specs.declared.line.Line.TheVariants.{Blank, Head, Producer, Put, Batch, Block, Restart, Settle, Shown, Other}
+use Rattle.swss_script.specs.declared.parts.Act.{Act}
+use Rattle.swss_script.specs.declared.parts.Act.TheVariants as act
+use Rattle.swss_script.specs.declared.parts.Round.{Round}
+use Rattle.swss_script.specs.declared.parts.Section.{Section}
+use Rattle.swss_script.specs.declared.refused.Why.{Why}
+use Rattle.swss_script.specs.declared.refused.Why.TheVariants as why
+use Rattle.swss_script.specs.declared.script.Script.{Script}
+use Rattle.swss_script.proofs.PlacedWrites.{IsStill, still-in_head, still-shown, accepted, same-script, steps-if, writes-by_lines}
+use Rattle.swss_script.proofs.Steps.{AreKept, kept-in_head, kept-shown, same-ok, with_producer}
+
+-- ---- numbers and names
+
+AreDistinct : List (List ℕ) → Type 0
+AreDistinct names = (i j : ℕ) → i < length names → j < length names → get_or names i [] ≡ get_or names j [] → i ≡ j
+
+-- a number that some name has
+abbrev IsNumber : ℕ → ℕ → Type 0
+IsNumber count number = (0 < number) × (number ≤ count)
+
+same_number : (names : List (List ℕ)) (q p : ℕ) → AreDistinct names → IsNumber (length names) q → IsNumber (length names) p → bytes_eq (name_of names q) (name_of names p) ≡ (q == p)
+unfolding AreDistinct
+same_number names q p distinct q_in p_in = one_answer _ _ (bytes_eq-Decides (name_of names q) (name_of names p)) (to, from)
+  where
+    to : (q == p) ≡ true → name_of names q ≡ name_of names p
+    to h = ap (name_of names) (eqb-true q p h)
+
+    from : name_of names q ≡ name_of names p → (q == p) ≡ true
+    from h =
+        let places : q - 1 ≡ p - 1 = distinct (q - 1) (p - 1) (omega (arith, q_in.0, q_in.1)) (omega (arith, p_in.0, p_in.1)) h in
+        let same : q ≡ p = omega (arith, places, q_in.0, p_in.0) in
+        eq-eqb q p same
+
+chosen_none : (b : Bool) (m : ℕ) → cond b (Some m) None ≡ None → b ≡ false
+chosen_none true m h = cc
+chosen_none false m h = refl
+
+-- a name that is not there
+absent : (names : List (List ℕ)) (name : List ℕ) (i : ℕ) → position (bytes_eq name) names ≡ None → i < length names → name ≡ get_or names i [] → ⊥
+absent names name i none within same =
+    let past : length names ≤ position_or_len (bytes_eq name) names = ltb-false _ _ (chosen_none (ltb (position_or_len (bytes_eq name) names) (length names)) (position_or_len (bytes_eq name) names) none) in
+    let differs : bytes_eq name (get_or names i []) ≡ false = fails_before_first (bytes_eq name) names i [] (omega (arith, past, within)) in
+    let agrees : bytes_eq name (get_or names i []) ≡ true = (bytes_eq-Decides name (get_or names i [])).1 same in
+    let wrong : true ≡ false = sym agrees ∙ differs in
+    cc
+
+distinct-more : (names : List (List ℕ)) (name : List ℕ) → AreDistinct names → position (bytes_eq name) names ≡ None → AreDistinct (names ++ name ∷ [])
+unfolding AreDistinct
+distinct-more names name distinct none i j i_in j_in same =
+    let count : length (names ++ name ∷ []) ≡ length names + 1 = length-append names (name ∷ []) in
+    let last : get_or (names ++ name ∷ []) (length names) [] ≡ name = get_or-append_seam names name [] [] in
+    elim (cases_lt i (length names)) [
+      | inl i_less ↦ elim (cases_lt j (length names)) [
+        | inl j_less ↦ distinct i j i_less j_less (sym (get_or_append_left names (name ∷ []) [] i i_less) ∙ same ∙ get_or_append_left names (name ∷ []) [] j j_less)
+        | inr j_from ↦
+            let at : j ≡ length names = omega (arith, j_from, j_in, count) in
+            absurd (absent names name i none i_less (sym last ∙ ap (λ k. get_or (names ++ name ∷ []) k []) (sym at) ∙ sym same ∙ get_or_append_left names (name ∷ []) [] i i_less))
+      ]
+      | inr i_from ↦
+          let i_at : i ≡ length names = omega (arith, i_from, i_in, count) in
+          elim (cases_lt j (length names)) [
+            | inl j_less ↦ absurd (absent names name j none j_less (sym last ∙ ap (λ k. get_or (names ++ name ∷ []) k []) (sym i_at) ∙ same ∙ get_or_append_left names (name ∷ []) [] j j_less))
+            | inr j_from ↦ omega (arith, i_at, j_from, j_in, count)
+          ]
+    ]
+
+-- ---- drafts whose sections are of named producers
+
+abbrev AreNumbered : ℕ → List Section → Type 0
+AreNumbered count sections = AllByRecursion (λ s. IsNumber count s.producer) sections
+
+abbrev PlaceIn : ℕ → Place → Type 0
+PlaceIn count place.Head = Unit {0}
+PlaceIn count (place.Section producer) = IsNumber count producer
+PlaceIn count place.Settled = Unit {0}
+
+record IsNumbered (d : Draft) : Type 0 where
+  names : AreDistinct d.script.producers
+  place : PlaceIn (length d.script.producers) d.place
+  sections : AreNumbered (length d.script.producers) d.sections
+  rounds : AllByRecursion (λ r. AreNumbered (length d.script.producers) r.sections) d.script.rounds
+
+all-append : {X : Type 0} (P : X → Type 0) (xs : List X) (x : X) → AllByRecursion P xs → P x → AllByRecursion P (xs ++ x ∷ [])
+all-append P [] x h here = (here, tt)
+all-append P (y ∷ xs) x h here = (h.0, all-append P xs x h.1 here)
+
+all-map : {X : Type 0} (P Q : X → Type 0) (more : (x : X) → P x → Q x) (xs : List X) → AllByRecursion P xs → AllByRecursion Q xs
+all-map P Q more [] h = tt
+all-map P Q more (x ∷ xs) h = (more x h.0, all-map P Q more xs h.1)
+
+numbered-still : (d e : Draft) → IsStill d e → AreKept d e → IsNumbered d → IsNumbered e
+numbered-still d e still kept h =
+    let count : length d.script.producers ≡ length e.script.producers = ap length (sym kept) in
+    record {
+      names = subst AreDistinct (sym kept) h.names;
+      place = subst (λ p. PlaceIn (length e.script.producers) p) (sym still.place) (subst (λ n. PlaceIn n d.place) count h.place);
+      sections = subst (AreNumbered (length e.script.producers)) (sym still.sections) (subst (λ n. AreNumbered n d.sections) count h.sections);
+      rounds = subst (AllByRecursion (λ r. AreNumbered (length e.script.producers) r.sections)) (sym still.rounds) (subst (λ n. AllByRecursion (λ r. AreNumbered n r.sections) d.script.rounds) count h.rounds);
+    }
+
+numbered-acts : (p : Place) (d e : Draft) (acts : List Act) → in_section p d acts ≡ Ok e → IsNumbered d → IsNumbered e
+numbered-acts (place.Section producer) d e acts is h = subst IsNumbered (same-ok (record d { acts = d.acts ++ acts }) e is) (record { names = h.names; place = h.place; sections = h.sections; rounds = h.rounds })
+numbered-acts place.Head d e acts is h = cc
+numbered-acts place.Settled d e acts is h = cc
+
+-- what is open ends, and another place is next
+numbered-ended : (p next : Place) (d : Draft) → d.place ≡ p → IsNumbered d → PlaceIn (length d.script.producers) next → IsNumbered (record (ended_in p d) { place = next })
+numbered-ended place.Head next d is h here = record { names = h.names; place = here; sections = h.sections; rounds = h.rounds }
+numbered-ended (place.Section producer) next d is h here =
+    let open_is : IsNumber (length d.script.producers) producer = subst (PlaceIn (length d.script.producers)) is h.place in
+    record { names = h.names; place = here; sections = all-append (λ s. IsNumber (length d.script.producers) s.producer) d.sections (record { producer = producer; acts = d.acts }) h.sections open_is; rounds = h.rounds }
+numbered-ended place.Settled next d is h here =
+    record { names = h.names; place = here; sections = tt; rounds = all-append (λ r. AreNumbered (length d.script.producers) r.sections) d.script.rounds (record { sections = d.sections; shows = d.shows }) h.rounds h.sections }
+
+numbered-new : (d : Draft) (name : List ℕ) → position (bytes_eq name) d.script.producers ≡ None → IsNumbered d → IsNumbered (with_producer d name)
+numbered-new d name none h =
+    let count : length (d.script.producers ++ name ∷ []) ≡ length d.script.producers + 1 = length-append d.script.producers (name ∷ []) in
+    let more : (n : ℕ) → IsNumber (length d.script.producers) n → IsNumber (length (d.script.producers ++ name ∷ [])) n = λ n i. (i.0, omega (arith, i.1, count)) in
+    record {
+      names = distinct-more d.script.producers name h.names none;
+      place = place-more d.place more h.place;
+      sections = all-map _ _ (λ s. more s.producer) d.sections h.sections;
+      rounds = all-map _ _ (λ r. all-map _ _ (λ s. more s.producer) r.sections) d.script.rounds h.rounds;
+    }
+  where
+    place-more : (p : Place) → ((n : ℕ) → IsNumber (length d.script.producers) n → IsNumber (length (d.script.producers ++ name ∷ [])) n) → PlaceIn (length d.script.producers) p → PlaceIn (length (d.script.producers ++ name ∷ [])) p
+    place-more place.Head more h = tt
+    place-more (place.Section producer) more h = more producer h
+    place-more place.Settled more h = tt
+
+chosen_some : (b : Bool) (m i : ℕ) → cond b (Some m) None ≡ Some i → (b ≡ true) × (m ≡ i)
+chosen_some true m i h = (refl, cc)
+chosen_some false m i h = cc
+
+numbered-named-new : (d e : Draft) (name : List ℕ) (fits : Bool) → position (bytes_eq name) d.script.producers ≡ None → IsNumbered d → cond fits (Ok (section_begun (with_producer d name) (length d.script.producers + 1))) (Err why.TooManyProducers) ≡ Ok e → IsNumbered e
+numbered-named-new d e name true none h is =
+    let count : length (d.script.producers ++ name ∷ []) ≡ length d.script.producers + 1 = length-append d.script.producers (name ∷ []) in
+    let here : IsNumber (length (d.script.producers ++ name ∷ [])) (length d.script.producers + 1) = (omega arith, omega (arith, count)) in
+    subst IsNumbered (same-ok _ _ is) (numbered-ended d.place (place.Section (length d.script.producers + 1)) (with_producer d name) refl (numbered-new d name none h) here)
+numbered-named-new d e name false none h is = cc
+
+numbered-named : (d e : Draft) (name : List ℕ) (at : Option ℕ) → position (bytes_eq name) d.script.producers ≡ at → IsNumbered d → named d name at ≡ Ok e → IsNumbered e
+numbered-named d e name (Some at) found h is =
+    let there = chosen_some (ltb (position_or_len (bytes_eq name) d.script.producers) (length d.script.producers)) (position_or_len (bytes_eq name) d.script.producers) at found in
+    let within : position_or_len (bytes_eq name) d.script.producers < length d.script.producers = ltb-true _ _ there.0 in
+    let here : IsNumber (length d.script.producers) (at + 1) = (omega arith, omega (arith, within, there.1)) in
+    subst IsNumbered (same-ok _ _ is) (numbered-ended d.place (place.Section (at + 1)) d refl h here)
+numbered-named d e name None found h is = numbered-named-new d e name (nat_lt (length d.script.producers) 4) found h is
+
+numbered-line : (d e : Draft) (line : Line) → with_line d line ≡ Ok e → IsNumbered d → IsNumbered e
+numbered-line d e Blank is h = subst IsNumbered (same-ok _ _ is) h
+numbered-line d e (Head line) is h = numbered-still d e (still-in_head d.place d e line is) (kept-in_head d.place d e line is) h
+numbered-line d e (Producer name) is h = numbered-named d e name (position (bytes_eq name) d.script.producers) refl h is
+numbered-line d e (Put write) is h = numbered-acts d.place d e (act.Write write ∷ []) is h
+numbered-line d e (Batch (Some writes)) is h = numbered-acts d.place d e (map act.Write writes) is h
+numbered-line d e (Batch None) is h = cc
+numbered-line d e Block is h = cc
+numbered-line d e Restart is h = numbered-acts d.place d e (act.Restart ∷ []) is h
+numbered-line d e Settle is h = subst IsNumbered (same-ok _ _ is) (numbered-ended d.place place.Settled d refl h tt)
+numbered-line d e (Shown what) is h = numbered-still d e (still-shown d.place d e what is) (kept-shown d.place d e what is) h
+numbered-line d e Other is h = cc
+
+numbered-built : (e : Draft) (built : Bool) (answer : Result Draft Why) → (answer ≡ Ok e → IsNumbered e) → if_built built answer ≡ Ok e → IsNumbered e
+numbered-built e true answer h is = h is
+numbered-built e false (Ok d) h is = cc
+numbered-built e false (Err reason) h is = cc
+
+numbered-add : (d e : Draft) (line : Line) → add d line ≡ Ok e → IsNumbered d → IsNumbered e
+numbered-add d e line is h = numbered-built e (is_built line) (with_line d line) (λ k. numbered-line d e line k h) is
+
+numbered-block : (e : Draft) (answer : Result Draft Why) → ((f : Draft) → answer ≡ Ok f → IsNumbered f) → in_block answer ≡ Ok e → IsNumbered e
+numbered-block e (Ok f) h is =
+    let n = h f refl in
+    subst IsNumbered (same-ok (record f { block = true }) e is) (record { names = n.names; place = n.place; sections = n.sections; rounds = n.rounds })
+numbered-block e (Err reason) h is = cc
+
+numbered-with : (d e : Draft) (line : Line) (rest : List (List ℕ)) (block : Bool) → cond block (with_block d rest) (add d line) ≡ Ok e → IsNumbered d → IsNumbered e
+numbered-with d e line rest true is h = numbered-block e (add d (Batch (option_and_then batch_of (block_of rest)))) (λ f k. numbered-add d f (Batch (option_and_then batch_of (block_of rest))) k h) is
+numbered-with d e line rest false is h = numbered-add d e line is h
+
+numbered-text : (d e : Draft) (text : Option (List ℕ)) (rest : List (List ℕ)) → with_text d text rest ≡ Ok e → IsNumbered d → IsNumbered e
+numbered-text d e None rest is h = cc
+numbered-text d e (Some text) rest is h = numbered-with d e (line_of text) rest (is_block (line_of text)) is h
+
+numbered-inside : (d e : Draft) (bytes : List ℕ) (rest : List (List ℕ)) (block : Bool) → cond block (Ok (record d { block = not (is_end bytes) })) (with_text d (text_of bytes) rest) ≡ Ok e → IsNumbered d → IsNumbered e
+numbered-inside d e bytes rest true is h = subst IsNumbered (same-ok (record d { block = not (is_end bytes) }) e is) (record { names = h.names; place = h.place; sections = h.sections; rounds = h.rounds })
+numbered-inside d e bytes rest false is h = numbered-text d e (text_of bytes) rest is h
+
+numbered-step : (d e : Draft) (number : ℕ) (line : List ℕ) (rest : List (List ℕ)) → step d number line rest ≡ Ok e → IsNumbered d → IsNumbered e
+numbered-step d e number line rest is h =
+    let text = steps-if (nat_lt 1000000 number) _ (step_by d (line_text line) rest) e is in
+    let inside = steps-if (is_too_long (line_text line)) _ _ e text in
+    numbered-inside d e (line_text line) rest d.block inside h
+
+-- ---- scripts
+
+record IsNumberedScript (script : Script) : Type 0 where
+  names : AreDistinct script.producers
+  rounds : AllByRecursion (λ r. AreNumbered (length script.producers) r.sections) script.rounds
+
+numbered-close : (p : Place) (d : Draft) → d.place ≡ p → IsNumbered d → IsNumberedScript (ended_in p d).script
+numbered-close p d is h =
+    let n = numbered-ended p place.Settled d is h tt in
+    record { names = n.names; rounds = n.rounds }
+
+numbered-at : (p : Place) (d : Draft) → d.place ≡ p → IsNumbered d → IsNumberedScript (script_at p d)
+numbered-at place.Settled d is h = numbered-close d.place d refl h
+numbered-at place.Head d is h = numbered-close place.Settled (settled d) refl (numbered-ended d.place place.Settled d refl h tt)
+numbered-at (place.Section producer) d is h = numbered-close place.Settled (settled d) refl (numbered-ended d.place place.Settled d refl h tt)
+
+numbered-by : (d : Draft) (number : ℕ) (line : List ℕ) (rest : List (List ℕ)) (script : Script) (answer : Result Draft Why) → step d number line rest ≡ answer → IsNumbered d
+    → ((e : Draft) → IsNumbered e → script_from (Ok e) number rest ≡ Ok script → IsNumberedScript script)
+    → script_from answer number rest ≡ Ok script → IsNumberedScript script
+numbered-by d number line rest script (Err reason) is h more k = cc
+numbered-by d number line rest script (Ok e) is h more k = more e (numbered-step d e number line rest is h) k
+
+numbered-from : (d : Draft) (number : ℕ) (lines : List (List ℕ)) (script : Script) → IsNumbered d → script_from (Ok d) number lines ≡ Ok script → IsNumberedScript script
+numbered-from d number [] script h k = subst IsNumberedScript (same-script _ _ (script_from (Ok d) number []) refl k) (numbered-at d.place d refl h)
+numbered-from d number (line ∷ lines) script h k = numbered-by d (number + 1) line lines script (step d (number + 1) line lines) refl h (λ e n j. numbered-from e (number + 1) lines script n j) k
+
+none-distinct : AreDistinct []
+unfolding AreDistinct
+none-distinct i j i_in j_in same = absurd (omega (arith, i_in))
+
+numbered-script : (bytes : List ℕ) (script : Script) → script_of bytes ≡ Ok script → IsNumberedScript script
+numbered-script bytes script h = numbered-from begun 0 (lines_in bytes) script (record { names = none-distinct; place = tt; sections = tt; rounds = tt }) (accepted (nat_lt 67108864 (length bytes)) _ _ script h)
+
+-- ---- the writes of a producer in a round
+
+writes-append : (round : ℕ) (name : List ℕ) (xs ys : List Placed) → writes_of round name (xs ++ ys) ≡ writes_of round name xs ++ writes_of round name ys
+writes-append round name [] ys = refl
+writes-append round name (x ∷ xs) ys = by (x.round == round && bytes_eq x.producer name) x (filter (λ p. p.round == round && bytes_eq p.producer name) (xs ++ ys)) (filter (λ p. p.round == round && bytes_eq p.producer name) xs) (writes_of round name ys) (writes-append round name xs ys)
+  where
+    by : (b : Bool) (x : Placed) (all first : List Placed) (last : List Write) → map (λ p. p.write) all ≡ map (λ p. p.write) first ++ last → map (λ p. p.write) (cond b (x ∷ all) all) ≡ map (λ p. p.write) (cond b (x ∷ first) first) ++ last
+    by true x all first last h = ap (λ ws. x.write ∷ ws) h
+    by false x all first last h = h
+
+writes-acts : (round : ℕ) (name : List ℕ) (n : ℕ) (other : List ℕ) (acts : List Act) → writes_of round name (acts_writes n other acts) ≡ cond (n == round && bytes_eq other name) (acts_of acts) []
+writes-acts round name n other [] = none (n == round && bytes_eq other name)
+  where
+    none : (b : Bool) → [] ≡ cond b (acts_of []) []
+    none true = refl
+    none false = refl
+writes-acts round name n other (act.Write w ∷ acts) = by (n == round && bytes_eq other name) w (filter (λ p. p.round == round && bytes_eq p.producer name) (acts_writes n other acts)) (acts_of acts) (writes-acts round name n other acts)
+  where
+    by : (b : Bool) (w : Write) (all : List Placed) (rest : List Write) → map (λ p. p.write) all ≡ cond b rest [] → map (λ p. p.write) (cond b (placed n other w ∷ all) all) ≡ cond b (w ∷ rest) []
+    by true w all rest h = ap (λ ws. w ∷ ws) h
+    by false w all rest h = h
+writes-acts round name n other (act.Restart ∷ acts) = writes-acts round name n other acts
+
+both : (a b : Bool) (xs ys : List Write) → cond (a && b) xs [] ++ cond a ys [] ≡ cond a (cond b xs [] ++ ys) []
+both true b xs ys = refl
+both false b xs ys = refl
+
+writes-sections : (names : List (List ℕ)) (round producer n : ℕ) (sections : List Section) → AreDistinct names → IsNumber (length names) producer → AreNumbered (length names) sections
+    → writes_of round (name_of names producer) (sections_writes names n sections) ≡ cond (n == round) (sections_by producer sections) []
+writes-sections names round producer n [] distinct here all = none (n == round)
+  where
+    none : (b : Bool) → [] ≡ cond b (sections_by producer []) []
+    none true = refl
+    none false = refl
+writes-sections names round producer n (s ∷ ss) distinct here all =
+    writes-append round (name_of names producer) (acts_writes n (name_of names s.producer) s.acts) (sections_writes names n ss)
+    ∙ ap₂ (λ xs ys. xs ++ ys)
+    (writes-acts round (name_of names producer) n (name_of names s.producer) s.acts ∙ ap (λ b. cond (n == round && b) (acts_of s.acts) []) (same_number names s.producer producer distinct all.0 here))
+    (writes-sections names round producer n ss distinct here all.1)
+    ∙ both (n == round) (s.producer == producer) (acts_of s.acts) (sections_by producer ss)
+
+writes-rounds : (names : List (List ℕ)) (round producer n : ℕ) (rounds : List Round) → AreDistinct names → IsNumber (length names) producer → AllByRecursion (λ r. AreNumbered (length names) r.sections) rounds
+    → writes_of round (name_of names producer) (rounds_writes names n rounds) ≡ sections_from n round producer rounds
+writes-rounds names round producer n [] distinct here all = refl
+writes-rounds names round producer n (r ∷ rounds) distinct here all =
+    writes-append round (name_of names producer) (sections_writes names n r.sections) (rounds_writes names (n + 1) rounds)
+    ∙ ap₂ (λ xs ys. xs ++ ys) (writes-sections names round producer n r.sections distinct here all.0) (writes-rounds names round producer (n + 1) rounds distinct here all.1)
+
+-- the writes of a producer's sections are those of their lines
+pub sections-by_lines : (bytes : List ℕ) (script : Script) (round producer : ℕ) → script_of bytes ≡ Ok script → 0 < producer → producer ≤ length script.producers
+    → sections_of script round producer ≡ writes_of round (name_of script.producers producer) (text_writes bytes)
+sections-by_lines bytes script round producer h some within =
+    let n = numbered-script bytes script h in
+    sym (writes-rounds script.producers round producer 1 script.rounds n.names (some, within) n.rounds) ∙ ap (writes_of round (name_of script.producers producer)) (writes-by_lines bytes script h)
