@@ -33,10 +33,8 @@ abbrev pub is_built_show : Show → Bool
 is_built_show show.Waiting = false
 is_built_show show.Warm = false
 is_built_show show.Ready = false
-is_built_show show.Calls = false
 is_built_show show.Counts = false
 is_built_show show.Image = false
-is_built_show (show.Forward ip) = false
 is_built_show what = true
 
 abbrev pub is_built_write : Write → Bool

@@ -63,7 +63,7 @@ fn is_built_show(show: Show) -> bool
     ensures { result ≡ is_built_show show }
 {
     match show {
-        Show::Chip | Show::Tables | Show::Ignored => true,
+        Show::Chip | Show::Tables | Show::Ignored | Show::Calls | Show::Forward(_) => true,
         _ => false,
     }
 }

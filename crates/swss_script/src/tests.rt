@@ -31,7 +31,7 @@ fn add_script(out: &mut Vec<u8>, script: &Script) -> Result<(), OutOfMemory> {
             add_section(out, section)?;
         }
         for show in round.shows.items() {
-            add_words(out, &[b"show", show_name(*show)])?;
+            add_show(out, *show)?;
         }
     }
     Ok(())
@@ -91,11 +91,24 @@ fn add_key(out: &mut Vec<u8>, word: &[u8], key: &Key) -> Result<(), OutOfMemory>
     Ok(())
 }
 
+fn add_show(out: &mut Vec<u8>, show: Show) -> Result<(), OutOfMemory> {
+    out.extend_from_slice(b"show ")?;
+    out.extend_from_slice(show_name(show))?;
+    if let Show::Forward(ip) = show {
+        out.push(b' ')?;
+        ip.write(out)?;
+    }
+    out.extend_from_slice(b" \n")?;
+    Ok(())
+}
+
 fn show_name(show: Show) -> &'static [u8] {
     match show {
         Show::Chip => b"chip",
         Show::Tables => b"tables",
         Show::Ignored => b"ignored",
+        Show::Calls => b"calls",
+        Show::Forward(_) => b"forward",
         _ => b"another",
     }
 }
@@ -151,6 +164,9 @@ show chip
 show tables
 # between
 show ignored
+show calls
+show forward 10.0.0.1
+show\tforward ::
 settle
 producer last
 ";
@@ -184,6 +200,9 @@ set :
 show chip 
 show tables 
 show ignored 
+show calls 
+show forward 10.0.0.1 
+show forward :: 
 round 
 round 
 section 3
@@ -347,6 +366,8 @@ fn refuses_words(rt: HostRuntime) -> Result<(), Fail> {
             ("settle\njson\n[]\nend\n", "2 bad-word"),
             ("show chip", "1 bad-word"),
             ("producer a\nshow chip", "2 bad-word"),
+            ("producer a\nshow calls", "2 bad-word"),
+            ("show forward 1.2.3.4", "1 bad-word"),
             ("producer a\nshow warm", "2 bad-word"),
             // the first faulty line
         ],
@@ -508,11 +529,8 @@ fn refuses_what_is_not_yet(rt: HostRuntime) -> Result<(), Fail> {
             ("settle\nshow waiting", "2 not-yet"),
             ("settle\nshow warm", "2 not-yet"),
             ("settle\nshow ready", "2 not-yet"),
-            ("settle\nshow calls", "2 not-yet"),
             ("settle\nshow counts", "2 not-yet"),
             ("settle\nshow image", "2 not-yet"),
-            ("settle\nshow forward 1.2.3.4", "2 not-yet"),
-            ("settle\nshow forward ::", "2 not-yet"),
             ("producer a\nset VLAN_TABLE:Vlan10 a=1", "2 not-yet"),
             ("producer a\ndel VLAN_TABLE:Vlan10", "2 not-yet"),
             (
