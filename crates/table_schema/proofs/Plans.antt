@@ -240,13 +240,18 @@ IsPlan-with_line : (ports new : Ports) (r : Result (ℕ × List ℕ) PlanWhy) �
 IsPlan-with_line ports new (Err why) lists h e = cc
 IsPlan-with_line ports new (Ok port) lists h e = IsPlan-unless (port_fault ports port) (insert_entry nat_cmp ports port.0 port.1) new (λ none. IsPlan-with_port ports port.0 port.1 h (lists port refl) none) e
 
+-- a plan with the port of a line more
+pub IsPlan-plan_step : (ports new : Ports) (line : List ℕ) → IsPlan ports → plan_step ports line ≡ Ok new → IsPlan new
+IsPlan-plan_step ports new line h e = IsPlan-with_line ports new (line_of line) (list_of_parts line (split_once 32 line)) h e
+
 IsPlan-plan_from : (r : Result Ports PlanWhy) (number : ℕ) (lines : List (List ℕ)) (new : Ports) → ((ports : Ports) → r ≡ Ok ports → IsPlan ports) → plan_from r number lines ≡ Ok new → IsPlan new
 IsPlan-plan_from (Err why) number lines new h e = cc
 IsPlan-plan_from (Ok ports) number [] new h e = let is : ports ≡ new = cc in subst IsPlan is (h ports refl)
 IsPlan-plan_from (Ok ports) number (line ∷ lines) new h e =
-    IsPlan-plan_from (plan_step ports line) (number + 1) lines new (λ next is. IsPlan-with_line ports next (line_of line) (list_of_parts line (split_once 32 line)) (h ports refl) is) e
+    IsPlan-plan_from (plan_step ports line) (number + 1) lines new (λ next is. IsPlan-plan_step ports next line (h ports refl) is) e
 
-IsPlan-none : IsPlan []
+-- the plan without a port
+pub IsPlan-none : IsPlan []
 IsPlan-none = record { few = omega arith; rising = tt; lanes = tt; apart = tt }
 
 -- what lines read as is a plan
