@@ -1,9 +1,12 @@
 pub mod Batches
 pub mod Blanks
 pub mod Joins
+pub mod Kept
 pub mod LinesIn
 pub mod Numbered
 pub mod PlacedWrites
 pub mod PlainAccepted
 pub mod PlainReading
+pub mod SentOrder
+pub mod Staged
 pub mod Steps

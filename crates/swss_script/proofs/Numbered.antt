@@ -1,5 +1,5 @@
 -- producers by their numbers
-use Rattle.std.proofs.Common.{◌≡◌, ℕ, ◌+◌, ◌-◌, ◌<◌, ◌≤◌, ◌==◌, nat_lt, Bool, true, false, cond, not, ◌&&◌, List, [], ◌∷◌, ◌++◌, length, get_or, map, filter, Option, Some, None, option_and_then, Result, Ok, Err, refl, sym, ap, ap₂, ◌∙◌, subst, arith, ltb, length-append, bytes_eq, inl, inr}
+use Rattle.std.proofs.Common.{◌≡◌, ℕ, ◌+◌, ◌-◌, ◌<◌, ◌≤◌, ◌==◌, nat_lt, Bool, true, false, cond, ◌&&◌, List, [], ◌∷◌, ◌++◌, length, get_or, map, filter, Option, Some, None, Ok, Err, refl, sym, ap, ap₂, ◌∙◌, subst, arith, ltb, length-append, bytes_eq, inl, inr}
 use Rattle.std.proofs.Math.Seq.{get_or-append_seam}
 use Rattle.std.proofs.lemmas.Bool.{cases_lt, eq-eqb, eqb-true, ltb-false, ltb-true}
 use Rattle.std.proofs.lemmas.List.{get_or_append_left}
@@ -8,12 +8,9 @@ use Rattle.std.proofs.lemmas.Slice.Eq.{bytes_eq-Decides}
 use Rattle.std.specs.Bool.{one_answer}
 use Rattle.std.specs.List.{AllByRecursion, position, position_or_len}
 use Rattle.table_schema.specs.declared.write.Write.{Write}
-use Rattle.swss_script.specs.Batch.{batch_of}
-use Rattle.swss_script.specs.Built.{is_built}
-use Rattle.swss_script.specs.Line.{is_block, line_of}
-use Rattle.swss_script.specs.Lines.{block_of, is_end, is_too_long, line_text, lines_in, text_of}
-use Rattle.swss_script.specs.Script.{add, begun, ended_in, if_built, in_block, in_section, named, script_at, script_from, script_of, section_begun, settled, step, step_by, with_block, with_line, with_text}
+use Rattle.swss_script.specs.Script.{ended_in, in_section, named, script_at, script_of, section_begun, settled, with_line}
 use Rattle.swss_script.specs.Sections.{Placed, placed, acts_of, acts_writes, name_of, rounds_writes, sections_by, sections_from, sections_of, sections_writes, text_writes, writes_of}
+use Rattle.swss_script.specs.Stage.{AreNumbered, IsNumber}
 use Rattle.swss_script.specs.declared.draft.Draft.{Draft}
 use Rattle.swss_script.specs.declared.draft.Place.{Place}
 use Rattle.swss_script.specs.declared.draft.Place.TheVariants as place
@@ -23,20 +20,16 @@ use Rattle.swss_script.specs.declared.parts.Act.{Act}
 use Rattle.swss_script.specs.declared.parts.Act.TheVariants as act
 use Rattle.swss_script.specs.declared.parts.Round.{Round}
 use Rattle.swss_script.specs.declared.parts.Section.{Section}
-use Rattle.swss_script.specs.declared.refused.Why.{Why}
 use Rattle.swss_script.specs.declared.refused.Why.TheVariants as why
 use Rattle.swss_script.specs.declared.script.Script.{Script}
-use Rattle.swss_script.proofs.PlacedWrites.{IsStill, still-in_head, still-shown, accepted, same-script, steps-if, writes-by_lines}
+use Rattle.swss_script.proofs.Kept.{kept-script}
+use Rattle.swss_script.proofs.PlacedWrites.{IsStill, still-in_head, still-shown, writes-by_lines}
 use Rattle.swss_script.proofs.Steps.{AreKept, kept-in_head, kept-shown, same-ok, with_producer}
 
 -- ---- numbers and names
 
-AreDistinct : List (List ℕ) → Type 0
+pub AreDistinct : List (List ℕ) → Type 0
 AreDistinct names = (i j : ℕ) → i < length names → j < length names → get_or names i [] ≡ get_or names j [] → i ≡ j
-
--- a number that some name has
-abbrev IsNumber : ℕ → ℕ → Type 0
-IsNumber count number = (0 < number) × (number ≤ count)
 
 same_number : (names : List (List ℕ)) (q p : ℕ) → AreDistinct names → IsNumber (length names) q → IsNumber (length names) p → bytes_eq (name_of names q) (name_of names p) ≡ (q == p)
 unfolding AreDistinct
@@ -85,9 +78,6 @@ distinct-more names name distinct none i j i_in j_in same =
     ]
 
 -- ---- drafts whose sections are of named producers
-
-abbrev AreNumbered : ℕ → List Section → Type 0
-AreNumbered count sections = AllByRecursion (λ s. IsNumber count s.producer) sections
 
 abbrev PlaceIn : ℕ → Place → Type 0
 PlaceIn count place.Head = Unit {0}
@@ -180,43 +170,11 @@ numbered-line d e Settle is h = subst IsNumbered (same-ok _ _ is) (numbered-ende
 numbered-line d e (Shown what) is h = numbered-still d e (still-shown d.place d e what is) (kept-shown d.place d e what is) h
 numbered-line d e Other is h = cc
 
-numbered-built : (e : Draft) (built : Bool) (answer : Result Draft Why) → (answer ≡ Ok e → IsNumbered e) → if_built built answer ≡ Ok e → IsNumbered e
-numbered-built e true answer h is = h is
-numbered-built e false (Ok d) h is = cc
-numbered-built e false (Err reason) h is = cc
-
-numbered-add : (d e : Draft) (line : Line) → add d line ≡ Ok e → IsNumbered d → IsNumbered e
-numbered-add d e line is h = numbered-built e (is_built line) (with_line d line) (λ k. numbered-line d e line k h) is
-
-numbered-block : (e : Draft) (answer : Result Draft Why) → ((f : Draft) → answer ≡ Ok f → IsNumbered f) → in_block answer ≡ Ok e → IsNumbered e
-numbered-block e (Ok f) h is =
-    let n = h f refl in
-    subst IsNumbered (same-ok (record f { block = true }) e is) (record { names = n.names; place = n.place; sections = n.sections; rounds = n.rounds })
-numbered-block e (Err reason) h is = cc
-
-numbered-with : (d e : Draft) (line : Line) (rest : List (List ℕ)) (block : Bool) → cond block (with_block d rest) (add d line) ≡ Ok e → IsNumbered d → IsNumbered e
-numbered-with d e line rest true is h = numbered-block e (add d (Batch (option_and_then batch_of (block_of rest)))) (λ f k. numbered-add d f (Batch (option_and_then batch_of (block_of rest))) k h) is
-numbered-with d e line rest false is h = numbered-add d e line is h
-
-numbered-text : (d e : Draft) (text : Option (List ℕ)) (rest : List (List ℕ)) → with_text d text rest ≡ Ok e → IsNumbered d → IsNumbered e
-numbered-text d e None rest is h = cc
-numbered-text d e (Some text) rest is h = numbered-with d e (line_of text) rest (is_block (line_of text)) is h
-
-numbered-inside : (d e : Draft) (bytes : List ℕ) (rest : List (List ℕ)) (block : Bool) → cond block (Ok (record d { block = not (is_end bytes) })) (with_text d (text_of bytes) rest) ≡ Ok e → IsNumbered d → IsNumbered e
-numbered-inside d e bytes rest true is h = subst IsNumbered (same-ok (record d { block = not (is_end bytes) }) e is) (record { names = h.names; place = h.place; sections = h.sections; rounds = h.rounds })
-numbered-inside d e bytes rest false is h = numbered-text d e (text_of bytes) rest is h
-
-numbered-step : (d e : Draft) (number : ℕ) (line : List ℕ) (rest : List (List ℕ)) → step d number line rest ≡ Ok e → IsNumbered d → IsNumbered e
-numbered-step d e number line rest is h =
-    let text = steps-if (nat_lt 1000000 number) _ (step_by d (line_text line) rest) e is in
-    let inside = steps-if (is_too_long (line_text line)) _ _ e text in
-    numbered-inside d e (line_text line) rest d.block inside h
-
 -- ---- scripts
 
-record IsNumberedScript (script : Script) : Type 0 where
-  names : AreDistinct script.producers
-  rounds : AllByRecursion (λ r. AreNumbered (length script.producers) r.sections) script.rounds
+pub record IsNumberedScript (script : Script) : Type 0 where
+  pub names : AreDistinct script.producers
+  pub rounds : AllByRecursion (λ r. AreNumbered (length script.producers) r.sections) script.rounds
 
 numbered-close : (p : Place) (d : Draft) → d.place ≡ p → IsNumbered d → IsNumberedScript (ended_in p d).script
 numbered-close p d is h =
@@ -228,22 +186,14 @@ numbered-at place.Settled d is h = numbered-close d.place d refl h
 numbered-at place.Head d is h = numbered-close place.Settled (settled d) refl (numbered-ended d.place place.Settled d refl h tt)
 numbered-at (place.Section producer) d is h = numbered-close place.Settled (settled d) refl (numbered-ended d.place place.Settled d refl h tt)
 
-numbered-by : (d : Draft) (number : ℕ) (line : List ℕ) (rest : List (List ℕ)) (script : Script) (answer : Result Draft Why) → step d number line rest ≡ answer → IsNumbered d
-    → ((e : Draft) → IsNumbered e → script_from (Ok e) number rest ≡ Ok script → IsNumberedScript script)
-    → script_from answer number rest ≡ Ok script → IsNumberedScript script
-numbered-by d number line rest script (Err reason) is h more k = cc
-numbered-by d number line rest script (Ok e) is h more k = more e (numbered-step d e number line rest is h) k
-
-numbered-from : (d : Draft) (number : ℕ) (lines : List (List ℕ)) (script : Script) → IsNumbered d → script_from (Ok d) number lines ≡ Ok script → IsNumberedScript script
-numbered-from d number [] script h k = subst IsNumberedScript (same-script _ _ (script_from (Ok d) number []) refl k) (numbered-at d.place d refl h)
-numbered-from d number (line ∷ lines) script h k = numbered-by d (number + 1) line lines script (step d (number + 1) line lines) refl h (λ e n j. numbered-from e (number + 1) lines script n j) k
-
 none-distinct : AreDistinct []
 unfolding AreDistinct
 none-distinct i j i_in j_in same = absurd (omega (arith, i_in))
 
-numbered-script : (bytes : List ℕ) (script : Script) → script_of bytes ≡ Ok script → IsNumberedScript script
-numbered-script bytes script h = numbered-from begun 0 (lines_in bytes) script (record { names = none-distinct; place = tt; sections = tt; rounds = tt }) (accepted (nat_lt 67108864 (length bytes)) _ _ script h)
+-- the producers of an accepted script have names of their own, and its sections are of these producers
+pub numbered-script : (bytes : List ℕ) (script : Script) → script_of bytes ≡ Ok script → IsNumberedScript script
+numbered-script bytes script h =
+    kept-script IsNumbered (λ d e line built is n. numbered-line d e line is n) (λ d block n. record { names = n.names; place = n.place; sections = n.sections; rounds = n.rounds }) IsNumberedScript (λ d n. numbered-at d.place d refl n) bytes script (record { names = none-distinct; place = tt; sections = tt; rounds = tt }) h
 
 -- ---- the writes of a producer in a round
 

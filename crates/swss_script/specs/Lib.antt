@@ -11,4 +11,6 @@ pub mod PlainPlaces
 pub mod PlainScript
 pub mod Script
 pub mod Sections
+pub mod Sent
+pub mod Stage
 pub mod Words

@@ -1,7 +1,11 @@
 // What an accepted script is by its lines.
-ghost use Rattle.std.specs.Prelude.{◌≡◌, ◌<◌, ◌≤◌, ℕ, List, Ok, length};
+ghost use Rattle.std.specs.Prelude.{◌≡◌, ◌<◌, ◌≤◌, ℕ, List, Ok, length, true};
+ghost use Rattle.std.specs.List.{list_all};
 ghost use Rattle.swss_script.specs.Script.{script_of};
-ghost use Rattle.swss_script.specs.Sections.{name_of, script_writes, sections_of, text_writes, writes_of};
+ghost use Rattle.swss_script.specs.Sections.{name_of, script_writes, sections_by, sections_of, text_writes, writes_of};
+ghost use Rattle.swss_script.specs.Sent.{has_section, sent_by, sent_in_round, sent_of};
+ghost use Rattle.swss_script.specs.Stage.{IsOfStage};
+ghost use Rattle.swss_script.specs.declared.parts.Round.{Round};
 ghost use Rattle.swss_script.specs.declared.script.Script.{Script};
 
 /// A script that is accepted has the writes of its lines, each in its round and by its producer, in order, and no others. So
@@ -9,4 +13,17 @@ ghost use Rattle.swss_script.specs.declared.script.Script.{Script};
 pub fn script_has_the_writes_of_its_lines()
     ensures all { (bytes : List ℕ) (script : Script) → script_of bytes ≡ Ok script → script_writes script ≡ text_writes bytes }
     ensures each { (bytes : List ℕ) (script : Script) (round producer : ℕ) → script_of bytes ≡ Ok script → 0 < producer → producer ≤ length script.producers → sections_of script round producer ≡ writes_of round (name_of script.producers producer) (text_writes bytes) }
+{}
+
+/// A script that is accepted has the forms of this stage alone: the chip's own capacities, no failing call, no image and no
+/// restart, and only keys and shows that the service has. Each of its sections is of one of its producers, at most 4, and it
+/// has at least one round.
+pub fn script_is_of_this_stage()
+    ensures { (bytes : List ℕ) (script : Script) → script_of bytes ≡ Ok script → IsOfStage script }
+{}
+
+/// In a round each producer sends the writes of its sections in order, numbered from 0, and who sends has a section in it.
+pub fn each_producer_sends_in_order()
+    ensures order { (round : Round) (producer : ℕ) → sent_of producer (sent_in_round round) ≡ sent_by producer 0 (sections_by producer round.sections) }
+    ensures senders { (round : Round) → list_all (λ s. has_section round.sections s.from) (sent_in_round round) ≡ true }
 {}
