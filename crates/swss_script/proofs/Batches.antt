@@ -29,10 +29,6 @@ batch-none text h = by (is_utf8 text) refl
 batch-read : (text : List ℕ) (json : Data) → IsUtf8 text → read text ≡ Some json → batch_of text ≡ in_data json
 batch-read text json utf8 h = ap (λ b. cond b (option_and_then in_data (read text)) None) (is_utf8-from_IsUtf8 text utf8) ∙ ap (option_and_then in_data) h
 
--- no list
-pub batch-no_list : (text : List ℕ) (json : Data) → IsUtf8 text → read text ≡ Some json → None ≡ as_array json → None ≡ batch_of text
-batch-no_list text json utf8 h none = ap (option_and_then writes_in) none ∙ sym (batch-read text json utf8 h)
-
 -- a list
 pub batch-list : (text : List ℕ) (json : Data) (items : Items) → IsUtf8 text → read text ≡ Some json → Some items ≡ as_array json → writes_in items ≡ batch_of text
 batch-list text json items utf8 h some = ap (option_and_then writes_in) some ∙ sym (batch-read text json utf8 h)

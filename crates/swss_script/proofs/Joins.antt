@@ -1,11 +1,6 @@
 -- what was read so far, in front of what is left
 use Rattle.std.proofs.Common.{◌≡◌, Bool, true, false, List, [], ◌∷◌, ◌++◌, Option, Some, None, option_map, refl, ap, append_assoc}
 
--- nothing was read so far
-pub option_map_nil : {X : Type 0} (rest : Option (List X)) → option_map (λ more. [] ++ more) rest ≡ rest
-option_map_nil None = refl
-option_map_nil (Some more) = refl
-
 -- one more was read
 pub option_map_push : {X : Type 0} (xs : List X) (x : X) (rest : Option (List X)) → option_map (λ more. (xs ++ x ∷ []) ++ more) rest ≡ option_map (λ more. xs ++ more) (option_map (λ more. x ∷ more) rest)
 option_map_push xs x None = refl

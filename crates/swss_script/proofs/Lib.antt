@@ -5,8 +5,6 @@ pub mod Kept
 pub mod LinesIn
 pub mod Numbered
 pub mod PlacedWrites
-pub mod PlainAccepted
-pub mod PlainReading
 pub mod SentOrder
 pub mod Staged
 pub mod Steps

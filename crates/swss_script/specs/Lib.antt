@@ -4,11 +4,6 @@ pub mod Fails
 pub mod Fields
 pub mod Line
 pub mod Lines
-pub mod PlainLaws
-pub mod PlainLimits
-pub mod PlainLine
-pub mod PlainPlaces
-pub mod PlainScript
 pub mod Script
 pub mod Sections
 pub mod Sent

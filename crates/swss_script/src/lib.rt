@@ -13,7 +13,6 @@ mod line;
 mod lines;
 mod lists;
 mod parts;
-mod plain;
 mod refused;
 mod script;
 #[cfg(test)]
@@ -27,6 +26,5 @@ pub use laws::{
 };
 pub use lists::{Acts, Producers, RoundList, Sections, Shows, Writes};
 pub use parts::{Act, Fail2, Round, Section, Show};
-pub use plain::{PlainScript, read_script, script_is_its_lines};
 pub use refused::{ImageFault, Refused, Why};
 pub use script::Script;
