@@ -1,2 +1,11 @@
+pub mod Calls
+pub mod Chip
 pub mod ChipLine
+pub mod Counted
+pub mod Escaped
+pub mod Ignored
+pub mod Marks
 pub mod Round
+pub mod Shows
+pub mod Tables
+pub mod Ways

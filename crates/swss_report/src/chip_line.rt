@@ -18,7 +18,11 @@ pub fn write_chip_line(out: &mut Vec<u8>, plan: &PortPlan, thing: &Thing) -> Res
 }
 
 /// Appends the words of a thing.
-fn write_thing(out: &mut Vec<u8>, plan: &PortPlan, thing: &Thing) -> Result<(), OutOfMemory>
+pub(crate) fn write_thing(
+    out: &mut Vec<u8>,
+    plan: &PortPlan,
+    thing: &Thing,
+) -> Result<(), OutOfMemory>
     ensures { OnOk result (out.new.items ≡ out.old.items ++ thing_text plan.now thing.now) }
 {
     match thing {
@@ -176,7 +180,7 @@ fn write_goal(out: &mut Vec<u8>, plan: &PortPlan, goal: &Goal) -> Result<(), Out
 }
 
 /// The name of what an interface stands on: the port's in the plan, or the VLAN's.
-fn write_base(out: &mut Vec<u8>, plan: &PortPlan, base: &Base) -> Result<(), OutOfMemory>
+pub(crate) fn write_base(out: &mut Vec<u8>, plan: &PortPlan, base: &Base) -> Result<(), OutOfMemory>
     ensures { OnOk result (out.new.items ≡ out.old.items ++ base_text plan.now base.now) }
 {
     match base {
@@ -196,7 +200,7 @@ fn write_port_name(out: &mut Vec<u8>, plan: &PortPlan, lane: u16) -> Result<(), 
 }
 
 /// A hop: its address, `@` and its interface.
-fn write_hop(out: &mut Vec<u8>, plan: &PortPlan, hop: &Hop) -> Result<(), OutOfMemory>
+pub(crate) fn write_hop(out: &mut Vec<u8>, plan: &PortPlan, hop: &Hop) -> Result<(), OutOfMemory>
     ensures { OnOk result (out.new.items ≡ out.old.items ++ hop_text plan.now hop.now) }
 {
     hop.ip.write(out)?;

@@ -1,10 +1,19 @@
 //! The report: what a run prints of its rounds.
 #![tactic(auto)]
 
+mod calls;
+mod chip;
 mod chip_line;
+mod counted;
+mod escaped;
+mod ignored;
+mod marks;
 mod round;
+mod shows;
+mod tables;
 #[cfg(test)]
 mod tests;
+mod ways;
 
 pub use chip_line::write_chip_line;
 pub use round::round_lines;

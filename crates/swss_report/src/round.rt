@@ -1,119 +1,72 @@
-// The lines of a round.
-ghost use Rattle.std.specs.Prelude.{◌≡◌, [], ◌∷◌, ◌++◌, flat_map, IfOk, OnOk};
-ghost use Rattle.std.specs.Fmt.{decimal};
-ghost use Rattle.swss_report.specs.ChipLine.{chip_line};
-ghost use Rattle.swss_report.specs.Round.{IsReport, Stand, chip_text, event_line, marks_text, settled_line, shows_text};
+// The lines of a round that has ended.
+ghost use Rattle.std.specs.Prelude.{◌≡◌, true, length, IfOk};
+ghost use Rattle.std.specs.List.{list_any};
+ghost use Rattle.sai_chip.specs.Replay.{IsReplayOf};
+ghost use Rattle.swss_report.specs.Calls.{calls_text};
+ghost use Rattle.swss_report.specs.Round.{IsRoundText};
+ghost use Rattle.swss_report.specs.Shows.{is_calls};
 
-use crate::chip_line::write_chip_line;
-use sai_chip::{SimChip, named};
-use sai_types::Thing;
+use crate::calls::{follow, follow_with_lines};
+use crate::marks::write_marks;
+use crate::shows::write_shows;
+use row_store::Rows;
+use sai_chip::{Replay, SimChip};
 use std::alloc::Global;
-use switch_model::{Log, Mark, MarkEvent};
-use swss_types::{OutOfMemory, write_number};
+use switch_model::Mark;
+use swss_script::Show;
+use swss_types::OutOfMemory;
 use table_schema::PortPlan;
 
-/// The lines of the one round of this stage, which has ended: how it was settled, and then so many shows of the chip.
+/// The lines of a round that has ended, with this number: those of its marks, and then of its shows. `rows` are those of
+/// the writes taken so far, and `replay` stands where the round before ended: it follows the chip to its last effect.
 pub fn round_lines(
     alloc: Global,
     plan: &PortPlan,
-    shows: u64,
-    log: &Log,
+    number: u64,
+    marks: &[Mark],
+    shows: &[Show],
+    rows: &Rows,
     chip: &SimChip,
+    replay: &mut Replay,
 ) -> Result<Vec<u8>, OutOfMemory>
-    ensures { IfOk result (λ lines. IsReport plan.now shows log.now.marks chip.now.chip.objects lines.items) }
+    ensures text { IfOk result (λ lines. IsReplayOf replay.old chip.now.chip.effects → IsRoundText (record { plan = plan.now; number = number; marks = marks.now; rows = rows.now; objects = chip.now.chip.objects; effects = chip.now.chip.effects; before = replay.old.at }) shows.now lines.items) }
+    ensures replay { IfOk result (λ lines. IsReplayOf replay.old chip.now.chip.effects → IsReplayOf replay.new chip.now.chip.effects × (replay.new.at ≡ length chip.now.chip.effects)) }
 {
+    let calls = lines_of_calls(alloc, plan, shows, chip, replay)?;
     let mut lines = Vec::new(alloc);
-    write_marks(&mut lines, log.marks())?;
-    if shows == 0 {
-        return Ok(lines);
-    }
-    let things = standing(alloc, chip)?;
-    write_shows(&mut lines, plan, shows, things.as_slice())?;
+    write_marks(&mut lines, number, marks)?;
+    write_shows(alloc, &mut lines, plan, rows, chip, calls.as_slice(), shows)?;
     Ok(lines)
 }
 
-/// What stands on the chip, in the order of the report.
-fn standing(alloc: Global, chip: &SimChip) -> Result<Vec<Thing>, OutOfMemory>
-    ensures { IfOk result (λ things. Stand chip.now.chip.objects things.items) }
-{
-    let objects = chip.objects(alloc)?;
-    let things = named(alloc, objects.as_slice())?;
-    Ok(things)
-}
-
-/// The lines of the marks.
-fn write_marks(out: &mut Vec<u8>, marks: &[Mark]) -> Result<(), OutOfMemory>
-    ensures { OnOk result (out.new.items ≡ out.old.items ++ marks_text marks.now) }
-{
-    for mark in marks {
-        write_event(out, &mark.event)?;
-    }
-    Ok(())
-}
-
-/// The line of a mark.
-fn write_event(out: &mut Vec<u8>, event: &MarkEvent) -> Result<(), OutOfMemory>
-    ensures { OnOk result (out.new.items ≡ out.old.items ++ event_line event.now) }
-{
-    match event {
-        MarkEvent::Settled { waits, .. } => write_settled(out, waits.items().len() as u64)?,
-        MarkEvent::Faulted { after, .. } => {
-            out.extend_from_slice(b"warm unknown faults ")?;
-            write_line_end(out, *after)?;
-        }
-        _ => {}
-    }
-    Ok(())
-}
-
-/// The line of a settling at which so many keys wait.
-fn write_settled(out: &mut Vec<u8>, waiting: u64) -> Result<(), OutOfMemory>
-    ensures { OnOk result (out.new.items ≡ out.old.items ++ settled_line waiting) }
-{
-    out.extend_from_slice(b"settled 1 waiting ")?;
-    write_line_end(out, waiting)?;
-    Ok(())
-}
-
-/// A number and the end of its line.
-fn write_line_end(out: &mut Vec<u8>, number: u64) -> Result<(), OutOfMemory>
-    ensures { OnOk result (out.new.items ≡ out.old.items ++ (decimal number ++ 10 ∷ [])) }
-{
-    write_number(out, number)?;
-    out.push(b'\n')?;
-    Ok(())
-}
-
-/// The things on the chip, so many times.
-fn write_shows(
-    out: &mut Vec<u8>,
+/// Follows the chip to its last effect, and gives the lines of the effects on the way where a show prints them.
+fn lines_of_calls(
+    alloc: Global,
     plan: &PortPlan,
-    shows: u64,
-    things: &[Thing],
-) -> Result<(), OutOfMemory>
-    ensures { OnOk result (out.new.items ≡ out.old.items ++ shows_text shows (chip_text plan.now things.now)) }
+    shows: &[Show],
+    chip: &SimChip,
+    replay: &mut Replay,
+) -> Result<Vec<u8>, OutOfMemory>
+    ensures lines { IfOk result (λ lines. IsReplayOf replay.old chip.now.chip.effects → list_any is_calls shows.now ≡ true → lines.items ≡ calls_text plan.now replay.old.at chip.now.chip.effects) }
+    ensures followed { IfOk result (λ lines. IsReplayOf replay.old chip.now.chip.effects → IsReplayOf replay.new chip.now.chip.effects × (replay.new.at ≡ length chip.now.chip.effects)) }
 {
-    for _shown in 0..shows {
-        write_chip(out, plan, things)?;
+    if show_calls(shows) {
+        return follow_with_lines(alloc, plan, chip, replay);
     }
-    Ok(())
+    follow(chip, replay)?;
+    Ok(Vec::new(alloc))
 }
 
-/// The things on the chip: how many, and their lines.
-fn write_chip(out: &mut Vec<u8>, plan: &PortPlan, things: &[Thing]) -> Result<(), OutOfMemory>
-    ensures { OnOk result (out.new.items ≡ out.old.items ++ chip_text plan.now things.now) }
+/// Whether one of the shows prints the calls of the round.
+fn show_calls(shows: &[Show]) -> bool
+    ensures { result ≡ list_any is_calls shows.now }
 {
-    out.extend_from_slice(b"chip ")?;
-    write_line_end(out, things.len() as u64)?;
-    write_things(out, plan, things)
+    shows.iter().any(|show| is_calls(*show))
 }
 
-/// The lines of the things.
-fn write_things(out: &mut Vec<u8>, plan: &PortPlan, things: &[Thing]) -> Result<(), OutOfMemory>
-    ensures { OnOk result (out.new.items ≡ out.old.items ++ flat_map (λ t. chip_line plan.now t) things.now) }
+/// Whether a show prints the calls of the round.
+fn is_calls(show: Show) -> bool
+    ensures { result ≡ is_calls show }
 {
-    for thing in things {
-        write_chip_line(out, plan, thing)?;
-    }
-    Ok(())
+    matches!(show, Show::Calls)
 }
