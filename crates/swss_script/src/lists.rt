@@ -89,6 +89,13 @@ impl RoundList {
     {
         self.rounds.as_slice()
     }
+
+    /// Hands the list over.
+    pub fn into_vec(self) -> Vec<Round>
+        ensures { result.items ≡ self }
+    {
+        self.rounds
+    }
 }
 
 /// The sections of a round, in order.
@@ -130,6 +137,13 @@ impl Sections {
         ensures { result.now ≡ self.now }
     {
         self.sections.as_slice()
+    }
+
+    /// Hands the list over.
+    pub fn into_vec(self) -> Vec<Section>
+        ensures { result.items ≡ self }
+    {
+        self.sections
     }
 }
 
@@ -224,6 +238,13 @@ impl Acts {
         ensures { result.now ≡ self.now }
     {
         self.acts.as_slice()
+    }
+
+    /// Hands the list over.
+    pub fn into_vec(self) -> Vec<Act>
+        ensures { result.items ≡ self }
+    {
+        self.acts
     }
 }
 
