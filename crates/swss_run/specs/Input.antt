@@ -1,5 +1,5 @@
 -- What reading a source to its end comes to. Own.
-use Rattle.std.specs.Prelude.{◌≡◌, ℕ, ◌<◌, ◌≤◌, List, [], length, Option, Some, None, IfSome}
+use Rattle.std.specs.Prelude.{◌≡◌, ℕ, ◌<◌, ◌≤◌, List, [], length, Option, IfSome}
 use Rattle.swss_types.specs.Outside.{Gives, HasRisen}
 use Rattle.swss_run.specs.declared.input.Input.{Input}
 use Rattle.swss_run.specs.declared.input.Input.TheVariants as input

@@ -1,7 +1,11 @@
+pub mod Full
 pub mod Input
 pub mod Output
 pub mod Read
+pub mod Rounds
 pub mod Run
+pub mod Running
 pub mod Session
 pub mod Status
+pub mod Taking
 pub mod Words

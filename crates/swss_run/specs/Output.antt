@@ -1,5 +1,5 @@
 -- What writing a text to a sink comes to. Own.
-use Rattle.std.specs.Prelude.{◌≡◌, ℕ, ◌≤◌, List, length, take, Option}
+use Rattle.std.specs.Prelude.{ℕ, ◌≤◌, List, length, take, Option}
 use Rattle.swss_types.specs.Outside.{Takes, HasRisen}
 use Rattle.swss_run.specs.declared.output.Output.{Output}
 use Rattle.swss_run.specs.declared.output.Output.TheVariants as output

@@ -1,15 +1,15 @@
 -- What reading the script comes to. Own.
 use Rattle.std.specs.Prelude.{◌≡◌, ℕ, ◌⊎◌, ◌<◌, List, [], length, Option, IfSome, Result, Ok, Err}
 use Rattle.swss_types.specs.Outside.{Gives, HasRisen}
-use Rattle.swss_script.specs.PlainScript.{Said, script_of, said}
+use Rattle.swss_script.specs.Script.{script_of}
 use Rattle.swss_script.specs.declared.refused.Refused.{Refused}
-use Rattle.swss_script.specs.declared.plain.script.PlainScript.{PlainScript}
+use Rattle.swss_script.specs.declared.script.Script.{Script}
 use Rattle.swss_run.specs.Input.{GaveAll}
 use Rattle.swss_run.specs.declared.status.Status.{Status}
 use Rattle.swss_run.specs.declared.status.Status.TheVariants as status
 
 -- the source gave the bytes of this script before it answered that nothing is left
-pub record WasRead (old : Option (List ℕ)) (script : Said) (new : Option (List ℕ)) : Type 0 where
+pub record WasRead (old : Option (List ℕ)) (script : Script) (new : Option (List ℕ)) : Type 0 where
   pub bytes : List ℕ
   pub gave : GaveAll old bytes new
   pub says : script_of bytes ≡ Ok script
@@ -28,6 +28,6 @@ EndsReading old faults status.ReadFault new faults' = HasRisen faults faults'
 EndsReading old faults status.OutOfMemory new faults' = Unit {0}
 EndsReading old faults _ new faults' = ⊥
 
-abbrev pub IsScriptRead : Option (List ℕ) → ℕ → Result PlainScript Status → Option (List ℕ) → ℕ → Type 0
-IsScriptRead old faults (Ok script) new faults' = WasRead old (said script) new
+abbrev pub IsScriptRead : Option (List ℕ) → ℕ → Result Script Status → Option (List ℕ) → ℕ → Type 0
+IsScriptRead old faults (Ok script) new faults' = WasRead old script new
 IsScriptRead old faults (Err ended) new faults' = EndsReading old faults ended new faults'

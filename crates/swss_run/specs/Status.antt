@@ -1,5 +1,5 @@
 -- The exit status of the program and its line. Own.
-use Rattle.std.specs.Prelude.{ℕ, List, [], ◌∷◌, ◌++◌, codes}
+use Rattle.std.specs.Prelude.{ℕ, List, [], ◌++◌, codes}
 use Rattle.std.specs.Fmt.{decimal}
 use Rattle.swss_script.specs.declared.refused.Refused.{Refused}
 use Rattle.swss_script.specs.declared.refused.Why.{Why}

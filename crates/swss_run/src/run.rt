@@ -1,31 +1,25 @@
 // The top call.
-ghost use Rattle.std.specs.Prelude.{◌≡◌, ◌↔◌, true, false, None, map};
+ghost use Rattle.std.specs.Prelude.{◌≡◌, ◌↔◌, false, None, map, IfOk};
 ghost use Rattle.std.specs.String.{string_bytes};
 ghost use Rattle.swss_types.specs.Outside.{HasRisen};
 ghost use Rattle.switch_model.specs.History.{no_history};
+ghost use Rattle.swss_script.specs.Stage.{IsOfStage};
 ghost use Rattle.swss_run.specs.Read.{IsScriptRead};
-ghost use Rattle.swss_script.specs.PlainScript.{said};
-ghost use Rattle.swss_run.specs.Run.{HasNoSession, SaysOfScript, ends_early};
-ghost use Rattle.swss_run.specs.Session.{IsRun, IsTakable, TellsOfSession};
+ghost use Rattle.swss_run.specs.Run.{SaysOfSource, chip_fail, ends_early};
+ghost use Rattle.swss_run.specs.Session.{IsRun, TellsOfSession};
 ghost use Rattle.swss_run.specs.Words.{is_command};
 
 use crate::input::{Input, read_all};
-use crate::session::run_round;
+use crate::session::run_rounds;
 use crate::words::is_run;
 use crate::{Outcome, Refused, Status, Why};
 use orch_core::{Core, Log};
-use sai_chip::SimChip;
-use sai_types::Caps;
+use sai_chip::{Fail, SimChip};
 use std::alloc::Global;
 use std::sync::Wait;
 use std::thread::Threads;
-use swss_script::{PlainScript, read_script};
+use swss_script::{Fails, Script};
 use swss_types::{Gate, OutOfMemory, Sink, Source};
-
-/// How many objects of each kind the chip has room for, in the order of the kinds.
-pub const CAPACITIES: Caps = Caps([
-    256, 4094, 256, 16384, 1024, 2048, 16384, 16384, 512, 16384, 65536,
-]);
 
 /// How many places the log has.
 pub const LOG_LIMIT: u64 = 4_194_304;
@@ -43,18 +37,17 @@ pub fn swss_main<R: Threads + Wait + Sync, S: Source, K: Sink, G: Gate + Sync>(
     // The words are refused exactly where they are no command.
     ensures usage { (result.status ≡ Status.Usage) ↔ (is_command (map (λ w. string_bytes w) words.now) ≡ false) }
 
-    // A script is refused only for what the bytes say that the source gave, and runs only where they say it.
-    ensures script { SaysOfScript result.status (S.left source.old) (S.left source.new) }
+    // On wrong words nothing is read; a script is refused only for what the bytes are that the source gave.
+    ensures refusal { SaysOfSource result.status (S.left source.old) (S.left source.new) }
 
     // A fault of reading or of writing comes only where the source's or the sink's count of faults rose in this call.
     ensures read_fault { result.status ≡ Status.ReadFault → HasRisen (S.faults source.old) (S.faults source.new) }
     ensures write_fault { result.status ≡ Status.WriteFault → HasRisen (K.faults sink.old) (K.faults sink.new) }
 
-    // On wrong words, a refused script and a fault of reading no session begins and nothing is written.
-    ensures early { ends_early result.status ≡ true → HasNoSession result (K.holds sink.old) (K.holds sink.new) }
-
-    // Of a session every chip call was legal, every mark is true, the writes taken are the script's in order, each once,
-    // and the sink took the whole report, or the front of it that the status allows. The log is never full.
+    // On wrong words, a refused script and a fault of reading no session begins and nothing is written. Else the session is
+    // that of the script that the source gave: every chip call was legal, every mark is true, the writes taken are the
+    // script's, round by round, in order and each once, the ends of the rounds rise, the log is full exactly where an event
+    // needs more places than are left, and the sink took the report as the status says.
     ensures session { TellsOfSession result.status result (S.left source.old) (S.left source.new) (K.holds sink.old) (K.holds sink.new) }
 {
     run(alloc, words, source, sink)
@@ -63,10 +56,9 @@ pub fn swss_main<R: Threads + Wait + Sync, S: Source, K: Sink, G: Gate + Sync>(
 /// The same, which waits for nobody.
 fn run<S: Source, K: Sink>(alloc: Global, words: &[String], source: &mut S, sink: &mut K) -> Outcome
     ensures usage { (result.status ≡ Status.Usage) ↔ (is_command (map (λ w. string_bytes w) words.now) ≡ false) }
-    ensures script { SaysOfScript result.status (S.left source.old) (S.left source.new) }
+    ensures refusal { SaysOfSource result.status (S.left source.old) (S.left source.new) }
     ensures read_fault { result.status ≡ Status.ReadFault → HasRisen (S.faults source.old) (S.faults source.new) }
     ensures write_fault { result.status ≡ Status.WriteFault → HasRisen (K.faults sink.old) (K.faults sink.new) }
-    ensures early { ends_early result.status ≡ true → HasNoSession result (K.holds sink.old) (K.holds sink.new) }
     ensures session { TellsOfSession result.status result (S.left source.old) (S.left source.new) (K.holds sink.old) (K.holds sink.new) }
 {
     if !is_run(words) {
@@ -90,11 +82,11 @@ fn at_once(alloc: Global, status: Status) -> Outcome
 }
 
 /// The script that the source gives, or the status that ends the run.
-fn read_input<S: Source>(alloc: Global, source: &mut S) -> Result<PlainScript, Status>
+fn read_input<S: Source>(alloc: Global, source: &mut S) -> Result<Script, Status>
     ensures { IsScriptRead (S.left source.old) (S.faults source.old) result (S.left source.new) (S.faults source.new) }
 {
     match read_all(alloc, source) {
-        Ok(Input::Whole(bytes)) => match read_script(alloc, &bytes) {
+        Ok(Input::Whole(bytes)) => match Script::read(alloc, &bytes) {
             Ok(Ok(script)) => Ok(script),
             Ok(Err(refused)) => Err(Status::ScriptRefused(refused)),
             Err(OutOfMemory) => Err(Status::OutOfMemory),
@@ -109,27 +101,46 @@ fn read_input<S: Source>(alloc: Global, source: &mut S) -> Result<PlainScript, S
 }
 
 /// Runs a script on a new chip, and writes its report.
-fn run_script<K: Sink>(alloc: Global, script: PlainScript, sink: &mut K) -> Outcome
-    requires takable { IsTakable (said script) }
+fn run_script<K: Sink>(alloc: Global, script: Script, sink: &mut K) -> Outcome
+    requires stage { IsOfStage script }
     ensures ran { ends_early result.status ≡ false }
     ensures write_fault { result.status ≡ Status.WriteFault → HasRisen (K.faults sink.old) (K.faults sink.new) }
-    ensures session { IsRun (said script) result (K.holds sink.old) (K.holds sink.new) }
+    ensures session { IsRun script result (K.holds sink.old) (K.holds sink.new) }
 {
-    let PlainScript {
+    let Script {
         plan,
-        writes,
-        shows,
+        caps,
+        fails,
+        rounds,
+        ..
     } = script;
     // A plan has at most 256 ports, so the chip has room for all of them.
     let _ports = plan.len();
-    let Ok(mut core) = Core::new(alloc, plan, CAPACITIES, LOG_LIMIT) else {
+    let (Ok(mut core), Ok(fails)) = (
+        Core::new(alloc, plan, caps, LOG_LIMIT),
+        chip_fails(alloc, &fails),
+    ) else {
         return at_once(alloc, Status::OutOfMemory);
     };
-    let mut chip = SimChip::new(alloc, CAPACITIES, Vec::new(alloc));
-    let status = run_round(alloc, &mut core, &mut chip, writes, shows, sink);
+    let mut chip = SimChip::new(alloc, caps, fails);
+    let status = run_rounds(alloc, &mut core, &mut chip, rounds, sink);
     Outcome {
         status,
         log: core.into_log(),
         chip: Some(chip),
     }
+}
+
+/// The calls at which a script's chip fails.
+fn chip_fails(alloc: Global, fails: &Fails) -> Result<Vec<Fail>, OutOfMemory>
+    ensures { IfOk result (λ chip_fails. chip_fails.items ≡ map chip_fail fails.now) }
+{
+    let mut chip_fails = Vec::new(alloc);
+    for fail in fails.items() {
+        chip_fails.push(Fail {
+            at: fail.at,
+            after: fail.after,
+        })?;
+    }
+    Ok(chip_fails)
 }

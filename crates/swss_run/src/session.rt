@@ -1,94 +1,135 @@
-// A session: the writes of a script are taken, the round is settled, and its lines are written.
-ghost use Rattle.std.specs.Prelude.{◌≡◌, false};
+// A session: each round of a script is taken and settled, and its lines are written.
+ghost use Rattle.std.specs.Prelude.{◌≡◌, ◌<◌, ◌≤◌, true, false, [], ◌∷◌, drop, length};
 ghost use Rattle.swss_types.specs.Outside.{HasRisen};
 ghost use Rattle.sai_types.specs.ChipState.{new_chip};
 ghost use Rattle.orch_core.specs.Keeps.{IsKept};
 ghost use Rattle.orch_core.specs.State.{new_state};
 ghost use Rattle.swss_run.specs.Run.{ends_early};
-ghost use Rattle.swss_run.specs.Session.{IsSession, IsTakable, IsTook, IsWritten, capacities};
-ghost use Rattle.swss_script.specs.PlainScript.{said_with};
+ghost use Rattle.std.specs.List.{list_all};
+ghost use Rattle.sai_chip.specs.Replay.{IsReplayOf};
+ghost use Rattle.swss_script.specs.Stage.{is_built_round};
+ghost use Rattle.swss_run.specs.Running.{IsReady, IsRoundRun, IsWritten, round_ended};
+ghost use Rattle.swss_run.specs.Session.{IsSession};
 
 use crate::Status;
 use crate::output::{Output, write_all};
+use crate::taking::{Taken, take_round};
 use orch_core::{Core, Settled};
-use sai_chip::SimChip;
+use sai_chip::{Replay, SimChip};
+use sai_types::Chip;
 use std::alloc::Global;
 use swss_report::round_lines;
+use swss_script::{Round, RoundList, Show};
 use swss_types::{OutOfMemory, Sink};
-use table_schema::{Sent, Write};
 
-/// How taking the writes of a round ended.
-#[derive(Clone, Copy, Debug, PartialEq, Eq)]
-pub(crate) enum Taken {
-    /// All were taken.
-    All,
-    /// The log was full.
-    LogFull,
-    /// Memory was refused.
-    NoMemory,
-}
-
-/// Runs the one round of a script on a new core and a new chip.
-pub(crate) fn run_round<K: Sink>(
+/// Runs rounds one after the other on a new core and a new chip, until all have ended or one can't go on.
+pub(crate) fn run_rounds<K: Sink>(
     alloc: Global,
     core: &mut Core,
     chip: &mut SimChip,
-    writes: Vec<Write>,
-    shows: u64,
+    rounds: RoundList,
     sink: &mut K,
 ) -> Status
-    requires new { core.old ≡ new_state core.old.plan capacities 4194304 }
-    requires chip { chip.old.chip ≡ new_chip capacities }
-    requires kept { IsKept core.old (new_chip capacities) }
-    requires takable { IsTakable (said_with core.old.plan writes.items shows) }
+    requires new { core.old ≡ new_state core.old.plan core.old.capacities 4194304 }
+    requires chip { chip.old.chip ≡ new_chip core.old.capacities }
+    requires kept { IsKept core.old chip.old.chip }
+    requires built { list_all is_built_round rounds ≡ true }
     ensures ran { ends_early result ≡ false }
     ensures write_fault { result ≡ Status.WriteFault → HasRisen (K.faults sink.old) (K.faults sink.new) }
-    ensures session { IsSession (said_with core.old.plan writes.items shows) result core.new.log chip.new (K.holds sink.old) (K.holds sink.new) }
+    ensures session { IsSession core.old.plan core.old.capacities rounds result core.new.log chip.new.chip (K.holds sink.old) (K.holds sink.new) }
 {
-    match take_all(core, writes) {
+    let mut replay = Replay::new(alloc);
+    let mut number = 0u64;
+    for round in rounds.into_vec() {
+        number += 1;
+        match run_round(alloc, core, chip, &mut replay, number, round, sink) {
+            Status::Done => {}
+            ended => return ended,
+        }
+    }
+    Status::Done
+}
+
+/// Runs a round: its writes are taken, they are settled, and its lines are written.
+fn run_round<K: Sink>(
+    alloc: Global,
+    core: &mut Core,
+    chip: &mut SimChip,
+    replay: &mut Replay,
+    number: u64,
+    round: Round,
+    sink: &mut K,
+) -> Status
+    requires ready { IsReady core.old chip.old replay.old }
+    requires counted { 0 < number }
+    requires built { is_built_round round ≡ true }
+    ensures counts { K.faults sink.old ≤ K.faults sink.new }
+    ensures run { IsRoundRun number round core.old chip.old (K.holds sink.old) (K.faults sink.old) result core.new chip.new replay.new (K.holds sink.new) (K.faults sink.new) }
+{
+    let Round { sections, shows } = round;
+    let before = core.log().marks().len();
+    match take_round(alloc, core, chip.effects(), sections) {
         Taken::All => {}
         Taken::LogFull => return Status::LogFull,
         Taken::NoMemory => return Status::OutOfMemory,
     }
-    match core.settle(chip) {
-        Ok(Settled::Settled) => write_report(alloc, core, chip, shows, sink, Status::Done),
-        Ok(Settled::Faulted) => write_report(alloc, core, chip, shows, sink, Status::ChipFault),
-        Ok(Settled::LogFull) => Status::LogFull,
-        Err(OutOfMemory) => Status::OutOfMemory,
+    let settled = core.settle(chip);
+    match round_ended(settled) {
+        Ok(ended) => write_lines(
+            alloc,
+            core,
+            chip,
+            replay,
+            number,
+            before,
+            shows.items(),
+            ended,
+            sink,
+        ),
+        Err(status) => status,
     }
 }
 
-/// Takes the writes in order, numbered from 0, from the one producer.
-fn take_all(core: &mut Core, writes: Vec<Write>) -> Taken
-    ensures { IsTook core.old writes.items result core.new }
+/// How a settling that answered so ends its round, or the run.
+fn round_ended(settled: Result<Settled, OutOfMemory>) -> Result<Status, Status>
+    ensures { result ≡ round_ended settled }
 {
-    for write in writes {
-        let sent = Sent {
-            from: 1,
-            number: core.log().taken().len() as u64,
-            write,
-        };
-        match core.take(sent, 0) {
-            Ok(Ok(())) => {}
-            Ok(Err(_)) => return Taken::LogFull,
-            Err(OutOfMemory) => return Taken::NoMemory,
-        }
+    match settled {
+        Ok(Settled::Settled) => Ok(Status::Done),
+        Ok(Settled::Faulted) => Ok(Status::ChipFault),
+        Ok(Settled::LogFull) => Err(Status::LogFull),
+        Err(OutOfMemory) => Err(Status::OutOfMemory),
     }
-    Taken::All
 }
 
-/// Writes the lines of the round, which ended so.
-fn write_report<K: Sink>(
+/// Writes the lines of a round that ended so, whose marks stand behind so many.
+fn write_lines<K: Sink>(
     alloc: Global,
     core: &Core,
     chip: &SimChip,
-    shows: u64,
-    sink: &mut K,
+    replay: &mut Replay,
+    number: u64,
+    before: usize,
+    shows: &[Show],
     ended: Status,
+    sink: &mut K,
 ) -> Status
-    ensures { IsWritten core.now.plan shows core.now.log chip.now ended (K.holds sink.old) (K.faults sink.old) result (K.holds sink.new) (K.faults sink.new) }
+    requires marks { before ≤ length core.now.log.marks }
+    requires follows { IsReplayOf replay.old chip.now.chip.effects }
+    ensures counts { K.faults sink.old ≤ K.faults sink.new }
+    ensures written { IsWritten (record { plan = core.now.plan; number = number; marks = drop before core.now.log.marks; rows = core.now.rows; objects = chip.now.chip.objects; effects = chip.now.chip.effects; before = replay.old.at }) shows.now ended (K.holds sink.old) (K.faults sink.old) result replay.new (K.holds sink.new) (K.faults sink.new) }
 {
-    match round_lines(alloc, core.plan(), shows, core.log(), chip) {
+    let marks = &core.log().marks()[before..];
+    match round_lines(
+        alloc,
+        core.plan(),
+        number,
+        marks,
+        shows,
+        core.rows(),
+        chip,
+        replay,
+    ) {
         Ok(lines) => match write_all(sink, &lines) {
             Output::Written => ended,
             Output::Failed => Status::WriteFault,

@@ -122,7 +122,7 @@ fn a_failed_write_leaves_a_front_of_the_report(rt: HostRuntime) -> Result<(), Fa
 #[test]
 fn statuses_have_their_numbers_and_lines(rt: HostRuntime) -> Result<(), Fail> {
     let alloc = rt.alloc();
-    let mut source = source_of(alloc, b"settle\nsettle\n", 4096)?;
+    let mut source = source_of(alloc, b"restart\n", 4096)?;
     let mut sink = MemSink::new(alloc, Vec::new(alloc));
     let refused = run(&rt, alloc, &mut source, &mut sink)?.status;
     let rows: [(Status, u8, &[u8]); 8] = [
@@ -132,7 +132,7 @@ fn statuses_have_their_numbers_and_lines(rt: HostRuntime) -> Result<(), Fail> {
             1,
             b"usage: swss run [--workers N] | swss view | swss load N SEED",
         ),
-        (refused, 2, b"script refused: line 0: not-yet"),
+        (refused, 2, b"script refused: line 1: bad-word"),
         (Status::ReadFault, 3, b"read fault"),
         (Status::WriteFault, 4, b"write fault"),
         (Status::ChipFault, 5, b"chip fault"),

@@ -1,4 +1,4 @@
-use Rattle.std.proofs.Common.{◌≤◌, ◌+◌, ◌-◌, vec_len}
+use Rattle.std.proofs.Common.{◌≤◌, ◌-◌, vec_len}
 use Rattle.swss_types.specs.Outside.{Gives}
 use Rattle.swss_run.proofs.input.read_all.Given as goal
 

@@ -1,4 +1,4 @@
-use Rattle.std.proofs.Common.{◌≡◌, ◌≤◌, ◌+◌, ◌-◌, ◌++◌, length, take, drop, subst, arith, length-take, length-drop}
+use Rattle.std.proofs.Common.{◌≡◌, ◌-◌, length, take, drop, subst, arith}
 use Rattle.swss_types.specs.Outside.{Takes}
 use Rattle.swss_run.proofs.Pieces.{Takes-trans, take-more, take-rest_length}
 use Rattle.swss_run.proofs.output.write_all.Goals as goal

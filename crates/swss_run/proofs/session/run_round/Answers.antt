@@ -1,33 +1,78 @@
-use Rattle.std.proofs.Common.{rules, ◌≡◌, ◌∙◌, ℕ, List, [], ◌∷◌, length, Result, Ok, Err, refl, sym, ap, subst}
+use Rattle.std.proofs.Common.{rules, ◌≡◌, ◌∙◌, ◌≤◌, inl, ℕ, List, drop, length, Option, Result, refl, sym, subst}
 use Rattle.swss_types.specs.declared.out_of_memory.OutOfMemory.{OutOfMemory}
 use Rattle.table_schema.specs.declared.write.Write.{Write}
-use Rattle.sai_types.specs.ChipState.{ChipState, new_chip}
-use Rattle.orch_core.specs.Keeps.{IsKept}
+use Rattle.table_schema.specs.Plan.{Ports}
+use Rattle.table_schema.specs.Rows.{Rows}
+use Rattle.sai_types.specs.ChipState.{ChipState}
+use Rattle.sai_types.specs.Objects.{Objects}
+use Rattle.sai_types.specs.declared.body.Call.{Call}
+use Rattle.sai_types.specs.declared.ids.Rid.{Rid}
+use Rattle.sai_chip.specs.Replay.{Replayed}
+use Rattle.switch_model.specs.declared.mark.Mark.{Mark}
+use Rattle.swss_script.specs.declared.parts.Show.{Show}
+use Rattle.swss_run.specs.Running.{IsWritten}
+use Rattle.swss_run.specs.declared.status.Status.{Status}
 use Rattle.orch_core.specs.Settling.{IsSettled}
-use Rattle.orch_core.specs.State.{State, new_state}
+use Rattle.orch_core.specs.State.{State}
 use Rattle.orch_core.specs.declared.answer.Settled.{Settled}
-use Rattle.swss_run.specs.Session.{IsTook, TookFirst, TookSo, capacities}
-use Rattle.swss_run.proofs.Sessions.{kept-core, never-full, never-full-settled, session-err, session-wanting, session-written}
+use Rattle.swss_script.specs.Sent.{writes_in}
+use Rattle.swss_run.specs.Taking.{IsRoundTook}
+use Rattle.swss_run.specs.declared.taking.Taken.{Taken}
+use Rattle.swss_run.proofs.RoundRuns.{follows-new, full-taking, kept-all, marks-fit, run-marked, run-stopped, stops-wanting}
 use Rattle.swss_run.proofs.session.run_round.Goals as goal
 
--- a core that was new took writes
-from_new : (more : ℕ) (old : State) (done : List Write) (core : State) → old ≡ new_state old.plan capacities 4194304 → TookSo more old done core → TookSo more (new_state old.plan capacities 4194304) done core
-from_new more old done core is took = subst (λ (s : State). TookSo more s done core) is took
+took_as : (n m : ℕ) (writes : List (ℕ × Write)) (old mid : State) {r t : Taken} → n ≡ m → r ≡ t → IsRoundTook n writes old r mid → IsRoundTook m writes old t mid
+took_as n m writes old mid {r} {t} size is took = subst (λ k. IsRoundTook k writes old t mid) size (subst (λ x. IsRoundTook n writes old x mid) is took)
 
-kept_new : (old : State) → old ≡ new_state old.plan capacities 4194304 → IsKept old (new_chip capacities) → IsKept (new_state old.plan capacities 4194304) (new_chip capacities)
-kept_new old is kept = subst (λ (s : State). IsKept s (new_chip capacities)) is kept
+settled_as : (old : State) (chip : ChipState) (new : State) (chip' : ChipState) {r s : Result Settled OutOfMemory} → r ≡ s → IsSettled old chip r new chip' → IsSettled old chip s new chip'
+settled_as old chip new chip' is h = subst (λ x. IsSettled old chip x new chip') is h
 
-settled_from : (old : State) (chip : ChipState) (new : State) (chip' : ChipState) {r s : Result Settled OutOfMemory} → chip ≡ new_chip capacities → r ≡ s → IsSettled old chip r new chip' → IsSettled old (new_chip capacities) s new chip'
-settled_from old chip new chip' {r} {s} is e h = subst (λ c. IsSettled old c s new chip') is (subst (λ x. IsSettled old chip x new chip') e h)
+pub returns-in-LogFull-clause-run : goal.returns-in-LogFull-clause-run
+returns-in-LogFull-clause-run g c =
+    full-taking c.args.round c.args.core.now c.args.chip.now c.args.replay.now c.requires.ready c.requires.built c.take_round.new.core (g.K.Sink.holds c.args.sink.now)
+    (took_as c.effects.result (length c.args.chip.now.chip.effects) (writes_in c.args.round.sections) c.args.core.now c.take_round.new.core c.effects.ensures c.in-LogFull.is c.take_round.ensures)
 
-pub returns-in-LogFull-clause-session : goal.returns-in-LogFull-clause-session
-returns-in-LogFull-clause-session g c =
-    absurd (never-full c.args.core.now.plan c.args.writes.items c.args.shows c.requires.takable c.take_all.new.core (subst (λ (s : State). TookFirst 0 s c.args.writes.items c.take_all.new.core) c.requires.new c.in-LogFull.ensures.0) c.in-LogFull.ensures.1)
+pub returns-in-NoMemory-clause-run : goal.returns-in-NoMemory-clause-run
+returns-in-NoMemory-clause-run g c =
+    inl (
+      stops-wanting c.args.round c.args.core.now c.args.chip.now c.args.replay.now c.requires.ready c.requires.built c.take_round.new.core
+          (took_as c.effects.result (length c.args.chip.now.chip.effects) (writes_in c.args.round.sections) c.args.core.now c.take_round.new.core c.effects.ensures c.in-NoMemory.is c.take_round.ensures),
+      refl,
+    )
 
-pub settle-requires-clause-kept : goal.settle-requires-clause-kept
-settle-requires-clause-kept g c = subst (IsKept c.take_all.new.core) (sym c.requires.chip) (kept-core c.args.core.now.plan c.args.writes.items c.args.shows c.requires.takable c.take_all.new.core (from_new 0 c.args.core.now c.args.writes.items c.take_all.new.core c.requires.new c.in-All.ensures) (kept_new c.args.core.now c.requires.new c.requires.kept))
+pub settle-settled-requires-clause-kept : goal.settle-settled-requires-clause-kept
+settle-settled-requires-clause-kept g c =
+    let t = took_as c.effects.result (length c.args.chip.now.chip.effects) (writes_in c.args.round.sections) c.args.core.now c.take_round.new.core c.effects.ensures c.in-All.is c.take_round.ensures in
+    kept-all c.args.round c.args.core.now c.args.chip.now c.args.replay.now c.requires.ready c.requires.built c.take_round.new.core t.0 t.1.0 t.1.1 t.1.2
 
-pub returns-in-Ok-LogFull-clause-session : goal.returns-in-Ok-LogFull-clause-session
-returns-in-Ok-LogFull-clause-session g c =
-    let took = from_new 0 c.args.core.now c.args.writes.items c.take_all.new.core c.requires.new c.in-All.ensures in
-    absurd (never-full-settled c.args.core.now.plan c.args.writes.items c.args.shows c.requires.takable c.take_all.new.core took (kept_new c.args.core.now c.requires.new c.requires.kept) c.settle.new.self c.settle.new.chip c.settle.ensures.same c.settle.ensures.kept (settled_from c.take_all.new.core c.args.chip.now.chip c.settle.new.self c.settle.new.chip.chip c.requires.chip (c.in-Ok-LogFull.is ∙ ap Ok c.in-Ok-LogFull.field-0-is) c.settle.ensures.ended))
+pub write_lines-requires-clause-marks : goal.write_lines-requires-clause-marks
+write_lines-requires-clause-marks g c =
+    let t = (took_as c.effects.result (length c.args.chip.now.chip.effects) (writes_in c.args.round.sections) c.args.core.now c.take_round.new.core c.effects.ensures c.in-All.is c.take_round.ensures) in
+    let marks : c.marks-before.result.now ≡ c.args.core.now.log.marks = search rules in
+    subst (λ l. length l ≤ length c.settle-settled.new.self.log.marks) (sym marks) (marks-fit c.args.round c.args.core.now c.args.chip.now c.args.replay.now c.requires.ready c.requires.built c.take_round.new.core t.0 t.1.0 t.1.1 t.1.2 c.settle-settled.new.self c.settle-settled.new.chip c.settle-settled.ensures.kept c.settle-settled.ensures.same c.settle-settled.ensures.sync c.settle-settled.ensures.grown c.settle-settled.result c.settle-settled.ensures.ended)
+
+pub write_lines-requires-clause-follows : goal.write_lines-requires-clause-follows
+write_lines-requires-clause-follows g c =
+    let t = (took_as c.effects.result (length c.args.chip.now.chip.effects) (writes_in c.args.round.sections) c.args.core.now c.take_round.new.core c.effects.ensures c.in-All.is c.take_round.ensures) in
+    follows-new c.args.round c.args.core.now c.args.chip.now c.args.replay.now c.requires.ready c.requires.built c.take_round.new.core t.0 t.1.0 t.1.1 t.1.2 c.settle-settled.new.self c.settle-settled.new.chip c.settle-settled.ensures.kept c.settle-settled.ensures.same c.settle-settled.ensures.sync c.settle-settled.ensures.grown
+
+pub returns-clause-run : goal.returns-clause-run
+returns-clause-run g c =
+    let t = (took_as c.effects.result (length c.args.chip.now.chip.effects) (writes_in c.args.round.sections) c.args.core.now c.take_round.new.core c.effects.ensures c.in-All.is c.take_round.ensures) in
+    run-stopped c.args.round c.args.core.now c.args.chip.now c.args.replay.now c.requires.ready c.requires.built c.take_round.new.core t.0 t.1.0 t.1.1 t.1.2 c.settle-settled.new.self c.settle-settled.new.chip c.settle-settled.ensures.kept c.settle-settled.ensures.same c.settle-settled.ensures.sync c.settle-settled.ensures.grown c.settle-settled.result c.in-Err.status (sym c.round_ended.ensures ∙ c.in-Err.is) c.settle-settled.ensures.ended c.args.number (g.K.Sink.holds c.args.sink.now) (g.K.Sink.faults c.args.sink.now) c.args.replay.now
+
+-- the lines that were asked for, said in other words
+written_as : (p : Ports) (n : ℕ) (before before' : List Mark) (ms : List Mark) (r : Rows) (o : Objects) (e : List (Call Rid)) (b : ℕ) (shows shows' : List Show) (ended : Status) (held : Option (List ℕ)) (faults : ℕ) (result : Status) (replay : Replayed) (held' : Option (List ℕ)) (faults' : ℕ)
+    → before ≡ before' → shows ≡ shows'
+    → IsWritten (record { plan = p; number = n; marks = drop (length before) ms; rows = r; objects = o; effects = e; before = b }) shows ended held faults result replay held' faults'
+    → IsWritten (record { plan = p; number = n; marks = drop (length before') ms; rows = r; objects = o; effects = e; before = b }) shows' ended held faults result replay held' faults'
+written_as p n before before' ms r o e b shows shows' ended held faults result replay held' faults' is same written =
+    subst (λ l. IsWritten (record { plan = p; number = n; marks = drop (length l) ms; rows = r; objects = o; effects = e; before = b }) shows' ended held faults result replay held' faults') is
+    (subst (λ x. IsWritten (record { plan = p; number = n; marks = drop (length before) ms; rows = r; objects = o; effects = e; before = b }) x ended held faults result replay held' faults') same written)
+
+pub returns-in-Ok-clause-run : goal.returns-in-Ok-clause-run
+returns-in-Ok-clause-run g c =
+    let t = (took_as c.effects.result (length c.args.chip.now.chip.effects) (writes_in c.args.round.sections) c.args.core.now c.take_round.new.core c.effects.ensures c.in-All.is c.take_round.ensures) in
+    let marks : c.marks-before.result.now ≡ c.args.core.now.log.marks = search rules in
+    run-marked c.args.round c.args.core.now c.args.chip.now c.args.replay.now c.requires.ready c.requires.built c.take_round.new.core t.0 t.1.0 t.1.1 t.1.2 c.settle-settled.new.self c.settle-settled.new.chip c.settle-settled.ensures.kept c.settle-settled.ensures.same c.settle-settled.ensures.sync c.settle-settled.ensures.grown c.settle-settled.result c.in-Ok.ended (sym c.round_ended.ensures ∙ c.in-Ok.is) c.settle-settled.ensures.ended c.args.number (g.K.Sink.holds c.args.sink.now) (g.K.Sink.holds c.write_lines.new.sink) (g.K.Sink.faults c.args.sink.now) (g.K.Sink.faults c.write_lines.new.sink) c.write_lines.result c.write_lines.new.replay c.requires.counted
+    (written_as c.settle-settled.new.self.plan c.args.number c.marks-before.result.now c.args.core.now.log.marks c.settle-settled.new.self.log.marks c.settle-settled.new.self.rows c.settle-settled.new.chip.chip.objects c.settle-settled.new.chip.chip.effects c.args.replay.now.at c.items.result.now c.args.round.shows c.in-Ok.ended (g.K.Sink.holds c.args.sink.now) (g.K.Sink.faults c.args.sink.now) c.write_lines.result c.write_lines.new.replay (g.K.Sink.holds c.write_lines.new.sink) (g.K.Sink.faults c.write_lines.new.sink) marks c.items.ensures c.write_lines.ensures.written)

@@ -1,0 +1,53 @@
+//! Times the service: rounds of one change each, and writes in one round, over 250 ports with interfaces. The words are
+//! pairs of `rounds` or `writes` and a number. What was done goes to standard output, and the time to standard error.
+#![tactic(auto)]
+
+mod scripts;
+
+use anyhow::{Context, Result, bail};
+use scripts::{rounds_script, writes_script};
+use std::alloc::Global;
+use std::env;
+use std::sync::Wait;
+use std::thread::Threads;
+use std::time::{Clock, Instant};
+use swss_run::swss_main;
+use swss_types::{MemSink, MemSource, Open};
+
+fn main(rt: HostRuntime) -> Result<()> {
+    let alloc = rt.alloc();
+    let mut words = env::args(&rt)?.skip(1);
+    while let Some(what) = words.next() {
+        let number = words.next().context("a number")?;
+        let number = number.parse::<u32>().context("a number")?;
+        match what.as_str() {
+            "rounds" => time(&rt, alloc, "rounds", number, rounds_script(alloc, number)?)?,
+            "writes" => time(&rt, alloc, "writes", number, writes_script(alloc, number)?)?,
+            _ => bail!(in alloc; "rounds or writes"),
+        }
+    }
+    Ok(())
+}
+
+/// Runs a script, and tells the time of each of its rounds or writes.
+fn time(
+    rt: &(impl Threads + Wait + Sync + Print + Eprint + Clock),
+    alloc: Global,
+    what: &str,
+    number: u32,
+    script: Vec<u8>,
+) -> Result<()> {
+    let mut source = MemSource::new(script, Vec::new(alloc));
+    let mut sink = MemSink::new(alloc, Vec::new(alloc));
+    let words = vec![in alloc; String::from_str(alloc, "run")?]?;
+    let start = Instant::now(rt)?;
+    let outcome = swss_main(rt, alloc, &words, &mut source, &mut sink, &Open);
+    let nanoseconds = start.elapsed(rt)?.as_nanos();
+    let each = nanoseconds / u128::from(number).max(1);
+    let status = outcome.status.number();
+    let taken = outcome.log.taken().len();
+    let ended = outcome.log.ends().len();
+    println!(rt; "{number} {what}: status {status}, {taken} writes, {ended} rounds")?;
+    eprintln!(rt; "{number} {what}: {each} ns each")?;
+    Ok(())
+}

@@ -1,0 +1,100 @@
+-- one round more that ended
+use Rattle.std.proofs.Common.{◌≡◌, ℕ, ◌+◌, List, [], ◌∷◌, ◌++◌, length, slice_get, Some, refl, sym, ap, ◌∙◌, subst, arith}
+use Rattle.std.proofs.lemmas.Grind.{flat_map-append}
+use Rattle.std.proofs.lemmas.List.{append_assoc, append-nil, length-append}
+use Rattle.table_schema.specs.Plan.{Ports}
+use Rattle.table_schema.specs.declared.write.Sent.{Sent}
+use Rattle.sai_types.specs.declared.ids.Rid.{Rid}
+use Rattle.sai_types.specs.declared.body.Call.{Call}
+use Rattle.swss_script.specs.Sent.{sent_in_round}
+use Rattle.swss_script.specs.declared.parts.Round.{Round}
+use Rattle.swss_report.specs.Round.{IsRoundText}
+use Rattle.swss_run.specs.Rounds.{AreTaken, EndAtMarks, EndsAtMark, IsReportFrom, Ran, Rise, all_calls, all_marks, all_sent, ends_from, standing}
+
+pub marks-more : (rans : List Ran) (ran : Ran) → all_marks (rans ++ ran ∷ []) ≡ all_marks rans ++ ran.marks
+marks-more rans ran = flat_map-append (λ (r : Ran). r.marks) rans (ran ∷ []) ∙ ap (λ l. all_marks rans ++ l) (append-nil ran.marks)
+
+pub sent-more : (rans : List Ran) (ran : Ran) → all_sent (rans ++ ran ∷ []) ≡ all_sent rans ++ ran.sent
+sent-more rans ran = flat_map-append (λ (r : Ran). r.sent) rans (ran ∷ []) ∙ ap (λ l. all_sent rans ++ l) (append-nil ran.sent)
+
+pub calls-more : (rans : List Ran) (ran : Ran) → all_calls (rans ++ ran ∷ []) ≡ all_calls rans ++ ran.calls
+calls-more rans ran = flat_map-append (λ (r : Ran). r.calls) rans (ran ∷ []) ∙ ap (λ l. all_calls rans ++ l) (append-nil ran.calls)
+
+pub ends-more : (n : ℕ) (rans : List Ran) (ran : Ran) → ends_from n (rans ++ ran ∷ []) ≡ ends_from n rans ++ (n + length (all_marks rans) + length ran.marks) ∷ []
+ends-more n [] ran = ap (λ m. m ∷ []) (omega arith)
+ends-more n (r ∷ rans) ran =
+    ap (λ l. (n + length r.marks) ∷ l)
+    (ends-more (n + length r.marks) rans ran ∙ ap (λ m. ends_from (n + length r.marks) rans ++ m ∷ []) (omega (arith, length-append r.marks (all_marks rans))))
+
+pub at_marks-more : (sent calls : ℕ) (rans : List Ran) (ran : Ran) → EndAtMarks sent calls rans → EndsAtMark (sent + length (all_sent rans)) (calls + length (all_calls rans)) ran → EndAtMarks sent calls (rans ++ ran ∷ [])
+at_marks-more sent calls [] ran tt one = (
+  record { front = one.front; last = one.last; marks = one.marks; taken = omega (arith, one.taken); effects = omega (arith, one.effects) },
+  tt,
+)
+at_marks-more sent calls (r ∷ rans) ran (first, more) one = (
+  first,
+  at_marks-more (sent + length r.sent) (calls + length r.calls) rans ran more (record {
+    front = one.front;
+    last = one.last;
+    marks = one.marks;
+    taken = omega (arith, one.taken, length-append r.sent (all_sent rans));
+    effects = omega (arith, one.effects, length-append r.calls (all_calls rans));
+  }),
+)
+
+-- each round has a mark of its own, so the ends rise
+pub ends-rise : (sent calls n : ℕ) (rans : List Ran) → EndAtMarks sent calls rans → Rise n (ends_from n rans)
+ends-rise sent calls n [] at_marks = tt
+ends-rise sent calls n (r ∷ rans) (first, more) = (
+  omega (arith, ap length first.marks, length-append first.front (first.last ∷ [])),
+  ends-rise (sent + length r.sent) (calls + length r.calls) (n + length r.marks) rans more,
+)
+
+pub taken-more : (rans : List Ran) (rounds : List Round) (ran : Ran) (round : Round) → AreTaken rans rounds [] → slice_get rounds (length rans) ≡ Some round → ran.sent ≡ sent_in_round round → AreTaken (rans ++ ran ∷ []) rounds []
+taken-more [] [] ran round were at is = cc
+taken-more [] (r ∷ rounds) ran round were at is =
+    let same : r ≡ round = cc in
+    (is ∙ ap sent_in_round (sym same), none rounds)
+  where
+    none : (rounds : List Round) → AreTaken [] rounds []
+    none [] = refl
+    none (r ∷ rounds) = (sent_in_round r, refl)
+taken-more (x ∷ rans) [] ran round were at is = absurd were
+taken-more (x ∷ rans) (r ∷ rounds) ran round (first, more) at is = (first, taken-more rans rounds ran round more at is)
+
+-- the writes of a round that did not end
+pub taken-since : (rans : List Ran) (rounds : List Round) (round : Round) (sent rest : List Sent) → AreTaken rans rounds [] → slice_get rounds (length rans) ≡ Some round → sent_in_round round ≡ sent ++ rest → AreTaken rans rounds sent
+taken-since [] [] round sent rest were at is = cc
+taken-since [] (r ∷ rounds) round sent rest were at is =
+    let same : r ≡ round = cc in
+    (rest, ap sent_in_round same ∙ is)
+taken-since (x ∷ rans) [] round sent rest were at is = absurd were
+taken-since (x ∷ rans) (r ∷ rounds) round sent rest (first, more) at is = (first, taken-since rans rounds round sent rest more at is)
+
+pub report-more : (plan : Ports) (number : ℕ) (sent : List Sent) (calls : List (Call Rid)) (rans : List Ran) (rounds : List Round) (text : List ℕ) (ran : Ran) (round : Round) (lines : List ℕ) (before : ℕ) (s : List Sent) (c : List (Call Rid))
+    → IsReportFrom plan number sent calls rans rounds text → slice_get rounds (length rans) ≡ Some round
+    → before ≡ number + length rans → s ≡ sent ++ all_sent rans → c ≡ calls ++ all_calls rans
+    → IsRoundText (standing plan before s c ran) round.shows lines
+    → IsReportFrom plan number sent calls (rans ++ ran ∷ []) rounds (text ++ lines)
+report-more plan number sent calls [] [] text ran round lines before s c told at number_is s_is c_is is = cc
+report-more plan number sent calls [] (r ∷ rounds) text ran round lines before s c told at number_is s_is c_is is =
+    let same : round ≡ r = cc in
+    let number_same : before ≡ number = omega (arith, number_is) in
+    let moved : IsRoundText (standing plan number sent calls ran) r.shows lines =
+    subst (λ n. IsRoundText (standing plan n sent calls ran) r.shows lines) number_same
+    (subst (λ x. IsRoundText (standing plan before x calls ran) r.shows lines) (s_is ∙ append-nil sent)
+    (subst (λ x. IsRoundText (standing plan before s x ran) r.shows lines) (c_is ∙ append-nil calls)
+    (subst (λ (x : Round). IsRoundText (standing plan before s c ran) x.shows lines) same is))) in
+    (lines, [], moved, ap (λ t. t ++ lines) told ∙ sym (append-nil lines), refl)
+report-more plan number sent calls (x ∷ rans) [] text ran round lines before s c told at number_is s_is c_is is = absurd told
+report-more plan number sent calls (x ∷ rans) (r ∷ rounds) text ran round lines before s c (first, rest, one, text_is, more) at number_is s_is c_is is = (
+  first,
+  rest ++ lines,
+  one,
+  ap (λ t. t ++ lines) text_is ∙ append_assoc first rest lines,
+  report-more plan (number + 1) (sent ++ x.sent) (calls ++ x.calls) rans rounds rest ran round lines before s c more at
+      (omega (arith, number_is))
+      (s_is ∙ sym (append_assoc sent x.sent (all_sent rans)))
+      (c_is ∙ sym (append_assoc calls x.calls (all_calls rans)))
+      is,
+)

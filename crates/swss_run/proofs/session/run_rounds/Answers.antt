@@ -1,0 +1,70 @@
+use Rattle.std.proofs.Common.{rules, ◌≡◌, ◌∙◌, ◌+◌, true, List, [], ◌∷◌, ◌++◌, length, slice_get, Some, refl, sym, ap, subst, arith}
+use Rattle.std.proofs.Math.Seq.{get_or-append_seam}
+use Rattle.std.proofs.lemmas.List.{append_assoc, append-nil, length-append}
+use Rattle.std.proofs.lemmas.Option.{slice_get-get_or}
+use Rattle.std.specs.List.{list_all}
+use Rattle.sai_chip.specs.Replay.{Replayed}
+use Rattle.swss_script.specs.Stage.{is_built_round}
+use Rattle.swss_script.specs.declared.parts.Round.{Round}
+use Rattle.swss_run.proofs.Served.{both_true}
+use Rattle.swss_run.proofs.Sessions.{replay-none, running-more, running-none, session-done, session-ended}
+use Rattle.swss_run.proofs.session.run_rounds.Goals as goal
+
+round-at : (done : List Round) (round : Round) (rest rounds : List Round) → rounds ≡ done ++ round ∷ rest → slice_get rounds (length done) ≡ Some round
+round-at done round rest rounds is =
+    ap (λ l. slice_get l (length done)) is
+    ∙ slice_get-get_or (done ++ round ∷ rest) (length done) round (omega (arith, length-append done (round ∷ rest)))
+    ∙ ap Some (get_or-append_seam done round rest round)
+
+built-first : (left rest : List Round) (round : Round) → left ≡ round ∷ rest → list_all is_built_round left ≡ true → (is_built_round round ≡ true) × (list_all is_built_round rest ≡ true)
+built-first left rest round is built = both_true (is_built_round round) (list_all is_built_round rest) (subst (λ l. list_all is_built_round l ≡ true) is built)
+
+no_items : {X : Type 0} (xs : List X) → length xs ≡ 0 → xs ≡ []
+no_items [] h = refl
+no_items (x ∷ xs) h = absurd (omega (arith, h))
+
+pub loop-round-init : goal.loop-round-init
+loop-round-init g c =
+    let items : c.into_iter-round-iterator.result.rest.items ≡ c.args.rounds = search rules in (
+      [],
+      sym items,
+      refl,
+      subst (λ l. list_all is_built_round l ≡ true) (sym items) c.requires.built,
+      omega arith,
+      running-none c.args.rounds c.args.core.now c.args.chip.now (g.K.Sink.holds c.args.sink.now) c.new-replay.result c.requires.new c.requires.chip c.requires.kept (replay-none c.args.chip.now.chip.effects c.new-replay.result c.new-replay.ensures) (ap (λ (r : Replayed). r.at) c.new-replay.ensures),
+    )
+
+pub run_round-requires-clause-built : goal.run_round-requires-clause-built
+run_round-requires-clause-built g c =
+    let left : c.loop-round.round-iterator.rest.items ≡ c.in-Some.round ∷ c.next.new.self.rest.items = search rules in
+    (built-first c.loop-round.round-iterator.rest.items c.next.new.self.rest.items c.in-Some.round left c.loop-round.invariant.3).0
+
+pub returns-in_default-clause-session : goal.returns-in_default-clause-session
+returns-in_default-clause-session g c =
+    let left : c.loop-round.round-iterator.rest.items ≡ c.in-Some.round ∷ c.next.new.self.rest.items = search rules in
+    let split : c.args.rounds ≡ c.loop-round.invariant.0 ++ c.in-Some.round ∷ c.next.new.self.rest.items = c.loop-round.invariant.1 ∙ ap (λ l. c.loop-round.invariant.0 ++ l) left in
+    session-ended c.args.rounds c.loop-round.invariant.0 c.args.core.now (g.K.Sink.holds c.args.sink.now) c.loop-round.core c.loop-round.chip c.loop-round.replay (g.K.Sink.holds c.loop-round.sink) c.loop-round.invariant.5
+    c.in-Some.round (c.loop-round.number + 1) (round-at c.loop-round.invariant.0 c.in-Some.round c.next.new.self.rest.items c.args.rounds split) (ap (λ n. n + 1) c.loop-round.invariant.2)
+    (g.K.Sink.faults c.loop-round.sink) (g.K.Sink.faults c.run_round.new.sink) c.run_round.new.core c.run_round.new.chip c.run_round.new.replay (g.K.Sink.holds c.run_round.new.sink)
+    c.run_round.result c.in_default.not-Done c.run_round.ensures.run
+
+pub loop-round-preserved : goal.loop-round-preserved
+loop-round-preserved g c =
+    let left : c.loop-round.round-iterator.rest.items ≡ c.in-Some.round ∷ c.next.new.self.rest.items = search rules in
+    let split : c.args.rounds ≡ c.loop-round.invariant.0 ++ c.in-Some.round ∷ c.next.new.self.rest.items = c.loop-round.invariant.1 ∙ ap (λ l. c.loop-round.invariant.0 ++ l) left in (
+      c.loop-round.invariant.0 ++ c.in-Some.round ∷ [],
+      split ∙ sym (append_assoc c.loop-round.invariant.0 (c.in-Some.round ∷ []) c.next.new.self.rest.items),
+      ap (λ n. n + 1) c.loop-round.invariant.2 ∙ sym (length-append c.loop-round.invariant.0 (c.in-Some.round ∷ [])),
+      (built-first c.loop-round.round-iterator.rest.items c.next.new.self.rest.items c.in-Some.round left c.loop-round.invariant.3).1,
+      omega (arith, c.loop-round.invariant.4, c.run_round.ensures.counts),
+      running-more c.args.rounds c.loop-round.invariant.0 c.args.core.now (g.K.Sink.holds c.args.sink.now) c.loop-round.core c.loop-round.chip c.loop-round.replay (g.K.Sink.holds c.loop-round.sink) c.loop-round.invariant.5
+          c.in-Some.round (c.loop-round.number + 1) (round-at c.loop-round.invariant.0 c.in-Some.round c.next.new.self.rest.items c.args.rounds split) (ap (λ n. n + 1) c.loop-round.invariant.2)
+          (g.K.Sink.faults c.loop-round.sink) (g.K.Sink.faults c.run_round.new.sink) c.run_round.new.core c.run_round.new.chip c.run_round.new.replay (g.K.Sink.holds c.run_round.new.sink)
+          c.in-Done.ensures.run,
+    )
+
+pub returns-clause-session : goal.returns-clause-session
+returns-clause-session g c =
+    let none : c.loop-round.round-iterator.rest.items ≡ [] = no_items c.loop-round.round-iterator.rest.items (sym c.loop-round.round-iterator.rest.ok.0 ∙ c.in-None.ensures.steps.0) in
+    let split : c.args.rounds ≡ c.loop-round.invariant.0 = c.loop-round.invariant.1 ∙ ap (λ l. c.loop-round.invariant.0 ++ l) none ∙ append-nil c.loop-round.invariant.0 in
+    session-done c.args.rounds c.loop-round.invariant.0 c.args.core.now (g.K.Sink.holds c.args.sink.now) c.loop-round.core c.loop-round.chip c.loop-round.replay (g.K.Sink.holds c.loop-round.sink) c.loop-round.invariant.5 (ap length (sym split))

@@ -1,0 +1,89 @@
+-- The rounds of a session that ended: what the log and the chip's calls say of each, and what it prints. Own.
+use Rattle.std.specs.Prelude.{◌≡◌, ℕ, ◌+◌, ◌<◌, List, [], ◌∷◌, ◌++◌, length, flat_map}
+use Rattle.table_schema.specs.Plan.{Ports}
+use Rattle.table_schema.specs.Rows.{rows_of}
+use Rattle.table_schema.specs.declared.write.Sent.{Sent}
+use Rattle.sai_types.specs.After.{chip_after}
+use Rattle.sai_types.specs.declared.ids.Rid.{Rid}
+use Rattle.sai_types.specs.declared.body.Call.{Call}
+use Rattle.switch_model.specs.History.{History}
+use Rattle.switch_model.specs.Marks.{writes_of}
+use Rattle.switch_model.specs.declared.mark.Mark.{Mark}
+use Rattle.swss_script.specs.Sent.{sent_in_round}
+use Rattle.swss_script.specs.declared.parts.Round.{Round}
+use Rattle.swss_report.specs.Round.{Ended, IsRoundText}
+
+-- a round that ended: its marks, the writes taken in it, and the chip's calls in it that took effect
+pub record Ran : Type 0 where
+  pub marks : List Mark
+  pub sent : List Sent
+  pub calls : List (Call Rid)
+
+abbrev pub all_marks : List Ran → List Mark
+all_marks rans = flat_map (λ r. r.marks) rans
+
+abbrev pub all_sent : List Ran → List Sent
+all_sent rans = flat_map (λ r. r.sent) rans
+
+abbrev pub all_calls : List Ran → List (Call Rid)
+all_calls rans = flat_map (λ r. r.calls) rans
+
+-- how many marks stand at the end of each round, where so many stood before
+abbrev pub ends_from : ℕ → List Ran → List ℕ
+ends_from n [] = []
+ends_from n (ran ∷ rans) = (n + length ran.marks) ∷ ends_from (n + length ran.marks) rans
+
+-- a round ends at its last mark, which counts the writes taken and the calls made so far
+pub record EndsAtMark (sent calls : ℕ) (ran : Ran) : Type 0 where
+  pub front : List Mark
+  pub last : Mark
+  pub marks : ran.marks ≡ front ++ last ∷ []
+  pub taken : last.taken ≡ sent + length ran.sent
+  pub effects : last.effects ≡ calls + length ran.calls
+
+abbrev pub EndAtMarks : ℕ → ℕ → List Ran → Type 0
+EndAtMarks sent calls [] = Unit {0}
+EndAtMarks sent calls (ran ∷ rans) = EndsAtMark sent calls ran × EndAtMarks (sent + length ran.sent) (calls + length ran.calls) rans
+
+-- the log and the chip's calls are those of the rounds that ended, and then these writes and calls
+pub record IsCut (log : History) (done : List (Call Rid)) (rans : List Ran) (sent : List Sent) (calls : List (Call Rid)) : Type 0 where
+  pub marks : log.marks ≡ all_marks rans
+  pub ends : log.ends ≡ ends_from 0 rans
+  pub taken : log.taken ≡ all_sent rans ++ sent
+  pub effects : done ≡ all_calls rans ++ calls
+  pub at_marks : EndAtMarks 0 0 rans
+
+-- the first number is greater than n, and each later one greater than the one before it
+abbrev pub Rise : ℕ → List ℕ → Type 0
+Rise n [] = Unit {0}
+Rise n (end ∷ ends) = (n < end) × Rise end ends
+
+-- of each round that ended exactly the writes of its sections were taken, in script order; what was taken since is a front of the next round's, and nothing where there is none
+abbrev pub AreTaken : List Ran → List Round → List Sent → Type 0
+AreTaken [] [] sent = sent ≡ []
+AreTaken [] (round ∷ rounds) sent = (rest : List Sent) × (sent_in_round round ≡ sent ++ rest)
+AreTaken (ran ∷ rans) [] sent = ⊥
+AreTaken (ran ∷ rans) (round ∷ rounds) sent = (ran.sent ≡ sent_in_round round) × AreTaken rans rounds sent
+
+-- what stands when a round has ended, where so many rounds, these writes and these calls came before
+abbrev pub standing : Ports → ℕ → List Sent → List (Call Rid) → Ran → Ended
+standing plan number sent calls ran = record {
+  plan = plan;
+  number = number + 1;
+  marks = ran.marks;
+  rows = rows_of (writes_of (sent ++ ran.sent));
+  objects = chip_after (calls ++ ran.calls) (length (calls ++ ran.calls));
+  effects = calls ++ ran.calls;
+  before = length calls;
+}
+
+-- the report of rounds that ended: the lines of each, one round after the other
+abbrev pub IsReportFrom : Ports → ℕ → List Sent → List (Call Rid) → List Ran → List Round → List ℕ → Type 0
+IsReportFrom plan number sent calls [] rounds text = text ≡ []
+IsReportFrom plan number sent calls (ran ∷ rans) [] text = ⊥
+IsReportFrom plan number sent calls (ran ∷ rans) (round ∷ rounds) text =
+    (lines : List ℕ) × (rest : List ℕ) × IsRoundText (standing plan number sent calls ran) round.shows lines × (text ≡ lines ++ rest)
+    × IsReportFrom plan (number + 1) (sent ++ ran.sent) (calls ++ ran.calls) rans rounds rest
+
+abbrev pub IsReport : Ports → List Ran → List Round → List ℕ → Type 0
+IsReport plan rans rounds text = IsReportFrom plan 0 [] [] rans rounds text
