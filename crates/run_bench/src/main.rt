@@ -1,11 +1,12 @@
-//! Times the service: rounds of one change each, and writes in one round, over 250 ports with interfaces. The words are
-//! pairs of `rounds` or `writes` and a number. What was done goes to standard output, and the time to standard error.
+//! Times the service: rounds of one change each, and writes in one round, over 250 ports with interfaces, and rounds in
+//! which 1,000 interfaces wait. The words are pairs of `rounds`, `writes` or `waiting` and a number. What was done goes to
+//! standard output, and the time to standard error.
 #![tactic(auto)]
 
 mod scripts;
 
 use anyhow::{Context, Result, bail};
-use scripts::{rounds_script, writes_script};
+use scripts::{rounds_script, waiting_script, writes_script};
 use std::alloc::Global;
 use std::env;
 use std::sync::Wait;
@@ -23,7 +24,14 @@ fn main(rt: HostRuntime) -> Result<()> {
         match what.as_str() {
             "rounds" => time(&rt, alloc, "rounds", number, rounds_script(alloc, number)?)?,
             "writes" => time(&rt, alloc, "writes", number, writes_script(alloc, number)?)?,
-            _ => bail!(in alloc; "rounds or writes"),
+            "waiting" => time(
+                &rt,
+                alloc,
+                "waiting",
+                number,
+                waiting_script(alloc, number)?,
+            )?,
+            _ => bail!("rounds, writes or waiting"),
         }
     }
     Ok(())

@@ -5,6 +5,9 @@ use swss_types::{OutOfMemory, write_number};
 /// How many ports there are.
 const PORTS: u32 = 250;
 
+/// How many interfaces wait.
+const WAITING: u32 = 1000;
+
 /// Each port and its interface in the first round, and then so many rounds that each change the MTU of one port.
 pub fn rounds_script(alloc: Global, rounds: u32) -> Result<Vec<u8>, OutOfMemory> {
     let mut script = ports_script(alloc)?;
@@ -22,6 +25,24 @@ pub fn writes_script(alloc: Global, writes: u32) -> Result<Vec<u8>, OutOfMemory>
     let mut script = ports_script(alloc)?;
     for write in 0..writes {
         write_change(&mut script, write)?;
+    }
+    Ok(script)
+}
+
+/// Interfaces whose ports have no row, and so many rounds in which they wait.
+pub fn waiting_script(alloc: Global, rounds: u32) -> Result<Vec<u8>, OutOfMemory> {
+    let mut script = Vec::from_slice(alloc, b"producer a\n")?;
+    for number in 0..WAITING {
+        write_line(
+            &mut script,
+            b"set INTF_TABLE:Ethernet",
+            number,
+            b" a=",
+            number,
+        )?;
+    }
+    for _round in 0..rounds {
+        script.extend_from_slice(b"settle\n")?;
     }
     Ok(script)
 }
