@@ -45,7 +45,7 @@ use Rattle.swss_script.specs.declared.parts.Show.{Show}
 use Rattle.swss_report.specs.Round.{Ended, IsRoundText}
 use Rattle.swss_run.specs.Full.{AreApplied, CallIsDue, IsFull, MarkIsDue, good_now, keys_named, places}
 use Rattle.swss_run.specs.Full.IsFull.{AtWrite, AtCall, AtMark}
-use Rattle.swss_run.specs.Rounds.{Ran}
+use Rattle.swss_run.specs.Rounds.{Ran, is_settling}
 use Rattle.swss_run.specs.Running.{EndsRound, HasLines, IsReady, IsRoundRun, IsWritten, KeepsPlan, StopsRound, round_ended, with_round}
 use Rattle.swss_run.specs.Running.IsWritten.{Whole, Failed, Wanting, Unwritten}
 use Rattle.swss_run.specs.Taking.{AreServed, IsRoundTook, Took, TookAll}
@@ -268,7 +268,7 @@ module _ (round : Round) (old : State) (sim : Sim) (replay : Replayed) (ready : 
         )
 
       -- a mark was made
-      module _ (e : MarkEvent) (log : new.log ≡ with_ending mid.log (mark_at mid (length sim'.chip.effects) e)) (fits : places new.log sim'.chip ≤ new.limit) where
+      module _ (e : MarkEvent) (kind : is_settling e ≡ true) (log : new.log ≡ with_ending mid.log (mark_at mid (length sim'.chip.effects) e)) (fits : places new.log sim'.chip ≤ new.limit) where
         abbrev mark : Mark
         mark = mark_at mid (length sim'.chip.effects) e
 
@@ -285,6 +285,7 @@ module _ (round : Round) (old : State) (sim : Sim) (replay : Replayed) (ready : 
         ends-round = record {
           mark = mark;
           marks = refl;
+          settling = kind;
           sent = sym gives;
           taken = ap (λ (h : History). length h.taken) log-all;
           effects = ap length grown.grown;
@@ -353,18 +354,18 @@ module _ (round : Round) (old : State) (sim : Sim) (replay : Replayed) (ready : 
       pub run-marked : (r : Result Settled OutOfMemory) (ended : Status) → round_ended r ≡ Ok ended → IsSettled mid sim.chip r new sim'.chip → (number : ℕ) (held held' : Option (List ℕ)) (faults faults' : ℕ) (result : Status) (replay' : Replayed) → 0 < number → IsWritten (ended_now number) round.shows ended held faults result replay' held' faults' → IsRoundRun number round old sim held faults result new sim' replay' held' faults'
       run-marked (Ok settled.Settled) ended is e number held held' faults faults' result replay' counted written =
           let same_end : ended ≡ status.Done = cc in
-          run-done (event.Settled (listing new) e.turns) e.log (fits-settled mid new sim.chip sim'.chip kept e) number held held' faults faults' result replay' counted refl
+          run-done (event.Settled (listing new) e.turns) refl e.log (fits-settled mid new sim.chip sim'.chip kept e) number held held' faults faults' result replay' counted refl
           (subst (λ x. IsWritten (ended_now number) round.shows x held faults result replay' held' faults') same_end written)
       run-marked (Ok settled.Faulted) ended is e number held held' faults faults' result replay' counted written =
           let same_end : ended ≡ status.ChipFault = cc in
-          run-failed (event.Faulted sim.chip.faults sim'.chip.faults) e.log (fits-faulted mid new sim.chip sim'.chip kept same e) number held held' faults faults' result replay' counted refl (omega (arith, e.rose))
+          run-failed (event.Faulted sim.chip.faults sim'.chip.faults) refl e.log (fits-faulted mid new sim.chip sim'.chip kept same e) number held held' faults faults' result replay' counted refl (omega (arith, e.rose))
           (subst (λ x. IsWritten (ended_now number) round.shows x held faults result replay' held' faults') same_end written)
       run-marked (Ok settled.LogFull) ended is e number held held' faults faults' result replay' counted written = cc
       run-marked (Err wanting) ended is e number held held' faults faults' result replay' counted written = cc
 
       pub marks-fit : (r : Result Settled OutOfMemory) → IsSettled mid sim.chip r new sim'.chip → length old.log.marks ≤ length new.log.marks
-      marks-fit (Ok settled.Settled) e = before-fits (event.Settled (listing new) e.turns) e.log (fits-settled mid new sim.chip sim'.chip kept e)
-      marks-fit (Ok settled.Faulted) e = before-fits (event.Faulted sim.chip.faults sim'.chip.faults) e.log (fits-faulted mid new sim.chip sim'.chip kept same e)
+      marks-fit (Ok settled.Settled) e = before-fits (event.Settled (listing new) e.turns) refl e.log (fits-settled mid new sim.chip sim'.chip kept e)
+      marks-fit (Ok settled.Faulted) e = before-fits (event.Faulted sim.chip.faults sim'.chip.faults) refl e.log (fits-faulted mid new sim.chip sim'.chip kept same e)
       marks-fit (Ok settled.LogFull) e = omega (arith, ap (λ (h : History). length h.marks) (log-stopped e.0.log))
       marks-fit (Err wanting) e = omega (arith, ap (λ (h : History). length h.marks) (log-stopped e.log))
 

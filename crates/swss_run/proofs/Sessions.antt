@@ -68,6 +68,7 @@ module _ (round : Round) (old : State) (sim : Sim) (ran : Ran) (new : State) (si
     front = [];
     last = ends.mark;
     marks = ends.marks;
+    settling = ends.settling;
     taken = omega (arith, ends.taken, length-append old.log.taken ran.sent, ap length taken_were);
     effects = omega (arith, ends.effects, length-append sim.chip.effects ran.calls, ap length effects_were);
   }

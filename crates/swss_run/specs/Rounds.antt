@@ -1,5 +1,5 @@
 -- The rounds of a session that ended: what the log and the chip's calls say of each, and what it prints. Own.
-use Rattle.std.specs.Prelude.{◌≡◌, ℕ, ◌+◌, ◌<◌, List, [], ◌∷◌, ◌++◌, length, flat_map}
+use Rattle.std.specs.Prelude.{◌≡◌, ℕ, ◌+◌, ◌<◌, Bool, true, false, List, [], ◌∷◌, ◌++◌, length, flat_map}
 use Rattle.table_schema.specs.Plan.{Ports}
 use Rattle.table_schema.specs.Rows.{rows_of}
 use Rattle.table_schema.specs.declared.write.Sent.{Sent}
@@ -9,6 +9,8 @@ use Rattle.sai_types.specs.declared.body.Call.{Call}
 use Rattle.switch_model.specs.History.{History}
 use Rattle.switch_model.specs.Marks.{writes_of}
 use Rattle.switch_model.specs.declared.mark.Mark.{Mark}
+use Rattle.switch_model.specs.declared.mark.MarkEvent.{MarkEvent}
+use Rattle.switch_model.specs.declared.mark.MarkEvent.TheVariants as event
 use Rattle.swss_script.specs.Sent.{sent_in_round}
 use Rattle.swss_script.specs.declared.parts.Round.{Round}
 use Rattle.swss_report.specs.Round.{Ended, IsRoundText}
@@ -33,11 +35,18 @@ abbrev pub ends_from : ℕ → List Ran → List ℕ
 ends_from n [] = []
 ends_from n (ran ∷ rans) = (n + length ran.marks) ∷ ends_from (n + length ran.marks) rans
 
--- a round ends at its last mark, which counts the writes taken and the calls made so far
+-- whether a mark is that of a settling, which ended or in which the chip failed
+abbrev pub is_settling : MarkEvent → Bool
+is_settling (event.Settled waits turns) = true
+is_settling (event.Faulted before after) = true
+is_settling _ = false
+
+-- a round ends at its last mark, that of its settling, which counts the writes taken and the calls made so far
 pub record EndsAtMark (sent calls : ℕ) (ran : Ran) : Type 0 where
   pub front : List Mark
   pub last : Mark
   pub marks : ran.marks ≡ front ++ last ∷ []
+  pub settling : is_settling last.event ≡ true
   pub taken : last.taken ≡ sent + length ran.sent
   pub effects : last.effects ≡ calls + length ran.calls
 

@@ -24,7 +24,7 @@ use Rattle.swss_script.specs.declared.parts.Show.{Show}
 use Rattle.swss_report.specs.Round.{Ended, IsRoundText}
 use Rattle.swss_run.specs.Full.{IsFull, keys_named, places}
 use Rattle.swss_run.specs.Output.{TakesFront}
-use Rattle.swss_run.specs.Rounds.{Ran, standing}
+use Rattle.swss_run.specs.Rounds.{Ran, is_settling, standing}
 use Rattle.swss_run.specs.declared.status.Status.{Status}
 use Rattle.swss_run.specs.declared.status.Status.TheVariants as status
 
@@ -51,6 +51,7 @@ with_round log sent mark = record { taken = log.taken ++ sent; marks = log.marks
 pub record EndsRound (round : Round) (old : State) (sim : Sim) (ran : Ran) (new : State) (sim' : Sim) : Type 0 where
   pub mark : Mark
   pub marks : ran.marks ≡ mark ∷ []
+  pub settling : is_settling mark.event ≡ true
   pub sent : ran.sent ≡ sent_in_round round
   pub taken : mark.taken ≡ length (old.log.taken ++ ran.sent)
   pub effects : mark.effects ≡ length (sim.chip.effects ++ ran.calls)
