@@ -80,7 +80,7 @@ staged-head : (p : Place) (d e : Draft) (line : Option HeadLine) → is_built (H
 staged-head place.Head d e (Some (head.Port text)) built k h = staged-plan d e text (plan_step d.script.plan text) refl k h
 staged-head place.Head d e (Some (head.Chip kind most)) built k h = cc
 staged-head place.Head d e (Some (head.Fail fail)) built k h = cc
-staged-head place.Head d e (Some head.Image) built k h = cc
+staged-head place.Head d e (Some (head.Image fault)) built k h = cc
 staged-head place.Head d e None built k h = cc
 staged-head (place.Section producer) d e line built k h = cc
 staged-head place.Settled d e line built k h = cc

@@ -16,7 +16,7 @@ use Rattle.swss_script.specs.declared.parts.Show.TheVariants as show
 abbrev pub is_built_head : HeadLine → Bool
 is_built_head (head.Chip kind most) = false
 is_built_head (head.Fail fail) = false
-is_built_head head.Image = false
+is_built_head (head.Image fault) = false
 is_built_head line = true
 
 abbrev pub is_built_key : Key → Bool

@@ -11,6 +11,7 @@ use Rattle.table_schema.specs.declared.key.Key.{Key}
 use Rattle.table_schema.specs.declared.write.Write.TheVariants as write
 use Rattle.swss_script.specs.Batch.{batch_of, key_in_word}
 use Rattle.swss_script.specs.Fields.{fields_of, set_fields}
+use Rattle.swss_script.specs.Image.{image_fault}
 use Rattle.swss_script.specs.Words.{behind_word, two_words, words_in}
 use Rattle.swss_script.specs.declared.line.HeadLine.{HeadLine}
 use Rattle.swss_script.specs.declared.line.HeadLine.TheVariants as head
@@ -62,9 +63,9 @@ abbrev pub fail_line : List (List ℕ) → Option HeadLine
 fail_line words = option_and_then (λ parts. fail_with (number_within 1000000000 parts.0) (is_after parts.1)) (two_words words)
 
 -- `image JSON`
-abbrev pub image_line : List (List ℕ) → Option HeadLine
-image_line [] = None
-image_line (word ∷ words) = Some head.Image
+abbrev pub image_line : List (List ℕ) → List ℕ → Option HeadLine
+image_line [] text = None
+image_line (word ∷ words) text = Some (head.Image (image_fault text))
 
 -- a producer's name has letters, digits, `_` and `-`
 abbrev pub is_name : List ℕ → Bool
@@ -138,7 +139,7 @@ line_by first others behind =
     else if bytes_eq first (codes "port") then Head (port_line others)
     else if bytes_eq first (codes "chip") then Head (chip_line others)
     else if bytes_eq first (codes "fail") then Head (fail_line others)
-    else if bytes_eq first (codes "image") then Head (image_line others)
+    else if bytes_eq first (codes "image") then Head (image_line others behind)
     else if bytes_eq first (codes "producer") then producer_line others
     else if bytes_eq first (codes "set") then set_line others
     else if bytes_eq first (codes "del") then del_line others

@@ -78,12 +78,14 @@ with_fail d fail =
     if list_any (λ other. other.at == fail.at) d.script.fails then Err why.HeadTwice
     else Ok (record d { script = record d.script { fails = d.script.fails ++ fail ∷ [] } })
 
--- a line of the head: an image is not looked into before the service has images
+-- a line of the head. A good image adds nothing before the service has images, and is refused as the last thing: so no line is read
+-- behind it, and the second image of a script, which is one too many before its JSON is read, cannot be met
 abbrev pub with_head : Draft → HeadLine → Result Draft Why
 with_head d (head.Port text) = with_plan d (plan_step d.script.plan text)
 with_head d (head.Chip kind most) = with_capacity d kind most
 with_head d (head.Fail fail) = with_fail d fail
-with_head d head.Image = Err why.NotYet
+with_head d (head.Image None) = Ok d
+with_head d (head.Image (Some fault)) = Err (why.BadImage fault)
 
 abbrev pub in_head : Place → Draft → Option HeadLine → Result Draft Why
 in_head place.Head d (Some line) = with_head d line

@@ -34,7 +34,7 @@ fn is_built_head(line: &HeadLine) -> bool
     ensures { result ≡ is_built_head line.now }
 {
     match line {
-        HeadLine::Chip(_, _) | HeadLine::Fail(_) | HeadLine::Image => false,
+        HeadLine::Chip(_, _) | HeadLine::Fail(_) | HeadLine::Image(_) => false,
         HeadLine::Port(_) => true,
     }
 }

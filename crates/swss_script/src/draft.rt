@@ -122,7 +122,8 @@ impl Draft {
             (Place::Head, Some(HeadLine::Port(text))) => self.add_port(text),
             (Place::Head, Some(HeadLine::Chip(kind, most))) => Ok(self.set_capacity(kind, most)),
             (Place::Head, Some(HeadLine::Fail(fail))) => self.add_fail(fail),
-            (Place::Head, Some(HeadLine::Image)) => Ok(Err(Why::NotYet)),
+            (Place::Head, Some(HeadLine::Image(None))) => Ok(Ok(())),
+            (Place::Head, Some(HeadLine::Image(Some(fault)))) => Ok(Err(Why::BadImage(fault))),
             _ => Ok(Err(Why::BadHead)),
         }
     }

@@ -6,6 +6,7 @@ mod built;
 mod draft;
 mod fails;
 mod fields;
+mod image;
 mod laws;
 #[cfg(test)]
 mod limit_tests;

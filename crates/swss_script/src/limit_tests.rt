@@ -96,7 +96,13 @@ fn keeps_the_limit_of_a_line(rt: HostRuntime) -> Result<(), Fail> {
             b"[]",
             b"2 line-too-long",
         ),
-        (b"image ", 70_000, b' ', b"{}", b"1 not-yet"),
+        (
+            b"image ",
+            70_000,
+            b' ',
+            b"{\"rows\":{},\"version\":1}",
+            b"1 not-yet",
+        ),
         (b"image ", 70_000, b' ', b"", b"1 bad-head"),
         // a line of a block
         (

@@ -6,8 +6,9 @@ ghost use Rattle.swss_script.specs.Words.{words_in};
 
 use crate::batch::{key_in_word, read_batch};
 use crate::fields::{copy_text, read_fields, set_fields};
+use crate::image::read_image_fault;
 use crate::words::{next_word, one_word, two_words};
-use crate::{Fail2, Show, Writes};
+use crate::{Fail2, ImageFault, Show, Writes};
 use sai_types::Kind;
 use std::alloc::Global;
 use swss_types::{Ip, OutOfMemory, Text, read_number};
@@ -47,8 +48,8 @@ pub enum HeadLine {
     Chip(Kind, u64),
     /// A chip call fails.
     Fail(Fail2),
-    /// The rows of an image.
-    Image,
+    /// An image, with the fault that it has or None.
+    Image(Option<ImageFault>),
 }
 
 /// Whether a block begins with a line.
@@ -80,7 +81,7 @@ fn read_words(alloc: Global, first: &str, behind: &str) -> Result<Line, OutOfMem
         "port" => Ok(Line::Head(read_port(alloc, behind)?)),
         "chip" => Ok(Line::Head(read_chip(behind))),
         "fail" => Ok(Line::Head(read_fail(behind))),
-        "image" => Ok(Line::Head(read_image(behind))),
+        "image" => Ok(Line::Head(read_image(alloc, behind)?)),
         "producer" => read_producer(alloc, behind),
         "set" => read_set(alloc, behind),
         "del" => read_del(alloc, behind),
@@ -171,12 +172,12 @@ fn read_after(word: &str) -> Option<bool>
 }
 
 /// The text behind `image`.
-fn read_image(text: &str) -> Option<HeadLine>
-    ensures { result ≡ image_line (words_in text.now) }
+fn read_image(alloc: Global, text: &str) -> Result<Option<HeadLine>, OutOfMemory>
+    ensures { IfOk result (λ line. line ≡ image_line (words_in text.now) text.now) }
 {
     match next_word(text) {
-        Some(_) => Some(HeadLine::Image),
-        None => None,
+        Some(_) => Ok(Some(HeadLine::Image(read_image_fault(alloc, text.as_bytes())?))),
+        None => Ok(None),
     }
 }
 

@@ -1,8 +1,9 @@
 // What no clause says: that the definitions mean the language as it is described, and that scripts are read where there is
 // memory.
 use crate::draft::Draft;
+use crate::image::read_image_fault;
 use crate::line::HeadLine;
-use crate::{Act, DEFAULT_CAPS, Fail2, Refused, Script, Section, Show, Why};
+use crate::{Act, DEFAULT_CAPS, Fail2, ImageFault, Refused, Script, Section, Show, Why};
 use sai_types::Kind;
 use std::alloc::Global;
 use std::process::Abort;
@@ -523,8 +524,11 @@ fn refuses_what_is_not_yet(rt: HostRuntime) -> Result<(), Fail> {
             ("port Ethernet0 0\nchip PORT 0", "2 not-yet"),
             ("fail 1 before", "1 not-yet"),
             ("fail 1000000000 after", "1 not-yet"),
-            ("image {}", "1 not-yet"),
-            ("\nimage what", "2 not-yet"),
+            ("image {\"rows\":{},\"version\":1}", "1 not-yet"),
+            (
+                "\nimage { \"version\" : 1,\t\"rows\" : {} } \r\nwhat",
+                "2 not-yet",
+            ),
             ("producer a\nrestart", "2 not-yet"),
             ("settle\nshow waiting", "2 not-yet"),
             ("settle\nshow warm", "2 not-yet"),
@@ -567,6 +571,135 @@ fn refuses_what_is_not_yet(rt: HostRuntime) -> Result<(), Fail> {
                 "producer a\njson [{\"VLAN_TABLE:Vlan10\":{\"a\":1},\"OP\":\"SET\"}]",
                 "2 bad-json",
             ),
+        ],
+    )
+}
+
+/// Each text has the fault that is wanted, as the text of an image.
+fn expect_faults(
+    rt: &impl Abort,
+    alloc: Global,
+    cases: &[(&str, Option<ImageFault>)],
+) -> Result<(), Fail> {
+    for (text, fault) in cases {
+        let found = read_image_fault(alloc, text.as_bytes())?;
+        assert!(rt; found == *fault, "{text}");
+    }
+    Ok(())
+}
+
+#[test]
+fn finds_faults_of_images(rt: HostRuntime) -> Result<(), Fail> {
+    let shape = Some(ImageFault::BadShape);
+    expect_faults(
+        &rt,
+        rt.alloc(),
+        &[
+            ("{\"rows\":{},\"version\":1}", None),
+            (
+                "{\"version\":1,\"rows\":{\"x:\":{\"\":\"\"},\":\":{\"a\":\"1\",\"b\":\"\"}}}",
+                None,
+            ),
+            (
+                "{\"rows\":[],\"version\":9,\"version\":1,\"rows\":{}}",
+                None,
+            ),
+            // no JSON
+            ("", Some(ImageFault::NotJson)),
+            ("{", Some(ImageFault::NotJson)),
+            ("{\"rows\":{},\"version\":1} 1", Some(ImageFault::NotJson)),
+            ("{'rows':{},'version':1}", Some(ImageFault::NotJson)),
+            // another version, whatever else there is
+            (
+                "{\"rows\":{},\"version\":9}",
+                Some(ImageFault::BadVersion(9)),
+            ),
+            (
+                "{\"rows\":[],\"version\":0,\"x\":1}",
+                Some(ImageFault::BadVersion(0)),
+            ),
+            (
+                "{\"version\":18446744073709551615}",
+                Some(ImageFault::BadVersion(18_446_744_073_709_551_615)),
+            ),
+            // no version
+            ("{\"rows\":{},\"version\":18446744073709551616}", shape),
+            ("{\"rows\":{},\"version\":1.0}", shape),
+            ("{\"rows\":{},\"version\":-1}", shape),
+            ("{\"rows\":{},\"version\":\"9\"}", shape),
+            ("{\"rows\":{}}", shape),
+            // other members
+            ("{\"version\":1}", shape),
+            ("{\"rows\":{},\"version\":1,\"x\":1}", shape),
+            ("{\"Rows\":{},\"version\":1}", shape),
+            ("[{\"rows\":{},\"version\":1}]", shape),
+            ("[]", shape),
+            ("1", shape),
+        ],
+    )
+}
+
+#[test]
+fn finds_faults_of_rows_of_images(rt: HostRuntime) -> Result<(), Fail> {
+    let shape = Some(ImageFault::BadShape);
+    expect_faults(
+        &rt,
+        rt.alloc(),
+        &[
+            ("{\"rows\":[],\"version\":1}", shape),
+            ("{\"rows\":null,\"version\":1}", shape),
+            ("{\"rows\":{\"x\":{\"a\":\"1\"}},\"version\":1}", shape),
+            ("{\"rows\":{\"x:\":{}},\"version\":1}", shape),
+            ("{\"rows\":{\"x:\":[\"a\"]},\"version\":1}", shape),
+            ("{\"rows\":{\"x:\":{\"a\":1}},\"version\":1}", shape),
+            (
+                "{\"rows\":{\"w:\":{\"a\":\"1\"},\"x:\":{\"a\":\"1\",\"b\":{}}},\"version\":1}",
+                shape,
+            ),
+            (
+                "{\"rows\":{\"x:\":{\"a\":\"1\"},\"y\":{\"a\":\"1\"}},\"version\":1}",
+                shape,
+            ),
+            // two spellings of one key, side by side and apart
+            (
+                "{\"rows\":{\"ROUTE_TABLE:10.0.0.9\":{\"a\":\"1\"},\"ROUTE_TABLE:10.0.0.9/32\":{\"a\":\"1\"}},\"version\":1}",
+                shape,
+            ),
+            (
+                "{\"rows\":{\"NEIGH_TABLE:Vlan1:0::1\":{\"a\":\"1\"},\"NEIGH_TABLE:Vlan1:2::\":{\"a\":\"1\"},\"NEIGH_TABLE:Vlan1:::1\":{\"a\":\"2\"}},\"version\":1}",
+                shape,
+            ),
+            // one name twice is one member, and a text that is no key of its table is a key of its own
+            (
+                "{\"rows\":{\"x:\":{},\"x:\":{\"a\":\"1\"}},\"version\":1}",
+                None,
+            ),
+            (
+                "{\"rows\":{\"ROUTE_TABLE:10.0.0.9\":{\"a\":\"1\"},\"ROUTE_TABLE:10.0.0.09\":{\"a\":\"1\"}},\"version\":1}",
+                None,
+            ),
+        ],
+    )
+}
+
+#[test]
+fn refuses_images(rt: HostRuntime) -> Result<(), Fail> {
+    expect(
+        &rt,
+        rt.alloc(),
+        &[
+            (
+                "port Ethernet12 0\nport Ethernet4 4,5,6,7\nimage {\"rows\":{\"X:1\":{\"a\":1}},\"version\":1}\nproducer a\nsettle\n",
+                "3 bad-image",
+            ),
+            ("image {}", "1 bad-image"),
+            ("\nimage what", "2 bad-image"),
+            ("image {\"rows\":{},\"version\":9}", "1 bad-image"),
+            // its place and its words come first
+            ("settle\nimage what", "2 bad-head"),
+            ("image\t", "1 bad-head"),
+            // a line that comes first is the refusal
+            ("image {\"rows\":{},\"version\":1}\nimage {}", "1 not-yet"),
         ],
     )
 }
