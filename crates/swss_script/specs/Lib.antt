@@ -5,6 +5,7 @@ pub mod Fields
 pub mod Image
 pub mod Line
 pub mod Lines
+pub mod Plain
 pub mod Script
 pub mod Sections
 pub mod Sent

@@ -1,6 +1,8 @@
 // What an accepted script is by its lines.
-ghost use Rattle.std.specs.Prelude.{◌≡◌, ◌<◌, ◌≤◌, ℕ, List, Ok, length, true};
+ghost use Rattle.std.specs.Prelude.{◌≡◌, ◌<◌, ◌≤◌, ℕ, List, Ok, Some, false, length, slice_get, true};
 ghost use Rattle.std.specs.List.{list_all};
+ghost use Rattle.swss_script.specs.Lines.{lines_in};
+ghost use Rattle.swss_script.specs.Plain.{has_batch};
 ghost use Rattle.swss_script.specs.Script.{script_of};
 ghost use Rattle.swss_script.specs.Sections.{name_of, script_writes, sections_by, sections_of, text_writes, writes_of};
 ghost use Rattle.swss_script.specs.Sent.{has_section, sent_by, sent_in_round, sent_of};
@@ -26,4 +28,11 @@ pub fn script_is_of_this_stage()
 pub fn each_producer_sends_in_order()
     ensures order { (round : Round) (producer : ℕ) → sent_of producer (sent_in_round round) ≡ sent_by producer 0 (sections_by producer round.sections) }
     ensures senders { (round : Round) → list_all (λ s. has_section round.sections s.from) (sent_in_round round) ≡ true }
+{}
+
+/// A script that is accepted has at most 1,000,000 lines, and where none of them is a batch, each of its rounds has no more
+/// writes than the script has lines.
+pub fn plain_script_has_few_writes()
+    ensures lines { (bytes : List ℕ) (script : Script) → script_of bytes ≡ Ok script → length (lines_in bytes) ≤ 1000000 }
+    ensures writes { (bytes : List ℕ) (script : Script) (at : ℕ) (round : Round) → script_of bytes ≡ Ok script → has_batch bytes ≡ false → slice_get script.rounds at ≡ Some round → length (sent_in_round round) ≤ length (lines_in bytes) }
 {}
