@@ -1,5 +1,5 @@
 -- the keys that writes name
-use Rattle.std.proofs.Common.{◌≡◌, ◌⊎◌, inl, inr, ◌≤◌, List, [], ◌∷◌, ◌++◌, length, refl, sym, ap, ◌∙◌, subst, ⊎_elim, arith}
+use Rattle.std.proofs.Common.{◌≡◌, ◌⊎◌, inl, inr, suc, ◌+◌, ◌≤◌, List, [], ◌∷◌, ◌++◌, length, refl, sym, ap, ◌∙◌, subst, ⊎_elim, arith}
 use Rattle.std.specs.BTreeSet.{insert_key}
 use Rattle.std.specs.List.{AllByRecursion}
 use Rattle.std.specs.List.Sorted.{IsStrictlySortedBy}
@@ -135,3 +135,19 @@ named-back (s ∷ front) back k there = in-put (keys_named (front ++ back)) (key
 -- the key of a write is named
 pub named-last : (front : List Sent) (s : Sent) → IsIn (key_of s.write) (keys_named (front ++ s ∷ []))
 named-last front s = named-back front (s ∷ []) (key_of s.write) (in-new [] (key_of s.write))
+
+-- ---- how many keys writes name
+
+put-one : (ks : List Key) (k : Key) → length (insert_key key_cmp ks k) ≤ length ks + 1
+put-one [] k = omega arith
+put-one (x ∷ xs) k = by (key_cmp k x) (put-one xs k)
+  where
+    by : (o : Ordering) → length (insert_key key_cmp xs k) ≤ length xs + 1 → length (match_ordering o (k ∷ x ∷ xs) (x ∷ xs) (x ∷ insert_key key_cmp xs k)) ≤ suc (length xs) + 1
+    by Less ih = omega arith
+    by Equal ih = omega arith
+    by Greater ih = omega (arith, ih)
+
+-- writes name no more keys than they are
+pub few-named : (sent : List Sent) → length (keys_named sent) ≤ length sent
+few-named [] = omega arith
+few-named (s ∷ more) = omega (arith, put-one (keys_named more) (key_of s.write), few-named more)

@@ -1,5 +1,5 @@
 -- what a round comes to, from its takes and its settling
-use Rattle.std.proofs.Common.{◌≡◌, inl, inr, ℕ, ◌+◌, ◌-◌, ◌<◌, ◌≤◌, true, false, List, [], ◌∷◌, ◌++◌, length, map, drop, count_by, Option, Result, Ok, Err, refl, sym, ap, ◌∙◌, subst, ⊎_elim, arith}
+use Rattle.std.proofs.Common.{◌≡◌, inl, inr, ℕ, ◌+◌, ◌*◌, ◌-◌, ◌<◌, ◌≤◌, true, false, List, [], ◌∷◌, ◌++◌, length, map, drop, count_by, Option, Result, Ok, Err, refl, sym, ap, ◌∙◌, subst, ⊎_elim, arith}
 use Rattle.std.proofs.Math.Seq.{drop-append_seam}
 use Rattle.std.proofs.lemmas.List.{append-nil, length-append, length-map, take-append-le}
 use Rattle.std.specs.List.Sorted.{IsStrictlySortedBy}
@@ -33,7 +33,7 @@ use Rattle.orch_core.specs.Settling as settling
 use Rattle.orch_core.specs.Settling.{IsSettled, listing, mark_at, with_ending}
 use Rattle.orch_core.specs.Standing.{rows_applied}
 use Rattle.orch_core.specs.State.{State, size_of}
-use Rattle.orch_core.specs.Turn.{OnlyLeave, WaitTruly, waiting_keys}
+use Rattle.orch_core.specs.Turn.{BringsNew, OnlyLeave, WaitTruly, waiting_keys}
 use Rattle.orch_core.specs.declared.answer.Settled.{Settled}
 use Rattle.orch_core.specs.declared.answer.Settled.TheVariants as settled
 use Rattle.orch_core.proofs.Ending.{sound-kept}
@@ -46,13 +46,13 @@ use Rattle.swss_report.specs.Round.{Ended, IsRoundText}
 use Rattle.swss_run.specs.Full.{AreApplied, CallIsDue, IsFull, MarkIsDue, good_now, keys_named, places}
 use Rattle.swss_run.specs.Full.IsFull.{AtWrite, AtCall, AtMark}
 use Rattle.swss_run.specs.Rounds.{Ran, is_settling}
-use Rattle.swss_run.specs.Running.{EndsRound, HasLines, IsReady, IsRoundRun, IsWritten, KeepsPlan, StopsRound, round_ended, with_round}
+use Rattle.swss_run.specs.Running.{EndsRound, HasLines, IsReady, IsRoundRun, IsUnused, IsWritten, KeepsPlan, StopsRound, round_ended, with_round}
 use Rattle.swss_run.specs.Running.IsWritten.{Whole, Failed, Wanting, Unwritten}
 use Rattle.swss_run.specs.Taking.{AreServed, IsRoundTook, Took, TookAll}
 use Rattle.swss_run.specs.declared.status.Status.{Status}
 use Rattle.swss_run.specs.declared.status.Status.TheVariants as status
 use Rattle.swss_run.specs.declared.taking.Taken.TheVariants as taken
-use Rattle.swss_run.proofs.Named.{few-among, named-back, named-front, named-sorted}
+use Rattle.swss_run.proofs.Named.{few-among, few-named, named-back, named-front, named-sorted}
 use Rattle.swss_run.proofs.Served.{served-front, served-round}
 use Rattle.swss_run.proofs.Sessions.{same-trans}
 
@@ -179,13 +179,25 @@ module _ (round : Round) (old : State) (sim : Sim) (replay : Replayed) (ready : 
   stops-wanting (counts, (sent, later, gives, took)) = stops-mid sent later gives took
 
   pub full-taking : {H : Type 0} (held : H) → IsRoundTook (length sim.chip.effects) (writes_in round.sections) old taken.LogFull mid
-      → (stops : StopsRound round old sim mid sim) × IsFull mid.plan mid.capacities mid.limit round mid.log sim.chip stops.sent × (mid.limit < places mid.log sim.chip + 2 + length (keys_named mid.log.taken)) × (held ≡ held)
+      → (stops : StopsRound round old sim mid sim) × IsFull mid.plan mid.capacities mid.limit round mid.log sim.chip stops.sent × (mid.limit < places mid.log sim.chip + 2 + length (keys_named mid.log.taken))
+      × (IsUnused old sim → mid.limit < 2 * length stops.sent + 2) × (held ≡ held)
   full-taking held (counts, (sent, next, later, gives, took, full)) =
       let kept = kept-mid sent (next ∷ later) gives took in
       let size = places-are mid sim.chip kept in (
         stops-mid sent (next ∷ later) gives took,
         AtWrite next later gives (omega (arith, full, size)),
         omega (arith, full, size),
+        (λ unused. omega (
+          arith,
+          full,
+          ap length unused.still,
+          ap (λ (s : State). s.listed) took.behind,
+          ap (λ (s : State). s.listed) unused.new,
+          ap (λ (s : State). length s.log.marks) took.behind,
+          ap (λ (s : State). length s.log.marks) unused.new,
+          ap (λ (s : State). length s.log.taken) took.behind,
+          ap (λ (s : State). length (s.log.taken ++ sent)) unused.new,
+        )),
         refl,
       )
 
@@ -224,7 +236,7 @@ module _ (round : Round) (old : State) (sim : Sim) (replay : Replayed) (ready : 
       follows-new = subst (IsReplayOf replay) (sym grown.grown) (replay-grown replay sim.chip.effects grown.calls ready.follows)
 
       -- no mark was made
-      module _ (log : new.log ≡ mid.log) where
+      module _ (log : new.log ≡ mid.log) (listed : new.listed ≡ mid.listed) where
         pub log-stopped : new.log ≡ record old.log { taken = old.log.taken ++ sent }
         log-stopped = log ∙ log-all
 
@@ -252,18 +264,66 @@ module _ (round : Round) (old : State) (sim : Sim) (replay : Replayed) (ready : 
               length-map new.waiting (λ (w : Key × Wait). w.0),
             )
 
-        pub full-settling : {H : Type 0} (held : H) → settling.IsFull new (length sim'.chip.effects)
-            → (stops : StopsRound round old sim new sim') × IsFull new.plan new.capacities new.limit round new.log sim'.chip stops.sent × (new.limit < places new.log sim'.chip + 2 + length (keys_named new.log.taken)) × (held ≡ held)
-        full-settling held (inl (is, full)) = (
+        -- in the first round each key to sync was written in it, and the keys to sync that left have a chip call each
+        module _ (unused : IsUnused old sim) (brings : BringsNew mid (length sim.chip.effects) new (length sim'.chip.effects)) where
+          applied-none : mid.applied ≡ []
+          applied-none = ap (λ (s : State). s.applied) took.took.behind ∙ ap (λ (s : State). s.applied) unused.new
+
+          few-effects : length sim'.chip.effects + length new.to_sync ≤ length mid.to_sync
+          few-effects =
+              omega (
+                arith,
+                (brings (λ k there. ap (λ entries. rows_applied entries k) applied-none)).few,
+                ap length unused.still,
+              )
+
+          few-to_sync : length mid.to_sync ≤ length sent
+          few-to_sync =
+              let to_sync_none : old.to_sync ≡ [] = ap (λ (s : State). s.to_sync) unused.new in
+              let named : (k : Key) → IsIn k mid.to_sync → IsIn k (keys_named sent) = λ k there. ⊎_elim (λ before. absurd (subst (λ ks. IsIn k ks) to_sync_none before)) (λ new_one. new_one) (took.keys k there) in
+              omega (arith, few-among mid.to_sync (keys_named sent) (took.sorted ready.sorted) (named-sorted sent) named, few-named sent)
+
+          size-new : size_of new (length sim'.chip.effects) ≡ length sim'.chip.effects + length sent
+          size-new =
+              omega (
+                arith,
+                listed,
+                ap (λ (s : State). s.listed) took.took.behind,
+                ap (λ (s : State). s.listed) unused.new,
+                ap (λ (h : History). length h.marks) log-stopped,
+                ap (λ (s : State). length s.log.marks) unused.new,
+                ap (λ (h : History). length h.taken) log-stopped,
+                ap (λ (s : State). length (s.log.taken ++ sent)) unused.new,
+              )
+
+          pub full-first : settling.IsFull new (length sim'.chip.effects) → new.limit < 2 * length sent + 2
+          full-first (inl (is, full)) = omega (arith, full, size-new, few-effects, few-to_sync)
+          full-first (inr (is, full)) =
+              omega (
+                arith,
+                full,
+                size-new,
+                few-effects,
+                few-to_sync,
+                ap length (is.rest ∙ append-nil (waiting_keys new.waiting)),
+                length-map new.waiting (λ (w : Key × Wait). w.0),
+              )
+
+        pub full-settling : {H : Type 0} (held : H) → settling.IsFull new (length sim'.chip.effects) → BringsNew mid (length sim.chip.effects) new (length sim'.chip.effects)
+            → (stops : StopsRound round old sim new sim') × IsFull new.plan new.capacities new.limit round new.log sim'.chip stops.sent × (new.limit < places new.log sim'.chip + 2 + length (keys_named new.log.taken))
+            × (IsUnused old sim → new.limit < 2 * length stops.sent + 2) × (held ≡ held)
+        full-settling held (inl (is, full)) brings = (
           stops-new,
           AtCall (sym (gives)) (call-due new sim'.chip kept known-stopped is) (omega (arith, full, places-are new sim'.chip kept)),
           omega (arith, full, places-are new sim'.chip kept),
+          (λ unused. full-first unused brings (inl (is, full))),
           refl,
         )
-        full-settling held (inr (is, full)) = (
+        full-settling held (inr (is, full)) brings = (
           stops-new,
           AtMark (listing new) (sym (gives)) (mark-due new sim'.chip kept known-stopped is) (omega (arith, full, places-are new sim'.chip kept, length-map {B = Key × Wait × Option Row} new.waiting (λ (w : Key × Wait). (w.0, w.1, rows_applied new.applied w.0)))),
           omega (arith, full, places-are new sim'.chip kept, few-waiting is),
+          (λ unused. full-first unused brings (inr (is, full))),
           refl,
         )
 
@@ -366,15 +426,15 @@ module _ (round : Round) (old : State) (sim : Sim) (replay : Replayed) (ready : 
       pub marks-fit : (r : Result Settled OutOfMemory) → IsSettled mid sim.chip r new sim'.chip → length old.log.marks ≤ length new.log.marks
       marks-fit (Ok settled.Settled) e = before-fits (event.Settled (listing new) e.turns) refl e.log (fits-settled mid new sim.chip sim'.chip kept e)
       marks-fit (Ok settled.Faulted) e = before-fits (event.Faulted sim.chip.faults sim'.chip.faults) refl e.log (fits-faulted mid new sim.chip sim'.chip kept same e)
-      marks-fit (Ok settled.LogFull) e = omega (arith, ap (λ (h : History). length h.marks) (log-stopped e.0.log))
-      marks-fit (Err wanting) e = omega (arith, ap (λ (h : History). length h.marks) (log-stopped e.log))
+      marks-fit (Ok settled.LogFull) e = omega (arith, ap (λ (h : History). length h.marks) (log-stopped e.0.log e.0.listed))
+      marks-fit (Err wanting) e = omega (arith, ap (λ (h : History). length h.marks) (log-stopped e.log e.listed))
 
       pub run-stopped : (r : Result Settled OutOfMemory) (ended : Status) → round_ended r ≡ Err ended → IsSettled mid sim.chip r new sim'.chip → (number : ℕ) (held : Option (List ℕ)) (faults : ℕ) (replay' : Replayed) → IsRoundRun number round old sim held faults ended new sim' replay' held faults
       run-stopped (Ok settled.Settled) ended is e number held faults replay' = cc
       run-stopped (Ok settled.Faulted) ended is e number held faults replay' = cc
       run-stopped (Ok settled.LogFull) ended is e number held faults replay' =
           let same_end : status.LogFull ≡ ended = cc in
-          subst (λ x. IsRoundRun number round old sim held faults x new sim' replay' held faults) same_end (full-settling e.0.log held e.1)
+          subst (λ x. IsRoundRun number round old sim held faults x new sim' replay' held faults) same_end (full-settling e.0.log e.0.listed held e.1 e.2)
       run-stopped (Err wanting) ended is e number held faults replay' =
           let same_end : status.OutOfMemory ≡ ended = cc in
-          subst (λ x. IsRoundRun number round old sim held faults x new sim' replay' held faults) same_end (inl (stops-new e.log, refl))
+          subst (λ x. IsRoundRun number round old sim held faults x new sim' replay' held faults) same_end (inl (stops-new e.log e.listed, refl))

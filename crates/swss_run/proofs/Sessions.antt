@@ -1,5 +1,5 @@
 -- what a session comes to, round by round
-use Rattle.std.proofs.Common.{◌≡◌, inl, inr, ℕ, ◌+◌, ◌<◌, ◌≤◌, List, [], ◌∷◌, ◌++◌, length, take, drop, slice_get, Option, Some, None, refl, sym, ap, ◌∙◌, subst, arith}
+use Rattle.std.proofs.Common.{◌≡◌, inl, inr, ℕ, ◌+◌, ◌*◌, ◌<◌, ◌≤◌, List, [], ◌∷◌, ◌++◌, length, take, drop, slice_get, Option, Some, None, refl, sym, ap, ◌∙◌, subst, arith}
 use Rattle.std.proofs.Math.Seq.{drop-append_seam, take-add, take-append_seam, take-length}
 use Rattle.std.specs.List.Sorted.{IsStrictlySortedBy}
 use Rattle.table_schema.specs.Key.{key_cmp}
@@ -23,7 +23,7 @@ use Rattle.swss_report.specs.Round.{IsRoundText}
 use Rattle.swss_run.specs.Full.{IsFull, keys_named, places}
 use Rattle.swss_run.specs.Output.{TakesFront}
 use Rattle.swss_run.specs.Rounds.{AreTaken, EndsAtMark, IsCut, IsReport, Ran, all_calls, all_marks, all_sent, ends_from, standing}
-use Rattle.swss_run.specs.Running.{EndsRound, HasLines, IsReady, IsRoundRun, KeepsPlan, StopsRound}
+use Rattle.swss_run.specs.Running.{EndsRound, HasLines, IsReady, IsRoundRun, IsUnused, KeepsPlan, StopsRound}
 use Rattle.swss_run.specs.Session.{HasEnded, IsReported, IsSession, TookFront, TookReport, log_limit}
 use Rattle.swss_run.specs.declared.status.Status.{Status}
 use Rattle.swss_run.specs.declared.status.Status.TheVariants as status
@@ -100,6 +100,11 @@ pub record IsRunning (rounds done : List Round) (first : State) (held0 : Option 
   pub writes : AreTaken rans rounds []
   pub told : TookReport first.plan rans rounds held0 held
   pub fits : places core.log sim.chip ≤ log_limit
+  pub unused : rans ≡ [] → IsUnused core sim
+
+not_none : (rans : List Ran) (ran : Ran) → rans ++ ran ∷ [] ≡ [] → ⊥
+not_none [] ran is = cc
+not_none (r ∷ rans) ran is = cc
 
 none_taken : (rounds : List Round) → AreTaken [] rounds []
 none_taken [] = refl
@@ -137,6 +142,7 @@ running-none rounds first sim held replay new chip kept follows at = record {
   writes = none_taken rounds;
   told = record { text = []; report = refl; took = Takes-none held };
   fits = subst (λ n. n ≤ log_limit) (sym (ap (λ (s : State). places s.log sim.chip) new ∙ ap (λ (c : ChipState). places Rattle.switch_model.specs.History.no_history c) chip)) (omega arith);
+  unused = λ none. record { new = subst (λ n. first ≡ new_state first.plan first.capacities n) (sym (ap (λ (s : State). s.limit) new)) new; still = ap (λ (c : ChipState). c.effects) chip };
 }
 
 -- a session, from a core that keeps its promises
@@ -223,6 +229,7 @@ module _ (rounds done : List Round) (first : State) (held0 : Option (List ℕ)) 
       writes = taken_now ran ends;
       told = told_now ran ends lines has took;
       fits = fits_now ran ends;
+      unused = λ none. absurd (not_none rans ran none);
     }
 
     -- a front of what was told before
@@ -254,13 +261,14 @@ module _ (rounds done : List Round) (first : State) (held0 : Option (List ℕ)) 
         session_now ran ends status.ChipFault (has_ended ran ends, failed, rose, told_now ran ends lines has took)
     session-ended status.WriteFault other (ran, lines, ends, has, took, rose) =
         session_now ran ends status.WriteFault (has_ended ran ends, front_now ran ends lines has took)
-    session-ended status.LogFull other (stops, full, many, same) =
+    session-ended status.LogFull other (stops, full, many, first_round, same) =
         session_stopped stops status.LogFull (
           record {
             round = round;
             next = at_round;
             full = full_here stops full;
             many = subst (λ n. n < places new.log sim'.chip + 2 + length (keys_named new.log.taken)) ((same_stopped stops).limit ∙ running.limit) many;
+            first = λ none. subst (λ n. n < 2 * length stops.sent + 2) ((same_stopped stops).limit ∙ running.limit) (first_round (running.unused none));
           },
           record { text = running.told.text; report = running.told.report; took = subst (λ h. Takes held0 running.told.text h) (sym same) running.told.took },
         )

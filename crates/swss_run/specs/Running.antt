@@ -1,5 +1,5 @@
 -- What running a round comes to. Own.
-use Rattle.std.specs.Prelude.{◌≡◌, ◌⊎◌, ℕ, ◌+◌, ◌<◌, ◌≤◌, true, false, List, [], ◌∷◌, ◌++◌, length, Option, Result, Ok, Err}
+use Rattle.std.specs.Prelude.{◌≡◌, ◌⊎◌, ℕ, ◌+◌, ◌*◌, ◌<◌, ◌≤◌, true, false, List, [], ◌∷◌, ◌++◌, length, Option, Result, Ok, Err}
 use Rattle.std.specs.List.Sorted.{IsStrictlySortedBy}
 use Rattle.swss_types.specs.Outside.{HasRisen, Takes}
 use Rattle.table_schema.specs.Key.{key_cmp}
@@ -14,7 +14,7 @@ use Rattle.switch_model.specs.History.{History}
 use Rattle.switch_model.specs.Sound.{is_suspect}
 use Rattle.switch_model.specs.declared.mark.Mark.{Mark}
 use Rattle.orch_core.specs.Keeps.{IsKept}
-use Rattle.orch_core.specs.State.{State}
+use Rattle.orch_core.specs.State.{State, new_state}
 use Rattle.orch_core.specs.declared.answer.Settled.{Settled}
 use Rattle.orch_core.specs.declared.answer.Settled.TheVariants as settled
 use Rattle.swss_types.specs.declared.out_of_memory.OutOfMemory.{OutOfMemory}
@@ -36,6 +36,11 @@ pub record IsReady (core : State) (sim : Sim) (replay : Replayed) : Type 0 where
   pub at_end : replay.at ≡ length sim.chip.effects
   pub keys : (key : Key) → IsIn key core.to_sync → IsIn key (keys_named core.log.taken)
   pub sorted : IsStrictlySortedBy key_cmp core.to_sync
+
+-- a new core and a chip without effects, as they stand before the first round
+pub record IsUnused (core : State) (sim : Sim) : Type 0 where
+  pub new : core ≡ new_state core.plan core.capacities core.limit
+  pub still : sim.chip.effects ≡ []
 
 -- the plan, the room and the places of the log stay
 pub record KeepsPlan (old new : State) : Type 0 where
@@ -105,7 +110,8 @@ IsRoundRun number round old sim held faults status.ChipFault new sim' replay hel
 IsRoundRun number round old sim held faults status.WriteFault new sim' replay held' faults' =
     (ran : Ran) × (lines : List ℕ) × EndsRound round old sim ran new sim' × HasLines number round old sim ran lines × TakesFront held lines held' × HasRisen faults faults'
 IsRoundRun number round old sim held faults status.LogFull new sim' replay held' faults' =
-    (stops : StopsRound round old sim new sim') × IsFull new.plan new.capacities new.limit round new.log sim'.chip stops.sent × (new.limit < places new.log sim'.chip + 2 + length (keys_named new.log.taken)) × (held' ≡ held)
+    (stops : StopsRound round old sim new sim') × IsFull new.plan new.capacities new.limit round new.log sim'.chip stops.sent × (new.limit < places new.log sim'.chip + 2 + length (keys_named new.log.taken))
+    × (IsUnused old sim → new.limit < 2 * length stops.sent + 2) × (held' ≡ held)
 IsRoundRun number round old sim held faults status.OutOfMemory new sim' replay held' faults' =
     (StopsRound round old sim new sim' × (held' ≡ held)) ⊎ ((ran : Ran) × EndsRound round old sim ran new sim' × TakesSome number round old sim ran held held')
 IsRoundRun number round old sim held faults _ new sim' replay held' faults' = ⊥

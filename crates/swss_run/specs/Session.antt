@@ -1,5 +1,5 @@
 -- What a session comes to: the writes taken, the marks, the chip and the report. Own.
-use Rattle.std.specs.Prelude.{◌≡◌, ◌⊎◌, ℕ, ◌+◌, ◌<◌, ◌≤◌, true, false, List, [], ◌++◌, length, slice_get, Option, Some, None}
+use Rattle.std.specs.Prelude.{◌≡◌, ◌⊎◌, ℕ, ◌+◌, ◌*◌, ◌<◌, ◌≤◌, true, false, List, [], ◌++◌, length, slice_get, Option, Some, None}
 use Rattle.swss_types.specs.Outside.{Takes}
 use Rattle.table_schema.specs.Plan.{Ports}
 use Rattle.table_schema.specs.declared.write.Sent.{Sent}
@@ -10,6 +10,7 @@ use Rattle.sai_chip.specs.Sim.{Sim}
 use Rattle.switch_model.specs.History.{History, no_history}
 use Rattle.switch_model.specs.Promises.{EffectsAreLegal, MarksAreTrue}
 use Rattle.switch_model.specs.Sound.{is_suspect}
+use Rattle.swss_script.specs.Plain.{has_batch}
 use Rattle.swss_script.specs.declared.parts.Round.{Round}
 use Rattle.swss_script.specs.declared.script.Script.{Script}
 use Rattle.swss_run.specs.Full.{IsFull, keys_named, places}
@@ -37,12 +38,13 @@ pub record TookFront (plan : Ports) (rans : List Ran) (rounds : List Round) (hel
   pub report : IsReport plan rans rounds text
   pub took : TakesFront held text held'
 
--- the log is full: an event of the round that did not end needs more places than are left; and so the places, 2 more and one for each key that was written are more than the log has
+-- the log is full: an event of the round that did not end needs more places than are left; and so the places, 2 more and one for each key that was written are more than the log has; in the first round each key that was written has a chip call or waits, so twice the writes and 2 more are
 pub record HasNoPlace (plan : Ports) (capacities : List ℕ) (rounds : List Round) (rans : List Ran) (sent : List Sent) (log : History) (chip : ChipState) : Type 0 where
   pub round : Round
   pub next : slice_get rounds (length rans) ≡ Some round
   pub full : IsFull plan capacities log_limit round log chip sent
   pub many : log_limit < places log chip + 2 + length (keys_named log.taken)
+  pub first : rans ≡ [] → log_limit < 2 * length sent + 2
 
 -- the last round ended at its mark, and each event found its places
 pub record HasEnded (sent : List Sent) (calls : List (Call Rid)) (log : History) (chip : ChipState) : Type 0 where
@@ -86,11 +88,12 @@ IsRunBy script ended log (Some sim) held held' = IsSession script.plan script.ca
 abbrev pub IsRun : Script → Outcome → Option (List ℕ) → Option (List ℕ) → Type 0
 IsRun script outcome held held' = IsRunBy script outcome.status outcome.log outcome.chip held held'
 
--- a run of the script that the source gave
+-- a run of the script that the source gave; one round of lines that are no batches can't fill the log
 pub record RanScript (outcome : Outcome) (left left' held held' : Option (List ℕ)) : Type 0 where
   pub script : Script
   pub read : WasRead left script left'
   pub run : IsRun script outcome held held'
+  pub one_round : length script.rounds ≡ 1 → has_batch read.bytes ≡ false → ¬ (outcome.status ≡ status.LogFull)
 
 -- what a run tells of its session: where the words, the script or the source ended it there was none; where memory was refused there was none, or one over the script that the source gave; else there was one
 abbrev pub TellsOfSession : Status → Outcome → Option (List ℕ) → Option (List ℕ) → Option (List ℕ) → Option (List ℕ) → Type 0
