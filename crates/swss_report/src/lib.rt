@@ -16,4 +16,4 @@ mod tests;
 mod ways;
 
 pub use chip_line::write_chip_line;
-pub use round::round_lines;
+pub use round::{RoundEnd, round_lines};

@@ -17,21 +17,39 @@ use swss_script::Show;
 use swss_types::OutOfMemory;
 use table_schema::PortPlan;
 
-/// The lines of a round that has ended, with this number: those of its marks, and then of its shows. `rows` are those of
-/// the writes taken so far, and `replay` stands where the round before ended: it follows the chip to its last effect.
+/// A round that has ended, as its lines tell of it.
+#[derive(Clone, Copy, Debug, Drop)]
+pub struct RoundEnd<'a> {
+    /// The port plan.
+    pub plan: &'a PortPlan,
+    /// The number of the round, from 1.
+    pub number: u64,
+    /// The marks that were made in it.
+    pub marks: &'a [Mark],
+    /// The rows of the writes taken so far.
+    pub rows: &'a Rows,
+    /// What is shown.
+    pub shows: &'a [Show],
+}
+
+/// The lines of a round that has ended: those of its marks, and then of its shows. `replay` stands where the round before
+/// ended: it follows the chip to its last effect.
 pub fn round_lines(
     alloc: Global,
-    plan: &PortPlan,
-    number: u64,
-    marks: &[Mark],
-    shows: &[Show],
-    rows: &Rows,
+    end: &RoundEnd<'_>,
     chip: &SimChip,
     replay: &mut Replay,
 ) -> Result<Vec<u8>, OutOfMemory>
-    ensures text { IfOk result (λ lines. IsReplayOf replay.old chip.now.chip.effects → IsRoundText (record { plan = plan.now; number = number; marks = marks.now; rows = rows.now; objects = chip.now.chip.objects; effects = chip.now.chip.effects; before = replay.old.at }) shows.now lines.items) }
+    ensures text { IfOk result (λ lines. IsReplayOf replay.old chip.now.chip.effects → IsRoundText (record { plan = end.now.plan.now; number = end.now.number; marks = end.now.marks.now; rows = end.now.rows.now; objects = chip.now.chip.objects; effects = chip.now.chip.effects; before = replay.old.at }) end.now.shows.now lines.items) }
     ensures replay { IfOk result (λ lines. IsReplayOf replay.old chip.now.chip.effects → IsReplayOf replay.new chip.now.chip.effects × (replay.new.at ≡ length chip.now.chip.effects)) }
 {
+    let RoundEnd {
+        plan,
+        number,
+        marks,
+        rows,
+        shows,
+    } = *end;
     let calls = lines_of_calls(alloc, plan, shows, chip, replay)?;
     let mut lines = Vec::new(alloc);
     write_marks(&mut lines, number, marks)?;

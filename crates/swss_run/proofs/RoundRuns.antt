@@ -115,7 +115,7 @@ replay-grown r effects more follows = record {
 -- ---- the lines
 
 -- what stands at the end of a round, said in other words
-pub text-as : (shows : List Show) (lines : List ℕ) (p p' : Ports) (n n' : ℕ) (ms ms' : List Mark) (r r' : Rows) (o o' : Objects) (e e' : List (Call Rid)) (b b' : ℕ)
+text-as : (shows : List Show) (lines : List ℕ) (p p' : Ports) (n n' : ℕ) (ms ms' : List Mark) (r r' : Rows) (o o' : Objects) (e e' : List (Call Rid)) (b b' : ℕ)
     → p ≡ p' → n ≡ n' → ms ≡ ms' → r ≡ r' → o ≡ o' → e ≡ e' → b ≡ b'
     → IsRoundText (record { plan = p; number = n; marks = ms; rows = r; objects = o; effects = e; before = b }) shows lines
     → IsRoundText (record { plan = p'; number = n'; marks = ms'; rows = r'; objects = o'; effects = e'; before = b' }) shows lines
@@ -359,9 +359,6 @@ module _ (round : Round) (old : State) (sim : Sim) (replay : Replayed) (ready : 
         pub suspect-is : is_suspect new.log.marks ≡ Rattle.switch_model.specs.Sound.is_fault e
         suspect-is = ap (λ (h : History). is_suspect h.marks) log-marked ∙ suspect-more old.log.marks mark
 
-        pub before-fits : length old.log.marks ≤ length new.log.marks
-        before-fits = omega (arith, ap (λ (h : History). length h.marks) log-marked, length-append old.log.marks (mark ∷ []))
-
         pub has-lines : (number : ℕ) (lines : List ℕ) → 0 < number → IsRoundText (ended_now number) round.shows lines → HasLines number round old sim ran lines
         has-lines number lines counted text = record {
           before = number - 1;
@@ -422,12 +419,6 @@ module _ (round : Round) (old : State) (sim : Sim) (replay : Replayed) (ready : 
           (subst (λ x. IsWritten (ended_now number) round.shows x held faults result replay' held' faults') same_end written)
       run-marked (Ok settled.LogFull) ended is e number held held' faults faults' result replay' counted written = cc
       run-marked (Err wanting) ended is e number held held' faults faults' result replay' counted written = cc
-
-      pub marks-fit : (r : Result Settled OutOfMemory) → IsSettled mid sim.chip r new sim'.chip → length old.log.marks ≤ length new.log.marks
-      marks-fit (Ok settled.Settled) e = before-fits (event.Settled (listing new) e.turns) refl e.log (fits-settled mid new sim.chip sim'.chip kept e)
-      marks-fit (Ok settled.Faulted) e = before-fits (event.Faulted sim.chip.faults sim'.chip.faults) refl e.log (fits-faulted mid new sim.chip sim'.chip kept same e)
-      marks-fit (Ok settled.LogFull) e = omega (arith, ap (λ (h : History). length h.marks) (log-stopped e.0.log e.0.listed))
-      marks-fit (Err wanting) e = omega (arith, ap (λ (h : History). length h.marks) (log-stopped e.log e.listed))
 
       pub run-stopped : (r : Result Settled OutOfMemory) (ended : Status) → round_ended r ≡ Err ended → IsSettled mid sim.chip r new sim'.chip → (number : ℕ) (held : Option (List ℕ)) (faults : ℕ) (replay' : Replayed) → IsRoundRun number round old sim held faults ended new sim' replay' held faults
       run-stopped (Ok settled.Settled) ended is e number held faults replay' = cc

@@ -1,5 +1,5 @@
 // A session: each round of a script is taken and settled, and its lines are written.
-ghost use Rattle.std.specs.Prelude.{◌≡◌, ◌<◌, ◌≤◌, true, false, [], ◌∷◌, drop, length};
+ghost use Rattle.std.specs.Prelude.{◌≡◌, ◌<◌, ◌≤◌, true, false, [], ◌∷◌};
 ghost use Rattle.swss_types.specs.Outside.{HasRisen};
 ghost use Rattle.sai_types.specs.ChipState.{new_chip};
 ghost use Rattle.orch_core.specs.Keeps.{IsKept};
@@ -18,8 +18,8 @@ use orch_core::{Core, Settled};
 use sai_chip::{Replay, SimChip};
 use sai_types::Chip;
 use std::alloc::Global;
-use swss_report::round_lines;
-use swss_script::{Round, RoundList, Show};
+use swss_report::{RoundEnd, round_lines};
+use swss_script::{Round, RoundList};
 use swss_types::{OutOfMemory, Sink};
 
 /// Runs rounds one after the other on a new core and a new chip, until all have ended or one can't go on.
@@ -75,17 +75,16 @@ fn run_round<K: Sink>(
     }
     let settled = core.settle(chip);
     match round_ended(settled) {
-        Ok(ended) => write_lines(
-            alloc,
-            core,
-            chip,
-            replay,
-            number,
-            before,
-            shows.items(),
-            ended,
-            sink,
-        ),
+        Ok(ended) => {
+            let end = RoundEnd {
+                plan: core.plan(),
+                number,
+                marks: &core.log().marks()[before..],
+                rows: core.rows(),
+                shows: shows.items(),
+            };
+            write_lines(alloc, &end, chip, replay, ended, sink)
+        }
         Err(status) => status,
     }
 }
@@ -102,34 +101,20 @@ fn round_ended(settled: Result<Settled, OutOfMemory>) -> Result<Status, Status>
     }
 }
 
-/// Writes the lines of a round that ended so, whose marks stand behind so many.
+/// Writes the lines of a round that ended with this status.
 fn write_lines<K: Sink>(
     alloc: Global,
-    core: &Core,
+    end: &RoundEnd<'_>,
     chip: &SimChip,
     replay: &mut Replay,
-    number: u64,
-    before: usize,
-    shows: &[Show],
     ended: Status,
     sink: &mut K,
 ) -> Status
-    requires marks { before ≤ length core.now.log.marks }
     requires follows { IsReplayOf replay.old chip.now.chip.effects }
     ensures counts { K.faults sink.old ≤ K.faults sink.new }
-    ensures written { IsWritten (record { plan = core.now.plan; number = number; marks = drop before core.now.log.marks; rows = core.now.rows; objects = chip.now.chip.objects; effects = chip.now.chip.effects; before = replay.old.at }) shows.now ended (K.holds sink.old) (K.faults sink.old) result replay.new (K.holds sink.new) (K.faults sink.new) }
+    ensures written { IsWritten (record { plan = end.now.plan.now; number = end.now.number; marks = end.now.marks.now; rows = end.now.rows.now; objects = chip.now.chip.objects; effects = chip.now.chip.effects; before = replay.old.at }) end.now.shows.now ended (K.holds sink.old) (K.faults sink.old) result replay.new (K.holds sink.new) (K.faults sink.new) }
 {
-    let marks = &core.log().marks()[before..];
-    match round_lines(
-        alloc,
-        core.plan(),
-        number,
-        marks,
-        shows,
-        core.rows(),
-        chip,
-        replay,
-    ) {
+    match round_lines(alloc, end, chip, replay) {
         Ok(lines) => match write_all(sink, &lines) {
             Output::Written => ended,
             Output::Failed => Status::WriteFault,

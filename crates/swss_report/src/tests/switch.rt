@@ -1,5 +1,5 @@
 // A switch whose rounds are reported.
-use crate::round_lines;
+use crate::{RoundEnd, round_lines};
 use row_store::Rows;
 use sai_chip::{Replay, SimChip};
 use sai_types::{Body, Call, Caps, Chip, ChipAnswer, Rid};
@@ -107,16 +107,14 @@ impl Switch {
 
     /// An Err where the round ends now and prints other lines than these.
     pub fn expect(&mut self, number: u64, shows: &[Show], wanted: &[u8]) -> Result<(), Fail> {
-        let lines = round_lines(
-            self.alloc,
-            &self.plan,
+        let end = RoundEnd {
+            plan: &self.plan,
             number,
-            self.marks.as_slice(),
+            marks: self.marks.as_slice(),
+            rows: &self.rows,
             shows,
-            &self.rows,
-            &self.chip,
-            &mut self.replay,
-        )?;
+        };
+        let lines = round_lines(self.alloc, &end, &self.chip, &mut self.replay)?;
         self.marks = Vec::new(self.alloc);
         if lines.as_slice() == wanted {
             Ok(())

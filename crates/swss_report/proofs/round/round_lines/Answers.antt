@@ -8,10 +8,10 @@ use Rattle.swss_report.proofs.round.round_lines.Goals as goal
 pub returns-clause-text : goal.returns-clause-text
 returns-clause-text c = λ is.
     let shown = c.in_ok-write_shows.ensures in
-    let view : View = record { plan = c.args.plan.now; rows = c.args.rows.now; objects = c.args.chip.now.chip.objects; calls = c.as_slice.result.now } in
-    let marks = c.in_ok-write_marks.ensures ∙ ap (λ l. l ++ marks_text c.args.number c.args.marks.now) c.new-lines.ensures.items in
+    let view : View = record { plan = c.args.end.now.plan.now; rows = c.args.end.now.rows.now; objects = c.args.chip.now.chip.objects; calls = c.as_slice.result.now } in
+    let marks = c.in_ok-write_marks.ensures ∙ ap (λ l. l ++ marks_text c.args.end.now.number c.args.end.now.marks.now) c.new-lines.ensures.items in
     record {
       shown = shown.0;
-      prints = round_shown view (calls_text c.args.plan.now c.args.replay.now.at c.args.chip.now.chip.effects) c.args.shows.now shown.0 (λ any. c.as_slice.ensures.value ∙ c.in_ok-calls.ensures.lines is any) shown.2;
+      prints = round_shown view (calls_text c.args.end.now.plan.now c.args.replay.now.at c.args.chip.now.chip.effects) c.args.end.now.shows.now shown.0 (λ any. c.as_slice.ensures.value ∙ c.in_ok-calls.ensures.lines is any) shown.2;
       is = shown.1 ∙ ap (λ l. l ++ shown.0) marks;
     }

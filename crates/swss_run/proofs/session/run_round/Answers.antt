@@ -1,4 +1,5 @@
-use Rattle.std.proofs.Common.{rules, ◌≡◌, ◌∙◌, ◌≤◌, inl, ℕ, List, drop, length, Option, Result, refl, sym, subst}
+use Rattle.std.proofs.Common.{rules, ◌≡◌, ◌∙◌, ◌-◌, inl, ℕ, List, drop, take, length, Option, Result, refl, sym, ap, subst}
+use Rattle.std.proofs.lemmas.List.{take_rest}
 use Rattle.swss_types.specs.declared.out_of_memory.OutOfMemory.{OutOfMemory}
 use Rattle.table_schema.specs.declared.write.Write.{Write}
 use Rattle.table_schema.specs.Plan.{Ports}
@@ -18,7 +19,7 @@ use Rattle.orch_core.specs.declared.answer.Settled.{Settled}
 use Rattle.swss_script.specs.Sent.{writes_in}
 use Rattle.swss_run.specs.Taking.{IsRoundTook}
 use Rattle.swss_run.specs.declared.taking.Taken.{Taken}
-use Rattle.swss_run.proofs.RoundRuns.{follows-new, full-taking, kept-all, marks-fit, run-marked, run-stopped, stops-wanting}
+use Rattle.swss_run.proofs.RoundRuns.{follows-new, full-taking, kept-all, run-marked, run-stopped, stops-wanting}
 use Rattle.swss_run.proofs.session.run_round.Goals as goal
 
 took_as : (n m : ℕ) (writes : List (ℕ × Write)) (old mid : State) {r t : Taken} → n ≡ m → r ≡ t → IsRoundTook n writes old r mid → IsRoundTook m writes old t mid
@@ -45,16 +46,10 @@ settle-settled-requires-clause-kept g c =
     let t = took_as c.effects.result (length c.args.chip.now.chip.effects) (writes_in c.args.round.sections) c.args.core.now c.take_round.new.core c.effects.ensures c.in-All.is c.take_round.ensures in
     kept-all c.args.round c.args.core.now c.args.chip.now c.args.replay.now c.requires.ready c.requires.built c.take_round.new.core t.0 t.1.0 t.1.1 t.1.2
 
-pub write_lines-requires-clause-marks : goal.write_lines-requires-clause-marks
-write_lines-requires-clause-marks g c =
+pub write_lines-requires : goal.write_lines-requires
+write_lines-requires g c =
     let t = (took_as c.effects.result (length c.args.chip.now.chip.effects) (writes_in c.args.round.sections) c.args.core.now c.take_round.new.core c.effects.ensures c.in-All.is c.take_round.ensures) in
-    let marks : c.marks-before.result.now ≡ c.args.core.now.log.marks = search rules in
-    subst (λ l. length l ≤ length c.settle-settled.new.self.log.marks) (sym marks) (marks-fit c.args.round c.args.core.now c.args.chip.now c.args.replay.now c.requires.ready c.requires.built c.take_round.new.core t.0 t.1.0 t.1.1 t.1.2 c.settle-settled.new.self c.settle-settled.new.chip c.settle-settled.ensures.kept c.settle-settled.ensures.same c.settle-settled.ensures.sync c.settle-settled.ensures.grown c.settle-settled.result c.settle-settled.ensures.ended)
-
-pub write_lines-requires-clause-follows : goal.write_lines-requires-clause-follows
-write_lines-requires-clause-follows g c =
-    let t = (took_as c.effects.result (length c.args.chip.now.chip.effects) (writes_in c.args.round.sections) c.args.core.now c.take_round.new.core c.effects.ensures c.in-All.is c.take_round.ensures) in
-    follows-new c.args.round c.args.core.now c.args.chip.now c.args.replay.now c.requires.ready c.requires.built c.take_round.new.core t.0 t.1.0 t.1.1 t.1.2 c.settle-settled.new.self c.settle-settled.new.chip c.settle-settled.ensures.kept c.settle-settled.ensures.same c.settle-settled.ensures.sync c.settle-settled.ensures.grown
+    record { follows = follows-new c.args.round c.args.core.now c.args.chip.now c.args.replay.now c.requires.ready c.requires.built c.take_round.new.core t.0 t.1.0 t.1.1 t.1.2 c.settle-settled.new.self c.settle-settled.new.chip c.settle-settled.ensures.kept c.settle-settled.ensures.same c.settle-settled.ensures.sync c.settle-settled.ensures.grown }
 
 pub returns-clause-run : goal.returns-clause-run
 returns-clause-run g c =
@@ -62,17 +57,27 @@ returns-clause-run g c =
     run-stopped c.args.round c.args.core.now c.args.chip.now c.args.replay.now c.requires.ready c.requires.built c.take_round.new.core t.0 t.1.0 t.1.1 t.1.2 c.settle-settled.new.self c.settle-settled.new.chip c.settle-settled.ensures.kept c.settle-settled.ensures.same c.settle-settled.ensures.sync c.settle-settled.ensures.grown c.settle-settled.result c.in-Err.status (sym c.round_ended.ensures ∙ c.in-Err.is) c.settle-settled.ensures.ended c.args.number (g.K.Sink.holds c.args.sink.now) (g.K.Sink.faults c.args.sink.now) c.args.replay.now
 
 -- the lines that were asked for, said in other words
-written_as : (p : Ports) (n : ℕ) (before before' : List Mark) (ms : List Mark) (r : Rows) (o : Objects) (e : List (Call Rid)) (b : ℕ) (shows shows' : List Show) (ended : Status) (held : Option (List ℕ)) (faults : ℕ) (result : Status) (replay : Replayed) (held' : Option (List ℕ)) (faults' : ℕ)
-    → before ≡ before' → shows ≡ shows'
-    → IsWritten (record { plan = p; number = n; marks = drop (length before) ms; rows = r; objects = o; effects = e; before = b }) shows ended held faults result replay held' faults'
-    → IsWritten (record { plan = p; number = n; marks = drop (length before') ms; rows = r; objects = o; effects = e; before = b }) shows' ended held faults result replay held' faults'
-written_as p n before before' ms r o e b shows shows' ended held faults result replay held' faults' is same written =
-    subst (λ l. IsWritten (record { plan = p; number = n; marks = drop (length l) ms; rows = r; objects = o; effects = e; before = b }) shows' ended held faults result replay held' faults') is
-    (subst (λ x. IsWritten (record { plan = p; number = n; marks = drop (length before) ms; rows = r; objects = o; effects = e; before = b }) x ended held faults result replay held' faults') same written)
+written_as : (p p' : Ports) (n : ℕ) (ms ms' : List Mark) (r r' : Rows) (o : Objects) (e : List (Call Rid)) (b : ℕ) (shows shows' : List Show) (ended : Status) (held : Option (List ℕ)) (faults : ℕ) (result : Status) (replay : Replayed) (held' : Option (List ℕ)) (faults' : ℕ)
+    → p ≡ p' → ms ≡ ms' → r ≡ r' → shows ≡ shows'
+    → IsWritten (record { plan = p; number = n; marks = ms; rows = r; objects = o; effects = e; before = b }) shows ended held faults result replay held' faults'
+    → IsWritten (record { plan = p'; number = n; marks = ms'; rows = r'; objects = o; effects = e; before = b }) shows' ended held faults result replay held' faults'
+written_as p p' n ms ms' r r' o e b shows shows' ended held faults result replay held' faults' plans marks rows same written =
+    subst (λ x. IsWritten (record { plan = x; number = n; marks = ms'; rows = r'; objects = o; effects = e; before = b }) shows' ended held faults result replay held' faults') plans
+    (subst (λ x. IsWritten (record { plan = p; number = n; marks = x; rows = r'; objects = o; effects = e; before = b }) shows' ended held faults result replay held' faults') marks
+    (subst (λ x. IsWritten (record { plan = p; number = n; marks = ms; rows = x; objects = o; effects = e; before = b }) shows' ended held faults result replay held' faults') rows
+    (subst (λ x. IsWritten (record { plan = p; number = n; marks = ms; rows = r; objects = o; effects = e; before = b }) x ended held faults result replay held' faults') same written)))
+
+-- the marks behind so many, as a slice has them
+marks_behind : (before before' : List Mark) (n : ℕ) (ms ms' : List Mark) → n ≡ length before → before ≡ before' → ms ≡ ms' → take (length ms - n) (drop n ms) ≡ drop (length before') ms'
+marks_behind before before' n ms ms' at same is =
+    take_rest ms n ∙ ap (λ k. drop k ms) (at ∙ ap length same) ∙ ap (λ l. drop (length before') l) is
 
 pub returns-in-Ok-clause-run : goal.returns-in-Ok-clause-run
 returns-in-Ok-clause-run g c =
     let t = (took_as c.effects.result (length c.args.chip.now.chip.effects) (writes_in c.args.round.sections) c.args.core.now c.take_round.new.core c.effects.ensures c.in-All.is c.take_round.ensures) in
     let marks : c.marks-before.result.now ≡ c.args.core.now.log.marks = search rules in
     run-marked c.args.round c.args.core.now c.args.chip.now c.args.replay.now c.requires.ready c.requires.built c.take_round.new.core t.0 t.1.0 t.1.1 t.1.2 c.settle-settled.new.self c.settle-settled.new.chip c.settle-settled.ensures.kept c.settle-settled.ensures.same c.settle-settled.ensures.sync c.settle-settled.ensures.grown c.settle-settled.result c.in-Ok.ended (sym c.round_ended.ensures ∙ c.in-Ok.is) c.settle-settled.ensures.ended c.args.number (g.K.Sink.holds c.args.sink.now) (g.K.Sink.holds c.write_lines.new.sink) (g.K.Sink.faults c.args.sink.now) (g.K.Sink.faults c.write_lines.new.sink) c.write_lines.result c.write_lines.new.replay c.requires.counted
-    (written_as c.settle-settled.new.self.plan c.args.number c.marks-before.result.now c.args.core.now.log.marks c.settle-settled.new.self.log.marks c.settle-settled.new.self.rows c.settle-settled.new.chip.chip.objects c.settle-settled.new.chip.chip.effects c.args.replay.now.at c.items.result.now c.args.round.shows c.in-Ok.ended (g.K.Sink.holds c.args.sink.now) (g.K.Sink.faults c.args.sink.now) c.write_lines.result c.write_lines.new.replay (g.K.Sink.holds c.write_lines.new.sink) (g.K.Sink.faults c.write_lines.new.sink) marks c.items.ensures c.write_lines.ensures.written)
+    (written_as c.plan.result.now c.settle-settled.new.self.plan c.args.number (take (length c.marks.result.now - length c.marks-before.result.now) (drop (length c.marks-before.result.now) c.marks.result.now)) (drop (length c.args.core.now.log.marks) c.settle-settled.new.self.log.marks) c.rows.result.now c.settle-settled.new.self.rows c.settle-settled.new.chip.chip.objects c.settle-settled.new.chip.chip.effects c.args.replay.now.at c.items.result.now c.args.round.shows c.in-Ok.ended (g.K.Sink.holds c.args.sink.now) (g.K.Sink.faults c.args.sink.now) c.write_lines.result c.write_lines.new.replay (g.K.Sink.holds c.write_lines.new.sink) (g.K.Sink.faults c.write_lines.new.sink)
+    (search rules)
+    (marks_behind c.marks-before.result.now c.args.core.now.log.marks (length c.marks-before.result.now) c.marks.result.now c.settle-settled.new.self.log.marks refl marks (search rules))
+    (search rules) c.items.ensures c.write_lines.ensures.written)
