@@ -1,6 +1,6 @@
 -- a run that got to its session, and that one round of lines that are no batches does not fill the log
-use Rattle.std.proofs.Common.{◌≡◌, inr, ℕ, ◌<◌, ◌≤◌, false, List, [], ◌∷◌, length, slice_get, Option, Some, None, Ok, refl, ap, subst, arith}
-use Rattle.std.proofs.lemmas.List.{length-append}
+use Rattle.std.proofs.Common.{◌≡◌, inr, ℕ, ◌≤◌, false, List, [], ◌∷◌, length, slice_get, Option, Some, None, Ok, ap, subst, arith}
+use Rattle.std.proofs.lemmas.List.{length-append, nil_from_length}
 use Rattle.std.proofs.lemmas.Option.{slice_get_within}
 use Rattle.table_schema.specs.declared.write.Sent.{Sent}
 use Rattle.sai_types.specs.ChipState.{ChipState}
@@ -29,15 +29,11 @@ few-taken [] (r ∷ rounds) round sent at (rest, is) =
 few-taken (x ∷ rans) [] round sent at taken = absurd taken
 few-taken (x ∷ rans) (r ∷ rounds) round sent at (first, more) = few-taken rans rounds round sent at more
 
-none-of : {X : Type 0} (xs : List X) → length xs < 1 → xs ≡ []
-none-of [] few = refl
-none-of (x ∷ xs) few = absurd (omega (arith, few))
-
 not-full : (bytes : List ℕ) (script : Script) (log : History) (chip : ChipState) (held held' : Option (List ℕ)) → script_of bytes ≡ Ok script → IsSession script.plan script.caps.0 script.rounds status.LogFull log chip held held' → length script.rounds ≡ 1 → has_batch bytes ≡ false → ⊥
 not-full bytes script log chip held held' is session one plain =
     let none = session.reported.0 in
     let within = slice_get_within script.rounds (length session.rans) none.round none.next in
-    let many = none.first (none-of session.rans (omega (arith, within, one))) in
+    let many = none.first (nil_from_length session.rans (omega (arith, within, one))) in
     let taken = few-taken session.rans script.rounds none.round session.sent none.next session.writes in
     let writes = few-writes bytes script (length session.rans) none.round is plain none.next in
     omega (arith, many, taken, writes, few-lines bytes script is)

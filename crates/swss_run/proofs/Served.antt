@@ -1,5 +1,5 @@
 -- the writes of a script of this stage name rows that the core brings to the chip
-use Rattle.std.proofs.Common.{◌≡◌, ℕ, Bool, true, false, ◌&&◌, List, [], ◌∷◌, ◌++◌, map, refl}
+use Rattle.std.proofs.Common.{◌≡◌, ℕ, true, List, [], ◌∷◌, ◌++◌, map, refl}
 use Rattle.std.proofs.lemmas.Bool.{false≢true}
 use Rattle.std.specs.List.{AllByRecursion, list_all}
 use Rattle.swss_types.specs.declared.interface.IfName.TheVariants as name
@@ -9,6 +9,7 @@ use Rattle.table_schema.specs.declared.write.Sent.{Sent}
 use Rattle.table_schema.specs.declared.write.Write.{Write}
 use Rattle.table_schema.specs.declared.write.Write.TheVariants as write
 use Rattle.orch_core.specs.Keeps.{is_served, key_of}
+use Rattle.switch_model.proofs.Ready.{both_true}
 use Rattle.swss_script.specs.Built.{is_built_key, is_built_show, is_built_write}
 use Rattle.swss_script.specs.Sections.{acts_of}
 use Rattle.swss_script.specs.Sent.{next_sent, sent_after, sent_in_round, writes_in}
@@ -18,10 +19,6 @@ use Rattle.swss_script.specs.declared.parts.Act.TheVariants as act
 use Rattle.swss_script.specs.declared.parts.Round.{Round}
 use Rattle.swss_script.specs.declared.parts.Section.{Section}
 use Rattle.swss_run.specs.Taking.{AreServed}
-
-pub both_true : (a b : Bool) → (a && b) ≡ true → (a ≡ true) × (b ≡ true)
-both_true true b h = (refl, h)
-both_true false b h = absurd (false≢true h)
 
 served-key : (k : Key) → is_built_key k ≡ true → is_served k ≡ true
 served-key (key.Port port) built = refl

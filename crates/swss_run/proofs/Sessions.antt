@@ -118,7 +118,7 @@ Takes-none (Some text) = ap Some (sym (append-nil text))
 pub replay-none : (effects : List (Call Rid)) (r : Replayed) → r ≡ new_replay → IsReplayOf r effects
 replay-none effects r is = subst (λ x. IsReplayOf x effects) (sym is) (record { at = omega arith; made = refl; objects = refl })
 
-pub running-none : (rounds : List Round) (first : State) (sim : Sim) (held : Option (List ℕ)) (replay : Replayed) → first ≡ new_state first.plan first.capacities 4194304 → sim.chip ≡ new_chip first.capacities → IsKept first sim.chip → IsReplayOf replay sim.chip.effects → replay.at ≡ 0 → IsRunning rounds [] first held first sim replay held
+pub running-none : (rounds : List Round) (first : State) (sim : Sim) (held : Option (List ℕ)) (replay : Replayed) → first ≡ new_state first.plan first.capacities log_limit → sim.chip ≡ new_chip first.capacities → IsKept first sim.chip → IsReplayOf replay sim.chip.effects → replay.at ≡ 0 → IsRunning rounds [] first held first sim replay held
 running-none rounds first sim held replay new chip kept follows at = record {
   ready = record {
     kept = kept;

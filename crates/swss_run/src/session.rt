@@ -9,7 +9,7 @@ ghost use Rattle.std.specs.List.{list_all};
 ghost use Rattle.sai_chip.specs.Replay.{IsReplayOf};
 ghost use Rattle.swss_script.specs.Stage.{is_built_round};
 ghost use Rattle.swss_run.specs.Running.{IsReady, IsRoundRun, IsWritten, round_ended};
-ghost use Rattle.swss_run.specs.Session.{IsSession};
+ghost use Rattle.swss_run.specs.Session.{IsSession, log_limit};
 
 use crate::Status;
 use crate::output::{Output, write_all};
@@ -30,7 +30,7 @@ pub(crate) fn run_rounds<K: Sink>(
     rounds: RoundList,
     sink: &mut K,
 ) -> Status
-    requires new { core.old ≡ new_state core.old.plan core.old.capacities 4194304 }
+    requires new { core.old ≡ new_state core.old.plan core.old.capacities log_limit }
     requires chip { chip.old.chip ≡ new_chip core.old.capacities }
     requires kept { IsKept core.old chip.old.chip }
     requires built { list_all is_built_round rounds ≡ true }

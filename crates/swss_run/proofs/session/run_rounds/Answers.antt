@@ -1,12 +1,12 @@
 use Rattle.std.proofs.Common.{rules, ◌≡◌, ◌∙◌, ◌+◌, true, List, [], ◌∷◌, ◌++◌, length, slice_get, Some, refl, sym, ap, subst, arith}
 use Rattle.std.proofs.Math.Seq.{get_or-append_seam}
-use Rattle.std.proofs.lemmas.List.{append_assoc, append-nil, length-append}
+use Rattle.std.proofs.lemmas.List.{append_assoc, append-nil, length-append, nil_from_length}
 use Rattle.std.proofs.lemmas.Option.{slice_get-get_or}
 use Rattle.std.specs.List.{list_all}
 use Rattle.sai_chip.specs.Replay.{Replayed}
+use Rattle.switch_model.proofs.Ready.{both_true}
 use Rattle.swss_script.specs.Stage.{is_built_round}
 use Rattle.swss_script.specs.declared.parts.Round.{Round}
-use Rattle.swss_run.proofs.Served.{both_true}
 use Rattle.swss_run.proofs.Sessions.{replay-none, running-more, running-none, session-done, session-ended}
 use Rattle.swss_run.proofs.session.run_rounds.Goals as goal
 
@@ -18,10 +18,6 @@ round-at done round rest rounds is =
 
 built-first : (left rest : List Round) (round : Round) → left ≡ round ∷ rest → list_all is_built_round left ≡ true → (is_built_round round ≡ true) × (list_all is_built_round rest ≡ true)
 built-first left rest round is built = both_true (is_built_round round) (list_all is_built_round rest) (subst (λ l. list_all is_built_round l ≡ true) is built)
-
-no_items : {X : Type 0} (xs : List X) → length xs ≡ 0 → xs ≡ []
-no_items [] h = refl
-no_items (x ∷ xs) h = absurd (omega (arith, h))
 
 pub loop-round-init : goal.loop-round-init
 loop-round-init g c =
@@ -65,6 +61,6 @@ loop-round-preserved g c =
 
 pub returns-clause-session : goal.returns-clause-session
 returns-clause-session g c =
-    let none : c.loop-round.round-iterator.rest.items ≡ [] = no_items c.loop-round.round-iterator.rest.items (sym c.loop-round.round-iterator.rest.ok.0 ∙ c.in-None.ensures.steps.0) in
+    let none : c.loop-round.round-iterator.rest.items ≡ [] = nil_from_length c.loop-round.round-iterator.rest.items (sym c.loop-round.round-iterator.rest.ok.0 ∙ c.in-None.ensures.steps.0) in
     let split : c.args.rounds ≡ c.loop-round.invariant.0 = c.loop-round.invariant.1 ∙ ap (λ l. c.loop-round.invariant.0 ++ l) none ∙ append-nil c.loop-round.invariant.0 in
     session-done c.args.rounds c.loop-round.invariant.0 c.args.core.now (g.K.Sink.holds c.args.sink.now) c.loop-round.core c.loop-round.chip c.loop-round.replay (g.K.Sink.holds c.loop-round.sink) c.loop-round.invariant.5 (ap length (sym split))
