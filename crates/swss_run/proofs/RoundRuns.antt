@@ -45,14 +45,14 @@ use Rattle.swss_script.specs.declared.parts.Show.{Show}
 use Rattle.swss_report.specs.Round.{Ended, IsRoundText}
 use Rattle.swss_run.specs.Full.{AreApplied, CallIsDue, IsFull, MarkIsDue, good_now, keys_named, places}
 use Rattle.swss_run.specs.Full.IsFull.{AtWrite, AtCall, AtMark}
-use Rattle.swss_run.specs.Rounds.{Ran, is_settling}
+use Rattle.swss_run.specs.Rounds.{Ran, is_settling, listed_keys}
 use Rattle.swss_run.specs.Running.{EndsRound, HasLines, IsReady, IsRoundRun, IsUnused, IsWritten, KeepsPlan, StopsRound, round_ended, with_round}
 use Rattle.swss_run.specs.Running.IsWritten.{Whole, Failed, Wanting, Unwritten}
 use Rattle.swss_run.specs.Taking.{AreServed, IsRoundTook, Took, TookAll}
 use Rattle.swss_run.specs.declared.status.Status.{Status}
 use Rattle.swss_run.specs.declared.status.Status.TheVariants as status
 use Rattle.swss_run.specs.declared.taking.Taken.TheVariants as taken
-use Rattle.swss_run.proofs.Named.{few-among, few-named, named-back, named-front, named-sorted}
+use Rattle.swss_run.proofs.Named.{few-among, few-named, named-back, named-front, named-sorted, sorted-none}
 use Rattle.swss_run.proofs.Served.{served-front, served-round}
 use Rattle.swss_run.proofs.Sessions.{same-trans}
 
@@ -91,10 +91,15 @@ listed-reasons : (core : State) (r : Rows) → core.rows ≡ r → (ws : List (K
 listed-reasons core r is [] truly = tt
 listed-reasons core r is (w ∷ ws) (one, truly) = (reason-at core.plan core.capacities (rows_applied core.applied) core.rows r w.0 w.1 is one.0, listed-reasons core r is ws truly)
 
-mark-due : (core : State) (chip : ChipState) → IsKept core chip → is_suspect core.log.marks ≡ false → settling.MarkIsDue core → MarkIsDue core.plan core.capacities core.log chip (listing core)
-mark-due core chip kept known is = record {
+-- they are in order where the keys to sync are
+listing-sorted : (core : State) → settling.MarkIsDue core → IsStrictlySortedBy key_cmp core.to_sync → IsStrictlySortedBy key_cmp (map (λ (w : Key × Wait × Option Row). w.0) (listing core))
+listing-sorted core is sorted = subst (λ ks. IsStrictlySortedBy key_cmp ks) (is.rest ∙ append-nil (waiting_keys core.waiting) ∙ sym (listed-keys core core.waiting)) sorted
+
+mark-due : (core : State) (chip : ChipState) → IsKept core chip → is_suspect core.log.marks ≡ false → IsStrictlySortedBy key_cmp core.to_sync → settling.MarkIsDue core → MarkIsDue core.plan core.capacities core.log chip (listing core)
+mark-due core chip kept known sorted is = record {
   applied = rows_applied core.applied;
   are = applied-are core chip kept known;
+  order = listing-sorted core is sorted;
   reasons = listed-reasons core (rows_of (writes_of core.log.taken)) kept.keeps.rows core.waiting is.truly;
   others = λ key away.
       ⊎_elim
@@ -321,14 +326,14 @@ module _ (round : Round) (old : State) (sim : Sim) (replay : Replayed) (ready : 
         )
         full-settling held (inr (is, full)) brings = (
           stops-new,
-          AtMark (listing new) (sym (gives)) (mark-due new sim'.chip kept known-stopped is) (omega (arith, full, places-are new sim'.chip kept, length-map {B = Key × Wait × Option Row} new.waiting (λ (w : Key × Wait). (w.0, w.1, rows_applied new.applied w.0)))),
+          AtMark (listing new) (sym (gives)) (mark-due new sim'.chip kept known-stopped sorted-new is) (omega (arith, full, places-are new sim'.chip kept, length-map {B = Key × Wait × Option Row} new.waiting (λ (w : Key × Wait). (w.0, w.1, rows_applied new.applied w.0)))),
           omega (arith, full, places-are new sim'.chip kept, few-waiting is),
           (λ unused. full-first unused brings (inr (is, full))),
           refl,
         )
 
       -- a mark was made
-      module _ (e : MarkEvent) (kind : is_settling e ≡ true) (log : new.log ≡ with_ending mid.log (mark_at mid (length sim'.chip.effects) e)) (fits : places new.log sim'.chip ≤ new.limit) where
+      module _ (e : MarkEvent) (kind : is_settling e ≡ true) (order : IsStrictlySortedBy key_cmp (listed_keys e)) (log : new.log ≡ with_ending mid.log (mark_at mid (length sim'.chip.effects) e)) (fits : places new.log sim'.chip ≤ new.limit) where
         abbrev mark : Mark
         mark = mark_at mid (length sim'.chip.effects) e
 
@@ -346,6 +351,7 @@ module _ (round : Round) (old : State) (sim : Sim) (replay : Replayed) (ready : 
           mark = mark;
           marks = refl;
           settling = kind;
+          order = order;
           sent = sym gives;
           taken = ap (λ (h : History). length h.taken) log-all;
           effects = ap length grown.grown;
@@ -411,11 +417,11 @@ module _ (round : Round) (old : State) (sim : Sim) (replay : Replayed) (ready : 
       pub run-marked : (r : Result Settled OutOfMemory) (ended : Status) → round_ended r ≡ Ok ended → IsSettled mid sim.chip r new sim'.chip → (number : ℕ) (held held' : Option (List ℕ)) (faults faults' : ℕ) (result : Status) (replay' : Replayed) → 0 < number → IsWritten (ended_now number) round.shows ended held faults result replay' held' faults' → IsRoundRun number round old sim held faults result new sim' replay' held' faults'
       run-marked (Ok settled.Settled) ended is e number held held' faults faults' result replay' counted written =
           let same_end : ended ≡ status.Done = cc in
-          run-done (event.Settled (listing new) e.turns) refl e.log (fits-settled mid new sim.chip sim'.chip kept e) number held held' faults faults' result replay' counted refl
+          run-done (event.Settled (listing new) e.turns) refl (listing-sorted new e.due sorted-new) e.log (fits-settled mid new sim.chip sim'.chip kept e) number held held' faults faults' result replay' counted refl
           (subst (λ x. IsWritten (ended_now number) round.shows x held faults result replay' held' faults') same_end written)
       run-marked (Ok settled.Faulted) ended is e number held held' faults faults' result replay' counted written =
           let same_end : ended ≡ status.ChipFault = cc in
-          run-failed (event.Faulted sim.chip.faults sim'.chip.faults) refl e.log (fits-faulted mid new sim.chip sim'.chip kept same e) number held held' faults faults' result replay' counted refl (omega (arith, e.rose))
+          run-failed (event.Faulted sim.chip.faults sim'.chip.faults) refl sorted-none e.log (fits-faulted mid new sim.chip sim'.chip kept same e) number held held' faults faults' result replay' counted refl (omega (arith, e.rose))
           (subst (λ x. IsWritten (ended_now number) round.shows x held faults result replay' held' faults') same_end written)
       run-marked (Ok settled.LogFull) ended is e number held held' faults faults' result replay' counted written = cc
       run-marked (Err wanting) ended is e number held held' faults faults' result replay' counted written = cc

@@ -28,16 +28,16 @@ ends-more n (r ∷ rans) ran =
 
 pub at_marks-more : (sent calls : ℕ) (rans : List Ran) (ran : Ran) → EndAtMarks sent calls rans → EndsAtMark (sent + length (all_sent rans)) (calls + length (all_calls rans)) ran → EndAtMarks sent calls (rans ++ ran ∷ [])
 at_marks-more sent calls [] ran tt one = (
-  record { front = one.front; last = one.last; marks = one.marks; settling = one.settling; taken = omega (arith, one.taken); effects = omega (arith, one.effects) },
+  record { mark = one.mark; marks = one.marks; settling = one.settling; order = one.order; taken = omega (arith, one.taken); effects = omega (arith, one.effects) },
   tt,
 )
 at_marks-more sent calls (r ∷ rans) ran (first, more) one = (
   first,
   at_marks-more (sent + length r.sent) (calls + length r.calls) rans ran more (record {
-    front = one.front;
-    last = one.last;
+    mark = one.mark;
     marks = one.marks;
     settling = one.settling;
+    order = one.order;
     taken = omega (arith, one.taken, length-append r.sent (all_sent rans));
     effects = omega (arith, one.effects, length-append r.calls (all_calls rans));
   }),
@@ -47,7 +47,7 @@ at_marks-more sent calls (r ∷ rans) ran (first, more) one = (
 pub ends-rise : (sent calls n : ℕ) (rans : List Ran) → EndAtMarks sent calls rans → Rise n (ends_from n rans)
 ends-rise sent calls n [] at_marks = tt
 ends-rise sent calls n (r ∷ rans) (first, more) = (
-  omega (arith, ap length first.marks, length-append first.front (first.last ∷ [])),
+  omega (arith, ap length first.marks),
   ends-rise (sent + length r.sent) (calls + length r.calls) (n + length r.marks) rans more,
 )
 

@@ -65,10 +65,10 @@ module _ (round : Round) (old : State) (sim : Sim) (ran : Ran) (new : State) (si
 
   at_mark : EndsAtMark (0 + length (all_sent rans)) (0 + length (all_calls rans)) ran
   at_mark = record {
-    front = [];
-    last = ends.mark;
+    mark = ends.mark;
     marks = ends.marks;
     settling = ends.settling;
+    order = ends.order;
     taken = omega (arith, ends.taken, length-append old.log.taken ran.sent, ap length taken_were);
     effects = omega (arith, ends.effects, length-append sim.chip.effects ran.calls, ap length effects_were);
   }

@@ -1,6 +1,7 @@
 -- When the log is full: an event is due that needs more places than are left. Own.
 use Rattle.std.specs.Prelude.{◌≡◌, ℕ, ◌+◌, ◌<◌, List, [], ◌∷◌, ◌++◌, length, map}
 use Rattle.std.specs.BTreeSet.{insert_key}
+use Rattle.std.specs.List.Sorted.{IsStrictlySortedBy}
 use Rattle.table_schema.specs.Key.{key_cmp}
 use Rattle.table_schema.specs.Plan.{Ports}
 use Rattle.table_schema.specs.Rows.{rows_of}
@@ -44,10 +45,11 @@ pub record CallIsDue (plan : Ports) (capacities : List ℕ) (log : History) (chi
   pub differs : ¬ (applied key ≡ good_now plan log key)
   pub free : (wait : Wait) → ¬ (IsTrueReason plan capacities (good_now plan log) applied key wait)
 
--- a mark is due that lists these keys: each waits for a true reason, and every other key has its good row
+-- a mark is due that lists these keys, in their order and each once: each waits for a true reason, and every other key has its good row
 pub record MarkIsDue (plan : Ports) (capacities : List ℕ) (log : History) (chip : ChipState) (waits : Waiting) : Type 0 where
   pub applied : TypedRows
   pub are : AreApplied plan chip applied
+  pub order : IsStrictlySortedBy key_cmp (map (λ w. w.0) waits)
   pub reasons : ReasonsAreTrue plan capacities (good_now plan log) applied waits
   pub others : (key : Key) → ¬ (IsIn key (map (λ w. w.0) waits)) → applied key ≡ good_now plan log key
 
