@@ -16,8 +16,6 @@ mod row_hops;
 mod rules;
 mod split;
 mod table;
-#[cfg(test)]
-mod tests;
 mod write;
 
 pub use fields::Fields;
