@@ -2,11 +2,15 @@
 #![tactic(auto)]
 
 mod broken;
+mod few;
 pub mod field;
 mod fields;
+mod held;
+mod items;
 mod key;
 mod key_text;
 mod laws;
+mod many;
 mod naming;
 mod plan;
 mod route_rules;
@@ -19,6 +23,7 @@ mod table;
 mod write;
 
 pub use fields::Fields;
+pub use items::Items;
 pub use key::Key;
 pub use key_text::{has_colon, read_key};
 pub use laws::{
