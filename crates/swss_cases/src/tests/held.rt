@@ -75,10 +75,11 @@ fn a_log_has_its_writes_marks_and_ends(rt: HostRuntime) -> Result<(), Fail> {
         log.take(sent(number))?;
     }
     log.take_back();
-    let waits = Waits::new(alloc);
+    let waits = Waits::from_vec(Vec::new(alloc))?;
+    let again = waits.share()?;
     log.mark_end(mark(4, MarkEvent::Settled { waits, turns: 1 }))?;
     log.mark(mark(4, MarkEvent::Restarted))?;
-    let (mode, waits) = (Mode::Hitless, Waits::new(alloc));
+    let (mode, waits) = (Mode::Hitless, again);
     log.mark(mark(4, MarkEvent::ApplyBegan { mode, waits }))?;
     log.mark(mark(6, MarkEvent::ApplyEnded))?;
     let (before, after) = (0, 1);
@@ -92,7 +93,7 @@ fn a_log_has_its_writes_marks_and_ends(rt: HostRuntime) -> Result<(), Fail> {
 }
 
 #[test]
-fn keys_wait_in_the_order_of_their_pushes(rt: HostRuntime) -> Result<(), Fail> {
+fn keys_wait_in_the_order_of_their_list(rt: HostRuntime) -> Result<(), Fail> {
     let cases = [
         (Key::Port(0), Wait::Missing(Key::Port(4)), None),
         (
@@ -103,15 +104,17 @@ fn keys_wait_in_the_order_of_their_pushes(rt: HostRuntime) -> Result<(), Fail> {
         (Key::Vlan(20), Wait::NoRoom(Kind::Vlan), None),
         (Key::Intf(IfName::Vlan(20)), Wait::Busy(3), Some(Row::Intf)),
     ];
-    let mut waits = Waits::new(rt.alloc());
-    assert!(rt; waits.items().is_empty());
+    let mut list = Vec::new(rt.alloc());
     for (key, wait, row) in &cases {
         let row = match row {
             Some(row) => Some(row.copy()?),
             None => None,
         };
-        waits.push((key.copy()?, wait.copy()?, row))?;
+        list.push((key.copy()?, wait.copy()?, row))?;
     }
+    let waits = Waits::from_vec(list)?;
+    let shared = waits.share()?;
     assert_eq!(rt; waits.items(), cases.as_slice());
+    assert_eq!(rt; shared.items(), cases.as_slice());
     Ok(())
 }
