@@ -17,6 +17,8 @@ pub struct Case {
     pub facts: Vec<(Fact, String)>,
     /// The output that is wanted.
     pub output: Vec<u8>,
+    /// Whether it is run from one source alone.
+    pub once: bool,
     has_words: bool,
     has_output: bool,
 }
@@ -30,6 +32,7 @@ impl Case {
             script: Vec::new(alloc),
             facts: Vec::new(alloc),
             output: Vec::new(alloc),
+            once: false,
             has_words: false,
             has_output: false,
         })
@@ -50,6 +53,10 @@ impl Case {
             "word" => self.add_word(alloc, text),
             "no" if text == "words" => {
                 self.words.clear();
+                Ok(())
+            }
+            "once" => {
+                self.once = true;
                 Ok(())
             }
             "output" => {

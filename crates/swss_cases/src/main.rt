@@ -9,6 +9,7 @@
 //! taken N              how many writes are taken
 //! senders P/N P/N ..   the producer and number of each write taken
 //! ends N N ..          how many marks there are at the end of each round
+//! once                 the case takes long, and is run from the first of the two sources alone
 //! output               what follows is the output that is wanted, and no more the script
 //! |TEXT                this text and a newline
 //! +TEXT                this text without a newline

@@ -12,7 +12,7 @@ use swss_types::{MemSink, MemSource, Open};
 /// The most bytes of a script that is given a byte at a time.
 const SHORT: usize = 1_000_000;
 
-/// Runs a case from both sources. What differs is printed.
+/// Runs a case from both sources, or from the first alone. What differs is printed.
 pub fn passes(
     rt: &(impl Threads + Wait + Sync + Print),
     alloc: Global,
@@ -20,7 +20,7 @@ pub fn passes(
 ) -> Result<bool> {
     let small = if case.script.len() <= SHORT { 1 } else { 1000 };
     let whole = passes_by(rt, alloc, case, usize::MAX)?;
-    let pieces = passes_by(rt, alloc, case, small)?;
+    let pieces = case.once || passes_by(rt, alloc, case, small)?;
     Ok(whole && pieces)
 }
 

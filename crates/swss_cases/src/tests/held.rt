@@ -1,7 +1,9 @@
 // What a log holds.
 use sai_types::{Kind, Mode};
 use std::alloc::Global;
+use std::sync::Wait as Waiting;
 use std::test::Fail;
+use std::thread::Threads;
 use switch_model::{Log, Mark, MarkEvent, Wait, Waits};
 use swss_run::swss_main;
 use swss_types::{IfName, MemSink, MemSource, Open, Tagging};
@@ -15,7 +17,11 @@ const HELD: &[u8] =
 const MISSING: &[u8] = b"port Ethernet0 0\nproducer a\nset INTF_TABLE:Ethernet0\nsettle\n";
 
 /// The key that waits at the last mark of a script, why, and whether a row of it is applied.
-fn wait_of(rt: &HostRuntime, alloc: Global, script: &[u8]) -> Result<(Key, Wait, bool), Fail> {
+fn wait_of<R: Threads + Waiting + Sync>(
+    rt: &R,
+    alloc: Global,
+    script: &[u8],
+) -> Result<(Key, Wait, bool), Fail> {
     let words = vec![in alloc; String::from_str(alloc, "run")?]?;
     let mut source = MemSource::new(Vec::from_slice(alloc, script)?, Vec::new(alloc));
     let mut sink = MemSink::new(alloc, Vec::new(alloc));
