@@ -201,7 +201,7 @@ fn first_fields(acts: &[Act]) -> (usize, Option<&[u8]>) {
     match acts.first() {
         Some(Act::Write(Write::Set(_, fields))) => (
             fields.items().len(),
-            fields.items().first().map(|field| field.0.bytes()),
+            fields.items().next().map(|field| field.0.bytes()),
         ),
         _ => (0, None),
     }
