@@ -11,6 +11,8 @@ mod key;
 mod key_text;
 mod laws;
 mod many;
+#[cfg(test)]
+mod memory_tests;
 mod naming;
 mod plan;
 mod route_rules;
