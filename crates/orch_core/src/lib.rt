@@ -7,6 +7,7 @@ mod attempt;
 mod called;
 mod difference;
 mod laws;
+mod listing;
 mod settle;
 mod state;
 mod step;
