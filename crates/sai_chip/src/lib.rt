@@ -16,9 +16,9 @@ mod tally;
 mod things;
 mod ways;
 
-pub use fail::Fail;
 pub use forward::Forward;
 pub use replay::Replay;
+pub use sai_types::Fail;
 pub use sim::SimChip;
 pub use things::named;
 pub use ways::Ways;

@@ -8,3 +8,4 @@ pub mod Maps
 pub mod Refer
 pub mod Things
 pub mod Whole
+mod Orders

@@ -3,8 +3,10 @@ pub mod Alike
 pub mod ChipState
 pub mod Decided
 pub mod Forwarding
+pub mod Hop
 pub mod Made
 pub mod Named
 pub mod Objects
+pub mod Order
 pub mod Pairing
 pub mod Refusal
