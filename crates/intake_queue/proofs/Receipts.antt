@@ -2,10 +2,10 @@
 use Rattle.std.proofs.Common.{◌≡◌, ℕ, suc, ◌+◌, [], refl, ap, sym, subst, ◌∙◌, ◌++◌, List, length, get_or, take, length-append, arith}
 use Rattle.std.proofs.Math.Seq.{take-append_seam}
 use Rattle.intake_queue.specs.Writes.{sent_of, IsNumbered, IsOther}
-use Rattle.intake_queue.specs.Laws.{ReceiptsAreNumbered, MetIsFront, FewAreQueued, OthersSendNothing, PassesAreByProducer}
+use Rattle.intake_queue.specs.Laws.{ReceiptsAreNumbered, MetIsFront, FewAreQueued, OthersSendNothing, PassesAreByProducer, NewPassesAreUnsent}
 use Rattle.intake_queue.specs.Values.{sent_over}
 use Rattle.intake_queue.proofs.Writes.{sent_of-grown, numbered-grown}
-use Rattle.intake_queue.proofs.Passes.{sent_over-at, sent_over-other}
+use Rattle.intake_queue.proofs.Passes.{every, sent_over-at, sent_over-other}
 
 pub receipts_are_numbered : ReceiptsAreNumbered
 receipts_are_numbered t w numbered next p = subst (IsNumbered 0) (sym (sent_of-grown p [] t.received w))
@@ -22,3 +22,6 @@ others_send_nothing intake passes p all other = sent_over-other passes p (subst 
 
 pub passes_are_by_producer : PassesAreByProducer
 passes_are_by_producer passes i d within = let next : suc i ≡ i + 1 = omega arith in subst (λ p. sent_over p passes ≡ (get_or passes i d).sent) next (sent_over-at passes i d within)
+
+pub new_passes_are_unsent : NewPassesAreUnsent
+new_passes_are_unsent intake passes p new = every (λ q sent. sent ≡ []) passes new.unsent (λ q other. refl) p

@@ -2,7 +2,7 @@
 use Rattle.std.specs.Prelude.{◌≡◌, ◌≢◌, ℕ, ◌+◌, ◌<◌, ◌≤◌, List, [], ◌∷◌, ◌++◌, length, take, slice_index_or, slice_set}
 use Rattle.table_schema.specs.declared.write.Sent.{Sent}
 use Rattle.intake_queue.specs.Writes.{sent_of, AreNumbered, IsOther}
-use Rattle.intake_queue.specs.Values.{IntakeId, Sender, Receiver, AreAll, IsNext, IsMet, IsAllTaken, sent_over, with_received}
+use Rattle.intake_queue.specs.Values.{IntakeId, Sender, Receiver, AreAll, AreNew, IsNext, IsMet, sent_over, with_received}
 
 abbrev pub OwnReceiptIsLast : Type 0
 OwnReceiptIsLast = (received : List Sent) (w : Sent) → sent_of w.from (received ++ w ∷ []) ≡ sent_of w.from received ++ w ∷ []
@@ -24,6 +24,9 @@ OthersSendNothing = (intake : IntakeId) (passes : List Sender) (p : ℕ) → Are
 
 abbrev pub PassesAreByProducer : Type 0
 PassesAreByProducer = (passes : List Sender) (i : ℕ) (d : Sender) → i < length passes → sent_over (i + 1) passes ≡ (slice_index_or passes i d).sent
+
+abbrev pub NewPassesAreUnsent : Type 0
+NewPassesAreUnsent = (intake : IntakeId) (passes : List Sender) (p : ℕ) → AreNew intake passes → sent_over p passes ≡ []
 
 abbrev pub PassesStayAll : Type 0
 PassesStayAll = (intake : IntakeId) (passes : List Sender) (i : ℕ) (d s : Sender) → AreAll intake passes → s.queue ≡ (slice_index_or passes i d).queue → s.from ≡ (slice_index_or passes i d).from → AreAll intake (slice_set passes i s)

@@ -1,5 +1,5 @@
 -- What contracts see of an intake, of its passes and of its taker. Own.
-use Rattle.std.specs.Prelude.{◌≡◌, ℕ, zero, suc, ◌+◌, ◌<◌, ◌≤◌, List, [], ◌∷◌, ◌++◌, length, map, slice_index_or}
+use Rattle.std.specs.Prelude.{◌≡◌, ℕ, zero, suc, ◌+◌, ◌<◌, ◌≤◌, List, [], ◌∷◌, ◌++◌, length, map, slice_index_or, All}
 use Rattle.atomic_table.specs.Seated.{TableId}
 use Rattle.table_schema.specs.declared.write.Sent.{Sent}
 use Rattle.table_schema.specs.declared.write.Write.{Write}
@@ -47,6 +47,11 @@ pub record IsNext (t : Receiver) (w : Sent) : Type 0 where
 pub record AreAll (intake : IntakeId) (passes : List Sender) : Type 0 where
   pub count : length passes ≡ intake.producers
   pub each : (i : ℕ) (d : Sender) → i < length passes → ((slice_index_or passes i d).queue ≡ intake.queue) × ((slice_index_or passes i d).from ≡ i + 1)
+
+-- all passes of an intake over which nothing was sent
+pub record AreNew (intake : IntakeId) (passes : List Sender) : Type 0 where
+  pub all : AreAll intake passes
+  pub unsent : All (λ s. s.sent ≡ []) passes
 
 -- what was sent over the pass of the producer p, the p-th of these
 abbrev pub sent_over : ℕ → List Sender → List Sent

@@ -36,7 +36,7 @@ pub fn close(
     }
 }
 
-// How many writes were sent over each pass.
+/// How many writes were sent over each pass.
 fn counts(alloc: Global, passes: &[Pass]) -> Result<Numbers, OutOfMemory>
     ensures { IfOk result (λ numbers. numbers ≡ numbers_of passes.now) }
 {

@@ -1,6 +1,6 @@
 // The intake, and how it is made with its passes and its taker.
-ghost use Rattle.std.specs.Prelude.{◌≡◌, ℕ, ◌<◌, ◌≤◌, [], IfOk};
-ghost use Rattle.intake_queue.specs.Values.{AreAll, new_receiver, sent_over};
+ghost use Rattle.std.specs.Prelude.{◌≡◌, ◌<◌, ◌≤◌, IfOk};
+ghost use Rattle.intake_queue.specs.Values.{AreNew, new_receiver};
 
 use crate::rule::{Line, Next};
 use crate::{Pass, Taker};
@@ -11,7 +11,7 @@ use swss_types::OutOfMemory;
 /// How many writes are queued at most.
 const PLACES: usize = 1024;
 
-/// The queue of a round.
+/// The queue between the producers of a round and its taker.
 #[derive(Drop)]
 pub struct Intake {
     pub(crate) queue: Line,
@@ -33,9 +33,11 @@ impl Model for Intake {
 /// An intake with its passes and its taker.
 #[derive(Drop)]
 pub struct Made {
+    /// The queue.
     pub intake: Intake,
-    /// Those of the producers, in order.
+    /// The passes of its producers, in order.
     pub passes: Vec<Pass>,
+    /// Its one taker.
     pub taker: Taker,
 }
 
@@ -44,7 +46,7 @@ impl Intake {
     pub fn new(alloc: Global, producers: u32) -> Result<Made, OutOfMemory>
         requires { (0 < producers) × (producers ≤ 4) }
         ensures producers { IfOk result (λ m. m.intake.producers ≡ producers) }
-        ensures passes { IfOk result (λ m. AreAll m.intake m.passes.items × ((p : ℕ) → sent_over p m.passes.items ≡ [])) }
+        ensures passes { IfOk result (λ m. AreNew m.intake m.passes.items) }
         ensures taker { IfOk result (λ m. m.taker ≡ new_receiver m.intake) }
     {
         let mut passes = Vec::new(alloc);

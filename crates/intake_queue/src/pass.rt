@@ -10,7 +10,7 @@ use std::marker::Model;
 use std::sync::Wait;
 use table_schema::{Sent, Write};
 
-/// A producer's pass.
+/// A producer's pass. Contracts see whose it is, and what was sent over it.
 #[derive(Drop)]
 pub struct Pass {
     pub(crate) token: Token,
@@ -31,7 +31,7 @@ impl Model for Pass {
     ghost invariant = { λ p. (p.token.me.1 ≡ []) × (known p.token ≡ producer p.from (known p.token).sent) × (length (known p.token).sent ≡ p.count) };
 }
 
-/// A send found the queue full. The write comes back.
+/// A send found the queue full. It has the write that was to be sent.
 #[derive(Drop)]
 pub struct Full(pub Write);
 
@@ -48,7 +48,8 @@ impl Pass {
         }
     }
 
-    /// Puts a write at the back of the queue, as this producer's next. Full only where the queue was full at some moment.
+    /// Puts a write at the back of the queue, as this producer's next. Full where there is no place: the write comes back, and
+    /// nothing has changed.
     pub fn send<R: Wait>(&mut self, rt: &R, intake: &Intake, write: Write) -> Result<(), Full>
         requires intake { self.old.queue ≡ intake.now.queue }
         requires few { length self.old.sent < 2 ^ 62 }

@@ -11,7 +11,7 @@ use std::marker::Model;
 use std::sync::Wait;
 use table_schema::Sent;
 
-/// The one who takes writes.
+/// The one who takes the writes of an intake. Contracts see what was received.
 #[derive(Drop)]
 pub struct Taker {
     token: Token,
@@ -39,7 +39,7 @@ impl Taker {
         Taker { token }
     }
 
-    /// Takes the write at the front of the queue. None only where the queue was empty at some moment.
+    /// Takes the write at the front of the queue: the next of its producer. None where there is nothing.
     pub fn take<R: Wait>(&mut self, rt: &R, intake: &Intake) -> Option<Sent>
         requires intake { self.old.intake ≡ intake.now }
         ensures some { IfSome result (λ w. self.new ≡ with_received self.old w) }
@@ -84,7 +84,7 @@ impl Taker {
         self.meet_others(intake);
     }
 
-    // Takes a write, and learns of each producer where there is none.
+    /// Takes a write, and learns of each producer where there is none.
     fn take_beside_all<R: Wait>(
         &mut self,
         rt: &R,
@@ -107,7 +107,7 @@ impl Taker {
         None
     }
 
-    // Takes a write, and learns of one producer where there is none.
+    /// Takes a write, and learns of one producer where there is none.
     fn take_beside<R: Wait>(&mut self, rt: &R, intake: &Intake, pass: &mut Pass) -> Option<Sent>
         requires intake { (self.old.intake ≡ intake.now) × (pass.old.queue ≡ intake.now.queue) }
         ensures pass { pass.new ≡ pass.old }
@@ -124,7 +124,7 @@ impl Taker {
         taken
     }
 
-    // Learns of one producer.
+    /// Learns of one producer.
     fn meet_one(&mut self, intake: &Intake, pass: &mut Pass)
         requires intake { (self.old.intake ≡ intake.now) × (pass.old.queue ≡ intake.now.queue) }
         ensures kept { (self.new ≡ self.old) × (pass.new ≡ pass.old) }
@@ -135,7 +135,7 @@ impl Taker {
         lend(&intake.queue, &mut pass.token, &mut self.token);
     }
 
-    // Learns that nothing came of any that is no producer.
+    /// Learns that nothing came of any that is no producer.
     fn meet_others(&mut self, intake: &Intake)
         requires intake { self.old.intake ≡ intake.now }
         ensures kept { self.new ≡ self.old }
@@ -145,7 +145,7 @@ impl Taker {
     }
 }
 
-// Hands a producer's part from one pass to another.
+/// Hands a producer's part from one pass to another.
 fn lend(queue: &Line, to: &mut Token, from: &mut Token)
     requires queue { IsPassOf queue.now to.old × IsPassOf queue.now from.old }
     requires part { (known from.old).sends ≡ true }

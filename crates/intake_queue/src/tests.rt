@@ -1,8 +1,8 @@
 // What no clause says: a queue with room takes a write, one that holds writes gives one, and a full one refuses.
 ghost use Rattle.std.specs.Prelude.{◌≡◌, ℕ, ◌+◌, ◌<◌, ◌≤◌, length, slice_index_or};
-ghost use Rattle.intake_queue.specs.Values.{Sender, AreAll};
+ghost use Rattle.intake_queue.specs.Values.{Sender, AreAll, AreNew};
 
-use crate::{Full, Intake, Made, Pass, close};
+use crate::{Full, Intake, Made, Pass, Taker, close};
 use std::alloc::Global;
 use std::process::Abort;
 use std::sync::Wait;
@@ -26,7 +26,66 @@ fn send_by<R: Wait>(
     passes[at].send(rt, intake, Write::Del(Key::Port(number)))
 }
 
-/// So many producers send by turns until the queue is full, and all is taken.
+/// The producers send by turns until the queue is full.
+fn fill(
+    rt: &(impl Wait + Abort),
+    intake: &Intake,
+    passes: &mut Vec<Pass>,
+    producers: u32,
+)
+    requires producers { (0 < producers) × (intake.now.producers ≡ producers) }
+    requires new { AreNew intake.now passes.old.items }
+    ensures all { AreAll intake.now passes.new.items }
+    ensures few { (i : ℕ) (d : Sender) → i < length passes.new.items → length (slice_index_or passes.new.items i d).sent ≤ 1024 }
+{
+    for number in 0..1024u32 {
+        let at = (number % producers) as usize;
+        let sent = send_by(rt, intake, passes, at, number);
+        assert!(rt; sent.is_ok(), "there is a place");
+    }
+}
+
+/// Each producer finds the queue full, and has its write back.
+fn find_full(
+    rt: &(impl Wait + Abort),
+    intake: &Intake,
+    passes: &mut Vec<Pass>,
+    producers: u32,
+)
+    requires producers { (producers ≤ 4) × (intake.now.producers ≡ producers) }
+    requires all { AreAll intake.now passes.old.items }
+    requires few { (i : ℕ) (d : Sender) → i < length passes.old.items → length (slice_index_or passes.old.items i d).sent ≤ 1024 }
+    ensures { AreAll intake.now passes.new.items }
+{
+    for at in 0..producers {
+        match send_by(rt, intake, passes, at as usize, 1024 + at) {
+            Err(Full(Write::Del(Key::Port(number)))) => {
+                assert!(rt; number == 1024 + at, "the write comes back")
+            }
+            _ => assert!(rt; false, "the queue is full"),
+        }
+    }
+}
+
+/// All is taken, in the order in which it was sent.
+fn empty(rt: &(impl Wait + Abort), intake: &Intake, taker: &mut Taker, producers: u32)
+    requires producers { (0 < producers) × (producers ≤ 4) }
+    requires intake { taker.old.intake ≡ intake.now }
+    ensures { taker.new.intake ≡ intake.now }
+{
+    for number in 0..1024u32 {
+        match taker.take(rt, intake) {
+            Some(sent) => assert!(rt;
+                sent.from == number % producers + 1 && sent.number == u64::from(number / producers),
+                "the order stays"
+            ),
+            None => assert!(rt; false, "there is a write"),
+        }
+    }
+    assert!(rt; taker.take(rt, intake).is_none(), "nothing is left");
+}
+
+/// So many producers fill the queue, and all is taken.
 fn fill_and_empty(
     rt: &(impl Wait + Abort),
     alloc: Global,
@@ -39,36 +98,19 @@ fn fill_and_empty(
         mut passes,
         mut taker,
     } = Intake::new(alloc, producers)?;
-    for number in 0..1024u32 {
-        let at = (number % producers) as usize;
-        let sent = send_by(rt, &intake, &mut passes, at, number);
-        assert!(rt; sent.is_ok(), "{number} has a place");
-    }
-    for at in 0..producers {
-        match send_by(rt, &intake, &mut passes, at as usize, 1024 + at) {
-            Err(Full(Write::Del(Key::Port(number)))) => {
-                assert!(rt; number == 1024 + at, "{number} comes back")
-            }
-            _ => assert!(rt; false, "the queue is full"),
-        }
-    }
-    for number in 0..1024u32 {
-        match taker.take(rt, &intake) {
-            Some(sent) => assert!(rt;
-                sent.from == number % producers + 1 && sent.number == u64::from(number / producers),
-                "{number} in order"
-            ),
-            None => assert!(rt; false, "{number} is there"),
-        }
-    }
-    assert!(rt; taker.take(rt, &intake).is_none(), "nothing is left");
+    fill(rt, &intake, &mut passes, producers);
+    find_full(rt, &intake, &mut passes, producers);
+    empty(rt, &intake, &mut taker, producers);
     match taker.last(rt, &intake, &mut passes) {
         Some(_) => assert!(rt; false, "nothing is left at the end"),
         None => match close(alloc, intake, passes, taker) {
             Ok(closed) => {
                 for (at, number) in closed.sent.items().iter().enumerate() {
-                    let share = (1023 - at as u64) / u64::from(producers) + 1;
-                    assert!(rt; *number == share, "the numbers sent");
+                    let before = u64::from(producers).saturating_sub(1 + at as u64);
+                    assert!(rt;
+                        *number == (1024 + before) / u64::from(producers),
+                        "the numbers sent"
+                    );
                 }
             }
             Err(_) => return Err(OutOfMemory),

@@ -2,7 +2,7 @@
 ghost use Rattle.std.specs.Prelude.{◌≡◌, ◌+◌, ◌<◌};
 ghost use Rattle.queue_bench.specs.Ready.{IsReady};
 
-use anyhow::{Context, Result};
+use anyhow::Result;
 use intake_queue::{Full, Intake, Made, Pass, Taker};
 use std::alloc::Global;
 use std::sync::Wait;
@@ -10,6 +10,7 @@ use std::time::{Clock, Instant};
 use table_schema::{Key, Write};
 
 /// One thread sends and takes so many writes, in tenths.
+#[tactic(auto, using(crate::proofs::Readies::new_ready))]
 pub fn alone<R: Wait + Print + Eprint + Clock>(
     rt: &R,
     alloc: Global,
@@ -20,19 +21,32 @@ pub fn alone<R: Wait + Print + Eprint + Clock>(
         mut passes,
         mut taker,
     } = Intake::new(alloc, 1)?;
-    let mut pass = passes.pop().context("a pass")?;
-    let each = number / 10;
+    let taken = send_tenths(rt, &intake, &mut passes[0], &mut taker, number / 10)?;
+    println!(rt; "{number} alone: {taken} taken")?;
+    Ok(())
+}
+
+/// Sends and takes so many writes ten times over. It tells how many it took.
+fn send_tenths<R: Wait + Eprint + Clock>(
+    rt: &R,
+    intake: &Intake,
+    pass: &mut Pass,
+    taker: &mut Taker,
+    each: u32,
+) -> Result<u64>
+    requires taker { taker.old.intake ≡ intake.now }
+    requires ready { IsReady intake.now 0 pass.old }
+{
     let mut taken = 0u64;
     for tenth in 0..10u64 {
         let start = Instant::now(rt)?;
-        let more = send_and_take(rt, &intake, &mut pass, &mut taker, tenth, each);
+        let more = send_and_take(rt, intake, pass, taker, tenth, each);
         let nanoseconds = start.elapsed(rt)?.as_nanos();
         let time = nanoseconds / u128::from(each).max(1);
         taken = taken.saturating_add(more);
         eprintln!(rt; "alone: tenth {tenth}: {time} ns each")?;
     }
-    println!(rt; "{number} alone: {taken} taken")?;
-    Ok(())
+    Ok(taken)
 }
 
 /// Sends so many writes, and takes all whenever the queue is full and at the end. It tells how many it took.

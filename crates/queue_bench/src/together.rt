@@ -18,6 +18,7 @@ use table_schema::{Key, Write};
 const BATCH: u64 = 128;
 
 /// Four producers send so many writes, in tenths.
+#[tactic(auto, using(crate::proofs::Readies::new_ready))]
 pub fn together<R: Threads + Wait + Sync + Print + Eprint + Clock>(
     rt: &R,
     alloc: Global,
