@@ -5,6 +5,8 @@ pub mod Decided
 pub mod Forwarding
 pub mod Made
 pub mod Named
+pub mod Names
 pub mod Objects
 pub mod Pairing
+pub mod References
 pub mod Refusal
