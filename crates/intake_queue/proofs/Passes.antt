@@ -4,7 +4,7 @@ use Rattle.std.proofs.lemmas.Bool.{cases_eq, cases_lt}
 use Rattle.std.proofs.lemmas.List.{get_or_default}
 use Rattle.table_schema.specs.declared.write.Sent.{Sent}
 use Rattle.intake_queue.specs.Writes.{sent_of, IsOther}
-use Rattle.intake_queue.specs.Values.{IntakeId, Sender, Receiver, sent_over, with_received, IsFront, IsMet, IsAllTaken}
+use Rattle.intake_queue.specs.Values.{Sender, Receiver, sent_over, with_received, IsFront, IsMet, IsAllTaken}
 use Rattle.intake_queue.proofs.Writes.{sent_of-around, empty_front}
 
 -- a fact of the first i passes, and of the next

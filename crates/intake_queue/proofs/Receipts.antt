@@ -1,5 +1,5 @@
 -- What holds of receipts, and of what was met.
-use Rattle.std.proofs.Common.{◌≡◌, ℕ, suc, ◌+◌, [], refl, ap, sym, subst, ◌∙◌, ◌++◌, List, length, get_or, take, length-append, arith}
+use Rattle.std.proofs.Common.{◌≡◌, suc, ◌+◌, [], refl, ap, sym, subst, ◌∙◌, length, get_or, take, length-append, arith}
 use Rattle.std.proofs.Math.Seq.{take-append_seam}
 use Rattle.intake_queue.specs.Writes.{sent_of, IsNumbered, IsOther}
 use Rattle.intake_queue.specs.Laws.{ReceiptsAreNumbered, MetIsFront, FewAreQueued, OthersSendNothing, PassesAreByProducer, NewPassesAreUnsent}

@@ -14,12 +14,7 @@ pub struct Closed {
 }
 
 /// Closes an intake of which all was taken. Where there is no memory for the numbers, the three come back.
-pub fn close(
-    alloc: Global,
-    intake: Intake,
-    passes: Vec<Pass>,
-    taker: Taker,
-) -> Result<Closed, Made>
+pub fn close(alloc: Global, intake: Intake, passes: Vec<Pass>, taker: Taker) -> Result<Closed, Made>
     requires intake { taker.intake ≡ intake }
     requires all { AreAll intake passes.items }
     requires taken { IsAllTaken taker passes.items }

@@ -62,10 +62,7 @@ impl Pass {
             number: self.count,
             write,
         };
-        match intake
-            .queue
-            .push_as::<Sends, R>(rt, &mut self.token, sent)
-        {
+        match intake.queue.push_as::<Sends, R>(rt, &mut self.token, sent) {
             Ok(()) => {
                 self.count += 1;
                 Ok(())

@@ -50,12 +50,7 @@ impl Taker {
     }
 
     /// Takes the write at the front of the queue, with all passes at hand. None exactly where all that was sent was taken.
-    pub fn last<R: Wait>(
-        &mut self,
-        rt: &R,
-        intake: &Intake,
-        passes: &mut Vec<Pass>,
-    ) -> Option<Sent>
+    pub fn last<R: Wait>(&mut self, rt: &R, intake: &Intake, passes: &mut Vec<Pass>) -> Option<Sent>
         requires intake { self.old.intake ≡ intake.now }
         requires all { AreAll intake.now passes.old.items }
         ensures passes { passes.new.items ≡ passes.old.items }
@@ -117,9 +112,7 @@ impl Taker {
         ensures taken { IfNone result (sent_of pass.old.from self.old.received ≡ pass.old.sent) }
     {
         lend(&intake.queue, &mut self.token, &mut pass.token);
-        let taken = intake
-            .queue
-            .pop_as::<TakesBeside, R>(rt, &mut self.token);
+        let taken = intake.queue.pop_as::<TakesBeside, R>(rt, &mut self.token);
         lend(&intake.queue, &mut pass.token, &mut self.token);
         taken
     }

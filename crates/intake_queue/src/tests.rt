@@ -27,12 +27,7 @@ fn send_by<R: Wait>(
 }
 
 /// The producers send by turns until the queue is full.
-fn fill(
-    rt: &(impl Wait + Abort),
-    intake: &Intake,
-    passes: &mut Vec<Pass>,
-    producers: u32,
-)
+fn fill(rt: &(impl Wait + Abort), intake: &Intake, passes: &mut Vec<Pass>, producers: u32)
     requires producers { (0 < producers) × (intake.now.producers ≡ producers) }
     requires new { AreNew intake.now passes.old.items }
     ensures all { AreAll intake.now passes.new.items }
@@ -46,12 +41,7 @@ fn fill(
 }
 
 /// Each producer finds the queue full, and has its write back.
-fn find_full(
-    rt: &(impl Wait + Abort),
-    intake: &Intake,
-    passes: &mut Vec<Pass>,
-    producers: u32,
-)
+fn find_full(rt: &(impl Wait + Abort), intake: &Intake, passes: &mut Vec<Pass>, producers: u32)
     requires producers { (producers ≤ 4) × (intake.now.producers ≡ producers) }
     requires all { AreAll intake.now passes.old.items }
     requires few { (i : ℕ) (d : Sender) → i < length passes.old.items → length (slice_index_or passes.old.items i d).sent ≤ 1024 }

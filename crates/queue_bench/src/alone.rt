@@ -11,11 +11,7 @@ use table_schema::{Key, Write};
 
 /// One thread sends and takes so many writes, in tenths.
 #[tactic(auto, using(crate::proofs::Readies::new_ready))]
-pub fn alone<R: Wait + Print + Eprint + Clock>(
-    rt: &R,
-    alloc: Global,
-    number: u32,
-) -> Result<()> {
+pub fn alone<R: Wait + Print + Eprint + Clock>(rt: &R, alloc: Global, number: u32) -> Result<()> {
     let Made {
         intake,
         mut passes,

@@ -29,10 +29,7 @@ pub fn together<R: Threads + Wait + Sync + Print + Eprint + Clock>(
 }
 
 /// Sends them by the passes of a new intake.
-fn send_all<
-    R: Threads + Wait + Sync + Print + Eprint + Clock,
-    J: Name + Send + Sync,
->(
+fn send_all<R: Threads + Wait + Sync + Print + Eprint + Clock, J: Name + Send + Sync>(
     rt: &R,
     made: Made,
     number: u32,
@@ -55,10 +52,7 @@ fn send_all<
 }
 
 /// Each producer sends so many writes ten times over.
-fn send_tenths<
-    R: Threads + Wait + Sync + Eprint + Clock,
-    J: Name + Send + Sync,
->(
+fn send_tenths<R: Threads + Wait + Sync + Eprint + Clock, J: Name + Send + Sync>(
     rt: &R,
     intake: &Intake,
     locked: &Mutex<Locked<J>>,

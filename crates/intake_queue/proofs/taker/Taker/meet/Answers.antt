@@ -1,4 +1,4 @@
-use Rattle.std.proofs.Common.{rules, ◌≡◌, ◌<◌, ◌≤◌, ◌++◌, ℕ, ◌+◌, [], length, set, ap, sym, subst, ◌∙◌, get_or, append-nil, le_trans, arith}
+use Rattle.std.proofs.Common.{rules, ◌<◌, ◌≤◌, ◌+◌, [], length, set, ap, sym, subst, ◌∙◌, get_or, append-nil, le_trans, arith}
 use Rattle.std.proofs.lemmas.List.{set-get_or}
 use Rattle.intake_queue.specs.Writes.{sent_of, IsOther}
 use Rattle.intake_queue.specs.Values.{IsFront}
