@@ -21,44 +21,45 @@ use Rattle.sai_types.specs.Named.{both, first_lane, thing_by, port_at, vlan_at, 
 use Rattle.sai_types.specs.Names as name
 use Rattle.sai_types.specs.Names.{Name, name_kind, name_of}
 use Rattle.sai_types.specs.Made.{IsWhole, HaveLanes, has_first, HaveOneEach, is_one, same_entry}
-use Rattle.sai_types.proofs.Keys.{both_true, ids_tied, mapped, share-first, one_port, one_vlan, one_bridge_port, one_base, one_hop, one_next_hop}
+use Rattle.sai_types.proofs.Exact.{ids-tied}
+use Rattle.sai_types.proofs.Keys.{both_true, mapped, share-first, one_port, one_vlan, one_bridge_port, one_base, one_hop, one_next_hop}
 
 pub both_mapped : {A B C : Type 0} (f : A → B → C) (o : Option A) (p : Option B) (y : C) → both f o p ≡ Some y → (a : A) × (b : B) × (o ≡ Some a) × (p ≡ Some b) × (f a b ≡ y)
 both_mapped f None p y h = absurd cc
 both_mapped f (Some a) None y h = absurd cc
 both_mapped f (Some a) (Some b) y h = (a, b, refl, refl, cc)
 
-vlans : (a b : ℕ) → name.Vlan a ≡ name.Vlan b → a ≡ b
+pub vlans : (a b : ℕ) → name.Vlan a ≡ name.Vlan b → a ≡ b
 vlans a b h = cc
 
-ports : (a b : ℕ) → name.Port a ≡ name.Port b → a ≡ b
+pub ports : (a b : ℕ) → name.Port a ≡ name.Port b → a ≡ b
 ports a b h = cc
 
-bridge_ports : (a b : ℕ) → name.BridgePort a ≡ name.BridgePort b → a ≡ b
+pub bridge_ports : (a b : ℕ) → name.BridgePort a ≡ name.BridgePort b → a ≡ b
 bridge_ports a b h = cc
 
-members : (a b c d : ℕ) → name.VlanMember a b ≡ name.VlanMember c d → (a ≡ c) × (b ≡ d)
-members a b c d h = (cc, cc)
+pub vlan_members : (a b c d : ℕ) → name.VlanMember a b ≡ name.VlanMember c d → (a ≡ c) × (b ≡ d)
+vlan_members a b c d h = (cc, cc)
 
-rifs : (a b : Base) → name.Rif a ≡ name.Rif b → a ≡ b
+pub rifs : (a b : Base) → name.Rif a ≡ name.Rif b → a ≡ b
 rifs a b h = cc
 
-owns : (a b : Ip) → name.Own a ≡ name.Own b → a ≡ b
+pub owns : (a b : Ip) → name.Own a ≡ name.Own b → a ≡ b
 owns a b h = cc
 
-neighbors : (a b : Hop) → name.Neighbor a ≡ name.Neighbor b → a ≡ b
+pub neighbors : (a b : Hop) → name.Neighbor a ≡ name.Neighbor b → a ≡ b
 neighbors a b h = cc
 
-next_hops : (a b : Hop) → name.NextHop a ≡ name.NextHop b → a ≡ b
+pub next_hops : (a b : Hop) → name.NextHop a ≡ name.NextHop b → a ≡ b
 next_hops a b h = cc
 
-groups : (a b : List Hop) → name.Group a ≡ name.Group b → a ≡ b
+pub groups : (a b : List Hop) → name.Group a ≡ name.Group b → a ≡ b
 groups a b h = cc
 
-group_members : (a b : List Hop) (x y : Hop) → name.GroupMember a x ≡ name.GroupMember b y → (a ≡ b) × (x ≡ y)
+pub group_members : (a b : List Hop) (x y : Hop) → name.GroupMember a x ≡ name.GroupMember b y → (a ≡ b) × (x ≡ y)
 group_members a b x y h = (cc, cc)
 
-routes : (a b : Prefix) → name.Route a ≡ name.Route b → a ≡ b
+pub routes : (a b : Prefix) → name.Route a ≡ name.Route b → a ≡ b
 routes a b h = cc
 
 module _ (hops : Rid → Option (List Hop)) (objects : Objects) where
@@ -125,7 +126,7 @@ module _ (hops : Rid → Option (List Hop)) (objects : Objects) where
     same_by e f (body.Vlan v) (body.Vlan w) k i j x y same one = inl (eq-eqb v w (vlans v w (sym i ∙ j)))
     same_by e f (body.BridgePort p) (body.BridgePort q) k i j x y same one = inl (one_port made objects whole have p q i.0 i.1 (j.1 ∙ ap Some (sym (bridge_ports i.0 j.0 (sym i.2 ∙ j.2)))))
     same_by e f (body.VlanMember v p t) (body.VlanMember w q t') k i j x y same one =
-        let keys = members i.0 i.1 j.0 j.1 (sym i.4 ∙ j.4) in
+        let keys = vlan_members i.0 i.1 j.0 j.1 (sym i.4 ∙ j.4) in
         inl (both_true _ _ (one_vlan made objects whole have v w i.0 i.2 (j.2 ∙ ap Some (sym keys.0))) (one_bridge_port made objects whole have p q i.1 i.3 (j.3 ∙ ap Some (sym keys.1))))
     same_by e f (body.Rif on) (body.Rif on') k i j x y same one = inl (one_base made objects whole have on on' i.0 i.1 (j.1 ∙ ap Some (sym (rifs i.0 j.0 (sym i.2 ∙ j.2)))))
     same_by e f (body.OwnAddress ip) (body.OwnAddress other) k i j x y same one = inl (ap (same_ip ip) (sym (owns ip other (sym i ∙ j))) ∙ equal_ip.laws-law.refl ip)
@@ -133,7 +134,7 @@ module _ (hops : Rid → Option (List Hop)) (objects : Objects) where
     same_by e f (body.NextHop r ip) (body.NextHop s other) k i j x y same one = inl (one_hop made objects whole have r s ip other i.0 i.1 (j.1 ∙ ap Some (sym (next_hops i.0 j.0 (sym i.2 ∙ j.2)))))
     same_by e f body.Group body.Group k i j x y same one =
         let ids = one_group k one (ap is_one i.4) i.0 j.0 i.1 i.3 (j.3 ∙ ap Some (sym (groups i.1 j.1 (sym i.4 ∙ j.4)))) in
-        inr (ap (λ z. same_entry z f) i.2 ∙ ap (same_entry (entry.Oid i.0)) j.2 ∙ ids_tied i.0 j.0 ∙ ids)
+        inr (ap (λ z. same_entry z f) i.2 ∙ ap (same_entry (entry.Oid i.0)) j.2 ∙ ids-tied i.0 j.0 ∙ ids)
     same_by e f (body.GroupMember g n) (body.GroupMember h m) k i j x y same one =
         let keys = group_members i.0 j.0 i.1 j.1 (sym i.4 ∙ j.4) in
         inl (both_true _ _ (one_group k one (ap is_one i.4) g h i.0 i.2 (j.2 ∙ ap Some (sym keys.0))) (one_next_hop made objects whole have n m i.1 i.3 (j.3 ∙ ap Some (sym keys.1))))
