@@ -1,5 +1,5 @@
 -- The passes of a new intake may send.
-use Rattle.std.proofs.Common.{◌≡◌, ℕ, ◌<◌, List, length, get_or, ap, arith}
+use Rattle.std.proofs.Common.{ℕ, ◌<◌, List, length, get_or, ap, arith}
 use Rattle.intake_queue.specs.Values.{IntakeId, Sender, AreNew}
 use Rattle.queue_bench.specs.Ready.{IsReady}
 
