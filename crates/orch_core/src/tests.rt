@@ -122,7 +122,7 @@ struct ChipWithoutRoom {
 impl Chip for ChipWithoutRoom {
     ghost use Rattle.std.specs.Prelude.{◌∷◌, []};
 
-    ghost state = { λ c. record { objects = []; effects = []; capacities = 0 ∷ 0 ∷ 0 ∷ 0 ∷ 0 ∷ 0 ∷ 0 ∷ 0 ∷ 0 ∷ 0 ∷ 0 ∷ []; clean = c.clean; faults = 0 } };
+    ghost state = { λ c. record { objects = []; effects = []; capacities = 0 ∷ 0 ∷ 0 ∷ 0 ∷ 0 ∷ 0 ∷ 0 ∷ 0 ∷ 0 ∷ 0 ∷ 0 ∷ []; fails = []; clean = c.clean; faults = 0 } };
 
     fn call(&mut self, _call: &Call<Rid>) -> ChipAnswer {
         self.clean = false;
@@ -152,7 +152,7 @@ impl Chip for ChipWithoutRoom {
 
 /// A core without ports.
 fn core_without_ports(alloc: Global, limit: u64) -> Result<Core, OutOfMemory>
-    ensures kept { IfOk result (λ core. IsKept core (new_chip (0 ∷ 0 ∷ 0 ∷ 0 ∷ 0 ∷ 0 ∷ 0 ∷ 0 ∷ 0 ∷ 0 ∷ 0 ∷ []))) }
+    ensures kept { IfOk result (λ core. IsKept core (new_chip (0 ∷ 0 ∷ 0 ∷ 0 ∷ 0 ∷ 0 ∷ 0 ∷ 0 ∷ 0 ∷ 0 ∷ 0 ∷ []) [])) }
     ensures known { IfOk result (λ core. core.log.marks ≡ []) }
 {
     let caps = Caps([0, 0, 0, 0, 0, 0, 0, 0, 0, 0, 0]);
@@ -176,7 +176,7 @@ fn take_interface(core: &mut Core, fields: Fields) -> Result<(), OutOfMemory>
 
 /// A core without ports that has taken a write of an interface's row, where there is one.
 fn core_with(alloc: Global, interface: Option<Fields>, limit: u64) -> Result<Core, OutOfMemory>
-    ensures kept { IfOk result (λ core. IsKept core (new_chip (0 ∷ 0 ∷ 0 ∷ 0 ∷ 0 ∷ 0 ∷ 0 ∷ 0 ∷ 0 ∷ 0 ∷ 0 ∷ []))) }
+    ensures kept { IfOk result (λ core. IsKept core (new_chip (0 ∷ 0 ∷ 0 ∷ 0 ∷ 0 ∷ 0 ∷ 0 ∷ 0 ∷ 0 ∷ 0 ∷ 0 ∷ []) [])) }
     ensures known { IfOk result (λ core. core.log.marks ≡ []) }
 {
     let mut core = core_without_ports(alloc, limit)?;
@@ -189,7 +189,7 @@ fn core_with(alloc: Global, interface: Option<Fields>, limit: u64) -> Result<Cor
 
 /// Settles a core over a chip without room: how that ended, and whether the chip was not called.
 fn settle_once(core: &mut Core) -> Result<(Settled, bool), OutOfMemory>
-    requires kept { IsKept core.old (new_chip (0 ∷ 0 ∷ 0 ∷ 0 ∷ 0 ∷ 0 ∷ 0 ∷ 0 ∷ 0 ∷ 0 ∷ 0 ∷ [])) }
+    requires kept { IsKept core.old (new_chip (0 ∷ 0 ∷ 0 ∷ 0 ∷ 0 ∷ 0 ∷ 0 ∷ 0 ∷ 0 ∷ 0 ∷ 0 ∷ []) []) }
     requires known { core.old.log.marks ≡ [] }
 {
     let mut chip = ChipWithoutRoom { clean: true };
