@@ -12,8 +12,9 @@ use Rattle.sai_types.specs.declared.body.Entry.{Entry}
 use Rattle.sai_types.specs.declared.body.Entry.TheVariants as entry
 use Rattle.sai_types.specs.declared.thing.Thing.{Thing}
 use Rattle.sai_types.specs.declared.thing.Thing.TheVariants as thing
-use Rattle.sai_types.specs.Alike.{IsAlike, IsIn, IsOnceIn, natural_key}
+use Rattle.sai_types.specs.Alike.{IsAlike, IsIn, IsOnceIn}
 use Rattle.sai_types.specs.Made.{HaveLanes, IsWhole, has_first, is_one}
+use Rattle.sai_types.specs.Names.{name_of}
 use Rattle.sai_types.specs.Named.{first_lane, named, port_at, port_of, thing_of}
 use Rattle.sai_types.specs.Objects.{Objects, body_at}
 use Rattle.sai_types.proofs.Things.{one-each}
@@ -33,7 +34,7 @@ module _ (plan : Ports) (entries : Entries) (objects : Objects) (stands : Stands
     pub thing_is : Thing
     pub things : things_of plan k r ≡ thing_is ∷ []
     pub of_object : (e : Entry Rid) → thing_of objects (e, b) ≡ Some thing_is
-    pub one : is_one (natural_key thing_is) ≡ true
+    pub one : is_one (name_of thing_is) ≡ true
 
   lane_by : (p : ℕ) (a : Applied) (b : Body Rid) → IsPlanned plan (key.Port p) a.row → body_at objects (entry.Oid a.id) ≡ Some b → IsPort (key.Port p) a.row b ⊎ IsInterface entries (key.Port p) a.row b → (n : ℕ) × (port_at objects a.id ≡ Some n) × (lane_of plan p ≡ Some n)
   lane_by p a b planned found (inl x) =
@@ -106,7 +107,7 @@ module _ (plan : Ports) (entries : Entries) (objects : Objects) (stands : Stands
       let found = found-in objects object.0 has.0 whole.sorted object.2 in
       let one = one-each made objects whole (have_lanes-stands plans) in
       once-in objects objects (Some x) object.0 has.0 whole.sorted object.2 here (λ f d in_list its.
-      one.each f object.0 d has.0 x x (found-in objects f d whole.sorted in_list) found its here refl (ap (λ t. is_one (natural_key t)) same ∙ is.one))
+      one.each f object.0 d has.0 x x (found-in objects f d whole.sorted in_list) found its here refl (ap (λ t. is_one (name_of t)) same ∙ is.one))
 
 -- the chip is alike to the things of the applied rows
 pub alike-stands : (plan : Ports) (entries : Entries) (made : ℕ) (objects : Objects) → IsPlan plan → IsWhole made objects → Stands plan entries objects → IsAlike objects (IsThingOf plan (rows_applied entries))

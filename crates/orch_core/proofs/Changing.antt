@@ -3,6 +3,7 @@ use Rattle.std.proofs.Common.{◌≡◌, ◌⊎◌, inl, inr, ℕ, Bool, true, f
 use Rattle.std.specs.BTreeMap.{insert_entry, is_at}
 use Rattle.std.specs.Map.{remove_entry}
 use Rattle.std.specs.List.{list_any}
+use Rattle.std.proofs.Math.Bool.{or-false}
 use Rattle.std.proofs.lemmas.Bool.{false≢true}
 use Rattle.swss_types.specs.declared.interface.IfName.TheVariants as name
 use Rattle.table_schema.specs.Key.{key_cmp}
@@ -30,7 +31,7 @@ use Rattle.orch_core.specs.Standing.{Entries, IsPlanned, Stands, applied_entry, 
 use Rattle.orch_core.proofs.Bodies.{IsPort, IsInterface, body_of-moved, parts, port_body}
 use Rattle.orch_core.proofs.Keyed.{found-beside, found-insert, found-left, found-put, found-remove, is_at-refl, kept_put, left_by, put_or_left, same_key, sorted-insert, sorted-remove}
 use Rattle.orch_core.proofs.Listed.{any-none, found-in}
-use Rattle.orch_core.proofs.Owned.{id-exact, one-row}
+use Rattle.orch_core.proofs.Owned.{one-row}
 use Rattle.orch_core.proofs.Planned.{not_true}
 use Rattle.orch_core.proofs.Standing.{owner}
 
@@ -46,8 +47,7 @@ module _ (plan : Ports) (entries : Entries) (objects : Objects) (is : IsPlan pla
   unused_by : (d : Body Rid) (q : Key) (c : Applied) → applied_entry entries q ≡ Some c → IsPort q c.row d ⊎ IsInterface entries q c.row d → refers_to d gone ≡ false
   unused_by d q c at_q (inl x) = ap (λ z. refers_to z gone) x.body_is
   unused_by d q c at_q (inr x) = not_true (refers_to d gone) (λ h.
-      let ids = id-exact x.base.id a.id (sym (ap (λ z. refers_to z gone) x.body_is) ∙ h) in
-      let same : same_entry (entry.Oid x.base.id) gone ≡ true = ap (λ r. same_entry (entry.Oid r) gone) ids ∙ same-refl gone in
+      let same : same_entry (entry.Oid x.base.id) gone ≡ true = sym (or-false (same_entry (entry.Oid x.base.id) gone)) ∙ sym (ap (λ z. refers_to z gone) x.body_is) ∙ h in
       let port = one-row plan entries objects is stands (key.Port x.port) k x.base a x.base_is at same in
       let none = free x.port (sym port) in
       let there = ap (applied_entry entries) (sym x.key_is) ∙ at_q in

@@ -1,5 +1,5 @@
 -- making the object of a row: the call is legal, and then it stands
-use Rattle.std.proofs.Common.{◌≡◌, ◌⊎◌, inl, inr, ℕ, ◌+◌, ◌≤◌, true, false, List, None, Some, is_some, refl, sym, ap, ◌∙◌, subst, arith}
+use Rattle.std.proofs.Common.{◌≡◌, ◌⊎◌, inl, inr, ℕ, ◌+◌, ◌≤◌, ◌&&◌, true, false, List, None, Some, is_some, refl, sym, ap, ◌∙◌, subst, arith}
 use Rattle.std.specs.BTreeMap.{insert_entry, is_at}
 use Rattle.std.specs.Bool.{nat_le}
 use Rattle.std.specs.List.{list_any}
@@ -86,7 +86,7 @@ module _ (plan : Ports) (entries : Entries) (objects : Objects) (is : IsPlan pla
   module _ (k : Key) (r : Row) (b : Body Rid) (planned : IsPlanned plan k r) (none : applied_entry entries k ≡ None) where
     refers_by : IsPort k r b ⊎ IsInterface entries k r b → refers_well objects b ≡ true
     refers_by (inl x) = ap (refers_well objects) x.body_is
-    refers_by (inr x) = ap (refers_well objects) x.body_is ∙ (port_at x.port x.base x.base_is).0
+    refers_by (inr x) = ap (refers_well objects) x.body_is ∙ ap (λ t. t && true) (port_at x.port x.base x.base_is).0
 
     not_applied : (q : Key) (a : Applied) → applied_entry entries q ≡ Some a → k ≡ q → ⊥
     not_applied q a at same = let there = sym none ∙ ap (applied_entry entries) same ∙ at in cc

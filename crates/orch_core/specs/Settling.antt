@@ -1,9 +1,10 @@
 -- What a settling comes to. Own.
-use Rattle.std.specs.Prelude.{◌≡◌, ◌⊎◌, ℕ, Bool, true, false, ◌+◌, ◌<◌, ◌≤◌, List, [], length, map, Result, Ok, Err}
+use Rattle.std.specs.Prelude.{◌≡◌, ◌⊎◌, ℕ, Bool, true, false, ◌+◌, ◌<◌, ◌≤◌, List, [], length, map, Option, Result, Ok, Err}
 use Rattle.swss_types.specs.declared.out_of_memory.OutOfMemory.{OutOfMemory}
 use Rattle.std.specs.List.Sorted.{IsStrictlySortedBy}
 use Rattle.table_schema.specs.Key.{key_cmp}
 use Rattle.table_schema.specs.declared.key.Key.{Key}
+use Rattle.table_schema.specs.declared.row.Row.{Row}
 use Rattle.sai_types.specs.ChipState.{ChipState}
 use Rattle.switch_model.specs.History.{History, with_end, with_mark}
 use Rattle.switch_model.specs.Good.{TypedRows, good_rows}
@@ -11,10 +12,11 @@ use Rattle.switch_model.specs.Marks.{Waiting}
 use Rattle.switch_model.specs.declared.mark.Mark.{Mark}
 use Rattle.switch_model.specs.declared.mark.MarkEvent.{MarkEvent}
 use Rattle.switch_model.specs.declared.mark.MarkEvent.TheVariants as event
+use Rattle.switch_model.specs.declared.wait.Wait.{Wait}
 use Rattle.orch_core.specs.Called.{IsGrown}
 use Rattle.orch_core.specs.Due.{OwesCall, HadPlaces}
 use Rattle.orch_core.specs.Keeps.{IsKept}
-use Rattle.orch_core.specs.Standing.{rows_applied}
+use Rattle.orch_core.specs.Standing.{Entries, rows_applied}
 use Rattle.orch_core.specs.State.{State, counted_size}
 use Rattle.orch_core.specs.Turns.{TakeTurns}
 use Rattle.orch_core.specs.Turn.{BringsNew, EndsFaulted, IsRest, IsUnder, OnlyLeave, WaitTruly}
@@ -58,9 +60,13 @@ IsRested old chip (Ok (rested.Faulted before)) new chip' = EndsFaulted old chip 
 IsRested old chip (Ok rested.LogFull) new chip' = IsUnder old chip new chip' × OwesCall new × (new.limit < counted_size new (length chip'.effects) + 1)
 IsRested old chip (Err e) new chip' = IsUnder old chip new chip'
 
--- the keys that wait, as a mark lists them: each with its reason and its applied row
+-- a key that waits, as a mark lists it: with its reason and its applied row
+abbrev pub listed_as : Entries → Key × Wait → Key × Wait × Option Row
+listed_as applied w = (w.0, w.1, rows_applied applied w.0)
+
+-- the keys that wait, as a mark lists them
 abbrev pub listing : State → Waiting
-listing s = map (λ w. (w.0, w.1, rows_applied s.applied w.0)) s.waiting
+listing s = map (listed_as s.applied) s.waiting
 
 -- the moment: all writes taken, so many effects, and this event
 abbrev pub mark_at : State → ℕ → MarkEvent → Mark

@@ -7,12 +7,11 @@ mod attempt;
 mod called;
 mod difference;
 mod laws;
+mod listing;
 mod settle;
 mod state;
 mod step;
 mod take;
-#[cfg(test)]
-mod tests;
 mod turn;
 
 pub use answer::{Settled, TakeFault};

@@ -1,17 +1,17 @@
 // Settling: turns, until nothing is left to bring to the chip or a turn brings nothing, and then a mark.
-ghost use Rattle.std.specs.Prelude.{◌≡◌, false, IfOk, OnErr, OnOk};
+ghost use Rattle.std.specs.Prelude.{◌≡◌, false, OnErr, OnOk};
 ghost use Rattle.switch_model.specs.Sound.{is_suspect};
 ghost use Rattle.orch_core.specs.Keeps.{IsKept};
 ghost use Rattle.switch_model.specs.History.{History};
 ghost use Rattle.switch_model.specs.declared.mark.Mark.{Mark};
 ghost use Rattle.switch_model.specs.declared.mark.MarkEvent.TheVariants as event;
-ghost use Rattle.orch_core.specs.Settling.{IsFilled, IsFilling, IsRested, IsSame, EndsSettling, Settles, is_marked, listing, mark_at, opened, with_ending};
+ghost use Rattle.orch_core.specs.Settling.{IsFilled, IsFilling, IsRested, IsSame, EndsSettling, Settles, is_marked, mark_at, opened, with_ending};
 ghost use Rattle.orch_core.specs.Called.{IsGrown};
 ghost use Rattle.orch_core.specs.Tried.{IsStanding};
 ghost use Rattle.orch_core.specs.Turn.{OnlyLeave};
 
 use crate::turn::Turned;
-use crate::{Core, Mark, MarkEvent, Settled, Waits};
+use crate::{Core, Mark, MarkEvent, Settled};
 use sai_types::Chip;
 use swss_types::OutOfMemory;
 
@@ -112,22 +112,6 @@ impl Core {
             left = still;
         }
         Ok(Rested::Rested(turns))
-    }
-
-    /// The keys that wait, each with its reason and its applied row.
-    fn waits(&self) -> Result<Waits, OutOfMemory>
-        ensures { IfOk result (λ waits. waits ≡ listing self.now) }
-    {
-        let mut waits = Waits::new(self.alloc);
-        for waiting in &self.waiting {
-            let (key, wait) = waiting;
-            let row = match self.applied.get(key) {
-                Some(applied) => Some(applied.row.copy()?),
-                None => None,
-            };
-            waits.push((key.copy()?, wait.copy()?, row))?;
-        }
-        Ok(waits)
     }
 
     /// Fills in the mark of a settling that ended, with the keys that wait.

@@ -13,8 +13,6 @@ mod replay;
 mod sim;
 mod table;
 mod tally;
-#[cfg(test)]
-mod tests;
 mod things;
 mod ways;
 

@@ -22,7 +22,7 @@ pub mapped : {X Y : Type 0} (f : X → Y) (o : Option X) (y : Y) → option_map 
 mapped f None y h = absurd cc
 mapped f (Some x) y h = (x, refl, cc)
 
-ids_tied : (a b : Rid) → same_entry (entry.Oid a) (entry.Oid b) ≡ same_id a b
+pub ids_tied : (a b : Rid) → same_entry (entry.Oid a) (entry.Oid b) ≡ same_id a b
 ids_tied a b = search rules
 
 implies_by : (a b c d : Bool) → (a ≡ true → b ≡ true) → (c ≡ true → d ≡ true) → (a || c) ≡ true → (b || d) ≡ true
@@ -30,7 +30,7 @@ implies_by true b c d f g h = ap (λ x. x || d) (f refl)
 implies_by false true c d f g h = refl
 implies_by false false c d f g h = g h
 
-both_true : (a b : Bool) → a ≡ true → b ≡ true → (a && b) ≡ true
+pub both_true : (a b : Bool) → a ≡ true → b ≡ true → (a && b) ≡ true
 both_true a b e f = cc
 
 port_bases : (a b : ℕ) → base.Port a ≡ base.Port b → a ≡ b

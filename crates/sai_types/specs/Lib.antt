@@ -6,7 +6,9 @@ pub mod Forwarding
 pub mod Hop
 pub mod Made
 pub mod Named
+pub mod Names
 pub mod Objects
 pub mod Order
 pub mod Pairing
+pub mod References
 pub mod Refusal

@@ -67,7 +67,7 @@ pub fn calls_keep_whole()
     ensures { (capacities : List ℕ) (made : ℕ) (objects : Objects) (calls : List (Call Rid)) → IsWhole made objects → AreLegal capacities made objects calls → IsWhole (made_after_all made calls) (after_calls made objects calls) }
 {}
 
-/// In a whole state in which each port has a lane, two objects that stand for things of one natural key are one object,
+/// In a whole state in which each port has a lane, two objects that stand for things of one name are one object,
 /// but groups and their members.
 pub fn keys_are_taken_once()
     ensures { (made : ℕ) (objects : Objects) → IsWhole made objects → HaveLanes objects → HaveOneEach objects }

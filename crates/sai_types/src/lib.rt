@@ -12,8 +12,6 @@ mod kind;
 mod laws;
 mod pairing;
 mod plan;
-#[cfg(test)]
-mod tests;
 mod thing;
 
 pub use answer::{ChipAnswer, ListAnswer, SyncAnswer};

@@ -19,7 +19,8 @@ use Rattle.sai_types.specs.declared.thing.Goal.TheVariants as goal
 use Rattle.sai_types.specs.declared.thing.Thing.{Thing}
 use Rattle.sai_types.specs.declared.thing.Thing.TheVariants as thing
 use Rattle.sai_types.specs.After.{chip_after}
-use Rattle.sai_types.specs.Alike.{IsIn, NaturalKey, natural_key, thing_kind}
+use Rattle.sai_types.specs.Alike.{IsIn}
+use Rattle.sai_types.specs.Names.{Name, name_of, thing_kind}
 use Rattle.sai_types.specs.Forwarding.{decide, forward}
 use Rattle.sai_types.specs.Objects.{level, used}
 use Rattle.sai_types.specs.Refusal.{capacity_of}
@@ -51,25 +52,25 @@ without {X} x (y ∷ ys) (inr h) =
         other (inl e) = inl e
         other (inr h) = inr (inr h)
 
--- no more distinct natural keys than there are in a list that has them all
-few-distinct : (ks all : List NaturalKey) → AreDistinct ks → ((k : NaturalKey) → IsIn k ks → IsIn k all) → length ks ≤ length all
+-- no more distinct names than there are in a list that has them all
+few-distinct : (ks all : List Name) → AreDistinct ks → ((k : Name) → IsIn k ks → IsIn k all) → length ks ≤ length all
 few-distinct [] all apart within = omega arith
 few-distinct (k ∷ ks) all (new, apart) within =
     let less = without k all (within k (inl refl)) in
     let behind = few-distinct ks less.0 apart (λ q there. other q there (less.2 q (within q (inr there)))) in
     omega (arith, less.1, behind)
   where
-    other : (q : NaturalKey) → IsIn q ks → {rest : List NaturalKey} → (q ≡ k) ⊎ IsIn q rest → IsIn q rest
+    other : (q : Name) → IsIn q ks → {rest : List Name} → (q ≡ k) ⊎ IsIn q rest → IsIn q rest
     other q there (inl e) = absurd (new (subst (λ x. IsIn x ks) e there))
     other q there (inr h) = h
 
 -- of things that are among two at most two are of a kind
-two-at_most : (view : Thing → Type 0) (x y : Thing) → ((t : Thing) → view t → IsIn t (x ∷ y ∷ [])) → (kind : Kind) (keys : List NaturalKey) → AreKeysOf view kind keys → length keys ≤ 2
-two-at_most view x y within kind keys are = few-distinct keys (natural_key x ∷ natural_key y ∷ []) are.distinct (λ k there. let t = are.things k there in subst (λ q. IsIn q (natural_key x ∷ natural_key y ∷ [])) t.1 (named_by t.0 (within t.0 t.3)))
+two-at_most : (view : Thing → Type 0) (x y : Thing) → ((t : Thing) → view t → IsIn t (x ∷ y ∷ [])) → (kind : Kind) (keys : List Name) → AreKeysOf view kind keys → length keys ≤ 2
+two-at_most view x y within kind keys are = few-distinct keys (name_of x ∷ name_of y ∷ []) are.distinct (λ k there. let t = are.things k there in subst (λ q. IsIn q (name_of x ∷ name_of y ∷ [])) t.1 (named_by t.0 (within t.0 t.3)))
   where
-    named_by : (t : Thing) → IsIn t (x ∷ y ∷ []) → IsIn (natural_key t) (natural_key x ∷ natural_key y ∷ [])
-    named_by t (inl e) = inl (ap natural_key e)
-    named_by t (inr (inl e)) = inr (inl (ap natural_key e))
+    named_by : (t : Thing) → IsIn t (x ∷ y ∷ []) → IsIn (name_of t) (name_of x ∷ name_of y ∷ [])
+    named_by t (inl e) = inl (ap name_of e)
+    named_by t (inr (inl e)) = inr (inl (ap name_of e))
     named_by t (inr (inr h)) = absurd h
 
 two-le : (n : ℕ) → 2 ≤ n + 2
@@ -106,10 +107,10 @@ no_room = map (λ n. 0) room
 
 first_lacks_room : HasRoom no_room (desired_view wide_plan (rows_of first_writes)) → ⊥
 first_lacks_room fits =
-    let one : length (natural_key first_port ∷ []) ≤ 0 = fits kind.Port (natural_key first_port ∷ []) (record { distinct = (λ h. h, tt); things = λ k there. found k there }) in
+    let one : length (name_of first_port ∷ []) ≤ 0 = fits kind.Port (name_of first_port ∷ []) (record { distinct = (λ h. h, tt); things = λ k there. found k there }) in
     absurd (omega (arith, one))
   where
-    found : (k : NaturalKey) → IsIn k (natural_key first_port ∷ []) → (t : Thing) × (natural_key t ≡ k) × (level (thing_kind t) ≡ level kind.Port) × desired_view wide_plan (rows_of first_writes) t
+    found : (k : Name) → IsIn k (name_of first_port ∷ []) → (t : Thing) × (name_of t ≡ k) × (level (thing_kind t) ≡ level kind.Port) × desired_view wide_plan (rows_of first_writes) t
     found k (inl e) = (first_port, sym e, refl, (first_view first_port).1 (inl refl))
     found k (inr h) = absurd h
 
@@ -121,11 +122,11 @@ nothing-lacks : (t : Thing) → IsLacking (chip_after first_calls 2) (desired_vi
 nothing-lacks t (there, none) = by ((first_view t).0 there)
   where
     by : IsIn t (first_port ∷ first_interface ∷ []) → ⊥
-    by (inl e) = none (first_port, inl refl, ap natural_key (sym e))
-    by (inr (inl e)) = none (first_interface, inr (inl refl), ap natural_key (sym e))
+    by (inl e) = none (first_port, inl refl, ap name_of (sym e))
+    by (inr (inl e)) = none (first_interface, inr (inl refl), ap name_of (sym e))
     by (inr (inr h)) = h
 
-no-keys : (kind : Kind) (keys : List NaturalKey) → AreKeysOf (IsLacking (chip_after first_calls 2) (desired_view wide_plan (rows_of first_writes))) kind keys → length keys ≡ 0
+no-keys : (kind : Kind) (keys : List Name) → AreKeysOf (IsLacking (chip_after first_calls 2) (desired_view wide_plan (rows_of first_writes))) kind keys → length keys ≡ 0
 no-keys kind [] are = refl
 no-keys kind (k ∷ ks) are = let t = are.things k (inl refl) in absurd (nothing-lacks t.0 t.3)
 

@@ -4,8 +4,6 @@
 mod laws;
 mod log;
 mod mark;
-#[cfg(test)]
-mod tests;
 mod wait;
 mod waits;
 

@@ -1,46 +1,49 @@
 // The rows that wait at a mark.
-ghost use Rattle.std.specs.Prelude.{◌≡◌, [], ◌∷◌, ◌++◌, OnOk, OnErr};
+ghost use Rattle.std.specs.Prelude.{◌≡◌, IfOk};
 
 use crate::Wait;
 use std::alloc::Global;
 use std::marker::Model;
+use std::sync::ArcSlice;
 use swss_types::OutOfMemory;
 use table_schema::{Key, Row};
 
-/// The keys that wait, in key order, each with its reason and the row that is applied for it, if one is.
+/// The keys that wait, in key order, each with its reason and the row that is applied for it, if one is. Marks at which
+/// the same keys wait share their list.
 #[derive(Debug, Drop)]
 pub struct Waits {
-    waits: Vec<(Key, Wait, Option<Row>)>,
+    waits: ArcSlice<(Key, Wait, Option<Row>), Global>,
 }
 
 impl Model for Waits {
     ghost use Rattle.std.specs.Prelude.{List, Option};
+    ghost use Rattle.std.specs.Arc.{arc_slice_items};
     ghost use Rattle.table_schema.specs.declared.key.Key.{Key};
     ghost use Rattle.table_schema.specs.declared.row.Row.{Row};
     ghost use Rattle.switch_model.specs.declared.wait.Wait.{Wait};
 
     ghost Value = { List (Key × Wait × Option Row) };
 
-    ghost view = { λ w. w.waits.items };
+    ghost view = { λ w. arc_slice_items w.waits };
 }
 
 impl Waits {
-    /// No key.
-    pub fn new(alloc: Global) -> Waits
-        ensures { result ≡ [] }
+    /// The list of these keys.
+    pub fn from_vec(waits: Vec<(Key, Wait, Option<Row>)>) -> Result<Waits, OutOfMemory>
+        ensures { IfOk result (λ list. list ≡ waits.items) }
     {
-        Waits {
-            waits: Vec::new(alloc),
-        }
+        Ok(Waits {
+            waits: ArcSlice::from_vec(waits)?,
+        })
     }
 
-    /// Puts a key last.
-    pub fn push(&mut self, wait: (Key, Wait, Option<Row>)) -> Result<(), OutOfMemory>
-        ensures ok { OnOk result (self.new ≡ self.old ++ wait ∷ []) }
-        ensures err { OnErr result (self.new ≡ self.old) }
+    /// The same list once more. Nothing of it is copied: both share it.
+    pub fn share(&self) -> Result<Waits, OutOfMemory>
+        ensures { IfOk result (λ list. list ≡ self.now) }
     {
-        self.waits.push(wait)?;
-        Ok(())
+        Ok(Waits {
+            waits: self.waits.clone()?,
+        })
     }
 
     /// The keys with their reasons and applied rows.

@@ -11,6 +11,7 @@ ghost use Rattle.swss_types.specs.Lanes.{lanes_of, lanes_in, lanes_text, rising,
 ghost use Rattle.swss_types.specs.Parts.{parts_at};
 
 use crate::{OutOfMemory, cut_at, insert_rising, read_number, write_number};
+use smallvec::SmallVec;
 use std::alloc::Global;
 use std::cmp::Ordering;
 use std::marker::Model;
@@ -18,7 +19,7 @@ use std::marker::Model;
 /// The serial lanes of a port: 1 to 8 rising numbers below 512.
 #[derive(Debug, Drop)]
 pub struct Lanes {
-    lanes: Vec<u16>,
+    lanes: SmallVec<u16, 8>,
 }
 
 impl Model for Lanes {
@@ -40,11 +41,13 @@ impl Lanes {
         let Some(numbers) = read_numbers(alloc, text)? else {
             return Ok(None);
         };
-        let lanes = in_order(alloc, &numbers)?;
+        let lanes = in_order(alloc, numbers.as_slice())?;
         if lanes.len() != numbers.len() || numbers.len() > 8 {
             return Ok(None);
         }
-        Ok(Some(Lanes { lanes }))
+        Ok(Some(Lanes {
+            lanes: SmallVec::from_slice(alloc, &lanes)?,
+        }))
     }
 
     /// The lanes, rising.
@@ -59,7 +62,7 @@ impl Lanes {
     pub fn first(&self) -> u16
         ensures { result ≡ slice_index self.now 0 }
     {
-        self.lanes[0]
+        self.items()[0]
     }
 
     /// Appends the written form: the lanes, rising, joined by commas.
@@ -80,7 +83,7 @@ impl Lanes {
         ensures { IfOk result (λ lanes. lanes ≡ self.now) }
     {
         Ok(Lanes {
-            lanes: self.lanes.clone()?,
+            lanes: SmallVec::from_slice(*self.lanes.allocator(), self.lanes.as_slice())?,
         })
     }
 }
@@ -124,10 +127,10 @@ impl Ord for Lanes {
 }
 
 /// The numbers below 512 that the text lists between commas, or None where a part is no such number.
-fn read_numbers(alloc: Global, text: &[u8]) -> Result<Option<Vec<u16>>, OutOfMemory>
+fn read_numbers(alloc: Global, text: &[u8]) -> Result<Option<SmallVec<u16, 8>>, OutOfMemory>
     ensures { IfOk result (λ numbers. option_map (λ n. n.items) numbers ≡ lanes_in (parts_at 44 text.now)) }
 {
-    let mut numbers = Vec::new(alloc);
+    let mut numbers = SmallVec::new(alloc);
     let mut left = Some(text);
     while let Some(list) = left {
         let (part, behind) = cut_at(list, b',');
@@ -144,7 +147,7 @@ fn read_numbers(alloc: Global, text: &[u8]) -> Result<Option<Vec<u16>>, OutOfMem
 fn in_order(alloc: Global, numbers: &[u16]) -> Result<Vec<u16>, OutOfMemory>
     ensures { IfOk result (λ lanes. lanes.items ≡ rising [] numbers.now) }
 {
-    let mut lanes = Vec::new(alloc);
+    let mut lanes = Vec::with_capacity(alloc, numbers.len())?;
     for number in numbers {
         insert_rising(&mut lanes, *number)?;
     }

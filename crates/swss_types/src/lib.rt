@@ -16,8 +16,6 @@ mod parts;
 mod prefix;
 mod rising;
 mod tagging;
-#[cfg(test)]
-mod tests;
 mod text;
 
 pub use address::{Family, Ip, Mac, Prefix};

@@ -8,24 +8,27 @@ ghost use Rattle.std.specs.Cmp.Lexicographic.{slice_cmp, pointwise};
 ghost use Rattle.std.specs.Ordering.{nat_cmp, as_partial_cmp};
 
 use crate::OutOfMemory;
+use smallvec::SmallVec;
 use std::alloc::Global;
 use std::cmp::Ordering;
 use std::marker::Model;
 use std::str;
 
-/// A list of bytes that is valid UTF-8. Texts are ordered byte by byte.
+/// A list of bytes that is valid UTF-8. Texts are ordered byte by byte. Most are short: up to 16 bytes need no allocation.
 #[derive(Debug, Drop)]
 pub struct Text {
-    text: String,
+    bytes: SmallVec<u8, 16>,
 }
 
 impl Model for Text {
     ghost use Rattle.std.specs.Prelude.{List, ℕ};
-    ghost use Rattle.std.specs.String.{string_bytes};
+    ghost use Rattle.std.specs.Str.{IsUtf8};
 
     ghost Value = { List ℕ };
 
-    ghost view = { λ t. string_bytes t.text };
+    ghost view = { λ t. t.bytes.items };
+
+    ghost invariant = { λ t. IsUtf8 t.bytes.items };
 }
 
 impl Text {
@@ -34,11 +37,18 @@ impl Text {
         ensures { IfOk result (λ text. MatchOption text (¬ IsUtf8 bytes.now) (λ t. (t ≡ bytes.now) × IsUtf8 bytes.now)) }
     {
         match str::from_utf8(bytes) {
-            Ok(text) => Ok(Some(Text {
-                text: String::from_str(alloc, text)?,
-            })),
+            Ok(text) => Ok(Some(Text::from_str(alloc, text)?)),
             Err(_) => Ok(None),
         }
+    }
+
+    /// The text of these characters.
+    pub fn from_str(alloc: Global, text: &str) -> Result<Text, OutOfMemory>
+        ensures { IfOk result (λ copy. copy ≡ text.now) }
+    {
+        Ok(Text {
+            bytes: SmallVec::from_slice(alloc, text.as_bytes())?,
+        })
     }
 
     /// The bytes of the text.
@@ -46,7 +56,7 @@ impl Text {
         ensures value { result.now ≡ self.now }
         ensures utf8 { IsUtf8 result.now }
     {
-        self.text.as_str().as_bytes()
+        self.bytes.as_slice()
     }
 
     /// The same text once more.
@@ -54,7 +64,7 @@ impl Text {
         ensures { IfOk result (λ text. text ≡ self.now) }
     {
         Ok(Text {
-            text: self.text.clone()?,
+            bytes: SmallVec::from_slice(*self.bytes.allocator(), self.bytes.as_slice())?,
         })
     }
 }

@@ -10,4 +10,5 @@ invariant_of-result c =
     let lanes : c.in_ok-lanes.lanes.items ≡ rising [] c.in-Some.numbers.items = search rules in
     let same : length c.in_ok-lanes.lanes.items ≡ length c.in-Some.numbers.items = search rules in
     let few : length c.in-Some.numbers.items ≤ 8 = search rules in
-    rw lanes (IsLaneList-rising c.args.text.now c.in-Some.numbers.items all (rw lanes at same) few)
+    let copied : c.in_ok-from_slice.field-0.items ≡ rising [] c.in-Some.numbers.items = search rules in
+    rw copied (IsLaneList-rising c.args.text.now c.in-Some.numbers.items all (rw lanes at same) few)
