@@ -21,7 +21,7 @@ use Rattle.sai_types.proofs.Things.{one-each}
 use Rattle.switch_model.specs.Desired.{IsThingOf}
 use Rattle.switch_model.specs.Things.{from_base, from_lane, lane_of, things_of}
 use Rattle.orch_core.specs.declared.applied.Applied.{Applied}
-use Rattle.orch_core.specs.Standing.{Entries, IsPlanned, Stands, applied_at, rows_applied}
+use Rattle.orch_core.specs.Standing.{Entries, IsPlanned, Stands, applied_entry, rows_applied}
 use Rattle.orch_core.proofs.Bodies.{IsPort, IsInterface, parts}
 use Rattle.orch_core.proofs.Listed.{found-in, in-found, object-of_thing, once-in}
 use Rattle.orch_core.proofs.Owned.{lanes-of_port}
@@ -47,7 +47,7 @@ module _ (plan : Ports) (entries : Entries) (objects : Objects) (stands : Stands
   lane_by p a b planned found (inr x) = let no = x.key_is in absurd cc
 
   -- an applied port is named by its first lane
-  lane_at : (p : ℕ) (a : Applied) → applied_at entries (key.Port p) ≡ Some a → (n : ℕ) × (port_at objects a.id ≡ Some n) × (lane_of plan p ≡ Some n)
+  lane_at : (p : ℕ) (a : Applied) → applied_entry entries (key.Port p) ≡ Some a → (n : ℕ) × (port_at objects a.id ≡ Some n) × (lane_of plan p ≡ Some n)
   lane_at p a at =
       let has = stands.stand (key.Port p) a at in
       lane_by p a has.0 (stands.planned (key.Port p) a at) has.2 (parts entries (key.Port p) a.row has.0 has.1)

@@ -31,11 +31,11 @@ use Rattle.switch_model.specs.Marks.{AreDistinct, Overflows, first_missing}
 use Rattle.switch_model.specs.Things.{from_base, from_lane, things_of}
 use Rattle.switch_model.specs.declared.wait.Wait.TheVariants as wait
 use Rattle.orch_core.specs.declared.applied.Applied.{Applied}
-use Rattle.orch_core.specs.Due.{CallIsDue, HadPlaces, HasNoReason}
-use Rattle.orch_core.specs.Standing.{Entries, HasRoom, Stands, applied_at, body_of, rows_applied}
-use Rattle.orch_core.specs.State.{State, size_of}
+use Rattle.orch_core.specs.Due.{OwesCall, HadPlaces, HasNoReason}
+use Rattle.orch_core.specs.Standing.{Entries, HasPortRoom, Stands, applied_entry, body_of, rows_applied}
+use Rattle.orch_core.specs.State.{State, counted_size}
 use Rattle.orch_core.specs.Step.{IsCreation, IsFree, IsRemoval}
-use Rattle.orch_core.specs.Tried.{IsSteady}
+use Rattle.orch_core.specs.Tried.{IsStanding}
 use Rattle.orch_core.proofs.Bodies.{IsPort, IsInterface, parts}
 use Rattle.orch_core.proofs.Good.{IsServedRow, OfPort, OfIntf, served-good}
 use Rattle.orch_core.proofs.Owned.{lanes-of_port}
@@ -127,13 +127,13 @@ served-applied plan entries objects stands k r h =
 enough : (xs : List Name) (m n : ℕ) → length xs ≡ m → m ≤ n → length xs ≤ n
 enough xs m n is le = omega (arith, is, le)
 
-room-for : (plan : Ports) (capacities : List ℕ) (kd : Kind) → HasRoom plan capacities → length (planned_keys plan (level kd)) ≤ capacity_of capacities kd
+room-for : (plan : Ports) (capacities : List ℕ) (kd : Kind) → HasPortRoom plan capacities → length (planned_keys plan (level kd)) ≤ capacity_of capacities kd
 room-for plan capacities kind.Port room = enough (map (λ p. thing_name.Port (first_lane p.1)) plan) (length plan) (capacity_of capacities kind.Port) (length-map plan (λ p. thing_name.Port (first_lane p.1))) room.ports
 room-for plan capacities kind.Rif room = enough (map (λ p. thing_name.Rif (base.Port (first_lane p.1))) plan) (length plan) (capacity_of capacities kind.Rif) (length-map plan (λ p. thing_name.Rif (base.Port (first_lane p.1)))) room.rifs
 room-for plan capacities kd room = enough [] 0 (capacity_of capacities kd) refl (omega arith)
 
 -- there is room for the things of the applied rows and of one row more
-pub no-overflow : (plan : Ports) (capacities : List ℕ) (entries : Entries) (objects : Objects) (k : Key) (r : Row) (kd : Kind) → HasRoom plan capacities → Stands plan entries objects → IsServedRow plan k r → Overflows plan capacities (rows_applied entries) k r kd → ⊥
+pub no-overflow : (plan : Ports) (capacities : List ℕ) (entries : Entries) (objects : Objects) (k : Key) (r : Row) (kd : Kind) → HasPortRoom plan capacities → Stands plan entries objects → IsServedRow plan k r → Overflows plan capacities (rows_applied entries) k r kd → ⊥
 no-overflow plan capacities entries objects k r kd room stands served over =
     let few = no-more over.keys (planned_keys plan (level kd)) over.distinct among in
     omega (arith, few, over.many, room-for plan capacities kd room)
@@ -157,7 +157,7 @@ none-missing rows (k ∷ ks) h = by (is_some (rows k)) h (none-missing rows ks)
     by true h behind = behind h
     by false h behind = absurd (false≢true h)
 
-module _ (s : State) (chip : ChipState) (steady : IsSteady s chip) (k : Key) where
+module _ (s : State) (chip : ChipState) (steady : IsStanding s chip) (k : Key) where
   -- a row that reads, and whose names are all applied
   pub free-good : (r : Row) → good_rows s.plan s.rows k ≡ Some r → have_rows (rows_applied s.applied) (names_of k r) ≡ true → HasNoReason s k
   free-good r good have (wait.Missing q) (x, reads, missing) =
@@ -197,7 +197,7 @@ module _ (s : State) (chip : ChipState) (steady : IsSteady s chip) (k : Key) whe
   pub free-creation : (r : Row) (b : Body Rid) → IsCreation s k r b → HasNoReason s k
   free-creation r b step = free-good r step.good (has_base s.applied k r b (parts s.applied k r b step.body))
 
-  pub due-creation : (r : Row) (b : Body Rid) → IsIn k s.to_sync → IsCreation s k r b → CallIsDue s
+  pub due-creation : (r : Row) (b : Body Rid) → IsIn k s.to_sync → IsCreation s k r b → OwesCall s
   due-creation r b due step = record {
     key = k;
     queued = due;
@@ -205,11 +205,11 @@ module _ (s : State) (chip : ChipState) (steady : IsSteady s chip) (k : Key) whe
     free = free-creation r b step;
   }
 
-  pub due-removal : (id : Rid) → IsIn k s.to_sync → IsRemoval s k id → CallIsDue s
+  pub due-removal : (id : Rid) → IsIn k s.to_sync → IsRemoval s k id → OwesCall s
   due-removal id due step = record {
     key = k;
     queued = due;
-    differs = λ same. gone (applied_at s.applied k) step.there (same ∙ step.good);
+    differs = λ same. gone (applied_entry s.applied k) step.there (same ∙ step.good);
     free = free-gone step.good step.free;
   }
     where
@@ -220,18 +220,18 @@ module _ (s : State) (chip : ChipState) (steady : IsSteady s chip) (k : Key) whe
 -- ---- places of the log
 
 -- the log is not full
-pub fits-from : (s : State) (n m : ℕ) (full : Bool) → ((full ≡ true) ↔ (s.limit < size_of s n + 1)) → full ≡ false → n ≡ m → size_of s m + 1 ≤ s.limit
+pub fits-from : (s : State) (n m : ℕ) (full : Bool) → ((full ≡ true) ↔ (s.limit < counted_size s n + 1)) → full ≡ false → n ≡ m → counted_size s m + 1 ≤ s.limit
 fits-from s n m full says not same = omega (arith, same, by)
   where
-    by : ¬ (s.limit < size_of s n + 1)
+    by : ¬ (s.limit < counted_size s n + 1)
     by h = false≢true (sym not ∙ says.1 h)
 
 -- the log is full
-pub full-from : (s : State) (n m : ℕ) (full : Bool) → ((full ≡ true) ↔ (s.limit < size_of s n + 1)) → full ≡ true → n ≡ m → s.limit < size_of s m + 1
+pub full-from : (s : State) (n m : ℕ) (full : Bool) → ((full ≡ true) ↔ (s.limit < counted_size s n + 1)) → full ≡ true → n ≡ m → s.limit < counted_size s m + 1
 full-from s n m full says is same = omega (arith, same, says.0 is)
 
 -- the places hang on the log and its limit alone
-pub places-of : (n m : ℕ) (s t : State) (effects : ℕ) → size_of t 0 + m ≡ size_of s 0 + n → t.limit ≡ s.limit → HadPlaces n s effects → HadPlaces m t effects
+pub places-of : (n m : ℕ) (s t : State) (effects : ℕ) → counted_size t 0 + m ≡ counted_size s 0 + n → t.limit ≡ s.limit → HadPlaces n s effects → HadPlaces m t effects
 places-of n m s t effects sizes limit places = record {
   made = places.made;
   before = places.before;

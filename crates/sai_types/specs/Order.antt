@@ -10,7 +10,7 @@ use Rattle.sai_types.specs.declared.hop.Base.TheVariants as base
 use Rattle.sai_types.specs.declared.hop.Hop.{Hop}
 use Rattle.sai_types.specs.declared.thing.Thing.{Thing}
 use Rattle.sai_types.specs.declared.thing.Thing.TheVariants as thing
-use Rattle.sai_types.specs.Alike.{thing_kind}
+use Rattle.sai_types.specs.Names.{thing_kind}
 use Rattle.sai_types.specs.Objects.{level}
 
 -- interfaces on ports come first, then those on VLANs

@@ -35,7 +35,7 @@ use Rattle.sai_types.specs.Names.{Name, base_name, name_of, thing_references}
 use Rattle.switch_model.specs.Desired.{IsClosed, IsThingOf, desired_view, have_rows, ready_rows}
 use Rattle.switch_model.specs.Good.{TypedRows, good_rows}
 use Rattle.switch_model.specs.References.{IsSelfContained}
-use Rattle.switch_model.specs.Things.{base_of, from_base, from_hops, from_lane, hop_of, hops_of, lane_of, members_of, route_things, route_to, things_of}
+use Rattle.switch_model.specs.Things.{base_of, from_base, from_hops, from_lane, hop_of, hops_of, lane_of, members_of, own_things, route_things, route_to, things_of}
 use Rattle.switch_model.proofs.ReadRows.{IsRead, IsRead-good, intf_read, neigh_read, port_read, vlan_read}
 use Rattle.switch_model.proofs.Ready.{IsClosed-ready, both_true, ready-there}
 
@@ -199,13 +199,18 @@ module _ (plan : Ports) (rows : TypedRows) (closed : IsClosed rows) (read : (k :
   port_by port made None each = tt
   port_by port made (Some lane) each = (each lane, tt)
 
+  own_by : (on : IfName) (ip : Ip) → AllIn AreMet (own_things plan on ip)
+  own_by (name.Ethernet port) ip = port_by port (λ lane. thing.Own ip) (lane_of plan port) (λ lane. tt)
+  own_by (name.Vlan vlan) ip = (tt, tt)
+  own_by (name.Loopback number) ip = (tt, tt)
+
   -- the things of a row of this key
   row_met : (k : Key) (r : Row) → rows k ≡ Some r → have_rows rows (names_of k r) ≡ true → AllIn AreMet (things_of plan k r)
   row_met (key.Port port) (row.Port p) is named = port_by port (λ lane. thing.Port (record { lanes = p.lanes; speed = p.speed; mtu = p.mtu; up = p.up })) (lane_of plan port) (λ lane. tt)
   row_met (key.Vlan vlan) row.Vlan is named = (tt, tt)
   row_met (key.Member vlan port) (row.Member tagging) is named = member_by vlan port tagging (lane_of plan port) is named refl
   row_met (key.Intf on) row.Intf is named = rif_by on (base_of plan on) named refl
-  row_met (key.Addr on ip len) row.Addr is named = (tt, tt)
+  row_met (key.Addr on ip len) row.Addr is named = own_by on ip
   row_met (key.Neigh on ip) (row.Neigh mac) is named = neigh_by on ip mac (base_of plan on) is named refl
   row_met (key.Route prefix) (row.Route target) is named = target_met prefix target is named
   row_met _ _ is named = tt

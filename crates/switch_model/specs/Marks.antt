@@ -6,6 +6,7 @@ use Rattle.std.specs.Ordering.{is_le}
 use Rattle.table_schema.specs.declared.key.Key.{Key}
 use Rattle.table_schema.specs.declared.row.Row.{Row}
 use Rattle.table_schema.specs.declared.write.Write.{Write}
+use Rattle.table_schema.specs.declared.write.Write.TheVariants as write
 use Rattle.table_schema.specs.declared.write.Sent.{Sent}
 use Rattle.table_schema.specs.Key.{key_cmp}
 use Rattle.table_schema.specs.Names.{names_of}
@@ -81,6 +82,11 @@ abbrev pub ListsNoRow : Waiting → Type 0
 ListsNoRow [] = Unit {0}
 ListsNoRow (w ∷ ws) = (w.2 ≡ None) × ListsNoRow ws
 
+-- the key that a write is of
+abbrev pub written_key : Write → Key
+written_key (write.Set key fields) = key
+written_key (write.Del key) = key
+
 -- the writes that were sent
-abbrev pub writes_of : List Sent → List Write
-writes_of sent = map (λ s. s.write) sent
+abbrev pub sent_writes : List Sent → List Write
+sent_writes sent = map (λ s. s.write) sent
