@@ -1,12 +1,12 @@
-//! Times the service: rounds of one change each, and writes in one round, over 250 ports with interfaces, and rounds in
-//! which 1,000 interfaces wait. The words are pairs of `rounds`, `writes` or `waiting` and a number. What was done goes to
-//! standard output, and the time to standard error.
+//! Times the service: rounds of one change each, and writes in one round, over 250 ports with interfaces; rounds in which
+//! 1,000 interfaces wait; and writes that each set one more field of the same key. The words are pairs of `rounds`, `writes`,
+//! `waiting` or `fields` and a number. What was done goes to standard output, and the time to standard error.
 #![tactic(auto)]
 
 mod scripts;
 
 use anyhow::{Context, Result, bail};
-use scripts::{rounds_script, waiting_script, writes_script};
+use scripts::{fields_script, rounds_script, waiting_script, writes_script};
 use std::alloc::Global;
 use std::env;
 use std::sync::Wait;
@@ -31,7 +31,8 @@ fn main(rt: HostRuntime) -> Result<()> {
                 number,
                 waiting_script(alloc, number)?,
             )?,
-            _ => bail!("rounds, writes or waiting"),
+            "fields" => time(&rt, alloc, "fields", number, fields_script(alloc, number)?)?,
+            _ => bail!("rounds, writes, waiting or fields"),
         }
     }
     Ok(())

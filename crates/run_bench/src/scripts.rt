@@ -47,6 +47,23 @@ pub fn waiting_script(alloc: Global, rounds: u32) -> Result<Vec<u8>, OutOfMemory
     Ok(script)
 }
 
+/// So many writes to one key in one round, each of one more field, the names in no order.
+pub fn fields_script(alloc: Global, fields: u32) -> Result<Vec<u8>, OutOfMemory> {
+    let mut script = Vec::from_slice(alloc, b"producer a\n")?;
+    for number in 0..fields {
+        // An odd factor gives each number another name.
+        let name = number.wrapping_mul(2_654_435_761);
+        write_line(
+            &mut script,
+            b"set PORT_TABLE:Ethernet0 f",
+            name,
+            b"=",
+            number,
+        )?;
+    }
+    Ok(script)
+}
+
 /// The plan, and the rows of each port and its interface.
 fn ports_script(alloc: Global) -> Result<Vec<u8>, OutOfMemory> {
     let mut script = Vec::new(alloc);

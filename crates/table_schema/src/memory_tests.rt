@@ -1,6 +1,6 @@
-// Each allocation refused in turn. `rt try --test --fail-alloc 1..` refuses the first allocation of the tests, then the
-// second, and so on: a call that is refused memory says so and leaves what it was to change, and the next call answers as
-// ever. Without the flag no allocation is refused, and the tests go over small and large rows.
+// What fields are where memory is refused, and what rows read as. `rt try --test --fail-alloc N` refuses the Nth allocation
+// of the tests: a call that is refused memory says so and leaves what it was to change, and the next call answers as ever.
+// Without the flag no allocation is refused, and the tests go over small and large rows.
 use crate::{Fields, Key, PortPlan, Row, Sent, Write, has_colon, names, read_key, read_row};
 use std::alloc::Global;
 use std::process::Abort;
@@ -14,12 +14,12 @@ fn text(rt: &impl Abort, alloc: Global, bytes: &str) -> Result<Text, OutOfMemory
 }
 
 /// The name of a field, by its number.
-fn name(rt: &impl Abort, alloc: Global, number: usize) -> Result<Text, OutOfMemory> {
-    text(rt, alloc, format!(in alloc; "f{}", number + 10)?.as_str())
+fn name(rt: &impl Abort, alloc: Global, number: u64) -> Result<Text, OutOfMemory> {
+    text(rt, alloc, format!(in alloc; "f{number:02}")?.as_str())
 }
 
 /// A value, by its number.
-fn value(rt: &impl Abort, alloc: Global, number: u32) -> Result<Text, OutOfMemory> {
+fn value(rt: &impl Abort, alloc: Global, number: u64) -> Result<Text, OutOfMemory> {
     text(rt, alloc, format!(in alloc; "{number}")?.as_str())
 }
 
@@ -36,34 +36,46 @@ fn shown(alloc: Global, fields: &Fields) -> Result<Vec<u8>, OutOfMemory> {
 }
 
 /// The fields that have a value, joined as `shown` joins them. 0 is no value.
-fn wanted(alloc: Global, values: &[u32]) -> Result<Vec<u8>, OutOfMemory> {
+fn wanted(alloc: Global, values: &[u64]) -> Result<Vec<u8>, OutOfMemory> {
     let mut out = Vec::new(alloc);
     for (number, value) in values.iter().enumerate() {
         if *value != 0 {
-            out.extend_from_slice(format!(in alloc; "f{}={value} ", number + 10)?.as_bytes())?;
+            out.extend_from_slice(format!(in alloc; "f{number:02}={value} ")?.as_bytes())?;
         }
     }
     Ok(out)
 }
 
-/// Fields of some numbers that have this value, put from the last to the first.
+/// Gives the fields of some numbers a value.
+fn fill(values: &mut [u64], from: u64, to: u64, value: u64) {
+    for (number, held) in values.iter_mut().enumerate() {
+        if from <= number as u64 && (number as u64) < to {
+            *held = value;
+        }
+    }
+}
+
+/// Fields of some numbers that have this value.
 fn put_each(
     rt: &impl Abort,
     alloc: Global,
-    from: usize,
-    to: usize,
-    number: u32,
+    from: u64,
+    to: u64,
+    number: u64,
 ) -> Result<Fields, OutOfMemory> {
     let mut fields = Fields::new(alloc);
-    for at in 0..to.saturating_sub(from) {
+    for at in from..to {
         let before = shown(alloc, &fields)?;
-        let field = to.saturating_sub(at + 1);
         if fields
-            .put(name(rt, alloc, field)?, value(rt, alloc, number)?)
+            .put(name(rt, alloc, at)?, value(rt, alloc, number)?)
             .is_err()
         {
             assert_eq!(rt; shown(alloc, &fields)?.as_slice(), before.as_slice());
-            fields.put(name(rt, alloc, field)?, value(rt, alloc, number)?)?;
+            assert!(rt;
+                fields
+                    .put(name(rt, alloc, at)?, value(rt, alloc, number)?)
+                    .is_ok()
+            );
         }
     }
     Ok(fields)
@@ -87,28 +99,28 @@ fn merge_each(rt: &impl Abort, alloc: Global) -> Result<(), OutOfMemory> {
             assert_eq!(rt; shown(alloc, &fields)?.as_slice(), before.as_slice());
             assert!(rt; fields.merge(&others).is_ok(), "the next try");
         }
-        values[from..to].fill(number);
-        let wanted = wanted(alloc, &values)?;
-        assert_eq!(rt; shown(alloc, &fields)?.as_slice(), wanted.as_slice());
+        fill(&mut values, from, to, number);
         let copy = match fields.copy() {
             Ok(copy) => copy,
-            Err(OutOfMemory) => fields.copy()?,
+            Err(OutOfMemory) => fields.copy().expect(rt, "the next try"),
         };
+        let wanted = wanted(alloc, &values)?;
+        assert_eq!(rt; shown(alloc, &fields)?.as_slice(), wanted.as_slice());
         assert_eq!(rt; shown(alloc, &copy)?.as_slice(), wanted.as_slice());
         find_each(rt, alloc, &copy, &values)?;
     }
     Ok(())
 }
 
-/// Looks each field up.
+/// Looks each field up, and names that are none.
 fn find_each(
     rt: &impl Abort,
     alloc: Global,
     fields: &Fields,
-    values: &[u32],
+    values: &[u64],
 ) -> Result<(), OutOfMemory> {
     for (at, number) in values.iter().enumerate() {
-        let name = name(rt, alloc, at)?;
+        let name = name(rt, alloc, at as u64)?;
         let wanted = value(rt, alloc, *number)?;
         match fields.get(name.bytes()) {
             Some(found) => assert_eq!(rt; found.bytes(), wanted.bytes()),
@@ -120,20 +132,20 @@ fn find_each(
     Ok(())
 }
 
-/// The fields of pairs that name each field twice.
-fn from_pairs_each(rt: &impl Abort, alloc: Global, count: usize) -> Result<(), OutOfMemory> {
+/// The fields of pairs in which so many names stand twice, the higher names first.
+fn from_pairs_each(rt: &impl Abort, alloc: Global, count: u64) -> Result<(), OutOfMemory> {
     let mut pairs = Vec::new(alloc);
-    let mut values = [0; MOST];
-    for at in 0..2 * count {
-        let field = (at * 7) % count.max(1);
-        pairs.push((name(rt, alloc, field)?, value(rt, alloc, at as u32 + 1)?))?;
-        values[field] = at as u32 + 1;
+    for number in [1, 2] {
+        for at in 0..count {
+            let field = name(rt, alloc, count.saturating_sub(at + 1))?;
+            pairs.push((field, value(rt, alloc, number)?))?;
+        }
     }
+    let mut values = [0; MOST];
+    fill(&mut values, 0, count, 2);
+    let wanted = wanted(alloc, &values)?;
     let fields = Fields::from_pairs(alloc, pairs)?;
-    assert_eq!(rt;
-        shown(alloc, &fields)?.as_slice(),
-        wanted(alloc, &values)?.as_slice()
-    );
+    assert_eq!(rt; shown(alloc, &fields)?.as_slice(), wanted.as_slice());
     Ok(())
 }
 
