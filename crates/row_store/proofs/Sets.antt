@@ -1,5 +1,5 @@
 -- fields that are laid over a row in its place
-use Rattle.std.proofs.Common.{◌≡◌, [], Option, None, Some, Result, Ok, Err, OnOk, OnErr, unwrap_or, sym, ap, ◌∙◌}
+use Rattle.std.proofs.Common.{◌≡◌, [], None, Some, Result, Ok, Err, OnOk, OnErr, unwrap_or, sym, ap, ◌∙◌}
 use Rattle.std.specs.BTreeMap.{insert_entry, is_at}
 use Rattle.std.specs.Map.{set_value}
 use Rattle.std.proofs.lemmas.Map.Steps.{set_value_same}
