@@ -8,11 +8,11 @@ use swss_script::Show;
 
 /// Keys that wait.
 fn waits(alloc: Global, keys: &[&str]) -> Result<Waits, Fail> {
-    let mut waits = Waits::new(alloc);
+    let mut waits = Vec::new(alloc);
     for text in keys {
         waits.push((key(alloc, text)?, Wait::Busy(1), None))?;
     }
-    Ok(waits)
+    Ok(Waits::from_vec(waits)?)
 }
 
 /// Puts the mark of a settling at which these keys wait.
