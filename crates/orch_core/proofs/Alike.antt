@@ -12,15 +12,16 @@ use Rattle.sai_types.specs.declared.body.Entry.{Entry}
 use Rattle.sai_types.specs.declared.body.Entry.TheVariants as entry
 use Rattle.sai_types.specs.declared.thing.Thing.{Thing}
 use Rattle.sai_types.specs.declared.thing.Thing.TheVariants as thing
-use Rattle.sai_types.specs.Alike.{IsAlike, IsIn, IsOnceIn, natural_key}
+use Rattle.sai_types.specs.Alike.{IsAlike, IsIn, IsOnceIn}
 use Rattle.sai_types.specs.Made.{HaveLanes, IsWhole, has_first, is_one}
+use Rattle.sai_types.specs.Names.{name_of}
 use Rattle.sai_types.specs.Named.{first_lane, named, port_at, port_of, thing_of}
 use Rattle.sai_types.specs.Objects.{Objects, body_at}
 use Rattle.sai_types.proofs.Things.{one-each}
 use Rattle.switch_model.specs.Desired.{IsThingOf}
 use Rattle.switch_model.specs.Things.{from_base, from_lane, lane_of, things_of}
 use Rattle.orch_core.specs.declared.applied.Applied.{Applied}
-use Rattle.orch_core.specs.Standing.{Entries, IsPlanned, Stands, applied_at, rows_applied}
+use Rattle.orch_core.specs.Standing.{Entries, IsPlanned, Stands, applied_entry, rows_applied}
 use Rattle.orch_core.proofs.Bodies.{IsPort, IsInterface, parts}
 use Rattle.orch_core.proofs.Listed.{found-in, in-found, object-of_thing, once-in}
 use Rattle.orch_core.proofs.Owned.{lanes-of_port}
@@ -33,7 +34,7 @@ module _ (plan : Ports) (entries : Entries) (objects : Objects) (stands : Stands
     pub thing_is : Thing
     pub things : things_of plan k r ≡ thing_is ∷ []
     pub of_object : (e : Entry Rid) → thing_of objects (e, b) ≡ Some thing_is
-    pub one : is_one (natural_key thing_is) ≡ true
+    pub one : is_one (name_of thing_is) ≡ true
 
   lane_by : (p : ℕ) (a : Applied) (b : Body Rid) → IsPlanned plan (key.Port p) a.row → body_at objects (entry.Oid a.id) ≡ Some b → IsPort (key.Port p) a.row b ⊎ IsInterface entries (key.Port p) a.row b → (n : ℕ) × (port_at objects a.id ≡ Some n) × (lane_of plan p ≡ Some n)
   lane_by p a b planned found (inl x) =
@@ -46,7 +47,7 @@ module _ (plan : Ports) (entries : Entries) (objects : Objects) (stands : Stands
   lane_by p a b planned found (inr x) = let no = x.key_is in absurd cc
 
   -- an applied port is named by its first lane
-  lane_at : (p : ℕ) (a : Applied) → applied_at entries (key.Port p) ≡ Some a → (n : ℕ) × (port_at objects a.id ≡ Some n) × (lane_of plan p ≡ Some n)
+  lane_at : (p : ℕ) (a : Applied) → applied_entry entries (key.Port p) ≡ Some a → (n : ℕ) × (port_at objects a.id ≡ Some n) × (lane_of plan p ≡ Some n)
   lane_at p a at =
       let has = stands.stand (key.Port p) a at in
       lane_by p a has.0 (stands.planned (key.Port p) a at) has.2 (parts entries (key.Port p) a.row has.0 has.1)
@@ -106,7 +107,7 @@ module _ (plan : Ports) (entries : Entries) (objects : Objects) (stands : Stands
       let found = found-in objects object.0 has.0 whole.sorted object.2 in
       let one = one-each made objects whole (have_lanes-stands plans) in
       once-in objects objects (Some x) object.0 has.0 whole.sorted object.2 here (λ f d in_list its.
-      one.each f object.0 d has.0 x x (found-in objects f d whole.sorted in_list) found its here refl (ap (λ t. is_one (natural_key t)) same ∙ is.one))
+      one.each f object.0 d has.0 x x (found-in objects f d whole.sorted in_list) found its here refl (ap (λ t. is_one (name_of t)) same ∙ is.one))
 
 -- the chip is alike to the things of the applied rows
 pub alike-stands : (plan : Ports) (entries : Entries) (made : ℕ) (objects : Objects) → IsPlan plan → IsWhole made objects → Stands plan entries objects → IsAlike objects (IsThingOf plan (rows_applied entries))

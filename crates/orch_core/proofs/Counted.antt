@@ -18,7 +18,7 @@ use Rattle.sai_types.specs.Made.{AreSorted, same_entry}
 use Rattle.sai_types.specs.Objects.{Objects, body_at, is_of, used}
 use Rattle.sai_types.proofs.Found.{same-symm, same-trans}
 use Rattle.orch_core.specs.declared.applied.Applied.{Applied}
-use Rattle.orch_core.specs.Standing.{Entries, applied_at}
+use Rattle.orch_core.specs.Standing.{Entries, applied_entry}
 use Rattle.orch_core.proofs.Listed.{apart-behind, found-in, sorted-behind}
 use Rattle.orch_core.proofs.Planned.{not_true, number-is}
 
@@ -46,7 +46,7 @@ module _ (entries : Entries) (objects : Objects) (k : Kind) (key_for : ℕ → K
   -- the object is that of the row with this number
   pub record IsOf (n : ℕ) (e : Entry Rid) : Type 0 where
     pub row : Applied
-    pub applied : applied_at entries (key_for n) ≡ Some row
+    pub applied : applied_entry entries (key_for n) ≡ Some row
     pub same : same_entry e (entry.Oid row.id) ≡ true
 
   -- numbers, one for each of these objects
@@ -97,7 +97,7 @@ module _ (entries : Entries) (objects : Objects) (k : Kind) (key_for : ℕ → K
   planned_by plan p n numbers false same here behind h = behind h
 
   -- where a port of the plan has no such row, there is one port more than objects
-  pub used-below : (plan : Ports) (p : ℕ) → AreSorted objects → ((e : Entry Rid) (d : Body Rid) → body_at objects e ≡ Some d → is_of k d ≡ true → (n : ℕ) × IsOf n e) → ((n : ℕ) (a : Applied) → applied_at entries (key_for n) ≡ Some a → is_some (lanes_in_plan plan n) ≡ true) → is_some (lanes_in_plan plan p) ≡ true → applied_at entries (key_for p) ≡ None → used objects k + 1 ≤ length plan
+  pub used-below : (plan : Ports) (p : ℕ) → AreSorted objects → ((e : Entry Rid) (d : Body Rid) → body_at objects e ≡ Some d → is_of k d ≡ true → (n : ℕ) × IsOf n e) → ((n : ℕ) (a : Applied) → applied_entry entries (key_for n) ≡ Some a → is_some (lanes_in_plan plan n) ≡ true) → is_some (lanes_in_plan plan p) ≡ true → applied_entry entries (key_for p) ≡ None → used objects k + 1 ≤ length plan
   unfolding IsDistinct
   used-below plan p sorted owned planned here none =
       let all = numbers-of objects sorted (λ e d h. owned e d (found-in objects e d sorted h)) in

@@ -36,11 +36,11 @@ use Rattle.orch_core.specs.declared.called.Uncalled.{Uncalled}
 use Rattle.orch_core.specs.declared.called.Uncalled.TheVariants as uncalled
 use Rattle.orch_core.specs.Called.{IsDone, StaysClean}
 use Rattle.orch_core.specs.Difference.{IsDifference, IsSet, IsSetting, applied_with, difference_of, first_difference, first_to_set, row_with, value_with}
-use Rattle.orch_core.specs.Standing.{Entries, IsPlanned, Stands, applied_at, rows_applied}
-use Rattle.orch_core.specs.Due.{CallIsDue}
-use Rattle.orch_core.specs.State.{State, size_of}
+use Rattle.orch_core.specs.Standing.{Entries, IsPlanned, Stands, applied_entry, rows_applied}
+use Rattle.orch_core.specs.Due.{OwesCall}
+use Rattle.orch_core.specs.State.{State, counted_size}
 use Rattle.orch_core.specs.Step.{IsChange, asks_same, same_admin}
-use Rattle.orch_core.specs.Tried.{IsSteady, IsTouched, IsTried, Touches, tried_without}
+use Rattle.orch_core.specs.Tried.{IsStanding, IsTouched, IsTried, Touches, tried_without}
 use Rattle.orch_core.proofs.Changing.{stands-set-port}
 use Rattle.orch_core.proofs.Due.{free-good, places-of}
 use Rattle.orch_core.proofs.Effects.{grown-after, grown-one, keeps-effect}
@@ -52,21 +52,21 @@ use Rattle.orch_core.proofs.Trying.{applied_port, apart-at, keeps-applied, same_
 -- ---- the applied row in place
 
 -- a value that is written at a key that is there is put there
-pub written : (k : Key) (a b : Applied) (entries : Entries) → IsStrictlySortedBy key_cmp (keys_of entries) → applied_at entries k ≡ Some a → set_value (is_at (key_cmp k)) entries b ≡ insert_entry key_cmp entries k b
+pub written : (k : Key) (a b : Applied) (entries : Entries) → IsStrictlySortedBy key_cmp (keys_of entries) → applied_entry entries k ≡ Some a → set_value (is_at (key_cmp k)) entries b ≡ insert_entry key_cmp entries k b
 unfolding IsStrictlySortedBy
 written k a b [] sorted at = absurd cc
 written k a b (x ∷ xs) sorted at = by (key_cmp k x.0) refl (written k a b xs sorted.1)
   where
-    gone : applied_at (x ∷ xs) k ≡ None → ⊥
+    gone : applied_entry (x ∷ xs) k ≡ None → ⊥
     gone none = let one = sym none ∙ at in absurd cc
 
-    by : (o : Ordering) → key_cmp k x.0 ≡ o → (applied_at xs k ≡ Some a → set_value (is_at (key_cmp k)) xs b ≡ insert_entry key_cmp xs k b) → set_value (is_at (key_cmp k)) (x ∷ xs) b ≡ match_ordering o ((k, b) ∷ x ∷ xs) ((x.0, b) ∷ xs) (x ∷ insert_entry key_cmp xs k b)
+    by : (o : Ordering) → key_cmp k x.0 ≡ o → (applied_entry xs k ≡ Some a → set_value (is_at (key_cmp k)) xs b ≡ insert_entry key_cmp xs k b) → set_value (is_at (key_cmp k)) (x ∷ xs) b ≡ match_ordering o ((k, b) ∷ x ∷ xs) ((x.0, b) ∷ xs) (x ∷ insert_entry key_cmp xs k b)
     by Less o ih = absurd (gone (lookup-none (is_at (key_cmp k)) (x ∷ xs) (none_below_head key_total k x xs sorted o)))
     by Equal o ih = rw o refl
-    by Greater o ih = rw o (ap (λ es. x ∷ es) (ih (sym (ap (λ t. cond (is_eq t) (Some x.1) (applied_at xs k)) o) ∙ at)))
+    by Greater o ih = rw o (ap (λ es. x ∷ es) (ih (sym (ap (λ t. cond (is_eq t) (Some x.1) (applied_entry xs k)) o) ∙ at)))
 
 -- an applied row that was written over
-pub noted-from : (old : State) (k : Key) (a x : Applied) (t : Attr Rid) (later : Entries) → applied_at old.applied k ≡ Some a → IsStrictlySortedBy key_cmp (keys_of old.applied) → applied_at old.applied k ≡ Some x → later ≡ set_value (is_at (key_cmp k)) old.applied (applied_with x t) → record old { applied = later } ≡ record old { applied = insert_entry key_cmp old.applied k (applied_with a t) }
+pub noted-from : (old : State) (k : Key) (a x : Applied) (t : Attr Rid) (later : Entries) → applied_entry old.applied k ≡ Some a → IsStrictlySortedBy key_cmp (keys_of old.applied) → applied_entry old.applied k ≡ Some x → later ≡ set_value (is_at (key_cmp k)) old.applied (applied_with x t) → record old { applied = later } ≡ record old { applied = insert_entry key_cmp old.applied k (applied_with a t) }
 noted-from old k a x t later there sorted at wrote =
     let same = some_applied x a (sym at ∙ there) in
     ap (λ es. record old { applied = es }) (wrote ∙ written k a (applied_with x t) old.applied sorted there ∙ ap (λ y. insert_entry key_cmp old.applied k (applied_with y t)) same)
@@ -132,9 +132,9 @@ same-port r = ap (λ b. first_to_set r b (r.mtu == r.mtu) (same_admin r.up r.up)
 
 -- ---- setting an attribute
 
-module _ (k : Key) (t : Attr Rid) (old : State) (chip : ChipState) (id : Rid) (steady : IsSteady old chip) (due : IsIn k old.to_sync) (setting : IsSetting old k id t) where
-  at_port : applied_at old.applied (key.Port setting.port) ≡ Some setting.a
-  at_port = ap (applied_at old.applied) (sym setting.is) ∙ setting.there
+module _ (k : Key) (t : Attr Rid) (old : State) (chip : ChipState) (id : Rid) (steady : IsStanding old chip) (due : IsIn k old.to_sync) (setting : IsSetting old k id t) where
+  at_port : applied_entry old.applied (key.Port setting.port) ≡ Some setting.a
+  at_port = ap (applied_entry old.applied) (sym setting.is) ∙ setting.there
 
   abbrev noted : State
   noted = record old { applied = insert_entry key_cmp old.applied k (applied_with setting.a t) }
@@ -160,7 +160,7 @@ module _ (k : Key) (t : Attr Rid) (old : State) (chip : ChipState) (id : Rid) (s
         touches = record { same = refl; others = others-noted };
         keeps = keeps-applied old noted.applied new k (keeps-effect old chip new (call.Set (entry.Oid id) t) steady.keeps takes stays (no_route-stands old.plan noted.applied new.objects stands-noted)) due others-noted (closed-stands old.plan noted.applied new.objects stands-noted);
         stands = stands-noted;
-        grown = grown-one chip (call.Set (entry.Oid id) t) new takes;
+        grown = grown-one chip (call.Set (entry.Oid id) t) new takes stays;
         few = λ none. absurd (was_there none);
         still = λ zero none. absurd (was_there none);
         faults = faults;
@@ -168,10 +168,10 @@ module _ (k : Key) (t : Attr Rid) (old : State) (chip : ChipState) (id : Rid) (s
       found-put old.applied k (applied_with setting.a t) ∙ ap (option_map (λ a. applied_with a t)) (sym setting.there),
     )
 
-  pub set-noted : (new : State) (chip' : ChipState) → IsDone chip (call.Set (entry.Oid id) t) (Ok tt) chip' → ((a : Applied) → applied_at old.applied k ≡ Some a → IsStrictlySortedBy key_cmp (keys_of old.applied) → new ≡ record old { applied = insert_entry key_cmp old.applied k (applied_with a t) }) → IsSet k t old chip (Ok tried.Done) new chip'
+  pub set-noted : (new : State) (chip' : ChipState) → IsDone chip (call.Set (entry.Oid id) t) (Ok tt) chip' → ((a : Applied) → applied_entry old.applied k ≡ Some a → IsStrictlySortedBy key_cmp (keys_of old.applied) → new ≡ record old { applied = insert_entry key_cmp old.applied k (applied_with a t) }) → IsSet k t old chip (Ok tried.Done) new chip'
   set-noted new chip' is e = subst (λ n. IsSet k t old chip (Ok tried.Done) n chip') (sym (e setting.a setting.there steady.stands.sorted)) (set-done chip' is.stays is.answer.0 is.answer.1)
 
-  pub not-set : (why : Uncalled) (chip' : ChipState) → size_of old (length chip.effects) + 1 ≤ old.limit → IsDone chip (call.Set (entry.Oid id) t) (Err why) chip' → IsSet k t old chip (tried_without why) old chip'
+  pub not-set : (why : Uncalled) (chip' : ChipState) → counted_size old (length chip.effects) + 1 ≤ old.limit → IsDone chip (call.Set (entry.Oid id) t) (Err why) chip' → IsSet k t old chip (tried_without why) old chip'
   not-set why chip' fits is = by why (tried-without k old chip chip' (call.Set (entry.Oid id) t) steady fits refl is.stays why is.answer)
     where
       by : (w : Uncalled) → IsTried k old chip (tried_without w) old chip' → IsSet k t old chip (tried_without w) old chip'
@@ -184,20 +184,20 @@ module _ (k : Key) (t : Attr Rid) (old : State) (chip : ChipState) (id : Rid) (s
 pub record IsChanging (k : Key) (old : State) (chip : ChipState) (new : State) (chip' : ChipState) : Type 0 where
   pub touched : IsTouched 0 k old chip new chip'
   pub a : Applied
-  pub there : applied_at new.applied k ≡ Some a
+  pub there : applied_entry new.applied k ≡ Some a
 
 module _ (k : Key) (r : PortRow) (old : State) (chip : ChipState) (step : IsChange old k r) (mid : State) (between : ChipState) (changing : IsChanging k old chip mid between) where
   abbrev mid_same : mid ≡ record old { applied = mid.applied }
   mid_same = changing.touched.touches.same
 
-  pub changing-steady : IsSteady mid between
+  pub changing-steady : IsStanding mid between
   changing-steady = record { keeps = changing.touched.keeps; stands = changing.touched.stands }
 
   pub changing-due : IsIn k old.to_sync → IsIn k mid.to_sync
   changing-due due = subst (IsIn k) (sym (ap (λ (s : State). s.to_sync) mid_same)) due
 
-  port_at : (a : Applied) → applied_at mid.applied k ≡ Some a → (f : PortRow) × (a.row ≡ row.Port f) × (lanes_in_plan mid.plan step.port ≡ Some f.lanes)
-  port_at a there = applied_port mid step.port a (record { served = changing.touched.keeps.served; objects = between.objects; stands = changing.touched.stands }) (ap (applied_at mid.applied) (sym step.is) ∙ there)
+  port_at : (a : Applied) → applied_entry mid.applied k ≡ Some a → (f : PortRow) × (a.row ≡ row.Port f) × (lanes_in_plan mid.plan step.port ≡ Some f.lanes)
+  port_at a there = applied_port mid step.port a (record { served = changing.touched.keeps.served; objects = between.objects; stands = changing.touched.stands }) (ap (applied_entry mid.applied) (sym step.is) ∙ there)
 
   touches-after : (new : State) → Touches k mid new → Touches k old new
   touches-after new touches = record {
@@ -217,7 +217,7 @@ module _ (k : Key) (r : PortRow) (old : State) (chip : ChipState) (step : IsChan
   }
 
   -- what differs is due
-  pub changing-call : (id : Rid) (t : Attr Rid) → IsIn k old.to_sync → IsDifference mid.applied k r (Some (id, t)) → CallIsDue mid
+  pub changing-call : (id : Rid) (t : Attr Rid) → IsIn k old.to_sync → IsDifference mid.applied k r (Some (id, t)) → OwesCall mid
   changing-call id t due (a, there, named, differs) = record {
     key = k;
     queued = changing-due due;
@@ -242,7 +242,7 @@ module _ (k : Key) (r : PortRow) (old : State) (chip : ChipState) (step : IsChan
     touches = touches-after new is.touches;
     keeps = is.keeps;
     grown = grown-after chip between chip' changing.touched.grown is.grown;
-    places = places-of 1 1 mid old (length chip'.effects) (ap (λ (s : State). size_of s 0 + 1) (sym mid_same)) (ap (λ (s : State). s.limit) (sym mid_same)) is.places;
+    places = places-of 1 1 mid old (length chip'.effects) (ap (λ (s : State). counted_size s 0 + 1) (sym mid_same)) (ap (λ (s : State). s.limit) (sym mid_same)) is.places;
     few = λ none. omega (arith, changing.touched.few none, is.few (changing.touched.still refl none));
     before = is.before ∙ changing.touched.faults;
     rose = subst (λ n. n < chip'.faults) changing.touched.faults is.rose;
@@ -253,7 +253,7 @@ module _ (k : Key) (r : PortRow) (old : State) (chip : ChipState) (step : IsChan
   changing-stopped id t due differs (Err e) new chip' is never = touched-after new chip' is
 
   -- nothing differs any more
-  pub changing-done : IsSteady old chip → IsDifference mid.applied k r None → IsTried k old chip (Ok tried.Done) mid between
+  pub changing-done : IsStanding old chip → IsDifference mid.applied k r None → IsTried k old chip (Ok tried.Done) mid between
   changing-done steady none =
       let of = port_at changing.a changing.there in
       let planned = planned-good old.plan k (row.Port r) (served-good old.plan old.rows k (row.Port r) (λ f at. steady.keeps.served k f at) step.good) in

@@ -18,10 +18,11 @@ use Rattle.sai_types.specs.declared.kind.Kind.{Kind}
 use Rattle.sai_types.specs.declared.kind.Kind.TheVariants as kind
 use Rattle.sai_types.specs.declared.thing.Thing.{Thing}
 use Rattle.sai_types.specs.declared.thing.Thing.TheVariants as thing
-use Rattle.sai_types.specs.Alike.{IsIn, NaturalKey, natural_key, thing_kind}
-use Rattle.sai_types.specs.Alike as natural
+use Rattle.sai_types.specs.Alike.{IsIn}
 use Rattle.sai_types.specs.ChipState.{ChipState}
 use Rattle.sai_types.specs.Named.{first_lane}
+use Rattle.sai_types.specs.Names as thing_name
+use Rattle.sai_types.specs.Names.{Name, name_of, thing_kind}
 use Rattle.sai_types.specs.Objects.{Objects, level}
 use Rattle.sai_types.specs.Refusal.{capacity_of}
 use Rattle.switch_model.specs.Desired.{IsThingOf, have_rows}
@@ -30,11 +31,11 @@ use Rattle.switch_model.specs.Marks.{AreDistinct, Overflows, first_missing}
 use Rattle.switch_model.specs.Things.{from_base, from_lane, things_of}
 use Rattle.switch_model.specs.declared.wait.Wait.TheVariants as wait
 use Rattle.orch_core.specs.declared.applied.Applied.{Applied}
-use Rattle.orch_core.specs.Due.{CallIsDue, HadPlaces, HasNoReason}
-use Rattle.orch_core.specs.Standing.{Entries, HasRoom, Stands, applied_at, body_of, rows_applied}
-use Rattle.orch_core.specs.State.{State, size_of}
+use Rattle.orch_core.specs.Due.{OwesCall, HadPlaces, HasNoReason}
+use Rattle.orch_core.specs.Standing.{Entries, HasPortRoom, Stands, applied_entry, body_of, rows_applied}
+use Rattle.orch_core.specs.State.{State, counted_size}
 use Rattle.orch_core.specs.Step.{IsCreation, IsFree, IsRemoval}
-use Rattle.orch_core.specs.Tried.{IsSteady}
+use Rattle.orch_core.specs.Tried.{IsStanding}
 use Rattle.orch_core.proofs.Bodies.{IsPort, IsInterface, parts}
 use Rattle.orch_core.proofs.Good.{IsServedRow, OfPort, OfIntf, served-good}
 use Rattle.orch_core.proofs.Owned.{lanes-of_port}
@@ -45,46 +46,46 @@ none_some h = cc
 
 -- ---- keys of which no two are equal, among others: there are no more
 
-record Without (x : NaturalKey) (ys : List NaturalKey) : Type 0 where
-  pub others : List NaturalKey
+record Without (x : Name) (ys : List Name) : Type 0 where
+  pub others : List Name
   pub fewer : length ys ≡ suc (length others)
-  pub rest : (y : NaturalKey) → IsIn y ys → (y ≡ x) ⊎ IsIn y others
+  pub rest : (y : Name) → IsIn y ys → (y ≡ x) ⊎ IsIn y others
 
-without : (x : NaturalKey) (ys : List NaturalKey) → IsIn x ys → Without x ys
+without : (x : Name) (ys : List Name) → IsIn x ys → Without x ys
 without x [] h = elim h [ ]
 without x (y ∷ ys) (inl is) = record { others = ys; fewer = refl; rest = λ z h. by z h }
   where
-    by : (z : NaturalKey) → (z ≡ y) ⊎ IsIn z ys → (z ≡ x) ⊎ IsIn z ys
+    by : (z : Name) → (z ≡ y) ⊎ IsIn z ys → (z ≡ x) ⊎ IsIn z ys
     by z (inl e) = inl (e ∙ sym is)
     by z (inr h) = inr h
 without x (y ∷ ys) (inr h) = let w = without x ys h in record { others = y ∷ w.others; fewer = ap suc w.fewer; rest = λ z h. by w z h }
   where
-    past : (w : Without x ys) (z : NaturalKey) → (z ≡ x) ⊎ IsIn z w.others → (z ≡ x) ⊎ ((z ≡ y) ⊎ IsIn z w.others)
+    past : (w : Without x ys) (z : Name) → (z ≡ x) ⊎ IsIn z w.others → (z ≡ x) ⊎ ((z ≡ y) ⊎ IsIn z w.others)
     past w z (inl e) = inl e
     past w z (inr h) = inr (inr h)
 
-    by : (w : Without x ys) (z : NaturalKey) → (z ≡ y) ⊎ IsIn z ys → (z ≡ x) ⊎ ((z ≡ y) ⊎ IsIn z w.others)
+    by : (w : Without x ys) (z : Name) → (z ≡ y) ⊎ IsIn z ys → (z ≡ x) ⊎ ((z ≡ y) ⊎ IsIn z w.others)
     by w z (inl e) = inr (inl e)
     by w z (inr h) = past w z (w.rest z h)
 
-no-more : (xs ys : List NaturalKey) → AreDistinct xs → ((x : NaturalKey) → IsIn x xs → IsIn x ys) → length xs ≤ length ys
+no-more : (xs ys : List Name) → AreDistinct xs → ((x : Name) → IsIn x xs → IsIn x ys) → length xs ≤ length ys
 no-more [] ys distinct among = omega arith
 no-more (x ∷ xs) ys (new, distinct) among =
     let w = without x ys (among x (inl refl)) in
     let rest = no-more xs w.others distinct (λ y h. other w.others y h (w.rest y (among y (inr h)))) in
     omega (arith, w.fewer, rest)
   where
-    other : (others : List NaturalKey) (y : NaturalKey) → IsIn y xs → (y ≡ x) ⊎ IsIn y others → IsIn y others
+    other : (others : List Name) (y : Name) → IsIn y xs → (y ≡ x) ⊎ IsIn y others → IsIn y others
     other others y h (inl e) = absurd (new (subst (λ z. IsIn z xs) e h))
     other others y h (inr there) = there
 
 -- ---- the things of this stage's rows
 
--- the natural keys that the ports of a plan can come to, by the level of their kind
-abbrev planned_keys : Ports → ℕ → List NaturalKey
-planned_keys plan n = if n == 0 then map (λ p. natural.Port p.1) plan else (if n == 4 then map (λ p. natural.Rif (base.Port (first_lane p.1))) plan else [])
+-- the names that the ports of a plan can come to, by the level of their kind
+abbrev planned_keys : Ports → ℕ → List Name
+planned_keys plan n = if n == 0 then map (λ p. thing_name.Port (first_lane p.1)) plan else (if n == 4 then map (λ p. thing_name.Rif (base.Port (first_lane p.1))) plan else [])
 
-among-planned : (f : List ℕ → NaturalKey) (plan : Ports) (p : ℕ) (lanes : List ℕ) → lanes_in_plan plan p ≡ Some lanes → IsIn (f lanes) (map (λ q. f q.1) plan)
+among-planned : (f : List ℕ → Name) (plan : Ports) (p : ℕ) (lanes : List ℕ) → lanes_in_plan plan p ≡ Some lanes → IsIn (f lanes) (map (λ q. f q.1) plan)
 among-planned f [] p lanes h = absurd cc
 among-planned f (q ∷ qs) p lanes h = by (is_at (nat_cmp p) q.0) h (among-planned f qs p lanes)
   where
@@ -93,22 +94,22 @@ among-planned f (q ∷ qs) p lanes h = by (is_at (nat_cmp p) q.0) h (among-plann
     by false h behind = inr (behind h)
 
 -- the thing of a row of this stage is of a port of the plan
-planned-thing : (plan : Ports) (k : Key) (r : Row) (t : Thing) → IsServedRow plan k r → IsIn t (things_of plan k r) → IsIn (natural_key t) (planned_keys plan (level (thing_kind t)))
+planned-thing : (plan : Ports) (k : Key) (r : Row) (t : Thing) → IsServedRow plan k r → IsIn t (things_of plan k r) → IsIn (name_of t) (planned_keys plan (level (thing_kind t)))
 planned-thing plan k r t (OfPort p f k_is r_is lanes) h = by (subst (λ x. IsIn t (things_of plan x (row.Port f))) k_is (subst (λ x. IsIn t (things_of plan k x)) r_is h))
   where
-    one : (t ≡ thing.Port (record { lanes = f.lanes; speed = f.speed; mtu = f.mtu; up = f.up })) ⊎ ⊥ → IsIn (natural_key t) (planned_keys plan (level (thing_kind t)))
-    one (inl is) = subst (λ x. IsIn (natural_key x) (planned_keys plan (level (thing_kind x)))) (sym is) (among-planned natural.Port plan p f.lanes lanes)
+    one : (t ≡ thing.Port (record { lanes = f.lanes; speed = f.speed; mtu = f.mtu; up = f.up })) ⊎ ⊥ → IsIn (name_of t) (planned_keys plan (level (thing_kind t)))
+    one (inl is) = subst (λ x. IsIn (name_of x) (planned_keys plan (level (thing_kind x)))) (sym is) (among-planned (λ l. thing_name.Port (first_lane l)) plan p f.lanes lanes)
     one (inr h) = elim h [ ]
 
-    by : IsIn t (things_of plan (key.Port p) (row.Port f)) → IsIn (natural_key t) (planned_keys plan (level (thing_kind t)))
+    by : IsIn t (things_of plan (key.Port p) (row.Port f)) → IsIn (name_of t) (planned_keys plan (level (thing_kind t)))
     by h = one (subst (λ o. IsIn t (from_lane (λ lane. thing.Port (record { lanes = f.lanes; speed = f.speed; mtu = f.mtu; up = f.up }) ∷ []) (option_map first_lane o))) lanes h)
 planned-thing plan k r t (OfIntf p k_is r_is) h = by (lanes_in_plan plan p) refl (subst (λ x. IsIn t (things_of plan x row.Intf)) k_is (subst (λ x. IsIn t (things_of plan k x)) r_is h))
   where
-    one : (lanes : List ℕ) → lanes_in_plan plan p ≡ Some lanes → (t ≡ thing.Rif (base.Port (first_lane lanes))) ⊎ ⊥ → IsIn (natural_key t) (planned_keys plan (level (thing_kind t)))
-    one lanes at (inl is) = subst (λ x. IsIn (natural_key x) (planned_keys plan (level (thing_kind x)))) (sym is) (among-planned (λ l. natural.Rif (base.Port (first_lane l))) plan p lanes at)
+    one : (lanes : List ℕ) → lanes_in_plan plan p ≡ Some lanes → (t ≡ thing.Rif (base.Port (first_lane lanes))) ⊎ ⊥ → IsIn (name_of t) (planned_keys plan (level (thing_kind t)))
+    one lanes at (inl is) = subst (λ x. IsIn (name_of x) (planned_keys plan (level (thing_kind x)))) (sym is) (among-planned (λ l. thing_name.Rif (base.Port (first_lane l))) plan p lanes at)
     one lanes at (inr h) = elim h [ ]
 
-    by : (o : Option (List ℕ)) → lanes_in_plan plan p ≡ o → IsIn t (from_base (λ b. thing.Rif b ∷ []) (option_map base.Port (option_map first_lane o))) → IsIn (natural_key t) (planned_keys plan (level (thing_kind t)))
+    by : (o : Option (List ℕ)) → lanes_in_plan plan p ≡ o → IsIn t (from_base (λ b. thing.Rif b ∷ []) (option_map base.Port (option_map first_lane o))) → IsIn (name_of t) (planned_keys plan (level (thing_kind t)))
     by None at h = elim h [ ]
     by (Some lanes) at h = one lanes at h
 
@@ -123,25 +124,25 @@ served-applied plan entries objects stands k r h =
     let has = stands.stand k at.0 at.1 in
     subst (IsServedRow plan k) at.2 (served-by plan entries k at.0.row has.0 (stands.planned k at.0 at.1) (parts entries k at.0.row has.0 has.1))
 
-enough : (xs : List NaturalKey) (m n : ℕ) → length xs ≡ m → m ≤ n → length xs ≤ n
+enough : (xs : List Name) (m n : ℕ) → length xs ≡ m → m ≤ n → length xs ≤ n
 enough xs m n is le = omega (arith, is, le)
 
-room-for : (plan : Ports) (capacities : List ℕ) (kd : Kind) → HasRoom plan capacities → length (planned_keys plan (level kd)) ≤ capacity_of capacities kd
-room-for plan capacities kind.Port room = enough (map (λ p. natural.Port p.1) plan) (length plan) (capacity_of capacities kind.Port) (length-map plan (λ p. natural.Port p.1)) room.ports
-room-for plan capacities kind.Rif room = enough (map (λ p. natural.Rif (base.Port (first_lane p.1))) plan) (length plan) (capacity_of capacities kind.Rif) (length-map plan (λ p. natural.Rif (base.Port (first_lane p.1)))) room.rifs
+room-for : (plan : Ports) (capacities : List ℕ) (kd : Kind) → HasPortRoom plan capacities → length (planned_keys plan (level kd)) ≤ capacity_of capacities kd
+room-for plan capacities kind.Port room = enough (map (λ p. thing_name.Port (first_lane p.1)) plan) (length plan) (capacity_of capacities kind.Port) (length-map plan (λ p. thing_name.Port (first_lane p.1))) room.ports
+room-for plan capacities kind.Rif room = enough (map (λ p. thing_name.Rif (base.Port (first_lane p.1))) plan) (length plan) (capacity_of capacities kind.Rif) (length-map plan (λ p. thing_name.Rif (base.Port (first_lane p.1)))) room.rifs
 room-for plan capacities kd room = enough [] 0 (capacity_of capacities kd) refl (omega arith)
 
 -- there is room for the things of the applied rows and of one row more
-pub no-overflow : (plan : Ports) (capacities : List ℕ) (entries : Entries) (objects : Objects) (k : Key) (r : Row) (kd : Kind) → HasRoom plan capacities → Stands plan entries objects → IsServedRow plan k r → Overflows plan capacities (rows_applied entries) k r kd → ⊥
+pub no-overflow : (plan : Ports) (capacities : List ℕ) (entries : Entries) (objects : Objects) (k : Key) (r : Row) (kd : Kind) → HasPortRoom plan capacities → Stands plan entries objects → IsServedRow plan k r → Overflows plan capacities (rows_applied entries) k r kd → ⊥
 no-overflow plan capacities entries objects k r kd room stands served over =
     let few = no-more over.keys (planned_keys plan (level kd)) over.distinct among in
     omega (arith, few, over.many, room-for plan capacities kd room)
   where
-    thing_in : (t : Thing) → IsThingOf plan (rows_applied entries) t ⊎ IsIn t (things_of plan k r) → IsIn (natural_key t) (planned_keys plan (level (thing_kind t)))
+    thing_in : (t : Thing) → IsThingOf plan (rows_applied entries) t ⊎ IsIn t (things_of plan k r) → IsIn (name_of t) (planned_keys plan (level (thing_kind t)))
     thing_in t (inl (q, x, at, h)) = planned-thing plan q x t (served-applied plan entries objects stands q x at) h
     thing_in t (inr h) = planned-thing plan k r t served h
 
-    among : (x : NaturalKey) → IsIn x over.keys → IsIn x (planned_keys plan (level kd))
+    among : (x : Name) → IsIn x over.keys → IsIn x (planned_keys plan (level kd))
     among x h =
         let t = over.things x h in
         subst (λ n. IsIn x (planned_keys plan n)) t.2 (subst (λ y. IsIn y (planned_keys plan (level (thing_kind t.0)))) t.1 (thing_in t.0 t.3))
@@ -156,7 +157,7 @@ none-missing rows (k ∷ ks) h = by (is_some (rows k)) h (none-missing rows ks)
     by true h behind = behind h
     by false h behind = absurd (false≢true h)
 
-module _ (s : State) (chip : ChipState) (steady : IsSteady s chip) (k : Key) where
+module _ (s : State) (chip : ChipState) (steady : IsStanding s chip) (k : Key) where
   -- a row that reads, and whose names are all applied
   pub free-good : (r : Row) → good_rows s.plan s.rows k ≡ Some r → have_rows (rows_applied s.applied) (names_of k r) ≡ true → HasNoReason s k
   free-good r good have (wait.Missing q) (x, reads, missing) =
@@ -196,7 +197,7 @@ module _ (s : State) (chip : ChipState) (steady : IsSteady s chip) (k : Key) whe
   pub free-creation : (r : Row) (b : Body Rid) → IsCreation s k r b → HasNoReason s k
   free-creation r b step = free-good r step.good (has_base s.applied k r b (parts s.applied k r b step.body))
 
-  pub due-creation : (r : Row) (b : Body Rid) → IsIn k s.to_sync → IsCreation s k r b → CallIsDue s
+  pub due-creation : (r : Row) (b : Body Rid) → IsIn k s.to_sync → IsCreation s k r b → OwesCall s
   due-creation r b due step = record {
     key = k;
     queued = due;
@@ -204,11 +205,11 @@ module _ (s : State) (chip : ChipState) (steady : IsSteady s chip) (k : Key) whe
     free = free-creation r b step;
   }
 
-  pub due-removal : (id : Rid) → IsIn k s.to_sync → IsRemoval s k id → CallIsDue s
+  pub due-removal : (id : Rid) → IsIn k s.to_sync → IsRemoval s k id → OwesCall s
   due-removal id due step = record {
     key = k;
     queued = due;
-    differs = λ same. gone (applied_at s.applied k) step.there (same ∙ step.good);
+    differs = λ same. gone (applied_entry s.applied k) step.there (same ∙ step.good);
     free = free-gone step.good step.free;
   }
     where
@@ -219,18 +220,18 @@ module _ (s : State) (chip : ChipState) (steady : IsSteady s chip) (k : Key) whe
 -- ---- places of the log
 
 -- the log is not full
-pub fits-from : (s : State) (n m : ℕ) (full : Bool) → ((full ≡ true) ↔ (s.limit < size_of s n + 1)) → full ≡ false → n ≡ m → size_of s m + 1 ≤ s.limit
+pub fits-from : (s : State) (n m : ℕ) (full : Bool) → ((full ≡ true) ↔ (s.limit < counted_size s n + 1)) → full ≡ false → n ≡ m → counted_size s m + 1 ≤ s.limit
 fits-from s n m full says not same = omega (arith, same, by)
   where
-    by : ¬ (s.limit < size_of s n + 1)
+    by : ¬ (s.limit < counted_size s n + 1)
     by h = false≢true (sym not ∙ says.1 h)
 
 -- the log is full
-pub full-from : (s : State) (n m : ℕ) (full : Bool) → ((full ≡ true) ↔ (s.limit < size_of s n + 1)) → full ≡ true → n ≡ m → s.limit < size_of s m + 1
+pub full-from : (s : State) (n m : ℕ) (full : Bool) → ((full ≡ true) ↔ (s.limit < counted_size s n + 1)) → full ≡ true → n ≡ m → s.limit < counted_size s m + 1
 full-from s n m full says is same = omega (arith, same, says.0 is)
 
 -- the places hang on the log and its limit alone
-pub places-of : (n m : ℕ) (s t : State) (effects : ℕ) → size_of t 0 + m ≡ size_of s 0 + n → t.limit ≡ s.limit → HadPlaces n s effects → HadPlaces m t effects
+pub places-of : (n m : ℕ) (s t : State) (effects : ℕ) → counted_size t 0 + m ≡ counted_size s 0 + n → t.limit ≡ s.limit → HadPlaces n s effects → HadPlaces m t effects
 places-of n m s t effects sizes limit places = record {
   made = places.made;
   before = places.before;

@@ -26,14 +26,14 @@ use Rattle.orch_core.specs.State.{State}
 use Rattle.orch_core.proofs.Standing.{HasNoRoute, no_route-named}
 
 -- the effects only grow
-pub grown-same : (old new : ChipState) → new.effects ≡ old.effects → IsGrown old new
-grown-same old new same = record { calls = []; grown = same ∙ sym (append-nil old.effects) }
+pub grown-same : (old new : ChipState) → new.effects ≡ old.effects → new.fails ≡ old.fails → IsGrown old new
+grown-same old new same fails = record { calls = []; grown = same ∙ sym (append-nil old.effects); fails = fails }
 
-pub grown-one : (old : ChipState) (c : Call Rid) (new : ChipState) → TakesEffect old c new → IsGrown old new
-grown-one old c new takes = record { calls = c ∷ []; grown = takes.effects }
+pub grown-one : (old : ChipState) (c : Call Rid) (new : ChipState) → TakesEffect old c new → StaysClean old new → IsGrown old new
+grown-one old c new takes stays = record { calls = c ∷ []; grown = takes.effects; fails = stays.fails }
 
 pub grown-after : (old mid new : ChipState) → IsGrown old mid → IsGrown mid new → IsGrown old new
-grown-after old mid new a b = record { calls = a.calls ++ b.calls; grown = b.grown ∙ ap (λ es. es ++ b.calls) a.grown ∙ append_assoc old.effects a.calls b.calls }
+grown-after old mid new a b = record { calls = a.calls ++ b.calls; grown = b.grown ∙ ap (λ es. es ++ b.calls) a.grown ∙ append_assoc old.effects a.calls b.calls; fails = b.fails ∙ a.fails }
 
 count-one : (b : Bool) (n : ℕ) → n + (0 + cond b 1 0) ≡ (if b then n + 1 else n)
 count-one true n = omega arith
@@ -82,7 +82,7 @@ split (suc k) (suc n) le = split_more k n (split k n (omega (arith, le)))
 -- marks stay within longer lists
 pub within-more : (t u e f : ℕ) (marks : List Mark) → t ≤ u → e ≤ f → AreWithin t e marks → AreWithin u f marks
 within-more t u e f [] tu ef within = tt
-within-more t u e f (m ∷ marks) tu ef (taken, effects, within) = (omega (arith, taken, tu), omega (arith, effects, ef), within-more t u e f marks tu ef within)
+within-more t u e f (m ∷ marks) tu ef (taken, effects, before, within) = (omega (arith, taken, tu), omega (arith, effects, ef), before, within-more t u e f marks tu ef within)
 
 -- what a mark says stays true where the chip after its effects is the same
 true-same : (plan : Ports) (capacities : List ℕ) (taken : List Sent) (es fs : List (Call Rid)) (before : Option Mark) (mark : Mark) (e : MarkEvent) → chip_after fs mark.effects ≡ chip_after es mark.effects → IsTrueMark plan capacities taken es before mark e → IsTrueMark plan capacities taken fs before mark e
@@ -107,7 +107,7 @@ true-same plan capacities taken es fs before mark event.Restarted same h = h
 
 marks-grown : (plan : Ports) (capacities : List ℕ) (taken : List Sent) (es : List (Call Rid)) (c : Call Rid) (n : ℕ) (before : Option Mark) (marks : List Mark) → AreWithin n (length es) marks → AreTrueMarks plan capacities taken es before marks → AreTrueMarks plan capacities taken (es ++ c ∷ []) before marks
 marks-grown plan capacities taken es c n before [] within h = tt
-marks-grown plan capacities taken es c n before (m ∷ marks) (a, b, within) (one, h) =
+marks-grown plan capacities taken es c n before (m ∷ marks) (a, b, behind, within) (one, h) =
     (true-same plan capacities taken es (es ++ c ∷ []) before m m.event (chip_after-front es (c ∷ []) m.effects b) one, marks-grown plan capacities taken es c n (Some m) marks within h)
 
 -- a call that took effect, on a chip that holds no route then, keeps what the core keeps

@@ -19,10 +19,10 @@ use Rattle.sai_types.specs.Alike.{IsAlike, IsIn}
 use Rattle.sai_types.specs.ChipState.{ChipState}
 use Rattle.switch_model.specs.Desired.{IsClosed, IsThingOf}
 use Rattle.switch_model.specs.Good.{TypedRows, good_rows}
-use Rattle.switch_model.specs.History.{History}
-use Rattle.switch_model.specs.Marks.{NameFirstKinds, ReasonsAreTrue, applied_rows, writes_of}
+use Rattle.switch_model.specs.History.{History, keys_listed}
+use Rattle.switch_model.specs.Marks.{NameFirstKinds, ReasonsAreTrue, applied_rows, sent_writes}
 use Rattle.switch_model.specs.Promises.{AreTrueMarks, IsTrueMark, good_rows_at}
-use Rattle.switch_model.specs.Sound.{AreWithin, IsSound, is_suspect}
+use Rattle.switch_model.specs.Sound.{AreWithin, IsBefore, IsSound, is_suspect}
 use Rattle.switch_model.specs.declared.mark.Mark.{Mark}
 use Rattle.switch_model.specs.declared.mark.MarkEvent.{MarkEvent}
 use Rattle.switch_model.specs.declared.mark.MarkEvent.TheVariants as event
@@ -31,11 +31,11 @@ use Rattle.orch_core.specs.Keeps.{IsKept, Keeps}
 use Rattle.orch_core.specs.declared.answer.Settled.{Settled}
 use Rattle.orch_core.specs.declared.answer.Settled.TheVariants as settled
 use Rattle.orch_core.specs.declared.settle.Rested.{Rested}
-use Rattle.orch_core.specs.Due.{CallIsDue}
-use Rattle.orch_core.specs.Settling.{HasNoMark, HasRested, IsFilled, IsFull, IsFullBeside, IsRested, IsSame, IsSettled, IsSettling, MarkIsDue, Settles, TurnTo, is_marked, listing, mark_at, open_mark, opened, with_ending}
+use Rattle.orch_core.specs.Due.{OwesCall}
+use Rattle.orch_core.specs.Settling.{HasNoMark, HasRested, IsFilled, LacksPlaces, IsFullBeside, IsRested, IsSame, EndsSettling, IsSettling, OwesMark, Settles, TurnTo, is_marked, listing, mark_at, open_mark, opened, with_ending}
 use Rattle.orch_core.specs.Standing.{rows_applied}
-use Rattle.orch_core.specs.State.{State, core_of, keys_listed, size_of}
-use Rattle.orch_core.specs.Tried.{IsSteady}
+use Rattle.orch_core.specs.State.{State, core_of, counted_size}
+use Rattle.orch_core.specs.Tried.{IsStanding}
 use Rattle.orch_core.specs.Turn.{BringsNew, EndsFaulted, IsBehind, IsRest, IsTurned, IsUnder, OnlyLeave, WaitTruly, waiting_keys}
 use Rattle.orch_core.specs.Turns.{IsTurn, TakeTurns}
 use Rattle.orch_core.specs.declared.turn.Turned.TheVariants as turned
@@ -70,9 +70,13 @@ front_true : (plan : Ports) (capacities : List ℕ) (taken : List Sent) (es : Li
 front_true plan capacities taken es before [] mark h = tt
 front_true plan capacities taken es before (m ∷ marks) mark (one, h) = (one, front_true plan capacities taken es (Some m) marks mark h)
 
+front_before : (m : Mark) (marks : List Mark) (mark : Mark) → IsBefore m (marks ++ mark ∷ []) → IsBefore m marks
+front_before m [] mark h = tt
+front_before m (n ∷ marks) mark h = h
+
 front_within : (t e : ℕ) (marks : List Mark) (mark : Mark) → AreWithin t e (marks ++ mark ∷ []) → AreWithin t e marks
 front_within t e [] mark h = tt
-front_within t e (m ∷ marks) mark (a, b, h) = (a, b, front_within t e marks mark h)
+front_within t e (m ∷ marks) mark (a, b, before, h) = (a, b, front_before m marks mark before, front_within t e marks mark h)
 
 unmarked : (core : State) (chip : ChipState) (h : History) (last : Mark) → keys_listed last.event ≡ 0 → Keeps (record core { log = with_ending h last }) chip → Keeps (record core { log = h }) chip
 unmarked core chip h last none keeps = record {
@@ -123,9 +127,9 @@ kinds s [] h = tt
 kinds s (w ∷ ws) (one, h) = (one.1, kinds s ws h)
 
 -- a core whose turns ended can be marked as settled
-module _ (s : State) (chip : ChipState) (steady : IsSteady s chip) (rest : IsRest s []) (truly : WaitTruly s s.waiting) where
+module _ (s : State) (chip : ChipState) (steady : IsStanding s chip) (rest : IsRest s []) (truly : WaitTruly s s.waiting) where
   good_at : good_rows_at s.plan s.log.taken (length s.log.taken) ≡ good_rows s.plan s.rows
-  good_at = ap (λ ws. good_rows s.plan (rows_of (writes_of ws))) (take-length s.log.taken) ∙ ap (good_rows s.plan) (sym steady.keeps.rows)
+  good_at = ap (λ ws. good_rows s.plan (rows_of (sent_writes ws))) (take-length s.log.taken) ∙ ap (good_rows s.plan) (sym steady.keeps.rows)
 
   queued : (k : Key) → IsIn k (waiting_keys s.waiting) ⊎ (rows_applied s.applied k ≡ good_rows s.plan s.rows k)
   queued k = by (steady.keeps.to_sync k)
@@ -162,7 +166,7 @@ module _ (s : State) (chip : ChipState) (steady : IsSteady s chip) (rest : IsRes
   kept-settled turns =
       let mark = mark_at s (length chip.effects) (event.Settled (listing s) turns) in
       record {
-        keeps = keeps-mark s chip mark steady.keeps (s.listed + length s.waiting) (omega arith) (omega arith) (true-settled turns) (omega (arith, steady.keeps.listed, listed-more s.log.marks mark, lengths s.waiting));
+        keeps = keeps-mark s chip mark steady.keeps (s.listed + length s.waiting) refl refl (true-settled turns) (omega (arith, steady.keeps.listed, listed-more s.log.marks mark, lengths s.waiting));
         stands = λ known. steady.stands;
       }
 
@@ -171,7 +175,7 @@ pub kept-faulted : (s : State) (chip : ChipState) (before : ℕ) → Keeps s chi
 kept-faulted s chip before keeps =
     let mark = mark_at s (length chip.effects) (event.Faulted before chip.faults) in
     record {
-      keeps = keeps-mark s chip mark keeps s.listed (omega arith) (omega arith) (λ b. tt) (omega (arith, keeps.listed, listed-more s.log.marks mark));
+      keeps = keeps-mark s chip mark keeps s.listed refl refl (λ b. tt) (omega (arith, keeps.listed, listed-more s.log.marks mark));
       stands = λ known. absurd (false≢true (sym known ∙ suspect-more s.log.marks mark));
     }
 
@@ -199,7 +203,7 @@ faulted-after old chip mid chip1 count new chip2 a b = record {
   behind = b.behind ∙ ap (λ (s : State). record s { to_sync = new.to_sync; applied = new.applied; waiting = new.waiting }) a.behind;
   leave = leave-after old.to_sync mid.to_sync new.to_sync a.leave b.leave;
   grown = grown-after chip chip1 chip2 a.grown b.grown;
-  places = places-of 1 1 mid old (length chip2.effects) (ap (λ (s : State). size_of s 0 + 1) (sym a.behind)) (ap (λ (s : State). s.limit) (sym a.behind)) b.places;
+  places = places-of 1 1 mid old (length chip2.effects) (ap (λ (s : State). counted_size s 0 + 1) (sym a.behind)) (ap (λ (s : State). s.limit) (sym a.behind)) b.places;
   before = b.before ∙ a.faults;
   rose = omega (arith, b.rose, a.faults);
 }
@@ -236,7 +240,7 @@ rested-none turns old chip new chip' settling none =
     none_more : (n : ℕ) → n + 0 ≡ n
     none_more n = omega arith
 
-pub settling-first : (old : State) (chip : ChipState) (new : State) → IsSteady old chip → new ≡ record old { waiting = [] } → IsSettling 0 old chip new chip
+pub settling-first : (old : State) (chip : ChipState) (new : State) → IsStanding old chip → new ≡ record old { waiting = [] } → IsSettling 0 old chip new chip
 settling-first old chip new steady e = subst (λ n. IsSettling 0 old chip n chip) (sym e) (record {
   under = under-none old chip [] steady;
   waits = inl refl;
@@ -277,35 +281,35 @@ module _ (turns : ℕ) (old : State) (chip : ChipState) (mid : State) (chip1 : C
   }
 
 -- a settling begins on a core with an open mark
-pub steady-opened : (old : State) (chip : ChipState) → IsKept old chip → is_suspect old.log.marks ≡ false → IsSteady (record old { log = with_ending old.log open_mark }) chip
+pub steady-opened : (old : State) (chip : ChipState) → IsKept old chip → is_suspect old.log.marks ≡ false → IsStanding (opened old (length chip.effects)) chip
 steady-opened old chip kept known = record {
-  keeps = keeps-mark old chip open_mark kept.keeps old.listed (omega arith) (omega arith) (λ b. tt) (omega (arith, kept.keeps.listed, listed-more old.log.marks open_mark));
+  keeps = keeps-mark old chip (open_mark old (length chip.effects)) kept.keeps old.listed refl refl (λ b. tt) (omega (arith, kept.keeps.listed, listed-more old.log.marks (open_mark old (length chip.effects))));
   stands = kept.stands known;
 }
 
 -- what is due hangs on neither the log nor the count of its keys
-due-beside : (s : State) (log : History) (listed : ℕ) → CallIsDue s → CallIsDue (record s { log = log; listed = listed })
+due-beside : (s : State) (log : History) (listed : ℕ) → OwesCall s → OwesCall (record s { log = log; listed = listed })
 due-beside s log listed due = record { key = due.key; queued = due.queued; differs = due.differs; free = due.free }
 
 truly-beside : (s : State) (log : History) (listed : ℕ) (ws : List (Key × Wait)) → WaitTruly s ws → WaitTruly (record s { log = log; listed = listed }) ws
 truly-beside s log listed [] h = tt
 truly-beside s log listed (w ∷ ws) (one, h) = (one, truly-beside s log listed ws h)
 
-mark-beside : (s : State) (log : History) (listed : ℕ) → MarkIsDue s → MarkIsDue (record s { log = log; listed = listed })
+mark-beside : (s : State) (log : History) (listed : ℕ) → OwesMark s → OwesMark (record s { log = log; listed = listed })
 mark-beside s log listed due = record { rest = due.rest; order = due.order; truly = truly-beside s log listed s.waiting due.truly }
 
 -- a settling on a core with an open mark, by its end; h is the log before it
 module _ (old : State) (chip : ChipState) (new : State) (chip' : ChipState) where
   -- what stays of a core behind which steps were made
-  same-behind : (mid : State) → IsBehind (opened old) mid → (log : History) (listed : ℕ) → IsSame old (record mid { log = log; listed = listed })
+  same-behind : (mid : State) → IsBehind (opened old (length chip.effects)) mid → (log : History) (listed : ℕ) → IsSame old (record mid { log = log; listed = listed })
   same-behind mid behind log listed = record { plan = ap (λ (s : State). s.plan) behind; capacities = ap (λ (s : State). s.capacities) behind; limit = ap (λ (s : State). s.limit) behind; rows = ap (λ (s : State). s.rows) behind }
 
   -- the mark at the end tells how many writes were taken
-  taken-behind : (mid : State) → IsBehind (opened old) mid → mark_at mid (length chip'.effects) ≡ mark_at old (length chip'.effects)
+  taken-behind : (mid : State) → IsBehind (opened old (length chip.effects)) mid → mark_at mid (length chip'.effects) ≡ mark_at old (length chip'.effects)
   taken-behind mid behind = ap (λ (s : State). λ (e : MarkEvent). record { taken = length s.log.taken; effects = length chip'.effects; event = e }) behind
 
-  module _ (mid : State) (under : IsUnder (opened old) chip mid chip') where
-    log_is : mid.log ≡ with_ending old.log open_mark
+  module _ (mid : State) (under : IsUnder (opened old (length chip.effects)) chip mid chip') where
+    log_is : mid.log ≡ with_ending old.log (open_mark old (length chip.effects))
     log_is = ap (λ (s : State). s.log) under.behind
 
     listed_is : mid.listed ≡ old.listed
@@ -314,26 +318,26 @@ module _ (old : State) (chip : ChipState) (new : State) (chip' : ChipState) wher
     abbrev closed : State
     closed = record mid { log = old.log }
 
-    steady-closed : IsSteady closed chip'
-    steady-closed = record { keeps = keeps-unmark mid chip' old.log open_mark refl log_is under.steady.keeps; stands = under.steady.stands }
+    steady-closed : IsStanding closed chip'
+    steady-closed = record { keeps = keeps-unmark mid chip' old.log (open_mark old (length chip.effects)) refl log_is under.steady.keeps; stands = under.steady.stands }
 
     kept-closed : IsKept closed chip'
     kept-closed = record { keeps = steady-closed.keeps; stands = λ s. under.steady.stands }
 
-    sizes : size_of mid (length chip'.effects) ≡ size_of closed (length chip'.effects) + 1
-    sizes = omega (arith, ap (λ (l : History). length l.taken) log_is, ap (λ (l : History). length l.marks) log_is, length-append old.log.marks (open_mark ∷ []))
+    sizes : counted_size mid (length chip'.effects) ≡ counted_size closed (length chip'.effects) + 1
+    sizes = omega (arith, ap (λ (l : History). length l.taken) log_is, ap (λ (l : History). length l.marks) log_is, length-append old.log.marks (open_mark old (length chip.effects) ∷ []))
 
     unmarked-closed : HasNoMark old chip closed chip'
     unmarked-closed = record { log = refl; listed = listed_is; faults = under.faults }
 
-    full-closed : IsFullBeside mid (length chip'.effects) → IsFull closed (length chip'.effects)
+    full-closed : IsFullBeside mid (length chip'.effects) → LacksPlaces closed (length chip'.effects)
     full-closed (inl (due, full)) = inl (due-beside mid old.log mid.listed due, omega (arith, full, sizes))
     full-closed (inr (due, full)) = inr (mark-beside mid old.log mid.listed due, omega (arith, full, sizes))
 
-    brings-closed : BringsNew (opened old) (length chip.effects) mid (length chip'.effects) → BringsNew old (length chip.effects) closed (length chip'.effects)
+    brings-closed : BringsNew (opened old (length chip.effects)) (length chip.effects) mid (length chip'.effects) → BringsNew old (length chip.effects) closed (length chip'.effects)
     brings-closed b first = let c = b first in record { new_keys = c.new_keys; few = c.few }
 
-    settles-closed : (r : Result Settled OutOfMemory) → IsSettled old chip r closed chip' → new ≡ closed → Settles old chip r new chip'
+    settles-closed : (r : Result Settled OutOfMemory) → EndsSettling old chip r closed chip' → new ≡ closed → Settles old chip r new chip'
     settles-closed r ended is = subst (λ n. Settles old chip r n chip') (sym is) (record {
       kept = kept-closed;
       ended = ended;
@@ -342,7 +346,7 @@ module _ (old : State) (chip : ChipState) (new : State) (chip' : ChipState) wher
       grown = under.grown;
     })
 
-  by-settled : IsFilled old.log (opened old) chip (Ok settled.Settled) new chip' → Settles old chip (Ok settled.Settled) new chip'
+  by-settled : IsFilled old.log (opened old (length chip.effects)) chip (Ok settled.Settled) new chip' → Settles old chip (Ok settled.Settled) new chip'
   by-settled (mid, turns, rested, is, places) = record {
     kept = subst (λ n. IsKept n chip') (sym new_is) (kept-settled (closed mid rested.under) chip' (steady-closed mid rested.under) rested.due.rest (truly-beside mid old.log mid.listed mid.waiting rested.due.truly) turns);
     ended = record {
@@ -350,7 +354,7 @@ module _ (old : State) (chip : ChipState) (new : State) (chip' : ChipState) wher
       taken = subst (λ (s : State). TurnTo turns old s) (sym new_is) rested.taken;
       log = ap (λ (s : State). s.log) new_is ∙ ap (λ (s : State). with_ending old.log (mark_at old (length chip'.effects) (event.Settled (listing s) turns))) (sym new_is);
       listed = ap (λ (s : State). s.listed) new_is ∙ ap (λ n. n + length mid.waiting) (listed_is mid rested.under) ∙ ap (λ (s : State). old.listed + length s.waiting) (sym new_is);
-      due = subst MarkIsDue (sym new_is) (mark-beside mid marked (mid.listed + length mid.waiting) rested.due);
+      due = subst OwesMark (sym new_is) (mark-beside mid marked (mid.listed + length mid.waiting) rested.due);
       places = places;
       faults = rested.under.faults;
     };
@@ -365,13 +369,13 @@ module _ (old : State) (chip : ChipState) (new : State) (chip' : ChipState) wher
       new_is : new ≡ record mid { log = marked; listed = mid.listed + length mid.waiting }
       new_is = is ∙ ap (λ f. record mid { log = with_ending old.log (f (event.Settled (listing mid) turns)); listed = mid.listed + length mid.waiting }) (taken-behind mid rested.under.behind)
 
-  by-faulted : IsFilled old.log (opened old) chip (Ok settled.Faulted) new chip' → Settles old chip (Ok settled.Faulted) new chip'
+  by-faulted : IsFilled old.log (opened old (length chip.effects)) chip (Ok settled.Faulted) new chip' → Settles old chip (Ok settled.Faulted) new chip'
   by-faulted (mid, ends, is) = record {
-    kept = subst (λ n. IsKept n chip') (sym new_is) (kept-faulted (record mid { log = old.log }) chip' chip.faults (keeps-unmark mid chip' old.log open_mark refl (ap (λ (s : State). s.log) ends.behind) ends.keeps));
+    kept = subst (λ n. IsKept n chip') (sym new_is) (kept-faulted (record mid { log = old.log }) chip' chip.faults (keeps-unmark mid chip' old.log (open_mark old (length chip.effects)) refl (ap (λ (s : State). s.log) ends.behind) ends.keeps));
     ended = record {
       log = ap (λ (s : State). s.log) new_is;
       listed = ap (λ (s : State). s.listed) new_is ∙ ap (λ (s : State). s.listed) ends.behind;
-      places = places-of 1 2 (opened old) old (length chip'.effects) (omega (arith, length-append old.log.marks (open_mark ∷ []))) refl ends.places;
+      places = places-of 1 2 (opened old (length chip.effects)) old (length chip'.effects) (omega (arith, length-append old.log.marks (open_mark old (length chip.effects) ∷ []))) refl ends.places;
       rose = ends.rose;
     };
     same = subst (IsSame old) (sym new_is) (same-behind mid ends.behind marked mid.listed);
@@ -385,14 +389,14 @@ module _ (old : State) (chip : ChipState) (new : State) (chip' : ChipState) wher
       new_is : new ≡ record mid { log = marked }
       new_is = is ∙ ap (λ f. record mid { log = with_ending old.log (f (event.Faulted chip.faults chip'.faults)) }) (taken-behind mid ends.behind)
 
-  pub settles-marked : (r : Result Settled OutOfMemory) → is_marked r ≡ true → IsFilled old.log (opened old) chip r new chip' → Settles old chip r new chip'
+  pub settles-marked : (r : Result Settled OutOfMemory) → is_marked r ≡ true → IsFilled old.log (opened old (length chip.effects)) chip r new chip' → Settles old chip r new chip'
   settles-marked (Ok settled.Settled) is filled = by-settled filled
   settles-marked (Ok settled.Faulted) is filled = by-faulted filled
   settles-marked (Ok settled.LogFull) is filled = absurd (false≢true is)
   settles-marked (Err e) is filled = absurd (false≢true is)
 
-  pub settles-unmarked : (r : Result Settled OutOfMemory) (mid : State) → is_marked r ≡ false → IsFilled old.log (opened old) chip r mid chip' → ((h : History) (last : Mark) → mid.log ≡ with_ending h last → new ≡ record mid { log = h }) → Settles old chip r new chip'
+  pub settles-unmarked : (r : Result Settled OutOfMemory) (mid : State) → is_marked r ≡ false → IsFilled old.log (opened old (length chip.effects)) chip r mid chip' → ((h : History) (last : Mark) → mid.log ≡ with_ending h last → new ≡ record mid { log = h }) → Settles old chip r new chip'
   settles-unmarked (Ok settled.Settled) mid is filled closes = absurd (false≢true (sym is))
   settles-unmarked (Ok settled.Faulted) mid is filled closes = absurd (false≢true (sym is))
-  settles-unmarked (Ok settled.LogFull) mid is (under, full) closes = settles-closed mid under (Ok settled.LogFull) (unmarked-closed mid under, full-closed mid under full, brings-closed mid under under.brings) (closes old.log open_mark (log_is mid under))
-  settles-unmarked (Err e) mid is under closes = settles-closed mid under (Err e) (unmarked-closed mid under) (closes old.log open_mark (log_is mid under))
+  settles-unmarked (Ok settled.LogFull) mid is (under, full) closes = settles-closed mid under (Ok settled.LogFull) (unmarked-closed mid under, full-closed mid under full, brings-closed mid under under.brings) (closes old.log (open_mark old (length chip.effects)) (log_is mid under))
+  settles-unmarked (Err e) mid is under closes = settles-closed mid under (Err e) (unmarked-closed mid under) (closes old.log (open_mark old (length chip.effects)) (log_is mid under))

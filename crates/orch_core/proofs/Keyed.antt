@@ -12,7 +12,7 @@ use Rattle.table_schema.specs.declared.key.Key.{Key}
 use Rattle.table_schema.proofs.Keys.{key_exact, key_total}
 use Rattle.sai_types.proofs.Maps.{lookup-insert_entry, lookup-removed, sorted-insert_entry, sorted-remove_entry}
 use Rattle.orch_core.specs.declared.applied.Applied.{Applied}
-use Rattle.orch_core.specs.Standing.{Entries, applied_at}
+use Rattle.orch_core.specs.Standing.{Entries, applied_entry}
 
 pub tied : (o : Ordering) → is_eq o ≡ true → o ≡ Equal
 tied Less h = cc
@@ -32,10 +32,10 @@ same_key k q h = key_exact k q (tied (key_cmp k q) h)
 pub is_at-symm : (k q : Key) → is_at (key_cmp k) q ≡ is_at (key_cmp q) k
 is_at-symm k q = (eq_by_cmp_equiv key_total).symm k q
 
-pub found-insert : (entries : Entries) (k : Key) (a : Applied) (q : Key) → applied_at (insert_entry key_cmp entries k a) q ≡ cond (is_at (key_cmp q) k) (Some a) (applied_at entries q)
+pub found-insert : (entries : Entries) (k : Key) (a : Applied) (q : Key) → applied_entry (insert_entry key_cmp entries k a) q ≡ cond (is_at (key_cmp q) k) (Some a) (applied_entry entries q)
 found-insert entries k a q = lookup-insert_entry key_cmp key_total entries k a q
 
-pub found-remove : (entries : Entries) (k q : Key) → IsStrictlySortedBy key_cmp (keys_of entries) → applied_at (remove_entry (is_at (key_cmp k)) entries) q ≡ cond (is_at (key_cmp k) q) None (applied_at entries q)
+pub found-remove : (entries : Entries) (k q : Key) → IsStrictlySortedBy key_cmp (keys_of entries) → applied_entry (remove_entry (is_at (key_cmp k)) entries) q ≡ cond (is_at (key_cmp k) q) None (applied_entry entries q)
 found-remove entries k q sorted = lookup-removed key_cmp key_total entries k q sorted
 
 -- the applied rows stay in order
@@ -46,18 +46,18 @@ pub sorted-remove : (entries : Entries) (k : Key) → IsStrictlySortedBy key_cmp
 sorted-remove entries k sorted = sorted-remove_entry key_cmp key_total (is_at (key_cmp k)) entries sorted
 
 -- a row that is put is found, and the others stay
-pub found-put : (entries : Entries) (k : Key) (a : Applied) → applied_at (insert_entry key_cmp entries k a) k ≡ Some a
-found-put entries k a = found-insert entries k a k ∙ ap (λ b. cond b (Some a) (applied_at entries k)) (is_at-refl k)
+pub found-put : (entries : Entries) (k : Key) (a : Applied) → applied_entry (insert_entry key_cmp entries k a) k ≡ Some a
+found-put entries k a = found-insert entries k a k ∙ ap (λ b. cond b (Some a) (applied_entry entries k)) (is_at-refl k)
 
-pub found-beside : (entries : Entries) (k : Key) (a : Applied) (q : Key) → is_at (key_cmp q) k ≡ false → applied_at (insert_entry key_cmp entries k a) q ≡ applied_at entries q
-found-beside entries k a q apart = found-insert entries k a q ∙ ap (λ b. cond b (Some a) (applied_at entries q)) apart
+pub found-beside : (entries : Entries) (k : Key) (a : Applied) (q : Key) → is_at (key_cmp q) k ≡ false → applied_entry (insert_entry key_cmp entries k a) q ≡ applied_entry entries q
+found-beside entries k a q apart = found-insert entries k a q ∙ ap (λ b. cond b (Some a) (applied_entry entries q)) apart
 
 -- after a removal nothing is found, and the others stay
-pub found-gone : (entries : Entries) (k : Key) → IsStrictlySortedBy key_cmp (keys_of entries) → applied_at (remove_entry (is_at (key_cmp k)) entries) k ≡ None
-found-gone entries k sorted = found-remove entries k k sorted ∙ ap (λ b. cond b None (applied_at entries k)) (is_at-refl k)
+pub found-gone : (entries : Entries) (k : Key) → IsStrictlySortedBy key_cmp (keys_of entries) → applied_entry (remove_entry (is_at (key_cmp k)) entries) k ≡ None
+found-gone entries k sorted = found-remove entries k k sorted ∙ ap (λ b. cond b None (applied_entry entries k)) (is_at-refl k)
 
-pub found-left : (entries : Entries) (k q : Key) → IsStrictlySortedBy key_cmp (keys_of entries) → is_at (key_cmp k) q ≡ false → applied_at (remove_entry (is_at (key_cmp k)) entries) q ≡ applied_at entries q
-found-left entries k q sorted apart = found-remove entries k q sorted ∙ ap (λ b. cond b None (applied_at entries q)) apart
+pub found-left : (entries : Entries) (k q : Key) → IsStrictlySortedBy key_cmp (keys_of entries) → is_at (key_cmp k) q ≡ false → applied_entry (remove_entry (is_at (key_cmp k)) entries) q ≡ applied_entry entries q
+found-left entries k q sorted apart = found-remove entries k q sorted ∙ ap (λ b. cond b None (applied_entry entries q)) apart
 
 -- what is found where something was put: what was put, or what was there
 pub put_or_old : {X : Type 0} (t : Bool) (x y : X) (rest : Option X) → cond t (Some x) rest ≡ Some y → ((t ≡ true) × (y ≡ x)) ⊎ (rest ≡ Some y)

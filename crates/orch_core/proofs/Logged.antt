@@ -11,6 +11,7 @@ use Rattle.sai_types.specs.declared.body.Call.{Call}
 use Rattle.sai_types.specs.After.{chip_after}
 use Rattle.sai_types.specs.Alike.{IsAlike, IsIn}
 use Rattle.sai_types.specs.ChipState.{ChipState, new_chip}
+use Rattle.sai_types.specs.declared.fail.Fail.{Fail}
 use Rattle.sai_types.specs.Named.{named}
 use Rattle.sai_types.specs.declared.thing.Thing.{Thing}
 use Rattle.sai_types.specs.declared.thing.Thing.TheVariants as thing
@@ -28,16 +29,16 @@ use Rattle.table_schema.specs.declared.write.Write.TheVariants as write
 use Rattle.table_schema.proofs.Keys.{key_total}
 use Rattle.switch_model.specs.Desired.{IsClosed, IsThingOf}
 use Rattle.switch_model.specs.Good.{good_row, good_rows}
-use Rattle.switch_model.specs.History.{with_end, with_mark}
-use Rattle.switch_model.specs.Marks.{ReasonsAreTrue, NameFirstKinds, applied_rows, writes_of}
+use Rattle.switch_model.specs.History.{keys_listed, listed_by, with_end, with_mark}
+use Rattle.switch_model.specs.Marks.{ReasonsAreTrue, NameFirstKinds, applied_rows, sent_writes, written_key}
 use Rattle.switch_model.specs.Promises.{AreTrueMarks, EffectsAreLegal, EndsApply, IsTrueMark, good_rows_at}
-use Rattle.switch_model.specs.Sound.{AreWithin, is_fault, is_suspect}
+use Rattle.switch_model.specs.Sound.{AreWithin, IsBefore, is_fault, is_suspect}
 use Rattle.switch_model.specs.declared.mark.Mark.{Mark}
 use Rattle.switch_model.specs.declared.mark.MarkEvent.{MarkEvent}
 use Rattle.switch_model.specs.declared.mark.MarkEvent.TheVariants as event
-use Rattle.orch_core.specs.Keeps.{IsKept, Keeps, is_served, key_of}
-use Rattle.orch_core.specs.Standing.{HasRoom, rows_applied}
-use Rattle.orch_core.specs.State.{State, keys_listed, listed_by, new_state}
+use Rattle.orch_core.specs.Keeps.{IsKept, Keeps, is_served}
+use Rattle.orch_core.specs.Standing.{HasPortRoom, rows_applied}
+use Rattle.orch_core.specs.State.{State, new_state}
 use Rattle.orch_core.specs.Taken.{IsTaken, after_take, with_key}
 use Rattle.orch_core.specs.declared.answer.TakeFault.{TakeFault}
 use Rattle.orch_core.specs.declared.answer.TakeFault.TheVariants as fault
@@ -50,12 +51,12 @@ after_writes-more : (rows : Rows) (ws : List Write) (w : Write) → after_writes
 after_writes-more rows [] w = refl
 after_writes-more rows (v ∷ ws) w = after_writes-more (after_write rows v) ws w
 
-writes_of-more : (sent : List Sent) (s : Sent) → writes_of (sent ++ s ∷ []) ≡ writes_of sent ++ s.write ∷ []
-writes_of-more [] s = refl
-writes_of-more (t ∷ sent) s = ap (λ ws. t.write ∷ ws) (writes_of-more sent s)
+sent_writes-more : (sent : List Sent) (s : Sent) → sent_writes (sent ++ s ∷ []) ≡ sent_writes sent ++ s.write ∷ []
+sent_writes-more [] s = refl
+sent_writes-more (t ∷ sent) s = ap (λ ws. t.write ∷ ws) (sent_writes-more sent s)
 
-rows-more : (sent : List Sent) (s : Sent) → rows_of (writes_of (sent ++ s ∷ [])) ≡ after_write (rows_of (writes_of sent)) s.write
-rows-more sent s = ap (after_writes []) (writes_of-more sent s) ∙ after_writes-more [] (writes_of sent) s.write
+rows-more : (sent : List Sent) (s : Sent) → rows_of (sent_writes (sent ++ s ∷ [])) ≡ after_write (rows_of (sent_writes sent)) s.write
+rows-more sent s = ap (after_writes []) (sent_writes-more sent s) ∙ after_writes-more [] (sent_writes sent) s.write
 
 apart_from : (k q x : Key) → is_at (key_cmp q) k ≡ false → is_at (key_cmp k) x ≡ true → is_at (key_cmp q) x ≡ false
 apart_from k q x apart at = ap (is_at (key_cmp q)) (sym (same_key k x at)) ∙ apart
@@ -70,7 +71,7 @@ module _ {X : Type 0} (k q : Key) (apart : is_at (key_cmp q) k ≡ false) where
       left false e es at ih = rw at (ap (cond (is_at (key_cmp q) e.0) (Some e.1)) ih)
 
 -- a write leaves the rows of other keys
-fields-beside : (rows : Rows) (w : Write) (q : Key) → is_at (key_cmp q) (key_of w) ≡ false → fields_at (after_write rows w) q ≡ fields_at rows q
+fields-beside : (rows : Rows) (w : Write) (q : Key) → is_at (key_cmp q) (written_key w) ≡ false → fields_at (after_write rows w) q ≡ fields_at rows q
 fields-beside rows (write.Set k fields) q apart = lookup-insert_entry key_cmp key_total rows k (merged (Rattle.std.specs.Prelude.unwrap_or (fields_at rows k) []) fields) q ∙ ap (λ b. cond b (Some (merged (Rattle.std.specs.Prelude.unwrap_or (fields_at rows k) []) fields)) (fields_at rows q)) apart
 fields-beside rows (write.Del k) q apart = lookup-left k q apart rows
 
@@ -96,7 +97,7 @@ in-new (x ∷ xs) k = by (key_cmp k x) refl (in-new xs k)
 
 -- what was true of the first writes stays true when more are taken
 good-front : (plan : Ports) (taken : List Sent) (s : Sent) (n : ℕ) → n ≤ length taken → good_rows_at plan (taken ++ s ∷ []) n ≡ good_rows_at plan taken n
-good-front plan taken s n le = ap (λ ts. good_rows plan (rows_of (writes_of ts))) (take-append-le n taken (s ∷ []) le)
+good-front plan taken s n le = ap (λ ts. good_rows plan (rows_of (sent_writes ts))) (take-append-le n taken (s ∷ []) le)
 
 module _ (plan : Ports) (capacities : List ℕ) (taken : List Sent) (s : Sent) (es : List (Call Rid)) where
   ended-taken : (began : Mark) (mark : Mark) (e : MarkEvent) → good_rows_at plan (taken ++ s ∷ []) began.taken ≡ good_rows_at plan taken began.taken → EndsApply plan taken es mark began e → EndsApply plan (taken ++ s ∷ []) es mark began e
@@ -129,7 +130,7 @@ module _ (plan : Ports) (capacities : List ℕ) (taken : List Sent) (s : Sent) (
 
   marks-taken : (n : ℕ) (before : Option Mark) (marks : List Mark) → ((b : Mark) → before ≡ Some b → b.taken ≤ length taken) → AreWithin (length taken) n marks → AreTrueMarks plan capacities taken es before marks → AreTrueMarks plan capacities (taken ++ s ∷ []) es before marks
   marks-taken n before [] least within h = tt
-  marks-taken n before (m ∷ marks) least (a, b, within) (one, h) =
+  marks-taken n before (m ∷ marks) least (a, b, behind, within) (one, h) =
       (true-taken before m m.event least a one, marks-taken n (Some m) marks (λ b e. subst (λ x. x ≤ length taken) (ap Mark.taken (some-is m b e)) a) within h)
     where
       some-is : (x y : Mark) → Some x ≡ Some y → x ≡ y
@@ -143,9 +144,9 @@ legality-taken plan capacities taken s es h = record {
       (r.0, r.1, omega (arith, r.2, length-append taken (s ∷ [])), ap (λ g. g (Rattle.table_schema.specs.declared.key.Key.TheVariants.Route prefix)) (good-front plan taken s r.0 r.2) ∙ r.3, r.4);
 }
 
-module _ (core : State) (chip : ChipState) (s : Sent) (keeps : Keeps core chip) (served : is_served (key_of s.write) ≡ true) where
+module _ (core : State) (chip : ChipState) (s : Sent) (keeps : Keeps core chip) (served : is_served (written_key s.write) ≡ true) where
   abbrev k : Key
-  k = key_of s.write
+  k = written_key s.write
 
   to_sync-by : (q : Key) (t : Bool) → is_at (key_cmp q) k ≡ t → (IsIn q core.to_sync ⊎ (rows_applied core.applied q ≡ good_rows core.plan core.rows q)) → IsIn q (insert_key key_cmp core.to_sync k) ⊎ (rows_applied core.applied q ≡ good_rows core.plan (after_write core.rows s.write) q)
   to_sync-by q true at h = inl (subst (λ x. IsIn x (insert_key key_cmp core.to_sync k)) (sym (same_key q k at)) (in-new core.to_sync k))
@@ -180,11 +181,16 @@ module _ (core : State) (chip : ChipState) (mark : Mark) (keeps : Keeps core chi
   marks-more before [] one h = (one before, tt)
   marks-more before (m ∷ marks) one (first, h) = (first, marks-more (Some m) marks one h)
 
-  within-mark : (marks : List Mark) → mark.taken ≤ length core.log.taken → mark.effects ≤ length chip.effects → AreWithin (length core.log.taken) (length chip.effects) marks → AreWithin (length core.log.taken) (length chip.effects) (marks ++ mark ∷ [])
-  within-mark [] a b within = (a, b, tt)
-  within-mark (m ∷ marks) a b (c, d, within) = (c, d, within-mark marks a b within)
+  -- a mark that counts all comes before none
+  before-mark : (m : Mark) (marks : List Mark) → m.taken ≤ mark.taken → m.effects ≤ mark.effects → IsBefore m marks → IsBefore m (marks ++ mark ∷ [])
+  before-mark m [] taken effects before = (taken, effects)
+  before-mark m (n ∷ marks) taken effects before = before
 
-  pub keeps-mark : (listed : ℕ) → mark.taken ≤ length core.log.taken → mark.effects ≤ length chip.effects → ((b : Option Mark) → IsTrueMark core.plan core.capacities core.log.taken chip.effects b mark mark.event) → listed ≡ listed_by (core.log.marks ++ mark ∷ []) → Keeps (record core { log = with_end (with_mark core.log mark); listed = listed }) chip
+  within-mark : (marks : List Mark) → mark.taken ≡ length core.log.taken → mark.effects ≡ length chip.effects → AreWithin (length core.log.taken) (length chip.effects) marks → AreWithin (length core.log.taken) (length chip.effects) (marks ++ mark ∷ [])
+  within-mark [] a b within = (omega (arith, a), omega (arith, b), tt, tt)
+  within-mark (m ∷ marks) a b (c, d, before, within) = (c, d, before-mark m marks (omega (arith, a, c)) (omega (arith, b, d)) before, within-mark marks a b within)
+
+  pub keeps-mark : (listed : ℕ) → mark.taken ≡ length core.log.taken → mark.effects ≡ length chip.effects → ((b : Option Mark) → IsTrueMark core.plan core.capacities core.log.taken chip.effects b mark mark.event) → listed ≡ listed_by (core.log.marks ++ mark ∷ []) → Keeps (record core { log = with_end (with_mark core.log mark); listed = listed }) chip
   keeps-mark listed a b one count = record {
     clean = keeps.clean;
     capacities = keeps.capacities;
@@ -230,20 +236,20 @@ keeps-key core chip s keeps = record {
   listed = keeps.listed;
 }
   where
-    by : (q : Key) → (IsIn q core.to_sync ⊎ (rows_applied core.applied q ≡ good_rows core.plan core.rows q)) → IsIn q (insert_key key_cmp core.to_sync (key_of s.write)) ⊎ (rows_applied core.applied q ≡ good_rows core.plan core.rows q)
-    by q (inl h) = inl (in-put core.to_sync (key_of s.write) q h)
+    by : (q : Key) → (IsIn q core.to_sync ⊎ (rows_applied core.applied q ≡ good_rows core.plan core.rows q)) → IsIn q (insert_key key_cmp core.to_sync (written_key s.write)) ⊎ (rows_applied core.applied q ≡ good_rows core.plan core.rows q)
+    by q (inl h) = inl (in-put core.to_sync (written_key s.write) q h)
     by q (inr e) = inr e
 
 -- taking a write keeps what is kept
-pub kept-taken : (old : State) (s : Sent) (effects : ℕ) (r : Result (Result (Unit {0}) TakeFault) OutOfMemory) (new : State) (chip : ChipState) → IsTaken old s effects r new → is_served (key_of s.write) ≡ true → IsKept old chip → IsKept new chip
+pub kept-taken : (old : State) (s : Sent) (effects : ℕ) (r : Result (Result (Unit {0}) TakeFault) OutOfMemory) (new : State) (chip : ChipState) → IsTaken old s effects r new → is_served (written_key s.write) ≡ true → IsKept old chip → IsKept new chip
 kept-taken old s effects (Ok (Ok u)) new chip (is, room) served kept = subst (λ n. IsKept n chip) (sym is) (record { keeps = keeps-take old chip s kept.keeps served; stands = kept.stands })
 kept-taken old s effects (Ok (Err (fault.LogFull back))) new chip (is, same, full) served kept = subst (λ n. IsKept n chip) (sym is) kept
 kept-taken old s effects (Err e) new chip (inl is) served kept = subst (λ n. IsKept n chip) (sym is) kept
 kept-taken old s effects (Err e) new chip (inr is) served kept = subst (λ n. IsKept n chip) (sym is) (record { keeps = keeps-key old chip s kept.keeps; stands = kept.stands })
 
 -- a new core on a new chip
-pub kept-new : (plan : Ports) (capacities : List ℕ) (limit : ℕ) → IsPlan plan → HasRoom plan capacities → IsKept (new_state plan capacities limit) (new_chip capacities)
-kept-new plan capacities limit is room = record {
+pub kept-new : (plan : Ports) (capacities : List ℕ) (limit : ℕ) (fails : List Fail) → IsPlan plan → HasPortRoom plan capacities → IsKept (new_state plan capacities limit) (new_chip capacities fails)
+kept-new plan capacities limit fails is room = record {
   keeps = record {
     clean = refl;
     capacities = refl;

@@ -1,5 +1,5 @@
 -- making the object of a row: the call is legal, and then it stands
-use Rattle.std.proofs.Common.{◌≡◌, ◌⊎◌, inl, inr, ℕ, ◌+◌, ◌≤◌, true, false, List, None, Some, is_some, refl, sym, ap, ◌∙◌, subst, arith}
+use Rattle.std.proofs.Common.{◌≡◌, ◌⊎◌, inl, inr, ℕ, ◌+◌, ◌≤◌, ◌&&◌, true, false, List, None, Some, is_some, refl, sym, ap, ◌∙◌, subst, arith}
 use Rattle.std.specs.BTreeMap.{insert_entry, is_at}
 use Rattle.std.specs.Bool.{nat_le}
 use Rattle.std.specs.List.{list_any}
@@ -24,7 +24,7 @@ use Rattle.sai_types.specs.Objects.{Objects, body_at, is_kind_of, is_of, is_ther
 use Rattle.sai_types.specs.Refusal.{IsLegal, capacity_of, clash, create_refusal, refers_well}
 use Rattle.sai_types.proofs.Found.{body_at-insert, found-created, same-symm, same-trans}
 use Rattle.orch_core.specs.declared.applied.Applied.{Applied}
-use Rattle.orch_core.specs.Standing.{Entries, HasRoom, IsPlanned, Stands, applied_at, body_of}
+use Rattle.orch_core.specs.Standing.{Entries, HasPortRoom, IsPlanned, Stands, applied_entry, body_of}
 use Rattle.orch_core.proofs.Bodies.{IsPort, IsInterface, body_of-kept, parts, port_body}
 use Rattle.orch_core.proofs.Counted.{IsOf, used-below}
 use Rattle.orch_core.proofs.Keyed.{found-insert, found-put, same_key, sorted-insert, put_or_old, kept_put}
@@ -47,7 +47,7 @@ module _ (plan : Ports) (entries : Entries) (objects : Objects) (is : IsPlan pla
   port_by p a b planned found (inr x) = let no = x.key_is in absurd cc
 
   -- an applied port has a port's object, and is in the plan
-  port_at : (p : ℕ) (a : Applied) → applied_at entries (key.Port p) ≡ Some a → (is_there objects kind.Port a.id ≡ true) × (is_some (lanes_in_plan plan p) ≡ true)
+  port_at : (p : ℕ) (a : Applied) → applied_entry entries (key.Port p) ≡ Some a → (is_there objects kind.Port a.id ≡ true) × (is_some (lanes_in_plan plan p) ≡ true)
   port_at p a at =
       let has = stands.stand (key.Port p) a at in
       port_by p a has.0 (stands.planned (key.Port p) a at) has.2 (parts entries (key.Port p) a.row has.0 has.1)
@@ -60,13 +60,13 @@ module _ (plan : Ports) (entries : Entries) (objects : Objects) (is : IsPlan pla
       ap (λ n. is_some (lanes_in_plan plan n)) number ∙ (port_at x.port x.base x.base_is).1
 
   -- an interface's port is in the plan
-  interface_at : (p : ℕ) (a : Applied) → applied_at entries (key.Intf (name.Ethernet p)) ≡ Some a → is_some (lanes_in_plan plan p) ≡ true
+  interface_at : (p : ℕ) (a : Applied) → applied_entry entries (key.Intf (name.Ethernet p)) ≡ Some a → is_some (lanes_in_plan plan p) ≡ true
   interface_at p a at =
       let has = stands.stand (key.Intf (name.Ethernet p)) a at in
       interface_by p a.row has.0 (parts entries (key.Intf (name.Ethernet p)) a.row has.0 has.1)
 
-  port_object_by : (e : Entry Rid) (d : Body Rid) (k : Key) (a : Applied) → applied_at entries k ≡ Some a → same_entry e (entry.Oid a.id) ≡ true → is_of kind.Port d ≡ true → IsPort k a.row d ⊎ IsInterface entries k a.row d → (n : ℕ) × IsOf entries objects kind.Port key.Port n e
-  port_object_by e d k a at same of (inl x) = (x.port, record { row = a; applied = ap (applied_at entries) (sym x.key_is) ∙ at; same = same })
+  port_object_by : (e : Entry Rid) (d : Body Rid) (k : Key) (a : Applied) → applied_entry entries k ≡ Some a → same_entry e (entry.Oid a.id) ≡ true → is_of kind.Port d ≡ true → IsPort k a.row d ⊎ IsInterface entries k a.row d → (n : ℕ) × IsOf entries objects kind.Port key.Port n e
+  port_object_by e d k a at same of (inl x) = (x.port, record { row = a; applied = ap (applied_entry entries) (sym x.key_is) ∙ at; same = same })
   port_object_by e d k a at same of (inr x) = absurd (false≢true (sym (ap (is_of kind.Port) x.body_is) ∙ of))
 
   port_object : (e : Entry Rid) (d : Body Rid) → body_at objects e ≡ Some d → is_of kind.Port d ≡ true → (n : ℕ) × IsOf entries objects kind.Port key.Port n e
@@ -74,27 +74,27 @@ module _ (plan : Ports) (entries : Entries) (objects : Objects) (is : IsPlan pla
       let row = owner plan entries objects stands e d found in
       port_object_by e d row.0 row.1 row.2 row.4 of (parts entries row.0 row.1.row d row.3)
 
-  interface_object_by : (e : Entry Rid) (d : Body Rid) (k : Key) (a : Applied) → applied_at entries k ≡ Some a → same_entry e (entry.Oid a.id) ≡ true → is_of kind.Rif d ≡ true → IsPort k a.row d ⊎ IsInterface entries k a.row d → (n : ℕ) × IsOf entries objects kind.Rif (λ p. key.Intf (name.Ethernet p)) n e
+  interface_object_by : (e : Entry Rid) (d : Body Rid) (k : Key) (a : Applied) → applied_entry entries k ≡ Some a → same_entry e (entry.Oid a.id) ≡ true → is_of kind.Rif d ≡ true → IsPort k a.row d ⊎ IsInterface entries k a.row d → (n : ℕ) × IsOf entries objects kind.Rif (λ p. key.Intf (name.Ethernet p)) n e
   interface_object_by e d k a at same of (inl x) = absurd (false≢true (sym (ap (is_of kind.Rif) x.body_is) ∙ of))
-  interface_object_by e d k a at same of (inr x) = (x.port, record { row = a; applied = ap (applied_at entries) (sym x.key_is) ∙ at; same = same })
+  interface_object_by e d k a at same of (inr x) = (x.port, record { row = a; applied = ap (applied_entry entries) (sym x.key_is) ∙ at; same = same })
 
   interface_object : (e : Entry Rid) (d : Body Rid) → body_at objects e ≡ Some d → is_of kind.Rif d ≡ true → (n : ℕ) × IsOf entries objects kind.Rif (λ p. key.Intf (name.Ethernet p)) n e
   interface_object e d found of =
       let row = owner plan entries objects stands e d found in
       interface_object_by e d row.0 row.1 row.2 row.4 of (parts entries row.0 row.1.row d row.3)
 
-  module _ (k : Key) (r : Row) (b : Body Rid) (planned : IsPlanned plan k r) (none : applied_at entries k ≡ None) where
+  module _ (k : Key) (r : Row) (b : Body Rid) (planned : IsPlanned plan k r) (none : applied_entry entries k ≡ None) where
     refers_by : IsPort k r b ⊎ IsInterface entries k r b → refers_well objects b ≡ true
     refers_by (inl x) = ap (refers_well objects) x.body_is
-    refers_by (inr x) = ap (refers_well objects) x.body_is ∙ (port_at x.port x.base x.base_is).0
+    refers_by (inr x) = ap (refers_well objects) x.body_is ∙ ap (λ t. t && true) (port_at x.port x.base x.base_is).0
 
-    not_applied : (q : Key) (a : Applied) → applied_at entries q ≡ Some a → k ≡ q → ⊥
-    not_applied q a at same = let there = sym none ∙ ap (applied_at entries) same ∙ at in cc
+    not_applied : (q : Key) (a : Applied) → applied_entry entries q ≡ Some a → k ≡ q → ⊥
+    not_applied q a at same = let there = sym none ∙ ap (applied_entry entries) same ∙ at in cc
 
     clash_of : (d x y : Body Rid) → b ≡ x → d ≡ y → clash b d ≡ clash x y
     clash_of d x y e f = ap (λ z. clash z d) e ∙ ap (clash x) f
 
-    free_by : (d : Body Rid) (q : Key) (a : Applied) → applied_at entries q ≡ Some a → IsPort k r b ⊎ IsInterface entries k r b → IsPort q a.row d ⊎ IsInterface entries q a.row d → clash b d ≡ false
+    free_by : (d : Body Rid) (q : Key) (a : Applied) → applied_entry entries q ≡ Some a → IsPort k r b ⊎ IsInterface entries k r b → IsPort q a.row d ⊎ IsInterface entries q a.row d → clash b d ≡ false
     free_by d q a at (inl x) (inl y) = not_true (clash b d) (λ h.
         let here = lanes-of_port plan k r b x planned in
         let there = lanes-of_port plan q a.row d y (stands.planned q a at) in
@@ -112,10 +112,10 @@ module _ (plan : Ports) (entries : Entries) (objects : Objects) (is : IsPlan pla
         let row = owner plan entries objects stands e d found in
         free_by d row.0 row.1 row.2 new (parts entries row.0 row.1.row d row.3)
 
-    none_at : (q : Key) → k ≡ q → applied_at entries q ≡ None
-    none_at q same = ap (applied_at entries) (sym same) ∙ none
+    none_at : (q : Key) → k ≡ q → applied_entry entries q ≡ None
+    none_at q same = ap (applied_entry entries) (sym same) ∙ none
 
-    room_by : (capacities : List ℕ) (made : ℕ) → HasRoom plan capacities → IsWhole made objects → IsPort k r b ⊎ IsInterface entries k r b → nat_le (capacity_of capacities (kind_of b)) (used objects (kind_of b)) ≡ false
+    room_by : (capacities : List ℕ) (made : ℕ) → HasPortRoom plan capacities → IsWhole made objects → IsPort k r b ⊎ IsInterface entries k r b → nat_le (capacity_of capacities (kind_of b)) (used objects (kind_of b)) ≡ false
     room_by capacities made room whole (inl x) =
         let below = used-below entries objects kind.Port key.Port plan x.port whole.sorted port_object (λ n a at. (port_at n a at).1) (ap is_some (lanes-of_port plan k r b x planned)) (none_at (key.Port x.port) x.key_is) in
         let ports = room.ports in
@@ -126,7 +126,7 @@ module _ (plan : Ports) (entries : Entries) (objects : Objects) (is : IsPlan pla
         ap (λ z. nat_le (capacity_of capacities (kind_of z)) (used objects (kind_of z))) x.body_is ∙ lt-leb (capacity_of capacities kind.Rif) (used objects kind.Rif) (omega (arith, below, rifs))
 
 -- the object of a planned row that is not applied can be made
-pub legal-make : (plan : Ports) (capacities : List ℕ) (entries : Entries) (made : ℕ) (objects : Objects) (k : Key) (r : Row) (b : Body Rid) → IsPlan plan → HasRoom plan capacities → IsWhole made objects → Stands plan entries objects → IsPlanned plan k r → applied_at entries k ≡ None → body_of entries k r ≡ Some b → IsLegal capacities objects (call.Create b)
+pub legal-make : (plan : Ports) (capacities : List ℕ) (entries : Entries) (made : ℕ) (objects : Objects) (k : Key) (r : Row) (b : Body Rid) → IsPlan plan → HasPortRoom plan capacities → IsWhole made objects → Stands plan entries objects → IsPlanned plan k r → applied_entry entries k ≡ None → body_of entries k r ≡ Some b → IsLegal capacities objects (call.Create b)
 legal-make plan capacities entries made objects k r b is room whole stands planned none h =
     let new = parts entries k r b h in
     legal_from capacities objects b
@@ -154,7 +154,7 @@ next-free made objects e d whole found same =
     let of = whole.entered.each e d found in
     number_taken made of.0 d of.1 (same-trans (entry.Oid (record { 0 = made + 1 })) e (entry_of of.0 d) (same-symm (entry.Oid (record { 0 = made + 1 })) e ∙ same) of.2)
 
-module _ (plan : Ports) (entries : Entries) (made : ℕ) (objects : Objects) (k : Key) (r : Row) (b : Body Rid) (whole : IsWhole made objects) (stands : Stands plan entries objects) (planned : IsPlanned plan k r) (none : applied_at entries k ≡ None) (of : body_of entries k r ≡ Some b) where
+module _ (plan : Ports) (entries : Entries) (made : ℕ) (objects : Objects) (k : Key) (r : Row) (b : Body Rid) (whole : IsWhole made objects) (stands : Stands plan entries objects) (planned : IsPlanned plan k r) (none : applied_entry entries k ≡ None) (of : body_of entries k r ≡ Some b) where
   abbrev new : Applied
   new = record { row = r; id = record { 0 = made + 1 } }
 
@@ -167,13 +167,13 @@ module _ (plan : Ports) (entries : Entries) (made : ℕ) (objects : Objects) (k 
   new_entry : entry_of (made + 1) b ≡ entry.Oid new.id
   new_entry = entry_by (made + 1) entries k r b (parts entries k r b of)
 
-  row_in : (q : Key) (a : Applied) → applied_at entries' q ≡ Some a → ((is_at (key_cmp q) k ≡ true) × (a ≡ new)) ⊎ (applied_at entries q ≡ Some a)
-  row_in q a h = put_or_old (is_at (key_cmp q) k) new a (applied_at entries q) (sym (found-insert entries k new q) ∙ h)
+  row_in : (q : Key) (a : Applied) → applied_entry entries' q ≡ Some a → ((is_at (key_cmp q) k ≡ true) × (a ≡ new)) ⊎ (applied_entry entries q ≡ Some a)
+  row_in q a h = put_or_old (is_at (key_cmp q) k) new a (applied_entry entries q) (sym (found-insert entries k new q) ∙ h)
 
-  row_kept : (q : Key) (a : Applied) → applied_at entries q ≡ Some a → applied_at entries' q ≡ Some a
+  row_kept : (q : Key) (a : Applied) → applied_entry entries q ≡ Some a → applied_entry entries' q ≡ Some a
   row_kept q a at =
       found-insert entries k new q
-      ∙ kept_put (is_at (key_cmp q) k) new a (applied_at entries q) (λ same. let there = sym none ∙ ap (applied_at entries) (sym (same_key q k same)) ∙ at in cc) at
+      ∙ kept_put (is_at (key_cmp q) k) new a (applied_entry entries q) (λ same. let there = sym none ∙ ap (applied_entry entries) (sym (same_key q k same)) ∙ at in cc) at
 
   object_in : (e : Entry Rid) (d : Body Rid) → body_at objects' e ≡ Some d → ((same_entry e (entry_of (made + 1) b) ≡ true) × (d ≡ b)) ⊎ (body_at objects e ≡ Some d)
   object_in e d h = put_or_old (same_entry e (entry_of (made + 1) b)) b d (body_at objects e) (sym (body_at-insert objects (entry_of (made + 1) b) b e) ∙ h)
@@ -183,11 +183,11 @@ module _ (plan : Ports) (entries : Entries) (made : ℕ) (objects : Objects) (k 
       body_at-insert objects (entry_of (made + 1) b) b e
       ∙ kept_put (same_entry e (entry_of (made + 1) b)) b d (body_at objects e) (λ same. next-free made objects e d whole found (ap (same_entry e) (sym new_entry) ∙ same)) found
 
-  planned_by : (q : Key) (a : Applied) → ((is_at (key_cmp q) k ≡ true) × (a ≡ new)) ⊎ (applied_at entries q ≡ Some a) → IsPlanned plan q a.row
+  planned_by : (q : Key) (a : Applied) → ((is_at (key_cmp q) k ≡ true) × (a ≡ new)) ⊎ (applied_entry entries q ≡ Some a) → IsPlanned plan q a.row
   planned_by q a (inl (same, is)) = subst (λ x. IsPlanned plan x a.row) (sym (same_key q k same)) (subst (λ (x : Applied). IsPlanned plan k x.row) (sym is) planned)
   planned_by q a (inr at) = stands.planned q a at
 
-  stand_by : (q : Key) (a : Applied) → ((is_at (key_cmp q) k ≡ true) × (a ≡ new)) ⊎ (applied_at entries q ≡ Some a) → (d : Body Rid) × (body_of entries' q a.row ≡ Some d) × (body_at objects' (entry.Oid a.id) ≡ Some d)
+  stand_by : (q : Key) (a : Applied) → ((is_at (key_cmp q) k ≡ true) × (a ≡ new)) ⊎ (applied_entry entries q ≡ Some a) → (d : Body Rid) × (body_of entries' q a.row ≡ Some d) × (body_at objects' (entry.Oid a.id) ≡ Some d)
   stand_by q a (inl (same, is)) = (
     b,
     ap (λ x. body_of entries' x a.row) (same_key q k same) ∙ ap (λ (x : Applied). body_of entries' k x.row) is ∙ body_of-kept entries entries' k r b row_kept of,
@@ -197,7 +197,7 @@ module _ (plan : Ports) (entries : Entries) (made : ℕ) (objects : Objects) (k 
       let old = stands.stand q a at in
       (old.0, body_of-kept entries entries' q a.row old.0 row_kept old.1, object_kept (entry.Oid a.id) old.0 old.2)
 
-  tied_by : (e : Entry Rid) (d : Body Rid) → ((same_entry e (entry_of (made + 1) b) ≡ true) × (d ≡ b)) ⊎ (body_at objects e ≡ Some d) → (q : Key) × (a : Applied) × (applied_at entries' q ≡ Some a) × (same_entry e (entry.Oid a.id) ≡ true)
+  tied_by : (e : Entry Rid) (d : Body Rid) → ((same_entry e (entry_of (made + 1) b) ≡ true) × (d ≡ b)) ⊎ (body_at objects e ≡ Some d) → (q : Key) × (a : Applied) × (applied_entry entries' q ≡ Some a) × (same_entry e (entry.Oid a.id) ≡ true)
   tied_by e d (inl (same, is)) = (k, new, found-put entries k new, ap (same_entry e) (sym new_entry) ∙ same)
   tied_by e d (inr found) =
       let old = stands.tied e d found in
@@ -212,5 +212,5 @@ module _ (plan : Ports) (entries : Entries) (made : ℕ) (objects : Objects) (k 
   }
 
 -- a row whose object was made stands beside the others
-pub stands-make : (plan : Ports) (entries : Entries) (made : ℕ) (objects : Objects) (k : Key) (r : Row) (b : Body Rid) → IsWhole made objects → Stands plan entries objects → IsPlanned plan k r → applied_at entries k ≡ None → body_of entries k r ≡ Some b → Stands plan (insert_entry key_cmp entries k (record { row = r; id = record { 0 = made + 1 } })) (after_call (made + 1) objects (call.Create b))
+pub stands-make : (plan : Ports) (entries : Entries) (made : ℕ) (objects : Objects) (k : Key) (r : Row) (b : Body Rid) → IsWhole made objects → Stands plan entries objects → IsPlanned plan k r → applied_entry entries k ≡ None → body_of entries k r ≡ Some b → Stands plan (insert_entry key_cmp entries k (record { row = r; id = record { 0 = made + 1 } })) (after_call (made + 1) objects (call.Create b))
 stands-make plan entries made objects k r b whole stands planned none of = made_stands plan entries made objects k r b whole stands planned none of

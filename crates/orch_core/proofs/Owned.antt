@@ -18,7 +18,7 @@ use Rattle.sai_types.specs.Objects.{Objects}
 use Rattle.sai_types.specs.Refusal.{same_id}
 use Rattle.sai_types.proofs.Found.{body_at-same, same-refl}
 use Rattle.orch_core.specs.declared.applied.Applied.{Applied}
-use Rattle.orch_core.specs.Standing.{Entries, IsPlanned, Stands, applied_at, body_of}
+use Rattle.orch_core.specs.Standing.{Entries, IsPlanned, Stands, applied_entry, body_of}
 use Rattle.orch_core.proofs.Bodies.{IsPort, IsInterface, parts, port_body}
 use Rattle.orch_core.proofs.Planned.{one-with_lanes}
 
@@ -44,13 +44,13 @@ no_port r a h = cc
 
 module _ (plan : Ports) (entries : Entries) (objects : Objects) (is : IsPlan plan) (stands : Stands plan entries objects) where
   -- the bodies of two applied rows with one identifier are equal
-  pub one-body : (k q : Key) (a c : Applied) → applied_at entries k ≡ Some a → applied_at entries q ≡ Some c → same_entry (entry.Oid a.id) (entry.Oid c.id) ≡ true → (b : Body Rid) × (body_of entries k a.row ≡ Some b) × (body_of entries q c.row ≡ Some b)
+  pub one-body : (k q : Key) (a c : Applied) → applied_entry entries k ≡ Some a → applied_entry entries q ≡ Some c → same_entry (entry.Oid a.id) (entry.Oid c.id) ≡ true → (b : Body Rid) × (body_of entries k a.row ≡ Some b) × (body_of entries q c.row ≡ Some b)
   one-body k q a c at_k at_q same =
       let one = stands.stand k a at_k in
       let two = stands.stand q c at_q in
       (one.0, one.1, two.1 ∙ sym two.2 ∙ sym (body_at-same objects (entry.Oid a.id) (entry.Oid c.id) same) ∙ one.2)
 
-  one_port_by : (k q : Key) (a c : Applied) (b : Body Rid) → applied_at entries k ≡ Some a → applied_at entries q ≡ Some c → IsPort k a.row b → IsPort q c.row b → k ≡ q
+  one_port_by : (k q : Key) (a c : Applied) (b : Body Rid) → applied_entry entries k ≡ Some a → applied_entry entries q ≡ Some c → IsPort k a.row b → IsPort q c.row b → k ≡ q
   one_port_by k q a c b at_k at_q x y =
       let here = lanes-of_port plan k a.row b x (stands.planned k a at_k) in
       let there = lanes-of_port plan q c.row b y (stands.planned q c at_q) in
@@ -58,7 +58,7 @@ module _ (plan : Ports) (entries : Entries) (objects : Objects) (is : IsPlan pla
       let number = one-with_lanes plan x.port y.port x.fields.lanes is here (there ∙ ap Some (sym lanes)) in
       x.key_is ∙ ap key.Port number ∙ sym y.key_is
 
-  one_row_by : (k q : Key) (a c : Applied) (b : Body Rid) → applied_at entries k ≡ Some a → applied_at entries q ≡ Some c → IsPort k a.row b ⊎ IsInterface entries k a.row b → IsPort q c.row b ⊎ IsInterface entries q c.row b → (((m n : ℕ) (d e : Applied) → applied_at entries (key.Port m) ≡ Some d → applied_at entries (key.Port n) ≡ Some e → d.id ≡ e.id → m ≡ n)) → k ≡ q
+  one_row_by : (k q : Key) (a c : Applied) (b : Body Rid) → applied_entry entries k ≡ Some a → applied_entry entries q ≡ Some c → IsPort k a.row b ⊎ IsInterface entries k a.row b → IsPort q c.row b ⊎ IsInterface entries q c.row b → (((m n : ℕ) (d e : Applied) → applied_entry entries (key.Port m) ≡ Some d → applied_entry entries (key.Port n) ≡ Some e → d.id ≡ e.id → m ≡ n)) → k ≡ q
   one_row_by k q a c b at_k at_q (inl x) (inl y) ports = one_port_by k q a c b at_k at_q x y
   one_row_by k q a c b at_k at_q (inl x) (inr y) ports = elim (no_port x.fields y.base.id (sym x.body_is ∙ y.body_is)) [ ]
   one_row_by k q a c b at_k at_q (inr x) (inl y) ports = elim (no_port y.fields x.base.id (sym y.body_is ∙ x.body_is)) [ ]
@@ -71,7 +71,7 @@ module _ (plan : Ports) (entries : Entries) (objects : Objects) (is : IsPlan pla
   key_of_port m n b r s (inr x) = let no = x.key_is in absurd cc
 
   -- two applied ports with one identifier are one
-  pub one-port : (m n : ℕ) (a c : Applied) → applied_at entries (key.Port m) ≡ Some a → applied_at entries (key.Port n) ≡ Some c → a.id ≡ c.id → m ≡ n
+  pub one-port : (m n : ℕ) (a c : Applied) → applied_entry entries (key.Port m) ≡ Some a → applied_entry entries (key.Port n) ≡ Some c → a.id ≡ c.id → m ≡ n
   one-port m n a c at_m at_n ids =
       let same : same_entry (entry.Oid a.id) (entry.Oid c.id) ≡ true = ap (λ r. same_entry (entry.Oid a.id) (entry.Oid r)) (sym ids) ∙ same-refl (entry.Oid a.id) in
       let body = one-body (key.Port m) (key.Port n) a c at_m at_n same in
@@ -83,7 +83,7 @@ module _ (plan : Ports) (entries : Entries) (objects : Objects) (is : IsPlan pla
       ports h = cc
 
   -- two applied rows with one object are one
-  pub one-row : (k q : Key) (a c : Applied) → applied_at entries k ≡ Some a → applied_at entries q ≡ Some c → same_entry (entry.Oid a.id) (entry.Oid c.id) ≡ true → k ≡ q
+  pub one-row : (k q : Key) (a c : Applied) → applied_entry entries k ≡ Some a → applied_entry entries q ≡ Some c → same_entry (entry.Oid a.id) (entry.Oid c.id) ≡ true → k ≡ q
   one-row k q a c at_k at_q same =
       let body = one-body k q a c at_k at_q same in
       one_row_by k q a c body.0 at_k at_q (parts entries k a.row body.0 body.1) (parts entries q c.row body.0 body.2) one-port

@@ -33,7 +33,7 @@ use Rattle.sai_types.proofs.Keys.{mapped}
 use Rattle.switch_model.specs.Desired.{IsClosed, have_rows}
 use Rattle.switch_model.specs.Marks.{IsHeldBy}
 use Rattle.orch_core.specs.declared.applied.Applied.{Applied}
-use Rattle.orch_core.specs.Standing.{Entries, Stands, applied_at, body_of, rows_applied}
+use Rattle.orch_core.specs.Standing.{Entries, Stands, applied_entry, body_of, rows_applied}
 use Rattle.orch_core.proofs.Bodies.{IsPort, IsInterface, parts}
 use Rattle.orch_core.proofs.Keyed.{cmp-refl}
 use Rattle.orch_core.proofs.Listed.{found-in, object-of_thing}
@@ -49,15 +49,15 @@ stands-none plan = record {
 }
 
 -- an object is that of an applied row
-pub owner : (plan : Ports) (entries : Entries) (objects : Objects) → Stands plan entries objects → (e : Entry Rid) (b : Body Rid) → body_at objects e ≡ Some b → (k : Key) × (a : Applied) × (applied_at entries k ≡ Some a) × (body_of entries k a.row ≡ Some b) × (same_entry e (entry.Oid a.id) ≡ true)
+pub owner : (plan : Ports) (entries : Entries) (objects : Objects) → Stands plan entries objects → (e : Entry Rid) (b : Body Rid) → body_at objects e ≡ Some b → (k : Key) × (a : Applied) × (applied_entry entries k ≡ Some a) × (body_of entries k a.row ≡ Some b) × (same_entry e (entry.Oid a.id) ≡ true)
 owner plan entries objects stands e b found =
     let of = stands.tied e b found in
     let has = stands.stand of.0 of.1 of.2 in
     (of.0, of.1, of.2, has.1 ∙ sym has.2 ∙ sym (body_at-same objects e (entry.Oid of.1.id) of.3) ∙ found, of.3)
 
 -- an applied row, by its key
-pub applied-row : (entries : Entries) (k : Key) (r : Row) → rows_applied entries k ≡ Some r → (a : Applied) × (applied_at entries k ≡ Some a) × (a.row ≡ r)
-applied-row entries k r h = mapped (λ a. a.row) (applied_at entries k) r h
+pub applied-row : (entries : Entries) (k : Key) (r : Row) → rows_applied entries k ≡ Some r → (a : Applied) × (applied_entry entries k ≡ Some a) × (a.row ≡ r)
+applied-row entries k r h = mapped (λ a. a.row) (applied_entry entries k) r h
 
 pub has_base : (entries : Entries) (k : Key) (r : Row) (b : Body Rid) → IsPort k r b ⊎ IsInterface entries k r b → have_rows (rows_applied entries) (names_of k r) ≡ true
 has_base entries k r b (inl port) = ap (λ x. have_rows (rows_applied entries) (names_of x r)) port.key_is
@@ -158,7 +158,7 @@ only_holder entries p k r b (inr on) names = named_once (subst (λ x. IsIn (key.
     named_once (inr h) = elim h [ ]
 
 -- the interface on a port is the only row that holds it
-pub held : (plan : Ports) (entries : Entries) (objects : Objects) (p : ℕ) (a : Applied) → Stands plan entries objects → applied_at entries (key.Intf (name.Ethernet p)) ≡ Some a → IsHeldBy (rows_applied entries) (key.Port p) (key.Intf (name.Ethernet p))
+pub held : (plan : Ports) (entries : Entries) (objects : Objects) (p : ℕ) (a : Applied) → Stands plan entries objects → applied_entry entries (key.Intf (name.Ethernet p)) ≡ Some a → IsHeldBy (rows_applied entries) (key.Port p) (key.Intf (name.Ethernet p))
 held plan entries objects p a stands at = record {
   row = a.row;
   applied_row = ap (option_map (λ x. x.row)) at;

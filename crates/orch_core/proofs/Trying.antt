@@ -35,10 +35,10 @@ use Rattle.orch_core.specs.declared.called.Uncalled.TheVariants as uncalled
 use Rattle.orch_core.specs.Called.{IsDone, IsGrown, IsMade, StaysClean, Unanswered}
 use Rattle.orch_core.specs.Due.{HadPlaces}
 use Rattle.orch_core.specs.Keeps.{Keeps}
-use Rattle.orch_core.specs.Standing.{Entries, IsPlanned, Stands, applied_at, body_of, rows_applied}
-use Rattle.orch_core.specs.State.{State, size_of}
+use Rattle.orch_core.specs.Standing.{Entries, IsPlanned, Stands, applied_entry, body_of, rows_applied}
+use Rattle.orch_core.specs.State.{State, counted_size}
 use Rattle.orch_core.specs.Step.{IsApplied, IsCreation, IsKnown, IsRemoval, IsStep, IsWaitOf, asks_same, same_admin, step_to, wait_for}
-use Rattle.orch_core.specs.Tried.{IsSteady, IsTouched, IsTried, tried_without}
+use Rattle.orch_core.specs.Tried.{IsStanding, IsTouched, IsTried, tried_without}
 use Rattle.orch_core.proofs.Changing.{legal-remove-free, stands-remove}
 use Rattle.orch_core.proofs.Due.{free-creation, free-gone}
 use Rattle.orch_core.proofs.Effects.{grown-one, grown-same, keeps-effect, keeps-same}
@@ -79,17 +79,17 @@ keeps-applied core entries chip k keeps due others closed = record {
     by q false at (inr h) = inr (others q (λ e. false≢true (sym at ∙ ap (λ x. is_at (key_cmp x) k) e ∙ Rattle.orch_core.proofs.Keyed.is_at-refl k)) ∙ h)
 
 -- a row that was put where there was none, and was taken away
-remove-insert : (k : Key) (a : Applied) (entries : Entries) → applied_at entries k ≡ None → remove_entry (is_at (key_cmp k)) (insert_entry key_cmp entries k a) ≡ entries
+remove-insert : (k : Key) (a : Applied) (entries : Entries) → applied_entry entries k ≡ None → remove_entry (is_at (key_cmp k)) (insert_entry key_cmp entries k a) ≡ entries
 remove-insert k a [] none = rw (is_at-refl k) refl
 remove-insert k a (x ∷ xs) none = by (key_cmp k x.0) refl (remove-insert k a xs)
   where
-    by : (o : Ordering) → key_cmp k x.0 ≡ o → (applied_at xs k ≡ None → remove_entry (is_at (key_cmp k)) (insert_entry key_cmp xs k a) ≡ xs) → remove_entry (is_at (key_cmp k)) (match_ordering o ((k, a) ∷ x ∷ xs) ((x.0, a) ∷ xs) (x ∷ insert_entry key_cmp xs k a)) ≡ x ∷ xs
+    by : (o : Ordering) → key_cmp k x.0 ≡ o → (applied_entry xs k ≡ None → remove_entry (is_at (key_cmp k)) (insert_entry key_cmp xs k a) ≡ xs) → remove_entry (is_at (key_cmp k)) (match_ordering o ((k, a) ∷ x ∷ xs) ((x.0, a) ∷ xs) (x ∷ insert_entry key_cmp xs k a)) ≡ x ∷ xs
     by Less o ih = rw (is_at-refl k) refl
-    by Equal o ih = absurd (some_none' (sym (ap (λ t. cond (is_eq t) (Some x.1) (applied_at xs k)) o) ∙ none))
+    by Equal o ih = absurd (some_none' (sym (ap (λ t. cond (is_eq t) (Some x.1) (applied_entry xs k)) o) ∙ none))
       where
         some_none' : Some x.1 ≡ None → ⊥
         some_none' h = cc
-    by Greater o ih = rw o (ap (λ es. x ∷ es) (ih (sym (ap (λ t. cond (is_eq t) (Some x.1) (applied_at xs k)) o) ∙ none)))
+    by Greater o ih = rw o (ap (λ es. x ∷ es) (ih (sym (ap (λ t. cond (is_eq t) (Some x.1) (applied_entry xs k)) o) ∙ none)))
 
 -- a value that was put, and was written over
 pub write-insert : (k : Key) (a b : Applied) (entries : Entries) → set_value (is_at (key_cmp k)) (insert_entry key_cmp entries k a) b ≡ insert_entry key_cmp entries k b
@@ -111,19 +111,19 @@ no_more : (n : ℕ) (chip new : ChipState) → StaysSame chip new → length new
 no_more n chip new same = omega (arith, ap length same.effects)
 
 -- no call yet
-pub touched-none : (n : ℕ) (k : Key) (old : State) (chip : ChipState) → IsSteady old chip → IsTouched n k old chip old chip
+pub touched-none : (n : ℕ) (k : Key) (old : State) (chip : ChipState) → IsStanding old chip → IsTouched n k old chip old chip
 touched-none n k old chip steady = record {
   touches = record { same = refl; others = λ q apart. refl };
   keeps = steady.keeps;
   stands = steady.stands;
-  grown = grown-same chip chip refl;
+  grown = grown-same chip chip refl refl;
   few = λ none. omega arith;
   still = λ zero none. none;
   faults = refl;
 }
 
 -- a call without success
-module _ (k : Key) (old : State) (chip new : ChipState) (c : Call Rid) (steady : IsSteady old chip) (fits : size_of old (length chip.effects) + 1 ≤ old.limit) (route : makes_route c ≡ false) (stays : StaysClean chip new) where
+module _ (k : Key) (old : State) (chip new : ChipState) (c : Call Rid) (steady : IsStanding old chip) (fits : counted_size old (length chip.effects) + 1 ≤ old.limit) (route : makes_route c ≡ false) (stays : StaysClean chip new) where
   unanswered-keeps : StaysSame chip new ⊎ TakesEffect chip c new → Keeps old new
   unanswered-keeps (inl same) = keeps-same old chip new steady.keeps same stays
   unanswered-keeps (inr takes) = keeps-effect old chip new c steady.keeps takes stays (subst HasNoRoute (sym takes.objects) (no_route-call (next_id chip.effects) chip.objects c steady.keeps.whole.sorted (no_route-stands old.plan old.applied chip.objects steady.stands) route))
@@ -133,8 +133,8 @@ module _ (k : Key) (old : State) (chip new : ChipState) (c : Call Rid) (steady :
   unanswered-few (inr takes) = one_more chip new c takes
 
   unanswered-grown : StaysSame chip new ⊎ TakesEffect chip c new → IsGrown chip new
-  unanswered-grown (inl same) = grown-same chip new same.effects
-  unanswered-grown (inr takes) = grown-one chip c new takes
+  unanswered-grown (inl same) = grown-same chip new same.effects stays.fails
+  unanswered-grown (inr takes) = grown-one chip c new takes stays
 
   unanswered-places : StaysSame chip new ⊎ TakesEffect chip c new → HadPlaces 1 old (length new.effects)
   unanswered-places either = let grown = unanswered-grown either in record {
@@ -149,7 +149,7 @@ module _ (k : Key) (old : State) (chip new : ChipState) (c : Call Rid) (steady :
     touches = record { same = refl; others = λ q apart. refl };
     keeps = keeps-same old chip new steady.keeps same stays;
     stands = subst (Stands old.plan old.applied) (sym same.objects) steady.stands;
-    grown = grown-same chip new same.effects;
+    grown = grown-same chip new same.effects stays.fails;
     few = λ none. no_more 0 chip new same;
     still = λ zero none. none;
     faults = faults;
@@ -165,7 +165,7 @@ module _ (k : Key) (old : State) (chip new : ChipState) (c : Call Rid) (steady :
   }
 
 -- the making of a row's object
-module _ (k : Key) (old : State) (chip : ChipState) (r : Row) (b : Body Rid) (steady : IsSteady old chip) (due : IsIn k old.to_sync) (step : IsCreation old k r b) where
+module _ (k : Key) (old : State) (chip : ChipState) (r : Row) (b : Body Rid) (steady : IsStanding old chip) (due : IsIn k old.to_sync) (step : IsCreation old k r b) where
   planned : IsPlanned old.plan k r
   planned = planned-good old.plan k r (served-good old.plan old.rows k r (λ f at. steady.keeps.served k f at) step.good)
 
@@ -192,7 +192,7 @@ module _ (k : Key) (old : State) (chip : ChipState) (r : Row) (b : Body Rid) (st
             touches = record { same = refl; others = others-made };
             keeps = keeps-applied old made.applied new k (keeps-effect old chip new (call.Create b) steady.keeps takes stays (no_route-stands old.plan made.applied new.objects stands)) due others-made (closed-stands old.plan made.applied new.objects stands);
             stands = stands;
-            grown = grown-one chip (call.Create b) new takes;
+            grown = grown-one chip (call.Create b) new takes stays;
             few = λ none. one_more chip new (call.Create b) takes;
             still = λ zero. absurd (omega (arith, zero));
             faults = faults;
@@ -206,15 +206,15 @@ module _ (k : Key) (old : State) (chip : ChipState) (r : Row) (b : Body Rid) (st
       subst (λ n. IsTried k old chip (Ok tried.Done) n chip') (sym (e ∙ ap (λ x. record old { applied = insert_entry key_cmp old.applied k (record { row = r; id = x }) }) is.answer.1))
       (tried-done chip' is.stays is.answer.0 is.answer.2)
 
-  pub tried-unmade : (why : Uncalled) (a : Applied) (new : State) (chip' : ChipState) → size_of old (length chip.effects) + 1 ≤ old.limit → IsMade chip b (Err why) chip' → new ≡ record old { applied = remove_entry (is_at (key_cmp k)) (insert_entry key_cmp old.applied k a) } → IsTried k old chip (tried_without why) new chip'
+  pub tried-unmade : (why : Uncalled) (a : Applied) (new : State) (chip' : ChipState) → counted_size old (length chip.effects) + 1 ≤ old.limit → IsMade chip b (Err why) chip' → new ≡ record old { applied = remove_entry (is_at (key_cmp k)) (insert_entry key_cmp old.applied k a) } → IsTried k old chip (tried_without why) new chip'
   tried-unmade why a new chip' fits is e =
       subst (λ n. IsTried k old chip (tried_without why) n chip') (sym (e ∙ ap (λ es. record old { applied = es }) (remove-insert k a old.applied step.absent)))
       (tried-without k old chip chip' (call.Create b) steady fits (no_route-body old.applied k r b step.body) is.stays why is.answer)
 
 -- the removal of a key's object
-module _ (k : Key) (old : State) (chip : ChipState) (id : Rid) (steady : IsSteady old chip) (due : IsIn k old.to_sync) (step : IsRemoval old k id) where
-  there : (a : Applied) × (applied_at old.applied k ≡ Some a) × (a.id ≡ id)
-  there = Rattle.sai_types.proofs.Keys.mapped (λ a. a.id) (applied_at old.applied k) id step.there
+module _ (k : Key) (old : State) (chip : ChipState) (id : Rid) (steady : IsStanding old chip) (due : IsIn k old.to_sync) (step : IsRemoval old k id) where
+  there : (a : Applied) × (applied_entry old.applied k ≡ Some a) × (a.id ≡ id)
+  there = Rattle.sai_types.proofs.Keys.mapped (λ a. a.id) (applied_entry old.applied k) id step.there
 
   pub legal-removal : IsLegal chip.capacities chip.objects (call.Remove (entry.Oid id))
   legal-removal =
@@ -242,7 +242,7 @@ module _ (k : Key) (old : State) (chip : ChipState) (id : Rid) (steady : IsStead
             touches = record { same = refl; others = others-gone };
             keeps = keeps-applied old gone.applied new k (keeps-effect old chip new (call.Remove (entry.Oid id)) steady.keeps takes stays (no_route-stands old.plan gone.applied new.objects stands)) due others-gone (closed-stands old.plan gone.applied new.objects stands);
             stands = stands;
-            grown = grown-one chip (call.Remove (entry.Oid id)) new takes;
+            grown = grown-one chip (call.Remove (entry.Oid id)) new takes stays;
             few = λ none. one_more chip new (call.Remove (entry.Oid id)) takes;
             still = λ zero. absurd (omega (arith, zero));
             faults = faults;
@@ -254,11 +254,11 @@ module _ (k : Key) (old : State) (chip : ChipState) (id : Rid) (steady : IsStead
   pub tried-removed : (new : State) (chip' : ChipState) → IsDone chip (call.Remove (entry.Oid id)) (Ok tt) chip' → new ≡ record old { applied = remove_entry (is_at (key_cmp k)) old.applied } → IsTried k old chip (Ok tried.Done) new chip'
   tried-removed new chip' is e = subst (λ n. IsTried k old chip (Ok tried.Done) n chip') (sym e) (tried-gone chip' is.stays is.answer.0 is.answer.1)
 
-  pub tried-unremoved : (why : Uncalled) (chip' : ChipState) → size_of old (length chip.effects) + 1 ≤ old.limit → IsDone chip (call.Remove (entry.Oid id)) (Err why) chip' → IsTried k old chip (tried_without why) old chip'
+  pub tried-unremoved : (why : Uncalled) (chip' : ChipState) → counted_size old (length chip.effects) + 1 ≤ old.limit → IsDone chip (call.Remove (entry.Oid id)) (Err why) chip' → IsTried k old chip (tried_without why) old chip'
   tried-unremoved why chip' fits is = tried-without k old chip chip' (call.Remove (entry.Oid id)) steady fits refl is.stays why is.answer
 
 -- what is to be done for a key
-pub held-step : (s : State) (p : ℕ) (a b : Applied) → IsKnown s → good_rows s.plan s.rows (key.Port p) ≡ None → applied_at s.applied (key.Port p) ≡ Some a → applied_at s.applied (key.Intf (name.Ethernet p)) ≡ Some b → IsWaitOf s (key.Port p) (Rattle.switch_model.specs.declared.wait.Wait.TheVariants.Held (key.Intf (name.Ethernet p)))
+pub held-step : (s : State) (p : ℕ) (a b : Applied) → IsKnown s → good_rows s.plan s.rows (key.Port p) ≡ None → applied_entry s.applied (key.Port p) ≡ Some a → applied_entry s.applied (key.Intf (name.Ethernet p)) ≡ Some b → IsWaitOf s (key.Port p) (Rattle.switch_model.specs.declared.wait.Wait.TheVariants.Held (key.Intf (name.Ethernet p)))
 held-step s p a b known none at holder = ((none, a.row, ap (option_map (λ x. x.row)) at, held s.plan s.applied known.objects p b known.stands holder), tt)
 
 missing-step : (s : State) (k : Key) (r : Row) → IsServedRow s.plan k r → good_rows s.plan s.rows k ≡ Some r → body_of s.applied k r ≡ None → IsStep s k (wait_for k)
@@ -271,12 +271,12 @@ missing-step s k r (OfIntf p k_is r_is) good none =
       (
         row.Intf,
         sym (ap (good_rows s.plan s.rows) k_is) ∙ good ∙ ap Some r_is,
-        first (applied_at s.applied (key.Port p)) refl (sym (ap (λ x. body_of s.applied x r) k_is ∙ ap (body_of s.applied (key.Intf (name.Ethernet p))) r_is) ∙ none),
+        first (applied_entry s.applied (key.Port p)) refl (sym (ap (λ x. body_of s.applied x r) k_is ∙ ap (body_of s.applied (key.Intf (name.Ethernet p))) r_is) ∙ none),
       ),
       tt,
     )
   where
-    first : (o : Option Applied) → applied_at s.applied (key.Port p) ≡ o → Rattle.orch_core.specs.Standing.rif_on o ≡ None → first_missing (rows_applied s.applied) (key.Port p ∷ []) ≡ Some (key.Port p)
+    first : (o : Option Applied) → applied_entry s.applied (key.Port p) ≡ o → Rattle.orch_core.specs.Standing.rif_on o ≡ None → first_missing (rows_applied s.applied) (key.Port p ∷ []) ≡ Some (key.Port p)
     first None at h = rw at refl
     first (Some a) at h = absurd cc
 
@@ -284,7 +284,7 @@ pub step-missing : (s : State) (k : Key) (r : Row) → IsKnown s → good_rows s
 step-missing s k r known good none = missing-step s k r (served-good s.plan s.rows k r (λ f at. known.served k f at) good) good none
 
 -- what an applied row of a good row's key is
-pub applied_port : (s : State) (p : ℕ) (a : Applied) → IsKnown s → applied_at s.applied (key.Port p) ≡ Some a → (f : PortRow) × (a.row ≡ row.Port f) × (lanes_in_plan s.plan p ≡ Some f.lanes)
+pub applied_port : (s : State) (p : ℕ) (a : Applied) → IsKnown s → applied_entry s.applied (key.Port p) ≡ Some a → (f : PortRow) × (a.row ≡ row.Port f) × (lanes_in_plan s.plan p ≡ Some f.lanes)
 applied_port s p a known at = let has = known.stands.stand (key.Port p) a at in by a.row has.1 (known.stands.planned (key.Port p) a at)
   where
     by : (x : Row) → {b : Body Rid} → body_of s.applied (key.Port p) x ≡ Some b → IsPlanned s.plan (key.Port p) x → (f : PortRow) × (x ≡ row.Port f) × (lanes_in_plan s.plan p ≡ Some f.lanes)
@@ -296,7 +296,7 @@ applied_port s p a known at = let has = known.stands.stand (key.Port p) a at in 
     by (row.Neigh m) body lanes = absurd cc
     by (row.Route t) body lanes = absurd cc
 
-applied_intf : (s : State) (p : ℕ) (a : Applied) → IsKnown s → applied_at s.applied (key.Intf (name.Ethernet p)) ≡ Some a → a.row ≡ row.Intf
+applied_intf : (s : State) (p : ℕ) (a : Applied) → IsKnown s → applied_entry s.applied (key.Intf (name.Ethernet p)) ≡ Some a → a.row ≡ row.Intf
 applied_intf s p a known at = let has = known.stands.stand (key.Intf (name.Ethernet p)) a at in by a.row has.1
   where
     by : (x : Row) → {b : Body Rid} → body_of s.applied (key.Intf (name.Ethernet p)) x ≡ Some b → x ≡ row.Intf
@@ -335,16 +335,16 @@ same_ports f g lanes a b h =
     ∙ ap (λ x. record { lanes = g.lanes; speed = g.speed; mtu = g.mtu; up = x }) up
 
 -- what is to be done where a row of the key is applied
-same-by : (s : State) (k : Key) (r : Row) (a : Applied) (t : Bool) → IsKnown s → IsServedRow s.plan k r → good_rows s.plan s.rows k ≡ Some r → applied_at s.applied k ≡ Some a → t ≡ asks_same a.row r → IsStep s k (if t then Rattle.orch_core.specs.declared.step.Step.TheVariants.Nothing else step_to r)
+same-by : (s : State) (k : Key) (r : Row) (a : Applied) (t : Bool) → IsKnown s → IsServedRow s.plan k r → good_rows s.plan s.rows k ≡ Some r → applied_entry s.applied k ≡ Some a → t ≡ asks_same a.row r → IsStep s k (if t then Rattle.orch_core.specs.declared.step.Step.TheVariants.Nothing else step_to r)
 same-by s k r a t known (OfPort p f k_is r_is lanes) good at same =
-    let was = applied_port s p a known (ap (applied_at s.applied) (sym k_is) ∙ at) in
+    let was = applied_port s p a known (ap (applied_entry s.applied) (sym k_is) ∙ at) in
     by t was.0 (same ∙ ap (λ x. asks_same x r) was.1 ∙ ap (asks_same (row.Port was.0)) r_is) was.1 was.2
   where
     by : (t : Bool) (g : PortRow) → t ≡ asks_same (row.Port g) (row.Port f) → a.row ≡ row.Port g → lanes_in_plan s.plan p ≡ Some g.lanes → IsStep s k (if t then Rattle.orch_core.specs.declared.step.Step.TheVariants.Nothing else step_to r)
     by true g same a_is lanes' = ap (option_map (λ x. x.row)) at ∙ ap Some (a_is ∙ ap row.Port (same_ports g f (lanes_in_plan s.plan p) lanes' lanes (sym same)) ∙ sym r_is) ∙ sym good
     by false g same a_is lanes' = subst (λ x. IsStep s k (step_to x)) (sym r_is) (record { port = p; is = k_is; good = good ∙ ap Some r_is; a = a; there = at })
 same-by s k r a t known (OfIntf p k_is r_is) good at same =
-    let was = applied_intf s p a known (ap (applied_at s.applied) (sym k_is) ∙ at) in
+    let was = applied_intf s p a known (ap (applied_entry s.applied) (sym k_is) ∙ at) in
     subst (λ x. IsStep s k (if x then Rattle.orch_core.specs.declared.step.Step.TheVariants.Nothing else step_to r)) (sym (same ∙ ap (λ x. asks_same x r) was ∙ ap (asks_same row.Intf) r_is))
     (ap (option_map (λ x. x.row)) at ∙ ap Some (was ∙ sym r_is) ∙ sym good)
 
@@ -355,7 +355,7 @@ pub is-there : (o : Option Applied) → true ≡ is_some o → (a : Applied) × 
 is-there None h = absurd (false≢true (sym h))
 is-there (Some a) h = (a, refl)
 
-pub not-gone : (k : Key) (a : Applied) (entries : Entries) → applied_at (insert_entry key_cmp entries k a) k ≡ None → ⊥
+pub not-gone : (k : Key) (a : Applied) (entries : Entries) → applied_entry (insert_entry key_cmp entries k a) k ≡ None → ⊥
 not-gone k a entries h = none_some (sym (found-put entries k a) ∙ h)
   where
     none_some : {X : Type 0} {x : X} → Some x ≡ None → ⊥
@@ -365,9 +365,9 @@ pub some_applied : (x y : Applied) → Some x ≡ Some y → x ≡ y
 some_applied x y h = cc
 
 -- an applied row that was put, and was given another identifier
-pub named-from : (old : State) (k : Key) (entries : Entries) (a x : Applied) (id : Rid) (later : Entries) → old.applied ≡ insert_entry key_cmp entries k a → applied_at old.applied k ≡ Some x → later ≡ set_value (is_at (key_cmp k)) old.applied (record { row = x.row; id = id }) → record old { applied = later } ≡ record old { applied = insert_entry key_cmp entries k (record { row = a.row; id = id }) }
+pub named-from : (old : State) (k : Key) (entries : Entries) (a x : Applied) (id : Rid) (later : Entries) → old.applied ≡ insert_entry key_cmp entries k a → applied_entry old.applied k ≡ Some x → later ≡ set_value (is_at (key_cmp k)) old.applied (record { row = x.row; id = id }) → record old { applied = later } ≡ record old { applied = insert_entry key_cmp entries k (record { row = a.row; id = id }) }
 named-from old k entries a x id later was at wrote =
-    let same = some_applied x a (sym at ∙ ap (λ es. applied_at es k) was ∙ found-put entries k a) in
+    let same = some_applied x a (sym at ∙ ap (λ es. applied_entry es k) was ∙ found-put entries k a) in
     ap (λ es. record old { applied = es })
     (wrote
     ∙ ap (λ es. set_value (is_at (key_cmp k)) es (record { row = x.row; id = id })) was

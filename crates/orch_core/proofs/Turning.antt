@@ -18,7 +18,7 @@ use Rattle.orch_core.specs.Keeps.{Keeps}
 use Rattle.orch_core.specs.Standing.{rows_applied}
 use Rattle.orch_core.specs.State.{State}
 use Rattle.orch_core.specs.Step.{IsWaitOf}
-use Rattle.orch_core.specs.Tried.{IsSteady, IsTouched, IsWaiting}
+use Rattle.orch_core.specs.Tried.{IsStanding, IsTouched, IsWaiting}
 use Rattle.orch_core.specs.Turn.{AreNew, Brings, Completes, EndsFaulted, IsBehind, IsNext, IsNextKey, IsRest, IsTrying, IsTurning, IsUnder, OnlyLeave, TurnsTo, WaitTruly, waiting_keys}
 use Rattle.orch_core.specs.Turns.{IsTurn, with_good}
 use Rattle.orch_core.proofs.Effects.{grown-after, grown-same}
@@ -44,7 +44,7 @@ keeps-queue core chip to_sync waiting keeps queue = record {
   listed = keeps.listed;
 }
 
-pub steady-queue : (core : State) (chip : ChipState) (to_sync : List Key) (waiting : List (Key × Wait)) → IsSteady core chip → ((q : Key) → IsIn q to_sync ⊎ (rows_applied core.applied q ≡ good_rows core.plan core.rows q)) → IsSteady (record core { to_sync = to_sync; waiting = waiting }) chip
+pub steady-queue : (core : State) (chip : ChipState) (to_sync : List Key) (waiting : List (Key × Wait)) → IsStanding core chip → ((q : Key) → IsIn q to_sync ⊎ (rows_applied core.applied q ≡ good_rows core.plan core.rows q)) → IsStanding (record core { to_sync = to_sync; waiting = waiting }) chip
 steady-queue core chip to_sync waiting steady queue = record { keeps = keeps-queue core chip to_sync waiting steady.keeps queue; stands = steady.stands }
 
 -- keys among others
@@ -84,17 +84,17 @@ pub leave-after : (old mid new : List Key) → OnlyLeave old mid → OnlyLeave m
 leave-after old mid new a b = record { each = λ k h. a.each k (b.each k h); order = λ sorted. b.order (a.order sorted) }
 
 -- no step yet
-pub under-none : (old : State) (chip : ChipState) (waiting : List (Key × Wait)) → IsSteady old chip → IsUnder old chip (record old { waiting = waiting }) chip
+pub under-none : (old : State) (chip : ChipState) (waiting : List (Key × Wait)) → IsStanding old chip → IsUnder old chip (record old { waiting = waiting }) chip
 under-none old chip waiting steady = record {
   steady = steady-queue old chip old.to_sync waiting steady steady.keeps.to_sync;
   behind = refl;
   leave = leave-same old.to_sync old.to_sync refl;
-  grown = grown-same chip chip refl;
+  grown = grown-same chip chip refl refl;
   brings = λ new_keys. record { new_keys = new_keys; few = omega arith };
   faults = refl;
 }
 
-pub trying-first : (old new : State) (chip : ChipState) → IsSteady old chip → new ≡ record old { waiting = [] } → IsTrying old chip new chip
+pub trying-first : (old new : State) (chip : ChipState) → IsStanding old chip → new ≡ record old { waiting = [] } → IsTrying old chip new chip
 trying-first old new chip steady e =
     subst (λ n. IsTrying old chip n chip) (sym e) (record {
       turning = record { under = under-none old chip [] steady; fewer = omega arith; idle = λ same. tt };
@@ -141,8 +141,8 @@ module _ (old : State) (chip : ChipState) (mid : State) (chip1 : ChipState) (k :
     abbrev last : State
     last = record new { to_sync = left }
 
-    steady_done : IsSteady last chip2
-    steady_done = subst (λ ws. IsSteady (record new { to_sync = left; waiting = ws }) chip2) refl (steady-queue new chip2 left new.waiting (record { keeps = touched.keeps; stands = touched.stands }) queue)
+    steady_done : IsStanding last chip2
+    steady_done = subst (λ ws. IsStanding (record new { to_sync = left; waiting = ws }) chip2) refl (steady-queue new chip2 left new.waiting (record { keeps = touched.keeps; stands = touched.stands }) queue)
 
     brings_done : AreNew old → Brings old (length chip.effects) last (length chip2.effects)
     brings_done first =

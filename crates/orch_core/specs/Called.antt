@@ -9,15 +9,17 @@ use Rattle.sai_types.specs.declared.body.Call.TheVariants as call
 use Rattle.orch_core.specs.declared.called.Uncalled.{Uncalled}
 use Rattle.orch_core.specs.declared.called.Uncalled.TheVariants as uncalled
 
--- the calls that took effect stay, and more may follow
+-- the calls that took effect stay, and more may follow; so do the calls at which the chip is made to fail
 pub record IsGrown (old new : ChipState) : Type 0 where
   pub calls : List (Call Rid)
   pub grown : new.effects ≡ old.effects ++ calls
+  pub fails : new.fails ≡ old.fails
 
--- the chip keeps its room, and stays as clean as it was
+-- the chip keeps what it was made with, and stays as clean as it was
 pub record StaysClean (old new : ChipState) : Type 0 where
   pub clean : new.clean ≡ old.clean
   pub capacities : new.capacities ≡ old.capacities
+  pub fails : new.fails ≡ old.fails
 
 -- a call without success: no effect where memory was refused; where the chip failed it may have taken effect
 abbrev pub Unanswered : ChipState → Call Rid → Uncalled → ChipState → Type 0

@@ -12,8 +12,8 @@ use Rattle.sai_types.specs.declared.body.Attr.TheVariants as attr
 use Rattle.sai_types.specs.declared.body.Body.TheVariants as body
 use Rattle.sai_types.specs.ChipState.{ChipState}
 use Rattle.sai_types.specs.Refusal.{has_attr}
-use Rattle.orch_core.specs.Standing.{Entries, applied_at}
-use Rattle.orch_core.specs.State.{State, size_of}
+use Rattle.orch_core.specs.Standing.{Entries, applied_entry}
+use Rattle.orch_core.specs.State.{State, counted_size}
 use Rattle.orch_core.specs.Step.{same_admin}
 use Rattle.orch_core.specs.Tried.{IsFaulted, IsTouched}
 use Rattle.orch_core.specs.declared.applied.Applied.{Applied}
@@ -52,15 +52,15 @@ difference_of _ next = None
 
 -- the same for the applied row of a key, with the identifier of its object
 abbrev pub IsDifference : Entries → Key → PortRow → Option (Rid × Attr Rid) → Type 0
-IsDifference entries k next None = (a : Applied) → applied_at entries k ≡ Some a → difference_of a.row next ≡ None
-IsDifference entries k next (Some d) = (a : Applied) × (applied_at entries k ≡ Some a) × (a.id ≡ d.0) × (difference_of a.row next ≡ Some d.1)
+IsDifference entries k next None = (a : Applied) → applied_entry entries k ≡ Some a → difference_of a.row next ≡ None
+IsDifference entries k next (Some d) = (a : Applied) × (applied_entry entries k ≡ Some a) × (a.id ≡ d.0) × (difference_of a.row next ≡ Some d.1)
 
 -- an attribute of an applied port, which is to be set
 pub record IsSetting (s : State) (k : Key) (id : Rid) (t : Attr Rid) : Type 0 where
   pub port : ℕ
   pub is : k ≡ key.Port port
   pub a : Applied
-  pub there : applied_at s.applied k ≡ Some a
+  pub there : applied_entry s.applied k ≡ Some a
   pub named : a.id ≡ id
   pub now : PortRow
   pub row_is : a.row ≡ row.Port now
@@ -68,8 +68,8 @@ pub record IsSetting (s : State) (k : Key) (id : Rid) (t : Attr Rid) : Type 0 wh
 
 -- what setting an attribute of an applied port comes to: where it is done, the applied row has the new value
 abbrev pub IsSet : Key → Attr Rid → State → ChipState → Result Tried OutOfMemory → State → ChipState → Type 0
-IsSet k t old chip (Ok tried.Done) new chip' = IsTouched 0 k old chip new chip' × (applied_at new.applied k ≡ option_map (λ a. applied_with a t) (applied_at old.applied k))
+IsSet k t old chip (Ok tried.Done) new chip' = IsTouched 0 k old chip new chip' × (applied_entry new.applied k ≡ option_map (λ a. applied_with a t) (applied_entry old.applied k))
 IsSet k t old chip (Ok (tried.Waits w)) new chip' = ⊥
 IsSet k t old chip (Ok (tried.Faulted before)) new chip' = IsFaulted k old chip before new chip'
-IsSet k t old chip (Ok tried.LogFull) new chip' = (new ≡ old) × (chip' ≡ chip) × (old.limit < size_of old (length chip.effects) + 1)
+IsSet k t old chip (Ok tried.LogFull) new chip' = (new ≡ old) × (chip' ≡ chip) × (old.limit < counted_size old (length chip.effects) + 1)
 IsSet k t old chip (Err e) new chip' = IsTouched 0 k old chip new chip'

@@ -6,14 +6,14 @@ use Rattle.switch_model.specs.Good.{good_rows}
 use Rattle.switch_model.specs.Marks.{IsTrueReason}
 use Rattle.switch_model.specs.declared.wait.Wait.{Wait}
 use Rattle.orch_core.specs.Standing.{rows_applied}
-use Rattle.orch_core.specs.State.{State, size_of}
+use Rattle.orch_core.specs.State.{State, counted_size}
 
 -- no reason to wait is true of the key
 abbrev pub HasNoReason : State → Key → Type 0
 HasNoReason s k = (w : Wait) → ¬ (IsTrueReason s.plan s.capacities (good_rows s.plan s.rows) (rows_applied s.applied) k w)
 
 -- a chip call is due: a key to sync whose applied row is not its good row has no reason to wait
-pub record CallIsDue (s : State) : Type 0 where
+pub record OwesCall (s : State) : Type 0 where
   pub key : Key
   pub queued : IsIn key s.to_sync
   pub differs : ¬ (rows_applied s.applied key ≡ good_rows s.plan s.rows key)
@@ -24,4 +24,4 @@ pub record HadPlaces (n : ℕ) (s : State) (effects : ℕ) : Type 0 where
   pub made : ℕ
   pub before : made ≤ effects
   pub last : effects ≤ made + 1
-  pub fits : size_of s made + n ≤ s.limit
+  pub fits : counted_size s made + n ≤ s.limit

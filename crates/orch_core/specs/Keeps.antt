@@ -6,19 +6,18 @@ use Rattle.table_schema.specs.Plan.{IsPlan}
 use Rattle.table_schema.specs.Rows.{Rows, fields_at, rows_of}
 use Rattle.table_schema.specs.declared.key.Key.{Key}
 use Rattle.table_schema.specs.declared.key.Key.TheVariants as key
-use Rattle.table_schema.specs.declared.write.Write.{Write}
-use Rattle.table_schema.specs.declared.write.Write.TheVariants as write
 use Rattle.sai_types.specs.After.{chip_after, makes_id}
 use Rattle.sai_types.specs.Alike.{IsIn}
 use Rattle.sai_types.specs.ChipState.{ChipState}
 use Rattle.sai_types.specs.Made.{IsWhole}
 use Rattle.switch_model.specs.Desired.{IsClosed}
 use Rattle.switch_model.specs.Good.{good_rows}
-use Rattle.switch_model.specs.Marks.{writes_of}
+use Rattle.switch_model.specs.Marks.{sent_writes}
 use Rattle.switch_model.specs.Promises.{EffectsAreLegal, MarksAreTrue}
 use Rattle.switch_model.specs.Sound.{AreWithin, is_suspect}
-use Rattle.orch_core.specs.Standing.{HasRoom, Stands, rows_applied}
-use Rattle.orch_core.specs.State.{State, listed_by}
+use Rattle.orch_core.specs.Standing.{HasPortRoom, Stands, rows_applied}
+use Rattle.orch_core.specs.State.{State}
+use Rattle.switch_model.specs.History.{listed_by}
 
 -- the keys whose rows this stage brings to the chip: of ports, of interfaces on ports; and those that do not read
 abbrev pub is_served : Key → Bool
@@ -26,10 +25,6 @@ is_served (key.Port port) = true
 is_served (key.Intf (name.Ethernet port)) = true
 is_served (key.Other text) = true
 is_served _ = false
-
-abbrev pub key_of : Write → Key
-key_of (write.Set k fields) = k
-key_of (write.Del k) = k
 
 abbrev pub AreServed : Rows → Type 0
 AreServed rows = (k : Key) (fields : Pairs) → fields_at rows k ≡ Some fields → is_served k ≡ true
@@ -41,13 +36,13 @@ pub record Keeps (core : State) (chip : ChipState) : Type 0 where
   pub objects : chip.objects ≡ chip_after chip.effects (length chip.effects)
   pub whole : IsWhole (count_by makes_id chip.effects) chip.objects
   pub counts : AreWithin (length core.log.taken) (length chip.effects) core.log.marks
-  pub rows : core.rows ≡ rows_of (writes_of core.log.taken)
+  pub rows : core.rows ≡ rows_of (sent_writes core.log.taken)
   pub legality : EffectsAreLegal core.plan core.capacities core.log.taken chip.effects
   pub marks : MarksAreTrue core.plan core.capacities core.log chip.effects
   pub to_sync : (k : Key) → IsIn k core.to_sync ⊎ (rows_applied core.applied k ≡ good_rows core.plan core.rows k)
   pub closed : IsClosed (rows_applied core.applied)
   pub plan : IsPlan core.plan
-  pub room : HasRoom core.plan core.capacities
+  pub room : HasPortRoom core.plan core.capacities
   pub served : AreServed core.rows
   pub listed : core.listed ≡ listed_by core.log.marks
 

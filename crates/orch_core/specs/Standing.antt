@@ -27,12 +27,12 @@ use Rattle.orch_core.specs.declared.applied.Applied.{Applied}
 abbrev pub Entries : Type 0
 Entries = List (Key × Applied)
 
-abbrev pub applied_at : Entries → Key → Option Applied
-applied_at entries key = lookup (is_at (key_cmp key)) entries
+abbrev pub applied_entry : Entries → Key → Option Applied
+applied_entry entries key = lookup (is_at (key_cmp key)) entries
 
 -- the applied rows, by key
 abbrev pub rows_applied : Entries → TypedRows
-rows_applied entries key = option_map (λ a. a.row) (applied_at entries key)
+rows_applied entries key = option_map (λ a. a.row) (applied_entry entries key)
 
 -- an interface stands on the object of its port
 abbrev pub rif_on : Option Applied → Option (Body Rid)
@@ -42,7 +42,7 @@ rif_on (Some port) = Some (body.Rif (on.Port port.id))
 -- the body of a row's object, where there is one of this stage's kinds: of a port, and of an interface on a port
 abbrev pub body_of : Entries → Key → Row → Option (Body Rid)
 body_of entries (key.Port port) (row.Port r) = Some (body.Port r.lanes r.speed r.mtu r.up)
-body_of entries (key.Intf (name.Ethernet port)) row.Intf = rif_on (applied_at entries (key.Port port))
+body_of entries (key.Intf (name.Ethernet port)) row.Intf = rif_on (applied_entry entries (key.Port port))
 body_of entries _ _ = None
 
 -- a port's lanes are those of the plan
@@ -53,11 +53,11 @@ IsPlanned plan _ _ = Unit {0}
 -- each applied row has its object, and each object is that of an applied row
 pub record Stands (plan : Ports) (entries : Entries) (objects : Objects) : Type 0 where
   pub sorted : IsStrictlySortedBy key_cmp (keys_of entries)
-  pub planned : (k : Key) (a : Applied) → applied_at entries k ≡ Some a → IsPlanned plan k a.row
-  pub stand : (k : Key) (a : Applied) → applied_at entries k ≡ Some a → (b : Body Rid) × (body_of entries k a.row ≡ Some b) × (body_at objects (entry.Oid a.id) ≡ Some b)
-  pub tied : (e : Entry Rid) (b : Body Rid) → body_at objects e ≡ Some b → (k : Key) × (a : Applied) × (applied_at entries k ≡ Some a) × (same_entry e (entry.Oid a.id) ≡ true)
+  pub planned : (k : Key) (a : Applied) → applied_entry entries k ≡ Some a → IsPlanned plan k a.row
+  pub stand : (k : Key) (a : Applied) → applied_entry entries k ≡ Some a → (b : Body Rid) × (body_of entries k a.row ≡ Some b) × (body_at objects (entry.Oid a.id) ≡ Some b)
+  pub tied : (e : Entry Rid) (b : Body Rid) → body_at objects e ≡ Some b → (k : Key) × (a : Applied) × (applied_entry entries k ≡ Some a) × (same_entry e (entry.Oid a.id) ≡ true)
 
 -- the chip has room for each port of the plan, and for an interface on it
-pub record HasRoom (plan : Ports) (capacities : List ℕ) : Type 0 where
+pub record HasPortRoom (plan : Ports) (capacities : List ℕ) : Type 0 where
   pub ports : length plan ≤ capacity_of capacities kind.Port
   pub rifs : length plan ≤ capacity_of capacities kind.Rif

@@ -1,11 +1,8 @@
 -- What contracts see of a core. Own.
-use Rattle.std.specs.Prelude.{ℕ, ◌+◌, List, [], ◌∷◌, length}
+use Rattle.std.specs.Prelude.{ℕ, ◌+◌, List, [], length}
 use Rattle.table_schema.specs.Plan.{Ports}
 use Rattle.table_schema.specs.Rows.{Rows}
 use Rattle.table_schema.specs.declared.key.Key.{Key}
-use Rattle.switch_model.specs.declared.mark.Mark.{Mark}
-use Rattle.switch_model.specs.declared.mark.MarkEvent.{MarkEvent}
-use Rattle.switch_model.specs.declared.mark.MarkEvent.TheVariants as event
 use Rattle.switch_model.specs.declared.wait.Wait.{Wait}
 use Rattle.switch_model.specs.History.{History, no_history}
 use Rattle.switch_model.specs.Sound.{CoreState}
@@ -30,16 +27,6 @@ new_state plan capacities limit = record { plan = plan; capacities = capacities;
 abbrev pub core_of : State → CoreState
 core_of s = record { plan = s.plan; capacities = s.capacities; log = s.log; rows = s.rows; to_sync = s.to_sync; applied = rows_applied s.applied }
 
--- how many keys a mark lists
-abbrev pub keys_listed : MarkEvent → ℕ
-keys_listed (event.Settled waits turns) = length waits
-keys_listed (event.ApplyBegan mode waits) = length waits
-keys_listed _ = 0
-
-abbrev pub listed_by : List Mark → ℕ
-listed_by [] = 0
-listed_by (mark ∷ marks) = keys_listed mark.event + listed_by marks
-
--- the size of the log: a place for each write taken, each of so many effects, each mark and each key that a mark lists
-abbrev pub size_of : State → ℕ → ℕ
-size_of s effects = effects + length s.log.taken + length s.log.marks + s.listed
+-- the size of the log beside so many effects, with the core's own count of the keys that marks list
+abbrev pub counted_size : State → ℕ → ℕ
+counted_size s effects = effects + length s.log.taken + length s.log.marks + s.listed

@@ -14,7 +14,7 @@ use Rattle.switch_model.specs.Good.{good_rows}
 use Rattle.switch_model.specs.Marks.{IsTrueReason, NamesFirstKind}
 use Rattle.sai_types.specs.Objects.{Objects}
 use Rattle.orch_core.specs.Keeps.{AreServed}
-use Rattle.orch_core.specs.Standing.{Entries, Stands, applied_at, body_of, rows_applied}
+use Rattle.orch_core.specs.Standing.{Entries, Stands, applied_entry, body_of, rows_applied}
 use Rattle.orch_core.specs.State.{State}
 use Rattle.orch_core.specs.declared.applied.Applied.{Applied}
 use Rattle.orch_core.specs.declared.step.Step.{Step}
@@ -28,16 +28,16 @@ pub record IsKnown (s : State) : Type 0 where
 
 -- no applied row names the key
 abbrev pub IsFree : Entries → Key → Type 0
-IsFree entries k = (port : ℕ) → k ≡ key.Port port → applied_at entries (key.Intf (name.Ethernet port)) ≡ None
+IsFree entries k = (port : ℕ) → k ≡ key.Port port → applied_entry entries (key.Intf (name.Ethernet port)) ≡ None
 
 pub record IsCreation (s : State) (k : Key) (r : Row) (b : Body Rid) : Type 0 where
   pub good : good_rows s.plan s.rows k ≡ Some r
-  pub absent : applied_at s.applied k ≡ None
+  pub absent : applied_entry s.applied k ≡ None
   pub body : body_of s.applied k r ≡ Some b
 
 pub record IsRemoval (s : State) (k : Key) (id : Rid) : Type 0 where
   pub good : good_rows s.plan s.rows k ≡ None
-  pub there : option_map (λ a. a.id) (applied_at s.applied k) ≡ Some id
+  pub there : option_map (λ a. a.id) (applied_entry s.applied k) ≡ Some id
   pub free : IsFree s.applied k
 
 -- a port is applied with another row
@@ -46,7 +46,7 @@ pub record IsChange (s : State) (k : Key) (r : PortRow) : Type 0 where
   pub is : k ≡ key.Port port
   pub good : good_rows s.plan s.rows k ≡ Some (row.Port r)
   pub a : Applied
-  pub there : applied_at s.applied k ≡ Some a
+  pub there : applied_entry s.applied k ≡ Some a
 
 -- the key waits for a true reason; a kind that is named as having no room is the first such kind
 abbrev pub IsWaitOf : State → Key → Wait → Type 0
@@ -71,8 +71,8 @@ asks_same _ _ = true
 
 -- whether this row of the key is applied, none where no row of it is
 abbrev pub IsApplied : Entries → Key → Row → Option Bool → Type 0
-IsApplied entries k r None = applied_at entries k ≡ None
-IsApplied entries k r (Some t) = (a : Applied) × (applied_at entries k ≡ Some a) × (t ≡ asks_same a.row r)
+IsApplied entries k r None = applied_entry entries k ≡ None
+IsApplied entries k r (Some t) = (a : Applied) × (applied_entry entries k ≡ Some a) × (t ≡ asks_same a.row r)
 
 -- the step from an applied row of a key to another one
 abbrev pub step_to : Row → Step

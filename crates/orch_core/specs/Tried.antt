@@ -6,10 +6,10 @@ use Rattle.swss_types.specs.declared.out_of_memory.OutOfMemory.{OutOfMemory}
 use Rattle.switch_model.specs.Good.{good_rows}
 use Rattle.switch_model.specs.declared.wait.Wait.{Wait}
 use Rattle.orch_core.specs.Called.{IsGrown}
-use Rattle.orch_core.specs.Due.{CallIsDue, HadPlaces, HasNoReason}
+use Rattle.orch_core.specs.Due.{OwesCall, HadPlaces, HasNoReason}
 use Rattle.orch_core.specs.Keeps.{Keeps}
 use Rattle.orch_core.specs.Standing.{Stands, rows_applied}
-use Rattle.orch_core.specs.State.{State, size_of}
+use Rattle.orch_core.specs.State.{State, counted_size}
 use Rattle.orch_core.specs.Step.{IsWaitOf}
 use Rattle.orch_core.specs.declared.called.Uncalled.{Uncalled}
 use Rattle.orch_core.specs.declared.called.Uncalled.TheVariants as uncalled
@@ -55,11 +55,11 @@ abbrev pub IsTried : Key → State → ChipState → Result Tried OutOfMemory �
 IsTried k old chip (Ok tried.Done) new chip' = IsTouched 1 k old chip new chip' × (rows_applied new.applied k ≡ good_rows old.plan old.rows k) × HasNoReason old k
 IsTried k old chip (Ok (tried.Waits w)) new chip' = IsWaiting k old chip w new chip'
 IsTried k old chip (Ok (tried.Faulted before)) new chip' = IsFaulted k old chip before new chip'
-IsTried k old chip (Ok tried.LogFull) new chip' = IsTouched 0 k old chip new chip' × CallIsDue new × (new.limit < size_of new (length chip'.effects) + 1)
+IsTried k old chip (Ok tried.LogFull) new chip' = IsTouched 0 k old chip new chip' × OwesCall new × (new.limit < counted_size new (length chip'.effects) + 1)
 IsTried k old chip (Err e) new chip' = IsTouched 0 k old chip new chip'
 
 -- a core and its chip before the next step
-pub record IsSteady (core : State) (chip : ChipState) : Type 0 where
+pub record IsStanding (core : State) (chip : ChipState) : Type 0 where
   pub keeps : Keeps core chip
   pub stands : Stands core.plan core.applied chip.objects
 

@@ -11,12 +11,12 @@ use Rattle.sai_types.specs.ChipState.{ChipState}
 use Rattle.switch_model.specs.Good.{TypedRows, good_rows}
 use Rattle.switch_model.specs.declared.wait.Wait.{Wait}
 use Rattle.orch_core.specs.Called.{IsGrown}
-use Rattle.orch_core.specs.Due.{CallIsDue, HadPlaces}
+use Rattle.orch_core.specs.Due.{OwesCall, HadPlaces}
 use Rattle.orch_core.specs.Keeps.{Keeps}
 use Rattle.orch_core.specs.Standing.{rows_applied}
-use Rattle.orch_core.specs.State.{State, size_of}
+use Rattle.orch_core.specs.State.{State, counted_size}
 use Rattle.orch_core.specs.Step.{IsWaitOf}
-use Rattle.orch_core.specs.Tried.{IsSteady}
+use Rattle.orch_core.specs.Tried.{IsStanding}
 use Rattle.orch_core.specs.Turns.{IsTurn}
 use Rattle.orch_core.specs.declared.turn.Turned.{Turned}
 use Rattle.orch_core.specs.declared.turn.Turned.TheVariants as turned
@@ -67,7 +67,7 @@ pub record OnlyLeave (old new : List Key) : Type 0 where
 
 -- steps towards the rows, after which what stands is known
 pub record IsUnder (old : State) (chip : ChipState) (new : State) (chip' : ChipState) : Type 0 where
-  pub steady : IsSteady new chip'
+  pub steady : IsStanding new chip'
   pub behind : IsBehind old new
   pub leave : OnlyLeave old.to_sync new.to_sync
   pub grown : IsGrown chip chip'
@@ -111,5 +111,5 @@ pub record EndsFaulted (old : State) (chip : ChipState) (count : ℕ) (new : Sta
 abbrev pub IsTurned : State → ChipState → Result Turned OutOfMemory → State → ChipState → Type 0
 IsTurned old chip (Ok turned.Whole) new chip' = IsTurning old chip new chip' × IsRest new [] × TurnsTo old new
 IsTurned old chip (Ok (turned.Faulted before)) new chip' = EndsFaulted old chip before new chip'
-IsTurned old chip (Ok turned.LogFull) new chip' = IsUnder old chip new chip' × CallIsDue new × (new.limit < size_of new (length chip'.effects) + 1)
+IsTurned old chip (Ok turned.LogFull) new chip' = IsUnder old chip new chip' × OwesCall new × (new.limit < counted_size new (length chip'.effects) + 1)
 IsTurned old chip (Err e) new chip' = IsUnder old chip new chip'

@@ -7,7 +7,7 @@ ghost use Rattle.orch_core.specs.declared.applied.Applied.{Applied};
 ghost use Rattle.orch_core.specs.declared.attempt.Tried.TheVariants as tried;
 ghost use Rattle.orch_core.specs.Standing.{Entries};
 ghost use Rattle.orch_core.specs.Step.{IsCreation, IsRemoval};
-ghost use Rattle.orch_core.specs.Tried.{IsSteady, IsTried, tried_without};
+ghost use Rattle.orch_core.specs.Tried.{IsStanding, IsTried, tried_without};
 
 use crate::called::{Uncalled, change, make};
 use crate::step::Step;
@@ -33,7 +33,7 @@ pub(crate) enum Tried {
 impl Core {
     /// Brings what is applied of a key to its row, where nothing stands in the way.
     pub(crate) fn attempt<C: Chip>(&mut self, chip: &mut C, key: &Key) -> Result<Tried, OutOfMemory>
-        requires steady { IsSteady self.old (C.state chip.old) }
+        requires steady { IsStanding self.old (C.state chip.old) }
         requires due { IsIn key.now self.old.to_sync }
         ensures { IsTried key.now self.old (C.state chip.old) result self.new (C.state chip.new) }
     {
@@ -54,7 +54,7 @@ impl Core {
         row: Row,
         body: Body<Rid>,
     ) -> Result<Tried, OutOfMemory>
-        requires steady { IsSteady self.old (C.state chip.old) }
+        requires steady { IsStanding self.old (C.state chip.old) }
         requires due { IsIn key.now self.old.to_sync }
         requires step { IsCreation self.old key.now row body }
         ensures { IsTried key.now self.old (C.state chip.old) result self.new (C.state chip.new) }
@@ -87,7 +87,7 @@ impl Core {
 
     /// Removes the object of a key that no applied row names.
     fn remove<C: Chip>(&mut self, chip: &mut C, key: &Key, id: Rid) -> Result<Tried, OutOfMemory>
-        requires steady { IsSteady self.old (C.state chip.old) }
+        requires steady { IsStanding self.old (C.state chip.old) }
         requires due { IsIn key.now self.old.to_sync }
         requires step { IsRemoval self.old key.now id }
         ensures { IsTried key.now self.old (C.state chip.old) result self.new (C.state chip.new) }

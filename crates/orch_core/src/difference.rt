@@ -8,9 +8,9 @@ ghost use Rattle.sai_types.specs.Alike.{IsIn};
 ghost use Rattle.orch_core.specs.declared.applied.Applied.{Applied};
 ghost use Rattle.orch_core.specs.declared.attempt.Tried.TheVariants as tried;
 ghost use Rattle.orch_core.specs.Difference.{IsDifference, IsSet, IsSetting, applied_with, difference_of, first_difference, row_with, value_with};
-ghost use Rattle.orch_core.specs.Standing.{applied_at};
+ghost use Rattle.orch_core.specs.Standing.{applied_entry};
 ghost use Rattle.orch_core.specs.Step.{IsChange};
-ghost use Rattle.orch_core.specs.Tried.{IsSteady, IsTried};
+ghost use Rattle.orch_core.specs.Tried.{IsStanding, IsTried};
 
 use crate::Core;
 use crate::attempt::{Tried, without};
@@ -27,7 +27,7 @@ impl Core {
         key: &Key,
         row: PortRow,
     ) -> Result<Tried, OutOfMemory>
-        requires steady { IsSteady self.old (C.state chip.old) }
+        requires steady { IsStanding self.old (C.state chip.old) }
         requires due { IsIn key.now self.old.to_sync }
         requires step { IsChange self.old key.now row }
         ensures { IsTried key.now self.old (C.state chip.old) result self.new (C.state chip.new) }
@@ -58,7 +58,7 @@ impl Core {
         id: Rid,
         attr: Attr<Rid>,
     ) -> Result<Tried, OutOfMemory>
-        requires steady { IsSteady self.old (C.state chip.old) }
+        requires steady { IsStanding self.old (C.state chip.old) }
         requires due { IsIn key.now self.old.to_sync }
         requires setting { IsSetting self.old key.now id attr }
         ensures { IsSet key.now attr self.old (C.state chip.old) result self.new (C.state chip.new) }
@@ -75,7 +75,7 @@ impl Core {
     /// Writes the new value of an attribute into an applied port's row. Nothing here can fail: the call took effect.
     fn note(&mut self, key: &Key, attr: Attr<Rid>) -> Result<Tried, OutOfMemory>
         ensures is { result ≡ Ok tried.Done }
-        ensures noted { (a : Applied) → applied_at self.old.applied key.now ≡ Some a → IsStrictlySortedBy key_cmp (keys_of self.old.applied) → self.new ≡ record self.old { applied = insert_entry key_cmp self.old.applied key.now (applied_with a attr) } }
+        ensures noted { (a : Applied) → applied_entry self.old.applied key.now ≡ Some a → IsStrictlySortedBy key_cmp (keys_of self.old.applied) → self.new ≡ record self.old { applied = insert_entry key_cmp self.old.applied key.now (applied_with a attr) } }
     {
         if let Some(applied) = self.applied.get_mut(key) {
             set_value(&mut applied.row, attr);

@@ -12,8 +12,6 @@ mod settle;
 mod state;
 mod step;
 mod take;
-#[cfg(test)]
-mod tests;
 mod turn;
 
 pub use answer::{Settled, TakeFault};

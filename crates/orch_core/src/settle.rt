@@ -5,9 +5,9 @@ ghost use Rattle.orch_core.specs.Keeps.{IsKept};
 ghost use Rattle.switch_model.specs.History.{History};
 ghost use Rattle.switch_model.specs.declared.mark.Mark.{Mark};
 ghost use Rattle.switch_model.specs.declared.mark.MarkEvent.TheVariants as event;
-ghost use Rattle.orch_core.specs.Settling.{IsFilled, IsFilling, IsRested, IsSame, IsSettled, Settles, is_marked, mark_at, opened, with_ending};
+ghost use Rattle.orch_core.specs.Settling.{IsFilled, IsFilling, IsRested, IsSame, EndsSettling, Settles, is_marked, mark_at, opened, with_ending};
 ghost use Rattle.orch_core.specs.Called.{IsGrown};
-ghost use Rattle.orch_core.specs.Tried.{IsSteady};
+ghost use Rattle.orch_core.specs.Tried.{IsStanding};
 ghost use Rattle.orch_core.specs.Turn.{OnlyLeave};
 
 use crate::turn::Turned;
@@ -34,7 +34,7 @@ impl Core {
         requires kept { IsKept self.old (C.state chip.old) }
         requires known { is_suspect self.old.log.marks ≡ false }
         ensures kept { IsKept self.new (C.state chip.new) }
-        ensures ended { IsSettled self.old (C.state chip.old) result self.new (C.state chip.new) }
+        ensures ended { EndsSettling self.old (C.state chip.old) result self.new (C.state chip.new) }
         ensures same { IsSame self.old self.new }
         ensures sync { OnlyLeave self.old.to_sync self.new.to_sync }
         ensures grown { IsGrown (C.state chip.old) (C.state chip.new) }
@@ -48,7 +48,7 @@ impl Core {
         requires known { is_suspect self.old.log.marks ≡ false }
         ensures { Settles self.old (C.state chip.old) result self.new (C.state chip.new) }
     {
-        self.open_mark()?;
+        self.open_mark(chip.effects())?;
         let ended = self.settle_in_place(chip);
         if !is_marked(&ended) {
             self.close_mark();
@@ -57,13 +57,13 @@ impl Core {
     }
 
     /// Makes the place of the mark at the end, before any chip call.
-    fn open_mark(&mut self) -> Result<(), OutOfMemory>
-        ensures ok { OnOk result (self.new ≡ opened self.old) }
+    fn open_mark(&mut self, effects: u64) -> Result<(), OutOfMemory>
+        ensures ok { OnOk result (self.new ≡ opened self.old effects) }
         ensures err { OnErr result (self.new ≡ self.old) }
     {
         self.log.mark_end(Mark {
-            taken: 0,
-            effects: 0,
+            taken: self.log.taken().len() as u64,
+            effects,
             event: MarkEvent::Restarted,
         })
     }
@@ -77,7 +77,7 @@ impl Core {
 
     /// The same, where the log has a last mark to fill in.
     fn settle_in_place<C: Chip>(&mut self, chip: &mut C) -> Result<Settled, OutOfMemory>
-        requires steady { IsSteady self.old (C.state chip.old) }
+        requires steady { IsStanding self.old (C.state chip.old) }
         ensures { (h : History) (last : Mark) → self.old.log ≡ with_ending h last → IsFilled h self.old (C.state chip.old) result self.new (C.state chip.new) }
     {
         match self.turns(chip)? {
@@ -92,7 +92,7 @@ impl Core {
 
     /// Makes turns until nothing is left to sync or a turn brings nothing.
     fn turns<C: Chip>(&mut self, chip: &mut C) -> Result<Rested, OutOfMemory>
-        requires steady { IsSteady self.old (C.state chip.old) }
+        requires steady { IsStanding self.old (C.state chip.old) }
         ensures { IsRested self.old (C.state chip.old) result self.new (C.state chip.new) }
     {
         self.waiting.clear();

@@ -1,10 +1,11 @@
 // The core's state.
-ghost use Rattle.std.specs.Prelude.{◌≡◌, ◌↔◌, ◌+◌, ◌^◌, ◌<◌, true, IfOk};
+ghost use Rattle.std.specs.Prelude.{◌≡◌, ◌↔◌, ◌+◌, ◌^◌, ◌<◌, true, List, IfOk};
 ghost use Rattle.table_schema.specs.Plan.{IsPlan};
 ghost use Rattle.sai_types.specs.ChipState.{new_chip};
+ghost use Rattle.sai_types.specs.declared.fail.Fail.{Fail};
 ghost use Rattle.orch_core.specs.Keeps.{IsKept};
-ghost use Rattle.orch_core.specs.Standing.{HasRoom};
-ghost use Rattle.orch_core.specs.State.{new_state, size_of};
+ghost use Rattle.orch_core.specs.Standing.{HasPortRoom};
+ghost use Rattle.orch_core.specs.State.{new_state, counted_size};
 
 use crate::Applied;
 use row_store::Rows;
@@ -50,7 +51,7 @@ impl Core {
         log_limit: u64,
     ) -> Result<Core, OutOfMemory>
         ensures new { IfOk result (λ core. core ≡ new_state plan caps.0 log_limit) }
-        ensures kept { IsPlan plan → HasRoom plan caps.0 → IfOk result (λ core. IsKept core (new_chip caps.0)) }
+        ensures kept { (fails : List Fail) → IsPlan plan → HasPortRoom plan caps.0 → IfOk result (λ core. IsKept core (new_chip caps.0 fails)) }
     {
         Ok(Core {
             alloc,
@@ -68,7 +69,7 @@ impl Core {
 
     /// Whether the log has no room for so many places more; `effects` is the number of the chip's effects.
     pub(crate) fn is_full(&self, effects: u64, need: u64) -> bool
-        ensures full { (result ≡ true) ↔ (self.now.limit < size_of self.now effects + need) }
+        ensures full { (result ≡ true) ↔ (self.now.limit < counted_size self.now effects + need) }
         ensures fits { self.now.limit < 2 ^ 64 }
     {
         let size = u128::from(effects)

@@ -2,7 +2,7 @@
 ghost use Rattle.std.specs.Prelude.{◌≡◌, Some, None, IfOk};
 ghost use Rattle.switch_model.specs.Good.{good_rows};
 ghost use Rattle.table_schema.specs.declared.key.Key.TheVariants as key;
-ghost use Rattle.orch_core.specs.Standing.{applied_at, body_of, rif_on};
+ghost use Rattle.orch_core.specs.Standing.{applied_entry, body_of, rif_on};
 ghost use Rattle.orch_core.specs.Step.{IsApplied, IsKnown, IsStep, asks_same, step_to, wait_for};
 
 use crate::{Applied, Core};
@@ -91,7 +91,7 @@ impl Core {
     fn creation(&self, key: &Key, row: Row) -> Result<Step, OutOfMemory>
         requires good { good_rows self.now.plan self.now.rows key.now ≡ Some row }
         requires known { IsKnown self.now }
-        requires absent { applied_at self.now.applied key.now ≡ None }
+        requires absent { applied_entry self.now.applied key.now ≡ None }
         ensures { IfOk result (λ step. IsStep self.now key.now step) }
     {
         match self.body_for(key, &row)? {
@@ -118,7 +118,7 @@ impl Core {
 
     /// The body of an interface on a port.
     fn body_on(&self, port: u32) -> Option<Body<Rid>>
-        ensures { result ≡ rif_on (applied_at self.now.applied (key.Port port)) }
+        ensures { result ≡ rif_on (applied_entry self.now.applied (key.Port port)) }
     {
         let applied = self.applied.get(&Key::Port(port))?;
         Some(Body::Rif {

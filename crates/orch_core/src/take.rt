@@ -1,7 +1,8 @@
 // Taking writes.
 ghost use Rattle.std.specs.Prelude.{◌≡◌, true};
 ghost use Rattle.sai_types.specs.ChipState.{ChipState};
-ghost use Rattle.orch_core.specs.Keeps.{IsKept, is_served, key_of};
+ghost use Rattle.orch_core.specs.Keeps.{IsKept, is_served};
+ghost use Rattle.switch_model.specs.Marks.{written_key};
 ghost use Rattle.orch_core.specs.Taken.{IsTaken};
 
 use crate::{Core, TakeFault};
@@ -13,7 +14,7 @@ impl Core {
     /// place for it. After it nothing has changed; after want of memory the write's key may be tried once more.
     pub fn take(&mut self, sent: Sent, effects: u64) -> Result<Result<(), TakeFault>, OutOfMemory>
         ensures taken { IsTaken self.old sent effects result self.new }
-        ensures kept { (chip : ChipState) → is_served (key_of sent.write) ≡ true → IsKept self.old chip → IsKept self.new chip }
+        ensures kept { (chip : ChipState) → is_served (written_key sent.write) ≡ true → IsKept self.old chip → IsKept self.new chip }
     {
         self.take_in(sent, effects)
     }
@@ -39,7 +40,7 @@ impl Core {
 
 /// The key that a write names.
 fn key_of_write(write: &Write) -> &Key
-    ensures { result.now ≡ key_of write.now }
+    ensures { result.now ≡ written_key write.now }
 {
     match write {
         Write::Set(key, _) | Write::Del(key) => key,

@@ -1,6 +1,6 @@
 // A turn: each key that is to be brought to the chip is tried once, in key order.
 ghost use Rattle.std.specs.Prelude.{◌≡◌, IfOk, option_map};
-ghost use Rattle.orch_core.specs.Tried.{IsSteady};
+ghost use Rattle.orch_core.specs.Tried.{IsStanding};
 ghost use Rattle.orch_core.specs.Turn.{IsNextKey, IsTurned};
 
 use crate::Core;
@@ -24,7 +24,7 @@ pub(crate) enum Turned {
 impl Core {
     /// Tries each key to sync once. What is done leaves the keys to sync; the others wait, each with its reason.
     pub(crate) fn turn<C: Chip>(&mut self, chip: &mut C) -> Result<Turned, OutOfMemory>
-        requires steady { IsSteady self.old (C.state chip.old) }
+        requires steady { IsStanding self.old (C.state chip.old) }
         ensures { IsTurned self.old (C.state chip.old) result self.new (C.state chip.new) }
     {
         self.waiting.clear();

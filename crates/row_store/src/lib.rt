@@ -1,8 +1,8 @@
 //! The rows of the application tables, as the writes so far leave them.
 #![tactic(auto)]
 
-mod rows;
 #[cfg(test)]
-mod tests;
+mod memory_tests;
+mod rows;
 
 pub use rows::Rows;

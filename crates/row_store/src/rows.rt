@@ -1,8 +1,7 @@
 // The rows of the application tables.
-ghost use Rattle.std.specs.Prelude.{◌≡◌, [], length, option_map, IfOk, OnOk, OnErr, unwrap_or};
+ghost use Rattle.std.specs.Prelude.{◌≡◌, [], length, option_map, IfOk, OnOk, OnErr};
 ghost use Rattle.std.specs.Map.{keys_of};
-ghost use Rattle.table_schema.specs.Rows.{HasRisingRows, after_write, fields_at};
-ghost use Rattle.table_schema.specs.Fields.{merged};
+ghost use Rattle.table_schema.specs.Rows.{HasRisingRows, after_write, fields_at, with_fields};
 
 use std::alloc::Global;
 use std::collections::{BTreeMap, btree_map};
@@ -43,15 +42,12 @@ impl Rows {
         ensures err { OnErr result (self.new ≡ self.old) }
     {
         match write {
-            Write::Set(key, fields) => {
-                let row = self.merged(key, fields)?;
-                self.rows.insert(key.copy()?, row)?;
-            }
+            Write::Set(key, fields) => self.set(key, fields),
             Write::Del(key) => {
                 self.rows.remove(key);
+                Ok(())
             }
         }
-        Ok(())
     }
 
     /// The fields of a row: None exactly where there is no row of this key.
@@ -88,15 +84,17 @@ impl Rows {
         self.rows.len()
     }
 
-    /// A key's row with fields laid over it.
-    fn merged(&self, key: &Key, fields: &Fields) -> Result<Fields, OutOfMemory>
-        ensures { IfOk result (λ row. row ≡ merged (unwrap_or (fields_at self.now key.now) []) fields.now) }
+    /// Lays fields over a key's row, or makes them the row where there is none.
+    fn set(&mut self, key: &Key, fields: &Fields) -> Result<(), OutOfMemory>
+        ensures ok { OnOk result (self.new ≡ with_fields self.old key.now fields.now) }
+        ensures err { OnErr result (self.new ≡ self.old) }
     {
-        let mut row = match self.rows.get(key) {
-            Some(row) => row.copy()?,
-            None => Fields::new(self.alloc),
-        };
-        row.merge(fields)?;
-        Ok(row)
+        match self.rows.get_mut(key) {
+            Some(row) => row.merge(fields),
+            None => {
+                self.rows.insert(key.copy()?, fields.copy()?)?;
+                Ok(())
+            }
+        }
     }
 }

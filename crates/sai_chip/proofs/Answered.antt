@@ -79,31 +79,37 @@ answered_by fault refusal old left new c a e (inr (ea, el)) counts = rw (counts,
   answer = (record { objects = refl; effects = refl }, omega arith);
   clean = refl;
   capacities = refl;
+  fails = refl;
 })
 answered_by None None old left new c a e (inl (ea, el)) counts = rw (counts, el, ea) (record {
   answer = took_effect old.chip _ c (makes_id c) refl (record { legal = e; objects = refl; effects = refl }) (as_many _ old.chip.faults (id_not_failed (makes_id c) _));
   clean = refl;
   capacities = refl;
+  fails = refl;
 })
 answered_by None (Some r) old left new c a e (inl (ea, el)) counts = rw (counts, el, ea) (record {
   answer = refused old.chip _ c r (is_refusal-refusal_of old.chip.capacities old.chip.objects c r e) e (record { objects = refl; effects = refl }) (as_many _ old.chip.faults (refusal_not_failed r (is_refusal-refusal_of old.chip.capacities old.chip.objects c r e)));
   clean = refl;
   capacities = refl;
+  fails = refl;
 })
 answered_by (Some true) None old left new c a e (inl (ea, el)) counts = rw (counts, el, ea) (record {
   answer = (inr (record { legal = e; objects = refl; effects = refl }), omega arith);
   clean = refl;
   capacities = refl;
+  fails = refl;
 })
 answered_by (Some false) None old left new c a e (inl (ea, el)) counts = rw (counts, el, ea) (record {
   answer = (inl (record { objects = refl; effects = refl }), omega arith);
   clean = refl;
   capacities = refl;
+  fails = refl;
 })
 answered_by (Some after) (Some r) old left new c a e (inl (ea, el)) counts = rw (counts, el, ea) (record {
   answer = (inl (record { objects = refl; effects = refl }), omega arith);
   clean = refl;
   capacities = refl;
+  fails = refl;
 })
 
 pub answered : (fault : Option Bool) (old left new : Sim) (c : Call Rid) (a : ChipAnswer) → ResultsBy fault (refusal_at old c) old c a left → new ≡ counted (is_legal old.chip.capacities old.chip.objects c) (is_failed a) left → IsAnswered old.chip c a new.chip

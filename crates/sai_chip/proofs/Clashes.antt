@@ -19,7 +19,8 @@ use Rattle.sai_types.specs.declared.body.Entry.{Entry}
 use Rattle.sai_types.specs.declared.body.Entry.TheVariants as entry
 use Rattle.sai_types.specs.declared.body.Body.{Body}
 use Rattle.sai_types.specs.declared.body.Body.TheVariants as body
-use Rattle.sai_types.specs.Refusal.{clash, refers_to, refers_to_id, stands_on, targets, same_ip, same_prefix, same_id, same_base}
+use Rattle.sai_types.specs.References.{refers_to}
+use Rattle.sai_types.specs.Refusal.{clash, same_ip, same_prefix, same_id, same_base}
 use Rattle.sai_types.specs.Objects.{Objects}
 use Rattle.sai_chip.specs.declared.mark.Mark.{Mark}
 use Rattle.sai_chip.specs.declared.mark.Mark.TheVariants as mark
@@ -182,41 +183,16 @@ clashes-port lanes speed mtu up objects =
     any-same _ _ (λ o. clash-port lanes speed mtu up o.1) objects
     ∙ sym (any-any (λ lane o. has_mark (mark.Lane lane) o.1) lanes objects)
 
-id_in_base : (r : Rid) (on : RifOn Rid) → stands_on on r ≡ list_any (λ k. is_mark k (refers r)) (base_marks on)
-id_in_base r (on.Port p) = sym (or_none _ ∙ mark_of_id p r)
-id_in_base r (on.Vlan v) = sym (or_none _ ∙ mark_of_id v r)
-
-id_in_target : (r : Rid) (to : To Rid) → targets to r ≡ list_any (λ k. is_mark k (refers r)) (target_marks to)
-id_in_target r to.Drop = refl
-id_in_target r (to.Rif a) = sym (or_none _ ∙ mark_of_id a r)
-id_in_target r (to.NextHop a) = sym (or_none _ ∙ mark_of_id a r)
-id_in_target r (to.Group a) = sym (or_none _ ∙ mark_of_id a r)
-
-two_ids : (a b r : Rid) → (same_id a r || same_id b r) ≡ list_any (λ k. is_mark k (refers r)) (refers a ∷ refers b ∷ [])
-two_ids a b r = let one = mark_of_id a r in let two = mark_of_id b r in let none = or_none (is_mark (refers b) (refers r)) in cc
-
-refers-id : (r : Rid) (b : Body Rid) → refers_to_id b r ≡ has_mark (refers r) b
-refers-id r (body.Port lanes speed mtu up) = sym (no_lane (refers r) lanes (λ l. refl))
-refers-id r (body.BridgePort port) = sym (or_none _ ∙ mark_of_id port r)
-refers-id r (body.VlanMember vlan bridge_port tagging) = two_ids vlan bridge_port r
-refers-id r (body.Rif on) = id_in_base r on
-refers-id r (body.Neighbor rif ip mac) = sym (or_none _ ∙ mark_of_id rif r)
-refers-id r (body.NextHop rif ip) = sym (or_none _ ∙ mark_of_id rif r)
-refers-id r (body.GroupMember group next_hop) = two_ids group next_hop r
-refers-id r (body.Route prefix to) = id_in_target r to
-refers-id r _ = refl
-
+-- what a body refers to are the marks that say so
 pub refers-mark : (e : Entry Rid) (b : Body Rid) → refers_to b e ≡ has_mark (mark.RefersTo e) b
-refers-mark (entry.Oid r) b = refers-id r b
-refers-mark (entry.Neigh r ip) (body.NextHop rif other) = sym (or_none _ ∙ mark_of_neigh rif r other ip)
 refers-mark e (body.Port lanes speed mtu up) = sym (no_lane (mark.RefersTo e) lanes (λ l. refl))
-refers-mark (entry.Neigh r ip) (body.Rif on) = sym (no_base (mark.RefersTo (entry.Neigh r ip)) on (λ r. refl))
-refers-mark (entry.Neigh r ip) (body.Route prefix to) = sym (no_target (mark.RefersTo (entry.Neigh r ip)) to (λ r. refl))
-refers-mark (entry.Own ip) (body.Rif on) = sym (no_base (mark.RefersTo (entry.Own ip)) on (λ r. refl))
-refers-mark (entry.Own ip) (body.Route prefix to) = sym (no_target (mark.RefersTo (entry.Own ip)) to (λ r. refl))
-refers-mark (entry.Route p) (body.Rif on) = sym (no_base (mark.RefersTo (entry.Route p)) on (λ r. refl))
-refers-mark (entry.Route p) (body.Route prefix to) = sym (no_target (mark.RefersTo (entry.Route p)) to (λ r. refl))
-refers-mark _ _ = refl
+refers-mark e (body.Rif (on.Port p)) = refl
+refers-mark e (body.Rif (on.Vlan v)) = refl
+refers-mark e (body.Route prefix to.Drop) = refl
+refers-mark e (body.Route prefix (to.Rif r)) = refl
+refers-mark e (body.Route prefix (to.NextHop n)) = refl
+refers-mark e (body.Route prefix (to.Group g)) = refl
+refers-mark e _ = refl
 
 -- an entry is referred to where its mark stands
 pub refers-stands : (e : Entry Rid) (objects : Objects) → list_any (λ o. refers_to o.1 e) objects ≡ stands (mark.RefersTo e) objects

@@ -1,7 +1,7 @@
 -- failing calls by their numbers
 use Rattle.std.proofs.Common.{◌≡◌, ℕ, ◌-◌, ◌<◌, ◌≤◌, ◌==◌, suc, Bool, cond, List, ◌∷◌, length, drop, get_or, drop-cons, Some, nat_cmp, sym, ap, ◌∙◌, arith, rules}
 use Rattle.std.specs.BTreeMap.{BTreeMap, get, is_at}
-use Rattle.sai_chip.specs.declared.fail.Fail.{Fail}
+use Rattle.sai_types.specs.declared.fail.Fail.{Fail}
 use Rattle.sai_chip.specs.Failing.{IsIndex, fail_at}
 
 is_at-nat_cmp : (a b : ℕ) → is_at (nat_cmp a) b ≡ (a == b)

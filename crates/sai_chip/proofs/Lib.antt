@@ -2,6 +2,7 @@ mod Answered
 mod Clashes
 mod Counting
 mod Entries
+mod Failed
 mod GroupNames
 mod HopSets
 mod Indexed

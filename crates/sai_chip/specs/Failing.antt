@@ -2,7 +2,7 @@
 use Rattle.std.specs.Prelude.{◌≡◌, ℕ, ◌==◌, Bool, List, [], ◌∷◌, Option, Some, None, if◌then◌else◌}
 use Rattle.std.specs.BTreeMap.{BTreeMap, get}
 use Rattle.std.specs.Ordering.{nat_cmp}
-use Rattle.sai_chip.specs.declared.fail.Fail.{Fail}
+use Rattle.sai_types.specs.declared.fail.Fail.{Fail}
 
 -- the first entry for a number: whether the call takes effect
 abbrev pub fail_at : List Fail → ℕ → Option Bool

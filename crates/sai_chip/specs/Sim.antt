@@ -10,22 +10,21 @@ use Rattle.sai_types.specs.declared.answer.ListAnswer.TheVariants as listed
 use Rattle.sai_types.specs.ChipState.{ChipState, new_chip, objects_of}
 use Rattle.sai_types.specs.Refusal.{refusal_of, is_legal}
 use Rattle.sai_types.specs.After.{after_call, makes_id, next_id}
-use Rattle.sai_chip.specs.declared.fail.Fail.{Fail}
+use Rattle.sai_types.specs.declared.fail.Fail.{Fail}
 use Rattle.sai_chip.specs.Failing.{fail_at}
 
--- its state, the calls at which it fails, and the number of calls made so far
+-- its state, and the number of calls made so far
 pub record Sim : Type 0 where
   pub chip : ChipState
-  pub fails : List Fail
   pub calls : ℕ
 
 -- a new one
 abbrev pub new_sim : List ℕ → List Fail → Sim
-new_sim capacities fails = record { chip = new_chip capacities; fails = fails; calls = 0 }
+new_sim capacities fails = record { chip = new_chip capacities fails; calls = 0 }
 
 -- whether the next call fails, and with effect: calls are numbered from 1 to 2^64 - 1, and later ones have no number
 abbrev pub fault_of : Sim → Option Bool
-fault_of s = if nat_lt s.calls 18446744073709551615 then fail_at s.fails (s.calls + 1) else None
+fault_of s = if nat_lt s.calls 18446744073709551615 then fail_at s.chip.fails (s.calls + 1) else None
 
 -- the number of calls after one more, which stays at 2^64 - 1
 abbrev pub called : ℕ → ℕ

@@ -1,13 +1,19 @@
 -- What holds of the counts of a simulated chip. Own.
-use Rattle.std.specs.Prelude.{◌≡◌, ℕ, ◌-◌, ◌≤◌, ◌==◌, List, Option, None, count_by, slice_get, if◌then◌else◌}
+use Rattle.std.specs.Prelude.{◌≡◌, ℕ, ◌+◌, ◌-◌, ◌≤◌, ◌==◌, nat_lt, List, Option, None, count_by, slice_get, if◌then◌else◌}
 use Rattle.sai_types.specs.declared.ids.Rid.{Rid}
 use Rattle.sai_types.specs.declared.body.Call.{Call}
+use Rattle.sai_types.specs.declared.fail.Fail.{Fail}
 use Rattle.sai_types.specs.After.{makes_id}
 
--- so many identifiers were made, and the chip failed at no more calls than were made
-pub record IsInOrder (effects : List (Call Rid)) (made faults calls : ℕ) : Type 0 where
+-- how many of the failing calls have a number up to this one
+abbrev pub failing_by : ℕ → List Fail → ℕ
+failing_by calls fails = count_by (λ f. nat_lt f.at (calls + 1)) fails
+
+-- so many identifiers were made, and the chip failed at no more calls than were made, nor than it was to fail at by then
+pub record IsInOrder (effects : List (Call Rid)) (fails : List Fail) (made faults calls : ℕ) : Type 0 where
   pub identifiers : made ≡ count_by makes_id effects
   pub failures : faults ≤ calls
+  pub named : faults ≤ failing_by calls fails
 
 -- effect k, counted from 1
 abbrev pub effect_at : List (Call Rid) → ℕ → Option (Call Rid)

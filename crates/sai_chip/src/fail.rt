@@ -2,19 +2,11 @@
 ghost use Rattle.std.specs.Prelude.{◌≡◌, IfOk};
 ghost use Rattle.sai_chip.specs.Failing.{IsIndex, fail_at};
 
+use sai_types::Fail;
 use std::alloc::Global;
 use std::collections::BTreeMap;
 use std::marker::Model;
 use swss_types::OutOfMemory;
-
-/// A call at which a simulated chip fails.
-#[derive(Clone, Copy, Debug, PartialEq, Eq)]
-pub struct Fail {
-    /// The number of the call, of all calls and listings, from 1.
-    pub at: u64,
-    /// Whether the call takes effect, where it is legal.
-    pub after: bool,
-}
 
 /// The failing calls of a chip. They are put in order when the first is looked for.
 #[derive(Drop)]
@@ -27,7 +19,7 @@ pub struct Failing {
 
 impl Model for Failing {
     ghost use Rattle.std.specs.Prelude.{List};
-    ghost use Rattle.sai_chip.specs.declared.fail.Fail.{Fail};
+    ghost use Rattle.sai_types.specs.declared.fail.Fail.{Fail};
 
     ghost Value = { List Fail };
 

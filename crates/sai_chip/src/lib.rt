@@ -13,14 +13,12 @@ mod replay;
 mod sim;
 mod table;
 mod tally;
-#[cfg(test)]
-mod tests;
 mod things;
 mod ways;
 
-pub use fail::Fail;
 pub use forward::Forward;
 pub use replay::Replay;
+pub use sai_types::Fail;
 pub use sim::SimChip;
 pub use things::named;
 pub use ways::Ways;

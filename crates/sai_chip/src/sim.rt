@@ -1,5 +1,5 @@
 // A simulated SAI chip.
-ghost use Rattle.std.specs.Prelude.{◌≡◌, ◌<◌, true, ◌⊎◌, [], ◌++◌, Some, slice_get, length, is_some, option_copied, IfOk, OnOk, OnErr};
+ghost use Rattle.std.specs.Prelude.{◌≡◌, true, ◌⊎◌, [], ◌++◌, Some, slice_get, length, is_some, option_copied, IfOk, IsSome, OnOk, OnErr};
 ghost use Rattle.sai_types.specs.ChipState.{IsAnswered, IsListed, objects_of};
 ghost use Rattle.sai_types.specs.Refusal.{refusal_of};
 ghost use Rattle.sai_types.specs.Forwarding.{forward};
@@ -9,12 +9,12 @@ ghost use Rattle.sai_chip.specs.SimChip.{effect_at};
 ghost use Rattle.sai_chip.specs.Sim.{FailsBy, IsCalled, IsListing, ListsBy, ResultsBy, counted, effect_answer, fault_of, is_failed, new_sim, refusal_at, with_effect};
 
 use crate::effect::{make_effect, makes_id};
-use crate::fail::{Fail, Failing};
+use crate::fail::Failing;
 use crate::forward::Forward;
 use crate::forwarding::forward_by;
 use crate::held::Held;
 use crate::table::{level, refusal};
-use sai_types::{Call, Caps, Chip, ChipAnswer, Kind, ListAnswer, Object, Rid};
+use sai_types::{Call, Caps, Chip, ChipAnswer, Fail, Kind, ListAnswer, Object, Rid};
 use std::alloc::Global;
 use std::marker::Model;
 use swss_types::{Ip, OutOfMemory};
@@ -38,9 +38,9 @@ impl Model for SimChip {
 
     ghost Value = { Sim };
 
-    ghost view = { λ s. record { chip = record { objects = s.held; effects = s.effects.items; capacities = s.caps.0; clean = s.clean; faults = s.faults }; fails = s.fails; calls = s.calls } };
+    ghost view = { λ s. record { chip = record { objects = s.held; effects = s.effects.items; capacities = s.caps.0; fails = s.fails; clean = s.clean; faults = s.faults }; calls = s.calls } };
 
-    ghost invariant = { λ s. IsInOrder s.effects.items s.made s.faults s.calls };
+    ghost invariant = { λ s. IsInOrder s.effects.items s.fails s.made s.faults s.calls };
 }
 
 impl SimChip {
@@ -127,7 +127,7 @@ impl SimChip {
 
     /// Counts a call: whether it was legal, and whether the chip failed at it.
     fn count(&mut self, legal: bool, failed: bool)
-        requires { failed ≡ true → self.old.calls < 18446744073709551615 }
+        requires { failed ≡ true → IsSome (fault_of self.old) }
         ensures { self.new ≡ counted legal failed self.old }
     {
         self.clean = self.clean && legal;

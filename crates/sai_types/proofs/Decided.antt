@@ -1,6 +1,6 @@
 -- what an address's packets are decided by
-use Rattle.std.proofs.Common.{◌≡◌, ◌⊎◌, inl, inr, ℕ, ◌+◌, ◌-◌, ◌*◌, ◌/◌, ◌%◌, ◌^◌, ◌≤◌, ◌==◌, nat_lt, Bool, true, false, ◌||◌, ◌&&◌, List, [], ◌∷◌, Option, None, Some, if◌then◌else◌, refl, sym, ap, ◌∙◌, subst, arith}
-use Rattle.std.proofs.lemmas.Bool.{eqb-true, false≢true}
+use Rattle.std.proofs.Common.{◌≡◌, ◌⊎◌, inl, inr, ℕ, ◌+◌, ◌-◌, ◌*◌, ◌/◌, ◌%◌, ◌^◌, ◌≤◌, ◌==◌, nat_lt, Bool, true, false, ◌||◌, List, [], ◌∷◌, Option, None, Some, if◌then◌else◌, refl, sym, ap, ◌∙◌, subst, arith}
+use Rattle.std.proofs.lemmas.Bool.{and_parts, eqb-true, false≢true}
 use Rattle.std.proofs.lemmas.Bool.Decides.{nat_tests}
 use Rattle.std.proofs.lemmas.Nat.{div-add-mod'}
 use Rattle.std.specs.Cmp.{both_ways}
@@ -16,15 +16,15 @@ use Rattle.sai_types.specs.declared.thing.Thing.TheVariants as thing
 use Rattle.sai_types.specs.Alike.{IsIn}
 use Rattle.sai_types.specs.Decided.{AreRoutes, DecideAlike}
 use Rattle.sai_types.specs.Forwarding.{is_own, has_own, longer, with_route, best_route, decide}
-use Rattle.sai_types.specs.Refusal.{same_ip}
+use Rattle.sai_types.proofs.Exact.{ip-exact}
 
 -- the route of the longest prefix that covers an address, where it has this prefix and goal
-record IsBest (things : List Thing) (a : Ip) (p : Prefix) (g : Goal) : Type 0 where
-  here : IsIn (thing.Route p g) things
-  covering : covers p a ≡ true
-  longest : (q : Prefix) (h : Goal) → covers q a ≡ true → IsIn (thing.Route q h) things → q.len ≤ p.len
+pub record IsBest (things : List Thing) (a : Ip) (p : Prefix) (g : Goal) : Type 0 where
+  pub here : IsIn (thing.Route p g) things
+  pub covering : covers p a ≡ true
+  pub longest : (q : Prefix) (h : Goal) → covers q a ≡ true → IsIn (thing.Route q h) things → q.len ≤ p.len
 
-abbrev IsAnswer : List Thing → Ip → Option (Prefix × Goal) → Type 0
+abbrev pub IsAnswer : List Thing → Ip → Option (Prefix × Goal) → Type 0
 IsAnswer things a None = (q : Prefix) (h : Goal) → covers q a ≡ true → IsIn (thing.Route q h) things → ⊥
 IsAnswer things a (Some r) = IsBest things a r.0 r.1
 
@@ -91,7 +91,7 @@ step (thing.Group x) ts a o answer = aside (thing.Group x) ts a o (λ q h c e. c
 step (thing.GroupMember x y) ts a o answer = aside (thing.GroupMember x y) ts a o (λ q h c e. cc) answer
 
 -- the best route is one of the longest prefix that covers the address
-answer_is : (ts : List Thing) (a : Ip) → IsAnswer ts a (best_route ts a)
+pub answer_is : (ts : List Thing) (a : Ip) → IsAnswer ts a (best_route ts a)
 answer_is [] a = λ q h c i. i
 answer_is (t ∷ ts) a = step t ts a (best_route ts a) (answer_is ts a)
 
@@ -100,10 +100,6 @@ family_same V4 V4 h = refl
 family_same V6 V6 h = refl
 family_same V4 V6 h = absurd (false≢true h)
 family_same V6 V4 h = absurd (false≢true h)
-
-and_true : (a b : Bool) → (a && b) ≡ true → (a ≡ true) × (b ≡ true)
-and_true true b h = (refl, h)
-and_true false b h = absurd (false≢true h)
 
 whole_multiple : (d x y : ℕ) → x / d ≡ y / d → x % d ≡ 0 → y % d ≡ 0 → x ≡ y
 whole_multiple d x y q r s =
@@ -118,8 +114,8 @@ prefix_same p q x y z = λ i. record { ip = record { family = x i; bits = y i };
 -- proper prefixes of one length that cover one address are one prefix
 prefix_unique : (p q : Prefix) (a : Ip) → IsProperPrefix p → IsProperPrefix q → covers p a ≡ true → covers q a ≡ true → p.len ≡ q.len → p ≡ q
 prefix_unique p q a proper_p proper_q cov_p cov_q lens =
-    let in_p = and_true (same_family p.ip.family a.family) (front (width a.family - p.len) p.ip.bits == front (width a.family - p.len) a.bits) cov_p in
-    let in_q = and_true (same_family q.ip.family a.family) (front (width a.family - q.len) q.ip.bits == front (width a.family - q.len) a.bits) cov_q in
+    let in_p = and_parts (same_family p.ip.family a.family) (front (width a.family - p.len) p.ip.bits == front (width a.family - p.len) a.bits) cov_p in
+    let in_q = and_parts (same_family q.ip.family a.family) (front (width a.family - q.len) q.ip.bits == front (width a.family - q.len) a.bits) cov_q in
     let family_p : p.ip.family ≡ a.family = family_same p.ip.family a.family in_p.0 in
     let family_q : q.ip.family ≡ a.family = family_same q.ip.family a.family in_q.0 in
     let front_p : front (width a.family - p.len) p.ip.bits ≡ front (width a.family - p.len) a.bits = eqb-true _ _ in_p.1 in
@@ -129,19 +125,8 @@ prefix_unique p q a proper_p proper_q cov_p cov_q lens =
     let rest_q : q.ip.bits % 2 ^ (width a.family - p.len) ≡ 0 = ap (λ f. q.ip.bits % 2 ^ (width f - p.len)) (sym family_q) ∙ ap (λ l. q.ip.bits % 2 ^ (width q.ip.family - l)) lens ∙ proper_q.2 in
     prefix_same p q (family_p ∙ sym family_q) (whole_multiple (2 ^ (width a.family - p.len)) p.ip.bits q.ip.bits (front_p ∙ sym front_r) rest_p rest_q) lens
 
-ip_same : (f g : Family) (b c : ℕ) → same_ip (record { family = f; bits = b }) (record { family = g; bits = c }) ≡ true → (f ≡ g) × (b ≡ c)
-ip_same V4 V4 b c h = (refl, eqb-true b c h)
-ip_same V6 V6 b c h = (refl, eqb-true b c h)
-ip_same V4 V6 b c h = absurd (false≢true h)
-ip_same V6 V4 b c h = absurd (false≢true h)
-
-ip_from : (a b : Ip) → same_ip a b ≡ true → b ≡ a
-ip_from a b h =
-    let parts = ip_same a.family b.family a.bits b.bits h in
-    λ i. record { family = sym parts.0 i; bits = sym parts.1 i }
-
 own_is : (a : Ip) (t : Thing) → is_own a t ≡ true → thing.Own a ≡ t
-own_is a (thing.Own ip) h = ap thing.Own (ip_from ip a h)
+own_is a (thing.Own ip) h = ap thing.Own (sym (ip-exact ip a h))
 own_is a (thing.Port x) h = absurd (false≢true h)
 own_is a (thing.Vlan x) h = absurd (false≢true h)
 own_is a (thing.BridgePort x) h = absurd (false≢true h)

@@ -1,5 +1,5 @@
 -- objects with one name are one object
-use Rattle.std.proofs.Common.{◌≡◌, ℕ, ◌==◌, Bool, true, false, ◌||◌, ◌&&◌, List, [], ◌∷◌, slice_index, Option, None, Some, option_map, refl, sym, ap, ◌∙◌, rules}
+use Rattle.std.proofs.Common.{◌≡◌, ℕ, ◌==◌, Bool, true, false, ◌||◌, ◌&&◌, List, [], ◌∷◌, slice_index, Option, None, Some, option_map, refl, sym, ap, ◌∙◌}
 use Rattle.std.specs.List.{list_any}
 use Rattle.std.proofs.lemmas.Bool.{eqb-true, eq-eqb}
 use Rattle.swss_types.specs.declared.address.Ip.{Ip}
@@ -16,21 +16,19 @@ use Rattle.sai_types.specs.declared.body.Entry.TheVariants as entry
 use Rattle.sai_types.specs.Objects.{Objects, body_at}
 use Rattle.sai_types.specs.Refusal.{clash, same_id, same_ip, same_base, share_lane}
 use Rattle.sai_types.specs.Named.{port_of, vlan_of, port_at, vlan_at, bridge_port_of, bridge_port_at, base_on, rif_of, rif_at, hop_on, next_hop_of, next_hop_at, first_lane}
-use Rattle.sai_types.specs.Made.{same_entry, IsWhole, HaveLanes}
+use Rattle.sai_types.specs.Made.{IsWhole, HaveLanes}
+use Rattle.sai_types.proofs.Exact.{ids-tied}
 
 pub mapped : {X Y : Type 0} (f : X → Y) (o : Option X) (y : Y) → option_map f o ≡ Some y → (x : X) × (o ≡ Some x) × (f x ≡ y)
 mapped f None y h = absurd cc
 mapped f (Some x) y h = (x, refl, cc)
-
-ids_tied : (a b : Rid) → same_entry (entry.Oid a) (entry.Oid b) ≡ same_id a b
-ids_tied a b = search rules
 
 implies_by : (a b c d : Bool) → (a ≡ true → b ≡ true) → (c ≡ true → d ≡ true) → (a || c) ≡ true → (b || d) ≡ true
 implies_by true b c d f g h = ap (λ x. x || d) (f refl)
 implies_by false true c d f g h = refl
 implies_by false false c d f g h = g h
 
-both_true : (a b : Bool) → a ≡ true → b ≡ true → (a && b) ≡ true
+pub both_true : (a b : Bool) → a ≡ true → b ≡ true → (a && b) ≡ true
 both_true a b e f = cc
 
 port_bases : (a b : ℕ) → base.Port a ≡ base.Port b → a ≡ b
@@ -74,7 +72,7 @@ module _ (objects : Objects) where
   rif_found r b (Some _) e h = absurd cc
   rif_found r b None e h = absurd cc
 
-  next_hop_found : (r : Rid) (hop : Hop) (o : Option (Body Rid)) → body_at objects (entry.Oid r) ≡ o → next_hop_of objects o ≡ Some hop → (rif : Rid) × (ip : Ip) × (body_at objects (entry.Oid r) ≡ Some (body.NextHop rif ip)) × (hop_on objects rif ip ≡ Some hop)
+  pub next_hop_found : (r : Rid) (hop : Hop) (o : Option (Body Rid)) → body_at objects (entry.Oid r) ≡ o → next_hop_of objects o ≡ Some hop → (rif : Rid) × (ip : Ip) × (body_at objects (entry.Oid r) ≡ Some (body.NextHop rif ip)) × (hop_on objects rif ip ≡ Some hop)
   next_hop_found r hop (Some (body.NextHop rif ip)) e h = (rif, ip, e, h)
   next_hop_found r hop (Some _) e h = absurd cc
   next_hop_found r hop None e h = absurd cc
@@ -82,7 +80,7 @@ module _ (objects : Objects) where
 module _ (made : ℕ) (objects : Objects) (whole : IsWhole made objects) (have : HaveLanes objects) where
   -- two identifiers whose bodies clash are one
   one_id : (r s : Rid) (b d : Body Rid) → body_at objects (entry.Oid r) ≡ Some b → body_at objects (entry.Oid s) ≡ Some d → clash b d ≡ true → same_id r s ≡ true
-  one_id r s b d x y h = sym (ids_tied r s) ∙ whole.apart.each (entry.Oid r) (entry.Oid s) b d x y h
+  one_id r s b d x y h = sym (ids-tied r s) ∙ whole.apart.each (entry.Oid r) (entry.Oid s) b d x y h
 
   pub one_port : (r s : Rid) (n : ℕ) → port_at objects r ≡ Some n → port_at objects s ≡ Some n → same_id r s ≡ true
   one_port r s n x y =

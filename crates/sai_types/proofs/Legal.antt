@@ -13,8 +13,9 @@ use Rattle.sai_types.specs.declared.body.Body.TheVariants as body
 use Rattle.sai_types.specs.declared.body.Entry.{Entry}
 use Rattle.sai_types.specs.declared.body.Entry.TheVariants as entry
 use Rattle.sai_types.specs.Objects.{Objects, body_at}
-use Rattle.sai_types.specs.Refusal.{clash, first_of, refers_well, refers_to, attr_refers_well, create_refusal, set_refusal, remove_refusal}
+use Rattle.sai_types.specs.Refusal.{clash, first_of, create_refusal, set_refusal, remove_refusal}
 use Rattle.sai_types.specs.After.{entry_of}
+use Rattle.sai_types.specs.References.{attr_refers_well, refers_to, refers_well}
 use Rattle.sai_types.specs.Made.{same_entry, AreEntered}
 use Rattle.sai_types.proofs.Found.{any-found}
 

@@ -6,7 +6,6 @@ use Rattle.std.specs.List.Sorted.{IsStrictlySortedBy}
 use Rattle.std.specs.Map.{remove_entry}
 use Rattle.std.specs.Option.{is_some}
 use Rattle.std.proofs.lemmas.Bool.{false≢true}
-use Rattle.swss_types.specs.declared.address.Family.TheVariants.{V4}
 use Rattle.sai_types.specs.declared.ids.Rid.{Rid}
 use Rattle.sai_types.specs.declared.kind.Kind.{Kind}
 use Rattle.sai_types.specs.declared.body.Attr.{Attr}
@@ -17,7 +16,8 @@ use Rattle.sai_types.specs.declared.body.Entry.TheVariants as entry
 use Rattle.sai_types.specs.declared.body.Call.{Call}
 use Rattle.sai_types.specs.declared.body.Call.TheVariants as call
 use Rattle.sai_types.specs.Objects.{Objects, body_at, entry_cmp, is_kind_of, kind_of, level}
-use Rattle.sai_types.specs.Refusal.{clash, refers_well, refers_to, attr_refers_well, IsLegal}
+use Rattle.sai_types.specs.References.{Reference, attr_refers_well, is_meant, references, refers_to, refers_well, stands}
+use Rattle.sai_types.specs.Refusal.{clash, IsLegal}
 use Rattle.sai_types.specs.After.{after_call, after_calls, after_set, entry_of, has_id, with_attr}
 use Rattle.sai_types.specs.Made.{same_entry, IsWhole, AreLegal, made_after, made_after_all}
 use Rattle.sai_types.proofs.Apart.{clash-symm, clash-with_attr, entry_of-with_attr, kind_of-with_attr}
@@ -25,7 +25,7 @@ use Rattle.sai_types.proofs.Found.{same-symm, same-trans, body_at-same, body_at-
 use Rattle.sai_types.proofs.Legal.{legal-create, legal-set, legal-remove, fresh}
 use Rattle.sai_types.proofs.Entries.{entry_total}
 use Rattle.sai_types.proofs.Maps.{sorted-insert_entry}
-use Rattle.sai_types.proofs.Refer.{refers_well-left, refers_well-with_attr}
+use Rattle.sai_types.proofs.Refer.{all-kept, refers_well-left, refers_well-with_attr}
 
 -- an object that is found where one was put: the one that was put, or one that was there
 found_put : (t : Bool) (b d : Body Rid) (rest : Option (Body Rid)) → cond t (Some b) rest ≡ Some d → ((t ≡ true) × (d ≡ b)) ⊎ (rest ≡ Some d)
@@ -46,18 +46,15 @@ is_some-kept : (x y : Option (Body Rid)) → ((d : Body Rid) → x ≡ Some d �
 is_some-kept None y f h = absurd (false≢true h)
 is_some-kept (Some d) y f h = ap is_some (f d refl).1
 
--- an address by which nothing is referred to
-nowhere : Entry Rid
-nowhere = entry.Own (record { family = V4; bits = 0 })
+meant-kept : (r : Reference Rid) (x y : Option (Body Rid)) → ((d : Body Rid) → x ≡ Some d → (e : Body Rid) × (y ≡ Some e) × (kind_of e ≡ kind_of d)) → is_meant r x ≡ true → is_meant r y ≡ true
+meant-kept (k, entry.Oid r) x y f h = is_kind_of-kept k x y f h
+meant-kept (k, entry.Own ip) x y f h = is_some-kept x y f h
+meant-kept (k, entry.Neigh r ip) x y f h = is_some-kept x y f h
+meant-kept (k, entry.Route p) x y f h = is_some-kept x y f h
 
 -- what refers well does so where each object is kept with its kind
 keeps_referring : (xs ys : Objects) → ((e : Entry Rid) (d : Body Rid) → body_at xs e ≡ Some d → (d' : Body Rid) × (body_at ys e ≡ Some d') × (kind_of d' ≡ kind_of d)) → (b : Body Rid) → refers_well xs b ≡ true → refers_well ys b ≡ true
-unfolding nowhere
-keeps_referring xs ys kept b h =
-    refers_well-left xs ys nowhere
-    (λ k r apart there. is_kind_of-kept k (body_at xs (entry.Oid r)) (body_at ys (entry.Oid r)) (kept (entry.Oid r)) there)
-    (λ r ip apart there. is_some-kept (body_at xs (entry.Neigh r ip)) (body_at ys (entry.Neigh r ip)) (kept (entry.Neigh r ip)) there)
-    b refl h
+keeps_referring xs ys kept b h = all-kept (stands xs) (stands ys) (λ r there. meant-kept r (body_at xs r.1) (body_at ys r.1) (kept r.1) there) (references b) h
 
 -- the entry of a new object, by the identifiers made after it
 entered_new : (made : ℕ) (b : Body Rid) → (n : ℕ) × (n ≤ (if has_id b then made + 1 else made)) × (entry_of n b ≡ entry_of (made + 1) b)
@@ -191,10 +188,7 @@ module _ (made : ℕ) (objects : Objects) (whole : IsWhole made objects) (e : En
     apart = record { each = λ q f c d x y h. whole.apart.each q f c d (was_left q c x) (was_left f d y) h };
     refer = record {
       each = λ q d h.
-          refers_well-left objects without e
-          (λ k r apart there. ap (is_kind_of k) (stays (entry.Oid r) apart) ∙ there)
-          (λ r ip apart there. ap is_some (stays (entry.Neigh r ip) apart) ∙ there)
-          d (any-found (λ b. refers_to b e) objects q d unused (was_left q d h)) (whole.refer.each q d (was_left q d h));
+          refers_well-left objects without e (λ r apart there. ap (is_meant r) (stays r.1 (same-symm e r.1 ∙ apart)) ∙ there) d (any-found (λ b. refers_to b e) objects q d unused (was_left q d h)) (whole.refer.each q d (was_left q d h));
     };
   }
 

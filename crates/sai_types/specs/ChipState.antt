@@ -3,6 +3,7 @@ use Rattle.std.specs.Prelude.{◌≡◌, ℕ, ◌<◌, Bool, true, false, ◌&&�
 use Rattle.sai_types.specs.declared.ids.Rid.{Rid}
 use Rattle.sai_types.specs.declared.body.Call.{Call}
 use Rattle.sai_types.specs.declared.body.Object.{Object}
+use Rattle.sai_types.specs.declared.fail.Fail.{Fail}
 use Rattle.sai_types.specs.declared.answer.ChipAnswer.{ChipAnswer}
 use Rattle.sai_types.specs.declared.answer.ChipAnswer.TheVariants as answer
 use Rattle.sai_types.specs.declared.answer.ListAnswer.{ListAnswer}
@@ -11,17 +12,18 @@ use Rattle.sai_types.specs.Objects.{Objects}
 use Rattle.sai_types.specs.Refusal.{refusal_of, is_legal, IsLegal}
 use Rattle.sai_types.specs.After.{after_call, makes_id, next_id}
 
--- the objects in the order of their entries; the calls that took effect, in order; the room for each kind; whether each call so far was legal; how often the chip failed
+-- the objects in the order of their entries; the calls that took effect, in order; the room for each kind; the calls at which it is made to fail; whether each call so far was legal; how often the chip failed
 pub record ChipState : Type 0 where
   pub objects : Objects
   pub effects : List (Call Rid)
   pub capacities : List ℕ
+  pub fails : List Fail
   pub clean : Bool
   pub faults : ℕ
 
 -- a new chip
-abbrev pub new_chip : List ℕ → ChipState
-new_chip capacities = record { objects = []; effects = []; capacities = capacities; clean = true; faults = 0 }
+abbrev pub new_chip : List ℕ → List Fail → ChipState
+new_chip capacities fails = record { objects = []; effects = []; capacities = capacities; fails = fails; clean = true; faults = 0 }
 
 -- a call that took effect: it was legal, the objects changed by it, and it ends the list of effects
 pub record TakesEffect (old : ChipState) (c : Call Rid) (new : ChipState) : Type 0 where
@@ -50,11 +52,12 @@ Answers old c answer.Full new = IsRefused old c answer.Full new
 Answers old c answer.Failed new = (StaysSame old new ⊎ TakesEffect old c new) × (old.faults < new.faults)
 Answers old c answer.NoMemory new = StaysSame old new × (new.faults ≡ old.faults)
 
--- a call and its answer: the chip stays clean only where the call was legal, and keeps its room
+-- a call and its answer: the chip stays clean only where the call was legal, and keeps what it was made with
 pub record IsAnswered (old : ChipState) (c : Call Rid) (a : ChipAnswer) (new : ChipState) : Type 0 where
   pub answer : Answers old c a new
   pub clean : new.clean ≡ (old.clean && is_legal old.capacities old.objects c)
   pub capacities : new.capacities ≡ old.capacities
+  pub fails : new.fails ≡ old.fails
 
 -- an object as a list of the chip gives it
 abbrev pub objects_of : Objects → List (Object Rid)
@@ -71,3 +74,4 @@ pub record IsListed (old : ChipState) (a : ListAnswer) (out out' : List (Object 
   pub same : StaysSame old new
   pub clean : new.clean ≡ old.clean
   pub capacities : new.capacities ≡ old.capacities
+  pub fails : new.fails ≡ old.fails

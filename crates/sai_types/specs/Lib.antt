@@ -3,8 +3,12 @@ pub mod Alike
 pub mod ChipState
 pub mod Decided
 pub mod Forwarding
+pub mod Hop
 pub mod Made
 pub mod Named
+pub mod Names
 pub mod Objects
+pub mod Order
 pub mod Pairing
+pub mod References
 pub mod Refusal

@@ -11,11 +11,12 @@ use Rattle.sai_types.specs.declared.body.Entry.{Entry}
 use Rattle.sai_types.specs.declared.body.Call.{Call}
 use Rattle.sai_types.specs.declared.body.Call.TheVariants as call
 use Rattle.sai_types.specs.declared.thing.Thing.{Thing}
-use Rattle.sai_types.specs.Alike.{NaturalKey, natural_key}
-use Rattle.sai_types.specs.Alike as key
 use Rattle.sai_types.specs.Named.{thing_of}
+use Rattle.sai_types.specs.Names.{Name, name_of}
+use Rattle.sai_types.specs.Names as name
 use Rattle.sai_types.specs.Objects.{Objects, body_at, entry_cmp}
-use Rattle.sai_types.specs.Refusal.{clash, refers_well, IsLegal}
+use Rattle.sai_types.specs.References.{refers_well}
+use Rattle.sai_types.specs.Refusal.{clash, IsLegal}
 use Rattle.sai_types.specs.After.{after_call, entry_of, makes_id}
 
 abbrev pub same_entry : Entry Rid → Entry Rid → Bool
@@ -72,12 +73,12 @@ has_first _ = true
 pub record HaveLanes (objects : Objects) : Type 0 where
   pub each : (e : Entry Rid) (b : Body Rid) → body_at objects e ≡ Some b → has_first b ≡ true
 
--- whether no two things have this natural key: groups and their members may have the hops of others
-abbrev pub is_one : NaturalKey → Bool
-is_one (key.Group hops) = false
-is_one (key.GroupMember hops hop) = false
+-- whether no two things have this name: groups and their members may have the hops of others
+abbrev pub is_one : Name → Bool
+is_one (name.Group hops) = false
+is_one (name.GroupMember hops hop) = false
 is_one _ = true
 
--- two objects that stand for things of one natural key are one object, but groups and their members
+-- two objects that stand for things of one name are one object, but groups and their members
 pub record HaveOneEach (objects : Objects) : Type 0 where
-  pub each : (e f : Entry Rid) (b d : Body Rid) (x y : Thing) → body_at objects e ≡ Some b → body_at objects f ≡ Some d → thing_of objects (e, b) ≡ Some x → thing_of objects (f, d) ≡ Some y → natural_key x ≡ natural_key y → is_one (natural_key x) ≡ true → same_entry e f ≡ true
+  pub each : (e f : Entry Rid) (b d : Body Rid) (x y : Thing) → body_at objects e ≡ Some b → body_at objects f ≡ Some d → thing_of objects (e, b) ≡ Some x → thing_of objects (f, d) ≡ Some y → name_of x ≡ name_of y → is_one (name_of x) ≡ true → same_entry e f ≡ true

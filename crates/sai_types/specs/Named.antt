@@ -1,13 +1,11 @@
 -- What stands on a chip, up to identifiers: each object with its identifiers replaced by the natural keys of what they name. Own; the natural keys are those of the OCP SAI headers' key attributes.
 use Rattle.std.specs.Prelude.{ℕ, List, [], ◌∷◌, Option, Some, None, slice_index, option_map, if◌then◌else◌}
 use Rattle.std.specs.BTreeSet.{insert_key}
-use Rattle.std.specs.declared.cmp.Ordering.{Ordering}
 use Rattle.swss_types.specs.declared.address.Ip.{Ip}
 use Rattle.sai_types.specs.declared.ids.Rid.{Rid}
 use Rattle.sai_types.specs.declared.hop.Base.{Base}
 use Rattle.sai_types.specs.declared.hop.Base.TheVariants as base
 use Rattle.sai_types.specs.declared.hop.Hop.{Hop}
-use Rattle.sai_types.specs.contracts.hop.HopOrd.TheImpl as hop_ord
 use Rattle.sai_types.specs.declared.thing.Goal.{Goal}
 use Rattle.sai_types.specs.declared.thing.Goal.TheVariants as goal
 use Rattle.sai_types.specs.declared.thing.Thing.{Thing}
@@ -20,12 +18,9 @@ use Rattle.sai_types.specs.declared.body.RifOn.{RifOn}
 use Rattle.sai_types.specs.declared.body.RifOn.TheVariants as on
 use Rattle.sai_types.specs.declared.body.To.{To}
 use Rattle.sai_types.specs.declared.body.To.TheVariants as to
+pub use Rattle.sai_types.specs.Hop.{hop_cmp}
 use Rattle.sai_types.specs.Objects.{Objects, body_at}
 use Rattle.sai_types.specs.Refusal.{same_id}
-
--- the order of hops: by what the interface stands on, then by address
-abbrev pub hop_cmp : Hop → Hop → Ordering
-hop_cmp = hop_ord.ghosts.cmp
 
 -- two parts of a name
 abbrev pub both : {A B C : Type 0} → (A → B → C) → Option A → Option B → Option C

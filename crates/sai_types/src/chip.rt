@@ -1,12 +1,13 @@
 // The chip as the service sees it.
-ghost use Rattle.std.specs.Prelude.{◌≡◌, length};
+ghost use Rattle.std.specs.Prelude.{◌≡◌, ◌≤◌, length};
 ghost use Rattle.sai_types.specs.ChipState.{IsAnswered, IsListed};
 ghost use Rattle.sai_types.specs.Objects.{used};
 ghost use Rattle.sai_types.specs.Refusal.{capacity_of};
 
 use crate::{Call, ChipAnswer, Kind, ListAnswer, Object, Rid};
 
-/// A SAI chip: it answers each call by the table of answers (docs/FORMATS.md), and counts its faults.
+/// A SAI chip: it answers each call by the table of answers (docs/FORMATS.md), and counts its faults. Its capacities and
+/// the calls at which it is made to fail stay.
 pub trait Chip {
     ghost use Rattle.sai_types.specs.ChipState.{ChipState};
 
@@ -33,7 +34,8 @@ pub trait Chip {
     fn effects(&self) -> u64
         ensures { result ≡ length (state self.now).effects };
 
-    /// How many calls the chip failed at so far.
+    /// How many calls the chip failed at so far: no more than it is made to fail at.
     fn faults(&self) -> u64
-        ensures { result ≡ (state self.now).faults };
+        ensures faults { result ≡ (state self.now).faults }
+        ensures made { (state self.now).faults ≤ length (state self.now).fails };
 }

@@ -6,6 +6,7 @@ ghost use Rattle.std.specs.Cmp.{partial_order_from_own_ties};
 ghost use Rattle.std.specs.Cmp.Rules.{comparing};
 ghost use Rattle.std.specs.Cmp.Lexicographic.{slice_cmp, pointwise, lists_ties};
 ghost use Rattle.std.specs.Ordering.{as_partial_cmp};
+ghost use Rattle.sai_types.specs.Hop.{AreRisingHops};
 ghost use Rattle.sai_types.specs.contracts.hop.HopPartialEq.TheImpl.Laws as same_hop;
 ghost use Rattle.sai_types.specs.contracts.hop.HopEq.TheImpl.Laws as equal_hop;
 ghost use Rattle.sai_types.specs.contracts.hop.HopOrd.TheImpl.Laws as ordered_hop;
@@ -28,7 +29,11 @@ impl Model for Hops {
 
     ghost Value = { List Hop };
 
+    ghost use Rattle.sai_types.specs.Hop.{AreRisingHops};
+
     ghost view = { λ h. h.hops.items };
+
+    ghost invariant = { λ h. AreRisingHops h.hops.items };
 }
 
 impl Hops {
@@ -46,12 +51,13 @@ impl Hops {
         ensures ok { OnOk result (self.new ≡ insert_key ⟦<Hop as Ord>⟧.cmp self.old hop) }
         ensures err { OnErr result (self.new ≡ self.old) }
     {
-        insert_rising(&mut self.hops, hop)
+        put_hop(&mut self.hops, hop)
     }
 
-    /// The hops, rising.
+    /// The hops, rising, so each stands once.
     pub fn items(&self) -> &[Hop]
-        ensures { result.now ≡ self.now }
+        ensures value { result.now ≡ self.now }
+        ensures rising { AreRisingHops result.now }
     {
         self.hops.as_slice()
     }
@@ -64,6 +70,16 @@ impl Hops {
             hops: self.hops.clone()?,
         })
     }
+}
+
+/// Puts a hop into its place among hops that rise, unless it is there.
+fn put_hop(hops: &mut Vec<Hop>, hop: Hop) -> Result<(), OutOfMemory>
+    requires { AreRisingHops hops.old.items }
+    ensures ok { OnOk result (hops.new.items ≡ insert_key ⟦<Hop as Ord>⟧.cmp hops.old.items hop) }
+    ensures err { OnErr result (hops.new.items ≡ hops.old.items) }
+    ensures rising { AreRisingHops hops.new.items }
+{
+    insert_rising(hops, hop)
 }
 
 impl PartialEq for Hops {

@@ -14,7 +14,13 @@ ghost use Rattle.swss_types.specs.declared.address.Ip.{Ip};
 ghost use Rattle.sai_types.specs.declared.thing.Thing.{Thing};
 ghost use Rattle.sai_types.specs.Decided.{AreRoutes, DecideAlike};
 ghost use Rattle.sai_types.specs.Forwarding.{decide};
+ghost use Rattle.std.specs.Ordering.{ordering_then};
+ghost use Rattle.std.specs.declared.cmp.Ordering.{Ordering};
+ghost use Rattle.sai_types.specs.declared.hop.Hop.{Hop};
+ghost use Rattle.sai_types.specs.Order.{hop_order, thing_order};
 ghost use Rattle.sai_types.specs.Made.{AreLegal, AreSorted, HaveLanes, HaveOneEach, IsWhole, entry_named, made_after, made_after_all, same_entry};
+
+use crate::{Hop, Thing};
 
 /// An object that was made is found under its entry.
 pub fn made_is_found()
@@ -61,7 +67,7 @@ pub fn calls_keep_whole()
     ensures { (capacities : List ℕ) (made : ℕ) (objects : Objects) (calls : List (Call Rid)) → IsWhole made objects → AreLegal capacities made objects calls → IsWhole (made_after_all made calls) (after_calls made objects calls) }
 {}
 
-/// In a whole state in which each port has a lane, two objects that stand for things of one natural key are one object,
+/// In a whole state in which each port has a lane, two objects that stand for things of one name are one object,
 /// but groups and their members.
 pub fn keys_are_taken_once()
     ensures { (made : ℕ) (objects : Objects) → IsWhole made objects → HaveLanes objects → HaveOneEach objects }
@@ -71,4 +77,11 @@ pub fn keys_are_taken_once()
 /// whatever order. So an address has one answer, and stays decided as it was while no route that covers it changes.
 pub fn decided_by_what_stands()
     ensures { (things others : List Thing) (a : Ip) → AreRoutes others → DecideAlike things others a → decide things a ≡ decide others a }
+{}
+
+/// Hops are ordered by what their interfaces stand on, ports before VLANs, and then by address. Things are ordered by
+/// their kinds, as the chip's table has them, then by their natural keys, and then by what can be set on them.
+pub fn hops_and_things_are_ordered()
+    ensures hops { (a b : Hop) → ⟦<Hop as Ord>⟧.cmp a b ≡ hop_order a b }
+    ensures things { (t u : Thing) → (rest : Ordering) × (⟦<Thing as Ord>⟧.cmp t u ≡ ordering_then (thing_order t u) rest) }
 {}

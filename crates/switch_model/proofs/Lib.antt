@@ -3,3 +3,4 @@ pub mod ReadRows
 pub mod References
 pub mod Worked
 pub mod WorkedWaits
+pub mod WorkedRoom

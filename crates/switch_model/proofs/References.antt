@@ -28,14 +28,14 @@ use Rattle.sai_types.specs.declared.hop.Hop.{Hop}
 use Rattle.sai_types.specs.declared.thing.Goal.TheVariants as goal
 use Rattle.sai_types.specs.declared.thing.Thing.{Thing}
 use Rattle.sai_types.specs.declared.thing.Thing.TheVariants as thing
-use Rattle.sai_types.specs.Alike.{IsIn, NaturalKey, natural_key}
-use Rattle.sai_types.specs.Alike as natural
+use Rattle.sai_types.specs.Alike.{IsIn}
 use Rattle.sai_types.specs.Named.{both, first_lane, hop_cmp}
+use Rattle.sai_types.specs.Names as thing_name
+use Rattle.sai_types.specs.Names.{Name, base_name, name_of, thing_references}
 use Rattle.switch_model.specs.Desired.{IsClosed, IsThingOf, desired_view, have_rows, ready_rows}
 use Rattle.switch_model.specs.Good.{TypedRows, good_rows}
-use Rattle.switch_model.specs.References.{Reference, base_reference, references, IsTo, IsSelfContained}
-use Rattle.switch_model.specs.References as refer
-use Rattle.switch_model.specs.Things.{base_of, from_base, from_hops, from_lane, hop_of, hops_of, lane_of, members_of, route_things, route_to, things_of}
+use Rattle.switch_model.specs.References.{IsSelfContained}
+use Rattle.switch_model.specs.Things.{base_of, from_base, from_hops, from_lane, hop_of, hops_of, lane_of, members_of, own_things, route_things, route_to, things_of}
 use Rattle.switch_model.proofs.ReadRows.{IsRead, IsRead-good, intf_read, neigh_read, port_read, vlan_read}
 use Rattle.switch_model.proofs.Ready.{IsClosed-ready, both_true, ready-there}
 
@@ -83,41 +83,41 @@ AllIn-insert P cmp (y ∷ ys) x h all = by (cmp x y) (AllIn-insert P cmp ys x h 
     by Greater more = (all.0, more)
 
 module _ (plan : Ports) (rows : TypedRows) (closed : IsClosed rows) (read : (k : Key) (r : Row) → rows k ≡ Some r → IsRead plan k r) where
-  -- some thing of the rows is what the reference is to
-  abbrev IsMet : Reference → Type 0
-  IsMet reference = (y : Thing) × IsThingOf plan rows y × IsTo reference y
+  -- some thing of the rows has the name
+  abbrev IsMet : Name → Type 0
+  IsMet k = (y : Thing) × IsThingOf plan rows y × (name_of y ≡ k)
 
   abbrev AreMet : Thing → Type 0
-  AreMet x = AllIn IsMet (references x)
+  AreMet x = AllIn IsMet (thing_references x)
 
-  -- a thing of a row meets the references to its natural key
-  met_by : (k : Key) (r : Row) (y : Thing) → rows k ≡ Some r → IsIn y (things_of plan k r) → IsMet (refer.ToThing (natural_key y))
+  -- a thing of a row meets the references to its name
+  met_by : (k : Key) (r : Row) (y : Thing) → rows k ≡ Some r → IsIn y (things_of plan k r) → IsMet (name_of y)
   met_by k r y is h = (y, (k, r, is, h), refl)
 
-  port_met : (port lane : ℕ) (r : Row) → rows (key.Port port) ≡ Some r → lane_of plan port ≡ Some lane → IsMet (refer.ToPort lane)
+  port_met : (port lane : ℕ) (r : Row) → rows (key.Port port) ≡ Some r → lane_of plan port ≡ Some lane → IsMet (thing_name.Port lane)
   port_met port lane r is at =
       let p = port_read plan port r (read (key.Port port) r is) in
       let here : lane_of plan port ≡ Some (first_lane (p.0).lanes) = ap (option_map first_lane) p.2 in
       let same : first_lane (p.0).lanes ≡ lane = some_is (first_lane (p.0).lanes) lane (lane_of plan port) here at in
       let made = thing.Port (record { lanes = (p.0).lanes; speed = (p.0).speed; mtu = (p.0).mtu; up = (p.0).up }) in
-      (made, (key.Port port, row.Port p.0, is ∙ ap Some p.1, subst (λ o. IsIn made (from_lane (λ lane. made ∷ []) o)) (sym here) (inl refl)), same)
+      (made, (key.Port port, row.Port p.0, is ∙ ap Some p.1, subst (λ o. IsIn made (from_lane (λ lane. made ∷ []) o)) (sym here) (inl refl)), ap thing_name.Port same)
 
-  vlan_met : (vlan : ℕ) (r : Row) → rows (key.Vlan vlan) ≡ Some r → IsMet (refer.ToThing (natural.Vlan vlan))
+  vlan_met : (vlan : ℕ) (r : Row) → rows (key.Vlan vlan) ≡ Some r → IsMet (thing_name.Vlan vlan)
   vlan_met vlan r is = met_by (key.Vlan vlan) row.Vlan (thing.Vlan vlan) (is ∙ ap Some (vlan_read plan vlan r (read (key.Vlan vlan) r is))) (inl refl)
 
   -- what an interface stands on
-  base_met : (on : IfName) (b : Base) → have_rows rows (base_names on) ≡ true → base_of plan on ≡ Some b → IsMet (base_reference b)
+  base_met : (on : IfName) (b : Base) → have_rows rows (base_names on) ≡ true → base_of plan on ≡ Some b → IsMet (base_name b)
   base_met (name.Ethernet port) b named h =
       let there = one_there rows (key.Port port) named in
       let lane = mapped base.Port (lane_of plan port) b h in
-      subst (λ x. IsMet (base_reference x)) lane.2 (port_met port lane.0 there.0 there.1 lane.1)
+      subst (λ x. IsMet (base_name x)) lane.2 (port_met port lane.0 there.0 there.1 lane.1)
   base_met (name.Vlan vlan) b named h =
       let there = one_there rows (key.Vlan vlan) named in
       let is : base.Vlan vlan ≡ b = cc in
-      subst (λ x. IsMet (base_reference x)) is (vlan_met vlan there.0 there.1)
+      subst (λ x. IsMet (base_name x)) is (vlan_met vlan there.0 there.1)
   base_met (name.Loopback number) b named h = absurd cc
 
-  rif_met : (on : IfName) (b : Base) (r : Row) → rows (key.Intf on) ≡ Some r → base_of plan on ≡ Some b → IsMet (refer.ToThing (natural.Rif b))
+  rif_met : (on : IfName) (b : Base) (r : Row) → rows (key.Intf on) ≡ Some r → base_of plan on ≡ Some b → IsMet (thing_name.Rif b)
   rif_met on b r is at =
       met_by (key.Intf on) row.Intf (thing.Rif b) (is ∙ ap Some (intf_read plan on r (read (key.Intf on) r is)))
       (subst (λ o. IsIn (thing.Rif b) (from_base (λ b. thing.Rif b ∷ []) o)) (sym at) (inl refl))
@@ -126,7 +126,7 @@ module _ (plan : Ports) (rows : TypedRows) (closed : IsClosed rows) (read : (k :
   through b ip = record { on = b; ip = ip }
 
   abbrev IsHopMet : Hop → Type 0
-  IsHopMet hop = IsMet (refer.ToThing (natural.NextHop hop))
+  IsHopMet hop = IsMet (thing_name.NextHop hop)
 
   hop_met : (on : IfName) (ip : Ip) (b : Base) (r : Row) → rows (key.Neigh on ip) ≡ Some r → base_of plan on ≡ Some b → IsHopMet (through b ip)
   hop_met on ip b r is at =
@@ -144,12 +144,12 @@ module _ (plan : Ports) (rows : TypedRows) (closed : IsClosed rows) (read : (k :
       let here = subst IsHopMet on.2 (hop_met hop.on hop.ip on.0 there.0 there.1 on.1) in
       subst (AllIn IsHopMet) parts.4 (AllIn-insert IsHopMet hop_cmp parts.0 parts.1 here (hops_met hops parts.0 first.1 parts.2))
 
-  members_met : (group hops : List Hop) → IsMet (refer.ToThing (natural.Group group)) → AllIn IsHopMet hops → AllIn AreMet (members_of group hops)
+  members_met : (group hops : List Hop) → IsMet (thing_name.Group group) → AllIn IsHopMet hops → AllIn AreMet (members_of group hops)
   members_met group [] whole all = tt
   members_met group (hop ∷ hops) whole all = ((whole, (all.0, tt)), members_met group hops whole all.1)
 
   -- a route's things
-  route_met : (prefix : Prefix) (group : List Hop) → AllIn IsHopMet group → ((y : Thing) → IsIn y (route_to prefix group) → IsMet (refer.ToThing (natural_key y))) → AllIn AreMet (route_to prefix group)
+  route_met : (prefix : Prefix) (group : List Hop) → AllIn IsHopMet group → ((y : Thing) → IsIn y (route_to prefix group) → IsMet (name_of y)) → AllIn AreMet (route_to prefix group)
   route_met prefix [] all there = tt
   route_met prefix (hop ∷ []) all there = ((all.0, tt), tt)
   route_met prefix (hop ∷ next ∷ hops) all there =
@@ -199,21 +199,26 @@ module _ (plan : Ports) (rows : TypedRows) (closed : IsClosed rows) (read : (k :
   port_by port made None each = tt
   port_by port made (Some lane) each = (each lane, tt)
 
+  own_by : (on : IfName) (ip : Ip) → AllIn AreMet (own_things plan on ip)
+  own_by (name.Ethernet port) ip = port_by port (λ lane. thing.Own ip) (lane_of plan port) (λ lane. tt)
+  own_by (name.Vlan vlan) ip = (tt, tt)
+  own_by (name.Loopback number) ip = (tt, tt)
+
   -- the things of a row of this key
   row_met : (k : Key) (r : Row) → rows k ≡ Some r → have_rows rows (names_of k r) ≡ true → AllIn AreMet (things_of plan k r)
   row_met (key.Port port) (row.Port p) is named = port_by port (λ lane. thing.Port (record { lanes = p.lanes; speed = p.speed; mtu = p.mtu; up = p.up })) (lane_of plan port) (λ lane. tt)
   row_met (key.Vlan vlan) row.Vlan is named = (tt, tt)
   row_met (key.Member vlan port) (row.Member tagging) is named = member_by vlan port tagging (lane_of plan port) is named refl
   row_met (key.Intf on) row.Intf is named = rif_by on (base_of plan on) named refl
-  row_met (key.Addr on ip len) row.Addr is named = (tt, tt)
+  row_met (key.Addr on ip len) row.Addr is named = own_by on ip
   row_met (key.Neigh on ip) (row.Neigh mac) is named = neigh_by on ip mac (base_of plan on) is named refl
   row_met (key.Route prefix) (row.Route target) is named = target_met prefix target is named
   row_met _ _ is named = tt
 
   -- closed rows that read have all that their things refer to
   pub IsSelfContained-closed : IsSelfContained (IsThingOf plan rows)
-  IsSelfContained-closed x reference (k, r, is, h) refers =
-      one_of IsMet reference (references x) (one_of AreMet x (things_of plan k r) (row_met k r is (closed k r is)) h) refers
+  IsSelfContained-closed x n (k, r, is, h) refers =
+      one_of IsMet n (thing_references x) (one_of AreMet x (things_of plan k r) (row_met k r is (closed k r is)) h) refers
 
 -- and so has the desired view
 pub IsSelfContained-desired_view : (plan : Ports) (rows : Rows) → IsSelfContained (desired_view plan rows)

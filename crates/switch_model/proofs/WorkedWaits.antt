@@ -21,7 +21,7 @@ use Rattle.table_schema.specs.declared.write.Write.TheVariants as write
 use Rattle.sai_types.specs.Alike.{IsIn}
 use Rattle.switch_model.specs.Desired.{IsClosed, desired_view, have_rows}
 use Rattle.switch_model.specs.Good.{TypedRows}
-use Rattle.switch_model.specs.Marks.{IsTrueReason, Waiting, first_missing, writes_of}
+use Rattle.switch_model.specs.Marks.{IsTrueReason, Waiting, first_missing, sent_writes}
 use Rattle.switch_model.specs.Promises.{IsSettled, applied_at, good_rows_at}
 use Rattle.switch_model.specs.declared.mark.Mark.{Mark}
 use Rattle.switch_model.specs.declared.mark.MarkEvent.TheVariants as event
@@ -88,7 +88,7 @@ no_row k r h = by (is_at (key_cmp k) lone_route) refl h
 
     by : (t : Bool) → is_at (key_cmp k) lone_route ≡ t → cond t None (route_good k) ≡ Some r → ⊥
     by true at h = cc
-    by false at h = let there = only (good_in plan k (rows_of (writes_of route_sent)) r h) in cc
+    by false at h = let there = only (good_in plan k (rows_of (sent_writes route_sent)) r h) in cc
 
 route_is_settled : IsSettled plan room route_sent [] route_mark route_waits
 route_is_settled = record {
@@ -161,7 +161,7 @@ applied_in k r h = by (is_at (key_cmp k) held) refl h
   where
     by : (t : Bool) → is_at (key_cmp k) held ≡ t → cond t (Some row.Intf) (held_good k) ≡ Some r → IsIn k applied_keys
     by true at h = inl (same_key k held at)
-    by false at h = inr (good_in plan k (rows_of (writes_of held_sent)) r h)
+    by false at h = inr (good_in plan k (rows_of (sent_writes held_sent)) r h)
 
 -- the interface, its port and its neighbour are applied, and all the others
 held_is_closed : IsClosed all_applied

@@ -1,7 +1,9 @@
 -- What contracts see of a log. Own.
-use Rattle.std.specs.Prelude.{ℕ, List, [], ◌∷◌, ◌++◌, length}
+use Rattle.std.specs.Prelude.{ℕ, ◌+◌, List, [], ◌∷◌, ◌++◌, length}
 use Rattle.table_schema.specs.declared.write.Sent.{Sent}
 use Rattle.switch_model.specs.declared.mark.Mark.{Mark}
+use Rattle.switch_model.specs.declared.mark.MarkEvent.{MarkEvent}
+use Rattle.switch_model.specs.declared.mark.MarkEvent.TheVariants as event
 
 -- the writes taken, the marks, and the number of marks at the end of each round
 pub record History : Type 0 where
@@ -21,3 +23,17 @@ with_mark h mark = record h { marks = h.marks ++ mark ∷ [] }
 -- a round ends at the marks so far
 abbrev pub with_end : History → History
 with_end h = record h { ends = h.ends ++ length h.marks ∷ [] }
+
+-- how many keys a mark lists, and marks together
+abbrev pub keys_listed : MarkEvent → ℕ
+keys_listed (event.Settled waits turns) = length waits
+keys_listed (event.ApplyBegan mode waits) = length waits
+keys_listed _ = 0
+
+abbrev pub listed_by : List Mark → ℕ
+listed_by [] = 0
+listed_by (mark ∷ marks) = keys_listed mark.event + listed_by marks
+
+-- the size of a log beside so many effects: a place for each of these, each write taken, each mark and each key that a mark lists
+abbrev pub log_size : History → ℕ → ℕ
+log_size h effects = effects + length h.taken + length h.marks + listed_by h.marks

@@ -4,5 +4,7 @@ pub mod History
 pub mod Marks
 pub mod Promises
 pub mod References
+pub mod Room
 pub mod Sound
+pub mod Steady
 pub mod Things

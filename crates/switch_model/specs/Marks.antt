@@ -6,13 +6,15 @@ use Rattle.std.specs.Ordering.{is_le}
 use Rattle.table_schema.specs.declared.key.Key.{Key}
 use Rattle.table_schema.specs.declared.row.Row.{Row}
 use Rattle.table_schema.specs.declared.write.Write.{Write}
+use Rattle.table_schema.specs.declared.write.Write.TheVariants as write
 use Rattle.table_schema.specs.declared.write.Sent.{Sent}
 use Rattle.table_schema.specs.Key.{key_cmp}
 use Rattle.table_schema.specs.Names.{names_of}
 use Rattle.table_schema.specs.Plan.{Ports}
 use Rattle.sai_types.specs.declared.kind.Kind.{Kind}
 use Rattle.sai_types.specs.declared.thing.Thing.{Thing}
-use Rattle.sai_types.specs.Alike.{IsIn, NaturalKey, natural_key, thing_kind}
+use Rattle.sai_types.specs.Alike.{IsIn}
+use Rattle.sai_types.specs.Names.{Name, name_of, thing_kind}
 use Rattle.sai_types.specs.Objects.{level}
 use Rattle.sai_types.specs.Refusal.{capacity_of}
 use Rattle.switch_model.specs.declared.wait.Wait.{Wait}
@@ -35,16 +37,16 @@ abbrev pub first_missing : TypedRows → List Key → Option Key
 first_missing rows [] = None
 first_missing rows (key ∷ keys) = if is_some (rows key) then first_missing rows keys else Some key
 
--- keys of which no two are equal
-abbrev pub AreDistinct : List NaturalKey → Type 0
+-- names of which no two are equal
+abbrev pub AreDistinct : List Name → Type 0
 AreDistinct [] = Unit {0}
 AreDistinct (k ∷ ks) = (¬ (IsIn k ks)) × AreDistinct ks
 
 -- the applied things of a kind and those of this row are more than there is room for
 pub record Overflows (plan : Ports) (capacities : List ℕ) (applied : TypedRows) (key : Key) (row : Row) (kind : Kind) : Type 0 where
-  pub keys : List NaturalKey
+  pub keys : List Name
   pub distinct : AreDistinct keys
-  pub things : (k : NaturalKey) → IsIn k keys → (t : Thing) × (natural_key t ≡ k) × (level (thing_kind t) ≡ level kind) × (IsThingOf plan applied t ⊎ IsIn t (things_of plan key row))
+  pub things : (k : Name) → IsIn k keys → (t : Thing) × (name_of t ≡ k) × (level (thing_kind t) ≡ level kind) × (IsThingOf plan applied t ⊎ IsIn t (things_of plan key row))
   pub many : capacity_of capacities kind < length keys
 
 -- the row names the holder, which is applied and stands before all other holders
@@ -80,6 +82,11 @@ abbrev pub ListsNoRow : Waiting → Type 0
 ListsNoRow [] = Unit {0}
 ListsNoRow (w ∷ ws) = (w.2 ≡ None) × ListsNoRow ws
 
+-- the key that a write is of
+abbrev pub written_key : Write → Key
+written_key (write.Set key fields) = key
+written_key (write.Del key) = key
+
 -- the writes that were sent
-abbrev pub writes_of : List Sent → List Write
-writes_of sent = map (λ s. s.write) sent
+abbrev pub sent_writes : List Sent → List Write
+sent_writes sent = map (λ s. s.write) sent

@@ -19,14 +19,14 @@ use Rattle.switch_model.specs.declared.mark.MarkEvent.{MarkEvent}
 use Rattle.switch_model.specs.declared.mark.MarkEvent.TheVariants as event
 use Rattle.switch_model.specs.Desired.{IsClosed, IsThingOf}
 use Rattle.switch_model.specs.History.{History}
-use Rattle.switch_model.specs.Marks.{Waiting, applied_rows, ReasonsAreTrue, NameFirstKinds, ListsNoRow, writes_of}
+use Rattle.switch_model.specs.Marks.{Waiting, applied_rows, ReasonsAreTrue, NameFirstKinds, ListsNoRow, sent_writes}
 use Rattle.switch_model.specs.Good.{TypedRows, good_rows}
 use Rattle.table_schema.specs.Rows.{rows_of}
 use Rattle.switch_model.specs.Things.{things_of}
 
 -- the good rows of the first so many writes taken
 abbrev pub good_rows_at : Ports → List Sent → ℕ → TypedRows
-good_rows_at plan taken n = good_rows plan (rows_of (writes_of (take n taken)))
+good_rows_at plan taken n = good_rows plan (rows_of (sent_writes (take n taken)))
 
 -- each route on the chip is that of its prefix's good row after some number of the writes taken
 abbrev pub RoutesAreOfRows : Ports → List Sent → Objects → Type 0

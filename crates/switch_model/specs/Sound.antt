@@ -10,7 +10,7 @@ use Rattle.switch_model.specs.declared.mark.MarkEvent.{MarkEvent}
 use Rattle.switch_model.specs.declared.mark.MarkEvent.TheVariants as event
 use Rattle.switch_model.specs.Desired.{IsClosed, IsThingOf}
 use Rattle.switch_model.specs.History.{History}
-use Rattle.switch_model.specs.Marks.{writes_of}
+use Rattle.switch_model.specs.Marks.{sent_writes}
 use Rattle.switch_model.specs.Promises.{EffectsAreLegal, MarksAreTrue}
 use Rattle.switch_model.specs.Good.{TypedRows, good_rows}
 use Rattle.table_schema.specs.Rows.{Rows, rows_of}
@@ -34,10 +34,15 @@ is_suspect [] = false
 is_suspect (mark ∷ []) = is_fault mark.event
 is_suspect (mark ∷ next ∷ marks) = is_suspect (next ∷ marks)
 
--- no mark speaks of more writes or effects than there are
+-- the next mark, if there is one, counts no fewer writes and effects
+abbrev pub IsBefore : Mark → List Mark → Type 0
+IsBefore mark [] = Unit {0}
+IsBefore mark (next ∷ marks) = (mark.taken ≤ next.taken) × (mark.effects ≤ next.effects)
+
+-- no mark counts more writes or effects than there are, nor fewer than the mark before it
 abbrev pub AreWithin : ℕ → ℕ → List Mark → Type 0
 AreWithin taken effects [] = Unit {0}
-AreWithin taken effects (mark ∷ marks) = (mark.taken ≤ taken) × (mark.effects ≤ effects) × AreWithin taken effects marks
+AreWithin taken effects (mark ∷ marks) = (mark.taken ≤ taken) × (mark.effects ≤ effects) × IsBefore mark marks × AreWithin taken effects marks
 
 pub record IsSound (core : CoreState) (chip : ChipState) : Type 0 where
   -- every chip call so far was legal, and the chip is what its effects leave
@@ -46,7 +51,7 @@ pub record IsSound (core : CoreState) (chip : ChipState) : Type 0 where
   pub objects : chip.objects ≡ chip_after chip.effects (length chip.effects)
   pub counts : AreWithin (length core.log.taken) (length chip.effects) core.log.marks
   -- the rows are the fold of the writes taken
-  pub rows : core.rows ≡ rows_of (writes_of core.log.taken)
+  pub rows : core.rows ≡ rows_of (sent_writes core.log.taken)
   -- the promises hold so far
   pub legality : EffectsAreLegal core.plan core.capacities core.log.taken chip.effects
   pub marks : MarksAreTrue core.plan core.capacities core.log chip.effects

@@ -1,6 +1,7 @@
 -- What a row stands for on the chip. The objects are those that SONiC's orchestration agent makes for a row of the table; own: an interface's address as an object of its own.
 use Rattle.std.specs.Prelude.{ℕ, List, [], ◌∷◌, Option, Some, None, option_map}
 use Rattle.std.specs.BTreeSet.{insert_key}
+use Rattle.swss_types.specs.declared.address.Ip.{Ip}
 use Rattle.swss_types.specs.declared.address.Prefix.{Prefix}
 use Rattle.swss_types.specs.declared.interface.IfName.{IfName}
 use Rattle.swss_types.specs.declared.interface.IfName.TheVariants as name
@@ -68,13 +69,19 @@ route_things plan prefix route.Drop = thing.Route prefix goal.Drop ∷ []
 route_things plan prefix (route.Direct on) = from_base (λ b. thing.Route prefix (goal.Direct b) ∷ []) (base_of plan on)
 route_things plan prefix (route.Hops hops) = from_hops prefix (hops_of plan hops)
 
--- the things of a row: none for a loopback interface, nor where a port is not in the plan
+-- the address of an interface, which is the switch's own: none where its port is not in the plan
+abbrev pub own_things : Ports → IfName → Ip → List Thing
+own_things plan (name.Ethernet port) ip = from_lane (λ lane. thing.Own ip ∷ []) (lane_of plan port)
+own_things plan (name.Vlan vlan) ip = thing.Own ip ∷ []
+own_things plan (name.Loopback number) ip = thing.Own ip ∷ []
+
+-- the things of a row: none for a loopback interface, whose addresses have theirs, nor where a port is not in the plan
 abbrev pub things_of : Ports → Key → Row → List Thing
 things_of plan (key.Port port) (row.Port r) = from_lane (λ lane. thing.Port (record { lanes = r.lanes; speed = r.speed; mtu = r.mtu; up = r.up }) ∷ []) (lane_of plan port)
 things_of plan (key.Vlan vlan) row.Vlan = thing.Vlan vlan ∷ []
 things_of plan (key.Member vlan port) (row.Member tagging) = from_lane (λ lane. thing.BridgePort lane ∷ thing.VlanMember vlan lane tagging ∷ []) (lane_of plan port)
 things_of plan (key.Intf on) row.Intf = from_base (λ b. thing.Rif b ∷ []) (base_of plan on)
-things_of plan (key.Addr on ip len) row.Addr = thing.Own ip ∷ []
+things_of plan (key.Addr on ip len) row.Addr = own_things plan on ip
 things_of plan (key.Neigh on ip) (row.Neigh mac) = from_base (λ b. thing.Neighbor (record { on = b; ip = ip }) mac ∷ thing.NextHop (record { on = b; ip = ip }) ∷ []) (base_of plan on)
 things_of plan (key.Route prefix) (row.Route r) = route_things plan prefix r
 things_of plan _ _ = []

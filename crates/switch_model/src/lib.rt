@@ -4,12 +4,13 @@
 mod laws;
 mod log;
 mod mark;
-#[cfg(test)]
-mod tests;
 mod wait;
 mod waits;
 
-pub use laws::{closed_rows_are_ready, desired_view_is_self_contained, ready_rows_are_closed};
+pub use laws::{
+    closed_rows_are_ready, desired_view_is_self_contained, ready_rows_are_closed,
+    room_overflows_nowhere,
+};
 pub use log::Log;
 pub use mark::{Mark, MarkEvent};
 pub use wait::Wait;

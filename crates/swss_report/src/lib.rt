@@ -11,8 +11,6 @@ mod marks;
 mod round;
 mod shows;
 mod tables;
-#[cfg(test)]
-mod tests;
 mod ways;
 
 pub use chip_line::write_chip_line;

@@ -39,7 +39,7 @@ fn write_row(
     ensures { OnOk result (out.new.items ≡ out.old.items ++ row_line (key.now, fields.now)) }
 {
     write_key(alloc, out, key)?;
-    write_fields(out, fields.items())?;
+    write_fields(out, fields)?;
     out.push(b'\n')?;
     Ok(())
 }
@@ -57,10 +57,10 @@ pub(crate) fn write_key(alloc: Global, out: &mut Vec<u8>, key: &Key) -> Result<(
 }
 
 /// Appends fields.
-fn write_fields(out: &mut Vec<u8>, fields: &[(Text, Text)]) -> Result<(), OutOfMemory>
+fn write_fields(out: &mut Vec<u8>, fields: &Fields) -> Result<(), OutOfMemory>
     ensures { OnOk result (out.new.items ≡ out.old.items ++ flat_map field_text fields.now) }
 {
-    for (name, value) in fields {
+    for (name, value) in fields.items() {
         write_field(out, name, value)?;
     }
     Ok(())

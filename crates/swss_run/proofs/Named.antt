@@ -11,7 +11,7 @@ use Rattle.table_schema.specs.declared.key.Key.{Key}
 use Rattle.table_schema.specs.declared.write.Sent.{Sent}
 use Rattle.table_schema.proofs.Keys.{key_exact, key_total}
 use Rattle.sai_types.specs.Alike.{IsIn}
-use Rattle.orch_core.specs.Keeps.{key_of}
+use Rattle.switch_model.specs.Marks.{written_key}
 use Rattle.orch_core.proofs.Keyed.{cmp-refl}
 use Rattle.swss_run.specs.Full.{keys_named}
 
@@ -67,7 +67,7 @@ sorted-none = tt
 pub named-sorted : (sent : List Sent) → IsStrictlySortedBy key_cmp (keys_named sent)
 unfolding IsStrictlySortedBy
 named-sorted [] = tt
-named-sorted (s ∷ more) = sorted-put (keys_named more) (key_of s.write) (named-sorted more)
+named-sorted (s ∷ more) = sorted-put (keys_named more) (written_key s.write) (named-sorted more)
 
 less_not-same : (x y : Key) → key_cmp x y ≡ Less → y ≡ x → ⊥
 less_not-same x y less is = not-both (sym less ∙ ap (λ k. key_cmp x k) is ∙ cmp-refl x)
@@ -124,17 +124,17 @@ in-new (x ∷ xs) k = by (key_cmp k x) refl (in-new xs k)
 pub named-front : (front back : List Sent) (k : Key) → IsIn k (keys_named front) → IsIn k (keys_named (front ++ back))
 named-front [] back k there = absurd there
 named-front (s ∷ front) back k there =
-    ⊎_elim (λ is. subst (λ q. IsIn q (insert_key key_cmp (keys_named (front ++ back)) (key_of s.write))) (sym is) (in-new (keys_named (front ++ back)) (key_of s.write)))
-    (λ more. in-put (keys_named (front ++ back)) (key_of s.write) k (named-front front back k more))
-    (in_put-or_there (keys_named front) (key_of s.write) k there)
+    ⊎_elim (λ is. subst (λ q. IsIn q (insert_key key_cmp (keys_named (front ++ back)) (written_key s.write))) (sym is) (in-new (keys_named (front ++ back)) (written_key s.write)))
+    (λ more. in-put (keys_named (front ++ back)) (written_key s.write) k (named-front front back k more))
+    (in_put-or_there (keys_named front) (written_key s.write) k there)
 
 pub named-back : (front back : List Sent) (k : Key) → IsIn k (keys_named back) → IsIn k (keys_named (front ++ back))
 named-back [] back k there = there
-named-back (s ∷ front) back k there = in-put (keys_named (front ++ back)) (key_of s.write) k (named-back front back k there)
+named-back (s ∷ front) back k there = in-put (keys_named (front ++ back)) (written_key s.write) k (named-back front back k there)
 
 -- the key of a write is named
-pub named-last : (front : List Sent) (s : Sent) → IsIn (key_of s.write) (keys_named (front ++ s ∷ []))
-named-last front s = named-back front (s ∷ []) (key_of s.write) (in-new [] (key_of s.write))
+pub named-last : (front : List Sent) (s : Sent) → IsIn (written_key s.write) (keys_named (front ++ s ∷ []))
+named-last front s = named-back front (s ∷ []) (written_key s.write) (in-new [] (written_key s.write))
 
 -- ---- how many keys writes name
 
@@ -150,4 +150,4 @@ put-one (x ∷ xs) k = by (key_cmp k x) (put-one xs k)
 -- writes name no more keys than they are
 pub few-named : (sent : List Sent) → length (keys_named sent) ≤ length sent
 few-named [] = omega arith
-few-named (s ∷ more) = omega (arith, put-one (keys_named more) (key_of s.write), few-named more)
+few-named (s ∷ more) = omega (arith, put-one (keys_named more) (written_key s.write), few-named more)

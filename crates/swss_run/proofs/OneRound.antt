@@ -43,7 +43,7 @@ one_round-fits bytes script outcome held held' is run one plain full = by outcom
   where
     by : (chip : Option Sim) → IsRunBy script outcome.status outcome.log chip held held' → ⊥
     by None (wanting, log, same) = cc
-    by (Some sim) session = not-full bytes script outcome.log sim.chip held held' is (subst (λ ended. IsSession script.plan script.caps.0 script.rounds ended outcome.log sim.chip held held') full session) one plain
+    by (Some sim) ran = not-full bytes script outcome.log sim.chip held held' is (subst (λ ended. IsSession script.plan script.caps.0 script.rounds ended outcome.log sim.chip held held') full ran.session) one plain
 
 -- what a run tells that got to its script
 tells-by : (ended : Status) (outcome : Outcome) (left left' held held' : Option (List ℕ)) → ends_early ended ≡ false → RanScript outcome left left' held held' → TellsOfSession ended outcome left left' held held'

@@ -10,8 +10,8 @@ use Rattle.swss_types.specs.declared.out_of_memory.OutOfMemory.{OutOfMemory}
 use Rattle.sai_types.specs.Alike.{IsIn}
 use Rattle.orch_core.specs.declared.answer.TakeFault.{TakeFault}
 use Rattle.orch_core.specs.declared.answer.TakeFault.TheVariants as fault
-use Rattle.orch_core.specs.Keeps.{key_of}
-use Rattle.orch_core.specs.State.{State, size_of}
+use Rattle.switch_model.specs.Marks.{written_key}
+use Rattle.orch_core.specs.State.{State, counted_size}
 use Rattle.orch_core.specs.Taken.{IsTaken, with_key}
 use Rattle.orch_core.proofs.Logged.{keeps-key, kept-taken}
 use Rattle.swss_script.specs.Sent.{next_sent, sent_after}
@@ -75,16 +75,16 @@ module _ (old : State) (sent : Sent) (effects : ℕ) where
       behind = subst (λ (s : State). s ≡ record old { rows = s.rows; to_sync = s.to_sync; log = record old.log { taken = old.log.taken ++ sent ∷ [] } }) (sym taken.0) refl;
       kept = λ chip served kept. kept-taken old sent effects (Ok (Ok tt)) new chip taken served.0 kept;
     };
-    keys = λ key there. ⊎_elim (λ is. inr (inl is)) (λ before. inl before) (in_put-or_there old.to_sync (key_of sent.write) key (subst (λ (s : State). IsIn key s.to_sync) taken.0 there));
-    sorted = λ sorted. subst (λ (s : State). IsStrictlySortedBy key_cmp s.to_sync) (sym taken.0) (sorted-put old.to_sync (key_of sent.write) sorted);
+    keys = λ key there. ⊎_elim (λ is. inr (inl is)) (λ before. inl before) (in_put-or_there old.to_sync (written_key sent.write) key (subst (λ (s : State). IsIn key s.to_sync) taken.0 there));
+    sorted = λ sorted. subst (λ (s : State). IsStrictlySortedBy key_cmp s.to_sync) (sym taken.0) (sorted-put old.to_sync (written_key sent.write) sorted);
   }
 
-  pub took-full : (f : TakeFault) (new : State) → IsTaken old sent effects (Ok (Err f)) new → Took [] old new × (new.limit < size_of new effects + 1)
-  took-full (fault.LogFull back) new taken = (subst (Took [] old) (sym taken.0) (took-none old), subst (λ (s : State). s.limit < size_of s effects + 1) (sym taken.0) taken.2)
+  pub took-full : (f : TakeFault) (new : State) → IsTaken old sent effects (Ok (Err f)) new → Took [] old new × (new.limit < counted_size new effects + 1)
+  took-full (fault.LogFull back) new taken = (subst (Took [] old) (sym taken.0) (took-none old), subst (λ (s : State). s.limit < counted_size s effects + 1) (sym taken.0) taken.2)
 
   took-key : Took [] old (with_key old sent)
   took-key = record {
-    behind = ap (λ t. record old { to_sync = insert_key key_cmp old.to_sync (key_of sent.write); log = record old.log { taken = t } }) (sym (append-nil old.log.taken));
+    behind = ap (λ t. record old { to_sync = insert_key key_cmp old.to_sync (written_key sent.write); log = record old.log { taken = t } }) (sym (append-nil old.log.taken));
     kept = λ chip served kept. record { keeps = keeps-key old chip sent kept.keeps; stands = kept.stands };
   }
 

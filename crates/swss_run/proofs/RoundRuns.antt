@@ -19,8 +19,8 @@ use Rattle.sai_types.specs.declared.body.Call.{Call}
 use Rattle.sai_chip.specs.Replay.{IsReplayOf, Replayed}
 use Rattle.sai_chip.specs.Sim.{Sim}
 use Rattle.switch_model.specs.Good.{TypedRows, good_rows}
-use Rattle.switch_model.specs.History.{History}
-use Rattle.switch_model.specs.Marks.{IsTrueReason, ReasonsAreTrue, writes_of}
+use Rattle.switch_model.specs.History.{History, log_size}
+use Rattle.switch_model.specs.Marks.{IsTrueReason, ReasonsAreTrue, sent_writes}
 use Rattle.switch_model.specs.Sound.{is_suspect}
 use Rattle.switch_model.specs.declared.mark.Mark.{Mark}
 use Rattle.switch_model.specs.declared.mark.MarkEvent.{MarkEvent}
@@ -30,9 +30,9 @@ use Rattle.orch_core.specs.Called.{IsGrown}
 use Rattle.orch_core.specs.Due as due
 use Rattle.orch_core.specs.Keeps.{IsKept}
 use Rattle.orch_core.specs.Settling as settling
-use Rattle.orch_core.specs.Settling.{IsSettled, listing, mark_at, with_ending}
+use Rattle.orch_core.specs.Settling.{EndsSettling, listing, mark_at, with_ending}
 use Rattle.orch_core.specs.Standing.{rows_applied}
-use Rattle.orch_core.specs.State.{State, size_of}
+use Rattle.orch_core.specs.State.{State, counted_size}
 use Rattle.orch_core.specs.Turn.{BringsNew, OnlyLeave, WaitTruly, waiting_keys}
 use Rattle.orch_core.specs.declared.answer.Settled.{Settled}
 use Rattle.orch_core.specs.declared.answer.Settled.TheVariants as settled
@@ -43,12 +43,12 @@ use Rattle.swss_script.specs.Stage.{is_built_round}
 use Rattle.swss_script.specs.declared.parts.Round.{Round}
 use Rattle.swss_script.specs.declared.parts.Show.{Show}
 use Rattle.swss_report.specs.Round.{Ended, IsRoundText}
-use Rattle.swss_run.specs.Full.{AreApplied, CallIsDue, IsFull, MarkIsDue, good_now, keys_named, places}
+use Rattle.swss_run.specs.Full.{AreApplied, CallIsDue, IsFull, MarkIsDue, good_now, keys_named}
 use Rattle.swss_run.specs.Full.IsFull.{AtWrite, AtCall, AtMark}
 use Rattle.swss_run.specs.Rounds.{Ran, is_settling, listed_keys}
 use Rattle.swss_run.specs.Running.{EndsRound, HasLines, IsReady, IsRoundRun, IsUnused, IsWritten, KeepsPlan, StopsRound, round_ended, with_round}
 use Rattle.swss_run.specs.Running.IsWritten.{Whole, Failed, Wanting, Unwritten}
-use Rattle.swss_run.specs.Taking.{AreServed, IsRoundTook, Took, TookAll}
+use Rattle.swss_run.specs.Taking.{NameServedRows, IsRoundTook, Took, TookAll}
 use Rattle.swss_run.specs.declared.status.Status.{Status}
 use Rattle.swss_run.specs.declared.status.Status.TheVariants as status
 use Rattle.swss_run.specs.declared.taking.Taken.TheVariants as taken
@@ -59,7 +59,7 @@ use Rattle.swss_run.proofs.Sessions.{same-trans}
 -- ---- a core and its chip
 
 -- the size that the core counts is that of the log and the effects
-places-are : (core : State) (chip : ChipState) → IsKept core chip → size_of core (length chip.effects) ≡ places core.log chip
+places-are : (core : State) (chip : ChipState) → IsKept core chip → counted_size core (length chip.effects) ≡ log_size core.log (length chip.effects)
 places-are core chip kept = ap (λ n. length chip.effects + length core.log.taken + length core.log.marks + n) kept.keeps.listed
 
 -- the good rows are those of the writes taken
@@ -73,13 +73,13 @@ applied-are core chip kept known = record { closed = kept.keeps.closed; alike = 
 reason-at : (plan : Ports) (capacities : List ℕ) (applied : TypedRows) (r s : Rows) (k : Key) (w : Wait) → r ≡ s → IsTrueReason plan capacities (good_rows plan r) applied k w → IsTrueReason plan capacities (good_rows plan s) applied k w
 reason-at plan capacities applied r s k w same is = subst (λ x. IsTrueReason plan capacities (good_rows plan x) applied k w) same is
 
-call-due : (core : State) (chip : ChipState) → IsKept core chip → is_suspect core.log.marks ≡ false → due.CallIsDue core → CallIsDue core.plan core.capacities core.log chip
+call-due : (core : State) (chip : ChipState) → IsKept core chip → is_suspect core.log.marks ≡ false → due.OwesCall core → CallIsDue core.plan core.capacities core.log chip
 call-due core chip kept known is = record {
   applied = rows_applied core.applied;
   are = applied-are core chip kept known;
   key = is.key;
   differs = λ same. is.differs (same ∙ sym (good-are core chip kept is.key));
-  free = λ w true_of. is.free w (reason-at core.plan core.capacities (rows_applied core.applied) (rows_of (writes_of core.log.taken)) core.rows is.key w (sym kept.keeps.rows) true_of);
+  free = λ w true_of. is.free w (reason-at core.plan core.capacities (rows_applied core.applied) (rows_of (sent_writes core.log.taken)) core.rows is.key w (sym kept.keeps.rows) true_of);
 }
 
 -- the keys that a mark lists are those that wait
@@ -92,15 +92,15 @@ listed-reasons core r is [] truly = tt
 listed-reasons core r is (w ∷ ws) (one, truly) = (reason-at core.plan core.capacities (rows_applied core.applied) core.rows r w.0 w.1 is one.0, listed-reasons core r is ws truly)
 
 -- they are in order where the keys to sync are
-listing-sorted : (core : State) → settling.MarkIsDue core → IsStrictlySortedBy key_cmp core.to_sync → IsStrictlySortedBy key_cmp (map (λ (w : Key × Wait × Option Row). w.0) (listing core))
+listing-sorted : (core : State) → settling.OwesMark core → IsStrictlySortedBy key_cmp core.to_sync → IsStrictlySortedBy key_cmp (map (λ (w : Key × Wait × Option Row). w.0) (listing core))
 listing-sorted core is sorted = subst (λ ks. IsStrictlySortedBy key_cmp ks) (is.rest ∙ append-nil (waiting_keys core.waiting) ∙ sym (listed-keys core core.waiting)) sorted
 
-mark-due : (core : State) (chip : ChipState) → IsKept core chip → is_suspect core.log.marks ≡ false → IsStrictlySortedBy key_cmp core.to_sync → settling.MarkIsDue core → MarkIsDue core.plan core.capacities core.log chip (listing core)
+mark-due : (core : State) (chip : ChipState) → IsKept core chip → is_suspect core.log.marks ≡ false → IsStrictlySortedBy key_cmp core.to_sync → settling.OwesMark core → MarkIsDue core.plan core.capacities core.log chip (listing core)
 mark-due core chip kept known sorted is = record {
   applied = rows_applied core.applied;
   are = applied-are core chip kept known;
   order = listing-sorted core is sorted;
-  reasons = listed-reasons core (rows_of (writes_of core.log.taken)) kept.keeps.rows core.waiting is.truly;
+  reasons = listed-reasons core (rows_of (sent_writes core.log.taken)) kept.keeps.rows core.waiting is.truly;
   others = λ key away.
       ⊎_elim
       (λ there. absurd (away (subst (λ ks. IsIn key ks) (sym (listed-keys core core.waiting)) (subst (λ ks. IsIn key ks) (is.rest ∙ append-nil (waiting_keys core.waiting)) there))))
@@ -134,10 +134,10 @@ text-as shows lines p p' n n' ms ms' r r' o o' e e' b b' ps ns mss rs os es bs t
     (subst (λ x. IsRoundText (record { plan = p; number = n; marks = ms; rows = r; objects = o; effects = e; before = x }) shows lines) bs text))))))
 
 -- the mark of a settling, and that of a failed call, had their places
-pub fits-settled : (mid new : State) (chip chip' : ChipState) → IsKept new chip' → settling.MarksSettled mid chip new chip' → places new.log chip' ≤ new.limit
+pub fits-settled : (mid new : State) (chip chip' : ChipState) → IsKept new chip' → settling.MarksSettled mid chip new chip' → log_size new.log (length chip'.effects) ≤ new.limit
 fits-settled mid new chip chip' kept is = omega (arith, is.places, places-are new chip' kept)
 
-pub fits-faulted : (mid new : State) (chip chip' : ChipState) → IsKept new chip' → settling.IsSame mid new → settling.MarksFaulted mid chip new chip' → places new.log chip' ≤ new.limit
+pub fits-faulted : (mid new : State) (chip chip' : ChipState) → IsKept new chip' → settling.IsSame mid new → settling.MarksFaulted mid chip new chip' → log_size new.log (length chip'.effects) ≤ new.limit
 fits-faulted mid new chip chip' kept same is =
     omega (
       arith,
@@ -157,7 +157,7 @@ module _ (round : Round) (old : State) (sim : Sim) (replay : Replayed) (ready : 
   -- after some of its writes
   module _ (sent rest : List Sent) (front : sent_in_round round ≡ sent ++ rest) (took : Took sent old mid) where
     kept-mid : IsKept mid sim.chip
-    kept-mid = took.kept sim.chip (served-front sent rest (subst AreServed front (served-round round built))) ready.kept
+    kept-mid = took.kept sim.chip (served-front sent rest (subst NameServedRows front (served-round round built))) ready.kept
 
     log-mid : mid.log ≡ record old.log { taken = old.log.taken ++ sent }
     log-mid = ap (λ (s : State). s.log) took.behind
@@ -184,7 +184,7 @@ module _ (round : Round) (old : State) (sim : Sim) (replay : Replayed) (ready : 
   stops-wanting (counts, (sent, later, gives, took)) = stops-mid sent later gives took
 
   pub full-taking : {H : Type 0} (held : H) → IsRoundTook (length sim.chip.effects) (writes_in round.sections) old taken.LogFull mid
-      → (stops : StopsRound round old sim mid sim) × IsFull mid.plan mid.capacities mid.limit round mid.log sim.chip stops.sent × (mid.limit < places mid.log sim.chip + 2 + length (keys_named mid.log.taken))
+      → (stops : StopsRound round old sim mid sim) × IsFull mid.plan mid.capacities mid.limit round mid.log sim.chip stops.sent × (mid.limit < log_size mid.log (length sim.chip.effects) + 2 + length (keys_named mid.log.taken))
       × (IsUnused old sim → mid.limit < 2 * length stops.sent + 2) × (held ≡ held)
   full-taking held (counts, (sent, next, later, gives, took, full)) =
       let kept = kept-mid sent (next ∷ later) gives took in
@@ -260,7 +260,7 @@ module _ (round : Round) (old : State) (sim : Sim) (replay : Replayed) (ready : 
         known-stopped : is_suspect new.log.marks ≡ false
         known-stopped = ap (λ (h : History). is_suspect h.marks) log ∙ known-all
 
-        few-waiting : settling.MarkIsDue new → length new.waiting ≤ length (keys_named new.log.taken)
+        few-waiting : settling.OwesMark new → length new.waiting ≤ length (keys_named new.log.taken)
         few-waiting is =
             omega (
               arith,
@@ -288,7 +288,7 @@ module _ (round : Round) (old : State) (sim : Sim) (replay : Replayed) (ready : 
               let named : (k : Key) → IsIn k mid.to_sync → IsIn k (keys_named sent) = λ k there. ⊎_elim (λ before. absurd (subst (λ ks. IsIn k ks) to_sync_none before)) (λ new_one. new_one) (took.keys k there) in
               omega (arith, few-among mid.to_sync (keys_named sent) (took.sorted ready.sorted) (named-sorted sent) named, few-named sent)
 
-          size-new : size_of new (length sim'.chip.effects) ≡ length sim'.chip.effects + length sent
+          size-new : counted_size new (length sim'.chip.effects) ≡ length sim'.chip.effects + length sent
           size-new =
               omega (
                 arith,
@@ -301,7 +301,7 @@ module _ (round : Round) (old : State) (sim : Sim) (replay : Replayed) (ready : 
                 ap (λ (s : State). length (s.log.taken ++ sent)) unused.new,
               )
 
-          pub full-first : settling.IsFull new (length sim'.chip.effects) → new.limit < 2 * length sent + 2
+          pub full-first : settling.LacksPlaces new (length sim'.chip.effects) → new.limit < 2 * length sent + 2
           full-first (inl (is, full)) = omega (arith, full, size-new, few-effects, few-to_sync)
           full-first (inr (is, full)) =
               omega (
@@ -314,8 +314,8 @@ module _ (round : Round) (old : State) (sim : Sim) (replay : Replayed) (ready : 
                 length-map new.waiting (λ (w : Key × Wait). w.0),
               )
 
-        pub full-settling : {H : Type 0} (held : H) → settling.IsFull new (length sim'.chip.effects) → BringsNew mid (length sim.chip.effects) new (length sim'.chip.effects)
-            → (stops : StopsRound round old sim new sim') × IsFull new.plan new.capacities new.limit round new.log sim'.chip stops.sent × (new.limit < places new.log sim'.chip + 2 + length (keys_named new.log.taken))
+        pub full-settling : {H : Type 0} (held : H) → settling.LacksPlaces new (length sim'.chip.effects) → BringsNew mid (length sim.chip.effects) new (length sim'.chip.effects)
+            → (stops : StopsRound round old sim new sim') × IsFull new.plan new.capacities new.limit round new.log sim'.chip stops.sent × (new.limit < log_size new.log (length sim'.chip.effects) + 2 + length (keys_named new.log.taken))
             × (IsUnused old sim → new.limit < 2 * length stops.sent + 2) × (held ≡ held)
         full-settling held (inl (is, full)) brings = (
           stops-new,
@@ -333,7 +333,7 @@ module _ (round : Round) (old : State) (sim : Sim) (replay : Replayed) (ready : 
         )
 
       -- a mark was made
-      module _ (e : MarkEvent) (kind : is_settling e ≡ true) (order : IsStrictlySortedBy key_cmp (listed_keys e)) (log : new.log ≡ with_ending mid.log (mark_at mid (length sim'.chip.effects) e)) (fits : places new.log sim'.chip ≤ new.limit) where
+      module _ (e : MarkEvent) (kind : is_settling e ≡ true) (order : IsStrictlySortedBy key_cmp (listed_keys e)) (log : new.log ≡ with_ending mid.log (mark_at mid (length sim'.chip.effects) e)) (fits : log_size new.log (length sim'.chip.effects) ≤ new.limit) where
         abbrev mark : Mark
         mark = mark_at mid (length sim'.chip.effects) e
 
@@ -371,12 +371,12 @@ module _ (round : Round) (old : State) (sim : Sim) (replay : Replayed) (ready : 
           number_is = omega (arith, counted);
           text =
               text-as round.shows lines
-              new.plan old.plan number (number - 1 + 1) (drop (length old.log.marks) new.log.marks) (mark ∷ []) new.rows (rows_of (writes_of (old.log.taken ++ sent)))
+              new.plan old.plan number (number - 1 + 1) (drop (length old.log.marks) new.log.marks) (mark ∷ []) new.rows (rows_of (sent_writes (old.log.taken ++ sent)))
               sim'.chip.objects (chip_after (sim.chip.effects ++ grown.calls) (length (sim.chip.effects ++ grown.calls))) sim'.chip.effects (sim.chip.effects ++ grown.calls) replay.at (length sim.chip.effects)
               plan-new.plan
               (omega (arith, counted))
               (ap (λ (h : History). drop (length old.log.marks) h.marks) log-marked ∙ drop-append_seam old.log.marks (mark ∷ []))
-              (kept.keeps.rows ∙ ap (λ (h : History). rows_of (writes_of h.taken)) log-marked)
+              (kept.keeps.rows ∙ ap (λ (h : History). rows_of (sent_writes h.taken)) log-marked)
               (kept.keeps.objects ∙ ap (λ l. chip_after l (length l)) grown.grown)
               grown.grown
               ready.at_end
@@ -414,7 +414,7 @@ module _ (round : Round) (old : State) (sim : Sim) (replay : Replayed) (ready : 
             subst (λ r. IsRoundRun number round old sim held faults r new sim' replay' held' faults') (sym is) (inr (ran, ends-round, inl same))
 
       -- how the settling ended
-      pub run-marked : (r : Result Settled OutOfMemory) (ended : Status) → round_ended r ≡ Ok ended → IsSettled mid sim.chip r new sim'.chip → (number : ℕ) (held held' : Option (List ℕ)) (faults faults' : ℕ) (result : Status) (replay' : Replayed) → 0 < number → IsWritten (ended_now number) round.shows ended held faults result replay' held' faults' → IsRoundRun number round old sim held faults result new sim' replay' held' faults'
+      pub run-marked : (r : Result Settled OutOfMemory) (ended : Status) → round_ended r ≡ Ok ended → EndsSettling mid sim.chip r new sim'.chip → (number : ℕ) (held held' : Option (List ℕ)) (faults faults' : ℕ) (result : Status) (replay' : Replayed) → 0 < number → IsWritten (ended_now number) round.shows ended held faults result replay' held' faults' → IsRoundRun number round old sim held faults result new sim' replay' held' faults'
       run-marked (Ok settled.Settled) ended is e number held held' faults faults' result replay' counted written =
           let same_end : ended ≡ status.Done = cc in
           run-done (event.Settled (listing new) e.turns) refl (listing-sorted new e.due sorted-new) e.log (fits-settled mid new sim.chip sim'.chip kept e) number held held' faults faults' result replay' counted refl
@@ -426,7 +426,7 @@ module _ (round : Round) (old : State) (sim : Sim) (replay : Replayed) (ready : 
       run-marked (Ok settled.LogFull) ended is e number held held' faults faults' result replay' counted written = cc
       run-marked (Err wanting) ended is e number held held' faults faults' result replay' counted written = cc
 
-      pub run-stopped : (r : Result Settled OutOfMemory) (ended : Status) → round_ended r ≡ Err ended → IsSettled mid sim.chip r new sim'.chip → (number : ℕ) (held : Option (List ℕ)) (faults : ℕ) (replay' : Replayed) → IsRoundRun number round old sim held faults ended new sim' replay' held faults
+      pub run-stopped : (r : Result Settled OutOfMemory) (ended : Status) → round_ended r ≡ Err ended → EndsSettling mid sim.chip r new sim'.chip → (number : ℕ) (held : Option (List ℕ)) (faults : ℕ) (replay' : Replayed) → IsRoundRun number round old sim held faults ended new sim' replay' held faults
       run-stopped (Ok settled.Settled) ended is e number held faults replay' = cc
       run-stopped (Ok settled.Faulted) ended is e number held faults replay' = cc
       run-stopped (Ok settled.LogFull) ended is e number held faults replay' =

@@ -13,14 +13,14 @@ use Rattle.sai_types.specs.declared.ids.Rid.{Rid}
 use Rattle.sai_types.specs.declared.body.Call.{Call}
 use Rattle.sai_chip.specs.Replay.{IsReplayOf, Replayed, new_replay}
 use Rattle.sai_chip.specs.Sim.{Sim}
-use Rattle.switch_model.specs.History.{History}
+use Rattle.switch_model.specs.History.{History, log_size}
 use Rattle.switch_model.specs.Promises.{EffectsAreLegal, MarksAreTrue}
 use Rattle.switch_model.specs.Sound.{is_suspect}
 use Rattle.orch_core.specs.Keeps.{IsKept}
 use Rattle.orch_core.specs.State.{State, new_state}
 use Rattle.swss_script.specs.declared.parts.Round.{Round}
 use Rattle.swss_report.specs.Round.{IsRoundText}
-use Rattle.swss_run.specs.Full.{IsFull, keys_named, places}
+use Rattle.swss_run.specs.Full.{IsFull, keys_named}
 use Rattle.swss_run.specs.Output.{TakesFront}
 use Rattle.swss_run.specs.Rounds.{AreTaken, EndsAtMark, IsCut, IsReport, Ran, all_calls, all_marks, all_sent, ends_from, standing}
 use Rattle.swss_run.specs.Running.{EndsRound, HasLines, IsReady, IsRoundRun, IsUnused, KeepsPlan, StopsRound}
@@ -99,7 +99,7 @@ pub record IsRunning (rounds done : List Round) (first : State) (held0 : Option 
   pub many : length rans ≡ length done
   pub writes : AreTaken rans rounds []
   pub told : TookReport first.plan rans rounds held0 held
-  pub fits : places core.log sim.chip ≤ log_limit
+  pub fits : log_size core.log (length sim.chip.effects) ≤ log_limit
   pub unused : rans ≡ [] → IsUnused core sim
 
 not_none : (rans : List Ran) (ran : Ran) → rans ++ ran ∷ [] ≡ [] → ⊥
@@ -118,7 +118,7 @@ Takes-none (Some text) = ap Some (sym (append-nil text))
 pub replay-none : (effects : List (Call Rid)) (r : Replayed) → r ≡ new_replay → IsReplayOf r effects
 replay-none effects r is = subst (λ x. IsReplayOf x effects) (sym is) (record { at = omega arith; made = refl; objects = refl })
 
-pub running-none : (rounds : List Round) (first : State) (sim : Sim) (held : Option (List ℕ)) (replay : Replayed) → first ≡ new_state first.plan first.capacities log_limit → sim.chip ≡ new_chip first.capacities → IsKept first sim.chip → IsReplayOf replay sim.chip.effects → replay.at ≡ 0 → IsRunning rounds [] first held first sim replay held
+pub running-none : (rounds : List Round) (first : State) (sim : Sim) (held : Option (List ℕ)) (replay : Replayed) → first ≡ new_state first.plan first.capacities log_limit → sim.chip ≡ new_chip first.capacities sim.chip.fails → IsKept first sim.chip → IsReplayOf replay sim.chip.effects → replay.at ≡ 0 → IsRunning rounds [] first held first sim replay held
 running-none rounds first sim held replay new chip kept follows at = record {
   ready = record {
     kept = kept;
@@ -141,7 +141,7 @@ running-none rounds first sim held replay new chip kept follows at = record {
   many = refl;
   writes = none_taken rounds;
   told = record { text = []; report = refl; took = Takes-none held };
-  fits = subst (λ n. n ≤ log_limit) (sym (ap (λ (s : State). places s.log sim.chip) new ∙ ap (λ (c : ChipState). places Rattle.switch_model.specs.History.no_history c) chip)) (omega arith);
+  fits = subst (λ n. n ≤ log_limit) (sym (ap (λ (s : State). log_size s.log (length sim.chip.effects)) new ∙ ap (λ (c : ChipState). log_size Rattle.switch_model.specs.History.no_history (length c.effects)) chip)) (omega arith);
   unused = λ none. record { new = subst (λ n. first ≡ new_state first.plan first.capacities n) (sym (ap (λ (s : State). s.limit) new)) new; still = ap (λ (c : ChipState). c.effects) chip };
 }
 
@@ -155,6 +155,7 @@ session-from rounds ended first core chip held held' rans sent calls kept same c
   clean = kept.keeps.clean;
   legality = subst (λ p. EffectsAreLegal p first.capacities core.log.taken chip.effects) same.plan (subst (λ c. EffectsAreLegal core.plan c core.log.taken chip.effects) same.capacities kept.keeps.legality);
   marks = subst (λ p. MarksAreTrue p first.capacities core.log chip.effects) same.plan (subst (λ c. MarksAreTrue core.plan c core.log chip.effects) same.capacities kept.keeps.marks);
+  counts = kept.keeps.counts;
   rans = rans;
   sent = sent;
   calls = calls;
@@ -200,8 +201,8 @@ module _ (rounds done : List Round) (first : State) (held0 : Option (List ℕ)) 
       same_now : KeepsPlan first new
       same_now = same-trans first core new running.same ends.same
 
-      fits_now : places new.log sim'.chip ≤ log_limit
-      fits_now = subst (λ n. places new.log sim'.chip ≤ n) (same_now.limit ∙ running.limit) ends.places
+      fits_now : log_size new.log (length sim'.chip.effects) ≤ log_limit
+      fits_now = subst (λ n. log_size new.log (length sim'.chip.effects) ≤ n) (same_now.limit ∙ running.limit) ends.places
 
       report_now : (lines : List ℕ) → HasLines number round core sim ran lines → IsReport first.plan (rans ++ ran ∷ []) rounds (running.told.text ++ lines)
       report_now lines has = report-longer round core sim ran new sim' ends rans running.cut number first.plan rounds running.told.text lines plan_is at_round number_at running.told.report has
@@ -267,7 +268,7 @@ module _ (rounds done : List Round) (first : State) (held0 : Option (List ℕ)) 
             round = round;
             next = at_round;
             full = full_here stops full;
-            many = subst (λ n. n < places new.log sim'.chip + 2 + length (keys_named new.log.taken)) ((same_stopped stops).limit ∙ running.limit) many;
+            many = subst (λ n. n < log_size new.log (length sim'.chip.effects) + 2 + length (keys_named new.log.taken)) ((same_stopped stops).limit ∙ running.limit) many;
             first = λ none. subst (λ n. n < 2 * length stops.sent + 2) ((same_stopped stops).limit ∙ running.limit) (first_round (running.unused none));
           },
           record { text = running.told.text; report = running.told.report; took = subst (λ h. Takes held0 running.told.text h) (sym same) running.told.took },

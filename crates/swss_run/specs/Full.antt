@@ -11,26 +11,20 @@ use Rattle.sai_types.specs.Alike.{IsAlike, IsIn}
 use Rattle.sai_types.specs.ChipState.{ChipState}
 use Rattle.switch_model.specs.Desired.{IsClosed, IsThingOf}
 use Rattle.switch_model.specs.Good.{TypedRows, good_rows}
-use Rattle.switch_model.specs.History.{History}
-use Rattle.switch_model.specs.Marks.{IsTrueReason, ReasonsAreTrue, Waiting, writes_of}
+use Rattle.switch_model.specs.History.{History, log_size}
+use Rattle.switch_model.specs.Marks.{IsTrueReason, ReasonsAreTrue, Waiting, sent_writes, written_key}
 use Rattle.switch_model.specs.declared.wait.Wait.{Wait}
-use Rattle.orch_core.specs.Keeps.{key_of}
-use Rattle.orch_core.specs.State.{listed_by}
 use Rattle.swss_script.specs.Sent.{sent_in_round}
 use Rattle.swss_script.specs.declared.parts.Round.{Round}
-
--- the size of the log: a place for each write taken, each call that took effect, each mark and each key that a mark lists
-abbrev pub places : History → ChipState → ℕ
-places log chip = length chip.effects + length log.taken + length log.marks + listed_by log.marks
 
 -- the keys that writes name, each once
 abbrev pub keys_named : List Sent → List Key
 keys_named [] = []
-keys_named (sent ∷ more) = insert_key key_cmp (keys_named more) (key_of sent.write)
+keys_named (sent ∷ more) = insert_key key_cmp (keys_named more) (written_key sent.write)
 
 -- the good rows of the writes taken
 abbrev pub good_now : Ports → History → TypedRows
-good_now plan log = good_rows plan (rows_of (writes_of log.taken))
+good_now plan log = good_rows plan (rows_of (sent_writes log.taken))
 
 -- these rows are applied: what each of them names is among them, and the chip holds their things and nothing else
 pub record AreApplied (plan : Ports) (chip : ChipState) (applied : TypedRows) : Type 0 where
@@ -55,6 +49,6 @@ pub record MarkIsDue (plan : Ports) (capacities : List ℕ) (log : History) (chi
 
 -- the log has so few places left: a write of the round is due, or all were taken and a chip call is due, which needs 2, or the mark of the settling, which needs 1 and 1 for each key that it lists
 pub data IsFull (plan : Ports) (capacities : List ℕ) (limit : ℕ) (round : Round) (log : History) (chip : ChipState) (sent : List Sent) : Type 0 where
-  AtWrite : (next : Sent) (later : List Sent) → sent_in_round round ≡ sent ++ next ∷ later → limit < places log chip + 1 → IsFull plan capacities limit round log chip sent
-  AtCall : sent ≡ sent_in_round round → CallIsDue plan capacities log chip → limit < places log chip + 2 → IsFull plan capacities limit round log chip sent
-  AtMark : (waits : Waiting) → sent ≡ sent_in_round round → MarkIsDue plan capacities log chip waits → limit < places log chip + 1 + length waits → IsFull plan capacities limit round log chip sent
+  AtWrite : (next : Sent) (later : List Sent) → sent_in_round round ≡ sent ++ next ∷ later → limit < log_size log (length chip.effects) + 1 → IsFull plan capacities limit round log chip sent
+  AtCall : sent ≡ sent_in_round round → CallIsDue plan capacities log chip → limit < log_size log (length chip.effects) + 2 → IsFull plan capacities limit round log chip sent
+  AtMark : (waits : Waiting) → sent ≡ sent_in_round round → MarkIsDue plan capacities log chip waits → limit < log_size log (length chip.effects) + 1 + length waits → IsFull plan capacities limit round log chip sent

@@ -10,7 +10,7 @@ use Rattle.sai_types.specs.After.{chip_after}
 use Rattle.sai_types.specs.declared.ids.Rid.{Rid}
 use Rattle.sai_types.specs.declared.body.Call.{Call}
 use Rattle.switch_model.specs.History.{History}
-use Rattle.switch_model.specs.Marks.{writes_of}
+use Rattle.switch_model.specs.Marks.{sent_writes}
 use Rattle.switch_model.specs.declared.mark.Mark.{Mark}
 use Rattle.switch_model.specs.declared.mark.MarkEvent.{MarkEvent}
 use Rattle.switch_model.specs.declared.mark.MarkEvent.TheVariants as event
@@ -88,7 +88,7 @@ standing plan number sent calls ran = record {
   plan = plan;
   number = number + 1;
   marks = ran.marks;
-  rows = rows_of (writes_of (sent ++ ran.sent));
+  rows = rows_of (sent_writes (sent ++ ran.sent));
   objects = chip_after (calls ++ ran.calls) (length (calls ++ ran.calls));
   effects = calls ++ ran.calls;
   before = length calls;

@@ -1,6 +1,6 @@
 -- What a run of the top call comes to. Own.
 use Rattle.std.specs.Prelude.{◌≡◌, ℕ, Bool, true, false, List, Option, None}
-use Rattle.sai_chip.specs.declared.fail.Fail.{Fail}
+use Rattle.sai_types.specs.declared.fail.Fail.{Fail}
 use Rattle.switch_model.specs.History.{no_history}
 use Rattle.swss_script.specs.declared.parts.Fail2.{Fail2}
 use Rattle.swss_run.specs.Read.{WasRefused}

@@ -10,7 +10,7 @@ use Rattle.sai_types.specs.declared.ids.Rid.{Rid}
 use Rattle.sai_types.specs.declared.body.Call.{Call}
 use Rattle.sai_chip.specs.Replay.{IsReplayOf, Replayed}
 use Rattle.sai_chip.specs.Sim.{Sim}
-use Rattle.switch_model.specs.History.{History}
+use Rattle.switch_model.specs.History.{History, log_size}
 use Rattle.switch_model.specs.Sound.{is_suspect}
 use Rattle.switch_model.specs.declared.mark.Mark.{Mark}
 use Rattle.orch_core.specs.Keeps.{IsKept}
@@ -22,7 +22,7 @@ use Rattle.swss_script.specs.Sent.{sent_in_round}
 use Rattle.swss_script.specs.declared.parts.Round.{Round}
 use Rattle.swss_script.specs.declared.parts.Show.{Show}
 use Rattle.swss_report.specs.Round.{Ended, IsRoundText}
-use Rattle.swss_run.specs.Full.{IsFull, keys_named, places}
+use Rattle.swss_run.specs.Full.{IsFull, keys_named}
 use Rattle.swss_run.specs.Output.{TakesFront}
 use Rattle.swss_run.specs.Rounds.{Ran, is_settling, listed_keys, standing}
 use Rattle.swss_run.specs.declared.status.Status.{Status}
@@ -65,7 +65,7 @@ pub record EndsRound (round : Round) (old : State) (sim : Sim) (ran : Ran) (new 
   pub calls : sim'.chip.effects ≡ sim.chip.effects ++ ran.calls
   pub kept : IsKept new sim'.chip
   pub same : KeepsPlan old new
-  pub places : places new.log sim'.chip ≤ new.limit
+  pub places : log_size new.log (length sim'.chip.effects) ≤ new.limit
 
 -- the round did not end: some of its writes were taken, and no mark was made
 pub record StopsRound (round : Round) (old : State) (sim : Sim) (new : State) (sim' : Sim) : Type 0 where
@@ -111,7 +111,7 @@ IsRoundRun number round old sim held faults status.ChipFault new sim' replay hel
 IsRoundRun number round old sim held faults status.WriteFault new sim' replay held' faults' =
     (ran : Ran) × (lines : List ℕ) × EndsRound round old sim ran new sim' × HasLines number round old sim ran lines × TakesFront held lines held' × HasRisen faults faults'
 IsRoundRun number round old sim held faults status.LogFull new sim' replay held' faults' =
-    (stops : StopsRound round old sim new sim') × IsFull new.plan new.capacities new.limit round new.log sim'.chip stops.sent × (new.limit < places new.log sim'.chip + 2 + length (keys_named new.log.taken))
+    (stops : StopsRound round old sim new sim') × IsFull new.plan new.capacities new.limit round new.log sim'.chip stops.sent × (new.limit < log_size new.log (length sim'.chip.effects) + 2 + length (keys_named new.log.taken))
     × (IsUnused old sim → new.limit < 2 * length stops.sent + 2) × (held' ≡ held)
 IsRoundRun number round old sim held faults status.OutOfMemory new sim' replay held' faults' =
     (StopsRound round old sim new sim' × (held' ≡ held)) ⊎ ((ran : Ran) × EndsRound round old sim ran new sim' × TakesSome number round old sim ran held held')

@@ -1,5 +1,5 @@
 -- What a session comes to: the writes taken, the marks, the chip and the report. Own.
-use Rattle.std.specs.Prelude.{◌≡◌, ◌⊎◌, ℕ, ◌+◌, ◌*◌, ◌<◌, ◌≤◌, true, false, List, [], ◌++◌, length, slice_get, Option, Some, None}
+use Rattle.std.specs.Prelude.{◌≡◌, ◌⊎◌, ℕ, ◌+◌, ◌*◌, ◌<◌, ◌≤◌, true, false, List, [], ◌++◌, length, map, slice_get, Option, Some, None}
 use Rattle.swss_types.specs.Outside.{Takes}
 use Rattle.table_schema.specs.Plan.{Ports}
 use Rattle.table_schema.specs.declared.write.Sent.{Sent}
@@ -7,16 +7,16 @@ use Rattle.sai_types.specs.ChipState.{ChipState}
 use Rattle.sai_types.specs.declared.ids.Rid.{Rid}
 use Rattle.sai_types.specs.declared.body.Call.{Call}
 use Rattle.sai_chip.specs.Sim.{Sim}
-use Rattle.switch_model.specs.History.{History, no_history}
+use Rattle.switch_model.specs.History.{History, log_size, no_history}
 use Rattle.switch_model.specs.Promises.{EffectsAreLegal, MarksAreTrue}
-use Rattle.switch_model.specs.Sound.{is_suspect}
+use Rattle.switch_model.specs.Sound.{AreWithin, is_suspect}
 use Rattle.swss_script.specs.Plain.{has_batch}
 use Rattle.swss_script.specs.declared.parts.Round.{Round}
 use Rattle.swss_script.specs.declared.script.Script.{Script}
-use Rattle.swss_run.specs.Full.{IsFull, keys_named, places}
+use Rattle.swss_run.specs.Full.{IsFull, keys_named}
 use Rattle.swss_run.specs.Output.{TakesFront}
 use Rattle.swss_run.specs.Read.{WasRead}
-use Rattle.swss_run.specs.Run.{HasNoSession}
+use Rattle.swss_run.specs.Run.{HasNoSession, chip_fail}
 use Rattle.swss_run.specs.Rounds.{AreTaken, IsCut, IsReport, Ran, Rise}
 use Rattle.swss_run.specs.declared.outcome.Outcome.{Outcome}
 use Rattle.swss_run.specs.declared.status.Status.{Status}
@@ -43,14 +43,14 @@ pub record HasNoPlace (plan : Ports) (capacities : List ℕ) (rounds : List Roun
   pub round : Round
   pub next : slice_get rounds (length rans) ≡ Some round
   pub full : IsFull plan capacities log_limit round log chip sent
-  pub many : log_limit < places log chip + 2 + length (keys_named log.taken)
+  pub many : log_limit < log_size log (length chip.effects) + 2 + length (keys_named log.taken)
   pub first : rans ≡ [] → log_limit < 2 * length sent + 2
 
 -- the last round ended at its mark, and each event found its places
 pub record HasEnded (sent : List Sent) (calls : List (Call Rid)) (log : History) (chip : ChipState) : Type 0 where
   pub no_write : sent ≡ []
   pub no_call : calls ≡ []
-  pub places : places log chip ≤ log_limit
+  pub places : log_size log (length chip.effects) ≤ log_limit
 
 -- what the status says of the rounds that ended, of the log's places, and of what the sink took: the whole report where all rounds ended, where the chip failed in the last that ended, and where the log is full; a front of it where the sink failed; a front of that of some of the rounds where memory was refused
 abbrev pub IsReported : Status → Ports → List ℕ → List Round → List Ran → List Sent → List (Call Rid) → History → ChipState → Option (List ℕ) → Option (List ℕ) → Type 0
@@ -66,12 +66,13 @@ IsReported status.OutOfMemory plan capacities rounds rans sent calls log chip he
     (told : List Ran) × (untold : List Ran) × (rans ≡ told ++ untold) × TookFront plan told rounds held held'
 IsReported _ plan capacities rounds rans sent calls log chip held held' = ⊥
 
--- a session over rounds: every chip call was legal, every mark is true, the writes taken are those of the rounds in order and each once, the ends of rounds rise, and the sink took what the status says of the report
+-- a session over rounds: every chip call was legal, every mark is true and counts no fewer writes and calls than the mark before it and no more than there are, the writes taken are those of the rounds in order and each once, the ends of rounds rise, and the sink took what the status says of the report
 pub record IsSession (plan : Ports) (capacities : List ℕ) (rounds : List Round) (ended : Status) (log : History) (chip : ChipState) (held held' : Option (List ℕ)) : Type 0 where
   pub room : chip.capacities ≡ capacities
   pub clean : chip.clean ≡ true
   pub legality : EffectsAreLegal plan capacities log.taken chip.effects
   pub marks : MarksAreTrue plan capacities log chip.effects
+  pub counts : AreWithin (length log.taken) (length chip.effects) log.marks
   pub rans : List Ran
   pub sent : List Sent
   pub calls : List (Call Rid)
@@ -80,10 +81,16 @@ pub record IsSession (plan : Ports) (capacities : List ℕ) (rounds : List Round
   pub writes : AreTaken rans rounds sent
   pub reported : IsReported ended plan capacities rounds rans sent calls log chip held held'
 
+-- a session of a script: its chip has the script's failing calls, and failed at no more calls than these are
+pub record IsScriptRun (script : Script) (ended : Status) (log : History) (chip : ChipState) (held held' : Option (List ℕ)) : Type 0 where
+  pub fails : chip.fails ≡ map chip_fail script.fails
+  pub faults : chip.faults ≤ length chip.fails
+  pub session : IsSession script.plan script.caps.0 script.rounds ended log chip held held'
+
 -- a run that got to its script: a session, or none where memory was refused before its chip stood
 abbrev pub IsRunBy : Script → Status → History → Option Sim → Option (List ℕ) → Option (List ℕ) → Type 0
 IsRunBy script ended log None held held' = (ended ≡ status.OutOfMemory) × (log ≡ no_history) × (held' ≡ held)
-IsRunBy script ended log (Some sim) held held' = IsSession script.plan script.caps.0 script.rounds ended log sim.chip held held'
+IsRunBy script ended log (Some sim) held held' = IsScriptRun script ended log sim.chip held held'
 
 abbrev pub IsRun : Script → Outcome → Option (List ℕ) → Option (List ℕ) → Type 0
 IsRun script outcome held held' = IsRunBy script outcome.status outcome.log outcome.chip held held'

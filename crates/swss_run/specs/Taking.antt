@@ -12,8 +12,9 @@ use Rattle.table_schema.specs.declared.write.Write.{Write}
 use Rattle.sai_types.specs.Alike.{IsIn}
 use Rattle.table_schema.specs.declared.key.Key.{Key}
 use Rattle.sai_types.specs.ChipState.{ChipState}
-use Rattle.orch_core.specs.Keeps.{IsKept, is_served, key_of}
-use Rattle.orch_core.specs.State.{State, size_of}
+use Rattle.orch_core.specs.Keeps.{IsKept, is_served}
+use Rattle.switch_model.specs.Marks.{written_key}
+use Rattle.orch_core.specs.State.{State, counted_size}
 use Rattle.swss_script.specs.Sections.{acts_of}
 use Rattle.swss_script.specs.Sent.{sent_after}
 use Rattle.swss_script.specs.declared.parts.Act.{Act}
@@ -33,14 +34,14 @@ pub record AreCounted (counts : Counts) (sent : List Sent) : Type 0 where
   pub each : (producer : ℕ) → unwrap_or (lookup (is_at (nat_cmp producer)) counts) 0 ≡ count_by (λ s. s.from == producer) sent
 
 -- each of the writes names a row that this stage brings to the chip
-abbrev pub AreServed : List Sent → Type 0
-AreServed [] = Unit {0}
-AreServed (sent ∷ more) = (is_served (key_of sent.write) ≡ true) × AreServed more
+abbrev pub NameServedRows : List Sent → Type 0
+NameServedRows [] = Unit {0}
+NameServedRows (sent ∷ more) = (is_served (written_key sent.write) ≡ true) × NameServedRows more
 
 -- a core took these writes behind those that it had: nothing else of its log changed
 pub record Took (sent : List Sent) (old new : State) : Type 0 where
   pub behind : new ≡ record old { rows = new.rows; to_sync = new.to_sync; log = record old.log { taken = old.log.taken ++ sent } }
-  pub kept : (chip : ChipState) → AreServed sent → IsKept old chip → IsKept new chip
+  pub kept : (chip : ChipState) → NameServedRows sent → IsKept old chip → IsKept new chip
 
 -- a core took these writes, and each key to sync is one of theirs or was to sync before
 pub record TookAll (sent : List Sent) (old new : State) : Type 0 where
@@ -52,7 +53,7 @@ pub record TookAll (sent : List Sent) (old new : State) : Type 0 where
 abbrev pub IsTook : ℕ → List Sent → List (ℕ × Write) → State → Taken → State → Counts → Type 0
 IsTook effects before writes old taken.All new counts = (sent : List Sent) × (sent_after before writes ≡ before ++ sent) × TookAll sent old new × AreCounted counts (before ++ sent)
 IsTook effects before writes old taken.LogFull new counts =
-    (sent : List Sent) × (next : Sent) × (later : List Sent) × (sent_after before writes ≡ before ++ (sent ++ next ∷ later)) × Took sent old new × (new.limit < size_of new effects + 1)
+    (sent : List Sent) × (next : Sent) × (later : List Sent) × (sent_after before writes ≡ before ++ (sent ++ next ∷ later)) × Took sent old new × (new.limit < counted_size new effects + 1)
 IsTook effects before writes old taken.NoMemory new counts =
     (sent : List Sent) × (later : List Sent) × (sent_after before writes ≡ before ++ (sent ++ later)) × Took sent old new
 

@@ -4,15 +4,11 @@
 mod input;
 mod outcome;
 mod output;
-#[cfg(test)]
-mod round_tests;
 mod run;
 mod session;
 mod standard;
 mod status;
 mod taking;
-#[cfg(test)]
-mod tests;
 mod words;
 
 pub use outcome::Outcome;

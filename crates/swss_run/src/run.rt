@@ -16,6 +16,7 @@ use crate::words::is_run;
 use crate::{Outcome, Refused, Status, Why};
 use orch_core::{Core, Log};
 use sai_chip::{Fail, SimChip};
+use sai_types::Chip;
 use std::alloc::Global;
 use std::sync::Wait;
 use std::thread::Threads;
@@ -50,7 +51,8 @@ pub fn swss_main<R: Threads + Wait + Sync, S: Source, K: Sink, G: Gate + Sync>(
     // On wrong words, a refused script and a fault of reading no session begins and nothing is written. Else the session is
     // that of the script that the source gave: every chip call was legal, every mark is true, the writes taken are the
     // script's, round by round, in order and each once, the ends of the rounds rise, the log is full exactly where an event
-    // needs more places than are left, and the sink took the report as the status says.
+    // needs more places than are left, and the sink took the report as the status says. The chip has the script's failing
+    // calls and failed at no more than these, so a chip fault comes only where the script has one.
     ensures session { TellsOfSession result.status result (S.left source.old) (S.left source.new) (K.holds sink.old) (K.holds sink.new) }
 {
     run(alloc, words, source, sink)
@@ -129,6 +131,8 @@ fn run_script<K: Sink>(alloc: Global, script: Script, sink: &mut K) -> Outcome
     };
     let mut chip = SimChip::new(alloc, caps, fails);
     let status = run_rounds(alloc, &mut core, &mut chip, rounds, sink);
+    // It failed at no more calls than the script lists.
+    let _faults = chip.faults();
     Outcome {
         status,
         log: core.into_log(),

@@ -31,12 +31,13 @@ pub(crate) fn run_rounds<K: Sink>(
     sink: &mut K,
 ) -> Status
     requires new { core.old ≡ new_state core.old.plan core.old.capacities log_limit }
-    requires chip { chip.old.chip ≡ new_chip core.old.capacities }
+    requires chip { chip.old.chip ≡ new_chip core.old.capacities chip.old.chip.fails }
     requires kept { IsKept core.old chip.old.chip }
     requires built { list_all is_built_round rounds ≡ true }
     ensures ran { ends_early result ≡ false }
     ensures write_fault { result ≡ Status.WriteFault → HasRisen (K.faults sink.old) (K.faults sink.new) }
     ensures session { IsSession core.old.plan core.old.capacities rounds result core.new.log chip.new.chip (K.holds sink.old) (K.holds sink.new) }
+    ensures fails { chip.new.chip.fails ≡ chip.old.chip.fails }
 {
     let mut replay = Replay::new(alloc);
     let mut number = 0u64;
@@ -64,6 +65,7 @@ fn run_round<K: Sink>(
     requires counted { 0 < number }
     requires built { is_built_round round ≡ true }
     ensures counts { K.faults sink.old ≤ K.faults sink.new }
+    ensures fails { chip.new.chip.fails ≡ chip.old.chip.fails }
     ensures run { IsRoundRun number round core.old chip.old (K.holds sink.old) (K.faults sink.old) result core.new chip.new replay.new (K.holds sink.new) (K.faults sink.new) }
 {
     let Round { sections, shows } = round;

@@ -8,8 +8,6 @@ mod fails;
 mod fields;
 mod image;
 mod laws;
-#[cfg(test)]
-mod limit_tests;
 mod line;
 mod lines;
 mod lists;

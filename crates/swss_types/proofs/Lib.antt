@@ -18,3 +18,5 @@ pub mod LaneLists
 pub mod Lists
 pub mod Macs
 pub mod Names
+pub mod Orders
+pub mod Risings

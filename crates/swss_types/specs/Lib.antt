@@ -7,6 +7,7 @@ pub mod Lanes
 pub mod Laws
 pub mod Mac
 pub mod Number
+pub mod Order
 pub mod Outside
 pub mod OutsideMemory
 pub mod Parts

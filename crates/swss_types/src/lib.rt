@@ -16,8 +16,6 @@ mod parts;
 mod prefix;
 mod rising;
 mod tagging;
-#[cfg(test)]
-mod tests;
 mod text;
 
 pub use address::{Family, Ip, Mac, Prefix};
@@ -25,7 +23,8 @@ pub use interface::IfName;
 pub use lanes::Lanes;
 pub use laws::{
     addresses_read_back, interface_addresses_read_back, interface_names_read_back, lanes_read_back,
-    macs_read_back, numbers_read_back, prefixes_read_back, taggings_read_back,
+    macs_read_back, names_and_addresses_are_ordered, numbers_read_back, prefixes_read_back,
+    taggings_read_back,
 };
 pub use number::{read_number, write_number};
 pub use out_of_memory::OutOfMemory;

@@ -33,7 +33,8 @@ pub trait Source {
     ghost faults: { Self → ℕ };
 
     /// Fills the front of `into` with the first of the bytes that are left, as many as it likes. End comes only where
-    /// nothing is left, Failed only where the count of faults rose; what is left is then as before.
+    /// nothing is left. Failed comes only where the count of faults rose, which else stays; what is left is then as
+    /// before.
     fn read(&mut self, into: &mut [u8]) -> Got
         requires { 0 < length into.old }
         ensures gives { Reads (left self.old) (faults self.old) result into.new (left self.new) (faults self.new) }
@@ -52,8 +53,8 @@ pub trait Sink {
     /// How often the sink has failed; the count stays at 2^64 - 1.
     ghost faults: { Self → ℕ };
 
-    /// Takes first bytes of the piece, as many as it likes. Failed comes only where the count of faults rose; after it
-    /// and after NoMemory the sink holds what it held.
+    /// Takes first bytes of the piece, as many as it likes. Failed comes only where the count of faults rose, which else
+    /// stays; after it and after NoMemory the sink holds what it held.
     fn write(&mut self, piece: &[u8]) -> Took
         requires { 0 < length piece.now }
         ensures takes { Writes (holds self.old) (faults self.old) result piece.now (holds self.new) (faults self.new) }

@@ -11,3 +11,5 @@ pub mod ProperKeys
 pub mod Hops
 pub mod ProperNames
 pub mod RowLists
+pub mod Restored
+pub mod TakenBack

@@ -1,8 +1,8 @@
 -- the place of a key among entries whose keys rise
 use Rattle.std.proofs.Common.{◌≡◌, ℕ, zero, suc, ◌<◌, ◌≤◌, false, cond, List, [], ◌∷◌, length, get_or, set, None, Some, Result, Ok, Err, OnOk, OnErr, inl, inr, refl, sym, ap, ◌∙◌, subst, arith}
-use Rattle.std.specs.Map.{keys_of, lookup}
+use Rattle.std.specs.Map.{keys_of, lookup, remove_entry}
 use Rattle.std.specs.BTreeMap.{insert_entry, is_at}
-use Rattle.std.specs.List.{AllByRecursion, insert}
+use Rattle.std.specs.List.{AllByRecursion, insert, remove}
 use Rattle.std.specs.List.Sorted.{IsBinarySearchResult, IsSearchInRange, IsNonDecreasingBy, IsStrictlySortedBy}
 use Rattle.std.specs.Ordering.{match_ordering, is_eq, ordering_reverse, ordering_index}
 use Rattle.std.specs.Cmp.{IsTotalOrder}
@@ -32,10 +32,10 @@ module _ {K X : Type 0} (cmp : K → K → Ordering) where
   abbrev pub AreLesser : List (K × X) → K → ℕ → Type 0
   AreLesser es k at = (j : ℕ) (d : K × X) → j < at → cmp k (get_or es j d).0 ≡ Greater
 
-  put_step : (e : K × X) (es : List (K × X)) (k : K) (v : X) (r : Ordering) → cmp k e.0 ≡ r → insert_entry cmp (e ∷ es) k v ≡ match_ordering r ((k, v) ∷ e ∷ es) ((e.0, v) ∷ es) (e ∷ insert_entry cmp es k v)
+  pub put_step : (e : K × X) (es : List (K × X)) (k : K) (v : X) (r : Ordering) → cmp k e.0 ≡ r → insert_entry cmp (e ∷ es) k v ≡ match_ordering r ((k, v) ∷ e ∷ es) ((e.0, v) ∷ es) (e ∷ insert_entry cmp es k v)
   put_step e es k v r h = ap (λ o. match_ordering o ((k, v) ∷ e ∷ es) ((e.0, v) ∷ es) (e ∷ insert_entry cmp es k v)) h
 
-  find_step : (e : K × X) (es : List (K × X)) (k : K) (r : Ordering) → cmp k e.0 ≡ r → lookup (is_at (cmp k)) (e ∷ es) ≡ cond (is_eq r) (Some e.1) (lookup (is_at (cmp k)) es)
+  pub find_step : (e : K × X) (es : List (K × X)) (k : K) (r : Ordering) → cmp k e.0 ≡ r → lookup (is_at (cmp k)) (e ∷ es) ≡ cond (is_eq r) (Some e.1) (lookup (is_at (cmp k)) es)
   find_step e es k r h = ap (λ o. cond (is_eq o) (Some e.1) (lookup (is_at (cmp k)) es)) h
 
   put_over : (es : List (K × X)) (at : ℕ) (k : K) (v : X) (d : K × X) → at < length es → AreLesser es k at → cmp k (get_or es at d).0 ≡ Equal → insert_entry cmp es k v ≡ set es at ((get_or es at d).0, v)
@@ -47,6 +47,14 @@ module _ {K X : Type 0} (cmp : K → K → Ordering) where
   found_at [] at k d lt h e = absurd (omega arith)
   found_at (x ∷ es) zero k d lt h e = find_step x es k Equal e
   found_at (x ∷ es) (suc at) k d lt h e = find_step x es k Greater (h zero x (omega arith)) ∙ found_at es at k d (omega arith) (λ j d less. h (suc j) d (omega arith)) e
+
+  pub out_step : (e : K × X) (es : List (K × X)) (k : K) (r : Ordering) → cmp k e.0 ≡ r → remove_entry (is_at (cmp k)) (e ∷ es) ≡ cond (is_eq r) es (e ∷ remove_entry (is_at (cmp k)) es)
+  out_step e es k r h = ap (λ o. cond (is_eq o) es (e ∷ remove_entry (is_at (cmp k)) es)) h
+
+  out_at : (es : List (K × X)) (at : ℕ) (k : K) → at < length es → AreLesser es k at → ((d : K × X) → cmp k (get_or es at d).0 ≡ Equal) → remove_entry (is_at (cmp k)) es ≡ remove es at
+  out_at [] at k lt h e = absurd (omega arith)
+  out_at (x ∷ es) zero k lt h e = out_step x es k Equal (e x)
+  out_at (x ∷ es) (suc at) k lt h e = out_step x es k Greater (h zero x (omega arith)) ∙ ap (λ r. x ∷ r) (out_at es at k (omega arith) (λ j d less. h (suc j) d (omega arith)) e)
 
   put_between : (es : List (K × X)) (at : ℕ) (k : K) (v : X) → at ≤ length es → AreLesser es k at → ((d : K × X) → at < length es → cmp k (get_or es at d).0 ≡ Less) → insert_entry cmp es k v ≡ insert es at (k, v)
   put_between [] zero k v le h more = refl
@@ -77,7 +85,7 @@ module _ {K X : Type 0} (cmp : K → K → Ordering) where
       elim (cmp k e.0) as (λ r. AllByRecursion (λ y. cmp x y.0 ≡ Less) (match_ordering r ((k, v) ∷ e ∷ es) ((e.0, v) ∷ es) (e ∷ insert_entry cmp es k v))) [ Less ↦ (less, h) | Equal ↦ (h.0, h.1) | Greater ↦ (h.0, rest) ]
 
   module _ (o : IsTotalOrder cmp) where
-    above_more : (a b : K) (es : List (K × X)) → cmp a b ≡ Less → AllByRecursion (λ y. cmp b y.0 ≡ Less) es → AllByRecursion (λ y. cmp a y.0 ≡ Less) es
+    pub above_more : (a b : K) (es : List (K × X)) → cmp a b ≡ Less → AllByRecursion (λ y. cmp b y.0 ≡ Less) es → AllByRecursion (λ y. cmp a y.0 ≡ Less) es
     above_more a b [] less h = tt
     above_more a b (e ∷ es) less h = (o.trans a b e.0 less h.0, above_more a b es less h.1)
 
@@ -106,7 +114,7 @@ module _ {K X : Type 0} (cmp : K → K → Ordering) where
     placed es k (Ok at) h within found =
         let here : (d : K × X) → cmp k (get_or es at d).0 ≡ Equal = λ d. tied_back o _ _ (found d) in
         let lesser : AreLesser es k at = λ j d lt. back o k (get_or es j d).0 Less (sym (alike_right o (get_or es at d).0 k (get_or es j d).0 (found d)) ∙ rising_at es j at d h lt within) in
-        (within, (λ d. found_at es at k d within lesser (here d)), (λ v d. put_over es at k v d within lesser (here d)))
+        (within, (λ d. found_at es at k d within lesser (here d)), (λ v d. put_over es at k v d within lesser (here d)), out_at es at k within lesser here)
     placed es k (Err at) h within found =
         let parted = found (rank_rises es k h) in
         let lesser : AreLesser es k at = λ j d lt. back o k (get_or es j d).0 Less (parted.0 j d (omega arith) lt) in

@@ -1,9 +1,10 @@
 -- The fields of a row: pairs of a name and a value, in the byte order of their names (SWSS schema).
+use denote.Ref.{Bor}
 use Rattle.std.specs.Prelude.{◌≡◌, ℕ, ◌<◌, ◌≤◌, List, [], ◌∷◌, length, slice_index_or, slice_set, Option, Some, None, Result, Ok, Err}
 use Rattle.std.specs.BTreeMap.{insert_entry, is_at}
 use Rattle.std.specs.Cmp.Lexicographic.{slice_cmp}
-use Rattle.std.specs.List.{AllByRecursion, insert}
-use Rattle.std.specs.Map.{lookup}
+use Rattle.std.specs.List.{AllByRecursion, insert, remove}
+use Rattle.std.specs.Map.{lookup, remove_entry, set_value}
 use Rattle.std.specs.Ordering.{nat_cmp}
 use Rattle.std.specs.declared.cmp.Ordering.{Ordering}
 use Rattle.std.specs.declared.cmp.Ordering.TheVariants.{Less}
@@ -36,9 +37,19 @@ abbrev pub merged : Pairs → Pairs → Pairs
 merged pairs [] = pairs
 merged pairs (pair ∷ others) = merged (with_pair pairs pair.0 pair.1) others
 
+-- fields with what stood under a name before a pair was put there
+abbrev pub restored : Pairs → List ℕ → Option (List ℕ) → Pairs
+restored pairs name None = remove_entry (is_at (by_bytes name)) pairs
+restored pairs name (Some value) = set_value (is_at (by_bytes name)) pairs value
+
+-- fields before pairs were put, the last one taken back first: under each name, what stood there before
+abbrev pub taken_back : Pairs → List (Bor (List ℕ) × Option (List ℕ)) → Pairs
+taken_back pairs [] = pairs
+taken_back pairs (put ∷ puts) = restored (taken_back pairs puts) put.0.now put.1
+
 -- where a key stands among entries, or where an entry with it is to be put
 abbrev pub IsPlaceBy : {K X : Type 0} → (K → K → Ordering) → List (K × X) → K → Result ℕ ℕ → Type 0
-IsPlaceBy {K} {X} cmp es k (Ok at) = (at < length es) × ((d : K × X) → lookup (is_at (cmp k)) es ≡ Some (slice_index_or es at d).1) × ((v : X) (d : K × X) → insert_entry cmp es k v ≡ slice_set es at ((slice_index_or es at d).0, v))
+IsPlaceBy {K} {X} cmp es k (Ok at) = (at < length es) × ((d : K × X) → lookup (is_at (cmp k)) es ≡ Some (slice_index_or es at d).1) × ((v : X) (d : K × X) → insert_entry cmp es k v ≡ slice_set es at ((slice_index_or es at d).0, v)) × (remove_entry (is_at (cmp k)) es ≡ remove es at)
 IsPlaceBy {K} {X} cmp es k (Err at) = (at ≤ length es) × (lookup (is_at (cmp k)) es ≡ None) × ((v : X) → insert_entry cmp es k v ≡ insert es at (k, v))
 
 abbrev pub IsPlace : Pairs → List ℕ → Result ℕ ℕ → Type 0

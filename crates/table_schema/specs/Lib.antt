@@ -1,5 +1,6 @@
 pub mod Broken
 pub mod Fields
+pub mod Held
 pub mod Hop
 pub mod Key
 pub mod KeyText

@@ -16,9 +16,13 @@ Rows = List (Key × Pairs)
 abbrev pub fields_at : Rows → Key → Option Pairs
 fields_at rows key = lookup (is_at (key_cmp key)) rows
 
--- a Set merges its fields into the key's row, later values winning; a Del takes the row away
+-- a key's row with fields laid over it, later values winning
+abbrev pub with_fields : Rows → Key → Pairs → Rows
+with_fields rows key fields = insert_entry key_cmp rows key (merged (unwrap_or (fields_at rows key) []) fields)
+
+-- a Set merges its fields into the key's row; a Del takes the row away
 abbrev pub after_write : Rows → Write → Rows
-after_write rows (write.Set key fields) = insert_entry key_cmp rows key (merged (unwrap_or (fields_at rows key) []) fields)
+after_write rows (write.Set key fields) = with_fields rows key fields
 after_write rows (write.Del key) = remove_entry (is_at (key_cmp key)) rows
 
 abbrev pub after_writes : Rows → List Write → Rows

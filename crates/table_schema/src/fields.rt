@@ -1,28 +1,32 @@
 // The fields of a row.
-ghost use Rattle.std.specs.Prelude.{◌≡◌, [], ◌++◌, ◌==◌, length, IfOk, OnOk, OnErr, option_map};
-ghost use Rattle.table_schema.specs.Fields.{HasRisingNames, IsPlace, merged, value_of, with_pair};
+ghost use Rattle.std.specs.Prelude.{◌≡◌, [], ◌==◌, length, IfOk, OnOk, OnErr, option_map};
+ghost use Rattle.table_schema.specs.Fields.{HasRisingNames, merged, restored, taken_back, value_of, with_pair};
 
+use crate::Items;
+use crate::few::copy_few;
+use crate::held::{FEW, Held};
+use crate::many::map_of;
 use std::alloc::Global;
-use std::cmp::Ordering;
-use std::collections::BTreeMap;
 use std::marker::Model;
 use swss_types::{OutOfMemory, Text};
 
 /// Pairs of a name and a value, the names distinct and rising by bytes.
 #[derive(Debug, Drop)]
 pub struct Fields {
-    pairs: Vec<(Text, Text)>,
+    held: Held,
+    alloc: Global,
 }
 
 impl Model for Fields {
     ghost use Rattle.std.specs.Prelude.{List, ℕ};
     ghost use Rattle.table_schema.specs.Fields.{HasRisingNames};
+    ghost use Rattle.table_schema.specs.Held.{pairs_in};
 
     ghost Value = { List (List ℕ × List ℕ) };
 
-    ghost view = { λ f. f.pairs.items };
+    ghost view = { λ f. pairs_in f.held };
 
-    ghost invariant = { λ f. HasRisingNames f.pairs.items };
+    ghost invariant = { λ f. HasRisingNames (pairs_in f.held) };
 }
 
 impl Fields {
@@ -31,7 +35,8 @@ impl Fields {
         ensures { result ≡ [] }
     {
         Fields {
-            pairs: Vec::new(alloc),
+            held: Held::Few(Vec::new(alloc)),
+            alloc,
         }
     }
 
@@ -40,9 +45,15 @@ impl Fields {
     pub fn from_pairs(alloc: Global, pairs: Vec<(Text, Text)>) -> Result<Fields, OutOfMemory>
         ensures { IfOk result (λ fields. fields ≡ merged [] pairs.items) }
     {
-        Ok(Fields {
-            pairs: into_rising(alloc, by_name(alloc, pairs)?)?,
-        })
+        let room = Vec::with_capacity(alloc, pairs.len().min(FEW))?;
+        let mut fields = Fields {
+            held: Held::Few(room),
+            alloc,
+        };
+        for (name, value) in pairs {
+            fields.put(name, value)?;
+        }
+        Ok(fields)
     }
 
     /// Puts a value under a name, in the place of one that is there.
@@ -50,168 +61,108 @@ impl Fields {
         ensures ok { OnOk result (self.new ≡ with_pair self.old name value) }
         ensures err { OnErr result (self.new ≡ self.old) }
     {
-        put_pair(&mut self.pairs, name, value)
+        self.widen()?;
+        self.held.put(name, value)?;
+        Ok(())
     }
 
     /// The value under a name: None exactly where there is no such name.
     pub fn get(&self, name: &[u8]) -> Option<&Text>
         ensures { option_map (λ value. value.now) result ≡ value_of name.now self.now }
     {
-        find(self.pairs.as_slice(), name)
+        self.held.find(self.alloc, name)
     }
 
     /// The pairs, their names rising.
-    pub fn items(&self) -> &[(Text, Text)]
-        ensures value { result.now ≡ self.now }
-        ensures names { HasRisingNames result.now }
+    pub fn items(&self) -> Items<'_>
+        ensures rest { result ≡ self.now }
+        ensures names { HasRisingNames self.now }
     {
-        self.pairs.as_slice()
+        Items::new(&self.held)
     }
 
     /// Whether there is no pair.
     pub fn is_empty(&self) -> bool
         ensures { result ≡ (length self.now == 0) }
     {
-        self.pairs.is_empty()
+        match &self.held {
+            Held::Few(pairs) => pairs.is_empty(),
+            Held::Many(pairs) => pairs.is_empty(),
+        }
     }
 
-    /// Lays other fields over these: the value of a name that both have is then the other's. The work is linear in the
-    /// two together.
+    /// Lays other fields over these: the value of a name that both have is then the other's. Each costs a few steps.
     pub fn merge(&mut self, other: &Fields) -> Result<(), OutOfMemory>
         ensures ok { OnOk result (self.new ≡ merged self.old other.now) }
         ensures err { OnErr result (self.new ≡ self.old) }
     {
-        self.pairs = merge_pairs(
-            *self.pairs.allocator(),
-            self.pairs.as_slice(),
-            other.items(),
-        )?;
+        let mut laid = Vec::new(self.alloc);
+        for (name, value) in other.items() {
+            if let Err(error) = self.lay(&mut laid, name, value) {
+                self.take_back(laid);
+                return Err(error);
+            }
+        }
         Ok(())
     }
 
     /// The same fields once more.
     pub fn copy(&self) -> Result<Fields, OutOfMemory>
-        ensures { IfOk result (λ fields. fields ≡ self.now) }
+        ensures same { IfOk result (λ fields. fields ≡ self.now) }
+        ensures names { HasRisingNames self.now }
     {
         Ok(Fields {
-            pairs: copy_pairs(*self.pairs.allocator(), self.pairs.as_slice())?,
+            held: match &self.held {
+                Held::Few(pairs) => Held::Few(copy_few(self.alloc, pairs.as_slice())?),
+                Held::Many(_) => Held::Many(map_of(self.alloc, self.items())?),
+            },
+            alloc: self.alloc,
         })
     }
-}
 
-/// The last value of each name.
-fn by_name(alloc: Global, pairs: Vec<(Text, Text)>) -> Result<BTreeMap<Text, Text>, OutOfMemory>
-    ensures { IfOk result (λ named. named.entries ≡ merged [] pairs.items) }
-{
-    let mut named = BTreeMap::new(alloc);
-    for (name, value) in pairs {
-        named.insert(name, value)?;
+    /// Goes over to a map where the list is full.
+    fn widen(&mut self) -> Result<(), OutOfMemory>
+        ensures { self.new ≡ self.old }
+    {
+        let map = match &self.held {
+            Held::Few(pairs) if pairs.len() >= FEW => map_of(self.alloc, self.items())?,
+            _ => return Ok(()),
+        };
+        self.held = Held::Many(map);
+        Ok(())
     }
-    Ok(named)
-}
 
-/// The names and values of a map, the names rising.
-fn into_rising(alloc: Global, named: BTreeMap<Text, Text>) -> Result<Vec<(Text, Text)>, OutOfMemory>
-    ensures same { IfOk result (λ pairs. pairs.items ≡ named.entries) }
-    ensures rising { IfOk result (λ pairs. HasRisingNames pairs.items) }
-{
-    let mut pairs = Vec::with_capacity(alloc, named.len())?;
-    for pair in named {
-        pairs.push(pair)?;
+    /// Lays a pair over these, and notes it among those that were laid.
+    fn lay<'a>(
+        &mut self,
+        laid: &mut Vec<(&'a Text, Option<Text>)>,
+        name: &'a Text,
+        value: &Text,
+    ) -> Result<(), OutOfMemory>
+        ensures ok { OnOk result (self.new ≡ with_pair self.old name.now value.now) }
+        ensures noted { taken_back self.new laid.new.items ≡ taken_back self.old laid.old.items }
+    {
+        laid.reserve(1)?;
+        self.widen()?;
+        let was = self.held.lay(name, value)?;
+        laid.push((name, was))?;
+        Ok(())
     }
-    Ok(pairs)
-}
 
-/// Where a name stands among the pairs, or where a pair with it is to be put.
-fn place_of(pairs: &[(Text, Text)], name: &[u8]) -> Result<usize, usize>
-    requires { HasRisingNames pairs.now }
-    ensures { IsPlace pairs.now name.now result }
-{
-    pairs.binary_search_by(|pair| pair.0.bytes().cmp(name))
-}
-
-/// The value under a name.
-fn find<'a>(pairs: &'a [(Text, Text)], name: &[u8]) -> Option<&'a Text>
-    requires { HasRisingNames pairs.now }
-    ensures { option_map (λ value. value.now) result ≡ value_of name.now pairs.now }
-{
-    match place_of(pairs, name) {
-        Ok(at) => Some(&pairs[at].1),
-        Err(_) => None,
-    }
-}
-
-/// Puts a value under a name.
-fn put_pair(pairs: &mut Vec<(Text, Text)>, name: Text, value: Text) -> Result<(), OutOfMemory>
-    requires { HasRisingNames pairs.old.items }
-    ensures ok { OnOk result (pairs.new.items ≡ with_pair pairs.old.items name value) }
-    ensures err { OnErr result (pairs.new.items ≡ pairs.old.items) }
-{
-    match place_of(pairs.as_slice(), name.bytes()) {
-        Ok(at) => pairs[at].1 = value,
-        Err(at) => pairs.insert(at, (name, value))?,
-    }
-    Ok(())
-}
-
-/// The pairs with others laid over them.
-fn merge_pairs(
-    alloc: Global,
-    pairs: &[(Text, Text)],
-    others: &[(Text, Text)],
-) -> Result<Vec<(Text, Text)>, OutOfMemory>
-    requires { HasRisingNames others.now }
-    ensures { IfOk result (λ all. all.items ≡ merged pairs.now others.now) }
-{
-    let mut all = Vec::new(alloc);
-    let mut at = 0;
-    let mut next = 0;
-    while at < pairs.len() && next < others.len() {
-        let pair = &pairs[at];
-        let other = &others[next];
-        match other.0.cmp(&pair.0) {
-            Ordering::Less => {
-                all.push(copy_pair(&other.0, &other.1)?)?;
-                next += 1;
-            }
-            Ordering::Equal => {
-                all.push(copy_pair(&pair.0, &other.1)?)?;
-                at += 1;
-                next += 1;
-            }
-            Ordering::Greater => {
-                all.push(copy_pair(&pair.0, &pair.1)?)?;
-                at += 1;
-            }
+    /// Takes back what was laid, the last pair first.
+    fn take_back(&mut self, laid: Vec<(&Text, Option<Text>)>)
+        ensures { self.new ≡ taken_back self.old laid.entry.items }
+    {
+        let mut laid = laid;
+        while let Some((name, was)) = laid.pop() {
+            self.restore(name, was);
         }
     }
-    append_pairs(&mut all, &pairs[at..])?;
-    append_pairs(&mut all, &others[next..])?;
-    Ok(all)
-}
 
-/// A name and a value once more.
-fn copy_pair(name: &Text, value: &Text) -> Result<(Text, Text), OutOfMemory>
-    ensures { IfOk result (λ pair. pair ≡ (name.now, value.now)) }
-{
-    Ok((name.copy()?, value.copy()?))
-}
-
-/// Appends copies of pairs.
-fn append_pairs(all: &mut Vec<(Text, Text)>, pairs: &[(Text, Text)]) -> Result<(), OutOfMemory>
-    ensures { OnOk result (all.new.items ≡ all.old.items ++ pairs.now) }
-{
-    for pair in pairs {
-        all.push(copy_pair(&pair.0, &pair.1)?)?;
+    /// Takes a put under a name back: what stood there stands there again, or nothing.
+    fn restore(&mut self, name: &Text, was: Option<Text>)
+        ensures { self.new ≡ restored self.old name.now was }
+    {
+        self.held.restore(name, was);
     }
-    Ok(())
-}
-
-/// The same pairs once more.
-fn copy_pairs(alloc: Global, pairs: &[(Text, Text)]) -> Result<Vec<(Text, Text)>, OutOfMemory>
-    ensures { IfOk result (λ copies. copies.items ≡ pairs.now) }
-{
-    let mut copies = Vec::with_capacity(alloc, pairs.len())?;
-    append_pairs(&mut copies, pairs)?;
-    Ok(copies)
 }

@@ -2,11 +2,17 @@
 #![tactic(auto)]
 
 mod broken;
+mod few;
 pub mod field;
 mod fields;
+mod held;
+mod items;
 mod key;
 mod key_text;
 mod laws;
+mod many;
+#[cfg(test)]
+mod memory_tests;
 mod naming;
 mod plan;
 mod route_rules;
@@ -16,11 +22,10 @@ mod row_hops;
 mod rules;
 mod split;
 mod table;
-#[cfg(test)]
-mod tests;
 mod write;
 
 pub use fields::Fields;
+pub use items::Items;
 pub use key::Key;
 pub use key_text::{has_colon, read_key};
 pub use laws::{

@@ -1,5 +1,5 @@
 use Rattle.std.proofs.Common.{false, drop, get_or, ◌-◌, rules}
-use Rattle.sai_chip.specs.declared.fail.Fail.{Fail}
+use Rattle.sai_types.specs.declared.fail.Fail.{Fail}
 use Rattle.sai_chip.proofs.Indexed.{IsIndex-cons, drop-before}
 use Rattle.sai_chip.proofs.fail.index.Goals as goal
 

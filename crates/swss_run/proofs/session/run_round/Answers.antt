@@ -13,7 +13,7 @@ use Rattle.switch_model.specs.declared.mark.Mark.{Mark}
 use Rattle.swss_script.specs.declared.parts.Show.{Show}
 use Rattle.swss_run.specs.Running.{IsWritten}
 use Rattle.swss_run.specs.declared.status.Status.{Status}
-use Rattle.orch_core.specs.Settling.{IsSettled}
+use Rattle.orch_core.specs.Settling.{EndsSettling}
 use Rattle.orch_core.specs.State.{State}
 use Rattle.orch_core.specs.declared.answer.Settled.{Settled}
 use Rattle.swss_script.specs.Sent.{writes_in}
@@ -25,8 +25,8 @@ use Rattle.swss_run.proofs.session.run_round.Goals as goal
 took_as : (n m : ℕ) (writes : List (ℕ × Write)) (old mid : State) {r t : Taken} → n ≡ m → r ≡ t → IsRoundTook n writes old r mid → IsRoundTook m writes old t mid
 took_as n m writes old mid {r} {t} size is took = subst (λ k. IsRoundTook k writes old t mid) size (subst (λ x. IsRoundTook n writes old x mid) is took)
 
-settled_as : (old : State) (chip : ChipState) (new : State) (chip' : ChipState) {r s : Result Settled OutOfMemory} → r ≡ s → IsSettled old chip r new chip' → IsSettled old chip s new chip'
-settled_as old chip new chip' is h = subst (λ x. IsSettled old chip x new chip') is h
+settled_as : (old : State) (chip : ChipState) (new : State) (chip' : ChipState) {r s : Result Settled OutOfMemory} → r ≡ s → EndsSettling old chip r new chip' → EndsSettling old chip s new chip'
+settled_as old chip new chip' is h = subst (λ x. EndsSettling old chip x new chip') is h
 
 pub returns-in-LogFull-clause-run : goal.returns-in-LogFull-clause-run
 returns-in-LogFull-clause-run g c =

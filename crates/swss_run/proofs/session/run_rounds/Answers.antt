@@ -28,6 +28,7 @@ loop-round-init g c =
       subst (λ l. list_all is_built_round l ≡ true) (sym items) c.requires.built,
       omega arith,
       running-none c.args.rounds c.args.core.now c.args.chip.now (g.K.Sink.holds c.args.sink.now) c.new-replay.result c.requires.new c.requires.chip c.requires.kept (replay-none c.args.chip.now.chip.effects c.new-replay.result c.new-replay.ensures) (ap (λ (r : Replayed). r.at) c.new-replay.ensures),
+      refl,
     )
 
 pub run_round-requires-clause-built : goal.run_round-requires-clause-built
@@ -57,6 +58,7 @@ loop-round-preserved g c =
           c.in-Some.round (c.loop-round.number + 1) (round-at c.loop-round.invariant.0 c.in-Some.round c.next.new.self.rest.items c.args.rounds split) (ap (λ n. n + 1) c.loop-round.invariant.2)
           (g.K.Sink.faults c.loop-round.sink) (g.K.Sink.faults c.run_round.new.sink) c.run_round.new.core c.run_round.new.chip c.run_round.new.replay (g.K.Sink.holds c.run_round.new.sink)
           c.in-Done.ensures.run,
+      c.run_round.ensures.fails ∙ c.loop-round.invariant.6,
     )
 
 pub returns-clause-session : goal.returns-clause-session

@@ -9,4 +9,4 @@ use Rattle.swss_run.proofs.session.run_rounds.Given as goal
 abbrev pub invariant-loop-round : goal.invariant-loop-round
 invariant-loop-round g l =
     (done : List Round) × (l.fn.rounds ≡ done ++ l.round-iterator.rest.items) × (l.number ≡ length done) × (list_all is_built_round l.round-iterator.rest.items ≡ true) × (g.K.Sink.faults l.initial.sink ≤ g.K.Sink.faults l.sink)
-    × IsRunning l.fn.rounds done l.initial.core (g.K.Sink.holds l.initial.sink) l.core l.chip l.replay (g.K.Sink.holds l.sink)
+    × IsRunning l.fn.rounds done l.initial.core (g.K.Sink.holds l.initial.sink) l.core l.chip l.replay (g.K.Sink.holds l.sink) × (l.chip.chip.fails ≡ l.initial.chip.chip.fails)

@@ -17,4 +17,5 @@ returns-clause-gives c =
         refl,
         ap (λ s. s.left) (sym c.self.view_is) ∙ rw c.deref-2.ensures.value at (gives-front all c.copy_front-count.new.into at count c.copy_front-count.ensures.front),
       ),
+      ap (λ s. s.faults) c.self.view_is,
     )

@@ -1,0 +1,75 @@
+// A case: a chip, what it is asked, and what is reported of it.
+use crate::asked::Asked;
+use crate::report::Reporter;
+use anyhow::Result;
+use std::alloc::Global;
+
+/// A case, as far as its lines were read.
+#[derive(Drop)]
+pub struct Case {
+    name: String,
+    passes: bool,
+    asked: Asked,
+    reporter: Reporter,
+    wanted: Vec<u8>,
+}
+
+impl Case {
+    /// A case with an empty chip.
+    pub fn new(alloc: Global, name: &str) -> Result<Case> {
+        Ok(Case {
+            name: String::from_str(alloc, name)?,
+            passes: true,
+            asked: Asked::new(alloc),
+            reporter: Reporter::new(alloc)?,
+            wanted: Vec::new(alloc),
+        })
+    }
+
+    /// The name of the case.
+    pub fn name(&self) -> &str {
+        self.name.as_str()
+    }
+
+    /// Whether each line found what it wants.
+    pub fn passes(&self) -> bool {
+        self.passes
+    }
+
+    /// Does what a line says. Where it wants something else than was found, this is what was found.
+    pub fn add_line(&mut self, alloc: Global, line: &str) -> Result<Option<String>> {
+        let found = self.find(alloc, line)?;
+        self.passes = self.passes && found.is_none();
+        Ok(found)
+    }
+
+    fn find(&mut self, alloc: Global, line: &str) -> Result<Option<String>> {
+        if let Some(text) = line.strip_prefix('|') {
+            self.wanted.extend_from_slice(text.as_bytes())?;
+            self.wanted.push(b'\n')?;
+            return Ok(None);
+        }
+        if let Some((call, wanted)) = line.split_once(" => ") {
+            return self.asked.call(alloc, call, wanted);
+        }
+        let words = line.split_whitespace().collect::<Vec<&str>>(alloc)?;
+        let words = words.as_slice();
+        let chip = self.asked.chip();
+        if self.reporter.add_line(alloc, words, chip)? || self.asked.prepare(alloc, words)? {
+            return Ok(None);
+        }
+        self.asked.find(alloc, words)
+    }
+
+    /// The first line of the report that is another than is wanted, and the one that is wanted.
+    pub fn other_line(&self) -> Option<(&[u8], &[u8])> {
+        let mut wanted = self.wanted.split(|byte| *byte == b'\n');
+        for line in self.reporter.lines().split(|byte| *byte == b'\n') {
+            let other = wanted.next().unwrap_or(b"");
+            if line != other {
+                return Some((line, other));
+            }
+        }
+        wanted.next().map(|other| (b"".as_slice(), other))
+    }
+}

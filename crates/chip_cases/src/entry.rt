@@ -1,0 +1,28 @@
+// Entries.
+ghost use Rattle.std.specs.Prelude.{◌≤◌, length};
+
+use crate::words::{id, ip, prefix};
+use anyhow::{Result, bail};
+use sai_types::{Entry, Rid};
+
+/// How many of the words are those of the entry at their front.
+pub fn entry_end(words: &[&str]) -> usize
+    ensures { result ≤ length words.now }
+{
+    let end = match words.first() {
+        Some(&"neighbor") => 3,
+        _ => 2,
+    };
+    words.len().min(end)
+}
+
+/// The entry of these words.
+pub fn entry(words: &[&str]) -> Result<Entry<Rid>> {
+    Ok(match words {
+        ["id", number] => Entry::Oid(id(number)?),
+        ["own", address] => Entry::Own(ip(address)?),
+        ["neighbor", rif, address] => Entry::Neigh(id(rif)?, ip(address)?),
+        ["route", covers] => Entry::Route(prefix(covers)?),
+        _ => bail!("an entry"),
+    })
+}

@@ -1,0 +1,105 @@
+//! Makes calls on simulated chips, and compares what they come to. Standard input holds the cases, a word at a time:
+//!
+//! ```text
+//! case NAME                  a case begins: an empty chip, no row, an empty plan; its name is told where it fails
+//! room N                     the chip has room for N objects of each kind; 100 without such a line
+//! room KIND N                so much room for this kind
+//! fail N before              chip call N, of all calls and listings from 1, fails; `after`: with its effect
+//! create OBJECT => ANSWER    a call, and the answer that is wanted
+//! set ENTRY ATTRIBUTE => ANSWER
+//! remove ENTRY => ANSWER
+//! used KIND N                so many objects of the kind stand
+//! capacity KIND N            so many have room
+//! effects N                  so many calls took effect; `effect K` and `no effect K`: whether there is one of this number
+//! faults N                   so many calls failed
+//! hold ENTRY OBJECT          the list behind which listings are put holds this object
+//! list ANSWER                a listing, and the answer that is wanted
+//! listed ENTRY OBJECT        the first object of the list that no such line named before is this one
+//! listed all                 no other is on the list
+//! port NAME LANES            the plan has this port
+//! row KEY F=V ..             fields of a row are set; without any, the row is deleted
+//! settled KEY ..             the round has a mark of a settling at which these keys wait
+//! faulted N                  the round has a mark of the chip's fault N
+//! show WHAT ..               the round ends with these shows, which are those of scripts; its report is the lines behind
+//! |LINE                      a line of that report
+//! ```
+//!
+//! `room` and `fail` stand before the first call of a case. An OBJECT is `port LANES`, `port LANES up`, `vlan NUMBER`,
+//! `bridge_port ID`, `member VLAN-ID BRIDGE-PORT-ID`, `rif port ID`, `rif vlan ID`, `own IP`, `neighbor RIF-ID IP MAC`,
+//! `next_hop RIF-ID IP`, `group`, `group_member GROUP-ID NEXT-HOP-ID` or `route PREFIX TARGET`. A TARGET is `drop`,
+//! `rif ID`, `next_hop ID` or `group ID`. An ENTRY is `id ID`, `own IP`, `neighbor RIF-ID IP` or `route PREFIX`. An
+//! ATTRIBUTE is `speed N`, `mtu N`, `up`, `down`, `tagging WORD`, `mac MAC` or `to TARGET`. An ANSWER is `made ID`, `done`,
+//! `exists`, `bad-reference`, `not-found`, `in-use`, `full`, `failed` or `no-memory`, as it stands in the chip's table.
+//! Lines that are empty or begin with `#` are skipped. What differs is printed, and at the end `N passed, M failed`; the
+//! exit status is 1 where one failed.
+#![tactic(auto)]
+
+mod asked;
+mod call;
+mod case;
+mod entry;
+mod object;
+mod report;
+mod words;
+
+use anyhow::{Context, Result, ensure};
+use case::Case;
+use std::alloc::Global;
+use std::io::{BufRead, BufReader};
+use std::str;
+
+/// How many cases passed, and how many failed.
+#[derive(Clone, Copy, Debug, Default)]
+struct Tally {
+    passed: u32,
+    failed: u32,
+}
+
+fn main(rt: HostRuntime) -> Result<()> {
+    let alloc = rt.alloc();
+    let mut tally = Tally::default();
+    let mut case = None;
+    for line in BufReader::new(alloc, rt.reader())?.lines(alloc) {
+        let line = line.context("the cases")?;
+        match line.as_str().strip_prefix("case ") {
+            Some(name) => {
+                finish(&rt, case, &mut tally)?;
+                case = Some(Case::new(alloc, name)?);
+            }
+            None => add_line(&rt, alloc, &mut case, line.as_str())?,
+        }
+    }
+    finish(&rt, case, &mut tally)?;
+    println!(rt; "{} passed, {} failed", tally.passed, tally.failed)?;
+    ensure!(tally.failed == 0, "cases failed");
+    Ok(())
+}
+
+/// Does what a line says in the case that has begun.
+fn add_line(rt: &impl Print, alloc: Global, case: &mut Option<Case>, line: &str) -> Result<()> {
+    if line.is_empty() || line.starts_with('#') {
+        return Ok(());
+    }
+    let case = case.as_mut().context("a case")?;
+    if let Some(found) = case.add_line(alloc, line).context(line)? {
+        println!(rt; "{}: {line}: {found}", case.name())?;
+    }
+    Ok(())
+}
+
+/// Counts a case that is complete.
+fn finish(rt: &impl Print, case: Option<Case>, tally: &mut Tally) -> Result<()> {
+    let Some(case) = case else {
+        return Ok(());
+    };
+    if let Some((found, wanted)) = case.other_line() {
+        let (found, wanted) = (str::from_utf8(found), str::from_utf8(wanted));
+        println!(rt; "{}: {found:?} for {wanted:?}", case.name())?;
+        tally.failed = tally.failed.saturating_add(1);
+    } else if case.passes() {
+        tally.passed = tally.passed.saturating_add(1);
+    } else {
+        tally.failed = tally.failed.saturating_add(1);
+    }
+    Ok(())
+}

@@ -1,0 +1,14 @@
+pub mod Answering
+pub mod Bodies
+pub mod Counting
+pub mod Entries
+pub mod Laid
+pub mod Making
+pub mod Naming
+pub mod Owned
+pub mod Removing
+pub mod Renaming
+pub mod Seeing
+pub mod Setting
+pub mod Shapes
+pub mod Worked

@@ -1,0 +1,59 @@
+-- the orders of hops and of things are those of their parts
+use Rattle.std.proofs.Common.{◌≡◌, List, [], ◌∷◌, Ordering, ap, ap₂, ◌∙◌, refl, nat_cmp}
+use Rattle.std.specs.Cmp.Lexicographic.{slice_cmp}
+use Rattle.std.specs.Ordering.{ordering_then}
+use Rattle.std.specs.declared.cmp.Ordering.TheVariants.{Less, Equal, Greater}
+use Rattle.swss_types.specs.Order.{prefix_cmp, prefix_order}
+use Rattle.swss_types.proofs.Orders.{ips-by_parts, prefixes-by_parts}
+use Rattle.sai_types.specs.contracts.hop.BaseOrd.TheImpl as base_ord
+use Rattle.sai_types.specs.contracts.thing.ThingOrd.TheImpl as thing_ord
+use Rattle.sai_types.specs.declared.hop.Base.{Base}
+use Rattle.sai_types.specs.declared.hop.Base.TheVariants as base
+use Rattle.sai_types.specs.declared.hop.Hop.{Hop}
+use Rattle.sai_types.specs.declared.thing.Thing.{Thing}
+use Rattle.sai_types.specs.declared.thing.Thing.TheVariants as thing
+use Rattle.sai_types.specs.Hop.{hop_cmp}
+use Rattle.sai_types.specs.Order.{base_order, hop_order, thing_order}
+
+bases-by_parts : (a b : Base) → base_ord.ghosts.cmp a b ≡ base_order a b
+bases-by_parts (base.Port m) (base.Port n) = refl
+bases-by_parts (base.Port m) (base.Vlan n) = refl
+bases-by_parts (base.Vlan m) (base.Port n) = refl
+bases-by_parts (base.Vlan m) (base.Vlan n) = refl
+
+pub hops-by_parts : (a b : Hop) → hop_cmp a b ≡ hop_order a b
+hops-by_parts a b = ap₂ ordering_then (bases-by_parts a.on b.on) (ips-by_parts a.ip b.ip)
+
+lists-by_parts : (gs hs : List Hop) → slice_cmp hop_cmp gs hs ≡ slice_cmp hop_order gs hs
+lists-by_parts [] [] = refl
+lists-by_parts [] (h ∷ hs) = refl
+lists-by_parts (g ∷ gs) [] = refl
+lists-by_parts (g ∷ gs) (h ∷ hs) = ap₂ ordering_then (hops-by_parts g h) (lists-by_parts gs hs)
+
+then_assoc : (a b c : Ordering) → ordering_then a (ordering_then b c) ≡ ordering_then (ordering_then a b) c
+then_assoc Less b c = refl
+then_assoc Equal b c = refl
+then_assoc Greater b c = refl
+
+then_none : (a : Ordering) → a ≡ ordering_then a Equal
+then_none Less = refl
+then_none Equal = refl
+then_none Greater = refl
+
+then_same : (a b c : Ordering) → a ≡ b → ordering_then a c ≡ ordering_then b c
+then_same a b c e = ap (λ o. ordering_then o c) e
+
+-- by kind and natural key, and then by what can be set
+pub things-by_parts : (t u : Thing) → (rest : Ordering) × (thing_ord.ghosts.cmp t u ≡ ordering_then (thing_order t u) rest)
+things-by_parts (thing.Port p) (thing.Port q) = (_, refl)
+things-by_parts (thing.Vlan v) (thing.Vlan w) = (Equal, then_none (nat_cmp v w))
+things-by_parts (thing.BridgePort p) (thing.BridgePort q) = (Equal, then_none (nat_cmp p q))
+things-by_parts (thing.VlanMember v p t) (thing.VlanMember w q u) = (_, then_assoc (nat_cmp v w) (nat_cmp p q) _)
+things-by_parts (thing.Rif a) (thing.Rif b) = (Equal, bases-by_parts a b ∙ then_none (base_order a b))
+things-by_parts (thing.Own i) (thing.Own j) = (Equal, ips-by_parts i j ∙ then_none _)
+things-by_parts (thing.Neighbor g m) (thing.Neighbor h n) = (_, then_same (hop_cmp g h) (hop_order g h) _ (hops-by_parts g h))
+things-by_parts (thing.NextHop g) (thing.NextHop h) = (Equal, hops-by_parts g h ∙ then_none (hop_order g h))
+things-by_parts (thing.Group gs) (thing.Group hs) = (Equal, lists-by_parts gs hs ∙ then_none (slice_cmp hop_order gs hs))
+things-by_parts (thing.GroupMember gs g) (thing.GroupMember hs h) = (Equal, ap₂ ordering_then (lists-by_parts gs hs) (hops-by_parts g h) ∙ then_none (ordering_then (slice_cmp hop_order gs hs) (hop_order g h)))
+things-by_parts (thing.Route p f) (thing.Route q g) = (_, then_same (prefix_cmp p q) (prefix_order p q) _ (prefixes-by_parts p q))
+things-by_parts t u = (Equal, refl)

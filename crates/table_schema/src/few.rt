@@ -1,0 +1,101 @@
+// A few pairs of a name and a value, in a list by rising names.
+ghost use Rattle.std.specs.Prelude.{◌≡◌, ◌++◌, IfOk, OnOk, OnErr, option_map};
+ghost use Rattle.table_schema.specs.Fields.{HasRisingNames, IsPlace, restored, value_of, with_pair};
+
+use std::alloc::Global;
+use std::mem::replace;
+use swss_types::{OutOfMemory, Text};
+
+/// Where a name stands among the pairs, or where a pair with it is to be put.
+fn place_of(pairs: &[(Text, Text)], name: &[u8]) -> Result<usize, usize>
+    requires { HasRisingNames pairs.now }
+    ensures { IsPlace pairs.now name.now result }
+{
+    pairs.binary_search_by(|pair| pair.0.bytes().cmp(name))
+}
+
+/// The value under a name.
+pub(crate) fn find_few<'a>(pairs: &'a [(Text, Text)], name: &[u8]) -> Option<&'a Text>
+    requires { HasRisingNames pairs.now }
+    ensures { option_map (λ value. value.now) result ≡ value_of name.now pairs.now }
+{
+    match place_of(pairs, name) {
+        Ok(at) => Some(&pairs[at].1),
+        Err(_) => None,
+    }
+}
+
+/// Puts a value under a name, and answers the one that it replaced.
+pub(crate) fn put_few(
+    pairs: &mut Vec<(Text, Text)>,
+    name: Text,
+    value: Text,
+) -> Result<Option<Text>, OutOfMemory>
+    requires { HasRisingNames pairs.old.items }
+    ensures ok { OnOk result (pairs.new.items ≡ with_pair pairs.old.items name value) }
+    ensures was { IfOk result (λ was. was ≡ value_of name pairs.old.items) }
+    ensures err { OnErr result (pairs.new.items ≡ pairs.old.items) }
+{
+    match place_of(pairs.as_slice(), name.bytes()) {
+        Ok(at) => Ok(Some(replace(&mut pairs[at].1, value))),
+        Err(at) => {
+            pairs.insert(at, (name, value))?;
+            Ok(None)
+        }
+    }
+}
+
+/// Puts a copy of a value under a copy of a name, and answers the value that it replaced.
+pub(crate) fn lay_few(
+    pairs: &mut Vec<(Text, Text)>,
+    name: &Text,
+    value: &Text,
+) -> Result<Option<Text>, OutOfMemory>
+    requires { HasRisingNames pairs.old.items }
+    ensures ok { OnOk result (pairs.new.items ≡ with_pair pairs.old.items name.now value.now) }
+    ensures was { IfOk result (λ was. was ≡ value_of name.now pairs.old.items) }
+    ensures err { OnErr result (pairs.new.items ≡ pairs.old.items) }
+{
+    match place_of(pairs.as_slice(), name.bytes()) {
+        Ok(at) => Ok(Some(replace(&mut pairs[at].1, value.copy()?))),
+        Err(at) => {
+            pairs.insert(at, copy_pair(name, value)?)?;
+            Ok(None)
+        }
+    }
+}
+
+/// Takes a put under a name back: what stood there stands there again, or nothing.
+pub(crate) fn restore_few(pairs: &mut Vec<(Text, Text)>, name: &Text, was: Option<Text>)
+    requires { HasRisingNames pairs.old.items }
+    ensures { pairs.new.items ≡ restored pairs.old.items name.now was }
+{
+    match (place_of(pairs.as_slice(), name.bytes()), was) {
+        (Ok(at), Some(value)) => pairs[at].1 = value,
+        (Ok(at), None) => {
+            pairs.remove(at);
+        }
+        (Err(_), _) => {}
+    }
+}
+
+/// A name and a value once more.
+pub(crate) fn copy_pair(name: &Text, value: &Text) -> Result<(Text, Text), OutOfMemory>
+    ensures { IfOk result (λ pair. pair ≡ (name.now, value.now)) }
+{
+    Ok((name.copy()?, value.copy()?))
+}
+
+/// The same pairs once more.
+pub(crate) fn copy_few(
+    alloc: Global,
+    pairs: &[(Text, Text)],
+) -> Result<Vec<(Text, Text)>, OutOfMemory>
+    ensures { IfOk result (λ copies. copies.items ≡ pairs.now) }
+{
+    let mut copies = Vec::with_capacity(alloc, pairs.len())?;
+    for pair in pairs {
+        copies.push(copy_pair(&pair.0, &pair.1)?)?;
+    }
+    Ok(copies)
+}

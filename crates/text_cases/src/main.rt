@@ -1,0 +1,71 @@
+//! Reads texts of every kind and compares what they come to. Standard input holds a case a line, `KIND TEXT => WANTED`.
+//! The text is all that stands between the blank behind the kind and the last ` => `. What is wanted is `none` where the
+//! text is none of its kind, and else:
+//!
+//! ```text
+//! ip TEXT                 the address as it is written
+//! ip-value TEXT           its value, here and below as Rust writes it
+//! prefix TEXT             the prefix as it is written
+//! host-bits TEXT          whether the text would be a prefix but for bits past its length: `true` or `false`
+//! address TEXT            the address with a length of an interface as it is written
+//! covers PREFIX IP        whether the prefix covers the address
+//! mac TEXT                the Ethernet address as it is written, and its value
+//! name TEXT               the interface name as it is written, and its value
+//! lanes TEXT              the lanes as they are written, and the first of them
+//! tagging TEXT            the tagging as it is written, and its value
+//! number MOST TEXT        the number, which is at most MOST
+//! writes NUMBER           the number as it is written
+//! fields NAME=VALUE ..    the fields of these pairs, rising
+//! row KEY NAME=VALUE ..   the key as it is written, its row or the first rule that is broken, and the keys that it names;
+//!                         the plan has Ethernet0 with the lanes 0 to 3 and Ethernet4 with the lanes 4 and 5
+//! names KEY NAME=VALUE .. how many keys that row names
+//! plan LINE;LINE ..       how many ports the plan of these lines has, or the first fault
+//! port LANE LINE;LINE ..  the port whose first lane this is in the plan of these lines
+//! ```
+//!
+//! Lines that are empty or begin with `#` are skipped. What differs is printed, and at the end `N passed, M failed`; the
+//! exit status is 1 where one failed.
+#![tactic(auto)]
+
+mod rows;
+mod words;
+
+use anyhow::{Context, Result, ensure};
+use std::alloc::Global;
+use std::io::{BufRead, BufReader};
+
+fn main(rt: HostRuntime) -> Result<()> {
+    let alloc = rt.alloc();
+    let mut passed = 0u32;
+    let mut failed = 0u32;
+    for line in BufReader::new(alloc, rt.reader())?.lines(alloc) {
+        let line = line.context("the cases")?;
+        let line = line.as_str();
+        if line.is_empty() || line.starts_with('#') {
+            continue;
+        }
+        if passes(&rt, alloc, line).context(line)? {
+            passed = passed.saturating_add(1);
+        } else {
+            failed = failed.saturating_add(1);
+        }
+    }
+    println!(rt; "{passed} passed, {failed} failed")?;
+    ensure!(failed == 0, "cases failed");
+    Ok(())
+}
+
+/// Whether a text comes to what is wanted. What it comes to is printed where it does not.
+fn passes(rt: &impl Print, alloc: Global, line: &str) -> Result<bool> {
+    let (case, wanted) = line.rsplit_once(" => ").context("what is wanted")?;
+    let (kind, text) = case.split_once(' ').context("a kind and a text")?;
+    let found = match words::find(alloc, kind, text)? {
+        Some(found) => found,
+        None => rows::find(alloc, kind, text)?,
+    };
+    if found.as_str() == wanted {
+        return Ok(true);
+    }
+    println!(rt; "{line}: {found}")?;
+    Ok(false)
+}
