@@ -1,3 +1,4 @@
+pub mod BadRows
 pub mod CallLines
 pub mod Objects
 pub mod Shown

@@ -1,5 +1,5 @@
 // The rows that do not read, as the report lists them.
-ghost use Rattle.std.specs.Prelude.{◌≡◌, ◌++◌, flat_map, IfOk, OnOk};
+ghost use Rattle.std.specs.Prelude.{◌≡◌, ◌++◌, flat_map, length, IfOk, OnOk};
 ghost use Rattle.swss_report.specs.Ignored.{bad_rows, field_name, ignored_line, ignored_text, why_text};
 
 use crate::counted::write_count;
@@ -18,36 +18,33 @@ pub(crate) fn write_ignored(
 ) -> Result<(), OutOfMemory>
     ensures { OnOk result (out.new.items ≡ out.old.items ++ ignored_text plan.now rows.now) }
 {
-    let bad = bad_rows(alloc, plan, rows)?;
-    write_count(out, b"ignored ", bad.len() as u64)?;
-    write_bad_rows(alloc, out, bad.as_slice())
+    let mut lines = Vec::new(alloc);
+    let count = write_bad_rows(alloc, &mut lines, plan, rows)?;
+    write_count(out, b"ignored ", count)?;
+    out.extend_from_slice(&lines)?;
+    Ok(())
 }
 
-/// The keys of the rows that do not read, in key order, each with the first rule that its row breaks.
-fn bad_rows(alloc: Global, plan: &PortPlan, rows: &Rows) -> Result<Vec<(Key, BadRow)>, OutOfMemory>
-    ensures { IfOk result (λ bad. bad.items ≡ bad_rows plan.now rows.now) }
-{
-    let mut bad = Vec::new(alloc);
-    for (key, fields) in rows.iter() {
-        if let Err(broken) = read_row(alloc, plan, key, fields)? {
-            bad.push((key.copy()?, broken))?;
-        }
-    }
-    Ok(bad)
-}
-
-/// Appends the lines of rows that do not read.
+/// Appends the lines of the rows that do not read, in key order, and gives their number.
 fn write_bad_rows(
     alloc: Global,
     out: &mut Vec<u8>,
-    bad: &[(Key, BadRow)],
-) -> Result<(), OutOfMemory>
-    ensures { OnOk result (out.new.items ≡ out.old.items ++ flat_map ignored_line bad.now) }
+    plan: &PortPlan,
+    rows: &Rows,
+) -> Result<u64, OutOfMemory>
+    ensures lines { OnOk result (out.new.items ≡ out.old.items ++ flat_map ignored_line (bad_rows plan.now rows.now)) }
+    ensures count { IfOk result (λ count. count ≡ length (bad_rows plan.now rows.now)) }
 {
-    for (key, broken) in bad {
-        write_bad_row(alloc, out, key, *broken)?;
+    // There are no more such rows than rows.
+    let _most = rows.len();
+    let mut count = 0u64;
+    for (key, fields) in rows.iter() {
+        if let Err(broken) = read_row(alloc, plan, key, fields)? {
+            write_bad_row(alloc, out, key, broken)?;
+            count += 1;
+        }
     }
-    Ok(())
+    Ok(count)
 }
 
 /// Appends the line of a row that does not read: its key, what is wrong, and in which field.

@@ -48,6 +48,9 @@ fn write_row(
 pub(crate) fn write_key(alloc: Global, out: &mut Vec<u8>, key: &Key) -> Result<(), OutOfMemory>
     ensures { OnOk result (out.new.items ≡ out.old.items ++ escaped (key_text key.now)) }
 {
+    if let Key::Other(text) = key {
+        return write_escaped(out, text.bytes());
+    }
     let mut text = Vec::new(alloc);
     key.write(&mut text)?;
     write_escaped(out, text.as_slice())

@@ -1,5 +1,5 @@
 -- What reading a source to its end comes to. Own.
-use Rattle.std.specs.Prelude.{◌≡◌, ℕ, ◌<◌, ◌≤◌, List, [], length, Option, IfSome}
+use Rattle.std.specs.Prelude.{◌≡◌, ℕ, ◌≤◌, List, [], length, Option, IfSome}
 use Rattle.swss_types.specs.Outside.{Gives, HasRisen}
 use Rattle.swss_run.specs.declared.input.Input.{Input}
 use Rattle.swss_run.specs.declared.input.Input.TheVariants as input
@@ -10,11 +10,17 @@ pub record GaveAll (old : Option (List ℕ)) (bytes : List ℕ) (new : Option (L
   pub ends : IfSome new (λ rest. rest ≡ [])
   pub few : length bytes ≤ 67108864
 
--- the source gave more bytes than a script may have
+-- the source gave one byte more than a script may have
 pub record GaveTooMuch (old new : Option (List ℕ)) : Type 0 where
   pub bytes : List ℕ
   pub gives : Gives old bytes new
-  pub many : 67108864 < length bytes
+  pub many : length bytes ≡ 67108865
+
+-- however reading ended, the source gave at most one byte more than a script may have
+pub record GaveFew (old new : Option (List ℕ)) : Type 0 where
+  pub bytes : List ℕ
+  pub gives : Gives old bytes new
+  pub few : length bytes ≤ 67108865
 
 abbrev pub IsInput : Option (List ℕ) → ℕ → Input → Option (List ℕ) → ℕ → Type 0
 IsInput old faults (input.Whole bytes) new faults' = GaveAll old bytes.items new

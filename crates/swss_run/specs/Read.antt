@@ -1,5 +1,5 @@
 -- What reading the script comes to. Own.
-use Rattle.std.specs.Prelude.{◌≡◌, ℕ, ◌⊎◌, ◌<◌, List, [], length, Option, IfSome, Result, Ok, Err}
+use Rattle.std.specs.Prelude.{◌≡◌, ℕ, ◌⊎◌, ◌≤◌, List, [], length, Option, IfSome, Result, Ok, Err}
 use Rattle.swss_types.specs.Outside.{Gives, HasRisen}
 use Rattle.swss_script.specs.Script.{script_of}
 use Rattle.swss_script.specs.declared.refused.Refused.{Refused}
@@ -14,11 +14,12 @@ pub record WasRead (old : Option (List ℕ)) (script : Script) (new : Option (Li
   pub gave : GaveAll old bytes new
   pub says : script_of bytes ≡ Ok script
 
--- the source gave more bytes than a script may have, or all the bytes of a text that is no script: what they are is refused so
+-- the source gave one byte more than a script may have and no more was taken, or all the bytes of a text that is no script: what they are is refused so
 pub record WasRefused (old : Option (List ℕ)) (refusal : Refused) (new : Option (List ℕ)) : Type 0 where
   pub bytes : List ℕ
   pub gives : Gives old bytes new
-  pub ends : (67108864 < length bytes) ⊎ IfSome new (λ rest. rest ≡ [])
+  pub few : length bytes ≤ 67108865
+  pub ends : (length bytes ≡ 67108865) ⊎ IfSome new (λ rest. rest ≡ [])
   pub says : script_of bytes ≡ Err refusal
 
 -- the cause of a status that ends the run before a session

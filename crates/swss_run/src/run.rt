@@ -4,6 +4,7 @@ ghost use Rattle.std.specs.String.{string_bytes};
 ghost use Rattle.swss_types.specs.Outside.{HasRisen};
 ghost use Rattle.switch_model.specs.History.{no_history};
 ghost use Rattle.swss_script.specs.Stage.{IsOfStage};
+ghost use Rattle.swss_run.specs.Input.{GaveFew};
 ghost use Rattle.swss_run.specs.Read.{IsScriptRead};
 ghost use Rattle.swss_run.specs.Run.{SaysOfSource, chip_fail, ends_early};
 ghost use Rattle.swss_run.specs.Session.{IsRun, TellsOfSession};
@@ -38,8 +39,10 @@ pub fn swss_main<R: Threads + Wait + Sync, S: Source, K: Sink, G: Gate + Sync>(
     // The words are refused exactly where they are no command.
     ensures usage { (result.status ≡ Status.Usage) ↔ (is_command (map (λ w. string_bytes w) words.now) ≡ false) }
 
-    // On wrong words nothing is read; a script is refused only for what the bytes are that the source gave.
+    // On wrong words nothing is read; a script is refused only for what the bytes are that the source gave. However the run
+    // ends, these are at most 67,108,865: one more than a script may have.
     ensures refusal { SaysOfSource result.status (S.left source.old) (S.left source.new) }
+    ensures few { GaveFew (S.left source.old) (S.left source.new) }
 
     // A fault of reading or of writing comes only where the source's or the sink's count of faults rose in this call.
     ensures read_fault { result.status ≡ Status.ReadFault → HasRisen (S.faults source.old) (S.faults source.new) }
@@ -59,6 +62,7 @@ pub fn swss_main<R: Threads + Wait + Sync, S: Source, K: Sink, G: Gate + Sync>(
 fn run<S: Source, K: Sink>(alloc: Global, words: &[String], source: &mut S, sink: &mut K) -> Outcome
     ensures usage { (result.status ≡ Status.Usage) ↔ (is_command (map (λ w. string_bytes w) words.now) ≡ false) }
     ensures refusal { SaysOfSource result.status (S.left source.old) (S.left source.new) }
+    ensures few { GaveFew (S.left source.old) (S.left source.new) }
     ensures read_fault { result.status ≡ Status.ReadFault → HasRisen (S.faults source.old) (S.faults source.new) }
     ensures write_fault { result.status ≡ Status.WriteFault → HasRisen (K.faults sink.old) (K.faults sink.new) }
     ensures session { TellsOfSession result.status result (S.left source.old) (S.left source.new) (K.holds sink.old) (K.holds sink.new) }
@@ -85,7 +89,8 @@ fn at_once(alloc: Global, status: Status) -> Outcome
 
 /// The script that the source gives, or the status that ends the run.
 fn read_input<S: Source>(alloc: Global, source: &mut S) -> Result<Script, Status>
-    ensures { IsScriptRead (S.left source.old) (S.faults source.old) result (S.left source.new) (S.faults source.new) }
+    ensures read { IsScriptRead (S.left source.old) (S.faults source.old) result (S.left source.new) (S.faults source.new) }
+    ensures few { GaveFew (S.left source.old) (S.left source.new) }
 {
     match read_all(alloc, source) {
         Ok(Input::Whole(bytes)) => match Script::read(alloc, &bytes) {

@@ -8,5 +8,6 @@ pub mod LinesIn
 pub mod Numbered
 pub mod PlacedWrites
 pub mod SentOrder
+pub mod SetFields
 pub mod Staged
 pub mod Steps

@@ -12,10 +12,7 @@ use table_schema::Fields;
 pub fn copy_text(alloc: Global, text: &str) -> Result<Text, OutOfMemory>
     ensures { IfOk result (λ copy. copy ≡ text.now) }
 {
-    match Text::new(alloc, text.as_bytes())? {
-        Some(copy) => Ok(copy),
-        None => unreachable!(),
-    }
+    Text::from_str(alloc, text)
 }
 
 /// The fields that the words are, or None where one of them is no field.

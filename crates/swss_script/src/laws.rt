@@ -1,6 +1,7 @@
 // What an accepted script is by its lines.
 ghost use Rattle.std.specs.Prelude.{◌≡◌, ◌<◌, ◌≤◌, ℕ, List, Ok, Some, false, length, slice_get, true};
-ghost use Rattle.std.specs.List.{list_all};
+ghost use Rattle.std.specs.List.{AllByRecursion, list_all};
+ghost use Rattle.swss_script.specs.Given.{HasField};
 ghost use Rattle.swss_script.specs.Lines.{lines_in};
 ghost use Rattle.swss_script.specs.Plain.{has_batch};
 ghost use Rattle.swss_script.specs.Script.{script_of};
@@ -35,4 +36,9 @@ pub fn each_producer_sends_in_order()
 pub fn plain_script_has_few_writes()
     ensures lines { (bytes : List ℕ) (script : Script) → script_of bytes ≡ Ok script → length (lines_in bytes) ≤ 1000000 }
     ensures writes { (bytes : List ℕ) (script : Script) (at : ℕ) (round : Round) → script_of bytes ≡ Ok script → has_batch bytes ≡ false → slice_get script.rounds at ≡ Some round → length (sent_in_round round) ≤ length (lines_in bytes) }
+{}
+
+/// In a script that is accepted each Set has a field.
+pub fn each_set_has_a_field()
+    ensures { (bytes : List ℕ) (script : Script) → script_of bytes ≡ Ok script → AllByRecursion (λ p. HasField p.write) (script_writes script) }
 {}

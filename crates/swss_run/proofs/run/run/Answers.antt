@@ -3,9 +3,9 @@ use Rattle.swss_run.proofs.OneRound.{tells}
 use Rattle.swss_run.proofs.run.run.Goals as goal
 
 pub run_script-requires : goal.run_script-requires
-run_script-requires g c = record { stage = stage-of_script c.in-Ok.ensures.bytes c.in-Ok.script c.in-Ok.ensures.says }
+run_script-requires g c = record { stage = stage-of_script c.in-Ok.ensures.read.bytes c.in-Ok.script c.in-Ok.ensures.read.says }
 
 pub returns-in-Ok-clause-session : goal.returns-in-Ok-clause-session
 returns-in-Ok-clause-session g c =
-    tells c.in-Ok.ensures.bytes c.in-Ok.script c.run_script.result (g.S.Source.left c.args.source.now) (g.S.Source.left c.read_input.new.source) (g.K.Sink.holds c.args.sink.now) (g.K.Sink.holds c.run_script.new.sink)
-    c.run_script.ensures.ran c.in-Ok.ensures.gave c.in-Ok.ensures.says c.run_script.ensures.session
+    tells c.in-Ok.ensures.read.bytes c.in-Ok.script c.run_script.result (g.S.Source.left c.args.source.now) (g.S.Source.left c.read_input.new.source) (g.K.Sink.holds c.args.sink.now) (g.K.Sink.holds c.run_script.new.sink)
+    c.run_script.ensures.ran c.in-Ok.ensures.read.gave c.in-Ok.ensures.read.says c.run_script.ensures.session
