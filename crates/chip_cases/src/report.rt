@@ -108,11 +108,11 @@ impl Reporter {
 
 /// Keys that wait.
 fn waits(alloc: Global, keys: &[&str]) -> Result<Waits> {
-    let mut waits = Waits::new(alloc);
+    let mut waits = Vec::new(alloc);
     for word in keys {
         waits.push((key(alloc, word)?, Wait::Busy(1), None))?;
     }
-    Ok(waits)
+    Ok(Waits::from_vec(waits)?)
 }
 
 /// What is shown.
