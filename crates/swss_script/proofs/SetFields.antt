@@ -1,5 +1,5 @@
 -- each Set of an accepted script has a field
-use Rattle.std.proofs.Common.{◌≡◌, ℕ, ◌+◌, ◌<◌, Bool, true, false, not, cond, List, [], ◌∷◌, ◌++◌, length, map, codes, bytes_eq, Option, Some, None, option_map, option_and_then, arith, sym, subst, Ok, Ordering}
+use Rattle.std.proofs.Common.{◌≡◌, ℕ, ◌+◌, ◌<◌, ◌==◌, Bool, true, false, not, cond, List, [], ◌∷◌, ◌++◌, length, map, codes, bytes_eq, Option, Some, None, option_map, option_and_then, arith, sym, subst, Ok, Ordering}
 use Rattle.std.specs.List.{AllByRecursion, starts_with}
 use Rattle.std.specs.Ordering.{match_ordering}
 use Rattle.std.specs.Str.{is_utf8}
@@ -13,7 +13,7 @@ use Rattle.table_schema.specs.declared.write.Write.{Write}
 use Rattle.swss_script.specs.Batch.{batch_of, key_in_word, texts_in, with_write, write_in, write_named, write_of, write_with, writes_in}
 use Rattle.swss_script.specs.Fields.{fields_of, set_fields}
 use Rattle.swss_script.specs.Given.{HasField}
-use Rattle.swss_script.specs.Line.{alone, del_line, del_with, is_block, is_name, json_line, line_by, line_of, line_with, producer_line, set_line, set_with, show_line, shown}
+use Rattle.swss_script.specs.Line.{alone, del_line, del_with, forward_to, is_block, is_name, json_line, line_by, line_of, line_with, producer_line, set_line, set_with, show_line, show_of, shown}
 use Rattle.swss_script.specs.Lines.{block_of, is_end, line_text, lines_in}
 use Rattle.swss_script.specs.Script.{script_of}
 use Rattle.swss_script.specs.Sections.{Placed, line_writes, lines_writes, name_behind, placed, round_behind, script_writes, text_writes, told, whole_line}
@@ -67,7 +67,8 @@ write-in : (members : Members) → OfWrite (write_in members)
 write-in no_members = tt
 write-in (member name value no_members) = tt
 write-in (member name value (member other another no_members)) =
-    write-if (bytes_eq name (codes "OP")) _ _ (write-with _ _ _) (write-if (bytes_eq other (codes "OP")) _ _ (write-with _ _ _) tt)
+    write-if (bytes_eq name (codes "OP")) _ _ (write-with (as_str value) (key_in_word other) (option_and_then texts_in (as_object another)))
+    (write-if (bytes_eq other (codes "OP")) _ _ (write-with (as_str another) (key_in_word name) (option_and_then texts_in (as_object value))) tt)
 write-in (member name value (member other another (member third it more))) = tt
 
 write-in_object : (members : Option Members) → OfWrite (option_and_then write_in members)
@@ -81,7 +82,7 @@ batch-with (Some write) (Some writes) one more = (one, more)
 
 batch-in : (items : Items) → OfBatch (writes_in items)
 batch-in no_items = tt
-batch-in (item element elements) = batch-with _ _ (write-in_object (as_object element)) (batch-in elements)
+batch-in (item element elements) = batch-with (option_and_then write_in (as_object element)) (writes_in elements) (write-in_object (as_object element)) (batch-in elements)
 
 batch-in_array : (items : Option Items) → OfBatch (option_and_then writes_in items)
 batch-in_array None = tt
@@ -150,15 +151,24 @@ line-shown (Some what) = tt
 
 line-show : (words : List (List ℕ)) → OfLine (show_line words)
 line-show [] = tt
-line-show (word ∷ []) = line-shown _
-line-show (word ∷ address ∷ []) = line-shown _
+line-show (word ∷ []) = line-shown (show_of word)
+line-show (word ∷ address ∷ []) = line-shown (forward_to word address)
 line-show (word ∷ address ∷ third ∷ words) = tt
 
 line-by : (first : List ℕ) (others : List (List ℕ)) (behind : List ℕ) → OfLine (line_by first others behind)
 line-by first others behind =
-    line-if _ _ _ tt (line-if _ _ _ tt (line-if _ _ _ tt (line-if _ _ _ tt (line-if _ _ _ tt (line-if _ _ _ (line-producer others)
-    (line-if _ _ _ (line-set others) (line-if _ _ _ (line-del others) (line-if _ _ _ (line-json others behind)
-    (line-if _ _ _ (line-alone Restart others tt) (line-if _ _ _ (line-alone Settle others tt) (line-if _ _ _ (line-show others) tt)))))))))))
+    line-if (starts_with ◌==◌ first (codes "#")) _ _ tt
+    (line-if (bytes_eq first (codes "port")) _ _ tt
+    (line-if (bytes_eq first (codes "chip")) _ _ tt
+    (line-if (bytes_eq first (codes "fail")) _ _ tt
+    (line-if (bytes_eq first (codes "image")) _ _ tt
+    (line-if (bytes_eq first (codes "producer")) _ _ (line-producer others)
+    (line-if (bytes_eq first (codes "set")) _ _ (line-set others)
+    (line-if (bytes_eq first (codes "del")) _ _ (line-del others)
+    (line-if (bytes_eq first (codes "json")) _ _ (line-json others behind)
+    (line-if (bytes_eq first (codes "restart")) _ _ (line-alone Restart others tt)
+    (line-if (bytes_eq first (codes "settle")) _ _ (line-alone Settle others tt)
+    (line-if (bytes_eq first (codes "show")) _ _ (line-show others) tt)))))))))))
 
 line-with : (words : List (List ℕ)) (behind : List ℕ) → OfLine (line_with words behind)
 line-with [] behind = tt

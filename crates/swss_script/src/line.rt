@@ -77,18 +77,18 @@ fn read_words(alloc: Global, first: &str, behind: &str) -> Result<Line, OutOfMem
     requires { starts_with ◌==◌ first.now (codes "#") ≡ false }
     ensures { IfOk result (λ line. line ≡ line_by first.now (words_in behind.now) behind.now) }
 {
-    match first.as_bytes() {
-        b"port" => Ok(Line::Head(read_port(alloc, behind)?)),
-        b"chip" => Ok(Line::Head(read_chip(behind))),
-        b"fail" => Ok(Line::Head(read_fail(behind))),
-        b"image" => Ok(Line::Head(read_image(alloc, behind)?)),
-        b"producer" => read_producer(alloc, behind),
-        b"set" => read_set(alloc, behind),
-        b"del" => read_del(alloc, behind),
-        b"json" => read_json(alloc, behind),
-        b"restart" => Ok(alone(Line::Restart, behind)),
-        b"settle" => Ok(alone(Line::Settle, behind)),
-        b"show" => Ok(read_show(behind)),
+    match first {
+        "port" => Ok(Line::Head(read_port(alloc, behind)?)),
+        "chip" => Ok(Line::Head(read_chip(behind))),
+        "fail" => Ok(Line::Head(read_fail(behind))),
+        "image" => Ok(Line::Head(read_image(alloc, behind)?)),
+        "producer" => read_producer(alloc, behind),
+        "set" => read_set(alloc, behind),
+        "del" => read_del(alloc, behind),
+        "json" => read_json(alloc, behind),
+        "restart" => Ok(alone(Line::Restart, behind)),
+        "settle" => Ok(alone(Line::Settle, behind)),
+        "show" => Ok(read_show(behind)),
         _ => Ok(Line::Other),
     }
 }
