@@ -1,5 +1,5 @@
 -- each Set of an accepted script has a field
-use Rattle.std.proofs.Common.{◌≡◌, ℕ, ◌+◌, ◌<◌, ◌==◌, Bool, true, false, not, cond, List, [], ◌∷◌, ◌++◌, length, map, codes, bytes_eq, Option, Some, None, option_map, option_and_then, arith, sym, subst, Ok, Ordering}
+use Rattle.std.proofs.Common.{◌≡◌, ℕ, ◌<◌, ◌==◌, Bool, true, false, not, cond, List, [], ◌∷◌, ◌++◌, length, map, codes, bytes_eq, Option, Some, None, option_and_then, arith, sym, subst, Ok, Ordering}
 use Rattle.std.specs.List.{AllByRecursion, starts_with}
 use Rattle.std.specs.Ordering.{match_ordering}
 use Rattle.std.specs.Str.{is_utf8}
@@ -10,13 +10,13 @@ use Rattle.serde_json.specs.Read.{read}
 use Rattle.table_schema.specs.Fields.{Pairs, by_bytes, merged, with_pair}
 use Rattle.table_schema.specs.declared.key.Key.{Key}
 use Rattle.table_schema.specs.declared.write.Write.{Write}
-use Rattle.swss_script.specs.Batch.{batch_of, key_in_word, texts_in, with_write, write_in, write_named, write_of, write_with, writes_in}
+use Rattle.swss_script.specs.Batch.{batch_of, key_in_word, texts_in, with_write, write_in, write_with, writes_in}
 use Rattle.swss_script.specs.Fields.{fields_of, set_fields}
 use Rattle.swss_script.specs.Given.{HasField}
 use Rattle.swss_script.specs.Line.{alone, del_line, del_with, forward_to, is_block, is_name, json_line, line_by, line_of, line_with, producer_line, set_line, set_with, show_line, show_of, shown}
 use Rattle.swss_script.specs.Lines.{block_of, is_end, line_text, lines_in}
 use Rattle.swss_script.specs.Script.{script_of}
-use Rattle.swss_script.specs.Sections.{Placed, line_writes, lines_writes, name_behind, placed, round_behind, script_writes, text_writes, told, whole_line}
+use Rattle.swss_script.specs.Sections.{Placed, line_writes, lines_writes, name_behind, placed, round_behind, script_writes, told, whole_line}
 use Rattle.swss_script.specs.Words.{behind_word, words_in}
 use Rattle.swss_script.specs.declared.line.Line.{Line}
 use Rattle.swss_script.specs.declared.line.Line.TheVariants.{Blank, Head, Producer, Put, Batch, Block, Restart, Settle, Shown, Other}
