@@ -141,28 +141,28 @@ abbrev pub room : List ℕ
 room = 256 ∷ 4094 ∷ 256 ∷ 16384 ∷ 1024 ∷ 2048 ∷ 16384 ∷ 16384 ∷ 512 ∷ 16384 ∷ 65536 ∷ []
 
 -- A port and its interface.
-abbrev wide_plan : Ports
+abbrev pub wide_plan : Ports
 wide_plan = (0, 0 ∷ 1 ∷ 2 ∷ 3 ∷ []) ∷ []
 
 wide_plan_is : plan_of (codes "Ethernet0 0,1,2,3" ∷ []) ≡ Ok wide_plan
 wide_plan_is = refl
 
-abbrev first_writes : List Write
+abbrev pub first_writes : List Write
 first_writes =
     set (codes "PORT_TABLE:Ethernet0") ((codes "admin_status", codes "up") ∷ (codes "lanes", codes "0,1,2,3") ∷ [])
     ∷ set (codes "INTF_TABLE:Ethernet0") ((codes "NULL", codes "NULL") ∷ [])
     ∷ []
 
-abbrev first_port : Thing
+abbrev pub first_port : Thing
 first_port = thing.Port (record { lanes = 0 ∷ 1 ∷ 2 ∷ 3 ∷ []; speed = 100000; mtu = 9100; up = true })
 
-abbrev first_interface : Thing
+abbrev pub first_interface : Thing
 first_interface = thing.Rif (base.Port 0)
 
-first_view : IsExactly (desired_view wide_plan (rows_of first_writes)) (first_port ∷ first_interface ∷ [])
+pub first_view : IsExactly (desired_view wide_plan (rows_of first_writes)) (first_port ∷ first_interface ∷ [])
 first_view = view_is wide_plan (rows_of first_writes)
 
-abbrev first_calls : List (Call Rid)
+abbrev pub first_calls : List (Call Rid)
 first_calls = call.Create (body.Port (0 ∷ 1 ∷ 2 ∷ 3 ∷ []) 100000 9100 true) ∷ call.Create (body.Rif (on.Port (record { 0 = 1 }))) ∷ []
 
 first_calls_are_legal : AreLegal room 0 [] first_calls

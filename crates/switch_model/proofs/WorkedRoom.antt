@@ -1,5 +1,5 @@
 -- room and steadiness worked out on small tables by computation: nothing cites the examples, and they show that the definitions say what is meant
-use Rattle.std.proofs.Common.{◌≡◌, ◌⊎◌, inl, inr, ℕ, zero, suc, ◌+◌, ◌≤◌, ◌<◌, List, [], ◌∷◌, length, map, refl, sym, ap, ◌∙◌, subst, arith}
+use Rattle.std.proofs.Common.{◌≡◌, ◌⊎◌, inl, inr, ℕ, true, zero, suc, ◌+◌, ◌≤◌, ◌<◌, List, [], ◌∷◌, length, map, refl, sym, ap, ◌∙◌, subst, arith}
 use Rattle.swss_types.specs.declared.address.Family.TheVariants.{V4}
 use Rattle.swss_types.specs.declared.address.Ip.{Ip}
 use Rattle.swss_types.specs.declared.address.Prefix.{Prefix}
@@ -57,12 +57,12 @@ few-distinct : (ks all : List Name) → AreDistinct ks → ((k : Name) → IsIn 
 few-distinct [] all apart within = omega arith
 few-distinct (k ∷ ks) all (new, apart) within =
     let less = without k all (within k (inl refl)) in
-    let behind = few-distinct ks less.0 apart (λ q there. other q there (less.2 q (within q (inr there)))) in
+    let behind = few-distinct ks less.0 apart (λ q there. other q there less.0 (less.2 q (within q (inr there)))) in
     omega (arith, less.1, behind)
   where
-    other : (q : Name) → IsIn q ks → {rest : List Name} → (q ≡ k) ⊎ IsIn q rest → IsIn q rest
-    other q there (inl e) = absurd (new (subst (λ x. IsIn x ks) e there))
-    other q there (inr h) = h
+    other : (q : Name) → IsIn q ks → (rest : List Name) → (q ≡ k) ⊎ IsIn q rest → IsIn q rest
+    other q there rest (inl e) = absurd (new (subst (λ x. IsIn x ks) e there))
+    other q there rest (inr h) = h
 
 -- of things that are among two at most two are of a kind
 two-at_most : (view : Thing → Type 0) (x y : Thing) → ((t : Thing) → view t → IsIn t (x ∷ y ∷ [])) → (kind : Kind) (keys : List Name) → AreKeysOf view kind keys → length keys ≤ 2
