@@ -22,18 +22,18 @@ use Rattle.sai_types.proofs.Listed.{apart-behind, found-in, in-found, sorted-beh
 
 -- ---- a list of distinct items is no longer than one that has them all
 
-but : (xs : List Name) (x : Name) → IsIn x xs → List Name
+but : {X : Type 0} (xs : List X) (x : X) → IsIn x xs → List X
 but [] x h = []
 but (y ∷ ys) x (inl is) = ys
 but (y ∷ ys) x (inr h) = y ∷ but ys x h
 
-one_less : (xs : List Name) (x : Name) (h : IsIn x xs) → length xs ≡ length (but xs x h) + 1
+one_less : {X : Type 0} (xs : List X) (x : X) (h : IsIn x xs) → length xs ≡ length (but xs x h) + 1
 unfolding but
 one_less [] x h = elim h [ ]
 one_less (y ∷ ys) x (inl is) = omega arith
 one_less (y ∷ ys) x (inr h) = let rest = one_less ys x h in omega (arith, rest)
 
-still_in : (xs : List Name) (x y : Name) (h : IsIn x xs) → (y ≡ x → ⊥) → IsIn y xs → IsIn y (but xs x h)
+still_in : {X : Type 0} (xs : List X) (x y : X) (h : IsIn x xs) → (y ≡ x → ⊥) → IsIn y xs → IsIn y (but xs x h)
 unfolding but
 still_in [] x y h apart g = elim h [ ]
 still_in (z ∷ zs) x y (inl is) apart (inl same) = absurd (apart (same ∙ sym is))
@@ -41,7 +41,7 @@ still_in (z ∷ zs) x y (inl is) apart (inr g) = g
 still_in (z ∷ zs) x y (inr h) apart (inl same) = inl same
 still_in (z ∷ zs) x y (inr h) apart (inr g) = inr (still_in zs x y h apart g)
 
-pub no-longer : (xs ys : List Name) → AreDistinct xs → ((x : Name) → IsIn x xs → IsIn x ys) → length xs ≤ length ys
+pub no-longer : {X : Type 0} (xs ys : List X) → AreDistinct xs → ((x : X) → IsIn x xs → IsIn x ys) → length xs ≤ length ys
 no-longer [] ys d f = omega arith
 no-longer (x ∷ xs) ys d f =
     let here = f x (inl refl) in
@@ -49,11 +49,11 @@ no-longer (x ∷ xs) ys d f =
     let less = one_less ys x here in
     omega (arith, rest, less)
 
-count_skip : (b : Bool) (x c : ℕ) → b ≡ false → x ≡ c → x ≡ cond b 1 0 + c
+pub count_skip : (b : Bool) (x c : ℕ) → b ≡ false → x ≡ c → x ≡ cond b 1 0 + c
 count_skip false x c h e = omega (arith, e)
 count_skip true x c h e = absurd cc
 
-count_one : (b : Bool) (x c : ℕ) → b ≡ true → x ≡ c → suc x ≡ cond b 1 0 + c
+pub count_one : (b : Bool) (x c : ℕ) → b ≡ true → x ≡ c → suc x ≡ cond b 1 0 + c
 count_one true x c h e = omega (arith, e)
 count_one false x c h e = absurd cc
 

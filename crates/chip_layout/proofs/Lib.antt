@@ -3,6 +3,7 @@ pub mod Bodies
 pub mod Counting
 pub mod Entries
 pub mod Laid
+pub mod Legality
 pub mod Making
 pub mod Naming
 pub mod Owned

@@ -7,8 +7,8 @@ use Rattle.sai_types.specs.Objects.{level}
 use Rattle.chip_layout.specs.Layout.{Has, Layout}
 use Rattle.sai_types.specs.Names.{Name, name_kind}
 
--- names of which no two are equal
-abbrev pub AreDistinct : List Name → Type 0
+-- no two of the items are equal
+abbrev pub AreDistinct : {X : Type 0} → List X → Type 0
 AreDistinct [] = Unit {0}
 AreDistinct (k ∷ ks) = (IsIn k ks → ⊥) × AreDistinct ks
 

@@ -1,6 +1,10 @@
 -- Objects by other identifiers. Own.
 use Rattle.std.specs.Prelude.{◌≡◌, List, [], ◌∷◌, Some}
 use Rattle.sai_types.specs.declared.ids.Rid.{Rid}
+use Rattle.sai_types.specs.declared.body.Attr.{Attr}
+use Rattle.sai_types.specs.declared.body.Attr.TheVariants as attr
+use Rattle.sai_types.specs.declared.body.Call.{Call}
+use Rattle.sai_types.specs.declared.body.Call.TheVariants as call
 use Rattle.sai_types.specs.declared.body.Entry.{Entry}
 use Rattle.sai_types.specs.declared.body.Entry.TheVariants as entry
 use Rattle.sai_types.specs.declared.thing.Thing.{Thing}
@@ -40,6 +44,19 @@ entry_renamed f (entry.Oid i) = entry.Oid (f i)
 entry_renamed f (entry.Own ip) = entry.Own ip
 entry_renamed f (entry.Neigh i ip) = entry.Neigh (f i) ip
 entry_renamed f (entry.Route prefix) = entry.Route prefix
+
+abbrev pub attr_renamed : {I J : Type 0} → (I → J) → Attr I → Attr J
+attr_renamed f (attr.Speed s) = attr.Speed s
+attr_renamed f (attr.Mtu m) = attr.Mtu m
+attr_renamed f (attr.Up x) = attr.Up x
+attr_renamed f (attr.Tagging t) = attr.Tagging t
+attr_renamed f (attr.Mac m) = attr.Mac m
+attr_renamed f (attr.To to) = attr.To (to_renamed f to)
+
+abbrev pub call_renamed : {I J : Type 0} → (I → J) → Call I → Call J
+call_renamed f (call.Create b) = call.Create (body_renamed f b)
+call_renamed f (call.Set e a) = call.Set (entry_renamed f e) (attr_renamed f a)
+call_renamed f (call.Remove e) = call.Remove (entry_renamed f e)
 
 -- one chip's objects are another's with each identifier renamed, no two to one
 pub record AreRenamed (f : Rid → Rid) (objects others : Objects) : Type 0 where

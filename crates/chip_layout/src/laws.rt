@@ -5,20 +5,21 @@ ghost use Rattle.sai_types.specs.declared.hop.Hop.{Hop};
 ghost use Rattle.sai_types.specs.declared.ids.Rid.{Rid};
 ghost use Rattle.sai_types.specs.declared.body.Attr.{Attr};
 ghost use Rattle.sai_types.specs.declared.body.Body.{Body};
+ghost use Rattle.sai_types.specs.declared.body.Call.{Call};
 ghost use Rattle.sai_types.specs.declared.body.Call.TheVariants as call;
 ghost use Rattle.sai_types.specs.declared.thing.Thing.{Thing};
 ghost use Rattle.sai_types.specs.After.{after_call, entry_of};
 ghost use Rattle.sai_types.specs.Alike.{IsAlike};
 ghost use Rattle.sai_types.specs.Forwarding.{decide, forward};
-ghost use Rattle.sai_types.specs.Made.{HaveLanes, IsWhole};
+ghost use Rattle.sai_types.specs.Made.{AreSorted, HaveLanes, IsWhole};
 ghost use Rattle.sai_types.specs.Named.{named, those};
 ghost use Rattle.sai_types.specs.Objects.{Objects};
-ghost use Rattle.sai_types.specs.Refusal.{IsLegal};
+ghost use Rattle.sai_types.specs.Refusal.{IsLegal, refusal_of};
 ghost use Rattle.chip_layout.specs.Answered.{AreSame, HavePrefixes, HopsAreReached};
 ghost use Rattle.chip_layout.specs.Bodies.{IsBody, IsChange};
 ghost use Rattle.chip_layout.specs.Grouped.{AreGrouped};
 ghost use Rattle.chip_layout.specs.Layout.{Has, HasRoom, IsFree, IsLaidOut, IsUnused, RefersWell, has_number, listed, next_id, view_of, with_changed, without};
-ghost use Rattle.chip_layout.specs.Renamed.{AreRenamed, things_renamed};
+ghost use Rattle.chip_layout.specs.Renamed.{AreRenamed, call_renamed, things_renamed};
 ghost use Rattle.chip_layout.specs.Seen.{seen};
 ghost use Rattle.sai_types.specs.Names.{name_of};
 
@@ -59,8 +60,9 @@ pub fn stands_alike()
     ensures { (things : List (Rid × Thing)) (made : ℕ) (objects : Objects) → IsWhole made objects → IsLaidOut (listed things) objects → AreGrouped (listed things) → IsAlike objects (view_of (listed things)) }
 {}
 
-/// With its identifiers changed one to one, a chip is laid out by the same things with theirs changed: so it shows the
-/// same things, and forwards alike.
+/// With its identifiers changed one to one, a chip refuses a call for the same reason, or for none as before; and it is
+/// laid out by the same things with theirs changed, so it shows the same things, and forwards alike.
 pub fn renamed_stands()
-    ensures { (f : Rid → Rid) (things : List (Rid × Thing)) (objects others : Objects) → AreRenamed f objects others → IsLaidOut (listed things) objects → IsLaidOut (listed (things_renamed f things)) others }
+    ensures refused { (f : Rid → Rid) (objects others : Objects) (capacities : List ℕ) (c : Call Rid) → AreRenamed f objects others → AreSorted objects → AreSorted others → refusal_of capacities others (call_renamed f c) ≡ refusal_of capacities objects c }
+    ensures stands { (f : Rid → Rid) (things : List (Rid × Thing)) (objects others : Objects) → AreRenamed f objects others → IsLaidOut (listed things) objects → IsLaidOut (listed (things_renamed f things)) others }
 {}
