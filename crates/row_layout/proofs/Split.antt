@@ -1,6 +1,9 @@
 -- the things of a row are its own and those of what it uses
 use Rattle.std.proofs.Common.{◌≡◌, ◌⊎◌, inl, inr, ℕ, List, [], ◌∷◌, Option, None, Some, option_map, refl, subst}
+use Rattle.swss_types.specs.declared.address.Ip.{Ip}
 use Rattle.swss_types.specs.declared.address.Prefix.{Prefix}
+use Rattle.swss_types.specs.declared.interface.IfName.{IfName}
+use Rattle.swss_types.specs.declared.interface.IfName.TheVariants as name
 use Rattle.table_schema.specs.Plan.{Ports}
 use Rattle.table_schema.specs.declared.key.Key.{Key}
 use Rattle.table_schema.specs.declared.key.Key.TheVariants as key
@@ -13,9 +16,9 @@ use Rattle.sai_types.specs.declared.thing.Goal.TheVariants as goal
 use Rattle.sai_types.specs.declared.thing.Thing.{Thing}
 use Rattle.sai_types.specs.declared.thing.Thing.TheVariants as thing
 use Rattle.sai_types.specs.Alike.{IsIn}
-use Rattle.switch_model.specs.Things.{base_of, from_base, from_hops, from_lane, hops_of, lane_of, members_of, things_of}
+use Rattle.switch_model.specs.Things.{address_things, base_of, from_base, from_hops, from_lane, hops_of, lane_of, members_of, things_of}
 use Rattle.row_layout.specs.Rows.{Owner, Bridge, Own, Group, from, goal_by, own_things}
-use Rattle.row_layout.specs.Shared.{IsOf, group_by, shared_things, uses}
+use Rattle.row_layout.specs.Shared.{IsOf, address_uses, group_by, shared_things, uses}
 
 -- lists with the same items
 pub record Splits (all own : List Thing) (used : List Owner) : Type 0 where
@@ -68,6 +71,19 @@ member_split vlan t (Some lane) = with_one (t lane ∷ []) (thing.BridgePort lan
     shared x (inl is) = inl is
     shared x (inr h) = elim h [ ]
 
+-- an own address is what its row uses
+address_alone : (ip : Ip) → Splits (thing.Own ip ∷ []) [] (Own ip ∷ [])
+address_alone ip = with_one [] (thing.Own ip ∷ []) (Own ip) (λ x h. inl h) (λ x h. h) (λ x h. elim h [ ])
+
+lane_address : (ip : Ip) (o : Option ℕ) → Splits (from_lane (λ lane. thing.Own ip ∷ []) o) [] (from o (λ lane. Own ip ∷ []))
+lane_address ip None = all_own []
+lane_address ip (Some lane) = address_alone ip
+
+address_split : (plan : Ports) (on : IfName) (ip : Ip) → Splits (address_things plan on ip) [] (address_uses plan on ip)
+address_split plan (name.Ethernet port) ip = lane_address ip (lane_of plan port)
+address_split plan (name.Vlan vlan) ip = address_alone ip
+address_split plan (name.Loopback number) ip = address_alone ip
+
 group_split : (prefix : Prefix) (group : List Hop) → Splits (thing.Route prefix (goal.Group group) ∷ thing.Group group ∷ members_of group group) (thing.Route prefix (goal.Group group) ∷ []) (Group group ∷ [])
 group_split prefix group = with_one (thing.Route prefix (goal.Group group) ∷ []) (thing.Route prefix (goal.Group group) ∷ thing.Group group ∷ members_of group group) (Group group) parts (λ x h. inr h) mine
   where
@@ -91,7 +107,7 @@ things-split plan (key.Port p) (row.Port r) = lane_own _ (lane_of plan p)
 things-split plan (key.Vlan v) row.Vlan = all_own (thing.Vlan v ∷ [])
 things-split plan (key.Member v p) (row.Member tagging) = member_split v (λ lane. thing.VlanMember v lane tagging) (lane_of plan p)
 things-split plan (key.Intf n) row.Intf = base_own _ (base_of plan n)
-things-split plan (key.Addr n ip len) row.Addr = with_one [] (thing.Own ip ∷ []) (Own ip) (λ x h. inl h) (λ x h. h) (λ x h. elim h [ ])
+things-split plan (key.Addr n ip len) row.Addr = address_split plan n ip
 things-split plan (key.Neigh n ip) (row.Neigh mac) = base_own _ (base_of plan n)
 things-split plan (key.Route prefix) (row.Route route.Drop) = all_own (thing.Route prefix goal.Drop ∷ [])
 things-split plan (key.Route prefix) (row.Route (route.Direct n)) = direct (base_of plan n)

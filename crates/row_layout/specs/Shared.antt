@@ -1,5 +1,8 @@
 -- What rows share, and which rows use it. Own.
 use Rattle.std.specs.Prelude.{◌⊎◌, List, [], ◌∷◌, Option, Some, None}
+use Rattle.swss_types.specs.declared.address.Ip.{Ip}
+use Rattle.swss_types.specs.declared.interface.IfName.{IfName}
+use Rattle.swss_types.specs.declared.interface.IfName.TheVariants as name
 use Rattle.table_schema.specs.Plan.{Ports}
 use Rattle.table_schema.specs.declared.key.Key.{Key}
 use Rattle.table_schema.specs.declared.key.Key.TheVariants as key
@@ -32,10 +35,16 @@ route_uses plan route.Drop = []
 route_uses plan (route.Direct n) = []
 route_uses plan (route.Hops hops) = group_by (hops_of plan hops)
 
+-- the own address of an interface: none where its port is not in the plan
+abbrev pub address_uses : Ports → IfName → Ip → List Owner
+address_uses plan (name.Ethernet port) ip = from (lane_of plan port) (λ lane. Own ip ∷ [])
+address_uses plan (name.Vlan vlan) ip = Own ip ∷ []
+address_uses plan (name.Loopback number) ip = Own ip ∷ []
+
 -- what a row uses with others
 abbrev pub uses : Ports → Key → Row → List Owner
 uses plan (key.Member vlan port) (row.Member tagging) = from (lane_of plan port) (λ lane. Bridge lane ∷ [])
-uses plan (key.Addr n ip len) row.Addr = Own ip ∷ []
+uses plan (key.Addr n ip len) row.Addr = address_uses plan n ip
 uses plan (key.Route prefix) (row.Route r) = route_uses plan r
 uses plan _ _ = []
 

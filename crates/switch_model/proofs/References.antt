@@ -35,7 +35,7 @@ use Rattle.sai_types.specs.Names.{Name, base_name, name_of, thing_references}
 use Rattle.switch_model.specs.Desired.{IsClosed, IsThingOf, desired_view, have_rows, ready_rows}
 use Rattle.switch_model.specs.Good.{TypedRows, good_rows}
 use Rattle.switch_model.specs.References.{IsSelfContained}
-use Rattle.switch_model.specs.Things.{base_of, from_base, from_hops, from_lane, hop_of, hops_of, lane_of, members_of, own_things, route_things, route_to, things_of}
+use Rattle.switch_model.specs.Things.{address_things, base_of, from_base, from_hops, from_lane, hop_of, hops_of, lane_of, members_of, route_things, route_to, things_of}
 use Rattle.switch_model.proofs.ReadRows.{IsRead, IsRead-good, intf_read, neigh_read, port_read, vlan_read}
 use Rattle.switch_model.proofs.Ready.{IsClosed-ready, both_true, ready-there}
 
@@ -199,7 +199,7 @@ module _ (plan : Ports) (rows : TypedRows) (closed : IsClosed rows) (read : (k :
   port_by port made None each = tt
   port_by port made (Some lane) each = (each lane, tt)
 
-  own_by : (on : IfName) (ip : Ip) → AllIn AreMet (own_things plan on ip)
+  own_by : (on : IfName) (ip : Ip) → AllIn AreMet (address_things plan on ip)
   own_by (name.Ethernet port) ip = port_by port (λ lane. thing.Own ip) (lane_of plan port) (λ lane. tt)
   own_by (name.Vlan vlan) ip = (tt, tt)
   own_by (name.Loopback number) ip = (tt, tt)

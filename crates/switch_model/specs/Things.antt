@@ -70,10 +70,10 @@ route_things plan prefix (route.Direct on) = from_base (λ b. thing.Route prefix
 route_things plan prefix (route.Hops hops) = from_hops prefix (hops_of plan hops)
 
 -- the address of an interface, which is the switch's own: none where its port is not in the plan
-abbrev pub own_things : Ports → IfName → Ip → List Thing
-own_things plan (name.Ethernet port) ip = from_lane (λ lane. thing.Own ip ∷ []) (lane_of plan port)
-own_things plan (name.Vlan vlan) ip = thing.Own ip ∷ []
-own_things plan (name.Loopback number) ip = thing.Own ip ∷ []
+abbrev pub address_things : Ports → IfName → Ip → List Thing
+address_things plan (name.Ethernet port) ip = from_lane (λ lane. thing.Own ip ∷ []) (lane_of plan port)
+address_things plan (name.Vlan vlan) ip = thing.Own ip ∷ []
+address_things plan (name.Loopback number) ip = thing.Own ip ∷ []
 
 -- the things of a row: none for a loopback interface, whose addresses have theirs, nor where a port is not in the plan
 abbrev pub things_of : Ports → Key → Row → List Thing
@@ -81,7 +81,7 @@ things_of plan (key.Port port) (row.Port r) = from_lane (λ lane. thing.Port (re
 things_of plan (key.Vlan vlan) row.Vlan = thing.Vlan vlan ∷ []
 things_of plan (key.Member vlan port) (row.Member tagging) = from_lane (λ lane. thing.BridgePort lane ∷ thing.VlanMember vlan lane tagging ∷ []) (lane_of plan port)
 things_of plan (key.Intf on) row.Intf = from_base (λ b. thing.Rif b ∷ []) (base_of plan on)
-things_of plan (key.Addr on ip len) row.Addr = own_things plan on ip
+things_of plan (key.Addr on ip len) row.Addr = address_things plan on ip
 things_of plan (key.Neigh on ip) (row.Neigh mac) = from_base (λ b. thing.Neighbor (record { on = b; ip = ip }) mac ∷ thing.NextHop (record { on = b; ip = ip }) ∷ []) (base_of plan on)
 things_of plan (key.Route prefix) (row.Route r) = route_things plan prefix r
 things_of plan _ _ = []
