@@ -1,12 +1,13 @@
 -- setting on a port what differs from its row, call by call
 use Rattle.std.proofs.Common.{◌≡◌, ℕ, ◌+◌, ◌<◌, ◌≤◌, ◌==◌, ◌&&◌, Bool, true, false, cond, [], ◌∷◌, length, Option, None, Some, option_map, Result, Ok, Err, refl, sym, ap, ◌∙◌, subst, arith}
-use Rattle.std.proofs.lemmas.Bool.{eq-eqb}
+use Rattle.std.proofs.lemmas.Bool.{eq-eqb, false≢true}
 use Rattle.std.proofs.lemmas.Map.{lookup-none}
 use Rattle.std.proofs.lemmas.Map.Entries.{none_below_head}
 use Rattle.std.specs.BTreeMap.{insert_entry, is_at}
 use Rattle.std.specs.List.Sorted.{IsStrictlySortedBy}
 use Rattle.std.specs.Map.{keys_of, set_value}
 use Rattle.std.specs.Ordering.{is_eq, match_ordering}
+use Rattle.std.specs.Result.{IsErr}
 use Rattle.std.specs.declared.cmp.Ordering.{Ordering}
 use Rattle.std.specs.declared.cmp.Ordering.TheVariants.{Less, Equal, Greater}
 use Rattle.swss_types.specs.declared.out_of_memory.OutOfMemory.{OutOfMemory}
@@ -22,11 +23,13 @@ use Rattle.table_schema.proofs.Keys.{key_total}
 use Rattle.sai_types.specs.declared.ids.Rid.{Rid}
 use Rattle.sai_types.specs.declared.body.Attr.{Attr}
 use Rattle.sai_types.specs.declared.body.Attr.TheVariants as attr
+use Rattle.sai_types.specs.declared.body.Body.TheVariants as body
 use Rattle.sai_types.specs.declared.body.Call.TheVariants as call
 use Rattle.sai_types.specs.declared.body.Entry.TheVariants as entry
 use Rattle.sai_types.specs.After.{after_call, next_id}
 use Rattle.sai_types.specs.Alike.{IsIn}
 use Rattle.sai_types.specs.ChipState.{ChipState, TakesEffect}
+use Rattle.sai_types.specs.Refusal.{has_attr}
 use Rattle.switch_model.specs.Desired.{have_rows}
 use Rattle.switch_model.specs.Good.{good_rows}
 use Rattle.orch_core.specs.declared.applied.Applied.{Applied}
@@ -116,6 +119,16 @@ fewer p r t first = by (p.speed == r.speed) (p.mtu == r.mtu) (same_admin p.up r.
         (subst (λ b. rank (first_to_set r b (p.mtu == r.mtu) (same_admin r.up r.up)) < 1) (sym speed) (subst (λ b. rank (first_to_set r true b (same_admin r.up r.up)) < 1) (sym mtu) (subst (λ b. rank (first_to_set r true true b) < 1) (sym (same_admin-refl r.up)) nothing)))
     by true true true speed mtu h = absurd cc
 
+-- what differs first is an attribute that ports have
+settable : (p r : PortRow) (t : Attr Rid) → first_difference p r ≡ Some t → has_attr (body.Port p.lanes p.speed p.mtu p.up) t ≡ true
+settable p r t first = by (p.speed == r.speed) (p.mtu == r.mtu) (same_admin p.up r.up) first
+  where
+    by : (s m u : Bool) → first_to_set r s m u ≡ Some t → has_attr (body.Port p.lanes p.speed p.mtu p.up) t ≡ true
+    by false m u h = subst (λ x. has_attr (body.Port p.lanes p.speed p.mtu p.up) x ≡ true) (some_attr (attr.Speed r.speed) t h) refl
+    by true false u h = subst (λ x. has_attr (body.Port p.lanes p.speed p.mtu p.up) x ≡ true) (some_attr (attr.Mtu r.mtu) t h) refl
+    by true true false h = subst (λ x. has_attr (body.Port p.lanes p.speed p.mtu p.up) x ≡ true) (some_attr (attr.Up r.up) t h) refl
+    by true true true h = absurd cc
+
 -- where nothing differs, the rows ask for the same
 no_difference : (p r : PortRow) → first_difference p r ≡ None → asks_same (row.Port p) (row.Port r) ≡ true
 no_difference p r none = by (p.speed == r.speed) (p.mtu == r.mtu) (same_admin p.up r.up) none
@@ -186,6 +199,11 @@ pub record IsChanging (k : Key) (old : State) (chip : ChipState) (new : State) (
   pub a : Applied
   pub there : applied_entry new.applied k ≡ Some a
 
+-- a key was tried and memory was refused
+pub tried-err : (k : Key) (old : State) (chip : ChipState) (r : Result Tried OutOfMemory) (new : State) (chip' : ChipState) → IsErr r → IsTouched 0 k old chip new chip' → IsTried k old chip r new chip'
+tried-err k old chip (Ok t) new chip' err touched = absurd (false≢true err)
+tried-err k old chip (Err e) new chip' err touched = touched
+
 module _ (k : Key) (r : PortRow) (old : State) (chip : ChipState) (step : IsChange old k r) (mid : State) (between : ChipState) (changing : IsChanging k old chip mid between) where
   abbrev mid_same : mid ≡ record old { applied = mid.applied }
   mid_same = changing.touched.touches.same
@@ -205,7 +223,13 @@ module _ (k : Key) (r : PortRow) (old : State) (chip : ChipState) (step : IsChan
     others = λ q apart. touches.others q apart ∙ changing.touched.touches.others q apart;
   }
 
-  touched-after : (new : State) (chip' : ChipState) → IsTouched 0 k mid between new chip' → IsTouched 0 k old chip new chip'
+  -- what differs may be set
+  pub changing-setting : (id : Rid) (t : Attr Rid) → IsDifference mid.applied k r (Some (id, t)) → IsSetting mid k id t
+  changing-setting id t (a, there, named, differs) =
+      let at = port_at a there in
+      record { port = step.port; is = step.is; a = a; there = there; named = named; now = at.0; row_is = at.1; has = settable at.0 r t (sym (ap (λ x. difference_of x r) at.1) ∙ differs) }
+
+  pub touched-after : (new : State) (chip' : ChipState) → IsTouched 0 k mid between new chip' → IsTouched 0 k old chip new chip'
   touched-after new chip' touched = record {
     touches = touches-after new touched.touches;
     keeps = touched.keeps;

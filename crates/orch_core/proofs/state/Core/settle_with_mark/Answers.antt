@@ -1,4 +1,4 @@
-use Rattle.std.proofs.Common.{◌≡◌, ◌∙◌, Result, length, sym, ap, subst}
+use Rattle.std.proofs.Common.{◌≡◌, ℕ, ◌∙◌, Result, length, sym, ap, subst}
 use Rattle.switch_model.specs.History.{History}
 use Rattle.sai_types.specs.ChipState.{ChipState}
 use Rattle.swss_types.specs.declared.out_of_memory.OutOfMemory.{OutOfMemory}

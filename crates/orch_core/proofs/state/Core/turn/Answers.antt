@@ -43,6 +43,13 @@ loop-key-preserved-in-Done-2 g c =
     trying-done c.args.self.now (g.C.Chip.state c.args.chip.now) c.loop-key.self (g.C.Chip.state c.loop-key.chip) c.in-Some.key c.loop-key.invariant next c.attempt.new.self (g.C.Chip.state c.attempt.new.chip) done.0 done.1 done.2 _
     (ap (λ (ks : List Key). record (the_view c.self-in-Some.inside) { to_sync = ks }) c.remove.ensures.keys ∙ ap (λ (s : State). record s { to_sync = remove_key (is_at (key_cmp c.in-Some.key)) s.to_sync }) c.self-in-Some.view_is)
 
+pub loop-key-preserved-in-Done-3 : goal.loop-key-preserved-in-Done-3
+loop-key-preserved-in-Done-3 g c =
+    let next = subst (IsNextKey c.loop-key.self) c.in-Some.is c.in_ok-key.ensures in
+    let done = tried_as c.in-Some.key c.loop-key.self (g.C.Chip.state c.loop-key.chip) c.attempt.new.self (g.C.Chip.state c.attempt.new.chip) (c.in_ok-attempt.was ∙ ap Ok c.in-Done.is) c.attempt.ensures in
+    trying-done c.args.self.now (g.C.Chip.state c.args.chip.now) c.loop-key.self (g.C.Chip.state c.loop-key.chip) c.in-Some.key c.loop-key.invariant next c.attempt.new.self (g.C.Chip.state c.attempt.new.chip) done.0 done.1 done.2 _
+    (ap (λ (ks : List Key). record (the_view c.self-in-Some.inside) { to_sync = ks }) c.remove.ensures.keys ∙ ap (λ (s : State). record s { to_sync = remove_key (is_at (key_cmp c.in-Some.key)) s.to_sync }) c.self-in-Some.view_is)
+
 pub loop-key-preserved : goal.loop-key-preserved
 loop-key-preserved g c =
     let next = subst (IsNextKey c.loop-key.self) c.in-Some.is c.in_ok-key.ensures in
