@@ -5,6 +5,7 @@ use Rattle.std.specs.BTreeMap.{insert_entry}
 use Rattle.std.specs.BTreeSet.{insert_key}
 use Rattle.std.specs.Option.{is_some, unwrap_or}
 use Rattle.std.specs.Ordering.{match_ordering}
+use Rattle.std.proofs.lemmas.Bool.{and_parts}
 use Rattle.std.proofs.lemmas.Grind.{common_steps}
 use Rattle.swss_types.specs.Address.{covers}
 use Rattle.swss_types.specs.declared.address.Ip.{Ip}
@@ -23,6 +24,8 @@ use Rattle.sai_types.specs.declared.body.To.{To}
 use Rattle.sai_types.specs.Forwarding.{best_route, decide_route, forwarding_of, longer}
 use Rattle.sai_types.specs.Named.{both, goal_by, hop_cmp, hops_at, named, next_hop_at, thing_of, those}
 use Rattle.sai_types.specs.Objects.{Objects, body_at}
+use Rattle.sai_types.specs.References.{refers_well, stands}
+use Rattle.sai_types.specs.declared.kind.Kind.TheVariants as kind
 use Rattle.sai_chip.specs.declared.forward.Forward.{Forward}
 use Rattle.sai_chip.specs.declared.forward.Forward.TheVariants as forward
 use Rattle.sai_chip.specs.Bodies.{best_of, routed}
@@ -139,6 +142,8 @@ ways_by-before objects ns left d way old new some within was one more =
     ∙ ways_both objects (hops_by objects (drop left ns)) (next_hop_at objects (get_or ns (left - 1) d))
     ∙ ap (λ l. ways_by objects (hops_by objects l)) (sym (drop-before ns left d some within))
 
-pub and-last : (a b : Bool) → (a && b) ≡ true → b ≡ true
-and-last true b h = h
-and-last false b h = absurd cc
+-- a next hop that refers well goes through a neighbour that stands
+pub through-stands : (objects : Objects) (rif : Rid) (ip : Ip) → refers_well objects (body.NextHop rif ip) ≡ true → is_some (body_at objects (entry.Neigh rif ip)) ≡ true
+through-stands objects rif ip well =
+    let parts = and_parts (stands objects (kind.Rif, entry.Oid rif)) (is_some (body_at objects (entry.Neigh rif ip)) && true) well in
+    (and_parts (is_some (body_at objects (entry.Neigh rif ip))) true parts.1).0
