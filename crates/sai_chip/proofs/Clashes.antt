@@ -5,13 +5,10 @@ use Rattle.std.specs.BTreeMap.{is_at}
 use Rattle.std.specs.Cmp.{both_tied}
 use Rattle.swss_types.specs.contracts.address.IpOrd.TheImpl as ip_ord
 use Rattle.swss_types.specs.declared.address.Ip.{Ip}
-use Rattle.swss_types.specs.declared.address.Mac.{Mac}
 use Rattle.swss_types.specs.declared.tagging.Tagging.{Tagging}
 use Rattle.swss_types.specs.declared.address.Prefix.{Prefix}
 use Rattle.swss_types.specs.contracts.address.IpEq.TheImpl.Laws as equal_ip
 use Rattle.swss_types.specs.contracts.address.IpOrd.TheImpl.Laws as ordered_ip
-use Rattle.swss_types.specs.contracts.address.PrefixEq.TheImpl.Laws as equal_prefix
-use Rattle.swss_types.specs.contracts.address.PrefixOrd.TheImpl.Laws as ordered_prefix
 use Rattle.sai_types.specs.declared.ids.Rid.{Rid}
 use Rattle.sai_types.specs.declared.body.RifOn.{RifOn}
 use Rattle.sai_types.specs.declared.body.RifOn.TheVariants as on
@@ -22,7 +19,7 @@ use Rattle.sai_types.specs.declared.body.Entry.TheVariants as entry
 use Rattle.sai_types.specs.declared.body.Body.{Body}
 use Rattle.sai_types.specs.declared.body.Body.TheVariants as body
 use Rattle.sai_types.specs.References.{refers_to}
-use Rattle.sai_types.specs.Refusal.{clash, same_ip, same_prefix, same_id, same_base}
+use Rattle.sai_types.specs.Refusal.{clash, same_ip, same_id, same_base}
 use Rattle.sai_types.specs.Objects.{Objects}
 use Rattle.sai_chip.specs.declared.mark.Mark.{Mark}
 use Rattle.sai_chip.specs.declared.mark.Mark.TheVariants as mark

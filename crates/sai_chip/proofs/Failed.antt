@@ -1,5 +1,5 @@
 -- how many of the failing calls lie behind a chip
-use Rattle.std.proofs.Common.{◌≡◌, ℕ, ◌+◌, ◌≤◌, ◌<◌, ◌==◌, nat_lt, min, Bool, true, false, cond, List, [], ◌∷◌, Option, None, Some, IsSome, if◌then◌else◌, refl, sym, subst, ◌-◌, ◌^◌, arith}
+use Rattle.std.proofs.Common.{◌≡◌, ℕ, ◌+◌, ◌≤◌, ◌<◌, nat_lt, min, Bool, true, false, List, [], ◌∷◌, None, IsSome, if◌then◌else◌, refl, sym, subst, ◌-◌, ◌^◌, arith}
 use Rattle.std.proofs.lemmas.Bool.{ltb-false, ltb-true}
 use Rattle.std.proofs.lemmas.Grind.{common_steps}
 use Rattle.sai_types.specs.declared.ids.Rid.{Rid}

@@ -1,11 +1,7 @@
 -- what the things of a chip decide by: own addresses, neighbours and routes, each found by its key
-use Rattle.std.proofs.Common.{◌≡◌, Bool, true, false, cond, ◌||◌, List, [], ◌∷◌, ◌++◌, map, Option, None, Some, option_map, refl, sym, ap, ◌∙◌, subst, rules}
+use Rattle.std.proofs.Common.{◌≡◌, Bool, true, false, List, [], ◌∷◌, ◌++◌, map, Option, None, Some, option_map, refl, sym, ap, ◌∙◌}
 use Rattle.std.specs.BTreeMap.{is_at}
 use Rattle.std.specs.List.{list_any}
-use Rattle.std.specs.Map.{lookup}
-use Rattle.std.specs.Option.{is_some}
-use Rattle.std.specs.Ordering.{is_eq}
-use Rattle.std.specs.declared.cmp.Ordering.TheVariants.{Equal}
 use Rattle.std.proofs.lemmas.Bool.{false≢true}
 use Rattle.std.proofs.lemmas.List.{append-nil}
 use Rattle.swss_types.specs.declared.address.Ip.{Ip}
@@ -25,7 +21,7 @@ use Rattle.sai_types.specs.declared.body.Entry.{Entry}
 use Rattle.sai_types.specs.declared.body.Entry.TheVariants as entry
 use Rattle.sai_types.specs.declared.body.To.{To}
 use Rattle.sai_types.specs.After.{has_id}
-use Rattle.sai_types.specs.Forwarding.{best_route, has_own, is_own, mac_of}
+use Rattle.sai_types.specs.Forwarding.{best_route, has_own, mac_of}
 use Rattle.sai_types.specs.Named.{both, base_on, bridge_port_at, goal_by, hop_on, hops_at, named, next_hop_at, port_at, thing_of, those, vlan_at}
 use Rattle.sai_types.specs.Objects.{Objects}
 use Rattle.sai_chip.specs.Bodies.{HaveIds, best_of, numbered, owned, reached, routed, objects_in}

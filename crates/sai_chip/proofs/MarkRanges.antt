@@ -1,5 +1,5 @@
 -- the counted members of a group: they stand together, from the first that the group may have
-use Rattle.std.proofs.Common.{◌≡◌, ◌⊎◌, inl, inr, ℕ, ◌<◌, nat_lt, nat_cmp, Bool, true, false, not, cond, ◌||◌, ◌&&◌, List, [], ◌∷◌, ◌++◌, Option, None, Some, Ordering, if◌then◌else◌, refl, sym, ap, ◌∙◌, arith, rules}
+use Rattle.std.proofs.Common.{◌≡◌, ◌⊎◌, inl, inr, ℕ, ◌<◌, nat_lt, nat_cmp, Bool, true, false, not, cond, ◌||◌, ◌&&◌, List, [], ◌∷◌, ◌++◌, Option, Some, Ordering, if◌then◌else◌, refl, sym, ap, ◌∙◌, arith, rules}
 use Rattle.std.specs.declared.cmp.Ordering.TheVariants.{Less, Equal, Greater}
 use Rattle.std.specs.declared.ops.Bound.TheVariants.{Included, Unbounded}
 use Rattle.std.specs.Ordering.{MatchOrdering, is_eq, is_le, ordering_then}
@@ -19,7 +19,7 @@ use Rattle.sai_types.specs.declared.ids.Rid.{Rid}
 use Rattle.sai_types.specs.contracts.ids.RidOrd.TheImpl.Laws as ordered_rid
 use Rattle.sai_types.specs.Refusal.{same_id}
 use Rattle.sai_chip.specs.Tally.{count_in, pair_cmp, rid_cmp}
-use Rattle.sai_chip.proofs.Members.{id-exact, same_id-refl, same_id-symm}
+use Rattle.sai_chip.proofs.Members.{id-exact, same_id-symm}
 
 abbrev Members : Type 0
 Members = List ((Rid × Rid) × ℕ)

@@ -29,7 +29,7 @@ use Rattle.sai_types.specs.Names as name
 use Rattle.sai_types.specs.Forwarding.{mac_of, same_hop}
 use Rattle.sai_types.specs.Made.{HaveOneEach}
 use Rattle.sai_types.specs.Named.{goal_by, hop_cmp, hop_on, hops_at, named, thing_of, those}
-use Rattle.sai_types.specs.Objects.{Objects, body_at}
+use Rattle.sai_types.specs.Objects.{Objects}
 use Rattle.sai_chip.specs.Tally.{neighbor_cmp}
 use Rattle.sai_chip.specs.Bodies.{HaveIds, owned, reached, routed, objects_in}
 use Rattle.sai_chip.proofs.Changed.{at-neighbor, neighbor_exact}

@@ -1,5 +1,5 @@
 -- the counts of all marks where those of one kind of mark change
-use Rattle.std.proofs.Common.{◌≡◌, ℕ, ◌+◌, ◌-◌, Bool, true, false, cond, List, Result, Ok, Err, OnOk, sym, arith}
+use Rattle.std.proofs.Common.{◌≡◌, ℕ, ◌+◌, ◌-◌, Bool, false, cond, List, Result, Ok, Err, OnOk, sym, arith}
 use Rattle.std.specs.Ordering.{nat_cmp}
 use Rattle.std.specs.BTreeMap.{is_at}
 use Rattle.swss_types.specs.declared.address.Ip.{Ip}

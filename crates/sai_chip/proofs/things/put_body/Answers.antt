@@ -1,4 +1,4 @@
-use Rattle.std.proofs.Common.{◌≡◌, cond, Some, ◌∙◌, ap, sym}
+use Rattle.std.proofs.Common.{cond, Some, ◌∙◌, ap, sym}
 use Rattle.std.specs.BTreeMap.{is_at}
 use Rattle.sai_types.specs.declared.body.Entry.TheVariants as entry
 use Rattle.sai_types.specs.Objects.{body_at, entry_cmp}

@@ -1,4 +1,4 @@
-use Rattle.std.proofs.Common.{◌≡◌, true, option_map, Some, ◌∙◌, sym, ap, subst}
+use Rattle.std.proofs.Common.{◌≡◌, true, Some, ◌∙◌, sym, ap, subst}
 use Rattle.std.specs.BTreeMap.{is_at}
 use Rattle.std.specs.Map.{lookup}
 use Rattle.std.specs.Option.{is_some}

@@ -1,4 +1,4 @@
-use Rattle.std.proofs.Common.{◌∙◌, sym, []}
+use Rattle.std.proofs.Common.{◌∙◌, sym}
 use Rattle.sai_chip.proofs.Changed.{at-id, at-numbered}
 use Rattle.sai_chip.proofs.bodies.Bodies.numbered.Goals as goal
 

@@ -1,4 +1,4 @@
-use Rattle.std.proofs.Common.{◌≡◌, Option, None, Some, cond, ◌∙◌, sym, ap}
+use Rattle.std.proofs.Common.{None, Some, cond, ◌∙◌, sym, ap}
 use Rattle.sai_types.specs.declared.body.Body.TheVariants as body
 use Rattle.sai_chip.proofs.Changed.{at-own}
 use Rattle.sai_chip.proofs.bodies.Bodies.own.Goals as goal

@@ -1,8 +1,8 @@
-use Rattle.std.proofs.Common.{◌≡◌, true, refl, sym, ◌∙◌, ap}
+use Rattle.std.proofs.Common.{◌≡◌, true, sym, ◌∙◌, ap}
 use Rattle.std.specs.BTreeMap.{insert_entry}
 use Rattle.sai_types.specs.declared.body.Body.TheVariants as body
 use Rattle.sai_types.specs.declared.body.Call.TheVariants as call
-use Rattle.sai_types.specs.After.{entry_of, has_id}
+use Rattle.sai_types.specs.After.{has_id}
 use Rattle.sai_types.specs.Objects.{entry_cmp}
 use Rattle.sai_chip.specs.Bodies.{objects_in}
 use Rattle.sai_chip.proofs.Changed.{entry_of-id, id_default, ids-put, keeps, put-id, put-own, put-neighbor, put-route}

@@ -1,7 +1,7 @@
-use Rattle.std.proofs.Common.{refl, ◌∙◌, ap}
+use Rattle.std.proofs.Common.{◌∙◌, ap}
 use Rattle.sai_types.specs.declared.body.Call.TheVariants as call
 use Rattle.sai_types.specs.declared.body.Entry.TheVariants as entry
-use Rattle.sai_chip.specs.Bodies.{HaveIds, objects_in}
+use Rattle.sai_chip.specs.Bodies.{objects_in}
 use Rattle.sai_chip.proofs.Changed.{ids-take, keeps, take-id, take-own, take-neighbor, take-route}
 use Rattle.sai_chip.proofs.bodies.Bodies.remove.Goals as goal
 

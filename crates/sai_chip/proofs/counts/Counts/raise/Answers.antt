@@ -1,4 +1,3 @@
-use Rattle.std.proofs.Common.{◌∙◌}
 use Rattle.sai_chip.proofs.Tallies.{more, more_none, on_ok, with_kinds, with_references, with_lanes, with_vlans, with_bridge_ports, with_vlan_members, with_rifs, with_next_hops, with_group_members}
 use Rattle.sai_chip.proofs.counts.Counts.raise.Goals as goal
 
