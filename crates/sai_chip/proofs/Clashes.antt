@@ -1,15 +1,14 @@
 -- what clashes with a body, and what refers to an entry, by marks
 use Rattle.std.proofs.Common.{◌≡◌, ℕ, ◌==◌, Bool, true, false, ◌||◌, ◌&&◌, List, [], ◌∷◌, refl, sym, ap, ◌∙◌, rules}
 use Rattle.std.specs.List.{list_any}
+use Rattle.std.specs.BTreeMap.{is_at}
 use Rattle.std.specs.Cmp.{both_tied}
+use Rattle.swss_types.specs.contracts.address.IpOrd.TheImpl as ip_ord
 use Rattle.swss_types.specs.declared.address.Ip.{Ip}
-use Rattle.swss_types.specs.declared.address.Mac.{Mac}
 use Rattle.swss_types.specs.declared.tagging.Tagging.{Tagging}
 use Rattle.swss_types.specs.declared.address.Prefix.{Prefix}
 use Rattle.swss_types.specs.contracts.address.IpEq.TheImpl.Laws as equal_ip
 use Rattle.swss_types.specs.contracts.address.IpOrd.TheImpl.Laws as ordered_ip
-use Rattle.swss_types.specs.contracts.address.PrefixEq.TheImpl.Laws as equal_prefix
-use Rattle.swss_types.specs.contracts.address.PrefixOrd.TheImpl.Laws as ordered_prefix
 use Rattle.sai_types.specs.declared.ids.Rid.{Rid}
 use Rattle.sai_types.specs.declared.body.RifOn.{RifOn}
 use Rattle.sai_types.specs.declared.body.RifOn.TheVariants as on
@@ -20,12 +19,12 @@ use Rattle.sai_types.specs.declared.body.Entry.TheVariants as entry
 use Rattle.sai_types.specs.declared.body.Body.{Body}
 use Rattle.sai_types.specs.declared.body.Body.TheVariants as body
 use Rattle.sai_types.specs.References.{refers_to}
-use Rattle.sai_types.specs.Refusal.{clash, same_ip, same_prefix, same_id, same_base}
+use Rattle.sai_types.specs.Refusal.{clash, same_ip, same_id, same_base}
 use Rattle.sai_types.specs.Objects.{Objects}
 use Rattle.sai_chip.specs.declared.mark.Mark.{Mark}
 use Rattle.sai_chip.specs.declared.mark.Mark.TheVariants as mark
 use Rattle.sai_chip.specs.Tally.{is_mark}
-use Rattle.sai_chip.specs.Marks.{lane_marks, base_marks, target_marks, has_mark, stands, refers}
+use Rattle.sai_chip.specs.Marks.{lane_marks, base_marks, target_marks, has_mark, stands}
 use Rattle.sai_chip.proofs.Standing.{any-same}
 
 mark_of_port : (a b : Rid) → is_mark (mark.BridgePort a) (mark.BridgePort b) ≡ same_id b a
@@ -34,11 +33,8 @@ mark_of_port a b = search rules
 mark_of_vlan : (a b : ℕ) → is_mark (mark.Vlan a) (mark.Vlan b) ≡ (b == a)
 mark_of_vlan a b = search rules
 
-mark_of_ip : (a b : Ip) → is_mark (mark.Own a) (mark.Own b) ≡ same_ip b a
+mark_of_ip : (a b : Ip) → is_at (ip_ord.ghosts.cmp a) b ≡ same_ip b a
 mark_of_ip a b = sym (ordered_ip.matches_eq-law a b) ∙ equal_ip.laws-law.symm a b
-
-mark_of_prefix : (a b : Prefix) → is_mark (mark.Route a) (mark.Route b) ≡ same_prefix b a
-mark_of_prefix a b = sym (ordered_prefix.matches_eq-law a b) ∙ equal_prefix.laws-law.symm a b
 
 mark_of_base : (a b : RifOn Rid) → is_mark (mark.Rif a) (mark.Rif b) ≡ same_base b a
 mark_of_base (on.Port a) (on.Port b) = search rules
@@ -52,20 +48,11 @@ mark_of_member a c b d = search rules
 mark_of_group_member : (a c b d : Rid) → is_mark (mark.GroupMember a c) (mark.GroupMember b d) ≡ (same_id b a && same_id d c)
 mark_of_group_member a c b d = search rules
 
-mark_of_neighbor : (a b : Rid) (x y : Ip) → is_mark (mark.Neighbor a x) (mark.Neighbor b y) ≡ (same_id b a && same_ip y x)
-mark_of_neighbor a b x y = sym (both_tied (same_id b a) (same_ip y x) _ _ (sym (mark_of_port a b)) (sym (mark_of_ip x y)))
-
 mark_of_next_hop : (a b : Rid) (x y : Ip) → is_mark (mark.NextHop a x) (mark.NextHop b y) ≡ (same_id b a && same_ip y x)
 mark_of_next_hop a b x y = sym (both_tied (same_id b a) (same_ip y x) _ _ (sym (mark_of_port a b)) (sym (mark_of_ip x y)))
 
 mark_of_lane : (a b : ℕ) → is_mark (mark.Lane a) (mark.Lane b) ≡ (b == a)
 mark_of_lane a b = search rules
-
-mark_of_id : (a b : Rid) → is_mark (refers a) (refers b) ≡ same_id a b
-mark_of_id a b = search rules
-
-mark_of_neigh : (a b : Rid) (x y : Ip) → is_mark (mark.RefersTo (entry.Neigh a x)) (mark.RefersTo (entry.Neigh b y)) ≡ (same_id a b && same_ip x y)
-mark_of_neigh a b x y = sym (both_tied (same_id a b) (same_ip x y) _ _ (sym (mark_of_id a b)) (ordered_ip.matches_eq-law x y))
 
 or_none : (b : Bool) → (b || false) ≡ b
 or_none true = refl
@@ -75,11 +62,11 @@ no_lane : (m : Mark) (lanes : List ℕ) → ((l : ℕ) → is_mark (mark.Lane l)
 no_lane m [] none = refl
 no_lane m (lane ∷ lanes) none = rw (none lane) (no_lane m lanes none)
 
-no_base : (m : Mark) (on : RifOn Rid) → ((r : Rid) → is_mark (refers r) m ≡ false) → list_any (λ k. is_mark k m) (base_marks on) ≡ false
+no_base : (m : Mark) (on : RifOn Rid) → ((r : Rid) → is_mark (mark.RefersTo r) m ≡ false) → list_any (λ k. is_mark k m) (base_marks on) ≡ false
 no_base m (on.Port p) none = rw (none p) refl
 no_base m (on.Vlan v) none = rw (none v) refl
 
-no_target : (m : Mark) (to : To Rid) → ((r : Rid) → is_mark (refers r) m ≡ false) → list_any (λ k. is_mark k m) (target_marks to) ≡ false
+no_target : (m : Mark) (to : To Rid) → ((r : Rid) → is_mark (mark.RefersTo r) m ≡ false) → list_any (λ k. is_mark k m) (target_marks to) ≡ false
 no_target m to.Drop none = refl
 no_target m (to.Rif r) none = rw (none r) refl
 no_target m (to.NextHop r) none = rw (none r) refl
@@ -106,20 +93,6 @@ clash-vlan_member v p t (body.Rif on) = sym (no_base (mark.VlanMember v p) on (�
 clash-vlan_member v p t (body.Route prefix to) = sym (no_target (mark.VlanMember v p) to (λ r. refl))
 clash-vlan_member v p t _ = refl
 
-pub clash-own : (ip : Ip) (o : Body Rid) → clash (body.OwnAddress ip) o ≡ has_mark (mark.Own ip) o
-clash-own ip (body.OwnAddress other) = sym (or_none _ ∙ mark_of_ip other ip)
-clash-own ip (body.Port lanes speed mtu up) = sym (no_lane (mark.Own ip) lanes (λ l. refl))
-clash-own ip (body.Rif on) = sym (no_base (mark.Own ip) on (λ r. refl))
-clash-own ip (body.Route prefix to) = sym (no_target (mark.Own ip) to (λ r. refl))
-clash-own ip _ = refl
-
-pub clash-neighbor : (r : Rid) (ip : Ip) (mac : Mac) (o : Body Rid) → clash (body.Neighbor r ip mac) o ≡ has_mark (mark.Neighbor r ip) o
-clash-neighbor r ip mac (body.Neighbor s other mac') = sym (or_none _ ∙ mark_of_neighbor s r other ip)
-clash-neighbor r ip mac (body.Port lanes speed mtu up) = sym (no_lane (mark.Neighbor r ip) lanes (λ l. refl))
-clash-neighbor r ip mac (body.Rif on) = sym (no_base (mark.Neighbor r ip) on (λ r. refl))
-clash-neighbor r ip mac (body.Route prefix to) = sym (no_target (mark.Neighbor r ip) to (λ r. refl))
-clash-neighbor r ip mac _ = refl
-
 pub clash-next_hop : (r : Rid) (ip : Ip) (o : Body Rid) → clash (body.NextHop r ip) o ≡ has_mark (mark.NextHop r ip) o
 clash-next_hop r ip (body.NextHop s other) = sym (or_none _ ∙ mark_of_next_hop s r other ip)
 clash-next_hop r ip (body.Port lanes speed mtu up) = sym (no_lane (mark.NextHop r ip) lanes (λ l. refl))
@@ -139,12 +112,6 @@ clash-rif on (body.Rif other) = sym (ap (λ b. is_mark (mark.Rif other) (mark.Ri
 clash-rif on (body.Port lanes speed mtu up) = sym (no_lane (mark.Rif on) lanes (λ l. refl))
 clash-rif on (body.Route prefix to) = sym (no_target (mark.Rif on) to (λ r. refl))
 clash-rif on _ = refl
-
-pub clash-route : (prefix : Prefix) (t : To Rid) (o : Body Rid) → clash (body.Route prefix t) o ≡ has_mark (mark.Route prefix) o
-clash-route prefix t (body.Route other to) = sym (ap (λ b. is_mark (mark.Route other) (mark.Route prefix) || b) (no_target (mark.Route prefix) to (λ r. refl)) ∙ or_none _ ∙ mark_of_prefix other prefix)
-clash-route prefix t (body.Port lanes speed mtu up) = sym (no_lane (mark.Route prefix) lanes (λ l. refl))
-clash-route prefix t (body.Rif on) = sym (no_base (mark.Route prefix) on (λ r. refl))
-clash-route prefix t _ = refl
 
 pub clash-group : (o : Body Rid) → clash body.Group o ≡ false
 clash-group o = refl
@@ -183,20 +150,59 @@ clashes-port lanes speed mtu up objects =
     any-same _ _ (λ o. clash-port lanes speed mtu up o.1) objects
     ∙ sym (any-any (λ lane o. has_mark (mark.Lane lane) o.1) lanes objects)
 
--- what a body refers to are the marks that say so
-pub refers-mark : (e : Entry Rid) (b : Body Rid) → refers_to b e ≡ has_mark (mark.RefersTo e) b
-refers-mark e (body.Port lanes speed mtu up) = sym (no_lane (mark.RefersTo e) lanes (λ l. refl))
-refers-mark e (body.Rif (on.Port p)) = refl
-refers-mark e (body.Rif (on.Vlan v)) = refl
-refers-mark e (body.Route prefix to.Drop) = refl
-refers-mark e (body.Route prefix (to.Rif r)) = refl
-refers-mark e (body.Route prefix (to.NextHop n)) = refl
-refers-mark e (body.Route prefix (to.Group g)) = refl
-refers-mark e _ = refl
+-- a body refers to an identifier where one of its marks says so
+refers-id : (r : Rid) (b : Body Rid) → refers_to b (entry.Oid r) ≡ has_mark (mark.RefersTo r) b
+refers-id r (body.Port lanes speed mtu up) = sym (no_lane (mark.RefersTo r) lanes (λ l. refl))
+refers-id r (body.Rif (on.Port p)) = refl
+refers-id r (body.Rif (on.Vlan v)) = refl
+refers-id r (body.Route prefix to.Drop) = refl
+refers-id r (body.Route prefix (to.Rif a)) = refl
+refers-id r (body.Route prefix (to.NextHop n)) = refl
+refers-id r (body.Route prefix (to.Group g)) = refl
+refers-id r _ = refl
 
--- an entry is referred to where its mark stands
-pub refers-stands : (e : Entry Rid) (objects : Objects) → list_any (λ o. refers_to o.1 e) objects ≡ stands (mark.RefersTo e) objects
-refers-stands e objects = any-same _ _ (λ o. refers-mark e o.1) objects
+-- an identifier is referred to where its mark stands
+pub refers-stands : (r : Rid) (objects : Objects) → list_any (λ o. refers_to o.1 (entry.Oid r)) objects ≡ stands (mark.RefersTo r) objects
+refers-stands r objects = any-same _ _ (λ o. refers-id r o.1) objects
+
+goes-mark : (r : Rid) (ip : Ip) (b : Body Rid) → refers_to b (entry.Neigh r ip) ≡ has_mark (mark.NextHop r ip) b
+goes-mark r ip (body.Port lanes speed mtu up) = sym (no_lane (mark.NextHop r ip) lanes (λ l. refl))
+goes-mark r ip (body.Rif (on.Port p)) = refl
+goes-mark r ip (body.Rif (on.Vlan v)) = refl
+goes-mark r ip (body.Route prefix to.Drop) = refl
+goes-mark r ip (body.Route prefix (to.Rif a)) = refl
+goes-mark r ip (body.Route prefix (to.NextHop n)) = refl
+goes-mark r ip (body.Route prefix (to.Group g)) = refl
+goes-mark r ip _ = refl
+
+-- a neighbour is referred to where a next hop goes through it
+pub goes-stands : (r : Rid) (ip : Ip) (objects : Objects) → list_any (λ o. refers_to o.1 (entry.Neigh r ip)) objects ≡ stands (mark.NextHop r ip) objects
+goes-stands r ip objects = any-same _ _ (λ o. goes-mark r ip o.1) objects
+
+-- nothing refers to an own address, or to a route
+refers-own : (ip : Ip) (b : Body Rid) → refers_to b (entry.Own ip) ≡ false
+refers-own ip (body.Rif (on.Port p)) = refl
+refers-own ip (body.Rif (on.Vlan v)) = refl
+refers-own ip (body.Route prefix to.Drop) = refl
+refers-own ip (body.Route prefix (to.Rif a)) = refl
+refers-own ip (body.Route prefix (to.NextHop n)) = refl
+refers-own ip (body.Route prefix (to.Group g)) = refl
+refers-own ip _ = refl
+
+refers-route : (p : Prefix) (b : Body Rid) → refers_to b (entry.Route p) ≡ false
+refers-route p (body.Rif (on.Port q)) = refl
+refers-route p (body.Rif (on.Vlan v)) = refl
+refers-route p (body.Route prefix to.Drop) = refl
+refers-route p (body.Route prefix (to.Rif a)) = refl
+refers-route p (body.Route prefix (to.NextHop n)) = refl
+refers-route p (body.Route prefix (to.Group g)) = refl
+refers-route p _ = refl
+
+pub refers-never : (e : Entry Rid) → ((r : Rid) → e ≡ entry.Oid r → ⊥) → ((r : Rid) (ip : Ip) → e ≡ entry.Neigh r ip → ⊥) → (objects : Objects) → false ≡ list_any (λ o. refers_to o.1 e) objects
+refers-never (entry.Oid r) id neighbor objects = absurd (id r refl)
+refers-never (entry.Neigh r ip) id neighbor objects = absurd (neighbor r ip refl)
+refers-never (entry.Own ip) id neighbor objects = sym (any_never _ (λ o. refers-own ip o.1) objects)
+refers-never (entry.Route p) id neighbor objects = sym (any_never _ (λ o. refers-route p o.1) objects)
 
 -- a body that a mark stands for clashes where the mark stands
 pub clashes-by : (b d : Body Rid) (m : Mark) (objects : Objects) (r : Bool) → b ≡ d → ((o : Body Rid) → clash d o ≡ has_mark m o) → r ≡ stands m objects → r ≡ list_any (λ o. clash b o.1) objects

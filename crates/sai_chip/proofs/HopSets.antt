@@ -25,12 +25,12 @@ use Rattle.sai_types.specs.Named.{both, hop_cmp, next_hop_at}
 use Rattle.sai_chip.specs.Members.{hops_by}
 use Rattle.sai_chip.proofs.SameNames.{drop-before}
 
-then_first : (a b : Ordering) → ordering_then a b ≡ Equal → a ≡ Equal
+pub then_first : (a b : Ordering) → ordering_then a b ≡ Equal → a ≡ Equal
 then_first Less b h = h
 then_first Equal b h = refl
 then_first Greater b h = h
 
-then_last : (a b : Ordering) → ordering_then a b ≡ Equal → b ≡ Equal
+pub then_last : (a b : Ordering) → ordering_then a b ≡ Equal → b ≡ Equal
 then_last Less b h = cc
 then_last Equal b h = h
 then_last Greater b h = cc
@@ -40,7 +40,7 @@ family_exact V4 V4 h = refl
 family_exact V6 V6 h = refl
 family_exact x y h = cc
 
-ip_exact : CmpEqualImpliesEq ip_ord.ghosts.cmp
+pub ip_exact : CmpEqualImpliesEq ip_ord.ghosts.cmp
 ip_exact x y h = let made : Family → ℕ → Ip = λ f b. record { family = f; bits = b } in ap₂ made (family_exact x.family y.family (then_first _ _ h)) (exact_unsigned x.bits y.bits (then_last _ _ h))
 
 base_exact : CmpEqualImpliesEq base_ord.ghosts.cmp
@@ -49,7 +49,7 @@ base_exact (base.Vlan m) (base.Vlan n) h = ap base.Vlan (exact_unsigned m n h)
 base_exact x y h = cc
 
 -- hops that compare equal are equal
-hop_exact : CmpEqualImpliesEq hop_cmp
+pub hop_exact : CmpEqualImpliesEq hop_cmp
 hop_exact x y h = let made : Base → Ip → Hop = λ on ip. record { on = on; ip = ip } in ap₂ made (base_exact x.on y.on (then_first _ _ h)) (ip_exact x.ip y.ip (then_last _ _ h))
 
 -- either is true where one is

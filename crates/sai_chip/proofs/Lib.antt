@@ -1,4 +1,5 @@
 mod Answered
+mod Changed
 mod Clashes
 mod Counting
 mod Entries
@@ -8,7 +9,14 @@ mod HopSets
 mod Indexed
 mod Kept
 mod MarkRanges
+mod LanesStay
+mod Looked
 mod Members
+mod Nearby
+mod Parts
 pub mod Replays
 mod SameNames
+mod Sending
 mod Standing
+mod Taken
+mod Tallies

@@ -24,7 +24,7 @@ id-exact a b h = let made : ℕ → Rid = λ n. record { 0 = n } in ap made (eqb
 pub same_id-refl : (a : Rid) → same_id a a ≡ true
 same_id-refl a = eq-eqb a.0 a.0 refl
 
-both_ways : (a b : Bool) → (a ≡ true → b ≡ true) → (b ≡ true → a ≡ true) → a ≡ b
+pub both_ways : (a b : Bool) → (a ≡ true → b ≡ true) → (b ≡ true → a ≡ true) → a ≡ b
 both_ways true true f g = refl
 both_ways false false f g = refl
 both_ways true false f g = absurd (false≢true (f refl))

@@ -22,15 +22,16 @@ use Rattle.sai_types.specs.Objects.{Objects, body_at, entry_cmp}
 use Rattle.sai_types.specs.ChipState.{objects_of}
 use Rattle.sai_types.specs.Refusal.{same_id}
 use Rattle.sai_types.specs.Named.{both, hop_cmp, port_of, vlan_of, port_at, vlan_at, bridge_port_of, bridge_port_at, base_on, rif_of, rif_at, hop_on, next_hop_of, next_hop_at, with_member, hops_among, hops_at, goal_by, thing_by, thing_of, things_among, named}
+use Rattle.sai_chip.specs.Members.{hops_by}
 use Rattle.sai_chip.specs.Naming.{AreBodies, AreHops, GroupHops, entries_of, hops_in}
 use Rattle.sai_chip.proofs.Entries.{entry_total}
 
 module _ (xs ys : Objects) (found : AreBodies ys xs) where
   port_at-same : (r : Rid) → port_at xs r ≡ port_at ys r
-  port_at-same r = ap port_of (found.each (entry.Oid r))
+  port_at-same r = ap port_of (found.each r)
 
   vlan_at-same : (r : Rid) → vlan_at xs r ≡ vlan_at ys r
-  vlan_at-same r = ap vlan_of (found.each (entry.Oid r))
+  vlan_at-same r = ap vlan_of (found.each r)
 
   bridge_port_of-same : (o : Option (Body Rid)) → bridge_port_of xs o ≡ bridge_port_of ys o
   bridge_port_of-same None = refl
@@ -38,7 +39,7 @@ module _ (xs ys : Objects) (found : AreBodies ys xs) where
   bridge_port_of-same (Some _) = refl
 
   bridge_port_at-same : (r : Rid) → bridge_port_at xs r ≡ bridge_port_at ys r
-  bridge_port_at-same r = bridge_port_of-same (body_at xs (entry.Oid r)) ∙ ap (bridge_port_of ys) (found.each (entry.Oid r))
+  bridge_port_at-same r = bridge_port_of-same (body_at xs (entry.Oid r)) ∙ ap (bridge_port_of ys) (found.each r)
 
   base_on-same : (on : RifOn Rid) → base_on xs on ≡ base_on ys on
   base_on-same (on.Port p) = ap (option_map base.Port) (port_at-same p)
@@ -49,10 +50,10 @@ module _ (xs ys : Objects) (found : AreBodies ys xs) where
   rif_of-same (Some (body.Rif on)) = base_on-same on
   rif_of-same (Some _) = refl
 
-  rif_at-same : (r : Rid) → rif_at xs r ≡ rif_at ys r
-  rif_at-same r = rif_of-same (body_at xs (entry.Oid r)) ∙ ap (rif_of ys) (found.each (entry.Oid r))
+  pub rif_at-same : (r : Rid) → rif_at xs r ≡ rif_at ys r
+  rif_at-same r = rif_of-same (body_at xs (entry.Oid r)) ∙ ap (rif_of ys) (found.each r)
 
-  hop_on-same : (r : Rid) (ip : Ip) → hop_on xs r ip ≡ hop_on ys r ip
+  pub hop_on-same : (r : Rid) (ip : Ip) → hop_on xs r ip ≡ hop_on ys r ip
   hop_on-same r ip = ap (option_map (λ b. record { on = b; ip = ip })) (rif_at-same r)
 
   next_hop_of-same : (o : Option (Body Rid)) → next_hop_of xs o ≡ next_hop_of ys o
@@ -61,7 +62,7 @@ module _ (xs ys : Objects) (found : AreBodies ys xs) where
   next_hop_of-same (Some _) = refl
 
   next_hop_at-same : (r : Rid) → next_hop_at xs r ≡ next_hop_at ys r
-  next_hop_at-same r = next_hop_of-same (body_at xs (entry.Oid r)) ∙ ap (next_hop_of ys) (found.each (entry.Oid r))
+  next_hop_at-same r = next_hop_of-same (body_at xs (entry.Oid r)) ∙ ap (next_hop_of ys) (found.each r)
 
   with_member-same : (g : Rid) (b : Body Rid) (others : Option (List Hop)) → with_member xs g b others ≡ with_member ys g b others
   with_member-same g (body.GroupMember group next_hop) others = ap (λ h. if same_id group g then both (insert_key hop_cmp) others h else others) (next_hop_at-same next_hop)
@@ -71,6 +72,10 @@ module _ (xs ys : Objects) (found : AreBodies ys xs) where
   hops_among-same g [] = refl
   hops_among-same g (o ∷ os) = with_member-same g o.1 (hops_among xs g os) ∙ ap (with_member ys g o.1) (hops_among-same g os)
 
+  pub hops_by-bodies : (ns : List Rid) → hops_by xs ns ≡ hops_by ys ns
+  hops_by-bodies [] = refl
+  hops_by-bodies (n ∷ ns) = ap (λ hs. both (insert_key hop_cmp) hs (next_hop_at xs n)) (hops_by-bodies ns) ∙ ap (both (insert_key hop_cmp) (hops_by ys ns)) (next_hop_at-same n)
+
   module _ (f g : Rid → Option (List Hop)) (hops : (r : Rid) → f r ≡ g r) where
     goal_by-same : (to : To Rid) → goal_by f xs to ≡ goal_by g ys to
     goal_by-same to.Drop = refl
@@ -78,7 +83,7 @@ module _ (xs ys : Objects) (found : AreBodies ys xs) where
     goal_by-same (to.NextHop n) = ap (option_map goal.Via) (next_hop_at-same n)
     goal_by-same (to.Group r) = ap (option_map goal.Group) (hops r)
 
-    thing_by-same : (e : Entry Rid) (b : Body Rid) → thing_by f xs (e, b) ≡ thing_by g ys (e, b)
+    pub thing_by-same : (e : Entry Rid) (b : Body Rid) → thing_by f xs (e, b) ≡ thing_by g ys (e, b)
     thing_by-same e (body.Port lanes speed mtu up) = refl
     thing_by-same e (body.Vlan vlan) = refl
     thing_by-same e (body.BridgePort port) = ap (option_map thing.BridgePort) (port_at-same port)
@@ -98,7 +103,7 @@ module _ (xs ys : Objects) (found : AreBodies ys xs) where
     map-same [] = refl
     map-same (o ∷ os) = let one = thing_by-same o.0 o.1 in let others = map-same os in cc
 
-map-things_among : (objects os : Objects) → map (thing_of objects) os ≡ things_among objects os
+pub map-things_among : (objects os : Objects) → map (thing_of objects) os ≡ things_among objects os
 map-things_among objects [] = refl
 map-things_among objects (o ∷ os) = ap (λ ts. thing_of objects o ∷ ts) (map-things_among objects os)
 
@@ -109,13 +114,13 @@ things-named objects bodies groups found hops =
     ∙ map-things_among objects objects
 
 -- one more body in front
-pub AreBodies-cons : (all rest : List (Object Rid)) (o : Object Rid) (old new : Objects) → all ≡ o ∷ rest → AreBodies (entries_of rest) old → ((e : Entry Rid) → body_at new e ≡ cond (is_at (entry_cmp o.entry) e) (Some o.body) (body_at old e)) → AreBodies (entries_of all) new
+pub AreBodies-cons : (all rest : List (Object Rid)) (o : Object Rid) (old new : Objects) → all ≡ o ∷ rest → AreBodies (entries_of rest) old → ((r : Rid) → body_at new (entry.Oid r) ≡ cond (is_at (entry_cmp o.entry) (entry.Oid r)) (Some o.body) (body_at old (entry.Oid r))) → AreBodies (entries_of all) new
 AreBodies-cons all rest o old new e found put = record {
-  each = λ x.
-      put x
-      ∙ ap (λ b. cond b (Some o.body) (body_at old x)) ((eq_by_cmp_equiv entry_total).symm o.entry x)
-      ∙ ap (λ w. cond (is_at (entry_cmp x) o.entry) (Some o.body) w) (found.each x)
-      ∙ ap (λ l. body_at (entries_of l) x) (sym e);
+  each = λ r.
+      put r
+      ∙ ap (λ b. cond b (Some o.body) (body_at old (entry.Oid r))) ((eq_by_cmp_equiv entry_total).symm o.entry (entry.Oid r))
+      ∙ ap (λ w. cond (is_at (entry_cmp (entry.Oid r)) o.entry) (Some o.body) w) (found.each r)
+      ∙ ap (λ l. body_at (entries_of l) (entry.Oid r)) (sym e);
 }
 
 pub drop-before : {X : Type 0} (xs : List X) (left : ℕ) (d : X) → 0 < left → left ≤ length xs → drop (left - 1) xs ≡ get_or xs (left - 1) d ∷ drop left xs

@@ -1,3 +1,4 @@
+pub mod Bodies
 pub mod Failing
 pub mod Forward
 pub mod Marks

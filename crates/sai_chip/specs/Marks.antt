@@ -5,7 +5,6 @@ use Rattle.std.specs.Map.{values_of}
 use Rattle.sai_types.specs.declared.ids.Rid.{Rid}
 use Rattle.sai_types.specs.declared.body.Body.{Body}
 use Rattle.sai_types.specs.declared.body.Body.TheVariants as body
-use Rattle.sai_types.specs.declared.body.Entry.TheVariants as entry
 use Rattle.sai_types.specs.declared.body.RifOn.{RifOn}
 use Rattle.sai_types.specs.declared.body.RifOn.TheVariants as on
 use Rattle.sai_types.specs.declared.body.To.{To}
@@ -16,37 +15,33 @@ use Rattle.sai_chip.specs.declared.mark.Mark.{Mark}
 use Rattle.sai_chip.specs.declared.mark.Mark.TheVariants as mark
 use Rattle.sai_chip.specs.Tally.{Tally, is_mark, claims, count_at}
 
--- a reference to the object with this identifier
-abbrev pub refers : Rid → Mark
-refers r = mark.RefersTo (entry.Oid r)
-
 abbrev pub lane_marks : List ℕ → List Mark
 lane_marks [] = []
 lane_marks (lane ∷ lanes) = mark.Lane lane ∷ lane_marks lanes
 
 abbrev pub base_marks : RifOn Rid → List Mark
-base_marks (on.Port p) = refers p ∷ []
-base_marks (on.Vlan v) = refers v ∷ []
+base_marks (on.Port p) = mark.RefersTo p ∷ []
+base_marks (on.Vlan v) = mark.RefersTo v ∷ []
 
 abbrev pub target_marks : To Rid → List Mark
 target_marks to.Drop = []
-target_marks (to.Rif r) = refers r ∷ []
-target_marks (to.NextHop n) = refers n ∷ []
-target_marks (to.Group g) = refers g ∷ []
+target_marks (to.Rif r) = mark.RefersTo r ∷ []
+target_marks (to.NextHop n) = mark.RefersTo n ∷ []
+target_marks (to.Group g) = mark.RefersTo g ∷ []
 
--- the natural key, the lanes and the references of a body
+-- the natural key, the lanes and the references of a body; one without an identifier is found by its natural key
 abbrev pub key_marks : Body Rid → List Mark
 key_marks (body.Port lanes speed mtu up) = lane_marks lanes
 key_marks (body.Vlan vlan) = mark.Vlan vlan ∷ []
-key_marks (body.BridgePort port) = mark.BridgePort port ∷ refers port ∷ []
-key_marks (body.VlanMember vlan bridge_port tagging) = mark.VlanMember vlan bridge_port ∷ refers vlan ∷ refers bridge_port ∷ []
+key_marks (body.BridgePort port) = mark.BridgePort port ∷ mark.RefersTo port ∷ []
+key_marks (body.VlanMember vlan bridge_port tagging) = mark.VlanMember vlan bridge_port ∷ mark.RefersTo vlan ∷ mark.RefersTo bridge_port ∷ []
 key_marks (body.Rif on) = mark.Rif on ∷ base_marks on
-key_marks (body.OwnAddress ip) = mark.Own ip ∷ []
-key_marks (body.Neighbor rif ip mac) = mark.Neighbor rif ip ∷ refers rif ∷ []
-key_marks (body.NextHop rif ip) = mark.NextHop rif ip ∷ refers rif ∷ mark.RefersTo (entry.Neigh rif ip) ∷ []
+key_marks (body.OwnAddress ip) = []
+key_marks (body.Neighbor rif ip mac) = mark.RefersTo rif ∷ []
+key_marks (body.NextHop rif ip) = mark.NextHop rif ip ∷ mark.RefersTo rif ∷ []
 key_marks body.Group = []
-key_marks (body.GroupMember group next_hop) = mark.GroupMember group next_hop ∷ refers group ∷ refers next_hop ∷ []
-key_marks (body.Route prefix to) = mark.Route prefix ∷ target_marks to
+key_marks (body.GroupMember group next_hop) = mark.GroupMember group next_hop ∷ mark.RefersTo group ∷ mark.RefersTo next_hop ∷ []
+key_marks (body.Route prefix to) = target_marks to
 
 -- what a body takes up
 abbrev pub marks_of : Body Rid → List Mark

@@ -1,5 +1,5 @@
 -- The members of a group, and what an object needs of groups to be named. Own.
-use Rattle.std.specs.Prelude.{◌≡◌, List, [], ◌∷◌, Option, Some, None, if◌then◌else◌}
+use Rattle.std.specs.Prelude.{◌≡◌, List, [], ◌∷◌, Option, Some, None}
 use Rattle.std.specs.BTreeSet.{insert_key}
 use Rattle.sai_types.specs.declared.ids.Rid.{Rid}
 use Rattle.sai_types.specs.declared.hop.Hop.{Hop}
@@ -9,16 +9,8 @@ use Rattle.sai_types.specs.declared.body.Entry.{Entry}
 use Rattle.sai_types.specs.declared.body.Entry.TheVariants as entry
 use Rattle.sai_types.specs.declared.body.To.TheVariants as to
 use Rattle.sai_types.specs.Objects.{Objects}
-use Rattle.sai_types.specs.Refusal.{same_id}
 use Rattle.sai_types.specs.Named.{both, hop_cmp, hops_at, next_hop_at}
-use Rattle.sai_chip.specs.declared.mark.Mark.{Mark}
-use Rattle.sai_chip.specs.declared.mark.Mark.TheVariants as mark
 use Rattle.sai_chip.specs.Naming.{GroupHops, hops_in}
-
--- the next hop that a mark says is a member of the group
-abbrev pub member_of : Rid → Mark → Option Rid
-member_of g (mark.GroupMember group next_hop) = if same_id group g then Some next_hop else None
-member_of g _ = None
 
 -- the hops of these next hops, rising: none where one is absent
 abbrev pub hops_by : Objects → List Rid → Option (List Hop)

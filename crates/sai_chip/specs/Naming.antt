@@ -9,15 +9,12 @@ use Rattle.sai_types.specs.declared.ids.Rid.{Rid}
 use Rattle.sai_types.specs.declared.hop.Hop.{Hop}
 use Rattle.sai_types.specs.declared.body.Object.{Object}
 use Rattle.sai_types.specs.declared.thing.Thing.{Thing}
-use Rattle.sai_types.specs.contracts.ids.RidOrd.TheImpl as rid_ord
 use Rattle.sai_types.specs.contracts.thing.ThingOrd.TheImpl as thing_ord
-use Rattle.sai_types.specs.declared.body.Entry.{Entry}
+use Rattle.sai_types.specs.declared.body.Entry.TheVariants as entry
 use Rattle.sai_types.specs.Objects.{Objects, body_at}
 use Rattle.sai_types.specs.Refusal.{same_id}
 use Rattle.sai_types.specs.Named.{both, hop_cmp, hops_among}
-
-abbrev pub rid_cmp : Rid → Rid → Ordering
-rid_cmp = rid_ord.ghosts.cmp
+use Rattle.sai_chip.specs.Tally.{rid_cmp}
 
 -- the order of things: by kind, and within a kind by what they are
 abbrev pub thing_cmp : Thing → Thing → Ordering
@@ -42,6 +39,6 @@ pub record AreHops (objects : Objects) (members : Objects) (groups : GroupHops) 
 abbrev pub with_hop : Rid → Option Hop → Rid → Option (List Hop) → Option (List Hop)
 with_hop group hop g others = if same_id group g then both (insert_key hop_cmp) others hop else others
 
--- bodies that are found as those of a list
+-- bodies that are found by their identifiers as those of a list
 pub record AreBodies (objects : Objects) (bodies : Objects) : Type 0 where
-  pub each : (e : Entry Rid) → body_at bodies e ≡ body_at objects e
+  pub each : (r : Rid) → body_at bodies (entry.Oid r) ≡ body_at objects (entry.Oid r)

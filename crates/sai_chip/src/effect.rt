@@ -1,5 +1,5 @@
 // What calls leave.
-ghost use Rattle.std.specs.Prelude.{◌≡◌, ◌<◌, IfOk, OnOk, OnErr};
+ghost use Rattle.std.specs.Prelude.{◌≡◌, OnOk, OnErr};
 ghost use Rattle.sai_types.specs.After.{after_call, entry_of, has_id, makes_id, with_attr};
 ghost use Rattle.sai_types.specs.Made.{entry_named};
 
@@ -13,22 +13,10 @@ pub fn make_effect(held: &mut Held, call: &Call<Rid>, id: Rid) -> Result<(), Out
     ensures err { OnErr result (held.new ≡ held.old) }
 {
     match call {
-        Call::Create(body) => held.put(entry_of(id, body), body.copy()?),
-        Call::Set(entry, attr) => set(held, entry, attr),
+        Call::Create(body) => held.put(id, body.copy()?),
+        Call::Set(entry, attr) => held.set(entry, attr),
         Call::Remove(entry) => held.remove(entry),
     }
-}
-
-/// Sets an attribute of an object, if there is one with the entry.
-fn set(held: &mut Held, entry: &Entry<Rid>, attr: &Attr<Rid>) -> Result<(), OutOfMemory>
-    ensures ok { OnOk result (held.new ≡ after_call 0 held.old (Call.Set entry.now attr.now)) }
-    ensures err { OnErr result (held.new ≡ held.old) }
-{
-    let Some(body) = held.body(entry) else {
-        return Ok(());
-    };
-    let body = with_attr(body, attr)?;
-    held.put(*entry, body)
 }
 
 /// Whether a call makes an object with an identifier.
@@ -52,7 +40,7 @@ pub fn entry_named(id: Rid, call: &Call<Rid>) -> Entry<Rid>
 }
 
 /// Own addresses, neighbours and routes have no identifier.
-fn has_id(body: &Body<Rid>) -> bool
+pub fn has_id(body: &Body<Rid>) -> bool
     ensures { result ≡ has_id body.now }
 {
     !matches!(
@@ -62,7 +50,7 @@ fn has_id(body: &Body<Rid>) -> bool
 }
 
 /// The entry of a new object: its key, or this identifier.
-fn entry_of(id: Rid, body: &Body<Rid>) -> Entry<Rid>
+pub fn entry_of(id: Rid, body: &Body<Rid>) -> Entry<Rid>
     ensures { result ≡ entry_of id.0 body.now }
 {
     match body {
@@ -73,12 +61,11 @@ fn entry_of(id: Rid, body: &Body<Rid>) -> Entry<Rid>
     }
 }
 
-/// A body with a new value of an attribute that its kind has.
-fn with_attr(body: &Body<Rid>, attr: &Attr<Rid>) -> Result<Body<Rid>, OutOfMemory>
-    ensures { IfOk result (λ new. new ≡ with_attr body.now attr.now) }
+/// Gives a body a new value of an attribute, where its kind has it.
+pub fn set_attr(body: &mut Body<Rid>, attr: &Attr<Rid>)
+    ensures { body.new ≡ with_attr body.old attr.now }
 {
-    let mut new = body.copy()?;
-    match (&mut new, attr) {
+    match (body, attr) {
         (Body::Port { speed, .. }, Attr::Speed(value)) => *speed = *value,
         (Body::Port { mtu, .. }, Attr::Mtu(value)) => *mtu = *value,
         (Body::Port { up, .. }, Attr::Up(value)) => *up = *value,
@@ -87,5 +74,4 @@ fn with_attr(body: &Body<Rid>, attr: &Attr<Rid>) -> Result<Body<Rid>, OutOfMemor
         (Body::Route { to, .. }, Attr::To(value)) => *to = *value,
         _ => {}
     }
-    Ok(new)
 }

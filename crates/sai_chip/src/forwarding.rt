@@ -1,84 +1,87 @@
-// How things decide where packets go.
-ghost use Rattle.std.specs.Prelude.{◌≡◌, ◌++◌, IfOk, option_map, map};
+// Where a chip sends the packets of an address.
+ghost use Rattle.std.specs.Prelude.{◌≡◌, true, Option, IfOk, option_map};
+ghost use Rattle.std.specs.Option.{is_some};
 ghost use Rattle.swss_types.specs.Address.{covers};
+ghost use Rattle.sai_types.specs.Forwarding.{best_route, forward};
+ghost use Rattle.sai_types.specs.Made.{HaveOneEach, ReferWell};
+ghost use Rattle.sai_types.specs.Named.{both, goal_by, hop_on, hops_at, named, next_hop_at, those};
+ghost use Rattle.sai_types.specs.Objects.{body_at};
+ghost use Rattle.sai_types.specs.declared.body.Entry.TheVariants as entry;
 ghost use Rattle.sai_types.specs.declared.thing.Goal.{Goal};
-ghost use Rattle.sai_types.specs.Forwarding.{best_route, forward, has_own, is_own, mac_of, with_route};
-ghost use Rattle.sai_chip.specs.Forward.{answer_of, ways_of};
+ghost use Rattle.swss_types.specs.declared.address.Prefix.{Prefix};
+ghost use Rattle.sai_chip.specs.Forward.{answer_of, is_longer, more_ways, pick, sent, way_of, ways_by, ways_of, with_goal};
+ghost use Rattle.sai_chip.specs.Members.{hops_by};
 
 use crate::forward::Forward;
+use crate::held::Held;
+use crate::names::{hop_on, rif_at};
 use crate::ways::Ways;
-use sai_types::{Goal, Hop, Thing};
+use sai_types::{Body, Hop, Rid, To};
 use std::alloc::Global;
+use std::collections::BTreeMap;
 use swss_types::{Family, Ip, Mac, OutOfMemory, Prefix};
+
+/// Hops, rising, each with its Ethernet address, where it has one.
+type Macs = BTreeMap<Hop, Option<Mac>>;
 
 /// Where the packets of an address go: to the switch itself where the address is its own, else where the route of the
 /// longest prefix points, else nowhere.
-pub fn forward_by(alloc: Global, things: &[Thing], ip: Ip) -> Result<Forward, OutOfMemory>
-    ensures { IfOk result (λ f. f ≡ answer_of (forward things.now ip)) }
+pub fn forward_by(alloc: Global, held: &Held, ip: Ip) -> Result<Forward, OutOfMemory>
+    requires refer { ReferWell held.now }
+    requires one { HaveOneEach held.now }
+    ensures { IfOk result (λ f. f ≡ answer_of (forward (those (named held.now)) ip)) }
 {
-    if has_own(things, ip) {
+    if held.bodies().is_own(ip) {
         return Ok(Forward::Cpu);
     }
-    match best_route(things, ip) {
-        None | Some((_, Goal::Drop)) => Ok(Forward::Drop),
-        Some((_, Goal::Direct(base))) => Ok(Forward::Direct(*base)),
-        Some((_, Goal::Via(hop))) => Ok(Forward::Via(ways_of(alloc, things, &[*hop])?)),
-        Some((_, Goal::Group(hops))) => Ok(Forward::Via(ways_of(alloc, things, hops.items())?)),
-    }
+    Ok(best_route(alloc, held, ip)?.unwrap_or(Forward::Drop))
 }
 
-/// Whether the address is one of the switch's own.
-fn has_own(things: &[Thing], ip: Ip) -> bool
-    ensures { result ≡ has_own things.now ip }
-{
-    for thing in things {
-        if is_own(thing, ip) {
-            return true;
-        }
-    }
-    false
-}
-
-/// Whether the thing is this own address.
-fn is_own(thing: &Thing, ip: Ip) -> bool
-    ensures { result ≡ is_own ip thing.now }
-{
-    match thing {
-        Thing::Own(own) => *own == ip,
-        _ => false,
-    }
-}
-
-/// The route of the longest prefix that covers the address.
-fn best_route<'a>(things: &'a [Thing], ip: Ip) -> Option<(Prefix, &'a Goal)>
-    ensures { option_map (λ r. (r.0, r.1.now)) result ≡ best_route things.now ip }
+/// Where the route of the longest prefix that covers the address sends: None where none covers it.
+fn best_route(alloc: Global, held: &Held, ip: Ip) -> Result<Option<Forward>, OutOfMemory>
+    requires refer { ReferWell held.now }
+    requires one { HaveOneEach held.now }
+    ensures { IfOk result (λ best. best ≡ option_map (λ r. sent held.now r.1) (best_route (those (named held.now)) ip)) }
 {
     let mut best = None;
-    let mut left = things.len();
-    while 0 < left {
-        left -= 1;
-        best = with_route(&things[left], ip, best);
+    for (prefix, to) in held.bodies().routes() {
+        best = with_route(alloc, held, ip, best, prefix, *to)?;
     }
-    best
+    Ok(best.map(|route| route.1))
 }
 
-/// Of a thing and the best route of others, the better route.
-fn with_route<'a>(
-    thing: &'a Thing,
+/// Of the best route so far and one more, the better: the one more where it covers the address and its prefix is longer.
+fn with_route(
+    alloc: Global,
+    held: &Held,
     ip: Ip,
-    best: Option<(Prefix, &'a Goal)>,
-) -> Option<(Prefix, &'a Goal)>
-    ensures { option_map (λ r. (r.0, r.1.now)) result ≡ with_route ip thing.now (option_map (λ r. (r.0, r.1.now)) best.entry) }
+    best: Option<(u8, Forward)>,
+    prefix: &Prefix,
+    to: To<Rid>,
+) -> Result<Option<(u8, Forward)>, OutOfMemory>
+    requires refer { ReferWell held.now }
+    requires one { HaveOneEach held.now }
+    ensures { IfOk result (λ better. (r : Option (Prefix × Goal)) → pick held.now better r ≡ pick held.now best (with_goal ip prefix.now (goal_by (hops_at held.now) held.now to) r)) }
 {
-    let Thing::Route(prefix, goal) = thing else {
-        return best;
-    };
     if !covers(prefix, ip) {
-        return best;
+        return Ok(best);
     }
+    if !is_longer(prefix, &best) {
+        return Ok(best);
+    }
+    match forward_to(alloc, held, to)? {
+        Some(forward) => Ok(Some((prefix.len, forward))),
+        None => Ok(best),
+    }
+}
+
+/// Whether the prefix is longer than that of the best route so far.
+fn is_longer(prefix: &Prefix, best: &Option<(u8, Forward)>) -> bool
+    ensures { result ≡ is_longer prefix.now.len best.now }
+{
     match best {
-        Some((other, to)) if prefix.len < other.len => Some((other, to)),
-        _ => Some((*prefix, goal)),
+        Some((len, _)) => *len < prefix.len,
+        None => true,
     }
 }
 
@@ -98,29 +101,95 @@ fn covers(prefix: &Prefix, ip: Ip) -> bool
     rest == 128 || bits >> rest == ip.bits >> rest
 }
 
-/// The hops with their Ethernet addresses, those that have one.
-fn ways_of(alloc: Global, things: &[Thing], hops: &[Hop]) -> Result<Ways, OutOfMemory>
-    ensures { IfOk result (λ ways. ways ≡ ways_of (map (λ h. (h, mac_of things.now h)) hops.now)) }
+/// Where a route with this target sends: None where a reference is absent.
+fn forward_to(alloc: Global, held: &Held, to: To<Rid>) -> Result<Option<Forward>, OutOfMemory>
+    requires refer { ReferWell held.now }
+    requires one { HaveOneEach held.now }
+    ensures { IfOk result (λ f. f ≡ option_map (sent held.now) (goal_by (hops_at held.now) held.now to)) }
+{
+    match to {
+        To::Drop => Ok(Some(Forward::Drop)),
+        To::Rif(rif) => Ok(rif_at(held.bodies().numbered(), rif).map(Forward::Direct)),
+        To::NextHop(next_hop) => forward_via(alloc, held, &[next_hop]),
+        To::Group(group) => forward_via(alloc, held, &held.members(group)?),
+    }
+}
+
+/// Where a route over these next hops sends: None where a reference is absent.
+fn forward_via(
+    alloc: Global,
+    held: &Held,
+    next_hops: &[Rid],
+) -> Result<Option<Forward>, OutOfMemory>
+    requires refer { ReferWell held.now }
+    requires one { HaveOneEach held.now }
+    ensures { IfOk result (λ f. f ≡ option_map (λ hops. sent held.now (Goal.Group hops)) (hops_by held.now next_hops.now)) }
+{
+    match macs_of(alloc, held, next_hops)? {
+        Some(macs) => Ok(Some(Forward::Via(ways_of(alloc, &macs)?))),
+        None => Ok(None),
+    }
+}
+
+/// The hops of these next hops with their Ethernet addresses: None where a next hop is absent.
+fn macs_of(alloc: Global, held: &Held, next_hops: &[Rid]) -> Result<Option<Macs>, OutOfMemory>
+    requires refer { ReferWell held.now }
+    requires one { HaveOneEach held.now }
+    ensures { IfOk result (λ macs. option_map (λ m. m.entries) macs ≡ ways_by held.now (hops_by held.now next_hops.now)) }
+{
+    let mut macs = Some(BTreeMap::new(alloc));
+    let mut left = next_hops.len();
+    while 0 < left {
+        left -= 1;
+        macs = add_way(macs, way_to(held, next_hops[left]))?;
+    }
+    Ok(macs)
+}
+
+/// Hops with one more, where there are both.
+fn add_way(macs: Option<Macs>, way: Option<(Hop, Option<Mac>)>) -> Result<Option<Macs>, OutOfMemory>
+    ensures { IfOk result (λ more. option_map (λ m. m.entries) more ≡ both more_ways (option_map (λ m. m.entries) macs) way) }
+{
+    let (Some(mut macs), Some((hop, mac))) = (macs, way) else {
+        return Ok(None);
+    };
+    macs.insert(hop, mac)?;
+    Ok(Some(macs))
+}
+
+/// The hop of a next hop with its Ethernet address.
+fn way_to(held: &Held, next_hop: Rid) -> Option<(Hop, Option<Mac>)>
+    requires refer { ReferWell held.now }
+    requires one { HaveOneEach held.now }
+    ensures { result ≡ option_map (way_of held.now) (next_hop_at held.now next_hop) }
+{
+    match held.bodies().get(next_hop) {
+        Some(Body::NextHop { rif, ip }) => way_by(held, *rif, *ip),
+        _ => None,
+    }
+}
+
+/// The hop of a neighbour that stands, with its Ethernet address.
+fn way_by(held: &Held, rif: Rid, ip: Ip) -> Option<(Hop, Option<Mac>)>
+    requires one { HaveOneEach held.now }
+    requires stands { is_some (body_at held.now (entry.Neigh rif ip)) ≡ true }
+    ensures { result ≡ option_map (way_of held.now) (hop_on held.now rif ip) }
+{
+    match hop_on(held.bodies().numbered(), rif, ip) {
+        Some(hop) => Some((hop, held.bodies().mac(rif, ip))),
+        None => None,
+    }
+}
+
+/// The hops that have an Ethernet address.
+fn ways_of(alloc: Global, macs: &Macs) -> Result<Ways, OutOfMemory>
+    ensures { IfOk result (λ ways. ways ≡ ways_of macs.now.entries) }
 {
     let mut ways = Ways::new(alloc);
-    for hop in hops {
-        if let Some(mac) = mac_of(things, hop) {
-            ways.push((*hop, mac))?;
+    for (hop, mac) in macs {
+        if let Some(mac) = mac {
+            ways.push((*hop, *mac))?;
         }
     }
     Ok(ways)
-}
-
-/// The Ethernet address of a hop.
-fn mac_of(things: &[Thing], hop: &Hop) -> Option<Mac>
-    ensures { result ≡ mac_of things.now hop.now }
-{
-    for thing in things {
-        if let Thing::Neighbor(neighbor, mac) = thing {
-            if neighbor == hop {
-                return Some(*mac);
-            }
-        }
-    }
-    None
 }

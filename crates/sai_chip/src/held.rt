@@ -1,21 +1,25 @@
 // The objects that a chip holds.
-ghost use Rattle.std.specs.Prelude.{◌≡◌, [], ◌++◌, take, length, OnOk, OnErr, IfOk, option_copied};
+ghost use Rattle.std.specs.Prelude.{◌≡◌, [], OnOk, OnErr, IfOk, option_copied};
 ghost use Rattle.std.specs.BTreeMap.{insert_entry, is_at};
 ghost use Rattle.std.specs.Map.{remove_entry};
+ghost use Rattle.std.specs.Option.{is_some, option_and_then};
+ghost use Rattle.sai_types.specs.After.{after_set, entry_of};
 ghost use Rattle.sai_types.specs.ChipState.{objects_of};
 ghost use Rattle.sai_chip.specs.Sim.{Appends};
-ghost use Rattle.sai_types.specs.Named.{hops_at, named, those};
+ghost use Rattle.sai_types.specs.Named.{hops_at, thing_of};
 ghost use Rattle.sai_types.specs.Objects.{body_at, entry_cmp, used};
-ghost use Rattle.sai_chip.specs.Marks.{stands, marks_at};
-ghost use Rattle.sai_chip.specs.Members.{HasHops, group_in};
+ghost use Rattle.sai_chip.specs.Marks.{stands, marks_at, marks_if};
+ghost use Rattle.sai_chip.specs.Members.{HasHops, group_in, hops_by};
 ghost use Rattle.sai_chip.specs.Replay.{thing_at};
 
+use crate::bodies::Bodies;
+use crate::counts::Counts;
+use crate::effect::entry_of;
 use crate::mark::Mark;
 use crate::marks::marks_of;
 use crate::names::{GroupHops, thing_at};
-use crate::tally::Counts;
-use crate::things::{hops_of, things_of};
-use sai_types::{Body, Entry, Hops, Kind, ListAnswer, Object, Rid, Thing, To};
+use crate::things::hops_of;
+use sai_types::{Attr, Body, Entry, Hops, Kind, ListAnswer, Object, Rid, Thing, To};
 use std::alloc::Global;
 use std::collections::BTreeMap;
 use std::marker::Model;
@@ -25,22 +29,19 @@ use swss_types::OutOfMemory;
 #[derive(Drop)]
 pub struct Held {
     alloc: Global,
-    objects: BTreeMap<Entry<Rid>, Body<Rid>>,
+    bodies: Bodies,
     counts: Counts,
 }
 
 impl Model for Held {
-    ghost use Rattle.sai_types.specs.ChipState.{objects_of};
-    ghost use Rattle.sai_chip.specs.Sim.{Appends};
-    ghost use Rattle.sai_types.specs.Named.{named, those};
     ghost use Rattle.sai_types.specs.Objects.{Objects};
     ghost use Rattle.sai_chip.specs.Marks.{IsCounted};
 
     ghost Value = { Objects };
 
-    ghost view = { λ h. h.objects.entries };
+    ghost view = { λ h. h.bodies };
 
-    ghost invariant = { λ h. IsCounted h.objects.entries h.counts };
+    ghost invariant = { λ h. IsCounted h.bodies h.counts };
 }
 
 impl Held {
@@ -50,16 +51,26 @@ impl Held {
     {
         Held {
             alloc,
-            objects: BTreeMap::new(alloc),
+            bodies: Bodies::new(alloc),
             counts: Counts::new(alloc),
         }
     }
 
-    /// The body of the object with this entry.
-    pub fn body(&self, entry: &Entry<Rid>) -> Option<&Body<Rid>>
-        ensures { option_copied result ≡ body_at self.now entry.now }
+    /// The bodies of the objects.
+    pub fn bodies(&self) -> &Bodies
+        ensures { result.now ≡ self.now }
     {
-        self.objects.get(entry)
+        &self.bodies
+    }
+
+    /// Whether there is an object with this entry.
+    pub fn stands(&self, entry: &Entry<Rid>) -> bool
+        ensures { result ≡ is_some (body_at self.now entry.now) }
+    {
+        match entry {
+            Entry::Oid(id) => self.bodies.get(*id).is_some(),
+            _ => self.bodies.keyed(entry).is_some(),
+        }
     }
 
     /// Whether an object takes this up.
@@ -76,19 +87,50 @@ impl Held {
         self.counts.count(&Mark::Of(kind))
     }
 
-    /// Puts an object in place of the one with the same entry, if there is one.
-    pub fn put(&mut self, entry: Entry<Rid>, body: Body<Rid>) -> Result<(), OutOfMemory>
-        ensures ok { OnOk result (self.new ≡ insert_entry entry_cmp self.old entry body) }
+    /// Puts an object in place of the one with the same entry, if there is one. The identifier is taken where the body
+    /// has one.
+    pub fn put(&mut self, id: Rid, body: Body<Rid>) -> Result<(), OutOfMemory>
+        ensures ok { OnOk result (self.new ≡ insert_entry entry_cmp self.old (entry_of id.0 body) body) }
         ensures err { OnErr result (self.new ≡ self.old) }
     {
+        self.bodies.entries_rise();
         let more = marks_of(self.alloc, &body)?;
-        let less = self.marks_at(&entry)?;
+        let less = self.marks_at(&entry_of(id, &body))?;
         self.counts.add(&more)?;
-        if let Err(refused) = self.objects.insert(entry, body) {
+        if let Err(error) = self.bodies.put(id, body) {
             self.counts.take_away(&more);
-            return Err(OutOfMemory::from(refused));
+            return Err(error);
         }
         self.counts.take_away(&less);
+        Ok(())
+    }
+
+    /// Sets an attribute of an object, if there is one with the entry that has the attribute. Only a route's target moves
+    /// a reference; all else takes up what it did.
+    pub fn set(&mut self, entry: &Entry<Rid>, attr: &Attr<Rid>) -> Result<(), OutOfMemory>
+        ensures ok { OnOk result (self.new ≡ after_set self.old entry.now attr.now (body_at self.old entry.now)) }
+        ensures err { OnErr result (self.new ≡ self.old) }
+    {
+        if let Attr::To(to) = attr {
+            return self.point(entry, *to);
+        }
+        self.bodies.entries_rise();
+        self.bodies.set(entry, attr);
+        Ok(())
+    }
+
+    /// Points a route elsewhere, if there is one with the entry.
+    fn point(&mut self, entry: &Entry<Rid>, to: To<Rid>) -> Result<(), OutOfMemory>
+        ensures ok { OnOk result (self.new ≡ after_set self.old entry.now (Attr.To to) (body_at self.old entry.now)) }
+        ensures err { OnErr result (self.new ≡ self.old) }
+    {
+        self.bodies.entries_rise();
+        let Some(from) = self.bodies.target(entry) else {
+            return Ok(());
+        };
+        self.counts.refer(to)?;
+        self.bodies.set(entry, &Attr::To(to));
+        self.counts.release(from);
         Ok(())
     }
 
@@ -98,7 +140,7 @@ impl Held {
         ensures err { OnErr result (self.new ≡ self.old) }
     {
         let less = self.marks_at(entry)?;
-        self.objects.remove(entry);
+        self.bodies.remove(entry);
         self.counts.take_away(&less);
         Ok(())
     }
@@ -108,7 +150,7 @@ impl Held {
         ensures { Appends result out.old.items (objects_of self.now) out.new.items }
     {
         let before = out.len();
-        match push_objects(&self.objects, out) {
+        match self.bodies.list(out) {
             Ok(()) => ListAnswer::Done,
             Err(_) => {
                 out.truncate(before);
@@ -117,24 +159,31 @@ impl Held {
         }
     }
 
-    /// What the objects stand for, in the order of their entries. An object with an absent reference is left out.
-    pub fn things(&self, alloc: Global) -> Result<Vec<Thing>, OutOfMemory>
-        ensures { IfOk result (λ things. things.items ≡ those (named self.now)) }
-    {
-        let mut objects = Vec::new(alloc);
-        push_objects(&self.objects, &mut objects)?;
-        things_of(alloc, &objects)
-    }
-
     /// What the object with this entry stands for: None where there is none, and where a reference is absent.
     pub fn thing(&self, entry: &Entry<Rid>) -> Result<Option<Thing>, OutOfMemory>
         ensures { IfOk result (λ thing. thing ≡ thing_at self.now entry.now) }
     {
-        let Some(body) = self.objects.get(entry) else {
+        if let Entry::Oid(id) = entry {
+            let body = self.bodies.get(*id);
+            return self.thing_by(entry, body);
+        }
+        let body = self.bodies.keyed(entry);
+        self.thing_by(entry, body.as_ref())
+    }
+
+    /// The same, at its body, where there is one.
+    fn thing_by(
+        &self,
+        entry: &Entry<Rid>,
+        body: Option<&Body<Rid>>,
+    ) -> Result<Option<Thing>, OutOfMemory>
+        ensures { IfOk result (λ thing. thing ≡ option_and_then (λ b. thing_of self.now (entry.now, b)) (option_copied body.entry)) }
+    {
+        let Some(body) = body else {
             return Ok(None);
         };
         let groups = self.groups_in(entry, body)?;
-        thing_at(self.alloc, &self.objects, &groups, entry, body)
+        thing_at(self.alloc, self.bodies.numbered(), &groups, entry, body)
     }
 
     /// The hops of the group by whose hops an object is named, where there is one.
@@ -148,40 +197,41 @@ impl Held {
         Ok(groups)
     }
 
+    /// The next hops that are members of the group, each once.
+    pub fn members(&self, group: Rid) -> Result<Vec<Rid>, OutOfMemory>
+        ensures { IfOk result (λ members. hops_by self.now members.items ≡ hops_at self.now group) }
+    {
+        let members = self.counts.members(self.alloc, group)?;
+        Ok(members)
+    }
+
     /// The hops of a group's members: None where the next hop of one is absent.
     fn hops(&self, group: Rid) -> Result<Option<Hops>, OutOfMemory>
         ensures { IfOk result (λ hops. hops ≡ hops_at self.now group) }
     {
-        let members = self.counts.members(self.alloc, group)?;
-        hops_of(self.alloc, &self.objects, &members)
+        let members = self.members(group)?;
+        hops_of(self.alloc, self.bodies.numbered(), &members)
     }
 
     /// What the object with this entry takes up: nothing where there is none.
     fn marks_at(&self, entry: &Entry<Rid>) -> Result<Vec<Mark>, OutOfMemory>
         ensures { IfOk result (λ marks. marks.items ≡ marks_at self.now entry.now) }
     {
-        match self.objects.get(entry) {
-            Some(body) => marks_of(self.alloc, body),
-            None => Ok(Vec::new(self.alloc)),
+        if let Entry::Oid(id) = entry {
+            return marks_if(self.alloc, self.bodies.get(*id));
         }
+        marks_if(self.alloc, self.bodies.keyed(entry).as_ref())
     }
 }
 
-/// Appends each object. An Err may leave some of them.
-fn push_objects(
-    objects: &BTreeMap<Entry<Rid>, Body<Rid>>,
-    out: &mut Vec<Object<Rid>>,
-) -> Result<(), OutOfMemory>
-    ensures ok { OnOk result (out.new.items ≡ out.old.items ++ objects_of objects.now.entries) }
-    ensures err { OnErr result (take (length out.old.items) out.new.items ≡ out.old.items) }
+/// What a body takes up: nothing where there is none.
+fn marks_if(alloc: Global, body: Option<&Body<Rid>>) -> Result<Vec<Mark>, OutOfMemory>
+    ensures { IfOk result (λ marks. marks.items ≡ marks_if (option_copied body.entry)) }
 {
-    for (entry, body) in objects {
-        out.push(Object {
-            entry: *entry,
-            body: body.copy()?,
-        })?;
+    match body {
+        Some(body) => marks_of(alloc, body),
+        None => Ok(Vec::new(alloc)),
     }
-    Ok(())
 }
 
 /// The group by whose hops an object is named.

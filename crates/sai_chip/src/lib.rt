@@ -1,6 +1,8 @@
 //! A simulated SAI chip in memory.
 #![tactic(auto)]
 
+mod bodies;
+mod counts;
 mod effect;
 mod fail;
 mod forward;

@@ -1,14 +1,15 @@
 // What an object takes up on a chip, one mark for each.
-use sai_types::{Entry, Kind, Rid, RifOn};
-use swss_types::{Ip, Prefix};
+use sai_types::{Kind, Rid, RifOn};
+use swss_types::Ip;
 
-/// What an object takes up: a place among its kind, a reference to another object, its natural key, a lane.
-#[derive(Clone, Copy, Debug, PartialEq, Eq, PartialOrd, Ord)]
+/// What an object takes up: a place among its kind, a reference to another object, its natural key, a lane. An object
+/// without an identifier is found by its entry, so its natural key needs no mark.
+#[derive(Clone, Copy, Debug, PartialEq, Eq)]
 pub enum Mark {
     /// One of this kind stands.
     Of(Kind),
-    /// The object with this entry is referred to.
-    RefersTo(Entry<Rid>),
+    /// The object with this identifier is referred to.
+    RefersTo(Rid),
     /// A port has the lane.
     Lane(u16),
     /// The VLAN of this number stands.
@@ -19,14 +20,8 @@ pub enum Mark {
     VlanMember(Rid, Rid),
     /// A router interface stands on it.
     Rif(RifOn<Rid>),
-    /// The address is the switch's own.
-    Own(Ip),
-    /// A neighbour of the router interface has the address.
-    Neighbor(Rid, Ip),
     /// A next hop goes through the neighbour of this interface and address.
     NextHop(Rid, Ip),
     /// The next hop is a member of the group.
     GroupMember(Rid, Rid),
-    /// The prefix has a route.
-    Route(Prefix),
 }

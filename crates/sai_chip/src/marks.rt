@@ -1,12 +1,12 @@
 // What bodies take up on a chip.
 ghost use Rattle.std.specs.Prelude.{◌≡◌, [], ◌∷◌, ◌++◌, OnOk, IfOk};
 ghost use Rattle.sai_types.specs.Objects.{kind_of};
-ghost use Rattle.sai_chip.specs.Marks.{marks_of, key_marks, lane_marks, base_marks, target_marks, refers};
+ghost use Rattle.sai_chip.specs.Marks.{marks_of, key_marks, lane_marks, base_marks, target_marks};
 
 use crate::mark::Mark;
-use sai_types::{Body, Entry, Kind, Rid, RifOn, To};
+use sai_types::{Body, Kind, Rid, RifOn, To};
 use std::alloc::Global;
-use swss_types::{OutOfMemory, Prefix};
+use swss_types::OutOfMemory;
 
 /// The kind of a body.
 pub fn kind_of(body: &Body<Rid>) -> Kind
@@ -44,7 +44,11 @@ fn push_keys(marks: &mut Vec<Mark>, body: &Body<Rid>) -> Result<(), OutOfMemory>
     match body {
         Body::Port { lanes, .. } => push_lanes(marks, lanes.items()),
         Body::Vlan { vlan } => push_all(marks, &[Mark::Vlan(*vlan)]),
-        Body::BridgePort { port } => push_all(marks, &[Mark::BridgePort(*port), refers(*port)]),
+        Body::OwnAddress { .. } | Body::Group => Ok(()),
+        Body::BridgePort { port } => push_all(
+            marks,
+            &[Mark::BridgePort(*port), Mark::RefersTo(*port)],
+        ),
         Body::VlanMember {
             vlan,
             bridge_port,
@@ -53,46 +57,30 @@ fn push_keys(marks: &mut Vec<Mark>, body: &Body<Rid>) -> Result<(), OutOfMemory>
             marks,
             &[
                 Mark::VlanMember(*vlan, *bridge_port),
-                refers(*vlan),
-                refers(*bridge_port),
+                Mark::RefersTo(*vlan),
+                Mark::RefersTo(*bridge_port),
             ],
         ),
-        Body::Rif { on } => push_all(marks, &[Mark::Rif(*on), refers(base(*on))]),
-        Body::OwnAddress { ip } => push_all(marks, &[Mark::Own(*ip)]),
-        Body::Neighbor { rif, ip, .. } => {
-            push_all(marks, &[Mark::Neighbor(*rif, *ip), refers(*rif)])
+        Body::Rif { on } => push_all(marks, &[Mark::Rif(*on), Mark::RefersTo(base(*on))]),
+        Body::Neighbor { rif, .. } => push_all(marks, &[Mark::RefersTo(*rif)]),
+        Body::NextHop { rif, ip } => {
+            push_all(marks, &[Mark::NextHop(*rif, *ip), Mark::RefersTo(*rif)])
         }
-        Body::NextHop { rif, ip } => push_all(
-            marks,
-            &[
-                Mark::NextHop(*rif, *ip),
-                refers(*rif),
-                Mark::RefersTo(Entry::Neigh(*rif, *ip)),
-            ],
-        ),
-        Body::Group => Ok(()),
         Body::GroupMember { group, next_hop } => push_all(
             marks,
             &[
                 Mark::GroupMember(*group, *next_hop),
-                refers(*group),
-                refers(*next_hop),
+                Mark::RefersTo(*group),
+                Mark::RefersTo(*next_hop),
             ],
         ),
-        Body::Route { prefix, to } => push_route(marks, *prefix, *to),
+        Body::Route { to, .. } => push_target(marks, *to),
     }
-}
-
-/// A reference to the object with this identifier.
-pub fn refers(id: Rid) -> Mark
-    ensures { result ≡ refers id }
-{
-    Mark::RefersTo(Entry::Oid(id))
 }
 
 /// What a router interface stands on.
 fn base(on: RifOn<Rid>) -> Rid
-    ensures { base_marks on ≡ refers result ∷ [] }
+    ensures { base_marks on ≡ Mark.RefersTo result ∷ [] }
 {
     match on {
         RifOn::Port(port) => port,
@@ -100,14 +88,13 @@ fn base(on: RifOn<Rid>) -> Rid
     }
 }
 
-/// Puts the marks of a route last.
-fn push_route(marks: &mut Vec<Mark>, prefix: Prefix, to: To<Rid>) -> Result<(), OutOfMemory>
-    ensures { OnOk result (marks.new.items ≡ marks.old.items ++ Mark.Route prefix ∷ target_marks to) }
+/// Puts the mark of a route's target last, where it has one.
+fn push_target(marks: &mut Vec<Mark>, to: To<Rid>) -> Result<(), OutOfMemory>
+    ensures { OnOk result (marks.new.items ≡ marks.old.items ++ target_marks to) }
 {
-    marks.push(Mark::Route(prefix))?;
     match to {
         To::Drop => {}
-        To::Rif(id) | To::NextHop(id) | To::Group(id) => marks.push(refers(id))?,
+        To::Rif(id) | To::NextHop(id) | To::Group(id) => marks.push(Mark::RefersTo(id))?,
     }
     Ok(())
 }

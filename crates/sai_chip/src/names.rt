@@ -1,52 +1,59 @@
 // What identifiers stand for.
-ghost use Rattle.std.specs.Prelude.{◌≡◌, [], IfOk, option_map};
+ghost use Rattle.std.specs.Prelude.{◌≡◌, [], IfOk, option_copied, option_map};
 ghost use Rattle.sai_types.specs.Named.{base_on, both, bridge_port_at, goal_by, hop_on, next_hop_at, port_at, rif_at, thing_by, vlan_at};
+ghost use Rattle.sai_types.specs.Objects.{body_at};
+ghost use Rattle.sai_chip.specs.Bodies.{numbered};
 ghost use Rattle.sai_chip.specs.Naming.{hops_in};
 
+use crate::bodies::Numbered;
 use sai_types::{Base, Body, Entry, Goal, Hop, Hops, PortThing, Rid, RifOn, Thing, To};
 use std::alloc::Global;
 use std::collections::BTreeMap;
 use swss_types::{Ip, Mac, OutOfMemory, Prefix, Tagging};
 
-/// Bodies by their entries.
-pub type Bodies = BTreeMap<Entry<Rid>, Body<Rid>>;
-
 /// The hops of each group that has members: None where a member's next hop is absent.
 pub type GroupHops = BTreeMap<Rid, Option<Hops>>;
 
-/// A port is named by its first lane.
-fn port_at(bodies: &Bodies, port: Rid) -> Option<u16>
-    ensures { result ≡ port_at bodies.now.entries port }
+/// The body with this identifier.
+fn body_at<'a>(bodies: &'a Numbered, id: Rid) -> Option<&'a Body<Rid>>
+    ensures { option_copied result ≡ body_at (numbered bodies.now.entries) (Entry.Oid id) }
 {
-    match bodies.get(&Entry::Oid(port)) {
+    bodies.get(&id)
+}
+
+/// A port is named by its first lane.
+fn port_at(bodies: &Numbered, port: Rid) -> Option<u16>
+    ensures { result ≡ port_at (numbered bodies.now.entries) port }
+{
+    match body_at(bodies, port) {
         Some(Body::Port { lanes, .. }) => Some(lanes.first()),
         _ => None,
     }
 }
 
 /// A VLAN is named by its number.
-fn vlan_at(bodies: &Bodies, vlan: Rid) -> Option<u16>
-    ensures { result ≡ vlan_at bodies.now.entries vlan }
+fn vlan_at(bodies: &Numbered, vlan: Rid) -> Option<u16>
+    ensures { result ≡ vlan_at (numbered bodies.now.entries) vlan }
 {
-    match bodies.get(&Entry::Oid(vlan)) {
+    match body_at(bodies, vlan) {
         Some(Body::Vlan { vlan }) => Some(*vlan),
         _ => None,
     }
 }
 
 /// A bridge port is named by its port.
-fn bridge_port_at(bodies: &Bodies, bridge_port: Rid) -> Option<u16>
-    ensures { result ≡ bridge_port_at bodies.now.entries bridge_port }
+fn bridge_port_at(bodies: &Numbered, bridge_port: Rid) -> Option<u16>
+    ensures { result ≡ bridge_port_at (numbered bodies.now.entries) bridge_port }
 {
-    match bodies.get(&Entry::Oid(bridge_port)) {
+    match body_at(bodies, bridge_port) {
         Some(Body::BridgePort { port }) => port_at(bodies, *port),
         _ => None,
     }
 }
 
 /// What a router interface stands on.
-fn base_on(bodies: &Bodies, on: &RifOn<Rid>) -> Option<Base>
-    ensures { result ≡ base_on bodies.now.entries on.now }
+fn base_on(bodies: &Numbered, on: &RifOn<Rid>) -> Option<Base>
+    ensures { result ≡ base_on (numbered bodies.now.entries) on.now }
 {
     match on {
         RifOn::Port(port) => Some(Base::Port(port_at(bodies, *port)?)),
@@ -55,28 +62,28 @@ fn base_on(bodies: &Bodies, on: &RifOn<Rid>) -> Option<Base>
 }
 
 /// A router interface is named by its base.
-fn rif_at(bodies: &Bodies, rif: Rid) -> Option<Base>
-    ensures { result ≡ rif_at bodies.now.entries rif }
+pub fn rif_at(bodies: &Numbered, rif: Rid) -> Option<Base>
+    ensures { result ≡ rif_at (numbered bodies.now.entries) rif }
 {
-    match bodies.get(&Entry::Oid(rif)) {
+    match body_at(bodies, rif) {
         Some(Body::Rif { on }) => base_on(bodies, on),
         _ => None,
     }
 }
 
 /// A neighbour is named by its interface and address.
-fn hop_on(bodies: &Bodies, rif: Rid, ip: Ip) -> Option<Hop>
-    ensures { result ≡ hop_on bodies.now.entries rif ip }
+pub fn hop_on(bodies: &Numbered, rif: Rid, ip: Ip) -> Option<Hop>
+    ensures { result ≡ hop_on (numbered bodies.now.entries) rif ip }
 {
     let on = rif_at(bodies, rif)?;
     Some(Hop { on, ip })
 }
 
 /// A next hop is named as its neighbour.
-pub fn next_hop_at(bodies: &Bodies, next_hop: Rid) -> Option<Hop>
-    ensures { result ≡ next_hop_at bodies.now.entries next_hop }
+pub fn next_hop_at(bodies: &Numbered, next_hop: Rid) -> Option<Hop>
+    ensures { result ≡ next_hop_at (numbered bodies.now.entries) next_hop }
 {
-    match bodies.get(&Entry::Oid(next_hop)) {
+    match body_at(bodies, next_hop) {
         Some(Body::NextHop { rif, ip }) => hop_on(bodies, *rif, *ip),
         _ => None,
     }
@@ -96,11 +103,11 @@ fn hops_at(alloc: Global, groups: &GroupHops, group: Rid) -> Result<Option<Hops>
 /// Where a route points.
 fn goal_at(
     alloc: Global,
-    bodies: &Bodies,
+    bodies: &Numbered,
     groups: &GroupHops,
     to: &To<Rid>,
 ) -> Result<Option<Goal>, OutOfMemory>
-    ensures { IfOk result (λ goal. goal ≡ goal_by (hops_in groups.now.entries) bodies.now.entries to.now) }
+    ensures { IfOk result (λ goal. goal ≡ goal_by (hops_in groups.now.entries) (numbered bodies.now.entries) to.now) }
 {
     Ok(match to {
         To::Drop => Some(Goal::Drop),
@@ -113,12 +120,12 @@ fn goal_at(
 /// What an object stands for: None where a reference is absent.
 pub fn thing_at(
     alloc: Global,
-    bodies: &Bodies,
+    bodies: &Numbered,
     groups: &GroupHops,
     entry: &Entry<Rid>,
     body: &Body<Rid>,
 ) -> Result<Option<Thing>, OutOfMemory>
-    ensures { IfOk result (λ thing. thing ≡ thing_by (hops_in groups.now.entries) bodies.now.entries (entry.now, body.now)) }
+    ensures { IfOk result (λ thing. thing ≡ thing_by (hops_in groups.now.entries) (numbered bodies.now.entries) (entry.now, body.now)) }
 {
     match body {
         Body::Port {
@@ -154,12 +161,12 @@ pub fn thing_at(
 /// A route as a thing.
 fn route_at(
     alloc: Global,
-    bodies: &Bodies,
+    bodies: &Numbered,
     groups: &GroupHops,
     prefix: Prefix,
     to: &To<Rid>,
 ) -> Result<Option<Thing>, OutOfMemory>
-    ensures { IfOk result (λ thing. thing ≡ option_map (Thing.Route prefix) (goal_by (hops_in groups.now.entries) bodies.now.entries to.now)) }
+    ensures { IfOk result (λ thing. thing ≡ option_map (Thing.Route prefix) (goal_by (hops_in groups.now.entries) (numbered bodies.now.entries) to.now)) }
 {
     match goal_at(alloc, bodies, groups, to)? {
         Some(goal) => Ok(Some(Thing::Route(prefix, goal))),
@@ -168,8 +175,8 @@ fn route_at(
 }
 
 /// A member of a VLAN as a thing.
-fn member_at(bodies: &Bodies, vlan: Rid, bridge_port: Rid, tagging: Tagging) -> Option<Thing>
-    ensures { result ≡ both (λ v p. Thing.VlanMember v p tagging) (vlan_at bodies.now.entries vlan) (bridge_port_at bodies.now.entries bridge_port) }
+fn member_at(bodies: &Numbered, vlan: Rid, bridge_port: Rid, tagging: Tagging) -> Option<Thing>
+    ensures { result ≡ both (λ v p. Thing.VlanMember v p tagging) (vlan_at (numbered bodies.now.entries) vlan) (bridge_port_at (numbered bodies.now.entries) bridge_port) }
 {
     let vlan = vlan_at(bodies, vlan)?;
     let port = bridge_port_at(bodies, bridge_port)?;
@@ -177,8 +184,8 @@ fn member_at(bodies: &Bodies, vlan: Rid, bridge_port: Rid, tagging: Tagging) -> 
 }
 
 /// A neighbour as a thing.
-fn neighbor_at(bodies: &Bodies, rif: Rid, ip: Ip, mac: Mac) -> Option<Thing>
-    ensures { result ≡ option_map (λ h. Thing.Neighbor h mac) (hop_on bodies.now.entries rif ip) }
+fn neighbor_at(bodies: &Numbered, rif: Rid, ip: Ip, mac: Mac) -> Option<Thing>
+    ensures { result ≡ option_map (λ h. Thing.Neighbor h mac) (hop_on (numbered bodies.now.entries) rif ip) }
 {
     let hop = hop_on(bodies, rif, ip)?;
     Some(Thing::Neighbor(hop, mac))
@@ -201,12 +208,12 @@ fn group_at(
 /// A member of a group as a thing.
 fn group_member_at(
     alloc: Global,
-    bodies: &Bodies,
+    bodies: &Numbered,
     groups: &GroupHops,
     group: Rid,
     next_hop: Rid,
 ) -> Result<Option<Thing>, OutOfMemory>
-    ensures { IfOk result (λ thing. thing ≡ both Thing.GroupMember (hops_in groups.now.entries group) (next_hop_at bodies.now.entries next_hop)) }
+    ensures { IfOk result (λ thing. thing ≡ both Thing.GroupMember (hops_in groups.now.entries group) (next_hop_at (numbered bodies.now.entries) next_hop)) }
 {
     let Some(hop) = next_hop_at(bodies, next_hop) else {
         return Ok(None);

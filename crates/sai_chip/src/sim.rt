@@ -1,11 +1,16 @@
 // A simulated SAI chip.
-ghost use Rattle.std.specs.Prelude.{◌≡◌, true, ◌⊎◌, [], ◌++◌, Some, slice_get, length, is_some, option_copied, IfOk, IsSome, OnOk, OnErr};
+ghost use Rattle.std.specs.Prelude.{◌≡◌, ℕ, true, ◌⊎◌, [], ◌++◌, None, Some, slice_get, length, is_some, option_copied, IfOk, IsSome, OnOk, OnErr};
+ghost use Rattle.sai_types.specs.declared.ids.Rid.{Rid};
+ghost use Rattle.sai_types.specs.declared.body.Call.{Call};
+ghost use Rattle.sai_types.specs.After.{after_call};
+ghost use Rattle.sai_types.specs.Made.{AreSorted, HaveLanes, has_first};
+ghost use Rattle.sai_types.specs.Objects.{Objects};
 ghost use Rattle.sai_types.specs.ChipState.{IsAnswered, IsListed, objects_of};
 ghost use Rattle.sai_types.specs.Refusal.{refusal_of};
 ghost use Rattle.sai_types.specs.Forwarding.{forward};
 ghost use Rattle.sai_types.specs.Named.{named, those};
 ghost use Rattle.sai_chip.specs.Forward.{answer_of};
-ghost use Rattle.sai_chip.specs.SimChip.{effect_at};
+ghost use Rattle.sai_chip.specs.SimChip.{effect_at, makes_first};
 ghost use Rattle.sai_chip.specs.Sim.{FailsBy, IsCalled, IsListing, ListsBy, ResultsBy, counted, effect_answer, fault_of, is_failed, new_sim, refusal_at, with_effect};
 
 use crate::effect::{make_effect, makes_id};
@@ -14,7 +19,11 @@ use crate::forward::Forward;
 use crate::forwarding::forward_by;
 use crate::held::Held;
 use crate::table::{level, refusal};
-use sai_types::{Call, Caps, Chip, ChipAnswer, Fail, Kind, ListAnswer, Object, Rid};
+use sai_types::{
+    Body, Call, Caps, Chip, ChipAnswer, Fail, Kind, ListAnswer, Object, Rid, empty_is_whole,
+    equal_entries_find_alike, keys_are_taken_once, made_is_found, others_stay, removed_is_gone,
+    set_is_found, stays_whole,
+};
 use std::alloc::Global;
 use std::marker::Model;
 use swss_types::{Ip, OutOfMemory};
@@ -40,7 +49,7 @@ impl Model for SimChip {
 
     ghost view = { λ s. record { chip = record { objects = s.held; effects = s.effects.items; capacities = s.caps.0; fails = s.fails; clean = s.clean; faults = s.faults }; calls = s.calls } };
 
-    ghost invariant = { λ s. IsInOrder s.effects.items s.fails s.made s.faults s.calls };
+    ghost invariant = { λ s. IsInOrder s.held s.effects.items s.fails s.made s.faults s.calls };
 }
 
 impl SimChip {
@@ -49,6 +58,7 @@ impl SimChip {
     pub fn new(alloc: Global, caps: Caps, fails: Vec<Fail>) -> SimChip
         ensures { result ≡ new_sim caps.0 fails.items }
     {
+        empty_is_whole();
         SimChip {
             held: Held::new(alloc),
             effects: Vec::new(alloc),
@@ -73,8 +83,8 @@ impl SimChip {
     pub fn forward(&self, alloc: Global, ip: Ip) -> Result<Forward, OutOfMemory>
         ensures { IfOk result (λ f. f ≡ answer_of (forward (those (named self.now.chip.objects)) ip)) }
     {
-        let things = self.held.things(alloc)?;
-        forward_by(alloc, &things, ip)
+        keys_are_taken_once();
+        forward_by(alloc, &self.held, ip)
     }
 
     /// The objects on the chip, each once, in the order of their entries.
@@ -106,11 +116,15 @@ impl SimChip {
         refusal(&self.held, &self.caps, call)
     }
 
-    /// Makes the effect of a call, which is legal or not, and its answer.
+    /// Makes the effect of a legal call, and its answer.
     fn make(&mut self, call: &Call<Rid>) -> Result<ChipAnswer, OutOfMemory>
+        requires { refusal_at self.old call.now ≡ None }
         ensures ok { IfOk result (λ a. (a ≡ effect_answer self.old call.now) × (self.new ≡ with_effect self.old call.now)) }
         ensures err { OnErr result (self.new ≡ self.old) }
     {
+        stays_whole();
+        lanes_stay();
+        makes_first(call);
         let makes = makes_id(call);
         let id = Rid(self.made + 1);
         let copy = call.copy()?;
@@ -137,6 +151,7 @@ impl SimChip {
 
     /// What a call with this refusal answers. It makes the effect where there is one.
     fn answer(&mut self, call: &Call<Rid>, refusal: Option<ChipAnswer>) -> ChipAnswer
+        requires { refusal_at self.old call.now ≡ refusal }
         ensures { ResultsBy (fault_of self.old) refusal self.old call.now result self.new }
     {
         match self.fault() {
@@ -152,6 +167,7 @@ impl SimChip {
         fault: Option<bool>,
         refusal: Option<ChipAnswer>,
     ) -> ChipAnswer
+        requires { refusal_at self.old call.now ≡ refusal }
         ensures { ResultsBy fault refusal self.old call.now result self.new }
     {
         match (fault, refusal) {
@@ -163,6 +179,7 @@ impl SimChip {
 
     /// Fails at a call, with its effect or without.
     fn fail(&mut self, call: &Call<Rid>, takes: bool) -> ChipAnswer
+        requires { takes ≡ true → refusal_at self.old call.now ≡ None }
         ensures { FailsBy takes self.old call.now result self.new }
     {
         if !takes {
@@ -224,6 +241,35 @@ impl Chip for SimChip {
 
     fn faults(&self) -> u64 {
         self.faults
+    }
+}
+
+/// A call leaves each port the lane by which it is named, where a port that it makes has one. A law: it does nothing.
+fn lanes_stay()
+    ensures { (n : ℕ) (objects : Objects) (c : Call Rid) → AreSorted objects → HaveLanes objects → makes_first c ≡ true → HaveLanes (after_call n objects c) }
+{
+    made_is_found();
+    set_is_found();
+    others_stay();
+    removed_is_gone();
+    equal_entries_find_alike();
+}
+
+/// A port that a call makes has the lane by which it is named.
+fn makes_first(call: &Call<Rid>)
+    ensures { makes_first call.now ≡ true }
+{
+    if let Call::Create(body) = call {
+        has_first(body);
+    }
+}
+
+/// A port has the lane by which it is named.
+fn has_first(body: &Body<Rid>)
+    ensures { has_first body.now ≡ true }
+{
+    if let Body::Port { lanes, .. } = body {
+        let _lanes = lanes.items();
     }
 }
 

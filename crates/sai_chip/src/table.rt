@@ -1,5 +1,5 @@
 // The chip's table of answers.
-ghost use Rattle.std.specs.Prelude.{◌≡◌};
+ghost use Rattle.std.specs.Prelude.{◌≡◌, option_copied};
 ghost use Rattle.std.specs.List.{list_any};
 ghost use Rattle.sai_types.specs.Objects.{body_at, is_there, is_kind_of, level};
 ghost use Rattle.sai_types.specs.Refusal.{attr_refers_well, clash, create_refusal, first_of, has_attr, is_base, is_target, refers_to, refers_well, refusal_of, remove_refusal, set_refusal};
@@ -61,17 +61,17 @@ fn create_refusal(held: &Held, caps: &Caps, body: &Body<Rid>) -> Option<ChipAnsw
 fn set_refusal(held: &Held, entry: &Entry<Rid>, attr: &Attr<Rid>) -> Option<ChipAnswer>
     ensures { result ≡ set_refusal held.now (body_at held.now entry.now) attr.now }
 {
-    match held.body(entry) {
-        Some(body) => attr_refusal(held, body, attr),
-        None => Some(ChipAnswer::NotFound),
+    if let Entry::Oid(id) = entry {
+        return attr_refusal(held, held.bodies().get(*id), attr);
     }
+    attr_refusal(held, held.bodies().keyed(entry).as_ref(), attr)
 }
 
-/// The same, at a body that stands.
-fn attr_refusal(held: &Held, body: &Body<Rid>, attr: &Attr<Rid>) -> Option<ChipAnswer>
-    ensures { result ≡ set_refusal held.now (Some body.now) attr.now }
+/// The same, at the body, where there is one.
+fn attr_refusal(held: &Held, body: Option<&Body<Rid>>, attr: &Attr<Rid>) -> Option<ChipAnswer>
+    ensures { result ≡ set_refusal held.now (option_copied body.entry) attr.now }
 {
-    if !has_attr(body, attr) {
+    if !body.is_some_and(|body| has_attr(body, attr)) {
         Some(ChipAnswer::NotFound)
     } else if !attr_refers_well(held, attr) {
         Some(ChipAnswer::BadReference)
@@ -84,9 +84,10 @@ fn attr_refusal(held: &Held, body: &Body<Rid>, attr: &Attr<Rid>) -> Option<ChipA
 fn remove_refusal(held: &Held, entry: &Entry<Rid>) -> Option<ChipAnswer>
     ensures { result ≡ remove_refusal held.now entry.now (body_at held.now entry.now) }
 {
-    match held.body(entry) {
-        Some(_) => use_refusal(held, entry),
-        None => Some(ChipAnswer::NotFound),
+    if held.stands(entry) {
+        use_refusal(held, entry)
+    } else {
+        Some(ChipAnswer::NotFound)
     }
 }
 
@@ -105,14 +106,18 @@ fn use_refusal(held: &Held, entry: &Entry<Rid>) -> Option<ChipAnswer>
 fn is_referred(held: &Held, entry: &Entry<Rid>) -> bool
     ensures { result ≡ list_any (λ o. refers_to o.1 entry.now) held.now }
 {
-    held.has(&Mark::RefersTo(*entry))
+    match *entry {
+        Entry::Oid(id) => held.has(&Mark::RefersTo(id)),
+        Entry::Neigh(rif, ip) => held.has(&Mark::NextHop(rif, ip)),
+        _ => false,
+    }
 }
 
 /// Whether an object of this kind has this identifier.
 fn is_there(held: &Held, kind: Kind, id: Rid) -> bool
     ensures { result ≡ is_there held.now kind id }
 {
-    match held.body(&Entry::Oid(id)) {
+    match held.bodies().get(id) {
         Some(body) => level(kind_of(body)) == level(kind),
         None => false,
     }
@@ -155,7 +160,7 @@ fn refers_well(held: &Held, body: &Body<Rid>) -> bool
         Body::Rif { on } => is_base(held, on),
         Body::Neighbor { rif, .. } => is_there(held, Kind::Rif, *rif),
         Body::NextHop { rif, ip } => {
-            is_there(held, Kind::Rif, *rif) && held.body(&Entry::Neigh(*rif, *ip)).is_some()
+            is_there(held, Kind::Rif, *rif) && held.stands(&Entry::Neigh(*rif, *ip))
         }
         Body::GroupMember { group, next_hop } => {
             is_there(held, Kind::Group, *group) && is_there(held, Kind::NextHop, *next_hop)
@@ -178,12 +183,12 @@ fn clashes(held: &Held, body: &Body<Rid>) -> bool
             ..
         } => held.has(&Mark::VlanMember(*vlan, *bridge_port)),
         Body::Rif { on } => held.has(&Mark::Rif(*on)),
-        Body::OwnAddress { ip } => held.has(&Mark::Own(*ip)),
-        Body::Neighbor { rif, ip, .. } => held.has(&Mark::Neighbor(*rif, *ip)),
+        Body::OwnAddress { .. } | Body::Neighbor { .. } | Body::Route { .. } => {
+            held.bodies().takes(body)
+        }
         Body::NextHop { rif, ip } => held.has(&Mark::NextHop(*rif, *ip)),
         Body::Group => false,
         Body::GroupMember { group, next_hop } => held.has(&Mark::GroupMember(*group, *next_hop)),
-        Body::Route { prefix, .. } => held.has(&Mark::Route(*prefix)),
     }
 }
 

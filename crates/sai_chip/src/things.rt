@@ -5,13 +5,14 @@ ghost use Rattle.std.specs.BTreeSet.{insert_key};
 ghost use Rattle.std.specs.List.Sorted.{IsPermutation, IsSorted};
 ghost use Rattle.sai_types.specs.Named.{both, hop_cmp, named, thing_by, those, with_member};
 ghost use Rattle.sai_types.specs.Objects.{body_at, entry_cmp};
-ghost use Rattle.sai_types.specs.declared.body.Entry.{Entry};
 ghost use Rattle.sai_types.specs.declared.ids.Rid.{Rid};
+ghost use Rattle.sai_chip.specs.Bodies.{numbered};
 ghost use Rattle.sai_chip.specs.Members.{hops_by};
 ghost use Rattle.sai_chip.specs.Naming.{AreBodies, AreHops, entries_of, hops_in, thing_cmp, with_hop};
 
-use crate::names::{Bodies, GroupHops, next_hop_at, thing_at};
-use sai_types::{Body, Hop, Hops, Object, Rid, Thing};
+use crate::bodies::Numbered;
+use crate::names::{GroupHops, next_hop_at, thing_at};
+use sai_types::{Body, Entry, Hop, Hops, Object, Rid, Thing};
 use std::alloc::Global;
 use std::collections::BTreeMap;
 use swss_types::OutOfMemory;
@@ -35,9 +36,9 @@ pub fn things_of(alloc: Global, objects: &[Object<Rid>]) -> Result<Vec<Thing>, O
     list_things(alloc, &bodies, &groups, objects)
 }
 
-/// The bodies by their entries; of several with one entry, the first.
-fn bodies_of(alloc: Global, objects: &[Object<Rid>]) -> Result<Bodies, OutOfMemory>
-    ensures { IfOk result (λ bodies. AreBodies (entries_of objects.now) bodies.entries) }
+/// The bodies by their identifiers; of several with one identifier, the first.
+fn bodies_of(alloc: Global, objects: &[Object<Rid>]) -> Result<Numbered, OutOfMemory>
+    ensures { IfOk result (λ bodies. AreBodies (entries_of objects.now) (numbered bodies.entries)) }
 {
     let mut bodies = BTreeMap::new(alloc);
     let mut left = objects.len();
@@ -48,21 +49,26 @@ fn bodies_of(alloc: Global, objects: &[Object<Rid>]) -> Result<Bodies, OutOfMemo
     Ok(bodies)
 }
 
-/// Puts the body of an object, in place of one with the same entry.
-fn put_body(bodies: &mut Bodies, object: &Object<Rid>) -> Result<(), OutOfMemory>
-    ensures { OnOk result ((e : Entry Rid) → body_at bodies.new.entries e ≡ (if is_at (entry_cmp object.now.entry) e then Some object.now.body else body_at bodies.old.entries e)) }
+/// Puts the body of an object that has an identifier, in place of one with the same.
+fn put_body(bodies: &mut Numbered, object: &Object<Rid>) -> Result<(), OutOfMemory>
+    ensures { OnOk result ((r : Rid) → body_at (numbered bodies.new.entries) (Entry.Oid r) ≡ (if is_at (entry_cmp object.now.entry) (Entry.Oid r) then Some object.now.body else body_at (numbered bodies.old.entries) (Entry.Oid r))) }
 {
-    bodies.insert(object.entry, object.body.copy()?)?;
-    Ok(())
+    match object.entry {
+        Entry::Oid(id) => {
+            bodies.insert(id, object.body.copy()?)?;
+            Ok(())
+        }
+        _ => Ok(()),
+    }
 }
 
 /// The hops of each group that has members.
 fn group_hops(
     alloc: Global,
-    bodies: &Bodies,
+    bodies: &Numbered,
     objects: &[Object<Rid>],
 ) -> Result<GroupHops, OutOfMemory>
-    ensures { IfOk result (λ groups. AreHops bodies.now.entries (entries_of objects.now) groups.entries) }
+    ensures { IfOk result (λ groups. AreHops (numbered bodies.now.entries) (entries_of objects.now) groups.entries) }
 {
     let mut groups = BTreeMap::new(alloc);
     let mut left = objects.len();
@@ -76,11 +82,11 @@ fn group_hops(
 /// Puts the hop of a body to the hops of its group, where it is a member of one.
 fn put_member(
     alloc: Global,
-    bodies: &Bodies,
+    bodies: &Numbered,
     groups: &mut GroupHops,
     body: &Body<Rid>,
 ) -> Result<(), OutOfMemory>
-    ensures { OnOk result ((g : Rid) → hops_in groups.new.entries g ≡ with_member bodies.now.entries g body.now (hops_in groups.old.entries g)) }
+    ensures { OnOk result ((g : Rid) → hops_in groups.new.entries g ≡ with_member (numbered bodies.now.entries) g body.now (hops_in groups.old.entries g)) }
 {
     match body {
         Body::GroupMember { group, next_hop } => {
@@ -111,10 +117,10 @@ fn put_hop(
 /// The hops of these next hops, rising: None where one is absent.
 pub fn hops_of(
     alloc: Global,
-    bodies: &Bodies,
+    bodies: &Numbered,
     next_hops: &[Rid],
 ) -> Result<Option<Hops>, OutOfMemory>
-    ensures { IfOk result (λ hops. hops ≡ hops_by bodies.now.entries next_hops.now) }
+    ensures { IfOk result (λ hops. hops ≡ hops_by (numbered bodies.now.entries) next_hops.now) }
 {
     let mut hops = Some(Hops::new(alloc));
     let mut left = next_hops.len();
@@ -139,11 +145,11 @@ fn add_hop(hops: Option<Hops>, hop: Option<Hop>) -> Result<Option<Hops>, OutOfMe
 /// The things of these objects, in their order.
 fn list_things(
     alloc: Global,
-    bodies: &Bodies,
+    bodies: &Numbered,
     groups: &GroupHops,
     objects: &[Object<Rid>],
 ) -> Result<Vec<Thing>, OutOfMemory>
-    ensures { IfOk result (λ things. things.items ≡ those (map (thing_by (hops_in groups.now.entries) bodies.now.entries) (entries_of objects.now))) }
+    ensures { IfOk result (λ things. things.items ≡ those (map (thing_by (hops_in groups.now.entries) (numbered bodies.now.entries)) (entries_of objects.now))) }
 {
     let mut things = Vec::new(alloc);
     for object in objects {

@@ -1,13 +1,10 @@
-use Rattle.std.proofs.Common.{◌≡◌, ◌≤◌, drop, length, option_map}
+use Rattle.std.proofs.Common.{◌≡◌, option_map}
 use Rattle.sai_types.specs.Forwarding.{best_route}
+use Rattle.sai_types.specs.Named.{named, those}
+use Rattle.sai_chip.specs.Bodies.{best_of}
+use Rattle.sai_chip.specs.Forward.{pick, sent}
 use Rattle.sai_chip.proofs.forwarding.best_route.Given as goal
 
--- the best route of the things from this place on
-abbrev pub invariant-loop-left : goal.invariant-loop-left
-invariant-loop-left l = record {
-  within : l.left ≤ length l.things;
-  best : option_map (λ r. (r.0, r.1.now)) l.best ≡ best_route (drop l.left l.things) l.ip;
-}
-
-abbrev pub decreases-loop-left : goal.decreases-loop-left
-decreases-loop-left l = l.left
+-- the better of the best so far and of the best that is left is the best of all
+abbrev pub invariant-loop-prefix : goal.invariant-loop-prefix
+invariant-loop-prefix l = pick l.held l.best (best_of l.held l.prefix-iterator l.ip) ≡ option_map (λ r. sent l.held r.1) (best_route (those (named l.held)) l.ip)

@@ -1,8 +1,7 @@
-use Rattle.std.proofs.Common.{◌≡◌, ◌++◌, drop, map}
-use Rattle.sai_types.specs.Forwarding.{mac_of}
+use Rattle.std.proofs.Common.{◌≡◌, ◌++◌}
 use Rattle.sai_chip.specs.Forward.{ways_of}
 use Rattle.sai_chip.proofs.forwarding.ways_of.Given as goal
 
 -- the ways so far, with those of the hops that are left, are those of all hops
 abbrev pub invariant-loop-hop : goal.invariant-loop-hop
-invariant-loop-hop l = l.ways ++ ways_of (map (λ h. (h, mac_of l.things h)) (drop l.hop-index l.hops)) ≡ ways_of (map (λ h. (h, mac_of l.things h)) l.hops)
+invariant-loop-hop l = l.ways ++ ways_of l.hop-iterator ≡ ways_of l.macs.entries

@@ -2,7 +2,7 @@ use Rattle.std.proofs.Common.{◌∙◌, ap, sym}
 use Rattle.std.specs.List.{list_any}
 use Rattle.sai_chip.specs.declared.mark.Mark.TheVariants as mark
 use Rattle.sai_chip.specs.Marks.{stands}
-use Rattle.sai_chip.proofs.Clashes.{clashes-by, clashes-never, clashes-port, clash-vlan, clash-bridge_port, clash-vlan_member, clash-rif, clash-own, clash-neighbor, clash-next_hop, clash-group_member, clash-route}
+use Rattle.sai_chip.proofs.Clashes.{clashes-by, clashes-never, clashes-port, clash-vlan, clash-bridge_port, clash-vlan_member, clash-rif, clash-next_hop, clash-group_member}
 use Rattle.sai_chip.proofs.table.clashes.Goals as goal
 
 pub returns-in-Port : goal.returns-in-Port
@@ -26,17 +26,8 @@ returns-in-VlanMember c = clashes-by c.args.body.now _ (mark.VlanMember c.in-Vla
 pub returns-in-Rif : goal.returns-in-Rif
 returns-in-Rif c = clashes-by c.args.body.now _ (mark.Rif c.in-Rif.on) c.args.held.now c.has-in-Rif.result c.in-Rif.is (clash-rif c.in-Rif.on) c.has-in-Rif.ensures
 
-pub returns-in-OwnAddress : goal.returns-in-OwnAddress
-returns-in-OwnAddress c = clashes-by c.args.body.now _ (mark.Own c.in-OwnAddress.ip) c.args.held.now c.has-in-OwnAddress.result c.in-OwnAddress.is (clash-own c.in-OwnAddress.ip) c.has-in-OwnAddress.ensures
-
-pub returns-in-Neighbor : goal.returns-in-Neighbor
-returns-in-Neighbor c = clashes-by c.args.body.now _ (mark.Neighbor c.in-Neighbor.rif c.in-Neighbor.ip) c.args.held.now c.has-in-Neighbor.result c.in-Neighbor.is (clash-neighbor c.in-Neighbor.rif c.in-Neighbor.ip c.in-Neighbor.mac) c.has-in-Neighbor.ensures
-
 pub returns-in-NextHop : goal.returns-in-NextHop
 returns-in-NextHop c = clashes-by c.args.body.now _ (mark.NextHop c.in-NextHop.rif c.in-NextHop.ip) c.args.held.now c.has-in-NextHop.result c.in-NextHop.is (clash-next_hop c.in-NextHop.rif c.in-NextHop.ip) c.has-in-NextHop.ensures
 
 pub returns-in-GroupMember : goal.returns-in-GroupMember
 returns-in-GroupMember c = clashes-by c.args.body.now _ (mark.GroupMember c.in-GroupMember.group c.in-GroupMember.next_hop) c.args.held.now c.has-in-GroupMember.result c.in-GroupMember.is (clash-group_member c.in-GroupMember.group c.in-GroupMember.next_hop) c.has-in-GroupMember.ensures
-
-pub returns-in-Route : goal.returns-in-Route
-returns-in-Route c = clashes-by c.args.body.now _ (mark.Route c.in-Route.prefix) c.args.held.now c.has-in-Route.result c.in-Route.is (clash-route c.in-Route.prefix c.in-Route.to) c.has-in-Route.ensures

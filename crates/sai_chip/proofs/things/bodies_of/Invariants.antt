@@ -1,4 +1,5 @@
 use Rattle.std.proofs.Common.{◌≤◌, drop, length}
+use Rattle.sai_chip.specs.Bodies.{numbered}
 use Rattle.sai_chip.specs.Naming.{AreBodies, entries_of}
 use Rattle.sai_chip.proofs.things.bodies_of.Given as goal
 
@@ -6,7 +7,7 @@ use Rattle.sai_chip.proofs.things.bodies_of.Given as goal
 abbrev pub invariant-loop-left : goal.invariant-loop-left
 invariant-loop-left l = record {
   within : l.left ≤ length l.objects;
-  found : AreBodies (entries_of (drop l.left l.objects)) l.bodies.entries;
+  found : AreBodies (entries_of (drop l.left l.objects)) (numbered l.bodies.entries);
 }
 
 abbrev pub decreases-loop-left : goal.decreases-loop-left

@@ -3,4 +3,4 @@ use Rattle.sai_chip.proofs.Standing.{positive-standing}
 use Rattle.sai_chip.proofs.held.Held.has.Goals as goal
 
 pub returns : goal.returns
-returns c = rw (← c.self.view_is) (ap (nat_lt 0) (c.count.ensures ∙ c.self.invariant.each c.args.mark.now) ∙ positive-standing c.args.mark.now c.self.inside.objects.entries)
+returns c = rw (← c.self.view_is) (ap (nat_lt 0) (c.count.ensures ∙ c.self.invariant.each c.args.mark.now) ∙ positive-standing c.args.mark.now c.self.inside.bodies)

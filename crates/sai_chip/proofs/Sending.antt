@@ -1,0 +1,149 @@
+-- where routes send, and which of them is the best
+use Rattle.std.proofs.Common.{◌≡◌, ℕ, ◌-◌, ◌<◌, ◌≤◌, nat_lt, Bool, true, false, ◌&&◌, List, [], ◌∷◌, drop, get_or, length, map, Option, None, Some, option_map, Ordering, refl, sym, ap, ◌∙◌, if◌then◌else◌, arith}
+use Rattle.std.specs.declared.cmp.Ordering.TheVariants.{Less, Equal, Greater}
+use Rattle.std.specs.BTreeMap.{insert_entry}
+use Rattle.std.specs.BTreeSet.{insert_key}
+use Rattle.std.specs.Option.{is_some, unwrap_or}
+use Rattle.std.specs.Ordering.{match_ordering}
+use Rattle.std.proofs.lemmas.Bool.{and_parts}
+use Rattle.std.proofs.lemmas.Grind.{common_steps}
+use Rattle.swss_types.specs.Address.{covers}
+use Rattle.swss_types.specs.declared.address.Ip.{Ip}
+use Rattle.swss_types.specs.declared.address.Mac.{Mac}
+use Rattle.swss_types.specs.declared.address.Prefix.{Prefix}
+use Rattle.sai_types.specs.declared.ids.Rid.{Rid}
+use Rattle.sai_types.specs.declared.hop.Base.{Base}
+use Rattle.sai_types.specs.declared.hop.Hop.{Hop}
+use Rattle.sai_types.specs.declared.thing.Goal.{Goal}
+use Rattle.sai_types.specs.declared.thing.Goal.TheVariants as goal
+use Rattle.sai_types.specs.declared.thing.Thing.{Thing}
+use Rattle.sai_types.specs.declared.thing.Thing.TheVariants as thing
+use Rattle.sai_types.specs.declared.body.Body.TheVariants as body
+use Rattle.sai_types.specs.declared.body.Entry.TheVariants as entry
+use Rattle.sai_types.specs.declared.body.To.{To}
+use Rattle.sai_types.specs.Forwarding.{best_route, decide_route, forwarding_of, longer}
+use Rattle.sai_types.specs.Named.{both, goal_by, hop_cmp, hops_at, named, next_hop_at, thing_of, those}
+use Rattle.sai_types.specs.Objects.{Objects, body_at}
+use Rattle.sai_types.specs.References.{refers_well, stands}
+use Rattle.sai_types.specs.declared.kind.Kind.TheVariants as kind
+use Rattle.sai_chip.specs.declared.forward.Forward.{Forward}
+use Rattle.sai_chip.specs.declared.forward.Forward.TheVariants as forward
+use Rattle.sai_chip.specs.Bodies.{best_of, routed}
+use Rattle.sai_chip.specs.Forward.{answer_of, is_longer, more_ways, pick, sent, way_of, ways_by, ways_of, with_goal}
+use Rattle.sai_chip.specs.Members.{hops_by}
+use Rattle.sai_chip.proofs.HopSets.{hop_exact}
+use Rattle.sai_chip.proofs.SameNames.{drop-before}
+
+best_by : (objects : Objects) (ip : Ip) (p : Prefix) (os : List (Option Thing)) (g : Option Goal) → best_route (those (option_map (thing.Route p) g ∷ os)) ip ≡ with_goal ip p g (best_route (those os) ip)
+best_by objects ip p os None = refl
+best_by objects ip p os (Some g) = refl
+
+-- one more route in front
+pub best_of-cons : (objects : Objects) (ip : Ip) (e : Prefix × To Rid) (es : List (Prefix × To Rid)) → best_of objects (e ∷ es) ip ≡ with_goal ip e.0 (goal_by (hops_at objects) objects e.1) (best_of objects es ip)
+best_of-cons objects ip e es = best_by objects ip e.0 (map (thing_of objects) (routed es)) (goal_by (hops_at objects) objects e.1)
+
+uncovered_by : (ip : Ip) (p : Prefix) (g : Option Goal) (r : Option (Prefix × Goal)) → covers p ip ≡ false → with_goal ip p g r ≡ r
+uncovered_by ip p None r h = refl
+uncovered_by ip p (Some g) r h = rw h refl
+
+-- a route that does not cover the address is passed over
+pub pick-uncovered : (objects : Objects) (ip : Ip) (p : Prefix) (g : Option Goal) (best : Option (ℕ × Forward)) → covers p ip ≡ false → (r : Option (Prefix × Goal)) → pick objects best r ≡ pick objects best (with_goal ip p g r)
+pick-uncovered objects ip p g best h r = ap (pick objects best) (sym (uncovered_by ip p g r h))
+
+pub pick-without : (objects : Objects) (ip : Ip) (p : Prefix) (g : Option Goal) (best : Option (ℕ × Forward)) → None ≡ option_map (sent objects) g → (r : Option (Prefix × Goal)) → pick objects best r ≡ pick objects best (with_goal ip p g r)
+pick-without objects ip p None best h r = refl
+pick-without objects ip p (Some g) best h r = absurd cc
+
+shorter_by : (objects : Objects) (n : ℕ) (f : Forward) (p : Prefix) (g : Goal) (r : Option (Prefix × Goal)) → nat_lt n p.len ≡ false → pick objects (Some (n, f)) r ≡ pick objects (Some (n, f)) (longer p g r)
+shorter_by objects n f p g None h = rw h refl
+shorter_by objects n f p g (Some b) h = grind (arith, common_steps)
+
+shorter_covered : (objects : Objects) (best : Option (ℕ × Forward)) (p : Prefix) (g : Goal) (r : Option (Prefix × Goal)) → is_longer p.len best ≡ false → pick objects best r ≡ pick objects best (longer p g r)
+shorter_covered objects None p g r h = absurd cc
+shorter_covered objects (Some best) p g r h = shorter_by objects best.0 best.1 p g r h
+
+shorter_or : (objects : Objects) (best : Option (ℕ × Forward)) (p : Prefix) (g : Goal) (c : Bool) (r : Option (Prefix × Goal)) → is_longer p.len best ≡ false → pick objects best r ≡ pick objects best (if c then longer p g r else r)
+shorter_or objects best p g true r h = shorter_covered objects best p g r h
+shorter_or objects best p g false r h = refl
+
+-- and so is one whose prefix is no longer
+pub pick-shorter : (objects : Objects) (ip : Ip) (p : Prefix) (g : Option Goal) (best : Option (ℕ × Forward)) → is_longer p.len best ≡ false → (r : Option (Prefix × Goal)) → pick objects best r ≡ pick objects best (with_goal ip p g r)
+pick-shorter objects ip p None best h r = refl
+pick-shorter objects ip p (Some g) best h r = shorter_or objects best p g (covers p ip) r h
+
+better_by : (objects : Objects) (n : ℕ) (f : Forward) (p : Prefix) (g : Goal) (r : Option (Prefix × Goal)) → nat_lt n p.len ≡ true → pick objects (Some (p.len, sent objects g)) r ≡ pick objects (Some (n, f)) (longer p g r)
+better_by objects n f p g None h = rw h refl
+better_by objects n f p g (Some b) h = grind (arith, common_steps)
+
+better_first : (objects : Objects) (p : Prefix) (g : Goal) (r : Option (Prefix × Goal)) → pick objects (Some (p.len, sent objects g)) r ≡ pick objects None (longer p g r)
+better_first objects p g None = refl
+better_first objects p g (Some b) = grind (arith, common_steps)
+
+better_covered : (objects : Objects) (best : Option (ℕ × Forward)) (p : Prefix) (g : Goal) (r : Option (Prefix × Goal)) → is_longer p.len best ≡ true → pick objects (Some (p.len, sent objects g)) r ≡ pick objects best (longer p g r)
+better_covered objects None p g r h = better_first objects p g r
+better_covered objects (Some best) p g r h = better_by objects best.0 best.1 p g r h
+
+-- one that covers it and is longer is the better
+pub pick-better : (objects : Objects) (ip : Ip) (p : Prefix) (g : Option Goal) (f : Forward) (best : Option (ℕ × Forward)) → covers p ip ≡ true → is_longer p.len best ≡ true → Some f ≡ option_map (sent objects) g → (r : Option (Prefix × Goal)) → pick objects (Some (p.len, f)) r ≡ pick objects best (with_goal ip p g r)
+pick-better objects ip p None f best c l h r = absurd cc
+pick-better objects ip p (Some g) f best c l h r =
+    let same : f ≡ sent objects g = cc in
+    rw c (ap (λ x. pick objects (Some (p.len, x)) r) same ∙ better_covered objects best p g r l)
+
+pub pick-last : (objects : Objects) (best : Option (ℕ × Forward)) → pick objects best None ≡ option_map (λ b. b.1) best
+pick-last objects None = refl
+pick-last objects (Some best) = refl
+
+-- where the best route sends is where the chip does
+pub decided : (objects : Objects) (best : Option Forward) (r : Option (Prefix × Goal)) → best ≡ option_map (λ r. sent objects r.1) r → unwrap_or best forward.Drop ≡ answer_of (forwarding_of (those (named objects)) (decide_route r))
+decided objects best None h = ap (λ b. unwrap_or b forward.Drop) h
+decided objects best (Some r) h = ap (λ b. unwrap_or b forward.Drop) h
+
+pub sent-direct : (objects : Objects) (o : Option Base) → option_map forward.Direct o ≡ option_map (sent objects) (option_map goal.Direct o)
+sent-direct objects None = refl
+sent-direct objects (Some b) = refl
+
+pub sent-one : (objects : Objects) (o : Option Hop) → option_map (λ hops. sent objects (goal.Group hops)) (both (insert_key hop_cmp) (Some []) o) ≡ option_map (sent objects) (option_map goal.Via o)
+sent-one objects None = refl
+sent-one objects (Some h) = refl
+
+pub sent-group : (objects : Objects) (o : Option (List Hop)) → option_map (λ hops. sent objects (goal.Group hops)) o ≡ option_map (sent objects) (option_map goal.Group o)
+sent-group objects None = refl
+sent-group objects (Some hs) = refl
+
+pub sent-via : (objects : Objects) (o : Option (List Hop)) (ws : List (Hop × Option Mac)) (ways : List (Hop × Mac)) → Some ws ≡ ways_by objects o → ways ≡ ways_of ws → Some (forward.Via ways) ≡ option_map (λ hops. sent objects (goal.Group hops)) o
+sent-via objects None ws ways h is = absurd cc
+sent-via objects (Some hs) ws ways h is = let same : ws ≡ map (way_of objects) hs = cc in ap (λ w. Some (forward.Via w)) (is ∙ ap ways_of same)
+
+pub sent-none : (objects : Objects) (o : Option (List Hop)) → None ≡ ways_by objects o → None ≡ option_map (λ hops. sent objects (goal.Group hops)) o
+sent-none objects None h = refl
+sent-none objects (Some hs) h = absurd cc
+
+way_step : (objects : Objects) (h x : Hop) (hs : List Hop) (r : Ordering) → hop_cmp h x ≡ r → map (way_of objects) (insert_key hop_cmp hs h) ≡ insert_entry hop_cmp (map (way_of objects) hs) h (way_of objects h).1 → map (way_of objects) (match_ordering r (h ∷ x ∷ hs) (x ∷ hs) (x ∷ insert_key hop_cmp hs h)) ≡ match_ordering r (way_of objects h ∷ map (way_of objects) (x ∷ hs)) ((x, (way_of objects h).1) ∷ map (way_of objects) hs) (way_of objects x ∷ insert_entry hop_cmp (map (way_of objects) hs) h (way_of objects h).1)
+way_step objects h x hs Less is same = refl
+way_step objects h x hs Equal is same = ap (λ y. (x, (way_of objects y).1) ∷ map (way_of objects) hs) (sym (hop_exact h x is))
+way_step objects h x hs Greater is same = ap (λ l. way_of objects x ∷ l) same
+
+ways-insert : (objects : Objects) (h : Hop) (hs : List Hop) → map (way_of objects) (insert_key hop_cmp hs h) ≡ insert_entry hop_cmp (map (way_of objects) hs) h (way_of objects h).1
+ways-insert objects h [] = refl
+ways-insert objects h (x ∷ hs) = way_step objects h x hs (hop_cmp h x) refl (ways-insert objects h hs)
+
+ways_both : (objects : Objects) (o : Option (List Hop)) (h : Option Hop) → both more_ways (ways_by objects o) (option_map (way_of objects) h) ≡ ways_by objects (both (insert_key hop_cmp) o h)
+ways_both objects None h = refl
+ways_both objects (Some hs) None = refl
+ways_both objects (Some hs) (Some h) = ap Some (sym (ways-insert objects h hs))
+
+-- the ways of one more next hop in front
+pub ways_by-before : (objects : Objects) (ns : List Rid) (left : ℕ) (d : Rid) (way : Option (Hop × Option Mac)) (old new : Option (List (Hop × Option Mac))) → 0 < left → left ≤ length ns → old ≡ ways_by objects (hops_by objects (drop left ns)) → way ≡ option_map (way_of objects) (next_hop_at objects (get_or ns (left - 1) d)) → new ≡ both more_ways old way → new ≡ ways_by objects (hops_by objects (drop (left - 1) ns))
+ways_by-before objects ns left d way old new some within was one more =
+    more
+    ∙ ap (λ o. both more_ways o way) was
+    ∙ ap (both more_ways (ways_by objects (hops_by objects (drop left ns)))) one
+    ∙ ways_both objects (hops_by objects (drop left ns)) (next_hop_at objects (get_or ns (left - 1) d))
+    ∙ ap (λ l. ways_by objects (hops_by objects l)) (sym (drop-before ns left d some within))
+
+-- a next hop that refers well goes through a neighbour that stands
+pub through-stands : (objects : Objects) (rif : Rid) (ip : Ip) → refers_well objects (body.NextHop rif ip) ≡ true → is_some (body_at objects (entry.Neigh rif ip)) ≡ true
+through-stands objects rif ip well =
+    let parts = and_parts (stands objects (kind.Rif, entry.Oid rif)) (is_some (body_at objects (entry.Neigh rif ip)) && true) well in
+    (and_parts (is_some (body_at objects (entry.Neigh rif ip))) true parts.1).0

@@ -1,0 +1,11 @@
+use Rattle.std.proofs.Common.{◌≡◌, ◌++◌, take, length}
+use Rattle.sai_types.specs.ChipState.{objects_of}
+use Rattle.sai_chip.specs.Bodies.{reached}
+use Rattle.sai_chip.proofs.bodies.push_neighbors.Given as goal
+
+-- what was there stays in front, and the objects so far, with those that are left, are all
+abbrev pub invariant-loop-rif : goal.invariant-loop-rif
+invariant-loop-rif l = record {
+  front : take (length l.fn.out.items) l.out.items ≡ l.fn.out.items;
+  all : l.out.items ++ objects_of (reached l.rif-iterator) ≡ l.fn.out.items ++ objects_of (reached l.neighbors.entries);
+}

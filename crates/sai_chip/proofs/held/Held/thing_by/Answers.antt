@@ -1,0 +1,17 @@
+use Rattle.std.proofs.Common.{◌≡◌, ◌∙◌, refl, subst}
+use Rattle.sai_types.specs.Named.{thing_by, thing_of}
+use Rattle.sai_chip.specs.Bodies.{numbered}
+use Rattle.sai_chip.specs.Naming.{AreBodies, hops_in}
+use Rattle.sai_chip.proofs.GroupNames.{thing_of-known}
+use Rattle.sai_chip.proofs.SameNames.{thing_by-same}
+use Rattle.sai_chip.proofs.held.Held.thing_by.Goals as goal
+
+pub returns : goal.returns
+returns c =
+    let bodies = numbered c.numbered.result.now.entries in
+    let groups = c.in_ok-groups.groups.entries in
+    let found = subst (λ o. AreBodies o bodies) c.self.view_is c.numbered.ensures in
+    let named : thing_by (hops_in groups) bodies (c.args.entry.now, c.in-Some.body.now) ≡ thing_of c.args.self.now (c.args.entry.now, c.in-Some.body.now) =
+    thing_by-same bodies c.args.self.now found (hops_in groups) (hops_in groups) (λ r. refl) c.args.entry.now c.in-Some.body.now
+    ∙ thing_of-known c.args.self.now c.args.entry.now c.in-Some.body.now groups c.in_ok-groups.ensures in
+    rw (c.in-Some.is, ← named) c.thing_at.ensures

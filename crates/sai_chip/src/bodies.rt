@@ -1,0 +1,350 @@
+// The bodies of the objects of a chip.
+ghost use Rattle.std.specs.Prelude.{◌≡◌, [], ◌++◌, true, false, take, length, Some, OnOk, OnErr, option_copied};
+ghost use Rattle.std.specs.BTreeMap.{insert_entry, is_at};
+ghost use Rattle.std.specs.List.{list_any};
+ghost use Rattle.std.specs.Map.{remove_entry};
+ghost use Rattle.std.specs.Option.{is_some};
+ghost use Rattle.sai_types.specs.After.{after_set, entry_of, has_id};
+ghost use Rattle.sai_types.specs.ChipState.{objects_of};
+ghost use Rattle.sai_types.specs.Forwarding.{best_route, has_own, mac_of};
+ghost use Rattle.sai_types.specs.Made.{AreSorted, HaveOneEach};
+ghost use Rattle.sai_types.specs.Named.{hop_on, named, those};
+ghost use Rattle.sai_types.specs.Objects.{body_at, entry_cmp};
+ghost use Rattle.sai_types.specs.Refusal.{clash};
+ghost use Rattle.sai_types.specs.declared.hop.Hop.{Hop};
+ghost use Rattle.swss_types.specs.declared.address.Ip.{Ip};
+ghost use Rattle.sai_chip.specs.Bodies.{best_of, ids_set, keyed_at, macs_set, numbered, owned, reached, routed, target_of, targets_set, value_set};
+ghost use Rattle.sai_chip.specs.Naming.{AreBodies};
+
+use crate::effect::set_attr;
+use sai_types::{Attr, Body, Entry, Object, Rid, To, empty_is_whole, entries_stay_sorted};
+use std::alloc::Global;
+use std::collections::{BTreeMap, BTreeSet};
+use std::marker::Model;
+use swss_types::{Ip, Mac, OutOfMemory, Prefix};
+
+/// Bodies by their identifiers.
+pub type Numbered = BTreeMap<Rid, Body<Rid>>;
+
+/// The Ethernet addresses of neighbours, by their interfaces and addresses.
+pub type Neighbors = BTreeMap<(Rid, Ip), Mac>;
+
+/// Where routes point, by their prefixes.
+pub type Routes = BTreeMap<Prefix, To<Rid>>;
+
+/// The bodies of objects: those with identifiers, and those that are found by their own keys.
+#[derive(Drop)]
+pub struct Bodies {
+    numbered: Numbered,
+    own: BTreeSet<Ip>,
+    neighbors: Neighbors,
+    routes: Routes,
+}
+
+impl Model for Bodies {
+    ghost use Rattle.sai_types.specs.Objects.{Objects};
+
+    ghost Value = { Objects };
+
+    ghost use Rattle.sai_chip.specs.Bodies.{IsHeld, objects_in};
+
+    ghost view = { λ b. objects_in b.numbered.entries b.own.keys b.neighbors.entries b.routes.entries };
+
+    ghost invariant = { λ b. IsHeld b.numbered.entries b.own.keys b.neighbors.entries b.routes.entries };
+}
+
+impl Bodies {
+    /// No object.
+    pub fn new(alloc: Global) -> Bodies
+        ensures { result ≡ [] }
+    {
+        empty_is_whole();
+        Bodies {
+            numbered: BTreeMap::new(alloc),
+            own: BTreeSet::new(alloc),
+            neighbors: BTreeMap::new(alloc),
+            routes: BTreeMap::new(alloc),
+        }
+    }
+
+    /// The entries rise. A law: it does nothing.
+    pub fn entries_rise(&self)
+        ensures { AreSorted self.now }
+    {
+        let _numbered = &self.numbered;
+    }
+
+    /// The bodies that have identifiers.
+    pub fn numbered(&self) -> &Numbered
+        ensures { AreBodies self.now (numbered result.now.entries) }
+    {
+        &self.numbered
+    }
+
+    /// The body of the object with this identifier.
+    pub fn get(&self, id: Rid) -> Option<&Body<Rid>>
+        ensures { option_copied result ≡ body_at self.now (Entry.Oid id) }
+    {
+        self.numbered.get(&id)
+    }
+
+    /// The body of the object with this key: None for an identifier.
+    pub fn keyed(&self, entry: &Entry<Rid>) -> Option<Body<Rid>>
+        ensures { result ≡ keyed_at self.now entry.now }
+    {
+        match *entry {
+            Entry::Oid(_) => None,
+            Entry::Own(ip) => self.own(ip),
+            Entry::Neigh(rif, ip) => self.neighbor(rif, ip),
+            Entry::Route(prefix) => self.route(prefix),
+        }
+    }
+
+    /// Where the route with this entry points: None where there is no such route.
+    pub fn target(&self, entry: &Entry<Rid>) -> Option<To<Rid>>
+        ensures { result ≡ target_of (body_at self.now entry.now) }
+    {
+        match entry {
+            Entry::Route(prefix) => self.routes.get(prefix).copied(),
+            _ => None,
+        }
+    }
+
+    /// The own address as a body, where it stands.
+    fn own(&self, ip: Ip) -> Option<Body<Rid>>
+        ensures { result ≡ body_at self.now (Entry.Own ip) }
+    {
+        if self.own.contains(&ip) {
+            Some(Body::OwnAddress { ip })
+        } else {
+            None
+        }
+    }
+
+    /// The neighbour as a body, where it stands.
+    fn neighbor(&self, rif: Rid, ip: Ip) -> Option<Body<Rid>>
+        ensures { result ≡ body_at self.now (Entry.Neigh rif ip) }
+    {
+        match self.neighbors.get(&(rif, ip)) {
+            Some(mac) => Some(Body::Neighbor { rif, ip, mac: *mac }),
+            None => None,
+        }
+    }
+
+    /// The route as a body, where it stands.
+    fn route(&self, prefix: Prefix) -> Option<Body<Rid>>
+        ensures { result ≡ body_at self.now (Entry.Route prefix) }
+    {
+        match self.routes.get(&prefix) {
+            Some(to) => Some(Body::Route { prefix, to: *to }),
+            None => None,
+        }
+    }
+
+    /// Whether an object with the natural key of this body stands, which has no identifier.
+    pub fn takes(&self, body: &Body<Rid>) -> bool
+        requires { has_id body.now ≡ false }
+        ensures { result ≡ list_any (λ o. clash body.now o.1) self.now }
+    {
+        match body {
+            Body::OwnAddress { ip } => self.own.contains(ip),
+            Body::Neighbor { rif, ip, .. } => self.neighbors.contains_key(&(*rif, *ip)),
+            Body::Route { prefix, .. } => self.routes.contains_key(prefix),
+            _ => false,
+        }
+    }
+
+    /// Whether the address is one of the switch's own.
+    pub fn is_own(&self, ip: Ip) -> bool
+        ensures { result ≡ has_own (those (named self.now)) ip }
+    {
+        self.own.contains(&ip)
+    }
+
+    /// The Ethernet address of a neighbour that stands.
+    pub fn mac(&self, rif: Rid, ip: Ip) -> Option<Mac>
+        requires one { HaveOneEach self.now }
+        requires stands { is_some (body_at self.now (Entry.Neigh rif ip)) ≡ true }
+        ensures { (hop : Hop) → hop_on self.now rif ip ≡ Some hop → result ≡ mac_of (those (named self.now)) hop }
+    {
+        self.neighbors.get(&(rif, ip)).copied()
+    }
+
+    /// The routes by their prefixes. No other object decides where an address goes that is not the switch's own.
+    pub fn routes(&self) -> &Routes
+        ensures { (ip : Ip) → best_route (those (named self.now)) ip ≡ best_of self.now result.now.entries ip }
+    {
+        &self.routes
+    }
+
+    /// Puts an object in place of the one with the same entry, if there is one. The identifier is taken where the body
+    /// has one.
+    pub fn put(&mut self, id: Rid, body: Body<Rid>) -> Result<(), OutOfMemory>
+        ensures ok { OnOk result (self.new ≡ insert_entry entry_cmp self.old (entry_of id.0 body) body) }
+        ensures err { OnErr result (self.new ≡ self.old) }
+    {
+        entries_stay_sorted();
+        match body {
+            Body::OwnAddress { ip } => {
+                self.own.insert(ip)?;
+            }
+            Body::Neighbor { rif, ip, mac } => insert(&mut self.neighbors, (rif, ip), mac)?,
+            Body::Route { prefix, to } => insert(&mut self.routes, prefix, to)?,
+            body => insert(&mut self.numbered, id, body)?,
+        }
+        Ok(())
+    }
+
+    /// Sets an attribute of an object, if there is one with the entry that has the attribute.
+    pub fn set(&mut self, entry: &Entry<Rid>, attr: &Attr<Rid>)
+        ensures { self.new ≡ after_set self.old entry.now attr.now (body_at self.old entry.now) }
+    {
+        entries_stay_sorted();
+        match *entry {
+            Entry::Oid(id) => set_numbered(&mut self.numbered, id, attr),
+            Entry::Own(_) => {}
+            Entry::Neigh(rif, ip) => set_mac(&mut self.neighbors, (rif, ip), attr),
+            Entry::Route(prefix) => set_target(&mut self.routes, prefix, attr),
+        }
+    }
+
+    /// Removes the object with this entry, if there is one.
+    pub fn remove(&mut self, entry: &Entry<Rid>)
+        ensures { self.new ≡ remove_entry (is_at (entry_cmp entry.now)) self.old }
+    {
+        entries_stay_sorted();
+        match *entry {
+            Entry::Oid(id) => remove(&mut self.numbered, id),
+            Entry::Own(ip) => {
+                self.own.remove(&ip);
+            }
+            Entry::Neigh(rif, ip) => remove(&mut self.neighbors, (rif, ip)),
+            Entry::Route(prefix) => remove(&mut self.routes, prefix),
+        }
+    }
+
+    /// Appends each object once, in the order of their entries. An Err may leave some of them.
+    pub fn list(&self, out: &mut Vec<Object<Rid>>) -> Result<(), OutOfMemory>
+        ensures ok { OnOk result (out.new.items ≡ out.old.items ++ objects_of self.now) }
+        ensures err { OnErr result (take (length out.old.items) out.new.items ≡ out.old.items) }
+    {
+        push_numbered(&self.numbered, out)?;
+        push_own(&self.own, out)?;
+        push_neighbors(&self.neighbors, out)?;
+        push_routes(&self.routes, out)
+    }
+}
+
+/// Puts a value in place of the one with the same key, if there is one.
+fn insert<K: Ord + Drop, V: Drop>(
+    map: &mut BTreeMap<K, V>,
+    key: K,
+    value: V,
+) -> Result<(), OutOfMemory>
+    ensures ok { OnOk result (map.new.entries ≡ insert_entry K.cmp map.old.entries key value) }
+    ensures err { OnErr result (map.new.entries ≡ map.old.entries) }
+{
+    map.insert(key, value)?;
+    Ok(())
+}
+
+/// Removes the value of a key, if it is there.
+fn remove<K: Ord + Drop, V: Drop>(map: &mut BTreeMap<K, V>, key: K)
+    ensures { map.new.entries ≡ remove_entry (is_at (K.cmp key)) map.old.entries }
+{
+    map.remove(&key);
+}
+
+/// Sets an attribute of the body with this identifier, if there is one that has the attribute.
+fn set_numbered(numbered: &mut Numbered, id: Rid, attr: &Attr<Rid>)
+    ensures { numbered.new.entries ≡ ids_set numbered.old.entries id attr.now }
+{
+    if let Some(body) = numbered.get_mut(&id) {
+        set_attr(body, attr);
+    }
+}
+
+/// Sets the Ethernet address of a neighbour, if it is there.
+fn set_mac(neighbors: &mut Neighbors, key: (Rid, Ip), attr: &Attr<Rid>)
+    ensures { neighbors.new.entries ≡ macs_set neighbors.old.entries key attr.now }
+{
+    if let Attr::Mac(mac) = attr {
+        set_value(neighbors, key, *mac);
+    }
+}
+
+/// Sets the target of a route, if it is there.
+fn set_target(routes: &mut Routes, prefix: Prefix, attr: &Attr<Rid>)
+    ensures { routes.new.entries ≡ targets_set routes.old.entries prefix attr.now }
+{
+    if let Attr::To(to) = attr {
+        set_value(routes, prefix, *to);
+    }
+}
+
+/// Sets the value of a key, if it is there.
+fn set_value<K: Ord + Copy, V: Copy>(map: &mut BTreeMap<K, V>, key: K, value: V)
+    ensures { map.new.entries ≡ value_set (is_at (K.cmp key)) map.old.entries value }
+{
+    if let Some(old) = map.get_mut(&key) {
+        *old = value;
+    }
+}
+
+/// Appends each object that has an identifier.
+fn push_numbered(bodies: &Numbered, out: &mut Vec<Object<Rid>>) -> Result<(), OutOfMemory>
+    ensures ok { OnOk result (out.new.items ≡ out.old.items ++ objects_of (numbered bodies.now.entries)) }
+    ensures err { OnErr result (take (length out.old.items) out.new.items ≡ out.old.items) }
+{
+    for (id, body) in bodies {
+        out.push(Object {
+            entry: Entry::Oid(*id),
+            body: body.copy()?,
+        })?;
+    }
+    Ok(())
+}
+
+/// Appends each own address.
+fn push_own(own: &BTreeSet<Ip>, out: &mut Vec<Object<Rid>>) -> Result<(), OutOfMemory>
+    ensures ok { OnOk result (out.new.items ≡ out.old.items ++ objects_of (owned own.now.keys)) }
+    ensures err { OnErr result (take (length out.old.items) out.new.items ≡ out.old.items) }
+{
+    for ip in own {
+        out.push(Object {
+            entry: Entry::Own(*ip),
+            body: Body::OwnAddress { ip: *ip },
+        })?;
+    }
+    Ok(())
+}
+
+/// Appends each neighbour.
+fn push_neighbors(neighbors: &Neighbors, out: &mut Vec<Object<Rid>>) -> Result<(), OutOfMemory>
+    ensures ok { OnOk result (out.new.items ≡ out.old.items ++ objects_of (reached neighbors.now.entries)) }
+    ensures err { OnErr result (take (length out.old.items) out.new.items ≡ out.old.items) }
+{
+    for ((rif, ip), mac) in neighbors {
+        let (rif, ip, mac) = (*rif, *ip, *mac);
+        out.push(Object {
+            entry: Entry::Neigh(rif, ip),
+            body: Body::Neighbor { rif, ip, mac },
+        })?;
+    }
+    Ok(())
+}
+
+/// Appends each route.
+fn push_routes(routes: &Routes, out: &mut Vec<Object<Rid>>) -> Result<(), OutOfMemory>
+    ensures ok { OnOk result (out.new.items ≡ out.old.items ++ objects_of (routed routes.now.entries)) }
+    ensures err { OnErr result (take (length out.old.items) out.new.items ≡ out.old.items) }
+{
+    for (prefix, to) in routes {
+        let (prefix, to) = (*prefix, *to);
+        out.push(Object {
+            entry: Entry::Route(prefix),
+            body: Body::Route { prefix, to },
+        })?;
+    }
+    Ok(())
+}

@@ -1,0 +1,202 @@
+// How often each mark stands.
+ghost use Rattle.std.specs.Prelude.{◌≡◌, ◌+◌, ◌-◌, nat_lt, IfOk, OnOk, OnErr, if◌then◌else◌};
+ghost use Rattle.std.specs.List.{list_any};
+ghost use Rattle.sai_types.specs.declared.ids.Rid.{Rid};
+ghost use Rattle.sai_types.specs.Refusal.{same_id};
+ghost use Rattle.sai_chip.specs.Marks.{target_marks};
+ghost use Rattle.sai_chip.specs.Tally.{count_at, count_in, empty_tally, is_mark, claims, pair_cmp};
+ghost use Rattle.sai_chip.specs.declared.mark.Mark.{Mark};
+
+use crate::mark::Mark;
+use crate::tally::{count, lower, raise};
+use sai_types::{Kind, Rid, RifOn, To};
+use std::alloc::Global;
+use std::collections::BTreeMap;
+use std::marker::Model;
+use swss_types::{Ip, OutOfMemory};
+
+/// A count for each mark, by what it marks; 0 for those that are not there.
+#[derive(Drop)]
+pub struct Counts {
+    kinds: BTreeMap<Kind, u64>,
+    references: BTreeMap<Rid, u64>,
+    lanes: BTreeMap<u16, u64>,
+    vlans: BTreeMap<u16, u64>,
+    bridge_ports: BTreeMap<Rid, u64>,
+    vlan_members: BTreeMap<(Rid, Rid), u64>,
+    rifs: BTreeMap<RifOn<Rid>, u64>,
+    next_hops: BTreeMap<(Rid, Ip), u64>,
+    group_members: BTreeMap<(Rid, Rid), u64>,
+}
+
+impl Model for Counts {
+    ghost use Rattle.sai_chip.specs.Tally.{Tally};
+
+    ghost Value = { Tally };
+
+    ghost view = { λ c. record {
+      kinds = c.kinds.entries;
+      references = c.references.entries;
+      lanes = c.lanes.entries;
+      vlans = c.vlans.entries;
+      bridge_ports = c.bridge_ports.entries;
+      vlan_members = c.vlan_members.entries;
+      rifs = c.rifs.entries;
+      next_hops = c.next_hops.entries;
+      group_members = c.group_members.entries;
+    } };
+}
+
+impl Counts {
+    /// Each count is 0.
+    pub fn new(alloc: Global) -> Counts
+        ensures { result ≡ empty_tally }
+    {
+        Counts {
+            kinds: BTreeMap::new(alloc),
+            references: BTreeMap::new(alloc),
+            lanes: BTreeMap::new(alloc),
+            vlans: BTreeMap::new(alloc),
+            bridge_ports: BTreeMap::new(alloc),
+            vlan_members: BTreeMap::new(alloc),
+            rifs: BTreeMap::new(alloc),
+            next_hops: BTreeMap::new(alloc),
+            group_members: BTreeMap::new(alloc),
+        }
+    }
+
+    /// How often the mark stands.
+    pub fn count(&self, mark: &Mark) -> u64
+        ensures { result ≡ count_at self.now mark.now }
+    {
+        match mark {
+            Mark::Of(kind) => count(&self.kinds, kind),
+            Mark::RefersTo(id) => count(&self.references, id),
+            Mark::Lane(lane) => count(&self.lanes, lane),
+            Mark::Vlan(vlan) => count(&self.vlans, vlan),
+            Mark::BridgePort(port) => count(&self.bridge_ports, port),
+            Mark::VlanMember(vlan, port) => count(&self.vlan_members, &(*vlan, *port)),
+            Mark::Rif(on) => count(&self.rifs, on),
+            Mark::NextHop(rif, ip) => count(&self.next_hops, &(*rif, *ip)),
+            Mark::GroupMember(group, next_hop) => {
+                count(&self.group_members, &(*group, *next_hop))
+            }
+        }
+    }
+
+    /// Counts a mark once more. Want of memory comes too where the count has no next number.
+    fn raise(&mut self, mark: Mark) -> Result<(), OutOfMemory>
+        ensures ok { OnOk result ((m : Mark) → count_at self.new m ≡ count_at self.old m + (if is_mark mark m then 1 else 0)) }
+        ensures err { OnErr result (self.new ≡ self.old) }
+    {
+        match mark {
+            Mark::Of(kind) => raise(&mut self.kinds, kind),
+            Mark::RefersTo(id) => raise(&mut self.references, id),
+            Mark::Lane(lane) => raise(&mut self.lanes, lane),
+            Mark::Vlan(vlan) => raise(&mut self.vlans, vlan),
+            Mark::BridgePort(port) => raise(&mut self.bridge_ports, port),
+            Mark::VlanMember(vlan, port) => raise(&mut self.vlan_members, (vlan, port)),
+            Mark::Rif(on) => raise(&mut self.rifs, on),
+            Mark::NextHop(rif, ip) => raise(&mut self.next_hops, (rif, ip)),
+            Mark::GroupMember(group, next_hop) => {
+                raise(&mut self.group_members, (group, next_hop))
+            }
+        }
+    }
+
+    /// Counts a mark once less, where it stands.
+    fn lower(&mut self, mark: Mark)
+        ensures { (m : Mark) → count_at self.new m ≡ count_at self.old m - (if is_mark mark m then 1 else 0) }
+    {
+        match mark {
+            Mark::Of(kind) => lower(&mut self.kinds, kind),
+            Mark::RefersTo(id) => lower(&mut self.references, id),
+            Mark::Lane(lane) => lower(&mut self.lanes, lane),
+            Mark::Vlan(vlan) => lower(&mut self.vlans, vlan),
+            Mark::BridgePort(port) => lower(&mut self.bridge_ports, port),
+            Mark::VlanMember(vlan, port) => lower(&mut self.vlan_members, (vlan, port)),
+            Mark::Rif(on) => lower(&mut self.rifs, on),
+            Mark::NextHop(rif, ip) => lower(&mut self.next_hops, (rif, ip)),
+            Mark::GroupMember(group, next_hop) => {
+                lower(&mut self.group_members, (group, next_hop));
+            }
+        }
+    }
+
+    /// Counts a route's target as referred to once more.
+    pub fn refer(&mut self, to: To<Rid>) -> Result<(), OutOfMemory>
+        ensures ok { OnOk result ((m : Mark) → count_at self.new m ≡ count_at self.old m + claims m (target_marks to)) }
+        ensures err { OnErr result (self.new ≡ self.old) }
+    {
+        match to {
+            To::Drop => Ok(()),
+            To::Rif(id) | To::NextHop(id) | To::Group(id) => self.raise(Mark::RefersTo(id)),
+        }
+    }
+
+    /// Counts a route's target as referred to once less.
+    pub fn release(&mut self, to: To<Rid>)
+        ensures { (m : Mark) → count_at self.new m ≡ count_at self.old m - claims m (target_marks to) }
+    {
+        match to {
+            To::Drop => {}
+            To::Rif(id) | To::NextHop(id) | To::Group(id) => self.lower(Mark::RefersTo(id)),
+        }
+    }
+
+    /// Counts each of the marks once more. Want of memory comes too where a count has no next number; the counts are
+    /// then what they were.
+    pub fn add(&mut self, marks: &[Mark]) -> Result<(), OutOfMemory>
+        ensures ok { OnOk result ((m : Mark) → count_at self.new m ≡ count_at self.old m + claims m marks.now) }
+        ensures err { OnErr result ((m : Mark) → count_at self.new m ≡ count_at self.old m) }
+    {
+        match marks {
+            [] => Ok(()),
+            [first, others @ ..] => {
+                self.raise(*first)?;
+                if let Err(error) = self.add(others) {
+                    self.lower(*first);
+                    return Err(error);
+                }
+                Ok(())
+            }
+        }
+    }
+
+    /// Counts each of the marks once less, where it stands.
+    pub fn take_away(&mut self, marks: &[Mark])
+        ensures { (m : Mark) → count_at self.new m ≡ count_at self.old m - claims m marks.now }
+    {
+        for mark in marks {
+            self.lower(*mark);
+        }
+    }
+
+    /// The next hops that are members of the group, each once.
+    pub fn members(&self, alloc: Global, group: Rid) -> Result<Vec<Rid>, OutOfMemory>
+        ensures { IfOk result (λ members. (n : Rid) → list_any (same_id n) members.items ≡ nat_lt 0 (count_at self.now (Mark.GroupMember group n))) }
+    {
+        members_of(alloc, &self.group_members, group)
+    }
+}
+
+/// The next hops whose counts as members of the group are not 0. Members of a group stand together, since they are in
+/// order.
+fn members_of(
+    alloc: Global,
+    counts: &BTreeMap<(Rid, Rid), u64>,
+    group: Rid,
+) -> Result<Vec<Rid>, OutOfMemory>
+    ensures { IfOk result (λ members. (n : Rid) → list_any (same_id n) members.items ≡ nat_lt 0 (count_in pair_cmp counts.now.entries (group, n))) }
+{
+    let mut members = Vec::new(alloc);
+    for ((of, next_hop), count) in counts.range((group, Rid(0))..) {
+        if *of != group {
+            break;
+        }
+        if 0 < *count {
+            members.push(*next_hop)?;
+        }
+    }
+    Ok(members)
+}
