@@ -1,8 +1,10 @@
 -- bytes that are given or taken in pieces
-use Rattle.std.proofs.Common.{◌≡◌, ℕ, ◌+◌, ◌≤◌, ◌-◌, List, [], ◌++◌, length, take, drop, Option, Some, None, refl, sym, ap, ◌∙◌, inl, inr, ⊎_elim, append_assoc, length-drop, arith}
+use Rattle.std.proofs.Common.{◌≡◌, ℕ, ◌+◌, ◌≤◌, ◌-◌, List, [], ◌++◌, length, take, drop, min, Option, Some, None, refl, sym, ap, ◌∙◌, inl, inr, ⊎_elim, append_assoc, length-drop, arith}
+use Rattle.std.proofs.Math.Nat.{min-le_left}
 use Rattle.std.proofs.Math.Seq.{take-add}
-use Rattle.std.proofs.lemmas.List.{take_rest}
+use Rattle.std.proofs.lemmas.List.{length-append, length-take, length-take-le, take_rest}
 use Rattle.swss_types.specs.Outside.{Gives, Takes, HasRisen}
+use Rattle.swss_run.specs.Input.{GaveFew}
 
 -- one piece behind another
 pub Gives-trans : (a b c : Option (List ℕ)) (x y : List ℕ) → Gives a x b → Gives b y c → Gives a (x ++ y) c
@@ -16,6 +18,14 @@ Gives-trans (Some all) (Some left) c x y (rest, is, was) (rest', is', was') =
 pub Gives-none : (a : Option (List ℕ)) → Gives a [] a
 Gives-none None = refl
 Gives-none (Some all) = (all, refl, refl)
+
+-- a piece that was given into a buffer, behind what was given before: no more than the buffer had room for
+pub few-after : (a b c : Option (List ℕ)) (x into buffer : List ℕ) (n room : ℕ) → Gives a x b → Gives b (take n into) c → n ≤ length into → length into ≡ length (take room buffer) → room ≡ min (67108865 - length x) 4096 → length x ≤ 67108865 → GaveFew a c
+few-after a b c x into buffer n room g h le is wide few = record {
+  bytes = x ++ take n into;
+  gives = Gives-trans a b c x (take n into) g h;
+  few = omega (arith, length-append x (take n into), length-take-le n into le, le, is, length-take room buffer, min-le_left room (length buffer), wide, min-le_left (67108865 - length x) 4096, few);
+}
 
 pub Takes-trans : (a b c : Option (List ℕ)) (x y : List ℕ) → Takes a x b → Takes b y c → Takes a (x ++ y) c
 Takes-trans None None c x y g h = h
