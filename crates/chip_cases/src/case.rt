@@ -70,6 +70,9 @@ impl Case {
                 return Some((line, other));
             }
         }
-        wanted.next().map(|other| (b"".as_slice(), other))
+        match wanted.next() {
+            Some(other) => Some((b"", other)),
+            None => None,
+        }
     }
 }
