@@ -37,7 +37,7 @@ use Rattle.orch_core.specs.Standing.{rows_applied}
 use Rattle.orch_core.specs.State.{State, core_of, counted_size}
 use Rattle.orch_core.specs.Tried.{IsStanding}
 use Rattle.orch_core.specs.Turn.{BringsNew, EndsFaulted, IsBehind, IsRest, IsTurned, IsUnder, OnlyLeave, WaitTruly, waiting_keys}
-use Rattle.orch_core.specs.Turns.{IsTurn, TakeTurns}
+use Rattle.switch_model.specs.Turns.{IsTurn, TakeTurns}
 use Rattle.orch_core.specs.declared.turn.Turned.TheVariants as turned
 use Rattle.orch_core.proofs.Alike.{alike-stands}
 use Rattle.orch_core.proofs.Due.{places-of}

@@ -18,7 +18,7 @@ use Rattle.orch_core.specs.Due.{OwesCall, HadPlaces}
 use Rattle.orch_core.specs.Keeps.{IsKept}
 use Rattle.orch_core.specs.Standing.{Entries, rows_applied}
 use Rattle.orch_core.specs.State.{State, counted_size}
-use Rattle.orch_core.specs.Turns.{TakeTurns}
+use Rattle.switch_model.specs.Turns.{TakeTurns}
 use Rattle.orch_core.specs.Turn.{BringsNew, EndsFaulted, IsRest, IsUnder, OnlyLeave, WaitTruly}
 use Rattle.orch_core.specs.declared.answer.Settled.{Settled}
 use Rattle.orch_core.specs.declared.answer.Settled.TheVariants as settled

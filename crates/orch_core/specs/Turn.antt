@@ -17,7 +17,7 @@ use Rattle.orch_core.specs.Standing.{rows_applied}
 use Rattle.orch_core.specs.State.{State, counted_size}
 use Rattle.orch_core.specs.Step.{IsWaitOf}
 use Rattle.orch_core.specs.Tried.{IsStanding}
-use Rattle.orch_core.specs.Turns.{IsTurn}
+use Rattle.switch_model.specs.Turns.{IsTurn}
 use Rattle.orch_core.specs.declared.turn.Turned.{Turned}
 use Rattle.orch_core.specs.declared.turn.Turned.TheVariants as turned
 

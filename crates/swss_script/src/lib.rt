@@ -14,8 +14,6 @@ mod lists;
 mod parts;
 mod refused;
 mod script;
-#[cfg(test)]
-mod tests;
 mod words;
 
 pub use draft::DEFAULT_CAPS;

@@ -11,8 +11,6 @@ mod key;
 mod key_text;
 mod laws;
 mod many;
-#[cfg(test)]
-mod memory_tests;
 mod naming;
 mod plan;
 mod route_rules;

@@ -1,5 +1,5 @@
 // That bodies are made where there is memory, which no clause says.
-use crate::body_of;
+use chip_layout::body_of;
 use sai_types::{Base, Body, Hop, PortThing, Rid, Thing};
 use std::alloc::Global;
 use std::test::Fail as Failure;

@@ -2,7 +2,7 @@
 ghost use Rattle.std.specs.Prelude.{◌≡◌, ℕ, ◌+◌, ◌<◌, ◌≤◌, length, slice_index_or};
 ghost use Rattle.intake_queue.specs.Values.{Sender, AreAll, AreNew};
 
-use crate::{Full, Intake, Made, Pass, Taker, close};
+use intake_queue::{Full, Intake, Made, Pass, Taker, close};
 use std::alloc::Global;
 use std::process::Abort;
 use std::sync::Wait;

@@ -1,10 +1,12 @@
 // What fields are where memory is refused, and what rows read as. `rt try --test --fail-alloc N` refuses the Nth allocation
 // of the tests: a call that is refused memory says so and leaves what it was to change, and the next call answers as ever.
 // Without the flag no allocation is refused, and the tests go over small and large rows.
-use crate::{Fields, Key, PortPlan, Row, Sent, Write, has_colon, names, read_key, read_row};
 use std::alloc::Global;
 use std::process::Abort;
 use swss_types::{OutOfMemory, Text};
+use table_schema::{
+    Fields, Key, PortPlan, Row, Sent, Write, has_colon, names, read_key, read_row,
+};
 
 /// The most fields of a row in these tests.
 const MOST: usize = 90;

@@ -1,7 +1,7 @@
 // What rows are where memory is refused. `rt try --test --fail-alloc N` refuses the Nth allocation of the tests: a write that
 // is refused memory says so and leaves the rows, and the next try applies it. Without the flag no allocation is refused, and
 // the test goes over small and large rows.
-use crate::Rows;
+use row_store::Rows;
 use std::alloc::Global;
 use std::process::Abort;
 use swss_types::{OutOfMemory, Text};
