@@ -4,9 +4,7 @@
 use std::alloc::Global;
 use std::process::Abort;
 use swss_types::{OutOfMemory, Text};
-use table_schema::{
-    Fields, Key, PortPlan, Row, Sent, Write, has_colon, names, read_key, read_row,
-};
+use table_schema::{Fields, Key, PortPlan, Row, Sent, Write, has_colon, names, read_key, read_row};
 
 /// The most fields of a row in these tests.
 const MOST: usize = 90;
