@@ -21,7 +21,7 @@ use Rattle.row_layout.specs.Shared.{uses}
 set_none : (t : Thing) (rest : List Change) → set_to t t rest ≡ rest
 set_none t rest = ap (λ b. if b then rest else Set t ∷ rest) (equal_thing.laws-law.refl t)
 
-set_same : (ts : List Thing) → set_all ts ts ≡ []
+pub set_same : (ts : List Thing) → set_all ts ts ≡ []
 set_same [] = refl
 set_same (t ∷ ts) = set_none t (set_all ts ts) ∙ set_same ts
 

@@ -1,0 +1,8 @@
+use Rattle.switch_machine.proofs.Reasoned.{route-row, route-whole}
+use Rattle.switch_machine.proofs.laws.routes_are_whole.Goals as goal
+
+pub returns-clause-rows : goal.returns-clause-rows
+returns-clause-rows c = λ plan workers capacities s prefix g is kept h. route-row plan is workers capacities s kept prefix g h
+
+pub returns-clause-members : goal.returns-clause-members
+returns-clause-members c = λ plan workers capacities s prefix hops hop is kept h in_it. route-whole plan is workers capacities s kept prefix hops hop h in_it

@@ -1,0 +1,66 @@
+// What holds of every run of the machine. Each function is a law: it does nothing, and its contract is proved.
+ghost use Rattle.std.specs.Prelude.{◌≡◌, ℕ, ◌<◌, List, ◌∷◌, Option, Some};
+ghost use Rattle.swss_types.specs.declared.address.Prefix.{Prefix};
+ghost use Rattle.table_schema.specs.Plan.{Ports, IsPlan};
+ghost use Rattle.table_schema.specs.declared.key.Key.{Key};
+ghost use Rattle.table_schema.specs.declared.key.Key.TheVariants as key;
+ghost use Rattle.table_schema.specs.declared.row.Row.{Row};
+ghost use Rattle.sai_types.specs.declared.ids.Rid.{Rid};
+ghost use Rattle.sai_types.specs.declared.body.Call.{Call};
+ghost use Rattle.sai_types.specs.declared.hop.Hop.{Hop};
+ghost use Rattle.sai_types.specs.declared.thing.Goal.{Goal};
+ghost use Rattle.sai_types.specs.declared.thing.Goal.TheVariants as goal;
+ghost use Rattle.sai_types.specs.declared.thing.Thing.TheVariants as thing;
+ghost use Rattle.sai_types.specs.Alike.{IsAlike, IsIn};
+ghost use Rattle.sai_types.specs.Made.{AreLegal};
+ghost use Rattle.sai_types.specs.Refusal.{IsLegal};
+ghost use Rattle.switch_model.specs.declared.wait.Wait.{Wait};
+ghost use Rattle.switch_model.specs.Desired.{IsClosed, IsThingOf};
+ghost use Rattle.switch_model.specs.Marks.{IsTrueReason, NamesFirstKind};
+ghost use Rattle.row_layout.specs.Operations.{Change};
+ghost use Rattle.row_layout.specs.Rows.{own_things};
+ghost use Rattle.switch_machine.specs.Events.{AreAnswers, AreEvents, IsBegin, IsDueCall, IsQuiet, IsSafe, SwitchState, after_answers, after_events, calls_of, empty_switch};
+ghost use Rattle.switch_machine.specs.Flights.{Flight, IsRow, StandsIn};
+ghost use Rattle.switch_machine.specs.Reasons.{IsReason};
+ghost use Rattle.switch_machine.specs.Steps.{with_row};
+ghost use Rattle.switch_machine.specs.Written.{good_of};
+
+/// The empty switch is safe, and each event of any worker keeps it so.
+pub fn runs_are_safe()
+    ensures begins { (plan : Ports) (workers : ℕ) (capacities : List ℕ) → IsPlan plan → IsSafe plan workers capacities empty_switch }
+    ensures kept { (plan : Ports) (workers : ℕ) (capacities : List ℕ) (s : SwitchState) (es : List (Option (Call Rid) × SwitchState)) → IsPlan plan → IsSafe plan workers capacities s → AreEvents plan workers capacities s es → IsSafe plan workers capacities (after_events s es) }
+{}
+
+/// Each call of a run is legal when it is made; so is the one that is due for any worker, and there is one where a change is
+/// due.
+pub fn calls_are_legal()
+    ensures legal { (plan : Ports) (workers : ℕ) (capacities : List ℕ) (s : SwitchState) (es : List (Option (Call Rid) × SwitchState)) → IsPlan plan → IsSafe plan workers capacities s → AreEvents plan workers capacities s es → AreLegal capacities s.made s.objects (calls_of es) }
+    ensures due { (plan : Ports) (workers : ℕ) (capacities : List ℕ) (s : SwitchState) (call : Call Rid) → IsPlan plan → IsSafe plan workers capacities s → IsDueCall workers call s → IsLegal capacities s.objects call }
+    ensures there { (plan : Ports) (workers : ℕ) (capacities : List ℕ) (s : SwitchState) (w : ℕ) (f : Flight) (c : Change) (cs : List Change) → IsPlan plan → IsSafe plan workers capacities s → w < workers → s.machine.board.flights w ≡ Some f → s.machine.due w ≡ c ∷ cs → (call : Call Rid) × IsDueCall workers call s }
+{}
+
+/// While no operation is under way the chip is alike to the things of the applied rows, and each key that is not to sync has
+/// its good row. The applied rows name only applied rows, always.
+pub fn rest_is_alike()
+    ensures alike { (plan : Ports) (workers : ℕ) (capacities : List ℕ) (s : SwitchState) → IsPlan plan → IsSafe plan workers capacities s → IsQuiet s → IsAlike s.objects (IsThingOf plan s.machine.board.applied) }
+    ensures good { (plan : Ports) (workers : ℕ) (capacities : List ℕ) (s : SwitchState) (k : Key) → IsPlan plan → IsSafe plan workers capacities s → IsQuiet s → (IsIn k s.to_sync → ⊥) → s.machine.board.applied k ≡ good_of plan s.written k }
+    ensures closed { (plan : Ports) (workers : ℕ) (capacities : List ℕ) (s : SwitchState) → IsPlan plan → IsSafe plan workers capacities s → IsClosed s.machine.board.applied }
+{}
+
+/// A route that stands is that of a row of its prefix, applied or to be applied, and the group that it points at has a member
+/// for each of its hops.
+pub fn routes_are_whole()
+    ensures rows { (plan : Ports) (workers : ℕ) (capacities : List ℕ) (s : SwitchState) (prefix : Prefix) (g : Goal) → IsPlan plan → IsSafe plan workers capacities s → StandsIn s.machine (thing.Route prefix g) → (r : Row) × IsRow s.machine.board (key.Route prefix) r × IsIn (thing.Route prefix g) (own_things plan (key.Route prefix) r) }
+    ensures members { (plan : Ports) (workers : ℕ) (capacities : List ℕ) (s : SwitchState) (prefix : Prefix) (hops : List Hop) (hop : Hop) → IsPlan plan → IsSafe plan workers capacities s → StandsIn s.machine (thing.Route prefix (goal.Group hops)) → IsIn hop hops → StandsIn s.machine (thing.GroupMember hops hop) }
+{}
+
+/// While no operation is under way a reason for which a key waits is true, and a kind that lacks room is the first such kind.
+pub fn reasons_are_true()
+    ensures is_true { (plan : Ports) (workers : ℕ) (capacities : List ℕ) (s : SwitchState) (k : Key) (wait : Wait) → IsPlan plan → IsSafe plan workers capacities s → IsQuiet s → IsReason plan capacities s k wait → IsTrueReason plan capacities (good_of plan s.written) s.machine.board.applied k wait }
+    ensures is_first { (plan : Ports) (workers : ℕ) (capacities : List ℕ) (s : SwitchState) (k : Key) (wait : Wait) → IsPlan plan → IsSafe plan workers capacities s → IsQuiet s → IsReason plan capacities s k wait → NamesFirstKind plan capacities (good_of plan s.written) s.machine.board.applied k wait }
+{}
+
+/// An operation that runs alone from its beginning to its end brings its key's good row, and leaves every other row as it was.
+pub fn operation_alone()
+    ensures { (plan : Ports) (workers : ℕ) (capacities : List ℕ) (s t : SwitchState) (x : IsBegin plan workers capacities s t) (es : List (Call Rid × SwitchState)) → IsQuiet s → AreAnswers plan workers t es → IsQuiet (after_answers t es) → (q : Key) → (after_answers t es).machine.board.applied q ≡ with_row x.flight.key (good_of plan s.written x.flight.key) s.machine.board.applied q }
+{}
