@@ -1,5 +1,5 @@
 -- what holds between events is kept by each of them, and the call of each is legal
-use Rattle.std.proofs.Common.{◌≡◌, ◌⊎◌, ◌+◌, ◌<◌, ◌≤◌, ◌∷◌, ◌∙◌, inl, inr, ℕ, zero, suc, List, [], Option, None, Some, refl, sym, ap, subst, arith}
+use Rattle.std.proofs.Common.{◌≡◌, ◌⊎◌, ◌+◌, ◌<◌, ◌≤◌, ◌∷◌, ◌∙◌, inl, inr, ℕ, List, [], Option, None, Some, refl, sym, ap, subst, arith}
 use Rattle.table_schema.specs.Plan.{Ports, IsPlan}
 use Rattle.table_schema.specs.declared.key.Key.{Key}
 use Rattle.table_schema.specs.declared.row.Row.{Row}
@@ -8,34 +8,31 @@ use Rattle.sai_types.specs.declared.kind.Kind.{Kind}
 use Rattle.sai_types.specs.declared.body.Call.{Call}
 use Rattle.sai_types.specs.declared.thing.Thing.{Thing}
 use Rattle.sai_types.specs.After.{after_call}
-use Rattle.sai_types.specs.Alike.{IsAlike, IsIn}
-use Rattle.sai_types.specs.Made.{AreLegal, IsWhole, made_after}
+use Rattle.sai_types.specs.Alike.{IsIn}
+use Rattle.sai_types.specs.Made.{IsWhole, made_after}
 use Rattle.sai_types.specs.Objects.{Objects, used}
 use Rattle.sai_types.specs.Refusal.{IsLegal, capacity_of}
-use Rattle.sai_types.proofs.Whole.{whole-after_call, whole-empty}
-use Rattle.switch_model.specs.Desired.{IsThingOf}
-use Rattle.table_schema.specs.Rows.{fields_at, rows_of}
+use Rattle.sai_types.proofs.Whole.{whole-after_call}
 use Rattle.switch_model.specs.Good.{TypedRows, good_row}
-use Rattle.switch_machine.specs.Written.{ArePopped, HasWrittenRows, IsAsBefore, IsGoodOnce, IsPoppedKey, IsTold, Written, good_of}
+use Rattle.switch_machine.specs.Written.{ArePopped, HasWrittenRows, IsAsBefore, IsGoodOnce, IsPoppedKey, IsTold, good_of}
 use Rattle.switch_machine.proofs.Dated.{dated-popped, dated-taken, follows-row, good-once, good-taken, started-row}
 use Rattle.switch_machine.proofs.Telling.{told-popped, told-taken}
 use Rattle.chip_layout.specs.Layout.{IsLaidOut, listed}
-use Rattle.chip_layout.proofs.Shapes.{laid-none, laid-same}
+use Rattle.chip_layout.proofs.Shapes.{laid-same}
 use Rattle.row_layout.specs.Rows.{Owner}
 use Rattle.row_layout.specs.Operations.{Change, Make, Set, Take, shared_going, take_all}
 use Rattle.switch_machine.specs.Changes.{IsCall, after, changed_by}
-use Rattle.switch_machine.specs.Flights.{Board, Can, Flight, IsRow, IsUser, Machine, Runs, StandsIn}
+use Rattle.switch_machine.specs.Flights.{Board, Can, Flight, IsRow, Machine, Runs, StandsIn}
 use Rattle.switch_machine.specs.Steps.{Ends, LeavesOthers, Moves, left, moved, parted, started}
-use Rattle.switch_machine.specs.Places.{AreCovered, HasPlaces, makes, missing, sum_below}
+use Rattle.switch_machine.specs.Places.{AreCovered, HasPlaces, makes, missing}
 use Rattle.switch_machine.specs.Consistent.{IsCurrent, IsConsistent}
 use Rattle.switch_machine.specs.Tables.{Tables}
-use Rattle.switch_machine.specs.Events.{IsAnswer, SwitchState, IsDrop, Due, Ended, Follows, IsDueCall, IsEvent, IsGiven, IsSafe, IsQuiet, AreEvents, Left, IsPop, Retires, IsBegin, IsTake, Popped, PopsKey, Stays, with_made_call, calls_of, empty_machine, empty_switch, fresh_view, no_writes, after_events}
+use Rattle.switch_machine.specs.Events.{IsAnswer, SwitchState, IsDrop, Due, Ended, Follows, IsDueCall, IsEvent, IsGiven, IsSafe, Left, IsPop, Retires, IsBegin, IsTake, Popped, PopsKey, Stays}
 use Rattle.switch_machine.proofs.Beginning.{sound-begun, sound-retired, starts}
 use Rattle.switch_machine.proofs.Calling.{make-is_laid, make-is_legal, set-is_laid, set-is_legal, take-is_laid, take-is_legal}
 use Rattle.switch_machine.proofs.Ending.{current-ended, sound-ended}
 use Rattle.switch_machine.proofs.Leaving.{current-left, sound-left}
 use Rattle.switch_machine.proofs.Moving.{sound-moved}
-use Rattle.switch_machine.proofs.Resting.{alike-rest}
 use Rattle.switch_machine.proofs.Roomy.{covered-ended, covered-left, covered-moved, covered-started, places-begun, places-kept, room-covered, room-due}
 use Rattle.switch_machine.proofs.Starting.{current-started}
 use Rattle.switch_machine.proofs.Splits.{put_at, put_off}

@@ -59,8 +59,8 @@ pub fn routes_are_whole()
 
 /// While no operation is under way a reason for which a key waits is true, and a kind that lacks room is the first such kind.
 pub fn reasons_are_true()
-    ensures is_true { (plan : Ports) (workers : ℕ) (capacities : List ℕ) (s : SwitchState) (k : Key) (wait : Wait) → IsPlan plan → IsSafe plan workers capacities s → IsQuiet s → IsReason plan capacities s k wait → IsTrueReason plan capacities (good_of plan s.written) s.machine.board.applied k wait }
-    ensures is_first { (plan : Ports) (workers : ℕ) (capacities : List ℕ) (s : SwitchState) (k : Key) (wait : Wait) → IsPlan plan → IsSafe plan workers capacities s → IsQuiet s → IsReason plan capacities s k wait → NamesFirstKind plan capacities (good_of plan s.written) s.machine.board.applied k wait }
+    ensures is_true { (plan : Ports) (workers : ℕ) (capacities : List ℕ) (s : SwitchState) (k : Key) (wait : Wait) → IsPlan plan → IsSafe plan workers capacities s → IsQuiet s → IsReason plan workers capacities s k wait → IsTrueReason plan capacities (good_of plan s.written) s.machine.board.applied k wait }
+    ensures is_first { (plan : Ports) (workers : ℕ) (capacities : List ℕ) (s : SwitchState) (k : Key) (wait : Wait) → IsPlan plan → IsSafe plan workers capacities s → IsQuiet s → IsReason plan workers capacities s k wait → NamesFirstKind plan capacities (good_of plan s.written) s.machine.board.applied k wait }
 {}
 
 /// An operation that runs alone from its beginning to its end brings its key's good row, and leaves every other row as it was.
