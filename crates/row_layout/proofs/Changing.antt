@@ -41,7 +41,7 @@ or_true : (a b : Bool) → b ≡ true → (a || b) ≡ true
 or_true true b h = refl
 or_true false b h = h
 
-among : (o : Owner) (os : List Owner) → IsIn o os → list_any (same_owner o) os ≡ true
+pub among : (o : Owner) (os : List Owner) → IsIn o os → list_any (same_owner o) os ≡ true
 among o [] h = elim h [ ]
 among o (p ∷ os) (inl is) = ap (λ b. b || list_any (same_owner o) os) (ap (same_owner o) (sym is) ∙ owner_same o)
 among o (p ∷ os) (inr h) = or_true (same_owner o p) (list_any (same_owner o) os) (among o os h)

@@ -21,3 +21,4 @@ pub mod Runs
 pub mod Reasoned
 pub mod Renaming
 pub mod Solo
+pub mod Sequence
