@@ -25,7 +25,7 @@ pub set_same : (ts : List Thing) → set_all ts ts ≡ []
 set_same [] = refl
 set_same (t ∷ ts) = set_none t (set_all ts ts) ∙ set_same ts
 
-own_same : (plan : Ports) (k : Key) (r : Row) → own_sets plan k r r ≡ []
+pub own_same : (plan : Ports) (k : Key) (r : Row) → own_sets plan k r r ≡ []
 own_same plan (key.Port port) (row.Port r) =
     let t = port_with r.lanes r.speed r.mtu r.up in
     set_none t (set_to t t (set_to t t [])) ∙ set_none t (set_to t t []) ∙ set_none t []

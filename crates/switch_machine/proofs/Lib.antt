@@ -22,3 +22,6 @@ pub mod Reasoned
 pub mod Renaming
 pub mod Solo
 pub mod Sequence
+pub mod Undisturbed
+pub mod Hindered
+pub mod Idle

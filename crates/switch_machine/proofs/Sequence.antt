@@ -1,12 +1,10 @@
 -- an operation that runs alone makes its changes in the order of its table
 use Rattle.std.proofs.Common.{◌≡◌, ◌⊎◌, ◌||◌, ◌∷◌, ◌++◌, ◌∙◌, inl, inr, ℕ, Bool, true, false, List, [], Option, None, Some, if◌then◌else◌, refl, sym, ap, subst}
 use Rattle.std.proofs.lemmas.Bool.{eqb-true, false≢true}
-use Rattle.std.proofs.lemmas.List.{append-nil}
-use Rattle.std.specs.BTreeMap.{is_at}
 use Rattle.std.specs.List.{list_any}
 use Rattle.swss_types.specs.declared.interface.IfName.TheVariants as on
 use Rattle.table_schema.specs.Key.{key_cmp}
-use Rattle.table_schema.specs.Plan.{IsPlan, Ports}
+use Rattle.table_schema.specs.Plan.{Ports}
 use Rattle.table_schema.specs.declared.key.Key.{Key}
 use Rattle.table_schema.specs.declared.key.Key.TheVariants as key
 use Rattle.table_schema.specs.declared.row.Row.{Row}
@@ -22,7 +20,7 @@ use Rattle.sai_types.specs.Alike.{IsIn}
 use Rattle.sai_types.proofs.Exact.{ip-exact}
 use Rattle.switch_model.specs.Good.{TypedRows}
 use Rattle.switch_model.specs.Things.{hops_of, lane_of}
-use Rattle.row_layout.specs.Operations.{Change, Make, Set, Take, build_all, changes_of, make_all, own_changes, retire_all, same_owner, shared_going, take_all, unshared, uses_of}
+use Rattle.row_layout.specs.Operations.{Change, Make, build_all, changes_of, make_all, own_changes, retire_all, same_owner, shared_going, take_all, unshared, uses_of}
 use Rattle.row_layout.specs.Rows as owner
 use Rattle.row_layout.specs.Rows.{Owner, from}
 use Rattle.row_layout.specs.Shared.{group_by, shared_things, uses}
@@ -30,7 +28,7 @@ use Rattle.row_layout.proofs.Changing.{among}
 use Rattle.row_layout.proofs.Tied.{tied}
 use Rattle.switch_machine.specs.Events.{AreAnswers, Due, Ended, Follows, IsAnswer, IsBegin, IsQuiet, Left, Retires, SwitchState, after_answers, changes_made}
 use Rattle.switch_machine.specs.Flights.{CountsAsUser, Flight, IsResting, IsUser, Machine}
-use Rattle.switch_machine.specs.Operations.{IsOperation, IsUsedByOthers, MayBegin, built_first}
+use Rattle.switch_machine.specs.Operations.{IsUsedByOthers, built_first}
 use Rattle.switch_machine.specs.Steps.{finished, left, moved, parted, started}
 use Rattle.switch_machine.proofs.Equal.{thing-exact}
 use Rattle.switch_machine.proofs.Running.{one_flight}
