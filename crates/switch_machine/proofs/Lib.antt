@@ -15,7 +15,13 @@ pub mod Beginning
 pub mod Roomy
 pub mod Overflowing
 pub mod Telling
+pub mod Dated
 pub mod Kept
+pub mod Runs
 pub mod Reasoned
 pub mod Renaming
 pub mod Solo
+pub mod Sequence
+pub mod Undisturbed
+pub mod Hindered
+pub mod Idle

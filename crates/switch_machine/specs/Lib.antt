@@ -8,3 +8,4 @@ pub mod Places
 pub mod Written
 pub mod Events
 pub mod Reasons
+pub mod Next
