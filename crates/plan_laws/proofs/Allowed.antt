@@ -1,5 +1,6 @@
--- each change of a plan may be made
-use Rattle.std.proofs.Common.{◌≡◌, inl, inr, ◌⊎◌, ℕ, ◌-◌, ◌<◌, ◌≤◌, ◌++◌, List, [], ◌∷◌, Option, Some, refl, sym, ap, ◌∙◌, subst, arith}
+-- each change of a plan may be made when its turn has come, and at the end the new things stand
+use Rattle.std.proofs.Common.{◌≡◌, inl, inr, ◌⊎◌, ℕ, ◌-◌, ◌<◌, ◌≤◌, ◌++◌, List, [], ◌∷◌, refl, sym, ap, ◌∙◌, subst, arith}
+use Rattle.std.proofs.lemmas.List.{append-nil}
 use Rattle.sai_types.specs.declared.hop.Base.{Base}
 use Rattle.sai_types.specs.declared.hop.Base.TheVariants as base
 use Rattle.sai_types.specs.declared.thing.Goal.{Goal}
@@ -10,12 +11,10 @@ use Rattle.sai_types.specs.Alike.{IsIn}
 use Rattle.sai_types.specs.Objects.{level}
 use Rattle.sai_types.specs.Names as name
 use Rattle.sai_types.specs.Names.{Meet, Name, Refers, base_name, goal_names, name_kind, name_of}
-use Rattle.plan_laws.specs.Plans.{AreInOrder, PlanChange, IsViewPlan, Make, Remove, Set, after_changes, make_rank, outcome, remove_rank, set_rank, subject, hitless_rank, cold_rank}
-use Rattle.plan_laws.specs.Steady.{AreNamed}
-use Rattle.plan_laws.specs.Views.{ReferWithin, LanesApart}
-use Rattle.plan_laws.proofs.Deciding.{IsGood, good-names, len_within}
-use Rattle.plan_laws.proofs.Following.{AreKept, IsNamed, after-from, last-word, named-made, named-still, outcome-named}
-use Rattle.plan_laws.proofs.Ordered.{in-either, in-left, in-right, order-cut}
+use Rattle.plan_laws.specs.Plans.{AreInOrder, PlanChange, IsViewPlan, Make, Remove, Set, after_changes, cold_rank, hitless_rank, make_rank, remove_rank, set_rank, subject}
+use Rattle.plan_laws.specs.Views.{AreNamed, LanesApart, ReferWithin}
+use Rattle.plan_laws.proofs.Following.{IsNamed, before, done-in, due-in, in_order-right, new-stands, now-new, old-stands, origin, outcome-named, outcome-new}
+use Rattle.plan_laws.proofs.Deciders.{IsGood, good-names, len_within}
 
 -- ---- what refers is of a higher kind
 
@@ -141,192 +140,114 @@ cold-safe = record {
   set_before = λ t k small. omega (arith, small);
 }
 
-module _ (order : PlanChange → ℕ) (safe : IsSafe order) (old new : List Thing) (old_named : AreNamed old) (new_named : AreNamed new) (closed : ReferWithin new) (lanes : LanesApart old new) (plan : List PlanChange) (is_plan : IsViewPlan order old new plan) where
+-- a plan in an order that leads from old things to new ones, where each are told apart and the new ones refer to each other
+pub record IsSafePlan (order : PlanChange → ℕ) (old new : List Thing) (plan : List PlanChange) : Type 0 where
+  pub safe : IsSafe order
+  pub old_named : AreNamed old
+  pub new_named : AreNamed new
+  pub within : ReferWithin new
+  pub lanes : LanesApart old new
+  pub is_plan : IsViewPlan order old new plan
+
+module _ {order : PlanChange → ℕ} {old new : List Thing} {plan : List PlanChange} (p : IsSafePlan order old new plan) where
   abbrev stood : Thing → Type 0
   stood u = IsIn u old
-
-  -- what a change comes to is new
-  outcome_new : (c : PlanChange) (t : Thing) → IsIn c plan → outcome c ≡ Some t → IsIn t new
-  outcome_new (Make u) t i o = let same : u ≡ t = cc in subst (λ z. IsIn z new) same (is_plan.makes u i).0
-  outcome_new (Set u) t i o = let same : u ≡ t = cc in subst (λ z. IsIn z new) same (is_plan.sets u i).0
-  outcome_new (Remove k) t i o = absurd cc
-
-  not_removed : (k : Name) (t : Thing) → IsIn t new → name_of t ≡ k → (c : PlanChange) → IsIn c plan → c ≡ Remove k → ⊥
-  not_removed k t i same c j is = (is_plan.removes k (subst (λ z. IsIn z plan) is j)).3 t i same
 
   module _ (done : List PlanChange) (next : PlanChange) (due : List PlanChange) (cut : plan ≡ done ++ (next ∷ due)) where
     abbrev now : Thing → Type 0
     now = after_changes done stood
 
-    from_done : (c : PlanChange) → IsIn c done → IsIn c plan
-    from_done c i = subst (λ p. IsIn c p) (sym cut) (in-left c done (next ∷ due) i)
-
     next_in : IsIn next plan
-    next_in = subst (λ p. IsIn next p) (sym cut) (in-right next done (next ∷ due) (inl refl))
+    next_in = due-in p.is_plan done (next ∷ due) cut next (inl refl)
 
-    before : (c d : PlanChange) → IsIn c done → IsIn d (next ∷ due) → (order c ≤ order d) × (subject c ≡ subject d → ⊥)
-    before c d i j = order-cut order done (next ∷ due) (subst (AreInOrder order) cut is_plan.in_order) c d i j
+    -- no change that is due comes before the next
+    not_before : (d : PlanChange) → IsIn d (next ∷ due) → order next ≤ order d
+    not_before d (inl is) = let same : order d ≡ order next = ap order is in omega (arith, same)
+    not_before d (inr i) = ((in_order-right order done (next ∷ due) (subst (AreInOrder order) cut p.is_plan.in_order)).0 d i).0
 
-    order_right : (xs ys : List PlanChange) → AreInOrder order (xs ++ ys) → AreInOrder order ys
-    order_right [] ys o = o
-    order_right (x ∷ xs) ys o = order_right xs ys o.1
-
-    order_left : (xs ys : List PlanChange) → AreInOrder order (xs ++ ys) → AreInOrder order xs
-    order_left [] ys o = tt
-    order_left (x ∷ xs) ys o = (λ d i. o.0 d (in-left d xs ys i), order_left xs ys o.1)
-
-    done_order : AreInOrder order done
-    done_order = order_left done (next ∷ due) (subst (AreInOrder order) cut is_plan.in_order)
-
-    turn_same : (d : PlanChange) → d ≡ next → order next ≤ order d
-    turn_same d is = let same : order d ≡ order next = ap order is in omega (arith, same)
-
-    -- what is not done is not before the next
-    not_before : (d : PlanChange) → IsIn d plan → IsIn d done ⊎ (order next ≤ order d)
-    not_before d i =
-        elim (in-either d done (next ∷ due) (subst (λ p. IsIn d p) cut i)) [
-          | inl h ↦ inl h
-          | inr h ↦ elim h [
-            | inl is ↦ inr (turn_same d is)
-            | inr later ↦ inr (((order_right done (next ∷ due) (subst (AreInOrder order) cut is_plan.in_order)).0 d later).0)
-          ]
-        ]
-
-    -- what a new thing refers to stands when its turn has come
+    -- what a new thing refers to stands where that is made before the next change
     refers_well : (t : Thing) → IsIn t new → ((w : Thing) → height (name_of w) < height (name_of t) → height (name_of w) < 10 → order (Make w) < order next) → (k : Name) → Refers t k → IsNamed now k
     refers_well t i late k r =
-        let w = closed.refers t k i r in
+        let w = p.within.refers t k i r in
         let low = refers-lower t k r in
         let most = height_most (name_of t) in
-        let small : height k < 10 = omega (arith, low, most) in
-        let kept : AreKept done k = λ c j is. not_removed k w.0 w.1 w.2 c (from_done c j) is in
-        elim (is_plan.whole w.0 w.1) [
-          | inl there ↦ named-still done stood k kept (w.0, there, w.2)
-          | inr change ↦ elim change [
-            | inl make ↦ elim (not_before (Make w.0) make) [
-              | inl made ↦ subst (IsNamed now) w.2 (named-made done stood (Make w.0) w.0 (subst (AreKept done) (sym w.2) kept) made refl)
-              | inr never ↦
-                  let heights : height (name_of w.0) ≡ height k = ap height w.2 in
-                  let after_it = late w.0 (omega (arith, low, heights)) (omega (arith, small, heights)) in
-                  absurd (omega (arith, never, after_it))
-            ]
-            | inr set ↦ let has = is_plan.sets w.0 set in named-still done stood k kept (has.1, has.2, has.3 ∙ w.2)
-          ]
+        let heights : height (name_of w.0) ≡ height k = ap height w.2 in
+        elim (new-stands p.is_plan done (next ∷ due) cut w.0 w.1) [
+          | inl h ↦ (h.0, h.1, h.2 ∙ w.2)
+          | inr make ↦ let early = not_before (Make w.0) make in let after_it = late w.0 (omega (arith, low, heights)) (omega (arith, most, low, heights)) in absurd (omega (arith, early, after_it))
         ]
+
+    -- no thing that stands has the name of the next change, if no old one has
+    fresh : ((u : Thing) → IsIn u old → name_of u ≡ subject next → ⊥) → (u : Thing) → now u → name_of u ≡ subject next → ⊥
+    fresh none u h same =
+        elim (origin done stood u h) [
+          | inl there ↦ none u there.0 same
+          | inr c ↦ (before p.is_plan done (next ∷ due) cut c.0 next c.1 (inl refl)).1 (sym (outcome-named c.0 u c.2) ∙ same)
+        ]
+
+    old_or_new : (u : Thing) → now u → IsIn u old ⊎ IsIn u new
+    old_or_new u h = elim (origin done stood u h) [ inl there ↦ inl there.0 | inr c ↦ inr (outcome-new p.is_plan c.0 u (done-in p.is_plan done (next ∷ due) cut c.0 c.1) c.2) ]
 
   module _ (t : Thing) (done due : List PlanChange) where
     module _ (cut : plan ≡ done ++ (Make t ∷ due)) where
-      make_in : IsIn (Make t) plan
-      make_in = next_in done (Make t) due cut
-
-      no_name : (u : Thing) → after_changes done stood u → name_of t ≡ name_of u → ⊥
-      no_name u h same =
-          elim (after-from done stood u h) [
-            | inl there ↦ (is_plan.makes t make_in).1 u there (sym same)
-            | inr o ↦ (before done (Make t) due cut o.0 (Make t) o.1 (inl refl)).1 (sym (outcome-named o.0 u o.2) ∙ sym same)
-          ]
+      make_new : IsIn t new × ((u : Thing) → IsIn u old → name_of u ≡ name_of t → ⊥)
+      make_new = p.is_plan.makes t (next_in done (Make t) due cut)
 
       pub make-free : (u : Thing) → after_changes done stood u → Meet t u → ⊥
-      make-free u h (inl same) = no_name u h same
-      make-free u h (inr lane) =
-          no_name u h (lanes.apart t u (is_plan.makes t make_in).0
-          (elim (after-from done stood u h) [ inl there ↦ inl there | inr o ↦ inr (outcome_new o.0 u (from_done done (Make t) due cut o.0 o.1) o.2) ])
-          lane)
+      make-free u h (inl same) = fresh done (Make t) due cut make_new.1 u h (sym same)
+      make-free u h (inr lane) = fresh done (Make t) due cut make_new.1 u h (sym (p.lanes.apart t u make_new.0 (old_or_new done (Make t) due cut u h) lane))
 
       pub make-refers : (k : Name) → Refers t k → IsNamed (after_changes done stood) k
-      make-refers k r = refers_well done (Make t) due cut t (is_plan.makes t make_in).0 (λ w less small. safe.make_after t w (good-names new new_named t (is_plan.makes t make_in).0) less small) k r
+      make-refers = refers_well done (Make t) due cut t make_new.0 (λ w. p.safe.make_after t w (good-names new p.new_named t make_new.0))
 
     module _ (cut : plan ≡ done ++ (Set t ∷ due)) where
-      set_in : IsIn (Set t) plan
-      set_in = next_in done (Set t) due cut
+      set_new : IsIn t new × (u : Thing) × IsIn u old × (name_of u ≡ name_of t)
+      set_new = p.is_plan.sets t (next_in done (Set t) due cut)
 
       pub set-there : IsNamed (after_changes done stood) (name_of t)
       set-there =
-          let has = is_plan.sets t set_in in
-          named-still done stood (name_of t) (λ c j is. not_removed (name_of t) t has.0 refl c (from_done done (Set t) due cut c j) is) (has.1, has.2, has.3)
+          elim (new-stands p.is_plan done (Set t ∷ due) cut t set_new.0) [
+            | inl h ↦ h
+            | inr make ↦ absurd ((p.is_plan.makes t (due-in p.is_plan done (Set t ∷ due) cut (Make t) make)).1 set_new.1 set_new.2 set_new.3)
+          ]
 
       pub set-refers : (k : Name) → Refers t k → IsNamed (after_changes done stood) k
-      set-refers k r = refers_well done (Set t) due cut t (is_plan.sets t set_in).0 (λ w less small. safe.set_after t w small) k r
+      set-refers = refers_well done (Set t) due cut t set_new.0 (λ w less small. p.safe.set_after t w small)
 
   module _ (k : Name) (done due : List PlanChange) (cut : plan ≡ done ++ (Remove k ∷ due)) where
-    remove_in : IsIn (Remove k) plan
-    remove_in = next_in done (Remove k) due cut
+    gone_old : (u : Thing) × IsIn u old × (name_of u ≡ k) × ((t : Thing) → IsIn t new → name_of t ≡ k → ⊥)
+    gone_old = p.is_plan.removes k (next_in done (Remove k) due cut)
 
     pub remove-there : IsNamed (after_changes done stood) k
     remove-there =
-        let has = is_plan.removes k remove_in in
-        named-still done stood k (λ c j is. (before done (Remove k) due cut c (Remove k) j (inl refl)).1 (ap subject is)) (has.0, has.1, has.2)
+        elim (old-stands p.is_plan done (Remove k ∷ due) cut gone_old.0 gone_old.1) [
+          | inl h ↦ (h.0, h.1, h.2 ∙ gone_old.2)
+          | inr gone ↦ absurd ((before p.is_plan done (Remove k ∷ due) cut (Remove (name_of gone_old.0)) (Remove k) gone (inl refl)).1 gone_old.2)
+        ]
 
-    new_unused : (v : Thing) → IsIn v new → Refers v k → ⊥
-    new_unused v i r = let w = closed.refers v k i r in (is_plan.removes k remove_in).3 w.0 w.1 w.2
-
-    old_unused : (v : Thing) → IsIn v old → after_changes done stood v → Refers v k → ⊥
-    old_unused v i h r =
+    -- what stands and refers to the name would be new
+    pub remove-unused : (v : Thing) → after_changes done stood v → Refers v k → ⊥
+    remove-unused v h r =
         let low = refers-lower v k r in
         let most = height_most (name_of v) in
         let small : height k < 10 = omega (arith, low, most) in
-        elim (is_plan.gone v i) [
-          | inl still ↦ elim (is_plan.whole still.0 still.1) [
-            | inl there ↦ new_unused v (subst (λ z. IsIn z new) (old_named.one still.0 v there i still.2) still.1) r
-            | inr change ↦ elim change [
-              | inl make ↦ (is_plan.makes still.0 make).1 v i (sym still.2)
-              | inr set ↦ elim (not_before done (Remove k) due cut (Set still.0) set) [
-                | inl made ↦
-                    let word = last-word order done stood (done_order done (Remove k) due cut) (Set still.0) made v h (sym still.2) in
-                    let same : still.0 ≡ v = cc in
-                    new_unused v (subst (λ z. IsIn z new) same still.1) r
-                | inr never ↦ let high = safe.set_before still.0 k small in absurd (omega (arith, never, high))
-              ]
-            ]
-          ]
-          | inr remove ↦ elim (not_before done (Remove k) due cut (Remove (name_of v)) remove) [
-            | inl made ↦ let word = last-word order done stood (done_order done (Remove k) due cut) (Remove (name_of v)) made v h refl in absurd cc
-            | inr never ↦
-                let less = safe.remove_before k (name_of v) (good-names old old_named v i) low small in
-                absurd (omega (arith, never, less))
-          ]
-        ]
-
-    pub remove-unused : (v : Thing) → after_changes done stood v → Refers v k → ⊥
-    remove-unused v h r =
-        elim (after-from done stood v h) [
-          | inl there ↦ old_unused v there h r
-          | inr o ↦ new_unused v (outcome_new o.0 v (from_done done (Remove k) due cut o.0 o.1) o.2) r
-        ]
+        let i = now-new p.is_plan done (Remove k ∷ due) cut p.old_named v h
+        (λ t set same. let late = not_before done (Remove k) due cut (Set t) set in let early = p.safe.set_before t k small in absurd (omega (arith, late, early)))
+        (λ gone. let late = not_before done (Remove k) due cut (Remove (name_of v)) gone in let early = p.safe.remove_before k (name_of v) good low small in absurd (omega (arith, late, early))) in
+        let w = p.within.refers v k i r in
+        gone_old.3 w.0 w.1 w.2
+      where
+        good : IsGood (name_of v)
+        good = elim (old_or_new done (Remove k) due cut v h) [ inl i ↦ good-names old p.old_named v i | inr i ↦ good-names new p.new_named v i ]
 
   -- ---- the end
 
   pub ends-new : (t : Thing) → after_changes plan stood t → IsIn t new
-  ends-new t h =
-      elim (after-from plan stood t h) [
-        | inl there ↦ elim (is_plan.gone t there) [
-          | inl still ↦ elim (is_plan.whole still.0 still.1) [
-            | inl kept ↦ subst (λ z. IsIn z new) (old_named.one still.0 t kept there still.2) still.1
-            | inr change ↦ elim change [
-              | inl make ↦ absurd ((is_plan.makes still.0 make).1 t there (sym still.2))
-              | inr set ↦
-                  let word = last-word order plan stood is_plan.in_order (Set still.0) set t h (sym still.2) in
-                  let same : still.0 ≡ t = cc in
-                  subst (λ z. IsIn z new) same still.1
-            ]
-          ]
-          | inr remove ↦ let word = last-word order plan stood is_plan.in_order (Remove (name_of t)) remove t h refl in absurd cc
-        ]
-        | inr o ↦ outcome_new o.0 t o.1 o.2
-      ]
-
-  new_named_still : (t : Thing) → IsIn t new → IsNamed (after_changes plan stood) (name_of t)
-  new_named_still t i =
-      let kept : AreKept plan (name_of t) = λ c j is. not_removed (name_of t) t i refl c j is in
-      elim (is_plan.whole t i) [
-        | inl there ↦ named-still plan stood (name_of t) kept (t, there, refl)
-        | inr change ↦ elim change [
-          | inl make ↦ named-made plan stood (Make t) t kept make refl
-          | inr set ↦ named-made plan stood (Set t) t kept set refl
-        ]
-      ]
+  ends-new t h = now-new p.is_plan plan [] (sym (append-nil plan)) p.old_named t h (λ u i same. elim i [ ]) (λ i. elim i [ ])
 
   pub new-ends : (t : Thing) → IsIn t new → after_changes plan stood t
   new-ends t i =
-      let has = new_named_still t i in
-      subst (after_changes plan stood) (new_named.one has.0 t (ends-new has.0 has.1) i has.2) has.1
+      elim (new-stands p.is_plan plan [] (sym (append-nil plan)) t i) [
+        | inl h ↦ subst (after_changes plan stood) (p.new_named.one h.0 t (ends-new h.0 h.1) i h.2) h.1
+        | inr make ↦ elim make [ ]
+      ]

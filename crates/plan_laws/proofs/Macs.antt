@@ -1,106 +1,78 @@
--- by what Ethernet address a hop is reached while changes are made
-use Rattle.std.proofs.Common.{◌≡◌, inl, inr, ◌⊎◌, ℕ, Bool, true, false, cond, ◌++◌, List, [], ◌∷◌, map, Option, None, Some, refl, sym, ap, ap₂, ◌∙◌, subst}
+-- each hop of a hitless plan is reached by its old Ethernet address or its new one, so what both views forward equally is forwarded so
+use Rattle.std.proofs.Common.{◌≡◌, inl, inr, ◌⊎◌, ◌++◌, List, [], ◌∷◌, map, Option, None, Some, refl, sym, ap, ap₂, ◌∙◌, subst}
 use Rattle.swss_types.specs.declared.address.Ip.{Ip}
 use Rattle.swss_types.specs.declared.address.Mac.{Mac}
-use Rattle.sai_types.specs.declared.hop.Base.{Base}
-use Rattle.sai_types.specs.declared.hop.Base.TheVariants as base
 use Rattle.sai_types.specs.declared.hop.Hop.{Hop}
-use Rattle.sai_types.specs.contracts.hop.BasePartialEq.TheImpl as base_eq
 use Rattle.sai_types.specs.declared.thing.Thing.{Thing}
 use Rattle.sai_types.specs.declared.thing.Thing.TheVariants as thing
 use Rattle.sai_types.specs.Alike.{IsIn}
-use Rattle.sai_types.specs.Forwarding.{Decision, Forwarding, decide, forward, forwarding_of, mac_of, same_hop}
+use Rattle.sai_types.specs.Forwarding.{Decision, decide, forward, forwarding_of, mac_of}
 use Rattle.sai_types.specs.Forwarding as to
-use Rattle.sai_types.specs.Refusal.{same_ip}
 use Rattle.sai_types.specs.Names as name
 use Rattle.sai_types.specs.Names.{Name, name_of}
-use Rattle.plan_laws.specs.Plans.{PlanChange, IsViewPlan, Make, Remove, Set, after_changes, outcome, subject, hitless_rank}
-use Rattle.plan_laws.specs.Steady.{AreNamed, IsForwarding, ForwardsAfter}
-use Rattle.plan_laws.proofs.Best.{mix, or_else}
-use Rattle.plan_laws.proofs.Ordered.{in-left}
-use Rattle.plan_laws.proofs.Profiles.{Agrees, IsProfile, after-profile, hit, profile, profile-by, profile-is, profile-one}
-use Rattle.sai_types.proofs.Rising.{hop-same}
-use Rattle.std.proofs.lemmas.Bool.{and_parts, eqb-true, false≢true}
+use Rattle.chip_layout.proofs.Answering.{front}
+use Rattle.plan_laws.specs.Plans.{PlanChange, IsViewPlan, Remove, hitless_rank}
+use Rattle.plan_laws.specs.Steady.{ForwardsAfter, IsForwarding, IsHitless, IsOldOrNew, StaysNew}
+use Rattle.plan_laws.specs.Views.{AreNamed}
+use Rattle.plan_laws.proofs.Following.{done-in, old-stands, origin, outcome-new}
+use Rattle.plan_laws.proofs.Moving.{old-or-new, stays-new}
 
-abbrev pub leads : Hop → Name → ℕ → Bool
-leads hop (name.Neighbor h) r = same_hop h hop
-leads hop _ r = false
+-- the neighbour of a hop is found, or there is none
+abbrev IsReached : List Thing → Hop → Type 0
+IsReached ts hop = ((m : Mac) × IsIn (thing.Neighbor hop m) ts × (mac_of ts hop ≡ Some m)) ⊎ (((m : Mac) → IsIn (thing.Neighbor hop m) ts → ⊥) × (mac_of ts hop ≡ None))
 
-abbrev pub mac : Thing → Option Mac
-mac (thing.Neighbor h m) = Some m
-mac _ = None
-
-abbrev IsAny : Name → Type 0
-IsAny k = Unit {0}
-
-one_place : (hop : Hop) (r : ℕ) (k m : Name) → IsAny k → IsAny m → leads hop k r ≡ true → leads hop m r ≡ true → k ≡ m
-one_place hop r (name.Neighbor x) (name.Neighbor y) g h e f = ap name.Neighbor (hop-same x hop e ∙ sym (hop-same y hop f))
-one_place hop r (name.Neighbor x) _ g h e f = absurd (false≢true f)
-one_place hop r _ _ g h e f = absurd (false≢true e)
-
-forwarding_at : (hop : Hop) (k : Name) (r : ℕ) → leads hop k r ≡ true → IsForwarding k
-forwarding_at hop (name.Neighbor x) r h = tt
-forwarding_at hop _ r h = absurd (false≢true h)
-
-mac_step : (b : Bool) (m : Mac) (o : Option (Option Mac)) (rest : Option Mac) → or_else o None ≡ rest → or_else (cond b (Some (Some m)) o) None ≡ cond b (Some m) rest
-mac_step true m o rest e = refl
-mac_step false m o rest e = e
-
-mac-table : (hop : Hop) (ts : List Thing) → or_else (profile (leads hop) (Option Mac) mac ts 0) None ≡ mac_of ts hop
-mac-table hop [] = refl
-mac-table hop (thing.Neighbor h m ∷ ts) = mac_step (same_hop h hop) m (profile (leads hop) (Option Mac) mac ts 0) (mac_of ts hop) (mac-table hop ts)
-mac-table hop (_ ∷ ts) = mac-table hop ts
-
-module _ (hop : Hop) (old new : List Thing) (old_named : AreNamed old) (new_named : AreNamed new) (plan : List PlanChange) (is_plan : IsViewPlan hitless_rank old new plan) where
-  abbrev f : ℕ → Option (Option Mac)
-  f = profile (leads hop) (Option Mac) mac old
-
-  abbrev g : ℕ → Option (Option Mac)
-  g = profile (leads hop) (Option Mac) mac new
-
-  f_is : IsProfile (leads hop) (Option Mac) mac (λ t. IsIn t old) f
-  f_is = profile-is (leads hop) (Option Mac) mac old (λ r t u i j d e. old_named.one t u i j (one_place hop r (name_of t) (name_of u) tt tt d e))
-
-  g_is : IsProfile (leads hop) (Option Mac) mac (λ t. IsIn t new) g
-  g_is = profile-is (leads hop) (Option Mac) mac new (λ r t u i j d e. new_named.one t u i j (one_place hop r (name_of t) (name_of u) tt tt d e))
-
-  agrees_new : (c : PlanChange) (t : Thing) → subject c ≡ name_of t → outcome c ≡ Some t → IsIn t new → Agrees (leads hop) (Option Mac) mac g c
-  agrees_new c t names is i = record {
-    made = λ r u e h.
-        let same : t ≡ u = let both : Some t ≡ Some u = sym is ∙ e in cc in
-        (ap name_of (sym same) ∙ sym names, g_is.whole r t i (ap (λ k. leads hop k r) (sym names) ∙ h) ∙ ap (λ x. Some (mac x)) same);
-    found = λ r d h e.
-        let there = g_is.whole r t i (ap (λ k. leads hop k r) (sym names) ∙ h) in
-        (t, is, sym names, let both : Some (mac t) ≡ Some d = sym there ∙ e in cc);
-    named = λ u e. let same : t ≡ u = let both : Some t ≡ Some u = sym is ∙ e in cc in ap name_of (sym same) ∙ sym names;
-  }
-
-  agrees : (c : PlanChange) → IsIn c plan → Agrees (leads hop) (Option Mac) mac g c
-  agrees (Make t) i = agrees_new (Make t) t refl refl (is_plan.makes t i).0
-  agrees (Set t) i = agrees_new (Set t) t refl refl (is_plan.sets t i).0
-  agrees (Remove k) i =
-      let has = is_plan.removes k i in
-      record {
-        made = λ r t e h. absurd cc;
-        found = λ r d h e. let s = g_is.sound r d e in absurd (has.3 s.0 s.1 (one_place hop r (name_of s.0) k tt tt s.2 h));
-        named = λ t e. absurd cc;
-      }
-
-  either : (b : Bool) (x y m : Option (Option Mac)) → m ≡ cond b y x → (or_else m None ≡ or_else x None) ⊎ (or_else m None ≡ or_else y None)
-  either true x y m e = inr (ap (λ o. or_else o None) e)
-  either false x y m e = inl (ap (λ o. or_else o None) e)
-
-  -- the Ethernet address of a hop is the old one or the new one
-  pub mac-either : (done due : List PlanChange) → plan ≡ done ++ due → (now : List Thing) → ForwardsAfter old done now → (mac_of now hop ≡ mac_of old hop) ⊎ (mac_of now hop ≡ mac_of new hop)
-  mac-either done due cut now stands =
-      let mixed = after-profile (leads hop) (Option Mac) mac IsAny (one_place hop) done (λ t. IsIn t old) f g (λ t i. tt) (λ c i. (tt, agrees c (subst (λ p. IsIn c p) (sym cut) (in-left c done due i)))) f_is in
-      let z = hit (leads hop) (Option Mac) mac done in
-      let now_is = profile-by (leads hop) (Option Mac) mac (after_changes done (λ t. IsIn t old)) (λ t. IsIn t now) (mix z f g) (λ r t h. stands.all t (forwarding_at hop (name_of t) r h)) (λ r t h. stands.sound t (forwarding_at hop (name_of t) r h)) mixed in
-      let is = profile-one (leads hop) (Option Mac) mac now (mix z f g) now_is 0 in
-      elim (either (z 0) (f 0) (g 0) (profile (leads hop) (Option Mac) mac now 0) is) [
-        | inl e ↦ inl (sym (mac-table hop now) ∙ e ∙ mac-table hop old)
-        | inr e ↦ inr (sym (mac-table hop now) ∙ e ∙ mac-table hop new)
+reached : (ts : List Thing) (hop : Hop) → IsReached ts hop
+reached [] hop = inr (λ m i. i, refl)
+reached (t ∷ ts) hop =
+    elim (front t ts hop) [
+      | inl here ↦ inl (here.0, inl (sym here.1), here.2)
+      | inr behind ↦ elim (reached ts hop) [
+        | inl m ↦ inl (m.0, inr m.1, behind.0 ∙ m.2)
+        | inr none ↦ inr (λ m i. elim i [ inl is ↦ behind.1 m is | inr j ↦ none.0 m j ], behind.0 ∙ none.1)
       ]
+    ]
+
+is_neighbor : (u : Thing) (hop : Hop) → name_of u ≡ name.Neighbor hop → (m : Mac) × (u ≡ thing.Neighbor hop m)
+is_neighbor (thing.Neighbor h m) hop e = let same : h ≡ hop = cc in (m, ap (λ z. thing.Neighbor z m) same)
+is_neighbor _ hop e = absurd cc
+
+one_mac : (ts : List Thing) → AreNamed ts → (hop : Hop) (m : Mac) → IsIn (thing.Neighbor hop m) ts → mac_of ts hop ≡ Some m
+one_mac ts named hop m i =
+    elim (reached ts hop) [
+      | inl n ↦ n.2 ∙ ap Some (macs n.0 (named.one (thing.Neighbor hop n.0) (thing.Neighbor hop m) n.1 i refl))
+      | inr none ↦ absurd (none.0 m i)
+    ]
+  where
+    macs : (n : Mac) → thing.Neighbor hop n ≡ thing.Neighbor hop m → n ≡ m
+    macs n e = cc
+
+module _ {old new : List Thing} (old_named : AreNamed old) (new_named : AreNamed new) {plan : List PlanChange} (is_plan : IsViewPlan hitless_rank old new plan) where
+  module _ (done due : List PlanChange) (cut : plan ≡ done ++ due) (now : List Thing) (stands : ForwardsAfter old done now) where
+    abbrev IsEither : Hop → Type 0
+    IsEither hop = (mac_of now hop ≡ mac_of old hop) ⊎ (mac_of now hop ≡ mac_of new hop)
+
+    there : (hop : Hop) (m : Mac) → IsIn (thing.Neighbor hop m) now → mac_of now hop ≡ Some m → IsEither hop
+    there hop m i is =
+        elim (origin done (λ u. IsIn u old) (thing.Neighbor hop m) (stands.sound (thing.Neighbor hop m) tt i)) [
+          | inl x ↦ inl (is ∙ sym (one_mac old old_named hop m x.0))
+          | inr c ↦ inr (is ∙ sym (one_mac new new_named hop m (outcome-new is_plan c.0 (thing.Neighbor hop m) (done-in is_plan done due cut c.0 c.1) c.2)))
+        ]
+
+    none_there : (hop : Hop) → ((m : Mac) → IsIn (thing.Neighbor hop m) now → ⊥) → mac_of now hop ≡ None → IsEither hop
+    none_there hop none is =
+        elim (reached old hop) [
+          | inr no_old ↦ inl (is ∙ sym no_old.1)
+          | inl m ↦ elim (old-stands is_plan done due cut (thing.Neighbor hop m.0) m.1) [
+            | inl u ↦ let n = is_neighbor u.0 hop u.2 in absurd (none n.0 (subst (λ z. IsIn z now) n.1 (stands.all u.0 (subst (λ z. IsForwarding (name_of z)) (sym n.1) tt) u.1)))
+            | inr gone ↦ elim (reached new hop) [
+              | inl n ↦ absurd ((is_plan.removes (name.Neighbor hop) (done-in is_plan done due cut (Remove (name.Neighbor hop)) gone)).3 (thing.Neighbor hop n.0) n.1 refl)
+              | inr no_new ↦ inr (is ∙ sym no_new.1)
+            ]
+          ]
+        ]
+
+    pub mac-either : (hop : Hop) → IsEither hop
+    mac-either hop = elim (reached now hop) [ inl m ↦ there hop m.0 m.1 m.2 | inr none ↦ none_there hop none.0 none.1 ]
 
 -- ---- forwarding
 
@@ -142,3 +114,17 @@ module _ (old new now : List Thing) (each : (h : Hop) → (mac_of now h ≡ mac_
   pub forward-kept : (a : Ip) → (decide now a ≡ decide old a) ⊎ (decide now a ≡ decide new a) → forward old a ≡ forward new a → forward now a ≡ forward old a
   forward-kept a (inl is) h = ap (forwarding_of now) is ∙ (forwarded (decide old a) (decide new a) h).0
   forward-kept a (inr is) h = ap (forwarding_of now) is ∙ (forwarded (decide old a) (decide new a) h).1
+
+-- ---- a hitless plan is steady
+
+module _ {old new : List Thing} (old_named : AreNamed old) (new_named : AreNamed new) {plan : List PlanChange} (is_plan : IsViewPlan hitless_rank old new plan) where
+  pub either : (done due : List PlanChange) → plan ≡ done ++ due → (now : List Thing) → ForwardsAfter old done now → IsOldOrNew old new now
+  either done due cut now stands a = old-or-new a old_named new_named is_plan done due cut now stands
+
+  pub kept : (done more due : List PlanChange) → plan ≡ done ++ (more ++ due) → (now later : List Thing) → ForwardsAfter old done now → ForwardsAfter old (done ++ more) later → StaysNew new now later
+  kept done more due cut now later stands after a = stays-new a old_named new_named is_plan done more due cut now later stands after
+
+  pub hitless : (done due : List PlanChange) → plan ≡ done ++ due → (now : List Thing) → ForwardsAfter old done now → IsHitless old new now
+  hitless done due cut now stands a same =
+      let is = forward-kept old new now (mac-either old_named new_named is_plan done due cut now stands) a (either done due cut now stands a) same in
+      (is, is ∙ same)

@@ -1,236 +1,225 @@
--- what an address is decided by while changes are made
-use Rattle.std.proofs.Common.{◌≡◌, inl, inr, ◌⊎◌, ℕ, ◌+◌, ◌-◌, ◌<◌, ◌≤◌, ◌==◌, Bool, true, false, ◌||◌, cond, ◌++◌, List, [], ◌∷◌, Option, None, Some, refl, sym, ap, ap₂, ◌∙◌, subst, arith}
-use Rattle.swss_types.specs.Address.{covers}
+-- a hitless plan moves an address at most once, from the old decision to the new one
+use Rattle.std.proofs.Common.{◌≡◌, inl, inr, ◌⊎◌, ℕ, ◌+◌, ◌-◌, ◌<◌, ◌≤◌, ◌++◌, List, Some, refl, sym, ap, ◌∙◌, subst, arith}
+use Rattle.std.proofs.lemmas.List.{append_assoc}
 use Rattle.swss_types.specs.declared.address.Ip.{Ip}
 use Rattle.sai_types.specs.declared.thing.Thing.{Thing}
 use Rattle.sai_types.specs.Alike.{IsIn}
-use Rattle.sai_types.specs.Forwarding.{Decision, decide}
-use Rattle.sai_types.specs.Forwarding as to
-use Rattle.sai_types.specs.Refusal.{same_ip}
+use Rattle.sai_types.specs.Forwarding.{decide}
 use Rattle.sai_types.specs.Names as name
 use Rattle.sai_types.specs.Names.{Name, name_of}
-use Rattle.plan_laws.specs.Plans.{AreInOrder, PlanChange, IsViewPlan, Make, Remove, Set, after_changes, make_rank, outcome, remove_rank, set_rank, subject, hitless_rank}
-use Rattle.plan_laws.specs.Steady.{AreNamed, IsForwarding, ForwardsAfter}
-use Rattle.plan_laws.proofs.Best.{MakesFall, RemovesRise, best-mixed, mix, pivot}
-use Rattle.plan_laws.proofs.Deciding.{IsGood, decide-best, decides, decision, good-names, len_within, one-place, table, table-is}
-use Rattle.plan_laws.proofs.Ordered.{after-each, in-either, in-left, order-cut}
-use Rattle.plan_laws.proofs.Profiles.{Agrees, IsProfile, after-profile, hit, profile-by}
+use Rattle.plan_laws.specs.Plans.{PlanChange, IsViewPlan, Make, Remove, Set, after_changes, hitless_rank, make_rank, outcome, remove_rank, set_rank}
+use Rattle.plan_laws.specs.Steady.{ForwardsAfter, IsForwarding}
+use Rattle.plan_laws.specs.Views.{AreNamed}
+use Rattle.plan_laws.proofs.Deciders.{Decides, IsGood, IsStrongest, NoneDecides, decided, decision, good-names, none-decides, strength, strength-most, strongest-decides}
+use Rattle.plan_laws.proofs.Following.{IsUntouched, before, done-in, done-stands, new-stands, old-new, old-stands, origin, outcome-named, outcome-new, still}
+use Rattle.plan_laws.proofs.Lists.{in-left}
 
-use Rattle.std.proofs.lemmas.Bool.{and_parts, eqb-true, false≢true}
-
--- ---- places and turns
-
-place_within : (a : Ip) (k : Name) (r : ℕ) → IsGood k → decides a k r ≡ true → r ≤ 129
-place_within a (name.Own ip) r good h = let is = eqb-true 129 r (and_parts (same_ip ip a) (129 == r) h).1 in omega (arith, is)
-place_within a (name.Route p) r good h = let is = eqb-true p.len r (and_parts (covers p a) (p.len == r) h).1 in let small = len_within p good in omega (arith, is, small)
-place_within a _ r good h = absurd (false≢true h)
-
-make_at : (a : Ip) (k : Name) (r : ℕ) → IsGood k → decides a k r ≡ true → r < 129 → make_rank k ≡ 728 - r
-make_at a (name.Own ip) r good h below = let is = eqb-true 129 r (and_parts (same_ip ip a) (129 == r) h).1 in absurd (omega (arith, is, below))
-make_at a (name.Route p) r good h below = ap (λ n. 728 - n) (eqb-true p.len r (and_parts (covers p a) (p.len == r) h).1)
-make_at a _ r good h below = absurd (false≢true h)
-
-set_at : (a : Ip) (k : Name) (r : ℕ) → decides a k r ≡ true → r < 129 → set_rank k ≡ 800
-set_at a (name.Own ip) r h below = let is = eqb-true 129 r (and_parts (same_ip ip a) (129 == r) h).1 in absurd (omega (arith, is, below))
-set_at a (name.Route p) r h below = refl
-set_at a _ r h below = absurd (false≢true h)
-
-remove_at : (a : Ip) (k : Name) (r : ℕ) → decides a k r ≡ true → r < 129 → remove_rank k ≡ 1000 + r
-remove_at a (name.Own ip) r h below = let is = eqb-true 129 r (and_parts (same_ip ip a) (129 == r) h).1 in absurd (omega (arith, is, below))
-remove_at a (name.Route p) r h below = ap (λ n. 1000 + n) (eqb-true p.len r (and_parts (covers p a) (p.len == r) h).1)
-remove_at a _ r h below = absurd (false≢true h)
-
-make_most : (a : Ip) (k : Name) (r : ℕ) → decides a k r ≡ true → make_rank k ≤ 728 - r
-make_most a (name.Own ip) r h = let is = eqb-true 129 r (and_parts (same_ip ip a) (129 == r) h).1 in omega (arith, is)
-make_most a (name.Route p) r h = let is = eqb-true p.len r (and_parts (covers p a) (p.len == r) h).1 in omega (arith, is)
-make_most a _ r h = absurd (false≢true h)
-
-set_most : (a : Ip) (k : Name) (r : ℕ) → decides a k r ≡ true → set_rank k ≤ 800
-set_most a (name.Own ip) r h = omega arith
-set_most a (name.Route p) r h = omega arith
-set_most a _ r h = absurd (false≢true h)
-
-remove_least : (a : Ip) (k : Name) (r : ℕ) → decides a k r ≡ true → 1000 + r ≤ remove_rank k
-remove_least a (name.Own ip) r h = let is = eqb-true 129 r (and_parts (same_ip ip a) (129 == r) h).1 in omega (arith, is)
-remove_least a (name.Route p) r h = let is = eqb-true p.len r (and_parts (covers p a) (p.len == r) h).1 in omega (arith, is)
-remove_least a _ r h = absurd (false≢true h)
-
--- a place is made before what is changed at lower places
-make_first : (a : Ip) (c : PlanChange) (m : Name) (x y : ℕ) → IsGood (subject c) → IsGood m → decides a (subject c) x ≡ true → decides a m y ≡ true → x < y → make_rank m < hitless_rank c
-make_first a (Make t) m x y gc gm hc hm less =
-    let high = place_within a m y gm hm in
-    let one = make_at a (name_of t) x gc hc (omega (arith, high, less)) in
-    let two = make_most a m y hm in
-    omega (arith, one, two, less, high)
-make_first a (Set t) m x y gc gm hc hm less =
-    let high = place_within a m y gm hm in
-    let one = set_at a (name_of t) x hc (omega (arith, high, less)) in
-    let two = make_most a m y hm in
-    omega (arith, one, two, less, high)
-make_first a (Remove k) m x y gc gm hc hm less =
-    let one = remove_least a k x hc in
-    let two = make_most a m y hm in
-    omega (arith, one, two)
-
-forwarding_at : (a : Ip) (k : Name) (r : ℕ) → decides a k r ≡ true → IsForwarding k
-forwarding_at a (name.Own ip) r h = tt
-forwarding_at a (name.Route p) r h = tt
-forwarding_at a _ r h = absurd (false≢true h)
+decides_forwarding : (a : Ip) (k : Name) → Decides a k → IsForwarding k
+decides_forwarding a (name.Own ip) h = tt
+decides_forwarding a (name.Route p) h = tt
+decides_forwarding a _ h = elim h [ ]
 
 good_if : (k : Name) → (IsForwarding k → IsGood k) → IsGood k
 good_if (name.Route p) h = h tt
 good_if _ h = tt
 
-module _ (a : Ip) (old new : List Thing) (old_named : AreNamed old) (new_named : AreNamed new) (plan : List PlanChange) (is_plan : IsViewPlan hitless_rank old new plan) where
-  abbrev f : ℕ → Option Decision
-  f = table a old
+-- ---- of what decides an address the stronger is made first and removed last
 
-  abbrev g : ℕ → Option Decision
-  g = table a new
+make_falls : (a : Ip) (k m : Name) → IsGood m → Decides a k → Decides a m → strength k < strength m → make_rank m < make_rank k
+make_falls a (name.Route p) (name.Route q) good x y less = let most = strength-most (name.Route q) good in omega (arith, less, most)
+make_falls a (name.Route p) (name.Own ip) good x y less = omega (arith, less)
+make_falls a (name.Own ip) m good x y less = let most = strength-most m good in absurd (omega (arith, less, most))
+make_falls a (name.Route p) _ good x y less = elim y [ ]
+make_falls a _ _ good x y less = elim x [ ]
 
-  f_is : IsProfile (decides a) Decision decision (λ t. IsIn t old) f
-  f_is = table-is a old old_named
+remove_rises : (a : Ip) (k m : Name) → IsGood m → Decides a k → Decides a m → strength k < strength m → remove_rank k < remove_rank m
+remove_rises a (name.Route p) (name.Route q) good x y less = omega (arith, less)
+remove_rises a (name.Route p) (name.Own ip) good x y less = omega (arith, less)
+remove_rises a (name.Own ip) m good x y less = let most = strength-most m good in absurd (omega (arith, less, most))
+remove_rises a (name.Route p) _ good x y less = elim y [ ]
+remove_rises a _ _ good x y less = elim x [ ]
 
-  g_is : IsProfile (decides a) Decision decision (λ t. IsIn t new) g
-  g_is = table-is a new new_named
+route_set : (a : Ip) (k m : Name) → IsGood m → Decides a k → strength k < strength m → set_rank k ≡ 800
+route_set a (name.Route p) m good x less = refl
+route_set a (name.Own ip) m good x less = let most = strength-most m good in absurd (omega (arith, less, most))
+route_set a _ m good x less = elim x [ ]
 
-  agrees_new : (c : PlanChange) (t : Thing) → subject c ≡ name_of t → outcome c ≡ Some t → IsIn t new → Agrees (decides a) Decision decision g c
-  agrees_new c t names is i = record {
-    made = λ r u e h.
-        let same : t ≡ u = let both : Some t ≡ Some u = sym is ∙ e in cc in
-        (ap name_of (sym same) ∙ sym names, g_is.whole r t i (ap (λ k. decides a k r) (sym names) ∙ h) ∙ ap (λ x. Some (decision x)) same);
-    found = λ r d h e.
-        let there = g_is.whole r t i (ap (λ k. decides a k r) (sym names) ∙ h) in
-        (t, is, sym names, let both : Some (decision t) ≡ Some d = sym there ∙ e in cc);
-    named = λ u e. let same : t ≡ u = let both : Some t ≡ Some u = sym is ∙ e in cc in ap name_of (sym same) ∙ sym names;
-  }
+make_most : (k : Name) → make_rank k ≤ 728
+make_most (name.Route p) = omega arith
+make_most _ = omega arith
 
-  agrees : (c : PlanChange) → IsIn c plan → IsGood (subject c) × Agrees (decides a) Decision decision g c
-  agrees (Make t) i = let has = is_plan.makes t i in (good-names new new_named t has.0, agrees_new (Make t) t refl refl has.0)
-  agrees (Set t) i = let has = is_plan.sets t i in (good-names new new_named t has.0, agrees_new (Set t) t refl refl has.0)
-  agrees (Remove k) i =
-      let has = is_plan.removes k i in
-      let good : IsGood k = subst IsGood has.2 (good-names old old_named has.0 has.1) in (
-        good,
-        record {
-          made = λ r t e h. absurd cc;
-          found = λ r d h e.
-              let s = g_is.sound r d e in
-              absurd (has.3 s.0 s.1 (one-place a r (name_of s.0) k (good-names new new_named s.0 s.1) good s.2 h));
-          named = λ t e. absurd cc;
-        },
-      )
+pub set-most : (k : Name) → set_rank k ≤ 800
+set-most (name.Route p) = omega arith
+set-most _ = omega arith
 
-  abbrev pub hits : List PlanChange → ℕ → Bool
-  hits = hit (decides a) Decision decision
+remove_least : (k : Name) → 1000 ≤ remove_rank k
+remove_least (name.Route p) = omega arith
+remove_least _ = omega arith
 
-  or_in : (b c : Bool) → (b || c) ≡ true → (b ≡ true) ⊎ (c ≡ true)
-  or_in true c h = inl refl
-  or_in false c h = inr h
+less_or : (m n : ℕ) → (m ≤ n) ⊎ (n < m)
+less_or m n = grind arith
 
-  pub hit-in : (cs : List PlanChange) (r : ℕ) → hits cs r ≡ true → (c : PlanChange) × IsIn c cs × (decides a (subject c) r ≡ true)
-  hit-in [] r h = absurd (false≢true h)
-  hit-in (c ∷ cs) r h =
-      elim (or_in (decides a (subject c) r) (hits cs r) h) [
-        | inl e ↦ (c, inl refl, e)
-        | inr e ↦ let rest = hit-in cs r e in (rest.0, inr rest.1, rest.2)
-      ]
+module _ (a : Ip) {old new : List Thing} (old_named : AreNamed old) (new_named : AreNamed new) {plan : List PlanChange} (is_plan : IsViewPlan hitless_rank old new plan) where
+  abbrev stood : Thing → Type 0
+  stood u = IsIn u old
 
-  or_right : (b c : Bool) → c ≡ true → (b || c) ≡ true
-  or_right true c h = refl
-  or_right false c h = h
+  old_good : (u : Thing) → IsIn u old → IsGood (name_of u)
+  old_good = good-names old old_named
 
-  pub in-hit : (cs : List PlanChange) (r : ℕ) (c : PlanChange) → IsIn c cs → decides a (subject c) r ≡ true → hits cs r ≡ true
-  in-hit [] r c i h = elim i [ ]
-  in-hit (d ∷ cs) r c (inl is) h = ap (λ b. b || hits cs r) (ap (λ z. decides a (subject z) r) (sym is) ∙ h)
-  in-hit (d ∷ cs) r c (inr i) h = or_right (decides a (subject d) r) (hits cs r) (in-hit cs r c i h)
+  new_good : (u : Thing) → IsIn u new → IsGood (name_of u)
+  new_good = good-names new new_named
 
-  module _ (done due : List PlanChange) (cut : plan ≡ done ++ due) where
-    abbrev z : ℕ → Bool
-    z = hits done
+  old_decides : (t : Thing) → IsStrongest a stood t → decide old a ≡ decision t
+  old_decides = strongest-decides a old old_good (λ t u i j d e. old_named.one t u i j e)
 
-    from_done : (c : PlanChange) → IsIn c done → IsIn c plan
-    from_done c i = subst (λ p. IsIn c p) (sym cut) (in-left c done due i)
+  module _ (done due : List PlanChange) (cut : plan ≡ done ++ due) (now : List Thing) (stands : ForwardsAfter old done now) where
+    abbrev these : Thing → Type 0
+    these u = IsIn u now
 
-    -- what is not hit is still due, and in order after what is done
-    still_due : (c d : PlanChange) (r : ℕ) → IsIn c done → IsIn d plan → decides a (subject d) r ≡ true → z r ≡ false → hitless_rank c ≤ hitless_rank d
-    still_due c d r i j h off =
-        elim (in-either d done due (subst (λ p. IsIn d p) cut j)) [
-          | inl there ↦ absurd (false≢true (sym off ∙ in-hit done r d there h))
-          | inr later ↦ (order-cut hitless_rank done due (subst (AreInOrder hitless_rank) cut is_plan.in_order) c d i later).0
-        ]
+    here : (u : Thing) → after_changes done stood u → Decides a (name_of u) → IsIn u now
+    here u h d = stands.all u (decides_forwarding a (name_of u) d) h
 
-    true_by : (b : Bool) → (b ≡ false → ⊥) → b ≡ true
-    true_by true h = refl
-    true_by false h = absurd (h refl)
+    from : (u : Thing) → IsIn u now → Decides a (name_of u) → (IsIn u old × IsUntouched done (name_of u)) ⊎ ((c : PlanChange) × IsIn c done × (outcome c ≡ Some u))
+    from u i d = origin done stood u (stands.sound u (decides_forwarding a (name_of u) d) i)
 
-    makes_fall : MakesFall f g z to.Drop
-    makes_fall x y d less on empty there =
-        true_by (z y) (λ off.
-        let c = hit-in done x on in
-        let s = g_is.sound y d there in
-        let good = (agrees c.0 (from_done c.0 c.1)).0 in
-        let goods = good-names new new_named s.0 s.1 in
-        let no_old : (u : Thing) → IsIn u old → name_of u ≡ name_of s.0 → ⊥ = λ u i same. let has = f_is.whole y u i (ap (λ k. decides a k y) same ∙ s.2) in let clash : None ≡ Some (decision u) = sym empty ∙ has in absurd cc in
-        elim (is_plan.whole s.0 s.1) [
-          | inl kept ↦ no_old s.0 kept refl
-          | inr change ↦ elim change [
-            | inl make ↦ let order = still_due c.0 (Make s.0) y c.1 make s.2 off in let late = make_first a c.0 (name_of s.0) x y good goods c.2 s.2 less in absurd (omega (arith, order, late))
-            | inr set ↦ let has = is_plan.sets s.0 set in no_old has.1 has.2 has.3
-          ]
+    comes : (c : PlanChange) (u : Thing) → IsIn c done → outcome c ≡ Some u → IsIn u new
+    comes c u i o = outcome-new is_plan c u (done-in is_plan done due cut c i) o
+
+    now_good : (u : Thing) → IsIn u now → IsGood (name_of u)
+    now_good u i =
+        good_if (name_of u) (λ fw. elim (origin done stood u (stands.sound u fw i)) [
+          | inl there ↦ old_good u there.0
+          | inr c ↦ new_good u (comes c.0 u c.1 c.2)
         ])
 
-    removes_at : (c : PlanChange) (x : ℕ) → IsIn c done → decides a (subject c) x ≡ true → g x ≡ None → 1000 + x ≤ hitless_rank c
-    removes_at (Make t) x i h none = let has = g_is.whole x t (is_plan.makes t (from_done (Make t) i)).0 h in let clash : None ≡ Some (decision t) = sym none ∙ has in absurd cc
-    removes_at (Set t) x i h none = let has = g_is.whole x t (is_plan.sets t (from_done (Set t) i)).0 h in let clash : None ≡ Some (decision t) = sym none ∙ has in absurd cc
-    removes_at (Remove k) x i h none = remove_least a k x h
+    other : (u v : Thing) (c : PlanChange) → IsUntouched done (name_of u) → IsIn c done → outcome c ≡ Some v → name_of u ≡ name_of v → ⊥
+    other u v c free i o e = free c i (sym (outcome-named c v o) ∙ sym e)
 
-    same_new : (y : ℕ) (c : PlanChange) (x : ℕ) (e : to.Decision) → IsIn c done → 1000 + x ≤ hitless_rank c → z y ≡ false → g y ≡ Some e → f y ≡ Some e
-    same_new y c x e i late off there =
-        let s = g_is.sound y e there in
-        elim (is_plan.whole s.0 s.1) [
-          | inl kept ↦ f_is.whole y s.0 kept s.2 ∙ ap Some s.3
-          | inr change ↦ elim change [
-            | inl make ↦ let order = still_due c (Make s.0) y i make s.2 off in let early = make_most a (name_of s.0) y s.2 in absurd (omega (arith, order, late, early))
-            | inr set ↦ let order = still_due c (Set s.0) y i set s.2 off in let early = set_most a (name_of s.0) y s.2 in absurd (omega (arith, order, late, early))
+    now_one : (u v : Thing) → IsIn u now → IsIn v now → Decides a (name_of u) → name_of u ≡ name_of v → u ≡ v
+    now_one u v i j d e =
+        elim (from u i d) [
+          | inl x ↦ elim (from v j (subst (Decides a) e d)) [ inl y ↦ old_named.one u v x.0 y.0 e | inr y ↦ absurd (other u v y.0 x.1 y.1 y.2 e) ]
+          | inr x ↦ elim (from v j (subst (Decides a) e d)) [ inl y ↦ absurd (other v u x.0 y.1 x.1 x.2 (sym e)) | inr y ↦ new_named.one u v (comes x.0 u x.1 x.2) (comes y.0 v y.1 y.2) e ]
+        ]
+
+    now_decides : (t : Thing) → IsStrongest a these t → decide now a ≡ decision t
+    now_decides = strongest-decides a now now_good now_one
+
+    -- the strongest that stands is the new ones' strongest, where it is new and no stronger one is still to be made
+    as_new : (t : Thing) → IsStrongest a these t → IsIn t new → ((v : Thing) → IsIn (Make v) due → IsIn v new → Decides a (name_of v) → strength (name_of v) ≤ strength (name_of t)) → decide now a ≡ decide new a
+    as_new t s i makes =
+        now_decides t s
+        ∙ sym (strongest-decides a new new_good (λ u v j k d e. new_named.one u v j k e) t (record {
+          there = i;
+          decides = s.decides;
+          most = λ v j d. elim (new-stands is_plan done due cut v j) [
+            | inl w ↦ let e = subst (Decides a) (sym w.2) d in subst (λ k. strength k ≤ strength (name_of t)) w.2 (s.most w.0 (here w.0 w.1 e) e)
+            | inr make ↦ makes v make j d
+          ];
+        }))
+
+    -- an old thing that decides and does not stand has been removed
+    is_gone : (u : Thing) → IsIn u old → Decides a (name_of u) → ((w : Thing) → IsIn w now → Decides a (name_of w) → name_of w ≡ name_of u → ⊥) → IsIn (Remove (name_of u)) done
+    is_gone u i d none =
+        elim (old-stands is_plan done due cut u i) [
+          | inl w ↦ let e = subst (Decides a) (sym w.2) d in absurd (none w.0 (here w.0 w.1 e) e w.2)
+          | inr gone ↦ gone
+        ]
+
+    -- and then nothing is still to be made or set
+    no_make : (k : Name) (v : Thing) → IsIn (Remove k) done → IsIn (Make v) due → ⊥
+    no_make k v gone make = let order = (before is_plan done due cut (Remove k) (Make v) gone make).0 in let least = remove_least k in let most = make_most (name_of v) in absurd (omega (arith, order, least, most))
+
+    no_set : (k : Name) (v : Thing) → IsIn (Remove k) done → IsIn (Set v) due → ⊥
+    no_set k v gone set = let order = (before is_plan done due cut (Remove k) (Set v) gone set).0 in let least = remove_least k in let most = set-most (name_of v) in absurd (omega (arith, order, least, most))
+
+    late_change : (t v : Thing) (c : PlanChange) → outcome c ≡ Some t → IsIn v new → Decides a (name_of t) → Decides a (name_of v) → strength (name_of t) < strength (name_of v) → make_rank (name_of v) < hitless_rank c
+    late_change t v (Make u) o i d e less =
+        let same : t ≡ u = cc in
+        subst (λ z. make_rank (name_of v) < make_rank (name_of z)) same (make_falls a (name_of t) (name_of v) (new_good v i) d e less)
+    late_change t v (Set u) o i d e less =
+        let same : t ≡ u = cc in
+        let most = make_most (name_of v) in
+        let is : set_rank (name_of u) ≡ 800 = ap (λ z. set_rank (name_of z)) (sym same) ∙ route_set a (name_of t) (name_of v) (new_good v i) d less in
+        omega (arith, most, is)
+    late_change t v (Remove k) o i d e less = absurd cc
+
+    -- as before: what decided decides, and no change is about it; or nothing did and does
+    abbrev pub AsBefore : Type 0
+    AsBefore = ((t : Thing) × IsStrongest a stood t × IsUntouched done (name_of t) × IsStrongest a these t) ⊎ (NoneDecides a stood × NoneDecides a these)
+
+    by_change : (t : Thing) → IsStrongest a these t → (c : PlanChange) → IsIn c done → outcome c ≡ Some t → decide now a ≡ decide new a
+    by_change t s c i o =
+        as_new t s (comes c t i o) (λ v make j d. elim (less_or (strength (name_of v)) (strength (name_of t))) [
+          | inl le ↦ le
+          | inr less ↦ let order = (before is_plan done due cut c (Make v) i make).0 in let late = late_change t v c o j s.decides d less in absurd (omega (arith, order, late))
+        ])
+
+    by_old : (t : Thing) → IsStrongest a these t → IsIn t old → IsUntouched done (name_of t) → (u : Thing) → IsStrongest a stood u → (decide now a ≡ decide new a) ⊎ AsBefore
+    by_old t s i free u most =
+        elim (less_or (strength (name_of u)) (strength (name_of t))) [
+          | inl le ↦ inr (inl (t, record { there = i; decides = s.decides; most = λ v j d. let one = most.most v j d in omega (arith, one, le) }, free, s))
+          | inr less ↦
+              let gone = is_gone u most.there most.decides (λ w j d e. let below = s.most w j d in let same : strength (name_of w) ≡ strength (name_of u) = ap strength e in absurd (omega (arith, below, same, less))) in
+              let new_t = old-new is_plan done due cut old_named t i free (λ v set e. no_set (name_of u) v gone set) (λ remove. let order = (before is_plan done due cut (Remove (name_of u)) (Remove (name_of t)) gone remove).0 in let rises = remove_rises a (name_of t) (name_of u) (old_good u most.there) s.decides most.decides less in absurd (omega (arith, order, rises))) in
+              inl (as_new t s new_t (λ v make j d. absurd (no_make (name_of u) v gone make)))
+        ]
+
+    by_none : NoneDecides a these → (decide now a ≡ decide new a) ⊎ AsBefore
+    by_none none =
+        elim (decided a old old_good) [
+          | inr old_none ↦ inr (inr (old_none.0, none))
+          | inl u ↦
+              let gone = is_gone u.0 u.1.there u.1.decides (λ w j d e. none w j d) in
+              inl (none-decides a now now_good none ∙ sym (none-decides a new new_good (λ v j d. elim (new-stands is_plan done due cut v j) [
+                | inl w ↦ let e = subst (Decides a) (sym w.2) d in none w.0 (here w.0 w.1 e) e
+                | inr make ↦ no_make (name_of u.0) v gone make
+              ])))
+        ]
+
+    -- at each moment the address is decided as by the new things, or as before
+    pub moved : (decide now a ≡ decide new a) ⊎ AsBefore
+    moved =
+        elim (decided a now now_good) [
+          | inr none ↦ by_none none.0
+          | inl t ↦ elim (from t.0 t.1.there t.1.decides) [
+            | inr c ↦ inl (by_change t.0 t.1 c.0 c.1 c.2)
+            | inl there ↦ elim (decided a old old_good) [
+              | inr none ↦ absurd (none.0 t.0 there.0 t.1.decides)
+              | inl u ↦ by_old t.0 t.1 there.0 there.1 u.0 u.1
+            ]
           ]
         ]
 
-    same_none : (y x : ℕ) (c : PlanChange) (e : to.Decision) → IsIn c done → 1000 + x ≤ hitless_rank c → x ≤ 129 → y < x → z y ≡ false → g y ≡ None → f y ≡ Some e → ⊥
-    same_none y x c e i late high less off none there =
-        let s = f_is.sound y e there in
-        elim (is_plan.gone s.0 s.1) [
-          | inl still ↦ let has = g_is.whole y still.0 still.1 (ap (λ k. decides a k y) still.2 ∙ s.2) in let clash : None ≡ Some (decision still.0) = sym none ∙ has in absurd cc
-          | inr remove ↦
-              let order = still_due c (Remove (name_of s.0)) y i remove s.2 off in
-              let early = remove_at a (name_of s.0) y s.2 (omega (arith, high, less)) in
-              absurd (omega (arith, order, late, early, less))
+    pub old-or-new : (decide now a ≡ decide old a) ⊎ (decide now a ≡ decide new a)
+    old-or-new =
+        elim moved [
+          | inl is ↦ inr is
+          | inr same ↦ inl (elim same [ inl t ↦ now_decides t.0 t.3 ∙ sym (old_decides t.0 t.1) | inr none ↦ none-decides a now now_good none.1 ∙ sym (none-decides a old old_good none.0) ])
         ]
 
-    same_by : (y x : ℕ) (c : PlanChange) (o p : Option Decision) → IsIn c done → 1000 + x ≤ hitless_rank c → x ≤ 129 → y < x → z y ≡ false → g y ≡ o → f y ≡ p → f y ≡ g y
-    same_by y x c (Some e) p i late high less off eg ef = same_new y c x e i late off eg ∙ sym eg
-    same_by y x c None None i late high less off eg ef = ef ∙ sym eg
-    same_by y x c None (Some e) i late high less off eg ef = absurd (same_none y x c e i late high less off eg ef)
+  -- ---- two moments
 
-    mixed_by : (y : ℕ) (b : Bool) → z y ≡ b → (z y ≡ false → f y ≡ g y) → cond b (g y) (f y) ≡ g y
-    mixed_by y true e same = refl
-    mixed_by y false e same = same e
+  module _ (done more due : List PlanChange) (cut : plan ≡ done ++ (more ++ due)) (now later : List Thing) (stands : ForwardsAfter old done now) (after : ForwardsAfter old (done ++ more) later) where
+    cut' : plan ≡ (done ++ more) ++ due
+    cut' = cut ∙ sym (append_assoc done more due)
 
-    removes_rise : RemovesRise f g z to.Drop
-    removes_rise x y d less on there none =
-        let c = hit-in done x on in
-        let late = removes_at c.0 x c.1 c.2 none in
-        let high = place_within a (subject c.0) x (agrees c.0 (from_done c.0 c.1)).0 c.2 in
-        mixed_by y (z y) refl (λ off. same_by y x c.0 (g y) (f y) c.1 late high less off refl refl)
+    still_there : (u : Thing) → IsIn u now → Decides a (name_of u) → IsIn u old ⊎ IsIn u later
+    still_there u i d =
+        elim (from done (more ++ due) cut now stands u i d) [
+          | inl x ↦ inl x.0
+          | inr c ↦ inr (here (done ++ more) due cut' later after u (done-stands is_plan (done ++ more) due cut' c.0 u (in-left c.0 done more c.1) c.2) d)
+        ]
 
-    -- what decides the address
-    abbrev pub switch : ℕ
-    switch = pivot f g 130
+    -- what is as before later is so now
+    so_before : AsBefore (done ++ more) due cut' later after → decide now a ≡ decide later a
+    so_before (inl t) =
+        let there = here done (more ++ due) cut now stands t.0 (still done stood t.0 (λ c i. t.2 c (in-left c done more i)) t.1.there) t.1.decides in
+        now_decides done (more ++ due) cut now stands t.0 (record { there = there; decides = t.1.decides; most = λ u i d. elim (still_there u i d) [ inl j ↦ t.1.most u j d | inr j ↦ t.3.most u j d ] })
+        ∙ sym (now_decides (done ++ more) due cut' later after t.0 t.3)
+    so_before (inr none) =
+        none-decides a now (now_good done (more ++ due) cut now stands) (λ u i d. elim (still_there u i d) [ inl j ↦ none.0 u j d | inr j ↦ none.1 u j d ])
+        ∙ sym (none-decides a later (now_good (done ++ more) due cut' later after) none.1)
 
-    pub decided : (now : List Thing) → ForwardsAfter old done now → decide now a ≡ cond (z switch) (decide new a) (decide old a)
-    decided now stands =
-        let mixed = after-profile (decides a) Decision decision IsGood (one-place a) done (λ t. IsIn t old) f g (good-names old old_named) (λ c i. agrees c (from_done c i)) f_is in
-        let now_is = profile-by (decides a) Decision decision (after_changes done (λ t. IsIn t old)) (λ t. IsIn t now) (mix z f g) (λ r t h. stands.all t (forwarding_at a (name_of t) r h)) (λ r t h. stands.sound t (forwarding_at a (name_of t) r h)) mixed in
-        let good : (t : Thing) → IsIn t now → IsGood (name_of t) = λ t i. good_if (name_of t) (λ fw. after-each (λ u. IsGood (name_of u)) done (λ u. IsIn u old) (good-names old old_named) (λ c u j o. let has = agrees c (from_done c j) in subst IsGood (sym (has.1.named u o)) has.0) t (stands.sound t fw i)) in
-        decide-best a now good (mix z f g) now_is ∙ best-mixed f g z to.Drop 130 makes_fall removes_rise
-        ∙ ap₂ (cond (z switch)) (sym (decide-best a new (good-names new new_named) g g_is)) (sym (decide-best a old (good-names old old_named) f f_is))
+    pub stays-new : decide now a ≡ decide new a → decide later a ≡ decide new a
+    stays-new is = elim (moved (done ++ more) due cut' later after) [ inl new_is ↦ new_is | inr same ↦ sym (so_before same) ∙ is ]

@@ -11,7 +11,7 @@ use Rattle.sai_types.specs.contracts.hop.HopEq.TheImpl.Laws as equal_hop
 use Rattle.sai_types.specs.contracts.hop.BaseEq.TheImpl.Laws as equal_base
 use Rattle.sai_types.specs.Forwarding.{same_hop}
 use Rattle.sai_types.specs.Refusal.{same_ip, same_prefix}
-use Rattle.plan_laws.specs.Tags.{same_hops}
+use Rattle.plan_laws.specs.Old.{same_hops}
 use Rattle.sai_types.specs.Names as name
 use Rattle.sai_types.specs.Names.{Name}
 use Rattle.sai_types.proofs.Exact.{ip-exact, prefix-exact}

@@ -12,7 +12,8 @@ use Rattle.chip_layout.specs.Layout.{Has, Layout, RefersWell, has_number, next_i
 use Rattle.sai_types.specs.Names.{Name, name_kind, name_of}
 use Rattle.chip_layout.proofs.Bodies.{first-numbered, first-refers, second-numbered, second-refers}
 use Rattle.chip_layout.specs.Renamed.{body_renamed}
-use Rattle.plan_laws.specs.Moments.{IsMoment, Resolves, plan_layout, resolve}
+use Rattle.plan_laws.specs.Calls.{Resolves, plan_layout, resolve}
+use Rattle.plan_laws.specs.Moments.{IsMoment}
 use Rattle.plan_laws.specs.Plans.{PlanChange, Make}
 use Rattle.plan_laws.proofs.Stepping.{IsDone}
 use Rattle.chip_layout.proofs.Shapes.{renamed_with}
@@ -60,15 +61,14 @@ resolves-first start view ids = record {
 }
 
 -- and after each change, where what is made has the identifier that was made for it
-module _ (old : List Thing) (done : List PlanChange) (layout : Layout Rid) (made : ℕ) (objects : Objects) (at : IsMoment old done layout made objects) (capacities : List ℕ) (c : PlanChange) (calls : List (Call Rid)) (later : Layout Rid) (is : IsDone old done layout made objects at capacities c calls later) where
-  pub resolves-next : (start : Layout Rid) (view : Layout Vid) (ids : Vid → Rid) → ((t : Thing) → c ≡ Make t → ((i : Rid) → Has start (name_of t) i → ⊥) × ((v : Vid) (u : Thing) → view v u → name_of u ≡ name_of t → has_number u ≡ true → ids v ≡ next_id made)) → Resolves start view ids layout → Resolves start view ids later
-  resolves-next start view ids makes before = record {
-    old = λ k i h j there. elim (is.fresh k j there) [
-      | inl stood ↦ is.keeps k i (before.old k i h stood.0 stood.1) j there
-      | inr new ↦ absurd ((makes new.0 new.1).0 i (subst (λ z. Has start z i) (sym new.2) h))
-    ];
-    new = λ v t h n none j there. elim (is.fresh (name_of t) j there) [
-      | inl stood ↦ is.keeps (name_of t) (ids v) (before.new v t h n none stood.0 stood.1) j there
-      | inr new ↦ subst (Has later (name_of t)) (sym ((makes new.0 new.1).1 v t h (sym new.2) n)) new.3
-    ];
-  }
+pub resolves-next : {old : List Thing} {done : List PlanChange} {layout : Layout Rid} {made : ℕ} {objects : Objects} (at : IsMoment old done layout made objects) (capacities : List ℕ) (c : PlanChange) (calls : List (Call Rid)) (later : Layout Rid) → IsDone at capacities c calls later → (start : Layout Rid) (view : Layout Vid) (ids : Vid → Rid) → ((t : Thing) → c ≡ Make t → ((i : Rid) → Has start (name_of t) i → ⊥) × ((v : Vid) (u : Thing) → view v u → name_of u ≡ name_of t → has_number u ≡ true → ids v ≡ next_id made)) → Resolves start view ids layout → Resolves start view ids later
+resolves-next at capacities c calls later is start view ids makes before = record {
+  old = λ k i h j there. elim (is.fresh k j there) [
+    | inl stood ↦ is.keeps k i (before.old k i h stood.0 stood.1) j there
+    | inr new ↦ absurd ((makes new.0 new.1).0 i (subst (λ z. Has start z i) (sym new.2) h))
+  ];
+  new = λ v t h n none j there. elim (is.fresh (name_of t) j there) [
+    | inl stood ↦ is.keeps (name_of t) (ids v) (before.new v t h n none stood.0 stood.1) j there
+    | inr new ↦ subst (Has later (name_of t)) (sym ((makes new.0 new.1).1 v t h (sym new.2) n)) new.3
+  ];
+}

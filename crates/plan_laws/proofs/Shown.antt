@@ -7,6 +7,7 @@ use Rattle.sai_types.specs.declared.hop.Hop.{Hop}
 use Rattle.sai_types.specs.declared.body.Body.{Body}
 use Rattle.sai_types.specs.declared.body.Entry.{Entry}
 use Rattle.sai_types.specs.declared.body.Entry.TheVariants as entry
+use Rattle.sai_types.specs.declared.thing.Goal.{Goal}
 use Rattle.sai_types.specs.declared.thing.Goal.TheVariants as goal
 use Rattle.sai_types.specs.declared.thing.Thing.{Thing}
 use Rattle.sai_types.specs.declared.thing.Thing.TheVariants as thing
@@ -18,14 +19,24 @@ use Rattle.sai_types.specs.Objects.{Objects}
 use Rattle.chip_layout.specs.Layout.{Has, IsLaidOut, Layout}
 use Rattle.sai_types.specs.Names as name
 use Rattle.sai_types.specs.Names.{Name, name_of}
+use Rattle.chip_layout.proofs.Answering.{in_those, thing_in, those_in}
 use Rattle.chip_layout.proofs.Naming.{among, hop_named, next_hop_named, rif_by}
 use Rattle.plan_laws.specs.Steady.{IsForwarding}
-use Rattle.plan_laws.specs.Tags.{real_route}
 use Rattle.chip_layout.specs.Bodies.{IsAt, IsBody, body_with, first_name}
 use Rattle.sai_types.proofs.Found.{same-symm}
 use Rattle.sai_types.proofs.Listed.{found-in, in-found, object-of_thing}
 use Rattle.sai_types.proofs.Rising.{hop_exact, hop_total, same-rising}
 use Rattle.sai_types.proofs.Things.{both_mapped}
+
+-- a goal by the hops that its tag is for
+abbrev pub real_goal : (List Hop → List Hop) → Goal → Goal
+real_goal hops_of (goal.Group tag) = goal.Group (hops_of tag)
+real_goal hops_of g = g
+
+-- a route with the hops that its tag is for
+abbrev pub real_route : (List Hop → List Hop) → Thing → Thing
+real_route hops_of (thing.Route p g) = thing.Route p (real_goal hops_of g)
+real_route hops_of t = t
 
 -- each group that a route points at has members for the hops that its tag is for
 pub record AreTargets (hops_of : List Hop → List Hop) (layout : Layout Rid) : Type 0 where
@@ -84,27 +95,9 @@ module _ (layout : Layout Rid) (objects : Objects) (laid : IsLaidOut layout obje
   back_by (thing.Group hs) e a c t is fw = group_not e a c hs t is fw
   back_by (thing.GroupMember hs h) e a c t is fw = let m = both_mapped thing.GroupMember _ _ t is in subst (λ z. IsForwarding (name_of z)) (sym m.4) fw
 
-  in_those : (os : List (Option Thing)) (t : Thing) → IsIn t (those os) → IsIn (Some t) os
-  in_those [] t i = elim i [ ]
-  in_those (None ∷ os) t i = inr (in_those os t i)
-  in_those (Some x ∷ os) t (inl is) = inl (ap Some is)
-  in_those (Some x ∷ os) t (inr i) = inr (in_those os t i)
-
-  those_in : (os : List (Option Thing)) (t : Thing) → IsIn (Some t) os → IsIn t (those os)
-  those_in [] t i = elim i [ ]
-  those_in (None ∷ os) t (inl is) = absurd cc
-  those_in (None ∷ os) t (inr i) = those_in os t i
-  those_in (Some x ∷ os) t (inl is) = inl cc
-  those_in (Some x ∷ os) t (inr i) = inr (those_in os t i)
-
-  in_among : (os : Objects) (e : Entry Rid) (b : Body Rid) → IsIn (e, b) os → IsIn (thing_of objects (e, b)) (things_among objects os)
-  in_among [] e b i = elim i [ ]
-  in_among (o ∷ os) e b (inl is) = inl (ap (thing_of objects) is)
-  in_among (o ∷ os) e b (inr i) = inr (in_among os e b i)
-
   pub shown-sound : (t : Thing) → IsForwarding (name_of t) → IsIn t (those (named objects)) → (i : Rid) × (u : Thing) × layout i u × (real_route hops_of u ≡ t)
   shown-sound t fw i =
-      let object = object-of_thing objects objects (Some t) (in_those (named objects) t i) in
+      let object = object-of_thing objects objects (Some t) (those_in t (named objects) i) in
       let owner = laid.tied object.0 object.1 (found-in objects object.0 object.1 whole.sorted object.2) in
       let at : thing_of objects (object.0, body_with owner.1 owner.3.first owner.3.second) ≡ Some t = ap (λ z. thing_of objects (object.0, z)) (sym owner.3.body_is) ∙ sym object.3 in
       let fw' = back_by owner.1 object.0 owner.3.first owner.3.second t at fw in
@@ -115,4 +108,4 @@ module _ (layout : Layout Rid) (objects : Objects) (laid : IsLaidOut layout obje
   shown-all i u h fw =
       let has = laid.stand i u h in
       let object = in-found objects (entry_of i.0 has.0) has.0 has.2 in
-      those_in (named objects) (real_route hops_of u) (subst (λ o. IsIn o (named objects)) (shown_of i u object.0 has.0 h fw has.1) (in_among objects object.0 has.0 object.2))
+      in_those (real_route hops_of u) (named objects) (subst (λ o. IsIn o (named objects)) (shown_of i u object.0 has.0 h fw has.1) (thing_in objects objects object.0 has.0 object.2))

@@ -1,14 +1,31 @@
--- tags of groups, and the hops that they are for
-use Rattle.std.proofs.Common.{◌≡◌, inl, inr, ◌⊎◌, ℕ, zero, suc, Bool, true, false, cond, List, [], ◌∷◌, refl, sym, ap, ◌∙◌, subst}
+-- tags of groups: no two groups have one, and each is for the hops of its group
+use Rattle.std.proofs.Common.{◌≡◌, inl, inr, ◌⊎◌, ℕ, zero, suc, Bool, true, false, cond, ◌&&◌, ◌||◌, not, nat_lt, List, [], ◌∷◌, map, Some, refl, sym, ap, ◌∙◌, subst, arith}
+use Rattle.std.specs.List.{list_any}
 use Rattle.std.specs.List.Sorted.{IsStrictlySortedBy}
 use Rattle.std.specs.declared.cmp.Ordering.TheVariants.{Less}
+use Rattle.std.proofs.lemmas.Bool.{and_parts, false≢true}
+use Rattle.std.proofs.lemmas.Bool.Decides.{nat_tests}
 use Rattle.sai_types.specs.declared.ids.Rid.{Rid}
+use Rattle.sai_types.specs.declared.body.Body.{Body}
+use Rattle.sai_types.specs.declared.body.Body.TheVariants as body
+use Rattle.sai_types.specs.declared.body.Entry.{Entry}
+use Rattle.sai_types.specs.declared.body.Entry.TheVariants as entry
 use Rattle.sai_types.specs.declared.hop.Hop.{Hop}
+use Rattle.sai_types.specs.declared.thing.Thing.{Thing}
+use Rattle.sai_types.specs.declared.thing.Thing.TheVariants as thing
 use Rattle.sai_types.specs.Alike.{IsIn}
 use Rattle.sai_types.specs.Named.{hop_cmp}
-use Rattle.plan_laws.specs.Tags.{filler, no_hop, same_hops, tag_for}
+use Rattle.sai_types.specs.Objects.{Objects, body_at}
+use Rattle.sai_types.specs.Refusal.{same_id}
+use Rattle.sai_types.proofs.Exact.{entry-exact, id-exact}
+use Rattle.sai_types.proofs.Keys.{both_true}
+use Rattle.sai_types.proofs.Listed.{in-found}
+use Rattle.chip_layout.proofs.Answering.{in_those}
+use Rattle.plan_laws.specs.Old.{filler, group_of, group_stays, groups_of, is_double, is_group_of, no_hop, same_hops, shown_hops, tag_for}
+use Rattle.plan_laws.proofs.Lists.{any-in, in-any, in-map}
 use Rattle.plan_laws.proofs.Named.{hops_exact, hops_refl}
-use Rattle.std.proofs.lemmas.Bool.{false≢true}
+
+-- ---- fillers
 
 not_rising : (hops : List Hop) → IsStrictlySortedBy hop_cmp (no_hop ∷ no_hop ∷ hops) → ⊥
 unfolding IsStrictlySortedBy
@@ -72,3 +89,47 @@ module _ (kept : Rid → Bool) (hops : Rid → List Hop) (rising : (g : Rid) →
   pub hops-rising : (gs : List Rid) (tag : List Hop) → IsStrictlySortedBy hop_cmp tag → hops_for gs tag ≡ tag
   hops-rising [] tag up = refl
   hops-rising (g ∷ gs) tag up = rising_by (same_hops (tag_for kept hops g) tag) g tag (hops_for gs tag) refl up (hops-rising gs tag up)
+
+-- ---- the groups of a chip, and which of them stay
+
+pub all-groups : (objects : Objects) (g : Rid) → body_at objects (entry.Oid g) ≡ Some body.Group → IsIn g (groups_of objects)
+all-groups objects g found =
+    let o = in-found objects (entry.Oid g) body.Group found in
+    in_those g (map group_of objects) (in-map group_of objects (entry.Oid g, body.Group) (subst (λ e. IsIn (e, body.Group) objects) (sym (entry-exact (entry.Oid g) o.0 o.1)) o.2))
+
+not_false : (b : Bool) → not b ≡ true → b ≡ false
+not_false true h = absurd (false≢true h)
+not_false false h = refl
+
+lesser_or : (m n : ℕ) → (nat_lt m n ≡ true) ⊎ ((nat_lt n m ≡ true) ⊎ (m ≡ n))
+lesser_or m n = grind (arith, nat_tests)
+
+module _ (objects : Objects) (new : List Thing) where
+  record IsStaying (g : Rid) : Type 0 where
+    pub there : IsIn g (groups_of objects)
+    pub wanted : list_any (is_group_of (shown_hops objects g)) new ≡ true
+    pub least : is_double objects g ≡ false
+
+  kept_parts : (g : Rid) → group_stays objects new g ≡ true → IsStaying g
+  kept_parts g h =
+      let parts = and_parts (list_any (same_id g) (groups_of objects)) _ h in
+      let rest = and_parts (list_any (is_group_of (shown_hops objects g)) new) _ parts.1 in
+      let x = any-in (same_id g) (groups_of objects) parts.0 in
+      record { there = subst (λ z. IsIn z (groups_of objects)) (sym (id-exact g x.0 x.2)) x.1; wanted = rest.0; least = not_false _ rest.1 }
+
+  not_less : (g h : Rid) → IsStaying g → IsStaying h → shown_hops objects g ≡ shown_hops objects h → nat_lt g.0 h.0 ≡ true → ⊥
+  not_less g h x y same less =
+      let hops : same_hops (shown_hops objects g) (shown_hops objects h) ≡ true = ap (λ z. same_hops (shown_hops objects g) z) (sym same) ∙ hops_refl (shown_hops objects g) in
+      false≢true (sym y.least ∙ in-any (λ k. nat_lt k.0 h.0 && same_hops (shown_hops objects k) (shown_hops objects h)) (groups_of objects) g x.there (both_true (nat_lt g.0 h.0) _ less hops))
+
+  pub stays-apart : (g h : Rid) → group_stays objects new g ≡ true → group_stays objects new h ≡ true → shown_hops objects g ≡ shown_hops objects h → g ≡ h
+  stays-apart g h x y same =
+      let p = kept_parts g x in
+      let q = kept_parts h y in
+      elim (lesser_or g.0 h.0) [
+        | inl less ↦ absurd (not_less g h p q same less)
+        | inr other ↦ elim other [
+          | inl more ↦ absurd (not_less h g q p (sym same) more)
+          | inr is ↦ let made : ℕ → Rid = λ n. record { 0 = n } in ap made is
+        ]
+      ]
