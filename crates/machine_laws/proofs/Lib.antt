@@ -1,0 +1,15 @@
+pub mod Rows
+pub mod Four
+pub mod Fitting
+pub mod Switched
+pub mod Settling
+pub mod Waiting
+pub mod Draining
+pub mod Quieting
+pub mod Unnamed
+pub mod Staying
+pub mod Telling
+pub mod Named
+pub mod Dated
+pub mod Possible
+pub mod Places

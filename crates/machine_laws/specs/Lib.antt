@@ -1,0 +1,5 @@
+pub mod Reading
+pub mod ToSync
+pub mod Settling
+pub mod Quiet
+pub mod Logged
