@@ -1,5 +1,5 @@
--- what holds between events is kept by each of them, and their calls are legal
-use Rattle.std.proofs.Common.{◌≡◌, ◌⊎◌, ◌+◌, ◌<◌, ◌≤◌, ◌∷◌, ◌∙◌, inl, inr, ℕ, zero, suc, List, [], Option, None, Some, refl, sym, ap, subst, arith}
+-- what holds between events is kept by each of them, and the call of each is legal
+use Rattle.std.proofs.Common.{◌≡◌, ◌⊎◌, ◌+◌, ◌<◌, ◌≤◌, ◌∷◌, ◌∙◌, inl, inr, ℕ, List, [], Option, None, Some, refl, sym, ap, subst, arith}
 use Rattle.table_schema.specs.Plan.{Ports, IsPlan}
 use Rattle.table_schema.specs.declared.key.Key.{Key}
 use Rattle.table_schema.specs.declared.row.Row.{Row}
@@ -8,33 +8,31 @@ use Rattle.sai_types.specs.declared.kind.Kind.{Kind}
 use Rattle.sai_types.specs.declared.body.Call.{Call}
 use Rattle.sai_types.specs.declared.thing.Thing.{Thing}
 use Rattle.sai_types.specs.After.{after_call}
-use Rattle.sai_types.specs.Alike.{IsAlike, IsIn}
-use Rattle.sai_types.specs.Made.{AreLegal, IsWhole, made_after}
+use Rattle.sai_types.specs.Alike.{IsIn}
+use Rattle.sai_types.specs.Made.{IsWhole, made_after}
 use Rattle.sai_types.specs.Objects.{Objects, used}
 use Rattle.sai_types.specs.Refusal.{IsLegal, capacity_of}
-use Rattle.sai_types.proofs.Whole.{whole-after_call, whole-empty}
-use Rattle.switch_model.specs.Desired.{IsThingOf}
-use Rattle.table_schema.specs.Rows.{fields_at, rows_of}
+use Rattle.sai_types.proofs.Whole.{whole-after_call}
 use Rattle.switch_model.specs.Good.{TypedRows, good_row}
-use Rattle.switch_machine.specs.Written.{IsTold, good_of}
-use Rattle.switch_machine.proofs.Telling.{told-taken}
+use Rattle.switch_machine.specs.Written.{ArePopped, HasWrittenRows, IsAsBefore, IsGoodOnce, IsPoppedKey, IsTold, good_of}
+use Rattle.switch_machine.proofs.Dated.{dated-popped, dated-taken, follows-row, good-once, good-taken, started-row}
+use Rattle.switch_machine.proofs.Telling.{told-popped, told-taken}
 use Rattle.chip_layout.specs.Layout.{IsLaidOut, listed}
-use Rattle.chip_layout.proofs.Shapes.{laid-none, laid-same}
+use Rattle.chip_layout.proofs.Shapes.{laid-same}
 use Rattle.row_layout.specs.Rows.{Owner}
 use Rattle.row_layout.specs.Operations.{Change, Make, Set, Take, shared_going, take_all}
 use Rattle.switch_machine.specs.Changes.{IsCall, after, changed_by}
-use Rattle.switch_machine.specs.Flights.{Board, Can, Flight, IsRow, IsUser, Machine, Runs, StandsIn}
+use Rattle.switch_machine.specs.Flights.{Board, Can, Flight, IsRow, Machine, Runs, StandsIn}
 use Rattle.switch_machine.specs.Steps.{Ends, LeavesOthers, Moves, left, moved, parted, started}
-use Rattle.switch_machine.specs.Places.{AreCovered, HasPlaces, makes, missing, sum_below}
+use Rattle.switch_machine.specs.Places.{AreCovered, HasPlaces, makes, missing}
 use Rattle.switch_machine.specs.Consistent.{IsCurrent, IsConsistent}
 use Rattle.switch_machine.specs.Tables.{Tables}
-use Rattle.switch_machine.specs.Events.{IsAnswer, SwitchState, IsDrop, Due, Ended, Follows, IsDueCall, IsEvent, IsGiven, IsSafe, IsQuiet, AreEvents, Left, IsPop, Retires, IsBegin, IsTake, with_made_call, calls_of, empty_switch, after_events}
+use Rattle.switch_machine.specs.Events.{IsAnswer, SwitchState, IsDrop, Due, Ended, Follows, IsDueCall, IsEvent, IsGiven, IsSafe, Left, IsPop, Retires, IsBegin, IsTake, Popped, PopsKey, Stays}
 use Rattle.switch_machine.proofs.Beginning.{sound-begun, sound-retired, starts}
 use Rattle.switch_machine.proofs.Calling.{make-is_laid, make-is_legal, set-is_laid, set-is_legal, take-is_laid, take-is_legal}
 use Rattle.switch_machine.proofs.Ending.{current-ended, sound-ended}
 use Rattle.switch_machine.proofs.Leaving.{current-left, sound-left}
 use Rattle.switch_machine.proofs.Moving.{sound-moved}
-use Rattle.switch_machine.proofs.Resting.{alike-rest}
 use Rattle.switch_machine.proofs.Roomy.{covered-ended, covered-left, covered-moved, covered-started, places-begun, places-kept, room-covered, room-due}
 use Rattle.switch_machine.proofs.Starting.{current-started}
 use Rattle.switch_machine.proofs.Splits.{put_at, put_off}
@@ -122,8 +120,14 @@ module _ (plan : Ports) (is : IsPlan plan) (workers : ℕ) (capacities : List �
     synced = λ k. synced k (kept.synced k);
     told = subst IsTold (sym x.written) kept.told;
     covered = same_covered x.worker first t.machine x.follows (covered-started s.machine x.worker x.flight x.due kept.covered);
+    dated = subst HasWrittenRows (sym x.written) kept.dated;
+    good = λ k r h. subst (λ z. IsGoodOnce plan z.taken k r) (sym x.written) (good k r (started-row s.machine x.worker x.flight x.due k r (follows-row plan x.worker first t.machine k r x.follows h)));
   }
     where
+      good : (k : Key) (r : Row) → IsRow s.machine.board k r ⊎ ((x.flight.key ≡ k) × (x.flight.new ≡ Some r)) → IsGoodOnce plan s.written.taken k r
+      good k r (inl h) = kept.good k r h
+      good k r (inr (same, new)) = good-once plan s.written kept.dated k r (ap (good_of plan s.written) (sym same) ∙ sym x.new ∙ new)
+
       first : Machine
       first = started s.machine x.worker x.flight x.due
 
@@ -144,7 +148,7 @@ module _ (plan : Ports) (is : IsPlan plan) (workers : ℕ) (capacities : List �
       queued k (inr h) = inl h
 
       synced : (k : Key) → IsIn k s.to_sync ⊎ IsCurrent s.machine.board (good_of plan s.written) k → IsIn k t.to_sync ⊎ IsCurrent t.machine.board (good_of plan t.written) k
-      synced k (inl h) = queued k (x.to_sync k h)
+      synced k (inl h) = queued k (x.to_sync.others k h)
       synced k (inr h) = inr (current k (inl h))
 
   -- ---- a write is taken
@@ -157,6 +161,8 @@ module _ (plan : Ports) (is : IsPlan plan) (workers : ℕ) (capacities : List �
     synced = λ k. synced k (kept.synced k);
     told = λ k. told-taken x.write s.written t.written x.taken kept.told k;
     covered = subst AreCovered (sym x.machine) kept.covered;
+    dated = dated-taken x.write s.written t.written x.taken kept.dated;
+    good = λ k r h. good-taken plan x.write s.written t.written x.taken k r (kept.good k r (subst (λ z. IsRow z.board k r) x.machine h));
   }
     where
       now : (k : Key) → IsCurrent s.machine.board (good_of plan s.written) k → IsCurrent s.machine.board (good_of plan t.written) k
@@ -174,20 +180,29 @@ module _ (plan : Ports) (is : IsPlan plan) (workers : ℕ) (capacities : List �
     whole = subst (λ z. IsWhole z t.objects) (sym x.made) (subst (IsWhole s.made) (sym x.objects) kept.whole);
     laid = subst (λ z. IsLaidOut (listed z.stands) t.objects) (sym x.machine) (subst (IsLaidOut (listed s.machine.stands)) (sym x.objects) kept.laid);
     places = subst (HasPlaces workers capacities t.objects) (sym x.machine) (subst (λ z. HasPlaces workers capacities z s.machine) (sym x.objects) kept.places);
-    synced = λ k. synced k (kept.synced k) (x.popped.popped k);
-    told = λ k. ap (λ z. fields_at (rows_of z) k) x.popped.taken ∙ kept.told k ∙ sym (x.popped.told k);
+    synced = λ k. synced k (kept.synced k) (x.keys k);
+    told = told-popped s.written t.written popped kept.told;
     covered = subst AreCovered (sym x.machine) kept.covered;
+    dated = dated-popped s.written t.written kept.told popped kept.dated;
+    good = λ k r h. subst (λ ts. IsGoodOnce plan ts k r) (sym x.taken) (kept.good k r (subst (λ z. IsRow z.board k r) x.machine h));
   }
     where
+      keys : (k : Key) → PopsKey s t k → IsAsBefore s.written t.written k ⊎ IsPoppedKey s.written t.written k
+      keys k (Stays same none) = inl same
+      keys k (Popped had popped at) = inr popped
+
+      popped : ArePopped s.written t.written
+      popped = record { taken = x.taken; keys = λ k. keys k (x.keys k) }
+
       -- the good row of the key is as it was
       same_good : (b : Board) (old new : TypedRows) (k : Key) → new k ≡ old k → IsCurrent b old k → IsCurrent b new k
       same_good b old new k e (inl h) = inl (h.0, h.1 ∙ sym e)
       same_good b old new k e (inr (w, f, at, is, that)) = inr (w, f, at, is, that ∙ sym e)
 
-      synced : (k : Key) → IsIn k s.to_sync ⊎ IsCurrent s.machine.board (good_of plan s.written) k → IsIn k t.to_sync ⊎ (t.written.rows k ≡ s.written.rows k) → IsIn k t.to_sync ⊎ IsCurrent t.machine.board (good_of plan t.written) k
-      synced k _ (inl h) = inl h
-      synced k (inl h) (inr same) = inl (x.kept k h)
-      synced k (inr h) (inr same) = inr (subst (λ z. IsCurrent z.board (good_of plan t.written) k) (sym x.machine) (same_good s.machine.board (good_of plan s.written) (good_of plan t.written) k (ap (good_row plan k) same) h))
+      synced : (k : Key) → IsIn k s.to_sync ⊎ IsCurrent s.machine.board (good_of plan s.written) k → PopsKey s t k → IsIn k t.to_sync ⊎ IsCurrent t.machine.board (good_of plan t.written) k
+      synced k (inl h) _ = inl (x.kept k h)
+      synced k (inr h) (Popped had popped at) = inl at
+      synced k (inr h) (Stays same none) = inr (subst (λ z. IsCurrent z.board (good_of plan t.written) k) (sym x.machine) (same_good s.machine.board (good_of plan s.written) (good_of plan t.written) k (ap (good_row plan k) same.row) h))
 
   kept_drops : (s t : SwitchState) → IsSafe plan workers capacities s → IsDrop plan s t → IsSafe plan workers capacities t
   kept_drops s t kept x = record {
@@ -198,6 +213,8 @@ module _ (plan : Ports) (is : IsPlan plan) (workers : ℕ) (capacities : List �
     synced = λ k. synced k (kept.synced k);
     told = subst IsTold (sym x.written) kept.told;
     covered = subst AreCovered (sym x.machine) kept.covered;
+    dated = subst HasWrittenRows (sym x.written) kept.dated;
+    good = λ k r h. subst (λ z. IsGoodOnce plan z.taken k r) (sym x.written) (kept.good k r (subst (λ z. IsRow z.board k r) x.machine h));
   }
     where
       now : (k : Key) → IsCurrent s.machine.board (good_of plan s.written) k → IsCurrent t.machine.board (good_of plan t.written) k
@@ -208,7 +225,7 @@ module _ (plan : Ports) (is : IsPlan plan) (workers : ℕ) (capacities : List �
       queued k (inl same) = inr (now k (subst (IsCurrent s.machine.board (good_of plan s.written)) (sym same) (inl (x.rests, x.same))))
 
       synced : (k : Key) → IsIn k s.to_sync ⊎ IsCurrent s.machine.board (good_of plan s.written) k → IsIn k t.to_sync ⊎ IsCurrent t.machine.board (good_of plan t.written) k
-      synced k (inl h) = queued k (x.to_sync k h)
+      synced k (inl h) = queued k (x.to_sync.others k h)
       synced k (inr h) = inr (now k h)
 
   -- ---- a call is made
@@ -259,90 +276,17 @@ module _ (plan : Ports) (is : IsPlan plan) (workers : ℕ) (capacities : List �
       synced = λ k. synced k (kept.synced k);
       told = subst IsTold (sym x.written) kept.told;
       covered = same_covered x.next.worker first t.machine x.follows (covered-moved s.machine x.next.worker x.next.change x.next.rest x.stands x.next.due kept.covered);
+      dated = subst HasWrittenRows (sym x.written) kept.dated;
+      good = λ k r h. subst (λ z. IsGoodOnce plan z.taken k r) (sym x.written) (kept.good k r (follows-row plan x.next.worker first t.machine k r x.follows h));
     }
       where
         synced : (k : Key) → IsIn k s.to_sync ⊎ IsCurrent s.machine.board (good_of plan s.written) k → IsIn k t.to_sync ⊎ IsCurrent t.machine.board (good_of plan t.written) k
         synced k (inl h) = inl (subst (IsIn k) (sym x.to_sync) h)
         synced k (inr h) = inr (subst (λ z. IsCurrent t.machine.board (good_of plan z) k) (sym x.written) (same_current x.next.worker (moved s.machine x.next.worker x.next.rest x.stands) t.machine (good_of plan s.written) k sound_first x.follows h))
 
-  -- ---- runs
-
-  kept_event : (s t : SwitchState) (c : Option (Call Rid)) → IsSafe plan workers capacities s → IsEvent plan workers capacities s c t → IsSafe plan workers capacities t
-  kept_event s t None kept (inl x) = kept_takes s t kept x
-  kept_event s t None kept (inr (inl x)) = kept_pops s t kept x
-  kept_event s t None kept (inr (inr (inl x))) = kept_drops s t kept x
-  kept_event s t None kept (inr (inr (inr x))) = kept_starting s t kept x
-  kept_event s t (Some call) kept x = kept-answers s t kept call x
-
-  pub kept-run : (s : SwitchState) (es : List (Option (Call Rid) × SwitchState)) → IsSafe plan workers capacities s → AreEvents plan workers capacities s es → IsSafe plan workers capacities (after_events s es)
-  kept-run s [] kept run = kept
-  kept-run s (e ∷ es) kept run = kept-run e.1 es (kept_event s e.1 e.0 kept run.0) run.1
-
-  legal_event : (s t : SwitchState) (c : Option (Call Rid)) (calls : List (Call Rid)) → IsSafe plan workers capacities s → IsEvent plan workers capacities s c t → AreLegal capacities t.made t.objects calls → AreLegal capacities s.made s.objects (with_made_call c calls)
-  legal_event s t None calls kept (inl x) h = subst (λ z. AreLegal capacities z s.objects calls) x.made (subst (λ z. AreLegal capacities t.made z calls) x.objects h)
-  legal_event s t None calls kept (inr (inl x)) h = subst (λ z. AreLegal capacities z s.objects calls) x.made (subst (λ z. AreLegal capacities t.made z calls) x.objects h)
-  legal_event s t None calls kept (inr (inr (inl x))) h = subst (λ z. AreLegal capacities z s.objects calls) x.made (subst (λ z. AreLegal capacities t.made z calls) x.objects h)
-  legal_event s t None calls kept (inr (inr (inr x))) h = subst (λ z. AreLegal capacities z s.objects calls) x.made (subst (λ z. AreLegal capacities t.made z calls) x.objects h)
-  legal_event s t (Some call) calls kept x h = (legal-call s kept call x.next, subst (λ z. AreLegal capacities z (after_call (s.made + 1) s.objects call) calls) x.made (subst (λ z. AreLegal capacities t.made z calls) x.objects h))
-
-  -- each call of a run is legal
-  pub legal-run : (s : SwitchState) (es : List (Option (Call Rid) × SwitchState)) → IsSafe plan workers capacities s → AreEvents plan workers capacities s es → AreLegal capacities s.made s.objects (calls_of es)
-  legal-run s [] kept run = tt
-  legal-run s (e ∷ es) kept run = legal_event s e.1 e.0 (calls_of es) kept run.0 (legal-run e.1 es (kept_event s e.1 e.0 kept run.0) run.1)
-
-  -- without operations the chip is alike to the things of the applied rows
-  pub alike-quiet : (s : SwitchState) → IsSafe plan workers capacities s → IsQuiet s → IsAlike s.objects (IsThingOf plan s.machine.board.applied)
-  alike-quiet s kept quiet = alike-rest plan T s.machine kept.sound quiet s.made s.objects kept.whole kept.laid
-
-  -- and a key that is not to sync has its good row
-  pub good-quiet : (s : SwitchState) → IsSafe plan workers capacities s → IsQuiet s → (k : Key) → (IsIn k s.to_sync → ⊥) → s.machine.board.applied k ≡ good_of plan s.written k
-  good-quiet s kept quiet k none = by (kept.synced k)
-    where
-      by : IsIn k s.to_sync ⊎ IsCurrent s.machine.board (good_of plan s.written) k → s.machine.board.applied k ≡ good_of plan s.written k
-      by (inl h) = absurd (none h)
-      by (inr (inl h)) = h.1
-      by (inr (inr (w, f, at, is, that))) = absurd (quiet w f at)
-
-  -- the core begins kept
-  pub kept-empty : IsSafe plan workers capacities empty_switch
-  kept-empty = record {
-    sound = record {
-      board = record {
-        one = λ w v f g at there same. absurd cc;
-        fit = λ k r row. no_row k r row;
-        named = λ k p r row h. no_row k r row;
-        leaves = λ w f o at h. absurd cc;
-        left = λ w f o at h. absurd cc;
-        unused = λ w f k o at h user. cc;
-        once = λ w v f g o at there x y. absurd cc;
-      };
-      owned = λ u h. elim h.1 [ ];
-      rest = λ k u rests of. (λ h. elim h.1 [ ], λ h. elim h [ ]);
-      runs = λ w f at. absurd cc;
-      present = λ k n firm h. let x = firm.applied in absurd cc;
-      like = λ k u h of. elim h.1 [ ];
-      held = λ o u h of shared. elim h.1 [ ];
-      used = λ k o u n h of refers is shared. elim h.1 [ ];
-      steady = λ k o u x n h of refers is shared in_it. elim h.1 [ ];
-      whole = λ k o u user quiet h. no_user k o user;
-      quiet = λ w f k o at t user. absurd cc;
-    };
-    whole = whole-empty;
-    laid = laid-none (listed []) (λ i t h. h);
-    places = λ kind. omega (arith, none_due kind workers);
-    synced = λ k. inr (inl ((λ w f at is. cc), refl));
-    told = λ k. refl;
-    covered = record { due = λ w kind. omega arith; idle = λ w none. refl };
-  }
-    where
-      no_row : {X : Type 0} (k : Key) (r : Row) → IsRow empty_switch.machine.board k r → X
-      no_row k r (inl h) = absurd cc
-      no_row k r (inr (w, f, at, is, new)) = absurd cc
-
-      no_user : {X : Type 0} (k : Key) (o : Owner) → IsUser plan empty_switch.machine.board k o → X
-      no_user k o (inl (w, f, at, is, counts)) = absurd cc
-      no_user k o (inr (rests, h)) = elim h [ ]
-
-      none_due : (kind : Kind) (n : ℕ) → sum_below n (λ w. 0) ≡ 0
-      none_due kind zero = refl
-      none_due kind (suc n) = let rest = none_due kind n in omega (arith, rest)
+  pub kept-event : (s t : SwitchState) (c : Option (Call Rid)) → IsSafe plan workers capacities s → IsEvent plan workers capacities s c t → IsSafe plan workers capacities t
+  kept-event s t None kept (inl x) = kept_takes s t kept x
+  kept-event s t None kept (inr (inl x)) = kept_pops s t kept x
+  kept-event s t None kept (inr (inr (inl x))) = kept_drops s t kept x
+  kept-event s t None kept (inr (inr (inr x))) = kept_starting s t kept x
+  kept-event s t (Some call) kept x = kept-answers s t kept call x

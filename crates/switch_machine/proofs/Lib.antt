@@ -15,7 +15,9 @@ pub mod Beginning
 pub mod Roomy
 pub mod Overflowing
 pub mod Telling
+pub mod Dated
 pub mod Kept
+pub mod Runs
 pub mod Reasoned
 pub mod Renaming
 pub mod Solo

@@ -1,5 +1,6 @@
 -- the reasons of keys that wait are true, the applied rows are closed, and what a route points at is whole
-use Rattle.std.proofs.Common.{◌≡◌, ◌⊎◌, ◌<◌, ◌&&◌, ◌∷◌, ◌∙◌, ℕ, Bool, true, List, [], Some, is_some, inl, inr, refl, sym, ap, subst}
+use Rattle.std.proofs.Common.{◌+◌, ◌≤◌, zero, suc, Option, None, arith, ◌≡◌, ◌⊎◌, ◌<◌, ◌&&◌, ◌∷◌, ◌∙◌, ℕ, Bool, true, List, [], Some, is_some, inl, inr, refl, sym, ap, subst}
+use Rattle.std.proofs.lemmas.Bool.{cases_order}
 use Rattle.table_schema.specs.Plan.{Ports, IsPlan}
 use Rattle.table_schema.specs.Names.{names_of}
 use Rattle.table_schema.specs.declared.key.Key.{Key}
@@ -12,6 +13,8 @@ use Rattle.sai_types.specs.declared.thing.Goal.{Goal}
 use Rattle.sai_types.specs.declared.thing.Goal.TheVariants as goal
 use Rattle.sai_types.specs.declared.thing.Thing.TheVariants as thing
 use Rattle.sai_types.specs.Alike.{IsIn}
+use Rattle.sai_types.specs.Objects.{level, used}
+use Rattle.sai_types.specs.Refusal.{capacity_of}
 use Rattle.switch_model.specs.Desired.{IsClosed, have_rows}
 use Rattle.switch_model.specs.Good.{TypedRows}
 use Rattle.switch_model.specs.Marks.{IsTrueReason, NamesFirstKind, Overflows}
@@ -25,7 +28,8 @@ use Rattle.row_layout.specs.Rows.{own_things}
 use Rattle.row_layout.specs.Operations.{Change, Make, Set, Take}
 use Rattle.switch_machine.specs.Events.{SwitchState, IsDueCall, IsSafe, IsQuiet}
 use Rattle.switch_machine.specs.Flights.{Can, Flight, IsRow, Runs, StandsIn}
-use Rattle.switch_machine.specs.Reasons.{IsReason, LacksRoom}
+use Rattle.switch_machine.specs.Places.{makes, places_kept, sum_below}
+use Rattle.switch_machine.specs.Reasons.{IsInTheWay, IsReason, LacksRoom}
 use Rattle.switch_machine.specs.Changes.{IsSamePort}
 use Rattle.switch_machine.specs.Consistent.{IsLike}
 use Rattle.switch_machine.specs.Written.{good_of}
@@ -39,6 +43,13 @@ all_rows rows (k ∷ ks) f = both (is_some (rows k)) (have_rows rows ks) (f k (i
   where
     both : (a b : Bool) → a ≡ true → b ≡ true → (a && b) ≡ true
     both a b x y = cc
+
+sum_none : (n : ℕ) (f : ℕ → ℕ) → ((v : ℕ) → f v ≡ 0) → sum_below n f ≡ 0
+sum_none zero f none = refl
+sum_none (suc n) f none =
+    let rest = sum_none n f none in
+    let last = none n in
+    omega (arith, rest, last)
 
 one_row : (r x : Row) → Some r ≡ Some x → r ≡ x
 one_row r x h = cc
@@ -72,20 +83,47 @@ module _ (plan : Ports) (is : IsPlan plan) (workers : ℕ) (capacities : List �
       by (Take n) due can = let x = take-has_call plan is (tabled plan is) s.machine kept.sound w f flying s.made s.objects kept.whole kept.laid n can in (x.0, record { worker = w; below = below; flight = f; change = Take n; rest = cs; flying = flying; due = due; of = x.1 })
 
   module _ (quiet : IsQuiet s) where
-    lacks : (key : Key) (kind : Kind) (x : LacksRoom plan capacities s key kind) → Overflows plan capacities s.machine.board.applied key x.row kind
-    lacks key kind x = subst (λ k. Overflows plan capacities s.machine.board.applied k x.row kind) x.is (overflows plan is capacities s.machine kept.sound quiet s.made s.objects kept.whole kept.laid x.worker x.flight x.due x.begins x.row x.new kind x.many)
+    no_flight : (w : ℕ) (o : Option Flight) → s.machine.board.flights w ≡ o → s.machine.board.flights w ≡ None
+    no_flight w None e = e
+    no_flight w (Some f) e = absurd (quiet w f e)
 
-    pub reason-true : (key : Key) (w : Wait) → IsReason plan capacities s key w → IsTrueReason plan capacities (good_of plan s.written) s.machine.board.applied key w
-    reason-true key (wait.Missing n) x = x
-    reason-true key (wait.Held h) x = x
-    reason-true key (wait.NoRoom kind) x = (x.row, x.good, x.named, lacks key kind x)
-    reason-true key (wait.Busy worker) x = x
+    -- without operations no places are kept
+    pub none-kept : (kind : Kind) → places_kept workers s.machine kind ≡ 0
+    none-kept kind = sum_none workers (λ w. makes kind (s.machine.reserved w)) (λ w. ap (makes kind) (kept.covered.idle w (no_flight w (s.machine.board.flights w) refl)))
 
-    pub reason-first : (key : Key) (w : Wait) → IsReason plan capacities s key w → NamesFirstKind plan capacities (good_of plan s.written) s.machine.board.applied key w
-    reason-first key (wait.Missing n) x = tt
-    reason-first key (wait.Held h) x = tt
-    reason-first key (wait.Busy worker) x = tt
-    reason-first key (wait.NoRoom kind) x = λ row low good less over.
+    pub has-names : (k : Key) (kind : Kind) (x : LacksRoom plan workers capacities s k kind) → have_rows s.machine.board.applied (names_of k x.row) ≡ true
+    has-names k kind x = all_rows s.machine.board.applied (names_of k x.row) (λ p h. ap is_some (x.begins.named p x.row x.new (subst (λ q. IsIn p (names_of q x.row)) (sym x.is) h)).applied)
+
+    lacks : (k : Key) (kind : Kind) (x : LacksRoom plan workers capacities s k kind) → Overflows plan capacities s.machine.board.applied k x.row kind
+    lacks k kind x =
+        let many = x.many in
+        let none = none-kept kind in
+        subst (λ k. Overflows plan capacities s.machine.board.applied k x.row kind) x.is (overflows plan is capacities s.machine kept.sound quiet s.made s.objects kept.whole kept.laid x.worker x.flight x.due x.begins x.row x.new kind (omega (arith, many, none)))
+
+    fits : (k : Key) (kind low : Kind) (x : LacksRoom plan workers capacities s k kind) → level low < level kind → used s.objects low + makes low x.due ≤ capacity_of capacities low
+    fits k kind low x less = by (cases_order (makes low x.due) 0)
+      where
+        by : (makes low x.due ≡ 0) ⊎ ((makes low x.due < 0) ⊎ (0 < makes low x.due)) → used s.objects low + makes low x.due ≤ capacity_of capacities low
+        by (inl none) = let room = kept.places low in omega (arith, room, none)
+        by (inr (inl below)) = absurd (omega (arith, below))
+        by (inr (inr some)) = let room = x.lower low less some in omega (arith, room)
+
+    pub reason-true : (k : Key) (w : Wait) → IsReason plan workers capacities s k w → IsTrueReason plan capacities (good_of plan s.written) s.machine.board.applied k w
+    reason-true k (wait.Missing n) x = x.1
+    reason-true k (wait.Held h) x = (x.1, x.2.0, x.2.1, x.2.2)
+    reason-true k (wait.NoRoom kind) x = (x.row, x.good, has-names k kind x, lacks k kind x)
+    reason-true k (wait.Busy worker) (inl (f, at, is)) = quiet worker f at
+    reason-true k (wait.Busy worker) (inr (prepared, first)) = none_in_the_way (good_of plan s.written k) first.way
+      where
+        none_in_the_way : (o : Option Row) → IsInTheWay plan s.machine k o worker → ⊥
+        none_in_the_way None way = quiet worker way.0 way.1
+        none_in_the_way (Some row) way = quiet worker way.0 way.1
+
+    pub reason-first : (k : Key) (w : Wait) → IsReason plan workers capacities s k w → NamesFirstKind plan capacities (good_of plan s.written) s.machine.board.applied k w
+    reason-first k (wait.Missing n) x = tt
+    reason-first k (wait.Held h) x = tt
+    reason-first k (wait.Busy worker) x = tt
+    reason-first k (wait.NoRoom kind) x = λ row low good less over.
         let same : row ≡ x.row = one_row row x.row (sym good ∙ x.good) in
-        let that = subst (λ k. Overflows plan capacities s.machine.board.applied k x.row low) (sym x.is) (subst (λ r. Overflows plan capacities s.machine.board.applied key r low) same over) in
-        no-overflow plan is capacities s.machine kept.sound quiet s.made s.objects kept.whole kept.laid x.worker x.flight x.due x.begins x.row x.new low (x.lower low less) that
+        let that = subst (λ k. Overflows plan capacities s.machine.board.applied k x.row low) (sym x.is) (subst (λ r. Overflows plan capacities s.machine.board.applied k r low) same over) in
+        no-overflow plan is capacities s.machine kept.sound quiet s.made s.objects kept.whole kept.laid x.worker x.flight x.due x.begins x.row x.new low (fits k kind low x less) that

@@ -66,4 +66,6 @@ module _ (plan : Ports) (is : IsPlan plan) (workers : â„•) (capacities : List â„
     synced = kept.synced;
     told = kept.told;
     covered = record { due = kept.covered.due; idle = kept.covered.idle };
+    dated = kept.dated;
+    good = kept.good;
   }

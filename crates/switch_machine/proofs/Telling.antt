@@ -1,5 +1,5 @@
 -- the rows with what waits are the fold of the writes taken
-use Rattle.std.proofs.Common.{◌≡◌, ◌∷◌, ◌∙◌, Bool, true, false, cond, [], None, Some, unwrap_or, if◌then◌else◌, refl, sym, ap}
+use Rattle.std.proofs.Common.{◌≡◌, ◌⊎◌, inl, inr, ◌∷◌, ◌∙◌, Bool, true, false, cond, [], None, Some, unwrap_or, if◌then◌else◌, refl, sym, ap}
 use Rattle.std.specs.BTreeMap.{is_at}
 use Rattle.std.specs.Cmp.{eq_by_cmp_equiv}
 use Rattle.std.specs.declared.cmp.Ordering.TheVariants.{Less}
@@ -16,7 +16,7 @@ use Rattle.table_schema.proofs.Keys.{key_exact, key_total}
 use Rattle.table_schema.proofs.RowLists.{HasRisingRows-rows_of, after_writes-more}
 use Rattle.sai_types.proofs.Maps.{lookup-insert_entry, lookup-removed}
 use Rattle.row_layout.proofs.Tied.{tied}
-use Rattle.switch_machine.specs.Written.{TakesWrite, IsTold, Written, fields_after}
+use Rattle.switch_machine.specs.Written.{ArePopped, IsAsBefore, IsPoppedKey, IsTold, TakesWrite, Written, fields_after}
 
 all_keys : (k : Key) (es : Rows) → AllByRecursion (λ (y : Key × Pairs). key_cmp k y.0 ≡ Less) es → AllByRecursion (λ y. key_cmp k y ≡ Less) (keys_of es)
 all_keys k [] h = tt
@@ -43,3 +43,10 @@ told-taken w old new x told k =
     ∙ ap (fields_after w k) (told k)
     ∙ sym (x.waiting k (old.rows k))
     ∙ ap (new.waiting k) (sym (x.rows k))
+
+pub told-popped : (old new : Written) → ArePopped old new → IsTold old → IsTold new
+told-popped old new x told k = ap (λ z. fields_at (rows_of z) k) x.taken ∙ told k ∙ by (x.keys k)
+  where
+    by : IsAsBefore old new k ⊎ IsPoppedKey old new k → old.waiting k (old.rows k) ≡ new.waiting k (new.rows k)
+    by (inl same) = ap (old.waiting k) (sym same.row) ∙ sym (same.waiting (new.rows k))
+    by (inr popped) = sym (popped.none (new.rows k) ∙ popped.row)

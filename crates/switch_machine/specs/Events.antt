@@ -2,6 +2,7 @@
 use Rattle.std.specs.Prelude.{◌≡◌, ◌⊎◌, ◌+◌, ◌<◌, ◌∷◌, ℕ, true, List, [], Option, Some, None}
 use Rattle.table_schema.specs.Plan.{Ports}
 use Rattle.table_schema.specs.declared.key.Key.{Key}
+use Rattle.table_schema.specs.declared.row.Row.{Row}
 use Rattle.sai_types.specs.declared.ids.Rid.{Rid}
 use Rattle.sai_types.specs.declared.body.Call.{Call}
 use Rattle.sai_types.specs.declared.thing.Thing.{Thing}
@@ -10,12 +11,12 @@ use Rattle.sai_types.specs.Alike.{IsIn}
 use Rattle.sai_types.specs.Made.{IsWhole, made_after}
 use Rattle.sai_types.specs.Objects.{Objects}
 use Rattle.table_schema.specs.declared.write.Write.{Write}
-use Rattle.switch_machine.specs.Written.{ArePopped, TakesWrite, IsTold, Written, good_of}
+use Rattle.switch_machine.specs.Written.{HasNoWrite, HasWrittenRows, IsAsBefore, IsGoodOnce, IsPoppedKey, IsTold, TakesWrite, Written, good_of}
 use Rattle.chip_layout.specs.Layout.{IsLaidOut, Layout, has_number, listed, next_id}
 use Rattle.row_layout.specs.Rows.{Owner}
 use Rattle.row_layout.specs.Operations.{Change, Make, Set, Take, shared_going, take_all}
 use Rattle.switch_machine.specs.Changes.{IsCall, changed_by}
-use Rattle.switch_machine.specs.Flights.{Flight, IsResting, Machine}
+use Rattle.switch_machine.specs.Flights.{Flight, IsResting, IsRow, Machine}
 use Rattle.switch_machine.specs.Steps.{Ends, LeavesOthers, finished, left, moved, parted, started}
 use Rattle.switch_machine.specs.Operations.{MayBegin, IsLast}
 use Rattle.switch_machine.specs.Places.{AreCovered, HasPlaces, HasRoomFor}
@@ -40,17 +41,26 @@ pub record IsTake (s t : SwitchState) : Type 0 where
   pub made : t.made ≡ s.made
   pub objects : t.objects ≡ s.objects
 
+-- what a pop makes of a key: it is as before; or a write of it waited, it is popped, and is to sync
+pub data PopsKey (s t : SwitchState) (k : Key) : Type 0 where
+  Stays : IsAsBefore s.written t.written k → (IsIn k t.to_sync → IsIn k s.to_sync) → PopsKey s t k
+  Popped : (HasNoWrite s.written k → ⊥) → IsPoppedKey s.written t.written k → IsIn k t.to_sync → PopsKey s t k
+
 -- keys that are popped are to sync
 pub record IsPop (s t : SwitchState) : Type 0 where
-  pub popped : ArePopped s.written t.written t.to_sync
+  pub taken : t.written.taken ≡ s.written.taken
+  pub keys : (k : Key) → PopsKey s t k
   pub kept : (k : Key) → IsIn k s.to_sync → IsIn k t.to_sync
   pub machine : t.machine ≡ s.machine
   pub made : t.made ≡ s.made
   pub objects : t.objects ≡ s.objects
 
--- a key leaves those to sync
-abbrev pub HasLeft : Key → List Key → List Key → Type 0
-HasLeft k to_sync later = (q : Key) → IsIn q to_sync → (q ≡ k) ⊎ IsIn q later
+-- a key was one of those to sync, and leaves them
+pub record HasLeft (k : Key) (to_sync later : List Key) : Type 0 where
+  pub there : IsIn k to_sync
+  pub gone : IsIn k later → ⊥
+  pub others : (q : Key) → IsIn q to_sync → (q ≡ k) ⊎ IsIn q later
+  pub only : (q : Key) → IsIn q later → IsIn q to_sync
 
 -- a key has its good row already
 pub record IsDrop (plan : Ports) (s t : SwitchState) : Type 0 where
@@ -159,10 +169,24 @@ pub record IsSafe (plan : Ports) (workers : ℕ) (capacities : List ℕ) (s : Sw
   pub synced : (k : Key) → IsIn k s.to_sync ⊎ IsCurrent s.machine.board (good_of plan s.written) k
   pub told : IsTold s.written
   pub covered : AreCovered s.machine
+  -- each row of the tables is one that was written, and each row that is applied or to be applied was good once
+  pub dated : HasWrittenRows s.written
+  pub good : (k : Key) (r : Row) → IsRow s.machine.board k r → IsGoodOnce plan s.written.taken k r
 
 -- no operation is under way
 abbrev pub IsQuiet : SwitchState → Type 0
 IsQuiet s = (w : ℕ) (f : Flight) → s.machine.board.flights w ≡ Some f → ⊥
 
+abbrev pub empty_machine : Machine
+empty_machine = record { board = record { applied = λ k. None; flights = λ w. None }; due = λ w. []; reserved = λ w. []; stands = [] }
+
+-- over an empty view, where these keys are to sync
+abbrev pub fresh_view : Written → List Key → SwitchState
+fresh_view written keys = record { machine = empty_machine; written = written; to_sync = keys; made = 0; objects = [] }
+
+abbrev pub no_writes : Written
+no_writes = record { taken = []; rows = λ k. None; waiting = λ k o. o }
+
+-- a session begins over an empty chip
 abbrev pub empty_switch : SwitchState
-empty_switch = record { machine = record { board = record { applied = λ k. None; flights = λ w. None }; due = λ w. []; reserved = λ w. []; stands = [] }; written = record { taken = []; rows = λ k. None; waiting = λ k o. o }; to_sync = []; made = 0; objects = [] }
+empty_switch = fresh_view no_writes []

@@ -1,5 +1,5 @@
 // What holds of every run of the machine. Each function is a law: it does nothing, and its contract is proved.
-ghost use Rattle.std.specs.Prelude.{◌≡◌, ℕ, ◌<◌, List, ◌∷◌, Option, Some};
+ghost use Rattle.std.specs.Prelude.{◌≡◌, ◌⊎◌, ℕ, ◌<◌, List, ◌∷◌, Option, Some, None};
 ghost use Rattle.swss_types.specs.declared.address.Prefix.{Prefix};
 ghost use Rattle.table_schema.specs.Plan.{Ports, IsPlan};
 ghost use Rattle.table_schema.specs.declared.key.Key.{Key};
@@ -19,15 +19,17 @@ ghost use Rattle.switch_model.specs.Desired.{IsClosed, IsThingOf};
 ghost use Rattle.switch_model.specs.Marks.{IsTrueReason, NamesFirstKind};
 ghost use Rattle.row_layout.specs.Operations.{Change};
 ghost use Rattle.row_layout.specs.Rows.{own_things};
-ghost use Rattle.switch_machine.specs.Events.{AreAnswers, AreEvents, IsBegin, IsDueCall, IsQuiet, IsSafe, SwitchState, after_answers, after_events, calls_of, empty_switch};
+ghost use Rattle.switch_machine.specs.Events.{AreAnswers, AreEvents, IsBegin, IsDueCall, IsQuiet, IsSafe, SwitchState, after_answers, after_events, calls_of, empty_switch, fresh_view};
 ghost use Rattle.switch_machine.specs.Flights.{Flight, IsRow, StandsIn};
 ghost use Rattle.switch_machine.specs.Reasons.{IsReason};
 ghost use Rattle.switch_machine.specs.Steps.{with_row};
-ghost use Rattle.switch_machine.specs.Written.{good_of};
+ghost use Rattle.switch_machine.specs.Written.{HasWrittenRows, IsGoodOnce, IsTold, Written, good_of};
 
-/// The empty switch is safe, and each event of any worker keeps it so.
+/// The empty switch is safe, and each event of any worker keeps it so. An empty view is safe too, whatever was written, where
+/// each key with a row is to sync.
 pub fn runs_are_safe()
     ensures begins { (plan : Ports) (workers : ℕ) (capacities : List ℕ) → IsPlan plan → IsSafe plan workers capacities empty_switch }
+    ensures fresh { (plan : Ports) (workers : ℕ) (capacities : List ℕ) (written : Written) (keys : List Key) → IsPlan plan → IsTold written → HasWrittenRows written → ((k : Key) → (written.rows k ≡ None) ⊎ IsIn k keys) → IsSafe plan workers capacities (fresh_view written keys) }
     ensures kept { (plan : Ports) (workers : ℕ) (capacities : List ℕ) (s : SwitchState) (es : List (Option (Call Rid) × SwitchState)) → IsPlan plan → IsSafe plan workers capacities s → AreEvents plan workers capacities s es → IsSafe plan workers capacities (after_events s es) }
 {}
 
@@ -47,17 +49,18 @@ pub fn rest_is_alike()
     ensures closed { (plan : Ports) (workers : ℕ) (capacities : List ℕ) (s : SwitchState) → IsPlan plan → IsSafe plan workers capacities s → IsClosed s.machine.board.applied }
 {}
 
-/// A route that stands is that of a row of its prefix, applied or to be applied, and the group that it points at has a member
-/// for each of its hops.
+/// A route that stands is that of a row of its prefix, applied or to be applied, which was its good row after some number of
+/// the writes taken; and the group that it points at has a member for each of its hops.
 pub fn routes_are_whole()
     ensures rows { (plan : Ports) (workers : ℕ) (capacities : List ℕ) (s : SwitchState) (prefix : Prefix) (g : Goal) → IsPlan plan → IsSafe plan workers capacities s → StandsIn s.machine (thing.Route prefix g) → (r : Row) × IsRow s.machine.board (key.Route prefix) r × IsIn (thing.Route prefix g) (own_things plan (key.Route prefix) r) }
+    ensures written { (plan : Ports) (workers : ℕ) (capacities : List ℕ) (s : SwitchState) (prefix : Prefix) (g : Goal) → IsPlan plan → IsSafe plan workers capacities s → StandsIn s.machine (thing.Route prefix g) → (r : Row) × IsGoodOnce plan s.written.taken (key.Route prefix) r × IsIn (thing.Route prefix g) (own_things plan (key.Route prefix) r) }
     ensures members { (plan : Ports) (workers : ℕ) (capacities : List ℕ) (s : SwitchState) (prefix : Prefix) (hops : List Hop) (hop : Hop) → IsPlan plan → IsSafe plan workers capacities s → StandsIn s.machine (thing.Route prefix (goal.Group hops)) → IsIn hop hops → StandsIn s.machine (thing.GroupMember hops hop) }
 {}
 
 /// While no operation is under way a reason for which a key waits is true, and a kind that lacks room is the first such kind.
 pub fn reasons_are_true()
-    ensures is_true { (plan : Ports) (workers : ℕ) (capacities : List ℕ) (s : SwitchState) (k : Key) (wait : Wait) → IsPlan plan → IsSafe plan workers capacities s → IsQuiet s → IsReason plan capacities s k wait → IsTrueReason plan capacities (good_of plan s.written) s.machine.board.applied k wait }
-    ensures is_first { (plan : Ports) (workers : ℕ) (capacities : List ℕ) (s : SwitchState) (k : Key) (wait : Wait) → IsPlan plan → IsSafe plan workers capacities s → IsQuiet s → IsReason plan capacities s k wait → NamesFirstKind plan capacities (good_of plan s.written) s.machine.board.applied k wait }
+    ensures is_true { (plan : Ports) (workers : ℕ) (capacities : List ℕ) (s : SwitchState) (k : Key) (wait : Wait) → IsPlan plan → IsSafe plan workers capacities s → IsQuiet s → IsReason plan workers capacities s k wait → IsTrueReason plan capacities (good_of plan s.written) s.machine.board.applied k wait }
+    ensures is_first { (plan : Ports) (workers : ℕ) (capacities : List ℕ) (s : SwitchState) (k : Key) (wait : Wait) → IsPlan plan → IsSafe plan workers capacities s → IsQuiet s → IsReason plan workers capacities s k wait → NamesFirstKind plan capacities (good_of plan s.written) s.machine.board.applied k wait }
 {}
 
 /// An operation that runs alone from its beginning to its end brings its key's good row, and leaves every other row as it was.

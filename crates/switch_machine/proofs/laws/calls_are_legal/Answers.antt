@@ -1,4 +1,5 @@
-use Rattle.switch_machine.proofs.Kept.{legal-call, legal-run}
+use Rattle.switch_machine.proofs.Kept.{legal-call}
+use Rattle.switch_machine.proofs.Runs.{legal-run}
 use Rattle.switch_machine.proofs.Reasoned.{has-call}
 use Rattle.switch_machine.proofs.laws.calls_are_legal.Goals as goal
 

@@ -1,4 +1,4 @@
-use Rattle.switch_machine.proofs.Kept.{alike-quiet, good-quiet}
+use Rattle.switch_machine.proofs.Runs.{alike-quiet, good-quiet}
 use Rattle.switch_machine.proofs.Reasoned.{closed}
 use Rattle.switch_machine.proofs.laws.rest_is_alike.Goals as goal
 
