@@ -1,8 +1,14 @@
 pub mod Rows
+pub mod Deciding
+pub mod Sharing
+pub mod Operating
+pub mod Alone
 pub mod Four
 pub mod Fitting
 pub mod Switched
+pub mod Dropping
 pub mod Settling
+pub mod Turning
 pub mod Waiting
 pub mod Draining
 pub mod Quieting

@@ -1,6 +1,5 @@
--- at rest there is room for what an operation makes, or a first kind lacks it
-use Rattle.std.proofs.Common.{◌≡◌, ◌⊎◌, ◌+◌, ◌<◌, ◌≤◌, ◌∷◌, ◌∙◌, inl, inr, ℕ, zero, suc, true, List, [], Option, None, Some, refl, sym, ap, subst, arith}
-use Rattle.table_schema.specs.Names.{names_of}
+-- there is room for what an operation makes, or a first kind lacks it
+use Rattle.std.proofs.Common.{◌≡◌, ◌⊎◌, ◌+◌, ◌<◌, ◌≤◌, ◌∷◌, ◌∙◌, inl, inr, ℕ, zero, suc, List, [], Option, None, Some, refl, sym, ap, subst, arith}
 use Rattle.table_schema.specs.Plan.{Ports}
 use Rattle.table_schema.specs.declared.key.Key.{Key}
 use Rattle.table_schema.specs.declared.row.Row.{Row}
@@ -10,14 +9,13 @@ use Rattle.sai_types.specs.declared.thing.Thing.{Thing}
 use Rattle.sai_types.specs.Alike.{IsIn}
 use Rattle.sai_types.specs.Objects.{level, used}
 use Rattle.sai_types.specs.Refusal.{capacity_of}
-use Rattle.switch_model.specs.Desired.{have_rows}
 use Rattle.row_layout.specs.Rows.{Owner}
 use Rattle.row_layout.specs.Operations.{Change, going, own_changes, take_all, uses_of}
-use Rattle.switch_machine.specs.Events.{SwitchState, IsSafe, IsQuiet}
+use Rattle.switch_machine.specs.Events.{SwitchState}
 use Rattle.switch_machine.specs.Flights.{Flight}
 use Rattle.switch_machine.specs.Operations.{MayBegin, built_first}
 use Rattle.switch_machine.specs.Reasons.{LacksRoom}
-use Rattle.switch_machine.specs.Places.{HasRoomFor, makes, sum_below}
+use Rattle.switch_machine.specs.Places.{HasRoomFor, makes, places_kept}
 use Rattle.switch_machine.specs.Written.{good_of}
 
 of_level : ℕ → Kind
@@ -83,54 +81,52 @@ le_or (suc a) (suc b) = up (le_or a b)
     up (inl h) = inl (omega (arith, h))
     up (inr h) = inr (omega (arith, h))
 
-no_flight : (o : Option Flight) → ((f : Flight) → o ≡ Some f → ⊥) → o ≡ None
-no_flight None never = refl
-no_flight (Some f) never = absurd (never f refl)
-
 no_makes : (kind : Kind) (ts : List Thing) → makes kind (take_all ts []) ≡ 0
 no_makes kind [] = refl
 no_makes kind (t ∷ ts) = no_makes kind ts
 
-module _ (plan : Ports) (workers : ℕ) (capacities : List ℕ) (s : SwitchState) (kept : IsSafe plan workers capacities s) (quiet : IsQuiet s) where
-  none_kept : (n : ℕ) (kind : Kind) → sum_below n (λ w. makes kind (s.machine.reserved w)) ≡ 0
-  none_kept zero kind = refl
-  none_kept (suc n) kind =
-      let rest = none_kept n kind in
-      let one = ap (makes kind) (kept.covered.idle n (no_flight (s.machine.board.flights n) (quiet n))) in
-      omega (arith, rest, one)
-
+module _ (plan : Ports) (workers : ℕ) (capacities : List ℕ) (s : SwitchState) where
   module _ (due : List Change) where
+    abbrev need : Kind → ℕ
+    need kind = used s.objects kind + places_kept workers s.machine kind + makes kind due
+
     abbrev Fit : Kind → Type 0
-    Fit kind = used s.objects kind + makes kind due ≤ capacity_of capacities kind
+    Fit kind = 0 < makes kind due → need kind ≤ capacity_of capacities kind
 
     record Lacks : Type 0 where
       which : Kind
-      many : capacity_of capacities which < used s.objects which + makes which due
+      some : 0 < makes which due
+      many : capacity_of capacities which < need which
       lower : (low : Kind) → level low < level which → Fit low
+
+    fit_or : (kind : Kind) → Fit kind ⊎ ((0 < makes kind due) × (capacity_of capacities kind < need kind))
+    fit_or kind = by (le_or (makes kind due) 0) (le_or (need kind) (capacity_of capacities kind))
+      where
+        by : (makes kind due ≤ 0) ⊎ (0 < makes kind due) → (need kind ≤ capacity_of capacities kind) ⊎ (capacity_of capacities kind < need kind) → Fit kind ⊎ ((0 < makes kind due) × (capacity_of capacities kind < need kind))
+        by (inl none) _ = inl (λ some. absurd (omega (arith, none, some)))
+        by (inr some) (inl fit) = inl (λ h. fit)
+        by (inr some) (inr many) = inr (some, many)
 
     scan : (n : ℕ) → ((low : Kind) → level low < n → Fit low) ⊎ Lacks
     scan zero = inl (λ low h. absurd (omega (arith, h)))
-    scan (suc n) = by (scan n) (le_or (used s.objects (of_level n) + makes (of_level n) due) (capacity_of capacities (of_level n)))
+    scan (suc n) = by (scan n) (fit_or (of_level n))
       where
-        by : ((low : Kind) → level low < n → Fit low) ⊎ Lacks → Fit (of_level n) ⊎ (capacity_of capacities (of_level n) < used s.objects (of_level n) + makes (of_level n) due) → ((low : Kind) → level low < suc n → Fit low) ⊎ Lacks
+        by : ((low : Kind) → level low < n → Fit low) ⊎ Lacks → Fit (of_level n) ⊎ ((0 < makes (of_level n) due) × (capacity_of capacities (of_level n) < need (of_level n))) → ((low : Kind) → level low < suc n → Fit low) ⊎ Lacks
         by (inr x) _ = inr x
-        by (inl f) (inr many) = inr (record { which = of_level n; many = many; lower = λ low h. f low (let l = level_low n in omega (arith, h, l)) })
+        by (inl f) (inr (some, many)) = inr (record { which = of_level n; some = some; many = many; lower = λ low h. f low (let l = level_low n in omega (arith, h, l)) })
         by (inl f) (inl fit) = inl (λ low h. one low (le_or (suc (level low)) n) h)
           where
             one : (low : Kind) → (suc (level low) ≤ n) ⊎ (n < suc (level low)) → level low < suc n → Fit low
             one low (inl less) h = f low (omega (arith, less))
             one low (inr more) h = let same : level low ≡ n = omega (arith, more, h) in subst Fit (ap of_level (sym same) ∙ level_back low) fit
 
-    fits_all : ((low : Kind) → level low < 11 → Fit low) → HasRoomFor workers capacities s.objects s.machine due
-    fits_all f kind some = let x = f kind (level_most kind) in let y = none_kept workers kind in omega (arith, x, y)
-
-  -- at rest a row that is to come has room, or a first kind lacks it
-  pub room-or : (w : ℕ) (f : Flight) (due : List Change) → MayBegin plan s.machine w f due → (row : Row) → f.new ≡ Some row → good_of plan s.written f.key ≡ Some row → have_rows s.machine.board.applied (names_of f.key row) ≡ true → HasRoomFor workers capacities s.objects s.machine due ⊎ ((kind : Kind) × LacksRoom plan capacities s f.key kind)
-  room-or w f due begins row new good named = by (scan due 11)
+  -- a row that is to come has room, or a first kind lacks it
+  pub room-or : (w : ℕ) (f : Flight) (due : List Change) → MayBegin plan s.machine w f due → (row : Row) → f.new ≡ Some row → good_of plan s.written f.key ≡ Some row → HasRoomFor workers capacities s.objects s.machine due ⊎ ((kind : Kind) × LacksRoom plan workers capacities s f.key kind)
+  room-or w f due begins row new good = by (scan due 11)
     where
-      by : ((low : Kind) → level low < 11 → Fit due low) ⊎ Lacks due → HasRoomFor workers capacities s.objects s.machine due ⊎ ((kind : Kind) × LacksRoom plan capacities s f.key kind)
-      by (inl fit) = inl (fits_all due fit)
-      by (inr x) = inr (x.which, record { worker = w; flight = f; due = due; begins = begins; is = refl; row = row; new = new; good = good; named = named; many = x.many; lower = x.lower })
+      by : ((low : Kind) → level low < 11 → Fit due low) ⊎ Lacks due → HasRoomFor workers capacities s.objects s.machine due ⊎ ((kind : Kind) × LacksRoom plan workers capacities s f.key kind)
+      by (inl fit) = inl (λ kind. fit kind (level_most kind))
+      by (inr x) = inr (x.which, record { worker = w; flight = f; due = due; begins = begins; is = refl; row = row; new = new; good = good; some = x.some; many = x.many; lower = x.lower })
 
   no_builds : (b : Option Owner) → ((o : Owner) → b ≡ Some o → ⊥) → b ≡ None
   no_builds None never = refl

@@ -11,7 +11,7 @@ use Rattle.sai_types.specs.declared.thing.Thing.TheVariants as thing
 use Rattle.sai_types.specs.Alike.{IsIn}
 use Rattle.switch_model.specs.Desired.{have_rows}
 use Rattle.switch_model.specs.Good.{good_row}
-use Rattle.sai_types.specs.Names.{Name, name_of}
+use Rattle.sai_types.specs.Names.{name_of}
 use Rattle.row_layout.specs.Rows as owner
 use Rattle.row_layout.specs.Rows.{Owner}
 use Rattle.row_layout.specs.Shared.{shared_things}
@@ -24,44 +24,16 @@ use Rattle.switch_machine.specs.Tables.{Tables}
 use Rattle.switch_machine.specs.Written.{good_of}
 use Rattle.switch_machine.proofs.Ordered.{ordered}
 use Rattle.switch_machine.proofs.Reasoned.{closed}
-use Rattle.switch_machine.proofs.Splits.{IsSplit, name_split, owner_split}
+use Rattle.switch_machine.proofs.Splits.{name_split}
 use Rattle.switch_machine.proofs.Tabled.{tabled}
 use Rattle.machine_laws.specs.Reading.{IsOnSwitch}
+use Rattle.machine_laws.proofs.Deciding.{IsDecided, any_or, in_split}
 use Rattle.machine_laws.proofs.Fitting.{fits-good}
 use Rattle.machine_laws.proofs.Rows.{has_row, there}
-
-abbrev IsDecided : Type 0 → Type 0
-IsDecided X = X ⊎ (X → ⊥)
-
-in_split : (o : Owner) (xs : List Owner) → IsDecided (IsIn o xs)
-in_split o [] = inr (λ h. h)
-in_split o (x ∷ xs) = by (owner_split o x) (in_split o xs)
-  where
-    by : IsSplit o x → IsDecided (IsIn o xs) → IsDecided (IsIn o (x ∷ xs))
-    by (inl e) _ = inl (inl e)
-    by (inr apart) (inl h) = inl (inr h)
-    by (inr apart) (inr out) = inr (λ h. neither h)
-      where
-        neither : (o ≡ x) ⊎ IsIn o xs → ⊥
-        neither (inl e) = apart e
-        neither (inr h) = out h
 
 module _ (plan : Ports) (is : IsPlan plan) (m : Machine) (sound : IsConsistent plan m) (quiet : (w : ℕ) (f : Flight) → m.board.flights w ≡ Some f → ⊥) where
   T : Tables plan
   T = tabled plan is
-
-  search : (n : Name) (xs : List (Rid × Thing)) → IsDecided ((i : Rid) × (u : Thing) × IsIn (i, u) xs × (name_of u ≡ n))
-  search n [] = inr (λ h. elim h.2 [ ])
-  search n (x ∷ xs) = by (name_split (name_of x.1) n) (search n xs)
-    where
-      by : IsSplit (name_of x.1) n → IsDecided ((i : Rid) × (u : Thing) × IsIn (i, u) xs × (name_of u ≡ n)) → IsDecided ((i : Rid) × (u : Thing) × IsIn (i, u) (x ∷ xs) × (name_of u ≡ n))
-      by (inl e) _ = inl (x.0, x.1, inl refl, e)
-      by (inr apart) (inl h) = inl (h.0, h.1, inr h.2, h.3)
-      by (inr apart) (inr out) = inr (λ h. neither h.0 h.1 h.2 h.3)
-        where
-          neither : (i : Rid) (u : Thing) → ((i, u) ≡ x) ⊎ IsIn (i, u) xs → name_of u ≡ n → ⊥
-          neither i u (inl e) at = apart (ap (λ (z : Rid × Thing). name_of z.1) (sym e) ∙ at)
-          neither i u (inr h) at = out (i, u, h, at)
 
   first_shared : (o : Owner) → IsShared o → (x : Thing) × IsIn x (shared_things o)
   first_shared (owner.OfRow k) h = elim h [ ]
@@ -78,11 +50,11 @@ module _ (plan : Ports) (is : IsPlan plan) (m : Machine) (sound : IsConsistent p
       held (inr (w, f, at, h)) = absurd (quiet w f at)
 
       by : ((x : Thing) × IsIn x (shared_things o)) → ((k : Key) × IsUser plan m.board k o) ⊎ ((k : Key) → IsUser plan m.board k o → ⊥)
-      by (x, in_it) = found (search (name_of x) m.stands)
+      by (x, in_it) = found (any_or (λ (v : Rid × Thing). name_of v.1 ≡ name_of x) (λ v. name_split (name_of v.1) (name_of x)) m.stands)
         where
-          found : IsDecided ((i : Rid) × (u : Thing) × IsIn (i, u) m.stands × (name_of u ≡ name_of x)) → ((k : Key) × IsUser plan m.board k o) ⊎ ((k : Key) → IsUser plan m.board k o → ⊥)
-          found (inl (i, u, at, named)) = inl (held (sound.held o u (i, at) (ap (owner.owner_of plan) named ∙ T.shared o x in_it) shared).1)
-          found (inr out) = inr (λ k user. let y = sound.whole k o x user (λ w f at t. quiet w f at) in_it in out (y.0, x, y.1, refl))
+          found : IsDecided ((v : Rid × Thing) × IsIn v m.stands × (name_of v.1 ≡ name_of x)) → ((k : Key) × IsUser plan m.board k o) ⊎ ((k : Key) → IsUser plan m.board k o → ⊥)
+          found (inl (v, at, named)) = inl (held (sound.held o v.1 (v.0, at) (ap (owner.owner_of plan) named ∙ T.shared o x in_it) shared).1)
+          found (inr out) = inr (λ k user. let y = sound.whole k o x user (λ w f at t. quiet w f at) in_it in out ((y.0, x), y.1, refl))
 
   abbrev AreOne : List Owner → Type 0
   AreOne xs = (o p : Owner) → IsIn o xs → IsIn p xs → o ≡ p

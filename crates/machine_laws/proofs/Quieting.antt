@@ -28,11 +28,11 @@ use Rattle.switch_machine.specs.Steps.{finished, left, moved, parted, started}
 use Rattle.switch_machine.specs.Flights.{Can, Flight, Goes, IsResting, IsShared, IsUser, Machine, Runs, StandsIn, put}
 use Rattle.switch_machine.specs.Consistent.{IsConsistent}
 use Rattle.switch_machine.specs.Tables.{Tables}
-use Rattle.switch_machine.proofs.Kept.{kept-run}
+use Rattle.switch_machine.proofs.Runs.{kept-run}
 use Rattle.switch_machine.proofs.Running.{one_flight}
 use Rattle.switch_machine.proofs.Splits.{IsPut, IsSplit, New, Old, name_split, put_by, row_off}
 use Rattle.switch_machine.proofs.Tabled.{tabled}
-use Rattle.machine_laws.specs.Quiet.{BeginsToSync, LeavesAlone, StandsFor, ChangesEntry}
+use Rattle.machine_laws.specs.Quiet.{LeavesAlone, StandsFor, ChangesEntry}
 
 no_flight : {X : Type 0} (g : Flight) → None ≡ Some g → X
 no_flight g h = absurd cc
@@ -235,12 +235,12 @@ module _ (plan : Ports) (is : IsPlan plan) (workers : ℕ) (capacities : List �
   spared None e = Unit {0}
   spared (Some call) e = ChangesEntry call e → ⊥
 
-  quiet_event : (e : Entry Rid) (s t : SwitchState) (c : Option (Call Rid)) → IsSafe plan workers capacities s → IsSafe plan workers capacities t → (x : IsEvent plan workers capacities s c t) → BeginsToSync plan workers capacities k s c t x → (IsIn k s.to_sync → ⊥) → Quiet plan k e s.machine → Quiet plan k e t.machine × spared c e
-  quiet_event e s t None kept later (inl x) only none q = (subst (Quiet plan k e) (sym x.machine) q, tt)
-  quiet_event e s t None kept later (inr (inl x)) only none q = (subst (Quiet plan k e) (sym x.machine) q, tt)
-  quiet_event e s t None kept later (inr (inr (inl x))) only none q = (subst (Quiet plan k e) (sym x.machine) q, tt)
-  quiet_event e s t None kept later (inr (inr (inr x))) only none q = (quiet_starting e s t x (λ h. none (only h)) q, tt)
-  quiet_event e s t (Some call) kept later x only none q = quiet_answers e s t call kept later q x
+  quiet_event : (e : Entry Rid) (s t : SwitchState) (c : Option (Call Rid)) → IsSafe plan workers capacities s → IsSafe plan workers capacities t → IsEvent plan workers capacities s c t → (IsIn k s.to_sync → ⊥) → Quiet plan k e s.machine → Quiet plan k e t.machine × spared c e
+  quiet_event e s t None kept later (inl x) none q = (subst (Quiet plan k e) (sym x.machine) q, tt)
+  quiet_event e s t None kept later (inr (inl x)) none q = (subst (Quiet plan k e) (sym x.machine) q, tt)
+  quiet_event e s t None kept later (inr (inr (inl x))) none q = (subst (Quiet plan k e) (sym x.machine) q, tt)
+  quiet_event e s t None kept later (inr (inr (inr x))) none q = (quiet_starting e s t x (λ h. none (subst (λ z. IsIn z s.to_sync) h x.to_sync.there)) q, tt)
+  quiet_event e s t (Some call) kept later x none q = quiet_answers e s t call kept later q x
 
   abbrev Spared : Entry Rid → List (Call Rid) → Type 0
   Spared e calls = (call : Call Rid) → IsIn call calls → ChangesEntry call e → ⊥
@@ -253,13 +253,13 @@ module _ (plan : Ports) (is : IsPlan plan) (workers : ℕ) (capacities : List �
       by call (inl same) h = one (subst (λ z. ChangesEntry z e) same h)
       by call (inr at) h = rest call at h
 
-  quiet_run : (e : Entry Rid) (s : SwitchState) (es : List (Option (Call Rid) × SwitchState)) → IsSafe plan workers capacities s → (run : AreEvents plan workers capacities s es) → LeavesAlone plan workers capacities k s es run → (IsIn k s.to_sync → ⊥) → Quiet plan k e s.machine → Quiet plan k e (after_events s es).machine × Spared e (calls_of es)
+  quiet_run : (e : Entry Rid) (s : SwitchState) (es : List (Option (Call Rid) × SwitchState)) → IsSafe plan workers capacities s → AreEvents plan workers capacities s es → LeavesAlone k s es → (IsIn k s.to_sync → ⊥) → Quiet plan k e s.machine → Quiet plan k e (after_events s es).machine × Spared e (calls_of es)
   quiet_run e s [] kept run alone none q = (q, λ call h. elim h [ ])
   quiet_run e s (x ∷ es) kept run alone none q =
       let later = kept-run plan is workers capacities s (x ∷ []) kept (run.0, tt) in
-      let one = quiet_event e s x.1 x.0 kept later run.0 alone.0 none q in
-      let rest = quiet_run e x.1 es later run.1 alone.2 (λ h. none (alone.1 h)) one.0 in
+      let one = quiet_event e s x.1 x.0 kept later run.0 none q in
+      let rest = quiet_run e x.1 es later run.1 alone.1 (λ h. none (alone.0 h)) one.0 in
       (rest.0, spared_called e x.0 (calls_of es) one.1 rest.1)
 
-  pub quiet-rows : (s : SwitchState) (es : List (Option (Call Rid) × SwitchState)) (e : Entry Rid) → IsSafe plan workers capacities s → (run : AreEvents plan workers capacities s es) → LeavesAlone plan workers capacities k s es run → IsResting s.machine.board k → (IsIn k s.to_sync → ⊥) → StandsFor plan k e s.machine → IsResting (after_events s es).machine.board k × StandsFor plan k e (after_events s es).machine × ((call : Call Rid) → IsIn call (calls_of es) → ChangesEntry call e → ⊥)
+  pub quiet-rows : (s : SwitchState) (es : List (Option (Call Rid) × SwitchState)) (e : Entry Rid) → IsSafe plan workers capacities s → AreEvents plan workers capacities s es → LeavesAlone k s es → IsResting s.machine.board k → (IsIn k s.to_sync → ⊥) → StandsFor plan k e s.machine → IsResting (after_events s es).machine.board k × StandsFor plan k e (after_events s es).machine × ((call : Call Rid) → IsIn call (calls_of es) → ChangesEntry call e → ⊥)
   quiet-rows s es e kept run alone rests none stood = let y = quiet_run e s es kept run alone none (record { rests = rests; stood = stood }) in (y.0.rests, y.0.stood, y.1)

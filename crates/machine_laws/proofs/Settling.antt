@@ -1,140 +1,270 @@
--- a settling of one worker from rest, by operations run alone: its rows are those of turns over rows
-use Rattle.std.proofs.Common.{◌≡◌, ◌⊎◌, ◌+◌, ◌≤◌, ◌∷◌, ◌∙◌, inl, inr, ℕ, zero, suc, List, [], None, is_some, refl, sym, ap, subst, arith}
+-- a settling of the machine, by operations run alone: its rows and its calls are those of turns over rows
+use Rattle.std.proofs.Common.{◌≡◌, ◌⊎◌, ◌+◌, ◌≤◌, ◌∷◌, ◌++◌, ◌∙◌, inl, inr, ℕ, zero, suc, Bool, true, List, [], map, Option, None, Some, is_some, refl, sym, ap, subst, arith}
 use Rattle.table_schema.specs.Names.{names_of}
 use Rattle.table_schema.specs.Plan.{Ports, IsPlan}
 use Rattle.table_schema.specs.declared.key.Key.{Key}
+use Rattle.table_schema.specs.declared.row.Row.{Row}
 use Rattle.sai_types.specs.declared.ids.Rid.{Rid}
 use Rattle.sai_types.specs.declared.body.Call.{Call}
-use Rattle.sai_types.specs.Alike.{IsAlike, IsIn}
-use Rattle.sai_types.specs.Objects.{used}
+use Rattle.sai_types.specs.Alike.{IsIn}
+use Rattle.sai_types.specs.Made.{made_after_all}
+use Rattle.sai_types.specs.Objects.{used as on_chip}
 use Rattle.sai_types.specs.Refusal.{capacity_of}
-use Rattle.switch_model.specs.Desired.{IsClosed, IsThingOf}
 use Rattle.switch_model.specs.Good.{TypedRows}
 use Rattle.switch_model.specs.Marks.{IsTrueReason, first_missing}
+use Rattle.switch_model.specs.Turns.{HasReason, with_good}
 use Rattle.switch_model.specs.declared.wait.Wait.{Wait}
 use Rattle.switch_model.specs.declared.wait.Wait.TheVariants as wait
-use Rattle.switch_machine.specs.Events.{AreAnswers, SwitchState, IsSafe, IsQuiet, IsBegin, after_answers}
-use Rattle.switch_machine.specs.Steps.{with_row}
+use Rattle.row_layout.specs.Operations.{Change, changes_of, uses_of}
+use Rattle.row_layout.specs.Rows.{Owner}
+use Rattle.row_layout.proofs.Changing.{changes-same}
+use Rattle.switch_machine.specs.Events.{AreAnswers, SwitchState, IsSafe, IsQuiet, after_answers}
+use Rattle.switch_machine.specs.Flights.{Flight, Machine}
 use Rattle.switch_machine.specs.Places.{makes}
-use Rattle.switch_machine.specs.Consistent.{IsCurrent}
+use Rattle.switch_machine.specs.Steps.{started, with_row}
 use Rattle.switch_machine.specs.Written.{Written, good_of}
-use Rattle.switch_machine.proofs.Kept.{alike-quiet, kept-answers, kept-run}
+use Rattle.switch_machine.proofs.Kept.{kept-answers}
 use Rattle.switch_machine.proofs.Overflowing.{no-overflow}
 use Rattle.switch_machine.proofs.Reasoned.{reason-true}
+use Rattle.switch_machine.proofs.Runs.{kept-run}
 use Rattle.switch_machine.proofs.Solo.{solo-key}
-use Rattle.switch_machine.proofs.Splits.{IsSplit, key_split, row_at, row_off}
-use Rattle.machine_laws.specs.ToSync.{AreInKeyOrder, AreSynced, HasRoomTogether}
-use Rattle.switch_model.specs.Turns.{HasReason, IsTurn, TakeTurns, with_good}
-use Rattle.machine_laws.proofs.Four.{four}
-use Rattle.machine_laws.proofs.Rows.{AreSameRows, no_some, none_missing, reason-same, thing_same}
-use Rattle.machine_laws.specs.Settling.{AreMachineTurns, IsMachineTurn, RunsAlone}
+use Rattle.switch_machine.proofs.Splits.{IsPut, IsSplit, New, Old, key_split, put_at, put_by, row_at, row_off}
+use Rattle.machine_laws.specs.Calls.{AreCallsOf, AreChangesOf, AreTurnsWith, Completes, IsTurnWith, IsUsedBeside, Situation}
+use Rattle.machine_laws.specs.Settling.{AreMachineTurns, DropsKey, IsMachineTurn, IsSituationOf, RunsAlone, situation}
+use Rattle.machine_laws.proofs.Alone.{Status, calls-left, follows-stands, status-follows}
+use Rattle.machine_laws.proofs.Dropping.{same-no_reason}
+use Rattle.machine_laws.proofs.Operating.{changes-all, going_after}
+use Rattle.machine_laws.proofs.Rows.{AreSameRows, no_some, none_missing, reason-same}
+use Rattle.machine_laws.proofs.Sharing.{used-beside, used-found, used-told}
+
+pub record Rests (plan : Ports) (workers : ℕ) (capacities : List ℕ) (written : Written) (t : SwitchState) : Type 0 where
+  pub kept : IsSafe plan workers capacities t
+  pub quiet : IsQuiet t
+  pub same : t.written ≡ written
+
+-- the changes of a key over the same rows
+changes_over : (plan : Ports) (a b : TypedRows) (k : Key) (new : Option Row) (changes : List Change) → AreSameRows a b → AreChangesOf plan a k new changes → AreChangesOf plan b k new changes
+changes_over plan a b k new changes same x = record {
+  used = x.used;
+  told = λ o h. let y = x.told o h in (y.0, y.1, subst (λ z. IsIn o (uses_of plan y.0 z)) (same y.0) y.2);
+  found = λ o y. x.found o (y.0, y.1, subst (λ z. IsIn o (uses_of plan y.0 z)) (sym (same y.0)) y.2);
+  is = x.is ∙ ap (λ z. changes_of plan k z new x.used) (same k);
+}
+
+no_changes : (plan : Ports) (k : Key) (o : Option Row) (used : Owner → Bool) → changes_of plan k o o used ≡ []
+no_changes plan k None used = refl
+no_changes plan k (Some r) used = changes-same plan k r used
+
+abbrev calls_in : List (Call Rid × SwitchState) → List (Call Rid)
+calls_in es = map (λ (a : Call Rid × SwitchState). a.0) es
 
 module _ (plan : Ports) (is : IsPlan plan) (workers : ℕ) (capacities : List ℕ) where
-  -- of a key that is begun at rest no reason is true
-  begun-no_reason : (s t : SwitchState) → IsSafe plan workers capacities s → IsQuiet s → (x : IsBegin plan workers capacities s t) (w : Wait) → IsTrueReason plan capacities (good_of plan s.written) s.machine.board.applied x.flight.key w → ⊥
-  begun-no_reason s t kept quiet x (wait.Missing p) (r, at, h) = no_some (first_missing s.machine.board.applied (names_of x.flight.key r)) p (none_missing s.machine.board.applied (names_of x.flight.key r) (λ q in_it. ap is_some (x.begins.named q r (x.new ∙ at) in_it).applied)) h
-  begun-no_reason s t kept quiet x (wait.Held h) (none, r, at, held) = x.begins.unnamed (x.new ∙ none) h held.row (inl held.applied_row) held.names
-  begun-no_reason s t kept quiet x (wait.NoRoom kind) (r, at, have, over) = no-overflow plan is capacities s.machine kept.sound quiet s.made s.objects kept.whole kept.laid x.worker x.flight x.due x.begins r (x.new ∙ at) kind (fits (makes kind x.due) refl) over
-    where
-      fits : (n : ℕ) → makes kind x.due ≡ n → used s.objects kind + makes kind x.due ≤ capacity_of capacities kind
-      fits zero e = let p = kept.places kind in omega (arith, e, p)
-      fits (suc n) e = let p = x.room kind (omega (arith, e)) in omega (arith, p)
-  begun-no_reason s t kept quiet x (wait.Busy v) h = h
-
-  record Rest (written : Written) (t : SwitchState) : Type 0 where
-    kept : IsSafe plan workers capacities t
-    quiet : IsQuiet t
-    same : t.written ≡ written
-
-  answered : (s : SwitchState) (es : List (Call Rid × SwitchState)) → AreAnswers plan workers s es → IsSafe plan workers capacities s → IsSafe plan workers capacities (after_answers s es) × ((after_answers s es).written ≡ s.written)
-  answered s [] run kept = (kept, refl)
+  answered : (s : SwitchState) (es : List (Call Rid × SwitchState)) → AreAnswers plan workers s es → IsSafe plan workers capacities s → IsSafe plan workers capacities (after_answers s es) × ((after_answers s es).written ≡ s.written) × ((after_answers s es).made ≡ made_after_all s.made (calls_in es))
+  answered s [] run kept = (kept, refl, refl)
   answered s (e ∷ es) run kept =
       let y = answered e.1 es run.1 (kept-answers plan is workers capacities s e.1 kept e.0 run.0) in
-      (y.0, y.1 ∙ run.0.written)
+      (y.0, y.1 ∙ run.0.written, y.2 ∙ ap (λ z. made_after_all z (calls_in es)) run.0.made)
 
-  ran : (k : Key) (s t : SwitchState) → IsSafe plan workers capacities s → RunsAlone plan workers capacities k s t → Rest s.written t
-  ran k s t kept x =
-      let first = kept-run plan is workers capacities s ((None, x.first) ∷ []) kept (inr (inr (inr x.starting)), tt) in
-      let y = answered x.first x.answers x.are first in
-      subst (Rest s.written) (sym x.last) (record { kept = y.0; quiet = x.quiet; same = y.1 ∙ x.starting.written })
+  module _ (k : Key) (s t : SwitchState) (calls : List (Call Rid)) (kept : IsSafe plan workers capacities s) (quiet : IsQuiet s) where
+    abbrev good : TypedRows
+    good = good_of plan s.written
 
-  -- the rows after an operation
-  ran_rows : (k : Key) (s t : SwitchState) (a : TypedRows) → IsQuiet s → AreSameRows a s.machine.board.applied → RunsAlone plan workers capacities k s t → AreSameRows (with_good (good_of plan s.written) a k) t.machine.board.applied
-  ran_rows k s t a quiet same x q = by (key_split k q)
-    where
-      abbrev_rows : t.machine.board.applied q ≡ with_row k (good_of plan s.written k) s.machine.board.applied q
-      abbrev_rows = ap (λ (z : SwitchState). z.machine.board.applied q) x.last ∙ solo-key plan workers capacities s x.first x.starting x.answers quiet x.are x.quiet q ∙ ap (λ z. with_row z (good_of plan s.written z) s.machine.board.applied q) x.is
+    -- ---- a key that has its good row already
 
-      by : IsSplit k q → with_good (good_of plan s.written) a k q ≡ t.machine.board.applied q
-      by (inl e) = row_at k q (good_of plan s.written q) a e ∙ ap (good_of plan s.written) (sym e) ∙ sym (row_at k q (good_of plan s.written k) s.machine.board.applied e) ∙ sym abbrev_rows
-      by (inr h) = row_off k q (good_of plan s.written q) a h ∙ same q ∙ sym (row_off k q (good_of plan s.written k) s.machine.board.applied h) ∙ sym abbrev_rows
+    dropped : DropsKey plan k s t calls → Rests plan workers capacities s.written t
+    dropped x = record {
+      kept = kept-run plan is workers capacities s ((None, t) ∷ []) kept (inr (inr (inl x.drop)), tt);
+      quiet = subst (λ z. (w : ℕ) (f : Flight) → z.board.flights w ≡ Some f → ⊥) (sym x.drop.machine) quiet;
+      same = x.drop.written;
+    }
+
+    -- ---- an operation that runs alone
+
+    module _ (x : RunsAlone plan workers capacities k s t calls) where
+      abbrev f : Flight
+      f = x.starting.flight
+
+      abbrev used : Owner → Bool
+      used = used-beside plan workers capacities s kept f.key
+
+      abbrev told : (o : Owner) → used o ≡ true → IsUsedBeside plan s.machine.board.applied f.key o
+      told = used-told plan workers capacities s kept f.key
+
+      abbrev found : (o : Owner) → IsUsedBeside plan s.machine.board.applied f.key o → used o ≡ true
+      found = used-found plan workers capacities s kept f.key
+
+      first_safe : IsSafe plan workers capacities x.first
+      first_safe = kept-run plan is workers capacities s ((None, x.first) ∷ []) kept (inr (inr (inr x.starting)), tt)
+
+      ran : Rests plan workers capacities s.written t
+      ran =
+          let y = answered x.first x.answers x.are first_safe in
+          subst (Rests plan workers capacities s.written) (sym x.last) (record { kept = y.0; quiet = x.quiet; same = y.1 ∙ x.starting.written })
+
+      abbrev changes : List Change
+      changes = x.starting.due ++ going_after used f.leaves
+
+      alone_changes : AreChangesOf plan s.machine.board.applied k (good k) changes
+      alone_changes = subst (λ q. AreChangesOf plan s.machine.board.applied q (good q) changes) x.is (record {
+        used = used;
+        told = told;
+        found = found;
+        is = sym (changes-all plan s.machine quiet x.starting.worker f x.starting.due x.starting.begins used told found) ∙ ap (λ z. changes_of plan f.key (s.machine.board.applied f.key) z used) x.starting.new;
+      })
+
+      begun : Status plan workers x.starting.worker f.key s.machine.board.applied used told found x.first.machine changes
+      begun = status-follows plan workers x.starting.worker f.key s.machine.board.applied used told found (started s.machine x.starting.worker f x.starting.due) x.first.machine changes (record {
+        flight = f;
+        there = put_at x.starting.worker x.starting.worker (Some f) s.machine.board.flights refl;
+        is = refl;
+        only = λ v g at. of v g (put_by x.starting.worker v (Some f) s.machine.board.flights (Some g) at);
+        same = λ q. refl;
+        left_are = ap (λ z. z ++ going_after used f.leaves) (sym (put_at x.starting.worker x.starting.worker x.starting.due s.machine.due refl));
+      }) x.starting.follows
+        where
+          of : (v : ℕ) (g : Flight) → IsPut x.starting.worker v (Some f) s.machine.board.flights (Some g) → v ≡ x.starting.worker
+          of v g (New same e) = same
+          of v g (Old other there) = absurd (quiet v g there)
+
+      alone_calls : AreCallsOf s.machine.stands s.made changes calls t.machine.stands
+      alone_calls =
+          let stands = follows-stands plan x.starting.worker (started s.machine x.starting.worker f x.starting.due) x.first.machine x.starting.follows in
+          let y = calls-left plan workers x.starting.worker f.key s.machine.board.applied used told found x.first x.answers changes x.are x.quiet begun in
+          subst (λ z. AreCallsOf s.machine.stands s.made changes z t.machine.stands) (sym x.calls_are) (subst (λ (z : SwitchState). AreCallsOf s.machine.stands s.made changes (calls_in x.answers) z.machine.stands) (sym x.last) (subst (λ z. AreCallsOf z s.made changes (calls_in x.answers) (after_answers x.first x.answers).machine.stands) stands (subst (λ z. AreCallsOf x.first.machine.stands z changes (calls_in x.answers) (after_answers x.first x.answers).machine.stands) x.starting.made y)))
+
+      ran_made : t.made ≡ made_after_all s.made calls
+      ran_made =
+          ap (λ (z : SwitchState). z.made) x.last
+          ∙ (answered x.first x.answers x.are first_safe).2
+          ∙ ap (λ z. made_after_all z (calls_in x.answers)) x.starting.made
+          ∙ ap (made_after_all s.made) (sym x.calls_are)
+
+      -- the rows after it
+      ran_rows : (a : TypedRows) → AreSameRows a s.machine.board.applied → AreSameRows (with_good good a k) t.machine.board.applied
+      ran_rows a same q = by (key_split k q)
+        where
+          now : t.machine.board.applied q ≡ with_row k (good k) s.machine.board.applied q
+          now = ap (λ (z : SwitchState). z.machine.board.applied q) x.last ∙ solo-key plan workers capacities s x.first x.starting x.answers quiet x.are x.quiet q ∙ ap (λ z. with_row z (good z) s.machine.board.applied q) x.is
+
+          by : IsSplit k q → with_good good a k q ≡ t.machine.board.applied q
+          by (inl e) = row_at k q (good q) a e ∙ ap good (sym e) ∙ sym (row_at k q (good k) s.machine.board.applied e) ∙ sym now
+          by (inr h) = row_off k q (good q) a h ∙ same q ∙ sym (row_off k q (good k) s.machine.board.applied h) ∙ sym now
+
+      -- of its key no reason was true
+      begun-no_reason : (w : Wait) → IsTrueReason plan capacities good s.machine.board.applied f.key w → ⊥
+      begun-no_reason (wait.Missing p) (r, at, h) = no_some (first_missing s.machine.board.applied (names_of f.key r)) p (none_missing s.machine.board.applied (names_of f.key r) (λ q in_it. ap is_some (x.starting.begins.named q r (x.starting.new ∙ at) in_it).applied)) h
+      begun-no_reason (wait.Held h) (none, r, at, held) = x.starting.begins.unnamed (x.starting.new ∙ none) h held.row (inl held.applied_row) held.names
+      begun-no_reason (wait.NoRoom kind) (r, at, have, over) = no-overflow plan is capacities s.machine kept.sound quiet s.made s.objects kept.whole kept.laid x.starting.worker f x.starting.due x.starting.begins r (x.starting.new ∙ at) kind (fits (makes kind x.starting.due) refl) over
+        where
+          fits : (n : ℕ) → makes kind x.starting.due ≡ n → on_chip s.objects kind + makes kind x.starting.due ≤ capacity_of capacities kind
+          fits zero e = let p = kept.places kind in omega (arith, e, p)
+          fits (suc n) e = let p = x.starting.room kind (omega (arith, e)) in omega (arith, p)
+      begun-no_reason (wait.Busy v) h = h
+
+    -- a key that leaves has its good row then, after the calls of its operation, and no reason was true of it
+    record Left (z : Situation) : Type 0 where
+      then : Situation
+      so : Completes plan good k z then calls
+      agrees : IsSituationOf then t
+      rest : Rests plan workers capacities s.written t
+      none : HasReason plan capacities good z.applied k → ⊥
+
+    left_by : (z : Situation) → IsSituationOf z s → DropsKey plan k s t calls ⊎ RunsAlone plan workers capacities k s t calls → Left z
+    left_by z agrees (inl x) = record {
+      then = then;
+      so = record {
+        changes = [];
+        are = changes_over plan s.machine.board.applied z.applied k (good k) [] (λ q. sym (agrees.rows q)) (record {
+          used = used-beside plan workers capacities s kept k;
+          told = used-told plan workers capacities s kept k;
+          found = used-found plan workers capacities s kept k;
+          is = sym (no_changes plan k (good k) (used-beside plan workers capacities s kept k)) ∙ ap (λ v. changes_of plan k v (good k) (used-beside plan workers capacities s kept k)) (sym same);
+        });
+        calls_are = (x.none, refl);
+        applied = refl;
+        made = ap (made_after_all z.made) (sym x.none);
+      };
+      agrees = record {
+        rows = λ q. by q (key_split k q) ∙ ap (λ (v : Machine). v.board.applied q) (sym x.drop.machine);
+        stands = agrees.stands ∙ ap (λ (v : Machine). v.stands) (sym x.drop.machine);
+        made = agrees.made ∙ sym x.drop.made;
+      };
+      rest = dropped x;
+      none = λ h. same-no_reason plan is workers capacities s kept quiet k same h.0 (reason-same plan capacities good z.applied s.machine.board.applied agrees.rows k h.0 h.1);
+    }
+      where
+        same : s.machine.board.applied k ≡ good k
+        same = subst (λ q. s.machine.board.applied q ≡ good q) x.is x.drop.same
+
+        then : Situation
+        then = record { applied = with_good good z.applied k; stands = z.stands; made = z.made }
+
+        by : (q : Key) → IsSplit k q → with_good good z.applied k q ≡ s.machine.board.applied q
+        by q (inl e) = row_at k q (good q) z.applied e ∙ subst (λ v. good v ≡ s.machine.board.applied v) e (sym same)
+        by q (inr h) = row_off k q (good q) z.applied h ∙ agrees.rows q
+    left_by z agrees (inr x) = record {
+      then = record { applied = with_good good z.applied k; stands = t.machine.stands; made = made_after_all z.made calls };
+      so = record {
+        changes = changes x;
+        are = changes_over plan s.machine.board.applied z.applied k (good k) (changes x) (λ q. sym (agrees.rows q)) (alone_changes x);
+        calls_are = subst (λ v. AreCallsOf v z.made (changes x) calls t.machine.stands) (sym agrees.stands) (subst (λ v. AreCallsOf s.machine.stands v (changes x) calls t.machine.stands) (sym agrees.made) (alone_calls x));
+        applied = refl;
+        made = refl;
+      };
+      agrees = record { rows = ran_rows x z.applied agrees.rows; stands = refl; made = ap (λ v. made_after_all v calls) agrees.made ∙ sym (ran_made x) };
+      rest = ran x;
+      none = λ h. begun-no_reason x h.0 (subst (λ v. IsTrueReason plan capacities good s.machine.board.applied v h.0) (sym x.is) (reason-same plan capacities good z.applied s.machine.board.applied agrees.rows k h.0 h.1));
+    }
 
   -- what a turn, or turns, of the machine come to over rows
-  record Comes (P : TypedRows → Type 0) (written : Written) (t : SwitchState) : Type 0 where
-    rows : TypedRows
-    is_so : P rows
-    same : AreSameRows rows t.machine.board.applied
-    rest : Rest written t
+  pub record Comes (P : Situation → Type 0) (written : Written) (t : SwitchState) : Type 0 where
+    pub then : Situation
+    pub so : P then
+    pub agrees : IsSituationOf then t
+    pub rest : Rests plan workers capacities written t
 
-  turn : (ks : List Key) (s t : SwitchState) (left : List Key) (a : TypedRows) → IsSafe plan workers capacities s → IsQuiet s → AreSameRows a s.machine.board.applied → IsMachineTurn plan workers capacities s ks t left → Comes (λ b. IsTurn plan capacities (good_of plan s.written) a ks b left) s.written t
-  turn [] s t left a kept quiet same (e, none) = record { rows = a; is_so = (refl, none); same = λ q. same q ∙ ap (λ (z : SwitchState). z.machine.board.applied q) (sym e); rest = subst (Rest s.written) (sym e) (record { kept = kept; quiet = quiet; same = refl }) }
-  turn (k ∷ ks) s t left a kept quiet same (inl (w, reason, rest, e, more)) =
-      let y = turn ks s t rest a kept quiet same more in
-      record { rows = y.rows; is_so = inl ((w, reason-same plan capacities (good_of plan s.written) s.machine.board.applied a (λ q. sym (same q)) k w (reason-true plan is workers capacities s kept quiet k w reason)), rest, e, y.is_so); same = y.same; rest = y.rest }
-  turn (k ∷ ks) s t left a kept quiet same (inr (mid, x, more)) =
-      let r = ran k s mid kept x in
-      let y = turn ks mid t left (with_good (good_of plan s.written) a k) r.kept r.quiet (ran_rows k s mid a quiet same x) more in
-      record {
-        rows = y.rows;
-        is_so = inr (none, subst (λ z. IsTurn plan capacities (good_of plan z) (with_good (good_of plan s.written) a k) ks y.rows left) r.same y.is_so);
-        same = y.same;
-        rest = subst (λ z. Rest z t) r.same y.rest;
-      }
-    where
-      none : HasReason plan capacities (good_of plan s.written) a k → ⊥
-      none (w, h) = begun-no_reason s x.first kept quiet x.starting w (subst (λ z. IsTrueReason plan capacities (good_of plan s.written) s.machine.board.applied z w) (sym x.is) (reason-same plan capacities (good_of plan s.written) a s.machine.board.applied same k w h))
+  -- where nothing happens
+  same_state : (z : Situation) (s t : SwitchState) → IsSafe plan workers capacities s → IsQuiet s → IsSituationOf z s → t ≡ s → Comes (λ y. y ≡ z) s.written t
+  same_state z s t kept quiet agrees e = subst (Comes (λ y. y ≡ z) s.written) (sym e) (record { then = z; so = refl; agrees = agrees; rest = record { kept = kept; quiet = quiet; same = refl } })
 
-  turns : (n : ℕ) (s t : SwitchState) (keys left : List Key) (a : TypedRows) → IsSafe plan workers capacities s → IsQuiet s → AreSameRows a s.machine.board.applied → AreMachineTurns plan workers capacities n s keys t left → Comes (λ b. TakeTurns plan capacities (good_of plan s.written) n a keys b left) s.written t
-  turns zero s t keys left a kept quiet same (none, e, gone) = record { rows = a; is_so = (none, refl, gone); same = λ q. same q ∙ ap (λ (z : SwitchState). z.machine.board.applied q) (sym e); rest = subst (Rest s.written) (sym e) (record { kept = kept; quiet = quiet; same = refl }) }
-  turns (suc n) s t keys left a kept quiet same (some, mid, rest, one, inl (e, zero_more, at, gone)) =
-      let y = turn keys s mid rest a kept quiet same one in
-      record { rows = y.rows; is_so = (some, y.rows, rest, y.is_so, inl (e, zero_more, refl, gone)); same = λ q. y.same q ∙ ap (λ (z : SwitchState). z.machine.board.applied q) (sym at); rest = subst (Rest s.written) (sym at) y.rest }
-  turns (suc n) s t keys left a kept quiet same (some, mid, rest, one, inr (less, more)) =
-      let y = turn keys s mid rest a kept quiet same one in
-      let z = turns n mid t rest left y.rows y.rest.kept y.rest.quiet y.same more in
+  turn : (ks : List Key) (s t : SwitchState) (left : List Key) (calls : List (Call Rid)) (z : Situation) → IsSafe plan workers capacities s → IsQuiet s → IsSituationOf z s → IsMachineTurn plan workers capacities s ks t left calls → Comes (λ y. IsTurnWith plan capacities (good_of plan s.written) z ks y left calls) s.written t
+  turn [] s t left calls z kept quiet agrees (e, none, no_call) = let y = same_state z s t kept quiet agrees e in record { then = y.then; so = (y.so, none, no_call); agrees = y.agrees; rest = y.rest }
+  turn (k ∷ ks) s t left calls z kept quiet agrees (inl (w, reason, rest, e, more)) =
+      let y = turn ks s t rest calls z kept quiet agrees more in
+      record { then = y.then; so = inl ((w, reason-same plan capacities (good_of plan s.written) s.machine.board.applied z.applied (λ q. sym (agrees.rows q)) k w (reason-true plan is workers capacities s kept quiet k w reason)), rest, e, y.so); agrees = y.agrees; rest = y.rest }
+  turn (k ∷ ks) s t left calls z kept quiet agrees (inr (mid, own, rest, x, e, more)) =
+      let r = left_by k s mid own kept quiet z agrees x in
+      let y = turn ks mid t left rest r.then r.rest.kept r.rest.quiet r.agrees more in
       record {
-        rows = z.rows;
-        is_so = (some, y.rows, rest, y.is_so, inr (less, subst (λ v. TakeTurns plan capacities (good_of plan v) n y.rows rest z.rows left) y.rest.same z.is_so));
-        same = z.same;
-        rest = subst (λ v. Rest v t) y.rest.same z.rest;
+        then = y.then;
+        so = inr (r.none, r.then, own, rest, r.so, e, subst (λ v. IsTurnWith plan capacities (good_of plan v) r.then ks y.then left rest) r.rest.same y.so);
+        agrees = y.agrees;
+        rest = subst (λ v. Rests plan workers capacities v t) r.rest.same y.rest;
       }
 
-  -- the rows of a settling are those of turns over rows
-  pub settles : (n : ℕ) (s t : SwitchState) (keys left : List Key) → IsSafe plan workers capacities s → IsQuiet s → AreMachineTurns plan workers capacities n s keys t left → (rows : TypedRows) × TakeTurns plan capacities (good_of plan s.written) n s.machine.board.applied keys rows left × AreSameRows rows t.machine.board.applied × IsSafe plan workers capacities t × IsQuiet t × (t.written ≡ s.written)
-  settles n s t keys left kept quiet h =
-      let y = turns n s t keys left s.machine.board.applied kept quiet (λ q. refl) h in
-      (y.rows, y.is_so, y.same, y.rest.kept, y.rest.quiet, y.rest.same)
+  turns : (n : ℕ) (s t : SwitchState) (keys left : List Key) (calls : List (Call Rid)) (z : Situation) → IsSafe plan workers capacities s → IsQuiet s → IsSituationOf z s → AreMachineTurns plan workers capacities n s keys t left calls → Comes (λ y. AreTurnsWith plan capacities (good_of plan s.written) n z keys y left calls) s.written t
+  turns zero s t keys left calls z kept quiet agrees (none, e, gone, no_call) = let y = same_state z s t kept quiet agrees e in record { then = y.then; so = (none, y.so, gone, no_call); agrees = y.agrees; rest = y.rest }
+  turns (suc n) s t keys left calls z kept quiet agrees (some, mid, rest, own, one, inl (e, zero_more, at, gone, all)) =
+      let y = turn keys s mid rest own z kept quiet agrees one in
+      record {
+        then = y.then;
+        so = (some, y.then, rest, own, y.so, inl (e, zero_more, refl, gone, all));
+        agrees = subst (IsSituationOf y.then) (sym at) y.agrees;
+        rest = subst (Rests plan workers capacities s.written) (sym at) y.rest;
+      }
+  turns (suc n) s t keys left calls z kept quiet agrees (some, mid, rest, own, one, inr (less, more, all, later)) =
+      let y = turn keys s mid rest own z kept quiet agrees one in
+      let v = turns n mid t rest left more y.then y.rest.kept y.rest.quiet y.agrees later in
+      record {
+        then = v.then;
+        so = (some, y.then, rest, own, y.so, inr (less, more, all, subst (λ u. AreTurnsWith plan capacities (good_of plan u) n y.then rest v.then left more) y.rest.same v.so));
+        agrees = v.agrees;
+        rest = subst (λ u. Rests plan workers capacities u t) y.rest.same v.rest;
+      }
 
-  -- with closed good rows and room it leaves no key, takes at most four turns, and each key has its good row
-  pub drains : (n : ℕ) (s t : SwitchState) (keys left : List Key) → IsSafe plan workers capacities s → IsQuiet s → IsClosed (good_of plan s.written) → HasRoomTogether plan capacities s.machine.board.applied (good_of plan s.written) → ((k : Key) → IsIn k s.to_sync → IsIn k keys) → AreInKeyOrder keys → AreMachineTurns plan workers capacities n s keys t left → (left ≡ []) × (n ≤ 4) × ((k : Key) → t.machine.board.applied k ≡ good_of plan s.written k) × IsAlike t.objects (IsThingOf plan (good_of plan s.written))
-  drains n s t keys left kept quiet closed room all rising h =
-      let y = turns n s t keys left s.machine.board.applied kept quiet (λ q. refl) h in
-      let z = four plan capacities (good_of plan s.written) closed s.machine.board.applied room n y.rows keys left sync rising y.is_so in
-      let rows : AreSameRows t.machine.board.applied (good_of plan s.written) = λ k. sym (y.same k) ∙ z.2 k in
-      let alike = alike-quiet plan is workers capacities t y.rest.kept y.rest.quiet in (
-        z.0,
-        z.1,
-        rows,
-        record {
-          each = λ o at. let v = alike.each o at in (v.0, v.1, thing_same plan t.machine.board.applied (good_of plan s.written) rows v.0 v.2);
-          once = λ x at. alike.once x (thing_same plan (good_of plan s.written) t.machine.board.applied (λ k. sym (rows k)) x at);
-        },
-      )
-    where
-      sync : AreSynced (good_of plan s.written) s.machine.board.applied keys
-      sync k = by (kept.synced k)
-        where
-          by : IsIn k s.to_sync ⊎ IsCurrent s.machine.board (good_of plan s.written) k → (s.machine.board.applied k ≡ good_of plan s.written k) ⊎ IsIn k keys
-          by (inl at) = inr (all k at)
-          by (inr (inl y)) = inl y.1
-          by (inr (inr (w, f, at, is, that))) = absurd (quiet w f at)
+  -- a settling comes to turns over rows, with the same calls
+  pub settles : (n : ℕ) (s t : SwitchState) (keys left : List Key) (calls : List (Call Rid)) → IsSafe plan workers capacities s → IsQuiet s → AreMachineTurns plan workers capacities n s keys t left calls → Comes (λ y. AreTurnsWith plan capacities (good_of plan s.written) n (situation s) keys y left calls) s.written t
+  settles n s t keys left calls kept quiet h = turns n s t keys left calls (situation s) kept quiet (record { rows = λ q. refl; stands = refl; made = refl }) h
+
+  pub alone : (k : Key) (s t : SwitchState) (calls : List (Call Rid)) → IsSafe plan workers capacities s → IsQuiet s → RunsAlone plan workers capacities k s t calls → (z : Situation) × Completes plan (good_of plan s.written) k (situation s) z calls × IsSituationOf z t
+  alone k s t calls kept quiet x = let y = left_by k s t calls kept quiet (situation s) (record { rows = λ q. refl; stands = refl; made = refl }) (inr x) in (y.then, y.so, y.agrees)

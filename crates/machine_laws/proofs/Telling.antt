@@ -21,7 +21,7 @@ use Rattle.switch_model.specs.declared.mark.Mark.{Mark}
 use Rattle.switch_model.specs.declared.mark.MarkEvent.TheVariants as event
 use Rattle.switch_machine.specs.Events.{SwitchState, IsEvent, IsSafe, IsQuiet, with_made_call}
 use Rattle.switch_machine.specs.Written.{good_of}
-use Rattle.switch_machine.proofs.Kept.{alike-quiet, good-quiet, kept-empty, kept-run, legal-run}
+use Rattle.switch_machine.proofs.Runs.{alike-quiet, good-quiet, kept-empty, kept-run, legal-run}
 use Rattle.switch_machine.proofs.Reasoned.{closed, reason-first, reason-true}
 use Rattle.switch_machine.proofs.Splits.{IsSplit, key_split, row_at, row_off}
 use Rattle.machine_laws.specs.Logged.{AreListed, AreLoggedEvents, IsLoggedEvent, ListsKey, LogsWrite, LoggedSwitch, LogsMark, MakesEvent, new_switch, after_logged}
@@ -30,7 +30,7 @@ use Rattle.machine_laws.proofs.Rows.{AreSameRows, good-same, have_same, kind-sam
 
 module _ (plan : Ports) (is : IsPlan plan) (workers : ℕ) (capacities : List ℕ) where
   module _ (s : SwitchState) (kept : IsSafe plan workers capacities s) (quiet : IsQuiet s) (good : TypedRows) (same_good : AreSameRows (good_of plan s.written) good) where
-    rows_at : (waits : Waiting) (q : Key) → AreListed plan capacities s waits → ((ListsKey q waits → ⊥) → s.machine.board.applied q ≡ good q) → applied_rows waits good q ≡ s.machine.board.applied q
+    rows_at : (waits : Waiting) (q : Key) → AreListed plan workers capacities s waits → ((ListsKey q waits → ⊥) → s.machine.board.applied q ≡ good q) → applied_rows waits good q ≡ s.machine.board.applied q
     rows_at [] q listed f = sym (f (λ h. h))
     rows_at (w ∷ ws) q listed f = by (rows_at ws q listed.2) (key_split q w.0)
       where
@@ -43,11 +43,11 @@ module _ (plan : Ports) (is : IsPlan plan) (workers : ℕ) (capacities : List �
             other none (inr h) = none h
 
     module _ (rows : TypedRows) (same : AreSameRows s.machine.board.applied rows) where
-      reasons_true : (waits : Waiting) → AreListed plan capacities s waits → ReasonsAreTrue plan capacities good rows waits
+      reasons_true : (waits : Waiting) → AreListed plan workers capacities s waits → ReasonsAreTrue plan capacities good rows waits
       reasons_true [] listed = tt
       reasons_true (w ∷ ws) (reason, row, listed) = (good-same plan capacities (good_of plan s.written) good rows w.0 w.1 (same_good w.0) (reason-same plan capacities (good_of plan s.written) s.machine.board.applied rows same w.0 w.1 (reason-true plan is workers capacities s kept quiet w.0 w.1 reason)), reasons_true ws listed)
 
-      kinds_first : (waits : Waiting) → AreListed plan capacities s waits → NameFirstKinds plan capacities good rows waits
+      kinds_first : (waits : Waiting) → AreListed plan workers capacities s waits → NameFirstKinds plan capacities good rows waits
       kinds_first [] listed = tt
       kinds_first (w ∷ ws) (reason, row, listed) = (kind-same plan capacities (good_of plan s.written) good s.machine.board.applied rows w.0 w.1 same (same_good w.0) (reason-first plan is workers capacities s kept quiet w.0 w.1 reason), kinds_first ws listed)
 
@@ -71,7 +71,7 @@ module _ (plan : Ports) (is : IsPlan plan) (workers : ℕ) (capacities : List �
     pub within : AreWithin (length s.log.taken) (length s.effects) s.log.marks
     pub marks : MarksAreTrue plan capacities s.log s.effects
 
-  settled : (s t : LoggedSwitch) → Told s → (x : LogsMark plan capacities s t) → IsSettled plan capacities s.log.taken s.effects (record { taken = length s.log.taken; effects = length s.effects; event = event.Settled x.waits x.turns }) x.waits
+  settled : (s t : LoggedSwitch) → Told s → (x : LogsMark plan workers capacities s t) → IsSettled plan capacities s.log.taken s.effects (record { taken = length s.log.taken; effects = length s.effects; event = event.Settled x.waits x.turns }) x.waits
   settled s t told x = record {
     alike = subst (λ o. IsAlike o (IsThingOf plan rows)) (told.objects ∙ sym (chip_after-all s.effects)) (alike_rows s.switch told.kept x.quiet good same_good rows same);
     closed = closed_rows s.switch told.kept x.quiet good same_good rows same;
@@ -86,12 +86,12 @@ module _ (plan : Ports) (is : IsPlan plan) (workers : ℕ) (capacities : List �
       rows = applied_rows x.waits good
 
       same_good : AreSameRows (good_of plan s.switch.written) good
-      same_good k = ap (good_row plan k) (sym (x.popped k) ∙ sym (told.kept.told k) ∙ ap (λ z. fields_at (rows_of z) k) told.taken ∙ ap (λ z. fields_at (rows_of (sent_writes z)) k) (sym (take-length s.log.taken)))
+      same_good k = ap (good_row plan k) (sym (x.popped k (s.switch.written.rows k)) ∙ sym (told.kept.told k) ∙ ap (λ z. fields_at (rows_of z) k) told.taken ∙ ap (λ z. fields_at (rows_of (sent_writes z)) k) (sym (take-length s.log.taken)))
 
       same : AreSameRows s.switch.machine.board.applied rows
       same q = sym (rows_at s.switch told.kept x.quiet good same_good x.waits q x.listed (λ none. good-quiet plan is workers capacities s.switch told.kept x.quiet q (λ h. none (x.all q h)) ∙ same_good q))
 
-  told_mark : (s t : LoggedSwitch) → Told s → LogsMark plan capacities s t → Told t
+  told_mark : (s t : LoggedSwitch) → Told s → LogsMark plan workers capacities s t → Told t
   told_mark s t told x = record {
     kept = subst (IsSafe plan workers capacities) (sym x.switch) told.kept;
     taken = ap (λ (z : SwitchState). z.written.taken) x.switch ∙ told.taken ∙ ap (λ z. sent_writes z.taken) (sym x.log);

@@ -29,38 +29,37 @@ pub record LogsWrite (s t : LoggedSwitch) : Type 0 where
   pub log : t.log ≡ with_write s.log sent
   pub effects : t.effects ≡ s.effects
 
--- any other event of the core; what is popped of a key is all that waits for it
+-- an event that takes no write
 pub record MakesEvent (plan : Ports) (workers : ℕ) (capacities : List ℕ) (s t : LoggedSwitch) : Type 0 where
   pub call : Option (Call Rid)
   pub event : IsEvent plan workers capacities s.switch call t.switch
   pub taken : t.switch.written.taken ≡ s.switch.written.taken
-  pub popped : (k : Key) → (t.switch.written.rows k ≡ s.switch.written.rows k) ⊎ (t.switch.written.rows k ≡ s.switch.written.waiting k (s.switch.written.rows k))
   pub log : t.log ≡ s.log
   pub effects : t.effects ≡ s.effects ++ with_made_call call []
 
 -- each listed key has its reason and its applied row
-abbrev pub AreListed : Ports → List ℕ → SwitchState → Waiting → Type 0
-AreListed plan capacities s [] = Unit {0}
-AreListed plan capacities s (w ∷ ws) = IsReason plan capacities s w.0 w.1 × (w.2 ≡ s.machine.board.applied w.0) × AreListed plan capacities s ws
+abbrev pub AreListed : Ports → ℕ → List ℕ → SwitchState → Waiting → Type 0
+AreListed plan workers capacities s [] = Unit {0}
+AreListed plan workers capacities s (w ∷ ws) = IsReason plan workers capacities s w.0 w.1 × (w.2 ≡ s.machine.board.applied w.0) × AreListed plan workers capacities s ws
 
 abbrev pub ListsKey : Key → Waiting → Type 0
 ListsKey k [] = ⊥
 ListsKey k (w ∷ ws) = (w.0 ≡ k) ⊎ ListsKey k ws
 
 -- a settling ends: no operation is under way, nothing waits in the tables, and the keys to sync are listed
-pub record LogsMark (plan : Ports) (capacities : List ℕ) (s t : LoggedSwitch) : Type 0 where
+pub record LogsMark (plan : Ports) (workers : ℕ) (capacities : List ℕ) (s t : LoggedSwitch) : Type 0 where
   pub quiet : IsQuiet s.switch
   pub popped : IsPopped s.switch.written
   pub waits : Waiting
   pub turns : ℕ
-  pub listed : AreListed plan capacities s.switch waits
+  pub listed : AreListed plan workers capacities s.switch waits
   pub all : (k : Key) → IsIn k s.switch.to_sync → ListsKey k waits
   pub switch : t.switch ≡ s.switch
   pub log : t.log ≡ with_mark s.log (record { taken = length s.log.taken; effects = length s.effects; event = event.Settled waits turns })
   pub effects : t.effects ≡ s.effects
 
 abbrev pub IsLoggedEvent : Ports → ℕ → List ℕ → LoggedSwitch → LoggedSwitch → Type 0
-IsLoggedEvent plan workers capacities s t = LogsWrite s t ⊎ (MakesEvent plan workers capacities s t ⊎ LogsMark plan capacities s t)
+IsLoggedEvent plan workers capacities s t = LogsWrite s t ⊎ (MakesEvent plan workers capacities s t ⊎ LogsMark plan workers capacities s t)
 
 abbrev pub AreLoggedEvents : Ports → ℕ → List ℕ → LoggedSwitch → List LoggedSwitch → Type 0
 AreLoggedEvents plan workers capacities s [] = Unit {0}

@@ -14,7 +14,7 @@ pub returns-clause-begins : goal.returns-clause-begins
 returns-clause-begins c = λ plan workers capacities s w k is kept quiet on ready free. begin-free plan is workers capacities s w k kept quiet on ready free
 
 pub returns-clause-room : goal.returns-clause-room
-returns-clause-room c = λ plan workers capacities s w f due row kept quiet begins new good named. room-or plan workers capacities s kept quiet w f due begins row new good named
+returns-clause-room c = λ plan workers capacities s w f due row begins new good. room-or plan workers capacities s w f due begins row new good
 
 pub returns-clause-room_gone : goal.returns-clause-room_gone
-returns-clause-room_gone c = λ plan workers capacities s w f due kept quiet begins none. room-gone plan workers capacities s kept quiet w f due begins none
+returns-clause-room_gone c = λ plan workers capacities s w f due begins none. room-gone plan workers capacities s w f due begins none
