@@ -21,3 +21,10 @@ pub mod Runs
 pub mod Reasoned
 pub mod Renaming
 pub mod Solo
+pub mod Sequence
+pub mod Undisturbed
+pub mod Hindered
+pub mod Idle
+pub mod Single
+pub mod Needing
+pub mod Bearing

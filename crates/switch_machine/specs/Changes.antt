@@ -22,6 +22,12 @@ changed (Make t) = name_of t
 changed (Set t) = name_of t
 changed (Take n) = n
 
+-- a change sets or takes away what has this name
+abbrev pub Disturbs : Change → Name → Type 0
+Disturbs (Make t) n = ⊥
+Disturbs (Set t) n = name_of t ≡ n
+Disturbs (Take m) n = m ≡ n
+
 -- whether a thing stands after a change, where X says whether it stood before
 abbrev pub after : Change → Type 0 → Thing → Type 0
 after (Make t) X u = X ⊎ (u ≡ t)

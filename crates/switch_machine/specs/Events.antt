@@ -154,6 +154,11 @@ abbrev pub AreAnswers : Ports → ℕ → SwitchState → List (Call Rid × Swit
 AreAnswers plan workers s [] = Unit {0}
 AreAnswers plan workers s (e ∷ es) = IsAnswer plan workers e.0 s e.1 × AreAnswers plan workers e.1 es
 
+-- the changes that they made, in order
+abbrev pub changes_made : (plan : Ports) (workers : ℕ) (s : SwitchState) (es : List (Call Rid × SwitchState)) → AreAnswers plan workers s es → List Change
+changes_made plan workers s [] run = []
+changes_made plan workers s (e ∷ es) run = run.0.next.change ∷ changes_made plan workers e.1 es run.1
+
 abbrev pub after_answers : SwitchState → List (Call Rid × SwitchState) → SwitchState
 after_answers s [] = s
 after_answers s (e ∷ es) = after_answers e.1 es

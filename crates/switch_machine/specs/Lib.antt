@@ -8,3 +8,6 @@ pub mod Places
 pub mod Written
 pub mod Events
 pub mod Reasons
+pub mod Next
+pub mod Needs
+pub mod Bearing

@@ -1,5 +1,5 @@
 -- When an operation may begin, with which changes, and when its key was the last user of what it leaves. The orders of calls are those of SONiC's orchestration agent. Own.
-use Rattle.std.specs.Prelude.{◌≡◌, ℕ, List, Option, Some, None}
+use Rattle.std.specs.Prelude.{◌≡◌, Bool, true, false, ℕ, List, Option, Some, None}
 use Rattle.table_schema.specs.Names.{names_of}
 use Rattle.table_schema.specs.Plan.{Ports}
 use Rattle.table_schema.specs.declared.key.Key.{Key}
@@ -7,7 +7,8 @@ use Rattle.table_schema.specs.declared.row.Row.{Row}
 use Rattle.sai_types.specs.Alike.{IsIn}
 use Rattle.row_layout.specs.Operations.{Change, make_all, own_changes, uses_of}
 use Rattle.row_layout.specs.Rows.{Owner}
-use Rattle.row_layout.specs.Shared.{shared_things}
+use Rattle.row_layout.specs.Shared.{shared_things, uses}
+use Rattle.switch_model.specs.Good.{TypedRows}
 use Rattle.switch_machine.specs.Flights.{CountsAsUser, Fits, Flight, HasChangeOf, IsFirm, IsResting, IsRow, IsUser, Machine}
 use Rattle.switch_machine.specs.Steps.{Leaves}
 
@@ -38,6 +39,11 @@ pub record MayBegin (plan : Ports) (m : Machine) (w : ℕ) (f : Flight) (due : L
   pub leaves : (o : Owner) → f.leaves ≡ Some o → IsIn o (uses_of plan f.key (m.board.applied f.key)) × (IsIn o (uses_of plan f.key f.new) → ⊥)
   pub covers : (o : Owner) → IsIn o (uses_of plan f.key (m.board.applied f.key)) → CountsAsUser plan f o
   pub operation : IsOperation plan m f due
+
+-- whether another row than this key's uses what is shared
+pub record IsUsedByOthers (plan : Ports) (rows : TypedRows) (k : Key) (used : Owner → Bool) : Type 0 where
+  pub yes : (o : Owner) → used o ≡ true → (q : Key) × (r : Row) × (q ≡ k → ⊥) × (rows q ≡ Some r) × IsIn o (uses plan q r)
+  pub no : (o : Owner) → used o ≡ false → (q : Key) (r : Row) → (q ≡ k → ⊥) → rows q ≡ Some r → IsIn o (uses plan q r) → ⊥
 
 -- it was the last user of what it leaves
 pub record IsLast (plan : Ports) (m : Machine) (w : ℕ) (f : Flight) (o : Owner) : Type 0 where
