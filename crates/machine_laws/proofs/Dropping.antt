@@ -1,5 +1,5 @@
 -- of a key that has its good row already no reason to wait is true
-use Rattle.std.proofs.Common.{◌≡◌, ◌+◌, ◌∷◌, ◌++◌, ◌∙◌, inl, ℕ, true, List, [], Some, is_some, refl, sym, ap, subst, arith}
+use Rattle.std.proofs.Common.{◌≡◌, ◌∙◌, inl, inr, ℕ, true, List, [], Option, None, Some, is_some, refl, sym, ap, ap₂, subst, arith}
 use Rattle.table_schema.specs.Names.{names_of}
 use Rattle.table_schema.specs.Plan.{IsPlan, Ports}
 use Rattle.table_schema.specs.declared.key.Key.{Key}
@@ -10,23 +10,18 @@ use Rattle.switch_model.specs.Good.{TypedRows}
 use Rattle.switch_model.specs.Marks.{IsTrueReason, Overflows, first_missing}
 use Rattle.switch_model.specs.declared.wait.Wait.{Wait}
 use Rattle.switch_model.specs.declared.wait.Wait.TheVariants as wait
-use Rattle.row_layout.specs.Operations.{Change, changes_of}
-use Rattle.row_layout.proofs.Changing.{changes-same}
+use Rattle.row_layout.specs.Operations.{Change, own_changes, uses_of}
+use Rattle.row_layout.specs.Rows.{Owner}
+use Rattle.row_layout.proofs.Changing.{own_same}
 use Rattle.switch_machine.specs.Events.{IsQuiet, IsSafe, SwitchState}
 use Rattle.switch_machine.specs.Flights.{Fits, Flight}
-use Rattle.switch_machine.specs.Operations.{MayBegin}
+use Rattle.switch_machine.specs.Operations.{MayBegin, built_first}
 use Rattle.switch_machine.specs.Places.{makes}
 use Rattle.switch_machine.specs.Written.{good_of}
 use Rattle.switch_machine.proofs.Overflowing.{no-overflow}
 use Rattle.switch_machine.proofs.Reasoned.{closed}
-use Rattle.machine_laws.proofs.Operating.{changes-all, going_after}
 use Rattle.machine_laws.proofs.Possible.{can-begin}
 use Rattle.machine_laws.proofs.Rows.{has_row, no_some, none_missing}
-use Rattle.machine_laws.proofs.Sharing.{used-beside, used-found, used-told}
-
-front_none : (cs ds : List Change) → cs ++ ds ≡ [] → cs ≡ []
-front_none [] ds h = refl
-front_none (c ∷ cs) ds h = absurd cc
 
 module _ (plan : Ports) (is : IsPlan plan) (workers : ℕ) (capacities : List ℕ) (s : SwitchState) (kept : IsSafe plan workers capacities s) (quiet : IsQuiet s) (k : Key) (same : s.machine.board.applied k ≡ good_of plan s.written k) where
   abbrev rows : TypedRows
@@ -37,16 +32,24 @@ module _ (plan : Ports) (is : IsPlan plan) (workers : ℕ) (capacities : List �
     named q h = has_row rows (names_of k r) q (closed plan is workers capacities s kept k r at) h
 
     -- an operation that would bring the row again makes nothing
-    nothing_due : (f : Flight) (due : List Change) → f.key ≡ k → f.new ≡ Some r → MayBegin plan s.machine 0 f due → due ≡ []
-    nothing_due f due is_key new begins =
-        let all = changes-all plan s.machine quiet 0 f due begins (used-beside plan workers capacities s kept f.key) (used-told plan workers capacities s kept f.key) (used-found plan workers capacities s kept f.key) in
-        front_none due (going_after (used-beside plan workers capacities s kept f.key) f.leaves) (sym all ∙ ap (λ z. changes_of plan f.key z f.new (used-beside plan workers capacities s kept f.key)) (ap rows is_key ∙ at) ∙ ap (λ z. changes_of plan f.key (Some r) z (used-beside plan workers capacities s kept f.key)) new ∙ changes-same plan f.key r (used-beside plan workers capacities s kept f.key))
+    nothing_made : (kind : Kind) (f : Flight) (due : List Change) → f.key ≡ k → f.new ≡ Some r → MayBegin plan s.machine 0 f due → makes kind due ≡ 0
+    nothing_made kind f due is_key new begins = by begins.operation.builds refl
+      where
+        applied : rows f.key ≡ f.new
+        applied = ap rows is_key ∙ at ∙ sym new
+
+        none : own_changes plan f.key (rows f.key) f.new ≡ []
+        none = ap₂ (own_changes plan f.key) (applied ∙ new) new ∙ own_same plan f.key r
+
+        by : (b : Option Owner) → begins.operation.builds ≡ b → makes kind due ≡ 0
+        by None e = ap (makes kind) (begins.operation.is ∙ ap₂ built_first e none)
+        by (Some o) e = absurd (let built = begins.operation.built o e in built.1 f.key (inr (begins.rests, subst (λ z. IsIn o (uses_of plan f.key z)) (sym applied) built.0)))
 
     no_overflow : (kind : Kind) → Overflows plan capacities rows k r kind → ⊥
     no_overflow kind over =
         let x = can-begin plan is s.machine kept.sound quiet 0 k (Some r) (λ z e. subst (Fits plan k) (one_row r z e) (kept.sound.board.fit k r (inl at))) (λ p z e h. named p (subst (λ v. IsIn p (names_of k v)) (sym (one_row r z e)) h)) (λ e. absurd cc) in
-        let none = nothing_due x.0 x.1 x.2 x.3 x.4 in
-        no-overflow plan is capacities s.machine kept.sound quiet s.made s.objects kept.whole kept.laid 0 x.0 x.1 x.4 r x.3 kind (let p = kept.places kind in omega (arith, p, ap (makes kind) none)) (subst (λ q. Overflows plan capacities rows q r kind) (sym x.2) over)
+        let none = nothing_made kind x.0 x.1 x.2 x.3 x.4 in
+        no-overflow plan is capacities s.machine kept.sound quiet s.made s.objects kept.whole kept.laid 0 x.0 x.1 x.4 r x.3 kind (let p = kept.places kind in omega (arith, p, none)) (subst (λ q. Overflows plan capacities rows q r kind) (sym x.2) over)
       where
         one_row : (a b : Row) → Some a ≡ Some b → a ≡ b
         one_row a b h = cc

@@ -1,7 +1,6 @@
 pub mod Rows
 pub mod Deciding
 pub mod Sharing
-pub mod Operating
 pub mod Alone
 pub mod Four
 pub mod Fitting

@@ -1,12 +1,11 @@
 -- a settling of the machine, by operations run alone: its rows and its calls are those of turns over rows
-use Rattle.std.proofs.Common.{◌≡◌, ◌⊎◌, ◌+◌, ◌≤◌, ◌∷◌, ◌++◌, ◌∙◌, inl, inr, ℕ, zero, suc, Bool, true, List, [], map, Option, None, Some, is_some, refl, sym, ap, subst, arith}
+use Rattle.std.proofs.Common.{◌≡◌, ◌⊎◌, ◌+◌, ◌≤◌, ◌∷◌, ◌∙◌, inl, inr, ℕ, zero, suc, Bool, List, [], Option, None, Some, is_some, refl, sym, ap, subst, arith}
 use Rattle.table_schema.specs.Names.{names_of}
 use Rattle.table_schema.specs.Plan.{Ports, IsPlan}
 use Rattle.table_schema.specs.declared.key.Key.{Key}
 use Rattle.table_schema.specs.declared.row.Row.{Row}
 use Rattle.sai_types.specs.declared.ids.Rid.{Rid}
 use Rattle.sai_types.specs.declared.body.Call.{Call}
-use Rattle.sai_types.specs.Alike.{IsIn}
 use Rattle.sai_types.specs.Made.{made_after_all}
 use Rattle.sai_types.specs.Objects.{used as on_chip}
 use Rattle.sai_types.specs.Refusal.{capacity_of}
@@ -15,10 +14,10 @@ use Rattle.switch_model.specs.Marks.{IsTrueReason, first_missing}
 use Rattle.switch_model.specs.Turns.{HasReason, with_good}
 use Rattle.switch_model.specs.declared.wait.Wait.{Wait}
 use Rattle.switch_model.specs.declared.wait.Wait.TheVariants as wait
-use Rattle.row_layout.specs.Operations.{Change, changes_of, uses_of}
+use Rattle.row_layout.specs.Operations.{Change, changes_of}
 use Rattle.row_layout.specs.Rows.{Owner}
 use Rattle.row_layout.proofs.Changing.{changes-same}
-use Rattle.switch_machine.specs.Events.{AreAnswers, SwitchState, IsSafe, IsQuiet, after_answers}
+use Rattle.switch_machine.specs.Events.{AreAnswers, SwitchState, IsSafe, IsQuiet, after_answers, changes_made}
 use Rattle.switch_machine.specs.Flights.{Flight, Machine}
 use Rattle.switch_machine.specs.Places.{makes}
 use Rattle.switch_machine.specs.Steps.{started, with_row}
@@ -27,15 +26,15 @@ use Rattle.switch_machine.proofs.Kept.{kept-answers}
 use Rattle.switch_machine.proofs.Overflowing.{no-overflow}
 use Rattle.switch_machine.proofs.Reasoned.{reason-true}
 use Rattle.switch_machine.proofs.Runs.{kept-run}
+use Rattle.switch_machine.proofs.Sequence.{sequence}
 use Rattle.switch_machine.proofs.Solo.{solo-key}
-use Rattle.switch_machine.proofs.Splits.{IsPut, IsSplit, New, Old, key_split, put_at, put_by, row_at, row_off}
-use Rattle.machine_laws.specs.Calls.{AreCallsOf, AreChangesOf, AreTurnsWith, Completes, IsTurnWith, IsUsedBeside, Situation}
+use Rattle.switch_machine.proofs.Splits.{IsSplit, key_split, row_at, row_off}
+use Rattle.machine_laws.specs.Calls.{AreCallsOf, AreChangesOf, AreTurnsWith, Completes, IsTurnWith, Situation}
 use Rattle.machine_laws.specs.Settling.{AreMachineTurns, DropsKey, IsMachineTurn, IsSituationOf, RunsAlone, situation}
-use Rattle.machine_laws.proofs.Alone.{Status, calls-left, follows-stands, status-follows}
+use Rattle.machine_laws.proofs.Alone.{calls-made, calls_in, follows-stands}
 use Rattle.machine_laws.proofs.Dropping.{same-no_reason}
-use Rattle.machine_laws.proofs.Operating.{changes-all, going_after}
 use Rattle.machine_laws.proofs.Rows.{AreSameRows, no_some, none_missing, reason-same}
-use Rattle.machine_laws.proofs.Sharing.{used-beside, used-found, used-told}
+use Rattle.machine_laws.proofs.Sharing.{others-use, used-by}
 
 pub record Rests (plan : Ports) (workers : ℕ) (capacities : List ℕ) (written : Written) (t : SwitchState) : Type 0 where
   pub kept : IsSafe plan workers capacities t
@@ -46,17 +45,16 @@ pub record Rests (plan : Ports) (workers : ℕ) (capacities : List ℕ) (written
 changes_over : (plan : Ports) (a b : TypedRows) (k : Key) (new : Option Row) (changes : List Change) → AreSameRows a b → AreChangesOf plan a k new changes → AreChangesOf plan b k new changes
 changes_over plan a b k new changes same x = record {
   used = x.used;
-  told = λ o h. let y = x.told o h in (y.0, y.1, subst (λ z. IsIn o (uses_of plan y.0 z)) (same y.0) y.2);
-  found = λ o y. x.found o (y.0, y.1, subst (λ z. IsIn o (uses_of plan y.0 z)) (sym (same y.0)) y.2);
+  by_others = record {
+    yes = λ o h. let y = x.by_others.yes o h in (y.0, y.1, y.2, sym (same y.0) ∙ y.3, y.4);
+    no = λ o h q r apart at. x.by_others.no o h q r apart (same q ∙ at);
+  };
   is = x.is ∙ ap (λ z. changes_of plan k z new x.used) (same k);
 }
 
 no_changes : (plan : Ports) (k : Key) (o : Option Row) (used : Owner → Bool) → changes_of plan k o o used ≡ []
 no_changes plan k None used = refl
 no_changes plan k (Some r) used = changes-same plan k r used
-
-abbrev calls_in : List (Call Rid × SwitchState) → List (Call Rid)
-calls_in es = map (λ (a : Call Rid × SwitchState). a.0) es
 
 module _ (plan : Ports) (is : IsPlan plan) (workers : ℕ) (capacities : List ℕ) where
   answered : (s : SwitchState) (es : List (Call Rid × SwitchState)) → AreAnswers plan workers s es → IsSafe plan workers capacities s → IsSafe plan workers capacities (after_answers s es) × ((after_answers s es).written ≡ s.written) × ((after_answers s es).made ≡ made_after_all s.made (calls_in es))
@@ -84,15 +82,6 @@ module _ (plan : Ports) (is : IsPlan plan) (workers : ℕ) (capacities : List �
       abbrev f : Flight
       f = x.starting.flight
 
-      abbrev used : Owner → Bool
-      used = used-beside plan workers capacities s kept f.key
-
-      abbrev told : (o : Owner) → used o ≡ true → IsUsedBeside plan s.machine.board.applied f.key o
-      told = used-told plan workers capacities s kept f.key
-
-      abbrev found : (o : Owner) → IsUsedBeside plan s.machine.board.applied f.key o → used o ≡ true
-      found = used-found plan workers capacities s kept f.key
-
       first_safe : IsSafe plan workers capacities x.first
       first_safe = kept-run plan is workers capacities s ((None, x.first) ∷ []) kept (inr (inr (inr x.starting)), tt)
 
@@ -102,34 +91,19 @@ module _ (plan : Ports) (is : IsPlan plan) (workers : ℕ) (capacities : List �
           subst (Rests plan workers capacities s.written) (sym x.last) (record { kept = y.0; quiet = x.quiet; same = y.1 ∙ x.starting.written })
 
       abbrev changes : List Change
-      changes = x.starting.due ++ going_after used f.leaves
+      changes = changes_made plan workers x.first x.answers x.are
 
       alone_changes : AreChangesOf plan s.machine.board.applied k (good k) changes
       alone_changes = subst (λ q. AreChangesOf plan s.machine.board.applied q (good q) changes) x.is (record {
-        used = used;
-        told = told;
-        found = found;
-        is = sym (changes-all plan s.machine quiet x.starting.worker f x.starting.due x.starting.begins used told found) ∙ ap (λ z. changes_of plan f.key (s.machine.board.applied f.key) z used) x.starting.new;
+        used = used-by plan workers capacities s kept f.key;
+        by_others = others-use plan workers capacities s kept f.key;
+        is = sequence plan workers capacities s x.first x.starting x.answers x.are (used-by plan workers capacities s kept f.key) quiet x.quiet (others-use plan workers capacities s kept f.key) ∙ ap (λ z. changes_of plan f.key (s.machine.board.applied f.key) z (used-by plan workers capacities s kept f.key)) x.starting.new;
       })
-
-      begun : Status plan workers x.starting.worker f.key s.machine.board.applied used told found x.first.machine changes
-      begun = status-follows plan workers x.starting.worker f.key s.machine.board.applied used told found (started s.machine x.starting.worker f x.starting.due) x.first.machine changes (record {
-        flight = f;
-        there = put_at x.starting.worker x.starting.worker (Some f) s.machine.board.flights refl;
-        is = refl;
-        only = λ v g at. of v g (put_by x.starting.worker v (Some f) s.machine.board.flights (Some g) at);
-        same = λ q. refl;
-        left_are = ap (λ z. z ++ going_after used f.leaves) (sym (put_at x.starting.worker x.starting.worker x.starting.due s.machine.due refl));
-      }) x.starting.follows
-        where
-          of : (v : ℕ) (g : Flight) → IsPut x.starting.worker v (Some f) s.machine.board.flights (Some g) → v ≡ x.starting.worker
-          of v g (New same e) = same
-          of v g (Old other there) = absurd (quiet v g there)
 
       alone_calls : AreCallsOf s.machine.stands s.made changes calls t.machine.stands
       alone_calls =
           let stands = follows-stands plan x.starting.worker (started s.machine x.starting.worker f x.starting.due) x.first.machine x.starting.follows in
-          let y = calls-left plan workers x.starting.worker f.key s.machine.board.applied used told found x.first x.answers changes x.are x.quiet begun in
+          let y = calls-made plan workers x.first x.answers x.are in
           subst (λ z. AreCallsOf s.machine.stands s.made changes z t.machine.stands) (sym x.calls_are) (subst (λ (z : SwitchState). AreCallsOf s.machine.stands s.made changes (calls_in x.answers) z.machine.stands) (sym x.last) (subst (λ z. AreCallsOf z s.made changes (calls_in x.answers) (after_answers x.first x.answers).machine.stands) stands (subst (λ z. AreCallsOf x.first.machine.stands z changes (calls_in x.answers) (after_answers x.first x.answers).machine.stands) x.starting.made y)))
 
       ran_made : t.made ≡ made_after_all s.made calls
@@ -175,10 +149,9 @@ module _ (plan : Ports) (is : IsPlan plan) (workers : ℕ) (capacities : List �
       so = record {
         changes = [];
         are = changes_over plan s.machine.board.applied z.applied k (good k) [] (λ q. sym (agrees.rows q)) (record {
-          used = used-beside plan workers capacities s kept k;
-          told = used-told plan workers capacities s kept k;
-          found = used-found plan workers capacities s kept k;
-          is = sym (no_changes plan k (good k) (used-beside plan workers capacities s kept k)) ∙ ap (λ v. changes_of plan k v (good k) (used-beside plan workers capacities s kept k)) (sym same);
+          used = used-by plan workers capacities s kept k;
+          by_others = others-use plan workers capacities s kept k;
+          is = sym (no_changes plan k (good k) (used-by plan workers capacities s kept k)) ∙ ap (λ v. changes_of plan k v (good k) (used-by plan workers capacities s kept k)) (sym same);
         });
         calls_are = (x.none, refl);
         applied = refl;

@@ -1,5 +1,6 @@
--- whether another applied row uses what an owner holds can be told: each applied row's key was written
+-- which owners the rows of other keys use can be told: each applied row's key was written
 use Rattle.std.proofs.Common.{◌≡◌, ◌∷◌, ◌++◌, ◌∙◌, inl, inr, ℕ, zero, suc, Bool, true, false, if◌then◌else◌, List, [], map, Option, None, Some, refl, sym, ap, subst, take}
+use Rattle.std.proofs.lemmas.Bool.{false≢true}
 use Rattle.std.proofs.lemmas.List.{append-nil, append_assoc}
 use Rattle.std.specs.BTreeMap.{is_at}
 use Rattle.table_schema.specs.Fields.{Pairs}
@@ -18,10 +19,10 @@ use Rattle.row_layout.specs.Operations.{uses_of}
 use Rattle.row_layout.specs.Rows.{Owner}
 use Rattle.row_layout.proofs.Tied.{tied}
 use Rattle.switch_machine.specs.Events.{IsSafe, SwitchState}
+use Rattle.switch_machine.specs.Operations.{IsUsedByOthers}
 use Rattle.switch_machine.specs.Written.{IsGoodOnce, Written, fields_after}
 use Rattle.switch_machine.proofs.Splits.{key_split, use_row_in}
 use Rattle.switch_machine.proofs.Telling.{told-taken}
-use Rattle.machine_laws.specs.Calls.{IsUsedBeside}
 use Rattle.machine_laws.proofs.Deciding.{IsDecided, any_or, both_or, in_split, is_so, not_or, so_found, so_told}
 
 -- ---- writes of other keys
@@ -79,29 +80,24 @@ written-once plan taken k r (n, le, h) = by (key_in k (AreKeys (take n taken)))
     by (inl at) = in_take n taken k at
     by (inr none) = absurd (no_row (good_row plan k (fields_at (rows_of (take n taken)) k)) (ap (good_row plan k) (unwritten [] (take n taken) k none)) h)
 
--- ---- uses beside a key's
+-- ---- uses of other rows
 
 module _ (plan : Ports) (workers : ℕ) (capacities : List ℕ) (s : SwitchState) (kept : IsSafe plan workers capacities s) (k : Key) where
   abbrev rows : TypedRows
   rows = s.machine.board.applied
 
-  abbrev UsesBeside : Owner → Key → Type 0
-  UsesBeside o q = (q ≡ k → ⊥) × IsIn o (uses_of plan q (rows q))
+  abbrev IsOther : Owner → Key → Type 0
+  IsOther o q = (q ≡ k → ⊥) × IsIn o (uses_of plan q (rows q))
 
-  -- the keys that were written, among which each applied row's is
-  abbrev those : List Key
-  those = AreKeys s.written.taken
+  -- among the keys that were written each applied row's is
+  abbrev decided : (o : Owner) → IsDecided ((q : Key) × IsIn q (AreKeys s.written.taken) × IsOther o q)
+  decided o = any_or (IsOther o) (λ q. both_or (not_or (key_split q k)) (in_split o (uses_of plan q (rows q)))) (AreKeys s.written.taken)
 
-  abbrev decided : (o : Owner) → IsDecided ((q : Key) × IsIn q those × UsesBeside o q)
-  decided o = any_or (UsesBeside o) (λ q. both_or (not_or (key_split q k)) (in_split o (uses_of plan q (rows q)))) those
+  abbrev pub used-by : Owner → Bool
+  used-by o = is_so (decided o)
 
-  abbrev pub used-beside : Owner → Bool
-  used-beside o = is_so (decided o)
-
-  pub used-told : (o : Owner) → used-beside o ≡ true → IsUsedBeside plan rows k o
-  used-told o h = let x = so_told (decided o) h in (x.0, x.2.0, x.2.1)
-
-  pub used-found : (o : Owner) → IsUsedBeside plan rows k o → used-beside o ≡ true
-  used-found o (q, apart, h) =
-      let r = use_row_in plan q (rows q) o h in
-      so_found (decided o) (q, written-once plan s.written.taken q r.0 (kept.good q r.0 (inl r.1)), (apart, h))
+  pub others-use : IsUsedByOthers plan rows k used-by
+  others-use = record {
+    yes = λ o h. let x = so_told (decided o) h in let r = use_row_in plan x.0 (rows x.0) o x.2.1 in (x.0, r.0, x.2.0, r.1, r.2);
+    no = λ o h q r apart at used. false≢true (sym h ∙ so_found (decided o) (q, written-once plan s.written.taken q r (kept.good q r (inl at)), (apart, subst (λ z. IsIn o (uses_of plan q z)) (sym at) used)));
+  }

@@ -1,32 +1,27 @@
 -- The calls of an operation and of turns, over rows and what stands. The orders of calls are those of SONiC's orchestration agent. Own.
-use Rattle.std.specs.Prelude.{◌≡◌, ◌⊎◌, ◌<◌, ◌∷◌, ◌++◌, ℕ, zero, suc, Bool, true, List, [], length, Option}
+use Rattle.std.specs.Prelude.{◌≡◌, ◌⊎◌, ◌<◌, ◌∷◌, ◌++◌, ℕ, zero, suc, Bool, List, [], length, Option}
 use Rattle.table_schema.specs.Plan.{Ports}
 use Rattle.table_schema.specs.declared.key.Key.{Key}
 use Rattle.table_schema.specs.declared.row.Row.{Row}
 use Rattle.sai_types.specs.declared.ids.Rid.{Rid}
 use Rattle.sai_types.specs.declared.body.Call.{Call}
 use Rattle.sai_types.specs.declared.thing.Thing.{Thing}
-use Rattle.sai_types.specs.Alike.{IsIn}
 use Rattle.sai_types.specs.Made.{made_after, made_after_all}
 use Rattle.switch_model.specs.Good.{TypedRows}
 use Rattle.switch_model.specs.Turns.{HasReason, with_good}
 use Rattle.chip_layout.specs.Layout.{listed}
-use Rattle.row_layout.specs.Operations.{Change, changes_of, uses_of}
+use Rattle.row_layout.specs.Operations.{Change, changes_of}
 use Rattle.row_layout.specs.Rows.{Owner}
 use Rattle.switch_machine.specs.Changes.{IsCall, changed_by}
 use Rattle.switch_machine.specs.Events.{IsGiven}
+use Rattle.switch_machine.specs.Operations.{IsUsedByOthers}
 
 -- ---- of an operation
-
--- another applied row uses what this owner holds
-abbrev pub IsUsedBeside : Ports → TypedRows → Key → Owner → Type 0
-IsUsedBeside plan applied k o = (q : Key) × (q ≡ k → ⊥) × IsIn o (uses_of plan q (applied q))
 
 -- the changes that bring a key this row, or take its row away, over these applied rows
 pub record AreChangesOf (plan : Ports) (applied : TypedRows) (k : Key) (new : Option Row) (changes : List Change) : Type 0 where
   pub used : Owner → Bool
-  pub told : (o : Owner) → used o ≡ true → IsUsedBeside plan applied k o
-  pub found : (o : Owner) → IsUsedBeside plan applied k o → used o ≡ true
+  pub by_others : IsUsedByOthers plan applied k used
   pub is : changes ≡ changes_of plan k (applied k) new used
 
 -- a call makes this change: it names what stands, what it makes has the next identifier, and this stands after it
