@@ -16,6 +16,7 @@ pub mod Unnamed
 pub mod Staying
 pub mod Telling
 pub mod Named
+pub mod Ordering
 pub mod Dated
 pub mod Possible
 pub mod Places

@@ -4,6 +4,7 @@ ghost use Rattle.table_schema.specs.Fields.{Pairs};
 ghost use Rattle.table_schema.specs.KeyText.{key_of};
 ghost use Rattle.table_schema.specs.Names.{names_of};
 ghost use Rattle.table_schema.specs.Plan.{IsPlan, Ports};
+ghost use Rattle.table_schema.specs.Rows.{rows_of};
 ghost use Rattle.table_schema.specs.declared.key.Key.{Key};
 ghost use Rattle.table_schema.specs.declared.row.Row.{Row};
 ghost use Rattle.sai_types.specs.declared.body.Call.{Call};
@@ -12,7 +13,7 @@ ghost use Rattle.sai_types.specs.declared.ids.Rid.{Rid};
 ghost use Rattle.sai_types.specs.declared.kind.Kind.{Kind};
 ghost use Rattle.sai_types.specs.Alike.{IsAlike, IsIn};
 ghost use Rattle.switch_model.specs.Desired.{IsClosed, IsThingOf, have_rows};
-ghost use Rattle.switch_model.specs.Good.{TypedRows, good_row};
+ghost use Rattle.switch_model.specs.Good.{TypedRows, good_row, good_rows};
 ghost use Rattle.switch_model.specs.Levels.{level_of};
 ghost use Rattle.switch_model.specs.Marks.{Waiting};
 ghost use Rattle.switch_model.specs.Promises.{EffectsAreLegal, MarksAreTrue, good_rows_at};
@@ -27,6 +28,7 @@ ghost use Rattle.switch_machine.specs.Reasons.{LacksRoom};
 ghost use Rattle.switch_machine.specs.Written.{HasNoWrite, good_of};
 ghost use Rattle.machine_laws.specs.Calls.{AreTurnsWith, Completes, Situation};
 ghost use Rattle.machine_laws.specs.Logged.{AreListed, AreLoggedEvents, IsWholeSettling, ListsKey, LoggedSwitch, LogsMark, TakeNone, after_logged, after_pops, new_switch};
+ghost use Rattle.machine_laws.specs.Order.{IsOrdered};
 ghost use Rattle.machine_laws.specs.Quiet.{ChangesEntry, LeavesAlone, NamesNot, StandsFor};
 ghost use Rattle.machine_laws.specs.Reading.{IsOnSwitch};
 ghost use Rattle.machine_laws.specs.Settling.{AreMachineTurns, IsSituationOf, RunsAlone, situation};
@@ -68,14 +70,17 @@ pub fn settlings_drain()
 pub fn settlings_are_logged()
     ensures events { (plan : Ports) (workers : ℕ) (capacities : List ℕ) (s t : LoggedSwitch) (x : IsWholeSettling plan workers capacities s t) → IsPlan plan → IsSafe plan workers capacities s.switch → IsQuiet s.switch → (ts : List LoggedSwitch) × AreLoggedEvents plan workers capacities s ts × (after_logged s ts ≡ t) }
     ensures effects { (plan : Ports) (workers : ℕ) (capacities : List ℕ) (s t : LoggedSwitch) (x : IsWholeSettling plan workers capacities s t) → IsPlan plan → IsSafe plan workers capacities s.switch → IsQuiet s.switch → (z : Situation) × AreTurnsWith plan capacities (good_of plan (after_pops s.switch x.pops).written) x.turns (situation s.switch) x.keys z x.left x.calls × IsSituationOf z t.switch }
+    ensures good { (plan : Ports) (workers : ℕ) (capacities : List ℕ) (s t : LoggedSwitch) (x : IsWholeSettling plan workers capacities s t) (k : Key) → IsPlan plan → IsSafe plan workers capacities s.switch → good_of plan (after_pops s.switch x.pops).written k ≡ good_rows plan (rows_of s.switch.written.taken) k }
     ensures keys { (plan : Ports) (workers : ℕ) (capacities : List ℕ) (s t : LoggedSwitch) (x : IsWholeSettling plan workers capacities s t) (k : Key) → (IsIn k s.switch.to_sync → IsIn k x.keys) × ((HasNoWrite s.switch.written k → ⊥) → IsIn k x.keys) × (IsIn k x.keys → HasNoWrite s.switch.written k → IsIn k s.switch.to_sync) }
 {}
 
-/// From the new switch on the switch is safe, each mark is true, the marks' counts never fall nor exceed what there is, and each call that took
+/// From the new switch on the switch is safe, each mark is true, the marks stand in order, each
+/// directly before the end of a round, their counts never fall nor exceed what there is, and each call that took
 /// effect was legal and left no route that no row sent.
 pub fn marks_are_true()
     ensures safe { (plan : Ports) (workers : ℕ) (capacities : List ℕ) (ts : List LoggedSwitch) → IsPlan plan → AreLoggedEvents plan workers capacities new_switch ts → IsSafe plan workers capacities (after_logged new_switch ts).switch }
     ensures marks { (plan : Ports) (workers : ℕ) (capacities : List ℕ) (ts : List LoggedSwitch) → IsPlan plan → AreLoggedEvents plan workers capacities new_switch ts → MarksAreTrue plan capacities (after_logged new_switch ts).log (after_logged new_switch ts).effects }
+    ensures order { (plan : Ports) (workers : ℕ) (capacities : List ℕ) (ts : List LoggedSwitch) → IsPlan plan → AreLoggedEvents plan workers capacities new_switch ts → IsOrdered (after_logged new_switch ts).log }
     ensures counts { (plan : Ports) (workers : ℕ) (capacities : List ℕ) (ts : List LoggedSwitch) → IsPlan plan → AreLoggedEvents plan workers capacities new_switch ts → AreWithin (length (after_logged new_switch ts).log.taken) (length (after_logged new_switch ts).effects) (after_logged new_switch ts).log.marks }
     ensures effects { (plan : Ports) (workers : ℕ) (capacities : List ℕ) (ts : List LoggedSwitch) → IsPlan plan → AreLoggedEvents plan workers capacities new_switch ts → EffectsAreLegal plan capacities (after_logged new_switch ts).log.taken (after_logged new_switch ts).effects }
 {}
