@@ -89,7 +89,7 @@ unshared_in used others (o ∷ os) groups = by _ (unshared_in used others os (λ
     by false rest p (inl e) = groups p (inl e)
     by false rest p (inr h) = rest p h
 
-route_groups : (plan : Ports) (prefix : Prefix) (r : Option Row) → AreGroups (uses_of plan (key.Route prefix) r)
+pub route_groups : (plan : Ports) (prefix : Prefix) (r : Option Row) → AreGroups (uses_of plan (key.Route prefix) r)
 route_groups plan prefix None o h = elim h [ ]
 route_groups plan prefix (Some (row.Route (route.Hops hops))) o h = let x = group_use o (hops_of plan hops) h in (x.0, x.2)
 route_groups plan prefix (Some (row.Route route.Drop)) o h = elim h [ ]

@@ -28,3 +28,4 @@ pub mod Idle
 pub mod Single
 pub mod Needing
 pub mod Bearing
+pub mod Steering

@@ -1,5 +1,7 @@
 // What holds of every run of the machine. Each function is a law: it does nothing, and its contract is proved.
-ghost use Rattle.std.specs.Prelude.{◌≡◌, ◌⊎◌, ℕ, ◌+◌, Bool, ◌<◌, List, ◌∷◌, Option, Some, None};
+ghost use Rattle.std.specs.Prelude.{◌≡◌, ◌⊎◌, ℕ, ◌+◌, Bool, false, take, ◌<◌, List, ◌∷◌, Option, Some, None};
+ghost use Rattle.swss_types.specs.Address.{covers};
+ghost use Rattle.swss_types.specs.declared.address.Ip.{Ip};
 ghost use Rattle.swss_types.specs.declared.address.Prefix.{Prefix};
 ghost use Rattle.table_schema.specs.Plan.{Ports, IsPlan};
 ghost use Rattle.table_schema.specs.declared.key.Key.{Key};
@@ -14,6 +16,7 @@ ghost use Rattle.sai_types.specs.declared.thing.Goal.TheVariants as goal;
 ghost use Rattle.sai_types.specs.declared.thing.Thing.{Thing};
 ghost use Rattle.sai_types.specs.declared.thing.Thing.TheVariants as thing;
 ghost use Rattle.sai_types.specs.Alike.{IsAlike, IsIn};
+ghost use Rattle.sai_types.specs.Forwarding.{decide, forward};
 ghost use Rattle.sai_types.specs.Made.{AreLegal};
 ghost use Rattle.sai_types.specs.Names as name;
 ghost use Rattle.sai_types.specs.Names.{name_of};
@@ -27,9 +30,9 @@ ghost use Rattle.switch_model.specs.Things.{things_of};
 ghost use Rattle.row_layout.specs.Operations.{Change, changes_of};
 ghost use Rattle.row_layout.specs.Rows.{Owner, own_things};
 ghost use Rattle.switch_machine.specs.Changes.{Disturbs};
-ghost use Rattle.switch_machine.specs.Events.{AreAnswers, AreEvents, IsBegin, IsDrop, IsDueCall, IsEvent, IsQuiet, IsSafe, SwitchState, after_answers, after_events, calls_of, changes_made, empty_switch, fresh_view};
+ghost use Rattle.switch_machine.specs.Events.{AreAnswers, AreEvents, IsAnswer, IsBegin, IsDrop, IsDueCall, IsEvent, IsQuiet, IsSafe, SwitchState, after_answers, after_events, calls_of, changes_made, empty_switch, fresh_view};
 ghost use Rattle.switch_machine.specs.Flights.{Flight, IsResting, IsRow, StandsIn};
-ghost use Rattle.switch_machine.specs.Bearing.{BearsOnce};
+ghost use Rattle.switch_machine.specs.Bearing.{BearsOnce, SwitchesOnce, standing};
 ghost use Rattle.switch_machine.specs.Needs.{OfCall, OfList, OfMark, OfWrite, need_of};
 ghost use Rattle.switch_machine.specs.Next.{HasReason, IsIdle, IsNext};
 ghost use Rattle.switch_machine.specs.Operations.{IsUsedByOthers};
@@ -98,6 +101,14 @@ pub fn reasons_hinder()
 /// route of the key: no other decides where packets go.
 pub fn route_changes_once()
     ensures { (plan : Ports) (prefix : Prefix) (old new : Option Row) (used : Owner → Bool) → BearsOnce (name.Route prefix) (changes_of plan (key.Route prefix) old new used) }
+{}
+
+/// While the operation of a route runs, beside whatever others, each of its calls leaves where the packets of an address go
+/// that its prefix doesn't cover. Where it runs alone, where the packets of any address go changes at most once.
+pub fn routes_are_steady()
+    ensures outside { (plan : Ports) (workers : ℕ) (capacities : List ℕ) (s t : SwitchState) (call : Call Rid) (x : IsAnswer plan workers call s t) (prefix : Prefix) (a : Ip) → IsPlan plan → IsSafe plan workers capacities s → x.next.flight.key ≡ key.Route prefix → covers prefix a ≡ false → (decide (standing t.machine) a ≡ decide (standing s.machine) a) × (forward (standing t.machine) a ≡ forward (standing s.machine) a) }
+    ensures decided { (plan : Ports) (workers : ℕ) (capacities : List ℕ) (s t : SwitchState) (x : IsBegin plan workers capacities s t) (es : List (Call Rid × SwitchState)) (run : AreAnswers plan workers t es) (used : Owner → Bool) (prefix : Prefix) (a : Ip) → IsPlan plan → IsSafe plan workers capacities s → x.flight.key ≡ key.Route prefix → IsQuiet s → IsQuiet (after_answers t es) → IsUsedByOthers plan s.machine.board.applied x.flight.key used → SwitchesOnce (λ n. decide (standing (after_answers t (take n es)).machine) a) (decide (standing s.machine) a) (decide (standing (after_answers t es).machine) a) }
+    ensures forwarded { (plan : Ports) (workers : ℕ) (capacities : List ℕ) (s t : SwitchState) (x : IsBegin plan workers capacities s t) (es : List (Call Rid × SwitchState)) (run : AreAnswers plan workers t es) (used : Owner → Bool) (prefix : Prefix) (a : Ip) → IsPlan plan → IsSafe plan workers capacities s → x.flight.key ≡ key.Route prefix → IsQuiet s → IsQuiet (after_answers t es) → IsUsedByOthers plan s.machine.board.applied x.flight.key used → SwitchesOnce (λ n. forward (standing (after_answers t (take n es)).machine) a) (forward (standing s.machine) a) (forward (standing (after_answers t es).machine) a) }
 {}
 
 /// What an event adds to the log takes no more places than it needs: a write that is taken, a call with its effect and the mark
