@@ -59,13 +59,13 @@ module _ (plan : Ports) (orders : Orders plan) (m : Machine) (f g : Flight) (key
 module _ (plan : Ports) (is : IsPlan plan) (workers : ℕ) (capacities : List ℕ) (s : SwitchState) where
   -- where an operation may begin, nothing is missing, nothing holds, and nothing is in the way
   module _ (w : ℕ) (f : Flight) (due : List Change) (begins : MayBegin plan s.machine w f due) (new : f.new ≡ good_of plan s.written f.key) where
-    not_missing : (n : Key) → IsReason plan workers capacities s f.key (wait.Missing n) → ⊥
+    pub not_missing : (n : Key) → IsReason plan workers capacities s f.key (wait.Missing n) → ⊥
     not_missing n (rests, (row, good, missing)) =
         let m = missing_in s.machine.board.applied (names_of f.key row) n missing in
         let firm = begins.named n row (new ∙ good) m.0 in
         some_none firm.row (s.machine.board.applied n) firm.applied m.1
 
-    not_held : (h : Key) → IsReason plan workers capacities s f.key (wait.Held h) → ⊥
+    pub not_held : (h : Key) → IsReason plan workers capacities s f.key (wait.Held h) → ⊥
     not_held h (rests, none, (row, at, by)) = begins.unnamed (new ∙ none) h by.row (inl by.applied_row) by.names
 
     not_in_the_way : (o : Option Row) (v : ℕ) → f.new ≡ o → IsInTheWay plan s.machine f.key o v → ⊥

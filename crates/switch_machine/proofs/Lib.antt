@@ -25,3 +25,7 @@ pub mod Sequence
 pub mod Undisturbed
 pub mod Hindered
 pub mod Idle
+pub mod Single
+pub mod Needing
+pub mod Bearing
+pub mod Steering

@@ -9,3 +9,5 @@ pub mod Written
 pub mod Events
 pub mod Reasons
 pub mod Next
+pub mod Needs
+pub mod Bearing
