@@ -21,3 +21,4 @@ pub mod Starting
 pub mod Stepping
 pub mod Tagging
 pub mod Targets
+pub mod Worked
