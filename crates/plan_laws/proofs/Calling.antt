@@ -136,25 +136,31 @@ module _ (start : Layout Rid) (view : Layout Vid) (ids : Vid → Rid) where
             | inr o ↦ absurd ((before p.is_plan done (c ∷ due) cut o.0 c o.1 (inl refl)).1 (sym (outcome-named o.0 w o.2) ∙ e))
           ]
 
-      still : (i : Rid) (u : Thing) → start i u → name_of u ≡ subject c → (j : Rid) → Has layout (subject c) j → layout i u
+      pub still : (i : Rid) (u : Thing) → start i u → name_of u ≡ subject c → (j : Rid) → Has layout (subject c) j → layout i u
       still i u h e j has =
           let now = r.old (subject c) i (u, h, e) j has in
           let same : now.0 ≡ u = p.old_named.one now.0 u (untouched i now.0 now.1 now.2) (first.sound i u h) (now.2 ∙ sym e) in
           subst (layout i) same now.1
 
-      still_body : (i : Rid) (u : Thing) (b : Body Rid) → layout i u → IsBody (Has start) u b → IsBody (Has layout) u b
-      still_body i u b h of = let has = at.laid.stand i u h in body-stood start view ids layout r u b has.0 of has.1
+      pub still-body : (i : Rid) (u : Thing) (b : Body Rid) → layout i u → IsBody (Has start) u b → IsBody (Has layout) u b
+      still-body i u b h of = let has = at.laid.stand i u h in body-stood start view ids layout r u b has.0 of has.1
+
+      -- a thing that is to be made has no identifier at the start
+      pub none-before : (t : Thing) → c ≡ Make t → (i : Rid) → Has start (name_of t) i → ⊥
+      none-before t e i has =
+          let there : IsIn (Make t) plan = due-in p.is_plan done (c ∷ due) cut (Make t) (inl (sym e)) in
+          (p.is_plan.makes t there).1 has.0 (first.sound i has.0 has.1) has.2
 
     calls_of : (done due : List PlanChange) (c : PlanChange) → plan ≡ done ++ (c ∷ due) → {layout : Layout Rid} {made : ℕ} {objects : Objects} → IsMoment old done layout made objects → Resolves start view ids layout → (calls : List (Call PlanId)) → PlansChange start view c calls → MakesChange layout c (resolved calls)
     calls_of done due (Make t) cut {layout} at r calls is = (body_renamed f is.0, body-resolved start view ids layout r t is.0 (may done due (Make t) cut at r).1 is.1, ap resolved is.2)
     calls_of done due (Remove k) cut at r calls is =
         let ok = may done due (Remove k) cut at r in
         let there = still done due (Remove k) cut at r is.0 is.1 is.3 is.4 ok.0.0 ok.0.1 in
-        (is.0, is.1, is.2, there, is.4, still_body done due (Remove k) cut at r is.0 is.1 is.2 there is.5, ap resolved is.6 ∙ ap (λ e. call.Remove e ∷ []) (entry_back ids (entry_of is.0.0 is.2)))
+        (is.0, is.1, is.2, there, is.4, still-body done due (Remove k) cut at r is.0 is.1 is.2 there is.5, ap resolved is.6 ∙ ap (λ e. call.Remove e ∷ []) (entry_back ids (entry_of is.0.0 is.2)))
     calls_of done due (Set t) cut {layout} at r calls is =
         let ok = may done due (Set t) cut at r in
         let there = still done due (Set t) cut at r is.0 is.1 is.3 is.4 ok.0.0 ok.0.1 in
-        (is.0, is.1, there, is.4, sets_resolved layout r is.0 is.1 t is.2 calls (still_body done due (Set t) cut at r is.0 is.1 is.2 there is.5) ok.1 is.6)
+        (is.0, is.1, there, is.4, sets_resolved layout r is.0 is.1 t is.2 calls (still-body done due (Set t) cut at r is.0 is.1 is.2 there is.5) ok.1 is.6)
 
     module _ (capacities : List ℕ) (room : HasRoomFor capacities objects' plan) where
       -- the calls make the changes, and lead to a moment at which what stands has the identifiers that the plan's come to
@@ -174,7 +180,7 @@ module _ (start : Layout Rid) (view : Layout Vid) (ids : Vid → Rid) where
           let front = run.0 in
           let these = calls_of done (cs ++ due) c cut at r front run.3 in
           let step = plan-step p first capacities room done (cs ++ due) at c cut (resolved front) these in
-          let r' = resolves-next at capacities c (resolved front) (layout_after made layout c) step start view ids (λ t e. (none t e, run.4 t e)) r in
+          let r' = resolves-next at capacities c (resolved front) (layout_after made layout c) step start view ids (λ t e. (none-before done (cs ++ due) c cut at r t e, run.4 t e)) r in
           let rest = called_from cs due (done ++ (c ∷ [])) (cut ∙ joined done c (cs ++ due)) step.next r' run.1 run.5 in
           let whole : resolved calls ≡ resolved front ++ resolved run.1 = ap resolved run.2 ∙ map-append (call_renamed f) front run.1 in
           subst (IsCalled done (c ∷ cs) made objects layout) (sym whole) (record {
@@ -182,11 +188,6 @@ module _ (start : Layout Rid) (view : Layout Vid) (ids : Vid → Rid) where
             end = end-append capacities old _ _ made objects (resolved front) (resolved run.1) (sym (joined done c cs)) step.legal rest.end;
             resolves = rest.resolves;
           })
-        where
-          none : (t : Thing) → c ≡ Make t → (i : Rid) → Has start (name_of t) i → ⊥
-          none t e i has =
-              let there : IsIn (Make t) plan = due-in p.is_plan done (c ∷ (cs ++ due)) cut (Make t) (inl (sym e)) in
-              (p.is_plan.makes t there).1 has.0 (first.sound i has.0 has.1) has.2
 
       pub plan-called : (todo due : List PlanChange) → plan ≡ todo ++ due → (calls : List (Call PlanId)) → PlansChanges start view ids made' todo calls → IsCalled [] todo made' objects' start (resolved calls)
       plan-called todo due cut calls run = called_from todo due [] cut first (resolves-first start view ids) calls run

@@ -3,12 +3,16 @@ pub mod Applied
 pub mod Calling
 pub mod Chip
 pub mod Cold
+pub mod Counts
 pub mod Deciders
+pub mod Doubles
 pub mod Following
+pub mod Keeping
 pub mod Lists
 pub mod Macs
 pub mod Moving
 pub mod Named
+pub mod Picked
 pub mod Resolving
 pub mod Rooms
 pub mod Running
@@ -17,3 +21,4 @@ pub mod Starting
 pub mod Stepping
 pub mod Tagging
 pub mod Targets
+pub mod Worked

@@ -97,12 +97,11 @@ module _ (tag : Rid → List Hop) (objects : Objects) (made : ℕ) (whole : IsWh
       let at = whole.entered.each o.0 o.1 found in
       see_by (has_number t) o.0 o.1 at.0 t found at.2 o.3 refl (body-seen tag made objects whole o.0 o.1 t found o.3)
 
-  pub seen-in : (i : Rid) (t : Thing) → seen tag objects i t → IsIn t (seen_things tag objects)
-  seen-in i t s =
-      let o = in-found objects s.entry s.body s.found in
-      let same = entry-exact s.entry o.0 o.1 in
-      let is : thing_by (tagged tag) objects (o.0, s.body) ≡ Some t = ap (λ e. thing_by (tagged tag) objects (e, s.body)) (sym same) ∙ s.thing in
-      in_those t (seen_among tag objects objects) (subst (λ x. IsIn x (seen_among tag objects objects)) is (seen_in objects o.0 s.body o.2))
+  pub object-seen : (e : Entry Rid) (b : Body Rid) (t : Thing) → body_at objects e ≡ Some b → thing_by (tagged tag) objects (e, b) ≡ Some t → IsIn t (seen_things tag objects)
+  object-seen e b t found thing =
+      let o = in-found objects e b found in
+      let is : thing_by (tagged tag) objects (o.0, b) ≡ Some t = ap (λ d. thing_by (tagged tag) objects (d, b)) (sym (entry-exact e o.0 o.1)) ∙ thing in
+      in_those t (seen_among tag objects objects) (subst (λ x. IsIn x (seen_among tag objects objects)) is (seen_in objects o.0 b o.2))
 
 -- ---- the moment before the plan
 
@@ -129,7 +128,7 @@ module _ {made : ℕ} {objects : Objects} (chip : IsListed made objects) (new : 
   old-seen t i = in-seen tag objects made chip.whole t i
 
   pub seen-old : (i : Rid) (t : Thing) → start i t → IsIn t old
-  seen-old i t s = seen-in tag objects made chip.whole i t s
+  seen-old i t s = object-seen tag objects made chip.whole s.entry s.body t s.found s.thing
 
   pub first-moment : IsMoment old [] start made objects
   first-moment = record { whole = chip.whole; laid = old-laid; sound = seen-old; all = old-seen }
@@ -157,8 +156,8 @@ module _ {made : ℕ} {objects : Objects} (chip : IsListed made objects) (new : 
       by (entry.Neigh r ip) k same = absurd cc
       by (entry.Route p) k same = absurd cc
 
-  group_seen : (g : Rid) (t : List Hop) → start g (thing.Group t) → (t ≡ tag g) × IsIn g (groups_of objects)
-  group_seen g t s =
+  pub group-seen : (g : Rid) (t : List Hop) → start g (thing.Group t) → (t ≡ tag g) × IsIn g (groups_of objects)
+  group-seen g t s =
       let is : s.body ≡ body.Group = (body-seen tag made objects chip.whole s.entry s.body (thing.Group t) s.found s.thing).body_is in
       let at = tag_by s.entry s.body g t is s.thing s.at in
       (at.0, all-groups objects g (ap (body_at objects) (sym at.1) ∙ s.found ∙ ap Some is))
@@ -167,9 +166,12 @@ module _ {made : ℕ} {objects : Objects} (chip : IsListed made objects) (new : 
     these : IsAmong start objects old-laid g t (thing.Group t, s, refl) objects
     these = among start objects old-laid g t (thing.Group t, s, refl) objects (λ e b i. found-in objects e b chip.whole.sorted i)
 
+    pub hops-there : hops_at objects g ≡ Some (shown_hops objects g)
+    hops-there = these.is ∙ ap Some (sym (ap hops_or_none these.is))
+
     those_are : these.those ≡ hops_of t
     those_are =
-        let at = group_seen g t s in
+        let at = group-seen g t s in
         sym (ap hops_or_none these.is) ∙ sym (hops-of_tag stays (shown_hops objects) rises (stays-apart objects new) (groups_of objects) g at.1) ∙ ap hops_of (sym at.0)
 
     group_rising : IsStrictlySortedBy hop_cmp (hops_of t)
@@ -184,8 +186,8 @@ module _ {made : ℕ} {objects : Objects} (chip : IsListed made objects) (new : 
         let object = in-found objects (entry_of j.0 has.0) has.0 has.2 in
         subst (IsIn hop) those_are (these.all object.0 has.0 j hop object.2 m has.1 (same-symm object.0 (entry_of j.0 has.0) ∙ object.1))
 
-  group_there : (t : List Hop) (g : Rid) → Has start (name.Group t) g → start g (thing.Group t)
-  group_there t g h = subst (start g) (is-group h.0 t h.2) h.1
+  pub group-there : (t : List Hop) (g : Rid) → Has start (name.Group t) g → start g (thing.Group t)
+  group-there t g h = subst (start g) (is-group h.0 t h.2) h.1
 
   pub old-tagged : AreTagged hops_of old
   old-tagged = record {
@@ -194,11 +196,11 @@ module _ {made : ℕ} {objects : Objects} (chip : IsListed made objects) (new : 
     only = λ t hop i.
         let m = old-seen (thing.GroupMember t hop) i in
         let has = old-laid.stand m.0 (thing.GroupMember t hop) m.1 in
-        group_only has.1.first t (group_there t has.1.first has.1.first_at) m.0 hop m.1;
+        group_only has.1.first t (group-there t has.1.first has.1.first_at) m.0 hop m.1;
     there = λ p t i.
         let r = old-seen (thing.Route p (goal.Group t)) i in
         let has = old-laid.stand r.0 (thing.Route p (goal.Group t)) r.1 in
-        seen-old has.1.first (thing.Group t) (group_there t has.1.first has.1.first_at);
+        seen-old has.1.first (thing.Group t) (group-there t has.1.first has.1.first_at);
   }
 
   pub hops-same : (hops : List Hop) → IsStrictlySortedBy hop_cmp hops → hops_of hops ≡ hops
