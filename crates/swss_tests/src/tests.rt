@@ -2,7 +2,9 @@
 mod bodies;
 mod fields;
 mod log;
+mod operations;
 mod outside;
+mod pending;
 mod queue;
 mod rows;
 mod values;
