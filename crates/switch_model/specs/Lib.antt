@@ -8,3 +8,4 @@ pub mod Room
 pub mod Sound
 pub mod Steady
 pub mod Things
+pub mod Turns
