@@ -8,7 +8,7 @@ use Rattle.table_schema.specs.declared.key.Key.{Key}
 use Rattle.table_schema.specs.declared.write.Write.{Write}
 use Rattle.table_schema.specs.declared.write.Write.TheVariants as write
 use Rattle.table_schema.proofs.Keys.{key_exact}
-use Rattle.row_layout.proofs.Tied.{tied}
+use Rattle.switch_model.proofs.Tied.{tied}
 use Rattle.sai_types.specs.declared.ids.Rid.{Rid}
 use Rattle.sai_types.specs.declared.body.Call.{Call}
 use Rattle.sai_types.specs.declared.body.Entry.{Entry}
