@@ -40,20 +40,20 @@ use Rattle.sai_types.proofs.Rising.{hop-same, hop_exact, hop_total, in-back}
 
 -- ---- things and the objects that stand for them
 
-those_in : {X : Type 0} (x : X) (os : List (Option X)) → IsIn x (those os) → IsIn (Some x) os
+pub those_in : {X : Type 0} (x : X) (os : List (Option X)) → IsIn x (those os) → IsIn (Some x) os
 those_in x [] h = elim h [ ]
 those_in x (None ∷ os) h = inr (those_in x os h)
 those_in x (Some y ∷ os) (inl is) = inl (ap Some is)
 those_in x (Some y ∷ os) (inr h) = inr (those_in x os h)
 
-in_those : {X : Type 0} (x : X) (os : List (Option X)) → IsIn (Some x) os → IsIn x (those os)
+pub in_those : {X : Type 0} (x : X) (os : List (Option X)) → IsIn (Some x) os → IsIn x (those os)
 in_those x [] h = elim h [ ]
 in_those x (None ∷ os) (inl is) = absurd cc
 in_those x (None ∷ os) (inr h) = in_those x os h
 in_those x (Some y ∷ os) (inl is) = inl (same_Some x y is)
 in_those x (Some y ∷ os) (inr h) = inr (in_those x os h)
 
-thing_in : (objects os : Objects) (e : Entry Rid) (b : Body Rid) → IsIn (e, b) os → IsIn (thing_of objects (e, b)) (things_among objects os)
+pub thing_in : (objects os : Objects) (e : Entry Rid) (b : Body Rid) → IsIn (e, b) os → IsIn (thing_of objects (e, b)) (things_among objects os)
 thing_in objects [] e b h = elim h [ ]
 thing_in objects (o ∷ os) e b (inl is) = inl (ap (thing_of objects) is)
 thing_in objects (o ∷ os) e b (inr h) = inr (thing_in objects os e b h)

@@ -25,7 +25,7 @@ use Rattle.row_layout.specs.Rows as owner
 use Rattle.row_layout.specs.Rows.{Owner, from}
 use Rattle.row_layout.specs.Shared.{group_by, shared_things, uses}
 use Rattle.row_layout.proofs.Changing.{among}
-use Rattle.row_layout.proofs.Tied.{tied}
+use Rattle.switch_model.proofs.Tied.{tied}
 use Rattle.switch_machine.specs.Events.{AreAnswers, Due, Ended, Follows, IsAnswer, IsBegin, IsQuiet, Left, Retires, SwitchState, after_answers, changes_made}
 use Rattle.switch_machine.specs.Flights.{CountsAsUser, Flight, IsResting, IsUser, Machine}
 use Rattle.switch_machine.specs.Operations.{IsUsedByOthers, built_first}

@@ -22,7 +22,7 @@ use Rattle.sai_types.specs.Names as name
 use Rattle.sai_types.specs.Names.{Name}
 use Rattle.row_layout.specs.Rows as owner
 use Rattle.row_layout.specs.Rows.{Owner, own_things}
-use Rattle.row_layout.proofs.Tied.{tied}
+use Rattle.switch_model.proofs.Tied.{tied}
 use Rattle.row_layout.specs.Operations.{uses_of}
 use Rattle.row_layout.specs.Shared.{uses}
 use Rattle.switch_machine.specs.Flights.{own_of, put}

@@ -1,0 +1,253 @@
+-- each change of a plan may be made when its turn has come, and at the end the new things stand
+use Rattle.std.proofs.Common.{◌≡◌, inl, inr, ◌⊎◌, ℕ, ◌-◌, ◌<◌, ◌≤◌, ◌++◌, List, [], ◌∷◌, refl, sym, ap, ◌∙◌, subst, arith}
+use Rattle.std.proofs.lemmas.List.{append-nil}
+use Rattle.sai_types.specs.declared.hop.Base.{Base}
+use Rattle.sai_types.specs.declared.hop.Base.TheVariants as base
+use Rattle.sai_types.specs.declared.thing.Goal.{Goal}
+use Rattle.sai_types.specs.declared.thing.Goal.TheVariants as goal
+use Rattle.sai_types.specs.declared.thing.Thing.{Thing}
+use Rattle.sai_types.specs.declared.thing.Thing.TheVariants as thing
+use Rattle.sai_types.specs.Alike.{IsIn}
+use Rattle.sai_types.specs.Objects.{level}
+use Rattle.sai_types.specs.Names as name
+use Rattle.sai_types.specs.Names.{Meet, Name, Refers, base_name, goal_names, name_kind, name_of}
+use Rattle.plan_laws.specs.Plans.{AreInOrder, PlanChange, IsViewPlan, Make, Remove, Set, after_changes, cold_rank, hitless_rank, make_rank, remove_rank, set_rank, subject}
+use Rattle.plan_laws.specs.Views.{AreNamed, LanesApart, ReferWithin}
+use Rattle.plan_laws.proofs.Following.{IsNamed, before, done-in, due-in, in_order-right, new-stands, now-new, old-stands, origin, outcome-named, outcome-new}
+use Rattle.plan_laws.proofs.Deciders.{IsGood, good-names, len_within}
+
+-- ---- what refers is of a higher kind
+
+abbrev pub height : Name → ℕ
+height k = level (name_kind k)
+
+below : (k m : Name) (n : ℕ) → k ≡ m → height m < n → height k < n
+below k m n same less = subst (λ z. height z < n) (sym same) less
+
+base_height : (on : Base) → height (base_name on) < 4
+base_height (base.Port lane) = omega arith
+base_height (base.Vlan vlan) = omega arith
+
+goal_lower : (g : Goal) (k : Name) → IsIn k (goal_names g) → height k < 10
+goal_lower goal.Drop k h = elim h [ ]
+goal_lower (goal.Direct on) k (inl e) = below k _ 10 e (omega arith)
+goal_lower (goal.Via hop) k (inl e) = below k _ 10 e (omega arith)
+goal_lower (goal.Group hops) k (inl e) = below k _ 10 e (omega arith)
+goal_lower (goal.Direct on) k (inr h) = elim h [ ]
+goal_lower (goal.Via hop) k (inr h) = elim h [ ]
+goal_lower (goal.Group hops) k (inr h) = elim h [ ]
+
+pub refers-lower : (t : Thing) (k : Name) → Refers t k → height k < height (name_of t)
+refers-lower (thing.BridgePort lane) k (inl e) = below k _ 2 e (omega arith)
+refers-lower (thing.VlanMember vlan lane tagging) k (inl e) = below k _ 3 e (omega arith)
+refers-lower (thing.VlanMember vlan lane tagging) k (inr (inl e)) = below k _ 3 e (omega arith)
+refers-lower (thing.Rif on) k (inl e) = below k _ 4 e (base_height on)
+refers-lower (thing.Neighbor hop mac) k (inl e) = below k _ 6 e (omega arith)
+refers-lower (thing.NextHop hop) k (inl e) = below k _ 7 e (omega arith)
+refers-lower (thing.NextHop hop) k (inr (inl e)) = below k _ 7 e (omega arith)
+refers-lower (thing.GroupMember hops hop) k (inl e) = below k _ 9 e (omega arith)
+refers-lower (thing.GroupMember hops hop) k (inr (inl e)) = below k _ 9 e (omega arith)
+refers-lower (thing.Route prefix g) k h = goal_lower g k h
+refers-lower (thing.BridgePort lane) k (inr h) = elim h [ ]
+refers-lower (thing.VlanMember vlan lane tagging) k (inr (inr h)) = elim h [ ]
+refers-lower (thing.Rif on) k (inr h) = elim h [ ]
+refers-lower (thing.Neighbor hop mac) k (inr h) = elim h [ ]
+refers-lower (thing.NextHop hop) k (inr (inr h)) = elim h [ ]
+refers-lower (thing.GroupMember hops hop) k (inr (inr h)) = elim h [ ]
+refers-lower (thing.Port p) k h = elim h [ ]
+refers-lower (thing.Vlan v) k h = elim h [ ]
+refers-lower (thing.Own ip) k h = elim h [ ]
+refers-lower (thing.Group hops) k h = elim h [ ]
+
+height_most : (k : Name) → height k ≤ 10
+height_most (name.Port m) = omega arith
+height_most (name.Vlan m) = omega arith
+height_most (name.BridgePort m) = omega arith
+height_most (name.VlanMember m k) = omega arith
+height_most (name.Rif a) = omega arith
+height_most (name.Own a) = omega arith
+height_most (name.Neighbor a) = omega arith
+height_most (name.NextHop a) = omega arith
+height_most (name.Group a) = omega arith
+height_most (name.GroupMember a x) = omega arith
+height_most (name.Route a) = omega arith
+
+-- ---- turns
+
+make_low : (k : Name) → height k < 10 → make_rank k ≡ height k
+make_low (name.Route p) less = absurd (omega (arith, less))
+make_low _ less = refl
+
+remove_low : (k : Name) → height k < 10 → remove_rank k ≡ 1400 - height k
+remove_low (name.Route p) less = absurd (omega (arith, less))
+remove_low _ less = refl
+
+-- what is made later than by this turn is no lower than this
+make_high : (k : Name) (n : ℕ) → IsGood k → n < height k → n < 10 → n < make_rank k
+make_high (name.Route p) n good less small = let len = len_within p good in omega (arith, len, small)
+make_high (name.Port m) n good less small = less
+make_high (name.Vlan m) n good less small = less
+make_high (name.BridgePort m) n good less small = less
+make_high (name.VlanMember m k) n good less small = less
+make_high (name.Rif a) n good less small = less
+make_high (name.Own a) n good less small = less
+make_high (name.Neighbor a) n good less small = less
+make_high (name.NextHop a) n good less small = less
+make_high (name.Group a) n good less small = less
+make_high (name.GroupMember a x) n good less small = less
+
+set_high : (k : Name) (n : ℕ) → n < 10 → n < set_rank k
+set_high (name.Route p) n small = omega (arith, small)
+set_high _ n small = omega (arith, small)
+
+set_most : (k : Name) → set_rank k ≤ 800
+set_most (name.Route p) = omega arith
+set_most _ = omega arith
+
+remove_less : (k : Name) (n : ℕ) → IsGood k → n < height k → n < 10 → remove_rank k < 1400 - n
+remove_less (name.Route p) n good less small = let len = len_within p good in omega (arith, len, small)
+remove_less (name.Port m) n good less small = omega (arith, less)
+remove_less (name.Vlan m) n good less small = omega (arith, less)
+remove_less (name.BridgePort m) n good less small = omega (arith, less)
+remove_less (name.VlanMember m k) n good less small = omega (arith, less)
+remove_less (name.Rif a) n good less small = omega (arith, less)
+remove_less (name.Own a) n good less small = omega (arith, less)
+remove_less (name.Neighbor a) n good less small = omega (arith, less)
+remove_less (name.NextHop a) n good less small = omega (arith, less)
+remove_less (name.Group a) n good less small = omega (arith, less)
+remove_less (name.GroupMember a x) n good less small = omega (arith, less)
+
+-- the numbers that an order needs: what is referred to is made before, and what refers is removed before
+pub record IsSafe (order : PlanChange → ℕ) : Type 0 where
+  pub make_after : (t w : Thing) → IsGood (name_of t) → height (name_of w) < height (name_of t) → height (name_of w) < 10 → order (Make w) < order (Make t)
+  pub set_after : (t w : Thing) → height (name_of w) < 10 → order (Make w) < order (Set t)
+  pub remove_before : (k m : Name) → IsGood m → height k < height m → height k < 10 → order (Remove m) < order (Remove k)
+  pub set_before : (t : Thing) (k : Name) → height k < 10 → order (Set t) < order (Remove k)
+
+pub hitless-safe : IsSafe hitless_rank
+hitless-safe = record {
+  make_after = λ t w good less small. let turns = make_low (name_of w) small in let high = make_high (name_of t) (height (name_of w)) good less small in omega (arith, turns, high);
+  set_after = λ t w small. let turns = make_low (name_of w) small in let high = set_high (name_of t) (height (name_of w)) small in omega (arith, turns, high);
+  remove_before = λ k m good less small. let turns = remove_low k small in let low = remove_less m (height k) good less small in omega (arith, turns, low);
+  set_before = λ t k small. let turns = remove_low k small in let most = set_most (name_of t) in omega (arith, turns, most, small);
+}
+
+pub cold-safe : IsSafe cold_rank
+cold-safe = record {
+  make_after = λ t w good less small. less;
+  set_after = λ t w small. omega (arith, small);
+  remove_before = λ k m good less small. let most = height_most m in omega (arith, less, most);
+  set_before = λ t k small. omega (arith, small);
+}
+
+-- a plan in an order that leads from old things to new ones, where each are told apart and the new ones refer to each other
+pub record IsSafePlan (order : PlanChange → ℕ) (old new : List Thing) (plan : List PlanChange) : Type 0 where
+  pub safe : IsSafe order
+  pub old_named : AreNamed old
+  pub new_named : AreNamed new
+  pub within : ReferWithin new
+  pub lanes : LanesApart old new
+  pub is_plan : IsViewPlan order old new plan
+
+module _ {order : PlanChange → ℕ} {old new : List Thing} {plan : List PlanChange} (p : IsSafePlan order old new plan) where
+  abbrev stood : Thing → Type 0
+  stood u = IsIn u old
+
+  module _ (done : List PlanChange) (next : PlanChange) (due : List PlanChange) (cut : plan ≡ done ++ (next ∷ due)) where
+    abbrev now : Thing → Type 0
+    now = after_changes done stood
+
+    next_in : IsIn next plan
+    next_in = due-in p.is_plan done (next ∷ due) cut next (inl refl)
+
+    -- no change that is due comes before the next
+    not_before : (d : PlanChange) → IsIn d (next ∷ due) → order next ≤ order d
+    not_before d (inl is) = let same : order d ≡ order next = ap order is in omega (arith, same)
+    not_before d (inr i) = ((in_order-right order done (next ∷ due) (subst (AreInOrder order) cut p.is_plan.in_order)).0 d i).0
+
+    -- what a new thing refers to stands where that is made before the next change
+    refers_well : (t : Thing) → IsIn t new → ((w : Thing) → height (name_of w) < height (name_of t) → height (name_of w) < 10 → order (Make w) < order next) → (k : Name) → Refers t k → IsNamed now k
+    refers_well t i late k r =
+        let w = p.within.refers t k i r in
+        let low = refers-lower t k r in
+        let most = height_most (name_of t) in
+        let heights : height (name_of w.0) ≡ height k = ap height w.2 in
+        elim (new-stands p.is_plan done (next ∷ due) cut w.0 w.1) [
+          | inl h ↦ (h.0, h.1, h.2 ∙ w.2)
+          | inr make ↦ let early = not_before (Make w.0) make in let after_it = late w.0 (omega (arith, low, heights)) (omega (arith, most, low, heights)) in absurd (omega (arith, early, after_it))
+        ]
+
+    -- no thing that stands has the name of the next change, if no old one has
+    fresh : ((u : Thing) → IsIn u old → name_of u ≡ subject next → ⊥) → (u : Thing) → now u → name_of u ≡ subject next → ⊥
+    fresh none u h same =
+        elim (origin done stood u h) [
+          | inl there ↦ none u there.0 same
+          | inr c ↦ (before p.is_plan done (next ∷ due) cut c.0 next c.1 (inl refl)).1 (sym (outcome-named c.0 u c.2) ∙ same)
+        ]
+
+    old_or_new : (u : Thing) → now u → IsIn u old ⊎ IsIn u new
+    old_or_new u h = elim (origin done stood u h) [ inl there ↦ inl there.0 | inr c ↦ inr (outcome-new p.is_plan c.0 u (done-in p.is_plan done (next ∷ due) cut c.0 c.1) c.2) ]
+
+  module _ (t : Thing) (done due : List PlanChange) where
+    module _ (cut : plan ≡ done ++ (Make t ∷ due)) where
+      make_new : IsIn t new × ((u : Thing) → IsIn u old → name_of u ≡ name_of t → ⊥)
+      make_new = p.is_plan.makes t (next_in done (Make t) due cut)
+
+      pub make-free : (u : Thing) → after_changes done stood u → Meet t u → ⊥
+      make-free u h (inl same) = fresh done (Make t) due cut make_new.1 u h (sym same)
+      make-free u h (inr lane) = fresh done (Make t) due cut make_new.1 u h (sym (p.lanes.apart t u make_new.0 (old_or_new done (Make t) due cut u h) lane))
+
+      pub make-refers : (k : Name) → Refers t k → IsNamed (after_changes done stood) k
+      make-refers = refers_well done (Make t) due cut t make_new.0 (λ w. p.safe.make_after t w (good-names new p.new_named t make_new.0))
+
+    module _ (cut : plan ≡ done ++ (Set t ∷ due)) where
+      set_new : IsIn t new × (u : Thing) × IsIn u old × (name_of u ≡ name_of t)
+      set_new = p.is_plan.sets t (next_in done (Set t) due cut)
+
+      pub set-there : IsNamed (after_changes done stood) (name_of t)
+      set-there =
+          elim (new-stands p.is_plan done (Set t ∷ due) cut t set_new.0) [
+            | inl h ↦ h
+            | inr make ↦ absurd ((p.is_plan.makes t (due-in p.is_plan done (Set t ∷ due) cut (Make t) make)).1 set_new.1 set_new.2 set_new.3)
+          ]
+
+      pub set-refers : (k : Name) → Refers t k → IsNamed (after_changes done stood) k
+      set-refers = refers_well done (Set t) due cut t set_new.0 (λ w less small. p.safe.set_after t w small)
+
+  module _ (k : Name) (done due : List PlanChange) (cut : plan ≡ done ++ (Remove k ∷ due)) where
+    gone_old : (u : Thing) × IsIn u old × (name_of u ≡ k) × ((t : Thing) → IsIn t new → name_of t ≡ k → ⊥)
+    gone_old = p.is_plan.removes k (next_in done (Remove k) due cut)
+
+    pub remove-there : IsNamed (after_changes done stood) k
+    remove-there =
+        elim (old-stands p.is_plan done (Remove k ∷ due) cut gone_old.0 gone_old.1) [
+          | inl h ↦ (h.0, h.1, h.2 ∙ gone_old.2)
+          | inr gone ↦ absurd ((before p.is_plan done (Remove k ∷ due) cut (Remove (name_of gone_old.0)) (Remove k) gone (inl refl)).1 gone_old.2)
+        ]
+
+    -- what stands and refers to the name would be new
+    pub remove-unused : (v : Thing) → after_changes done stood v → Refers v k → ⊥
+    remove-unused v h r =
+        let low = refers-lower v k r in
+        let most = height_most (name_of v) in
+        let small : height k < 10 = omega (arith, low, most) in
+        let i = now-new p.is_plan done (Remove k ∷ due) cut p.old_named v h
+        (λ t set same. let late = not_before done (Remove k) due cut (Set t) set in let early = p.safe.set_before t k small in absurd (omega (arith, late, early)))
+        (λ gone. let late = not_before done (Remove k) due cut (Remove (name_of v)) gone in let early = p.safe.remove_before k (name_of v) good low small in absurd (omega (arith, late, early))) in
+        let w = p.within.refers v k i r in
+        gone_old.3 w.0 w.1 w.2
+      where
+        good : IsGood (name_of v)
+        good = elim (old_or_new done (Remove k) due cut v h) [ inl i ↦ good-names old p.old_named v i | inr i ↦ good-names new p.new_named v i ]
+
+  -- ---- the end
+
+  pub ends-new : (t : Thing) → after_changes plan stood t → IsIn t new
+  ends-new t h = now-new p.is_plan plan [] (sym (append-nil plan)) p.old_named t h (λ u i same. elim i [ ]) (λ i. elim i [ ])
+
+  pub new-ends : (t : Thing) → IsIn t new → after_changes plan stood t
+  new-ends t i =
+      elim (new-stands p.is_plan plan [] (sym (append-nil plan)) t i) [
+        | inl h ↦ subst (after_changes plan stood) (p.new_named.one h.0 t (ends-new h.0 h.1) i h.2) h.1
+        | inr make ↦ elim make [ ]
+      ]

@@ -1,0 +1,166 @@
+-- what a chip shows while a hitless plan is made, and that it is steady
+use Rattle.std.proofs.Common.{◌≡◌, inl, inr, ℕ, ◌++◌, List, [], ◌∷◌, map, Some, refl, sym, ap, ◌∙◌, subst}
+use Rattle.std.proofs.lemmas.List.{append_assoc}
+use Rattle.swss_types.specs.Address.{IsProperPrefix}
+use Rattle.swss_types.specs.declared.address.Ip.{Ip}
+use Rattle.swss_types.specs.declared.address.Prefix.{Prefix}
+use Rattle.sai_types.specs.declared.ids.Rid.{Rid}
+use Rattle.sai_types.specs.declared.hop.Hop.{Hop}
+use Rattle.sai_types.specs.declared.thing.Goal.{Goal}
+use Rattle.sai_types.specs.declared.thing.Goal.TheVariants as goal
+use Rattle.sai_types.specs.declared.thing.Thing.{Thing}
+use Rattle.sai_types.specs.declared.thing.Thing.TheVariants as thing
+use Rattle.sai_types.specs.Alike.{IsIn}
+use Rattle.sai_types.specs.Forwarding.{decide, forward}
+use Rattle.sai_types.specs.Names as name
+use Rattle.sai_types.specs.Names.{Name, name_of}
+use Rattle.sai_types.specs.Objects.{Objects}
+use Rattle.chip_layout.specs.Layout.{Layout}
+use Rattle.plan_laws.specs.Applied.{chip_things}
+use Rattle.plan_laws.specs.Plans.{PlanChange, IsViewPlan, Make, Remove, Set, after_change, after_changes, hitless_rank, outcome}
+use Rattle.plan_laws.specs.Steady.{ForwardsAfter, IsForwarding, IsHitless, IsOldOrNew, StaysNew}
+use Rattle.plan_laws.specs.Views.{AreNamed}
+use Rattle.plan_laws.proofs.Following.{done-in, outcome-new}
+use Rattle.plan_laws.proofs.Lists.{in-map, map-in}
+use Rattle.plan_laws.proofs.Macs.{either, hitless, kept}
+use Rattle.plan_laws.proofs.Shown.{AreTargets, real_goal, real_route, shown-all, shown-sound}
+use Rattle.plan_laws.proofs.Stepping.{IsMidMoment, IsPortName}
+use Rattle.plan_laws.proofs.Targets.{IsTaggedPlan, group-of_route, member-only, member-there, target-rising}
+
+no_port : (k : Name) → IsForwarding k → IsPortName k → ⊥
+no_port (name.Port lane) fw port = fw
+no_port _ fw port = port
+
+-- ---- the same changes of things with real hops
+
+module _ (hops_of : List Hop → List Hop) where
+  abbrev real : Thing → Thing
+  real = real_route hops_of
+
+  real_name : (t : Thing) → name_of (real t) ≡ name_of t
+  real_name (thing.Route p g) = refl
+  real_name _ = refl
+
+  abbrev AreReal : List PlanChange → Type 0
+  AreReal cs = (c : PlanChange) (t : Thing) → IsIn c cs → outcome c ≡ Some t → real t ≡ t
+
+  real_after : (cs : List PlanChange) (now later : Thing → Type 0) → AreReal cs → ((t : Thing) → now t → later (real t)) → (t : Thing) → after_changes cs now t → after_changes cs later (real t)
+  real_after [] now later fixed to t h = to t h
+  real_after (c ∷ cs) now later fixed to t h =
+      real_after cs (after_change c now) (after_change c later) (λ d u i. fixed d u (inr i))
+      (λ u i. elim i [ inl old ↦ inl (to u old.0, λ same. old.1 (sym (real_name u) ∙ same)) | inr o ↦ inr (o ∙ ap Some (sym (fixed c u (inl refl) o))) ])
+      t h
+
+  after_real : (cs : List PlanChange) (now later : Thing → Type 0) → AreReal cs → ((u : Thing) → later u → (t : Thing) × now t × (real t ≡ u)) → (u : Thing) → after_changes cs later u → (t : Thing) × after_changes cs now t × (real t ≡ u)
+  after_real [] now later fixed back u h = back u h
+  after_real (c ∷ cs) now later fixed back u h =
+      after_real cs (after_change c now) (after_change c later) (λ d v i. fixed d v (inr i))
+      (λ v i. elim i [
+        | inl old ↦ let x = back v old.0 in (x.0, inl (x.1, λ same. old.1 (sym (ap name_of x.2) ∙ real_name x.0 ∙ same)), x.2)
+        | inr o ↦ (v, inr o, fixed c v (inl refl) o)
+      ])
+      u h
+
+  goal_fixed : (p : Prefix) (g : Goal) (new : List Thing) → ((hops : List Hop) → IsIn (thing.Group hops) new → hops_of hops ≡ hops) → ((tag : List Hop) → IsIn (thing.Route p (goal.Group tag)) new → IsIn (thing.Group tag) new) → IsIn (thing.Route p g) new → real_goal hops_of g ≡ g
+  goal_fixed p goal.Drop new same there i = refl
+  goal_fixed p (goal.Direct on) new same there i = refl
+  goal_fixed p (goal.Via hop) new same there i = refl
+  goal_fixed p (goal.Group tag) new same there i = ap goal.Group (same tag (there tag i))
+
+module _ {hops_of : List Hop → List Hop} {old new : List Thing} {plan : List PlanChange} (q : IsTaggedPlan hops_of old new plan) where
+  abbrev shown : List Thing
+  shown = map (real hops_of) old
+
+  in_shown : (t : Thing) → IsIn t old → IsIn (real hops_of t) shown
+  in_shown = in-map (real hops_of) old
+
+  shown_in : (u : Thing) → IsIn u shown → (t : Thing) × IsIn t old × (real hops_of t ≡ u) × (name_of t ≡ name_of u)
+  shown_in u i = let x = map-in (real hops_of) old u i in (x.0, x.1, sym x.2, sym (real_name hops_of x.0) ∙ ap name_of (sym x.2))
+
+  -- a new thing has its real hops
+  new_real : (t : Thing) → IsIn t new → real hops_of t ≡ t
+  new_real (thing.Route p g) i = ap (thing.Route p) (goal_fixed hops_of p g new q.same (λ tag j. group-of_route q p tag j) i)
+  new_real _ i = refl
+
+  proper_by : (p : Prefix) (g : Goal) (t : Thing) → IsIn t old → real hops_of t ≡ thing.Route p g → IsProperPrefix p
+  proper_by p g (thing.Route r h) i e = let is : r ≡ p = cc in q.safe.old_named.proper p h (subst (λ z. IsIn (thing.Route z h) old) is i)
+  proper_by p g _ i e = absurd cc
+
+  shown_named : AreNamed shown
+  shown_named = record {
+    one = λ t u i j e.
+        let x = shown_in t i in
+        let y = shown_in u j in
+        sym x.2 ∙ ap (real hops_of) (q.safe.old_named.one x.0 y.0 x.1 y.1 (x.3 ∙ e ∙ sym y.3)) ∙ y.2;
+    proper = λ p g i. let x = shown_in (thing.Route p g) i in proper_by p g x.0 x.1 x.2;
+  }
+
+  -- the plan leads from what the chip shows as it does from the things with tags
+  shown_plan : IsViewPlan hitless_rank shown new plan
+  shown_plan = record {
+    makes = λ t i. let has = q.safe.is_plan.makes t i in (has.0, λ u j e. let x = shown_in u j in has.1 x.0 x.1 (x.3 ∙ e));
+    sets = λ t i. let has = q.safe.is_plan.sets t i in (has.0, real hops_of has.1, in_shown has.1 has.2, real_name hops_of has.1 ∙ has.3);
+    removes = λ k i. let has = q.safe.is_plan.removes k i in (real hops_of has.0, in_shown has.0 has.1, real_name hops_of has.0 ∙ has.2, has.3);
+    whole = λ t i. elim (q.safe.is_plan.whole t i) [ inl there ↦ inl (subst (λ z. IsIn z shown) (new_real t i) (in_shown t there)) | inr change ↦ inr change ];
+    gone = λ u i. let x = shown_in u i in elim (q.safe.is_plan.gone x.0 x.1) [ inl still ↦ inl (still.0, still.1, still.2 ∙ x.3) | inr remove ↦ inr (subst (λ k. IsIn (Remove k) plan) x.3 remove) ];
+    in_order = q.safe.is_plan.in_order;
+  }
+
+  module _ (done due : List PlanChange) (cut : plan ≡ done ++ due) {layout : Layout Rid} {made : ℕ} {objects : Objects} (at : IsMidMoment old done layout made objects) where
+    targets : AreTargets hops_of layout
+    targets = record {
+      rising = λ i p tag h. target-rising q done due cut p tag (at.sound i _ (λ x. x) h);
+      have = λ i p tag hop h j. at.all (thing.GroupMember tag hop) (λ x. x) (member-there q done due cut p tag hop (at.sound i _ (λ x. x) h) j);
+      only = λ j tag hop h. member-only q done due cut tag hop (at.sound j _ (λ x. x) h);
+    }
+
+    fixed : AreReal hops_of done
+    fixed c t i o = new_real t (outcome-new q.safe.is_plan c t (done-in q.safe.is_plan done due cut c i) o)
+
+    -- what a chip shows at a moment is what stands after these changes of what it showed
+    shown_stands : ForwardsAfter shown done (chip_things objects)
+    shown_stands = record {
+      sound = λ t fw i.
+          let x = shown-sound layout objects at.laid made at.whole hops_of targets t fw i in
+          subst (after_changes done (λ u. IsIn u shown)) x.3 (real_after hops_of done (λ u. IsIn u old) (λ u. IsIn u shown) fixed in_shown x.1 (at.sound x.0 x.1 (no_port (name_of x.1) (subst IsForwarding (sym (ap name_of x.3) ∙ real_name hops_of x.1) fw)) x.2));
+      all = λ t fw h.
+          let x = after_real hops_of done (λ u. IsIn u old) (λ u. IsIn u shown) fixed (λ u j. let m = shown_in u j in (m.0, m.1, m.2)) t h in
+          let fw' : IsForwarding (name_of x.0) = subst IsForwarding (sym (ap name_of x.2) ∙ real_name hops_of x.0) fw in
+          let j = at.all x.0 (no_port (name_of x.0) fw') x.1 in
+          subst (λ z. IsIn z (chip_things objects)) x.2 (shown-all layout objects at.laid made at.whole hops_of targets j.0 x.0 j.1 fw');
+    }
+
+  -- ---- steadiness, of what a chip shows
+
+  no_plan : IsViewPlan hitless_rank shown shown []
+  no_plan = record { makes = λ t i. elim i [ ]; sets = λ t i. elim i [ ]; removes = λ k i. elim i [ ]; whole = λ t i. inl i; gone = λ u i. inl (u, i, refl); in_order = tt }
+
+  module _ {start : Layout Rid} {made' : ℕ} {objects' : Objects} (first : IsMidMoment old [] start made' objects') where
+    abbrev before : List Thing
+    before = chip_things objects'
+
+    before_stands : ForwardsAfter shown [] before
+    before_stands = shown_stands [] plan refl first
+
+    before_forward : (a : Ip) → forward before a ≡ forward shown a
+    before_forward a = (hitless shown_named shown_named no_plan [] [] refl before before_stands a refl).0
+
+    before_decide : (a : Ip) → decide before a ≡ decide shown a
+    before_decide a = elim (either shown_named shown_named no_plan [] [] refl before before_stands a) [ inl e ↦ e | inr e ↦ e ]
+
+    module _ (done due : List PlanChange) (cut : plan ≡ done ++ due) {layout : Layout Rid} {made : ℕ} {objects : Objects} (at : IsMidMoment old done layout made objects) where
+      pub chip-either : IsOldOrNew before new (chip_things objects)
+      chip-either a =
+          elim (either shown_named q.safe.new_named shown_plan done due cut (chip_things objects) (shown_stands done due cut at) a) [
+            | inl e ↦ inl (e ∙ sym (before_decide a))
+            | inr e ↦ inr e
+          ]
+
+      pub chip-hitless : IsHitless before new (chip_things objects)
+      chip-hitless a same =
+          let is = hitless shown_named q.safe.new_named shown_plan done due cut (chip_things objects) (shown_stands done due cut at) a (sym (before_forward a) ∙ same) in
+          (is.0 ∙ sym (before_forward a), is.1)
+
+  pub chip-kept : (done more due : List PlanChange) → plan ≡ done ++ (more ++ due) → {l m : Layout Rid} {x y : ℕ} {now later : Objects} → IsMidMoment old done l x now → IsMidMoment old (done ++ more) m y later → StaysNew new (chip_things now) (chip_things later)
+  chip-kept done more due cut {now = now} {later = later} at after =
+      kept shown_named q.safe.new_named shown_plan done more due cut (chip_things now) (chip_things later) (shown_stands done (more ++ due) cut at) (shown_stands (done ++ more) due (cut ∙ sym (append_assoc done more due)) after)
