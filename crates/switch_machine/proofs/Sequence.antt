@@ -56,7 +56,7 @@ any_in o (p ∷ os) h = by (λ e. any_in o os e) (or_split (same_owner o p) (lis
     by rest (inr e) = inr (rest e)
 
 -- a row shares one thing, or none
-abbrev IsShort : List Owner → Type 0
+abbrev pub IsShort : List Owner → Type 0
 IsShort os = (os ≡ []) ⊎ ((o : Owner) × (os ≡ o ∷ []))
 
 from_short : {X : Type 0} (x : Option X) (g : X → Owner) → IsShort (from x (λ z. g z ∷ []))
@@ -79,7 +79,7 @@ row_short plan (key.Route prefix) (row.Route route.Drop) = inl refl
 row_short plan (key.Route prefix) (row.Route (route.Direct i)) = inl refl
 row_short plan _ _ = inl refl
 
-uses_short : (plan : Ports) (k : Key) (o : Option Row) → IsShort (uses_of plan k o)
+pub uses_short : (plan : Ports) (k : Key) (o : Option Row) → IsShort (uses_of plan k o)
 uses_short plan k None = inl refl
 uses_short plan k (Some r) = row_short plan k r
 
