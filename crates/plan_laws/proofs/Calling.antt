@@ -1,5 +1,5 @@
 -- the calls of a plan, with the identifiers that they come to, make its changes
-use Rattle.std.proofs.Common.{◌≡◌, inl, inr, ◌⊎◌, ℕ, ◌+◌, ◌≤◌, ◌++◌, true, List, [], ◌∷◌, map, Option, None, Some, refl, sym, ap, ◌∙◌, subst, arith}
+use Rattle.std.proofs.Common.{◌≡◌, inl, inr, ℕ, ◌+◌, ◌≤◌, ◌++◌, true, List, [], ◌∷◌, map, Option, None, Some, refl, sym, ap, ◌∙◌, subst, arith}
 use Rattle.std.proofs.lemmas.List.{append-nil, map-append}
 use Rattle.sai_types.specs.declared.ids.Rid.{Rid}
 use Rattle.sai_types.specs.declared.ids.Vid.{Vid}
@@ -18,9 +18,8 @@ use Rattle.sai_types.specs.declared.thing.Goal.TheVariants as goal
 use Rattle.sai_types.specs.declared.thing.PortThing.{PortThing}
 use Rattle.sai_types.specs.declared.thing.Thing.{Thing}
 use Rattle.sai_types.specs.declared.thing.Thing.TheVariants as thing
-use Rattle.sai_types.specs.After.{after_calls, entry_of}
+use Rattle.sai_types.specs.After.{entry_of}
 use Rattle.sai_types.specs.Alike.{IsIn}
-use Rattle.sai_types.specs.Made.{made_after_all}
 use Rattle.sai_types.specs.Names.{Name, name_kind, name_of}
 use Rattle.sai_types.specs.Objects.{Objects}
 use Rattle.chip_layout.specs.Bodies.{IsAt, IsBody, IsChange, first_name, goal_name, is_numbered, second_name, to_with}
@@ -35,7 +34,7 @@ use Rattle.plan_laws.specs.Views.{HasRoomFor}
 use Rattle.plan_laws.proofs.Allowed.{IsSafePlan}
 use Rattle.plan_laws.proofs.Following.{before, due-in, origin, outcome-named}
 use Rattle.plan_laws.proofs.Running.{IsEnd, allowed, end-append, joined, plan-step}
-use Rattle.plan_laws.proofs.Stepping.{IsAllowed, IsDone, IsPortName, first-place, is-port}
+use Rattle.plan_laws.proofs.Stepping.{IsAllowed, IsDone, first-place, is-port}
 
 -- ---- identifiers that the plan's come to
 

@@ -1,5 +1,5 @@
 -- what a chip shows while a hitless plan is made, and that it is steady
-use Rattle.std.proofs.Common.{◌≡◌, inl, inr, ℕ, ◌++◌, List, [], ◌∷◌, map, Some, refl, sym, ap, ◌∙◌, subst}
+use Rattle.std.proofs.Common.{◌≡◌, inl, inr, ℕ, ◌++◌, List, [], map, Some, refl, sym, ap, ◌∙◌, subst}
 use Rattle.std.proofs.lemmas.List.{append_assoc}
 use Rattle.swss_types.specs.Address.{IsProperPrefix}
 use Rattle.swss_types.specs.declared.address.Ip.{Ip}
@@ -17,7 +17,7 @@ use Rattle.sai_types.specs.Names.{Name, name_of}
 use Rattle.sai_types.specs.Objects.{Objects}
 use Rattle.chip_layout.specs.Layout.{Layout}
 use Rattle.plan_laws.specs.Applied.{chip_things}
-use Rattle.plan_laws.specs.Plans.{PlanChange, IsViewPlan, Make, Remove, Set, after_changes, hitless_rank, outcome}
+use Rattle.plan_laws.specs.Plans.{PlanChange, IsViewPlan, Remove, after_changes, hitless_rank, outcome}
 use Rattle.plan_laws.specs.Steady.{ForwardsAfter, IsForwarding, IsHitless, IsOldOrNew, StaysNew}
 use Rattle.plan_laws.specs.Views.{AreNamed}
 use Rattle.plan_laws.proofs.Following.{IsUntouched, done-in, done-stands, origin, outcome-new, still}

@@ -13,7 +13,7 @@ use Rattle.sai_types.specs.Objects.{Objects}
 use Rattle.chip_layout.specs.Layout.{Has, IsUnused, Layout, next_id, with_changed, with_thing, without}
 use Rattle.chip_layout.proofs.Naming.{alike-laid}
 use Rattle.plan_laws.specs.Moments.{IsMoment, MakesChange, MakesChanges, SetsThing, layout_after}
-use Rattle.plan_laws.specs.Plans.{PlanChange, IsViewPlan, Make, Remove, Set, after_changes}
+use Rattle.plan_laws.specs.Plans.{PlanChange, Make, Remove, Set, after_changes}
 use Rattle.plan_laws.specs.Views.{HasRoomFor, HaveWholeGroups}
 use Rattle.plan_laws.proofs.Allowed.{IsSafePlan, ends-new, make-free, make-refers, new-ends, remove-there, remove-unused, set-refers, set-there}
 use Rattle.plan_laws.proofs.Following.{IsNamed}

@@ -1,17 +1,14 @@
 -- the moment before a plan
-use Rattle.std.proofs.Common.{◌≡◌, inl, inr, ℕ, Bool, true, false, cond, List, [], ◌∷◌, Option, None, Some, refl, sym, ap, ◌∙◌, subst}
+use Rattle.std.proofs.Common.{◌≡◌, inl, inr, ℕ, Bool, true, false, cond, List, [], ◌∷◌, Option, None, Some, refl, sym, ap, ap₂, ◌∙◌, subst}
 use Rattle.std.specs.BTreeSet.{insert_key}
 use Rattle.std.specs.List.Sorted.{IsStrictlySortedBy}
 use Rattle.std.proofs.lemmas.Bool.{false≢true}
-use Rattle.swss_types.specs.Address.{IsProperPrefix}
-use Rattle.swss_types.specs.declared.address.Prefix.{Prefix}
 use Rattle.sai_types.specs.declared.ids.Rid.{Rid}
 use Rattle.sai_types.specs.declared.hop.Hop.{Hop}
 use Rattle.sai_types.specs.declared.body.Body.{Body}
 use Rattle.sai_types.specs.declared.body.Body.TheVariants as body
 use Rattle.sai_types.specs.declared.body.Entry.{Entry}
 use Rattle.sai_types.specs.declared.body.Entry.TheVariants as entry
-use Rattle.sai_types.specs.declared.thing.Goal.{Goal}
 use Rattle.sai_types.specs.declared.thing.Goal.TheVariants as goal
 use Rattle.sai_types.specs.declared.thing.Thing.{Thing}
 use Rattle.sai_types.specs.declared.thing.Thing.TheVariants as thing
@@ -144,23 +141,15 @@ module _ {made : ℕ} {objects : Objects} (chip : IsListed made objects) (new : 
   abbrev pub hops_of : List Hop → List Hop
   hops_of = hops_for stays (shown_hops objects) rises (stays-apart objects new) (groups_of objects)
 
-  tag_by : (e : Entry Rid) (b : Body Rid) (g : Rid) (t : List Hop) → b ≡ body.Group → thing_by (tagged tag) objects (e, b) ≡ Some (thing.Group t) → same_entry e (entry_of g.0 b) ≡ true → (t ≡ tag g) × (e ≡ entry.Oid g)
-  tag_by e b g t is h at = by e (ap (λ z. thing_by (tagged tag) objects (e, z)) (sym is) ∙ h) (entry-exact e (entry.Oid g) (ap (λ z. same_entry e (entry_of g.0 z)) (sym is) ∙ at))
-    where
-      by : (f : Entry Rid) → thing_by (tagged tag) objects (f, body.Group) ≡ Some (thing.Group t) → f ≡ entry.Oid g → (t ≡ tag g) × (f ≡ entry.Oid g)
-      by (entry.Oid r) k same =
-          let ids : r ≡ g = cc in
-          let tags : tag r ≡ t = cc in
-          (sym tags ∙ ap tag ids, same)
-      by (entry.Own ip) k same = absurd cc
-      by (entry.Neigh r ip) k same = absurd cc
-      by (entry.Route p) k same = absurd cc
+  group_hops : (a b : List Hop) → Some (thing.Group a) ≡ Some (thing.Group b) → b ≡ a
+  group_hops a b e = cc
 
   pub group-seen : (g : Rid) (t : List Hop) → start g (thing.Group t) → (t ≡ tag g) × IsIn g (groups_of objects)
   group-seen g t s =
       let is : s.body ≡ body.Group = (body-seen tag made objects chip.whole s.entry s.body (thing.Group t) s.found s.thing).body_is in
-      let at = tag_by s.entry s.body g t is s.thing s.at in
-      (at.0, all-groups objects g (ap (body_at objects) (sym at.1) ∙ s.found ∙ ap Some is))
+      let at = entry-exact s.entry (entry.Oid g) (ap (λ z. same_entry s.entry (entry_of g.0 z)) (sym is) ∙ s.at) in
+      let shows = ap₂ (λ x y. thing_by (tagged tag) objects (x, y)) (sym at) (sym is) ∙ s.thing in
+      (group_hops (tag g) t shows, all-groups objects g (ap (body_at objects) (sym at) ∙ s.found ∙ ap Some is))
 
   module _ (g : Rid) (t : List Hop) (s : start g (thing.Group t)) where
     these : IsAmong start objects old-laid g t (thing.Group t, s, refl) objects
