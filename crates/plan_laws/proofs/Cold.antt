@@ -43,7 +43,7 @@ module _ {capacities : List ℕ} {made : ℕ} {objects : Objects} {new : List Th
 
   removes_room : HasRoomFor capacities objects removes
   removes_room kind =
-      let none = none_long (made_names kind removes) (λ k i. elim ((makes-lacking x.removing removes [] (sym (append-nil removes)) kind).each k i).2 [ ]) in
+      let none = none_long (made_names kind removes) (λ k i. elim ((makes-lacking x.removing kind).each k i).2 [ ]) in
       let has = x.within kind in
       omega (arith, none, has)
 
@@ -62,15 +62,15 @@ module _ {capacities : List ℕ} {made : ℕ} {objects : Objects} {new : List Th
         all = λ t h. elim h [ ];
       }
 
-  makes_room : HasRoomFor capacities (after_calls made objects front) makes
-  makes_room kind =
+  pub makes-room : HasRoomFor capacities (after_calls made objects front) makes
+  makes-room kind =
       let none = used-at-most nothing (after_calls made objects front) cold-halfway.laid kind (made_after_all made front) cold-halfway.whole [] (λ k of. of.2.1) in
       let has = x.planned.room kind in
       omega (arith, none, has)
 
   -- and after the second the new things do
   pub cold-end : IsEnd capacities [] makes (made_after_all made front) (after_calls made objects front) rest
-  cold-end = run-end (makes-safe x.planned) cold-halfway capacities makes_room makes [] (sym (append-nil makes)) rest x.making
+  cold-end = run-end (makes-safe x.planned) cold-halfway capacities makes-room makes [] (sym (append-nil makes)) rest x.making
 
   pub cold-legal : AreLegal capacities made objects (front ++ rest)
   cold-legal = legal-append capacities made objects front rest cold_half.legal cold-end.legal
