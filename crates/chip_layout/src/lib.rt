@@ -4,8 +4,6 @@
 
 mod laws;
 mod make;
-#[cfg(test)]
-mod tests;
 
 pub use laws::{
     answers_once, made_stands, removed_leaves, renamed_stands, set_changes, shown_is_laid,

@@ -11,13 +11,9 @@ use Rattle.table_schema.specs.Key.{key_cmp}
 use Rattle.table_schema.specs.declared.key.Key.{Key}
 use Rattle.table_schema.proofs.Keys.{key_exact, key_total}
 use Rattle.sai_types.proofs.Maps.{lookup-insert_entry, lookup-removed, sorted-insert_entry, sorted-remove_entry}
+use Rattle.switch_model.proofs.Tied.{tied}
 use Rattle.orch_core.specs.declared.applied.Applied.{Applied}
 use Rattle.orch_core.specs.Standing.{Entries, applied_entry}
-
-pub tied : (o : Ordering) → is_eq o ≡ true → o ≡ Equal
-tied Less h = cc
-tied Equal h = refl
-tied Greater h = cc
 
 pub is_at-refl : (k : Key) → is_at (key_cmp k) k ≡ true
 is_at-refl k = (eq_by_cmp_equiv key_total).refl k

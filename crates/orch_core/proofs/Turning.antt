@@ -20,7 +20,7 @@ use Rattle.orch_core.specs.State.{State}
 use Rattle.orch_core.specs.Step.{IsWaitOf}
 use Rattle.orch_core.specs.Tried.{IsStanding, IsTouched, IsWaiting}
 use Rattle.orch_core.specs.Turn.{AreNew, Brings, Completes, EndsFaulted, IsBehind, IsNext, IsNextKey, IsRest, IsTrying, IsTurning, IsUnder, OnlyLeave, TurnsTo, WaitTruly, waiting_keys}
-use Rattle.orch_core.specs.Turns.{IsTurn, with_good}
+use Rattle.switch_model.specs.Turns.{IsTurn, with_good}
 use Rattle.orch_core.proofs.Effects.{grown-after, grown-same}
 use Rattle.orch_core.proofs.Keyed.{is_at-refl, same_key}
 use Rattle.orch_core.proofs.Queue.{sorted-without}

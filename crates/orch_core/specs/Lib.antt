@@ -9,4 +9,3 @@ pub mod Step
 pub mod Taken
 pub mod Tried
 pub mod Turn
-pub mod Turns

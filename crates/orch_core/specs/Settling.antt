@@ -18,7 +18,7 @@ use Rattle.orch_core.specs.Due.{OwesCall, HadPlaces}
 use Rattle.orch_core.specs.Keeps.{IsKept}
 use Rattle.orch_core.specs.Standing.{Entries, rows_applied}
 use Rattle.orch_core.specs.State.{State, counted_size}
-use Rattle.orch_core.specs.Turns.{TakeTurns}
+use Rattle.switch_model.specs.Turns.{TakeTurns}
 use Rattle.orch_core.specs.Turn.{BringsNew, EndsFaulted, IsRest, IsUnder, OnlyLeave, WaitTruly}
 use Rattle.orch_core.specs.declared.answer.Settled.{Settled}
 use Rattle.orch_core.specs.declared.answer.Settled.TheVariants as settled
@@ -144,7 +144,7 @@ pub record MarksSettled (old : State) (chip : ChipState) (new : State) (chip' : 
 pub record MarksFaulted (old : State) (chip : ChipState) (new : State) (chip' : ChipState) : Type 0 where
   pub log : new.log ≡ with_ending old.log (mark_at old (length chip'.effects) (event.Faulted chip.faults chip'.faults))
   pub listed : new.listed ≡ old.listed
-  pub places : HadPlaces 2 old (length chip'.effects)
+  pub places : HadPlaces 2 old chip'
   pub rose : chip.faults < chip'.faults
 
 -- how a settling ended: with a mark; or the log is full; after the last and want of memory the log is as before

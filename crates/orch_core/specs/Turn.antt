@@ -17,7 +17,7 @@ use Rattle.orch_core.specs.Standing.{rows_applied}
 use Rattle.orch_core.specs.State.{State, counted_size}
 use Rattle.orch_core.specs.Step.{IsWaitOf}
 use Rattle.orch_core.specs.Tried.{IsStanding}
-use Rattle.orch_core.specs.Turns.{IsTurn}
+use Rattle.switch_model.specs.Turns.{IsTurn}
 use Rattle.orch_core.specs.declared.turn.Turned.{Turned}
 use Rattle.orch_core.specs.declared.turn.Turned.TheVariants as turned
 
@@ -103,7 +103,7 @@ pub record EndsFaulted (old : State) (chip : ChipState) (count : ℕ) (new : Sta
   pub behind : IsBehind old new
   pub leave : OnlyLeave old.to_sync new.to_sync
   pub grown : IsGrown chip chip'
-  pub places : HadPlaces 1 old (length chip'.effects)
+  pub places : HadPlaces 1 old chip'
   pub before : count ≡ chip.faults
   pub rose : chip.faults < chip'.faults
 

@@ -21,11 +21,11 @@ use Rattle.row_layout.specs.Shared.{uses}
 set_none : (t : Thing) (rest : List Change) → set_to t t rest ≡ rest
 set_none t rest = ap (λ b. if b then rest else Set t ∷ rest) (equal_thing.laws-law.refl t)
 
-set_same : (ts : List Thing) → set_all ts ts ≡ []
+pub set_same : (ts : List Thing) → set_all ts ts ≡ []
 set_same [] = refl
 set_same (t ∷ ts) = set_none t (set_all ts ts) ∙ set_same ts
 
-own_same : (plan : Ports) (k : Key) (r : Row) → own_sets plan k r r ≡ []
+pub own_same : (plan : Ports) (k : Key) (r : Row) → own_sets plan k r r ≡ []
 own_same plan (key.Port port) (row.Port r) =
     let t = port_with r.lanes r.speed r.mtu r.up in
     set_none t (set_to t t (set_to t t [])) ∙ set_none t (set_to t t []) ∙ set_none t []
@@ -41,7 +41,7 @@ or_true : (a b : Bool) → b ≡ true → (a || b) ≡ true
 or_true true b h = refl
 or_true false b h = h
 
-among : (o : Owner) (os : List Owner) → IsIn o os → list_any (same_owner o) os ≡ true
+pub among : (o : Owner) (os : List Owner) → IsIn o os → list_any (same_owner o) os ≡ true
 among o [] h = elim h [ ]
 among o (p ∷ os) (inl is) = ap (λ b. b || list_any (same_owner o) os) (ap (same_owner o) (sym is) ∙ owner_same o)
 among o (p ∷ os) (inr h) = or_true (same_owner o p) (list_any (same_owner o) os) (among o os h)

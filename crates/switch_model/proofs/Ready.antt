@@ -13,6 +13,7 @@ use Rattle.table_schema.specs.declared.row.RouteRow.TheVariants as route
 use Rattle.table_schema.specs.declared.row_hop.RowHop.{RowHop}
 use Rattle.switch_model.specs.Desired.{IsClosed, have_rows, where_named, ready_below, ready_rows}
 use Rattle.switch_model.specs.Good.{TypedRows}
+use Rattle.switch_model.specs.Levels.{level_of}
 
 pub both_true : (a b : Bool) → (a && b) ≡ true → (a ≡ true) × (b ≡ true)
 both_true true true h = (refl, refl)
@@ -68,20 +69,10 @@ there f k (Some s) r h = ap Some ((chosen (have_rows f (names_of k s)) s r h).1)
 pub ready-there : (rows : TypedRows) (k : Key) (r : Row) → ready_rows rows k ≡ Some r → rows k ≡ Some r
 ready-there rows k r h = there (ready_below 3 rows) k (rows k) r h
 
--- the level of a key: it names only keys of lower levels
-abbrev key_level : Key → ℕ
-key_level (key.Port port) = 0
-key_level (key.Vlan vlan) = 0
-key_level (key.Member vlan port) = 1
-key_level (key.Intf on) = 1
-key_level (key.Addr on ip len) = 2
-key_level (key.Neigh on ip) = 2
-key_level (key.Route prefix) = 3
-key_level (key.Other text) = 0
-
-abbrev AreBelow : ℕ → List Key → Type 0
+-- each key of a list is of a lower level than this
+abbrev pub AreBelow : ℕ → List Key → Type 0
 AreBelow n [] = Unit {0}
-AreBelow n (k ∷ ks) = (key_level k < n) × AreBelow n ks
+AreBelow n (k ∷ ks) = (level_of k < n) × AreBelow n ks
 
 bases_below : (on : IfName) → AreBelow 1 (base_names on)
 bases_below (name.Ethernet port) = (omega arith, tt)
@@ -106,7 +97,8 @@ routes_below row.Addr = tt
 routes_below (row.Neigh mac) = tt
 routes_below (row.Route target) = targets_below target
 
-names_below : (k : Key) (r : Row) → AreBelow (key_level k) (names_of k r)
+-- what a row names is of a lower level
+pub names_below : (k : Key) (r : Row) → AreBelow (level_of k) (names_of k r)
 names_below (key.Port port) r = tt
 names_below (key.Vlan vlan) r = tt
 names_below (key.Member vlan port) r = (omega arith, (omega arith, tt))
@@ -116,21 +108,21 @@ names_below (key.Neigh on ip) r = (omega arith, tt)
 names_below (key.Route prefix) r = routes_below r
 names_below (key.Other text) r = tt
 
-have_rows-same : (f g : TypedRows) (n m : ℕ) → n ≤ m → ((k : Key) → key_level k < m → f k ≡ g k) → (keys : List Key) → AreBelow n keys → have_rows g keys ≡ true → have_rows f keys ≡ true
+have_rows-same : (f g : TypedRows) (n m : ℕ) → n ≤ m → ((k : Key) → level_of k < m → f k ≡ g k) → (keys : List Key) → AreBelow n keys → have_rows g keys ≡ true → have_rows f keys ≡ true
 have_rows-same f g n m le same [] below h = refl
 have_rows-same f g n m le same (k ∷ ks) below h =
     let parts = both_true (is_some (g k)) (have_rows g ks) h in
     and_true (is_some (f k)) (have_rows f ks) (ap is_some (same k (omega (arith, below.0, le))) ∙ parts.0) (have_rows-same f g n m le same ks below.1 parts.1)
 
-stays : (f rows : TypedRows) (m : ℕ) (k : Key) (o : Option Row) → IsClosed rows → key_level k ≤ m → ((q : Key) → key_level q < m → f q ≡ rows q) → rows k ≡ o → where_named f k o ≡ o
+stays : (f rows : TypedRows) (m : ℕ) (k : Key) (o : Option Row) → IsClosed rows → level_of k ≤ m → ((q : Key) → level_of q < m → f q ≡ rows q) → rows k ≡ o → where_named f k o ≡ o
 stays f rows m k None closed le same is = refl
-stays f rows m k (Some r) closed le same is = rw (have_rows-same f rows (key_level k) m le same (names_of k r) (names_below k r) (closed k r is)) refl
+stays f rows m k (Some r) closed le same is = rw (have_rows-same f rows (level_of k) m le same (names_of k r) (names_below k r) (closed k r is)) refl
 
-ready_below-closed : (n : ℕ) (rows : TypedRows) → IsClosed rows → (k : Key) → key_level k < n → ready_below n rows k ≡ rows k
+ready_below-closed : (n : ℕ) (rows : TypedRows) → IsClosed rows → (k : Key) → level_of k < n → ready_below n rows k ≡ rows k
 ready_below-closed zero rows closed k low = absurd (omega (arith, low))
 ready_below-closed (suc n) rows closed k low = stays (ready_below n rows) rows n k (rows k) closed (omega (arith, low)) (ready_below-closed n rows closed) refl
 
-low : (k : Key) → key_level k < 4
+low : (k : Key) → level_of k < 4
 low (key.Port port) = omega arith
 low (key.Vlan vlan) = omega arith
 low (key.Member vlan port) = omega arith

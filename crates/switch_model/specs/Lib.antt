@@ -1,6 +1,7 @@
 pub mod Desired
 pub mod Good
 pub mod History
+pub mod Levels
 pub mod Marks
 pub mod Promises
 pub mod References
@@ -8,3 +9,4 @@ pub mod Room
 pub mod Sound
 pub mod Steady
 pub mod Things
+pub mod Turns

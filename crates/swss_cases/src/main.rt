@@ -27,8 +27,6 @@ mod bytes;
 mod case;
 mod fact;
 mod play;
-#[cfg(test)]
-mod tests;
 
 use anyhow::{Context, Result, ensure};
 use case::Case;

@@ -1,0 +1,300 @@
+-- a good row all of whose names are applied is one of its table
+use Rattle.std.proofs.Common.{◌≡◌, ◌<◌, ◌==◌, ◌&&◌, ◌∷◌, ◌∙◌, ℕ, nat_le, nat_lt, Bool, true, false, cond, List, [], map, length, Option, None, Some, option_map, is_some, Ordering, Result, Ok, Err, codes, bytes_eq, refl, sym, ap, subst, arith}
+use Rattle.std.proofs.lemmas.Bool.{eqb-true}
+use Rattle.std.proofs.lemmas.List.Splits.{length-slice_split}
+use Rattle.std.proofs.lemmas.Slice.Eq.{bytes_eq-Decides}
+use Rattle.std.specs.BTreeSet.{insert_key}
+use Rattle.std.specs.List.{AllByRecursion}
+use Rattle.std.specs.Ordering.{match_ordering}
+use Rattle.std.specs.declared.cmp.Ordering.TheVariants.{Less, Equal, Greater}
+use Rattle.swss_types.specs.Interface.{if_name_of}
+use Rattle.swss_types.specs.Ip.{ip_of}
+use Rattle.swss_types.specs.Lanes.{lanes_of}
+use Rattle.swss_types.specs.Mac.{mac_of}
+use Rattle.swss_types.specs.Parts.{parts_at}
+use Rattle.swss_types.specs.Tagging.{tagging_of}
+use Rattle.swss_types.specs.declared.address.Ip.{Ip}
+use Rattle.swss_types.specs.declared.address.Mac.{Mac}
+use Rattle.swss_types.specs.declared.tagging.Tagging.{Tagging}
+use Rattle.swss_types.specs.declared.interface.IfName.{IfName}
+use Rattle.swss_types.specs.declared.interface.IfName.TheVariants as name
+use Rattle.table_schema.specs.Broken.{and_then, bad}
+use Rattle.table_schema.specs.Fields.{Pairs, value_of}
+use Rattle.table_schema.specs.Hop.{hop_cmp}
+use Rattle.table_schema.specs.KeyText.{on_switch}
+use Rattle.table_schema.specs.Names.{base_names, names_of, route_names}
+use Rattle.table_schema.specs.Plan.{Ports, lanes_in_plan}
+use Rattle.table_schema.specs.RouteRules.{drops_of, filled, forwarding_of, hop_at, hop_of, hop_on, hops_of, hops_with, is_zero, route_row_of, route_target, target_of}
+use Rattle.table_schema.specs.Rules.{in_router, lladdr_row, mac_row, number_or, other_row, planned, port_lanes, port_row_of, port_row_with, row_of, tagged_row, tagging_row, up_of}
+use Rattle.table_schema.specs.Split.{split_once}
+use Rattle.table_schema.specs.declared.key.Key.{Key}
+use Rattle.table_schema.specs.declared.key.Key.TheVariants as key
+use Rattle.table_schema.specs.declared.row.BadRow.{BadRow}
+use Rattle.table_schema.specs.declared.row.BadWhy.TheVariants.{BadValue, CountsDiffer, LanesDiffer, TooManyHops}
+use Rattle.table_schema.specs.declared.row.PortRow.{PortRow}
+use Rattle.table_schema.specs.declared.row.Row.{Row}
+use Rattle.table_schema.specs.declared.row.Row.TheVariants as row
+use Rattle.table_schema.specs.declared.row.RouteRow.{RouteRow}
+use Rattle.table_schema.specs.declared.row.RouteRow.TheVariants as route
+use Rattle.table_schema.specs.declared.row_hop.RowHop.{RowHop}
+use Rattle.table_schema.proofs.Hops.{AllByRecursion-insert_key}
+use Rattle.table_schema.proofs.ProperKeys.{on_switch_stays}
+use Rattle.sai_types.specs.declared.hop.Base.{Base}
+use Rattle.sai_types.specs.declared.hop.Base.TheVariants as base
+use Rattle.sai_types.specs.declared.hop.Hop.{Hop}
+use Rattle.sai_types.specs.declared.thing.Goal.{Goal}
+use Rattle.sai_types.specs.declared.thing.Goal.TheVariants as goal
+use Rattle.sai_types.specs.Named.{both, first_lane}
+use Rattle.sai_types.specs.Named as named
+use Rattle.switch_model.specs.Desired.{IsClosed, have_rows}
+use Rattle.switch_model.specs.Good.{TypedRows, good_row, row_read}
+use Rattle.switch_model.specs.Things.{base_of, lane_of}
+use Rattle.switch_model.specs.Things as things
+use Rattle.row_layout.specs.Rows.{goal_by, goal_of}
+use Rattle.switch_machine.specs.Flights.{Fits}
+use Rattle.machine_laws.specs.Reading.{IsOnSwitch}
+use Rattle.machine_laws.proofs.Rows.{both_true, there}
+
+then_ok : {A B : Type 0} (x : Result A BadRow) (f : A → Result B BadRow) (y : B) → and_then x f ≡ Ok y → (v : A) × (x ≡ Ok v) × (f v ≡ Ok y)
+then_ok (Ok v) f y h = (v, refl, h)
+then_ok (Err e) f y h = absurd cc
+
+read_ok : (x : Result Row BadRow) (r : Row) → row_read x ≡ Some r → x ≡ Ok r
+read_ok (Ok v) r h = cc
+read_ok (Err e) r h = absurd cc
+
+abbrev okay : {A : Type 0} → A → Result A BadRow
+okay x = Ok x
+
+ok_is : {A : Type 0} (x y : A) → okay x ≡ okay y → x ≡ y
+ok_is x y h = cc
+
+-- ---- ports
+
+planned_if : (t : Bool) (there lanes ls : List ℕ) → bytes_eq there lanes ≡ t → cond t (Ok lanes) (bad LanesDiffer 1) ≡ Ok ls → Some there ≡ Some ls
+planned_if true there lanes ls same h = ap Some (((bytes_eq-Decides there lanes).0 same)) ∙ cc
+planned_if false there lanes ls same h = absurd cc
+
+planned_ok : (there lanes : Option (List ℕ)) (ls : List ℕ) → planned there lanes ≡ Ok ls → there ≡ Some ls
+planned_ok there None ls h = absurd cc
+planned_ok None (Some lanes) ls h = absurd cc
+planned_ok (Some there) (Some lanes) ls h = planned_if (bytes_eq there lanes) there lanes ls refl h
+
+lanes_ok : (there text : Option (List ℕ)) (ls : List ℕ) → port_lanes there text ≡ Ok ls → there ≡ Some ls
+lanes_ok there None ls h = absurd cc
+lanes_ok there (Some text) ls h = planned_ok there (lanes_of text) ls h
+
+with_ok : (lanes : List ℕ) (fields : Pairs) (r : Row) → port_row_with lanes fields ≡ Ok r → (p : PortRow) × (r ≡ row.Port p) × (p.lanes ≡ lanes)
+with_ok lanes fields r h =
+    let speed = then_ok (number_or 2 1 1600000 100000 (value_of (codes "speed") fields)) _ r h in
+    let mtu = then_ok (number_or 3 68 9216 9100 (value_of (codes "mtu") fields)) _ r speed.2 in
+    let up = then_ok (up_of (value_of (codes "admin_status") fields)) _ r mtu.2 in
+    (record { lanes = lanes; speed = speed.0; mtu = mtu.0; up = up.0 }, cc, refl)
+
+port_ok : (plan : Ports) (p : ℕ) (fields : Pairs) (r : Row) → port_row_of plan p fields ≡ Ok r → (f : PortRow) × (r ≡ row.Port f) × (lanes_in_plan plan p ≡ Some f.lanes)
+port_ok plan p fields r h =
+    let lanes = then_ok (port_lanes (lanes_in_plan plan p) (value_of (codes "lanes") fields)) (λ l. port_row_with l fields) r h in
+    let rest = with_ok lanes.0 fields r lanes.2 in
+    (rest.0, rest.1, lanes_ok (lanes_in_plan plan p) (value_of (codes "lanes") fields) lanes.0 lanes.1 ∙ ap Some (sym rest.2))
+
+-- ---- other tables
+
+router_ok : (text : Option (List ℕ)) (r : Row) → in_router text ≡ Ok r → r ≡ row.Intf
+router_ok None r h = cc
+router_ok (Some []) r h = cc
+router_ok (Some (b ∷ bs)) r h = absurd cc
+
+tagged_ok : (t : Option Tagging) (r : Row) → tagged_row t ≡ Ok r → (x : Tagging) × (r ≡ row.Member x)
+tagged_ok None r h = absurd cc
+tagged_ok (Some x) r h = (x, cc)
+
+tagging_ok : (text : Option (List ℕ)) (r : Row) → tagging_row text ≡ Ok r → (x : Tagging) × (r ≡ row.Member x)
+tagging_ok None r h = (_, sym (ok_is _ r h))
+tagging_ok (Some text) r h = tagged_ok (tagging_of text) r h
+
+mac_ok : (m : Option Mac) (r : Row) → mac_row m ≡ Ok r → (x : Mac) × (r ≡ row.Neigh x)
+mac_ok None r h = absurd cc
+mac_ok (Some x) r h = (x, cc)
+
+lladdr_ok : (text : Option (List ℕ)) (r : Row) → lladdr_row text ≡ Ok r → (x : Mac) × (r ≡ row.Neigh x)
+lladdr_ok None r h = absurd cc
+lladdr_ok (Some text) r h = mac_ok (mac_of text) r h
+
+other_if : {X : Type 0} (t : Bool) (r : Row) (a b : BadRow) → cond t (Err a) (Err b) ≡ Ok r → X
+other_if true r a b h = absurd cc
+other_if false r a b h = absurd cc
+
+other_bad : {X : Type 0} (o : Option (List ℕ × List ℕ)) (r : Row) → other_row o ≡ Ok r → X
+other_bad None r h = absurd cc
+other_bad (Some parts) r h = other_if _ r _ _ h
+
+-- ---- routes
+
+abbrev IsSwitched : RowHop → Type 0
+IsSwitched h = on_switch (Some h.on) ≡ Some h.on
+
+hop_at_ok : (several : Bool) (on : IfName) (ip : Option Ip) (h : RowHop) → hop_at several on ip ≡ Ok h → h.on ≡ on
+hop_at_ok several on None h e = absurd cc
+hop_at_ok several on (Some ip) h e = by (several && is_zero ip) e
+  where
+    by : (b : Bool) → cond b (bad BadValue 7) (Ok (record { on = on; ip = ip })) ≡ Ok h → h.on ≡ on
+    by true e = absurd cc
+    by false e = ap (λ (z : RowHop). z.on) (sym (ok_is _ h e))
+
+hop_on_ok : (several : Bool) (text : List ℕ) (on : Option IfName) (ip : Option Ip) (h : RowHop) → on_switch (if_name_of text) ≡ on → hop_on several on ip ≡ Ok h → IsSwitched h
+hop_on_ok several text None ip h is e = absurd cc
+hop_on_ok several text (Some on) ip h is e = subst (λ z. on_switch (Some z) ≡ Some z) (sym (hop_at_ok several on ip h e)) (on_switch_stays (if_name_of text) on is).1
+
+hops_with_ok : (several : Bool) (hops : List RowHop) (ips names : List (List ℕ)) (out : List RowHop) → AllByRecursion IsSwitched hops → hops_with several hops ips names ≡ Ok out → AllByRecursion IsSwitched out
+hops_with_ok several hops [] names out all h = subst (AllByRecursion IsSwitched) (ok_is hops out h) all
+hops_with_ok several hops (ip ∷ ips) [] out all h = subst (AllByRecursion IsSwitched) (ok_is hops out h) all
+hops_with_ok several hops (ip ∷ ips) (on ∷ names) out all h =
+    let x = then_ok (hop_of several ip on) (λ hop. hops_with several (insert_key hop_cmp hops hop) ips names) out h in
+    hops_with_ok several (insert_key hop_cmp hops x.0) ips names out (AllByRecursion-insert_key IsSwitched hops x.0 (hop_on_ok several on (on_switch (if_name_of on)) (ip_of ip) x.0 refl x.1) all) x.2
+
+some_hop : {A : Type 0} (cmp : A → A → Ordering) (hops : List A) (hop : A) → 0 < length (insert_key cmp hops hop)
+some_hop cmp [] hop = omega arith
+some_hop {A} cmp (x ∷ hops) hop = elim (cmp hop x) as (λ r. 0 < length (match_ordering r (hop ∷ x ∷ hops) (x ∷ hops) (x ∷ insert_key cmp hops hop))) [ Less ↦ omega arith | Equal ↦ omega arith | Greater ↦ omega arith ]
+
+stay_some : (several : Bool) (hops : List RowHop) (ips names : List (List ℕ)) (out : List RowHop) → 0 < length hops → hops_with several hops ips names ≡ Ok out → 0 < length out
+stay_some several hops [] names out some h = subst (λ z. 0 < length z) (ok_is hops out h) some
+stay_some several hops (ip ∷ ips) [] out some h = subst (λ z. 0 < length z) (ok_is hops out h) some
+stay_some several hops (ip ∷ ips) (on ∷ names) out some h =
+    let x = then_ok (hop_of several ip on) (λ hop. hops_with several (insert_key hop_cmp hops hop) ips names) out h in
+    stay_some several (insert_key hop_cmp hops x.0) ips names out (some_hop hop_cmp hops x.0) x.2
+
+first_some : (several : Bool) (ips names : List (List ℕ)) (out : List RowHop) → 0 < length ips → length ips ≡ length names → hops_with several [] ips names ≡ Ok out → 0 < length out
+first_some several [] names out some same h = absurd (omega (arith, some))
+first_some several (ip ∷ ips) [] out some same h = absurd (omega (arith, same))
+first_some several (ip ∷ ips) (on ∷ names) out some same h =
+    let x = then_ok (hop_of several ip on) (λ hop. hops_with several (insert_key hop_cmp [] hop) ips names) out h in
+    stay_some several (insert_key hop_cmp [] x.0) ips names out (some_hop hop_cmp [] x.0) x.2
+
+record AreHops (out : List RowHop) : Type 0 where
+  all : AllByRecursion IsSwitched out
+  some : 0 < length out
+
+hops_ok : (ips names : List (List ℕ)) (out : List RowHop) → 0 < length ips → hops_of ips names ≡ Ok out → AreHops out
+hops_ok ips names out some h = counted (length ips == length names) refl h
+  where
+    few : (b : Bool) → length ips ≡ length names → cond b (hops_with (nat_lt 1 (length ips)) [] ips names) (bad TooManyHops 7) ≡ Ok out → AreHops out
+    few true same h = record { all = hops_with_ok (nat_lt 1 (length ips)) [] ips names out tt h; some = first_some (nat_lt 1 (length ips)) ips names out some same h }
+    few false same h = absurd cc
+
+    counted : (b : Bool) → (length ips == length names) ≡ b → cond b (cond (nat_le (length ips) 128) (hops_with (nat_lt 1 (length ips)) [] ips names) (bad TooManyHops 7)) (bad CountsDiffer 8) ≡ Ok out → AreHops out
+    counted true same h = few (nat_le (length ips) 128) (eqb-true (length ips) (length names) same) h
+    counted false same h = absurd cc
+
+data IsTarget (t : RouteRow) : Type 0 where
+  IsDrop : t ≡ route.Drop → IsTarget t
+  Goes : (out : List RowHop) → AreHops out → t ≡ target_of out → IsTarget t
+
+forwarding_ok : (fields : Pairs) (t : RouteRow) → forwarding_of fields ≡ Ok t → IsTarget t
+forwarding_ok fields t h =
+    let ips = then_ok (filled 7 (value_of (codes "nexthop") fields)) _ t h in
+    let names = then_ok (filled 8 (value_of (codes "ifname") fields)) _ t ips.2 in
+    let out = then_ok (hops_of (parts_at 44 ips.0) (parts_at 44 names.0)) (λ hops. Ok (target_of hops)) t names.2 in
+    let many = length-slice_split (λ b. b == 44) ips.0 in
+    Goes out.0 (hops_ok (parts_at 44 ips.0) (parts_at 44 names.0) out.0 (omega (arith, many)) out.1) (sym (ok_is (target_of out.0) t out.2))
+
+target_ok : (drops : Bool) (fields : Pairs) (t : RouteRow) → route_target drops fields ≡ Ok t → IsTarget t
+target_ok true fields t h = IsDrop (sym (ok_is route.Drop t h))
+target_ok false fields t h = forwarding_ok fields t h
+
+route_ok : (fields : Pairs) (r : Row) → and_then (route_row_of fields) (λ target. Ok (row.Route target)) ≡ Ok r → (t : RouteRow) × (r ≡ row.Route t) × IsTarget t
+route_ok fields r h =
+    let t = then_ok (route_row_of fields) (λ target. Ok (row.Route target)) r h in
+    let d = then_ok (drops_of fields) (λ drops. route_target drops fields) t.0 t.1 in
+    (t.0, sym (ok_is (row.Route t.0) r t.2), target_ok d.0 fields t.0 d.2)
+
+-- ---- with applied rows
+
+module _ (plan : Ports) (applied : TypedRows) (fit : (q : Key) (x : Row) → applied q ≡ Some x → Fits plan q x) (closed : IsClosed applied) where
+  port_lane : (port : ℕ) (r : Row) → Fits plan (key.Port port) r → (lane : ℕ) × (lane_of plan port ≡ Some lane)
+  port_lane port (row.Port r) h = (first_lane r.lanes, ap (option_map first_lane) h)
+  port_lane port row.Vlan h = elim h [ ]
+  port_lane port (row.Member x) h = elim h [ ]
+  port_lane port row.Intf h = elim h [ ]
+  port_lane port row.Addr h = elim h [ ]
+  port_lane port (row.Neigh x) h = elim h [ ]
+  port_lane port (row.Route x) h = elim h [ ]
+
+  lane_there : (port : ℕ) → is_some (applied (key.Port port)) ≡ true → (lane : ℕ) × (lane_of plan port ≡ Some lane)
+  lane_there port h = let r = there (applied (key.Port port)) h in port_lane port r.0 (fit (key.Port port) r.0 r.1)
+
+  base_by : (on : IfName) → on_switch (Some on) ≡ Some on → have_rows applied (base_names on) ≡ true → (b : Base) × (base_of plan on ≡ Some b)
+  base_by (name.Ethernet port) is h = let l = lane_there port (both_true (is_some (applied (key.Port port))) true h).0 in (base.Port l.0, ap (option_map base.Port) l.1)
+  base_by (name.Vlan vlan) is h = (base.Vlan vlan, refl)
+  base_by (name.Loopback number) is h = absurd cc
+
+  -- an applied interface of the switch has what it stands on
+  base_there : (on : IfName) → on_switch (Some on) ≡ Some on → is_some (applied (key.Intf on)) ≡ true → (b : Base) × (base_of plan on ≡ Some b)
+  base_there on is h = let r = there (applied (key.Intf on)) h in base_by on is (closed (key.Intf on) r.0 r.1)
+
+  neigh_base : (on : IfName) (ip : Ip) (r : Row) → Fits plan (key.Neigh on ip) r → (b : Base) × (base_of plan on ≡ Some b)
+  neigh_base on ip (row.Neigh mac) h = h
+  neigh_base on ip (row.Port x) h = elim h [ ]
+  neigh_base on ip row.Vlan h = elim h [ ]
+  neigh_base on ip (row.Member x) h = elim h [ ]
+  neigh_base on ip row.Intf h = elim h [ ]
+  neigh_base on ip row.Addr h = elim h [ ]
+  neigh_base on ip (row.Route x) h = elim h [ ]
+
+  hop_there : (h : RowHop) → is_some (applied (key.Neigh h.on h.ip)) ≡ true → (x : Hop) × (things.hop_of plan h ≡ Some x)
+  hop_there h is =
+      let r = there (applied (key.Neigh h.on h.ip)) is in
+      let b = neigh_base h.on h.ip r.0 (fit (key.Neigh h.on h.ip) r.0 r.1) in
+      (record { on = b.0; ip = h.ip }, ap (option_map (λ z. record { on = z; ip = h.ip })) b.1)
+
+  hops_there : (hops : List RowHop) → have_rows applied (map (λ h. key.Neigh h.on h.ip) hops) ≡ true → (out : List Hop) × (things.hops_of plan hops ≡ Some out) × (0 < length hops → 0 < length out)
+  hops_there [] h = ([], refl, λ some. some)
+  hops_there (x ∷ xs) h =
+      let parts = both_true (is_some (applied (key.Neigh x.on x.ip))) (have_rows applied (map (λ h. key.Neigh h.on h.ip) xs)) h in
+      let one = hop_there x parts.0 in
+      let rest = hops_there xs parts.1 in
+      (insert_key named.hop_cmp rest.0 one.0, (ap (λ z. both (insert_key named.hop_cmp) z (things.hop_of plan x)) rest.1 ∙ ap (both (insert_key named.hop_cmp) (Some rest.0)) one.1), λ some. some_hop named.hop_cmp rest.0 one.0)
+
+  goal_some : (out : List Hop) → 0 < length out → (g : Goal) × (goal_by (Some out) ≡ Some g)
+  goal_some [] some = absurd (omega (arith, some))
+  goal_some (x ∷ []) some = (goal.Via x, refl)
+  goal_some (x ∷ y ∷ zs) some = (goal.Group (x ∷ y ∷ zs), refl)
+
+  hops_goal : (hops : List RowHop) → 0 < length hops → have_rows applied (map (λ h. key.Neigh h.on h.ip) hops) ≡ true → (g : Goal) × (goal_of plan (route.Hops hops) ≡ Some g)
+  hops_goal hops some h =
+      let x = hops_there hops h in
+      let g = goal_some x.0 (x.2 some) in
+      (g.0, ap goal_by x.1 ∙ g.1)
+
+  target_goal : (out : List RowHop) → AreHops out → have_rows applied (route_names (target_of out)) ≡ true → (g : Goal) × (goal_of plan (target_of out) ≡ Some g)
+  target_goal [] are h = absurd (let some = are.some in omega (arith, some))
+  target_goal (x ∷ []) are h = by (is_zero x.ip) h
+    where
+      by : (b : Bool) → have_rows applied (route_names (cond b (route.Direct x.on) (route.Hops (x ∷ [])))) ≡ true → (g : Goal) × (goal_of plan (cond b (route.Direct x.on) (route.Hops (x ∷ []))) ≡ Some g)
+      by true h = let b = base_there x.on are.all.0 (both_true (is_some (applied (key.Intf x.on))) true h).0 in (goal.Direct b.0, ap (option_map goal.Direct) b.1)
+      by false h = hops_goal (x ∷ []) are.some h
+  target_goal (x ∷ y ∷ zs) are h = hops_goal (x ∷ y ∷ zs) are.some h
+
+  route_goal : (t : RouteRow) → IsTarget t → have_rows applied (route_names t) ≡ true → (g : Goal) × (goal_of plan t ≡ Some g)
+  route_goal t (IsDrop is) h = (goal.Drop, ap (goal_of plan) is)
+  route_goal t (Goes out are is) h = let g = target_goal out are (subst (λ z. have_rows applied (route_names z) ≡ true) is h) in (g.0, ap (goal_of plan) is ∙ g.1)
+
+  fits_by : (k : Key) (fields : Pairs) (r : Row) → IsOnSwitch k → row_of plan k fields ≡ Ok r → have_rows applied (names_of k r) ≡ true → Fits plan k r
+  fits_by (key.Port port) fields r on h names = let x = port_ok plan port fields r h in subst (Fits plan (key.Port port)) (sym x.1) x.2
+  fits_by (key.Vlan vlan) fields r on h names = subst (Fits plan (key.Vlan vlan)) (ok_is row.Vlan r h) tt
+  fits_by (key.Member vlan port) fields r on h names =
+      let x = tagging_ok (value_of (codes "tagging_mode") fields) r h in
+      let one = both_true (is_some (applied (key.Vlan vlan))) (is_some (applied (key.Port port)) && true) names in
+      let two = both_true (is_some (applied (key.Port port))) true one.1 in
+      subst (Fits plan (key.Member vlan port)) (sym x.1) (lane_there port two.0)
+  fits_by (key.Intf n) fields r on h names = subst (Fits plan (key.Intf n)) (sym (router_ok (value_of (codes "vrf_name") fields) r h)) tt
+  fits_by (key.Addr n ip len) fields r on h names = subst (Fits plan (key.Addr n ip len)) (ok_is row.Addr r h) tt
+  fits_by (key.Neigh n ip) fields r on h names =
+      let x = lladdr_ok (value_of (codes "neigh") fields) r h in
+      subst (Fits plan (key.Neigh n ip)) (sym x.1) (base_there n on (both_true (is_some (applied (key.Intf n))) true names).0)
+  fits_by (key.Route prefix) fields r on h names =
+      let x = route_ok fields r h in
+      subst (Fits plan (key.Route prefix)) (sym x.1) (on, route_goal x.0 x.2 (subst (λ z. have_rows applied (names_of (key.Route prefix) z) ≡ true) x.1 names))
+  fits_by (key.Other text) fields r on h names = other_bad (split_once 58 text) r h
+
+  pub fits-good : (k : Key) (fields : Pairs) (r : Row) → IsOnSwitch k → good_row plan k (Some fields) ≡ Some r → have_rows applied (names_of k r) ≡ true → Fits plan k r
+  fits-good k fields r on h names = fits_by k fields r on (read_ok (row_of plan k fields) r h) names

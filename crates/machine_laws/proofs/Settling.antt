@@ -1,0 +1,243 @@
+-- a settling of the machine, by operations run alone: its rows and its calls are those of turns over rows
+use Rattle.std.proofs.Common.{◌≡◌, ◌⊎◌, ◌+◌, ◌≤◌, ◌∷◌, ◌∙◌, inl, inr, ℕ, zero, suc, Bool, List, [], Option, None, Some, is_some, refl, sym, ap, subst, arith}
+use Rattle.table_schema.specs.Names.{names_of}
+use Rattle.table_schema.specs.Plan.{Ports, IsPlan}
+use Rattle.table_schema.specs.declared.key.Key.{Key}
+use Rattle.table_schema.specs.declared.row.Row.{Row}
+use Rattle.sai_types.specs.declared.ids.Rid.{Rid}
+use Rattle.sai_types.specs.declared.body.Call.{Call}
+use Rattle.sai_types.specs.Made.{made_after_all}
+use Rattle.sai_types.specs.Objects.{used as on_chip}
+use Rattle.sai_types.specs.Refusal.{capacity_of}
+use Rattle.switch_model.specs.Good.{TypedRows}
+use Rattle.switch_model.specs.Marks.{IsTrueReason, first_missing}
+use Rattle.switch_model.specs.Turns.{HasReason, with_good}
+use Rattle.switch_model.specs.declared.wait.Wait.{Wait}
+use Rattle.switch_model.specs.declared.wait.Wait.TheVariants as wait
+use Rattle.row_layout.specs.Operations.{Change, changes_of}
+use Rattle.row_layout.specs.Rows.{Owner}
+use Rattle.row_layout.proofs.Changing.{changes-same}
+use Rattle.switch_machine.specs.Events.{AreAnswers, SwitchState, IsSafe, IsQuiet, after_answers, changes_made}
+use Rattle.switch_machine.specs.Flights.{Flight, Machine}
+use Rattle.switch_machine.specs.Places.{makes}
+use Rattle.switch_machine.specs.Steps.{started, with_row}
+use Rattle.switch_machine.specs.Written.{Written, good_of}
+use Rattle.switch_machine.proofs.Kept.{kept-answers}
+use Rattle.switch_machine.proofs.Overflowing.{no-overflow}
+use Rattle.switch_machine.proofs.Reasoned.{reason-true}
+use Rattle.switch_machine.proofs.Runs.{kept-run}
+use Rattle.switch_machine.proofs.Sequence.{sequence}
+use Rattle.switch_machine.proofs.Solo.{solo-key}
+use Rattle.switch_machine.proofs.Splits.{IsSplit, key_split, row_at, row_off}
+use Rattle.machine_laws.specs.Calls.{AreCallsOf, AreChangesOf, AreTurnsWith, Completes, IsTurnWith, Situation}
+use Rattle.machine_laws.specs.Settling.{AreMachineTurns, DropsKey, IsMachineTurn, IsSituationOf, RunsAlone, situation}
+use Rattle.machine_laws.proofs.Alone.{calls-made, calls_in, follows-stands}
+use Rattle.machine_laws.proofs.Dropping.{same-no_reason}
+use Rattle.machine_laws.proofs.Rows.{AreSameRows, no_some, none_missing, reason-same}
+use Rattle.machine_laws.proofs.Sharing.{others-use, used-by}
+
+pub record Rests (plan : Ports) (workers : ℕ) (capacities : List ℕ) (written : Written) (t : SwitchState) : Type 0 where
+  pub kept : IsSafe plan workers capacities t
+  pub quiet : IsQuiet t
+  pub same : t.written ≡ written
+
+-- the changes of a key over the same rows
+changes_over : (plan : Ports) (a b : TypedRows) (k : Key) (new : Option Row) (changes : List Change) → AreSameRows a b → AreChangesOf plan a k new changes → AreChangesOf plan b k new changes
+changes_over plan a b k new changes same x = record {
+  used = x.used;
+  by_others = record {
+    yes = λ o h. let y = x.by_others.yes o h in (y.0, y.1, y.2, sym (same y.0) ∙ y.3, y.4);
+    no = λ o h q r apart at. x.by_others.no o h q r apart (same q ∙ at);
+  };
+  is = x.is ∙ ap (λ z. changes_of plan k z new x.used) (same k);
+}
+
+no_changes : (plan : Ports) (k : Key) (o : Option Row) (used : Owner → Bool) → changes_of plan k o o used ≡ []
+no_changes plan k None used = refl
+no_changes plan k (Some r) used = changes-same plan k r used
+
+module _ (plan : Ports) (is : IsPlan plan) (workers : ℕ) (capacities : List ℕ) where
+  answered : (s : SwitchState) (es : List (Call Rid × SwitchState)) → AreAnswers plan workers s es → IsSafe plan workers capacities s → IsSafe plan workers capacities (after_answers s es) × ((after_answers s es).written ≡ s.written) × ((after_answers s es).made ≡ made_after_all s.made (calls_in es))
+  answered s [] run kept = (kept, refl, refl)
+  answered s (e ∷ es) run kept =
+      let y = answered e.1 es run.1 (kept-answers plan is workers capacities s e.1 kept e.0 run.0) in
+      (y.0, y.1 ∙ run.0.written, y.2 ∙ ap (λ z. made_after_all z (calls_in es)) run.0.made)
+
+  module _ (k : Key) (s t : SwitchState) (calls : List (Call Rid)) (kept : IsSafe plan workers capacities s) (quiet : IsQuiet s) where
+    abbrev good : TypedRows
+    good = good_of plan s.written
+
+    -- ---- a key that has its good row already
+
+    dropped : DropsKey plan k s t calls → Rests plan workers capacities s.written t
+    dropped x = record {
+      kept = kept-run plan is workers capacities s ((None, t) ∷ []) kept (inr (inr (inl x.drop)), tt);
+      quiet = subst (λ z. (w : ℕ) (f : Flight) → z.board.flights w ≡ Some f → ⊥) (sym x.drop.machine) quiet;
+      same = x.drop.written;
+    }
+
+    -- ---- an operation that runs alone
+
+    module _ (x : RunsAlone plan workers capacities k s t calls) where
+      abbrev f : Flight
+      f = x.starting.flight
+
+      first_safe : IsSafe plan workers capacities x.first
+      first_safe = kept-run plan is workers capacities s ((None, x.first) ∷ []) kept (inr (inr (inr x.starting)), tt)
+
+      ran : Rests plan workers capacities s.written t
+      ran =
+          let y = answered x.first x.answers x.are first_safe in
+          subst (Rests plan workers capacities s.written) (sym x.last) (record { kept = y.0; quiet = x.quiet; same = y.1 ∙ x.starting.written })
+
+      abbrev changes : List Change
+      changes = changes_made plan workers x.first x.answers x.are
+
+      alone_changes : AreChangesOf plan s.machine.board.applied k (good k) changes
+      alone_changes = subst (λ q. AreChangesOf plan s.machine.board.applied q (good q) changes) x.is (record {
+        used = used-by plan workers capacities s kept f.key;
+        by_others = others-use plan workers capacities s kept f.key;
+        is = sequence plan workers capacities s x.first x.starting x.answers x.are (used-by plan workers capacities s kept f.key) quiet x.quiet (others-use plan workers capacities s kept f.key) ∙ ap (λ z. changes_of plan f.key (s.machine.board.applied f.key) z (used-by plan workers capacities s kept f.key)) x.starting.new;
+      })
+
+      alone_calls : AreCallsOf s.machine.stands s.made changes calls t.machine.stands
+      alone_calls =
+          let stands = follows-stands plan x.starting.worker (started s.machine x.starting.worker f x.starting.due) x.first.machine x.starting.follows in
+          let y = calls-made plan workers x.first x.answers x.are in
+          subst (λ z. AreCallsOf s.machine.stands s.made changes z t.machine.stands) (sym x.calls_are) (subst (λ (z : SwitchState). AreCallsOf s.machine.stands s.made changes (calls_in x.answers) z.machine.stands) (sym x.last) (subst (λ z. AreCallsOf z s.made changes (calls_in x.answers) (after_answers x.first x.answers).machine.stands) stands (subst (λ z. AreCallsOf x.first.machine.stands z changes (calls_in x.answers) (after_answers x.first x.answers).machine.stands) x.starting.made y)))
+
+      ran_made : t.made ≡ made_after_all s.made calls
+      ran_made =
+          ap (λ (z : SwitchState). z.made) x.last
+          ∙ (answered x.first x.answers x.are first_safe).2
+          ∙ ap (λ z. made_after_all z (calls_in x.answers)) x.starting.made
+          ∙ ap (made_after_all s.made) (sym x.calls_are)
+
+      -- the rows after it
+      ran_rows : (a : TypedRows) → AreSameRows a s.machine.board.applied → AreSameRows (with_good good a k) t.machine.board.applied
+      ran_rows a same q = by (key_split k q)
+        where
+          now : t.machine.board.applied q ≡ with_row k (good k) s.machine.board.applied q
+          now = ap (λ (z : SwitchState). z.machine.board.applied q) x.last ∙ solo-key plan workers capacities s x.first x.starting x.answers quiet x.are x.quiet q ∙ ap (λ z. with_row z (good z) s.machine.board.applied q) x.is
+
+          by : IsSplit k q → with_good good a k q ≡ t.machine.board.applied q
+          by (inl e) = row_at k q (good q) a e ∙ ap good (sym e) ∙ sym (row_at k q (good k) s.machine.board.applied e) ∙ sym now
+          by (inr h) = row_off k q (good q) a h ∙ same q ∙ sym (row_off k q (good k) s.machine.board.applied h) ∙ sym now
+
+      -- of its key no reason was true
+      begun-no_reason : (w : Wait) → IsTrueReason plan capacities good s.machine.board.applied f.key w → ⊥
+      begun-no_reason (wait.Missing p) (r, at, h) = no_some (first_missing s.machine.board.applied (names_of f.key r)) p (none_missing s.machine.board.applied (names_of f.key r) (λ q in_it. ap is_some (x.starting.begins.named q r (x.starting.new ∙ at) in_it).applied)) h
+      begun-no_reason (wait.Held h) (none, r, at, held) = x.starting.begins.unnamed (x.starting.new ∙ none) h held.row (inl held.applied_row) held.names
+      begun-no_reason (wait.NoRoom kind) (r, at, have, over) = no-overflow plan is capacities s.machine kept.sound quiet s.made s.objects kept.whole kept.laid x.starting.worker f x.starting.due x.starting.begins r (x.starting.new ∙ at) kind (fits (makes kind x.starting.due) refl) over
+        where
+          fits : (n : ℕ) → makes kind x.starting.due ≡ n → on_chip s.objects kind + makes kind x.starting.due ≤ capacity_of capacities kind
+          fits zero e = let p = kept.places kind in omega (arith, e, p)
+          fits (suc n) e = let p = x.starting.room kind (omega (arith, e)) in omega (arith, p)
+      begun-no_reason (wait.Busy v) h = h
+
+    -- a key that leaves has its good row then, after the calls of its operation, and no reason was true of it
+    record Left (z : Situation) : Type 0 where
+      then : Situation
+      so : Completes plan good k z then calls
+      agrees : IsSituationOf then t
+      rest : Rests plan workers capacities s.written t
+      none : HasReason plan capacities good z.applied k → ⊥
+
+    left_by : (z : Situation) → IsSituationOf z s → DropsKey plan k s t calls ⊎ RunsAlone plan workers capacities k s t calls → Left z
+    left_by z agrees (inl x) = record {
+      then = then;
+      so = record {
+        changes = [];
+        are = changes_over plan s.machine.board.applied z.applied k (good k) [] (λ q. sym (agrees.rows q)) (record {
+          used = used-by plan workers capacities s kept k;
+          by_others = others-use plan workers capacities s kept k;
+          is = sym (no_changes plan k (good k) (used-by plan workers capacities s kept k)) ∙ ap (λ v. changes_of plan k v (good k) (used-by plan workers capacities s kept k)) (sym same);
+        });
+        calls_are = (x.none, refl);
+        applied = refl;
+        made = ap (made_after_all z.made) (sym x.none);
+      };
+      agrees = record {
+        rows = λ q. by q (key_split k q) ∙ ap (λ (v : Machine). v.board.applied q) (sym x.drop.machine);
+        stands = agrees.stands ∙ ap (λ (v : Machine). v.stands) (sym x.drop.machine);
+        made = agrees.made ∙ sym x.drop.made;
+      };
+      rest = dropped x;
+      none = λ h. same-no_reason plan is workers capacities s kept quiet k same h.0 (reason-same plan capacities good z.applied s.machine.board.applied agrees.rows k h.0 h.1);
+    }
+      where
+        same : s.machine.board.applied k ≡ good k
+        same = subst (λ q. s.machine.board.applied q ≡ good q) x.is x.drop.same
+
+        then : Situation
+        then = record { applied = with_good good z.applied k; stands = z.stands; made = z.made }
+
+        by : (q : Key) → IsSplit k q → with_good good z.applied k q ≡ s.machine.board.applied q
+        by q (inl e) = row_at k q (good q) z.applied e ∙ subst (λ v. good v ≡ s.machine.board.applied v) e (sym same)
+        by q (inr h) = row_off k q (good q) z.applied h ∙ agrees.rows q
+    left_by z agrees (inr x) = record {
+      then = record { applied = with_good good z.applied k; stands = t.machine.stands; made = made_after_all z.made calls };
+      so = record {
+        changes = changes x;
+        are = changes_over plan s.machine.board.applied z.applied k (good k) (changes x) (λ q. sym (agrees.rows q)) (alone_changes x);
+        calls_are = subst (λ v. AreCallsOf v z.made (changes x) calls t.machine.stands) (sym agrees.stands) (subst (λ v. AreCallsOf s.machine.stands v (changes x) calls t.machine.stands) (sym agrees.made) (alone_calls x));
+        applied = refl;
+        made = refl;
+      };
+      agrees = record { rows = ran_rows x z.applied agrees.rows; stands = refl; made = ap (λ v. made_after_all v calls) agrees.made ∙ sym (ran_made x) };
+      rest = ran x;
+      none = λ h. begun-no_reason x h.0 (subst (λ v. IsTrueReason plan capacities good s.machine.board.applied v h.0) (sym x.is) (reason-same plan capacities good z.applied s.machine.board.applied agrees.rows k h.0 h.1));
+    }
+
+  -- what a turn, or turns, of the machine come to over rows
+  pub record Comes (P : Situation → Type 0) (written : Written) (t : SwitchState) : Type 0 where
+    pub then : Situation
+    pub so : P then
+    pub agrees : IsSituationOf then t
+    pub rest : Rests plan workers capacities written t
+
+  -- where nothing happens
+  same_state : (z : Situation) (s t : SwitchState) → IsSafe plan workers capacities s → IsQuiet s → IsSituationOf z s → t ≡ s → Comes (λ y. y ≡ z) s.written t
+  same_state z s t kept quiet agrees e = subst (Comes (λ y. y ≡ z) s.written) (sym e) (record { then = z; so = refl; agrees = agrees; rest = record { kept = kept; quiet = quiet; same = refl } })
+
+  turn : (ks : List Key) (s t : SwitchState) (left : List Key) (calls : List (Call Rid)) (z : Situation) → IsSafe plan workers capacities s → IsQuiet s → IsSituationOf z s → IsMachineTurn plan workers capacities s ks t left calls → Comes (λ y. IsTurnWith plan capacities (good_of plan s.written) z ks y left calls) s.written t
+  turn [] s t left calls z kept quiet agrees (e, none, no_call) = let y = same_state z s t kept quiet agrees e in record { then = y.then; so = (y.so, none, no_call); agrees = y.agrees; rest = y.rest }
+  turn (k ∷ ks) s t left calls z kept quiet agrees (inl (w, reason, rest, e, more)) =
+      let y = turn ks s t rest calls z kept quiet agrees more in
+      record { then = y.then; so = inl ((w, reason-same plan capacities (good_of plan s.written) s.machine.board.applied z.applied (λ q. sym (agrees.rows q)) k w (reason-true plan is workers capacities s kept quiet k w reason)), rest, e, y.so); agrees = y.agrees; rest = y.rest }
+  turn (k ∷ ks) s t left calls z kept quiet agrees (inr (mid, own, rest, x, e, more)) =
+      let r = left_by k s mid own kept quiet z agrees x in
+      let y = turn ks mid t left rest r.then r.rest.kept r.rest.quiet r.agrees more in
+      record {
+        then = y.then;
+        so = inr (r.none, r.then, own, rest, r.so, e, subst (λ v. IsTurnWith plan capacities (good_of plan v) r.then ks y.then left rest) r.rest.same y.so);
+        agrees = y.agrees;
+        rest = subst (λ v. Rests plan workers capacities v t) r.rest.same y.rest;
+      }
+
+  turns : (n : ℕ) (s t : SwitchState) (keys left : List Key) (calls : List (Call Rid)) (z : Situation) → IsSafe plan workers capacities s → IsQuiet s → IsSituationOf z s → AreMachineTurns plan workers capacities n s keys t left calls → Comes (λ y. AreTurnsWith plan capacities (good_of plan s.written) n z keys y left calls) s.written t
+  turns zero s t keys left calls z kept quiet agrees (none, e, gone, no_call) = let y = same_state z s t kept quiet agrees e in record { then = y.then; so = (none, y.so, gone, no_call); agrees = y.agrees; rest = y.rest }
+  turns (suc n) s t keys left calls z kept quiet agrees (some, mid, rest, own, one, inl (e, zero_more, at, gone, all)) =
+      let y = turn keys s mid rest own z kept quiet agrees one in
+      record {
+        then = y.then;
+        so = (some, y.then, rest, own, y.so, inl (e, zero_more, refl, gone, all));
+        agrees = subst (IsSituationOf y.then) (sym at) y.agrees;
+        rest = subst (Rests plan workers capacities s.written) (sym at) y.rest;
+      }
+  turns (suc n) s t keys left calls z kept quiet agrees (some, mid, rest, own, one, inr (less, more, all, later)) =
+      let y = turn keys s mid rest own z kept quiet agrees one in
+      let v = turns n mid t rest left more y.then y.rest.kept y.rest.quiet y.agrees later in
+      record {
+        then = v.then;
+        so = (some, y.then, rest, own, y.so, inr (less, more, all, subst (λ u. AreTurnsWith plan capacities (good_of plan u) n y.then rest v.then left more) y.rest.same v.so));
+        agrees = v.agrees;
+        rest = subst (λ u. Rests plan workers capacities u t) y.rest.same v.rest;
+      }
+
+  -- a settling comes to turns over rows, with the same calls
+  pub settles : (n : ℕ) (s t : SwitchState) (keys left : List Key) (calls : List (Call Rid)) → IsSafe plan workers capacities s → IsQuiet s → AreMachineTurns plan workers capacities n s keys t left calls → Comes (λ y. AreTurnsWith plan capacities (good_of plan s.written) n (situation s) keys y left calls) s.written t
+  settles n s t keys left calls kept quiet h = turns n s t keys left calls (situation s) kept quiet (record { rows = λ q. refl; stands = refl; made = refl }) h
+
+  pub alone : (k : Key) (s t : SwitchState) (calls : List (Call Rid)) → IsSafe plan workers capacities s → IsQuiet s → RunsAlone plan workers capacities k s t calls → (z : Situation) × Completes plan (good_of plan s.written) k (situation s) z calls × IsSituationOf z t
+  alone k s t calls kept quiet x = let y = left_by k s t calls kept quiet (situation s) (record { rows = λ q. refl; stands = refl; made = refl }) (inr x) in (y.then, y.so, y.agrees)

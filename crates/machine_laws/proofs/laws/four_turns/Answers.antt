@@ -1,0 +1,8 @@
+use Rattle.machine_laws.proofs.Four.{four, named_below}
+use Rattle.machine_laws.proofs.laws.four_turns.Goals as goal
+
+pub returns-clause-levels : goal.returns-clause-levels
+returns-clause-levels c = λ k p r h. named_below k r p h
+
+pub returns-clause-four : goal.returns-clause-four
+returns-clause-four c = λ plan capacities good applied later keys left n closed room sync rising h. four plan capacities good closed applied room n later keys left sync rising h

@@ -1,0 +1,6 @@
+pub mod Reading
+pub mod ToSync
+pub mod Calls
+pub mod Settling
+pub mod Quiet
+pub mod Logged

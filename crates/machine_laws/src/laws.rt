@@ -1,0 +1,94 @@
+// What whole settlings and logs of the machine come to. Each function is a law: it does nothing, and its contract is proved.
+ghost use Rattle.std.specs.Prelude.{◌≡◌, ◌⊎◌, ℕ, ◌≤◌, ◌<◌, true, List, [], length, Option, Some, None};
+ghost use Rattle.table_schema.specs.Fields.{Pairs};
+ghost use Rattle.table_schema.specs.KeyText.{key_of};
+ghost use Rattle.table_schema.specs.Names.{names_of};
+ghost use Rattle.table_schema.specs.Plan.{IsPlan, Ports};
+ghost use Rattle.table_schema.specs.declared.key.Key.{Key};
+ghost use Rattle.table_schema.specs.declared.row.Row.{Row};
+ghost use Rattle.sai_types.specs.declared.body.Call.{Call};
+ghost use Rattle.sai_types.specs.declared.body.Entry.{Entry};
+ghost use Rattle.sai_types.specs.declared.ids.Rid.{Rid};
+ghost use Rattle.sai_types.specs.declared.kind.Kind.{Kind};
+ghost use Rattle.sai_types.specs.Alike.{IsAlike, IsIn};
+ghost use Rattle.switch_model.specs.Desired.{IsClosed, IsThingOf, have_rows};
+ghost use Rattle.switch_model.specs.Good.{TypedRows, good_row};
+ghost use Rattle.switch_model.specs.Levels.{level_of};
+ghost use Rattle.switch_model.specs.Marks.{Waiting};
+ghost use Rattle.switch_model.specs.Promises.{EffectsAreLegal, MarksAreTrue, good_rows_at};
+ghost use Rattle.switch_model.specs.Sound.{AreWithin};
+ghost use Rattle.switch_model.specs.Turns.{TakeTurns};
+ghost use Rattle.row_layout.specs.Operations.{Change};
+ghost use Rattle.switch_machine.specs.Events.{AreEvents, IsQuiet, IsSafe, SwitchState, after_events, calls_of};
+ghost use Rattle.switch_machine.specs.Flights.{Fits, Flight, IsResting, IsRow};
+ghost use Rattle.switch_machine.specs.Operations.{MayBegin};
+ghost use Rattle.switch_machine.specs.Places.{HasRoomFor};
+ghost use Rattle.switch_machine.specs.Reasons.{LacksRoom};
+ghost use Rattle.switch_machine.specs.Written.{HasNoWrite, good_of};
+ghost use Rattle.machine_laws.specs.Calls.{AreTurnsWith, Completes, Situation};
+ghost use Rattle.machine_laws.specs.Logged.{AreListed, AreLoggedEvents, ListsKey, LoggedSwitch, after_logged, new_switch};
+ghost use Rattle.machine_laws.specs.Quiet.{ChangesEntry, LeavesAlone, NamesNot, StandsFor};
+ghost use Rattle.machine_laws.specs.Reading.{IsOnSwitch};
+ghost use Rattle.machine_laws.specs.Settling.{AreMachineTurns, IsSituationOf, RunsAlone, situation};
+ghost use Rattle.machine_laws.specs.ToSync.{AreInKeyOrder, AreSynced, HasRoomTogether};
+
+/// A row names only keys of lower levels. With closed good rows and room for the applied and the good rows together, turns leave
+/// no key, are at most four, and bring each key its good row.
+pub fn four_turns()
+    ensures levels { (k p : Key) (r : Row) → IsIn p (names_of k r) → level_of p < level_of k }
+    ensures four { (plan : Ports) (capacities : List ℕ) (good applied later : TypedRows) (keys left : List Key) (n : ℕ) → IsClosed good → HasRoomTogether plan capacities applied good → AreSynced good applied keys → AreInKeyOrder keys → TakeTurns plan capacities good n applied keys later left → (left ≡ []) × (n ≤ 4) × ((k : Key) → later k ≡ good k) }
+{}
+
+/// The calls of an operation that runs alone are those of the changes of its key's rows, one for each, in their order; then the
+/// key has its good row, and every other row is as it was.
+pub fn operations_make_their_calls()
+    ensures { (plan : Ports) (workers : ℕ) (capacities : List ℕ) (k : Key) (s t : SwitchState) (calls : List (Call Rid)) → IsPlan plan → IsSafe plan workers capacities s → IsQuiet s → RunsAlone plan workers capacities k s t calls → (z : Situation) × Completes plan (good_of plan s.written) k (situation s) z calls × IsSituationOf z t }
+{}
+
+/// A settling is a list of events of the machine. Its rows and its calls are those of turns over rows: key by key, in order, and
+/// no other; and it ends safe and quiet, with nothing written. Where it ends a mark can list what waits: each key to sync with
+/// its reason, and no key that the last turn did not leave.
+pub fn settlings_are_turns()
+    ensures events { (plan : Ports) (workers : ℕ) (capacities : List ℕ) (n : ℕ) (s t : SwitchState) (keys left : List Key) (calls : List (Call Rid)) → AreMachineTurns plan workers capacities n s keys t left calls → (es : List (Option (Call Rid) × SwitchState)) × AreEvents plan workers capacities s es × (after_events s es ≡ t) × (calls_of es ≡ calls) }
+    ensures calls { (plan : Ports) (workers : ℕ) (capacities : List ℕ) (n : ℕ) (s t : SwitchState) (keys left : List Key) (calls : List (Call Rid)) → IsPlan plan → IsSafe plan workers capacities s → IsQuiet s → AreMachineTurns plan workers capacities n s keys t left calls → (z : Situation) × AreTurnsWith plan capacities (good_of plan s.written) n (situation s) keys z left calls × IsSituationOf z t × IsSafe plan workers capacities t × IsQuiet t × (t.written ≡ s.written) }
+    ensures turns { (plan : Ports) (capacities : List ℕ) (good : TypedRows) (n : ℕ) (s t : Situation) (keys left : List Key) (calls : List (Call Rid)) → AreTurnsWith plan capacities good n s keys t left calls → TakeTurns plan capacities good n s.applied keys t.applied left }
+    ensures lists { (plan : Ports) (workers : ℕ) (capacities : List ℕ) (n : ℕ) (s t : SwitchState) (keys left : List Key) (calls : List (Call Rid)) → ((q : Key) → IsIn q s.to_sync → IsIn q keys) → AreMachineTurns plan workers capacities n s keys t left calls → (waits : Waiting) × AreListed plan workers capacities t waits × ((q : Key) → IsIn q t.to_sync → ListsKey q waits) × ((q : Key) → ListsKey q waits → IsIn q left) }
+{}
+
+/// With closed good rows and room for the applied and the good rows together a settling leaves no key, takes at most four turns,
+/// brings each key its good row and the chip the things of the good rows; and no key waits after it, so its mark lists none.
+pub fn settlings_drain()
+    ensures drains { (plan : Ports) (workers : ℕ) (capacities : List ℕ) (n : ℕ) (s t : SwitchState) (keys left : List Key) (calls : List (Call Rid)) → IsPlan plan → IsSafe plan workers capacities s → IsQuiet s → IsClosed (good_of plan s.written) → HasRoomTogether plan capacities s.machine.board.applied (good_of plan s.written) → ((k : Key) → IsIn k s.to_sync → IsIn k keys) → AreInKeyOrder keys → AreMachineTurns plan workers capacities n s keys t left calls → (left ≡ []) × (n ≤ 4) × ((k : Key) → t.machine.board.applied k ≡ good_of plan s.written k) × IsAlike t.objects (IsThingOf plan (good_of plan s.written)) }
+    ensures nothing_waits { (plan : Ports) (workers : ℕ) (capacities : List ℕ) (n : ℕ) (s t : SwitchState) (keys left : List Key) (calls : List (Call Rid)) (waits : Waiting) → IsPlan plan → IsSafe plan workers capacities s → IsQuiet s → IsClosed (good_of plan s.written) → HasRoomTogether plan capacities s.machine.board.applied (good_of plan s.written) → ((k : Key) → IsIn k s.to_sync → IsIn k keys) → AreInKeyOrder keys → AreMachineTurns plan workers capacities n s keys t left calls → AreListed plan workers capacities t waits → waits ≡ [] }
+{}
+
+/// From the new switch on each mark is true, the marks' counts never fall nor exceed what there is, and each call that took
+/// effect was legal and left no route that no row sent.
+pub fn marks_are_true()
+    ensures marks { (plan : Ports) (workers : ℕ) (capacities : List ℕ) (ts : List LoggedSwitch) → IsPlan plan → AreLoggedEvents plan workers capacities new_switch ts → MarksAreTrue plan capacities (after_logged new_switch ts).log (after_logged new_switch ts).effects }
+    ensures counts { (plan : Ports) (workers : ℕ) (capacities : List ℕ) (ts : List LoggedSwitch) → IsPlan plan → AreLoggedEvents plan workers capacities new_switch ts → AreWithin (length (after_logged new_switch ts).log.taken) (length (after_logged new_switch ts).effects) (after_logged new_switch ts).log.marks }
+    ensures effects { (plan : Ports) (workers : ℕ) (capacities : List ℕ) (ts : List LoggedSwitch) → IsPlan plan → AreLoggedEvents plan workers capacities new_switch ts → EffectsAreLegal plan capacities (after_logged new_switch ts).log.taken (after_logged new_switch ts).effects }
+{}
+
+/// What stands for the applied row of a key that is at rest is neither set nor removed by events that leave the key alone, and
+/// stands for it still; so it is where no write of the key waits and the events take none.
+pub fn quiet_rows_stay()
+    ensures alone { (plan : Ports) (workers : ℕ) (capacities : List ℕ) (k : Key) (s : SwitchState) (es : List (Option (Call Rid) × SwitchState)) (e : Entry Rid) → IsPlan plan → IsSafe plan workers capacities s → AreEvents plan workers capacities s es → LeavesAlone k s es → IsResting s.machine.board k → (IsIn k s.to_sync → ⊥) → StandsFor plan k e s.machine → IsResting (after_events s es).machine.board k × StandsFor plan k e (after_events s es).machine × ((call : Call Rid) → IsIn call (calls_of es) → ChangesEntry call e → ⊥) }
+    ensures unnamed { (plan : Ports) (workers : ℕ) (capacities : List ℕ) (k : Key) (s : SwitchState) (es : List (Option (Call Rid) × SwitchState)) (e : Entry Rid) → IsPlan plan → IsSafe plan workers capacities s → (run : AreEvents plan workers capacities s es) → NamesNot plan workers capacities k s es run → HasNoWrite s.written k → IsResting s.machine.board k → (IsIn k s.to_sync → ⊥) → StandsFor plan k e s.machine → IsResting (after_events s es).machine.board k × StandsFor plan k e (after_events s es).machine × ((call : Call Rid) → IsIn call (calls_of es) → ChangesEntry call e → ⊥) }
+{}
+
+/// From the new switch on each row that is applied or to be applied is its key's good row after some number of the writes taken.
+pub fn rows_are_dated()
+    ensures { (plan : Ports) (workers : ℕ) (capacities : List ℕ) (ts : List LoggedSwitch) (k : Key) (r : Row) → IsPlan plan → AreLoggedEvents plan workers capacities new_switch ts → IsRow (after_logged new_switch ts).switch.machine.board k r → (n : ℕ) × (n ≤ length (after_logged new_switch ts).log.taken) × (good_rows_at plan (after_logged new_switch ts).log.taken n k ≡ Some r) }
+{}
+
+/// While no operation is under way an operation of a key that was read may begin for any worker, where all that its good row
+/// names is applied, or where it has none and no applied row names it. Where an operation may begin there is room for it, or the
+/// key lacks room for a first kind; a row that goes needs none.
+pub fn keys_may_begin()
+    ensures reads { (text : List ℕ) → IsOnSwitch (key_of text) }
+    ensures fits { (plan : Ports) (applied : TypedRows) (k : Key) (fields : Pairs) (r : Row) → ((q : Key) (x : Row) → applied q ≡ Some x → Fits plan q x) → IsClosed applied → IsOnSwitch k → good_row plan k (Some fields) ≡ Some r → have_rows applied (names_of k r) ≡ true → Fits plan k r }
+    ensures begins { (plan : Ports) (workers : ℕ) (capacities : List ℕ) (s : SwitchState) (w : ℕ) (k : Key) → IsPlan plan → IsSafe plan workers capacities s → IsQuiet s → IsOnSwitch k → ((r : Row) → good_of plan s.written k ≡ Some r → have_rows s.machine.board.applied (names_of k r) ≡ true) → (good_of plan s.written k ≡ None → (q : Key) (r : Row) → s.machine.board.applied q ≡ Some r → IsIn k (names_of q r) → ⊥) → (f : Flight) × (due : List Change) × (f.key ≡ k) × (f.new ≡ good_of plan s.written k) × MayBegin plan s.machine w f due }
+    ensures room { (plan : Ports) (workers : ℕ) (capacities : List ℕ) (s : SwitchState) (w : ℕ) (f : Flight) (due : List Change) (row : Row) → MayBegin plan s.machine w f due → f.new ≡ Some row → good_of plan s.written f.key ≡ Some row → HasRoomFor workers capacities s.objects s.machine due ⊎ ((kind : Kind) × LacksRoom plan workers capacities s f.key kind) }
+    ensures room_gone { (plan : Ports) (workers : ℕ) (capacities : List ℕ) (s : SwitchState) (w : ℕ) (f : Flight) (due : List Change) → MayBegin plan s.machine w f due → f.new ≡ None → HasRoomFor workers capacities s.objects s.machine due }
+{}

@@ -1,0 +1,9 @@
+//! What whole settlings and logs of the machine come to: turns, four turns, quiet rows, true marks, and when a key can begin.
+#![tactic(auto)]
+
+mod laws;
+
+pub use laws::{
+    four_turns, keys_may_begin, marks_are_true, operations_make_their_calls, quiet_rows_stay,
+    rows_are_dated, settlings_are_turns, settlings_drain,
+};

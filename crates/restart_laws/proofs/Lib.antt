@@ -1,0 +1,15 @@
+pub mod Chips
+pub mod Bodies
+pub mod Viewing
+pub mod Leading
+pub mod Order
+pub mod Reasons
+pub mod Passing
+pub mod Restoring
+pub mod Holding
+pub mod Effects
+pub mod Begun
+pub mod Ended
+pub mod Resolved
+pub mod Identified
+pub mod Example

@@ -1,0 +1,6 @@
+pub mod Chips
+pub mod Planned
+pub mod Restored
+pub mod Service
+pub mod Invariant
+pub mod Identified

@@ -1,0 +1,272 @@
+-- without operations a kind has no room for a row exactly where the applied things and the row's are too many
+use Rattle.std.proofs.Common.{◌≡◌, ◌==◌, ◌⊎◌, ◌+◌, ◌<◌, ◌≤◌, ◌∷◌, ◌++◌, ◌∙◌, inl, inr, ℕ, suc, Bool, true, false, cond, List, [], length, None, Some, refl, sym, ap, subst, arith}
+use Rattle.std.proofs.lemmas.Bool.{eq-eqb, eqb-true, false≢true}
+use Rattle.table_schema.specs.Plan.{Ports, IsPlan}
+use Rattle.table_schema.specs.declared.row.Row.{Row}
+use Rattle.sai_types.specs.declared.kind.Kind.{Kind}
+use Rattle.sai_types.specs.declared.thing.Thing.{Thing}
+use Rattle.sai_types.specs.Alike.{IsIn}
+use Rattle.sai_types.specs.Made.{IsWhole}
+use Rattle.sai_types.specs.Objects.{Objects, level, used}
+use Rattle.sai_types.specs.Refusal.{capacity_of}
+use Rattle.switch_model.specs.Desired.{IsThingOf}
+use Rattle.switch_model.specs.Marks as marks
+use Rattle.switch_model.specs.Marks.{Overflows}
+use Rattle.switch_model.specs.Things.{things_of}
+use Rattle.chip_layout.specs.Counted.{AreAll, AreDistinct}
+use Rattle.chip_layout.specs.Layout.{IsLaidOut, listed}
+use Rattle.sai_types.specs.Names.{Name, name_kind, name_of}
+use Rattle.chip_layout.proofs.Counting.{counted, no-longer}
+use Rattle.row_layout.specs.Rows.{Owner, own_things}
+use Rattle.row_layout.specs.Shared.{IsOf, uses}
+use Rattle.row_layout.proofs.Split.{things-split}
+use Rattle.row_layout.specs.Operations.{Change, Make, Set, Take, uses_of}
+use Rattle.switch_machine.specs.Changes.{after}
+use Rattle.switch_machine.specs.Flights.{CanMake, CanSet, Flight, Goes, HasName, IsConcern, IsFinal, Machine, Runs, StandsIn, own_of}
+use Rattle.switch_machine.specs.Operations.{MayBegin}
+use Rattle.switch_machine.specs.Places.{makes}
+use Rattle.switch_machine.specs.Consistent.{IsConsistent}
+use Rattle.switch_machine.specs.Tables.{Tables}
+use Rattle.switch_machine.proofs.Beginning.{starts}
+use Rattle.switch_machine.proofs.Calling.{sort_of}
+use Rattle.switch_machine.proofs.Resting.{back_by, into_by}
+use Rattle.switch_machine.proofs.Running.{final-concern, settable_name}
+use Rattle.switch_machine.proofs.Splits.{IsSplit, name_split}
+use Rattle.switch_machine.proofs.Tabled.{tabled}
+
+abbrev after_all : List Change → (Thing → Type 0) → Thing → Type 0
+after_all [] V = V
+after_all (c ∷ cs) V = after_all cs (λ u. after c (V u) u)
+
+-- the names of a kind that changes make
+record MadeNames (plan : Ports) (f : Flight) (kind : Kind) (V : Thing → Type 0) (due : List Change) : Type 0 where
+  names : List Name
+  distinct : AreDistinct names
+  count : length names ≡ makes kind due
+  fresh : (n : Name) → IsIn n names → HasName V n → ⊥
+  final : (n : Name) → IsIn n names → (t : Thing) × IsFinal plan f t × (name_of t ≡ n)
+  kinds : (n : Name) → IsIn n names → level (name_kind n) ≡ level kind
+  all : (n : Name) → level (name_kind n) ≡ level kind → HasName (after_all due V) n → HasName V n ⊎ IsIn n names
+
+some_none : (r : Row) → Some r ≡ None → ⊥
+some_none r h = cc
+
+none_owner : (o : Owner) → None ≡ Some o → ⊥
+none_owner o h = cc
+
+module _ (plan : Ports) (f : Flight) (r : Row) (new : f.new ≡ Some r) (none : f.retires ≡ None) (kind : Kind) where
+  make_step : (t : Thing) (cs : List Change) (V : Thing → Type 0) (b : Bool) → (level (name_kind (name_of t)) == level kind) ≡ b → CanMake plan f V t → MadeNames plan f kind (λ u. V u ⊎ (u ≡ t)) cs → MadeNames plan f kind V (Make t ∷ cs)
+  make_step t cs V true e can rest = record {
+    names = name_of t ∷ rest.names;
+    distinct = (λ h. rest.fresh (name_of t) h (t, inr refl, refl), rest.distinct);
+    count = count;
+    fresh = fresh;
+    final = final;
+    kinds = kinds;
+    all = λ n at h. widen n (rest.all n at h);
+  }
+    where
+      count : suc (length rest.names) ≡ cond (level (name_kind (name_of t)) == level kind) 1 0 + makes kind cs
+      count =
+          let one = ap {B = ℕ} (λ x. cond x 1 0) e in
+          let more = rest.count in
+          omega (arith, one, more)
+
+      fresh : (n : Name) → IsIn n (name_of t ∷ rest.names) → HasName V n → ⊥
+      fresh n (inl same) h = can.fresh h.0 h.1 (h.2 ∙ same)
+      fresh n (inr in_it) h = rest.fresh n in_it (h.0, inl h.1, h.2)
+
+      final : (n : Name) → IsIn n (name_of t ∷ rest.names) → (x : Thing) × IsFinal plan f x × (name_of x ≡ n)
+      final n (inl same) = (t, can.final, sym same)
+      final n (inr in_it) = rest.final n in_it
+
+      kinds : (n : Name) → IsIn n (name_of t ∷ rest.names) → level (name_kind n) ≡ level kind
+      kinds n (inl same) = ap (λ z. level (name_kind z)) same ∙ eqb-true (level (name_kind (name_of t))) (level kind) e
+      kinds n (inr in_it) = rest.kinds n in_it
+
+      widen : (n : Name) → HasName (λ u. V u ⊎ (u ≡ t)) n ⊎ IsIn n rest.names → HasName V n ⊎ IsIn n (name_of t ∷ rest.names)
+      widen n (inr h) = inr (inr h)
+      widen n (inl (u, inl v, is)) = inl (u, v, is)
+      widen n (inl (u, inr same, is)) = inr (inl (sym is ∙ ap name_of same))
+  make_step t cs V false e can rest = record {
+    names = rest.names;
+    distinct = rest.distinct;
+    count = count;
+    fresh = λ n in_it h. rest.fresh n in_it (h.0, inl h.1, h.2);
+    final = rest.final;
+    kinds = rest.kinds;
+    all = λ n at h. narrow n at (rest.all n at h);
+  }
+    where
+      count : length rest.names ≡ cond (level (name_kind (name_of t)) == level kind) 1 0 + makes kind cs
+      count =
+          let one = ap {B = ℕ} (λ x. cond x 1 0) e in
+          let more = rest.count in
+          omega (arith, one, more)
+
+      narrow : (n : Name) → level (name_kind n) ≡ level kind → HasName (λ u. V u ⊎ (u ≡ t)) n ⊎ IsIn n rest.names → HasName V n ⊎ IsIn n rest.names
+      narrow n at (inr h) = inr h
+      narrow n at (inl (u, inl v, is)) = inl (u, v, is)
+      narrow n at (inl (u, inr same, is)) = absurd (false≢true (sym e ∙ eq-eqb (level (name_kind (name_of t))) (level kind) (ap (λ z. level (name_kind z)) (sym (ap name_of same) ∙ is) ∙ at)))
+
+  set_name : (t : Thing) (V : Thing → Type 0) (n : Name) → IsSplit n (name_of t) → HasName V n → HasName (λ u. (V u × (name_of u ≡ name_of t → ⊥)) ⊎ (u ≡ t)) n
+  set_name t V n (inl same) h = (t, inr refl, sym same)
+  set_name t V n (inr other) h = (h.0, inl (h.1, λ e. other (sym h.2 ∙ e)), h.2)
+
+  set_step : (t : Thing) (cs : List Change) (V : Thing → Type 0) → CanSet plan f V t → MadeNames plan f kind (λ u. (V u × (name_of u ≡ name_of t → ⊥)) ⊎ (u ≡ t)) cs → MadeNames plan f kind V (Set t ∷ cs)
+  set_step t cs V can rest = record {
+    names = rest.names;
+    distinct = rest.distinct;
+    count = rest.count;
+    fresh = λ n in_it h. rest.fresh n in_it (set_name t V n (name_split n (name_of t)) h);
+    final = rest.final;
+    kinds = rest.kinds;
+    all = λ n at h. back n (rest.all n at h);
+  }
+    where
+      back : (n : Name) → HasName (λ u. (V u × (name_of u ≡ name_of t → ⊥)) ⊎ (u ≡ t)) n ⊎ IsIn n rest.names → HasName V n ⊎ IsIn n rest.names
+      back n (inr h) = inr h
+      back n (inl (u, inl v, is)) = inl (u, v.0, is)
+      back n (inl (u, inr same, is)) = inl (can.old, can.stands, sym (settable_name can.old t can.settable) ∙ sym (ap name_of same) ∙ is)
+
+  no_take : {X : Type 0} (n : Name) → Goes plan f n → X
+  no_take n (inl h) = absurd (some_none r (sym new ∙ h.1))
+  no_take n (inr h) = absurd (none_owner h.0 (sym none ∙ h.2))
+
+  made_names : (due : List Change) (V : Thing → Type 0) → Runs plan f V due → MadeNames plan f kind V due
+  made_names [] V runs = record { names = []; distinct = tt; count = refl; fresh = λ n h. elim h [ ]; final = λ n h. elim h [ ]; kinds = λ n h. elim h [ ]; all = λ n at h. inl h }
+  made_names (Make t ∷ cs) V runs = make_step t cs V (level (name_kind (name_of t)) == level kind) refl runs.0 (made_names cs (λ u. V u ⊎ (u ≡ t)) runs.1)
+  made_names (Set t ∷ cs) V runs = set_step t cs V runs.0 (made_names cs (λ u. (V u × (name_of u ≡ name_of t → ⊥)) ⊎ (u ≡ t)) runs.1)
+  made_names (Take n ∷ cs) V runs = no_take n runs.0.goes
+
+  runs_end : (due : List Change) (V : Thing → Type 0) → Runs plan f V due → (u : Thing) → IsConcern plan f (name_of u) → IsFinal plan f u → after_all due V u
+  runs_end [] V runs u c h = (runs u c).1 h
+  runs_end (d ∷ ds) V runs u c h = runs_end ds (λ x. after d (V x) x) runs.1 u c h
+
+-- ---- lists of names
+
+in_append : (xs ys : List Name) (n : Name) → IsIn n (xs ++ ys) → IsIn n xs ⊎ IsIn n ys
+in_append [] ys n h = inr h
+in_append (x ∷ xs) ys n (inl e) = inl (inl e)
+in_append (x ∷ xs) ys n (inr h) = wider (in_append xs ys n h)
+  where
+    wider : IsIn n xs ⊎ IsIn n ys → IsIn n (x ∷ xs) ⊎ IsIn n ys
+    wider (inl h) = inl (inr h)
+    wider (inr h) = inr h
+
+append_left : (xs ys : List Name) (n : Name) → IsIn n xs → IsIn n (xs ++ ys)
+append_left (x ∷ xs) ys n (inl e) = inl e
+append_left (x ∷ xs) ys n (inr h) = inr (append_left xs ys n h)
+append_left [] ys n h = elim h [ ]
+
+append_right : (xs ys : List Name) (n : Name) → IsIn n ys → IsIn n (xs ++ ys)
+append_right [] ys n h = h
+append_right (x ∷ xs) ys n h = inr (append_right xs ys n h)
+
+distinct_append : (xs ys : List Name) → AreDistinct xs → AreDistinct ys → ((n : Name) → IsIn n xs → IsIn n ys → ⊥) → AreDistinct (xs ++ ys)
+distinct_append [] ys dx dy apart = dy
+distinct_append (x ∷ xs) ys dx dy apart = (λ h. by (in_append xs ys x h), distinct_append xs ys dx.1 dy (λ n h g. apart n (inr h) g))
+  where
+    by : IsIn x xs ⊎ IsIn x ys → ⊥
+    by (inl h) = dx.0 h
+    by (inr h) = apart x (inl refl) h
+
+length_append : (xs ys : List Name) → length (xs ++ ys) ≡ length xs + length ys
+length_append [] ys = omega arith
+length_append (x ∷ xs) ys = let rest = length_append xs ys in omega (arith, rest)
+
+-- the two words for names of which no two are equal
+counted_distinct : (ns : List Name) → marks.AreDistinct ns → AreDistinct ns
+counted_distinct [] d = tt
+counted_distinct (n ∷ ns) d = (d.0, counted_distinct ns d.1)
+
+marked_distinct : (ns : List Name) → AreDistinct ns → marks.AreDistinct ns
+marked_distinct [] d = tt
+marked_distinct (n ∷ ns) d = (d.0, marked_distinct ns d.1)
+
+-- ---- the kinds for which there is no room
+
+module _ (plan : Ports) (is : IsPlan plan) (capacities : List ℕ) (m : Machine) (sound : IsConsistent plan m) (quiet : (w : ℕ) (f : Flight) → m.board.flights w ≡ Some f → ⊥) (made : ℕ) (objects : Objects) (whole : IsWhole made objects) (laid : IsLaidOut (listed m.stands) objects) (w : ℕ) (f : Flight) (due : List Change) (begins : MayBegin plan m w f due) (r : Row) (new : f.new ≡ Some r) (kind : Kind) where
+  T : Tables plan
+  T = tabled plan is
+
+  runs : Runs plan f (StandsIn m) due
+  runs = (starts plan is m sound w f due begins).runs
+
+  makes_names : MadeNames plan f kind (StandsIn m) due
+  makes_names = made_names plan f r new begins.none kind due (StandsIn m) runs
+
+  standing : (names : List Name) × AreAll (listed m.stands) kind names × (length names ≡ used objects kind)
+  standing = counted (listed m.stands) objects laid kind made whole
+
+  abbrev IsOne : Thing → Type 0
+  IsOne t = IsThingOf plan m.board.applied t ⊎ IsIn t (things_of plan f.key r)
+
+  final_of : (t : Thing) → IsFinal plan f t → IsIn t (things_of plan f.key r)
+  final_of t (inl h) = (things-split plan f.key r).back t (inl (subst (λ z. IsIn t (own_of plan f.key z)) new h))
+  final_of t (inr h) = (things-split plan f.key r).back t (inr (h.0, subst (λ z. IsIn h.0 (uses_of plan f.key z)) new h.1, h.2))
+
+  of_final : (t : Thing) → IsIn t (things_of plan f.key r) → IsFinal plan f t
+  of_final t h = by ((things-split plan f.key r).into t h)
+    where
+      by : IsOf (own_things plan f.key r) (uses plan f.key r) t → IsFinal plan f t
+      by (inl h) = inl (subst (λ z. IsIn t (own_of plan f.key z)) (sym new) h)
+      by (inr (o, at, in_it)) = inr (o, subst (λ z. IsIn o (uses_of plan f.key z)) (sym new) at, in_it)
+
+  stands_of : (t : Thing) → StandsIn m t → IsThingOf plan m.board.applied t
+  stands_of t h = let o = sound.owned t h in into_by plan (tabled plan is) m sound quiet t h o.0 o.1 (sort_of o.0)
+
+  of_applied : (t : Thing) → IsThingOf plan m.board.applied t → StandsIn m t
+  of_applied t h = back_by plan (tabled plan is) m sound quiet t h.0 h.1 h.2 ((things-split plan h.0 h.1).into t h.3)
+
+  pub overflows : capacity_of capacities kind < used objects kind + makes kind due → Overflows plan capacities m.board.applied f.key r kind
+  overflows many = with_names standing makes_names
+    where
+      with_names : ((names : List Name) × AreAll (listed m.stands) kind names × (length names ≡ used objects kind)) → MadeNames plan f kind (StandsIn m) due → Overflows plan capacities m.board.applied f.key r kind
+      with_names (names, all, count) x = record {
+        keys = names ++ x.names;
+        distinct = marked_distinct (names ++ x.names) (distinct_append names x.names all.distinct x.distinct (λ n h g. x.fresh n g (stood n h)));
+        things = λ n h. let t = source_by n (in_append names x.names n h) in (t.0, t.2, ap (λ z. level (name_kind z)) t.2 ∙ level_by n (in_append names x.names n h), t.1);
+        many = enough;
+      }
+        where
+          stood : (n : Name) → IsIn n names → HasName (StandsIn m) n
+          stood n h = let y = (all.sound n h).1 in let z = (all.sound n h).2 in (z.0, (y, z.1), z.2)
+
+          source_by : (n : Name) → IsIn n names ⊎ IsIn n x.names → (t : Thing) × IsOne t × (name_of t ≡ n)
+          source_by n (inl h) = let y = stood n h in (y.0, inl (stands_of y.0 y.1), y.2)
+          source_by n (inr h) = let y = x.final n h in (y.0, inr (final_of y.0 y.1), y.2)
+
+          level_by : (n : Name) → IsIn n names ⊎ IsIn n x.names → level (name_kind n) ≡ level kind
+          level_by n (inl h) = (all.sound n h).0
+          level_by n (inr h) = x.kinds n h
+
+          enough : capacity_of capacities kind < length (names ++ x.names)
+          enough =
+              let two = length_append names x.names in
+              let three = x.count in
+              omega (arith, many, two, three, count)
+
+  pub no-overflow : used objects kind + makes kind due ≤ capacity_of capacities kind → Overflows plan capacities m.board.applied f.key r kind → ⊥
+  no-overflow fits x = by standing makes_names
+    where
+      by : ((names : List Name) × AreAll (listed m.stands) kind names × (length names ≡ used objects kind)) → MadeNames plan f kind (StandsIn m) due → ⊥
+      by (names, all, count) y =
+          let one = no-longer x.keys (names ++ y.names) (counted_distinct x.keys x.distinct) within in
+          let three = length_append names y.names in
+          let four = y.count in
+          let five = x.many in
+          absurd (omega (arith, one, three, four, five, count, fits))
+        where
+          found : (n : Name) → level (name_kind n) ≡ level kind → HasName (StandsIn m) n ⊎ IsIn n y.names → IsIn n (names ++ y.names)
+          found n at (inl h) = append_left names y.names n (all.all n (at, h.1.0, (h.0, h.1.1, h.2)))
+          found n at (inr h) = append_right names y.names n h
+
+          of_thing : (t : Thing) → level (name_kind (name_of t)) ≡ level kind → IsOne t → IsIn (name_of t) (names ++ y.names)
+          of_thing t at (inl h) = found (name_of t) at (inl (t, of_applied t h, refl))
+          of_thing t at (inr h) =
+              let final = of_final t h in
+              found (name_of t) at (y.all (name_of t) at (t, runs_end plan f r new begins.none kind due (StandsIn m) runs t (final-concern plan (tabled plan is) f begins.fit t final) final, refl))
+
+          within : (n : Name) → IsIn n x.keys → IsIn n (names ++ y.names)
+          within n h = let t = x.things n h in subst (λ z. IsIn z (names ++ y.names)) t.1 (of_thing t.0 t.2 t.3)

@@ -1,0 +1,129 @@
+-- the reasons of keys that wait are true, the applied rows are closed, and what a route points at is whole
+use Rattle.std.proofs.Common.{◌+◌, ◌≤◌, zero, suc, Option, None, arith, ◌≡◌, ◌⊎◌, ◌<◌, ◌&&◌, ◌∷◌, ◌∙◌, ℕ, Bool, true, List, [], Some, is_some, inl, inr, refl, sym, ap, subst}
+use Rattle.std.proofs.lemmas.Bool.{cases_order}
+use Rattle.table_schema.specs.Plan.{Ports, IsPlan}
+use Rattle.table_schema.specs.Names.{names_of}
+use Rattle.table_schema.specs.declared.key.Key.{Key}
+use Rattle.table_schema.specs.declared.key.Key.TheVariants as key
+use Rattle.table_schema.specs.declared.row.Row.{Row}
+use Rattle.swss_types.specs.declared.address.Prefix.{Prefix}
+use Rattle.sai_types.specs.declared.hop.Hop.{Hop}
+use Rattle.sai_types.specs.declared.kind.Kind.{Kind}
+use Rattle.sai_types.specs.declared.thing.Goal.{Goal}
+use Rattle.sai_types.specs.declared.thing.Goal.TheVariants as goal
+use Rattle.sai_types.specs.declared.thing.Thing.TheVariants as thing
+use Rattle.sai_types.specs.Alike.{IsIn}
+use Rattle.sai_types.specs.Objects.{level, used}
+use Rattle.sai_types.specs.Refusal.{capacity_of}
+use Rattle.switch_model.specs.Desired.{IsClosed, have_rows}
+use Rattle.switch_model.specs.Good.{TypedRows}
+use Rattle.switch_model.specs.Marks.{IsTrueReason, NamesFirstKind, Overflows}
+use Rattle.switch_model.specs.declared.wait.Wait.{Wait}
+use Rattle.switch_model.specs.declared.wait.Wait.TheVariants as wait
+use Rattle.sai_types.specs.Names as name
+use Rattle.row_layout.specs.Rows as owner
+use Rattle.sai_types.specs.declared.ids.Rid.{Rid}
+use Rattle.sai_types.specs.declared.body.Call.{Call}
+use Rattle.row_layout.specs.Rows.{own_things}
+use Rattle.row_layout.specs.Operations.{Change, Make, Set, Take}
+use Rattle.switch_machine.specs.Events.{SwitchState, IsDueCall, IsSafe, IsQuiet}
+use Rattle.switch_machine.specs.Flights.{Can, Flight, IsRow, Runs, StandsIn}
+use Rattle.switch_machine.specs.Places.{makes, places_kept, sum_below}
+use Rattle.switch_machine.specs.Reasons.{IsInTheWay, IsReason, LacksRoom}
+use Rattle.switch_machine.specs.Changes.{IsSamePort}
+use Rattle.switch_machine.specs.Consistent.{IsLike}
+use Rattle.switch_machine.specs.Written.{good_of}
+use Rattle.switch_machine.proofs.Overflowing.{no-overflow, overflows}
+use Rattle.switch_machine.proofs.Tabled.{in_members, tabled}
+use Rattle.switch_machine.proofs.Calling.{make-has_call, set-has_call, take-has_call}
+
+all_rows : (rows : TypedRows) (ks : List Key) → ((k : Key) → IsIn k ks → is_some (rows k) ≡ true) → have_rows rows ks ≡ true
+all_rows rows [] f = refl
+all_rows rows (k ∷ ks) f = both (is_some (rows k)) (have_rows rows ks) (f k (inl refl)) (all_rows rows ks (λ q h. f q (inr h)))
+  where
+    both : (a b : Bool) → a ≡ true → b ≡ true → (a && b) ≡ true
+    both a b x y = cc
+
+sum_none : (n : ℕ) (f : ℕ → ℕ) → ((v : ℕ) → f v ≡ 0) → sum_below n f ≡ 0
+sum_none zero f none = refl
+sum_none (suc n) f none =
+    let rest = sum_none n f none in
+    let last = none n in
+    omega (arith, rest, last)
+
+one_row : (r x : Row) → Some r ≡ Some x → r ≡ x
+one_row r x h = cc
+
+module _ (plan : Ports) (is : IsPlan plan) (workers : ℕ) (capacities : List ℕ) (s : SwitchState) (kept : IsSafe plan workers capacities s) where
+  pub closed : IsClosed s.machine.board.applied
+  closed k r at = all_rows s.machine.board.applied (names_of k r) (λ p h. ap is_some (kept.sound.board.named k p r (inl at) h).applied)
+
+  -- the group that a route points at has all its members
+  pub route-whole : (prefix : Prefix) (hops : List Hop) (hop : Hop) → StandsIn s.machine (thing.Route prefix (goal.Group hops)) → IsIn hop hops → StandsIn s.machine (thing.GroupMember hops hop)
+  route-whole prefix hops hop h in_it = kept.sound.steady (key.Route prefix) (owner.Group hops) (thing.Route prefix (goal.Group hops)) (thing.GroupMember hops hop) (name.Group hops) h refl (inl refl) refl tt (inr (in_members hops hops hop in_it))
+
+  -- a route that stands is that of its key's applied row, or of the row that an operation brings
+  pub route-row : (prefix : Prefix) (g : Goal) → StandsIn s.machine (thing.Route prefix g) → (r : Row) × IsRow s.machine.board (key.Route prefix) r × IsIn (thing.Route prefix g) (own_things plan (key.Route prefix) r)
+  route-row prefix g h = by (kept.sound.like (key.Route prefix) (thing.Route prefix g) h refl)
+    where
+      by : IsLike plan s.machine.board (key.Route prefix) (thing.Route prefix g) → (r : Row) × IsRow s.machine.board (key.Route prefix) r × IsIn (thing.Route prefix g) (own_things plan (key.Route prefix) r)
+      by x = (x.row, x.is, in_it x x.resembles.same)
+        where
+          in_it : (x : IsLike plan s.machine.board (key.Route prefix) (thing.Route prefix g)) → (thing.Route prefix g ≡ x.thing) ⊎ IsSamePort (thing.Route prefix g) x.thing → IsIn (thing.Route prefix g) (own_things plan (key.Route prefix) x.row)
+          in_it x (inl same) = subst (λ z. IsIn z (own_things plan (key.Route prefix) x.row)) (sym same) x.of
+          in_it x (inr h) = elim h [ ]
+
+  -- what is due has a call
+  pub has-call : (w : ℕ) (f : Flight) (c : Change) (cs : List Change) → w < workers → s.machine.board.flights w ≡ Some f → s.machine.due w ≡ c ∷ cs → (call : Call Rid) × IsDueCall workers call s
+  has-call w f c cs below flying due = by c due (subst (Runs plan f (StandsIn s.machine)) due (kept.sound.runs w f flying)).0
+    where
+      by : (c : Change) → s.machine.due w ≡ c ∷ cs → Can plan f (StandsIn s.machine) c → (call : Call Rid) × IsDueCall workers call s
+      by (Make t) due can = let x = make-has_call plan is (tabled plan is) s.machine kept.sound w f flying s.made s.objects kept.whole kept.laid t can in (x.0, record { worker = w; below = below; flight = f; change = Make t; rest = cs; flying = flying; due = due; of = x.1 })
+      by (Set t) due can = let x = set-has_call plan is (tabled plan is) s.machine kept.sound w f flying s.made s.objects kept.whole kept.laid t can in (x.0, record { worker = w; below = below; flight = f; change = Set t; rest = cs; flying = flying; due = due; of = x.1 })
+      by (Take n) due can = let x = take-has_call plan is (tabled plan is) s.machine kept.sound w f flying s.made s.objects kept.whole kept.laid n can in (x.0, record { worker = w; below = below; flight = f; change = Take n; rest = cs; flying = flying; due = due; of = x.1 })
+
+  module _ (quiet : IsQuiet s) where
+    no_flight : (w : ℕ) (o : Option Flight) → s.machine.board.flights w ≡ o → s.machine.board.flights w ≡ None
+    no_flight w None e = e
+    no_flight w (Some f) e = absurd (quiet w f e)
+
+    -- without operations no places are kept
+    pub none-kept : (kind : Kind) → places_kept workers s.machine kind ≡ 0
+    none-kept kind = sum_none workers (λ w. makes kind (s.machine.reserved w)) (λ w. ap (makes kind) (kept.covered.idle w (no_flight w (s.machine.board.flights w) refl)))
+
+    pub has-names : (k : Key) (kind : Kind) (x : LacksRoom plan workers capacities s k kind) → have_rows s.machine.board.applied (names_of k x.row) ≡ true
+    has-names k kind x = all_rows s.machine.board.applied (names_of k x.row) (λ p h. ap is_some (x.begins.named p x.row x.new (subst (λ q. IsIn p (names_of q x.row)) (sym x.is) h)).applied)
+
+    lacks : (k : Key) (kind : Kind) (x : LacksRoom plan workers capacities s k kind) → Overflows plan capacities s.machine.board.applied k x.row kind
+    lacks k kind x =
+        let many = x.many in
+        let none = none-kept kind in
+        subst (λ k. Overflows plan capacities s.machine.board.applied k x.row kind) x.is (overflows plan is capacities s.machine kept.sound quiet s.made s.objects kept.whole kept.laid x.worker x.flight x.due x.begins x.row x.new kind (omega (arith, many, none)))
+
+    fits : (k : Key) (kind low : Kind) (x : LacksRoom plan workers capacities s k kind) → level low < level kind → used s.objects low + makes low x.due ≤ capacity_of capacities low
+    fits k kind low x less = by (cases_order (makes low x.due) 0)
+      where
+        by : (makes low x.due ≡ 0) ⊎ ((makes low x.due < 0) ⊎ (0 < makes low x.due)) → used s.objects low + makes low x.due ≤ capacity_of capacities low
+        by (inl none) = let room = kept.places low in omega (arith, room, none)
+        by (inr (inl below)) = absurd (omega (arith, below))
+        by (inr (inr some)) = let room = x.lower low less some in omega (arith, room)
+
+    pub reason-true : (k : Key) (w : Wait) → IsReason plan workers capacities s k w → IsTrueReason plan capacities (good_of plan s.written) s.machine.board.applied k w
+    reason-true k (wait.Missing n) x = x.1
+    reason-true k (wait.Held h) x = (x.1, x.2.0, x.2.1, x.2.2)
+    reason-true k (wait.NoRoom kind) x = (x.row, x.good, has-names k kind x, lacks k kind x)
+    reason-true k (wait.Busy worker) (inl (f, at, is)) = quiet worker f at
+    reason-true k (wait.Busy worker) (inr (prepared, first)) = none_in_the_way (good_of plan s.written k) first.way
+      where
+        none_in_the_way : (o : Option Row) → IsInTheWay plan s.machine k o worker → ⊥
+        none_in_the_way None way = quiet worker way.0 way.1
+        none_in_the_way (Some row) way = quiet worker way.0 way.1
+
+    pub reason-first : (k : Key) (w : Wait) → IsReason plan workers capacities s k w → NamesFirstKind plan capacities (good_of plan s.written) s.machine.board.applied k w
+    reason-first k (wait.Missing n) x = tt
+    reason-first k (wait.Held h) x = tt
+    reason-first k (wait.Busy worker) x = tt
+    reason-first k (wait.NoRoom kind) x = λ row low good less over.
+        let same : row ≡ x.row = one_row row x.row (sym good ∙ x.good) in
+        let that = subst (λ k. Overflows plan capacities s.machine.board.applied k x.row low) (sym x.is) (subst (λ r. Overflows plan capacities s.machine.board.applied k r low) same over) in
+        no-overflow plan is capacities s.machine kept.sound quiet s.made s.objects kept.whole kept.laid x.worker x.flight x.due x.begins x.row x.new low (fits k kind low x less) that

@@ -1,0 +1,13 @@
+pub mod Changes
+pub mod Flights
+pub mod Consistent
+pub mod Steps
+pub mod Tables
+pub mod Operations
+pub mod Places
+pub mod Written
+pub mod Events
+pub mod Reasons
+pub mod Next
+pub mod Needs
+pub mod Bearing

@@ -1,0 +1,10 @@
+// Each file tests one subject; refused memory is tried by `rt try --test --fail-alloc N`, which refuses the Nth allocation.
+mod bodies;
+mod fields;
+mod log;
+mod operations;
+mod outside;
+mod pending;
+mod queue;
+mod rows;
+mod values;
