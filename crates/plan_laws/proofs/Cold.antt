@@ -1,5 +1,5 @@
 -- a cold plan on a chip that was listed: the calls of its first half leave nothing, and those of its second make the new things
-use Rattle.std.proofs.Common.{◌≡◌, inl, ℕ, ◌+◌, ◌≤◌, ◌++◌, List, [], ◌∷◌, length, refl, sym, subst, arith}
+use Rattle.std.proofs.Common.{inl, ℕ, ◌≤◌, ◌++◌, List, [], ◌∷◌, length, refl, sym, subst, arith}
 use Rattle.std.proofs.lemmas.List.{append-nil}
 use Rattle.sai_types.specs.declared.ids.Rid.{Rid}
 use Rattle.sai_types.specs.declared.body.Call.{Call}
@@ -43,7 +43,7 @@ module _ {capacities : List ℕ} {made : ℕ} {objects : Objects} {new : List Th
 
   removes_room : HasRoomFor capacities objects removes
   removes_room kind =
-      let none = none_long (made_names kind removes) (λ k i. elim ((makes-lacking x.removing removes [] (sym (append-nil removes)) kind).each k i).2 [ ]) in
+      let none = none_long (made_names kind removes) (λ k i. elim ((makes-lacking x.removing kind).each k i).2 [ ]) in
       let has = x.within kind in
       omega (arith, none, has)
 

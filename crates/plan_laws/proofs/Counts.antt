@@ -1,5 +1,5 @@
 -- how many calls a plan's changes have
-use Rattle.std.proofs.Common.{◌≡◌, inl, inr, ℕ, suc, ◌+◌, ◌*◌, ◌≤◌, ◌==◌, Bool, true, false, cond, ◌++◌, List, [], ◌∷◌, length, map, count_by, Option, None, Some, refl, sym, ap, ap₂, ◌∙◌, subst, arith}
+use Rattle.std.proofs.Common.{◌≡◌, ℕ, ◌+◌, ◌*◌, ◌≤◌, ◌==◌, Bool, true, false, cond, ◌++◌, List, [], ◌∷◌, length, map, count_by, Option, None, Some, refl, ap, ◌∙◌, subst, arith}
 use Rattle.std.proofs.lemmas.List.{length-append, length-map}
 use Rattle.std.proofs.lemmas.List.Sums.{sum_by-append, sum_by-cons}
 use Rattle.std.proofs.lemmas.Option.{same_Some}
@@ -8,22 +8,21 @@ use Rattle.sai_types.specs.declared.body.Attr.{Attr}
 use Rattle.sai_types.specs.declared.body.Attr.TheVariants as attr
 use Rattle.sai_types.specs.declared.body.Call.{Call}
 use Rattle.sai_types.specs.declared.body.Call.TheVariants as call
-use Rattle.sai_types.specs.declared.hop.Hop.{Hop}
 use Rattle.sai_types.specs.declared.kind.Kind.{Kind}
 use Rattle.sai_types.specs.declared.thing.Thing.{Thing}
 use Rattle.sai_types.specs.After.{entry_of}
 use Rattle.sai_types.specs.Alike.{IsIn}
 use Rattle.sai_types.specs.Made.{made_after_all}
-use Rattle.sai_types.specs.Named.{those}
+use Rattle.sai_types.specs.Named.{thing_by, those}
 use Rattle.sai_types.specs.Names.{Name, name_kind, name_of}
 use Rattle.sai_types.specs.Objects.{Objects, level}
-use Rattle.chip_layout.specs.Counted.{AreDistinct}
 use Rattle.chip_layout.specs.Layout.{Has, Layout, with_changed}
+use Rattle.chip_layout.specs.Seen.{tagged}
 use Rattle.chip_layout.proofs.Bodies.{kind-body}
 use Rattle.chip_layout.proofs.Counting.{no-longer}
 use Rattle.plan_laws.specs.Bounds.{makes_kind}
 use Rattle.plan_laws.specs.Moments.{MakesChange, MakesChanges, SetsThing, attr_place, layout_after}
-use Rattle.plan_laws.specs.Old.{old_things, seen_among, tag_of}
+use Rattle.plan_laws.specs.Old.{old_things, tag_of}
 use Rattle.plan_laws.specs.Plans.{AreInOrder, IsViewPlan, Make, PlanChange, Remove, Set, subject}
 use Rattle.plan_laws.specs.Views.{made_name, made_names}
 use Rattle.plan_laws.proofs.Following.{done-in, in_order-left}
@@ -124,15 +123,11 @@ those_few [] = omega arith
 those_few (None ∷ os) = let rest = those_few os in omega (arith, rest)
 those_few (Some x ∷ os) = let rest = those_few os in omega (arith, rest)
 
-seen_length : (tag : Rid → List Hop) (objects os : Objects) → length (seen_among tag objects os) ≡ length os
-seen_length tag objects [] = refl
-seen_length tag objects (o ∷ os) = let rest = seen_length tag objects os in omega (arith, rest)
-
 -- no more old things are there than objects
 pub old-few : (objects : Objects) (new : List Thing) → length (old_things objects new) ≤ length objects
 old-few objects new =
-    let few = those_few (seen_among (tag_of objects new) objects objects) in
-    let same = seen_length (tag_of objects new) objects objects in
+    let few = those_few (map (thing_by (tagged (tag_of objects new)) objects) objects) in
+    let same = length-map objects (thing_by (tagged (tag_of objects new)) objects) in
     omega (arith, few, same)
 
 -- ---- calls that make an object of a kind

@@ -27,11 +27,10 @@ use Rattle.plan_laws.specs.Plans.{PlanChange, Make, Remove, Set, subject}
 use Rattle.plan_laws.specs.Views.{HasRoomFor}
 use Rattle.plan_laws.proofs.Allowed.{IsSafePlan}
 use Rattle.plan_laws.proofs.Applied.{plan-safe}
-use Rattle.plan_laws.proofs.Calling.{none-before, still, still-body}
+use Rattle.plan_laws.proofs.Calling.{none-before, resolves-first, resolves-next, still, still-body}
 use Rattle.plan_laws.proofs.Doubles.{unwanted}
 use Rattle.plan_laws.proofs.Following.{due-in}
 use Rattle.plan_laws.proofs.Lists.{in-either}
-use Rattle.plan_laws.proofs.Resolving.{resolves-first, resolves-next}
 use Rattle.plan_laws.proofs.Running.{joined, plan-step}
 use Rattle.plan_laws.proofs.Starting.{first-moment, old-laid}
 

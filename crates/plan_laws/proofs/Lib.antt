@@ -13,7 +13,6 @@ pub mod Macs
 pub mod Moving
 pub mod Named
 pub mod Picked
-pub mod Resolving
 pub mod Rooms
 pub mod Running
 pub mod Shown

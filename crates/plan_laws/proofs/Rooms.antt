@@ -78,8 +78,8 @@ module _ {order : PlanChange → ℕ} {old new : List Thing} {plan : List PlanCh
 
 module _ {order : PlanChange → ℕ} {old new : List Thing} {plan : List PlanChange} (is_plan : IsViewPlan order old new plan) where
   -- what the first changes make of a kind has names that no old thing has, each once
-  pub makes-lacking : (done due : List PlanChange) → plan ≡ done ++ due → (kind : Kind) → AreLacking old new kind (made_names kind done)
-  makes-lacking done due cut kind = record {
+  pub made-lacking : (done due : List PlanChange) → plan ≡ done ++ due → (kind : Kind) → AreLacking old new kind (made_names kind done)
+  made-lacking done due cut kind = record {
     distinct = picked-distinct (made_name kind) (made_subject kind) order done (in_order-left order done due (subst (AreInOrder order) cut is_plan.in_order));
     each = λ k i.
         let c = in-picked (made_name kind) done k i in
@@ -88,5 +88,8 @@ module _ {order : PlanChange → ℕ} {old new : List Thing} {plan : List PlanCh
         (m.3, m.0, has.0, m.2, λ u j e. has.1 u j (e ∙ sym m.2));
   }
 
+  pub makes-lacking : (kind : Kind) → AreLacking old new kind (made_names kind plan)
+  makes-lacking = made-lacking plan [] (sym (append-nil plan))
+
   pub fits-room : (capacities : List ℕ) (objects : Objects) → FitsHitless capacities objects old new → HasRoomFor capacities objects plan
-  fits-room capacities objects fits kind = fits kind (made_names kind plan) (makes-lacking plan [] (sym (append-nil plan)) kind)
+  fits-room capacities objects fits kind = fits kind (made_names kind plan) (makes-lacking kind)

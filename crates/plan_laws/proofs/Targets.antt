@@ -1,5 +1,5 @@
 -- the groups that routes point at are whole while a hitless plan is made
-use Rattle.std.proofs.Common.{◌≡◌, inl, inr, ◌⊎◌, ◌-◌, ◌≤◌, ◌++◌, List, [], ◌∷◌, Some, refl, sym, ap, subst, arith}
+use Rattle.std.proofs.Common.{◌≡◌, inl, inr, ◌-◌, ◌≤◌, ◌++◌, List, Some, refl, sym, ap, subst, arith}
 use Rattle.std.specs.List.Sorted.{IsStrictlySortedBy}
 use Rattle.swss_types.specs.declared.address.Prefix.{Prefix}
 use Rattle.sai_types.specs.declared.hop.Hop.{Hop}

@@ -1,5 +1,6 @@
 -- a route that moves to another group while a second prefix covers it, worked out by computation: nothing cites it, and it shows that the definitions say what is meant
-use Rattle.std.proofs.Common.{◌≡◌, ℕ, false, List, [], ◌∷◌, map, take, refl}
+use Rattle.std.proofs.Common.{◌≡◌, inl, inr, ℕ, false, List, [], ◌∷◌, map, take, refl, sym, ap, ◌∙◌, subst, arith, rules}
+use Rattle.swss_types.specs.Address.{IsProperPrefix}
 use Rattle.swss_types.specs.declared.address.Family.TheVariants.{V4}
 use Rattle.swss_types.specs.declared.address.Ip.{Ip}
 use Rattle.swss_types.specs.declared.address.Mac.{Mac}
@@ -14,17 +15,24 @@ use Rattle.sai_types.specs.declared.body.Call.TheVariants as call
 use Rattle.sai_types.specs.declared.body.Entry.TheVariants as entry
 use Rattle.sai_types.specs.declared.body.RifOn.TheVariants as on
 use Rattle.sai_types.specs.declared.body.To.TheVariants as to
+use Rattle.sai_types.specs.declared.kind.Kind.TheVariants as kind
+use Rattle.sai_types.specs.declared.thing.Goal.{Goal}
 use Rattle.sai_types.specs.declared.thing.Goal.TheVariants as goal
 use Rattle.sai_types.specs.declared.thing.Thing.{Thing}
 use Rattle.sai_types.specs.declared.thing.Thing.TheVariants as thing
 use Rattle.sai_types.specs.After.{after_calls, chip_after}
+use Rattle.sai_types.specs.Alike.{IsIn}
 use Rattle.sai_types.specs.Forwarding.{Decision, Via, decide}
 use Rattle.sai_types.specs.Made.{AreLegal}
 use Rattle.sai_types.specs.Names as name
+use Rattle.sai_types.specs.Names.{Refers, ShareLane}
 use Rattle.sai_types.specs.Objects.{Objects}
-use Rattle.plan_laws.specs.Applied.{chip_things}
+use Rattle.sai_types.proofs.Whole.{whole-empty}
+use Rattle.chip_layout.specs.Seen.{no_id}
+use Rattle.plan_laws.specs.Applied.{AppliesHitless, chip_things}
 use Rattle.plan_laws.specs.Old.{filler, group_stays}
 use Rattle.plan_laws.specs.Plans.{Make, PlanChange, Remove, Set, hitless_rank}
+use Rattle.plan_laws.specs.Views.{HasRoomFor}
 
 abbrev id : ℕ → Rid
 id n = record { 0 = n }
@@ -132,3 +140,50 @@ wide_stays = refl
 -- in the end the new view stands
 ends : chip_things (after_calls 8 objects calls) ≡ thing.Vlan 10 ∷ thing.Rif (base.Vlan 10) ∷ thing.NextHop (hop 1) ∷ thing.NextHop (hop 2) ∷ thing.NextHop (hop 3) ∷ thing.Group new_group ∷ thing.GroupMember new_group (hop 2) ∷ thing.GroupMember new_group (hop 3) ∷ thing.Neighbor (hop 1) (mac 1) ∷ thing.Neighbor (hop 2) (mac 2) ∷ thing.Neighbor (hop 3) (mac 3) ∷ thing.Route wide (goal.Via (hop 1)) ∷ thing.Route narrow (goal.Group new_group) ∷ []
 ends = refl
+
+-- ---- the premises can be met: a route comes to an empty chip
+
+abbrev route : Thing
+route = thing.Route wide goal.Drop
+
+only : (t : Thing) → IsIn t (route ∷ []) → t ≡ route
+only t (inl e) = e
+only t (inr h) = elim h [ ]
+
+made_only : (c : PlanChange) → IsIn c (Make route ∷ []) → c ≡ Make route
+made_only c (inl e) = e
+made_only c (inr h) = elim h [ ]
+
+same_prefix : (p : Prefix) (g : Goal) → thing.Route p g ≡ route → wide ≡ p
+same_prefix p g e = cc
+
+proper_wide : IsProperPrefix wide
+proper_wide = search rules
+
+small_room : HasRoomFor roomy [] (Make route ∷ [])
+small_room kind.Route = omega arith
+small_room kind.Port = omega arith
+small_room _ = omega arith
+
+comes : AppliesHitless roomy 0 [] (route ∷ []) (Make route ∷ []) [] (call.Create (body.Route wide to.Drop) ∷ [])
+comes = record {
+  planned = record {
+    chip = record { whole = whole-empty; lanes = record { each = λ e b h. absurd cc }; prefixes = record { each = λ e b h. absurd cc } };
+    view = record {
+      named = record { one = λ t u i j e. only t i ∙ sym (only u j); proper = λ p g i. subst IsProperPrefix (same_prefix p g (only _ i)) proper_wide };
+      within = record { refers = λ t k i r. elim (subst (λ z. Refers z k) (only t i) r) [ ] };
+      grouped = record { rising = λ hops i. let e = only _ i in absurd cc; have = λ hops hop i h. let e = only _ i in absurd cc; only = λ hops hop i. let e = only _ i in absurd cc };
+    };
+    lanes = record { apart = λ t u i j l. absurd (subst (λ z. ShareLane z u) (only t i) l) };
+    is_plan = record {
+      makes = λ t i. let e = made_only (Make t) i in let is : t ≡ route = cc in (inl is, λ u j same. j);
+      sets = λ t i. let e = made_only (Set t) i in absurd cc;
+      removes = λ k i. let e = made_only (Remove k) i in absurd cc;
+      whole = λ t i. inr (inl (inl (ap Make (only t i))));
+      gone = λ u i. elim i [ ];
+      in_order = (λ d i. elim i [ ], tt);
+    };
+    room = small_room;
+  };
+  run = (call.Create (body.Route wide to.Drop) ∷ [], [], refl, (body.Route wide to.Drop, record { first = no_id; second = no_id; first_at = tt; second_at = tt; body_is = refl }, refl), refl);
+}

@@ -1,4 +1,4 @@
-use Rattle.std.proofs.Common.{◌++◌, [], refl, sym, arith}
+use Rattle.std.proofs.Common.{[], refl, sym, arith}
 use Rattle.std.proofs.lemmas.List.{append-nil, length-append}
 use Rattle.sai_types.specs.Made.{made_after_all}
 use Rattle.plan_laws.specs.Applied.{nothing}
