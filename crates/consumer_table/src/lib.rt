@@ -2,8 +2,6 @@
 #![tactic(auto)]
 
 mod laws;
-#[cfg(test)]
-mod memory_tests;
 mod op;
 mod to_sync;
 

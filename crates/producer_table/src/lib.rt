@@ -3,8 +3,6 @@
 
 mod key_op;
 mod laws;
-#[cfg(test)]
-mod memory_tests;
 mod waiting;
 
 pub use key_op::KeyOp;

@@ -1,7 +1,7 @@
 // What is to sync where memory is refused. `rt try --test --fail-alloc N` refuses the Nth allocation of the tests: what could
 // not be added is as if it had not come. Without the flag no allocation is refused, and the test goes over operations that
 // are merged, replaced and done.
-use crate::{Op, ToSync};
+use consumer_table::{Op, ToSync};
 use producer_table::KeyOp;
 use std::alloc::Global;
 use std::process::Abort;

@@ -1,7 +1,7 @@
 // What waits where memory is refused. `rt try --test --fail-alloc N` refuses the Nth allocation of the tests: a write that is
 // refused memory is as if it had not come, and a pop that is refused it takes nothing. Without the flag no allocation is
 // refused, and the test goes over writes that are merged, dropped and taken out.
-use crate::{KeyOp, Waiting};
+use producer_table::{KeyOp, Waiting};
 use std::alloc::Global;
 use std::process::Abort;
 use swss_types::{OutOfMemory, Text};
