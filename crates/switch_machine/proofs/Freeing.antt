@@ -33,6 +33,7 @@ use Rattle.switch_machine.proofs.Sequence.{IsShort, uses_short}
 use Rattle.switch_machine.proofs.Single.{kind_at, kind_low, kinds}
 use Rattle.switch_machine.proofs.Splits.{IsSplit, owner_split, use_row_in}
 use Rattle.switch_machine.proofs.Tabled.{are_shared_by, tabled}
+use Rattle.switch_machine.proofs.Running.{some_owner}
 
 abbrev IsOr : Type 0 → Type 0
 IsOr X = X ⊎ (X → ⊥)
@@ -91,9 +92,6 @@ all_have rows (k ∷ ks) p h (inl e) = by (rows k) refl (and_parts (is_some (row
     by : (o : Option Row) → rows k ≡ o → is_some (rows k) ≡ true → (r : Row) × (rows p ≡ Some r)
     by None at t = let z = sym (ap is_some at) ∙ t in absurd cc
     by (Some r) at t = (r, ap rows e ∙ at)
-
-some_owner : (o p : Owner) → Some o ≡ Some p → o ≡ p
-some_owner o p h = cc
 
 none_owner : {X : Type 0} (o : Owner) → None ≡ Some o → X
 none_owner o h = absurd cc
