@@ -111,7 +111,7 @@ front (thing.Neighbor h m) ts hop = front_by (same_hop h hop) h m ts hop refl
 front (thing.Port x) ts hop = inr (refl, λ m is. cc)
 front _ ts hop = inr (refl, λ m is. cc)
 
-mac_in : (ts : List Thing) (hop : Hop) (m : Mac) → IsIn (thing.Neighbor hop m) ts → ((n : Mac) → IsIn (thing.Neighbor hop n) ts → n ≡ m) → mac_of ts hop ≡ Some m
+pub mac_in : (ts : List Thing) (hop : Hop) (m : Mac) → IsIn (thing.Neighbor hop m) ts → ((n : Mac) → IsIn (thing.Neighbor hop n) ts → n ≡ m) → mac_of ts hop ≡ Some m
 mac_in [] hop m h one = elim h [ ]
 mac_in (t ∷ ts) hop m h one = by (front t ts hop) h (λ g. mac_in ts hop m g (λ n i. one n (inr i)))
   where

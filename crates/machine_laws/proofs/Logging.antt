@@ -152,6 +152,7 @@ module _ (plan : Ports) (workers : ℕ) (capacities : List ℕ) where
           turns = x.turns;
           listed = x.listed;
           all = λ k h. x.lists k (sync-left plan workers capacities x.turns popped t.switch x.keys x.left x.calls (λ q at. x.all q at) x.turns_are k h);
+          in_order = x.in_order;
           switch = refl;
           log = x.log;
           effects = refl;

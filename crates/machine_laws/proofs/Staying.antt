@@ -55,6 +55,7 @@ true-same : (plan : Ports) (capacities : List ℕ) (taken : List Sent) (es fs : 
 true-same plan capacities taken es fs before mark (event.Settled waits turns) same h = record {
   alike = subst (λ o. IsAlike o (IsThingOf plan (applied_at plan taken mark waits))) (sym same) h.alike;
   closed = h.closed;
+  order = h.order;
   reasons = h.reasons;
   kinds = h.kinds;
 }
@@ -94,6 +95,7 @@ module _ (plan : Ports) (capacities : List ℕ) (taken : List Sent) (s : Sent) (
       record {
         alike = subst (λ g. IsAlike (chip_after es mark.effects) (IsThingOf plan (applied_rows waits g))) same h.alike;
         closed = subst (λ g. IsClosed (applied_rows waits g)) same h.closed;
+        order = h.order;
         reasons = subst (λ g. ReasonsAreTrue plan capacities g (applied_rows waits g) waits) same h.reasons;
         kinds = subst (λ g. NameFirstKinds plan capacities g (applied_rows waits g) waits) same h.kinds;
       }
@@ -101,6 +103,7 @@ module _ (plan : Ports) (capacities : List ℕ) (taken : List Sent) (s : Sent) (
       let same = sym (good-front plan taken s mark.taken le) in
       record {
         closed = subst (λ g. IsClosed (applied_rows waits g)) same h.closed;
+        order = h.order;
         reasons = subst (λ g. ReasonsAreTrue plan capacities g (applied_rows waits g) waits) same h.reasons;
         absent = h.absent;
       }

@@ -75,6 +75,7 @@ module _ (plan : Ports) (is : IsPlan plan) (workers : ℕ) (capacities : List �
   settled s t told x = record {
     alike = subst (λ o. IsAlike o (IsThingOf plan rows)) (told.objects ∙ sym (chip_after-all s.effects)) (alike_rows s.switch told.kept x.quiet good same_good rows same);
     closed = closed_rows s.switch told.kept x.quiet good same_good rows same;
+    order = x.in_order;
     reasons = reasons_true s.switch told.kept x.quiet good same_good rows same x.waits x.listed;
     kinds = kinds_first s.switch told.kept x.quiet good same_good rows same x.waits x.listed;
   }

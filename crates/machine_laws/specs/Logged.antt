@@ -8,7 +8,7 @@ use Rattle.sai_types.specs.declared.body.Call.{Call}
 use Rattle.sai_types.specs.Alike.{IsIn}
 use mathlib.Core.Logic.{inl, inr}
 use Rattle.switch_model.specs.History.{History, no_history, with_end, with_mark, with_write}
-use Rattle.switch_model.specs.Marks.{Waiting, written_key}
+use Rattle.switch_model.specs.Marks.{AreInOrder, Waiting, written_key}
 use Rattle.switch_model.specs.declared.mark.MarkEvent.TheVariants as event
 use Rattle.switch_machine.specs.Events.{SwitchState, IsEvent, IsPop, IsQuiet, IsTake, with_made_call, empty_switch}
 use Rattle.switch_machine.specs.Reasons.{IsReason}
@@ -57,6 +57,7 @@ pub record LogsMark (plan : Ports) (workers : ℕ) (capacities : List ℕ) (s t 
   pub turns : ℕ
   pub listed : AreListed plan workers capacities s.switch waits
   pub all : (k : Key) → IsIn k s.switch.to_sync → ListsKey k waits
+  pub in_order : AreInOrder waits
   pub switch : t.switch ≡ s.switch
   pub log : t.log ≡ with_end (with_mark s.log (record { taken = length s.log.taken; effects = length s.effects; event = event.Settled waits turns }))
   pub effects : t.effects ≡ s.effects
@@ -100,6 +101,7 @@ pub record IsWholeSettling (plan : Ports) (workers : ℕ) (capacities : List ℕ
   pub listed : AreListed plan workers capacities t.switch waits
   pub lists : (k : Key) → IsIn k left → ListsKey k waits
   pub lists_only : (k : Key) → ListsKey k waits → IsIn k left
+  pub in_order : AreInOrder waits
   pub effects : t.effects ≡ s.effects ++ calls
   pub log : t.log ≡ with_end (with_mark s.log (record { taken = length s.log.taken; effects = length t.effects; event = event.Settled waits turns }))
 

@@ -1,16 +1,17 @@
 -- each change of a plan may be made when its turn has come, and at the end the new things stand
-use Rattle.std.proofs.Common.{◌≡◌, inl, inr, ◌⊎◌, ℕ, ◌-◌, ◌<◌, ◌≤◌, ◌++◌, List, [], ◌∷◌, refl, sym, ap, ◌∙◌, subst, arith}
+use Rattle.std.proofs.Common.{◌≡◌, inl, inr, ◌⊎◌, ℕ, ◌-◌, ◌<◌, ◌≤◌, true, nat_lt, ◌++◌, List, [], ◌∷◌, refl, sym, ap, ◌∙◌, subst, arith}
+use Rattle.std.specs.List.{list_all}
+use Rattle.std.proofs.lemmas.Bool.{and_parts}
+use Rattle.std.proofs.lemmas.Bool.Decides.{nat_tests}
 use Rattle.std.proofs.lemmas.List.{append-nil}
-use Rattle.sai_types.specs.declared.hop.Base.{Base}
 use Rattle.sai_types.specs.declared.hop.Base.TheVariants as base
-use Rattle.sai_types.specs.declared.thing.Goal.{Goal}
 use Rattle.sai_types.specs.declared.thing.Goal.TheVariants as goal
 use Rattle.sai_types.specs.declared.thing.Thing.{Thing}
 use Rattle.sai_types.specs.declared.thing.Thing.TheVariants as thing
 use Rattle.sai_types.specs.Alike.{IsIn}
 use Rattle.sai_types.specs.Objects.{level}
 use Rattle.sai_types.specs.Names as name
-use Rattle.sai_types.specs.Names.{Meet, Name, Refers, base_name, goal_names, name_kind, name_of}
+use Rattle.sai_types.specs.Names.{Meet, Name, Refers, name_kind, name_of, thing_references}
 use Rattle.plan_laws.specs.Plans.{AreInOrder, PlanChange, IsViewPlan, Make, Remove, Set, after_changes, cold_rank, hitless_rank, make_rank, remove_rank, set_rank, subject}
 use Rattle.plan_laws.specs.Views.{AreNamed, LanesApart, ReferWithin}
 use Rattle.plan_laws.proofs.Following.{IsNamed, before, done-in, due-in, in_order-right, new-stands, now-new, old-stands, origin, outcome-named, outcome-new}
@@ -21,56 +22,29 @@ use Rattle.plan_laws.proofs.Deciders.{IsGood, good-names, len_within}
 abbrev pub height : Name → ℕ
 height k = level (name_kind k)
 
-below : (k m : Name) (n : ℕ) → k ≡ m → height m < n → height k < n
-below k m n same less = subst (λ z. height z < n) (sym same) less
+less_by : (m n : ℕ) → nat_lt m n ≡ true → m < n
+less_by m n h = grind (arith, nat_tests)
 
-base_height : (on : Base) → height (base_name on) < 4
-base_height (base.Port lane) = omega arith
-base_height (base.Vlan vlan) = omega arith
+low_enough : (n : ℕ) (ks : List Name) (k : Name) → list_all (λ m. nat_lt (height m) n) ks ≡ true → IsIn k ks → height k < n
+low_enough n [] k h i = elim i [ ]
+low_enough n (m ∷ ks) k h (inl is) = let less = (and_parts (nat_lt (height m) n) _ h).0 in subst (λ z. height z < n) (sym is) (less_by (height m) n less)
+low_enough n (m ∷ ks) k h (inr i) = low_enough n ks k (and_parts (nat_lt (height m) n) _ h).1 i
 
-goal_lower : (g : Goal) (k : Name) → IsIn k (goal_names g) → height k < 10
-goal_lower goal.Drop k h = elim h [ ]
-goal_lower (goal.Direct on) k (inl e) = below k _ 10 e (omega arith)
-goal_lower (goal.Via hop) k (inl e) = below k _ 10 e (omega arith)
-goal_lower (goal.Group hops) k (inl e) = below k _ 10 e (omega arith)
-goal_lower (goal.Direct on) k (inr h) = elim h [ ]
-goal_lower (goal.Via hop) k (inr h) = elim h [ ]
-goal_lower (goal.Group hops) k (inr h) = elim h [ ]
+all_low : (t : Thing) → list_all (λ m. nat_lt (height m) (height (name_of t))) (thing_references t) ≡ true
+all_low (thing.Rif (base.Port lane)) = refl
+all_low (thing.Rif (base.Vlan vlan)) = refl
+all_low (thing.Route prefix goal.Drop) = refl
+all_low (thing.Route prefix (goal.Direct on)) = refl
+all_low (thing.Route prefix (goal.Via hop)) = refl
+all_low (thing.Route prefix (goal.Group hops)) = refl
+all_low _ = refl
 
 pub refers-lower : (t : Thing) (k : Name) → Refers t k → height k < height (name_of t)
-refers-lower (thing.BridgePort lane) k (inl e) = below k _ 2 e (omega arith)
-refers-lower (thing.VlanMember vlan lane tagging) k (inl e) = below k _ 3 e (omega arith)
-refers-lower (thing.VlanMember vlan lane tagging) k (inr (inl e)) = below k _ 3 e (omega arith)
-refers-lower (thing.Rif on) k (inl e) = below k _ 4 e (base_height on)
-refers-lower (thing.Neighbor hop mac) k (inl e) = below k _ 6 e (omega arith)
-refers-lower (thing.NextHop hop) k (inl e) = below k _ 7 e (omega arith)
-refers-lower (thing.NextHop hop) k (inr (inl e)) = below k _ 7 e (omega arith)
-refers-lower (thing.GroupMember hops hop) k (inl e) = below k _ 9 e (omega arith)
-refers-lower (thing.GroupMember hops hop) k (inr (inl e)) = below k _ 9 e (omega arith)
-refers-lower (thing.Route prefix g) k h = goal_lower g k h
-refers-lower (thing.BridgePort lane) k (inr h) = elim h [ ]
-refers-lower (thing.VlanMember vlan lane tagging) k (inr (inr h)) = elim h [ ]
-refers-lower (thing.Rif on) k (inr h) = elim h [ ]
-refers-lower (thing.Neighbor hop mac) k (inr h) = elim h [ ]
-refers-lower (thing.NextHop hop) k (inr (inr h)) = elim h [ ]
-refers-lower (thing.GroupMember hops hop) k (inr (inr h)) = elim h [ ]
-refers-lower (thing.Port p) k h = elim h [ ]
-refers-lower (thing.Vlan v) k h = elim h [ ]
-refers-lower (thing.Own ip) k h = elim h [ ]
-refers-lower (thing.Group hops) k h = elim h [ ]
+refers-lower t k r = low_enough (height (name_of t)) (thing_references t) k (all_low t) r
 
 height_most : (k : Name) → height k ≤ 10
-height_most (name.Port m) = omega arith
-height_most (name.Vlan m) = omega arith
-height_most (name.BridgePort m) = omega arith
-height_most (name.VlanMember m k) = omega arith
-height_most (name.Rif a) = omega arith
-height_most (name.Own a) = omega arith
-height_most (name.Neighbor a) = omega arith
-height_most (name.NextHop a) = omega arith
-height_most (name.Group a) = omega arith
-height_most (name.GroupMember a x) = omega arith
-height_most (name.Route a) = omega arith
+height_most (name.Route p) = omega arith
+height_most _ = omega arith
 
 -- ---- turns
 
@@ -85,16 +59,7 @@ remove_low _ less = refl
 -- what is made later than by this turn is no lower than this
 make_high : (k : Name) (n : ℕ) → IsGood k → n < height k → n < 10 → n < make_rank k
 make_high (name.Route p) n good less small = let len = len_within p good in omega (arith, len, small)
-make_high (name.Port m) n good less small = less
-make_high (name.Vlan m) n good less small = less
-make_high (name.BridgePort m) n good less small = less
-make_high (name.VlanMember m k) n good less small = less
-make_high (name.Rif a) n good less small = less
-make_high (name.Own a) n good less small = less
-make_high (name.Neighbor a) n good less small = less
-make_high (name.NextHop a) n good less small = less
-make_high (name.Group a) n good less small = less
-make_high (name.GroupMember a x) n good less small = less
+make_high _ n good less small = less
 
 set_high : (k : Name) (n : ℕ) → n < 10 → n < set_rank k
 set_high (name.Route p) n small = omega (arith, small)
@@ -106,16 +71,7 @@ set_most _ = omega arith
 
 remove_less : (k : Name) (n : ℕ) → IsGood k → n < height k → n < 10 → remove_rank k < 1400 - n
 remove_less (name.Route p) n good less small = let len = len_within p good in omega (arith, len, small)
-remove_less (name.Port m) n good less small = omega (arith, less)
-remove_less (name.Vlan m) n good less small = omega (arith, less)
-remove_less (name.BridgePort m) n good less small = omega (arith, less)
-remove_less (name.VlanMember m k) n good less small = omega (arith, less)
-remove_less (name.Rif a) n good less small = omega (arith, less)
-remove_less (name.Own a) n good less small = omega (arith, less)
-remove_less (name.Neighbor a) n good less small = omega (arith, less)
-remove_less (name.NextHop a) n good less small = omega (arith, less)
-remove_less (name.Group a) n good less small = omega (arith, less)
-remove_less (name.GroupMember a x) n good less small = omega (arith, less)
+remove_less _ n good less small = omega (arith, less)
 
 -- the numbers that an order needs: what is referred to is made before, and what refers is removed before
 pub record IsSafe (order : PlanChange → ℕ) : Type 0 where

@@ -1,5 +1,5 @@
 -- the calls of a plan, with the identifiers that they come to, make its changes
-use Rattle.std.proofs.Common.{◌≡◌, inl, inr, ◌⊎◌, ℕ, ◌+◌, ◌≤◌, ◌++◌, List, [], ◌∷◌, map, refl, sym, ap, ◌∙◌, subst, arith}
+use Rattle.std.proofs.Common.{◌≡◌, inl, inr, ℕ, ◌+◌, ◌≤◌, ◌++◌, true, List, [], ◌∷◌, map, Option, None, Some, refl, sym, ap, ◌∙◌, subst, arith}
 use Rattle.std.proofs.lemmas.List.{append-nil, map-append}
 use Rattle.sai_types.specs.declared.ids.Rid.{Rid}
 use Rattle.sai_types.specs.declared.ids.Vid.{Vid}
@@ -18,24 +18,81 @@ use Rattle.sai_types.specs.declared.thing.Goal.TheVariants as goal
 use Rattle.sai_types.specs.declared.thing.PortThing.{PortThing}
 use Rattle.sai_types.specs.declared.thing.Thing.{Thing}
 use Rattle.sai_types.specs.declared.thing.Thing.TheVariants as thing
-use Rattle.sai_types.specs.After.{after_calls, entry_of}
+use Rattle.sai_types.specs.After.{entry_of}
 use Rattle.sai_types.specs.Alike.{IsIn}
-use Rattle.sai_types.specs.Made.{made_after_all}
-use Rattle.sai_types.specs.Names.{name_of}
+use Rattle.sai_types.specs.Names.{Name, name_kind, name_of}
 use Rattle.sai_types.specs.Objects.{Objects}
-use Rattle.chip_layout.specs.Bodies.{IsBody, IsChange, first_name, goal_name, to_with}
-use Rattle.chip_layout.specs.Layout.{Has, Layout, RefersWell, has_number, with_changed}
+use Rattle.chip_layout.specs.Bodies.{IsAt, IsBody, IsChange, first_name, goal_name, is_numbered, second_name, to_with}
+use Rattle.chip_layout.specs.Layout.{Has, Layout, RefersWell, has_number, next_id, with_changed}
 use Rattle.chip_layout.specs.Renamed.{attr_renamed, body_renamed, call_renamed, entry_renamed, to_renamed}
-use Rattle.chip_layout.proofs.Bodies.{entry-body, first-numbered, first-refers}
+use Rattle.chip_layout.proofs.Bodies.{entry-body, first-numbered, first-refers, second-numbered, second-refers}
+use Rattle.chip_layout.proofs.Shapes.{renamed_with}
 use Rattle.plan_laws.specs.Calls.{PlansChange, PlansChanges, PlansSets, Resolves, old_entry, plan_layout, resolve}
 use Rattle.plan_laws.specs.Moments.{IsMoment, MakesChange, MakesChanges, SetsThing, attr_place, layout_after}
 use Rattle.plan_laws.specs.Plans.{PlanChange, Make, Remove, Set, subject}
 use Rattle.plan_laws.specs.Views.{HasRoomFor}
 use Rattle.plan_laws.proofs.Allowed.{IsSafePlan}
 use Rattle.plan_laws.proofs.Following.{before, due-in, origin, outcome-named}
-use Rattle.plan_laws.proofs.Resolving.{at-resolved, body-resolved, body-stood, resolves-first, resolves-next}
 use Rattle.plan_laws.proofs.Running.{IsEnd, allowed, end-append, joined, plan-step}
-use Rattle.plan_laws.proofs.Stepping.{IsAllowed, IsDone, IsPortName, first-place, is-port}
+use Rattle.plan_laws.proofs.Stepping.{IsAllowed, IsDone, first-place, is-port}
+
+-- ---- identifiers that the plan's come to
+
+module _ (start : Layout Rid) (view : Layout Vid) (ids : Vid → Rid) (now : Layout Rid) (resolves : Resolves start view ids now) where
+  -- what stands has the identifier that a plan names it by
+  has_resolved : (k : Name) (r : PlanId) → is_numbered (name_kind k) ≡ true → Has (plan_layout start view) k r → (j : Rid) → Has now k j → Has now k (resolve ids r)
+  has_resolved k (plan_id.Old i) n h j there = resolves.old k i (subst (λ z. Has start z i) h.2 h.1.1) j there
+  has_resolved k (plan_id.New v) n h j there = subst (λ z. Has now z (ids v)) h.2 (resolves.new v h.0 h.1.0 (ap (λ z. is_numbered (name_kind z)) h.2 ∙ n) h.1.1 j (subst (λ z. Has now z j) (sym h.2) there))
+
+  at_resolved : (o : Option Name) (r : PlanId) → ((k : Name) → o ≡ Some k → is_numbered (name_kind k) ≡ true) → ((k : Name) → o ≡ Some k → (j : Rid) × Has now k j) → IsAt (Has (plan_layout start view)) o r → IsAt (Has now) o (resolve ids r)
+  at_resolved None r n stand h = tt
+  at_resolved (Some k) r n stand h = let j = stand k refl in has_resolved k r (n k refl) h j.0 j.1
+
+  -- a body by a plan's identifiers comes to that of the same thing
+  body_resolved : (t : Thing) (b : Body PlanId) → RefersWell now t → IsBody (Has (plan_layout start view)) t b → IsBody (Has now) t (body_renamed (resolve ids) b)
+  body_resolved t b well x = record {
+    first = resolve ids x.first;
+    second = resolve ids x.second;
+    first_at = at_resolved (first_name t) x.first (first-numbered t) (λ k e. well k (first-refers t k e)) x.first_at;
+    second_at = at_resolved (second_name t) x.second (second-numbered t) (λ k e. well k (second-refers t k e)) x.second_at;
+    body_is = ap (body_renamed (resolve ids)) x.body_is ∙ renamed_with (resolve ids) t x.first x.second;
+  }
+
+  at_stood : (o : Option Name) (i j : Rid) → IsAt (Has start) o i → IsAt (Has now) o j → IsAt (Has now) o i
+  at_stood None i j x y = tt
+  at_stood (Some k) i j x y = resolves.old k i x j y
+
+  -- a body that an old thing had is the one that it has
+  body_stood : (t : Thing) (b d : Body Rid) → IsBody (Has start) t b → IsBody (Has now) t d → IsBody (Has now) t b
+  body_stood t b d x y = record {
+    first = x.first;
+    second = x.second;
+    first_at = at_stood (first_name t) x.first y.first x.first_at y.first_at;
+    second_at = at_stood (second_name t) x.second y.second x.second_at y.second_at;
+    body_is = x.body_is;
+  }
+
+-- before the plan
+pub resolves-first : (start : Layout Rid) (view : Layout Vid) (ids : Vid → Rid) → Resolves start view ids start
+resolves-first start view ids = record {
+  old = λ k i h j there. h;
+  new = λ v t h n none j there. absurd (none j there);
+}
+
+-- and after each change, where what is made has the identifier that was made for it
+pub resolves-next : {old : List Thing} {done : List PlanChange} {layout : Layout Rid} {made : ℕ} {objects : Objects} (at : IsMoment old done layout made objects) (capacities : List ℕ) (c : PlanChange) (calls : List (Call Rid)) (later : Layout Rid) → IsDone at capacities c calls later → (start : Layout Rid) (view : Layout Vid) (ids : Vid → Rid) → ((t : Thing) → c ≡ Make t → ((i : Rid) → Has start (name_of t) i → ⊥) × ((v : Vid) (u : Thing) → view v u → name_of u ≡ name_of t → has_number u ≡ true → ids v ≡ next_id made)) → Resolves start view ids layout → Resolves start view ids later
+resolves-next at capacities c calls later is start view ids makes before = record {
+  old = λ k i h j there. elim (is.fresh k j there) [
+    | inl stood ↦ is.keeps k i (before.old k i h stood.0 stood.1) j there
+    | inr new ↦ absurd ((makes new.0 new.1).0 i (subst (λ z. Has start z i) (sym new.2) h))
+  ];
+  new = λ v t h n none j there. elim (is.fresh (name_of t) j there) [
+    | inl stood ↦ is.keeps (name_of t) (ids v) (before.new v t h n none stood.0 stood.1) j there
+    | inr new ↦ subst (Has later (name_of t)) (sym ((makes new.0 new.1).1 v t h (sym new.2) n)) new.3
+  ];
+}
+
+-- ---- calls
 
 entry_back : (ids : Vid → Rid) (e : Entry Rid) → entry_renamed (resolve ids) (old_entry e) ≡ e
 entry_back ids (entry.Oid r) = refl
@@ -73,7 +130,7 @@ module _ (start : Layout Rid) (view : Layout Vid) (ids : Vid → Rid) where
   change_resolved now r (thing.Route p g) (attr.To x) v well h = (
     h.0,
     f h.1,
-    at-resolved start view ids now r (goal_name h.0) h.1 (first-numbered (thing.Route p h.0)) (λ k e. well k (first-refers v k (ap first_name h.4 ∙ e))) h.2,
+    at_resolved start view ids now r (goal_name h.0) h.1 (first-numbered (thing.Route p h.0)) (λ k e. well k (first-refers v k (ap first_name h.4 ∙ e))) h.2,
     ap (to_renamed f) h.3 ∙ to_resolved f h.0 h.1,
     h.4,
   )
@@ -136,25 +193,31 @@ module _ (start : Layout Rid) (view : Layout Vid) (ids : Vid → Rid) where
             | inr o ↦ absurd ((before p.is_plan done (c ∷ due) cut o.0 c o.1 (inl refl)).1 (sym (outcome-named o.0 w o.2) ∙ e))
           ]
 
-      still : (i : Rid) (u : Thing) → start i u → name_of u ≡ subject c → (j : Rid) → Has layout (subject c) j → layout i u
+      pub still : (i : Rid) (u : Thing) → start i u → name_of u ≡ subject c → (j : Rid) → Has layout (subject c) j → layout i u
       still i u h e j has =
           let now = r.old (subject c) i (u, h, e) j has in
           let same : now.0 ≡ u = p.old_named.one now.0 u (untouched i now.0 now.1 now.2) (first.sound i u h) (now.2 ∙ sym e) in
           subst (layout i) same now.1
 
-      still_body : (i : Rid) (u : Thing) (b : Body Rid) → layout i u → IsBody (Has start) u b → IsBody (Has layout) u b
-      still_body i u b h of = let has = at.laid.stand i u h in body-stood start view ids layout r u b has.0 of has.1
+      pub still-body : (i : Rid) (u : Thing) (b : Body Rid) → layout i u → IsBody (Has start) u b → IsBody (Has layout) u b
+      still-body i u b h of = let has = at.laid.stand i u h in body_stood start view ids layout r u b has.0 of has.1
+
+      -- a thing that is to be made has no identifier at the start
+      pub none-before : (t : Thing) → c ≡ Make t → (i : Rid) → Has start (name_of t) i → ⊥
+      none-before t e i has =
+          let there : IsIn (Make t) plan = due-in p.is_plan done (c ∷ due) cut (Make t) (inl (sym e)) in
+          (p.is_plan.makes t there).1 has.0 (first.sound i has.0 has.1) has.2
 
     calls_of : (done due : List PlanChange) (c : PlanChange) → plan ≡ done ++ (c ∷ due) → {layout : Layout Rid} {made : ℕ} {objects : Objects} → IsMoment old done layout made objects → Resolves start view ids layout → (calls : List (Call PlanId)) → PlansChange start view c calls → MakesChange layout c (resolved calls)
-    calls_of done due (Make t) cut {layout} at r calls is = (body_renamed f is.0, body-resolved start view ids layout r t is.0 (may done due (Make t) cut at r).1 is.1, ap resolved is.2)
+    calls_of done due (Make t) cut {layout} at r calls is = (body_renamed f is.0, body_resolved start view ids layout r t is.0 (may done due (Make t) cut at r).1 is.1, ap resolved is.2)
     calls_of done due (Remove k) cut at r calls is =
         let ok = may done due (Remove k) cut at r in
         let there = still done due (Remove k) cut at r is.0 is.1 is.3 is.4 ok.0.0 ok.0.1 in
-        (is.0, is.1, is.2, there, is.4, still_body done due (Remove k) cut at r is.0 is.1 is.2 there is.5, ap resolved is.6 ∙ ap (λ e. call.Remove e ∷ []) (entry_back ids (entry_of is.0.0 is.2)))
+        (is.0, is.1, is.2, there, is.4, still-body done due (Remove k) cut at r is.0 is.1 is.2 there is.5, ap resolved is.6 ∙ ap (λ e. call.Remove e ∷ []) (entry_back ids (entry_of is.0.0 is.2)))
     calls_of done due (Set t) cut {layout} at r calls is =
         let ok = may done due (Set t) cut at r in
         let there = still done due (Set t) cut at r is.0 is.1 is.3 is.4 ok.0.0 ok.0.1 in
-        (is.0, is.1, there, is.4, sets_resolved layout r is.0 is.1 t is.2 calls (still_body done due (Set t) cut at r is.0 is.1 is.2 there is.5) ok.1 is.6)
+        (is.0, is.1, there, is.4, sets_resolved layout r is.0 is.1 t is.2 calls (still-body done due (Set t) cut at r is.0 is.1 is.2 there is.5) ok.1 is.6)
 
     module _ (capacities : List ℕ) (room : HasRoomFor capacities objects' plan) where
       -- the calls make the changes, and lead to a moment at which what stands has the identifiers that the plan's come to
@@ -174,7 +237,7 @@ module _ (start : Layout Rid) (view : Layout Vid) (ids : Vid → Rid) where
           let front = run.0 in
           let these = calls_of done (cs ++ due) c cut at r front run.3 in
           let step = plan-step p first capacities room done (cs ++ due) at c cut (resolved front) these in
-          let r' = resolves-next at capacities c (resolved front) (layout_after made layout c) step start view ids (λ t e. (none t e, run.4 t e)) r in
+          let r' = resolves-next at capacities c (resolved front) (layout_after made layout c) step start view ids (λ t e. (none-before done (cs ++ due) c cut at r t e, run.4 t e)) r in
           let rest = called_from cs due (done ++ (c ∷ [])) (cut ∙ joined done c (cs ++ due)) step.next r' run.1 run.5 in
           let whole : resolved calls ≡ resolved front ++ resolved run.1 = ap resolved run.2 ∙ map-append (call_renamed f) front run.1 in
           subst (IsCalled done (c ∷ cs) made objects layout) (sym whole) (record {
@@ -182,11 +245,6 @@ module _ (start : Layout Rid) (view : Layout Vid) (ids : Vid → Rid) where
             end = end-append capacities old _ _ made objects (resolved front) (resolved run.1) (sym (joined done c cs)) step.legal rest.end;
             resolves = rest.resolves;
           })
-        where
-          none : (t : Thing) → c ≡ Make t → (i : Rid) → Has start (name_of t) i → ⊥
-          none t e i has =
-              let there : IsIn (Make t) plan = due-in p.is_plan done (c ∷ (cs ++ due)) cut (Make t) (inl (sym e)) in
-              (p.is_plan.makes t there).1 has.0 (first.sound i has.0 has.1) has.2
 
       pub plan-called : (todo due : List PlanChange) → plan ≡ todo ++ due → (calls : List (Call PlanId)) → PlansChanges start view ids made' todo calls → IsCalled [] todo made' objects' start (resolved calls)
       plan-called todo due cut calls run = called_from todo due [] cut first (resolves-first start view ids) calls run

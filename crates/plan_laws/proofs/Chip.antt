@@ -1,5 +1,5 @@
 -- what a chip shows while a hitless plan is made, and that it is steady
-use Rattle.std.proofs.Common.{◌≡◌, inl, inr, ℕ, ◌++◌, List, [], ◌∷◌, map, Some, refl, sym, ap, ◌∙◌, subst}
+use Rattle.std.proofs.Common.{◌≡◌, inl, inr, ℕ, ◌++◌, List, [], map, Some, refl, sym, ap, ◌∙◌, subst}
 use Rattle.std.proofs.lemmas.List.{append_assoc}
 use Rattle.swss_types.specs.Address.{IsProperPrefix}
 use Rattle.swss_types.specs.declared.address.Ip.{Ip}
@@ -17,10 +17,10 @@ use Rattle.sai_types.specs.Names.{Name, name_of}
 use Rattle.sai_types.specs.Objects.{Objects}
 use Rattle.chip_layout.specs.Layout.{Layout}
 use Rattle.plan_laws.specs.Applied.{chip_things}
-use Rattle.plan_laws.specs.Plans.{PlanChange, IsViewPlan, Make, Remove, Set, after_change, after_changes, hitless_rank, outcome}
+use Rattle.plan_laws.specs.Plans.{PlanChange, IsViewPlan, Remove, after_changes, hitless_rank, outcome}
 use Rattle.plan_laws.specs.Steady.{ForwardsAfter, IsForwarding, IsHitless, IsOldOrNew, StaysNew}
 use Rattle.plan_laws.specs.Views.{AreNamed}
-use Rattle.plan_laws.proofs.Following.{done-in, outcome-new}
+use Rattle.plan_laws.proofs.Following.{IsUntouched, done-in, done-stands, origin, outcome-new, still}
 use Rattle.plan_laws.proofs.Lists.{in-map, map-in}
 use Rattle.plan_laws.proofs.Macs.{either, hitless, kept}
 use Rattle.plan_laws.proofs.Shown.{AreTargets, real_goal, real_route, shown-all, shown-sound}
@@ -40,26 +40,6 @@ module _ (hops_of : List Hop → List Hop) where
   real_name : (t : Thing) → name_of (real t) ≡ name_of t
   real_name (thing.Route p g) = refl
   real_name _ = refl
-
-  abbrev AreReal : List PlanChange → Type 0
-  AreReal cs = (c : PlanChange) (t : Thing) → IsIn c cs → outcome c ≡ Some t → real t ≡ t
-
-  real_after : (cs : List PlanChange) (now later : Thing → Type 0) → AreReal cs → ((t : Thing) → now t → later (real t)) → (t : Thing) → after_changes cs now t → after_changes cs later (real t)
-  real_after [] now later fixed to t h = to t h
-  real_after (c ∷ cs) now later fixed to t h =
-      real_after cs (after_change c now) (after_change c later) (λ d u i. fixed d u (inr i))
-      (λ u i. elim i [ inl old ↦ inl (to u old.0, λ same. old.1 (sym (real_name u) ∙ same)) | inr o ↦ inr (o ∙ ap Some (sym (fixed c u (inl refl) o))) ])
-      t h
-
-  after_real : (cs : List PlanChange) (now later : Thing → Type 0) → AreReal cs → ((u : Thing) → later u → (t : Thing) × now t × (real t ≡ u)) → (u : Thing) → after_changes cs later u → (t : Thing) × after_changes cs now t × (real t ≡ u)
-  after_real [] now later fixed back u h = back u h
-  after_real (c ∷ cs) now later fixed back u h =
-      after_real cs (after_change c now) (after_change c later) (λ d v i. fixed d v (inr i))
-      (λ v i. elim i [
-        | inl old ↦ let x = back v old.0 in (x.0, inl (x.1, λ same. old.1 (sym (ap name_of x.2) ∙ real_name x.0 ∙ same)), x.2)
-        | inr o ↦ (v, inr o, fixed c v (inl refl) o)
-      ])
-      u h
 
   goal_fixed : (p : Prefix) (g : Goal) (new : List Thing) → ((hops : List Hop) → IsIn (thing.Group hops) new → hops_of hops ≡ hops) → ((tag : List Hop) → IsIn (thing.Route p (goal.Group tag)) new → IsIn (thing.Group tag) new) → IsIn (thing.Route p g) new → real_goal hops_of g ≡ g
   goal_fixed p goal.Drop new same there i = refl
@@ -114,18 +94,36 @@ module _ {hops_of : List Hop → List Hop} {old new : List Thing} {plan : List P
       only = λ j tag hop h. member-only q done due cut tag hop (at.sound j _ (λ x. x) h);
     }
 
-    fixed : AreReal hops_of done
-    fixed c t i o = new_real t (outcome-new q.safe.is_plan c t (done-in q.safe.is_plan done due cut c i) o)
+    comes : (c : PlanChange) (t : Thing) → IsIn c done → outcome c ≡ Some t → real hops_of t ≡ t
+    comes c t i o = new_real t (outcome-new q.safe.is_plan c t (done-in q.safe.is_plan done due cut c i) o)
+
+    -- what stands after changes of what the chip showed is what stands after them of the things with tags
+    real_after : (t : Thing) → after_changes done (λ u. IsIn u old) t → after_changes done (λ u. IsIn u shown) (real hops_of t)
+    real_after t h =
+        elim (origin done (λ u. IsIn u old) t h) [
+          | inl there ↦ still done (λ u. IsIn u shown) (real hops_of t) (subst (IsUntouched done) (sym (real_name hops_of t)) there.1) (in_shown t there.0)
+          | inr c ↦ subst (after_changes done (λ u. IsIn u shown)) (sym (comes c.0 t c.1 c.2)) (done-stands shown_plan done due cut c.0 t c.1 c.2)
+        ]
+
+    after_real : (t : Thing) → after_changes done (λ u. IsIn u shown) t → (u : Thing) × after_changes done (λ u. IsIn u old) u × (real hops_of u ≡ t)
+    after_real t h =
+        elim (origin done (λ u. IsIn u shown) t h) [
+          | inl there ↦ let u = shown_in t there.0 in (u.0, still done (λ u. IsIn u old) u.0 (subst (IsUntouched done) (sym u.3) there.1) u.1, u.2)
+          | inr c ↦ (t, done-stands q.safe.is_plan done due cut c.0 t c.1 c.2, comes c.0 t c.1 c.2)
+        ]
+
+    forwards : (u t : Thing) → real hops_of u ≡ t → IsForwarding (name_of t) → IsForwarding (name_of u)
+    forwards u t e = subst IsForwarding (sym (ap name_of e) ∙ real_name hops_of u)
 
     -- what a chip shows at a moment is what stands after these changes of what it showed
     shown_stands : ForwardsAfter shown done (chip_things objects)
     shown_stands = record {
       sound = λ t fw i.
           let x = shown-sound layout objects at.laid made at.whole hops_of targets t fw i in
-          subst (after_changes done (λ u. IsIn u shown)) x.3 (real_after hops_of done (λ u. IsIn u old) (λ u. IsIn u shown) fixed in_shown x.1 (at.sound x.0 x.1 (no_port (name_of x.1) (subst IsForwarding (sym (ap name_of x.3) ∙ real_name hops_of x.1) fw)) x.2));
+          subst (after_changes done (λ u. IsIn u shown)) x.3 (real_after x.1 (at.sound x.0 x.1 (no_port (name_of x.1) (forwards x.1 t x.3 fw)) x.2));
       all = λ t fw h.
-          let x = after_real hops_of done (λ u. IsIn u old) (λ u. IsIn u shown) fixed (λ u j. let m = shown_in u j in (m.0, m.1, m.2)) t h in
-          let fw' : IsForwarding (name_of x.0) = subst IsForwarding (sym (ap name_of x.2) ∙ real_name hops_of x.0) fw in
+          let x = after_real t h in
+          let fw' = forwards x.0 t x.2 fw in
           let j = at.all x.0 (no_port (name_of x.0) fw') x.1 in
           subst (λ z. IsIn z (chip_things objects)) x.2 (shown-all layout objects at.laid made at.whole hops_of targets j.0 x.0 j.1 fw');
     }

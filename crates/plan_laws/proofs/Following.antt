@@ -56,7 +56,7 @@ origin (c ∷ cs) now t h =
 abbrev pub IsNamed : (Thing → Type 0) → Name → Type 0
 IsNamed now k = (t : Thing) × now t × (name_of t ≡ k)
 
-in_order-left : (order : PlanChange → ℕ) (xs ys : List PlanChange) → AreInOrder order (xs ++ ys) → AreInOrder order xs
+pub in_order-left : (order : PlanChange → ℕ) (xs ys : List PlanChange) → AreInOrder order (xs ++ ys) → AreInOrder order xs
 in_order-left order [] ys up = tt
 in_order-left order (x ∷ xs) ys up = (λ d i. up.0 d (in-left d xs ys i), in_order-left order xs ys up.1)
 

@@ -3,13 +3,16 @@ pub mod Applied
 pub mod Calling
 pub mod Chip
 pub mod Cold
+pub mod Counts
 pub mod Deciders
+pub mod Doubles
 pub mod Following
+pub mod Keeping
 pub mod Lists
 pub mod Macs
 pub mod Moving
 pub mod Named
-pub mod Resolving
+pub mod Picked
 pub mod Rooms
 pub mod Running
 pub mod Shown
@@ -17,3 +20,4 @@ pub mod Starting
 pub mod Stepping
 pub mod Tagging
 pub mod Targets
+pub mod Worked

@@ -1,59 +1,41 @@
 -- there is room for what a plan makes, where the new things fit
-use Rattle.std.proofs.Common.{◌≡◌, inl, inr, ℕ, ◌+◌, ◌≤◌, ◌==◌, Bool, true, false, cond, ◌++◌, List, [], ◌∷◌, length, Some, refl, sym, ap, ◌∙◌, subst, arith}
+use Rattle.std.proofs.Common.{◌≡◌, inl, inr, ℕ, ◌+◌, ◌≤◌, ◌==◌, Bool, true, false, cond, ◌++◌, List, [], ◌∷◌, length, map, None, Some, refl, sym, ap, ◌∙◌, subst, arith}
 use Rattle.std.proofs.lemmas.Bool.{eq-eqb, eqb-true, lt-leb}
-use Rattle.std.proofs.lemmas.List.{length-append}
+use Rattle.std.proofs.lemmas.List.{append-nil, length-append}
+use Rattle.std.proofs.lemmas.Option.{same_Some}
 use Rattle.sai_types.specs.declared.ids.Rid.{Rid}
 use Rattle.sai_types.specs.declared.kind.Kind.{Kind}
 use Rattle.sai_types.specs.declared.thing.Thing.{Thing}
 use Rattle.sai_types.specs.Alike.{IsIn}
+use Rattle.sai_types.specs.Named.{those}
 use Rattle.sai_types.specs.Names.{Name, name_kind, name_of}
 use Rattle.sai_types.specs.Objects.{Objects, level, used}
 use Rattle.sai_types.specs.Refusal.{capacity_of}
-use Rattle.chip_layout.specs.Counted.{AreDistinct, IsOfKind}
+use Rattle.chip_layout.specs.Counted.{IsOfKind}
 use Rattle.chip_layout.specs.Layout.{HasRoom, Layout}
 use Rattle.chip_layout.proofs.Counting.{counted, used-at-most}
 use Rattle.plan_laws.specs.Moments.{IsMoment}
-use Rattle.plan_laws.specs.Plans.{AreInOrder, PlanChange, IsViewPlan, Make, Remove, Set, outcome}
-use Rattle.plan_laws.specs.Views.{AreLacking, FitsHitless, HasRoomFor, made_names}
-use Rattle.plan_laws.proofs.Following.{done-in, origin}
+use Rattle.plan_laws.specs.Plans.{AreInOrder, PlanChange, IsViewPlan, Make, Remove, Set, outcome, subject}
+use Rattle.plan_laws.specs.Views.{AreLacking, FitsHitless, HasRoomFor, made_name, made_names}
+use Rattle.plan_laws.proofs.Following.{done-in, in_order-left, origin}
 use Rattle.plan_laws.proofs.Lists.{in-left, in-right}
+use Rattle.plan_laws.proofs.Picked.{in-picked, picked-distinct, picked-in, picked-length}
 
-abbrev IsOf : Kind → Name → Type 0
-IsOf kind k = level (name_kind k) ≡ level kind
+by_kind : (b : Bool) (k m : Name) → cond b (Some k) None ≡ Some m → (b ≡ true) × (k ≡ m)
+by_kind true k m e = (refl, same_Some k m e)
+by_kind false k m e = absurd cc
 
-more_by : (b : Bool) (k : Name) (m n : List Name) (h : ℕ) → length m + h ≤ length n → length (cond b (k ∷ m) m) + h ≤ length (cond b (k ∷ n) n)
-more_by true k m n h less = omega (arith, less)
-more_by false k m n h less = less
+of_kind : (kind : Kind) (t : Thing) → level (name_kind (name_of t)) ≡ level kind → made_name kind (Make t) ≡ Some (name_of t)
+of_kind kind t of = ap (λ b. cond b (Some (name_of t)) None) (eq-eqb _ _ of)
 
-one_more : (b : Bool) (k : Name) (m : List Name) → b ≡ true → 1 ≤ length (cond b (k ∷ m) m)
-one_more true k m h = omega arith
-one_more false k m h = absurd cc
+-- a name that changes make is that of a thing that they make
+is_made : (kind : Kind) (c : PlanChange) (k : Name) → made_name kind c ≡ Some k → (t : Thing) × (c ≡ Make t) × (name_of t ≡ k) × (level (name_kind k) ≡ level kind)
+is_made kind (Make t) k e = let x = by_kind (level (name_kind (name_of t)) == level kind) (name_of t) k e in (t, refl, x.1, ap (λ z. level (name_kind z)) (sym x.1) ∙ eqb-true _ _ x.0)
+is_made kind (Set t) k e = absurd cc
+is_made kind (Remove m) k e = absurd cc
 
--- a change that makes a name makes one more than the changes before it
-made_more : (kind : Kind) (t : Thing) (xs ys : List PlanChange) → IsOf kind (name_of t) → length (made_names kind xs) + 1 ≤ length (made_names kind (xs ++ (Make t ∷ ys)))
-made_more kind t [] ys of = one_more (level (name_kind (name_of t)) == level kind) (name_of t) (made_names kind ys) (eq-eqb _ _ of)
-made_more kind t (Make u ∷ xs) ys of = more_by (level (name_kind (name_of u)) == level kind) (name_of u) (made_names kind xs) (made_names kind (xs ++ (Make t ∷ ys))) 1 (made_more kind t xs ys of)
-made_more kind t (Set u ∷ xs) ys of = made_more kind t xs ys of
-made_more kind t (Remove k ∷ xs) ys of = made_more kind t xs ys of
-
-in_by : (b : Bool) (k m : Name) (ms : List Name) → IsIn k ms → IsIn k (cond b (m ∷ ms) ms)
-in_by true k m ms i = inr i
-in_by false k m ms i = i
-
-in_here : (b : Bool) (k : Name) (ms : List Name) → b ≡ true → IsIn k (cond b (k ∷ ms) ms)
-in_here true k ms h = inl refl
-in_here false k ms h = absurd cc
-
-made_in : (kind : Kind) (t : Thing) (cs : List PlanChange) → IsIn (Make t) cs → IsOf kind (name_of t) → IsIn (name_of t) (made_names kind cs)
-made_in kind t [] i of = elim i [ ]
-made_in kind t (Make u ∷ cs) (inl is) of =
-    let same : u ≡ t = cc in
-    subst (λ z. IsIn (name_of t) (made_names kind (Make z ∷ cs))) (sym same) (in_here (level (name_kind (name_of t)) == level kind) (name_of t) (made_names kind cs) (eq-eqb _ _ of))
-made_in kind t (Make u ∷ cs) (inr i) of = in_by (level (name_kind (name_of u)) == level kind) (name_of t) (name_of u) (made_names kind cs) (made_in kind t cs i of)
-made_in kind t (Set u ∷ cs) (inl is) of = absurd cc
-made_in kind t (Set u ∷ cs) (inr i) of = made_in kind t cs i of
-made_in kind t (Remove k ∷ cs) (inl is) of = absurd cc
-made_in kind t (Remove k ∷ cs) (inr i) of = made_in kind t cs i of
+made_subject : (kind : Kind) (c : PlanChange) (k : Name) → made_name kind c ≡ Some k → subject c ≡ k
+made_subject kind c k e = let x = is_made kind c k e in ap subject x.1 ∙ x.2
 
 -- there is room for the next change of a plan that there was room for
 module _ {order : PlanChange → ℕ} {old new : List Thing} {plan : List PlanChange} (is_plan : IsViewPlan order old new plan) (done due : List PlanChange) (t : Thing) (cut : plan ≡ done ++ (Make t ∷ due)) {start layout : Layout Rid} {made' made : ℕ} {objects' objects : Objects} (first : IsMoment old [] start made' objects') (at : IsMoment old done layout made objects) where
@@ -67,7 +49,7 @@ module _ {order : PlanChange → ℕ} {old new : List Thing} {plan : List PlanCh
     of_change : (c : PlanChange) (u : Thing) (k : Name) → IsIn c done → outcome c ≡ Some u → name_of u ≡ k → level (name_kind k) ≡ level its_kind → IsIn k (names ++ made_names its_kind done)
     of_change (Make v) u k i o same of =
         let is : v ≡ u = cc in
-        in-right k names (made_names its_kind done) (subst (λ m. IsIn m (made_names its_kind done)) (ap name_of is ∙ same) (made_in its_kind v done i (ap (λ m. level (name_kind m)) (ap name_of is ∙ same) ∙ of)))
+        in-right k names (made_names its_kind done) (subst (λ m. IsIn m (made_names its_kind done)) (ap name_of is ∙ same) (picked-in (made_name its_kind) done (Make v) (name_of v) i (of_kind its_kind v (ap (λ m. level (name_kind m)) (ap name_of is ∙ same) ∙ of))))
     of_change (Set v) u k i o same of =
         let is : v ≡ u = cc in
         let has = is_plan.sets v (done-in is_plan done (Make t ∷ due) cut (Set v) i) in
@@ -87,54 +69,27 @@ module _ {order : PlanChange → ℕ} {old new : List Thing} {plan : List PlanCh
       let bound = used-at-most layout objects at.laid its_kind made at.whole (these.0 ++ made_names its_kind done) (among these.0 these.1.all) in
       let sum = length-append these.0 (made_names its_kind done) in
       let count = these.2 in
-      let more = made_more its_kind t done due refl in
+      let more = picked-length (made_name its_kind) done (Make t ∷ due) in
+      let one : 1 ≤ length (made_names its_kind (Make t ∷ due)) = subst (λ o. 1 ≤ length (those (o ∷ map (made_name its_kind) due))) (sym (of_kind its_kind t refl)) (omega arith) in
       let fits : used objects' its_kind + length (made_names its_kind (done ++ (Make t ∷ due))) ≤ capacity_of capacities its_kind = subst (λ p. used objects' its_kind + length (made_names its_kind p) ≤ capacity_of capacities its_kind) cut (room its_kind) in
-      lt-leb _ _ (omega (arith, bound, sum, count, more, fits))
+      lt-leb _ _ (omega (arith, bound, sum, count, more, one, fits))
 
 -- ---- what a plan makes
 
-record IsMade (kind : Kind) (cs : List PlanChange) (k : Name) : Type 0 where
-  pub thing : Thing
-  pub there : IsIn (Make thing) cs
-  pub named : name_of thing ≡ k
-  pub of : level (name_kind k) ≡ level kind
+module _ {order : PlanChange → ℕ} {old new : List Thing} {plan : List PlanChange} (is_plan : IsViewPlan order old new plan) where
+  -- what the first changes make of a kind has names that no old thing has, each once
+  pub made-lacking : (done due : List PlanChange) → plan ≡ done ++ due → (kind : Kind) → AreLacking old new kind (made_names kind done)
+  made-lacking done due cut kind = record {
+    distinct = picked-distinct (made_name kind) (made_subject kind) order done (in_order-left order done due (subst (AreInOrder order) cut is_plan.in_order));
+    each = λ k i.
+        let c = in-picked (made_name kind) done k i in
+        let m = is_made kind c.0 k c.2 in
+        let has = is_plan.makes m.0 (subst (λ d. IsIn d plan) m.1 (done-in is_plan done due cut c.0 c.1)) in
+        (m.3, m.0, has.0, m.2, λ u j e. has.1 u j (e ∙ sym m.2));
+  }
 
-behind : (kind : Kind) (c : PlanChange) (cs : List PlanChange) (k : Name) → IsMade kind cs k → IsMade kind (c ∷ cs) k
-behind kind c cs k m = record { thing = m.thing; there = inr m.there; named = m.named; of = m.of }
+  pub makes-lacking : (kind : Kind) → AreLacking old new kind (made_names kind plan)
+  makes-lacking = made-lacking plan [] (sym (append-nil plan))
 
-made_by : (b : Bool) (kind : Kind) (t : Thing) (cs : List PlanChange) (k : Name) → (level (name_kind (name_of t)) == level kind) ≡ b → IsIn k (cond b (name_of t ∷ made_names kind cs) (made_names kind cs)) → (IsIn k (made_names kind cs) → IsMade kind cs k) → IsMade kind (Make t ∷ cs) k
-made_by true kind t cs k e (inl is) f = record { thing = t; there = inl refl; named = sym is; of = ap (λ z. level (name_kind z)) is ∙ eqb-true _ _ e }
-made_by true kind t cs k e (inr i) f = behind kind (Make t) cs k (f i)
-made_by false kind t cs k e i f = behind kind (Make t) cs k (f i)
-
-in_made : (kind : Kind) (cs : List PlanChange) (k : Name) → IsIn k (made_names kind cs) → IsMade kind cs k
-in_made kind [] k i = elim i [ ]
-in_made kind (Make t ∷ cs) k i = made_by (level (name_kind (name_of t)) == level kind) kind t cs k refl i (in_made kind cs k)
-in_made kind (Set t ∷ cs) k i = behind kind (Set t) cs k (in_made kind cs k i)
-in_made kind (Remove m ∷ cs) k i = behind kind (Remove m) cs k (in_made kind cs k i)
-
-distinct_by : (b : Bool) (k : Name) (names : List Name) → (IsIn k names → ⊥) → AreDistinct names → AreDistinct (cond b (k ∷ names) names)
-distinct_by true k names apart d = (apart, d)
-distinct_by false k names apart d = d
-
-made_distinct : (order : PlanChange → ℕ) (kind : Kind) (cs : List PlanChange) → AreInOrder order cs → AreDistinct (made_names kind cs)
-made_distinct order kind [] o = tt
-made_distinct order kind (Make t ∷ cs) o =
-    distinct_by (level (name_kind (name_of t)) == level kind) (name_of t) (made_names kind cs)
-    (λ i. let m = in_made kind cs (name_of t) i in (o.0 (Make m.thing) m.there).1 (sym m.named))
-    (made_distinct order kind cs o.1)
-made_distinct order kind (Set t ∷ cs) o = made_distinct order kind cs o.1
-made_distinct order kind (Remove k ∷ cs) o = made_distinct order kind cs o.1
-
--- what a plan makes of a kind has names that no old thing has, each once
-pub makes-lacking : {order : PlanChange → ℕ} {old new : List Thing} {plan : List PlanChange} → IsViewPlan order old new plan → (kind : Kind) → AreLacking old new kind (made_names kind plan)
-makes-lacking {order = order} {old = old} {new = new} {plan = plan} is kind = record {
-  distinct = made_distinct order kind plan is.in_order;
-  each = λ k i.
-      let m = in_made kind plan k i in
-      let has = is.makes m.thing m.there in
-      (m.of, m.thing, has.0, m.named, λ u j e. has.1 u j (e ∙ sym m.named));
-}
-
-pub fits-room : {order : PlanChange → ℕ} {old new : List Thing} {plan : List PlanChange} → IsViewPlan order old new plan → (capacities : List ℕ) (objects : Objects) → FitsHitless capacities objects old new → HasRoomFor capacities objects plan
-fits-room {plan = plan} is capacities objects fits kind = fits kind (made_names kind plan) (makes-lacking is kind)
+  pub fits-room : (capacities : List ℕ) (objects : Objects) → FitsHitless capacities objects old new → HasRoomFor capacities objects plan
+  fits-room capacities objects fits kind = fits kind (made_names kind plan) (makes-lacking kind)

@@ -1,5 +1,5 @@
 -- a plan's changes, made on the chip one after another
-use Rattle.std.proofs.Common.{◌≡◌, inl, inr, ◌⊎◌, ℕ, ◌+◌, ◌++◌, List, [], ◌∷◌, refl, sym, ap, ap₂, ◌∙◌, subst}
+use Rattle.std.proofs.Common.{◌≡◌, inl, inr, ◌⊎◌, ℕ, ◌+◌, ◌++◌, List, [], ◌∷◌, refl, sym, ap, ◌∙◌, subst}
 use Rattle.std.proofs.lemmas.List.{append-nil, append_assoc}
 use Rattle.sai_types.specs.declared.ids.Rid.{Rid}
 use Rattle.sai_types.specs.declared.body.Call.{Call}
@@ -13,7 +13,7 @@ use Rattle.sai_types.specs.Objects.{Objects}
 use Rattle.chip_layout.specs.Layout.{Has, IsUnused, Layout, next_id, with_changed, with_thing, without}
 use Rattle.chip_layout.proofs.Naming.{alike-laid}
 use Rattle.plan_laws.specs.Moments.{IsMoment, MakesChange, MakesChanges, SetsThing, layout_after}
-use Rattle.plan_laws.specs.Plans.{PlanChange, IsViewPlan, Make, Remove, Set, after_changes}
+use Rattle.plan_laws.specs.Plans.{PlanChange, Make, Remove, Set, after_changes}
 use Rattle.plan_laws.specs.Views.{HasRoomFor, HaveWholeGroups}
 use Rattle.plan_laws.proofs.Allowed.{IsSafePlan, ends-new, make-free, make-refers, new-ends, remove-there, remove-unused, set-refers, set-there}
 use Rattle.plan_laws.proofs.Following.{IsNamed}
@@ -43,8 +43,8 @@ one_cut (y ∷ []) [] x e = let head : y ≡ x = cc in inr (ap (λ z. z ∷ []) 
 one_cut (y ∷ []) (z ∷ m) x e = absurd cc
 one_cut (y ∷ (z ∷ xs)) m x e = absurd cc
 
-pub moment_same : (old : List Thing) (d e : List PlanChange) (l : Layout Rid) (m n : ℕ) (o p : Objects) → d ≡ e → m ≡ n → o ≡ p → IsMoment old d l m o → IsMoment old e l n p
-moment_same old d e l m n o p x y z at = subst (λ q. IsMoment old e l n q) z (subst (λ q. IsMoment old e l q o) y (subst (λ q. IsMoment old q l m o) x at))
+pub moment-same : (old : List Thing) (d e : List PlanChange) (l : Layout Rid) (m n : ℕ) (o p : Objects) → d ≡ e → m ≡ n → o ≡ p → IsMoment old d l m o → IsMoment old e l n p
+moment-same old d e l m n o p x y z at = subst (λ q. IsMoment old e l n q) z (subst (λ q. IsMoment old e l q o) y (subst (λ q. IsMoment old q l m o) x at))
 
 -- the moment after the calls of some changes, which are legal
 pub record IsEnd (capacities : List ℕ) (old : List Thing) (done : List PlanChange) (made : ℕ) (objects : Objects) (calls : List (Call Rid)) : Type 1 where
@@ -56,7 +56,7 @@ abbrev pub end-append : (capacities : List ℕ) (old : List Thing) (done later :
 end-append capacities old done later made objects xs ys same legal end = record {
   legal = legal-append capacities made objects xs ys legal end.legal;
   layout = end.layout;
-  at = moment_same old done later end.layout _ _ _ _ same (sym (made-append made xs ys)) (sym (after-append made objects xs ys)) end.at;
+  at = moment-same old done later end.layout _ _ _ _ same (sym (made-append made xs ys)) (sym (after-append made objects xs ys)) end.at;
 }
 
 -- the last moment before so many calls, and what stands after them
@@ -64,14 +64,12 @@ pub record IsCut (old : List Thing) (done todo : List PlanChange) (made : ℕ) (
   pub more : List PlanChange
   pub left : List PlanChange
   pub all : todo ≡ more ++ left
-  pub layout : Layout Rid
-  pub count : ℕ
-  pub stood : Objects
-  pub at : IsMoment old (done ++ more) layout count stood
+  pub before : List (Call Rid)
   pub part : List (Call Rid)
-  pub run : MakesChanges count layout left (part ++ ys)
-  pub made_same : made_after_all count part ≡ made_after_all made xs
-  pub same : after_calls count stood part ≡ after_calls made objects xs
+  pub parts : xs ≡ before ++ part
+  pub layout : Layout Rid
+  pub at : IsMoment old (done ++ more) layout (made_after_all made before) (after_calls made objects before)
+  pub run : MakesChanges (made_after_all made before) layout left (part ++ ys)
   pub amid : Layout Rid
   pub amid_made : ℕ
   pub shown : IsMidMoment old (done ++ more) amid amid_made (after_calls made objects xs)
@@ -117,7 +115,7 @@ module _ {order : PlanChange → ℕ} {old new : List Thing} {plan : List PlanCh
     cut_here : (done todo : List PlanChange) {layout : Layout Rid} {made : ℕ} {objects : Objects} → IsMoment old done layout made objects → (ys : List (Call Rid)) → MakesChanges made layout todo ys → IsCut old done todo made objects [] ys
     cut_here done todo {layout} {made} {objects} at ys run =
         let at' = subst (λ d. IsMoment old d layout made objects) (sym (append-nil done)) at in
-        record { more = []; left = todo; all = refl; layout = layout; count = made; stood = objects; at = at'; part = []; run = run; made_same = refl; same = refl; amid = layout; amid_made = made; shown = moment-shown at' capacities }
+        record { more = []; left = todo; all = refl; before = []; part = []; parts = refl; layout = layout; at = at'; run = run; amid = layout; amid_made = made; shown = moment-shown at' capacities }
 
     nothing_before : (xs m : List (Call Rid)) → xs ++ m ≡ [] → xs ≡ []
     nothing_before [] m e = refl
@@ -133,14 +131,12 @@ module _ {order : PlanChange → ℕ} {old new : List Thing} {plan : List PlanCh
         more = c ∷ [];
         left = cs;
         all = refl;
-        layout = layout_after made layout c;
-        count = made_after_all made front;
-        stood = after_calls made objects front;
-        at = step.next;
+        before = front;
         part = [];
+        parts = e ∙ sym (append-nil front);
+        layout = layout_after made layout c;
+        at = step.next;
         run = subst (MakesChanges (made_after_all made front) (layout_after made layout c) cs) (sym f) run;
-        made_same = ap (made_after_all made) (sym e);
-        same = ap (after_calls made objects) (sym e);
         amid = layout_after made layout c;
         amid_made = made_after_all made front;
         shown = subst (IsMidMoment old (done ++ (c ∷ [])) (layout_after made layout c) (made_after_all made front)) (ap (after_calls made objects) (sym e)) (moment-shown step.next capacities);
@@ -152,14 +148,12 @@ module _ {order : PlanChange → ℕ} {old new : List Thing} {plan : List PlanCh
         more = [];
         left = c ∷ cs;
         all = refl;
-        layout = layout;
-        count = made;
-        stood = objects;
-        at = subst (λ d. IsMoment old d layout made objects) (sym (append-nil done)) at;
+        before = [];
         part = xs;
+        parts = refl;
+        layout = layout;
+        at = subst (λ d. IsMoment old d layout made objects) (sym (append-nil done)) at;
         run = (front, rest, ap (λ l. xs ++ l) after ∙ sym (append_assoc xs m rest) ∙ ap (λ l. l ++ rest) (sym part), is, run);
-        made_same = refl;
-        same = refl;
         amid = amid;
         amid_made = made;
         shown = subst (λ d. IsMidMoment old d amid made (after_calls made objects xs)) (sym (append-nil done)) shown;
@@ -196,18 +190,17 @@ module _ {order : PlanChange → ℕ} {old new : List Thing} {plan : List PlanCh
       cut_behind : (xs ms ys : List (Call Rid)) → xs ≡ front ++ ms → IsCut old (done ++ (c ∷ [])) cs (made_after_all made front) (after_calls made objects front) ms ys → IsCut old done (c ∷ cs) made objects xs ys
       cut_behind xs ms ys e r =
           let changes = sym (joined done c r.more) in
-          let calls = sym (after-append made objects front ms) ∙ ap (after_calls made objects) (sym e) in record {
+          let calls = sym (after-append made objects front ms) ∙ ap (after_calls made objects) (sym e) in
+          let count = sym (made-append made front r.before) in record {
             more = c ∷ r.more;
             left = r.left;
             all = ap (λ l. c ∷ l) r.all;
-            layout = r.layout;
-            count = r.count;
-            stood = r.stood;
-            at = subst (λ d. IsMoment old d r.layout r.count r.stood) changes r.at;
+            before = front ++ r.before;
             part = r.part;
-            run = r.run;
-            made_same = r.made_same ∙ sym (made-append made front ms) ∙ ap (made_after_all made) (sym e);
-            same = r.same ∙ calls;
+            parts = e ∙ ap (λ l. front ++ l) r.parts ∙ sym (append_assoc front r.before r.part);
+            layout = r.layout;
+            at = moment-same old _ _ r.layout _ _ _ _ changes count (sym (after-append made objects front r.before)) r.at;
+            run = subst (λ n. MakesChanges n r.layout r.left (r.part ++ ys)) count r.run;
             amid = r.amid;
             amid_made = r.amid_made;
             shown = subst (IsMidMoment old (done ++ (c ∷ r.more)) r.amid r.amid_made) calls (subst (λ d. IsMidMoment old d r.amid r.amid_made (after_calls (made_after_all made front) (after_calls made objects front) ms)) changes r.shown);
@@ -226,11 +219,11 @@ module _ {order : PlanChange → ℕ} {old new : List Thing} {plan : List PlanCh
     run-cut todo due cut calls xs ys run part = cut_from todo due [] cut first calls xs ys run part
 
     -- what stands so many calls later
-    pub later-cut : (todo due : List PlanChange) → plan ≡ todo ++ due → (xs ms zs : List (Call Rid)) (c : IsCut old [] todo made' objects' xs (ms ++ zs)) → IsCut old c.more c.left c.count c.stood (c.part ++ ms) zs
+    pub later-cut : (todo due : List PlanChange) → plan ≡ todo ++ due → (xs ms zs : List (Call Rid)) (c : IsCut old [] todo made' objects' xs (ms ++ zs)) → IsCut old c.more c.left (made_after_all made' c.before) (after_calls made' objects' c.before) (c.part ++ ms) zs
     later-cut todo due cut xs ms zs c = cut_from c.left due c.more (cut ∙ ap (λ l. l ++ due) c.all ∙ append_assoc c.more c.left due) c.at (c.part ++ (ms ++ zs)) (c.part ++ ms) zs c.run (sym (append_assoc c.part ms zs))
 
-    pub later-same : (todo : List PlanChange) (xs ms zs : List (Call Rid)) (c : IsCut old [] todo made' objects' xs (ms ++ zs)) → after_calls c.count c.stood (c.part ++ ms) ≡ after_calls made' objects' (xs ++ ms)
-    later-same todo xs ms zs c = after-append c.count c.stood c.part ms ∙ ap₂ (λ n o. after_calls n o ms) c.made_same c.same ∙ sym (after-append made' objects' xs ms)
+    pub later-same : (todo : List PlanChange) (xs ms zs : List (Call Rid)) (c : IsCut old [] todo made' objects' xs (ms ++ zs)) → after_calls (made_after_all made' c.before) (after_calls made' objects' c.before) (c.part ++ ms) ≡ after_calls made' objects' (xs ++ ms)
+    later-same todo xs ms zs c = sym (after-append made' objects' c.before (c.part ++ ms)) ∙ ap (after_calls made' objects') (sym (append_assoc c.before c.part ms) ∙ ap (λ l. l ++ ms) (sym c.parts))
 
   -- ---- the end
 

@@ -1,17 +1,14 @@
 -- the moment before a plan
-use Rattle.std.proofs.Common.{◌≡◌, inl, inr, ℕ, Bool, true, false, cond, List, [], ◌∷◌, Option, None, Some, refl, sym, ap, ◌∙◌, subst}
+use Rattle.std.proofs.Common.{◌≡◌, inl, inr, ℕ, Bool, true, false, cond, List, [], ◌∷◌, map, Option, None, Some, refl, sym, ap, ap₂, ◌∙◌, subst}
 use Rattle.std.specs.BTreeSet.{insert_key}
 use Rattle.std.specs.List.Sorted.{IsStrictlySortedBy}
 use Rattle.std.proofs.lemmas.Bool.{false≢true}
-use Rattle.swss_types.specs.Address.{IsProperPrefix}
-use Rattle.swss_types.specs.declared.address.Prefix.{Prefix}
 use Rattle.sai_types.specs.declared.ids.Rid.{Rid}
 use Rattle.sai_types.specs.declared.hop.Hop.{Hop}
 use Rattle.sai_types.specs.declared.body.Body.{Body}
 use Rattle.sai_types.specs.declared.body.Body.TheVariants as body
 use Rattle.sai_types.specs.declared.body.Entry.{Entry}
 use Rattle.sai_types.specs.declared.body.Entry.TheVariants as entry
-use Rattle.sai_types.specs.declared.thing.Goal.{Goal}
 use Rattle.sai_types.specs.declared.thing.Goal.TheVariants as goal
 use Rattle.sai_types.specs.declared.thing.Thing.{Thing}
 use Rattle.sai_types.specs.declared.thing.Thing.TheVariants as thing
@@ -38,8 +35,9 @@ use Rattle.chip_layout.proofs.Naming.{IsAmong, among}
 use Rattle.chip_layout.proofs.Seeing.{body-seen, seen-laid}
 use Rattle.plan_laws.specs.Applied.{IsListed}
 use Rattle.plan_laws.specs.Moments.{IsMoment}
-use Rattle.plan_laws.specs.Old.{group_stays, groups_of, hops_or_none, old_layout, old_things, seen_among, seen_things, shown_hops, tag_of}
+use Rattle.plan_laws.specs.Old.{group_stays, groups_of, hops_or_none, old_layout, old_things, seen_things, shown_hops, tag_of}
 use Rattle.plan_laws.specs.Views.{AreNamed}
+use Rattle.plan_laws.proofs.Lists.{in-map, map-in}
 use Rattle.plan_laws.proofs.Tagging.{all-groups, hops-of_tag, hops-rising, hops_for, stays-apart, tags-apart}
 use Rattle.plan_laws.proofs.Targets.{AreTagged, is-group}
 
@@ -74,16 +72,6 @@ hops-rise objects g = rising_or_none objects g (hops_at objects g) refl
 -- ---- what a chip shows
 
 module _ (tag : Rid → List Hop) (objects : Objects) (made : ℕ) (whole : IsWhole made objects) where
-  in_seen : (os : Objects) (t : Thing) → IsIn (Some t) (seen_among tag objects os) → (e : Entry Rid) × (b : Body Rid) × IsIn (e, b) os × (thing_by (tagged tag) objects (e, b) ≡ Some t)
-  in_seen [] t i = elim i [ ]
-  in_seen (o ∷ os) t (inl is) = (o.0, o.1, inl refl, sym is)
-  in_seen (o ∷ os) t (inr i) = let rest = in_seen os t i in (rest.0, rest.1, inr rest.2, rest.3)
-
-  seen_in : (os : Objects) (e : Entry Rid) (b : Body Rid) → IsIn (e, b) os → IsIn (thing_by (tagged tag) objects (e, b)) (seen_among tag objects os)
-  seen_in [] e b i = elim i [ ]
-  seen_in (o ∷ os) e b (inl is) = inl (ap (thing_by (tagged tag) objects) is)
-  seen_in (o ∷ os) e b (inr i) = inr (seen_in os e b i)
-
   see_by : (x : Bool) (e : Entry Rid) (b : Body Rid) (n : ℕ) (t : Thing) → body_at objects e ≡ Some b → same_entry e (entry_of n b) ≡ true → thing_by (tagged tag) objects (e, b) ≡ Some t → has_number t ≡ x → IsBody (Has (seen tag objects)) t b → (i : Rid) × seen tag objects i t
   see_by true e b n t found at is numbered of = (record { 0 = n }, record { entry = e; body = b; found = found; at = at; thing = is; none = λ h. absurd (false≢true (sym h ∙ numbered)) })
   see_by false e b n t found at is numbered of =
@@ -92,17 +80,18 @@ module _ (tag : Rid → List Hop) (objects : Objects) (made : ℕ) (whole : IsWh
 
   pub in-seen : (t : Thing) → IsIn t (seen_things tag objects) → (i : Rid) × seen tag objects i t
   in-seen t i =
-      let o = in_seen objects t (those_in t (seen_among tag objects objects) i) in
-      let found = found-in objects o.0 o.1 whole.sorted o.2 in
-      let at = whole.entered.each o.0 o.1 found in
-      see_by (has_number t) o.0 o.1 at.0 t found at.2 o.3 refl (body-seen tag made objects whole o.0 o.1 t found o.3)
+      let o = map-in (thing_by (tagged tag) objects) objects (Some t) (those_in t (map (thing_by (tagged tag) objects) objects) i) in
+      let e = o.0.0 in
+      let b = o.0.1 in
+      let found = found-in objects e b whole.sorted o.1 in
+      let at = whole.entered.each e b found in
+      see_by (has_number t) e b at.0 t found at.2 (sym o.2) refl (body-seen tag made objects whole e b t found (sym o.2))
 
-  pub seen-in : (i : Rid) (t : Thing) → seen tag objects i t → IsIn t (seen_things tag objects)
-  seen-in i t s =
-      let o = in-found objects s.entry s.body s.found in
-      let same = entry-exact s.entry o.0 o.1 in
-      let is : thing_by (tagged tag) objects (o.0, s.body) ≡ Some t = ap (λ e. thing_by (tagged tag) objects (e, s.body)) (sym same) ∙ s.thing in
-      in_those t (seen_among tag objects objects) (subst (λ x. IsIn x (seen_among tag objects objects)) is (seen_in objects o.0 s.body o.2))
+  pub object-seen : (e : Entry Rid) (b : Body Rid) (t : Thing) → body_at objects e ≡ Some b → thing_by (tagged tag) objects (e, b) ≡ Some t → IsIn t (seen_things tag objects)
+  object-seen e b t found thing =
+      let o = in-found objects e b found in
+      let is : thing_by (tagged tag) objects (o.0, b) ≡ Some t = ap (λ d. thing_by (tagged tag) objects (d, b)) (sym (entry-exact e o.0 o.1)) ∙ thing in
+      in_those t (map (thing_by (tagged tag) objects) objects) (subst (λ x. IsIn x (map (thing_by (tagged tag) objects) objects)) is (in-map (thing_by (tagged tag) objects) objects (o.0, b) o.2))
 
 -- ---- the moment before the plan
 
@@ -129,7 +118,7 @@ module _ {made : ℕ} {objects : Objects} (chip : IsListed made objects) (new : 
   old-seen t i = in-seen tag objects made chip.whole t i
 
   pub seen-old : (i : Rid) (t : Thing) → start i t → IsIn t old
-  seen-old i t s = seen-in tag objects made chip.whole i t s
+  seen-old i t s = object-seen tag objects made chip.whole s.entry s.body t s.found s.thing
 
   pub first-moment : IsMoment old [] start made objects
   first-moment = record { whole = chip.whole; laid = old-laid; sound = seen-old; all = old-seen }
@@ -143,34 +132,29 @@ module _ {made : ℕ} {objects : Objects} (chip : IsListed made objects) (new : 
   }
 
   abbrev pub hops_of : List Hop → List Hop
-  hops_of = hops_for stays (shown_hops objects) rises (stays-apart objects new) (groups_of objects)
+  hops_of = hops_for (shown_hops objects)
 
-  tag_by : (e : Entry Rid) (b : Body Rid) (g : Rid) (t : List Hop) → b ≡ body.Group → thing_by (tagged tag) objects (e, b) ≡ Some (thing.Group t) → same_entry e (entry_of g.0 b) ≡ true → (t ≡ tag g) × (e ≡ entry.Oid g)
-  tag_by e b g t is h at = by e (ap (λ z. thing_by (tagged tag) objects (e, z)) (sym is) ∙ h) (entry-exact e (entry.Oid g) (ap (λ z. same_entry e (entry_of g.0 z)) (sym is) ∙ at))
-    where
-      by : (f : Entry Rid) → thing_by (tagged tag) objects (f, body.Group) ≡ Some (thing.Group t) → f ≡ entry.Oid g → (t ≡ tag g) × (f ≡ entry.Oid g)
-      by (entry.Oid r) k same =
-          let ids : r ≡ g = cc in
-          let tags : tag r ≡ t = cc in
-          (sym tags ∙ ap tag ids, same)
-      by (entry.Own ip) k same = absurd cc
-      by (entry.Neigh r ip) k same = absurd cc
-      by (entry.Route p) k same = absurd cc
+  group_hops : (a b : List Hop) → Some (thing.Group a) ≡ Some (thing.Group b) → b ≡ a
+  group_hops a b e = cc
 
-  group_seen : (g : Rid) (t : List Hop) → start g (thing.Group t) → (t ≡ tag g) × IsIn g (groups_of objects)
-  group_seen g t s =
+  pub group-seen : (g : Rid) (t : List Hop) → start g (thing.Group t) → (t ≡ tag g) × IsIn g (groups_of objects)
+  group-seen g t s =
       let is : s.body ≡ body.Group = (body-seen tag made objects chip.whole s.entry s.body (thing.Group t) s.found s.thing).body_is in
-      let at = tag_by s.entry s.body g t is s.thing s.at in
-      (at.0, all-groups objects g (ap (body_at objects) (sym at.1) ∙ s.found ∙ ap Some is))
+      let at = entry-exact s.entry (entry.Oid g) (ap (λ z. same_entry s.entry (entry_of g.0 z)) (sym is) ∙ s.at) in
+      let shows = ap₂ (λ x y. thing_by (tagged tag) objects (x, y)) (sym at) (sym is) ∙ s.thing in
+      (group_hops (tag g) t shows, all-groups objects g (ap (body_at objects) (sym at) ∙ s.found ∙ ap Some is))
 
   module _ (g : Rid) (t : List Hop) (s : start g (thing.Group t)) where
     these : IsAmong start objects old-laid g t (thing.Group t, s, refl) objects
     these = among start objects old-laid g t (thing.Group t, s, refl) objects (λ e b i. found-in objects e b chip.whole.sorted i)
 
+    pub hops-there : hops_at objects g ≡ Some (shown_hops objects g)
+    hops-there = these.is ∙ ap Some (sym (ap hops_or_none these.is))
+
     those_are : these.those ≡ hops_of t
     those_are =
-        let at = group_seen g t s in
-        sym (ap hops_or_none these.is) ∙ sym (hops-of_tag stays (shown_hops objects) rises (stays-apart objects new) (groups_of objects) g at.1) ∙ ap hops_of (sym at.0)
+        let at = group-seen g t s in
+        sym (ap hops_or_none these.is) ∙ sym (hops-of_tag stays (shown_hops objects) rises g) ∙ ap hops_of (sym at.0)
 
     group_rising : IsStrictlySortedBy hop_cmp (hops_of t)
     group_rising = subst (IsStrictlySortedBy hop_cmp) those_are these.rising
@@ -184,8 +168,8 @@ module _ {made : ℕ} {objects : Objects} (chip : IsListed made objects) (new : 
         let object = in-found objects (entry_of j.0 has.0) has.0 has.2 in
         subst (IsIn hop) those_are (these.all object.0 has.0 j hop object.2 m has.1 (same-symm object.0 (entry_of j.0 has.0) ∙ object.1))
 
-  group_there : (t : List Hop) (g : Rid) → Has start (name.Group t) g → start g (thing.Group t)
-  group_there t g h = subst (start g) (is-group h.0 t h.2) h.1
+  pub group-there : (t : List Hop) (g : Rid) → Has start (name.Group t) g → start g (thing.Group t)
+  group-there t g h = subst (start g) (is-group h.0 t h.2) h.1
 
   pub old-tagged : AreTagged hops_of old
   old-tagged = record {
@@ -194,12 +178,12 @@ module _ {made : ℕ} {objects : Objects} (chip : IsListed made objects) (new : 
     only = λ t hop i.
         let m = old-seen (thing.GroupMember t hop) i in
         let has = old-laid.stand m.0 (thing.GroupMember t hop) m.1 in
-        group_only has.1.first t (group_there t has.1.first has.1.first_at) m.0 hop m.1;
+        group_only has.1.first t (group-there t has.1.first has.1.first_at) m.0 hop m.1;
     there = λ p t i.
         let r = old-seen (thing.Route p (goal.Group t)) i in
         let has = old-laid.stand r.0 (thing.Route p (goal.Group t)) r.1 in
-        seen-old has.1.first (thing.Group t) (group_there t has.1.first has.1.first_at);
+        seen-old has.1.first (thing.Group t) (group-there t has.1.first has.1.first_at);
   }
 
   pub hops-same : (hops : List Hop) → IsStrictlySortedBy hop_cmp hops → hops_of hops ≡ hops
-  hops-same hops up = hops-rising stays (shown_hops objects) rises (stays-apart objects new) (groups_of objects) hops up
+  hops-same hops up = hops-rising (shown_hops objects) hops up

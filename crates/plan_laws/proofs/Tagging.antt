@@ -1,18 +1,15 @@
 -- tags of groups: no two groups have one, and each is for the hops of its group
-use Rattle.std.proofs.Common.{◌≡◌, inl, inr, ◌⊎◌, ℕ, zero, suc, Bool, true, false, cond, ◌&&◌, ◌||◌, not, nat_lt, List, [], ◌∷◌, map, Some, refl, sym, ap, ◌∙◌, subst, arith}
+use Rattle.std.proofs.Common.{◌≡◌, inl, inr, ◌⊎◌, ℕ, zero, suc, ◌+◌, ◌-◌, Bool, true, false, cond, ◌&&◌, not, nat_lt, List, [], ◌∷◌, length, map, Some, refl, sym, ap, ◌∙◌, subst, arith}
 use Rattle.std.specs.List.{list_any}
 use Rattle.std.specs.List.Sorted.{IsStrictlySortedBy}
 use Rattle.std.specs.declared.cmp.Ordering.TheVariants.{Less}
 use Rattle.std.proofs.lemmas.Bool.{and_parts, false≢true}
 use Rattle.std.proofs.lemmas.Bool.Decides.{nat_tests}
 use Rattle.sai_types.specs.declared.ids.Rid.{Rid}
-use Rattle.sai_types.specs.declared.body.Body.{Body}
 use Rattle.sai_types.specs.declared.body.Body.TheVariants as body
-use Rattle.sai_types.specs.declared.body.Entry.{Entry}
 use Rattle.sai_types.specs.declared.body.Entry.TheVariants as entry
 use Rattle.sai_types.specs.declared.hop.Hop.{Hop}
 use Rattle.sai_types.specs.declared.thing.Thing.{Thing}
-use Rattle.sai_types.specs.declared.thing.Thing.TheVariants as thing
 use Rattle.sai_types.specs.Alike.{IsIn}
 use Rattle.sai_types.specs.Named.{hop_cmp}
 use Rattle.sai_types.specs.Objects.{Objects, body_at}
@@ -36,59 +33,53 @@ filler_falls zero h = not_rising [] h
 filler_falls (suc zero) h = not_rising (no_hop ∷ []) h
 filler_falls (suc (suc n)) h = not_rising (filler n) h
 
-tails : (x y : Hop) (xs ys : List Hop) → x ∷ xs ≡ y ∷ ys → xs ≡ ys
-tails x y xs ys h = cc
-
-filler_long : (n : ℕ) → (no_hop ∷ []) ≡ filler n → ⊥
-filler_long zero h = let rest = tails _ _ _ _ h in absurd cc
-filler_long (suc zero) h = let rest = tails _ _ _ _ h in absurd cc
-filler_long (suc (suc n)) h = let rest = tails _ _ _ _ h in absurd cc
+filler_length : (n : ℕ) → length (filler n) ≡ n + 2
+filler_length zero = omega arith
+filler_length (suc n) = let rest = filler_length n in omega (arith, rest)
 
 filler_apart : (m n : ℕ) → filler m ≡ filler n → m ≡ n
-filler_apart zero zero h = refl
-filler_apart zero (suc n) h = absurd (filler_long n (tails _ _ _ _ h))
-filler_apart (suc m) zero h = absurd (filler_long m (sym (tails _ _ _ _ h)))
-filler_apart (suc m) (suc n) h = ap suc (filler_apart m n (tails _ _ _ _ h))
+filler_apart m n h = let one = filler_length m in let two = filler_length n in let same = ap length h in omega (arith, one, two, same)
 
-module _ (kept : Rid → Bool) (hops : Rid → List Hop) (rising : (g : Rid) → kept g ≡ true → IsStrictlySortedBy hop_cmp (hops g)) (apart : (g h : Rid) → kept g ≡ true → kept h ≡ true → hops g ≡ hops h → g ≡ h) where
-  apart_by : (x y : Bool) (g h : Rid) → kept g ≡ x → kept h ≡ y → cond x (hops g) (filler g.0) ≡ cond y (hops h) (filler h.0) → g ≡ h
-  apart_by true true g h e f same = apart g h e f same
-  apart_by true false g h e f same = absurd (filler_falls h.0 (subst (IsStrictlySortedBy hop_cmp) same (rising g e)))
-  apart_by false true g h e f same = absurd (filler_falls g.0 (subst (IsStrictlySortedBy hop_cmp) (sym same) (rising h f)))
-  apart_by false false g h e f same = let made : ℕ → Rid = λ n. record { 0 = n } in ap made (filler_apart g.0 h.0 same)
+abbrev group_id : ℕ → Rid
+group_id n = record { 0 = n }
 
-  -- no two groups have one tag
-  pub tags-apart : (g h : Rid) → tag_for kept hops g ≡ tag_for kept hops h → g ≡ h
-  tags-apart g h same = apart_by (kept g) (kept h) g h refl refl same
+-- the hops that a tag is for: of a filler those of the group whose it is, else the tag itself
+abbrev pub hops_for : (Rid → List Hop) → List Hop → List Hop
+hops_for hops tag = cond (same_hops (filler (length tag - 2)) tag) (hops (group_id (length tag - 2))) tag
 
-  -- the hops of a tag, by the groups that there are
-  abbrev pub hops_for : List Rid → List Hop → List Hop
-  hops_for [] tag = tag
-  hops_for (g ∷ gs) tag = cond (same_hops (tag_for kept hops g) tag) (hops g) (hops_for gs tag)
+hops_by : (b : Bool) (hops tag : List Hop) (n : ℕ) → same_hops (filler n) tag ≡ b → IsStrictlySortedBy hop_cmp tag → cond b hops tag ≡ tag
+hops_by true hops tag n e up = absurd (filler_falls n (subst (IsStrictlySortedBy hop_cmp) (sym (hops_exact (filler n) tag e)) up))
+hops_by false hops tag n e up = refl
 
-  hops_by : (b : Bool) (h g : Rid) (rest : List Hop) → same_hops (tag_for kept hops h) (tag_for kept hops g) ≡ b → (rest ≡ hops g) ⊎ (g ≡ h) → cond b (hops h) rest ≡ hops g
-  hops_by true h g rest e o = ap hops (tags-apart h g (hops_exact _ _ e))
-  hops_by false h g rest e (inl is) = is
-  hops_by false h g rest e (inr same) = absurd (false≢true (sym e ∙ ap (λ x. same_hops (tag_for kept hops h) (tag_for kept hops x)) same ∙ hops_refl (tag_for kept hops h)))
+-- hops that rise are for themselves
+pub hops-rising : (hops : Rid → List Hop) (tag : List Hop) → IsStrictlySortedBy hop_cmp tag → hops_for hops tag ≡ tag
+hops-rising hops tag up = hops_by (same_hops (filler (length tag - 2)) tag) (hops (group_id (length tag - 2))) tag (length tag - 2) refl up
+
+hops_filler : (hops : Rid → List Hop) (n : ℕ) → hops_for hops (filler n) ≡ hops (group_id n)
+hops_filler hops n =
+    let long = filler_length n in
+    let is : length (filler n) - 2 ≡ n = omega (arith, long) in
+    ap (λ m. cond (same_hops (filler m) (filler n)) (hops (group_id m)) (filler n)) is ∙ ap (λ b. cond b (hops (group_id n)) (filler n)) (hops_refl (filler n))
+
+module _ (kept : Rid → Bool) (hops : Rid → List Hop) (rising : (g : Rid) → kept g ≡ true → IsStrictlySortedBy hop_cmp (hops g)) where
+  tag_by : (b : Bool) (g : Rid) → kept g ≡ b → hops_for hops (cond b (hops g) (filler g.0)) ≡ hops g
+  tag_by true g e = hops-rising hops (hops g) (rising g e)
+  tag_by false g e = hops_filler hops g.0
 
   -- the tag of a group is for its hops
-  pub hops-of_tag : (gs : List Rid) (g : Rid) → IsIn g gs → hops_for gs (tag_for kept hops g) ≡ hops g
-  hops-of_tag [] g i = elim i [ ]
-  hops-of_tag (h ∷ gs) g (inl is) = hops_by (same_hops (tag_for kept hops h) (tag_for kept hops g)) h g (hops_for gs (tag_for kept hops g)) refl (inr is)
-  hops-of_tag (h ∷ gs) g (inr i) = hops_by (same_hops (tag_for kept hops h) (tag_for kept hops g)) h g (hops_for gs (tag_for kept hops g)) refl (inl (hops-of_tag gs g i))
+  pub hops-of_tag : (g : Rid) → hops_for hops (tag_for kept hops g) ≡ hops g
+  hops-of_tag g = tag_by (kept g) g refl
 
-  kept_by : (x : Bool) (g : Rid) (tag : List Hop) → kept g ≡ x → IsStrictlySortedBy hop_cmp tag → cond x (hops g) (filler g.0) ≡ tag → hops g ≡ tag
-  kept_by true g tag e up same = same
-  kept_by false g tag e up same = absurd (filler_falls g.0 (subst (IsStrictlySortedBy hop_cmp) (sym same) up))
+  module _ (apart : (g h : Rid) → kept g ≡ true → kept h ≡ true → hops g ≡ hops h → g ≡ h) where
+    apart_by : (x y : Bool) (g h : Rid) → kept g ≡ x → kept h ≡ y → cond x (hops g) (filler g.0) ≡ cond y (hops h) (filler h.0) → g ≡ h
+    apart_by true true g h e f same = apart g h e f same
+    apart_by true false g h e f same = absurd (filler_falls h.0 (subst (IsStrictlySortedBy hop_cmp) same (rising g e)))
+    apart_by false true g h e f same = absurd (filler_falls g.0 (subst (IsStrictlySortedBy hop_cmp) (sym same) (rising h f)))
+    apart_by false false g h e f same = ap group_id (filler_apart g.0 h.0 same)
 
-  rising_by : (b : Bool) (g : Rid) (tag rest : List Hop) → same_hops (tag_for kept hops g) tag ≡ b → IsStrictlySortedBy hop_cmp tag → rest ≡ tag → cond b (hops g) rest ≡ tag
-  rising_by true g tag rest e up is = kept_by (kept g) g tag refl up (hops_exact _ _ e)
-  rising_by false g tag rest e up is = is
-
-  -- and hops that rise are for themselves
-  pub hops-rising : (gs : List Rid) (tag : List Hop) → IsStrictlySortedBy hop_cmp tag → hops_for gs tag ≡ tag
-  hops-rising [] tag up = refl
-  hops-rising (g ∷ gs) tag up = rising_by (same_hops (tag_for kept hops g) tag) g tag (hops_for gs tag) refl up (hops-rising gs tag up)
+    -- no two groups have one tag
+    pub tags-apart : (g h : Rid) → tag_for kept hops g ≡ tag_for kept hops h → g ≡ h
+    tags-apart g h same = apart_by (kept g) (kept h) g h refl refl same
 
 -- ---- the groups of a chip, and which of them stay
 
@@ -130,6 +121,6 @@ module _ (objects : Objects) (new : List Thing) where
         | inl less ↦ absurd (not_less g h p q same less)
         | inr other ↦ elim other [
           | inl more ↦ absurd (not_less h g q p (sym same) more)
-          | inr is ↦ let made : ℕ → Rid = λ n. record { 0 = n } in ap made is
+          | inr is ↦ ap group_id is
         ]
       ]

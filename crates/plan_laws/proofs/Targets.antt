@@ -1,5 +1,5 @@
 -- the groups that routes point at are whole while a hitless plan is made
-use Rattle.std.proofs.Common.{◌≡◌, inl, inr, ◌⊎◌, ◌-◌, ◌≤◌, ◌++◌, List, [], ◌∷◌, Some, refl, sym, ap, subst, arith}
+use Rattle.std.proofs.Common.{◌≡◌, inl, inr, ◌-◌, ◌≤◌, ◌++◌, List, Some, refl, sym, ap, subst, arith}
 use Rattle.std.specs.List.Sorted.{IsStrictlySortedBy}
 use Rattle.swss_types.specs.declared.address.Prefix.{Prefix}
 use Rattle.sai_types.specs.declared.hop.Hop.{Hop}
@@ -36,9 +36,9 @@ pub is-group : (u : Thing) (tag : List Hop) → name_of u ≡ name.Group tag →
 is-group (thing.Group hops) tag e = let same : hops ≡ tag = cc in ap thing.Group same
 is-group _ tag e = absurd cc
 
-is_member : (u : Thing) (tag : List Hop) (hop : Hop) → name_of u ≡ name.GroupMember tag hop → u ≡ thing.GroupMember tag hop
-is_member (thing.GroupMember hops h) tag hop e = let same : hops ≡ tag = cc in let one : h ≡ hop = cc in λ i. thing.GroupMember (same i) (one i)
-is_member _ tag hop e = absurd cc
+pub is-member : (u : Thing) (tag : List Hop) (hop : Hop) → name_of u ≡ name.GroupMember tag hop → u ≡ thing.GroupMember tag hop
+is-member (thing.GroupMember hops h) tag hop e = let same : hops ≡ tag = cc in let one : h ≡ hop = cc in λ i. thing.GroupMember (same i) (one i)
+is-member _ tag hop e = absurd cc
 
 route_late : (c : PlanChange) (p : Prefix) (g : Goal) → p.len ≤ 128 → outcome c ≡ Some (thing.Route p g) → 600 ≤ hitless_rank c
 route_late (Make t) p g small e = let same : t ≡ thing.Route p g = cc in let rank : make_rank (name_of t) ≡ 728 - p.len = ap (λ u. make_rank (name_of u)) same in omega (arith, rank, small)
@@ -71,7 +71,7 @@ module _ {hops_of : List Hop → List Hop} {old new : List Thing} {plan : List P
         ]
 
     stands_as : (tag : List Hop) (hop : Hop) → IsNamed now (name.GroupMember tag hop) → now (thing.GroupMember tag hop)
-    stands_as tag hop h = subst now (is_member h.0 tag hop h.2) h.1
+    stands_as tag hop h = subst now (is-member h.0 tag hop h.2) h.1
 
     -- the members of a new route's group are made before it
     by_change : (p : Prefix) (tag : List Hop) (hop : Hop) (c : PlanChange) → IsIn c done → outcome c ≡ Some (thing.Route p (goal.Group tag)) → IsIn hop (hops_of tag) → now (thing.GroupMember tag hop)

@@ -69,12 +69,8 @@ abbrev pub tag_for : (Rid → Bool) → (Rid → List Hop) → Rid → List Hop
 tag_for kept hops g = if kept g then hops g else filler g.0
 
 -- the things that a chip shows, where groups have tags
-abbrev pub seen_among : (Rid → List Hop) → Objects → Objects → List (Option Thing)
-seen_among tag objects [] = []
-seen_among tag objects (o ∷ os) = thing_by (tagged tag) objects o ∷ seen_among tag objects os
-
 abbrev pub seen_things : (Rid → List Hop) → Objects → List Thing
-seen_things tag objects = those (seen_among tag objects objects)
+seen_things tag objects = those (map (thing_by (tagged tag) objects) objects)
 
 -- ---- the old things
 

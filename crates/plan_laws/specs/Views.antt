@@ -1,5 +1,5 @@
 -- The views that a plan leads between, and the room that it needs. Own.
-use Rattle.std.specs.Prelude.{◌≡◌, ◌⊎◌, ℕ, ◌+◌, ◌≤◌, ◌==◌, List, [], ◌∷◌, length, if◌then◌else◌}
+use Rattle.std.specs.Prelude.{◌≡◌, ◌⊎◌, ℕ, ◌+◌, ◌≤◌, ◌==◌, List, length, map, Option, None, Some, if◌then◌else◌}
 use Rattle.std.specs.List.Sorted.{IsStrictlySortedBy}
 use Rattle.swss_types.specs.Address.{IsProperPrefix}
 use Rattle.swss_types.specs.declared.address.Prefix.{Prefix}
@@ -9,12 +9,12 @@ use Rattle.sai_types.specs.declared.thing.Goal.{Goal}
 use Rattle.sai_types.specs.declared.thing.Thing.{Thing}
 use Rattle.sai_types.specs.declared.thing.Thing.TheVariants as thing
 use Rattle.sai_types.specs.Alike.{IsIn}
-use Rattle.sai_types.specs.Named.{hop_cmp}
+use Rattle.sai_types.specs.Named.{hop_cmp, those}
 use Rattle.sai_types.specs.Names.{Name, Refers, ShareLane, name_kind, name_of}
 use Rattle.sai_types.specs.Objects.{Objects, level, used}
 use Rattle.sai_types.specs.Refusal.{capacity_of}
 use Rattle.chip_layout.specs.Counted.{AreDistinct}
-use Rattle.plan_laws.specs.Plans.{PlanChange, Make, Remove, Set}
+use Rattle.plan_laws.specs.Plans.{PlanChange, Make}
 
 -- no two things have one name, and each route's prefix is proper
 pub record AreNamed (things : List Thing) : Type 0 where
@@ -37,12 +37,14 @@ pub record HaveWholeGroups (things : List Thing) : Type 0 where
 
 -- ---- room
 
+-- the name of a kind that a change makes
+abbrev pub made_name : Kind → PlanChange → Option Name
+made_name kind (Make t) = if level (name_kind (name_of t)) == level kind then Some (name_of t) else None
+made_name kind _ = None
+
 -- the names of a kind that changes make
 abbrev pub made_names : Kind → List PlanChange → List Name
-made_names kind [] = []
-made_names kind (Make t ∷ cs) = if level (name_kind (name_of t)) == level kind then name_of t ∷ made_names kind cs else made_names kind cs
-made_names kind (Set t ∷ cs) = made_names kind cs
-made_names kind (Remove k ∷ cs) = made_names kind cs
+made_names kind cs = those (map (made_name kind) cs)
 
 -- there is room for the old objects of each kind and all that the plan makes
 abbrev pub HasRoomFor : List ℕ → Objects → List PlanChange → Type 0

@@ -16,11 +16,12 @@ use Rattle.switch_model.specs.Promises.{IsBegun, applied_at, good_rows_at}
 use Rattle.switch_model.specs.declared.mark.Mark.{Mark}
 use Rattle.switch_model.specs.declared.wait.Wait.{Wait}
 use Rattle.switch_model.proofs.Worked.{same_key}
-use Rattle.switch_machine.specs.Events.{SwitchState}
+use Rattle.switch_machine.specs.Events.{SwitchState, fresh_view}
 use Rattle.switch_machine.specs.Written.{HasWrittenRows, IsTold, Written, good_of}
 use Rattle.switch_machine.proofs.Splits.{row_at}
 use Rattle.restart_laws.specs.Restored.{IsRestored, waiting_of}
 use Rattle.switch_machine.proofs.Telling.{told-popped}
+use Rattle.restart_laws.proofs.Rising.{pass-rising}
 use Rattle.restart_laws.proofs.Reasons.{have-same, reason-stays}
 use Rattle.restart_laws.proofs.Restoring.{IsWaiting, restored-closed, restored-good, restored-waits, restored-written}
 
@@ -79,11 +80,12 @@ module _ (plan : Ports) (is : IsPlan plan) (workers : ℕ) (capacities : List �
       by (inl h) = inl h
       by (inr h) = inr (h ∙ sym (goods q))
 
-  -- what each applied row names is applied, each row that waits has its true reason, and none of them is applied
+  -- what each applied row names is applied, and the keys that wait stand in their order, each with its true reason, and none of them is applied
   pub restored-begun : IsBegun plan capacities taken mark (waiting_of x.waits)
   restored-begun = record {
     closed = λ k r at. have-same rows (applied_at plan taken mark (waiting_of x.waits)) (names_of k r) (λ p h. same_rows p) ∙ restored-closed plan is workers capacities s view told dated x k r (sym (same_rows k) ∙ at);
     reasons = all_true plan capacities (good_rows_at plan taken mark.taken) (applied_at plan taken mark (waiting_of x.waits)) x.waits
         (λ q w h. reason-stays plan capacities (good_of plan view.written) (good_rows_at plan taken mark.taken) rows (applied_at plan taken mark (waiting_of x.waits)) q w (waits q w h).absent (goods q ∙ ap (λ z. good_of plan z q) (sym written)) (λ p r i. same_rows p) (λ p r at. same_rows p ∙ at) (waits q w h).reason);
+    order = pass-rising plan workers capacities (fresh_view x.written x.keys) view x.keys x.waits x.rising x.pass;
     absent = no_rows x.waits;
   }

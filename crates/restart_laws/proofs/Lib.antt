@@ -4,6 +4,7 @@ pub mod Viewing
 pub mod Leading
 pub mod Order
 pub mod Reasons
+pub mod Rising
 pub mod Passing
 pub mod Restoring
 pub mod Holding

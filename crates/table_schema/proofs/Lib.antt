@@ -13,3 +13,4 @@ pub mod ProperNames
 pub mod RowLists
 pub mod Restored
 pub mod TakenBack
+mod KeyOrders
