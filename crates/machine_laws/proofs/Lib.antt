@@ -20,3 +20,5 @@ pub mod Ordering
 pub mod Dated
 pub mod Possible
 pub mod Places
+pub mod Holding
+pub mod Progress
