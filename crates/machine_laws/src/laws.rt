@@ -28,7 +28,7 @@ ghost use Rattle.switch_machine.specs.Places.{HasRoomFor};
 ghost use Rattle.switch_machine.specs.Reasons.{LacksRoom};
 ghost use Rattle.switch_machine.specs.Written.{HasNoWrite, good_of};
 ghost use Rattle.machine_laws.specs.Calls.{AreTurnsWith, Completes, Situation};
-ghost use Rattle.machine_laws.specs.Logged.{AreListed, AreLoggedEvents, IsWholeSettling, ListsKey, LoggedSwitch, LogsMark, TakeNone, after_logged, after_pops, new_switch};
+ghost use Rattle.machine_laws.specs.Logged.{AreListed, AreLoggedEvents, IsWholeSettling, ListsKey, LoggedSwitch, LogsMark, AreNoWritesOf, after_logged, after_pops, new_switch};
 ghost use Rattle.machine_laws.specs.Order.{IsOrdered};
 ghost use Rattle.machine_laws.specs.Quiet.{ChangesEntry, LeavesAlone, NamesNot, StandsFor};
 ghost use Rattle.machine_laws.specs.Reading.{IsOnSwitch};
@@ -92,7 +92,7 @@ pub fn marks_are_true()
 pub fn quiet_rows_stay()
     ensures alone { (plan : Ports) (workers : ℕ) (capacities : List ℕ) (k : Key) (s : SwitchState) (es : List (Option (Call Rid) × SwitchState)) (e : Entry Rid) → IsPlan plan → IsSafe plan workers capacities s → AreEvents plan workers capacities s es → LeavesAlone k s es → IsResting s.machine.board k → (IsIn k s.to_sync → ⊥) → StandsFor plan k e s.machine → IsResting (after_events s es).machine.board k × StandsFor plan k e (after_events s es).machine × ((call : Call Rid) → IsIn call (calls_of es) → ChangesEntry call e → ⊥) }
     ensures unnamed { (plan : Ports) (workers : ℕ) (capacities : List ℕ) (k : Key) (s : SwitchState) (es : List (Option (Call Rid) × SwitchState)) (e : Entry Rid) → IsPlan plan → IsSafe plan workers capacities s → (run : AreEvents plan workers capacities s es) → NamesNot plan workers capacities k s es run → HasNoWrite s.written k → IsResting s.machine.board k → (IsIn k s.to_sync → ⊥) → StandsFor plan k e s.machine → IsResting (after_events s es).machine.board k × StandsFor plan k e (after_events s es).machine × ((call : Call Rid) → IsIn call (calls_of es) → ChangesEntry call e → ⊥) }
-    ensures round { (plan : Ports) (workers : ℕ) (capacities : List ℕ) (k : Key) (s t : LoggedSwitch) (x : LogsMark plan workers capacities s t) (ts : List LoggedSwitch) (run : AreLoggedEvents plan workers capacities t ts) (e : Entry Rid) → IsPlan plan → IsSafe plan workers capacities t.switch → TakeNone plan workers capacities k t ts run → (ListsKey k x.waits → ⊥) → StandsFor plan k e t.switch.machine → (calls : List (Call Rid)) × ((after_logged t ts).effects ≡ t.effects ++ calls) × StandsFor plan k e (after_logged t ts).switch.machine × ((call : Call Rid) → IsIn call calls → ChangesEntry call e → ⊥) }
+    ensures round { (plan : Ports) (workers : ℕ) (capacities : List ℕ) (k : Key) (s t : LoggedSwitch) (x : LogsMark plan workers capacities s t) (ts : List LoggedSwitch) (run : AreLoggedEvents plan workers capacities t ts) (e : Entry Rid) → IsPlan plan → IsSafe plan workers capacities t.switch → AreNoWritesOf plan workers capacities k t ts run → (ListsKey k x.waits → ⊥) → StandsFor plan k e t.switch.machine → (calls : List (Call Rid)) × ((after_logged t ts).effects ≡ t.effects ++ calls) × StandsFor plan k e (after_logged t ts).switch.machine × ((call : Call Rid) → IsIn call calls → ChangesEntry call e → ⊥) }
 {}
 
 /// From the new switch on each row that is applied or to be applied is its key's good row after some number of the writes taken.
