@@ -22,3 +22,4 @@ pub mod Possible
 pub mod Places
 pub mod Holding
 pub mod Progress
+pub mod Completing
