@@ -25,6 +25,9 @@ use Rattle.switch_machine.specs.Flights.{IsRow}
 use Rattle.switch_machine.specs.Written.{IsGoodOnce}
 use Rattle.switch_machine.proofs.Reasoned.{route-row}
 use Rattle.machine_laws.specs.Logged.{AreLoggedEvents, IsLoggedEvent, LoggedSwitch, new_switch, after_logged}
+use Rattle.switch_model.specs.declared.mark.MarkEvent.TheVariants as event
+use Rattle.machine_laws.specs.Order.{IsOrdered}
+use Rattle.machine_laws.proofs.Ordering.{Rounds, ordered-rounds, rounds-more}
 use Rattle.machine_laws.proofs.Named.{route-stands}
 use Rattle.machine_laws.proofs.Staying.{chip_after-all, chip_after-front, good-front, split}
 use Rattle.machine_laws.proofs.Telling.{Told, told-new, told_event}
@@ -48,6 +51,7 @@ module _ (plan : Ports) (is : IsPlan plan) (workers : ℕ) (capacities : List �
   record Dated (s : LoggedSwitch) : Type 0 where
     told : Told plan is workers capacities s
     routes : (j : ℕ) → j ≤ length s.effects → RoutesAreOfRows plan s.log.taken (chip_after s.effects j)
+    rounds : Rounds s.log
 
   -- the routes on the chip are of rows that are applied or to be
   routes_now : (t : LoggedSwitch) → Told plan is workers capacities t → RoutesAreOfRows plan t.log.taken t.switch.objects
@@ -79,19 +83,20 @@ module _ (plan : Ports) (is : IsPlan plan) (workers : ℕ) (capacities : List �
   dated_event s t x (inl e) = record {
     told = told_event plan is workers capacities s t x.told (inl e);
     routes = same_routes (s.log.taken ++ e.sent ∷ []) t.log.taken s.effects t.effects (ap (λ z. z.taken) e.log) e.effects (λ j le. later_routes s.log.taken e.sent (chip_after s.effects j) (x.routes j le));
+    rounds = subst Rounds (sym e.log) (record { settled = x.rounds.settled; ends = x.rounds.ends });
   }
-  dated_event s t x (inr (inl e)) = record { told = told; routes = routes_grown t.log.taken s.effects t.effects e.call e.effects (same_routes s.log.taken t.log.taken s.effects s.effects (ap (λ z. z.taken) e.log) refl x.routes) (subst (RoutesAreOfRows plan t.log.taken) (told.objects ∙ sym (chip_after-all t.effects)) (routes_now t told)) }
+  dated_event s t x (inr (inl e)) = record { told = told; routes = routes_grown t.log.taken s.effects t.effects e.call e.effects (same_routes s.log.taken t.log.taken s.effects s.effects (ap (λ z. z.taken) e.log) refl x.routes) (subst (RoutesAreOfRows plan t.log.taken) (told.objects ∙ sym (chip_after-all t.effects)) (routes_now t told)); rounds = subst Rounds (sym e.log) x.rounds }
     where
       told : Told plan is workers capacities t
       told = told_event plan is workers capacities s t x.told (inr (inl e))
-  dated_event s t x (inr (inr e)) = record { told = told_event plan is workers capacities s t x.told (inr (inr e)); routes = same_routes s.log.taken t.log.taken s.effects t.effects (ap (λ z. z.taken) e.log) e.effects x.routes }
+  dated_event s t x (inr (inr e)) = record { told = told_event plan is workers capacities s t x.told (inr (inr e)); routes = same_routes s.log.taken t.log.taken s.effects t.effects (ap (λ z. z.taken) e.log) e.effects x.routes; rounds = subst Rounds (sym e.log) (rounds-more s.log (record { taken = length s.log.taken; effects = length s.effects; event = event.Settled e.waits e.turns }) tt x.rounds) }
 
   dated_log : (s : LoggedSwitch) (ts : List LoggedSwitch) → Dated s → AreLoggedEvents plan workers capacities s ts → Dated (after_logged s ts)
   dated_log s [] x run = x
   dated_log s (t ∷ ts) x run = dated_log t ts (dated_event s t x run.0) run.1
 
   dated_new : Dated new_switch
-  dated_new = record { told = told-new plan is workers capacities; routes = λ j le prefix goal h. elim (subst (λ z. IsIn (Some (thing.Route prefix goal)) (named z)) (nothing j) h) [ ] }
+  dated_new = record { told = told-new plan is workers capacities; routes = λ j le prefix goal h. elim (subst (λ z. IsIn (Some (thing.Route prefix goal)) (named z)) (nothing j) h) [ ]; rounds = record { settled = tt; ends = refl } }
     where
       nothing : (n : ℕ) → chip_after [] n ≡ []
       nothing zero = refl
@@ -108,3 +113,6 @@ module _ (plan : Ports) (is : IsPlan plan) (workers : ℕ) (capacities : List �
 
   pub safe-log : (ts : List LoggedSwitch) → AreLoggedEvents plan workers capacities new_switch ts → IsSafe plan workers capacities (after_logged new_switch ts).switch
   safe-log ts run = (dated_log new_switch ts dated_new run).told.kept
+
+  pub ordered-log : (ts : List LoggedSwitch) → AreLoggedEvents plan workers capacities new_switch ts → IsOrdered (after_logged new_switch ts).log
+  ordered-log ts run = ordered-rounds (after_logged new_switch ts).log (dated_log new_switch ts dated_new run).rounds

@@ -16,6 +16,10 @@ pub mod Unnamed
 pub mod Staying
 pub mod Telling
 pub mod Named
+pub mod Ordering
 pub mod Dated
 pub mod Possible
 pub mod Places
+pub mod Holding
+pub mod Progress
+pub mod Completing

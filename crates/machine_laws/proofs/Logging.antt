@@ -1,5 +1,5 @@
 -- a whole settling is a list of logged events, and its effects are those of as many turns as its mark counts
-use Rattle.std.proofs.Common.{◌≡◌, ◌∷◌, ◌++◌, ◌∙◌, inl, inr, ℕ, List, [], Option, None, Some, refl, sym, ap, subst}
+use Rattle.std.proofs.Common.{◌≡◌, ◌⊎◌, ◌∷◌, ◌++◌, ◌∙◌, inl, inr, ℕ, List, [], Option, None, Some, refl, sym, ap, subst}
 use Rattle.std.proofs.lemmas.List.{append-nil, append_assoc}
 use Rattle.table_schema.specs.Plan.{IsPlan, Ports}
 use Rattle.table_schema.specs.declared.key.Key.{Key}
@@ -8,8 +8,11 @@ use Rattle.sai_types.specs.declared.body.Call.{Call}
 use Rattle.sai_types.specs.Alike.{IsIn}
 use Rattle.switch_machine.specs.Events.{AreEvents, IsQuiet, IsSafe, Popped, PopsKey, Stays, SwitchState, after_events, calls_of, with_made_call}
 use Rattle.switch_machine.specs.Flights.{Flight}
-use Rattle.switch_machine.specs.Written.{HasNoWrite, good_of}
+use Rattle.switch_machine.specs.Written.{HasNoWrite, IsAsBefore, IsPoppedKey, IsTold, good_of}
 use Rattle.switch_machine.proofs.Runs.{kept-run}
+use Rattle.switch_machine.proofs.Telling.{told-popped}
+use Rattle.switch_model.specs.Good.{good_row, good_rows}
+use Rattle.table_schema.specs.Rows.{fields_at, rows_of}
 use Rattle.machine_laws.specs.Calls.{AreTurnsWith, Situation}
 use Rattle.machine_laws.specs.Logged.{AreLoggedEvents, ArePops, IsWholeSettling, LoggedSwitch, LogsMark, after_logged, after_pops}
 use Rattle.machine_laws.specs.Settling.{IsSituationOf, situation}
@@ -90,6 +93,22 @@ module _ (plan : Ports) (workers : ℕ) (capacities : List ℕ) where
     (λ had. x.all k (pops_bring s.switch x.pops k x.are_pops (x.popped k) had)),
     λ h none. pops_only s.switch x.pops k x.are_pops none (x.only k h),
   )
+
+  pops_told : (s : SwitchState) (ts : List SwitchState) → ArePops s ts → IsTold s.written → IsTold (after_pops s ts).written × ((after_pops s ts).written.taken ≡ s.written.taken)
+  pops_told s [] run told = (told, refl)
+  pops_told s (t ∷ ts) run told =
+      let y = pops_told t ts run.1 (told-popped s.written t.written (record { taken = run.0.taken; keys = λ k. by k (run.0.keys k) }) told) in
+      (y.0, y.1 ∙ run.0.taken)
+    where
+      by : (k : Key) → PopsKey s t k → IsAsBefore s.written t.written k ⊎ IsPoppedKey s.written t.written k
+      by k (Stays same gone) = inl same
+      by k (Popped some popped there) = inr popped
+
+  -- the good rows of its turns are those of all the writes taken
+  pub settling-good : (s t : LoggedSwitch) (x : IsWholeSettling plan workers capacities s t) → IsSafe plan workers capacities s.switch → (k : Key) → good_of plan (after_pops s.switch x.pops).written k ≡ good_rows plan (rows_of s.switch.written.taken) k
+  settling-good s t x kept k =
+      let y = pops_told s.switch x.pops x.are_pops kept.told in
+      ap (good_row plan k) (sym (x.popped k ((after_pops s.switch x.pops).written.rows k)) ∙ sym (y.0 k) ∙ ap (λ z. fields_at (rows_of z) k) y.1)
 
   module _ (is : IsPlan plan) (s t : LoggedSwitch) (x : IsWholeSettling plan workers capacities s t) (kept : IsSafe plan workers capacities s.switch) (quiet : IsQuiet s.switch) where
     popped : SwitchState

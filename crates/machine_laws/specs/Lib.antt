@@ -4,3 +4,4 @@ pub mod Calls
 pub mod Settling
 pub mod Quiet
 pub mod Logged
+pub mod Order

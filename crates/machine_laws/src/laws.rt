@@ -4,6 +4,7 @@ ghost use Rattle.table_schema.specs.Fields.{Pairs};
 ghost use Rattle.table_schema.specs.KeyText.{key_of};
 ghost use Rattle.table_schema.specs.Names.{names_of};
 ghost use Rattle.table_schema.specs.Plan.{IsPlan, Ports};
+ghost use Rattle.table_schema.specs.Rows.{rows_of};
 ghost use Rattle.table_schema.specs.declared.key.Key.{Key};
 ghost use Rattle.table_schema.specs.declared.row.Row.{Row};
 ghost use Rattle.sai_types.specs.declared.body.Call.{Call};
@@ -12,21 +13,23 @@ ghost use Rattle.sai_types.specs.declared.ids.Rid.{Rid};
 ghost use Rattle.sai_types.specs.declared.kind.Kind.{Kind};
 ghost use Rattle.sai_types.specs.Alike.{IsAlike, IsIn};
 ghost use Rattle.switch_model.specs.Desired.{IsClosed, IsThingOf, have_rows};
-ghost use Rattle.switch_model.specs.Good.{TypedRows, good_row};
+ghost use Rattle.switch_model.specs.Good.{TypedRows, good_row, good_rows};
 ghost use Rattle.switch_model.specs.Levels.{level_of};
 ghost use Rattle.switch_model.specs.Marks.{Waiting};
 ghost use Rattle.switch_model.specs.Promises.{EffectsAreLegal, MarksAreTrue, good_rows_at};
 ghost use Rattle.switch_model.specs.Sound.{AreWithin};
 ghost use Rattle.switch_model.specs.Turns.{TakeTurns};
 ghost use Rattle.row_layout.specs.Operations.{Change};
-ghost use Rattle.switch_machine.specs.Events.{AreEvents, IsQuiet, IsSafe, SwitchState, after_events, calls_of};
+ghost use Rattle.switch_machine.specs.Events.{AreEvents, IsBegin, IsQuiet, IsSafe, SwitchState, after_events, calls_of};
 ghost use Rattle.switch_machine.specs.Flights.{Fits, Flight, IsResting, IsRow};
+ghost use Rattle.switch_machine.specs.Next.{HasReason};
 ghost use Rattle.switch_machine.specs.Operations.{MayBegin};
 ghost use Rattle.switch_machine.specs.Places.{HasRoomFor};
 ghost use Rattle.switch_machine.specs.Reasons.{LacksRoom};
 ghost use Rattle.switch_machine.specs.Written.{HasNoWrite, good_of};
 ghost use Rattle.machine_laws.specs.Calls.{AreTurnsWith, Completes, Situation};
-ghost use Rattle.machine_laws.specs.Logged.{AreListed, AreLoggedEvents, IsWholeSettling, ListsKey, LoggedSwitch, LogsMark, TakeNone, after_logged, after_pops, new_switch};
+ghost use Rattle.machine_laws.specs.Logged.{AreListed, AreLoggedEvents, IsWholeSettling, ListsKey, LoggedSwitch, LogsMark, AreNoWritesOf, after_logged, after_pops, new_switch};
+ghost use Rattle.machine_laws.specs.Order.{IsOrdered};
 ghost use Rattle.machine_laws.specs.Quiet.{ChangesEntry, LeavesAlone, NamesNot, StandsFor};
 ghost use Rattle.machine_laws.specs.Reading.{IsOnSwitch};
 ghost use Rattle.machine_laws.specs.Settling.{AreMachineTurns, IsSituationOf, RunsAlone, situation};
@@ -68,14 +71,17 @@ pub fn settlings_drain()
 pub fn settlings_are_logged()
     ensures events { (plan : Ports) (workers : ℕ) (capacities : List ℕ) (s t : LoggedSwitch) (x : IsWholeSettling plan workers capacities s t) → IsPlan plan → IsSafe plan workers capacities s.switch → IsQuiet s.switch → (ts : List LoggedSwitch) × AreLoggedEvents plan workers capacities s ts × (after_logged s ts ≡ t) }
     ensures effects { (plan : Ports) (workers : ℕ) (capacities : List ℕ) (s t : LoggedSwitch) (x : IsWholeSettling plan workers capacities s t) → IsPlan plan → IsSafe plan workers capacities s.switch → IsQuiet s.switch → (z : Situation) × AreTurnsWith plan capacities (good_of plan (after_pops s.switch x.pops).written) x.turns (situation s.switch) x.keys z x.left x.calls × IsSituationOf z t.switch }
+    ensures good { (plan : Ports) (workers : ℕ) (capacities : List ℕ) (s t : LoggedSwitch) (x : IsWholeSettling plan workers capacities s t) (k : Key) → IsPlan plan → IsSafe plan workers capacities s.switch → good_of plan (after_pops s.switch x.pops).written k ≡ good_rows plan (rows_of s.switch.written.taken) k }
     ensures keys { (plan : Ports) (workers : ℕ) (capacities : List ℕ) (s t : LoggedSwitch) (x : IsWholeSettling plan workers capacities s t) (k : Key) → (IsIn k s.switch.to_sync → IsIn k x.keys) × ((HasNoWrite s.switch.written k → ⊥) → IsIn k x.keys) × (IsIn k x.keys → HasNoWrite s.switch.written k → IsIn k s.switch.to_sync) }
 {}
 
-/// From the new switch on the switch is safe, each mark is true, the marks' counts never fall nor exceed what there is, and each call that took
+/// From the new switch on the switch is safe, each mark is true, the marks stand in order, each
+/// directly before the end of a round, their counts never fall nor exceed what there is, and each call that took
 /// effect was legal and left no route that no row sent.
 pub fn marks_are_true()
     ensures safe { (plan : Ports) (workers : ℕ) (capacities : List ℕ) (ts : List LoggedSwitch) → IsPlan plan → AreLoggedEvents plan workers capacities new_switch ts → IsSafe plan workers capacities (after_logged new_switch ts).switch }
     ensures marks { (plan : Ports) (workers : ℕ) (capacities : List ℕ) (ts : List LoggedSwitch) → IsPlan plan → AreLoggedEvents plan workers capacities new_switch ts → MarksAreTrue plan capacities (after_logged new_switch ts).log (after_logged new_switch ts).effects }
+    ensures order { (plan : Ports) (workers : ℕ) (capacities : List ℕ) (ts : List LoggedSwitch) → IsPlan plan → AreLoggedEvents plan workers capacities new_switch ts → IsOrdered (after_logged new_switch ts).log }
     ensures counts { (plan : Ports) (workers : ℕ) (capacities : List ℕ) (ts : List LoggedSwitch) → IsPlan plan → AreLoggedEvents plan workers capacities new_switch ts → AreWithin (length (after_logged new_switch ts).log.taken) (length (after_logged new_switch ts).effects) (after_logged new_switch ts).log.marks }
     ensures effects { (plan : Ports) (workers : ℕ) (capacities : List ℕ) (ts : List LoggedSwitch) → IsPlan plan → AreLoggedEvents plan workers capacities new_switch ts → EffectsAreLegal plan capacities (after_logged new_switch ts).log.taken (after_logged new_switch ts).effects }
 {}
@@ -86,7 +92,7 @@ pub fn marks_are_true()
 pub fn quiet_rows_stay()
     ensures alone { (plan : Ports) (workers : ℕ) (capacities : List ℕ) (k : Key) (s : SwitchState) (es : List (Option (Call Rid) × SwitchState)) (e : Entry Rid) → IsPlan plan → IsSafe plan workers capacities s → AreEvents plan workers capacities s es → LeavesAlone k s es → IsResting s.machine.board k → (IsIn k s.to_sync → ⊥) → StandsFor plan k e s.machine → IsResting (after_events s es).machine.board k × StandsFor plan k e (after_events s es).machine × ((call : Call Rid) → IsIn call (calls_of es) → ChangesEntry call e → ⊥) }
     ensures unnamed { (plan : Ports) (workers : ℕ) (capacities : List ℕ) (k : Key) (s : SwitchState) (es : List (Option (Call Rid) × SwitchState)) (e : Entry Rid) → IsPlan plan → IsSafe plan workers capacities s → (run : AreEvents plan workers capacities s es) → NamesNot plan workers capacities k s es run → HasNoWrite s.written k → IsResting s.machine.board k → (IsIn k s.to_sync → ⊥) → StandsFor plan k e s.machine → IsResting (after_events s es).machine.board k × StandsFor plan k e (after_events s es).machine × ((call : Call Rid) → IsIn call (calls_of es) → ChangesEntry call e → ⊥) }
-    ensures round { (plan : Ports) (workers : ℕ) (capacities : List ℕ) (k : Key) (s t : LoggedSwitch) (x : LogsMark plan workers capacities s t) (ts : List LoggedSwitch) (run : AreLoggedEvents plan workers capacities t ts) (e : Entry Rid) → IsPlan plan → IsSafe plan workers capacities t.switch → TakeNone plan workers capacities k t ts run → (ListsKey k x.waits → ⊥) → StandsFor plan k e t.switch.machine → (calls : List (Call Rid)) × ((after_logged t ts).effects ≡ t.effects ++ calls) × StandsFor plan k e (after_logged t ts).switch.machine × ((call : Call Rid) → IsIn call calls → ChangesEntry call e → ⊥) }
+    ensures round { (plan : Ports) (workers : ℕ) (capacities : List ℕ) (k : Key) (s t : LoggedSwitch) (x : LogsMark plan workers capacities s t) (ts : List LoggedSwitch) (run : AreLoggedEvents plan workers capacities t ts) (e : Entry Rid) → IsPlan plan → IsSafe plan workers capacities t.switch → AreNoWritesOf plan workers capacities k t ts run → (ListsKey k x.waits → ⊥) → StandsFor plan k e t.switch.machine → (calls : List (Call Rid)) × ((after_logged t ts).effects ≡ t.effects ++ calls) × StandsFor plan k e (after_logged t ts).switch.machine × ((call : Call Rid) → IsIn call calls → ChangesEntry call e → ⊥) }
 {}
 
 /// From the new switch on each row that is applied or to be applied is its key's good row after some number of the writes taken.
@@ -96,11 +102,12 @@ pub fn rows_are_dated()
 
 /// While no operation is under way an operation of a key that was read may begin for any worker, where all that its good row
 /// names is applied, or where it has none and no applied row names it. Where an operation may begin there is room for it, or the
-/// key lacks room for a first kind; a row that goes needs none.
+/// key lacks room for a first kind; a row that goes needs none. So each key to sync has a reason to wait, or begins.
 pub fn keys_may_begin()
     ensures reads { (text : List ℕ) → IsOnSwitch (key_of text) }
     ensures fits { (plan : Ports) (applied : TypedRows) (k : Key) (fields : Pairs) (r : Row) → ((q : Key) (x : Row) → applied q ≡ Some x → Fits plan q x) → IsClosed applied → IsOnSwitch k → good_row plan k (Some fields) ≡ Some r → have_rows applied (names_of k r) ≡ true → Fits plan k r }
     ensures begins { (plan : Ports) (workers : ℕ) (capacities : List ℕ) (s : SwitchState) (w : ℕ) (k : Key) → IsPlan plan → IsSafe plan workers capacities s → IsQuiet s → IsOnSwitch k → ((r : Row) → good_of plan s.written k ≡ Some r → have_rows s.machine.board.applied (names_of k r) ≡ true) → (good_of plan s.written k ≡ None → (q : Key) (r : Row) → s.machine.board.applied q ≡ Some r → IsIn k (names_of q r) → ⊥) → (f : Flight) × (due : List Change) × (f.key ≡ k) × (f.new ≡ good_of plan s.written k) × MayBegin plan s.machine w f due }
     ensures room { (plan : Ports) (workers : ℕ) (capacities : List ℕ) (s : SwitchState) (w : ℕ) (f : Flight) (due : List Change) (row : Row) → MayBegin plan s.machine w f due → f.new ≡ Some row → good_of plan s.written f.key ≡ Some row → HasRoomFor workers capacities s.objects s.machine due ⊎ ((kind : Kind) × LacksRoom plan workers capacities s f.key kind) }
     ensures room_gone { (plan : Ports) (workers : ℕ) (capacities : List ℕ) (s : SwitchState) (w : ℕ) (f : Flight) (due : List Change) → MayBegin plan s.machine w f due → f.new ≡ None → HasRoomFor workers capacities s.objects s.machine due }
+    ensures waits_or_begins { (plan : Ports) (workers : ℕ) (capacities : List ℕ) (s : SwitchState) (w : ℕ) (k : Key) → IsPlan plan → IsSafe plan workers capacities s → IsQuiet s → w < workers → IsIn k s.to_sync → IsOnSwitch k → HasReason plan workers capacities s k ⊎ ((t : SwitchState) × (x : IsBegin plan workers capacities s t) × (x.worker ≡ w) × (x.flight.key ≡ k)) }
 {}

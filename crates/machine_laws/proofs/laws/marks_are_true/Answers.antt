@@ -1,4 +1,4 @@
-use Rattle.machine_laws.proofs.Dated.{counts-within, safe-log, true-log}
+use Rattle.machine_laws.proofs.Dated.{counts-within, ordered-log, safe-log, true-log}
 use Rattle.machine_laws.proofs.laws.marks_are_true.Goals as goal
 
 pub returns-clause-marks : goal.returns-clause-marks
@@ -12,3 +12,6 @@ returns-clause-counts c = λ plan workers capacities ts is run. counts-within pl
 
 pub returns-clause-safe : goal.returns-clause-safe
 returns-clause-safe c = λ plan workers capacities ts is run. safe-log plan is workers capacities ts run
+
+pub returns-clause-order : goal.returns-clause-order
+returns-clause-order c = λ plan workers capacities ts is run. ordered-log plan is workers capacities ts run

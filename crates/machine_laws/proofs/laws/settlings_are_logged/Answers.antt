@@ -1,4 +1,4 @@
-use Rattle.machine_laws.proofs.Logging.{settling-calls, settling-keys, settling-logged}
+use Rattle.machine_laws.proofs.Logging.{settling-calls, settling-good, settling-keys, settling-logged}
 use Rattle.machine_laws.proofs.laws.settlings_are_logged.Goals as goal
 
 pub returns-clause-events : goal.returns-clause-events
@@ -9,3 +9,6 @@ returns-clause-effects c = λ plan workers capacities s t x is kept quiet. settl
 
 pub returns-clause-keys : goal.returns-clause-keys
 returns-clause-keys c = λ plan workers capacities s t x k. settling-keys plan workers capacities s t x k
+
+pub returns-clause-good : goal.returns-clause-good
+returns-clause-good c = λ plan workers capacities s t x k is kept. settling-good plan workers capacities s t x kept k
