@@ -14,13 +14,13 @@ use Rattle.plan_laws.specs.Applied.{AppliesCold, IsColdPlan, nothing}
 use Rattle.plan_laws.specs.Moments.{IsMoment}
 use Rattle.plan_laws.specs.Old.{old_things}
 use Rattle.plan_laws.specs.Plans.{PlanChange, cold_rank}
-use Rattle.plan_laws.specs.Views.{AreNamed, HasRoomFor, made_names}
+use Rattle.plan_laws.specs.Views.{HaveOwnNames, HasRoomFor, made_names}
 use Rattle.plan_laws.proofs.Allowed.{IsSafePlan, cold-safe, ends-new}
 use Rattle.plan_laws.proofs.Rooms.{makes-lacking}
 use Rattle.plan_laws.proofs.Running.{IsEnd, after-append, legal-append, plan-alike, run-end}
 use Rattle.plan_laws.proofs.Starting.{first-moment, old-named}
 
-none_named : AreNamed []
+none_named : HaveOwnNames []
 none_named = record { one = λ t u i j e. elim i [ ]; proper = λ p g i. elim i [ ] }
 
 none_long : {X : Type 0} (xs : List X) → ((x : X) → IsIn x xs → ⊥) → length xs ≤ 0

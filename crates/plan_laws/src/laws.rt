@@ -20,14 +20,14 @@ ghost use Rattle.plan_laws.specs.Calls.{PlansChanges, resolve, viewed};
 ghost use Rattle.plan_laws.specs.Old.{old_layout, old_things};
 ghost use Rattle.plan_laws.specs.Plans.{IsViewPlan, PlanChange, hitless_rank};
 ghost use Rattle.plan_laws.specs.Steady.{ForwardsAfter, IsHitless, IsOldOrNew, StaysNew};
-ghost use Rattle.plan_laws.specs.Views.{AreLacking, AreNamed, FitsHitless, HasRoomFor};
+ghost use Rattle.plan_laws.specs.Views.{AreLacking, HaveOwnNames, FitsHitless, HasRoomFor};
 
 /// After each change of a hitless plan each address is decided as by the old things or as by the new ones, and once as
 /// by the new ones always so. What both forward equally is forwarded so, with the same Ethernet addresses.
 pub fn hitless_moves_once()
-    ensures decided { (old new now : List Thing) (done due : List PlanChange) → AreNamed old → AreNamed new → IsViewPlan hitless_rank old new (done ++ due) → ForwardsAfter old done now → IsOldOrNew old new now }
-    ensures stays { (old new now later : List Thing) (done more due : List PlanChange) → AreNamed old → AreNamed new → IsViewPlan hitless_rank old new (done ++ (more ++ due)) → ForwardsAfter old done now → ForwardsAfter old (done ++ more) later → StaysNew new now later }
-    ensures forwarded { (old new now : List Thing) (done due : List PlanChange) → AreNamed old → AreNamed new → IsViewPlan hitless_rank old new (done ++ due) → ForwardsAfter old done now → IsHitless old new now }
+    ensures decided { (old new now : List Thing) (done due : List PlanChange) → HaveOwnNames old → HaveOwnNames new → IsViewPlan hitless_rank old new (done ++ due) → ForwardsAfter old done now → IsOldOrNew old new now }
+    ensures stays { (old new now later : List Thing) (done more due : List PlanChange) → HaveOwnNames old → HaveOwnNames new → IsViewPlan hitless_rank old new (done ++ (more ++ due)) → ForwardsAfter old done now → ForwardsAfter old (done ++ more) later → StaysNew new now later }
+    ensures forwarded { (old new now : List Thing) (done due : List PlanChange) → HaveOwnNames old → HaveOwnNames new → IsViewPlan hitless_rank old new (done ++ due) → ForwardsAfter old done now → IsHitless old new now }
 {}
 
 /// The calls of the first changes of a hitless plan, on a chip that was listed, leftovers and doubles included, are
