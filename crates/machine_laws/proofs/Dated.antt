@@ -20,7 +20,7 @@ use Rattle.switch_model.specs.Sound.{AreWithin}
 use Rattle.table_schema.specs.declared.write.Write.{Write}
 use Rattle.switch_model.specs.Promises.{EffectsAreLegal, MarksAreTrue, RoutesAreOfRows, good_rows_at}
 use Rattle.row_layout.proofs.Split.{things-split}
-use Rattle.switch_machine.specs.Events.{with_made_call}
+use Rattle.switch_machine.specs.Events.{IsSafe, with_made_call}
 use Rattle.switch_machine.specs.Flights.{IsRow}
 use Rattle.switch_machine.specs.Written.{IsGoodOnce}
 use Rattle.switch_machine.proofs.Reasoned.{route-row}
@@ -105,3 +105,6 @@ module _ (plan : Ports) (is : IsPlan plan) (workers : ℕ) (capacities : List �
 
   pub counts-within : (ts : List LoggedSwitch) → AreLoggedEvents plan workers capacities new_switch ts → AreWithin (length (after_logged new_switch ts).log.taken) (length (after_logged new_switch ts).effects) (after_logged new_switch ts).log.marks
   counts-within ts run = (dated_log new_switch ts dated_new run).told.within
+
+  pub safe-log : (ts : List LoggedSwitch) → AreLoggedEvents plan workers capacities new_switch ts → IsSafe plan workers capacities (after_logged new_switch ts).switch
+  safe-log ts run = (dated_log new_switch ts dated_new run).told.kept

@@ -9,6 +9,7 @@ pub mod Dropping
 pub mod Settling
 pub mod Turning
 pub mod Waiting
+pub mod Logging
 pub mod Draining
 pub mod Quieting
 pub mod Unnamed

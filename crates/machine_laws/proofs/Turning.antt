@@ -27,19 +27,29 @@ module _ (plan : Ports) (capacities : List ℕ) (good : TypedRows) where
 -- ---- a settling as events
 
 module _ (plan : Ports) (workers : ℕ) (capacities : List ℕ) where
+  -- no event takes a write
+  abbrev pub TakeNothing : SwitchState → List (Option (Call Rid) × SwitchState) → Type 0
+  TakeNothing s [] = Unit {0}
+  TakeNothing s (e ∷ es) = (e.1.written.taken ≡ s.written.taken) × TakeNothing e.1 es
+
   -- events that lead from one state to another, with these calls
-  record Leads (s t : SwitchState) (calls : List (Call Rid)) : Type 0 where
-    events : List (Option (Call Rid) × SwitchState)
-    are : AreEvents plan workers capacities s events
-    last : after_events s events ≡ t
-    calls_are : calls_of events ≡ calls
+  pub record Leads (s t : SwitchState) (calls : List (Call Rid)) : Type 0 where
+    pub events : List (Option (Call Rid) × SwitchState)
+    pub are : AreEvents plan workers capacities s events
+    pub last : after_events s events ≡ t
+    pub takeless : TakeNothing s events
+    pub calls_are : calls_of events ≡ calls
 
   nothing : (s t : SwitchState) (calls : List (Call Rid)) → t ≡ s → calls ≡ [] → Leads s t calls
-  nothing s t calls e none = record { events = []; are = tt; last = sym e; calls_are = sym none }
+  nothing s t calls e none = record { events = []; are = tt; last = sym e; takeless = tt; calls_are = sym none }
 
   events_after : (s : SwitchState) (es fs : List (Option (Call Rid) × SwitchState)) → AreEvents plan workers capacities s es → AreEvents plan workers capacities (after_events s es) fs → AreEvents plan workers capacities s (es ++ fs) × (after_events s (es ++ fs) ≡ after_events (after_events s es) fs)
   events_after s [] fs run more = (more, refl)
   events_after s (e ∷ es) fs run more = let y = events_after e.1 es fs run.1 more in ((run.0, y.0), y.1)
+
+  takeless_after : (s : SwitchState) (es fs : List (Option (Call Rid) × SwitchState)) → TakeNothing s es → TakeNothing (after_events s es) fs → TakeNothing s (es ++ fs)
+  takeless_after s [] fs h g = g
+  takeless_after s (e ∷ es) fs h g = (h.0, takeless_after e.1 es fs h.1 g)
 
   made_more : (c : Option (Call Rid)) (calls more : List (Call Rid)) → with_made_call c (calls ++ more) ≡ with_made_call c calls ++ more
   made_more None calls more = refl
@@ -49,13 +59,14 @@ module _ (plan : Ports) (workers : ℕ) (capacities : List ℕ) where
   calls_more [] fs = refl
   calls_more (e ∷ es) fs = ap (with_made_call e.0) (calls_more es fs) ∙ made_more e.0 (calls_of es) (calls_of fs)
 
-  both : (s mid t : SwitchState) (own more calls : List (Call Rid)) → calls ≡ own ++ more → Leads s mid own → Leads mid t more → Leads s t calls
+  pub both : (s mid t : SwitchState) (own more calls : List (Call Rid)) → calls ≡ own ++ more → Leads s mid own → Leads mid t more → Leads s t calls
   both s mid t own more calls e x y =
       let z = events_after s x.events y.events x.are (subst (λ v. AreEvents plan workers capacities v y.events) (sym x.last) y.are) in
       record {
         events = x.events ++ y.events;
         are = z.0;
         last = z.1 ∙ ap (λ v. after_events v y.events) x.last ∙ y.last;
+        takeless = takeless_after s x.events y.events x.takeless (subst (λ v. TakeNothing v y.events) (sym x.last) y.takeless);
         calls_are = calls_more x.events y.events ∙ ap (λ v. v ++ calls_of y.events) x.calls_are ∙ ap (λ v. own ++ v) y.calls_are ∙ sym e;
       }
 
@@ -63,24 +74,24 @@ module _ (plan : Ports) (workers : ℕ) (capacities : List ℕ) where
   answers s [] run = nothing s s [] refl refl
   answers s (e ∷ es) run =
       let y = answers e.1 es run.1 in
-      record { events = (Some e.0, e.1) ∷ y.events; are = (run.0, y.are); last = y.last; calls_are = ap (λ z. e.0 ∷ z) y.calls_are }
+      record { events = (Some e.0, e.1) ∷ y.events; are = (run.0, y.are); last = y.last; takeless = (ap (λ z. z.taken) run.0.written, y.takeless); calls_are = ap (λ z. e.0 ∷ z) y.calls_are }
 
   leaves : (k : Key) (s t : SwitchState) (calls : List (Call Rid)) → DropsKey plan k s t calls ⊎ RunsAlone plan workers capacities k s t calls → Leads s t calls
-  leaves k s t calls (inl x) = record { events = (None, t) ∷ []; are = (inr (inr (inl x.drop)), tt); last = refl; calls_are = sym x.none }
+  leaves k s t calls (inl x) = record { events = (None, t) ∷ []; are = (inr (inr (inl x.drop)), tt); last = refl; takeless = (ap (λ z. z.taken) x.drop.written, tt); calls_are = sym x.none }
   leaves k s t calls (inr x) =
       let y = answers x.first x.answers x.are in
-      record { events = (None, x.first) ∷ y.events; are = (inr (inr (inr x.starting)), y.are); last = y.last ∙ sym x.last; calls_are = y.calls_are ∙ sym x.calls_are }
+      record { events = (None, x.first) ∷ y.events; are = (inr (inr (inr x.starting)), y.are); last = y.last ∙ sym x.last; takeless = (ap (λ z. z.taken) x.starting.written, y.takeless); calls_are = y.calls_are ∙ sym x.calls_are }
 
   turn : (ks : List Key) (s t : SwitchState) (left : List Key) (calls : List (Call Rid)) → IsMachineTurn plan workers capacities s ks t left calls → Leads s t calls
   turn [] s t left calls (e, none, no_call) = nothing s t calls e no_call
   turn (k ∷ ks) s t left calls (inl (w, reason, rest, e, more)) = turn ks s t rest calls more
   turn (k ∷ ks) s t left calls (inr (mid, own, rest, x, e, more)) = both s mid t own rest calls e (leaves k s mid own x) (turn ks mid t left rest more)
 
-  turns : (n : ℕ) (s t : SwitchState) (keys left : List Key) (calls : List (Call Rid)) → AreMachineTurns plan workers capacities n s keys t left calls → Leads s t calls
-  turns zero s t keys left calls (none, e, gone, no_call) = nothing s t calls e no_call
-  turns (suc n) s t keys left calls (some, mid, rest, own, one, inl (e, zero_more, at, gone, all)) = both s mid t own [] calls (all ∙ sym (append-nil own)) (turn keys s mid rest own one) (nothing mid t [] at refl)
-  turns (suc n) s t keys left calls (some, mid, rest, own, one, inr (less, more, all, later)) = both s mid t own more calls all (turn keys s mid rest own one) (turns n mid t rest left more later)
+  pub turns-lead : (n : ℕ) (s t : SwitchState) (keys left : List Key) (calls : List (Call Rid)) → AreMachineTurns plan workers capacities n s keys t left calls → Leads s t calls
+  turns-lead zero s t keys left calls (none, e, gone, no_call) = nothing s t calls e no_call
+  turns-lead (suc n) s t keys left calls (some, mid, rest, own, one, inl (e, zero_more, at, gone, all)) = both s mid t own [] calls (all ∙ sym (append-nil own)) (turn keys s mid rest own one) (nothing mid t [] at refl)
+  turns-lead (suc n) s t keys left calls (some, mid, rest, own, one, inr (less, more, all, later)) = both s mid t own more calls all (turn keys s mid rest own one) (turns-lead n mid t rest left more later)
 
   -- a settling is a list of events with its calls
   pub settling-events : (n : ℕ) (s t : SwitchState) (keys left : List Key) (calls : List (Call Rid)) → AreMachineTurns plan workers capacities n s keys t left calls → (es : List (Option (Call Rid) × SwitchState)) × AreEvents plan workers capacities s es × (after_events s es ≡ t) × (calls_of es ≡ calls)
-  settling-events n s t keys left calls h = let x = turns n s t keys left calls h in (x.events, x.are, x.last, x.calls_are)
+  settling-events n s t keys left calls h = let x = turns-lead n s t keys left calls h in (x.events, x.are, x.last, x.calls_are)

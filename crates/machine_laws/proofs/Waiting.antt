@@ -137,3 +137,7 @@ module _ (plan : Ports) (workers : ℕ) (capacities : List ℕ) where
       let x = turns n s t keys left calls f h in
       let y = listing t left x.waits in
       (y.waits, y.listed, (λ q at. y.all q (x.all q at)), y.only)
+
+  -- a key that is to sync after a settling is one that its turns left
+  pub sync-left : (n : ℕ) (s t : SwitchState) (keys left : List Key) (calls : List (Call Rid)) → ((q : Key) → IsIn q s.to_sync → IsIn q keys) → AreMachineTurns plan workers capacities n s keys t left calls → (q : Key) → IsIn q t.to_sync → IsIn q left
+  sync-left n s t keys left calls f h = (turns n s t keys left calls f h).all

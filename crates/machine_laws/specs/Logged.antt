@@ -6,12 +6,15 @@ use Rattle.table_schema.specs.declared.write.Sent.{Sent}
 use Rattle.sai_types.specs.declared.ids.Rid.{Rid}
 use Rattle.sai_types.specs.declared.body.Call.{Call}
 use Rattle.sai_types.specs.Alike.{IsIn}
-use Rattle.switch_model.specs.History.{History, no_history, with_mark, with_write}
-use Rattle.switch_model.specs.Marks.{Waiting}
+use mathlib.Core.Logic.{inl, inr}
+use Rattle.switch_model.specs.History.{History, no_history, with_end, with_mark, with_write}
+use Rattle.switch_model.specs.Marks.{Waiting, written_key}
 use Rattle.switch_model.specs.declared.mark.MarkEvent.TheVariants as event
-use Rattle.switch_machine.specs.Events.{SwitchState, IsEvent, IsQuiet, IsTake, with_made_call, empty_switch}
+use Rattle.switch_machine.specs.Events.{SwitchState, IsEvent, IsPop, IsQuiet, IsTake, with_made_call, empty_switch}
 use Rattle.switch_machine.specs.Reasons.{IsReason}
 use Rattle.switch_machine.specs.Written.{IsPopped}
+use Rattle.machine_laws.specs.Settling.{AreMachineTurns}
+use Rattle.machine_laws.specs.ToSync.{AreInKeyOrder}
 
 pub record LoggedSwitch : Type 0 where
   pub switch : SwitchState
@@ -46,7 +49,7 @@ abbrev pub ListsKey : Key → Waiting → Type 0
 ListsKey k [] = ⊥
 ListsKey k (w ∷ ws) = (w.0 ≡ k) ⊎ ListsKey k ws
 
--- a settling ends: no operation is under way, nothing waits in the tables, and the keys to sync are listed
+-- a settling ends: no operation is under way, nothing waits in the tables, the keys to sync are listed, and the round ends at the mark
 pub record LogsMark (plan : Ports) (workers : ℕ) (capacities : List ℕ) (s t : LoggedSwitch) : Type 0 where
   pub quiet : IsQuiet s.switch
   pub popped : IsPopped s.switch.written
@@ -55,7 +58,7 @@ pub record LogsMark (plan : Ports) (workers : ℕ) (capacities : List ℕ) (s t 
   pub listed : AreListed plan workers capacities s.switch waits
   pub all : (k : Key) → IsIn k s.switch.to_sync → ListsKey k waits
   pub switch : t.switch ≡ s.switch
-  pub log : t.log ≡ with_mark s.log (record { taken = length s.log.taken; effects = length s.effects; event = event.Settled waits turns })
+  pub log : t.log ≡ with_end (with_mark s.log (record { taken = length s.log.taken; effects = length s.effects; event = event.Settled waits turns }))
   pub effects : t.effects ≡ s.effects
 
 abbrev pub IsLoggedEvent : Ports → ℕ → List ℕ → LoggedSwitch → LoggedSwitch → Type 0
@@ -68,3 +71,45 @@ AreLoggedEvents plan workers capacities s (t ∷ ts) = IsLoggedEvent plan worker
 abbrev pub after_logged : LoggedSwitch → List LoggedSwitch → LoggedSwitch
 after_logged s [] = s
 after_logged s (t ∷ ts) = after_logged t ts
+
+-- ---- a whole settling
+
+-- keys are popped, batch after batch
+abbrev pub ArePops : SwitchState → List SwitchState → Type 0
+ArePops s [] = Unit {0}
+ArePops s (t ∷ ts) = IsPop s t × ArePops t ts
+
+abbrev pub after_pops : SwitchState → List SwitchState → SwitchState
+after_pops s [] = s
+after_pops s (t ∷ ts) = after_pops t ts
+
+-- a settling without a restart and a fault: all that waits is popped, turns are made over the keys to sync, in key order, and the mark lists the keys that are left and counts the turns
+pub record IsWholeSettling (plan : Ports) (workers : ℕ) (capacities : List ℕ) (s t : LoggedSwitch) : Type 0 where
+  pub pops : List SwitchState
+  pub are_pops : ArePops s.switch pops
+  pub popped : IsPopped (after_pops s.switch pops).written
+  pub keys : List Key
+  pub order : AreInKeyOrder keys
+  pub all : (k : Key) → IsIn k (after_pops s.switch pops).to_sync → IsIn k keys
+  pub only : (k : Key) → IsIn k keys → IsIn k (after_pops s.switch pops).to_sync
+  pub turns : ℕ
+  pub left : List Key
+  pub calls : List (Call Rid)
+  pub turns_are : AreMachineTurns plan workers capacities turns (after_pops s.switch pops) keys t.switch left calls
+  pub waits : Waiting
+  pub listed : AreListed plan workers capacities t.switch waits
+  pub lists : (k : Key) → IsIn k left → ListsKey k waits
+  pub lists_only : (k : Key) → ListsKey k waits → IsIn k left
+  pub effects : t.effects ≡ s.effects ++ calls
+  pub log : t.log ≡ with_end (with_mark s.log (record { taken = length s.log.taken; effects = length t.effects; event = event.Settled waits turns }))
+
+-- ---- writes of a key
+
+-- no write of the key is taken
+abbrev pub TakesNone : (plan : Ports) (workers : ℕ) (capacities : List ℕ) (k : Key) (s t : LoggedSwitch) → IsLoggedEvent plan workers capacities s t → Type 0
+TakesNone plan workers capacities k s t (inl x) = written_key x.sent.write ≡ k → ⊥
+TakesNone plan workers capacities k s t (inr x) = Unit {0}
+
+abbrev pub TakeNone : (plan : Ports) (workers : ℕ) (capacities : List ℕ) (k : Key) (s : LoggedSwitch) (ts : List LoggedSwitch) → AreLoggedEvents plan workers capacities s ts → Type 0
+TakeNone plan workers capacities k s [] run = Unit {0}
+TakeNone plan workers capacities k s (t ∷ ts) run = TakesNone plan workers capacities k s t run.0 × TakeNone plan workers capacities k t ts run.1

@@ -1,5 +1,5 @@
 // What whole settlings and logs of the machine come to. Each function is a law: it does nothing, and its contract is proved.
-ghost use Rattle.std.specs.Prelude.{◌≡◌, ◌⊎◌, ℕ, ◌≤◌, ◌<◌, true, List, [], length, Option, Some, None};
+ghost use Rattle.std.specs.Prelude.{◌≡◌, ◌++◌, ◌⊎◌, ℕ, ◌≤◌, ◌<◌, true, List, [], length, Option, Some, None};
 ghost use Rattle.table_schema.specs.Fields.{Pairs};
 ghost use Rattle.table_schema.specs.KeyText.{key_of};
 ghost use Rattle.table_schema.specs.Names.{names_of};
@@ -26,7 +26,7 @@ ghost use Rattle.switch_machine.specs.Places.{HasRoomFor};
 ghost use Rattle.switch_machine.specs.Reasons.{LacksRoom};
 ghost use Rattle.switch_machine.specs.Written.{HasNoWrite, good_of};
 ghost use Rattle.machine_laws.specs.Calls.{AreTurnsWith, Completes, Situation};
-ghost use Rattle.machine_laws.specs.Logged.{AreListed, AreLoggedEvents, ListsKey, LoggedSwitch, after_logged, new_switch};
+ghost use Rattle.machine_laws.specs.Logged.{AreListed, AreLoggedEvents, IsWholeSettling, ListsKey, LoggedSwitch, LogsMark, TakeNone, after_logged, after_pops, new_switch};
 ghost use Rattle.machine_laws.specs.Quiet.{ChangesEntry, LeavesAlone, NamesNot, StandsFor};
 ghost use Rattle.machine_laws.specs.Reading.{IsOnSwitch};
 ghost use Rattle.machine_laws.specs.Settling.{AreMachineTurns, IsSituationOf, RunsAlone, situation};
@@ -62,19 +62,31 @@ pub fn settlings_drain()
     ensures nothing_waits { (plan : Ports) (workers : ℕ) (capacities : List ℕ) (n : ℕ) (s t : SwitchState) (keys left : List Key) (calls : List (Call Rid)) (waits : Waiting) → IsPlan plan → IsSafe plan workers capacities s → IsQuiet s → IsClosed (good_of plan s.written) → HasRoomTogether plan capacities s.machine.board.applied (good_of plan s.written) → ((k : Key) → IsIn k s.to_sync → IsIn k keys) → AreInKeyOrder keys → AreMachineTurns plan workers capacities n s keys t left calls → AreListed plan workers capacities t waits → waits ≡ [] }
 {}
 
-/// From the new switch on each mark is true, the marks' counts never fall nor exceed what there is, and each call that took
+/// A settling without a restart and a fault is a list of logged events, which ends at its mark. Its effects are those of as many
+/// turns as the mark counts, over the rows that were applied before it and the good rows of all that was written. The turns
+/// begin with the keys that were to sync and those of which a write waited.
+pub fn settlings_are_logged()
+    ensures events { (plan : Ports) (workers : ℕ) (capacities : List ℕ) (s t : LoggedSwitch) (x : IsWholeSettling plan workers capacities s t) → IsPlan plan → IsSafe plan workers capacities s.switch → IsQuiet s.switch → (ts : List LoggedSwitch) × AreLoggedEvents plan workers capacities s ts × (after_logged s ts ≡ t) }
+    ensures effects { (plan : Ports) (workers : ℕ) (capacities : List ℕ) (s t : LoggedSwitch) (x : IsWholeSettling plan workers capacities s t) → IsPlan plan → IsSafe plan workers capacities s.switch → IsQuiet s.switch → (z : Situation) × AreTurnsWith plan capacities (good_of plan (after_pops s.switch x.pops).written) x.turns (situation s.switch) x.keys z x.left x.calls × IsSituationOf z t.switch }
+    ensures keys { (plan : Ports) (workers : ℕ) (capacities : List ℕ) (s t : LoggedSwitch) (x : IsWholeSettling plan workers capacities s t) (k : Key) → (IsIn k s.switch.to_sync → IsIn k x.keys) × ((HasNoWrite s.switch.written k → ⊥) → IsIn k x.keys) × (IsIn k x.keys → HasNoWrite s.switch.written k → IsIn k s.switch.to_sync) }
+{}
+
+/// From the new switch on the switch is safe, each mark is true, the marks' counts never fall nor exceed what there is, and each call that took
 /// effect was legal and left no route that no row sent.
 pub fn marks_are_true()
+    ensures safe { (plan : Ports) (workers : ℕ) (capacities : List ℕ) (ts : List LoggedSwitch) → IsPlan plan → AreLoggedEvents plan workers capacities new_switch ts → IsSafe plan workers capacities (after_logged new_switch ts).switch }
     ensures marks { (plan : Ports) (workers : ℕ) (capacities : List ℕ) (ts : List LoggedSwitch) → IsPlan plan → AreLoggedEvents plan workers capacities new_switch ts → MarksAreTrue plan capacities (after_logged new_switch ts).log (after_logged new_switch ts).effects }
     ensures counts { (plan : Ports) (workers : ℕ) (capacities : List ℕ) (ts : List LoggedSwitch) → IsPlan plan → AreLoggedEvents plan workers capacities new_switch ts → AreWithin (length (after_logged new_switch ts).log.taken) (length (after_logged new_switch ts).effects) (after_logged new_switch ts).log.marks }
     ensures effects { (plan : Ports) (workers : ℕ) (capacities : List ℕ) (ts : List LoggedSwitch) → IsPlan plan → AreLoggedEvents plan workers capacities new_switch ts → EffectsAreLegal plan capacities (after_logged new_switch ts).log.taken (after_logged new_switch ts).effects }
 {}
 
 /// What stands for the applied row of a key that is at rest is neither set nor removed by events that leave the key alone, and
-/// stands for it still; so it is where no write of the key waits and the events take none.
+/// stands for it still; so it is where no write of the key waits and the events take none, and after a mark that doesn't list the
+/// key as long as no write of it is taken.
 pub fn quiet_rows_stay()
     ensures alone { (plan : Ports) (workers : ℕ) (capacities : List ℕ) (k : Key) (s : SwitchState) (es : List (Option (Call Rid) × SwitchState)) (e : Entry Rid) → IsPlan plan → IsSafe plan workers capacities s → AreEvents plan workers capacities s es → LeavesAlone k s es → IsResting s.machine.board k → (IsIn k s.to_sync → ⊥) → StandsFor plan k e s.machine → IsResting (after_events s es).machine.board k × StandsFor plan k e (after_events s es).machine × ((call : Call Rid) → IsIn call (calls_of es) → ChangesEntry call e → ⊥) }
     ensures unnamed { (plan : Ports) (workers : ℕ) (capacities : List ℕ) (k : Key) (s : SwitchState) (es : List (Option (Call Rid) × SwitchState)) (e : Entry Rid) → IsPlan plan → IsSafe plan workers capacities s → (run : AreEvents plan workers capacities s es) → NamesNot plan workers capacities k s es run → HasNoWrite s.written k → IsResting s.machine.board k → (IsIn k s.to_sync → ⊥) → StandsFor plan k e s.machine → IsResting (after_events s es).machine.board k × StandsFor plan k e (after_events s es).machine × ((call : Call Rid) → IsIn call (calls_of es) → ChangesEntry call e → ⊥) }
+    ensures round { (plan : Ports) (workers : ℕ) (capacities : List ℕ) (k : Key) (s t : LoggedSwitch) (x : LogsMark plan workers capacities s t) (ts : List LoggedSwitch) (run : AreLoggedEvents plan workers capacities t ts) (e : Entry Rid) → IsPlan plan → IsSafe plan workers capacities t.switch → TakeNone plan workers capacities k t ts run → (ListsKey k x.waits → ⊥) → StandsFor plan k e t.switch.machine → (calls : List (Call Rid)) × ((after_logged t ts).effects ≡ t.effects ++ calls) × StandsFor plan k e (after_logged t ts).switch.machine × ((call : Call Rid) → IsIn call calls → ChangesEntry call e → ⊥) }
 {}
 
 /// From the new switch on each row that is applied or to be applied is its key's good row after some number of the writes taken.

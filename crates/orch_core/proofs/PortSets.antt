@@ -1,6 +1,6 @@
 -- a port whose applied row differs from its good row is set
 use mathlib.Core.Bool.{beq}
-use Rattle.std.proofs.Common.{◌≡◌, ℕ, ◌==◌, Bool, true, false, ◌&&◌, List, [], ◌∷◌, ◌++◌, None, Some, if◌then◌else◌, refl, sym, ◌∙◌}
+use Rattle.std.proofs.Common.{◌≡◌, ℕ, ◌==◌, Bool, true, false, ◌&&◌, List, [], ◌∷◌, None, Some, if◌then◌else◌, refl, sym, ◌∙◌}
 use Rattle.std.proofs.lemmas.List.{append-nil}
 use Rattle.std.specs.Cmp.Lexicographic.{pointwise}
 use Rattle.table_schema.specs.Plan.{Ports}
@@ -17,7 +17,7 @@ use Rattle.orch_core.specs.Difference.{first_difference, first_to_set}
 use Rattle.orch_core.specs.Standing.{Entries, rows_applied}
 use Rattle.orch_core.specs.Step.{same_admin}
 use Rattle.orch_core.proofs.Good.{IsServedRow}
-use Rattle.orch_core.proofs.Owed.{change-from, nobody}
+use Rattle.orch_core.proofs.Owed.{change-from}
 
 -- where a thing is not set, it is the same, and nothing follows
 not_set : (t u : Thing) (rest : List Change) → set_to t u rest ≡ [] → (same_thing t u ≡ true) × (rest ≡ [])

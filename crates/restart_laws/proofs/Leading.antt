@@ -21,7 +21,7 @@ use Rattle.chip_layout.specs.Answered.{HasPrefix}
 use Rattle.chip_layout.specs.Layout.{IsLaidOut, Layout, listed, with_changed}
 use Rattle.chip_layout.proofs.Seeing.{body-seen}
 use Rattle.chip_layout.proofs.Shapes.{laid-same}
-use Rattle.row_layout.proofs.Planned.{has-first, lanes-planned, one-planned}
+use Rattle.switch_model.proofs.Planned.{has-first, lanes-planned, one-planned}
 use Rattle.switch_machine.proofs.Calling.{lanes_name}
 use Rattle.plan_laws.specs.Applied.{AppliesCold, AppliesHitless, IsListed, IsHitlessPlan, IsView, nothing}
 use Rattle.plan_laws.specs.Moments.{attr_place, MakesChange, MakesChanges, SetsThing, layout_after}

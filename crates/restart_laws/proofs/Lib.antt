@@ -12,4 +12,5 @@ pub mod Begun
 pub mod Ended
 pub mod Resolved
 pub mod Identified
+pub mod Broken
 pub mod Example

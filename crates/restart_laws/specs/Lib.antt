@@ -4,3 +4,4 @@ pub mod Restored
 pub mod Service
 pub mod Invariant
 pub mod Identified
+pub mod Broken

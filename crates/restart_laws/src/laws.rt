@@ -1,5 +1,6 @@
 // What holds of every session, over restarts and failing calls at any event. Each function is a law: it does nothing, and its contract is proved.
 ghost use Rattle.std.specs.Prelude.{◌≡◌, ◌⊎◌, ◌++◌, ℕ, Bool, true, List, [], Option, None, Some, map, take};
+ghost use Rattle.swss_types.specs.declared.address.Ip.{Ip};
 ghost use Rattle.table_schema.specs.Plan.{Ports, IsPlan, lanes_in_plan};
 ghost use Rattle.table_schema.specs.declared.key.Key.{Key};
 ghost use Rattle.table_schema.specs.declared.write.Sent.{Sent};
@@ -13,6 +14,7 @@ ghost use Rattle.sai_types.specs.declared.plan.PlanId.{PlanId};
 ghost use Rattle.sai_types.specs.declared.thing.Thing.{Thing};
 ghost use Rattle.sai_types.specs.After.{after_calls};
 ghost use Rattle.sai_types.specs.Alike.{IsAlike, IsIn};
+ghost use Rattle.sai_types.specs.Forwarding.{Forwarding, forward};
 ghost use Rattle.sai_types.specs.Made.{AreLegal, made_after_all};
 ghost use Rattle.sai_types.specs.Objects.{body_at};
 ghost use Rattle.sai_types.specs.Refusal.{IsLegal};
@@ -28,6 +30,7 @@ ghost use Rattle.plan_laws.specs.Calls.{PlansChanges, resolve, viewed};
 ghost use Rattle.plan_laws.specs.Old.{old_layout};
 ghost use Rattle.plan_laws.specs.Steady.{IsHitless, IsOldOrNew, StaysNew};
 ghost use Rattle.warm_state.specs.declared.warm.Warm.TheVariants.{Applying, Suspect};
+ghost use Rattle.restart_laws.specs.Broken.{AreBroken};
 ghost use Rattle.restart_laws.specs.Identified.{IsIdOf, as_vids, renamed_by};
 ghost use Rattle.restart_laws.specs.Invariant.{Holds};
 ghost use Rattle.restart_laws.specs.Planned.{PlansCold, PlansHitless};
@@ -83,4 +86,10 @@ pub fn apply_is_steady()
 pub fn apply_ends_by_its_names()
     ensures hitless { (plan : Ports) (workers : ℕ) (capacities : List ℕ) (s t : Service) (x : Restores plan workers capacities s t) (p : PlansHitless capacities s.core.made s.core.objects (only_things x.view.machine.stands) t.left) (ids final : Vid → Rid) (calls : List (Call PlanId)) (es : List (Option (Call Rid) × Service)) → IsPlan plan → Holds plan workers capacities s → ((v : Vid) (u : Thing) → IsIn (v, u) (as_vids x.view.machine.stands) → has_number u ≡ true → IsIdOf (old_layout s.core.objects (only_things x.view.machine.stands)) ids v u (final v)) → PlansChanges (old_layout s.core.objects (only_things x.view.machine.stands)) (viewed (as_vids x.view.machine.stands)) ids s.core.made p.steps calls → t.left ≡ map (call_renamed (resolve ids)) calls → AreApplying es → AreServiceEvents plan workers capacities t es → (service_after t es).left ≡ [] → (u : Service) × (e : Finishes (service_after t es) u) × (e.stands ≡ renamed_by final (as_vids x.view.machine.stands)) }
     ensures cold { (plan : Ports) (workers : ℕ) (capacities : List ℕ) (s t : Service) (x : Restores plan workers capacities s t) (p : PlansCold capacities s.core.made s.core.objects (only_things x.view.machine.stands) t.left) (ids : Vid → Rid) (calls : List (Call PlanId)) (es : List (Option (Call Rid) × Service)) → IsPlan plan → Holds plan workers capacities s → PlansChanges nothing (viewed (as_vids x.view.machine.stands)) ids (made_after_all s.core.made p.front) p.makes calls → p.rest ≡ map (call_renamed (resolve ids)) calls → AreApplying es → AreServiceEvents plan workers capacities t es → (service_after t es).left ≡ [] → (u : Service) × (e : Finishes (service_after t es) u) × (e.stands ≡ renamed_by ids (as_vids x.view.machine.stands)) }
+{}
+
+/// Over applies that are broken off one after the other, by failing calls and restarts, an address that the chip forwarded in one
+/// way before the first of them, and that each view forwards in this way, is forwarded so after every event.
+pub fn broken_restarts_are_steady()
+    ensures { (plan : Ports) (workers : ℕ) (capacities : List ℕ) (s : Service) (es : List (Option (Call Rid) × Service)) (run : AreServiceEvents plan workers capacities s es) (a : Ip) (f : Forwarding) → IsPlan plan → Holds plan workers capacities s → (s.warm ≡ Applying → ⊥) → forward (chip_things s.core.objects) a ≡ f → AreBroken plan workers capacities a f s es run → forward (chip_things (service_after s es).core.objects) a ≡ f }
 {}

@@ -4,6 +4,6 @@
 mod laws;
 
 pub use laws::{
-    apply_ends_by_its_names, apply_is_steady, apply_leads_to_its_view, effects_are_legal,
-    ports_keep_their_lanes, sessions_hold, suspect_is_silent,
+    apply_ends_by_its_names, apply_is_steady, apply_leads_to_its_view, broken_restarts_are_steady,
+    effects_are_legal, ports_keep_their_lanes, sessions_hold, suspect_is_silent,
 };

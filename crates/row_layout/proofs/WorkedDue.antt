@@ -1,5 +1,5 @@
 -- which change is due, worked out by computation: nothing cites it, and it shows that the definition says what is meant
-use Rattle.std.proofs.Common.{◌≡◌, ◌↔◌, Bool, true, false, cond, List, [], ◌∷◌, Option, None, Some, refl, sym, ap, subst}
+use Rattle.std.proofs.Common.{◌≡◌, Bool, true, false, cond, [], ◌∷◌, None, Some, refl, sym, subst}
 use Rattle.std.specs.BTreeMap.{is_at}
 use Rattle.swss_types.specs.declared.address.Family.TheVariants.{V4}
 use Rattle.swss_types.specs.declared.interface.IfName.TheVariants as on
@@ -20,7 +20,6 @@ use Rattle.switch_model.proofs.Tied.{tied}
 use Rattle.row_layout.specs.Due.{IsUsedBeside, OwesChange}
 use Rattle.row_layout.specs.Operations.{Take, changes_of}
 use Rattle.row_layout.specs.Rows.{Owner}
-use Rattle.row_layout.specs.Shared.{uses}
 
 -- one port
 abbrev ports : Ports

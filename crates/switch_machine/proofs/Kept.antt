@@ -56,7 +56,7 @@ moves_back m (Set t) i stands into u (inl h) = (h.0.0, into h.0.0 u (inl (h.0.1,
 moves_back m (Set t) i stands into u (inr is) = (i, into i u (inr (refl, is)))
 moves_back m (Take n) i stands into u h = (h.0.0, into h.0.0 u (h.0.1, h.1))
 
-no_makes : (kind : Kind) (ts : List Thing) → makes kind (take_all ts []) ≡ 0
+pub no_makes : (kind : Kind) (ts : List Thing) → makes kind (take_all ts []) ≡ 0
 no_makes kind [] = refl
 no_makes kind (t ∷ ts) = no_makes kind ts
 

@@ -11,6 +11,7 @@ ghost use Rattle.table_schema.specs.declared.write.Sent.{Sent};
 ghost use Rattle.sai_types.specs.declared.ids.Rid.{Rid};
 ghost use Rattle.sai_types.specs.declared.body.Call.{Call};
 ghost use Rattle.sai_types.specs.declared.hop.Hop.{Hop};
+ghost use Rattle.sai_types.specs.declared.kind.Kind.{Kind};
 ghost use Rattle.sai_types.specs.declared.thing.Goal.{Goal};
 ghost use Rattle.sai_types.specs.declared.thing.Goal.TheVariants as goal;
 ghost use Rattle.sai_types.specs.declared.thing.Thing.{Thing};
@@ -31,12 +32,13 @@ ghost use Rattle.row_layout.specs.Operations.{Change, changes_of};
 ghost use Rattle.row_layout.specs.Rows.{Owner, own_things};
 ghost use Rattle.switch_machine.specs.Changes.{Disturbs};
 ghost use Rattle.switch_machine.specs.Events.{AreAnswers, AreEvents, IsAnswer, IsBegin, IsDrop, IsDueCall, IsEvent, IsQuiet, IsSafe, SwitchState, after_answers, after_events, calls_of, changes_made, empty_switch, fresh_view};
-ghost use Rattle.switch_machine.specs.Flights.{Flight, IsResting, IsRow, StandsIn};
+ghost use Rattle.switch_machine.specs.Flights.{Fits, Flight, IsResting, IsRow, StandsIn};
 ghost use Rattle.switch_machine.specs.Bearing.{BearsOnce, SwitchesOnce, standing};
 ghost use Rattle.switch_machine.specs.Needs.{OfCall, OfList, OfMark, OfWrite, need_of};
 ghost use Rattle.switch_machine.specs.Next.{HasReason, IsIdle, IsNext};
-ghost use Rattle.switch_machine.specs.Operations.{IsUsedByOthers};
-ghost use Rattle.switch_machine.specs.Reasons.{IsReason};
+ghost use Rattle.switch_machine.specs.Operations.{IsUsedByOthers, MayBegin};
+ghost use Rattle.switch_machine.specs.Places.{HasRoomFor};
+ghost use Rattle.switch_machine.specs.Reasons.{IsInTheWay, IsPrepared, IsReason, LacksRoom};
 ghost use Rattle.switch_machine.specs.Steps.{with_row};
 ghost use Rattle.switch_machine.specs.Written.{HasWrittenRows, IsGoodOnce, IsTold, Written, good_of};
 
@@ -118,6 +120,12 @@ pub fn needs_suffice()
     ensures calls { (log : History) (mark : Mark) (effects : ℕ) → keys_listed mark.event ≡ 0 → log_size (with_mark log mark) (effects + 1) ≡ log_size log effects + need_of OfCall }
     ensures lists { (log : History) (mark : Mark) (effects : ℕ) → keys_listed mark.event ≡ 0 → log_size (with_mark log mark) effects ≡ log_size log effects + need_of OfList }
     ensures marks { (log : History) (mark : Mark) (effects : ℕ) → log_size (with_mark log mark) effects ≡ log_size log effects + need_of (OfMark (keys_listed mark.event)) }
+{}
+
+/// A key whose good row fits its table, and that no operation, no missing name, no holder and nothing in the way hinders, may
+/// begin for a worker without an operation; and there is room for what it makes, or a first kind lacks it.
+pub fn free_keys_begin()
+    ensures { (plan : Ports) (workers : ℕ) (capacities : List ℕ) (s : SwitchState) (w : ℕ) (k : Key) → IsPlan plan → IsSafe plan workers capacities s → s.machine.board.flights w ≡ None → IsPrepared plan s k → ((v : ℕ) → IsInTheWay plan s.machine k (good_of plan s.written k) v → ⊥) → ((r : Row) → good_of plan s.written k ≡ Some r → Fits plan k r) → (f : Flight) × (due : List Change) × (f.key ≡ k) × (f.new ≡ good_of plan s.written k) × MayBegin plan s.machine w f due × (HasRoomFor workers capacities s.objects s.machine due ⊎ ((kind : Kind) × LacksRoom plan workers capacities s k kind)) }
 {}
 
 /// What a worker does next is an event, or nothing. Where it is idle no event of any worker applies but the call that is due

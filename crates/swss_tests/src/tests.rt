@@ -2,9 +2,10 @@
 mod bodies;
 mod fields;
 mod log;
-mod operations;
 mod outside;
 mod pending;
 mod queue;
+mod retry;
 mod rows;
+mod to_sync;
 mod values;

@@ -1,5 +1,5 @@
 -- the orders of keys and of hops are those of their parts
-use Rattle.std.proofs.Common.{◌≡◌, ap, ap₂, refl, nat_cmp}
+use Rattle.std.proofs.Common.{◌≡◌, ap₂, refl, nat_cmp}
 use Rattle.std.specs.Ordering.{ordering_then}
 use Rattle.swss_types.proofs.Orders.{ips-by_parts, names-by_parts, prefixes-by_parts}
 use Rattle.table_schema.specs.Hop.{hop_cmp}
