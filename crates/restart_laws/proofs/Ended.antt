@@ -123,8 +123,8 @@ suspect-silent plan workers capacities s t _ at (OfApply call _ x) = apart Suspe
 suspect-silent plan workers capacities s t _ at (OfFinish _ x) = apart Suspect Applying (sym at ∙ x.before) (λ e. cc)
 
 -- the view of other rows that agree key by key
-alike_rows : (plan : Ports) (objects : Objects) (rows other : TypedRows) → ((q : Key) → other q ≡ rows q) → IsAlike objects (IsThingOf plan rows) → IsAlike objects (IsThingOf plan other)
-alike_rows plan objects rows other same x = record {
+pub alike-rows : (plan : Ports) (objects : Objects) (rows other : TypedRows) → ((q : Key) → other q ≡ rows q) → IsAlike objects (IsThingOf plan rows) → IsAlike objects (IsThingOf plan other)
+alike-rows plan objects rows other same x = record {
   each = λ t h. let y = x.each t h in (y.0, y.1, (y.2.0, y.2.1, same y.2.0 ∙ y.2.2, y.2.3));
   once = λ t h. x.once t (h.0, h.1, sym (same h.0) ∙ h.2, h.3);
 }
@@ -136,6 +136,6 @@ ended-begun plan is workers capacities s t u x es taken mark h all run end same 
     let last = holds-run plan is workers capacities t es first run in
     let alike = ended-alike plan is workers capacities (service_after t es) last end.before end.none in
     let machine : (service_after t es).core.machine ≡ x.view.machine = applying-run plan workers capacities t es x.warm all run ∙ x.machine in
-    alike_rows plan u.core.objects x.view.machine.board.applied (applied_at plan taken mark (waiting_of x.restored.waits)) (same_rows plan is workers capacities s.core.written x.view h.safe.told h.safe.dated x.restored taken mark same)
+    alike-rows plan u.core.objects x.view.machine.board.applied (applied_at plan taken mark (waiting_of x.restored.waits)) (same_rows plan is workers capacities s.core.written x.view h.safe.told h.safe.dated x.restored taken mark same)
     (subst (λ z. IsAlike z (IsThingOf plan x.view.machine.board.applied)) (sym end.objects)
     (subst (λ (z : Machine). IsAlike (service_after t es).core.objects (IsThingOf plan z.board.applied)) machine alike))

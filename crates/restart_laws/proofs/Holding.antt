@@ -58,7 +58,7 @@ module _ (plan : Ports) (is : IsPlan plan) (workers : ℕ) (capacities : List �
   pub in_state : (s : Service) (w : Warm) → H s → s.warm ≡ w → HoldsIn plan workers capacities w s
   in_state s w h e = subst (λ z. HoldsIn plan workers capacities z s) e h.state
 
-  to_state : (s : Service) (w : Warm) → s.warm ≡ w → HoldsAlways plan capacities s.core → HoldsIn plan workers capacities w s → H s
+  pub to_state : (s : Service) (w : Warm) → s.warm ≡ w → HoldsAlways plan capacities s.core → HoldsIn plan workers capacities w s → H s
   to_state s w e safe h = record { safe = safe; state = subst (λ z. HoldsIn plan workers capacities z s) (sym e) h }
 
   -- ---- what holds of every chip

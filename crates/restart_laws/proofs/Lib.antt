@@ -13,4 +13,6 @@ pub mod Ended
 pub mod Resolved
 pub mod Identified
 pub mod Broken
+pub mod Marking
+pub mod Logged
 pub mod Example

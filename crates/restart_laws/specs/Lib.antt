@@ -5,3 +5,4 @@ pub mod Service
 pub mod Invariant
 pub mod Identified
 pub mod Broken
+pub mod Logged

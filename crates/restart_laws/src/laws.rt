@@ -1,5 +1,5 @@
 // What holds of every session, over restarts and failing calls at any event. Each function is a law: it does nothing, and its contract is proved.
-ghost use Rattle.std.specs.Prelude.{◌≡◌, ◌⊎◌, ◌++◌, ℕ, Bool, true, List, [], Option, None, Some, map, take};
+ghost use Rattle.std.specs.Prelude.{◌≡◌, ◌⊎◌, ◌++◌, ℕ, Bool, true, List, [], Option, None, Some, length, map, take};
 ghost use Rattle.swss_types.specs.declared.address.Ip.{Ip};
 ghost use Rattle.table_schema.specs.Plan.{Ports, IsPlan, lanes_in_plan};
 ghost use Rattle.table_schema.specs.declared.key.Key.{Key};
@@ -21,10 +21,12 @@ ghost use Rattle.sai_types.specs.Refusal.{IsLegal};
 ghost use Rattle.switch_model.specs.declared.mark.Mark.{Mark};
 ghost use Rattle.switch_model.specs.Desired.{IsThingOf};
 ghost use Rattle.switch_model.specs.Marks.{sent_writes};
-ghost use Rattle.switch_model.specs.Promises.{IsBegun, applied_at};
+ghost use Rattle.switch_model.specs.Promises.{IsBegun, MarksAreTrue, applied_at};
+ghost use Rattle.switch_model.specs.Sound.{AreWithin};
 ghost use Rattle.chip_layout.specs.Layout.{has_number};
 ghost use Rattle.chip_layout.specs.Renamed.{call_renamed};
 ghost use Rattle.switch_machine.specs.Written.{good_of};
+ghost use Rattle.machine_laws.specs.Order.{IsOrdered};
 ghost use Rattle.plan_laws.specs.Applied.{chip_things, nothing};
 ghost use Rattle.plan_laws.specs.Calls.{PlansChanges, resolve, viewed};
 ghost use Rattle.plan_laws.specs.Old.{old_layout};
@@ -33,6 +35,7 @@ ghost use Rattle.warm_state.specs.declared.warm.Warm.TheVariants.{Applying, Susp
 ghost use Rattle.restart_laws.specs.Broken.{AreBroken};
 ghost use Rattle.restart_laws.specs.Identified.{IsIdOf, as_vids, renamed_by};
 ghost use Rattle.restart_laws.specs.Invariant.{Holds};
+ghost use Rattle.restart_laws.specs.Logged.{AreLoggedSteps, IsWarmAfter, LoggedService, last_mark, new_session, session_after};
 ghost use Rattle.restart_laws.specs.Planned.{PlansCold, PlansHitless};
 ghost use Rattle.restart_laws.specs.Restored.{only_things, waiting_of};
 ghost use Rattle.restart_laws.specs.Service.{AreApplying, AreServiceEvents, Finishes, IsDue, IsServiceEvent, Restarts, Restores, Service, TakesIn, effects_of, new_service, service_after};
@@ -92,4 +95,16 @@ pub fn apply_ends_by_its_names()
 /// way before the first of them, and that each view forwards in this way, is forwarded so after every event.
 pub fn broken_restarts_are_steady()
     ensures { (plan : Ports) (workers : ℕ) (capacities : List ℕ) (s : Service) (es : List (Option (Call Rid) × Service)) (run : AreServiceEvents plan workers capacities s es) (a : Ip) (f : Forwarding) → IsPlan plan → Holds plan workers capacities s → (s.warm ≡ Applying → ⊥) → forward (chip_things s.core.objects) a ≡ f → AreBroken plan workers capacities a f s es run → forward (chip_things (service_after s es).core.objects) a ≡ f }
+{}
+
+/// Over restarts and faults, with settlings between them, each mark of a log is true; the marks stand in their order, and no round
+/// ends but at the mark of a settling or of a fault; no mark counts more writes or effects than there are, nor fewer than the one
+/// before it; the last mark tells the warm state; and the effects are legal and lead to the chip.
+pub fn logs_are_true()
+    ensures marks { (plan : Ports) (workers : ℕ) (capacities : List ℕ) (ts : List LoggedService) → IsPlan plan → AreLoggedSteps plan workers capacities new_session ts → MarksAreTrue plan capacities (session_after new_session ts).log (session_after new_session ts).effects }
+    ensures order { (plan : Ports) (workers : ℕ) (capacities : List ℕ) (ts : List LoggedService) → IsPlan plan → AreLoggedSteps plan workers capacities new_session ts → IsOrdered (session_after new_session ts).log }
+    ensures counts { (plan : Ports) (workers : ℕ) (capacities : List ℕ) (ts : List LoggedService) → IsPlan plan → AreLoggedSteps plan workers capacities new_session ts → AreWithin (length (session_after new_session ts).log.taken) (length (session_after new_session ts).effects) (session_after new_session ts).log.marks }
+    ensures warm { (plan : Ports) (workers : ℕ) (capacities : List ℕ) (ts : List LoggedService) → IsPlan plan → AreLoggedSteps plan workers capacities new_session ts → IsWarmAfter (last_mark None (session_after new_session ts).log.marks) (session_after new_session ts).service.warm }
+    ensures effects { (plan : Ports) (workers : ℕ) (capacities : List ℕ) (ts : List LoggedService) → IsPlan plan → AreLoggedSteps plan workers capacities new_session ts → AreLegal capacities 0 [] (session_after new_session ts).effects × ((session_after new_session ts).service.core.objects ≡ after_calls 0 [] (session_after new_session ts).effects) }
+    ensures holds { (plan : Ports) (workers : ℕ) (capacities : List ℕ) (ts : List LoggedService) → IsPlan plan → AreLoggedSteps plan workers capacities new_session ts → Holds plan workers capacities (session_after new_session ts).service }
 {}
