@@ -40,20 +40,20 @@ use Rattle.sai_types.proofs.Rising.{hop-same, hop_exact, hop_total, in-back}
 
 -- ---- things and the objects that stand for them
 
-those_in : {X : Type 0} (x : X) (os : List (Option X)) → IsIn x (those os) → IsIn (Some x) os
+pub those_in : {X : Type 0} (x : X) (os : List (Option X)) → IsIn x (those os) → IsIn (Some x) os
 those_in x [] h = elim h [ ]
 those_in x (None ∷ os) h = inr (those_in x os h)
 those_in x (Some y ∷ os) (inl is) = inl (ap Some is)
 those_in x (Some y ∷ os) (inr h) = inr (those_in x os h)
 
-in_those : {X : Type 0} (x : X) (os : List (Option X)) → IsIn (Some x) os → IsIn x (those os)
+pub in_those : {X : Type 0} (x : X) (os : List (Option X)) → IsIn (Some x) os → IsIn x (those os)
 in_those x [] h = elim h [ ]
 in_those x (None ∷ os) (inl is) = absurd cc
 in_those x (None ∷ os) (inr h) = in_those x os h
 in_those x (Some y ∷ os) (inl is) = inl (same_Some x y is)
 in_those x (Some y ∷ os) (inr h) = inr (in_those x os h)
 
-thing_in : (objects os : Objects) (e : Entry Rid) (b : Body Rid) → IsIn (e, b) os → IsIn (thing_of objects (e, b)) (things_among objects os)
+pub thing_in : (objects os : Objects) (e : Entry Rid) (b : Body Rid) → IsIn (e, b) os → IsIn (thing_of objects (e, b)) (things_among objects os)
 thing_in objects [] e b h = elim h [ ]
 thing_in objects (o ∷ os) e b (inl is) = inl (ap (thing_of objects) is)
 thing_in objects (o ∷ os) e b (inr h) = inr (thing_in objects os e b h)
@@ -95,7 +95,7 @@ neighbor_parts : (h k : Hop) (m n : Mac) → thing.Neighbor h m ≡ thing.Neighb
 neighbor_parts h k m n e = (cc, cc)
 
 -- a thing in front is the hop's neighbour, or has no part in its Ethernet address
-abbrev IsFront : Thing → List Thing → Hop → Type 0
+abbrev pub IsFront : Thing → List Thing → Hop → Type 0
 IsFront t ts hop = ((m : Mac) × (t ≡ thing.Neighbor hop m) × (mac_of (t ∷ ts) hop ≡ Some m)) ⊎ ((mac_of (t ∷ ts) hop ≡ mac_of ts hop) × ((m : Mac) → thing.Neighbor hop m ≡ t → ⊥))
 
 front_by : (b : Bool) (h : Hop) (m : Mac) (ts : List Thing) (hop : Hop) → same_hop h hop ≡ b → IsFront (thing.Neighbor h m) ts hop
@@ -106,12 +106,12 @@ front_by false h m ts hop e =
       λ n is. false≢true (sym e ∙ ap (λ z. same_hop z hop) (sym (neighbor_parts hop h n m is).0) ∙ equal_hop.laws-law.refl hop),
     )
 
-front : (t : Thing) (ts : List Thing) (hop : Hop) → IsFront t ts hop
+pub front : (t : Thing) (ts : List Thing) (hop : Hop) → IsFront t ts hop
 front (thing.Neighbor h m) ts hop = front_by (same_hop h hop) h m ts hop refl
 front (thing.Port x) ts hop = inr (refl, λ m is. cc)
 front _ ts hop = inr (refl, λ m is. cc)
 
-mac_in : (ts : List Thing) (hop : Hop) (m : Mac) → IsIn (thing.Neighbor hop m) ts → ((n : Mac) → IsIn (thing.Neighbor hop n) ts → n ≡ m) → mac_of ts hop ≡ Some m
+pub mac_in : (ts : List Thing) (hop : Hop) (m : Mac) → IsIn (thing.Neighbor hop m) ts → ((n : Mac) → IsIn (thing.Neighbor hop n) ts → n ≡ m) → mac_of ts hop ≡ Some m
 mac_in [] hop m h one = elim h [ ]
 mac_in (t ∷ ts) hop m h one = by (front t ts hop) h (λ g. mac_in ts hop m g (λ n i. one n (inr i)))
   where

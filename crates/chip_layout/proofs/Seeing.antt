@@ -123,13 +123,13 @@ module _ (tag : Rid → List Hop) (made : ℕ) (objects : Objects) (whole : IsWh
   group r h = group_by r (body_at objects (entry.Oid r)) refl h
 
   -- an object stands for a thing, whose body it has
-  abbrev IsShown : Entry Rid → Body Rid → Type 0
+  abbrev pub IsShown : Entry Rid → Body Rid → Type 0
   IsShown e b = (t : Thing) × (thing_by (tagged tag) objects (e, b) ≡ Some t) × IsBody (Has L) t b
 
   show : (e : Entry Rid) (b : Body Rid) (t : Thing) (i j : Rid) → thing_by (tagged tag) objects (e, b) ≡ Some t → IsAt (Has L) (first_name t) i → IsAt (Has L) (second_name t) j → b ≡ body_with t i j → IsShown e b
   show e b t i j is x y body = (t, is, record { first = i; second = j; first_at = x; second_at = y; body_is = body })
 
-  shown : (e : Entry Rid) (b : Body Rid) → body_at objects e ≡ Some b → refers_well objects b ≡ true → IsShown e b
+  pub shown : (e : Entry Rid) (b : Body Rid) → body_at objects e ≡ Some b → refers_well objects b ≡ true → IsShown e b
   shown e (body.Port lanes speed mtu up) f w = show e _ (thing.Port (record { lanes = lanes; speed = speed; mtu = mtu; up = up })) no_id no_id refl tt tt refl
   shown e (body.Vlan v) f w = show e _ (thing.Vlan v) no_id no_id refl tt tt refl
   shown e (body.BridgePort p) f w = let n = port p (first _ _ w) in show e _ (thing.BridgePort n.0) p no_id (ap (option_map thing.BridgePort) n.1) n.2 tt refl

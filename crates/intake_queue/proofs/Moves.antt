@@ -6,7 +6,8 @@ use Rattle.crossbeam_queue.proofs.Lists.{at_set}
 use Rattle.crossbeam_queue.specs.Fifo.{Pushes, Pops, Forks, Merges, Learns}
 use Rattle.table_schema.specs.declared.write.Sent.{Sent}
 use Rattle.intake_queue.specs.declared.known.Known.{Known}
-use Rattle.intake_queue.specs.Writes.{sent_of, IsNumbered, IsOther}
+use Rattle.table_schema.specs.SentBy.{sent_of}
+use Rattle.intake_queue.specs.Writes.{IsNumbered, IsOther}
 use Rattle.intake_queue.specs.Rule.{IsInOrder, FitsProducer, FitsTaker, producer, taker, nobody, without_part, only_part, with_part, one_more, after_send, after_receipt, IsReceived, IsHalfway, IsWhole, IsNumberedOn, HasNoOthers}
 use Rattle.intake_queue.specs.Values.{IsFront}
 use Rattle.intake_queue.proofs.Writes.{sent_of-append, sent_of-around, sent_of-grown, sent_of-few, grown, grown-own, grown-other, numbered-at, numbered-grown, not_empty, empty_front}

@@ -1,7 +1,9 @@
 -- What holds of any intake. Each is proved on the public function of its name in src/laws.rt. Own.
 use Rattle.std.specs.Prelude.{◌≡◌, ◌≢◌, ℕ, ◌+◌, ◌<◌, ◌≤◌, List, [], ◌∷◌, ◌++◌, length, take, slice_index_or, slice_set}
 use Rattle.table_schema.specs.declared.write.Sent.{Sent}
-use Rattle.intake_queue.specs.Writes.{sent_of, AreNumbered, IsOther}
+use Rattle.table_schema.specs.SentBy.{sent_of}
+use Rattle.intake_queue.specs.Writes.{AreNumbered, IsOther}
+use Rattle.intake_queue.specs.declared.intake.TheConstants.{PLACES}
 use Rattle.intake_queue.specs.Values.{IntakeId, Sender, Receiver, AreAll, AreNew, IsNext, IsMet, sent_over, with_received}
 
 abbrev pub OwnReceiptIsLast : Type 0
@@ -17,7 +19,7 @@ abbrev pub MetIsFront : Type 0
 MetIsFront = (t : Receiver) (passes : List Sender) (p : ℕ) → IsMet t passes → sent_of p t.received ≡ take (length (sent_of p t.received)) (sent_over p passes)
 
 abbrev pub FewAreQueued : Type 0
-FewAreQueued = (t : Receiver) (passes : List Sender) (p : ℕ) → IsMet t passes → length (sent_over p passes) ≤ length (sent_of p t.received) + 1024
+FewAreQueued = (t : Receiver) (passes : List Sender) (p : ℕ) → IsMet t passes → length (sent_over p passes) ≤ length (sent_of p t.received) + PLACES
 
 abbrev pub OthersSendNothing : Type 0
 OthersSendNothing = (intake : IntakeId) (passes : List Sender) (p : ℕ) → AreAll intake passes → IsOther intake.producers p → sent_over p passes ≡ []

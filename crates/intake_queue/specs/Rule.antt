@@ -3,8 +3,10 @@ use Rattle.std.specs.Prelude.{◌≡◌, ℕ, ◌+◌, ◌<◌, ◌≤◌, true,
 use mathlib.Core.Option.{Option, some, none}
 use lib.ListN.{get_elem?}
 use Rattle.table_schema.specs.declared.write.Sent.{Sent}
+use Rattle.intake_queue.specs.declared.intake.TheConstants.{PLACES}
 use Rattle.intake_queue.specs.declared.known.Known.{Known}
-use Rattle.intake_queue.specs.Writes.{sent_of, IsNumbered, IsOther}
+use Rattle.table_schema.specs.SentBy.{sent_of}
+use Rattle.intake_queue.specs.Writes.{IsNumbered, IsOther}
 
 -- ---- what passes know
 
@@ -50,7 +52,7 @@ IsHalfway v queued = (received : List Sent) × (sent_of v.from (received ++ queu
 
 -- the same, by one who knows what was received
 abbrev pub IsWhole : Known → List Sent → Type 0
-IsWhole v queued = (sent_of v.from (v.received ++ queued) ≡ v.sent) × (length queued ≤ 1024)
+IsWhole v queued = (sent_of v.from (v.received ++ queued) ≡ v.sent) × (length queued ≤ PLACES)
 
 -- of each sender, what was received and then what is queued is numbered from 0
 abbrev pub IsNumberedOn : Known → List Sent → Type 0
@@ -79,6 +81,6 @@ pub record IsInOrder (queued : List Sent) (views : List Known) : Type 0 where
   pub received : List Sent
   pub balance : (p : ℕ) → sent_of p (received ++ queued) ≡ sent p
   pub numbered : (p : ℕ) → IsNumbered 0 (sent p)
-  pub room : length queued ≤ 1024
+  pub room : length queued ≤ PLACES
   pub producers : (pass : ℕ) (v : Known) → get_elem? views pass ≡ some v → FitsProducer seat sent pass v
   pub takers : (pass : ℕ) (v : Known) → get_elem? views pass ≡ some v → FitsTaker reader seat sent received pass v

@@ -3,7 +3,8 @@ use Rattle.std.specs.Prelude.{◌≡◌, ℕ, zero, suc, ◌+◌, ◌<◌, ◌�
 use Rattle.atomic_table.specs.Seated.{TableId}
 use Rattle.table_schema.specs.declared.write.Sent.{Sent}
 use Rattle.table_schema.specs.declared.write.Write.{Write}
-use Rattle.intake_queue.specs.Writes.{sent_of}
+use Rattle.table_schema.specs.SentBy.{sent_of}
+use Rattle.intake_queue.specs.declared.intake.TheConstants.{PLACES}
 
 -- which queue it is, and how many producers it has
 pub record IntakeId : Type 0 where
@@ -60,11 +61,11 @@ sent_over (suc i) [] = []
 sent_over (suc zero) (s ∷ ss) = s.sent
 sent_over (suc (suc i)) (s ∷ ss) = sent_over (suc i) ss
 
--- what was received of a sender is the front of what it sent, and at most 1024 writes are still queued
+-- what was received of a sender is the front of what it sent, and no more writes than the queue has places are still queued
 pub record IsFront (received sent : List Sent) : Type 0 where
   pub queued : List Sent
   pub whole : received ++ queued ≡ sent
-  pub few : length queued ≤ 1024
+  pub few : length queued ≤ PLACES
 
 -- so it is of each sender
 abbrev pub IsMet : Receiver → List Sender → Type 0

@@ -1,10 +1,7 @@
 -- Lists of sent writes, by who sent them. Own.
-use Rattle.std.specs.Prelude.{◌≡◌, ℕ, ◌+◌, ◌<◌, ◌==◌, ◌⊎◌, ⊤, List, [], ◌∷◌, filter}
+use Rattle.std.specs.Prelude.{◌≡◌, ℕ, ◌+◌, ◌<◌, ◌⊎◌, ⊤, List, [], ◌∷◌}
+use Rattle.table_schema.specs.SentBy.{sent_of}
 use Rattle.table_schema.specs.declared.write.Sent.{Sent}
-
--- the writes of a sender among these, in order
-abbrev pub sent_of : ℕ → List Sent → List Sent
-sent_of p writes = filter (λ w. w.from == p) writes
 
 -- the writes are numbered from n on
 abbrev pub IsNumbered : ℕ → List Sent → Type 0

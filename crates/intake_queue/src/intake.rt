@@ -9,7 +9,7 @@ use std::marker::Model;
 use swss_types::OutOfMemory;
 
 /// How many writes are queued at most.
-const PLACES: usize = 1024;
+pub const PLACES: usize = 1024;
 
 /// The queue between the producers of a round and its taker.
 #[derive(Drop)]
@@ -22,12 +22,13 @@ impl Model for Intake {
     ghost use Rattle.std.specs.Prelude.{◌≡◌};
     ghost use Rattle.crossbeam_queue.specs.Passes.{ruled_capacity};
     ghost use Rattle.intake_queue.specs.Values.{IntakeId};
+    ghost use Rattle.intake_queue.specs.declared.intake.TheConstants.{PLACES};
 
     ghost Value = { IntakeId };
 
     ghost view = { λ i. record { queue = i.queue.table.shared.table_id; producers = i.producers } };
 
-    ghost invariant = { λ i. ruled_capacity i.queue ≡ 1024 };
+    ghost invariant = { λ i. ruled_capacity i.queue ≡ PLACES };
 }
 
 /// An intake with its passes and its taker.

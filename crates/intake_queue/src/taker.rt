@@ -2,7 +2,8 @@
 ghost use Rattle.std.specs.Prelude.{◌≡◌, ℕ, ◌+◌, ◌<◌, ◌↔◌, [], length, true, slice_index_or, IfSome, IfNone, IsNone};
 ghost use Rattle.crossbeam_queue.specs.Passes.{view as known, IsPassOf, IsSamePass};
 ghost use Rattle.intake_queue.specs.Rule.{taker, with_part, without_part};
-ghost use Rattle.intake_queue.specs.Writes.{sent_of, IsOther};
+ghost use Rattle.table_schema.specs.SentBy.{sent_of};
+ghost use Rattle.intake_queue.specs.Writes.{IsOther};
 ghost use Rattle.intake_queue.specs.Values.{Sender, AreAll, IsAllTaken, IsFront, IsMet, IsNext, with_received};
 
 use crate::rule::{Line, MeetsOthers, Part, Takes, TakesBeside, Token};

@@ -17,7 +17,7 @@ use Rattle.switch_model.specs.Good.{TypedRows, good_row}
 use Rattle.switch_model.specs.Marks.{written_key}
 use Rattle.row_layout.specs.Operations.{uses_of}
 use Rattle.row_layout.specs.Rows.{Owner}
-use Rattle.row_layout.proofs.Tied.{tied}
+use Rattle.switch_model.proofs.Tied.{tied}
 use Rattle.switch_machine.specs.Events.{IsSafe, SwitchState}
 use Rattle.switch_machine.specs.Operations.{IsUsedByOthers}
 use Rattle.switch_machine.specs.Written.{IsGoodOnce, Written, fields_after}

@@ -25,7 +25,7 @@ use Rattle.orch_core.specs.Standing.{Entries, IsPlanned, Stands, applied_entry, 
 use Rattle.orch_core.proofs.Bodies.{IsPort, IsInterface, parts}
 use Rattle.orch_core.proofs.Listed.{found-in, in-found, object-of_thing, once-in}
 use Rattle.orch_core.proofs.Owned.{lanes-of_port}
-use Rattle.orch_core.proofs.Planned.{has-first, lanes-planned}
+use Rattle.switch_model.proofs.Planned.{has-first, lanes-planned}
 use Rattle.orch_core.proofs.Standing.{applied-row, owner}
 
 module _ (plan : Ports) (entries : Entries) (objects : Objects) (stands : Stands plan entries objects) where

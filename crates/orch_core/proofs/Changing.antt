@@ -32,7 +32,7 @@ use Rattle.orch_core.proofs.Bodies.{IsPort, IsInterface, body_of-moved, parts, p
 use Rattle.orch_core.proofs.Keyed.{found-beside, found-insert, found-left, found-put, found-remove, is_at-refl, kept_put, left_by, put_or_left, same_key, sorted-insert, sorted-remove}
 use Rattle.orch_core.proofs.Listed.{any-none, found-in}
 use Rattle.orch_core.proofs.Owned.{one-row}
-use Rattle.orch_core.proofs.Planned.{not_true}
+use Rattle.switch_model.proofs.Planned.{not_true}
 use Rattle.orch_core.proofs.Standing.{owner}
 
 -- ---- removing the object of a row

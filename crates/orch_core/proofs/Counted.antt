@@ -20,7 +20,7 @@ use Rattle.sai_types.proofs.Found.{same-symm, same-trans}
 use Rattle.orch_core.specs.declared.applied.Applied.{Applied}
 use Rattle.orch_core.specs.Standing.{Entries, applied_entry}
 use Rattle.orch_core.proofs.Listed.{apart-behind, found-in, sorted-behind}
-use Rattle.orch_core.proofs.Planned.{not_true, number-is}
+use Rattle.switch_model.proofs.Planned.{not_true, number-is}
 
 abbrev same_number : ℕ → ℕ → Bool
 same_number = eq_by_cmp nat_cmp

@@ -41,11 +41,13 @@ use Rattle.orch_core.specs.Called.{IsDone, StaysClean}
 use Rattle.orch_core.specs.Difference.{IsDifference, IsSet, IsSetting, applied_with, difference_of, first_difference, first_to_set, row_with, value_with}
 use Rattle.orch_core.specs.Standing.{Entries, IsPlanned, Stands, applied_entry, rows_applied}
 use Rattle.orch_core.specs.Due.{OwesCall}
+use Rattle.row_layout.specs.Due.{HasChange}
 use Rattle.orch_core.specs.State.{State, counted_size}
 use Rattle.orch_core.specs.Step.{IsChange, asks_same, same_admin}
 use Rattle.orch_core.specs.Tried.{IsStanding, IsTouched, IsTried, Touches, tried_without}
 use Rattle.orch_core.proofs.Changing.{stands-set-port}
-use Rattle.orch_core.proofs.Due.{free-good, places-of}
+use Rattle.orch_core.proofs.Due.{free-good, places-of, served-applied}
+use Rattle.orch_core.proofs.PortSets.{change-set}
 use Rattle.orch_core.proofs.Effects.{grown-after, grown-one, keeps-effect}
 use Rattle.orch_core.proofs.Good.{planned-good, served-good}
 use Rattle.orch_core.proofs.Keyed.{found-beside, found-put}
@@ -247,6 +249,13 @@ module _ (k : Key) (r : PortRow) (old : State) (chip : ChipState) (step : IsChan
     queued = changing-due due;
     differs = λ same. apart (sym differs ∙ ap (λ x. difference_of x r) (some_row a.row (row.Port r) (sym (ap (option_map (λ x. x.row)) there) ∙ same ∙ good)) ∙ same-port r);
     free = free-good mid between changing-steady k (row.Port r) good (ap (λ x. have_rows (rows_applied mid.applied) (names_of x (row.Port r))) step.is);
+    change =
+        let port = port_at a there in
+        subst (HasChange mid.plan (good_rows mid.plan mid.rows) (rows_applied mid.applied)) (sym step.is)
+        (change-set mid.plan mid.applied (served-applied mid.plan mid.applied between.objects changing.touched.stands) (good_rows mid.plan mid.rows) step.port port.0 r
+        (ap (rows_applied mid.applied) (sym step.is) ∙ ap (option_map (λ x. x.row)) there ∙ ap Some port.1)
+        (ap (good_rows mid.plan mid.rows) (sym step.is) ∙ good)
+        (λ none. apart (sym differs ∙ ap (λ x. difference_of x r) port.1 ∙ none)));
   }
     where
       good : good_rows mid.plan mid.rows k ≡ Some (row.Port r)
@@ -266,7 +275,7 @@ module _ (k : Key) (r : PortRow) (old : State) (chip : ChipState) (step : IsChan
     touches = touches-after new is.touches;
     keeps = is.keeps;
     grown = grown-after chip between chip' changing.touched.grown is.grown;
-    places = places-of 1 1 mid old (length chip'.effects) (ap (λ (s : State). counted_size s 0 + 1) (sym mid_same)) (ap (λ (s : State). s.limit) (sym mid_same)) is.places;
+    places = places-of 1 1 mid old chip' (ap (λ (s : State). counted_size s 0 + 1) (sym mid_same)) (ap (λ (s : State). s.limit) (sym mid_same)) is.places;
     few = λ none. omega (arith, changing.touched.few none, is.few (changing.touched.still refl none));
     before = is.before ∙ changing.touched.faults;
     rose = subst (λ n. n < chip'.faults) changing.touched.faults is.rose;

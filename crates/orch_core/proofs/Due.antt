@@ -30,6 +30,7 @@ use Rattle.switch_model.specs.Good.{TypedRows, good_rows}
 use Rattle.switch_model.specs.Marks.{AreDistinct, Overflows, first_missing}
 use Rattle.switch_model.specs.Things.{from_base, from_lane, things_of}
 use Rattle.switch_model.specs.declared.wait.Wait.TheVariants as wait
+use Rattle.row_layout.specs.Due.{HasChange}
 use Rattle.orch_core.specs.declared.applied.Applied.{Applied}
 use Rattle.orch_core.specs.Due.{OwesCall, HadPlaces, HasNoReason}
 use Rattle.orch_core.specs.Standing.{Entries, HasPortRoom, Stands, applied_entry, body_of, rows_applied}
@@ -38,6 +39,7 @@ use Rattle.orch_core.specs.Step.{IsCreation, IsFree, IsRemoval}
 use Rattle.orch_core.specs.Tried.{IsStanding}
 use Rattle.orch_core.proofs.Bodies.{IsPort, IsInterface, parts}
 use Rattle.orch_core.proofs.Good.{IsServedRow, OfPort, OfIntf, served-good}
+use Rattle.orch_core.proofs.Owed.{change-gone, change-made}
 use Rattle.orch_core.proofs.Owned.{lanes-of_port}
 use Rattle.orch_core.proofs.Standing.{applied-row, has_base}
 
@@ -203,6 +205,9 @@ module _ (s : State) (chip : ChipState) (steady : IsStanding s chip) (k : Key) w
     queued = due;
     differs = λ same. none_some (sym (ap (option_map (λ a. a.row)) step.absent) ∙ same ∙ step.good);
     free = free-creation r b step;
+    change =
+        change-made s.plan s.applied (served-applied s.plan s.applied chip.objects steady.stands) k (good_rows s.plan s.rows) r (ap (option_map (λ a. a.row)) step.absent) step.good
+        (served-good s.plan s.rows k r (λ f at. steady.keeps.served k f at) step.good) (has_base s.applied k r b (parts s.applied k r b step.body));
   }
 
   pub due-removal : (id : Rid) → IsIn k s.to_sync → IsRemoval s k id → OwesCall s
@@ -211,8 +216,15 @@ module _ (s : State) (chip : ChipState) (steady : IsStanding s chip) (k : Key) w
     queued = due;
     differs = λ same. gone (applied_entry s.applied k) step.there (same ∙ step.good);
     free = free-gone step.good step.free;
+    change = by (applied_entry s.applied k) refl step.there;
   }
     where
+      by : (o : Option Applied) → applied_entry s.applied k ≡ o → option_map (λ a. a.id) o ≡ Some id → HasChange s.plan (good_rows s.plan s.rows) (rows_applied s.applied) k
+      by None at h = absurd (none_some h)
+      by (Some a) at h =
+          let was = ap (option_map (λ x. x.row)) at in
+          change-gone s.plan s.applied (served-applied s.plan s.applied chip.objects steady.stands) k (good_rows s.plan s.rows) a.row was step.good (steady.keeps.closed k a.row was)
+
       gone : (o : Option Applied) → option_map (λ a. a.id) o ≡ Some id → option_map (λ a. a.row) o ≡ None → ⊥
       gone None h e = cc
       gone (Some a) h e = cc
@@ -231,9 +243,8 @@ pub full-from : (s : State) (n m : ℕ) (full : Bool) → ((full ≡ true) ↔ (
 full-from s n m full says is same = omega (arith, same, says.0 is)
 
 -- the places hang on the log and its limit alone
-pub places-of : (n m : ℕ) (s t : State) (effects : ℕ) → counted_size t 0 + m ≡ counted_size s 0 + n → t.limit ≡ s.limit → HadPlaces n s effects → HadPlaces m t effects
-places-of n m s t effects sizes limit places = record {
-  made = places.made;
+pub places-of : (n m : ℕ) (s t : State) (chip : ChipState) → counted_size t 0 + m ≡ counted_size s 0 + n → t.limit ≡ s.limit → HadPlaces n s chip → HadPlaces m t chip
+places-of n m s t chip sizes limit places = record {
   before = places.before;
   last = places.last;
   fits = omega (arith, places.fits, sizes, limit);

@@ -89,6 +89,7 @@ true-same : (plan : Ports) (capacities : List ℕ) (taken : List Sent) (es fs : 
 true-same plan capacities taken es fs before mark (event.Settled waits turns) same h = record {
   alike = subst (λ o. IsAlike o (IsThingOf plan (applied_at plan taken mark waits))) (sym same) h.alike;
   closed = h.closed;
+  order = h.order;
   reasons = h.reasons;
   kinds = h.kinds;
 }

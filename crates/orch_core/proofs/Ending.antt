@@ -45,6 +45,7 @@ use Rattle.orch_core.proofs.Effects.{grown-after}
 use Rattle.orch_core.proofs.Keyed.{is_at-refl, same_key}
 use Rattle.orch_core.proofs.Logged.{keeps-mark, listed-more, suspect-more}
 use Rattle.orch_core.proofs.Turning.{leave-after, under-none}
+use Rattle.orch_core.proofs.Ordered.{order-listing}
 
 -- a core that keeps its promises is sound
 pub sound-kept : (core : State) (chip : ChipState) → IsKept core chip → IsSound (core_of core) chip
@@ -127,7 +128,7 @@ kinds s [] h = tt
 kinds s (w ∷ ws) (one, h) = (one.1, kinds s ws h)
 
 -- a core whose turns ended can be marked as settled
-module _ (s : State) (chip : ChipState) (steady : IsStanding s chip) (rest : IsRest s []) (truly : WaitTruly s s.waiting) where
+module _ (s : State) (chip : ChipState) (steady : IsStanding s chip) (rest : IsRest s []) (sorted : IsStrictlySortedBy key_cmp s.to_sync) (truly : WaitTruly s s.waiting) where
   good_at : good_rows_at s.plan s.log.taken (length s.log.taken) ≡ good_rows s.plan s.rows
   good_at = ap (λ ws. good_rows s.plan (rows_of (sent_writes ws))) (take-length s.log.taken) ∙ ap (good_rows s.plan) (sym steady.keeps.rows)
 
@@ -147,6 +148,7 @@ module _ (s : State) (chip : ChipState) (steady : IsStanding s chip) (rest : IsR
         subst (λ o. IsAlike o (IsThingOf s.plan (applied_rows (listing s) (good_rows_at s.plan s.log.taken (length s.log.taken))))) steady.keeps.objects
         (subst (λ f. IsAlike chip.objects (IsThingOf s.plan f)) (sym rows_at) (alike-stands s.plan s.applied _ chip.objects steady.keeps.plan steady.keeps.whole steady.stands));
     closed = subst IsClosed (sym rows_at) steady.keeps.closed;
+    order = order-listing s rest sorted;
     reasons =
         subst (λ f. ReasonsAreTrue s.plan s.capacities (good_rows_at s.plan s.log.taken (length s.log.taken)) f (listing s)) (sym rows_at)
         (subst (λ g. ReasonsAreTrue s.plan s.capacities g (rows_applied s.applied) (listing s)) (sym good_at) (reasons s s.waiting truly));
@@ -203,7 +205,7 @@ faulted-after old chip mid chip1 count new chip2 a b = record {
   behind = b.behind ∙ ap (λ (s : State). record s { to_sync = new.to_sync; applied = new.applied; waiting = new.waiting }) a.behind;
   leave = leave-after old.to_sync mid.to_sync new.to_sync a.leave b.leave;
   grown = grown-after chip chip1 chip2 a.grown b.grown;
-  places = places-of 1 1 mid old (length chip2.effects) (ap (λ (s : State). counted_size s 0 + 1) (sym a.behind)) (ap (λ (s : State). s.limit) (sym a.behind)) b.places;
+  places = places-of 1 1 mid old chip2 (ap (λ (s : State). counted_size s 0 + 1) (sym a.behind)) (ap (λ (s : State). s.limit) (sym a.behind)) b.places;
   before = b.before ∙ a.faults;
   rose = omega (arith, b.rose, a.faults);
 }
@@ -289,7 +291,7 @@ steady-opened old chip kept known = record {
 
 -- what is due hangs on neither the log nor the count of its keys
 due-beside : (s : State) (log : History) (listed : ℕ) → OwesCall s → OwesCall (record s { log = log; listed = listed })
-due-beside s log listed due = record { key = due.key; queued = due.queued; differs = due.differs; free = due.free }
+due-beside s log listed due = record { key = due.key; queued = due.queued; differs = due.differs; free = due.free; change = due.change }
 
 truly-beside : (s : State) (log : History) (listed : ℕ) (ws : List (Key × Wait)) → WaitTruly s ws → WaitTruly (record s { log = log; listed = listed }) ws
 truly-beside s log listed [] h = tt
@@ -348,7 +350,7 @@ module _ (old : State) (chip : ChipState) (new : State) (chip' : ChipState) wher
 
   by-settled : IsFilled old.log (opened old (length chip.effects)) chip (Ok settled.Settled) new chip' → Settles old chip (Ok settled.Settled) new chip'
   by-settled (mid, turns, rested, is, places) = record {
-    kept = subst (λ n. IsKept n chip') (sym new_is) (kept-settled (closed mid rested.under) chip' (steady-closed mid rested.under) rested.due.rest (truly-beside mid old.log mid.listed mid.waiting rested.due.truly) turns);
+    kept = subst (λ n. IsKept n chip') (sym new_is) (kept-settled (closed mid rested.under) chip' (steady-closed mid rested.under) rested.due.rest rested.due.order (truly-beside mid old.log mid.listed mid.waiting rested.due.truly) turns);
     ended = record {
       turns = turns;
       taken = subst (λ (s : State). TurnTo turns old s) (sym new_is) rested.taken;
@@ -375,7 +377,7 @@ module _ (old : State) (chip : ChipState) (new : State) (chip' : ChipState) wher
     ended = record {
       log = ap (λ (s : State). s.log) new_is;
       listed = ap (λ (s : State). s.listed) new_is ∙ ap (λ (s : State). s.listed) ends.behind;
-      places = places-of 1 2 (opened old (length chip.effects)) old (length chip'.effects) (omega (arith, length-append old.log.marks (open_mark old (length chip.effects) ∷ []))) refl ends.places;
+      places = places-of 1 2 (opened old (length chip.effects)) old chip' (omega (arith, length-append old.log.marks (open_mark old (length chip.effects) ∷ []))) refl ends.places;
       rose = ends.rose;
     };
     same = subst (IsSame old) (sym new_is) (same-behind mid ends.behind marked mid.listed);

@@ -2,7 +2,6 @@ pub mod Keyed
 pub mod Bodies
 pub mod Listed
 pub mod Standing
-pub mod Planned
 pub mod Owned
 pub mod Counted
 pub mod Making
@@ -11,9 +10,12 @@ pub mod Changing
 pub mod Effects
 pub mod Logged
 pub mod Good
+pub mod Owed
+pub mod PortSets
 pub mod Due
 pub mod Trying
 pub mod Differing
 pub mod Queue
 pub mod Turning
+pub mod Ordered
 pub mod Ending

@@ -113,6 +113,7 @@ module _ (plan : Ports) (capacities : List ℕ) (taken : List Sent) (s : Sent) (
       record {
         alike = subst (λ g. IsAlike (chip_after es mark.effects) (IsThingOf plan (applied_rows waits g))) same h.alike;
         closed = subst (λ g. IsClosed (applied_rows waits g)) same h.closed;
+        order = h.order;
         reasons = subst (λ g. ReasonsAreTrue plan capacities g (applied_rows waits g) waits) same h.reasons;
         kinds = subst (λ g. NameFirstKinds plan capacities g (applied_rows waits g) waits) same h.kinds;
       }
@@ -120,6 +121,7 @@ module _ (plan : Ports) (capacities : List ℕ) (taken : List Sent) (s : Sent) (
       let same = sym (good-front plan taken s mark.taken le) in
       record {
         closed = subst (λ g. IsClosed (applied_rows waits g)) same h.closed;
+        order = h.order;
         reasons = subst (λ g. ReasonsAreTrue plan capacities g (applied_rows waits g) waits) same h.reasons;
         absent = h.absent;
       }

@@ -30,7 +30,7 @@ use Rattle.orch_core.proofs.Counted.{IsOf, used-below}
 use Rattle.orch_core.proofs.Keyed.{found-insert, found-put, same_key, sorted-insert, put_or_old, kept_put}
 use Rattle.orch_core.proofs.Listed.{any-none, found-in}
 use Rattle.orch_core.proofs.Owned.{id-exact, ids-tied, lanes-of_port, one-port}
-use Rattle.orch_core.proofs.Planned.{not_true, one-planned}
+use Rattle.switch_model.proofs.Planned.{not_true, one-planned}
 use Rattle.orch_core.proofs.Standing.{owner}
 
 legal_from : (capacities : List ℕ) (objects : Objects) (b : Body Rid) → refers_well objects b ≡ true → list_any (λ o. clash b o.1) objects ≡ false → nat_le (capacity_of capacities (kind_of b)) (used objects (kind_of b)) ≡ false → create_refusal capacities objects b ≡ None

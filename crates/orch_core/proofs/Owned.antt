@@ -20,7 +20,7 @@ use Rattle.sai_types.proofs.Found.{body_at-same, same-refl}
 use Rattle.orch_core.specs.declared.applied.Applied.{Applied}
 use Rattle.orch_core.specs.Standing.{Entries, IsPlanned, Stands, applied_entry, body_of}
 use Rattle.orch_core.proofs.Bodies.{IsPort, IsInterface, parts, port_body}
-use Rattle.orch_core.proofs.Planned.{one-with_lanes}
+use Rattle.switch_model.proofs.Planned.{one-with_lanes}
 
 pub ids-tied : (a b : Rid) → same_entry (entry.Oid a) (entry.Oid b) ≡ same_id a b
 ids-tied a b = search rules

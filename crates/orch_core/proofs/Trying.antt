@@ -136,12 +136,11 @@ module _ (k : Key) (old : State) (chip new : ChipState) (c : Call Rid) (steady :
   unanswered-grown (inl same) = grown-same chip new same.effects stays.fails
   unanswered-grown (inr takes) = grown-one chip c new takes stays
 
-  unanswered-places : StaysSame chip new ⊎ TakesEffect chip c new → HadPlaces 1 old (length new.effects)
-  unanswered-places either = let grown = unanswered-grown either in record {
-    made = length chip.effects;
-    before = omega (arith, ap length grown.grown, length-append chip.effects grown.calls);
-    last = unanswered-few either;
-    fits = fits;
+  unanswered-places : StaysSame chip new ⊎ TakesEffect chip c new → new.before_fault ≡ length chip.effects → HadPlaces 1 old new
+  unanswered-places either behind = let grown = unanswered-grown either in record {
+    before = omega (arith, behind, ap length grown.grown, length-append chip.effects grown.calls);
+    last = omega (arith, behind, unanswered-few either);
+    fits = omega (arith, behind, fits);
   }
 
   pub tried-without : (why : Uncalled) → Unanswered chip c why new → IsTried k old chip (tried_without why) old new
@@ -154,11 +153,11 @@ module _ (k : Key) (old : State) (chip new : ChipState) (c : Call Rid) (steady :
     still = λ zero none. none;
     faults = faults;
   }
-  tried-without (uncalled.Faulted count) (either, before, rose) = record {
+  tried-without (uncalled.Faulted count) (either, before, rose, behind) = record {
     touches = record { same = refl; others = λ q apart. refl };
     keeps = unanswered-keeps either;
     grown = unanswered-grown either;
-    places = unanswered-places either;
+    places = unanswered-places either behind;
     few = λ none. unanswered-few either;
     before = before;
     rose = rose;

@@ -1,5 +1,5 @@
 -- What a legal call of the chip comes to. Own.
-use Rattle.std.specs.Prelude.{◌≡◌, ◌⊎◌, ◌<◌, List, ◌++◌, Result, Ok, Err}
+use Rattle.std.specs.Prelude.{◌≡◌, ◌⊎◌, ◌<◌, List, ◌++◌, length, Result, Ok, Err}
 use Rattle.sai_types.specs.After.{next_id}
 use Rattle.sai_types.specs.ChipState.{ChipState, StaysSame, TakesEffect}
 use Rattle.sai_types.specs.declared.ids.Rid.{Rid}
@@ -21,10 +21,10 @@ pub record StaysClean (old new : ChipState) : Type 0 where
   pub capacities : new.capacities ≡ old.capacities
   pub fails : new.fails ≡ old.fails
 
--- a call without success: no effect where memory was refused; where the chip failed it may have taken effect
+-- a call without success: no effect where memory was refused; where the chip failed it may have taken effect, and the chip knows what came before it
 abbrev pub Unanswered : ChipState → Call Rid → Uncalled → ChipState → Type 0
 Unanswered old c uncalled.NoMemory new = StaysSame old new × (new.faults ≡ old.faults)
-Unanswered old c (uncalled.Faulted count) new = (StaysSame old new ⊎ TakesEffect old c new) × (count ≡ old.faults) × (old.faults < new.faults)
+Unanswered old c (uncalled.Faulted count) new = (StaysSame old new ⊎ TakesEffect old c new) × (count ≡ old.faults) × (old.faults < new.faults) × (new.before_fault ≡ length old.effects)
 
 abbrev pub IsMadeBy : ChipState → Body Rid → Result Rid Uncalled → ChipState → Type 0
 IsMadeBy old b (Ok id) new = TakesEffect old (call.Create b) new × (id ≡ record { 0 = next_id old.effects }) × (new.faults ≡ old.faults)

@@ -144,7 +144,7 @@ pub record MarksSettled (old : State) (chip : ChipState) (new : State) (chip' : 
 pub record MarksFaulted (old : State) (chip : ChipState) (new : State) (chip' : ChipState) : Type 0 where
   pub log : new.log ≡ with_ending old.log (mark_at old (length chip'.effects) (event.Faulted chip.faults chip'.faults))
   pub listed : new.listed ≡ old.listed
-  pub places : HadPlaces 2 old (length chip'.effects)
+  pub places : HadPlaces 2 old chip'
   pub rose : chip.faults < chip'.faults
 
 -- how a settling ended: with a mark; or the log is full; after the last and want of memory the log is as before

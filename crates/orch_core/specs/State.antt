@@ -1,10 +1,10 @@
 -- What contracts see of a core. Own.
-use Rattle.std.specs.Prelude.{ℕ, ◌+◌, List, [], length}
+use Rattle.std.specs.Prelude.{ℕ, List, []}
 use Rattle.table_schema.specs.Plan.{Ports}
 use Rattle.table_schema.specs.Rows.{Rows}
 use Rattle.table_schema.specs.declared.key.Key.{Key}
 use Rattle.switch_model.specs.declared.wait.Wait.{Wait}
-use Rattle.switch_model.specs.History.{History, no_history}
+use Rattle.switch_model.specs.History.{History, no_history, size_listing}
 use Rattle.switch_model.specs.Sound.{CoreState}
 use Rattle.orch_core.specs.Standing.{Entries, rows_applied}
 
@@ -29,4 +29,4 @@ core_of s = record { plan = s.plan; capacities = s.capacities; log = s.log; rows
 
 -- the size of the log beside so many effects, with the core's own count of the keys that marks list
 abbrev pub counted_size : State → ℕ → ℕ
-counted_size s effects = effects + length s.log.taken + length s.log.marks + s.listed
+counted_size s effects = size_listing s.listed s.log effects

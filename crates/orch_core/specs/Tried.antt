@@ -40,7 +40,7 @@ pub record IsFaulted (k : Key) (old : State) (chip : ChipState) (count : ℕ) (n
   pub touches : Touches k old new
   pub keeps : Keeps new chip'
   pub grown : IsGrown chip chip'
-  pub places : HadPlaces 1 old (length chip'.effects)
+  pub places : HadPlaces 1 old chip'
   pub few : MakesFew 1 k old chip chip'
   pub before : count ≡ chip.faults
   pub rose : chip.faults < chip'.faults

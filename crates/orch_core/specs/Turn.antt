@@ -103,7 +103,7 @@ pub record EndsFaulted (old : State) (chip : ChipState) (count : ℕ) (new : Sta
   pub behind : IsBehind old new
   pub leave : OnlyLeave old.to_sync new.to_sync
   pub grown : IsGrown chip chip'
-  pub places : HadPlaces 1 old (length chip'.effects)
+  pub places : HadPlaces 1 old chip'
   pub before : count ≡ chip.faults
   pub rose : chip.faults < chip'.faults
 

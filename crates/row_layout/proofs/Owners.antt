@@ -27,7 +27,7 @@ use Rattle.row_layout.specs.Rows as owner
 use Rattle.row_layout.specs.Rows.{IsPlanned, Owner, goal_of, interface_on, own_things, owner_of}
 use Rattle.row_layout.specs.Shared.{CanHold, shared_things}
 use Rattle.row_layout.proofs.Members.{from_in, only, two}
-use Rattle.row_layout.proofs.Planned.{has-first, lanes-planned, number-is, planned_lane}
+use Rattle.switch_model.proofs.Planned.{has-first, lanes-planned, number-is, planned_lane}
 
 named_step : (s t : Bool) (p : ℕ) (q : ℕ × List ℕ) (qs : Ports) (xs : List ℕ) → is_at (nat_cmp p) q.0 ≡ s → (slice_index q.1 0 == slice_index xs 0) ≡ t → IsLaneList q.1 → ((lane : ℕ) → has q.1 lane ≡ true → has_lane qs lane ≡ false) → (lanes_in_plan qs p ≡ Some xs → port_named qs (slice_index xs 0) ≡ Some p) → (lanes_in_plan qs p ≡ Some xs → has_lane qs (slice_index xs 0) ≡ true) → cond s (Some q.1) (lanes_in_plan qs p) ≡ Some xs → (if t then Some q.0 else port_named qs (slice_index xs 0)) ≡ Some p
 named_step true true p q qs xs at first list apart rest there h = ap Some (sym (number-is p q.0 at))

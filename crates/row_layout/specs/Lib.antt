@@ -1,3 +1,4 @@
+pub mod Due
 pub mod Operations
 pub mod Rows
 pub mod Shared

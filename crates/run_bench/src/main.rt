@@ -53,9 +53,9 @@ fn time(
     let outcome = swss_main(rt, alloc, &words, &mut source, &mut sink, &Open);
     let nanoseconds = start.elapsed(rt)?.as_nanos();
     let each = nanoseconds / u128::from(number).max(1);
-    let status = outcome.status.number();
     let taken = outcome.log.taken().len();
     let ended = outcome.log.ends().len();
+    let status = outcome.into_status().number();
     println!(rt; "{number} {what}: status {status}, {taken} writes, {ended} rounds")?;
     eprintln!(rt; "{number} {what}: {each} ns each")?;
     Ok(())

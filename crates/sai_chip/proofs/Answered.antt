@@ -1,5 +1,5 @@
 -- a call of the simulated chip is one of a chip
-use Rattle.std.proofs.Common.{◌≡◌, inl, inr, ℕ, ◌+◌, Bool, true, false, if◌then◌else◌, List, Option, None, Some, refl, subst, arith}
+use Rattle.std.proofs.Common.{◌≡◌, inl, inr, ℕ, ◌+◌, Bool, true, false, if◌then◌else◌, List, length, Option, None, Some, refl, subst, arith}
 use Rattle.sai_types.specs.declared.ids.Rid.{Rid}
 use Rattle.sai_types.specs.declared.body.Body.{Body}
 use Rattle.sai_types.specs.declared.body.Entry.{Entry}
@@ -8,11 +8,11 @@ use Rattle.sai_types.specs.declared.body.Call.{Call}
 use Rattle.sai_types.specs.declared.body.Call.TheVariants as call
 use Rattle.sai_types.specs.declared.answer.ChipAnswer.{ChipAnswer}
 use Rattle.sai_types.specs.declared.answer.ChipAnswer.TheVariants as answer
-use Rattle.sai_types.specs.ChipState.{ChipState, Answers, IsAnswered, StaysSame, TakesEffect}
+use Rattle.sai_types.specs.ChipState.{ChipState, Answers, IsAnswered, StaysSame, TakesEffect, fault_behind}
 use Rattle.sai_types.specs.Objects.{Objects, body_at}
 use Rattle.sai_types.specs.After.{makes_id, next_id}
 use Rattle.sai_types.specs.Refusal.{first_of, refusal_of, set_refusal, remove_refusal, is_legal}
-use Rattle.sai_chip.specs.Sim.{Sim, ResultsBy, counted, is_failed, refusal_at}
+use Rattle.sai_chip.specs.Sim.{Sim, ResultsBy, counted, effect_answer, is_failed, refusal_at}
 
 abbrev is_refusal : ChipAnswer → Bool
 is_refusal answer.Exists = true
@@ -74,43 +74,61 @@ as_many : (failed : Bool) (n : ℕ) → failed ≡ false → (n + (if failed the
 as_many true n e = absurd cc
 as_many false n e = omega arith
 
-answered_by : (fault : Option Bool) (refusal : Option ChipAnswer) (old left new : Sim) (c : Call Rid) (a : ChipAnswer) → refusal_at old c ≡ refusal → ResultsBy fault refusal old c a left → new ≡ counted (is_legal old.chip.capacities old.chip.objects c) (is_failed a) left → IsAnswered old.chip c a new.chip
+-- what came before the last failing call is counted as the answer says
+fault_is : (a : ChipAnswer) (old : ChipState) → (if is_failed a then length old.effects else old.before_fault) ≡ fault_behind old a
+fault_is answer.Failed old = refl
+fault_is (answer.Made id) old = refl
+fault_is answer.Done old = refl
+fault_is answer.Exists old = refl
+fault_is answer.BadReference old = refl
+fault_is answer.NotFound old = refl
+fault_is answer.InUse old = refl
+fault_is answer.Full old = refl
+fault_is answer.NoMemory old = refl
+
+answered_by : (fault : Option Bool) (refusal : Option ChipAnswer) (old left new : Sim) (c : Call Rid) (a : ChipAnswer) → refusal_at old c ≡ refusal → ResultsBy fault refusal old c a left → new ≡ counted (is_legal old.chip.capacities old.chip.objects c) (is_failed a) (length old.chip.effects) left → IsAnswered old.chip c a new.chip
 answered_by fault refusal old left new c a e (inr (ea, el)) counts = rw (counts, el, ea) (record {
   answer = (record { objects = refl; effects = refl }, omega arith);
   clean = refl;
+  fault = refl;
   capacities = refl;
   fails = refl;
 })
 answered_by None None old left new c a e (inl (ea, el)) counts = rw (counts, el, ea) (record {
   answer = took_effect old.chip _ c (makes_id c) refl (record { legal = e; objects = refl; effects = refl }) (as_many _ old.chip.faults (id_not_failed (makes_id c) _));
   clean = refl;
+  fault = fault_is (effect_answer old c) old.chip;
   capacities = refl;
   fails = refl;
 })
 answered_by None (Some r) old left new c a e (inl (ea, el)) counts = rw (counts, el, ea) (record {
   answer = refused old.chip _ c r (is_refusal-refusal_of old.chip.capacities old.chip.objects c r e) e (record { objects = refl; effects = refl }) (as_many _ old.chip.faults (refusal_not_failed r (is_refusal-refusal_of old.chip.capacities old.chip.objects c r e)));
   clean = refl;
+  fault = fault_is r old.chip;
   capacities = refl;
   fails = refl;
 })
 answered_by (Some true) None old left new c a e (inl (ea, el)) counts = rw (counts, el, ea) (record {
   answer = (inr (record { legal = e; objects = refl; effects = refl }), omega arith);
   clean = refl;
+  fault = refl;
   capacities = refl;
   fails = refl;
 })
 answered_by (Some false) None old left new c a e (inl (ea, el)) counts = rw (counts, el, ea) (record {
   answer = (inl (record { objects = refl; effects = refl }), omega arith);
   clean = refl;
+  fault = refl;
   capacities = refl;
   fails = refl;
 })
 answered_by (Some after) (Some r) old left new c a e (inl (ea, el)) counts = rw (counts, el, ea) (record {
   answer = (inl (record { objects = refl; effects = refl }), omega arith);
   clean = refl;
+  fault = refl;
   capacities = refl;
   fails = refl;
 })
 
-pub answered : (fault : Option Bool) (old left new : Sim) (c : Call Rid) (a : ChipAnswer) → ResultsBy fault (refusal_at old c) old c a left → new ≡ counted (is_legal old.chip.capacities old.chip.objects c) (is_failed a) left → IsAnswered old.chip c a new.chip
+pub answered : (fault : Option Bool) (old left new : Sim) (c : Call Rid) (a : ChipAnswer) → ResultsBy fault (refusal_at old c) old c a left → new ≡ counted (is_legal old.chip.capacities old.chip.objects c) (is_failed a) (length old.chip.effects) left → IsAnswered old.chip c a new.chip
 answered fault old left new c a results counts = answered_by fault (refusal_at old c) old left new c a refl results counts

@@ -1,5 +1,5 @@
 -- A simulated chip: what its calls answer and leave. Own.
-use Rattle.std.specs.Prelude.{◌≡◌, ℕ, ◌+◌, nat_lt, Bool, true, false, ◌&&◌, ◌⊎◌, List, [], ◌∷◌, ◌++◌, Option, Some, None, IsSome, if◌then◌else◌}
+use Rattle.std.specs.Prelude.{◌≡◌, ℕ, ◌+◌, nat_lt, Bool, true, false, ◌&&◌, ◌⊎◌, List, [], ◌∷◌, ◌++◌, length, Option, Some, None, IsSome, if◌then◌else◌}
 use Rattle.sai_types.specs.declared.ids.Rid.{Rid}
 use Rattle.sai_types.specs.declared.body.Call.{Call}
 use Rattle.sai_types.specs.declared.body.Object.{Object}
@@ -58,9 +58,13 @@ ResultsBy fault refusal old c a new =
     ((a ≡ answer_by fault refusal (effect_answer old c)) × (new ≡ (if effect_by fault refusal then with_effect old c else old)))
     ⊎ ((a ≡ answer.NoMemory) × (new ≡ old))
 
--- a call is counted: whether it was legal, and whether the chip failed at it
-abbrev pub counted : Bool → Bool → Sim → Sim
-counted legal failed s = record s { chip = record s.chip { clean = s.chip.clean && legal; faults = s.chip.faults + (if failed then 1 else 0) }; calls = called s.calls }
+-- a call is counted: whether it was legal, whether the chip failed at it, and how many calls had taken effect before it
+abbrev pub counted : Bool → Bool → ℕ → Sim → Sim
+counted legal failed before s =
+    record s {
+      chip = record s.chip { clean = s.chip.clean && legal; faults = s.chip.faults + (if failed then 1 else 0); before_fault = if failed then before else s.chip.before_fault };
+      calls = called s.calls;
+    }
 
 abbrev pub is_failed : ChipAnswer → Bool
 is_failed answer.Failed = true
@@ -70,7 +74,7 @@ is_failed _ = false
 pub record IsCalled (old : Sim) (c : Call Rid) (a : ChipAnswer) (new : Sim) : Type 0 where
   pub left : Sim
   pub results : ResultsBy (fault_of old) (refusal_at old c) old c a left
-  pub counts : new ≡ counted (is_legal old.chip.capacities old.chip.objects c) (is_failed a) left
+  pub counts : new ≡ counted (is_legal old.chip.capacities old.chip.objects c) (is_failed a) (length old.chip.effects) left
 
 abbrev pub is_list_failed : ListAnswer → Bool
 is_list_failed listed.Failed = true
@@ -91,7 +95,7 @@ ListsBy fault listed.Failed old more new = IsSome fault × (new ≡ old)
 -- a listing of the simulated chip: what it gives, and then it is counted
 pub record IsListing (old : Sim) (a : ListAnswer) (out out' : List (Object Rid)) (new : Sim) : Type 0 where
   pub lists : ListsBy (fault_of old) a out (objects_of old.chip.objects) out'
-  pub counts : new ≡ counted true (is_list_failed a) old
+  pub counts : new ≡ counted true (is_list_failed a) (length old.chip.effects) old
 
 -- what comes of a call at which the chip fails, with effect or without
 abbrev pub FailsBy : Bool → Sim → Call Rid → ChipAnswer → Sim → Type 0

@@ -19,7 +19,7 @@ use crate::ways::Ways;
 use sai_types::{Body, Hop, Rid, To};
 use std::alloc::Global;
 use std::collections::BTreeMap;
-use swss_types::{Family, Ip, Mac, OutOfMemory, Prefix};
+use swss_types::{Ip, Mac, OutOfMemory, Prefix, V6_BITS};
 
 /// Hops, rising, each with its Ethernet address, where it has one.
 type Macs = BTreeMap<Hop, Option<Mac>>;
@@ -93,12 +93,8 @@ fn covers(prefix: &Prefix, ip: Ip) -> bool
         return false;
     }
     let bits = prefix.ip.bits;
-    let width: u32 = match ip.family {
-        Family::V4 => 32,
-        Family::V6 => 128,
-    };
-    let rest = width.saturating_sub(u32::from(prefix.len));
-    rest == 128 || bits >> rest == ip.bits >> rest
+    let rest = ip.family.width().saturating_sub(prefix.len);
+    rest == V6_BITS || bits >> rest == ip.bits >> rest
 }
 
 /// Where a route with this target sends: None where a reference is absent.

@@ -39,6 +39,7 @@ pub struct SimChip {
     fails: Failing,
     calls: u64,
     faults: u64,
+    before_fault: u64,
 }
 
 impl Model for SimChip {
@@ -47,7 +48,7 @@ impl Model for SimChip {
 
     ghost Value = { Sim };
 
-    ghost view = { λ s. record { chip = record { objects = s.held; effects = s.effects.items; capacities = s.caps.0; fails = s.fails; clean = s.clean; faults = s.faults }; calls = s.calls } };
+    ghost view = { λ s. record { chip = record { objects = s.held; effects = s.effects.items; capacities = s.caps.0; fails = s.fails; clean = s.clean; faults = s.faults; before_fault = s.before_fault }; calls = s.calls } };
 
     ghost invariant = { λ s. IsInOrder s.held s.effects.items s.fails s.made s.faults s.calls };
 }
@@ -68,6 +69,7 @@ impl SimChip {
             fails: Failing::new(alloc, fails),
             calls: 0,
             faults: 0,
+            before_fault: 0,
         }
     }
 
@@ -139,13 +141,14 @@ impl SimChip {
         }
     }
 
-    /// Counts a call: whether it was legal, and whether the chip failed at it.
-    fn count(&mut self, legal: bool, failed: bool)
+    /// Counts a call: whether it was legal, whether the chip failed at it, and how many calls had taken effect before it.
+    fn count(&mut self, legal: bool, failed: bool, before: u64)
         requires { failed ≡ true → IsSome (fault_of self.old) }
-        ensures { self.new ≡ counted legal failed self.old }
+        ensures { self.new ≡ counted legal failed before self.old }
     {
         self.clean = self.clean && legal;
         self.faults += u64::from(failed);
+        self.before_fault = if failed { before } else { self.before_fault };
         self.calls = self.calls.saturating_add(1);
     }
 
@@ -211,9 +214,10 @@ impl Chip for SimChip {
         ensures answered { IsAnswered self.old.chip call.now result self.new.chip }
         ensures called { IsCalled self.old call.now result self.new }
     {
+        let before = self.effects();
         let refusal = self.refusal(call);
         let answer = self.answer(call, refusal);
-        self.count(refusal.is_none(), is_failed(&answer));
+        self.count(refusal.is_none(), is_failed(&answer), before);
         answer
     }
 
@@ -223,7 +227,7 @@ impl Chip for SimChip {
     {
         let answer = self.answer_list(out);
         let failed = matches!(answer, ListAnswer::Failed);
-        self.count(true, failed);
+        self.count(true, failed, self.effects());
         answer
     }
 

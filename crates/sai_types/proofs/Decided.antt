@@ -112,7 +112,7 @@ prefix_same : (p q : Prefix) → p.ip.family ≡ q.ip.family → p.ip.bits ≡ q
 prefix_same p q x y z = λ i. record { ip = record { family = x i; bits = y i }; len = z i }
 
 -- proper prefixes of one length that cover one address are one prefix
-prefix_unique : (p q : Prefix) (a : Ip) → IsProperPrefix p → IsProperPrefix q → covers p a ≡ true → covers q a ≡ true → p.len ≡ q.len → p ≡ q
+pub prefix_unique : (p q : Prefix) (a : Ip) → IsProperPrefix p → IsProperPrefix q → covers p a ≡ true → covers q a ≡ true → p.len ≡ q.len → p ≡ q
 prefix_unique p q a proper_p proper_q cov_p cov_q lens =
     let in_p = and_parts (same_family p.ip.family a.family) (front (width a.family - p.len) p.ip.bits == front (width a.family - p.len) a.bits) cov_p in
     let in_q = and_parts (same_family q.ip.family a.family) (front (width a.family - q.len) q.ip.bits == front (width a.family - q.len) a.bits) cov_q in
@@ -142,7 +142,7 @@ own_by : (b c : Bool) (P Q : Type 0) → (b ≡ true → P) → (c ≡ true → 
 own_by true c P Q f g h = inl (f refl)
 own_by false c P Q f g h = inr (g h)
 
-has_own-in : (ts : List Thing) (a : Ip) → has_own ts a ≡ true → IsIn (thing.Own a) ts
+pub has_own-in : (ts : List Thing) (a : Ip) → has_own ts a ≡ true → IsIn (thing.Own a) ts
 has_own-in [] a h = absurd (false≢true h)
 has_own-in (t ∷ ts) a h = own_by (is_own a t) (has_own ts a) (thing.Own a ≡ t) (IsIn (thing.Own a) ts) (own_is a t) (has_own-in ts a) h
 
@@ -150,7 +150,7 @@ or_true : (b c : Bool) → c ≡ true → (b || c) ≡ true
 or_true true c h = refl
 or_true false c h = h
 
-in-has_own : (ts : List Thing) (a : Ip) → IsIn (thing.Own a) ts → has_own ts a ≡ true
+pub in-has_own : (ts : List Thing) (a : Ip) → IsIn (thing.Own a) ts → has_own ts a ≡ true
 in-has_own [] a i = absurd i
 in-has_own (t ∷ ts) a (inl e) = let here : is_own a t ≡ true = ap (is_own a) (sym e) ∙ equal_ip.laws-law.refl a in ap (λ b. b || has_own ts a) here
 in-has_own (t ∷ ts) a (inr i) = or_true (is_own a t) (has_own ts a) (in-has_own ts a i)

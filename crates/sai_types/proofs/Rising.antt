@@ -23,17 +23,17 @@ use Rattle.sai_types.proofs.Exact.{ip-exact}
 pub hop_total : IsTotalOrder hop_cmp
 hop_total = ordered_hop.total-law
 
-base_exact : (a b : Base) → base_eq.ghosts.eq a b ≡ true → a ≡ b
-base_exact (base.Port m) (base.Port n) h = ap base.Port (eqb-true m n h)
-base_exact (base.Vlan m) (base.Vlan n) h = ap base.Vlan (eqb-true m n h)
-base_exact (base.Port m) (base.Vlan n) h = absurd (false≢true h)
-base_exact (base.Vlan m) (base.Port n) h = absurd (false≢true h)
+pub base-exact : (a b : Base) → base_eq.ghosts.eq a b ≡ true → a ≡ b
+base-exact (base.Port m) (base.Port n) h = ap base.Port (eqb-true m n h)
+base-exact (base.Vlan m) (base.Vlan n) h = ap base.Vlan (eqb-true m n h)
+base-exact (base.Port m) (base.Vlan n) h = absurd (false≢true h)
+base-exact (base.Vlan m) (base.Port n) h = absurd (false≢true h)
 
 pub hop-same : (a b : Hop) → hop_eq.ghosts.eq a b ≡ true → a ≡ b
 hop-same a b h =
     let parts = and_parts (base_eq.ghosts.eq a.on b.on) (same_ip a.ip b.ip) h in
     let made : Base → Ip → Hop = λ x y. record { on = x; ip = y } in
-    ap₂ made (base_exact a.on b.on parts.0) (ip-exact a.ip b.ip parts.1)
+    ap₂ made (base-exact a.on b.on parts.0) (ip-exact a.ip b.ip parts.1)
 
 pub hop_exact : CmpEqualImpliesEq hop_cmp
 hop_exact a b h = hop-same a b (ordered_hop.matches_eq-law a b ∙ ap is_eq h)

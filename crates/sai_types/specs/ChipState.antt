@@ -1,5 +1,5 @@
 -- What contracts see of a chip, and what its calls answer and leave.
-use Rattle.std.specs.Prelude.{◌≡◌, ℕ, ◌<◌, Bool, true, false, ◌&&◌, ◌⊎◌, List, [], ◌∷◌, ◌++◌, map, Some}
+use Rattle.std.specs.Prelude.{◌≡◌, ℕ, ◌<◌, Bool, true, false, ◌&&◌, ◌⊎◌, List, [], ◌∷◌, ◌++◌, length, map, Some}
 use Rattle.sai_types.specs.declared.ids.Rid.{Rid}
 use Rattle.sai_types.specs.declared.body.Call.{Call}
 use Rattle.sai_types.specs.declared.body.Object.{Object}
@@ -12,7 +12,7 @@ use Rattle.sai_types.specs.Objects.{Objects}
 use Rattle.sai_types.specs.Refusal.{refusal_of, is_legal, IsLegal}
 use Rattle.sai_types.specs.After.{after_call, makes_id, next_id}
 
--- the objects in the order of their entries; the calls that took effect, in order; the room for each kind; the calls at which it is made to fail; whether each call so far was legal; how often the chip failed
+-- the objects in the order of their entries; the calls that took effect, in order; the room for each kind; the calls at which it is made to fail; whether each call so far was legal; how often the chip failed, and how many calls had taken effect before the one at which it failed last
 pub record ChipState : Type 0 where
   pub objects : Objects
   pub effects : List (Call Rid)
@@ -20,10 +20,11 @@ pub record ChipState : Type 0 where
   pub fails : List Fail
   pub clean : Bool
   pub faults : ℕ
+  pub before_fault : ℕ
 
 -- a new chip
 abbrev pub new_chip : List ℕ → List Fail → ChipState
-new_chip capacities fails = record { objects = []; effects = []; capacities = capacities; fails = fails; clean = true; faults = 0 }
+new_chip capacities fails = record { objects = []; effects = []; capacities = capacities; fails = fails; clean = true; faults = 0; before_fault = 0 }
 
 -- a call that took effect: it was legal, the objects changed by it, and it ends the list of effects
 pub record TakesEffect (old : ChipState) (c : Call Rid) (new : ChipState) : Type 0 where
@@ -52,10 +53,16 @@ Answers old c answer.Full new = IsRefused old c answer.Full new
 Answers old c answer.Failed new = (StaysSame old new ⊎ TakesEffect old c new) × (old.faults < new.faults)
 Answers old c answer.NoMemory new = StaysSame old new × (new.faults ≡ old.faults)
 
--- a call and its answer: the chip stays clean only where the call was legal, and keeps what it was made with
+-- how many calls had taken effect before the call at which the chip failed last: by the answer to one call more
+abbrev pub fault_behind : ChipState → ChipAnswer → ℕ
+fault_behind old answer.Failed = length old.effects
+fault_behind old _ = old.before_fault
+
+-- a call and its answer: the chip stays clean only where the call was legal, knows what came before the call at which it failed last, and keeps what it was made with
 pub record IsAnswered (old : ChipState) (c : Call Rid) (a : ChipAnswer) (new : ChipState) : Type 0 where
   pub answer : Answers old c a new
   pub clean : new.clean ≡ (old.clean && is_legal old.capacities old.objects c)
+  pub fault : new.before_fault ≡ fault_behind old a
   pub capacities : new.capacities ≡ old.capacities
   pub fails : new.fails ≡ old.fails
 
@@ -68,10 +75,16 @@ Lists old listed.Done out out' new = (out' ≡ out ++ objects_of old.objects) ×
 Lists old listed.Failed out out' new = (out' ≡ out) × (old.faults < new.faults)
 Lists old listed.NoMemory out out' new = (out' ≡ out) × (new.faults ≡ old.faults)
 
--- a list of the chip and its answer: each object once, and nothing changes but the count of faults
+-- the same by the answer to a list
+abbrev pub list_fault_behind : ChipState → ListAnswer → ℕ
+list_fault_behind old listed.Failed = length old.effects
+list_fault_behind old _ = old.before_fault
+
+-- a list of the chip and its answer: each object once, and nothing changes but the count of faults and what came before the last of them
 pub record IsListed (old : ChipState) (a : ListAnswer) (out out' : List (Object Rid)) (new : ChipState) : Type 0 where
   pub answer : Lists old a out out' new
   pub same : StaysSame old new
   pub clean : new.clean ≡ old.clean
+  pub fault : new.before_fault ≡ list_fault_behind old a
   pub capacities : new.capacities ≡ old.capacities
   pub fails : new.fails ≡ old.fails

@@ -21,15 +21,8 @@ use Rattle.row_layout.specs.Shared.{shared_things}
 use Rattle.switch_machine.specs.Bearing.{BearsOnce, Bears, NoneBears}
 use Rattle.switch_machine.specs.Changes.{changed}
 use Rattle.switch_machine.proofs.Tabled.{group_use}
-
-in_both : {X : Type 0} (x : X) (xs ys : List X) → IsIn x (xs ++ ys) → IsIn x xs ⊎ IsIn x ys
-in_both x [] ys h = inr h
-in_both x (z ∷ xs) ys (inl e) = inl (inl e)
-in_both x (z ∷ xs) ys (inr h) = wider (in_both x xs ys h)
-  where
-    wider : IsIn x xs ⊎ IsIn x ys → IsIn x (z ∷ xs) ⊎ IsIn x ys
-    wider (inl g) = inl (inr g)
-    wider (inr g) = inr g
+use Rattle.switch_machine.proofs.Sequence.{make_append}
+use Rattle.switch_machine.proofs.Splits.{in_both}
 
 -- groups and their members
 abbrev IsOfGroup : Thing → Type 0
@@ -89,20 +82,16 @@ unshared_in used others (o ∷ os) groups = by _ (unshared_in used others os (λ
     by false rest p (inl e) = groups p (inl e)
     by false rest p (inr h) = rest p h
 
-route_groups : (plan : Ports) (prefix : Prefix) (r : Option Row) → AreGroups (uses_of plan (key.Route prefix) r)
+pub route_groups : (plan : Ports) (prefix : Prefix) (r : Option Row) → AreGroups (uses_of plan (key.Route prefix) r)
 route_groups plan prefix None o h = elim h [ ]
 route_groups plan prefix (Some (row.Route (route.Hops hops))) o h = let x = group_use o (hops_of plan hops) h in (x.0, x.2)
 route_groups plan prefix (Some (row.Route route.Drop)) o h = elim h [ ]
 route_groups plan prefix (Some (row.Route (route.Direct n))) o h = elim h [ ]
 route_groups plan prefix (Some _) o h = elim h [ ]
 
-make_apart : (ts : List Thing) (own rest : List Change) → make_all ts (own ++ rest) ≡ make_all ts own ++ rest
-make_apart [] own rest = refl
-make_apart (t ∷ ts) own rest = ap (λ z. Make t ∷ z) (make_apart ts own rest)
-
 build_apart : (os : List Owner) (rest : List Change) → build_all os rest ≡ build_all os [] ++ rest
 build_apart [] rest = refl
-build_apart (o ∷ os) rest = ap (make_all (shared_things o)) (build_apart os rest) ∙ make_apart (shared_things o) (build_all os []) rest
+build_apart (o ∷ os) rest = ap (make_all (shared_things o)) (build_apart os rest) ∙ sym (make_append (shared_things o) (build_all os []) rest)
 
 -- ---- the route itself
 

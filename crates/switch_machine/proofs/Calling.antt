@@ -35,7 +35,7 @@ use Rattle.row_layout.specs.Rows as owner
 use Rattle.row_layout.specs.Rows.{Owner, OfRow, from, goal_of, own_things}
 use Rattle.row_layout.specs.Shared.{shared_things, uses}
 use Rattle.row_layout.proofs.Members.{from_in}
-use Rattle.row_layout.proofs.Planned.{one-planned}
+use Rattle.switch_model.proofs.Planned.{one-planned}
 use Rattle.switch_machine.specs.Changes.{IsMakeCall, IsSamePort, IsSetCall, IsSettable, IsTakeCall}
 use Rattle.switch_machine.specs.Flights.{CanMake, CanSet, CanTake, Fits, Flight, Goes, HasName, IsConcern, IsFinal, IsOwnedBy, IsShared, IsUser, IsRow, Machine, StandsIn}
 use Rattle.row_layout.specs.Operations.{uses_of}

@@ -15,11 +15,8 @@ use Rattle.switch_machine.specs.Events.{Due, Ended, Follows, Left, Retires}
 use Rattle.switch_machine.specs.Flights.{Flight, IsRow, Machine}
 use Rattle.switch_machine.specs.Steps.{finished, left, parted, started}
 use Rattle.switch_machine.specs.Written.{ArePopped, HasWrittenRows, IsAsBefore, IsGoodOnce, IsPoppedKey, IsTold, TakesWrite, Written, good_of}
-use Rattle.switch_machine.proofs.Running.{one_flight}
+use Rattle.switch_machine.proofs.Running.{one_flight, no_flight}
 use Rattle.switch_machine.proofs.Splits.{IsPut, IsSplit, New, Old, key_split, put_at, put_by, row_at, row_off}
-
-no_flight : {X : Type 0} (g : Flight) → None ≡ Some g → X
-no_flight g h = absurd cc
 
 -- ---- a row of the board was one before
 

@@ -13,13 +13,10 @@ use Rattle.switch_machine.specs.Steps.{Ends, finished}
 use Rattle.switch_model.specs.Good.{TypedRows}
 use Rattle.switch_machine.specs.Consistent.{IsCurrent, IsUsedOrRetired, IsLike, IsOrderly, IsConsistent, WasUsed}
 use Rattle.switch_machine.specs.Tables.{Tables}
-use Rattle.switch_machine.proofs.Running.{one_flight, own_row, resembles_self, shared_of}
+use Rattle.switch_machine.proofs.Running.{one_flight, own_row, resembles_self, shared_of, no_flight}
 use Rattle.switch_machine.proofs.Moving.{fit_of}
 use Rattle.switch_machine.proofs.Leaving.{no_change}
 use Rattle.switch_machine.proofs.Splits.{IsPut, IsSplit, New, Old, key_split, nat_split, put_by, put_off, row_at, row_off}
-
-no_flight : (f : Flight) → None ≡ Some f → ⊥
-no_flight f h = absurd cc
 
 no_owner : (o : Option Owner) (p : Owner) → o ≡ None → o ≡ Some p → ⊥
 no_owner o p h g = absurd cc

@@ -39,7 +39,7 @@ use Rattle.switch_machine.proofs.Splits.{put_at, put_off}
 use Rattle.switch_machine.proofs.Tabled.{tabled}
 
 -- what changes of identified things say of things alone
-moves_by : (m : Machine) (c : Change) (i : Rid) (stands : List (Rid × Thing)) → ((j : Rid) (u : Thing) → listed stands j u → changed_by (listed m.stands) c i j u) → (u : Thing) (j : Rid) → IsIn (j, u) stands → after c (StandsIn m u) u
+pub moves_by : (m : Machine) (c : Change) (i : Rid) (stands : List (Rid × Thing)) → ((j : Rid) (u : Thing) → listed stands j u → changed_by (listed m.stands) c i j u) → (u : Thing) (j : Rid) → IsIn (j, u) stands → after c (StandsIn m u) u
 moves_by m c i stands back u j h = by c (back j u h)
   where
     by : (c : Change) → changed_by (listed m.stands) c i j u → after c (StandsIn m u) u
@@ -49,14 +49,14 @@ moves_by m c i stands back u j h = by c (back j u h)
     by (Set t) (inr h) = inr h.1
     by (Take n) h = ((j, h.0), h.1)
 
-moves_back : (m : Machine) (c : Change) (i : Rid) (stands : List (Rid × Thing)) → ((j : Rid) (u : Thing) → changed_by (listed m.stands) c i j u → listed stands j u) → (u : Thing) → after c (StandsIn m u) u → (j : Rid) × IsIn (j, u) stands
+pub moves_back : (m : Machine) (c : Change) (i : Rid) (stands : List (Rid × Thing)) → ((j : Rid) (u : Thing) → changed_by (listed m.stands) c i j u → listed stands j u) → (u : Thing) → after c (StandsIn m u) u → (j : Rid) × IsIn (j, u) stands
 moves_back m (Make t) i stands into u (inl h) = (h.0, into h.0 u (inl h.1))
 moves_back m (Make t) i stands into u (inr is) = (i, into i u (inr (refl, is)))
 moves_back m (Set t) i stands into u (inl h) = (h.0.0, into h.0.0 u (inl (h.0.1, h.1)))
 moves_back m (Set t) i stands into u (inr is) = (i, into i u (inr (refl, is)))
 moves_back m (Take n) i stands into u h = (h.0.0, into h.0.0 u (h.0.1, h.1))
 
-no_makes : (kind : Kind) (ts : List Thing) → makes kind (take_all ts []) ≡ 0
+pub no_makes : (kind : Kind) (ts : List Thing) → makes kind (take_all ts []) ≡ 0
 no_makes kind [] = refl
 no_makes kind (t ∷ ts) = no_makes kind ts
 
@@ -75,7 +75,7 @@ module _ (plan : Ports) (is : IsPlan plan) (workers : ℕ) (capacities : List �
       left_ends w m f o x = record { flying = put_at w w (Some (parted f f.retires)) m.board.flights refl; done = put_at w w [] m.due refl; left = refl }
   sound-follows w m _ sound (Retires f o x) = sound-retired plan is m sound w f o x
 
-  same_stands : (w : ℕ) (m later : Machine) → Follows plan w m later → m.stands ≡ later.stands
+  pub same_stands : (w : ℕ) (m later : Machine) → Follows plan w m later → m.stands ≡ later.stands
   same_stands w m _ (Due c cs at) = refl
   same_stands w m _ (Ended f ends) = refl
   same_stands w m _ (Left f o x) = refl

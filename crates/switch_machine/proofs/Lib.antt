@@ -26,5 +26,7 @@ pub mod Undisturbed
 pub mod Hindered
 pub mod Idle
 pub mod Single
+pub mod Freeing
 pub mod Needing
 pub mod Bearing
+pub mod Steering

@@ -32,7 +32,7 @@ use Rattle.row_layout.specs.Rows as owner
 use Rattle.row_layout.specs.Rows.{Owner, from, goal_of, own_things}
 use Rattle.row_layout.specs.Shared.{shared_things, uses}
 use Rattle.row_layout.proofs.Members.{from_in, only, two}
-use Rattle.row_layout.proofs.Tied.{tied}
+use Rattle.switch_model.proofs.Tied.{tied}
 use Rattle.switch_machine.specs.Flights.{IsOwnedBy}
 use Rattle.switch_machine.specs.Tables.{AreNamedApart, ComesBefore, Orders, IsNamed, Tables}
 use Rattle.chip_layout.specs.Answered.{AreSame}

@@ -31,7 +31,7 @@ use Rattle.switch_machine.proofs.Beginning.{starts}
 use Rattle.switch_machine.proofs.Calling.{sort_of}
 use Rattle.switch_machine.proofs.Resting.{back_by, into_by}
 use Rattle.switch_machine.proofs.Running.{final-concern, settable_name}
-use Rattle.switch_machine.proofs.Splits.{IsSplit, name_split}
+use Rattle.switch_machine.proofs.Splits.{IsSplit, name_split, in_both}
 use Rattle.switch_machine.proofs.Tabled.{tabled}
 
 abbrev after_all : List Change → (Thing → Type 0) → Thing → Type 0
@@ -145,15 +145,6 @@ module _ (plan : Ports) (f : Flight) (r : Row) (new : f.new ≡ Some r) (none : 
 
 -- ---- lists of names
 
-in_append : (xs ys : List Name) (n : Name) → IsIn n (xs ++ ys) → IsIn n xs ⊎ IsIn n ys
-in_append [] ys n h = inr h
-in_append (x ∷ xs) ys n (inl e) = inl (inl e)
-in_append (x ∷ xs) ys n (inr h) = wider (in_append xs ys n h)
-  where
-    wider : IsIn n xs ⊎ IsIn n ys → IsIn n (x ∷ xs) ⊎ IsIn n ys
-    wider (inl h) = inl (inr h)
-    wider (inr h) = inr h
-
 append_left : (xs ys : List Name) (n : Name) → IsIn n xs → IsIn n (xs ++ ys)
 append_left (x ∷ xs) ys n (inl e) = inl e
 append_left (x ∷ xs) ys n (inr h) = inr (append_left xs ys n h)
@@ -165,7 +156,7 @@ append_right (x ∷ xs) ys n h = inr (append_right xs ys n h)
 
 distinct_append : (xs ys : List Name) → AreDistinct xs → AreDistinct ys → ((n : Name) → IsIn n xs → IsIn n ys → ⊥) → AreDistinct (xs ++ ys)
 distinct_append [] ys dx dy apart = dy
-distinct_append (x ∷ xs) ys dx dy apart = (λ h. by (in_append xs ys x h), distinct_append xs ys dx.1 dy (λ n h g. apart n (inr h) g))
+distinct_append (x ∷ xs) ys dx dy apart = (λ h. by (in_both x xs ys h), distinct_append xs ys dx.1 dy (λ n h g. apart n (inr h) g))
   where
     by : IsIn x xs ⊎ IsIn x ys → ⊥
     by (inl h) = dx.0 h
@@ -226,7 +217,7 @@ module _ (plan : Ports) (is : IsPlan plan) (capacities : List ℕ) (m : Machine)
       with_names (names, all, count) x = record {
         keys = names ++ x.names;
         distinct = marked_distinct (names ++ x.names) (distinct_append names x.names all.distinct x.distinct (λ n h g. x.fresh n g (stood n h)));
-        things = λ n h. let t = source_by n (in_append names x.names n h) in (t.0, t.2, ap (λ z. level (name_kind z)) t.2 ∙ level_by n (in_append names x.names n h), t.1);
+        things = λ n h. let t = source_by n (in_both n names x.names h) in (t.0, t.2, ap (λ z. level (name_kind z)) t.2 ∙ level_by n (in_both n names x.names h), t.1);
         many = enough;
       }
         where

@@ -1,5 +1,5 @@
 -- changes that can be made one after the other
-use Rattle.std.proofs.Common.{◌≡◌, ◌⊎◌, ◌∷◌, ◌∙◌, inl, inr, List, [], Some, refl, sym, ap, subst}
+use Rattle.std.proofs.Common.{None, ◌≡◌, ◌⊎◌, ◌∷◌, ◌∙◌, inl, inr, List, [], Some, refl, sym, ap, subst}
 use Rattle.table_schema.specs.Plan.{Ports}
 use Rattle.table_schema.specs.declared.key.Key.{Key}
 use Rattle.table_schema.specs.declared.row.Row.{Row}
@@ -20,6 +20,9 @@ some_owner o p h = cc
 
 pub one_owner : (plan : Ports) (n : Name) (o p : Owner) → IsOwnedBy plan n o → IsOwnedBy plan n p → o ≡ p
 one_owner plan n o p x y = some_owner o p (sym x ∙ y)
+
+pub no_flight : {X : Type 0} (f : Flight) → None ≡ Some f → X
+no_flight f h = absurd cc
 
 pub one_flight : (f g : Flight) → Some f ≡ Some g → f ≡ g
 one_flight f g h = cc

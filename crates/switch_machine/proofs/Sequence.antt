@@ -25,13 +25,13 @@ use Rattle.row_layout.specs.Rows as owner
 use Rattle.row_layout.specs.Rows.{Owner, from}
 use Rattle.row_layout.specs.Shared.{group_by, shared_things, uses}
 use Rattle.row_layout.proofs.Changing.{among}
-use Rattle.row_layout.proofs.Tied.{tied}
+use Rattle.switch_model.proofs.Tied.{tied}
 use Rattle.switch_machine.specs.Events.{AreAnswers, Due, Ended, Follows, IsAnswer, IsBegin, IsQuiet, Left, Retires, SwitchState, after_answers, changes_made}
 use Rattle.switch_machine.specs.Flights.{CountsAsUser, Flight, IsResting, IsUser, Machine}
 use Rattle.switch_machine.specs.Operations.{IsUsedByOthers, built_first}
 use Rattle.switch_machine.specs.Steps.{finished, left, moved, parted, started}
 use Rattle.switch_machine.proofs.Equal.{thing-exact}
-use Rattle.switch_machine.proofs.Running.{one_flight}
+use Rattle.switch_machine.proofs.Running.{one_flight, no_flight}
 use Rattle.switch_machine.proofs.Splits.{IsPut, IsSplit, New, Old, key_split, put_at, put_by, use_row_in}
 
 -- ---- what a row shares
@@ -56,7 +56,7 @@ any_in o (p ∷ os) h = by (λ e. any_in o os e) (or_split (same_owner o p) (lis
     by rest (inr e) = inr (rest e)
 
 -- a row shares one thing, or none
-abbrev IsShort : List Owner → Type 0
+abbrev pub IsShort : List Owner → Type 0
 IsShort os = (os ≡ []) ⊎ ((o : Owner) × (os ≡ o ∷ []))
 
 from_short : {X : Type 0} (x : Option X) (g : X → Owner) → IsShort (from x (λ z. g z ∷ []))
@@ -79,7 +79,7 @@ row_short plan (key.Route prefix) (row.Route route.Drop) = inl refl
 row_short plan (key.Route prefix) (row.Route (route.Direct i)) = inl refl
 row_short plan _ _ = inl refl
 
-uses_short : (plan : Ports) (k : Key) (o : Option Row) → IsShort (uses_of plan k o)
+pub uses_short : (plan : Ports) (k : Key) (o : Option Row) → IsShort (uses_of plan k o)
 uses_short plan k None = inl refl
 uses_short plan k (Some r) = row_short plan k r
 
@@ -117,13 +117,10 @@ the_one o p os e h = by (subst (IsIn o) e h)
     by (inl same) = same
     by (inr none) = elim none [ ]
 
-no_flight : {X : Type 0} (g : Flight) → None ≡ Some g → X
-no_flight g h = absurd cc
-
 some_leaves : {X : Type 0} (o : Owner) (l : Option Owner) → l ≡ Some o → l ≡ None → X
 some_leaves o l h g = absurd cc
 
-make_append : (ts : List Thing) (own rest : List Change) → make_all ts own ++ rest ≡ make_all ts (own ++ rest)
+pub make_append : (ts : List Thing) (own rest : List Change) → make_all ts own ++ rest ≡ make_all ts (own ++ rest)
 make_append [] own rest = refl
 make_append (t ∷ ts) own rest = ap (λ z. Make t ∷ z) (make_append ts own rest)
 

@@ -1,5 +1,5 @@
 -- a key has one reason to wait
-use Rattle.std.proofs.Common.{◌≡◌, ◌⊎◌, ◌<◌, ◌≤◌, ◌∷◌, ◌∙◌, inl, inr, ℕ, true, List, [], Option, None, Some, Ordering, get_or, is_some, if◌then◌else◌, refl, sym, ap, subst, arith}
+use Rattle.std.proofs.Common.{zero, suc, ◌≡◌, ◌⊎◌, ◌<◌, ◌≤◌, ◌∷◌, ◌∙◌, inl, inr, ℕ, true, List, [], Option, None, Some, Ordering, get_or, is_some, if◌then◌else◌, refl, sym, ap, subst, arith}
 use Rattle.std.proofs.lemmas.Bool.{and_parts, cases_order, false≢true}
 use Rattle.std.specs.Ordering.{is_le, ordering_reverse}
 use Rattle.std.specs.declared.cmp.Ordering.TheVariants.{Less, Equal, Greater}
@@ -54,10 +54,10 @@ numbers : (v u : ℕ) → v ≤ u → u ≤ v → v ≡ u
 numbers v u h g = omega (arith, h, g)
 
 -- a kind is told by its place
-kinds : List Kind
+pub kinds : List Kind
 kinds = kind.Port ∷ kind.Vlan ∷ kind.BridgePort ∷ kind.VlanMember ∷ kind.Rif ∷ kind.OwnAddress ∷ kind.Neighbor ∷ kind.NextHop ∷ kind.Group ∷ kind.GroupMember ∷ kind.Route ∷ []
 
-kind_at : (k : Kind) → get_or kinds (level k) kind.Port ≡ k
+pub kind_at : (k : Kind) → get_or kinds (level k) kind.Port ≡ k
 unfolding kinds
 kind_at kind.Port = refl
 kind_at kind.Vlan = refl
@@ -70,6 +70,25 @@ kind_at kind.NextHop = refl
 kind_at kind.Group = refl
 kind_at kind.GroupMember = refl
 kind_at kind.Route = refl
+
+-- no kind of the list stands above its place
+pub kind_low : (n : ℕ) → level (get_or kinds n kind.Port) ≤ n
+unfolding kinds
+kind_low zero = omega arith
+kind_low (suc zero) = omega arith
+kind_low (suc (suc zero)) = omega arith
+kind_low (suc (suc (suc zero))) = omega arith
+kind_low (suc (suc (suc (suc zero)))) = omega arith
+kind_low (suc (suc (suc (suc (suc zero))))) = omega arith
+kind_low (suc (suc (suc (suc (suc (suc zero)))))) = omega arith
+kind_low (suc (suc (suc (suc (suc (suc (suc zero))))))) = omega arith
+kind_low (suc (suc (suc (suc (suc (suc (suc (suc zero)))))))) = omega arith
+kind_low (suc (suc (suc (suc (suc (suc (suc (suc (suc zero))))))))) = omega arith
+kind_low (suc (suc (suc (suc (suc (suc (suc (suc (suc (suc n)))))))))) = above n
+  where
+    above : (n : ℕ) → level (get_or kinds (suc (suc (suc (suc (suc (suc (suc (suc (suc (suc n)))))))))) kind.Port) ≤ suc (suc (suc (suc (suc (suc (suc (suc (suc (suc n)))))))))
+    above zero = omega arith
+    above (suc n) = omega arith
 
 level_exact : (a b : Kind) → level a ≡ level b → a ≡ b
 level_exact a b h = sym (kind_at a) ∙ ap (λ n. get_or kinds n kind.Port) h ∙ kind_at b

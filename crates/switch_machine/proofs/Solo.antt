@@ -14,11 +14,8 @@ use Rattle.switch_machine.specs.Events.{IsAnswer, AreAnswers, SwitchState, Due, 
 use Rattle.switch_machine.specs.Steps.{finished, left, moved, parted, started, with_row}
 use Rattle.switch_machine.specs.Flights.{Flight, Machine}
 use Rattle.switch_machine.specs.Written.{good_of}
-use Rattle.switch_machine.proofs.Running.{one_flight}
+use Rattle.switch_machine.proofs.Running.{one_flight, no_flight}
 use Rattle.switch_machine.proofs.Splits.{IsPut, New, Old, put_at, put_by}
-
-no_flight : {X : Type 0} (g : Flight) → None ≡ Some g → X
-no_flight g h = absurd cc
 
 row_same : (k : Key) (o p : Option Row) (rows old : TypedRows) (q : Key) → o ≡ p → rows q ≡ old q → with_row k o rows q ≡ with_row k p old q
 row_same k o p rows old q e h = ap (λ z. if is_at (key_cmp k) q then o else z) h ∙ ap (λ z. if is_at (key_cmp k) q then z else old q) e

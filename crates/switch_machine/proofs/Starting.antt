@@ -14,11 +14,8 @@ use Rattle.switch_machine.specs.Steps.{Starts, started}
 use Rattle.switch_model.specs.Good.{TypedRows}
 use Rattle.switch_machine.specs.Consistent.{IsCurrent, IsUsedOrRetired, IsOrderly, IsConsistent, WasUsed}
 use Rattle.switch_machine.specs.Tables.{Tables}
-use Rattle.switch_machine.proofs.Running.{one_flight, untouched}
+use Rattle.switch_machine.proofs.Running.{one_flight, untouched, no_flight}
 use Rattle.switch_machine.proofs.Splits.{IsPut, IsSplit, New, Old, key_split, put_at, put_by, put_off, use_row_in}
-
-no_flight : (f : Flight) → None ≡ Some f → ⊥
-no_flight f h = absurd cc
 
 no_row : (o : Option Row) (r : Row) → o ≡ Some r → o ≡ None → ⊥
 no_row o r h g = absurd cc

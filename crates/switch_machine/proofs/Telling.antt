@@ -15,7 +15,7 @@ use Rattle.table_schema.specs.declared.write.Write.TheVariants as write
 use Rattle.table_schema.proofs.Keys.{key_exact, key_total}
 use Rattle.table_schema.proofs.RowLists.{HasRisingRows-rows_of, after_writes-more}
 use Rattle.sai_types.proofs.Maps.{lookup-insert_entry, lookup-removed}
-use Rattle.row_layout.proofs.Tied.{tied}
+use Rattle.switch_model.proofs.Tied.{tied}
 use Rattle.switch_machine.specs.Written.{ArePopped, IsAsBefore, IsPoppedKey, IsTold, TakesWrite, Written, fields_after}
 
 all_keys : (k : Key) (es : Rows) → AllByRecursion (λ (y : Key × Pairs). key_cmp k y.0 ≡ Less) es → AllByRecursion (λ y. key_cmp k y ≡ Less) (keys_of es)

@@ -1,10 +1,15 @@
 -- Which changes bear on where packets go: those of routes, own addresses and neighbours. Own.
-use Rattle.std.specs.Prelude.{◌≡◌, ◌⊎◌, ◌∷◌, ◌++◌, List, []}
+use Rattle.std.specs.Prelude.{◌≡◌, ◌⊎◌, ◌<◌, ◌≤◌, ◌∷◌, ◌++◌, ℕ, true, List, [], map}
+use Rattle.swss_types.specs.Address.{covers}
+use Rattle.swss_types.specs.declared.address.Ip.{Ip}
+use Rattle.sai_types.specs.declared.ids.Rid.{Rid}
+use Rattle.sai_types.specs.declared.thing.Thing.{Thing}
 use Rattle.sai_types.specs.Alike.{IsIn}
 use Rattle.sai_types.specs.Names as name
 use Rattle.sai_types.specs.Names.{Name}
 use Rattle.row_layout.specs.Operations.{Change}
 use Rattle.switch_machine.specs.Changes.{changed}
+use Rattle.switch_machine.specs.Flights.{Machine}
 
 -- what has this name bears on where packets go
 abbrev pub Bears : Name → Type 0
@@ -12,6 +17,13 @@ Bears (name.Route prefix) = Unit {0}
 Bears (name.Own ip) = Unit {0}
 Bears (name.Neighbor hop) = Unit {0}
 Bears _ = ⊥
+
+-- and on where those of this address go
+abbrev pub BearsOn : Ip → Name → Type 0
+BearsOn a (name.Route prefix) = covers prefix a ≡ true
+BearsOn a (name.Own ip) = Unit {0}
+BearsOn a (name.Neighbor hop) = Unit {0}
+BearsOn a _ = ⊥
 
 abbrev pub NoneBears : List Change → Type 0
 NoneBears cs = (c : Change) → IsIn c cs → Bears (changed c) → ⊥
@@ -25,3 +37,13 @@ pub record BearsOnce (n : Name) (cs : List Change) : Type 0 where
   pub first : NoneBears before
   pub once : (middle ≡ []) ⊎ ((c : Change) × (middle ≡ c ∷ []) × (changed c ≡ n))
   pub last : NoneBears after
+
+-- what stands, as a list
+abbrev pub standing : Machine → List Thing
+standing m = map (λ (x : Rid × Thing). x.1) m.stands
+
+-- a value is the old one up to a moment, and the new one from then on
+pub record SwitchesOnce {X : Type 0} (value : ℕ → X) (old new : X) : Type 0 where
+  pub moment : ℕ
+  pub before : (n : ℕ) → n ≤ moment → value n ≡ old
+  pub behind : (n : ℕ) → moment < n → value n ≡ new

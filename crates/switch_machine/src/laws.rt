@@ -1,5 +1,7 @@
 // What holds of every run of the machine. Each function is a law: it does nothing, and its contract is proved.
-ghost use Rattle.std.specs.Prelude.{◌≡◌, ◌⊎◌, ℕ, ◌+◌, Bool, ◌<◌, List, ◌∷◌, Option, Some, None};
+ghost use Rattle.std.specs.Prelude.{◌≡◌, ◌⊎◌, ℕ, ◌+◌, Bool, false, take, ◌<◌, List, ◌∷◌, Option, Some, None};
+ghost use Rattle.swss_types.specs.Address.{covers};
+ghost use Rattle.swss_types.specs.declared.address.Ip.{Ip};
 ghost use Rattle.swss_types.specs.declared.address.Prefix.{Prefix};
 ghost use Rattle.table_schema.specs.Plan.{Ports, IsPlan};
 ghost use Rattle.table_schema.specs.declared.key.Key.{Key};
@@ -9,11 +11,13 @@ ghost use Rattle.table_schema.specs.declared.write.Sent.{Sent};
 ghost use Rattle.sai_types.specs.declared.ids.Rid.{Rid};
 ghost use Rattle.sai_types.specs.declared.body.Call.{Call};
 ghost use Rattle.sai_types.specs.declared.hop.Hop.{Hop};
+ghost use Rattle.sai_types.specs.declared.kind.Kind.{Kind};
 ghost use Rattle.sai_types.specs.declared.thing.Goal.{Goal};
 ghost use Rattle.sai_types.specs.declared.thing.Goal.TheVariants as goal;
 ghost use Rattle.sai_types.specs.declared.thing.Thing.{Thing};
 ghost use Rattle.sai_types.specs.declared.thing.Thing.TheVariants as thing;
 ghost use Rattle.sai_types.specs.Alike.{IsAlike, IsIn};
+ghost use Rattle.sai_types.specs.Forwarding.{decide, forward};
 ghost use Rattle.sai_types.specs.Made.{AreLegal};
 ghost use Rattle.sai_types.specs.Names as name;
 ghost use Rattle.sai_types.specs.Names.{name_of};
@@ -27,13 +31,14 @@ ghost use Rattle.switch_model.specs.Things.{things_of};
 ghost use Rattle.row_layout.specs.Operations.{Change, changes_of};
 ghost use Rattle.row_layout.specs.Rows.{Owner, own_things};
 ghost use Rattle.switch_machine.specs.Changes.{Disturbs};
-ghost use Rattle.switch_machine.specs.Events.{AreAnswers, AreEvents, IsBegin, IsDrop, IsDueCall, IsEvent, IsQuiet, IsSafe, SwitchState, after_answers, after_events, calls_of, changes_made, empty_switch, fresh_view};
-ghost use Rattle.switch_machine.specs.Flights.{Flight, IsResting, IsRow, StandsIn};
-ghost use Rattle.switch_machine.specs.Bearing.{BearsOnce};
+ghost use Rattle.switch_machine.specs.Events.{AreAnswers, AreEvents, IsAnswer, IsBegin, IsDrop, IsDueCall, IsEvent, IsQuiet, IsSafe, SwitchState, after_answers, after_events, calls_of, changes_made, empty_switch, fresh_view};
+ghost use Rattle.switch_machine.specs.Flights.{Fits, Flight, IsResting, IsRow, StandsIn};
+ghost use Rattle.switch_machine.specs.Bearing.{BearsOnce, SwitchesOnce, standing};
 ghost use Rattle.switch_machine.specs.Needs.{OfCall, OfList, OfMark, OfWrite, need_of};
 ghost use Rattle.switch_machine.specs.Next.{HasReason, IsIdle, IsNext};
-ghost use Rattle.switch_machine.specs.Operations.{IsUsedByOthers};
-ghost use Rattle.switch_machine.specs.Reasons.{IsReason};
+ghost use Rattle.switch_machine.specs.Operations.{IsUsedByOthers, MayBegin};
+ghost use Rattle.switch_machine.specs.Places.{HasRoomFor};
+ghost use Rattle.switch_machine.specs.Reasons.{IsInTheWay, IsPrepared, IsReason, LacksRoom};
 ghost use Rattle.switch_machine.specs.Steps.{with_row};
 ghost use Rattle.switch_machine.specs.Written.{HasWrittenRows, IsGoodOnce, IsTold, Written, good_of};
 
@@ -100,6 +105,14 @@ pub fn route_changes_once()
     ensures { (plan : Ports) (prefix : Prefix) (old new : Option Row) (used : Owner → Bool) → BearsOnce (name.Route prefix) (changes_of plan (key.Route prefix) old new used) }
 {}
 
+/// While the operation of a route runs, beside whatever others, each of its calls leaves where the packets of an address go
+/// that its prefix doesn't cover. Where it runs alone, where the packets of any address go changes at most once.
+pub fn routes_are_steady()
+    ensures outside { (plan : Ports) (workers : ℕ) (capacities : List ℕ) (s t : SwitchState) (call : Call Rid) (x : IsAnswer plan workers call s t) (prefix : Prefix) (a : Ip) → IsPlan plan → IsSafe plan workers capacities s → x.next.flight.key ≡ key.Route prefix → covers prefix a ≡ false → (decide (standing t.machine) a ≡ decide (standing s.machine) a) × (forward (standing t.machine) a ≡ forward (standing s.machine) a) }
+    ensures decided { (plan : Ports) (workers : ℕ) (capacities : List ℕ) (s t : SwitchState) (x : IsBegin plan workers capacities s t) (es : List (Call Rid × SwitchState)) (run : AreAnswers plan workers t es) (used : Owner → Bool) (prefix : Prefix) (a : Ip) → IsPlan plan → IsSafe plan workers capacities s → x.flight.key ≡ key.Route prefix → IsQuiet s → IsQuiet (after_answers t es) → IsUsedByOthers plan s.machine.board.applied x.flight.key used → SwitchesOnce (λ n. decide (standing (after_answers t (take n es)).machine) a) (decide (standing s.machine) a) (decide (standing (after_answers t es).machine) a) }
+    ensures forwarded { (plan : Ports) (workers : ℕ) (capacities : List ℕ) (s t : SwitchState) (x : IsBegin plan workers capacities s t) (es : List (Call Rid × SwitchState)) (run : AreAnswers plan workers t es) (used : Owner → Bool) (prefix : Prefix) (a : Ip) → IsPlan plan → IsSafe plan workers capacities s → x.flight.key ≡ key.Route prefix → IsQuiet s → IsQuiet (after_answers t es) → IsUsedByOthers plan s.machine.board.applied x.flight.key used → SwitchesOnce (λ n. forward (standing (after_answers t (take n es)).machine) a) (forward (standing s.machine) a) (forward (standing (after_answers t es).machine) a) }
+{}
+
 /// What an event adds to the log takes no more places than it needs: a write that is taken, a call with its effect and the mark
 /// of its failure, a list with the mark of its failure, and a mark with the keys that it lists.
 pub fn needs_suffice()
@@ -107,6 +120,12 @@ pub fn needs_suffice()
     ensures calls { (log : History) (mark : Mark) (effects : ℕ) → keys_listed mark.event ≡ 0 → log_size (with_mark log mark) (effects + 1) ≡ log_size log effects + need_of OfCall }
     ensures lists { (log : History) (mark : Mark) (effects : ℕ) → keys_listed mark.event ≡ 0 → log_size (with_mark log mark) effects ≡ log_size log effects + need_of OfList }
     ensures marks { (log : History) (mark : Mark) (effects : ℕ) → log_size (with_mark log mark) effects ≡ log_size log effects + need_of (OfMark (keys_listed mark.event)) }
+{}
+
+/// A key whose good row fits its table, and that no operation, no missing name, no holder and nothing in the way hinders, may
+/// begin for a worker without an operation; and there is room for what it makes, or a first kind lacks it.
+pub fn free_keys_begin()
+    ensures { (plan : Ports) (workers : ℕ) (capacities : List ℕ) (s : SwitchState) (w : ℕ) (k : Key) → IsPlan plan → IsSafe plan workers capacities s → s.machine.board.flights w ≡ None → IsPrepared plan s k → ((v : ℕ) → IsInTheWay plan s.machine k (good_of plan s.written k) v → ⊥) → ((r : Row) → good_of plan s.written k ≡ Some r → Fits plan k r) → (f : Flight) × (due : List Change) × (f.key ≡ k) × (f.new ≡ good_of plan s.written k) × MayBegin plan s.machine w f due × (HasRoomFor workers capacities s.objects s.machine due ⊎ ((kind : Kind) × LacksRoom plan workers capacities s k kind)) }
 {}
 
 /// What a worker does next is an event, or nothing. Where it is idle no event of any worker applies but the call that is due

@@ -4,7 +4,7 @@
 mod laws;
 
 pub use laws::{
-    calls_are_legal, idle_is_true, needs_suffice, operation_alone, others_are_undisturbed,
-    reasons_are_true, reasons_hinder, rest_is_alike, route_changes_once, routes_are_whole,
-    runs_are_safe,
+    calls_are_legal, free_keys_begin, idle_is_true, needs_suffice, operation_alone,
+    others_are_undisturbed, reasons_are_true, reasons_hinder, rest_is_alike, route_changes_once,
+    routes_are_steady, routes_are_whole, runs_are_safe,
 };

@@ -5,6 +5,7 @@ use Rattle.std.specs.Map.{keys_of}
 use Rattle.std.specs.Ordering.{is_eq}
 use Rattle.std.specs.declared.cmp.Ordering.{Ordering}
 use Rattle.std.specs.declared.cmp.Ordering.TheVariants.{Less, Equal, Greater}
+use Rattle.std.specs.List.Sorted.{IsStrictlySortedBy}
 use Rattle.swss_types.specs.declared.address.Family.TheVariants.{V4}
 use Rattle.swss_types.specs.declared.address.Prefix.{Prefix}
 use Rattle.swss_types.specs.declared.interface.IfName.TheVariants as name
@@ -213,10 +214,12 @@ first_once x (inr (inr h)) = absurd h
 
 -- with nothing listed the chip holds exactly the things of both rows
 first_is_settled : IsSettled wide_plan room first_sent first_calls first_mark []
+unfolding IsStrictlySortedBy
 first_is_settled = record {
   alike = record { each = first_each; once = λ x h. first_once x ((first_things x).0 h) };
   closed = first_is_closed;
   reasons = tt;
+  order = tt;
   kinds = tt;
 }
 

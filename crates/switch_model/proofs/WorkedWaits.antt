@@ -2,6 +2,7 @@
 use Rattle.std.proofs.Common.{◌≡◌, inl, inr, Bool, true, false, cond, List, [], ◌∷◌, Option, None, Some, Ok, codes, refl, sym, ap, ◌∙◌, subst}
 use Rattle.std.specs.BTreeMap.{is_at}
 use Rattle.std.specs.Ordering.{is_le}
+use Rattle.std.specs.List.Sorted.{IsStrictlySortedBy}
 use Rattle.swss_types.specs.declared.address.Family.TheVariants.{V4}
 use Rattle.swss_types.specs.declared.address.Ip.{Ip}
 use Rattle.swss_types.specs.declared.interface.IfName.TheVariants as name
@@ -91,10 +92,12 @@ no_row k r h = by (is_at (key_cmp k) lone_route) refl h
     by false at h = let there = only (good_in plan k (rows_of (sent_writes route_sent)) r h) in cc
 
 route_is_settled : IsSettled plan room route_sent [] route_mark route_waits
+unfolding IsStrictlySortedBy
 route_is_settled = record {
   alike = record { each = λ t h. absurd h; once = λ x (k, r, is, h). absurd (no_row k r is) };
   closed = λ k r h. absurd (no_row k r h);
   reasons = ((route_row, refl, refl), tt);
+  order = (tt, tt);
   kinds = (tt, tt);
 }
 

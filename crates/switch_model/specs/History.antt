@@ -34,6 +34,10 @@ abbrev pub listed_by : List Mark → ℕ
 listed_by [] = 0
 listed_by (mark ∷ marks) = keys_listed mark.event + listed_by marks
 
--- the size of a log beside so many effects: a place for each of these, each write taken, each mark and each key that a mark lists
+-- the size of a log whose marks list so many keys, beside so many effects: a place for each of these, each write taken and each mark
+abbrev pub size_listing : ℕ → History → ℕ → ℕ
+size_listing listed h effects = effects + length h.taken + length h.marks + listed
+
+-- the size of a log beside so many effects
 abbrev pub log_size : History → ℕ → ℕ
-log_size h effects = effects + length h.taken + length h.marks + listed_by h.marks
+log_size h effects = size_listing (listed_by h.marks) h effects

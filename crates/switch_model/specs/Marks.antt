@@ -1,6 +1,7 @@
 -- What a mark of the log says. Own.
 use Rattle.std.specs.Prelude.{◌≡◌, ℕ, ◌<◌, ◌⊎◌, true, List, [], ◌∷◌, length, map, Option, Some, None, if◌then◌else◌}
 use Rattle.std.specs.BTreeMap.{is_at}
+use Rattle.std.specs.List.Sorted.{IsStrictlySortedBy}
 use Rattle.std.specs.Option.{is_some}
 use Rattle.std.specs.Ordering.{is_le}
 use Rattle.table_schema.specs.declared.key.Key.{Key}
@@ -23,9 +24,13 @@ use Rattle.switch_model.specs.Desired.{IsThingOf, have_rows}
 use Rattle.switch_model.specs.Good.{TypedRows}
 use Rattle.switch_model.specs.Things.{things_of}
 
--- keys that wait, in key order, each with its reason and the row that is applied for it
+-- keys that wait, each with its reason and the row that is applied for it
 abbrev pub Waiting : Type 0
 Waiting = List (Key × Wait × Option Row)
+
+-- they rise, so each stands once
+abbrev pub AreInOrder : Waiting → Type 0
+AreInOrder waits = IsStrictlySortedBy key_cmp (map (λ w. w.0) waits)
 
 -- each key that waits has the row that is listed with it, or none; every other key has its good row
 abbrev pub applied_rows : Waiting → TypedRows → TypedRows

@@ -19,7 +19,7 @@ use Rattle.switch_model.specs.declared.mark.MarkEvent.{MarkEvent}
 use Rattle.switch_model.specs.declared.mark.MarkEvent.TheVariants as event
 use Rattle.switch_model.specs.Desired.{IsClosed, IsThingOf}
 use Rattle.switch_model.specs.History.{History}
-use Rattle.switch_model.specs.Marks.{Waiting, applied_rows, ReasonsAreTrue, NameFirstKinds, ListsNoRow, sent_writes}
+use Rattle.switch_model.specs.Marks.{AreInOrder, Waiting, applied_rows, ReasonsAreTrue, NameFirstKinds, ListsNoRow, sent_writes}
 use Rattle.switch_model.specs.Good.{TypedRows, good_rows}
 use Rattle.table_schema.specs.Rows.{rows_of}
 use Rattle.switch_model.specs.Things.{things_of}
@@ -42,16 +42,18 @@ pub record EffectsAreLegal (plan : Ports) (capacities : List ℕ) (taken : List 
 abbrev pub applied_at : Ports → List Sent → Mark → Waiting → TypedRows
 applied_at plan taken mark waits = applied_rows waits (good_rows_at plan taken mark.taken)
 
--- at the end of a settling the chip holds the things of the applied rows and nothing else, what each applied row names is applied, and each row that waits has its true reason
+-- at the end of a settling the chip holds the things of the applied rows and nothing else, what each applied row names is applied, and the keys that wait stand in their order, each once and with its true reason
 pub record IsSettled (plan : Ports) (capacities : List ℕ) (taken : List Sent) (effects : List (Call Rid)) (mark : Mark) (waits : Waiting) : Type 0 where
   pub alike : IsAlike (chip_after effects mark.effects) (IsThingOf plan (applied_at plan taken mark waits))
   pub closed : IsClosed (applied_at plan taken mark waits)
+  pub order : AreInOrder waits
   pub reasons : ReasonsAreTrue plan capacities (good_rows_at plan taken mark.taken) (applied_at plan taken mark waits) waits
   pub kinds : NameFirstKinds plan capacities (good_rows_at plan taken mark.taken) (applied_at plan taken mark waits) waits
 
--- when an apply begins, what each applied row names is applied, each row that waits has its true reason, and none of them is applied
+-- when an apply begins, what each applied row names is applied, and the keys that wait stand in their order, each once and with its true reason, and none of them is applied
 pub record IsBegun (plan : Ports) (capacities : List ℕ) (taken : List Sent) (mark : Mark) (waits : Waiting) : Type 0 where
   pub closed : IsClosed (applied_at plan taken mark waits)
+  pub order : AreInOrder waits
   pub reasons : ReasonsAreTrue plan capacities (good_rows_at plan taken mark.taken) (applied_at plan taken mark waits) waits
   pub absent : ListsNoRow waits
 

@@ -37,9 +37,10 @@ fn passes_by(
     let mut sink = MemSink::in_pieces(alloc, Vec::new(alloc), piece);
     let words = case.words.as_slice();
     let outcome = swss_main(rt, alloc, words, &mut source, &mut sink, &Open);
-    let facts = has_facts(rt, alloc, case, &outcome)?;
+    let facts = has_facts(rt, alloc, case, &outcome);
+    outcome.into_status();
     let output = has_output(rt, case, sink.held())?;
-    Ok(facts && output)
+    Ok(facts? && output)
 }
 
 /// Whether the facts are those that are wanted.

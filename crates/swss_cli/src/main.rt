@@ -20,7 +20,7 @@ fn main(rt: HostRuntime) -> ExitCode {
     let mut source = StdinSource::new(rt.stdin());
     let mut sink = StdoutSink::new(rt.stdout());
     let outcome = swss_main(&rt, alloc, &words, &mut source, &mut sink, &Open);
-    end(&rt, &outcome.status)
+    end(&rt, &outcome.into_status())
 }
 
 /// Prints the line of a status to standard error, if it has one, and gives its number.

@@ -46,10 +46,11 @@ pub fn run_example<R: Files + AllocGlobal + Threads + Wait + Sync>(
     let mut sink = MemSink::new(alloc, Vec::new(alloc));
     let words = vec![in alloc; String::from_str(alloc, "run")?]?;
     let outcome = swss_main(rt, alloc, &words, &mut source, &mut sink, &Open);
+    let status = outcome.into_status();
     if sink.held() != output.as_slice() {
         return Ok(Some(OTHER_OUTPUT));
     }
-    if printed(alloc, &outcome.status)? != line {
+    if printed(alloc, &status)? != line {
         return Ok(Some(OTHER_LINE));
     }
     Ok(None)

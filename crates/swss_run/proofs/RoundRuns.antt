@@ -38,21 +38,23 @@ use Rattle.orch_core.specs.declared.answer.Settled.{Settled}
 use Rattle.orch_core.specs.declared.answer.Settled.TheVariants as settled
 use Rattle.orch_core.proofs.Ending.{sound-kept}
 use Rattle.orch_core.proofs.Logged.{suspect-more}
+use Rattle.orch_core.proofs.Ordered.{keys-listing, order-listing}
 use Rattle.swss_script.specs.Sent.{sent_after, sent_in_round, writes_in}
 use Rattle.swss_script.specs.Stage.{is_built_round}
 use Rattle.swss_script.specs.declared.parts.Round.{Round}
 use Rattle.swss_script.specs.declared.parts.Show.{Show}
 use Rattle.swss_report.specs.Round.{Ended, IsRoundText}
+use Rattle.row_layout.specs.Due.{HasChange}
 use Rattle.swss_run.specs.Full.{AreApplied, CallIsDue, IsFull, MarkIsDue, good_now, keys_named}
 use Rattle.swss_run.specs.Full.IsFull.{AtWrite, AtCall, AtMark}
-use Rattle.swss_run.specs.Rounds.{Ran, is_settling, listed_keys}
+use Rattle.swss_run.specs.Rounds.{Ran, is_settling}
 use Rattle.swss_run.specs.Running.{EndsRound, HasLines, IsReady, IsRoundRun, IsUnused, IsWritten, KeepsPlan, StopsRound, round_ended, with_round}
 use Rattle.swss_run.specs.Running.IsWritten.{Whole, Failed, Wanting, Unwritten}
 use Rattle.swss_run.specs.Taking.{NameServedRows, IsRoundTook, Took, TookAll}
 use Rattle.swss_run.specs.declared.status.Status.{Status}
 use Rattle.swss_run.specs.declared.status.Status.TheVariants as status
 use Rattle.swss_run.specs.declared.taking.Taken.TheVariants as taken
-use Rattle.swss_run.proofs.Named.{few-among, few-named, named-back, named-front, named-sorted, sorted-none}
+use Rattle.swss_run.proofs.Named.{few-among, few-named, named-back, named-front, named-sorted}
 use Rattle.swss_run.proofs.Served.{served-front, served-round}
 use Rattle.swss_run.proofs.Sessions.{same-trans}
 
@@ -80,30 +82,22 @@ call-due core chip kept known is = record {
   key = is.key;
   differs = λ same. is.differs (same ∙ sym (good-are core chip kept is.key));
   free = λ w true_of. is.free w (reason-at core.plan core.capacities (rows_applied core.applied) (rows_of (sent_writes core.log.taken)) core.rows is.key w (sym kept.keeps.rows) true_of);
+  change = subst (λ r. HasChange core.plan (good_rows core.plan r) (rows_applied core.applied) is.key) kept.keeps.rows is.change;
 }
-
--- the keys that a mark lists are those that wait
-listed-keys : (core : State) (ws : List (Key × Wait)) → map (λ (w : Key × Wait × Option Row). w.0) (map (λ w. (w.0, w.1, rows_applied core.applied w.0)) ws) ≡ waiting_keys ws
-listed-keys core [] = refl
-listed-keys core (w ∷ ws) = ap (λ l. w.0 ∷ l) (listed-keys core ws)
 
 listed-reasons : (core : State) (r : Rows) → core.rows ≡ r → (ws : List (Key × Wait)) → WaitTruly core ws → ReasonsAreTrue core.plan core.capacities (good_rows core.plan r) (rows_applied core.applied) (map (λ w. (w.0, w.1, rows_applied core.applied w.0)) ws)
 listed-reasons core r is [] truly = tt
 listed-reasons core r is (w ∷ ws) (one, truly) = (reason-at core.plan core.capacities (rows_applied core.applied) core.rows r w.0 w.1 is one.0, listed-reasons core r is ws truly)
 
--- they are in order where the keys to sync are
-listing-sorted : (core : State) → settling.OwesMark core → IsStrictlySortedBy key_cmp core.to_sync → IsStrictlySortedBy key_cmp (map (λ (w : Key × Wait × Option Row). w.0) (listing core))
-listing-sorted core is sorted = subst (λ ks. IsStrictlySortedBy key_cmp ks) (is.rest ∙ append-nil (waiting_keys core.waiting) ∙ sym (listed-keys core core.waiting)) sorted
-
 mark-due : (core : State) (chip : ChipState) → IsKept core chip → is_suspect core.log.marks ≡ false → IsStrictlySortedBy key_cmp core.to_sync → settling.OwesMark core → MarkIsDue core.plan core.capacities core.log chip (listing core)
 mark-due core chip kept known sorted is = record {
   applied = rows_applied core.applied;
   are = applied-are core chip kept known;
-  order = listing-sorted core is sorted;
+  order = order-listing core is.rest sorted;
   reasons = listed-reasons core (rows_of (sent_writes core.log.taken)) kept.keeps.rows core.waiting is.truly;
   others = λ key away.
       ⊎_elim
-      (λ there. absurd (away (subst (λ ks. IsIn key ks) (sym (listed-keys core core.waiting)) (subst (λ ks. IsIn key ks) (is.rest ∙ append-nil (waiting_keys core.waiting)) there))))
+      (λ there. absurd (away (subst (λ ks. IsIn key ks) (sym (keys-listing core core.waiting)) (subst (λ ks. IsIn key ks) (is.rest ∙ append-nil (waiting_keys core.waiting)) there))))
       (λ same. same ∙ good-are core chip kept key)
       (kept.keeps.to_sync key);
 }
@@ -143,6 +137,20 @@ fits-faulted mid new chip chip' kept same is =
       arith,
       is.places.fits,
       is.places.last,
+      places-are new chip' kept,
+      is.listed,
+      same.limit,
+      ap (λ (h : History). length h.taken) is.log,
+      ap (λ (h : History). length h.marks) is.log,
+      length-append mid.log.marks (mark_at mid (length chip'.effects) (event.Faulted chip.faults chip'.faults) ∷ []),
+    )
+
+-- the failed call had a place for its effect and one for the mark
+pub places-faulted : (mid new : State) (chip chip' : ChipState) → IsKept new chip' → settling.IsSame mid new → settling.MarksFaulted mid chip new chip' → log_size new.log chip'.before_fault + 1 ≤ new.limit
+places-faulted mid new chip chip' kept same is =
+    omega (
+      arith,
+      is.places.fits,
       places-are new chip' kept,
       is.listed,
       same.limit,
@@ -333,7 +341,7 @@ module _ (round : Round) (old : State) (sim : Sim) (replay : Replayed) (ready : 
         )
 
       -- a mark was made
-      module _ (e : MarkEvent) (kind : is_settling e ≡ true) (order : IsStrictlySortedBy key_cmp (listed_keys e)) (log : new.log ≡ with_ending mid.log (mark_at mid (length sim'.chip.effects) e)) (fits : log_size new.log (length sim'.chip.effects) ≤ new.limit) where
+      module _ (e : MarkEvent) (kind : is_settling e ≡ true) (log : new.log ≡ with_ending mid.log (mark_at mid (length sim'.chip.effects) e)) (fits : log_size new.log (length sim'.chip.effects) ≤ new.limit) (failed : Rattle.switch_model.specs.Sound.is_fault e ≡ true → log_size new.log sim'.chip.before_fault + 1 ≤ new.limit) where
         abbrev mark : Mark
         mark = mark_at mid (length sim'.chip.effects) e
 
@@ -346,12 +354,14 @@ module _ (round : Round) (old : State) (sim : Sim) (replay : Replayed) (ready : 
             ∙ ap (λ (h : History). with_ending h mark) log-all
             ∙ ap (λ n. record { taken = old.log.taken ++ sent; marks = old.log.marks ++ mark ∷ []; ends = old.log.ends ++ n ∷ [] }) (length-append old.log.marks (mark ∷ []))
 
+        pub suspect-is : is_suspect new.log.marks ≡ Rattle.switch_model.specs.Sound.is_fault e
+        suspect-is = ap (λ (h : History). is_suspect h.marks) log-marked ∙ suspect-more old.log.marks mark
+
         pub ends-round : EndsRound round old sim ran new sim'
         ends-round = record {
           mark = mark;
           marks = refl;
           settling = kind;
-          order = order;
           sent = sym gives;
           taken = ap (λ (h : History). length h.taken) log-all;
           effects = ap length grown.grown;
@@ -360,10 +370,8 @@ module _ (round : Round) (old : State) (sim : Sim) (replay : Replayed) (ready : 
           kept = kept;
           same = plan-new;
           places = fits;
+          fault_places = λ suspect. failed (sym suspect-is ∙ suspect);
         }
-
-        pub suspect-is : is_suspect new.log.marks ≡ Rattle.switch_model.specs.Sound.is_fault e
-        suspect-is = ap (λ (h : History). is_suspect h.marks) log-marked ∙ suspect-more old.log.marks mark
 
         pub has-lines : (number : ℕ) (lines : List ℕ) → 0 < number → IsRoundText (ended_now number) round.shows lines → HasLines number round old sim ran lines
         has-lines number lines counted text = record {
@@ -417,11 +425,11 @@ module _ (round : Round) (old : State) (sim : Sim) (replay : Replayed) (ready : 
       pub run-marked : (r : Result Settled OutOfMemory) (ended : Status) → round_ended r ≡ Ok ended → EndsSettling mid sim.chip r new sim'.chip → (number : ℕ) (held held' : Option (List ℕ)) (faults faults' : ℕ) (result : Status) (replay' : Replayed) → 0 < number → IsWritten (ended_now number) round.shows ended held faults result replay' held' faults' → IsRoundRun number round old sim held faults result new sim' replay' held' faults'
       run-marked (Ok settled.Settled) ended is e number held held' faults faults' result replay' counted written =
           let same_end : ended ≡ status.Done = cc in
-          run-done (event.Settled (listing new) e.turns) refl (listing-sorted new e.due sorted-new) e.log (fits-settled mid new sim.chip sim'.chip kept e) number held held' faults faults' result replay' counted refl
+          run-done (event.Settled (listing new) e.turns) refl e.log (fits-settled mid new sim.chip sim'.chip kept e) (λ no. cc) number held held' faults faults' result replay' counted refl
           (subst (λ x. IsWritten (ended_now number) round.shows x held faults result replay' held' faults') same_end written)
       run-marked (Ok settled.Faulted) ended is e number held held' faults faults' result replay' counted written =
           let same_end : ended ≡ status.ChipFault = cc in
-          run-failed (event.Faulted sim.chip.faults sim'.chip.faults) refl sorted-none e.log (fits-faulted mid new sim.chip sim'.chip kept same e) number held held' faults faults' result replay' counted refl (omega (arith, e.rose))
+          run-failed (event.Faulted sim.chip.faults sim'.chip.faults) refl e.log (fits-faulted mid new sim.chip sim'.chip kept same e) (λ is_fault. places-faulted mid new sim.chip sim'.chip kept same e) number held held' faults faults' result replay' counted refl (omega (arith, e.rose))
           (subst (λ x. IsWritten (ended_now number) round.shows x held faults result replay' held' faults') same_end written)
       run-marked (Ok settled.LogFull) ended is e number held held' faults faults' result replay' counted written = cc
       run-marked (Err wanting) ended is e number held held' faults faults' result replay' counted written = cc

@@ -28,7 +28,7 @@ ends-more n (r ∷ rans) ran =
 
 pub at_marks-more : (sent calls : ℕ) (rans : List Ran) (ran : Ran) → EndAtMarks sent calls rans → EndsAtMark (sent + length (all_sent rans)) (calls + length (all_calls rans)) ran → EndAtMarks sent calls (rans ++ ran ∷ [])
 at_marks-more sent calls [] ran tt one = (
-  record { mark = one.mark; marks = one.marks; settling = one.settling; order = one.order; taken = omega (arith, one.taken); effects = omega (arith, one.effects) },
+  record { mark = one.mark; marks = one.marks; settling = one.settling; taken = omega (arith, one.taken); effects = omega (arith, one.effects) },
   tt,
 )
 at_marks-more sent calls (r ∷ rans) ran (first, more) one = (
@@ -37,7 +37,6 @@ at_marks-more sent calls (r ∷ rans) ran (first, more) one = (
     mark = one.mark;
     marks = one.marks;
     settling = one.settling;
-    order = one.order;
     taken = omega (arith, one.taken, length-append r.sent (all_sent rans));
     effects = omega (arith, one.effects, length-append r.calls (all_calls rans));
   }),

@@ -3,6 +3,7 @@ use Rattle.std.proofs.Common.{◌≡◌, inl, inr, ℕ, ◌+◌, ◌*◌, ◌<�
 use Rattle.std.proofs.Math.Seq.{drop-append_seam, take-add, take-append_seam, take-length}
 use Rattle.std.specs.List.Sorted.{IsStrictlySortedBy}
 use Rattle.table_schema.specs.Key.{key_cmp}
+use Rattle.std.proofs.lemmas.Bool.{false≢true}
 use Rattle.std.proofs.lemmas.List.{append-nil, length-append}
 use Rattle.swss_types.specs.Outside.{Takes}
 use Rattle.table_schema.specs.Plan.{Ports}
@@ -68,7 +69,6 @@ module _ (round : Round) (old : State) (sim : Sim) (ran : Ran) (new : State) (si
     mark = ends.mark;
     marks = ends.marks;
     settling = ends.settling;
-    order = ends.order;
     taken = omega (arith, ends.taken, length-append old.log.taken ran.sent, ap length taken_were);
     effects = omega (arith, ends.effects, length-append sim.chip.effects ran.calls, ap length effects_were);
   }
@@ -173,7 +173,7 @@ module _ (rounds done : List Round) (first : State) (held0 : Option (List ℕ)) 
   pub session-done : length done ≡ length rounds → IsSession first.plan first.capacities rounds status.Done core.log sim.chip held0 held
   session-done all =
       session-from rounds status.Done first core sim.chip held0 held running.rans [] [] running.ready.kept running.same running.cut running.writes
-      (record { no_write = refl; no_call = refl; places = running.fits }, running.many ∙ all, running.ready.known, running.told)
+      (record { no_write = refl; no_call = refl; places = running.fits; fault_places = λ failed. absurd (false≢true (sym running.ready.known ∙ failed)) }, running.many ∙ all, running.ready.known, running.told)
 
   module _ (round : Round) (number : ℕ) (next : slice_get rounds (length done) ≡ Some round) (number_is : number ≡ length done + 1) (faults faults' : ℕ) (new : State) (sim' : Sim) (replay' : Replayed) (held' : Option (List ℕ)) where
     abbrev rans : List Ran
@@ -217,7 +217,7 @@ module _ (rounds done : List Round) (first : State) (held0 : Option (List ℕ)) 
       session_now ended reported = session-from rounds ended first new sim'.chip held0 held' (rans ++ ran ∷ []) [] [] ends.kept same_now cut_now taken_now reported
 
       has_ended : HasEnded [] [] new.log sim'.chip
-      has_ended = record { no_write = refl; no_call = refl; places = fits_now }
+      has_ended = record { no_write = refl; no_call = refl; places = fits_now; fault_places = λ failed. subst (λ n. log_size new.log sim'.chip.before_fault + 1 ≤ n) (same_now.limit ∙ running.limit) (ends.fault_places failed) }
 
     pub running-more : IsRoundRun number round core sim held faults status.Done new sim' replay' held' faults' → IsRunning rounds (done ++ round ∷ []) first held0 new sim' replay' held'
     running-more (ran, lines, ends, has, took, ready) = record {

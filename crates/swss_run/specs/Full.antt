@@ -1,7 +1,6 @@
 -- When the log is full: an event is due that needs more places than are left. Own.
 use Rattle.std.specs.Prelude.{◌≡◌, ℕ, ◌+◌, ◌<◌, List, [], ◌∷◌, ◌++◌, length, map}
 use Rattle.std.specs.BTreeSet.{insert_key}
-use Rattle.std.specs.List.Sorted.{IsStrictlySortedBy}
 use Rattle.table_schema.specs.Key.{key_cmp}
 use Rattle.table_schema.specs.Plan.{Ports}
 use Rattle.table_schema.specs.Rows.{rows_of}
@@ -12,8 +11,9 @@ use Rattle.sai_types.specs.ChipState.{ChipState}
 use Rattle.switch_model.specs.Desired.{IsClosed, IsThingOf}
 use Rattle.switch_model.specs.Good.{TypedRows, good_rows}
 use Rattle.switch_model.specs.History.{History, log_size}
-use Rattle.switch_model.specs.Marks.{IsTrueReason, ReasonsAreTrue, Waiting, sent_writes, written_key}
+use Rattle.switch_model.specs.Marks.{AreInOrder, IsTrueReason, ReasonsAreTrue, Waiting, sent_writes, written_key}
 use Rattle.switch_model.specs.declared.wait.Wait.{Wait}
+use Rattle.row_layout.specs.Due.{HasChange}
 use Rattle.swss_script.specs.Sent.{sent_in_round}
 use Rattle.swss_script.specs.declared.parts.Round.{Round}
 
@@ -31,19 +31,20 @@ pub record AreApplied (plan : Ports) (chip : ChipState) (applied : TypedRows) : 
   pub closed : IsClosed applied
   pub alike : IsAlike chip.objects (IsThingOf plan applied)
 
--- a chip call is due: a key's applied row is not its good row, and no reason to wait is true of it
+-- a chip call is due: a key's applied row is not its good row, no reason to wait is true of it, and bringing the one row to the other changes the chip
 pub record CallIsDue (plan : Ports) (capacities : List ℕ) (log : History) (chip : ChipState) : Type 0 where
   pub applied : TypedRows
   pub are : AreApplied plan chip applied
   pub key : Key
   pub differs : ¬ (applied key ≡ good_now plan log key)
   pub free : (wait : Wait) → ¬ (IsTrueReason plan capacities (good_now plan log) applied key wait)
+  pub change : HasChange plan (good_now plan log) applied key
 
 -- a mark is due that lists these keys, in their order and each once: each waits for a true reason, and every other key has its good row
 pub record MarkIsDue (plan : Ports) (capacities : List ℕ) (log : History) (chip : ChipState) (waits : Waiting) : Type 0 where
   pub applied : TypedRows
   pub are : AreApplied plan chip applied
-  pub order : IsStrictlySortedBy key_cmp (map (λ w. w.0) waits)
+  pub order : AreInOrder waits
   pub reasons : ReasonsAreTrue plan capacities (good_now plan log) applied waits
   pub others : (key : Key) → ¬ (IsIn key (map (λ w. w.0) waits)) → applied key ≡ good_now plan log key
 

@@ -1,10 +1,7 @@
 -- The rounds of a session that ended: what the log and the chip's calls say of each, and what it prints. Own.
-use Rattle.std.specs.Prelude.{◌≡◌, ℕ, ◌+◌, ◌<◌, Bool, true, false, List, [], ◌∷◌, ◌++◌, length, map, flat_map}
-use Rattle.std.specs.List.Sorted.{IsStrictlySortedBy}
-use Rattle.table_schema.specs.Key.{key_cmp}
+use Rattle.std.specs.Prelude.{◌≡◌, ℕ, ◌+◌, ◌<◌, Bool, true, false, List, [], ◌∷◌, ◌++◌, length, flat_map}
 use Rattle.table_schema.specs.Plan.{Ports}
 use Rattle.table_schema.specs.Rows.{rows_of}
-use Rattle.table_schema.specs.declared.key.Key.{Key}
 use Rattle.table_schema.specs.declared.write.Sent.{Sent}
 use Rattle.sai_types.specs.After.{chip_after}
 use Rattle.sai_types.specs.declared.ids.Rid.{Rid}
@@ -44,17 +41,11 @@ is_settling (event.Settled waits turns) = true
 is_settling (event.Faulted before after) = true
 is_settling _ = false
 
--- the keys that the mark of a settling lists
-abbrev pub listed_keys : MarkEvent → List Key
-listed_keys (event.Settled waits turns) = map (λ w. w.0) waits
-listed_keys _ = []
-
--- a round ends at its one mark, that of its settling, which lists keys in their order and each once, and counts the writes taken and the calls made so far
+-- a round ends at its one mark, that of its settling, which counts the writes taken and the calls made so far
 pub record EndsAtMark (sent calls : ℕ) (ran : Ran) : Type 0 where
   pub mark : Mark
   pub marks : ran.marks ≡ mark ∷ []
   pub settling : is_settling mark.event ≡ true
-  pub order : IsStrictlySortedBy key_cmp (listed_keys mark.event)
   pub taken : mark.taken ≡ sent + length ran.sent
   pub effects : mark.effects ≡ calls + length ran.calls
 

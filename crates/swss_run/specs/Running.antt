@@ -24,7 +24,7 @@ use Rattle.swss_script.specs.declared.parts.Show.{Show}
 use Rattle.swss_report.specs.Round.{Ended, IsRoundText}
 use Rattle.swss_run.specs.Full.{IsFull, keys_named}
 use Rattle.swss_run.specs.Output.{TakesFront}
-use Rattle.swss_run.specs.Rounds.{Ran, is_settling, listed_keys, standing}
+use Rattle.swss_run.specs.Rounds.{Ran, is_settling, standing}
 use Rattle.swss_run.specs.declared.status.Status.{Status}
 use Rattle.swss_run.specs.declared.status.Status.TheVariants as status
 
@@ -57,7 +57,6 @@ pub record EndsRound (round : Round) (old : State) (sim : Sim) (ran : Ran) (new 
   pub mark : Mark
   pub marks : ran.marks ≡ mark ∷ []
   pub settling : is_settling mark.event ≡ true
-  pub order : IsStrictlySortedBy key_cmp (listed_keys mark.event)
   pub sent : ran.sent ≡ sent_in_round round
   pub taken : mark.taken ≡ length (old.log.taken ++ ran.sent)
   pub effects : mark.effects ≡ length (sim.chip.effects ++ ran.calls)
@@ -66,6 +65,7 @@ pub record EndsRound (round : Round) (old : State) (sim : Sim) (ran : Ran) (new 
   pub kept : IsKept new sim'.chip
   pub same : KeepsPlan old new
   pub places : log_size new.log (length sim'.chip.effects) ≤ new.limit
+  pub fault_places : is_suspect new.log.marks ≡ true → log_size new.log sim'.chip.before_fault + 1 ≤ new.limit
 
 -- the round did not end: some of its writes were taken, and no mark was made
 pub record StopsRound (round : Round) (old : State) (sim : Sim) (new : State) (sim' : Sim) : Type 0 where

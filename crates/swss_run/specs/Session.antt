@@ -19,12 +19,13 @@ use Rattle.swss_run.specs.Read.{WasRead}
 use Rattle.swss_run.specs.Run.{HasNoSession, chip_fail}
 use Rattle.swss_run.specs.Rounds.{AreTaken, IsCut, IsReport, Ran, Rise}
 use Rattle.swss_run.specs.declared.outcome.Outcome.{Outcome}
+use Rattle.swss_run.specs.declared.run.TheConstants.{LOG_LIMIT}
 use Rattle.swss_run.specs.declared.status.Status.{Status}
 use Rattle.swss_run.specs.declared.status.Status.TheVariants as status
 
 -- how many places the log has
 abbrev pub log_limit : ℕ
-log_limit = 4194304
+log_limit = LOG_LIMIT
 
 -- the sink took the whole report of these rounds
 pub record TookReport (plan : Ports) (rans : List Ran) (rounds : List Round) (held held' : Option (List ℕ)) : Type 0 where
@@ -46,11 +47,12 @@ pub record HasNoPlace (plan : Ports) (capacities : List ℕ) (rounds : List Roun
   pub many : log_limit < log_size log (length chip.effects) + 2 + length (keys_named log.taken)
   pub first : rans ≡ [] → log_limit < 2 * length sent + 2
 
--- the last round ended at its mark, and each event found its places
+-- the last round ended at its mark, and each event found its places; where the chip failed, the call at which it did had two, for its effect and for the mark, also where it took no effect
 pub record HasEnded (sent : List Sent) (calls : List (Call Rid)) (log : History) (chip : ChipState) : Type 0 where
   pub no_write : sent ≡ []
   pub no_call : calls ≡ []
   pub places : log_size log (length chip.effects) ≤ log_limit
+  pub fault_places : is_suspect log.marks ≡ true → log_size log chip.before_fault + 1 ≤ log_limit
 
 -- what the status says of the rounds that ended, of the log's places, and of what the sink took: the whole report where all rounds ended, where the chip failed in the last that ended, and where the log is full; a front of it where the sink failed; a front of that of some of the rounds where memory was refused
 abbrev pub IsReported : Status → Ports → List ℕ → List Round → List Ran → List Sent → List (Call Rid) → History → ChipState → Option (List ℕ) → Option (List ℕ) → Type 0

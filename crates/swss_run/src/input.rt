@@ -3,10 +3,8 @@ ghost use Rattle.std.specs.Prelude.{◌≤◌, IfOk};
 ghost use Rattle.swss_run.specs.Input.{GaveFew, IsInput};
 
 use std::alloc::Global;
+use swss_script::MOST_BYTES;
 use swss_types::{Got, OutOfMemory, Source};
-
-/// The most bytes that a script may have.
-pub const MOST_BYTES: usize = 67_108_864;
 
 /// What reading a source came to.
 #[derive(Debug, Drop)]

@@ -1,4 +1,6 @@
 // What a run leaves.
+ghost use Rattle.std.specs.Prelude.{◌≡◌};
+
 use crate::Status;
 use orch_core::Log;
 use sai_chip::SimChip;
@@ -12,4 +14,13 @@ pub struct Outcome {
     pub log: Log,
     /// The chip, None where no session began.
     pub chip: Option<SimChip>,
+}
+
+impl Outcome {
+    /// How the run ended, for a caller who needs no more: the log and the chip are given up.
+    pub fn into_status(self) -> Status
+        ensures { result ≡ self.status }
+    {
+        self.status
+    }
 }

@@ -8,6 +8,7 @@ pub mod LinesIn
 pub mod Numbered
 pub mod PlacedWrites
 pub mod SentOrder
+pub mod EachWrite
 pub mod SetFields
 pub mod Staged
 pub mod Steps

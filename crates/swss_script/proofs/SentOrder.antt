@@ -6,10 +6,11 @@ use Rattle.std.proofs.lemmas.List.Elements.{filter-append}
 use Rattle.std.proofs.lemmas.List.Folds.{list_all-append, list_any-append}
 use Rattle.std.proofs.lemmas.List.Sums.{sum_by-append}
 use Rattle.std.specs.List.{list_all}
+use Rattle.table_schema.specs.SentBy.{sent_of}
 use Rattle.table_schema.specs.declared.write.Sent.{Sent}
 use Rattle.table_schema.specs.declared.write.Write.{Write}
 use Rattle.swss_script.specs.Sections.{acts_of, sections_by}
-use Rattle.swss_script.specs.Sent.{has_section, next_sent, sent_after, sent_by, sent_in_round, sent_of, writes_in}
+use Rattle.swss_script.specs.Sent.{has_section, next_sent, sent_after, sent_by, sent_in_round, writes_in}
 use Rattle.swss_script.specs.declared.parts.Round.{Round}
 use Rattle.swss_script.specs.declared.parts.Section.{Section}
 

@@ -13,6 +13,7 @@ use Rattle.swss_script.specs.Batch.{batch_of, key_in_word}
 use Rattle.swss_script.specs.Fields.{fields_of, set_fields}
 use Rattle.swss_script.specs.Image.{image_fault}
 use Rattle.swss_script.specs.Words.{behind_word, two_words, words_in}
+use Rattle.swss_script.specs.declared.line.TheConstants.{MOST_CAPACITY, MOST_CALL}
 use Rattle.swss_script.specs.declared.line.HeadLine.{HeadLine}
 use Rattle.swss_script.specs.declared.line.HeadLine.TheVariants as head
 use Rattle.swss_script.specs.declared.line.Line.{Line}
@@ -47,7 +48,7 @@ chip_with (Some k) (Some most) = Some (head.Chip k most)
 
 -- `chip KIND MAX`
 abbrev pub chip_line : List (List ℕ) → Option HeadLine
-chip_line words = option_and_then (λ parts. chip_with (kind_of parts.0) (number_within 1000000 parts.1)) (two_words words)
+chip_line words = option_and_then (λ parts. chip_with (kind_of parts.0) (number_within MOST_CAPACITY parts.1)) (two_words words)
 
 -- whether a failing call takes effect before it fails
 abbrev pub is_after : List ℕ → Option Bool
@@ -60,7 +61,7 @@ fail_with (Some number) (Some after) = if nat_lt 0 number then Some (head.Fail (
 
 -- `fail N before` and `fail N after`
 abbrev pub fail_line : List (List ℕ) → Option HeadLine
-fail_line words = option_and_then (λ parts. fail_with (number_within 1000000000 parts.0) (is_after parts.1)) (two_words words)
+fail_line words = option_and_then (λ parts. fail_with (number_within MOST_CALL parts.0) (is_after parts.1)) (two_words words)
 
 -- `image JSON`
 abbrev pub image_line : List (List ℕ) → List ℕ → Option HeadLine

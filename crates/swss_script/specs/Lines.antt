@@ -3,6 +3,7 @@ use Rattle.std.specs.Prelude.{◌≡◌, ℕ, ◌<◌, ◌-◌, ◌==◌, nat_lt
 use Rattle.std.specs.List.{starts_with}
 use Rattle.std.specs.Str.{is_utf8}
 use Rattle.swss_script.specs.Words.{the_word, words_in}
+use Rattle.swss_script.specs.declared.lines.TheConstants.{MOST_LINE_BYTES}
 
 -- lines with a byte more in front of the first
 abbrev pub with_byte : ℕ → List (List ℕ) → List (List ℕ)
@@ -28,9 +29,9 @@ without_return text = if ends_in 13 text then without_last text else text
 abbrev pub line_text : List ℕ → List ℕ
 line_text line = if ends_in 10 line then without_return (without_last line) else line
 
--- over 65,536 bytes, and no line of JSON
+-- more bytes than a line may have, and no line of JSON
 abbrev pub is_too_long : List ℕ → Bool
-is_too_long text = nat_lt 65536 (length text) && not (starts_with ◌==◌ text (codes "json ")) && not (starts_with ◌==◌ text (codes "image "))
+is_too_long text = nat_lt MOST_LINE_BYTES (length text) && not (starts_with ◌==◌ text (codes "json ")) && not (starts_with ◌==◌ text (codes "image "))
 
 -- the text of bytes that are UTF-8
 abbrev pub text_of : List ℕ → Option (List ℕ)

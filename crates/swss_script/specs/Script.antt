@@ -24,11 +24,13 @@ use Rattle.swss_script.specs.declared.parts.Show.{Show}
 use Rattle.swss_script.specs.declared.refused.Refused.{Refused}
 use Rattle.swss_script.specs.declared.refused.Why.{Why}
 use Rattle.swss_script.specs.declared.refused.Why.TheVariants as why
+use Rattle.swss_script.specs.declared.draft.TheConstants.{DEFAULT_CAPS, MOST_PRODUCERS}
 use Rattle.swss_script.specs.declared.script.Script.{Script}
+use Rattle.swss_script.specs.declared.script.TheConstants.{MOST_BYTES, MOST_LINES}
 
 -- the capacities of a chip, where the head sets none
 abbrev pub default_caps : Caps
-default_caps = record { 0 = 256 ∷ 4094 ∷ 256 ∷ 16384 ∷ 1024 ∷ 2048 ∷ 16384 ∷ 16384 ∷ 512 ∷ 16384 ∷ 65536 ∷ [] }
+default_caps = DEFAULT_CAPS
 
 -- ---- sections and rounds
 
@@ -91,11 +93,11 @@ abbrev pub in_head : Place → Draft → Option HeadLine → Result Draft Why
 in_head place.Head d (Some line) = with_head d line
 in_head _ d line = Err why.BadHead
 
--- a producer that was named before keeps its number, and a new one has the next, up to 4
+-- a producer that was named before keeps its number, and a new one has the next, while there are fewer than a script may have
 abbrev pub named : Draft → List ℕ → Option ℕ → Result Draft Why
 named d name (Some at) = Ok (section_begun d (at + 1))
 named d name None =
-    if nat_lt (length d.script.producers) 4 then Ok (section_begun (record d { script = record d.script { producers = d.script.producers ++ name ∷ [] } }) (length d.script.producers + 1))
+    if nat_lt (length d.script.producers) MOST_PRODUCERS then Ok (section_begun (record d { script = record d.script { producers = d.script.producers ++ name ∷ [] } }) (length d.script.producers + 1))
     else Err why.TooManyProducers
 
 abbrev pub in_section : Place → Draft → List Act → Result Draft Why
@@ -154,7 +156,7 @@ step_by d text lines =
 
 -- a numbered line with those behind it
 abbrev pub step : Draft → ℕ → List ℕ → List (List ℕ) → Result Draft Why
-step d number line lines = if nat_lt 1000000 number then Err why.TooManyLines else step_by d (line_text line) lines
+step d number line lines = if nat_lt MOST_LINES number then Err why.TooManyLines else step_by d (line_text line) lines
 
 -- the script, or the line and reason of the first refusal, where so many lines were read and these follow
 abbrev pub script_from : Result Draft Why → ℕ → List (List ℕ) → Result Script Refused
@@ -176,7 +178,7 @@ begun = record {
 
 -- the script that the bytes are, or their refusal
 abbrev pub script_of : List ℕ → Result Script Refused
-script_of bytes = if nat_lt 67108864 (length bytes) then Err (record { line = 0; why = why.TooLong }) else script_from (Ok begun) 0 (lines_in bytes)
+script_of bytes = if nat_lt MOST_BYTES (length bytes) then Err (record { line = 0; why = why.TooLong }) else script_from (Ok begun) 0 (lines_in bytes)
 
 -- a draft that was to come to a value, or to be refused
 abbrev pub Becomes : Result Draft Why → Result (Unit {0}) Why → Draft → Type 0

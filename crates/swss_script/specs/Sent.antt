@@ -1,5 +1,5 @@
 -- The writes of a round as its producers send them. Own.
-use Rattle.std.specs.Prelude.{ℕ, ◌+◌, ◌==◌, Bool, List, [], ◌∷◌, ◌++◌, map, filter, count_by}
+use Rattle.std.specs.Prelude.{ℕ, ◌+◌, ◌==◌, Bool, List, [], ◌∷◌, ◌++◌, map, count_by}
 use Rattle.std.specs.List.{list_any}
 use Rattle.table_schema.specs.declared.write.Sent.{Sent}
 use Rattle.table_schema.specs.declared.write.Write.{Write}
@@ -11,10 +11,6 @@ use Rattle.swss_script.specs.declared.parts.Section.{Section}
 abbrev pub writes_in : List Section → List (ℕ × Write)
 writes_in [] = []
 writes_in (section ∷ sections) = map (λ w. (section.producer, w)) (acts_of section.acts) ++ writes_in sections
-
--- the sent writes of a producer
-abbrev pub sent_of : ℕ → List Sent → List Sent
-sent_of producer sent = filter (λ s. s.from == producer) sent
 
 -- the next write of a producer: its number is how many the producer sent before
 abbrev pub next_sent : List Sent → ℕ × Write → Sent

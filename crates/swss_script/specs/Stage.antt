@@ -4,6 +4,7 @@ use Rattle.std.specs.List.{AllByRecursion, list_all}
 use Rattle.table_schema.specs.Plan.{IsPlan}
 use Rattle.swss_script.specs.Built.{is_built_show, is_built_write}
 use Rattle.swss_script.specs.Script.{default_caps}
+use Rattle.swss_script.specs.declared.draft.TheConstants.{MOST_PRODUCERS}
 use Rattle.swss_script.specs.declared.parts.Act.{Act}
 use Rattle.swss_script.specs.declared.parts.Act.TheVariants as act
 use Rattle.swss_script.specs.declared.parts.Round.{Round}
@@ -32,13 +33,13 @@ abbrev pub AreNumbered : ℕ → List Section → Type 0
 AreNumbered count sections = AllByRecursion (λ s. IsNumber count s.producer) sections
 
 -- what an accepted script of this stage has: the chip's own capacities, no failing call, no image and no restart, a plan,
--- at most 4 producers, and at least one round
+-- no more producers than a script may have, and at least one round
 pub record IsOfStage (script : Script) : Type 0 where
   pub caps : script.caps ≡ default_caps
   pub fails : script.fails ≡ []
   pub image : script.image ≡ []
   pub plan : IsPlan script.plan
-  pub producers : length script.producers ≤ 4
+  pub producers : length script.producers ≤ MOST_PRODUCERS
   pub several : 0 < length script.rounds
   pub rounds : list_all is_built_round script.rounds ≡ true
   pub numbers : AllByRecursion (λ r. AreNumbered (length script.producers) r.sections) script.rounds

@@ -1,15 +1,17 @@
 // What an accepted script is by its lines.
 ghost use Rattle.std.specs.Prelude.{◌≡◌, ◌<◌, ◌≤◌, ℕ, List, Ok, Some, false, length, slice_get, true};
 ghost use Rattle.std.specs.List.{AllByRecursion, list_all};
-ghost use Rattle.swss_script.specs.Given.{HasField};
+ghost use Rattle.table_schema.specs.SentBy.{sent_of};
+ghost use Rattle.swss_script.specs.Given.{HasField, HasReadKey};
 ghost use Rattle.swss_script.specs.Lines.{lines_in};
 ghost use Rattle.swss_script.specs.Plain.{has_batch};
 ghost use Rattle.swss_script.specs.Script.{script_of};
 ghost use Rattle.swss_script.specs.Sections.{name_of, script_writes, sections_by, sections_of, text_writes, writes_of};
-ghost use Rattle.swss_script.specs.Sent.{has_section, sent_by, sent_in_round, sent_of};
+ghost use Rattle.swss_script.specs.Sent.{has_section, sent_by, sent_in_round};
 ghost use Rattle.swss_script.specs.Stage.{IsOfStage};
 ghost use Rattle.swss_script.specs.declared.parts.Round.{Round};
 ghost use Rattle.swss_script.specs.declared.script.Script.{Script};
+ghost use Rattle.swss_script.specs.declared.script.TheConstants.{MOST_LINES};
 
 /// A script that is accepted has the writes of its lines, each in its round and by its producer, in order, and no others. So
 /// what a producer writes in a round is what the lines of its sections in that round write.
@@ -31,14 +33,20 @@ pub fn each_producer_sends_in_order()
     ensures senders { (round : Round) → list_all (λ s. has_section round.sections s.from) (sent_in_round round) ≡ true }
 {}
 
-/// A script that is accepted has at most 1,000,000 lines, and where none of them is a batch, each of its rounds has no more
+/// A script that is accepted has at most `MOST_LINES` lines, and where none of them is a batch, each of its rounds has no more
 /// writes than the script has lines.
 pub fn plain_script_has_few_writes()
-    ensures lines { (bytes : List ℕ) (script : Script) → script_of bytes ≡ Ok script → length (lines_in bytes) ≤ 1000000 }
+    ensures lines { (bytes : List ℕ) (script : Script) → script_of bytes ≡ Ok script → length (lines_in bytes) ≤ MOST_LINES }
     ensures writes { (bytes : List ℕ) (script : Script) (at : ℕ) (round : Round) → script_of bytes ≡ Ok script → has_batch bytes ≡ false → slice_get script.rounds at ≡ Some round → length (sent_in_round round) ≤ length (lines_in bytes) }
 {}
 
 /// In a script that is accepted each Set has a field.
 pub fn each_set_has_a_field()
     ensures { (bytes : List ℕ) (script : Script) → script_of bytes ≡ Ok script → AllByRecursion (λ p. HasField p.write) (script_writes script) }
+{}
+
+/// In a script that is accepted the parts of each key are in their ranges: no prefix of a route has bits past its length, and
+/// each address and each length is one of its family. The written form of each key reads as the key again.
+pub fn each_key_was_read()
+    ensures { (bytes : List ℕ) (script : Script) → script_of bytes ≡ Ok script → AllByRecursion (λ p. HasReadKey p.write) (script_writes script) }
 {}

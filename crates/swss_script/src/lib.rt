@@ -19,10 +19,10 @@ mod words;
 pub use draft::DEFAULT_CAPS;
 pub use fails::Fails;
 pub use laws::{
-    each_producer_sends_in_order, each_set_has_a_field, plain_script_has_few_writes,
-    script_has_the_writes_of_its_lines, script_is_of_this_stage,
+    each_key_was_read, each_producer_sends_in_order, each_set_has_a_field,
+    plain_script_has_few_writes, script_has_the_writes_of_its_lines, script_is_of_this_stage,
 };
 pub use lists::{Acts, Producers, RoundList, Sections, Shows, Writes};
 pub use parts::{Act, Fail2, Round, Section, Show};
 pub use refused::{ImageFault, Refused, Why};
-pub use script::Script;
+pub use script::{MOST_BYTES, MOST_LINES, Script};

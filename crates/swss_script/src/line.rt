@@ -14,6 +14,12 @@ use std::alloc::Global;
 use swss_types::{Ip, OutOfMemory, Text, read_number};
 use table_schema::Write;
 
+/// The greatest capacity that a script sets.
+const MOST_CAPACITY: u32 = 1_000_000;
+
+/// The greatest number of a failing call.
+const MOST_CALL: u32 = 1_000_000_000;
+
 /// A line of a script.
 #[derive(Debug, Drop)]
 pub enum Line {
@@ -119,7 +125,7 @@ fn read_chip(text: &str) -> Option<HeadLine>
 {
     let (kind, most) = two_words(text)?;
     let kind = read_kind(kind)?;
-    let most = read_number(most.as_bytes(), 1_000_000)?;
+    let most = read_number(most.as_bytes(), MOST_CAPACITY)?;
     Some(HeadLine::Chip(kind, u64::from(most)))
 }
 
@@ -148,7 +154,7 @@ fn read_fail(text: &str) -> Option<HeadLine>
     ensures { result ≡ fail_line (words_in text.now) }
 {
     let (number, when) = two_words(text)?;
-    let at = read_number(number.as_bytes(), 1_000_000_000)?;
+    let at = read_number(number.as_bytes(), MOST_CALL)?;
     let after = read_after(when)?;
     if at > 0 {
         Some(HeadLine::Fail(Fail2 {

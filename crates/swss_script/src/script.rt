@@ -15,10 +15,10 @@ use swss_types::OutOfMemory;
 use table_schema::PortPlan;
 
 /// The most bytes of a script.
-const MOST_BYTES: usize = 67_108_864;
+pub const MOST_BYTES: usize = 67_108_864;
 
 /// The most lines of a script.
-const MOST_LINES: u64 = 1_000_000;
+pub const MOST_LINES: u64 = 1_000_000;
 
 /// A script.
 #[derive(Debug, Drop)]

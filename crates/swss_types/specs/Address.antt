@@ -4,11 +4,12 @@ use Rattle.swss_types.specs.declared.address.Family.{Family}
 use Rattle.swss_types.specs.declared.address.Family.TheVariants.{V4, V6}
 use Rattle.swss_types.specs.declared.address.Ip.{Ip}
 use Rattle.swss_types.specs.declared.address.Prefix.{Prefix}
+use Rattle.swss_types.specs.declared.address.TheConstants.{V4_BITS, V6_BITS}
 
 -- the number of bits of an address
 abbrev pub width : Family → ℕ
-width V4 = 32
-width V6 = 128
+width V4 = V4_BITS
+width V6 = V6_BITS
 
 abbrev pub same_family : Family → Family → Bool
 same_family V4 V4 = true

@@ -1,6 +1,12 @@
 // Addresses of the internet protocol and of Ethernet.
 ghost use Rattle.std.specs.Prelude.{◌≡◌};
-ghost use Rattle.swss_types.specs.Address.{IsProperIp, IsProperPrefix, covers};
+ghost use Rattle.swss_types.specs.Address.{IsProperIp, IsProperPrefix, covers, width};
+
+/// The bits of an address of version 4.
+pub const V4_BITS: u8 = 32;
+
+/// The bits of an address of version 6.
+pub const V6_BITS: u8 = 128;
 
 /// The version of the internet protocol.
 #[derive(Clone, Copy, Debug, PartialEq, Eq, PartialOrd, Ord)]
@@ -44,11 +50,19 @@ impl Prefix {
         if self.ip.family != ip.family {
             return false;
         }
-        let width = match ip.family {
-            Family::V4 => 32,
-            Family::V6 => 128,
-        };
-        let rest = width - u32::from(self.len);
-        rest == 128 || self.ip.bits >> rest == ip.bits >> rest
+        let rest = ip.family.width() - self.len;
+        rest == V6_BITS || self.ip.bits >> rest == ip.bits >> rest
+    }
+}
+
+impl Family {
+    /// The number of bits of an address.
+    pub fn width(self) -> u8
+        ensures { result ≡ width self }
+    {
+        match self {
+            Family::V4 => V4_BITS,
+            Family::V6 => V6_BITS,
+        }
     }
 }

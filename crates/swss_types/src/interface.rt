@@ -5,8 +5,14 @@ ghost use Rattle.swss_types.specs.Interface.{if_name_of, if_name_text};
 
 use crate::{OutOfMemory, read_number, write_number};
 
+/// The greatest number of a port, and of a loopback interface.
+pub const MOST_PORT: u32 = 999_999;
+
+/// The greatest number of a VLAN (IEEE 802.1Q).
+pub const MOST_VLAN: u32 = 4094;
+
 /// The name of a port, a VLAN's interface or a loopback interface, by its number: `Ethernet0`, `Vlan10`, `Loopback0`.
-/// It is proper where an Ethernet or Loopback number is at most 999999 and a Vlan number is 1 to 4094.
+/// It is proper where an Ethernet or Loopback number is at most `MOST_PORT` and a Vlan number is 1 to `MOST_VLAN`.
 #[derive(Clone, Copy, Debug, PartialEq, Eq, PartialOrd, Ord)]
 pub enum IfName {
     /// A port.
@@ -23,16 +29,16 @@ impl IfName {
         ensures { result ≡ if_name_of text.now }
     {
         if let Some(number) = text.strip_prefix(b"Ethernet") {
-            return read_number(number, 999_999).map(IfName::Ethernet);
+            return read_number(number, MOST_PORT).map(IfName::Ethernet);
         }
         if let Some(number) = text.strip_prefix(b"Vlan") {
-            return match read_number(number, 4094) {
+            return match read_number(number, MOST_VLAN) {
                 Some(vlan) if vlan > 0 => Some(IfName::Vlan(vlan as u16)),
                 _ => None,
             };
         }
         let number = text.strip_prefix(b"Loopback")?;
-        read_number(number, 999_999).map(IfName::Loopback)
+        read_number(number, MOST_PORT).map(IfName::Loopback)
     }
 
     /// Appends the written name.

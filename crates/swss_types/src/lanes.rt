@@ -16,7 +16,13 @@ use std::alloc::Global;
 use std::cmp::Ordering;
 use std::marker::Model;
 
-/// The serial lanes of a port: 1 to 8 rising numbers below 512.
+/// How many lanes a switch has: the number of each is below it.
+pub const LANES: u32 = 512;
+
+/// How many lanes a port has at most.
+const MOST_LANES: usize = 8;
+
+/// The serial lanes of a port: 1 to `MOST_LANES` rising numbers below `LANES`.
 #[derive(Debug, Drop)]
 pub struct Lanes {
     lanes: SmallVec<u16, 8>,
@@ -42,7 +48,7 @@ impl Lanes {
             return Ok(None);
         };
         let lanes = in_order(alloc, numbers.as_slice())?;
-        if lanes.len() != numbers.len() || numbers.len() > 8 {
+        if lanes.len() != numbers.len() || numbers.len() > MOST_LANES {
             return Ok(None);
         }
         Ok(Some(Lanes {
@@ -126,7 +132,7 @@ impl Ord for Lanes {
     }
 }
 
-/// The numbers below 512 that the text lists between commas, or None where a part is no such number.
+/// The numbers below `LANES` that the text lists between commas, or None where a part is no such number.
 fn read_numbers(alloc: Global, text: &[u8]) -> Result<Option<SmallVec<u16, 8>>, OutOfMemory>
     ensures { IfOk result (λ numbers. option_map (λ n. n.items) numbers ≡ lanes_in (parts_at 44 text.now)) }
 {
@@ -134,7 +140,7 @@ fn read_numbers(alloc: Global, text: &[u8]) -> Result<Option<SmallVec<u16, 8>>, 
     let mut left = Some(text);
     while let Some(list) = left {
         let (part, behind) = cut_at(list, b',');
-        let Some(number) = read_number(part, 511) else {
+        let Some(number) = read_number(part, LANES - 1) else {
             return Ok(None);
         };
         numbers.push(number as u16)?;

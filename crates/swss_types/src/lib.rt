@@ -18,9 +18,9 @@ mod rising;
 mod tagging;
 mod text;
 
-pub use address::{Family, Ip, Mac, Prefix};
-pub use interface::IfName;
-pub use lanes::Lanes;
+pub use address::{Family, Ip, Mac, Prefix, V4_BITS, V6_BITS};
+pub use interface::{IfName, MOST_PORT, MOST_VLAN};
+pub use lanes::{LANES, Lanes};
 pub use laws::{
     addresses_read_back, interface_addresses_read_back, interface_names_read_back, lanes_read_back,
     macs_read_back, names_and_addresses_are_ordered, numbers_read_back, prefixes_read_back,

@@ -3,7 +3,7 @@ ghost use Rattle.std.specs.Prelude.{◌≡◌, ◌≤◌, ◌++◌, length, take
 ghost use Rattle.swss_types.specs.Address.{width, IsProperPrefix};
 ghost use Rattle.swss_types.specs.Prefix.{prefix_of, interface_address_of, has_host_bits, is_clean, prefix_text, interface_address_text, IsProperInterfaceAddress};
 
-use crate::{Family, Ip, OutOfMemory, Prefix, cut_at, read_number, write_number};
+use crate::{Ip, OutOfMemory, Prefix, V6_BITS, cut_at, read_number, write_number};
 
 impl Prefix {
     /// The prefix that the text writes: an address, or an address, `/` and a length in its family's range, without bits
@@ -86,21 +86,9 @@ fn is_clean(ip: Ip, len: u8) -> bool
     ensures { result ≡ is_clean ip len }
 {
     let rest = ip.family.width() - len;
-    if rest == 128 {
+    if rest == V6_BITS {
         ip.bits == 0
     } else {
         ip.bits % (1 << rest) == 0
-    }
-}
-
-impl Family {
-    /// The number of bits of an address.
-    fn width(self) -> u8
-        ensures { result ≡ width self }
-    {
-        match self {
-            Family::V4 => 32,
-            Family::V6 => 128,
-        }
     }
 }

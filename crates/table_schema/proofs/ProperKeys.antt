@@ -11,7 +11,7 @@ use Rattle.swss_types.specs.declared.interface.IfName.{IfName}
 use Rattle.swss_types.specs.declared.interface.IfName.TheVariants as name
 use Rattle.swss_types.proofs.Proper.{IsProperIfName-if_name_of, IsProperIp-ip_of, IsProper-interface_address_of, IsProperPrefix-prefix_of}
 use Rattle.table_schema.specs.KeyText.{key_of, key_at, known_key, table_of, or_other, on_switch, vlan_key, port_key, member_of, member_key, intf_key, addr_key, neigh_of, neigh_key}
-use Rattle.table_schema.specs.ProperKey.{IsProperKey}
+use Rattle.table_schema.specs.ProperKey.{IsProperKey, IsReadKey}
 use Rattle.table_schema.specs.Split.{split_once}
 use Rattle.table_schema.specs.declared.key.Key.{Key}
 use Rattle.table_schema.specs.declared.key.Key.TheVariants.{Port, Vlan, Member, Intf, Addr, Neigh, Route}
@@ -100,3 +100,11 @@ proper_by text (Some k) reads utf8 colon = IsProperKey-typed k (typed_known (spl
 -- each key that a text is is proper
 pub IsProperKey-key_of : (text : List ℕ) → IsUtf8 text → Contains text 58 → IsProperKey (key_of text)
 IsProperKey-key_of text utf8 colon = proper_by text (known_key (split_once 58 text)) refl utf8 colon
+
+read_by : (text : List ℕ) (o : Option Key) → known_key (split_once 58 text) ≡ o → IsReadKey (or_other text o)
+read_by text None reads = record { parts = tt; reads = ap (or_other text) reads }
+read_by text (Some k) reads = let proper = IsProperKey-typed k (typed_known (split_once 58 text) k reads) in record { parts = proper.parts; reads = proper.reads }
+
+-- whatever the bytes are, the parts of their key are in their ranges, and it is written as it reads
+pub IsReadKey-key_of : (text : List ℕ) → IsReadKey (key_of text)
+IsReadKey-key_of text = read_by text (known_key (split_once 58 text)) refl

@@ -3,6 +3,7 @@ pub mod Fields
 pub mod Held
 pub mod Hop
 pub mod Key
+pub mod KeyOrder
 pub mod KeyText
 pub mod LastValue
 pub mod Names
@@ -12,4 +13,5 @@ pub mod ProperKey
 pub mod RouteRules
 pub mod Rows
 pub mod Rules
+pub mod SentBy
 pub mod Split

@@ -10,6 +10,7 @@ use Rattle.swss_types.specs.declared.interface.IfName.{IfName}
 use Rattle.swss_types.specs.declared.interface.IfName.TheVariants as name
 use Rattle.table_schema.specs.Fields.{HasRisingKeys}
 use Rattle.table_schema.specs.Split.{split_once}
+use Rattle.table_schema.specs.declared.plan.TheConstants.{MOST_PORTS}
 use Rattle.table_schema.specs.declared.plan.PlanWhy.{PlanWhy}
 use Rattle.table_schema.specs.declared.plan.PlanWhy.TheVariants.{BadName, BadLanes, LaneTwice, NameTwice, TooManyPorts}
 
@@ -47,7 +48,7 @@ AreApart (p ∷ ps) = ((lane : ℕ) → has p.1 lane ≡ true → has_lane ps la
 
 -- what holds of every port plan
 pub record IsPlan (ports : Ports) : Type 0 where
-  pub few : length ports ≤ 256
+  pub few : length ports ≤ MOST_PORTS
   pub rising : HasRisingKeys nat_cmp ports
   pub lanes : AllByRecursion (λ p. IsLaneList p.1) ports
   pub apart : AreApart ports
@@ -76,7 +77,7 @@ line_of line = line_parts line (split_once 32 line)
 
 abbrev pub lane_fault : ℕ → Option ℕ → Option PlanWhy
 lane_fault ports (Some lane) = Some (LaneTwice lane)
-lane_fault ports None = if nat_lt ports 256 then None else Some TooManyPorts
+lane_fault ports None = if nat_lt ports MOST_PORTS then None else Some TooManyPorts
 
 -- why a port cannot be added to a plan: its name is there, or its first lane that is there, or the plan is full
 abbrev pub port_fault : Ports → (ℕ × List ℕ) → Option PlanWhy

@@ -21,6 +21,11 @@ HasProperParts (key.Neigh on ip) = IsProperIfName on × IsProperIp ip
 HasProperParts (key.Route prefix) = IsProperPrefix prefix
 HasProperParts (key.Other text) = Unit {0}
 
+-- a key as it is read, of whatever bytes: its parts are in their ranges, and its text reads as the key
+pub record IsReadKey (k : Key) : Type 0 where
+  pub parts : HasProperParts k
+  pub reads : key_of (key_text k) ≡ k
+
 -- a proper key: its text is UTF-8, has a colon and reads as the key
 pub record IsProperKey (k : Key) : Type 0 where
   pub parts : HasProperParts k

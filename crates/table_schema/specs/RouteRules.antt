@@ -15,6 +15,7 @@ use Rattle.table_schema.specs.declared.row.BadWhy.TheVariants.{Unsupported, Miss
 use Rattle.table_schema.specs.declared.row.RouteRow.{RouteRow}
 use Rattle.table_schema.specs.declared.row.RouteRow.TheVariants as route
 use Rattle.table_schema.specs.declared.row_hop.RowHop.{RowHop}
+use Rattle.table_schema.specs.declared.route_rules.TheConstants.{MOST_HOPS}
 
 -- an element that says nothing
 abbrev pub is_blank : List ℕ → Bool
@@ -76,11 +77,11 @@ hops_with several hops [] names = Ok hops
 hops_with several hops (ip ∷ ips) [] = Ok hops
 hops_with several hops (ip ∷ ips) (on ∷ names) = and_then (hop_of several ip on) (λ hop. hops_with several (insert_key hop_cmp hops hop) ips names)
 
--- as many addresses as names, at most 128, and a hop at each pair
+-- as many addresses as names, no more than a route may have, and a hop at each pair
 abbrev pub hops_of : List (List ℕ) → List (List ℕ) → Result (List RowHop) BadRow
 hops_of ips names =
     if length ips == length names
-    then (if nat_le (length ips) 128 then hops_with (nat_lt 1 (length ips)) [] ips names else bad TooManyHops 7)
+    then (if nat_le (length ips) MOST_HOPS then hops_with (nat_lt 1 (length ips)) [] ips names else bad TooManyHops 7)
     else bad CountsDiffer 8
 
 -- one hop with a zero address is the interface itself

@@ -7,11 +7,12 @@ ghost use Rattle.std.proofs.lemmas.Map.Lookups.{CmpEqualImpliesEq};
 ghost use Rattle.table_schema.specs.Fields.{HasRisingKeys, HasRisingNames, Pairs, merged, value_of};
 ghost use Rattle.table_schema.specs.Hop.{AreRisingHops, hop_cmp};
 ghost use Rattle.table_schema.specs.Key.{key_cmp};
+ghost use Rattle.table_schema.specs.KeyOrder.{key_order, row_hop_order};
 ghost use Rattle.table_schema.specs.KeyText.{key_of, key_text};
 ghost use Rattle.table_schema.specs.LastValue.{last_value};
 ghost use Rattle.table_schema.specs.Names.{names_of};
 ghost use Rattle.table_schema.specs.Plan.{IsPlan, Ports, plan_of};
-ghost use Rattle.table_schema.specs.ProperKey.{AreProperKeys, IsProperKey};
+ghost use Rattle.table_schema.specs.ProperKey.{AreProperKeys, IsProperKey, IsReadKey};
 ghost use Rattle.table_schema.specs.Rows.{Rows, HasRisingRows, after_write, after_writes, rows_of};
 ghost use Rattle.table_schema.specs.Rules.{row_of};
 ghost use Rattle.table_schema.specs.declared.key.Key.{Key};
@@ -25,9 +26,18 @@ pub fn keys_are_ordered()
     ensures exact { CmpEqualImpliesEq key_cmp }
 {}
 
-/// Each key that a text is is proper: its written form reads as the key again. So no two proper keys share one.
+/// Keys are ordered by their tables: ports, VLANs, members, interfaces, addresses, neighbours, routes, and last those that
+/// do not read. Keys of one table are ordered by their parts, and the hops of rows by interface and then by address.
+pub fn keys_go_by_table()
+    ensures keys { (k q : Key) → key_cmp k q ≡ key_order k q }
+    ensures hops { (a b : RowHop) → hop_cmp a b ≡ row_hop_order a b }
+{}
+
+/// Each key that a text is is proper: its written form reads as the key again. So no two proper keys share one. Whatever the
+/// bytes are, the parts of their key are in their ranges.
 pub fn keys_read_back()
     ensures proper { (text : List ℕ) → IsUtf8 text → Contains text 58 → IsProperKey (key_of text) }
+    ensures read { (text : List ℕ) → IsReadKey (key_of text) }
     ensures once { (a b : Key) → IsProperKey a → IsProperKey b → key_text a ≡ key_text b → a ≡ b }
 {}
 

@@ -9,9 +9,12 @@ use crate::split::split_once;
 use std::alloc::Global;
 use std::collections::BTreeMap;
 use std::marker::Model;
-use swss_types::{IfName, Lanes, OutOfMemory, Text};
+use swss_types::{IfName, LANES, Lanes, OutOfMemory, Text};
 
-/// The ports of a switch with their lanes, at most 256 of them and no lane in two.
+/// How many ports a switch has at most.
+pub const MOST_PORTS: usize = 256;
+
+/// The ports of a switch with their lanes, at most `MOST_PORTS` of them and no lane in two.
 #[derive(Debug, Drop)]
 pub struct PortPlan {
     ports: BTreeMap<u32, Lanes>,
@@ -43,7 +46,7 @@ pub enum PlanWhy {
     LaneTwice(u16),
     /// The name is that of an earlier port.
     NameTwice,
-    /// There are more than 256 ports.
+    /// There are more than `MOST_PORTS` ports.
     TooManyPorts,
 }
 
@@ -54,8 +57,8 @@ impl PortPlan {
     {
         Ok(PortPlan {
             ports: BTreeMap::new(alloc),
-            taken: vec![in alloc; false; 512]?,
-            names: vec![in alloc; None; 512]?,
+            taken: vec![in alloc; false; LANES as usize]?,
+            names: vec![in alloc; None; LANES as usize]?,
         })
     }
 
@@ -130,7 +133,7 @@ impl PortPlan {
         if let Some(lane) = self.first_taken(lanes) {
             return Some(PlanWhy::LaneTwice(lane));
         }
-        if self.ports.len() < 256 {
+        if self.ports.len() < MOST_PORTS {
             None
         } else {
             Some(PlanWhy::TooManyPorts)
@@ -179,8 +182,8 @@ fn read_line(alloc: Global, line: &[u8]) -> Result<Result<(u32, Lanes), PlanWhy>
 
 /// The first of the lanes that is taken.
 fn find_taken(taken: &[bool], lanes: &[u16]) -> Option<u16>
-    requires count { length taken.now ≡ 512 }
-    requires lanes { All (λ lane. lane < 512) lanes.now }
+    requires count { length taken.now ≡ LANES }
+    requires lanes { All (λ lane. lane < LANES) lanes.now }
     ensures { result ≡ find (λ lane. slice_index_or taken.now lane false) lanes.now }
 {
     lanes.iter().copied().find(|lane| taken[usize::from(*lane)])
@@ -188,8 +191,8 @@ fn find_taken(taken: &[bool], lanes: &[u16]) -> Option<u16>
 
 /// Takes the lanes.
 fn mark(taken: &mut Vec<bool>, lanes: &[u16])
-    requires count { length taken.old.items ≡ 512 }
-    requires lanes { All (λ lane. lane < 512) lanes.now }
+    requires count { length taken.old.items ≡ LANES }
+    requires lanes { All (λ lane. lane < LANES) lanes.now }
     ensures { taken.new.items ≡ marked taken.old.items lanes.now }
 {
     for lane in lanes {

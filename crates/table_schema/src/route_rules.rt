@@ -11,6 +11,9 @@ use crate::{BadRow, Fields, RouteRow, RowHop, RowHops, field};
 use std::alloc::Global;
 use swss_types::{Ip, OutOfMemory, Text, cut_at};
 
+/// How many hops a route lists at most.
+pub const MOST_HOPS: usize = 128;
+
 /// Where a route's row sends its packets, or the first rule that it breaks.
 pub fn read_route(alloc: Global, fields: &Fields) -> Result<Result<RouteRow, BadRow>, OutOfMemory>
     ensures { IfOk result (λ route. route ≡ route_row_of fields.now) }
@@ -105,7 +108,7 @@ fn require_filled(field: u8, text: Option<&Text>) -> Result<&[u8], BadRow>
     }
 }
 
-/// The hops at the pairs of two lists: as many addresses as names, and at most 128.
+/// The hops at the pairs of two lists: as many addresses as names, and at most `MOST_HOPS`.
 fn read_hops(
     alloc: Global,
     addresses: &[u8],
@@ -117,7 +120,7 @@ fn read_hops(
     if count != count_parts(names) {
         return Ok(Err(bad(CountsDiffer, field::IFNAME)));
     }
-    if count > 128 {
+    if count > MOST_HOPS {
         return Ok(Err(bad(TooManyHops, field::NEXTHOP)));
     }
     read_pairs(alloc, count > 1, addresses, names)

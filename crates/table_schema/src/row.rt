@@ -62,7 +62,7 @@ pub enum BadWhy {
     CountsDiffer,
     /// A prefix has bits past its length.
     HostBits,
-    /// A route has more than 128 hops.
+    /// A route lists more than `MOST_HOPS` hops.
     TooManyHops,
 }
 

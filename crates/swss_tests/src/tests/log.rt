@@ -26,7 +26,14 @@ fn wait_of<R: Threads + Waiting + Sync>(
     let mut source = MemSource::new(Vec::from_slice(alloc, script)?, Vec::new(alloc));
     let mut sink = MemSink::new(alloc, Vec::new(alloc));
     let outcome = swss_main(rt, alloc, &words, &mut source, &mut sink, &Open);
-    let mark = outcome.log.marks().last().ok_or("a mark")?;
+    let found = wait_at_end(&outcome.log);
+    outcome.into_status();
+    found
+}
+
+/// The one key that waits at the last mark.
+fn wait_at_end(log: &Log) -> Result<(Key, Wait, bool), Fail> {
+    let mark = log.marks().last().ok_or("a mark")?;
     let MarkEvent::Settled { waits, turns: 1 } = &mark.event else {
         return Err(Fail::new("a settling of one turn"));
     };

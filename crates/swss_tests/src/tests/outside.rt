@@ -3,7 +3,7 @@ use std::alloc::Global;
 use std::sync::Wait;
 use std::test::Fail;
 use std::thread::Threads;
-use swss_run::{Outcome, Status, swss_main};
+use swss_run::{Status, swss_main};
 use swss_types::{Gate, Got, MemSink, MemSource, Open, Sink, Source, Took};
 
 /// Two rounds.
@@ -14,15 +14,18 @@ const SCRIPT: &[u8] =
 const REPORT: &[u8] =
     b"settled 1 waiting 0\nsettled 2 waiting 0\nchip 1\nPORT Ethernet0 lanes 0 speed 100000 mtu 9100 admin down\n";
 
-/// Runs the script from a source and into a sink.
+/// How a run of the script from a source and into a sink ends, how many rounds ended, and whether there is a chip.
 fn run<R: Threads + Wait + Sync>(
     rt: &R,
     alloc: Global,
     source: &mut MemSource,
     sink: &mut MemSink,
-) -> Result<Outcome, Fail> {
+) -> Result<(Status, usize, bool), Fail> {
     let words = vec![in alloc; String::from_str(alloc, "run")?]?;
-    Ok(swss_main(rt, alloc, &words, source, sink, &Open))
+    let outcome = swss_main(rt, alloc, &words, source, sink, &Open);
+    let ended = outcome.log.ends().len();
+    let has_chip = outcome.chip.is_some();
+    Ok((outcome.into_status(), ended, has_chip))
 }
 
 #[test]
@@ -33,13 +36,10 @@ fn a_failed_read_writes_nothing(rt: HostRuntime) -> Result<(), Fail> {
         let script = Vec::from_slice(alloc, SCRIPT)?;
         let mut source = MemSource::in_pieces(script, vec![in alloc; call]?, 100);
         let mut sink = MemSink::new(alloc, Vec::new(alloc));
-        let outcome = run(&rt, alloc, &mut source, &mut sink)?;
-        assert_eq!(rt; outcome.status, Status::ReadFault, "{call}");
-        assert!(rt; sink.held().is_empty() && outcome.chip.is_none(), "{call}");
-        assert_eq!(rt;
-            outcome.status.line(alloc)?.as_slice(),
-            b"read fault".as_slice()
-        );
+        let (status, ended, has_chip) = run(&rt, alloc, &mut source, &mut sink)?;
+        assert_eq!(rt; status, Status::ReadFault, "{call}");
+        assert!(rt; sink.held().is_empty() && ended == 0 && !has_chip, "{call}");
+        assert_eq!(rt; status.line(alloc)?.as_slice(), b"read fault".as_slice());
     }
     Ok(())
 }
@@ -58,16 +58,13 @@ fn a_failed_write_leaves_a_front_of_the_report(rt: HostRuntime) -> Result<(), Fa
     ] {
         let mut source = MemSource::new(Vec::from_slice(alloc, SCRIPT)?, Vec::new(alloc));
         let mut sink = MemSink::in_pieces(alloc, vec![in alloc; call]?, piece);
-        let outcome = run(&rt, alloc, &mut source, &mut sink)?;
-        assert_eq!(rt; outcome.status, Status::WriteFault, "{piece} {call}");
-        assert_eq!(rt;
-            outcome.status.line(alloc)?.as_slice(),
-            b"write fault".as_slice()
-        );
+        let (status, ended, has_chip) = run(&rt, alloc, &mut source, &mut sink)?;
+        assert_eq!(rt; status, Status::WriteFault, "{piece} {call}");
+        assert_eq!(rt; status.line(alloc)?.as_slice(), b"write fault".as_slice());
         assert_eq!(rt; sink.held().len(), held, "{piece} {call}");
         assert!(rt; REPORT.starts_with(sink.held()), "{piece} {call}");
-        assert_eq!(rt; outcome.log.ends().len(), rounds, "{piece} {call}");
-        assert!(rt; outcome.chip.is_some(), "{piece} {call}");
+        assert_eq!(rt; ended, rounds, "{piece} {call}");
+        assert!(rt; has_chip, "{piece} {call}");
     }
     Ok(())
 }

@@ -1,0 +1,2 @@
+pub mod OpWrites
+pub mod SyncedRows

@@ -1,0 +1,155 @@
+// The operations by key.
+ghost use Rattle.std.specs.Prelude.{◌≡◌, [], length, option_map, IfOk, OnOk, OnErr};
+ghost use Rattle.std.specs.List.Sorted.{IsStrictlySortedBy};
+ghost use Rattle.std.specs.Map.{keys_of};
+ghost use Rattle.table_schema.specs.Fields.{merged};
+ghost use Rattle.table_schema.specs.Key.{key_cmp};
+ghost use Rattle.table_schema.specs.declared.write.Write.TheVariants as write;
+ghost use Rattle.consumer_table.specs.Ops.{AreOpsInOrder, op_at, op_with_set, ops_after, ops_with, without_op};
+
+use crate::Op;
+use producer_table::KeyOp;
+use std::alloc::Global;
+use std::collections::BTreeMap;
+use std::marker::Model;
+use swss_types::OutOfMemory;
+use table_schema::{Fields, Key};
+
+/// The keys that are to be brought to the chip, each with one operation: what was written to its row since the key was done.
+/// In SONiC's words, a consumer's map of keys to sync.
+#[derive(Debug, Drop)]
+pub struct ToSync {
+    ops: BTreeMap<Key, Op>,
+    alloc: Global,
+}
+
+impl Model for ToSync {
+    ghost use Rattle.std.specs.Prelude.{List};
+    ghost use Rattle.table_schema.specs.declared.key.Key.{Key};
+    ghost use Rattle.consumer_table.specs.declared.op.Op.{Op};
+    ghost use Rattle.consumer_table.specs.Ops.{HaveOpNames};
+
+    ghost Value = { List (Key × Op) };
+
+    ghost view = { λ s. s.ops.entries };
+
+    ghost invariant = { λ s. HaveOpNames s.ops.entries };
+}
+
+impl Op {
+    /// Fields more: they are merged into those of a Set and of a Replace, and turn a Del into a Replace.
+    fn lay(&mut self, fields: Fields) -> Result<(), OutOfMemory>
+        ensures ok { OnOk result (self.new ≡ op_with_set (Some self.old) fields) }
+        ensures err { OnErr result (self.new ≡ self.old) }
+    {
+        match self {
+            Op::Set(held) => held.merge(&fields),
+            Op::Replace(held) => held.merge(&fields),
+            Op::Del => {
+                *self = Op::Replace(first_fields(fields));
+                Ok(())
+            }
+        }
+    }
+}
+
+/// Fields that are laid over none: since their names rise, they stay what they are.
+fn first_fields(fields: Fields) -> Fields
+    ensures { result ≡ merged [] fields }
+{
+    let _rising = fields.items();
+    fields
+}
+
+/// Merges fields into the operation of a key.
+fn lay(ops: &mut BTreeMap<Key, Op>, key: Key, fields: Fields) -> Result<(), OutOfMemory>
+    ensures ok { OnOk result (ops.new.entries ≡ ops_after ops.old.entries (write.Set key fields)) }
+    ensures err { OnErr result (ops.new.entries ≡ ops.old.entries) }
+{
+    match ops.get_mut(&key) {
+        Some(op) => op.lay(fields),
+        None => {
+            ops.insert(key, Op::Set(first_fields(fields)))?;
+            Ok(())
+        }
+    }
+}
+
+/// Adds what was popped of a key.
+fn add(ops: &mut BTreeMap<Key, Op>, op: KeyOp) -> Result<(), OutOfMemory>
+    ensures ok { OnOk result (ops.new.entries ≡ ops_with ops.old.entries op) }
+    ensures err { OnErr result (ops.new.entries ≡ ops.old.entries) }
+{
+    let KeyOp {
+        key,
+        dropped,
+        fields,
+    } = op;
+    match (dropped, fields) {
+        (true, Some(fields)) => {
+            ops.insert(key, Op::Replace(first_fields(fields)))?;
+            Ok(())
+        }
+        (true, None) => {
+            ops.insert(key, Op::Del)?;
+            Ok(())
+        }
+        (false, Some(fields)) => lay(ops, key, fields),
+        (false, None) => Ok(()),
+    }
+}
+
+impl ToSync {
+    /// No key.
+    pub fn new(alloc: Global) -> ToSync
+        ensures { result ≡ [] }
+    {
+        ToSync {
+            ops: BTreeMap::new(alloc),
+            alloc,
+        }
+    }
+
+    /// Adds what was popped of a key: with a deletion mark a DEL, which takes the place of the operation that is there, and
+    /// with fields a SET behind it, which is merged into a Set or a Replace and turns a Del into a Replace.
+    pub fn add(&mut self, op: KeyOp) -> Result<(), OutOfMemory>
+        ensures ok { OnOk result (self.new ≡ ops_with self.old op) }
+        ensures err { OnErr result (self.new ≡ self.old) }
+    {
+        add(&mut self.ops, op)
+    }
+
+    /// The operation of a key: None exactly where the key is not to sync.
+    pub fn op(&self, key: &Key) -> Option<&Op>
+        ensures { option_map (λ op. op.now) result ≡ op_at self.now key.now }
+    {
+        self.ops.get(key)
+    }
+
+    /// Takes a key's operation off: the key is done.
+    pub fn done(&mut self, key: &Key)
+        ensures { self.new ≡ without_op self.old key.now }
+    {
+        self.ops.remove(key);
+    }
+
+    /// How many keys there are. What is held is in order, as `AreOpsInOrder` says.
+    pub fn len(&self) -> usize
+        ensures count { result ≡ length self.now }
+        ensures order { AreOpsInOrder self.now }
+    {
+        self.ops.len()
+    }
+
+    /// The keys, in order.
+    pub fn keys(&self) -> Result<Vec<Key>, OutOfMemory>
+        ensures keys { IfOk result (λ keys. keys.items ≡ keys_of self.now) }
+        ensures rise { IfOk result (λ keys. IsStrictlySortedBy key_cmp keys.items) }
+    {
+        let mut keys = Vec::with_capacity(self.alloc, self.ops.len())?;
+        for (key, _) in self.ops.iter() {
+            keys.push(key.copy()?)?;
+        }
+        Ok(keys)
+    }
+}

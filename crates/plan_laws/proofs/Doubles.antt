@@ -1,0 +1,208 @@
+-- an object's name among the old things is the one that it shows, but of groups that do not stay and their members
+use Rattle.std.proofs.Common.{◌≡◌, inl, inr, ◌⊎◌, ℕ, zero, suc, ◌<◌, Bool, true, false, cond, ◌&&◌, not, nat_lt, List, map, Some, refl, sym, ap, ap₂, ◌∙◌, subst, arith}
+use Rattle.std.proofs.lemmas.Bool.{and_parts, eq-eqb}
+use Rattle.std.proofs.lemmas.Bool.Decides.{nat_tests}
+use Rattle.std.proofs.lemmas.Option.{same_Some}
+use Rattle.sai_types.specs.declared.ids.Rid.{Rid}
+use Rattle.sai_types.specs.declared.hop.Hop.{Hop}
+use Rattle.sai_types.specs.declared.body.Body.{Body}
+use Rattle.sai_types.specs.declared.body.Body.TheVariants as body
+use Rattle.sai_types.specs.declared.body.Entry.{Entry}
+use Rattle.sai_types.specs.declared.body.Entry.TheVariants as entry
+use Rattle.sai_types.specs.declared.kind.Kind.{Kind}
+use Rattle.sai_types.specs.declared.thing.Thing.{Thing}
+use Rattle.sai_types.specs.declared.thing.Thing.TheVariants as thing
+use Rattle.sai_types.specs.Alike.{IsIn}
+use Rattle.sai_types.specs.Named.{goal_by, hops_at, named, next_hop_at, thing_by, thing_of}
+use Rattle.sai_types.specs.Names as name
+use Rattle.sai_types.specs.Names.{Name, name_of}
+use Rattle.sai_types.specs.Objects.{Objects, body_at}
+use Rattle.sai_types.specs.Refusal.{same_id}
+use Rattle.sai_types.proofs.Keys.{both_true, mapped}
+use Rattle.sai_types.proofs.Listed.{found-in, object-of_thing}
+use Rattle.sai_types.proofs.Things.{both_mapped}
+use Rattle.chip_layout.specs.Layout.{Has}
+use Rattle.chip_layout.specs.Seen.{tagged}
+use Rattle.chip_layout.proofs.Answering.{those_in}
+use Rattle.chip_layout.proofs.Seeing.{body-seen, shown}
+use Rattle.plan_laws.specs.Applied.{IsListed, IsView, chip_things}
+use Rattle.plan_laws.specs.Bounds.{IsDouble}
+use Rattle.plan_laws.specs.Old.{filler, chip_group, group_stays, chip_groups, hops_or_none, is_double, is_group_of, old_layout, old_things, same_hops, shown_hops, tag_of}
+use Rattle.plan_laws.specs.Views.{AreLacking, FitsHitless}
+use Rattle.plan_laws.proofs.Lists.{any-in, in-any, map-in}
+use Rattle.plan_laws.proofs.Named.{hops_exact, hops_refl}
+use Rattle.plan_laws.proofs.Starting.{group-seen, group-there, hops-same, object-seen, old-tagged}
+use Rattle.plan_laws.proofs.Tagging.{all-groups}
+use Rattle.plan_laws.proofs.Targets.{is-group, is-member}
+
+is_grouped : (o : Entry Rid × Body Rid) (g : Rid) → Some g ≡ chip_group o → (o.0 ≡ entry.Oid g) × (o.1 ≡ body.Group)
+is_grouped (entry.Oid h, body.Group) g e = let same : g ≡ h = cc in (ap entry.Oid (sym same), refl)
+is_grouped (entry.Own ip, body.Group) g e = absurd cc
+is_grouped (entry.Neigh r ip, body.Group) g e = absurd cc
+is_grouped (entry.Route p, body.Group) g e = absurd cc
+is_grouped (e, body.Port l s m u) g h = absurd cc
+is_grouped (e, _) g h = absurd cc
+
+module _ {made : ℕ} {objects : Objects} (chip : IsListed made objects) (new : List Thing) (view : IsView new) where
+  abbrev tag : Rid → List Hop
+  tag = tag_of objects new
+
+  abbrev hops : Rid → List Hop
+  hops = shown_hops objects
+
+  -- ---- the two names of an object
+
+  abbrev OfGroup : Entry Rid → Body Rid → Thing → Thing → Type 0
+  OfGroup e b u w = (g : Rid) × (e ≡ entry.Oid g) × (b ≡ body.Group) × (u ≡ thing.Group (hops g)) × (w ≡ thing.Group (tag g))
+
+  abbrev OfMember : Body Rid → Thing → Thing → Type 0
+  OfMember b u w = (g : Rid) × (n : Rid) × (hop : Hop) × (b ≡ body.GroupMember g n) × (u ≡ thing.GroupMember (hops g) hop) × (w ≡ thing.GroupMember (tag g) hop)
+
+  abbrev AreNames : Entry Rid → Body Rid → Thing → Thing → Type 0
+  AreNames e b u w = (name_of u ≡ name_of w) ⊎ (OfGroup e b u w ⊎ OfMember b u w)
+
+  these_hops : (g : Rid) (hs : List Hop) → hops_at objects g ≡ Some hs → hs ≡ hops g
+  these_hops g hs e = sym (ap hops_or_none e)
+
+  names : (e : Entry Rid) (b : Body Rid) (u w : Thing) → thing_of objects (e, b) ≡ Some u → thing_by (tagged tag) objects (e, b) ≡ Some w → AreNames e b u w
+  names (entry.Oid g) body.Group u w x y =
+      let m = mapped thing.Group (hops_at objects g) u x in
+      inr (inl (g, refl, refl, sym m.2 ∙ ap thing.Group (these_hops g m.0 m.1), sym (same_Some (thing.Group (tag g)) w y)))
+  names e (body.GroupMember g n) u w x y =
+      let m = both_mapped thing.GroupMember (hops_at objects g) (next_hop_at objects n) u x in
+      let k = both_mapped thing.GroupMember (Some (tag g)) (next_hop_at objects n) w y in
+      let tags : k.0 ≡ tag g = sym (same_Some (tag g) k.0 k.2) in
+      let one : k.1 ≡ m.1 = same_Some k.1 m.1 (sym k.3 ∙ m.3) in
+      inr (inr (g, n, m.1, refl, sym m.4 ∙ ap (λ h. thing.GroupMember h m.1) (these_hops g m.0 m.2), sym k.4 ∙ ap₂ (λ a c. thing.GroupMember a c) tags one))
+  names e (body.Route p t) u w x y =
+      let m = mapped (thing.Route p) (goal_by (hops_at objects) objects t) u x in
+      let k = mapped (thing.Route p) (goal_by (tagged tag) objects t) w y in
+      inl (sym (ap name_of m.2) ∙ ap name_of k.2)
+  names (entry.Own ip) body.Group u w x y = absurd cc
+  names (entry.Neigh r ip) body.Group u w x y = absurd cc
+  names (entry.Route p) body.Group u w x y = absurd cc
+  names e (body.Port l s m v) u w x y = inl (ap name_of (same_Some u w (sym x ∙ y)))
+  names e _ u w x y = inl (ap name_of (same_Some u w (sym x ∙ y)))
+
+  -- ---- groups that stay
+
+  new_group : (g : Rid) (hop : Hop) → IsIn (thing.GroupMember (hops g) hop) new → IsIn (thing.Group (hops g)) new
+  new_group g hop i = let k = view.within.refers (thing.GroupMember (hops g) hop) (name.Group (hops g)) i (inl refl) in subst (λ z. IsIn z new) (is-group k.0 (hops g) k.2) k.1
+
+  stays_if : (g : Rid) → IsIn g (chip_groups objects) → IsIn (thing.Group (hops g)) new → is_double objects g ≡ false → group_stays objects new g ≡ true
+  stays_if g i wanted single =
+      both_true _ _ (in-any (same_id g) (chip_groups objects) g i (eq-eqb g.0 g.0 refl))
+      (both_true _ _ (in-any (is_group_of (hops g)) new (thing.Group (hops g)) wanted (hops_refl (hops g))) (ap not single))
+
+  tag_is : (g : Rid) → group_stays objects new g ≡ true → tag g ≡ hops g
+  tag_is g h = ap (λ b. cond b (hops g) (filler g.0)) h
+
+  doubled : (g : Rid) → IsIn g (chip_groups objects) → IsIn (thing.Group (hops g)) new → (tag g ≡ hops g → ⊥) → is_double objects g ≡ true
+  doubled g i wanted apart = by (is_double objects g) refl
+    where
+      by : (b : Bool) → is_double objects g ≡ b → b ≡ true
+      by true e = refl
+      by false e = absurd (apart (tag_is g (stays_if g i wanted e)))
+
+  member_parts : (g h n m : Rid) → body.GroupMember g n ≡ body.GroupMember h m → g ≡ h
+  member_parts g h n m e = cc
+
+  member_group : (e : Entry Rid) (g n : Rid) (hop : Hop) → body_at objects e ≡ Some (body.GroupMember g n) → thing_by (tagged tag) objects (e, body.GroupMember g n) ≡ Some (thing.GroupMember (tag g) hop) → IsIn g (chip_groups objects)
+  member_group e g n hop found is =
+      let of = body-seen tag made objects chip.whole e (body.GroupMember g n) (thing.GroupMember (tag g) hop) found is in
+      let same : of.first ≡ g = sym (member_parts g of.first n of.second of.body_is) in
+      (group-seen chip new g (tag g) (group-there chip new (tag g) g (subst (Has (old_layout objects new) (name.Group (tag g))) same of.first_at))).1
+
+  -- ---- what the new view has no old thing for is no name of it, or that of a double
+
+  pub unwanted : (e : Entry Rid) (b : Body Rid) (w : Thing) → body_at objects e ≡ Some b → thing_by (tagged tag) objects (e, b) ≡ Some w → ((t : Thing) → IsIn t new → name_of t ≡ name_of w → ⊥) → (u t : Thing) → thing_of objects (e, b) ≡ Some u → IsIn t new → name_of t ≡ name_of u → IsDouble objects e b
+  unwanted e b w found is none u t shows i same =
+      elim (names e b u w shows is) [
+        | inl one ↦ absurd (none t i (same ∙ one))
+        | inr groups ↦ elim groups [
+          | inl x ↦
+              let g = x.0 in
+              let t_is = is-group t (hops g) (same ∙ ap name_of x.3) in
+              let there = all-groups objects g (ap (body_at objects) (sym x.1) ∙ found ∙ ap Some x.2) in
+              let double = doubled g there (subst (λ z. IsIn z new) t_is i) (λ e. none t i (ap name_of t_is ∙ ap name.Group (sym e) ∙ sym (ap name_of x.4))) in
+              subst (λ z. IsDouble objects z b) (sym x.1) (subst (λ z. IsDouble objects (entry.Oid g) z) (sym x.2) double)
+          | inr y ↦
+              let g = y.0 in
+              let t_is = is-member t (hops g) y.2 (same ∙ ap name_of y.4) in
+              let there = member_group e g y.1 y.2 (found ∙ ap Some y.3) (ap (λ z. thing_by (tagged tag) objects (e, z)) (sym y.3) ∙ is ∙ ap Some y.5) in
+              let double = doubled g there (new_group g y.2 (subst (λ z. IsIn z new) t_is i)) (λ e. none t i (ap name_of t_is ∙ ap (λ h. name.GroupMember h y.2) (sym e) ∙ sym (ap name_of y.5))) in
+              subst (λ z. IsDouble objects e z) (sym y.3) double
+        ]
+      ]
+
+  -- ---- what the chip shows of the new view is among the old things
+
+  group_found : (g : Rid) → IsIn g (chip_groups objects) → body_at objects (entry.Oid g) ≡ Some body.Group
+  group_found g i =
+      let o = map-in chip_group objects (Some g) (those_in g (map chip_group objects) i) in
+      let is = is_grouped o.0 g o.2 in
+      ap (body_at objects) (sym is.0) ∙ found-in objects o.0.0 o.0.1 chip.whole.sorted o.1 ∙ ap Some is.1
+
+  lower : (m n : ℕ) → nat_lt m n ≡ true → m < n
+  lower m n h = grind (arith, nat_tests)
+
+  -- of the groups of some hops the one of the least identifier
+  abbrev HasLeast : Rid → Type 0
+  HasLeast g = (h : Rid) × IsIn h (chip_groups objects) × (is_double objects h ≡ false) × (hops h ≡ hops g)
+
+  least : (n : ℕ) (g : Rid) → g.0 < n → IsIn g (chip_groups objects) → HasLeast g
+  least zero g less i = absurd (omega (arith, less))
+  least (suc n) g less i = by (is_double objects g) refl (λ h below there. least n h (omega (arith, less, below)) there)
+    where
+      by : (b : Bool) → is_double objects g ≡ b → ((h : Rid) → h.0 < g.0 → IsIn h (chip_groups objects) → HasLeast h) → HasLeast g
+      by false e lesser = (g, i, e, refl)
+      by true e lesser =
+          let x = any-in (λ h. nat_lt h.0 g.0 && same_hops (hops h) (hops g)) (chip_groups objects) e in
+          let parts = and_parts (nat_lt x.0.0 g.0) (same_hops (hops x.0) (hops g)) x.2 in
+          let r = lesser x.0 (lower x.0.0 g.0 parts.0) x.1 in
+          (r.0, r.1, r.2, r.3 ∙ hops_exact (hops x.0) (hops g) parts.1)
+
+  group_old : (g : Rid) → IsIn g (chip_groups objects) → IsIn (thing.Group (hops g)) new → IsIn (thing.Group (hops g)) (old_things objects new)
+  group_old g i wanted =
+      let h = least (suc g.0) g (omega arith) i in
+      let stays = stays_if h.0 h.1 (subst (λ z. IsIn (thing.Group z) new) (sym h.3) wanted) h.2 in
+      subst (λ z. IsIn (thing.Group z) (old_things objects new)) (tag_is h.0 stays ∙ h.3) (object-seen tag objects made chip.whole (entry.Oid h.0) body.Group (thing.Group (tag h.0)) (group_found h.0 h.1) refl)
+
+  member_old : (g : Rid) (hop : Hop) → IsIn g (chip_groups objects) → IsIn (thing.GroupMember (hops g) hop) new → IsIn (thing.GroupMember (hops g) hop) (old_things objects new)
+  member_old g hop i wanted =
+      let group = new_group g hop wanted in
+      (old-tagged chip new).have (hops g) hop (group_old g i group) (subst (IsIn hop) (sym (hops-same chip new (hops g) (view.grouped.rising (hops g) group))) (view.grouped.only (hops g) hop wanted))
+
+  shown_old : (u t : Thing) → IsIn u (chip_things objects) → IsIn t new → name_of u ≡ name_of t → (v : Thing) × IsIn v (old_things objects new) × (name_of v ≡ name_of t)
+  shown_old u t i j same =
+      let o = object-of_thing objects objects (Some u) (those_in u (named objects) i) in
+      let e = o.0 in
+      let b = o.1 in
+      let found = found-in objects e b chip.whole.sorted o.2 in
+      let s = shown tag made objects chip.whole e b found (chip.whole.refer.each e b found) in
+      elim (names e b u s.0 (sym o.3) s.1) [
+        | inl one ↦ (s.0, object-seen tag objects made chip.whole e b s.0 found s.1, sym one ∙ same)
+        | inr groups ↦ elim groups [
+          | inl x ↦
+              let t_is = is-group t (hops x.0) (sym same ∙ ap name_of x.3) in
+              let there = all-groups objects x.0 (ap (body_at objects) (sym x.1) ∙ found ∙ ap Some x.2) in
+              (t, subst (λ z. IsIn z (old_things objects new)) (sym t_is) (group_old x.0 there (subst (λ z. IsIn z new) t_is j)), refl)
+          | inr y ↦
+              let t_is = is-member t (hops y.0) y.2 (sym same ∙ ap name_of y.4) in
+              let there = member_group e y.0 y.1 y.2 (found ∙ ap Some y.3) (ap (λ z. thing_by (tagged tag) objects (e, z)) (sym y.3) ∙ s.1 ∙ ap Some y.5) in
+              (t, subst (λ z. IsIn z (old_things objects new)) (sym t_is) (member_old y.0 y.2 there (subst (λ z. IsIn z new) t_is j)), refl)
+        ]
+      ]
+
+  -- names that no old thing has are names that the chip does not show
+  pub lacking-shown : (kind : Kind) (ks : List Name) → AreLacking (old_things objects new) new kind ks → AreLacking (chip_things objects) new kind ks
+  lacking-shown kind ks l = record {
+    distinct = l.distinct;
+    each = λ k i.
+        let x = l.each k i in
+        (x.0, x.1, x.2, x.3, λ u j e. let v = shown_old u x.1 j x.2 (e ∙ sym x.3) in x.4 v.0 v.1 (v.2 ∙ x.3));
+  }
+
+  -- so what fits beside what the chip shows fits beside the old things
+  pub fits-shown : (capacities : List ℕ) → FitsHitless capacities objects (chip_things objects) new → FitsHitless capacities objects (old_things objects new) new
+  fits-shown capacities fits kind ks l = fits kind ks (lacking-shown kind ks l)

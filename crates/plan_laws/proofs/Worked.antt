@@ -1,0 +1,189 @@
+-- a route that moves to another group while a second prefix covers it, worked out by computation: nothing cites it, and it shows that the definitions say what is meant
+use Rattle.std.proofs.Common.{◌≡◌, inl, inr, ℕ, false, List, [], ◌∷◌, map, take, refl, sym, ap, ◌∙◌, subst, arith, rules}
+use Rattle.swss_types.specs.Address.{IsProperPrefix}
+use Rattle.swss_types.specs.declared.address.Family.TheVariants.{V4}
+use Rattle.swss_types.specs.declared.address.Ip.{Ip}
+use Rattle.swss_types.specs.declared.address.Mac.{Mac}
+use Rattle.swss_types.specs.declared.address.Prefix.{Prefix}
+use Rattle.sai_types.specs.declared.ids.Rid.{Rid}
+use Rattle.sai_types.specs.declared.hop.Base.TheVariants as base
+use Rattle.sai_types.specs.declared.hop.Hop.{Hop}
+use Rattle.sai_types.specs.declared.body.Attr.TheVariants as attr
+use Rattle.sai_types.specs.declared.body.Body.TheVariants as body
+use Rattle.sai_types.specs.declared.body.Call.{Call}
+use Rattle.sai_types.specs.declared.body.Call.TheVariants as call
+use Rattle.sai_types.specs.declared.body.Entry.TheVariants as entry
+use Rattle.sai_types.specs.declared.body.RifOn.TheVariants as on
+use Rattle.sai_types.specs.declared.body.To.TheVariants as to
+use Rattle.sai_types.specs.declared.kind.Kind.TheVariants as kind
+use Rattle.sai_types.specs.declared.thing.Goal.{Goal}
+use Rattle.sai_types.specs.declared.thing.Goal.TheVariants as goal
+use Rattle.sai_types.specs.declared.thing.Thing.{Thing}
+use Rattle.sai_types.specs.declared.thing.Thing.TheVariants as thing
+use Rattle.sai_types.specs.After.{after_calls, chip_after}
+use Rattle.sai_types.specs.Alike.{IsIn}
+use Rattle.sai_types.specs.Forwarding.{Decision, Via, decide}
+use Rattle.sai_types.specs.Made.{AreLegal}
+use Rattle.sai_types.specs.Names as name
+use Rattle.sai_types.specs.Names.{Refers, ShareLane}
+use Rattle.sai_types.specs.Objects.{Objects}
+use Rattle.sai_types.proofs.Whole.{whole-empty}
+use Rattle.chip_layout.specs.Seen.{no_id}
+use Rattle.plan_laws.specs.Applied.{AppliesHitless, chip_things}
+use Rattle.plan_laws.specs.Old.{filler, group_stays}
+use Rattle.plan_laws.specs.Plans.{Make, PlanChange, Remove, Set, hitless_rank}
+use Rattle.plan_laws.specs.Views.{HasRoomFor}
+
+abbrev id : ℕ → Rid
+id n = record { 0 = n }
+
+abbrev ip : ℕ → Ip
+ip n = record { family = V4; bits = n }
+
+abbrev mac : ℕ → Mac
+mac n = record { 0 = n ∷ n ∷ n ∷ n ∷ n ∷ n ∷ [] }
+
+abbrev hop : ℕ → Hop
+hop n = record { on = base.Vlan 10; ip = ip n }
+
+-- the prefixes 0.0.1.0/24 and 0.0.0.0/16
+abbrev narrow : Prefix
+narrow = record { ip = ip 256; len = 24 }
+
+abbrev wide : Prefix
+wide = record { ip = ip 0; len = 16 }
+
+-- three next hops, a group of the first two to which the narrow route points, and the wide route by the first
+abbrev building : List (Call Rid)
+building =
+    call.Create (body.Vlan 10)
+    ∷ call.Create (body.Rif (on.Vlan (id 1)))
+    ∷ call.Create (body.Neighbor (id 2) (ip 1) (mac 1))
+    ∷ call.Create (body.NextHop (id 2) (ip 1))
+    ∷ call.Create (body.Neighbor (id 2) (ip 2) (mac 2))
+    ∷ call.Create (body.NextHop (id 2) (ip 2))
+    ∷ call.Create (body.Neighbor (id 2) (ip 3) (mac 3))
+    ∷ call.Create (body.NextHop (id 2) (ip 3))
+    ∷ call.Create body.Group
+    ∷ call.Create (body.GroupMember (id 6) (id 3))
+    ∷ call.Create (body.GroupMember (id 6) (id 4))
+    ∷ call.Create (body.Route narrow (to.Group (id 6)))
+    ∷ call.Create (body.Route wide (to.NextHop (id 3)))
+    ∷ []
+
+abbrev objects : Objects
+objects = chip_after building 13
+
+abbrev old_group : List Hop
+old_group = hop 1 ∷ hop 2 ∷ []
+
+abbrev new_group : List Hop
+new_group = hop 2 ∷ hop 3 ∷ []
+
+-- the new view: the narrow route points at a group of the last two
+abbrev new : List Thing
+new =
+    thing.Vlan 10 ∷ thing.Rif (base.Vlan 10) ∷ thing.Neighbor (hop 1) (mac 1) ∷ thing.Neighbor (hop 2) (mac 2) ∷ thing.Neighbor (hop 3) (mac 3)
+    ∷ thing.NextHop (hop 1) ∷ thing.NextHop (hop 2) ∷ thing.NextHop (hop 3)
+    ∷ thing.Group new_group ∷ thing.GroupMember new_group (hop 2) ∷ thing.GroupMember new_group (hop 3)
+    ∷ thing.Route narrow (goal.Group new_group) ∷ thing.Route wide (goal.Via (hop 1)) ∷ []
+
+-- the old group does not stay, so it has a tag in the place of its hops
+old_group_goes : group_stays objects new (id 6) ≡ false
+old_group_goes = refl
+
+-- the plan, in its order
+abbrev plan : List PlanChange
+plan =
+    Make (thing.Group new_group)
+    ∷ Make (thing.GroupMember new_group (hop 2))
+    ∷ Make (thing.GroupMember new_group (hop 3))
+    ∷ Set (thing.Route narrow (goal.Group new_group))
+    ∷ Remove (name.GroupMember (filler 6) (hop 1))
+    ∷ Remove (name.GroupMember (filler 6) (hop 2))
+    ∷ Remove (name.Group (filler 6))
+    ∷ []
+
+ranks : map hitless_rank plan ≡ 8 ∷ 9 ∷ 9 ∷ 800 ∷ 1391 ∷ 1391 ∷ 1392 ∷ []
+ranks = refl
+
+-- its calls on the chip, of which eight identifiers were made before
+abbrev calls : List (Call Rid)
+calls =
+    call.Create body.Group
+    ∷ call.Create (body.GroupMember (id 9) (id 4))
+    ∷ call.Create (body.GroupMember (id 9) (id 5))
+    ∷ call.Set (entry.Route narrow) (attr.To (to.Group (id 9)))
+    ∷ call.Remove (entry.Oid (id 7))
+    ∷ call.Remove (entry.Oid (id 8))
+    ∷ call.Remove (entry.Oid (id 6))
+    ∷ []
+
+abbrev roomy : List ℕ
+roomy = 9 ∷ 9 ∷ 9 ∷ 9 ∷ 9 ∷ 9 ∷ 9 ∷ 9 ∷ 9 ∷ 9 ∷ 9 ∷ []
+
+they_are_legal : AreLegal roomy 8 objects calls
+they_are_legal = (refl, (refl, (refl, (refl, (refl, (refl, (refl, tt)))))))
+
+-- how an address is decided after so many of them
+abbrev after : ℕ → ℕ → Decision
+after n k = decide (chip_things (after_calls 8 objects (take k calls))) (ip n)
+
+-- an address of the narrow prefix goes from the old group to the new one, in one call, and never by the wide prefix
+narrow_moves : map (after 300) (0 ∷ 1 ∷ 2 ∷ 3 ∷ 4 ∷ 5 ∷ 6 ∷ 7 ∷ []) ≡ Via old_group ∷ Via old_group ∷ Via old_group ∷ Via old_group ∷ Via new_group ∷ Via new_group ∷ Via new_group ∷ Via new_group ∷ []
+narrow_moves = refl
+
+-- and one that the wide prefix alone covers stays
+wide_stays : map (after 700) (0 ∷ 1 ∷ 2 ∷ 3 ∷ 4 ∷ 5 ∷ 6 ∷ 7 ∷ []) ≡ Via (hop 1 ∷ []) ∷ Via (hop 1 ∷ []) ∷ Via (hop 1 ∷ []) ∷ Via (hop 1 ∷ []) ∷ Via (hop 1 ∷ []) ∷ Via (hop 1 ∷ []) ∷ Via (hop 1 ∷ []) ∷ Via (hop 1 ∷ []) ∷ []
+wide_stays = refl
+
+-- in the end the new view stands
+ends : chip_things (after_calls 8 objects calls) ≡ thing.Vlan 10 ∷ thing.Rif (base.Vlan 10) ∷ thing.NextHop (hop 1) ∷ thing.NextHop (hop 2) ∷ thing.NextHop (hop 3) ∷ thing.Group new_group ∷ thing.GroupMember new_group (hop 2) ∷ thing.GroupMember new_group (hop 3) ∷ thing.Neighbor (hop 1) (mac 1) ∷ thing.Neighbor (hop 2) (mac 2) ∷ thing.Neighbor (hop 3) (mac 3) ∷ thing.Route wide (goal.Via (hop 1)) ∷ thing.Route narrow (goal.Group new_group) ∷ []
+ends = refl
+
+-- ---- the premises can be met: a route comes to an empty chip
+
+abbrev route : Thing
+route = thing.Route wide goal.Drop
+
+only : (t : Thing) → IsIn t (route ∷ []) → t ≡ route
+only t (inl e) = e
+only t (inr h) = elim h [ ]
+
+made_only : (c : PlanChange) → IsIn c (Make route ∷ []) → c ≡ Make route
+made_only c (inl e) = e
+made_only c (inr h) = elim h [ ]
+
+same_prefix : (p : Prefix) (g : Goal) → thing.Route p g ≡ route → wide ≡ p
+same_prefix p g e = cc
+
+proper_wide : IsProperPrefix wide
+proper_wide = search rules
+
+small_room : HasRoomFor roomy [] (Make route ∷ [])
+small_room kind.Route = omega arith
+small_room kind.Port = omega arith
+small_room _ = omega arith
+
+comes : AppliesHitless roomy 0 [] (route ∷ []) (Make route ∷ []) [] (call.Create (body.Route wide to.Drop) ∷ [])
+comes = record {
+  planned = record {
+    chip = record { whole = whole-empty; lanes = record { each = λ e b h. absurd cc }; prefixes = record { each = λ e b h. absurd cc } };
+    view = record {
+      named = record { one = λ t u i j e. only t i ∙ sym (only u j); proper = λ p g i. subst IsProperPrefix (same_prefix p g (only _ i)) proper_wide };
+      within = record { refers = λ t k i r. elim (subst (λ z. Refers z k) (only t i) r) [ ] };
+      grouped = record { rising = λ hops i. let e = only _ i in absurd cc; have = λ hops hop i h. let e = only _ i in absurd cc; only = λ hops hop i. let e = only _ i in absurd cc };
+    };
+    lanes = record { apart = λ t u i j l. absurd (subst (λ z. ShareLane z u) (only t i) l) };
+    is_plan = record {
+      makes = λ t i. let e = made_only (Make t) i in let is : t ≡ route = cc in (inl is, λ u j same. j);
+      sets = λ t i. let e = made_only (Set t) i in absurd cc;
+      removes = λ k i. let e = made_only (Remove k) i in absurd cc;
+      whole = λ t i. inr (inl (inl (ap Make (only t i))));
+      gone = λ u i. elim i [ ];
+      in_order = (λ d i. elim i [ ], tt);
+    };
+    room = small_room;
+  };
+  run = (call.Create (body.Route wide to.Drop) ∷ [], [], refl, (body.Route wide to.Drop, record { first = no_id; second = no_id; first_at = tt; second_at = tt; body_is = refl }, refl), refl);
+}

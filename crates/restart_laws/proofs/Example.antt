@@ -1,0 +1,68 @@
+-- a run with a restart: the premises can be met
+use Rattle.std.proofs.Common.{◌≡◌, ◌∷◌, inl, ℕ, List, [], length, None, refl, arith}
+use Rattle.table_schema.specs.Plan.{Ports}
+use Rattle.std.specs.List.Sorted.{IsStrictlySortedBy}
+use Rattle.sai_types.specs.declared.kind.Kind.{Kind}
+use Rattle.chip_layout.specs.Layout.{listed}
+use Rattle.sai_types.specs.Names.{Name}
+use Rattle.sai_types.specs.declared.plan.Mode.TheVariants as mode
+use Rattle.restart_laws.specs.Planned.{PlansHitless}
+use Rattle.chip_layout.proofs.Shapes.{laid-none}
+use Rattle.switch_machine.specs.Events.{empty_switch}
+use Rattle.plan_laws.specs.Views.{AreLacking}
+use Rattle.warm_state.specs.declared.warm.Warm.TheVariants.{Applying, Initialized, Reconciled, Restored}
+use Rattle.restart_laws.specs.Service.{AreServiceEvents, OfFinish, OfList, OfRestart, OfRestore, Service, new_service}
+use Rattle.restart_laws.specs.Restored.{IsRestored}
+
+abbrev first : Service
+first = record { warm = Initialized; core = empty_switch; seen = []; left = [] }
+
+abbrev second : Service
+second = record { warm = Restored; core = empty_switch; seen = []; left = [] }
+
+abbrev third : Service
+third = record { warm = Applying; core = empty_switch; seen = []; left = [] }
+
+abbrev last : Service
+last = record { warm = Reconciled; core = empty_switch; seen = []; left = [] }
+
+none_lacking : (kind : Kind) (names : List Name) → AreLacking [] [] kind names → length names ≡ 0
+none_lacking kind [] x = refl
+none_lacking kind (n ∷ ns) x = elim (x.each n (inl refl)).2 [ ]
+
+nothing_planned : (capacities : List ℕ) → PlansHitless capacities 0 [] [] []
+nothing_planned capacities = record {
+  steps = [];
+  fits = λ kind names x. let none = none_lacking kind names x in omega (arith, none);
+  is_plan = record { makes = λ t h. elim h [ ]; sets = λ t h. elim h [ ]; removes = λ t h. elim h [ ]; whole = λ t h. elim h [ ]; gone = λ t h. elim h [ ]; in_order = tt };
+  run = refl;
+}
+
+restored : (plan : Ports) (workers : ℕ) (capacities : List ℕ) → IsRestored plan workers capacities empty_switch.written empty_switch
+unfolding IsStrictlySortedBy
+restored plan workers capacities = record {
+  written = empty_switch.written;
+  keys = [];
+  popped = record { taken = refl; keys = λ k. inl (record { row = refl; waiting = λ o. refl }) };
+  none = λ k o. refl;
+  all = λ k. inl refl;
+  rising = tt;
+  waits = [];
+  pass = (refl, refl);
+}
+
+pub restarted : (plan : Ports) (workers : ℕ) (capacities : List ℕ) → AreServiceEvents plan workers capacities new_service ((None, first) ∷ (None, second) ∷ (None, third) ∷ (None, last) ∷ [])
+unfolding restored
+restarted plan workers capacities = (
+  OfRestart first (record { warm = refl; core = refl }),
+  (
+    OfList second (record { before = refl; warm = refl; core = refl; seen = refl }),
+    (
+      OfRestore third (record { before = refl; warm = refl; view = empty_switch; restored = restored plan workers capacities; machine = refl; written = refl; to_sync = refl; made = refl; objects = refl; mode = mode.Hitless; planned = nothing_planned capacities }),
+      (
+        OfFinish last (record { before = refl; warm = refl; none = refl; stands = []; into = λ u h. elim h.1 [ ]; back = λ u i h. elim h [ ]; laid = laid-none (listed []) (λ i t h. h); machine = refl; written = refl; to_sync = refl; made = refl; objects = refl }),
+        tt,
+      ),
+    ),
+  ),
+)

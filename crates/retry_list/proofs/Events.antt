@@ -1,0 +1,55 @@
+-- the order of events
+use Rattle.std.proofs.Common.{◌≡◌, true, refl, sym, ap, ◌∙◌, Ordering}
+use Rattle.std.specs.BTreeMap.{is_at}
+use Rattle.std.specs.Cmp.{IsTotalOrder}
+use Rattle.std.specs.Ordering.{is_eq}
+use Rattle.std.specs.declared.cmp.Ordering.TheVariants.{Less, Equal, Greater}
+use Rattle.std.proofs.lemmas.Cmp.{eq_by_cmp_equiv}
+use Rattle.std.proofs.lemmas.Map.Lookups.{CmpEqualImpliesEq, exact_unsigned}
+use Rattle.table_schema.proofs.Keys.{key_exact}
+use Rattle.sai_types.specs.declared.kind.Kind.{Kind}
+use Rattle.sai_types.specs.declared.kind.Kind.TheVariants as kind
+use Rattle.sai_types.specs.contracts.kind.KindOrd.TheImpl as kind_ord
+use Rattle.retry_list.specs.declared.event.Event.{Event}
+use Rattle.retry_list.specs.declared.event.Event.TheVariants.{Applied, Gone, Freed, Ended}
+use Rattle.retry_list.specs.contracts.event.EventOrd.TheImpl.Laws as event_laws
+use Rattle.retry_list.specs.Event.{event_cmp}
+
+kind_exact : CmpEqualImpliesEq kind_ord.ghosts.cmp
+kind_exact kind.Port kind.Port h = refl
+kind_exact kind.Vlan kind.Vlan h = refl
+kind_exact kind.BridgePort kind.BridgePort h = refl
+kind_exact kind.VlanMember kind.VlanMember h = refl
+kind_exact kind.Rif kind.Rif h = refl
+kind_exact kind.OwnAddress kind.OwnAddress h = refl
+kind_exact kind.Neighbor kind.Neighbor h = refl
+kind_exact kind.NextHop kind.NextHop h = refl
+kind_exact kind.Group kind.Group h = refl
+kind_exact kind.GroupMember kind.GroupMember h = refl
+kind_exact kind.Route kind.Route h = refl
+kind_exact x y h = cc
+
+-- events that compare equal are equal
+pub event_exact : CmpEqualImpliesEq event_cmp
+event_exact (Applied k) (Applied j) h = ap Applied (key_exact k j h)
+event_exact (Gone k) (Gone j) h = ap Gone (key_exact k j h)
+event_exact (Freed a) (Freed b) h = ap Freed (kind_exact a b h)
+event_exact (Ended m) (Ended n) h = ap Ended (exact_unsigned m n h)
+event_exact x y h = cc
+
+pub event_total : IsTotalOrder event_cmp
+event_total = event_laws.total-law
+
+tied : (r : Ordering) → is_eq r ≡ true → r ≡ Equal
+tied Less h = cc
+tied Equal h = refl
+tied Greater h = cc
+
+pub same_event : (e f : Event) → is_at (event_cmp e) f ≡ true → e ≡ f
+same_event e f h = event_exact e f (tied (event_cmp e f) h)
+
+pub event-itself : (e : Event) → is_at (event_cmp e) e ≡ true
+event-itself e = (eq_by_cmp_equiv event_total).refl e
+
+pub event-turned : (e f : Event) → is_at (event_cmp e) f ≡ is_at (event_cmp f) e
+event-turned e f = (eq_by_cmp_equiv event_total).symm e f

@@ -1,0 +1,5 @@
+pub mod Keyed
+pub mod Events
+pub mod Filed
+pub mod Indexed
+pub mod Woken

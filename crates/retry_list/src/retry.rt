@@ -1,0 +1,147 @@
+// The list of the rows that wait.
+ghost use Rattle.std.specs.Prelude.{◌≡◌, ◌≤◌, [], length, IfOk, IsOkAnd, OnOk, OnErr, vec_capacity};
+ghost use Rattle.std.specs.List.Sorted.{IsStrictlySortedBy};
+ghost use Rattle.table_schema.specs.Fields.{HasRisingKeys};
+ghost use Rattle.table_schema.specs.Key.{key_cmp};
+ghost use Rattle.retry_list.specs.Index.{IsIndexed};
+ghost use Rattle.retry_list.specs.Reasons.{left_asleep, with_reason, without_all, without_reason, woken_keys};
+
+use crate::Event;
+use crate::index::Index;
+use std::alloc::Global;
+use std::collections::{BTreeMap, BTreeSet, btree_map};
+use std::marker::Model;
+use switch_model::Wait;
+use swss_types::OutOfMemory;
+use table_schema::Key;
+
+/// The keys whose rows wait, each with its reason, in key order. What an event wakes is found without going over the others.
+#[derive(Debug, Drop)]
+pub struct Retry {
+    reasons: BTreeMap<Key, Wait>,
+    index: Index,
+    alloc: Global,
+}
+
+impl Model for Retry {
+    ghost use Rattle.std.specs.Prelude.{List};
+    ghost use Rattle.table_schema.specs.declared.key.Key.{Key};
+    ghost use Rattle.switch_model.specs.declared.wait.Wait.{Wait};
+    ghost use Rattle.retry_list.specs.Index.{IsIndexed};
+
+    ghost Value = { List (Key × Wait) };
+
+    ghost view = { λ r. r.reasons.entries };
+
+    ghost invariant = { λ r. IsIndexed r.reasons.entries r.index };
+}
+
+impl Retry {
+    /// No key.
+    pub fn new(alloc: Global) -> Retry
+        ensures { result ≡ [] }
+    {
+        Retry {
+            reasons: BTreeMap::new(alloc),
+            index: Index::new(alloc),
+            alloc,
+        }
+    }
+
+    /// Puts a key on the list with its reason, in the place of the one that it has.
+    pub fn put(&mut self, key: Key, wait: Wait) -> Result<(), OutOfMemory>
+        ensures ok { OnOk result (self.new ≡ with_reason self.old key wait) }
+        ensures err { OnErr result (self.new ≡ self.old) }
+    {
+        put(&mut self.reasons, &mut self.index, key, wait)
+    }
+
+    /// Takes a key off the list, if it is there.
+    pub fn forget(&mut self, key: &Key)
+        ensures { self.new ≡ without_reason self.old key.now }
+    {
+        forget(&mut self.reasons, &mut self.index, key);
+    }
+
+    /// Takes the keys off the list whose reasons are about an event, and gives them in key order. It takes a logarithm of the
+    /// keys on the list for each of them, and one more.
+    pub fn woken(&mut self, event: &Event) -> Result<Vec<Key>, OutOfMemory>
+        ensures woken { IfOk result (λ keys. keys.items ≡ woken_keys event.now self.old) }
+        ensures rise { IfOk result (λ keys. IsStrictlySortedBy key_cmp keys.items) }
+        ensures left { OnOk result (self.new ≡ left_asleep event.now self.old) }
+        ensures err { OnErr result (self.new ≡ self.old) }
+    {
+        // It says that the keys rise.
+        let _rising = self.reasons.len();
+        let room = Vec::with_capacity(self.alloc, self.index.count(event))?;
+        let keys = self.index.clear(event);
+        take_off(&mut self.reasons, keys, room)
+    }
+
+    /// The keys on the list with their reasons, in key order.
+    pub fn list(&self) -> btree_map::Iter<'_, Key, Wait>
+        ensures rest { result ≡ self.now }
+        ensures rising { HasRisingKeys key_cmp self.now }
+    {
+        self.reasons.iter()
+    }
+}
+
+/// Gives a key its reason, and files it under the event that this is about.
+fn put(
+    reasons: &mut BTreeMap<Key, Wait>,
+    index: &mut Index,
+    key: Key,
+    wait: Wait,
+) -> Result<(), OutOfMemory>
+    requires indexed { IsIndexed reasons.old.entries index.old }
+    ensures ok { OnOk result (reasons.new.entries ≡ with_reason reasons.old.entries key wait) }
+    ensures err { OnErr result (reasons.new.entries ≡ reasons.old.entries) }
+    ensures indexed { IsIndexed reasons.new.entries index.new }
+{
+    let event = Event::of(wait.copy()?);
+    let name = key.copy()?;
+    index.file(event.copy()?, name.copy()?)?;
+    match reasons.insert(key, wait) {
+        Ok(None) => Ok(()),
+        Ok(Some(old)) => {
+            index.unfile_unless(&Event::of(old), &event, &name);
+            Ok(())
+        }
+        Err(_) => {
+            index.unfile(&event, &name);
+            Err(OutOfMemory)
+        }
+    }
+}
+
+/// Takes a key's reason, and the key out from under the event that this is about.
+fn forget(reasons: &mut BTreeMap<Key, Wait>, index: &mut Index, key: &Key)
+    requires indexed { IsIndexed reasons.old.entries index.old }
+    ensures gone { reasons.new.entries ≡ without_reason reasons.old.entries key.now }
+    ensures indexed { IsIndexed reasons.new.entries index.new }
+{
+    match reasons.remove(key) {
+        Some(wait) => index.unfile(&Event::of(wait), key),
+        None => {}
+    }
+}
+
+/// Takes keys off the list, and gives them in the room that was made for them.
+fn take_off(
+    reasons: &mut BTreeMap<Key, Wait>,
+    keys: BTreeSet<Key>,
+    room: Vec<Key>,
+) -> Result<Vec<Key>, OutOfMemory>
+    requires room { (room.items ≡ []) × (length keys.keys ≤ vec_capacity room) }
+    ensures given { IsOkAnd result (λ woken. woken.items ≡ keys.keys) }
+    ensures rise { IsStrictlySortedBy key_cmp keys.keys }
+    ensures left { reasons.new.entries ≡ without_all reasons.old.entries keys.keys }
+{
+    let mut woken = room;
+    for key in keys {
+        reasons.remove(&key);
+        woken.push(key)?;
+    }
+    Ok(woken)
+}

@@ -1,0 +1,301 @@
+-- a key that nothing hinders may begin, and there is room for it or a first kind lacks it
+use Rattle.std.proofs.Common.{◌≡◌, ◌⊎◌, ◌+◌, ◌<◌, ◌≤◌, ◌∷◌, ◌∙◌, inl, inr, ℕ, zero, suc, Bool, true, false, List, [], Option, None, Some, get_or, is_some, refl, sym, ap, ap₂, subst, arith}
+use Rattle.std.proofs.lemmas.Bool.{and_parts, cases_order}
+use Rattle.table_schema.specs.Names.{names_of}
+use Rattle.table_schema.specs.Plan.{IsPlan, Ports}
+use Rattle.table_schema.specs.declared.key.Key.{Key}
+use Rattle.table_schema.specs.declared.row.Row.{Row}
+use Rattle.sai_types.specs.declared.ids.Rid.{Rid}
+use Rattle.sai_types.specs.declared.kind.Kind.{Kind}
+use Rattle.sai_types.specs.declared.kind.Kind.TheVariants as kind
+use Rattle.sai_types.specs.declared.thing.Thing.{Thing}
+use Rattle.sai_types.specs.declared.thing.Thing.TheVariants as thing
+use Rattle.sai_types.specs.contracts.thing.ThingEq.TheImpl.Laws as equal_thing
+use Rattle.sai_types.specs.Alike.{IsIn}
+use Rattle.sai_types.specs.Objects.{level, used}
+use Rattle.sai_types.specs.Refusal.{capacity_of}
+use Rattle.switch_model.specs.Desired.{have_rows}
+use Rattle.switch_model.specs.Good.{TypedRows}
+use Rattle.row_layout.specs.Operations.{Change, going, own_changes, same_thing, uses_of}
+use Rattle.row_layout.specs.Rows as owner
+use Rattle.row_layout.specs.Rows.{Owner}
+use Rattle.row_layout.specs.Shared.{shared_things}
+use Rattle.switch_machine.specs.Consistent.{IsUsedOrRetired}
+use Rattle.switch_machine.specs.Events.{IsSafe, SwitchState}
+use Rattle.switch_machine.specs.Flights.{Fits, Flight, HasChangeOf, IsFirm, IsRow, IsShared, IsUser, StandsIn}
+use Rattle.switch_machine.specs.Operations.{MayBegin, built_first}
+use Rattle.switch_machine.specs.Places.{HasRoomFor, makes, places_kept}
+use Rattle.switch_machine.specs.Reasons.{IsInTheWay, IsPrepared, LacksRoom}
+use Rattle.switch_machine.specs.Written.{good_of}
+use Rattle.switch_machine.proofs.Equal.{thing-exact}
+use Rattle.switch_machine.proofs.Kept.{no_makes}
+use Rattle.switch_machine.proofs.Sequence.{IsShort, uses_short}
+use Rattle.switch_machine.proofs.Single.{kind_at, kind_low, kinds}
+use Rattle.switch_machine.proofs.Splits.{IsSplit, owner_split, use_row_in}
+use Rattle.switch_machine.proofs.Tabled.{are_shared_by, tabled}
+use Rattle.switch_machine.proofs.Running.{some_owner}
+
+abbrev IsOr : Type 0 → Type 0
+IsOr X = X ⊎ (X → ⊥)
+
+-- whether a thing stands
+thing_split : (t u : Thing) → IsOr (t ≡ u)
+thing_split t u = by (same_thing t u) refl
+  where
+    by : (b : Bool) → same_thing t u ≡ b → IsOr (t ≡ u)
+    by true e = inl (thing-exact t u e)
+    by false e = inr (λ h. true_false (sym (equal_thing.laws-law.refl t) ∙ ap (same_thing t) h ∙ e))
+      where
+        true_false : true ≡ false → ⊥
+        true_false h = cc
+
+listed_split : (xs : List (Rid × Thing)) (u : Thing) → IsOr ((i : Rid) × IsIn (i, u) xs)
+listed_split [] u = inr (λ h. h.1)
+listed_split (x ∷ xs) u = by (thing_split x.1 u) (listed_split xs u)
+  where
+    pair : Rid → Thing → Rid × Thing
+    pair i t = (i, t)
+
+    by : IsOr (x.1 ≡ u) → IsOr ((i : Rid) × IsIn (i, u) xs) → IsOr ((i : Rid) × IsIn (i, u) (x ∷ xs))
+    by (inl e) _ = inl (x.0, inl (ap (pair x.0) (sym e)))
+    by (inr apart) (inl (i, h)) = inl (i, inr h)
+    by (inr apart) (inr out) = inr (λ h. neither h.0 h.1)
+      where
+        neither : (i : Rid) → ((i, u) ≡ x) ⊎ IsIn (i, u) xs → ⊥
+        neither i (inl e) = apart (sym (ap (λ (y : Rid × Thing). y.1) e))
+        neither i (inr h) = out (i, h)
+
+-- what is shared has a thing
+first_shared : (o : Owner) → IsShared o → (u : Thing) × IsIn u (shared_things o)
+first_shared (owner.OfRow k) h = elim h [ ]
+first_shared (owner.Bridge lane) h = (thing.BridgePort lane, inl refl)
+first_shared (owner.Own ip) h = (thing.Own ip, inl refl)
+first_shared (owner.Group hops) h = (thing.Group hops, inl refl)
+
+owner_in_split : (o : Owner) (os : List Owner) → IsShort os → IsOr (IsIn o os)
+owner_in_split o os (inl e) = inr (λ h. subst (IsIn o) e h)
+owner_in_split o os (inr (p, e)) = by (owner_split o p)
+  where
+    by : IsSplit o p → IsOr (IsIn o os)
+    by (inl same) = inl (subst (IsIn o) (sym e) (inl same))
+    by (inr apart) = inr (λ h. only (subst (IsIn o) e h))
+      where
+        only : IsIn o (p ∷ []) → ⊥
+        only (inl same) = apart same
+        only (inr none) = none
+
+all_have : (rows : TypedRows) (ks : List Key) (p : Key) → have_rows rows ks ≡ true → IsIn p ks → (r : Row) × (rows p ≡ Some r)
+all_have rows [] p h g = elim g [ ]
+all_have rows (k ∷ ks) p h (inr g) = all_have rows ks p (and_parts (is_some (rows k)) (have_rows rows ks) h).1 g
+all_have rows (k ∷ ks) p h (inl e) = by (rows k) refl (and_parts (is_some (rows k)) (have_rows rows ks) h).0
+  where
+    by : (o : Option Row) → rows k ≡ o → is_some (rows k) ≡ true → (r : Row) × (rows p ≡ Some r)
+    by None at t = let z = sym (ap is_some at) ∙ t in absurd cc
+    by (Some r) at t = (r, ap rows e ∙ at)
+
+none_owner : {X : Type 0} (o : Owner) → None ≡ Some o → X
+none_owner o h = absurd cc
+
+module _ (plan : Ports) (is : IsPlan plan) (workers : ℕ) (capacities : List ℕ) (s : SwitchState) (kept : IsSafe plan workers capacities s) (w : ℕ) (idle : s.machine.board.flights w ≡ None) (k : Key) (prepared : IsPrepared plan s k) (clear : (v : ℕ) → IsInTheWay plan s.machine k (good_of plan s.written k) v → ⊥) (fits : (r : Row) → good_of plan s.written k ≡ Some r → Fits plan k r) where
+  abbrev pub new : Option Row
+  new = good_of plan s.written k
+
+  abbrev pub was : List Owner
+  was = uses_of plan k (s.machine.board.applied k)
+
+  abbrev pub now : List Owner
+  now = uses_of plan k new
+
+  -- what it has to leave
+  pub record Leaving : Type 0 where
+    pub leaves : Option Owner
+    pub apart : (o : Owner) → leaves ≡ Some o → IsIn o was × (IsIn o now → ⊥)
+    pub covers : (o : Owner) → IsIn o was → IsIn o now ⊎ (leaves ≡ Some o)
+
+  pub leaving : Leaving
+  leaving = by (uses_short plan k (s.machine.board.applied k))
+    where
+      by : IsShort was → Leaving
+      by (inl e) = record { leaves = None; apart = λ o h. none_owner o h; covers = λ o h. elim (subst (IsIn o) e h) [ ] }
+      by (inr (p, e)) = of (owner_in_split p now (uses_short plan k new))
+        where
+          one : (o : Owner) → IsIn o was → o ≡ p
+          one o h = only (subst (IsIn o) e h)
+            where
+              only : IsIn o (p ∷ []) → o ≡ p
+              only (inl same) = same
+              only (inr none) = elim none [ ]
+
+          of : IsOr (IsIn p now) → Leaving
+          of (inl shares) = record { leaves = None; apart = λ o h. none_owner o h; covers = λ o h. inl (subst (λ z. IsIn z now) (sym (one o h)) shares) }
+          of (inr leaves) = record {
+            leaves = Some p;
+            apart = λ o h. let same = some_owner p o h in (subst (λ z. IsIn z was) same (subst (IsIn p) (sym e) (inl refl)), λ g. leaves (subst (λ z. IsIn z now) (sym same) g));
+            covers = λ o h. inr (ap Some (sym (one o h)));
+          }
+
+  -- nobody builds or retires what the new row shares
+  free_by : (o : Owner) (n : Option Row) → new ≡ n → IsIn o (uses_of plan k n) → (v : ℕ) (g : Flight) → s.machine.board.flights v ≡ Some g → (HasChangeOf plan (s.machine.due v) o → ⊥) × (g.retires ≡ Some o → ⊥)
+  free_by o None e h v g at = elim h [ ]
+  free_by o (Some r) e h v g at = (
+    λ touched. clear v (subst (λ z. IsInTheWay plan s.machine k z v) (sym e) (g, at, inr (o, h, inl touched))),
+    λ retires. clear v (subst (λ z. IsInTheWay plan s.machine k z v) (sym e) (g, at, inr (o, h, inr retires))),
+  )
+
+  free : (o : Owner) → IsIn o now → (v : ℕ) (g : Flight) → s.machine.board.flights v ≡ Some g → (HasChangeOf plan (s.machine.due v) o → ⊥) × (g.retires ≡ Some o → ⊥)
+  free o h = free_by o new refl h
+
+  -- what it has to build
+  pub record Building : Type 0 where
+    pub builds : Option Owner
+    pub built : (o : Owner) → builds ≡ Some o → IsIn o now × ((q : Key) → IsUser plan s.machine.board q o → ⊥)
+    pub found : builds ≡ None → (o : Owner) → IsIn o now → (q : Key) × IsUser plan s.machine.board q o
+
+  pub building : Building
+  building = by (uses_short plan k new)
+    where
+      by : IsShort now → Building
+      by (inl e) = record { builds = None; built = λ o h. none_owner o h; found = λ _ o h. elim (subst (IsIn o) e h) [ ] }
+      by (inr (p, e)) = of (listed_split s.machine.stands first.0)
+        where
+          there : IsIn p now
+          there = subst (IsIn p) (sym e) (inl refl)
+
+          shared : IsShared p
+          shared = let r = use_row_in plan k new p there in are_shared_by plan is k r.0 p r.2
+
+          first : (u : Thing) × IsIn u (shared_things p)
+          first = first_shared p shared
+
+          user : IsUsedOrRetired plan s.machine.board p → (q : Key) × IsUser plan s.machine.board q p
+          user (inl h) = h
+          user (inr (v, g, at, retires)) = absurd ((free p there v g at).1 retires)
+
+          of : IsOr (StandsIn s.machine first.0) → Building
+          of (inl stands) = record {
+            builds = None;
+            built = λ o h. none_owner o h;
+            found = λ _ o h. subst (λ z. (q : Key) × IsUser plan s.machine.board q z) (sym (only o (subst (IsIn o) e h))) (user (kept.sound.held p first.0 stands ((tabled plan is).shared p first.0 first.1) shared).1);
+          }
+            where
+              only : (o : Owner) → IsIn o (p ∷ []) → o ≡ p
+              only o (inl same) = same
+              only o (inr none) = elim none [ ]
+          of (inr absent) = record {
+            builds = Some p;
+            built = λ o h. subst (λ z. IsIn z now × ((q : Key) → IsUser plan s.machine.board q z → ⊥)) (some_owner p o h) (there, λ q u. absent (kept.sound.whole q p first.0 u (λ v g at touched. (free p there v g at).0 touched) first.1));
+            found = λ h. absurd (some_not p h);
+          }
+            where
+              some_not : (o : Owner) → Some o ≡ None → ⊥
+              some_not o h = cc
+
+  abbrev pub flight : Flight
+  flight = record { key = k; new = new; leaves = leaving.leaves; retires = None }
+
+  abbrev pub due : List Change
+  due = built_first building.builds (own_changes plan k (s.machine.board.applied k) new)
+
+  firm : (p : Key) (r : Row) → new ≡ Some r → IsIn p (names_of k r) → IsFirm s.machine.board p
+  firm p r e h = let x = all_have s.machine.board.applied (names_of k r) p (prepared.named r e) h in record {
+    row = x.0;
+    applied = x.1;
+    stays = λ v g at same none. clear v (subst (λ z. IsInTheWay plan s.machine k z v) (sym e) (g, at, inl (none, subst (λ z. IsIn z (names_of k r)) (sym same) h)));
+  }
+
+  unnamed : new ≡ None → (q : Key) (r : Row) → IsRow s.machine.board q r → IsIn k (names_of q r) → ⊥
+  unnamed e q r (inl at) h = prepared.unheld e q r at h
+  unnamed e q r (inr (v, g, at, same, brings)) h = clear v (subst (λ z. IsInTheWay plan s.machine k z v) (sym e) (g, at, (r, brings, subst (λ z. IsIn k (names_of z r)) (sym same) h)))
+
+  pub may-begin : MayBegin plan s.machine w flight due
+  may-begin = record {
+    idle = idle;
+    rests = prepared.rests;
+    fit = fits;
+    named = firm;
+    unnamed = unnamed;
+    free = free;
+    none = refl;
+    leaves = leaving.apart;
+    covers = leaving.covers;
+    operation = record { builds = building.builds; is = refl; built = building.built; found = building.found };
+  }
+
+  -- ---- room
+
+  abbrev IsRoomy : Kind → Type 0
+  IsRoomy low = 0 < makes low due → used s.objects low + places_kept workers s.machine low + makes low due ≤ capacity_of capacities low
+
+  abbrev IsFirstLacking : Kind → Type 0
+  IsFirstLacking low = (0 < makes low due) × (capacity_of capacities low < used s.objects low + places_kept workers s.machine low + makes low due) × ((lower : Kind) → level lower < level low → IsRoomy lower)
+
+  roomy_split : (low : Kind) → IsRoomy low ⊎ ((0 < makes low due) × (capacity_of capacities low < used s.objects low + places_kept workers s.machine low + makes low due))
+  roomy_split low = by (cases_order (makes low due) 0) (cases_order (used s.objects low + places_kept workers s.machine low + makes low due) (capacity_of capacities low))
+    where
+      by : (makes low due ≡ 0) ⊎ ((makes low due < 0) ⊎ (0 < makes low due)) → ((used s.objects low + places_kept workers s.machine low + makes low due) ≡ capacity_of capacities low) ⊎ (((used s.objects low + places_kept workers s.machine low + makes low due) < capacity_of capacities low) ⊎ (capacity_of capacities low < (used s.objects low + places_kept workers s.machine low + makes low due))) → IsRoomy low ⊎ ((0 < makes low due) × (capacity_of capacities low < used s.objects low + places_kept workers s.machine low + makes low due))
+      by (inl none) _ = inl (λ some. absurd (omega (arith, none, some)))
+      by (inr (inl less)) _ = inl (λ some. absurd (omega (arith, less)))
+      by (inr (inr some)) (inl same) = inl (λ _. omega (arith, same))
+      by (inr (inr some)) (inr (inl less)) = inl (λ _. omega (arith, less))
+      by (inr (inr some)) (inr (inr more)) = inr (some, more)
+
+  search_kinds : (n : ℕ) → ((low : Kind) → level low < n → IsRoomy low) ⊎ ((low : Kind) × IsFirstLacking low)
+  search_kinds zero = inl (λ low h. absurd (omega (arith, h)))
+  search_kinds (suc n) = by (search_kinds n)
+    where
+      is_at : (low : Kind) → level low ≡ n → low ≡ get_or kinds n kind.Port
+      is_at low e = sym (kind_at low) ∙ ap (λ z. get_or kinds z kind.Port) e
+
+      by : ((low : Kind) → level low < n → IsRoomy low) ⊎ ((low : Kind) × IsFirstLacking low) → ((low : Kind) → level low < suc n → IsRoomy low) ⊎ ((low : Kind) × IsFirstLacking low)
+      by (inr found) = inr found
+      by (inl below) = of (roomy_split (get_or kinds n kind.Port))
+        where
+          place : (low : Kind) → level low < suc n → (level low ≡ n) ⊎ ((level low < n) ⊎ (n < level low)) → IsRoomy (get_or kinds n kind.Port) → IsRoomy low
+          place low h (inl e) roomy = subst IsRoomy (sym (is_at low e)) roomy
+          place low h (inr (inl less)) roomy = below low less
+          place low h (inr (inr more)) roomy = absurd (omega (arith, h, more))
+
+          lower_than : (low : Kind) → level low < level (get_or kinds n kind.Port) → (level (get_or kinds n kind.Port) ≡ n) ⊎ ((level (get_or kinds n kind.Port) < n) ⊎ (n < level (get_or kinds n kind.Port))) → IsRoomy low ⊎ ((n < level (get_or kinds n kind.Port)))
+          lower_than low h (inl e) = inl (below low (omega (arith, h, e)))
+          lower_than low h (inr (inl less)) = inl (below low (omega (arith, h, less)))
+          lower_than low h (inr (inr more)) = inr more
+
+          of : IsRoomy (get_or kinds n kind.Port) ⊎ ((0 < makes (get_or kinds n kind.Port) due) × (capacity_of capacities (get_or kinds n kind.Port) < used s.objects (get_or kinds n kind.Port) + places_kept workers s.machine (get_or kinds n kind.Port) + makes (get_or kinds n kind.Port) due)) → ((low : Kind) → level low < suc n → IsRoomy low) ⊎ ((low : Kind) × IsFirstLacking low)
+          of (inl roomy) = inl (λ low h. place low h (cases_order (level low) n) roomy)
+          of (inr (some, many)) = inr (get_or kinds n kind.Port, (some, many, λ low h. lower low h (lower_than low h (cases_order (level (get_or kinds n kind.Port)) n))))
+            where
+              lower : (low : Kind) → level low < level (get_or kinds n kind.Port) → IsRoomy low ⊎ (n < level (get_or kinds n kind.Port)) → IsRoomy low
+              lower low h (inl roomy) = roomy
+              lower low h (inr more) = absurd (omega (arith, more, kind_low n))
+
+  all_below : (low : Kind) → level low < 11
+  all_below kind.Port = omega arith
+  all_below kind.Vlan = omega arith
+  all_below kind.BridgePort = omega arith
+  all_below kind.VlanMember = omega arith
+  all_below kind.Rif = omega arith
+  all_below kind.OwnAddress = omega arith
+  all_below kind.Neighbor = omega arith
+  all_below kind.NextHop = omega arith
+  all_below kind.Group = omega arith
+  all_below kind.GroupMember = omega arith
+  all_below kind.Route = omega arith
+
+  none_made : (low : Kind) → new ≡ None → makes low due ≡ 0
+  none_made low e = ap (makes low) (ap₂ built_first (no_build building.builds refl) (ap (own_changes plan k (s.machine.board.applied k)) e)) ∙ taken (s.machine.board.applied k)
+    where
+      no_build : (b : Option Owner) → building.builds ≡ b → building.builds ≡ None
+      no_build None h = h
+      no_build (Some o) h = elim (subst (λ z. IsIn o (uses_of plan k z)) e (building.built o h).0) [ ]
+
+      taken : (old : Option Row) → makes low (own_changes plan k old None) ≡ 0
+      taken None = refl
+      taken (Some a) = no_makes low (going plan k a)
+
+  pub room-or-none : HasRoomFor workers capacities s.objects s.machine due ⊎ ((low : Kind) × LacksRoom plan workers capacities s k low)
+  room-or-none = by new refl (search_kinds 11)
+    where
+      by : (n : Option Row) → new ≡ n → ((low : Kind) → level low < 11 → IsRoomy low) ⊎ ((low : Kind) × IsFirstLacking low) → HasRoomFor workers capacities s.objects s.machine due ⊎ ((low : Kind) × LacksRoom plan workers capacities s k low)
+      by n e (inl roomy) = inl (λ low some. roomy low (all_below low) some)
+      by None e (inr (low, (some, many, lower))) = let none = none_made low e in absurd (omega (arith, none, some))
+      by (Some r) e (inr (low, (some, many, lower))) = inr (low, record { worker = w; flight = flight; due = due; begins = may-begin; is = refl; row = r; new = e; good = e; some = some; many = many; lower = lower })

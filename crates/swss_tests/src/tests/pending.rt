@@ -1,0 +1,206 @@
+// What waits where memory is refused. `rt try --test --fail-alloc N` refuses the Nth allocation of the tests: a write that is
+// refused memory is as if it had not come, and a pop that is refused it takes nothing. Without the flag no allocation is
+// refused, and the test goes over writes that are merged, dropped and taken out.
+use producer_table::{KeyOp, Waiting};
+use std::alloc::Global;
+use std::process::Abort;
+use swss_types::{OutOfMemory, Text};
+use table_schema::{Fields, Key};
+
+/// The most fields of a key in these tests.
+const MOST: usize = 40;
+
+/// What is done to the VLAN of a number.
+#[derive(Clone, Copy)]
+enum Act {
+    /// Gives the fields of some numbers, from the second number to before the third, a value.
+    Set(u16, u64, u64, u64),
+    Del(u16),
+    /// Takes out at most so many keys.
+    Pop(u64),
+}
+
+/// What is to wait of a VLAN. 0 is no value.
+#[derive(Clone, Copy)]
+struct Want {
+    there: bool,
+    dropped: bool,
+    values: [u64; MOST],
+}
+
+const DROPPED: Want = Want {
+    there: true,
+    dropped: true,
+    values: [0; MOST],
+};
+
+const NONE: Want = Want {
+    there: false,
+    dropped: false,
+    values: [0; MOST],
+};
+
+fn text(rt: &impl Abort, alloc: Global, bytes: &str) -> Result<Text, OutOfMemory> {
+    Ok(Text::new(alloc, bytes.as_bytes())?.expect(rt, "a text"))
+}
+
+/// The fields of some numbers with this value.
+fn fields(
+    rt: &impl Abort,
+    alloc: Global,
+    from: u64,
+    to: u64,
+    value: u64,
+) -> Result<Fields, OutOfMemory> {
+    let mut fields = Fields::new(alloc);
+    for number in from..to {
+        let name = format!(in alloc; "f{number:02}")?;
+        let value = format!(in alloc; "{value}")?;
+        fields.put(
+            text(rt, alloc, name.as_str())?,
+            text(rt, alloc, value.as_str())?,
+        )?;
+    }
+    Ok(fields)
+}
+
+/// What was taken out, a key behind the other.
+fn shown(alloc: Global, ops: &[KeyOp]) -> Result<Vec<u8>, OutOfMemory> {
+    let mut out = Vec::new(alloc);
+    for op in ops {
+        op.key.write(&mut out)?;
+        if op.dropped {
+            out.extend_from_slice(b" dropped")?;
+        }
+        if let Some(fields) = &op.fields {
+            for (name, value) in fields.items() {
+                out.push(b' ')?;
+                out.extend_from_slice(name.bytes())?;
+                out.push(b'=')?;
+                out.extend_from_slice(value.bytes())?;
+            }
+        }
+        out.push(b';')?;
+    }
+    Ok(out)
+}
+
+/// Appends what is to be taken out of a VLAN.
+fn want_op(
+    alloc: Global,
+    out: &mut Vec<u8>,
+    number: usize,
+    want: &Want,
+) -> Result<(), OutOfMemory> {
+    out.extend_from_slice(format!(in alloc; "VLAN_TABLE:Vlan{number}")?.as_bytes())?;
+    if want.dropped {
+        out.extend_from_slice(b" dropped")?;
+    }
+    for (number, value) in want.values.iter().enumerate() {
+        if *value != 0 {
+            out.extend_from_slice(format!(in alloc; " f{number:02}={value}")?.as_bytes())?;
+        }
+    }
+    out.push(b';')?;
+    Ok(())
+}
+
+/// What is to be taken out of the first keys, at most so many.
+fn want_pop(alloc: Global, wants: &mut [Want], max: u64) -> Result<Vec<u8>, OutOfMemory> {
+    let mut out = Vec::new(alloc);
+    let mut left = max;
+    for (number, want) in wants.iter_mut().enumerate() {
+        if want.there && left > 0 {
+            want_op(alloc, &mut out, number, want)?;
+            *want = NONE;
+            left -= 1;
+        }
+    }
+    Ok(out)
+}
+
+/// Gives the fields of some numbers a value.
+fn fill(want: &mut Want, from: u64, to: u64, value: u64) {
+    want.there = true;
+    for (number, held) in want.values.iter_mut().enumerate() {
+        if from <= number as u64 && (number as u64) < to {
+            *held = value;
+        }
+    }
+}
+
+/// One act, and what is wanted after it.
+fn act_once(
+    rt: &impl Abort,
+    alloc: Global,
+    act: Act,
+    waiting: &mut Waiting,
+    wants: &mut [Want],
+) -> Result<(), OutOfMemory> {
+    match act {
+        Act::Set(number, from, to, value) => {
+            let fields = fields(rt, alloc, from, to, value)?;
+            if waiting.set(Key::Vlan(number), fields).is_ok()
+                && let Some(want) = wants.get_mut(number as usize)
+            {
+                fill(want, from, to, value);
+            }
+        }
+        Act::Del(number) => {
+            if waiting.del(Key::Vlan(number)).is_ok()
+                && let Some(want) = wants.get_mut(number as usize)
+            {
+                *want = DROPPED;
+            }
+        }
+        Act::Pop(max) => {
+            let ops = match waiting.pop(max) {
+                Ok(ops) => ops,
+                Err(OutOfMemory) => waiting.pop(max).expect(rt, "the next try"),
+            };
+            let wanted = want_pop(alloc, wants, max)?;
+            assert_eq!(rt; shown(alloc, ops.as_slice())?.as_slice(), wanted.as_slice());
+        }
+    }
+    assert!(rt; waiting.is_empty() == wants.iter().all(|want| !want.there));
+    Ok(())
+}
+
+/// Writes and pops, each compared with what is wanted.
+fn act_each(rt: &impl Abort, alloc: Global) -> Result<(), OutOfMemory> {
+    let mut waiting = Waiting::new(alloc);
+    let mut wants = [NONE; 4];
+    for act in [
+        Act::Pop(128),
+        Act::Set(1, 0, 1, 1),
+        Act::Del(1),
+        Act::Set(1, 1, 2, 2),
+        Act::Pop(128),
+        Act::Pop(128),
+        Act::Set(3, 0, 40, 3),
+        Act::Set(2, 5, 6, 4),
+        Act::Del(0),
+        Act::Set(3, 30, 34, 5),
+        Act::Pop(0),
+        Act::Pop(1),
+        Act::Set(2, 5, 7, 6),
+        Act::Pop(1),
+        Act::Del(3),
+        Act::Set(0, 1, 2, 7),
+        Act::Set(1, 1, 2, 8),
+        Act::Pop(2),
+        Act::Pop(u64::MAX),
+    ] {
+        act_once(rt, alloc, act, &mut waiting, &mut wants)?;
+    }
+    Ok(())
+}
+
+#[test]
+fn nothing_is_lost_where_memory_is_refused(rt: HostRuntime) {
+    let alloc = rt.alloc();
+    // An Err comes of a refusal outside the calls that are looked at.
+    if act_each(&rt, alloc).is_err() {
+        assert!(rt; act_each(&rt, alloc).is_ok(), "the next try");
+    }
+}
