@@ -2,6 +2,7 @@
 use Rattle.std.proofs.Common.{◌≡◌, ◌⊎◌, ◌+◌, ◌<◌, ◌∷◌, ◌++◌, ◌∙◌, inl, inr, ℕ, zero, suc, Bool, true, false, List, [], length, Option, None, Some, refl, sym, ap, ap₂, subst, arith}
 use Rattle.table_schema.specs.Plan.{IsPlan, Ports}
 use Rattle.table_schema.specs.declared.key.Key.{Key}
+use Rattle.table_schema.specs.declared.row.Row.{Row}
 use Rattle.sai_types.specs.declared.ids.Rid.{Rid}
 use Rattle.sai_types.specs.declared.body.Call.{Call}
 use Rattle.sai_types.specs.declared.thing.Thing.{Thing}
@@ -16,11 +17,10 @@ use Rattle.row_layout.specs.Operations.{Change, Make, Set, Take, shared_going, t
 use Rattle.row_layout.specs.Rows as owner
 use Rattle.row_layout.specs.Rows.{Owner}
 use Rattle.switch_machine.specs.Changes.{IsCall, changed_by}
-use Rattle.switch_machine.specs.Events.{AreAnswers, Due, Ended, Follows, IsAnswer, IsDueCall, IsGiven, IsQuiet, IsSafe, Left, Retires, SwitchState, after_answers}
+use Rattle.switch_machine.specs.Events.{AreAnswers, Due, Ended, Follows, IsAnswer, IsBegin, IsDueCall, IsGiven, IsQuiet, IsSafe, Left, Retires, SwitchState, after_answers}
 use Rattle.switch_machine.specs.Flights.{Flight, IsShared, IsUser, Machine}
-use Rattle.switch_machine.specs.Operations.{IsUsedByOthers}
-use Rattle.switch_machine.specs.Steps.{finished, left, moved, parted}
-use Rattle.switch_machine.proofs.Kept.{kept-answers}
+use Rattle.switch_machine.specs.Steps.{finished, left, moved, parted, started}
+use Rattle.switch_machine.proofs.Kept.{kept-answers, kept-event}
 use Rattle.switch_machine.proofs.Reasoned.{has-call}
 use Rattle.switch_machine.proofs.Running.{one_flight}
 use Rattle.switch_machine.proofs.Splits.{IsPut, IsSplit, New, Old, key_split, name_split, put_at, put_by, use_row_in}
@@ -125,66 +125,68 @@ module _ (plan : Ports) (is : IsPlan plan) (workers : ℕ) (capacities : List �
   abbrev pub IsStill : Machine → Type 0
   IsStill m = (v : ℕ) (g : Flight) → m.board.flights v ≡ Some g → ⊥
 
-  module _ (s : SwitchState) (kept : IsSafe plan workers capacities s) (m : Machine) (board : m.board ≡ s.machine.board) where
-    -- an operation of which this is due goes on, or ends
-    follow : (w : ℕ) (f : Flight) (n : ℕ) → w < workers → m.board.flights w ≡ Some f → ((v : ℕ) (g : Flight) → m.board.flights v ≡ Some g → v ≡ w) → (d : List Change) → m.due w ≡ d → (l : Option Owner) → f.leaves ≡ l → length d + going_length l ≡ n → (later : Machine) × Follows plan w m later × (IsStill later ⊎ Single later n)
-    follow w f n below there only (c ∷ cs) e l leaves size = (m, Due c cs e, inr (record { worker = w; below = below; flight = f; there = there; only = only; some = subst (λ z. 0 < length z) (sym e) (omega arith); size = subst (λ z. length z + going_length f.leaves ≡ n) (sym e) (subst (λ z. length (c ∷ cs) + going_length z ≡ n) (sym leaves) size) }))
-    follow w f n below there only [] e None leaves size = (finished m w f, Ended f (record { flying = there; done = e; left = leaves }), inl (λ v g at. by v g (put_by w v None m.board.flights (Some g) at)))
+  module _ (m : Machine) (w : ℕ) (f : Flight) (below : w < workers) (there : m.board.flights w ≡ Some f) (only : (v : ℕ) (g : Flight) → m.board.flights v ≡ Some g → v ≡ w) where
+    one : (v : ℕ) (g : Flight) → m.board.flights v ≡ Some g → g.key ≡ f.key
+    one v g at = ap (λ (z : Flight). z.key) (one_flight g f (sym at ∙ ap m.board.flights (only v g at) ∙ there))
+
+    ended : (v : ℕ) (g : Flight) → IsPut w v None m.board.flights (Some g) → ⊥
+    ended v g (New same h) = no_flight g h
+    ended v g (Old other at) = other (only v g at)
+
+    left_one : (h : Flight) (retires : Option Owner) (due : List Change) (v : ℕ) (g : Flight) → (left m w h retires due).board.flights v ≡ Some g → v ≡ w
+    left_one h retires due v g at = by (put_by w v (Some (parted h retires)) m.board.flights (Some g) at)
       where
-        by : (v : ℕ) (g : Flight) → IsPut w v None m.board.flights (Some g) → ⊥
-        by v g (New same h) = no_flight g h
-        by v g (Old other at) = other (only v g at)
-    follow w f n below there only [] e (Some o) leaves size = by (used-by plan workers capacities s kept f.key o) refl
-      where
-        one : (v : ℕ) (g : Flight) → m.board.flights v ≡ Some g → g.key ≡ f.key
-        one v g at = ap (λ (z : Flight). z.key) (one_flight g f (sym at ∙ ap m.board.flights (only v g at) ∙ there))
+        by : IsPut w v (Some (parted h retires)) m.board.flights (Some g) → v ≡ w
+        by (New same e) = same
+        by (Old other at) = only v g at
 
-        same_row : (q : Key) → m.board.applied q ≡ s.machine.board.applied q
-        same_row q = ap (λ z. z.applied q) board
+    left_ended : (h : Flight) (retires : Option Owner) (due : List Change) (v : ℕ) (g : Flight) → IsPut w v None (left m w h retires due).board.flights (Some g) → ⊥
+    left_ended h retires due v g (New same e) = no_flight g e
+    left_ended h retires due v g (Old other at) = other (left_one h retires due v g at)
 
-        by : (b : Bool) → used-by plan workers capacities s kept f.key o ≡ b → (later : Machine) × Follows plan w m later × (IsStill later ⊎ Single later n)
-        by true used =
-            let u = (others-use plan workers capacities s kept f.key).yes o used in (
-              finished (left m w f f.retires []) w (parted f f.retires),
-              Left f o (record { leaving = record { flying = there; done = e; leaves = leaves }; other = u.0; apart = u.2; user = inr ((λ v g at is_it. u.2 (sym is_it ∙ one v g at)), subst (λ z. IsIn o (uses_of plan u.0 z)) (sym (same_row u.0 ∙ u.3)) u.4) }),
-              inl (λ v g at. ended v g (put_by w v None (left m w f f.retires []).board.flights (Some g) at)),
-            )
-          where
-            ended : (v : ℕ) (g : Flight) → IsPut w v None (left m w f f.retires []).board.flights (Some g) → ⊥
-            ended v g (New same h) = no_flight g h
-            ended v g (Old other at) = before (put_by w v (Some (parted f f.retires)) m.board.flights (Some g) at)
-              where
-                before : IsPut w v (Some (parted f f.retires)) m.board.flights (Some g) → ⊥
-                before (New same h) = other same
-                before (Old apart at) = other (only v g at)
-        by false not = (
-          left m w f (Some o) (take_all (shared_going o) []),
-          Retires f o (record { leaving = record { flying = there; done = e; leaves = leaves }; last = last }),
-          inr (record {
-            worker = w;
-            below = below;
-            flight = parted f (Some o);
-            there = put_at w w (Some (parted f (Some o))) m.board.flights refl;
-            only = λ v g at. now v g (put_by w v (Some (parted f (Some o))) m.board.flights (Some g) at);
-            some = subst (λ z. 0 < length z) (sym (put_at w w (take_all (shared_going o) []) m.due refl)) (some_going o shared);
-            size = subst (λ z. length z + 0 ≡ n) (sym (put_at w w (take_all (shared_going o) []) m.due refl)) (omega (arith, size));
-          }),
-        )
-          where
-            last : (q : Key) → IsUser plan m.board q o → q ≡ f.key
-            last q (inl (v, g, at, is_it, counts)) = sym is_it ∙ one v g at
-            last q (inr (rests, h)) = apart_or (key_split q f.key)
-              where
-                apart_or : IsSplit q f.key → q ≡ f.key
-                apart_or (inl e) = e
-                apart_or (inr apart) = let r = use_row_in plan q (m.board.applied q) o h in absurd ((others-use plan workers capacities s kept f.key).no o not q r.0 apart (sym (same_row q) ∙ r.1) r.2)
+    -- what follows is rest, or the operation goes on
+    pub goes-on : ((o : Owner) → f.leaves ≡ Some o → IsShared o) → (later : Machine) → Follows plan w m later → IsStill later ⊎ Single later (length (m.due w) + going_length f.leaves)
+    goes-on shared _ (Due c cs e) = inr (record { worker = w; below = below; flight = f; there = there; only = only; some = subst (λ z. 0 < length z) (sym e) (omega arith); size = refl })
+    goes-on shared _ (Ended g x) = inl (λ v h at. ended v h (put_by w v None m.board.flights (Some h) at))
+    goes-on shared _ (Left g o x) = inl (λ v h at. left_ended g g.retires [] v h (put_by w v None (left m w g g.retires []).board.flights (Some h) at))
+    goes-on shared _ (Retires g o x) =
+        let same : f.leaves ≡ Some o = ap (λ (z : Flight). z.leaves) (one_flight f g (sym there ∙ x.leaving.flying)) ∙ x.leaving.leaves in
+        inr (record {
+          worker = w;
+          below = below;
+          flight = parted g (Some o);
+          there = put_at w w (Some (parted g (Some o))) m.board.flights refl;
+          only = left_one g (Some o) (take_all (shared_going o) []);
+          some = subst (λ z. 0 < length z) (sym (put_at w w (take_all (shared_going o) []) m.due refl)) (some_going o (shared o same));
+          size = subst (λ z. length z + 0 ≡ length (m.due w) + going_length f.leaves) (sym (put_at w w (take_all (shared_going o) []) m.due refl)) (omega (arith, ap length x.leaving.done, ap going_length same));
+        })
 
-            now : (v : ℕ) (g : Flight) → IsPut w v (Some (parted f (Some o))) m.board.flights (Some g) → v ≡ w
-            now v g (New same h) = same
-            now v g (Old other at) = only v g at
+    module _ (s : SwitchState) (kept : IsSafe plan workers capacities s) (same_row : (q : Key) → m.board.applied q ≡ s.machine.board.applied q) where
+      -- something follows
+      pub follow : (d : List Change) → m.due w ≡ d → (l : Option Owner) → f.leaves ≡ l → (later : Machine) × Follows plan w m later
+      follow (c ∷ cs) e l leaves = (m, Due c cs e)
+      follow [] e None leaves = (finished m w f, Ended f (record { flying = there; done = e; left = leaves }))
+      follow [] e (Some o) leaves = by (used-by plan workers capacities s kept f.key o) refl
+        where
+          by : (b : Bool) → used-by plan workers capacities s kept f.key o ≡ b → (later : Machine) × Follows plan w m later
+          by true used =
+              let u = (others-use plan workers capacities s kept f.key).yes o used in (
+                finished (left m w f f.retires []) w (parted f f.retires),
+                Left f o (record { leaving = record { flying = there; done = e; leaves = leaves }; other = u.0; apart = u.2; user = inr ((λ v g at is_it. u.2 (sym is_it ∙ one v g at)), subst (λ z. IsIn o (uses_of plan u.0 z)) (sym (same_row u.0 ∙ u.3)) u.4) }),
+              )
+          by false not = (left m w f (Some o) (take_all (shared_going o) []), Retires f o (record { leaving = record { flying = there; done = e; leaves = leaves }; last = last }))
+            where
+              last : (q : Key) → IsUser plan m.board q o → q ≡ f.key
+              last q (inl (v, g, at, is_it, counts)) = sym is_it ∙ one v g at
+              last q (inr (rests, h)) = apart_or (key_split q f.key)
+                where
+                  apart_or : IsSplit q f.key → q ≡ f.key
+                  apart_or (inl e) = e
+                  apart_or (inr apart) = let r = use_row_in plan q (m.board.applied q) o h in absurd ((others-use plan workers capacities s kept f.key).no o not q r.0 apart (sym (same_row q) ∙ r.1) r.2)
 
-            shared : IsShared o
-            shared = let was = (kept.sound.board.leaves w f o (ap (λ z. z.flights w) (sym board) ∙ there) leaves).0 in (tabled plan is).are_shared f.key was.row o was.used
+  -- what a row shares is shared
+  use_shared : (k : Key) (o : Option Row) (p : Owner) → IsIn p (uses_of plan k o) → IsShared p
+  use_shared k o p h = let r = use_row_in plan k o p h in (tabled plan is).are_shared k r.0 p r.2
 
   -- ---- to the end
 
@@ -212,12 +214,15 @@ module _ (plan : Ports) (is : IsPlan plan) (workers : ℕ) (capacities : List �
           let flight : y.flight ≡ x.flight = one_flight y.flight x.flight (sym y.flying ∙ ap s.machine.board.flights at ∙ x.there) in
           let due : s.machine.due x.worker ≡ y.change ∷ y.rest = ap s.machine.due (sym at) ∙ y.due in
           let size : length y.rest + going_length y.flight.leaves ≡ n = omega (arith, subst (λ v. length (y.change ∷ y.rest) + going_length v.leaves ≡ suc n) (sym flight) (subst (λ v. length v + going_length x.flight.leaves ≡ suc n) due x.size)) in
-          let f = follow s kept m refl y.worker y.flight n y.below y.flying (λ v g there. x.only v g there ∙ sym at) y.rest (put_at y.worker y.worker y.rest s.machine.due refl) y.flight.leaves refl size in
+          let only : (v : ℕ) (g : Flight) → m.board.flights v ≡ Some g → v ≡ y.worker = λ v g there. x.only v g there ∙ sym at in
+          let f = follow m y.worker y.flight y.below y.flying only s kept (λ q. refl) (m.due y.worker) refl y.flight.leaves refl in
+          let due_is : m.due y.worker ≡ y.rest = put_at y.worker y.worker y.rest s.machine.due refl in
+          let on = goes-on m y.worker y.flight y.below y.flying only (λ o leaves. let was = (kept.sound.board.leaves y.worker y.flight o y.flying leaves).0 in (tabled plan is).are_shared y.flight.key was.row o was.used) f.0 f.1 in
           record {
             call = call;
             then = record { machine = f.0; written = s.written; to_sync = s.to_sync; made = made_after s.made call; objects = after_call (s.made + 1) s.objects call };
             answer = record { next = y; id = z.id; given = z.given; stands = z.later; into = z.into; back = z.back; follows = f.1; written = refl; to_sync = refl; made = refl; objects = refl };
-            is_so = f.2;
+            is_so = subst (λ z. IsStill f.0 ⊎ Single f.0 z) (ap (λ z. length z + going_length y.flight.leaves) due_is ∙ size) on;
           }
 
   -- from where one operation is under way, its answers lead to rest
@@ -228,3 +233,14 @@ module _ (plan : Ports) (is : IsPlan plan) (workers : ℕ) (capacities : List �
       let y = answer s n kept x in
       let z = to-rest n y.then (kept-answers plan is workers capacities s y.then kept y.call y.answer) y.is_so in
       ((y.call, y.then) ∷ z.0, (y.answer, z.1), z.2)
+
+  -- an operation that begins at rest can be run to its end
+  pub runs-to-end : (s t : SwitchState) → IsSafe plan workers capacities s → IsQuiet s → (x : IsBegin plan workers capacities s t) → (es : List (Call Rid × SwitchState)) × AreAnswers plan workers t es × IsQuiet (after_answers t es)
+  runs-to-end s t kept quiet x =
+      let m : Machine = started s.machine x.worker x.flight x.due in
+      let on = goes-on m x.worker x.flight x.below (put_at x.worker x.worker (Some x.flight) s.machine.board.flights refl) (λ v g at. by v g (put_by x.worker v (Some x.flight) s.machine.board.flights (Some g) at)) (λ o leaves. use_shared x.flight.key (s.machine.board.applied x.flight.key) o (x.begins.leaves o leaves).0) t.machine x.follows in
+      to-rest (length (m.due x.worker) + going_length x.flight.leaves) t (kept-event plan is workers capacities s t None kept (inr (inr (inr x)))) on
+    where
+      by : (v : ℕ) (g : Flight) → IsPut x.worker v (Some x.flight) s.machine.board.flights (Some g) → v ≡ x.worker
+      by v g (New same e) = same
+      by v g (Old other at) = absurd (quiet v g at)

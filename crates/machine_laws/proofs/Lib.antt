@@ -21,5 +21,6 @@ pub mod Dated
 pub mod Possible
 pub mod Places
 pub mod Holding
-pub mod Progress
 pub mod Completing
+pub mod Progress
+pub mod Existing

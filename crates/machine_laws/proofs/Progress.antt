@@ -1,5 +1,5 @@
 -- at rest a key to sync has a reason to wait, or an operation of it begins
-use Rattle.std.proofs.Common.{◌≡◌, ◌⊎◌, ◌<◌, ◌∷◌, ◌∙◌, inl, inr, ℕ, Bool, true, false, List, [], Option, None, Some, is_some, if◌then◌else◌, ◌&&◌, refl, sym, ap, subst}
+use Rattle.std.proofs.Common.{◌≡◌, ◌⊎◌, ◌<◌, ◌∷◌, ◌∙◌, inl, inr, ℕ, true, List, [], Option, None, Some, is_some, if◌then◌else◌, ◌&&◌, refl, sym, ap, subst}
 use Rattle.table_schema.specs.Names.{names_of}
 use Rattle.table_schema.specs.Plan.{IsPlan, Ports}
 use Rattle.table_schema.specs.declared.key.Key.{Key}
@@ -10,10 +10,9 @@ use Rattle.switch_model.specs.Desired.{have_rows}
 use Rattle.switch_model.specs.Good.{TypedRows}
 use Rattle.switch_model.specs.Marks.{IsHeldBy, first_missing}
 use Rattle.switch_model.specs.declared.wait.Wait.TheVariants as wait
-use Rattle.row_layout.specs.Operations.{Change, uses_of}
-use Rattle.row_layout.specs.Rows.{Owner}
-use Rattle.switch_machine.specs.Events.{Due, Ended, Follows, HasLeft, IsBegin, IsQuiet, IsSafe, Left, Retires, SwitchState}
-use Rattle.switch_machine.specs.Flights.{Flight, IsUser, Machine}
+use Rattle.row_layout.specs.Operations.{Change}
+use Rattle.switch_machine.specs.Events.{HasLeft, IsBegin, IsQuiet, IsSafe, SwitchState}
+use Rattle.switch_machine.specs.Flights.{Flight, Machine}
 use Rattle.switch_machine.specs.Next.{HasReason}
 use Rattle.switch_machine.specs.Operations.{MayBegin}
 use Rattle.switch_machine.specs.Places.{HasRoomFor}
@@ -21,14 +20,14 @@ use Rattle.switch_machine.specs.Reasons.{LacksRoom}
 use Rattle.switch_machine.specs.Steps.{started}
 use Rattle.switch_machine.specs.Written.{good_of}
 use Rattle.switch_machine.proofs.Reasoned.{closed}
-use Rattle.switch_machine.proofs.Running.{one_flight}
-use Rattle.switch_machine.proofs.Splits.{IsPut, IsSplit, New, Old, key_split, put_at, put_by, use_row_in}
+use Rattle.switch_machine.proofs.Splits.{IsPut, IsSplit, New, Old, key_split, put_at, put_by}
 use Rattle.machine_laws.specs.Reading.{IsOnSwitch}
+use Rattle.machine_laws.proofs.Completing.{follow}
 use Rattle.machine_laws.proofs.Holding.{held-or}
 use Rattle.machine_laws.proofs.Places.{room-gone, room-or}
 use Rattle.machine_laws.proofs.Possible.{begin-free}
 use Rattle.machine_laws.proofs.Rows.{has_row, no_some}
-use Rattle.machine_laws.proofs.Sharing.{AreKeys, others-use, used-by, written-once}
+use Rattle.machine_laws.proofs.Sharing.{AreKeys, written-once}
 
 -- ---- a key leaves those to sync
 
@@ -80,41 +79,9 @@ module _ (plan : Ports) (is : IsPlan plan) (workers : ℕ) (capacities : List �
   abbrev rows : TypedRows
   rows = s.machine.board.applied
 
-  -- ---- what follows a beginning
-
-  module _ (f : Flight) (due : List Change) where
-    abbrev m : Machine
-    m = started s.machine w f due
-
-    flying : m.board.flights w ≡ Some f
-    flying = put_at w w (Some f) s.machine.board.flights refl
-
-    one : (v : ℕ) (g : Flight) → m.board.flights v ≡ Some g → f ≡ g
-    one v g at = by (put_by w v (Some f) s.machine.board.flights (Some g) at)
-      where
-        by : IsPut w v (Some f) s.machine.board.flights (Some g) → f ≡ g
-        by (New same e) = one_flight f g e
-        by (Old other there) = absurd (quiet v g there)
-
-    other_user : (o : Owner) (q : Key) (r : Row) → (q ≡ f.key → ⊥) → rows q ≡ Some r → IsIn o (uses_of plan q (rows q)) → IsUser plan m.board q o
-    other_user o q r apart at h = inr ((λ v g there same. apart (sym same ∙ sym (ap (λ (z : Flight). z.key) (one v g there)))), h)
-
-    last_user : (o : Owner) → used-by plan workers capacities s kept f.key o ≡ false → (q : Key) → IsUser plan m.board q o → q ≡ f.key
-    last_user o not q (inl (v, g, there, same, counts)) = sym same ∙ sym (ap (λ (z : Flight). z.key) (one v g there))
-    last_user o not q (inr (rests, h)) = by (key_split q f.key)
-      where
-        by : IsSplit q f.key → q ≡ f.key
-        by (inl e) = e
-        by (inr apart) = let r = use_row_in plan q (rows q) o h in absurd ((others-use plan workers capacities s kept f.key).no o not q r.0 apart r.1 r.2)
-
-    follow : (d : List Change) → due ≡ d → (l : Option Owner) → f.leaves ≡ l → (later : Machine) × Follows plan w m later
-    follow (c ∷ cs) e l leaves = (m, Due c cs (put_at w w due s.machine.due refl ∙ e))
-    follow [] e None leaves = (_, Ended f (record { flying = flying; done = put_at w w due s.machine.due refl ∙ e; left = leaves }))
-    follow [] e (Some o) leaves = by (used-by plan workers capacities s kept f.key o) refl
-      where
-        by : (b : Bool) → used-by plan workers capacities s kept f.key o ≡ b → (later : Machine) × Follows plan w m later
-        by true used = let u = (others-use plan workers capacities s kept f.key).yes o used in (_, Left f o (record { leaving = record { flying = flying; done = put_at w w due s.machine.due refl ∙ e; leaves = leaves }; other = u.0; apart = u.2; user = other_user o u.0 u.1 u.2 u.3 (subst (λ z. IsIn o (uses_of plan u.0 z)) (sym u.3) u.4) }))
-        by false not = (_, Retires f o (record { leaving = record { flying = flying; done = put_at w w due s.machine.due refl ∙ e; leaves = leaves }; last = last_user o not }))
+  one_begun : (f : Flight) (v : ℕ) (g : Flight) → IsPut w v (Some f) s.machine.board.flights (Some g) → v ≡ w
+  one_begun f v g (New same e) = same
+  one_begun f v g (Old other at) = absurd (quiet v g at)
 
   module _ (k : Key) (there : IsIn k s.to_sync) (on : IsOnSwitch k) where
     abbrev Starts : Type 0
@@ -122,7 +89,8 @@ module _ (plan : Ports) (is : IsPlan plan) (workers : ℕ) (capacities : List �
 
     starts : (f : Flight) (due : List Change) → f.key ≡ k → f.new ≡ good_of plan s.written k → MayBegin plan s.machine w f due → HasRoomFor workers capacities s.objects s.machine due → Starts
     starts f due same new begins room =
-        let y = follow f due due refl f.leaves refl in (
+        let m : Machine = started s.machine w f due in
+        let y = follow plan is workers capacities m w f below (put_at w w (Some f) s.machine.board.flights refl) (λ v g at. one_begun f v g (put_by w v (Some f) s.machine.board.flights (Some g) at)) s kept (λ q. refl) (m.due w) refl f.leaves refl in (
           record { machine = y.0; written = s.written; to_sync = without_key f.key s.to_sync; made = s.made; objects = s.objects },
           record {
             worker = w;

@@ -20,7 +20,7 @@ ghost use Rattle.switch_model.specs.Promises.{EffectsAreLegal, MarksAreTrue, goo
 ghost use Rattle.switch_model.specs.Sound.{AreWithin};
 ghost use Rattle.switch_model.specs.Turns.{TakeTurns};
 ghost use Rattle.row_layout.specs.Operations.{Change};
-ghost use Rattle.switch_machine.specs.Events.{AreEvents, IsBegin, IsQuiet, IsSafe, SwitchState, after_events, calls_of};
+ghost use Rattle.switch_machine.specs.Events.{AreAnswers, AreEvents, IsBegin, IsQuiet, IsSafe, SwitchState, after_answers, after_events, calls_of};
 ghost use Rattle.switch_machine.specs.Flights.{Fits, Flight, IsResting, IsRow};
 ghost use Rattle.switch_machine.specs.Next.{HasReason};
 ghost use Rattle.switch_machine.specs.Operations.{MayBegin};
@@ -43,15 +43,17 @@ pub fn four_turns()
 {}
 
 /// The calls of an operation that runs alone are those of the changes of its key's rows, one for each, in their order; then the
-/// key has its good row, and every other row is as it was.
+/// key has its good row, and every other row is as it was. Each operation that begins at rest can be run to its end.
 pub fn operations_make_their_calls()
-    ensures { (plan : Ports) (workers : ℕ) (capacities : List ℕ) (k : Key) (s t : SwitchState) (calls : List (Call Rid)) → IsPlan plan → IsSafe plan workers capacities s → IsQuiet s → RunsAlone plan workers capacities k s t calls → (z : Situation) × Completes plan (good_of plan s.written) k (situation s) z calls × IsSituationOf z t }
+    ensures ends { (plan : Ports) (workers : ℕ) (capacities : List ℕ) (s t : SwitchState) (x : IsBegin plan workers capacities s t) → IsPlan plan → IsSafe plan workers capacities s → IsQuiet s → (es : List (Call Rid × SwitchState)) × AreAnswers plan workers t es × IsQuiet (after_answers t es) }
+    ensures calls { (plan : Ports) (workers : ℕ) (capacities : List ℕ) (k : Key) (s t : SwitchState) (calls : List (Call Rid)) → IsPlan plan → IsSafe plan workers capacities s → IsQuiet s → RunsAlone plan workers capacities k s t calls → (z : Situation) × Completes plan (good_of plan s.written) k (situation s) z calls × IsSituationOf z t }
 {}
 
 /// A settling is a list of events of the machine. Its rows and its calls are those of turns over rows: key by key, in order, and
 /// no other; and it ends safe and quiet, with nothing written. Where it ends a mark can list what waits: each key to sync with
-/// its reason, and no key that the last turn did not leave.
+/// its reason, and no key that the last turn did not leave. From rest there are turns over keys to sync that were read.
 pub fn settlings_are_turns()
+    ensures exist { (plan : Ports) (workers : ℕ) (capacities : List ℕ) (s : SwitchState) (keys : List Key) → IsPlan plan → 0 < workers → IsSafe plan workers capacities s → IsQuiet s → AreInKeyOrder keys → ((k : Key) → IsIn k keys → IsIn k s.to_sync) → ((k : Key) → IsIn k keys → IsOnSwitch k) → (n : ℕ) × (t : SwitchState) × (left : List Key) × (calls : List (Call Rid)) × AreMachineTurns plan workers capacities n s keys t left calls }
     ensures events { (plan : Ports) (workers : ℕ) (capacities : List ℕ) (n : ℕ) (s t : SwitchState) (keys left : List Key) (calls : List (Call Rid)) → AreMachineTurns plan workers capacities n s keys t left calls → (es : List (Option (Call Rid) × SwitchState)) × AreEvents plan workers capacities s es × (after_events s es ≡ t) × (calls_of es ≡ calls) }
     ensures calls { (plan : Ports) (workers : ℕ) (capacities : List ℕ) (n : ℕ) (s t : SwitchState) (keys left : List Key) (calls : List (Call Rid)) → IsPlan plan → IsSafe plan workers capacities s → IsQuiet s → AreMachineTurns plan workers capacities n s keys t left calls → (z : Situation) × AreTurnsWith plan capacities (good_of plan s.written) n (situation s) keys z left calls × IsSituationOf z t × IsSafe plan workers capacities t × IsQuiet t × (t.written ≡ s.written) }
     ensures turns { (plan : Ports) (capacities : List ℕ) (good : TypedRows) (n : ℕ) (s t : Situation) (keys left : List Key) (calls : List (Call Rid)) → AreTurnsWith plan capacities good n s keys t left calls → TakeTurns plan capacities good n s.applied keys t.applied left }
