@@ -212,12 +212,7 @@ route_ok fields r h =
 module _ (plan : Ports) (applied : TypedRows) (fit : (q : Key) (x : Row) → applied q ≡ Some x → Fits plan q x) (closed : IsClosed applied) where
   port_lane : (port : ℕ) (r : Row) → Fits plan (key.Port port) r → (lane : ℕ) × (lane_of plan port ≡ Some lane)
   port_lane port (row.Port r) h = (first_lane r.lanes, ap (option_map first_lane) h)
-  port_lane port row.Vlan h = elim h [ ]
-  port_lane port (row.Member x) h = elim h [ ]
-  port_lane port row.Intf h = elim h [ ]
-  port_lane port row.Addr h = elim h [ ]
-  port_lane port (row.Neigh x) h = elim h [ ]
-  port_lane port (row.Route x) h = elim h [ ]
+  port_lane port _ h = elim h [ ]
 
   lane_there : (port : ℕ) → is_some (applied (key.Port port)) ≡ true → (lane : ℕ) × (lane_of plan port ≡ Some lane)
   lane_there port h = let r = there (applied (key.Port port)) h in port_lane port r.0 (fit (key.Port port) r.0 r.1)
@@ -233,12 +228,7 @@ module _ (plan : Ports) (applied : TypedRows) (fit : (q : Key) (x : Row) → app
 
   neigh_base : (on : IfName) (ip : Ip) (r : Row) → Fits plan (key.Neigh on ip) r → (b : Base) × (base_of plan on ≡ Some b)
   neigh_base on ip (row.Neigh mac) h = h
-  neigh_base on ip (row.Port x) h = elim h [ ]
-  neigh_base on ip row.Vlan h = elim h [ ]
-  neigh_base on ip (row.Member x) h = elim h [ ]
-  neigh_base on ip row.Intf h = elim h [ ]
-  neigh_base on ip row.Addr h = elim h [ ]
-  neigh_base on ip (row.Route x) h = elim h [ ]
+  neigh_base on ip _ h = elim h [ ]
 
   hop_there : (h : RowHop) → is_some (applied (key.Neigh h.on h.ip)) ≡ true → (x : Hop) × (things.hop_of plan h ≡ Some x)
   hop_there h is =

@@ -20,3 +20,7 @@ pub mod Ordering
 pub mod Dated
 pub mod Possible
 pub mod Places
+pub mod Holding
+pub mod Completing
+pub mod Progress
+pub mod Existing

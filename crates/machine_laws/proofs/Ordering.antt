@@ -1,8 +1,7 @@
 -- the marks of settlings without restarts and faults stand in order, each directly before the end of a round
-use Rattle.std.proofs.Common.{◌≡◌, ◌⊎◌, ◌+◌, ◌∷◌, ◌++◌, ◌∙◌, inl, inr, ℕ, zero, suc, List, [], Option, None, Some, length, refl, sym, ap, subst, arith}
+use Rattle.std.proofs.Common.{◌≡◌, ◌+◌, ◌∷◌, ◌++◌, ◌∙◌, inl, inr, ℕ, suc, List, [], Option, None, Some, length, refl, ap, subst, arith}
 use Rattle.std.proofs.lemmas.List.{length-append}
 use Rattle.switch_model.specs.History.{History, with_end, with_mark}
-use Rattle.switch_model.specs.Marks.{Waiting}
 use Rattle.switch_model.specs.declared.mark.Mark.{Mark}
 use Rattle.switch_model.specs.declared.mark.MarkEvent.{MarkEvent}
 use Rattle.switch_model.specs.declared.mark.MarkEvent.TheVariants as event
@@ -25,14 +24,9 @@ IsFree (Some e) = IsSettledMark e
 may_follow : (before : Option MarkEvent) (e : MarkEvent) → IsFree before → IsSettledMark e → MayFollow before e
 may_follow None (event.Settled waits turns) free is = tt
 may_follow (Some (event.Settled listed n)) (event.Settled waits turns) free is = tt
-may_follow (Some (event.Faulted a b)) e free is = elim free [ ]
-may_follow (Some (event.ApplyBegan mode listed)) e free is = elim free [ ]
-may_follow (Some event.ApplyEnded) e free is = elim free [ ]
-may_follow (Some event.Restarted) e free is = elim free [ ]
-may_follow before (event.Faulted a b) free is = elim is [ ]
-may_follow before (event.ApplyBegan mode listed) free is = elim is [ ]
-may_follow before event.ApplyEnded free is = elim is [ ]
-may_follow before event.Restarted free is = elim is [ ]
+may_follow None _ free is = elim is [ ]
+may_follow (Some (event.Settled listed n)) _ free is = elim is [ ]
+may_follow (Some _) e free is = elim free [ ]
 
 in_order : (before : Option MarkEvent) (marks : List Mark) → IsFree before → AreSettled marks → AreInOrder before marks
 in_order before [] free h = tt
@@ -40,10 +34,7 @@ in_order before (mark ∷ marks) free (one, h) = (may_follow before mark.event f
 
 ends_round : (e : MarkEvent) → IsSettledMark e → EndsRound e
 ends_round (event.Settled waits turns) is = tt
-ends_round (event.Faulted a b) is = tt
-ends_round (event.ApplyBegan mode listed) is = elim is [ ]
-ends_round event.ApplyEnded is = elim is [ ]
-ends_round event.Restarted is = elim is [ ]
+ends_round _ is = elim is [ ]
 
 -- and one mark more, with its end
 ends_more : (n : ℕ) (marks : List Mark) (ends : List ℕ) (mark : Mark) → IsSettledMark mark.event → AreEnded n marks ends → AreEnded n (marks ++ mark ∷ []) (ends ++ (suc (n + length marks)) ∷ [])

@@ -85,7 +85,7 @@ module _ (plan : Ports) (is : IsPlan plan) (workers : ℕ) (capacities : List �
       first_safe : IsSafe plan workers capacities x.first
       first_safe = kept-run plan is workers capacities s ((None, x.first) ∷ []) kept (inr (inr (inr x.starting)), tt)
 
-      ran : Rests plan workers capacities s.written t
+      pub ran : Rests plan workers capacities s.written t
       ran =
           let y = answered x.first x.answers x.are first_safe in
           subst (Rests plan workers capacities s.written) (sym x.last) (record { kept = y.0; quiet = x.quiet; same = y.1 ∙ x.starting.written })

@@ -45,7 +45,7 @@ fields_more ws w k = told-taken w old new (record { taken = refl; rows = λ q. r
     new : Written
     new = record { taken = ws ++ w ∷ []; rows = λ q. None; waiting = λ q o. fields_after w q (fields_at (rows_of ws) q) }
 
-abbrev AreKeys : List Write → List Key
+abbrev pub AreKeys : List Write → List Key
 AreKeys ws = map written_key ws
 
 unwritten : (front ws : List Write) (k : Key) → (IsIn k (AreKeys ws) → ⊥) → fields_at (rows_of (front ++ ws)) k ≡ fields_at (rows_of front) k
@@ -62,7 +62,7 @@ in_take (suc n) [] k h = elim h [ ]
 in_take (suc n) (w ∷ ws) k (inl e) = inl e
 in_take (suc n) (w ∷ ws) k (inr h) = inr (in_take n ws k h)
 
-key_in : (k : Key) (ks : List Key) → IsDecided (IsIn k ks)
+pub key_in : (k : Key) (ks : List Key) → IsDecided (IsIn k ks)
 key_in k ks = by (any_or (λ q. k ≡ q) (λ q. key_split k q) ks)
   where
     by : IsDecided ((q : Key) × IsIn q ks × (k ≡ q)) → IsDecided (IsIn k ks)

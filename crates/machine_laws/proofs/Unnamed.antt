@@ -10,7 +10,7 @@ use Rattle.sai_types.specs.Alike.{IsIn}
 use Rattle.switch_machine.specs.Events.{IsQuiet, with_made_call, Popped, PopsKey, Stays, SwitchState, IsEvent, IsSafe, AreEvents, calls_of, after_events}
 use Rattle.switch_machine.specs.Flights.{IsResting}
 use Rattle.switch_machine.specs.Written.{HasNoWrite}
-use Rattle.machine_laws.specs.Logged.{AreLoggedEvents, ListsKey, LoggedSwitch, LogsMark, TakeNone, after_logged}
+use Rattle.machine_laws.specs.Logged.{AreLoggedEvents, ListsKey, LoggedSwitch, LogsMark, AreNoWritesOf, after_logged}
 use Rattle.machine_laws.specs.Quiet.{ChangesEntry, LeavesAlone, NamesNot, StandsFor, TakesNoWriteOf}
 use Rattle.switch_model.specs.Marks.{written_key}
 use Rattle.machine_laws.proofs.Sharing.{fields_beside}
@@ -65,7 +65,7 @@ module _ (plan : Ports) (is : IsPlan plan) (workers : ℕ) (capacities : List �
   made_front None calls es = ap (λ z. z ++ calls) (append-nil es)
   made_front (Some call) calls es = append_assoc es (call ∷ []) calls
 
-  run_of : (s : LoggedSwitch) (ts : List LoggedSwitch) (run : AreLoggedEvents plan workers capacities s ts) → TakeNone plan workers capacities k s ts run → Run s.switch s.effects (after_logged s ts)
+  run_of : (s : LoggedSwitch) (ts : List LoggedSwitch) (run : AreLoggedEvents plan workers capacities s ts) → AreNoWritesOf plan workers capacities k s ts run → Run s.switch s.effects (after_logged s ts)
   run_of s [] run h = record { events = []; are = tt; last = refl; grown = sym (append-nil s.effects); names = tt }
   run_of s (t ∷ ts) (inl x, run) h =
       let y = run_of t ts run h.1 in
@@ -88,7 +88,7 @@ module _ (plan : Ports) (is : IsPlan plan) (workers : ℕ) (capacities : List �
   run_of s (t ∷ ts) (inr (inr x), run) h = subst (λ z. Run z s.effects (after_logged t ts)) x.switch (subst (λ z. Run t.switch z (after_logged t ts)) x.effects (run_of t ts run h.1))
 
   -- after a mark that doesn't list the key, what stands for its row is neither set nor removed until a write of it is taken
-  pub round-quiet : (s t : LoggedSwitch) (x : LogsMark plan workers capacities s t) (ts : List LoggedSwitch) (run : AreLoggedEvents plan workers capacities t ts) (e : Entry Rid) → IsSafe plan workers capacities t.switch → TakeNone plan workers capacities k t ts run → (ListsKey k x.waits → ⊥) → StandsFor plan k e t.switch.machine → (calls : List (Call Rid)) × ((after_logged t ts).effects ≡ t.effects ++ calls) × StandsFor plan k e (after_logged t ts).switch.machine × ((call : Call Rid) → IsIn call calls → ChangesEntry call e → ⊥)
+  pub round-quiet : (s t : LoggedSwitch) (x : LogsMark plan workers capacities s t) (ts : List LoggedSwitch) (run : AreLoggedEvents plan workers capacities t ts) (e : Entry Rid) → IsSafe plan workers capacities t.switch → AreNoWritesOf plan workers capacities k t ts run → (ListsKey k x.waits → ⊥) → StandsFor plan k e t.switch.machine → (calls : List (Call Rid)) × ((after_logged t ts).effects ≡ t.effects ++ calls) × StandsFor plan k e (after_logged t ts).switch.machine × ((call : Call Rid) → IsIn call calls → ChangesEntry call e → ⊥)
   round-quiet s t x ts run e kept none out stood =
       let y = run_of t ts run none in
       let z = unnamed-rows plan is workers capacities k t.switch y.events e kept y.are y.names (subst (λ (v : SwitchState). HasNoWrite v.written k) (sym x.switch) (x.popped k)) (λ w f at same. subst (λ (v : SwitchState). IsQuiet v) (sym x.switch) x.quiet w f at) (λ h. out (x.all k (subst (λ (v : SwitchState). IsIn k v.to_sync) x.switch h))) stood in

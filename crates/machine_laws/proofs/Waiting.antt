@@ -45,7 +45,7 @@ module _ (plan : Ports) (workers : ℕ) (capacities : List ℕ) where
       let y = idle ks mid t left later more in
       record { few = omega (arith, y.few); same = λ h. absurd (omega (arith, h, y.few)); waits = λ h q at. absurd (omega (arith, h, y.few)) }
 
-  answers_sync : (s : SwitchState) (es : List (Call Rid × SwitchState)) → AreAnswers plan workers s es → (after_answers s es).to_sync ≡ s.to_sync
+  pub answers_sync : (s : SwitchState) (es : List (Call Rid × SwitchState)) → AreAnswers plan workers s es → (after_answers s es).to_sync ≡ s.to_sync
   answers_sync s [] run = refl
   answers_sync s (e ∷ es) run = answers_sync e.1 es run.1 ∙ run.0.to_sync
 

@@ -108,10 +108,10 @@ pub record IsWholeSettling (plan : Ports) (workers : ℕ) (capacities : List ℕ
 -- ---- writes of a key
 
 -- no write of the key is taken
-abbrev pub TakesNone : (plan : Ports) (workers : ℕ) (capacities : List ℕ) (k : Key) (s t : LoggedSwitch) → IsLoggedEvent plan workers capacities s t → Type 0
-TakesNone plan workers capacities k s t (inl x) = written_key x.sent.write ≡ k → ⊥
-TakesNone plan workers capacities k s t (inr x) = Unit {0}
+abbrev pub IsNoWriteOf : (plan : Ports) (workers : ℕ) (capacities : List ℕ) (k : Key) (s t : LoggedSwitch) → IsLoggedEvent plan workers capacities s t → Type 0
+IsNoWriteOf plan workers capacities k s t (inl x) = written_key x.sent.write ≡ k → ⊥
+IsNoWriteOf plan workers capacities k s t (inr x) = Unit {0}
 
-abbrev pub TakeNone : (plan : Ports) (workers : ℕ) (capacities : List ℕ) (k : Key) (s : LoggedSwitch) (ts : List LoggedSwitch) → AreLoggedEvents plan workers capacities s ts → Type 0
-TakeNone plan workers capacities k s [] run = Unit {0}
-TakeNone plan workers capacities k s (t ∷ ts) run = TakesNone plan workers capacities k s t run.0 × TakeNone plan workers capacities k t ts run.1
+abbrev pub AreNoWritesOf : (plan : Ports) (workers : ℕ) (capacities : List ℕ) (k : Key) (s : LoggedSwitch) (ts : List LoggedSwitch) → AreLoggedEvents plan workers capacities s ts → Type 0
+AreNoWritesOf plan workers capacities k s [] run = Unit {0}
+AreNoWritesOf plan workers capacities k s (t ∷ ts) run = IsNoWriteOf plan workers capacities k s t run.0 × AreNoWritesOf plan workers capacities k t ts run.1

@@ -20,14 +20,15 @@ ghost use Rattle.switch_model.specs.Promises.{EffectsAreLegal, MarksAreTrue, goo
 ghost use Rattle.switch_model.specs.Sound.{AreWithin};
 ghost use Rattle.switch_model.specs.Turns.{TakeTurns};
 ghost use Rattle.row_layout.specs.Operations.{Change};
-ghost use Rattle.switch_machine.specs.Events.{AreEvents, IsQuiet, IsSafe, SwitchState, after_events, calls_of};
+ghost use Rattle.switch_machine.specs.Events.{AreAnswers, AreEvents, IsBegin, IsQuiet, IsSafe, SwitchState, after_answers, after_events, calls_of};
 ghost use Rattle.switch_machine.specs.Flights.{Fits, Flight, IsResting, IsRow};
+ghost use Rattle.switch_machine.specs.Next.{HasReason};
 ghost use Rattle.switch_machine.specs.Operations.{MayBegin};
 ghost use Rattle.switch_machine.specs.Places.{HasRoomFor};
 ghost use Rattle.switch_machine.specs.Reasons.{LacksRoom};
 ghost use Rattle.switch_machine.specs.Written.{HasNoWrite, good_of};
 ghost use Rattle.machine_laws.specs.Calls.{AreTurnsWith, Completes, Situation};
-ghost use Rattle.machine_laws.specs.Logged.{AreListed, AreLoggedEvents, IsWholeSettling, ListsKey, LoggedSwitch, LogsMark, TakeNone, after_logged, after_pops, new_switch};
+ghost use Rattle.machine_laws.specs.Logged.{AreListed, AreLoggedEvents, IsWholeSettling, ListsKey, LoggedSwitch, LogsMark, AreNoWritesOf, after_logged, after_pops, new_switch};
 ghost use Rattle.machine_laws.specs.Order.{IsOrdered};
 ghost use Rattle.machine_laws.specs.Quiet.{ChangesEntry, LeavesAlone, NamesNot, StandsFor};
 ghost use Rattle.machine_laws.specs.Reading.{IsOnSwitch};
@@ -42,15 +43,17 @@ pub fn four_turns()
 {}
 
 /// The calls of an operation that runs alone are those of the changes of its key's rows, one for each, in their order; then the
-/// key has its good row, and every other row is as it was.
+/// key has its good row, and every other row is as it was. Each operation that begins at rest can be run to its end.
 pub fn operations_make_their_calls()
-    ensures { (plan : Ports) (workers : ℕ) (capacities : List ℕ) (k : Key) (s t : SwitchState) (calls : List (Call Rid)) → IsPlan plan → IsSafe plan workers capacities s → IsQuiet s → RunsAlone plan workers capacities k s t calls → (z : Situation) × Completes plan (good_of plan s.written) k (situation s) z calls × IsSituationOf z t }
+    ensures ends { (plan : Ports) (workers : ℕ) (capacities : List ℕ) (s t : SwitchState) (x : IsBegin plan workers capacities s t) → IsPlan plan → IsSafe plan workers capacities s → IsQuiet s → (es : List (Call Rid × SwitchState)) × AreAnswers plan workers t es × IsQuiet (after_answers t es) }
+    ensures calls { (plan : Ports) (workers : ℕ) (capacities : List ℕ) (k : Key) (s t : SwitchState) (calls : List (Call Rid)) → IsPlan plan → IsSafe plan workers capacities s → IsQuiet s → RunsAlone plan workers capacities k s t calls → (z : Situation) × Completes plan (good_of plan s.written) k (situation s) z calls × IsSituationOf z t }
 {}
 
 /// A settling is a list of events of the machine. Its rows and its calls are those of turns over rows: key by key, in order, and
 /// no other; and it ends safe and quiet, with nothing written. Where it ends a mark can list what waits: each key to sync with
-/// its reason, and no key that the last turn did not leave.
+/// its reason, and no key that the last turn did not leave. From rest there are turns over keys to sync that were read.
 pub fn settlings_are_turns()
+    ensures exist { (plan : Ports) (workers : ℕ) (capacities : List ℕ) (s : SwitchState) (keys : List Key) → IsPlan plan → 0 < workers → IsSafe plan workers capacities s → IsQuiet s → AreInKeyOrder keys → ((k : Key) → IsIn k keys → IsIn k s.to_sync) → ((k : Key) → IsIn k keys → IsOnSwitch k) → (n : ℕ) × (t : SwitchState) × (left : List Key) × (calls : List (Call Rid)) × AreMachineTurns plan workers capacities n s keys t left calls }
     ensures events { (plan : Ports) (workers : ℕ) (capacities : List ℕ) (n : ℕ) (s t : SwitchState) (keys left : List Key) (calls : List (Call Rid)) → AreMachineTurns plan workers capacities n s keys t left calls → (es : List (Option (Call Rid) × SwitchState)) × AreEvents plan workers capacities s es × (after_events s es ≡ t) × (calls_of es ≡ calls) }
     ensures calls { (plan : Ports) (workers : ℕ) (capacities : List ℕ) (n : ℕ) (s t : SwitchState) (keys left : List Key) (calls : List (Call Rid)) → IsPlan plan → IsSafe plan workers capacities s → IsQuiet s → AreMachineTurns plan workers capacities n s keys t left calls → (z : Situation) × AreTurnsWith plan capacities (good_of plan s.written) n (situation s) keys z left calls × IsSituationOf z t × IsSafe plan workers capacities t × IsQuiet t × (t.written ≡ s.written) }
     ensures turns { (plan : Ports) (capacities : List ℕ) (good : TypedRows) (n : ℕ) (s t : Situation) (keys left : List Key) (calls : List (Call Rid)) → AreTurnsWith plan capacities good n s keys t left calls → TakeTurns plan capacities good n s.applied keys t.applied left }
@@ -91,7 +94,7 @@ pub fn marks_are_true()
 pub fn quiet_rows_stay()
     ensures alone { (plan : Ports) (workers : ℕ) (capacities : List ℕ) (k : Key) (s : SwitchState) (es : List (Option (Call Rid) × SwitchState)) (e : Entry Rid) → IsPlan plan → IsSafe plan workers capacities s → AreEvents plan workers capacities s es → LeavesAlone k s es → IsResting s.machine.board k → (IsIn k s.to_sync → ⊥) → StandsFor plan k e s.machine → IsResting (after_events s es).machine.board k × StandsFor plan k e (after_events s es).machine × ((call : Call Rid) → IsIn call (calls_of es) → ChangesEntry call e → ⊥) }
     ensures unnamed { (plan : Ports) (workers : ℕ) (capacities : List ℕ) (k : Key) (s : SwitchState) (es : List (Option (Call Rid) × SwitchState)) (e : Entry Rid) → IsPlan plan → IsSafe plan workers capacities s → (run : AreEvents plan workers capacities s es) → NamesNot plan workers capacities k s es run → HasNoWrite s.written k → IsResting s.machine.board k → (IsIn k s.to_sync → ⊥) → StandsFor plan k e s.machine → IsResting (after_events s es).machine.board k × StandsFor plan k e (after_events s es).machine × ((call : Call Rid) → IsIn call (calls_of es) → ChangesEntry call e → ⊥) }
-    ensures round { (plan : Ports) (workers : ℕ) (capacities : List ℕ) (k : Key) (s t : LoggedSwitch) (x : LogsMark plan workers capacities s t) (ts : List LoggedSwitch) (run : AreLoggedEvents plan workers capacities t ts) (e : Entry Rid) → IsPlan plan → IsSafe plan workers capacities t.switch → TakeNone plan workers capacities k t ts run → (ListsKey k x.waits → ⊥) → StandsFor plan k e t.switch.machine → (calls : List (Call Rid)) × ((after_logged t ts).effects ≡ t.effects ++ calls) × StandsFor plan k e (after_logged t ts).switch.machine × ((call : Call Rid) → IsIn call calls → ChangesEntry call e → ⊥) }
+    ensures round { (plan : Ports) (workers : ℕ) (capacities : List ℕ) (k : Key) (s t : LoggedSwitch) (x : LogsMark plan workers capacities s t) (ts : List LoggedSwitch) (run : AreLoggedEvents plan workers capacities t ts) (e : Entry Rid) → IsPlan plan → IsSafe plan workers capacities t.switch → AreNoWritesOf plan workers capacities k t ts run → (ListsKey k x.waits → ⊥) → StandsFor plan k e t.switch.machine → (calls : List (Call Rid)) × ((after_logged t ts).effects ≡ t.effects ++ calls) × StandsFor plan k e (after_logged t ts).switch.machine × ((call : Call Rid) → IsIn call calls → ChangesEntry call e → ⊥) }
 {}
 
 /// From the new switch on each row that is applied or to be applied is its key's good row after some number of the writes taken.
@@ -101,11 +104,12 @@ pub fn rows_are_dated()
 
 /// While no operation is under way an operation of a key that was read may begin for any worker, where all that its good row
 /// names is applied, or where it has none and no applied row names it. Where an operation may begin there is room for it, or the
-/// key lacks room for a first kind; a row that goes needs none.
+/// key lacks room for a first kind; a row that goes needs none. So each key to sync has a reason to wait, or begins.
 pub fn keys_may_begin()
     ensures reads { (text : List ℕ) → IsOnSwitch (key_of text) }
     ensures fits { (plan : Ports) (applied : TypedRows) (k : Key) (fields : Pairs) (r : Row) → ((q : Key) (x : Row) → applied q ≡ Some x → Fits plan q x) → IsClosed applied → IsOnSwitch k → good_row plan k (Some fields) ≡ Some r → have_rows applied (names_of k r) ≡ true → Fits plan k r }
     ensures begins { (plan : Ports) (workers : ℕ) (capacities : List ℕ) (s : SwitchState) (w : ℕ) (k : Key) → IsPlan plan → IsSafe plan workers capacities s → IsQuiet s → IsOnSwitch k → ((r : Row) → good_of plan s.written k ≡ Some r → have_rows s.machine.board.applied (names_of k r) ≡ true) → (good_of plan s.written k ≡ None → (q : Key) (r : Row) → s.machine.board.applied q ≡ Some r → IsIn k (names_of q r) → ⊥) → (f : Flight) × (due : List Change) × (f.key ≡ k) × (f.new ≡ good_of plan s.written k) × MayBegin plan s.machine w f due }
     ensures room { (plan : Ports) (workers : ℕ) (capacities : List ℕ) (s : SwitchState) (w : ℕ) (f : Flight) (due : List Change) (row : Row) → MayBegin plan s.machine w f due → f.new ≡ Some row → good_of plan s.written f.key ≡ Some row → HasRoomFor workers capacities s.objects s.machine due ⊎ ((kind : Kind) × LacksRoom plan workers capacities s f.key kind) }
     ensures room_gone { (plan : Ports) (workers : ℕ) (capacities : List ℕ) (s : SwitchState) (w : ℕ) (f : Flight) (due : List Change) → MayBegin plan s.machine w f due → f.new ≡ None → HasRoomFor workers capacities s.objects s.machine due }
+    ensures waits_or_begins { (plan : Ports) (workers : ℕ) (capacities : List ℕ) (s : SwitchState) (w : ℕ) (k : Key) → IsPlan plan → IsSafe plan workers capacities s → IsQuiet s → w < workers → IsIn k s.to_sync → IsOnSwitch k → HasReason plan workers capacities s k ⊎ ((t : SwitchState) × (x : IsBegin plan workers capacities s t) × (x.worker ≡ w) × (x.flight.key ≡ k)) }
 {}

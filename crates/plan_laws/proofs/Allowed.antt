@@ -12,9 +12,9 @@ use Rattle.sai_types.specs.Alike.{IsIn}
 use Rattle.sai_types.specs.Objects.{level}
 use Rattle.sai_types.specs.Names as name
 use Rattle.sai_types.specs.Names.{Meet, Name, Refers, name_kind, name_of, thing_references}
-use Rattle.plan_laws.specs.Plans.{AreInOrder, PlanChange, IsViewPlan, Make, Remove, Set, after_changes, cold_rank, hitless_rank, make_rank, remove_rank, set_rank, subject}
-use Rattle.plan_laws.specs.Views.{AreNamed, LanesApart, ReferWithin}
-use Rattle.plan_laws.proofs.Following.{IsNamed, before, done-in, due-in, in_order-right, new-stands, now-new, old-stands, origin, outcome-named, outcome-new}
+use Rattle.plan_laws.specs.Plans.{AreRanked, PlanChange, IsViewPlan, Make, Remove, Set, stands_after_all, cold_rank, hitless_rank, make_rank, remove_rank, set_rank, subject}
+use Rattle.plan_laws.specs.Views.{HaveOwnNames, LanesApart, ReferWithin}
+use Rattle.plan_laws.proofs.Following.{HasNamed, before, done-in, due-in, ranked-right, new-stands, now-new, old-stands, origin, outcome-named, outcome-new}
 use Rattle.plan_laws.proofs.Deciders.{IsGood, good-names, len_within}
 
 -- ---- what refers is of a higher kind
@@ -74,13 +74,13 @@ remove_less (name.Route p) n good less small = let len = len_within p good in om
 remove_less _ n good less small = omega (arith, less)
 
 -- the numbers that an order needs: what is referred to is made before, and what refers is removed before
-pub record IsSafe (order : PlanChange → ℕ) : Type 0 where
+pub record IsSafeOrder (order : PlanChange → ℕ) : Type 0 where
   pub make_after : (t w : Thing) → IsGood (name_of t) → height (name_of w) < height (name_of t) → height (name_of w) < 10 → order (Make w) < order (Make t)
   pub set_after : (t w : Thing) → height (name_of w) < 10 → order (Make w) < order (Set t)
   pub remove_before : (k m : Name) → IsGood m → height k < height m → height k < 10 → order (Remove m) < order (Remove k)
   pub set_before : (t : Thing) (k : Name) → height k < 10 → order (Set t) < order (Remove k)
 
-pub hitless-safe : IsSafe hitless_rank
+pub hitless-safe : IsSafeOrder hitless_rank
 hitless-safe = record {
   make_after = λ t w good less small. let turns = make_low (name_of w) small in let high = make_high (name_of t) (height (name_of w)) good less small in omega (arith, turns, high);
   set_after = λ t w small. let turns = make_low (name_of w) small in let high = set_high (name_of t) (height (name_of w)) small in omega (arith, turns, high);
@@ -88,7 +88,7 @@ hitless-safe = record {
   set_before = λ t k small. let turns = remove_low k small in let most = set_most (name_of t) in omega (arith, turns, most, small);
 }
 
-pub cold-safe : IsSafe cold_rank
+pub cold-safe : IsSafeOrder cold_rank
 cold-safe = record {
   make_after = λ t w good less small. less;
   set_after = λ t w small. omega (arith, small);
@@ -98,9 +98,9 @@ cold-safe = record {
 
 -- a plan in an order that leads from old things to new ones, where each are told apart and the new ones refer to each other
 pub record IsSafePlan (order : PlanChange → ℕ) (old new : List Thing) (plan : List PlanChange) : Type 0 where
-  pub safe : IsSafe order
-  pub old_named : AreNamed old
-  pub new_named : AreNamed new
+  pub safe : IsSafeOrder order
+  pub old_named : HaveOwnNames old
+  pub new_named : HaveOwnNames new
   pub within : ReferWithin new
   pub lanes : LanesApart old new
   pub is_plan : IsViewPlan order old new plan
@@ -111,7 +111,7 @@ module _ {order : PlanChange → ℕ} {old new : List Thing} {plan : List PlanCh
 
   module _ (done : List PlanChange) (next : PlanChange) (due : List PlanChange) (cut : plan ≡ done ++ (next ∷ due)) where
     abbrev now : Thing → Type 0
-    now = after_changes done stood
+    now = stands_after_all done stood
 
     next_in : IsIn next plan
     next_in = due-in p.is_plan done (next ∷ due) cut next (inl refl)
@@ -119,10 +119,10 @@ module _ {order : PlanChange → ℕ} {old new : List Thing} {plan : List PlanCh
     -- no change that is due comes before the next
     not_before : (d : PlanChange) → IsIn d (next ∷ due) → order next ≤ order d
     not_before d (inl is) = let same : order d ≡ order next = ap order is in omega (arith, same)
-    not_before d (inr i) = ((in_order-right order done (next ∷ due) (subst (AreInOrder order) cut p.is_plan.in_order)).0 d i).0
+    not_before d (inr i) = ((ranked-right order done (next ∷ due) (subst (AreRanked order) cut p.is_plan.in_order)).0 d i).0
 
     -- what a new thing refers to stands where that is made before the next change
-    refers_well : (t : Thing) → IsIn t new → ((w : Thing) → height (name_of w) < height (name_of t) → height (name_of w) < 10 → order (Make w) < order next) → (k : Name) → Refers t k → IsNamed now k
+    refers_well : (t : Thing) → IsIn t new → ((w : Thing) → height (name_of w) < height (name_of t) → height (name_of w) < 10 → order (Make w) < order next) → (k : Name) → Refers t k → HasNamed now k
     refers_well t i late k r =
         let w = p.within.refers t k i r in
         let low = refers-lower t k r in
@@ -149,32 +149,32 @@ module _ {order : PlanChange → ℕ} {old new : List Thing} {plan : List PlanCh
       make_new : IsIn t new × ((u : Thing) → IsIn u old → name_of u ≡ name_of t → ⊥)
       make_new = p.is_plan.makes t (next_in done (Make t) due cut)
 
-      pub make-free : (u : Thing) → after_changes done stood u → Meet t u → ⊥
+      pub make-free : (u : Thing) → stands_after_all done stood u → Meet t u → ⊥
       make-free u h (inl same) = fresh done (Make t) due cut make_new.1 u h (sym same)
       make-free u h (inr lane) = fresh done (Make t) due cut make_new.1 u h (sym (p.lanes.apart t u make_new.0 (old_or_new done (Make t) due cut u h) lane))
 
-      pub make-refers : (k : Name) → Refers t k → IsNamed (after_changes done stood) k
+      pub make-refers : (k : Name) → Refers t k → HasNamed (stands_after_all done stood) k
       make-refers = refers_well done (Make t) due cut t make_new.0 (λ w. p.safe.make_after t w (good-names new p.new_named t make_new.0))
 
     module _ (cut : plan ≡ done ++ (Set t ∷ due)) where
       set_new : IsIn t new × (u : Thing) × IsIn u old × (name_of u ≡ name_of t)
       set_new = p.is_plan.sets t (next_in done (Set t) due cut)
 
-      pub set-there : IsNamed (after_changes done stood) (name_of t)
+      pub set-there : HasNamed (stands_after_all done stood) (name_of t)
       set-there =
           elim (new-stands p.is_plan done (Set t ∷ due) cut t set_new.0) [
             | inl h ↦ h
             | inr make ↦ absurd ((p.is_plan.makes t (due-in p.is_plan done (Set t ∷ due) cut (Make t) make)).1 set_new.1 set_new.2 set_new.3)
           ]
 
-      pub set-refers : (k : Name) → Refers t k → IsNamed (after_changes done stood) k
+      pub set-refers : (k : Name) → Refers t k → HasNamed (stands_after_all done stood) k
       set-refers = refers_well done (Set t) due cut t set_new.0 (λ w less small. p.safe.set_after t w small)
 
   module _ (k : Name) (done due : List PlanChange) (cut : plan ≡ done ++ (Remove k ∷ due)) where
     gone_old : (u : Thing) × IsIn u old × (name_of u ≡ k) × ((t : Thing) → IsIn t new → name_of t ≡ k → ⊥)
     gone_old = p.is_plan.removes k (next_in done (Remove k) due cut)
 
-    pub remove-there : IsNamed (after_changes done stood) k
+    pub remove-there : HasNamed (stands_after_all done stood) k
     remove-there =
         elim (old-stands p.is_plan done (Remove k ∷ due) cut gone_old.0 gone_old.1) [
           | inl h ↦ (h.0, h.1, h.2 ∙ gone_old.2)
@@ -182,7 +182,7 @@ module _ {order : PlanChange → ℕ} {old new : List Thing} {plan : List PlanCh
         ]
 
     -- what stands and refers to the name would be new
-    pub remove-unused : (v : Thing) → after_changes done stood v → Refers v k → ⊥
+    pub remove-unused : (v : Thing) → stands_after_all done stood v → Refers v k → ⊥
     remove-unused v h r =
         let low = refers-lower v k r in
         let most = height_most (name_of v) in
@@ -198,12 +198,12 @@ module _ {order : PlanChange → ℕ} {old new : List Thing} {plan : List PlanCh
 
   -- ---- the end
 
-  pub ends-new : (t : Thing) → after_changes plan stood t → IsIn t new
+  pub ends-new : (t : Thing) → stands_after_all plan stood t → IsIn t new
   ends-new t h = now-new p.is_plan plan [] (sym (append-nil plan)) p.old_named t h (λ u i same. elim i [ ]) (λ i. elim i [ ])
 
-  pub new-ends : (t : Thing) → IsIn t new → after_changes plan stood t
+  pub new-ends : (t : Thing) → IsIn t new → stands_after_all plan stood t
   new-ends t i =
       elim (new-stands p.is_plan plan [] (sym (append-nil plan)) t i) [
-        | inl h ↦ subst (after_changes plan stood) (p.new_named.one h.0 t (ends-new h.0 h.1) i h.2) h.1
+        | inl h ↦ subst (stands_after_all plan stood) (p.new_named.one h.0 t (ends-new h.0 h.1) i h.2) h.1
         | inr make ↦ elim make [ ]
       ]

@@ -20,8 +20,8 @@ use Rattle.plan_laws.specs.Steady.{IsHitless, IsOldOrNew, StaysNew}
 use Rattle.plan_laws.proofs.Allowed.{IsSafePlan, hitless-safe}
 use Rattle.plan_laws.proofs.Calling.{IsCalled, plan-called}
 use Rattle.plan_laws.proofs.Chip.{chip-either, chip-hitless, chip-kept}
-use Rattle.plan_laws.proofs.Running.{IsCut, IsEnd, later-cut, later-same, plan-alike, run-cut, run-end}
-use Rattle.plan_laws.proofs.Starting.{first-moment, hops-same, hops_of, old-named, old-tagged}
+use Rattle.plan_laws.proofs.Running.{IsBreak, IsEnd, later-cut, later-same, plan-alike, run-cut, run-end}
+use Rattle.plan_laws.proofs.Starting.{first-moment, hops-same, hops_by_tag, old-named, old-tagged}
 use Rattle.plan_laws.proofs.Stepping.{IsMidMoment, moment-shown}
 use Rattle.plan_laws.proofs.Targets.{IsTaggedPlan}
 
@@ -29,7 +29,7 @@ module _ {capacities : List ℕ} {made : ℕ} {objects : Objects} {new : List Th
   pub plan-safe : IsSafePlan hitless_rank (old_things objects new) new plan
   plan-safe = record { safe = hitless-safe; old_named = old-named x.chip new; new_named = x.view.named; within = x.view.within; lanes = x.lanes; is_plan = x.is_plan }
 
-  plan_tagged : IsTaggedPlan (hops_of x.chip new) (old_things objects new) new plan
+  plan_tagged : IsTaggedPlan (hops_by_tag x.chip new) (old_things objects new) new plan
   plan_tagged = record { safe = plan-safe; grouped = x.view.grouped; tagged = old-tagged x.chip new; same = λ hops i. hops-same x.chip new hops (x.view.grouped.rising hops i) }
 
   -- the calls of the plan, with the identifiers that they come to
@@ -43,7 +43,7 @@ module _ {capacities : List ℕ} {made : ℕ} {objects : Objects} {new : List Th
   start : IsMidMoment (old_things objects new) [] (old_layout objects new) made objects
   start = moment-shown (first-moment x.planned.chip new) capacities
 
-  cut_at : (xs ys : List (Call Rid)) → calls ≡ xs ++ ys → IsCut (old_things objects new) [] todo made objects xs ys
+  cut_at : (xs ys : List (Call Rid)) → calls ≡ xs ++ ys → IsBreak (old_things objects new) [] todo made objects xs ys
   cut_at xs ys part = run-cut (plan-safe x.planned) (first-moment x.planned.chip new) capacities x.planned.room todo due refl calls xs ys x.run part
 
   -- after each call the chip is steady

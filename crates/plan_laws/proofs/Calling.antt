@@ -34,7 +34,7 @@ use Rattle.plan_laws.specs.Views.{HasRoomFor}
 use Rattle.plan_laws.proofs.Allowed.{IsSafePlan}
 use Rattle.plan_laws.proofs.Following.{before, due-in, origin, outcome-named}
 use Rattle.plan_laws.proofs.Running.{IsEnd, allowed, end-append, joined, plan-step}
-use Rattle.plan_laws.proofs.Stepping.{IsAllowed, IsDone, first-place, is-port}
+use Rattle.plan_laws.proofs.Stepping.{IsAllowed, IsChangeMade, first-place, is-port}
 
 -- ---- identifiers that the plan's come to
 
@@ -80,7 +80,7 @@ resolves-first start view ids = record {
 }
 
 -- and after each change, where what is made has the identifier that was made for it
-pub resolves-next : {old : List Thing} {done : List PlanChange} {layout : Layout Rid} {made : ℕ} {objects : Objects} (at : IsMoment old done layout made objects) (capacities : List ℕ) (c : PlanChange) (calls : List (Call Rid)) (later : Layout Rid) → IsDone at capacities c calls later → (start : Layout Rid) (view : Layout Vid) (ids : Vid → Rid) → ((t : Thing) → c ≡ Make t → ((i : Rid) → Has start (name_of t) i → ⊥) × ((v : Vid) (u : Thing) → view v u → name_of u ≡ name_of t → has_number u ≡ true → ids v ≡ next_id made)) → Resolves start view ids layout → Resolves start view ids later
+pub resolves-next : {old : List Thing} {done : List PlanChange} {layout : Layout Rid} {made : ℕ} {objects : Objects} (at : IsMoment old done layout made objects) (capacities : List ℕ) (c : PlanChange) (calls : List (Call Rid)) (later : Layout Rid) → IsChangeMade at capacities c calls later → (start : Layout Rid) (view : Layout Vid) (ids : Vid → Rid) → ((t : Thing) → c ≡ Make t → ((i : Rid) → Has start (name_of t) i → ⊥) × ((v : Vid) (u : Thing) → view v u → name_of u ≡ name_of t → has_number u ≡ true → ids v ≡ next_id made)) → Resolves start view ids layout → Resolves start view ids later
 resolves-next at capacities c calls later is start view ids makes before = record {
   old = λ k i h j there. elim (is.fresh k j there) [
     | inl stood ↦ is.keeps k i (before.old k i h stood.0 stood.1) j there

@@ -17,9 +17,9 @@ use Rattle.sai_types.specs.Names.{Name, name_of}
 use Rattle.sai_types.specs.Objects.{Objects}
 use Rattle.chip_layout.specs.Layout.{Layout}
 use Rattle.plan_laws.specs.Applied.{chip_things}
-use Rattle.plan_laws.specs.Plans.{PlanChange, IsViewPlan, Remove, after_changes, hitless_rank, outcome}
+use Rattle.plan_laws.specs.Plans.{PlanChange, IsViewPlan, Remove, stands_after_all, hitless_rank, outcome}
 use Rattle.plan_laws.specs.Steady.{ForwardsAfter, IsForwarding, IsHitless, IsOldOrNew, StaysNew}
-use Rattle.plan_laws.specs.Views.{AreNamed}
+use Rattle.plan_laws.specs.Views.{HaveOwnNames}
 use Rattle.plan_laws.proofs.Following.{IsUntouched, done-in, done-stands, origin, outcome-new, still}
 use Rattle.plan_laws.proofs.Lists.{in-map, map-in}
 use Rattle.plan_laws.proofs.Macs.{either, hitless, kept}
@@ -66,7 +66,7 @@ module _ {hops_of : List Hop → List Hop} {old new : List Thing} {plan : List P
   proper_by p g (thing.Route r h) i e = let is : r ≡ p = cc in q.safe.old_named.proper p h (subst (λ z. IsIn (thing.Route z h) old) is i)
   proper_by p g _ i e = absurd cc
 
-  shown_named : AreNamed shown
+  shown_named : HaveOwnNames shown
   shown_named = record {
     one = λ t u i j e.
         let x = shown_in t i in
@@ -98,14 +98,14 @@ module _ {hops_of : List Hop → List Hop} {old new : List Thing} {plan : List P
     comes c t i o = new_real t (outcome-new q.safe.is_plan c t (done-in q.safe.is_plan done due cut c i) o)
 
     -- what stands after changes of what the chip showed is what stands after them of the things with tags
-    real_after : (t : Thing) → after_changes done (λ u. IsIn u old) t → after_changes done (λ u. IsIn u shown) (real hops_of t)
+    real_after : (t : Thing) → stands_after_all done (λ u. IsIn u old) t → stands_after_all done (λ u. IsIn u shown) (real hops_of t)
     real_after t h =
         elim (origin done (λ u. IsIn u old) t h) [
           | inl there ↦ still done (λ u. IsIn u shown) (real hops_of t) (subst (IsUntouched done) (sym (real_name hops_of t)) there.1) (in_shown t there.0)
-          | inr c ↦ subst (after_changes done (λ u. IsIn u shown)) (sym (comes c.0 t c.1 c.2)) (done-stands shown_plan done due cut c.0 t c.1 c.2)
+          | inr c ↦ subst (stands_after_all done (λ u. IsIn u shown)) (sym (comes c.0 t c.1 c.2)) (done-stands shown_plan done due cut c.0 t c.1 c.2)
         ]
 
-    after_real : (t : Thing) → after_changes done (λ u. IsIn u shown) t → (u : Thing) × after_changes done (λ u. IsIn u old) u × (real hops_of u ≡ t)
+    after_real : (t : Thing) → stands_after_all done (λ u. IsIn u shown) t → (u : Thing) × stands_after_all done (λ u. IsIn u old) u × (real hops_of u ≡ t)
     after_real t h =
         elim (origin done (λ u. IsIn u shown) t h) [
           | inl there ↦ let u = shown_in t there.0 in (u.0, still done (λ u. IsIn u old) u.0 (subst (IsUntouched done) (sym u.3) there.1) u.1, u.2)
@@ -120,7 +120,7 @@ module _ {hops_of : List Hop → List Hop} {old new : List Thing} {plan : List P
     shown_stands = record {
       sound = λ t fw i.
           let x = shown-sound layout objects at.laid made at.whole hops_of targets t fw i in
-          subst (after_changes done (λ u. IsIn u shown)) x.3 (real_after x.1 (at.sound x.0 x.1 (no_port (name_of x.1) (forwards x.1 t x.3 fw)) x.2));
+          subst (stands_after_all done (λ u. IsIn u shown)) x.3 (real_after x.1 (at.sound x.0 x.1 (no_port (name_of x.1) (forwards x.1 t x.3 fw)) x.2));
       all = λ t fw h.
           let x = after_real t h in
           let fw' = forwards x.0 t x.2 fw in

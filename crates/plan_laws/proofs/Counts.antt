@@ -23,9 +23,9 @@ use Rattle.chip_layout.proofs.Counting.{no-longer}
 use Rattle.plan_laws.specs.Bounds.{makes_kind}
 use Rattle.plan_laws.specs.Moments.{MakesChange, MakesChanges, SetsThing, attr_place, layout_after}
 use Rattle.plan_laws.specs.Old.{old_things, tag_of}
-use Rattle.plan_laws.specs.Plans.{AreInOrder, IsViewPlan, Make, PlanChange, Remove, Set, subject}
+use Rattle.plan_laws.specs.Plans.{AreRanked, IsViewPlan, Make, PlanChange, Remove, Set, subject}
 use Rattle.plan_laws.specs.Views.{made_name, made_names}
-use Rattle.plan_laws.proofs.Following.{done-in, in_order-left}
+use Rattle.plan_laws.proofs.Following.{done-in, ranked-left}
 use Rattle.plan_laws.proofs.Lists.{in-map}
 use Rattle.plan_laws.proofs.Picked.{in-picked, picked-distinct, picked-length}
 
@@ -83,8 +83,8 @@ run_few made layout (c ∷ cs) calls run =
 -- ---- over a plan
 
 module _ {order : PlanChange → ℕ} {old new : List Thing} {plan : List PlanChange} (is_plan : IsViewPlan order old new plan) (done due : List PlanChange) (cut : plan ≡ done ++ due) where
-  up : AreInOrder order done
-  up = in_order-left order done due (subst (AreInOrder order) cut is_plan.in_order)
+  up : AreRanked order done
+  up = ranked-left order done due (subst (AreRanked order) cut is_plan.in_order)
 
   brings_new : (c : PlanChange) (k : Name) → brings c ≡ Some k → IsIn c plan → IsIn k (map name_of new)
   brings_new (Make t) k e i = subst (λ z. IsIn z (map name_of new)) (same_Some (name_of t) k e) (in-map name_of new t (is_plan.makes t i).0)

@@ -15,7 +15,7 @@ use Rattle.sai_types.specs.Forwarding as to
 use Rattle.sai_types.specs.Names as name
 use Rattle.sai_types.specs.Names.{Name, name_of}
 use Rattle.sai_types.proofs.Decided.{IsAnswer, answer_is, has_own-in, in-has_own, prefix_unique}
-use Rattle.plan_laws.specs.Views.{AreNamed}
+use Rattle.plan_laws.specs.Views.{HaveOwnNames}
 
 -- a name that is not that of a route whose prefix is not proper
 abbrev pub IsGood : Name → Type 0
@@ -29,7 +29,7 @@ width_within V6 = omega arith
 pub len_within : (p : Prefix) → IsProperPrefix p → p.len ≤ 128
 len_within p proper = let one = proper.1 in let two = width_within p.ip.family in omega (arith, one, two)
 
-pub good-names : (ts : List Thing) → AreNamed ts → (t : Thing) → IsIn t ts → IsGood (name_of t)
+pub good-names : (ts : List Thing) → HaveOwnNames ts → (t : Thing) → IsIn t ts → IsGood (name_of t)
 good-names ts named (thing.Route p g) i = named.proper p g i
 good-names ts named _ i = tt
 
@@ -73,15 +73,15 @@ NoneDecides a now = (u : Thing) → now u → Decides a (name_of u) → ⊥
 
 module _ (a : Ip) (ts : List Thing) (good : (t : Thing) → IsIn t ts → IsGood (name_of t)) where
   -- how the address is decided
-  abbrev pub IsDecided : Type 0
-  IsDecided = ((t : Thing) × IsStrongest a (λ u. IsIn u ts) t × (decide ts a ≡ decision t)) ⊎ (NoneDecides a (λ u. IsIn u ts) × (decide ts a ≡ to.Drop))
+  abbrev pub HasDecider : Type 0
+  HasDecider = ((t : Thing) × IsStrongest a (λ u. IsIn u ts) t × (decide ts a ≡ decision t)) ⊎ (NoneDecides a (λ u. IsIn u ts) × (decide ts a ≡ to.Drop))
 
   not_own : (t : Thing) → IsIn t ts → Decides a (name_of t) → has_own ts a ≡ false → (q : Prefix) × (g : Goal) × (t ≡ thing.Route q g) × (covers q a ≡ true)
   not_own (thing.Own ip) i e none = absurd (false≢true (sym none ∙ in-has_own ts a (subst (λ x. IsIn (thing.Own x) ts) e i)))
   not_own (thing.Route q g) i e none = (q, g, refl, e)
   not_own _ i e none = elim e [ ]
 
-  by_route : (o : Option (Prefix × Goal)) → has_own ts a ≡ false → best_route ts a ≡ o → IsAnswer ts a o → IsDecided
+  by_route : (o : Option (Prefix × Goal)) → has_own ts a ≡ false → best_route ts a ≡ o → IsAnswer ts a o → HasDecider
   by_route None none best answer =
       inr (
         λ u i e. let r = not_own u i e none in answer r.0 r.1 r.3 (subst (λ z. IsIn z ts) r.2 i),
@@ -98,11 +98,11 @@ module _ (a : Ip) (ts : List Thing) (good : (t : Thing) → IsIn t ts → IsGood
         ap (λ c. cond c to.Cpu (decide_route (best_route ts a))) none ∙ ap decide_route best,
       )
 
-  by_own : (b : Bool) → has_own ts a ≡ b → IsDecided
+  by_own : (b : Bool) → has_own ts a ≡ b → HasDecider
   by_own false e = by_route (best_route ts a) e refl (answer_is ts a)
   by_own true e = inl (thing.Own a, record { there = has_own-in ts a e; decides = refl; most = λ u i d. strength-most (name_of u) (good u i) }, ap (λ c. cond c to.Cpu (decide_route (best_route ts a))) e)
 
-  pub decided : IsDecided
+  pub decided : HasDecider
   decided = by_own (has_own ts a) refl
 
   -- the strongest thing decides

@@ -27,7 +27,7 @@ use Rattle.chip_layout.proofs.Answering.{those_in}
 use Rattle.chip_layout.proofs.Seeing.{body-seen, shown}
 use Rattle.plan_laws.specs.Applied.{IsListed, IsView, chip_things}
 use Rattle.plan_laws.specs.Bounds.{IsDouble}
-use Rattle.plan_laws.specs.Old.{filler, group_of, group_stays, groups_of, hops_or_none, is_double, is_group_of, old_layout, old_things, same_hops, shown_hops, tag_of}
+use Rattle.plan_laws.specs.Old.{filler, chip_group, group_stays, chip_groups, hops_or_none, is_double, is_group_of, old_layout, old_things, same_hops, shown_hops, tag_of}
 use Rattle.plan_laws.specs.Views.{AreLacking, FitsHitless}
 use Rattle.plan_laws.proofs.Lists.{any-in, in-any, map-in}
 use Rattle.plan_laws.proofs.Named.{hops_exact, hops_refl}
@@ -35,7 +35,7 @@ use Rattle.plan_laws.proofs.Starting.{group-seen, group-there, hops-same, object
 use Rattle.plan_laws.proofs.Tagging.{all-groups}
 use Rattle.plan_laws.proofs.Targets.{is-group, is-member}
 
-is_grouped : (o : Entry Rid × Body Rid) (g : Rid) → Some g ≡ group_of o → (o.0 ≡ entry.Oid g) × (o.1 ≡ body.Group)
+is_grouped : (o : Entry Rid × Body Rid) (g : Rid) → Some g ≡ chip_group o → (o.0 ≡ entry.Oid g) × (o.1 ≡ body.Group)
 is_grouped (entry.Oid h, body.Group) g e = let same : g ≡ h = cc in (ap entry.Oid (sym same), refl)
 is_grouped (entry.Own ip, body.Group) g e = absurd cc
 is_grouped (entry.Neigh r ip, body.Group) g e = absurd cc
@@ -89,15 +89,15 @@ module _ {made : ℕ} {objects : Objects} (chip : IsListed made objects) (new : 
   new_group : (g : Rid) (hop : Hop) → IsIn (thing.GroupMember (hops g) hop) new → IsIn (thing.Group (hops g)) new
   new_group g hop i = let k = view.within.refers (thing.GroupMember (hops g) hop) (name.Group (hops g)) i (inl refl) in subst (λ z. IsIn z new) (is-group k.0 (hops g) k.2) k.1
 
-  stays_if : (g : Rid) → IsIn g (groups_of objects) → IsIn (thing.Group (hops g)) new → is_double objects g ≡ false → group_stays objects new g ≡ true
+  stays_if : (g : Rid) → IsIn g (chip_groups objects) → IsIn (thing.Group (hops g)) new → is_double objects g ≡ false → group_stays objects new g ≡ true
   stays_if g i wanted single =
-      both_true _ _ (in-any (same_id g) (groups_of objects) g i (eq-eqb g.0 g.0 refl))
+      both_true _ _ (in-any (same_id g) (chip_groups objects) g i (eq-eqb g.0 g.0 refl))
       (both_true _ _ (in-any (is_group_of (hops g)) new (thing.Group (hops g)) wanted (hops_refl (hops g))) (ap not single))
 
   tag_is : (g : Rid) → group_stays objects new g ≡ true → tag g ≡ hops g
   tag_is g h = ap (λ b. cond b (hops g) (filler g.0)) h
 
-  doubled : (g : Rid) → IsIn g (groups_of objects) → IsIn (thing.Group (hops g)) new → (tag g ≡ hops g → ⊥) → is_double objects g ≡ true
+  doubled : (g : Rid) → IsIn g (chip_groups objects) → IsIn (thing.Group (hops g)) new → (tag g ≡ hops g → ⊥) → is_double objects g ≡ true
   doubled g i wanted apart = by (is_double objects g) refl
     where
       by : (b : Bool) → is_double objects g ≡ b → b ≡ true
@@ -107,7 +107,7 @@ module _ {made : ℕ} {objects : Objects} (chip : IsListed made objects) (new : 
   member_parts : (g h n m : Rid) → body.GroupMember g n ≡ body.GroupMember h m → g ≡ h
   member_parts g h n m e = cc
 
-  member_group : (e : Entry Rid) (g n : Rid) (hop : Hop) → body_at objects e ≡ Some (body.GroupMember g n) → thing_by (tagged tag) objects (e, body.GroupMember g n) ≡ Some (thing.GroupMember (tag g) hop) → IsIn g (groups_of objects)
+  member_group : (e : Entry Rid) (g n : Rid) (hop : Hop) → body_at objects e ≡ Some (body.GroupMember g n) → thing_by (tagged tag) objects (e, body.GroupMember g n) ≡ Some (thing.GroupMember (tag g) hop) → IsIn g (chip_groups objects)
   member_group e g n hop found is =
       let of = body-seen tag made objects chip.whole e (body.GroupMember g n) (thing.GroupMember (tag g) hop) found is in
       let same : of.first ≡ g = sym (member_parts g of.first n of.second of.body_is) in
@@ -137,9 +137,9 @@ module _ {made : ℕ} {objects : Objects} (chip : IsListed made objects) (new : 
 
   -- ---- what the chip shows of the new view is among the old things
 
-  group_found : (g : Rid) → IsIn g (groups_of objects) → body_at objects (entry.Oid g) ≡ Some body.Group
+  group_found : (g : Rid) → IsIn g (chip_groups objects) → body_at objects (entry.Oid g) ≡ Some body.Group
   group_found g i =
-      let o = map-in group_of objects (Some g) (those_in g (map group_of objects) i) in
+      let o = map-in chip_group objects (Some g) (those_in g (map chip_group objects) i) in
       let is = is_grouped o.0 g o.2 in
       ap (body_at objects) (sym is.0) ∙ found-in objects o.0.0 o.0.1 chip.whole.sorted o.1 ∙ ap Some is.1
 
@@ -148,27 +148,27 @@ module _ {made : ℕ} {objects : Objects} (chip : IsListed made objects) (new : 
 
   -- of the groups of some hops the one of the least identifier
   abbrev HasLeast : Rid → Type 0
-  HasLeast g = (h : Rid) × IsIn h (groups_of objects) × (is_double objects h ≡ false) × (hops h ≡ hops g)
+  HasLeast g = (h : Rid) × IsIn h (chip_groups objects) × (is_double objects h ≡ false) × (hops h ≡ hops g)
 
-  least : (n : ℕ) (g : Rid) → g.0 < n → IsIn g (groups_of objects) → HasLeast g
+  least : (n : ℕ) (g : Rid) → g.0 < n → IsIn g (chip_groups objects) → HasLeast g
   least zero g less i = absurd (omega (arith, less))
   least (suc n) g less i = by (is_double objects g) refl (λ h below there. least n h (omega (arith, less, below)) there)
     where
-      by : (b : Bool) → is_double objects g ≡ b → ((h : Rid) → h.0 < g.0 → IsIn h (groups_of objects) → HasLeast h) → HasLeast g
+      by : (b : Bool) → is_double objects g ≡ b → ((h : Rid) → h.0 < g.0 → IsIn h (chip_groups objects) → HasLeast h) → HasLeast g
       by false e lesser = (g, i, e, refl)
       by true e lesser =
-          let x = any-in (λ h. nat_lt h.0 g.0 && same_hops (hops h) (hops g)) (groups_of objects) e in
+          let x = any-in (λ h. nat_lt h.0 g.0 && same_hops (hops h) (hops g)) (chip_groups objects) e in
           let parts = and_parts (nat_lt x.0.0 g.0) (same_hops (hops x.0) (hops g)) x.2 in
           let r = lesser x.0 (lower x.0.0 g.0 parts.0) x.1 in
           (r.0, r.1, r.2, r.3 ∙ hops_exact (hops x.0) (hops g) parts.1)
 
-  group_old : (g : Rid) → IsIn g (groups_of objects) → IsIn (thing.Group (hops g)) new → IsIn (thing.Group (hops g)) (old_things objects new)
+  group_old : (g : Rid) → IsIn g (chip_groups objects) → IsIn (thing.Group (hops g)) new → IsIn (thing.Group (hops g)) (old_things objects new)
   group_old g i wanted =
       let h = least (suc g.0) g (omega arith) i in
       let stays = stays_if h.0 h.1 (subst (λ z. IsIn (thing.Group z) new) (sym h.3) wanted) h.2 in
       subst (λ z. IsIn (thing.Group z) (old_things objects new)) (tag_is h.0 stays ∙ h.3) (object-seen tag objects made chip.whole (entry.Oid h.0) body.Group (thing.Group (tag h.0)) (group_found h.0 h.1) refl)
 
-  member_old : (g : Rid) (hop : Hop) → IsIn g (groups_of objects) → IsIn (thing.GroupMember (hops g) hop) new → IsIn (thing.GroupMember (hops g) hop) (old_things objects new)
+  member_old : (g : Rid) (hop : Hop) → IsIn g (chip_groups objects) → IsIn (thing.GroupMember (hops g) hop) new → IsIn (thing.GroupMember (hops g) hop) (old_things objects new)
   member_old g hop i wanted =
       let group = new_group g hop wanted in
       (old-tagged chip new).have (hops g) hop (group_old g i group) (subst (IsIn hop) (sym (hops-same chip new (hops g) (view.grouped.rising (hops g) group))) (view.grouped.only (hops g) hop wanted))

@@ -3,8 +3,8 @@ use Rattle.std.proofs.Common.{◌≡◌, inl, inr, ◌⊎◌, ℕ, ◌≤◌, �
 use Rattle.sai_types.specs.declared.thing.Thing.{Thing}
 use Rattle.sai_types.specs.Alike.{IsIn}
 use Rattle.sai_types.specs.Names.{Name, name_of}
-use Rattle.plan_laws.specs.Plans.{AreInOrder, PlanChange, IsViewPlan, Make, Remove, Set, after_changes, after_change, outcome, subject}
-use Rattle.plan_laws.specs.Views.{AreNamed}
+use Rattle.plan_laws.specs.Plans.{AreRanked, PlanChange, IsViewPlan, Make, Remove, Set, stands_after_all, stands_after, outcome, subject}
+use Rattle.plan_laws.specs.Views.{HaveOwnNames}
 use Rattle.plan_laws.proofs.Lists.{in-either, in-left, in-right}
 use Rattle.plan_laws.proofs.Named.{same-or}
 
@@ -29,22 +29,22 @@ touched-or (c ∷ cs) k =
       ]
     ]
 
-pub still : (cs : List PlanChange) (now : Thing → Type 0) (t : Thing) → IsUntouched cs (name_of t) → now t → after_changes cs now t
+pub still : (cs : List PlanChange) (now : Thing → Type 0) (t : Thing) → IsUntouched cs (name_of t) → now t → stands_after_all cs now t
 still [] now t free h = h
-still (c ∷ cs) now t free h = still cs (after_change c now) t (λ d i. free d (inr i)) (inl (h, λ same. free c (inl refl) (sym same)))
+still (c ∷ cs) now t free h = still cs (stands_after c now) t (λ d i. free d (inr i)) (inl (h, λ same. free c (inl refl) (sym same)))
 
-pub made : (order : PlanChange → ℕ) (cs : List PlanChange) (now : Thing → Type 0) → AreInOrder order cs → (c : PlanChange) (t : Thing) → IsIn c cs → outcome c ≡ Some t → after_changes cs now t
+pub made : (order : PlanChange → ℕ) (cs : List PlanChange) (now : Thing → Type 0) → AreRanked order cs → (c : PlanChange) (t : Thing) → IsIn c cs → outcome c ≡ Some t → stands_after_all cs now t
 made order [] now up c t i o = elim i [ ]
 made order (d ∷ cs) now up c t (inl is) o =
     let comes = ap outcome (sym is) ∙ o in
-    still cs (after_change d now) t (λ e j same. (up.0 e j).1 (sym (outcome-named d t comes) ∙ sym same)) (inr comes)
-made order (d ∷ cs) now up c t (inr i) o = made order cs (after_change d now) up.1 c t i o
+    still cs (stands_after d now) t (λ e j same. (up.0 e j).1 (sym (outcome-named d t comes) ∙ sym same)) (inr comes)
+made order (d ∷ cs) now up c t (inr i) o = made order cs (stands_after d now) up.1 c t i o
 
 -- what stands afterwards stood before, and no change is about it, or a change comes to it
-pub origin : (cs : List PlanChange) (now : Thing → Type 0) (t : Thing) → after_changes cs now t → (now t × IsUntouched cs (name_of t)) ⊎ ((c : PlanChange) × IsIn c cs × (outcome c ≡ Some t))
+pub origin : (cs : List PlanChange) (now : Thing → Type 0) (t : Thing) → stands_after_all cs now t → (now t × IsUntouched cs (name_of t)) ⊎ ((c : PlanChange) × IsIn c cs × (outcome c ≡ Some t))
 origin [] now t h = inl (h, λ c i e. elim i [ ])
 origin (c ∷ cs) now t h =
-    elim (origin cs (after_change c now) t h) [
+    elim (origin cs (stands_after c now) t h) [
       | inl old ↦ elim old.0 [
         | inl kept ↦ inl (kept.0, λ d i e. elim i [ inl is ↦ kept.1 (sym e ∙ ap subject is) | inr j ↦ old.1 d j e ])
         | inr comes ↦ inr (c, inl refl, comes)
@@ -53,21 +53,21 @@ origin (c ∷ cs) now t h =
     ]
 
 -- something stands that has this name
-abbrev pub IsNamed : (Thing → Type 0) → Name → Type 0
-IsNamed now k = (t : Thing) × now t × (name_of t ≡ k)
+abbrev pub HasNamed : (Thing → Type 0) → Name → Type 0
+HasNamed now k = (t : Thing) × now t × (name_of t ≡ k)
 
-pub in_order-left : (order : PlanChange → ℕ) (xs ys : List PlanChange) → AreInOrder order (xs ++ ys) → AreInOrder order xs
-in_order-left order [] ys up = tt
-in_order-left order (x ∷ xs) ys up = (λ d i. up.0 d (in-left d xs ys i), in_order-left order xs ys up.1)
+pub ranked-left : (order : PlanChange → ℕ) (xs ys : List PlanChange) → AreRanked order (xs ++ ys) → AreRanked order xs
+ranked-left order [] ys up = tt
+ranked-left order (x ∷ xs) ys up = (λ d i. up.0 d (in-left d xs ys i), ranked-left order xs ys up.1)
 
-in_order-cut : (order : PlanChange → ℕ) (xs ys : List PlanChange) → AreInOrder order (xs ++ ys) → (c d : PlanChange) → IsIn c xs → IsIn d ys → (order c ≤ order d) × (subject c ≡ subject d → ⊥)
-in_order-cut order [] ys up c d i j = elim i [ ]
-in_order-cut order (x ∷ xs) ys up c d (inl is) j = subst (λ z. (order z ≤ order d) × (subject z ≡ subject d → ⊥)) (sym is) (up.0 d (in-right d xs ys j))
-in_order-cut order (x ∷ xs) ys up c d (inr i) j = in_order-cut order xs ys up.1 c d i j
+ranked-cut : (order : PlanChange → ℕ) (xs ys : List PlanChange) → AreRanked order (xs ++ ys) → (c d : PlanChange) → IsIn c xs → IsIn d ys → (order c ≤ order d) × (subject c ≡ subject d → ⊥)
+ranked-cut order [] ys up c d i j = elim i [ ]
+ranked-cut order (x ∷ xs) ys up c d (inl is) j = subst (λ z. (order z ≤ order d) × (subject z ≡ subject d → ⊥)) (sym is) (up.0 d (in-right d xs ys j))
+ranked-cut order (x ∷ xs) ys up c d (inr i) j = ranked-cut order xs ys up.1 c d i j
 
-pub in_order-right : (order : PlanChange → ℕ) (xs ys : List PlanChange) → AreInOrder order (xs ++ ys) → AreInOrder order ys
-in_order-right order [] ys up = up
-in_order-right order (x ∷ xs) ys up = in_order-right order xs ys up.1
+pub ranked-right : (order : PlanChange → ℕ) (xs ys : List PlanChange) → AreRanked order (xs ++ ys) → AreRanked order ys
+ranked-right order [] ys up = up
+ranked-right order (x ∷ xs) ys up = ranked-right order xs ys up.1
 
 module _ {order : PlanChange → ℕ} {old new : List Thing} {plan : List PlanChange} (is_plan : IsViewPlan order old new plan) where
   -- what a change comes to is new
@@ -81,10 +81,10 @@ module _ {order : PlanChange → ℕ} {old new : List Thing} {plan : List PlanCh
     stood u = IsIn u old
 
     abbrev now : Thing → Type 0
-    now = after_changes done stood
+    now = stands_after_all done stood
 
-    up : AreInOrder order (done ++ due)
-    up = subst (AreInOrder order) cut is_plan.in_order
+    up : AreRanked order (done ++ due)
+    up = subst (AreRanked order) cut is_plan.in_order
 
     pub done-in : (c : PlanChange) → IsIn c done → IsIn c plan
     done-in c i = subst (λ p. IsIn c p) (sym cut) (in-left c done due i)
@@ -97,22 +97,22 @@ module _ {order : PlanChange → ℕ} {old new : List Thing} {plan : List PlanCh
 
     -- what is done comes before what is due, and is about another name
     pub before : (c d : PlanChange) → IsIn c done → IsIn d due → (order c ≤ order d) × (subject c ≡ subject d → ⊥)
-    before = in_order-cut order done due up
+    before = ranked-cut order done due up
 
     pub done-stands : (c : PlanChange) (t : Thing) → IsIn c done → outcome c ≡ Some t → now t
-    done-stands = made order done stood (in_order-left order done due up)
+    done-stands = made order done stood (ranked-left order done due up)
 
     -- a name that stood still stands, or it was removed
-    pub old-stands : (u : Thing) → IsIn u old → IsNamed now (name_of u) ⊎ IsIn (Remove (name_of u)) done
+    pub old-stands : (u : Thing) → IsIn u old → HasNamed now (name_of u) ⊎ IsIn (Remove (name_of u)) done
     old-stands u i = elim (touched-or done (name_of u)) [ inl c ↦ by c.0 c.1 c.2 | inr free ↦ inl (u, still done stood u free i, refl) ]
       where
-        by : (c : PlanChange) → IsIn c done → subject c ≡ name_of u → IsNamed now (name_of u) ⊎ IsIn (Remove (name_of u)) done
+        by : (c : PlanChange) → IsIn c done → subject c ≡ name_of u → HasNamed now (name_of u) ⊎ IsIn (Remove (name_of u)) done
         by (Make t) j e = inl (t, done-stands (Make t) t j refl, e)
         by (Set t) j e = inl (t, done-stands (Set t) t j refl, e)
         by (Remove k) j e = inr (subst (λ n. IsIn (Remove n) done) e j)
 
     -- a name of a new thing stands, or the thing is still to be made
-    pub new-stands : (v : Thing) → IsIn v new → IsNamed now (name_of v) ⊎ IsIn (Make v) due
+    pub new-stands : (v : Thing) → IsIn v new → HasNamed now (name_of v) ⊎ IsIn (Make v) due
     new-stands v i =
         elim (is_plan.whole v i) [
           | inl there ↦ inl (by v there refl)
@@ -122,7 +122,7 @@ module _ {order : PlanChange → ℕ} {old new : List Thing} {plan : List PlanCh
           ]
         ]
       where
-        by : (u : Thing) → IsIn u old → name_of u ≡ name_of v → IsNamed now (name_of v)
+        by : (u : Thing) → IsIn u old → name_of u ≡ name_of v → HasNamed now (name_of v)
         by u j e =
             elim (old-stands u j) [
               | inl h ↦ (h.0, h.1, h.2 ∙ e)
@@ -130,7 +130,7 @@ module _ {order : PlanChange → ℕ} {old new : List Thing} {plan : List PlanCh
             ]
 
     -- an old thing that is neither to be set nor to be removed is new
-    pub old-new : AreNamed old → (u : Thing) → IsIn u old → IsUntouched done (name_of u) → ((t : Thing) → IsIn (Set t) due → name_of t ≡ name_of u → ⊥) → (IsIn (Remove (name_of u)) due → ⊥) → IsIn u new
+    pub old-new : HaveOwnNames old → (u : Thing) → IsIn u old → IsUntouched done (name_of u) → ((t : Thing) → IsIn (Set t) due → name_of t ≡ name_of u → ⊥) → (IsIn (Remove (name_of u)) due → ⊥) → IsIn u new
     old-new named u i free sets removes =
         elim (is_plan.gone u i) [
           | inl t ↦ elim (is_plan.whole t.0 t.1) [
@@ -144,7 +144,7 @@ module _ {order : PlanChange → ℕ} {old new : List Thing} {plan : List PlanCh
         ]
 
     -- what stands of an old thing that is not to be set or removed any more, or of a change, is new
-    pub now-new : AreNamed old → (u : Thing) → now u → ((t : Thing) → IsIn (Set t) due → name_of t ≡ name_of u → ⊥) → (IsIn (Remove (name_of u)) due → ⊥) → IsIn u new
+    pub now-new : HaveOwnNames old → (u : Thing) → now u → ((t : Thing) → IsIn (Set t) due → name_of t ≡ name_of u → ⊥) → (IsIn (Remove (name_of u)) due → ⊥) → IsIn u new
     now-new named u h sets removes =
         elim (origin done stood u h) [
           | inl there ↦ old-new named u there.0 there.1 sets removes

@@ -13,7 +13,7 @@ use Rattle.sai_types.specs.Names.{Name, name_of}
 use Rattle.chip_layout.proofs.Answering.{front}
 use Rattle.plan_laws.specs.Plans.{PlanChange, IsViewPlan, Remove, hitless_rank}
 use Rattle.plan_laws.specs.Steady.{ForwardsAfter, IsForwarding, IsHitless, IsOldOrNew, StaysNew}
-use Rattle.plan_laws.specs.Views.{AreNamed}
+use Rattle.plan_laws.specs.Views.{HaveOwnNames}
 use Rattle.plan_laws.proofs.Following.{done-in, old-stands, origin, outcome-new}
 use Rattle.plan_laws.proofs.Moving.{old-or-new, stays-new}
 
@@ -36,7 +36,7 @@ is_neighbor : (u : Thing) (hop : Hop) → name_of u ≡ name.Neighbor hop → (m
 is_neighbor (thing.Neighbor h m) hop e = let same : h ≡ hop = cc in (m, ap (λ z. thing.Neighbor z m) same)
 is_neighbor _ hop e = absurd cc
 
-one_mac : (ts : List Thing) → AreNamed ts → (hop : Hop) (m : Mac) → IsIn (thing.Neighbor hop m) ts → mac_of ts hop ≡ Some m
+one_mac : (ts : List Thing) → HaveOwnNames ts → (hop : Hop) (m : Mac) → IsIn (thing.Neighbor hop m) ts → mac_of ts hop ≡ Some m
 one_mac ts named hop m i =
     elim (reached ts hop) [
       | inl n ↦ n.2 ∙ ap Some (macs n.0 (named.one (thing.Neighbor hop n.0) (thing.Neighbor hop m) n.1 i refl))
@@ -46,7 +46,7 @@ one_mac ts named hop m i =
     macs : (n : Mac) → thing.Neighbor hop n ≡ thing.Neighbor hop m → n ≡ m
     macs n e = cc
 
-module _ {old new : List Thing} (old_named : AreNamed old) (new_named : AreNamed new) {plan : List PlanChange} (is_plan : IsViewPlan hitless_rank old new plan) where
+module _ {old new : List Thing} (old_named : HaveOwnNames old) (new_named : HaveOwnNames new) {plan : List PlanChange} (is_plan : IsViewPlan hitless_rank old new plan) where
   module _ (done due : List PlanChange) (cut : plan ≡ done ++ due) (now : List Thing) (stands : ForwardsAfter old done now) where
     abbrev IsEither : Hop → Type 0
     IsEither hop = (mac_of now hop ≡ mac_of old hop) ⊎ (mac_of now hop ≡ mac_of new hop)
@@ -117,7 +117,7 @@ module _ (old new now : List Thing) (each : (h : Hop) → (mac_of now h ≡ mac_
 
 -- ---- a hitless plan is steady
 
-module _ {old new : List Thing} (old_named : AreNamed old) (new_named : AreNamed new) {plan : List PlanChange} (is_plan : IsViewPlan hitless_rank old new plan) where
+module _ {old new : List Thing} (old_named : HaveOwnNames old) (new_named : HaveOwnNames new) {plan : List PlanChange} (is_plan : IsViewPlan hitless_rank old new plan) where
   pub either : (done due : List PlanChange) → plan ≡ done ++ due → (now : List Thing) → ForwardsAfter old done now → IsOldOrNew old new now
   either done due cut now stands a = old-or-new a old_named new_named is_plan done due cut now stands
 

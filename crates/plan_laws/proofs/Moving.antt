@@ -7,9 +7,9 @@ use Rattle.sai_types.specs.Alike.{IsIn}
 use Rattle.sai_types.specs.Forwarding.{decide}
 use Rattle.sai_types.specs.Names as name
 use Rattle.sai_types.specs.Names.{Name, name_of}
-use Rattle.plan_laws.specs.Plans.{PlanChange, IsViewPlan, Make, Remove, Set, after_changes, hitless_rank, make_rank, outcome, remove_rank, set_rank}
+use Rattle.plan_laws.specs.Plans.{PlanChange, IsViewPlan, Make, Remove, Set, stands_after_all, hitless_rank, make_rank, outcome, remove_rank, set_rank}
 use Rattle.plan_laws.specs.Steady.{ForwardsAfter, IsForwarding}
-use Rattle.plan_laws.specs.Views.{AreNamed}
+use Rattle.plan_laws.specs.Views.{HaveOwnNames}
 use Rattle.plan_laws.proofs.Deciders.{Decides, IsGood, IsStrongest, NoneDecides, decided, decision, good-names, none-decides, strength, strength-most, strongest-decides}
 use Rattle.plan_laws.proofs.Following.{IsUntouched, before, done-in, done-stands, new-stands, old-new, old-stands, origin, outcome-named, outcome-new, still}
 use Rattle.plan_laws.proofs.Lists.{in-left}
@@ -59,7 +59,7 @@ remove_least _ = omega arith
 less_or : (m n : ℕ) → (m ≤ n) ⊎ (n < m)
 less_or m n = grind arith
 
-module _ (a : Ip) {old new : List Thing} (old_named : AreNamed old) (new_named : AreNamed new) {plan : List PlanChange} (is_plan : IsViewPlan hitless_rank old new plan) where
+module _ (a : Ip) {old new : List Thing} (old_named : HaveOwnNames old) (new_named : HaveOwnNames new) {plan : List PlanChange} (is_plan : IsViewPlan hitless_rank old new plan) where
   abbrev stood : Thing → Type 0
   stood u = IsIn u old
 
@@ -76,7 +76,7 @@ module _ (a : Ip) {old new : List Thing} (old_named : AreNamed old) (new_named :
     abbrev these : Thing → Type 0
     these u = IsIn u now
 
-    here : (u : Thing) → after_changes done stood u → Decides a (name_of u) → IsIn u now
+    here : (u : Thing) → stands_after_all done stood u → Decides a (name_of u) → IsIn u now
     here u h d = stands.all u (decides_forwarding a (name_of u) d) h
 
     from : (u : Thing) → IsIn u now → Decides a (name_of u) → (IsIn u old × IsUntouched done (name_of u)) ⊎ ((c : PlanChange) × IsIn c done × (outcome c ≡ Some u))

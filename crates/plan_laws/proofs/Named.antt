@@ -27,32 +27,32 @@ pub hops_refl : (xs : List Hop) → same_hops xs xs ≡ true
 hops_refl [] = refl
 hops_refl (x ∷ xs) = both_true (same_hop x x) (same_hops xs xs) (equal_hop.laws-law.refl x) (hops_refl xs)
 
-abbrev IsTold : {X : Type 0} → X → X → Type 0
-IsTold x y = (x ≡ y) ⊎ (x ≡ y → ⊥)
+abbrev IsToldApart : {X : Type 0} → X → X → Type 0
+IsToldApart x y = (x ≡ y) ⊎ (x ≡ y → ⊥)
 
-by_test : {X : Type 0} (eq : X → X → Bool) → ((x y : X) → eq x y ≡ true → x ≡ y) → ((x : X) → eq x x ≡ true) → (x y : X) → IsTold x y
+by_test : {X : Type 0} (eq : X → X → Bool) → ((x y : X) → eq x y ≡ true → x ≡ y) → ((x : X) → eq x x ≡ true) → (x y : X) → IsToldApart x y
 by_test {X} eq exact same x y = by (eq x y) refl
   where
-    by : (b : Bool) → eq x y ≡ b → IsTold x y
+    by : (b : Bool) → eq x y ≡ b → IsToldApart x y
     by true e = inl (exact x y e)
     by false e = inr (λ is. false≢true (sym e ∙ ap (eq x) (sym is) ∙ same x))
 
-under : {X : Type 0} (f : X → Name) → ((x y : X) → f x ≡ f y → x ≡ y) → (x y : X) → IsTold x y → IsTold (f x) (f y)
+under : {X : Type 0} (f : X → Name) → ((x y : X) → f x ≡ f y → x ≡ y) → (x y : X) → IsToldApart x y → IsToldApart (f x) (f y)
 under f one x y (inl is) = inl (ap f is)
 under f one x y (inr apart) = inr (λ e. apart (one x y e))
 
-pair : {X Y : Type 0} (f : X → Y → Name) → ((x y : X) (z w : Y) → f x z ≡ f y w → (x ≡ y) × (z ≡ w)) → (x y : X) (z w : Y) → IsTold x y → IsTold z w → IsTold (f x z) (f y w)
+pair : {X Y : Type 0} (f : X → Y → Name) → ((x y : X) (z w : Y) → f x z ≡ f y w → (x ≡ y) × (z ≡ w)) → (x y : X) (z w : Y) → IsToldApart x y → IsToldApart z w → IsToldApart (f x z) (f y w)
 pair f one x y z w (inl is) (inl also) = inl (ap₂ f is also)
 pair f one x y z w (inr apart) t = inr (λ e. apart (one x y z w e).0)
 pair f one x y z w (inl is) (inr apart) = inr (λ e. apart (one x y z w e).1)
 
-numbers : (m n : ℕ) → IsTold m n
+numbers : (m n : ℕ) → IsToldApart m n
 numbers m n = by_test (λ a b. a == b) (λ a b h. eqb-true a b h) (λ a. eq-eqb a a refl) m n
 
-hop : (x y : Hop) → IsTold x y
+hop : (x y : Hop) → IsToldApart x y
 hop = by_test same_hop hop-same equal_hop.laws-law.refl
 
-hops : (xs ys : List Hop) → IsTold xs ys
+hops : (xs ys : List Hop) → IsToldApart xs ys
 hops = by_test same_hops hops_exact hops_refl
 
 pub same-or : (k m : Name) → (k ≡ m) ⊎ (k ≡ m → ⊥)

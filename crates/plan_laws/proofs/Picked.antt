@@ -6,7 +6,7 @@ use Rattle.sai_types.specs.Named.{those}
 use Rattle.sai_types.specs.Names.{Name}
 use Rattle.chip_layout.specs.Counted.{AreDistinct}
 use Rattle.chip_layout.proofs.Answering.{in_those, those_in}
-use Rattle.plan_laws.specs.Plans.{AreInOrder, PlanChange, subject}
+use Rattle.plan_laws.specs.Plans.{AreRanked, PlanChange, subject}
 use Rattle.plan_laws.proofs.Lists.{in-map, map-in}
 
 those_append : {X : Type 0} (xs ys : List (Option X)) → those (xs ++ ys) ≡ those xs ++ those ys
@@ -28,7 +28,7 @@ module _ (pick : PlanChange → Option Name) where
   picked-length xs ys = ap (λ l. length (those l)) (map-append pick xs ys) ∙ ap length (those_append (map pick xs) (map pick ys)) ∙ length-append (picked xs) (picked ys)
 
   module _ (named : (c : PlanChange) (k : Name) → pick c ≡ Some k → subject c ≡ k) (order : PlanChange → ℕ) where
-    pub picked-distinct : (cs : List PlanChange) → AreInOrder order cs → AreDistinct (picked cs)
+    pub picked-distinct : (cs : List PlanChange) → AreRanked order cs → AreDistinct (picked cs)
     picked-distinct [] up = tt
     picked-distinct (c ∷ cs) up = by (pick c) refl (picked-distinct cs up.1)
       where

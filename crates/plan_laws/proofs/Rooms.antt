@@ -15,9 +15,9 @@ use Rattle.chip_layout.specs.Counted.{IsOfKind}
 use Rattle.chip_layout.specs.Layout.{HasRoom, Layout}
 use Rattle.chip_layout.proofs.Counting.{counted, used-at-most}
 use Rattle.plan_laws.specs.Moments.{IsMoment}
-use Rattle.plan_laws.specs.Plans.{AreInOrder, PlanChange, IsViewPlan, Make, Remove, Set, outcome, subject}
+use Rattle.plan_laws.specs.Plans.{AreRanked, PlanChange, IsViewPlan, Make, Remove, Set, outcome, subject}
 use Rattle.plan_laws.specs.Views.{AreLacking, FitsHitless, HasRoomFor, made_name, made_names}
-use Rattle.plan_laws.proofs.Following.{done-in, in_order-left, origin}
+use Rattle.plan_laws.proofs.Following.{done-in, ranked-left, origin}
 use Rattle.plan_laws.proofs.Lists.{in-left, in-right}
 use Rattle.plan_laws.proofs.Picked.{in-picked, picked-distinct, picked-in, picked-length}
 
@@ -80,7 +80,7 @@ module _ {order : PlanChange → ℕ} {old new : List Thing} {plan : List PlanCh
   -- what the first changes make of a kind has names that no old thing has, each once
   pub made-lacking : (done due : List PlanChange) → plan ≡ done ++ due → (kind : Kind) → AreLacking old new kind (made_names kind done)
   made-lacking done due cut kind = record {
-    distinct = picked-distinct (made_name kind) (made_subject kind) order done (in_order-left order done due (subst (AreInOrder order) cut is_plan.in_order));
+    distinct = picked-distinct (made_name kind) (made_subject kind) order done (ranked-left order done due (subst (AreRanked order) cut is_plan.in_order));
     each = λ k i.
         let c = in-picked (made_name kind) done k i in
         let m = is_made kind c.0 k c.2 in

@@ -13,13 +13,13 @@ use Rattle.sai_types.specs.Objects.{Objects}
 use Rattle.chip_layout.specs.Layout.{Has, IsUnused, Layout, next_id, with_changed, with_thing, without}
 use Rattle.chip_layout.proofs.Naming.{alike-laid}
 use Rattle.plan_laws.specs.Moments.{IsMoment, MakesChange, MakesChanges, SetsThing, layout_after}
-use Rattle.plan_laws.specs.Plans.{PlanChange, Make, Remove, Set, after_changes}
+use Rattle.plan_laws.specs.Plans.{PlanChange, Make, Remove, Set, stands_after_all}
 use Rattle.plan_laws.specs.Views.{HasRoomFor, HaveWholeGroups}
 use Rattle.plan_laws.proofs.Allowed.{IsSafePlan, ends-new, make-free, make-refers, new-ends, remove-there, remove-unused, set-refers, set-there}
-use Rattle.plan_laws.proofs.Following.{IsNamed}
+use Rattle.plan_laws.proofs.Following.{HasNamed}
 use Rattle.plan_laws.proofs.Lists.{cuts}
 use Rattle.plan_laws.proofs.Rooms.{room-for}
-use Rattle.plan_laws.proofs.Stepping.{IsAllowed, IsDone, IsMidMoment, IsPortName, done-same, make-done, moment-shown, one-set, port-shown, remove-done, set-done, set-layout, sets-front}
+use Rattle.plan_laws.proofs.Stepping.{IsAllowed, IsChangeMade, IsMidMoment, IsPortName, done-same, make-done, moment-shown, one-set, port-shown, remove-done, set-done, set-layout, sets-front}
 
 pub legal-append : (capacities : List ℕ) (made : ℕ) (objects : Objects) (xs ys : List (Call Rid)) → AreLegal capacities made objects xs → AreLegal capacities (made_after_all made xs) (after_calls made objects xs) ys → AreLegal capacities made objects (xs ++ ys)
 legal-append capacities made objects [] ys a b = b
@@ -60,7 +60,7 @@ end-append capacities old done later made objects xs ys same legal end = record 
 }
 
 -- the last moment before so many calls, and what stands after them
-pub record IsCut (old : List Thing) (done todo : List PlanChange) (made : ℕ) (objects : Objects) (xs ys : List (Call Rid)) : Type 1 where
+pub record IsBreak (old : List Thing) (done todo : List PlanChange) (made : ℕ) (objects : Objects) (xs ys : List (Call Rid)) : Type 1 where
   pub more : List PlanChange
   pub left : List PlanChange
   pub all : todo ≡ more ++ left
@@ -76,7 +76,7 @@ pub record IsCut (old : List Thing) (done todo : List PlanChange) (made : ℕ) (
 
 module _ {order : PlanChange → ℕ} {old new : List Thing} {plan : List PlanChange} (p : IsSafePlan order old new plan) where
   module _ (done due : List PlanChange) {layout : Layout Rid} {made : ℕ} {objects : Objects} (at : IsMoment old done layout made objects) where
-    has_named : (k : Name) → IsNamed (after_changes done (λ u. IsIn u old)) k → (i : Rid) × Has layout k i
+    has_named : (k : Name) → HasNamed (stands_after_all done (λ u. IsIn u old)) k → (i : Rid) × Has layout k i
     has_named k h = let i = at.all h.0 h.1 in (i.0, (h.0, i.1, h.2))
 
     -- each change may be made when its turn has come
@@ -87,16 +87,16 @@ module _ {order : PlanChange → ℕ} {old new : List Thing} {plan : List PlanCh
 
   module _ {start : Layout Rid} {made' : ℕ} {objects' : Objects} (first : IsMoment old [] start made' objects') (capacities : List ℕ) (room : HasRoomFor capacities objects' plan) where
     -- the calls of the next change are legal, and then it is done
-    pub plan-step : (done due : List PlanChange) {layout : Layout Rid} {made : ℕ} {objects : Objects} (at : IsMoment old done layout made objects) (c : PlanChange) → plan ≡ done ++ (c ∷ due) → (calls : List (Call Rid)) → MakesChange layout c calls → IsDone at capacities c calls (layout_after made layout c)
+    pub plan-step : (done due : List PlanChange) {layout : Layout Rid} {made : ℕ} {objects : Objects} (at : IsMoment old done layout made objects) (c : PlanChange) → plan ≡ done ++ (c ∷ due) → (calls : List (Call Rid)) → MakesChange layout c calls → IsChangeMade at capacities c calls (layout_after made layout c)
     plan-step done due {layout} {made} at (Make t) cut calls is =
         let space = room-for p.is_plan done due t cut first at capacities room in
-        subst (λ cs. IsDone at capacities (Make t) cs (with_thing layout (next_id made) t)) (sym is.2) (make-done at capacities t is.0 is.1 (allowed done due at (Make t) cut) space)
+        subst (λ cs. IsChangeMade at capacities (Make t) cs (with_thing layout (next_id made) t)) (sym is.2) (make-done at capacities t is.0 is.1 (allowed done due at (Make t) cut) space)
     plan-step done due {layout} {made} at (Set t) cut calls is =
         let same = set-layout at capacities t is.1 is.0 is.2 is.3 in
         done-same at capacities (Set t) calls (with_changed layout is.0 t) (layout_after made layout (Set t)) same.0 same.1 (set-done at capacities t is.1 is.0 calls is.2 is.4)
     plan-step done due {layout} at (Remove k) cut calls is =
         let unused : IsUnused layout (name_of is.1) = subst (IsUnused layout) (sym is.4) (allowed done due at (Remove k) cut).1 in
-        subst (λ cs. IsDone at capacities (Remove k) cs (without layout k)) (sym is.6) (subst (λ m. IsDone at capacities (Remove m) (call.Remove (entry_of is.0.0 is.2) ∷ []) (without layout m)) is.4 (remove-done at capacities is.1 is.0 is.2 is.3 is.5 unused))
+        subst (λ cs. IsChangeMade at capacities (Remove k) cs (without layout k)) (sym is.6) (subst (λ m. IsChangeMade at capacities (Remove m) (call.Remove (entry_of is.0.0 is.2) ∷ []) (without layout m)) is.4 (remove-done at capacities is.1 is.0 is.2 is.3 is.5 unused))
 
     run_from : (todo due done : List PlanChange) → plan ≡ done ++ (todo ++ due) → {layout : Layout Rid} {made : ℕ} {objects : Objects} → IsMoment old done layout made objects → (calls : List (Call Rid)) → MakesChanges made layout todo calls → IsEnd capacities old (done ++ todo) made objects calls
     run_from [] due done cut {layout} {made} {objects} at calls run = subst (IsEnd capacities old (done ++ []) made objects) (sym run) (record { legal = tt; layout = layout; at = subst (λ d. IsMoment old d layout made objects) (sym (append-nil done)) at })
@@ -112,7 +112,7 @@ module _ {order : PlanChange → ℕ} {old new : List Thing} {plan : List PlanCh
     -- ---- the place of a call in a run
 
     -- before the calls of a run
-    cut_here : (done todo : List PlanChange) {layout : Layout Rid} {made : ℕ} {objects : Objects} → IsMoment old done layout made objects → (ys : List (Call Rid)) → MakesChanges made layout todo ys → IsCut old done todo made objects [] ys
+    cut_here : (done todo : List PlanChange) {layout : Layout Rid} {made : ℕ} {objects : Objects} → IsMoment old done layout made objects → (ys : List (Call Rid)) → MakesChanges made layout todo ys → IsBreak old done todo made objects [] ys
     cut_here done todo {layout} {made} {objects} at ys run =
         let at' = subst (λ d. IsMoment old d layout made objects) (sym (append-nil done)) at in
         record { more = []; left = todo; all = refl; before = []; part = []; parts = refl; layout = layout; at = at'; run = run; amid = layout; amid_made = made; shown = moment-shown at' capacities }
@@ -122,11 +122,11 @@ module _ {order : PlanChange → ℕ} {old new : List Thing} {plan : List PlanCh
     nothing_before (x ∷ xs) m e = absurd cc
 
     module _ (c : PlanChange) (cs due done : List PlanChange) (cut : plan ≡ done ++ (c ∷ (cs ++ due))) {layout : Layout Rid} {made : ℕ} {objects : Objects} (at : IsMoment old done layout made objects) (front rest : List (Call Rid)) (is : MakesChange layout c front) (run : MakesChanges (made_after_all made front) (layout_after made layout c) cs rest) where
-      step : IsDone at capacities c front (layout_after made layout c)
+      step : IsChangeMade at capacities c front (layout_after made layout c)
       step = plan-step done (cs ++ due) at c cut front is
 
       -- after the calls of the first change
-      cut_after : (xs ys : List (Call Rid)) → xs ≡ front → ys ≡ rest → IsCut old done (c ∷ cs) made objects xs ys
+      cut_after : (xs ys : List (Call Rid)) → xs ≡ front → ys ≡ rest → IsBreak old done (c ∷ cs) made objects xs ys
       cut_after xs ys e f = record {
         more = c ∷ [];
         left = cs;
@@ -143,7 +143,7 @@ module _ {order : PlanChange → ℕ} {old new : List Thing} {plan : List PlanCh
       }
 
       -- between them
-      cut_amid : (xs m ys : List (Call Rid)) → front ≡ xs ++ m → ys ≡ m ++ rest → (amid : Layout Rid) → IsMidMoment old done amid made (after_calls made objects xs) → IsCut old done (c ∷ cs) made objects xs ys
+      cut_amid : (xs m ys : List (Call Rid)) → front ≡ xs ++ m → ys ≡ m ++ rest → (amid : Layout Rid) → IsMidMoment old done amid made (after_calls made objects xs) → IsBreak old done (c ∷ cs) made objects xs ys
       cut_amid xs m ys part after amid shown = record {
         more = [];
         left = c ∷ cs;
@@ -171,7 +171,7 @@ module _ {order : PlanChange → ℕ} {old new : List Thing} {plan : List PlanCh
       few (Remove k) is = inr (inr (call.Remove (entry_of is.0.0 is.2), is.6))
       few (Set t) is = elim (one-set is.0 front layout is.1 t is.4) [ inl port ↦ inl (is.0, is.1, t, is.2, port, is.4) | inr one ↦ inr one ]
 
-      cut_within : (xs m ys : List (Call Rid)) → front ≡ xs ++ m → ys ≡ m ++ rest → IsCut old done (c ∷ cs) made objects xs ys
+      cut_within : (xs m ys : List (Call Rid)) → front ≡ xs ++ m → ys ≡ m ++ rest → IsBreak old done (c ∷ cs) made objects xs ys
       cut_within xs m ys part after =
           elim (few c is) [
             | inl set ↦
@@ -187,7 +187,7 @@ module _ {order : PlanChange → ℕ} {old new : List Thing} {plan : List PlanCh
           ]
 
       -- behind them
-      cut_behind : (xs ms ys : List (Call Rid)) → xs ≡ front ++ ms → IsCut old (done ++ (c ∷ [])) cs (made_after_all made front) (after_calls made objects front) ms ys → IsCut old done (c ∷ cs) made objects xs ys
+      cut_behind : (xs ms ys : List (Call Rid)) → xs ≡ front ++ ms → IsBreak old (done ++ (c ∷ [])) cs (made_after_all made front) (after_calls made objects front) ms ys → IsBreak old done (c ∷ cs) made objects xs ys
       cut_behind xs ms ys e r =
           let changes = sym (joined done c r.more) in
           let calls = sym (after-append made objects front ms) ∙ ap (after_calls made objects) (sym e) in
@@ -206,7 +206,7 @@ module _ {order : PlanChange → ℕ} {old new : List Thing} {plan : List PlanCh
             shown = subst (IsMidMoment old (done ++ (c ∷ r.more)) r.amid r.amid_made) calls (subst (λ d. IsMidMoment old d r.amid r.amid_made (after_calls (made_after_all made front) (after_calls made objects front) ms)) changes r.shown);
           }
 
-    cut_from : (todo due done : List PlanChange) → plan ≡ done ++ (todo ++ due) → {layout : Layout Rid} {made : ℕ} {objects : Objects} → IsMoment old done layout made objects → (calls xs ys : List (Call Rid)) → MakesChanges made layout todo calls → calls ≡ xs ++ ys → IsCut old done todo made objects xs ys
+    cut_from : (todo due done : List PlanChange) → plan ≡ done ++ (todo ++ due) → {layout : Layout Rid} {made : ℕ} {objects : Objects} → IsMoment old done layout made objects → (calls xs ys : List (Call Rid)) → MakesChanges made layout todo calls → calls ≡ xs ++ ys → IsBreak old done todo made objects xs ys
     cut_from [] due done cut at calls [] ys run part = cut_here done [] at ys (sym part ∙ run)
     cut_from [] due done cut at calls (x ∷ xs) ys run part = let no = sym run ∙ part in absurd cc
     cut_from (c ∷ cs) due done cut at calls xs ys run part =
@@ -215,14 +215,14 @@ module _ {order : PlanChange → ℕ} {old new : List Thing} {plan : List PlanCh
           | inr m ↦ cut_behind c cs due done cut at run.0 run.1 run.3 run.4 xs m.0 ys m.1 (cut_from cs due (done ++ (c ∷ [])) (cut ∙ joined done c (cs ++ due)) (step c cs due done cut at run.0 run.1 run.3 run.4).next run.1 m.0 ys run.4 m.2)
         ]
 
-    pub run-cut : (todo due : List PlanChange) → plan ≡ todo ++ due → (calls xs ys : List (Call Rid)) → MakesChanges made' start todo calls → calls ≡ xs ++ ys → IsCut old [] todo made' objects' xs ys
+    pub run-cut : (todo due : List PlanChange) → plan ≡ todo ++ due → (calls xs ys : List (Call Rid)) → MakesChanges made' start todo calls → calls ≡ xs ++ ys → IsBreak old [] todo made' objects' xs ys
     run-cut todo due cut calls xs ys run part = cut_from todo due [] cut first calls xs ys run part
 
     -- what stands so many calls later
-    pub later-cut : (todo due : List PlanChange) → plan ≡ todo ++ due → (xs ms zs : List (Call Rid)) (c : IsCut old [] todo made' objects' xs (ms ++ zs)) → IsCut old c.more c.left (made_after_all made' c.before) (after_calls made' objects' c.before) (c.part ++ ms) zs
+    pub later-cut : (todo due : List PlanChange) → plan ≡ todo ++ due → (xs ms zs : List (Call Rid)) (c : IsBreak old [] todo made' objects' xs (ms ++ zs)) → IsBreak old c.more c.left (made_after_all made' c.before) (after_calls made' objects' c.before) (c.part ++ ms) zs
     later-cut todo due cut xs ms zs c = cut_from c.left due c.more (cut ∙ ap (λ l. l ++ due) c.all ∙ append_assoc c.more c.left due) c.at (c.part ++ (ms ++ zs)) (c.part ++ ms) zs c.run (sym (append_assoc c.part ms zs))
 
-    pub later-same : (todo : List PlanChange) (xs ms zs : List (Call Rid)) (c : IsCut old [] todo made' objects' xs (ms ++ zs)) → after_calls (made_after_all made' c.before) (after_calls made' objects' c.before) (c.part ++ ms) ≡ after_calls made' objects' (xs ++ ms)
+    pub later-same : (todo : List PlanChange) (xs ms zs : List (Call Rid)) (c : IsBreak old [] todo made' objects' xs (ms ++ zs)) → after_calls (made_after_all made' c.before) (after_calls made' objects' c.before) (c.part ++ ms) ≡ after_calls made' objects' (xs ++ ms)
     later-same todo xs ms zs c = sym (after-append made' objects' c.before (c.part ++ ms)) ∙ ap (after_calls made' objects') (sym (append_assoc c.before c.part ms) ∙ ap (λ l. l ++ ms) (sym c.parts))
 
   -- ---- the end

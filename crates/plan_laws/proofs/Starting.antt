@@ -35,8 +35,8 @@ use Rattle.chip_layout.proofs.Naming.{IsAmong, among}
 use Rattle.chip_layout.proofs.Seeing.{body-seen, seen-laid}
 use Rattle.plan_laws.specs.Applied.{IsListed}
 use Rattle.plan_laws.specs.Moments.{IsMoment}
-use Rattle.plan_laws.specs.Old.{group_stays, groups_of, hops_or_none, old_layout, old_things, seen_things, shown_hops, tag_of}
-use Rattle.plan_laws.specs.Views.{AreNamed}
+use Rattle.plan_laws.specs.Old.{group_stays, chip_groups, hops_or_none, old_layout, old_things, seen_things, shown_hops, tag_of}
+use Rattle.plan_laws.specs.Views.{HaveOwnNames}
 use Rattle.plan_laws.proofs.Lists.{in-map, map-in}
 use Rattle.plan_laws.proofs.Tagging.{all-groups, hops-of_tag, hops-rising, hops_for, stays-apart, tags-apart}
 use Rattle.plan_laws.proofs.Targets.{AreTagged, is-group}
@@ -123,7 +123,7 @@ module _ {made : ℕ} {objects : Objects} (chip : IsListed made objects) (new : 
   pub first-moment : IsMoment old [] start made objects
   first-moment = record { whole = chip.whole; laid = old-laid; sound = seen-old; all = old-seen }
 
-  pub old-named : AreNamed old
+  pub old-named : HaveOwnNames old
   old-named = record {
     one = λ t u i j same. let x = old-seen t i in let y = old-seen u j in (old-laid.one x.0 y.0 t u x.1 y.1 same).1;
     proper = λ p g i.
@@ -131,13 +131,13 @@ module _ {made : ℕ} {objects : Objects} (chip : IsListed made objects) (new : 
         subst HasPrefix (body-seen tag made objects chip.whole s.entry s.body (thing.Route p g) s.found s.thing).body_is (chip.prefixes.each s.entry s.body s.found);
   }
 
-  abbrev pub hops_of : List Hop → List Hop
-  hops_of = hops_for (shown_hops objects)
+  abbrev pub hops_by_tag : List Hop → List Hop
+  hops_by_tag = hops_for (shown_hops objects)
 
   group_hops : (a b : List Hop) → Some (thing.Group a) ≡ Some (thing.Group b) → b ≡ a
   group_hops a b e = cc
 
-  pub group-seen : (g : Rid) (t : List Hop) → start g (thing.Group t) → (t ≡ tag g) × IsIn g (groups_of objects)
+  pub group-seen : (g : Rid) (t : List Hop) → start g (thing.Group t) → (t ≡ tag g) × IsIn g (chip_groups objects)
   group-seen g t s =
       let is : s.body ≡ body.Group = (body-seen tag made objects chip.whole s.entry s.body (thing.Group t) s.found s.thing).body_is in
       let at = entry-exact s.entry (entry.Oid g) (ap (λ z. same_entry s.entry (entry_of g.0 z)) (sym is) ∙ s.at) in
@@ -151,18 +151,18 @@ module _ {made : ℕ} {objects : Objects} (chip : IsListed made objects) (new : 
     pub hops-there : hops_at objects g ≡ Some (shown_hops objects g)
     hops-there = these.is ∙ ap Some (sym (ap hops_or_none these.is))
 
-    those_are : these.those ≡ hops_of t
+    those_are : these.those ≡ hops_by_tag t
     those_are =
         let at = group-seen g t s in
-        sym (ap hops_or_none these.is) ∙ sym (hops-of_tag stays (shown_hops objects) rises g) ∙ ap hops_of (sym at.0)
+        sym (ap hops_or_none these.is) ∙ sym (hops-of_tag stays (shown_hops objects) rises g) ∙ ap hops_by_tag (sym at.0)
 
-    group_rising : IsStrictlySortedBy hop_cmp (hops_of t)
+    group_rising : IsStrictlySortedBy hop_cmp (hops_by_tag t)
     group_rising = subst (IsStrictlySortedBy hop_cmp) those_are these.rising
 
-    group_have : (hop : Hop) → IsIn hop (hops_of t) → IsIn (thing.GroupMember t hop) old
+    group_have : (hop : Hop) → IsIn hop (hops_by_tag t) → IsIn (thing.GroupMember t hop) old
     group_have hop i = let m = these.sound hop (subst (IsIn hop) (sym those_are) i) in seen-old m.0 (thing.GroupMember t hop) m.1
 
-    group_only : (j : Rid) (hop : Hop) → start j (thing.GroupMember t hop) → IsIn hop (hops_of t)
+    group_only : (j : Rid) (hop : Hop) → start j (thing.GroupMember t hop) → IsIn hop (hops_by_tag t)
     group_only j hop m =
         let has = old-laid.stand j (thing.GroupMember t hop) m in
         let object = in-found objects (entry_of j.0 has.0) has.0 has.2 in
@@ -171,7 +171,7 @@ module _ {made : ℕ} {objects : Objects} (chip : IsListed made objects) (new : 
   pub group-there : (t : List Hop) (g : Rid) → Has start (name.Group t) g → start g (thing.Group t)
   group-there t g h = subst (start g) (is-group h.0 t h.2) h.1
 
-  pub old-tagged : AreTagged hops_of old
+  pub old-tagged : AreTagged hops_by_tag old
   old-tagged = record {
     rising = λ t i. let x = old-seen (thing.Group t) i in group_rising x.0 t x.1;
     have = λ t hop i h. let x = old-seen (thing.Group t) i in group_have x.0 t x.1 hop h;
@@ -185,5 +185,5 @@ module _ {made : ℕ} {objects : Objects} (chip : IsListed made objects) (new : 
         seen-old has.1.first (thing.Group t) (group-there t has.1.first has.1.first_at);
   }
 
-  pub hops-same : (hops : List Hop) → IsStrictlySortedBy hop_cmp hops → hops_of hops ≡ hops
+  pub hops-same : (hops : List Hop) → IsStrictlySortedBy hop_cmp hops → hops_by_tag hops ≡ hops
   hops-same hops up = hops-rising (shown_hops objects) hops up

@@ -25,16 +25,16 @@ use Rattle.chip_layout.proofs.Removing.{remove-laid, remove-legal}
 use Rattle.chip_layout.proofs.Setting.{set-laid, set-legal}
 use Rattle.chip_layout.proofs.Shapes.{IsWithin, laid-same}
 use Rattle.plan_laws.specs.Moments.{IsMoment, SetsThing, attr_place, layout_after}
-use Rattle.plan_laws.specs.Plans.{PlanChange, Make, Remove, Set, after_change, after_changes}
+use Rattle.plan_laws.specs.Plans.{PlanChange, Make, Remove, Set, stands_after, stands_after_all}
 use Rattle.plan_laws.proofs.Named.{same-or}
 
-snoc_to : (xs : List PlanChange) (c : PlanChange) (now : Thing → Type 0) (t : Thing) → after_changes (xs ++ (c ∷ [])) now t → after_change c (after_changes xs now) t
+snoc_to : (xs : List PlanChange) (c : PlanChange) (now : Thing → Type 0) (t : Thing) → stands_after_all (xs ++ (c ∷ [])) now t → stands_after c (stands_after_all xs now) t
 snoc_to [] c now t h = h
-snoc_to (x ∷ xs) c now t h = snoc_to xs c (after_change x now) t h
+snoc_to (x ∷ xs) c now t h = snoc_to xs c (stands_after x now) t h
 
-snoc_from : (xs : List PlanChange) (c : PlanChange) (now : Thing → Type 0) (t : Thing) → after_change c (after_changes xs now) t → after_changes (xs ++ (c ∷ [])) now t
+snoc_from : (xs : List PlanChange) (c : PlanChange) (now : Thing → Type 0) (t : Thing) → stands_after c (stands_after_all xs now) t → stands_after_all (xs ++ (c ∷ [])) now t
 snoc_from [] c now t h = h
-snoc_from (x ∷ xs) c now t h = snoc_from xs c (after_change x now) t h
+snoc_from (x ∷ xs) c now t h = snoc_from xs c (stands_after x now) t h
 
 -- ---- sets of one thing
 
@@ -55,13 +55,13 @@ twice_from layout i v t same j w (inl (h, apart)) = inl (inl (h, λ e. apart (e 
 twice_from layout i v t same j w (inr h) = inr h
 
 -- what sets of a thing come to
-record IsSet (i : Rid) (calls : List (Call Rid)) (layout : Layout Rid) (objects : Objects) (u t : Thing) (capacities : List ℕ) (made : ℕ) : Type 0 where
+record IsSetTo (i : Rid) (calls : List (Call Rid)) (layout : Layout Rid) (objects : Objects) (u t : Thing) (capacities : List ℕ) (made : ℕ) : Type 0 where
   legal : AreLegal capacities made objects calls
   laid : IsLaidOut (with_changed layout i t) (after_calls made objects calls)
   named : name_of u ≡ name_of t
   none_made : made_after_all made calls ≡ made
 
-sets_named : (i : Rid) (place : ℕ) (calls : List (Call Rid)) (layout : Layout Rid) (objects : Objects) (u t : Thing) → IsLaidOut layout objects → layout i u → SetsThing i place calls layout u t → (capacities : List ℕ) (made : ℕ) → IsSet i calls layout objects u t capacities made
+sets_named : (i : Rid) (place : ℕ) (calls : List (Call Rid)) (layout : Layout Rid) (objects : Objects) (u t : Thing) → IsLaidOut layout objects → layout i u → SetsThing i place calls layout u t → (capacities : List ℕ) (made : ℕ) → IsSetTo i calls layout objects u t capacities made
 sets_named i place [] layout objects u t laid there is capacities made = record { legal = tt; laid = subst (λ z. IsLaidOut (with_changed layout i z) objects) is (same_changed layout objects i u laid there); named = ap name_of is; none_made = refl }
 sets_named i place (c ∷ cs) layout objects u t laid there is capacities made =
     let b = is.0 in
@@ -71,7 +71,7 @@ sets_named i place (c ∷ cs) layout objects u t laid there is capacities made =
     let laid' = set-laid layout made objects laid i u v b a there is.3 is.4 in
     let rest = sets_named i (attr_place a + 1) cs (with_changed layout i v) (after_call (made + 1) objects set) v t laid' (inr (refl, refl)) is.7 capacities made in
     let same : name_of u ≡ name_of v = sym ((changed layout objects laid u v b a is.3 is.4).same) in
-    subst (λ z. IsSet i (z ∷ cs) layout objects u t capacities made) (sym is.5) (record {
+    subst (λ z. IsSetTo i (z ∷ cs) layout objects u t capacities made) (sym is.5) (record {
       legal = (set-legal layout made objects laid i u v b a there is.3 is.4 capacities, rest.legal);
       laid = laid-same (with_changed (with_changed layout i v) i t) (with_changed layout i t) (after_calls made objects (set ∷ cs)) (twice_to layout i v t rest.named) (twice_from layout i v t rest.named) rest.laid;
       named = same ∙ rest.named;
@@ -112,8 +112,8 @@ one-set i (c ∷ d ∷ cs) layout u t is =
 pub record IsMidMoment (old : List Thing) (done : List PlanChange) (layout : Layout Rid) (made : ℕ) (objects : Objects) : Type 0 where
   pub whole : IsWhole made objects
   pub laid : IsLaidOut layout objects
-  pub sound : (i : Rid) (t : Thing) → (IsPortName (name_of t) → ⊥) → layout i t → after_changes done (λ u. IsIn u old) t
-  pub all : (t : Thing) → (IsPortName (name_of t) → ⊥) → after_changes done (λ u. IsIn u old) t → (i : Rid) × layout i t
+  pub sound : (i : Rid) (t : Thing) → (IsPortName (name_of t) → ⊥) → layout i t → stands_after_all done (λ u. IsIn u old) t
+  pub all : (t : Thing) → (IsPortName (name_of t) → ⊥) → stands_after_all done (λ u. IsIn u old) t → (i : Rid) × layout i t
 
 -- a change may be made
 abbrev pub IsAllowed : Layout Rid → PlanChange → Type 0
@@ -122,7 +122,7 @@ IsAllowed layout (Set t) = ((i : Rid) × Has layout (name_of t) i) × RefersWell
 IsAllowed layout (Remove k) = ((i : Rid) × Has layout k i) × IsUnused layout k
 
 module _ {old : List Thing} {done : List PlanChange} {layout : Layout Rid} {made : ℕ} {objects : Objects} (at : IsMoment old done layout made objects) (capacities : List ℕ) where
-  pub record IsDone (c : PlanChange) (calls : List (Call Rid)) (later : Layout Rid) : Type 0 where
+  pub record IsChangeMade (c : PlanChange) (calls : List (Call Rid)) (later : Layout Rid) : Type 0 where
     pub legal : AreLegal capacities made objects calls
     pub next : IsMoment old (done ++ (c ∷ [])) later (made_after_all made calls) (after_calls made objects calls)
     pub keeps : (k : Name) (j : Rid) → Has layout k j → (i : Rid) → Has later k i → Has later k j
@@ -131,7 +131,7 @@ module _ {old : List Thing} {done : List PlanChange} {layout : Layout Rid} {made
   has_within : (x y : Layout Rid) → IsWithin x y → (k : Name) (j : Rid) → Has x k j → Has y k j
   has_within x y to k j h = (h.0, to j h.0 h.1, h.2)
 
-  pub done-same : (c : PlanChange) (calls : List (Call Rid)) (later other : Layout Rid) → IsWithin later other → IsWithin other later → IsDone c calls later → IsDone c calls other
+  pub done-same : (c : PlanChange) (calls : List (Call Rid)) (later other : Layout Rid) → IsWithin later other → IsWithin other later → IsChangeMade c calls later → IsChangeMade c calls other
   done-same c calls later other to back is = record {
     legal = is.legal;
     next = record {
@@ -150,7 +150,7 @@ module _ {old : List Thing} {done : List PlanChange} {layout : Layout Rid} {made
     λ j w h. elim h [ inl old ↦ inl old | inr is ↦ inr (one-id layout objects at.laid (name_of t) j i is.0 (u, there, same), is.1) ],
   )
 
-  pub make-done : (t : Thing) (b : Body Rid) → IsBody (Has layout) t b → IsAllowed layout (Make t) → HasRoom capacities objects t → IsDone (Make t) (call.Create b ∷ []) (with_thing layout (next_id made) t)
+  pub make-done : (t : Thing) (b : Body Rid) → IsBody (Has layout) t b → IsAllowed layout (Make t) → HasRoom capacities objects t → IsChangeMade (Make t) (call.Create b ∷ []) (with_thing layout (next_id made) t)
   make-done t b of allowed room =
       let legal = make-legal layout made objects at.whole at.laid t b of allowed.0 capacities allowed.1 room in record {
         legal = (legal, tt);
@@ -164,7 +164,7 @@ module _ {old : List Thing} {done : List PlanChange} {layout : Layout Rid} {made
         };
       }
 
-  pub set-done : (t u : Thing) (i : Rid) (calls : List (Call Rid)) → layout i u → SetsThing i 0 calls layout u t → IsDone (Set t) calls (with_changed layout i t)
+  pub set-done : (t u : Thing) (i : Rid) (calls : List (Call Rid)) → layout i u → SetsThing i 0 calls layout u t → IsChangeMade (Set t) calls (with_changed layout i t)
   set-done t u i calls there sets =
       let is = sets_named i 0 calls layout objects u t at.laid there sets capacities made in record {
         legal = is.legal;
@@ -181,7 +181,7 @@ module _ {old : List Thing} {done : List PlanChange} {layout : Layout Rid} {made
         };
       }
 
-  pub remove-done : (u : Thing) (i : Rid) (b : Body Rid) → layout i u → IsBody (Has layout) u b → IsUnused layout (name_of u) → IsDone (Remove (name_of u)) (call.Remove (entry_of i.0 b) ∷ []) (without layout (name_of u))
+  pub remove-done : (u : Thing) (i : Rid) (b : Body Rid) → layout i u → IsBody (Has layout) u b → IsUnused layout (name_of u) → IsChangeMade (Remove (name_of u)) (call.Remove (entry_of i.0 b) ∷ []) (without layout (name_of u))
   remove-done u i b there of unused =
       let legal = remove-legal layout made objects at.whole at.laid i u b there of unused capacities in record {
         legal = (legal, tt);

@@ -18,7 +18,7 @@ use Rattle.sai_types.proofs.Exact.{entry-exact, id-exact}
 use Rattle.sai_types.proofs.Keys.{both_true}
 use Rattle.sai_types.proofs.Listed.{in-found}
 use Rattle.chip_layout.proofs.Answering.{in_those}
-use Rattle.plan_laws.specs.Old.{filler, group_of, group_stays, groups_of, is_double, is_group_of, no_hop, same_hops, shown_hops, tag_for}
+use Rattle.plan_laws.specs.Old.{filler, chip_group, group_stays, chip_groups, is_double, is_group_of, no_hop, same_hops, shown_hops, tag_for}
 use Rattle.plan_laws.proofs.Lists.{any-in, in-any, in-map}
 use Rattle.plan_laws.proofs.Named.{hops_exact, hops_refl}
 
@@ -83,10 +83,10 @@ module _ (kept : Rid → Bool) (hops : Rid → List Hop) (rising : (g : Rid) →
 
 -- ---- the groups of a chip, and which of them stay
 
-pub all-groups : (objects : Objects) (g : Rid) → body_at objects (entry.Oid g) ≡ Some body.Group → IsIn g (groups_of objects)
+pub all-groups : (objects : Objects) (g : Rid) → body_at objects (entry.Oid g) ≡ Some body.Group → IsIn g (chip_groups objects)
 all-groups objects g found =
     let o = in-found objects (entry.Oid g) body.Group found in
-    in_those g (map group_of objects) (in-map group_of objects (entry.Oid g, body.Group) (subst (λ e. IsIn (e, body.Group) objects) (sym (entry-exact (entry.Oid g) o.0 o.1)) o.2))
+    in_those g (map chip_group objects) (in-map chip_group objects (entry.Oid g, body.Group) (subst (λ e. IsIn (e, body.Group) objects) (sym (entry-exact (entry.Oid g) o.0 o.1)) o.2))
 
 not_false : (b : Bool) → not b ≡ true → b ≡ false
 not_false true h = absurd (false≢true h)
@@ -97,21 +97,21 @@ lesser_or m n = grind (arith, nat_tests)
 
 module _ (objects : Objects) (new : List Thing) where
   record IsStaying (g : Rid) : Type 0 where
-    pub there : IsIn g (groups_of objects)
+    pub there : IsIn g (chip_groups objects)
     pub wanted : list_any (is_group_of (shown_hops objects g)) new ≡ true
     pub least : is_double objects g ≡ false
 
   kept_parts : (g : Rid) → group_stays objects new g ≡ true → IsStaying g
   kept_parts g h =
-      let parts = and_parts (list_any (same_id g) (groups_of objects)) _ h in
+      let parts = and_parts (list_any (same_id g) (chip_groups objects)) _ h in
       let rest = and_parts (list_any (is_group_of (shown_hops objects g)) new) _ parts.1 in
-      let x = any-in (same_id g) (groups_of objects) parts.0 in
-      record { there = subst (λ z. IsIn z (groups_of objects)) (sym (id-exact g x.0 x.2)) x.1; wanted = rest.0; least = not_false _ rest.1 }
+      let x = any-in (same_id g) (chip_groups objects) parts.0 in
+      record { there = subst (λ z. IsIn z (chip_groups objects)) (sym (id-exact g x.0 x.2)) x.1; wanted = rest.0; least = not_false _ rest.1 }
 
   not_less : (g h : Rid) → IsStaying g → IsStaying h → shown_hops objects g ≡ shown_hops objects h → nat_lt g.0 h.0 ≡ true → ⊥
   not_less g h x y same less =
       let hops : same_hops (shown_hops objects g) (shown_hops objects h) ≡ true = ap (λ z. same_hops (shown_hops objects g) z) (sym same) ∙ hops_refl (shown_hops objects g) in
-      false≢true (sym y.least ∙ in-any (λ k. nat_lt k.0 h.0 && same_hops (shown_hops objects k) (shown_hops objects h)) (groups_of objects) g x.there (both_true (nat_lt g.0 h.0) _ less hops))
+      false≢true (sym y.least ∙ in-any (λ k. nat_lt k.0 h.0 && same_hops (shown_hops objects k) (shown_hops objects h)) (chip_groups objects) g x.there (both_true (nat_lt g.0 h.0) _ less hops))
 
   pub stays-apart : (g h : Rid) → group_stays objects new g ≡ true → group_stays objects new h ≡ true → shown_hops objects g ≡ shown_hops objects h → g ≡ h
   stays-apart g h x y same =

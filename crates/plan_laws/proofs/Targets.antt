@@ -11,11 +11,11 @@ use Rattle.sai_types.specs.Alike.{IsIn}
 use Rattle.sai_types.specs.Named.{hop_cmp}
 use Rattle.sai_types.specs.Names as name
 use Rattle.sai_types.specs.Names.{Name, name_of}
-use Rattle.plan_laws.specs.Plans.{PlanChange, Make, Remove, Set, after_changes, hitless_rank, make_rank, outcome, set_rank}
+use Rattle.plan_laws.specs.Plans.{PlanChange, Make, Remove, Set, stands_after_all, hitless_rank, make_rank, outcome, set_rank}
 use Rattle.plan_laws.specs.Views.{HaveWholeGroups}
 use Rattle.plan_laws.proofs.Allowed.{IsSafePlan}
 use Rattle.plan_laws.proofs.Deciders.{len_within}
-use Rattle.plan_laws.proofs.Following.{IsNamed, IsUntouched, before, done-in, new-stands, old-new, old-stands, origin, outcome-new}
+use Rattle.plan_laws.proofs.Following.{HasNamed, IsUntouched, before, done-in, new-stands, old-new, old-stands, origin, outcome-new}
 use Rattle.plan_laws.proofs.Moving.{set-most}
 
 -- the tag of each group is for the hops of its members, which rise, and a route's group is there
@@ -57,7 +57,7 @@ module _ {hops_of : List Hop → List Hop} {old new : List Thing} {plan : List P
 
   module _ (done due : List PlanChange) (cut : plan ≡ done ++ due) where
     abbrev now : Thing → Type 0
-    now = after_changes done (λ u. IsIn u old)
+    now = stands_after_all done (λ u. IsIn u old)
 
     comes : (c : PlanChange) (u : Thing) → IsIn c done → outcome c ≡ Some u → IsIn u new
     comes c u i o = outcome-new q.safe.is_plan c u (done-in q.safe.is_plan done due cut c i) o
@@ -70,7 +70,7 @@ module _ {hops_of : List Hop → List Hop} {old new : List Thing} {plan : List P
           | inr c ↦ let i = comes c.0 (thing.GroupMember tag hop) c.1 c.2 in subst (IsIn hop) (sym (q.same tag (group_of_member tag hop i))) (q.grouped.only tag hop i)
         ]
 
-    stands_as : (tag : List Hop) (hop : Hop) → IsNamed now (name.GroupMember tag hop) → now (thing.GroupMember tag hop)
+    stands_as : (tag : List Hop) (hop : Hop) → HasNamed now (name.GroupMember tag hop) → now (thing.GroupMember tag hop)
     stands_as tag hop h = subst now (is-member h.0 tag hop h.2) h.1
 
     -- the members of a new route's group are made before it

@@ -13,7 +13,7 @@ use Rattle.chip_layout.specs.Layout.{Layout}
 use Rattle.plan_laws.specs.Moments.{MakesChanges}
 use Rattle.plan_laws.specs.Old.{old_layout, old_things}
 use Rattle.plan_laws.specs.Plans.{PlanChange, IsViewPlan, cold_rank, hitless_rank}
-use Rattle.plan_laws.specs.Views.{AreNamed, HasRoomFor, HaveWholeGroups, LanesApart, ReferWithin, made_names}
+use Rattle.plan_laws.specs.Views.{HaveOwnNames, HasRoomFor, HaveWholeGroups, LanesApart, ReferWithin, made_names}
 
 -- what stands on a chip
 abbrev pub chip_things : Objects → List Thing
@@ -27,7 +27,7 @@ pub record IsListed (made : ℕ) (objects : Objects) : Type 0 where
 
 -- a view that a plan can lead to
 pub record IsView (new : List Thing) : Type 0 where
-  pub named : AreNamed new
+  pub named : HaveOwnNames new
   pub within : ReferWithin new
   pub grouped : HaveWholeGroups new
 

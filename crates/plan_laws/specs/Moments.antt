@@ -14,14 +14,14 @@ use Rattle.sai_types.specs.Names.{name_of}
 use Rattle.sai_types.specs.Objects.{Objects}
 use Rattle.chip_layout.specs.Bodies.{IsBody, IsChange}
 use Rattle.chip_layout.specs.Layout.{Has, IsLaidOut, Layout, next_id, with_changed, with_thing, without}
-use Rattle.plan_laws.specs.Plans.{PlanChange, Make, Remove, Set, after_changes}
+use Rattle.plan_laws.specs.Plans.{PlanChange, Make, Remove, Set, stands_after_all}
 
 -- the chip is laid out, and what stands on it is what stands after these changes of the old things
 pub record IsMoment (old : List Thing) (done : List PlanChange) (layout : Layout Rid) (made : ℕ) (objects : Objects) : Type 0 where
   pub whole : IsWhole made objects
   pub laid : IsLaidOut layout objects
-  pub sound : (i : Rid) (t : Thing) → layout i t → after_changes done (λ u. IsIn u old) t
-  pub all : (t : Thing) → after_changes done (λ u. IsIn u old) t → (i : Rid) × layout i t
+  pub sound : (i : Rid) (t : Thing) → layout i t → stands_after_all done (λ u. IsIn u old) t
+  pub all : (t : Thing) → stands_after_all done (λ u. IsIn u old) t → (i : Rid) × layout i t
 
 -- the order in which a port's attributes are set; the other kinds have one that can be set, or none
 abbrev pub attr_place : {I : Type 0} → Attr I → ℕ

@@ -20,13 +20,13 @@ use Rattle.chip_layout.specs.Seen.{seen, tagged}
 
 -- ---- which groups stay
 
-abbrev pub group_of : (Entry Rid × Body Rid) → Option Rid
-group_of (entry.Oid g, body.Group) = Some g
-group_of _ = None
+abbrev pub chip_group : (Entry Rid × Body Rid) → Option Rid
+chip_group (entry.Oid g, body.Group) = Some g
+chip_group _ = None
 
 -- the groups of a chip
-abbrev pub groups_of : Objects → List Rid
-groups_of objects = those (map group_of objects)
+abbrev pub chip_groups : Objects → List Rid
+chip_groups objects = those (map chip_group objects)
 
 abbrev pub hops_or_none : Option (List Hop) → List Hop
 hops_or_none None = []
@@ -48,11 +48,11 @@ is_group_of hops _ = false
 
 -- whether another group of the same hops has a lesser identifier
 abbrev pub is_double : Objects → Rid → Bool
-is_double objects g = list_any (λ h. nat_lt h.0 g.0 && same_hops (shown_hops objects h) (shown_hops objects g)) (groups_of objects)
+is_double objects g = list_any (λ h. nat_lt h.0 g.0 && same_hops (shown_hops objects h) (shown_hops objects g)) (chip_groups objects)
 
 -- an old group stays where the new view has a group of its hops, and it is no double
 abbrev pub group_stays : Objects → List Thing → Rid → Bool
-group_stays objects new g = list_any (same_id g) (groups_of objects) && (list_any (is_group_of (shown_hops objects g)) new && not (is_double objects g))
+group_stays objects new g = list_any (same_id g) (chip_groups objects) && (list_any (is_group_of (shown_hops objects g)) new && not (is_double objects g))
 
 -- ---- tags
 

@@ -24,18 +24,18 @@ outcome (Set t) = Some t
 outcome (Remove k) = None
 
 -- what stands after a change
-abbrev pub after_change : PlanChange → (Thing → Type 0) → Thing → Type 0
-after_change c now t = (now t × (name_of t ≡ subject c → ⊥)) ⊎ (outcome c ≡ Some t)
+abbrev pub stands_after : PlanChange → (Thing → Type 0) → Thing → Type 0
+stands_after c now t = (now t × (name_of t ≡ subject c → ⊥)) ⊎ (outcome c ≡ Some t)
 
 -- what stands after changes, made in order
-abbrev pub after_changes : List PlanChange → (Thing → Type 0) → Thing → Type 0
-after_changes [] now = now
-after_changes (c ∷ cs) now = after_changes cs (after_change c now)
+abbrev pub stands_after_all : List PlanChange → (Thing → Type 0) → Thing → Type 0
+stands_after_all [] now = now
+stands_after_all (c ∷ cs) now = stands_after_all cs (stands_after c now)
 
 -- the changes rise by their ranks, and no two are about one name
-abbrev pub AreInOrder : (PlanChange → ℕ) → List PlanChange → Type 0
-AreInOrder rank [] = Unit {0}
-AreInOrder rank (c ∷ cs) = ((d : PlanChange) → IsIn d cs → (rank c ≤ rank d) × (subject c ≡ subject d → ⊥)) × AreInOrder rank cs
+abbrev pub AreRanked : (PlanChange → ℕ) → List PlanChange → Type 0
+AreRanked rank [] = Unit {0}
+AreRanked rank (c ∷ cs) = ((d : PlanChange) → IsIn d cs → (rank c ≤ rank d) × (subject c ≡ subject d → ⊥)) × AreRanked rank cs
 
 -- the changes that make the new things of the old ones: what the old ones lack is made, what differs is set, and what the new ones lack is removed
 pub record IsViewPlan (rank : PlanChange → ℕ) (old new : List Thing) (plan : List PlanChange) : Type 0 where
@@ -44,7 +44,7 @@ pub record IsViewPlan (rank : PlanChange → ℕ) (old new : List Thing) (plan :
   pub removes : (k : Name) → IsIn (Remove k) plan → (u : Thing) × IsIn u old × (name_of u ≡ k) × ((t : Thing) → IsIn t new → name_of t ≡ k → ⊥)
   pub whole : (t : Thing) → IsIn t new → IsIn t old ⊎ (IsIn (Make t) plan ⊎ IsIn (Set t) plan)
   pub gone : (u : Thing) → IsIn u old → ((t : Thing) × IsIn t new × (name_of t ≡ name_of u)) ⊎ IsIn (Remove (name_of u)) plan
-  pub in_order : AreInOrder rank plan
+  pub in_order : AreRanked rank plan
 
 -- ---- the two orders
 

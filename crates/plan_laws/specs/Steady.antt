@@ -6,7 +6,7 @@ use Rattle.sai_types.specs.Alike.{IsIn}
 use Rattle.sai_types.specs.Forwarding.{decide, forward}
 use Rattle.sai_types.specs.Names as name
 use Rattle.sai_types.specs.Names.{Name, name_of}
-use Rattle.plan_laws.specs.Plans.{PlanChange, after_changes}
+use Rattle.plan_laws.specs.Plans.{PlanChange, stands_after_all}
 
 -- the names by which packets go
 abbrev pub IsForwarding : Name → Type 0
@@ -17,8 +17,8 @@ IsForwarding _ = ⊥
 
 -- a list of what stands after changes of the old things, as far as packets go by it
 pub record ForwardsAfter (old : List Thing) (done : List PlanChange) (now : List Thing) : Type 0 where
-  pub sound : (t : Thing) → IsForwarding (name_of t) → IsIn t now → after_changes done (λ u. IsIn u old) t
-  pub all : (t : Thing) → IsForwarding (name_of t) → after_changes done (λ u. IsIn u old) t → IsIn t now
+  pub sound : (t : Thing) → IsForwarding (name_of t) → IsIn t now → stands_after_all done (λ u. IsIn u old) t
+  pub all : (t : Thing) → IsForwarding (name_of t) → stands_after_all done (λ u. IsIn u old) t → IsIn t now
 
 -- each address is decided as by the old things or as by the new ones
 abbrev pub IsOldOrNew : List Thing → List Thing → List Thing → Type 0

@@ -17,7 +17,7 @@ use Rattle.chip_layout.specs.Counted.{AreDistinct}
 use Rattle.plan_laws.specs.Plans.{PlanChange, Make}
 
 -- no two things have one name, and each route's prefix is proper
-pub record AreNamed (things : List Thing) : Type 0 where
+pub record HaveOwnNames (things : List Thing) : Type 0 where
   pub one : (t u : Thing) → IsIn t things → IsIn u things → name_of t ≡ name_of u → t ≡ u
   pub proper : (p : Prefix) (g : Goal) → IsIn (thing.Route p g) things → IsProperPrefix p
 

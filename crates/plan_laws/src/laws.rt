@@ -10,24 +10,24 @@ ghost use Rattle.sai_types.specs.declared.plan.PlanId.{PlanId};
 ghost use Rattle.sai_types.specs.declared.thing.Thing.{Thing};
 ghost use Rattle.sai_types.specs.After.{after_calls};
 ghost use Rattle.sai_types.specs.Alike.{IsAlike, IsIn};
-ghost use Rattle.sai_types.specs.Made.{AreLegal};
+ghost use Rattle.sai_types.specs.Made.{AreLegal, made_after_all};
 ghost use Rattle.sai_types.specs.Names.{Name};
 ghost use Rattle.sai_types.specs.Objects.{Objects};
 ghost use Rattle.chip_layout.specs.Renamed.{call_renamed};
-ghost use Rattle.plan_laws.specs.Applied.{AppliesCold, AppliesHitless, IsHitlessPlan, IsListed, IsView, chip_things};
+ghost use Rattle.plan_laws.specs.Applied.{AppliesCold, AppliesHitless, IsColdPlan, IsHitlessPlan, IsListed, IsView, chip_things, nothing};
 ghost use Rattle.plan_laws.specs.Bounds.{IsUnwanted, makes_kind};
 ghost use Rattle.plan_laws.specs.Calls.{PlansChanges, resolve, viewed};
 ghost use Rattle.plan_laws.specs.Old.{old_layout, old_things};
 ghost use Rattle.plan_laws.specs.Plans.{IsViewPlan, PlanChange, hitless_rank};
 ghost use Rattle.plan_laws.specs.Steady.{ForwardsAfter, IsHitless, IsOldOrNew, StaysNew};
-ghost use Rattle.plan_laws.specs.Views.{AreLacking, AreNamed, FitsHitless, HasRoomFor};
+ghost use Rattle.plan_laws.specs.Views.{AreLacking, HaveOwnNames, FitsHitless, HasRoomFor};
 
 /// After each change of a hitless plan each address is decided as by the old things or as by the new ones, and once as
 /// by the new ones always so. What both forward equally is forwarded so, with the same Ethernet addresses.
 pub fn hitless_moves_once()
-    ensures decided { (old new now : List Thing) (done due : List PlanChange) → AreNamed old → AreNamed new → IsViewPlan hitless_rank old new (done ++ due) → ForwardsAfter old done now → IsOldOrNew old new now }
-    ensures stays { (old new now later : List Thing) (done more due : List PlanChange) → AreNamed old → AreNamed new → IsViewPlan hitless_rank old new (done ++ (more ++ due)) → ForwardsAfter old done now → ForwardsAfter old (done ++ more) later → StaysNew new now later }
-    ensures forwarded { (old new now : List Thing) (done due : List PlanChange) → AreNamed old → AreNamed new → IsViewPlan hitless_rank old new (done ++ due) → ForwardsAfter old done now → IsHitless old new now }
+    ensures decided { (old new now : List Thing) (done due : List PlanChange) → HaveOwnNames old → HaveOwnNames new → IsViewPlan hitless_rank old new (done ++ due) → ForwardsAfter old done now → IsOldOrNew old new now }
+    ensures stays { (old new now later : List Thing) (done more due : List PlanChange) → HaveOwnNames old → HaveOwnNames new → IsViewPlan hitless_rank old new (done ++ (more ++ due)) → ForwardsAfter old done now → ForwardsAfter old (done ++ more) later → StaysNew new now later }
+    ensures forwarded { (old new now : List Thing) (done due : List PlanChange) → HaveOwnNames old → HaveOwnNames new → IsViewPlan hitless_rank old new (done ++ due) → ForwardsAfter old done now → IsHitless old new now }
 {}
 
 /// The calls of the first changes of a hitless plan, on a chip that was listed, leftovers and doubles included, are
@@ -47,10 +47,11 @@ pub fn cold_applies()
     ensures alike { (capacities : List ℕ) (made : ℕ) (objects : Objects) (new : List Thing) (removes makes : List PlanChange) (front rest : List (Call Rid)) → AppliesCold capacities made objects new removes makes front rest → IsAlike (after_calls made objects (front ++ rest)) (λ t. IsIn t new) }
 {}
 
-/// A hitless plan's calls as they are made up, where old objects have the chip's identifiers and new ones the view's,
+/// The calls of a plan as they are made up, where old objects have the chip's identifiers and new ones the view's,
 /// apply it with the identifiers that they come to.
 pub fn named_calls_apply()
-    ensures { (capacities : List ℕ) (made : ℕ) (objects : Objects) (new : List Thing) (todo due : List PlanChange) (view : List (Vid × Thing)) (ids : Vid → Rid) (calls : List (Call PlanId)) → IsHitlessPlan capacities made objects new (todo ++ due) → PlansChanges (old_layout objects new) (viewed view) ids made todo calls → AppliesHitless capacities made objects new todo due (map (call_renamed (resolve ids)) calls) }
+    ensures hitless { (capacities : List ℕ) (made : ℕ) (objects : Objects) (new : List Thing) (todo due : List PlanChange) (view : List (Vid × Thing)) (ids : Vid → Rid) (calls : List (Call PlanId)) → IsHitlessPlan capacities made objects new (todo ++ due) → PlansChanges (old_layout objects new) (viewed view) ids made todo calls → AppliesHitless capacities made objects new todo due (map (call_renamed (resolve ids)) calls) }
+    ensures cold { (capacities : List ℕ) (made : ℕ) (objects : Objects) (new : List Thing) (removes makes : List PlanChange) (view : List (Vid × Thing)) (ids : Vid → Rid) (front rest : List (Call PlanId)) → IsColdPlan capacities made objects new removes makes → PlansChanges (old_layout objects new) (viewed view) ids made removes front → PlansChanges nothing (viewed view) ids (made_after_all made (map (call_renamed (resolve ids)) front)) makes rest → AppliesCold capacities made objects new removes makes (map (call_renamed (resolve ids)) front) (map (call_renamed (resolve ids)) rest) }
 {}
 
 /// Where of each kind the objects and the view's names that the chip does not show number at most the capacity, there is

@@ -14,6 +14,7 @@ mod Looked
 mod Members
 mod Nearby
 mod Parts
+pub mod Remades
 pub mod Replays
 mod SameNames
 mod Sending

@@ -12,24 +12,24 @@ use Rattle.sai_types.specs.After.{after_call, chip_after, makes_id, next_id}
 use Rattle.sai_types.specs.Made.{entry_named, made_after}
 use Rattle.sai_chip.specs.SimChip.{effect_at}
 
--- how many effects were followed, how many identifiers these made, and the objects behind them
-pub record Replayed : Type 0 where
+-- how many effects were made, how many identifiers these made, and the objects behind them
+pub record Remade : Type 0 where
   pub at : ℕ
   pub made : ℕ
   pub objects : Objects
 
--- no effect was followed
-abbrev pub new_replay : Replayed
-new_replay = record { at = 0; made = 0; objects = [] }
+-- no effect was made
+abbrev pub new_remade : Remade
+new_remade = record { at = 0; made = 0; objects = [] }
 
--- the replay stands behind so many of these effects
-pub record IsReplayOf (r : Replayed) (effects : List (Call Rid)) : Type 0 where
+-- so many of these effects were made
+pub record IsRemadeOf (r : Remade) (effects : List (Call Rid)) : Type 0 where
   pub at : r.at ≤ length effects
   pub made : r.made ≡ count_by makes_id (take r.at effects)
   pub objects : r.objects ≡ chip_after effects r.at
 
--- a replay that followed one more call
-abbrev pub with_call : Replayed → Call Rid → Replayed
+-- one more call was made
+abbrev pub with_call : Remade → Call Rid → Remade
 with_call r c = record { at = r.at + 1; made = made_after r.made c; objects = after_call (r.made + 1) r.objects c }
 
 -- what the object with this entry stands for
@@ -44,3 +44,18 @@ call_thing n before after c = thing_at after (entry_named n c)
 -- what effect k, counted from 1, was about
 abbrev pub effect_thing : List (Call Rid) → ℕ → Option Thing
 effect_thing effects k = option_and_then (call_thing (next_id (take (k - 1) effects)) (chip_after effects (k - 1)) (chip_after effects k)) (effect_at effects k)
+
+-- how many effects were followed, and those of them that were made
+pub record Replayed : Type 0 where
+  pub at : ℕ
+  pub remade : Remade
+
+-- no effect was followed
+abbrev pub new_replay : Replayed
+new_replay = record { at = 0; remade = new_remade }
+
+-- the replay stands behind so many of these effects
+pub record IsReplayOf (r : Replayed) (effects : List (Call Rid)) : Type 0 where
+  pub at : r.at ≤ length effects
+  pub behind : r.remade.at ≤ r.at
+  pub remade : IsRemadeOf r.remade effects

@@ -11,6 +11,7 @@ mod held;
 mod mark;
 mod marks;
 mod names;
+mod remade;
 mod replay;
 mod sim;
 mod table;

@@ -1,21 +1,19 @@
 // The objects of a chip as of an earlier moment.
-ghost use Rattle.std.specs.Prelude.{◌≡◌, ◌+◌, ◌<◌, ◌≤◌, ◌⊎◌, true, false, None, slice_get, length, option_copied, IfOk, OnOk, OnErr, IfSome};
-ghost use Rattle.sai_chip.specs.Replay.{IsReplayOf, call_thing, effect_thing, new_replay, with_call};
+ghost use Rattle.std.specs.Prelude.{◌≡◌, ◌+◌, ◌<◌, ◌≤◌, true, false, None, length, IfOk, OnOk, OnErr};
+ghost use Rattle.sai_chip.specs.Replay.{IsReplayOf, effect_thing, new_replay};
 
 use crate::SimChip;
-use crate::effect::{entry_named, make_effect, makes_id};
-use crate::held::Held;
-use sai_types::{Call, Chip, Rid, Thing};
+use crate::remade::Remade;
+use sai_types::{Chip, Thing};
 use std::alloc::Global;
 use std::marker::Model;
 use swss_types::OutOfMemory;
 
 /// The objects of a chip as of an earlier moment. It follows the chip's effects one after another, and tells what each
-/// was about.
+/// was about. The effects that it only follows are made once it is to tell of one behind them.
 #[derive(Drop)]
 pub struct Replay {
-    held: Held,
-    made: u64,
+    remade: Remade,
     at: u64,
 }
 
@@ -24,11 +22,7 @@ impl Model for Replay {
 
     ghost Value = { Replayed };
 
-    ghost use Rattle.std.specs.Prelude.{◌≤◌};
-
-    ghost view = { λ r. record { at = r.at; made = r.made; objects = r.held } };
-
-    ghost invariant = { λ r. r.made ≤ r.at };
+    ghost view = { λ r. record { at = r.at; remade = r.remade } };
 }
 
 impl Replay {
@@ -37,8 +31,7 @@ impl Replay {
         ensures { result ≡ new_replay }
     {
         Replay {
-            held: Held::new(alloc),
-            made: 0,
+            remade: Remade::new(alloc),
             at: 0,
         }
     }
@@ -57,10 +50,10 @@ impl Replay {
         ensures end { IfOk result (λ followed. length chip.now.chip.effects ≤ self.old.at → (followed ≡ false) × (self.new ≡ self.old)) }
         ensures err { OnErr result (self.new ≡ self.old) }
     {
-        let Some(call) = self.next(chip) else {
+        if chip.effects() <= self.at {
             return Ok(false);
-        };
-        self.make(call)?;
+        }
+        self.at += 1;
         Ok(true)
     }
 
@@ -72,51 +65,23 @@ impl Replay {
         ensures end { IfOk result (λ thing. length chip.now.chip.effects ≤ self.old.at → (thing ≡ None) × (self.new ≡ self.old)) }
         ensures err { OnErr result (IsReplayOf self.old chip.now.chip.effects → (self.old.at ≤ self.new.at) × (self.new.at ≤ self.old.at + 1) × IsReplayOf self.new chip.now.chip.effects) }
     {
-        match self.next(chip) {
-            Some(call) => self.tell(call),
-            None => Ok(None),
-        }
-    }
-
-    /// The next effect to follow.
-    fn next<'a>(&self, chip: &'a SimChip) -> Option<&'a Call<Rid>>
-        ensures next { option_copied result ≡ slice_get chip.now.chip.effects self.now.at }
-        ensures fits { IfSome result (λ _. self.now.at < 18446744073709551615) }
-    {
         if chip.effects() <= self.at {
-            return None;
+            return Ok(None);
         }
-        chip.effect(self.at + 1)
+        self.catch_up(chip)?;
+        let thing = self.remade.advance(chip);
+        self.at = self.remade.at();
+        thing
     }
 
-    /// Makes the effect of a call.
-    fn make(&mut self, call: &Call<Rid>) -> Result<(), OutOfMemory>
-        requires { self.old.at < 18446744073709551615 }
-        ensures ok { OnOk result (self.new ≡ with_call self.old call.now) }
-        ensures err { OnErr result (self.new ≡ self.old) }
+    /// Makes the effects that it has followed.
+    fn catch_up(&mut self, chip: &SimChip) -> Result<(), OutOfMemory>
+        ensures kept { IsReplayOf self.old chip.now.chip.effects → (self.new.at ≡ self.old.at) × IsReplayOf self.new chip.now.chip.effects }
+        ensures caught { OnOk result (IsReplayOf self.old chip.now.chip.effects → self.new.remade.at ≡ self.old.at) }
     {
-        let id = Rid(self.made + 1);
-        make_effect(&mut self.held, call, id)?;
-        if makes_id(call) {
-            self.made = id.0;
+        for _before in self.remade.at()..self.at {
+            self.remade.follow(chip)?;
         }
-        self.at += 1;
         Ok(())
-    }
-
-    /// Makes the effect of a call, and tells what it was about.
-    fn tell(&mut self, call: &Call<Rid>) -> Result<Option<Thing>, OutOfMemory>
-        requires { self.old.at < 18446744073709551615 }
-        ensures ok { IfOk result (λ thing. (thing ≡ call_thing (self.old.made + 1) self.old.objects self.new.objects call.now) × (self.new ≡ with_call self.old call.now)) }
-        ensures err { OnErr result ((self.new ≡ self.old) ⊎ (self.new ≡ with_call self.old call.now)) }
-    {
-        if let Call::Remove(entry) = call {
-            let thing = self.held.thing(entry)?;
-            self.make(call)?;
-            return Ok(thing);
-        }
-        let entry = entry_named(Rid(self.made + 1), call);
-        self.make(call)?;
-        self.held.thing(&entry)
     }
 }

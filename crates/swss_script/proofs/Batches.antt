@@ -1,13 +1,13 @@
 -- the reading of a batch
-use Rattle.std.proofs.Common.{◌≡◌, ℕ, suc, ◌+◌, ◌<◌, Bool, true, false, cond, List, [], ◌∷◌, ◌++◌, length, get_or, drop, Option, Some, None, option_map, option_and_then, arith, Result, refl, sym, ap, ◌∙◌, subst, IfOk}
+use Rattle.std.proofs.Common.{String, Global, string_bytes, rules, ◌≡◌, ℕ, Bool, true, false, cond, List, [], ◌∷◌, ◌++◌, Option, Some, None, option_map, option_and_then, Result, refl, sym, ap, ◌∙◌, subst, IfOk}
 use Rattle.std.specs.Str.{IsUtf8, is_utf8}
 use Rattle.std.proofs.lemmas.Str.{IsUtf8-from_is_utf8, is_utf8-from_IsUtf8}
-use Rattle.std.proofs.Math.Seq.{drop-cons}
-use Rattle.serde_json.specs.Data.{Data, Items, Members, member}
+use Rattle.serde_json.specs.Data.{Data, Items, Members, member, string}
 use Rattle.serde_json.specs.Find.{as_array, as_object, as_str}
 use Rattle.serde_json.specs.Read.{read}
 use Rattle.serde_json.specs.View.{items_view, view}
 use Rattle.serde_json.specs.declared.value.Value.{Value}
+use Rattle.serde_json.specs.declared.value.Value as value
 use Rattle.table_schema.specs.Fields.{Pairs}
 use Rattle.table_schema.specs.declared.write.Write.{Write}
 use Rattle.swss_script.specs.Batch.{batch_of, text_field, texts_in, with_write, write_in, writes_in}
@@ -37,15 +37,16 @@ batch-list text json items utf8 h some = ap (option_and_then writes_in) some ∙
 pub if_ok-same : {A E : Type 0} (r : Result A E) {x y : A} → x ≡ y → IfOk r (λ a. a ≡ x) → IfOk r (λ a. a ≡ y)
 if_ok-same r e h = subst (λ z. IfOk r (λ a. a ≡ z)) e h
 
+-- a string as data
+pub view-String : (text : String Global) → view (value.String text) ≡ string (string_bytes text)
+view-String text = search (rules, value.the_lemmas)
+
 -- one element more
-pub elements-more : (writes : List Write) (elements : List Value) (n : ℕ) (element : Value) (write : Write) → n < length elements → element ≡ get_or elements n element → Some write ≡ option_and_then write_in (as_object (view element))
-    → option_map (λ more. (writes ++ write ∷ []) ++ more) (writes_in (items_view (drop (n + 1) elements))) ≡ option_map (λ more. writes ++ more) (writes_in (items_view (drop n elements)))
-elements-more writes elements n element write within at read =
-    let next : n + 1 ≡ suc n = omega arith in
-    let split : drop n elements ≡ element ∷ drop (n + 1) elements = drop-cons elements n element within ∙ ap (λ e. e ∷ drop (suc n) elements) (sym at) ∙ ap (λ k. element ∷ drop k elements) (sym next) in
-    option_map_push writes write (writes_in (items_view (drop (n + 1) elements)))
-    ∙ ap (λ w. option_map (λ more. writes ++ more) (with_write w (writes_in (items_view (drop (n + 1) elements))))) read
-    ∙ ap (λ es. option_map (λ more. writes ++ more) (writes_in (items_view es))) (sym split)
+pub elements-more : (writes : List Write) (element : Value) (left : List Value) (write : Write) → Some write ≡ option_and_then write_in (as_object (view element))
+    → option_map (λ more. (writes ++ write ∷ []) ++ more) (writes_in (items_view left)) ≡ option_map (λ more. writes ++ more) (writes_in (items_view (element ∷ left)))
+elements-more writes element left write read =
+    option_map_push writes write (writes_in (items_view left))
+    ∙ ap (λ w. option_map (λ more. writes ++ more) (with_write w (writes_in (items_view left)))) read
 
 -- one member more
 pub texts-more : (texts : Pairs) (name : List ℕ) (value : Data) (members : Members) (text : List ℕ) → Some text ≡ as_str value

@@ -21,15 +21,15 @@ pub fn read_batch(alloc: Global, text: &[u8]) -> Result<Option<Writes>, OutOfMem
         Err(error) if error.is_memory() => return Err(OutOfMemory),
         Err(_) => return Ok(None),
     };
-    match value.as_array() {
-        Some(elements) => read_elements(alloc, elements.as_slice()),
-        None => Ok(None),
+    match value {
+        Value::Array(elements) => read_elements(alloc, elements),
+        _ => Ok(None),
     }
 }
 
 /// The writes of a list, or None where one of its elements is none.
-fn read_elements(alloc: Global, elements: &[Value]) -> Result<Option<Writes>, OutOfMemory>
-    ensures { IfOk result (λ writes. writes ≡ writes_in (items_view elements.now)) }
+fn read_elements(alloc: Global, elements: Vec<Value>) -> Result<Option<Writes>, OutOfMemory>
+    ensures { IfOk result (λ writes. writes ≡ writes_in (items_view elements.items)) }
 {
     let mut writes = Writes::new(alloc);
     for element in elements {
@@ -42,20 +42,20 @@ fn read_elements(alloc: Global, elements: &[Value]) -> Result<Option<Writes>, Ou
 }
 
 /// The write of an element.
-fn read_element(alloc: Global, element: &Value) -> Result<Option<Write>, OutOfMemory>
-    ensures { IfOk result (λ write. write ≡ option_and_then write_in (as_object (view element.now))) }
+fn read_element(alloc: Global, element: Value) -> Result<Option<Write>, OutOfMemory>
+    ensures { IfOk result (λ write. write ≡ option_and_then write_in (as_object (view element))) }
 {
-    match element.as_object() {
-        Some(members) => read_members(alloc, members),
-        None => Ok(None),
+    match element {
+        Value::Object(members) => read_members(alloc, members),
+        _ => Ok(None),
     }
 }
 
 /// The write of an object of two members, one of them `OP`.
-fn read_members(alloc: Global, members: &Map<String, Value>) -> Result<Option<Write>, OutOfMemory>
-    ensures { IfOk result (λ write. write ≡ write_in (members_view members.now.entries)) }
+fn read_members(alloc: Global, members: Map<String, Value>) -> Result<Option<Write>, OutOfMemory>
+    ensures { IfOk result (λ write. write ≡ write_in (members_view members.entries)) }
 {
-    let mut members = members.iter();
+    let mut members = members.into_iter();
     let Some((name, value)) = members.next() else {
         return Ok(None);
     };
@@ -66,9 +66,9 @@ fn read_members(alloc: Global, members: &Map<String, Value>) -> Result<Option<Wr
         return Ok(None);
     }
     if name.as_str() == "OP" {
-        read_write(alloc, value, other.as_str(), another)
+        read_write(alloc, &value, other.as_str(), another)
     } else if other.as_str() == "OP" {
-        read_write(alloc, another, name.as_str(), value)
+        read_write(alloc, &another, name.as_str(), value)
     } else {
         Ok(None)
     }
@@ -79,9 +79,9 @@ fn read_write(
     alloc: Global,
     operation: &Value,
     name: &str,
-    fields: &Value,
+    fields: Value,
 ) -> Result<Option<Write>, OutOfMemory>
-    ensures { IfOk result (λ write. write ≡ write_of (view operation.now) name.now (view fields.now)) }
+    ensures { IfOk result (λ write. write ≡ write_of (view operation.now) name.now (view fields)) }
 {
     let Some(operation) = operation.as_str() else {
         return Ok(None);
@@ -89,7 +89,7 @@ fn read_write(
     let Some(key) = key_in_word(alloc, name)? else {
         return Ok(None);
     };
-    let Some(fields) = fields.as_object() else {
+    let Value::Object(fields) = fields else {
         return Ok(None);
     };
     let Some(fields) = read_texts(alloc, fields)? else {
@@ -116,16 +116,19 @@ pub fn key_in_word(alloc: Global, word: &str) -> Result<Option<Key>, OutOfMemory
 /// The names and values of an object, or None where a value is no string.
 fn read_texts(
     alloc: Global,
-    members: &Map<String, Value>,
+    members: Map<String, Value>,
 ) -> Result<Option<Vec<(Text, Text)>>, OutOfMemory>
-    ensures { IfOk result (λ texts. option_map (λ t. t.items) texts ≡ texts_in (members_view members.now.entries)) }
+    ensures { IfOk result (λ texts. option_map (λ t. t.items) texts ≡ texts_in (members_view members.entries)) }
 {
     let mut texts = Vec::new(alloc);
     for (name, value) in members {
-        let Some(value) = value.as_str() else {
+        let Value::String(value) = value else {
             return Ok(None);
         };
-        texts.push((copy_text(alloc, name.as_str())?, copy_text(alloc, value)?))?;
+        texts.push((
+            copy_text(alloc, name.as_str())?,
+            copy_text(alloc, value.as_str())?,
+        ))?;
     }
     Ok(Some(texts))
 }

@@ -3,6 +3,7 @@ pub mod Keys
 pub mod Plans
 pub mod Writes
 pub mod LastValues
+pub mod Mapped
 pub mod Merges
 pub mod Parts
 pub mod Texts
@@ -12,5 +13,6 @@ pub mod Hops
 pub mod ProperNames
 pub mod RowLists
 pub mod Restored
+pub mod Risen
 pub mod TakenBack
 mod KeyOrders

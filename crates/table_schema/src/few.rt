@@ -1,6 +1,7 @@
 // A few pairs of a name and a value, in a list by rising names.
-ghost use Rattle.std.specs.Prelude.{◌≡◌, ◌++◌, IfOk, OnOk, OnErr, option_map};
-ghost use Rattle.table_schema.specs.Fields.{HasRisingNames, IsPlace, restored, value_of, with_pair};
+ghost use Rattle.std.specs.Prelude.{◌≡◌, ◌++◌, ◌<◌, ℕ, List, suc, true, length, slice_index_or, IfOk, OnOk, OnErr, option_map};
+ghost use Rattle.std.specs.declared.cmp.Ordering.TheVariants.{Less};
+ghost use Rattle.table_schema.specs.Fields.{HasRisingNames, IsPlace, by_bytes, restored, value_of, with_pair};
 
 use std::alloc::Global;
 use std::mem::replace;
@@ -12,6 +13,31 @@ fn place_of(pairs: &[(Text, Text)], name: &[u8]) -> Result<usize, usize>
     ensures { IsPlace pairs.now name.now result }
 {
     pairs.binary_search_by(|pair| pair.0.bytes().cmp(name))
+}
+
+/// Whether each name is less than the next, so that the names rise.
+pub(crate) fn have_rising_names(pairs: &[(Text, Text)]) -> bool
+    ensures { result ≡ true → HasRisingNames pairs.now }
+{
+    let mut at = pairs.len();
+    while at > 0 {
+        at -= 1;
+        if !is_below_next(pairs, at) {
+            return false;
+        }
+    }
+    true
+}
+
+/// Whether the name at a place is less than the next, where there is one.
+fn is_below_next(pairs: &[(Text, Text)], at: usize) -> bool
+    requires { at < length pairs.now }
+    ensures { result ≡ true → (d : List ℕ × List ℕ) → suc at < length pairs.now → by_bytes (slice_index_or pairs.now at d).0 (slice_index_or pairs.now (suc at) d).0 ≡ Less }
+{
+    match pairs.get(at + 1) {
+        Some(next) => pairs[at].0 < next.0,
+        None => true,
+    }
 }
 
 /// The value under a name.

@@ -3,7 +3,7 @@ ghost use Rattle.std.specs.Prelude.{◌≡◌, [], ◌==◌, length, IfOk, OnOk,
 ghost use Rattle.table_schema.specs.Fields.{HasRisingNames, merged, restored, taken_back, value_of, with_pair};
 
 use crate::Items;
-use crate::few::copy_few;
+use crate::few::{copy_few, have_rising_names};
 use crate::held::{FEW, Held};
 use crate::many::map_of;
 use std::alloc::Global;
@@ -41,10 +41,13 @@ impl Fields {
     }
 
     /// The fields of pairs in any order: the value of a name is its last one. It is what putting one pair after the other
-    /// comes to, in n log n steps.
+    /// comes to, in n log n steps. Many pairs whose names rise stay the list that they are.
     pub fn from_pairs(alloc: Global, pairs: Vec<(Text, Text)>) -> Result<Fields, OutOfMemory>
         ensures { IfOk result (λ fields. fields ≡ merged [] pairs.items) }
     {
+        if pairs.len() > FEW && have_rising_names(pairs.as_slice()) {
+            return Ok(Fields::from_rising(alloc, pairs));
+        }
         let room = Vec::with_capacity(alloc, pairs.len().min(FEW))?;
         let mut fields = Fields {
             held: Held::Few(room),
@@ -54,6 +57,18 @@ impl Fields {
             fields.put(name, value)?;
         }
         Ok(fields)
+    }
+
+    /// The fields of pairs whose names rise.
+    fn from_rising(alloc: Global, mut pairs: Vec<(Text, Text)>) -> Fields
+        requires { HasRisingNames pairs.items }
+        ensures { result ≡ pairs.items }
+    {
+        pairs.shrink_to_fit();
+        Fields {
+            held: Held::Few(pairs),
+            alloc,
+        }
     }
 
     /// Puts a value under a name, in the place of one that is there.
@@ -113,8 +128,10 @@ impl Fields {
     {
         Ok(Fields {
             held: match &self.held {
-                Held::Few(pairs) => Held::Few(copy_few(self.alloc, pairs.as_slice())?),
-                Held::Many(_) => Held::Many(map_of(self.alloc, self.items())?),
+                Held::Few(pairs) if pairs.len() <= FEW => {
+                    Held::Few(copy_few(self.alloc, pairs.as_slice())?)
+                }
+                _ => Held::Many(map_of(self.alloc, self.items())?),
             },
             alloc: self.alloc,
         })

@@ -9,10 +9,11 @@ use std::alloc::Global;
 use std::collections::BTreeMap;
 use swss_types::{OutOfMemory, Text};
 
-/// The most pairs that stand in a list.
+/// The most pairs of a list into which another one is put.
 pub(crate) const FEW: usize = 32;
 
-/// A few pairs stand in a list, which takes the room of its pairs. More stand in a map, which takes one more in few steps.
+/// A few pairs, or more that came in order, stand in a list, which takes the room of its pairs. A map takes one more in few
+/// steps.
 #[derive(Debug, Drop)]
 pub(crate) enum Held {
     /// A list of pairs, their names rising.

@@ -5,8 +5,8 @@ use retry_list::{Event, Retry};
 use sai_types::Kind;
 use std::alloc::Global;
 use std::process::Abort;
-use swss_types::OutOfMemory;
 use switch_model::Wait;
+use swss_types::OutOfMemory;
 use table_schema::{Key, has_colon, read_key};
 
 /// How many VLANs there are in these tests.
@@ -144,7 +144,9 @@ fn act_each(rt: &impl Abort, alloc: Global) -> Result<(), OutOfMemory> {
     ] {
         match act {
             Act::Put(number, why) => {
-                if retry.put(Key::Vlan(number), wait_of(rt, alloc, why)?).is_ok()
+                if retry
+                    .put(Key::Vlan(number), wait_of(rt, alloc, why)?)
+                    .is_ok()
                     && let Some(want) = wants.get_mut(number as usize)
                 {
                     *want = why;

@@ -1,6 +1,7 @@
 use Rattle.machine_laws.proofs.Fitting.{fits-good}
 use Rattle.machine_laws.proofs.Places.{room-gone, room-or}
 use Rattle.machine_laws.proofs.Possible.{begin-free}
+use Rattle.machine_laws.proofs.Progress.{waits-or-begins}
 use Rattle.machine_laws.proofs.Switched.{switched-key_of}
 use Rattle.machine_laws.proofs.laws.keys_may_begin.Goals as goal
 
@@ -18,3 +19,6 @@ returns-clause-room c = λ plan workers capacities s w f due row begins new good
 
 pub returns-clause-room_gone : goal.returns-clause-room_gone
 returns-clause-room_gone c = λ plan workers capacities s w f due begins none. room-gone plan workers capacities s w f due begins none
+
+pub returns-clause-waits_or_begins : goal.returns-clause-waits_or_begins
+returns-clause-waits_or_begins c = λ plan workers capacities s w k is kept quiet below there on. waits-or-begins plan is workers capacities s kept quiet w below k there on

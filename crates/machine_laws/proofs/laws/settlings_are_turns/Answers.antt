@@ -1,3 +1,4 @@
+use Rattle.machine_laws.proofs.Existing.{turns-exist}
 use Rattle.machine_laws.proofs.Settling.{settles}
 use Rattle.machine_laws.proofs.Turning.{settling-events, turns-rows}
 use Rattle.machine_laws.proofs.Waiting.{lists}
@@ -14,3 +15,6 @@ returns-clause-turns c = λ plan capacities good n s t keys left calls h. turns-
 
 pub returns-clause-lists : goal.returns-clause-lists
 returns-clause-lists c = λ plan workers capacities n s t keys left calls f h. lists plan workers capacities n s t keys left calls f h
+
+pub returns-clause-exist : goal.returns-clause-exist
+returns-clause-exist c = λ plan workers capacities s keys is some kept quiet order there on. turns-exist plan is workers some capacities s keys kept quiet order there on

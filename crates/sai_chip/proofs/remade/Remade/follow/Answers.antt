@@ -1,13 +1,13 @@
 use Rattle.std.proofs.Common.{refl, ap, sym, subst}
-use Rattle.sai_chip.specs.Replay.{IsReplayOf}
-use Rattle.sai_chip.proofs.Replays.{IsReplayOf-with_call, none-past}
-use Rattle.sai_chip.proofs.replay.Replay.follow.Goals as goal
+use Rattle.sai_chip.specs.Replay.{IsRemadeOf}
+use Rattle.sai_chip.proofs.Remades.{IsRemadeOf-with_call, none-past}
+use Rattle.sai_chip.proofs.remade.Remade.follow.Goals as goal
 
 pub returns-clause-further : goal.returns-clause-further
 returns-clause-further c = λ is within. (
   refl,
   ap (λ r. r.at) c.in_ok-make.ensures.ok,
-  subst (λ r. IsReplayOf r c.args.chip.now.chip.effects) (sym c.in_ok-make.ensures.ok) (IsReplayOf-with_call c.args.self.now c.args.chip.now.chip.effects c.in-Some.call.now is (sym c.in-Some.ensures.next)),
+  subst (λ r. IsRemadeOf r c.args.chip.now.chip.effects) (sym c.in_ok-make.ensures.ok) (IsRemadeOf-with_call c.args.self.now c.args.chip.now.chip.effects c.in-Some.call.now is (sym c.in-Some.ensures.next)),
 )
 
 pub returns-clause-end : goal.returns-clause-end

@@ -1,6 +1,6 @@
 use Rattle.std.proofs.Common.{sym}
-use Rattle.sai_chip.proofs.Replays.{next-within, told-further, told-end, told-err}
-use Rattle.sai_chip.proofs.replay.Replay.advance.Goals as goal
+use Rattle.sai_chip.proofs.Remades.{next-within, told-further, told-end, told-err}
+use Rattle.sai_chip.proofs.remade.Remade.advance.Goals as goal
 
 pub returns-in-Some-clause-further : goal.returns-in-Some-clause-further
 returns-in-Some-clause-further c = told-further c.args.self.now c.tell.new.self c.args.chip.now.chip.effects c.in-Some.call.now (sym c.in-Some.ensures.next) c.tell.result c.tell.ensures.ok

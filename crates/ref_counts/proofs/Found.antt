@@ -1,0 +1,69 @@
+-- what is known of a name after a change
+use Rattle.std.proofs.Common.{◌≡◌, ℕ, Bool, true, false, cond, [], ◌∷◌, Some, option_map, refl, sym, ap, ◌∙◌}
+use Rattle.std.specs.BTreeMap.{insert_entry, is_at}
+use Rattle.std.specs.Ordering.{is_eq, ordering_reverse}
+use Rattle.std.specs.declared.cmp.Ordering.{Ordering}
+use Rattle.std.specs.declared.cmp.Ordering.TheVariants.{Less, Equal, Greater}
+use Rattle.std.proofs.lemmas.Cmp.{tied_itself}
+use Rattle.table_schema.proofs.Places.{find_step, put_step}
+use Rattle.ref_counts.specs.declared.name.Name.{Name}
+use Rattle.ref_counts.specs.Registered.{Registered, released}
+use Rattle.ref_counts.specs.Registry.{Names, all_released, changed, name_cmp, registered_at}
+use Rattle.ref_counts.proofs.Changing.{name_total}
+
+-- a name that is put is there
+pub found-put : (names : Names) (n : Name) (r : Registered) → registered_at (insert_entry name_cmp names n r) n ≡ Some r
+found-put [] n r = find_step name_cmp (n, r) [] n Equal (tied_itself name_total n)
+found-put (e ∷ es) n r =
+    let rest = found-put es n r in
+    let by : (o : Ordering) → name_cmp n e.0 ≡ o → registered_at (insert_entry name_cmp (e ∷ es) n r) n ≡ Some r =
+    λ o. elim o as (λ o. name_cmp n e.0 ≡ o → registered_at (insert_entry name_cmp (e ∷ es) n r) n ≡ Some r) [
+      | Less ↦ λ is. ap (λ l. registered_at l n) (put_step name_cmp e es n r Less is) ∙ find_step name_cmp (n, r) (e ∷ es) n Equal (tied_itself name_total n)
+      | Equal ↦ λ is. ap (λ l. registered_at l n) (put_step name_cmp e es n r Equal is) ∙ find_step name_cmp (e.0, r) es n Equal is
+      | Greater ↦ λ is. ap (λ l. registered_at l n) (put_step name_cmp e es n r Greater is) ∙ find_step name_cmp e (insert_entry name_cmp es n r) n Greater is ∙ rest
+    ] in
+    by (name_cmp n e.0) refl
+
+-- what is known of a name is what its change makes of it
+pub found-changed : (names : Names) (n : Name) (f : Registered → Registered) → registered_at (changed names n f) n ≡ option_map f (registered_at names n)
+found-changed [] n f = refl
+found-changed (e ∷ es) n f =
+    let rest = found-changed es n f in
+    elim (is_at (name_cmp n) e.0) as (λ b. is_at (name_cmp n) e.0 ≡ b → registered_at (cond b (e.0, f e.1) e ∷ changed es n f) n ≡ option_map f (cond b (Some e.1) (registered_at es n))) [
+      | true ↦ λ is. ap (λ b. cond b (Some (f e.1)) (registered_at (changed es n f) n)) is
+      | false ↦ λ is. ap (λ b. cond b (Some e.1) (registered_at (changed es n f) n)) is ∙ rest
+    ] refl
+
+-- a change of one name leaves the others
+pub found-other : (names : Names) (n m : Name) (f : Registered → Registered) → ((k : Name) → is_at (name_cmp n) k ≡ true → is_at (name_cmp m) k ≡ false) → registered_at (changed names n f) m ≡ registered_at names m
+found-other [] n m f apart = refl
+found-other (e ∷ es) n m f apart =
+    let rest = found-other es n m f apart in
+    elim (is_at (name_cmp n) e.0) as (λ b. is_at (name_cmp n) e.0 ≡ b → registered_at (cond b (e.0, f e.1) e ∷ changed es n f) m ≡ cond (is_at (name_cmp m) e.0) (Some e.1) (registered_at es m)) [
+      | true ↦ λ is. ap (λ b. cond b (Some (f e.1)) (registered_at (changed es n f) m)) (apart e.0 is) ∙ rest ∙ sym (ap (λ b. cond b (Some e.1) (registered_at es m)) (apart e.0 is))
+      | false ↦ λ is. ap (λ o. cond (is_at (name_cmp m) e.0) (Some e.1) o) rest
+    ] refl
+
+-- a release is one of each name
+pub found-released : (names : Names) (worker : ℕ) (used : Bool) (n : Name) → registered_at (all_released worker used names) n ≡ option_map (released worker used) (registered_at names n)
+found-released [] worker used n = refl
+found-released (e ∷ es) worker used n =
+    let rest = found-released es worker used n in
+    elim (is_at (name_cmp n) e.0) as (λ b. cond b (Some (released worker used e.1)) (registered_at (all_released worker used es) n) ≡ option_map (released worker used) (cond b (Some e.1) (registered_at es n))) [
+      | true ↦ refl
+      | false ↦ rest
+    ]
+
+eq_equal : (o : Ordering) → is_eq o ≡ true → o ≡ Equal
+eq_equal Less h = cc
+eq_equal Equal h = refl
+eq_equal Greater h = cc
+
+eq_back : (o : Ordering) → is_eq (ordering_reverse o) ≡ is_eq o
+eq_back Less = refl
+eq_back Equal = refl
+eq_back Greater = refl
+
+-- a name that is one name is no other
+pub apart_from : (n m k : Name) → is_at (name_cmp n) m ≡ false → is_at (name_cmp n) k ≡ true → is_at (name_cmp m) k ≡ false
+apart_from n m k other is = ap is_eq (name_total.antisymm m k) ∙ eq_back (name_cmp k m) ∙ ap is_eq (sym (name_total.congr n k m (eq_equal (name_cmp n k) is))) ∙ other

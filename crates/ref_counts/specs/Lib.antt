@@ -1,0 +1,4 @@
+pub mod Kept
+pub mod Registered
+pub mod Registry
+pub mod Room

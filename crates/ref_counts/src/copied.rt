@@ -1,0 +1,22 @@
+// Keys that need no memory.
+ghost use Rattle.std.specs.Prelude.{◌≡◌};
+ghost use Rattle.ref_counts.specs.Registered.{IsReadable};
+
+use table_schema::Key;
+
+/// The same key once more: but for unreadable keys it takes no memory.
+pub fn copied(key: &Key) -> Key
+    requires { IsReadable key.now }
+    ensures { result ≡ key.now }
+{
+    match key {
+        Key::Port(port) => Key::Port(*port),
+        Key::Vlan(vlan) => Key::Vlan(*vlan),
+        Key::Member(vlan, port) => Key::Member(*vlan, *port),
+        Key::Intf(on) => Key::Intf(*on),
+        Key::Addr(on, ip, len) => Key::Addr(*on, *ip, *len),
+        Key::Neigh(on, ip) => Key::Neigh(*on, *ip),
+        Key::Route(prefix) => Key::Route(*prefix),
+        Key::Other(_) => unreachable!(),
+    }
+}

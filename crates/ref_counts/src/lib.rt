@@ -1,0 +1,21 @@
+//! The names that operations need and make, with their users and pins, and the room that operations reserve on a chip.
+#![tactic(auto)]
+
+mod changes;
+mod copied;
+mod laws;
+mod name;
+mod next;
+mod pin;
+mod pinning;
+mod placing;
+mod registration;
+mod registry;
+mod room;
+mod users;
+
+pub use laws::{changes_are_found, put_names_are_found, releases_are_found};
+pub use name::{Missing, Name, NameState};
+pub use next::Next;
+pub use registry::Registry;
+pub use room::Room;

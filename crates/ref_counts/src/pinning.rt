@@ -1,0 +1,137 @@
+// Names that workers pin and release.
+ghost use Rattle.std.specs.Prelude.{◌≡◌, ℕ, ◌++◌, length, map, take, IsSome, OnOk, OnErr};
+ghost use Rattle.std.specs.BTreeMap.{is_at};
+ghost use Rattle.std.specs.Map.{lookup};
+ghost use Rattle.std.specs.Ordering.{nat_cmp};
+ghost use Rattle.ref_counts.specs.Registered.{IsReadable};
+ghost use Rattle.ref_counts.specs.Registry.{AreNoted, all_released, each_released, noted_by, pinned};
+
+use crate::Name;
+use crate::changes::{Registrations, pin, release, unpin_last};
+use std::alloc::Global;
+use std::collections::BTreeMap;
+use swss_types::OutOfMemory;
+use table_schema::Key;
+
+/// The names that are noted as pinned, by worker.
+pub type NotedNames = BTreeMap<u32, Vec<Name>>;
+
+/// A worker pins the rows of some keys for a user, and notes their names.
+pub fn pin_noted(
+    names: &mut Registrations,
+    noted: &mut Vec<Name>,
+    worker: u32,
+    user: &Key,
+    keys: &[Key],
+) -> Result<(), OutOfMemory>
+    requires { IsReadable user.now }
+    ensures ok { OnOk result (names.new.entries ≡ pinned names.old.entries worker user.now keys.now) }
+    ensures noted { OnOk result (noted.new.items ≡ noted.old.items ++ map Name.Row keys.now) }
+    ensures err { OnErr result (names.new.entries ≡ names.old.entries) }
+    ensures noted_err { OnErr result (noted.new.items ≡ noted.old.items) }
+{
+    let before = noted.as_slice().len();
+    if let Err(error) = note_each(noted, keys) {
+        noted.truncate(before);
+        return Err(error);
+    }
+    if let Err(error) = pin_each(names, worker, user, keys) {
+        noted.truncate(before);
+        return Err(error);
+    }
+    Ok(())
+}
+
+/// Notes the rows of some keys. An Err may leave some of them noted.
+fn note_each(noted: &mut Vec<Name>, keys: &[Key]) -> Result<(), OutOfMemory>
+    ensures ok { OnOk result (noted.new.items ≡ noted.old.items ++ map Name.Row keys.now) }
+    ensures err { OnErr result (take (length noted.old.items) noted.new.items ≡ noted.old.items) }
+{
+    match keys {
+        [] => Ok(()),
+        [key, others @ ..] => {
+            noted.push(Name::Row(key.copy()?))?;
+            note_each(noted, others)
+        }
+    }
+}
+
+/// A worker pins the rows of some keys for a user, all of them or none.
+fn pin_each(
+    names: &mut Registrations,
+    worker: u32,
+    user: &Key,
+    keys: &[Key],
+) -> Result<(), OutOfMemory>
+    requires { IsReadable user.now }
+    ensures ok { OnOk result (names.new.entries ≡ pinned names.old.entries worker user.now keys.now) }
+    ensures err { OnErr result (names.new.entries ≡ names.old.entries) }
+{
+    match keys {
+        [] => Ok(()),
+        [key, others @ ..] => {
+            let copied = key.copy()?;
+            let name = Name::Row(copied);
+            pin(names, &name, worker, user)?;
+            if let Err(error) = pin_each(names, worker, user, others) {
+                unpin_last(names, &name);
+                return Err(error);
+            }
+            Ok(())
+        }
+    }
+}
+
+/// A worker gives up its pins of these names.
+pub fn release_each(names: &mut Registrations, noted: &[Name], worker: u32, used: bool)
+    ensures { names.new.entries ≡ each_released names.old.entries worker used noted.now }
+{
+    for name in noted {
+        release(names, name, worker, used);
+    }
+}
+
+/// A worker pins the rows of some keys for a user, and their names are noted under it.
+pub fn pin_all(
+    alloc: Global,
+    names: &mut Registrations,
+    noted: &mut NotedNames,
+    worker: u32,
+    user: &Key,
+    keys: &[Key],
+) -> Result<(), OutOfMemory>
+    requires { IsReadable user.now }
+    ensures ok { OnOk result (names.new.entries ≡ pinned names.old.entries worker user.now keys.now) }
+    ensures err { OnErr result (names.new.entries ≡ names.old.entries) }
+    ensures noted { AreNoted noted.old.entries names.old.entries → AreNoted noted.new.entries names.new.entries }
+{
+    note_worker(alloc, noted, worker)?;
+    match noted.get_mut(&worker) {
+        Some(noted) => pin_noted(names, noted, worker, user, keys),
+        None => unreachable!(),
+    }
+}
+
+/// No name is noted under a worker that has none.
+fn note_worker(alloc: Global, noted: &mut NotedNames, worker: u32) -> Result<(), OutOfMemory>
+    ensures there { OnOk result (IsSome (lookup (is_at (nat_cmp worker)) noted.new.entries)) }
+    ensures same { (q : ℕ) → noted_by noted.new.entries q ≡ noted_by noted.old.entries q }
+{
+    if noted.contains_key(&worker) {
+        return Ok(());
+    }
+    noted.insert(worker, Vec::new(alloc))?;
+    Ok(())
+}
+
+/// A worker gives up all its pins, whose names are noted under it.
+pub fn release_all(names: &mut Registrations, noted: &mut NotedNames, worker: u32, used: bool)
+    requires { AreNoted noted.old.entries names.old.entries }
+    ensures released { names.new.entries ≡ all_released worker used names.old.entries }
+    ensures noted { AreNoted noted.new.entries names.new.entries }
+{
+    if let Some(noted) = noted.get_mut(&worker) {
+        release_each(names, noted.as_slice(), worker, used);
+        noted.clear();
+    }
+}
