@@ -5,8 +5,8 @@ use retry_list::{Event, Retry};
 use sai_types::Kind;
 use std::alloc::Global;
 use std::process::Abort;
-use swss_types::OutOfMemory;
 use switch_model::Wait;
+use swss_types::OutOfMemory;
 use table_schema::{Key, has_colon, read_key};
 
 /// How many VLANs there are in these tests.
@@ -87,7 +87,29 @@ fn listed(rt: &impl Abort, retry: &Retry) -> [Why; MOST] {
     listed
 }
 
-/// Wakes those of a reason, and compares with the numbers that are wanted, in order.
+/// The keys that were woken, one behind the other.
+fn shown(alloc: Global, woken: &[Key]) -> Result<Vec<u8>, OutOfMemory> {
+    let mut out = Vec::new(alloc);
+    for key in woken {
+        key.write(&mut out)?;
+        out.push(b';')?;
+    }
+    Ok(out)
+}
+
+/// Takes those of a reason off the numbers that are wanted, and gives their keys in the same form.
+fn want_woken(alloc: Global, why: Why, wants: &mut [Why; MOST]) -> Result<Vec<u8>, OutOfMemory> {
+    let mut out = Vec::new(alloc);
+    for (number, want) in wants.iter_mut().enumerate() {
+        if why != Why::None && *want == why {
+            *want = Why::None;
+            out.extend_from_slice(format!(in alloc; "VLAN_TABLE:Vlan{number};")?.as_bytes())?;
+        }
+    }
+    Ok(out)
+}
+
+/// Wakes those of a reason, and compares with what is wanted.
 fn wake(
     rt: &impl Abort,
     alloc: Global,
@@ -100,17 +122,11 @@ fn wake(
         Ok(woken) => woken,
         Err(OutOfMemory) => retry.woken(&event).expect(rt, "the next try"),
     };
-    let mut keys = woken.as_slice().iter();
-    for (number, want) in wants.iter_mut().enumerate() {
-        if why != Why::None && *want == why {
-            *want = Why::None;
-            match keys.next() {
-                Some(Key::Vlan(woken)) => assert!(rt; *woken as usize == number, "in order"),
-                _ => assert!(rt; false, "a key more"),
-            }
-        }
-    }
-    assert!(rt; keys.next().is_none(), "no key more");
+    let wanted = want_woken(alloc, why, wants)?;
+    assert_eq!(rt;
+        shown(alloc, woken.as_slice())?.as_slice(),
+        wanted.as_slice()
+    );
     Ok(())
 }
 
@@ -144,7 +160,9 @@ fn act_each(rt: &impl Abort, alloc: Global) -> Result<(), OutOfMemory> {
     ] {
         match act {
             Act::Put(number, why) => {
-                if retry.put(Key::Vlan(number), wait_of(rt, alloc, why)?).is_ok()
+                if retry
+                    .put(Key::Vlan(number), wait_of(rt, alloc, why)?)
+                    .is_ok()
                     && let Some(want) = wants.get_mut(number as usize)
                 {
                     *want = why;
