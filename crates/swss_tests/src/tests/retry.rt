@@ -87,7 +87,29 @@ fn listed(rt: &impl Abort, retry: &Retry) -> [Why; MOST] {
     listed
 }
 
-/// Wakes those of a reason, and compares with the numbers that are wanted, in order.
+/// The keys that were woken, one behind the other.
+fn shown(alloc: Global, woken: &[Key]) -> Result<Vec<u8>, OutOfMemory> {
+    let mut out = Vec::new(alloc);
+    for key in woken {
+        key.write(&mut out)?;
+        out.push(b';')?;
+    }
+    Ok(out)
+}
+
+/// Takes those of a reason off the numbers that are wanted, and gives their keys in the same form.
+fn want_woken(alloc: Global, why: Why, wants: &mut [Why; MOST]) -> Result<Vec<u8>, OutOfMemory> {
+    let mut out = Vec::new(alloc);
+    for (number, want) in wants.iter_mut().enumerate() {
+        if why != Why::None && *want == why {
+            *want = Why::None;
+            out.extend_from_slice(format!(in alloc; "VLAN_TABLE:Vlan{number};")?.as_bytes())?;
+        }
+    }
+    Ok(out)
+}
+
+/// Wakes those of a reason, and compares with what is wanted.
 fn wake(
     rt: &impl Abort,
     alloc: Global,
@@ -100,17 +122,11 @@ fn wake(
         Ok(woken) => woken,
         Err(OutOfMemory) => retry.woken(&event).expect(rt, "the next try"),
     };
-    let mut keys = woken.as_slice().iter();
-    for (number, want) in wants.iter_mut().enumerate() {
-        if why != Why::None && *want == why {
-            *want = Why::None;
-            match keys.next() {
-                Some(Key::Vlan(woken)) => assert!(rt; *woken as usize == number, "in order"),
-                _ => assert!(rt; false, "a key more"),
-            }
-        }
-    }
-    assert!(rt; keys.next().is_none(), "no key more");
+    let wanted = want_woken(alloc, why, wants)?;
+    assert_eq!(rt;
+        shown(alloc, woken.as_slice())?.as_slice(),
+        wanted.as_slice()
+    );
     Ok(())
 }
 
