@@ -1,7 +1,7 @@
 -- what a round comes to, from its takes and its settling
-use Rattle.std.proofs.Common.{◌≡◌, inl, inr, ℕ, ◌+◌, ◌*◌, ◌-◌, ◌<◌, ◌≤◌, true, false, List, [], ◌∷◌, ◌++◌, length, map, drop, count_by, Option, Result, Ok, Err, refl, sym, ap, ◌∙◌, subst, ⊎_elim, arith}
+use Rattle.std.proofs.Common.{◌≡◌, inl, inr, ℕ, ◌+◌, ◌*◌, ◌-◌, ◌<◌, ◌≤◌, true, false, List, [], ◌∷◌, ◌++◌, length, map, drop, Option, Result, Ok, Err, refl, sym, ap, ◌∙◌, subst, ⊎_elim, arith}
 use Rattle.std.proofs.Math.Seq.{drop-append_seam}
-use Rattle.std.proofs.lemmas.List.{append-nil, length-append, length-map, take-append-le}
+use Rattle.std.proofs.lemmas.List.{append-nil, length-append, length-map}
 use Rattle.std.specs.List.Sorted.{IsStrictlySortedBy}
 use Rattle.swss_types.specs.declared.out_of_memory.OutOfMemory.{OutOfMemory}
 use Rattle.table_schema.specs.Key.{key_cmp}
@@ -10,13 +10,14 @@ use Rattle.table_schema.specs.Rows.{Rows, rows_of}
 use Rattle.table_schema.specs.declared.key.Key.{Key}
 use Rattle.table_schema.specs.declared.row.Row.{Row}
 use Rattle.table_schema.specs.declared.write.Sent.{Sent}
-use Rattle.sai_types.specs.After.{after_calls, chip_after, makes_id}
+use Rattle.sai_types.specs.After.{chip_after}
 use Rattle.sai_types.specs.Alike.{IsIn}
 use Rattle.sai_types.specs.ChipState.{ChipState}
 use Rattle.sai_types.specs.Objects.{Objects}
 use Rattle.sai_types.specs.declared.ids.Rid.{Rid}
 use Rattle.sai_types.specs.declared.body.Call.{Call}
 use Rattle.sai_chip.specs.Replay.{IsReplayOf, Replayed}
+use Rattle.sai_chip.proofs.Replays.{IsReplayOf-append}
 use Rattle.sai_chip.specs.Sim.{Sim}
 use Rattle.switch_model.specs.Good.{TypedRows, good_rows}
 use Rattle.switch_model.specs.History.{History, log_size}
@@ -105,11 +106,7 @@ mark-due core chip kept known sorted is = record {
 -- ---- a replay of effects that grew
 
 replay-grown : (r : Replayed) (effects more : List (Call Rid)) → IsReplayOf r effects → IsReplayOf r (effects ++ more)
-replay-grown r effects more follows = record {
-  at = omega (arith, follows.at, length-append effects more);
-  made = follows.made ∙ ap (λ l. count_by makes_id l) (sym (take-append-le r.at effects more follows.at));
-  objects = follows.objects ∙ ap (λ l. after_calls 0 [] l) (sym (take-append-le r.at effects more follows.at));
-}
+replay-grown r effects more follows = IsReplayOf-append r effects more follows
 
 -- ---- the lines
 

@@ -13,6 +13,7 @@ use Rattle.sai_types.specs.ChipState.{ChipState, new_chip}
 use Rattle.sai_types.specs.declared.ids.Rid.{Rid}
 use Rattle.sai_types.specs.declared.body.Call.{Call}
 use Rattle.sai_chip.specs.Replay.{IsReplayOf, Replayed, new_replay}
+use Rattle.sai_chip.proofs.Replays.{IsReplayOf-new}
 use Rattle.sai_chip.specs.Sim.{Sim}
 use Rattle.switch_model.specs.History.{History, log_size}
 use Rattle.switch_model.specs.Promises.{EffectsAreLegal, MarksAreTrue}
@@ -116,7 +117,7 @@ Takes-none (Some text) = ap Some (sym (append-nil text))
 
 -- a new replay is that of any effects
 pub replay-none : (effects : List (Call Rid)) (r : Replayed) → r ≡ new_replay → IsReplayOf r effects
-replay-none effects r is = subst (λ x. IsReplayOf x effects) (sym is) (record { at = omega arith; made = refl; objects = refl })
+replay-none effects r is = subst (λ x. IsReplayOf x effects) (sym is) (IsReplayOf-new effects)
 
 pub running-none : (rounds : List Round) (first : State) (sim : Sim) (held : Option (List ℕ)) (replay : Replayed) → first ≡ new_state first.plan first.capacities log_limit → sim.chip ≡ new_chip first.capacities sim.chip.fails → IsKept first sim.chip → IsReplayOf replay sim.chip.effects → replay.at ≡ 0 → IsRunning rounds [] first held first sim replay held
 running-none rounds first sim held replay new chip kept follows at = record {
