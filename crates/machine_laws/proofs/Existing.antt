@@ -10,7 +10,7 @@ use Rattle.table_schema.proofs.Keys.{key_total}
 use Rattle.sai_types.specs.declared.ids.Rid.{Rid}
 use Rattle.sai_types.specs.declared.body.Call.{Call}
 use Rattle.sai_types.specs.Alike.{IsIn}
-use Rattle.row_layout.proofs.Tied.{tied}
+use Rattle.switch_model.proofs.Tied.{tied}
 use Rattle.switch_machine.specs.Events.{IsBegin, IsQuiet, IsSafe, SwitchState, after_answers}
 use Rattle.switch_machine.specs.Next.{HasReason}
 use Rattle.machine_laws.specs.Reading.{IsOnSwitch}
