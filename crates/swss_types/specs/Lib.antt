@@ -1,4 +1,5 @@
 pub mod Address
+pub mod Bits
 pub mod Hex
 pub mod Interface
 pub mod Ip
@@ -13,3 +14,4 @@ pub mod OutsideMemory
 pub mod Parts
 pub mod Prefix
 pub mod Tagging
+pub mod Text

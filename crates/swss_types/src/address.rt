@@ -2,6 +2,8 @@
 ghost use Rattle.std.specs.Prelude.{◌≡◌};
 ghost use Rattle.swss_types.specs.Address.{IsProperIp, IsProperPrefix, covers, width};
 
+use crate::Bits;
+
 /// The bits of an address of version 4.
 pub const V4_BITS: u8 = 32;
 
@@ -23,7 +25,7 @@ pub struct Ip {
     /// The version.
     pub family: Family,
     /// The address as a number, the first byte of the address the highest.
-    pub bits: u128,
+    pub bits: Bits,
 }
 
 /// An address with the number of its first bits that count. It is proper where the length is in the family's range
@@ -51,7 +53,7 @@ impl Prefix {
             return false;
         }
         let rest = ip.family.width() - self.len;
-        rest == V6_BITS || self.ip.bits >> rest == ip.bits >> rest
+        rest == V6_BITS || self.ip.bits.number() >> rest == ip.bits.number() >> rest
     }
 }
 

@@ -7,7 +7,7 @@ ghost use Rattle.swss_types.specs.Ip.{ip_of, ip_text, text_in, groups_in, ipv6_o
 ghost use Rattle.swss_types.specs.IpParts.{separator, base, whole, value_in, values_in, made, address_from};
 
 use crate::hex::{hex_digit, read_hex};
-use crate::{Family, Ip, OutOfMemory, cut_at, read_number, write_number};
+use crate::{Bits, Family, Ip, OutOfMemory, cut_at, read_number, write_number};
 
 impl Family {
     /// The byte between the parts of an address.
@@ -88,7 +88,10 @@ fn read_whole(text: &[u8], family: Family) -> Option<Ip>
     if count != family.whole() {
         return None;
     }
-    Some(Ip { family, bits })
+    Some(Ip {
+        family,
+        bits: Bits::new(bits),
+    })
 }
 
 /// The address whose text has these two sides of a `::`.
@@ -102,7 +105,7 @@ fn read_around(front: &[u8], back: &[u8]) -> Option<Ip>
     }
     Some(Ip {
         family: Family::V6,
-        bits: (high << (16 * (7 - above)) << 16) + low,
+        bits: Bits::new((high << (16 * (7 - above)) << 16) + low),
     })
 }
 
@@ -167,8 +170,8 @@ fn write_address(out: &mut Vec<u8>, ip: Ip) -> Result<(), OutOfMemory>
     ensures err { OnErr result (take (length out.old.items) out.new.items ≡ out.old.items) }
 {
     match ip.family {
-        Family::V4 => write_v4(out, ip.bits),
-        Family::V6 => write_groups_with_gap(out, &groups_of(ip.bits)),
+        Family::V4 => write_v4(out, ip.bits.number()),
+        Family::V6 => write_groups_with_gap(out, &groups_of(ip.bits.number())),
     }
 }
 

@@ -25,18 +25,20 @@ const MOST_LANES: usize = 8;
 /// The serial lanes of a port: 1 to `MOST_LANES` rising numbers below `LANES`.
 #[derive(Debug, Drop)]
 pub struct Lanes {
-    lanes: SmallVec<u16, 8>,
+    count: u8,
+    // those behind the first `count` are 0
+    lanes: [u16; 8],
 }
 
 impl Model for Lanes {
-    ghost use Rattle.std.specs.Prelude.{List, ℕ};
+    ghost use Rattle.std.specs.Prelude.{List, ℕ, ◌≤◌, take};
     ghost use Rattle.swss_types.specs.Lanes.{IsLaneList};
 
     ghost Value = { List ℕ };
 
-    ghost view = { λ l. l.lanes.items };
+    ghost view = { λ l. take l.count l.lanes };
 
-    ghost invariant = { λ l. IsLaneList l.lanes.items };
+    ghost invariant = { λ l. (l.count ≤ 8) × IsLaneList (take l.count l.lanes) };
 }
 
 impl Lanes {
@@ -51,9 +53,20 @@ impl Lanes {
         if lanes.len() != numbers.len() || numbers.len() > MOST_LANES {
             return Ok(None);
         }
-        Ok(Some(Lanes {
-            lanes: SmallVec::from_slice(alloc, &lanes)?,
-        }))
+        Ok(Some(Lanes::of_list(lanes.as_slice())))
+    }
+
+    /// These lanes.
+    fn of_list(list: &[u16]) -> Lanes
+        requires { IsLaneList list.now }
+        ensures { result ≡ list.now }
+    {
+        let mut lanes = [0; 8];
+        lanes[..list.len()].copy_from_slice(list);
+        Lanes {
+            count: list.len() as u8,
+            lanes,
+        }
     }
 
     /// The lanes, rising.
@@ -61,7 +74,7 @@ impl Lanes {
         ensures value { result.now ≡ self.now }
         ensures lanes { IsLaneList result.now }
     {
-        self.lanes.as_slice()
+        &self.lanes[..usize::from(self.count)]
     }
 
     /// The least lane.
@@ -89,7 +102,8 @@ impl Lanes {
         ensures { IfOk result (λ lanes. lanes ≡ self.now) }
     {
         Ok(Lanes {
-            lanes: SmallVec::from_slice(*self.lanes.allocator(), self.lanes.as_slice())?,
+            count: self.count,
+            lanes: self.lanes,
         })
     }
 }
@@ -100,7 +114,7 @@ impl PartialEq for Lanes {
     ghost laws = { Prim.search (comparing, rules) };
 
     fn eq(&self, other: &Lanes) -> bool {
-        self.lanes.as_slice() == other.lanes.as_slice()
+        self.items() == other.items()
     }
 }
 
@@ -128,7 +142,7 @@ impl Ord for Lanes {
     ghost matches_eq = { Prim.search (comparing, rules) };
 
     fn cmp(&self, other: &Lanes) -> Ordering {
-        self.lanes.as_slice().cmp(other.lanes.as_slice())
+        self.items().cmp(other.items())
     }
 }
 

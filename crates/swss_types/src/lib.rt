@@ -2,6 +2,7 @@
 #![tactic(auto)]
 
 mod address;
+mod bits;
 mod hex;
 mod interface;
 mod ip;
@@ -19,6 +20,7 @@ mod tagging;
 mod text;
 
 pub use address::{Family, Ip, Mac, Prefix, V4_BITS, V6_BITS};
+pub use bits::Bits;
 pub use interface::{IfName, MOST_PORT, MOST_VLAN};
 pub use lanes::{LANES, Lanes};
 pub use laws::{

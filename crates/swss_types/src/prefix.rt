@@ -13,7 +13,7 @@ impl Prefix {
         ensures proper { IfSome result IsProperPrefix }
     {
         let (ip, len) = read_interface_address(text)?;
-        if !is_clean(ip, len) {
+        if !is_clean(&ip, len) {
             return None;
         }
         Some(Prefix { ip, len })
@@ -75,20 +75,20 @@ pub fn has_host_bits(text: &[u8]) -> bool
     ensures { result ≡ has_host_bits text.now }
 {
     match read_interface_address(text) {
-        Some((ip, len)) => !is_clean(ip, len),
+        Some((ip, len)) => !is_clean(&ip, len),
         None => false,
     }
 }
 
 /// Whether all bits of the address past the length are zero.
-fn is_clean(ip: Ip, len: u8) -> bool
-    requires { len ≤ width ip.family }
-    ensures { result ≡ is_clean ip len }
+fn is_clean(ip: &Ip, len: u8) -> bool
+    requires { len ≤ width ip.now.family }
+    ensures { result ≡ is_clean ip.now len }
 {
     let rest = ip.family.width() - len;
     if rest == V6_BITS {
-        ip.bits == 0
+        ip.bits.number() == 0
     } else {
-        ip.bits % (1 << rest) == 0
+        ip.bits.number() % (1 << rest) == 0
     }
 }

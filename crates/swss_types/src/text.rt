@@ -6,29 +6,40 @@ ghost use Rattle.std.specs.Cmp.{partial_order_from_own_ties};
 ghost use Rattle.std.specs.Cmp.Rules.{comparing};
 ghost use Rattle.std.specs.Cmp.Lexicographic.{slice_cmp, pointwise};
 ghost use Rattle.std.specs.Ordering.{nat_cmp, as_partial_cmp};
+ghost use Rattle.swss_types.specs.Text.{IsHeld, bytes_in};
 
 use crate::OutOfMemory;
-use smallvec::SmallVec;
 use std::alloc::Global;
 use std::cmp::Ordering;
 use std::marker::Model;
 use std::str;
 
-/// A list of bytes that is valid UTF-8. Texts are ordered byte by byte. Most are short: up to 16 bytes need no allocation.
+/// The most bytes that stand in a text itself.
+const SHORT: usize = 30;
+
+/// A list of bytes that is valid UTF-8. Texts are ordered byte by byte. Most are short: up to 30 bytes need no allocation.
 #[derive(Debug, Drop)]
 pub struct Text {
-    bytes: SmallVec<u8, 16>,
+    bytes: Bytes,
+}
+
+/// Few bytes stand in the value itself, at the front of an array. More have an allocation.
+#[derive(Debug, Drop)]
+enum Bytes {
+    Short(u8, [u8; SHORT]),
+    Long(Vec<u8>),
 }
 
 impl Model for Text {
     ghost use Rattle.std.specs.Prelude.{List, ℕ};
     ghost use Rattle.std.specs.Str.{IsUtf8};
+    ghost use Rattle.swss_types.specs.Text.{IsHeld, bytes_in};
 
     ghost Value = { List ℕ };
 
-    ghost view = { λ t. t.bytes.items };
+    ghost view = { λ t. bytes_in t.bytes };
 
-    ghost invariant = { λ t. IsUtf8 t.bytes.items };
+    ghost invariant = { λ t. IsHeld t.bytes × IsUtf8 (bytes_in t.bytes) };
 }
 
 impl Text {
@@ -47,7 +58,7 @@ impl Text {
         ensures { IfOk result (λ copy. copy ≡ text.now) }
     {
         Ok(Text {
-            bytes: SmallVec::from_slice(alloc, text.as_bytes())?,
+            bytes: Bytes::new(alloc, text.as_bytes())?,
         })
     }
 
@@ -64,7 +75,43 @@ impl Text {
         ensures { IfOk result (λ text. text ≡ self.now) }
     {
         Ok(Text {
-            bytes: SmallVec::from_slice(*self.bytes.allocator(), self.bytes.as_slice())?,
+            bytes: self.bytes.copy()?,
+        })
+    }
+}
+
+impl Bytes {
+    /// These bytes.
+    fn new(alloc: Global, bytes: &[u8]) -> Result<Bytes, OutOfMemory>
+        ensures { IfOk result (λ copy. IsHeld copy × (bytes_in copy ≡ bytes.now)) }
+    {
+        if bytes.len() > SHORT {
+            return Ok(Bytes::Long(Vec::from_slice(alloc, bytes)?));
+        }
+        let mut short = [0; SHORT];
+        short[..bytes.len()].copy_from_slice(bytes);
+        Ok(Bytes::Short(bytes.len() as u8, short))
+    }
+
+    /// The bytes.
+    fn as_slice(&self) -> &[u8]
+        requires { IsHeld self.now }
+        ensures { result.now ≡ bytes_in self.now }
+    {
+        match self {
+            Bytes::Short(len, bytes) => &bytes[..usize::from(*len)],
+            Bytes::Long(bytes) => bytes.as_slice(),
+        }
+    }
+
+    /// The same bytes once more.
+    fn copy(&self) -> Result<Bytes, OutOfMemory>
+        requires { IsHeld self.now }
+        ensures { IfOk result (λ copy. IsHeld copy × (bytes_in copy ≡ bytes_in self.now)) }
+    {
+        Ok(match self {
+            Bytes::Short(len, bytes) => Bytes::Short(*len, *bytes),
+            Bytes::Long(bytes) => Bytes::Long(bytes.clone()?),
         })
     }
 }

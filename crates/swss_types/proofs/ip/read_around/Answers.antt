@@ -1,4 +1,5 @@
-use Rattle.std.proofs.Common.{sym, arith}
+use Rattle.std.proofs.Common.{Some, ap, ◌∙◌, sym, arith}
+use Rattle.swss_types.specs.declared.address.Family.TheVariants.{V6}
 use Rattle.swss_types.specs.Ip.{side_of}
 use Rattle.swss_types.proofs.Addresses.{around_some, made_few}
 use Rattle.swss_types.proofs.ip.read_around.Goals as goal
@@ -9,8 +10,8 @@ overflow_add-above c =
     let few' = made_few (side_of c.args.back.now) _ _ (sym c.in_ok-low.ensures) in
     omega arith
 
-pub overflow_add-result : goal.overflow_add-result
-overflow_add-result c =
+pub overflow_add-high : goal.overflow_add-high
+overflow_add-high c =
     let all = around_some c.args.front.now c.args.back.now c.in_ok-high.high c.in_ok-high.above c.in_ok-low.low c.in_ok-low.below (sym c.in_ok-high.ensures) (sym c.in_ok-low.ensures) (omega arith) in
     let small = all.0 in
     omega arith
@@ -18,4 +19,4 @@ overflow_add-result c =
 pub returns : goal.returns
 returns c =
     let all = around_some c.args.front.now c.args.back.now c.in_ok-high.high c.in_ok-high.above c.in_ok-low.low c.in_ok-low.below (sym c.in_ok-high.ensures) (sym c.in_ok-low.ensures) (omega arith) in
-    sym all.1
+    ap (λ n. Some (record { family = V6; bits = n })) c.new.ensures ∙ sym all.1
