@@ -172,10 +172,17 @@ fn read_hop(several: bool, address: &[u8], name: &[u8]) -> Result<RowHop, BadRow
 {
     let on = read_on_switch(name).ok_or(bad(Unsupported, field::IFNAME))?;
     let ip = Ip::read(address).ok_or(bad(BadValue, field::NEXTHOP))?;
-    if several && ip.bits == 0 {
+    if several && is_zero(&ip) {
         return Err(bad(BadValue, field::NEXTHOP));
     }
     Ok(RowHop { on, ip })
+}
+
+/// Whether all bits of an address are 0.
+fn is_zero(ip: &Ip) -> bool
+    ensures { result ≡ is_zero ip.now }
+{
+    ip.bits.number() == 0
 }
 
 /// Where a route with these hops sends its packets: one hop with a zero address is the interface itself.
@@ -183,7 +190,7 @@ fn target_of(hops: RowHops) -> RouteRow
     ensures { result ≡ target_of hops }
 {
     match hops.items() {
-        [hop] if hop.ip.bits == 0 => RouteRow::Direct(hop.on),
+        [hop] if is_zero(&hop.ip) => RouteRow::Direct(hop.on),
         _ => RouteRow::Hops(hops),
     }
 }
