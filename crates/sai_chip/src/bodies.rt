@@ -95,7 +95,7 @@ impl Bodies {
         match *entry {
             Entry::Oid(_) => None,
             Entry::Own(ip) => self.own(ip),
-            Entry::Neigh(rif, ip) => self.neighbor(rif, ip),
+            Entry::Neigh(rif, ip) => self.neighbor(rif, &ip),
             Entry::Route(prefix) => self.route(prefix),
         }
     }
@@ -122,11 +122,15 @@ impl Bodies {
     }
 
     /// The neighbour as a body, where it stands.
-    fn neighbor(&self, rif: Rid, ip: Ip) -> Option<Body<Rid>>
-        ensures { result ≡ body_at self.now (Entry.Neigh rif ip) }
+    fn neighbor(&self, rif: Rid, ip: &Ip) -> Option<Body<Rid>>
+        ensures { result ≡ body_at self.now (Entry.Neigh rif ip.now) }
     {
-        match self.neighbors.get(&(rif, ip)) {
-            Some(mac) => Some(Body::Neighbor { rif, ip, mac: *mac }),
+        match self.neighbors.get(&(rif, *ip)) {
+            Some(mac) => Some(Body::Neighbor {
+                rif,
+                ip: *ip,
+                mac: *mac,
+            }),
             None => None,
         }
     }
@@ -325,10 +329,13 @@ fn push_neighbors(neighbors: &Neighbors, out: &mut Vec<Object<Rid>>) -> Result<(
     ensures err { OnErr result (take (length out.old.items) out.new.items ≡ out.old.items) }
 {
     for ((rif, ip), mac) in neighbors {
-        let (rif, ip, mac) = (*rif, *ip, *mac);
         out.push(Object {
-            entry: Entry::Neigh(rif, ip),
-            body: Body::Neighbor { rif, ip, mac },
+            entry: Entry::Neigh(*rif, *ip),
+            body: Body::Neighbor {
+                rif: *rif,
+                ip: *ip,
+                mac: *mac,
+            },
         })?;
     }
     Ok(())
@@ -340,10 +347,12 @@ fn push_routes(routes: &Routes, out: &mut Vec<Object<Rid>>) -> Result<(), OutOfM
     ensures err { OnErr result (take (length out.old.items) out.new.items ≡ out.old.items) }
 {
     for (prefix, to) in routes {
-        let (prefix, to) = (*prefix, *to);
         out.push(Object {
-            entry: Entry::Route(prefix),
-            body: Body::Route { prefix, to },
+            entry: Entry::Route(*prefix),
+            body: Body::Route {
+                prefix: *prefix,
+                to: *to,
+            },
         })?;
     }
     Ok(())

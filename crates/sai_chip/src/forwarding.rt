@@ -34,14 +34,14 @@ pub fn forward_by(alloc: Global, held: &Held, ip: Ip) -> Result<Forward, OutOfMe
     if held.bodies().is_own(ip) {
         return Ok(Forward::Cpu);
     }
-    Ok(best_route(alloc, held, ip)?.unwrap_or(Forward::Drop))
+    Ok(best_route(alloc, held, &ip)?.unwrap_or(Forward::Drop))
 }
 
 /// Where the route of the longest prefix that covers the address sends: None where none covers it.
-fn best_route(alloc: Global, held: &Held, ip: Ip) -> Result<Option<Forward>, OutOfMemory>
+fn best_route(alloc: Global, held: &Held, ip: &Ip) -> Result<Option<Forward>, OutOfMemory>
     requires refer { ReferWell held.now }
     requires one { HaveOneEach held.now }
-    ensures { IfOk result (λ best. best ≡ option_map (λ r. sent held.now r.1) (best_route (those (named held.now)) ip)) }
+    ensures { IfOk result (λ best. best ≡ option_map (λ r. sent held.now r.1) (best_route (those (named held.now)) ip.now)) }
 {
     let mut best = None;
     for (prefix, to) in held.bodies().routes() {
@@ -54,14 +54,14 @@ fn best_route(alloc: Global, held: &Held, ip: Ip) -> Result<Option<Forward>, Out
 fn with_route(
     alloc: Global,
     held: &Held,
-    ip: Ip,
+    ip: &Ip,
     best: Option<(u8, Forward)>,
     prefix: &Prefix,
     to: To<Rid>,
 ) -> Result<Option<(u8, Forward)>, OutOfMemory>
     requires refer { ReferWell held.now }
     requires one { HaveOneEach held.now }
-    ensures { IfOk result (λ better. (r : Option (Prefix × Goal)) → pick held.now better r ≡ pick held.now best (with_goal ip prefix.now (goal_by (hops_at held.now) held.now to) r)) }
+    ensures { IfOk result (λ better. (r : Option (Prefix × Goal)) → pick held.now better r ≡ pick held.now best (with_goal ip.now prefix.now (goal_by (hops_at held.now) held.now to) r)) }
 {
     if !covers(prefix, ip) {
         return Ok(best);
@@ -86,15 +86,15 @@ fn is_longer(prefix: &Prefix, best: &Option<(u8, Forward)>) -> bool
 }
 
 /// Whether the address is of the prefix's family and agrees with it in the prefix's first bits.
-fn covers(prefix: &Prefix, ip: Ip) -> bool
-    ensures { result ≡ covers prefix.now ip }
+fn covers(prefix: &Prefix, ip: &Ip) -> bool
+    ensures { result ≡ covers prefix.now ip.now }
 {
     if prefix.ip.family != ip.family {
         return false;
     }
-    let bits = prefix.ip.bits;
+    let (bits, others) = (prefix.ip.bits.number(), ip.bits.number());
     let rest = ip.family.width().saturating_sub(prefix.len);
-    rest == V6_BITS || bits >> rest == ip.bits >> rest
+    rest == V6_BITS || bits >> rest == others >> rest
 }
 
 /// Where a route with this target sends: None where a reference is absent.
@@ -160,19 +160,19 @@ fn way_to(held: &Held, next_hop: Rid) -> Option<(Hop, Option<Mac>)>
     ensures { result ≡ option_map (way_of held.now) (next_hop_at held.now next_hop) }
 {
     match held.bodies().get(next_hop) {
-        Some(Body::NextHop { rif, ip }) => way_by(held, *rif, *ip),
+        Some(Body::NextHop { rif, ip }) => way_by(held, *rif, ip),
         _ => None,
     }
 }
 
 /// The hop of a neighbour that stands, with its Ethernet address.
-fn way_by(held: &Held, rif: Rid, ip: Ip) -> Option<(Hop, Option<Mac>)>
+fn way_by(held: &Held, rif: Rid, ip: &Ip) -> Option<(Hop, Option<Mac>)>
     requires one { HaveOneEach held.now }
-    requires stands { is_some (body_at held.now (entry.Neigh rif ip)) ≡ true }
-    ensures { result ≡ option_map (way_of held.now) (hop_on held.now rif ip) }
+    requires stands { is_some (body_at held.now (entry.Neigh rif ip.now)) ≡ true }
+    ensures { result ≡ option_map (way_of held.now) (hop_on held.now rif ip.now) }
 {
-    match hop_on(held.bodies().numbered(), rif, ip) {
-        Some(hop) => Some((hop, held.bodies().mac(rif, ip))),
+    match hop_on(held.bodies().numbered(), rif, *ip) {
+        Some(hop) => Some((hop, held.bodies().mac(rif, *ip))),
         None => None,
     }
 }

@@ -1,5 +1,5 @@
 // A simulated SAI chip.
-ghost use Rattle.std.specs.Prelude.{◌≡◌, ℕ, true, ◌⊎◌, [], ◌++◌, None, Some, slice_get, length, is_some, option_copied, IfOk, IsSome, OnOk, OnErr};
+ghost use Rattle.std.specs.Prelude.{◌≡◌, ◌<◌, ℕ, true, ◌⊎◌, [], ◌++◌, None, Some, slice_get, length, is_some, option_copied, IfOk, IsSome, OnOk, OnErr};
 ghost use Rattle.sai_types.specs.declared.ids.Rid.{Rid};
 ghost use Rattle.sai_types.specs.declared.body.Call.{Call};
 ghost use Rattle.sai_types.specs.After.{after_call};
@@ -27,6 +27,10 @@ use sai_types::{
 use std::alloc::Global;
 use std::marker::Model;
 use swss_types::{Ip, OutOfMemory};
+
+/// For how many effects there is room from the first on. A list that grows from nothing leaves its smaller places behind
+/// it; memory that nothing was written to takes no place.
+const FIRST_EFFECTS: usize = 16_384;
 
 /// A SAI chip in memory, with a capacity for each kind of object. It fails at chosen calls.
 #[derive(Drop)]
@@ -130,7 +134,7 @@ impl SimChip {
         let makes = makes_id(call);
         let id = Rid(self.made + 1);
         let copy = call.copy()?;
-        self.effects.reserve(1)?;
+        self.effects.reserve(room_behind(self.effects.len()))?;
         make_effect(&mut self.held, call, id)?;
         self.effects.push(copy)?;
         if makes {
@@ -246,6 +250,13 @@ impl Chip for SimChip {
     fn faults(&self) -> u64 {
         self.faults
     }
+}
+
+/// For how many effects room is asked behind so many: for many at once before the first.
+fn room_behind(count: usize) -> usize
+    ensures { 0 < result }
+{
+    if count == 0 { FIRST_EFFECTS } else { 1 }
 }
 
 /// A call leaves each port the lane by which it is named, where a port that it makes has one. A law: it does nothing.
