@@ -217,7 +217,8 @@ impl Draft {
     fn end_section(&mut self, alloc: Global, producer: u32) -> Result<(), OutOfMemory>
         ensures { OnOk result (self.new ≡ section_ended producer self.old) }
     {
-        let acts = mem::replace(&mut self.acts, Acts::new(alloc));
+        let mut acts = mem::replace(&mut self.acts, Acts::new(alloc));
+        acts.shrink();
         self.sections.push(Section { producer, acts })?;
         Ok(())
     }

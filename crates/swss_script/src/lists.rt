@@ -233,6 +233,13 @@ impl Acts {
         Ok(())
     }
 
+    /// Gives back the room that no act takes.
+    pub fn shrink(&mut self)
+        ensures { self.new ≡ self.old }
+    {
+        self.acts.shrink_to_fit();
+    }
+
     /// The acts.
     pub fn items(&self) -> &[Act]
         ensures { result.now ≡ self.now }
