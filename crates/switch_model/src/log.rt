@@ -1,5 +1,5 @@
 // The log of a session.
-ghost use Rattle.std.specs.Prelude.{◌≡◌, [], ◌∷◌, ◌++◌, length, OnOk, OnErr};
+ghost use Rattle.std.specs.Prelude.{◌≡◌, [], ◌∷◌, ◌++◌, length, IfOk, OnOk, OnErr};
 
 use crate::Mark;
 use std::alloc::Global;
@@ -38,6 +38,15 @@ impl Log {
             marks: Vec::new(alloc),
             ends: Vec::new(alloc),
         }
+    }
+
+    /// The empty log, with room for so many writes: it then takes these without asking for memory.
+    pub fn with_room(alloc: Global, writes: usize) -> Result<Log, OutOfMemory>
+        ensures { IfOk result (λ log. log ≡ no_history) }
+    {
+        let mut log = Log::new(alloc);
+        log.taken.reserve_exact(writes)?;
+        Ok(log)
     }
 
     /// The writes taken, in order.
