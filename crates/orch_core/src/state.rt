@@ -17,6 +17,10 @@ use switch_model::{Log, Wait};
 use swss_types::OutOfMemory;
 use table_schema::{Key, PortPlan};
 
+/// For how many writes the log has room from its beginning. A list that grows from nothing leaves its smaller places behind
+/// it; memory that nothing was written to takes no place.
+const FIRST_WRITES: u64 = 65_536;
+
 /// The state of the service: the rows that the writes come to, the keys that are to be brought to the chip, what is
 /// applied, and the log.
 #[derive(Debug, Drop)]
@@ -53,6 +57,7 @@ impl Core {
         ensures new { IfOk result (λ core. core ≡ new_state plan caps.0 log_limit) }
         ensures kept { (fails : List Fail) → IsPlan plan → HasPortRoom plan caps.0 → IfOk result (λ core. IsKept core (new_chip caps.0 fails)) }
     {
+        let log = Log::with_room(alloc, log_limit.min(FIRST_WRITES) as usize)?;
         Ok(Core {
             alloc,
             plan,
@@ -62,7 +67,7 @@ impl Core {
             to_sync: BTreeSet::new(alloc),
             applied: BTreeMap::new(alloc),
             waiting: Vec::new(alloc),
-            log: Log::new(alloc),
+            log,
             listed: 0,
         })
     }

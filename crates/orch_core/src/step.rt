@@ -153,8 +153,8 @@ fn wait_for(key: &Key) -> Step
 fn change_to(row: Row) -> Step
     ensures { result ≡ step_to row }
 {
-    match row {
-        Row::Port(port) => Step::Change(port),
-        _ => Step::Nothing,
+    if let Row::Port(port) = row {
+        return Step::Change(port);
     }
+    Step::Nothing
 }
