@@ -1,14 +1,20 @@
 -- what is known of a name after a change
-use Rattle.std.proofs.Common.{◌≡◌, ℕ, Bool, true, false, cond, [], ◌∷◌, Some, option_map, refl, sym, ap, ◌∙◌}
+use Rattle.std.proofs.Common.{◌≡◌, ℕ, Bool, true, false, cond, List, [], ◌∷◌, Option, None, Some, option_map, refl, sym, ap, ◌∙◌}
 use Rattle.std.specs.BTreeMap.{insert_entry, is_at}
+use Rattle.std.specs.List.Sorted.{IsStrictlySortedBy}
+use Rattle.std.specs.Map.{keys_of, remove_entry}
 use Rattle.std.specs.Ordering.{is_eq, ordering_reverse}
 use Rattle.std.specs.declared.cmp.Ordering.{Ordering}
 use Rattle.std.specs.declared.cmp.Ordering.TheVariants.{Less, Equal, Greater}
 use Rattle.std.proofs.lemmas.Cmp.{tied_itself}
 use Rattle.table_schema.proofs.Places.{find_step, put_step}
+use Rattle.table_schema.specs.declared.key.Key.{Key}
+use Rattle.sai_types.proofs.Maps.{lookup-removed}
 use Rattle.ref_counts.specs.declared.name.Name.{Name}
-use Rattle.ref_counts.specs.Registered.{Registered, released}
-use Rattle.ref_counts.specs.Registry.{Names, all_released, changed, name_cmp, registered_at}
+use Rattle.ref_counts.specs.declared.name.Name.TheVariants as name
+use Rattle.ref_counts.specs.declared.name.NameState.TheVariants as state
+use Rattle.ref_counts.specs.Registered.{Registered, released, with_pin}
+use Rattle.ref_counts.specs.Registry.{Names, all_released, changed, gone_from, is_retiring, name_cmp, pinned, registered_at, state_in, state_of}
 use Rattle.ref_counts.proofs.Changing.{name_total}
 
 -- a name that is put is there
@@ -67,3 +73,42 @@ eq_back Greater = refl
 -- a name that is one name is no other
 pub apart_from : (n m k : Name) → is_at (name_cmp n) m ≡ false → is_at (name_cmp n) k ≡ true → is_at (name_cmp m) k ≡ false
 apart_from n m k other is = ap is_eq (name_total.antisymm m k) ∙ eq_back (name_cmp k m) ∙ ap is_eq (sym (name_total.congr n k m (eq_equal (name_cmp n k) is))) ∙ other
+
+-- what a change leaves of what is known of a name, it leaves of each name
+module _ {X : Type 0} (h : Option Registered → X) (f : Registered → Registered) (same : (r : Registered) → h (Some (f r)) ≡ h (Some r)) where
+  found-kept : (names : Names) (n m : Name) → h (registered_at (changed names m f) n) ≡ h (registered_at names n)
+  found-kept [] n m = refl
+  found-kept (e ∷ es) n m =
+      let rest = found-kept es n m in
+      elim (is_at (name_cmp m) e.0) as (λ b. h (registered_at (cond b (e.0, f e.1) e ∷ changed es m f) n) ≡ h (registered_at (e ∷ es) n)) [
+        | true ↦ elim (is_at (name_cmp n) e.0) as (λ b. h (cond b (Some (f e.1)) (registered_at (changed es m f) n)) ≡ h (cond b (Some e.1) (registered_at es n))) [ true ↦ same e.1 | false ↦ rest ]
+        | false ↦ elim (is_at (name_cmp n) e.0) as (λ b. h (cond b (Some e.1) (registered_at (changed es m f) n)) ≡ h (cond b (Some e.1) (registered_at es n))) [ true ↦ refl | false ↦ rest ]
+      ]
+
+-- pins leave all but pins
+pub pinned-kept : {X : Type 0} (h : Option Registered → X) (worker : ℕ) (user : Key) → ((r : Registered) → h (Some (with_pin worker user r)) ≡ h (Some r)) → (names : Names) (keys : List Key) (n : Name) → h (registered_at (pinned names worker user keys) n) ≡ h (registered_at names n)
+pinned-kept h worker user same names [] n = refl
+pinned-kept h worker user same names (k ∷ ks) n = pinned-kept h worker user same (changed names (name.Row k) (with_pin worker user)) ks n ∙ found-kept h (with_pin worker user) same names n (name.Row k)
+
+-- what is known of a name once one was removed
+removed-found : (names : Names) (n m : Name) → IsStrictlySortedBy name_cmp (keys_of names) → registered_at (remove_entry (is_at (name_cmp n)) names) m ≡ cond (is_at (name_cmp n) m) None (registered_at names m)
+removed-found names n m sorted = lookup-removed name_cmp name_total names n m sorted
+
+removed-state : (b : Bool) (o : Option Registered) → b ≡ true → state_in (cond b None o) ≡ state.Absent
+removed-state true o is = refl
+removed-state false o is = cc
+
+pub gone-absent : (names : Names) (n : Name) → IsStrictlySortedBy name_cmp (keys_of names) → is_retiring (state_of names n) ≡ true → state_of (gone_from names n) n ≡ state.Absent
+gone-absent names n sorted retiring =
+    ap (λ b. state_of (cond b (remove_entry (is_at (name_cmp n)) names) names) n) retiring
+    ∙ ap state_in (removed-found names n n sorted)
+    ∙ removed-state (is_at (name_cmp n) n) (registered_at names n) (ap is_eq (tied_itself name_total n))
+
+removed-others : (b : Bool) (o : Option Registered) → b ≡ false → cond b None o ≡ o
+removed-others true o is = cc
+removed-others false o is = refl
+
+pub gone-others : (names : Names) (n m : Name) → IsStrictlySortedBy name_cmp (keys_of names) → is_at (name_cmp n) m ≡ false → registered_at (gone_from names n) m ≡ registered_at names m
+gone-others names n m sorted other =
+    let removed = removed-found names n m sorted ∙ removed-others (is_at (name_cmp n) m) (registered_at names m) other in
+    elim (is_retiring (state_of names n)) as (λ b. registered_at (cond b (remove_entry (is_at (name_cmp n)) names) names) m ≡ registered_at names m) [ true ↦ removed | false ↦ refl ]

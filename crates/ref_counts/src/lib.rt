@@ -14,7 +14,10 @@ mod registry;
 mod room;
 mod users;
 
-pub use laws::{changes_are_found, put_names_are_found, releases_are_found};
+pub use laws::{
+    changes_are_found, gone_names_are_absent, pins_leave_names, put_names_are_found,
+    releases_are_found,
+};
 pub use name::{Missing, Name, NameState};
 pub use next::Next;
 pub use registry::Registry;

@@ -1,6 +1,8 @@
 // The registry of names.
 ghost use Rattle.std.specs.Prelude.{◌≡◌, ◌≤◌, ◌↔◌, [], true, length, None, Some, option_map, IfOk, IfErr, OnOk, OnErr, IsTrue};
 ghost use Rattle.std.specs.BTreeMap.{insert_entry};
+ghost use Rattle.std.specs.List.Sorted.{IsStrictlySortedBy};
+ghost use Rattle.std.specs.Map.{keys_of};
 ghost use Rattle.ref_counts.specs.Registered.{IsReadable, begun, first_of, going, made_live, with_user, without_user};
 ghost use Rattle.ref_counts.specs.Registry.{all_released, changed, first_missing, gone_from, ids_of, is_live, name_cmp, owner_in, pinned, places_of, refusal_at, state_of, takes_users, users_of};
 
@@ -54,10 +56,13 @@ impl Registry {
         changes::state(&self.names, name)
     }
 
-    /// Whether a name is live.
+    /// Whether a name is live. What is known of names is in their order, of each once.
     pub fn live(&self, name: &Name) -> bool
-        ensures { IsTrue result ↔ (state_of self.now name.now ≡ NameState.Live) }
+        ensures live { IsTrue result ↔ (state_of self.now name.now ≡ NameState.Live) }
+        ensures order { IsStrictlySortedBy name_cmp (keys_of self.now) }
     {
+        // It says that the names rise.
+        let _rising = self.names.len();
         match self.state(name) {
             NameState::Live => true,
             _ => false,
