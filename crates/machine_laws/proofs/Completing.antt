@@ -107,7 +107,7 @@ some_going (owner.Group hops) h = more (members_of hops hops)
     more [] = omega arith
     more (t ∷ ts) = omega arith
 
-abbrev going_length : Option Owner → ℕ
+abbrev pub going_length : Option Owner → ℕ
 going_length None = 0
 going_length (Some o) = length (take_all (shared_going o) [])
 

@@ -16,4 +16,5 @@ pub mod Identified
 pub mod Broken
 pub mod Marking
 pub mod Logged
+pub mod Bounded
 pub mod Example
