@@ -1,5 +1,5 @@
 -- while a cold plan is made each route that the chip shows it showed before, or the view has it
-use Rattle.std.proofs.Common.{◌≡◌, inl, inr, ◌⊎◌, ◌≤◌, ◌-◌, ℕ, ◌++◌, List, [], Some, refl, sym, ap, ◌∙◌, subst, arith}
+use Rattle.std.proofs.Common.{◌≡◌, inl, inr, ◌⊎◌, ◌≤◌, ℕ, ◌++◌, List, [], Some, refl, sym, ap, ◌∙◌, subst, arith}
 use Rattle.std.proofs.lemmas.List.{append-nil}
 use Rattle.sai_types.specs.declared.ids.Rid.{Rid}
 use Rattle.sai_types.specs.declared.hop.Hop.{Hop}
@@ -16,8 +16,8 @@ use Rattle.sai_types.specs.Names as name
 use Rattle.sai_types.specs.Names.{Name, name_of}
 use Rattle.sai_types.specs.Objects.{Objects}
 use Rattle.chip_layout.specs.Layout.{Layout}
-use Rattle.plan_laws.specs.Applied.{AppliesCold, IsColdPlan, IsListed, chip_things}
-use Rattle.plan_laws.specs.Old.{old_layout, old_things}
+use Rattle.plan_laws.specs.Applied.{AppliesCold, IsListed, chip_things}
+use Rattle.plan_laws.specs.Old.{old_things}
 use Rattle.plan_laws.specs.Plans.{IsViewPlan, Make, PlanChange, Remove, Set, cold_rank, outcome, stands_after_all}
 use Rattle.plan_laws.specs.Steady.{IsForwarding}
 use Rattle.plan_laws.specs.Views.{HaveWholeGroups, ReferWithin}
@@ -26,7 +26,7 @@ use Rattle.plan_laws.proofs.Cold.{cold-halfway, makes-room, makes-safe, removes-
 use Rattle.plan_laws.proofs.Following.{IsUntouched, before, done-in, new-stands, old-new, old-stands, origin, outcome-new}
 use Rattle.plan_laws.proofs.Lists.{cuts}
 use Rattle.plan_laws.proofs.Running.{after-append, run-cut}
-use Rattle.plan_laws.proofs.Shown.{AreTargets, real_goal, real_route, shown-all, shown-sound}
+use Rattle.plan_laws.proofs.Shown.{AreTargets, real_route, shown-all, shown-sound}
 use Rattle.plan_laws.proofs.Starting.{first-moment, hops_by_tag, old-named, old-tagged}
 use Rattle.plan_laws.proofs.Stepping.{IsMidMoment, moment-shown}
 use Rattle.plan_laws.proofs.Targets.{is-group, is-member}

@@ -17,4 +17,6 @@ pub mod Broken
 pub mod Marking
 pub mod Logged
 pub mod Bounded
+pub mod Underway
+pub mod Routes
 pub mod Example

@@ -21,7 +21,7 @@ ghost use Rattle.sai_types.specs.Refusal.{IsLegal};
 ghost use Rattle.switch_model.specs.declared.mark.Mark.{Mark};
 ghost use Rattle.switch_model.specs.Desired.{IsThingOf};
 ghost use Rattle.switch_model.specs.Marks.{sent_writes};
-ghost use Rattle.switch_model.specs.Promises.{IsBegun, MarksAreTrue, applied_at};
+ghost use Rattle.switch_model.specs.Promises.{EffectsAreLegal, IsBegun, MarksAreTrue, applied_at};
 ghost use Rattle.switch_model.specs.Sound.{AreWithin};
 ghost use Rattle.chip_layout.specs.Layout.{has_number};
 ghost use Rattle.chip_layout.specs.Renamed.{call_renamed};
@@ -107,7 +107,8 @@ pub fn logs_are_true()
     ensures order { (plan : Ports) (workers : ℕ) (capacities : List ℕ) (ts : List LoggedService) → IsPlan plan → AreLoggedSteps plan workers capacities new_session ts → IsOrdered (session_after new_session ts).log }
     ensures counts { (plan : Ports) (workers : ℕ) (capacities : List ℕ) (ts : List LoggedService) → IsPlan plan → AreLoggedSteps plan workers capacities new_session ts → AreWithin (length (session_after new_session ts).log.taken) (length (session_after new_session ts).effects) (session_after new_session ts).log.marks }
     ensures warm { (plan : Ports) (workers : ℕ) (capacities : List ℕ) (ts : List LoggedService) → IsPlan plan → AreLoggedSteps plan workers capacities new_session ts → IsWarmAfter (last_mark None (session_after new_session ts).log.marks) (session_after new_session ts).service.warm }
-    ensures effects { (plan : Ports) (workers : ℕ) (capacities : List ℕ) (ts : List LoggedService) → IsPlan plan → AreLoggedSteps plan workers capacities new_session ts → AreLegal capacities 0 [] (session_after new_session ts).effects × ((session_after new_session ts).service.core.objects ≡ after_calls 0 [] (session_after new_session ts).effects) }
+    ensures effects { (plan : Ports) (workers : ℕ) (capacities : List ℕ) (ts : List LoggedService) → IsPlan plan → AreLoggedSteps plan workers capacities new_session ts → EffectsAreLegal plan capacities (session_after new_session ts).log.taken (session_after new_session ts).effects }
+    ensures chip { (plan : Ports) (workers : ℕ) (capacities : List ℕ) (ts : List LoggedService) → IsPlan plan → AreLoggedSteps plan workers capacities new_session ts → (session_after new_session ts).service.core.objects ≡ after_calls 0 [] (session_after new_session ts).effects }
     ensures holds { (plan : Ports) (workers : ℕ) (capacities : List ℕ) (ts : List LoggedService) → IsPlan plan → AreLoggedSteps plan workers capacities new_session ts → Holds plan workers capacities (session_after new_session ts).service }
 {}
 
