@@ -61,12 +61,13 @@ in_kept n y (x ∷ xs) h other = by (name_split (name_of x.1) n) (λ g. in_kept 
     by (inr apart) rest (inl same) = inl same
     by (inr apart) rest (inr g) = inr (rest g)
 
-record Changed (stands : List (Rid × Thing)) (made : ℕ) (c : Change) (call : Call Rid) (of : IsCall (listed stands) c call) : Type 0 where
-  id : Rid
-  given : IsGiven (listed stands) made c call of id
-  later : List (Rid × Thing)
-  into : (i : Rid) (t : Thing) → changed_by (listed stands) c id i t → listed later i t
-  back : (i : Rid) (t : Thing) → listed later i t → changed_by (listed stands) c id i t
+-- what stands after a call
+pub record Changed (stands : List (Rid × Thing)) (made : ℕ) (c : Change) (call : Call Rid) (of : IsCall (listed stands) c call) : Type 0 where
+  pub id : Rid
+  pub given : IsGiven (listed stands) made c call of id
+  pub later : List (Rid × Thing)
+  pub into : (i : Rid) (t : Thing) → changed_by (listed stands) c id i t → listed later i t
+  pub back : (i : Rid) (t : Thing) → listed later i t → changed_by (listed stands) c id i t
 
 abbrev pair : Rid → Thing → Rid × Thing
 pair i t = (i, t)
@@ -74,7 +75,7 @@ pair i t = (i, t)
 one_pair : (i j : Rid) (t u : Thing) → i ≡ j → t ≡ u → pair i t ≡ pair j u
 one_pair i j t u e h = ap₂ pair e h
 
-change : (stands : List (Rid × Thing)) (made : ℕ) (c : Change) (call : Call Rid) (of : IsCall (listed stands) c call) → Changed stands made c call of
+pub change : (stands : List (Rid × Thing)) (made : ℕ) (c : Change) (call : Call Rid) (of : IsCall (listed stands) c call) → Changed stands made c call of
 change stands made (Make t) call of = record { id = next_id made; given = λ h. refl; later = (next_id made, t) ∷ stands; into = into; back = back }
   where
     into : (i : Rid) (u : Thing) → IsIn (i, u) stands ⊎ ((i ≡ next_id made) × (u ≡ t)) → IsIn (i, u) ((next_id made, t) ∷ stands)
@@ -107,7 +108,7 @@ some_going (owner.Group hops) h = more (members_of hops hops)
     more [] = omega arith
     more (t ∷ ts) = omega arith
 
-abbrev going_length : Option Owner → ℕ
+abbrev pub going_length : Option Owner → ℕ
 going_length None = 0
 going_length (Some o) = length (take_all (shared_going o) [])
 

@@ -10,7 +10,13 @@ use Rattle.table_schema.specs.declared.write.Sent.{Sent}
 use Rattle.sai_types.specs.declared.ids.Rid.{Rid}
 use Rattle.sai_types.specs.declared.body.Call.{Call}
 use Rattle.sai_types.specs.declared.thing.Thing.TheVariants as thing
-use Rattle.sai_types.specs.After.{chip_after}
+use Rattle.swss_types.specs.declared.address.Prefix.{Prefix}
+use Rattle.sai_types.specs.declared.thing.Goal.{Goal}
+use Rattle.sai_types.specs.After.{after_call, chip_after}
+use Rattle.sai_types.specs.Made.{made_after}
+use Rattle.sai_types.proofs.Whole.{whole-after_call}
+use Rattle.switch_model.specs.Things.{things_of}
+use Rattle.row_layout.specs.Rows.{own_things}
 use Rattle.sai_types.specs.Alike.{IsIn}
 use Rattle.sai_types.specs.Named.{named}
 use Rattle.sai_types.specs.Objects.{Objects}
@@ -20,24 +26,27 @@ use Rattle.switch_model.specs.Sound.{AreWithin}
 use Rattle.table_schema.specs.declared.write.Write.{Write}
 use Rattle.switch_model.specs.Promises.{EffectsAreLegal, MarksAreTrue, RoutesAreOfRows, good_rows_at}
 use Rattle.row_layout.proofs.Split.{things-split}
-use Rattle.switch_machine.specs.Events.{IsSafe, with_made_call}
-use Rattle.switch_machine.specs.Flights.{IsRow}
+use Rattle.switch_machine.specs.Events.{IsDueCall, IsSafe, SwitchState, with_made_call}
+use Rattle.switch_machine.specs.Flights.{IsRow, Machine}
+use Rattle.switch_machine.specs.Steps.{moved}
 use Rattle.switch_machine.specs.Written.{IsGoodOnce}
-use Rattle.switch_machine.proofs.Reasoned.{route-row}
+use Rattle.switch_machine.proofs.Reasoned.{route-row, row-of_route}
+use Rattle.switch_machine.proofs.Kept.{called-laid, called-sound, legal-call}
 use Rattle.machine_laws.specs.Logged.{AreLoggedEvents, IsLoggedEvent, LoggedSwitch, new_switch, after_logged}
 use Rattle.switch_model.specs.declared.mark.MarkEvent.TheVariants as event
 use Rattle.machine_laws.specs.Order.{IsOrdered}
+use Rattle.machine_laws.proofs.Completing.{change}
 use Rattle.machine_laws.proofs.Ordering.{Rounds, ordered-rounds, rounds-more}
 use Rattle.machine_laws.proofs.Named.{route-stands}
 use Rattle.machine_laws.proofs.Staying.{chip_after-all, chip_after-front, good-front, split}
 use Rattle.machine_laws.proofs.Telling.{Told, told-new, told_event}
 
 module _ (plan : Ports) (is : IsPlan plan) (workers : ℕ) (capacities : List ℕ) where
-  abbrev IsDated : List Sent → Key → Row → Type 0
+  abbrev pub IsDated : List Sent → Key → Row → Type 0
   IsDated taken k r = (n : ℕ) × (n ≤ length taken) × (good_rows_at plan taken n k ≡ Some r)
 
   -- a row that was good after some of the writes, counted in the log
-  logged_once : (taken : List Sent) (writes : List Write) (k : Key) (r : Row) → writes ≡ sent_writes taken → IsGoodOnce plan writes k r → IsDated taken k r
+  pub logged_once : (taken : List Sent) (writes : List Write) (k : Key) (r : Row) → writes ≡ sent_writes taken → IsGoodOnce plan writes k r → IsDated taken k r
   logged_once taken writes k r same (n, le, h) = (
     n,
     subst (λ z. n ≤ z) (ap length same ∙ length-map taken (λ (x : Sent). x.write)) le,
@@ -53,25 +62,40 @@ module _ (plan : Ports) (is : IsPlan plan) (workers : ℕ) (capacities : List �
     routes : (j : ℕ) → j ≤ length s.effects → RoutesAreOfRows plan s.log.taken (chip_after s.effects j)
     rounds : Rounds s.log
 
-  -- the routes on the chip are of rows that are applied or to be
-  routes_now : (t : LoggedSwitch) → Told plan is workers capacities t → RoutesAreOfRows plan t.log.taken t.switch.objects
-  routes_now t told prefix goal h =
-      let stands = route-stands plan t.switch.machine told.kept.sound t.switch.made t.switch.objects told.kept.whole told.kept.laid prefix goal h in
-      let row = route-row plan is workers capacities t.switch told.kept prefix goal stands in
-      let when = board_dated t told (key.Route prefix) row.0 row.1 in
-      (when.0, row.0, when.1, when.2, (things-split plan (key.Route prefix) row.0).back (thing.Route prefix goal) (inl row.2))
+  -- a route of a row that was good once is of a row that was written
+  pub route_dated : (taken : List Sent) (writes : List Write) (prefix : Prefix) (goal : Goal) (r : Row) → writes ≡ sent_writes taken → IsGoodOnce plan writes (key.Route prefix) r → IsIn (thing.Route prefix goal) (own_things plan (key.Route prefix) r) → (n : ℕ) × (row : Row) × (n ≤ length taken) × (good_rows_at plan taken n (key.Route prefix) ≡ Some row) × IsIn (thing.Route prefix goal) (things_of plan (key.Route prefix) row)
+  route_dated taken writes prefix goal r same good in_it = let when = logged_once taken writes (key.Route prefix) r same good in (when.0, r, when.1, when.2, (things-split plan (key.Route prefix) r).back (thing.Route prefix goal) (inl in_it))
 
-  later_routes : (taken : List Sent) (sent : Sent) (objects : Objects) → RoutesAreOfRows plan taken objects → RoutesAreOfRows plan (taken ++ sent ∷ []) objects
+  -- the routes on the chip are of rows that are applied or to be
+  pub routes-now : (c : SwitchState) (taken : List Sent) → IsSafe plan workers capacities c → c.written.taken ≡ sent_writes taken → RoutesAreOfRows plan taken c.objects
+  routes-now c taken kept same prefix goal h =
+      let stands = route-stands plan c.machine kept.sound c.made c.objects kept.whole kept.laid prefix goal h in
+      let row = route-row plan is workers capacities c kept prefix goal stands in
+      route_dated taken c.written.taken prefix goal row.0 same (kept.good (key.Route prefix) row.0 row.1) row.2
+
+  -- and so they are after a call that was due took effect, whether it was answered so or not
+  pub routes-called : (c : SwitchState) (taken : List Sent) (call : Call Rid) → IsSafe plan workers capacities c → IsDueCall workers call c → c.written.taken ≡ sent_writes taken → RoutesAreOfRows plan taken (after_call (c.made + 1) c.objects call)
+  routes-called c taken call kept due same prefix goal h =
+      let z = change c.machine.stands c.made due.change call due.of in
+      let m : Machine = moved c.machine due.worker due.rest z.later in
+      let sound = called-sound plan is workers capacities c kept call due z.id z.given z.later z.into z.back in
+      let laid = called-laid plan is workers capacities c kept call due z.id z.given z.later z.into z.back in
+      let whole = whole-after_call capacities c.made c.objects call kept.whole (legal-call plan is workers capacities c kept call due) in
+      let stands = route-stands plan m sound (made_after c.made call) (after_call (c.made + 1) c.objects call) whole laid prefix goal h in
+      let row = row-of_route plan m sound prefix goal stands in
+      route_dated taken c.written.taken prefix goal row.0 same (kept.good (key.Route prefix) row.0 row.1) row.2
+
+  pub later_routes : (taken : List Sent) (sent : Sent) (objects : Objects) → RoutesAreOfRows plan taken objects → RoutesAreOfRows plan (taken ++ sent ∷ []) objects
   later_routes taken sent objects f prefix goal h =
       let x = f prefix goal h in
       (x.0, x.1, (let le = x.2 in omega (arith, le, length-append taken (sent ∷ []))), ap (λ (z : TypedRows). z (key.Route prefix)) (good-front plan taken sent x.0 x.2) ∙ x.3, x.4)
 
   -- routes that were of rows are so of a log that holds as many writes, over the same effects
-  same_routes : (taken later : List Sent) (es fs : List (Call Rid)) → later ≡ taken → fs ≡ es → ((j : ℕ) → j ≤ length es → RoutesAreOfRows plan taken (chip_after es j)) → (j : ℕ) → j ≤ length fs → RoutesAreOfRows plan later (chip_after fs j)
+  pub same_routes : (taken later : List Sent) (es fs : List (Call Rid)) → later ≡ taken → fs ≡ es → ((j : ℕ) → j ≤ length es → RoutesAreOfRows plan taken (chip_after es j)) → (j : ℕ) → j ≤ length fs → RoutesAreOfRows plan later (chip_after fs j)
   same_routes taken later es fs same effects f = subst (λ (z : List Sent). (j : ℕ) → j ≤ length fs → RoutesAreOfRows plan z (chip_after fs j)) (sym same) (subst (λ (z : List (Call Rid)). (j : ℕ) → j ≤ length z → RoutesAreOfRows plan taken (chip_after z j)) (sym effects) f)
 
   -- routes after one more event, where those that are there now are of rows
-  routes_grown : (taken : List Sent) (es fs : List (Call Rid)) (c : Option (Call Rid)) → fs ≡ es ++ with_made_call c [] → ((j : ℕ) → j ≤ length es → RoutesAreOfRows plan taken (chip_after es j)) → RoutesAreOfRows plan taken (chip_after fs (length fs)) → (j : ℕ) → j ≤ length fs → RoutesAreOfRows plan taken (chip_after fs j)
+  pub routes_grown : (taken : List Sent) (es fs : List (Call Rid)) (c : Option (Call Rid)) → fs ≡ es ++ with_made_call c [] → ((j : ℕ) → j ≤ length es → RoutesAreOfRows plan taken (chip_after es j)) → RoutesAreOfRows plan taken (chip_after fs (length fs)) → (j : ℕ) → j ≤ length fs → RoutesAreOfRows plan taken (chip_after fs j)
   routes_grown taken es fs None same f now j le = same_routes taken taken es fs refl (same ∙ append-nil es) f j le
   routes_grown taken es fs (Some call) same f now j le = by (split j (length es) (omega (arith, le, ap length same, length-append es (call ∷ []))))
     where
@@ -85,7 +109,7 @@ module _ (plan : Ports) (is : IsPlan plan) (workers : ℕ) (capacities : List �
     routes = same_routes (s.log.taken ++ e.sent ∷ []) t.log.taken s.effects t.effects (ap (λ z. z.taken) e.log) e.effects (λ j le. later_routes s.log.taken e.sent (chip_after s.effects j) (x.routes j le));
     rounds = subst Rounds (sym e.log) (record { settled = x.rounds.settled; ends = x.rounds.ends });
   }
-  dated_event s t x (inr (inl e)) = record { told = told; routes = routes_grown t.log.taken s.effects t.effects e.call e.effects (same_routes s.log.taken t.log.taken s.effects s.effects (ap (λ z. z.taken) e.log) refl x.routes) (subst (RoutesAreOfRows plan t.log.taken) (told.objects ∙ sym (chip_after-all t.effects)) (routes_now t told)); rounds = subst Rounds (sym e.log) x.rounds }
+  dated_event s t x (inr (inl e)) = record { told = told; routes = routes_grown t.log.taken s.effects t.effects e.call e.effects (same_routes s.log.taken t.log.taken s.effects s.effects (ap (λ z. z.taken) e.log) refl x.routes) (subst (RoutesAreOfRows plan t.log.taken) (told.objects ∙ sym (chip_after-all t.effects)) (routes-now t.switch t.log.taken told.kept told.taken)); rounds = subst Rounds (sym e.log) x.rounds }
     where
       told : Told plan is workers capacities t
       told = told_event plan is workers capacities s t x.told (inr (inl e))

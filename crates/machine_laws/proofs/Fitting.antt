@@ -1,6 +1,7 @@
 -- a good row all of whose names are applied is one of its table
-use Rattle.std.proofs.Common.{◌≡◌, ◌<◌, ◌==◌, ◌&&◌, ◌∷◌, ◌∙◌, ℕ, nat_le, nat_lt, Bool, true, false, cond, List, [], map, length, Option, None, Some, option_map, is_some, Ordering, Result, Ok, Err, codes, bytes_eq, refl, sym, ap, subst, arith}
+use Rattle.std.proofs.Common.{◌≡◌, ◌+◌, ◌<◌, ◌≤◌, ◌==◌, ◌&&◌, ◌∷◌, ◌∙◌, ℕ, nat_le, nat_lt, Bool, true, false, cond, List, [], map, length, Option, None, Some, option_map, is_some, Ordering, Result, Ok, Err, codes, bytes_eq, refl, sym, ap, subst, arith}
 use Rattle.std.proofs.lemmas.Bool.{eqb-true}
+use Rattle.std.proofs.lemmas.Bool.Decides.{nat_tests}
 use Rattle.std.proofs.lemmas.List.Splits.{length-slice_split}
 use Rattle.std.proofs.lemmas.Slice.Eq.{bytes_eq-Decides}
 use Rattle.std.specs.BTreeSet.{insert_key}
@@ -15,6 +16,7 @@ use Rattle.swss_types.specs.Parts.{parts_at}
 use Rattle.swss_types.specs.Tagging.{tagging_of}
 use Rattle.swss_types.specs.declared.address.Ip.{Ip}
 use Rattle.swss_types.specs.declared.address.Mac.{Mac}
+use Rattle.swss_types.specs.declared.address.Prefix.{Prefix}
 use Rattle.swss_types.specs.declared.tagging.Tagging.{Tagging}
 use Rattle.swss_types.specs.declared.interface.IfName.{IfName}
 use Rattle.swss_types.specs.declared.interface.IfName.TheVariants as name
@@ -156,6 +158,22 @@ some_hop : {A : Type 0} (cmp : A → A → Ordering) (hops : List A) (hop : A) �
 some_hop cmp [] hop = omega arith
 some_hop {A} cmp (x ∷ hops) hop = elim (cmp hop x) as (λ r. 0 < length (match_ordering r (hop ∷ x ∷ hops) (x ∷ hops) (x ∷ insert_key cmp hops hop))) [ Less ↦ omega arith | Equal ↦ omega arith | Greater ↦ omega arith ]
 
+-- a hop more makes at most one more
+pub insert-few : {A : Type 0} (cmp : A → A → Ordering) (hops : List A) (hop : A) → length (insert_key cmp hops hop) ≤ length hops + 1
+insert-few cmp [] hop = omega arith
+insert-few {A} cmp (x ∷ hops) hop =
+    let rest = insert-few cmp hops hop in
+    elim (cmp hop x) as (λ r. length (match_ordering r (hop ∷ x ∷ hops) (x ∷ hops) (x ∷ insert_key cmp hops hop)) ≤ length (x ∷ hops) + 1) [ Less ↦ omega arith | Equal ↦ omega arith | Greater ↦ omega (arith, rest) ]
+
+hops_with_few : (several : Bool) (hops : List RowHop) (ips names : List (List ℕ)) (out : List RowHop) → hops_with several hops ips names ≡ Ok out → length out ≤ length hops + length ips
+hops_with_few several hops [] names out h = let same = ap length (ok_is hops out h) in omega (arith, same)
+hops_with_few several hops (ip ∷ ips) [] out h = let same = ap length (ok_is hops out h) in omega (arith, same)
+hops_with_few several hops (ip ∷ ips) (on ∷ names) out h =
+    let x = then_ok (hop_of several ip on) (λ hop. hops_with several (insert_key hop_cmp hops hop) ips names) out h in
+    let rest = hops_with_few several (insert_key hop_cmp hops x.0) ips names out x.2 in
+    let one = insert-few hop_cmp hops x.0 in
+    omega (arith, rest, one)
+
 stay_some : (several : Bool) (hops : List RowHop) (ips names : List (List ℕ)) (out : List RowHop) → 0 < length hops → hops_with several hops ips names ≡ Ok out → 0 < length out
 stay_some several hops [] names out some h = subst (λ z. 0 < length z) (ok_is hops out h) some
 stay_some several hops (ip ∷ ips) [] out some h = subst (λ z. 0 < length z) (ok_is hops out h) some
@@ -173,16 +191,23 @@ first_some several (ip ∷ ips) (on ∷ names) out some same h =
 record AreHops (out : List RowHop) : Type 0 where
   all : AllByRecursion IsSwitched out
   some : 0 < length out
+  few : length out ≤ 128
+
+at_most : (n m : ℕ) → nat_le n m ≡ true → n ≤ m
+at_most n m h = grind (arith, nat_tests)
 
 hops_ok : (ips names : List (List ℕ)) (out : List RowHop) → 0 < length ips → hops_of ips names ≡ Ok out → AreHops out
 hops_ok ips names out some h = counted (length ips == length names) refl h
   where
-    few : (b : Bool) → length ips ≡ length names → cond b (hops_with (nat_lt 1 (length ips)) [] ips names) (bad TooManyHops 7) ≡ Ok out → AreHops out
-    few true same h = record { all = hops_with_ok (nat_lt 1 (length ips)) [] ips names out tt h; some = first_some (nat_lt 1 (length ips)) ips names out some same h }
-    few false same h = absurd cc
+    few : (b : Bool) → nat_le (length ips) 128 ≡ b → length ips ≡ length names → cond b (hops_with (nat_lt 1 (length ips)) [] ips names) (bad TooManyHops 7) ≡ Ok out → AreHops out
+    few true most same h =
+        let bound = at_most (length ips) 128 most in
+        let number = hops_with_few (nat_lt 1 (length ips)) [] ips names out h in
+        record { all = hops_with_ok (nat_lt 1 (length ips)) [] ips names out tt h; some = first_some (nat_lt 1 (length ips)) ips names out some same h; few = omega (arith, bound, number) }
+    few false most same h = absurd cc
 
     counted : (b : Bool) → (length ips == length names) ≡ b → cond b (cond (nat_le (length ips) 128) (hops_with (nat_lt 1 (length ips)) [] ips names) (bad TooManyHops 7)) (bad CountsDiffer 8) ≡ Ok out → AreHops out
-    counted true same h = few (nat_le (length ips) 128) (eqb-true (length ips) (length names) same) h
+    counted true same h = few (nat_le (length ips) 128) refl (eqb-true (length ips) (length names) same) h
     counted false same h = absurd cc
 
 data IsTarget (t : RouteRow) : Type 0 where
@@ -206,6 +231,37 @@ route_ok fields r h =
     let t = then_ok (route_row_of fields) (λ target. Ok (row.Route target)) r h in
     let d = then_ok (drops_of fields) (λ drops. route_target drops fields) t.0 t.1 in
     (t.0, sym (ok_is (row.Route t.0) r t.2), target_ok d.0 fields t.0 d.2)
+
+-- ---- how many hops a row has
+
+abbrev pub hop_count : RouteRow → ℕ
+hop_count (route.Hops hops) = length hops
+hop_count _ = 0
+
+target_few : (out : List RowHop) → hop_count (target_of out) ≤ length out
+target_few [] = omega arith
+target_few (x ∷ []) = by (is_zero x.ip)
+  where
+    by : (b : Bool) → hop_count (cond b (route.Direct x.on) (route.Hops (x ∷ []))) ≤ 1
+    by true = omega arith
+    by false = omega arith
+target_few (x ∷ y ∷ zs) = omega arith
+
+row_target : (t u : RouteRow) → row.Route t ≡ row.Route u → t ≡ u
+row_target t u h = cc
+
+-- a route that reads has at most as many hops as a route may have
+pub hops-few : (plan : Ports) (prefix : Prefix) (o : Option Pairs) (t : RouteRow) → good_row plan (key.Route prefix) o ≡ Some (row.Route t) → hop_count t ≤ 128
+hops-few plan prefix None t h = absurd cc
+hops-few plan prefix (Some fields) t h = let x = route_ok fields (row.Route t) (read_ok (row_of plan (key.Route prefix) fields) (row.Route t) h) in by x.0 (row_target t x.0 x.1) x.2
+  where
+    by : (u : RouteRow) → t ≡ u → IsTarget u → hop_count t ≤ 128
+    by u same (IsDrop is) = let none = ap hop_count (same ∙ is) in omega (arith, none)
+    by u same (Goes out are is) =
+        let number = ap hop_count (same ∙ is) in
+        let most = target_few out in
+        let few = are.few in
+        omega (arith, number, most, few)
 
 -- ---- with applied rows
 

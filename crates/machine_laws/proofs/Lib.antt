@@ -24,3 +24,5 @@ pub mod Holding
 pub mod Completing
 pub mod Progress
 pub mod Existing
+pub mod Few
+pub mod Paying

@@ -20,7 +20,6 @@ use Rattle.switch_model.specs.Sound.{AreWithin, IsBefore}
 use Rattle.switch_model.specs.declared.mark.Mark.{Mark}
 use Rattle.switch_model.specs.declared.mark.MarkEvent.{MarkEvent}
 use Rattle.switch_model.specs.declared.mark.MarkEvent.TheVariants as event
-use Rattle.switch_machine.proofs.Reasoned.{closed}
 
 pub after_calls-grown : (made : ℕ) (objects : Objects) (cs : List (Call Rid)) (c : Call Rid) → after_calls made objects (cs ++ c ∷ []) ≡ after_call (made_after_all made cs + 1) (after_calls made objects cs) c
 after_calls-grown made objects [] c = refl

@@ -5,3 +5,4 @@ pub mod Settling
 pub mod Quiet
 pub mod Logged
 pub mod Order
+pub mod Bounds

@@ -1,5 +1,5 @@
 // What whole settlings and logs of the machine come to. Each function is a law: it does nothing, and its contract is proved.
-ghost use Rattle.std.specs.Prelude.{◌≡◌, ◌++◌, ◌⊎◌, ℕ, ◌≤◌, ◌<◌, true, List, [], length, Option, Some, None};
+ghost use Rattle.std.specs.Prelude.{◌≡◌, ◌++◌, ◌⊎◌, ℕ, ◌*◌, ◌≤◌, ◌<◌, true, List, [], length, Option, Some, None};
 ghost use Rattle.table_schema.specs.Fields.{Pairs};
 ghost use Rattle.table_schema.specs.KeyText.{key_of};
 ghost use Rattle.table_schema.specs.Names.{names_of};
@@ -20,13 +20,14 @@ ghost use Rattle.switch_model.specs.Promises.{EffectsAreLegal, MarksAreTrue, goo
 ghost use Rattle.switch_model.specs.Sound.{AreWithin};
 ghost use Rattle.switch_model.specs.Turns.{TakeTurns};
 ghost use Rattle.row_layout.specs.Operations.{Change};
-ghost use Rattle.switch_machine.specs.Events.{AreAnswers, AreEvents, IsBegin, IsQuiet, IsSafe, SwitchState, after_answers, after_events, calls_of};
+ghost use Rattle.switch_machine.specs.Events.{AreAnswers, AreEvents, IsBegin, IsQuiet, IsSafe, SwitchState, after_answers, after_events, calls_of, empty_switch};
 ghost use Rattle.switch_machine.specs.Flights.{Fits, Flight, IsResting, IsRow};
 ghost use Rattle.switch_machine.specs.Next.{HasReason};
 ghost use Rattle.switch_machine.specs.Operations.{MayBegin};
 ghost use Rattle.switch_machine.specs.Places.{HasRoomFor};
 ghost use Rattle.switch_machine.specs.Reasons.{LacksRoom};
 ghost use Rattle.switch_machine.specs.Written.{HasNoWrite, good_of};
+ghost use Rattle.machine_laws.specs.Bounds.{most_calls};
 ghost use Rattle.machine_laws.specs.Calls.{AreTurnsWith, Completes, Situation};
 ghost use Rattle.machine_laws.specs.Logged.{AreListed, AreLoggedEvents, IsWholeSettling, ListsKey, LoggedSwitch, LogsMark, AreNoWritesOf, after_logged, after_pops, new_switch};
 ghost use Rattle.machine_laws.specs.Order.{IsOrdered};
@@ -112,4 +113,11 @@ pub fn keys_may_begin()
     ensures room { (plan : Ports) (workers : ℕ) (capacities : List ℕ) (s : SwitchState) (w : ℕ) (f : Flight) (due : List Change) (row : Row) → MayBegin plan s.machine w f due → f.new ≡ Some row → good_of plan s.written f.key ≡ Some row → HasRoomFor workers capacities s.objects s.machine due ⊎ ((kind : Kind) × LacksRoom plan workers capacities s f.key kind) }
     ensures room_gone { (plan : Ports) (workers : ℕ) (capacities : List ℕ) (s : SwitchState) (w : ℕ) (f : Flight) (due : List Change) → MayBegin plan s.machine w f due → f.new ≡ None → HasRoomFor workers capacities s.objects s.machine due }
     ensures waits_or_begins { (plan : Ports) (workers : ℕ) (capacities : List ℕ) (s : SwitchState) (w : ℕ) (k : Key) → IsPlan plan → IsSafe plan workers capacities s → IsQuiet s → w < workers → IsIn k s.to_sync → IsOnSwitch k → HasReason plan workers capacities s k ⊎ ((t : SwitchState) × (x : IsBegin plan workers capacities s t) × (x.worker ≡ w) × (x.flight.key ≡ k)) }
+{}
+
+/// An operation that runs alone makes at most 259 calls: it builds a group of 128 hops, sets the route, and retires another such
+/// group. From the empty switch at most so many are made for each write taken, by any number of workers.
+pub fn calls_are_few()
+    ensures operation { (plan : Ports) (workers : ℕ) (capacities : List ℕ) (s t : SwitchState) (x : IsBegin plan workers capacities s t) (es : List (Call Rid × SwitchState)) → IsSafe plan workers capacities s → IsQuiet s → AreAnswers plan workers t es → length es ≤ most_calls }
+    ensures run { (plan : Ports) (workers : ℕ) (capacities : List ℕ) (es : List (Option (Call Rid) × SwitchState)) → IsPlan plan → AreEvents plan workers capacities empty_switch es → length (calls_of es) ≤ most_calls * length (after_events empty_switch es).written.taken }
 {}

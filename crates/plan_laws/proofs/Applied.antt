@@ -1,5 +1,5 @@
 -- a hitless plan on a chip that was listed: its calls are legal, steady one by one, and lead to the new things
-use Rattle.std.proofs.Common.{◌≡◌, ◌∙◌, ℕ, ◌++◌, List, [], map, refl, sym, ap, subst}
+use Rattle.std.proofs.Common.{◌≡◌, ◌∙◌, ◌⊎◌, ℕ, ◌++◌, List, [], map, refl, sym, ap, subst}
 use Rattle.std.proofs.lemmas.List.{append-nil, append_assoc}
 use Rattle.sai_types.specs.declared.ids.Rid.{Rid}
 use Rattle.sai_types.specs.declared.ids.Vid.{Vid}
@@ -9,6 +9,7 @@ use Rattle.sai_types.specs.declared.thing.Thing.{Thing}
 use Rattle.sai_types.specs.After.{after_calls}
 use Rattle.sai_types.specs.Alike.{IsAlike, IsIn}
 use Rattle.sai_types.specs.Made.{made_after_all}
+use Rattle.sai_types.specs.Names.{name_of}
 use Rattle.sai_types.specs.Objects.{Objects}
 use Rattle.chip_layout.specs.Renamed.{call_renamed}
 use Rattle.plan_laws.specs.Applied.{AppliesHitless, IsHitlessPlan, chip_things}
@@ -16,10 +17,10 @@ use Rattle.plan_laws.specs.Calls.{PlansChanges, resolve, viewed}
 use Rattle.plan_laws.specs.Moments.{IsMoment}
 use Rattle.plan_laws.specs.Old.{old_layout, old_things}
 use Rattle.plan_laws.specs.Plans.{PlanChange, hitless_rank}
-use Rattle.plan_laws.specs.Steady.{IsHitless, IsOldOrNew, StaysNew}
+use Rattle.plan_laws.specs.Steady.{IsForwarding, IsHitless, IsOldOrNew, StaysNew}
 use Rattle.plan_laws.proofs.Allowed.{IsSafePlan, hitless-safe}
 use Rattle.plan_laws.proofs.Calling.{IsCalled, plan-called}
-use Rattle.plan_laws.proofs.Chip.{chip-either, chip-hitless, chip-kept}
+use Rattle.plan_laws.proofs.Chip.{chip-either, chip-hitless, chip-kept, chip-origin}
 use Rattle.plan_laws.proofs.Running.{IsBreak, IsEnd, later-cut, later-same, plan-alike, run-cut, run-end}
 use Rattle.plan_laws.proofs.Starting.{first-moment, hops-same, hops_by_tag, old-named, old-tagged}
 use Rattle.plan_laws.proofs.Stepping.{IsMidMoment, moment-shown}
@@ -52,6 +53,13 @@ module _ {capacities : List ℕ} {made : ℕ} {objects : Objects} {new : List Th
       let c = cut_at xs ys part in
       let cut : todo ++ due ≡ c.more ++ (c.left ++ due) = ap (λ l. l ++ due) c.all ∙ append_assoc c.more c.left due in
       (chip-either (plan_tagged x.planned) start c.more (c.left ++ due) cut c.shown, chip-hitless (plan_tagged x.planned) start c.more (c.left ++ due) cut c.shown)
+
+  -- what it shows, as far as packets go by it, it showed before, or the new things have it
+  pub hitless-origin : (xs ys : List (Call Rid)) → calls ≡ xs ++ ys → (t : Thing) → IsForwarding (name_of t) → IsIn t (chip_things (after_calls made objects xs)) → IsIn t (chip_things objects) ⊎ IsIn t new
+  hitless-origin xs ys part t fw i =
+      let c = cut_at xs ys part in
+      let cut : todo ++ due ≡ c.more ++ (c.left ++ due) = ap (λ l. l ++ due) c.all ∙ append_assoc c.more c.left due in
+      chip-origin (plan_tagged x.planned) start c.more (c.left ++ due) cut c.shown t fw i
 
   -- what is decided as by the new things stays so
   pub hitless-kept : (xs ms zs : List (Call Rid)) → calls ≡ xs ++ (ms ++ zs) → StaysNew new (chip_things (after_calls made objects xs)) (chip_things (after_calls made objects (xs ++ ms)))

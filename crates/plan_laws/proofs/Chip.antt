@@ -1,5 +1,5 @@
 -- what a chip shows while a hitless plan is made, and that it is steady
-use Rattle.std.proofs.Common.{◌≡◌, inl, inr, ℕ, ◌++◌, List, [], map, Some, refl, sym, ap, ◌∙◌, subst}
+use Rattle.std.proofs.Common.{◌≡◌, ◌⊎◌, inl, inr, ℕ, ◌++◌, List, [], map, Some, refl, sym, ap, ◌∙◌, subst}
 use Rattle.std.proofs.lemmas.List.{append_assoc}
 use Rattle.swss_types.specs.Address.{IsProperPrefix}
 use Rattle.swss_types.specs.declared.address.Ip.{Ip}
@@ -27,7 +27,7 @@ use Rattle.plan_laws.proofs.Shown.{AreTargets, real_goal, real_route, shown-all,
 use Rattle.plan_laws.proofs.Stepping.{IsMidMoment, IsPortName}
 use Rattle.plan_laws.proofs.Targets.{IsTaggedPlan, group-of_route, member-only, member-there, target-rising}
 
-no_port : (k : Name) → IsForwarding k → IsPortName k → ⊥
+pub no_port : (k : Name) → IsForwarding k → IsPortName k → ⊥
 no_port (name.Port lane) fw port = fw
 no_port _ fw port = port
 
@@ -158,6 +158,14 @@ module _ {hops_of : List Hop → List Hop} {old new : List Thing} {plan : List P
       chip-hitless a same =
           let is = hitless shown_named q.safe.new_named shown_plan done due cut (chip_things objects) (shown_stands done due cut at) a (sym (before_forward a) ∙ same) in
           (is.0 ∙ sym (before_forward a), is.1)
+
+      -- what it shows, as far as packets go by it, it showed before, or the new things have it
+      pub chip-origin : (t : Thing) → IsForwarding (name_of t) → IsIn t (chip_things objects) → IsIn t before ⊎ IsIn t new
+      chip-origin t fw i =
+          elim (origin done (λ u. IsIn u shown) t ((shown_stands done due cut at).sound t fw i)) [
+            | inl there ↦ inl (before_stands.all t fw there.0)
+            | inr c ↦ inr (outcome-new q.safe.is_plan c.0 t (done-in q.safe.is_plan done due cut c.0 c.1) c.2)
+          ]
 
   pub chip-kept : (done more due : List PlanChange) → plan ≡ done ++ (more ++ due) → {l m : Layout Rid} {x y : ℕ} {now later : Objects} → IsMidMoment old done l x now → IsMidMoment old (done ++ more) m y later → StaysNew new (chip_things now) (chip_things later)
   chip-kept done more due cut {now = now} {later = later} at after =

@@ -46,7 +46,7 @@ module _ {capacities : List ℕ} {made : ℕ} {objects : Objects} {new : List Th
   pub makes-safe : IsSafePlan cold_rank [] new makes
   makes-safe = record { safe = cold-safe; old_named = none_named; new_named = x.view.named; within = x.view.within; lanes = x.lanes; is_plan = x.making }
 
-  removes_room : HasRoomFor capacities objects removes
+  pub removes_room : HasRoomFor capacities objects removes
   removes_room kind =
       let none = none_long (made_names kind removes) (λ k i. elim ((makes-lacking x.removing kind).each k i).2 [ ]) in
       let has = x.within kind in

@@ -3,6 +3,7 @@ pub mod Applied
 pub mod Calling
 pub mod Chip
 pub mod Cold
+pub mod Routes
 pub mod Counts
 pub mod Deciders
 pub mod Doubles

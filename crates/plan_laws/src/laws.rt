@@ -1,5 +1,5 @@
 // What the changes and the calls of a plan do. Each function is a law: it does nothing, and its contract is proved.
-ghost use Rattle.std.specs.Prelude.{◌≡◌, ℕ, ◌+◌, ◌*◌, ◌≤◌, ◌++◌, List, [], length, map, count_by};
+ghost use Rattle.std.specs.Prelude.{◌≡◌, ◌⊎◌, ℕ, ◌+◌, ◌*◌, ◌≤◌, ◌++◌, List, [], length, map, count_by};
 ghost use Rattle.sai_types.specs.declared.ids.Rid.{Rid};
 ghost use Rattle.sai_types.specs.declared.ids.Vid.{Vid};
 ghost use Rattle.sai_types.specs.declared.body.Call.{Call};
@@ -11,7 +11,7 @@ ghost use Rattle.sai_types.specs.declared.thing.Thing.{Thing};
 ghost use Rattle.sai_types.specs.After.{after_calls};
 ghost use Rattle.sai_types.specs.Alike.{IsAlike, IsIn};
 ghost use Rattle.sai_types.specs.Made.{AreLegal, made_after_all};
-ghost use Rattle.sai_types.specs.Names.{Name};
+ghost use Rattle.sai_types.specs.Names.{Name, name_of};
 ghost use Rattle.sai_types.specs.Objects.{Objects};
 ghost use Rattle.chip_layout.specs.Renamed.{call_renamed};
 ghost use Rattle.plan_laws.specs.Applied.{AppliesCold, AppliesHitless, IsColdPlan, IsHitlessPlan, IsListed, IsView, chip_things, nothing};
@@ -19,7 +19,7 @@ ghost use Rattle.plan_laws.specs.Bounds.{IsUnwanted, makes_kind};
 ghost use Rattle.plan_laws.specs.Calls.{PlansChanges, resolve, viewed};
 ghost use Rattle.plan_laws.specs.Old.{old_layout, old_things};
 ghost use Rattle.plan_laws.specs.Plans.{IsViewPlan, PlanChange, hitless_rank};
-ghost use Rattle.plan_laws.specs.Steady.{ForwardsAfter, IsHitless, IsOldOrNew, StaysNew};
+ghost use Rattle.plan_laws.specs.Steady.{ForwardsAfter, IsForwarding, IsHitless, IsOldOrNew, StaysNew};
 ghost use Rattle.plan_laws.specs.Views.{AreLacking, HaveOwnNames, FitsHitless, HasRoomFor};
 
 /// After each change of a hitless plan each address is decided as by the old things or as by the new ones, and once as
@@ -72,4 +72,11 @@ pub fn hitless_keeps()
 pub fn plans_are_short()
     ensures hitless { (capacities : List ℕ) (made : ℕ) (objects : Objects) (new : List Thing) (todo due : List PlanChange) (calls : List (Call Rid)) → AppliesHitless capacities made objects new todo due calls → length calls ≤ length objects + 3 * length new }
     ensures cold { (capacities : List ℕ) (made : ℕ) (objects : Objects) (new : List Thing) (removes makes : List PlanChange) (front rest : List (Call Rid)) → AppliesCold capacities made objects new removes makes front rest → length (front ++ rest) ≤ length objects + 3 * length new }
+{}
+
+/// After each call of a plan, hitless or cold, whatever the chip shows of routes, own addresses and neighbours it showed before, or
+/// the view has it. So no route ever stands that neither the chip that was listed had nor the view has.
+pub fn plans_show_old_or_new()
+    ensures hitless { (capacities : List ℕ) (made : ℕ) (objects : Objects) (new : List Thing) (todo due : List PlanChange) (front rest : List (Call Rid)) (t : Thing) → AppliesHitless capacities made objects new todo due (front ++ rest) → IsForwarding (name_of t) → IsIn t (chip_things (after_calls made objects front)) → IsIn t (chip_things objects) ⊎ IsIn t new }
+    ensures cold { (capacities : List ℕ) (made : ℕ) (objects : Objects) (new : List Thing) (removes makes : List PlanChange) (front rest some more : List (Call Rid)) (t : Thing) → AppliesCold capacities made objects new removes makes front rest → front ++ rest ≡ some ++ more → IsForwarding (name_of t) → IsIn t (chip_things (after_calls made objects some)) → IsIn t (chip_things objects) ⊎ IsIn t new }
 {}

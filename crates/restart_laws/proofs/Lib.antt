@@ -16,4 +16,7 @@ pub mod Identified
 pub mod Broken
 pub mod Marking
 pub mod Logged
+pub mod Bounded
+pub mod Underway
+pub mod Routes
 pub mod Example

@@ -6,3 +6,4 @@ pub mod Invariant
 pub mod Identified
 pub mod Broken
 pub mod Logged
+pub mod Bounded

@@ -1,5 +1,5 @@
 // What holds of every session, over restarts and failing calls at any event. Each function is a law: it does nothing, and its contract is proved.
-ghost use Rattle.std.specs.Prelude.{◌≡◌, ◌⊎◌, ◌++◌, ℕ, Bool, true, List, [], Option, None, Some, length, map, take};
+ghost use Rattle.std.specs.Prelude.{◌≡◌, ◌⊎◌, ◌++◌, ℕ, ◌+◌, ◌*◌, ◌≤◌, Bool, true, List, [], Option, None, Some, length, map, take};
 ghost use Rattle.swss_types.specs.declared.address.Ip.{Ip};
 ghost use Rattle.table_schema.specs.Plan.{Ports, IsPlan, lanes_in_plan};
 ghost use Rattle.table_schema.specs.declared.key.Key.{Key};
@@ -21,17 +21,19 @@ ghost use Rattle.sai_types.specs.Refusal.{IsLegal};
 ghost use Rattle.switch_model.specs.declared.mark.Mark.{Mark};
 ghost use Rattle.switch_model.specs.Desired.{IsThingOf};
 ghost use Rattle.switch_model.specs.Marks.{sent_writes};
-ghost use Rattle.switch_model.specs.Promises.{IsBegun, MarksAreTrue, applied_at};
+ghost use Rattle.switch_model.specs.Promises.{EffectsAreLegal, IsBegun, MarksAreTrue, applied_at};
 ghost use Rattle.switch_model.specs.Sound.{AreWithin};
 ghost use Rattle.chip_layout.specs.Layout.{has_number};
 ghost use Rattle.chip_layout.specs.Renamed.{call_renamed};
 ghost use Rattle.switch_machine.specs.Written.{good_of};
+ghost use Rattle.machine_laws.specs.Bounds.{most_calls};
 ghost use Rattle.machine_laws.specs.Order.{IsOrdered};
 ghost use Rattle.plan_laws.specs.Applied.{chip_things, nothing};
 ghost use Rattle.plan_laws.specs.Calls.{PlansChanges, resolve, viewed};
 ghost use Rattle.plan_laws.specs.Old.{old_layout};
 ghost use Rattle.plan_laws.specs.Steady.{IsHitless, IsOldOrNew, StaysNew};
 ghost use Rattle.warm_state.specs.declared.warm.Warm.TheVariants.{Applying, Suspect};
+ghost use Rattle.restart_laws.specs.Bounded.{effects_outside, listed_at_applies};
 ghost use Rattle.restart_laws.specs.Broken.{AreBroken};
 ghost use Rattle.restart_laws.specs.Identified.{IsIdOf, as_vids, renamed_by};
 ghost use Rattle.restart_laws.specs.Invariant.{Holds};
@@ -105,6 +107,13 @@ pub fn logs_are_true()
     ensures order { (plan : Ports) (workers : ℕ) (capacities : List ℕ) (ts : List LoggedService) → IsPlan plan → AreLoggedSteps plan workers capacities new_session ts → IsOrdered (session_after new_session ts).log }
     ensures counts { (plan : Ports) (workers : ℕ) (capacities : List ℕ) (ts : List LoggedService) → IsPlan plan → AreLoggedSteps plan workers capacities new_session ts → AreWithin (length (session_after new_session ts).log.taken) (length (session_after new_session ts).effects) (session_after new_session ts).log.marks }
     ensures warm { (plan : Ports) (workers : ℕ) (capacities : List ℕ) (ts : List LoggedService) → IsPlan plan → AreLoggedSteps plan workers capacities new_session ts → IsWarmAfter (last_mark None (session_after new_session ts).log.marks) (session_after new_session ts).service.warm }
-    ensures effects { (plan : Ports) (workers : ℕ) (capacities : List ℕ) (ts : List LoggedService) → IsPlan plan → AreLoggedSteps plan workers capacities new_session ts → AreLegal capacities 0 [] (session_after new_session ts).effects × ((session_after new_session ts).service.core.objects ≡ after_calls 0 [] (session_after new_session ts).effects) }
+    ensures effects { (plan : Ports) (workers : ℕ) (capacities : List ℕ) (ts : List LoggedService) → IsPlan plan → AreLoggedSteps plan workers capacities new_session ts → EffectsAreLegal plan capacities (session_after new_session ts).log.taken (session_after new_session ts).effects }
+    ensures chip { (plan : Ports) (workers : ℕ) (capacities : List ℕ) (ts : List LoggedService) → IsPlan plan → AreLoggedSteps plan workers capacities new_session ts → (session_after new_session ts).service.core.objects ≡ after_calls 0 [] (session_after new_session ts).effects }
     ensures holds { (plan : Ports) (workers : ℕ) (capacities : List ℕ) (ts : List LoggedService) → IsPlan plan → AreLoggedSteps plan workers capacities new_session ts → Holds plan workers capacities (session_after new_session ts).service }
+{}
+
+/// Outside applies the effects of a session are at most 259 for each write taken and each key that was listed where an apply began,
+/// over restarts and faults, with any number of workers.
+pub fn effects_outside_applies_are_few()
+    ensures { (plan : Ports) (workers : ℕ) (capacities : List ℕ) (ts : List LoggedService) → IsPlan plan → AreLoggedSteps plan workers capacities new_session ts → effects_outside None (session_after new_session ts).log.marks (length (session_after new_session ts).effects) ≤ most_calls * (length (session_after new_session ts).log.taken + listed_at_applies (session_after new_session ts).log.marks) }
 {}

@@ -241,28 +241,37 @@ module _ (plan : Ports) (is : IsPlan plan) (workers : ℕ) (capacities : List �
     pub legal-call : IsLegal capacities s.objects call
     legal-call = legal_by x.change x.due it_can x.of
 
+  -- the changed thing has an identifier, and these things stand after the call
+  module _ (s : SwitchState) (kept : IsSafe plan workers capacities s) (call : Call Rid) (next : IsDueCall workers call s) (id : Rid) (given : IsGiven (listed s.machine.stands) s.made next.change call next.of id) (stands : List (Rid × Thing)) (into : (i : Rid) (t : Thing) → changed_by (listed s.machine.stands) next.change id i t → listed stands i t) (back : (i : Rid) (t : Thing) → listed stands i t → changed_by (listed s.machine.stands) next.change id i t) where
+    moves : Moves s.machine next.worker next.flight next.change next.rest stands
+    moves = record {
+      flying = next.flying;
+      due = next.due;
+      into = moves_by s.machine next.change id stands back;
+      back = moves_back s.machine next.change id stands into;
+    }
+
+    laid_by : (c : Change) → Can plan next.flight (StandsIn s.machine) c → (of : IsCall (listed s.machine.stands) c call) → IsGiven (listed s.machine.stands) s.made c call of id → IsLaidOut (changed_by (listed s.machine.stands) c id) (after_call (s.made + 1) s.objects call)
+    laid_by (Make u) can of given = make-is_laid plan is T s.machine kept.sound next.worker next.flight next.flying s.made s.objects kept.whole kept.laid u call id can of given
+    laid_by (Set u) can of given = subst (λ i. IsLaidOut (changed_by (listed s.machine.stands) (Set u) i) (after_call (s.made + 1) s.objects call)) (sym given) (set-is_laid plan is T s.machine kept.sound next.worker next.flight next.flying s.made s.objects kept.whole kept.laid u call of)
+    laid_by (Take n) can of given = take-is_laid plan is T s.machine kept.sound next.worker next.flight next.flying s.made s.objects kept.whole kept.laid n call can of
+
+    -- they are what stands on the chip
+    pub called-laid : IsLaidOut (listed stands) (after_call (s.made + 1) s.objects call)
+    called-laid = laid-same (changed_by (listed s.machine.stands) next.change id) (listed stands) (after_call (s.made + 1) s.objects call) into back (laid_by next.change (it_can s kept call next) next.of given)
+
+    pub called-sound : IsConsistent plan (moved s.machine next.worker next.rest stands)
+    called-sound = sound-moved plan T s.machine kept.sound next.worker next.flight next.change next.rest stands moves
+
   module _ (s t : SwitchState) (kept : IsSafe plan workers capacities s) (call : Call Rid) (x : IsAnswer plan workers call s t) where
     abbrev first : Machine
     first = moved s.machine x.next.worker x.next.rest x.stands
 
-    moves : Moves s.machine x.next.worker x.next.flight x.next.change x.next.rest x.stands
-    moves = record {
-      flying = x.next.flying;
-      due = x.next.due;
-      into = moves_by s.machine x.next.change x.id x.stands x.back;
-      back = moves_back s.machine x.next.change x.id x.stands x.into;
-    }
-
-    laid_by : (c : Change) → Can plan x.next.flight (StandsIn s.machine) c → (of : IsCall (listed s.machine.stands) c call) → IsGiven (listed s.machine.stands) s.made c call of x.id → IsLaidOut (changed_by (listed s.machine.stands) c x.id) (after_call (s.made + 1) s.objects call)
-    laid_by (Make u) can of given = make-is_laid plan is T s.machine kept.sound x.next.worker x.next.flight x.next.flying s.made s.objects kept.whole kept.laid u call x.id can of given
-    laid_by (Set u) can of given = subst (λ i. IsLaidOut (changed_by (listed s.machine.stands) (Set u) i) (after_call (s.made + 1) s.objects call)) (sym given) (set-is_laid plan is T s.machine kept.sound x.next.worker x.next.flight x.next.flying s.made s.objects kept.whole kept.laid u call of)
-    laid_by (Take n) can of given = take-is_laid plan is T s.machine kept.sound x.next.worker x.next.flight x.next.flying s.made s.objects kept.whole kept.laid n call can of
-
     laid_now : IsLaidOut (listed x.stands) (after_call (s.made + 1) s.objects call)
-    laid_now = laid-same (changed_by (listed s.machine.stands) x.next.change x.id) (listed x.stands) (after_call (s.made + 1) s.objects call) x.into x.back (laid_by x.next.change (it_can s kept call x.next) x.next.of x.given)
+    laid_now = called-laid s kept call x.next x.id x.given x.stands x.into x.back
 
     sound_first : IsConsistent plan first
-    sound_first = sound-moved plan T s.machine kept.sound x.next.worker x.next.flight x.next.change x.next.rest x.stands moves
+    sound_first = called-sound s kept call x.next x.id x.given x.stands x.into x.back
 
     places_first : HasPlaces workers capacities (after_call (s.made + 1) s.objects call) first
     places_first = places-kept workers capacities s.made s.objects s.machine first x.next.worker x.next.below (λ v other. put_off x.next.worker v x.next.rest s.machine.due other) (listed s.machine.stands) x.next.change x.next.rest call kept.whole.sorted kept.places x.next.due (put_at x.next.worker x.next.worker x.next.rest s.machine.due refl) x.next.of

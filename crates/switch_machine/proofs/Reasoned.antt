@@ -27,11 +27,11 @@ use Rattle.sai_types.specs.declared.body.Call.{Call}
 use Rattle.row_layout.specs.Rows.{own_things}
 use Rattle.row_layout.specs.Operations.{Change, Make, Set, Take}
 use Rattle.switch_machine.specs.Events.{SwitchState, IsDueCall, IsSafe, IsQuiet}
-use Rattle.switch_machine.specs.Flights.{Can, Flight, IsRow, Runs, StandsIn}
+use Rattle.switch_machine.specs.Flights.{Can, Flight, IsRow, Machine, Runs, StandsIn}
 use Rattle.switch_machine.specs.Places.{makes, places_kept, sum_below}
 use Rattle.switch_machine.specs.Reasons.{IsInTheWay, IsReason, LacksRoom}
 use Rattle.switch_machine.specs.Changes.{IsSamePort}
-use Rattle.switch_machine.specs.Consistent.{IsLike}
+use Rattle.switch_machine.specs.Consistent.{IsConsistent, IsLike}
 use Rattle.switch_machine.specs.Written.{good_of}
 use Rattle.switch_machine.proofs.Overflowing.{no-overflow, overflows}
 use Rattle.switch_machine.proofs.Tabled.{in_members, tabled}
@@ -54,6 +54,17 @@ sum_none (suc n) f none =
 one_row : (r x : Row) → Some r ≡ Some x → r ≡ x
 one_row r x h = cc
 
+-- a route that stands is that of a row of its key, applied or to be applied
+pub row-of_route : (plan : Ports) (m : Machine) → IsConsistent plan m → (prefix : Prefix) (g : Goal) → StandsIn m (thing.Route prefix g) → (r : Row) × IsRow m.board (key.Route prefix) r × IsIn (thing.Route prefix g) (own_things plan (key.Route prefix) r)
+row-of_route plan m sound prefix g h = by (sound.like (key.Route prefix) (thing.Route prefix g) h refl)
+  where
+    by : IsLike plan m.board (key.Route prefix) (thing.Route prefix g) → (r : Row) × IsRow m.board (key.Route prefix) r × IsIn (thing.Route prefix g) (own_things plan (key.Route prefix) r)
+    by x = (x.row, x.is, in_it x x.resembles.same)
+      where
+        in_it : (x : IsLike plan m.board (key.Route prefix) (thing.Route prefix g)) → (thing.Route prefix g ≡ x.thing) ⊎ IsSamePort (thing.Route prefix g) x.thing → IsIn (thing.Route prefix g) (own_things plan (key.Route prefix) x.row)
+        in_it x (inl same) = subst (λ z. IsIn z (own_things plan (key.Route prefix) x.row)) (sym same) x.of
+        in_it x (inr h) = elim h [ ]
+
 module _ (plan : Ports) (is : IsPlan plan) (workers : ℕ) (capacities : List ℕ) (s : SwitchState) (kept : IsSafe plan workers capacities s) where
   pub closed : IsClosed s.machine.board.applied
   closed k r at = all_rows s.machine.board.applied (names_of k r) (λ p h. ap is_some (kept.sound.board.named k p r (inl at) h).applied)
@@ -64,14 +75,7 @@ module _ (plan : Ports) (is : IsPlan plan) (workers : ℕ) (capacities : List �
 
   -- a route that stands is that of its key's applied row, or of the row that an operation brings
   pub route-row : (prefix : Prefix) (g : Goal) → StandsIn s.machine (thing.Route prefix g) → (r : Row) × IsRow s.machine.board (key.Route prefix) r × IsIn (thing.Route prefix g) (own_things plan (key.Route prefix) r)
-  route-row prefix g h = by (kept.sound.like (key.Route prefix) (thing.Route prefix g) h refl)
-    where
-      by : IsLike plan s.machine.board (key.Route prefix) (thing.Route prefix g) → (r : Row) × IsRow s.machine.board (key.Route prefix) r × IsIn (thing.Route prefix g) (own_things plan (key.Route prefix) r)
-      by x = (x.row, x.is, in_it x x.resembles.same)
-        where
-          in_it : (x : IsLike plan s.machine.board (key.Route prefix) (thing.Route prefix g)) → (thing.Route prefix g ≡ x.thing) ⊎ IsSamePort (thing.Route prefix g) x.thing → IsIn (thing.Route prefix g) (own_things plan (key.Route prefix) x.row)
-          in_it x (inl same) = subst (λ z. IsIn z (own_things plan (key.Route prefix) x.row)) (sym same) x.of
-          in_it x (inr h) = elim h [ ]
+  route-row prefix g h = row-of_route plan s.machine kept.sound prefix g h
 
   -- what is due has a call
   pub has-call : (w : ℕ) (f : Flight) (c : Change) (cs : List Change) → w < workers → s.machine.board.flights w ≡ Some f → s.machine.due w ≡ c ∷ cs → (call : Call Rid) × IsDueCall workers call s

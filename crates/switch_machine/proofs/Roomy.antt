@@ -49,7 +49,7 @@ less_by n w h other = by (cases_order w n)
     by (inr (inl less)) = less
     by (inr (inr more)) = absurd (omega (arith, h, more))
 
-sum_put : (n w : ℕ) (f g : ℕ → ℕ) → w < n → ((v : ℕ) → (v ≡ w → ⊥) → f v ≡ g v) → sum_below n g + f w ≡ sum_below n f + g w
+pub sum_put : (n w : ℕ) (f g : ℕ → ℕ) → w < n → ((v : ℕ) → (v ≡ w → ⊥) → f v ≡ g v) → sum_below n g + f w ≡ sum_below n f + g w
 sum_put zero w f g h same = absurd (omega (arith, h))
 sum_put (suc n) w f g h same = by (λ less. sum_put n w f g less same) (nat_split n w)
   where
@@ -64,7 +64,7 @@ sum_put (suc n) w f g h same = by (λ less. sum_put n w f g less same) (nat_spli
         let last = same n other in
         omega (arith, rest, last)
 
-sum_least : (n w : ℕ) (f : ℕ → ℕ) → w < n → f w ≤ sum_below n f
+pub sum_least : (n w : ℕ) (f : ℕ → ℕ) → w < n → f w ≤ sum_below n f
 sum_least zero w f h = absurd (omega (arith, h))
 sum_least (suc n) w f h = by (λ less. sum_least n w f less) (nat_split n w)
   where
