@@ -1,0 +1,3 @@
+pub mod Kept
+pub mod Things
+pub mod View
