@@ -27,7 +27,7 @@ pub(crate) fn write_shows(
     ensures { OnOk result (Appends out.old.items out.new.items (AreShown (record { plan = plan.now; rows = rows.now; objects = chip.now.chip.objects; calls = calls.now }) shows.now)) }
 {
     for show in shows {
-        write_show(alloc, out, plan, rows, chip, calls, *show)?;
+        write_show(alloc, out, plan, rows, chip, calls, show)?;
     }
     Ok(())
 }
@@ -40,9 +40,9 @@ fn write_show(
     rows: &Rows,
     chip: &SimChip,
     calls: &[u8],
-    show: Show,
+    show: &Show,
 ) -> Result<(), OutOfMemory>
-    ensures { OnOk result (Appends out.old.items out.new.items (IsShown (record { plan = plan.now; rows = rows.now; objects = chip.now.chip.objects; calls = calls.now }) show)) }
+    ensures { OnOk result (Appends out.old.items out.new.items (IsShown (record { plan = plan.now; rows = rows.now; objects = chip.now.chip.objects; calls = calls.now }) show.now)) }
 {
     match show {
         Show::Chip => {

@@ -18,11 +18,11 @@ pub(crate) fn write_forward(
     out: &mut Vec<u8>,
     plan: &PortPlan,
     chip: &SimChip,
-    ip: Ip,
+    ip: &Ip,
 ) -> Result<(), OutOfMemory>
-    ensures { OnOk result (out.new.items ≡ out.old.items ++ forward_text plan.now ip (answer_of (forward (those (named chip.now.chip.objects)) ip))) }
+    ensures { OnOk result (out.new.items ≡ out.old.items ++ forward_text plan.now ip.now (answer_of (forward (those (named chip.now.chip.objects)) ip.now))) }
 {
-    let answer = chip.forward(alloc, ip)?;
+    let answer = chip.forward(alloc, *ip)?;
     out.extend_from_slice(b"forward ")?;
     ip.write(out)?;
     write_answer(out, plan, &answer)?;

@@ -1,4 +1,4 @@
-use Rattle.std.proofs.Common.{rules, ◌≡◌, ◌≤◌, ◌+◌, ◌∙◌, sym, length, arith}
+use Rattle.std.proofs.Common.{◌∙◌, sym, arith}
 use Rattle.swss_report.proofs.BadRows.{one-more}
 use Rattle.swss_report.proofs.ignored.write_bad_rows.Goals as goal
 
