@@ -16,6 +16,7 @@ use Rattle.sai_types.specs.Made.{made_after_all}
 use Rattle.sai_types.specs.Named.{thing_by, those}
 use Rattle.sai_types.specs.Names.{Name, name_kind, name_of}
 use Rattle.sai_types.specs.Objects.{Objects, level}
+use Rattle.chip_layout.specs.Counted.{AreDistinct}
 use Rattle.chip_layout.specs.Layout.{Has, Layout, with_changed}
 use Rattle.chip_layout.specs.Seen.{tagged}
 use Rattle.chip_layout.proofs.Bodies.{kind-body}
@@ -117,6 +118,14 @@ module _ {order : PlanChange → ℕ} {old new : List Thing} {plan : List PlanCh
       let olds = length-map old name_of in
       let news = length-map new name_of in
       omega (arith, few, bring, take, olds, news)
+
+  -- the names that a plan brings: each call of it is of one of these, three at most, or removes an old thing
+  pub calls-named : (made : ℕ) (layout : Layout Rid) (calls : List (Call Rid)) → MakesChanges made layout done calls → (names : List Name) × AreDistinct names × ((k : Name) → IsIn k names → IsIn k (map name_of new)) × (length calls ≤ length old + 3 * length names)
+  calls-named made layout calls run =
+      let few = run_few made layout done calls run in
+      let take = no-longer (taken done) (map name_of old) (picked-distinct takes takes_subject order done up) (λ k i. let c = in-picked takes done k i in takes_old c.0 k c.2 (done-in is_plan done due cut c.0 c.1)) in
+      let olds = length-map old name_of in
+      (brought done, picked-distinct brings brings_subject order done up, (λ k i. let c = in-picked brings done k i in brings_new c.0 k c.2 (done-in is_plan done due cut c.0 c.1)), omega (arith, few, take, olds))
 
 those_few : {X : Type 0} (os : List (Option X)) → length (those os) ≤ length os
 those_few [] = omega arith

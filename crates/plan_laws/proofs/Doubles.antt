@@ -1,6 +1,6 @@
 -- an object's name among the old things is the one that it shows, but of groups that do not stay and their members
-use Rattle.std.proofs.Common.{◌≡◌, inl, inr, ◌⊎◌, ℕ, zero, suc, ◌<◌, Bool, true, false, cond, ◌&&◌, not, nat_lt, List, map, Some, refl, sym, ap, ap₂, ◌∙◌, subst, arith}
-use Rattle.std.proofs.lemmas.Bool.{and_parts, eq-eqb}
+use Rattle.std.proofs.Common.{◌≡◌, inl, inr, ◌⊎◌, ℕ, zero, suc, ◌<◌, Bool, true, false, cond, ◌&&◌, not, nat_lt, List, map, Some, option_map, refl, sym, ap, ap₂, ◌∙◌, subst, arith}
+use Rattle.std.proofs.lemmas.Bool.{and_parts, eq-eqb, false≢true}
 use Rattle.std.proofs.lemmas.Bool.Decides.{nat_tests}
 use Rattle.std.proofs.lemmas.Option.{same_Some}
 use Rattle.sai_types.specs.declared.ids.Rid.{Rid}
@@ -9,21 +9,28 @@ use Rattle.sai_types.specs.declared.body.Body.{Body}
 use Rattle.sai_types.specs.declared.body.Body.TheVariants as body
 use Rattle.sai_types.specs.declared.body.Entry.{Entry}
 use Rattle.sai_types.specs.declared.body.Entry.TheVariants as entry
+use Rattle.sai_types.specs.declared.body.To.{To}
+use Rattle.sai_types.specs.declared.body.To.TheVariants as to
 use Rattle.sai_types.specs.declared.kind.Kind.{Kind}
+use Rattle.sai_types.specs.declared.thing.Goal.{Goal}
+use Rattle.sai_types.specs.declared.thing.Goal.TheVariants as goal
+use Rattle.swss_types.specs.declared.address.Prefix.{Prefix}
 use Rattle.sai_types.specs.declared.thing.Thing.{Thing}
 use Rattle.sai_types.specs.declared.thing.Thing.TheVariants as thing
 use Rattle.sai_types.specs.Alike.{IsIn}
-use Rattle.sai_types.specs.Named.{goal_by, hops_at, named, next_hop_at, thing_by, thing_of}
+use Rattle.sai_types.specs.Named.{both, goal_by, hops_at, named, next_hop_at, thing_by, thing_of}
 use Rattle.sai_types.specs.Names as name
 use Rattle.sai_types.specs.Names.{Name, name_of}
 use Rattle.sai_types.specs.Objects.{Objects, body_at}
 use Rattle.sai_types.specs.Refusal.{same_id}
 use Rattle.sai_types.proofs.Keys.{both_true, mapped}
-use Rattle.sai_types.proofs.Listed.{found-in, object-of_thing}
+use Rattle.sai_types.proofs.Exact.{entry-exact}
+use Rattle.sai_types.proofs.Found.{same-refl}
+use Rattle.sai_types.proofs.Listed.{found-in, in-found, object-of_thing}
 use Rattle.sai_types.proofs.Things.{both_mapped}
 use Rattle.chip_layout.specs.Layout.{Has}
 use Rattle.chip_layout.specs.Seen.{tagged}
-use Rattle.chip_layout.proofs.Answering.{those_in}
+use Rattle.chip_layout.proofs.Answering.{in_those, thing_in, those_in}
 use Rattle.chip_layout.proofs.Seeing.{body-seen, shown}
 use Rattle.plan_laws.specs.Applied.{IsListed, IsView, chip_things}
 use Rattle.plan_laws.specs.Bounds.{IsDouble}
@@ -31,8 +38,8 @@ use Rattle.plan_laws.specs.Old.{filler, chip_group, group_stays, chip_groups, ho
 use Rattle.plan_laws.specs.Views.{AreLacking, FitsHitless}
 use Rattle.plan_laws.proofs.Lists.{any-in, in-any, map-in}
 use Rattle.plan_laws.proofs.Named.{hops_exact, hops_refl}
-use Rattle.plan_laws.proofs.Starting.{group-seen, group-there, hops-same, object-seen, old-tagged}
-use Rattle.plan_laws.proofs.Tagging.{all-groups}
+use Rattle.plan_laws.proofs.Starting.{group-seen, group-there, hops-same, hops-there, object-seen, old-seen, old-tagged, rises}
+use Rattle.plan_laws.proofs.Tagging.{all-groups, hops-of_tag}
 use Rattle.plan_laws.proofs.Targets.{is-group, is-member}
 
 is_grouped : (o : Entry Rid × Body Rid) (g : Rid) → Some g ≡ chip_group o → (o.0 ≡ entry.Oid g) × (o.1 ≡ body.Group)
@@ -206,3 +213,69 @@ module _ {made : ℕ} {objects : Objects} (chip : IsListed made objects) (new : 
   -- so what fits beside what the chip shows fits beside the old things
   pub fits-shown : (capacities : List ℕ) → FitsHitless capacities objects (chip_things objects) new → FitsHitless capacities objects (old_things objects new) new
   fits-shown capacities fits kind ks l = fits kind ks (lacking-shown kind ks l)
+
+  -- ---- and what of the old things the new view has the chip shows
+
+  hops_of_group : (g : Rid) → body_at objects (entry.Oid g) ≡ Some body.Group → hops_at objects g ≡ Some (hops g)
+  hops_of_group g found = hops-there chip new g (tag g) (record { entry = entry.Oid g; body = body.Group; found = found; at = same-refl (entry.Oid g); thing = refl; none = λ h. absurd (false≢true (sym h)) })
+
+  real_tag : (g : Rid) → IsIn (thing.Group (tag g)) new → hops g ≡ tag g
+  real_tag g i = sym (hops-of_tag (group_stays objects new) (shown_hops objects) (rises chip new) g) ∙ hops-same chip new (tag g) (view.grouped.rising (tag g) i)
+
+  goal_there : (e : Entry Rid) (p : Prefix) (t : To Rid) (g : Goal) → body_at objects e ≡ Some (body.Route p t) → goal_by (tagged tag) objects t ≡ Some g → (h : Goal) × (goal_by (hops_at objects) objects t ≡ Some h)
+  goal_there e p to.Drop g found is = (goal.Drop, refl)
+  goal_there e p (to.Rif r) g found is = (g, is)
+  goal_there e p (to.NextHop n) g found is = (g, is)
+  goal_there e p (to.Group r) g found is =
+      let of = body-seen tag made objects chip.whole e (body.Route p (to.Group r)) (thing.Route p (goal.Group (tag r))) found refl in
+      let same : of.first ≡ r = sym (target_of r of.first of.body_is) in
+      let there = group-there chip new (tag r) r (subst (Has (old_layout objects new) (name.Group (tag r))) same of.first_at) in
+      (goal.Group (hops r), ap (option_map goal.Group) (hops-there chip new r (tag r) there))
+    where
+      target_of : (x y : Rid) → body.Route p (to.Group x) ≡ body.Route p (to.Group y) → x ≡ y
+      target_of x y h = cc
+
+  abbrev ShownAs : Entry Rid → Body Rid → Name → Type 0
+  ShownAs e b n = (v : Thing) × (thing_of objects (e, b) ≡ Some v) × (name_of v ≡ n)
+
+  shown_as : (e : Entry Rid) (b : Body Rid) (u t : Thing) → body_at objects e ≡ Some b → thing_by (tagged tag) objects (e, b) ≡ Some u → IsIn t new → name_of u ≡ name_of t → ShownAs e b (name_of t)
+  shown_as (entry.Oid g) body.Group u t found is i same =
+      let u_is : u ≡ thing.Group (tag g) = sym (same_Some (thing.Group (tag g)) u is) in
+      let t_is = is-group t (tag g) (sym same ∙ ap name_of u_is) in
+      let real = real_tag g (subst (λ z. IsIn z new) t_is i) in
+      (thing.Group (hops g), ap (option_map thing.Group) (hops_of_group g found), ap name.Group real ∙ sym (ap name_of u_is) ∙ same)
+  shown_as e (body.GroupMember g n) u t found is i same =
+      let k = both_mapped thing.GroupMember (Some (tag g)) (next_hop_at objects n) u is in
+      let tags : k.0 ≡ tag g = sym (same_Some (tag g) k.0 k.2) in
+      let u_is : u ≡ thing.GroupMember (tag g) k.1 = sym k.4 ∙ ap (λ h. thing.GroupMember h k.1) tags in
+      let t_is = is-member t (tag g) k.1 (sym same ∙ ap name_of u_is) in
+      let group = view.within.refers (thing.GroupMember (tag g) k.1) (name.Group (tag g)) (subst (λ z. IsIn z new) t_is i) (inl refl) in
+      let real = real_tag g (subst (λ z. IsIn z new) (is-group group.0 (tag g) group.2) group.1) in
+      let there = member_group e g n k.1 found (is ∙ ap Some u_is) in
+      (thing.GroupMember (hops g) k.1, ap₂ (both thing.GroupMember) (hops_of_group g (group_found g there)) k.3, ap (λ h. name.GroupMember h k.1) real ∙ sym (ap name_of u_is) ∙ same)
+  shown_as e (body.Route p r) u t found is i same =
+      let k = mapped (thing.Route p) (goal_by (tagged tag) objects r) u is in
+      let h = goal_there e p r k.0 found k.1 in
+      (thing.Route p h.0, ap (option_map (thing.Route p)) h.1, ap name_of k.2 ∙ same)
+  shown_as (entry.Own ip) body.Group u t found is i same = absurd cc
+  shown_as (entry.Neigh r ip) body.Group u t found is i same = absurd cc
+  shown_as (entry.Route p) body.Group u t found is i same = absurd cc
+  shown_as e (body.Port l s m v) u t found is i same = (u, is, same)
+  shown_as e _ u t found is i same = (u, is, same)
+
+  old_shown : (u t : Thing) → IsIn u (old_things objects new) → IsIn t new → name_of u ≡ name_of t → (v : Thing) × IsIn v (chip_things objects) × (name_of v ≡ name_of t)
+  old_shown u t i j same =
+      let s = (old-seen chip new u i).1 in
+      let v = shown_as s.entry s.body u t s.found s.thing j same in
+      let o = in-found objects s.entry s.body s.found in
+      let is : thing_of objects (o.0, s.body) ≡ Some v.0 = ap (λ d. thing_of objects (d, s.body)) (sym (entry-exact s.entry o.0 o.1)) ∙ v.1 in
+      (v.0, in_those v.0 (named objects) (subst (λ z. IsIn z (named objects)) is (thing_in objects objects o.0 s.body o.2)), v.2)
+
+  -- so names that the chip does not show are names that no old thing has
+  pub shown-lacking : (kind : Kind) (ks : List Name) → AreLacking (chip_things objects) new kind ks → AreLacking (old_things objects new) new kind ks
+  shown-lacking kind ks l = record {
+    distinct = l.distinct;
+    each = λ k i.
+        let x = l.each k i in
+        (x.0, x.1, x.2, x.3, λ u j e. let v = old_shown u x.1 j x.2 (e ∙ sym x.3) in x.4 v.0 v.1 (v.2 ∙ x.3));
+  }

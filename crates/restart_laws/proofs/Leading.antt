@@ -122,7 +122,7 @@ module _ (plan : Ports) (is : IsPlan plan) {capacities : List ℕ} {made : ℕ} 
   prefix_by body.Group h = tt
   prefix_by (body.GroupMember v w) h = tt
 
-  chip-listed : IsListed made objects
+  pub chip-listed : IsListed made objects
   chip-listed = record {
     whole = chip.whole;
     lanes = record { each = λ e b h. lane_by b (chip.planned e b h) };

@@ -19,4 +19,6 @@ pub mod Logged
 pub mod Bounded
 pub mod Underway
 pub mod Routes
+pub mod Steadied
+pub mod Followed
 pub mod Example

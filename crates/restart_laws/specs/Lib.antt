@@ -7,3 +7,4 @@ pub mod Identified
 pub mod Broken
 pub mod Logged
 pub mod Bounded
+pub mod Applied

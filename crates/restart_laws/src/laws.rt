@@ -33,6 +33,7 @@ ghost use Rattle.plan_laws.specs.Calls.{PlansChanges, resolve, viewed};
 ghost use Rattle.plan_laws.specs.Old.{old_layout};
 ghost use Rattle.plan_laws.specs.Steady.{IsHitless, IsOldOrNew, StaysNew};
 ghost use Rattle.warm_state.specs.declared.warm.Warm.TheVariants.{Applying, Suspect};
+ghost use Rattle.restart_laws.specs.Applied.{AreFollowed};
 ghost use Rattle.restart_laws.specs.Bounded.{effects_outside, listed_at_applies};
 ghost use Rattle.restart_laws.specs.Broken.{AreBroken};
 ghost use Rattle.restart_laws.specs.Identified.{IsIdOf, as_vids, renamed_by};
@@ -116,4 +117,12 @@ pub fn logs_are_true()
 /// over restarts and faults, with any number of workers.
 pub fn effects_outside_applies_are_few()
     ensures { (plan : Ports) (workers : ℕ) (capacities : List ℕ) (ts : List LoggedService) → IsPlan plan → AreLoggedSteps plan workers capacities new_session ts → effects_outside None (session_after new_session ts).log.marks (length (session_after new_session ts).effects) ≤ most_calls * (length (session_after new_session ts).log.taken + listed_at_applies (session_after new_session ts).log.marks) }
+{}
+
+/// Each apply that a log tells of is hitless exactly where the chip and the things of the rows applied at its mark fit together.
+/// After each effect of a hitless one, up to the next mark or the end, each address is decided as by what stood at its mark or as by
+/// these things, once as by these always so, and what both forward equally is forwarded so. No apply has more effects than the chip
+/// had objects at its mark and three for each of these things. And no call takes effect between a fault or a restart and the next mark.
+pub fn applies_are_steady_and_short()
+    ensures { (plan : Ports) (workers : ℕ) (capacities : List ℕ) (ts : List LoggedService) → IsPlan plan → AreLoggedSteps plan workers capacities new_session ts → AreFollowed plan capacities (session_after new_session ts).log.taken (session_after new_session ts).effects (session_after new_session ts).log.marks }
 {}
