@@ -90,6 +90,9 @@ pushed (y ∷ ys) v x h = push_step v x y ys (above v y.0 h.0) ∙ ap (λ zs. y 
 
 -- ---- the index
 
+pub key-refl : (e : Entry Vid) → same_key e e ≡ true
+key-refl e = (eq_by_cmp_equiv key_total).refl e
+
 filed-other : (keyed : Keyed) (e d : Entry Vid) (v : Vid) → same_key e d ≡ false → vid_by (filed keyed e v) d ≡ vid_by keyed d
 filed-other keyed (entry.Oid w) d v h = refl
 filed-other keyed e (entry.Oid w) v h = refl
@@ -139,6 +142,30 @@ found-key (y ∷ ys) x sorted (inr i) = by (is_at (vid_cmp x.0) y.0) refl (found
     by : (t : Bool) → is_at (vid_cmp x.0) y.0 ≡ t → lookup (is_at (vid_cmp x.0)) ys ≡ Some x.1 → cond t (Some y.1) (lookup (is_at (vid_cmp x.0)) ys) ≡ Some x.1
     by true at found = absurd (none-some x.1 (sym (lookup-none (is_at (vid_cmp x.0)) ys (none_past_head (eq_by_cmp_equiv vid_total) x.0 y ys (IsDistinct-from_sorted vid_cmp (keys_of (y ∷ ys)) sorted) at)) ∙ found))
     by false at found = found
+
+-- and what is found is one of the list
+pub in-key : (os : ViewObjects) (v : Vid) (x : ViewObject) → lookup (is_at (vid_cmp v)) os ≡ Some x → IsIn (v, x) os
+in-key [] v x found = absurd (none-some x found)
+in-key (y ∷ ys) v x found = by (is_at (vid_cmp v) y.0) refl found (in-key ys v x)
+  where
+    by : (t : Bool) → is_at (vid_cmp v) y.0 ≡ t → cond t (Some y.1) (lookup (is_at (vid_cmp v)) ys) ≡ Some x → (lookup (is_at (vid_cmp v)) ys ≡ Some x → IsIn (v, x) ys) → IsIn (v, x) (y ∷ ys)
+    by true at h behind =
+        let same : x ≡ y.1 = cc in
+        let pair : Vid → ViewObject → Item = λ a b. (a, b) in
+        inl (ap₂ pair (vid-exact v y.0 at) same)
+    by false at h behind = inr (behind h)
+
+pub none_mapped : {X Y : Type 0} (f : X → Y) (o : Option X) → option_map f o ≡ None → o ≡ None
+none_mapped f None h = refl
+none_mapped f (Some x) h = absurd cc
+
+left_alone : (v : Vid) (os : ViewObjects) → NonePasses (is_at (vid_cmp v)) os → remove_entry (is_at (vid_cmp v)) os ≡ os
+left_alone v [] none = refl
+left_alone v (y ∷ ys) none = ap₂ (λ b l. cond b ys (y ∷ l)) none.0 (left_alone v ys none.1)
+
+-- an absent object is not removed
+pub removed-absent : (v : Vid) (os : ViewObjects) → lookup (is_at (vid_cmp v)) os ≡ None → os ≡ remove_entry (is_at (vid_cmp v)) os
+removed-absent v os none = sym (left_alone v os (none_passes_from_lookup (is_at (vid_cmp v)) os none))
 
 stay-all : (p : Item → Bool) (os : ViewObjects) → AllByRecursion (λ y. p y ≡ false) os → filter (λ y. not (p y)) os ≡ os
 stay-all p [] h = refl

@@ -2,7 +2,7 @@
 use Rattle.std.specs.Prelude.{ℕ, ◌<◌, Bool, not, List, [], ◌∷◌, ◌++◌, map, filter, count_by, Option, Some, None, if◌then◌else◌}
 use Rattle.std.specs.BTreeMap.{insert_entry, is_at}
 use Rattle.std.specs.List.{AllByRecursion}
-use Rattle.std.specs.Map.{lookup, values_of}
+use Rattle.std.specs.Map.{lookup, remove_entry, values_of}
 use Rattle.std.specs.declared.cmp.Ordering.{Ordering}
 use Rattle.sai_types.specs.declared.ids.Rid.{Rid}
 use Rattle.sai_types.specs.declared.ids.Vid.{Vid}
@@ -109,6 +109,10 @@ set_in e a x = if is_named e x then (x.0, object_set x.1 a) else x
 
 abbrev pub after_set : ViewObjects → Entry Vid → Attr Vid → ViewObjects
 after_set objects e a = map (set_in e a) objects
+
+-- without the object with this identifier
+abbrev pub without_object : ViewObjects → Vid → ViewObjects
+without_object objects v = remove_entry (is_at (vid_cmp v)) objects
 
 abbrev pub after_remove : ViewObjects → Entry Vid → ViewObjects
 after_remove objects e = filter (λ x. not (is_named e x)) objects

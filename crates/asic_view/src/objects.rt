@@ -3,11 +3,11 @@ ghost use Rattle.std.specs.Prelude.{◌≡◌, None, option_map, OnOk, OnErr};
 ghost use Rattle.std.specs.BTreeMap.{insert_entry, is_at};
 ghost use Rattle.std.specs.Map.{lookup, remove_entry};
 ghost use Rattle.sai_types.specs.Objects.{kind_of};
-ghost use Rattle.asic_view.specs.View.{changed_at, object_set, untied, vid_cmp, with_tie};
+ghost use Rattle.asic_view.specs.View.{changed_at, entry_at, object_set, untied, vid_cmp, with_tie};
 
 use crate::ViewObject;
-use crate::body::{kind_of, set_attr};
-use sai_types::{Attr, Body, Kind, Rid, Vid};
+use crate::body::{entry_of, kind_of, set_attr};
+use sai_types::{Attr, Body, Entry, Kind, Rid, Vid};
 use std::collections::BTreeMap;
 use swss_types::OutOfMemory;
 
@@ -21,6 +21,16 @@ pub fn put(objects: &mut Objects, vid: Vid, body: Body<Vid>) -> Result<(), OutOf
 {
     objects.insert(vid, ViewObject { body, rid: None })?;
     Ok(())
+}
+
+/// By what the object with this identifier is named in calls, if there is one.
+pub fn entry_at(objects: &Objects, vid: Vid) -> Option<Entry<Vid>>
+    ensures { result ≡ option_map (λ x. entry_at vid x.body) (lookup (is_at (vid_cmp vid)) objects.now.entries) }
+{
+    match objects.get(&vid) {
+        Some(object) => Some(entry_of(vid, &object.body)),
+        None => None,
+    }
 }
 
 /// Takes the object with this identifier away, if there is one, and answers its kind.

@@ -1,11 +1,11 @@
 // A view.
 ghost use Rattle.std.specs.Prelude.{◌≡◌, [], map, IfOk, OnErr};
-ghost use Rattle.asic_view.specs.View.{IsLegalOn, IsNew, after_create, after_remove, after_set, object_of, rid_at, used_of, with_tie};
+ghost use Rattle.asic_view.specs.View.{IsLegalOn, IsNew, after_create, after_remove, after_set, object_of, rid_at, used_of, with_tie, without_object};
 
 use crate::body::{entry_of, kind_of, level};
 use crate::counts::{lower, raise};
 use crate::keyed::{Keyed, file, unfile, vid_by};
-use crate::objects::{Objects, put, set, take, tie};
+use crate::objects::{Objects, entry_at, put, set, take, tie};
 use sai_types::{Attr, Body, Call, Entry, Kind, Object, Rid, Vid};
 use std::alloc::Global;
 use std::collections::BTreeMap;
@@ -91,11 +91,19 @@ impl View {
         let Some(vid) = vid_by(&self.keyed, entry) else {
             unreachable!()
         };
-        let Some(kind) = take(&mut self.objects, vid) else {
-            unreachable!()
-        };
-        unfile(&mut self.keyed, entry);
-        lower(&mut self.counts, kind);
+        self.take_back(vid);
+    }
+
+    /// Takes an object back that was made in vain: it goes whatever refers to it, if it is there.
+    pub fn take_back(&mut self, vid: Vid)
+        ensures { self.new ≡ without_object self.old vid }
+    {
+        if let Some(entry) = entry_at(&self.objects, vid) {
+            if let Some(kind) = take(&mut self.objects, vid) {
+                unfile(&mut self.keyed, &entry);
+                lower(&mut self.counts, kind);
+            }
+        }
     }
 
     /// The objects, in the order in which they were made.
