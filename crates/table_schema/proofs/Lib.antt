@@ -3,7 +3,6 @@ pub mod Keys
 pub mod Plans
 pub mod Writes
 pub mod LastValues
-pub mod Mapped
 pub mod Merges
 pub mod Parts
 pub mod Texts

@@ -47,22 +47,15 @@ pub(crate) fn restore_many(pairs: &mut BTreeMap<Text, Text>, name: &Text, was: O
     }
 }
 
-/// A map of copies of pairs whose names rise. It is made at once, which takes fewer steps than to put pair after pair.
+/// A map of copies of pairs whose names rise. One after the other is put, so that nothing else takes room beside the map.
 pub(crate) fn map_of(alloc: Global, pairs: Items<'_>) -> Result<BTreeMap<Text, Text>, OutOfMemory>
     requires { HasRisingNames pairs }
     ensures { IfOk result (λ map. map.entries ≡ pairs.entry) }
 {
-    let copies = copy_items(alloc, pairs)?;
-    Ok(BTreeMap::from_iter(alloc, copies)?)
-}
-
-/// Copies of pairs, in their order.
-fn copy_items(alloc: Global, pairs: Items<'_>) -> Result<Vec<(Text, Text)>, OutOfMemory>
-    ensures { IfOk result (λ copies. copies.items ≡ pairs.entry) }
-{
-    let mut copies = Vec::with_capacity(alloc, pairs.len())?;
+    let mut map = BTreeMap::new(alloc);
     for (name, value) in pairs {
-        copies.push(copy_pair(name, value)?)?;
+        let (name, value) = copy_pair(name, value)?;
+        map.insert(name, value)?;
     }
-    Ok(copies)
+    Ok(map)
 }
