@@ -32,7 +32,7 @@ use Rattle.switch_machine.specs.Flights.{StandsIn}
 use Rattle.switch_machine.proofs.Calling.{sort_of}
 use Rattle.switch_machine.proofs.Resting.{back_by, into_by}
 use Rattle.switch_machine.proofs.Tabled.{tabled}
-use Rattle.plan_laws.specs.Applied.{AppliesHitless, IsListed, IsView, chip_things, nothing}
+use Rattle.plan_laws.specs.Applied.{AppliesHitless, IsListedChip, IsView, chip_things, nothing}
 use Rattle.plan_laws.specs.Old.{old_layout}
 use Rattle.plan_laws.specs.Views.{AreLacking}
 use Rattle.plan_laws.proofs.Applied.{hitless-kept, hitless-steady}
@@ -82,7 +82,7 @@ module _ (plan : Ports) (is : IsPlan plan) (workers : ℕ) (capacities : List �
   view : IsView new
   view = view-is plan is workers capacities x.view kept.0 kept.1
 
-  chip : IsListed s.core.made objects
+  chip : IsListedChip s.core.made objects
   chip = chip-listed plan is h.safe.chip
 
   module _ (rows : TypedRows) (same : (q : Key) → rows q ≡ x.view.machine.board.applied q) where
