@@ -25,6 +25,8 @@ use Rattle.switch_model.specs.declared.mark.MarkEvent.TheVariants as event
 use Rattle.switch_machine.specs.Events.{with_made_call}
 use Rattle.machine_laws.specs.Logged.{IsLoggedEvent}
 use Rattle.machine_laws.proofs.Staying.{chip_after-front, good-front}
+use Rattle.plan_laws.specs.Bounds.{IsUnwanted}
+use Rattle.plan_laws.specs.Views.{AreLacking}
 use Rattle.warm_state.specs.declared.warm.Warm.TheVariants.{Applying, Reconciled}
 use Rattle.restart_laws.specs.Applied.{AreFollowed, IsFollowed, IsSteadyApply}
 use Rattle.restart_laws.specs.Logged.{AddsFault, AreLoggedSteps, IsLeftIn, IsLoggedStep, IsWarmAfter, LoggedService, OfMachine, OfService, Records, last_mark, mark_now, new_session, session_after, switch_of}
@@ -65,6 +67,14 @@ module _ (plan : Ports) (is : IsPlan plan) (workers : ℕ) (capacities : List �
         back = x.back;
         apart = x.apart;
         steady = λ e. subst (λ o. IsSteady (view_at o) x.view (es ++ fs) from to) (sym same) (steady_more (things_after es from) x.view es fs from to most (x.steady e));
+        front = x.front;
+        during = x.during;
+        behind = x.behind ++ fs;
+        parts = ap (λ z. z ++ fs) x.parts ∙ append_assoc x.front (x.during ++ x.behind) fs ∙ ap (λ z. x.front ++ z) (append_assoc x.during x.behind fs);
+        at = x.at;
+        long = x.long;
+        made = λ e kind. let y = x.made e kind in (y.0, subst (λ o. AreLacking (view_at o) x.view kind y.0) (sym same) y.1, y.2);
+        kept = λ e entry i. subst (λ o. IsUnwanted o x.view entry) (sym same) (x.kept e entry i);
         names = x.names;
         distinct = x.distinct;
         of = x.of;
