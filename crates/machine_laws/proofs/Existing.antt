@@ -12,7 +12,7 @@ use Rattle.sai_types.specs.declared.body.Call.{Call}
 use Rattle.sai_types.specs.Alike.{IsIn}
 use Rattle.switch_model.proofs.Tied.{tied}
 use Rattle.switch_machine.specs.Events.{IsBegin, IsQuiet, IsSafe, SwitchState, after_answers}
-use Rattle.switch_machine.specs.Next.{HasReason}
+use Rattle.switch_machine.specs.Next.{MustWait}
 use Rattle.machine_laws.specs.Reading.{IsOnSwitch}
 use Rattle.machine_laws.specs.Settling.{AreMachineTurns, IsMachineTurn, RunsAlone}
 use Rattle.machine_laws.specs.ToSync.{AreInKeyOrder}
@@ -90,7 +90,7 @@ module _ (plan : Ports) (is : IsPlan plan) (workers : ℕ) (some : 0 < workers) 
       rest_keys : (r : Ran s k) → AreKeys r.then ks
       rest_keys r = record { order = keys.order.1; there = λ q h. r.others q (less_apart k q (keys.order.0 q h)) (keys.there q (inr h)); on = λ q h. keys.on q (inr h) }
 
-      stay : HasReason plan workers capacities s k → Whole s ks → Whole s (k ∷ ks)
+      stay : MustWait plan workers capacities s k → Whole s ks → Whole s (k ∷ ks)
       stay (wait, reason) x = record {
         turned = record {
           then = x.turned.then;
@@ -134,7 +134,7 @@ module _ (plan : Ports) (is : IsPlan plan) (workers : ℕ) (some : 0 < workers) 
         still = λ p before h. x.still p (λ q at. before q (inr at)) (r.others p (λ e. less_apart p k (before k (inl refl)) (sym e)) h);
       }
 
-      by : HasReason plan workers capacities s k ⊎ ((t : SwitchState) × (x : IsBegin plan workers capacities s t) × (x.worker ≡ 0) × (x.flight.key ≡ k)) → Whole s ks → ((t : SwitchState) (x : IsBegin plan workers capacities s t) → x.flight.key ≡ k → (r : Ran s k) × Whole r.then ks) → Whole s (k ∷ ks)
+      by : MustWait plan workers capacities s k ⊎ ((t : SwitchState) × (x : IsBegin plan workers capacities s t) × (x.worker ≡ 0) × (x.flight.key ≡ k)) → Whole s ks → ((t : SwitchState) (x : IsBegin plan workers capacities s t) → x.flight.key ≡ k → (r : Ran s k) × Whole r.then ks) → Whole s (k ∷ ks)
       by (inl reason) rest begun = stay reason rest
       by (inr (t, x, at, same)) rest begun = let y = begun t x same in leave y.0 y.1
 

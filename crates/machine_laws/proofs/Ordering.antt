@@ -5,7 +5,7 @@ use Rattle.switch_model.specs.History.{History, with_end, with_mark}
 use Rattle.switch_model.specs.declared.mark.Mark.{Mark}
 use Rattle.switch_model.specs.declared.mark.MarkEvent.{MarkEvent}
 use Rattle.switch_model.specs.declared.mark.MarkEvent.TheVariants as event
-use Rattle.machine_laws.specs.Order.{AreEnded, AreInOrder, EndsRound, IsOrdered, IsSettledMark, MayFollow}
+use Rattle.machine_laws.specs.Order.{AreEnded, AreMarksInOrder, MayEndRound, IsOrdered, IsSettledMark, MayFollow}
 
 -- all of the marks are of settlings that ended
 abbrev pub AreSettled : List Mark → Type 0
@@ -28,11 +28,11 @@ may_follow None _ free is = elim is [ ]
 may_follow (Some (event.Settled listed n)) _ free is = elim is [ ]
 may_follow (Some _) e free is = elim free [ ]
 
-in_order : (before : Option MarkEvent) (marks : List Mark) → IsFree before → AreSettled marks → AreInOrder before marks
+in_order : (before : Option MarkEvent) (marks : List Mark) → IsFree before → AreSettled marks → AreMarksInOrder before marks
 in_order before [] free h = tt
 in_order before (mark ∷ marks) free (one, h) = (may_follow before mark.event free one, in_order (Some mark.event) marks one h)
 
-ends_round : (e : MarkEvent) → IsSettledMark e → EndsRound e
+ends_round : (e : MarkEvent) → IsSettledMark e → MayEndRound e
 ends_round (event.Settled waits turns) is = tt
 ends_round _ is = elim is [ ]
 

@@ -13,7 +13,7 @@ use Rattle.switch_model.specs.declared.wait.Wait.TheVariants as wait
 use Rattle.row_layout.specs.Operations.{Change}
 use Rattle.switch_machine.specs.Events.{HasLeft, IsBegin, IsQuiet, IsSafe, SwitchState}
 use Rattle.switch_machine.specs.Flights.{Flight, Machine}
-use Rattle.switch_machine.specs.Next.{HasReason}
+use Rattle.switch_machine.specs.Next.{MustWait}
 use Rattle.switch_machine.specs.Operations.{MayBegin}
 use Rattle.switch_machine.specs.Places.{HasRoomFor}
 use Rattle.switch_machine.specs.Reasons.{LacksRoom}
@@ -120,16 +120,16 @@ module _ (plan : Ports) (is : IsPlan plan) (workers : ℕ) (capacities : List �
     one_row : (r z : Row) → Some r ≡ Some z → r ≡ z
     one_row r z e = cc
 
-    from_free : IsFree → HasReason plan workers capacities s k ⊎ Starts
+    from_free : IsFree → MustWait plan workers capacities s k ⊎ Starts
     from_free free =
         let x = begin-free plan is workers capacities s w k kept quiet on free.0 free.1 in
         by x.0 x.1 x.2 x.3 x.4 (good_of plan s.written k) refl
       where
-        roomy : (f : Flight) (due : List Change) → f.key ≡ k → f.new ≡ good_of plan s.written k → MayBegin plan s.machine w f due → HasRoomFor workers capacities s.objects s.machine due ⊎ ((kind : Kind) × LacksRoom plan workers capacities s f.key kind) → HasReason plan workers capacities s k ⊎ Starts
+        roomy : (f : Flight) (due : List Change) → f.key ≡ k → f.new ≡ good_of plan s.written k → MayBegin plan s.machine w f due → HasRoomFor workers capacities s.objects s.machine due ⊎ ((kind : Kind) × LacksRoom plan workers capacities s f.key kind) → MustWait plan workers capacities s k ⊎ Starts
         roomy f due same new begins (inl room) = inr (starts f due same new begins room)
         roomy f due same new begins (inr (kind, lacks)) = inl (wait.NoRoom kind, subst (λ z. LacksRoom plan workers capacities s z kind) same lacks)
 
-        by : (f : Flight) (due : List Change) → f.key ≡ k → f.new ≡ good_of plan s.written k → MayBegin plan s.machine w f due → (o : Option Row) → good_of plan s.written k ≡ o → HasReason plan workers capacities s k ⊎ Starts
+        by : (f : Flight) (due : List Change) → f.key ≡ k → f.new ≡ good_of plan s.written k → MayBegin plan s.machine w f due → (o : Option Row) → good_of plan s.written k ≡ o → MustWait plan workers capacities s k ⊎ Starts
         by f due same new begins None e = inr (starts f due same new begins (room-gone plan workers capacities s w f due begins (new ∙ e)))
         by f due same new begins (Some r) e = roomy f due same new begins (room-or plan workers capacities s w f due begins r (new ∙ e) (ap (good_of plan s.written) same ∙ e))
 
@@ -137,18 +137,18 @@ module _ (plan : Ports) (is : IsPlan plan) (workers : ℕ) (capacities : List �
     rests v g at same = quiet v g at
 
     -- it has a reason to wait, or an operation of it begins
-    pub waits-or-begins : HasReason plan workers capacities s k ⊎ Starts
+    pub waits-or-begins : MustWait plan workers capacities s k ⊎ Starts
     waits-or-begins = by (good_of plan s.written k) refl
       where
-        named : (r : Row) → good_of plan s.written k ≡ Some r → (o : Option Key) → first_missing rows (names_of k r) ≡ o → HasReason plan workers capacities s k ⊎ Starts
+        named : (r : Row) → good_of plan s.written k ≡ Some r → (o : Option Key) → first_missing rows (names_of k r) ≡ o → MustWait plan workers capacities s k ⊎ Starts
         named r e (Some n) missing = inl (wait.Missing n, (rests, (r, e, missing)))
         named r e None missing = from_free ((λ z at. subst (λ v. have_rows rows (names_of k v) ≡ true) (one_row r z (sym e ∙ at)) (none_missing_all rows (names_of k r) missing)), λ none. no_some (good_of plan s.written k) r none e)
 
-        gone : good_of plan s.written k ≡ None → (o : Option Row) → rows k ≡ o → ((holder : Key) × IsHeldBy rows k holder) ⊎ ((q : Key) (r : Row) → rows q ≡ Some r → IsIn k (names_of q r) → ⊥) → HasReason plan workers capacities s k ⊎ Starts
+        gone : good_of plan s.written k ≡ None → (o : Option Row) → rows k ≡ o → ((holder : Key) × IsHeldBy rows k holder) ⊎ ((q : Key) (r : Row) → rows q ≡ Some r → IsIn k (names_of q r) → ⊥) → MustWait plan workers capacities s k ⊎ Starts
         gone e o at (inr none) = from_free ((λ r good. no_some (good_of plan s.written k) r e good), λ same. none)
         gone e (Some r) at (inl (holder, held)) = inl (wait.Held holder, (rests, e, (r, at, held)))
         gone e None at (inl (holder, held)) = no_row (rows k) at (has_row rows (names_of holder held.row) k (closed plan is workers capacities s kept holder held.row held.applied_row) held.names)
 
-        by : (o : Option Row) → good_of plan s.written k ≡ o → HasReason plan workers capacities s k ⊎ Starts
+        by : (o : Option Row) → good_of plan s.written k ≡ o → MustWait plan workers capacities s k ⊎ Starts
         by (Some r) e = named r e (first_missing rows (names_of k r)) refl
         by None e = gone e (rows k) refl (held-or rows k (AreKeys s.written.taken) (λ q r at. written-once plan s.written.taken q r (kept.good q r (inl at))))

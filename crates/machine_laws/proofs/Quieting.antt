@@ -108,11 +108,11 @@ module _ (plan : Ports) (is : IsPlan plan) (workers : ℕ) (capacities : List �
   T = tabled plan is
 
   -- the change is not about the thing
-  spares : (e : Entry Rid) (m : Machine) → IsConsistent plan m → (x : Quiet plan k e m) (w : ℕ) (f : Flight) (c : Change) → m.board.flights w ≡ Some f → Can plan f (StandsIn m) c → name_of x.stood.thing ≡ change.changed c → ⊥
+  spares : (e : Entry Rid) (m : Machine) → IsConsistent plan m → (x : Quiet plan k e m) (w : ℕ) (f : Flight) (c : Change) → m.board.flights w ≡ Some f → Can plan f (StandsIn m) c → name_of x.stood.thing ≡ change.changed_name c → ⊥
   spares e m sound x w f c flying can same = by ((things-split plan k x.stood.row).into x.stood.thing x.stood.of)
     where
       -- it is of the key's row
-      mine : (c : Change) → Can plan f (StandsIn m) c → name_of x.stood.thing ≡ change.changed c → owner.owner_of plan (name_of x.stood.thing) ≡ Some (OfRow k) → ⊥
+      mine : (c : Change) → Can plan f (StandsIn m) c → name_of x.stood.thing ≡ change.changed_name c → owner.owner_of plan (name_of x.stood.thing) ≡ Some (OfRow k) → ⊥
       mine (Make t) can same of = can.fresh x.stood.thing (x.stood.id, x.stood.stands) same
       mine (Set t) can same of = x.rests w f flying (sym (own_key k f.key (one_owner (OfRow k) (OfRow f.key) (owner.owner_of plan (name_of x.stood.thing)) of (ap (owner.owner_of plan) same ∙ can.own))))
       mine (Take n) can same of = goes can.goes
@@ -124,7 +124,7 @@ module _ (plan : Ports) (is : IsPlan plan) (workers : ℕ) (capacities : List �
               subst IsShared (sym (one_owner (OfRow k) o (owner.owner_of plan (name_of x.stood.thing)) of (ap (owner.owner_of plan) same ∙ at))) (T.are_shared f.key was.row o was.used)
 
       -- it is of what the row shares
-      shared : (c : Change) → Can plan f (StandsIn m) c → name_of x.stood.thing ≡ change.changed c → (o : Owner) → IsShared o → IsUser plan m.board k o → owner.owner_of plan (name_of x.stood.thing) ≡ Some o → ⊥
+      shared : (c : Change) → Can plan f (StandsIn m) c → name_of x.stood.thing ≡ change.changed_name c → (o : Owner) → IsShared o → IsUser plan m.board k o → owner.owner_of plan (name_of x.stood.thing) ≡ Some o → ⊥
       shared (Make t) can same o sh user of = can.fresh x.stood.thing (x.stood.id, x.stood.stands) same
       shared (Set t) can same o sh user of = subst IsShared (one_owner o (OfRow f.key) (owner.owner_of plan (name_of x.stood.thing)) of (ap (owner.owner_of plan) same ∙ can.own)) sh
       shared (Take n) can same o sh user of = goes can.goes
@@ -158,7 +158,7 @@ module _ (plan : Ports) (is : IsPlan plan) (workers : ℕ) (capacities : List �
   has_in layout u b n x (inr h) = (x.second, subst (λ z. IsAt (Has layout) z x.second) h x.second_at)
 
   module _ (old new : Layout Rid) (objects later : Objects) (laid : IsLaidOut old objects) (laid_later : IsLaidOut new later) (made : ℕ) (call : Call Rid) (id : Rid) (i : Rid) (u : Thing) where
-    still : (c : Change) → old i u → (name_of u ≡ change.changed c → ⊥) → ((j : Rid) (t : Thing) → changed_by old c id j t → new j t) → new i u
+    still : (c : Change) → old i u → (name_of u ≡ change.changed_name c → ⊥) → ((j : Rid) (t : Thing) → changed_by old c id j t → new j t) → new i u
     still (Make t) at apart into = into i u (inl at)
     still (Set t) at apart into = into i u (inl (at, apart))
     still (Take n) at apart into = into i u (at, apart)

@@ -29,7 +29,7 @@ use Rattle.switch_machine.proofs.Runs.{kept-run}
 use Rattle.switch_machine.proofs.Sequence.{sequence}
 use Rattle.switch_machine.proofs.Solo.{solo-key}
 use Rattle.switch_machine.proofs.Splits.{IsSplit, key_split, row_at, row_off}
-use Rattle.machine_laws.specs.Calls.{AreCallsOf, AreChangesOf, AreTurnsWith, Completes, IsTurnWith, Situation}
+use Rattle.machine_laws.specs.Calls.{AreCallsOf, AreChangesOf, AreTurnsWith, CompletesWith, IsTurnWith, Situation}
 use Rattle.machine_laws.specs.Settling.{AreMachineTurns, DropsKey, IsMachineTurn, IsSituationOf, RunsAlone, situation}
 use Rattle.machine_laws.proofs.Alone.{calls-made, calls_in, follows-stands}
 use Rattle.machine_laws.proofs.Dropping.{same-no_reason}
@@ -138,7 +138,7 @@ module _ (plan : Ports) (is : IsPlan plan) (workers : ℕ) (capacities : List �
     -- a key that leaves has its good row then, after the calls of its operation, and no reason was true of it
     record Left (z : Situation) : Type 0 where
       then : Situation
-      so : Completes plan good k z then calls
+      so : CompletesWith plan good k z then calls
       agrees : IsSituationOf then t
       rest : Rests plan workers capacities s.written t
       none : HasReason plan capacities good z.applied k → ⊥
@@ -239,5 +239,5 @@ module _ (plan : Ports) (is : IsPlan plan) (workers : ℕ) (capacities : List �
   pub settles : (n : ℕ) (s t : SwitchState) (keys left : List Key) (calls : List (Call Rid)) → IsSafe plan workers capacities s → IsQuiet s → AreMachineTurns plan workers capacities n s keys t left calls → Comes (λ y. AreTurnsWith plan capacities (good_of plan s.written) n (situation s) keys y left calls) s.written t
   settles n s t keys left calls kept quiet h = turns n s t keys left calls (situation s) kept quiet (record { rows = λ q. refl; stands = refl; made = refl }) h
 
-  pub alone : (k : Key) (s t : SwitchState) (calls : List (Call Rid)) → IsSafe plan workers capacities s → IsQuiet s → RunsAlone plan workers capacities k s t calls → (z : Situation) × Completes plan (good_of plan s.written) k (situation s) z calls × IsSituationOf z t
+  pub alone : (k : Key) (s t : SwitchState) (calls : List (Call Rid)) → IsSafe plan workers capacities s → IsQuiet s → RunsAlone plan workers capacities k s t calls → (z : Situation) × CompletesWith plan (good_of plan s.written) k (situation s) z calls × IsSituationOf z t
   alone k s t calls kept quiet x = let y = left_by k s t calls kept quiet (situation s) (record { rows = λ q. refl; stands = refl; made = refl }) (inr x) in (y.then, y.so, y.agrees)

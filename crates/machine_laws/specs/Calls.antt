@@ -46,7 +46,7 @@ pub record Situation : Type 0 where
   pub made : ℕ
 
 -- a key has its good row, or none, after the calls of its operation
-pub record Completes (plan : Ports) (good : TypedRows) (k : Key) (s t : Situation) (calls : List (Call Rid)) : Type 0 where
+pub record CompletesWith (plan : Ports) (good : TypedRows) (k : Key) (s t : Situation) (calls : List (Call Rid)) : Type 0 where
   pub changes : List Change
   pub are : AreChangesOf plan s.applied k (good k) changes
   pub calls_are : AreCallsOf s.stands s.made changes calls t.stands
@@ -58,7 +58,7 @@ abbrev pub IsTurnWith : Ports → List ℕ → TypedRows → Situation → List 
 IsTurnWith plan capacities good s [] t left calls = (t ≡ s) × (left ≡ []) × (calls ≡ [])
 IsTurnWith plan capacities good s (k ∷ ks) t left calls =
     (HasReason plan capacities good s.applied k × (rest : List Key) × (left ≡ k ∷ rest) × IsTurnWith plan capacities good s ks t rest calls)
-    ⊎ ((¬ (HasReason plan capacities good s.applied k)) × (mid : Situation) × (own : List (Call Rid)) × (more : List (Call Rid)) × Completes plan good k s mid own × (calls ≡ own ++ more) × IsTurnWith plan capacities good mid ks t left more)
+    ⊎ ((¬ (HasReason plan capacities good s.applied k)) × (mid : Situation) × (own : List (Call Rid)) × (more : List (Call Rid)) × CompletesWith plan good k s mid own × (calls ≡ own ++ more) × IsTurnWith plan capacities good mid ks t left more)
 
 -- so many turns, with their calls
 abbrev pub AreTurnsWith : Ports → List ℕ → TypedRows → ℕ → Situation → List Key → Situation → List Key → List (Call Rid) → Type 0

@@ -22,13 +22,13 @@ ghost use Rattle.switch_model.specs.Turns.{TakeTurns};
 ghost use Rattle.row_layout.specs.Operations.{Change};
 ghost use Rattle.switch_machine.specs.Events.{AreAnswers, AreEvents, IsBegin, IsQuiet, IsSafe, SwitchState, after_answers, after_events, calls_of, empty_switch};
 ghost use Rattle.switch_machine.specs.Flights.{Fits, Flight, IsResting, IsRow};
-ghost use Rattle.switch_machine.specs.Next.{HasReason};
+ghost use Rattle.switch_machine.specs.Next.{MustWait};
 ghost use Rattle.switch_machine.specs.Operations.{MayBegin};
 ghost use Rattle.switch_machine.specs.Places.{HasRoomFor};
 ghost use Rattle.switch_machine.specs.Reasons.{LacksRoom};
 ghost use Rattle.switch_machine.specs.Written.{HasNoWrite, good_of};
 ghost use Rattle.machine_laws.specs.Bounds.{most_calls};
-ghost use Rattle.machine_laws.specs.Calls.{AreTurnsWith, Completes, Situation};
+ghost use Rattle.machine_laws.specs.Calls.{AreTurnsWith, CompletesWith, Situation};
 ghost use Rattle.machine_laws.specs.Logged.{AreListed, AreLoggedEvents, IsWholeSettling, ListsKey, LoggedSwitch, LogsMark, AreNoWritesOf, after_logged, after_pops, new_switch};
 ghost use Rattle.machine_laws.specs.Order.{IsOrdered};
 ghost use Rattle.machine_laws.specs.Quiet.{ChangesEntry, LeavesAlone, NamesNot, StandsFor};
@@ -47,7 +47,7 @@ pub fn four_turns()
 /// key has its good row, and every other row is as it was. Each operation that begins at rest can be run to its end.
 pub fn operations_make_their_calls()
     ensures ends { (plan : Ports) (workers : ℕ) (capacities : List ℕ) (s t : SwitchState) (x : IsBegin plan workers capacities s t) → IsPlan plan → IsSafe plan workers capacities s → IsQuiet s → (es : List (Call Rid × SwitchState)) × AreAnswers plan workers t es × IsQuiet (after_answers t es) }
-    ensures calls { (plan : Ports) (workers : ℕ) (capacities : List ℕ) (k : Key) (s t : SwitchState) (calls : List (Call Rid)) → IsPlan plan → IsSafe plan workers capacities s → IsQuiet s → RunsAlone plan workers capacities k s t calls → (z : Situation) × Completes plan (good_of plan s.written) k (situation s) z calls × IsSituationOf z t }
+    ensures calls { (plan : Ports) (workers : ℕ) (capacities : List ℕ) (k : Key) (s t : SwitchState) (calls : List (Call Rid)) → IsPlan plan → IsSafe plan workers capacities s → IsQuiet s → RunsAlone plan workers capacities k s t calls → (z : Situation) × CompletesWith plan (good_of plan s.written) k (situation s) z calls × IsSituationOf z t }
 {}
 
 /// A settling is a list of events of the machine. Its rows and its calls are those of turns over rows: key by key, in order, and
@@ -112,7 +112,7 @@ pub fn keys_may_begin()
     ensures begins { (plan : Ports) (workers : ℕ) (capacities : List ℕ) (s : SwitchState) (w : ℕ) (k : Key) → IsPlan plan → IsSafe plan workers capacities s → IsQuiet s → IsOnSwitch k → ((r : Row) → good_of plan s.written k ≡ Some r → have_rows s.machine.board.applied (names_of k r) ≡ true) → (good_of plan s.written k ≡ None → (q : Key) (r : Row) → s.machine.board.applied q ≡ Some r → IsIn k (names_of q r) → ⊥) → (f : Flight) × (due : List Change) × (f.key ≡ k) × (f.new ≡ good_of plan s.written k) × MayBegin plan s.machine w f due }
     ensures room { (plan : Ports) (workers : ℕ) (capacities : List ℕ) (s : SwitchState) (w : ℕ) (f : Flight) (due : List Change) (row : Row) → MayBegin plan s.machine w f due → f.new ≡ Some row → good_of plan s.written f.key ≡ Some row → HasRoomFor workers capacities s.objects s.machine due ⊎ ((kind : Kind) × LacksRoom plan workers capacities s f.key kind) }
     ensures room_gone { (plan : Ports) (workers : ℕ) (capacities : List ℕ) (s : SwitchState) (w : ℕ) (f : Flight) (due : List Change) → MayBegin plan s.machine w f due → f.new ≡ None → HasRoomFor workers capacities s.objects s.machine due }
-    ensures waits_or_begins { (plan : Ports) (workers : ℕ) (capacities : List ℕ) (s : SwitchState) (w : ℕ) (k : Key) → IsPlan plan → IsSafe plan workers capacities s → IsQuiet s → w < workers → IsIn k s.to_sync → IsOnSwitch k → HasReason plan workers capacities s k ⊎ ((t : SwitchState) × (x : IsBegin plan workers capacities s t) × (x.worker ≡ w) × (x.flight.key ≡ k)) }
+    ensures waits_or_begins { (plan : Ports) (workers : ℕ) (capacities : List ℕ) (s : SwitchState) (w : ℕ) (k : Key) → IsPlan plan → IsSafe plan workers capacities s → IsQuiet s → w < workers → IsIn k s.to_sync → IsOnSwitch k → MustWait plan workers capacities s k ⊎ ((t : SwitchState) × (x : IsBegin plan workers capacities s t) × (x.worker ≡ w) × (x.flight.key ≡ k)) }
 {}
 
 /// An operation that runs alone makes at most 259 calls: it builds a group of 128 hops, sets the route, and retires another such

@@ -30,7 +30,7 @@ use Rattle.chip_layout.proofs.Shapes.{renamed_with}
 use Rattle.plan_laws.specs.Calls.{PlansChange, PlansChanges, PlansSets, Resolves, old_entry, plan_layout, resolve}
 use Rattle.plan_laws.specs.Moments.{IsMoment, MakesChange, MakesChanges, SetsThing, attr_place, layout_after}
 use Rattle.plan_laws.specs.Plans.{PlanChange, Make, Remove, Set, subject}
-use Rattle.plan_laws.specs.Views.{HasRoomFor}
+use Rattle.plan_laws.specs.Views.{HasRoomForPlan}
 use Rattle.plan_laws.proofs.Allowed.{IsSafePlan}
 use Rattle.plan_laws.proofs.Following.{before, due-in, origin, outcome-named}
 use Rattle.plan_laws.proofs.Running.{IsEnd, allowed, end-append, joined, plan-step}
@@ -219,7 +219,7 @@ module _ (start : Layout Rid) (view : Layout Vid) (ids : Vid → Rid) where
         let there = still done due (Set t) cut at r is.0 is.1 is.3 is.4 ok.0.0 ok.0.1 in
         (is.0, is.1, there, is.4, sets_resolved layout r is.0 is.1 t is.2 calls (still-body done due (Set t) cut at r is.0 is.1 is.2 there is.5) ok.1 is.6)
 
-    module _ (capacities : List ℕ) (room : HasRoomFor capacities objects' plan) where
+    module _ (capacities : List ℕ) (room : HasRoomForPlan capacities objects' plan) where
       -- the calls make the changes, and lead to a moment at which what stands has the identifiers that the plan's come to
       pub record IsCalled (done todo : List PlanChange) (made : ℕ) (objects : Objects) (layout : Layout Rid) (calls : List (Call Rid)) : Type 1 where
         pub run : MakesChanges made layout todo calls

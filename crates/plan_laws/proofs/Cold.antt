@@ -18,7 +18,7 @@ use Rattle.plan_laws.specs.Calls.{PlansChanges, resolve, viewed}
 use Rattle.plan_laws.specs.Moments.{IsMoment, MakesChanges}
 use Rattle.plan_laws.specs.Old.{old_layout, old_things}
 use Rattle.plan_laws.specs.Plans.{PlanChange, cold_rank}
-use Rattle.plan_laws.specs.Views.{HaveOwnNames, HasRoomFor, made_names}
+use Rattle.plan_laws.specs.Views.{HaveOwnNames, HasRoomForPlan, made_names}
 use Rattle.plan_laws.proofs.Allowed.{IsSafePlan, cold-safe, ends-new}
 use Rattle.plan_laws.proofs.Calling.{plan-called}
 use Rattle.plan_laws.proofs.Rooms.{makes-lacking}
@@ -46,7 +46,7 @@ module _ {capacities : List ℕ} {made : ℕ} {objects : Objects} {new : List Th
   pub makes-safe : IsSafePlan cold_rank [] new makes
   makes-safe = record { safe = cold-safe; old_named = none_named; new_named = x.view.named; within = x.view.within; lanes = x.lanes; is_plan = x.making }
 
-  pub removes_room : HasRoomFor capacities objects removes
+  pub removes_room : HasRoomForPlan capacities objects removes
   removes_room kind =
       let none = none_long (made_names kind removes) (λ k i. elim ((makes-lacking x.removing kind).each k i).2 [ ]) in
       let has = x.within kind in
@@ -67,7 +67,7 @@ module _ {capacities : List ℕ} {made : ℕ} {objects : Objects} {new : List Th
         all = λ t h. elim h [ ];
       }
 
-  pub half-room : HasRoomFor capacities (after_calls made objects front) makes
+  pub half-room : HasRoomForPlan capacities (after_calls made objects front) makes
   half-room kind =
       let none = used-at-most nothing (after_calls made objects front) halfway.laid kind (made_after_all made front) halfway.whole [] (λ k of. of.2.1) in
       let has = x.room kind in
@@ -77,7 +77,7 @@ module _ {capacities : List ℕ} {made : ℕ} {objects : Objects} {new : List Th
   pub cold-halfway : IsMoment [] [] nothing (made_after_all made front) (after_calls made objects front)
   cold-halfway = halfway x.planned front x.removing
 
-  pub makes-room : HasRoomFor capacities (after_calls made objects front) makes
+  pub makes-room : HasRoomForPlan capacities (after_calls made objects front) makes
   makes-room = half-room x.planned front x.removing
 
   -- and after the second the new things do

@@ -32,7 +32,7 @@ use Rattle.chip_layout.specs.Layout.{Has}
 use Rattle.chip_layout.specs.Seen.{tagged}
 use Rattle.chip_layout.proofs.Answering.{in_those, thing_in, those_in}
 use Rattle.chip_layout.proofs.Seeing.{body-seen, shown}
-use Rattle.plan_laws.specs.Applied.{IsListed, IsView, chip_things}
+use Rattle.plan_laws.specs.Applied.{IsListedChip, IsView, chip_things}
 use Rattle.plan_laws.specs.Bounds.{IsDouble}
 use Rattle.plan_laws.specs.Old.{filler, chip_group, group_stays, chip_groups, hops_or_none, is_double, is_group_of, old_layout, old_things, same_hops, shown_hops, tag_of}
 use Rattle.plan_laws.specs.Views.{AreLacking, FitsHitless}
@@ -50,7 +50,7 @@ is_grouped (entry.Route p, body.Group) g e = absurd cc
 is_grouped (e, body.Port l s m u) g h = absurd cc
 is_grouped (e, _) g h = absurd cc
 
-module _ {made : ℕ} {objects : Objects} (chip : IsListed made objects) (new : List Thing) (view : IsView new) where
+module _ {made : ℕ} {objects : Objects} (chip : IsListedChip made objects) (new : List Thing) (view : IsView new) where
   abbrev tag : Rid → List Hop
   tag = tag_of objects new
 

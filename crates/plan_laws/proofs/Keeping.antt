@@ -24,7 +24,7 @@ use Rattle.plan_laws.specs.Calls.{Resolves}
 use Rattle.plan_laws.specs.Moments.{IsMoment, MakesChange, MakesChanges, SetsThing, attr_place, layout_after}
 use Rattle.plan_laws.specs.Old.{old_layout, tag_of}
 use Rattle.plan_laws.specs.Plans.{PlanChange, Make, Remove, Set, subject}
-use Rattle.plan_laws.specs.Views.{HasRoomFor}
+use Rattle.plan_laws.specs.Views.{HasRoomForPlan}
 use Rattle.plan_laws.proofs.Allowed.{IsSafePlan}
 use Rattle.plan_laws.proofs.Applied.{plan-safe}
 use Rattle.plan_laws.proofs.Calling.{none-before, resolves-first, resolves-next, still, still-body}
@@ -49,7 +49,7 @@ sets_only e i place (c ∷ cs) layout u t is (inr h) = sets_only e i (attr_place
 entries : (e f : Entry Rid) → call.Remove e ≡ call.Remove f → e ≡ f
 entries e f h = cc
 
-module _ {order : PlanChange → ℕ} {old new : List Thing} {plan : List PlanChange} (p : IsSafePlan order old new plan) {start : Layout Rid} {made' : ℕ} {objects' : Objects} (first : IsMoment old [] start made' objects') (capacities : List ℕ) (room : HasRoomFor capacities objects' plan) where
+module _ {order : PlanChange → ℕ} {old new : List Thing} {plan : List PlanChange} (p : IsSafePlan order old new plan) {start : Layout Rid} {made' : ℕ} {objects' : Objects} (first : IsMoment old [] start made' objects') (capacities : List ℕ) (room : HasRoomForPlan capacities objects' plan) where
   -- an old object, by its entry at the start, whose name no new thing has
   pub record IsOld (e : Entry Rid) : Type 0 where
     pub id : Rid

@@ -16,7 +16,7 @@ use Rattle.chip_layout.specs.Layout.{HasRoom, Layout}
 use Rattle.chip_layout.proofs.Counting.{counted, used-at-most}
 use Rattle.plan_laws.specs.Moments.{IsMoment}
 use Rattle.plan_laws.specs.Plans.{AreRanked, PlanChange, IsViewPlan, Make, Remove, Set, outcome, subject}
-use Rattle.plan_laws.specs.Views.{AreLacking, FitsHitless, HasRoomFor, made_name, made_names}
+use Rattle.plan_laws.specs.Views.{AreLacking, FitsHitless, HasRoomForPlan, made_name, made_names}
 use Rattle.plan_laws.proofs.Following.{done-in, ranked-left, origin}
 use Rattle.plan_laws.proofs.Lists.{in-left, in-right}
 use Rattle.plan_laws.proofs.Picked.{in-picked, picked-distinct, picked-in, picked-length}
@@ -63,7 +63,7 @@ module _ {order : PlanChange → ℕ} {old new : List Thing} {plan : List PlanCh
           | inr o ↦ of_change o.0 of.2.0 k o.1 o.2 of.2.2 of.0
         ]
 
-  pub room-for : (capacities : List ℕ) → HasRoomFor capacities objects' plan → HasRoom capacities objects t
+  pub room-for : (capacities : List ℕ) → HasRoomForPlan capacities objects' plan → HasRoom capacities objects t
   room-for capacities room =
       let these = counted start objects' first.laid its_kind made' first.whole in
       let bound = used-at-most layout objects at.laid its_kind made at.whole (these.0 ++ made_names its_kind done) (among these.0 these.1.all) in
@@ -91,5 +91,5 @@ module _ {order : PlanChange → ℕ} {old new : List Thing} {plan : List PlanCh
   pub makes-lacking : (kind : Kind) → AreLacking old new kind (made_names kind plan)
   makes-lacking = made-lacking plan [] (sym (append-nil plan))
 
-  pub fits-room : (capacities : List ℕ) (objects : Objects) → FitsHitless capacities objects old new → HasRoomFor capacities objects plan
+  pub fits-room : (capacities : List ℕ) (objects : Objects) → FitsHitless capacities objects old new → HasRoomForPlan capacities objects plan
   fits-room capacities objects fits kind = fits kind (made_names kind plan) (makes-lacking kind)

@@ -16,7 +16,7 @@ use Rattle.sai_types.specs.Names as name
 use Rattle.sai_types.specs.Names.{Name, name_of}
 use Rattle.sai_types.specs.Objects.{Objects}
 use Rattle.chip_layout.specs.Layout.{Layout}
-use Rattle.plan_laws.specs.Applied.{AppliesCold, IsListed, chip_things}
+use Rattle.plan_laws.specs.Applied.{AppliesCold, IsListedChip, chip_things}
 use Rattle.plan_laws.specs.Old.{old_things}
 use Rattle.plan_laws.specs.Plans.{IsViewPlan, Make, PlanChange, Remove, Set, cold_rank, outcome, stands_after_all}
 use Rattle.plan_laws.specs.Steady.{IsForwarding}
@@ -33,7 +33,7 @@ use Rattle.plan_laws.proofs.Targets.{is-group, is-member}
 
 -- ---- while all is removed
 
-module _ {made : ℕ} {objects : Objects} (chip : IsListed made objects) (new : List Thing) {removes : List PlanChange} (is_plan : IsViewPlan cold_rank (old_things objects new) [] removes) where
+module _ {made : ℕ} {objects : Objects} (chip : IsListedChip made objects) (new : List Thing) {removes : List PlanChange} (is_plan : IsViewPlan cold_rank (old_things objects new) [] removes) where
   abbrev old : List Thing
   old = old_things objects new
 

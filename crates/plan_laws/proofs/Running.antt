@@ -14,7 +14,7 @@ use Rattle.chip_layout.specs.Layout.{Has, IsUnused, Layout, next_id, with_change
 use Rattle.chip_layout.proofs.Naming.{alike-laid}
 use Rattle.plan_laws.specs.Moments.{IsMoment, MakesChange, MakesChanges, SetsThing, layout_after}
 use Rattle.plan_laws.specs.Plans.{PlanChange, Make, Remove, Set, stands_after_all}
-use Rattle.plan_laws.specs.Views.{HasRoomFor, HaveWholeGroups}
+use Rattle.plan_laws.specs.Views.{HasRoomForPlan, HaveWholeGroups}
 use Rattle.plan_laws.proofs.Allowed.{IsSafePlan, ends-new, make-free, make-refers, new-ends, remove-there, remove-unused, set-refers, set-there}
 use Rattle.plan_laws.proofs.Following.{HasNamed}
 use Rattle.plan_laws.proofs.Lists.{cuts}
@@ -85,7 +85,7 @@ module _ {order : PlanChange → ℕ} {old new : List Thing} {plan : List PlanCh
     allowed (Set t) cut = (has_named (name_of t) (set-there p t done due cut), λ k r. has_named k (set-refers p t done due cut k r))
     allowed (Remove k) cut = (has_named k (remove-there p k done due cut), λ i u h r. remove-unused p k done due cut u (at.sound i u h) r)
 
-  module _ {start : Layout Rid} {made' : ℕ} {objects' : Objects} (first : IsMoment old [] start made' objects') (capacities : List ℕ) (room : HasRoomFor capacities objects' plan) where
+  module _ {start : Layout Rid} {made' : ℕ} {objects' : Objects} (first : IsMoment old [] start made' objects') (capacities : List ℕ) (room : HasRoomForPlan capacities objects' plan) where
     -- the calls of the next change are legal, and then it is done
     pub plan-step : (done due : List PlanChange) {layout : Layout Rid} {made : ℕ} {objects : Objects} (at : IsMoment old done layout made objects) (c : PlanChange) → plan ≡ done ++ (c ∷ due) → (calls : List (Call Rid)) → MakesChange layout c calls → IsChangeMade at capacities c calls (layout_after made layout c)
     plan-step done due {layout} {made} at (Make t) cut calls is =

@@ -33,7 +33,7 @@ use Rattle.chip_layout.proofs.Answering.{in_those, those_in}
 use Rattle.chip_layout.proofs.Bodies.{entry-same}
 use Rattle.chip_layout.proofs.Naming.{IsAmong, among}
 use Rattle.chip_layout.proofs.Seeing.{body-seen, seen-laid}
-use Rattle.plan_laws.specs.Applied.{IsListed}
+use Rattle.plan_laws.specs.Applied.{IsListedChip}
 use Rattle.plan_laws.specs.Moments.{IsMoment}
 use Rattle.plan_laws.specs.Old.{group_stays, chip_groups, hops_or_none, old_layout, old_things, seen_things, shown_hops, tag_of}
 use Rattle.plan_laws.specs.Views.{HaveOwnNames}
@@ -95,7 +95,7 @@ module _ (tag : Rid → List Hop) (objects : Objects) (made : ℕ) (whole : IsWh
 
 -- ---- the moment before the plan
 
-module _ {made : ℕ} {objects : Objects} (chip : IsListed made objects) (new : List Thing) where
+module _ {made : ℕ} {objects : Objects} (chip : IsListedChip made objects) (new : List Thing) where
   abbrev old : List Thing
   old = old_things objects new
 

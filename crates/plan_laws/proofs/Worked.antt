@@ -32,7 +32,7 @@ use Rattle.chip_layout.specs.Seen.{no_id}
 use Rattle.plan_laws.specs.Applied.{AppliesHitless, chip_things}
 use Rattle.plan_laws.specs.Old.{filler, group_stays}
 use Rattle.plan_laws.specs.Plans.{Make, PlanChange, Remove, Set, hitless_rank}
-use Rattle.plan_laws.specs.Views.{HasRoomFor}
+use Rattle.plan_laws.specs.Views.{HasRoomForPlan}
 
 abbrev id : ℕ → Rid
 id n = record { 0 = n }
@@ -160,7 +160,7 @@ same_prefix p g e = cc
 proper_wide : IsProperPrefix wide
 proper_wide = search rules
 
-small_room : HasRoomFor roomy [] (Make route ∷ [])
+small_room : HasRoomForPlan roomy [] (Make route ∷ [])
 small_room kind.Route = omega arith
 small_room kind.Port = omega arith
 small_room _ = omega arith

@@ -13,14 +13,14 @@ use Rattle.chip_layout.specs.Layout.{Layout}
 use Rattle.plan_laws.specs.Moments.{MakesChanges}
 use Rattle.plan_laws.specs.Old.{old_layout, old_things}
 use Rattle.plan_laws.specs.Plans.{PlanChange, IsViewPlan, cold_rank, hitless_rank}
-use Rattle.plan_laws.specs.Views.{HaveOwnNames, HasRoomFor, HaveWholeGroups, LanesApart, ReferWithin, made_names}
+use Rattle.plan_laws.specs.Views.{HaveOwnNames, HasRoomForPlan, HaveWholeGroups, LanesApart, ReferWithin, made_names}
 
 -- what stands on a chip
 abbrev pub chip_things : Objects → List Thing
 chip_things objects = those (named objects)
 
 -- a chip that legal calls made, where ports have lanes and prefixes are proper
-pub record IsListed (made : ℕ) (objects : Objects) : Type 0 where
+pub record IsListedChip (made : ℕ) (objects : Objects) : Type 0 where
   pub whole : IsWhole made objects
   pub lanes : HaveLanes objects
   pub prefixes : HavePrefixes objects
@@ -33,15 +33,15 @@ pub record IsView (new : List Thing) : Type 0 where
 
 -- a hitless plan from a chip to a view
 pub record IsHitlessPlan (capacities : List ℕ) (made : ℕ) (objects : Objects) (new : List Thing) (plan : List PlanChange) : Type 0 where
-  pub chip : IsListed made objects
+  pub chip : IsListedChip made objects
   pub view : IsView new
   pub lanes : LanesApart (old_things objects new) new
   pub is_plan : IsViewPlan hitless_rank (old_things objects new) new plan
-  pub room : HasRoomFor capacities objects plan
+  pub room : HasRoomForPlan capacities objects plan
 
 -- a cold plan from a chip to a view: all is removed, and then all is made
 pub record IsColdPlan (capacities : List ℕ) (made : ℕ) (objects : Objects) (new : List Thing) (removes makes : List PlanChange) : Type 0 where
-  pub chip : IsListed made objects
+  pub chip : IsListedChip made objects
   pub view : IsView new
   pub lanes : LanesApart [] new
   pub removing : IsViewPlan cold_rank (old_things objects new) [] removes

@@ -47,8 +47,8 @@ abbrev pub made_names : Kind → List PlanChange → List Name
 made_names kind cs = those (map (made_name kind) cs)
 
 -- there is room for the old objects of each kind and all that the plan makes
-abbrev pub HasRoomFor : List ℕ → Objects → List PlanChange → Type 0
-HasRoomFor capacities objects plan = (kind : Kind) → used objects kind + length (made_names kind plan) ≤ capacity_of capacities kind
+abbrev pub HasRoomForPlan : List ℕ → Objects → List PlanChange → Type 0
+HasRoomForPlan capacities objects plan = (kind : Kind) → used objects kind + length (made_names kind plan) ≤ capacity_of capacities kind
 
 -- names of new things of a kind that no old thing has, each once
 pub record AreLacking (old new : List Thing) (kind : Kind) (names : List Name) : Type 0 where

@@ -14,13 +14,13 @@ ghost use Rattle.sai_types.specs.Made.{AreLegal, made_after_all};
 ghost use Rattle.sai_types.specs.Names.{Name, name_of};
 ghost use Rattle.sai_types.specs.Objects.{Objects};
 ghost use Rattle.chip_layout.specs.Renamed.{call_renamed};
-ghost use Rattle.plan_laws.specs.Applied.{AppliesCold, AppliesHitless, IsColdPlan, IsHitlessPlan, IsListed, IsView, chip_things, nothing};
+ghost use Rattle.plan_laws.specs.Applied.{AppliesCold, AppliesHitless, IsColdPlan, IsHitlessPlan, IsListedChip, IsView, chip_things, nothing};
 ghost use Rattle.plan_laws.specs.Bounds.{IsUnwanted, makes_kind};
 ghost use Rattle.plan_laws.specs.Calls.{PlansChanges, resolve, viewed};
 ghost use Rattle.plan_laws.specs.Old.{old_layout, old_things};
 ghost use Rattle.plan_laws.specs.Plans.{IsViewPlan, PlanChange, hitless_rank};
 ghost use Rattle.plan_laws.specs.Steady.{ForwardsAfter, IsForwarding, IsHitless, IsOldOrNew, StaysNew};
-ghost use Rattle.plan_laws.specs.Views.{AreLacking, HaveOwnNames, FitsHitless, HasRoomFor};
+ghost use Rattle.plan_laws.specs.Views.{AreLacking, HaveOwnNames, FitsHitless, HasRoomForPlan};
 
 /// After each change of a hitless plan each address is decided as by the old things or as by the new ones, and once as
 /// by the new ones always so. What both forward equally is forwarded so, with the same Ethernet addresses.
@@ -57,7 +57,7 @@ pub fn named_calls_apply()
 /// Where of each kind the objects and the view's names that the chip does not show number at most the capacity, there is
 /// room for all that a hitless plan makes.
 pub fn fitting_has_room()
-    ensures { (capacities : List ℕ) (made : ℕ) (objects : Objects) (new : List Thing) (plan : List PlanChange) → IsListed made objects → IsView new → IsViewPlan hitless_rank (old_things objects new) new plan → FitsHitless capacities objects (chip_things objects) new → HasRoomFor capacities objects plan }
+    ensures { (capacities : List ℕ) (made : ℕ) (objects : Objects) (new : List Thing) (plan : List PlanChange) → IsListedChip made objects → IsView new → IsViewPlan hitless_rank (old_things objects new) new plan → FitsHitless capacities objects (chip_things objects) new → HasRoomForPlan capacities objects plan }
 {}
 
 /// Of each kind a hitless plan makes at most as many objects as the view has names that the chip does not show, and it

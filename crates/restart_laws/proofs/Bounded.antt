@@ -21,7 +21,7 @@ use Rattle.warm_state.specs.declared.warm.Warm.{Warm}
 use Rattle.warm_state.specs.declared.warm.Warm.TheVariants.{Initialized, Restored, Applying, Reconciled, Suspect}
 use Rattle.restart_laws.specs.Bounded.{effects_outside, keys_begun, listed_at_applies, outside_from, unless_begun}
 use Rattle.restart_laws.specs.Invariant.{Holds}
-use Rattle.restart_laws.specs.Logged.{AddsFault, AddsMark, AreLoggedSteps, IsLeftIn, IsLoggedStep, IsWarmAfter, LoggedService, OfMachine, OfService, Records, last_mark, mark_at, new_session, session_after, switch_of}
+use Rattle.restart_laws.specs.Logged.{AddsFault, AddsMark, AreLoggedSteps, IsLeftIn, IsLoggedStep, IsWarmAfter, LoggedService, OfMachine, OfService, Records, last_mark, mark_now, new_session, session_after, switch_of}
 use Rattle.restart_laws.specs.Restored.{keys_waiting, waiting_of}
 use Rattle.restart_laws.specs.Service.{CallFails, IsDue, IsServiceEvent, OfApply, OfFault, OfFinish, OfFlight, OfList, OfListFault, OfPlan, OfRestart, OfRestore, OfTake, OfWork, Restores, Service, forgotten}
 use Rattle.restart_laws.proofs.Holding.{in_state}
@@ -211,26 +211,26 @@ module _ (plan : Ports) (is : IsPlan plan) (workers : ℕ) (capacities : List �
   applied_outside s to told at = outside_none None s.log.marks (length s.effects) to (none_last (last_mark None s.log.marks) (length s.effects) to (subst (IsWarmAfter (last_mark None s.log.marks)) at told.warm))
 
   -- a mark behind all effects
-  marked_outside : (s t : LoggedService) (e : MarkEvent) → t.log.marks ≡ s.log.marks ++ mark_at s.log t.effects e ∷ [] → outside t ≡ effects_outside None s.log.marks (length t.effects)
-  marked_outside s t e marks = ap (λ z. effects_outside None z (length t.effects)) marks ∙ outside_mark None s.log.marks (mark_at s.log t.effects e)
+  marked_outside : (s t : LoggedService) (e : MarkEvent) → t.log.marks ≡ s.log.marks ++ mark_now s.log t.effects e ∷ [] → outside t ≡ effects_outside None s.log.marks (length t.effects)
+  marked_outside s t e marks = ap (λ z. effects_outside None z (length t.effects)) marks ∙ outside_mark None s.log.marks (mark_now s.log t.effects e)
 
-  marked_listed : (s t : LoggedService) (e : MarkEvent) → t.log.marks ≡ s.log.marks ++ mark_at s.log t.effects e ∷ [] → listed t ≡ listed s + keys_begun e
-  marked_listed s t e marks = ap listed_at_applies marks ∙ listed_mark s.log.marks (mark_at s.log t.effects e)
+  marked_listed : (s t : LoggedService) (e : MarkEvent) → t.log.marks ≡ s.log.marks ++ mark_now s.log t.effects e ∷ [] → listed t ≡ listed s + keys_begun e
+  marked_listed s t e marks = ap listed_at_applies marks ∙ listed_mark s.log.marks (mark_now s.log t.effects e)
 
-  adds_marks : (s t : LoggedService) (e : MarkEvent) → AddsMark s t e → t.log.marks ≡ s.log.marks ++ mark_at s.log t.effects e ∷ []
+  adds_marks : (s t : LoggedService) (e : MarkEvent) → AddsMark s t e → t.log.marks ≡ s.log.marks ++ mark_now s.log t.effects e ∷ []
   adds_marks s t e x = ap (λ (z : History). z.marks) x
 
   -- a mark alone, which lists no key where an apply begins
-  marked_bounded : (s t : LoggedService) (w : Warm) (e : MarkEvent) → t.effects ≡ s.effects ++ [] → t.log.marks ≡ s.log.marks ++ mark_at s.log t.effects e ∷ [] → t.service.warm ≡ w → PaidIn w t.service.core (outside s) (listed s + keys_begun e) → IsBounded t
+  marked_bounded : (s t : LoggedService) (w : Warm) (e : MarkEvent) → t.effects ≡ s.effects ++ [] → t.log.marks ≡ s.log.marks ++ mark_now s.log t.effects e ∷ [] → t.service.warm ≡ w → PaidIn w t.service.core (outside s) (listed s + keys_begun e) → IsBounded t
   marked_bounded s t w e effects marks at x = to_in t w (outside s) (listed s + keys_begun e) at (marked_outside s t e marks ∙ ap (effects_outside None s.log.marks) (ap length (effects ∙ append-nil s.effects))) (marked_listed s t e marks) x
 
   -- a call that failed
-  failed_bounded : (s t : LoggedService) (c : Option (Call Rid)) (before after calls : ℕ) → t.log.marks ≡ s.log.marks ++ mark_at s.log t.effects (event.Faulted before after) ∷ [] → t.service.warm ≡ Suspect → effects_outside None s.log.marks (length t.effects) ≡ calls → IsOwed t.service.core.written calls (listed s) → IsBounded t
+  failed_bounded : (s t : LoggedService) (c : Option (Call Rid)) (before after calls : ℕ) → t.log.marks ≡ s.log.marks ++ mark_now s.log t.effects (event.Faulted before after) ∷ [] → t.service.warm ≡ Suspect → effects_outside None s.log.marks (length t.effects) ≡ calls → IsOwed t.service.core.written calls (listed s) → IsBounded t
   failed_bounded s t c before after calls marks at number x =
       let keys = marked_listed s t (event.Faulted before after) marks in
       to_in t Suspect calls (listed s) at (marked_outside s t (event.Faulted before after) marks ∙ number) (omega (arith, keys)) x
 
-  fault_marks : (s t : LoggedService) → AddsFault s t → (before : ℕ) × (after : ℕ) × (t.log.marks ≡ s.log.marks ++ mark_at s.log t.effects (event.Faulted before after) ∷ [])
+  fault_marks : (s t : LoggedService) → AddsFault s t → (before : ℕ) × (after : ℕ) × (t.log.marks ≡ s.log.marks ++ mark_now s.log t.effects (event.Faulted before after) ∷ [])
   fault_marks s t (before, after, less, inl x) = (before, after, ap (λ (z : History). z.marks) x)
   fault_marks s t (before, after, less, inr x) = (before, after, ap (λ (z : History). z.marks) x)
 
@@ -291,7 +291,7 @@ module _ (plan : Ports) (is : IsPlan plan) (workers : ℕ) (capacities : List �
       (paid-event plan workers capacities s.service.core t.service.core x.call (outside s) (listed s) (in_state plan is workers capacities s.service Reconciled told.holds before) (as_in s Reconciled before b) x.event)
   bounded_machine s t told b before after (inr (inr x)) =
       let e = event.Settled x.waits x.turns in
-      let marks : t.log.marks ≡ s.log.marks ++ mark_at s.log t.effects e ∷ [] = ap (λ (z : History). z.marks) x.log ∙ ap (λ z. s.log.marks ++ mark_at s.log z e ∷ []) (sym x.effects) in
+      let marks : t.log.marks ≡ s.log.marks ++ mark_now s.log t.effects e ∷ [] = ap (λ (z : History). z.marks) x.log ∙ ap (λ z. s.log.marks ++ mark_now s.log z e ∷ []) (sym x.effects) in
       marked_bounded s t Reconciled e (x.effects ∙ sym (append-nil s.effects)) marks after
       (more_zero Reconciled t.service.core (outside s) (listed s) (core_paid Reconciled s.service.core t.service.core (outside s) (listed s) x.switch (as_in s Reconciled before b)))
 

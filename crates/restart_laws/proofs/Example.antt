@@ -3,6 +3,7 @@ use Rattle.std.proofs.Common.{◌≡◌, ◌∷◌, inl, ℕ, List, [], length, 
 use Rattle.table_schema.specs.Plan.{Ports}
 use Rattle.std.specs.List.Sorted.{IsStrictlySortedBy}
 use Rattle.sai_types.specs.declared.kind.Kind.{Kind}
+use Rattle.table_schema.specs.declared.key.Key.TheVariants as key
 use Rattle.chip_layout.specs.Layout.{listed}
 use Rattle.sai_types.specs.Names.{Name}
 use Rattle.sai_types.specs.declared.plan.Mode.TheVariants as mode
@@ -10,7 +11,13 @@ use Rattle.restart_laws.specs.Planned.{PlansHitless}
 use Rattle.chip_layout.proofs.Shapes.{laid-none}
 use Rattle.switch_machine.specs.Events.{empty_switch}
 use Rattle.plan_laws.specs.Views.{AreLacking}
+use Rattle.switch_model.specs.Marks.{Waiting}
+use Rattle.switch_model.specs.declared.mark.Mark.{Mark}
+use Rattle.switch_model.specs.declared.mark.MarkEvent.{MarkEvent}
+use Rattle.switch_model.specs.declared.mark.MarkEvent.TheVariants as event
+use Rattle.switch_model.specs.declared.wait.Wait.TheVariants as wait
 use Rattle.warm_state.specs.declared.warm.Warm.TheVariants.{Applying, Initialized, Reconciled, Restored}
+use Rattle.restart_laws.specs.Bounded.{effects_outside, listed_at_applies}
 use Rattle.restart_laws.specs.Service.{AreServiceEvents, OfFinish, OfList, OfRestart, OfRestore, Service, new_service}
 use Rattle.restart_laws.specs.Restored.{IsRestored}
 
@@ -66,3 +73,24 @@ restarted plan workers capacities = (
     ),
   ),
 )
+
+-- ---- counting by marks: five effects, a restart, an apply of four that lists two keys, and three effects more
+
+abbrev two_waits : Waiting
+two_waits = (key.Vlan 5, wait.Missing (key.Vlan 6), None) ∷ (key.Vlan 7, wait.Missing (key.Vlan 6), None) ∷ []
+
+abbrev mark_of : ℕ → MarkEvent → Mark
+mark_of n e = record { taken = 0; effects = n; event = e }
+
+abbrev some_marks : List Mark
+some_marks = mark_of 5 (event.Settled [] 1) ∷ mark_of 5 event.Restarted ∷ mark_of 5 (event.ApplyBegan mode.Hitless two_waits) ∷ mark_of 9 event.ApplyEnded ∷ []
+
+eight_outside : effects_outside None some_marks 12 ≡ 8
+eight_outside = refl
+
+two_listed : listed_at_applies some_marks ≡ 2
+two_listed = refl
+
+-- an apply that goes on makes no effect outside
+none_more : effects_outside None (mark_of 5 (event.ApplyBegan mode.Hitless []) ∷ []) 9 ≡ 5
+none_more = refl

@@ -25,9 +25,11 @@ use Rattle.switch_model.specs.declared.mark.MarkEvent.TheVariants as event
 use Rattle.switch_machine.specs.Events.{with_made_call}
 use Rattle.machine_laws.specs.Logged.{IsLoggedEvent}
 use Rattle.machine_laws.proofs.Staying.{chip_after-front, good-front}
+use Rattle.plan_laws.specs.Bounds.{IsUnwanted}
+use Rattle.plan_laws.specs.Views.{AreLacking}
 use Rattle.warm_state.specs.declared.warm.Warm.TheVariants.{Applying, Reconciled}
 use Rattle.restart_laws.specs.Applied.{AreFollowed, IsFollowed, IsSteadyApply}
-use Rattle.restart_laws.specs.Logged.{AddsFault, AreLoggedSteps, IsLeftIn, IsLoggedStep, IsWarmAfter, LoggedService, OfMachine, OfService, Records, last_mark, mark_at, new_session, session_after, switch_of}
+use Rattle.restart_laws.specs.Logged.{AddsFault, AreLoggedSteps, IsLeftIn, IsLoggedStep, IsWarmAfter, LoggedService, OfMachine, OfService, Records, last_mark, mark_now, new_session, session_after, switch_of}
 use Rattle.restart_laws.specs.Restored.{waiting_of}
 use Rattle.restart_laws.specs.Service.{CallFails, IsDue, IsServiceEvent, OfApply, OfFault, OfFinish, OfFlight, OfList, OfListFault, OfPlan, OfRestart, OfRestore, OfTake, OfWork}
 use Rattle.restart_laws.proofs.Ended.{apart}
@@ -65,6 +67,14 @@ module _ (plan : Ports) (is : IsPlan plan) (workers : ℕ) (capacities : List �
         back = x.back;
         apart = x.apart;
         steady = λ e. subst (λ o. IsSteady (view_at o) x.view (es ++ fs) from to) (sym same) (steady_more (things_after es from) x.view es fs from to most (x.steady e));
+        front = x.front;
+        during = x.during;
+        behind = x.behind ++ fs;
+        parts = ap (λ z. z ++ fs) x.parts ∙ append_assoc x.front (x.during ++ x.behind) fs ∙ ap (λ z. x.front ++ z) (append_assoc x.during x.behind fs);
+        at = x.at;
+        long = x.long;
+        made = λ e kind. let y = x.made e kind in (y.0, subst (λ o. AreLacking (view_at o) x.view kind y.0) (sym same) y.1, y.2);
+        kept = λ e entry i. subst (λ o. IsUnwanted o x.view entry) (sym same) (x.kept e entry i);
         names = x.names;
         distinct = x.distinct;
         of = x.of;
@@ -226,21 +236,21 @@ module _ (plan : Ports) (is : IsPlan plan) (workers : ℕ) (capacities : List �
       taken_last n o (k ∷ ms) first within m e = taken_last n (Some k) ms (λ j h. subst (λ z. z ≤ length s.log.taken) (ap (λ (z : Mark). z.taken) (last_of k j h)) within.0) within.3 m e
 
   -- one is added
-  marked : (s t : LoggedService) (e : MarkEvent) → Told t → (t.service.warm ≡ Applying → Under t) → t.log.taken ≡ s.log.taken → t.log.marks ≡ s.log.marks ++ mark_at s.log t.effects e ∷ [] → Carries s t.effects → IsFollowed plan capacities t.log.taken t.effects (mark_at s.log t.effects e) e (length t.effects) → IsFollowing t
+  marked : (s t : LoggedService) (e : MarkEvent) → Told t → (t.service.warm ≡ Applying → Under t) → t.log.taken ≡ s.log.taken → t.log.marks ≡ s.log.marks ++ mark_now s.log t.effects e ∷ [] → Carries s t.effects → IsFollowed plan capacities t.log.taken t.effects (mark_now s.log t.effects e) e (length t.effects) → IsFollowing t
   marked s t e told under taken marks c now = record {
     told = told;
     under = under;
-    closed = subst (λ z. AreClosed z t.effects t.log.marks) (sym taken) (subst (AreClosed s.log.taken t.effects) (sym marks) (closed_mark s.log.taken t.effects s.log.marks (mark_at s.log t.effects e) c.closed c.last));
-    last = λ m h. subst (λ (z : Mark). IsFollowed plan capacities t.log.taken t.effects z z.event (length t.effects)) (last_of (mark_at s.log t.effects e) m (sym (ap (last_mark None) marks ∙ last-more None s.log.marks (mark_at s.log t.effects e)) ∙ h)) now;
+    closed = subst (λ z. AreClosed z t.effects t.log.marks) (sym taken) (subst (AreClosed s.log.taken t.effects) (sym marks) (closed_mark s.log.taken t.effects s.log.marks (mark_now s.log t.effects e) c.closed c.last));
+    last = λ m h. subst (λ (z : Mark). IsFollowed plan capacities t.log.taken t.effects z z.event (length t.effects)) (last_of (mark_now s.log t.effects e) m (sym (ap (last_mark None) marks ∙ last-more None s.log.marks (mark_now s.log t.effects e)) ∙ h)) now;
   }
 
-  fault_log : (s t : LoggedService) → AddsFault s t → (a : ℕ) × (b : ℕ) × (t.log.taken ≡ s.log.taken) × (t.log.marks ≡ s.log.marks ++ mark_at s.log t.effects (event.Faulted a b) ∷ [])
+  fault_log : (s t : LoggedService) → AddsFault s t → (a : ℕ) × (b : ℕ) × (t.log.taken ≡ s.log.taken) × (t.log.marks ≡ s.log.marks ++ mark_now s.log t.effects (event.Faulted a b) ∷ [])
   fault_log s t (a, b, less, inl x) = (a, b, ap (λ (z : History). z.taken) x, ap (λ (z : History). z.marks) x)
   fault_log s t (a, b, less, inr x) = (a, b, ap (λ (z : History). z.taken) x, ap (λ (z : History). z.marks) x)
 
   module _ (s t : LoggedService) (x : IsFollowing s) (told : Told t) (under : t.service.warm ≡ Applying → Under t) where
-    begun_now : (e : MarkEvent) → t.service.warm ≡ Applying → t.log.marks ≡ s.log.marks ++ mark_at s.log t.effects e ∷ [] → IsFollowed plan capacities t.log.taken t.effects (mark_at s.log t.effects e) e (length t.effects)
-    begun_now e at marks = apply_last t (under at) (mark_at s.log t.effects e) (ap (last_mark None) marks ∙ last-more None s.log.marks (mark_at s.log t.effects e))
+    begun_now : (e : MarkEvent) → t.service.warm ≡ Applying → t.log.marks ≡ s.log.marks ++ mark_now s.log t.effects e ∷ [] → IsFollowed plan capacities t.log.taken t.effects (mark_now s.log t.effects e) e (length t.effects)
+    begun_now e at marks = apply_last t (under at) (mark_now s.log t.effects e) (ap (last_mark None) marks ∙ last-more None s.log.marks (mark_now s.log t.effects e))
 
     following_service : (c : Option (Call Rid)) (e : IsServiceEvent plan workers capacities s.service c t.service) → t.effects ≡ s.effects ++ with_made_call c [] → Records s t e → IsFollowing t
     following_service _ (OfTake _ y) effects (sent, same, log) = written s t sent told under (ap (λ (z : History). z.taken) log) (ap (λ (z : History). z.marks) log) x (effects ∙ append-nil s.effects)
@@ -258,7 +268,7 @@ module _ (plan : Ports) (is : IsPlan plan) (workers : ℕ) (capacities : List �
     following_machine at (inr (inl y)) = unmarked s t told under (ap (λ (z : History). z.taken) y.log) (ap (λ (z : History). z.marks) y.log) (worked_carries s y.call t.effects y.effects x at)
     following_machine at (inr (inr y)) =
         marked s t (event.Settled y.waits y.turns) told under (ap (λ (z : History). z.taken) y.log)
-        (ap (λ (z : History). z.marks) y.log ∙ ap (λ z. s.log.marks ++ mark_at s.log z (event.Settled y.waits y.turns) ∷ []) (sym y.effects))
+        (ap (λ (z : History). z.marks) y.log ∙ ap (λ z. s.log.marks ++ mark_now s.log z (event.Settled y.waits y.turns) ∷ []) (sym y.effects))
         (same_carries s t.effects (y.effects ∙ sym (append-nil s.effects)) x) tt
 
   following_step : (s t : LoggedService) → IsFollowing s → IsLoggedStep plan workers capacities s t → IsFollowing t

@@ -23,7 +23,7 @@ use Rattle.chip_layout.proofs.Seeing.{body-seen}
 use Rattle.chip_layout.proofs.Shapes.{laid-same}
 use Rattle.switch_model.proofs.Planned.{has-first, lanes-planned, one-planned}
 use Rattle.switch_machine.proofs.Calling.{lanes_name}
-use Rattle.plan_laws.specs.Applied.{AppliesCold, AppliesHitless, IsListed, IsHitlessPlan, IsView, nothing}
+use Rattle.plan_laws.specs.Applied.{AppliesCold, AppliesHitless, IsListedChip, IsHitlessPlan, IsView, nothing}
 use Rattle.plan_laws.specs.Moments.{attr_place, MakesChange, MakesChanges, SetsThing, layout_after}
 use Rattle.plan_laws.specs.Old.{old_layout, old_things, tag_of}
 use Rattle.plan_laws.specs.Plans.{PlanChange, Make, Set, Remove}
@@ -122,7 +122,7 @@ module _ (plan : Ports) (is : IsPlan plan) {capacities : List ℕ} {made : ℕ} 
   prefix_by body.Group h = tt
   prefix_by (body.GroupMember v w) h = tt
 
-  pub chip-listed : IsListed made objects
+  pub chip-listed : IsListedChip made objects
   chip-listed = record {
     whole = chip.whole;
     lanes = record { each = λ e b h. lane_by b (chip.planned e b h) };

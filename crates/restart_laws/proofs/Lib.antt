@@ -21,4 +21,5 @@ pub mod Underway
 pub mod Routes
 pub mod Steadied
 pub mod Followed
+pub mod BrokenOff
 pub mod Example

@@ -26,13 +26,13 @@ use Rattle.switch_machine.specs.Events.{IsSafe, SwitchState, with_made_call}
 use Rattle.switch_machine.specs.Flights.{Machine}
 use Rattle.switch_machine.specs.Written.{Written}
 use Rattle.machine_laws.specs.Logged.{IsLoggedEvent}
-use Rattle.machine_laws.specs.Order.{EndsRound, IsOrdered, IsSettledMark, MayFollow}
+use Rattle.machine_laws.specs.Order.{MayEndRound, IsOrdered, IsSettledMark, MayFollow}
 use Rattle.machine_laws.proofs.Staying.{after_calls-grown, chip_after-all, good-front, legal-grown, made-one, map-more, marks-grown, marks-taken, within-mark, within-more}
 use Rattle.machine_laws.proofs.Telling.{Told, told_event}
 use Rattle.warm_state.specs.declared.warm.Warm.{Warm}
 use Rattle.warm_state.specs.declared.warm.Warm.TheVariants.{Initialized, Restored, Applying, Reconciled, Suspect}
 use Rattle.restart_laws.specs.Invariant.{Holds, HoldsAlways}
-use Rattle.restart_laws.specs.Logged.{AddsFault, AddsMark, AreLoggedSteps, IsLeftIn, IsLoggedStep, IsWarmAfter, LoggedService, OfMachine, OfService, Records, last_mark, mark_at, new_session, session_after, switch_of}
+use Rattle.restart_laws.specs.Logged.{AddsFault, AddsMark, AreLoggedSteps, IsLeftIn, IsLoggedStep, IsWarmAfter, LoggedService, OfMachine, OfService, Records, last_mark, mark_now, new_session, session_after, switch_of}
 use Rattle.restart_laws.specs.Restored.{waiting_of}
 use Rattle.restart_laws.specs.Service.{HasFailed, IsDue, IsServiceEvent, OfApply, OfFault, OfFinish, OfFlight, OfList, OfListFault, OfPlan, OfRestart, OfRestore, OfTake, OfWork, Service, forgotten}
 use Rattle.restart_laws.proofs.Begun.{restored-begun, same_rows}
@@ -80,14 +80,14 @@ module _ (plan : Ports) (is : IsPlan plan) (workers : ℕ) (capacities : List �
     marks = marks-taken plan capacities log.taken sent effects (length effects) None log.marks (λ b e. absurd cc) x.within x.marks;
   }
 
-  more_mark : (s : SwitchState) (log : History) (effects : List (Call Rid)) (e : MarkEvent) → IsTrueMark plan capacities log.taken effects (last_mark None log.marks) (mark_at log effects e) e → Tells s log effects → Tells s (with_mark log (mark_at log effects e)) effects
+  more_mark : (s : SwitchState) (log : History) (effects : List (Call Rid)) (e : MarkEvent) → IsTrueMark plan capacities log.taken effects (last_mark None log.marks) (mark_now log effects e) e → Tells s log effects → Tells s (with_mark log (mark_now log effects e)) effects
   more_mark s log effects e true x = record {
     taken = x.taken;
     objects = x.objects;
     made = x.made;
     legal = x.legal;
-    within = within-mark (length log.taken) (length effects) (mark_at log effects e) log.marks refl refl x.within;
-    marks = marks_then plan capacities log.taken effects None log.marks (mark_at log effects e) x.marks true;
+    within = within-mark (length log.taken) (length effects) (mark_now log effects e) log.marks refl refl x.within;
+    marks = marks_then plan capacities log.taken effects None log.marks (mark_now log effects e) x.marks true;
   }
 
   with_its_end : (s : SwitchState) (log : History) (effects : List (Call Rid)) → Tells s log effects → Tells s (with_end log) effects
@@ -123,33 +123,33 @@ module _ (plan : Ports) (is : IsPlan plan) (workers : ℕ) (capacities : List �
 
   -- ---- an event that records a mark
 
-  module _ (s : LoggedService) (t : Service) (effects : List (Call Rid)) (e : MarkEvent) (told : IsTold s) (holds : Holds plan workers capacities t) (tells : Tells t.core s.log effects) (true : IsTrueMark plan capacities s.log.taken effects (last_mark None s.log.marks) (mark_at s.log effects e) e) (may : MayFollow (event_of (last_mark None s.log.marks)) e) (left : IsLeftIn e t.warm) where
+  module _ (s : LoggedService) (t : Service) (effects : List (Call Rid)) (e : MarkEvent) (told : IsTold s) (holds : Holds plan workers capacities t) (tells : Tells t.core s.log effects) (true : IsTrueMark plan capacities s.log.taken effects (last_mark None s.log.marks) (mark_now s.log effects e) e) (may : MayFollow (event_of (last_mark None s.log.marks)) e) (left : IsLeftIn e t.warm) where
     abbrev marked_log : History
-    marked_log = with_mark s.log (mark_at s.log effects e)
+    marked_log = with_mark s.log (mark_now s.log effects e)
 
     marked_warm : IsWarmAfter (last_mark None marked_log.marks) t.warm
-    marked_warm = subst (λ o. IsWarmAfter o t.warm) (sym (last-more None s.log.marks (mark_at s.log effects e))) left
+    marked_warm = subst (λ o. IsWarmAfter o t.warm) (sym (last-more None s.log.marks (mark_now s.log effects e))) left
 
     marked : (IsSettledMark e → ⊥) → (t.warm ≡ Applying → HasBegun (with_log t marked_log effects)) → IsTold (with_log t marked_log effects)
     marked other begun = record {
       holds = holds;
       tells = more_mark t.core s.log effects e true tells;
       warm = marked_warm;
-      ordered = ordered-mark s.log (mark_at s.log effects e) told.ordered may other;
+      ordered = ordered-mark s.log (mark_now s.log effects e) told.ordered may other;
       begun = begun;
     }
 
-    marked_end : EndsRound e → (t.warm ≡ Applying → ⊥) → IsTold (with_log t (with_end marked_log) effects)
+    marked_end : MayEndRound e → (t.warm ≡ Applying → ⊥) → IsTold (with_log t (with_end marked_log) effects)
     marked_end ends none = record {
       holds = holds;
       tells = with_its_end t.core marked_log effects (more_mark t.core s.log effects e true tells);
       warm = marked_warm;
-      ordered = ordered-end s.log (mark_at s.log effects e) told.ordered may ends;
+      ordered = ordered-end s.log (mark_now s.log effects e) told.ordered may ends;
       begun = λ at. absurd (none at);
     }
 
-  adds : (s t : LoggedService) (effects : List (Call Rid)) (e : MarkEvent) → t.effects ≡ effects → AddsMark s t e → IsTold (with_log t.service (with_mark s.log (mark_at s.log effects e)) effects) → IsTold t
-  adds s t effects e same log x = back t (with_mark s.log (mark_at s.log effects e)) effects (log ∙ ap (λ z. with_mark s.log (mark_at s.log z e)) same) same x
+  adds : (s t : LoggedService) (effects : List (Call Rid)) (e : MarkEvent) → t.effects ≡ effects → AddsMark s t e → IsTold (with_log t.service (with_mark s.log (mark_now s.log effects e)) effects) → IsTold t
+  adds s t effects e same log x = back t (with_mark s.log (mark_now s.log effects e)) effects (log ∙ ap (λ z. with_mark s.log (mark_now s.log z e)) same) same x
 
   not_applying : (w : Warm) → w ≡ Suspect → w ≡ Applying → ⊥
   not_applying w e at = apart Suspect Applying (sym e ∙ at) (λ e. cc)
@@ -159,7 +159,7 @@ module _ (plan : Ports) (is : IsPlan plan) (workers : ℕ) (capacities : List �
       adds s t effects (event.Faulted a b) same log
       (marked s t.service effects (event.Faulted a b) told holds tells tt (may-fault (last_mark None s.log.marks) a b s.service.warm before told.warm) at (λ h. h) (λ go. absurd (not_applying t.service.warm at go)))
   faulted s t effects told holds tells at before same (a, b, less, inr log) =
-      back t (with_end (with_mark s.log (mark_at s.log effects (event.Faulted a b)))) effects (log ∙ ap (λ z. with_end (with_mark s.log (mark_at s.log z (event.Faulted a b)))) same) same
+      back t (with_end (with_mark s.log (mark_now s.log effects (event.Faulted a b)))) effects (log ∙ ap (λ z. with_end (with_mark s.log (mark_now s.log z (event.Faulted a b)))) same) same
       (marked_end s t.service effects (event.Faulted a b) told holds tells tt (may-fault (last_mark None s.log.marks) a b s.service.warm before told.warm) at tt (not_applying t.service.warm at))
 
   -- ---- the events of the service
@@ -222,7 +222,7 @@ module _ (plan : Ports) (is : IsPlan plan) (workers : ℕ) (capacities : List �
       })
   told_service s t _ (OfRestore _ x) told effects records =
       let v = restored-written plan is workers capacities s.service.core.written x.view told.holds.safe.told told.holds.safe.dated x.restored in
-      let mark = mark_at s.log s.effects (event.ApplyBegan x.mode (waiting_of x.restored.waits)) in
+      let mark = mark_now s.log s.effects (event.ApplyBegan x.mode (waiting_of x.restored.waits)) in
       let same : sent_writes (take mark.taken s.log.taken) ≡ s.service.core.written.taken = ap sent_writes (take-length s.log.taken) ∙ sym told.tells.taken in
       adds s t s.effects (event.ApplyBegan x.mode (waiting_of x.restored.waits)) (no_call s t effects) records
       (marked s t.service s.effects (event.ApplyBegan x.mode (waiting_of x.restored.waits)) told (holds-step plan is workers capacities s.service t.service None told.holds (OfRestore t.service x))
@@ -250,15 +250,15 @@ module _ (plan : Ports) (is : IsPlan plan) (workers : ℕ) (capacities : List �
       adds s t s.effects event.ApplyEnded (no_call s t effects) records
       (marked s t.service s.effects event.ApplyEnded told (holds-step plan is workers capacities s.service t.service None told.holds (OfFinish t.service x))
       (same_core s.service.core t.service.core s.log s.effects (ap (λ (z : Written). z.taken) x.written) x.objects x.made told.tells)
-      (subst (IsEnded plan s.log.taken s.effects (mark_at s.log s.effects event.ApplyEnded)) (sym b.last) ended)
+      (subst (IsEnded plan s.log.taken s.effects (mark_now s.log s.effects event.ApplyEnded)) (sym b.last) ended)
       (may-end (last_mark None s.log.marks) (subst (IsWarmAfter (last_mark None s.log.marks)) x.before told.warm)) x.warm (λ h. h) (λ at. apart Reconciled Applying (sym x.warm ∙ at) (λ e. cc)))
     where
       b : HasBegun s
       b = told.begun x.before
 
-      ended : EndsApply plan s.log.taken s.effects (mark_at s.log s.effects event.ApplyEnded) b.mark b.mark.event
+      ended : EndsApply plan s.log.taken s.effects (mark_now s.log s.effects event.ApplyEnded) b.mark b.mark.event
       ended =
-          subst (EndsApply plan s.log.taken s.effects (mark_at s.log s.effects event.ApplyEnded) b.mark) (sym b.event_is)
+          subst (EndsApply plan s.log.taken s.effects (mark_now s.log s.effects event.ApplyEnded) b.mark) (sym b.event_is)
           (subst (λ o. IsAlike o (IsThingOf plan (applied_at plan s.log.taken b.mark b.waits))) (told.tells.objects ∙ sym (chip_after-all s.effects))
           (alike-rows plan s.service.core.objects s.service.core.machine.board.applied (applied_at plan s.log.taken b.mark b.waits) b.rows (ended-alike plan is workers capacities s.service told.holds x.before x.none)))
 
@@ -291,7 +291,7 @@ module _ (plan : Ports) (is : IsPlan plan) (workers : ℕ) (capacities : List �
       logs (inl x) = subst (λ z. IsWarmAfter (last_mark None z.marks) Reconciled × IsOrdered z) (sym x.log) (warm, record { order = told.ordered.order; ends = told.ordered.ends })
       logs (inr (inl x)) = subst (λ z. IsWarmAfter (last_mark None z.marks) Reconciled × IsOrdered z) (sym x.log) (warm, told.ordered)
       logs (inr (inr x)) =
-          let mark = mark_at s.log s.effects (event.Settled x.waits x.turns) in
+          let mark = mark_now s.log s.effects (event.Settled x.waits x.turns) in
           subst (λ z. IsWarmAfter (last_mark None z.marks) Reconciled × IsOrdered z) (sym x.log)
           (subst (λ o. IsWarmAfter o Reconciled) (sym (last-more None s.log.marks mark)) refl, ordered-end s.log mark told.ordered (may-settle (last_mark None s.log.marks) x.waits x.turns warm) tt)
 

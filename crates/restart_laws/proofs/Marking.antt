@@ -7,7 +7,7 @@ use Rattle.switch_model.specs.Marks.{Waiting}
 use Rattle.switch_model.specs.declared.mark.Mark.{Mark}
 use Rattle.switch_model.specs.declared.mark.MarkEvent.{MarkEvent}
 use Rattle.switch_model.specs.declared.mark.MarkEvent.TheVariants as event
-use Rattle.machine_laws.specs.Order.{AreEnded, AreInOrder, EndsRound, IsOrdered, IsSettledMark, MayFollow}
+use Rattle.machine_laws.specs.Order.{AreEnded, AreMarksInOrder, MayEndRound, IsOrdered, IsSettledMark, MayFollow}
 use Rattle.warm_state.specs.declared.warm.Warm.{Warm}
 use Rattle.warm_state.specs.declared.warm.Warm.TheVariants.{Initialized, Restored, Applying, Reconciled, Suspect}
 use Rattle.restart_laws.specs.Logged.{IsLeftIn, IsWarmAfter, last_mark}
@@ -93,7 +93,7 @@ pub last-more : (before : Option Mark) (marks : List Mark) (mark : Mark) → las
 last-more before [] mark = refl
 last-more before (m ∷ marks) mark = last-more (Some m) marks mark
 
-order_more : (before : Option Mark) (marks : List Mark) (mark : Mark) → AreInOrder (event_of before) marks → MayFollow (event_of (last_mark before marks)) mark.event → AreInOrder (event_of before) (marks ++ mark ∷ [])
+order_more : (before : Option Mark) (marks : List Mark) (mark : Mark) → AreMarksInOrder (event_of before) marks → MayFollow (event_of (last_mark before marks)) mark.event → AreMarksInOrder (event_of before) (marks ++ mark ∷ [])
 order_more before [] mark h may = (may, tt)
 order_more before (m ∷ marks) mark (one, h) may = (one, order_more (Some m) marks mark h may)
 
@@ -102,7 +102,7 @@ ends_none n [] ends mark other h = inr (other, h)
 ends_none n (m ∷ marks) ends mark other (inl (one, rest, e, h)) = inl (one, rest, e, ends_none (suc n) marks rest mark other h)
 ends_none n (m ∷ marks) ends mark other (inr (not_it, h)) = inr (not_it, ends_none (suc n) marks ends mark other h)
 
-ends_end : (n : ℕ) (marks : List Mark) (ends : List ℕ) (mark : Mark) → EndsRound mark.event → AreEnded n marks ends → AreEnded n (marks ++ mark ∷ []) (ends ++ (suc (n + length marks)) ∷ [])
+ends_end : (n : ℕ) (marks : List Mark) (ends : List ℕ) (mark : Mark) → MayEndRound mark.event → AreEnded n marks ends → AreEnded n (marks ++ mark ∷ []) (ends ++ (suc (n + length marks)) ∷ [])
 ends_end n [] ends mark is h = inl (is, [], ap (λ z. z ++ (suc (n + 0)) ∷ []) h ∙ ap (λ z. suc z ∷ []) (let same : n + 0 ≡ n = omega arith in same), refl)
 ends_end n (m ∷ marks) ends mark is (inl (one, rest, e, h)) = inl (one, rest ++ (suc (suc n + length marks)) ∷ [], ap (λ z. z ++ (suc (n + suc (length marks))) ∷ []) e ∙ ap (λ z. suc n ∷ rest ++ suc z ∷ []) (let same : n + suc (length marks) ≡ suc n + length marks = omega arith in same), ends_end (suc n) marks rest mark is h)
 ends_end n (m ∷ marks) ends mark is (inr (other, h)) = inr (other, subst (λ z. AreEnded (suc n) (marks ++ mark ∷ []) (ends ++ suc z ∷ [])) (let same : suc n + length marks ≡ n + suc (length marks) = omega arith in same) (ends_end (suc n) marks ends mark is h))
@@ -110,7 +110,7 @@ ends_end n (m ∷ marks) ends mark is (inr (other, h)) = inr (other, subst (λ z
 pub ordered-mark : (log : History) (mark : Mark) → IsOrdered log → MayFollow (event_of (last_mark None log.marks)) mark.event → (IsSettledMark mark.event → ⊥) → IsOrdered (with_mark log mark)
 ordered-mark log mark x may other = record { order = order_more None log.marks mark x.order may; ends = ends_none 0 log.marks log.ends mark other x.ends }
 
-pub ordered-end : (log : History) (mark : Mark) → IsOrdered log → MayFollow (event_of (last_mark None log.marks)) mark.event → EndsRound mark.event → IsOrdered (with_end (with_mark log mark))
+pub ordered-end : (log : History) (mark : Mark) → IsOrdered log → MayFollow (event_of (last_mark None log.marks)) mark.event → MayEndRound mark.event → IsOrdered (with_end (with_mark log mark))
 ordered-end log mark x may is = record {
   order = order_more None log.marks mark x.order may;
   ends = subst (λ z. AreEnded 0 (log.marks ++ mark ∷ []) (log.ends ++ z ∷ [])) (let same : suc (0 + length log.marks) ≡ length (log.marks ++ mark ∷ []) = omega (arith, length-append log.marks (mark ∷ [])) in same) (ends_end 0 log.marks log.ends mark is x.ends);

@@ -18,7 +18,7 @@ use Rattle.chip_layout.proofs.Bodies.{entry-same, first-numbered, second-numbere
 use Rattle.plan_laws.specs.Calls.{PlansChanges, resolve, viewed}
 use Rattle.plan_laws.specs.Moments.{IsMoment}
 use Rattle.plan_laws.specs.Plans.{PlanChange}
-use Rattle.plan_laws.specs.Views.{HasRoomFor}
+use Rattle.plan_laws.specs.Views.{HasRoomForPlan}
 use Rattle.plan_laws.proofs.Allowed.{IsSafePlan}
 use Rattle.plan_laws.proofs.Calling.{IsCalled, plan-called}
 use Rattle.plan_laws.proofs.Running.{new-stand, stands-new}
@@ -89,7 +89,7 @@ module _ (L : Layout Rid) (objects : Objects) (laid : IsLaidOut L objects) (view
   }
 
 -- after a plan that makes the new things, by the identifiers that the plan's come to
-module _ (start : Layout Rid) (view : List (Vid × Thing)) (ids final : Vid → Rid) {order : PlanChange → ℕ} {old new : List Thing} {plan : List PlanChange} (p : IsSafePlan order old new plan) {made : ℕ} {objects : Objects} (first : IsMoment old [] start made objects) (capacities : List ℕ) (room : HasRoomFor capacities objects plan) (view_new : (v : Vid) (t : Thing) → IsIn (v, t) view → IsIn t new) (new_view : (t : Thing) → IsIn t new → (v : Vid) × IsIn (v, t) view) (view_one : (v w : Vid) (t u : Thing) → IsIn (v, t) view → IsIn (w, u) view → name_of t ≡ name_of u → (v ≡ w) × (t ≡ u)) (finals : (v : Vid) (t : Thing) → IsIn (v, t) view → has_number t ≡ true → IsIdOf start ids v t (final v)) (calls : List (Call PlanId)) (run : PlansChanges start (viewed view) ids made plan calls) where
+module _ (start : Layout Rid) (view : List (Vid × Thing)) (ids final : Vid → Rid) {order : PlanChange → ℕ} {old new : List Thing} {plan : List PlanChange} (p : IsSafePlan order old new plan) {made : ℕ} {objects : Objects} (first : IsMoment old [] start made objects) (capacities : List ℕ) (room : HasRoomForPlan capacities objects plan) (view_new : (v : Vid) (t : Thing) → IsIn (v, t) view → IsIn t new) (new_view : (t : Thing) → IsIn t new → (v : Vid) × IsIn (v, t) view) (view_one : (v w : Vid) (t u : Thing) → IsIn (v, t) view → IsIn (w, u) view → name_of t ≡ name_of u → (v ≡ w) × (t ≡ u)) (finals : (v : Vid) (t : Thing) → IsIn (v, t) view → has_number t ≡ true → IsIdOf start ids v t (final v)) (calls : List (Call PlanId)) (run : PlansChanges start (viewed view) ids made plan calls) where
   abbrev made_calls : List (Call Rid)
   made_calls = map (call_renamed (resolve ids)) calls
 

@@ -1,11 +1,14 @@
 -- an apply that is under way: its mode, that it is steady, and how long it is
-use Rattle.std.proofs.Common.{◌≡◌, ◌⊎◌, ◌+◌, ◌*◌, ◌-◌, ◌≤◌, ◌∷◌, ◌++◌, ◌∙◌, ℕ, zero, suc, List, [], length, map, refl, sym, ap, subst, arith}
+use Rattle.std.proofs.Common.{◌≡◌, ◌⊎◌, ◌+◌, ◌*◌, ◌-◌, ◌≤◌, ◌∷◌, ◌++◌, ◌∙◌, ℕ, zero, suc, List, [], length, map, refl, sym, ap, subst, arith, count_by, cond}
+use Rattle.std.proofs.lemmas.List.Sums.{sum_by-append}
 use Rattle.std.proofs.lemmas.List.{append-nil, append_assoc, length-append}
 use Rattle.swss_types.specs.declared.address.Ip.{Ip}
 use Rattle.table_schema.specs.Plan.{IsPlan, Ports}
 use Rattle.table_schema.specs.declared.key.Key.{Key}
 use Rattle.sai_types.specs.declared.ids.Rid.{Rid}
 use Rattle.sai_types.specs.declared.body.Call.{Call}
+use Rattle.sai_types.specs.declared.body.Call.TheVariants as call
+use Rattle.sai_types.specs.declared.body.Entry.{Entry}
 use Rattle.sai_types.specs.declared.kind.Kind.{Kind}
 use Rattle.sai_types.specs.declared.plan.Mode.{Mode}
 use Rattle.sai_types.specs.declared.plan.Mode.TheVariants as mode
@@ -32,13 +35,16 @@ use Rattle.switch_machine.specs.Flights.{StandsIn}
 use Rattle.switch_machine.proofs.Calling.{sort_of}
 use Rattle.switch_machine.proofs.Resting.{back_by, into_by}
 use Rattle.switch_machine.proofs.Tabled.{tabled}
-use Rattle.plan_laws.specs.Applied.{AppliesHitless, IsListed, IsView, chip_things, nothing}
+use Rattle.plan_laws.specs.Applied.{AppliesHitless, IsListedChip, IsView, chip_things, nothing}
 use Rattle.plan_laws.specs.Old.{old_layout}
-use Rattle.plan_laws.specs.Views.{AreLacking}
+use Rattle.plan_laws.specs.Bounds.{IsUnwanted, makes_kind}
+use Rattle.plan_laws.specs.Views.{AreLacking, made_names}
 use Rattle.plan_laws.proofs.Applied.{hitless-kept, hitless-steady}
-use Rattle.plan_laws.proofs.Counts.{calls-few, calls-named, old-few}
-use Rattle.plan_laws.proofs.Doubles.{fits-shown, shown-lacking}
-use Rattle.plan_laws.proofs.Lists.{map-in}
+use Rattle.plan_laws.proofs.Counts.{calls-few, calls-named, old-few, run-makes}
+use Rattle.plan_laws.proofs.Doubles.{fits-shown, lacking-shown, shown-lacking}
+use Rattle.plan_laws.proofs.Keeping.{hitless-removes}
+use Rattle.plan_laws.proofs.Lists.{in-left, map-in}
+use Rattle.plan_laws.proofs.Rooms.{made-lacking}
 use Rattle.restart_laws.specs.Applied.{IsSteadyApply}
 use Rattle.restart_laws.specs.Invariant.{Holds}
 use Rattle.restart_laws.specs.Logged.{LoggedService}
@@ -82,7 +88,7 @@ module _ (plan : Ports) (is : IsPlan plan) (workers : ℕ) (capacities : List �
   view : IsView new
   view = view-is plan is workers capacities x.view kept.0 kept.1
 
-  chip : IsListed s.core.made objects
+  chip : IsListedChip s.core.made objects
   chip = chip-listed plan is h.safe.chip
 
   module _ (rows : TypedRows) (same : (q : Key) → rows q ≡ x.view.machine.board.applied q) where
@@ -120,6 +126,22 @@ module _ (plan : Ports) (is : IsPlan plan) (workers : ℕ) (capacities : List �
         by : (m : Mode) → IsPlannedAs m capacities s.core.made objects new t.left → m ≡ mode.Hitless
         by mode.Hitless p = refl
         by mode.Cold p = absurd (p.lacks (fits-shown chip new view capacities lacking))
+
+    -- what it makes and removes
+    abbrev Applies : x.mode ≡ mode.Hitless → Type 0
+    Applies hitless = AppliesHitless capacities s.core.made objects new (hitless-planned plan is workers capacities s h t x hitless).steps [] t.left
+
+    its_applies : (hitless : x.mode ≡ mode.Hitless) → Applies hitless
+    its_applies hitless = hitless-applies plan is workers capacities s h t x hitless
+
+    made_few : (hitless : x.mode ≡ mode.Hitless) (kind : Kind) → (names : List Name) × AreLacking (chip_things objects) new kind names × (count_by (makes_kind kind) t.left ≡ length names)
+    made_few hitless kind =
+        let a = its_applies hitless in
+        let steps = (hitless-planned plan is workers capacities s h t x hitless).steps in
+        (made_names kind steps, lacking-shown a.planned.chip new a.planned.view kind (made_names kind steps) (made-lacking a.planned.is_plan steps [] refl kind), run-makes kind s.core.made (old_layout objects new) steps t.left a.run)
+
+    removed_unwanted : (hitless : x.mode ≡ mode.Hitless) (e : Entry Rid) → IsIn (call.Remove e) t.left → IsUnwanted objects new e
+    removed_unwanted hitless e i = hitless-removes (its_applies hitless) e i
 
     -- how long it is
     record IsShort : Type 0 where
@@ -249,8 +271,23 @@ module _ (plan : Ports) (is : IsPlan plan) (workers : ℕ) (capacities : List �
         back = back plan is workers capacities u.first u.began u.holds x rows same;
         apart = (view plan is workers capacities u.first u.began u.holds x).named;
         steady = steady;
+        front = u.before;
+        during = u.done;
+        behind = [];
+        parts = u.effects ∙ ap (λ z. u.before ++ z) (sym (append-nil u.done));
+        at = sym u.number;
+        long = omega (arith, sum, number);
+        made = made;
+        kept = λ e entry i. subst (λ o. IsUnwanted o (new plan is workers capacities u.first u.began u.holds x) entry) (sym start) (removed_unwanted plan is workers capacities u.first u.began u.holds x rows same e entry (subst (IsIn (call.Remove entry)) (sym u.all) (in-left (call.Remove entry) u.done s.service.left i)));
         names = short.names;
         distinct = short.distinct;
         of = short.of;
         short = omega (arith, most, left, sum, number, size);
       }
+    where
+      made : (hitless : x.mode ≡ mode.Hitless) (kind : Kind) → (lacking : List Name) × AreLacking (things_after s.effects from) (new plan is workers capacities u.first u.began u.holds x) kind lacking × (count_by (makes_kind kind) u.done ≤ length lacking)
+      made hitless kind =
+          let y = made_few plan is workers capacities u.first u.began u.holds x rows same hitless kind in
+          let all = y.2 in
+          let parts = ap (count_by (makes_kind kind)) u.all ∙ sum_by-append (λ c. cond (makes_kind kind c) 1 0) u.done s.service.left in
+          (y.0, subst (λ o. AreLacking (chip_things o) (new plan is workers capacities u.first u.began u.holds x) kind y.0) (sym start) y.1, omega (arith, all, parts))

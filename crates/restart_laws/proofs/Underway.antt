@@ -25,7 +25,7 @@ use Rattle.plan_laws.proofs.Routes.{cold-origin}
 use Rattle.plan_laws.proofs.Running.{after-append}
 use Rattle.warm_state.specs.declared.warm.Warm.TheVariants.{Initialized, Restored, Applying, Reconciled, Suspect}
 use Rattle.restart_laws.specs.Invariant.{Holds}
-use Rattle.restart_laws.specs.Logged.{IsLoggedStep, LoggedService, OfMachine, OfService, Records, last_mark, mark_at}
+use Rattle.restart_laws.specs.Logged.{IsLoggedStep, LoggedService, OfMachine, OfService, Records, last_mark, mark_now}
 use Rattle.restart_laws.specs.Planned.{IsPlannedAs}
 use Rattle.restart_laws.specs.Restored.{only_things, waiting_of}
 use Rattle.restart_laws.specs.Service.{IsServiceEvent, OfApply, OfFault, OfFinish, OfList, OfListFault, OfRestart, OfRestore, OfTake, OfWork, Restores, Service}
@@ -99,8 +99,8 @@ module _ (plan : Ports) (is : IsPlan plan) (workers : ℕ) (capacities : List �
     objects = told.tells.objects;
     made = told.tells.made;
     machine = x.machine;
-    mark = mark_at s.log t.effects (event.ApplyBegan x.mode (waiting_of x.restored.waits));
-    last = ap (λ (z : History). last_mark None z.marks) records ∙ last-more None s.log.marks (mark_at s.log t.effects (event.ApplyBegan x.mode (waiting_of x.restored.waits)));
+    mark = mark_now s.log t.effects (event.ApplyBegan x.mode (waiting_of x.restored.waits));
+    last = ap (λ (z : History). last_mark None z.marks) records ∙ last-more None s.log.marks (mark_now s.log t.effects (event.ApplyBegan x.mode (waiting_of x.restored.waits)));
     event_is = refl;
     number = ap length (effects ∙ append-nil s.effects);
     least = omega (arith, ap (λ (z : History). length z.taken) records);

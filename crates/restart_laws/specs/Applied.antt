@@ -1,9 +1,12 @@
 -- What holds of each apply of a session, told by its log and its effects. Own.
-use Rattle.std.specs.Prelude.{◌≡◌, ℕ, ◌+◌, ◌*◌, ◌≤◌, List, [], ◌∷◌, length}
+use Rattle.std.specs.Prelude.{◌≡◌, ℕ, ◌+◌, ◌*◌, ◌≤◌, ◌++◌, List, [], ◌∷◌, length, count_by}
 use Rattle.table_schema.specs.Plan.{Ports}
 use Rattle.table_schema.specs.declared.write.Sent.{Sent}
 use Rattle.sai_types.specs.declared.ids.Rid.{Rid}
 use Rattle.sai_types.specs.declared.body.Call.{Call}
+use Rattle.sai_types.specs.declared.body.Call.TheVariants as call
+use Rattle.sai_types.specs.declared.body.Entry.{Entry}
+use Rattle.sai_types.specs.declared.kind.Kind.{Kind}
 use Rattle.sai_types.specs.declared.plan.Mode.{Mode}
 use Rattle.sai_types.specs.declared.plan.Mode.TheVariants.{Hitless}
 use Rattle.sai_types.specs.declared.thing.Thing.{Thing}
@@ -19,9 +22,10 @@ use Rattle.switch_model.specs.declared.mark.Mark.{Mark}
 use Rattle.switch_model.specs.declared.mark.MarkEvent.{MarkEvent}
 use Rattle.switch_model.specs.declared.mark.MarkEvent.TheVariants as event
 use Rattle.chip_layout.specs.Counted.{AreDistinct}
-use Rattle.plan_laws.specs.Views.{HaveOwnNames}
+use Rattle.plan_laws.specs.Bounds.{IsUnwanted, makes_kind}
+use Rattle.plan_laws.specs.Views.{AreLacking, HaveOwnNames}
 
--- an apply from the one number of effects to the other, where these rows are applied: it is hitless exactly where the chip and their things fit together; a hitless one is steady after each effect; and it has no more effects than the chip had objects and three for each name of these things
+-- an apply from the one number of effects to the other, where these rows are applied: it is hitless exactly where the chip and their things fit together; a hitless one is steady after each effect, makes of each kind no more than these things have names that the chip did not show, and removes nothing whose name they have, but doubles; and an apply has no more effects than the chip had objects and three for each name of these things
 pub record IsSteadyApply (plan : Ports) (capacities : List ℕ) (rows : TypedRows) (effects : List (Call Rid)) (mode : Mode) (from to : ℕ) : Type 0 where
   pub hitless : mode ≡ Hitless → FitsTogether capacities (chip_after effects from) (IsThingOf plan rows)
   pub fitting : FitsTogether capacities (chip_after effects from) (IsThingOf plan rows) → mode ≡ Hitless
@@ -30,6 +34,14 @@ pub record IsSteadyApply (plan : Ports) (capacities : List ℕ) (rows : TypedRow
   pub back : (t : Thing) → IsIn t view → IsThingOf plan rows t
   pub apart : HaveOwnNames view
   pub steady : mode ≡ Hitless → IsSteady (things_after effects from) view effects from to
+  pub front : List (Call Rid)
+  pub during : List (Call Rid)
+  pub behind : List (Call Rid)
+  pub parts : effects ≡ front ++ (during ++ behind)
+  pub at : length front ≡ from
+  pub long : from + length during ≡ to
+  pub made : mode ≡ Hitless → (kind : Kind) → (lacking : List Name) × AreLacking (things_after effects from) view kind lacking × (count_by (makes_kind kind) during ≤ length lacking)
+  pub kept : mode ≡ Hitless → (e : Entry Rid) → IsIn (call.Remove e) during → IsUnwanted (chip_after effects from) view e
   pub names : List Name
   pub distinct : AreDistinct names
   pub of : (k : Name) → IsIn k names → (t : Thing) × IsThingOf plan rows t × (name_of t ≡ k)

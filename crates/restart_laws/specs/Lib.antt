@@ -8,3 +8,4 @@ pub mod Broken
 pub mod Logged
 pub mod Bounded
 pub mod Applied
+pub mod BrokenOff

@@ -28,15 +28,15 @@ abbrev pub switch_of : LoggedService → LoggedSwitch
 switch_of s = record { switch = s.service.core; log = s.log; effects = s.effects }
 
 -- a mark counts the writes taken and the calls that had taken effect by then
-abbrev pub mark_at : History → List (Call Rid) → MarkEvent → Mark
-mark_at log effects e = record { taken = length log.taken; effects = length effects; event = e }
+abbrev pub mark_now : History → List (Call Rid) → MarkEvent → Mark
+mark_now log effects e = record { taken = length log.taken; effects = length effects; event = e }
 
 abbrev pub AddsMark : LoggedService → LoggedService → MarkEvent → Type 0
-AddsMark s t e = t.log ≡ with_mark s.log (mark_at s.log t.effects e)
+AddsMark s t e = t.log ≡ with_mark s.log (mark_now s.log t.effects e)
 
 -- a fault is marked with the chip's count of faults before the call and after it; in a settling the round ends at the mark
 abbrev pub AddsFault : LoggedService → LoggedService → Type 0
-AddsFault s t = (before : ℕ) × (after : ℕ) × (before < after) × (AddsMark s t (event.Faulted before after) ⊎ (t.log ≡ with_end (with_mark s.log (mark_at s.log t.effects (event.Faulted before after)))))
+AddsFault s t = (before : ℕ) × (after : ℕ) × (before < after) × (AddsMark s t (event.Faulted before after) ⊎ (t.log ≡ with_end (with_mark s.log (mark_now s.log t.effects (event.Faulted before after)))))
 
 -- what an event records: a write; a fault; a restart; the beginning of an apply, with its mode and the keys that wait; its end; and nothing else
 abbrev pub Records : {plan : Ports} {workers : ℕ} {capacities : List ℕ} {s t : Service} {c : Option (Call Rid)} → LoggedService → LoggedService → IsServiceEvent plan workers capacities s c t → Type 0

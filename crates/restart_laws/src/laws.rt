@@ -1,5 +1,6 @@
 // What holds of every session, over restarts and failing calls at any event. Each function is a law: it does nothing, and its contract is proved.
-ghost use Rattle.std.specs.Prelude.{◌≡◌, ◌⊎◌, ◌++◌, ℕ, ◌+◌, ◌*◌, ◌≤◌, Bool, true, List, [], Option, None, Some, length, map, take};
+ghost use Rattle.std.specs.Prelude.{◌≡◌, ◌⊎◌, ◌++◌, ◌∷◌, ℕ, ◌+◌, ◌*◌, ◌≤◌, Bool, true, List, [], Option, None, Some, length, map, take};
+ghost use Rattle.swss_types.specs.Address.{IsProperIp};
 ghost use Rattle.swss_types.specs.declared.address.Ip.{Ip};
 ghost use Rattle.table_schema.specs.Plan.{Ports, IsPlan, lanes_in_plan};
 ghost use Rattle.table_schema.specs.declared.key.Key.{Key};
@@ -14,7 +15,7 @@ ghost use Rattle.sai_types.specs.declared.plan.PlanId.{PlanId};
 ghost use Rattle.sai_types.specs.declared.thing.Thing.{Thing};
 ghost use Rattle.sai_types.specs.After.{after_calls};
 ghost use Rattle.sai_types.specs.Alike.{IsAlike, IsIn};
-ghost use Rattle.sai_types.specs.Forwarding.{Forwarding, forward};
+ghost use Rattle.sai_types.specs.Forwarding.{Forwarding, decide, forward};
 ghost use Rattle.sai_types.specs.Made.{AreLegal, made_after_all};
 ghost use Rattle.sai_types.specs.Objects.{body_at};
 ghost use Rattle.sai_types.specs.Refusal.{IsLegal};
@@ -22,6 +23,7 @@ ghost use Rattle.switch_model.specs.declared.mark.Mark.{Mark};
 ghost use Rattle.switch_model.specs.Desired.{IsThingOf};
 ghost use Rattle.switch_model.specs.Marks.{sent_writes};
 ghost use Rattle.switch_model.specs.Promises.{EffectsAreLegal, IsBegun, MarksAreTrue, applied_at};
+ghost use Rattle.switch_model.specs.Steady.{things_after};
 ghost use Rattle.switch_model.specs.Sound.{AreWithin};
 ghost use Rattle.chip_layout.specs.Layout.{has_number};
 ghost use Rattle.chip_layout.specs.Renamed.{call_renamed};
@@ -33,9 +35,10 @@ ghost use Rattle.plan_laws.specs.Calls.{PlansChanges, resolve, viewed};
 ghost use Rattle.plan_laws.specs.Old.{old_layout};
 ghost use Rattle.plan_laws.specs.Steady.{IsHitless, IsOldOrNew, StaysNew};
 ghost use Rattle.warm_state.specs.declared.warm.Warm.TheVariants.{Applying, Suspect};
-ghost use Rattle.restart_laws.specs.Applied.{AreFollowed};
+ghost use Rattle.restart_laws.specs.Applied.{AreFollowed, until_next};
 ghost use Rattle.restart_laws.specs.Bounded.{effects_outside, listed_at_applies};
 ghost use Rattle.restart_laws.specs.Broken.{AreBroken};
+ghost use Rattle.restart_laws.specs.BrokenOff.{AreOfBroken, IsDecidedByView, IsViewAt};
 ghost use Rattle.restart_laws.specs.Identified.{IsIdOf, as_vids, renamed_by};
 ghost use Rattle.restart_laws.specs.Invariant.{Holds};
 ghost use Rattle.restart_laws.specs.Logged.{AreLoggedSteps, IsWarmAfter, LoggedService, last_mark, new_session, session_after};
@@ -125,4 +128,12 @@ pub fn effects_outside_applies_are_few()
 /// had objects at its mark and three for each of these things. And no call takes effect between a fault or a restart and the next mark.
 pub fn applies_are_steady_and_short()
     ensures { (plan : Ports) (workers : ℕ) (capacities : List ℕ) (ts : List LoggedService) → IsPlan plan → AreLoggedSteps plan workers capacities new_session ts → AreFollowed plan capacities (session_after new_session ts).log.taken (session_after new_session ts).effects (session_after new_session ts).log.marks }
+{}
+
+/// Over marks of hitless applies that are broken off one after the other, by faults and restarts, each address is decided after every
+/// effect as by what stood at the first of them, or as by the view of one that had begun by then; and what stood at first and all
+/// their views forward in one way is forwarded so, up to the next other mark or the end.
+pub fn broken_applies_are_steady()
+    ensures decided { (plan : Ports) (workers : ℕ) (capacities : List ℕ) (ts : List LoggedService) (front ms behind : List Mark) (m : Mark) (a : Ip) (k : ℕ) → IsPlan plan → AreLoggedSteps plan workers capacities new_session ts → (session_after new_session ts).log.marks ≡ front ++ ((m ∷ ms) ++ behind) → AreOfBroken (m ∷ ms) → IsProperIp a → m.effects ≤ k → k ≤ until_next behind (session_after new_session ts).effects → (decide (things_after (session_after new_session ts).effects k) a ≡ decide (things_after (session_after new_session ts).effects m.effects) a) ⊎ IsDecidedByView plan (session_after new_session ts).log.taken (m ∷ ms) k a (decide (things_after (session_after new_session ts).effects k) a) }
+    ensures forwarded { (plan : Ports) (workers : ℕ) (capacities : List ℕ) (ts : List LoggedService) (front ms behind : List Mark) (m : Mark) (a : Ip) (f : Forwarding) (k : ℕ) → IsPlan plan → AreLoggedSteps plan workers capacities new_session ts → (session_after new_session ts).log.marks ≡ front ++ ((m ∷ ms) ++ behind) → AreOfBroken (m ∷ ms) → IsProperIp a → forward (things_after (session_after new_session ts).effects m.effects) a ≡ f → ((mark : Mark) (view : List Thing) → IsViewAt plan (session_after new_session ts).log.taken (m ∷ ms) mark view → forward view a ≡ f) → m.effects ≤ k → k ≤ until_next behind (session_after new_session ts).effects → forward (things_after (session_after new_session ts).effects k) a ≡ f }
 {}

@@ -19,7 +19,7 @@ use Rattle.row_layout.specs.Rows as owner
 use Rattle.row_layout.specs.Rows.{Owner, from, goal_of, own_things}
 use Rattle.row_layout.specs.Shared.{shared_things}
 use Rattle.switch_machine.specs.Bearing.{BearsOnce, Bears, NoneBears}
-use Rattle.switch_machine.specs.Changes.{changed}
+use Rattle.switch_machine.specs.Changes.{changed_name}
 use Rattle.switch_machine.proofs.Tabled.{group_use}
 use Rattle.switch_machine.proofs.Sequence.{make_append}
 use Rattle.switch_machine.proofs.Splits.{in_both}
@@ -51,12 +51,12 @@ going_group hops t h = by (in_both t (members_of hops hops) (thing.Group hops �
 
 make_none : (ts : List Thing) (rest : List Change) → ((t : Thing) → IsIn t ts → IsOfGroup t) → NoneBears rest → NoneBears (make_all ts rest)
 make_none [] rest group none c h = none c h
-make_none (t ∷ ts) rest group none c (inl e) = λ b. bears_not t (group t (inl refl)) (subst (λ z. Bears (changed z)) e b)
+make_none (t ∷ ts) rest group none c (inl e) = λ b. bears_not t (group t (inl refl)) (subst (λ z. Bears (changed_name z)) e b)
 make_none (t ∷ ts) rest group none c (inr h) = make_none ts rest (λ u g. group u (inr g)) none c h
 
 take_none : (ts : List Thing) (rest : List Change) → ((t : Thing) → IsIn t ts → IsOfGroup t) → NoneBears rest → NoneBears (take_all ts rest)
 take_none [] rest group none c h = none c h
-take_none (t ∷ ts) rest group none c (inl e) = λ b. bears_not t (group t (inl refl)) (subst (λ z. Bears (changed z)) e b)
+take_none (t ∷ ts) rest group none c (inl e) = λ b. bears_not t (group t (inl refl)) (subst (λ z. Bears (changed_name z)) e b)
 take_none (t ∷ ts) rest group none c (inr h) = take_none ts rest (λ u g. group u (inr g)) none c h
 
 abbrev AreGroups : List Owner → Type 0
@@ -108,7 +108,7 @@ module _ (plan : Ports) (prefix : Prefix) where
   own_one _ = inl refl
 
   abbrev IsOnce : List Change → Type 0
-  IsOnce cs = (cs ≡ []) ⊎ ((c : Change) × (cs ≡ c ∷ []) × (changed c ≡ name.Route prefix))
+  IsOnce cs = (cs ≡ []) ⊎ ((c : Change) × (cs ≡ c ∷ []) × (changed_name c ≡ name.Route prefix))
 
   made : (ts : List Thing) → IsOne ts → IsOnce (make_all ts [])
   made ts (inl e) = inl (ap (λ z. make_all z []) e)

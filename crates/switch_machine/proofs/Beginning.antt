@@ -9,7 +9,7 @@ use Rattle.sai_types.specs.Names.{Name, Refers, name_of}
 use Rattle.row_layout.specs.Rows.{Owner, OfRow, own_things}
 use Rattle.row_layout.specs.Shared.{shared_things, uses}
 use Rattle.row_layout.specs.Operations.{Change, Make, Set, Take, make_all, own_changes, own_sets, shared_going, take_all, uses_of}
-use Rattle.switch_machine.specs.Changes.{after, changed}
+use Rattle.switch_machine.specs.Changes.{after, changed_name}
 use Rattle.switch_machine.specs.Flights.{Can, Concerns, Fits, Flight, Goes, IsConcern, IsFinal, IsOwnedBy, IsShared, HasChangeOf, IsUser, Machine, Runs, StandsIn, own_of}
 use Rattle.switch_machine.specs.Operations.{MayBegin, IsLast, built_first}
 use Rattle.switch_machine.specs.Tables.{Orders, IsNamed, Tables}
@@ -34,7 +34,7 @@ module _ (plan : Ports) (tables : Tables plan) (f : Flight) (fit : (r : Row) →
   shared : IsShared p
   shared = let r = use_row_in plan f.key f.new p usage in tables.are_shared f.key r.0 p r.2
 
-  not_its : (V : Thing → Type 0) (c : Change) → ((u : Thing) → IsIn u (shared_things p) → V u) → Can plan f V c → IsOwnedBy plan (changed c) p → ⊥
+  not_its : (V : Thing → Type 0) (c : Change) → ((u : Thing) → IsIn u (shared_things p) → V u) → Can plan f V c → IsOwnedBy plan (changed_name c) p → ⊥
   not_its V (Make t) whole can of = can.fresh t (whole t (shared_of plan tables f fit t p of shared can.final).1) refl
   not_its V (Set t) whole can of = shared_row p f.key shared (one_owner plan (name_of t) p (OfRow f.key) of can.own)
   not_its V (Take n) whole can of = by can.goes
@@ -46,7 +46,7 @@ module _ (plan : Ports) (tables : Tables plan) (f : Flight) (fit : (r : Row) →
   -- of what stands whole no change is due
   not_touched : (due : List Change) (V : Thing → Type 0) → Runs plan f V due → ((u : Thing) → IsIn u (shared_things p) → V u) → HasChangeOf plan due p → ⊥
   not_touched [] V runs whole t = elim t.1 [ ]
-  not_touched (c ∷ cs) V runs whole (d, inl is, of) = not_its V c whole runs.0 (subst (λ z. IsOwnedBy plan (changed z) p) is of)
+  not_touched (c ∷ cs) V runs whole (d, inl is, of) = not_its V c whole runs.0 (subst (λ z. IsOwnedBy plan (changed_name z) p) is of)
   not_touched (c ∷ cs) V runs whole (d, inr h, of) =
       not_touched cs (λ u. after c (V u) u) runs.1 (λ u in_it. stays c (V u) u (λ e. not_its V c whole runs.0 (subst (λ n. IsOwnedBy plan n p) e (tables.shared p u in_it))) (whole u in_it)) (d, h, of)
 
@@ -66,7 +66,7 @@ take_in (t ∷ ts) c (inr h) = let x = take_in ts c h in (x.0, inr x.1, x.2)
 
 -- the concern of each change that is due
 module _ (plan : Ports) (tables : Tables plan) (f : Flight) (fit : (r : Row) → f.new ≡ Some r → Fits plan f.key r) where
-  can_concern : (V : Thing → Type 0) (c : Change) → Can plan f V c → IsConcern plan f (changed c)
+  can_concern : (V : Thing → Type 0) (c : Change) → Can plan f V c → IsConcern plan f (changed_name c)
   can_concern V (Make t) can = final-concern plan tables f fit t can.final
   can_concern V (Set t) can = (OfRow f.key, can.own, inl refl)
   can_concern V (Take n) can = by can.goes
@@ -79,7 +79,7 @@ module _ (plan : Ports) (tables : Tables plan) (f : Flight) (fit : (r : Row) →
   touched_concern [] V p runs t = elim t.1 [ ]
   touched_concern (c ∷ cs) V p runs (d, inl is, of) =
       let x = can_concern V c runs.0 in
-      subst (Concerns plan f) (one_owner plan (changed c) x.0 p x.1 (subst (λ z. IsOwnedBy plan (changed z) p) is of)) x.2
+      subst (Concerns plan f) (one_owner plan (changed_name c) x.0 p x.1 (subst (λ z. IsOwnedBy plan (changed_name z) p) is of)) x.2
   touched_concern (c ∷ cs) V p runs (d, inr h, of) = touched_concern cs (λ u. after c (V u) u) p runs.1 (d, h, of)
 
 module _ (plan : Ports) (is : IsPlan plan) (m : Machine) (sound : IsConsistent plan m) where
@@ -269,7 +269,7 @@ module _ (plan : Ports) (is : IsPlan plan) (m : Machine) (sound : IsConsistent p
         about : (p : Owner) → HasChangeOf plan (take_all (shared_going o) []) p → p ≡ o
         about p t =
             let y = take_in (shared_going o) t.0 t.1 in
-            one_owner plan (name_of y.0) p o (subst (λ z. IsOwnedBy plan (changed z) p) y.2 t.2) (T.shared o y.0 (of_going y.0 y.1))
+            one_owner plan (name_of y.0) p o (subst (λ z. IsOwnedBy plan (changed_name z) p) y.2 t.2) (T.shared o y.0 (of_going y.0 y.1))
 
     pub sound-retired : IsConsistent plan (left m w f (Some o) (take_all (shared_going o) []))
     sound-retired = sound-retiring plan T m sound w f o (take_all (shared_going o) []) leaves-last

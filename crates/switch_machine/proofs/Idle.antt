@@ -5,10 +5,10 @@ use Rattle.sai_types.specs.declared.ids.Rid.{Rid}
 use Rattle.sai_types.specs.declared.body.Call.{Call}
 use Rattle.switch_machine.specs.Events.{IsEvent, IsSafe, SwitchState}
 use Rattle.switch_machine.specs.Flights.{Flight}
-use Rattle.switch_machine.specs.Next.{Answering, Beginning, Dropping, Idling, IsIdle, IsNext, Popping}
+use Rattle.switch_machine.specs.Next.{Answering, Beginning, Dropping, Idling, IsIdle, IsNextEvent, Popping}
 use Rattle.switch_machine.proofs.Hindered.{begins-free, drops-free}
 
-pub next-event : (plan : Ports) (workers : ℕ) (capacities : List ℕ) (w : ℕ) (s : SwitchState) (c : Option (Call Rid)) (t : SwitchState) → IsNext plan workers capacities w s c t → IsEvent plan workers capacities s c t ⊎ (IsIdle plan workers capacities w s × (c ≡ None) × (t ≡ s))
+pub next-event : (plan : Ports) (workers : ℕ) (capacities : List ℕ) (w : ℕ) (s : SwitchState) (c : Option (Call Rid)) (t : SwitchState) → IsNextEvent plan workers capacities w s c t → IsEvent plan workers capacities s c t ⊎ (IsIdle plan workers capacities w s × (c ≡ None) × (t ≡ s))
 next-event plan workers capacities w s _ _ (Answering call t x at) = inl x
 next-event plan workers capacities w s _ _ (Popping t k none x had popped) = inl (inr (inl x))
 next-event plan workers capacities w s _ _ (Beginning t x at popped hindered) = inl (inr (inr (inr x)))
@@ -18,7 +18,7 @@ next-event plan workers capacities w s _ _ (Idling idle) = inr (idle, refl, refl
 no_flight : {X : Type 0} (f : Flight) (o : Option Flight) → o ≡ Some f → o ≡ None → X
 no_flight f o h g = absurd cc
 
-pub idle-none : (plan : Ports) (is : IsPlan plan) (workers : ℕ) (capacities : List ℕ) (w : ℕ) (s : SwitchState) → IsSafe plan workers capacities s → IsIdle plan workers capacities w s → (c : Option (Call Rid)) (t : SwitchState) → IsNext plan workers capacities w s c t → (c ≡ None) × (t ≡ s)
+pub idle-none : (plan : Ports) (is : IsPlan plan) (workers : ℕ) (capacities : List ℕ) (w : ℕ) (s : SwitchState) → IsSafe plan workers capacities s → IsIdle plan workers capacities w s → (c : Option (Call Rid)) (t : SwitchState) → IsNextEvent plan workers capacities w s c t → (c ≡ None) × (t ≡ s)
 idle-none plan is workers capacities w s kept idle _ _ (Answering call t x at) = no_flight x.next.flight (s.machine.board.flights w) (ap s.machine.board.flights (sym at) ∙ x.next.flying) idle.none
 idle-none plan is workers capacities w s kept idle _ _ (Popping t k none x had popped) = absurd (had (idle.popped k))
 idle-none plan is workers capacities w s kept idle _ _ (Beginning t x at popped hindered) = let h = idle.hindered x.flight.key x.to_sync.there in absurd (begins-free plan is workers capacities s t x h.0 h.1)

@@ -25,6 +25,7 @@ pub mod Sequence
 pub mod Undisturbed
 pub mod Hindered
 pub mod Idle
+pub mod Needed
 pub mod Single
 pub mod Freeing
 pub mod Needing

@@ -10,7 +10,7 @@ use Rattle.sai_types.specs.Names.{Name, Refers, name_of}
 use Rattle.row_layout.specs.Rows.{Owner, OfRow, own_things}
 use Rattle.row_layout.specs.Shared.{shared_things, uses}
 use Rattle.row_layout.specs.Operations.{Change, Make, Set, Take, uses_of}
-use Rattle.switch_machine.specs.Changes.{after, changed}
+use Rattle.switch_machine.specs.Changes.{after, changed_name}
 use Rattle.switch_machine.specs.Flights.{Can, CanMake, CanSet, Concerns, Fits, Flight, Goes, HasName, IsConcern, IsFirm, IsOwnedBy, IsResting, IsShared, HasChangeOf, IsUser, Machine, Runs, StandsIn, own_of}
 use Rattle.switch_machine.specs.Steps.{Moves, moved}
 use Rattle.switch_machine.specs.Consistent.{IsUsedOrRetired, IsLike, IsConsistent}
@@ -52,20 +52,20 @@ module _ (plan : Ports) (tables : Tables plan) (m : Machine) (sound : IsConsiste
     goes_owner n (inr h) = (h.0, h.1, inr (inr h.2))
 
     -- the owner of what changes
-    concern_of : (c : Change) → Can plan f (StandsIn m) c → (o : Owner) × IsOwnedBy plan (changed c) o × Concerns plan f o
+    concern_of : (c : Change) → Can plan f (StandsIn m) c → (o : Owner) × IsOwnedBy plan (changed_name c) o × Concerns plan f o
     concern_of (Make t) can = final-concern plan tables f fits t can.final
     concern_of (Set t) can = (OfRow f.key, can.own, inl refl)
     concern_of (Take n) can = goes_owner n can.goes
 
-    pub its : (o : Owner) × IsOwnedBy plan (changed c) o × Concerns plan f o
+    pub its : (o : Owner) × IsOwnedBy plan (changed_name c) o × Concerns plan f o
     its = concern_of c runs_now.0
 
     touches : HasChangeOf plan (m.due w) its.0
     touches = subst (λ d. HasChangeOf plan d its.0) (sym moves.due) (c, inl refl, its.1)
 
     -- things of other owners stay as they are
-    other_name : (u : Thing) (o : Owner) → IsOwnedBy plan (name_of u) o → (o ≡ its.0 → ⊥) → name_of u ≡ changed c → ⊥
-    other_name u o is apart e = apart (one_owner plan (changed c) o its.0 (subst (λ n. IsOwnedBy plan n o) e is) its.1)
+    other_name : (u : Thing) (o : Owner) → IsOwnedBy plan (name_of u) o → (o ≡ its.0 → ⊥) → name_of u ≡ changed_name c → ⊥
+    other_name u o is apart e = apart (one_owner plan (changed_name c) o its.0 (subst (λ n. IsOwnedBy plan n o) e is) its.1)
 
     kept : (u : Thing) (o : Owner) → IsOwnedBy plan (name_of u) o → (o ≡ its.0 → ⊥) → StandsIn m u → StandsIn later u
     kept u o is apart h = moves.back u (stays c (StandsIn m u) u (other_name u o is apart) h)
@@ -130,7 +130,7 @@ module _ (plan : Ports) (tables : Tables plan) (m : Machine) (sound : IsConsiste
     firm_stays k n firm is (inl h) = firm.stays w f moves.flying (row_keys f.key k (one_owner plan n (OfRow f.key) (OfRow k) h.0 is)) h.1
     firm_stays k n firm is (inr h) = let was = sound.board.left w f h.0 moves.flying h.2 in shared_row h.0 k (tables.are_shared f.key was.row h.0 was.used) (one_owner plan n h.0 (OfRow k) h.1 is)
 
-    present_by : (c : Change) → Can plan f (StandsIn m) c → ((u : Thing) → after c (StandsIn m u) u → StandsIn later u) → (k : Key) (n : Name) → IsFirm m.board k → IsOwnedBy plan n (OfRow k) → IsSplit n (changed c) → HasName (StandsIn m) n → HasName (StandsIn later) n
+    present_by : (c : Change) → Can plan f (StandsIn m) c → ((u : Thing) → after c (StandsIn m u) u → StandsIn later u) → (k : Key) (n : Name) → IsFirm m.board k → IsOwnedBy plan n (OfRow k) → IsSplit n (changed_name c) → HasName (StandsIn m) n → HasName (StandsIn later) n
     present_by (Make t) can back k n firm is split x = (x.0, back x.0 (inl x.1), x.2)
     present_by (Set t) can back k n firm is (inl same) x = (t, back t (inr refl), sym same)
     present_by (Set t) can back k n firm is (inr other) x = (x.0, back x.0 (inl (x.1, λ e. other (sym x.2 ∙ e))), x.2)
@@ -213,8 +213,8 @@ module _ (plan : Ports) (tables : Tables plan) (m : Machine) (sound : IsConsiste
         let was : HasChangeOf plan (c ∷ cs) o = subst (λ d. HasChangeOf plan d o) (ap m.due same ∙ moves.due) t in
         subst (λ d. HasChangeOf plan d o) (sym (put_at w v cs m.due same)) (by was.0 was.1 was.2)
       where
-        by : (d : Change) → IsIn d (c ∷ cs) → IsOwnedBy plan (changed d) o → HasChangeOf plan cs o
-        by d (inl is) of = absurd (other (one_owner plan (changed c) o its.0 (subst (λ z. IsOwnedBy plan (changed z) o) is of) its.1))
+        by : (d : Change) → IsIn d (c ∷ cs) → IsOwnedBy plan (changed_name d) o → HasChangeOf plan cs o
+        by d (inl is) of = absurd (other (one_owner plan (changed_name c) o its.0 (subst (λ z. IsOwnedBy plan (changed_name z) o) is of) its.1))
         by d (inr h) of = (d, h, of)
 
     touched_was : (v : ℕ) (o : Owner) → IsSplit v w → HasChangeOf plan (later.due v) o → HasChangeOf plan (m.due v) o
@@ -245,7 +245,7 @@ module _ (plan : Ports) (tables : Tables plan) (m : Machine) (sound : IsConsiste
         λ h. kept u (OfRow k) is (rest_apart k rests) ((sound.rest k u rests is).1 h),
       );
       runs = λ v g there. runs_by v g there (nat_split v w);
-      present = λ k n firm h. present_by c runs_now.0 moves.back k n firm (tables.names_own k n h) (name_split n (changed c)) (sound.present k n firm h);
+      present = λ k n firm h. present_by c runs_now.0 moves.back k n firm (tables.names_own k n h) (name_split n (changed_name c)) (sound.present k n firm h);
       like = λ k u h is. like_by k u (came u h) is;
       held = λ o u h is shared. held_by o u (came u h) is shared;
       used = λ k o u n h is refers of shared. used_by k o u n (came u h) is refers of shared;

@@ -10,7 +10,7 @@ use Rattle.sai_types.specs.Names.{Name, name_of}
 use Rattle.row_layout.specs.Rows.{Owner, OfRow, own_things}
 use Rattle.row_layout.specs.Shared.{shared_things}
 use Rattle.row_layout.specs.Operations.{Change, Make, Set, Take, uses_of}
-use Rattle.switch_machine.specs.Changes.{IsSettable, Resembles, after, changed}
+use Rattle.switch_machine.specs.Changes.{IsSettable, Resembles, after, changed_name}
 use Rattle.switch_machine.specs.Flights.{Can, Concerns, Fits, Flight, Goes, IsConcern, IsFinal, IsOwnedBy, IsShared, HasChangeOf, Runs}
 use Rattle.switch_machine.specs.Tables.{Tables}
 use Rattle.switch_machine.proofs.Splits.{own_row_in, use_row_in}
@@ -40,12 +40,12 @@ abbrev pub resembles_self : (t : Thing) → Resembles t t
 resembles_self t = record { same = inl refl; refers = λ n h. h }
 
 -- a change leaves a thing of another name as it was
-pub stays : (c : Change) (X : Type 0) (u : Thing) → (name_of u ≡ changed c → ⊥) → X → after c X u
+pub stays : (c : Change) (X : Type 0) (u : Thing) → (name_of u ≡ changed_name c → ⊥) → X → after c X u
 stays (Make t) X u h x = inl x
 stays (Set t) X u h x = inl (x, h)
 stays (Take n) X u h x = (x, h)
 
-pub stood : (c : Change) (X : Type 0) (u : Thing) → (name_of u ≡ changed c → ⊥) → after c X u → X
+pub stood : (c : Change) (X : Type 0) (u : Thing) → (name_of u ≡ changed_name c → ⊥) → after c X u → X
 stood (Make t) X u h (inl x) = x
 stood (Make t) X u h (inr is) = absurd (h (ap name_of is))
 stood (Set t) X u h (inl x) = x.0
@@ -147,6 +147,6 @@ module _ (plan : Ports) (tables : Tables plan) (f : Flight) (fit : (r : Row) →
   pub untouched : (V : Thing → Type 0) (due : List Change) (o : Owner) → Concerns plan f o → (HasChangeOf plan due o → ⊥) → Runs plan f V due → (u : Thing) → IsOwnedBy plan (name_of u) o → (V u → IsFinal plan f u) × (IsFinal plan f u → V u)
   untouched V [] o concern apart runs u is = runs u (o, is, concern)
   untouched V (c ∷ cs) o concern apart runs u is =
-      let other : name_of u ≡ changed c → ⊥ = λ e. apart (c, inl refl, subst (λ n. IsOwnedBy plan n o) e is) in
+      let other : name_of u ≡ changed_name c → ⊥ = λ e. apart (c, inl refl, subst (λ n. IsOwnedBy plan n o) e is) in
       let rest = untouched (λ x. after c (V x) x) cs o concern (λ t. apart (t.0, inr t.1, t.2)) runs.1 u is in
       (λ h. rest.0 (stays c (V u) u other h), λ h. stood c (V u) u other (rest.1 h))

@@ -29,8 +29,8 @@ use Rattle.row_layout.specs.Operations.{Change, Make, Set, Take, changes_of, use
 use Rattle.row_layout.specs.Rows as owner
 use Rattle.row_layout.specs.Rows.{Owner, OfRow}
 use Rattle.row_layout.proofs.Members.{in_map}
-use Rattle.switch_machine.specs.Bearing.{Bears, BearsOn, NoneBears, SwitchesOnce, standing}
-use Rattle.switch_machine.specs.Changes.{after, changed}
+use Rattle.switch_machine.specs.Bearing.{Bears, BearsOn, NoneBears, SwitchesOnce, standing_things}
+use Rattle.switch_machine.specs.Changes.{after, changed_name}
 use Rattle.switch_machine.specs.Events.{AreAnswers, IsAnswer, IsBegin, IsDueCall, IsQuiet, IsSafe, SwitchState, after_answers, changes_made}
 use Rattle.switch_machine.specs.Flights.{Can, Fits, Goes, IsFinal, IsOwnedBy, Machine, StandsIn}
 use Rattle.switch_machine.specs.Operations.{IsUsedByOthers}
@@ -99,7 +99,7 @@ module _ (ts us : List Thing) (a : Ip) (routes : AreRoutes us) (macs : HaveOneMa
 
 -- ---- the list of what stands
 
-in_standing : (m : Machine) (u : Thing) → StandsIn m u → IsIn u (standing m)
+in_standing : (m : Machine) (u : Thing) → StandsIn m u → IsIn u (standing_things m)
 in_standing m u (i, h) = in_map (λ (x : Rid × Thing). x.1) (i, u) m.stands h
 
 from_list : (xs : List (Rid × Thing)) (u : Thing) → IsIn u (map (λ (x : Rid × Thing). x.1) xs) → (i : Rid) × IsIn (i, u) xs
@@ -107,7 +107,7 @@ from_list [] u h = elim h [ ]
 from_list (x ∷ xs) u (inl e) = let pair : Thing → Rid × Thing = λ t. (x.0, t) in (x.0, inl (ap pair e))
 from_list (x ∷ xs) u (inr h) = let y = from_list xs u h in (y.0, inr y.1)
 
-from_standing : (m : Machine) (u : Thing) → IsIn u (standing m) → StandsIn m u
+from_standing : (m : Machine) (u : Thing) → IsIn u (standing_things m) → StandsIn m u
 from_standing m u h = from_list m.stands u h
 
 bears_on : (a : Ip) (n : Name) → BearsOn a n → Bears n
@@ -124,7 +124,7 @@ module _ (plan : Ports) (is : IsPlan plan) (workers : ℕ) (capacities : List �
   proper_by p (row.Route r) fit = fit.0
   proper_by p _ fit = elim fit [ ]
 
-  routes_stand : (s : SwitchState) → IsSafe plan workers capacities s → AreRoutes (standing s.machine)
+  routes_stand : (s : SwitchState) → IsSafe plan workers capacities s → AreRoutes (standing_things s.machine)
   routes_stand s kept = record {
     proper = λ p g h. let x = route-row plan is workers capacities s kept p g (from_standing s.machine (thing.Route p g) h) in proper_by p x.0 (kept.sound.board.fit (key.Route p) x.0 x.1);
     one = λ p g h x y. one p g h (from_standing s.machine (thing.Route p g) x) (from_standing s.machine (thing.Route p h) y);
@@ -133,21 +133,21 @@ module _ (plan : Ports) (is : IsPlan plan) (workers : ℕ) (capacities : List �
       one : (p : Prefix) (g h : Goal) → StandsIn s.machine (thing.Route p g) → StandsIn s.machine (thing.Route p h) → g ≡ h
       one p g h (i, x) (j, y) = let same = (kept.laid.one i j (thing.Route p g) (thing.Route p h) x y refl).1 in cc
 
-  macs_stand : (s : SwitchState) → IsSafe plan workers capacities s → HaveOneMac (standing s.machine)
+  macs_stand : (s : SwitchState) → IsSafe plan workers capacities s → HaveOneMac (standing_things s.machine)
   macs_stand s kept hop m n x y = one (from_standing s.machine (thing.Neighbor hop m) x) (from_standing s.machine (thing.Neighbor hop n) y)
     where
       one : StandsIn s.machine (thing.Neighbor hop m) → StandsIn s.machine (thing.Neighbor hop n) → m ≡ n
       one (i, x) (j, y) = let same = (kept.laid.one i j (thing.Neighbor hop m) (thing.Neighbor hop n) x y refl).1 in cc
 
   -- a change that doesn't bear on an address leaves its packets where they go
-  step : (s t : SwitchState) (call : Call Rid) (x : IsAnswer plan workers call s t) (a : Ip) → IsSafe plan workers capacities s → (BearsOn a (changed x.next.change) → ⊥) → (decide (standing t.machine) a ≡ decide (standing s.machine) a) × (forward (standing t.machine) a ≡ forward (standing s.machine) a)
+  step : (s t : SwitchState) (call : Call Rid) (x : IsAnswer plan workers call s t) (a : Ip) → IsSafe plan workers capacities s → (BearsOn a (changed_name x.next.change) → ⊥) → (decide (standing_things t.machine) a ≡ decide (standing_things s.machine) a) × (forward (standing_things t.machine) a ≡ forward (standing_things s.machine) a)
   step s t call x a kept none =
-      same-for (standing t.machine) (standing s.machine) a (routes_stand s kept) (macs_stand s kept) (record {
+      same-for (standing_things t.machine) (standing_things s.machine) a (routes_stand s kept) (macs_stand s kept) (record {
         into = λ u b h. in_standing s.machine u (stood x.next.change (StandsIn s.machine u) u (apart u b) (was u (from_standing t.machine u h)));
         back = λ u b h. in_standing t.machine u (now u (stays x.next.change (StandsIn s.machine u) u (apart u b) (from_standing s.machine u h)));
       })
     where
-      apart : (u : Thing) → BearsOn a (name_of u) → name_of u ≡ changed x.next.change → ⊥
+      apart : (u : Thing) → BearsOn a (name_of u) → name_of u ≡ changed_name x.next.change → ⊥
       apart u b e = none (subst (BearsOn a) e b)
 
       later : x.stands ≡ t.machine.stands
@@ -173,7 +173,7 @@ module _ (plan : Ports) (is : IsPlan plan) (workers : ℕ) (capacities : List �
   bears_group hops (name.Neighbor hop) of b = let m = mapped (λ n. OfRow (key.Neigh n hop.ip)) _ (owner.Group hops) of in let e = m.2 in cc
   bears_group hops _ of b = elim b [ ]
 
-  route_change : (s : SwitchState) (call : Call Rid) (x : IsDueCall workers call s) (prefix : Prefix) → IsSafe plan workers capacities s → x.flight.key ≡ key.Route prefix → Bears (changed x.change) → changed x.change ≡ name.Route prefix
+  route_change : (s : SwitchState) (call : Call Rid) (x : IsDueCall workers call s) (prefix : Prefix) → IsSafe plan workers capacities s → x.flight.key ≡ key.Route prefix → Bears (changed_name x.change) → changed_name x.change ≡ name.Route prefix
   route_change s call x prefix kept route bears = by x.change (it_can plan is workers capacities s kept call x) bears
     where
       of_row : (n : Name) → IsOwnedBy plan n (OfRow x.flight.key) → Bears n → n ≡ name.Route prefix
@@ -190,22 +190,22 @@ module _ (plan : Ports) (is : IsPlan plan) (workers : ℕ) (capacities : List �
       goes n (inl own) b = of_row n own.0 b
       goes n (inr (o, of, retires)) b = let was = kept.sound.board.left x.worker x.flight o x.flying retires in of_used n o (Some was.row) of was.used b
 
-      by : (c : Change) → Can plan x.flight (StandsIn s.machine) c → Bears (changed c) → changed c ≡ name.Route prefix
+      by : (c : Change) → Can plan x.flight (StandsIn s.machine) c → Bears (changed_name c) → changed_name c ≡ name.Route prefix
       by (Make t) can b = final t can.final b
       by (Set t) can b = of_row (name_of t) can.own b
       by (Take n) can b = goes n can.goes b
 
   -- an address that the prefix doesn't cover goes on as before
-  pub outside : (s t : SwitchState) (call : Call Rid) (x : IsAnswer plan workers call s t) (prefix : Prefix) (a : Ip) → IsSafe plan workers capacities s → x.next.flight.key ≡ key.Route prefix → covers prefix a ≡ false → (decide (standing t.machine) a ≡ decide (standing s.machine) a) × (forward (standing t.machine) a ≡ forward (standing s.machine) a)
-  outside s t call x prefix a kept route out = step s t call x a kept (λ b. false≢true (sym out ∙ subst (BearsOn a) (route_change s call x.next prefix kept route (bears_on a (changed x.next.change) b)) b))
+  pub outside : (s t : SwitchState) (call : Call Rid) (x : IsAnswer plan workers call s t) (prefix : Prefix) (a : Ip) → IsSafe plan workers capacities s → x.next.flight.key ≡ key.Route prefix → covers prefix a ≡ false → (decide (standing_things t.machine) a ≡ decide (standing_things s.machine) a) × (forward (standing_things t.machine) a ≡ forward (standing_things s.machine) a)
+  outside s t call x prefix a kept route out = step s t call x a kept (λ b. false≢true (sym out ∙ subst (BearsOn a) (route_change s call x.next prefix kept route (bears_on a (changed_name x.next.change) b)) b))
 
   -- ---- what a run of answers does to a value that only bearing changes move
 
-  module _ {X : Type 0} (F : SwitchState → X) (moves_none : (s t : SwitchState) (call : Call Rid) (x : IsAnswer plan workers call s t) → IsSafe plan workers capacities s → (Bears (changed x.next.change) → ⊥) → F t ≡ F s) where
+  module _ {X : Type 0} (F : SwitchState → X) (moves_none : (s t : SwitchState) (call : Call Rid) (x : IsAnswer plan workers call s t) → IsSafe plan workers capacities s → (Bears (changed_name x.next.change) → ⊥) → F t ≡ F s) where
     abbrev later : SwitchState → List (Call Rid × SwitchState) → ℕ → X
     later s es n = F (after_answers s (take n es))
 
-    head_none : (c : Change) (cs ds : List Change) → c ∷ cs ≡ ds → NoneBears ds → (Bears (changed c) → ⊥) × NoneBears cs
+    head_none : (c : Change) (cs ds : List Change) → c ∷ cs ≡ ds → NoneBears ds → (Bears (changed_name c) → ⊥) × NoneBears cs
     head_none c cs ds e none = (none c (subst (IsIn c) e (inl refl)), λ d h. none d (subst (IsIn d) e (inr h)))
 
     rests : (s : SwitchState) (es : List (Call Rid × SwitchState)) (run : AreAnswers plan workers s es) → IsSafe plan workers capacities s → NoneBears (changes_made plan workers s es run) → (n : ℕ) → later s es n ≡ F s
@@ -260,7 +260,7 @@ module _ (plan : Ports) (is : IsPlan plan) (workers : ℕ) (capacities : List �
         both = tail_is run.0.next.change d (changes_made plan workers e.1 es run.1) (front ++ (middle ++ behind)) parts
 
         same : F e.1 ≡ F s
-        same = moves_none s e.1 e.0 run.0 kept (λ b. first d (inl refl) (subst (λ c. Bears (changed c)) both.0 b))
+        same = moves_none s e.1 e.0 run.0 kept (λ b. first d (inl refl) (subst (λ c. Bears (changed_name c)) both.0 b))
 
         more : Switches e.1 es → Switches s (e ∷ es)
         more x = record { moment = suc x.moment; before = before; behind = behind_it }
@@ -275,7 +275,7 @@ module _ (plan : Ports) (is : IsPlan plan) (workers : ℕ) (capacities : List �
 
   -- ---- a route's operation that runs alone
 
-  pub route-switches : {X : Type 0} (F : Machine → X) → ((m later : Machine) → m.stands ≡ later.stands → F m ≡ F later) → ((s t : SwitchState) (call : Call Rid) (x : IsAnswer plan workers call s t) → IsSafe plan workers capacities s → (Bears (changed x.next.change) → ⊥) → F t.machine ≡ F s.machine) → (s t : SwitchState) (x : IsBegin plan workers capacities s t) (es : List (Call Rid × SwitchState)) (run : AreAnswers plan workers t es) (used : Owner → Bool) (prefix : Prefix) → IsSafe plan workers capacities s → x.flight.key ≡ key.Route prefix → IsQuiet s → IsQuiet (after_answers t es) → IsUsedByOthers plan s.machine.board.applied x.flight.key used → SwitchesOnce (λ n. F (after_answers t (take n es)).machine) (F s.machine) (F (after_answers t es).machine)
+  pub route-switches : {X : Type 0} (F : Machine → X) → ((m later : Machine) → m.stands ≡ later.stands → F m ≡ F later) → ((s t : SwitchState) (call : Call Rid) (x : IsAnswer plan workers call s t) → IsSafe plan workers capacities s → (Bears (changed_name x.next.change) → ⊥) → F t.machine ≡ F s.machine) → (s t : SwitchState) (x : IsBegin plan workers capacities s t) (es : List (Call Rid × SwitchState)) (run : AreAnswers plan workers t es) (used : Owner → Bool) (prefix : Prefix) → IsSafe plan workers capacities s → x.flight.key ≡ key.Route prefix → IsQuiet s → IsQuiet (after_answers t es) → IsUsedByOthers plan s.machine.board.applied x.flight.key used → SwitchesOnce (λ n. F (after_answers t (take n es)).machine) (F s.machine) (F (after_answers t es).machine)
   route-switches F same moves s t x es run used prefix kept route quiet end by =
       let once = bears-once plan prefix (s.machine.board.applied x.flight.key) x.flight.new used in
       let parts = sequence plan workers capacities s t x es run used quiet end by ∙ ap (λ k. changes_of plan k (s.machine.board.applied x.flight.key) x.flight.new used) route ∙ once.parts in
@@ -283,17 +283,17 @@ module _ (plan : Ports) (is : IsPlan plan) (workers : ℕ) (capacities : List �
       let start = same t.machine s.machine (sym (same_stands plan is workers capacities x.worker (started s.machine x.worker x.flight x.due) t.machine x.follows)) in
       record { moment = later.moment; before = λ n h. later.before n h ∙ start; behind = later.behind }
     where
-      one : {cs : List Change} → (cs ≡ []) ⊎ ((c : Change) × (cs ≡ c ∷ []) × (changed c ≡ name.Route prefix)) → (cs ≡ []) ⊎ ((c : Change) × (cs ≡ c ∷ []))
+      one : {cs : List Change} → (cs ≡ []) ⊎ ((c : Change) × (cs ≡ c ∷ []) × (changed_name c ≡ name.Route prefix)) → (cs ≡ []) ⊎ ((c : Change) × (cs ≡ c ∷ []))
       one (inl e) = inl e
       one (inr (c, e, _)) = inr (c, e)
 
-  bears_none : (s t : SwitchState) (call : Call Rid) (x : IsAnswer plan workers call s t) (a : Ip) → IsSafe plan workers capacities s → (Bears (changed x.next.change) → ⊥) → (decide (standing t.machine) a ≡ decide (standing s.machine) a) × (forward (standing t.machine) a ≡ forward (standing s.machine) a)
-  bears_none s t call x a kept none = step s t call x a kept (λ b. none (bears_on a (changed x.next.change) b))
+  bears_none : (s t : SwitchState) (call : Call Rid) (x : IsAnswer plan workers call s t) (a : Ip) → IsSafe plan workers capacities s → (Bears (changed_name x.next.change) → ⊥) → (decide (standing_things t.machine) a ≡ decide (standing_things s.machine) a) × (forward (standing_things t.machine) a ≡ forward (standing_things s.machine) a)
+  bears_none s t call x a kept none = step s t call x a kept (λ b. none (bears_on a (changed_name x.next.change) b))
 
-  pub decides-once : (s t : SwitchState) (x : IsBegin plan workers capacities s t) (es : List (Call Rid × SwitchState)) (run : AreAnswers plan workers t es) (used : Owner → Bool) (prefix : Prefix) (a : Ip) → IsSafe plan workers capacities s → x.flight.key ≡ key.Route prefix → IsQuiet s → IsQuiet (after_answers t es) → IsUsedByOthers plan s.machine.board.applied x.flight.key used → SwitchesOnce (λ n. decide (standing (after_answers t (take n es)).machine) a) (decide (standing s.machine) a) (decide (standing (after_answers t es).machine) a)
+  pub decides-once : (s t : SwitchState) (x : IsBegin plan workers capacities s t) (es : List (Call Rid × SwitchState)) (run : AreAnswers plan workers t es) (used : Owner → Bool) (prefix : Prefix) (a : Ip) → IsSafe plan workers capacities s → x.flight.key ≡ key.Route prefix → IsQuiet s → IsQuiet (after_answers t es) → IsUsedByOthers plan s.machine.board.applied x.flight.key used → SwitchesOnce (λ n. decide (standing_things (after_answers t (take n es)).machine) a) (decide (standing_things s.machine) a) (decide (standing_things (after_answers t es).machine) a)
   decides-once s t x es run used prefix a kept route quiet end by =
-      route-switches (λ m. decide (standing m) a) (λ m later e. ap (λ ts. decide (map (λ (y : Rid × Thing). y.1) ts) a) e) (λ s t call x kept none. (bears_none s t call x a kept none).0) s t x es run used prefix kept route quiet end by
+      route-switches (λ m. decide (standing_things m) a) (λ m later e. ap (λ ts. decide (map (λ (y : Rid × Thing). y.1) ts) a) e) (λ s t call x kept none. (bears_none s t call x a kept none).0) s t x es run used prefix kept route quiet end by
 
-  pub forwards-once : (s t : SwitchState) (x : IsBegin plan workers capacities s t) (es : List (Call Rid × SwitchState)) (run : AreAnswers plan workers t es) (used : Owner → Bool) (prefix : Prefix) (a : Ip) → IsSafe plan workers capacities s → x.flight.key ≡ key.Route prefix → IsQuiet s → IsQuiet (after_answers t es) → IsUsedByOthers plan s.machine.board.applied x.flight.key used → SwitchesOnce (λ n. forward (standing (after_answers t (take n es)).machine) a) (forward (standing s.machine) a) (forward (standing (after_answers t es).machine) a)
+  pub forwards-once : (s t : SwitchState) (x : IsBegin plan workers capacities s t) (es : List (Call Rid × SwitchState)) (run : AreAnswers plan workers t es) (used : Owner → Bool) (prefix : Prefix) (a : Ip) → IsSafe plan workers capacities s → x.flight.key ≡ key.Route prefix → IsQuiet s → IsQuiet (after_answers t es) → IsUsedByOthers plan s.machine.board.applied x.flight.key used → SwitchesOnce (λ n. forward (standing_things (after_answers t (take n es)).machine) a) (forward (standing_things s.machine) a) (forward (standing_things (after_answers t es).machine) a)
   forwards-once s t x es run used prefix a kept route quiet end by =
-      route-switches (λ m. forward (standing m) a) (λ m later e. ap (λ ts. forward (map (λ (y : Rid × Thing). y.1) ts) a) e) (λ s t call x kept none. (bears_none s t call x a kept none).1) s t x es run used prefix kept route quiet end by
+      route-switches (λ m. forward (standing_things m) a) (λ m later e. ap (λ ts. forward (map (λ (y : Rid × Thing). y.1) ts) a) e) (λ s t call x kept none. (bears_none s t call x a kept none).1) s t x es run used prefix kept route quiet end by

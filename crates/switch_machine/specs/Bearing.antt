@@ -8,7 +8,7 @@ use Rattle.sai_types.specs.Alike.{IsIn}
 use Rattle.sai_types.specs.Names as name
 use Rattle.sai_types.specs.Names.{Name}
 use Rattle.row_layout.specs.Operations.{Change}
-use Rattle.switch_machine.specs.Changes.{changed}
+use Rattle.switch_machine.specs.Changes.{changed_name}
 use Rattle.switch_machine.specs.Flights.{Machine}
 
 -- what has this name bears on where packets go
@@ -26,7 +26,7 @@ BearsOn a (name.Neighbor hop) = Unit {0}
 BearsOn a _ = ⊥
 
 abbrev pub NoneBears : List Change → Type 0
-NoneBears cs = (c : Change) → IsIn c cs → Bears (changed c) → ⊥
+NoneBears cs = (c : Change) → IsIn c cs → Bears (changed_name c) → ⊥
 
 -- one change at most bears, and it is about what has this name
 pub record BearsOnce (n : Name) (cs : List Change) : Type 0 where
@@ -35,12 +35,12 @@ pub record BearsOnce (n : Name) (cs : List Change) : Type 0 where
   pub after : List Change
   pub parts : cs ≡ before ++ (middle ++ after)
   pub first : NoneBears before
-  pub once : (middle ≡ []) ⊎ ((c : Change) × (middle ≡ c ∷ []) × (changed c ≡ n))
+  pub once : (middle ≡ []) ⊎ ((c : Change) × (middle ≡ c ∷ []) × (changed_name c ≡ n))
   pub last : NoneBears after
 
 -- what stands, as a list
-abbrev pub standing : Machine → List Thing
-standing m = map (λ (x : Rid × Thing). x.1) m.stands
+abbrev pub standing_things : Machine → List Thing
+standing_things m = map (λ (x : Rid × Thing). x.1) m.stands
 
 -- a value is the old one up to a moment, and the new one from then on
 pub record SwitchesOnce {X : Type 0} (value : ℕ → X) (old new : X) : Type 0 where

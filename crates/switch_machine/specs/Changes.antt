@@ -17,10 +17,10 @@ use Rattle.sai_types.specs.Names.{Name, Refers, name_of}
 use Rattle.row_layout.specs.Operations.{Change, Make, Set, Take}
 
 -- the name that a change is about
-abbrev pub changed : Change → Name
-changed (Make t) = name_of t
-changed (Set t) = name_of t
-changed (Take n) = n
+abbrev pub changed_name : Change → Name
+changed_name (Make t) = name_of t
+changed_name (Set t) = name_of t
+changed_name (Take n) = n
 
 -- a change sets or takes away what has this name
 abbrev pub Disturbs : Change → Name → Type 0

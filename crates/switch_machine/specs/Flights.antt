@@ -18,7 +18,7 @@ use Rattle.sai_types.specs.Names as name
 use Rattle.row_layout.specs.Rows.{Owner, OfRow, from, goal_of, own_things, owner_of}
 use Rattle.row_layout.specs.Operations.{Change, Make, Set, Take, uses_of}
 use Rattle.row_layout.specs.Shared.{shared_things}
-use Rattle.switch_machine.specs.Changes.{IsSettable, Resembles, after, changed}
+use Rattle.switch_machine.specs.Changes.{IsSettable, Resembles, after, changed_name}
 
 -- an operation of a worker: its key, the row that the key is to have, what it shared before and has still to leave, and what it retires because it left it last
 pub record Flight : Type 0 where
@@ -159,4 +159,4 @@ Runs plan f view (c ∷ cs) = Can plan f view c × Runs plan f (λ u. after c (v
 
 -- a change of the list is about something of this owner
 abbrev pub HasChangeOf : Ports → List Change → Owner → Type 0
-HasChangeOf plan cs o = (c : Change) × IsIn c cs × IsOwnedBy plan (changed c) o
+HasChangeOf plan cs o = (c : Change) × IsIn c cs × IsOwnedBy plan (changed_name c) o

@@ -33,9 +33,9 @@ ghost use Rattle.row_layout.specs.Rows.{Owner, own_things};
 ghost use Rattle.switch_machine.specs.Changes.{Disturbs};
 ghost use Rattle.switch_machine.specs.Events.{AreAnswers, AreEvents, IsAnswer, IsBegin, IsDrop, IsDueCall, IsEvent, IsQuiet, IsSafe, SwitchState, after_answers, after_events, calls_of, changes_made, empty_switch, fresh_view};
 ghost use Rattle.switch_machine.specs.Flights.{Fits, Flight, IsResting, IsRow, StandsIn};
-ghost use Rattle.switch_machine.specs.Bearing.{BearsOnce, SwitchesOnce, standing};
+ghost use Rattle.switch_machine.specs.Bearing.{BearsOnce, SwitchesOnce, standing_things};
 ghost use Rattle.switch_machine.specs.Needs.{OfCall, OfList, OfMark, OfWrite, need_of};
-ghost use Rattle.switch_machine.specs.Next.{HasReason, IsIdle, IsNext};
+ghost use Rattle.switch_machine.specs.Next.{MustWait, IsIdle, IsNextEvent};
 ghost use Rattle.switch_machine.specs.Operations.{IsUsedByOthers, MayBegin};
 ghost use Rattle.switch_machine.specs.Places.{HasRoomFor};
 ghost use Rattle.switch_machine.specs.Reasons.{IsInTheWay, IsPrepared, IsReason, LacksRoom};
@@ -94,9 +94,9 @@ pub fn others_are_undisturbed()
 
 /// A key that has a reason to wait has no other, and neither begins nor leaves those to sync otherwise.
 pub fn reasons_hinder()
-    ensures begins { (plan : Ports) (workers : ℕ) (capacities : List ℕ) (s t : SwitchState) (x : IsBegin plan workers capacities s t) → IsPlan plan → HasReason plan workers capacities s x.flight.key → ⊥ }
+    ensures begins { (plan : Ports) (workers : ℕ) (capacities : List ℕ) (s t : SwitchState) (x : IsBegin plan workers capacities s t) → IsPlan plan → MustWait plan workers capacities s x.flight.key → ⊥ }
     ensures one { (plan : Ports) (workers : ℕ) (capacities : List ℕ) (s : SwitchState) (k : Key) (a b : Wait) → IsPlan plan → IsSafe plan workers capacities s → IsReason plan workers capacities s k a → IsReason plan workers capacities s k b → a ≡ b }
-    ensures drops { (plan : Ports) (workers : ℕ) (capacities : List ℕ) (s t : SwitchState) (x : IsDrop plan s t) → IsPlan plan → IsSafe plan workers capacities s → HasReason plan workers capacities s x.key → ⊥ }
+    ensures drops { (plan : Ports) (workers : ℕ) (capacities : List ℕ) (s t : SwitchState) (x : IsDrop plan s t) → IsPlan plan → IsSafe plan workers capacities s → MustWait plan workers capacities s x.key → ⊥ }
 {}
 
 /// Of the changes of a route's operation one at most is about a route, an own address or a neighbour, and it is about the
@@ -108,9 +108,9 @@ pub fn route_changes_once()
 /// While the operation of a route runs, beside whatever others, each of its calls leaves where the packets of an address go
 /// that its prefix doesn't cover. Where it runs alone, where the packets of any address go changes at most once.
 pub fn routes_are_steady()
-    ensures outside { (plan : Ports) (workers : ℕ) (capacities : List ℕ) (s t : SwitchState) (call : Call Rid) (x : IsAnswer plan workers call s t) (prefix : Prefix) (a : Ip) → IsPlan plan → IsSafe plan workers capacities s → x.next.flight.key ≡ key.Route prefix → covers prefix a ≡ false → (decide (standing t.machine) a ≡ decide (standing s.machine) a) × (forward (standing t.machine) a ≡ forward (standing s.machine) a) }
-    ensures decided { (plan : Ports) (workers : ℕ) (capacities : List ℕ) (s t : SwitchState) (x : IsBegin plan workers capacities s t) (es : List (Call Rid × SwitchState)) (run : AreAnswers plan workers t es) (used : Owner → Bool) (prefix : Prefix) (a : Ip) → IsPlan plan → IsSafe plan workers capacities s → x.flight.key ≡ key.Route prefix → IsQuiet s → IsQuiet (after_answers t es) → IsUsedByOthers plan s.machine.board.applied x.flight.key used → SwitchesOnce (λ n. decide (standing (after_answers t (take n es)).machine) a) (decide (standing s.machine) a) (decide (standing (after_answers t es).machine) a) }
-    ensures forwarded { (plan : Ports) (workers : ℕ) (capacities : List ℕ) (s t : SwitchState) (x : IsBegin plan workers capacities s t) (es : List (Call Rid × SwitchState)) (run : AreAnswers plan workers t es) (used : Owner → Bool) (prefix : Prefix) (a : Ip) → IsPlan plan → IsSafe plan workers capacities s → x.flight.key ≡ key.Route prefix → IsQuiet s → IsQuiet (after_answers t es) → IsUsedByOthers plan s.machine.board.applied x.flight.key used → SwitchesOnce (λ n. forward (standing (after_answers t (take n es)).machine) a) (forward (standing s.machine) a) (forward (standing (after_answers t es).machine) a) }
+    ensures outside { (plan : Ports) (workers : ℕ) (capacities : List ℕ) (s t : SwitchState) (call : Call Rid) (x : IsAnswer plan workers call s t) (prefix : Prefix) (a : Ip) → IsPlan plan → IsSafe plan workers capacities s → x.next.flight.key ≡ key.Route prefix → covers prefix a ≡ false → (decide (standing_things t.machine) a ≡ decide (standing_things s.machine) a) × (forward (standing_things t.machine) a ≡ forward (standing_things s.machine) a) }
+    ensures decided { (plan : Ports) (workers : ℕ) (capacities : List ℕ) (s t : SwitchState) (x : IsBegin plan workers capacities s t) (es : List (Call Rid × SwitchState)) (run : AreAnswers plan workers t es) (used : Owner → Bool) (prefix : Prefix) (a : Ip) → IsPlan plan → IsSafe plan workers capacities s → x.flight.key ≡ key.Route prefix → IsQuiet s → IsQuiet (after_answers t es) → IsUsedByOthers plan s.machine.board.applied x.flight.key used → SwitchesOnce (λ n. decide (standing_things (after_answers t (take n es)).machine) a) (decide (standing_things s.machine) a) (decide (standing_things (after_answers t es).machine) a) }
+    ensures forwarded { (plan : Ports) (workers : ℕ) (capacities : List ℕ) (s t : SwitchState) (x : IsBegin plan workers capacities s t) (es : List (Call Rid × SwitchState)) (run : AreAnswers plan workers t es) (used : Owner → Bool) (prefix : Prefix) (a : Ip) → IsPlan plan → IsSafe plan workers capacities s → x.flight.key ≡ key.Route prefix → IsQuiet s → IsQuiet (after_answers t es) → IsUsedByOthers plan s.machine.board.applied x.flight.key used → SwitchesOnce (λ n. forward (standing_things (after_answers t (take n es)).machine) a) (forward (standing_things s.machine) a) (forward (standing_things (after_answers t es).machine) a) }
 {}
 
 /// What an event adds to the log takes no more places than it needs: a write that is taken, a call with its effect and the mark
@@ -131,7 +131,7 @@ pub fn free_keys_begin()
 /// What a worker does next is an event, or nothing. Where it is idle no event of any worker applies but the call that is due
 /// for another's operation; and where no other has one, every key to sync has a true reason.
 pub fn idle_is_true()
-    ensures next { (plan : Ports) (workers : ℕ) (capacities : List ℕ) (w : ℕ) (s t : SwitchState) (c : Option (Call Rid)) → IsNext plan workers capacities w s c t → IsEvent plan workers capacities s c t ⊎ (IsIdle plan workers capacities w s × (c ≡ None) × (t ≡ s)) }
-    ensures none { (plan : Ports) (workers : ℕ) (capacities : List ℕ) (w : ℕ) (s t : SwitchState) (c : Option (Call Rid)) → IsPlan plan → IsSafe plan workers capacities s → IsIdle plan workers capacities w s → IsNext plan workers capacities w s c t → (c ≡ None) × (t ≡ s) }
+    ensures next { (plan : Ports) (workers : ℕ) (capacities : List ℕ) (w : ℕ) (s t : SwitchState) (c : Option (Call Rid)) → IsNextEvent plan workers capacities w s c t → IsEvent plan workers capacities s c t ⊎ (IsIdle plan workers capacities w s × (c ≡ None) × (t ≡ s)) }
+    ensures none { (plan : Ports) (workers : ℕ) (capacities : List ℕ) (w : ℕ) (s t : SwitchState) (c : Option (Call Rid)) → IsPlan plan → IsSafe plan workers capacities s → IsIdle plan workers capacities w s → IsNextEvent plan workers capacities w s c t → (c ≡ None) × (t ≡ s) }
     ensures reasons { (plan : Ports) (workers : ℕ) (capacities : List ℕ) (w : ℕ) (s : SwitchState) (k : Key) → IsPlan plan → IsSafe plan workers capacities s → IsIdle plan workers capacities w s → IsQuiet s → IsIn k s.to_sync → (wait : Wait) × IsTrueReason plan capacities (good_of plan s.written) s.machine.board.applied k wait × NamesFirstKind plan capacities (good_of plan s.written) s.machine.board.applied k wait }
 {}
