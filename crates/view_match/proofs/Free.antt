@@ -1,5 +1,5 @@
 -- no place stands in two pairs
-use Rattle.std.proofs.Common.{◌≡◌, ◌≢◌, ◌⊎◌, inl, inr, ℕ, ◌+◌, ◌<◌, ◌≤◌, Bool, true, false, cond, List, [], ◌∷◌, ◌++◌, Option, None, Some, option_map, refl, sym, ap, ◌∙◌, subst, arith}
+use Rattle.std.proofs.Common.{◌≡◌, ◌≢◌, ◌⊎◌, inl, inr, ℕ, ◌+◌, ◌<◌, ◌≤◌, Bool, true, false, cond, List, [], ◌∷◌, ◌++◌, length, drop, drop-cons, get_or, suc, Option, None, Some, option_map, refl, sym, ap, ◌∙◌, subst, arith}
 use Rattle.std.specs.BTreeMap.{is_at}
 use Rattle.std.proofs.lemmas.Bool.{false≢true}
 use Rattle.std.proofs.lemmas.Map.Views.{tells_apart}
@@ -88,14 +88,15 @@ further : (objects : Objects) (key : Option NaturalKey) (keys : List (Option Nat
 further objects None keys place p h = let l = h.later in record { later = omega (arith, l); key = h.key; among = h.among; partner = h.partner }
 further objects (Some k) keys place p h = let l = h.later in record { later = omega (arith, l); key = h.key; among = inr h.among; partner = h.partner }
 
+pair_by : (objects : Objects) (key : Option NaturalKey) (keys : List (Option NaturalKey)) (place : ℕ) (o : Option ℕ) (p : ℕ × ℕ) → partner_of objects key ≡ o → (IsIn p (pairs_from objects keys (place + 1)) → IsPairOf objects keys (place + 1) p) → IsIn p (with_pair o place (pairs_from objects keys (place + 1))) → IsPairOf objects (key ∷ keys) place p
+pair_by objects key keys place None p e rest h = further objects key keys place p (rest h)
+pair_by objects key keys place (Some i) p e rest (inr h) = further objects key keys place p (rest h)
+pair_by objects None keys place (Some i) p e rest (inl h) = absurd cc
+pair_by objects (Some k) keys place (Some i) p e rest (inl h) = record { later = subst (λ (q : ℕ × ℕ). place ≤ q.1) (sym h) (omega arith); key = k; among = inl refl; partner = e ∙ ap (λ (q : ℕ × ℕ). Some q.0) (sym h) }
+
 pair_of : (objects : Objects) (keys : List (Option NaturalKey)) (place : ℕ) (p : ℕ × ℕ) → IsIn p (pairs_from objects keys place) → IsPairOf objects keys place p
-pair_by : (objects : Objects) (key : Option NaturalKey) (keys : List (Option NaturalKey)) (place : ℕ) (o : Option ℕ) (p : ℕ × ℕ) → partner_of objects key ≡ o → IsIn p (with_pair o place (pairs_from objects keys (place + 1))) → IsPairOf objects (key ∷ keys) place p
-pair_by objects key keys place None p e h = further objects key keys place p (pair_of objects keys (place + 1) p h)
-pair_by objects key keys place (Some i) p e (inr h) = further objects key keys place p (pair_of objects keys (place + 1) p h)
-pair_by objects None keys place (Some i) p e (inl h) = absurd cc
-pair_by objects (Some k) keys place (Some i) p e (inl h) = record { later = subst (λ (q : ℕ × ℕ). place ≤ q.1) (sym h) (omega arith); key = k; among = inl refl; partner = e ∙ ap (λ (q : ℕ × ℕ). Some q.0) (sym h) }
 pair_of objects [] place p h = absurd h
-pair_of objects (key ∷ keys) place p h = pair_by objects key keys place (partner_of objects key) p refl h
+pair_of objects (key ∷ keys) place p h = pair_by objects key keys place (partner_of objects key) p refl (pair_of objects keys (place + 1) p) h
 
 -- a pair and those behind it have no place in common
 abbrev pub AreFree : List (ℕ × ℕ) → Type 0
@@ -109,11 +110,13 @@ behind (Some k) keys h = h.1
 free_by : (objects : Objects) (key : Option NaturalKey) (keys : List (Option NaturalKey)) (place : ℕ) (o : Option ℕ) → partner_of objects key ≡ o → AreDistinct (those (key ∷ keys)) → AreFree (pairs_from objects keys (place + 1)) → AreFree (with_pair o place (pairs_from objects keys (place + 1)))
 free_by objects key keys place None e apart rest = rest
 free_by objects None keys place (Some i) e apart rest = absurd cc
-free_by objects (Some k) keys place (Some i) e apart rest =
-    (λ q h.
-        let x = pair_of objects keys (place + 1) q h in
-        let l = x.later in
-        (λ same. apart.0 (subst (λ z. IsIn z (those keys)) (one-partner objects x.key k q.0 x.partner (e ∙ ap Some same)) x.among), λ same. omega (arith, l, same)), rest)
+free_by objects (Some k) keys place (Some i) e apart rest = (
+  λ q h.
+      let x = pair_of objects keys (place + 1) q h in
+      let l = x.later in
+      (λ same. apart.0 (subst (λ z. IsIn z (those keys)) (one-partner objects x.key k q.0 x.partner (e ∙ ap Some same)) x.among), λ same. omega (arith, l, same)),
+  rest,
+)
 
 pub pairs-free : (objects : Objects) (keys : List (Option NaturalKey)) (place : ℕ) → AreDistinct (those keys) → AreFree (pairs_from objects keys place)
 pairs-free objects [] place apart = tt
@@ -127,3 +130,10 @@ free-before (q ∷ front) rest p h = let apart = h.0 p (in_middle front rest p) 
     in_middle : (front rest : List (ℕ × ℕ)) (p : ℕ × ℕ) → IsIn p (front ++ p ∷ rest)
     in_middle [] rest p = inl refl
     in_middle (q ∷ front) rest p = inr (in_middle front rest p)
+
+pub push-free : (objects : Objects) (keys : List (Option NaturalKey)) (n place i : ℕ) (key : Option NaturalKey) (front : List (ℕ × ℕ)) → n < length keys → key ≡ get_or keys n key → partner_of objects key ≡ Some i → AreDistinct (those keys) → front ++ pairs_from objects (drop n keys) place ≡ pairs_from objects keys 0 → IsFree front (i, place)
+push-free objects keys n place i key front within is partner apart all =
+    let split : drop n keys ≡ key ∷ drop (suc n) keys = drop-cons keys n key within ∙ ap (λ k. k ∷ drop (suc n) keys) (sym is) in
+    let here : pairs_from objects (drop n keys) place ≡ (i, place) ∷ pairs_from objects (drop (suc n) keys) (place + 1) =
+    ap (λ ks. pairs_from objects ks place) split ∙ ap (λ o. with_pair o place (pairs_from objects (drop (suc n) keys) (place + 1))) partner in
+    free-before front (pairs_from objects (drop (suc n) keys) (place + 1)) (i, place) (subst AreFree (sym all ∙ ap (λ ps. front ++ ps) here) (pairs-free objects keys 0 apart))

@@ -22,6 +22,11 @@ group_number (entry.Oid g, body.Group) = g.0
 group_number (e, body.GroupMember g n) = g.0
 group_number _ = 0
 
+-- the same, where there is an object
+abbrev pub group_of : Option (Entry Rid × Body Rid) → ℕ
+group_of None = 0
+group_of (Some o) = group_number o
+
 -- whether an object stands in the place of what was found so far: of two objects of one natural key the one whose group has the lesser number, else the earlier one
 abbrev pub replaces : Option Partner → Partner → Bool
 replaces None p = true

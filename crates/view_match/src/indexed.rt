@@ -55,11 +55,7 @@ fn group_number(object: &Object<Rid>) -> u64
 }
 
 /// Puts an object under its key, where it has one.
-fn put_if(
-    index: &mut Index,
-    key: Option<NaturalKey>,
-    partner: Partner,
-) -> Result<(), OutOfMemory>
+fn put_if(index: &mut Index, key: Option<NaturalKey>, partner: Partner) -> Result<(), OutOfMemory>
     ensures { OnOk result ((k : NaturalKey) → lookup (is_at (key_cmp k)) index.new.entries ≡ with_object (lookup (is_at (key_cmp k)) index.old.entries) key partner k) }
 {
     match key {
@@ -80,7 +76,7 @@ fn put(index: &mut Index, key: NaturalKey, partner: Partner) -> Result<(), OutOf
 
 /// Whether an object stands in place of the one that was found, where one was found.
 fn is_lesser(found: Option<&Partner>, partner: Partner) -> bool
-    ensures { result ≡ replaces (option_copied found) partner }
+    ensures { result ≡ replaces (option_copied found.entry) partner }
 {
     match found {
         Some(found) => partner.group < found.group,

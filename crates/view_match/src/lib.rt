@@ -3,9 +3,11 @@
 
 mod indexed;
 mod key;
+mod laws;
 mod listed;
 mod pairing;
 
 pub use key::{NaturalKey, natural_keys};
+pub use laws::{keys_are_ordered, pairs_are_of_one_key};
 pub use listed::as_listed;
 pub use pairing::pair;

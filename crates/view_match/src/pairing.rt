@@ -15,11 +15,7 @@ use swss_types::OutOfMemory;
 /// Pairs each new object with the old one of its natural key: a group with the old group whose members have the same
 /// hops, of several such with the one of the least identifier, and a member with that member of the paired group. The
 /// pairs come in the order of the new objects.
-pub fn pair(
-    alloc: Global,
-    old: &[Object<Rid>],
-    new: &[Object<Vid>],
-) -> Result<Pairing, OutOfMemory>
+pub fn pair(alloc: Global, old: &[Object<Rid>], new: &[Object<Vid>]) -> Result<Pairing, OutOfMemory>
     requires distinct { AreDistinct (those (new_keys new.now)) }
     ensures { IfOk result (λ pairing. pairing ≡ pairs_of old.now new.now) }
 {
