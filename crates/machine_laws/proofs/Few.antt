@@ -109,8 +109,8 @@ most_shared (key.Route prefix) = 129
 most_shared _ = 1
 
 -- a row reads
-abbrev Reads : Ports → Key → Row → Type 0
-Reads plan k r = (fields : Option Pairs) × (good_row plan k fields ≡ Some r)
+abbrev HasFields : Ports → Key → Row → Type 0
+HasFields plan k r = (fields : Option Pairs) × (good_row plan k fields ≡ Some r)
 
 hops_length : (plan : Ports) (hops : List RowHop) (out : List Hop) → hops_of plan hops ≡ Some out → length out ≤ length hops
 hops_length plan [] out h = let same = ap length (same_Some [] out h) in omega (arith, same)
@@ -147,7 +147,7 @@ address_few plan (on.Ethernet port) ip p h = let x = from_in (lane_of plan port)
 address_few plan (on.Vlan vlan) ip p h = only (λ z. length (shared_things z) ≤ 1) p (owner.Own ip) (omega arith) h
 address_few plan (on.Loopback number) ip p h = only (λ z. length (shared_things z) ≤ 1) p (owner.Own ip) (omega arith) h
 
-uses_few : (plan : Ports) (k : Key) (r : Row) (p : Owner) → Reads plan k r → IsIn p (uses plan k r) → length (shared_things p) ≤ most_shared k
+uses_few : (plan : Ports) (k : Key) (r : Row) (p : Owner) → HasFields plan k r → IsIn p (uses plan k r) → length (shared_things p) ≤ most_shared k
 uses_few plan (key.Member vlan port) (row.Member tagging) p reads h = let x = from_in (lane_of plan port) (λ lane. owner.Bridge lane ∷ []) p h in only (λ z. length (shared_things z) ≤ 1) p (owner.Bridge x.0) (omega arith) x.2
 uses_few plan (key.Addr n ip len) row.Addr p reads h = address_few plan n ip p h
 uses_few plan (key.Route prefix) (row.Route t) p reads h = route_few plan t p (hops-few plan prefix reads.0 t reads.1) h
@@ -161,7 +161,7 @@ going_same (owner.Group hops) = let sum = length-append (members_of hops hops) (
 
 -- each row that the key has, if it has one, reads
 abbrev pub HasReadRow : Ports → Key → Option Row → Type 0
-HasReadRow plan k o = (r : Row) → o ≡ Some r → Reads plan k r
+HasReadRow plan k o = (r : Row) → o ≡ Some r → HasFields plan k r
 
 shared_few : (plan : Ports) (k : Key) (o : Option Row) (p : Owner) → HasReadRow plan k o → IsIn p (uses_of plan k o) → length (shared_things p) ≤ most_shared k
 shared_few plan k None p reads h = elim h [ ]

@@ -25,7 +25,7 @@ use Rattle.restart_laws.specs.Logged.{AddsFault, AddsMark, AreLoggedSteps, IsLef
 use Rattle.restart_laws.specs.Restored.{keys_waiting, waiting_of}
 use Rattle.restart_laws.specs.Service.{CallFails, IsDue, IsServiceEvent, OfApply, OfFault, OfFinish, OfFlight, OfList, OfListFault, OfPlan, OfRestart, OfRestore, OfTake, OfWork, Restores, Service, forgotten}
 use Rattle.restart_laws.proofs.Holding.{in_state}
-use Rattle.restart_laws.proofs.Logged.{IsTold, told-first, told-step}
+use Rattle.restart_laws.proofs.Logged.{IsToldLog, told-first, told-step}
 use Rattle.restart_laws.proofs.Passing.{restored-keeps}
 use Rattle.restart_laws.proofs.Restoring.{restored-written}
 
@@ -185,7 +185,7 @@ module _ (plan : Ports) (is : IsPlan plan) (workers : ℕ) (capacities : List �
   IsBounded s = PaidIn s.service.warm s.service.core (outside s) (listed s)
 
   abbrev Told : LoggedService → Type 0
-  Told = IsTold plan is workers capacities
+  Told = IsToldLog plan is workers capacities
 
   as_in : (s : LoggedService) (w : Warm) → s.service.warm ≡ w → IsBounded s → PaidIn w s.service.core (outside s) (listed s)
   as_in s w at x = subst (λ z. PaidIn z s.service.core (outside s) (listed s)) at x

@@ -33,7 +33,7 @@ use Rattle.restart_laws.specs.Logged.{AddsFault, AreLoggedSteps, IsLeftIn, IsLog
 use Rattle.restart_laws.specs.Restored.{waiting_of}
 use Rattle.restart_laws.specs.Service.{CallFails, IsDue, IsServiceEvent, OfApply, OfFault, OfFinish, OfFlight, OfList, OfListFault, OfPlan, OfRestart, OfRestore, OfTake, OfWork}
 use Rattle.restart_laws.proofs.Ended.{apart}
-use Rattle.restart_laws.proofs.Logged.{IsTold, told-first, told-step}
+use Rattle.restart_laws.proofs.Logged.{IsToldLog, told-first, told-step}
 use Rattle.restart_laws.proofs.Marking.{last-more}
 use Rattle.restart_laws.proofs.Steadied.{under-steady}
 use Rattle.restart_laws.proofs.Underway.{IsUnderWay, under-step}
@@ -133,7 +133,7 @@ module _ (plan : Ports) (is : IsPlan plan) (workers : ℕ) (capacities : List �
   -- ---- the last mark, by what is under way
 
   abbrev Told : LoggedService → Type 0
-  Told = IsTold plan is workers capacities
+  Told = IsToldLog plan is workers capacities
 
   abbrev Under : LoggedService → Type 0
   Under s = IsUnderWay plan is workers capacities s

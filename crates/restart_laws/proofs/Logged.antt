@@ -105,7 +105,7 @@ module _ (plan : Ports) (is : IsPlan plan) (workers : ℕ) (capacities : List �
     pub least : mark.taken ≤ length s.log.taken
     pub rows : (q : Key) → applied_at plan s.log.taken mark waits q ≡ s.service.core.machine.board.applied q
 
-  pub record IsTold (s : LoggedService) : Type 0 where
+  pub record IsToldLog (s : LoggedService) : Type 0 where
     pub holds : Holds plan workers capacities s.service
     pub tells : Tells s.service.core s.log s.effects
     pub warm : IsWarmAfter (last_mark None s.log.marks) s.service.warm
@@ -118,19 +118,19 @@ module _ (plan : Ports) (is : IsPlan plan) (workers : ℕ) (capacities : List �
   abbrev with_log : Service → History → List (Call Rid) → LoggedService
   with_log t log effects = record { service = t; log = log; effects = effects }
 
-  back : (t : LoggedService) (log : History) (effects : List (Call Rid)) → t.log ≡ log → t.effects ≡ effects → IsTold (with_log t.service log effects) → IsTold t
-  back t log effects l e x = subst (λ z. IsTold (with_log t.service z t.effects)) (sym l) (subst (λ z. IsTold (with_log t.service log z)) (sym e) x)
+  back : (t : LoggedService) (log : History) (effects : List (Call Rid)) → t.log ≡ log → t.effects ≡ effects → IsToldLog (with_log t.service log effects) → IsToldLog t
+  back t log effects l e x = subst (λ z. IsToldLog (with_log t.service z t.effects)) (sym l) (subst (λ z. IsToldLog (with_log t.service log z)) (sym e) x)
 
   -- ---- an event that records a mark
 
-  module _ (s : LoggedService) (t : Service) (effects : List (Call Rid)) (e : MarkEvent) (told : IsTold s) (holds : Holds plan workers capacities t) (tells : Tells t.core s.log effects) (true : IsTrueMark plan capacities s.log.taken effects (last_mark None s.log.marks) (mark_now s.log effects e) e) (may : MayFollow (event_of (last_mark None s.log.marks)) e) (left : IsLeftIn e t.warm) where
+  module _ (s : LoggedService) (t : Service) (effects : List (Call Rid)) (e : MarkEvent) (told : IsToldLog s) (holds : Holds plan workers capacities t) (tells : Tells t.core s.log effects) (true : IsTrueMark plan capacities s.log.taken effects (last_mark None s.log.marks) (mark_now s.log effects e) e) (may : MayFollow (event_of (last_mark None s.log.marks)) e) (left : IsLeftIn e t.warm) where
     abbrev marked_log : History
     marked_log = with_mark s.log (mark_now s.log effects e)
 
     marked_warm : IsWarmAfter (last_mark None marked_log.marks) t.warm
     marked_warm = subst (λ o. IsWarmAfter o t.warm) (sym (last-more None s.log.marks (mark_now s.log effects e))) left
 
-    marked : (IsSettledMark e → ⊥) → (t.warm ≡ Applying → HasBegun (with_log t marked_log effects)) → IsTold (with_log t marked_log effects)
+    marked : (IsSettledMark e → ⊥) → (t.warm ≡ Applying → HasBegun (with_log t marked_log effects)) → IsToldLog (with_log t marked_log effects)
     marked other begun = record {
       holds = holds;
       tells = more_mark t.core s.log effects e true tells;
@@ -139,7 +139,7 @@ module _ (plan : Ports) (is : IsPlan plan) (workers : ℕ) (capacities : List �
       begun = begun;
     }
 
-    marked_end : MayEndRound e → (t.warm ≡ Applying → ⊥) → IsTold (with_log t (with_end marked_log) effects)
+    marked_end : MayEndRound e → (t.warm ≡ Applying → ⊥) → IsToldLog (with_log t (with_end marked_log) effects)
     marked_end ends none = record {
       holds = holds;
       tells = with_its_end t.core marked_log effects (more_mark t.core s.log effects e true tells);
@@ -148,13 +148,13 @@ module _ (plan : Ports) (is : IsPlan plan) (workers : ℕ) (capacities : List �
       begun = λ at. absurd (none at);
     }
 
-  adds : (s t : LoggedService) (effects : List (Call Rid)) (e : MarkEvent) → t.effects ≡ effects → AddsMark s t e → IsTold (with_log t.service (with_mark s.log (mark_now s.log effects e)) effects) → IsTold t
+  adds : (s t : LoggedService) (effects : List (Call Rid)) (e : MarkEvent) → t.effects ≡ effects → AddsMark s t e → IsToldLog (with_log t.service (with_mark s.log (mark_now s.log effects e)) effects) → IsToldLog t
   adds s t effects e same log x = back t (with_mark s.log (mark_now s.log effects e)) effects (log ∙ ap (λ z. with_mark s.log (mark_now s.log z e)) same) same x
 
   not_applying : (w : Warm) → w ≡ Suspect → w ≡ Applying → ⊥
   not_applying w e at = apart Suspect Applying (sym e ∙ at) (λ e. cc)
 
-  faulted : (s t : LoggedService) (effects : List (Call Rid)) → IsTold s → Holds plan workers capacities t.service → Tells t.service.core s.log effects → t.service.warm ≡ Suspect → (s.service.warm ≡ Suspect → ⊥) → t.effects ≡ effects → AddsFault s t → IsTold t
+  faulted : (s t : LoggedService) (effects : List (Call Rid)) → IsToldLog s → Holds plan workers capacities t.service → Tells t.service.core s.log effects → t.service.warm ≡ Suspect → (s.service.warm ≡ Suspect → ⊥) → t.effects ≡ effects → AddsFault s t → IsToldLog t
   faulted s t effects told holds tells at before same (a, b, less, inl log) =
       adds s t effects (event.Faulted a b) same log
       (marked s t.service effects (event.Faulted a b) told holds tells tt (may-fault (last_mark None s.log.marks) a b s.service.warm before told.warm) at (λ h. h) (λ go. absurd (not_applying t.service.warm at go)))
@@ -178,7 +178,7 @@ module _ (plan : Ports) (is : IsPlan plan) (workers : ℕ) (capacities : List �
   failed_tells s t log effects call None legal written x tells = subst (Tells t log) (sym (append-nil effects)) (same_core s t log effects (ap (λ (z : Written). z.taken) written) x.1 x.0 tells)
   failed_tells s t log effects call (Some c) legal written x tells = subst (λ z. Tells t log (effects ++ z ∷ [])) (sym x.0) (more_call s t log effects call legal (ap (λ (z : Written). z.taken) written) x.2 x.1 tells)
 
-  told_service : (s t : LoggedService) (c : Option (Call Rid)) (e : IsServiceEvent plan workers capacities s.service c t.service) → IsTold s → t.effects ≡ s.effects ++ with_made_call c [] → Records s t e → IsTold t
+  told_service : (s t : LoggedService) (c : Option (Call Rid)) (e : IsServiceEvent plan workers capacities s.service c t.service) → IsToldLog s → t.effects ≡ s.effects ++ with_made_call c [] → Records s t e → IsToldLog t
   told_service s t _ (OfTake _ x) told effects (sent, same, log) =
       back t (with_write s.log sent) s.effects log (no_call s t effects) (record {
         holds = holds-step plan is workers capacities s.service t.service None told.holds (OfTake t.service x);
@@ -264,7 +264,7 @@ module _ (plan : Ports) (is : IsPlan plan) (workers : ℕ) (capacities : List �
 
   -- ---- the events of the machine
 
-  told_machine : (s t : LoggedService) → IsTold s → s.service.warm ≡ Reconciled → t.service.warm ≡ Reconciled → IsLoggedEvent plan workers capacities (switch_of s) (switch_of t) → IsTold t
+  told_machine : (s t : LoggedService) → IsToldLog s → s.service.warm ≡ Reconciled → t.service.warm ≡ Reconciled → IsLoggedEvent plan workers capacities (switch_of s) (switch_of t) → IsToldLog t
   told_machine s t told before after e = record {
     holds = holds e;
     tells = record { taken = later.taken; objects = later.objects; made = later.made; legal = later.legal; within = later.within; marks = later.marks };
@@ -295,15 +295,15 @@ module _ (plan : Ports) (is : IsPlan plan) (workers : ℕ) (capacities : List �
           subst (λ z. IsWarmAfter (last_mark None z.marks) Reconciled × IsOrdered z) (sym x.log)
           (subst (λ o. IsWarmAfter o Reconciled) (sym (last-more None s.log.marks mark)) refl, ordered-end s.log mark told.ordered (may-settle (last_mark None s.log.marks) x.waits x.turns warm) tt)
 
-  pub told-step : (s t : LoggedService) → IsTold s → IsLoggedStep plan workers capacities s t → IsTold t
+  pub told-step : (s t : LoggedService) → IsToldLog s → IsLoggedStep plan workers capacities s t → IsToldLog t
   told-step s t told (OfMachine before after e) = told_machine s t told before after e
   told-step s t told (OfService c e effects records) = told_service s t c e told effects records
 
-  pub told-session : (s : LoggedService) (ts : List LoggedService) → IsTold s → AreLoggedSteps plan workers capacities s ts → IsTold (session_after s ts)
+  pub told-session : (s : LoggedService) (ts : List LoggedService) → IsToldLog s → AreLoggedSteps plan workers capacities s ts → IsToldLog (session_after s ts)
   told-session s [] told run = told
   told-session s (t ∷ ts) told run = told-session t ts (told-step s t told run.0) run.1
 
-  pub told-first : IsTold new_session
+  pub told-first : IsToldLog new_session
   told-first = record {
     holds = holds-new plan is workers capacities;
     tells = record { taken = refl; objects = refl; made = refl; legal = tt; within = tt; marks = tt };

@@ -33,13 +33,13 @@ use Rattle.restart_laws.specs.Restored.{only_things}
 use Rattle.restart_laws.specs.Service.{CallFails, IsDue, IsServiceEvent, OfApply, OfFault, OfFinish, OfFlight, OfList, OfListFault, OfPlan, OfRestart, OfRestore, OfTake, OfWork}
 use Rattle.restart_laws.proofs.Ended.{apart}
 use Rattle.restart_laws.proofs.Holding.{in_state}
-use Rattle.restart_laws.proofs.Logged.{IsTold, told-first, told-step}
+use Rattle.restart_laws.proofs.Logged.{IsToldLog, told-first, told-step}
 use Rattle.restart_laws.proofs.Underway.{IsUnderWay, chip-at, plan-origin, under-step}
 use Rattle.restart_laws.proofs.Viewing.{things-in}
 
 module _ (plan : Ports) (is : IsPlan plan) (workers : ℕ) (capacities : List ℕ) where
   abbrev Told : LoggedService → Type 0
-  Told = IsTold plan is workers capacities
+  Told = IsToldLog plan is workers capacities
 
   abbrev Under : LoggedService → Type 0
   Under s = s.service.warm ≡ Applying → IsUnderWay plan is workers capacities s

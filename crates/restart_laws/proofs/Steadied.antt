@@ -190,7 +190,7 @@ module _ (plan : Ports) (is : IsPlan plan) (workers : ℕ) (capacities : List �
   same q = same_rows plan is workers capacities first.core.written x.view u.holds.safe.told u.holds.safe.dated x.restored s.log.taken u.mark u.taken q
 
   -- the chip after so many effects is that after the first calls of the plan
-  record IsMoment (k : ℕ) : Type 0 where
+  record IsPlace (k : ℕ) : Type 0 where
     xs : List (Call Rid)
     ys : List (Call Rid)
     parts : u.done ≡ xs ++ ys
@@ -207,7 +207,7 @@ module _ (plan : Ports) (is : IsPlan plan) (workers : ℕ) (capacities : List �
   total : to ≡ length u.before + length u.done
   total = ap length u.effects ∙ length-append u.before u.done
 
-  moment : (k : ℕ) → from ≤ k → k ≤ to → IsMoment k
+  moment : (k : ℕ) → from ≤ k → k ≤ to → IsPlace k
   moment k least most =
       let number = u.number in
       let sum = total in

@@ -32,7 +32,7 @@ use Rattle.restart_laws.specs.Service.{IsServiceEvent, OfApply, OfFault, OfFinis
 use Rattle.restart_laws.proofs.Ended.{apart}
 use Rattle.restart_laws.proofs.Holding.{planned-from, view_fits}
 use Rattle.restart_laws.proofs.Leading.{applies-cold, applies-hitless}
-use Rattle.restart_laws.proofs.Logged.{IsTold}
+use Rattle.restart_laws.proofs.Logged.{IsToldLog}
 use Rattle.restart_laws.proofs.Marking.{last-more}
 use Rattle.restart_laws.proofs.Passing.{restored-keeps}
 use Rattle.restart_laws.proofs.Viewing.{thing-planned, view-is}
@@ -60,7 +60,7 @@ module _ (plan : Ports) (is : IsPlan plan) (workers : ℕ) (capacities : List �
 
   -- ---- with each event
 
-  under_service : (s t : LoggedService) (c : Option (Call Rid)) (e : IsServiceEvent plan workers capacities s.service c t.service) → IsTold plan is workers capacities s → (s.service.warm ≡ Applying → IsUnderWay s) → t.effects ≡ s.effects ++ with_made_call c [] → Records s t e → t.service.warm ≡ Applying → IsUnderWay t
+  under_service : (s t : LoggedService) (c : Option (Call Rid)) (e : IsServiceEvent plan workers capacities s.service c t.service) → IsToldLog plan is workers capacities s → (s.service.warm ≡ Applying → IsUnderWay s) → t.effects ≡ s.effects ++ with_made_call c [] → Records s t e → t.service.warm ≡ Applying → IsUnderWay t
   under_service s t _ (OfTake _ x) told under effects (sent, same, log) at =
       let u = under (sym x.warm ∙ at) in
       record {
@@ -129,7 +129,7 @@ module _ (plan : Ports) (is : IsPlan plan) (workers : ℕ) (capacities : List �
       }
   under_service s t _ (OfFinish _ x) told under effects records at = apart Reconciled Applying (sym x.warm ∙ at) (λ e. cc)
 
-  pub under-step : (s t : LoggedService) → IsTold plan is workers capacities s → (s.service.warm ≡ Applying → IsUnderWay s) → IsLoggedStep plan workers capacities s t → t.service.warm ≡ Applying → IsUnderWay t
+  pub under-step : (s t : LoggedService) → IsToldLog plan is workers capacities s → (s.service.warm ≡ Applying → IsUnderWay s) → IsLoggedStep plan workers capacities s t → t.service.warm ≡ Applying → IsUnderWay t
   under-step s t told under (OfMachine before after e) at = apart Reconciled Applying (sym after ∙ at) (λ e. cc)
   under-step s t told under (OfService c e effects records) at = under_service s t c e told under effects records at
 
