@@ -1,7 +1,9 @@
 // Each file tests one subject; refused memory is tried by `rt try --test --fail-alloc N`, which refuses the Nth allocation.
 mod bodies;
+mod common;
 mod fields;
 mod log;
+mod names;
 mod outside;
 mod pending;
 mod queue;

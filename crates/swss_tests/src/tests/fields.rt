@@ -1,58 +1,24 @@
 // What fields are where memory is refused, and what rows read as. `rt try --test --fail-alloc N` refuses the Nth allocation
 // of the tests: a call that is refused memory says so and leaves what it was to change, and the next call answers as ever.
 // Without the flag no allocation is refused, and the tests go over small and large rows.
+use super::common::{NO_VALUES, Values, fill, name, show_fields, show_values, text, value};
 use std::alloc::Global;
 use std::process::Abort;
-use swss_types::{OutOfMemory, Text};
+use swss_types::OutOfMemory;
 use table_schema::{Fields, Key, PortPlan, Row, Sent, Write, has_colon, names, read_key, read_row};
-
-/// The most fields of a row in these tests.
-const MOST: usize = 90;
-
-fn text(rt: &impl Abort, alloc: Global, bytes: &str) -> Result<Text, OutOfMemory> {
-    Ok(Text::new(alloc, bytes.as_bytes())?.expect(rt, "a text"))
-}
-
-/// The name of a field, by its number.
-fn name(rt: &impl Abort, alloc: Global, number: u64) -> Result<Text, OutOfMemory> {
-    text(rt, alloc, format!(in alloc; "f{number:02}")?.as_str())
-}
-
-/// A value, by its number.
-fn value(rt: &impl Abort, alloc: Global, number: u64) -> Result<Text, OutOfMemory> {
-    text(rt, alloc, format!(in alloc; "{number}")?.as_str())
-}
 
 /// The names and values of fields, joined.
 fn shown(alloc: Global, fields: &Fields) -> Result<Vec<u8>, OutOfMemory> {
     let mut out = Vec::new(alloc);
-    for (name, value) in fields.items() {
-        out.extend_from_slice(name.bytes())?;
-        out.push(b'=')?;
-        out.extend_from_slice(value.bytes())?;
-        out.push(b' ')?;
-    }
+    show_fields(&mut out, fields)?;
     Ok(out)
 }
 
-/// The fields that have a value, joined as `shown` joins them. 0 is no value.
-fn wanted(alloc: Global, values: &[u64]) -> Result<Vec<u8>, OutOfMemory> {
+/// The fields that have a value, in the same form.
+fn wanted(alloc: Global, values: &Values) -> Result<Vec<u8>, OutOfMemory> {
     let mut out = Vec::new(alloc);
-    for (number, value) in values.iter().enumerate() {
-        if *value != 0 {
-            out.extend_from_slice(format!(in alloc; "f{number:02}={value} ")?.as_bytes())?;
-        }
-    }
+    show_values(alloc, &mut out, values)?;
     Ok(out)
-}
-
-/// Gives the fields of some numbers a value.
-fn fill(values: &mut [u64], from: u64, to: u64, value: u64) {
-    for (number, held) in values.iter_mut().enumerate() {
-        if from <= number as u64 && (number as u64) < to {
-            *held = value;
-        }
-    }
 }
 
 /// Fields of some numbers that have this value.
@@ -84,7 +50,7 @@ fn put_each(
 /// Merges fields of some numbers into others, and compares.
 fn merge_each(rt: &impl Abort, alloc: Global) -> Result<(), OutOfMemory> {
     let mut fields = Fields::new(alloc);
-    let mut values = [0; MOST];
+    let mut values = NO_VALUES;
     for (from, to, number) in [
         (2, 4, 1),
         (1, 3, 2),
@@ -117,7 +83,7 @@ fn find_each(
     rt: &impl Abort,
     alloc: Global,
     fields: &Fields,
-    values: &[u64],
+    values: &Values,
 ) -> Result<(), OutOfMemory> {
     for (at, number) in values.iter().enumerate() {
         let name = name(rt, alloc, at as u64)?;
@@ -141,7 +107,7 @@ fn from_pairs_each(rt: &impl Abort, alloc: Global, count: u64) -> Result<(), Out
             pairs.push((field, value(rt, alloc, number)?))?;
         }
     }
-    let mut values = [0; MOST];
+    let mut values = NO_VALUES;
     fill(&mut values, 0, count, 2);
     let wanted = wanted(alloc, &values)?;
     let fields = Fields::from_pairs(alloc, pairs)?;
@@ -196,8 +162,7 @@ fn row_shown(rt: &impl Abort, alloc: Global, line: &str) -> Result<Vec<u8>, OutO
     let mut out = Vec::new(alloc);
     if let Write::Set(key, fields) = sent.copy()?.write {
         key.write(&mut out)?;
-        out.push(b' ')?;
-        out.extend_from_slice(shown(alloc, &fields)?.as_slice())?;
+        show_fields(&mut out, &fields)?;
         if let Ok(row) = row {
             show_row(alloc, &mut out, &key, &row.copy()?)?;
         }
@@ -207,7 +172,7 @@ fn row_shown(rt: &impl Abort, alloc: Global, line: &str) -> Result<Vec<u8>, OutO
 
 /// Appends a row, and what it names.
 fn show_row(alloc: Global, out: &mut Vec<u8>, key: &Key, row: &Row) -> Result<(), OutOfMemory> {
-    out.extend_from_slice(format!(in alloc; "{row:?}")?.as_bytes())?;
+    out.extend_from_slice(format!(in alloc; " {row:?}")?.as_bytes())?;
     for name in names(alloc, key, row)? {
         out.push(b' ')?;
         name.write(out)?;
@@ -235,7 +200,7 @@ fn rows_read_again_where_memory_is_refused(rt: HostRuntime) {
             "ROUTE_TABLE:10.0.0.0/8 nexthop=10.0.0.2,10.0.0.3 ifname=Ethernet0,Ethernet4",
             "ROUTE_TABLE:10.0.0.0/8 ifname=Ethernet0,Ethernet4 nexthop=10.0.0.2,10.0.0.3 Route(Hops(RowHops { hops: [RowHop { on: Ethernet(0), ip: Ip { family: V4, bits: 167772162 } }, RowHop { on: Ethernet(4), ip: Ip { family: V4, bits: 167772163 } }] })) NEIGH_TABLE:Ethernet0:10.0.0.2 NEIGH_TABLE:Ethernet4:10.0.0.3",
         ),
-        ("LAG_TABLE:PortChannel1 a=b", "LAG_TABLE:PortChannel1 a=b "),
+        ("LAG_TABLE:PortChannel1 a=b", "LAG_TABLE:PortChannel1 a=b"),
     ] {
         let shown = match row_shown(&rt, alloc, line) {
             Ok(shown) => shown,

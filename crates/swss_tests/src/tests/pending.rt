@@ -1,14 +1,12 @@
 // What waits where memory is refused. `rt try --test --fail-alloc N` refuses the Nth allocation of the tests: a write that is
 // refused memory is as if it had not come, and a pop that is refused it takes nothing. Without the flag no allocation is
 // refused, and the test goes over writes that are merged, dropped and taken out.
+use super::common::{NO_VALUES, Values, fields, fill, show_fields, show_values};
 use producer_table::{KeyOp, Waiting};
 use std::alloc::Global;
 use std::process::Abort;
-use swss_types::{OutOfMemory, Text};
-use table_schema::{Fields, Key};
-
-/// The most fields of a key in these tests.
-const MOST: usize = 40;
+use swss_types::OutOfMemory;
+use table_schema::Key;
 
 /// What is done to the VLAN of a number.
 #[derive(Clone, Copy)]
@@ -25,44 +23,20 @@ enum Act {
 struct Want {
     there: bool,
     dropped: bool,
-    values: [u64; MOST],
+    values: Values,
 }
 
 const DROPPED: Want = Want {
     there: true,
     dropped: true,
-    values: [0; MOST],
+    values: NO_VALUES,
 };
 
 const NONE: Want = Want {
     there: false,
     dropped: false,
-    values: [0; MOST],
+    values: NO_VALUES,
 };
-
-fn text(rt: &impl Abort, alloc: Global, bytes: &str) -> Result<Text, OutOfMemory> {
-    Ok(Text::new(alloc, bytes.as_bytes())?.expect(rt, "a text"))
-}
-
-/// The fields of some numbers with this value.
-fn fields(
-    rt: &impl Abort,
-    alloc: Global,
-    from: u64,
-    to: u64,
-    value: u64,
-) -> Result<Fields, OutOfMemory> {
-    let mut fields = Fields::new(alloc);
-    for number in from..to {
-        let name = format!(in alloc; "f{number:02}")?;
-        let value = format!(in alloc; "{value}")?;
-        fields.put(
-            text(rt, alloc, name.as_str())?,
-            text(rt, alloc, value.as_str())?,
-        )?;
-    }
-    Ok(fields)
-}
 
 /// What was taken out, a key behind the other.
 fn shown(alloc: Global, ops: &[KeyOp]) -> Result<Vec<u8>, OutOfMemory> {
@@ -73,12 +47,7 @@ fn shown(alloc: Global, ops: &[KeyOp]) -> Result<Vec<u8>, OutOfMemory> {
             out.extend_from_slice(b" dropped")?;
         }
         if let Some(fields) = &op.fields {
-            for (name, value) in fields.items() {
-                out.push(b' ')?;
-                out.extend_from_slice(name.bytes())?;
-                out.push(b'=')?;
-                out.extend_from_slice(value.bytes())?;
-            }
+            show_fields(&mut out, fields)?;
         }
         out.push(b';')?;
     }
@@ -96,11 +65,7 @@ fn want_op(
     if want.dropped {
         out.extend_from_slice(b" dropped")?;
     }
-    for (number, value) in want.values.iter().enumerate() {
-        if *value != 0 {
-            out.extend_from_slice(format!(in alloc; " f{number:02}={value}")?.as_bytes())?;
-        }
-    }
+    show_values(alloc, out, &want.values)?;
     out.push(b';')?;
     Ok(())
 }
@@ -119,14 +84,14 @@ fn want_pop(alloc: Global, wants: &mut [Want], max: u64) -> Result<Vec<u8>, OutO
     Ok(out)
 }
 
-/// Gives the fields of some numbers a value.
-fn fill(want: &mut Want, from: u64, to: u64, value: u64) {
-    want.there = true;
-    for (number, held) in want.values.iter_mut().enumerate() {
-        if from <= number as u64 && (number as u64) < to {
-            *held = value;
+/// Whether something is to wait.
+fn waits(wants: &[Want]) -> bool {
+    for want in wants {
+        if want.there {
+            return true;
         }
     }
+    false
 }
 
 /// One act, and what is wanted after it.
@@ -143,7 +108,8 @@ fn act_once(
             if waiting.set(Key::Vlan(number), fields).is_ok()
                 && let Some(want) = wants.get_mut(number as usize)
             {
-                fill(want, from, to, value);
+                want.there = true;
+                fill(&mut want.values, from, to, value);
             }
         }
         Act::Del(number) => {
@@ -162,7 +128,7 @@ fn act_once(
             assert_eq!(rt; shown(alloc, ops.as_slice())?.as_slice(), wanted.as_slice());
         }
     }
-    assert!(rt; waiting.is_empty() == wants.iter().all(|want| !want.there));
+    assert!(rt; waiting.is_empty() == !waits(wants));
     Ok(())
 }
 

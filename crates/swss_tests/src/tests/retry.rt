@@ -1,6 +1,5 @@
-// What waits with its reason where memory is refused. `rt try --test --fail-alloc N` refuses the Nth allocation of the tests: a
-// key that could not be put has the reason that it had, and an event that could not wake its keys wakes them at the next try.
-// Without the flag no allocation is refused, and the test goes over reasons that are put, replaced, forgotten and woken.
+// What waits with its reason, act by act, as a table. `rt try --test --fail-alloc N` refuses the Nth allocation of the tests:
+// a call that is refused memory leaves the list as it was, and the next try does it. Without the flag no allocation is refused.
 use retry_list::{Event, Retry};
 use sai_types::Kind;
 use std::alloc::Global;
@@ -9,14 +8,11 @@ use switch_model::Wait;
 use swss_types::OutOfMemory;
 use table_schema::{Key, has_colon, read_key};
 
-/// How many VLANs there are in these tests.
-const MOST: usize = 6;
-
 /// A key that holds memory.
 const OTHER: &str = "OTHER_TABLE:a";
 
-/// A reason, and the event that it is about.
-#[derive(Clone, Copy, PartialEq, Eq)]
+/// A reason, and the event that it is about; None is an event that no key waits for.
+#[derive(Clone, Copy)]
 enum Why {
     None,
     Missing,
@@ -34,6 +30,101 @@ enum Act {
     Woken(Why),
 }
 
+/// Acts, each with the keys that it wakes, and what is then on the list.
+const ACTS: [(Act, &str, &str); 23] = [
+    (Act::Woken(Why::None), "", ""),
+    (Act::Woken(Why::Missing), "", ""),
+    (Act::Put(3, Why::Missing), "", "Vlan(3) Missing(Vlan(1));"),
+    (
+        Act::Put(1, Why::Missing),
+        "",
+        "Vlan(1) Missing(Vlan(1));Vlan(3) Missing(Vlan(1));",
+    ),
+    (
+        Act::Put(2, Why::Held),
+        "",
+        "Vlan(1) Missing(Vlan(1));Vlan(2) Held(Vlan(1));Vlan(3) Missing(Vlan(1));",
+    ),
+    (
+        Act::Put(3, Why::Missing),
+        "",
+        "Vlan(1) Missing(Vlan(1));Vlan(2) Held(Vlan(1));Vlan(3) Missing(Vlan(1));",
+    ),
+    (
+        Act::Put(2, Why::Missing),
+        "",
+        "Vlan(1) Missing(Vlan(1));Vlan(2) Missing(Vlan(1));Vlan(3) Missing(Vlan(1));",
+    ),
+    (
+        Act::Put(0, Why::Busy),
+        "",
+        "Vlan(0) Busy(2);Vlan(1) Missing(Vlan(1));Vlan(2) Missing(Vlan(1));Vlan(3) Missing(Vlan(1));",
+    ),
+    (
+        Act::Woken(Why::Held),
+        "",
+        "Vlan(0) Busy(2);Vlan(1) Missing(Vlan(1));Vlan(2) Missing(Vlan(1));Vlan(3) Missing(Vlan(1));",
+    ),
+    (
+        Act::Forget(3),
+        "",
+        "Vlan(0) Busy(2);Vlan(1) Missing(Vlan(1));Vlan(2) Missing(Vlan(1));",
+    ),
+    (
+        Act::Forget(3),
+        "",
+        "Vlan(0) Busy(2);Vlan(1) Missing(Vlan(1));Vlan(2) Missing(Vlan(1));",
+    ),
+    (
+        Act::Woken(Why::Missing),
+        "Vlan(1);Vlan(2);",
+        "Vlan(0) Busy(2);",
+    ),
+    (Act::Woken(Why::Missing), "", "Vlan(0) Busy(2);"),
+    (
+        Act::Put(5, Why::Other),
+        "",
+        "Vlan(0) Busy(2);Vlan(5) other;",
+    ),
+    (
+        Act::Put(4, Why::NoRoom),
+        "",
+        "Vlan(0) Busy(2);Vlan(4) NoRoom(Group);Vlan(5) other;",
+    ),
+    (
+        Act::Put(1, Why::Other),
+        "",
+        "Vlan(0) Busy(2);Vlan(1) other;Vlan(4) NoRoom(Group);Vlan(5) other;",
+    ),
+    (
+        Act::Put(0, Why::NoRoom),
+        "",
+        "Vlan(0) NoRoom(Group);Vlan(1) other;Vlan(4) NoRoom(Group);Vlan(5) other;",
+    ),
+    (
+        Act::Woken(Why::Busy),
+        "",
+        "Vlan(0) NoRoom(Group);Vlan(1) other;Vlan(4) NoRoom(Group);Vlan(5) other;",
+    ),
+    (
+        Act::Woken(Why::None),
+        "",
+        "Vlan(0) NoRoom(Group);Vlan(1) other;Vlan(4) NoRoom(Group);Vlan(5) other;",
+    ),
+    (
+        Act::Woken(Why::NoRoom),
+        "Vlan(0);Vlan(4);",
+        "Vlan(1) other;Vlan(5) other;",
+    ),
+    (
+        Act::Put(5, Why::Held),
+        "",
+        "Vlan(1) other;Vlan(5) Held(Vlan(1));",
+    ),
+    (Act::Woken(Why::Other), "Vlan(1);", "Vlan(5) Held(Vlan(1));"),
+    (Act::Woken(Why::Held), "Vlan(5);", ""),
+];
+
 fn other(rt: &impl Abort, alloc: Global) -> Result<Key, OutOfMemory> {
     assert!(rt; has_colon(OTHER.as_bytes()), "a colon");
     read_key(alloc, OTHER.as_bytes())
@@ -49,7 +140,6 @@ fn wait_of(rt: &impl Abort, alloc: Global, why: Why) -> Result<Wait, OutOfMemory
     })
 }
 
-/// The event that wakes it. Of no reason it is one that nobody waits for.
 fn event_of(rt: &impl Abort, alloc: Global, why: Why) -> Result<Event, OutOfMemory> {
     Ok(match why {
         Why::None => Event::Gone(other(rt, alloc)?),
@@ -61,122 +151,58 @@ fn event_of(rt: &impl Abort, alloc: Global, why: Why) -> Result<Event, OutOfMemo
     })
 }
 
-/// The reason that stands on the list.
-fn why_of(wait: &Wait) -> Why {
-    match wait {
-        Wait::Missing(Key::Vlan(1)) => Why::Missing,
-        Wait::Missing(Key::Other(_)) => Why::Other,
-        Wait::Held(Key::Vlan(1)) => Why::Held,
-        Wait::NoRoom(Kind::Group) => Why::NoRoom,
-        Wait::Busy(2) => Why::Busy,
-        _ => Why::None,
-    }
-}
-
-/// The reasons on the list, by the number of the VLAN.
-fn listed(rt: &impl Abort, retry: &Retry) -> [Why; MOST] {
-    let mut listed = [Why::None; MOST];
-    for (key, wait) in retry.list() {
-        if let Key::Vlan(number) = key
-            && let Some(why) = listed.get_mut(*number as usize)
-        {
-            assert!(rt; *why == Why::None, "a key twice");
-            *why = why_of(wait);
-        }
-    }
-    listed
-}
-
-/// The keys that were woken, one behind the other.
-fn shown(alloc: Global, woken: &[Key]) -> Result<Vec<u8>, OutOfMemory> {
-    let mut out = Vec::new(alloc);
-    for key in woken {
-        key.write(&mut out)?;
-        out.push(b';')?;
-    }
-    Ok(out)
-}
-
-/// Takes those of a reason off the numbers that are wanted, and gives their keys in the same form.
-fn want_woken(alloc: Global, why: Why, wants: &mut [Why; MOST]) -> Result<Vec<u8>, OutOfMemory> {
-    let mut out = Vec::new(alloc);
-    for (number, want) in wants.iter_mut().enumerate() {
-        if why != Why::None && *want == why {
-            *want = Why::None;
-            out.extend_from_slice(format!(in alloc; "VLAN_TABLE:Vlan{number};")?.as_bytes())?;
-        }
-    }
-    Ok(out)
-}
-
-/// Wakes those of a reason, and compares with what is wanted.
-fn wake(
+/// One act, and the keys that it wakes.
+fn act_once(
     rt: &impl Abort,
     alloc: Global,
-    why: Why,
     retry: &mut Retry,
-    wants: &mut [Why; MOST],
-) -> Result<(), OutOfMemory> {
-    let event = event_of(rt, alloc, why)?;
-    let woken = match retry.woken(&event) {
-        Ok(woken) => woken,
-        Err(OutOfMemory) => retry.woken(&event).expect(rt, "the next try"),
-    };
-    let wanted = want_woken(alloc, why, wants)?;
-    assert_eq!(rt;
-        shown(alloc, woken.as_slice())?.as_slice(),
-        wanted.as_slice()
-    );
-    Ok(())
+    act: Act,
+) -> Result<Vec<Key>, OutOfMemory> {
+    match act {
+        Act::Put(number, why) => retry.put(Key::Vlan(number), wait_of(rt, alloc, why)?)?,
+        Act::Forget(number) => retry.forget(&Key::Vlan(number)),
+        Act::Woken(why) => return retry.woken(&event_of(rt, alloc, why)?),
+    }
+    Ok(Vec::new(alloc))
 }
 
-/// Reasons that are put, forgotten and woken, each compared with what is wanted.
+/// What is on the list.
+fn listed(alloc: Global, retry: &Retry) -> Result<String, OutOfMemory> {
+    let mut out = String::new(alloc);
+    for (key, wait) in retry.list() {
+        let shown = match wait {
+            Wait::Missing(Key::Other(_)) => format!(in alloc; "{key:?} other;")?,
+            _ => format!(in alloc; "{key:?} {wait:?};")?,
+        };
+        out.push_str(shown.as_str())?;
+    }
+    Ok(out)
+}
+
+/// The keys that were woken.
+fn shown(alloc: Global, keys: &[Key]) -> Result<String, OutOfMemory> {
+    let mut out = String::new(alloc);
+    for key in keys {
+        out.push_str(format!(in alloc; "{key:?};")?.as_str())?;
+    }
+    Ok(out)
+}
+
+/// Makes each act, and compares after each.
 fn act_each(rt: &impl Abort, alloc: Global) -> Result<(), OutOfMemory> {
     let mut retry = Retry::new(alloc);
-    let mut wants = [Why::None; MOST];
-    for act in [
-        Act::Woken(Why::Missing),
-        Act::Put(3, Why::Missing),
-        Act::Put(1, Why::Missing),
-        Act::Put(2, Why::Held),
-        Act::Put(3, Why::Missing),
-        Act::Put(2, Why::Missing),
-        Act::Put(0, Why::Busy),
-        Act::Woken(Why::Held),
-        Act::Forget(3),
-        Act::Forget(3),
-        Act::Woken(Why::Missing),
-        Act::Woken(Why::Missing),
-        Act::Put(5, Why::Other),
-        Act::Put(4, Why::NoRoom),
-        Act::Put(1, Why::Other),
-        Act::Put(0, Why::NoRoom),
-        Act::Woken(Why::Busy),
-        Act::Woken(Why::None),
-        Act::Woken(Why::NoRoom),
-        Act::Put(5, Why::Held),
-        Act::Woken(Why::Other),
-        Act::Woken(Why::Held),
-    ] {
-        match act {
-            Act::Put(number, why) => {
-                if retry
-                    .put(Key::Vlan(number), wait_of(rt, alloc, why)?)
-                    .is_ok()
-                    && let Some(want) = wants.get_mut(number as usize)
-                {
-                    *want = why;
-                }
+    let mut before = "";
+    for (act, wakes, after) in ACTS {
+        let woken = match act_once(rt, alloc, &mut retry, act) {
+            Ok(woken) => woken,
+            Err(_) => {
+                assert_eq!(rt; listed(alloc, &retry)?.as_str(), before);
+                act_once(rt, alloc, &mut retry, act)?
             }
-            Act::Forget(number) => {
-                retry.forget(&Key::Vlan(number));
-                if let Some(want) = wants.get_mut(number as usize) {
-                    *want = Why::None;
-                }
-            }
-            Act::Woken(why) => wake(rt, alloc, why, &mut retry, &mut wants)?,
-        }
-        assert!(rt; listed(rt, &retry) == wants);
+        };
+        assert_eq!(rt; shown(alloc, woken.as_slice())?.as_str(), wakes);
+        assert_eq!(rt; listed(alloc, &retry)?.as_str(), after);
+        before = after;
     }
     Ok(())
 }

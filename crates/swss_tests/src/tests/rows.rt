@@ -1,23 +1,17 @@
 // What rows are where memory is refused. `rt try --test --fail-alloc N` refuses the Nth allocation of the tests: a write that
 // is refused memory says so and leaves the rows, and the next try applies it. Without the flag no allocation is refused, and
 // the test goes over small and large rows.
+use super::common::{NO_VALUES, Values, fields, fill, show_fields, show_values};
 use row_store::Rows;
 use std::alloc::Global;
 use std::process::Abort;
-use swss_types::{OutOfMemory, Text};
-use table_schema::{Fields, Write, has_colon, read_key};
-
-/// The most fields of a row in these tests.
-const MOST: usize = 90;
+use swss_types::OutOfMemory;
+use table_schema::{Write, has_colon, read_key};
 
 /// The two keys, in order.
 const PORT: &str = "PORT_TABLE:Ethernet0";
 
 const ROUTE: &str = "ROUTE_TABLE:10.0.0.0/8";
-
-fn text(rt: &impl Abort, alloc: Global, bytes: &str) -> Result<Text, OutOfMemory> {
-    Ok(Text::new(alloc, bytes.as_bytes())?.expect(rt, "a text"))
-}
 
 /// A Set of the fields of some numbers to a value, or a Del where there is none of them.
 fn write(
@@ -33,16 +27,7 @@ fn write(
     if to <= from {
         return Ok(Write::Del(key));
     }
-    let mut fields = Fields::new(alloc);
-    for number in from..to {
-        let name = format!(in alloc; "f{number:02}")?;
-        let value = format!(in alloc; "{value}")?;
-        fields.put(
-            text(rt, alloc, name.as_str())?,
-            text(rt, alloc, value.as_str())?,
-        )?;
-    }
-    Ok(Write::Set(key, fields))
+    Ok(Write::Set(key, fields(rt, alloc, from, to, value)?))
 }
 
 /// The rows in key order.
@@ -51,12 +36,7 @@ fn shown(alloc: Global, rows: &Rows) -> Result<Vec<u8>, OutOfMemory> {
     for key in rows.keys()? {
         key.write(&mut out)?;
         if let Some(fields) = rows.get(&key) {
-            for (name, value) in fields.items() {
-                out.push(b' ')?;
-                out.extend_from_slice(name.bytes())?;
-                out.push(b'=')?;
-                out.extend_from_slice(value.bytes())?;
-            }
+            show_fields(&mut out, fields)?;
         }
         out.push(b';')?;
     }
@@ -68,36 +48,21 @@ fn want_row(
     alloc: Global,
     out: &mut Vec<u8>,
     key: &str,
-    values: &[u64],
+    values: &Values,
 ) -> Result<(), OutOfMemory> {
-    if values.iter().all(|value| *value == 0) {
+    if *values == NO_VALUES {
         return Ok(());
     }
     out.extend_from_slice(key.as_bytes())?;
-    for (number, value) in values.iter().enumerate() {
-        if *value != 0 {
-            out.extend_from_slice(format!(in alloc; " f{number:02}={value}")?.as_bytes())?;
-        }
-    }
+    show_values(alloc, out, values)?;
     out.push(b';')?;
     Ok(())
 }
 
-/// Gives the fields of some numbers a value, or all of them none where there is none of them.
-fn fill(values: &mut [u64], from: u64, to: u64, value: u64) {
-    for (number, held) in values.iter_mut().enumerate() {
-        if to <= from {
-            *held = 0;
-        } else if from <= number as u64 && (number as u64) < to {
-            *held = value;
-        }
-    }
-}
-
 /// Applies writes to two keys, and compares after each.
 fn apply_each(rt: &impl Abort, alloc: Global) -> Result<(), OutOfMemory> {
-    let mut port = [0; MOST];
-    let mut route = [0; MOST];
+    let mut port = NO_VALUES;
+    let mut route = NO_VALUES;
     let mut rows = Rows::new(alloc);
     for (key, from, to, value) in [
         (ROUTE, 2, 4, 1),
@@ -117,11 +82,14 @@ fn apply_each(rt: &impl Abort, alloc: Global) -> Result<(), OutOfMemory> {
             assert_eq!(rt; shown(alloc, &rows)?.as_slice(), before.as_slice());
             assert!(rt; rows.apply(&write).is_ok(), "the next try");
         }
-        if key == PORT {
-            fill(&mut port, from, to, value);
-        } else {
-            fill(&mut route, from, to, value);
+        let values = match key == PORT {
+            true => &mut port,
+            false => &mut route,
+        };
+        if to <= from {
+            *values = NO_VALUES;
         }
+        fill(values, from, to, value);
         let mut wanted = Vec::new(alloc);
         want_row(alloc, &mut wanted, PORT, &port)?;
         want_row(alloc, &mut wanted, ROUTE, &route)?;

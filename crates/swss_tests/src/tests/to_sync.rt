@@ -1,15 +1,13 @@
 // What is to sync where memory is refused. `rt try --test --fail-alloc N` refuses the Nth allocation of the tests: what could
 // not be added is as if it had not come. Without the flag no allocation is refused, and the test goes over operations that
 // are merged, replaced and done.
+use super::common::{NO_VALUES, Values, fields, fill, show_fields, show_values};
 use consumer_table::{Op, ToSync};
 use producer_table::KeyOp;
 use std::alloc::Global;
 use std::process::Abort;
-use swss_types::{OutOfMemory, Text};
-use table_schema::{Fields, Key};
-
-/// The most fields of a key in these tests.
-const MOST: usize = 40;
+use swss_types::OutOfMemory;
+use table_schema::Key;
 
 /// What is done to the VLAN of a number.
 #[derive(Clone, Copy)]
@@ -21,7 +19,7 @@ enum Act {
 }
 
 /// The operation that is wanted of a VLAN.
-#[derive(Clone, Copy, PartialEq, Eq)]
+#[derive(Clone, Copy)]
 enum Kind {
     None,
     Set,
@@ -29,59 +27,32 @@ enum Kind {
     Replace,
 }
 
+impl Kind {
+    /// What it is after fields more.
+    fn with_fields(self) -> Kind {
+        match self {
+            Kind::None | Kind::Set => Kind::Set,
+            Kind::Del | Kind::Replace => Kind::Replace,
+        }
+    }
+}
+
 /// An operation with its values. 0 is no value.
 #[derive(Clone, Copy)]
 struct Want {
     kind: Kind,
-    values: [u64; MOST],
+    values: Values,
 }
 
 const NONE: Want = Want {
     kind: Kind::None,
-    values: [0; MOST],
+    values: NO_VALUES,
 };
 
 const DEL: Want = Want {
     kind: Kind::Del,
-    values: [0; MOST],
+    values: NO_VALUES,
 };
-
-fn text(rt: &impl Abort, alloc: Global, bytes: &str) -> Result<Text, OutOfMemory> {
-    Ok(Text::new(alloc, bytes.as_bytes())?.expect(rt, "a text"))
-}
-
-/// The fields of some numbers with this value, if there are some.
-fn fields(
-    rt: &impl Abort,
-    alloc: Global,
-    from: u64,
-    to: u64,
-    value: u64,
-) -> Result<Option<Fields>, OutOfMemory> {
-    if to <= from {
-        return Ok(None);
-    }
-    let mut fields = Fields::new(alloc);
-    for number in from..to {
-        let name = format!(in alloc; "f{number:02}")?;
-        let value = format!(in alloc; "{value}")?;
-        fields.put(
-            text(rt, alloc, name.as_str())?,
-            text(rt, alloc, value.as_str())?,
-        )?;
-    }
-    Ok(Some(fields))
-}
-
-fn show_fields(out: &mut Vec<u8>, fields: &Fields) -> Result<(), OutOfMemory> {
-    for (name, value) in fields.items() {
-        out.push(b' ')?;
-        out.extend_from_slice(name.bytes())?;
-        out.push(b'=')?;
-        out.extend_from_slice(value.bytes())?;
-    }
-    Ok(())
-}
 
 /// The operations, a key behind the other. Each is copied, and the copy is shown.
 fn shown(rt: &impl Abort, alloc: Global, to_sync: &ToSync) -> Result<Vec<u8>, OutOfMemory> {
@@ -121,27 +92,10 @@ fn wanted(alloc: Global, wants: &[Want]) -> Result<Vec<u8>, OutOfMemory> {
             Kind::Replace => "replace",
         };
         out.extend_from_slice(format!(in alloc; "VLAN_TABLE:Vlan{number} {word}")?.as_bytes())?;
-        for (number, value) in want.values.iter().enumerate() {
-            if *value != 0 {
-                out.extend_from_slice(format!(in alloc; " f{number:02}={value}")?.as_bytes())?;
-            }
-        }
+        show_values(alloc, &mut out, &want.values)?;
         out.push(b';')?;
     }
     Ok(out)
-}
-
-/// What is wanted after fields of some numbers more.
-fn fill(want: &mut Want, from: u64, to: u64, value: u64) {
-    want.kind = match want.kind {
-        Kind::None | Kind::Set => Kind::Set,
-        Kind::Del | Kind::Replace => Kind::Replace,
-    };
-    for (number, held) in want.values.iter_mut().enumerate() {
-        if from <= number as u64 && (number as u64) < to {
-            *held = value;
-        }
-    }
 }
 
 /// One act, and what is wanted after it.
@@ -157,7 +111,10 @@ fn act_once(
             let op = KeyOp {
                 key: Key::Vlan(number),
                 dropped,
-                fields: fields(rt, alloc, from, to, value)?,
+                fields: match from < to {
+                    true => Some(fields(rt, alloc, from, to, value)?),
+                    false => None,
+                },
             };
             if to_sync.add(op).is_ok()
                 && let Some(want) = wants.get_mut(number as usize)
@@ -166,7 +123,8 @@ fn act_once(
                     *want = DEL;
                 }
                 if from < to {
-                    fill(want, from, to, value);
+                    want.kind = want.kind.with_fields();
+                    fill(&mut want.values, from, to, value);
                 }
             }
         }
