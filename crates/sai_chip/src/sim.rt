@@ -30,7 +30,7 @@ use swss_types::{Ip, OutOfMemory};
 
 /// For how many effects there is room from the first on. A list that grows from nothing leaves its smaller places behind
 /// it; memory that nothing was written to takes no place.
-const FIRST_EFFECTS: usize = 16_384;
+const FIRST_EFFECTS: usize = 65_536;
 
 /// A SAI chip in memory, with a capacity for each kind of object. It fails at chosen calls.
 #[derive(Drop)]
