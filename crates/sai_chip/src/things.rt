@@ -161,10 +161,7 @@ fn list_things(
 }
 
 /// What each object stands for, in their order: None where a reference is absent.
-pub fn each_thing(
-    alloc: Global,
-    objects: &[Object<Rid>],
-) -> Result<Vec<Option<Thing>>, OutOfMemory>
+pub fn each_thing(alloc: Global, objects: &[Object<Rid>]) -> Result<Vec<Option<Thing>>, OutOfMemory>
     ensures { IfOk result (λ things. things.items ≡ named (entries_of objects.now)) }
 {
     let bodies = bodies_of(alloc, objects)?;
