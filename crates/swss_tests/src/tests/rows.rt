@@ -59,6 +59,14 @@ fn want_row(
     Ok(())
 }
 
+/// Gives the fields of some numbers a value, or all of them none where there is none of them.
+fn lay(values: &mut Values, from: u64, to: u64, value: u64) {
+    if to <= from {
+        *values = NO_VALUES;
+    }
+    fill(values, from, to, value);
+}
+
 /// Applies writes to two keys, and compares after each.
 fn apply_each(rt: &impl Abort, alloc: Global) -> Result<(), OutOfMemory> {
     let mut port = NO_VALUES;
@@ -82,14 +90,11 @@ fn apply_each(rt: &impl Abort, alloc: Global) -> Result<(), OutOfMemory> {
             assert_eq!(rt; shown(alloc, &rows)?.as_slice(), before.as_slice());
             assert!(rt; rows.apply(&write).is_ok(), "the next try");
         }
-        let values = match key == PORT {
-            true => &mut port,
-            false => &mut route,
-        };
-        if to <= from {
-            *values = NO_VALUES;
+        if key == PORT {
+            lay(&mut port, from, to, value);
+        } else {
+            lay(&mut route, from, to, value);
         }
-        fill(values, from, to, value);
         let mut wanted = Vec::new(alloc);
         want_row(alloc, &mut wanted, PORT, &port)?;
         want_row(alloc, &mut wanted, ROUTE, &route)?;
