@@ -3,7 +3,7 @@ use chip_layout::body_of;
 use sai_types::{Base, Body, Hop, PortThing, Rid, Thing};
 use std::alloc::Global;
 use std::test::Fail as Failure;
-use swss_types::{Family, Ip, Lanes};
+use swss_types::{Bits, Family, Ip, Lanes};
 
 fn lanes(alloc: Global) -> Result<Lanes, Failure> {
     Ok(Lanes::read(alloc, b"0,1")?.ok_or("lanes")?)
@@ -31,7 +31,7 @@ fn the_body_of_a_port_is_made(rt: HostRuntime) -> Result<(), Failure> {
 fn the_body_of_a_next_hop_is_made(rt: HostRuntime) -> Result<(), Failure> {
     let ip = Ip {
         family: Family::V4,
-        bits: 0x0A00_0001,
+        bits: Bits::new(0x0A00_0001),
     };
     let hop = Hop {
         on: Base::Vlan(10),

@@ -5,11 +5,11 @@ use sai_types::{
 };
 use std::alloc::Global;
 use std::test::Fail;
-use swss_types::{Family, Ip, Lanes, OutOfMemory, Prefix, Text, insert_rising};
+use swss_types::{Bits, Family, Ip, Lanes, OutOfMemory, Prefix, Text, insert_rising};
 
 const TEN: Ip = Ip {
     family: Family::V4,
-    bits: 0x0A00_0001,
+    bits: Bits::new(0x0A00_0001),
 };
 
 fn lanes(alloc: Global) -> Result<Lanes, Fail> {
