@@ -3,7 +3,7 @@ use anyhow::{Context, Result, bail};
 use sai_chip::SimChip;
 use sai_types::{Body, Call, Chip, ChipAnswer, Rid, RifOn, To};
 use std::alloc::Global;
-use swss_types::{Family, Ip, Lanes, Mac};
+use swss_types::{Bits, Family, Ip, Lanes, Mac};
 
 /// How many next hops there are.
 const NEXT_HOPS: usize = 256;
@@ -86,7 +86,7 @@ fn make_interface(alloc: Global, chip: &mut SimChip) -> Result<Rid> {
 fn make_next_hop(chip: &mut SimChip, rif: Rid, number: usize) -> Result<Rid> {
     let ip = Ip {
         family: Family::V4,
-        bits: 0x0A00_0000 + number as u128,
+        bits: Bits::new(0x0A00_0000 + number as u128),
     };
     let mac = Mac([2, 0, 0, 0, 0, 1]);
     act(chip, &Call::Create(Body::Neighbor { rif, ip, mac }))?;

@@ -3,7 +3,7 @@ use crate::network::{Network, act};
 use anyhow::Result;
 use sai_chip::SimChip;
 use sai_types::{Attr, Body, Call, Entry};
-use swss_types::{Family, Ip, Prefix};
+use swss_types::{Bits, Family, Ip, Prefix};
 
 /// The prefix of a route: one of 65,536 of 256 addresses each, from 11.0.0.0 on. Routes that follow one another are far
 /// apart; the factor is odd, so 65,536 routes in a row have as many prefixes.
@@ -12,7 +12,7 @@ fn prefix(route: u32) -> Prefix {
     Prefix {
         ip: Ip {
             family: Family::V4,
-            bits: 0x0B00_0000 + place * 256,
+            bits: Bits::new(0x0B00_0000 + place * 256),
         },
         len: 24,
     }
