@@ -84,13 +84,22 @@ fn make_interface(alloc: Global, chip: &mut SimChip) -> Result<Rid> {
 
 /// Makes a neighbour and a next hop through it.
 fn make_next_hop(chip: &mut SimChip, rif: Rid, number: usize) -> Result<Rid> {
-    let ip = Ip {
+    let neighbor = Body::Neighbor {
+        rif,
+        ip: address(number),
+        mac: Mac([2, 0, 0, 0, 0, 1]),
+    };
+    act(chip, &Call::Create(neighbor))?;
+    let ip = address(number);
+    make(chip, Body::NextHop { rif, ip })
+}
+
+/// The address of a neighbour with this number.
+fn address(number: usize) -> Ip {
+    Ip {
         family: Family::V4,
         bits: Bits::new(0x0A00_0000 + number as u128),
-    };
-    let mac = Mac([2, 0, 0, 0, 0, 1]);
-    act(chip, &Call::Create(Body::Neighbor { rif, ip, mac }))?;
-    make(chip, Body::NextHop { rif, ip })
+    }
 }
 
 /// Makes an object of a kind with identifiers.
