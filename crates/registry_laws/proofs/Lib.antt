@@ -1,0 +1,6 @@
+pub mod Finding
+pub mod Listing
+pub mod Rooming
+pub mod Sharing
+pub mod Telling
+pub mod Waiting
