@@ -1,6 +1,9 @@
+pub mod Begun
 pub mod Finding
 pub mod Listing
+pub mod Moved
 pub mod Rooming
 pub mod Sharing
+pub mod Starting
 pub mod Telling
 pub mod Waiting

@@ -15,6 +15,9 @@ use Rattle.row_layout.specs.Operations.{same_owner, uses_of}
 use Rattle.row_layout.specs.Rows as owner
 use Rattle.row_layout.specs.Rows.{Owner}
 use Rattle.row_layout.proofs.Changing.{among}
+use Rattle.row_layout.specs.Shared.{shared_things}
+use Rattle.sai_types.specs.declared.thing.Thing.{Thing}
+use Rattle.switch_machine.specs.Flights.{IsShared}
 use Rattle.switch_machine.proofs.Equal.{thing-exact}
 use Rattle.switch_machine.proofs.Sequence.{IsShort, uses_short}
 use Rattle.ref_counts.specs.declared.name.NameState.{NameState}
@@ -101,3 +104,10 @@ pub absent_none : (names : Names) (os : List Owner) (o : Owner) → first_absent
 absent_none names [] o h g e = g
 absent_none names (p ∷ os) o h (inl same) e = (not_absent (state_of names (name_for p)) p (first_absent names os) h).0 (subst (λ z. state_of names (name_for z) ≡ state.Absent) same e)
 absent_none names (p ∷ os) o h (inr g) e = absent_none names os o (not_absent (state_of names (name_for p)) p (first_absent names os) h).1 g e
+
+-- what is shared has a thing
+pub first-shared : (o : Owner) → IsShared o → (u : Thing) × IsIn u (shared_things o)
+first-shared (owner.OfRow k) h = elim h [ ]
+first-shared (owner.Bridge lane) h = (thing.BridgePort lane, inl refl)
+first-shared (owner.Own ip) h = (thing.Own ip, inl refl)
+first-shared (owner.Group hops) h = (thing.Group hops, inl refl)

@@ -116,10 +116,19 @@ module _ (plan : Ports) (tables : Tables plan) (f : Flight) (fit : (r : Row) →
       subst (Concerns plan f) (one_owner plan (changed c) x.0 p x.1 (subst (λ z. IsOwnedBy plan (changed z) p) is of)) x.2
   touched-concern (c ∷ cs) V p runs (d, inr h, of) = touched-concern cs (λ u. after c (V u) u) p runs.1 (d, h, of)
 
-module _ (plan : Ports) (is : IsPlan plan) (workers : ℕ) (capacities : List ℕ) (m : Machine) (sound : IsConsistent plan m) (names : registry.Names) (room : RoomState) (known : Registers plan workers capacities names room m) (busy : HaveDue m) where
-  abbrev T : Tables plan
-  T = tabled plan is
+-- two operations change nothing of one owner
+module _ (plan : Ports) (is : IsPlan plan) (m : Machine) (sound : IsConsistent plan m) where
+  concern_of : (v : ℕ) (f : Flight) (o : Owner) → m.board.flights v ≡ Some f → HasChangeOf plan (m.due v) o → Concerns plan f o
+  concern_of v f o at t = touched-concern plan (tabled plan is) f (fit_of plan (tabled plan is) m sound v f at) (m.due v) (StandsIn m) o (sound.runs v f at) t
 
+  pub touched-one : (v u : ℕ) (f g : Flight) (o : Owner) → m.board.flights v ≡ Some f → m.board.flights u ≡ Some g → HasChangeOf plan (m.due v) o → HasChangeOf plan (m.due u) o → v ≡ u
+  touched-one v u f g o at there t x = by (nat_split v u)
+    where
+      by : IsSplit v u → v ≡ u
+      by (inl same) = same
+      by (inr other) = absurd (apart plan (tabled plan is) m sound v u f g at there (λ e. other (sym e)) o t (concern_of v f o at t) (concern_of u g o there x))
+
+module _ (plan : Ports) (is : IsPlan plan) (workers : ℕ) (capacities : List ℕ) (m : Machine) (sound : IsConsistent plan m) (names : registry.Names) (room : RoomState) (known : Registers plan workers capacities names room m) (busy : HaveDue m) where
   pub row_at : (k : Key) → RowStands m k (state_of names (name.Row k))
   row_at k = (known.names_known.rows k).stands
 
@@ -138,18 +147,6 @@ module _ (plan : Ports) (is : IsPlan plan) (workers : ℕ) (capacities : List �
   pub unapplied_is : (ks : List Key) → first_unapplied names ks ≡ first_missing m.board.applied ks
   unapplied_is [] = refl
   unapplied_is (k ∷ ks) = applied_by k (state_of names (name.Row k)) (first_unapplied names ks) (row_at k) ∙ ap (λ o. if is_some (m.board.applied k) then o else Some k) (unapplied_is ks)
-
-  -- ---- two operations change nothing of one owner
-
-  concern_of : (v : ℕ) (f : Flight) (o : Owner) → m.board.flights v ≡ Some f → HasChangeOf plan (m.due v) o → Concerns plan f o
-  concern_of v f o at t = touched-concern plan T f (fit_of plan T m sound v f at) (m.due v) (StandsIn m) o (sound.runs v f at) t
-
-  pub touched_one : (v u : ℕ) (f g : Flight) (o : Owner) → m.board.flights v ≡ Some f → m.board.flights u ≡ Some g → HasChangeOf plan (m.due v) o → HasChangeOf plan (m.due u) o → v ≡ u
-  touched_one v u f g o at there t x = by (nat_split v u)
-    where
-      by : IsSplit v u → v ≡ u
-      by (inl same) = same
-      by (inr other) = absurd (apart plan T m sound v u f g at there (λ e. other (sym e)) o t (concern_of v f o at t) (concern_of u g o there x))
 
   pub retires_touched : (v : ℕ) (g : Flight) (o : Owner) → m.board.flights v ≡ Some g → g.retires ≡ Some o → HasChangeOf plan (m.due v) o
   retires_touched v g o at retires = by (m.due v) refl
@@ -195,9 +192,9 @@ module _ (plan : Ports) (is : IsPlan plan) (workers : ℕ) (capacities : List �
     -- whose operation has a change of it to make owns its name
     touched_owner : (o : Owner) (v : ℕ) (g : Flight) (st : NameState) → SharedStands plan m o st → m.board.flights v ≡ Some g → HasChangeOf plan (m.due v) o → owner_in st ≡ Some v
     touched_owner o v g state.Absent (none, still) at t = absurd (still v g at t)
-    touched_owner o v g (state.Building u) (f, there, x, other) at t = ap Some (touched_one u v f g o there at x t)
+    touched_owner o v g (state.Building u) (f, there, x, other) at t = ap Some (touched-one plan is m sound u v f g o there at x t)
     touched_owner o v g state.Live (some, still) at t = absurd (still v g at t)
-    touched_owner o v g (state.Retiring u) (f, there, x, retires) at t = ap Some (touched_one u v f g o there at x t)
+    touched_owner o v g (state.Retiring u) (f, there, x, retires) at t = ap Some (touched-one plan is m sound u v f g o there at x t)
 
     going_owner : (p : Key) (v : ℕ) (g : Flight) (st : NameState) → IsIn p (names_of k r) → RowStands m p st → m.board.flights v ≡ Some g → g.key ≡ p → g.new ≡ None → owner_in st ≡ Some v
     going_owner p v g state.Absent i (rests, none) at same gone = absurd (rests v g at same)

@@ -12,7 +12,10 @@ use Rattle.switch_machine.specs.Changes.{changed}
 use Rattle.switch_machine.specs.Flights.{Flight, IsOwnedBy, IsShared, Machine}
 use Rattle.switch_machine.specs.Operations.{built_first}
 use Rattle.switch_machine.specs.Places.{makes}
+use Rattle.sai_types.specs.declared.ids.Vid.{Vid}
+use Rattle.ref_counts.specs.declared.name.Name.{Name}
 use Rattle.ref_counts.specs.declared.name.Name.TheVariants as name
+use Rattle.ref_counts.specs.Registered.{made_live}
 use Rattle.ref_counts.specs.Registry as registry
 use Rattle.ref_counts.specs.Registry.{registered_at}
 use Rattle.ref_counts.specs.Room.{RoomState, number_of, places_by}
@@ -53,3 +56,7 @@ beginning plan k old new = record { key = k; new = new; leaves = leaving plan k 
 
 abbrev pub due_first : Ports → registry.Names → Key → Option Row → Option Row → List Change
 due_first plan names k old new = built_first (to_build plan names k new) (own_changes plan k old new)
+
+-- a name becomes live, with these identifiers
+abbrev pub made_live_at : registry.Names → Name → List Vid → registry.Names
+made_live_at names n ids = registry.changed names n (made_live ids)

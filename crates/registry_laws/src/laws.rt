@@ -1,5 +1,6 @@
 // The registry stands for the machine. Each function is a law: it does nothing, and its contract is proved.
-ghost use Rattle.std.specs.Prelude.{◌≡◌, ℕ, true, List, None, Some};
+ghost use Rattle.std.specs.Prelude.{◌≡◌, ◌<◌, ℕ, true, List, [], Option, None, Some};
+ghost use Rattle.table_schema.specs.Fields.{HasRisingKeys};
 ghost use Rattle.table_schema.specs.Names.{names_of};
 ghost use Rattle.table_schema.specs.Plan.{IsPlan, Ports};
 ghost use Rattle.table_schema.specs.declared.key.Key.{Key};
@@ -7,19 +8,45 @@ ghost use Rattle.table_schema.specs.declared.row.Row.{Row};
 ghost use Rattle.switch_model.specs.Desired.{have_rows};
 ghost use Rattle.switch_model.specs.declared.wait.Wait.{Wait};
 ghost use Rattle.switch_machine.specs.Events.{IsSafe, SwitchState};
-ghost use Rattle.switch_machine.specs.Flights.{Fits, IsResting};
+ghost use Rattle.sai_types.specs.declared.ids.Rid.{Rid};
+ghost use Rattle.sai_types.specs.declared.ids.Vid.{Vid};
+ghost use Rattle.sai_types.specs.declared.thing.Thing.{Thing};
+ghost use Rattle.row_layout.specs.Operations.{Change};
+ghost use Rattle.row_layout.specs.Rows.{OfRow, Owner};
+ghost use Rattle.switch_machine.specs.Changes.{changed};
+ghost use Rattle.switch_machine.specs.Consistent.{IsConsistent};
+ghost use Rattle.switch_machine.specs.Flights.{Fits, Flight, HasChangeOf, IsOwnedBy, IsResting, IsShared, Machine};
 ghost use Rattle.switch_machine.specs.Operations.{MayBegin};
-ghost use Rattle.switch_machine.specs.Places.{HasRoomFor};
+ghost use Rattle.switch_machine.specs.Places.{AreCovered, HasRoomFor};
+ghost use Rattle.switch_machine.specs.Steps.{Moves, moved, started};
 ghost use Rattle.switch_machine.specs.Reasons.{IsReason};
 ghost use Rattle.switch_machine.specs.Written.{good_of};
-ghost use Rattle.ref_counts.specs.Registry.{Names};
-ghost use Rattle.ref_counts.specs.Room.{RoomState};
-ghost use Rattle.orch_flight.specs.Needing.{wait_of};
-ghost use Rattle.registry_laws.specs.Registers.{AreUsed, HaveDue, Registers, beginning, due_first};
+ghost use Rattle.ref_counts.specs.declared.name.Name.TheVariants as name;
+ghost use Rattle.ref_counts.specs.Registry.{Names, gone_from, name_cmp};
+ghost use Rattle.ref_counts.specs.Room.{Reserves, RoomState};
+ghost use Rattle.orch_flight.specs.Needing.{name_for, places_for, wait_of};
+ghost use Rattle.orch_flight.specs.Starting.{begun_names};
+ghost use Rattle.registry_laws.specs.Registers.{AreUsed, HaveDue, Registers, beginning, due_first, made_live_at};
 
 /// For a worker without an operation and a key that no operation has and whose applied row is not its good row: the wait that
 /// the registry and the room answer is a true reason; where they answer none the operation may begin, and has room.
 pub fn reasons_hold()
     ensures reason { (plan : Ports) (workers : ℕ) (capacities : List ℕ) (s : SwitchState) (names : Names) (room : RoomState) (numbers : List ℕ) (w : ℕ) (k : Key) (wait : Wait) → IsPlan plan → IsSafe plan workers capacities s → Registers plan workers capacities names room s.machine → HaveDue s.machine → AreUsed s.objects numbers → s.machine.board.flights w ≡ None → IsResting s.machine.board k → (s.machine.board.applied k ≡ good_of plan s.written k → ⊥) → ((r : Row) → good_of plan s.written k ≡ Some r → have_rows s.machine.board.applied (names_of k r) ≡ true → Fits plan k r) → wait_of plan names room numbers w k (s.machine.board.applied k) (good_of plan s.written k) ≡ Some wait → IsReason plan workers capacities s k wait }
     ensures begins { (plan : Ports) (workers : ℕ) (capacities : List ℕ) (s : SwitchState) (names : Names) (room : RoomState) (numbers : List ℕ) (w : ℕ) (k : Key) → IsPlan plan → IsSafe plan workers capacities s → Registers plan workers capacities names room s.machine → HaveDue s.machine → AreUsed s.objects numbers → s.machine.board.flights w ≡ None → IsResting s.machine.board k → ((r : Row) → good_of plan s.written k ≡ Some r → have_rows s.machine.board.applied (names_of k r) ≡ true → Fits plan k r) → wait_of plan names room numbers w k (s.machine.board.applied k) (good_of plan s.written k) ≡ None → MayBegin plan s.machine w (beginning plan k (s.machine.board.applied k) (good_of plan s.written k)) (due_first plan names k (s.machine.board.applied k) (good_of plan s.written k)) × HasRoomFor workers capacities s.objects s.machine (due_first plan names k (s.machine.board.applied k) (good_of plan s.written k)) }
+{}
+
+/// The registry stands for the machine again when an operation has started that may begin, with the names begun and places
+/// reserved for what it makes; a key without a row is to have one.
+pub fn starts_are_registered()
+    ensures { (plan : Ports) (workers : ℕ) (capacities : List ℕ) (m : Machine) (names : Names) (room : RoomState) (room' : RoomState) (w : ℕ) (k : Key) (n : Option Row) → IsPlan plan → IsConsistent plan m → AreCovered m → Registers plan workers capacities names room m → w < workers → MayBegin plan m w (beginning plan k (m.board.applied k) n) (due_first plan names k (m.board.applied k) n) → (m.board.applied k ≡ None → n ≡ None → ⊥) → Reserves room w (places_for (due_first plan names k (m.board.applied k) n)) room' → Registers plan workers capacities (begun_names plan names w k (m.board.applied k) n) room' (started m w (beginning plan k (m.board.applied k) n) (due_first plan names k (m.board.applied k) n)) }
+{}
+
+/// The registry stands for the machine again when a change that was due has taken effect: with the same names, where it was
+/// of a row, or more changes of what is shared are due; with the name live of what is shared whole from then on, or of a row of
+/// which all is made; and with no name of what is taken away whole.
+pub fn moves_are_registered()
+    ensures same { (plan : Ports) (workers : ℕ) (capacities : List ℕ) (m : Machine) (names : Names) (room : RoomState) (w : ℕ) (f : Flight) (c : Change) (cs : List Change) (stands : List (Rid × Thing)) → Registers plan workers capacities names room m → Moves m w f c cs stands → ((o : Owner) → IsShared o → IsOwnedBy plan (changed c) o → HasChangeOf plan cs o) → Registers plan workers capacities names room (moved m w cs stands) }
+    ensures shared { (plan : Ports) (workers : ℕ) (capacities : List ℕ) (m : Machine) (names : Names) (room : RoomState) (w : ℕ) (f : Flight) (c : Change) (cs : List Change) (stands : List (Rid × Thing)) (o : Owner) (ids : List Vid) → IsPlan plan → IsConsistent plan m → Registers plan workers capacities names room m → Moves m w f c cs stands → IsShared o → IsOwnedBy plan (changed c) o → (f.retires ≡ Some o → ⊥) → (HasChangeOf plan cs o → ⊥) → Registers plan workers capacities (made_live_at names (name_for o) ids) room (moved m w cs stands) }
+    ensures row { (plan : Ports) (workers : ℕ) (capacities : List ℕ) (m : Machine) (names : Names) (room : RoomState) (w : ℕ) (f : Flight) (c : Change) (stands : List (Rid × Thing)) (r : Row) (ids : List Vid) → Registers plan workers capacities names room m → Moves m w f c [] stands → IsOwnedBy plan (changed c) (OfRow f.key) → f.new ≡ Some r → Registers plan workers capacities (made_live_at names (name.Row f.key) ids) room (moved m w [] stands) }
+    ensures gone { (plan : Ports) (workers : ℕ) (capacities : List ℕ) (m : Machine) (names : Names) (room : RoomState) (w : ℕ) (f : Flight) (c : Change) (cs : List Change) (stands : List (Rid × Thing)) (o : Owner) → IsPlan plan → IsConsistent plan m → HasRisingKeys name_cmp names → Registers plan workers capacities names room m → Moves m w f c cs stands → IsShared o → IsOwnedBy plan (changed c) o → f.retires ≡ Some o → (HasChangeOf plan cs o → ⊥) → Registers plan workers capacities (gone_from names (name_for o)) room (moved m w cs stands) }
 {}

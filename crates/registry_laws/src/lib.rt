@@ -3,4 +3,4 @@
 
 mod laws;
 
-pub use laws::reasons_hold;
+pub use laws::{moves_are_registered, reasons_hold, starts_are_registered};
