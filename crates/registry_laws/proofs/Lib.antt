@@ -1,9 +1,12 @@
 pub mod Begun
 pub mod Finding
+pub mod Left
 pub mod Listing
 pub mod Moved
+pub mod Parting
 pub mod Rooming
 pub mod Sharing
 pub mod Starting
 pub mod Telling
+pub mod Users
 pub mod Waiting

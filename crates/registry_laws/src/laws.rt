@@ -1,5 +1,5 @@
 // The registry stands for the machine. Each function is a law: it does nothing, and its contract is proved.
-ghost use Rattle.std.specs.Prelude.{◌≡◌, ◌<◌, ℕ, true, List, [], Option, None, Some};
+ghost use Rattle.std.specs.Prelude.{◌≡◌, ◌⊎◌, ◌<◌, ℕ, true, List, [], Option, None, Some};
 ghost use Rattle.table_schema.specs.Fields.{HasRisingKeys};
 ghost use Rattle.table_schema.specs.Names.{names_of};
 ghost use Rattle.table_schema.specs.Plan.{IsPlan, Ports};
@@ -11,21 +11,21 @@ ghost use Rattle.switch_machine.specs.Events.{IsSafe, SwitchState};
 ghost use Rattle.sai_types.specs.declared.ids.Rid.{Rid};
 ghost use Rattle.sai_types.specs.declared.ids.Vid.{Vid};
 ghost use Rattle.sai_types.specs.declared.thing.Thing.{Thing};
-ghost use Rattle.row_layout.specs.Operations.{Change};
+ghost use Rattle.row_layout.specs.Operations.{Change, shared_going, take_all};
 ghost use Rattle.row_layout.specs.Rows.{OfRow, Owner};
 ghost use Rattle.switch_machine.specs.Changes.{changed};
 ghost use Rattle.switch_machine.specs.Consistent.{IsConsistent};
 ghost use Rattle.switch_machine.specs.Flights.{Fits, Flight, HasChangeOf, IsOwnedBy, IsResting, IsShared, Machine};
-ghost use Rattle.switch_machine.specs.Operations.{MayBegin};
+ghost use Rattle.switch_machine.specs.Operations.{IsLast, MayBegin};
 ghost use Rattle.switch_machine.specs.Places.{AreCovered, HasRoomFor};
-ghost use Rattle.switch_machine.specs.Steps.{Moves, moved, started};
+ghost use Rattle.switch_machine.specs.Steps.{Leaves, LeavesOthers, Moves, left, moved, started};
 ghost use Rattle.switch_machine.specs.Reasons.{IsReason};
 ghost use Rattle.switch_machine.specs.Written.{good_of};
 ghost use Rattle.ref_counts.specs.declared.name.Name.TheVariants as name;
 ghost use Rattle.ref_counts.specs.Registry.{Names, gone_from, name_cmp};
 ghost use Rattle.ref_counts.specs.Room.{Reserves, RoomState};
 ghost use Rattle.orch_flight.specs.Needing.{name_for, places_for, wait_of};
-ghost use Rattle.orch_flight.specs.Starting.{begun_names};
+ghost use Rattle.orch_flight.specs.Starting.{begun_names, left_names, retired_by};
 ghost use Rattle.registry_laws.specs.Registers.{AreUsed, HaveDue, Registers, beginning, due_first, made_live_at};
 
 /// For a worker without an operation and a key that no operation has and whose applied row is not its good row: the wait that
@@ -49,4 +49,10 @@ pub fn moves_are_registered()
     ensures shared { (plan : Ports) (workers : ℕ) (capacities : List ℕ) (m : Machine) (names : Names) (room : RoomState) (w : ℕ) (f : Flight) (c : Change) (cs : List Change) (stands : List (Rid × Thing)) (o : Owner) (ids : List Vid) → IsPlan plan → IsConsistent plan m → Registers plan workers capacities names room m → Moves m w f c cs stands → IsShared o → IsOwnedBy plan (changed c) o → (f.retires ≡ Some o → ⊥) → (HasChangeOf plan cs o → ⊥) → Registers plan workers capacities (made_live_at names (name_for o) ids) room (moved m w cs stands) }
     ensures row { (plan : Ports) (workers : ℕ) (capacities : List ℕ) (m : Machine) (names : Names) (room : RoomState) (w : ℕ) (f : Flight) (c : Change) (stands : List (Rid × Thing)) (r : Row) (ids : List Vid) → Registers plan workers capacities names room m → Moves m w f c [] stands → IsOwnedBy plan (changed c) (OfRow f.key) → f.new ≡ Some r → Registers plan workers capacities (made_live_at names (name.Row f.key) ids) room (moved m w [] stands) }
     ensures gone { (plan : Ports) (workers : ℕ) (capacities : List ℕ) (m : Machine) (names : Names) (room : RoomState) (w : ℕ) (f : Flight) (c : Change) (cs : List Change) (stands : List (Rid × Thing)) (o : Owner) → IsPlan plan → IsConsistent plan m → HasRisingKeys name_cmp names → Registers plan workers capacities names room m → Moves m w f c cs stands → IsShared o → IsOwnedBy plan (changed c) o → f.retires ≡ Some o → (HasChangeOf plan cs o → ⊥) → Registers plan workers capacities (gone_from names (name_for o)) room (moved m w cs stands) }
+{}
+
+/// Where all that was due is made, the registry tells whether the key was the last user of what it leaves; with the names left
+/// it stands for the machine again, whose operation retires what it left last, or has nothing more to make.
+pub fn leaves_are_registered()
+    ensures { (plan : Ports) (workers : ℕ) (capacities : List ℕ) (m : Machine) (names : Names) (room : RoomState) (w : ℕ) (f : Flight) (o : Owner) → IsPlan plan → IsConsistent plan m → Registers plan workers capacities names room m → Leaves m w f o → ((retired_by names w f.key o ≡ Some o) × IsLast plan m w f o × Registers plan workers capacities (left_names names w f.key o) room (left m w f (Some o) (take_all (shared_going o) []))) ⊎ ((retired_by names w f.key o ≡ None) × LeavesOthers plan m w f o × Registers plan workers capacities (left_names names w f.key o) room (left m w f f.retires [])) }
 {}

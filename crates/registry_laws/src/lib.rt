@@ -3,4 +3,4 @@
 
 mod laws;
 
-pub use laws::{moves_are_registered, reasons_hold, starts_are_registered};
+pub use laws::{leaves_are_registered, moves_are_registered, reasons_hold, starts_are_registered};
