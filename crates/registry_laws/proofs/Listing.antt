@@ -148,3 +148,7 @@ in_but w p (q ∷ qs) other h = by (λ g. in_but w p qs other g) (q.worker == w)
 pub none_rising : IsStrictlySortedBy key_cmp []
 unfolding IsStrictlySortedBy
 none_rising = tt
+
+pub nothing_after : {X : Type 0} (xs : List X) → xs ++ [] ≡ xs
+nothing_after [] = refl
+nothing_after (x ∷ xs) = ap (λ l. x ∷ l) (nothing_after xs)

@@ -6,8 +6,9 @@ use Rattle.table_schema.specs.declared.row.Row.{Row}
 use Rattle.sai_types.specs.declared.kind.Kind.{Kind}
 use Rattle.sai_types.specs.Alike.{IsIn}
 use Rattle.sai_types.specs.Objects.{Objects, used}
-use Rattle.row_layout.specs.Operations.{Change, own_changes}
-use Rattle.row_layout.specs.Rows.{Owner}
+use Rattle.row_layout.specs.Operations.{Change, make_all, own_changes, shared_going, take_all}
+use Rattle.row_layout.specs.Rows.{Group, Owner}
+use Rattle.row_layout.specs.Shared.{shared_things}
 use Rattle.switch_machine.specs.Changes.{changed}
 use Rattle.switch_machine.specs.Flights.{Flight, IsOwnedBy, IsShared, Machine}
 use Rattle.switch_machine.specs.Operations.{built_first}
@@ -46,6 +47,10 @@ pub record Registers (plan : Ports) (workers : ℕ) (capacities : List ℕ) (nam
 abbrev pub HaveDue : Machine → Type 0
 HaveDue m = (w : ℕ) (f : Flight) → m.board.flights w ≡ Some f → m.due w ≡ [] → ⊥
 
+-- each operation but this worker's has
+abbrev pub OthersHaveDue : Machine → ℕ → Type 0
+OthersHaveDue m worker = (w : ℕ) (f : Flight) → (w ≡ worker → ⊥) → m.board.flights w ≡ Some f → m.due w ≡ [] → ⊥
+
 -- how many objects of each kind there are
 abbrev pub AreUsed : Objects → List ℕ → Type 0
 AreUsed objects numbers = (kind : Kind) → number_of numbers kind ≡ used objects kind
@@ -60,3 +65,13 @@ due_first plan names k old new = built_first (to_build plan names k new) (own_ch
 -- a name becomes live, with these identifiers
 abbrev pub made_live_at : registry.Names → Name → List Vid → registry.Names
 made_live_at names n ids = registry.changed names n (made_live ids)
+
+-- the changes that build a group, where one is to be built
+abbrev pub group_built : Option Owner → List Change
+group_built (Some (Group hops)) = make_all (shared_things (Group hops)) []
+group_built _ = []
+
+-- and those that take it away
+abbrev pub group_taken : Owner → List Change
+group_taken (Group hops) = take_all (shared_going (Group hops)) []
+group_taken _ = []

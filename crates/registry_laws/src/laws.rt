@@ -1,5 +1,5 @@
 // The registry stands for the machine. Each function is a law: it does nothing, and its contract is proved.
-ghost use Rattle.std.specs.Prelude.{◌≡◌, ◌⊎◌, ◌<◌, ℕ, true, List, [], Option, None, Some};
+ghost use Rattle.std.specs.Prelude.{◌≡◌, ◌⊎◌, ◌<◌, ◌≤◌, ℕ, true, ◌++◌, List, [], Option, None, Some};
 ghost use Rattle.table_schema.specs.Fields.{HasRisingKeys};
 ghost use Rattle.table_schema.specs.Names.{names_of};
 ghost use Rattle.table_schema.specs.Plan.{IsPlan, Ports};
@@ -7,7 +7,7 @@ ghost use Rattle.table_schema.specs.declared.key.Key.{Key};
 ghost use Rattle.table_schema.specs.declared.row.Row.{Row};
 ghost use Rattle.switch_model.specs.Desired.{have_rows};
 ghost use Rattle.switch_model.specs.declared.wait.Wait.{Wait};
-ghost use Rattle.switch_machine.specs.Events.{IsSafe, SwitchState};
+ghost use Rattle.switch_machine.specs.Events.{Follows, IsSafe, SwitchState, empty_machine};
 ghost use Rattle.sai_types.specs.declared.ids.Rid.{Rid};
 ghost use Rattle.sai_types.specs.declared.ids.Vid.{Vid};
 ghost use Rattle.sai_types.specs.declared.thing.Thing.{Thing};
@@ -18,15 +18,16 @@ ghost use Rattle.switch_machine.specs.Consistent.{IsConsistent};
 ghost use Rattle.switch_machine.specs.Flights.{Fits, Flight, HasChangeOf, IsOwnedBy, IsResting, IsShared, Machine};
 ghost use Rattle.switch_machine.specs.Operations.{IsLast, MayBegin};
 ghost use Rattle.switch_machine.specs.Places.{AreCovered, HasRoomFor};
-ghost use Rattle.switch_machine.specs.Steps.{Leaves, LeavesOthers, Moves, left, moved, started};
+ghost use Rattle.switch_machine.specs.Steps.{Ends, Leaves, LeavesOthers, Moves, finished, left, moved, started};
 ghost use Rattle.switch_machine.specs.Reasons.{IsReason};
 ghost use Rattle.switch_machine.specs.Written.{good_of};
 ghost use Rattle.ref_counts.specs.declared.name.Name.TheVariants as name;
 ghost use Rattle.ref_counts.specs.Registry.{Names, gone_from, name_cmp};
-ghost use Rattle.ref_counts.specs.Room.{Reserves, RoomState};
-ghost use Rattle.orch_flight.specs.Needing.{name_for, places_for, wait_of};
-ghost use Rattle.orch_flight.specs.Starting.{begun_names, left_names, retired_by};
-ghost use Rattle.registry_laws.specs.Registers.{AreUsed, HaveDue, Registers, beginning, due_first, made_live_at};
+ghost use Rattle.ref_counts.specs.Room.{GivesBack, Reserves, RoomState, all_free};
+ghost use Rattle.orch_flight.specs.Needing.{name_for, places_for, to_build, wait_of};
+ghost use Rattle.orch_flight.specs.Starting.{begun_names, first_due, left_names, retired_by, taken_here};
+ghost use Rattle.registry_laws.specs.Ending.{ended_names};
+ghost use Rattle.registry_laws.specs.Registers.{AreUsed, HaveDue, OthersHaveDue, Registers, beginning, due_first, group_built, group_taken, made_live_at};
 
 /// For a worker without an operation and a key that no operation has and whose applied row is not its good row: the wait that
 /// the registry and the room answer is a true reason; where they answer none the operation may begin, and has room.
@@ -55,4 +56,30 @@ pub fn moves_are_registered()
 /// it stands for the machine again, whose operation retires what it left last, or has nothing more to make.
 pub fn leaves_are_registered()
     ensures { (plan : Ports) (workers : ℕ) (capacities : List ℕ) (m : Machine) (names : Names) (room : RoomState) (w : ℕ) (f : Flight) (o : Owner) → IsPlan plan → IsConsistent plan m → Registers plan workers capacities names room m → Leaves m w f o → ((retired_by names w f.key o ≡ Some o) × IsLast plan m w f o × Registers plan workers capacities (left_names names w f.key o) room (left m w f (Some o) (take_all (shared_going o) []))) ⊎ ((retired_by names w f.key o ≡ None) × LeavesOthers plan m w f o × Registers plan workers capacities (left_names names w f.key o) room (left m w f f.retires [])) }
+{}
+
+/// The registry and the room stand for the machine again when an operation has ended, with the users of its old row's names
+/// dropped, its pins made users, its own name gone or live, and its places given back; a key without a row was to have one.
+pub fn ends_are_registered()
+    ensures { (plan : Ports) (workers : ℕ) (capacities : List ℕ) (m : Machine) (names : Names) (room : RoomState) (room' : RoomState) (w : ℕ) (f : Flight) → IsConsistent plan m → HasRisingKeys name_cmp names → Registers plan workers capacities names room m → Ends m w f → GivesBack room w room' → (m.board.applied f.key ≡ None → f.new ≡ None → ⊥) → Registers plan workers capacities (ended_names names w f.key (m.board.applied f.key) f.new) room' (finished m w f) }
+{}
+
+/// With no name and all places free the registry stands for the empty machine.
+pub fn nothing_is_registered()
+    ensures { (plan : Ports) (workers : ℕ) (capacities : List ℕ) → workers ≤ 4 → Registers plan workers capacities [] (all_free capacities) empty_machine }
+{}
+
+/// Between events each operation has a change to make: an operation that starts or goes on leaves the others', and what follows
+/// in its event leaves it one, or it is over.
+pub fn operations_have_changes()
+    ensures started { (m : Machine) (w : ℕ) (f : Flight) (due : List Change) → HaveDue m → OthersHaveDue (started m w f due) w }
+    ensures moved { (m : Machine) (w : ℕ) (cs : List Change) (stands : List (Rid × Thing)) → HaveDue m → OthersHaveDue (moved m w cs stands) w }
+    ensures follows { (plan : Ports) (m : Machine) (w : ℕ) (t : Machine) → IsPlan plan → IsConsistent plan m → OthersHaveDue m w → Follows plan w m t → HaveDue t }
+{}
+
+/// The group that an operation builds comes before its other changes, and the group that it takes away goes alone: so the machine's
+/// changes are those of the group, and then those of the row's operation.
+pub fn groups_are_apart()
+    ensures first { (plan : Ports) (names : Names) (k : Key) (old : Option Row) (new : Option Row) → due_first plan names k old new ≡ group_built (to_build plan names k new) ++ first_due plan names k old new }
+    ensures last { (o : Owner) → take_all (shared_going o) [] ≡ group_taken o ++ taken_here (Some o) }
 {}
