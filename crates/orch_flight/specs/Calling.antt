@@ -1,0 +1,108 @@
+-- The call of a change, where the registry knows the identifiers of names. Own.
+use Rattle.std.specs.Prelude.{◌≡◌, ℕ, true, List, [], ◌∷◌, ◌++◌, Option, Some, None, option_map}
+use Rattle.table_schema.specs.Plan.{Ports, port_named}
+use Rattle.table_schema.specs.declared.key.Key.{Key}
+use Rattle.table_schema.specs.declared.key.Key.TheVariants as key
+use Rattle.sai_types.specs.declared.ids.Vid.{Vid}
+use Rattle.sai_types.specs.declared.body.Attr.{Attr}
+use Rattle.sai_types.specs.declared.body.Body.{Body}
+use Rattle.sai_types.specs.declared.body.Body.TheVariants as body
+use Rattle.sai_types.specs.declared.body.Entry.{Entry}
+use Rattle.sai_types.specs.declared.body.Entry.TheVariants as entry
+use Rattle.sai_types.specs.declared.body.Call.{Call}
+use Rattle.sai_types.specs.declared.body.Call.TheVariants as call
+use Rattle.sai_types.specs.declared.thing.Thing.{Thing}
+use Rattle.sai_types.specs.Alike.{IsIn}
+use Rattle.sai_types.specs.Names as thing_name
+use Rattle.sai_types.specs.Names.{name_of}
+use Rattle.chip_layout.specs.Bodies.{IsBody, IsChange}
+use Rattle.chip_layout.specs.Layout.{has_number}
+use Rattle.row_layout.specs.Operations.{Change, Make, Set, Take}
+use Rattle.row_layout.specs.Rows.{Owner, interface_on}
+use Rattle.row_layout.specs.Shared.{shared_things}
+use Rattle.switch_machine.specs.Flights.{own_of}
+use Rattle.ref_counts.specs.declared.name.Name.{Name}
+use Rattle.ref_counts.specs.declared.name.Name.TheVariants as name
+use Rattle.ref_counts.specs.declared.next.Next.{Next}
+use Rattle.ref_counts.specs.declared.next.Next.TheVariants as next
+use Rattle.ref_counts.specs.Registered.{first_of}
+use Rattle.ref_counts.specs.Registry.{Names, ids_of}
+use Rattle.orch_flight.specs.Operation.{Operation}
+
+-- the first identifier of a row's name, where there is a key
+abbrev pub row_vid : Names → Option Key → Option Vid
+row_vid names None = None
+row_vid names (Some k) = first_of (ids_of names (name.Row k))
+
+-- the identifier of what has this name on the chip. A neighbour's row has that of its next hop; the members of groups have theirs behind that of the group
+abbrev pub vid_at : Ports → Names → thing_name.Name → Option Vid
+vid_at plan names (thing_name.Port lane) = row_vid names (option_map key.Port (port_named plan lane))
+vid_at plan names (thing_name.Vlan vlan) = row_vid names (Some (key.Vlan vlan))
+vid_at plan names (thing_name.BridgePort lane) = first_of (ids_of names (name.BridgePort lane))
+vid_at plan names (thing_name.VlanMember vlan lane) = row_vid names (option_map (key.Member vlan) (port_named plan lane))
+vid_at plan names (thing_name.Rif base) = row_vid names (option_map key.Intf (interface_on plan base))
+vid_at plan names (thing_name.NextHop hop) = row_vid names (option_map (λ on. key.Neigh on hop.ip) (interface_on plan hop.on))
+vid_at plan names (thing_name.Group hops) = first_of (ids_of names (name.Group hops))
+vid_at plan names _ = None
+
+abbrev pub HasVid : Ports → Names → thing_name.Name → Vid → Type 0
+HasVid plan names n v = vid_at plan names n ≡ Some v
+
+-- a thing is made
+pub record IsMaking (at : thing_name.Name → Vid → Type 0) (t : Thing) (c : Call Vid) : Type 0 where
+  pub body : Body Vid
+  pub of : IsBody at t body
+  pub is : c ≡ call.Create body
+
+-- the entry of an object: its key, or its identifier
+abbrev pub entry_by : {I : Type 0} → I → Body I → Entry I
+entry_by id (body.OwnAddress ip) = entry.Own ip
+entry_by id (body.Neighbor rif ip mac) = entry.Neigh rif ip
+entry_by id (body.Route prefix to) = entry.Route prefix
+entry_by id b = entry.Oid id
+
+-- a thing that stands, with its entry
+pub record IsEntryOf (at : thing_name.Name → Vid → Type 0) (t : Thing) (e : Entry Vid) : Type 0 where
+  pub body : Body Vid
+  pub of : IsBody at t body
+  pub id : Vid
+  pub numbered : has_number t ≡ true → at (name_of t) id
+  pub is : e ≡ entry_by id body
+
+-- an attribute of one of the things is set, by which it becomes this one
+pub record IsSetting (at : thing_name.Name → Vid → Type 0) (things : List Thing) (u : Thing) (c : Call Vid) : Type 0 where
+  pub old : Thing
+  pub there : IsIn old things
+  pub same : name_of old ≡ name_of u
+  pub entry : Entry Vid
+  pub of : IsEntryOf at old entry
+  pub attr : Attr Vid
+  pub change : IsChange at old attr u
+  pub is : c ≡ call.Set entry attr
+
+-- one of the things is removed, which has this name
+pub record IsTaking (at : thing_name.Name → Vid → Type 0) (things : List Thing) (n : thing_name.Name) (c : Call Vid) : Type 0 where
+  pub old : Thing
+  pub there : IsIn old things
+  pub same : name_of old ≡ n
+  pub entry : Entry Vid
+  pub of : IsEntryOf at old entry
+  pub is : c ≡ call.Remove entry
+
+abbrev pub IsCallOf : (thing_name.Name → Vid → Type 0) → List Thing → Change → Call Vid → Type 0
+IsCallOf at things (Make t) c = IsMaking at t c
+IsCallOf at things (Set u) c = IsSetting at things u c
+IsCallOf at things (Take n) c = IsTaking at things n c
+
+abbrev pub things_retired : Option Owner → List Thing
+things_retired None = []
+things_retired (Some o) = shared_things o
+
+-- what an operation may set or take away: its key's own things, and the things of what it takes away
+abbrev pub things_held : Ports → Operation → List Thing
+things_held plan operation = own_of plan operation.key operation.now ++ things_retired operation.retires
+
+-- the call of the change that is due next, and the end where none is
+abbrev pub IsNextOf : Ports → Names → Operation → Next → Type 0
+IsNextOf plan names operation next.End = operation.due ≡ []
+IsNextOf plan names operation (next.Call c) = (change : Change) × (rest : List Change) × (operation.due ≡ change ∷ rest) × IsCallOf (HasVid plan names) (things_held plan operation) change c

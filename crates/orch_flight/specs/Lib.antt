@@ -1,0 +1,5 @@
+pub mod Needing
+pub mod Operation
+pub mod Starting
+pub mod Calling
+pub mod Taking

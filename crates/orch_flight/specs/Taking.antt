@@ -1,0 +1,69 @@
+-- What becomes of an operation and of names when the call that is due has taken effect. Own.
+use Rattle.std.specs.Prelude.{◌≡◌, ℕ, List, [], ◌∷◌, Option, Some, None}
+use Rattle.table_schema.specs.Plan.{Ports}
+use Rattle.table_schema.specs.declared.key.Key.{Key}
+use Rattle.table_schema.specs.declared.row.Row.{Row}
+use Rattle.table_schema.specs.declared.row.Row.TheVariants as row
+use Rattle.sai_types.specs.declared.ids.Vid.{Vid}
+use Rattle.sai_types.specs.declared.thing.Thing.{Thing}
+use Rattle.sai_types.specs.declared.thing.Thing.TheVariants as thing
+use Rattle.sai_types.specs.Names as thing_name
+use Rattle.row_layout.specs.Operations.{Change, Make, Set, Take}
+use Rattle.row_layout.specs.Rows.{Owner}
+use Rattle.ref_counts.specs.declared.name.Name.TheVariants as name
+use Rattle.ref_counts.specs.Registered.{made_live}
+use Rattle.ref_counts.specs.Registry.{Names, changed, gone_from}
+use Rattle.orch_flight.specs.Operation.{Operation}
+use Rattle.orch_flight.specs.Starting.{left_names, retired_by, taken_here}
+
+abbrev pub to_list : {X : Type 0} → Option X → List X
+to_list None = []
+to_list (Some x) = x ∷ []
+
+-- what is made makes its name live, with its identifier where it has one; of a neighbour's row the next hop does; a row whose objects have none is made live at the operation's end
+abbrev pub made_names : Names → Key → Thing → Option Vid → Names
+made_names names k (thing.BridgePort lane) made = changed names (name.BridgePort lane) (made_live (to_list made))
+made_names names k (thing.Own ip) made = changed names (name.Own ip) (made_live [])
+made_names names k (thing.Neighbor hop mac) made = names
+made_names names k (thing.Route prefix goal) made = names
+made_names names k (thing.Group hops) made = names
+made_names names k (thing.GroupMember hops hop) made = names
+made_names names k t made = changed names (name.Row k) (made_live (to_list made))
+
+-- and what was shared and is taken away is absent
+abbrev pub taken_names : Names → thing_name.Name → Names
+taken_names names (thing_name.BridgePort lane) = gone_from names (name.BridgePort lane)
+taken_names names (thing_name.Own ip) = gone_from names (name.Own ip)
+taken_names names n = names
+
+abbrev pub names_after : Names → Key → Change → Option Vid → Names
+names_after names k (Make t) made = made_names names k t made
+names_after names k (Set u) made = names
+names_after names k (Take n) made = taken_names names n
+
+-- the row for which a key's things stand after a change of them: a port's with the new value, any other where its last change is made
+abbrev pub row_set : Thing → Option Row → Option Row
+row_set (thing.Port p) new = Some (row.Port (record { lanes = p.lanes; speed = p.speed; mtu = p.mtu; up = p.up }))
+row_set t new = new
+
+abbrev pub now_after : Change → Option Row → Option Row → Option Row
+now_after (Set u) now new = row_set u new
+now_after (Make t) now new = now
+now_after (Take n) now new = now
+
+-- the last change is made: it leaves what it shares no more
+abbrev pub operation_by : Names → Operation → Change → List Change → Option Owner → Operation
+operation_by names f c [] (Some o) = record { worker = f.worker; key = f.key; now = now_after c f.now f.new; new = f.new; due = taken_here (retired_by names f.worker f.key o); leaves = None; retires = retired_by names f.worker f.key o }
+operation_by names f c rest leaves = record { worker = f.worker; key = f.key; now = now_after c f.now f.new; new = f.new; due = rest; leaves = leaves; retires = f.retires }
+
+abbrev pub names_by : Names → Operation → List Change → Option Owner → Names
+names_by names f [] (Some o) = left_names names f.worker f.key o
+names_by names f rest leaves = names
+
+-- the change that was due next is made
+pub record IsTook (old : Operation) (made : Option Vid) (names : Names) (new : Operation) (names' : Names) : Type 0 where
+  pub change : Change
+  pub rest : List Change
+  pub due : old.due ≡ change ∷ rest
+  pub operation : new ≡ operation_by (names_after names old.key change made) old change rest old.leaves
+  pub names_are : names' ≡ names_by (names_after names old.key change made) old rest old.leaves

@@ -1,0 +1,15 @@
+pub mod Begun
+pub mod Between
+pub mod Ended
+pub mod Finding
+pub mod Left
+pub mod Listing
+pub mod Moved
+pub mod Parting
+pub mod Passing
+pub mod Rooming
+pub mod Sharing
+pub mod Starting
+pub mod Telling
+pub mod Users
+pub mod Waiting

@@ -1,0 +1,164 @@
+-- the kind that lacks room, and the places of all workers
+use Rattle.std.proofs.Common.{◌≡◌, ◌⊎◌, ◌∷◌, ◌+◌, ◌-◌, ◌<◌, ◌≤◌, ◌∙◌, inl, inr, ℕ, zero, suc, nat_lt, ◌&&◌, Bool, true, false, List, [], Option, None, Some, refl, sym, ap, subst, arith, if◌then◌else◌}
+use Rattle.std.proofs.lemmas.Bool.{cases_lt, false≢true}
+use Rattle.std.proofs.lemmas.Bool.Decides.{nat_tests}
+use Rattle.sai_types.specs.declared.kind.Kind.{Kind}
+use Rattle.sai_types.specs.declared.kind.Kind.TheVariants as kind
+use Rattle.sai_types.specs.Alike.{IsIn}
+use Rattle.sai_types.specs.Objects.{Objects, level, used}
+use Rattle.sai_types.specs.Refusal.{capacity_of}
+use Rattle.row_layout.specs.Operations.{Change}
+use Rattle.switch_machine.specs.Flights.{Flight, Machine}
+use Rattle.switch_machine.specs.Places.{AreCovered, makes, places_kept, sum_below}
+use Rattle.ref_counts.specs.Room.{RoomState, first_lacking, kinds, lacking, lacks, number_of, places_by, places_in_all}
+use Rattle.orch_flight.specs.Needing.{places_for}
+use Rattle.registry_laws.specs.Registers.{AreUsed, KnowsRoom}
+use Rattle.registry_laws.proofs.Listing.{not_some, no_some, same_some}
+
+in_kinds : (k : Kind) → IsIn k kinds
+in_kinds kind.Port = inl refl
+in_kinds kind.Vlan = inr (inl refl)
+in_kinds kind.BridgePort = inr (inr (inl refl))
+in_kinds kind.VlanMember = inr (inr (inr (inl refl)))
+in_kinds kind.Rif = inr (inr (inr (inr (inl refl))))
+in_kinds kind.OwnAddress = inr (inr (inr (inr (inr (inl refl)))))
+in_kinds kind.Neighbor = inr (inr (inr (inr (inr (inr (inl refl))))))
+in_kinds kind.NextHop = inr (inr (inr (inr (inr (inr (inr (inl refl)))))))
+in_kinds kind.Group = inr (inr (inr (inr (inr (inr (inr (inr (inl refl))))))))
+in_kinds kind.GroupMember = inr (inr (inr (inr (inr (inr (inr (inr (inr (inl refl)))))))))
+in_kinds kind.Route = inr (inr (inr (inr (inr (inr (inr (inr (inr (inr (inl refl))))))))))
+
+-- their levels count up
+abbrev CountUp : ℕ → List Kind → Type 0
+CountUp n [] = Unit {0}
+CountUp n (k ∷ ks) = (level k ≡ n) × CountUp (suc n) ks
+
+kinds_count : CountUp 0 kinds
+kinds_count = (refl, (refl, (refl, (refl, (refl, (refl, (refl, (refl, (refl, (refl, (refl, tt)))))))))))
+
+above : (n : ℕ) (ks : List Kind) (k : Kind) → CountUp n ks → IsIn k ks → n ≤ level k
+above n [] k up h = elim h [ ]
+above n (q ∷ ks) k up (inl e) = let a = up.0 in let b = ap level e in omega (arith, a, b)
+above n (q ∷ ks) k up (inr h) = let a = above (suc n) ks k up.1 h in omega (arith, a)
+
+pub number_for : (due : List Change) (k : Kind) → number_of (places_for due) k ≡ makes k due
+number_for due kind.Port = refl
+number_for due kind.Vlan = refl
+number_for due kind.BridgePort = refl
+number_for due kind.VlanMember = refl
+number_for due kind.Rif = refl
+number_for due kind.OwnAddress = refl
+number_for due kind.Neighbor = refl
+number_for due kind.NextHop = refl
+number_for due kind.Group = refl
+number_for due kind.GroupMember = refl
+number_for due kind.Route = refl
+
+module _ (room : RoomState) (need numbers : List ℕ) where
+  abbrev Lacks : Kind → Bool
+  Lacks k = lacks room need numbers k
+
+  none_lack : (ks : List Kind) (k : Kind) → first_lacking room need numbers ks ≡ None → IsIn k ks → Lacks k ≡ false
+  none_lack [] k h g = elim g [ ]
+  none_lack (q ∷ ks) k h g = by (λ e i. none_lack ks k e i) (Lacks q) refl h g
+    where
+      by : (first_lacking room need numbers ks ≡ None → IsIn k ks → Lacks k ≡ false) → (b : Bool) → Lacks q ≡ b → (if b then Some q else first_lacking room need numbers ks) ≡ None → IsIn k (q ∷ ks) → Lacks k ≡ false
+      by rest true e none i = no_some q none
+      by rest false e none (inl same) = ap Lacks same ∙ e
+      by rest false e none (inr i) = rest none i
+
+  first_lack : (n : ℕ) (ks : List Kind) (k : Kind) → CountUp n ks → first_lacking room need numbers ks ≡ Some k → (Lacks k ≡ true) × ((low : Kind) → IsIn low ks → level low < level k → Lacks low ≡ false)
+  first_lack n [] k up h = not_some k h
+  first_lack n (q ∷ ks) k up h = by (λ e. first_lack (suc n) ks k up.1 e) (Lacks q) refl h
+    where
+      by : (first_lacking room need numbers ks ≡ Some k → (Lacks k ≡ true) × ((low : Kind) → IsIn low ks → level low < level k → Lacks low ≡ false)) → (b : Bool) → Lacks q ≡ b → (if b then Some q else first_lacking room need numbers ks) ≡ Some k → (Lacks k ≡ true) × ((low : Kind) → IsIn low (q ∷ ks) → level low < level k → Lacks low ≡ false)
+      by rest true e some =
+          let same : q ≡ k = same_some q k some in
+          let at : (low : Kind) → IsIn low (q ∷ ks) → level low < level k → Lacks low ≡ false = λ low i less. let a = above n (q ∷ ks) low up i in let b = up.0 in let d = ap level same in absurd (omega (arith, a, b, d, less)) in
+          (ap Lacks (sym same) ∙ e, at)
+      by rest false e some =
+          let x = rest some in
+          (x.0, at x.1)
+        where
+          at : ((low : Kind) → IsIn low ks → level low < level k → Lacks low ≡ false) → (low : Kind) → IsIn low (q ∷ ks) → level low < level k → Lacks low ≡ false
+          at f low (inl same) less = ap Lacks same ∙ e
+          at f low (inr i) less = f low i less
+
+  pub lacking_first : (k : Kind) → lacking room need numbers ≡ Some k → (Lacks k ≡ true) × ((low : Kind) → level low < level k → Lacks low ≡ false)
+  lacking_first k h = let x = first_lack 0 kinds k kinds_count h in (x.0, λ low less. x.1 low (in_kinds low) less)
+
+  pub lacking_none : lacking room need numbers ≡ None → (k : Kind) → Lacks k ≡ false
+  lacking_none h k = none_lack kinds k h (in_kinds k)
+
+-- ---- the tests as numbers
+
+is_lacking : (n c u : ℕ) → (nat_lt 0 n && nat_lt c u) ≡ true → (0 < n) × (c < u)
+is_lacking n c u h = (grind (arith, nat_tests), grind (arith, nat_tests))
+
+is_roomy : (n c u : ℕ) → (nat_lt 0 n && nat_lt c u) ≡ false → 0 < n → u ≤ c
+is_roomy n c u h less = grind (arith, nat_tests)
+
+-- ---- the places of all workers
+
+sum_same : (n : ℕ) (f g : ℕ → ℕ) → ((v : ℕ) → v < n → f v ≡ g v) → sum_below n f ≡ sum_below n g
+sum_same zero f g same = refl
+sum_same (suc n) f g same =
+    let rest = sum_same n f g (λ v h. same v (omega (arith, h))) in
+    let last = same n (omega arith) in
+    omega (arith, rest, last)
+
+-- workers beyond add nothing
+sum_more : (n d : ℕ) (f : ℕ → ℕ) → ((v : ℕ) → n ≤ v → f v ≡ 0) → sum_below (d + n) f ≡ sum_below n f
+sum_more n zero f none = let count : 0 + n ≡ n = omega arith in ap (λ z. sum_below z f) count
+sum_more n (suc d) f none =
+    let rest = sum_more n d f none in
+    let last = none (d + n) (omega arith) in
+    let step : sum_below (suc (d + n)) f ≡ sum_below (d + n) f + f (d + n) = refl in
+    let count : suc d + n ≡ suc (d + n) = omega arith in
+    let same : sum_below (suc d + n) f ≡ sum_below (suc (d + n)) f = ap (λ z. sum_below z f) count in
+    omega (arith, rest, last, step, same)
+
+module _ (workers : ℕ) (capacities : List ℕ) (room : RoomState) (m : Machine) (few : workers ≤ 4) (below : (w : ℕ) (f : Flight) → m.board.flights w ≡ Some f → w < workers) (covered : AreCovered m) (known : KnowsRoom capacities room m) where
+  abbrev by_worker : Kind → ℕ → ℕ
+  by_worker k w = makes k (m.reserved w)
+
+  beyond : (k : Kind) (w : ℕ) → workers ≤ w → by_worker k w ≡ 0
+  beyond k w h = by (m.board.flights w) refl
+    where
+      by : (o : Option Flight) → m.board.flights w ≡ o → by_worker k w ≡ 0
+      by None e = ap (makes k) (covered.idle w e)
+      by (Some f) e = let less = below w f e in absurd (omega (arith, h, less))
+
+  pub places-kept_all : (k : Kind) → places_in_all room.reserved k ≡ places_kept workers m k
+  places-kept_all k =
+      let a = known.places 0 k (omega arith) in
+      let b = known.places 1 k (omega arith) in
+      let c = known.places 2 k (omega arith) in
+      let d = known.places 3 k (omega arith) in
+      let four : sum_below 4 (by_worker k) ≡ 0 + by_worker k 0 + by_worker k 1 + by_worker k 2 + by_worker k 3 = refl in
+      let more = sum_more workers (4 - workers) (by_worker k) (beyond k) in
+      let count : 4 - workers + workers ≡ 4 = omega (arith, few) in
+      let same : sum_below (4 - workers + workers) (by_worker k) ≡ sum_below 4 (by_worker k) = ap (λ z. sum_below z (by_worker k)) count in
+      omega (arith, a, b, c, d, four, more, same)
+
+  -- what the room's test says of the machine
+  module _ (objects : Objects) (numbers : List ℕ) (are : AreUsed objects numbers) (due : List Change) where
+    pub lacks_true : (k : Kind) → lacks room (places_for due) numbers k ≡ true → (0 < makes k due) × (capacity_of capacities k < used objects k + places_kept workers m k + makes k due)
+    lacks_true k h =
+        let x = is_lacking (number_of (places_for due) k) (capacity_of room.capacities k) (number_of numbers k + places_in_all room.reserved k + number_of (places_for due) k) h in
+        let p = x.0 in
+        let q = x.1 in
+        let a = are k in
+        let b = places-kept_all k in
+        let c = number_for due k in
+        let d = ap (λ z. capacity_of z k) known.capacities_are in
+        (omega (arith, p, c), omega (arith, q, a, b, c, d))
+
+    pub lacks_false : (k : Kind) → lacks room (places_for due) numbers k ≡ false → 0 < makes k due → used objects k + places_kept workers m k + makes k due ≤ capacity_of capacities k
+    lacks_false k h some =
+        let c = number_for due k in
+        let x = is_roomy (number_of (places_for due) k) (capacity_of room.capacities k) (number_of numbers k + places_in_all room.reserved k + number_of (places_for due) k) h (omega (arith, some, c)) in
+        let a = are k in
+        let b = places-kept_all k in
+        let d = ap (λ z. capacity_of z k) known.capacities_are in
+        omega (arith, x, a, b, c, d)
