@@ -124,7 +124,7 @@ module _ (plan : Ports) (is : IsPlan plan) (m : Machine) (sound : IsConsistent p
 
   module _ (workers : ℕ) (capacities : List ℕ) (names : registry.Names) (room : RoomState) (known : Registers plan workers capacities names room m) where
     abbrev without : registry.Names
-    without = registry.changed_name names (name_for o) (without_user f.key)
+    without = registry.changed names (name_for o) (without_user f.key)
 
     its : IsKnownShared plan m o (registered_at names (name_for o))
     its = known.names_known.shared o (parting.shared plan is m sound w f o leaving)
@@ -170,12 +170,12 @@ module _ (plan : Ports) (is : IsPlan plan) (m : Machine) (sound : IsConsistent p
         by : (answer : Option Wait) → refusal_at without w (name_for o) ≡ answer → Parts
         by None e =
             let only = only_user (registered_at names (name_for o)) its (sym refusal_is ∙ e) in
-            let is_left : left_names names w f.key o ≡ registry.changed_name without (name_for o) (going w) = ap (λ z. parted_by z without w o) e in
-            let found : registered_at (registry.changed_name without (name_for o) (going w)) (name_for o) ≡ option_map (going w) (option_map (without_user f.key) (registered_at names (name_for o))) = found_at without o (going w) ∙ ap (option_map (going w)) (found_at names o (without_user f.key)) in
+            let is_left : left_names names w f.key o ≡ registry.changed without (name_for o) (going w) = ap (λ z. parted_by z without w o) e in
+            let found : registered_at (registry.changed without (name_for o) (going w)) (name_for o) ≡ option_map (going w) (option_map (without_user f.key) (registered_at names (name_for o))) = found_at without o (going w) ∙ ap (option_map (going w)) (found_at names o (without_user f.key)) in
             inl (
               ap (λ z. gone_by z o) e,
               is_last only,
-              subst (λ z. Registers plan workers capacities z room gone_later) (sym is_left) (all_known (Some o) gone_due about_gone (λ p c r i. subst (IsOwnedBy plan (changed_name c)) (some_owner o p r) (parting.removals_of plan is o c i)) (registry.changed_name without (name_for o) (going w)) (λ p apart. found_off without o p (going w) apart ∙ found_off names o p (without_user f.key) apart) (subst (IsKnownShared plan gone_later o) (sym found) (gone_known (registered_at names (name_for o)) its only))),
+              subst (λ z. Registers plan workers capacities z room gone_later) (sym is_left) (all_known (Some o) gone_due about_gone (λ p c r i. subst (IsOwnedBy plan (changed_name c)) (some_owner o p r) (parting.removals_of plan is o c i)) (registry.changed without (name_for o) (going w)) (λ p apart. found_off without o p (going w) apart ∙ found_off names o p (without_user f.key) apart) (subst (IsKnownShared plan gone_later o) (sym found) (gone_known (registered_at names (name_for o)) its only))),
             )
         by (Some answer) e =
             let other = other_user (registered_at names (name_for o)) answer its (sym refusal_is ∙ e) in

@@ -64,7 +64,7 @@ due_first plan names k old new = built_first (to_build plan names k new) (own_ch
 
 -- a name becomes live, with these identifiers
 abbrev pub made_live_at : registry.Names → Name → List Vid → registry.Names
-made_live_at names n ids = registry.changed_name names n (made_live ids)
+made_live_at names n ids = registry.changed names n (made_live ids)
 
 -- the changes that build a group, where one is to be built
 abbrev pub group_built : Option Owner → List Change
