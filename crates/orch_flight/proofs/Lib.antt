@@ -1,0 +1,4 @@
+pub mod Begins
+pub mod Begun
+pub mod Stages
+pub mod Unhindered

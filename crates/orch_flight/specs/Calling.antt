@@ -1,8 +1,11 @@
 -- The call of a change, where the registry knows the identifiers of names. Own.
-use Rattle.std.specs.Prelude.{◌≡◌, ℕ, true, List, [], ◌∷◌, ◌++◌, Option, Some, None, option_map}
-use Rattle.table_schema.specs.Plan.{Ports, port_named}
+use Rattle.std.specs.Prelude.{◌≡◌, ◌⊎◌, true, List, [], ◌∷◌, ◌++◌, map, Option, Some, None, IsSome, option_map}
+use Rattle.std.specs.List.{AllByRecursion}
+use Rattle.table_schema.specs.Names.{base_names}
+use Rattle.table_schema.specs.Plan.{IsPlan, Ports, port_named}
 use Rattle.table_schema.specs.declared.key.Key.{Key}
 use Rattle.table_schema.specs.declared.key.Key.TheVariants as key
+use Rattle.table_schema.specs.declared.row.Row.{Row}
 use Rattle.sai_types.specs.declared.ids.Vid.{Vid}
 use Rattle.sai_types.specs.declared.body.Attr.{Attr}
 use Rattle.sai_types.specs.declared.body.Body.{Body}
@@ -12,15 +15,16 @@ use Rattle.sai_types.specs.declared.body.Entry.TheVariants as entry
 use Rattle.sai_types.specs.declared.body.Call.{Call}
 use Rattle.sai_types.specs.declared.body.Call.TheVariants as call
 use Rattle.sai_types.specs.declared.thing.Thing.{Thing}
+use Rattle.sai_types.specs.declared.thing.Thing.TheVariants as thing
 use Rattle.sai_types.specs.Alike.{IsIn}
 use Rattle.sai_types.specs.Names as thing_name
 use Rattle.sai_types.specs.Names.{name_of}
 use Rattle.chip_layout.specs.Bodies.{IsBody, IsChange}
 use Rattle.chip_layout.specs.Layout.{has_number}
-use Rattle.row_layout.specs.Operations.{Change, Make, Set, Take}
+use Rattle.row_layout.specs.Operations.{Change, Make, Set, Take, uses_of}
 use Rattle.row_layout.specs.Rows.{Owner, interface_on}
 use Rattle.row_layout.specs.Shared.{shared_things}
-use Rattle.switch_machine.specs.Flights.{own_of}
+use Rattle.switch_machine.specs.Flights.{Fits, own_of}
 use Rattle.ref_counts.specs.declared.name.Name.{Name}
 use Rattle.ref_counts.specs.declared.name.Name.TheVariants as name
 use Rattle.ref_counts.specs.declared.next.Next.{Next}
@@ -106,3 +110,51 @@ things_held plan operation = own_of plan operation.key operation.now ++ things_r
 abbrev pub IsNextOf : Ports → Names → Operation → Next → Type 0
 IsNextOf plan names operation next.End = operation.due ≡ []
 IsNextOf plan names operation (next.Call c) = (change : Change) × (rest : List Change) × (operation.due ≡ change ∷ rest) × IsCallOf (HasVid plan names) (things_held plan operation) change c
+
+-- ---- when the call can be told
+
+-- under which names the registry has the identifiers of what a thing refers to that belongs to a key's row, or is shared by it
+abbrev pub referred : Key → Thing → List Name
+referred (key.Member vlan port) (thing.BridgePort lane) = name.Row (key.Port port) ∷ []
+referred (key.Member vlan port) (thing.VlanMember v lane tagging) = name.Row (key.Vlan vlan) ∷ name.BridgePort lane ∷ []
+referred (key.Intf n) (thing.Rif b) = map name.Row (base_names n)
+referred (key.Neigh n ip) (thing.Neighbor hop mac) = name.Row (key.Intf n) ∷ []
+referred (key.Neigh n ip) (thing.NextHop hop) = name.Row (key.Intf n) ∷ []
+referred k t = []
+
+-- and those by which it is named itself: a neighbour by its interface
+abbrev pub entered : Key → thing_name.Name → List Name
+entered (key.Neigh n ip) (thing_name.Neighbor hop) = name.Row (key.Intf n) ∷ []
+entered k (thing_name.BridgePort lane) = name.BridgePort lane ∷ []
+entered k (thing_name.Own ip) = []
+entered k n = name.Row k ∷ []
+
+abbrev pub ids_needed : Key → Change → List Name
+ids_needed k (Make t) = referred k t
+ids_needed k (Set u) = entered k (name_of u)
+ids_needed k (Take n) = entered k n
+
+abbrev pub HaveIds : Names → List Name → Type 0
+HaveIds names ns = AllByRecursion (λ n. IsSome (first_of (ids_of names n))) ns
+
+abbrev pub knows_for : Names → Key → List Change → Type 0
+knows_for names k [] = Unit {0}
+knows_for names k (c ∷ cs) = HaveIds names (ids_needed k c)
+
+-- the registry has the identifiers that the call of the change that is due next needs
+abbrev pub KnowsIds : Names → Operation → Type 0
+KnowsIds names operation = knows_for names operation.key operation.due
+
+-- a change is about a thing of the key's rows, or of what the operation shares or takes away
+abbrev pub IsChangeFor : Ports → Operation → List Change → Type 0
+IsChangeFor plan operation [] = Unit {0}
+IsChangeFor plan operation (Make t ∷ cs) = IsIn t (own_of plan operation.key operation.new) ⊎ ((o : Owner) × IsIn o (uses_of plan operation.key operation.new) × IsIn t (shared_things o))
+IsChangeFor plan operation (Set u ∷ cs) = (old : Thing) × IsIn old (own_of plan operation.key operation.now) × (name_of old ≡ name_of u)
+IsChangeFor plan operation (Take n ∷ cs) = (old : Thing) × IsIn old (things_held plan operation) × (name_of old ≡ n)
+
+-- an operation is one over this port plan
+pub record IsOver (plan : Ports) (operation : Operation) : Type 0 where
+  pub plans : IsPlan plan
+  pub now : (r : Row) → operation.now ≡ Some r → Fits plan operation.key r
+  pub new : (r : Row) → operation.new ≡ Some r → Fits plan operation.key r
+  pub next : IsChangeFor plan operation operation.due

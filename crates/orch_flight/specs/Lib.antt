@@ -3,3 +3,4 @@ pub mod Operation
 pub mod Starting
 pub mod Calling
 pub mod Taking
+pub mod Sharing

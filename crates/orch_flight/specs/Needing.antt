@@ -1,5 +1,5 @@
 -- What the operation of a row needs of names, and why it has to wait. Own.
-use Rattle.std.specs.Prelude.{ℕ, List, [], ◌∷◌, ◌++◌, map, min, Option, Some, None, option_map, if◌then◌else◌}
+use Rattle.std.specs.Prelude.{ℕ, List, [], ◌∷◌, ◌++◌, map, Option, Some, None, option_map}
 use Rattle.table_schema.specs.Names.{names_of}
 use Rattle.table_schema.specs.Plan.{Ports}
 use Rattle.table_schema.specs.declared.key.Key.{Key}
@@ -104,3 +104,8 @@ or_else (Some wait) other = Some wait
 abbrev pub wait_of : Ports → Names → RoomState → List ℕ → ℕ → Key → Option Row → Option Row → Option Wait
 wait_of plan names room used worker k old new =
     or_else (missing_for names k new) (or_else (holder_of names k new) (or_else (busy_for plan names worker k new) (crowded_for plan names room used k old new)))
+
+-- the first reason that holds for a row that names these keys, shares what has these names, and needs these places
+abbrev pub row_reason : Names → RoomState → List ℕ → List Key → List Name → List ℕ → Option Wait
+row_reason names room used ks shared need =
+    or_else (option_map wait.Missing (first_unapplied names ks)) (or_else (option_map wait.Busy (least_of (workers_on names (map name.Row ks ++ shared)))) (option_map wait.NoRoom (lacking room need used)))

@@ -13,10 +13,8 @@ use Rattle.row_layout.specs.Operations.{Change, own_changes, same_owner, shared_
 use Rattle.row_layout.specs.Rows.{Owner, OfRow, Bridge, Own, Group}
 use Rattle.switch_machine.specs.Operations.{built_first}
 use Rattle.ref_counts.specs.declared.name.Name.TheVariants as name
-use Rattle.ref_counts.specs.declared.name.NameState.{NameState}
-use Rattle.ref_counts.specs.declared.name.NameState.TheVariants as state
 use Rattle.ref_counts.specs.Registered.{begun, going, with_user, without_user}
-use Rattle.ref_counts.specs.Registry.{Names, changed, name_cmp, pinned, refusal_at, state_of}
+use Rattle.ref_counts.specs.Registry.{Names, changed, name_cmp, pinned, refusal_at}
 use Rattle.ref_counts.specs.Room.{Reserves, RoomState}
 use Rattle.orch_flight.specs.Needing.{name_for, places_for, to_build, wait_of}
 use Rattle.orch_flight.specs.Operation.{Operation}
@@ -126,3 +124,9 @@ IsStartedBy plan names room used worker k old new (Ok operation) names' room' =
     (wait_of plan names room used worker k old new ≡ None) × (operation ≡ started_operation plan names worker k old new) × (names' ≡ started_names plan names worker k old new)
     × Reserves room worker (places_for (built_first (to_build plan names k new) (own_changes plan k old new))) room'
 IsStartedBy plan names room used worker k old new (Err wait) names' room' = (wait_of plan names room used worker k old new ≡ Some wait) × (names' ≡ names) × (room' ≡ room)
+
+-- the start, but for the operation itself
+abbrev pub IsBegunBy : Ports → Names → RoomState → List ℕ → ℕ → Key → Option Row → Option Row → Result (Unit {0}) Wait → Names → RoomState → Type 0
+IsBegunBy plan names room used worker k old new (Ok _) names' room' =
+    (wait_of plan names room used worker k old new ≡ None) × (names' ≡ started_names plan names worker k old new) × Reserves room worker (places_for (built_first (to_build plan names k new) (own_changes plan k old new))) room'
+IsBegunBy plan names room used worker k old new (Err wait) names' room' = (wait_of plan names room used worker k old new ≡ Some wait) × (names' ≡ names) × (room' ≡ room)

@@ -1,6 +1,5 @@
 -- What becomes of an operation and of names when the call that is due has taken effect. Own.
-use Rattle.std.specs.Prelude.{◌≡◌, ℕ, List, [], ◌∷◌, Option, Some, None}
-use Rattle.table_schema.specs.Plan.{Ports}
+use Rattle.std.specs.Prelude.{◌≡◌, ◌≤◌, List, [], ◌∷◌, length, Option, Some, None, is_some}
 use Rattle.table_schema.specs.declared.key.Key.{Key}
 use Rattle.table_schema.specs.declared.row.Row.{Row}
 use Rattle.table_schema.specs.declared.row.Row.TheVariants as row
@@ -8,11 +7,15 @@ use Rattle.sai_types.specs.declared.ids.Vid.{Vid}
 use Rattle.sai_types.specs.declared.thing.Thing.{Thing}
 use Rattle.sai_types.specs.declared.thing.Thing.TheVariants as thing
 use Rattle.sai_types.specs.Names as thing_name
+use Rattle.chip_layout.specs.Layout.{has_number}
 use Rattle.row_layout.specs.Operations.{Change, Make, Set, Take}
 use Rattle.row_layout.specs.Rows.{Owner}
+use Rattle.ref_counts.specs.declared.name.Name.{Name}
 use Rattle.ref_counts.specs.declared.name.Name.TheVariants as name
+use Rattle.ref_counts.specs.declared.name.NameState.TheVariants as state
 use Rattle.ref_counts.specs.Registered.{made_live}
-use Rattle.ref_counts.specs.Registry.{Names, changed, gone_from}
+use Rattle.ref_counts.specs.Registry.{Names, changed, gone_from, places_of, state_of}
+use Rattle.orch_flight.specs.Needing.{name_for}
 use Rattle.orch_flight.specs.Operation.{Operation}
 use Rattle.orch_flight.specs.Starting.{left_names, retired_by, taken_here}
 
@@ -67,3 +70,22 @@ pub record IsTook (old : Operation) (made : Option Vid) (names : Names) (new : O
   pub due : old.due ≡ change ∷ rest
   pub operation : new ≡ operation_by (names_after names old.key change made) old change rest old.leaves
   pub names_are : names' ≡ names_by (names_after names old.key change made) old rest old.leaves
+
+-- ---- when an answer can be taken
+
+-- the name that a thing makes live when it is made
+abbrev pub built_name : Key → Thing → Option Name
+built_name k (thing.BridgePort lane) = Some (name.BridgePort lane)
+built_name k (thing.Own ip) = Some (name.Own ip)
+built_name k (thing.Neighbor hop mac) = None
+built_name k (thing.Route prefix goal) = None
+built_name k (thing.Group hops) = None
+built_name k (thing.GroupMember hops hop) = None
+built_name k t = Some (name.Row k)
+
+-- a change is due; an identifier came exactly where the call made one; what the change makes live the worker builds, with a place for the identifier; and what the operation has to leave is live
+pub record MayTake (operation : Operation) (made : Option Vid) (names : Names) : Type 0 where
+  pub some : operation.due ≡ [] → ⊥
+  pub numbered : (t : Thing) (rest : List Change) → operation.due ≡ Make t ∷ rest → is_some made ≡ has_number t
+  pub builds : (t : Thing) (rest : List Change) (n : Name) → operation.due ≡ Make t ∷ rest → built_name operation.key t ≡ Some n → (state_of names n ≡ state.Building operation.worker) × (length (to_list made) ≤ places_of names n)
+  pub leaves : (o : Owner) → operation.leaves ≡ Some o → state_of names (name_for o) ≡ state.Live

@@ -71,8 +71,8 @@ impl Room {
         clear(&mut self.reserved, KINDS * worker as usize);
     }
 
-    /// The first kind of which room is lacking.
-    fn lacking(&self, need: &[u64; 11], used: &[u64; 11]) -> Option<Kind>
+    /// The first kind of which a place is needed and whose used, reserved and needed places exceed the capacity.
+    pub fn lacking(&self, need: &[u64; 11], used: &[u64; 11]) -> Option<Kind>
         ensures { result ≡ lacking self.now need.now used.now }
     {
         self.first_lacking(

@@ -1,0 +1,100 @@
+-- what holds where no reason to wait does
+use Rattle.std.proofs.Common.{◌≡◌, ℕ, List, [], ◌∷◌, ◌++◌, map, Option, Some, None, option_map, if◌then◌else◌, refl, ap}
+use Rattle.table_schema.specs.declared.key.Key.{Key}
+use Rattle.sai_types.specs.Named.{those}
+use Rattle.switch_model.specs.declared.wait.Wait.{Wait}
+use Rattle.switch_model.specs.declared.wait.Wait.TheVariants as wait
+use Rattle.ref_counts.specs.declared.name.Name.{Name}
+use Rattle.ref_counts.specs.declared.name.Name.TheVariants as name
+use Rattle.ref_counts.specs.declared.name.NameState.{NameState}
+use Rattle.ref_counts.specs.declared.name.NameState.TheVariants as state
+use Rattle.ref_counts.specs.Registered.{Registered}
+use Rattle.ref_counts.specs.Registry.{Names, first_missing, is_live, owner_in, registered_at, state_in, state_of}
+use Rattle.ref_counts.specs.Room.{RoomState, lacking}
+use Rattle.orch_flight.specs.Needing.{first_unapplied, least_of, or_else, row_reason, unapplied_or, workers_on}
+use Rattle.orch_flight.specs.Sharing.{IsReady, IsSettled, MayShare}
+use Rattle.orch_flight.specs.Taking.{to_list}
+
+first_none : (a b : Option Wait) → or_else a b ≡ None → a ≡ None
+first_none None b h = refl
+first_none (Some w) b h = cc
+
+second_none : (a b : Option Wait) → or_else a b ≡ None → b ≡ None
+second_none None b h = h
+second_none (Some w) b h = cc
+
+unmapped : {X : Type 0} (f : X → Wait) (o : Option X) → option_map f o ≡ None → o ≡ None
+unmapped f None h = refl
+unmapped f (Some x) h = cc
+
+no_least : (ns : List ℕ) → least_of ns ≡ None → ns ≡ []
+no_least [] h = refl
+no_least (n ∷ ns) h = cc
+
+-- none of these names has a worker
+abbrev pub AreFree : Names → List Name → Type 0
+AreFree names [] = Unit {0}
+AreFree names (n ∷ ns) = (owner_in (state_of names n) ≡ None) × AreFree names ns
+
+first_free : (o : Option ℕ) (os : List (Option ℕ)) → those (o ∷ os) ≡ [] → o ≡ None
+first_free None os h = refl
+first_free (Some w) os h = cc
+
+others_free : (o : Option ℕ) (os : List (Option ℕ)) → those (o ∷ os) ≡ [] → those os ≡ []
+others_free None os h = h
+others_free (Some w) os h = cc
+
+are_free : (names : Names) (ns : List Name) → workers_on names ns ≡ [] → AreFree names ns
+are_free names [] h = tt
+are_free names (n ∷ ns) h =
+    let o = owner_in (state_of names n) in
+    let os = map (λ n. owner_in (state_of names n)) ns in
+    (first_free o os h, are_free names ns (others_free o os h))
+
+free_tail : (names : Names) (ks : List Key) (ns : List Name) → AreFree names (map name.Row ks ++ ns) → AreFree names ns
+free_tail names [] ns h = h
+free_tail names (k ∷ ks) ns h = free_tail names ks ns h.1
+
+live_step : (s : NameState) (k : Key) (a b : Option Key) → owner_in s ≡ None → unapplied_or k s a ≡ None → (a ≡ None → b ≡ None) → (if is_live s then b else Some k) ≡ None
+live_step state.Absent k a b free h next = cc
+live_step state.Live k a b free h next = next h
+live_step (state.Building w) k a b free h next = cc
+live_step (state.Retiring w) k a b free h next = cc
+
+none_missing : (names : Names) (ks : List Key) (ns : List Name) → AreFree names (map name.Row ks ++ ns) → first_unapplied names ks ≡ None → first_missing names ks ≡ None
+none_missing names [] ns free h = refl
+none_missing names (k ∷ ks) ns free h =
+    live_step (state_of names (name.Row k)) k (first_unapplied names ks) (first_missing names ks) free.0 h (none_missing names ks ns free.1)
+
+module _ (names : Names) (room : RoomState) (used : List ℕ) (ks : List Key) (ns : List Name) (need : List ℕ) (none : row_reason names room used ks ns need ≡ None) where
+  busy_none : or_else (option_map wait.Busy (least_of (workers_on names (map name.Row ks ++ ns)))) (option_map wait.NoRoom (lacking room need used)) ≡ None
+  busy_none = second_none (option_map wait.Missing (first_unapplied names ks)) _ none
+
+  free : AreFree names (map name.Row ks ++ ns)
+  free = are_free names (map name.Row ks ++ ns) (no_least _ (unmapped wait.Busy _ (first_none _ (option_map wait.NoRoom (lacking room need used)) busy_none)))
+
+  -- the keys that are named are live
+  pub reason-named : first_missing names ks ≡ None
+  reason-named = none_missing names ks ns free (unmapped wait.Missing (first_unapplied names ks) (first_none _ _ none))
+
+  -- there is room
+  pub reason-room : lacking room need used ≡ None
+  reason-room = unmapped wait.NoRoom (lacking room need used) (second_none (option_map wait.Busy (least_of (workers_on names (map name.Row ks ++ ns)))) _ busy_none)
+
+  pub reason-free : AreFree names ns
+  reason-free = free_tail names ks ns free
+
+settled : (o : Option Registered) → owner_in (state_in o) ≡ None → (option_map (λ r. r.state) o ≡ Some state.Absent → ⊥) → IsSettled (option_map (λ r. r.state) o)
+settled None free not = tt
+settled (Some r) free not = by r.state free (λ e. not (ap Some e))
+  where
+    by : (s : NameState) → owner_in s ≡ None → (s ≡ state.Absent → ⊥) → s ≡ state.Live
+    by state.Absent free not = absurd (not refl)
+    by state.Live free not = refl
+    by (state.Building w) free not = cc
+    by (state.Retiring w) free not = cc
+
+-- and what is shared is ready
+pub reason-ready : (names : Names) (room : RoomState) (used : List ℕ) (ks : List Key) (shared : Option Name) (need : List ℕ) → MayShare names shared → row_reason names room used ks (to_list shared) need ≡ None → IsReady names shared
+reason-ready names room used ks None need may none = tt
+reason-ready names room used ks (Some n) need may none = (may.0, settled (registered_at names n) (reason-free names room used ks (n ∷ []) need none).0 may.1)

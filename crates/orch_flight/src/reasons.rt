@@ -1,0 +1,87 @@
+// Why a row has to wait.
+ghost use Rattle.std.specs.Prelude.{◌≡◌, ◌++◌, map, IfOk};
+ghost use Rattle.ref_counts.specs.Registered.{lesser};
+ghost use Rattle.ref_counts.specs.Registry.{owner_in, state_of};
+ghost use Rattle.orch_flight.specs.Needing.{first_unapplied, least_of, row_reason, workers_on};
+ghost use Rattle.orch_flight.specs.Taking.{to_list};
+
+use ref_counts::{Name, NameState, Registry, Room};
+use switch_model::Wait;
+use swss_types::OutOfMemory;
+use table_schema::Key;
+
+/// The first reason that holds for a row that names these keys, shares this and needs these places: a key that is not
+/// applied; the least worker whose operation builds or takes away what is needed; a kind of which there is too little room.
+pub fn reason(
+    reg: &Registry,
+    room: &Room,
+    used: &[u64; 11],
+    keys: &[Key],
+    shared: &Option<Name>,
+    need: &[u64; 11],
+) -> Result<Option<Wait>, OutOfMemory>
+    ensures { IfOk result (λ wait. wait ≡ row_reason reg.now room.now used.now keys.now (to_list shared.now) need.now) }
+{
+    if let Some(key) = first_unapplied(reg, keys)? {
+        return Ok(Some(Wait::Missing(key)));
+    }
+    if let Some(worker) = least_on(reg, keys, shared)? {
+        return Ok(Some(Wait::Busy(worker)));
+    }
+    match room.lacking(need, used) {
+        Some(kind) => Ok(Some(Wait::NoRoom(kind))),
+        None => Ok(None),
+    }
+}
+
+/// The first of some keys that is not applied.
+fn first_unapplied(reg: &Registry, keys: &[Key]) -> Result<Option<Key>, OutOfMemory>
+    ensures { IfOk result (λ key. key ≡ first_unapplied reg.now keys.now) }
+{
+    match keys {
+        [] => Ok(None),
+        [key, others @ ..] => match reg.state(&Name::Row(key.copy()?)) {
+            NameState::Live | NameState::Retiring(_) => first_unapplied(reg, others),
+            NameState::Absent | NameState::Building(_) => Ok(Some(key.copy()?)),
+        },
+    }
+}
+
+/// The least worker whose operation builds the rows of some keys and what is shared, or takes them away.
+fn least_on(reg: &Registry, keys: &[Key], shared: &Option<Name>) -> Result<Option<u32>, OutOfMemory>
+    ensures { IfOk result (λ worker. worker ≡ least_of (workers_on reg.now (map Name.Row keys.now ++ to_list shared.now))) }
+{
+    match keys {
+        [] => match shared {
+            Some(name) => Ok(worker_on(reg, name)),
+            None => Ok(None),
+        },
+        [key, others @ ..] => {
+            let least = least_on(reg, others, shared)?;
+            match worker_on(reg, &Name::Row(key.copy()?)) {
+                Some(worker) => Ok(Some(lesser(worker, least))),
+                None => Ok(least),
+            }
+        }
+    }
+}
+
+/// The worker whose operation builds a name or takes it away.
+fn worker_on(reg: &Registry, name: &Name) -> Option<u32>
+    ensures { result ≡ owner_in (state_of reg.now name.now) }
+{
+    match reg.state(name) {
+        NameState::Building(worker) | NameState::Retiring(worker) => Some(worker),
+        NameState::Absent | NameState::Live => None,
+    }
+}
+
+/// The lesser of a worker and another, where there is one.
+fn lesser(worker: u32, other: Option<u32>) -> u32
+    ensures { result ≡ lesser worker other }
+{
+    match other {
+        Some(other) => worker.min(other),
+        None => worker,
+    }
+}

@@ -1,0 +1,112 @@
+// What rows stand on and share.
+ghost use Rattle.std.specs.Prelude.{◌≡◌, [], ◌∷◌, IfOk};
+ghost use Rattle.switch_model.specs.Things.{base_of, hops_of, lane_of};
+ghost use Rattle.row_layout.specs.Rows.{Bridge, from};
+ghost use Rattle.row_layout.specs.Shared.{address_uses, group_by, uses};
+ghost use Rattle.orch_flight.specs.Sharing.{AreOfShared, owners_of};
+
+use ref_counts::Name;
+use sai_types::{Base, Hop, Hops};
+use std::alloc::Global;
+use swss_types::{IfName, Ip, OutOfMemory};
+use table_schema::{Key, PortPlan, RouteRow, Row, RowHop};
+
+/// The first lane of a port: None exactly where the plan has no such port.
+pub fn lane_of(plan: &PortPlan, port: u32) -> Option<u16>
+    ensures { result ≡ lane_of plan.now port }
+{
+    match plan.lanes_of(port) {
+        Some(lanes) => Some(lanes.first()),
+        None => None,
+    }
+}
+
+/// What an interface's router interface stands on: None where its port is not in the plan, and for a Loopback.
+pub fn base_of(plan: &PortPlan, on: IfName) -> Option<Base>
+    ensures { result ≡ base_of plan.now on }
+{
+    match on {
+        IfName::Ethernet(port) => match lane_of(plan, port) {
+            Some(lane) => Some(Base::Port(lane)),
+            None => None,
+        },
+        IfName::Vlan(vlan) => Some(Base::Vlan(vlan)),
+        IfName::Loopback(_) => None,
+    }
+}
+
+/// What a row of this key shares with other rows, if anything.
+pub fn shared(
+    alloc: Global,
+    plan: &PortPlan,
+    key: &Key,
+    row: &Row,
+) -> Result<Option<Name>, OutOfMemory>
+    ensures value { IfOk result (λ name. uses plan.now key.now row.now ≡ owners_of name) }
+    ensures kind { IfOk result (λ name. AreOfShared name) }
+{
+    match (key, row) {
+        (Key::Member(_, port), Row::Member(_)) => Ok(bridge_of(plan, *port)),
+        (Key::Addr(on, ip, _), Row::Addr) => Ok(own_of(plan, *on, *ip)),
+        (Key::Route(_), Row::Route(RouteRow::Hops(hops))) => group_of(alloc, plan, hops.items()),
+        _ => Ok(None),
+    }
+}
+
+/// The bridge port of a port of the plan.
+fn bridge_of(plan: &PortPlan, port: u32) -> Option<Name>
+    ensures value { from (lane_of plan.now port) (λ lane. Bridge lane ∷ []) ≡ owners_of result }
+    ensures kind { AreOfShared result }
+{
+    match lane_of(plan, port) {
+        Some(lane) => Some(Name::BridgePort(lane)),
+        None => None,
+    }
+}
+
+/// An interface's address as the switch's own, unless the interface is on a port that is not in the plan.
+fn own_of(plan: &PortPlan, on: IfName, ip: Ip) -> Option<Name>
+    ensures value { address_uses plan.now on ip ≡ owners_of result }
+    ensures kind { AreOfShared result }
+{
+    match on {
+        IfName::Ethernet(port) => match lane_of(plan, port) {
+            Some(_) => Some(Name::Own(ip)),
+            None => None,
+        },
+        IfName::Vlan(_) | IfName::Loopback(_) => Some(Name::Own(ip)),
+    }
+}
+
+/// The group of several hops.
+fn group_of(alloc: Global, plan: &PortPlan, hops: &[RowHop]) -> Result<Option<Name>, OutOfMemory>
+    ensures value { IfOk result (λ name. group_by (hops_of plan.now hops.now) ≡ owners_of name) }
+    ensures kind { IfOk result (λ name. AreOfShared name) }
+{
+    let Some(hops) = hops_of(alloc, plan, hops)? else {
+        return Ok(None);
+    };
+    match hops.items() {
+        [] | [_] => Ok(None),
+        _ => Ok(Some(Name::Group(hops))),
+    }
+}
+
+/// The hops of a row as hops of the chip, where each stands on something.
+fn hops_of(alloc: Global, plan: &PortPlan, hops: &[RowHop]) -> Result<Option<Hops>, OutOfMemory>
+    ensures { IfOk result (λ found. found ≡ hops_of plan.now hops.now) }
+{
+    match hops {
+        [] => Ok(Some(Hops::new(alloc))),
+        [hop, others @ ..] => {
+            let Some(mut found) = hops_of(alloc, plan, others)? else {
+                return Ok(None);
+            };
+            let Some(on) = base_of(plan, hop.on) else {
+                return Ok(None);
+            };
+            found.put(Hop { on, ip: hop.ip })?;
+            Ok(Some(found))
+        }
+    }
+}
