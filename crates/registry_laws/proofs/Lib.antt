@@ -1,3 +1,4 @@
+pub mod Answered
 pub mod Begun
 pub mod Between
 pub mod Ended

@@ -26,6 +26,8 @@ ghost use Rattle.ref_counts.specs.Registry.{Names, gone_from, name_cmp};
 ghost use Rattle.ref_counts.specs.Room.{GivesBack, Reserves, RoomState, all_free};
 ghost use Rattle.orch_flight.specs.Needing.{name_for, places_for, to_build, wait_of};
 ghost use Rattle.orch_flight.specs.Starting.{begun_names, first_due, left_names, retired_by, taken_here};
+ghost use Rattle.orch_flight.specs.Taking.{names_after};
+ghost use Rattle.registry_laws.specs.Answering.{IsOfGroup, MakesRowLive};
 ghost use Rattle.registry_laws.specs.Ending.{ended_names};
 ghost use Rattle.registry_laws.specs.Registers.{AreUsed, HaveDue, OthersHaveDue, Registers, beginning, due_first, group_built, group_taken, made_live_at};
 
@@ -82,4 +84,10 @@ pub fn operations_have_changes()
 pub fn groups_are_apart()
     ensures first { (plan : Ports) (names : Names) (k : Key) (old : Option Row) (new : Option Row) → due_first plan names k old new ≡ group_built (to_build plan names k new) ++ first_due plan names k old new }
     ensures last { (o : Owner) → take_all (shared_going o) [] ≡ group_taken o ++ taken_here (Some o) }
+{}
+
+/// The registry stands for the machine again when a change that is not of a group has taken effect, with the names after it: a thing
+/// of a row that makes its name live is the last that is due for a row that is to be.
+pub fn answers_are_registered()
+    ensures { (plan : Ports) (workers : ℕ) (capacities : List ℕ) (m : Machine) (names : Names) (room : RoomState) (w : ℕ) (f : Flight) (c : Change) (cs : List Change) (stands : List (Rid × Thing)) (made : Option Vid) → IsPlan plan → IsConsistent plan m → HasRisingKeys name_cmp names → Registers plan workers capacities names room m → Moves m w f c cs stands → (IsOfGroup plan c → ⊥) → (MakesRowLive c → (cs ≡ []) × (r : Row) × (f.new ≡ Some r)) → Registers plan workers capacities (names_after names f.key c made) room (moved m w cs stands) }
 {}
