@@ -3,6 +3,7 @@ pub mod Begun
 pub mod Between
 pub mod Ended
 pub mod Finding
+pub mod Lasting
 pub mod Left
 pub mod Listing
 pub mod Moved

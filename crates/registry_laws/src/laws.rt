@@ -1,5 +1,5 @@
 // The registry stands for the machine. Each function is a law: it does nothing, and its contract is proved.
-ghost use Rattle.std.specs.Prelude.{◌≡◌, ◌⊎◌, ◌<◌, ◌≤◌, ℕ, true, ◌++◌, List, [], Option, None, Some};
+ghost use Rattle.std.specs.Prelude.{◌≡◌, ◌⊎◌, ◌<◌, ◌≤◌, ℕ, true, ◌++◌, ◌∷◌, List, [], Option, None, Some};
 ghost use Rattle.table_schema.specs.Fields.{HasRisingKeys};
 ghost use Rattle.table_schema.specs.Names.{names_of};
 ghost use Rattle.table_schema.specs.Plan.{IsPlan, Ports};
@@ -11,12 +11,12 @@ ghost use Rattle.switch_machine.specs.Events.{Follows, IsSafe, SwitchState, empt
 ghost use Rattle.sai_types.specs.declared.ids.Rid.{Rid};
 ghost use Rattle.sai_types.specs.declared.ids.Vid.{Vid};
 ghost use Rattle.sai_types.specs.declared.thing.Thing.{Thing};
-ghost use Rattle.row_layout.specs.Operations.{Change, shared_going, take_all};
+ghost use Rattle.row_layout.specs.Operations.{Change, own_changes, shared_going, take_all};
 ghost use Rattle.row_layout.specs.Rows.{OfRow, Owner};
 ghost use Rattle.switch_machine.specs.Changes.{changed};
 ghost use Rattle.switch_machine.specs.Consistent.{IsConsistent};
 ghost use Rattle.switch_machine.specs.Flights.{Fits, Flight, HasChangeOf, IsOwnedBy, IsResting, IsShared, Machine};
-ghost use Rattle.switch_machine.specs.Operations.{IsLast, MayBegin};
+ghost use Rattle.switch_machine.specs.Operations.{IsLast, MayBegin, built_first};
 ghost use Rattle.switch_machine.specs.Places.{AreCovered, HasRoomFor};
 ghost use Rattle.switch_machine.specs.Steps.{Ends, Leaves, LeavesOthers, Moves, finished, left, moved, started};
 ghost use Rattle.switch_machine.specs.Reasons.{IsReason};
@@ -90,4 +90,9 @@ pub fn groups_are_apart()
 /// of a row that makes its name live is the last that is due for a row that is to be.
 pub fn answers_are_registered()
     ensures { (plan : Ports) (workers : ℕ) (capacities : List ℕ) (m : Machine) (names : Names) (room : RoomState) (w : ℕ) (f : Flight) (c : Change) (cs : List Change) (stands : List (Rid × Thing)) (made : Option Vid) → IsPlan plan → IsConsistent plan m → HasRisingKeys name_cmp names → Registers plan workers capacities names room m → Moves m w f c cs stands → (IsOfGroup plan c → ⊥) → (MakesRowLive c → (cs ≡ []) × (r : Row) × (f.new ≡ Some r)) → Registers plan workers capacities (names_after names f.key c made) room (moved m w cs stands) }
+{}
+
+/// Among the changes of a row's operation the one that makes its name live is the last, and the row is to be.
+pub fn live_rows_are_last()
+    ensures { (plan : Ports) (k : Key) (old : Option Row) (new : Option Row) (o : Option Owner) (before : List Change) (c : Change) (cs : List Change) → built_first o (own_changes plan k old new) ≡ before ++ c ∷ cs → MakesRowLive c → (cs ≡ []) × (r : Row) × (new ≡ Some r) }
 {}
