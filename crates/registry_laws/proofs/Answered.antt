@@ -1,5 +1,5 @@
 -- the registry stands for the machine with the names after a change
-use Rattle.std.proofs.Common.{◌≡◌, ◌⊎◌, ◌∷◌, ◌∙◌, inl, inr, ℕ, List, [], Option, None, Some, option_map, refl, sym, ap, subst}
+use Rattle.std.proofs.Common.{◌≡◌, ◌∷◌, ◌∙◌, inl, inr, ℕ, List, [], Option, None, Some, option_map, refl, sym, ap, subst}
 use Rattle.table_schema.specs.Fields.{HasRisingKeys}
 use Rattle.table_schema.specs.Plan.{IsPlan, Ports, port_named}
 use Rattle.table_schema.specs.declared.key.Key.{Key}
@@ -18,7 +18,7 @@ use Rattle.row_layout.specs.Rows.{Owner, interface_on}
 use Rattle.row_layout.specs.Shared.{shared_things}
 use Rattle.switch_machine.specs.Changes.{after, changed}
 use Rattle.switch_machine.specs.Consistent.{IsConsistent}
-use Rattle.switch_machine.specs.Flights.{Can, Concerns, Fits, Flight, Goes, HasChangeOf, IsConcern, IsOwnedBy, IsShared, Machine, Runs, StandsIn}
+use Rattle.switch_machine.specs.Flights.{Can, Fits, Flight, Goes, HasChangeOf, IsConcern, IsOwnedBy, IsShared, Machine, Runs, StandsIn}
 use Rattle.switch_machine.specs.Steps.{Moves, moved}
 use Rattle.switch_machine.specs.Tables.{Tables}
 use Rattle.switch_machine.proofs.Moving.{fit_of}
@@ -34,7 +34,7 @@ use Rattle.orch_flight.specs.Taking.{names_after, to_list}
 use Rattle.registry_laws.specs.Answering.{IsOfGroup, MakesRowLive}
 use Rattle.registry_laws.specs.Registers.{Registers, made_live_at}
 use Rattle.registry_laws.proofs.Begun.{untouched_whole}
-use Rattle.registry_laws.proofs.Listing.{mapped, not_some, same_some}
+use Rattle.registry_laws.proofs.Listing.{mapped, same_some}
 use Rattle.registry_laws.proofs.Moved.{gone_moved, row_moved, same_moved, shared_moved}
 
 -- of what is gone nothing more is due

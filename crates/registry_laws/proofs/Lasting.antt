@@ -1,5 +1,5 @@
 -- the thing of a row that makes its name live is the last that is made
-use Rattle.std.proofs.Common.{◌≡◌, ◌∷◌, ◌++◌, ◌∙◌, Bool, true, false, List, [], Option, None, Some, refl, sym, ap, subst, if◌then◌else◌}
+use Rattle.std.proofs.Common.{◌≡◌, ◌∷◌, ◌++◌, Bool, true, false, List, [], Option, None, Some, refl, subst, if◌then◌else◌}
 use Rattle.table_schema.specs.Plan.{Ports}
 use Rattle.table_schema.specs.declared.key.Key.{Key}
 use Rattle.table_schema.specs.declared.key.Key.TheVariants as key
@@ -10,10 +10,9 @@ use Rattle.sai_types.specs.declared.hop.Hop.{Hop}
 use Rattle.sai_types.specs.declared.thing.Thing.{Thing}
 use Rattle.sai_types.specs.declared.thing.Thing.TheVariants as thing
 use Rattle.switch_model.specs.Things.{base_of, lane_of, members_of}
-use Rattle.row_layout.specs.Operations.{Change, Make, Set, Take, going, make_all, own_changes, own_sets, port_with, same_thing, set_all, set_to, take_all}
+use Rattle.row_layout.specs.Operations.{Change, Set, going, make_all, own_changes, own_sets, port_with, same_thing, set_all, set_to, take_all}
 use Rattle.row_layout.specs.Rows as owner
 use Rattle.row_layout.specs.Rows.{Owner, from, goal_of, own_things}
-use Rattle.row_layout.specs.Shared.{shared_things}
 use Rattle.switch_machine.specs.Operations.{built_first}
 use Rattle.registry_laws.specs.Answering.{MakesRowLive}
 
