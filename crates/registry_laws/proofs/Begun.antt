@@ -1,5 +1,5 @@
 -- the machine when an operation has started
-use Rattle.std.proofs.Common.{◌≡◌, ◌⊎◌, ◌∷◌, ◌∙◌, inl, inr, ℕ, List, [], Option, None, Some, refl, sym, ap, ap₂, subst}
+use Rattle.std.proofs.Common.{◌≡◌, ◌⊎◌, ◌∷◌, ◌∙◌, inl, inr, ℕ, List, [], None, Some, refl, sym, ap, ap₂, subst}
 use Rattle.table_schema.specs.Names.{names_of}
 use Rattle.table_schema.specs.Plan.{IsPlan, Ports}
 use Rattle.table_schema.specs.declared.key.Key.{Key}
@@ -12,19 +12,18 @@ use Rattle.row_layout.specs.Rows.{Owner, OfRow}
 use Rattle.row_layout.specs.Shared.{shared_things}
 use Rattle.switch_machine.specs.Changes.{after, changed_name}
 use Rattle.switch_machine.specs.Consistent.{IsConsistent}
-use Rattle.switch_machine.specs.Flights.{Board, Can, Concerns, CountsAsUser, Fits, Flight, Goes, HasChangeOf, IsFirm, IsOwnedBy, IsResting, IsRow, IsShared, IsUser, Machine, Runs, StandsIn}
+use Rattle.switch_machine.specs.Flights.{Board, Can, Concerns, CountsAsUser, Fits, Flight, Goes, HasChangeOf, IsFirm, IsOwnedBy, IsResting, IsShared, IsUser, Machine, Runs, StandsIn}
 use Rattle.switch_machine.specs.Operations.{MayBegin}
-use Rattle.switch_machine.specs.Reasons.{IsFlownBy}
 use Rattle.switch_machine.specs.Steps.{Starts, started}
 use Rattle.switch_machine.specs.Tables.{Tables}
 use Rattle.switch_machine.proofs.Beginning.{starts}
 use Rattle.switch_machine.proofs.Running.{no_flight, one_flight, one_owner, shared_of, shared_row, stays}
-use Rattle.switch_machine.proofs.Splits.{IsPut, IsSplit, New, Old, key_split, put_at, put_by, put_off, use_row_in}
+use Rattle.switch_machine.proofs.Splits.{IsPut, IsSplit, New, Old, key_split, put_at, put_by, put_off}
 use Rattle.switch_machine.proofs.Tabled.{tabled}
 use Rattle.ref_counts.specs.declared.name.NameState.{NameState}
 use Rattle.ref_counts.specs.declared.name.NameState.TheVariants as state
 use Rattle.ref_counts.specs.declared.pin.Pin.{Pin}
-use Rattle.registry_laws.specs.Known.{IsAllMade, IsPinOf, IsTakenAway, RowStands, SharedStands}
+use Rattle.registry_laws.specs.Known.{IsPinOf, RowStands, SharedStands}
 use Rattle.registry_laws.proofs.Listing.{not_some}
 use Rattle.registry_laws.proofs.Telling.{touched-concern}
 

@@ -1,17 +1,17 @@
 -- before the first event, and between events
-use Rattle.std.proofs.Common.{◌≡◌, ◌⊎◌, ◌∷◌, ◌+◌, ◌*◌, ◌<◌, ◌≤◌, ◌∙◌, inl, inr, ℕ, zero, suc, List, [], replicate, slice_index, Option, None, Some, refl, sym, ap, subst, arith}
+use Rattle.std.proofs.Common.{◌≡◌, ◌∷◌, ◌+◌, ◌*◌, ◌≤◌, ◌∙◌, inl, inr, ℕ, zero, suc, List, [], replicate, slice_index, None, Some, refl, sym, ap, subst}
 use Rattle.table_schema.specs.Plan.{IsPlan, Ports}
 use Rattle.table_schema.specs.declared.key.Key.{Key}
 use Rattle.sai_types.specs.declared.ids.Rid.{Rid}
 use Rattle.sai_types.specs.declared.thing.Thing.{Thing}
 use Rattle.sai_types.specs.Alike.{IsIn}
 use Rattle.sai_types.specs.Objects.{level}
-use Rattle.row_layout.specs.Operations.{Change, shared_going, take_all, uses_of}
+use Rattle.row_layout.specs.Operations.{Change, shared_going, take_all}
 use Rattle.row_layout.specs.Rows.{Owner}
 use Rattle.switch_machine.specs.Consistent.{IsConsistent}
 use Rattle.switch_machine.specs.Events.{Due, Ended, Follows, Left, Retires, empty_machine}
-use Rattle.switch_machine.specs.Flights.{Flight, HasChangeOf, IsUser, Machine}
-use Rattle.switch_machine.specs.Steps.{finished, left, moved, parted, started}
+use Rattle.switch_machine.specs.Flights.{Flight, IsUser, Machine}
+use Rattle.switch_machine.specs.Steps.{left, moved, parted, started}
 use Rattle.switch_machine.proofs.Splits.{IsPut, IsSplit, New, Old, nat_split, put_at, put_by, put_off}
 use Rattle.ref_counts.specs.Room.{all_free}
 use Rattle.registry_laws.specs.Registers.{HaveDue, OthersHaveDue, Registers}

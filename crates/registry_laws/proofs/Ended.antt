@@ -1,5 +1,5 @@
 -- the registry stands for the machine when an operation has ended
-use Rattle.std.proofs.Common.{◌≡◌, ◌⊎◌, ◌∷◌, ◌<◌, ◌∙◌, inl, inr, ℕ, true, List, [], Option, None, Some, option_map, refl, sym, ap, subst}
+use Rattle.std.proofs.Common.{◌≡◌, ◌⊎◌, ◌<◌, ◌∙◌, inl, inr, ℕ, true, List, [], Option, None, Some, option_map, refl, sym, ap, subst}
 use Rattle.std.specs.List.Sorted.{IsStrictlySortedBy}
 use Rattle.table_schema.specs.Fields.{HasRisingKeys}
 use Rattle.table_schema.specs.Key.{key_cmp}
@@ -9,8 +9,7 @@ use Rattle.table_schema.specs.declared.key.Key.{Key}
 use Rattle.table_schema.specs.declared.row.Row.{Row}
 use Rattle.sai_types.specs.declared.kind.Kind.{Kind}
 use Rattle.sai_types.specs.Alike.{IsIn}
-use Rattle.switch_model.specs.Good.{TypedRows}
-use Rattle.row_layout.specs.Operations.{Change, uses_of}
+use Rattle.row_layout.specs.Operations.{uses_of}
 use Rattle.row_layout.specs.Rows as owner
 use Rattle.row_layout.specs.Rows.{Owner}
 use Rattle.switch_machine.specs.Consistent.{IsConsistent}
@@ -31,9 +30,9 @@ use Rattle.ref_counts.proofs.Found.{found-released}
 use Rattle.orch_flight.specs.Needing.{name_for}
 use Rattle.registry_laws.specs.Ending.{ended_names, made_at_last, named_by, users_dropped, users_passed, with_own_ended}
 use Rattle.registry_laws.specs.Known.{IsKnownRow, IsKnownShared, IsPinOf, Names, RowStands, SharedStands, pins_at}
-use Rattle.registry_laws.specs.Registers.{KnowsNames, KnowsRoom, Registers}
+use Rattle.registry_laws.specs.Registers.{Registers}
 use Rattle.registry_laws.proofs.Finding.{found_at, found_off, gone_at, gone_off}
-use Rattle.registry_laws.proofs.Listing.{but_in, in_but, no_some, none_rising, not_some}
+use Rattle.registry_laws.proofs.Listing.{but_in, in_but, none_rising, not_some}
 use Rattle.registry_laws.proofs.Passing.{IsDropped, but_other, dropped_off, dropped_rising, dropped_row, of_pins, pins_its, released_rising, with_in, with_kept, with_new, with_rising}
 
 -- what is known of a name's users and pins, however it stands

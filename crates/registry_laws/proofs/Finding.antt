@@ -1,5 +1,5 @@
 -- what is known of an owner's name after a change of names
-use Rattle.std.proofs.Common.{◌≡◌, ◌⊎◌, ◌∷◌, ◌++◌, ◌∙◌, inl, inr, ℕ, Bool, true, false, cond, List, [], Option, None, Some, option_map, refl, sym, ap, ap₂, subst}
+use Rattle.std.proofs.Common.{◌≡◌, ◌⊎◌, ◌∷◌, ◌∙◌, inl, inr, ℕ, Bool, true, false, cond, List, [], Option, None, Some, option_map, refl, sym, ap, ap₂, subst}
 use Rattle.std.specs.BTreeMap.{insert_entry, is_at}
 use Rattle.std.specs.Cmp.Lexicographic.{slice_cmp}
 use Rattle.std.specs.Ordering.{is_eq}
@@ -9,7 +9,7 @@ use Rattle.std.proofs.lemmas.Cmp.{tied_itself}
 use Rattle.std.proofs.lemmas.Map.Lookups.{CmpEqualImpliesEq, exact_unsigned}
 use Rattle.table_schema.specs.declared.key.Key.{Key}
 use Rattle.table_schema.proofs.Keys.{ip_exact, key_exact, then_first, then_last}
-use Rattle.table_schema.proofs.Places.{find_step, out_step, put_step}
+use Rattle.table_schema.proofs.Places.{out_step, put_step}
 use Rattle.sai_types.specs.Alike.{IsIn}
 use Rattle.sai_types.specs.Named.{hop_cmp}
 use Rattle.sai_types.proofs.Rising.{hop_exact}

@@ -1,5 +1,5 @@
 -- whether a key was the last user of what it leaves, and what becomes of names
-use Rattle.std.proofs.Common.{◌≡◌, ◌⊎◌, ◌∷◌, ◌<◌, ◌∙◌, inl, inr, ℕ, List, [], Option, None, Some, option_map, option_and_then, refl, sym, ap, ap₂, subst}
+use Rattle.std.proofs.Common.{◌≡◌, ◌⊎◌, ◌∷◌, ◌∙◌, inl, inr, ℕ, List, [], Option, None, Some, option_map, option_and_then, refl, sym, ap, subst}
 use Rattle.table_schema.specs.Plan.{IsPlan, Ports}
 use Rattle.table_schema.specs.declared.key.Key.{Key}
 use Rattle.sai_types.specs.Alike.{IsIn}
@@ -16,8 +16,6 @@ use Rattle.switch_machine.specs.Steps.{Leaves, LeavesOthers, left, parted}
 use Rattle.switch_machine.proofs.Running.{one_flight, one_owner, shared_row, some_owner}
 use Rattle.switch_machine.proofs.Splits.{IsPut, IsSplit, New, Old, key_split, owner_split, put_at, put_by, put_off}
 use Rattle.ref_counts.specs.declared.name.Name.TheVariants as name
-use Rattle.ref_counts.specs.declared.name.NameState.{NameState}
-use Rattle.ref_counts.specs.declared.name.NameState.TheVariants as state
 use Rattle.ref_counts.specs.declared.pin.Pin.{Pin}
 use Rattle.ref_counts.specs.Registered.{Registered, first_of, going, held_or, least_worker, pins_but, retire_refusal, users_but, without_user}
 use Rattle.ref_counts.specs.Registry as registry
@@ -25,10 +23,10 @@ use Rattle.ref_counts.specs.Registry.{refusal_at, registered_at, state_in}
 use Rattle.ref_counts.specs.Room.{RoomState}
 use Rattle.orch_flight.specs.Needing.{name_for}
 use Rattle.orch_flight.specs.Starting.{gone_by, left_names, parted_by, retired_by}
-use Rattle.registry_laws.specs.Known.{IsKnownRow, IsKnownShared, SharedStands}
-use Rattle.registry_laws.specs.Registers.{KnowsNames, Registers}
+use Rattle.registry_laws.specs.Known.{IsKnownRow, IsKnownShared}
+use Rattle.registry_laws.specs.Registers.{Registers}
 use Rattle.registry_laws.proofs.Finding.{found_at, found_off}
-use Rattle.registry_laws.proofs.Listing.{but_in, first_in, first_none, no_some, none_rising, not_some, same_some}
+use Rattle.registry_laws.proofs.Listing.{but_in, first_in, first_none, no_some, not_some}
 use Rattle.registry_laws.proofs.Parting as parting
 use Rattle.registry_laws.proofs.Users.{but_rising, but_users, users_kept}
 

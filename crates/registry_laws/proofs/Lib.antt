@@ -1,7 +1,9 @@
+pub mod Answered
 pub mod Begun
 pub mod Between
 pub mod Ended
 pub mod Finding
+pub mod Lasting
 pub mod Left
 pub mod Listing
 pub mod Moved

@@ -1,6 +1,6 @@
 -- lists: what is first of them, least, or listed
-use Rattle.std.proofs.Common.{◌≡◌, ◌⊎◌, ◌∷◌, ◌++◌, ◌<◌, ◌≤◌, ◌∙◌, inl, inr, ℕ, suc, ◌==◌, min, Bool, true, false, not, cond, List, [], map, filter, Option, None, Some, option_map, refl, sym, ap, subst, arith, is_le}
-use Rattle.std.proofs.lemmas.Bool.{cases_order, eqb-true, eq-eqb, false≢true}
+use Rattle.std.proofs.Common.{◌≡◌, ◌⊎◌, ◌∷◌, ◌++◌, ◌<◌, ◌≤◌, ◌∙◌, inl, inr, ℕ, ◌==◌, min, Bool, true, false, not, cond, List, [], map, Option, None, Some, option_map, refl, sym, ap, subst, arith, is_le}
+use Rattle.std.proofs.lemmas.Bool.{cases_order, eqb-true}
 use Rattle.std.proofs.lemmas.Cmp.{tied_itself}
 use Rattle.std.specs.List.{AllByRecursion}
 use Rattle.std.specs.List.Sorted.{IsStrictlySortedBy}

@@ -1,7 +1,5 @@
 -- the registry stands for the machine when a change has taken effect
-use Rattle.std.proofs.Common.{◌≡◌, ◌⊎◌, ◌∷◌, ◌<◌, ◌∙◌, inl, inr, ℕ, List, [], Option, None, Some, option_map, refl, sym, ap, subst}
-use Rattle.std.specs.BTreeMap.{is_at}
-use Rattle.std.specs.Map.{remove_entry}
+use Rattle.std.proofs.Common.{◌≡◌, ◌∷◌, ◌∙◌, inl, inr, ℕ, List, [], Option, None, Some, option_map, refl, sym, ap, subst}
 use Rattle.table_schema.specs.Fields.{HasRisingKeys}
 use Rattle.table_schema.specs.Plan.{IsPlan, Ports}
 use Rattle.table_schema.specs.declared.key.Key.{Key}
@@ -10,14 +8,13 @@ use Rattle.sai_types.specs.declared.ids.Rid.{Rid}
 use Rattle.sai_types.specs.declared.ids.Vid.{Vid}
 use Rattle.sai_types.specs.declared.thing.Thing.{Thing}
 use Rattle.sai_types.specs.Alike.{IsIn}
-use Rattle.row_layout.specs.Operations.{Change, uses_of}
+use Rattle.row_layout.specs.Operations.{Change}
 use Rattle.row_layout.specs.Rows as owner
 use Rattle.row_layout.specs.Rows.{Owner}
 use Rattle.switch_machine.specs.Changes.{changed_name}
 use Rattle.switch_machine.specs.Consistent.{IsConsistent}
 use Rattle.switch_machine.specs.Flights.{Concerns, Flight, HasChangeOf, IsOwnedBy, IsShared, IsUser, Machine, StandsIn}
 use Rattle.switch_machine.specs.Steps.{Moves, moved}
-use Rattle.switch_machine.specs.Tables.{Tables}
 use Rattle.switch_machine.proofs.Moving.{fit_of}
 use Rattle.switch_machine.proofs.Running.{one_flight, one_owner, row_keys, shared_row}
 use Rattle.switch_machine.proofs.Splits.{IsSplit, key_split, nat_split, owner_split, put_at, put_off}
@@ -31,7 +28,7 @@ use Rattle.ref_counts.specs.Registry.{gone_from, name_cmp, registered_at, state_
 use Rattle.ref_counts.specs.Room.{RoomState}
 use Rattle.orch_flight.specs.Needing.{name_for}
 use Rattle.registry_laws.specs.Known.{IsKnownRow, IsKnownShared, RowStands, SharedStands}
-use Rattle.registry_laws.specs.Registers.{KnowsNames, KnowsRoom, Registers, made_live_at}
+use Rattle.registry_laws.specs.Registers.{KnowsNames, Registers, made_live_at}
 use Rattle.registry_laws.proofs.Finding.{found_at, found_off, gone_at, gone_off}
 use Rattle.registry_laws.proofs.Listing.{none_rising}
 use Rattle.registry_laws.proofs.Listing.{no_some}

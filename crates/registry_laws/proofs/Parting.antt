@@ -1,46 +1,29 @@
 -- the registry stands for the machine when a key has left what it shared
-use Rattle.std.proofs.Common.{◌≡◌, ◌⊎◌, ◌∷◌, ◌<◌, ◌∙◌, inl, inr, ℕ, List, [], Option, None, Some, option_map, option_and_then, refl, sym, ap, subst}
-use Rattle.std.specs.List.Sorted.{IsStrictlySortedBy}
-use Rattle.table_schema.specs.Key.{key_cmp}
+use Rattle.std.proofs.Common.{◌≡◌, ◌∷◌, ◌∙◌, inl, inr, ℕ, List, [], Option, None, Some, refl, sym, ap, subst}
 use Rattle.table_schema.specs.Names.{names_of}
 use Rattle.table_schema.specs.Plan.{IsPlan, Ports}
 use Rattle.table_schema.specs.declared.key.Key.{Key}
-use Rattle.table_schema.specs.declared.row.Row.{Row}
 use Rattle.sai_types.specs.declared.thing.Thing.{Thing}
 use Rattle.sai_types.specs.Alike.{IsIn}
 use Rattle.sai_types.specs.Names.{name_of}
-use Rattle.switch_model.specs.declared.wait.Wait.{Wait}
-use Rattle.switch_model.specs.declared.wait.Wait.TheVariants as wait
 use Rattle.row_layout.specs.Operations.{Change, Take, shared_going, take_all, uses_of}
-use Rattle.row_layout.specs.Rows as owner
 use Rattle.row_layout.specs.Rows.{Owner}
-use Rattle.row_layout.specs.Shared.{shared_things}
 use Rattle.switch_machine.specs.Changes.{changed_name}
 use Rattle.switch_machine.specs.Consistent.{IsConsistent, WasUsed}
-use Rattle.switch_machine.specs.Flights.{Board, CountsAsUser, Flight, HasChangeOf, IsFirm, IsOwnedBy, IsResting, IsShared, IsUser, Machine}
-use Rattle.switch_machine.specs.Operations.{IsLast}
-use Rattle.switch_machine.specs.Reasons.{IsFlownBy}
-use Rattle.switch_machine.specs.Steps.{Leaves, LeavesOthers, left, parted}
+use Rattle.switch_machine.specs.Flights.{CountsAsUser, Flight, HasChangeOf, IsFirm, IsOwnedBy, IsResting, IsShared, IsUser, Machine}
+use Rattle.switch_machine.specs.Steps.{Leaves, left, parted}
 use Rattle.switch_machine.proofs.Ordered.{ordered}
-use Rattle.switch_machine.proofs.Running.{one_flight, row_keys, shared_row, some_owner}
-use Rattle.switch_machine.proofs.Splits.{IsPut, IsSplit, New, Old, key_split, nat_split, owner_split, put_at, put_by, put_off}
+use Rattle.switch_machine.proofs.Running.{one_flight, some_owner}
+use Rattle.switch_machine.proofs.Splits.{IsPut, IsSplit, New, Old, nat_split, put_at, put_by, put_off}
 use Rattle.switch_machine.proofs.Tabled.{are_shared_by, tabled}
-use Rattle.ref_counts.specs.declared.name.Name.TheVariants as name
 use Rattle.ref_counts.specs.declared.name.NameState.{NameState}
 use Rattle.ref_counts.specs.declared.name.NameState.TheVariants as state
 use Rattle.ref_counts.specs.declared.pin.Pin.{Pin}
-use Rattle.ref_counts.specs.Registered.{Registered, first_of, going, held_or, least_worker, pins_but, retire_refusal, users_but, without_user}
-use Rattle.ref_counts.specs.Registry as registry
-use Rattle.ref_counts.specs.Registry.{refusal_at, registered_at, state_in}
-use Rattle.ref_counts.specs.Room.{RoomState}
-use Rattle.orch_flight.specs.Needing.{name_for}
-use Rattle.orch_flight.specs.Starting.{gone_by, left_names, parted_by, retired_by}
+use Rattle.ref_counts.specs.Registered.{Registered}
+use Rattle.ref_counts.specs.Registry.{state_in}
 use Rattle.registry_laws.specs.Known.{IsAllMade, IsKnownRow, IsKnownShared, IsPinOf, RowStands, SharedStands}
-use Rattle.registry_laws.specs.Registers.{KnowsNames, Registers}
-use Rattle.registry_laws.proofs.Finding.{found_at, found_off}
-use Rattle.registry_laws.proofs.Listing.{first_in, first_none, no_some, none_rising, not_some, same_some}
+use Rattle.registry_laws.proofs.Listing.{not_some}
 use Rattle.registry_laws.proofs.Sharing.{first-shared}
-use Rattle.registry_laws.proofs.Users.{but_rising, but_users, users_kept}
 
 taken_in : (ts : List Thing) (c : Change) → IsIn c (take_all ts []) → (t : Thing) × IsIn t ts × (c ≡ Take (name_of t))
 taken_in [] c h = elim h [ ]

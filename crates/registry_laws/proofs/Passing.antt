@@ -1,5 +1,5 @@
 -- users and pins when an operation ends
-use Rattle.std.proofs.Common.{◌≡◌, ◌⊎◌, ◌∷◌, ◌∙◌, inl, inr, ℕ, ◌==◌, Bool, true, false, not, cond, List, [], map, Option, None, Some, option_map, refl, sym, ap, subst}
+use Rattle.std.proofs.Common.{◌≡◌, ◌⊎◌, ◌∷◌, ◌∙◌, inl, inr, ℕ, ◌==◌, Bool, true, false, not, cond, List, [], Option, None, Some, option_map, refl, sym, ap, subst}
 use Rattle.std.proofs.lemmas.Bool.{eq-eqb, eqb-true, false≢true}
 use Rattle.std.specs.BTreeMap.{is_at}
 use Rattle.std.specs.BTreeSet.{insert_key}
@@ -19,14 +19,12 @@ use Rattle.switch_machine.proofs.Splits.{IsSplit, key_split}
 use Rattle.ref_counts.specs.declared.name.Name.{Name}
 use Rattle.ref_counts.specs.declared.name.Name.TheVariants as name
 use Rattle.ref_counts.specs.declared.pin.Pin.{Pin}
-use Rattle.ref_counts.specs.Registered.{Registered, pins_but, pins_of, released, users_but, with_users, without_user}
-use Rattle.ref_counts.specs.Registry.{Names, all_released, changed, changed_at, name_cmp, registered_at, state_in, users_at}
-use Rattle.ref_counts.proofs.Found.{found-released}
+use Rattle.ref_counts.specs.Registered.{Registered, pins_but, pins_of, with_users, without_user}
+use Rattle.ref_counts.specs.Registry.{Names, all_released, changed, name_cmp, registered_at, state_in, users_at}
 use Rattle.orch_flight.specs.Needing.{name_for}
 use Rattle.registry_laws.specs.Ending.{users_dropped}
 use Rattle.registry_laws.specs.Known.{pins_at}
 use Rattle.registry_laws.proofs.Finding.{found_at, found_off}
-use Rattle.registry_laws.proofs.Listing.{no_some}
 use Rattle.registry_laws.proofs.Users.{but_rising, but_users, users_kept}
 
 -- ---- pins of a worker, and of the others

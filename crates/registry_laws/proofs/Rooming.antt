@@ -1,6 +1,5 @@
 -- the kind that lacks room, and the places of all workers
-use Rattle.std.proofs.Common.{◌≡◌, ◌⊎◌, ◌∷◌, ◌+◌, ◌-◌, ◌<◌, ◌≤◌, ◌∙◌, inl, inr, ℕ, zero, suc, nat_lt, ◌&&◌, Bool, true, false, List, [], Option, None, Some, refl, sym, ap, subst, arith, if◌then◌else◌}
-use Rattle.std.proofs.lemmas.Bool.{cases_lt, false≢true}
+use Rattle.std.proofs.Common.{◌≡◌, ◌∷◌, ◌+◌, ◌-◌, ◌<◌, ◌≤◌, ◌∙◌, inl, inr, ℕ, zero, suc, nat_lt, ◌&&◌, Bool, true, false, List, [], Option, None, Some, refl, sym, ap, arith, if◌then◌else◌}
 use Rattle.std.proofs.lemmas.Bool.Decides.{nat_tests}
 use Rattle.sai_types.specs.declared.kind.Kind.{Kind}
 use Rattle.sai_types.specs.declared.kind.Kind.TheVariants as kind
@@ -10,7 +9,7 @@ use Rattle.sai_types.specs.Refusal.{capacity_of}
 use Rattle.row_layout.specs.Operations.{Change}
 use Rattle.switch_machine.specs.Flights.{Flight, Machine}
 use Rattle.switch_machine.specs.Places.{AreCovered, makes, places_kept, sum_below}
-use Rattle.ref_counts.specs.Room.{RoomState, first_lacking, kinds, lacking, lacks, number_of, places_by, places_in_all}
+use Rattle.ref_counts.specs.Room.{RoomState, first_lacking, kinds, lacking, lacks, number_of, places_in_all}
 use Rattle.orch_flight.specs.Needing.{places_for}
 use Rattle.registry_laws.specs.Registers.{AreUsed, KnowsRoom}
 use Rattle.registry_laws.proofs.Listing.{not_some, no_some, same_some}

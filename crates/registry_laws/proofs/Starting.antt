@@ -1,5 +1,5 @@
 -- the registry stands for the machine when an operation has started
-use Rattle.std.proofs.Common.{◌≡◌, ◌⊎◌, ◌∷◌, ◌+◌, ◌<◌, ◌∙◌, inl, inr, ℕ, List, [], Option, None, Some, option_map, refl, sym, ap, subst, arith}
+use Rattle.std.proofs.Common.{◌≡◌, ◌⊎◌, ◌∷◌, ◌<◌, ◌∙◌, inl, inr, ℕ, List, [], Option, None, Some, option_map, refl, sym, ap, subst, arith}
 use Rattle.std.specs.List.Sorted.{IsStrictlySortedBy}
 use Rattle.std.specs.BTreeSet.{insert_key}
 use Rattle.table_schema.specs.Key.{key_cmp}
@@ -16,13 +16,11 @@ use Rattle.row_layout.specs.Operations.{Change, Make, make_all, own_changes, use
 use Rattle.row_layout.specs.Rows as owner
 use Rattle.row_layout.specs.Rows.{Owner}
 use Rattle.row_layout.specs.Shared.{shared_things, uses}
-use Rattle.switch_machine.specs.Changes.{changed_name}
 use Rattle.switch_machine.specs.Consistent.{IsConsistent}
-use Rattle.switch_machine.specs.Flights.{Flight, HasChangeOf, IsFirm, IsOwnedBy, IsRow, IsShared, IsUser, Machine, put}
+use Rattle.switch_machine.specs.Flights.{Flight, HasChangeOf, IsShared, IsUser, Machine, put}
 use Rattle.switch_machine.specs.Operations.{MayBegin, built_first}
 use Rattle.switch_machine.specs.Places.{AreCovered, makes}
 use Rattle.switch_machine.specs.Steps.{started}
-use Rattle.switch_machine.specs.Tables.{Tables}
 use Rattle.switch_machine.proofs.Ordered.{ordered}
 use Rattle.switch_machine.proofs.Running.{row_keys, shared_row}
 use Rattle.switch_machine.proofs.Sequence.{IsShort, uses_short}
@@ -35,14 +33,14 @@ use Rattle.ref_counts.specs.declared.pin.Pin.{Pin}
 use Rattle.ref_counts.specs.Registered.{Registered, begun, going, with_user}
 use Rattle.ref_counts.specs.Registry as registry
 use Rattle.ref_counts.specs.Registry.{registered_at, state_in, state_of, users_at}
-use Rattle.ref_counts.specs.Room.{Reserves, RoomState, number_of, places_by}
+use Rattle.ref_counts.specs.Room.{Reserves, RoomState, places_by}
 use Rattle.orch_flight.specs.Needing.{name_for, places_for, to_build}
-use Rattle.orch_flight.specs.Starting.{begun_names, ids_for, ids_for_row, used_by, with_building, with_own, with_pins}
-use Rattle.registry_laws.specs.Known.{IsKnownRow, IsKnownShared, IsPinOf, Names, RowStands, SharedStands, pins_at}
+use Rattle.orch_flight.specs.Starting.{begun_names, ids_for_row, with_building, with_own, with_pins}
+use Rattle.registry_laws.specs.Known.{IsKnownRow, IsKnownShared, IsPinOf, RowStands, SharedStands, pins_at}
 use Rattle.registry_laws.specs.Registers.{KnowsNames, KnowsRoom, Registers, beginning, due_first}
 use Rattle.registry_laws.proofs.Begun as begun_facts
 use Rattle.registry_laws.proofs.Finding.{IsPinned, NamesNew, building_at, building_off, found_at, own_off, pins_off, pins_row, put_at_name, used_off, used_one}
-use Rattle.registry_laws.proofs.Listing.{no_some, none_rising, not_some, same_some}
+use Rattle.registry_laws.proofs.Listing.{no_some, none_rising, not_some}
 use Rattle.registry_laws.proofs.Rooming.{number_for}
 use Rattle.registry_laws.proofs.Sharing.{absent_first, absent_none, first-shared}
 

@@ -1,5 +1,5 @@
 -- what the registry's answers say of the machine
-use Rattle.std.proofs.Common.{◌≡◌, ◌⊎◌, ◌∷◌, ◌++◌, ◌≤◌, ◌&&◌, ◌∙◌, inl, inr, ℕ, Bool, true, false, List, [], map, Option, None, Some, is_some, refl, sym, ap, subst, if◌then◌else◌}
+use Rattle.std.proofs.Common.{◌≡◌, ◌⊎◌, ◌∷◌, ◌≤◌, ◌&&◌, ◌∙◌, inl, inr, ℕ, Bool, true, false, List, [], map, Option, None, Some, is_some, refl, sym, ap, subst, if◌then◌else◌}
 use Rattle.std.proofs.lemmas.Bool.{and_parts, false≢true}
 use Rattle.table_schema.specs.Names.{names_of}
 use Rattle.table_schema.specs.Plan.{IsPlan, Ports}
@@ -7,7 +7,6 @@ use Rattle.table_schema.specs.declared.key.Key.{Key}
 use Rattle.table_schema.specs.declared.row.Row.{Row}
 use Rattle.sai_types.specs.declared.thing.Thing.{Thing}
 use Rattle.sai_types.specs.Alike.{IsIn}
-use Rattle.sai_types.specs.Names.{name_of}
 use Rattle.chip_layout.proofs.Answering.{in_those, those_in}
 use Rattle.switch_model.specs.Desired.{have_rows}
 use Rattle.switch_model.specs.Good.{TypedRows}
@@ -29,12 +28,12 @@ use Rattle.ref_counts.specs.declared.name.Name.TheVariants as name
 use Rattle.ref_counts.specs.declared.name.NameState.{NameState}
 use Rattle.ref_counts.specs.declared.name.NameState.TheVariants as state
 use Rattle.ref_counts.specs.declared.pin.Pin.{Pin}
-use Rattle.ref_counts.specs.Registered.{Registered, least_worker, pins_but}
+use Rattle.ref_counts.specs.Registered.{Registered, pins_but}
 use Rattle.ref_counts.specs.Registry as registry
 use Rattle.ref_counts.specs.Registry.{owner_in, registered_at, state_in, state_of}
 use Rattle.ref_counts.specs.Room.{RoomState}
-use Rattle.orch_flight.specs.Needing.{first_unapplied, least_of, name_for, names_needed, pinning, unapplied_or, workers_on}
-use Rattle.registry_laws.specs.Known.{IsKnownRow, IsKnownShared, IsTouchedBy, RowStands, SharedStands, pins_at}
+use Rattle.orch_flight.specs.Needing.{first_unapplied, name_for, names_needed, pinning, unapplied_or, workers_on}
+use Rattle.registry_laws.specs.Known.{RowStands, SharedStands, pins_at}
 use Rattle.registry_laws.specs.Registers.{HaveDue, Registers}
 use Rattle.registry_laws.proofs.Listing.{but_in, in_but, in_left, in_map, in_right, least_below, least_in, least_none, least_worker_is, map_in, no_some, not_some}
 

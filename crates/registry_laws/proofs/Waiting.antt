@@ -1,5 +1,5 @@
 -- the reason that the registry and the room answer is true, and where they answer none the operation may begin
-use Rattle.std.proofs.Common.{◌≡◌, ◌⊎◌, ◌∷◌, ◌+◌, ◌<◌, ◌≤◌, ◌∙◌, inl, inr, ℕ, true, false, List, [], Option, None, Some, refl, sym, ap, ap₂, subst, arith}
+use Rattle.std.proofs.Common.{◌≡◌, ◌⊎◌, ◌+◌, ◌<◌, ◌≤◌, ◌∙◌, inl, inr, ℕ, true, false, List, Option, None, Some, refl, sym, ap, subst, arith}
 use Rattle.table_schema.specs.Names.{names_of}
 use Rattle.table_schema.specs.Plan.{IsPlan, Ports}
 use Rattle.table_schema.specs.declared.key.Key.{Key}
@@ -14,11 +14,11 @@ use Rattle.row_layout.specs.Rows.{Owner}
 use Rattle.row_layout.specs.Shared.{uses}
 use Rattle.switch_machine.specs.Events.{IsSafe, SwitchState}
 use Rattle.switch_machine.specs.Flights.{Fits, Flight, HasChangeOf, IsFirm, IsResting, IsRow, IsUser, Machine}
-use Rattle.switch_machine.specs.Operations.{MayBegin, built_first}
+use Rattle.switch_machine.specs.Operations.{MayBegin}
 use Rattle.sai_types.specs.Objects.{level, used}
 use Rattle.sai_types.specs.Refusal.{capacity_of}
 use Rattle.switch_machine.specs.Places.{HasRoomFor, makes, places_kept}
-use Rattle.switch_machine.specs.Reasons.{IsFirstInTheWay, IsInTheWay, IsPrepared, IsReason, LacksRoom}
+use Rattle.switch_machine.specs.Reasons.{IsFirstInTheWay, IsInTheWay, IsReason, LacksRoom}
 use Rattle.switch_machine.specs.Written.{good_of}
 use Rattle.switch_machine.proofs.Kept.{no_makes}
 use Rattle.switch_machine.proofs.Tabled.{are_shared_by}
@@ -30,7 +30,7 @@ use Rattle.ref_counts.specs.Registry as registry
 use Rattle.ref_counts.specs.Registry.{owner_in, registered_at, state_of, users_at, users_of}
 use Rattle.ref_counts.specs.Room.{RoomState, lacking, lacks}
 use Rattle.ref_counts.specs.declared.pin.Pin.{Pin}
-use Rattle.orch_flight.specs.Needing.{busy_for, crowded_for, first_absent, first_unapplied, holder_of, least_of, missing_for, name_for, or_else, pinning, places_for, to_build, wait_of, workers_on}
+use Rattle.orch_flight.specs.Needing.{busy_for, crowded_for, first_unapplied, holder_of, least_of, missing_for, name_for, or_else, pinning, places_for, to_build, wait_of, workers_on}
 use Rattle.registry_laws.specs.Known.{RowStands, SharedStands, pins_at}
 use Rattle.registry_laws.specs.Registers.{AreUsed, HaveDue, Registers, beginning, due_first}
 use Rattle.registry_laws.proofs.Listing.{else_none, else_some, first_in, first_least, first_none, least_below, least_in, least_none, mapped, mapped_none, no_some, not_some, same_some}

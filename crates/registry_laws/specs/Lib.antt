@@ -1,3 +1,4 @@
 pub mod Known
 pub mod Registers
 pub mod Ending
+pub mod Answering

@@ -1,5 +1,5 @@
 // The registry stands for the machine. Each function is a law: it does nothing, and its contract is proved.
-ghost use Rattle.std.specs.Prelude.{◌≡◌, ◌⊎◌, ◌<◌, ◌≤◌, ℕ, true, ◌++◌, List, [], Option, None, Some};
+ghost use Rattle.std.specs.Prelude.{◌≡◌, ◌⊎◌, ◌<◌, ◌≤◌, ℕ, true, ◌++◌, ◌∷◌, List, [], Option, None, Some};
 ghost use Rattle.table_schema.specs.Fields.{HasRisingKeys};
 ghost use Rattle.table_schema.specs.Names.{names_of};
 ghost use Rattle.table_schema.specs.Plan.{IsPlan, Ports};
@@ -11,12 +11,12 @@ ghost use Rattle.switch_machine.specs.Events.{Follows, IsSafe, SwitchState, empt
 ghost use Rattle.sai_types.specs.declared.ids.Rid.{Rid};
 ghost use Rattle.sai_types.specs.declared.ids.Vid.{Vid};
 ghost use Rattle.sai_types.specs.declared.thing.Thing.{Thing};
-ghost use Rattle.row_layout.specs.Operations.{Change, shared_going, take_all};
+ghost use Rattle.row_layout.specs.Operations.{Change, own_changes, shared_going, take_all};
 ghost use Rattle.row_layout.specs.Rows.{OfRow, Owner};
 ghost use Rattle.switch_machine.specs.Changes.{changed_name};
 ghost use Rattle.switch_machine.specs.Consistent.{IsConsistent};
 ghost use Rattle.switch_machine.specs.Flights.{Fits, Flight, HasChangeOf, IsOwnedBy, IsResting, IsShared, Machine};
-ghost use Rattle.switch_machine.specs.Operations.{IsLast, MayBegin};
+ghost use Rattle.switch_machine.specs.Operations.{IsLast, MayBegin, built_first};
 ghost use Rattle.switch_machine.specs.Places.{AreCovered, HasRoomFor};
 ghost use Rattle.switch_machine.specs.Steps.{Ends, Leaves, LeavesOthers, Moves, finished, left, moved, started};
 ghost use Rattle.switch_machine.specs.Reasons.{IsReason};
@@ -26,6 +26,8 @@ ghost use Rattle.ref_counts.specs.Registry.{Names, gone_from, name_cmp};
 ghost use Rattle.ref_counts.specs.Room.{GivesBack, Reserves, RoomState, all_free};
 ghost use Rattle.orch_flight.specs.Needing.{name_for, places_for, to_build, wait_of};
 ghost use Rattle.orch_flight.specs.Starting.{begun_names, first_due, left_names, retired_by, taken_here};
+ghost use Rattle.orch_flight.specs.Taking.{names_after};
+ghost use Rattle.registry_laws.specs.Answering.{IsOfGroup, MakesRowLive};
 ghost use Rattle.registry_laws.specs.Ending.{ended_names};
 ghost use Rattle.registry_laws.specs.Registers.{AreUsed, HaveDue, OthersHaveDue, Registers, beginning, due_first, group_built, group_taken, made_live_at};
 
@@ -82,4 +84,15 @@ pub fn operations_have_changes()
 pub fn groups_are_apart()
     ensures first { (plan : Ports) (names : Names) (k : Key) (old : Option Row) (new : Option Row) → due_first plan names k old new ≡ group_built (to_build plan names k new) ++ first_due plan names k old new }
     ensures last { (o : Owner) → take_all (shared_going o) [] ≡ group_taken o ++ taken_here (Some o) }
+{}
+
+/// The registry stands for the machine again when a change that is not of a group has taken effect, with the names after it: a thing
+/// of a row that makes its name live is the last that is due for a row that is to be.
+pub fn answers_are_registered()
+    ensures { (plan : Ports) (workers : ℕ) (capacities : List ℕ) (m : Machine) (names : Names) (room : RoomState) (w : ℕ) (f : Flight) (c : Change) (cs : List Change) (stands : List (Rid × Thing)) (made : Option Vid) → IsPlan plan → IsConsistent plan m → HasRisingKeys name_cmp names → Registers plan workers capacities names room m → Moves m w f c cs stands → (IsOfGroup plan c → ⊥) → (MakesRowLive c → (cs ≡ []) × (r : Row) × (f.new ≡ Some r)) → Registers plan workers capacities (names_after names f.key c made) room (moved m w cs stands) }
+{}
+
+/// Among the changes of a row's operation the one that makes its name live is the last, and the row is to be.
+pub fn live_rows_are_last()
+    ensures { (plan : Ports) (k : Key) (old : Option Row) (new : Option Row) (o : Option Owner) (before : List Change) (c : Change) (cs : List Change) → built_first o (own_changes plan k old new) ≡ before ++ c ∷ cs → MakesRowLive c → (cs ≡ []) × (r : Row) × (new ≡ Some r) }
 {}

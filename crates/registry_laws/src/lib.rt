@@ -4,6 +4,7 @@
 mod laws;
 
 pub use laws::{
-    ends_are_registered, groups_are_apart, leaves_are_registered, moves_are_registered,
-    nothing_is_registered, operations_have_changes, reasons_hold, starts_are_registered,
+    answers_are_registered, ends_are_registered, groups_are_apart, leaves_are_registered,
+    live_rows_are_last, moves_are_registered, nothing_is_registered, operations_have_changes,
+    reasons_hold, starts_are_registered,
 };

@@ -1,0 +1,90 @@
+-- the thing of a row that makes its name live is the last that is made
+use Rattle.std.proofs.Common.{◌≡◌, ◌∷◌, ◌++◌, Bool, true, false, List, [], Option, None, Some, refl, subst, if◌then◌else◌}
+use Rattle.table_schema.specs.Plan.{Ports}
+use Rattle.table_schema.specs.declared.key.Key.{Key}
+use Rattle.table_schema.specs.declared.key.Key.TheVariants as key
+use Rattle.table_schema.specs.declared.row.Row.{Row}
+use Rattle.table_schema.specs.declared.row.Row.TheVariants as row
+use Rattle.sai_types.specs.declared.hop.Base.{Base}
+use Rattle.sai_types.specs.declared.hop.Hop.{Hop}
+use Rattle.sai_types.specs.declared.thing.Thing.{Thing}
+use Rattle.sai_types.specs.declared.thing.Thing.TheVariants as thing
+use Rattle.switch_model.specs.Things.{base_of, lane_of, members_of}
+use Rattle.row_layout.specs.Operations.{Change, Set, going, make_all, own_changes, own_sets, port_with, same_thing, set_all, set_to, take_all}
+use Rattle.row_layout.specs.Rows as owner
+use Rattle.row_layout.specs.Rows.{Owner, from, goal_of, own_things}
+use Rattle.switch_machine.specs.Operations.{built_first}
+use Rattle.registry_laws.specs.Answering.{MakesRowLive}
+
+module _ (new : Option Row) where
+  abbrev IsLastMade : Change → List Change → Type 0
+  IsLastMade c cs = MakesRowLive c → (cs ≡ []) × (r : Row) × (new ≡ Some r)
+
+  abbrev AreLastMade : List Change → Type 0
+  AreLastMade [] = Unit {0}
+  AreLastMade (c ∷ cs) = IsLastMade c cs × AreLastMade cs
+
+  last_of : (before : List Change) (c : Change) (cs : List Change) → AreLastMade (before ++ c ∷ cs) → IsLastMade c cs
+  last_of [] c cs h = h.0
+  last_of (b ∷ before) c cs h = last_of before c cs h.1
+
+  takes_last : (ts : List Thing) → AreLastMade (take_all ts [])
+  takes_last [] = tt
+  takes_last (t ∷ ts) = (λ h. elim h [ ], takes_last ts)
+
+  set_last : (t u : Thing) (rest : List Change) → AreLastMade rest → AreLastMade (set_to t u rest)
+  set_last t u rest h = by (same_thing t u)
+    where
+      by : (b : Bool) → AreLastMade (if b then rest else Set u ∷ rest)
+      by true = h
+      by false = (λ x. elim x [ ], h)
+
+  sets_last : (ts us : List Thing) → AreLastMade (set_all ts us)
+  sets_last (t ∷ ts) (u ∷ us) = set_last t u (set_all ts us) (sets_last ts us)
+  sets_last [] us = tt
+  sets_last (t ∷ ts) [] = tt
+
+  own_sets_last : (plan : Ports) (k : Key) (a r : Row) → AreLastMade (own_sets plan k a r)
+  own_sets_last plan (key.Port port) (row.Port a) (row.Port r) =
+      set_last (port_with a.lanes a.speed a.mtu a.up) (port_with a.lanes r.speed a.mtu a.up) (set_to (port_with a.lanes r.speed a.mtu a.up) (port_with a.lanes r.speed r.mtu a.up) (set_to (port_with a.lanes r.speed r.mtu a.up) (port_with a.lanes r.speed r.mtu r.up) []))
+      (set_last (port_with a.lanes r.speed a.mtu a.up) (port_with a.lanes r.speed r.mtu a.up) (set_to (port_with a.lanes r.speed r.mtu a.up) (port_with a.lanes r.speed r.mtu r.up) [])
+      (set_last (port_with a.lanes r.speed r.mtu a.up) (port_with a.lanes r.speed r.mtu r.up) [] tt))
+  own_sets_last plan k a r = sets_last (own_things plan k a) (own_things plan k r)
+
+  module _ (r : Row) (is : new ≡ Some r) where
+    one_last : {X : Type 0} (x : Option X) (g : X → Thing) → AreLastMade (make_all (from x (λ z. g z ∷ [])) [])
+    one_last None g = tt
+    one_last (Some x) g = (λ _. (refl, r, is), tt)
+
+    things_last : (plan : Ports) (k : Key) (a : Row) → AreLastMade (make_all (own_things plan k a) [])
+    things_last plan (key.Port port) (row.Port a) = one_last (lane_of plan port) (λ lane. thing.Port (record { lanes = a.lanes; speed = a.speed; mtu = a.mtu; up = a.up }))
+    things_last plan (key.Vlan vlan) row.Vlan = (λ _. (refl, r, is), tt)
+    things_last plan (key.Member vlan port) (row.Member tagging) = one_last (lane_of plan port) (λ lane. thing.VlanMember vlan lane tagging)
+    things_last plan (key.Intf n) row.Intf = one_last (base_of plan n) thing.Rif
+    things_last plan (key.Neigh n ip) (row.Neigh mac) = by (base_of plan n)
+      where
+        by : (x : Option Base) → AreLastMade (make_all (from x (λ b. thing.Neighbor (record { on = b; ip = ip }) mac ∷ thing.NextHop (record { on = b; ip = ip }) ∷ [])) [])
+        by None = tt
+        by (Some b) = (λ h. elim h [ ], (λ _. (refl, r, is), tt))
+    things_last plan (key.Route prefix) (row.Route a) = one_last (goal_of plan a) (thing.Route prefix)
+    things_last plan _ _ = tt
+
+  own_last : (plan : Ports) (k : Key) (old x : Option Row) → new ≡ x → AreLastMade (own_changes plan k old x)
+  own_last plan k None None e = tt
+  own_last plan k None (Some r) e = things_last r e plan k r
+  own_last plan k (Some a) None e = takes_last (going plan k a)
+  own_last plan k (Some a) (Some r) e = own_sets_last plan k a r
+
+  members_last : (all hops : List Hop) (own : List Change) → AreLastMade own → AreLastMade (make_all (members_of all hops) own)
+  members_last all [] own h = h
+  members_last all (hop ∷ hops) own h = (λ x. elim x [ ], members_last all hops own h)
+
+  built_last : (o : Option Owner) (own : List Change) → AreLastMade own → AreLastMade (built_first o own)
+  built_last None own h = h
+  built_last (Some (owner.OfRow k)) own h = h
+  built_last (Some (owner.Bridge lane)) own h = (λ x. elim x [ ], h)
+  built_last (Some (owner.Own ip)) own h = (λ x. elim x [ ], h)
+  built_last (Some (owner.Group hops)) own h = (λ x. elim x [ ], members_last hops hops own h)
+
+  pub lasting : (plan : Ports) (k : Key) (old : Option Row) (o : Option Owner) (before : List Change) (c : Change) (cs : List Change) → built_first o (own_changes plan k old new) ≡ before ++ c ∷ cs → MakesRowLive c → (cs ≡ []) × (r : Row) × (new ≡ Some r)
+  lasting plan k old o before c cs e = last_of before c cs (subst AreLastMade e (built_last o (own_changes plan k old new) (own_last plan k old new refl)))
