@@ -23,5 +23,5 @@ pub use forward::Forward;
 pub use replay::Replay;
 pub use sai_types::Fail;
 pub use sim::SimChip;
-pub use things::named;
+pub use things::{each_thing, named};
 pub use ways::Ways;

@@ -159,3 +159,31 @@ fn list_things(
     }
     Ok(things)
 }
+
+/// What each object stands for, in their order: None where a reference is absent.
+pub fn each_thing(
+    alloc: Global,
+    objects: &[Object<Rid>],
+) -> Result<Vec<Option<Thing>>, OutOfMemory>
+    ensures { IfOk result (λ things. things.items ≡ named (entries_of objects.now)) }
+{
+    let bodies = bodies_of(alloc, objects)?;
+    let groups = group_hops(alloc, &bodies, objects)?;
+    list_each(alloc, &bodies, &groups, objects)
+}
+
+/// The thing of each of these objects, in their order.
+fn list_each(
+    alloc: Global,
+    bodies: &Numbered,
+    groups: &GroupHops,
+    objects: &[Object<Rid>],
+) -> Result<Vec<Option<Thing>>, OutOfMemory>
+    ensures { IfOk result (λ things. things.items ≡ map (thing_by (hops_in groups.now.entries) (numbered bodies.now.entries)) (entries_of objects.now)) }
+{
+    let mut things = Vec::new(alloc);
+    for object in objects {
+        things.push(thing_at(alloc, bodies, groups, &object.entry, &object.body)?)?;
+    }
+    Ok(things)
+}

@@ -1,0 +1,157 @@
+// The steps that are due, with their turns.
+ghost use Rattle.std.specs.Prelude.{◌≡◌, ◌++◌, length, IfOk, OnOk};
+ghost use Rattle.std.specs.List.Sorted.{IsPermutation, IsSorted};
+ghost use Rattle.apply_order.specs.Due.{due_steps, entry_number, new_step, new_steps, old_step, old_steps, paired_in};
+ghost use Rattle.apply_order.specs.Places.{by_new, by_old};
+ghost use Rattle.apply_order.specs.Ranks.{timed_cmp};
+
+use crate::places::{Places, by_new, by_old, partner};
+use crate::ranks::{Step, Timed, make_rank, remove_rank, set_rank};
+use sai_types::{Entry, Mode, Object, Rid, Vid};
+use std::alloc::Global;
+use swss_types::OutOfMemory;
+use view_match::{NaturalKey, as_listed, natural_keys};
+
+/// The steps of a plan, in their order.
+pub(crate) fn steps_of(
+    alloc: Global,
+    mode: Mode,
+    old: &[Object<Rid>],
+    new: &[Object<Vid>],
+    pairs: &[(u64, u64)],
+) -> Result<Vec<Timed>, OutOfMemory>
+    ensures { IfOk result (λ steps. IsPermutation (due_steps mode old.now new.now pairs.now) steps.items × IsSorted timed_cmp steps.items) }
+{
+    let mut steps = due_steps(alloc, mode, old, new, pairs)?;
+    steps.sort()?;
+    Ok(steps)
+}
+
+/// The steps of a plan, in no order.
+fn due_steps(
+    alloc: Global,
+    mode: Mode,
+    old: &[Object<Rid>],
+    new: &[Object<Vid>],
+    pairs: &[(u64, u64)],
+) -> Result<Vec<Timed>, OutOfMemory>
+    ensures { IfOk result (λ steps. steps.items ≡ due_steps mode old.now new.now pairs.now) }
+{
+    let pairs = paired_in(mode, pairs);
+    let mut steps = Vec::new(alloc);
+    let listed = as_listed(alloc, new)?;
+    let new_keys = natural_keys(alloc, listed.as_slice())?;
+    push_new(mode, &by_new(alloc, pairs)?, new_keys, new, &mut steps)?;
+    let old_keys = natural_keys(alloc, old)?;
+    push_old(mode, &by_old(alloc, pairs)?, old_keys, old, &mut steps)?;
+    Ok(steps)
+}
+
+/// The pairs that a plan keeps: a cold plan keeps none.
+fn paired_in(mode: Mode, pairs: &[(u64, u64)]) -> &[(u64, u64)]
+    ensures { result.now ≡ paired_in mode pairs.now }
+{
+    match mode {
+        Mode::Hitless => pairs,
+        Mode::Cold => &[],
+    }
+}
+
+/// Puts the steps of the new objects.
+fn push_new(
+    mode: Mode,
+    paired: &Places,
+    keys: Vec<Option<NaturalKey>>,
+    new: &[Object<Vid>],
+    steps: &mut Vec<Timed>,
+) -> Result<(), OutOfMemory>
+    requires keyed { length keys.items ≡ length new.now }
+    ensures { OnOk result (steps.new.items ≡ steps.old.items ++ new_steps mode paired.now.entries keys.items new.now 0) }
+{
+    let mut place = 0;
+    for key in keys {
+        let at = place as u64;
+        steps.push(new_step(mode, key, &new[place], at, partner(paired, at)))?;
+        place += 1;
+    }
+    Ok(())
+}
+
+/// The step of a new object: it is made where it is not paired, else what differs is set.
+fn new_step(
+    mode: Mode,
+    key: Option<NaturalKey>,
+    new: &Object<Vid>,
+    place: u64,
+    partner: Option<u64>,
+) -> Timed
+    ensures { result ≡ new_step mode key new.now place partner }
+{
+    match partner {
+        None => Timed {
+            rank: make_rank(mode, &new.body),
+            key,
+            id: 0,
+            step: Step::Make(place),
+        },
+        Some(old) => Timed {
+            rank: set_rank(&new.body),
+            key,
+            id: 0,
+            step: Step::Set(old, place),
+        },
+    }
+}
+
+/// Puts the steps of the old objects.
+fn push_old(
+    mode: Mode,
+    paired: &Places,
+    keys: Vec<Option<NaturalKey>>,
+    old: &[Object<Rid>],
+    steps: &mut Vec<Timed>,
+) -> Result<(), OutOfMemory>
+    requires keyed { length keys.items ≡ length old.now }
+    ensures { OnOk result (steps.new.items ≡ steps.old.items ++ old_steps mode paired.now.entries keys.items old.now 0) }
+{
+    let mut place = 0;
+    for key in keys {
+        let at = place as u64;
+        push_old_step(mode, key, &old[place], at, partner(paired, at), steps)?;
+        place += 1;
+    }
+    Ok(())
+}
+
+/// Puts the step of an old object: it is removed where it is not paired.
+fn push_old_step(
+    mode: Mode,
+    key: Option<NaturalKey>,
+    old: &Object<Rid>,
+    place: u64,
+    partner: Option<u64>,
+    steps: &mut Vec<Timed>,
+) -> Result<(), OutOfMemory>
+    ensures { OnOk result (steps.new.items ≡ steps.old.items ++ old_step mode key old.now place partner) }
+{
+    if partner.is_some() {
+        return Ok(());
+    }
+    steps.push(Timed {
+        rank: remove_rank(mode, &old.body),
+        key,
+        id: entry_number(&old.entry),
+        step: Step::Remove(place),
+    })?;
+    Ok(())
+}
+
+/// The number of an entry's identifier, where it has one, else 0.
+fn entry_number(entry: &Entry<Rid>) -> u64
+    ensures { result ≡ entry_number entry.now }
+{
+    match entry {
+        Entry::Oid(id) => id.0,
+        _ => 0,
+    }
+}

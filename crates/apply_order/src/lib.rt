@@ -1,0 +1,14 @@
+//! The calls that bring a chip from what stands on it to a new view, in an order that keeps packets on their way.
+#![tactic(auto)]
+
+mod attributes;
+mod calls;
+mod due;
+mod naming;
+mod places;
+mod planned;
+mod ranks;
+mod room;
+
+pub use planned::plan;
+pub use ranks::{Rank, Step, Timed};

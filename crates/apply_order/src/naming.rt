@@ -1,0 +1,159 @@
+// How a plan names objects.
+ghost use Rattle.std.specs.Prelude.{◌≡◌, IfOk, OnOk, option_copied};
+ghost use Rattle.chip_layout.specs.Renamed.{body_renamed, on_renamed, to_renamed};
+ghost use Rattle.plan_laws.specs.Calls.{old_entry};
+ghost use Rattle.apply_order.specs.Naming.{names_in, new_id, with_entries, with_objects};
+
+use sai_types::{Body, Entry, Mode, Object, PlanId, Rid, RifOn, To, Vid};
+use std::alloc::Global;
+use std::collections::BTreeMap;
+use swss_types::OutOfMemory;
+
+/// By the number of a new identifier that of the old object, where a plan names it so.
+pub(crate) type Names = BTreeMap<u64, Rid>;
+
+/// The names of paired objects: a cold plan names none.
+pub(crate) fn names_in(
+    alloc: Global,
+    mode: Mode,
+    old: &[Object<Rid>],
+    new: &[Object<Vid>],
+    pairs: &[(u64, u64)],
+) -> Result<Names, OutOfMemory>
+    ensures { IfOk result (λ names. names.entries ≡ names_in mode old.now new.now pairs.now) }
+{
+    let mut names = BTreeMap::new(alloc);
+    if mode == Mode::Cold {
+        return Ok(names);
+    }
+    for (from, to) in pairs {
+        put_objects(&mut names, old.get(*from as usize), new.get(*to as usize))?;
+    }
+    Ok(names)
+}
+
+fn put_objects(
+    names: &mut Names,
+    old: Option<&Object<Rid>>,
+    new: Option<&Object<Vid>>,
+) -> Result<(), OutOfMemory>
+    ensures { OnOk result (names.new.entries ≡ with_objects names.old.entries (option_copied old) (option_copied new)) }
+{
+    match (old, new) {
+        (Some(old), Some(new)) => put_entries(names, &old.entry, &new.entry),
+        _ => Ok(()),
+    }
+}
+
+fn put_entries(
+    names: &mut Names,
+    old: &Entry<Rid>,
+    new: &Entry<Vid>,
+) -> Result<(), OutOfMemory>
+    ensures { OnOk result (names.new.entries ≡ with_entries names.old.entries old.now new.now) }
+{
+    match (old, new) {
+        (Entry::Oid(old), Entry::Oid(new)) => {
+            names.insert(new.0, *old)?;
+            Ok(())
+        }
+        _ => Ok(()),
+    }
+}
+
+/// The name of a new object.
+pub(crate) fn new_id(names: &Names, id: Vid) -> PlanId
+    ensures { result ≡ new_id names.now.entries id }
+{
+    match names.get(&id.0) {
+        Some(old) => PlanId::Old(*old),
+        None => PlanId::New(id),
+    }
+}
+
+/// The entry of an old object, as a plan names it.
+pub(crate) fn old_entry(entry: &Entry<Rid>) -> Entry<PlanId>
+    ensures { result ≡ old_entry entry.now }
+{
+    match entry {
+        Entry::Oid(id) => Entry::Oid(PlanId::Old(*id)),
+        Entry::Own(ip) => Entry::Own(*ip),
+        Entry::Neigh(rif, ip) => Entry::Neigh(PlanId::Old(*rif), *ip),
+        Entry::Route(prefix) => Entry::Route(*prefix),
+    }
+}
+
+fn new_on(names: &Names, on: RifOn<Vid>) -> RifOn<PlanId>
+    ensures { result ≡ on_renamed (new_id names.now.entries) on }
+{
+    match on {
+        RifOn::Port(port) => RifOn::Port(new_id(names, port)),
+        RifOn::Vlan(vlan) => RifOn::Vlan(new_id(names, vlan)),
+    }
+}
+
+/// A route's target, as a plan names it.
+pub(crate) fn new_to(names: &Names, to: To<Vid>) -> To<PlanId>
+    ensures { result ≡ to_renamed (new_id names.now.entries) to }
+{
+    match to {
+        To::Drop => To::Drop,
+        To::Rif(rif) => To::Rif(new_id(names, rif)),
+        To::NextHop(next_hop) => To::NextHop(new_id(names, next_hop)),
+        To::Group(group) => To::Group(new_id(names, group)),
+    }
+}
+
+/// A new body, as a plan names what it refers to.
+pub(crate) fn new_body(names: &Names, body: &Body<Vid>) -> Result<Body<PlanId>, OutOfMemory>
+    ensures { IfOk result (λ named. named ≡ body_renamed (new_id names.now.entries) body.now) }
+{
+    Ok(match body {
+        Body::Port {
+            lanes,
+            speed,
+            mtu,
+            up,
+        } => Body::Port {
+            lanes: lanes.copy()?,
+            speed: *speed,
+            mtu: *mtu,
+            up: *up,
+        },
+        Body::Vlan { vlan } => Body::Vlan { vlan: *vlan },
+        Body::BridgePort { port } => Body::BridgePort {
+            port: new_id(names, *port),
+        },
+        Body::VlanMember {
+            vlan,
+            bridge_port,
+            tagging,
+        } => Body::VlanMember {
+            vlan: new_id(names, *vlan),
+            bridge_port: new_id(names, *bridge_port),
+            tagging: *tagging,
+        },
+        Body::Rif { on } => Body::Rif {
+            on: new_on(names, *on),
+        },
+        Body::OwnAddress { ip } => Body::OwnAddress { ip: *ip },
+        Body::Neighbor { rif, ip, mac } => Body::Neighbor {
+            rif: new_id(names, *rif),
+            ip: *ip,
+            mac: *mac,
+        },
+        Body::NextHop { rif, ip } => Body::NextHop {
+            rif: new_id(names, *rif),
+            ip: *ip,
+        },
+        Body::Group => Body::Group,
+        Body::GroupMember { group, next_hop } => Body::GroupMember {
+            group: new_id(names, *group),
+            next_hop: new_id(names, *next_hop),
+        },
+        Body::Route { prefix, to } => Body::Route {
+            prefix: *prefix,
+            to: new_to(names, *to),
+        },
+    })
+}

@@ -1,0 +1,33 @@
+// The plan from what stands on a chip to a new view.
+ghost use Rattle.std.specs.Prelude.{IfOk};
+ghost use Rattle.apply_order.specs.Planned.{IsPlanOf};
+
+use crate::calls::calls_of;
+use crate::due::steps_of;
+use crate::naming::names_in;
+use crate::room::mode_of;
+use sai_types::{Caps, Object, Pairing, Plan, Rid, Vid};
+use std::alloc::Global;
+use swss_types::OutOfMemory;
+
+/// The calls that bring a chip with the old objects to the new view. Where of each kind the old objects and the new ones
+/// that are not paired number at most the capacity, what is paired stays: the others are made, what differs is set, and
+/// what is left over is removed, in an order by which each address moves at most once. Else all is removed, and then all
+/// is made. An old object is named by its identifier on the chip, and a new one by that of the view, unless it is paired
+/// and stays.
+pub fn plan(
+    alloc: Global,
+    old: &[Object<Rid>],
+    new: &[Object<Vid>],
+    pairing: &Pairing,
+    caps: &Caps,
+) -> Result<Plan, OutOfMemory>
+    ensures { IfOk result (λ plan. IsPlanOf old.now new.now pairing.now caps.now.0 plan) }
+{
+    let pairs = pairing.items();
+    let mode = mode_of(alloc, old, new, pairs, caps)?;
+    let names = names_in(alloc, mode, old, new, pairs)?;
+    let steps = steps_of(alloc, mode, old, new, pairs)?;
+    let calls = calls_of(alloc, &names, old, new, steps.as_slice())?;
+    Ok(Plan { mode, calls })
+}

@@ -1,0 +1,104 @@
+// The order of a plan's steps.
+ghost use Rattle.std.specs.Prelude.{◌≡◌};
+ghost use Rattle.sai_types.specs.Objects.{kind_of};
+ghost use Rattle.apply_order.specs.Ranks.{make_rank, remove_rank, set_rank};
+
+use sai_types::{Body, Kind, Mode};
+use std::cmp::Reverse;
+use view_match::NaturalKey;
+
+/// When a step's turn is: the variants in their order, and in each the steps by their kinds or lengths.
+#[derive(Clone, Copy, Debug, PartialEq, Eq, PartialOrd, Ord)]
+pub enum Rank {
+    /// Of a cold plan: removes an object, the highest kind first.
+    Clear(Reverse<Kind>),
+    /// Of a cold plan: makes an object, the lowest kind first.
+    Build(Kind),
+    /// Makes an object that is no route, the lowest kind first.
+    Make(Kind),
+    /// Sets what differs on an object that is no route, the lowest kind first.
+    Set(Kind),
+    /// Makes a route, the longest prefix first.
+    MakeRoute(Reverse<u8>),
+    /// Sets the target of a route.
+    SetRoute,
+    /// Removes a route, the shortest prefix first.
+    RemoveRoute(u8),
+    /// Removes an object that is no route, the highest kind first.
+    Remove(Reverse<Kind>),
+}
+
+/// A step of a plan, by places in the old and in the new objects.
+#[derive(Clone, Copy, Debug, PartialEq, Eq, PartialOrd, Ord)]
+pub enum Step {
+    /// Makes the new object at this place.
+    Make(u64),
+    /// Sets what differs on the old object at the first place, so that it is as the new one at the second.
+    Set(u64, u64),
+    /// Removes the old object at this place.
+    Remove(u64),
+}
+
+/// A step with its turn: steps are ordered by their ranks, then by natural key, then by identifier.
+#[derive(Debug, PartialEq, Eq, PartialOrd, Ord, Drop)]
+pub struct Timed {
+    /// Its rank.
+    pub rank: Rank,
+    /// The natural key of its object.
+    pub key: Option<NaturalKey>,
+    /// The identifier of the object that it removes, where there is one, else 0.
+    pub id: u64,
+    /// The step.
+    pub step: Step,
+}
+
+/// The kind of a body.
+pub(crate) fn kind_of<I>(body: &Body<I>) -> Kind
+    ensures { result ≡ kind_of body.now }
+{
+    match body {
+        Body::Port { .. } => Kind::Port,
+        Body::Vlan { .. } => Kind::Vlan,
+        Body::BridgePort { .. } => Kind::BridgePort,
+        Body::VlanMember { .. } => Kind::VlanMember,
+        Body::Rif { .. } => Kind::Rif,
+        Body::OwnAddress { .. } => Kind::OwnAddress,
+        Body::Neighbor { .. } => Kind::Neighbor,
+        Body::NextHop { .. } => Kind::NextHop,
+        Body::Group => Kind::Group,
+        Body::GroupMember { .. } => Kind::GroupMember,
+        Body::Route { .. } => Kind::Route,
+    }
+}
+
+/// The rank of the step that makes an object.
+pub(crate) fn make_rank<I>(mode: Mode, body: &Body<I>) -> Rank
+    ensures { result ≡ make_rank mode body.now }
+{
+    match (mode, body) {
+        (Mode::Cold, body) => Rank::Build(kind_of(body)),
+        (Mode::Hitless, Body::Route { prefix, .. }) => Rank::MakeRoute(Reverse(prefix.len)),
+        (Mode::Hitless, body) => Rank::Make(kind_of(body)),
+    }
+}
+
+/// The rank of the step that sets what differs on an object.
+pub(crate) fn set_rank<I>(body: &Body<I>) -> Rank
+    ensures { result ≡ set_rank body.now }
+{
+    match body {
+        Body::Route { .. } => Rank::SetRoute,
+        body => Rank::Set(kind_of(body)),
+    }
+}
+
+/// The rank of the step that removes an object.
+pub(crate) fn remove_rank<I>(mode: Mode, body: &Body<I>) -> Rank
+    ensures { result ≡ remove_rank mode body.now }
+{
+    match (mode, body) {
+        (Mode::Cold, body) => Rank::Clear(Reverse(kind_of(body))),
+        (Mode::Hitless, Body::Route { prefix, .. }) => Rank::RemoveRoute(prefix.len),
+        (Mode::Hitless, body) => Rank::Remove(Reverse(kind_of(body))),
+    }
+}

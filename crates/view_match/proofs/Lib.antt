@@ -1,0 +1,6 @@
+mod Best
+mod Exact
+mod Free
+mod Orders
+mod Paired
+mod Put

@@ -1,0 +1,31 @@
+-- Natural keys: things without what can be set on them. Own; they are those of the OCP SAI headers' key attributes, and a group's the hops of its members.
+use Rattle.std.specs.Prelude.{List, Option, map, option_map}
+use Rattle.std.specs.declared.cmp.Ordering.{Ordering}
+use Rattle.sai_types.specs.declared.thing.Thing.{Thing}
+use Rattle.sai_types.specs.declared.thing.Thing.TheVariants as thing
+use Rattle.sai_types.specs.Named.{named}
+use Rattle.sai_types.specs.Objects.{Objects}
+use Rattle.view_match.specs.declared.key.NaturalKey.{NaturalKey}
+use Rattle.view_match.specs.declared.key.NaturalKey.TheVariants as key
+use Rattle.view_match.specs.contracts.key.NaturalKeyOrd.TheImpl as key_ord
+
+-- the order of natural keys: by kind, lowest first, and then part by part
+abbrev pub key_cmp : NaturalKey → NaturalKey → Ordering
+key_cmp = key_ord.ghosts.cmp
+
+abbrev pub key_of : Thing → NaturalKey
+key_of (thing.Port p) = key.Port p.lanes
+key_of (thing.Vlan vlan) = key.Vlan vlan
+key_of (thing.BridgePort lane) = key.BridgePort lane
+key_of (thing.VlanMember vlan lane tagging) = key.VlanMember vlan lane
+key_of (thing.Rif on) = key.Rif on
+key_of (thing.Own ip) = key.Own ip
+key_of (thing.Neighbor hop mac) = key.Neighbor hop
+key_of (thing.NextHop hop) = key.NextHop hop
+key_of (thing.Group hops) = key.Group hops
+key_of (thing.GroupMember hops hop) = key.GroupMember hops hop
+key_of (thing.Route prefix goal) = key.Route prefix
+
+-- the natural key of each object, in their order, and none for an object with an absent reference
+abbrev pub keys_of_objects : Objects → List (Option NaturalKey)
+keys_of_objects objects = map (option_map key_of) (named objects)

@@ -1,0 +1,13 @@
+//! Which object on the chip is which object of a new view: by what both stand for, and not by identifiers.
+#![tactic(auto)]
+
+mod indexed;
+mod key;
+mod laws;
+mod listed;
+mod pairing;
+
+pub use key::{NaturalKey, natural_keys};
+pub use laws::{keys_are_ordered, pairs_are_of_one_key};
+pub use listed::as_listed;
+pub use pairing::pair;
