@@ -1,0 +1,5 @@
+mod EachKind
+mod Lengths
+mod Modes
+mod Steps
+mod Turns

@@ -1,8 +1,6 @@
 -- What a plan sets on a paired object: the attributes that differ. Own for the order of a port's attributes; which can be set is that of the OCP SAI headers.
-use Rattle.std.specs.Prelude.{ℕ, Bool, true, false, not, ◌==◌, ◌++◌, List, [], ◌∷◌, map, None, if◌then◌else◌}
-use Rattle.std.specs.Bool.{bool_eq}
-use Rattle.swss_types.specs.declared.tagging.Tagging.{Tagging}
-use Rattle.swss_types.specs.declared.address.Mac.{Mac}
+use mathlib.Core.Bool.{beq}
+use Rattle.std.specs.Prelude.{Bool, true, false, ◌==◌, ◌++◌, List, [], ◌∷◌, map, None, if◌then◌else◌}
 use Rattle.swss_types.specs.contracts.tagging.TaggingPartialEq.TheImpl as tagging_eq
 use Rattle.swss_types.specs.contracts.address.MacPartialEq.TheImpl as mac_eq
 use Rattle.sai_types.specs.declared.ids.Rid.{Rid}
@@ -44,7 +42,7 @@ unless same a = if same then [] else a ∷ []
 -- the attributes of an old object that differ from those of the new one, in their order
 abbrev pub differing : Names → Body Rid → Body Vid → List (Attr PlanId)
 differing names (body.Port lanes speed mtu up) (body.Port others speed' mtu' up') =
-    unless (speed == speed') (attr.Speed speed') ++ unless (mtu == mtu') (attr.Mtu mtu') ++ unless (bool_eq up up') (attr.Up up')
+    unless (speed == speed') (attr.Speed speed') ++ unless (mtu == mtu') (attr.Mtu mtu') ++ unless (beq up up') (attr.Up up')
 differing names (body.VlanMember vlan bridge_port tagging) (body.VlanMember vlan' bridge_port' tagging') = unless (tagging_eq.ghosts.eq tagging tagging') (attr.Tagging tagging')
 differing names (body.Neighbor rif ip mac) (body.Neighbor rif' ip' mac') = unless (mac_eq.ghosts.eq mac mac') (attr.Mac mac')
 differing names (body.Route prefix t) (body.Route prefix' t') = unless (is_target t (to_renamed (new_id names) t')) (attr.To (to_renamed (new_id names) t'))

@@ -1,5 +1,5 @@
 -- The calls of a plan's steps. Own.
-use Rattle.std.specs.Prelude.{ℕ, ◌++◌, List, [], ◌∷◌, Option, None, Some, slice_get}
+use Rattle.std.specs.Prelude.{◌++◌, List, [], ◌∷◌, Option, None, Some, slice_get}
 use Rattle.sai_types.specs.declared.ids.Rid.{Rid}
 use Rattle.sai_types.specs.declared.ids.Vid.{Vid}
 use Rattle.sai_types.specs.declared.body.Call.TheVariants as call

@@ -6,3 +6,4 @@ pub mod Places
 pub mod Planned
 pub mod Ranks
 pub mod Room
+pub mod Turns

@@ -38,7 +38,12 @@ fn push_step(
 {
     match step {
         Step::Make(place) => push_make(names, calls, new.get(place as usize)),
-        Step::Set(from, to) => push_both(names, calls, old.get(from as usize), new.get(to as usize)),
+        Step::Set(from, to) => push_both(
+            names,
+            calls,
+            old.get(from as usize),
+            new.get(to as usize),
+        ),
         Step::Remove(place) => push_remove(calls, old.get(place as usize)),
     }
 }
@@ -48,7 +53,7 @@ fn push_make(
     calls: &mut PlanCalls,
     new: Option<&Object<Vid>>,
 ) -> Result<(), OutOfMemory>
-    ensures { OnOk result (calls.new ≡ calls.old ++ make_calls names.now.entries (option_copied new)) }
+    ensures { OnOk result (calls.new ≡ calls.old ++ make_calls names.now.entries (option_copied new.entry)) }
 {
     match new {
         Some(new) => calls.push(PlanCall {
@@ -65,7 +70,7 @@ fn push_both(
     old: Option<&Object<Rid>>,
     new: Option<&Object<Vid>>,
 ) -> Result<(), OutOfMemory>
-    ensures { OnOk result (calls.new ≡ calls.old ++ both_calls names.now.entries (option_copied old) (option_copied new)) }
+    ensures { OnOk result (calls.new ≡ calls.old ++ both_calls names.now.entries (option_copied old.entry) (option_copied new.entry)) }
 {
     match (old, new) {
         (Some(old), Some(new)) => push_sets(names, calls, old, new),
@@ -74,7 +79,7 @@ fn push_both(
 }
 
 fn push_remove(calls: &mut PlanCalls, old: Option<&Object<Rid>>) -> Result<(), OutOfMemory>
-    ensures { OnOk result (calls.new ≡ calls.old ++ remove_calls (option_copied old)) }
+    ensures { OnOk result (calls.new ≡ calls.old ++ remove_calls (option_copied old.entry)) }
 {
     match old {
         Some(old) => calls.push(PlanCall {

@@ -4,11 +4,13 @@
 mod attributes;
 mod calls;
 mod due;
+mod laws;
 mod naming;
 mod places;
 mod planned;
 mod ranks;
 mod room;
 
+pub use laws::turns_are_ordered;
 pub use planned::plan;
 pub use ranks::{Rank, Step, Timed};

@@ -1,5 +1,5 @@
 // How a plan names objects.
-ghost use Rattle.std.specs.Prelude.{◌≡◌, IfOk, OnOk, option_copied};
+ghost use Rattle.std.specs.Prelude.{◌≡◌, IfOk, OnOk, option_copied, slice_get};
 ghost use Rattle.chip_layout.specs.Renamed.{body_renamed, on_renamed, to_renamed};
 ghost use Rattle.plan_laws.specs.Calls.{old_entry};
 ghost use Rattle.apply_order.specs.Naming.{names_in, new_id, with_entries, with_objects};
@@ -26,10 +26,22 @@ pub(crate) fn names_in(
     if mode == Mode::Cold {
         return Ok(names);
     }
-    for (from, to) in pairs {
-        put_objects(&mut names, old.get(*from as usize), new.get(*to as usize))?;
+    for pair in pairs {
+        put_pair(&mut names, old, new, *pair)?;
     }
     Ok(names)
+}
+
+/// Puts the name of a paired object.
+fn put_pair(
+    names: &mut Names,
+    old: &[Object<Rid>],
+    new: &[Object<Vid>],
+    pair: (u64, u64),
+) -> Result<(), OutOfMemory>
+    ensures { OnOk result (names.new.entries ≡ with_objects names.old.entries (slice_get old.now pair.0) (slice_get new.now pair.1)) }
+{
+    put_objects(names, old.get(pair.0 as usize), new.get(pair.1 as usize))
 }
 
 fn put_objects(
@@ -37,7 +49,7 @@ fn put_objects(
     old: Option<&Object<Rid>>,
     new: Option<&Object<Vid>>,
 ) -> Result<(), OutOfMemory>
-    ensures { OnOk result (names.new.entries ≡ with_objects names.old.entries (option_copied old) (option_copied new)) }
+    ensures { OnOk result (names.new.entries ≡ with_objects names.old.entries (option_copied old.entry) (option_copied new.entry)) }
 {
     match (old, new) {
         (Some(old), Some(new)) => put_entries(names, &old.entry, &new.entry),
@@ -45,11 +57,7 @@ fn put_objects(
     }
 }
 
-fn put_entries(
-    names: &mut Names,
-    old: &Entry<Rid>,
-    new: &Entry<Vid>,
-) -> Result<(), OutOfMemory>
+fn put_entries(names: &mut Names, old: &Entry<Rid>, new: &Entry<Vid>) -> Result<(), OutOfMemory>
     ensures { OnOk result (names.new.entries ≡ with_entries names.old.entries old.now new.now) }
 {
     match (old, new) {

@@ -14,8 +14,8 @@ pub(crate) fn by_new(alloc: Global, pairs: &[(u64, u64)]) -> Result<Places, OutO
     ensures { IfOk result (λ places. places.entries ≡ by_new pairs.now) }
 {
     let mut places = BTreeMap::new(alloc);
-    for (old, new) in pairs {
-        places.insert(*new, *old)?;
+    for pair in pairs {
+        places.insert(pair.1, pair.0)?;
     }
     Ok(places)
 }
@@ -25,8 +25,8 @@ pub(crate) fn by_old(alloc: Global, pairs: &[(u64, u64)]) -> Result<Places, OutO
     ensures { IfOk result (λ places. places.entries ≡ by_old pairs.now) }
 {
     let mut places = BTreeMap::new(alloc);
-    for (old, new) in pairs {
-        places.insert(*old, *new)?;
+    for pair in pairs {
+        places.insert(pair.0, pair.1)?;
     }
     Ok(places)
 }

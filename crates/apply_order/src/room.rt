@@ -1,10 +1,8 @@
 // When there is room to keep what stands until the new view stands too.
-ghost use Rattle.std.specs.Prelude.{◌≡◌, ◌↔◌, ◌+◌, ◌≤◌, true, count_by, IfOk};
+ghost use Rattle.std.specs.Prelude.{◌≡◌, ◌↔◌, ◌≤◌, true, IfOk};
+ghost use Rattle.std.specs.List.{list_all};
 ghost use Rattle.sai_types.specs.Objects.{is_of, level};
-ghost use Rattle.sai_types.specs.Refusal.{capacity_of};
-ghost use Rattle.sai_types.specs.declared.kind.Kind.{Kind};
-ghost use Rattle.apply_order.specs.Places.{by_new};
-ghost use Rattle.apply_order.specs.Room.{Fits, is_lacking, lacking_from, old_count};
+ghost use Rattle.apply_order.specs.Room.{Fits, all_kinds, has_room, is_lacking, lacking_from, old_count};
 
 use crate::places::{Places, by_new, partner};
 use crate::ranks::kind_of;
@@ -23,28 +21,52 @@ pub(crate) fn mode_of(
     ensures { IfOk result (λ mode. (mode ≡ Mode.Hitless) ↔ Fits caps.now.0 old.now new.now pairs.now) }
 {
     let paired = by_new(alloc, pairs)?;
-    Ok(if fits(&paired, old, new, caps) {
-        Mode::Hitless
-    } else {
-        Mode::Cold
-    })
+    Ok(mode_if(fits(&paired, old, new, caps)))
+}
+
+/// The mode of a plan that fits, or does not.
+fn mode_if(fits: bool) -> Mode
+    ensures { (result ≡ Mode.Hitless) ↔ (fits ≡ true) }
+{
+    if fits { Mode::Hitless } else { Mode::Cold }
 }
 
 /// Whether there is room for the old objects of each kind and the new ones that are not paired.
 fn fits(paired: &Places, old: &[Object<Rid>], new: &[Object<Vid>], caps: &Caps) -> bool
-    ensures { (result ≡ true) ↔ ((kind : Kind) → old_count kind old.now + lacking_from kind paired.now.entries new.now 0 ≤ capacity_of caps.now.0 kind) }
+    ensures { result ≡ list_all (λ kind. has_room caps.now.0 old.now new.now paired.now.entries kind) all_kinds }
 {
-    has_room(Kind::Port, paired, old, new, caps)
-        && has_room(Kind::Vlan, paired, old, new, caps)
-        && has_room(Kind::BridgePort, paired, old, new, caps)
-        && has_room(Kind::VlanMember, paired, old, new, caps)
-        && has_room(Kind::Rif, paired, old, new, caps)
-        && has_room(Kind::OwnAddress, paired, old, new, caps)
-        && has_room(Kind::Neighbor, paired, old, new, caps)
-        && has_room(Kind::NextHop, paired, old, new, caps)
-        && has_room(Kind::Group, paired, old, new, caps)
-        && has_room(Kind::GroupMember, paired, old, new, caps)
-        && has_room(Kind::Route, paired, old, new, caps)
+    let kinds = [
+        Kind::Port,
+        Kind::Vlan,
+        Kind::BridgePort,
+        Kind::VlanMember,
+        Kind::Rif,
+        Kind::OwnAddress,
+        Kind::Neighbor,
+        Kind::NextHop,
+        Kind::Group,
+        Kind::GroupMember,
+        Kind::Route,
+    ];
+    have_room(&kinds, paired, old, new, caps)
+}
+
+/// Whether there is room for each of these kinds.
+fn have_room(
+    kinds: &[Kind],
+    paired: &Places,
+    old: &[Object<Rid>],
+    new: &[Object<Vid>],
+    caps: &Caps,
+) -> bool
+    ensures { result ≡ list_all (λ kind. has_room caps.now.0 old.now new.now paired.now.entries kind) kinds.now }
+{
+    for kind in kinds {
+        if !has_room(*kind, paired, old, new, caps) {
+            return false;
+        }
+    }
+    true
 }
 
 /// Whether there is room for the old objects of a kind and the new ones that are not paired.
@@ -55,7 +77,7 @@ fn has_room(
     new: &[Object<Vid>],
     caps: &Caps,
 ) -> bool
-    ensures { (result ≡ true) ↔ (old_count kind old.now + lacking_from kind paired.now.entries new.now 0 ≤ capacity_of caps.now.0 kind) }
+    ensures { result ≡ has_room caps.now.0 old.now new.now paired.now.entries kind }
 {
     let room = caps.0[level(kind)];
     let held = count(kind, old);

@@ -1,5 +1,5 @@
 -- natural keys that compare equal are equal
-use Rattle.std.proofs.Common.{◌≡◌, List, [], ◌∷◌, Ordering, ap, ap₂, ◌∙◌, refl}
+use Rattle.std.proofs.Common.{◌≡◌, [], ◌∷◌, Ordering, ap, ap₂, ◌∙◌, refl}
 use Rattle.std.specs.Cmp.Lexicographic.{slice_cmp}
 use Rattle.std.specs.Ordering.{is_eq, ordering_then}
 use Rattle.std.specs.declared.cmp.Ordering.TheVariants.{Less, Equal, Greater}

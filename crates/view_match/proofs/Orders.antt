@@ -1,5 +1,5 @@
 -- the order of natural keys is that of things by kind and natural key
-use Rattle.std.proofs.Common.{◌≡◌, List, [], ◌∷◌, ap, ap₂, refl}
+use Rattle.std.proofs.Common.{◌≡◌, List, [], ◌∷◌, ap₂, refl}
 use Rattle.std.specs.Cmp.Lexicographic.{slice_cmp}
 use Rattle.std.specs.Ordering.{ordering_then}
 use Rattle.swss_types.proofs.Orders.{ips-by_parts, prefixes-by_parts}

@@ -1,12 +1,11 @@
 -- pairs are of one natural key, and the old one is that of the least group
-use Rattle.std.proofs.Common.{◌≡◌, ◌⊎◌, inl, inr, ◌↔◌, ℕ, zero, suc, ◌+◌, ◌<◌, ◌≤◌, List, [], ◌∷◌, length, map, Option, None, Some, option_map, refl, sym, ap, ap₂, ◌∙◌, subst, arith}
+use Rattle.std.proofs.Common.{◌≡◌, ◌⊎◌, inl, inr, ℕ, zero, suc, ◌+◌, ◌<◌, ◌≤◌, List, [], ◌∷◌, length, map, Option, None, Some, option_map, refl, sym, ap, ◌∙◌, subst, arith}
 use Rattle.std.specs.List.{slice_get}
 use Rattle.sai_types.specs.declared.ids.Rid.{Rid}
 use Rattle.sai_types.specs.declared.ids.Vid.{Vid}
 use Rattle.sai_types.specs.declared.body.Object.{Object}
-use Rattle.sai_types.specs.declared.thing.Thing.{Thing}
 use Rattle.sai_types.specs.Alike.{IsIn}
-use Rattle.sai_types.specs.Named.{named, things_among}
+use Rattle.sai_types.specs.Named.{things_among}
 use Rattle.sai_types.specs.Objects.{Objects}
 use Rattle.sai_chip.specs.Naming.{entries_of}
 use Rattle.view_match.specs.declared.indexed.Partner.{Partner}
@@ -15,7 +14,7 @@ use Rattle.view_match.specs.Keys.{key_of, keys_of_objects}
 use Rattle.view_match.specs.Listed.{objects_as}
 use Rattle.view_match.specs.Paired.{ArePaired, ComesFirst, HasKey}
 use Rattle.view_match.specs.Pairs.{best_from, group_of, pairs_from, pairs_of, partner_of, with_pair}
-use Rattle.view_match.proofs.Best.{IsBest, best, found-none}
+use Rattle.view_match.proofs.Best.{best, found-none}
 
 length_keys : (objects os : Objects) → length (map (option_map key_of) (things_among objects os)) ≡ length os
 length_keys objects [] = refl

@@ -3,7 +3,6 @@ use Rattle.std.specs.Prelude.{List, map}
 use Rattle.sai_types.specs.declared.ids.Rid.{Rid}
 use Rattle.sai_types.specs.declared.ids.Vid.{Vid}
 use Rattle.sai_types.specs.declared.body.Object.{Object}
-use Rattle.sai_types.specs.Objects.{Objects}
 use Rattle.chip_layout.specs.Renamed.{body_renamed, entry_renamed}
 
 abbrev pub rid_of : Vid → Rid

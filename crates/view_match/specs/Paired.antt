@@ -1,9 +1,9 @@
 -- When an old object and a new one are paired, said of any two of them. Own.
-use Rattle.std.specs.Prelude.{◌≡◌, ◌⊎◌, ℕ, ◌<◌, ◌≤◌, Option, None, Some, slice_get}
+use Rattle.std.specs.Prelude.{◌≡◌, ◌⊎◌, ℕ, ◌<◌, ◌≤◌, Some, slice_get}
 use Rattle.sai_types.specs.Objects.{Objects}
 use Rattle.view_match.specs.declared.key.NaturalKey.{NaturalKey}
 use Rattle.view_match.specs.Keys.{keys_of_objects}
-use Rattle.view_match.specs.Pairs.{group_of, group_number}
+use Rattle.view_match.specs.Pairs.{group_of}
 
 -- the object at a place has this natural key
 abbrev pub HasKey : Objects → ℕ → NaturalKey → Type 0

@@ -1,0 +1,29 @@
+-- keys are as many as objects
+use Rattle.std.proofs.Common.{◌≡◌, suc, List, [], ◌∷◌, length, map, Option, option_map, refl, ap, ◌∙◌}
+use Rattle.sai_types.specs.declared.ids.Rid.{Rid}
+use Rattle.sai_types.specs.declared.ids.Vid.{Vid}
+use Rattle.sai_types.specs.declared.body.Object.{Object}
+use Rattle.sai_types.specs.Named.{things_among}
+use Rattle.sai_types.specs.Objects.{Objects}
+use Rattle.sai_chip.specs.Naming.{entries_of}
+use Rattle.view_match.specs.Keys.{key_of, keys_of_objects}
+use Rattle.view_match.specs.Listed.{objects_as}
+use Rattle.view_match.specs.declared.key.NaturalKey.{NaturalKey}
+
+length_keys : (objects os : Objects) → length (map (option_map key_of) (things_among objects os)) ≡ length os
+length_keys objects [] = refl
+length_keys objects (o ∷ os) = ap suc (length_keys objects os)
+
+length_entries : (objects : List (Object Rid)) → length (entries_of objects) ≡ length objects
+length_entries [] = refl
+length_entries (o ∷ os) = ap suc (length_entries os)
+
+length_as : (objects : List (Object Vid)) → length (objects_as objects) ≡ length objects
+length_as [] = refl
+length_as (o ∷ os) = ap suc (length_as os)
+
+pub length-old : (keys : List (Option NaturalKey)) (old : List (Object Rid)) → keys ≡ keys_of_objects (entries_of old) → length keys ≡ length old
+length-old keys old e = ap length e ∙ length_keys (entries_of old) (entries_of old) ∙ length_entries old
+
+pub length-new : (keys : List (Option NaturalKey)) (listed : List (Object Rid)) (new : List (Object Vid)) → keys ≡ keys_of_objects (entries_of listed) → listed ≡ objects_as new → length keys ≡ length new
+length-new keys listed new e same = length-old keys listed e ∙ ap length same ∙ length_as new
