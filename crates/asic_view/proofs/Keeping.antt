@@ -5,7 +5,7 @@ use Rattle.std.specs.Cmp.{both_ways, eq_by_cmp_equiv, nat_cmp_is}
 use Rattle.std.specs.List.{AllByRecursion}
 use Rattle.std.specs.List.Sorted.{IsStrictlySortedBy}
 use Rattle.std.specs.Map.{keys_of, lookup, remove_entry, set_value, values_of}
-use Rattle.std.specs.Ordering.{match_ordering}
+use Rattle.std.specs.Ordering.{is_eq, match_ordering}
 use Rattle.std.specs.Option.{unwrap_or}
 use Rattle.std.specs.declared.cmp.Ordering.TheVariants.{Greater}
 use Rattle.std.proofs.lemmas.Bool.{eq-eqb, eqb-true}
@@ -87,6 +87,10 @@ push_step v x y ys h = ap (λ r. match_ordering r ((v, x) ∷ y ∷ ys) ((y.0, x
 pub pushed : (os : ViewObjects) (v : Vid) (x : ViewObject) → AllByRecursion (λ y. y.0.0 < v.0) os → insert_entry vid_cmp os v x ≡ os ++ (v, x) ∷ []
 pushed [] v x h = refl
 pushed (y ∷ ys) v x h = push_step v x y ys (above v y.0 h.0) ∙ ap (λ zs. y ∷ zs) (pushed ys v x h.1)
+
+pub taken-back : (os : ViewObjects) (v : Vid) (x : ViewObject) → AllByRecursion (λ y. y.0.0 < v.0) os → remove_entry (is_at (vid_cmp v)) (os ++ (v, x) ∷ []) ≡ os
+taken-back [] v x h = ap (λ b. cond b [] ((v, x) ∷ [])) ((eq_by_cmp_equiv vid_total).refl v)
+taken-back (y ∷ ys) v x h = ap₂ (λ r l. cond (is_eq r) (ys ++ (v, x) ∷ []) (y ∷ l)) (above v y.0 h.0) (taken-back ys v x h.1)
 
 -- ---- the index
 

@@ -13,13 +13,18 @@ ghost use Rattle.chip_layout.specs.Bodies.{IsBody, IsChange};
 ghost use Rattle.chip_layout.specs.Layout.{Has, HasRoom};
 ghost use Rattle.chip_layout.specs.Renamed.{call_renamed};
 ghost use Rattle.asic_view.specs.Things.{IsFree, IsUnused, RefersWell, StandFor, listed, with_changed, without};
-ghost use Rattle.asic_view.specs.View.{IsLegalOn, IsLegalWith, IsNew, ViewObjects, after_create, after_remove, after_set, as_chip, as_rid, entry_at};
+ghost use Rattle.asic_view.specs.View.{IsLegalOn, IsLegalWith, IsNew, ViewObjects, after_create, after_remove, after_set, as_chip, as_rid, entry_at, without_object};
 
 /// A call changes a view as it changes a chip that holds the view's objects under the same numbers.
 pub fn views_change_as_chips()
     ensures made { (objects : ViewObjects) (v : Vid) (b : Body Vid) → IsNew v objects → IsLegalOn objects (call.Create b) → as_chip (after_create objects v b) ≡ after_call v.0 (as_chip objects) (call_renamed as_rid (call.Create b)) }
     ensures set { (n : ℕ) (objects : ViewObjects) (e : Entry Vid) (a : Attr Vid) → as_chip (after_set objects e a) ≡ after_call n (as_chip objects) (call_renamed as_rid (call.Set e a)) }
     ensures removed { (n : ℕ) (objects : ViewObjects) (e : Entry Vid) → as_chip (after_remove objects e) ≡ after_call n (as_chip objects) (call_renamed as_rid (call.Remove e)) }
+{}
+
+/// A view without the object that was made last is the view before.
+pub fn taken_back_is_unmade()
+    ensures { (objects : ViewObjects) (v : Vid) (b : Body Vid) → IsNew v objects → without_object (after_create objects v b) v ≡ objects }
 {}
 
 /// In an empty view nothing stands.

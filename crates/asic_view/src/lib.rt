@@ -10,6 +10,9 @@ mod object;
 mod objects;
 mod view;
 
-pub use laws::{made_stands, nothing_stands, removed_leaves, set_changes, views_change_as_chips};
+pub use laws::{
+    made_stands, nothing_stands, removed_leaves, set_changes, taken_back_is_unmade,
+    views_change_as_chips,
+};
 pub use object::ViewObject;
 pub use view::View;

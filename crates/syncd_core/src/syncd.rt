@@ -1,0 +1,178 @@
+// Syncd.
+ghost use Rattle.std.specs.Prelude.{◌≡◌, [], length, IfOk, OnErr};
+ghost use Rattle.sai_types.specs.ChipState.{IsAnswered};
+ghost use Rattle.sai_types.specs.Refusal.{IsLegal};
+ghost use Rattle.chip_layout.specs.Renamed.{call_renamed};
+ghost use Rattle.asic_view.specs.View.{used_of};
+ghost use Rattle.syncd_core.specs.Synced.{Applies, CanApply, CanCall, Calls, TakesList, Ties, answer_by, current, new_state, step_after, tied_by, with_temporary};
+ghost use Rattle.syncd_core.specs.Tied.{plan_tie};
+
+use crate::answer::{ApplyStep, Listed};
+use crate::calling::{call_chip, call_view};
+use crate::made::{Made, make};
+use crate::naming::tied_call;
+use asic_view::View;
+use sai_types::{
+    Call, Caps, Chip, Kind, ListAnswer, Object, PlanCall, PlanCalls, Rid, SyncAnswer, Vid,
+};
+use std::alloc::Global;
+use std::marker::Model;
+use swss_types::OutOfMemory;
+
+/// The view that stands for the chip, with the ties of its objects to the chip's, and, over a restart, the list of the
+/// chip, the temporary view and the plan that brings the chip to it.
+#[derive(Drop)]
+pub struct Syncd {
+    alloc: Global,
+    caps: Caps,
+    view: View,
+    temporary: Option<View>,
+    listed: Option<Vec<Object<Rid>>>,
+    plan: PlanCalls,
+    made: usize,
+}
+
+impl Model for Syncd {
+    ghost use Rattle.std.specs.Prelude.{◌≤◌, drop, length, option_map};
+    ghost use Rattle.syncd_core.specs.Synced.{SyncState};
+
+    ghost Value = { SyncState };
+
+    ghost view = { λ s. record { view = s.view; temporary = s.temporary; listed = option_map (λ v. v.items) s.listed; left = drop s.made s.plan; capacities = s.caps.0 } };
+
+    ghost invariant = { λ s. s.made ≤ length s.plan };
+}
+
+impl Syncd {
+    /// Beside an empty chip with these capacities.
+    pub fn new(alloc: Global, caps: Caps) -> Syncd
+        ensures { result ≡ new_state caps.0 }
+    {
+        Syncd {
+            alloc,
+            caps,
+            view: View::new(alloc),
+            temporary: None,
+            listed: None,
+            plan: PlanCalls::new(alloc),
+            made: 0,
+        }
+    }
+
+    /// Makes a call: while a temporary view is built on that view alone, and otherwise exactly one call on the chip, the
+    /// call with its identifiers replaced by those of the chip to which they are tied. What is made is tied. After
+    /// Failed it is not known whether the chip made the call, and `take_list` is next.
+    pub fn call<C: Chip>(
+        &mut self,
+        chip: &mut C,
+        call: &Call<Vid>,
+    ) -> Result<SyncAnswer, OutOfMemory>
+        requires { CanCall self.old self.old.temporary (C.state chip.old) call.now }
+        ensures ok { IfOk result (λ answer. Calls self.old self.old.temporary (C.state chip.old) call.now answer self.new (C.state chip.new)) }
+        ensures err { OnErr result (self.new ≡ self.old) }
+        ensures unmade { OnErr result (C.state chip.new ≡ C.state chip.old) }
+    {
+        match &mut self.temporary {
+            Some(view) => call_view(view, call),
+            None => call_chip(&mut self.view, chip, call),
+        }
+    }
+
+    /// Starts an empty temporary view.
+    pub fn init_view(&mut self)
+        ensures { self.new ≡ with_temporary self.old [] }
+    {
+        self.temporary = Some(View::new(self.alloc));
+    }
+
+    /// How many objects of the kind there are in the temporary view, where one is built, and otherwise in the view that
+    /// stands for the chip.
+    pub fn used(&self, kind: Kind) -> u64
+        ensures { result ≡ used_of (current self.now) kind }
+    {
+        match &self.temporary {
+            Some(view) => view.used(kind),
+            None => self.view.used(kind),
+        }
+    }
+
+    /// Lists the chip's objects.
+    pub fn take_list<C: Chip>(&mut self, chip: &mut C) -> Result<Listed, OutOfMemory>
+        ensures ok { IfOk result (λ listed. TakesList self.old (C.state chip.old) listed self.new (C.state chip.new)) }
+        ensures err { OnErr result (self.new ≡ self.old) }
+        ensures unmade { OnErr result (C.state chip.new ≡ C.state chip.old) }
+    {
+        let mut objects = Vec::new(self.alloc);
+        match chip.list(&mut objects) {
+            ListAnswer::Done => {
+                self.listed = Some(objects);
+                Ok(Listed::Done)
+            }
+            ListAnswer::Failed => Ok(Listed::Failed),
+            ListAnswer::NoMemory => Err(OutOfMemory),
+        }
+    }
+
+    /// How many calls of the plan were not yet made: 0 where there is no plan.
+    pub fn left(&self) -> u64
+        ensures { result ≡ length self.now.left }
+    {
+        (self.plan.items().len() - self.made) as u64
+    }
+
+    /// Makes the plan's next call on the chip, and ties what it makes. Ended exactly where every call was made, then and
+    /// whenever no call is left. After Failed it is not known whether the chip made the call.
+    pub fn apply_one<C: Chip>(&mut self, chip: &mut C) -> Result<ApplyStep, OutOfMemory>
+        requires { CanApply self.old.left self.old.view (C.state chip.old) }
+        ensures ok { IfOk result (λ step. Applies self.old.left self.old (C.state chip.old) step self.new (C.state chip.new)) }
+        ensures err { OnErr result (self.new ≡ self.old) }
+        ensures unmade { OnErr result (C.state chip.new ≡ C.state chip.old) }
+    {
+        let Some(next) = self.plan.items().get(self.made) else {
+            return Ok(ApplyStep::Ended);
+        };
+        match apply(&mut self.view, chip, next)? {
+            Made::Failed => Ok(ApplyStep::Failed),
+            _ => {
+                self.made += 1;
+                Ok(self.step())
+            }
+        }
+    }
+
+    /// Where the plan stands after a call that was made.
+    fn step(&self) -> ApplyStep
+        ensures { result ≡ step_after self.now.left }
+    {
+        if self.left() == 0 {
+            ApplyStep::Ended
+        } else {
+            ApplyStep::More
+        }
+    }
+}
+
+/// Makes a call of a plan on the chip, and ties what it makes.
+fn apply<C: Chip>(view: &mut View, chip: &mut C, next: &PlanCall) -> Result<Made, OutOfMemory>
+    requires { IsLegal (C.state chip.old).capacities (C.state chip.old).objects (call_renamed (plan_tie view.old) next.now.call) }
+    ensures answered { IfOk result (λ made. IsAnswered (C.state chip.old) (call_renamed (plan_tie view.old) next.now.call) (answer_by made) (C.state chip.new)) }
+    ensures ties { IfOk result (λ made. Ties view.old next.now (answer_by made) view.new) }
+    ensures err { OnErr result (view.new ≡ view.old) }
+    ensures unmade { OnErr result (C.state chip.new ≡ C.state chip.old) }
+{
+    let call = tied_call(view, &next.call)?;
+    let made = make(chip, &call)?;
+    if let Made::Object(rid) = made {
+        tie_made(view, next.makes, rid);
+    }
+    Ok(made)
+}
+
+/// Ties the object that a call of a plan makes to the one that the chip made.
+fn tie_made(view: &mut View, makes: Option<Vid>, rid: Rid)
+    ensures { view.new ≡ tied_by view.old makes rid }
+{
+    if let Some(vid) = makes {
+        view.tie(vid, rid);
+    }
+}
