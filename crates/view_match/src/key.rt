@@ -53,7 +53,7 @@ impl NaturalKey {
             Thing::NextHop(hop) => NaturalKey::NextHop(hop),
             Thing::Group(hops) => NaturalKey::Group(hops),
             Thing::GroupMember(hops, hop) => NaturalKey::GroupMember(hops, hop),
-            Thing::Route(prefix, _) => NaturalKey::Route(prefix),
+            Thing::Route(prefix, _goal) => NaturalKey::Route(prefix),
         }
     }
 }
