@@ -17,7 +17,8 @@
 //! writes NUMBER           the number as it is written
 //! fields NAME=VALUE ..    the fields of these pairs, rising
 //! row KEY NAME=VALUE ..   the key as it is written, its row or the first rule that is broken, and the keys that it names;
-//!                         the plan has Ethernet0 with the lanes 0 to 3 and Ethernet4 with the lanes 4 and 5
+//!                         the plan has Ethernet0 with the lanes 0 to 3 and Ethernet4 with the lanes 4 and 5; a port's
+//!                         row is shown by its parts
 //! names KEY NAME=VALUE .. how many keys that row names
 //! plan LINE;LINE ..       how many ports the plan of these lines has, or the first fault
 //! port LANE LINE;LINE ..  the port whose first lane this is in the plan of these lines

@@ -3,7 +3,9 @@ use anyhow::{Context, Result, bail};
 use std::alloc::Global;
 use std::str;
 use swss_types::Text;
-use table_schema::{BadRow, Fields, Key, PortPlan, Row, has_colon, names, read_key, read_row};
+use table_schema::{
+    BadRow, Fields, Key, PortPlan, PortRow, Row, has_colon, names, read_key, read_row,
+};
 
 /// What a text of one of these kinds comes to.
 pub fn find(alloc: Global, kind: &str, text: &str) -> Result<String> {
@@ -70,7 +72,10 @@ fn shown_row(alloc: Global, text: &str) -> Result<String> {
     let (key, row) = read(alloc, text)?;
     let mut out = Vec::new(alloc);
     key.write(&mut out)?;
-    out.extend_from_slice(format!(in alloc; " {row:?}")?.as_bytes())?;
+    match &row {
+        Ok(Row::Port(port)) => show_port(alloc, &mut out, port)?,
+        row => out.extend_from_slice(format!(in alloc; " {row:?}")?.as_bytes())?,
+    }
     if let Ok(row) = row {
         for name in names(alloc, &key, &row)? {
             out.push(b' ')?;
@@ -78,6 +83,15 @@ fn shown_row(alloc: Global, text: &str) -> Result<String> {
         }
     }
     Ok(String::from_str(alloc, str::from_utf8(&out)?)?)
+}
+
+/// The row of a port, its lanes as they are written.
+fn show_port(alloc: Global, out: &mut Vec<u8>, port: &PortRow) -> Result<()> {
+    out.extend_from_slice(b" port ")?;
+    port.lanes.write(out)?;
+    let (speed, mtu, up) = (port.speed, port.mtu, port.up);
+    out.extend_from_slice(format!(in alloc; " speed {speed} mtu {mtu} up {up}")?.as_bytes())?;
+    Ok(())
 }
 
 fn count_names(alloc: Global, text: &str) -> Result<String> {

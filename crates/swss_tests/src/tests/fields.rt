@@ -172,7 +172,15 @@ fn row_shown(rt: &impl Abort, alloc: Global, line: &str) -> Result<Vec<u8>, OutO
 
 /// Appends a row, and what it names.
 fn show_row(alloc: Global, out: &mut Vec<u8>, key: &Key, row: &Row) -> Result<(), OutOfMemory> {
-    out.extend_from_slice(format!(in alloc; " {row:?}")?.as_bytes())?;
+    match row {
+        Row::Port(port) => {
+            out.extend_from_slice(b" Port ")?;
+            port.lanes.write(out)?;
+            let (speed, mtu, up) = (port.speed, port.mtu, port.up);
+            out.extend_from_slice(format!(in alloc; " {speed} {mtu} {up}")?.as_bytes())?;
+        }
+        _ => out.extend_from_slice(format!(in alloc; " {row:?}")?.as_bytes())?,
+    }
     for name in names(alloc, key, row)? {
         out.push(b' ')?;
         name.write(out)?;
@@ -186,7 +194,7 @@ fn rows_read_again_where_memory_is_refused(rt: HostRuntime) {
     for (line, wanted) in [
         (
             "PORT_TABLE:Ethernet4 mtu=1500 lanes=5,4",
-            "PORT_TABLE:Ethernet4 lanes=5,4 mtu=1500 Port(PortRow { lanes: Lanes { lanes: [4, 5] }, speed: 100000, mtu: 1500, up: false })",
+            "PORT_TABLE:Ethernet4 lanes=5,4 mtu=1500 Port 4,5 100000 1500 false",
         ),
         (
             "VLAN_MEMBER_TABLE:Vlan7:Ethernet4 tagging_mode=tagged",

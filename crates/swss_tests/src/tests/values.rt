@@ -7,10 +7,13 @@ use std::alloc::Global;
 use std::test::Fail;
 use swss_types::{Bits, Family, Ip, Lanes, OutOfMemory, Prefix, Text, insert_rising};
 
-const TEN: Ip = Ip {
-    family: Family::V4,
-    bits: Bits::new(0x0A00_0001),
-};
+/// The address 10.0.0.1.
+fn ten() -> Ip {
+    Ip {
+        family: Family::V4,
+        bits: Bits::new(0x0A00_0001),
+    }
+}
 
 fn lanes(alloc: Global) -> Result<Lanes, Fail> {
     Ok(Lanes::read(alloc, b"0,1")?.ok_or("lanes")?)
@@ -20,7 +23,7 @@ fn lanes(alloc: Global) -> Result<Lanes, Fail> {
 fn hop(lane: u16) -> Hop {
     Hop {
         on: Base::Port(lane),
-        ip: TEN,
+        ip: ten(),
     }
 }
 
@@ -53,7 +56,7 @@ fn objects_and_things_are_copied(rt: HostRuntime) -> Result<(), Fail> {
         up: true,
     });
     assert_eq!(rt; port.copy()?, port);
-    let prefix = Prefix { ip: TEN, len: 32 };
+    let prefix = Prefix { ip: ten(), len: 32 };
     let route = Thing::Route(prefix, Goal::Group(hops(alloc)?));
     assert_eq!(rt; route.copy()?, route);
     Ok(())
