@@ -2,7 +2,7 @@
 use Rattle.std.proofs.Common.{◌≡◌, ℕ, ◌+◌, Bool, true, false, ◌==◌, cond, List, [], ◌∷◌, map, Option, None, Some, refl, sym, ap, ap₂, ◌∙◌, rules}
 use Rattle.std.specs.BTreeMap.{is_at}
 use Rattle.std.specs.Map.{lookup}
-use Rattle.std.proofs.lemmas.Bool.{eqb-true, false≢true}
+use Rattle.std.proofs.lemmas.Bool.{eqb-true}
 use Rattle.std.proofs.lemmas.Option.{none-some}
 use Rattle.sai_types.specs.declared.ids.Rid.{Rid}
 use Rattle.sai_types.specs.declared.ids.Vid.{Vid}
@@ -12,7 +12,7 @@ use Rattle.sai_types.specs.declared.plan.PlanId.TheVariants as plan_id
 use Rattle.sai_types.specs.After.{makes_id}
 use Rattle.chip_layout.specs.Renamed.{call_renamed}
 use Rattle.asic_view.specs.declared.object.ViewObject.{ViewObject}
-use Rattle.asic_view.specs.View.{ViewObjects, changed_at, rid_at, rid_in, vid_cmp, with_tie}
+use Rattle.asic_view.specs.View.{ViewObjects, changed_at, rid_at, rid_in, vid_cmp}
 use Rattle.syncd_core.specs.Run.{AreInTime, HasCome, IsUntied, made_by, tied_after, tied_calls, view_by}
 use Rattle.syncd_core.specs.Synced.{tied_by}
 use Rattle.syncd_core.specs.Tied.{plan_tie, rid_or_none}
