@@ -1,2 +1,4 @@
+pub mod Begun
+pub mod Run
 pub mod Synced
 pub mod Tied

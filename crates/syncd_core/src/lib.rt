@@ -3,10 +3,13 @@
 #![tactic(auto)]
 
 mod answer;
+mod beginning;
 mod calling;
+mod laws;
 mod made;
 mod naming;
 mod syncd;
 
 pub use answer::{ApplyStep, Listed};
+pub use laws::ties_hold;
 pub use syncd::Syncd;

@@ -4,16 +4,18 @@ ghost use Rattle.sai_types.specs.ChipState.{IsAnswered};
 ghost use Rattle.sai_types.specs.Refusal.{IsLegal};
 ghost use Rattle.chip_layout.specs.Renamed.{call_renamed};
 ghost use Rattle.asic_view.specs.View.{used_of};
+ghost use Rattle.syncd_core.specs.Begun.{Begins, CanBegin};
 ghost use Rattle.syncd_core.specs.Synced.{Applies, CanApply, CanCall, Calls, TakesList, Ties, answer_by, current, new_state, step_after, tied_by, with_temporary};
 ghost use Rattle.syncd_core.specs.Tied.{plan_tie};
 
 use crate::answer::{ApplyStep, Listed};
+use crate::beginning::begin;
 use crate::calling::{call_chip, call_view};
 use crate::made::{Made, make};
 use crate::naming::tied_call;
 use asic_view::View;
 use sai_types::{
-    Call, Caps, Chip, Kind, ListAnswer, Object, PlanCall, PlanCalls, Rid, SyncAnswer, Vid,
+    Call, Caps, Chip, Kind, ListAnswer, Mode, Object, PlanCall, PlanCalls, Rid, SyncAnswer, Vid,
 };
 use std::alloc::Global;
 use std::marker::Model;
@@ -111,6 +113,29 @@ impl Syncd {
             ListAnswer::Failed => Ok(Listed::Failed),
             ListAnswer::NoMemory => Err(OutOfMemory),
         }
+    }
+
+    /// Plans the way from the chip's objects, as they were listed, to the temporary view, which then is the view that will
+    /// stand for the chip. What stays on the chip is tied to it.
+    pub fn begin_apply(&mut self) -> Result<Mode, OutOfMemory>
+        requires { CanBegin self.old }
+        ensures ok { IfOk result (λ mode. Begins self.old mode self.new) }
+        ensures err { OnErr result (self.new ≡ self.old) }
+    {
+        let Some(listed) = &self.listed else {
+            unreachable!()
+        };
+        let Some(view) = &mut self.temporary else {
+            unreachable!()
+        };
+        let plan = begin(self.alloc, &self.caps, listed.as_slice(), view)?;
+        if let Some(view) = self.temporary.take() {
+            self.view = view;
+        }
+        self.listed = None;
+        self.plan = plan.calls;
+        self.made = 0;
+        Ok(plan.mode)
     }
 
     /// How many calls of the plan were not yet made: 0 where there is no plan.
