@@ -1,11 +1,15 @@
 -- The call of a change, where the registry knows the identifiers of names. Own.
-use Rattle.std.specs.Prelude.{◌≡◌, ◌⊎◌, true, List, [], ◌∷◌, ◌++◌, map, Option, Some, None, IsSome, option_map}
+use Rattle.std.specs.Prelude.{◌≡◌, ◌⊎◌, true, List, [], ◌∷◌, ◌++◌, map, Option, Some, None, IsSome, option_map, if◌then◌else◌}
+use Rattle.std.specs.BTreeMap.{is_at}
 use Rattle.std.specs.List.{AllByRecursion}
 use Rattle.table_schema.specs.Names.{base_names}
 use Rattle.table_schema.specs.Plan.{IsPlan, Ports, port_named}
 use Rattle.table_schema.specs.declared.key.Key.{Key}
 use Rattle.table_schema.specs.declared.key.Key.TheVariants as key
 use Rattle.table_schema.specs.declared.row.Row.{Row}
+use Rattle.table_schema.specs.declared.row.Row.TheVariants as row
+use Rattle.table_schema.specs.declared.row.RouteRow.TheVariants as route
+use Rattle.sai_types.specs.declared.hop.Hop.{Hop}
 use Rattle.sai_types.specs.declared.ids.Vid.{Vid}
 use Rattle.sai_types.specs.declared.body.Attr.{Attr}
 use Rattle.sai_types.specs.declared.body.Body.{Body}
@@ -14,9 +18,12 @@ use Rattle.sai_types.specs.declared.body.Entry.{Entry}
 use Rattle.sai_types.specs.declared.body.Entry.TheVariants as entry
 use Rattle.sai_types.specs.declared.body.Call.{Call}
 use Rattle.sai_types.specs.declared.body.Call.TheVariants as call
+use Rattle.sai_types.specs.declared.thing.Goal.{Goal}
+use Rattle.sai_types.specs.declared.thing.Goal.TheVariants as goal
 use Rattle.sai_types.specs.declared.thing.Thing.{Thing}
 use Rattle.sai_types.specs.declared.thing.Thing.TheVariants as thing
 use Rattle.sai_types.specs.Alike.{IsIn}
+use Rattle.sai_types.specs.Named.{hop_cmp}
 use Rattle.sai_types.specs.Names as thing_name
 use Rattle.sai_types.specs.Names.{name_of}
 use Rattle.chip_layout.specs.Bodies.{IsBody, IsChange}
@@ -38,7 +45,18 @@ abbrev pub row_vid : Names → Option Key → Option Vid
 row_vid names None = None
 row_vid names (Some k) = first_of (ids_of names (name.Row k))
 
--- the identifier of what has this name on the chip. A neighbour's row has that of its next hop; the members of groups have theirs behind that of the group
+-- of a group's identifiers the first is its own, and the others are those of its members
+abbrev pub members_ids : List Vid → List Vid
+members_ids [] = []
+members_ids (v ∷ vs) = vs
+
+-- the identifier of the member for this hop, where the members for these hops have these
+abbrev pub member_vid : List Hop → Hop → List Vid → Option Vid
+member_vid [] hop vs = None
+member_vid (h ∷ hs) hop [] = None
+member_vid (h ∷ hs) hop (v ∷ vs) = if is_at (hop_cmp h) hop then Some v else member_vid hs hop vs
+
+-- the identifier of what has this name on the chip. A neighbour's row has that of its next hop
 abbrev pub vid_at : Ports → Names → thing_name.Name → Option Vid
 vid_at plan names (thing_name.Port lane) = row_vid names (option_map key.Port (port_named plan lane))
 vid_at plan names (thing_name.Vlan vlan) = row_vid names (Some (key.Vlan vlan))
@@ -47,6 +65,7 @@ vid_at plan names (thing_name.VlanMember vlan lane) = row_vid names (option_map 
 vid_at plan names (thing_name.Rif base) = row_vid names (option_map key.Intf (interface_on plan base))
 vid_at plan names (thing_name.NextHop hop) = row_vid names (option_map (λ on. key.Neigh on hop.ip) (interface_on plan hop.on))
 vid_at plan names (thing_name.Group hops) = first_of (ids_of names (name.Group hops))
+vid_at plan names (thing_name.GroupMember hops hop) = member_vid hops hop (members_ids (ids_of names (name.Group hops)))
 vid_at plan names _ = None
 
 abbrev pub HasVid : Ports → Names → thing_name.Name → Vid → Type 0
@@ -113,37 +132,51 @@ IsNextOf plan names operation (next.Call c) = (change : Change) × (rest : List 
 
 -- ---- when the call can be told
 
--- under which names the registry has the identifiers of what a thing refers to that belongs to a key's row, or is shared by it
-abbrev pub referred : Key → Thing → List Name
-referred (key.Member vlan port) (thing.BridgePort lane) = name.Row (key.Port port) ∷ []
-referred (key.Member vlan port) (thing.VlanMember v lane tagging) = name.Row (key.Vlan vlan) ∷ name.BridgePort lane ∷ []
-referred (key.Intf n) (thing.Rif b) = map name.Row (base_names n)
-referred (key.Neigh n ip) (thing.Neighbor hop mac) = name.Row (key.Intf n) ∷ []
-referred (key.Neigh n ip) (thing.NextHop hop) = name.Row (key.Intf n) ∷ []
-referred k t = []
+-- under which names the registry has the identifier of what a route's row points at
+abbrev pub pointed : Option Row → Goal → List Name
+pointed (Some (row.Route (route.Direct n))) g = name.Row (key.Intf n) ∷ []
+pointed (Some (row.Route (route.Hops hops))) (goal.Group group) = name.Group group ∷ []
+pointed (Some (row.Route (route.Hops hops))) g = map (λ h. name.Row (key.Neigh h.on h.ip)) hops
+pointed _ g = []
 
--- and those by which it is named itself: a neighbour by its interface
+-- and those of what a thing refers to that belongs to the row that a key is to have, or is shared by it
+abbrev pub referred : Key → Option Row → Thing → List Name
+referred (key.Member vlan port) new (thing.BridgePort lane) = name.Row (key.Port port) ∷ []
+referred (key.Member vlan port) new (thing.VlanMember v lane tagging) = name.Row (key.Vlan vlan) ∷ name.BridgePort lane ∷ []
+referred (key.Intf n) new (thing.Rif b) = map name.Row (base_names n)
+referred (key.Neigh n ip) new (thing.Neighbor hop mac) = name.Row (key.Intf n) ∷ []
+referred (key.Neigh n ip) new (thing.NextHop hop) = name.Row (key.Intf n) ∷ []
+referred (key.Route prefix) new (thing.Route p g) = pointed new g
+referred k new t = []
+
+-- and those by which it is named itself: a neighbour by its interface; an own address and a route by themselves
 abbrev pub entered : Key → thing_name.Name → List Name
 entered (key.Neigh n ip) (thing_name.Neighbor hop) = name.Row (key.Intf n) ∷ []
 entered k (thing_name.BridgePort lane) = name.BridgePort lane ∷ []
 entered k (thing_name.Own ip) = []
+entered k (thing_name.Route prefix) = []
 entered k n = name.Row k ∷ []
 
-abbrev pub ids_needed : Key → Change → List Name
-ids_needed k (Make t) = referred k t
-ids_needed k (Set u) = entered k (name_of u)
-ids_needed k (Take n) = entered k n
+-- what an attribute that is set refers to: the new target of a route
+abbrev pub set_refers : Key → Option Row → Thing → List Name
+set_refers (key.Route prefix) new (thing.Route p g) = pointed new g
+set_refers k new u = []
+
+abbrev pub ids_needed : Key → Option Row → Change → List Name
+ids_needed k new (Make t) = referred k new t
+ids_needed k new (Set u) = entered k (name_of u) ++ set_refers k new u
+ids_needed k new (Take n) = entered k n
 
 abbrev pub HaveIds : Names → List Name → Type 0
 HaveIds names ns = AllByRecursion (λ n. IsSome (first_of (ids_of names n))) ns
 
-abbrev pub knows_for : Names → Key → List Change → Type 0
-knows_for names k [] = Unit {0}
-knows_for names k (c ∷ cs) = HaveIds names (ids_needed k c)
+abbrev pub knows_for : Names → Key → Option Row → List Change → Type 0
+knows_for names k new [] = Unit {0}
+knows_for names k new (c ∷ cs) = HaveIds names (ids_needed k new c)
 
 -- the registry has the identifiers that the call of the change that is due next needs
 abbrev pub KnowsIds : Names → Operation → Type 0
-KnowsIds names operation = knows_for names operation.key operation.due
+KnowsIds names operation = knows_for names operation.key operation.new operation.due
 
 -- a change is about a thing of the key's rows, or of what the operation shares or takes away
 abbrev pub IsChangeFor : Ports → Operation → List Change → Type 0

@@ -4,3 +4,4 @@ pub mod Starting
 pub mod Calling
 pub mod Taking
 pub mod Sharing
+pub mod Grouping
