@@ -1,6 +1,7 @@
 -- a start, from what its steps tell
-use Rattle.std.proofs.Common.{◌≡◌, ℕ, List, [], ◌∷◌, Option, Some, None, option_map, option_and_then, Result, Ok, Err, OnOk, OnErr, IfOk, IfErr, Bool, true, false, if◌then◌else◌, refl, sym, ap, subst, ◌∙◌, arith}
+use Rattle.std.proofs.Common.{◌≡◌, ℕ, List, [], ◌∷◌, ◌++◌, map, Option, Some, None, option_map, option_and_then, Result, Ok, Err, OnOk, OnErr, IfOk, IfErr, Bool, true, false, if◌then◌else◌, refl, sym, ap, subst, ◌∙◌, arith}
 use Rattle.swss_types.specs.declared.out_of_memory.OutOfMemory.{OutOfMemory}
+use Rattle.table_schema.specs.Names.{names_of}
 use Rattle.table_schema.specs.Plan.{Ports}
 use Rattle.table_schema.specs.declared.key.Key.{Key}
 use Rattle.table_schema.specs.declared.row.Row.{Row}
@@ -16,7 +17,7 @@ use Rattle.ref_counts.specs.Registered.{Registered, first_of, going, held_or, le
 use Rattle.ref_counts.specs.Registry.{Names, changed, refusal_at, registered_at, users_at}
 use Rattle.ref_counts.specs.Room.{Reserves, RoomState, lacking, number_of}
 use Rattle.switch_machine.specs.Operations.{built_first}
-use Rattle.orch_flight.specs.Needing.{busy_for, crowded_for, holder_of, or_else, pinning, places_for, row_reason, to_build, wait_of}
+use Rattle.orch_flight.specs.Needing.{busy_for, crowded_for, first_unapplied, holder_of, least_of, or_else, pinning, places_for, row_reason, to_build, wait_of, workers_on}
 use Rattle.orch_flight.specs.Sharing.{begun_by, lacks_shared}
 use Rattle.orch_flight.specs.Starting.{IsBegunBy, started_by, started_names, started_names_by}
 use Rattle.orch_flight.specs.Taking.{to_list}
@@ -92,6 +93,17 @@ pub names-plain : (names : Names) (worker : ℕ) (k : Key) (due : List Change) �
 names-plain names worker k [] = refl
 names-plain names worker k (c ∷ cs) = refl
 
+-- ---- a name that is missing comes before all else
+
+-- where nothing hinders, no name is missing
+pub none-missing : (o : Option Key) (other : Option Wait) → or_else (option_map wait.Missing o) other ≡ None → o ≡ None
+none-missing None other h = refl
+none-missing (Some k) other h = absurd cc
+
+same-or-missing : (o : Option Key) (a b : Option Wait) → (o ≡ None → or_else (option_map wait.Missing o) a ≡ or_else (option_map wait.Missing o) b) → or_else (option_map wait.Missing o) a ≡ or_else (option_map wait.Missing o) b
+same-or-missing None a b h = h refl
+same-or-missing (Some k) a b h = refl
+
 -- ---- the start, but for the operation
 
 module _ (plan : Ports) (names : Names) (room : RoomState) (used : List ℕ) (worker : ℕ) (k : Key) (old : Option Row) where
@@ -111,6 +123,38 @@ module _ (plan : Ports) (names : Names) (room : RoomState) (used : List ℕ) (wo
       (reason ∙ free, is ∙ sym begun, subst (λ n. Reserves room worker n room') (sym places) reserves)
   begun-row r ks applied shared need names' room' (Ok (Err w)) reason begun places free is reserves wait same same_room = (reason ∙ wait, same, same_room)
   begun-row r ks applied shared need names' room' (Err e) reason begun places free is reserves wait same same_room = tt
+
+  -- the same, where the rest is known once nothing is missing
+  pub begun-row-when : (r : Row) (applied : Bool) (shared : Option Name) (need : List ℕ) (names' : Names) (room' : RoomState) (res : Result (Result (Unit {0}) Wait) OutOfMemory)
+      → (first_unapplied names (names_of k r) ≡ None → wait_of plan names room used worker k old (Some r) ≡ row_reason names room used (names_of k r) (to_list shared) need)
+      → (first_unapplied names (names_of k r) ≡ None → started_names plan names worker k old (Some r) ≡ begun_by names worker k (names_of k r) applied shared (lacks_shared names shared))
+      → (first_unapplied names (names_of k r) ≡ None → places_for (built_first (to_build plan names k (Some r)) (own_changes plan k old (Some r))) ≡ need)
+      → IfOk res (λ a. OnOk a (row_reason names room used (names_of k r) (to_list shared) need ≡ None))
+      → IfOk res (λ a. OnOk a (names' ≡ begun_by names worker k (names_of k r) applied shared (lacks_shared names shared)))
+      → IfOk res (λ a. OnOk a (Reserves room worker need room'))
+      → IfOk res (λ a. IfErr a (λ wait. row_reason names room used (names_of k r) (to_list shared) need ≡ Some wait))
+      → IfOk res (λ a. OnErr a (names' ≡ names))
+      → IfOk res (λ a. OnErr a (room' ≡ room))
+      → IfOk res (λ a. IsBegunBy plan names room used worker k old (Some r) a names' room')
+  begun-row-when r applied shared need names' room' res reason begun places free is reserves wait same same_room =
+      by res free is reserves wait same same_room
+    where
+      reason-now : wait_of plan names room used worker k old (Some r) ≡ row_reason names room used (names_of k r) (to_list shared) need
+      reason-now = same-or-missing (first_unapplied names (names_of k r)) (or_else (holder_of names k (Some r)) (or_else (busy_for plan names worker k (Some r)) (crowded_for plan names room used k old (Some r)))) (or_else (option_map wait.Busy (least_of (workers_on names (map name.Row (names_of k r) ++ to_list shared)))) (option_map wait.NoRoom (lacking room need used))) reason
+
+      by : (res : Result (Result (Unit {0}) Wait) OutOfMemory)
+          → IfOk res (λ a. OnOk a (row_reason names room used (names_of k r) (to_list shared) need ≡ None))
+          → IfOk res (λ a. OnOk a (names' ≡ begun_by names worker k (names_of k r) applied shared (lacks_shared names shared)))
+          → IfOk res (λ a. OnOk a (Reserves room worker need room'))
+          → IfOk res (λ a. IfErr a (λ wait. row_reason names room used (names_of k r) (to_list shared) need ≡ Some wait))
+          → IfOk res (λ a. OnErr a (names' ≡ names))
+          → IfOk res (λ a. OnErr a (room' ≡ room))
+          → IfOk res (λ a. IsBegunBy plan names room used worker k old (Some r) a names' room')
+      by (Ok (Ok x)) free is reserves wait same same_room =
+          let none = none-missing (first_unapplied names (names_of k r)) (or_else (option_map wait.Busy (least_of (workers_on names (map name.Row (names_of k r) ++ to_list shared)))) (option_map wait.NoRoom (lacking room need used))) free in
+          (reason-now ∙ free, is ∙ sym (begun none), subst (λ n. Reserves room worker n room') (sym (places none)) reserves)
+      by (Ok (Err w)) free is reserves wait same same_room = (reason-now ∙ wait, same, same_room)
+      by (Err e) free is reserves wait same same_room = tt
 
   -- and of one that is to go
   pub begun-removal : (names' : Names) (res : Result (Result (Unit {0}) Wait) OutOfMemory)

@@ -2,6 +2,7 @@
 use Rattle.std.specs.Prelude.{◌≡◌, ◌<◌, ℕ, Bool, true, false, List, [], ◌∷◌, Option, Some, None, option_map}
 use Rattle.std.specs.List.{AllByRecursion}
 use Rattle.std.specs.BTreeMap.{insert_entry}
+use Rattle.table_schema.specs.Names.{names_of}
 use Rattle.table_schema.specs.Plan.{Ports}
 use Rattle.table_schema.specs.declared.key.Key.{Key}
 use Rattle.table_schema.specs.declared.row.Row.{Row}
@@ -15,7 +16,7 @@ use Rattle.ref_counts.specs.declared.name.NameState.{NameState}
 use Rattle.ref_counts.specs.declared.name.NameState.TheVariants as state
 use Rattle.ref_counts.specs.Registered.{IsReadable, begun, pins_but, with_user}
 use Rattle.ref_counts.specs.Registry.{Names, changed, name_cmp, pinned, registered_at, state_of}
-use Rattle.orch_flight.specs.Needing.{name_for}
+use Rattle.orch_flight.specs.Needing.{first_unapplied, name_for}
 use Rattle.orch_flight.specs.Starting.{ids_for, ids_for_row}
 
 -- the owner of what the registry keeps under a name
@@ -87,7 +88,7 @@ MayShare names (Some n) = IsOfShared n × (stage_of names n ≡ Some state.Absen
 abbrev pub HasNoPins : Names → ℕ → Type 0
 HasNoPins names worker = AllByRecursion (λ e. pins_but worker e.1.pins ≡ e.1.pins) names
 
--- when an operation may start: its worker has no pins, the key's row is applied or its name is not there, one of the rows is there, and what they share is as it is between operations
+-- when an operation may start: its worker has no pins, the key's row is applied or its name is not there, one of the rows is there, a new row fits its table where what it names is applied, and what the rows share is as it is between operations
 pub record MayStart (plan : Ports) (names : Names) (worker : ℕ) (k : Key) (old new : Option Row) : Type 0 where
   pub below : worker < 4
   pub readable : IsReadable k
@@ -96,6 +97,6 @@ pub record MayStart (plan : Ports) (names : Names) (worker : ℕ) (k : Key) (old
   pub applied : (r : Row) → old ≡ Some r → state_of names (name.Row k) ≡ state.Live
   pub some : old ≡ None → new ≡ None → ⊥
   pub old_fits : (r : Row) → old ≡ Some r → Fits plan k r
-  pub new_fits : (r : Row) → new ≡ Some r → Fits plan k r
+  pub new_fits : (r : Row) → new ≡ Some r → first_unapplied names (names_of k r) ≡ None → Fits plan k r
   pub shares : (o : Owner) → IsIn o (uses_of plan k new) → MayShare names (Some (name_for o))
   pub shared : (o : Owner) → IsIn o (uses_of plan k old) → state_of names (name_for o) ≡ state.Live

@@ -1,5 +1,6 @@
 -- the operation with which a port's start leaves
 use Rattle.std.proofs.Common.{◌≡◌, ℕ, false, List, [], ◌∷◌, Option, Some, None, option_map, Result, Ok, Err, refl, sym, ap, subst, ◌∙◌, Bor}
+use Rattle.table_schema.specs.Names.{names_of}
 use Rattle.table_schema.specs.Plan.{Ports, lanes_in_plan}
 use Rattle.table_schema.specs.declared.key.Key.{Key}
 use Rattle.table_schema.specs.declared.key.Key.TheVariants as key
@@ -13,6 +14,7 @@ use Rattle.row_layout.specs.Rows.{from}
 use Rattle.ref_counts.specs.Registry.{Names}
 use Rattle.ref_counts.specs.Room.{RoomState}
 use Rattle.switch_machine.specs.Flights.{Fits}
+use Rattle.orch_flight.specs.Needing.{first_unapplied}
 use Rattle.orch_flight.specs.Operation.{Operation}
 use Rattle.orch_flight.specs.Sharing.{MayStart}
 use Rattle.orch_flight.specs.Starting.{IsBegunBy, IsStartedBy, begun_names, first_due, leaving, started_by, started_operation}
@@ -70,13 +72,16 @@ module _ (plan : Ports) (names : Names) (room : RoomState) (used : List ℕ) (wo
       (subst (Turns names' room' res (key.Port p) (option_map row.Port now) (option_map row.Port next)) (sym is)
       (λ of_old of_new begun. started plan names room used worker p now next names' room' res (planned plan p now of_old) (planned plan p next of_new) begun))))
 
+  names-none : (k : Key) (old new : Option Row) (flight : Operation) → IsFirst worker k old new flight → (r : Row) → first_unapplied names (names_of k r) ≡ None
+  names-none k old new flight (p, now, next, is_key, rest) r = ap (λ z. first_unapplied names (names_of z r)) is_key
+
   -- the same, for the rows that are given
   pub started-as : (k : Key) (old new old' new' : Option Row) (flight : Operation) (res : Result (Unit {0}) Wait) (answer : Result Operation Wait) (names' : Names) (room' : RoomState)
       → IsFirst worker k old new flight → old ≡ old' → new ≡ new' → answer ≡ flown flight res → MayStart plan names worker k old new
       → IsBegunBy plan names room used worker k old' new' res names' room' → IsStartedBy plan names room used worker k old new answer names' room'
   started-as k old new old' new' flight res answer names' room' first same_old same_new gave may begun =
       subst (λ a. IsStartedBy plan names room used worker k old new a names' room') (sym gave)
-      (turned names' room' res k old new flight first may.old_fits may.new_fits
+      (turned names' room' res k old new flight first may.old_fits (λ r e. may.new_fits r e (names-none k old new flight first r))
       (subst (λ z. IsBegunBy plan names room used worker k z new res names' room') (sym same_old) (subst (λ z. IsBegunBy plan names room used worker k old' z res names' room') (sym same_new) begun)))
 
 -- a row that fits the key of a port is a port's

@@ -1,5 +1,6 @@
 -- the start of a port's operation
 use Rattle.std.proofs.Common.{◌≡◌, ℕ, false, true, List, [], ◌∷◌, Option, Some, None, option_map, ap, ◌∙◌}
+use Rattle.table_schema.specs.Names.{names_of}
 use Rattle.table_schema.specs.Plan.{Ports, lanes_in_plan}
 use Rattle.table_schema.specs.declared.key.Key.{Key}
 use Rattle.table_schema.specs.declared.key.Key.TheVariants as key
@@ -15,7 +16,7 @@ use Rattle.ref_counts.specs.Registry.{Names, changed}
 use Rattle.ref_counts.specs.Room.{RoomState, lacking}
 use Rattle.switch_machine.specs.Flights.{Fits}
 use Rattle.switch_machine.specs.Operations.{built_first}
-use Rattle.orch_flight.specs.Needing.{places_for, row_reason, to_build, wait_of}
+use Rattle.orch_flight.specs.Needing.{first_unapplied, places_for, row_reason, to_build, wait_of}
 use Rattle.orch_flight.specs.Sharing.{begun_by, lacks_shared}
 use Rattle.orch_flight.specs.Starting.{first_due, started_names}
 use Rattle.orch_flight.proofs.Begins.{names-plain, no_places, places-set, places-taken}
@@ -23,6 +24,11 @@ use Rattle.port_orch.specs.Ports.{IsPortKey, port_thing}
 
 abbrev pub made : List ℕ
 made = 1 ∷ 0 ∷ 0 ∷ 0 ∷ 0 ∷ 0 ∷ 0 ∷ 0 ∷ 0 ∷ 0 ∷ 0 ∷ []
+
+-- a port's row names nothing
+pub no-names : (names : Names) (k : Key) (r : Row) → IsPortKey k → first_unapplied names (names_of k r) ≡ None
+no-names names (key.Port p) r is = refl
+no-names names _ r is = elim is [ ]
 
 module _ (plan : Ports) (names : Names) where
   pub added-places : (k : Key) (r : Row) → IsPortKey k → Fits plan k r → places_for (built_first (to_build plan names k (Some r)) (own_changes plan k None (Some r))) ≡ made

@@ -1,12 +1,13 @@
 use Rattle.std.proofs.Common.{Some, None, ap}
 use Rattle.port_orch.proofs.Operations.{may-as, port-row, rows, started-as}
+use Rattle.port_orch.proofs.Starts.{no-names}
 use Rattle.port_orch.proofs.flight.PortFlight.start.Goals as goal
 
 pub of-requires-clause-old : goal.of-requires-clause-old
 of-requires-clause-old c = port-row c.args.plan.now c.args.key.now (rows c.args.old) c.requires.port c.requires.may.old_fits
 
 pub of-requires-clause-new : goal.of-requires-clause-new
-of-requires-clause-new c = port-row c.args.plan.now c.args.key.now (rows c.args.new) c.requires.port c.requires.may.new_fits
+of-requires-clause-new c = port-row c.args.plan.now c.args.key.now (rows c.args.new) c.requires.port (λ r e. c.requires.may.new_fits r e (no-names c.args.reg.now c.args.key.now r c.requires.port))
 
 pub add-requires-clause-may : goal.add-requires-clause-may
 add-requires-clause-may c =
