@@ -2,3 +2,4 @@ pub mod Known
 pub mod Registers
 pub mod Ending
 pub mod Answering
+pub mod Flown

@@ -1,0 +1,61 @@
+-- What a worker has under way, and what is due for it. Own.
+use Rattle.std.specs.Prelude.{◌≡◌, ◌==◌, ◌++◌, ℕ, Bool, true, false, List, [], ◌∷◌, Option, Some, None, if◌then◌else◌}
+use Rattle.table_schema.specs.Plan.{Ports}
+use Rattle.sai_types.specs.declared.hop.Hop.{Hop}
+use Rattle.row_layout.specs.Operations.{Change, uses_of}
+use Rattle.row_layout.specs.Rows.{Group, Owner}
+use Rattle.switch_machine.specs.Flights.{Flight}
+use Rattle.ref_counts.specs.declared.name.Name.TheVariants as name
+use Rattle.ref_counts.specs.declared.name.NameState.{NameState}
+use Rattle.ref_counts.specs.declared.name.NameState.TheVariants as state
+use Rattle.ref_counts.specs.Registry.{Names, state_of}
+use Rattle.orch_flight.specs.Grouping.{GroupOperation, first_group_due}
+use Rattle.orch_flight.specs.Operation.{Operation}
+use Rattle.orch_flight.specs.Taking.{to_list}
+
+-- the operation of a row, and that of a group, while one is built before the row's or taken away after it
+pub record Flown : Type 0 where
+  pub operation : Operation
+  pub group : Option GroupOperation
+
+-- an operation, as the machine has it
+abbrev pub flight_of : Operation → Flight
+flight_of f = record { key = f.key; new = f.new; leaves = f.leaves; retires = f.retires }
+
+-- the group among what is shared
+abbrev pub group_in : List Owner → Option (List Hop)
+group_in [] = None
+group_in (Group hops ∷ os) = Some hops
+group_in (o ∷ os) = group_in os
+
+abbrev pub is_built_by : ℕ → NameState → Bool
+is_built_by worker (state.Building other) = other == worker
+is_built_by worker _ = false
+
+abbrev pub built_in : Names → ℕ → Option (List Hop) → Option (List Hop)
+built_in names worker None = None
+built_in names worker (Some hops) = if is_built_by worker (state_of names (name.Group hops)) then Some hops else None
+
+-- the group that the worker builds for the new row, and the one that it takes away
+abbrev pub group_to_build : Ports → Names → Operation → Option (List Hop)
+group_to_build plan names f = built_in names f.worker (group_in (uses_of plan f.key f.new))
+
+abbrev pub group_to_take : Operation → Option (List Hop)
+group_to_take f = group_in (to_list f.retires)
+
+abbrev pub whole_group : Option (List Hop) → Option (List Hop) → List Change
+whole_group (Some hops) other = first_group_due hops true
+whole_group None (Some hops) = first_group_due hops false
+whole_group None None = []
+
+abbrev pub left_of_group : Option GroupOperation → List Change → List Change
+left_of_group None whole = whole
+left_of_group (Some g) whole = g.due
+
+-- the changes of a group that are due: those that its operation has left, or all of them, where that has not begun
+abbrev pub group_changes : Ports → Names → Flown → List Change
+group_changes plan names x = left_of_group x.group (whole_group (group_to_build plan names x.operation) (group_to_take x.operation))
+
+-- all that is due for the worker: a group is built before the row's own changes, and goes after them
+abbrev pub due_for : Ports → Names → Flown → List Change
+due_for plan names x = group_changes plan names x ++ x.operation.due
