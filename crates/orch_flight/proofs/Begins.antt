@@ -132,12 +132,12 @@ module _ (plan : Ports) (names : Names) (room : RoomState) (used : List ℕ) (wo
       → IfOk res (λ a. OnOk a (row_reason names room used (names_of k r) (to_list shared) need ≡ None))
       → IfOk res (λ a. OnOk a (names' ≡ begun_by names worker k (names_of k r) applied shared (lacks_shared names shared)))
       → IfOk res (λ a. OnOk a (Reserves room worker need room'))
-      → IfOk res (λ a. IfErr a (λ wait. row_reason names room used (names_of k r) (to_list shared) need ≡ Some wait))
+      → IfOk res (λ a. IfErr a (λ w. row_reason names room used (names_of k r) (to_list shared) need ≡ Some w))
       → IfOk res (λ a. OnErr a (names' ≡ names))
       → IfOk res (λ a. OnErr a (room' ≡ room))
       → IfOk res (λ a. IsBegunBy plan names room used worker k old (Some r) a names' room')
-  begun-row-when r applied shared need names' room' res reason begun places free is reserves wait same same_room =
-      by res free is reserves wait same same_room
+  begun-row-when r applied shared need names' room' res reason begun places free is reserves waits same same_room =
+      by res free is reserves waits same same_room
     where
       reason-now : wait_of plan names room used worker k old (Some r) ≡ row_reason names room used (names_of k r) (to_list shared) need
       reason-now = same-or-missing (first_unapplied names (names_of k r)) (or_else (holder_of names k (Some r)) (or_else (busy_for plan names worker k (Some r)) (crowded_for plan names room used k old (Some r)))) (or_else (option_map wait.Busy (least_of (workers_on names (map name.Row (names_of k r) ++ to_list shared)))) (option_map wait.NoRoom (lacking room need used))) reason
@@ -146,15 +146,15 @@ module _ (plan : Ports) (names : Names) (room : RoomState) (used : List ℕ) (wo
           → IfOk res (λ a. OnOk a (row_reason names room used (names_of k r) (to_list shared) need ≡ None))
           → IfOk res (λ a. OnOk a (names' ≡ begun_by names worker k (names_of k r) applied shared (lacks_shared names shared)))
           → IfOk res (λ a. OnOk a (Reserves room worker need room'))
-          → IfOk res (λ a. IfErr a (λ wait. row_reason names room used (names_of k r) (to_list shared) need ≡ Some wait))
+          → IfOk res (λ a. IfErr a (λ w. row_reason names room used (names_of k r) (to_list shared) need ≡ Some w))
           → IfOk res (λ a. OnErr a (names' ≡ names))
           → IfOk res (λ a. OnErr a (room' ≡ room))
           → IfOk res (λ a. IsBegunBy plan names room used worker k old (Some r) a names' room')
-      by (Ok (Ok x)) free is reserves wait same same_room =
+      by (Ok (Ok x)) free is reserves waits same same_room =
           let none = none-missing (first_unapplied names (names_of k r)) (or_else (option_map wait.Busy (least_of (workers_on names (map name.Row (names_of k r) ++ to_list shared)))) (option_map wait.NoRoom (lacking room need used))) free in
           (reason-now ∙ free, is ∙ sym (begun none), subst (λ n. Reserves room worker n room') (sym (places none)) reserves)
-      by (Ok (Err w)) free is reserves wait same same_room = (reason-now ∙ wait, same, same_room)
-      by (Err e) free is reserves wait same same_room = tt
+      by (Ok (Err w)) free is reserves waits same same_room = (reason-now ∙ waits, same, same_room)
+      by (Err e) free is reserves waits same same_room = tt
 
   -- and of one that is to go
   pub begun-removal : (names' : Names) (res : Result (Result (Unit {0}) Wait) OutOfMemory)
