@@ -1,6 +1,8 @@
 // The rows of the application tables.
 ghost use Rattle.std.specs.Prelude.{◌≡◌, [], length, option_map, IfOk, OnOk, OnErr};
+ghost use Rattle.std.specs.BTreeMap.{insert_entry};
 ghost use Rattle.std.specs.Map.{keys_of};
+ghost use Rattle.table_schema.specs.Key.{key_cmp};
 ghost use Rattle.table_schema.specs.Rows.{HasRisingRows, after_write, fields_at, with_fields};
 
 use std::alloc::Global;
@@ -48,6 +50,16 @@ impl Rows {
                 Ok(())
             }
         }
+    }
+
+    /// Makes these fields the key's row, in the place of the row that it has.
+    pub fn replace(&mut self, key: &Key, fields: &Fields) -> Result<(), OutOfMemory>
+        ensures ok { OnOk result (self.new ≡ insert_entry key_cmp self.old key.now fields.now) }
+        ensures err { OnErr result (self.new ≡ self.old) }
+    {
+        let key = key.copy()?;
+        self.rows.insert(key, fields.copy()?)?;
+        Ok(())
     }
 
     /// The fields of a row: None exactly where there is no row of this key.
