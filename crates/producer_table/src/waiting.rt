@@ -1,5 +1,5 @@
 // The table of the writes that wait.
-ghost use Rattle.std.specs.Prelude.{◌≡◌, ◌⊎◌, ◌↔◌, [], ◌∷◌, take, drop, IsTrue, IfOk, IfSome, IfNone, OnOk, OnErr};
+ghost use Rattle.std.specs.Prelude.{◌≡◌, ◌⊎◌, ◌↔◌, [], ◌∷◌, take, drop, IsTrue, IfOk, IfSome, IfNone, OnOk, OnErr, option_map, slice_get};
 ghost use Rattle.table_schema.specs.Fields.{merged};
 ghost use Rattle.table_schema.specs.declared.write.Write.TheVariants as write;
 ghost use Rattle.table_schema.specs.declared.key.Key.{Key};
@@ -15,11 +15,11 @@ use table_schema::{Fields, Key};
 
 /// What waits of one key.
 #[derive(Debug, Drop)]
-pub(crate) struct Pending {
+pub struct Pending {
     /// The deletion mark.
-    pub(crate) dropped: bool,
+    pub dropped: bool,
     /// The fields that were set, behind the deletion where there is one.
-    pub(crate) fields: Option<Fields>,
+    pub fields: Option<Fields>,
 }
 
 /// The writes that wait to be taken out, by key: for each key that was written a deletion mark, and fields. In SONiC's words,
@@ -146,6 +146,13 @@ impl Waiting {
             }
         }
         Ok(ops)
+    }
+
+    /// The first key with what waits of it: None exactly where nothing waits.
+    pub fn first(&self) -> Option<(&Key, &Pending)>
+        ensures { option_map (λ e. (e.0.now, e.1.now)) result ≡ slice_get self.now 0 }
+    {
+        self.keys.iter().next()
     }
 
     /// Takes out the first key with all that waits of it, and no memory: None exactly where nothing waits.
