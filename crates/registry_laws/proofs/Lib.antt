@@ -17,6 +17,7 @@ pub mod Rests
 pub mod Rooming
 pub mod Sharing
 pub mod Starting
+pub mod Taking
 pub mod Telling
 pub mod Users
 pub mod Waiting
