@@ -11,6 +11,7 @@ pub mod Grouped
 pub mod Left
 pub mod Listing
 pub mod Moved
+pub mod Nexts
 pub mod Parting
 pub mod Passing
 pub mod Rests
