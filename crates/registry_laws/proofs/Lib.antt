@@ -16,6 +16,7 @@ pub mod Parting
 pub mod Passing
 pub mod Rests
 pub mod Rooming
+pub mod Settled
 pub mod Sharing
 pub mod Starting
 pub mod Taking
