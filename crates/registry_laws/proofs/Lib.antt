@@ -1,5 +1,6 @@
 pub mod Allowed
 pub mod Answered
+pub mod Apart
 pub mod Aside
 pub mod Begun
 pub mod Between
@@ -8,6 +9,7 @@ pub mod Fine
 pub mod Finding
 pub mod Lasting
 pub mod Grouped
+pub mod Launched
 pub mod Left
 pub mod Listing
 pub mod Moved

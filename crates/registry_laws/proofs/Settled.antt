@@ -38,6 +38,7 @@ use Rattle.registry_laws.specs.Flown.{built_in, due_for, flight_of, group_in, gr
 use Rattle.registry_laws.specs.Flying.{IsFlown, flown_as}
 use Rattle.registry_laws.specs.Known.{SharedStands}
 use Rattle.registry_laws.specs.Registers.{HaveDue, OthersHaveDue, Registers, group_taken}
+use Rattle.registry_laws.proofs.Apart.{taken_apart}
 use Rattle.registry_laws.proofs.Aside.{IsAside, aside_finished, aside_left, aside_then, built_none, built_state, now_owned}
 use Rattle.registry_laws.proofs.Between.{due_follows}
 use Rattle.registry_laws.proofs.Ended.{registers_ended}
@@ -78,7 +79,7 @@ nothing_behind : {X : Type 0} (xs ys : List X) → xs ++ ys ≡ [] → ys ≡ []
 nothing_behind [] ys e = e
 nothing_behind (x ∷ xs) ys e = absurd cc
 
-some_of_due : {X : Type 0} (c : Change) (cs : List Change) → c ∷ cs ≡ [] → X
+pub some_of_due : {X : Type 0} (c : Change) (cs : List Change) → c ∷ cs ≡ [] → X
 some_of_due c cs h = absurd cc
 
 -- what is taken away is a thing that the operation holds
@@ -98,11 +99,11 @@ taken_own plan (owner.Own ip) c (inl e) = ap (λ z. owner_of plan (changed_name 
 taken_own plan (owner.Own ip) c (inr h) = elim h [ ]
 taken_own plan (owner.Group hops) c h = elim h [ ]
 
-taken_apart : (o : Owner) → take_all (shared_going o) [] ≡ whole_group None (group_in (o ∷ [])) ++ taken_here (Some o)
-taken_apart (owner.OfRow k) = refl
-taken_apart (owner.Bridge lane) = refl
-taken_apart (owner.Own ip) = refl
-taken_apart (owner.Group hops) = sym (nothing_after (take_all (shared_going (owner.Group hops)) []))
+group_of : (o : Owner) → group_taken o ≡ whole_group None (group_in (o ∷ []))
+group_of (owner.OfRow k) = refl
+group_of (owner.Bridge lane) = refl
+group_of (owner.Own ip) = refl
+group_of (owner.Group hops) = refl
 
 -- no group is built where no change of one is due
 pub not_built : (plan : Ports) (names : registry.Names) (m : Machine) (p : Operation) → ((hops : List Hop) → SharedStands plan m (owner.Group hops) (state_of names (name.Group hops))) → ((hops : List Hop) → HasChangeOf plan (m.due p.worker) (owner.Group hops) → ((f : Flight) → m.board.flights p.worker ≡ Some f → f.retires ≡ Some (owner.Group hops) → ⊥) → ⊥) → group_to_build plan names p ≡ None
@@ -213,7 +214,7 @@ module _ (plan : Ports) (is : IsPlan plan) (capacities : List ℕ) (m : Machine)
     last_flown last now = record {
       flying = here_gone;
       worker = refl;
-      due = due_gone ∙ taken_apart o ∙ sym (ap (λ b. whole_group b (group_in (o ∷ [])) ++ taken_here (Some o)) not_now);
+      due = due_gone ∙ taken_apart o ∙ ap (λ g. g ++ taken_here (Some o)) (group_of o) ∙ sym (ap (λ b. whole_group b (group_in (o ∷ [])) ++ taken_here (Some o)) not_now);
       over = record { plans = is; now = y.over.now; new = y.over.new; next = taken_for plan (after (Some o)) (Some o) refl };
       some = y.some;
       rest = inr ([], refl);
