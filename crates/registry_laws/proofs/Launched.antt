@@ -246,12 +246,12 @@ module _ (plan : Ports) (is : IsPlan plan) (capacities : List ℕ) (m : Machine)
   }
 
 -- the operation that starts is the one that has left what it had to
-pub started_is : (names : registry.Names) (w : ℕ) (k : Key) (old new : Option Row) (due : List Change) (leaves : Option Owner) → started_by names w k old new due leaves ≡ settled_by names (record { worker = w; key = k; now = old; new = new; due = due; leaves = leaves; retires = None }) due leaves
-started_is names w k old new [] (Some o) = refl
-started_is names w k old new [] None = refl
-started_is names w k old new (c ∷ cs) leaves = refl
+pub started_is : (names : registry.Names) (w : ℕ) (k : Key) (was new : Option Row) (due : List Change) (leaves : Option Owner) → started_by names w k was new due leaves ≡ settled_by names (record { worker = w; key = k; now = was; new = new; due = due; leaves = leaves; retires = None }) due leaves
+started_is names w k was new [] (Some o) = refl
+started_is names w k was new [] None = refl
+started_is names w k was new (c ∷ cs) leaves = refl
 
-pub started_names_is : (names : registry.Names) (w : ℕ) (k : Key) (old new : Option Row) (due : List Change) (leaves : Option Owner) → started_names_by names w k due leaves ≡ settled_names_by names (record { worker = w; key = k; now = old; new = new; due = due; leaves = leaves; retires = None }) due leaves
-started_names_is names w k old new [] (Some o) = refl
-started_names_is names w k old new [] None = refl
-started_names_is names w k old new (c ∷ cs) leaves = refl
+pub started_names_is : (names : registry.Names) (w : ℕ) (k : Key) (was new : Option Row) (due : List Change) (leaves : Option Owner) → started_names_by names w k due leaves ≡ settled_names_by names (record { worker = w; key = k; now = was; new = new; due = due; leaves = leaves; retires = None }) due leaves
+started_names_is names w k was new [] (Some o) = refl
+started_names_is names w k was new [] None = refl
+started_names_is names w k was new (c ∷ cs) leaves = refl

@@ -14,6 +14,7 @@ pub mod Left
 pub mod Listing
 pub mod Moved
 pub mod Nexts
+pub mod Opened
 pub mod Parting
 pub mod Passing
 pub mod Rests

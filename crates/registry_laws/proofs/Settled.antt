@@ -120,13 +120,13 @@ module _ (plan : Ports) (is : IsPlan plan) (capacities : List ℕ) (m : Machine)
   abbrev f : Flight
   f = flight_of p
 
-  abbrev On : Operation → registry.Names → Type 0
+  abbrev pub On : Operation → registry.Names → Type 0
   On q names' = (due_for plan names' (flown_as q None) ≡ [] → ⊥) → (t : Machine) × IsLater plan capacities w m t names' room × IsFlown plan names' t w (flown_as q None)
 
-  abbrev Over : Operation → registry.Names → Type 0
+  abbrev pub Over : Operation → registry.Names → Type 0
   Over q names' = (room' : RoomState) → due_for plan names' (flown_as q None) ≡ [] → GivesBack room w room' → (t : Machine) × IsLater plan capacities w m t (ended_names names' w p.key (m.board.applied p.key) p.new) room' × (t.board.flights w ≡ None)
 
-  abbrev Both : Operation → registry.Names → Type 0
+  abbrev pub Both : Operation → registry.Names → Type 0
   Both q names' = On q names' × Over q names'
 
   -- ---- it goes on, or ends, as it is

@@ -2,6 +2,7 @@
 use Rattle.std.specs.Prelude.{◌≡◌, ◌⊎◌, ◌++◌, ℕ, true, false, List, [], length, Option, Some, None}
 use Rattle.table_schema.specs.Fields.{HasRisingKeys}
 use Rattle.table_schema.specs.Plan.{Ports}
+use Rattle.table_schema.specs.declared.key.Key.{Key}
 use Rattle.table_schema.specs.declared.row.Row.{Row}
 use Rattle.sai_types.specs.declared.hop.Hop.{Hop}
 use Rattle.sai_types.specs.declared.thing.Thing.{Thing}
@@ -10,6 +11,7 @@ use Rattle.sai_types.specs.Names.{name_of}
 use Rattle.row_layout.specs.Operations.{Change, own_changes}
 use Rattle.row_layout.specs.Rows.{Owner}
 use Rattle.switch_machine.specs.Changes.{changed_name}
+use Rattle.switch_machine.specs.Events.{SwitchState}
 use Rattle.switch_machine.specs.Flights.{Machine, StandsIn, own_of}
 use Rattle.ref_counts.specs.declared.name.NameState.TheVariants as state
 use Rattle.ref_counts.specs.Registered.{Registered}
@@ -89,3 +91,7 @@ pub record KnowsBoard (plan : Ports) (capacities : List ℕ) (names : Names) (ro
   pub flying : (w : ℕ) (x : Flown) → flown w ≡ Some x → IsFlown plan names m w x
   pub placed : ArePlaced names
   pub there : AreThere names
+
+-- the state with another machine, and fewer keys to sync
+abbrev pub with_machine : SwitchState → Machine → List Key → SwitchState
+with_machine s t later = record { machine = t; written = s.written; to_sync = later; made = s.made; objects = s.objects }
