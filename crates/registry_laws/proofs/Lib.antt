@@ -17,6 +17,7 @@ pub mod Nexts
 pub mod Opened
 pub mod Parting
 pub mod Passing
+pub mod Replied
 pub mod Rests
 pub mod Rooming
 pub mod Settled
