@@ -8,6 +8,7 @@ pub mod Ended
 pub mod Fine
 pub mod Finding
 pub mod Lasting
+pub mod GroupReplied
 pub mod Grouped
 pub mod Launched
 pub mod Left

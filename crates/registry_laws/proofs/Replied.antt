@@ -55,17 +55,17 @@ use Rattle.registry_laws.proofs.Taking.{row_due}
 
 -- ---- lists of changes
 
-append_one : {X : Type 0} (xs : List X) (x : X) (ys : List X) → xs ++ x ∷ ys ≡ (xs ++ x ∷ []) ++ ys
+pub append_one : {X : Type 0} (xs : List X) (x : X) (ys : List X) → xs ++ x ∷ ys ≡ (xs ++ x ∷ []) ++ ys
 append_one [] x ys = refl
 append_one (z ∷ xs) x ys = ap (λ l. z ∷ l) (append_one xs x ys)
 
 pub rest_next : (all due : List Change) (c : Change) (cs : List Change) → due ≡ c ∷ cs → IsRestOf all due → IsRestOf all cs
 rest_next all due c cs e (before, h) = (before ++ c ∷ [], h ∙ ap (λ l. before ++ l) e ∙ append_one before c cs)
 
-same_first : {X : Type 0} (x y : X) (xs ys : List X) → x ∷ xs ≡ y ∷ ys → x ≡ y
+pub same_first : {X : Type 0} (x y : X) (xs ys : List X) → x ∷ xs ≡ y ∷ ys → x ≡ y
 same_first x y xs ys h = cc
 
-same_rest : {X : Type 0} (x y : X) (xs ys : List X) → x ∷ xs ≡ y ∷ ys → xs ≡ ys
+pub same_rest : {X : Type 0} (x y : X) (xs ys : List X) → x ∷ xs ≡ y ∷ ys → xs ≡ ys
 same_rest x y xs ys h = cc
 
 -- ---- the change that makes a row's name live is its last
