@@ -19,6 +19,7 @@ pub mod Opened
 pub mod Parting
 pub mod Passing
 pub mod Replied
+pub mod Replies
 pub mod Rests
 pub mod Rooming
 pub mod Settled
