@@ -1,7 +1,5 @@
 -- when an operation may start
 use Rattle.std.proofs.Common.{◌≡◌, ◌∷◌, ◌<◌, ◌∙◌, inl, inr, ℕ, ◌==◌, Bool, true, false, not, cond, List, [], Option, None, Some, refl, sym, ap, subst}
-use Rattle.std.specs.BTreeMap.{is_at}
-use Rattle.std.specs.Ordering.{is_eq}
 use Rattle.std.specs.declared.cmp.Ordering.{Ordering}
 use Rattle.std.specs.declared.cmp.Ordering.TheVariants.{Less, Equal, Greater}
 use Rattle.std.specs.List.{AllByRecursion}
@@ -32,13 +30,13 @@ use Rattle.ref_counts.specs.Registered.{IsReadable, Registered, pins_but}
 use Rattle.ref_counts.specs.Registry.{Names, name_cmp, registered_at, state_in, state_of}
 use Rattle.ref_counts.specs.Room.{RoomState}
 use Rattle.ref_counts.proofs.Changing.{name_total}
-use Rattle.orch_flight.specs.Needing.{first_unapplied, name_for}
-use Rattle.orch_flight.specs.Sharing.{HasNoPins, IsOfShared, MayShare, MayStart, stage_of}
+use Rattle.orch_flight.specs.Needing.{name_for}
+use Rattle.orch_flight.specs.Sharing.{HasNoPins, IsOfShared, MayShare, MayStart}
 use Rattle.registry_laws.specs.Flown.{Flown}
 use Rattle.registry_laws.specs.Flying.{KnowsBoard}
 use Rattle.registry_laws.specs.Known.{IsPinOf, RowStands, SharedStands, pins_at}
 use Rattle.registry_laws.proofs.Finding.{none_below}
-use Rattle.registry_laws.proofs.Listing.{mapped, no_some, not_some, same_some}
+use Rattle.registry_laws.proofs.Listing.{mapped, not_some}
 use Rattle.registry_laws.proofs.Telling.{have-of_missing, row_at, shared_at, unapplied_is}
 
 -- ---- each entry is found under its name

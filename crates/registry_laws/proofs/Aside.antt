@@ -1,8 +1,7 @@
 -- what other workers have under way stays as it was
-use Rattle.std.proofs.Common.{◌≡◌, ◌⊎◌, ◌∷◌, ◌++◌, ◌∙◌, inl, inr, ℕ, ◌==◌, Bool, true, false, List, [], Option, None, Some, if◌then◌else◌, refl, sym, ap, subst}
-use Rattle.std.proofs.lemmas.Bool.{eq-eqb, eqb-true, false≢true}
+use Rattle.std.proofs.Common.{◌≡◌, ◌⊎◌, ◌++◌, ◌∙◌, inl, inr, ℕ, ◌==◌, Bool, true, false, List, Option, None, Some, if◌then◌else◌, refl, sym, ap, subst}
+use Rattle.std.proofs.lemmas.Bool.{eq-eqb, eqb-true}
 use Rattle.table_schema.specs.Plan.{IsPlan, Ports}
-use Rattle.table_schema.specs.declared.key.Key.{Key}
 use Rattle.table_schema.specs.declared.row.Row.{Row}
 use Rattle.sai_types.specs.declared.hop.Hop.{Hop}
 use Rattle.sai_types.specs.declared.ids.Rid.{Rid}
@@ -14,8 +13,8 @@ use Rattle.row_layout.specs.Rows as owner
 use Rattle.row_layout.specs.Rows.{Owner}
 use Rattle.switch_machine.specs.Changes.{changed_name}
 use Rattle.switch_machine.specs.Consistent.{IsConsistent}
-use Rattle.switch_machine.specs.Flights.{Concerns, Fits, Flight, HasChangeOf, IsOwnedBy, IsShared, Machine, StandsIn, own_of, put}
-use Rattle.switch_machine.specs.Steps.{Ends, Moves, finished, left, moved, parted, started}
+use Rattle.switch_machine.specs.Flights.{Concerns, Fits, Flight, HasChangeOf, IsOwnedBy, Machine, StandsIn, own_of, put}
+use Rattle.switch_machine.specs.Steps.{Moves, finished, left, moved, parted, started}
 use Rattle.switch_machine.proofs.Moving.{its}
 use Rattle.switch_machine.proofs.Running.{one_flight, one_owner, row_keys, shared_row, stays}
 use Rattle.switch_machine.proofs.Splits.{IsPut, New, Old, own_row_in, put_by, put_off, row_off, use_row_in}
@@ -27,10 +26,9 @@ use Rattle.ref_counts.specs.Registry as registry
 use Rattle.ref_counts.specs.Registry.{state_of}
 use Rattle.ref_counts.specs.Room.{RoomState}
 use Rattle.orch_flight.specs.Grouping.{GroupOperation}
-use Rattle.orch_flight.specs.Needing.{name_for}
 use Rattle.orch_flight.specs.Operation.{Operation}
 use Rattle.registry_laws.specs.Flown.{Flown, built_in, flight_of, group_in, group_to_build, group_to_take, is_built_by, left_of_group, whole_group}
-use Rattle.registry_laws.specs.Flying.{HasStanding, IsBetween, IsFlown, IsGroupFlown, IsRestFrom, KnowsBoard}
+use Rattle.registry_laws.specs.Flying.{IsBetween, IsFlown, IsGroupFlown, IsRestFrom, KnowsBoard}
 use Rattle.registry_laws.specs.Known.{SharedStands}
 use Rattle.registry_laws.specs.Registers.{HaveDue, Registers}
 use Rattle.registry_laws.proofs.Fine.{AreFine, placed_of, there_of}

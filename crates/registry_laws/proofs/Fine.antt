@@ -33,8 +33,7 @@ use Rattle.orch_flight.specs.Taking.{made_names, names_after, taken_names, to_li
 use Rattle.registry_laws.specs.Ending.{ended_names, made_at_last, named_by, users_dropped, users_passed, with_own_ended}
 use Rattle.registry_laws.specs.Flying.{ArePlaced, AreThere}
 use Rattle.registry_laws.proofs.Finding.{found_at, found_off, gone_off, out_at, put_at_name, put_off_name}
-use Rattle.registry_laws.proofs.Listing.{no_some, not_some}
-use Rattle.registry_laws.proofs.Passing.{changed_rising, dropped_rising, released_rising}
+use Rattle.registry_laws.proofs.Passing.{changed_rising, released_rising}
 
 abbrev IsFineAs : Owner → Registered → Type 0
 IsFineAs o r = (r.state ≡ state.Absent → ⊥) × ((w : ℕ) → r.state ≡ state.Building w → r.places ≡ ids_for o)

@@ -1,12 +1,11 @@
 -- what workers have under way stands for the machine when a change of a group has taken effect
-use Rattle.std.proofs.Common.{◌≡◌, ◌⊎◌, ◌∷◌, ◌++◌, ◌+◌, ◌∙◌, inl, inr, ℕ, suc, Bool, true, false, List, [], length, Option, None, Some, is_some, if◌then◌else◌, refl, sym, ap, ap₂, subst, arith}
+use Rattle.std.proofs.Common.{◌≡◌, ◌⊎◌, ◌∷◌, ◌++◌, ◌∙◌, inl, inr, ℕ, suc, Bool, true, false, List, [], length, Option, None, Some, is_some, if◌then◌else◌, refl, sym, ap, subst}
 use Rattle.table_schema.specs.Plan.{IsPlan, Ports}
 use Rattle.sai_types.specs.declared.hop.Hop.{Hop}
 use Rattle.sai_types.specs.declared.ids.Rid.{Rid}
 use Rattle.sai_types.specs.declared.ids.Vid.{Vid}
 use Rattle.sai_types.specs.declared.thing.Thing.{Thing}
 use Rattle.sai_types.specs.Alike.{IsIn}
-use Rattle.sai_types.specs.Names.{name_of}
 use Rattle.row_layout.specs.Operations.{Change, Make, make_all, uses_of}
 use Rattle.row_layout.specs.Rows as owner
 use Rattle.row_layout.specs.Rows.{Owner}
@@ -22,14 +21,12 @@ use Rattle.switch_machine.proofs.Running.{one_flight, one_owner, shared_row, sta
 use Rattle.switch_machine.proofs.Splits.{put_at}
 use Rattle.switch_machine.proofs.Tabled.{tabled}
 use Rattle.ref_counts.specs.declared.name.Name.TheVariants as name
-use Rattle.ref_counts.specs.declared.name.NameState.TheVariants as state
 use Rattle.ref_counts.specs.Registered.{made_live}
 use Rattle.ref_counts.specs.Registry as registry
 use Rattle.ref_counts.specs.Registry.{changed, gone_from, state_of}
 use Rattle.ref_counts.specs.Room.{GivesBack, RoomState}
 use Rattle.orch_flight.specs.Grouping.{GroupOperation, IsGroupTook, first_group_due, group_names_by, with_made}
 use Rattle.orch_flight.specs.Operation.{Operation}
-use Rattle.orch_flight.specs.Taking.{to_list}
 use Rattle.registry_laws.specs.Ending.{ended_names}
 use Rattle.registry_laws.specs.Flown.{Flown, flight_of, group_in, group_to_build, group_to_take}
 use Rattle.registry_laws.specs.Flying.{HasStanding, IsFlown, IsGroupFlown, KnowsBoard, flown_as}

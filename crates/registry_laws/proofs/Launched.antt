@@ -1,7 +1,5 @@
 -- what a worker has under way when an operation has begun
-use Rattle.std.proofs.Common.{◌≡◌, ◌⊎◌, ◌∷◌, ◌++◌, ◌<◌, ◌∙◌, inl, inr, ℕ, Bool, true, false, if◌then◌else◌, List, [], Option, None, Some, option_map, Ok, refl, sym, ap, subst}
-use Rattle.std.proofs.lemmas.Bool.{false≢true}
-use Rattle.table_schema.specs.Names.{names_of}
+use Rattle.std.proofs.Common.{◌≡◌, ◌∷◌, ◌++◌, ◌∙◌, inl, inr, ℕ, Bool, true, false, if◌then◌else◌, List, [], Option, None, Some, option_map, refl, sym, ap, subst}
 use Rattle.table_schema.specs.Plan.{IsPlan, Ports}
 use Rattle.table_schema.specs.declared.key.Key.{Key}
 use Rattle.table_schema.specs.declared.key.Key.TheVariants as key
@@ -16,19 +14,16 @@ use Rattle.sai_types.specs.declared.thing.Goal.TheVariants as goal
 use Rattle.sai_types.specs.declared.thing.Thing.{Thing}
 use Rattle.sai_types.specs.declared.thing.Thing.TheVariants as thing
 use Rattle.sai_types.specs.Alike.{IsIn}
-use Rattle.sai_types.specs.Names.{name_of}
 use Rattle.swss_types.specs.declared.address.Prefix.{Prefix}
-use Rattle.switch_model.specs.Desired.{have_rows}
 use Rattle.switch_model.specs.Things.{base_of, hops_of, lane_of}
-use Rattle.row_layout.specs.Operations.{Change, Make, Set, make_all, own_changes, own_sets, same_thing, set_all, set_to, uses_of}
+use Rattle.row_layout.specs.Operations.{Change, Make, Set, make_all, own_changes, same_thing, set_all, set_to, uses_of}
 use Rattle.row_layout.specs.Rows as owner
 use Rattle.row_layout.specs.Rows.{Owner, from, goal_by, goal_of, own_things}
-use Rattle.row_layout.specs.Shared.{group_by, route_uses, shared_things, uses}
+use Rattle.row_layout.specs.Shared.{group_by, route_uses, uses}
 use Rattle.row_layout.proofs.Members.{from_in, only}
-use Rattle.switch_machine.specs.Changes.{changed_name}
 use Rattle.switch_machine.specs.Consistent.{IsConsistent}
-use Rattle.switch_machine.specs.Flights.{Fits, Flight, HasChangeOf, IsOwnedBy, IsResting, Machine, Runs, StandsIn, own_of}
-use Rattle.switch_machine.specs.Operations.{MayBegin, built_first}
+use Rattle.switch_machine.specs.Flights.{Fits, Flight, HasChangeOf, Machine, Runs, StandsIn}
+use Rattle.switch_machine.specs.Operations.{MayBegin}
 use Rattle.switch_machine.specs.Steps.{started}
 use Rattle.switch_machine.proofs.Beginning.{sound-begun}
 use Rattle.switch_machine.proofs.Equal.{thing-exact}
@@ -44,13 +39,13 @@ use Rattle.orch_flight.specs.Calling.{IsChangeFor}
 use Rattle.orch_flight.specs.Needing.{name_for, to_build}
 use Rattle.orch_flight.specs.Operation.{Operation}
 use Rattle.orch_flight.specs.Starting.{begun_names, built_here, first_due, leaving, started_by, started_names_by}
-use Rattle.registry_laws.specs.Flown.{built_in, flight_of, group_in, group_to_build, whole_group}
+use Rattle.registry_laws.specs.Flown.{built_in, group_in, group_to_build, whole_group}
 use Rattle.registry_laws.specs.Flying.{IsFlown, IsRestFrom, flown_as}
 use Rattle.registry_laws.specs.Known.{SharedStands}
 use Rattle.registry_laws.specs.Registers.{Registers, beginning, due_first, group_built}
 use Rattle.registry_laws.proofs.Apart.{built_apart}
 use Rattle.registry_laws.proofs.Aside.{building_is, built_some}
-use Rattle.registry_laws.proofs.Listing.{no_some, not_some, same_some}
+use Rattle.registry_laws.proofs.Listing.{no_some, not_some}
 use Rattle.registry_laws.proofs.Nexts.{next_later, next_now, runs_later}
 use Rattle.registry_laws.proofs.Rests.{AreInOrder, none_of_group, rest_order}
 use Rattle.registry_laws.proofs.Settled.{not_built, settled_by, settled_names_by, some_of_due}

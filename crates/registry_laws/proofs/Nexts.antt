@@ -1,6 +1,6 @@
 -- what the change that is due next is about
 use Rattle.std.proofs.Common.{◌≡◌, ◌⊎◌, ◌∷◌, ◌++◌, ◌∙◌, inl, inr, ℕ, List, [], Option, None, Some, refl, sym, ap, subst}
-use Rattle.table_schema.specs.Plan.{IsPlan, Ports, lanes_in_plan}
+use Rattle.table_schema.specs.Plan.{IsPlan, Ports}
 use Rattle.table_schema.specs.declared.key.Key.{Key}
 use Rattle.table_schema.specs.declared.key.Key.TheVariants as key
 use Rattle.table_schema.specs.declared.row.Row.{Row}
@@ -14,12 +14,10 @@ use Rattle.sai_types.specs.Named.{first_lane}
 use Rattle.sai_types.specs.Names as thing_name
 use Rattle.sai_types.specs.Names.{name_of}
 use Rattle.switch_model.specs.Things.{base_of, lane_of}
-use Rattle.row_layout.specs.Operations.{Change, Make, Set, Take, uses_of}
+use Rattle.row_layout.specs.Operations.{Change, Make, Set, Take}
 use Rattle.row_layout.specs.Rows as owner
 use Rattle.row_layout.specs.Rows.{Owner, from, goal_of, own_things}
-use Rattle.row_layout.specs.Shared.{shared_things}
-use Rattle.row_layout.proofs.Members.{from_in}
-use Rattle.switch_machine.specs.Changes.{IsSamePort, Resembles, after, changed_name}
+use Rattle.switch_machine.specs.Changes.{IsSamePort, Resembles, after}
 use Rattle.switch_machine.specs.Consistent.{IsConsistent}
 use Rattle.switch_machine.specs.Flights.{CanSet, CanTake, Fits, Flight, Goes, IsOwnedBy, IsRow, Machine, Runs, StandsIn, own_of}
 use Rattle.switch_machine.proofs.Running.{one_flight}
@@ -29,7 +27,7 @@ use Rattle.orch_flight.specs.Calling.{IsChangeFor, things_held, things_retired}
 use Rattle.orch_flight.specs.Operation.{Operation}
 use Rattle.registry_laws.specs.Flown.{flight_of}
 use Rattle.registry_laws.specs.Flying.{IsBetween}
-use Rattle.registry_laws.proofs.Listing.{in_left, in_right, no_some, not_some, same_some}
+use Rattle.registry_laws.proofs.Listing.{in_left, in_right, not_some, same_some}
 use Rattle.registry_laws.proofs.Rests.{AreInOrder}
 
 pub resembles_name : (u t : Thing) → Resembles u t → name_of u ≡ name_of t

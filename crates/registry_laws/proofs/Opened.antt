@@ -1,5 +1,5 @@
 -- what workers have under way stands for the machine when an operation has begun
-use Rattle.std.proofs.Common.{◌≡◌, ◌<◌, ◌∙◌, ℕ, true, List, [], Option, None, Some, Ok, refl, sym, ap, subst}
+use Rattle.std.proofs.Common.{◌≡◌, ◌<◌, ◌∙◌, ℕ, true, List, [], Option, None, Some, Ok, refl, sym, subst}
 use Rattle.table_schema.specs.Names.{names_of}
 use Rattle.table_schema.specs.Plan.{IsPlan, Ports}
 use Rattle.table_schema.specs.declared.key.Key.{Key}
@@ -18,7 +18,7 @@ use Rattle.orch_flight.specs.Operation.{Operation}
 use Rattle.orch_flight.specs.Starting.{IsStartedBy, begun_names, first_due, leaving}
 use Rattle.registry_laws.specs.Ending.{ended_names}
 use Rattle.registry_laws.specs.Flown.{Flown, due_for}
-use Rattle.registry_laws.specs.Flying.{IsFlown, KnowsBoard, flown_as, with_machine}
+use Rattle.registry_laws.specs.Flying.{KnowsBoard, flown_as, with_machine}
 use Rattle.registry_laws.specs.Registers.{AreUsed, Registers, beginning, due_first}
 use Rattle.registry_laws.proofs.Aside.{IsAside, aside_started, aside_then, board_with, board_without}
 use Rattle.registry_laws.proofs.Between.{due_started}

@@ -1,12 +1,11 @@
 -- what workers have under way stands for the machine when a change of a row's operation has taken effect
-use Rattle.std.proofs.Common.{◌≡◌, ◌⊎◌, ◌∷◌, ◌++◌, ◌∙◌, inl, inr, ℕ, List, [], Option, None, Some, option_map, refl, sym, ap, subst}
+use Rattle.std.proofs.Common.{◌≡◌, ◌⊎◌, ◌∷◌, ◌++◌, ◌∙◌, inl, inr, ℕ, List, [], Option, None, Some, refl, sym, ap, subst}
 use Rattle.table_schema.specs.Plan.{IsPlan, Ports, port_named}
 use Rattle.table_schema.specs.declared.key.Key.{Key}
 use Rattle.table_schema.specs.declared.key.Key.TheVariants as key
 use Rattle.table_schema.specs.declared.row.PortRow.{PortRow}
 use Rattle.table_schema.specs.declared.row.Row.{Row}
 use Rattle.table_schema.specs.declared.row.Row.TheVariants as row
-use Rattle.sai_types.specs.declared.hop.Hop.{Hop}
 use Rattle.sai_types.specs.declared.ids.Rid.{Rid}
 use Rattle.sai_types.specs.declared.ids.Vid.{Vid}
 use Rattle.sai_types.specs.declared.thing.Thing.{Thing}
@@ -21,26 +20,23 @@ use Rattle.row_layout.proofs.Members.{from_in, only}
 use Rattle.switch_machine.specs.Changes.{IsSamePort, Resembles, after, changed_name}
 use Rattle.switch_machine.specs.Consistent.{IsConsistent}
 use Rattle.switch_machine.specs.Events.{Follows}
-use Rattle.switch_machine.specs.Flights.{Can, CanSet, Fits, Flight, HasChangeOf, IsOwnedBy, Machine, Runs, StandsIn, own_of, put}
+use Rattle.switch_machine.specs.Flights.{Can, CanSet, Fits, Flight, Machine, Runs, StandsIn, own_of, put}
 use Rattle.switch_machine.specs.Operations.{built_first}
 use Rattle.switch_machine.specs.Steps.{Moves, moved}
 use Rattle.switch_machine.proofs.Moving.{fit_of, sound-moved}
 use Rattle.switch_machine.proofs.Running.{row_keys}
 use Rattle.switch_machine.proofs.Splits.{own_row_in, put_at}
 use Rattle.switch_machine.proofs.Tabled.{tabled}
-use Rattle.ref_counts.specs.declared.name.Name.TheVariants as name
 use Rattle.ref_counts.specs.Registry as registry
 use Rattle.ref_counts.specs.Registry.{state_of}
 use Rattle.ref_counts.specs.Room.{GivesBack, RoomState}
-use Rattle.orch_flight.specs.Calling.{IsOver}
 use Rattle.orch_flight.specs.Operation.{Operation}
 use Rattle.orch_flight.specs.Starting.{built_here, taken_here}
 use Rattle.orch_flight.specs.Taking.{IsTook, names_after, names_by, now_after, operation_by, row_set}
-use Rattle.registry_laws.specs.Answering.{IsOfGroup, MakesRowLive}
+use Rattle.registry_laws.specs.Answering.{MakesRowLive}
 use Rattle.registry_laws.specs.Ending.{ended_names}
 use Rattle.registry_laws.specs.Flown.{Flown, due_for, flight_of, group_to_build, group_to_take}
 use Rattle.registry_laws.specs.Flying.{HasStanding, IsBetween, IsFlown, IsRestFrom, IsRestOf, KnowsBoard, flown_as}
-use Rattle.registry_laws.specs.Known.{SharedStands}
 use Rattle.registry_laws.specs.Registers.{OthersHaveDue, Registers}
 use Rattle.registry_laws.proofs.Answered.{registers_answered}
 use Rattle.registry_laws.proofs.Aside.{IsAside, aside_moved, aside_then, board_with, board_without}

@@ -1,6 +1,5 @@
 -- the changes that are left of a row's operation, in their order
-use Rattle.std.proofs.Common.{◌≡◌, ◌⊎◌, ◌∷◌, ◌++◌, ◌∙◌, inl, inr, ℕ, Bool, true, false, cond, List, [], Option, None, Some, option_map, refl, sym, ap, subst, if◌then◌else◌}
-use Rattle.swss_types.specs.declared.address.Mac.{Mac}
+use Rattle.std.proofs.Common.{◌≡◌, ◌⊎◌, ◌∷◌, ◌++◌, ◌∙◌, inl, inr, ℕ, Bool, true, false, List, [], Option, None, Some, option_map, refl, sym, ap, subst, if◌then◌else◌}
 use Rattle.table_schema.specs.Plan.{IsPlan, Ports}
 use Rattle.table_schema.specs.declared.key.Key.{Key}
 use Rattle.table_schema.specs.declared.key.Key.TheVariants as key
@@ -15,7 +14,7 @@ use Rattle.sai_types.specs.Named.{first_lane}
 use Rattle.sai_types.specs.Names as thing_name
 use Rattle.sai_types.specs.Names.{name_of}
 use Rattle.switch_model.specs.Things.{base_of, lane_of}
-use Rattle.row_layout.specs.Operations.{Change, Make, Set, Take, going, make_all, own_changes, own_sets, port_with, same_thing, set_all, set_to, shared_going, take_all}
+use Rattle.row_layout.specs.Operations.{Change, Make, Set, Take, going, make_all, own_changes, own_sets, port_with, same_thing, set_all, set_to, take_all}
 use Rattle.row_layout.specs.Rows as owner
 use Rattle.row_layout.specs.Rows.{Owner, from, goal_of, own_things}
 use Rattle.row_layout.proofs.Changing.{set_same}
@@ -29,7 +28,7 @@ use Rattle.switch_machine.proofs.Tabled.{tabled}
 use Rattle.orch_flight.specs.Operation.{Operation}
 use Rattle.orch_flight.specs.Starting.{built_here, taken_here}
 use Rattle.registry_laws.specs.Answering.{IsOfGroup}
-use Rattle.registry_laws.specs.Flying.{IsRestFrom, IsRestOf}
+use Rattle.registry_laws.specs.Flying.{IsRestFrom}
 use Rattle.registry_laws.proofs.Listing.{no_some}
 
 -- one thing at most

@@ -1,31 +1,26 @@
 -- what follows in an event: a change is due, the operation leaves what it shared, or it ends
 use Rattle.std.proofs.Common.{◌≡◌, ◌⊎◌, ◌∷◌, ◌++◌, ◌∙◌, inl, inr, ℕ, List, [], Option, None, Some, refl, sym, ap, subst}
-use Rattle.table_schema.specs.Fields.{HasRisingKeys}
 use Rattle.table_schema.specs.Plan.{IsPlan, Ports}
-use Rattle.table_schema.specs.declared.key.Key.{Key}
-use Rattle.table_schema.specs.declared.row.Row.{Row}
 use Rattle.sai_types.specs.declared.hop.Hop.{Hop}
-use Rattle.sai_types.specs.declared.thing.Thing.{Thing}
 use Rattle.sai_types.specs.declared.thing.Thing.TheVariants as thing
 use Rattle.sai_types.specs.Alike.{IsIn}
 use Rattle.sai_types.specs.Names.{name_of}
-use Rattle.row_layout.specs.Operations.{Change, Take, shared_going, take_all, uses_of}
+use Rattle.row_layout.specs.Operations.{Change, shared_going, take_all, uses_of}
 use Rattle.row_layout.specs.Rows as owner
 use Rattle.row_layout.specs.Rows.{Owner, owner_of}
 use Rattle.switch_machine.specs.Changes.{changed_name}
 use Rattle.switch_machine.specs.Consistent.{IsConsistent}
 use Rattle.switch_machine.specs.Events.{Due, Ended, Follows, Left, Retires}
-use Rattle.switch_machine.specs.Flights.{Flight, HasChangeOf, IsOwnedBy, IsShared, Machine, StandsIn, own_of}
+use Rattle.switch_machine.specs.Flights.{Flight, HasChangeOf, IsOwnedBy, IsShared, Machine, own_of}
 use Rattle.switch_machine.specs.Operations.{IsLast}
 use Rattle.switch_machine.specs.Steps.{Ends, Leaves, LeavesOthers, finished, left, parted}
 use Rattle.switch_machine.proofs.Beginning.{sound-retired}
 use Rattle.switch_machine.proofs.Ending.{sound-ended}
 use Rattle.switch_machine.proofs.Leaving.{sound-left}
-use Rattle.switch_machine.proofs.Running.{one_flight, one_owner, shared_row, some_owner}
+use Rattle.switch_machine.proofs.Running.{one_flight, one_owner, shared_row}
 use Rattle.switch_machine.proofs.Splits.{put_at}
 use Rattle.switch_machine.proofs.Tabled.{are_shared_by, tabled}
 use Rattle.ref_counts.specs.declared.name.Name.TheVariants as name
-use Rattle.ref_counts.specs.declared.name.NameState.TheVariants as state
 use Rattle.ref_counts.specs.Registry as registry
 use Rattle.ref_counts.specs.Registry.{state_of}
 use Rattle.ref_counts.specs.Room.{GivesBack, RoomState}
@@ -39,12 +34,12 @@ use Rattle.registry_laws.specs.Flying.{IsFlown, flown_as}
 use Rattle.registry_laws.specs.Known.{SharedStands}
 use Rattle.registry_laws.specs.Registers.{HaveDue, OthersHaveDue, Registers, group_taken}
 use Rattle.registry_laws.proofs.Apart.{taken_apart}
-use Rattle.registry_laws.proofs.Aside.{IsAside, aside_finished, aside_left, aside_then, built_none, built_state, now_owned}
+use Rattle.registry_laws.proofs.Aside.{IsAside, aside_finished, aside_left, aside_then, built_none, now_owned}
 use Rattle.registry_laws.proofs.Between.{due_follows}
 use Rattle.registry_laws.proofs.Ended.{registers_ended}
 use Rattle.registry_laws.proofs.Fine.{AreFine, ended_fine, left_fine}
 use Rattle.registry_laws.proofs.Left.{parts}
-use Rattle.registry_laws.proofs.Listing.{in_right, no_some, not_some, nothing_after, same_some}
+use Rattle.registry_laws.proofs.Listing.{in_right, no_some, not_some}
 use Rattle.registry_laws.proofs.Parting as parting
 use Rattle.registry_laws.proofs.Taking.{row_due}
 
@@ -137,8 +132,7 @@ module _ (plan : Ports) (is : IsPlan plan) (capacities : List ℕ) (m : Machine)
       by : (due : List Change) → m.due w ≡ due → (t : Machine) × IsLater plan capacities w m t names room × IsFlown plan names t w (flown_as p None)
       by [] e = absurd (some (sym y.due ∙ e))
       by (c ∷ cs) e =
-          let follows : Follows plan w m m = Due c cs e in
-          (
+          let follows : Follows plan w m m = Due c cs e in (
             m,
             record {
               follows = follows;
@@ -156,8 +150,7 @@ module _ (plan : Ports) (is : IsPlan plan) (capacities : List ℕ) (m : Machine)
   ended : (room' : RoomState) → m.due w ≡ [] → p.leaves ≡ None → GivesBack room w room' → (t : Machine) × IsLater plan capacities w m t (ended_names names w p.key (m.board.applied p.key) p.new) room' × (t.board.flights w ≡ None)
   ended room' none leaves gives =
       let ends : Ends m w f = record { flying = y.flying; done = none; left = leaves } in
-      let follows : Follows plan w m (finished m w f) = Ended f ends in
-      (
+      let follows : Follows plan w m (finished m w f) = Ended f ends in (
         finished m w f,
         record {
           follows = follows;
@@ -294,8 +287,7 @@ module _ (plan : Ports) (is : IsPlan plan) (capacities : List ℕ) (m : Machine)
 
         over : Over (after None) names_left
         over room' _ gives =
-            let follows : Follows plan w m (finished apart w (parted f f.retires)) = Left f o others in
-            (
+            let follows : Follows plan w m (finished apart w (parted f f.retires)) = Left f o others in (
               finished apart w (parted f f.retires),
               record {
                 follows = follows;

@@ -8,7 +8,6 @@ use Rattle.swss_types.specs.declared.interface.IfName.{IfName}
 use Rattle.swss_types.specs.declared.interface.IfName.TheVariants as on
 use Rattle.sai_types.specs.declared.hop.Base.{Base}
 use Rattle.sai_types.specs.declared.hop.Base.TheVariants as base
-use Rattle.sai_types.specs.declared.hop.Hop.{Hop}
 use Rattle.sai_types.specs.declared.ids.Vid.{Vid}
 use Rattle.sai_types.specs.declared.thing.Thing.{Thing}
 use Rattle.sai_types.specs.declared.thing.Thing.TheVariants as thing
@@ -26,7 +25,7 @@ use Rattle.switch_machine.specs.Flights.{CanMake, Concerns, Fits, Flight, HasCha
 use Rattle.switch_machine.specs.Tables.{AreNamedApart}
 use Rattle.switch_machine.proofs.Moving.{fit_of, used_shared}
 use Rattle.switch_machine.proofs.Ordered.{ordered}
-use Rattle.switch_machine.proofs.Running.{one_flight, one_owner, row_keys, shared_of, shared_row}
+use Rattle.switch_machine.proofs.Running.{one_owner, row_keys, shared_of, shared_row}
 use Rattle.switch_machine.proofs.Splits.{in_both, own_row_in, use_row_in}
 use Rattle.switch_machine.proofs.Tabled.{are_shared_by, tabled}
 use Rattle.ref_counts.specs.declared.name.Name.{Name}
@@ -47,8 +46,8 @@ use Rattle.registry_laws.specs.Flying.{IsFlown, IsGroupFlown, KnowsBoard}
 use Rattle.registry_laws.specs.Known.{RowStands, SharedStands}
 use Rattle.registry_laws.proofs.Answered.{IsRowName, mapped_row, some_row}
 use Rattle.registry_laws.proofs.Aside.{building_is, built_state, retiring_is}
-use Rattle.registry_laws.proofs.Grouped.{built_use, taken_group}
-use Rattle.registry_laws.proofs.Listing.{in_left, in_right, mapped, no_some, not_some, same_some}
+use Rattle.registry_laws.proofs.Grouped.{taken_group}
+use Rattle.registry_laws.proofs.Listing.{in_left, in_right, mapped, not_some, same_some}
 use Rattle.registry_laws.proofs.Rests.{AreInOrder, rest_order}
 use Rattle.registry_laws.proofs.Telling.{touched-concern}
 
