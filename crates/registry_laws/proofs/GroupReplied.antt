@@ -1,12 +1,13 @@
 -- what workers have under way stands for the machine when a change of a group has taken effect
-use Rattle.std.proofs.Common.{◌≡◌, ◌⊎◌, ◌∷◌, ◌++◌, ◌∙◌, inl, inr, ℕ, suc, Bool, true, false, List, [], length, Option, None, Some, is_some, if◌then◌else◌, refl, sym, ap, subst}
+use Rattle.std.proofs.Common.{arith, ◌≡◌, ◌⊎◌, ◌∷◌, ◌++◌, ◌∙◌, inl, inr, ℕ, suc, Bool, true, false, List, [], length, Option, None, Some, is_some, if◌then◌else◌, refl, sym, ap, subst}
+use Rattle.std.proofs.lemmas.List.{append_assoc, length-append}
 use Rattle.table_schema.specs.Plan.{IsPlan, Ports}
 use Rattle.sai_types.specs.declared.hop.Hop.{Hop}
 use Rattle.sai_types.specs.declared.ids.Rid.{Rid}
 use Rattle.sai_types.specs.declared.ids.Vid.{Vid}
 use Rattle.sai_types.specs.declared.thing.Thing.{Thing}
 use Rattle.sai_types.specs.Alike.{IsIn}
-use Rattle.row_layout.specs.Operations.{Change, Make, make_all, uses_of}
+use Rattle.row_layout.specs.Operations.{Change, uses_of}
 use Rattle.row_layout.specs.Rows as owner
 use Rattle.row_layout.specs.Rows.{Owner}
 use Rattle.row_layout.specs.Shared.{shared_things}
@@ -40,24 +41,18 @@ use Rattle.registry_laws.proofs.Grouped.{taken_group}
 use Rattle.registry_laws.proofs.Listing.{in_left, in_right, no_some, not_some, same_some}
 use Rattle.registry_laws.proofs.Moved.{gone_moved, same_moved, shared_moved}
 use Rattle.registry_laws.proofs.Parting.{removals_of}
-use Rattle.registry_laws.proofs.Replied.{append_one, same_first, same_rest}
+use Rattle.registry_laws.proofs.Replied.{same_first, same_rest}
 use Rattle.registry_laws.proofs.Rests.{none_of_group, rest_order}
 use Rattle.registry_laws.proofs.Settled.{not_built, some_of_due}
-use Rattle.registry_laws.proofs.Taking.{group_due, row_due}
-
-made_of : (ts : List Thing) (c : Change) → IsIn c (make_all ts []) → (t : Thing) × IsIn t ts × (c ≡ Make t)
-made_of [] c h = elim h [ ]
-made_of (t ∷ ts) c (inl e) = (t, inl refl, e)
-made_of (t ∷ ts) c (inr h) = let x = made_of ts c h in (x.0, inr x.1, x.2)
+use Rattle.registry_laws.proofs.Taking.{group_due, made_in, row_due}
 
 length_one : {X : Type 0} (xs : List X) (x : X) → length (xs ++ x ∷ []) ≡ suc (length xs)
-length_one [] x = refl
-length_one (y ∷ xs) x = ap suc (length_one xs x)
+length_one xs x = let e = length-append xs (x ∷ []) in omega (arith, e)
 
 -- the changes of a group are of it
 group_own : (plan : Ports) (is : IsPlan plan) (hops : List Hop) (b : Bool) (c : Change) → IsIn c (first_group_due hops b) → IsOwnedBy plan (changed_name c) (owner.Group hops)
 group_own plan is hops true c h =
-    let x = made_of (shared_things (owner.Group hops)) c h in
+    let x = made_in (shared_things (owner.Group hops)) c h in
     subst (λ z. IsOwnedBy plan (changed_name z) (owner.Group hops)) (sym x.2) ((tabled plan is).shared (owner.Group hops) x.0 x.1)
 group_own plan is hops false c h = removals_of plan is (owner.Group hops) c h
 
@@ -172,7 +167,7 @@ module _ (plan : Ports) (is : IsPlan plan) (capacities : List ℕ) (m : Machine)
       is = z.is;
       over = z.over;
       some = λ e. some_of_due d ds (sym more ∙ e);
-      rest = (z.rest.0 ++ took.change ∷ [], z.rest.1 ∙ ap (λ l. z.rest.0 ++ l) took.due ∙ append_one z.rest.0 took.change took.rest, counted);
+      rest = (z.rest.0 ++ took.change ∷ [], z.rest.1 ∙ ap (λ l. z.rest.0 ++ l) took.due ∙ sym (append_assoc z.rest.0 (took.change ∷ []) took.rest), counted);
     }
 
     now_flown : IsFlown plan names later w (flown_as p (Some next_part))

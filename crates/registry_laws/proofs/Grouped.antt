@@ -103,7 +103,7 @@ take_some : {X : Type 0} (ts : List Thing) (t : Thing) → take_all (ts ++ t ∷
 take_some [] t h = absurd cc
 take_some (x ∷ ts) t h = absurd cc
 
-first_some : (hops : List Hop) (b : Bool) → first_group_due hops b ≡ [] → ⊥
+pub first_some : (hops : List Hop) (b : Bool) → first_group_due hops b ≡ [] → ⊥
 first_some hops true h = cc
 first_some hops false h = take_some (members_of hops hops) (thing.Group hops) h
 

@@ -4,6 +4,7 @@ pub mod Apart
 pub mod Aside
 pub mod Begun
 pub mod Between
+pub mod Dues
 pub mod Ended
 pub mod Fine
 pub mod Finding

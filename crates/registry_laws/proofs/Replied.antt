@@ -1,5 +1,6 @@
 -- what workers have under way stands for the machine when a change of a row's operation has taken effect
 use Rattle.std.proofs.Common.{◌≡◌, ◌⊎◌, ◌∷◌, ◌++◌, ◌∙◌, inl, inr, ℕ, List, [], Option, None, Some, refl, sym, ap, subst}
+use Rattle.std.proofs.lemmas.List.{append_assoc}
 use Rattle.table_schema.specs.Plan.{IsPlan, Ports, port_named}
 use Rattle.table_schema.specs.declared.key.Key.{Key}
 use Rattle.table_schema.specs.declared.key.Key.TheVariants as key
@@ -51,12 +52,8 @@ use Rattle.registry_laws.proofs.Taking.{row_due}
 
 -- ---- lists of changes
 
-pub append_one : {X : Type 0} (xs : List X) (x : X) (ys : List X) → xs ++ x ∷ ys ≡ (xs ++ x ∷ []) ++ ys
-append_one [] x ys = refl
-append_one (z ∷ xs) x ys = ap (λ l. z ∷ l) (append_one xs x ys)
-
 pub rest_next : (all due : List Change) (c : Change) (cs : List Change) → due ≡ c ∷ cs → IsRestOf all due → IsRestOf all cs
-rest_next all due c cs e (before, h) = (before ++ c ∷ [], h ∙ ap (λ l. before ++ l) e ∙ append_one before c cs)
+rest_next all due c cs e (before, h) = (before ++ c ∷ [], h ∙ ap (λ l. before ++ l) e ∙ sym (append_assoc before (c ∷ []) cs))
 
 pub same_first : {X : Type 0} (x y : X) (xs ys : List X) → x ∷ xs ≡ y ∷ ys → x ≡ y
 same_first x y xs ys h = cc

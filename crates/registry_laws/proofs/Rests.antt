@@ -30,6 +30,7 @@ use Rattle.orch_flight.specs.Starting.{built_here, taken_here}
 use Rattle.registry_laws.specs.Answering.{IsOfGroup}
 use Rattle.registry_laws.specs.Flying.{IsRestFrom}
 use Rattle.registry_laws.proofs.Listing.{no_some}
+use Rattle.registry_laws.proofs.Parting.{taken_in}
 
 -- one thing at most
 abbrev IsSmall : List Thing → Type 0
@@ -83,16 +84,11 @@ module _ (plan : Ports) (k : Key) (old : Option Row) where
 
   -- ---- things are taken away
 
-  taken_name : (ts : List Thing) (c : Change) → IsIn c (take_all ts []) → (t : Thing) × IsIn t ts × (changed_name c ≡ name_of t)
-  taken_name [] c h = elim h [ ]
-  taken_name (t ∷ ts) c (inl e) = (t, inl refl, ap changed_name e)
-  taken_name (t ∷ ts) c (inr h) = let x = taken_name ts c h in (x.0, inr x.1, x.2)
-
   take_order : (ts : List Thing) → AreNamedApart ts → ((t : Thing) → IsIn t ts → IsOther (Take (name_of t))) → AreInOrder (take_all ts [])
   take_order [] apart other = tt
   take_order (t ∷ ts) apart other = (
     other t (inl refl),
-    (λ d h e. let x = taken_name ts d h in apart.0 x.0 x.1 (sym x.2 ∙ e)),
+    (λ d h e. let x = taken_in ts d h in apart.0 x.0 x.1 (sym (ap changed_name x.2) ∙ e)),
     take_order ts apart.1 (λ u h. other u (inr h)),
   )
 

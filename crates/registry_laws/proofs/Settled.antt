@@ -70,7 +70,7 @@ pub record IsLater (plan : Ports) (capacities : List ℕ) (w : ℕ) (m t : Machi
   pub busy : HaveDue t
   pub fine : AreFine names
 
-nothing_behind : {X : Type 0} (xs ys : List X) → xs ++ ys ≡ [] → ys ≡ []
+pub nothing_behind : {X : Type 0} (xs ys : List X) → xs ++ ys ≡ [] → ys ≡ []
 nothing_behind [] ys e = e
 nothing_behind (x ∷ xs) ys e = absurd cc
 

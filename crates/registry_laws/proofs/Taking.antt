@@ -71,10 +71,10 @@ named_one (x ∷ ts) apart t u (inl a) (inr j) e = absurd (apart.0 u j (sym e �
 named_one (x ∷ ts) apart t u (inr i) (inl b) e = absurd (apart.0 t i (e ∙ ap name_of b))
 named_one (x ∷ ts) apart t u (inr i) (inr j) e = named_one ts apart.1 t u i j e
 
-made_in : (ts : List Thing) (c : Change) → IsIn c (make_all ts []) → (t : Thing) × (c ≡ Make t)
+pub made_in : (ts : List Thing) (c : Change) → IsIn c (make_all ts []) → (t : Thing) × IsIn t ts × (c ≡ Make t)
 made_in [] c h = elim h [ ]
-made_in (t ∷ ts) c (inl e) = (t, e)
-made_in (t ∷ ts) c (inr h) = made_in ts c h
+made_in (t ∷ ts) c (inl e) = (t, inl refl, e)
+made_in (t ∷ ts) c (inr h) = let x = made_in ts c h in (x.0, inr x.1, x.2)
 
 disturbed_name : (c : Change) (n : thing_name.Name) → Disturbs c n → changed_name c ≡ n
 disturbed_name (Make t) n h = elim h [ ]
@@ -325,4 +325,4 @@ module _ (plan : Ports) (is : IsPlan plan) (capacities : List ℕ) (names : regi
         by (inl builds) =
             let all : first_group_due part.hops true ≡ z.rest.0 ++ c ∷ rest = ap (first_group_due part.hops) (sym builds.0) ∙ z.rest.1 ∙ ap (λ l. z.rest.0 ++ l) due in
             let made = made_in (shared_things (owner.Group part.hops)) c (subst (IsIn c) (sym all) (in_right c z.rest.0 (c ∷ rest) (inl refl))) in
-            absurd (subst (λ d. Disturbs d (name_of t)) made.1 h)
+            absurd (subst (λ d. Disturbs d (name_of t)) made.2 h)

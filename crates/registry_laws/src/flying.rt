@@ -40,6 +40,13 @@ pub fn nothing_is_flown()
     ensures { (plan : Ports) (capacities : List ℕ) → KnowsBoard plan capacities [] (all_free capacities) (λ w. None) empty_machine }
 {}
 
+/// Nothing is due for an operation where no change of its own is left and it has no group to build or to take away, and only
+/// there.
+pub fn due_changes_are_told()
+    ensures none { (plan : Ports) (names : Names) (f : Operation) → f.due ≡ [] → group_to_build plan names f ≡ None → group_to_take f ≡ None → due_for plan names (flown_as f None) ≡ [] }
+    ensures only { (plan : Ports) (names : Names) (f : Operation) → due_for plan names (flown_as f None) ≡ [] → (f.due ≡ []) × (group_to_build plan names f ≡ None) × (group_to_take f ≡ None) }
+{}
+
 /// A worker that has nothing under way may start the operation of a key that no operation has and whose good row differs from
 /// its applied row.
 pub fn starts_are_allowed()

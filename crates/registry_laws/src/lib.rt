@@ -6,8 +6,8 @@ mod flying;
 mod laws;
 
 pub use flying::{
-    answers_are_known, answers_may_be_taken, begins_are_known, groups_begin, nothing_is_flown,
-    starts_are_allowed,
+    answers_are_known, answers_may_be_taken, begins_are_known, due_changes_are_told, groups_begin,
+    nothing_is_flown, starts_are_allowed,
 };
 pub use laws::{
     answers_are_registered, ends_are_registered, groups_are_apart, leaves_are_registered,
