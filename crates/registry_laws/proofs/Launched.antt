@@ -35,7 +35,7 @@ use Rattle.ref_counts.specs.declared.name.NameState.TheVariants as state
 use Rattle.ref_counts.specs.Registry as registry
 use Rattle.ref_counts.specs.Registry.{state_of}
 use Rattle.ref_counts.specs.Room.{RoomState}
-use Rattle.orch_flight.specs.Calling.{IsChangeFor}
+use Rattle.orch_flight.specs.Calling.{IsChangeFor, SetsTo}
 use Rattle.orch_flight.specs.Needing.{name_for, to_build}
 use Rattle.orch_flight.specs.Operation.{Operation}
 use Rattle.orch_flight.specs.Starting.{begun_names, built_here, first_due, leaving, started_by, started_names_by}
@@ -46,7 +46,7 @@ use Rattle.registry_laws.specs.Registers.{Registers, beginning, due_first, group
 use Rattle.registry_laws.proofs.Apart.{built_apart}
 use Rattle.registry_laws.proofs.Aside.{building_is, built_some}
 use Rattle.registry_laws.proofs.Listing.{no_some, not_some}
-use Rattle.registry_laws.proofs.Nexts.{next_later, next_now, runs_later}
+use Rattle.registry_laws.proofs.Nexts.{next_later, next_now, runs_later, sets_by}
 use Rattle.registry_laws.proofs.Rests.{AreInOrder, none_of_group, rest_order}
 use Rattle.registry_laws.proofs.Settled.{not_built, settled_by, settled_names_by, some_of_due}
 use Rattle.registry_laws.proofs.Sharing.{absent_first}
@@ -226,12 +226,15 @@ module _ (plan : Ports) (is : IsPlan plan) (capacities : List ℕ) (m : Machine)
           let nothing : builds ≡ None = ap (to_build plan names k) e in
           next_now plan is later sound' w first here old_fits (inl refl) own in_order (subst (λ b. Runs plan f (StandsIn later) (group_built b ++ own)) nothing now_runs)
 
+  sets : SetsTo plan first own
+  sets = let runs = runs_later plan f (group_built builds) own (StandsIn later) now_runs in sets_by plan first runs.0 own runs.1
+
   pub first_flown : IsFlown plan names' later w (flown_as first None)
   first_flown = record {
     flying = here;
     worker = refl;
     due = due_is ∙ ap (λ g. g ++ own) (sym (group_is builds refl));
-    over = record { plans = is; now = old_fits; new = begins.fit; next = next };
+    over = record { plans = is; now = old_fits; new = begins.fit; next = next; sets = sets };
     some = differs;
     rest = rest;
     between = inl refl;

@@ -23,8 +23,9 @@ use Rattle.switch_machine.specs.Flights.{CanSet, CanTake, Fits, Flight, Goes, Is
 use Rattle.switch_machine.proofs.Running.{one_flight}
 use Rattle.switch_machine.proofs.Splits.{own_row_in}
 use Rattle.switch_machine.proofs.Tabled.{are_shared_by}
-use Rattle.orch_flight.specs.Calling.{IsChangeFor, things_held, things_retired}
+use Rattle.orch_flight.specs.Calling.{IsChangeFor, SetsTo, things_held, things_retired}
 use Rattle.orch_flight.specs.Operation.{Operation}
+use Rattle.orch_flight.specs.Starting.{taken_here}
 use Rattle.registry_laws.specs.Flown.{flight_of}
 use Rattle.registry_laws.specs.Flying.{IsBetween}
 use Rattle.registry_laws.proofs.Listing.{in_left, in_right, not_some, same_some}
@@ -167,3 +168,18 @@ module _ (plan : Ports) (is : IsPlan plan) (m : Machine) (sound : IsConsistent p
   next_now (Make t ∷ cs) order runs = runs.0.final
   next_now (Set u ∷ cs) order runs = set_for (StandsIn m) u cs order.1.0 runs.0
   next_now (Take n ∷ cs) order runs = take_for n cs runs.0
+
+-- ---- what is set is a thing of the new row
+
+pub sets_by : (plan : Ports) (f : Operation) (view : Thing → Type 0) (cs : List Change) → Runs plan (flight_of f) view cs → SetsTo plan f cs
+sets_by plan f view [] h = tt
+sets_by plan f view (Make t ∷ cs) h = tt
+sets_by plan f view (Set u ∷ cs) h = (h.0.like, h.0.final, h.0.resembles)
+sets_by plan f view (Take n ∷ cs) h = tt
+
+pub taken_sets : (plan : Ports) (f : Operation) (o : Option Owner) → SetsTo plan f (taken_here o)
+taken_sets plan f None = tt
+taken_sets plan f (Some (owner.OfRow k)) = tt
+taken_sets plan f (Some (owner.Bridge lane)) = tt
+taken_sets plan f (Some (owner.Own ip)) = tt
+taken_sets plan f (Some (owner.Group hops)) = tt

@@ -45,7 +45,7 @@ use Rattle.registry_laws.proofs.Between.{due_moved}
 use Rattle.registry_laws.proofs.Fine.{AreFine, after_fine, fine_of}
 use Rattle.registry_laws.proofs.Lasting.{lasting}
 use Rattle.registry_laws.proofs.Listing.{in_right, mapped, no_some, not_some, same_some}
-use Rattle.registry_laws.proofs.Nexts.{next_now}
+use Rattle.registry_laws.proofs.Nexts.{next_now, sets_by}
 use Rattle.registry_laws.proofs.Rests.{AreInOrder, IsPort, none_of_group, rest_order}
 use Rattle.registry_laws.proofs.Settled.{Both, IsLater, both, not_built, settled, settled_by, settled_names, settled_names_by}
 use Rattle.registry_laws.proofs.Taking.{row_due}
@@ -242,6 +242,7 @@ module _ (plan : Ports) (is : IsPlan plan) (capacities : List ℕ) (m : Machine)
       now = now_fits;
       new = new_fits;
       next = next_now plan is later sound' w now moves.flying now_fits between cs in_order.2 (subst (Runs plan g (StandsIn later)) due_now (sound'.runs w g moves.flying));
+      sets = sets_by plan now (StandsIn later) cs (subst (Runs plan g (StandsIn later)) due_now (sound'.runs w g moves.flying));
     };
     some = y.some;
     rest = rest;

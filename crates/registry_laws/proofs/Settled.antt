@@ -33,6 +33,7 @@ use Rattle.registry_laws.specs.Flown.{built_in, due_for, flight_of, group_in, gr
 use Rattle.registry_laws.specs.Flying.{IsFlown, flown_as}
 use Rattle.registry_laws.specs.Known.{SharedStands}
 use Rattle.registry_laws.specs.Registers.{HaveDue, OthersHaveDue, Registers, group_taken}
+use Rattle.registry_laws.proofs.Nexts.{taken_sets}
 use Rattle.registry_laws.proofs.Apart.{taken_apart}
 use Rattle.registry_laws.proofs.Aside.{IsAside, aside_finished, aside_left, aside_then, built_none, now_owned}
 use Rattle.registry_laws.proofs.Between.{due_follows}
@@ -208,7 +209,7 @@ module _ (plan : Ports) (is : IsPlan plan) (capacities : List ℕ) (m : Machine)
       flying = here_gone;
       worker = refl;
       due = due_gone ∙ taken_apart o ∙ ap (λ g. g ++ taken_here (Some o)) (group_of o) ∙ sym (ap (λ b. whole_group b (group_in (o ∷ [])) ++ taken_here (Some o)) not_now);
-      over = record { plans = is; now = y.over.now; new = y.over.new; next = taken_for plan (after (Some o)) (Some o) refl };
+      over = record { plans = is; now = y.over.now; new = y.over.new; next = taken_for plan (after (Some o)) (Some o) refl; sets = taken_sets plan (after (Some o)) (Some o) };
       some = y.some;
       rest = inr ([], refl);
       between = y.between;
