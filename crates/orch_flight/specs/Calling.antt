@@ -84,10 +84,15 @@ entry_by id (body.Neighbor rif ip mac) = entry.Neigh rif ip
 entry_by id (body.Route prefix to) = entry.Route prefix
 entry_by id b = entry.Oid id
 
+-- of all entries that of a neighbour alone has the identifier of what the thing refers to
+abbrev pub IsEnteredBy : Thing → Type 0
+IsEnteredBy (thing.Neighbor hop mac) = Unit {0}
+IsEnteredBy t = ⊥
+
 -- a thing that stands, with its entry
 pub record IsEntryOf (at : thing_name.Name → Vid → Type 0) (t : Thing) (e : Entry Vid) : Type 0 where
   pub body : Body Vid
-  pub of : IsBody at t body
+  pub of : IsBody (λ n v. IsEnteredBy t → at n v) t body
   pub id : Vid
   pub numbered : has_number t ≡ true → at (name_of t) id
   pub is : e ≡ entry_by id body
