@@ -65,7 +65,7 @@ fn bridge_of(plan: &PortPlan, port: u32) -> Option<Name>
 }
 
 /// An interface's address as the switch's own, unless the interface is on a port that is not in the plan.
-fn own_of(plan: &PortPlan, on: IfName, ip: Ip) -> Option<Name>
+pub fn own_of(plan: &PortPlan, on: IfName, ip: Ip) -> Option<Name>
     ensures value { address_uses plan.now on ip ≡ owners_of result }
     ensures kind { AreOfShared result }
 {

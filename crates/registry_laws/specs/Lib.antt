@@ -3,3 +3,4 @@ pub mod Registers
 pub mod Ending
 pub mod Answering
 pub mod Flown
+pub mod Flying

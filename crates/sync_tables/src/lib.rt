@@ -1,0 +1,10 @@
+//! The application tables as the core has them: the rows, the writes that wait to be popped, and the keys that are to be
+//! brought to the chip.
+#![tactic(auto)]
+
+mod laws;
+mod merging;
+mod tables;
+
+pub use laws::{popped_tables_wait_for_nothing, writes_are_taken};
+pub use tables::Tables;
