@@ -53,8 +53,8 @@ pub fn shared(
     }
 }
 
-/// The bridge port of a port of the plan.
-fn bridge_of(plan: &PortPlan, port: u32) -> Option<Name>
+/// The bridge port of a port: None exactly where the plan has no such port.
+pub fn bridge_of(plan: &PortPlan, port: u32) -> Option<Name>
     ensures value { from (lane_of plan.now port) (λ lane. Bridge lane ∷ []) ≡ owners_of result }
     ensures kind { AreOfShared result }
 {
