@@ -6,5 +6,8 @@ mod laws;
 mod merging;
 mod tables;
 
-pub use laws::{popped_tables_wait_for_nothing, writes_are_taken};
+pub use laws::{
+    no_tables_are_told, popped_tables_wait_for_nothing, pops_are_events, walks_pass_no_key,
+    writes_are_taken,
+};
 pub use tables::Tables;

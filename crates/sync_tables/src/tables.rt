@@ -5,10 +5,11 @@ ghost use Rattle.std.specs.Map.{keys_of};
 ghost use Rattle.table_schema.specs.Rows.{fields_at};
 ghost use Rattle.table_schema.specs.declared.write.Write.TheVariants as write;
 ghost use Rattle.switch_model.specs.Good.{good_row};
-ghost use Rattle.consumer_table.specs.Ops.{first_in, keys_behind, without_op};
-ghost use Rattle.sync_tables.specs.Tables.{PopsFirst, PopsKeys, PopsNone, PopsSome, no_tables, with_write};
+ghost use Rattle.producer_table.specs.Pending.{AreInOrder};
+ghost use Rattle.consumer_table.specs.Ops.{AreOpsInOrder, first_in, keys_behind, without_op};
+ghost use Rattle.sync_tables.specs.Tables.{PopsKeys, PopsSome, no_tables, with_write};
 
-use crate::merging::{merge, op_of};
+use crate::merging::take_in;
 use consumer_table::ToSync;
 use producer_table::Waiting;
 use row_store::Rows;
@@ -66,9 +67,10 @@ impl Tables {
         self.waiting.del(key)
     }
 
-    /// Whether no write waits.
+    /// Whether no write waits. What waits is in order, as `AreInOrder` says.
     pub fn is_popped(&self) -> bool
-        ensures { IsTrue result ↔ (self.now.waiting ≡ []) }
+        ensures popped { IsTrue result ↔ (self.now.waiting ≡ []) }
+        ensures order { AreInOrder self.now.waiting }
     {
         self.waiting.is_empty()
     }
@@ -99,22 +101,15 @@ impl Tables {
 
     /// Pops the first key that waits: false exactly where none does.
     fn pop_first(&mut self) -> Result<bool, OutOfMemory>
-        ensures popped { IfOk result (λ some. OnTrue some (PopsFirst self.old self.new)) }
-        ensures none { IfOk result (λ some. OnFalse some (self.new ≡ self.old)) }
-        ensures empty { IfOk result (λ some. OnFalse some (self.old.waiting ≡ [])) }
-        ensures err { OnErr result (PopsNone self.old self.new) }
+        ensures keys { PopsKeys self.old self.new }
+        ensures some { IfOk result (λ popped. OnTrue popped (PopsSome self.old self.new)) }
+        ensures empty { IfOk result (λ popped. OnFalse popped (self.old.waiting ≡ [])) }
     {
+        let _order = self.waiting.is_empty();
         let Some((key, pending)) = self.waiting.first() else {
             return Ok(false);
         };
-        let there = self.to_sync.op(key).is_some();
-        self.to_sync.add(op_of(key, pending)?)?;
-        if let Err(error) = merge(&mut self.rows, key, pending) {
-            if !there {
-                self.to_sync.done(key);
-            }
-            return Err(error);
-        }
+        take_in(&mut self.rows, &mut self.to_sync, key, pending)?;
         self.waiting.pop_first();
         Ok(true)
     }
@@ -134,10 +129,13 @@ impl Tables {
         }
     }
 
-    /// The first key to sync, in key order, behind this one, and the first of all where none is given.
+    /// The first key to sync, in key order, behind this one, and the first of all where none is given. The keys are in order,
+    /// as `AreOpsInOrder` says.
     pub fn next_key(&self, after: Option<&Key>) -> Option<&Key>
-        ensures { option_map (λ key. key.now) result ≡ first_in (keys_behind (option_map (λ key. key.now) after.entry) (keys_of self.now.ops)) }
+        ensures key { option_map (λ key. key.now) result ≡ first_in (keys_behind (option_map (λ key. key.now) after.entry) (keys_of self.now.ops)) }
+        ensures order { AreOpsInOrder self.now.ops }
     {
+        let _order = self.to_sync.len();
         self.to_sync.next_key(after)
     }
 
