@@ -31,6 +31,7 @@ use Rattle.chip_layout.specs.Layout.{has_number}
 use Rattle.row_layout.specs.Operations.{Change, Make, Set, Take, uses_of}
 use Rattle.row_layout.specs.Rows.{Owner, interface_on}
 use Rattle.row_layout.specs.Shared.{shared_things}
+use Rattle.switch_machine.specs.Changes.{Resembles}
 use Rattle.switch_machine.specs.Flights.{Fits, own_of}
 use Rattle.ref_counts.specs.declared.name.Name.{Name}
 use Rattle.ref_counts.specs.declared.name.Name.TheVariants as name
@@ -84,10 +85,15 @@ entry_by id (body.Neighbor rif ip mac) = entry.Neigh rif ip
 entry_by id (body.Route prefix to) = entry.Route prefix
 entry_by id b = entry.Oid id
 
--- a thing that stands, with its entry
+-- of what a thing refers to its entry tells only the interface of a neighbour
+abbrev pub at_in_entry : (thing_name.Name → Vid → Type 0) → Thing → thing_name.Name → Vid → Type 0
+at_in_entry at (thing.Neighbor hop mac) n v = at n v
+at_in_entry at t n v = Unit {0}
+
+-- a thing that stands, with its entry. What the entry does not tell of the thing's body may be anything
 pub record IsEntryOf (at : thing_name.Name → Vid → Type 0) (t : Thing) (e : Entry Vid) : Type 0 where
   pub body : Body Vid
-  pub of : IsBody at t body
+  pub of : IsBody (at_in_entry at t) t body
   pub id : Vid
   pub numbered : has_number t ≡ true → at (name_of t) id
   pub is : e ≡ entry_by id body
@@ -185,9 +191,15 @@ IsChangeFor plan operation (Make t ∷ cs) = IsIn t (own_of plan operation.key o
 IsChangeFor plan operation (Set u ∷ cs) = (old : Thing) × IsIn old (own_of plan operation.key operation.now) × (name_of old ≡ name_of u)
 IsChangeFor plan operation (Take n ∷ cs) = (old : Thing) × IsIn old (things_held plan operation) × (name_of old ≡ n)
 
+-- what is set is a thing of the new row, but for values of a port that are set one after the other
+abbrev pub SetsTo : Ports → Operation → List Change → Type 0
+SetsTo plan operation (Set u ∷ cs) = (like : Thing) × IsIn like (own_of plan operation.key operation.new) × Resembles u like
+SetsTo plan operation cs = Unit {0}
+
 -- an operation is one over this port plan
 pub record IsOver (plan : Ports) (operation : Operation) : Type 0 where
   pub plans : IsPlan plan
   pub now : (r : Row) → operation.now ≡ Some r → Fits plan operation.key r
   pub new : (r : Row) → operation.new ≡ Some r → Fits plan operation.key r
   pub next : IsChangeFor plan operation operation.due
+  pub sets : SetsTo plan operation operation.due
