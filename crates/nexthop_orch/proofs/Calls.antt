@@ -1,11 +1,10 @@
 -- the call that is due of a group's operation
-use Rattle.std.proofs.Common.{◌≡◌, ◌<◌, ◌+◌, inl, inr, ℕ, zero, suc, Bool, true, false, List, [], ◌∷◌, ◌++◌, drop, length, Option, Some, None, IsSome, slice_get, get_or, refl, sym, ap, subst, ◌∙◌, arith}
+use Rattle.std.proofs.Common.{◌≡◌, ◌<◌, ◌+◌, inl, inr, ℕ, zero, suc, Bool, true, false, List, [], ◌∷◌, ◌++◌, drop, length, Some, None, IsSome, slice_get, get_or, refl, sym, ap, subst, ◌∙◌, arith}
 use Rattle.std.proofs.lemmas.Option.{slice_get-get_or}
 use Rattle.table_schema.specs.Plan.{Ports}
 use Rattle.table_schema.specs.declared.key.Key.{Key}
 use Rattle.sai_types.specs.Hop.{AreRisingHops}
 use Rattle.sai_types.specs.Names as thing_name
-use Rattle.sai_types.specs.declared.hop.Hop.{Hop}
 use Rattle.sai_types.specs.declared.ids.Vid.{Vid}
 use Rattle.sai_types.specs.declared.body.Body.TheVariants as body
 use Rattle.sai_types.specs.declared.body.Entry.TheVariants as entry
@@ -13,16 +12,14 @@ use Rattle.sai_types.specs.declared.body.Call.TheVariants as call
 use Rattle.sai_types.specs.declared.thing.Thing.TheVariants as thing
 use Rattle.switch_model.specs.Things.{members_of}
 use Rattle.row_layout.specs.Operations.{Make, Take, make_all, take_all}
-use Rattle.row_layout.specs.Shared.{shared_things}
-use Rattle.row_layout.specs.Rows.{Group}
 use Rattle.ref_counts.specs.declared.name.Name.{Name}
 use Rattle.ref_counts.specs.declared.name.Name.TheVariants as name
 use Rattle.ref_counts.specs.declared.next.Next.{Next}
 use Rattle.ref_counts.specs.declared.next.Next.TheVariants as next
 use Rattle.ref_counts.specs.Registered.{first_of}
 use Rattle.ref_counts.specs.Registry.{Names, ids_of}
-use Rattle.orch_flight.specs.Calling.{member_vid, members_ids, row_vid}
-use Rattle.orch_flight.specs.Grouping.{GroupOperation, IsGroupNextOf, IsGroupOver, KnowsGroupIds, first_group_due, neighbour_keys}
+use Rattle.orch_flight.specs.Calling.{members_ids, row_vid}
+use Rattle.orch_flight.specs.Grouping.{GroupOperation, IsGroupNextOf, IsGroupOver, KnowsGroupIds}
 use Rattle.nexthop_orch.specs.Groups.{group_operation, hops_in}
 use Rattle.nexthop_orch.proofs.Dues.{due-over, last-taken, member-made, member-taken}
 use Rattle.nexthop_orch.proofs.Members.{all-at, member-at, member-in, neighbour-at}

@@ -1,5 +1,5 @@
 -- the changes of a group that are left after so many
-use Rattle.std.proofs.Common.{◌≡◌, ◌≤◌, ◌<◌, ◌+◌, ◌-◌, ℕ, zero, suc, Bool, true, false, List, [], ◌∷◌, ◌++◌, length, drop, Option, Some, None, slice_get, if◌then◌else◌, refl, sym, ap, subst, ◌∙◌, arith}
+use Rattle.std.proofs.Common.{◌≡◌, ◌≤◌, ◌<◌, ◌-◌, ℕ, zero, suc, Bool, true, false, List, [], ◌∷◌, ◌++◌, length, drop, Some, slice_get, refl, sym, ap, subst, ◌∙◌, arith}
 use Rattle.std.proofs.lemmas.List.{drop_all, length-drop}
 use Rattle.std.proofs.lemmas.Option.{none-some, same_Some}
 use Rattle.sai_types.specs.declared.hop.Hop.{Hop}
@@ -8,7 +8,7 @@ use Rattle.sai_types.specs.declared.thing.Thing.TheVariants as thing
 use Rattle.sai_types.specs.Names as thing_name
 use Rattle.sai_types.specs.Names.{name_of}
 use Rattle.switch_model.specs.Things.{members_of}
-use Rattle.row_layout.specs.Operations.{Change, Make, Take, make_all, take_all}
+use Rattle.row_layout.specs.Operations.{Make, Take, make_all, take_all}
 use Rattle.orch_flight.specs.Grouping.{first_group_due}
 
 -- ---- how many there are

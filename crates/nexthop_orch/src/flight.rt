@@ -184,11 +184,7 @@ fn key_at(keys: &[Key], at: usize) -> Result<Option<Key>, OutOfMemory>
 }
 
 /// The keys of the neighbours that are these hops, but for hops on ports that are not in the plan.
-fn neighbour_keys(
-    alloc: Global,
-    plan: &PortPlan,
-    hops: &[Hop],
-) -> Result<Vec<Key>, OutOfMemory>
+fn neighbour_keys(alloc: Global, plan: &PortPlan, hops: &[Hop]) -> Result<Vec<Key>, OutOfMemory>
     ensures { IfOk result (λ keys. keys.items ≡ neighbour_keys plan.now hops.now) }
 {
     let mut keys = Vec::with_capacity(alloc, hops.len())?;

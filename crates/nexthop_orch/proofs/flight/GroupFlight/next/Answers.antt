@@ -1,4 +1,4 @@
-use Rattle.std.proofs.Common.{◌≡◌, ◌-◌, suc, ℕ, zero, length, true, Some, None, slice_get, refl, ap, sym, ◌∙◌, arith}
+use Rattle.std.proofs.Common.{◌-◌, suc, true, slice_get, refl, ap, sym, ◌∙◌, arith}
 use Rattle.nexthop_orch.proofs.Calls.{knows-neighbour, next-built, next-group, next-member, told}
 use Rattle.nexthop_orch.proofs.flight.GroupFlight.next.Goals as goal
 
