@@ -1,0 +1,4 @@
+pub mod Calls
+pub mod Dues
+pub mod Members
+pub mod Takes

@@ -1,0 +1,213 @@
+-- the call that is due of a route's operation, and the group that its new row has
+use Rattle.std.proofs.Common.{◌≡◌, ◌⊎◌, inl, inr, ℕ, List, [], ◌∷◌, ◌++◌, Option, Some, None, option_map, refl, sym, ap, subst, ◌∙◌}
+use Rattle.std.proofs.lemmas.Bool.{false≢true}
+use Rattle.std.proofs.lemmas.Option.{same_Some}
+use Rattle.swss_types.specs.declared.address.Prefix.{Prefix}
+use Rattle.table_schema.specs.Plan.{IsPlan, Ports}
+use Rattle.table_schema.specs.declared.key.Key.TheVariants as key
+use Rattle.table_schema.specs.declared.row.Row.TheVariants as row
+use Rattle.table_schema.specs.declared.row.RouteRow.{RouteRow}
+use Rattle.sai_types.specs.Alike.{IsIn}
+use Rattle.sai_types.specs.Names as thing_name
+use Rattle.sai_types.specs.Names.{goal_names, name_of}
+use Rattle.sai_types.specs.declared.hop.Hop.{Hop}
+use Rattle.sai_types.specs.declared.ids.Vid.{Vid}
+use Rattle.sai_types.specs.declared.body.Attr.TheVariants as attr
+use Rattle.sai_types.specs.declared.body.Body.TheVariants as body
+use Rattle.sai_types.specs.declared.body.Entry.TheVariants as entry
+use Rattle.sai_types.specs.declared.body.Call.TheVariants as call
+use Rattle.sai_types.specs.declared.body.To.{To}
+use Rattle.sai_types.specs.declared.thing.Goal.{Goal}
+use Rattle.sai_types.specs.declared.thing.Goal.TheVariants as goal
+use Rattle.sai_types.specs.declared.thing.Thing.{Thing}
+use Rattle.sai_types.specs.declared.thing.Thing.TheVariants as thing
+use Rattle.chip_layout.specs.Bodies.{IsAt, IsBody, IsChange, first_of, second_of, to_with}
+use Rattle.row_layout.specs.Operations.{Make, Set, Take, uses_of}
+use Rattle.row_layout.specs.Rows.{Owner, OfRow, Group, goal_of}
+use Rattle.row_layout.specs.Shared.{shared_things}
+use Rattle.row_layout.proofs.Members.{from_in, only}
+use Rattle.row_layout.proofs.Owners.{shared-own}
+use Rattle.switch_machine.specs.Changes.{IsSamePort, Resembles}
+use Rattle.switch_machine.specs.Flights.{own_of}
+use Rattle.ref_counts.specs.declared.name.Name.{Name}
+use Rattle.ref_counts.specs.declared.name.Name.TheVariants as name
+use Rattle.ref_counts.specs.declared.next.Next.TheVariants as next
+use Rattle.ref_counts.specs.Registry.{Names}
+use Rattle.orch_flight.specs.Calling.{HasVid, IsChangeFor, IsEntryOf, IsNextOf, IsOver, at_in_entry, things_held, things_retired}
+use Rattle.orch_flight.specs.Operation.{Operation}
+use Rattle.orch_flight.specs.Sharing.{owner_for}
+use Rattle.route_orch.specs.Targets.{PointsTo, goal_at, goal_with, way_goal}
+use Rattle.route_orch.specs.Routes.{Matches, group_hops, group_owners, route_operation}
+use Rattle.route_orch.specs.declared.flight.Step.{Step}
+use Rattle.route_orch.specs.declared.flight.Step.TheVariants as step
+use Rattle.route_orch.specs.declared.target.Target.{Target}
+use Rattle.route_orch.specs.declared.target.Way.{Way}
+use Rattle.route_orch.specs.declared.target.Way.TheVariants as way
+use Rattle.route_orch.proofs.Goals.{goal-same, goal_uses, to-at, uses-goal}
+
+-- a route's operation, from what its fields are known to be
+pub told : (f : Operation) (w : ℕ) (p : Prefix) (applied wanted wanted' : Option RouteRow) (t : Target) (s s' : Step) (leaves retires : Option Name) → route_operation w p applied wanted t s leaves retires ≡ f → s ≡ s' → wanted ≡ wanted' → f ≡ route_operation w p applied wanted' t s' leaves retires
+told f w p applied wanted wanted' t s s' leaves retires is at has =
+    sym is ∙ ap (λ z. route_operation w p applied wanted t z leaves retires) at ∙ ap (λ z. route_operation w p applied z t s' leaves retires) has
+
+in-first : {X : Type 0} (x : X) (xs ys : List X) → IsIn x xs → IsIn x (xs ++ ys)
+in-first x [] ys h = elim h [ ]
+in-first x (z ∷ xs) ys (inl is) = inl is
+in-first x (z ∷ xs) ys (inr h) = inr (in-first x xs ys h)
+
+-- what has the name of a route is a route
+is_route : (t : Thing) (p : Prefix) → name_of t ≡ thing_name.Route p → (g : Goal) × (t ≡ thing.Route p g)
+is_route (thing.Route q g) p is = (g, cc)
+is_route (thing.Port x) p is = absurd cc
+is_route (thing.Vlan v) p is = absurd cc
+is_route (thing.BridgePort lane) p is = absurd cc
+is_route (thing.VlanMember v lane tagging) p is = absurd cc
+is_route (thing.Rif b) p is = absurd cc
+is_route (thing.Own ip) p is = absurd cc
+is_route (thing.Neighbor hop mac) p is = absurd cc
+is_route (thing.NextHop hop) p is = absurd cc
+is_route (thing.Group hops) p is = absurd cc
+is_route (thing.GroupMember hops hop) p is = absurd cc
+
+no_second : (at : thing_name.Name → Vid → Type 0) (g : Goal) (v : Vid) → IsAt at (second_of (goal_names g)) v
+no_second at goal.Drop v = tt
+no_second at (goal.Direct b) v = tt
+no_second at (goal.Via hop) v = tt
+no_second at (goal.Group hops) v = tt
+
+any_first : (p : Prefix) (at : thing_name.Name → Vid → Type 0) (g : Goal) (v : Vid) → IsBody (at_in_entry at (thing.Route p g)) (thing.Route p g) (body.Route p (to_with g v))
+any_first p at g v = record { first = v; second = v; first_at = by g; second_at = no_second (at_in_entry at (thing.Route p g)) g v; body_is = refl }
+  where
+    by : (h : Goal) → IsAt (at_in_entry at (thing.Route p g)) (first_of (goal_names h)) v
+    by goal.Drop = tt
+    by (goal.Direct b) = tt
+    by (goal.Via hop) = tt
+    by (goal.Group hops) = tt
+
+-- the entry of a route is its prefix
+route_entry : (p : Prefix) (at : thing_name.Name → Vid → Type 0) (t : Thing) → name_of t ≡ thing_name.Route p → IsEntryOf at t (entry.Route p)
+route_entry p at t is =
+    let (g, same) = is_route t p is in
+    subst (λ z. IsEntryOf at z (entry.Route p)) (sym same) (record { body = body.Route p (to_with g (record { 0 = 0 })); of = any_first p at g (record { 0 = 0 }); id = record { 0 = 0 }; numbered = λ h. absurd (false≢true h); is = refl })
+
+module _ (plan : Ports) (p : Prefix) where
+  own_goal : (r : RouteRow) (g : Goal) (t : Thing) → IsIn t (own_of plan (key.Route p) (Some (row.Route r))) → t ≡ thing.Route p g → goal_of plan r ≡ Some g
+  own_goal r g t h is =
+      let (h', at, there) = from_in (goal_of plan r) (λ g. thing.Route p g ∷ []) t h in
+      at ∙ ap Some (goal-same p h' g (sym (only (λ z. z ≡ thing.Route p h') t (thing.Route p h') refl there) ∙ is))
+
+  -- what is shared holds no route
+  no_shared : IsPlan plan → (g : Goal) (o : Owner) → IsIn (thing.Route p g) (shared_things o) → ⊥
+  no_shared is g o h =
+      let same : OfRow (key.Route p) ≡ o = same_Some (OfRow (key.Route p)) o (shared-own plan is o (thing.Route p g) h) in
+      subst (λ o. IsIn (thing.Route p g) (shared_things o)) (sym same) h
+
+  module _ (w : ℕ) (applied : Option RouteRow) (t : Target) (leaves retires : Option Name) where
+    abbrev Stage : Step → Option RouteRow → Operation
+    Stage s wanted = route_operation w p applied wanted t s leaves retires
+
+    made_goal : (wanted : Option RouteRow) → IsOver plan (Stage step.Make wanted) → (r : RouteRow) × (wanted ≡ Some r) × (goal_of plan r ≡ Some (goal_at t))
+    made_goal None over = by over.next
+      where
+        by : IsChangeFor plan (Stage step.Make None) (Make (thing.Route p (goal_at t)) ∷ []) → (r : RouteRow) × (None ≡ Some r) × (goal_of plan r ≡ Some (goal_at t))
+        by (inl h) = elim h [ ]
+        by (inr (o, h, there)) = elim h [ ]
+    made_goal (Some r) over = (r, refl, by over.next)
+      where
+        by : IsChangeFor plan (Stage step.Make (Some r)) (Make (thing.Route p (goal_at t)) ∷ []) → goal_of plan r ≡ Some (goal_at t)
+        by (inl h) = own_goal r (goal_at t) (thing.Route p (goal_at t)) h refl
+        by (inr (o, h, there)) = absurd (no_shared over.plans (goal_at t) o there)
+
+    set_like : (r : RouteRow) (like : Thing) → IsIn like (own_of plan (key.Route p) (Some (row.Route r))) → Resembles (thing.Route p (goal_at t)) like → goal_of plan r ≡ Some (goal_at t)
+    set_like r like h resembles = by resembles.same
+      where
+        by : (thing.Route p (goal_at t) ≡ like) ⊎ IsSamePort (thing.Route p (goal_at t)) like → goal_of plan r ≡ Some (goal_at t)
+        by (inl same) = own_goal r (goal_at t) like h (sym same)
+        by (inr port) = elim port [ ]
+
+    set_goal : (wanted : Option RouteRow) → IsOver plan (Stage step.Set wanted) → (r : RouteRow) × (wanted ≡ Some r) × (goal_of plan r ≡ Some (goal_at t))
+    set_goal None over = elim over.sets.1 [ ]
+    set_goal (Some r) over = (r, refl, set_like r over.sets.0 over.sets.1 over.sets.2)
+
+    group_known : (group : Option Name) (own : Way) → goal_uses (goal_with group own) ≡ group_owners (group_hops group)
+    group_known None way.Drop = refl
+    group_known None (way.Direct b) = refl
+    group_known None (way.Via hop) = refl
+    group_known (Some (name.Group hops)) own = refl
+    group_known (Some (name.Row k)) way.Drop = refl
+    group_known (Some (name.Row k)) (way.Direct b) = refl
+    group_known (Some (name.Row k)) (way.Via hop) = refl
+    group_known (Some (name.BridgePort lane)) way.Drop = refl
+    group_known (Some (name.BridgePort lane)) (way.Direct b) = refl
+    group_known (Some (name.BridgePort lane)) (way.Via hop) = refl
+    group_known (Some (name.Own ip)) way.Drop = refl
+    group_known (Some (name.Own ip)) (way.Direct b) = refl
+    group_known (Some (name.Own ip)) (way.Via hop) = refl
+
+    goal_group : (wanted : Option RouteRow) → (r : RouteRow) × (wanted ≡ Some r) × (goal_of plan r ≡ Some (goal_at t)) → uses_of plan (key.Route p) (option_map row.Route wanted) ≡ group_owners (group_hops t.group)
+    goal_group wanted (r, has, at) = ap (λ o. uses_of plan (key.Route p) (option_map row.Route o)) has ∙ uses-goal plan r (goal_at t) at ∙ group_known t.group t.way
+
+    by_step : (s : Step) (wanted : Option RouteRow) → Matches s wanted t.group → IsOver plan (Stage s wanted) → ((Stage s wanted).due ≡ [] → ⊥) → uses_of plan (key.Route p) (option_map row.Route wanted) ≡ group_owners (group_hops t.group)
+    by_step step.Make wanted matches over some = goal_group wanted (made_goal wanted over)
+    by_step step.Set wanted matches over some = goal_group wanted (set_goal wanted over)
+    by_step step.Take wanted (none, apart) over some = ap (λ o. uses_of plan (key.Route p) (option_map row.Route o)) none ∙ ap (λ o. group_owners (group_hops o)) (sym apart)
+    by_step step.Changed wanted matches over some = absurd (some refl)
+    by_step step.Ended wanted matches over some = absurd (some refl)
+
+    -- the group that the new row has
+    pub group-over : (s : Step) (wanted : Option RouteRow) (f : Operation) → Stage s wanted ≡ f → Matches s wanted t.group → IsOver plan f → (f.due ≡ [] → ⊥) → uses_of plan f.key f.new ≡ group_owners (group_hops t.group)
+    group-over s wanted f is matches = subst (λ z. IsOver plan z → (z.due ≡ [] → ⊥) → uses_of plan z.key z.new ≡ group_owners (group_hops t.group)) is (by_step s wanted matches)
+
+    module _ (names : Names) (r : RouteRow) (x : To Vid) (to : PointsTo names r (goal_at t) x) where
+      pub next-make : (f : Operation) → f ≡ Stage step.Make (Some r) → IsOver plan f → IsNextOf plan names f (next.Call (call.Create (body.Route p x)))
+      next-make f is = subst (λ z. IsOver plan z → IsNextOf plan names z (next.Call (call.Create (body.Route p x)))) (sym is) by
+        where
+          by : IsOver plan (Stage step.Make (Some r)) → IsNextOf plan names (Stage step.Make (Some r)) (next.Call (call.Create (body.Route p x)))
+          by over =
+              let (q, has, at) = made_goal (Some r) over in
+              let (i, there, same) = to-at plan names x over.plans r (goal_at t) (ap (goal_of plan) (same_Some r q has) ∙ at) to in (
+                Make (thing.Route p (goal_at t)),
+                [],
+                refl,
+                record {
+                  body = body.Route p x;
+                  of = record { first = i; second = i; first_at = there; second_at = no_second (HasVid plan names) (goal_at t) i; body_is = ap (body.Route p) same };
+                  is = refl;
+                },
+              )
+
+      pub next-set : (f : Operation) → f ≡ Stage step.Set (Some r) → IsOver plan f → IsNextOf plan names f (next.Call (call.Set (entry.Route p) (attr.To x)))
+      next-set f is = subst (λ z. IsOver plan z → IsNextOf plan names z (next.Call (call.Set (entry.Route p) (attr.To x)))) (sym is) by
+        where
+          by : IsOver plan (Stage step.Set (Some r)) → IsNextOf plan names (Stage step.Set (Some r)) (next.Call (call.Set (entry.Route p) (attr.To x)))
+          by over =
+              let (q, has, at) = set_goal (Some r) over in
+              let (i, there, same) = to-at plan names x over.plans r (goal_at t) (ap (goal_of plan) (same_Some r q has) ∙ at) to in
+              let (old, held, named) = over.next in
+              let (g, was) = is_route old p named in (
+                Set (thing.Route p (goal_at t)),
+                [],
+                refl,
+                record {
+                  old = old;
+                  there = in-first old (own_of plan (key.Route p) (option_map row.Route applied)) (things_retired (option_map owner_for retires)) held;
+                  same = named;
+                  entry = entry.Route p;
+                  of = route_entry p (HasVid plan names) old named;
+                  attr = attr.To x;
+                  change = subst (λ z. IsChange (HasVid plan names) z (attr.To x) (thing.Route p (goal_at t))) (sym was) (goal_at t, i, there, same, refl);
+                  is = refl;
+                },
+              )
+
+    pub next-take : (names : Names) (wanted : Option RouteRow) (f : Operation) → f ≡ Stage step.Take wanted → IsOver plan f → IsNextOf plan names f (next.Call (call.Remove (entry.Route p)))
+    next-take names wanted f is = subst (λ z. IsOver plan z → IsNextOf plan names z (next.Call (call.Remove (entry.Route p)))) (sym is) by
+      where
+        by : IsOver plan (Stage step.Take wanted) → IsNextOf plan names (Stage step.Take wanted) (next.Call (call.Remove (entry.Route p)))
+        by over =
+            let (old, held, named) = over.next in (
+              Take (thing_name.Route p),
+              [],
+              refl,
+              record { old = old; there = held; same = named; entry = entry.Route p; of = route_entry p (HasVid plan names) old named; is = refl },
+            )

@@ -1,0 +1,127 @@
+-- where a route's row points, and what it shares
+use Rattle.std.proofs.Common.{◌≡◌, inl, inr, Bool, true, false, List, [], ◌∷◌, Option, Some, None, option_map, if◌then◌else◌, refl, sym, ap, ap₂, subst, ◌∙◌}
+use Rattle.std.specs.BTreeSet.{insert_key}
+use Rattle.std.proofs.lemmas.Option.{none-some, same_Some}
+use Rattle.swss_types.specs.declared.address.Prefix.{Prefix}
+use Rattle.table_schema.specs.Plan.{IsPlan, Ports}
+use Rattle.table_schema.specs.declared.key.Key.TheVariants as key
+use Rattle.table_schema.specs.declared.row.Row.TheVariants as row
+use Rattle.table_schema.specs.declared.row.RouteRow.{RouteRow}
+use Rattle.table_schema.specs.declared.row.RouteRow.TheVariants as route
+use Rattle.table_schema.specs.declared.row_hop.RowHop.{RowHop}
+use Rattle.sai_types.specs.Alike.{IsIn}
+use Rattle.sai_types.specs.Named.{both, hop_cmp}
+use Rattle.sai_types.specs.declared.hop.Base.{Base}
+use Rattle.sai_types.specs.declared.hop.Hop.{Hop}
+use Rattle.sai_types.specs.declared.ids.Vid.{Vid}
+use Rattle.sai_types.specs.declared.body.To.{To}
+use Rattle.sai_types.specs.declared.body.To.TheVariants as to
+use Rattle.sai_types.specs.declared.thing.Goal.{Goal}
+use Rattle.sai_types.specs.declared.thing.Goal.TheVariants as goal
+use Rattle.sai_types.specs.declared.thing.Thing.TheVariants as thing
+use Rattle.sai_types.proofs.Keys.{mapped}
+use Rattle.sai_types.proofs.Rising.{hop_exact, hop_total, in-insert}
+use Rattle.chip_layout.specs.Bodies.{IsAt, goal_name, to_with}
+use Rattle.switch_model.specs.Things.{base_of, hop_of, hops_of}
+use Rattle.row_layout.specs.Rows.{Owner, Group, goal_by, goal_of, interface_on}
+use Rattle.row_layout.specs.Shared.{group_by, route_uses}
+use Rattle.row_layout.proofs.Owners.{interface_by}
+use Rattle.ref_counts.specs.declared.name.Name.{Name}
+use Rattle.ref_counts.specs.declared.name.Name.TheVariants as name
+use Rattle.ref_counts.specs.Registry.{Names}
+use Rattle.orch_flight.specs.Calling.{HasVid, row_vid}
+use Rattle.orch_flight.specs.Sharing.{owner_for, owners_of}
+use Rattle.route_orch.specs.Targets.{AreGroups, IsTargetOf, IsToFirst, PointsTo, goal_at, goal_with, way_goal, way_of, way_on}
+use Rattle.route_orch.specs.declared.target.Target.{Target}
+use Rattle.route_orch.specs.declared.target.Way.{Way}
+use Rattle.route_orch.specs.declared.target.Way.TheVariants as way
+
+-- what a goal shares
+abbrev pub goal_uses : Goal → List Owner
+goal_uses (goal.Group hops) = Group hops ∷ []
+goal_uses _ = []
+
+single : (l : List Hop) (x hop : Hop) → Some l ≡ Some (hop ∷ []) → IsIn x l → x ≡ hop
+single l x hop is h = by (subst (IsIn x) (same_Some l (hop ∷ []) is) h)
+  where
+    by : IsIn x (hop ∷ []) → x ≡ hop
+    by (inl same) = same
+    by (inr h) = elim h [ ]
+
+-- where the hops of a row are one hop, the first is that
+first_by : (o : Option (List Hop)) (p : Option Hop) (hop : Hop) → both (insert_key hop_cmp) o p ≡ Some (hop ∷ []) → p ≡ Some hop
+first_by None p hop h = absurd (none-some (hop ∷ []) h)
+first_by (Some l) None hop h = absurd (none-some (hop ∷ []) h)
+first_by (Some l) (Some x) hop h = ap Some (single (insert_key hop_cmp l x) x hop h (in-insert hop_cmp hop_total hop_exact l x))
+
+hops_use : (o : Option (List Hop)) (g : Goal) → goal_by o ≡ Some g → group_by o ≡ goal_uses g
+hops_use None g e = absurd (none-some g e)
+hops_use (Some []) g e = absurd (none-some g e)
+hops_use (Some (hop ∷ [])) g e = ap goal_uses (same_Some (goal.Via hop) g e)
+hops_use (Some (hop ∷ more ∷ hops)) g e = ap goal_uses (same_Some (goal.Group (hop ∷ more ∷ hops)) g e)
+
+-- a row shares what its goal does
+pub uses-goal : (plan : Ports) (r : RouteRow) (g : Goal) → goal_of plan r ≡ Some g → route_uses plan r ≡ goal_uses g
+uses-goal plan route.Drop g e = ap goal_uses (same_Some goal.Drop g e)
+uses-goal plan (route.Direct n) g e = let m = mapped goal.Direct (base_of plan n) g e in ap goal_uses m.2
+uses-goal plan (route.Hops hops) g e = hops_use (hops_of plan hops) g e
+
+goal_kept : (group : Option Name) (w : Way) (g : Goal) → goal_uses g ≡ owners_of group → AreGroups group → (group ≡ None → way_goal w ≡ g) → goal_with group w ≡ g
+goal_kept None w g uses groups own = own refl
+goal_kept (Some (name.Group hops)) w (goal.Group others) uses groups own = cc
+goal_kept (Some (name.Group hops)) w goal.Drop uses groups own = cc
+goal_kept (Some (name.Group hops)) w (goal.Direct b) uses groups own = cc
+goal_kept (Some (name.Group hops)) w (goal.Via hop) uses groups own = cc
+goal_kept (Some (name.Row k)) w g uses groups own = elim groups [ ]
+goal_kept (Some (name.BridgePort lane)) w g uses groups own = elim groups [ ]
+goal_kept (Some (name.Own ip)) w g uses groups own = elim groups [ ]
+
+way_by : (plan : Ports) (h : RowHop) (hs : List RowHop) (o : Option (List Hop)) (g : Goal) → hops_of plan (h ∷ hs) ≡ o → goal_by o ≡ Some g → group_by o ≡ [] → way_goal (way_of plan (route.Hops (h ∷ hs))) ≡ g
+way_by plan h hs None g at e none = absurd (none-some g e)
+way_by plan h hs (Some []) g at e none = absurd (none-some g e)
+way_by plan h hs (Some (hop ∷ [])) g at e none =
+    let m = mapped (λ b. record { on = b; ip = h.ip }) (base_of plan h.on) hop (first_by (hops_of plan hs) (hop_of plan h) hop at) in
+    ap (λ o. way_goal (way_on (λ b. way.Via (record { on = b; ip = h.ip })) o)) m.1 ∙ ap goal.Via m.2 ∙ same_Some (goal.Via hop) g e
+way_by plan h hs (Some (hop ∷ more ∷ hops)) g at e none = cc
+
+way_of_goal : (plan : Ports) (r : RouteRow) (g : Goal) → goal_of plan r ≡ Some g → route_uses plan r ≡ [] → way_goal (way_of plan r) ≡ g
+way_of_goal plan route.Drop g e none = same_Some goal.Drop g e
+way_of_goal plan (route.Direct n) g e none = let m = mapped goal.Direct (base_of plan n) g e in ap (λ o. way_goal (way_on way.Direct o)) m.1 ∙ m.2
+way_of_goal plan (route.Hops []) g e none = absurd (none-some g e)
+way_of_goal plan (route.Hops (h ∷ hs)) g e none = way_by plan h hs (hops_of plan (h ∷ hs)) g refl e none
+
+-- the target of a row is its goal
+pub target-goal : (plan : Ports) (p : Prefix) (r : RouteRow) (t : Target) (g : Goal) → IsTargetOf plan (key.Route p) (Some (row.Route r)) t → goal_of plan r ≡ Some g → goal_at t ≡ g
+target-goal plan p r t g is e =
+    goal_kept t.group t.way g (sym (uses-goal plan r g e) ∙ is.shares) is.groups
+    (λ none. ap way_goal (is.way r refl) ∙ way_of_goal plan r g e (is.shares ∙ ap owners_of none))
+
+-- equal routes have equal goals
+pub goal-same : (p : Prefix) (g h : Goal) → thing.Route p g ≡ thing.Route p h → g ≡ h
+goal-same p g h is = cc
+
+-- ---- the target of a call
+
+module _ (plan : Ports) (names : Names) (x : To Vid) (is : IsPlan plan) where
+  abbrev IsTarget : Goal → Type 0
+  IsTarget g = (i : Vid) × IsAt (HasVid plan names) (goal_name g) i × (x ≡ to_with g i)
+
+  first_at : (hops : List RowHop) (hop : Hop) → hops_of plan hops ≡ Some (hop ∷ []) → IsToFirst names hops x → IsTarget (goal.Via hop)
+  first_at [] hop at p = absurd cc
+  first_at (h ∷ hs) hop at (v, known, same) =
+      let m = mapped (λ b. record { on = b; ip = h.ip }) (base_of plan h.on) hop (first_by (hops_of plan hs) (hop_of plan h) hop at) in
+      (v, subst (λ (z : Hop). row_vid names (option_map (λ on. key.Neigh on z.ip) (interface_on plan z.on)) ≡ Some v) m.2 (ap (λ o. row_vid names (option_map (λ on. key.Neigh on h.ip) o)) (interface_by plan is h.on m.0 m.1) ∙ known), same)
+
+  hops_at : (hops : List RowHop) (o : Option (List Hop)) (g : Goal) → hops_of plan hops ≡ o → goal_by o ≡ Some g → PointsTo names (route.Hops hops) g x → IsTarget g
+  hops_at hops None g at e = absurd (none-some g e)
+  hops_at hops (Some []) g at e = absurd (none-some g e)
+  hops_at hops (Some (hop ∷ [])) g at e = subst (λ g. PointsTo names (route.Hops hops) g x → IsTarget g) (same_Some (goal.Via hop) g e) (first_at hops hop at)
+  hops_at hops (Some (hop ∷ more ∷ rest)) g at e = subst (λ g. PointsTo names (route.Hops hops) g x → IsTarget g) (same_Some (goal.Group (hop ∷ more ∷ rest)) g e) (λ p. p)
+
+  -- what the registry tells under the names of the row is the target, over a plan in which the row has this goal
+  pub to-at : (r : RouteRow) (g : Goal) → goal_of plan r ≡ Some g → PointsTo names r g x → IsTarget g
+  to-at route.Drop g e = subst (λ g. PointsTo names route.Drop g x → IsTarget g) (same_Some goal.Drop g e) (λ p. (record { 0 = 0 }, tt, p))
+  to-at (route.Direct n) g e =
+      let m = mapped goal.Direct (base_of plan n) g e in
+      subst (λ g. PointsTo names (route.Direct n) g x → IsTarget g) m.2 (λ p. (p.0, ap (λ o. row_vid names (option_map key.Intf o)) (interface_by plan is n m.0 m.1) ∙ p.1, p.2))
+  to-at (route.Hops hops) g e = hops_at hops (hops_of plan hops) g refl e

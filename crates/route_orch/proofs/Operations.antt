@@ -1,0 +1,89 @@
+-- the operation with which a route's start leaves
+use Rattle.std.proofs.Common.{◌≡◌, ℕ, List, [], ◌∷◌, Option, Some, None, option_map, Result, Ok, Err, refl, sym, ap, ap₂, subst, ◌∙◌, Bor}
+use Rattle.std.proofs.lemmas.Option.{same_Some}
+use Rattle.swss_types.specs.declared.address.Prefix.{Prefix}
+use Rattle.table_schema.specs.Names.{names_of}
+use Rattle.table_schema.specs.Plan.{Ports}
+use Rattle.table_schema.specs.declared.key.Key.{Key}
+use Rattle.table_schema.specs.declared.key.Key.TheVariants as key
+use Rattle.table_schema.specs.declared.row.Row.{Row}
+use Rattle.table_schema.specs.declared.row.Row.TheVariants as row
+use Rattle.table_schema.specs.declared.row.RouteRow.{RouteRow}
+use Rattle.switch_model.specs.declared.wait.Wait.{Wait}
+use Rattle.row_layout.specs.Operations.{own_changes, uses_of}
+use Rattle.switch_machine.specs.Flights.{Fits}
+use Rattle.ref_counts.specs.Registry.{Names}
+use Rattle.ref_counts.specs.Room.{RoomState}
+use Rattle.orch_flight.specs.Needing.{first_unapplied, wait_of}
+use Rattle.orch_flight.specs.Operation.{Operation}
+use Rattle.orch_flight.specs.Sharing.{MayStart}
+use Rattle.orch_flight.specs.Starting.{IsBegunBy, IsStartedBy, begun_names, first_due, first_left, leaving, started_operation}
+use Rattle.orch_flight.proofs.Begins.{none-missing}
+use Rattle.route_orch.specs.Targets.{IsRouteKey, IsRouteRow, IsTargetOf, goal_at}
+use Rattle.route_orch.specs.Routes.{first_operation, first_step, flown, route_due}
+use Rattle.route_orch.specs.declared.target.Target.{Target}
+use Rattle.route_orch.proofs.Dues.{HasGoal, built-apart, fit-goal, none-left, own-due}
+use Rattle.route_orch.proofs.Starts.{started-due}
+
+-- the rows behind references
+abbrev pub rows : Option (Bor Row) → Option Row
+rows o = option_map (λ r. r.now) o
+
+-- a row that fits the key of a route, where nothing that it names is missing, is a route's
+pub route-row : (plan : Ports) (names : Names) (k : Key) (o : Option Row) → IsRouteKey k → ((r : Row) → o ≡ Some r → first_unapplied names (names_of k r) ≡ None → Fits plan k r) → IsRouteRow o
+route-row plan names k None is fits = tt
+route-row plan names (key.Route p) (Some (row.Route r)) is fits = tt
+route-row plan names (key.Route p) (Some (row.Port r)) is fits = elim (fits (row.Port r) refl refl) [ ]
+route-row plan names (key.Route p) (Some row.Vlan) is fits = elim (fits row.Vlan refl refl) [ ]
+route-row plan names (key.Route p) (Some (row.Member t)) is fits = elim (fits (row.Member t) refl refl) [ ]
+route-row plan names (key.Route p) (Some row.Intf) is fits = elim (fits row.Intf refl refl) [ ]
+route-row plan names (key.Route p) (Some row.Addr) is fits = elim (fits row.Addr refl refl) [ ]
+route-row plan names (key.Route p) (Some (row.Neigh mac)) is fits = elim (fits (row.Neigh mac) refl refl) [ ]
+route-row plan names k (Some r) is fits = elim is [ ]
+
+module _ (plan : Ports) (names : Names) (worker : ℕ) (p : Prefix) (o n : Option RouteRow) (was target : Target) (of_was : IsTargetOf plan (key.Route p) (option_map row.Route o) was) (of_target : IsTargetOf plan (key.Route p) (option_map row.Route n) target) where
+  due_first : HasGoal plan o → HasGoal plan n → first_due plan names (key.Route p) (option_map row.Route o) (option_map row.Route n) ≡ route_due (first_step o n was target) p (goal_at target)
+  due_first a b = apart n of_target ∙ own-due plan p o n was target a b of_was of_target
+    where
+      apart : (n : Option RouteRow) → IsTargetOf plan (key.Route p) (option_map row.Route n) target → first_due plan names (key.Route p) (option_map row.Route o) (option_map row.Route n) ≡ own_changes plan (key.Route p) (option_map row.Route o) (option_map row.Route n)
+      apart None is = refl
+      apart (Some r) is = built-apart names (uses_of plan (key.Route p) (Some (row.Route r))) target.group (own_changes plan (key.Route p) (option_map row.Route o) (Some (row.Route r))) is.shares is.groups
+
+  operation_first : HasGoal plan o → HasGoal plan n → started_operation plan names worker (key.Route p) (option_map row.Route o) (option_map row.Route n) ≡ first_operation worker p o n was target
+  operation_first a b =
+      let k = key.Route p in
+      let old = option_map row.Route o in
+      let new = option_map row.Route n in
+      let later = begun_names plan names worker k old new in
+      let due = due_first a b in
+      let own = own-due plan p o n was target a b of_was of_target in
+      started-due later worker k old new (first_due plan names k old new) (leaving plan k old new) (λ none. none-left plan p o n a b (own ∙ sym due ∙ none))
+      ∙ ap₂ (λ d l. record { worker = worker; key = k; now = old; new = new; due = d; leaves = l; retires = None }) due (ap₂ first_left of_target.shares of_was.shares)
+
+  -- what began, with the operation
+  pub started : (room : RoomState) (used : List ℕ) (names' : Names) (room' : RoomState) (res : Result (Unit {0}) Wait) → MayStart plan names worker (key.Route p) (option_map row.Route o) (option_map row.Route n)
+      → IsBegunBy plan names room used worker (key.Route p) (option_map row.Route o) (option_map row.Route n) res names' room'
+      → IsStartedBy plan names room used worker (key.Route p) (option_map row.Route o) (option_map row.Route n) (flown (first_operation worker p o n was target) res) names' room'
+  started room used names' room' (Err w) may begun = begun
+  started room used names' room' (Ok x) may (free, is, places) =
+      let found = fit-goal plan p n (λ r e. may.new_fits r e (named n free r e)) in
+      (free, sym (operation_first (fit-goal plan p o may.old_fits) found), is, places)
+    where
+      named : (n : Option RouteRow) → wait_of plan names room used worker (key.Route p) (option_map row.Route o) (option_map row.Route n) ≡ None → (r : Row) → option_map row.Route n ≡ Some r → first_unapplied names (names_of (key.Route p) r) ≡ None
+      named None none r e = absurd cc
+      named (Some q) none r e = subst (λ z. first_unapplied names (names_of (key.Route p) z) ≡ None) (same_Some (row.Route q) r e) (none-missing (first_unapplied names (names_of (key.Route p) (row.Route q))) _ none)
+
+abbrev Turns : Ports → Names → RoomState → List ℕ → ℕ → Operation → Result (Unit {0}) Wait → Names → RoomState → Key → Option Row → Option Row → Type 0
+Turns plan names room used worker flight res names' room' k old new = MayStart plan names worker k old new → IsBegunBy plan names room used worker k old new res names' room' → IsStartedBy plan names room used worker k old new (flown flight res) names' room'
+
+-- the same, for the key and the rows that are given
+pub started-as : (plan : Ports) (names : Names) (room : RoomState) (used : List ℕ) (worker : ℕ) (k : Key) (old new : Option Row) (p : Prefix) (o n : Option RouteRow) (was target : Target) (flight : Operation) (res : Result (Unit {0}) Wait) (answer : Result Operation Wait) (names' : Names) (room' : RoomState)
+    → k ≡ key.Route p → option_map row.Route o ≡ old → option_map row.Route n ≡ new → IsTargetOf plan k old was → IsTargetOf plan k new target → flight ≡ first_operation worker p o n was target → answer ≡ flown flight res → MayStart plan names worker k old new
+    → IsBegunBy plan names room used worker k old new res names' room' → IsStartedBy plan names room used worker k old new answer names' room'
+started-as plan names room used worker k old new p o n was target flight res answer names' room' is_key is_old is_new of_was of_target is gave =
+    let turns = Turns plan names room used worker (first_operation worker p o n was target) res names' room' in
+    subst (λ a. MayStart plan names worker k old new → IsBegunBy plan names room used worker k old new res names' room' → IsStartedBy plan names room used worker k old new a names' room') (sym (gave ∙ ap (λ f. flown f res) is))
+    (subst (λ z. IsTargetOf plan z old was → IsTargetOf plan z new target → turns z old new) (sym is_key)
+    (subst (λ z. IsTargetOf plan (key.Route p) z was → IsTargetOf plan (key.Route p) new target → turns (key.Route p) z new) is_old
+    (subst (λ z. IsTargetOf plan (key.Route p) (option_map row.Route o) was → IsTargetOf plan (key.Route p) z target → turns (key.Route p) (option_map row.Route o) z) is_new
+    (λ a b. started plan names worker p o n was target a b room used names' room' res))) of_was of_target)

@@ -1,0 +1,21 @@
+use Rattle.std.proofs.Common.{Some, None, refl, ap}
+use Rattle.route_orch.proofs.Operations.{route-row, rows, started-as}
+use Rattle.route_orch.proofs.flight.RouteFlight.start.Goals as goal
+
+pub of-requires-clause-row : goal.of-requires-clause-row
+of-requires-clause-row c = route-row c.args.plan.now c.args.reg.now c.args.key.now (rows c.args.old) c.requires.key (λ r e none. c.requires.may.old_fits r e)
+
+pub of-requires-2-clause-row : goal.of-requires-2-clause-row
+of-requires-2-clause-row c = route-row c.args.plan.now c.args.reg.now c.args.key.now (rows c.args.new) c.requires.key c.requires.may.new_fits
+
+pub route_row-requires : goal.route_row-requires
+route_row-requires c = route-row c.args.plan.now c.args.reg.now c.args.key.now (rows c.args.old) c.requires.key (λ r e none. c.requires.may.old_fits r e)
+
+pub route_row-requires-2 : goal.route_row-requires-2
+route_row-requires-2 c = route-row c.args.plan.now c.args.reg.now c.args.key.now (rows c.args.new) c.requires.key c.requires.may.new_fits
+
+pub returns-clause-started : goal.returns-clause-started
+returns-clause-started c =
+    started-as c.args.plan.now c.args.reg.now c.args.room.now c.args.used.now c.args.worker c.args.key.now (rows c.args.old) (rows c.args.new) c.in-Route.prefix c.in_ok-applied.applied c.in_ok-wanted.wanted c.in_ok-was.was' c.in_ok-target.target
+    c.first-flight.result c.in_ok-begun.begun c.begun.result c.begin.new.reg c.begin.new.room
+    c.in-Route.is c.in_ok-applied.ensures c.in_ok-wanted.ensures c.in_ok-was.ensures c.in_ok-target.ensures c.first-flight.ensures c.begun.ensures c.requires.may c.in_ok-begun.ensures.begun

@@ -1,0 +1,87 @@
+-- The operation of a route, as far as it is made: the route is made, or set to its new target, or removed. Own.
+use Rattle.std.specs.Prelude.{◌≡◌, ℕ, Bool, true, false, List, [], ◌∷◌, length, Option, Some, None, option_map, Result, Ok, Err, if◌then◌else◌}
+use Rattle.swss_types.specs.declared.address.Prefix.{Prefix}
+use Rattle.table_schema.specs.declared.key.Key.TheVariants as key
+use Rattle.table_schema.specs.declared.row.Row.{Row}
+use Rattle.table_schema.specs.declared.row.Row.TheVariants as row
+use Rattle.table_schema.specs.declared.row.RouteRow.{RouteRow}
+use Rattle.sai_types.specs.contracts.thing.GoalPartialEq.TheImpl as goal_eq
+use Rattle.sai_types.specs.declared.hop.Hop.{Hop}
+use Rattle.sai_types.specs.declared.thing.Goal.{Goal}
+use Rattle.sai_types.specs.declared.thing.Thing.TheVariants as thing
+use Rattle.sai_types.specs.Names as thing_name
+use Rattle.switch_model.specs.declared.wait.Wait.{Wait}
+use Rattle.row_layout.specs.Operations.{Change, Make, Set, Take}
+use Rattle.row_layout.specs.Rows.{Owner, Group}
+use Rattle.ref_counts.specs.declared.name.Name.{Name}
+use Rattle.ref_counts.specs.declared.name.Name.TheVariants as name
+use Rattle.orch_flight.specs.Operation.{Operation}
+use Rattle.orch_flight.specs.Sharing.{owner_for, owners_of}
+use Rattle.orch_flight.specs.Starting.{first_left}
+use Rattle.route_orch.specs.Targets.{AreGroups, goal_at}
+use Rattle.route_orch.specs.declared.flight.Step.{Step}
+use Rattle.route_orch.specs.declared.flight.Step.TheVariants as step
+use Rattle.route_orch.specs.declared.target.Target.{Target}
+
+-- the places for a group that is built, and for a route where none is applied
+abbrev pub places_needed : Bool → Option Name → Bool → List ℕ
+places_needed true (Some (name.Group hops)) applied = 0 ∷ 0 ∷ 0 ∷ 0 ∷ 0 ∷ 0 ∷ 0 ∷ 0 ∷ 1 ∷ length hops ∷ (if applied then 0 else 1) ∷ []
+places_needed builds group applied = 0 ∷ 0 ∷ 0 ∷ 0 ∷ 0 ∷ 0 ∷ 0 ∷ 0 ∷ 0 ∷ 0 ∷ (if applied then 0 else 1) ∷ []
+
+-- the change that a step is
+abbrev pub route_due : Step → Prefix → Goal → List Change
+route_due step.Make prefix g = Make (thing.Route prefix g) ∷ []
+route_due step.Set prefix g = Set (thing.Route prefix g) ∷ []
+route_due step.Take prefix g = Take (thing_name.Route prefix) ∷ []
+route_due step.Changed prefix g = []
+route_due step.Ended prefix g = []
+
+-- the row for which the route stands
+abbrev pub stands_for : Step → Option RouteRow → Option RouteRow → Option RouteRow
+stands_for step.Changed old new = new
+stands_for _ old new = old
+
+abbrev pub route_operation : ℕ → Prefix → Option RouteRow → Option RouteRow → Target → Step → Option Name → Option Name → Operation
+route_operation worker prefix old new target s leaves retires = record { worker = worker; key = key.Route prefix; now = option_map row.Route (stands_for s old new); new = option_map row.Route new; due = route_due s prefix (goal_at target); leaves = option_map owner_for leaves; retires = option_map owner_for retires }
+
+-- the first step: a route whose target stays needs none
+abbrev pub first_step : Option RouteRow → Option RouteRow → Target → Target → Step
+first_step None None was target = step.Ended
+first_step None (Some r) was target = step.Make
+first_step (Some a) None was target = step.Take
+first_step (Some a) (Some r) was target = if goal_eq.ghosts.eq (goal_at was) (goal_at target) then step.Ended else step.Set
+
+-- an operation of which nothing is made
+abbrev pub first_operation : ℕ → Prefix → Option RouteRow → Option RouteRow → Target → Target → Operation
+first_operation worker prefix old new was target = record { worker = worker; key = key.Route prefix; now = option_map row.Route old; new = option_map row.Route new; due = route_due (first_step old new was target) prefix (goal_at target); leaves = first_left (owners_of target.group) (owners_of was.group); retires = None }
+
+-- the step after one
+abbrev pub later_step : Step → Step
+later_step step.Set = step.Changed
+later_step _ = step.Ended
+
+-- where the route is to go there is no new row, and no group
+abbrev pub Matches : Step → Option RouteRow → Option Name → Type 0
+Matches step.Take new group = (new ≡ None) × (group ≡ None)
+Matches s new group = Unit {0}
+
+-- what the route is part of are groups
+pub record IsRouteKept (s : Step) (new : Option RouteRow) (group left going : Option Name) : Type 0 where
+  pub has : AreGroups group
+  pub leaves : AreGroups left
+  pub retires : AreGroups going
+  pub matches : Matches s new group
+
+-- the hops of a group's name, where it is one
+abbrev pub group_hops : Option Name → Option (List Hop)
+group_hops (Some (name.Group hops)) = Some hops
+group_hops _ = None
+
+abbrev pub group_owners : Option (List Hop) → List Owner
+group_owners None = []
+group_owners (Some hops) = Group hops ∷ []
+
+-- an operation for an answer
+abbrev pub flown : Operation → Result (Unit {0}) Wait → Result Operation Wait
+flown operation (Ok _) = Ok operation
+flown operation (Err wait) = Err wait

@@ -1,0 +1,282 @@
+// The operation of a route.
+ghost use Rattle.std.specs.Prelude.{◌≡◌, ◌↔◌, [], Some, option_map, IsTrue, IfOk, OnErr};
+ghost use Rattle.table_schema.specs.Plan.{Ports};
+ghost use Rattle.row_layout.specs.Operations.{uses_of};
+ghost use Rattle.row_layout.specs.Rows.{Group};
+ghost use Rattle.ref_counts.specs.Registry.{state_of};
+ghost use Rattle.ref_counts.specs.declared.name.NameState.TheVariants as state;
+ghost use Rattle.orch_flight.specs.Calling.{IsNextOf, IsOver, KnowsIds};
+ghost use Rattle.orch_flight.specs.Sharing.{MayStart, owner_for};
+ghost use Rattle.orch_flight.specs.Starting.{IsStartedBy, left_names, retired_by};
+ghost use Rattle.orch_flight.specs.Taking.{IsTook, MayTake};
+ghost use Rattle.route_orch.specs.Targets.{AreGroups, IsRouteKey, IsRouteRow};
+ghost use Rattle.route_orch.specs.Routes.{first_operation, first_step, flown, group_hops, group_owners, later_step};
+
+use crate::starting::begin;
+use crate::target::{Target, left};
+use orch_flight::leave;
+use ref_counts::{Name, Next, Registry, Room};
+use sai_types::{Attr, Body, Call, Entry, Hops, Vid};
+use std::alloc::Global;
+use std::marker::Model;
+use switch_model::Wait;
+use swss_types::{OutOfMemory, Prefix};
+use table_schema::{Key, PortPlan, RouteRow, Row};
+
+/// How far a route's operation is.
+#[derive(Clone, Copy, Debug, PartialEq, Eq)]
+enum Step {
+    /// The route is to be made.
+    Make,
+    /// Its target is to be set.
+    Set,
+    /// It is to be removed.
+    Take,
+    /// Its target was set.
+    Changed,
+    /// Nothing else is to be done.
+    Ended,
+}
+
+/// The operation of a route: it is made, set to its new target where that differs, or removed. A group that it is to have is
+/// built before it, and the one that it leaves last is taken away after it, each by an operation of its own.
+#[derive(Debug, Drop)]
+pub struct RouteFlight {
+    worker: u32,
+    prefix: Prefix,
+    // the row before, and the one that the route is to have, with its target
+    applied: Option<RouteRow>,
+    wanted: Option<RouteRow>,
+    target: Target,
+    step: Step,
+    // the group that it has still to leave, and the one that it takes away since it left it last
+    leaves: Option<Name>,
+    retires: Option<Name>,
+}
+
+impl Model for RouteFlight {
+    ghost use Rattle.orch_flight.specs.Operation.{Operation};
+    ghost use Rattle.route_orch.specs.Routes.{IsRouteKept, route_operation};
+
+    ghost Value = { Operation };
+
+    ghost view = { λ f. route_operation f.worker f.prefix f.applied f.wanted f.target f.step f.leaves f.retires };
+
+    ghost invariant = { λ f. IsRouteKept f.step f.wanted f.target.group f.leaves f.retires };
+}
+
+impl RouteFlight {
+    /// Starts the operation that brings a route from its applied row to its new one, or tells the first reason why it has to
+    /// wait, and changes nothing then. The worker is below 4 and has no operation.
+    pub fn start(
+        alloc: Global,
+        plan: &PortPlan,
+        reg: &mut Registry,
+        room: &mut Room,
+        used: &[u64; 11],
+        worker: u32,
+        key: &Key,
+        old: Option<&Row>,
+        new: Option<&Row>,
+    ) -> Result<Result<RouteFlight, Wait>, OutOfMemory>
+        requires key { IsRouteKey key.now }
+        requires may { MayStart plan.now reg.old worker key.now (option_map (λ r. r.now) old) (option_map (λ r. r.now) new) }
+        ensures started { IfOk result (λ answer. IsStartedBy plan.now reg.old room.old used.now worker key.now (option_map (λ r. r.now) old.entry) (option_map (λ r. r.now) new.entry) answer reg.new room.new) }
+        ensures err { OnErr result (reg.new ≡ reg.old) }
+        ensures err_room { OnErr result (room.new ≡ room.old) }
+    {
+        let Key::Route(prefix) = key else {
+            unreachable!();
+        };
+        let was = Target::of(alloc, plan, key, old)?;
+        let target = Target::of(alloc, plan, key, new)?;
+        let applied = route_row(old)?;
+        let wanted = route_row(new)?;
+        let begun = begin(
+            alloc,
+            plan,
+            reg,
+            room,
+            used,
+            worker,
+            key,
+            old,
+            new,
+            &target.group,
+        )?;
+        let flight = RouteFlight::first(worker, *prefix, applied, wanted, was, target);
+        Ok(flight.begun(begun))
+    }
+
+    /// The operation of which nothing is made yet.
+    fn first(
+        worker: u32,
+        prefix: Prefix,
+        applied: Option<RouteRow>,
+        wanted: Option<RouteRow>,
+        was: Target,
+        target: Target,
+    ) -> RouteFlight
+        requires was { AreGroups was.group }
+        requires target { AreGroups target.group }
+        requires none { wanted ≡ None → target.group ≡ None }
+        ensures { result ≡ first_operation worker prefix applied wanted was target }
+    {
+        let step = first_step(&applied, &wanted, &was, &target);
+        let leaves = left(was.group, &target.group);
+        RouteFlight {
+            worker,
+            prefix,
+            applied,
+            wanted,
+            target,
+            step,
+            leaves,
+            retires: None,
+        }
+    }
+
+    /// The operation, where it could begin.
+    fn begun(self, begun: Result<(), Wait>) -> Result<RouteFlight, Wait>
+        ensures { result ≡ flown self begun }
+    {
+        match begun {
+            Ok(()) => Ok(self),
+            Err(wait) => Err(wait),
+        }
+    }
+
+    /// The call that is due, or the end. It takes no memory.
+    pub fn next(&self, reg: &Registry) -> Result<Next, OutOfMemory>
+        requires { KnowsIds reg.now self.now }
+        ensures { IfOk result (λ next. (plan : Ports) → IsOver plan self.now → IsNextOf plan reg.now self.now next) }
+    {
+        match (self.step, &self.wanted) {
+            (Step::Make, Some(row)) => Ok(Next::Call(Call::Create(Body::Route {
+                prefix: self.prefix,
+                to: self.target.to(reg, row),
+            }))),
+            (Step::Set, Some(row)) => {
+                let to = self.target.to(reg, row);
+                Ok(Next::Call(Call::Set(
+                    Entry::Route(self.prefix),
+                    Attr::To(to),
+                )))
+            }
+            (Step::Take, _) => Ok(Next::Call(Call::Remove(Entry::Route(self.prefix)))),
+            (Step::Make | Step::Set, None) => Ok(Next::End),
+            (Step::Changed | Step::Ended, _) => Ok(Next::End),
+        }
+    }
+
+    /// The call that was due has taken effect. The route then leaves the group that its new row has no more, and takes it
+    /// away where it was the last.
+    pub fn took(&mut self, _made: Option<Vid>, reg: &mut Registry)
+        requires { MayTake self.old _made reg.old }
+        ensures { IsTook self.old _made reg.old self.new reg.new }
+    {
+        self.step = later_step(self.step);
+        if let Some(name) = self.leaves.take() {
+            self.retires = part(reg, self.worker, self.prefix, name);
+        }
+    }
+
+    /// Whether no call is due.
+    pub fn is_over(&self) -> bool
+        ensures { IsTrue result ↔ (self.now.due ≡ []) }
+    {
+        match self.step {
+            Step::Make | Step::Set | Step::Take => false,
+            Step::Changed | Step::Ended => true,
+        }
+    }
+
+    /// The group that the new row has, while a call is due.
+    pub fn new_group(&self) -> Option<&Hops>
+        ensures { (plan : Ports) → IsOver plan self.now → (self.now.due ≡ [] → ⊥) → uses_of plan self.now.key self.now.new ≡ group_owners (option_map (λ hops. hops.now) result) }
+    {
+        hops_of(&self.target.group)
+    }
+
+    /// The group that it takes away.
+    pub fn retired(&self) -> Option<&Hops>
+        ensures { option_map (λ hops. Group hops.now) result ≡ self.now.retires }
+    {
+        match &self.retires {
+            Some(Name::Group(hops)) => Some(hops),
+            _ => None,
+        }
+    }
+}
+
+/// The first step of a route's operation.
+fn first_step(
+    applied: &Option<RouteRow>,
+    wanted: &Option<RouteRow>,
+    was: &Target,
+    target: &Target,
+) -> Step
+    requires was { AreGroups was.now.group }
+    requires target { AreGroups target.now.group }
+    ensures { result ≡ first_step applied.now wanted.now was.now target.now }
+{
+    match (applied, wanted) {
+        (None, None) => Step::Ended,
+        (None, Some(_)) => Step::Make,
+        (Some(_), None) => Step::Take,
+        (Some(_), Some(_)) => {
+            if was.is(target) {
+                Step::Ended
+            } else {
+                Step::Set
+            }
+        }
+    }
+}
+
+/// The step after one.
+fn later_step(step: Step) -> Step
+    ensures { result ≡ later_step step }
+{
+    match step {
+        Step::Set => Step::Changed,
+        _ => Step::Ended,
+    }
+}
+
+/// A route leaves its old group: the group, where the route was the last.
+fn part(reg: &mut Registry, worker: u32, prefix: Prefix, group: Name) -> Option<Name>
+    requires live { state_of reg.old group ≡ state.Live }
+    requires groups { AreGroups (Some group) }
+    ensures names { reg.new ≡ left_names reg.old worker (Key.Route prefix) (owner_for group) }
+    ensures last { option_map owner_for result ≡ retired_by reg.old worker (Key.Route prefix) (owner_for group) }
+    ensures groups { AreGroups result }
+{
+    if leave(reg, worker, &Key::Route(prefix), &group) {
+        Some(group)
+    } else {
+        None
+    }
+}
+
+/// The hops of a group's name, where it is one.
+fn hops_of(group: &Option<Name>) -> Option<&Hops>
+    ensures { option_map (λ hops. hops.now) result ≡ group_hops group.now }
+{
+    match group {
+        Some(Name::Group(hops)) => Some(hops),
+        _ => None,
+    }
+}
+
+/// A copy of a route's row, where there is one.
+fn route_row(given: Option<&Row>) -> Result<Option<RouteRow>, OutOfMemory>
+    requires { IsRouteRow (option_map (λ r. r.now) given) }
+    ensures { IfOk result (λ route. option_map Row.Route route ≡ option_map (λ r. r.now) given.entry) }
+{
+    match given {
+        Some(Row::Route(row)) => Ok(Some(row.copy()?)),
+        Some(_) => unreachable!(),
+        None => Ok(None),
+    }
+}
