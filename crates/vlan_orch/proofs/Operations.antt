@@ -21,12 +21,11 @@ use Rattle.ref_counts.specs.declared.name.Name.TheVariants as name
 use Rattle.ref_counts.specs.declared.name.NameState.{NameState}
 use Rattle.ref_counts.specs.declared.name.NameState.TheVariants as state
 use Rattle.ref_counts.specs.Registry.{Names, state_of}
-use Rattle.orch_flight.specs.Needing.{absent_or, first_absent, name_for}
+use Rattle.orch_flight.specs.Needing.{absent_or, first_absent, name_for, to_build}
 use Rattle.orch_flight.specs.Operation.{Operation}
-use Rattle.orch_flight.specs.Sharing.{is_absent, lacks_shared}
 use Rattle.orch_flight.specs.Starting.{begun_names, built_here, first_left, started_by, started_operation}
 use Rattle.orch_flight.proofs.Begins.{started-plain}
-use Rattle.vlan_orch.specs.Vlans.{IsFirst, IsFirstMember, IsMemberRow, first_vlan, lacks_bridge, member_operation, operation_of, vlan_operation}
+use Rattle.vlan_orch.specs.Vlans.{IsFirst, IsFirstMember, IsMemberRow, first_vlan, member_operation, operation_of, vlan_operation}
 use Rattle.vlan_orch.specs.declared.steps.Membership.{Membership}
 use Rattle.vlan_orch.specs.declared.steps.MemberStep.{MemberStep}
 use Rattle.vlan_orch.specs.declared.steps.MemberStep.TheVariants as member
@@ -107,7 +106,7 @@ module _ (plan : Ports) (names : Names) (worker : ℕ) where
     abbrev own_key : Key
     own_key = key.Member at.vlan at.port
 
-    added-by : (later : Names) (tagging : Tagging) (step : MemberStep) (s : NameState) (builds : Bool) → builds ≡ is_absent s → IsFirstMember None (Some tagging) builds step
+    added-by : (later : Names) (tagging : Tagging) (step : MemberStep) (s : NameState) (builds : Bool) → builds ≡ is_some (absent_or (Bridge at.lane) s None) → IsFirstMember None (Some tagging) builds step
         → member_operation worker at step ≡ started_by later worker own_key None (Some (row.Member tagging)) (built_here (absent_or (Bridge at.lane) s None) (Make (thing_with at tagging) ∷ [])) None
     added-by later tagging step state.Absent true is h = ap (member_operation worker at) h
     added-by later tagging step state.Absent false is h = absurd (false≢true is)
@@ -126,12 +125,12 @@ module _ (plan : Ports) (names : Names) (worker : ℕ) where
     set-operation a b true is = ap₂ (λ x due. sets x b due) (sym (tagging-exact a b is)) (sym (set-by at a b true is))
     set-operation a b false is = ap (sets a b) (sym (set-by at a b false is))
 
-    operation-member : (a b : Option Tagging) (builds : Bool) (step : MemberStep) → builds ≡ lacks_bridge plan names own_key (option_map row.Member b) → AreLive plan names own_key (option_map row.Member a) → IsFirstMember a b builds step
+    operation-member : (a b : Option Tagging) (builds : Bool) (step : MemberStep) → builds ≡ is_some (to_build plan names own_key (option_map row.Member b)) → AreLive plan names own_key (option_map row.Member a) → IsFirstMember a b builds step
         → member_operation worker at step ≡ started_operation plan names worker own_key (option_map row.Member a) (option_map row.Member b)
     operation-member None None builds step is live h = elim h [ ]
     operation-member None (Some t) builds step is live h =
         let later = begun_names plan names worker own_key None (Some (row.Member t)) in
-        added-by later t step (state_of names (name.BridgePort at.lane)) builds (is ∙ ap (λ o. lacks_shared names (option_map name.BridgePort o)) lane) h
+        added-by later t step (state_of names (name.BridgePort at.lane)) builds (is ∙ ap (λ o. is_some (first_absent names (bridges o))) lane) h
         ∙ sym (ap (λ o. started_by later worker own_key None (Some (row.Member t)) (built_here (first_absent names (bridges o)) (make_all (members at.vlan t o) [])) None) lane)
     operation-member (Some a) (Some t) builds step is live h =
         let later = begun_names plan names worker own_key (Some (row.Member a)) (Some (row.Member t)) in
@@ -159,13 +158,13 @@ module _ (plan : Ports) (names : Names) (worker : ℕ) where
   operation-vlan v (Some r) new some fits_old fits_new = elim (fits_old r refl) [ ]
 
   -- what starts is the operation from one row to the other
-  pub first-operation : (k : Key) (old new : Option Row) (builds : Bool) (s : Subject) → (old ≡ None → new ≡ None → ⊥) → FitsAll plan k old → FitsAll plan k new → builds ≡ lacks_bridge plan names k new → AreLive plan names k old → IsFirst plan k old new builds s
+  pub first-operation : (k : Key) (old new : Option Row) (builds : Bool) (s : Subject) → (old ≡ None → new ≡ None → ⊥) → FitsAll plan k old → FitsAll plan k new → builds ≡ is_some (to_build plan names k new) → AreLive plan names k old → IsFirst plan k old new builds s
       → operation_of worker s ≡ started_operation plan names worker k old new
   first-operation (key.Vlan v) old new builds s some fits_old fits_new is live h = ap (operation_of worker) h ∙ operation-vlan v old new some fits_old fits_new
   first-operation (key.Member v p) old new builds s some fits_old fits_new is live (lane, a, b, step, lane_is, old_is, new_is, first, subject_is) =
       let at : Membership = record { vlan = v; port = p; lane = lane } in
       let k = key.Member v p in
       subst (λ o. AreLive plan names k o → operation_of worker s ≡ started_operation plan names worker k o new) old_is
-      (subst (λ n. builds ≡ lacks_bridge plan names k n → AreLive plan names k (option_map row.Member a) → operation_of worker s ≡ started_operation plan names worker k (option_map row.Member a) n) new_is
+      (subst (λ n. builds ≡ is_some (to_build plan names k n) → AreLive plan names k (option_map row.Member a) → operation_of worker s ≡ started_operation plan names worker k (option_map row.Member a) n) new_is
       (λ is live. ap (operation_of worker) subject_is ∙ operation-member at lane_is a b builds step is live first) is) live
   first-operation k old new builds s some fits_old fits_new is live h = elim h [ ]

@@ -12,11 +12,7 @@ use Rattle.sai_types.specs.Names as thing_name
 use Rattle.switch_model.specs.Things.{lane_of}
 use Rattle.row_layout.specs.Operations.{Change, Make, Set, Take}
 use Rattle.row_layout.specs.Rows.{Owner, Bridge}
-use Rattle.ref_counts.specs.declared.name.Name.{Name}
-use Rattle.ref_counts.specs.declared.name.Name.TheVariants as name
-use Rattle.ref_counts.specs.Registry.{Names}
 use Rattle.orch_flight.specs.Operation.{Operation}
-use Rattle.orch_flight.specs.Sharing.{lacks_shared}
 use Rattle.vlan_orch.specs.declared.steps.Membership.{Membership}
 use Rattle.vlan_orch.specs.declared.steps.MemberStep.{MemberStep}
 use Rattle.vlan_orch.specs.declared.steps.MemberStep.TheVariants as member
@@ -110,16 +106,6 @@ operation_of worker (subject.Vlan vlan step) = vlan_operation worker vlan step
 operation_of worker (subject.Member at step) = member_operation worker at step
 
 -- ---- the start
-
--- the bridge port that a row shares
-abbrev pub bridge_of : Ports → Key → Row → Option Name
-bridge_of plan (key.Member vlan port) (row.Member tagging) = option_map name.BridgePort (lane_of plan port)
-bridge_of plan _ _ = None
-
--- nothing is there of the bridge port that the row shares which is to be
-abbrev pub lacks_bridge : Ports → Names → Key → Option Row → Bool
-lacks_bridge plan names k None = false
-lacks_bridge plan names k (Some r) = lacks_shared names (bridge_of plan k r)
 
 -- the places that a row needs: a row in the place of another needs none
 abbrev pub places_of_vlan : Bool → List ℕ

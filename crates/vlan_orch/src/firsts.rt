@@ -3,24 +3,12 @@ ghost use Rattle.std.specs.Prelude.{◌≡◌, None, Some, IsSome, option_map};
 ghost use Rattle.switch_machine.specs.Flights.{Fits};
 ghost use Rattle.switch_model.specs.Things.{lane_of};
 ghost use Rattle.table_schema.specs.declared.row.Row.{Row};
-ghost use Rattle.vlan_orch.specs.Vlans.{IsFirst, IsFirstMember, IsMemberRow, IsVlanKey, first_vlan, lacks_bridge};
+ghost use Rattle.vlan_orch.specs.Vlans.{IsFirst, IsFirstMember, IsMemberRow, IsVlanKey, first_vlan};
 
-use crate::starting::bridge_of;
 use crate::steps::{MemberStep, Membership, Subject, VlanStep};
-use orch_flight::{lacks, lane_of};
-use ref_counts::Registry;
+use orch_flight::lane_of;
 use swss_types::Tagging;
 use table_schema::{Key, PortPlan, Row};
-
-/// Whether nothing is there of the bridge port that the row shares which is to be applied.
-pub fn lacks_bridge(plan: &PortPlan, reg: &Registry, key: &Key, new: Option<&Row>) -> bool
-    ensures { result ≡ lacks_bridge plan.now reg.now key.now (option_map (λ r. r.now) new.entry) }
-{
-    match new {
-        Some(row) => lacks(reg, &bridge_of(plan, key, row)),
-        None => false,
-    }
-}
 
 /// The operation of which nothing is made yet, by whether the bridge port has to be built.
 pub fn first(

@@ -8,8 +8,8 @@ ghost use Rattle.orch_flight.specs.Taking.{IsTook, MayTake};
 ghost use Rattle.vlan_orch.specs.Vlans.{IsVlanKey};
 
 use crate::calls::{member_next, vlan_next};
-use crate::firsts::{first, lacks_bridge};
-use crate::starting::begin;
+use crate::firsts::first;
+use crate::starting::{begin, builds_bridge};
 use crate::steps::{MemberStep, Subject, VlanStep};
 use crate::taking::took;
 use ref_counts::{Next, Registry, Room};
@@ -55,7 +55,7 @@ impl VlanFlight {
         ensures err { OnErr result (reg.new ≡ reg.old) }
         ensures err_room { OnErr result (room.new ≡ room.old) }
     {
-        let builds = lacks_bridge(plan, reg, key, new);
+        let builds = builds_bridge(plan, reg, key, new);
         match begin(plan, reg, room, used, worker, key, old, new)? {
             Ok(()) => Ok(Ok(VlanFlight {
                 worker,

@@ -1,11 +1,13 @@
 // How the operation of a VLAN, or of a member of one, starts.
-ghost use Rattle.std.specs.Prelude.{◌≡◌, Some, option_map, IfOk, OnErr};
+ghost use Rattle.std.specs.Prelude.{◌≡◌, Some, is_some, option_map, IfOk, OnErr};
 ghost use Rattle.table_schema.specs.declared.key.Key.{Key};
-ghost use Rattle.orch_flight.specs.Sharing.{MayStart};
+ghost use Rattle.row_layout.specs.Shared.{uses};
+ghost use Rattle.orch_flight.specs.Needing.{to_build};
+ghost use Rattle.orch_flight.specs.Sharing.{MayStart, owners_of};
 ghost use Rattle.orch_flight.specs.Starting.{IsBegunBy};
-ghost use Rattle.vlan_orch.specs.Vlans.{IsOfVlan, IsVlanKey, bridge_of, places_of_member, places_of_vlan};
+ghost use Rattle.vlan_orch.specs.Vlans.{IsOfVlan, IsVlanKey, places_of_member, places_of_vlan};
 
-use orch_flight::{lacks, lane_of, start_row, try_remove};
+use orch_flight::{bridge_of, lacks, start_row, try_remove};
 use ref_counts::{Name, Registry, Room};
 use switch_model::Wait;
 use swss_types::OutOfMemory;
@@ -115,21 +117,30 @@ fn begin_member(
 {
     let applied = old.is_some();
     let names = [Key::Vlan(vlan), Key::Port(port)];
-    let shared = bridge_of(plan, key, new);
+    let shared = shared_by(plan, key, new);
     let need = member_places(applied, lacks(reg, &shared));
     start_row(reg, room, used, worker, key, &names, applied, &shared, need)
 }
 
 /// The bridge port that a row shares: none of a VLAN, nor of a member on a port that is not in the plan.
-pub fn bridge_of(plan: &PortPlan, key: &Key, row: &Row) -> Option<Name>
-    ensures { result ≡ bridge_of plan.now key.now row.now }
+fn shared_by(plan: &PortPlan, key: &Key, row: &Row) -> Option<Name>
+    requires { IsVlanKey key.now }
+    ensures { uses plan.now key.now row.now ≡ owners_of result }
 {
     match (key, row) {
-        (Key::Member(_, port), Row::Member(_)) => match lane_of(plan, *port) {
-            Some(lane) => Some(Name::BridgePort(lane)),
-            None => None,
-        },
+        (Key::Member(_, port), Row::Member(_)) => bridge_of(plan, *port),
         _ => None,
+    }
+}
+
+/// Whether nothing is there of the bridge port that the row shares which is to be applied.
+pub fn builds_bridge(plan: &PortPlan, reg: &Registry, key: &Key, new: Option<&Row>) -> bool
+    requires { IsVlanKey key.now }
+    ensures { result ≡ is_some (to_build plan.now reg.now key.now (option_map (λ r. r.now) new.entry)) }
+{
+    match new {
+        Some(row) => lacks(reg, &shared_by(plan, key, row)),
+        None => false,
     }
 }
 
