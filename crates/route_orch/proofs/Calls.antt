@@ -10,7 +10,6 @@ use Rattle.table_schema.specs.declared.row.RouteRow.{RouteRow}
 use Rattle.sai_types.specs.Alike.{IsIn}
 use Rattle.sai_types.specs.Names as thing_name
 use Rattle.sai_types.specs.Names.{goal_names, name_of}
-use Rattle.sai_types.specs.declared.hop.Hop.{Hop}
 use Rattle.sai_types.specs.declared.ids.Vid.{Vid}
 use Rattle.sai_types.specs.declared.body.Attr.TheVariants as attr
 use Rattle.sai_types.specs.declared.body.Body.TheVariants as body
@@ -23,7 +22,7 @@ use Rattle.sai_types.specs.declared.thing.Thing.{Thing}
 use Rattle.sai_types.specs.declared.thing.Thing.TheVariants as thing
 use Rattle.chip_layout.specs.Bodies.{IsAt, IsBody, IsChange, first_of, second_of, to_with}
 use Rattle.row_layout.specs.Operations.{Make, Set, Take, uses_of}
-use Rattle.row_layout.specs.Rows.{Owner, OfRow, Group, goal_of}
+use Rattle.row_layout.specs.Rows.{Owner, OfRow, goal_of}
 use Rattle.row_layout.specs.Shared.{shared_things}
 use Rattle.row_layout.proofs.Members.{from_in, only}
 use Rattle.row_layout.proofs.Owners.{shared-own}
@@ -33,10 +32,10 @@ use Rattle.ref_counts.specs.declared.name.Name.{Name}
 use Rattle.ref_counts.specs.declared.name.Name.TheVariants as name
 use Rattle.ref_counts.specs.declared.next.Next.TheVariants as next
 use Rattle.ref_counts.specs.Registry.{Names}
-use Rattle.orch_flight.specs.Calling.{HasVid, IsChangeFor, IsEnteredBy, IsEntryOf, IsNextOf, IsOver, things_held, things_retired}
+use Rattle.orch_flight.specs.Calling.{HasVid, IsChangeFor, IsEnteredBy, IsEntryOf, IsNextOf, IsOver, things_retired}
 use Rattle.orch_flight.specs.Operation.{Operation}
 use Rattle.orch_flight.specs.Sharing.{owner_for}
-use Rattle.route_orch.specs.Targets.{PointsTo, goal_at, goal_with, way_goal}
+use Rattle.route_orch.specs.Targets.{PointsTo, goal_at, goal_with}
 use Rattle.route_orch.specs.Routes.{Matches, group_hops, group_owners, route_operation}
 use Rattle.route_orch.specs.declared.flight.Step.{Step}
 use Rattle.route_orch.specs.declared.flight.Step.TheVariants as step

@@ -1,6 +1,6 @@
 -- the changes that are due at the start of a route's operation
 use Rattle.std.proofs.Common.{◌≡◌, Bool, true, false, ◌&&◌, ◌||◌, List, [], ◌∷◌, Option, Some, None, option_map, if◌then◌else◌, refl, sym, ap, ap₂, subst, ◌∙◌}
-use Rattle.std.proofs.lemmas.Bool.{and_parts, false≢true}
+use Rattle.std.proofs.lemmas.Bool.{and_parts}
 use Rattle.swss_types.specs.declared.address.Prefix.{Prefix}
 use Rattle.swss_types.specs.contracts.address.PrefixPartialEq.TheImpl as prefix_eq
 use Rattle.table_schema.specs.Plan.{Ports}
@@ -13,13 +13,12 @@ use Rattle.sai_types.specs.contracts.thing.ThingEq.TheImpl.Laws as equal_thing
 use Rattle.sai_types.specs.declared.thing.Goal.{Goal}
 use Rattle.sai_types.specs.declared.thing.Goal.TheVariants as goal
 use Rattle.sai_types.specs.declared.thing.Thing.TheVariants as thing
-use Rattle.row_layout.specs.Operations.{Change, Make, Set, Take, make_all, own_changes, same_thing, set_all, take_all}
+use Rattle.row_layout.specs.Operations.{Change, Make, Set, make_all, own_changes, same_thing, set_all, take_all}
 use Rattle.row_layout.specs.Rows.{Owner, Group, from, goal_of}
 use Rattle.switch_machine.specs.Flights.{Fits}
 use Rattle.switch_machine.proofs.Equal.{thing-exact}
 use Rattle.ref_counts.specs.declared.name.Name.{Name}
 use Rattle.ref_counts.specs.declared.name.Name.TheVariants as name
-use Rattle.ref_counts.specs.declared.name.NameState.{NameState}
 use Rattle.ref_counts.specs.declared.name.NameState.TheVariants as state
 use Rattle.ref_counts.specs.Registry.{Names, state_of}
 use Rattle.orch_flight.specs.Needing.{absent_or, first_absent}

@@ -1,5 +1,5 @@
 -- where a route's row points, and what it shares
-use Rattle.std.proofs.Common.{◌≡◌, inl, inr, Bool, true, false, List, [], ◌∷◌, Option, Some, None, option_map, if◌then◌else◌, refl, sym, ap, ap₂, subst, ◌∙◌}
+use Rattle.std.proofs.Common.{◌≡◌, inl, inr, List, [], ◌∷◌, Option, Some, None, option_map, refl, sym, ap, subst, ◌∙◌}
 use Rattle.std.specs.BTreeSet.{insert_key}
 use Rattle.std.proofs.lemmas.Option.{none-some, same_Some}
 use Rattle.swss_types.specs.declared.address.Prefix.{Prefix}
@@ -11,11 +11,9 @@ use Rattle.table_schema.specs.declared.row.RouteRow.TheVariants as route
 use Rattle.table_schema.specs.declared.row_hop.RowHop.{RowHop}
 use Rattle.sai_types.specs.Alike.{IsIn}
 use Rattle.sai_types.specs.Named.{both, hop_cmp}
-use Rattle.sai_types.specs.declared.hop.Base.{Base}
 use Rattle.sai_types.specs.declared.hop.Hop.{Hop}
 use Rattle.sai_types.specs.declared.ids.Vid.{Vid}
 use Rattle.sai_types.specs.declared.body.To.{To}
-use Rattle.sai_types.specs.declared.body.To.TheVariants as to
 use Rattle.sai_types.specs.declared.thing.Goal.{Goal}
 use Rattle.sai_types.specs.declared.thing.Goal.TheVariants as goal
 use Rattle.sai_types.specs.declared.thing.Thing.TheVariants as thing
@@ -30,7 +28,7 @@ use Rattle.ref_counts.specs.declared.name.Name.{Name}
 use Rattle.ref_counts.specs.declared.name.Name.TheVariants as name
 use Rattle.ref_counts.specs.Registry.{Names}
 use Rattle.orch_flight.specs.Calling.{HasVid, row_vid}
-use Rattle.orch_flight.specs.Sharing.{owner_for, owners_of}
+use Rattle.orch_flight.specs.Sharing.{owners_of}
 use Rattle.route_orch.specs.Targets.{AreGroups, IsTargetOf, IsToFirst, PointsTo, goal_at, goal_with, way_goal, way_of, way_on}
 use Rattle.route_orch.specs.declared.target.Target.{Target}
 use Rattle.route_orch.specs.declared.target.Way.{Way}

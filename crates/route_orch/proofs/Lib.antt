@@ -5,4 +5,3 @@ pub mod Goals
 pub mod Operations
 pub mod Places
 pub mod Starts
-pub mod Takes

@@ -1,12 +1,11 @@
 -- the start of a route's operation
-use Rattle.std.proofs.Common.{◌≡◌, inl, ℕ, false, true, Bool, List, [], ◌∷◌, ◌++◌, map, length, Option, Some, None, option_map, is_some, if◌then◌else◌, refl, sym, ap, ap₂, subst, ◌∙◌, arith}
+use Rattle.std.proofs.Common.{◌≡◌, inl, ℕ, List, [], ◌∷◌, ◌++◌, map, Option, Some, None, option_map, is_some, refl, sym, ap, ap₂, subst, ◌∙◌}
 use Rattle.std.specs.BTreeMap.{insert_entry}
 use Rattle.table_schema.specs.Names.{names_of}
 use Rattle.table_schema.specs.Plan.{Ports}
 use Rattle.table_schema.specs.declared.key.Key.{Key}
 use Rattle.table_schema.specs.declared.row.Row.{Row}
 use Rattle.sai_types.specs.Alike.{IsIn}
-use Rattle.switch_model.specs.declared.wait.Wait.{Wait}
 use Rattle.switch_model.specs.declared.wait.Wait.TheVariants as wait
 use Rattle.row_layout.specs.Operations.{Change, own_changes, uses_of}
 use Rattle.row_layout.specs.Rows.{Owner}
@@ -20,8 +19,7 @@ use Rattle.ref_counts.specs.Registry.{Names, changed, name_cmp, pinned, state_of
 use Rattle.ref_counts.specs.Room.{RoomState, lacking}
 use Rattle.orch_flight.specs.Needing.{absent_or, first_absent, first_unapplied, least_of, name_for, or_else, places_for, row_reason, to_build, wait_of, workers_on}
 use Rattle.orch_flight.specs.Sharing.{MayShare, begun_by, is_absent, lacks_shared, owner_for, owners_of, with_row_begun, with_shared}
-use Rattle.orch_flight.specs.Starting.{begun_names, first_due, ids_for, leaving, started_by, started_names, started_names_by, used_by, with_building, with_own, with_pins}
-use Rattle.orch_flight.specs.Operation.{Operation}
+use Rattle.orch_flight.specs.Starting.{begun_names, ids_for, started_by, started_names_by, used_by, with_building, with_own, with_pins}
 use Rattle.orch_flight.specs.Taking.{to_list}
 
 -- what the registry keeps under the name of an owner

@@ -1,8 +1,7 @@
 -- The operation of a route, as far as it is made: the route is made, or set to its new target, or removed. Own.
-use Rattle.std.specs.Prelude.{◌≡◌, ℕ, Bool, true, false, List, [], ◌∷◌, length, Option, Some, None, option_map, Result, Ok, Err, if◌then◌else◌}
+use Rattle.std.specs.Prelude.{◌≡◌, ℕ, Bool, true, List, [], ◌∷◌, length, Option, Some, None, option_map, Result, Ok, Err, if◌then◌else◌}
 use Rattle.swss_types.specs.declared.address.Prefix.{Prefix}
 use Rattle.table_schema.specs.declared.key.Key.TheVariants as key
-use Rattle.table_schema.specs.declared.row.Row.{Row}
 use Rattle.table_schema.specs.declared.row.Row.TheVariants as row
 use Rattle.table_schema.specs.declared.row.RouteRow.{RouteRow}
 use Rattle.sai_types.specs.contracts.thing.GoalPartialEq.TheImpl as goal_eq

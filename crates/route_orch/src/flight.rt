@@ -158,10 +158,7 @@ impl RouteFlight {
             }))),
             (Step::Set, Some(row)) => {
                 let to = self.target.to(reg, row);
-                Ok(Next::Call(Call::Set(
-                    Entry::Route(self.prefix),
-                    Attr::To(to),
-                )))
+                Ok(Next::Call(Call::Set(Entry::Route(self.prefix), Attr::To(to))))
             }
             (Step::Take, _) => Ok(Next::Call(Call::Remove(Entry::Route(self.prefix)))),
             (Step::Make | Step::Set, None) => Ok(Next::End),

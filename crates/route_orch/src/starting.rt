@@ -35,9 +35,7 @@ pub fn begin(
     ensures err_room { OnErr result (room.new ≡ room.old) }
 {
     match (old, new) {
-        (old, Some(new)) => bring(
-            alloc, plan, reg, room, used, worker, key, old, new, group,
-        ),
+        (old, Some(new)) => bring(alloc, plan, reg, room, used, worker, key, old, new, group),
         (Some(old), None) => remove(plan, reg, room, used, worker, key, old),
         (None, None) => unreachable!(),
     }

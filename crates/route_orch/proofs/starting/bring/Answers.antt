@@ -1,4 +1,4 @@
-use Rattle.std.proofs.Common.{Some, refl, sym, ap, ◌∙◌}
+use Rattle.std.proofs.Common.{Some, refl, ap, ◌∙◌}
 use Rattle.row_layout.specs.Operations.{uses_of}
 use Rattle.route_orch.specs.Routes.{places_needed}
 use Rattle.route_orch.proofs.Begins.{brought, some-row}

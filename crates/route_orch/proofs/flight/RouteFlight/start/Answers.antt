@@ -1,4 +1,3 @@
-use Rattle.std.proofs.Common.{Some, None, refl, ap}
 use Rattle.route_orch.proofs.Operations.{route-row, rows, started-as}
 use Rattle.route_orch.proofs.flight.RouteFlight.start.Goals as goal
 
