@@ -1,0 +1,6 @@
+mod Dues
+mod Partners
+mod Placed
+mod Puts
+mod Ranked
+mod Shuffled
