@@ -1,6 +1,9 @@
+mod Changes
 mod Dues
+mod Hitless
 mod Partners
 mod Placed
 mod Puts
 mod Ranked
 mod Shuffled
+mod Valued

@@ -142,7 +142,7 @@ module _ {made : ℕ} (old : List (Object Rid)) {new : List (Object Vid)} {thing
   pub new-place : (i j : ℕ) (x y : Vid × Thing) → slice_get things i ≡ Some x → slice_get things j ≡ Some y → name_of x.1 ≡ name_of y.1 → i ≡ j
   new-place = same_place things view.once
 
-  key_new : (j : ℕ) (x : Vid × Thing) → slice_get things j ≡ Some x → HasKey (entries_of (objects_as new)) j (key_of x.1)
+  pub key_new : (j : ℕ) (x : Vid × Thing) → slice_get things j ≡ Some x → HasKey (entries_of (objects_as new)) j (key_of x.1)
   key_new j x e = ap (λ ks. slice_get ks j) view.keys ∙ slice_get-map (λ (y : Vid × Thing). Some (key_of y.1)) things j ∙ ap (option_map (λ (y : Vid × Thing). Some (key_of y.1))) e
 
   new_key : (j : ℕ) (k : NaturalKey) → HasKey (entries_of (objects_as new)) j k → (x : Vid × Thing) × (slice_get things j ≡ Some x) × (key_of x.1 ≡ k)
