@@ -5,5 +5,6 @@ mod Partners
 mod Placed
 mod Puts
 mod Ranked
+mod Sets
 mod Shuffled
 mod Valued
