@@ -173,7 +173,7 @@ module _ {made : ℕ} (old : List (Object Rid)) {new : List (Object Vid)} {thing
   old_place : (i : ℕ) (o : Object Rid) → slice_get old i ≡ Some o → slice_get O i ≡ Some (o.entry, o.body)
   old_place i o e = slice_get-map (λ (z : Object Rid). (z.entry, z.body)) old i ∙ ap (option_map (λ (z : Object Rid). (z.entry, z.body))) e
 
-  place_old : (i : ℕ) (e : Entry Rid) (b : Body Rid) → slice_get O i ≡ Some (e, b) → (o : Object Rid) × (slice_get old i ≡ Some o) × (o.entry ≡ e) × (o.body ≡ b)
+  pub place_old : (i : ℕ) (e : Entry Rid) (b : Body Rid) → slice_get O i ≡ Some (e, b) → (o : Object Rid) × (slice_get old i ≡ Some o) × (o.entry ≡ e) × (o.body ≡ b)
   place_old i e b h = by (slice_get old i) refl (sym (slice_get-map (λ (z : Object Rid). (z.entry, z.body)) old i) ∙ h)
     where
       by : (o : Option (Object Rid)) → slice_get old i ≡ o → option_map item o ≡ Some (e, b) → (o : Object Rid) × (slice_get old i ≡ Some o) × (o.entry ≡ e) × (o.body ≡ b)

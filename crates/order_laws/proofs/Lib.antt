@@ -1,3 +1,4 @@
+mod Called
 mod Changes
 mod Dues
 mod Hitless
