@@ -2,6 +2,7 @@ mod Called
 mod Changes
 mod Dues
 mod Hitless
+mod Ids
 mod Partners
 mod Placed
 mod Puts
