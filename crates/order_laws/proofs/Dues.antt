@@ -7,7 +7,6 @@ use Rattle.sai_types.specs.declared.ids.Vid.{Vid}
 use Rattle.sai_types.specs.declared.body.Object.{Object}
 use Rattle.sai_types.specs.declared.plan.Mode.{Mode}
 use Rattle.sai_types.specs.Alike.{IsIn}
-use Rattle.sai_types.specs.Names.{Name}
 use Rattle.chip_layout.specs.Counted.{AreDistinct}
 use Rattle.plan_laws.proofs.Lists.{in-either, in-left, in-right, map-in}
 use Rattle.view_match.specs.declared.key.NaturalKey.{NaturalKey}
@@ -107,8 +106,8 @@ module _ (m : Mode) (paired : Places) where
 
   -- ---- names of their own
 
-  module _ (name : Timed → Name) where
-    pub new-distinct : (at : ℕ → Name) → ((key : Key) (n : Object Vid) (p : ℕ) → name (step_at key n p) ≡ at p) → (keys : List Key) (ns : List (Object Vid)) (place size : ℕ) → place + length ns ≤ size → ((p q : ℕ) → p < size → q < size → at p ≡ at q → p ≡ q) → AreDistinct (map name (new_steps m paired keys ns place))
+  module _ {K : Type 0} (name : Timed → K) where
+    pub new-distinct : (at : ℕ → K) → ((key : Key) (n : Object Vid) (p : ℕ) → name (step_at key n p) ≡ at p) → (keys : List Key) (ns : List (Object Vid)) (place size : ℕ) → place + length ns ≤ size → ((p q : ℕ) → p < size → q < size → at p ≡ at q → p ≡ q) → AreDistinct (map name (new_steps m paired keys ns place))
     new-distinct at named [] ns place size within one = tt
     new-distinct at named (key ∷ keys) [] place size within one = tt
     new-distinct at named (key ∷ keys) (n ∷ ns) place size within one = (
@@ -127,11 +126,11 @@ module _ (m : Mode) (paired : Places) where
         far_within (y ∷ ys) zero x e = omega arith
         far_within (y ∷ ys) (suc k) x e = let rest = far_within ys k x e in omega (arith, rest)
 
-    pub joined-distinct : (xs ys : List Name) → AreDistinct xs → AreDistinct ys → ((k : Name) → IsIn k xs → IsIn k ys → ⊥) → AreDistinct (xs ++ ys)
+    pub joined-distinct : (xs ys : List K) → AreDistinct xs → AreDistinct ys → ((k : K) → IsIn k xs → IsIn k ys → ⊥) → AreDistinct (xs ++ ys)
     joined-distinct [] ys a b apart = b
     joined-distinct (x ∷ xs) ys a b apart = (λ i. elim (in-either x xs ys i) [ inl here ↦ a.0 here | inr there ↦ apart x (inl refl) there ], joined-distinct xs ys a.1 b (λ k i. apart k (inr i)))
 
-    pub old-distinct : (at : ℕ → Name) → ((key : Key) (o : Object Rid) (p : ℕ) → name (removal m key o p) ≡ at p) → (keys : List Key) (os : List (Object Rid)) (place : ℕ) → ((p q : ℕ) (o u : Object Rid) → slice_get os p ≡ Some o → slice_get os q ≡ Some u → at (place + p) ≡ at (place + q) → p ≡ q) → AreDistinct (map name (old_steps m paired keys os place))
+    pub old-distinct : (at : ℕ → K) → ((key : Key) (o : Object Rid) (p : ℕ) → name (removal m key o p) ≡ at p) → (keys : List Key) (os : List (Object Rid)) (place : ℕ) → ((p q : ℕ) (o u : Object Rid) → slice_get os p ≡ Some o → slice_get os q ≡ Some u → at (place + p) ≡ at (place + q) → p ≡ q) → AreDistinct (map name (old_steps m paired keys os place))
     old-distinct at named [] os place one = tt
     old-distinct at named (key ∷ keys) [] place one = tt
     old-distinct at named (key ∷ keys) (o ∷ os) place one =

@@ -21,6 +21,7 @@ use Rattle.plan_laws.specs.Plans.{IsViewPlan, PlanChange, Make, Remove, Set, hit
 use Rattle.sai_types.specs.Named.{thing_by}
 use Rattle.chip_layout.specs.Seen.{tagged}
 use Rattle.plan_laws.proofs.Lists.{in-map, map-in}
+use Rattle.plan_laws.proofs.Named.{same-or}
 use Rattle.plan_laws.proofs.Starting.{old-named, old-seen, seen-old}
 use Rattle.view_match.specs.Pairs.{pairs_of}
 use Rattle.apply_order.specs.Due.{due_steps}
@@ -180,5 +181,5 @@ module _ {made : ℕ} (old : List (Object Rid)) {new : List (Object Vid)} {thing
       removes = removes;
       whole = λ t i. inr (whole t i);
       gone = gone;
-      in_order = ranked hitless_rank change (λ (t : Timed). hitless_value t.rank) steps (λ t i. value_of t (of_step t i)) (hitless-rising steps (λ t i. good_of t (of_step t i)) sorted) (distinct-shuffled (λ t. subject (change t)) due steps same (due-distinct old chip view mode.Hitless apart));
+      in_order = ranked hitless_rank change (λ (t : Timed). hitless_value t.rank) steps (λ t i. value_of t (of_step t i)) (hitless-rising steps (λ t i. good_of t (of_step t i)) sorted) (distinct-shuffled same-or (λ t. subject (change t)) due steps same (due-distinct old chip view mode.Hitless apart));
     }

@@ -1,5 +1,6 @@
 mod Called
 mod Changes
+mod Cold
 mod Dues
 mod Hitless
 mod Ids
@@ -7,6 +8,7 @@ mod Partners
 mod Placed
 mod Puts
 mod Ranked
+mod Roomy
 mod Sets
 mod Shuffled
 mod Valued

@@ -50,7 +50,7 @@ not_less m n h = by (compare m n)
     by (inl less) = absurd (false≢true (sym h ∙ ap is_lt (sym (nat_cmp_is m n Less less))))
     by (inr more) = more
 
-level_most : (k : Kind) → level k ≤ 10
+pub level_most : (k : Kind) → level k ≤ 10
 level_most kind.Port = omega arith
 level_most kind.Vlan = omega arith
 level_most kind.BridgePort = omega arith
