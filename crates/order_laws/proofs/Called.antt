@@ -1,7 +1,6 @@
 -- the calls of due steps are those of their changes
-use Rattle.std.proofs.Common.{◌≡◌, ◌⊎◌, inl, inr, ℕ, ◌+◌, ◌≤◌, ◌++◌, Bool, true, false, cond, List, [], ◌∷◌, map, Option, None, Some, if◌then◌else◌, refl, sym, ap, ap₂, ◌∙◌, subst}
+use Rattle.std.proofs.Common.{◌≡◌, inl, inr, ℕ, ◌+◌, ◌++◌, true, cond, List, [], ◌∷◌, map, Option, None, Some, refl, sym, ap, ◌∙◌, subst}
 use Rattle.std.specs.List.{slice_get}
-use Rattle.std.proofs.lemmas.Bool.{false≢true}
 use Rattle.std.proofs.lemmas.List.{map-append}
 use Rattle.std.proofs.lemmas.Option.{same_Some}
 use Rattle.sai_types.specs.declared.ids.Rid.{Rid}
@@ -10,16 +9,14 @@ use Rattle.sai_types.specs.declared.body.Body.{Body}
 use Rattle.sai_types.specs.declared.body.Body.TheVariants as body
 use Rattle.sai_types.specs.declared.body.Call.{Call}
 use Rattle.sai_types.specs.declared.body.Call.TheVariants as call
-use Rattle.sai_types.specs.declared.body.Entry.{Entry}
 use Rattle.sai_types.specs.declared.body.Object.{Object}
 use Rattle.sai_types.specs.declared.plan.Mode.{Mode}
-use Rattle.sai_types.specs.declared.plan.Mode.TheVariants as mode
 use Rattle.sai_types.specs.declared.plan.PlanCall.{PlanCall}
 use Rattle.sai_types.specs.declared.plan.PlanId.{PlanId}
 use Rattle.sai_types.specs.declared.thing.PortThing.{PortThing}
 use Rattle.sai_types.specs.declared.thing.Thing.{Thing}
 use Rattle.sai_types.specs.declared.thing.Thing.TheVariants as thing
-use Rattle.sai_types.specs.After.{entry_of, has_id, makes_id}
+use Rattle.sai_types.specs.After.{has_id, makes_id}
 use Rattle.sai_types.specs.Alike.{IsIn}
 use Rattle.sai_types.specs.Made.{made_after_all}
 use Rattle.sai_types.specs.Named.{thing_of}
@@ -27,7 +24,7 @@ use Rattle.sai_types.specs.Names.{Name, name_kind, name_of}
 use Rattle.sai_types.specs.Objects.{Objects}
 use Rattle.sai_chip.specs.Naming.{entries_of}
 use Rattle.chip_layout.specs.Bodies.{IsAt, IsBody, body_with, first_name, is_numbered, second_name}
-use Rattle.chip_layout.specs.Layout.{Has, Layout, has_number, next_id}
+use Rattle.chip_layout.specs.Layout.{Has, Layout, has_number}
 use Rattle.chip_layout.specs.Renamed.{body_renamed, call_renamed}
 use Rattle.chip_layout.proofs.Bodies.{first-numbered, second-numbered}
 use Rattle.chip_layout.proofs.Shapes.{renamed_with}
@@ -38,18 +35,16 @@ use Rattle.plan_laws.specs.Plans.{PlanChange, Make, Remove, Set}
 use Rattle.plan_laws.proofs.Starting.{old-laid}
 use Rattle.view_match.specs.declared.key.NaturalKey.TheVariants as key
 use Rattle.view_match.specs.Keys.{key_of}
-use Rattle.view_match.specs.Pairs.{pairs_of}
 use Rattle.apply_order.specs.Attributes.{differing, set_call}
 use Rattle.apply_order.specs.Calls.{both_calls, make_calls, made_id, remove_calls, step_calls, steps_calls}
 use Rattle.apply_order.specs.Naming.{Names, new_id}
 use Rattle.apply_order.specs.declared.ranks.Step.{Step}
-use Rattle.apply_order.specs.declared.ranks.Step.TheVariants as step
 use Rattle.apply_order.specs.declared.ranks.Timed.{Timed}
 use Rattle.order_laws.specs.Apply.{AreNumbered, made_by}
 use Rattle.order_laws.specs.Viewed.{IsViewOf, things_in}
 use Rattle.order_laws.proofs.Changes.{IsGoneDue, IsMadeDue, IsSetDue, change_of, due-pair, name-is, new_thing, old_name, place_old, thing-is}
 use Rattle.order_laws.proofs.Partners.{in-place}
-use Rattle.order_laws.proofs.Placed.{IsOldAt, IsPair, new-place, pair-at}
+use Rattle.order_laws.proofs.Placed.{IsPair, new-place, pair-at}
 use Rattle.order_laws.proofs.Sets.{attr_calls, sets-lead}
 
 -- ---- how many identifiers are made

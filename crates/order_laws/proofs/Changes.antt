@@ -1,8 +1,8 @@
 -- the changes of the steps that are due
-use Rattle.std.proofs.Common.{◌≡◌, ◌⊎◌, inl, inr, ℕ, zero, suc, ◌+◌, ◌<◌, ◌≤◌, ◌++◌, List, [], ◌∷◌, length, map, Option, None, Some, option_map, refl, sym, ap, ◌∙◌, subst, arith}
+use Rattle.std.proofs.Common.{◌≡◌, ◌⊎◌, inl, inr, ℕ, zero, suc, ◌+◌, ◌<◌, List, [], ◌∷◌, length, map, Option, None, Some, option_map, refl, sym, ap, ◌∙◌, subst, arith}
 use Rattle.std.specs.List.{slice_get}
 use Rattle.std.proofs.lemmas.List.{map-append}
-use Rattle.std.proofs.lemmas.Option.{slice_get-map, slice_get_within, slice_get-get_or}
+use Rattle.std.proofs.lemmas.Option.{slice_get-map}
 use Rattle.sai_types.specs.declared.ids.Rid.{Rid}
 use Rattle.sai_types.specs.declared.ids.Vid.{Vid}
 use Rattle.sai_types.specs.declared.body.Body.{Body}
@@ -25,12 +25,10 @@ use Rattle.chip_layout.specs.Layout.{Has}
 use Rattle.chip_layout.specs.Seen.{tagged}
 use Rattle.plan_laws.specs.Applied.{IsListedChip}
 use Rattle.plan_laws.specs.Calls.{viewed}
-use Rattle.plan_laws.specs.Old.{old_things, tag_of}
+use Rattle.plan_laws.specs.Old.{tag_of}
 use Rattle.plan_laws.specs.Plans.{PlanChange, Make, Remove, Set, AreRanked, subject}
 use Rattle.plan_laws.proofs.Lists.{in-either, in-left, in-map, in-right, map-in}
 use Rattle.view_match.specs.Keys.{key_of, keys_of_objects}
-use Rattle.view_match.specs.Listed.{objects_as}
-use Rattle.view_match.specs.Paired.{HasKey}
 use Rattle.view_match.specs.Pairs.{new_keys, pairs_of}
 use Rattle.view_match.specs.declared.key.NaturalKey.{NaturalKey}
 use Rattle.apply_order.specs.Due.{due_steps, new_step, new_steps, old_steps, paired_in}
@@ -40,10 +38,10 @@ use Rattle.apply_order.specs.declared.ranks.Step.{Step}
 use Rattle.apply_order.specs.declared.ranks.Step.TheVariants as step
 use Rattle.apply_order.specs.declared.ranks.Timed.{Timed}
 use Rattle.order_laws.specs.Viewed.{IsEntry, IsViewOf, things_in}
-use Rattle.order_laws.proofs.Dues.{due-new, due-old, joined-distinct, new-distinct, new-due, old-distinct, old-due, removal}
+use Rattle.order_laws.proofs.Dues.{due-new, due-old, joined-distinct, new-distinct, new-due, old-distinct, old-due}
 use Rattle.order_laws.proofs.Partners.{key_at}
 use Rattle.order_laws.proofs.Placed.{IsOldAt, key_new, new-place, object-at, old-at, old-one, one-new, one-old, thing-at}
-use Rattle.order_laws.proofs.Puts.{new-from, new-to, old-from, old-to}
+use Rattle.order_laws.proofs.Puts.{new-from, new-to, old-to}
 use Rattle.order_laws.proofs.Ranked.{AreRising}
 
 -- ---- the change of a step

@@ -1,6 +1,5 @@
 -- the due steps of a cold plan are two plans: all that is removed, and then all that is made
-use Rattle.std.proofs.Common.{◌≡◌, ◌⊎◌, inl, inr, ℕ, ◌+◌, ◌-◌, ◌*◌, ◌≤◌, ◌++◌, List, [], ◌∷◌, length, map, Option, None, Some, refl, sym, ap, ◌∙◌, subst, arith, IsPermutation, IsSorted}
-use Rattle.std.specs.List.{slice_get}
+use Rattle.std.proofs.Common.{◌≡◌, ◌⊎◌, inl, inr, ℕ, ◌+◌, ◌-◌, ◌*◌, ◌≤◌, ◌++◌, List, [], ◌∷◌, length, map, refl, sym, ap, ◌∙◌, subst, arith, IsPermutation, IsSorted}
 use Rattle.std.proofs.lemmas.List.{map-append}
 use Rattle.sai_types.specs.declared.ids.Rid.{Rid}
 use Rattle.sai_types.specs.declared.ids.Vid.{Vid}
@@ -11,7 +10,6 @@ use Rattle.sai_types.specs.Alike.{IsIn}
 use Rattle.sai_types.specs.Names.{Name, name_kind, name_of}
 use Rattle.sai_types.specs.Objects.{Objects, level}
 use Rattle.sai_chip.specs.Naming.{entries_of}
-use Rattle.chip_layout.specs.Bodies.{IsBody}
 use Rattle.chip_layout.specs.Counted.{AreDistinct}
 use Rattle.chip_layout.specs.Layout.{Has}
 use Rattle.chip_layout.proofs.Bodies.{kind-body}
@@ -19,18 +17,18 @@ use Rattle.plan_laws.specs.Applied.{IsListedChip}
 use Rattle.plan_laws.specs.Calls.{viewed}
 use Rattle.plan_laws.specs.Old.{old_layout, old_things, tag_of}
 use Rattle.plan_laws.specs.Plans.{IsViewPlan, PlanChange, Make, Remove, Set, cold_rank, subject}
-use Rattle.plan_laws.proofs.Lists.{in-either, in-left, in-map, in-right, map-in}
+use Rattle.plan_laws.proofs.Lists.{in-either, in-left, in-map, map-in}
 use Rattle.plan_laws.proofs.Starting.{old-seen, seen-old}
 use Rattle.view_match.specs.Keys.{keys_of_objects}
 use Rattle.view_match.specs.Pairs.{new_keys, pairs_of}
 use Rattle.apply_order.specs.Due.{due_steps, new_steps, old_steps}
 use Rattle.apply_order.specs.Places.{by_new, by_old}
-use Rattle.apply_order.specs.Ranks.{make_rank, remove_rank, timed_cmp}
+use Rattle.apply_order.specs.Ranks.{timed_cmp}
 use Rattle.apply_order.specs.declared.ranks.Step.{Step}
 use Rattle.apply_order.specs.declared.ranks.Step.TheVariants as step
 use Rattle.apply_order.specs.declared.ranks.Timed.{Timed}
 use Rattle.order_laws.specs.Viewed.{IsViewOf, things_in}
-use Rattle.order_laws.proofs.Changes.{IsDueStep, IsGoneDue, IsMadeDue, change_of, due-of, gone-due, made-due, name-is, new_thing, old_name, ranked, thing-is}
+use Rattle.order_laws.proofs.Changes.{IsGoneDue, IsMadeDue, change_of, due-of, gone-due, made-due, name-is, new_thing, old_name, ranked, thing-is}
 use Rattle.order_laws.proofs.Placed.{in-new, new-in, new-place, old-one, old-place}
 use Rattle.order_laws.proofs.Dues.{joined-distinct, new-distinct, new-due, old-distinct, old-due}
 use Rattle.order_laws.proofs.Ranked.{AreRising, IsColdRank, cold-rising, cold_value, level_most}
@@ -275,9 +273,9 @@ module _ {made : ℕ} (old : List (Object Rid)) {new : List (Object Vid)} {thing
           let is : change x.0 ≡ Remove (name_of u) = ap by_step x.2 ∙ ap Remove (name-is old chip view mode.Cold w.place w.entry w.body w.was ∙ ap name_of w.thing) in
           inr (subst (λ c. IsIn c removes) is (in-map change front x.0 (removed_in w.place x)));
       in_order = ranked cold_rank change (λ (t : Timed). cold_rank (change t)) front (λ t i. refl) (rising-by (λ (t : Timed). cold_value t.rank) (λ (t : Timed). cold_rank (change t)) front (λ s t i j h.
-      let a = gone_value s (cold-cut.first s i) in
-      let b = gone_value t (cold-cut.first t j) in
-      omega (arith, a, b, h)) (rising-left (λ (t : Timed). cold_value t.rank) front back (subst (AreRising (λ (t : Timed). cold_value t.rank)) cold-cut.all rises))) front-apart;
+          let a = gone_value s (cold-cut.first s i) in
+          let b = gone_value t (cold-cut.first t j) in
+          omega (arith, a, b, h)) (rising-left (λ (t : Timed). cold_value t.rank) front back (subst (AreRising (λ (t : Timed). cold_value t.rank)) cold-cut.all rises))) front-apart;
     }
 
     pub cold-makes : IsViewPlan cold_rank [] N makes
@@ -295,7 +293,7 @@ module _ {made : ℕ} (old : List (Object Rid)) {new : List (Object Vid)} {thing
           inr (inl (subst (λ c. IsIn c makes) is (in-map change back x.0 (made_in n.0 x))));
       gone = λ u i. elim i [ ];
       in_order = ranked cold_rank change (λ (t : Timed). cold_rank (change t)) back (λ t i. refl) (rising-by (λ (t : Timed). cold_value t.rank) (λ (t : Timed). cold_rank (change t)) back (λ s t i j h.
-      let a = made_value s (cold-cut.last s i) in
-      let b = made_value t (cold-cut.last t j) in
-      omega (arith, a, b, h)) (rising-right (λ (t : Timed). cold_value t.rank) front back (subst (AreRising (λ (t : Timed). cold_value t.rank)) cold-cut.all rises))) back-apart;
+          let a = made_value s (cold-cut.last s i) in
+          let b = made_value t (cold-cut.last t j) in
+          omega (arith, a, b, h)) (rising-right (λ (t : Timed). cold_value t.rank) front back (subst (AreRising (λ (t : Timed). cold_value t.rank)) cold-cut.all rises))) back-apart;
     }

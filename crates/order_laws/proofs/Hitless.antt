@@ -1,5 +1,5 @@
 -- the due steps of a hitless plan are a plan of the views, in its order
-use Rattle.std.proofs.Common.{◌≡◌, ◌⊎◌, inl, inr, ℕ, ◌≤◌, List, map, Option, None, Some, refl, sym, ap, ◌∙◌, subst, IsPermutation, IsSorted}
+use Rattle.std.proofs.Common.{◌≡◌, ◌⊎◌, inl, inr, ℕ, List, map, Option, None, Some, refl, sym, ap, ◌∙◌, subst, IsPermutation, IsSorted}
 use Rattle.std.specs.List.{slice_get}
 use Rattle.sai_types.specs.declared.ids.Rid.{Rid}
 use Rattle.sai_types.specs.declared.ids.Vid.{Vid}
@@ -8,12 +8,11 @@ use Rattle.sai_types.specs.declared.body.Entry.{Entry}
 use Rattle.sai_types.specs.declared.body.Object.{Object}
 use Rattle.sai_types.specs.declared.plan.Mode.TheVariants as mode
 use Rattle.sai_types.specs.declared.thing.Thing.{Thing}
-use Rattle.sai_types.specs.declared.thing.Thing.TheVariants as thing
 use Rattle.sai_types.specs.Alike.{IsIn}
 use Rattle.sai_types.specs.Names.{Name, name_of}
 use Rattle.sai_types.specs.Objects.{Objects}
 use Rattle.sai_chip.specs.Naming.{entries_of}
-use Rattle.chip_layout.specs.Layout.{Has, Layout}
+use Rattle.chip_layout.specs.Layout.{Has}
 use Rattle.plan_laws.specs.Applied.{IsListedChip}
 use Rattle.plan_laws.specs.Calls.{viewed}
 use Rattle.plan_laws.specs.Old.{old_layout, old_things, tag_of}
@@ -31,9 +30,9 @@ use Rattle.apply_order.specs.declared.ranks.Step.{Step}
 use Rattle.apply_order.specs.declared.ranks.Step.TheVariants as step
 use Rattle.apply_order.specs.declared.ranks.Timed.{Timed}
 use Rattle.order_laws.specs.Viewed.{HaveOneLanes, IsViewOf, things_in}
-use Rattle.order_laws.proofs.Changes.{AreApart, IsDueStep, change_of, due-distinct, due-of, due-pair, free-new, free-old, gone-due, made-due, name-is, new_thing, old_name, ranked, set-due, thing-is}
+use Rattle.order_laws.proofs.Changes.{AreApart, IsDueStep, change_of, due-distinct, due-of, free-new, free-old, gone-due, made-due, name-is, new_thing, old_name, ranked, set-due, thing-is}
 use Rattle.order_laws.proofs.Placed.{IsOldAt, in-new, matched, new-in, old-place, pair-at}
-use Rattle.order_laws.proofs.Puts.{new-from, old-from}
+use Rattle.order_laws.proofs.Puts.{old-from}
 use Rattle.order_laws.proofs.Ranked.{IsHitlessRank, hitless-rising, hitless_value}
 use Rattle.order_laws.proofs.Shuffled.{distinct-shuffled, in-shuffled, shuffled-in}
 use Rattle.order_laws.proofs.Valued.{make-good, make-value, remove-good, remove-value, set-good, set-value}
@@ -145,10 +144,14 @@ module _ {made : ℕ} (old : List (Object Rid)) {new : List (Object Vid)} {thing
         by (inl c) = absurd (cc (c.4))
         by (inr (inl c)) = absurd (cc (c.5))
         by (inr (inr c)) =
-            let is : k ≡ name_of c.3.thing = cc (c.5) in
-            (c.3.thing, seen-old chip N c.3.id c.3.thing c.3.stands, sym is, λ t j e.
-            let n = in-new old chip view t j in
-            apart c.0 n.0 c.1 c.2 c.3 c.4 n.1 n.2 (sym is ∙ sym e ∙ ap name_of n.3))
+            let is : k ≡ name_of c.3.thing = cc (c.5) in (
+              c.3.thing,
+              seen-old chip N c.3.id c.3.thing c.3.stands,
+              sym is,
+              λ t j e.
+                  let n = in-new old chip view t j in
+                  apart c.0 n.0 c.1 c.2 c.3 c.4 n.1 n.2 (sym is ∙ sym e ∙ ap name_of n.3),
+            )
 
     whole : (t : Thing) → IsIn t N → IsIn (Make t) changes ⊎ IsIn (Set t) changes
     whole t i =

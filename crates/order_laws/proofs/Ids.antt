@@ -1,5 +1,5 @@
 -- a plan names each new object by its partner's identifier, or where it has no partner by its own
-use Rattle.std.proofs.Common.{◌≡◌, inl, ℕ, true, false, Bool, List, [], Option, None, Some, refl, sym, ap, ap₂, ◌∙◌, subst}
+use Rattle.std.proofs.Common.{◌≡◌, ℕ, true, false, Bool, List, [], Option, None, Some, refl, sym, ap, ◌∙◌, subst}
 use Rattle.std.specs.BTreeMap.{is_at}
 use Rattle.std.specs.List.{slice_get}
 use Rattle.std.specs.Map.{lookup}
@@ -11,10 +11,7 @@ use Rattle.sai_types.specs.declared.body.Entry.{Entry}
 use Rattle.sai_types.specs.declared.body.Entry.TheVariants as entry
 use Rattle.sai_types.specs.declared.body.Object.{Object}
 use Rattle.sai_types.specs.declared.plan.Mode.TheVariants as mode
-use Rattle.sai_types.specs.declared.plan.PlanId.{PlanId}
-use Rattle.sai_types.specs.declared.plan.PlanId.TheVariants as plan_id
 use Rattle.sai_types.specs.declared.thing.Thing.{Thing}
-use Rattle.sai_types.specs.After.{entry_of}
 use Rattle.sai_types.specs.Alike.{IsIn}
 use Rattle.sai_types.specs.Names.{name_kind, name_of}
 use Rattle.sai_types.specs.Objects.{Objects}
@@ -31,7 +28,7 @@ use Rattle.apply_order.specs.Naming.{id_by, names_from, new_id}
 use Rattle.order_laws.specs.Viewed.{HaveOneLanes, IsEntry, IsViewOf, things_in}
 use Rattle.order_laws.proofs.Changes.{place_old}
 use Rattle.order_laws.proofs.Partners.{in-place, place-in}
-use Rattle.order_laws.proofs.Placed.{IsOldAt, matched, new-place, object-at, old-place, one-new, pair-at, thing-at}
+use Rattle.order_laws.proofs.Placed.{IsOldAt, matched, object-at, old-place, pair-at, thing-at}
 use Rattle.order_laws.proofs.Puts.{IsNamed, names-from, names-to}
 
 module _ {made : ℕ} (old : List (Object Rid)) {new : List (Object Vid)} {things : List (Vid × Thing)} (chip : IsListedChip made (entries_of old)) (view : IsViewOf things new) where

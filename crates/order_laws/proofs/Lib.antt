@@ -1,4 +1,6 @@
+mod Applying
 mod Called
+mod Ends
 mod Changes
 mod Cold
 mod Dues

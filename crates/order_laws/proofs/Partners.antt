@@ -1,5 +1,5 @@
 -- a new thing and an old one of its name are those of paired objects, and back
-use Rattle.std.proofs.Common.{cond, zero, suc, ◌≡◌, ◌⊎◌, inl, inr, ℕ, ◌<◌, ◌≤◌, Bool, true, false, ◌&&◌, nat_lt, List, [], ◌∷◌, map, Option, None, Some, option_map, refl, sym, ap, ap₂, ◌∙◌, subst, arith}
+use Rattle.std.proofs.Common.{zero, suc, ◌≡◌, inl, inr, ℕ, ◌<◌, ◌≤◌, Bool, true, false, ◌&&◌, nat_lt, List, [], ◌∷◌, map, Option, None, Some, option_map, refl, sym, ap, ap₂, ◌∙◌, subst, arith}
 use Rattle.std.specs.List.{slice_get}
 use Rattle.std.proofs.lemmas.Bool.{and_parts, false≢true}
 use Rattle.std.proofs.lemmas.Option.{same_Some}
@@ -10,7 +10,6 @@ use Rattle.sai_types.specs.declared.body.Body.TheVariants as body
 use Rattle.sai_types.specs.declared.body.Entry.{Entry}
 use Rattle.sai_types.specs.declared.body.Entry.TheVariants as entry
 use Rattle.sai_types.specs.declared.hop.Hop.{Hop}
-use Rattle.sai_types.specs.declared.thing.PortThing.{PortThing}
 use Rattle.sai_types.specs.declared.thing.Thing.{Thing}
 use Rattle.sai_types.specs.declared.thing.Thing.TheVariants as thing
 use Rattle.sai_types.specs.Alike.{IsIn}
@@ -26,13 +25,12 @@ use Rattle.sai_types.specs.Objects.{Objects, body_at}
 use Rattle.sai_types.proofs.Exact.{entry-exact}
 use Rattle.sai_types.proofs.Listed.{found-in, in-found}
 use Rattle.chip_layout.specs.Seen.{tagged}
-use Rattle.chip_layout.proofs.Seeing.{shown}
 use Rattle.plan_laws.specs.Applied.{IsListedChip, IsView}
-use Rattle.plan_laws.specs.Old.{chip_groups, group_stays, is_double, old_layout, old_things, same_hops, shown_hops, tag_of}
+use Rattle.plan_laws.specs.Old.{chip_groups, group_stays, is_double, old_layout, same_hops, shown_hops, tag_of}
 use Rattle.plan_laws.proofs.Doubles.{group_found, least, member_group, member_old, names, new_group, stays_if, tag_is}
 use Rattle.plan_laws.proofs.Lists.{any-in, in-any, map-in}
 use Rattle.plan_laws.proofs.Named.{hops_exact, hops_refl}
-use Rattle.plan_laws.proofs.Starting.{hops-there, object-seen, rises}
+use Rattle.plan_laws.proofs.Starting.{hops-there, rises}
 use Rattle.plan_laws.proofs.Tagging.{all-groups, stays-apart, tags-apart}
 use Rattle.view_match.specs.declared.key.NaturalKey.{NaturalKey}
 use Rattle.view_match.specs.declared.key.NaturalKey.TheVariants as key

@@ -1,5 +1,5 @@
 -- the objects of both sides by their places, and which of them are paired
-use Rattle.std.proofs.Common.{◌≡◌, ◌⊎◌, inl, inr, ℕ, zero, suc, ◌<◌, ◌≤◌, true, false, List, [], ◌∷◌, map, Option, None, Some, option_map, refl, sym, ap, ap₂, ◌∙◌, subst, arith}
+use Rattle.std.proofs.Common.{◌≡◌, inl, ℕ, zero, suc, List, [], ◌∷◌, map, Option, None, Some, option_map, refl, sym, ap, ap₂, ◌∙◌, subst}
 use Rattle.std.specs.List.{slice_get}
 use Rattle.std.proofs.lemmas.Bool.{false≢true}
 use Rattle.std.proofs.lemmas.Option.{same_Some, slice_get-map}
@@ -31,16 +31,16 @@ use Rattle.chip_layout.proofs.Laid.{body-one}
 use Rattle.chip_layout.proofs.Seeing.{body-seen}
 use Rattle.plan_laws.specs.Applied.{IsListedChip, chip_things}
 use Rattle.plan_laws.specs.Calls.{viewed}
-use Rattle.plan_laws.specs.Old.{old_layout, old_things, tag_of}
+use Rattle.plan_laws.specs.Old.{old_layout, tag_of}
 use Rattle.plan_laws.proofs.Doubles.{shown_as}
 use Rattle.plan_laws.proofs.Lists.{in-map, map-in}
-use Rattle.plan_laws.proofs.Starting.{old-laid, old-seen}
+use Rattle.plan_laws.proofs.Starting.{old-laid}
 use Rattle.view_match.specs.declared.key.NaturalKey.{NaturalKey}
 use Rattle.view_match.specs.declared.key.NaturalKey.TheVariants as key
 use Rattle.view_match.specs.Keys.{key_of, keys_of_objects}
 use Rattle.view_match.specs.Listed.{objects_as}
-use Rattle.view_match.specs.Paired.{ArePaired, ComesFirst, HasKey}
-use Rattle.view_match.specs.Pairs.{best_from, new_keys, pairs_of, partner_of}
+use Rattle.view_match.specs.Paired.{HasKey}
+use Rattle.view_match.specs.Pairs.{best_from, pairs_of, partner_of}
 use Rattle.view_match.proofs.Best.{found-none}
 use Rattle.view_match.proofs.Paired.{IsFirst, length-keys, paired-pairs, pairs-paired, partner-first}
 use Rattle.order_laws.specs.Viewed.{AreObjects, HaveOneLanes, IsEntry, IsViewOf, things_in}

@@ -1,5 +1,5 @@
 -- the turns of steps are those of their changes
-use Rattle.std.proofs.Common.{◌≡◌, ◌⊎◌, inl, inr, ℕ, suc, ◌+◌, ◌-◌, ◌*◌, ◌<◌, ◌≤◌, Bool, true, false, List, [], ◌∷◌, length, Ordering, refl, sym, ap, ◌∙◌, subst, arith, nat_cmp, IsSorted}
+use Rattle.std.proofs.Common.{◌≡◌, ◌⊎◌, inl, inr, ℕ, suc, ◌+◌, ◌-◌, ◌*◌, ◌<◌, ◌≤◌, false, List, [], ◌∷◌, length, Ordering, refl, sym, ap, ◌∙◌, subst, arith, nat_cmp, IsSorted}
 use Rattle.std.specs.declared.cmp.Ordering.TheVariants.{Less, Equal, Greater}
 use Rattle.std.specs.Cmp.{nat_cmp_is}
 use Rattle.std.specs.List.{slice_index_or}
@@ -7,15 +7,9 @@ use Rattle.std.specs.Ordering.{is_lt, ordering_then}
 use Rattle.std.proofs.lemmas.Bool.{false≢true}
 use Rattle.sai_types.specs.declared.kind.Kind.{Kind}
 use Rattle.sai_types.specs.declared.kind.Kind.TheVariants as kind
-use Rattle.sai_types.specs.declared.thing.Thing.{Thing}
-use Rattle.sai_types.specs.declared.thing.Thing.TheVariants as thing
-use Rattle.sai_types.specs.declared.plan.Mode.TheVariants as mode
 use Rattle.sai_types.specs.Alike.{IsIn}
-use Rattle.sai_types.specs.Names.{name_of}
 use Rattle.sai_types.specs.Objects.{level}
-use Rattle.chip_layout.specs.Bodies.{body_with}
-use Rattle.plan_laws.specs.Plans.{PlanChange, Make, Remove, Set, cold_rank, hitless_rank}
-use Rattle.apply_order.specs.Ranks.{make_rank, remove_rank, set_rank, timed_cmp}
+use Rattle.apply_order.specs.Ranks.{timed_cmp}
 use Rattle.apply_order.specs.Turns.{phase, phase_order, rank_order}
 use Rattle.apply_order.specs.declared.ranks.Rank.{Rank}
 use Rattle.apply_order.specs.declared.ranks.Rank.TheVariants as rank

@@ -1,5 +1,5 @@
 -- how many objects of a kind the due steps make
-use Rattle.std.proofs.Common.{◌≡◌, ◌⊎◌, inl, inr, ℕ, zero, suc, ◌+◌, ◌≤◌, ◌==◌, ◌++◌, Bool, true, false, cond, List, [], ◌∷◌, length, map, count_by, Option, None, Some, refl, sym, ap, ap₂, ◌∙◌, subst, arith, IsPermutation}
+use Rattle.std.proofs.Common.{◌≡◌, ℕ, suc, ◌+◌, ◌==◌, ◌++◌, Bool, true, false, cond, List, [], ◌∷◌, length, map, Option, None, Some, refl, sym, ap, ap₂, ◌∙◌, arith, IsPermutation}
 use Rattle.std.specs.List.{slice_get}
 use Rattle.std.proofs.lemmas.List.{length-append, map-append}
 use Rattle.std.proofs.lemmas.List.Sums.{sum_by-cons}
@@ -11,13 +11,12 @@ use Rattle.sai_types.specs.declared.plan.Mode.{Mode}
 use Rattle.sai_types.specs.declared.thing.Thing.{Thing}
 use Rattle.sai_types.specs.Named.{those}
 use Rattle.sai_types.specs.Names.{Name, name_kind, name_of}
-use Rattle.sai_types.specs.Objects.{Objects, is_of, kind_of, level, used}
+use Rattle.sai_types.specs.Objects.{is_of, kind_of, level, used}
 use Rattle.sai_chip.specs.Naming.{entries_of}
 use Rattle.chip_layout.specs.Layout.{Has}
 use Rattle.chip_layout.proofs.Bodies.{kind-body}
 use Rattle.plan_laws.specs.Applied.{IsListedChip}
 use Rattle.plan_laws.specs.Calls.{viewed}
-use Rattle.plan_laws.specs.Plans.{PlanChange, Make}
 use Rattle.plan_laws.specs.Views.{made_name, made_names}
 use Rattle.view_match.specs.Keys.{keys_of_objects}
 use Rattle.view_match.specs.Listed.{objects_as}
@@ -39,7 +38,7 @@ pub map_map : {X Y Z : Type 0} (g : Y → Z) (f : X → Y) (xs : List X) → map
 map_map g f [] = refl
 map_map g f (x ∷ xs) = ap (λ l. g (f x) ∷ l) (map_map g f xs)
 
-those_append : {X : Type 0} (xs ys : List (Option X)) → those (xs ++ ys) ≡ those xs ++ those ys
+pub those_append : {X : Type 0} (xs ys : List (Option X)) → those (xs ++ ys) ≡ those xs ++ those ys
 those_append [] ys = refl
 those_append (None ∷ xs) ys = those_append xs ys
 those_append (Some x ∷ xs) ys = ap (λ l. x ∷ l) (those_append xs ys)

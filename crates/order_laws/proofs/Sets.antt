@@ -1,6 +1,6 @@
 -- the sets of a paired object make the new thing of the old one
 use mathlib.Core.Bool.{beq}
-use Rattle.std.proofs.Common.{◌≡◌, ◌⊎◌, inl, inr, ℕ, ◌+◌, ◌≤◌, ◌==◌, ◌++◌, Bool, true, false, cond, List, [], ◌∷◌, map, Option, None, Some, refl, sym, ap, ap₂, ◌∙◌, subst, arith}
+use Rattle.std.proofs.Common.{◌≡◌, ℕ, ◌≤◌, ◌==◌, ◌++◌, Bool, true, false, List, map, refl, sym, ap, ap₂, ◌∙◌, subst, arith}
 use Rattle.std.proofs.lemmas.Bool.{eqb-true, false≢true}
 use Rattle.std.specs.Cmp.Lexicographic.{same_text}
 use Rattle.swss_types.specs.declared.address.Mac.{Mac}
@@ -14,10 +14,7 @@ use Rattle.sai_types.specs.declared.ids.Vid.{Vid}
 use Rattle.sai_types.specs.declared.body.Attr.{Attr}
 use Rattle.sai_types.specs.declared.body.Attr.TheVariants as attr
 use Rattle.sai_types.specs.declared.body.Call.{Call}
-use Rattle.sai_types.specs.declared.body.Call.TheVariants as call
 use Rattle.sai_types.specs.declared.body.Entry.{Entry}
-use Rattle.sai_types.specs.declared.body.To.TheVariants as to
-use Rattle.sai_types.specs.declared.hop.Base.{Base}
 use Rattle.sai_types.specs.declared.hop.Hop.{Hop}
 use Rattle.sai_types.specs.declared.plan.PlanId.{PlanId}
 use Rattle.sai_types.specs.declared.plan.PlanId.TheVariants as plan_id
@@ -28,14 +25,11 @@ use Rattle.sai_types.specs.declared.thing.Thing.{Thing}
 use Rattle.sai_types.specs.declared.thing.Thing.TheVariants as thing
 use Rattle.sai_types.specs.Names as name
 use Rattle.sai_types.specs.Names.{Name, name_kind, name_of}
-use Rattle.sai_types.specs.Refusal.{same_id}
 use Rattle.sai_types.proofs.Exact.{id-exact}
-use Rattle.chip_layout.specs.Bodies.{IsAt, IsChange, body_with, first_name, goal_name, is_numbered, to_with}
+use Rattle.chip_layout.specs.Bodies.{IsAt, body_with, first_name, goal_name, is_numbered, to_with}
 use Rattle.chip_layout.specs.Layout.{Has, Layout, has_number}
 use Rattle.chip_layout.specs.Renamed.{to_renamed}
-use Rattle.chip_layout.proofs.Bodies.{first-numbered}
 use Rattle.plan_laws.specs.Calls.{PlansSets, old_entry, plan_layout}
-use Rattle.plan_laws.specs.Moments.{attr_place}
 use Rattle.apply_order.specs.Attributes.{differing, is_old, is_target, set_call, unless}
 use Rattle.apply_order.specs.Naming.{Names, new_id}
 

@@ -1,5 +1,5 @@
 -- the rank of a step is that of its change
-use Rattle.std.proofs.Common.{◌≡◌, ℕ, ◌-◌, ◌+◌, ◌≤◌, refl, sym, ap, ◌∙◌, subst}
+use Rattle.std.proofs.Common.{◌≡◌, refl, sym, ap, ◌∙◌, subst}
 use Rattle.swss_types.specs.Address.{IsProperPrefix}
 use Rattle.swss_types.specs.declared.address.Prefix.{Prefix}
 use Rattle.sai_types.specs.declared.thing.Goal.{Goal}
@@ -9,10 +9,10 @@ use Rattle.sai_types.specs.declared.thing.Thing.{Thing}
 use Rattle.sai_types.specs.declared.thing.Thing.TheVariants as thing
 use Rattle.sai_types.specs.Names.{Name, name_of}
 use Rattle.chip_layout.specs.Bodies.{IsBody, body_with}
-use Rattle.plan_laws.specs.Plans.{Make, Remove, Set, cold_rank, hitless_rank}
+use Rattle.plan_laws.specs.Plans.{Make, Remove, Set, hitless_rank}
 use Rattle.plan_laws.proofs.Deciders.{len_within}
 use Rattle.apply_order.specs.Ranks.{make_rank, remove_rank, set_rank}
-use Rattle.order_laws.proofs.Ranked.{IsColdRank, IsHitlessRank, cold_value, hitless_value}
+use Rattle.order_laws.proofs.Ranked.{IsHitlessRank, hitless_value}
 
 -- the prefix of a route is proper
 abbrev pub IsProperThing : Thing → Type 0

@@ -4,4 +4,7 @@
 
 mod laws;
 
-pub use laws::plans_have_laws;
+pub use laws::{
+    applies_are_legal, applies_are_short, applies_lead_to_the_view, applies_show_old_or_new,
+    hitless_applies_are_steady, plans_are_of_the_views,
+};
