@@ -1,5 +1,5 @@
 -- the due steps of a hitless plan are a plan of the views, in its order
-use Rattle.std.proofs.Common.{◌≡◌, ◌⊎◌, inl, inr, ℕ, List, map, Option, None, Some, refl, sym, ap, ◌∙◌, subst, IsPermutation, IsSorted}
+use Rattle.std.proofs.Common.{◌≡◌, ◌⊎◌, inl, inr, ℕ, ◌≤◌, List, [], ◌∷◌, map, Option, None, Some, refl, sym, ap, ◌∙◌, subst, IsPermutation, IsSorted, arith}
 use Rattle.std.specs.List.{slice_get}
 use Rattle.sai_types.specs.declared.ids.Rid.{Rid}
 use Rattle.sai_types.specs.declared.ids.Vid.{Vid}
@@ -12,11 +12,12 @@ use Rattle.sai_types.specs.Alike.{IsIn}
 use Rattle.sai_types.specs.Names.{Name, name_of}
 use Rattle.sai_types.specs.Objects.{Objects}
 use Rattle.sai_chip.specs.Naming.{entries_of}
+use Rattle.chip_layout.specs.Counted.{AreDistinct}
 use Rattle.chip_layout.specs.Layout.{Has}
 use Rattle.plan_laws.specs.Applied.{IsListedChip}
 use Rattle.plan_laws.specs.Calls.{viewed}
 use Rattle.plan_laws.specs.Old.{old_layout, old_things, tag_of}
-use Rattle.plan_laws.specs.Plans.{IsViewPlan, PlanChange, Make, Remove, Set, hitless_rank, subject}
+use Rattle.plan_laws.specs.Plans.{AreRanked, IsViewPlan, PlanChange, Make, Remove, Set, hitless_rank, subject}
 use Rattle.sai_types.specs.Named.{thing_by}
 use Rattle.chip_layout.specs.Seen.{tagged}
 use Rattle.plan_laws.proofs.Lists.{in-map, map-in}
@@ -33,7 +34,7 @@ use Rattle.order_laws.specs.Viewed.{HaveOneLanes, IsViewOf, things_in}
 use Rattle.order_laws.proofs.Changes.{AreApart, IsDueStep, change_of, due-distinct, due-of, free-new, free-old, gone-due, made-due, name-is, new_thing, old_name, ranked, set-due, thing-is}
 use Rattle.order_laws.proofs.Placed.{IsOldAt, in-new, matched, new-in, old-place, pair-at}
 use Rattle.order_laws.proofs.Puts.{old-from}
-use Rattle.order_laws.proofs.Ranked.{IsHitlessRank, hitless-rising, hitless_value}
+use Rattle.order_laws.proofs.Ranked.{AreRising, IsHitlessRank, hitless-rising, hitless_value}
 use Rattle.order_laws.proofs.Shuffled.{distinct-shuffled, in-shuffled, shuffled-in}
 use Rattle.order_laws.proofs.Valued.{make-good, make-value, remove-good, remove-value, set-good, set-value}
 use Rattle.std.proofs.lemmas.Option.{same_Some}
@@ -100,7 +101,7 @@ module _ {made : ℕ} (old : List (Object Rid)) {new : List (Object Vid)} {thing
 
   -- ---- the plan
 
-  module _ (steps : List Timed) (same : IsPermutation due steps) (sorted : IsSorted timed_cmp steps) where
+  module _ (steps : List Timed) (same : IsPermutation due steps) where
     abbrev pub changes : List PlanChange
     changes = map change steps
 
@@ -177,12 +178,26 @@ module _ {made : ℕ} (old : List (Object Rid)) {new : List (Object Vid)} {thing
             let things_same : p.was.thing ≡ w.thing = same_Some p.was.thing w.thing (sym p.was.is ∙ ap (thing_by (tagged (tag_of O N)) O) objects ∙ w.is) in
             inl (p.now.1, new-in old chip view j p.now p.there, sym p.same ∙ ap name_of things_same ∙ is)
 
-    pub hitless-plan : IsViewPlan hitless_rank (old_things O N) N changes
-    hitless-plan = record {
+    pub plan-by : (rank : PlanChange → ℕ) → AreRanked rank changes → IsViewPlan rank (old_things O N) N changes
+    plan-by rank in_order = record {
       makes = makes;
       sets = sets;
       removes = removes;
       whole = λ t i. inr (whole t i);
       gone = gone;
-      in_order = ranked hitless_rank change (λ (t : Timed). hitless_value t.rank) steps (λ t i. value_of t (of_step t i)) (hitless-rising steps (λ t i. good_of t (of_step t i)) sorted) (distinct-shuffled same-or (λ t. subject (change t)) due steps same (due-distinct old chip view mode.Hitless apart));
+      in_order = in_order;
     }
+
+    own_names : AreDistinct (map (λ t. subject (change t)) steps)
+    own_names = distinct-shuffled same-or (λ t. subject (change t)) due steps same (due-distinct old chip view mode.Hitless apart)
+
+    pub hitless-plan : IsSorted timed_cmp steps → IsViewPlan hitless_rank (old_things O N) N changes
+    hitless-plan sorted = plan-by hitless_rank (ranked hitless_rank change (λ (t : Timed). hitless_value t.rank) steps (λ t i. value_of t (of_step t i)) (hitless-rising steps (λ t i. good_of t (of_step t i)) sorted) own_names)
+
+    -- in whatever order
+    pub plain-plan : IsViewPlan (λ c. 0) (old_things O N) N changes
+    plain-plan = plan-by (λ c. 0) (ranked (λ c. 0) change (λ t. 0) steps (λ t i. refl) (level_all steps) own_names)
+      where
+        level_all : {X : Type 0} (xs : List X) → AreRising (λ x. 0) xs
+        level_all [] = tt
+        level_all (x ∷ xs) = (λ y i. omega arith, level_all xs)

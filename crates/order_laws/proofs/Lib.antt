@@ -5,6 +5,7 @@ mod Changes
 mod Cold
 mod Dues
 mod Hitless
+mod Modes
 mod Ids
 mod Partners
 mod Placed

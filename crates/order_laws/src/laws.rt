@@ -1,5 +1,5 @@
 // What the plan of two views does. Each function is a law: it does nothing, and its contract is proved.
-ghost use Rattle.std.specs.Prelude.{◌≡◌, ◌⊎◌, ℕ, ◌+◌, ◌*◌, ◌≤◌, ◌++◌, List, [], length, map};
+ghost use Rattle.std.specs.Prelude.{◌≡◌, ◌↔◌, ◌⊎◌, ℕ, ◌+◌, ◌*◌, ◌≤◌, ◌++◌, List, [], length, map};
 ghost use Rattle.sai_types.specs.declared.ids.Rid.{Rid};
 ghost use Rattle.sai_types.specs.declared.ids.Vid.{Vid};
 ghost use Rattle.sai_types.specs.declared.body.Call.{Call};
@@ -19,6 +19,7 @@ ghost use Rattle.plan_laws.specs.Calls.{PlansChanges, resolve, viewed};
 ghost use Rattle.plan_laws.specs.Old.{old_layout};
 ghost use Rattle.plan_laws.specs.Plans.{PlanChange};
 ghost use Rattle.plan_laws.specs.Steady.{IsForwarding, IsHitless, IsOldOrNew, StaysNew};
+ghost use Rattle.plan_laws.specs.Views.{FitsHitless};
 ghost use Rattle.order_laws.specs.Apply.{IsApply, calls_by, plan_calls};
 ghost use Rattle.order_laws.specs.Viewed.{things_in};
 
@@ -56,4 +57,10 @@ pub fn applies_are_short()
 /// before, or the new view has it.
 pub fn applies_show_old_or_new()
     ensures { (capacities : List ℕ) (made : ℕ) (old : List (Object Rid)) (new : List (Object Vid)) (things : List (Vid × Thing)) (plan : Plan) (ids : Vid → Rid) (front rest : List (Call Rid)) (t : Thing) → IsApply capacities made old new things plan ids → calls_by ids plan ≡ front ++ rest → IsForwarding (name_of t) → IsIn t (chip_things (after_calls made (entries_of old) front)) → IsIn t (chip_things (entries_of old)) ⊎ IsIn t (things_in things) }
+{}
+
+/// A plan is hitless exactly where of each kind the old objects and the new names that the chip does not show number at
+/// most the capacity.
+pub fn modes_are_told_by_room()
+    ensures { (capacities : List ℕ) (made : ℕ) (old : List (Object Rid)) (new : List (Object Vid)) (things : List (Vid × Thing)) (plan : Plan) (ids : Vid → Rid) → IsApply capacities made old new things plan ids → (plan.mode ≡ mode.Hitless) ↔ FitsHitless capacities (entries_of old) (chip_things (entries_of old)) (things_in things) }
 {}
