@@ -38,7 +38,7 @@ use Rattle.apply_order.specs.Calls.{step_calls, steps_calls}
 use Rattle.apply_order.specs.Due.{due_steps}
 use Rattle.apply_order.specs.Naming.{Names, names_from, names_in}
 use Rattle.apply_order.specs.declared.ranks.Timed.{Timed}
-use Rattle.order_laws.specs.Apply.{AreNumbered, IsApply, calls_by, plan_calls}
+use Rattle.order_laws.specs.Apply.{AreNumbered, IsPlanned, calls_by, plan_calls}
 use Rattle.order_laws.specs.Viewed.{things_in}
 use Rattle.order_laws.proofs.Called.{HasPlan, calls-all, gone-plan, made-plan, made-same, made_all, numbered-append, plans-all, set-plan}
 use Rattle.order_laws.proofs.Changes.{change_of, due-of, new_thing, old_name}
@@ -63,7 +63,7 @@ steps_append names old new (x ∷ xs) ys =
 abbrev these : List PlanCall → List (Call PlanId)
 these cs = map (λ c. c.call) cs
 
-module _ {capacities : List ℕ} {made : ℕ} {old : List (Object Rid)} {new : List (Object Vid)} {things : List (Vid × Thing)} {plan : Plan} {ids : Vid → Rid} (x : IsApply capacities made old new things plan ids) where
+module _ {capacities : List ℕ} {made : ℕ} {old : List (Object Rid)} {new : List (Object Vid)} {things : List (Vid × Thing)} {plan : Plan} (x : IsPlanned capacities made old new things plan) where
   abbrev O : Objects
   O = entries_of old
 
@@ -122,18 +122,19 @@ module _ {capacities : List ℕ} {made : ℕ} {old : List (Object Rid)} {new : L
           | inr r ↦ elim r [ inl d ↦ set-plan old x.chip x.view mode.Hitless names named t d | inr d ↦ gone-plan old x.chip x.view mode.Hitless names t d ]
         ]
 
-    pub hitless-calls : PlansChanges (old_layout O N) (viewed things) ids made hitless_changes (plan_calls plan)
-    hitless-calls =
-        let names = names_from [] old new (pairs_of old new) in
-        let all = calls-all names old new (old_layout O N) (viewed things) change steps in
-        let same = calls-in mode.Hitless e ∙ sym all in
-        subst (λ cs. PlansChanges (old_layout O N) (viewed things) ids made hitless_changes (these cs)) (sym same)
-        (plans-all (old_layout O N) (viewed things) change (λ (t : Timed). step_calls names old new t.step) ids steps made has_plan (subst (AreNumbered ids made) same x.numbered))
+    module _ (ids : Vid → Rid) (numbered : AreNumbered ids made plan.calls) where
+      pub hitless-calls : PlansChanges (old_layout O N) (viewed things) ids made hitless_changes (plan_calls plan)
+      hitless-calls =
+          let names = names_from [] old new (pairs_of old new) in
+          let all = calls-all names old new (old_layout O N) (viewed things) change steps in
+          let same = calls-in mode.Hitless e ∙ sym all in
+          subst (λ cs. PlansChanges (old_layout O N) (viewed things) ids made hitless_changes (these cs)) (sym same)
+          (plans-all (old_layout O N) (viewed things) change (λ (t : Timed). step_calls names old new t.step) ids steps made has_plan (subst (AreNumbered ids made) same numbered))
 
-    pub applies-hitless : AppliesHitless capacities made O N hitless_changes [] (calls_by ids plan)
-    applies-hitless =
-        let planned = subst (IsHitlessPlan capacities made O N) (sym (append-nil hitless_changes)) is-hitless in
-        record { planned = planned; run = (plan-comes planned hitless_changes [] refl things ids (plan_calls plan) hitless-calls).run }
+      pub applies-hitless : AppliesHitless capacities made O N hitless_changes [] (calls_by ids plan)
+      applies-hitless =
+          let planned = subst (IsHitlessPlan capacities made O N) (sym (append-nil hitless_changes)) is-hitless in
+          record { planned = planned; run = (plan-comes planned hitless_changes [] refl things ids (plan_calls plan) hitless-calls).run }
 
   -- ---- a cold plan
 
@@ -176,27 +177,28 @@ module _ {capacities : List ℕ} {made : ℕ} {old : List (Object Rid)} {new : L
     calls_are : plan.calls ≡ cold_front ++ cold_back
     calls_are = calls-in mode.Cold e ∙ ap (steps_calls [] old new) cut.all ∙ steps_append [] old new cut.front cut.back
 
-    numbers : AreNumbered ids made cold_front × AreNumbered ids (made_all made cold_front) cold_back
-    numbers = numbered-append ids cold_front cold_back made (subst (AreNumbered ids made) calls_are x.numbered)
-
     pub cold-split : plan_calls plan ≡ these cold_front ++ these cold_back
     cold-split = ap these calls_are ∙ map-append (λ (c : PlanCall). c.call) cold_front cold_back
 
-    pub cold-removing : PlansChanges (old_layout O N) (viewed things) ids made cold_removes (these cold_front)
-    cold-removing =
-        let all = calls-all [] old new (old_layout O N) (viewed things) change cut.front in
-        subst (λ cs. PlansChanges (old_layout O N) (viewed things) ids made cold_removes (these cs)) all
-        (plans-all (old_layout O N) (viewed things) change (λ (t : Timed). step_calls [] old new t.step) ids cut.front made (λ t i. gone-plan old x.chip x.view mode.Cold [] t (cut.first t i)) (subst (AreNumbered ids made) (sym all) numbers.0))
+    module _ (ids : Vid → Rid) (numbered : AreNumbered ids made plan.calls) where
+      numbers : AreNumbered ids made cold_front × AreNumbered ids (made_all made cold_front) cold_back
+      numbers = numbered-append ids cold_front cold_back made (subst (AreNumbered ids made) calls_are numbered)
 
-    pub cold-making : PlansChanges nothing (viewed things) ids (made_after_all made (map (call_renamed (resolve ids)) (these cold_front))) cold_makes (these cold_back)
-    cold-making =
-        let all = calls-all [] old new nothing (viewed things) change cut.back in
-        subst (λ n. PlansChanges nothing (viewed things) ids n cold_makes (these cold_back)) (sym (made-same (resolve ids) cold_front made))
-        (subst (λ cs. PlansChanges nothing (viewed things) ids (made_all made cold_front) cold_makes (these cs)) all
-        (plans-all nothing (viewed things) change (λ (t : Timed). step_calls [] old new t.step) ids cut.back (made_all made cold_front) (λ t i. made-plan old x.chip x.view mode.Cold [] nothing (cold-named things) t (cut.last t i)) (subst (AreNumbered ids (made_all made cold_front)) (sym all) numbers.1)))
+      pub cold-removing : PlansChanges (old_layout O N) (viewed things) ids made cold_removes (these cold_front)
+      cold-removing =
+          let all = calls-all [] old new (old_layout O N) (viewed things) change cut.front in
+          subst (λ cs. PlansChanges (old_layout O N) (viewed things) ids made cold_removes (these cs)) all
+          (plans-all (old_layout O N) (viewed things) change (λ (t : Timed). step_calls [] old new t.step) ids cut.front made (λ t i. gone-plan old x.chip x.view mode.Cold [] t (cut.first t i)) (subst (AreNumbered ids made) (sym all) numbers.0))
 
-    pub applies-cold : AppliesCold capacities made O N cold_removes cold_makes (map (call_renamed (resolve ids)) (these cold_front)) (map (call_renamed (resolve ids)) (these cold_back))
-    applies-cold = cold-comes is-cold things ids (these cold_front) (these cold_back) cold-removing cold-making
+      pub cold-making : PlansChanges nothing (viewed things) ids (made_after_all made (map (call_renamed (resolve ids)) (these cold_front))) cold_makes (these cold_back)
+      cold-making =
+          let all = calls-all [] old new nothing (viewed things) change cut.back in
+          subst (λ n. PlansChanges nothing (viewed things) ids n cold_makes (these cold_back)) (sym (made-same (resolve ids) cold_front made))
+          (subst (λ cs. PlansChanges nothing (viewed things) ids (made_all made cold_front) cold_makes (these cs)) all
+          (plans-all nothing (viewed things) change (λ (t : Timed). step_calls [] old new t.step) ids cut.back (made_all made cold_front) (λ t i. made-plan old x.chip x.view mode.Cold [] nothing (cold-named things) t (cut.last t i)) (subst (AreNumbered ids (made_all made cold_front)) (sym all) numbers.1)))
 
-    pub cold-all : calls_by ids plan ≡ map (call_renamed (resolve ids)) (these cold_front) ++ map (call_renamed (resolve ids)) (these cold_back)
-    cold-all = ap (map (call_renamed (resolve ids))) cold-split ∙ map-append (call_renamed (resolve ids)) (these cold_front) (these cold_back)
+      pub applies-cold : AppliesCold capacities made O N cold_removes cold_makes (map (call_renamed (resolve ids)) (these cold_front)) (map (call_renamed (resolve ids)) (these cold_back))
+      applies-cold = cold-comes is-cold things ids (these cold_front) (these cold_back) cold-removing cold-making
+
+      pub cold-all : calls_by ids plan ≡ map (call_renamed (resolve ids)) (these cold_front) ++ map (call_renamed (resolve ids)) (these cold_back)
+      cold-all = ap (map (call_renamed (resolve ids))) cold-split ∙ map-append (call_renamed (resolve ids)) (these cold_front) (these cold_back)

@@ -56,49 +56,49 @@ module _ {capacities : List ℕ} {made : ℕ} {old : List (Object Rid)} {new : L
   pub all-legal : AreLegal capacities made O (calls_by ids plan)
   all-legal =
       elim (either plan.mode) [
-        | inl e ↦ (hitless-end (applies-hitless x e)).legal
-        | inr e ↦ subst (AreLegal capacities made O) (sym (cold-all x e)) (cold-legal (applies-cold x e))
+        | inl e ↦ (hitless-end (applies-hitless x.of e ids x.numbered)).legal
+        | inr e ↦ subst (AreLegal capacities made O) (sym (cold-all x.of e ids x.numbered)) (cold-legal (applies-cold x.of e ids x.numbered))
       ]
 
   pub all-alike : IsAlike (after_calls made O (calls_by ids plan)) (λ t. IsIn t N)
   all-alike =
       elim (either plan.mode) [
-        | inl e ↦ hitless-alike (applies-hitless x e) refl
-        | inr e ↦ subst (λ cs. IsAlike (after_calls made O cs) (λ t. IsIn t N)) (sym (cold-all x e)) (cold-alike (applies-cold x e))
+        | inl e ↦ hitless-alike (applies-hitless x.of e ids x.numbered) refl
+        | inr e ↦ subst (λ cs. IsAlike (after_calls made O cs) (λ t. IsIn t N)) (sym (cold-all x.of e ids x.numbered)) (cold-alike (applies-cold x.of e ids x.numbered))
       ]
 
   pub steady-decided : (front rest : List (Call Rid)) → plan.mode ≡ mode.Hitless → calls_by ids plan ≡ front ++ rest → IsOldOrNew (chip_things O) N (chip_things (after_calls made O front))
-  steady-decided front rest e cut = (hitless-steady (applies-hitless x e) front rest cut).0
+  steady-decided front rest e cut = (hitless-steady (applies-hitless x.of e ids x.numbered) front rest cut).0
 
   pub steady-forwarded : (front rest : List (Call Rid)) → plan.mode ≡ mode.Hitless → calls_by ids plan ≡ front ++ rest → IsHitless (chip_things O) N (chip_things (after_calls made O front))
-  steady-forwarded front rest e cut = (hitless-steady (applies-hitless x e) front rest cut).1
+  steady-forwarded front rest e cut = (hitless-steady (applies-hitless x.of e ids x.numbered) front rest cut).1
 
   pub steady-stays : (front more rest : List (Call Rid)) → plan.mode ≡ mode.Hitless → calls_by ids plan ≡ front ++ (more ++ rest) → StaysNew N (chip_things (after_calls made O front)) (chip_things (after_calls made O (front ++ more)))
-  steady-stays front more rest e cut = hitless-kept (applies-hitless x e) front more rest cut
+  steady-stays front more rest e cut = hitless-kept (applies-hitless x.of e ids x.numbered) front more rest cut
 
   pub all-origin : (front rest : List (Call Rid)) (t : Thing) → calls_by ids plan ≡ front ++ rest → IsForwarding (name_of t) → IsIn t (chip_things (after_calls made O front)) → IsIn t (chip_things O) ⊎ IsIn t N
   all-origin front rest t cut fw i =
       elim (either plan.mode) [
-        | inl e ↦ hitless-origin (applies-hitless x e) front rest cut t fw i
-        | inr e ↦ cold-origin (applies-cold x e) front rest (sym (cold-all x e) ∙ cut) t fw i
+        | inl e ↦ hitless-origin (applies-hitless x.of e ids x.numbered) front rest cut t fw i
+        | inr e ↦ cold-origin (applies-cold x.of e ids x.numbered) front rest (sym (cold-all x.of e ids x.numbered) ∙ cut) t fw i
       ]
 
   few_calls : length (calls_by ids plan) ≤ length O + 3 * length N
   few_calls =
       elim (either plan.mode) [
         | inl e ↦
-            let a = applies-hitless x e in
-            let few = calls-few a.planned.is_plan (hitless_changes x e) [] refl made (old_layout O N) (calls_by ids plan) a.run in
+            let a = applies-hitless x.of e ids x.numbered in
+            let few = calls-few a.planned.is_plan (hitless_changes x.of e) [] refl made (old_layout O N) (calls_by ids plan) a.run in
             let were = old-few O N in
             omega (arith, few, were)
         | inr e ↦
-            let a = applies-cold x e in
-            let front = map (call_renamed (resolve ids)) (map (λ (c : PlanCall). c.call) (cold_front x e)) in
-            let back = map (call_renamed (resolve ids)) (map (λ (c : PlanCall). c.call) (cold_back x e)) in
-            let first = calls-few a.planned.removing (cold_removes x e) [] (sym (append-nil (cold_removes x e))) made (old_layout O N) front a.removing in
-            let second = calls-few a.planned.making (cold_makes x e) [] (sym (append-nil (cold_makes x e))) (made_after_all made front) nothing back a.making in
+            let a = applies-cold x.of e ids x.numbered in
+            let front = map (call_renamed (resolve ids)) (map (λ (c : PlanCall). c.call) (cold_front x.of e)) in
+            let back = map (call_renamed (resolve ids)) (map (λ (c : PlanCall). c.call) (cold_back x.of e)) in
+            let first = calls-few a.planned.removing (cold_removes x.of e) [] (sym (append-nil (cold_removes x.of e))) made (old_layout O N) front a.removing in
+            let second = calls-few a.planned.making (cold_makes x.of e) [] (sym (append-nil (cold_makes x.of e))) (made_after_all made front) nothing back a.making in
             let were = old-few O N in
-            let sum = ap length (cold-all x e) ∙ length-append front back in
+            let sum = ap length (cold-all x.of e ids x.numbered) ∙ length-append front back in
             omega (arith, first, second, were, sum)
       ]
 
@@ -110,5 +110,5 @@ module _ {capacities : List ℕ} {made : ℕ} {old : List (Object Rid)} {new : L
       let item : Object Rid → Entry Rid × Body Rid = λ o. (o.entry, o.body) in
       let three = length_map item old in
       let four = length_map (λ (y : Vid × Thing). y.1) things in
-      let five = same_length (viewed things) things new x.view.objects in
+      let five = same_length (viewed things) things new x.of.view.objects in
       omega (arith, few, one, two, three, four, five)

@@ -1,17 +1,17 @@
-mod Applying
-mod Called
-mod Ends
-mod Changes
-mod Cold
-mod Dues
-mod Hitless
-mod Modes
-mod Ids
-mod Partners
-mod Placed
-mod Puts
-mod Ranked
-mod Roomy
-mod Sets
-mod Shuffled
-mod Valued
+pub mod Applying
+pub mod Called
+pub mod Ends
+pub mod Changes
+pub mod Cold
+pub mod Dues
+pub mod Hitless
+pub mod Modes
+pub mod Ids
+pub mod Partners
+pub mod Placed
+pub mod Puts
+pub mod Ranked
+pub mod Roomy
+pub mod Sets
+pub mod Shuffled
+pub mod Valued

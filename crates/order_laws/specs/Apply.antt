@@ -40,11 +40,15 @@ abbrev pub calls_by : (Vid → Rid) → Plan → List (Call Rid)
 calls_by ids plan = map (call_renamed (resolve ids)) (plan_calls plan)
 
 -- the plan from the objects of a chip that legal calls made to a new view, where the chip has room for the old objects, and for the new ones
-pub record IsApply (capacities : List ℕ) (made : ℕ) (old : List (Object Rid)) (new : List (Object Vid)) (things : List (Vid × Thing)) (plan : Plan) (ids : Vid → Rid) : Type 0 where
+pub record IsPlanned (capacities : List ℕ) (made : ℕ) (old : List (Object Rid)) (new : List (Object Vid)) (things : List (Vid × Thing)) (plan : Plan) : Type 0 where
   pub chip : IsListedChip made (entries_of old)
   pub view : IsViewOf things new
   pub lanes : HaveOneLanes (entries_of old) (things_in things)
   pub planned : IsPlanOf old new (pairs_of old new) capacities plan
-  pub numbered : AreNumbered ids made plan.calls
   pub held : (kind : Kind) → used (entries_of old) kind ≤ capacity_of capacities kind
   pub fits : (kind : Kind) → lacking_from kind [] new 0 ≤ capacity_of capacities kind
+
+-- its calls, where what they make comes to these identifiers
+pub record IsApply (capacities : List ℕ) (made : ℕ) (old : List (Object Rid)) (new : List (Object Vid)) (things : List (Vid × Thing)) (plan : Plan) (ids : Vid → Rid) : Type 0 where
+  pub of : IsPlanned capacities made old new things plan
+  pub numbered : AreNumbered ids made plan.calls

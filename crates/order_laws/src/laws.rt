@@ -20,7 +20,7 @@ ghost use Rattle.plan_laws.specs.Old.{old_layout};
 ghost use Rattle.plan_laws.specs.Plans.{PlanChange};
 ghost use Rattle.plan_laws.specs.Steady.{IsForwarding, IsHitless, IsOldOrNew, StaysNew};
 ghost use Rattle.plan_laws.specs.Views.{FitsHitless};
-ghost use Rattle.order_laws.specs.Apply.{IsApply, calls_by, plan_calls};
+ghost use Rattle.order_laws.specs.Apply.{IsApply, IsPlanned, calls_by, plan_calls};
 ghost use Rattle.order_laws.specs.Viewed.{things_in};
 
 /// The calls of a plan are those of changes that lead from what stands to the new view: of a hitless plan in its order,
@@ -62,5 +62,5 @@ pub fn applies_show_old_or_new()
 /// A plan is hitless exactly where of each kind the old objects and the new names that the chip does not show number at
 /// most the capacity.
 pub fn modes_are_told_by_room()
-    ensures { (capacities : List ℕ) (made : ℕ) (old : List (Object Rid)) (new : List (Object Vid)) (things : List (Vid × Thing)) (plan : Plan) (ids : Vid → Rid) → IsApply capacities made old new things plan ids → (plan.mode ≡ mode.Hitless) ↔ FitsHitless capacities (entries_of old) (chip_things (entries_of old)) (things_in things) }
+    ensures { (capacities : List ℕ) (made : ℕ) (old : List (Object Rid)) (new : List (Object Vid)) (things : List (Vid × Thing)) (plan : Plan) → IsPlanned capacities made old new things plan → (plan.mode ≡ mode.Hitless) ↔ FitsHitless capacities (entries_of old) (chip_things (entries_of old)) (things_in things) }
 {}
