@@ -1,5 +1,5 @@
 mod EachKind
-mod Lengths
+pub mod Lengths
 mod Modes
 mod Steps
-mod Turns
+pub mod Turns

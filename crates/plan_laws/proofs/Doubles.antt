@@ -71,7 +71,7 @@ module _ {made : ℕ} {objects : Objects} (chip : IsListedChip made objects) (ne
   these_hops : (g : Rid) (hs : List Hop) → hops_at objects g ≡ Some hs → hs ≡ hops g
   these_hops g hs e = sym (ap hops_or_none e)
 
-  names : (e : Entry Rid) (b : Body Rid) (u w : Thing) → thing_of objects (e, b) ≡ Some u → thing_by (tagged tag) objects (e, b) ≡ Some w → AreNames e b u w
+  pub names : (e : Entry Rid) (b : Body Rid) (u w : Thing) → thing_of objects (e, b) ≡ Some u → thing_by (tagged tag) objects (e, b) ≡ Some w → AreNames e b u w
   names (entry.Oid g) body.Group u w x y =
       let m = mapped thing.Group (hops_at objects g) u x in
       inr (inl (g, refl, refl, sym m.2 ∙ ap thing.Group (these_hops g m.0 m.1), sym (same_Some (thing.Group (tag g)) w y)))
@@ -93,15 +93,15 @@ module _ {made : ℕ} {objects : Objects} (chip : IsListedChip made objects) (ne
 
   -- ---- groups that stay
 
-  new_group : (g : Rid) (hop : Hop) → IsIn (thing.GroupMember (hops g) hop) new → IsIn (thing.Group (hops g)) new
+  pub new_group : (g : Rid) (hop : Hop) → IsIn (thing.GroupMember (hops g) hop) new → IsIn (thing.Group (hops g)) new
   new_group g hop i = let k = view.within.refers (thing.GroupMember (hops g) hop) (name.Group (hops g)) i (inl refl) in subst (λ z. IsIn z new) (is-group k.0 (hops g) k.2) k.1
 
-  stays_if : (g : Rid) → IsIn g (chip_groups objects) → IsIn (thing.Group (hops g)) new → is_double objects g ≡ false → group_stays objects new g ≡ true
+  pub stays_if : (g : Rid) → IsIn g (chip_groups objects) → IsIn (thing.Group (hops g)) new → is_double objects g ≡ false → group_stays objects new g ≡ true
   stays_if g i wanted single =
       both_true _ _ (in-any (same_id g) (chip_groups objects) g i (eq-eqb g.0 g.0 refl))
       (both_true _ _ (in-any (is_group_of (hops g)) new (thing.Group (hops g)) wanted (hops_refl (hops g))) (ap not single))
 
-  tag_is : (g : Rid) → group_stays objects new g ≡ true → tag g ≡ hops g
+  pub tag_is : (g : Rid) → group_stays objects new g ≡ true → tag g ≡ hops g
   tag_is g h = ap (λ b. cond b (hops g) (filler g.0)) h
 
   doubled : (g : Rid) → IsIn g (chip_groups objects) → IsIn (thing.Group (hops g)) new → (tag g ≡ hops g → ⊥) → is_double objects g ≡ true
@@ -114,7 +114,7 @@ module _ {made : ℕ} {objects : Objects} (chip : IsListedChip made objects) (ne
   member_parts : (g h n m : Rid) → body.GroupMember g n ≡ body.GroupMember h m → g ≡ h
   member_parts g h n m e = cc
 
-  member_group : (e : Entry Rid) (g n : Rid) (hop : Hop) → body_at objects e ≡ Some (body.GroupMember g n) → thing_by (tagged tag) objects (e, body.GroupMember g n) ≡ Some (thing.GroupMember (tag g) hop) → IsIn g (chip_groups objects)
+  pub member_group : (e : Entry Rid) (g n : Rid) (hop : Hop) → body_at objects e ≡ Some (body.GroupMember g n) → thing_by (tagged tag) objects (e, body.GroupMember g n) ≡ Some (thing.GroupMember (tag g) hop) → IsIn g (chip_groups objects)
   member_group e g n hop found is =
       let of = body-seen tag made objects chip.whole e (body.GroupMember g n) (thing.GroupMember (tag g) hop) found is in
       let same : of.first ≡ g = sym (member_parts g of.first n of.second of.body_is) in
@@ -144,7 +144,7 @@ module _ {made : ℕ} {objects : Objects} (chip : IsListedChip made objects) (ne
 
   -- ---- what the chip shows of the new view is among the old things
 
-  group_found : (g : Rid) → IsIn g (chip_groups objects) → body_at objects (entry.Oid g) ≡ Some body.Group
+  pub group_found : (g : Rid) → IsIn g (chip_groups objects) → body_at objects (entry.Oid g) ≡ Some body.Group
   group_found g i =
       let o = map-in chip_group objects (Some g) (those_in g (map chip_group objects) i) in
       let is = is_grouped o.0 g o.2 in
@@ -157,7 +157,7 @@ module _ {made : ℕ} {objects : Objects} (chip : IsListedChip made objects) (ne
   abbrev HasLeast : Rid → Type 0
   HasLeast g = (h : Rid) × IsIn h (chip_groups objects) × (is_double objects h ≡ false) × (hops h ≡ hops g)
 
-  least : (n : ℕ) (g : Rid) → g.0 < n → IsIn g (chip_groups objects) → HasLeast g
+  pub least : (n : ℕ) (g : Rid) → g.0 < n → IsIn g (chip_groups objects) → HasLeast g
   least zero g less i = absurd (omega (arith, less))
   least (suc n) g less i = by (is_double objects g) refl (λ h below there. least n h (omega (arith, less, below)) there)
     where
@@ -169,13 +169,13 @@ module _ {made : ℕ} {objects : Objects} (chip : IsListedChip made objects) (ne
           let r = lesser x.0 (lower x.0.0 g.0 parts.0) x.1 in
           (r.0, r.1, r.2, r.3 ∙ hops_exact (hops x.0) (hops g) parts.1)
 
-  group_old : (g : Rid) → IsIn g (chip_groups objects) → IsIn (thing.Group (hops g)) new → IsIn (thing.Group (hops g)) (old_things objects new)
+  pub group_old : (g : Rid) → IsIn g (chip_groups objects) → IsIn (thing.Group (hops g)) new → IsIn (thing.Group (hops g)) (old_things objects new)
   group_old g i wanted =
       let h = least (suc g.0) g (omega arith) i in
       let stays = stays_if h.0 h.1 (subst (λ z. IsIn (thing.Group z) new) (sym h.3) wanted) h.2 in
       subst (λ z. IsIn (thing.Group z) (old_things objects new)) (tag_is h.0 stays ∙ h.3) (object-seen tag objects made chip.whole (entry.Oid h.0) body.Group (thing.Group (tag h.0)) (group_found h.0 h.1) refl)
 
-  member_old : (g : Rid) (hop : Hop) → IsIn g (chip_groups objects) → IsIn (thing.GroupMember (hops g) hop) new → IsIn (thing.GroupMember (hops g) hop) (old_things objects new)
+  pub member_old : (g : Rid) (hop : Hop) → IsIn g (chip_groups objects) → IsIn (thing.GroupMember (hops g) hop) new → IsIn (thing.GroupMember (hops g) hop) (old_things objects new)
   member_old g hop i wanted =
       let group = new_group g hop wanted in
       (old-tagged chip new).have (hops g) hop (group_old g i group) (subst (IsIn hop) (sym (hops-same chip new (hops g) (view.grouped.rising (hops g) group))) (view.grouped.only (hops g) hop wanted))
@@ -216,10 +216,10 @@ module _ {made : ℕ} {objects : Objects} (chip : IsListedChip made objects) (ne
 
   -- ---- and what of the old things the new view has the chip shows
 
-  hops_of_group : (g : Rid) → body_at objects (entry.Oid g) ≡ Some body.Group → hops_at objects g ≡ Some (hops g)
+  pub hops_of_group : (g : Rid) → body_at objects (entry.Oid g) ≡ Some body.Group → hops_at objects g ≡ Some (hops g)
   hops_of_group g found = hops-there chip new g (tag g) (record { entry = entry.Oid g; body = body.Group; found = found; at = same-refl (entry.Oid g); thing = refl; none = λ h. absurd (false≢true (sym h)) })
 
-  real_tag : (g : Rid) → IsIn (thing.Group (tag g)) new → hops g ≡ tag g
+  pub real_tag : (g : Rid) → IsIn (thing.Group (tag g)) new → hops g ≡ tag g
   real_tag g i = sym (hops-of_tag (group_stays objects new) (shown_hops objects) (rises chip new) g) ∙ hops-same chip new (tag g) (view.grouped.rising (tag g) i)
 
   goal_there : (e : Entry Rid) (p : Prefix) (t : To Rid) (g : Goal) → body_at objects e ≡ Some (body.Route p t) → goal_by (tagged tag) objects t ≡ Some g → (h : Goal) × (goal_by (hops_at objects) objects t ≡ Some h)
@@ -238,7 +238,7 @@ module _ {made : ℕ} {objects : Objects} (chip : IsListedChip made objects) (ne
   abbrev ShownAs : Entry Rid → Body Rid → Name → Type 0
   ShownAs e b n = (v : Thing) × (thing_of objects (e, b) ≡ Some v) × (name_of v ≡ n)
 
-  shown_as : (e : Entry Rid) (b : Body Rid) (u t : Thing) → body_at objects e ≡ Some b → thing_by (tagged tag) objects (e, b) ≡ Some u → IsIn t new → name_of u ≡ name_of t → ShownAs e b (name_of t)
+  pub shown_as : (e : Entry Rid) (b : Body Rid) (u t : Thing) → body_at objects e ≡ Some b → thing_by (tagged tag) objects (e, b) ≡ Some u → IsIn t new → name_of u ≡ name_of t → ShownAs e b (name_of t)
   shown_as (entry.Oid g) body.Group u t found is i same =
       let u_is : u ≡ thing.Group (tag g) = sym (same_Some (thing.Group (tag g)) u is) in
       let t_is = is-group t (tag g) (sym same ∙ ap name_of u_is) in

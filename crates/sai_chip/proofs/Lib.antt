@@ -16,7 +16,7 @@ mod Nearby
 mod Parts
 pub mod Remades
 pub mod Replays
-mod SameNames
+pub mod SameNames
 mod Sending
 mod Standing
 mod Taken

@@ -1,2 +1,2 @@
 mod Failing
-mod Ties
+pub mod Ties

@@ -20,10 +20,10 @@ use Rattle.syncd_core.specs.Tied.{plan_tie, rid_or_none}
 vid_tied : (v w : Vid) → is_at (vid_cmp v) w ≡ (v.0 == w.0)
 vid_tied v w = search rules
 
-vid-exact : (v w : Vid) → is_at (vid_cmp v) w ≡ true → v ≡ w
+pub vid-exact : (v w : Vid) → is_at (vid_cmp v) w ≡ true → v ≡ w
 vid-exact v w h = let made : ℕ → Vid = λ n. record { 0 = n } in ap made (eqb-true v.0 w.0 (sym (vid_tied v w) ∙ h))
 
-apart_found : (v w : Vid) (g : ViewObject → ViewObject) → (v ≡ w → ⊥) → (os : ViewObjects) → lookup (is_at (vid_cmp v)) (changed_at os w g) ≡ lookup (is_at (vid_cmp v)) os
+pub apart_found : (v w : Vid) (g : ViewObject → ViewObject) → (v ≡ w → ⊥) → (os : ViewObjects) → lookup (is_at (vid_cmp v)) (changed_at os w g) ≡ lookup (is_at (vid_cmp v)) os
 apart_found v w g apart [] = refl
 apart_found v w g apart (y ∷ ys) = by (is_at (vid_cmp w) y.0) refl (is_at (vid_cmp v) y.0) refl (apart_found v w g apart ys)
   where
@@ -43,7 +43,7 @@ step_kept made view c v r free tied = by (makes_id c.call)
     by true = tie_kept view v r c.makes (record { 0 = made + 1 }) tied free
     by false = tied
 
-kept : (made : ℕ) (view : ViewObjects) (calls : List PlanCall) (v : Vid) (r : Rid) → AreInTime made view calls → rid_at view v ≡ Some r → rid_at (tied_after made view calls) v ≡ Some r
+pub kept : (made : ℕ) (view : ViewObjects) (calls : List PlanCall) (v : Vid) (r : Rid) → AreInTime made view calls → rid_at view v ≡ Some r → rid_at (tied_after made view calls) v ≡ Some r
 kept made view [] v r times tied = tied
 kept made view (c ∷ cs) v r times tied = kept (made_by made c) (view_by made view c) cs v r times.2 (step_kept made view c v r times.1 tied)
 

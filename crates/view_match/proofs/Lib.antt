@@ -1,6 +1,6 @@
-mod Best
-mod Exact
-mod Free
+pub mod Best
+pub mod Exact
+pub mod Free
 mod Orders
-mod Paired
+pub mod Paired
 mod Put

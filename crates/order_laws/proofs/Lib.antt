@@ -1,0 +1,17 @@
+pub mod Applying
+pub mod Called
+pub mod Ends
+pub mod Changes
+pub mod Cold
+pub mod Dues
+pub mod Hitless
+pub mod Modes
+pub mod Ids
+pub mod Partners
+pub mod Placed
+pub mod Puts
+pub mod Ranked
+pub mod Roomy
+pub mod Sets
+pub mod Shuffled
+pub mod Valued
