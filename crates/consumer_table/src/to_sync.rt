@@ -178,7 +178,11 @@ impl ToSync {
     fn key_behind(&self, key: &Key) -> Option<&Key>
         ensures { option_map (λ key. key.now) result ≡ first_in (keys_behind (Some key.now) (keys_of self.now)) }
     {
-        match self.ops.range((Bound::Excluded(key), Bound::Unbounded)).next() {
+        match self
+            .ops
+            .range((Bound::Excluded(key), Bound::Unbounded))
+            .next()
+        {
             Some((key, _)) => Some(key),
             None => None,
         }
