@@ -1,0 +1,10 @@
+mod Alike
+mod Calls
+mod Counted
+mod Lists
+mod Making
+mod Removing
+mod Renamed
+mod Setting
+mod Shown
+mod Tied
