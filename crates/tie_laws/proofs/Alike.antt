@@ -1,5 +1,5 @@
 -- a view is tied to a chip where each object of the one has its object of the other
-use Rattle.std.proofs.Common.{◌≡◌, ℕ, ◌<◌, ◌≤◌, [], map, Option, None, Some, refl, sym, ap, ◌∙◌}
+use Rattle.std.proofs.Common.{◌≡◌, ℕ, ◌<◌, ◌≤◌, List, [], map, Option, None, Some, refl, sym, ap, ◌∙◌, subst}
 use Rattle.std.specs.List.{AllByRecursion}
 use Rattle.std.specs.List.Sorted.{IsStrictlySortedBy}
 use Rattle.std.specs.Map.{keys_of}
@@ -8,16 +8,22 @@ use Rattle.sai_types.specs.declared.ids.Rid.{Rid}
 use Rattle.sai_types.specs.declared.ids.Vid.{Vid}
 use Rattle.sai_types.specs.declared.body.Body.{Body}
 use Rattle.sai_types.specs.declared.body.Entry.{Entry}
+use Rattle.sai_types.specs.declared.thing.Thing.{Thing}
 use Rattle.sai_types.specs.Alike.{IsIn}
-use Rattle.sai_types.specs.Made.{AreSorted}
+use Rattle.sai_types.specs.Made.{AreSorted, IsWhole}
 use Rattle.sai_types.specs.Objects.{Objects, body_at}
 use Rattle.chip_layout.specs.Counted.{AreDistinct}
+use Rattle.chip_layout.specs.Layout.{IsLaidOut}
+use Rattle.chip_layout.specs.Layout as chip
+use Rattle.asic_view.specs.Things.{StandFor, listed}
 use Rattle.asic_view.specs.View.{ViewObjects, rid_at, shown_by, vid_cmp}
 use Rattle.asic_view.proofs.Same.{same-objects}
 use Rattle.asic_view.proofs.Shown.{sorted-shown}
 use Rattle.syncd_core.specs.Tied.{tie_of}
+use Rattle.tie_laws.specs.Standing.{AreThingsOf}
 use Rattle.tie_laws.specs.Ties.{AreTied, HasTie, body_tied, entry_tied}
 use Rattle.tie_laws.proofs.Shown.{Item, shown-from, shown-none, shown-there}
+use Rattle.tie_laws.proofs.Standing.{stand-tied}
 use Rattle.tie_laws.proofs.Tied.{is-own, tied-once}
 
 pub none-tied : AreTied [] 0 []
@@ -50,3 +56,6 @@ module _ (view : ViewObjects) (made : ℕ) (objects : Objects) where
       by e (Some b) at =
           let from = back e b at in
           ap (body_at (shown_by (tie_of view) view)) from.2 ∙ shown-there (tie_of view) view from.0 once from.1 ∙ sym (there from.0 from.1) ∙ ap (body_at objects) (sym from.2)
+
+pub stand-for : (view : ViewObjects) (made : ℕ) (objects : Objects) (stands : List (Rid × Thing)) → AreTied view made objects → IsWhole made objects → IsLaidOut (chip.listed stands) objects → (things : List (Vid × Thing)) × StandFor (listed things) view × AreThingsOf view stands things
+stand-for view made objects stands tied whole laid = stand-tied view made (own-chip view made objects tied) (subst (IsWhole made) (sym tied.shown) whole) stands (subst (IsLaidOut (chip.listed stands)) (sym tied.shown) laid)

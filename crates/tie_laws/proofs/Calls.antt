@@ -23,7 +23,7 @@ use Rattle.asic_view.specs.declared.object.ViewObject.{ViewObject}
 use Rattle.asic_view.specs.View.{IsLegalOn, IsLegalWith, IsNew, ViewObjects, after_create, rid_at, shown_by, untied, used_of, with_tie}
 use Rattle.syncd_core.specs.Synced.{CanCall, Follows, IsMade, SyncState, current, view_in}
 use Rattle.syncd_core.specs.Tied.{tie_of}
-use Rattle.tie_laws.specs.Following.{IsDone, IsUntied, TiesFollow}
+use Rattle.tie_laws.specs.Following.{IsDone, LosesTie, TiesFollow}
 use Rattle.tie_laws.specs.Named.{InCall}
 use Rattle.tie_laws.specs.Ties.{AreTied, IsTie, IsTied}
 use Rattle.tie_laws.proofs.Alike.{own-chip}
@@ -87,7 +87,7 @@ module _ (view view' : ViewObjects) (made : ℕ) (capacities : List ℕ) (tied :
       (v, said, record { new = new; none = none-yet view v new; tied = ap (λ l. rid_at l v) last ∙ rid-new view v new x; others = λ w apart. ap (λ l. rid_at l w) last ∙ rid-old view v new x w apart })
   staying (call.Create b) answer.Done legal (v, new, is, said) = λ w. ap (λ l. rid_at l w) is ∙ rid-untied view v new (untied b) refl w
   staying (call.Set e x) answer.Done legal f = λ w. ap (λ l. rid_at l w) f.0 ∙ rid-set e x view w
-  staying (call.Remove (entry.Oid v)) answer.Done legal f = subst (IsUntied view v) (sym f.0) (id-untied view made tied whole capacities (entry.Oid v) legal v refl)
+  staying (call.Remove (entry.Oid v)) answer.Done legal f = subst (LosesTie view v) (sym f.0) (id-untied view made tied whole capacities (entry.Oid v) legal v refl)
   staying (call.Remove (entry.Own ip)) answer.Done legal f = λ w. ap (λ l. rid_at l w) f.0 ∙ key-alike view made tied whole capacities (entry.Own ip) legal refl w
   staying (call.Remove (entry.Neigh v ip)) answer.Done legal f = λ w. ap (λ l. rid_at l w) f.0 ∙ key-alike view made tied whole capacities (entry.Neigh v ip) legal refl w
   staying (call.Remove (entry.Route prefix)) answer.Done legal f = λ w. ap (λ l. rid_at l w) f.0 ∙ key-alike view made tied whole capacities (entry.Route prefix) legal refl w

@@ -7,4 +7,5 @@ mod Removing
 mod Renamed
 mod Setting
 mod Shown
+mod Standing
 mod Tied

@@ -34,12 +34,12 @@ in-push (z ∷ zs) x y (inr h) = by (in-push zs x y h)
     by (inr is) = inr is
 
 module _ {X Y : Type 0} (f : X → Y) where
-  in-mapped : (xs : List X) (x : X) → IsIn x xs → IsIn (f x) (map f xs)
+  pub in-mapped : (xs : List X) (x : X) → IsIn x xs → IsIn (f x) (map f xs)
   in-mapped [] x h = absurd h
   in-mapped (y ∷ ys) x (inl is) = inl (ap f is)
   in-mapped (y ∷ ys) x (inr h) = inr (in-mapped ys x h)
 
-  mapped-in : (xs : List X) (y : Y) → IsIn y (map f xs) → (x : X) × IsIn x xs × (y ≡ f x)
+  pub mapped-in : (xs : List X) (y : Y) → IsIn y (map f xs) → (x : X) × IsIn x xs × (y ≡ f x)
   mapped-in [] y h = absurd h
   mapped-in (x ∷ xs) y (inl is) = (x, inl refl, is)
   mapped-in (x ∷ xs) y (inr h) = let rest = mapped-in xs y h in (rest.0, inr rest.1, rest.2)

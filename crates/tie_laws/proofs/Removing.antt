@@ -28,7 +28,7 @@ use Rattle.asic_view.proofs.Keeping.{IsThere, all-in, found-key, in-all, remove-
 use Rattle.asic_view.proofs.Naming.{key-exact, vid_total}
 use Rattle.asic_view.proofs.Shown.{shown-left, shown_body, shown_entry}
 use Rattle.syncd_core.specs.Tied.{rid_or_none, tie_of}
-use Rattle.tie_laws.specs.Following.{AreTiedAlike, IsUntied}
+use Rattle.tie_laws.specs.Following.{AreTiedAlike, LosesTie}
 use Rattle.tie_laws.specs.Named.{InBody}
 use Rattle.tie_laws.specs.Ties.{AreTied, HasTie}
 use Rattle.tie_laws.proofs.Lists.{distinct-by, distinct-filter, in-filter, one-of}
@@ -102,7 +102,7 @@ module _ (view : ViewObjects) (made : ℕ) (tied : AreTied view made (shown_by (
 
   -- ---- what becomes of the ties
 
-  pub id-untied : (v : Vid) → e ≡ entry.Oid v → IsUntied view v (after_remove view e)
+  pub id-untied : (v : Vid) → e ≡ entry.Oid v → LosesTie view v (after_remove view e)
   id-untied v is =
       let own = oid_at v x.0 x.1.body (sym is ∙ key-exact e (entry_at x.0 x.1.body) there.named) in
       record { none = ap (rid_at left) own ∙ rid_gone; others = λ w apart. rid_stays w (λ same. apart (same ∙ sym own)) }

@@ -1,5 +1,5 @@
 -- the chip's objects are those of the view by number, with each identifier renamed: so what is legal on the one is legal on the other
-use Rattle.std.proofs.Common.{◌≡◌, ℕ, ◌+◌, List, Option, None, Some, refl, sym, ap, ap₂, ◌∙◌, arith}
+use Rattle.std.proofs.Common.{◌≡◌, ℕ, ◌+◌, List, map, Option, None, Some, refl, sym, ap, ap₂, ◌∙◌, arith}
 use Rattle.std.specs.Cmp.{both_ways}
 use Rattle.swss_types.specs.declared.address.Ip.{Ip}
 use Rattle.sai_types.specs.declared.ids.Rid.{Rid}
@@ -23,6 +23,7 @@ use Rattle.sai_types.specs.Refusal.{IsLegal, refusal_of, remove_refusal}
 use Rattle.sai_types.proofs.Exact.{entry-exact}
 use Rattle.sai_types.proofs.Found.{same-refl}
 use Rattle.sai_types.proofs.Legal.{legal-create, legal-set}
+use Rattle.chip_layout.specs.Counted.{AreDistinct}
 use Rattle.chip_layout.specs.Renamed.{AreRenamed, attr_renamed, body_renamed, call_renamed, entry_renamed, on_renamed, to_renamed}
 use Rattle.chip_layout.proofs.Legality.{refusal-renamed}
 use Rattle.asic_view.specs.View.{IsLegalWith, ViewObjects, as_chip, as_rid, as_vid, entry_at, is_named, rid_at, same_key, shown_by}
@@ -38,41 +39,36 @@ use Rattle.tie_laws.proofs.Tied.{body-tied, entry-tied, found-tied, is-own, show
 
 -- ---- one renaming after another
 
-module _ (g : Rid → Rid) where
-  on_twice : (o : RifOn Vid) → on_renamed g (on_renamed as_rid o) ≡ on_renamed (λ v. g (as_rid v)) o
+module _ (h : Vid → Rid) (g : Rid → Rid) where
+  on_twice : (o : RifOn Vid) → on_renamed g (on_renamed h o) ≡ on_renamed (λ v. g (h v)) o
   on_twice (on.Port i) = refl
   on_twice (on.Vlan i) = refl
 
-  to_twice : (x : To Vid) → to_renamed g (to_renamed as_rid x) ≡ to_renamed (λ v. g (as_rid v)) x
+  to_twice : (x : To Vid) → to_renamed g (to_renamed h x) ≡ to_renamed (λ v. g (h v)) x
   to_twice to.Drop = refl
   to_twice (to.Rif i) = refl
   to_twice (to.NextHop i) = refl
   to_twice (to.Group i) = refl
 
-  body_twice : (b : Body Vid) → body_renamed g (body_renamed as_rid b) ≡ body_renamed (λ v. g (as_rid v)) b
-  body_twice (body.Rif o) = ap body.Rif (on_twice o)
-  body_twice (body.Route prefix x) = ap (body.Route prefix) (to_twice x)
-  body_twice (body.Port lanes speed mtu up) = refl
-  body_twice _ = refl
+  pub body-twice : (b : Body Vid) → body_renamed g (body_renamed h b) ≡ body_renamed (λ v. g (h v)) b
+  body-twice (body.Rif o) = ap body.Rif (on_twice o)
+  body-twice (body.Route prefix x) = ap (body.Route prefix) (to_twice x)
+  body-twice (body.Port lanes speed mtu up) = refl
+  body-twice _ = refl
 
-  entry_twice : (e : Entry Vid) → entry_renamed g (entry_renamed as_rid e) ≡ entry_renamed (λ v. g (as_rid v)) e
-  entry_twice (entry.Oid i) = refl
-  entry_twice (entry.Own ip) = refl
-  entry_twice (entry.Neigh i ip) = refl
-  entry_twice (entry.Route prefix) = refl
+  pub entry-twice : (e : Entry Vid) → entry_renamed g (entry_renamed h e) ≡ entry_renamed (λ v. g (h v)) e
+  entry-twice (entry.Oid i) = refl
+  entry-twice (entry.Own ip) = refl
+  entry-twice (entry.Neigh i ip) = refl
+  entry-twice (entry.Route prefix) = refl
 
-  attr_twice : (a : Attr Vid) → attr_renamed g (attr_renamed as_rid a) ≡ attr_renamed (λ v. g (as_rid v)) a
+  attr_twice : (a : Attr Vid) → attr_renamed g (attr_renamed h a) ≡ attr_renamed (λ v. g (h v)) a
   attr_twice (attr.To x) = ap attr.To (to_twice x)
   attr_twice (attr.Speed s) = refl
   attr_twice (attr.Mtu m) = refl
   attr_twice (attr.Up x) = refl
   attr_twice (attr.Tagging x) = refl
   attr_twice (attr.Mac m) = refl
-
-  call_twice : (c : Call Vid) → call_renamed g (call_renamed as_rid c) ≡ call_renamed (λ v. g (as_rid v)) c
-  call_twice (call.Create b) = ap call.Create (body_twice b)
-  call_twice (call.Set e a) = ap₂ (λ x y. call.Set x y) (entry_twice e) (attr_twice a)
-  call_twice (call.Remove e) = ap call.Remove (entry_twice e)
 
 oids : (r s : Rid) → entry.Oid r ≡ entry.Oid s → r ≡ s
 oids r s h = cc
@@ -133,13 +129,13 @@ module _ (view : ViewObjects) (made : ℕ) (tied : AreTied view made (shown_by (
   entry_one _ _ h = absurd cc
 
   entry_is : (e : Entry Vid) → InEntry (IsTied view) e → entry_renamed number (entry_renamed as_rid e) ≡ entry_renamed t e
-  entry_is e h = entry_twice number e ∙ same-entry all t e (more-entry (IsTied view) (IsSame all t) all_is e h)
+  entry_is e h = entry-twice as_rid number e ∙ same-entry all t e (more-entry (IsTied view) (IsSame all t) all_is e h)
 
   body_is : (b : Body Vid) → InBody (IsTied view) b → body_renamed number (body_renamed as_rid b) ≡ body_renamed t b
-  body_is b h = body_twice number b ∙ same-body all t b (more-body (IsTied view) (IsSame all t) all_is b h)
+  body_is b h = body-twice as_rid number b ∙ same-body all t b (more-body (IsTied view) (IsSame all t) all_is b h)
 
   attr_is : (a : Attr Vid) → InAttr (IsTied view) a → attr_renamed number (attr_renamed as_rid a) ≡ attr_renamed t a
-  attr_is a h = attr_twice number a ∙ same-attr all t a (more-attr (IsTied view) (IsSame all t) all_is a h)
+  attr_is a h = attr_twice as_rid number a ∙ same-attr all t a (more-attr (IsTied view) (IsSame all t) all_is a h)
 
   -- tied entries are told apart on the chip as in the view
   pub told-tied : (e d : Entry Vid) → InEntry (IsTied view) e → InEntry (IsTied view) d → same_entry (entry_renamed t e) (entry_renamed t d) ≡ same_key e d
@@ -158,6 +154,10 @@ module _ (view : ViewObjects) (made : ℕ) (tied : AreTied view made (shown_by (
   shown_is : (x : Item) → IsIn x view → (entry_renamed number (shown_entry as_rid x) ≡ shown_entry t x) × (body_renamed number (shown_body as_rid x) ≡ shown_body t x)
   shown_is x h = (entry_is (entry_at x.0 x.1.body) (entry-tied view made tied whole x h), body_is x.1.body (body-tied view made tied whole x h))
 
+  -- by number no two objects have one entry
+  pub once-number : AreDistinct (map (shown_entry as_rid) view)
+  once-number = distinct-by (shown_entry t) (shown_entry as_rid) view (λ x y h g same. sym (shown_is x h).0 ∙ ap (entry_renamed number) same ∙ (shown_is y g).0) tied.once
+
   are_renamed : AreRenamed number (as_chip view) (shown_by t view)
   are_renamed = record {
     one = number_one;
@@ -168,8 +168,7 @@ module _ (view : ViewObjects) (made : ℕ) (tied : AreTied view made (shown_by (
     only = λ e b found.
         let from = shown-from t view e b found in
         let is = shown_is from.0 from.1 in
-        let once = distinct-by (shown_entry t) (shown_entry as_rid) view (λ x y h g same. sym (shown_is x h).0 ∙ ap (entry_renamed number) same ∙ (shown_is y g).0) tied.once in
-        (shown_entry as_rid from.0, shown_body as_rid from.0, shown-there as_rid view from.0 once from.1, from.2 ∙ sym is.0, from.3 ∙ sym is.1);
+        (shown_entry as_rid from.0, shown_body as_rid from.0, shown-there as_rid view from.0 once-number from.1, from.2 ∙ sym is.0, from.3 ∙ sym is.1);
   }
 
   -- ---- what a call names that is legal on the chip is tied

@@ -171,23 +171,23 @@ module _ (t : Vid → Rid) where
     abbrev pub IsShown : Vid → Type 0
     IsShown v = (x : Item) × IsIn x os × (has_id x.1.body ≡ true) × (t v ≡ t x.0)
 
-    oid_of : (r : Rid) (w : Vid) (b : Body Vid) → entry.Oid r ≡ entry_renamed t (entry_at w b) → (has_id b ≡ true) × (r ≡ t w)
-    oid_of r w (body.OwnAddress ip) h = absurd cc
-    oid_of r w (body.Neighbor rif ip mac) h = absurd cc
-    oid_of r w (body.Route prefix x) h = absurd cc
-    oid_of r w (body.Port lanes speed mtu up) h = (refl, cc)
-    oid_of r w (body.Vlan vlan) h = (refl, cc)
-    oid_of r w (body.BridgePort i) h = (refl, cc)
-    oid_of r w (body.VlanMember i j tagging) h = (refl, cc)
-    oid_of r w (body.Rif o) h = (refl, cc)
-    oid_of r w (body.NextHop i ip) h = (refl, cc)
-    oid_of r w body.Group h = (refl, cc)
-    oid_of r w (body.GroupMember i j) h = (refl, cc)
+    pub oid-of : (r : Rid) (w : Vid) (b : Body Vid) → entry.Oid r ≡ entry_renamed t (entry_at w b) → (has_id b ≡ true) × (r ≡ t w)
+    oid-of r w (body.OwnAddress ip) h = absurd cc
+    oid-of r w (body.Neighbor rif ip mac) h = absurd cc
+    oid-of r w (body.Route prefix x) h = absurd cc
+    oid-of r w (body.Port lanes speed mtu up) h = (refl, cc)
+    oid-of r w (body.Vlan vlan) h = (refl, cc)
+    oid-of r w (body.BridgePort i) h = (refl, cc)
+    oid-of r w (body.VlanMember i j tagging) h = (refl, cc)
+    oid-of r w (body.Rif o) h = (refl, cc)
+    oid-of r w (body.NextHop i ip) h = (refl, cc)
+    oid-of r w body.Group h = (refl, cc)
+    oid-of r w (body.GroupMember i j) h = (refl, cc)
 
     pub found-shown : (v : Vid) (d : Body Rid) → body_at (shown_by t os) (entry.Oid (t v)) ≡ Some d → IsShown v
     found-shown v d found =
         let from = shown-from os (entry.Oid (t v)) d found in
-        let of = oid_of (t v) from.0.0 from.0.1.body from.2 in
+        let of = oid-of (t v) from.0.0 from.0.1.body from.2 in
         (from.0, from.1, of.0, of.1)
 
     kind_found : (k : Kind) (o : Option (Body Rid)) → is_kind_of k o ≡ true → (d : Body Rid) × (o ≡ Some d)

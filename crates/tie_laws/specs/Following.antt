@@ -23,19 +23,19 @@ abbrev pub AreTiedAlike : ViewObjects → ViewObjects → Type 0
 AreTiedAlike view view' = (w : Vid) → rid_at view' w ≡ rid_at view w
 
 -- one that is new is tied, and the others are as before
-pub record IsTiedAnew (view : ViewObjects) (v : Vid) (r : Rid) (view' : ViewObjects) : Type 0 where
+pub record GainsTie (view : ViewObjects) (v : Vid) (r : Rid) (view' : ViewObjects) : Type 0 where
   pub new : IsNew v view
   pub none : rid_at view v ≡ None
   pub tied : rid_at view' v ≡ Some r
   pub others : (w : Vid) → (w ≡ v → ⊥) → rid_at view' w ≡ rid_at view w
 
 -- one is tied no longer, and the others are as before
-pub record IsUntied (view : ViewObjects) (v : Vid) (view' : ViewObjects) : Type 0 where
+pub record LosesTie (view : ViewObjects) (v : Vid) (view' : ViewObjects) : Type 0 where
   pub none : rid_at view' v ≡ None
   pub others : (w : Vid) → (w ≡ v → ⊥) → rid_at view' w ≡ rid_at view w
 
 -- after a call that the chip answered so
 abbrev pub TiesFollow : ViewObjects → Call Vid → ChipAnswer → SyncAnswer → ViewObjects → Type 0
-TiesFollow view (call.Create b) (answer.Made r) a view' = (v : Vid) × (a ≡ sync.Made v) × IsTiedAnew view v r view'
-TiesFollow view (call.Remove (entry.Oid v)) answer.Done a view' = IsUntied view v view'
+TiesFollow view (call.Create b) (answer.Made r) a view' = (v : Vid) × (a ≡ sync.Made v) × GainsTie view v r view'
+TiesFollow view (call.Remove (entry.Oid v)) answer.Done a view' = LosesTie view v view'
 TiesFollow view c _ a view' = AreTiedAlike view view'

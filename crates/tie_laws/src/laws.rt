@@ -13,6 +13,7 @@ ghost use Rattle.sai_types.specs.declared.body.Entry.{Entry};
 ghost use Rattle.sai_types.specs.declared.kind.Kind.{Kind};
 ghost use Rattle.sai_types.specs.declared.ids.Rid.{Rid};
 ghost use Rattle.sai_types.specs.declared.ids.Vid.{Vid};
+ghost use Rattle.sai_types.specs.declared.thing.Thing.{Thing};
 ghost use Rattle.sai_types.specs.After.{after_call, next_id};
 ghost use Rattle.sai_types.specs.Alike.{IsIn};
 ghost use Rattle.sai_types.specs.ChipState.{ChipState};
@@ -20,13 +21,17 @@ ghost use Rattle.sai_types.specs.Made.{AreSorted, IsWhole, made_after};
 ghost use Rattle.sai_types.specs.Objects.{Objects, body_at, used};
 ghost use Rattle.sai_types.specs.Refusal.{IsLegal};
 ghost use Rattle.chip_layout.specs.Counted.{AreDistinct};
+ghost use Rattle.chip_layout.specs.Layout.{IsLaidOut};
+ghost use Rattle.chip_layout.specs.Layout as chip;
 ghost use Rattle.chip_layout.specs.Renamed.{call_renamed};
 ghost use Rattle.asic_view.specs.declared.object.ViewObject.{ViewObject};
+ghost use Rattle.asic_view.specs.Things.{StandFor, listed};
 ghost use Rattle.asic_view.specs.View.{IsLegalOn, IsLegalWith, ViewObjects, rid_at, used_of, vid_cmp};
 ghost use Rattle.syncd_core.specs.Synced.{CanCall, Follows, IsMade, SyncState, current};
 ghost use Rattle.syncd_core.specs.Tied.{tie_of};
 ghost use Rattle.tie_laws.specs.Following.{IsDone, TiesFollow};
 ghost use Rattle.tie_laws.specs.Named.{InCall};
+ghost use Rattle.tie_laws.specs.Standing.{AreThingsOf};
 ghost use Rattle.tie_laws.specs.Ties.{AreTied, HasTie, IsTied, body_tied, entry_tied};
 
 /// An empty view is tied to an empty chip.
@@ -67,6 +72,11 @@ pub fn ties_follow()
 /// to what the chip made.
 pub fn ties_stay()
     ensures { (view view' : ViewObjects) (made : ℕ) (objects : Objects) (capacities : List ℕ) (c : Call Vid) (answer : ChipAnswer) (a : SyncAnswer) → AreTied view made objects → IsWhole made objects → IsLegal capacities objects (call_renamed (tie_of view) c) → Follows view c answer a view' → TiesFollow view c answer a view' }
+{}
+
+/// A view that is tied to a chip stands for the things for which the chip's objects stand.
+pub fn tied_views_stand()
+    ensures { (view : ViewObjects) (made : ℕ) (objects : Objects) (stands : List (Rid × Thing)) → AreTied view made objects → IsWhole made objects → IsLaidOut (chip.listed stands) objects → (things : List (Vid × Thing)) × StandFor (listed things) view × AreThingsOf view stands things }
 {}
 
 /// The view has as many objects of each kind as the chip.

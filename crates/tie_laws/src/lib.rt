@@ -6,5 +6,5 @@ mod laws;
 
 pub use laws::{
     alike_views_are_tied, legal_calls_are_legal_on_views, nothing_is_tied, syncd_counts,
-    tied_views_are_alike, ties_follow, ties_stay, views_count_as_chips,
+    tied_views_are_alike, tied_views_stand, ties_follow, ties_stay, views_count_as_chips,
 };
