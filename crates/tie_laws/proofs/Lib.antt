@@ -1,0 +1,11 @@
+mod Alike
+mod Calls
+mod Counted
+mod Lists
+mod Making
+mod Removing
+mod Renamed
+mod Setting
+mod Shown
+mod Standing
+mod Tied

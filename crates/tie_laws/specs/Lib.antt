@@ -1,0 +1,4 @@
+pub mod Following
+pub mod Named
+pub mod Standing
+pub mod Ties
