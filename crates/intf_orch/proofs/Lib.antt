@@ -1,0 +1,5 @@
+pub mod Addresses
+pub mod Calls
+pub mod Interfaces
+pub mod Operations
+pub mod Takes

@@ -1,0 +1,190 @@
+// How the operation of an interface's address starts.
+ghost use Rattle.std.specs.Prelude.{◌≡◌, ◌∷◌, ◌<◌, [], true, false, is_some, None, Some, option_map, IfOk, IfErr, OnOk, OnErr, if◌then◌else◌};
+ghost use Rattle.ref_counts.specs.declared.name.NameState.TheVariants.{Live};
+ghost use Rattle.ref_counts.specs.Registered.{going};
+ghost use Rattle.ref_counts.specs.Registry.{changed, refusal_at, registered_at, state_of};
+ghost use Rattle.ref_counts.specs.Room.{Reserves};
+ghost use Rattle.row_layout.specs.Shared.{uses};
+ghost use Rattle.orch_flight.specs.Needing.{row_reason};
+ghost use Rattle.orch_flight.specs.Sharing.{AreOfShared, HasNoPins, MayShare, MayStart, begun_by, lacks_shared, owners_of};
+ghost use Rattle.orch_flight.specs.Starting.{IsStartedBy, answered};
+ghost use Rattle.orch_flight.specs.Taking.{to_list};
+ghost use Rattle.intf_orch.specs.Interfaces.{IsLive, IsRetired, intf_operation, left_shared};
+
+use crate::stage::{OwnStage, Subject, own_places, own_stage};
+use orch_flight::{lacks, leave, own_of, start_row, try_remove};
+use ref_counts::{Name, Registry, Room};
+use switch_model::Wait;
+use swss_types::{IfName, Ip, OutOfMemory};
+use table_schema::{Key, PortPlan, Row};
+
+/// Starts the operation of an interface's address that is added: its own address comes with the first row of the address.
+pub fn add(
+    plan: &PortPlan,
+    reg: &mut Registry,
+    room: &mut Room,
+    used: &[u64; 11],
+    worker: u32,
+    on: IfName,
+    ip: &Ip,
+    len: u8,
+    new: &Row,
+) -> Result<Result<Subject, Wait>, OutOfMemory>
+    requires may { MayStart plan.now reg.old worker (Key.Addr on ip.now len) None (Some new.now) }
+    ensures started { IfOk result (λ answer. IsStartedBy plan.now reg.old room.old used.now worker (Key.Addr on ip.now len) None (Some new.now) (answered (intf_operation worker false true) answer) reg.new room.new) }
+    ensures err { OnErr result (reg.new ≡ reg.old) }
+    ensures err_room { OnErr result (room.new ≡ room.old) }
+{
+    let shared = shared_by(plan, on, ip, len, new);
+    let builds = lacks(reg, &shared);
+    let need = own_places(ip, builds);
+    let begun = begin(reg, room, used, worker, on, ip, len, false, &shared, &need)?;
+    Ok(begun.and(Ok(Subject::Addr(on, *ip, len, own_stage(builds)))))
+}
+
+/// Starts the operation of an address whose row is replaced, which is the same.
+pub fn change(
+    plan: &PortPlan,
+    reg: &mut Registry,
+    room: &mut Room,
+    used: &[u64; 11],
+    worker: u32,
+    on: IfName,
+    ip: &Ip,
+    len: u8,
+    _old: &Row,
+    new: &Row,
+) -> Result<Result<Subject, Wait>, OutOfMemory>
+    requires may { MayStart plan.now reg.old worker (Key.Addr on ip.now len) (Some _old.now) (Some new.now) }
+    ensures started { IfOk result (λ answer. IsStartedBy plan.now reg.old room.old used.now worker (Key.Addr on ip.now len) (Some _old.now) (Some new.now) (answered (intf_operation worker true true) answer) reg.new room.new) }
+    ensures err { OnErr result (reg.new ≡ reg.old) }
+    ensures err_room { OnErr result (room.new ≡ room.old) }
+{
+    let shared = shared_by(plan, on, ip, len, new);
+    let begun = begin(
+        reg, room, used, worker, on, ip, len, true, &shared, &[0; 11],
+    )?;
+    Ok(begun.and(Ok(Subject::Addr(on, *ip, len, OwnStage::Stays))))
+}
+
+/// Starts the operation of an address that is removed. It has no object of its own, so it leaves its own address at once, which
+/// goes with the last row of the address.
+pub fn remove(
+    plan: &PortPlan,
+    reg: &mut Registry,
+    room: &Room,
+    used: &[u64; 11],
+    worker: u32,
+    on: IfName,
+    ip: &Ip,
+    len: u8,
+    old: &Row,
+) -> Result<Result<Subject, Wait>, OutOfMemory>
+    requires may { MayStart plan.now reg.old worker (Key.Addr on ip.now len) (Some old.now) None }
+    ensures started { IfOk result (λ answer. IsStartedBy plan.now reg.old room.now used.now worker (Key.Addr on ip.now len) (Some old.now) None (answered (intf_operation worker true false) answer) reg.new room.now) }
+    ensures err { OnErr result (reg.new ≡ reg.old) }
+{
+    let shared = shared_by(plan, on, ip, len, old);
+    match try_leave(reg, worker, &Key::Addr(on, *ip, len), &shared)? {
+        Ok(stage) => Ok(Ok(Subject::Addr(on, *ip, len, stage))),
+        Err(wait) => Ok(Err(wait)),
+    }
+}
+
+/// Begins the operation of an address's row, which names its interface.
+fn begin(
+    reg: &mut Registry,
+    room: &mut Room,
+    used: &[u64; 11],
+    worker: u32,
+    on: IfName,
+    ip: &Ip,
+    len: u8,
+    applied: bool,
+    shared: &Option<Name>,
+    need: &[u64; 11],
+) -> Result<Result<(), Wait>, OutOfMemory>
+    requires worker { worker < 4 }
+    requires unpinned { HasNoPins reg.old worker }
+    requires own { applied ≡ false → registered_at reg.old (Name.Row (Key.Addr on ip.now len)) ≡ None }
+    requires shared { MayShare reg.old shared.now }
+    ensures free { IfOk result (λ answer. OnOk answer (row_reason reg.old room.old used.now (Key.Intf on ∷ []) (to_list shared.now) need.now ≡ None)) }
+    ensures names { IfOk result (λ answer. OnOk answer (reg.new ≡ begun_by reg.old worker (Key.Addr on ip.now len) (Key.Intf on ∷ []) applied shared.now (lacks_shared reg.old shared.now))) }
+    ensures places { IfOk result (λ answer. OnOk answer (Reserves room.old worker need.now room.new)) }
+    ensures wait { IfOk result (λ answer. IfErr answer (λ wait. row_reason reg.old room.old used.now (Key.Intf on ∷ []) (to_list shared.now) need.now ≡ Some wait)) }
+    ensures none { IfOk result (λ answer. OnErr answer (reg.new ≡ reg.old)) }
+    ensures none_room { IfOk result (λ answer. OnErr answer (room.new ≡ room.old)) }
+    ensures err { OnErr result (reg.new ≡ reg.old) }
+    ensures err_room { OnErr result (room.new ≡ room.old) }
+{
+    let key = Key::Addr(on, *ip, len);
+    start_row(
+        reg,
+        room,
+        used,
+        worker,
+        &key,
+        &[Key::Intf(on)],
+        applied,
+        shared,
+        need,
+    )
+}
+
+/// Begins to take the applied row of a key away, which then leaves what it shared, or tells why it has to wait.
+fn try_leave(
+    reg: &mut Registry,
+    worker: u32,
+    key: &Key,
+    shared: &Option<Name>,
+) -> Result<Result<OwnStage, Wait>, OutOfMemory>
+    requires row { state_of reg.old (Name.Row key.now) ≡ Live }
+    requires live { IsLive reg.old shared.now }
+    requires kind { AreOfShared shared.now }
+    ensures free { IfOk result (λ answer. OnOk answer (refusal_at reg.old worker (Name.Row key.now) ≡ None)) }
+    ensures names { IfOk result (λ answer. OnOk answer (reg.new ≡ left_shared (changed reg.old (Name.Row key.now) (going worker)) worker key.now shared.now)) }
+    ensures stage { IfOk result (λ answer. IfOk answer (λ stage. IsRetired (changed reg.old (Name.Row key.now) (going worker)) worker key.now shared.now stage)) }
+    ensures wait { IfOk result (λ answer. IfErr answer (λ wait. refusal_at reg.old worker (Name.Row key.now) ≡ Some wait)) }
+    ensures none { IfOk result (λ answer. OnErr answer (reg.new ≡ reg.old)) }
+    ensures err { OnErr result (reg.new ≡ reg.old) }
+{
+    match try_remove(reg, worker, key)? {
+        Ok(()) => Ok(Ok(leave_shared(reg, worker, key, shared))),
+        Err(wait) => Ok(Err(wait)),
+    }
+}
+
+/// What a row of an interface's address shares: the own address, unless the interface is on a port that is not in the plan.
+fn shared_by(plan: &PortPlan, on: IfName, ip: &Ip, len: u8, row: &Row) -> Option<Name>
+    ensures value { uses plan.now (Key.Addr on ip.now len) row.now ≡ owners_of result }
+    ensures kind { AreOfShared result }
+{
+    let _len = len;
+    match row {
+        Row::Addr => own_of(plan, on, *ip),
+        _ => None,
+    }
+}
+
+/// The key leaves what its row shared, and what nobody uses any more begins to go.
+fn leave_shared(reg: &mut Registry, worker: u32, key: &Key, shared: &Option<Name>) -> OwnStage
+    requires { IsLive reg.old shared.now }
+    ensures names { reg.new ≡ left_shared reg.old worker key.now shared.now }
+    ensures stage { IsRetired reg.old worker key.now shared.now result }
+{
+    match shared {
+        Some(name) => stage_of(leave(reg, worker, key, name)),
+        None => OwnStage::Stays,
+    }
+}
+
+/// What becomes of an own address that a row has left, be it the last one or not.
+fn stage_of(last: bool) -> OwnStage
+    ensures { result ≡ (if last then OwnStage.Goes else OwnStage.Stays) }
+{
+    if last {
+        OwnStage::Goes
+    } else {
+        OwnStage::Stays
+    }
+}

@@ -1,0 +1,92 @@
+// What an operation of INTF_TABLE is about, and how far it is.
+ghost use Rattle.std.specs.Prelude.{◌≡◌};
+ghost use Rattle.orch_flight.specs.Needing.{places_for};
+ghost use Rattle.intf_orch.specs.Interfaces.{coming, going, own_due, own_stage, rif_due};
+
+use sai_types::Base;
+use swss_types::{IfName, Ip};
+
+/// The row that an operation is about, and what becomes of its object.
+#[derive(Clone, Copy, Debug)]
+pub enum Subject {
+    /// The row of an interface.
+    Intf(IfName, RifStage),
+    /// The row of an interface's address.
+    Addr(IfName, Ip, u8, OwnStage),
+}
+
+/// What becomes of the router interface of an interface.
+#[derive(Clone, Copy, Debug)]
+pub enum RifStage {
+    /// It stays as it is, be it there or not.
+    Stays,
+    /// It is still to be made, on this.
+    Comes(Base),
+    /// It is still to be removed, from this.
+    Goes(Base),
+}
+
+/// What becomes of an address as the switch's own.
+#[derive(Clone, Copy, Debug)]
+pub enum OwnStage {
+    /// It stays as it is, be it there or not.
+    Stays,
+    /// It is still to be made.
+    Comes,
+    /// Its last row is to go, and it is still to be removed.
+    Goes,
+    /// It was removed, since its last row is to go.
+    Gone,
+}
+
+/// What becomes of the router interface of an interface that is added.
+pub fn coming(base: Option<Base>) -> RifStage
+    ensures { result ≡ coming base }
+{
+    match base {
+        Some(base) => RifStage::Comes(base),
+        None => RifStage::Stays,
+    }
+}
+
+/// What becomes of the router interface of an interface that is removed.
+pub fn going(base: Option<Base>) -> RifStage
+    ensures { result ≡ going base }
+{
+    match base {
+        Some(base) => RifStage::Goes(base),
+        None => RifStage::Stays,
+    }
+}
+
+/// The places that the router interface of an interface that is added takes.
+pub fn rif_places(base: Option<Base>) -> [u64; 11]
+    ensures { result ≡ places_for (rif_due (coming base)) }
+{
+    match base {
+        Some(_) => [0, 0, 0, 0, 1, 0, 0, 0, 0, 0, 0],
+        None => [0; 11],
+    }
+}
+
+/// What becomes of an own address that is to be built where nothing of it is there.
+pub fn own_stage(builds: bool) -> OwnStage
+    ensures { result ≡ own_stage builds }
+{
+    if builds {
+        OwnStage::Comes
+    } else {
+        OwnStage::Stays
+    }
+}
+
+/// The places that it takes.
+pub fn own_places(_ip: &Ip, builds: bool) -> [u64; 11]
+    ensures { result ≡ places_for (own_due _ip.now (own_stage builds)) }
+{
+    if builds {
+        [0, 0, 0, 0, 0, 1, 0, 0, 0, 0, 0]
+    } else {
+        [0; 11]
+    }
+}

@@ -1,0 +1,4 @@
+pub mod Calls
+pub mod Operations
+pub mod Starts
+pub mod Takes
