@@ -1,2 +1,3 @@
 pub mod OpWrites
 pub mod SyncedRows
+pub mod Behind

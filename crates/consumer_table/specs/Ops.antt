@@ -1,8 +1,9 @@
 -- The operations of keys that are to be brought to the chip: what was written to a key's row since the key was done (SONiC's consumers keep such a map).
-use Rattle.std.specs.Prelude.{List, [], ◌∷◌, Option, Some, None, unwrap_or}
+use Rattle.std.specs.Prelude.{List, [], ◌∷◌, filter, Option, Some, None, unwrap_or}
 use Rattle.std.specs.BTreeMap.{insert_entry, is_at}
 use Rattle.std.specs.List.{AllByRecursion}
 use Rattle.std.specs.Map.{lookup, remove_entry}
+use Rattle.std.specs.Ordering.{is_lt}
 use Rattle.table_schema.specs.Fields.{Pairs, HasRisingKeys, HasRisingNames, merged}
 use Rattle.table_schema.specs.Key.{key_cmp}
 use Rattle.table_schema.specs.declared.key.Key.{Key}
@@ -39,6 +40,15 @@ ops_after_all ops (w ∷ ws) = ops_after_all (ops_after ops w) ws
 -- what was popped of a key is added as the writes that it stands for: with both mark and fields a DEL and then a SET
 abbrev pub ops_with : Ops → KeyOp → Ops
 ops_with ops popped = ops_after_all ops (writes_of_op popped)
+
+-- the keys behind this one, and all where none is given
+abbrev pub keys_behind : Option Key → List Key → List Key
+keys_behind None keys = keys
+keys_behind (Some key) keys = filter (λ other. is_lt (key_cmp key other)) keys
+
+abbrev pub first_in : List Key → Option Key
+first_in [] = None
+first_in (key ∷ keys) = Some key
 
 -- a key that is done has no operation
 abbrev pub without_op : Ops → Key → Ops

@@ -1,17 +1,18 @@
 // The operations by key.
-ghost use Rattle.std.specs.Prelude.{◌≡◌, [], length, option_map, IfOk, OnOk, OnErr};
+ghost use Rattle.std.specs.Prelude.{◌≡◌, [], length, Some, option_map, IfOk, OnOk, OnErr};
 ghost use Rattle.std.specs.List.Sorted.{IsStrictlySortedBy};
 ghost use Rattle.std.specs.Map.{keys_of};
 ghost use Rattle.table_schema.specs.Fields.{merged};
 ghost use Rattle.table_schema.specs.Key.{key_cmp};
 ghost use Rattle.table_schema.specs.declared.write.Write.TheVariants as write;
-ghost use Rattle.consumer_table.specs.Ops.{AreOpsInOrder, op_at, op_with_set, ops_after, ops_with, without_op};
+ghost use Rattle.consumer_table.specs.Ops.{AreOpsInOrder, first_in, keys_behind, op_at, op_with_set, ops_after, ops_with, without_op};
 
 use crate::Op;
 use producer_table::KeyOp;
 use std::alloc::Global;
 use std::collections::BTreeMap;
 use std::marker::Model;
+use std::ops::Bound;
 use swss_types::OutOfMemory;
 use table_schema::{Fields, Key};
 
@@ -151,5 +152,35 @@ impl ToSync {
             keys.push(key.copy()?)?;
         }
         Ok(keys)
+    }
+
+    /// The first key, in key order, behind this one, and the first of all where none is given.
+    pub fn next_key(&self, after: Option<&Key>) -> Option<&Key>
+        ensures { option_map (λ key. key.now) result ≡ first_in (keys_behind (option_map (λ key. key.now) after.entry) (keys_of self.now)) }
+    {
+        match after {
+            Some(key) => self.key_behind(key),
+            None => self.first_key(),
+        }
+    }
+
+    /// The first key.
+    fn first_key(&self) -> Option<&Key>
+        ensures { option_map (λ key. key.now) result ≡ first_in (keys_of self.now) }
+    {
+        match self.ops.iter().next() {
+            Some((key, _)) => Some(key),
+            None => None,
+        }
+    }
+
+    /// The first key behind this one.
+    fn key_behind(&self, key: &Key) -> Option<&Key>
+        ensures { option_map (λ key. key.now) result ≡ first_in (keys_behind (Some key.now) (keys_of self.now)) }
+    {
+        match self.ops.range((Bound::Excluded(key), Bound::Unbounded)).next() {
+            Some((key, _)) => Some(key),
+            None => None,
+        }
     }
 }

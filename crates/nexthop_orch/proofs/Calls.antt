@@ -112,7 +112,7 @@ module _ (names : Names) (w : ℕ) (n : Name) (keys : List Key) (made : List Vid
                 entry = entry.Oid v;
                 of = record {
                   body = body.GroupMember v v;
-                  of = record { first = v; second = v; first_at = tt; second_at = tt; body_is = refl };
+                  of = record { first = v; second = v; first_at = λ e. elim e [ ]; second_at = λ e. elim e [ ]; body_is = refl };
                   id = v;
                   numbered = λ _. (refl, member-at hops (members_ids ids) i hop v rising there (behind-first ids i v (found given (i + 1) (suc i) d group are (omega arith) (omega (arith, within, count)))));
                   is = refl;

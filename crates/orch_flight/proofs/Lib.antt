@@ -1,4 +1,5 @@
 pub mod Begins
 pub mod Begun
+pub mod Rows
 pub mod Stages
 pub mod Unhindered

@@ -85,15 +85,15 @@ entry_by id (body.Neighbor rif ip mac) = entry.Neigh rif ip
 entry_by id (body.Route prefix to) = entry.Route prefix
 entry_by id b = entry.Oid id
 
--- of what a thing refers to its entry tells only the interface of a neighbour
-abbrev pub at_in_entry : (thing_name.Name → Vid → Type 0) → Thing → thing_name.Name → Vid → Type 0
-at_in_entry at (thing.Neighbor hop mac) n v = at n v
-at_in_entry at t n v = Unit {0}
+-- of all entries that of a neighbour alone has the identifier of what the thing refers to
+abbrev pub IsEnteredBy : Thing → Type 0
+IsEnteredBy (thing.Neighbor hop mac) = Unit {0}
+IsEnteredBy t = ⊥
 
--- a thing that stands, with its entry. What the entry does not tell of the thing's body may be anything
+-- a thing that stands, with its entry
 pub record IsEntryOf (at : thing_name.Name → Vid → Type 0) (t : Thing) (e : Entry Vid) : Type 0 where
   pub body : Body Vid
-  pub of : IsBody (at_in_entry at t) t body
+  pub of : IsBody (λ n v. IsEnteredBy t → at n v) t body
   pub id : Vid
   pub numbered : has_number t ≡ true → at (name_of t) id
   pub is : e ≡ entry_by id body

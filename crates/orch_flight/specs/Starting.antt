@@ -130,3 +130,8 @@ abbrev pub IsBegunBy : Ports → Names → RoomState → List ℕ → ℕ → Ke
 IsBegunBy plan names room used worker k old new (Ok _) names' room' =
     (wait_of plan names room used worker k old new ≡ None) × (names' ≡ started_names plan names worker k old new) × Reserves room worker (places_for (built_first (to_build plan names k new) (own_changes plan k old new))) room'
 IsBegunBy plan names room used worker k old new (Err wait) names' room' = (wait_of plan names room used worker k old new ≡ Some wait) × (names' ≡ names) × (room' ≡ room)
+
+-- what a start answers: the operation of what it made, or the wait
+abbrev pub answered : {X : Type 0} → (X → Operation) → Result X Wait → Result Operation Wait
+answered operation (Ok x) = Ok (operation x)
+answered operation (Err wait) = Err wait

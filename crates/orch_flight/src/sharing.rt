@@ -53,8 +53,8 @@ pub fn shared(
     }
 }
 
-/// The bridge port of a port of the plan.
-fn bridge_of(plan: &PortPlan, port: u32) -> Option<Name>
+/// The bridge port of a port: None exactly where the plan has no such port.
+pub fn bridge_of(plan: &PortPlan, port: u32) -> Option<Name>
     ensures value { from (lane_of plan.now port) (λ lane. Bridge lane ∷ []) ≡ owners_of result }
     ensures kind { AreOfShared result }
 {
@@ -65,7 +65,7 @@ fn bridge_of(plan: &PortPlan, port: u32) -> Option<Name>
 }
 
 /// An interface's address as the switch's own, unless the interface is on a port that is not in the plan.
-fn own_of(plan: &PortPlan, on: IfName, ip: Ip) -> Option<Name>
+pub fn own_of(plan: &PortPlan, on: IfName, ip: Ip) -> Option<Name>
     ensures value { address_uses plan.now on ip ≡ owners_of result }
     ensures kind { AreOfShared result }
 {

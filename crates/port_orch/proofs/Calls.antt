@@ -54,7 +54,7 @@ module _ (names : Names) (worker p : ℕ) where
   due-alike a r f is none = ap (λ z. z.due) is ∙ led (HasVid [] names) a r None none
 
   pub knows-set : (a r : PortRow) (x : Attr Vid) (f : Operation) → f ≡ port_operation worker p false (Some a) (Some r) → Some x ≡ first_attr a r → KnowsIds names f → KnowsPort names f
-  knows-set a r x f is some = subst (λ z. KnowsIds names z → KnowsPort names z) (sym is) (λ h. (subst (knows_for names (key.Port p)) (led (HasVid [] names) a r (Some x) some).0 h).0)
+  knows-set a r x f is some = subst (λ z. KnowsIds names z → KnowsPort names z) (sym is) (λ h. (subst (knows_for names (key.Port p) (Some (row.Port r))) (led (HasVid [] names) a r (Some x) some).0 h).0)
 
   pub knows-take : (a : PortRow) (f : Operation) → f ≡ port_operation worker p false (Some a) None → KnowsIds names f → KnowsPort names f
   knows-take a f is = subst (λ z. KnowsIds names z → KnowsPort names z) (sym is) (λ h. h.0)

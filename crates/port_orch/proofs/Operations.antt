@@ -73,7 +73,7 @@ module _ (plan : Ports) (names : Names) (room : RoomState) (used : List ℕ) (wo
       (λ of_old of_new begun. started plan names room used worker p now next names' room' res (planned plan p now of_old) (planned plan p next of_new) begun))))
 
   names-none : (k : Key) (old new : Option Row) (flight : Operation) → IsFirst worker k old new flight → (r : Row) → first_unapplied names (names_of k r) ≡ None
-  names-none k old new flight (p, now, next, is_key, rest) r = ap (λ z. first_unapplied names (names_of z r)) is_key
+  names-none k old new flight (p, now, next, is_key, is_old, is_new, is) r = ap (λ z. first_unapplied names (names_of z r)) is_key
 
   -- the same, for the rows that are given
   pub started-as : (k : Key) (old new old' new' : Option Row) (flight : Operation) (res : Result (Unit {0}) Wait) (answer : Result Operation Wait) (names' : Names) (room' : RoomState)

@@ -7,4 +7,4 @@ mod waiting;
 
 pub use key_op::KeyOp;
 pub use laws::{pending_is_laid, pending_is_laid_by_key, pops_leave_the_rest, written_keys_wait};
-pub use waiting::Waiting;
+pub use waiting::{Pending, Waiting};

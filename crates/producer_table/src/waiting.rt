@@ -1,8 +1,10 @@
 // The table of the writes that wait.
-ghost use Rattle.std.specs.Prelude.{◌≡◌, ◌⊎◌, ◌↔◌, [], take, drop, IsTrue, IfOk, OnOk, OnErr};
+ghost use Rattle.std.specs.Prelude.{◌≡◌, ◌⊎◌, ◌↔◌, [], ◌∷◌, take, drop, IsTrue, IfOk, IfSome, IfNone, OnOk, OnErr, option_map, slice_get};
 ghost use Rattle.table_schema.specs.Fields.{merged};
 ghost use Rattle.table_schema.specs.declared.write.Write.TheVariants as write;
-ghost use Rattle.producer_table.specs.Pending.{AreInOrder, laid_over, nothing_pending, ops_of, pending_after};
+ghost use Rattle.table_schema.specs.declared.key.Key.{Key};
+ghost use Rattle.producer_table.specs.declared.waiting.Pending.{Pending};
+ghost use Rattle.producer_table.specs.Pending.{AreInOrder, laid_over, nothing_pending, op_of, ops_of, pending_after};
 
 use crate::KeyOp;
 use std::alloc::Global;
@@ -13,11 +15,11 @@ use table_schema::{Fields, Key};
 
 /// What waits of one key.
 #[derive(Debug, Drop)]
-pub(crate) struct Pending {
+pub struct Pending {
     /// The deletion mark.
-    pub(crate) dropped: bool,
+    pub dropped: bool,
     /// The fields that were set, behind the deletion where there is one.
-    pub(crate) fields: Option<Fields>,
+    pub fields: Option<Fields>,
 }
 
 /// The writes that wait to be taken out, by key: for each key that was written a deletion mark, and fields. In SONiC's words,
@@ -144,6 +146,29 @@ impl Waiting {
             }
         }
         Ok(ops)
+    }
+
+    /// The first key with what waits of it: None exactly where nothing waits.
+    pub fn first(&self) -> Option<(&Key, &Pending)>
+        ensures { option_map (λ e. (e.0.now, e.1.now)) result ≡ slice_get self.now 0 }
+    {
+        self.keys.iter().next()
+    }
+
+    /// Takes out the first key with all that waits of it, and no memory: None exactly where nothing waits.
+    pub fn pop_first(&mut self) -> Option<KeyOp>
+        ensures some { IfSome result (λ op. (e : Key × Pending) × (self.old ≡ e ∷ self.new) × (op ≡ op_of e)) }
+        ensures none { IfNone result (self.old ≡ []) }
+        ensures same { IfNone result (self.new ≡ []) }
+    {
+        match self.keys.pop_first() {
+            Some((key, pending)) => Some(KeyOp {
+                key,
+                dropped: pending.dropped,
+                fields: pending.fields,
+            }),
+            None => None,
+        }
     }
 
     /// Whether nothing waits. What waits is in order, as `AreInOrder` says.

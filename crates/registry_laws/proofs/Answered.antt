@@ -61,13 +61,13 @@ module _ (plan : Ports) (tables : Tables plan) (f : Flight) (fit : (r : Row) →
 
 -- a name of a row's things
 module _ (plan : Ports) where
-  abbrev IsRowName : Name → Type 0
+  abbrev pub IsRowName : Name → Type 0
   IsRowName n = (o : Owner) → IsShared o → IsOwnedBy plan n o → ⊥
 
-  mapped_row : {X : Type 0} (g : X → Key) (x : Option X) (o : Owner) → IsShared o → option_map (λ z. owner.OfRow (g z)) x ≡ Some o → ⊥
+  pub mapped_row : {X : Type 0} (g : X → Key) (x : Option X) (o : Owner) → IsShared o → option_map (λ z. owner.OfRow (g z)) x ≡ Some o → ⊥
   mapped_row g x o shared h = let m = mapped (λ z. owner.OfRow (g z)) x o h in shared_row o (g m.0) shared (sym m.2)
 
-  some_row : (k : Key) (o : Owner) → IsShared o → Some (owner.OfRow k) ≡ Some o → ⊥
+  pub some_row : (k : Key) (o : Owner) → IsShared o → Some (owner.OfRow k) ≡ Some o → ⊥
   some_row k o shared h = shared_row o k shared (sym (same_some (owner.OfRow k) o h))
 
 module _ (plan : Ports) (is : IsPlan plan) (workers : ℕ) (capacities : List ℕ) (m : Machine) (sound : IsConsistent plan m) (names : registry.Names) (room : RoomState) (known : Registers plan workers capacities names room m) (rising : HasRisingKeys name_cmp names) (w : ℕ) (f : Flight) (cs : List Change) (stands : List (Rid × Thing)) where

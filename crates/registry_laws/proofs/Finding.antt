@@ -217,11 +217,11 @@ out_other (e ∷ es) n m other = by (out_other es n m other) (name_cmp n e.0) re
     by rest Greater is = ap (λ l. registered_at l m) (out_step name_cmp e es n Greater is) ∙ ap (λ z. cond (is_at (name_cmp m) e.0) (Some e.1) z) rest
 
 -- a name below all others is not among them
-none_below : (n : Name) (x : Name) (es : Names) → name_cmp n x ≡ Equal → AllByRecursion (λ e. name_cmp x e.0 ≡ Less) es → registered_at es n ≡ None
+pub none_below : (n : Name) (x : Name) (es : Names) → name_cmp n x ≡ Equal → AllByRecursion (λ e. name_cmp x e.0 ≡ Less) es → registered_at es n ≡ None
 none_below n x [] is h = refl
 none_below n x (e ∷ es) is h = ap (λ o. cond (is_eq o) (Some e.1) (registered_at es n)) (name_total.congr n x e.0 is ∙ h.0) ∙ none_below n x es is h.1
 
-out_at : (names : Names) (n : Name) → HasRisingKeys name_cmp names → registered_at (remove_entry (is_at (name_cmp n)) names) n ≡ None
+pub out_at : (names : Names) (n : Name) → HasRisingKeys name_cmp names → registered_at (remove_entry (is_at (name_cmp n)) names) n ≡ None
 out_at [] n rising = refl
 out_at (e ∷ es) n rising = by (out_at es n rising.1) (name_cmp n e.0) refl
   where

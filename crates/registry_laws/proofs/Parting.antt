@@ -25,7 +25,7 @@ use Rattle.registry_laws.specs.Known.{IsAllMade, IsKnownRow, IsKnownShared, IsPi
 use Rattle.registry_laws.proofs.Listing.{not_some}
 use Rattle.registry_laws.proofs.Sharing.{first-shared}
 
-taken_in : (ts : List Thing) (c : Change) → IsIn c (take_all ts []) → (t : Thing) × IsIn t ts × (c ≡ Take (name_of t))
+pub taken_in : (ts : List Thing) (c : Change) → IsIn c (take_all ts []) → (t : Thing) × IsIn t ts × (c ≡ Take (name_of t))
 taken_in [] c h = elim h [ ]
 taken_in (t ∷ ts) c (inl e) = (t, inl refl, e)
 taken_in (t ∷ ts) c (inr h) = let x = taken_in ts c h in (x.0, inr x.1, x.2)

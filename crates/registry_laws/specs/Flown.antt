@@ -1,5 +1,5 @@
 -- What a worker has under way, and what is due for it. Own.
-use Rattle.std.specs.Prelude.{◌≡◌, ◌==◌, ◌++◌, ℕ, Bool, true, false, List, [], ◌∷◌, Option, Some, None, if◌then◌else◌}
+use Rattle.std.specs.Prelude.{◌==◌, ◌++◌, ℕ, Bool, true, false, List, [], ◌∷◌, Option, Some, None, if◌then◌else◌}
 use Rattle.table_schema.specs.Plan.{Ports}
 use Rattle.sai_types.specs.declared.hop.Hop.{Hop}
 use Rattle.row_layout.specs.Operations.{Change, uses_of}

@@ -32,7 +32,7 @@ use Rattle.ref_counts.specs.declared.name.Name.{Name}
 use Rattle.ref_counts.specs.declared.name.Name.TheVariants as name
 use Rattle.ref_counts.specs.declared.next.Next.TheVariants as next
 use Rattle.ref_counts.specs.Registry.{Names}
-use Rattle.orch_flight.specs.Calling.{HasVid, IsChangeFor, IsEntryOf, IsNextOf, IsOver, at_in_entry, things_retired}
+use Rattle.orch_flight.specs.Calling.{HasVid, IsChangeFor, IsEnteredBy, IsEntryOf, IsNextOf, IsOver, things_retired}
 use Rattle.orch_flight.specs.Operation.{Operation}
 use Rattle.orch_flight.specs.Sharing.{owner_for}
 use Rattle.route_orch.specs.Targets.{PointsTo, goal_at, goal_with}
@@ -74,14 +74,14 @@ no_second at (goal.Direct b) v = tt
 no_second at (goal.Via hop) v = tt
 no_second at (goal.Group hops) v = tt
 
-any_first : (p : Prefix) (at : thing_name.Name → Vid → Type 0) (g : Goal) (v : Vid) → IsBody (at_in_entry at (thing.Route p g)) (thing.Route p g) (body.Route p (to_with g v))
-any_first p at g v = record { first = v; second = v; first_at = by g; second_at = no_second (at_in_entry at (thing.Route p g)) g v; body_is = refl }
+any_first : (p : Prefix) (at : thing_name.Name → Vid → Type 0) (g : Goal) (v : Vid) → IsBody (λ n w. IsEnteredBy (thing.Route p g) → at n w) (thing.Route p g) (body.Route p (to_with g v))
+any_first p at g v = record { first = v; second = v; first_at = by g; second_at = no_second (λ n w. IsEnteredBy (thing.Route p g) → at n w) g v; body_is = refl }
   where
-    by : (h : Goal) → IsAt (at_in_entry at (thing.Route p g)) (first_of (goal_names h)) v
+    by : (h : Goal) → IsAt (λ n w. IsEnteredBy (thing.Route p g) → at n w) (first_of (goal_names h)) v
     by goal.Drop = tt
-    by (goal.Direct b) = tt
-    by (goal.Via hop) = tt
-    by (goal.Group hops) = tt
+    by (goal.Direct b) = λ e. elim e [ ]
+    by (goal.Via hop) = λ e. elim e [ ]
+    by (goal.Group hops) = λ e. elim e [ ]
 
 -- the entry of a route is its prefix
 route_entry : (p : Prefix) (at : thing_name.Name → Vid → Type 0) (t : Thing) → name_of t ≡ thing_name.Route p → IsEntryOf at t (entry.Route p)

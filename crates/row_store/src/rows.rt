@@ -1,6 +1,8 @@
 // The rows of the application tables.
 ghost use Rattle.std.specs.Prelude.{◌≡◌, [], length, option_map, IfOk, OnOk, OnErr};
-ghost use Rattle.std.specs.Map.{keys_of};
+ghost use Rattle.std.specs.BTreeMap.{insert_entry, is_at};
+ghost use Rattle.std.specs.Map.{keys_of, remove_entry};
+ghost use Rattle.table_schema.specs.Key.{key_cmp};
 ghost use Rattle.table_schema.specs.Rows.{HasRisingRows, after_write, fields_at, with_fields};
 
 use std::alloc::Global;
@@ -44,10 +46,27 @@ impl Rows {
         match write {
             Write::Set(key, fields) => self.set(key, fields),
             Write::Del(key) => {
-                self.rows.remove(key);
+                self.remove(key);
                 Ok(())
             }
         }
+    }
+
+    /// Takes a key's row away, if it has one.
+    pub fn remove(&mut self, key: &Key)
+        ensures { self.new ≡ remove_entry (is_at (key_cmp key.now)) self.old }
+    {
+        self.rows.remove(key);
+    }
+
+    /// Makes these fields the key's row, in the place of the row that it has.
+    pub fn replace(&mut self, key: &Key, fields: &Fields) -> Result<(), OutOfMemory>
+        ensures ok { OnOk result (self.new ≡ insert_entry key_cmp self.old key.now fields.now) }
+        ensures err { OnErr result (self.new ≡ self.old) }
+    {
+        let key = key.copy()?;
+        self.rows.insert(key, fields.copy()?)?;
+        Ok(())
     }
 
     /// The fields of a row: None exactly where there is no row of this key.
@@ -85,7 +104,7 @@ impl Rows {
     }
 
     /// Lays fields over a key's row, or makes them the row where there is none.
-    fn set(&mut self, key: &Key, fields: &Fields) -> Result<(), OutOfMemory>
+    pub fn set(&mut self, key: &Key, fields: &Fields) -> Result<(), OutOfMemory>
         ensures ok { OnOk result (self.new ≡ with_fields self.old key.now fields.now) }
         ensures err { OnErr result (self.new ≡ self.old) }
     {

@@ -107,6 +107,22 @@ impl Log {
         Ok(())
     }
 
+    /// Takes the last mark out again, at which no round ends.
+    pub fn mark_back(&mut self)
+        ensures { (h : History) (mark : Mark) → self.old ≡ with_mark h mark → self.new ≡ h }
+    {
+        self.marks.pop();
+    }
+
+    /// Records another mark in place of the last, at which no round ends.
+    pub fn replace_mark(&mut self, mark: Mark)
+        ensures { (h : History) (last : Mark) → self.old ≡ with_mark h last → self.new ≡ with_mark h mark }
+    {
+        // The place of the last mark is free then, so this asks for no memory.
+        self.marks.pop();
+        let _ = self.marks.push(mark);
+    }
+
     /// Takes the last mark out again, with the end of a round at it.
     pub fn unmark(&mut self)
         ensures { (h : History) (mark : Mark) → self.old ≡ with_end (with_mark h mark) → self.new ≡ h }

@@ -1,0 +1,5 @@
+pub mod Membership
+pub mod Merged
+pub mod Waits
+pub mod Popped
+pub mod Walks

@@ -1,0 +1,91 @@
+-- The tables: rows, writes that wait to be popped, and keys to sync. A write waits in its producer's table until it is popped; then it is in the rows, and its key is to sync (SWSS: producer and consumer state tables).
+use Rattle.std.specs.Prelude.{◌≡◌, ◌⊎◌, true, List, [], ◌∷◌, Option, Some, None, is_some, if◌then◌else◌}
+use Rattle.std.specs.BTreeMap.{is_at}
+use Rattle.std.specs.List.{AllByRecursion}
+use Rattle.std.specs.Map.{keys_of}
+use Rattle.std.specs.declared.cmp.Ordering.TheVariants.{Less}
+use Rattle.table_schema.specs.Key.{key_cmp}
+use Rattle.table_schema.specs.Rows.{Rows, fields_at}
+use Rattle.table_schema.specs.declared.key.Key.{Key}
+use Rattle.table_schema.specs.declared.write.Write.{Write}
+use Rattle.sai_types.specs.Alike.{IsIn}
+use Rattle.producer_table.specs.Pending.{PendingKeys, pending_after, pending_at, row_with_pending}
+use Rattle.producer_table.specs.declared.waiting.Pending.{Pending}
+use Rattle.consumer_table.specs.Ops.{Ops}
+use Rattle.switch_machine.specs.Written.{HasNoWrite, IsAsBefore, IsPoppedKey, Written}
+
+pub record TablesState : Type 0 where
+  pub rows : Rows
+  pub waiting : PendingKeys
+  pub ops : Ops
+
+abbrev pub no_tables : TablesState
+no_tables = record { rows = []; waiting = []; ops = [] }
+
+-- a write waits
+abbrev pub with_write : TablesState → Write → TablesState
+with_write t w = record { rows = t.rows; waiting = pending_after t.waiting w; ops = t.ops }
+
+-- what these writes came to in the tables
+abbrev pub written_in : List Write → TablesState → Written
+written_in taken t = record { taken = taken; rows = λ k. fields_at t.rows k; waiting = λ k o. row_with_pending o (pending_at t.waiting k) }
+
+-- what waits of a key is a deletion, fields, or both
+abbrev pub Matters : Pending → Type 0
+Matters p = (p.dropped ≡ true) ⊎ (is_some p.fields ≡ true)
+
+abbrev pub AllMatter : PendingKeys → Type 0
+AllMatter waiting = AllByRecursion (λ e. Matters e.1) waiting
+
+abbrev pub IsToSync : TablesState → Key → Type 0
+IsToSync t k = IsIn k (keys_of t.ops)
+
+-- ---- pops
+
+-- what waited of this key is merged into the rows, and no other row changes
+abbrev pub IsMerged : Rows → Key → Pending → Rows → Type 0
+IsMerged rows key p new = (q : Key) → fields_at new q ≡ (if is_at (key_cmp q) key then row_with_pending (fields_at rows q) p else fields_at rows q)
+
+-- the same keys are to sync, and this one, where it is given
+abbrev pub IsAdded : Ops → Option Key → Ops → Type 0
+IsAdded old key new = (k : Key) → (IsIn k (keys_of new) → IsIn k (keys_of old) ⊎ (Some k ≡ key)) × (IsIn k (keys_of old) ⊎ (Some k ≡ key) → IsIn k (keys_of new))
+
+-- the first key that waits is popped
+pub record PopsFirst (old new : TablesState) : Type 0 where
+  pub first : Key × Pending
+  pub waiting : old.waiting ≡ first ∷ new.waiting
+  pub rows : IsMerged old.rows first.0 first.1 new.rows
+  pub added : IsAdded old.ops (Some first.0) new.ops
+
+-- nothing is popped
+pub record PopsNone (old new : TablesState) : Type 0 where
+  pub waiting : new.waiting ≡ old.waiting
+  pub rows : new.rows ≡ old.rows
+  pub added : IsAdded old.ops None new.ops
+
+-- what a pop made of a key: it is as before; or a write of it waited, it is popped, and is to sync
+pub data IsPoppedIn (old new : TablesState) (k : Key) : Type 0 where
+  Stays : ((taken : List Write) → IsAsBefore (written_in taken old) (written_in taken new) k) → (IsToSync new k → IsToSync old k) → IsPoppedIn old new k
+  Popped : ((taken : List Write) → HasNoWrite (written_in taken old) k → ⊥) → ((taken : List Write) → IsPoppedKey (written_in taken old) (written_in taken new) k) → IsToSync new k → IsPoppedIn old new k
+
+-- keys are popped whole, and each key to sync is so still
+pub record PopsKeys (old new : TablesState) : Type 0 where
+  pub keys : (k : Key) → IsPoppedIn old new k
+  pub kept : (k : Key) → IsToSync old k → IsToSync new k
+
+-- one of them was popped
+abbrev pub PopsSome : TablesState → TablesState → Type 0
+PopsSome old new = (k : Key) × ((taken : List Write) → HasNoWrite (written_in taken old) k → ⊥) × ((taken : List Write) → IsPoppedKey (written_in taken old) (written_in taken new) k)
+
+-- ---- walks over the keys to sync
+
+-- a key is behind this one, and any is where none is given
+abbrev pub IsBehind : Option Key → Key → Type 0
+IsBehind None q = Unit {0}
+IsBehind (Some k) q = key_cmp k q ≡ Less
+
+-- the first of these keys behind this one: no other of them stands between
+pub record IsNextKey (after : Option Key) (keys : List Key) (q : Key) : Type 0 where
+  pub there : IsIn q keys
+  pub behind : IsBehind after q
+  pub first : (p : Key) → IsIn p keys → IsBehind after p → (p ≡ q) ⊎ (key_cmp q p ≡ Less)

@@ -1,0 +1,13 @@
+//! The application tables as the core has them: the rows, the writes that wait to be popped, and the keys that are to be
+//! brought to the chip.
+#![tactic(auto)]
+
+mod laws;
+mod merging;
+mod tables;
+
+pub use laws::{
+    no_tables_are_told, popped_tables_wait_for_nothing, pops_are_events, walks_pass_no_key,
+    writes_are_taken,
+};
+pub use tables::Tables;

@@ -1,0 +1,162 @@
+// The tables.
+ghost use Rattle.std.specs.Prelude.{◌≡◌, ◌⊎◌, ◌↔◌, [], length, IsTrue, IfOk, OnOk, OnErr, option_map};
+ghost use Rattle.std.specs.Bool.{OnTrue, OnFalse};
+ghost use Rattle.std.specs.Map.{keys_of};
+ghost use Rattle.table_schema.specs.Rows.{fields_at};
+ghost use Rattle.table_schema.specs.declared.write.Write.TheVariants as write;
+ghost use Rattle.switch_model.specs.Good.{good_row};
+ghost use Rattle.producer_table.specs.Pending.{AreInOrder};
+ghost use Rattle.consumer_table.specs.Ops.{AreOpsInOrder, first_in, keys_behind, without_op};
+ghost use Rattle.sync_tables.specs.Tables.{PopsKeys, PopsSome, no_tables, with_write};
+
+use crate::merging::take_in;
+use consumer_table::ToSync;
+use producer_table::Waiting;
+use row_store::Rows;
+use std::alloc::Global;
+use std::marker::Model;
+use swss_types::OutOfMemory;
+use table_schema::{Fields, Key, PortPlan, Row, read_row};
+
+/// How many keys one pop takes at most.
+const BATCH: u64 = 128;
+
+/// The rows of the application tables, the writes that wait to be popped, and the keys that are to be brought to the chip.
+#[derive(Debug, Drop)]
+pub struct Tables {
+    rows: Rows,
+    waiting: Waiting,
+    to_sync: ToSync,
+}
+
+impl Model for Tables {
+    ghost use Rattle.sync_tables.specs.Tables.{AllMatter, TablesState};
+
+    ghost Value = { TablesState };
+
+    ghost view = { λ t. record { rows = t.rows; waiting = t.waiting; ops = t.to_sync } };
+
+    ghost invariant = { λ t. AllMatter t.waiting };
+}
+
+impl Tables {
+    /// No row, no write and no key to sync.
+    pub fn new(alloc: Global) -> Tables
+        ensures { result ≡ no_tables }
+    {
+        Tables {
+            rows: Rows::new(alloc),
+            waiting: Waiting::new(alloc),
+            to_sync: ToSync::new(alloc),
+        }
+    }
+
+    /// Lets a Set wait.
+    pub fn set(&mut self, key: Key, fields: Fields) -> Result<(), OutOfMemory>
+        ensures ok { OnOk result (self.new ≡ with_write self.old (write.Set key fields)) }
+        ensures err { OnErr result (self.new ≡ self.old) }
+    {
+        self.waiting.set(key, fields)
+    }
+
+    /// Lets a Del wait.
+    pub fn del(&mut self, key: Key) -> Result<(), OutOfMemory>
+        ensures ok { OnOk result (self.new ≡ with_write self.old (write.Del key)) }
+        ensures err { OnErr result (self.new ≡ self.old) }
+    {
+        self.waiting.del(key)
+    }
+
+    /// Whether no write waits. What waits is in order, as `AreInOrder` says.
+    pub fn is_popped(&self) -> bool
+        ensures popped { IsTrue result ↔ (self.now.waiting ≡ []) }
+        ensures order { AreInOrder self.now.waiting }
+    {
+        self.waiting.is_empty()
+    }
+
+    /// Pops a batch of keys, in key order: what waited of each is merged into its row, and it is to sync. After want of
+    /// memory some of the keys are popped, and the others wait.
+    pub fn pop(&mut self) -> Result<(), OutOfMemory>
+        ensures keys { PopsKeys self.old self.new }
+        ensures some { OnOk result ((self.old.waiting ≡ []) ⊎ PopsSome self.old self.new) }
+    {
+        if self.pop_first()? {
+            self.pop_more()?;
+        }
+        Ok(())
+    }
+
+    /// Pops the keys of a batch but the first.
+    fn pop_more(&mut self) -> Result<(), OutOfMemory>
+        ensures { PopsKeys self.old self.new }
+    {
+        for _ in 1..BATCH {
+            if !self.pop_first()? {
+                break;
+            }
+        }
+        Ok(())
+    }
+
+    /// Pops the first key that waits: false exactly where none does.
+    fn pop_first(&mut self) -> Result<bool, OutOfMemory>
+        ensures keys { PopsKeys self.old self.new }
+        ensures some { IfOk result (λ popped. OnTrue popped (PopsSome self.old self.new)) }
+        ensures empty { IfOk result (λ popped. OnFalse popped (self.old.waiting ≡ [])) }
+    {
+        let _order = self.waiting.is_empty();
+        let Some((key, pending)) = self.waiting.first() else {
+            return Ok(false);
+        };
+        take_in(&mut self.rows, &mut self.to_sync, key, pending)?;
+        self.waiting.pop_first();
+        Ok(true)
+    }
+
+    /// The key's row, where it reads.
+    pub fn good_row(
+        &self,
+        alloc: Global,
+        plan: &PortPlan,
+        key: &Key,
+    ) -> Result<Option<Row>, OutOfMemory>
+        ensures { IfOk result (λ row. row ≡ good_row plan.now key.now (fields_at self.now.rows key.now)) }
+    {
+        match self.rows.get(key) {
+            Some(fields) => Ok(read_row(alloc, plan, key, fields)?.ok()),
+            None => Ok(None),
+        }
+    }
+
+    /// The first key to sync, in key order, behind this one, and the first of all where none is given. The keys are in order,
+    /// as `AreOpsInOrder` says.
+    pub fn next_key(&self, after: Option<&Key>) -> Option<&Key>
+        ensures key { option_map (λ key. key.now) result ≡ first_in (keys_behind (option_map (λ key. key.now) after.entry) (keys_of self.now.ops)) }
+        ensures order { AreOpsInOrder self.now.ops }
+    {
+        let _order = self.to_sync.len();
+        self.to_sync.next_key(after)
+    }
+
+    /// How many keys are to sync.
+    pub fn count(&self) -> usize
+        ensures { result ≡ length self.now.ops }
+    {
+        self.to_sync.len()
+    }
+
+    /// Takes a key from those to sync, if it is one.
+    pub fn done(&mut self, key: &Key)
+        ensures { self.new ≡ record self.old { ops = without_op self.old.ops key.now } }
+    {
+        self.to_sync.done(key);
+    }
+
+    /// The rows.
+    pub fn rows(&self) -> &Rows
+        ensures { result.now ≡ self.now.rows }
+    {
+        &self.rows
+    }
+}

@@ -1,0 +1,110 @@
+// How far an operation is when it starts.
+ghost use Rattle.std.specs.Prelude.{◌≡◌, None, Some, IsSome, option_map};
+ghost use Rattle.switch_machine.specs.Flights.{Fits};
+ghost use Rattle.switch_model.specs.Things.{lane_of};
+ghost use Rattle.table_schema.specs.declared.row.Row.{Row};
+ghost use Rattle.vlan_orch.specs.Vlans.{IsFirst, IsFirstMember, IsMemberRow, IsVlanKey, first_vlan, lacks_bridge};
+
+use crate::starting::bridge_of;
+use crate::steps::{MemberStep, Membership, Subject, VlanStep};
+use orch_flight::{lacks, lane_of};
+use ref_counts::Registry;
+use swss_types::Tagging;
+use table_schema::{Key, PortPlan, Row};
+
+/// Whether nothing is there of the bridge port that the row shares which is to be applied.
+pub fn lacks_bridge(plan: &PortPlan, reg: &Registry, key: &Key, new: Option<&Row>) -> bool
+    ensures { result ≡ lacks_bridge plan.now reg.now key.now (option_map (λ r. r.now) new.entry) }
+{
+    match new {
+        Some(row) => lacks(reg, &bridge_of(plan, key, row)),
+        None => false,
+    }
+}
+
+/// The operation of which nothing is made yet, by whether the bridge port has to be built.
+pub fn first(
+    plan: &PortPlan,
+    key: &Key,
+    old: Option<&Row>,
+    new: Option<&Row>,
+    builds: bool,
+) -> Subject
+    requires vlan { IsVlanKey key.now }
+    requires some { option_map (λ r. r.now) old ≡ None → option_map (λ r. r.now) new ≡ None → ⊥ }
+    requires old { (r : Row) → option_map (λ r. r.now) old ≡ Some r → Fits plan.now key.now r }
+    requires new { (r : Row) → option_map (λ r. r.now) new ≡ Some r → Fits plan.now key.now r }
+    ensures { IsFirst plan.now key.now (option_map (λ r. r.now) old.entry) (option_map (λ r. r.now) new.entry) builds result }
+{
+    match key {
+        Key::Vlan(vlan) => Subject::Vlan(*vlan, first_vlan(old, new)),
+        Key::Member(vlan, port) => {
+            let at = Membership {
+                vlan: *vlan,
+                port: *port,
+                lane: lane(plan, *port),
+            };
+            Subject::Member(at, first_member(tagging_of(old), tagging_of(new), builds))
+        }
+        _ => unreachable!(),
+    }
+}
+
+/// How far a VLAN's operation is that starts.
+fn first_vlan(old: Option<&Row>, new: Option<&Row>) -> VlanStep
+    ensures { result ≡ first_vlan (option_map (λ r. r.now) old.entry) (option_map (λ r. r.now) new.entry) }
+{
+    match (old, new) {
+        (None, _) => VlanStep::Add,
+        (Some(_), None) => VlanStep::Remove,
+        (Some(_), Some(_)) => VlanStep::Keep,
+    }
+}
+
+/// How far a member's operation is that starts.
+fn first_member(old: Option<Tagging>, new: Option<Tagging>, builds: bool) -> MemberStep
+    requires { old ≡ None → new ≡ None → ⊥ }
+    ensures { IsFirstMember old new builds result }
+{
+    match (old, new) {
+        (None, Some(new)) => {
+            if builds {
+                MemberStep::AddBridge(new)
+            } else {
+                MemberStep::Add(new)
+            }
+        }
+        (Some(old), Some(new)) => {
+            if old == new {
+                MemberStep::Keep(new)
+            } else {
+                MemberStep::Set(old, new)
+            }
+        }
+        (Some(old), None) => MemberStep::Remove(old),
+        (None, None) => unreachable!(),
+    }
+}
+
+/// The tagging of a member's row, where there is one.
+fn tagging_of(row: Option<&Row>) -> Option<Tagging>
+    requires { IsMemberRow (option_map (λ r. r.now) row) }
+    ensures { option_map Row.Member result ≡ option_map (λ r. r.now) row.entry }
+{
+    match row {
+        Some(Row::Member(tagging)) => Some(*tagging),
+        Some(_) => unreachable!(),
+        None => None,
+    }
+}
+
+/// The first lane of a port of the plan.
+fn lane(plan: &PortPlan, port: u32) -> u16
+    requires { IsSome (lane_of plan.now port) }
+    ensures { lane_of plan.now port ≡ Some result }
+{
+    match lane_of(plan, port) {
+        Some(lane) => lane,
+        None => unreachable!(),
+    }
+}

@@ -1,0 +1,154 @@
+// How the operation of a VLAN, or of a member of one, starts.
+ghost use Rattle.std.specs.Prelude.{◌≡◌, Some, option_map, IfOk, OnErr};
+ghost use Rattle.table_schema.specs.declared.key.Key.{Key};
+ghost use Rattle.orch_flight.specs.Sharing.{MayStart};
+ghost use Rattle.orch_flight.specs.Starting.{IsBegunBy};
+ghost use Rattle.vlan_orch.specs.Vlans.{IsOfVlan, IsVlanKey, bridge_of, places_of_member, places_of_vlan};
+
+use orch_flight::{lacks, lane_of, start_row, try_remove};
+use ref_counts::{Name, Registry, Room};
+use switch_model::Wait;
+use swss_types::OutOfMemory;
+use table_schema::{Key, PortPlan, Row};
+
+/// No place.
+const NONE: [u64; 11] = [0; 11];
+
+/// A place for a VLAN.
+const VLAN: [u64; 11] = [0, 1, 0, 0, 0, 0, 0, 0, 0, 0, 0];
+
+/// A place for a member.
+const MEMBER: [u64; 11] = [0, 0, 0, 1, 0, 0, 0, 0, 0, 0, 0];
+
+/// Places for a bridge port and a member.
+const BRIDGE_AND_MEMBER: [u64; 11] = [0, 0, 1, 1, 0, 0, 0, 0, 0, 0, 0];
+
+/// Starts the operation of a row, but for the operation itself.
+pub fn begin(
+    plan: &PortPlan,
+    reg: &mut Registry,
+    room: &mut Room,
+    used: &[u64; 11],
+    worker: u32,
+    key: &Key,
+    old: Option<&Row>,
+    new: Option<&Row>,
+) -> Result<Result<(), Wait>, OutOfMemory>
+    requires vlan { IsVlanKey key.now }
+    requires may { MayStart plan.now reg.old worker key.now (option_map (λ r. r.now) old) (option_map (λ r. r.now) new) }
+    ensures begun { IfOk result (λ answer. IsBegunBy plan.now reg.old room.old used.now worker key.now (option_map (λ r. r.now) old.entry) (option_map (λ r. r.now) new.entry) answer reg.new room.new) }
+    ensures err { OnErr result (reg.new ≡ reg.old) }
+    ensures err_room { OnErr result (room.new ≡ room.old) }
+{
+    match new {
+        Some(new) => begin_new(plan, reg, room, used, worker, key, old, new),
+        None => try_remove(reg, worker, key),
+    }
+}
+
+/// Starts the operation of a row that is to be applied.
+fn begin_new(
+    plan: &PortPlan,
+    reg: &mut Registry,
+    room: &mut Room,
+    used: &[u64; 11],
+    worker: u32,
+    key: &Key,
+    old: Option<&Row>,
+    new: &Row,
+) -> Result<Result<(), Wait>, OutOfMemory>
+    requires vlan { IsVlanKey key.now }
+    requires may { MayStart plan.now reg.old worker key.now (option_map (λ r. r.now) old) (Some new.now) }
+    ensures begun { IfOk result (λ answer. IsBegunBy plan.now reg.old room.old used.now worker key.now (option_map (λ r. r.now) old.entry) (Some new.now) answer reg.new room.new) }
+    ensures err { OnErr result (reg.new ≡ reg.old) }
+    ensures err_room { OnErr result (room.new ≡ room.old) }
+{
+    match key {
+        Key::Vlan(_) => begin_vlan(plan, reg, room, used, worker, key, old, new),
+        Key::Member(vlan, port) => {
+            begin_member(plan, reg, room, used, worker, key, *vlan, *port, old, new)
+        }
+        _ => unreachable!(),
+    }
+}
+
+/// Starts the operation of a VLAN's row.
+fn begin_vlan(
+    _plan: &PortPlan,
+    reg: &mut Registry,
+    room: &mut Room,
+    used: &[u64; 11],
+    worker: u32,
+    key: &Key,
+    old: Option<&Row>,
+    _new: &Row,
+) -> Result<Result<(), Wait>, OutOfMemory>
+    requires vlan { IsOfVlan key.now }
+    requires may { MayStart _plan.now reg.old worker key.now (option_map (λ r. r.now) old) (Some _new.now) }
+    ensures begun { IfOk result (λ answer. IsBegunBy _plan.now reg.old room.old used.now worker key.now (option_map (λ r. r.now) old.entry) (Some _new.now) answer reg.new room.new) }
+    ensures err { OnErr result (reg.new ≡ reg.old) }
+    ensures err_room { OnErr result (room.new ≡ room.old) }
+{
+    let applied = old.is_some();
+    let need = vlan_places(applied);
+    start_row(reg, room, used, worker, key, &[], applied, &None, need)
+}
+
+/// Starts the operation of a member's row, which names its VLAN and its port.
+fn begin_member(
+    plan: &PortPlan,
+    reg: &mut Registry,
+    room: &mut Room,
+    used: &[u64; 11],
+    worker: u32,
+    key: &Key,
+    vlan: u16,
+    port: u32,
+    old: Option<&Row>,
+    new: &Row,
+) -> Result<Result<(), Wait>, OutOfMemory>
+    requires member { key.now ≡ Key.Member vlan port }
+    requires may { MayStart plan.now reg.old worker key.now (option_map (λ r. r.now) old) (Some new.now) }
+    ensures begun { IfOk result (λ answer. IsBegunBy plan.now reg.old room.old used.now worker key.now (option_map (λ r. r.now) old.entry) (Some new.now) answer reg.new room.new) }
+    ensures err { OnErr result (reg.new ≡ reg.old) }
+    ensures err_room { OnErr result (room.new ≡ room.old) }
+{
+    let applied = old.is_some();
+    let names = [Key::Vlan(vlan), Key::Port(port)];
+    let shared = bridge_of(plan, key, new);
+    let need = member_places(applied, lacks(reg, &shared));
+    start_row(reg, room, used, worker, key, &names, applied, &shared, need)
+}
+
+/// The bridge port that a row shares: none of a VLAN, nor of a member on a port that is not in the plan.
+pub fn bridge_of(plan: &PortPlan, key: &Key, row: &Row) -> Option<Name>
+    ensures { result ≡ bridge_of plan.now key.now row.now }
+{
+    match (key, row) {
+        (Key::Member(_, port), Row::Member(_)) => match lane_of(plan, *port) {
+            Some(lane) => Some(Name::BridgePort(lane)),
+            None => None,
+        },
+        _ => None,
+    }
+}
+
+/// The places that a VLAN's row needs.
+fn vlan_places(applied: bool) -> &'static [u64; 11]
+    ensures { result.now ≡ places_of_vlan applied }
+{
+    if applied { &NONE } else { &VLAN }
+}
+
+/// The places that a member's row needs.
+fn member_places(applied: bool, builds: bool) -> &'static [u64; 11]
+    ensures { result.now ≡ places_of_member applied builds }
+{
+    if applied {
+        &NONE
+    } else if builds {
+        &BRIDGE_AND_MEMBER
+    } else {
+        &MEMBER
+    }
+}
