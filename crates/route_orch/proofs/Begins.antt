@@ -31,12 +31,13 @@ use Rattle.orch_flight.specs.Sharing.{begun_by, is_absent, lacks_shared, owners_
 use Rattle.orch_flight.specs.Starting.{IsBegunBy, begun_names, first_due, leaving, started_names}
 use Rattle.orch_flight.specs.Taking.{to_list}
 use Rattle.orch_flight.proofs.Begins.{begun-row-when, no_places, places-set, places-taken}
+use Rattle.orch_flight.proofs.Rows.{row-names, row-waits}
 use Rattle.route_orch.specs.Targets.{AreGroups, IsRouteKey}
 use Rattle.route_orch.specs.Routes.{places_needed}
 use Rattle.route_orch.proofs.Dues.{built-apart, none-left}
 use Rattle.route_orch.proofs.Operations.{rows}
 use Rattle.route_orch.proofs.Places.{places-built}
-use Rattle.route_orch.proofs.Starts.{names-due, shared-names, shared-reason}
+use Rattle.route_orch.proofs.Starts.{names-due}
 
 -- ---- places
 
@@ -88,13 +89,13 @@ module _ (plan : Ports) (names : Names) (group : Option Name) (groups : AreGroup
   names_begun : (worker : ℕ) (k : Key) (old : Option Row) (r : Row) → IsRouteKey k → ((a : Row) → old ≡ Some a → Fits plan k a) → Fits plan k r → uses_of plan k (Some r) ≡ owners_of group → started_names plan names worker k old (Some r) ≡ begun_by names worker k (names_of k r) (is_some old) group (lacks_shared names group)
   names_begun worker (key.Route p) None (row.Route r) is of_old fits shares =
       names-due (begun_names plan names worker (key.Route p) None (Some (row.Route r))) worker (key.Route p) (first_due plan names (key.Route p) None (Some (row.Route r))) (leaving plan (key.Route p) None (Some (row.Route r))) (λ none. refl)
-      ∙ shared-names plan names worker (key.Route p) (row.Route r) group shares None
+      ∙ row-names plan names (key.Route p) (row.Route r) group shares worker None
   names_begun worker (key.Route p) (Some (row.Route a)) (row.Route r) is of_old fits shares =
       let k = key.Route p in
       let own = own_changes plan k (Some (row.Route a)) (Some (row.Route r)) in
       names-due (begun_names plan names worker k (Some (row.Route a)) (Some (row.Route r))) worker k (first_due plan names k (Some (row.Route a)) (Some (row.Route r))) (leaving plan k (Some (row.Route a)) (Some (row.Route r)))
       (λ none. none-left plan p (Some a) (Some r) (of_old (row.Route a) refl).1 fits.1 (sym (built-apart names (uses_of plan k (Some (row.Route r))) group own shares groups) ∙ none))
-      ∙ shared-names plan names worker k (row.Route r) group shares (Some (row.Route a))
+      ∙ row-names plan names k (row.Route r) group shares worker (Some (row.Route a))
   names_begun worker (key.Route p) (Some (row.Route a)) _ is of_old fits shares = elim fits [ ]
   names_begun worker (key.Route p) (Some a) r is of_old fits shares = elim (of_old a refl) [ ]
   names_begun worker (key.Route p) None _ is of_old fits shares = elim fits [ ]
@@ -120,7 +121,7 @@ module _ (plan : Ports) (names : Names) (room : RoomState) (used : List ℕ) (wo
       let told : IsRowStarted (names_of k r) (is_some old) (places_needed (lacks_shared names group) group (is_some old)) =
       subst (λ z. IsRowStarted (names_of k r) (is_some old) z) (is_need ∙ ap (places_needed (lacks_shared names group) group) is_applied) (subst (λ z. IsRowStarted (names_of k r) z need) is_applied (subst (λ z. IsRowStarted z applied need) is_names told)) in
       begun-row-when plan names room used worker k old r (is_some old) group (places_needed (lacks_shared names group) group (is_some old)) names' room' res
-      (λ none. shared-reason plan names worker k r group shares room used old (places_needed (lacks_shared names group) group (is_some old)) (places_are none))
+      (λ none. row-waits plan names k r group shares room used worker old (places_needed (lacks_shared names group) group (is_some old)) (places_are none))
       (λ none. names_begun plan names group groups worker k old r is of_old (fits none) shares)
       places_are told.free told.begun told.places told.wait told.none told.none_room
 
