@@ -1,6 +1,5 @@
 -- the calls of a plan are in time
-use Rattle.std.proofs.Common.{◌≡◌, ◌⊎◌, inl, inr, ℕ, ◌++◌, true, List, [], ◌∷◌, map, Option, None, Some, refl, sym, ap, ◌∙◌, subst}
-use Rattle.std.proofs.lemmas.List.{append_assoc}
+use Rattle.std.proofs.Common.{◌≡◌, inl, inr, ℕ, ◌++◌, List, [], ◌∷◌, None, refl, sym, ap, ◌∙◌, subst}
 use Rattle.sai_types.specs.declared.ids.Rid.{Rid}
 use Rattle.sai_types.specs.declared.ids.Vid.{Vid}
 use Rattle.sai_types.specs.declared.body.Call.TheVariants as call
@@ -35,7 +34,7 @@ use Rattle.order_laws.proofs.Ids.{cold-named, hitless-named}
 use Rattle.order_laws.proofs.Shuffled.{in-shuffled}
 use Rattle.sync_laws.proofs.Names.{remove-tied}
 use Rattle.sync_laws.proofs.Started.{none-named, pairs-free, pairs-there, there-first}
-use Rattle.sync_laws.proofs.Timed.{AreTied, in-time}
+use Rattle.sync_laws.proofs.Timed.{in-time}
 
 joined : (a b c : List PlanCall) → a ++ (b ++ c) ≡ (a ++ b) ++ c
 joined [] b c = refl

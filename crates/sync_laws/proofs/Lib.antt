@@ -1,5 +1,6 @@
 pub mod InTime
 pub mod Names
+pub mod Numbered
 pub mod Started
 pub mod Ties
 pub mod Timed

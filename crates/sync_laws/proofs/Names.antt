@@ -1,6 +1,6 @@
 -- a call names what is tied where its references are
 use mathlib.Core.Bool.{beq}
-use Rattle.std.proofs.Common.{◌≡◌, ◌⊎◌, inl, inr, ℕ, ◌==◌, Bool, true, false, List, [], ◌∷◌, ◌++◌, map, Option, None, Some, refl, sym, ap, ap₂, ◌∙◌, subst}
+use Rattle.std.proofs.Common.{◌≡◌, ℕ, ◌==◌, Bool, true, false, List, [], ◌∷◌, ◌++◌, map, Some, refl, sym, ap, ap₂, ◌∙◌, subst}
 use Rattle.swss_types.specs.contracts.tagging.TaggingPartialEq.TheImpl as tagging_eq
 use Rattle.swss_types.specs.contracts.address.MacPartialEq.TheImpl as mac_eq
 use Rattle.sai_types.specs.declared.ids.Rid.{Rid}
@@ -12,7 +12,6 @@ use Rattle.sai_types.specs.declared.body.Body.TheVariants as body
 use Rattle.sai_types.specs.declared.body.Call.TheVariants as call
 use Rattle.sai_types.specs.declared.body.Entry.{Entry}
 use Rattle.sai_types.specs.declared.body.Entry.TheVariants as entry
-use Rattle.sai_types.specs.declared.body.To.{To}
 use Rattle.sai_types.specs.declared.hop.Base.TheVariants as base
 use Rattle.sai_types.specs.declared.plan.PlanCall.{PlanCall}
 use Rattle.sai_types.specs.declared.plan.PlanId.{PlanId}
@@ -23,7 +22,7 @@ use Rattle.sai_types.specs.declared.thing.Thing.{Thing}
 use Rattle.sai_types.specs.declared.thing.Thing.TheVariants as thing
 use Rattle.sai_types.specs.Names.{Name}
 use Rattle.chip_layout.specs.Bodies.{body_with, first_name, goal_name, second_name, to_with}
-use Rattle.chip_layout.specs.Renamed.{attr_renamed, body_renamed, call_renamed, entry_renamed, to_renamed}
+use Rattle.chip_layout.specs.Renamed.{attr_renamed, body_renamed, entry_renamed, to_renamed}
 use Rattle.chip_layout.proofs.Shapes.{renamed_with}
 use Rattle.plan_laws.specs.Calls.{old_entry}
 use Rattle.asic_view.specs.View.{ViewObjects}

@@ -1,31 +1,28 @@
 -- each step's calls are in time
-use Rattle.std.proofs.Common.{◌≡◌, ◌⊎◌, inl, inr, ℕ, ◌+◌, ◌++◌, Bool, true, false, cond, List, [], ◌∷◌, map, Option, None, Some, if◌then◌else◌, refl, sym, ap, ap₂, ◌∙◌, subst}
+use Rattle.std.proofs.Common.{◌≡◌, ◌⊎◌, inl, inr, ℕ, ◌+◌, ◌++◌, Bool, true, false, cond, List, [], ◌∷◌, map, Option, None, Some, refl, sym, ap, ◌∙◌, subst}
 use Rattle.std.specs.BTreeMap.{is_at}
 use Rattle.std.specs.List.{slice_get}
 use Rattle.std.specs.Map.{lookup}
 use Rattle.std.specs.Ordering.{nat_cmp}
-use Rattle.std.proofs.lemmas.List.{append-nil, append_assoc, map-append}
+use Rattle.std.proofs.lemmas.List.{append_assoc, map-append}
 use Rattle.std.proofs.lemmas.Option.{same_Some}
 use Rattle.sai_types.specs.declared.ids.Rid.{Rid}
 use Rattle.sai_types.specs.declared.ids.Vid.{Vid}
 use Rattle.sai_types.specs.declared.body.Body.{Body}
-use Rattle.sai_types.specs.declared.body.Body.TheVariants as body
 use Rattle.sai_types.specs.declared.body.Call.TheVariants as call
 use Rattle.sai_types.specs.declared.body.Entry.{Entry}
 use Rattle.sai_types.specs.declared.body.Entry.TheVariants as entry
 use Rattle.sai_types.specs.declared.body.Object.{Object}
 use Rattle.sai_types.specs.declared.plan.Mode.{Mode}
 use Rattle.sai_types.specs.declared.plan.PlanCall.{PlanCall}
-use Rattle.sai_types.specs.declared.plan.PlanId.{PlanId}
 use Rattle.sai_types.specs.declared.plan.PlanId.TheVariants as plan_id
 use Rattle.sai_types.specs.declared.thing.Thing.{Thing}
 use Rattle.sai_types.specs.declared.thing.Thing.TheVariants as thing
 use Rattle.sai_types.specs.After.{has_id, makes_id}
 use Rattle.sai_types.specs.Alike.{IsIn}
-use Rattle.sai_types.specs.Names.{Name, Refers, name_kind, name_of}
-use Rattle.sai_types.specs.Objects.{Objects}
+use Rattle.sai_types.specs.Names.{Name, name_kind, name_of}
 use Rattle.sai_chip.specs.Naming.{entries_of}
-use Rattle.chip_layout.specs.Bodies.{IsAt, IsBody, body_with, first_name, goal_name, is_numbered, second_name}
+use Rattle.chip_layout.specs.Bodies.{IsAt, body_with, first_name, is_numbered, second_name}
 use Rattle.chip_layout.specs.Layout.{Has, Layout, has_number}
 use Rattle.chip_layout.specs.Renamed.{body_renamed}
 use Rattle.chip_layout.proofs.Bodies.{first-numbered, first-refers, second-numbered, second-refers}
@@ -33,7 +30,7 @@ use Rattle.chip_layout.proofs.Shapes.{renamed_with}
 use Rattle.plan_laws.specs.Applied.{IsListedChip}
 use Rattle.plan_laws.specs.Calls.{old_entry, plan_layout, viewed}
 use Rattle.plan_laws.specs.Old.{tag_of}
-use Rattle.plan_laws.specs.Plans.{PlanChange, Make, Remove, Set, outcome, stands_after_all, subject}
+use Rattle.plan_laws.specs.Plans.{PlanChange, Make, Remove, Set, outcome, stands_after_all}
 use Rattle.plan_laws.proofs.Allowed.{IsSafePlan, make-refers, set-refers}
 use Rattle.plan_laws.proofs.Following.{HasNamed, before, done-in, due-in, origin}
 use Rattle.plan_laws.proofs.Lists.{in-either, in-left, in-right}
@@ -45,13 +42,13 @@ use Rattle.apply_order.specs.Calls.{both_calls, make_calls, made_id, remove_call
 use Rattle.apply_order.specs.Naming.{Names, id_by, new_id}
 use Rattle.apply_order.specs.declared.ranks.Timed.{Timed}
 use Rattle.order_laws.specs.Viewed.{IsViewOf, things_in}
-use Rattle.order_laws.proofs.Changes.{IsDueStep, IsGoneDue, IsMadeDue, IsSetDue, change_of, due-pair, name-is, new_thing, old_name, place_old, thing-is}
+use Rattle.order_laws.proofs.Changes.{IsDueStep, IsMadeDue, IsSetDue, change_of, due-pair, name-is, new_thing, old_name, place_old, thing-is}
 use Rattle.order_laws.proofs.Partners.{in-place, place-in}
 use Rattle.order_laws.proofs.Placed.{new-in, new-place, pair-at}
 use Rattle.sync_laws.proofs.Names.{AreAttrsTied, body-tied, differing-tied, remove-tied, sets-time}
 use Rattle.sync_laws.proofs.Ties.{IsThere, there-kept, tied-apart, tied-kept, tied-same}
 
-has_number_with : {I : Type 0} (t : Thing) (i j : I) → has_id (body_with t i j) ≡ has_number t
+pub has_number_with : {I : Type 0} (t : Thing) (i j : I) → has_id (body_with t i j) ≡ has_number t
 has_number_with (thing.Own ip) i j = refl
 has_number_with (thing.Neighbor h m) i j = refl
 has_number_with (thing.Route p g) i j = refl

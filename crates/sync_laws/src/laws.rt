@@ -1,17 +1,46 @@
 // What holds of the applies of syncd. Each function is a law: it does nothing, and its contract is proved.
-ghost use Rattle.std.specs.Prelude.{◌≡◌, ℕ, List, None};
+ghost use Rattle.std.specs.Prelude.{◌≡◌, ℕ, ◌++◌, List, None};
 ghost use Rattle.sai_types.specs.declared.ids.Rid.{Rid};
 ghost use Rattle.sai_types.specs.declared.ids.Vid.{Vid};
+ghost use Rattle.sai_types.specs.declared.body.Call.{Call};
 ghost use Rattle.sai_types.specs.declared.body.Object.{Object};
+ghost use Rattle.sai_types.specs.declared.plan.Mode.TheVariants as mode;
 ghost use Rattle.sai_types.specs.declared.plan.Plan.{Plan};
 ghost use Rattle.sai_types.specs.declared.thing.Thing.{Thing};
+ghost use Rattle.sai_types.specs.After.{after_calls};
+ghost use Rattle.sai_types.specs.Alike.{IsAlike, IsIn};
+ghost use Rattle.sai_types.specs.Made.{AreLegal};
+ghost use Rattle.sai_chip.specs.Naming.{entries_of};
+ghost use Rattle.plan_laws.specs.Applied.{chip_things};
+ghost use Rattle.plan_laws.specs.Steady.{IsHitless, IsOldOrNew, StaysNew};
 ghost use Rattle.view_match.specs.Pairs.{pairs_of};
 ghost use Rattle.asic_view.specs.View.{ViewObjects, rid_at};
 ghost use Rattle.syncd_core.specs.Begun.{objects_in, tied_in};
-ghost use Rattle.syncd_core.specs.Run.{AreInTime};
-ghost use Rattle.order_laws.specs.Apply.{IsPlanned};
+ghost use Rattle.syncd_core.specs.Run.{AreInTime, tied_after, tied_calls};
+ghost use Rattle.syncd_core.specs.Tied.{tie_of};
+ghost use Rattle.order_laws.specs.Apply.{IsApply, IsPlanned, calls_by};
+ghost use Rattle.order_laws.specs.Viewed.{things_in};
+ghost use Rattle.sync_laws.specs.Begun.{IsBegun, calls_from, first_ties};
 
 /// Each call of a plan names what is tied by then, and makes what is not: where nothing of the new view was tied before.
 pub fn plans_are_in_time()
-    ensures { (capacities : List ℕ) (made : ℕ) (old : List (Object Rid)) (view : ViewObjects) (things : List (Vid × Thing)) (plan : Plan) → IsPlanned capacities made old (objects_in view) things plan → ((v : Vid) → rid_at view v ≡ None) → AreInTime made (tied_in plan.mode view old (objects_in view) (pairs_of old (objects_in view))) plan.calls }
+    ensures { (capacities : List ℕ) (made : ℕ) (old : List (Object Rid)) (view : ViewObjects) (things : List (Vid × Thing)) (plan : Plan) → IsBegun capacities made old view things plan → AreInTime made (first_ties old view plan) plan.calls }
+{}
+
+/// The calls that syncd makes of a plan, each by the ties of its moment, are those of an apply: what they make comes to the
+/// identifiers that it is tied to. Each is legal on the chip as those before it left it, and after the last the chip is
+/// alike to the new view.
+pub fn ties_apply()
+    ensures applies { (capacities : List ℕ) (made : ℕ) (old : List (Object Rid)) (view : ViewObjects) (things : List (Vid × Thing)) (plan : Plan) → IsBegun capacities made old view things plan → IsApply capacities made old (objects_in view) things plan (tie_of (tied_after made (first_ties old view plan) plan.calls)) }
+    ensures calls { (capacities : List ℕ) (made : ℕ) (old : List (Object Rid)) (view : ViewObjects) (things : List (Vid × Thing)) (plan : Plan) → IsBegun capacities made old view things plan → calls_from made old view plan ≡ calls_by (tie_of (tied_after made (first_ties old view plan) plan.calls)) plan }
+    ensures legal { (capacities : List ℕ) (made : ℕ) (old : List (Object Rid)) (view : ViewObjects) (things : List (Vid × Thing)) (plan : Plan) → IsBegun capacities made old view things plan → AreLegal capacities made (entries_of old) (calls_from made old view plan) }
+    ensures alike { (capacities : List ℕ) (made : ℕ) (old : List (Object Rid)) (view : ViewObjects) (things : List (Vid × Thing)) (plan : Plan) → IsBegun capacities made old view things plan → IsAlike (after_calls made (entries_of old) (calls_from made old view plan)) (λ t. IsIn t (things_in things)) }
+{}
+
+/// After each call that syncd makes of a hitless plan an address is decided as it was or as in the new view, once as in the
+/// new view always so, and what both forward equally is forwarded so.
+pub fn hitless_applies_are_steady()
+    ensures decided { (capacities : List ℕ) (made : ℕ) (old : List (Object Rid)) (view : ViewObjects) (things : List (Vid × Thing)) (plan : Plan) (front rest : List (Call Rid)) → IsBegun capacities made old view things plan → plan.mode ≡ mode.Hitless → calls_from made old view plan ≡ front ++ rest → IsOldOrNew (chip_things (entries_of old)) (things_in things) (chip_things (after_calls made (entries_of old) front)) }
+    ensures stays { (capacities : List ℕ) (made : ℕ) (old : List (Object Rid)) (view : ViewObjects) (things : List (Vid × Thing)) (plan : Plan) (front more rest : List (Call Rid)) → IsBegun capacities made old view things plan → plan.mode ≡ mode.Hitless → calls_from made old view plan ≡ front ++ (more ++ rest) → StaysNew (things_in things) (chip_things (after_calls made (entries_of old) front)) (chip_things (after_calls made (entries_of old) (front ++ more))) }
+    ensures forwarded { (capacities : List ℕ) (made : ℕ) (old : List (Object Rid)) (view : ViewObjects) (things : List (Vid × Thing)) (plan : Plan) (front rest : List (Call Rid)) → IsBegun capacities made old view things plan → plan.mode ≡ mode.Hitless → calls_from made old view plan ≡ front ++ rest → IsHitless (chip_things (entries_of old)) (things_in things) (chip_things (after_calls made (entries_of old) front)) }
 {}

@@ -1,7 +1,7 @@
-//! The calls of syncd's applies: each names what is tied by then, so each is legal on the chip, and in the end the chip is
-//! alike to the new view. Laws of definitions, with no code.
+//! The calls of syncd's applies: each names what is tied by then, so each is legal on the chip, in the end the chip is alike
+//! to the new view, and while the plan is hitless each address moves at most once. Laws of definitions, with no code.
 #![tactic(auto)]
 
 mod laws;
 
-pub use laws::plans_are_in_time;
+pub use laws::{hitless_applies_are_steady, plans_are_in_time, ties_apply};
