@@ -4,3 +4,5 @@ pub mod Numbered
 pub mod Started
 pub mod Ties
 pub mod Timed
+pub mod Standing
+pub mod Ended

@@ -1,5 +1,5 @@
 -- a view whose ties are the chip's identifiers of its things stands for the chip
-use Rattle.std.proofs.Common.{◌≡◌, ◌⊎◌, inl, inr, ℕ, Bool, true, false, cond, List, [], ◌∷◌, map, Option, None, Some, refl, sym, ap, ap₂, ◌∙◌, subst}
+use Rattle.std.proofs.Common.{◌≡◌, ◌⊎◌, inl, inr, ℕ, Bool, true, false, cond, List, [], ◌∷◌, map, Option, None, Some, option_map, refl, sym, ap, ap₂, ◌∙◌, subst}
 use Rattle.std.specs.List.{slice_get}
 use Rattle.std.proofs.lemmas.Bool.{false≢true}
 use Rattle.std.proofs.lemmas.Option.{same_Some, slice_get-map}
@@ -32,7 +32,7 @@ use Rattle.asic_view.specs.View.{ViewObjects, entry_at, object_of, shown_by}
 use Rattle.asic_view.proofs.Same.{same-objects}
 use Rattle.asic_view.proofs.Shown.{shown_body, shown_entry, sorted-shown}
 use Rattle.syncd_core.specs.Begun.{objects_in}
-use Rattle.order_laws.specs.Viewed.{IsViewOf, things_in}
+use Rattle.order_laws.specs.Viewed.{IsEntry, IsViewOf, things_in}
 use Rattle.order_laws.proofs.Partners.{in-place, place-in}
 use Rattle.order_laws.proofs.Placed.{in-new, new-in, object-at, thing-at}
 use Rattle.sync_laws.proofs.Started.{id_of, map_place}
@@ -100,10 +100,44 @@ module _ (f : Vid → Rid) where
         let same : o.0 ≡ y = same_Some o.0 y (sym o.1 ∙ there) in
         let mine = body-tied y.1 x.1.body (subst (λ (z : Vid × Thing). IsBody (Has (viewed things)) z.1 x.1.body) same o.2) in
         let bodies : shown_body f x ≡ b = body-one L S laid y.1 (body_renamed f x.1.body) b mine of in
-        let numbers = λ (number : has_number y.1 ≡ true).
         let e = subst (λ (z : Vid × Thing). IsEntry z.0 z.1 (entry_at x.0 x.1.body)) same o.3 in
-        let vid : x.0 ≡ y.0 = id_of x.0 y.0 x.1.body (e.some number) in
-        let has = tied y.0 y.1 (place-in things j y there) number in
-        let one = (laid.one has.0' i has.1' y.1 h h) in
-        one in
-        ?
+        record {
+          entry = entry-by x.0 x.1.body ∙ ap (entry_of (f x.0).0) bodies ∙ entry-same (Has L) (f x.0).0 i.0 y.1 b of (λ number. number_is x y i j there h number (id_of x.0 y.0 x.1.body (e.some number)));
+          body = bodies;
+        }
+      where
+        number_is : (x : Vid × ViewObject) (y : Vid × Thing) (i : Rid) (j : ℕ) → slice_get things j ≡ Some y → L i y.1 → has_number y.1 ≡ true → x.0 ≡ y.0 → (f x.0).0 ≡ i.0
+        number_is x y i j there h number vid =
+            let has = tied y.0 y.1 (place-in things j y there) number in
+            let one = laid.one (f y.0) i has.0 y.1 has.1 h has.2 in
+            ap (λ z. (f z).0) vid ∙ ap (λ (r : Rid). r.0) one.0
+
+    found-shown : (x : Vid × ViewObject) → IsIn x objects → body_at S (shown_entry f x) ≡ Some (shown_body f x)
+    found-shown x i =
+        let k = in-place objects x i in
+        let at : slice_get (objects_in objects) k.0 ≡ Some (object_of x) = slice_get-map object_of objects k.0 ∙ ap (option_map object_of) k.1 in
+        let y = object-at old chip view k.0 (object_of x) at in
+        let r = all y.0.1 (new-in old chip view k.0 y.0 y.1) in
+        let s = laid.stand r.0 y.0.1 r.1 in
+        let t = there-as x k.0 at y.0 y.1 r.0 r.1 s.0 s.1 in
+        ap (body_at S) t.entry ∙ s.2 ∙ ap Some (sym t.body)
+
+    shown-found : (q : Entry Rid) (b : Body Rid) → body_at S q ≡ Some b → body_at (shown_by f objects) q ≡ None → ⊥
+    shown-found q b found none =
+        let o = laid.tied q b found in
+        let n = in-new old chip view o.1 (only o.0 o.1 o.2) in
+        let v = thing-at old chip view n.0 n.1 n.2 in
+        let x = map_place object_of objects n.0 v.0 v.1 in
+        let t = there-as x.0 n.0 (v.1 ∙ ap Some (sym x.2)) n.1 n.2 o.0 (subst (L o.0) n.3 o.2) b (subst (λ z. IsBody (Has L) z b) n.3 o.3) in
+        let same : same_entry q (shown_entry f x.0) ≡ true = ap (same_entry q) (t.entry ∙ sym (entry-exact q (entry_of o.0.0 b) o.4)) ∙ same-refl q in
+        shown-some objects q x.0 x.1 same none
+
+    pub stands-for-chip : shown_by f objects ≡ S
+    stands-for-chip = same-objects (shown_by f objects) S (sorted-shown f objects) whole.sorted (λ q. by q (body_at (shown_by f objects) q) refl (body_at S q) refl)
+      where
+        by : (q : Entry Rid) (o : Option (Body Rid)) → body_at (shown_by f objects) q ≡ o → (p : Option (Body Rid)) → body_at S q ≡ p → body_at (shown_by f objects) q ≡ body_at S q
+        by q (Some b) e p h =
+            let x = shown-from objects q b e in
+            e ∙ ap Some x.body ∙ sym (ap (body_at S) (entry-exact q (shown_entry f x.object) x.entry) ∙ found-shown x.object x.among)
+        by q None e None h = e ∙ sym h
+        by q None e (Some b) h = absurd (shown-found q b h e)

@@ -32,7 +32,7 @@ use Rattle.sync_laws.proofs.Ties.{IsThere, there-kept, tied-apart, vid-self}
 
 -- ---- the objects of a view are there
 
-id_of : (v w : Vid) (b : Body Vid) → entry_at v b ≡ entry.Oid w → v ≡ w
+pub id_of : (v w : Vid) (b : Body Vid) → entry_at v b ≡ entry.Oid w → v ≡ w
 id_of v w (body.OwnAddress ip) e = absurd cc
 id_of v w (body.Neighbor r ip m) e = absurd cc
 id_of v w (body.Route p t) e = absurd cc
@@ -48,7 +48,7 @@ there-in (y ∷ ys) x (inr i) = by (is_at (vid_cmp x.0) y.0) (there-in ys x i)
     by true rest = (y.1, refl)
     by false rest = rest
 
-map_place : {X Y : Type 0} (f : X → Y) (xs : List X) (j : ℕ) (y : Y) → slice_get (map f xs) j ≡ Some y → (x : X) × IsIn x xs × (f x ≡ y)
+pub map_place : {X Y : Type 0} (f : X → Y) (xs : List X) (j : ℕ) (y : Y) → slice_get (map f xs) j ≡ Some y → (x : X) × IsIn x xs × (f x ≡ y)
 map_place f xs j y h = by (slice_get xs j) refl (sym (slice_get-map f xs j) ∙ h)
   where
     by : (o : Option _) → slice_get xs j ≡ o → option_map f o ≡ Some y → (x : _) × IsIn x xs × (f x ≡ y)
