@@ -1,6 +1,6 @@
 -- after the last call of an apply the view stands for the chip
-use Rattle.std.proofs.Common.{◌≡◌, ◌⊎◌, inl, inr, ℕ, ◌++◌, true, List, [], ◌∷◌, map, Option, None, Some, refl, sym, ap, ◌∙◌, subst}
-use Rattle.std.specs.BTreeMap.{is_at}
+use Rattle.std.proofs.Common.{◌≡◌, ◌⊎◌, inl, inr, ℕ, ◌+◌, ◌++◌, Bool, true, false, cond, List, [], ◌∷◌, map, Option, None, Some, refl, sym, ap, ◌∙◌, subst}
+use Rattle.std.specs.BTreeMap.{insert_entry, is_at}
 use Rattle.std.specs.List.{slice_get}
 use Rattle.std.specs.Map.{lookup}
 use Rattle.std.specs.Ordering.{nat_cmp}
@@ -17,26 +17,28 @@ use Rattle.sai_types.specs.declared.plan.Plan.{Plan}
 use Rattle.sai_types.specs.declared.plan.PlanCall.{PlanCall}
 use Rattle.sai_types.specs.declared.plan.PlanId.TheVariants as plan_id
 use Rattle.sai_types.specs.declared.thing.Thing.{Thing}
-use Rattle.sai_types.specs.After.{after_calls}
+use Rattle.sai_types.specs.After.{after_calls, makes_id}
 use Rattle.sai_types.specs.Alike.{IsIn}
 use Rattle.sai_types.specs.Made.{made_after_all}
 use Rattle.sai_types.specs.Names.{name_of}
-use Rattle.sai_types.specs.Objects.{Objects}
+use Rattle.sai_types.specs.Objects.{Objects, entry_cmp}
 use Rattle.sai_chip.specs.Naming.{entries_of}
 use Rattle.chip_layout.specs.Layout.{Has, Layout, has_number}
-use Rattle.chip_layout.specs.Renamed.{call_renamed}
+use Rattle.chip_layout.specs.Renamed.{body_renamed, call_renamed, entry_renamed}
 use Rattle.plan_laws.specs.Applied.{nothing}
 use Rattle.plan_laws.specs.Calls.{Resolves, plan_layout, resolve, viewed}
 use Rattle.plan_laws.specs.Old.{old_layout}
 use Rattle.plan_laws.proofs.Applied.{plan-comes, plan-safe}
 use Rattle.plan_laws.proofs.Calling.{plan-called}
 use Rattle.plan_laws.proofs.Cold.{half-room, halfway, makes-safe}
+use Rattle.plan_laws.proofs.Lists.{in-map}
 use Rattle.plan_laws.proofs.Running.{after-append, new-stand, stands-new}
 use Rattle.view_match.specs.Pairs.{pairs_of}
 use Rattle.apply_order.specs.Naming.{id_by, names_from, new_id}
-use Rattle.asic_view.specs.View.{ViewObjects, rid_at, shown_by}
+use Rattle.asic_view.specs.View.{ViewObjects, entry_at, rid_at, shown_by, vid_cmp, with_tie}
 use Rattle.syncd_core.specs.Begun.{objects_in, tied_entries, tied_in, tied_objects, tied_pairs}
-use Rattle.syncd_core.specs.Run.{AreInTime, tied_after}
+use Rattle.syncd_core.specs.Run.{AreInTime, made_by, tied_after, view_by}
+use Rattle.syncd_core.specs.Synced.{tied_by}
 use Rattle.syncd_core.specs.Tied.{rid_or_none, tie_of}
 use Rattle.syncd_core.proofs.Ties.{kept}
 use Rattle.order_laws.specs.Apply.{AreNumbered, IsPlanned, calls_by, plan_calls}
@@ -129,3 +131,114 @@ module _ (old : List (Object Rid)) (objects : ViewObjects) (v : Vid) (r : Rid) w
           | inr i ↦ rest (inr (x.0, i, x.2))
         ]
       ]
+
+-- ---- ties change no object
+
+module _ (f : Vid → Rid) where
+  shown-tie : (os : ViewObjects) (v : Vid) (r : Rid) → shown_by f (with_tie os v r) ≡ shown_by f os
+  shown-tie [] v r = refl
+  shown-tie (y ∷ ys) v r = by (is_at (vid_cmp v) y.0) (shown-tie ys v r)
+    where
+      by : (b : Bool) → shown_by f (with_tie ys v r) ≡ shown_by f ys → shown_by f (cond b (y.0, record { body = y.1.body; rid = Some r }) y ∷ with_tie ys v r) ≡ shown_by f (y ∷ ys)
+      by true rest = ap (λ os. insert_entry entry_cmp os (entry_renamed f (entry_at y.0 y.1.body)) (body_renamed f y.1.body)) rest
+      by false rest = ap (λ os. insert_entry entry_cmp os (entry_renamed f (entry_at y.0 y.1.body)) (body_renamed f y.1.body)) rest
+
+  shown-entries : (os : ViewObjects) (e : Entry Rid) (g : Entry Vid) → shown_by f (tied_entries os e g) ≡ shown_by f os
+  shown-entries os (entry.Oid r) (entry.Oid v) = shown-tie os v r
+  shown-entries os (entry.Oid r) (entry.Own ip) = refl
+  shown-entries os (entry.Oid r) (entry.Neigh w ip) = refl
+  shown-entries os (entry.Oid r) (entry.Route p) = refl
+  shown-entries os (entry.Own ip) g = refl
+  shown-entries os (entry.Neigh w ip) g = refl
+  shown-entries os (entry.Route p) g = refl
+
+  shown-objects : (os : ViewObjects) (o : Option (Object Rid)) (n : Option (Object Vid)) → shown_by f (tied_objects os o n) ≡ shown_by f os
+  shown-objects os (Some a) (Some b) = shown-entries os a.entry b.entry
+  shown-objects os (Some a) None = refl
+  shown-objects os None n = refl
+
+  shown-pairs : (old : List (Object Rid)) (new : List (Object Vid)) (ps : List (ℕ × ℕ)) (os : ViewObjects) → shown_by f (tied_pairs os old new ps) ≡ shown_by f os
+  shown-pairs old new [] os = refl
+  shown-pairs old new (p ∷ ps) os = shown-pairs old new ps (tied_objects os (slice_get old p.0) (slice_get new p.1)) ∙ shown-objects os (slice_get old p.0) (slice_get new p.1)
+
+  shown-in : (m : Mode) (old : List (Object Rid)) (new : List (Object Vid)) (ps : List (ℕ × ℕ)) (os : ViewObjects) → shown_by f (tied_in m os old new ps) ≡ shown_by f os
+  shown-in mode.Hitless old new ps os = shown-pairs old new ps os
+  shown-in mode.Cold old new ps os = refl
+
+  shown-call : (made : ℕ) (os : ViewObjects) (c : PlanCall) → shown_by f (view_by made os c) ≡ shown_by f os
+  shown-call made os c = by (makes_id c.call) c.makes
+    where
+      by : (b : Bool) (o : Option Vid) → shown_by f (cond b (tied_by os o (record { 0 = made + 1 })) os) ≡ shown_by f os
+      by true (Some v) = shown-tie os v (record { 0 = made + 1 })
+      by true None = refl
+      by false o = refl
+
+  shown-after : (made : ℕ) (os : ViewObjects) (cs : List PlanCall) → shown_by f (tied_after made os cs) ≡ shown_by f os
+  shown-after made os [] = refl
+  shown-after made os (c ∷ cs) = shown-after (made_by made c) (view_by made os c) cs ∙ shown-call made os c
+
+-- ---- the end
+
+module _ {capacities : List ℕ} {made : ℕ} {old : List (Object Rid)} (objects : ViewObjects) {things : List (Vid × Thing)} {plan : Plan} (x : IsPlanned capacities made old (objects_in objects) things plan) (free : (v : Vid) → rid_at objects v ≡ None) where
+  abbrev f : Vid → Rid
+  f = tie_of (last_ties objects x free)
+
+  numbered : AreNumbered (tie_of (last_ties objects x free)) made plan.calls
+  numbered = (apply-by_ties objects x free).numbered
+
+  in_view : (v : Vid) (u : Thing) → IsIn (v, u) things → IsIn u (things_in things)
+  in_view v u i = in-map (λ (z : Vid × Thing). z.1) things (v, u) i
+
+  -- a paired object is tied to its partner to the end
+  partner_tied : plan.mode ≡ mode.Hitless → (v : Vid) (u : Thing) (r : Rid) → IsIn (v, u) things → has_number u ≡ true → IsNamed old (objects_in objects) (pairs_of old (objects_in objects)) v r → tie_of (last_ties objects x free) v ≡ r
+  partner_tied e v u r i number y =
+      let pairs = pairs_of old (objects_in objects) in
+      let first = pairs-tied old objects v r pairs objects (there-first old objects x.chip x.view v u i number) (λ p s k b. one-named old x.chip x.view v u s r (record { one = b.0; other = b.1; i = p.0; j = p.1; among = k; one_at = b.2; other_at = b.3; one_is = b.4; other_is = b.5 }) y i number) (inr ((y.i, y.j), y.among, (y.one, y.other, y.one_at, y.other_at, y.one_is, y.other_is))) in
+      let begun = subst (λ m. rid_at (tied_in m objects old (objects_in objects) pairs) v ≡ Some r) (sym e) first in
+      ap rid_or_none (kept made (tied_in plan.mode objects old (objects_in objects) pairs) plan.calls v r (plan-in_time objects x free) begun)
+
+  hitless_tied : plan.mode ≡ mode.Hitless → (L : Layout Rid) → Resolves (old_layout (entries_of old) (things_in things)) (viewed things) (tie_of (last_ties objects x free)) L → ((t : Thing) → IsIn t (things_in things) → (j : Rid) × L j t) → (v : Vid) (u : Thing) → IsIn (v, u) things → has_number u ≡ true → Has L (name_of u) (tie_of (last_ties objects x free) v)
+  hitless_tied e L res all v u i number = by (lookup (is_at (nat_cmp v.0)) (names_from [] old (objects_in objects) (pairs_of old (objects_in objects)))) refl
+    where
+      by : (o : Option Rid) → lookup (is_at (nat_cmp v.0)) (names_from [] old (objects_in objects) (pairs_of old (objects_in objects))) ≡ o → Has L (name_of u) (tie_of (last_ties objects x free) v)
+      by (Some r) h =
+          let y = names-from old (objects_in objects) (pairs_of old (objects_in objects)) v r h in
+          let has = named-has old x.chip x.view v u r y i number in
+          let j = all u (in_view v u i) in
+          subst (Has L (name_of u)) (sym (partner_tied e v u r i number y)) (res.old (name_of u) r has j.0 (u, j.1, refl))
+      by None h =
+          let named = hitless-named old x.chip x.view x.lanes v u i number in
+          let fact : plan_layout (old_layout (entries_of old) (things_in things)) (viewed things) (plan_id.New v) u = subst (λ o. plan_layout (old_layout (entries_of old) (things_in things)) (viewed things) (id_by o v) u) h named in
+          let j = all u (in_view v u i) in
+          res.new v u i number fact.1 j.0 (u, j.1, refl)
+
+  hitless_end : plan.mode ≡ mode.Hitless → shown_by (tie_of (last_ties objects x free)) objects ≡ after_calls made (entries_of old) (calls_by (tie_of (last_ties objects x free)) plan)
+  hitless_end e =
+      let planned = is-hitless x e in
+      let ids = tie_of (last_ties objects x free) in
+      let c = plan-comes planned (hitless_changes x e) [] (sym (append-nil (hitless_changes x e))) things ids (plan_calls plan) (hitless-calls x e ids numbered) in
+      let all = new-stand (plan-safe planned) c.end.at in
+      stands-for-chip ids old objects x.chip x.view c.end.layout (after_calls made (entries_of old) (calls_by ids plan)) c.end.at.laid c.end.at.whole (stands-new (plan-safe planned) c.end.at) all (hitless_tied e c.end.layout c.resolves all)
+
+  cold_end : plan.mode ≡ mode.Cold → shown_by (tie_of (last_ties objects x free)) objects ≡ after_calls made (entries_of old) (calls_by (tie_of (last_ties objects x free)) plan)
+  cold_end e =
+      let ids = tie_of (last_ties objects x free) in
+      let planned = is-cold x e in
+      let front = map (call_renamed (resolve ids)) (map (λ (c : PlanCall). c.call) (cold_front x e)) in
+      let back = map (call_renamed (resolve ids)) (map (λ (c : PlanCall). c.call) (cold_back x e)) in
+      let a = applies-cold x e ids numbered in
+      let c = plan-called nothing (viewed things) ids (makes-safe planned) (halfway planned front a.removing) capacities (half-room planned front a.removing) (cold_makes x e) [] (sym (append-nil (cold_makes x e))) (map (λ (c : PlanCall). c.call) (cold_back x e)) (cold-making x e ids numbered) in
+      let all = new-stand (makes-safe planned) c.end.at in
+      stands-for-chip ids old objects x.chip x.view c.end.layout (after_calls (made_after_all made front) (after_calls made (entries_of old) front) back) c.end.at.laid c.end.at.whole (stands-new (makes-safe planned) c.end.at) all (λ v u i number. let j = all u (in_view v u i) in c.resolves.new v u i number (λ r h. h.1) j.0 (u, j.1, refl))
+      ∙ sym (after-append made (entries_of old) front back)
+      ∙ ap (after_calls made (entries_of old)) (sym (cold-all x e ids numbered))
+
+  pub view-stands : shown_by (tie_of (last_ties objects x free)) (last_ties objects x free) ≡ after_calls made (entries_of old) (calls_by (tie_of (last_ties objects x free)) plan)
+  view-stands =
+      let ids = tie_of (last_ties objects x free) in
+      let pairs = pairs_of old (objects_in objects) in
+      shown-after ids made (tied_in plan.mode objects old (objects_in objects) pairs) plan.calls ∙ shown-in ids plan.mode old (objects_in objects) pairs objects ∙ by plan.mode refl
+    where
+      by : (m : Mode) → plan.mode ≡ m → shown_by (tie_of (last_ties objects x free)) objects ≡ after_calls made (entries_of old) (calls_by (tie_of (last_ties objects x free)) plan)
+      by mode.Hitless e = hitless_end e
+      by mode.Cold e = cold_end e

@@ -14,7 +14,7 @@ ghost use Rattle.sai_chip.specs.Naming.{entries_of};
 ghost use Rattle.plan_laws.specs.Applied.{chip_things};
 ghost use Rattle.plan_laws.specs.Steady.{IsHitless, IsOldOrNew, StaysNew};
 ghost use Rattle.view_match.specs.Pairs.{pairs_of};
-ghost use Rattle.asic_view.specs.View.{ViewObjects, rid_at};
+ghost use Rattle.asic_view.specs.View.{ViewObjects, shown_by};
 ghost use Rattle.syncd_core.specs.Begun.{objects_in, tied_in};
 ghost use Rattle.syncd_core.specs.Run.{AreInTime, tied_after, tied_calls};
 ghost use Rattle.syncd_core.specs.Tied.{tie_of};
@@ -43,4 +43,10 @@ pub fn hitless_applies_are_steady()
     ensures decided { (capacities : List ℕ) (made : ℕ) (old : List (Object Rid)) (view : ViewObjects) (things : List (Vid × Thing)) (plan : Plan) (front rest : List (Call Rid)) → IsBegun capacities made old view things plan → plan.mode ≡ mode.Hitless → calls_from made old view plan ≡ front ++ rest → IsOldOrNew (chip_things (entries_of old)) (things_in things) (chip_things (after_calls made (entries_of old) front)) }
     ensures stays { (capacities : List ℕ) (made : ℕ) (old : List (Object Rid)) (view : ViewObjects) (things : List (Vid × Thing)) (plan : Plan) (front more rest : List (Call Rid)) → IsBegun capacities made old view things plan → plan.mode ≡ mode.Hitless → calls_from made old view plan ≡ front ++ (more ++ rest) → StaysNew (things_in things) (chip_things (after_calls made (entries_of old) front)) (chip_things (after_calls made (entries_of old) (front ++ more))) }
     ensures forwarded { (capacities : List ℕ) (made : ℕ) (old : List (Object Rid)) (view : ViewObjects) (things : List (Vid × Thing)) (plan : Plan) (front rest : List (Call Rid)) → IsBegun capacities made old view things plan → plan.mode ≡ mode.Hitless → calls_from made old view plan ≡ front ++ rest → IsHitless (chip_things (entries_of old)) (things_in things) (chip_things (after_calls made (entries_of old) front)) }
+{}
+
+/// After the last call of an apply the view, by its ties, is the chip: each object of the view is tied to the object of the
+/// chip that stands for the same thing, and the chip has no other.
+pub fn ties_stand_for_the_chip()
+    ensures { (capacities : List ℕ) (made : ℕ) (old : List (Object Rid)) (view : ViewObjects) (things : List (Vid × Thing)) (plan : Plan) → IsBegun capacities made old view things plan → shown_by (tie_of (tied_after made (first_ties old view plan) plan.calls)) (tied_after made (first_ties old view plan) plan.calls) ≡ after_calls made (entries_of old) (calls_from made old view plan) }
 {}
