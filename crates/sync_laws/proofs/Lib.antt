@@ -6,3 +6,5 @@ pub mod Ties
 pub mod Timed
 pub mod Standing
 pub mod Ended
+pub mod Made
+pub mod Ready

@@ -1,5 +1,5 @@
 // What holds of the applies of syncd. Each function is a law: it does nothing, and its contract is proved.
-ghost use Rattle.std.specs.Prelude.{◌≡◌, ℕ, ◌++◌, List, None};
+ghost use Rattle.std.specs.Prelude.{◌≡◌, ◌↔◌, ℕ, ◌++◌, List};
 ghost use Rattle.sai_types.specs.declared.ids.Rid.{Rid};
 ghost use Rattle.sai_types.specs.declared.ids.Vid.{Vid};
 ghost use Rattle.sai_types.specs.declared.body.Call.{Call};
@@ -13,14 +13,21 @@ ghost use Rattle.sai_types.specs.Made.{AreLegal};
 ghost use Rattle.sai_chip.specs.Naming.{entries_of};
 ghost use Rattle.plan_laws.specs.Applied.{chip_things};
 ghost use Rattle.plan_laws.specs.Steady.{IsHitless, IsOldOrNew, StaysNew};
-ghost use Rattle.view_match.specs.Pairs.{pairs_of};
-ghost use Rattle.asic_view.specs.View.{ViewObjects, shown_by};
-ghost use Rattle.syncd_core.specs.Begun.{objects_in, tied_in};
-ghost use Rattle.syncd_core.specs.Run.{AreInTime, tied_after, tied_calls};
+ghost use Rattle.asic_view.specs.View.{ViewObjects, as_chip, shown_by};
+ghost use Rattle.syncd_core.specs.Begun.{Begins, objects_in};
+ghost use Rattle.syncd_core.specs.Synced.{SyncState};
+ghost use Rattle.sai_types.specs.declared.plan.Mode.{Mode};
+ghost use Rattle.syncd_core.specs.Run.{AreInTime, tied_after};
 ghost use Rattle.syncd_core.specs.Tied.{tie_of};
-ghost use Rattle.order_laws.specs.Apply.{IsApply, IsPlanned, calls_by};
+ghost use Rattle.order_laws.specs.Apply.{IsApply, calls_by};
 ghost use Rattle.order_laws.specs.Viewed.{things_in};
-ghost use Rattle.sync_laws.specs.Begun.{IsBegun, calls_from, first_ties};
+ghost use Rattle.sync_laws.specs.Begun.{IsBegun, IsReady, calls_from, first_ties};
+
+/// Where syncd begins an apply, from the list of a chip that legal calls left and to a view that legal calls made, the plan
+/// that it begins with and its ties are of an apply to things that lay out the view: those that a chip with its objects shows.
+pub fn begun_applies_are_ready()
+    ensures { (made calls : ℕ) (s later : SyncState) (m : Mode) (begun : Begins s m later) → IsReady s.capacities made begun.old calls begun.new → (things : List (Vid × Thing)) × IsBegun s.capacities made begun.old begun.new things begun.plan × ((t : Thing) → IsIn t (things_in things) ↔ IsIn t (chip_things (as_chip begun.new))) × (later.view ≡ first_ties begun.old begun.new begun.plan) × (later.left ≡ begun.plan.calls) }
+{}
 
 /// Each call of a plan names what is tied by then, and makes what is not: where nothing of the new view was tied before.
 pub fn plans_are_in_time()
