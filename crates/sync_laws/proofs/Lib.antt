@@ -8,3 +8,4 @@ pub mod Standing
 pub mod Ended
 pub mod Made
 pub mod Ready
+pub mod Next

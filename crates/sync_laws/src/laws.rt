@@ -1,11 +1,14 @@
 // What holds of the applies of syncd. Each function is a law: it does nothing, and its contract is proved.
-ghost use Rattle.std.specs.Prelude.{◌≡◌, ◌↔◌, ℕ, ◌++◌, List};
+ghost use Rattle.std.specs.Prelude.{◌≡◌, ◌↔◌, ℕ, ◌++◌, List, ◌∷◌};
 ghost use Rattle.sai_types.specs.declared.ids.Rid.{Rid};
 ghost use Rattle.sai_types.specs.declared.ids.Vid.{Vid};
 ghost use Rattle.sai_types.specs.declared.body.Call.{Call};
 ghost use Rattle.sai_types.specs.declared.body.Object.{Object};
 ghost use Rattle.sai_types.specs.declared.plan.Mode.TheVariants as mode;
 ghost use Rattle.sai_types.specs.declared.plan.Plan.{Plan};
+ghost use Rattle.sai_types.specs.declared.plan.PlanCall.{PlanCall};
+ghost use Rattle.sai_types.specs.Refusal.{IsLegal};
+ghost use Rattle.chip_layout.specs.Renamed.{call_renamed};
 ghost use Rattle.sai_types.specs.declared.thing.Thing.{Thing};
 ghost use Rattle.sai_types.specs.After.{after_calls};
 ghost use Rattle.sai_types.specs.Alike.{IsAlike, IsIn};
@@ -17,8 +20,8 @@ ghost use Rattle.asic_view.specs.View.{ViewObjects, as_chip, shown_by};
 ghost use Rattle.syncd_core.specs.Begun.{Begins, objects_in};
 ghost use Rattle.syncd_core.specs.Synced.{SyncState};
 ghost use Rattle.sai_types.specs.declared.plan.Mode.{Mode};
-ghost use Rattle.syncd_core.specs.Run.{AreInTime, tied_after};
-ghost use Rattle.syncd_core.specs.Tied.{tie_of};
+ghost use Rattle.syncd_core.specs.Run.{AreInTime, tied_after, tied_calls};
+ghost use Rattle.syncd_core.specs.Tied.{plan_tie, tie_of};
 ghost use Rattle.order_laws.specs.Apply.{IsApply, calls_by};
 ghost use Rattle.order_laws.specs.Viewed.{things_in};
 ghost use Rattle.sync_laws.specs.Begun.{IsBegun, IsReady, calls_from, first_ties};
@@ -56,4 +59,9 @@ pub fn hitless_applies_are_steady()
 /// chip that stands for the same thing, and the chip has no other.
 pub fn ties_stand_for_the_chip()
     ensures { (capacities : List ℕ) (made : ℕ) (old : List (Object Rid)) (view : ViewObjects) (things : List (Vid × Thing)) (plan : Plan) → IsBegun capacities made old view things plan → shown_by (tie_of (tied_after made (first_ties old view plan) plan.calls)) (tied_after made (first_ties old view plan) plan.calls) ≡ after_calls made (entries_of old) (calls_from made old view plan) }
+{}
+
+/// The next call of a plan, by the ties of its moment, is legal on the chip as the calls before it left it.
+pub fn next_calls_are_legal()
+    ensures { (capacities : List ℕ) (made : ℕ) (old : List (Object Rid)) (view : ViewObjects) (things : List (Vid × Thing)) (plan : Plan) (front rest : List PlanCall) (next : PlanCall) → IsBegun capacities made old view things plan → plan.calls ≡ front ++ (next ∷ rest) → IsLegal capacities (after_calls made (entries_of old) (tied_calls made (first_ties old view plan) front)) (call_renamed (plan_tie (tied_after made (first_ties old view plan) front)) next.call) }
 {}
