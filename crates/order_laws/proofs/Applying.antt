@@ -79,7 +79,7 @@ module _ {capacities : List ℕ} {made : ℕ} {old : List (Object Rid)} {new : L
   pub due-in : (m : Mode) → plan.mode ≡ m → IsPermutation (due_steps m old new (pairs_of old new)) steps
   due-in m e = subst (λ m. IsPermutation (due_steps m old new (pairs_of old new)) steps) e x.planned.due
 
-  calls-in : (m : Mode) → plan.mode ≡ m → plan.calls ≡ steps_calls (names_in m old new (pairs_of old new)) old new steps
+  pub calls-in : (m : Mode) → plan.mode ≡ m → plan.calls ≡ steps_calls (names_in m old new (pairs_of old new)) old new steps
   calls-in m e = x.planned.calls ∙ ap (λ m. steps_calls (names_in m old new (pairs_of old new)) old new steps) e
 
   -- ---- ports
@@ -174,7 +174,7 @@ module _ {capacities : List ℕ} {made : ℕ} {old : List (Object Rid)} {new : L
       room = makes_fit;
     }
 
-    calls_are : plan.calls ≡ cold_front ++ cold_back
+    pub calls_are : plan.calls ≡ cold_front ++ cold_back
     calls_are = calls-in mode.Cold e ∙ ap (steps_calls [] old new) cut.all ∙ steps_append [] old new cut.front cut.back
 
     pub cold-split : plan_calls plan ≡ these cold_front ++ these cold_back

@@ -89,7 +89,7 @@ cut {X} P Q n apart (x ∷ xs) each rising =
     ]
 
 -- items of places of their own have names of their own, where one name is of one place
-renamed_apart : {X K L : Type 0} (f : X → K) (g : X → L) (xs : List X) → ((x y : X) → IsIn x xs → IsIn y xs → g x ≡ g y → f x ≡ f y) → AreDistinct (map f xs) → AreDistinct (map g xs)
+pub renamed_apart : {X K L : Type 0} (f : X → K) (g : X → L) (xs : List X) → ((x y : X) → IsIn x xs → IsIn y xs → g x ≡ g y → f x ≡ f y) → AreDistinct (map f xs) → AreDistinct (map g xs)
 renamed_apart f g [] one d = tt
 renamed_apart f g (x ∷ xs) one d = (
   λ i. let y = map-in g xs (g x) i in d.0 (subst (λ k. IsIn k (map f xs)) (sym (one x y.0 (inl refl) (inr y.1) y.2)) (in-map f xs y.0 y.1)),

@@ -78,7 +78,7 @@ module _ {made : ℕ} (old : List (Object Rid)) {new : List (Object Vid)} {thing
       let id = id-of x.i x.one r x.one_at x.one_is p.entry p.body p.was (numbered p.was.thing u names number) in
       (p.was.thing, subst (λ z. start z p.was.thing) id p.was.stands, names)
 
-  one-named : (v : Vid) (u : Thing) (r s : Rid) → IsNamed old new pairs v r → IsNamed old new pairs v s → IsIn (v, u) things → has_number u ≡ true → r ≡ s
+  pub one-named : (v : Vid) (u : Thing) (r s : Rid) → IsNamed old new pairs v r → IsNamed old new pairs v s → IsIn (v, u) things → has_number u ≡ true → r ≡ s
   one-named v u r s x y there number =
       let a = named-has v u r x there number in
       let b = named-has v u s y there number in

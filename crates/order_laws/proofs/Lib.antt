@@ -15,3 +15,7 @@ pub mod Roomy
 pub mod Sets
 pub mod Shuffled
 pub mod Valued
+pub mod Standing
+pub mod Raw
+pub mod Laying
+pub mod Viewing

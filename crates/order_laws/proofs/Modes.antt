@@ -1,5 +1,5 @@
 -- a plan is hitless exactly where of each kind the old objects and the names that the chip lacks number at most the capacity
-use Rattle.std.proofs.Common.{◌≡◌, ◌↔◌, inl, inr, ℕ, ◌+◌, ◌≤◌, ◌==◌, Bool, true, cond, List, length, map, Option, None, Some, refl, sym, ap, ◌∙◌, subst, arith}
+use Rattle.std.proofs.Common.{◌≡◌, inl, inr, ℕ, cond, List, map, None, Some, ap, ◌∙◌, arith}
 use Rattle.std.proofs.lemmas.Bool.{eq-eqb}
 use Rattle.std.proofs.lemmas.List.Sorted.{IsPermutation-refl}
 use Rattle.sai_types.specs.declared.ids.Rid.{Rid}
@@ -15,7 +15,7 @@ use Rattle.sai_chip.specs.Naming.{entries_of}
 use Rattle.chip_layout.proofs.Counting.{no-longer}
 use Rattle.plan_laws.specs.Applied.{IsListedChip, chip_things}
 use Rattle.plan_laws.specs.Old.{old_things, tag_of}
-use Rattle.plan_laws.specs.Plans.{IsViewPlan, PlanChange, Make, Set}
+use Rattle.plan_laws.specs.Plans.{IsViewPlan, PlanChange, Make}
 use Rattle.plan_laws.specs.Views.{AreLacking, FitsHitless, made_name, made_names}
 use Rattle.plan_laws.proofs.Doubles.{lacking-shown, shown-lacking}
 use Rattle.plan_laws.proofs.Picked.{picked-in}

@@ -44,6 +44,7 @@ use Rattle.view_match.specs.Pairs.{best_from, pairs_of, partner_of}
 use Rattle.view_match.proofs.Best.{found-none}
 use Rattle.view_match.proofs.Paired.{IsFirst, length-keys, paired-pairs, pairs-paired, partner-first}
 use Rattle.order_laws.specs.Viewed.{AreObjects, HaveOneLanes, IsEntry, IsViewOf, things_in}
+use Rattle.order_laws.proofs.Standing.{stood}
 use Rattle.order_laws.proofs.Partners.{among, at_key, in-place, key_at, key-name, paired-name, place-in}
 
 -- ---- new objects
@@ -167,12 +168,8 @@ module _ {made : ℕ} (old : List (Object Rid)) {new : List (Object Vid)} {thing
   pub old-at : (i : ℕ) (e : Entry Rid) (b : Body Rid) → slice_get O i ≡ Some (e, b) → IsOldAt i e b
   old-at i e b at =
       let found = found-in O e b chip.whole.sorted (place-in O i (e, b) at) in
-      let o = (old-laid chip N).tied e b found in
-      let s = o.2 in
-      let bodies : s.body ≡ b = body-one start O (old-laid chip N) o.1 s.body b (body-seen tag made O chip.whole s.entry s.body o.1 s.found s.thing) o.3 in
-      let here : e ≡ entry_of o.0.0 b = entry-exact e (entry_of o.0.0 b) o.4 in
-      let entries : s.entry ≡ e = entry-exact s.entry (entry_of o.0.0 s.body) s.at ∙ ap (entry_of o.0.0) bodies ∙ sym here in
-      record { at = at; found = found; id = o.0; thing = o.1; stands = s; of = o.3; is = ap₂ (λ x y. thing_by (tagged tag) O (x, y)) (sym entries) (sym bodies) ∙ s.thing; entry = here }
+      let s = stood chip N e b found in
+      record { at = at; found = found; id = s.id; thing = s.thing; stands = s.stands; of = s.of; is = s.is; entry = s.entry }
 
   -- two places of things of one name are one
   pub old-one : (i j : ℕ) (e f : Entry Rid) (b c : Body Rid) → (x : IsOldAt i e b) → (y : IsOldAt j f c) → name_of x.thing ≡ name_of y.thing → i ≡ j

@@ -1,5 +1,6 @@
 -- A new view that a plan leads to: its objects, laid out by things with their identifiers. Own.
-use Rattle.std.specs.Prelude.{◌≡◌, true, false, List, [], ◌∷◌, map, Some}
+use Rattle.std.specs.Prelude.{◌≡◌, ℕ, true, false, List, [], ◌∷◌, map, Some}
+use Rattle.std.specs.List.Sorted.{IsPermutation}
 use Rattle.sai_types.specs.declared.ids.Vid.{Vid}
 use Rattle.sai_types.specs.declared.body.Entry.{Entry}
 use Rattle.sai_types.specs.declared.body.Entry.TheVariants as entry
@@ -8,15 +9,18 @@ use Rattle.sai_types.specs.declared.thing.PortThing.{PortThing}
 use Rattle.sai_types.specs.declared.thing.Thing.{Thing}
 use Rattle.sai_types.specs.declared.thing.Thing.TheVariants as thing
 use Rattle.sai_types.specs.Alike.{IsIn}
+use Rattle.sai_types.specs.Named.{those}
 use Rattle.sai_types.specs.Names.{Meet, name_of}
 use Rattle.sai_types.specs.Objects.{Objects}
+use Rattle.sai_chip.specs.Naming.{entries_of}
 use Rattle.chip_layout.specs.Bodies.{IsBody}
 use Rattle.chip_layout.specs.Counted.{AreDistinct}
 use Rattle.chip_layout.specs.Layout.{Has, Layout, has_number}
-use Rattle.plan_laws.specs.Applied.{IsView, chip_things}
+use Rattle.plan_laws.specs.Applied.{IsListedChip, IsView, chip_things}
 use Rattle.plan_laws.specs.Calls.{viewed}
 use Rattle.plan_laws.specs.Views.{LanesApart}
 use Rattle.view_match.specs.Keys.{key_of}
+use Rattle.view_match.specs.Listed.{objects_as}
 use Rattle.view_match.specs.Pairs.{new_keys}
 
 -- the things of a view
@@ -46,3 +50,9 @@ pub record IsViewOf (things : List (Vid × Thing)) (new : List (Object Vid)) : T
 -- an old port and a new one that can't stand together have the same lanes
 pub record HaveOneLanes (objects : Objects) (new : List Thing) : Type 0 where
   pub same : (p q : PortThing) → IsIn (thing.Port p) new → IsIn (thing.Port q) (chip_things objects) → Meet (thing.Port p) (thing.Port q) → p.lanes ≡ q.lanes
+
+-- the objects of a new view are, in some order, those of a chip that legal calls made, by identifiers of the same numbers; no two have one natural key
+pub record IsMadeView (made : ℕ) (objects : Objects) (new : List (Object Vid)) : Type 0 where
+  pub chip : IsListedChip made objects
+  pub same : IsPermutation (entries_of (objects_as new)) objects
+  pub distinct : AreDistinct (those (new_keys new))

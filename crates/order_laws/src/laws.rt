@@ -21,7 +21,14 @@ ghost use Rattle.plan_laws.specs.Plans.{PlanChange};
 ghost use Rattle.plan_laws.specs.Steady.{IsForwarding, IsHitless, IsOldOrNew, StaysNew};
 ghost use Rattle.plan_laws.specs.Views.{FitsHitless};
 ghost use Rattle.order_laws.specs.Apply.{IsApply, IsPlanned, calls_by, plan_calls};
-ghost use Rattle.order_laws.specs.Viewed.{things_in};
+ghost use Rattle.sai_types.specs.Objects.{Objects};
+ghost use Rattle.order_laws.specs.Viewed.{IsMadeView, IsViewOf, things_in};
+
+/// The objects of a new view that legal calls made, no two with one natural key, are laid out by things, and those are the
+/// things that a chip with these objects would show.
+pub fn views_are_laid_out()
+    ensures { (made : ℕ) (objects : Objects) (new : List (Object Vid)) → IsMadeView made objects new → (things : List (Vid × Thing)) × IsViewOf things new × ((t : Thing) → IsIn t (things_in things) ↔ IsIn t (chip_things objects)) }
+{}
 
 /// The calls of a plan are those of changes that lead from what stands to the new view: of a hitless plan in its order,
 /// and of a cold one first those that remove all and then those that make all.

@@ -42,7 +42,7 @@ use Rattle.plan_laws.proofs.Starting.{group-seen, group-there, hops-same, hops-t
 use Rattle.plan_laws.proofs.Tagging.{all-groups, hops-of_tag}
 use Rattle.plan_laws.proofs.Targets.{is-group, is-member}
 
-is_grouped : (o : Entry Rid × Body Rid) (g : Rid) → Some g ≡ chip_group o → (o.0 ≡ entry.Oid g) × (o.1 ≡ body.Group)
+pub is_grouped : (o : Entry Rid × Body Rid) (g : Rid) → Some g ≡ chip_group o → (o.0 ≡ entry.Oid g) × (o.1 ≡ body.Group)
 is_grouped (entry.Oid h, body.Group) g e = let same : g ≡ h = cc in (ap entry.Oid (sym same), refl)
 is_grouped (entry.Own ip, body.Group) g e = absurd cc
 is_grouped (entry.Neigh r ip, body.Group) g e = absurd cc

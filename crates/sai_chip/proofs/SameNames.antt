@@ -68,7 +68,7 @@ module _ (xs ys : Objects) (found : AreBodies ys xs) where
   with_member-same g (body.GroupMember group next_hop) others = ap (λ h. if same_id group g then both (insert_key hop_cmp) others h else others) (next_hop_at-same next_hop)
   with_member-same g _ others = refl
 
-  hops_among-same : (g : Rid) (members : Objects) → hops_among xs g members ≡ hops_among ys g members
+  pub hops_among-same : (g : Rid) (members : Objects) → hops_among xs g members ≡ hops_among ys g members
   hops_among-same g [] = refl
   hops_among-same g (o ∷ os) = with_member-same g o.1 (hops_among xs g os) ∙ ap (with_member ys g o.1) (hops_among-same g os)
 

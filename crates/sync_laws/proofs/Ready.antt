@@ -1,0 +1,35 @@
+-- an apply that syncd begins is one of those that are proved
+use Rattle.std.proofs.Common.{◌≡◌, ◌↔◌, inl, inr, ℕ, List, refl, sym, ap, ◌∙◌, subst}
+use Rattle.sai_types.specs.declared.ids.Rid.{Rid}
+use Rattle.sai_types.specs.declared.ids.Vid.{Vid}
+use Rattle.sai_types.specs.declared.body.Object.{Object}
+use Rattle.sai_types.specs.declared.plan.Plan.{Plan}
+use Rattle.sai_types.specs.declared.thing.Thing.{Thing}
+use Rattle.sai_types.specs.Alike.{IsIn}
+use Rattle.plan_laws.specs.Applied.{chip_things}
+use Rattle.view_match.specs.Pairs.{pairs_of}
+use Rattle.apply_order.specs.Planned.{IsPlanOf}
+use Rattle.asic_view.specs.View.{ViewObjects, as_chip}
+use Rattle.syncd_core.specs.Begun.{objects_in}
+use Rattle.order_laws.specs.Viewed.{HaveOneLanes, IsMadeView, things_in}
+use Rattle.order_laws.proofs.Viewing.{laid_things, shown-of, view-of}
+use Rattle.sync_laws.specs.Begun.{IsBegun, IsReady, IsReadyView}
+use Rattle.sync_laws.proofs.Made.{as-listed}
+
+pub made-view : {calls : ℕ} {view : ViewObjects} → IsReadyView calls view → IsMadeView calls (as_chip view) (objects_in view)
+made-view {view = view} r = record { chip = r.chip; same = as-listed view r.apart; distinct = r.distinct }
+
+pub ready-begun : {capacities : List ℕ} {made calls : ℕ} {old : List (Object Rid)} {view : ViewObjects} → (r : IsReady capacities made old calls view) → (plan : Plan) → IsPlanOf old (objects_in view) (pairs_of old (objects_in view)) capacities plan → IsBegun capacities made old view (laid_things (made-view r.ready)) plan
+ready-begun r plan planned =
+    let m = made-view r.ready in
+    record {
+      planned = record {
+        chip = r.chip;
+        view = view-of m;
+        lanes = record { same = λ p q i j meet. r.lanes.same p q ((shown-of m _).0 i) j meet };
+        planned = planned;
+        held = r.held;
+        fits = r.fits;
+      };
+      free = r.ready.free;
+    }
