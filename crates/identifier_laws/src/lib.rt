@@ -1,0 +1,6 @@
+//! The registry's identifiers are those of the objects that stand, so what is told with them is what is due: laws of definitions, with no code.
+#![tactic(auto)]
+
+mod laws;
+
+pub use laws::{calls_are_due, nothing_is_identified};
