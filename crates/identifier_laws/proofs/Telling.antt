@@ -35,7 +35,7 @@ abbrev FirstIs : Thing → Name → Type 0
 FirstIs t n = first_name t ≡ Some n
 
 -- a neighbour refers to its interface
-neighbor_first : (t : Thing) (hop : Hop) → name_of t ≡ name.Neighbor hop → FirstIs t (name.Rif hop.on)
+pub neighbor_first : (t : Thing) (hop : Hop) → name_of t ≡ name.Neighbor hop → FirstIs t (name.Rif hop.on)
 neighbor_first (thing.Neighbor hop mac) other h = let same : hop ≡ other = cc in ap (λ (z : Hop). Some (name.Rif z.on)) same
 neighbor_first _ other h = absurd cc
 

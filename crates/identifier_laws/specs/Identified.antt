@@ -1,6 +1,7 @@
 -- When the registry's identifiers are those of the objects that stand. Own.
-use Rattle.std.specs.Prelude.{◌≡◌, ◌⊎◌, ℕ, true, List, Option, Some, None}
+use Rattle.std.specs.Prelude.{◌≡◌, ◌⊎◌, ℕ, suc, true, List, [], length, Option, Some, None}
 use Rattle.table_schema.specs.Plan.{Ports}
+use Rattle.sai_types.specs.declared.hop.Hop.{Hop}
 use Rattle.sai_types.specs.declared.ids.Rid.{Rid}
 use Rattle.sai_types.specs.declared.ids.Vid.{Vid}
 use Rattle.sai_types.specs.declared.thing.PortThing.{PortThing}
@@ -15,7 +16,7 @@ use Rattle.switch_machine.specs.Changes.{changed_name}
 use Rattle.switch_machine.specs.Flights.{Machine, StandsIn}
 use Rattle.ref_counts.specs.declared.name.Name.TheVariants as name
 use Rattle.ref_counts.specs.declared.name.NameState.TheVariants as state
-use Rattle.ref_counts.specs.Registry.{Names, state_of}
+use Rattle.ref_counts.specs.Registry.{Names, ids_of, state_of}
 use Rattle.orch_flight.specs.Calling.{HasVid}
 use Rattle.orch_flight.specs.Grouping.{GroupOperation, HasGroupVid}
 use Rattle.registry_laws.specs.Flown.{Flown}
@@ -56,3 +57,7 @@ pub record BuildsGroups (names : Names) (flown : ℕ → Option Flown) : Type 0 
 -- a port among the things stands as it is there, where the change is about it
 abbrev pub PortsStand : Machine → List Thing → Change → Type 0
 PortsStand m things c = (p : PortThing) → IsIn (thing.Port p) things → name_of (thing.Port p) ≡ changed_name c → StandsIn m (thing.Port p)
+
+-- a group's name has no identifier, or one of the group and one of each member
+pub record HasWholeGroups (names : Names) : Type 0 where
+  pub each : (hops : List Hop) → (ids_of names (name.Group hops) ≡ []) ⊎ (length (ids_of names (name.Group hops)) ≡ suc (length hops))

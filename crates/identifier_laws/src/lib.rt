@@ -3,4 +3,4 @@
 
 mod laws;
 
-pub use laws::{calls_are_due, nothing_is_identified};
+pub use laws::{calls_are_due, identifiers_are_known, nothing_is_identified};
