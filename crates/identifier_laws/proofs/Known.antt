@@ -59,12 +59,12 @@ module _ (plan : Ports) (names : Names) where
   one_built g h _ v u one x y = same_some v u (sym x ∙ y)
 
   module _ (flown : ℕ → Option Flown) (builds : BuildsGroups names flown) where
-    one_way : (w : ℕ) (g h : GroupOperation) → IsUnderWay flown w g → IsUnderWay flown w h → g ≡ h
+    pub one_way : (w : ℕ) (g h : GroupOperation) → IsUnderWay flown w g → IsUnderWay flown w h → g ≡ h
     one_way w g h x y =
         let same = same_some x.0 y.0 (sym x.1 ∙ y.1) in
         same_some g h (sym x.2 ∙ ap (λ (z : Flown). z.group) same ∙ y.2)
 
-    workers_one : (w v : ℕ) → state.Building w ≡ state.Building v → w ≡ v
+    pub workers_one : (w v : ℕ) → state.Building w ≡ state.Building v → w ≡ v
     workers_one w v h = cc
 
     -- a group is built by one operation

@@ -5,3 +5,12 @@ pub mod Owning
 pub mod Needing
 pub mod Knowing
 pub mod Neighbours
+pub mod Ids
+pub mod Starting
+pub mod Single
+pub mod Staying
+pub mod Changed
+pub mod Took
+pub mod Placing
+pub mod Grouped
+pub mod GroupTook

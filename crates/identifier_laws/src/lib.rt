@@ -3,4 +3,7 @@
 
 mod laws;
 
-pub use laws::{calls_are_due, identifiers_are_known, nothing_is_identified};
+pub use laws::{
+    answers_keep_identifiers, calls_are_due, identifiers_are_known, names_keep_identifiers,
+    nothing_is_identified,
+};
