@@ -1,0 +1,16 @@
+pub mod Telling
+pub mod Known
+pub mod Due
+pub mod Owning
+pub mod Needing
+pub mod Knowing
+pub mod Neighbours
+pub mod Ids
+pub mod Starting
+pub mod Single
+pub mod Staying
+pub mod Changed
+pub mod Took
+pub mod Placing
+pub mod Grouped
+pub mod GroupTook

@@ -1,0 +1,22 @@
+use Rattle.orch_flight.specs.Starting.{left_names, started_names}
+use Rattle.identifier_laws.proofs.Starting.{ids_left, ids_started, live_unbuilt}
+use Rattle.identifier_laws.proofs.Staying.{ended_identified, flown_identified, puts_kept, same_identified}
+use Rattle.identifier_laws.proofs.laws.names_keep_identifiers.Goals as goal
+
+pub returns-clause-started : goal.returns-clause-started
+returns-clause-started c = λ plan names rid flown stands w k old new is may known. same_identified plan names rid flown stands known (started_names plan names w k old new) (ids_started plan is names w k old new may)
+
+pub returns-clause-left : goal.returns-clause-left
+returns-clause-left c = λ plan names rid flown stands w k o live known. same_identified plan names rid flown stands known (left_names names w k o) (ids_left names w k o (live_unbuilt names o live))
+
+pub returns-clause-ended : goal.returns-clause-ended
+returns-clause-ended c = λ plan m names rid flown w f old sound ends known. ended_identified plan m sound w f ends names rid flown known old w
+
+pub returns-clause-same : goal.returns-clause-same
+returns-clause-same c = λ plan names names' rid flown stands same known. same_identified plan names rid flown stands known names' same
+
+pub returns-clause-flown : goal.returns-clause-flown
+returns-clause-flown c = λ plan names rid flown flown' stands builds known. flown_identified plan names rid flown stands known flown' builds
+
+pub returns-clause-put : goal.returns-clause-put
+returns-clause-put c = puts_kept

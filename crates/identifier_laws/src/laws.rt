@@ -1,0 +1,74 @@
+// The registry's identifiers are those of the objects that stand. Each function is a law: it does nothing, and its contract is proved.
+ghost use Rattle.std.specs.Prelude.{◌≡◌, ◌<◌, ℕ, ◌∷◌, true, false, List, [], Option, Some};
+ghost use Rattle.table_schema.specs.Plan.{IsPlan, Ports};
+ghost use Rattle.table_schema.specs.declared.key.Key.{Key};
+ghost use Rattle.table_schema.specs.declared.row.Row.{Row};
+ghost use Rattle.sai_types.specs.declared.body.Call.{Call};
+ghost use Rattle.sai_types.specs.declared.ids.Rid.{Rid};
+ghost use Rattle.sai_types.specs.declared.ids.Vid.{Vid};
+ghost use Rattle.sai_types.specs.declared.thing.Thing.{Thing};
+ghost use Rattle.sai_types.specs.Alike.{IsIn};
+ghost use Rattle.sai_types.specs.Names.{Name};
+ghost use Rattle.chip_layout.specs.Renamed.{call_renamed};
+ghost use Rattle.row_layout.specs.Operations.{Change, Take, uses_of};
+ghost use Rattle.row_layout.specs.Rows.{Group, Owner};
+ghost use Rattle.row_layout.specs.Shared.{shared_things};
+ghost use Rattle.switch_machine.specs.Events.{IsAnswer, IsDueCall, IsSafe, SwitchState};
+ghost use Rattle.switch_machine.specs.Consistent.{IsConsistent};
+ghost use Rattle.switch_machine.specs.Flights.{Flight, IsOwnedBy, Machine, put};
+ghost use Rattle.switch_machine.specs.Steps.{Ends};
+ghost use Rattle.ref_counts.specs.declared.name.Name.TheVariants as name;
+ghost use Rattle.ref_counts.specs.declared.name.NameState.TheVariants as state;
+ghost use Rattle.ref_counts.specs.Registry.{Names, state_of};
+ghost use Rattle.orch_flight.specs.Calling.{HasVid, IsCallOf, KnowsIds, things_held};
+ghost use Rattle.orch_flight.specs.Grouping.{GroupOperation, HasGroupVid, IsGroupOver, IsGroupTook, KnowsGroupIds};
+ghost use Rattle.orch_flight.specs.Needing.{name_for};
+ghost use Rattle.orch_flight.specs.Operation.{Operation};
+ghost use Rattle.orch_flight.specs.Sharing.{MayStart};
+ghost use Rattle.orch_flight.specs.Starting.{left_names, started_names};
+ghost use Rattle.orch_flight.specs.Taking.{IsTook, MayTake};
+ghost use Rattle.registry_laws.specs.Answering.{IsOfGroup};
+ghost use Rattle.registry_laws.specs.Ending.{ended_names};
+ghost use Rattle.registry_laws.specs.Flown.{Flown, flight_of};
+ghost use Rattle.registry_laws.specs.Registers.{KnowsNames};
+ghost use Rattle.identifier_laws.specs.Identified.{BuildsGroups, FliesOn, HasWholeGroups, HaveSameIds, Identified, IsPartlyBuilt, IsUnderWay, KeepsBuilds, PortsStand, TiesAfter, tie_by};
+
+/// Where nothing stands its identifiers are known.
+pub fn nothing_is_identified()
+    ensures { (plan : Ports) (names : Names) (rid : Vid → Option Rid) (flown : ℕ → Option Flown) → Identified plan names rid flown [] }
+{}
+
+/// A call of the change that is due next for a worker, told with the registry's identifiers, is the due call of the machine when
+/// each identifier is put in place by the chip's one to which it is tied; of a row's operation, where a port that is set stands
+/// with the values that the operation has noted; and of the operation of a group.
+pub fn calls_are_due()
+    ensures row { (plan : Ports) (workers : ℕ) (capacities : List ℕ) (s : SwitchState) (names : Names) (rid : Vid → Option Rid) (flown : ℕ → Option Flown) (w : ℕ) (f : Operation) (change : Change) (rest : List Change) (c : Call Vid) → IsPlan plan → IsSafe plan workers capacities s → Identified plan names rid flown s.machine.stands → BuildsGroups names flown → w < workers → s.machine.board.flights w ≡ Some (flight_of f) → s.machine.due w ≡ change ∷ rest → PortsStand s.machine (things_held plan f) change → IsCallOf (HasVid plan names) (things_held plan f) change c → (x : IsDueCall workers (call_renamed (tie_by rid) c) s) × (x.worker ≡ w) × (x.change ≡ change) }
+    ensures group { (plan : Ports) (workers : ℕ) (capacities : List ℕ) (s : SwitchState) (names : Names) (rid : Vid → Option Rid) (flown : ℕ → Option Flown) (w : ℕ) (f : Flight) (g : GroupOperation) (change : Change) (rest : List Change) (c : Call Vid) → IsPlan plan → IsSafe plan workers capacities s → Identified plan names rid flown s.machine.stands → BuildsGroups names flown → IsUnderWay flown w g → w < workers → s.machine.board.flights w ≡ Some f → s.machine.due w ≡ change ∷ rest → IsCallOf (HasGroupVid plan names g) (shared_things (Group g.hops)) change c → (x : IsDueCall workers (call_renamed (tie_by rid) c) s) × (x.worker ≡ w) × (x.change ≡ change) }
+{}
+
+/// In a safe state, where each object that stands has its identifier, the registry has those that the change needs which is due
+/// next for a worker: of a row's operation that builds no group, and of the operation of a group, be it built, or taken away.
+pub fn identifiers_are_known()
+    ensures row { (plan : Ports) (workers : ℕ) (capacities : List ℕ) (s : SwitchState) (names : Names) (rid : Vid → Option Rid) (flown : ℕ → Option Flown) (w : ℕ) (f : Operation) (change : Change) (rest : List Change) → IsPlan plan → IsSafe plan workers capacities s → Identified plan names rid flown s.machine.stands → BuildsGroups names flown → KnowsNames plan names s.machine → s.machine.board.flights w ≡ Some (flight_of f) → f.due ≡ change ∷ rest → s.machine.due w ≡ change ∷ rest → (IsOfGroup plan change → ⊥) → ((g : GroupOperation) → IsUnderWay flown w g → g.builds ≡ true → ⊥) → KnowsIds names f }
+    ensures built { (plan : Ports) (workers : ℕ) (capacities : List ℕ) (s : SwitchState) (names : Names) (rid : Vid → Option Rid) (flown : ℕ → Option Flown) (w : ℕ) (f : Flight) (g : GroupOperation) → IsPlan plan → IsSafe plan workers capacities s → Identified plan names rid flown s.machine.stands → s.machine.board.flights w ≡ Some f → g.builds ≡ true → IsGroupOver plan g → IsIn (Group g.hops) (uses_of plan f.key f.new) → KnowsGroupIds names g }
+    ensures taken { (plan : Ports) (workers : ℕ) (capacities : List ℕ) (s : SwitchState) (names : Names) (rid : Vid → Option Rid) (flown : ℕ → Option Flown) (w : ℕ) (f : Flight) (g : GroupOperation) (n : Name) (rest : List Change) → IsPlan plan → IsSafe plan workers capacities s → Identified plan names rid flown s.machine.stands → BuildsGroups names flown → HasWholeGroups names → s.machine.board.flights w ≡ Some f → g.builds ≡ false → state_of names (name.Group g.hops) ≡ state.Retiring w → s.machine.due w ≡ Take n ∷ rest → IsOwnedBy plan n (Group g.hops) → KnowsGroupIds names g }
+{}
+
+/// Each object that stands keeps its identifier when the names of an operation have started; when an operation leaves what it
+/// shared, or ends; and when the operations under way change, but for those that build groups.
+pub fn names_keep_identifiers()
+    ensures started { (plan : Ports) (names : Names) (rid : Vid → Option Rid) (flown : ℕ → Option Flown) (stands : List (Rid × Thing)) (w : ℕ) (k : Key) (old : Option Row) (new : Option Row) → IsPlan plan → MayStart plan names w k old new → Identified plan names rid flown stands → Identified plan (started_names plan names w k old new) rid flown stands }
+    ensures left { (plan : Ports) (names : Names) (rid : Vid → Option Rid) (flown : ℕ → Option Flown) (stands : List (Rid × Thing)) (w : ℕ) (k : Key) (o : Owner) → state_of names (name_for o) ≡ state.Live → Identified plan names rid flown stands → Identified plan (left_names names w k o) rid flown stands }
+    ensures ended { (plan : Ports) (m : Machine) (names : Names) (rid : Vid → Option Rid) (flown : ℕ → Option Flown) (w : ℕ) (f : Flight) (old : Option Row) → IsConsistent plan m → Ends m w f → Identified plan names rid flown m.stands → Identified plan (ended_names names w f.key old f.new) rid flown m.stands }
+    ensures same { (plan : Ports) (names : Names) (names' : Names) (rid : Vid → Option Rid) (flown : ℕ → Option Flown) (stands : List (Rid × Thing)) → HaveSameIds names names' → Identified plan names rid flown stands → Identified plan names' rid flown stands }
+    ensures flown { (plan : Ports) (names : Names) (rid : Vid → Option Rid) (flown : ℕ → Option Flown) (flown' : ℕ → Option Flown) (stands : List (Rid × Thing)) → KeepsBuilds flown flown' → Identified plan names rid flown stands → Identified plan names rid flown' stands }
+    ensures put { (flown : ℕ → Option Flown) (w : ℕ) (y : Option Flown) → ((g : GroupOperation) → IsUnderWay flown w g → g.builds ≡ true → (x : Flown) × (y ≡ Some x) × (x.group ≡ Some g)) → KeepsBuilds flown (put w y flown) }
+{}
+
+/// Each object that stands has its identifier when the call is made that is due for a worker: of a row's operation, with what it
+/// leaves at once; of the operation that builds a group, whose identifiers it has until it is whole; and of the one that takes it away.
+pub fn answers_keep_identifiers()
+    ensures row { (plan : Ports) (workers : ℕ) (capacities : List ℕ) (s t : SwitchState) (call : Call Rid) (x : IsAnswer plan workers call s t) (names : Names) (names' : Names) (rid : Vid → Option Rid) (rid' : Vid → Option Rid) (flown : ℕ → Option Flown) (f : Operation) (f' : Operation) (made : Option Vid) (rest : List Change) → IsPlan plan → IsSafe plan workers capacities s → Identified plan names rid flown s.machine.stands → BuildsGroups names flown → s.machine.board.flights x.next.worker ≡ Some (flight_of f) → f.due ≡ x.next.change ∷ rest → (IsOfGroup plan x.next.change → ⊥) → MayTake f made names → IsTook f made names f' names' → TiesAfter plan names rid rid' x.next.change made x.id → Identified plan names' rid' flown t.machine.stands }
+    ensures built { (plan : Ports) (workers : ℕ) (capacities : List ℕ) (s t : SwitchState) (call : Call Rid) (x : IsAnswer plan workers call s t) (names : Names) (names' : Names) (rid : Vid → Option Rid) (rid' : Vid → Option Rid) (flown : ℕ → Option Flown) (flown' : ℕ → Option Flown) (g : GroupOperation) (g' : GroupOperation) (made : Option Vid) (rest : List Change) → IsPlan plan → IsSafe plan workers capacities s → Identified plan names rid flown s.machine.stands → BuildsGroups names flown → IsUnderWay flown x.next.worker g → g.builds ≡ true → IsPartlyBuilt g → g.due ≡ x.next.change ∷ rest → IsGroupTook g made names g' names' → TiesAfter plan names rid rid' x.next.change made x.id → FliesOn flown flown' x.next.worker g' → Identified plan names' rid' flown' t.machine.stands × IsPartlyBuilt g' }
+    ensures taken { (plan : Ports) (workers : ℕ) (capacities : List ℕ) (s t : SwitchState) (call : Call Rid) (x : IsAnswer plan workers call s t) (names : Names) (names' : Names) (rid : Vid → Option Rid) (rid' : Vid → Option Rid) (flown : ℕ → Option Flown) (g : GroupOperation) (g' : GroupOperation) (made : Option Vid) (rest : List Change) (n : Name) → IsPlan plan → IsSafe plan workers capacities s → Identified plan names rid flown s.machine.stands → BuildsGroups names flown → g.builds ≡ false → g.due ≡ x.next.change ∷ rest → s.machine.due x.next.worker ≡ g.due → x.next.change ≡ Take n → IsOwnedBy plan n (Group g.hops) → x.next.flight.retires ≡ Some (Group g.hops) → IsGroupTook g made names g' names' → TiesAfter plan names rid rid' x.next.change made x.id → Identified plan names' rid' flown t.machine.stands }
+{}

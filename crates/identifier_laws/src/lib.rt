@@ -1,0 +1,9 @@
+//! The registry's identifiers are those of the objects that stand, so what is told with them is what is due: laws of definitions, with no code.
+#![tactic(auto)]
+
+mod laws;
+
+pub use laws::{
+    answers_keep_identifiers, calls_are_due, identifiers_are_known, names_keep_identifiers,
+    nothing_is_identified,
+};
