@@ -27,7 +27,7 @@ use Rattle.chip_layout.proofs.Entries.{IsEntry, entry-named, entry-one}
 use Rattle.chip_layout.proofs.Laid.{changed}
 use Rattle.chip_layout.proofs.Shapes.{renamed_with}
 use Rattle.switch_machine.specs.Changes.{IsMakeCall, IsSetCall, IsTakeCall}
-use Rattle.orch_flight.specs.Calling.{IsEntryOf, IsMaking, IsSetting, IsTaking, entry_by}
+use Rattle.orch_flight.specs.Calling.{IsEnteredBy, IsEntryOf, IsMaking, IsSetting, IsTaking, entry_by}
 
 -- ---- names of things
 
@@ -38,6 +38,11 @@ FirstIs t n = first_name t ≡ Some n
 pub neighbor_first : (t : Thing) (hop : Hop) → name_of t ≡ name.Neighbor hop → FirstIs t (name.Rif hop.on)
 neighbor_first (thing.Neighbor hop mac) other h = let same : hop ≡ other = cc in ap (λ (z : Hop). Some (name.Rif z.on)) same
 neighbor_first _ other h = absurd cc
+
+-- and its entry has the identifier of that
+neighbor_entered : (t : Thing) (hop : Hop) → name_of t ≡ name.Neighbor hop → IsEnteredBy t
+neighbor_entered (thing.Neighbor hop mac) other h = tt
+neighbor_entered _ other h = absurd cc
 
 goal_numbered : (g : Goal) (n : Name) → goal_name g ≡ Some n → is_numbered (name_kind n) ≡ true
 goal_numbered goal.Drop n h = absurd cc
@@ -101,7 +106,7 @@ module _ (L : Layout Rid) (objects : Objects) (laid : IsLaidOut L objects) (at :
       neighbor : (hop : Hop) → name_of old ≡ name.Neighbor hop → Has L (name.Rif hop.on) (f x.of.first)
       neighbor hop h =
           let on : Has L (name.Rif hop.on) y.first = subst (λ o. IsAt (Has L) o y.first) (neighbor_first u hop (same ∙ h)) y.first_at in
-          let told : at (name.Rif hop.on) x.of.first = subst (λ o. IsAt at o x.of.first) (neighbor_first old hop h) x.of.first_at in
+          let told : at (name.Rif hop.on) x.of.first = subst (λ o. IsAt (λ n v. IsEnteredBy old → at n v) o x.of.first) (neighbor_first old hop h) x.of.first_at (neighbor_entered old hop h) in
           subst (Has L (name.Rif hop.on)) (sym (tied (name.Rif hop.on) x.of.first y.first refl on told)) on
 
   -- ---- a thing is taken away
