@@ -45,7 +45,7 @@ use Rattle.identifier_laws.proofs.Staying.{vid_kept}
 
 -- ---- the name that becomes live when a thing is made
 
-abbrev made_owner : Key → Thing → Option Owner
+abbrev pub made_owner : Key → Thing → Option Owner
 made_owner k (thing.BridgePort lane) = Some (owner.Bridge lane)
 made_owner k (thing.Own ip) = Some (owner.Own ip)
 made_owner k (thing.Neighbor hop mac) = None
@@ -59,7 +59,7 @@ built_is k (thing.BridgePort lane) = refl
 built_is k _ = refl
 
 -- the other names have the identifiers that they had
-made_off : (names : Names) (k : Key) (t : Thing) (made : Option Vid) (o : Owner) → (made_owner k t ≡ Some o → ⊥) → ids_of (made_names names k t made) (name_for o) ≡ ids_of names (name_for o)
+pub made_off : (names : Names) (k : Key) (t : Thing) (made : Option Vid) (o : Owner) → (made_owner k t ≡ Some o → ⊥) → ids_of (made_names names k t made) (name_for o) ≡ ids_of names (name_for o)
 made_off names k (thing.BridgePort lane) made o other = ids_off names (owner.Bridge lane) (made_live (to_list made)) o (λ e. other (ap Some e))
 made_off names k (thing.Own ip) made o other = ids_off names (owner.Own ip) (made_live []) o (λ e. other (ap Some e))
 made_off names k (thing.Neighbor hop mac) made o other = refl

@@ -2,6 +2,7 @@
 use Rattle.std.proofs.Common.{◌≡◌, ◌<◌, ◌∷◌, ◌∙◌, ℕ, true, List, Option, Some, refl, ap, subst}
 use Rattle.table_schema.specs.Plan.{IsPlan, Ports}
 use Rattle.sai_types.specs.declared.body.Call.{Call}
+use Rattle.sai_types.specs.declared.hop.Hop.{Hop}
 use Rattle.sai_types.specs.declared.ids.Rid.{Rid}
 use Rattle.sai_types.specs.declared.ids.Vid.{Vid}
 use Rattle.sai_types.specs.declared.thing.Thing.{Thing}
@@ -10,16 +11,24 @@ use Rattle.chip_layout.specs.Bodies.{is_numbered}
 use Rattle.chip_layout.specs.Layout.{Has, Layout, listed}
 use Rattle.chip_layout.specs.Renamed.{call_renamed}
 use Rattle.row_layout.specs.Operations.{Change, Make, Set, Take}
+use Rattle.row_layout.specs.Rows as owner
+use Rattle.row_layout.specs.Shared.{shared_things}
 use Rattle.switch_machine.specs.Changes.{IsCall}
 use Rattle.switch_machine.specs.Events.{IsDueCall, IsSafe, SwitchState}
-use Rattle.switch_machine.specs.Flights.{Can, Flight, Runs, StandsIn}
-use Rattle.switch_machine.proofs.Calling.{make-has_call, set-has_call, take-has_call}
+use Rattle.switch_machine.specs.Flights.{Can, Flight, Machine, Runs, StandsIn}
+use Rattle.switch_machine.proofs.Calling.{make-has_call, set-has_call, shared_no_port, take-has_call}
 use Rattle.switch_machine.proofs.Tabled.{tabled}
 use Rattle.ref_counts.specs.Registry.{Names}
 use Rattle.orch_flight.specs.Calling.{IsCallOf}
 use Rattle.registry_laws.specs.Flown.{Flown}
 use Rattle.identifier_laws.specs.Identified.{Identified, IsVidOf, PortsStand, rid_or_zero, tie_by}
 use Rattle.identifier_laws.proofs.Telling.{making_told, setting_told, taking_told}
+
+-- no port is of a group
+pub group_ports : (m : Machine) (hops : List Hop) (c : Change) → PortsStand m (shared_things (owner.Group hops)) c
+group_ports m hops (Make t) = tt
+group_ports m hops (Set u) = λ p h same. absurd (shared_no_port (owner.Group hops) p h)
+group_ports m hops (Take n) = tt
 
 module _ (plan : Ports) (is : IsPlan plan) (workers : ℕ) (capacities : List ℕ) (s : SwitchState) (kept : IsSafe plan workers capacities s) (names : Names) (rid : Vid → Option Rid) (flown : ℕ → Option Flown) (known : Identified plan names rid flown s.machine.stands) where
   abbrev L : Layout Rid

@@ -14,3 +14,5 @@ pub mod Took
 pub mod Placing
 pub mod Grouped
 pub mod GroupTook
+pub mod Whole
+pub mod Ports

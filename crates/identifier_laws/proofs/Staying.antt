@@ -1,7 +1,8 @@
 -- each object that stands keeps its identifier
-use Rattle.std.proofs.Common.{◌≡◌, ◌∙◌, inl, inr, ℕ, true, cond, List, Option, None, Some, refl, sym, ap, subst}
+use Rattle.std.proofs.Common.{◌≡◌, ◌∙◌, inl, inr, ℕ, Bool, true, cond, List, [], Option, None, Some, refl, sym, ap, subst}
 use Rattle.table_schema.specs.Plan.{Ports}
 use Rattle.table_schema.specs.declared.row.Row.{Row}
+use Rattle.sai_types.specs.declared.hop.Hop.{Hop}
 use Rattle.sai_types.specs.declared.ids.Rid.{Rid}
 use Rattle.sai_types.specs.declared.ids.Vid.{Vid}
 use Rattle.sai_types.specs.declared.thing.Thing.{Thing}
@@ -10,6 +11,7 @@ use Rattle.sai_types.specs.Names as thing_name
 use Rattle.sai_types.specs.Names.{Name, name_of}
 use Rattle.row_layout.specs.Operations.{uses_of}
 use Rattle.row_layout.specs.Rows as owner
+use Rattle.row_layout.specs.Shared.{shared_things}
 use Rattle.row_layout.specs.Rows.{Owner}
 use Rattle.switch_machine.specs.Consistent.{IsConsistent}
 use Rattle.switch_machine.specs.Flights.{Flight, IsFinal, IsOwnedBy, Machine, Runs, StandsIn, own_of, put}
@@ -19,11 +21,12 @@ use Rattle.ref_counts.specs.declared.name.Name.TheVariants as name
 use Rattle.ref_counts.specs.Registered.{first_of}
 use Rattle.ref_counts.specs.Registry.{Names, ids_of}
 use Rattle.orch_flight.specs.Calling.{member_vid, members_ids}
-use Rattle.orch_flight.specs.Grouping.{GroupOperation, HasGroupVid, group_ids}
+use Rattle.orch_flight.specs.Grouping.{GroupOperation, HasGroupVid, first_group, first_group_due, group_ids}
 use Rattle.orch_flight.specs.Needing.{name_for}
 use Rattle.registry_laws.specs.Ending.{ended_names}
 use Rattle.registry_laws.specs.Flown.{Flown}
-use Rattle.identifier_laws.specs.Identified.{HaveSameIds, Identified, IsUnderWay, IsVidOf, KeepsBuilds}
+use Rattle.registry_laws.proofs.Listing.{not_some, same_some}
+use Rattle.identifier_laws.specs.Identified.{HaveSameIds, Identified, IsPartlyBuilt, IsUnderWay, IsVidOf, KeepsBuilds}
 use Rattle.identifier_laws.proofs.Owning.{vid_same}
 use Rattle.identifier_laws.proofs.Starting.{ids_ended, ids_ended_off}
 
@@ -60,6 +63,17 @@ module _ (plan : Ports) (names : Names) (rid : Vid → Option Rid) (flown : ℕ 
 
   pub flown_identified : (flown' : ℕ → Option Flown) → KeepsBuilds flown flown' → Identified plan names rid flown' stands
   flown_identified flown' builds = record { each = λ i t h numbered. let x = known.each i t h numbered in (x.0, vid_kept plan names names flown flown' builds (name_of t) x.0 (λ o of. refl) x.1, x.2) }
+
+  -- the operation of a group begins
+  pub begun_identified : (w : ℕ) (x : Flown) → flown w ≡ Some x → x.group ≡ None → (g : GroupOperation) → Identified plan names rid (put w (Some (record { operation = x.operation; group = Some g })) flown) stands
+  begun_identified w x here none g = flown_identified (put w (Some (record { operation = x.operation; group = Some g })) flown) (puts_kept flown w (Some (record { operation = x.operation; group = Some g })) (λ h at builds. no_group h at))
+    where
+      no_group : {X : Type 0} (h : GroupOperation) → IsUnderWay flown w h → X
+      no_group h at = not_some h (sym none ∙ ap (λ (z : Flown). z.group) (same_some x at.0 (sym here ∙ at.1)) ∙ at.2)
+
+-- of which nothing is made
+pub first_part : (plan : Ports) (w : ℕ) (hops : List Hop) (builds : Bool) → builds ≡ true → IsPartlyBuilt (first_group plan w hops builds)
+first_part plan w hops builds e = record { before = []; after = shared_things (owner.Group hops); things = refl; made = refl; due = ap (first_group_due hops) e }
 
 -- ---- an operation ends
 

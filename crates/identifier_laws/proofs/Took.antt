@@ -65,7 +65,7 @@ live_gone names p o live w h = by (owner_split p o)
         no_live w (sym live ∙ sym (ap (λ z. state_of z (name_for o)) stays) ∙ subst (λ z. state_of (gone_from names (name_for z)) (name_for o) ≡ state.Building w) same h)
     by (inr apart) = no_live w (sym live ∙ sym (ap state_in (gone_off names p o apart)) ∙ h)
 
-live_after : (names : Names) (k : Key) (c : Change) (made : Option Vid) (o : Owner) → state_of names (name_for o) ≡ state.Live → IsUnbuilt (names_after names k c made) o
+pub live_after : (names : Names) (k : Key) (c : Change) (made : Option Vid) (o : Owner) → state_of names (name_for o) ≡ state.Live → IsUnbuilt (names_after names k c made) o
 live_after names k (Make (thing.BridgePort lane)) made o live = live_made names (owner.Bridge lane) o (to_list made) live
 live_after names k (Make (thing.Own ip)) made o live = live_made names (owner.Own ip) o [] live
 live_after names k (Make (thing.Neighbor hop mac)) made o live = live_unbuilt names o live

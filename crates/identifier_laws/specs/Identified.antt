@@ -14,14 +14,14 @@ use Rattle.chip_layout.specs.Layout.{has_number}
 use Rattle.row_layout.specs.Operations.{Change, Make, Set, Take, make_all}
 use Rattle.row_layout.specs.Rows.{Group, Owner}
 use Rattle.row_layout.specs.Shared.{shared_things}
-use Rattle.switch_machine.specs.Changes.{changed_name}
-use Rattle.switch_machine.specs.Flights.{Machine, StandsIn}
+use Rattle.switch_machine.specs.Flights.{Machine, StandsIn, own_of}
 use Rattle.ref_counts.specs.declared.name.Name.TheVariants as name
 use Rattle.ref_counts.specs.declared.name.NameState.TheVariants as state
 use Rattle.ref_counts.specs.Registry.{Names, ids_of, state_of}
 use Rattle.orch_flight.specs.Calling.{HasVid}
 use Rattle.orch_flight.specs.Grouping.{GroupOperation, HasGroupVid}
 use Rattle.orch_flight.specs.Needing.{name_for}
+use Rattle.orch_flight.specs.Operation.{Operation}
 use Rattle.registry_laws.specs.Flown.{Flown}
 
 -- no object of a chip has the number 0
@@ -57,9 +57,14 @@ pub record Identified (plan : Ports) (names : Names) (rid : Vid → Option Rid) 
 pub record BuildsGroups (names : Names) (flown : ℕ → Option Flown) : Type 0 where
   pub building : (w : ℕ) (g : GroupOperation) → IsUnderWay flown w g → g.builds ≡ true → state_of names (name.Group g.hops) ≡ state.Building w
 
--- a port among the things stands as it is there, where the change is about it
+-- a port among the things stands with the values that it has there, where an attribute of it is set
 abbrev pub PortsStand : Machine → List Thing → Change → Type 0
-PortsStand m things c = (p : PortThing) → IsIn (thing.Port p) things → name_of (thing.Port p) ≡ changed_name c → StandsIn m (thing.Port p)
+PortsStand m things (Set u) = (p : PortThing) → IsIn (thing.Port p) things → name_of (thing.Port p) ≡ name_of u → StandsIn m (thing.Port p)
+PortsStand m things c = Unit {0}
+
+-- a port for which the operation's key has a row now stands so, while the key is to have a row
+abbrev pub HoldsPort : Ports → Machine → Operation → Type 0
+HoldsPort plan m f = (p : PortThing) → IsIn (thing.Port p) (own_of plan f.key f.now) → (f.new ≡ None → ⊥) → StandsIn m (thing.Port p)
 
 -- a group's name has no identifier, or one of the group and one of each member
 pub record HasWholeGroups (names : Names) : Type 0 where
