@@ -40,7 +40,7 @@ neighbor_first (thing.Neighbor hop mac) other h = let same : hop ≡ other = cc 
 neighbor_first _ other h = absurd cc
 
 -- and its entry has the identifier of that
-neighbor_entered : (t : Thing) (hop : Hop) → name_of t ≡ name.Neighbor hop → IsEnteredBy t
+pub neighbor_entered : (t : Thing) (hop : Hop) → name_of t ≡ name.Neighbor hop → IsEnteredBy t
 neighbor_entered (thing.Neighbor hop mac) other h = tt
 neighbor_entered _ other h = absurd cc
 
