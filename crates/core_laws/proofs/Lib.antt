@@ -1,0 +1,4 @@
+pub mod Empty
+pub mod Parts
+pub mod Begun
+pub mod Resting

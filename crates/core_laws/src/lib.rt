@@ -1,0 +1,7 @@
+//! The registry, the room, what workers have under way and the ties of identifiers stand for the machine, and each step of the core is an
+//! event of it: laws of definitions, with no code.
+#![tactic(auto)]
+
+mod laws;
+
+pub use laws::{groups_begin_in_place, nothing_stands_for, rows_stand_for};
