@@ -2,3 +2,4 @@ pub mod Empty
 pub mod Parts
 pub mod Begun
 pub mod Resting
+pub mod Nexts

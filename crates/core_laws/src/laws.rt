@@ -6,13 +6,25 @@ ghost use Rattle.sai_types.specs.declared.ids.Rid.{Rid};
 ghost use Rattle.sai_types.specs.declared.ids.Vid.{Vid};
 ghost use Rattle.sai_types.specs.Alike.{IsIn};
 ghost use Rattle.switch_machine.specs.Events.{IsDrop, IsPop, IsTake, SwitchState, empty_switch, fresh_view};
-ghost use Rattle.switch_machine.specs.Flights.{put};
-ghost use Rattle.switch_machine.specs.Written.{HasWrittenRows, IsTold, Written};
+ghost use Rattle.switch_machine.specs.Flights.{Fits, IsResting, put};
+ghost use Rattle.table_schema.specs.Names.{names_of};
+ghost use Rattle.table_schema.specs.declared.row.Row.{Row};
+ghost use Rattle.switch_model.specs.Desired.{have_rows};
+ghost use Rattle.switch_model.specs.declared.wait.Wait.{Wait};
+ghost use Rattle.switch_model.specs.declared.wait.Wait.TheVariants as wait;
+ghost use Rattle.switch_machine.specs.Reasons.{IsReason};
+ghost use Rattle.switch_machine.specs.Written.{HasWrittenRows, IsTold, Written, good_of};
+ghost use Rattle.ref_counts.specs.Registered.{IsReadable};
+ghost use Rattle.orch_flight.specs.Calling.{IsOver};
+ghost use Rattle.orch_flight.specs.Grouping.{GroupOperation, IsGroupOver};
+ghost use Rattle.orch_flight.specs.Needing.{wait_of};
+ghost use Rattle.orch_flight.specs.Sharing.{MayStart};
+ghost use Rattle.registry_laws.specs.Registers.{AreUsed};
 ghost use Rattle.ref_counts.specs.Registry.{Names};
 ghost use Rattle.ref_counts.specs.Room.{RoomState, all_free};
 ghost use Rattle.registry_laws.specs.Flown.{Flown};
-ghost use Rattle.registry_laws.specs.Making.{with_group_begun};
-ghost use Rattle.core_laws.specs.Standing.{HasBegun, StandsFor};
+ghost use Rattle.registry_laws.specs.Making.{KnowsNext, with_group_begun};
+ghost use Rattle.core_laws.specs.Standing.{HasBegun, IsFree, StandsFor};
 
 /// With no names, all places free and nothing under way all stands for the empty switch; and for an empty view, where each key with
 /// a row is to sync.
@@ -32,4 +44,21 @@ pub fn rows_stand_for()
 pub fn groups_begin_in_place()
     ensures stands { (plan : Ports) (capacities : List ℕ) (names : Names) (room : RoomState) (flown : ℕ → Option Flown) (rid : Vid → Option Rid) (s : SwitchState) (w : ℕ) (x : Flown) → StandsFor plan capacities names room flown rid s → flown w ≡ Some x → StandsFor plan capacities names room (put w (Some (with_group_begun plan names x)) flown) rid s }
     ensures begun { (plan : Ports) (names : Names) (x : Flown) → HasBegun plan names (with_group_begun plan names x) }
+{}
+
+/// A key that no worker has under way may begin, where its good row is another than its applied one; the wait that the registry and
+/// the room answer is a true reason; and a key that a worker has under way waits for that worker.
+pub fn keys_wait_or_begin()
+    ensures may { (plan : Ports) (capacities : List ℕ) (names : Names) (room : RoomState) (flown : ℕ → Option Flown) (rid : Vid → Option Rid) (s : SwitchState) (w : ℕ) (k : Key) → IsPlan plan → StandsFor plan capacities names room flown rid s → w < 4 → flown w ≡ None → IsReadable k → IsFree flown k → (s.machine.board.applied k ≡ good_of plan s.written k → ⊥) → ((r : Row) → good_of plan s.written k ≡ Some r → have_rows s.machine.board.applied (names_of k r) ≡ true → Fits plan k r) → MayStart plan names w k (s.machine.board.applied k) (good_of plan s.written k) }
+    ensures waits { (plan : Ports) (capacities : List ℕ) (names : Names) (room : RoomState) (numbers : List ℕ) (flown : ℕ → Option Flown) (rid : Vid → Option Rid) (s : SwitchState) (w : ℕ) (k : Key) (wait : Wait) → IsPlan plan → StandsFor plan capacities names room flown rid s → AreUsed s.objects numbers → flown w ≡ None → IsFree flown k → (s.machine.board.applied k ≡ good_of plan s.written k → ⊥) → ((r : Row) → good_of plan s.written k ≡ Some r → have_rows s.machine.board.applied (names_of k r) ≡ true → Fits plan k r) → wait_of plan names room numbers w k (s.machine.board.applied k) (good_of plan s.written k) ≡ Some wait → IsReason plan 4 capacities s k wait }
+    ensures busy { (plan : Ports) (capacities : List ℕ) (names : Names) (room : RoomState) (flown : ℕ → Option Flown) (rid : Vid → Option Rid) (s : SwitchState) (v : ℕ) (x : Flown) → StandsFor plan capacities names room flown rid s → flown v ≡ Some x → IsReason plan 4 capacities s x.operation.key (wait.Busy v) }
+    ensures rests { (plan : Ports) (capacities : List ℕ) (names : Names) (room : RoomState) (flown : ℕ → Option Flown) (rid : Vid → Option Rid) (s : SwitchState) (k : Key) → StandsFor plan capacities names room flown rid s → IsFree flown k → IsResting s.machine.board k }
+{}
+
+/// Of what a worker has under way a change is due; the operation, and that of a group, is one over the port plan; and the registry has
+/// the identifiers that its next call needs.
+pub fn next_calls_are_known()
+    ensures knows { (plan : Ports) (capacities : List ℕ) (names : Names) (room : RoomState) (flown : ℕ → Option Flown) (rid : Vid → Option Rid) (s : SwitchState) (w : ℕ) (x : Flown) → IsPlan plan → StandsFor plan capacities names room flown rid s → flown w ≡ Some x → HasBegun plan names x → KnowsNext names x.operation x.group }
+    ensures row { (plan : Ports) (capacities : List ℕ) (names : Names) (room : RoomState) (flown : ℕ → Option Flown) (rid : Vid → Option Rid) (s : SwitchState) (w : ℕ) (x : Flown) → IsPlan plan → StandsFor plan capacities names room flown rid s → flown w ≡ Some x → IsOver plan x.operation × (HasBegun plan names x → x.group ≡ None → x.operation.due ≡ [] → ⊥) }
+    ensures group { (plan : Ports) (capacities : List ℕ) (names : Names) (room : RoomState) (flown : ℕ → Option Flown) (rid : Vid → Option Rid) (s : SwitchState) (w : ℕ) (x : Flown) (g : GroupOperation) → StandsFor plan capacities names room flown rid s → flown w ≡ Some x → x.group ≡ Some g → IsGroupOver plan g × (g.due ≡ [] → ⊥) }
 {}

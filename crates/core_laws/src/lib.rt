@@ -4,4 +4,7 @@
 
 mod laws;
 
-pub use laws::{groups_begin_in_place, nothing_stands_for, rows_stand_for};
+pub use laws::{
+    groups_begin_in_place, keys_wait_or_begin, next_calls_are_known, nothing_stands_for,
+    rows_stand_for,
+};
