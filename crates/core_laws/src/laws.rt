@@ -2,10 +2,14 @@
 ghost use Rattle.std.specs.Prelude.{◌≡◌, ◌⊎◌, ◌<◌, ◌∷◌, ℕ, true, false, List, [], Option, None, Some, Ok, is_some};
 ghost use Rattle.table_schema.specs.Plan.{IsPlan, Ports};
 ghost use Rattle.table_schema.specs.declared.key.Key.{Key};
+ghost use Rattle.sai_types.specs.declared.body.Call.{Call};
 ghost use Rattle.sai_types.specs.declared.ids.Rid.{Rid};
 ghost use Rattle.sai_types.specs.declared.ids.Vid.{Vid};
+ghost use Rattle.sai_types.specs.After.{makes_id};
 ghost use Rattle.sai_types.specs.Alike.{IsIn};
-ghost use Rattle.switch_machine.specs.Events.{IsDrop, IsPop, IsTake, SwitchState, empty_switch, fresh_view};
+ghost use Rattle.sai_types.specs.Refusal.{IsLegal};
+ghost use Rattle.chip_layout.specs.Renamed.{call_renamed};
+ghost use Rattle.switch_machine.specs.Events.{IsDrop, IsDueCall, IsPop, IsTake, SwitchState, empty_switch, fresh_view};
 ghost use Rattle.switch_machine.specs.Flights.{Fits, IsResting, put};
 ghost use Rattle.table_schema.specs.Names.{names_of};
 ghost use Rattle.table_schema.specs.declared.row.Row.{Row};
@@ -23,7 +27,9 @@ ghost use Rattle.registry_laws.specs.Registers.{AreUsed};
 ghost use Rattle.ref_counts.specs.Registry.{Names};
 ghost use Rattle.ref_counts.specs.Room.{RoomState, all_free};
 ghost use Rattle.registry_laws.specs.Flown.{Flown};
-ghost use Rattle.registry_laws.specs.Making.{KnowsNext, with_group_begun};
+ghost use Rattle.registry_laws.specs.Making.{IsNextCall, KnowsNext, MayTakeFor, with_group_begun};
+ghost use Rattle.identifier_laws.specs.Identified.{tie_by};
+ghost use Rattle.core_laws.specs.Calls.{IsTied, ids_of_call};
 ghost use Rattle.core_laws.specs.Standing.{HasBegun, IsFree, StandsFor};
 
 /// With no names, all places free and nothing under way all stands for the empty switch; and for an empty view, where each key with
@@ -61,4 +67,17 @@ pub fn next_calls_are_known()
     ensures knows { (plan : Ports) (capacities : List ℕ) (names : Names) (room : RoomState) (flown : ℕ → Option Flown) (rid : Vid → Option Rid) (s : SwitchState) (w : ℕ) (x : Flown) → IsPlan plan → StandsFor plan capacities names room flown rid s → flown w ≡ Some x → HasBegun plan names x → KnowsNext names x.operation x.group }
     ensures row { (plan : Ports) (capacities : List ℕ) (names : Names) (room : RoomState) (flown : ℕ → Option Flown) (rid : Vid → Option Rid) (s : SwitchState) (w : ℕ) (x : Flown) → IsPlan plan → StandsFor plan capacities names room flown rid s → flown w ≡ Some x → IsOver plan x.operation × (HasBegun plan names x → x.group ≡ None → x.operation.due ≡ [] → ⊥) }
     ensures group { (plan : Ports) (capacities : List ℕ) (names : Names) (room : RoomState) (flown : ℕ → Option Flown) (rid : Vid → Option Rid) (s : SwitchState) (w : ℕ) (x : Flown) (g : GroupOperation) → StandsFor plan capacities names room flown rid s → flown w ≡ Some x → x.group ≡ Some g → IsGroupOver plan g × (g.due ≡ [] → ⊥) }
+{}
+
+/// The next call of what a worker has under way, by the identifiers of the chip to which those that it names are tied, is due for the
+/// worker: so it is legal. Each identifier that it names is tied.
+pub fn next_calls_are_due()
+    ensures due { (plan : Ports) (capacities : List ℕ) (names : Names) (room : RoomState) (flown : ℕ → Option Flown) (rid : Vid → Option Rid) (s : SwitchState) (w : ℕ) (x : Flown) (c : Call Vid) → IsPlan plan → StandsFor plan capacities names room flown rid s → flown w ≡ Some x → HasBegun plan names x → IsNextCall plan names x.operation x.group c → (y : IsDueCall 4 (call_renamed (tie_by rid) c) s) × (y.worker ≡ w) }
+    ensures legal { (plan : Ports) (capacities : List ℕ) (names : Names) (room : RoomState) (flown : ℕ → Option Flown) (rid : Vid → Option Rid) (s : SwitchState) (w : ℕ) (x : Flown) (c : Call Vid) → IsPlan plan → StandsFor plan capacities names room flown rid s → flown w ≡ Some x → HasBegun plan names x → IsNextCall plan names x.operation x.group c → IsLegal capacities s.objects (call_renamed (tie_by rid) c) }
+    ensures tied { (plan : Ports) (capacities : List ℕ) (names : Names) (room : RoomState) (flown : ℕ → Option Flown) (rid : Vid → Option Rid) (s : SwitchState) (w : ℕ) (x : Flown) (c : Call Vid) (v : Vid) → IsPlan plan → StandsFor plan capacities names room flown rid s → flown w ≡ Some x → HasBegun plan names x → IsNextCall plan names x.operation x.group c → IsIn v (ids_of_call c) → IsTied rid v }
+{}
+
+/// The answer of the next call may be taken, with an identifier where the call makes one.
+pub fn answers_may_come()
+    ensures { (plan : Ports) (capacities : List ℕ) (names : Names) (room : RoomState) (flown : ℕ → Option Flown) (rid : Vid → Option Rid) (s : SwitchState) (w : ℕ) (x : Flown) (c : Call Vid) (made : Option Vid) → IsPlan plan → StandsFor plan capacities names room flown rid s → flown w ≡ Some x → HasBegun plan names x → IsNextCall plan names x.operation x.group c → is_some made ≡ makes_id c → MayTakeFor x.operation x.group made names }
 {}
