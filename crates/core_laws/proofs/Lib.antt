@@ -6,3 +6,5 @@ pub mod Nexts
 pub mod Tied
 pub mod Due
 pub mod Taken
+pub mod Ended
+pub mod Opened

@@ -9,8 +9,8 @@ ghost use Rattle.sai_types.specs.After.{makes_id};
 ghost use Rattle.sai_types.specs.Alike.{IsIn};
 ghost use Rattle.sai_types.specs.Refusal.{IsLegal};
 ghost use Rattle.chip_layout.specs.Renamed.{call_renamed};
-ghost use Rattle.switch_machine.specs.Events.{IsDrop, IsDueCall, IsPop, IsTake, SwitchState, empty_switch, fresh_view};
-ghost use Rattle.switch_machine.specs.Flights.{Fits, IsResting, put};
+ghost use Rattle.switch_machine.specs.Events.{HasLeft, IsBegin, IsDrop, IsDueCall, IsPop, IsTake, SwitchState, empty_switch, fresh_view};
+ghost use Rattle.switch_machine.specs.Flights.{Fits, IsResting, Machine, put};
 ghost use Rattle.table_schema.specs.Names.{names_of};
 ghost use Rattle.table_schema.specs.declared.row.Row.{Row};
 ghost use Rattle.switch_model.specs.Desired.{have_rows};
@@ -22,11 +22,15 @@ ghost use Rattle.ref_counts.specs.Registered.{IsReadable};
 ghost use Rattle.orch_flight.specs.Calling.{IsOver};
 ghost use Rattle.orch_flight.specs.Grouping.{GroupOperation, IsGroupOver};
 ghost use Rattle.orch_flight.specs.Needing.{wait_of};
+ghost use Rattle.orch_flight.specs.Operation.{Operation};
 ghost use Rattle.orch_flight.specs.Sharing.{MayStart};
+ghost use Rattle.orch_flight.specs.Starting.{IsStartedBy};
 ghost use Rattle.registry_laws.specs.Registers.{AreUsed};
 ghost use Rattle.ref_counts.specs.Registry.{Names};
-ghost use Rattle.ref_counts.specs.Room.{RoomState, all_free};
-ghost use Rattle.registry_laws.specs.Flown.{Flown};
+ghost use Rattle.ref_counts.specs.Room.{GivesBack, RoomState, all_free};
+ghost use Rattle.registry_laws.specs.Ending.{ended_names};
+ghost use Rattle.registry_laws.specs.Flown.{Flown, due_for};
+ghost use Rattle.registry_laws.specs.Flying.{flown_as, with_machine};
 ghost use Rattle.registry_laws.specs.Making.{IsNextCall, KnowsNext, MayTakeFor, with_group_begun};
 ghost use Rattle.identifier_laws.specs.Identified.{tie_by};
 ghost use Rattle.core_laws.specs.Calls.{IsTied, ids_of_call};
@@ -80,4 +84,11 @@ pub fn next_calls_are_due()
 /// The answer of the next call may be taken, with an identifier where the call makes one.
 pub fn answers_may_come()
     ensures { (plan : Ports) (capacities : List ℕ) (names : Names) (room : RoomState) (flown : ℕ → Option Flown) (rid : Vid → Option Rid) (s : SwitchState) (w : ℕ) (x : Flown) (c : Call Vid) (made : Option Vid) → IsPlan plan → StandsFor plan capacities names room flown rid s → flown w ≡ Some x → HasBegun plan names x → IsNextCall plan names x.operation x.group c → is_some made ≡ makes_id c → MayTakeFor x.operation x.group made names }
+{}
+
+/// An operation that starts is a Begin of the machine. Where a change is due for it the worker has it under way from then on; where none
+/// is it has ended in the same event, and its places are given back.
+pub fn beginnings_are_events()
+    ensures goes_on { (plan : Ports) (capacities : List ℕ) (names names' : Names) (room room' : RoomState) (numbers : List ℕ) (flown : ℕ → Option Flown) (rid : Vid → Option Rid) (s : SwitchState) (w : ℕ) (k : Key) (later : List Key) (f : Operation) → IsPlan plan → StandsFor plan capacities names room flown rid s → AreUsed s.objects numbers → w < 4 → flown w ≡ None → IsReadable k → IsFree flown k → (s.machine.board.applied k ≡ good_of plan s.written k → ⊥) → ((r : Row) → good_of plan s.written k ≡ Some r → have_rows s.machine.board.applied (names_of k r) ≡ true → Fits plan k r) → HasLeft k s.to_sync later → IsStartedBy plan names room numbers w k (s.machine.board.applied k) (good_of plan s.written k) (Ok f) names' room' → (due_for plan names' (flown_as f None) ≡ [] → ⊥) → (t : Machine) × ((b : IsBegin plan 4 capacities s (with_machine s t later)) × (b.worker ≡ w) × (b.flight.key ≡ k)) × StandsFor plan capacities names' room' (put w (Some (flown_as f None)) flown) rid (with_machine s t later) }
+    ensures ends { (plan : Ports) (capacities : List ℕ) (names names' : Names) (room room' given : RoomState) (numbers : List ℕ) (flown : ℕ → Option Flown) (rid : Vid → Option Rid) (s : SwitchState) (w : ℕ) (k : Key) (later : List Key) (f : Operation) → IsPlan plan → StandsFor plan capacities names room flown rid s → AreUsed s.objects numbers → w < 4 → flown w ≡ None → IsReadable k → IsFree flown k → (s.machine.board.applied k ≡ good_of plan s.written k → ⊥) → ((r : Row) → good_of plan s.written k ≡ Some r → have_rows s.machine.board.applied (names_of k r) ≡ true → Fits plan k r) → HasLeft k s.to_sync later → IsStartedBy plan names room numbers w k (s.machine.board.applied k) (good_of plan s.written k) (Ok f) names' room' → due_for plan names' (flown_as f None) ≡ [] → GivesBack room' w given → (t : Machine) × ((b : IsBegin plan 4 capacities s (with_machine s t later)) × (b.worker ≡ w) × (b.flight.key ≡ k)) × StandsFor plan capacities (ended_names names' w k (s.machine.board.applied k) (good_of plan s.written k)) given (put w None flown) rid (with_machine s t later) }
 {}
