@@ -8,3 +8,7 @@ pub mod Due
 pub mod Taken
 pub mod Ended
 pub mod Opened
+pub mod Making
+pub mod RowAnswered
+pub mod GroupAnswered
+pub mod Answered

@@ -8,8 +8,9 @@ ghost use Rattle.sai_types.specs.declared.ids.Vid.{Vid};
 ghost use Rattle.sai_types.specs.After.{makes_id};
 ghost use Rattle.sai_types.specs.Alike.{IsIn};
 ghost use Rattle.sai_types.specs.Refusal.{IsLegal};
+ghost use Rattle.chip_layout.specs.Layout.{next_id};
 ghost use Rattle.chip_layout.specs.Renamed.{call_renamed};
-ghost use Rattle.switch_machine.specs.Events.{HasLeft, IsBegin, IsDrop, IsDueCall, IsPop, IsTake, SwitchState, empty_switch, fresh_view};
+ghost use Rattle.switch_machine.specs.Events.{HasLeft, IsAnswer, IsBegin, IsDrop, IsDueCall, IsPop, IsTake, SwitchState, empty_switch, fresh_view};
 ghost use Rattle.switch_machine.specs.Flights.{Fits, IsResting, Machine, put};
 ghost use Rattle.table_schema.specs.Names.{names_of};
 ghost use Rattle.table_schema.specs.declared.row.Row.{Row};
@@ -31,10 +32,10 @@ ghost use Rattle.ref_counts.specs.Room.{GivesBack, RoomState, all_free};
 ghost use Rattle.registry_laws.specs.Ending.{ended_names};
 ghost use Rattle.registry_laws.specs.Flown.{Flown, due_for};
 ghost use Rattle.registry_laws.specs.Flying.{flown_as, with_machine};
-ghost use Rattle.registry_laws.specs.Making.{IsNextCall, KnowsNext, MayTakeFor, with_group_begun};
+ghost use Rattle.registry_laws.specs.Making.{IsNextCall, KnowsNext, MayTakeFor, TookFor, with_group_begun};
 ghost use Rattle.identifier_laws.specs.Identified.{tie_by};
-ghost use Rattle.core_laws.specs.Calls.{IsTied, ids_of_call};
-ghost use Rattle.core_laws.specs.Standing.{HasBegun, IsFree, StandsFor};
+ghost use Rattle.core_laws.specs.Calls.{IsTied, TiesFollow, ids_of_call};
+ghost use Rattle.core_laws.specs.Standing.{HasBegun, IsFree, StandsFor, with_answer};
 
 /// With no names, all places free and nothing under way all stands for the empty switch; and for an empty view, where each key with
 /// a row is to sync.
@@ -91,4 +92,11 @@ pub fn answers_may_come()
 pub fn beginnings_are_events()
     ensures goes_on { (plan : Ports) (capacities : List ℕ) (names names' : Names) (room room' : RoomState) (numbers : List ℕ) (flown : ℕ → Option Flown) (rid : Vid → Option Rid) (s : SwitchState) (w : ℕ) (k : Key) (later : List Key) (f : Operation) → IsPlan plan → StandsFor plan capacities names room flown rid s → AreUsed s.objects numbers → w < 4 → flown w ≡ None → IsReadable k → IsFree flown k → (s.machine.board.applied k ≡ good_of plan s.written k → ⊥) → ((r : Row) → good_of plan s.written k ≡ Some r → have_rows s.machine.board.applied (names_of k r) ≡ true → Fits plan k r) → HasLeft k s.to_sync later → IsStartedBy plan names room numbers w k (s.machine.board.applied k) (good_of plan s.written k) (Ok f) names' room' → (due_for plan names' (flown_as f None) ≡ [] → ⊥) → (t : Machine) × ((b : IsBegin plan 4 capacities s (with_machine s t later)) × (b.worker ≡ w) × (b.flight.key ≡ k)) × StandsFor plan capacities names' room' (put w (Some (flown_as f None)) flown) rid (with_machine s t later) }
     ensures ends { (plan : Ports) (capacities : List ℕ) (names names' : Names) (room room' given : RoomState) (numbers : List ℕ) (flown : ℕ → Option Flown) (rid : Vid → Option Rid) (s : SwitchState) (w : ℕ) (k : Key) (later : List Key) (f : Operation) → IsPlan plan → StandsFor plan capacities names room flown rid s → AreUsed s.objects numbers → w < 4 → flown w ≡ None → IsReadable k → IsFree flown k → (s.machine.board.applied k ≡ good_of plan s.written k → ⊥) → ((r : Row) → good_of plan s.written k ≡ Some r → have_rows s.machine.board.applied (names_of k r) ≡ true → Fits plan k r) → HasLeft k s.to_sync later → IsStartedBy plan names room numbers w k (s.machine.board.applied k) (good_of plan s.written k) (Ok f) names' room' → due_for plan names' (flown_as f None) ≡ [] → GivesBack room' w given → (t : Machine) × ((b : IsBegin plan 4 capacities s (with_machine s t later)) × (b.worker ≡ w) × (b.flight.key ≡ k)) × StandsFor plan capacities (ended_names names' w k (s.machine.board.applied k) (good_of plan s.written k)) given (put w None flown) rid (with_machine s t later) }
+{}
+
+/// The next call has taken effect, and its answer was taken: that is an Answer of the machine. Where something is due for what the worker
+/// has then it goes on; where nothing is, or the group that it took away is gone, it has ended, and its places are given back.
+pub fn answers_are_events()
+    ensures goes_on { (plan : Ports) (capacities : List ℕ) (names names' : Names) (room : RoomState) (flown : ℕ → Option Flown) (rid rid' : Vid → Option Rid) (s : SwitchState) (w : ℕ) (x x' : Flown) (c : Call Vid) (made : Option Vid) → IsPlan plan → StandsFor plan capacities names room flown rid s → flown w ≡ Some x → HasBegun plan names x → IsNextCall plan names x.operation x.group c → is_some made ≡ makes_id c → TiesFollow rid rid' c made (next_id s.made) → TookFor x.operation x.group made names x' names' → (due_for plan names' x' ≡ [] → ⊥) → (t : Machine) × ((z : IsAnswer plan 4 (call_renamed (tie_by rid) c) s (with_answer s t (call_renamed (tie_by rid) c))) × (z.next.worker ≡ w)) × StandsFor plan capacities names' room (put w (Some x') flown) rid' (with_answer s t (call_renamed (tie_by rid) c)) }
+    ensures ends { (plan : Ports) (capacities : List ℕ) (names names' : Names) (room : RoomState) (flown : ℕ → Option Flown) (rid rid' : Vid → Option Rid) (s : SwitchState) (w : ℕ) (x x' : Flown) (c : Call Vid) (made : Option Vid) → IsPlan plan → StandsFor plan capacities names room flown rid s → flown w ≡ Some x → HasBegun plan names x → IsNextCall plan names x.operation x.group c → is_some made ≡ makes_id c → TiesFollow rid rid' c made (next_id s.made) → TookFor x.operation x.group made names x' names' → (given : RoomState) → due_for plan names' x' ≡ [] → GivesBack room w given → (t : Machine) × ((z : IsAnswer plan 4 (call_renamed (tie_by rid) c) s (with_answer s t (call_renamed (tie_by rid) c))) × (z.next.worker ≡ w)) × StandsFor plan capacities (ended_names names' w x'.operation.key (s.machine.board.applied x'.operation.key) x'.operation.new) given (put w None flown) rid' (with_answer s t (call_renamed (tie_by rid) c)) }
 {}
