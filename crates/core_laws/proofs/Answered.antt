@@ -10,7 +10,6 @@ use Rattle.switch_machine.specs.Events.{SwitchState}
 use Rattle.ref_counts.specs.Registry.{Names}
 use Rattle.ref_counts.specs.Room.{RoomState}
 use Rattle.orch_flight.specs.Grouping.{GroupOperation}
-use Rattle.orch_flight.specs.Operation.{Operation}
 use Rattle.registry_laws.specs.Flown.{Flown}
 use Rattle.registry_laws.specs.Making.{IsNextCall, TookFor}
 use Rattle.core_laws.specs.Calls.{TiesFollow}

@@ -1,5 +1,5 @@
 -- each object that stands keeps its identifier when an operation has ended
-use Rattle.std.proofs.Common.{◌≡◌, ◌⊎◌, ◌∙◌, inl, inr, ℕ, true, false, cond, List, [], Option, None, Some, refl, sym, ap, subst}
+use Rattle.std.proofs.Common.{◌≡◌, ◌⊎◌, ◌∙◌, inl, inr, ℕ, cond, Option, None, Some, refl, sym, ap, subst}
 use Rattle.std.specs.BTreeMap.{is_at}
 use Rattle.std.specs.Map.{remove_entry}
 use Rattle.table_schema.specs.Plan.{Ports}

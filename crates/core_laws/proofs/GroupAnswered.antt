@@ -1,5 +1,5 @@
 -- all stands for the state when the call of a group's operation has taken effect
-use Rattle.std.proofs.Common.{◌≡◌, ◌⊎◌, ◌∷◌, ◌++◌, ◌∙◌, inl, inr, ℕ, Bool, true, false, cond, List, [], Option, None, Some, is_some, refl, sym, ap, subst}
+use Rattle.std.proofs.Common.{◌≡◌, ◌∷◌, ◌++◌, ◌∙◌, inl, inr, ℕ, Bool, true, false, cond, List, [], Option, None, Some, is_some, refl, sym, ap, subst}
 use Rattle.table_schema.specs.Plan.{IsPlan, Ports}
 use Rattle.sai_types.specs.declared.body.Call.{Call}
 use Rattle.sai_types.specs.declared.ids.Rid.{Rid}
@@ -25,7 +25,7 @@ use Rattle.orch_flight.specs.Calling.{HasVid}
 use Rattle.orch_flight.specs.Grouping.{GroupOperation, HasGroupVid, IsGroupTook, with_made}
 use Rattle.orch_flight.specs.Operation.{Operation}
 use Rattle.orch_flight.specs.Starting.{taken_here}
-use Rattle.registry_laws.specs.Flown.{Flown, due_for, group_to_build, group_to_take, whole_group}
+use Rattle.registry_laws.specs.Flown.{Flown, group_to_build, group_to_take, whole_group}
 use Rattle.registry_laws.specs.Flying.{IsRestFrom, flown_as}
 use Rattle.registry_laws.specs.Making.{IsNextCall, left_of_group_by}
 use Rattle.registry_laws.proofs.Fine.{AreFine, fine_of, group_fine}

@@ -1,5 +1,5 @@
 -- the call that is due for a worker is made
-use Rattle.std.proofs.Common.{◌≡◌, ◌+◌, ◌∷◌, ◌∙◌, ℕ, Bool, true, false, List, [], Option, None, Some, is_some, refl, sym, ap, subst}
+use Rattle.std.proofs.Common.{◌≡◌, ◌∙◌, ℕ, true, List, [], Option, None, Some, is_some, refl, sym, ap, subst}
 use Rattle.table_schema.specs.Plan.{IsPlan, Ports}
 use Rattle.table_schema.specs.declared.key.Key.{Key}
 use Rattle.table_schema.specs.declared.row.Row.{Row}
@@ -24,12 +24,11 @@ use Rattle.machine_laws.proofs.Completing.{Changed, change}
 use Rattle.ref_counts.specs.Registry.{Names}
 use Rattle.ref_counts.specs.Room.{GivesBack, RoomState}
 use Rattle.orch_flight.specs.Calling.{HasVid, IsCallOf, entry_by}
-use Rattle.orch_flight.specs.Operation.{Operation}
 use Rattle.registry_laws.specs.Ending.{ended_names}
 use Rattle.registry_laws.specs.Flown.{Flown, due_for, flight_of}
 use Rattle.registry_laws.specs.Flying.{KnowsBoard}
 use Rattle.registry_laws.proofs.Fine.{AreFine}
-use Rattle.registry_laws.proofs.Listing.{no_some, not_some, same_some}
+use Rattle.registry_laws.proofs.Listing.{not_some, same_some}
 use Rattle.identifier_laws.specs.Identified.{HasWholeGroups, Identified, TiesAfter, tie_by}
 use Rattle.identifier_laws.proofs.Whole.{whole_ended}
 use Rattle.core_laws.specs.Calls.{TiesFollow, removed_id}

@@ -1,5 +1,5 @@
 -- what is due next for a worker, and that the registry has the identifiers for it
-use Rattle.std.proofs.Common.{◌≡◌, ◌⊎◌, ◌<◌, ◌∷◌, ◌++◌, ◌∙◌, inl, inr, ℕ, Bool, true, false, List, [], Option, None, Some, refl, sym, ap, subst}
+use Rattle.std.proofs.Common.{◌≡◌, ◌<◌, ◌∷◌, ◌++◌, ◌∙◌, inl, ℕ, Bool, true, false, List, [], Option, None, Some, refl, sym, ap, subst}
 use Rattle.table_schema.specs.Plan.{IsPlan, Ports}
 use Rattle.sai_types.specs.declared.hop.Hop.{Hop}
 use Rattle.sai_types.specs.declared.ids.Rid.{Rid}
@@ -35,7 +35,7 @@ use Rattle.identifier_laws.specs.Identified.{BuildsGroups, IsUnderWay}
 use Rattle.identifier_laws.proofs.Knowing.{row_known}
 use Rattle.identifier_laws.proofs.Neighbours.{building_known, going_known}
 use Rattle.core_laws.specs.Standing.{HasBegun, StandsFor}
-use Rattle.core_laws.proofs.Parts.{builds_groups, retired_group, to_be_built}
+use Rattle.core_laws.proofs.Parts.{builds_groups, to_be_built}
 
 module _ (plan : Ports) (is : IsPlan plan) (capacities : List ℕ) (names : Names) (room : RoomState) (flown : ℕ → Option Flown) (rid : Vid → Option Rid) (s : SwitchState) (stands : StandsFor plan capacities names room flown rid s) (w : ℕ) (x : Flown) (at : flown w ≡ Some x) where
   abbrev pub m : Machine

@@ -1,5 +1,5 @@
 -- all stands for the state when an operation has begun
-use Rattle.std.proofs.Common.{◌≡◌, ◌<◌, ◌∷◌, ◌∙◌, inr, ℕ, true, List, [], Option, None, Some, Ok, refl, sym, subst}
+use Rattle.std.proofs.Common.{◌≡◌, ◌<◌, ◌∷◌, ◌∙◌, inr, ℕ, true, List, [], Option, None, Some, Ok, sym, subst}
 use Rattle.table_schema.specs.Names.{names_of}
 use Rattle.table_schema.specs.Plan.{IsPlan, Ports}
 use Rattle.table_schema.specs.declared.key.Key.{Key}
@@ -21,7 +21,7 @@ use Rattle.orch_flight.specs.Sharing.{MayStart}
 use Rattle.orch_flight.specs.Starting.{IsStartedBy, begun_names, first_due, leaving, started_names, started_names_by}
 use Rattle.registry_laws.specs.Ending.{ended_names}
 use Rattle.registry_laws.specs.Flown.{Flown, due_for}
-use Rattle.registry_laws.specs.Flying.{KnowsBoard, flown_as, with_machine}
+use Rattle.registry_laws.specs.Flying.{flown_as, with_machine}
 use Rattle.registry_laws.specs.Registers.{AreUsed}
 use Rattle.registry_laws.proofs.Allowed.{may_start}
 use Rattle.registry_laws.proofs.Fine.{AreFine, begun_fine, fine_of, left_fine}

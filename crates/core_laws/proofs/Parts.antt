@@ -1,7 +1,6 @@
 -- groups that are under way are partly built
-use Rattle.std.proofs.Common.{◌≡◌, ◌⊎◌, ◌∷◌, ◌++◌, ◌∙◌, inl, inr, ℕ, suc, true, false, List, [], length, Option, Some, refl, sym, ap, subst}
+use Rattle.std.proofs.Common.{◌≡◌, ◌⊎◌, ◌∷◌, ◌++◌, ◌∙◌, inl, inr, ℕ, suc, true, false, List, [], length, Option, Some, refl, sym, ap}
 use Rattle.table_schema.specs.Plan.{Ports}
-use Rattle.sai_types.specs.declared.hop.Hop.{Hop}
 use Rattle.sai_types.specs.declared.thing.Thing.{Thing}
 use Rattle.row_layout.specs.Operations.{Change, make_all, uses_of}
 use Rattle.row_layout.specs.Rows as owner
@@ -14,7 +13,7 @@ use Rattle.ref_counts.specs.Room.{RoomState}
 use Rattle.orch_flight.specs.Grouping.{GroupOperation, first_group_due}
 use Rattle.orch_flight.specs.Operation.{Operation}
 use Rattle.registry_laws.specs.Flown.{Flown, group_in, group_to_build, group_to_take}
-use Rattle.registry_laws.specs.Flying.{IsFlown, IsGroupFlown, KnowsBoard}
+use Rattle.registry_laws.specs.Flying.{IsGroupFlown, KnowsBoard}
 use Rattle.registry_laws.proofs.Aside.{built_state}
 use Rattle.registry_laws.proofs.Grouped.{taken_group}
 use Rattle.registry_laws.proofs.Replied.{same_rest}

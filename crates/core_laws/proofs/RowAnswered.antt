@@ -1,5 +1,5 @@
 -- all stands for the state when the call of a row's operation has taken effect
-use Rattle.std.proofs.Common.{◌≡◌, ◌∷◌, ◌∙◌, inl, ℕ, true, List, [], Option, None, Some, is_some, refl, sym, ap, subst}
+use Rattle.std.proofs.Common.{◌≡◌, ◌∷◌, ◌∙◌, inl, ℕ, List, [], Option, None, Some, is_some, refl, sym, ap, subst}
 use Rattle.table_schema.specs.Plan.{IsPlan, Ports}
 use Rattle.sai_types.specs.declared.body.Call.{Call}
 use Rattle.sai_types.specs.declared.ids.Rid.{Rid}
@@ -17,7 +17,6 @@ use Rattle.switch_machine.specs.Steps.{moved}
 use Rattle.ref_counts.specs.Registry.{Names}
 use Rattle.ref_counts.specs.Room.{RoomState}
 use Rattle.orch_flight.specs.Calling.{HasVid, things_held}
-use Rattle.orch_flight.specs.Grouping.{GroupOperation}
 use Rattle.orch_flight.specs.Operation.{Operation}
 use Rattle.orch_flight.specs.Taking.{IsTook, MayTake, names_after, names_by}
 use Rattle.registry_laws.specs.Answering.{IsOfGroup}
@@ -27,7 +26,7 @@ use Rattle.registry_laws.specs.Making.{IsNextCall}
 use Rattle.registry_laws.proofs.Fine.{AreFine, after_fine, fine_of, left_fine}
 use Rattle.registry_laws.proofs.Listing.{not_some, same_some}
 use Rattle.registry_laws.proofs.Replies.{row_ends, row_goes_on}
-use Rattle.identifier_laws.specs.Identified.{HasWholeGroups, Identified, IsUnderWay, KeepsBuilds, TiesAfter, tie_by}
+use Rattle.identifier_laws.specs.Identified.{HasWholeGroups, Identified, KeepsBuilds, TiesAfter, tie_by}
 use Rattle.identifier_laws.proofs.Staying.{flown_identified, puts_kept}
 use Rattle.identifier_laws.proofs.Took.{took_identified}
 use Rattle.identifier_laws.proofs.Whole.{whole_took}

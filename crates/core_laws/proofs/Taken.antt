@@ -1,9 +1,7 @@
 -- the answer of the next call may be taken
-use Rattle.std.proofs.Common.{◌≡◌, ◌∷◌, ◌∙◌, inl, ℕ, Bool, true, false, List, Option, None, Some, is_some, refl, sym, ap, subst}
+use Rattle.std.proofs.Common.{◌≡◌, ◌∙◌, inl, ℕ, Bool, true, false, List, Option, None, Some, is_some, refl, sym, ap, subst}
 use Rattle.table_schema.specs.Plan.{IsPlan, Ports}
-use Rattle.sai_types.specs.declared.body.Body.{Body}
 use Rattle.sai_types.specs.declared.body.Call.{Call}
-use Rattle.sai_types.specs.declared.body.Call.TheVariants as call
 use Rattle.sai_types.specs.declared.ids.Rid.{Rid}
 use Rattle.sai_types.specs.declared.ids.Vid.{Vid}
 use Rattle.sai_types.specs.declared.thing.Thing.{Thing}
@@ -13,7 +11,7 @@ use Rattle.sai_types.specs.Alike.{IsIn}
 use Rattle.sai_types.specs.Names.{Name, name_of}
 use Rattle.chip_layout.specs.Bodies.{body_with}
 use Rattle.chip_layout.specs.Layout.{has_number}
-use Rattle.row_layout.specs.Operations.{Change, Make, Set, Take}
+use Rattle.row_layout.specs.Operations.{Make, Take}
 use Rattle.row_layout.specs.Rows as owner
 use Rattle.row_layout.specs.Shared.{shared_things}
 use Rattle.switch_machine.specs.Events.{SwitchState}

@@ -14,7 +14,6 @@ use Rattle.sai_types.specs.declared.body.To.{To}
 use Rattle.sai_types.specs.declared.body.To.TheVariants as to
 use Rattle.sai_types.specs.declared.ids.Rid.{Rid}
 use Rattle.sai_types.specs.declared.ids.Vid.{Vid}
-use Rattle.sai_types.specs.Alike.{IsIn}
 
 -- ---- the identifiers that a call names
 
