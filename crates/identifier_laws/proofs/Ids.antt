@@ -12,7 +12,11 @@ use Rattle.ref_counts.specs.Registry.{Names, all_released, changed, ids_by, ids_
 use Rattle.ref_counts.proofs.Found.{found-released, pinned-kept}
 use Rattle.orch_flight.specs.Needing.{name_for}
 use Rattle.registry_laws.proofs.Finding.{found_at, found_off, put_at_name, put_off_name}
-use Rattle.identifier_laws.specs.Identified.{HaveSameIds, IsUnbuilt}
+use Rattle.identifier_laws.specs.Identified.{HaveSameIds}
+
+-- no operation builds what has the owner's name
+abbrev pub IsUnbuilt : Names → Owner → Type 0
+IsUnbuilt names o = (w : ℕ) → state_of names (name_for o) ≡ state.Building w → ⊥
 
 -- a change that keeps a name's identifiers keeps all
 module _ (names : Names) (o : Owner) (f : Registered → Registered) where

@@ -16,3 +16,4 @@ pub mod Grouped
 pub mod GroupTook
 pub mod Whole
 pub mod Ports
+pub mod Entering

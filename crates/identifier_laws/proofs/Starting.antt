@@ -26,8 +26,8 @@ use Rattle.registry_laws.specs.Ending.{ended_names, made_at_last, named_by, user
 use Rattle.registry_laws.proofs.Finding.{building_off, found_at, found_off, gone_off, own_off}
 use Rattle.registry_laws.proofs.Listing.{not_some}
 use Rattle.registry_laws.proofs.Sharing.{absent_first, left_apart}
-use Rattle.identifier_laws.specs.Identified.{HaveSameIds, IsUnbuilt}
-use Rattle.identifier_laws.proofs.Ids.{ids_absent, ids_changed, ids_going, ids_no_user, ids_pinned, ids_put, ids_released, ids_then, ids_user}
+use Rattle.identifier_laws.specs.Identified.{HaveSameIds}
+use Rattle.identifier_laws.proofs.Ids.{IsUnbuilt, ids_absent, ids_changed, ids_going, ids_no_user, ids_pinned, ids_put, ids_released, ids_then, ids_user}
 
 -- ---- how names stand
 

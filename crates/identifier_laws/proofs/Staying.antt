@@ -64,6 +64,10 @@ module _ (plan : Ports) (names : Names) (rid : Vid → Option Rid) (flown : ℕ 
   pub flown_identified : (flown' : ℕ → Option Flown) → KeepsBuilds flown flown' → Identified plan names rid flown' stands
   flown_identified flown' builds = record { each = λ i t h numbered. let x = known.each i t h numbered in (x.0, vid_kept plan names names flown flown' builds (name_of t) x.0 (λ o of. refl) x.1, x.2) }
 
+  -- the same things stand by other identifiers
+  pub tied_identified : (rid' : Vid → Option Rid) (stands' : List (Rid × Thing)) → ((j : Rid) (t : Thing) → IsIn (j, t) stands' → (i : Rid) × IsIn (i, t) stands × ((v : Vid) → rid v ≡ Some i → rid' v ≡ Some j)) → Identified plan names rid' flown stands'
+  tied_identified rid' stands' from = record { each = λ j t h numbered. let y = from j t h in let x = known.each y.0 t y.1 numbered in (x.0, x.1, y.2 x.0 x.2) }
+
   -- the operation of a group begins
   pub begun_identified : (w : ℕ) (x : Flown) → flown w ≡ Some x → x.group ≡ None → (g : GroupOperation) → Identified plan names rid (put w (Some (record { operation = x.operation; group = Some g })) flown) stands
   begun_identified w x here none g = flown_identified (put w (Some (record { operation = x.operation; group = Some g })) flown) (puts_kept flown w (Some (record { operation = x.operation; group = Some g })) (λ h at builds. no_group h at))

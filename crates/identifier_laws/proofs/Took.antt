@@ -32,7 +32,8 @@ use Rattle.orch_flight.specs.Taking.{IsTook, MayTake, names_after, names_by, to_
 use Rattle.registry_laws.specs.Answering.{IsOfGroup}
 use Rattle.registry_laws.specs.Flown.{Flown, flight_of}
 use Rattle.registry_laws.proofs.Finding.{found_at, found_off, gone_off}
-use Rattle.identifier_laws.specs.Identified.{BuildsGroups, Identified, IsUnbuilt, TiesAfter}
+use Rattle.identifier_laws.specs.Identified.{BuildsGroups, Identified, TiesAfter}
+use Rattle.identifier_laws.proofs.Ids.{IsUnbuilt}
 use Rattle.identifier_laws.proofs.Changed.{HasTied, make_tied, set_tied, take_tied}
 use Rattle.identifier_laws.proofs.Starting.{ids_left, live_unbuilt}
 use Rattle.identifier_laws.proofs.Staying.{same_identified}

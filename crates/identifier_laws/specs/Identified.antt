@@ -53,7 +53,7 @@ IsVidOf plan names flown n v = HasVid plan names n v ⊎ IsVidOfBuilt plan names
 pub record Identified (plan : Ports) (names : Names) (rid : Vid → Option Rid) (flown : ℕ → Option Flown) (stands : List (Rid × Thing)) : Type 0 where
   pub each : (i : Rid) (t : Thing) → IsIn (i, t) stands → has_number t ≡ true → (v : Vid) × IsVidOf plan names flown (name_of t) v × (rid v ≡ Some i)
 
--- the name of a group that a worker's operation builds says so
+-- of a group that a worker's operation builds the registry knows that the worker builds it
 pub record BuildsGroups (names : Names) (flown : ℕ → Option Flown) : Type 0 where
   pub building : (w : ℕ) (g : GroupOperation) → IsUnderWay flown w g → g.builds ≡ true → state_of names (name.Group g.hops) ≡ state.Building w
 
@@ -75,10 +75,6 @@ pub record HasWholeGroups (names : Names) : Type 0 where
 -- each name has the identifiers that it had
 abbrev pub HaveSameIds : Names → Names → Type 0
 HaveSameIds names names' = (o : Owner) → ids_of names' (name_for o) ≡ ids_of names (name_for o)
-
--- no operation builds what has the owner's name
-abbrev pub IsUnbuilt : Names → Owner → Type 0
-IsUnbuilt names o = (w : ℕ) → state_of names (name_for o) ≡ state.Building w → ⊥
 
 -- each group that is built is still under way, as it was
 abbrev pub KeepsBuilds : (ℕ → Option Flown) → (ℕ → Option Flown) → Type 0

@@ -4,15 +4,20 @@ ghost use Rattle.table_schema.specs.Fields.{HasRisingKeys};
 ghost use Rattle.table_schema.specs.Plan.{IsPlan, Ports};
 ghost use Rattle.table_schema.specs.declared.key.Key.{Key};
 ghost use Rattle.table_schema.specs.declared.row.Row.{Row};
+ghost use Rattle.sai_types.specs.declared.body.Body.{Body};
 ghost use Rattle.sai_types.specs.declared.body.Call.{Call};
+ghost use Rattle.sai_types.specs.declared.body.Call.TheVariants as call;
+ghost use Rattle.sai_types.specs.declared.body.Entry.TheVariants as entry;
 ghost use Rattle.sai_types.specs.declared.hop.Hop.{Hop};
 ghost use Rattle.sai_types.specs.declared.ids.Rid.{Rid};
 ghost use Rattle.sai_types.specs.declared.ids.Vid.{Vid};
 ghost use Rattle.sai_types.specs.declared.thing.Thing.{Thing};
+ghost use Rattle.sai_types.specs.After.{has_id};
 ghost use Rattle.sai_types.specs.Alike.{IsIn};
 ghost use Rattle.sai_types.specs.Names.{Name};
+ghost use Rattle.chip_layout.specs.Layout.{has_number};
 ghost use Rattle.chip_layout.specs.Renamed.{call_renamed};
-ghost use Rattle.row_layout.specs.Operations.{Change, Take, uses_of};
+ghost use Rattle.row_layout.specs.Operations.{Change, Make, Take, uses_of};
 ghost use Rattle.row_layout.specs.Rows.{Group, Owner};
 ghost use Rattle.row_layout.specs.Shared.{shared_things};
 ghost use Rattle.switch_machine.specs.Events.{IsAnswer, IsDueCall, IsSafe, SwitchState};
@@ -41,9 +46,9 @@ pub fn nothing_is_identified()
     ensures { (plan : Ports) (names : Names) (rid : Vid → Option Rid) (flown : ℕ → Option Flown) → Identified plan names rid flown [] }
 {}
 
-/// A call of the change that is due next for a worker, told with the registry's identifiers, is the due call of the machine when
-/// each identifier is put in place by the chip's one to which it is tied; of a row's operation, where a port that is set stands
-/// with the values that the operation has noted; and of the operation of a group.
+/// The call of the change that is due next for a worker, told with the registry's identifiers, is the machine's due call once each
+/// identifier is replaced by that of the chip to which it is tied: of a row's operation, where a port that is set stands with the
+/// values that the operation has noted; and of the operation of a group.
 pub fn calls_are_due()
     ensures row { (plan : Ports) (workers : ℕ) (capacities : List ℕ) (s : SwitchState) (names : Names) (rid : Vid → Option Rid) (flown : ℕ → Option Flown) (w : ℕ) (f : Operation) (change : Change) (rest : List Change) (c : Call Vid) → IsPlan plan → IsSafe plan workers capacities s → Identified plan names rid flown s.machine.stands → BuildsGroups names flown → w < workers → s.machine.board.flights w ≡ Some (flight_of f) → s.machine.due w ≡ change ∷ rest → PortsStand s.machine (things_held plan f) change → IsCallOf (HasVid plan names) (things_held plan f) change c → (x : IsDueCall workers (call_renamed (tie_by rid) c) s) × (x.worker ≡ w) × (x.change ≡ change) }
     ensures group { (plan : Ports) (workers : ℕ) (capacities : List ℕ) (s : SwitchState) (names : Names) (rid : Vid → Option Rid) (flown : ℕ → Option Flown) (w : ℕ) (f : Flight) (g : GroupOperation) (change : Change) (rest : List Change) (c : Call Vid) → IsPlan plan → IsSafe plan workers capacities s → Identified plan names rid flown s.machine.stands → BuildsGroups names flown → IsUnderWay flown w g → w < workers → s.machine.board.flights w ≡ Some f → s.machine.due w ≡ change ∷ rest → IsCallOf (HasGroupVid plan names g) (shared_things (Group g.hops)) change c → (x : IsDueCall workers (call_renamed (tie_by rid) c) s) × (x.worker ≡ w) × (x.change ≡ change) }
@@ -54,6 +59,15 @@ pub fn calls_are_due()
 pub fn next_calls_are_due()
     ensures row { (plan : Ports) (workers : ℕ) (capacities : List ℕ) (s : SwitchState) (names : Names) (rid : Vid → Option Rid) (flown : ℕ → Option Flown) (w : ℕ) (f : Operation) (c : Call Vid) → IsPlan plan → IsSafe plan workers capacities s → Identified plan names rid flown s.machine.stands → BuildsGroups names flown → w < workers → s.machine.board.flights w ≡ Some (flight_of f) → s.machine.due w ≡ f.due → HoldsPort plan s.machine f → IsNextOf plan names f (next.Call c) → (x : IsDueCall workers (call_renamed (tie_by rid) c) s) × (x.worker ≡ w) × (f.due ≡ x.change ∷ x.rest) }
     ensures group { (plan : Ports) (workers : ℕ) (capacities : List ℕ) (s : SwitchState) (names : Names) (rid : Vid → Option Rid) (flown : ℕ → Option Flown) (w : ℕ) (f : Flight) (g : GroupOperation) (behind : List Change) (c : Call Vid) → IsPlan plan → IsSafe plan workers capacities s → Identified plan names rid flown s.machine.stands → BuildsGroups names flown → IsUnderWay flown w g → w < workers → s.machine.board.flights w ≡ Some f → s.machine.due w ≡ g.due ++ behind → IsGroupNextOf plan names g (next.Call c) → (x : IsDueCall workers (call_renamed (tie_by rid) c) s) × (x.worker ≡ w) × ((rest : List Change) × (g.due ≡ x.change ∷ rest)) }
+{}
+
+/// What the call of a change makes has an identifier where its thing has one; and what it removes by an identifier is what the change
+/// takes away.
+pub fn calls_are_of_their_things()
+    ensures made { (plan : Ports) (names : Names) (things : List Thing) (t : Thing) (c : Call Vid) (b : Body Vid) → IsCallOf (HasVid plan names) things (Make t) c → c ≡ call.Create b → has_id b ≡ has_number t }
+    ensures made_of_group { (plan : Ports) (names : Names) (g : GroupOperation) (things : List Thing) (t : Thing) (c : Call Vid) (b : Body Vid) → IsCallOf (HasGroupVid plan names g) things (Make t) c → c ≡ call.Create b → has_id b ≡ has_number t }
+    ensures removed { (plan : Ports) (names : Names) (things : List Thing) (n : Name) (c : Call Vid) (v : Vid) → IsCallOf (HasVid plan names) things (Take n) c → c ≡ call.Remove (entry.Oid v) → HasVid plan names n v }
+    ensures removed_of_group { (plan : Ports) (names : Names) (g : GroupOperation) (things : List Thing) (n : Name) (c : Call Vid) (v : Vid) → g.builds ≡ false → IsCallOf (HasGroupVid plan names g) things (Take n) c → c ≡ call.Remove (entry.Oid v) → HasVid plan names n v }
 {}
 
 /// In a safe state, where each object that stands has its identifier, the registry has those that the change needs which is due
@@ -87,7 +101,8 @@ pub fn groups_stay_whole()
 {}
 
 /// Each object that stands keeps its identifier when the names of an operation have started; when an operation leaves what it
-/// shared, or ends; when the operation of a group begins; and when the operations under way change, but for those that build groups.
+/// shared, or ends; when the operation of a group begins; when the operations under way change, but for those that build groups; and
+/// when the same things stand by other identifiers of the chip, to which those of the service are tied.
 pub fn names_keep_identifiers()
     ensures started { (plan : Ports) (names : Names) (rid : Vid → Option Rid) (flown : ℕ → Option Flown) (stands : List (Rid × Thing)) (w : ℕ) (k : Key) (old : Option Row) (new : Option Row) → IsPlan plan → MayStart plan names w k old new → Identified plan names rid flown stands → Identified plan (started_names plan names w k old new) rid flown stands }
     ensures left { (plan : Ports) (names : Names) (rid : Vid → Option Rid) (flown : ℕ → Option Flown) (stands : List (Rid × Thing)) (w : ℕ) (k : Key) (o : Owner) → state_of names (name_for o) ≡ state.Live → Identified plan names rid flown stands → Identified plan (left_names names w k o) rid flown stands }
@@ -95,6 +110,7 @@ pub fn names_keep_identifiers()
     ensures begun { (plan : Ports) (names : Names) (rid : Vid → Option Rid) (flown : ℕ → Option Flown) (stands : List (Rid × Thing)) (w : ℕ) (x : Flown) (hops : List Hop) (builds : Bool) → flown w ≡ Some x → x.group ≡ None → Identified plan names rid flown stands → Identified plan names rid (put w (Some (record { operation = x.operation; group = Some (first_group plan w hops builds) })) flown) stands × (builds ≡ true → IsPartlyBuilt (first_group plan w hops builds)) }
     ensures same { (plan : Ports) (names : Names) (names' : Names) (rid : Vid → Option Rid) (flown : ℕ → Option Flown) (stands : List (Rid × Thing)) → HaveSameIds names names' → Identified plan names rid flown stands → Identified plan names' rid flown stands }
     ensures flown { (plan : Ports) (names : Names) (rid : Vid → Option Rid) (flown : ℕ → Option Flown) (flown' : ℕ → Option Flown) (stands : List (Rid × Thing)) → KeepsBuilds flown flown' → Identified plan names rid flown stands → Identified plan names rid flown' stands }
+    ensures tied { (plan : Ports) (names : Names) (rid : Vid → Option Rid) (rid' : Vid → Option Rid) (flown : ℕ → Option Flown) (stands : List (Rid × Thing)) (stands' : List (Rid × Thing)) → ((j : Rid) (t : Thing) → IsIn (j, t) stands' → (i : Rid) × IsIn (i, t) stands × ((v : Vid) → rid v ≡ Some i → rid' v ≡ Some j)) → Identified plan names rid flown stands → Identified plan names rid' flown stands' }
     ensures put { (flown : ℕ → Option Flown) (w : ℕ) (y : Option Flown) → ((g : GroupOperation) → IsUnderWay flown w g → g.builds ≡ true → (x : Flown) × (y ≡ Some x) × (x.group ≡ Some g)) → KeepsBuilds flown (put w y flown) }
 {}
 

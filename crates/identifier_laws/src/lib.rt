@@ -4,6 +4,7 @@
 mod laws;
 
 pub use laws::{
-    answers_keep_identifiers, calls_are_due, groups_stay_whole, identifiers_are_known,
-    names_keep_identifiers, next_calls_are_due, nothing_is_identified, ports_are_held,
+    answers_keep_identifiers, calls_are_due, calls_are_of_their_things, groups_stay_whole,
+    identifiers_are_known, names_keep_identifiers, next_calls_are_due, nothing_is_identified,
+    ports_are_held,
 };

@@ -1,7 +1,7 @@
 use Rattle.orch_flight.specs.Grouping.{first_group}
 use Rattle.orch_flight.specs.Starting.{left_names, started_names}
 use Rattle.identifier_laws.proofs.Starting.{ids_left, ids_started, live_unbuilt}
-use Rattle.identifier_laws.proofs.Staying.{begun_identified, ended_identified, first_part, flown_identified, puts_kept, same_identified}
+use Rattle.identifier_laws.proofs.Staying.{begun_identified, ended_identified, first_part, flown_identified, puts_kept, same_identified, tied_identified}
 use Rattle.identifier_laws.proofs.laws.names_keep_identifiers.Goals as goal
 
 pub returns-clause-started : goal.returns-clause-started
@@ -24,3 +24,6 @@ returns-clause-put c = puts_kept
 
 pub returns-clause-begun : goal.returns-clause-begun
 returns-clause-begun c = λ plan names rid flown stands w x hops builds here none known. (begun_identified plan names rid flown stands known w x here none (first_group plan w hops builds), first_part plan w hops builds)
+
+pub returns-clause-tied : goal.returns-clause-tied
+returns-clause-tied c = λ plan names rid rid' flown stands stands' from known. tied_identified plan names rid flown stands known rid' stands' from
