@@ -3,8 +3,12 @@ use Rattle.std.proofs.Common.{◌≡◌, ◌∙◌, ℕ, true, List, [], Option,
 use Rattle.table_schema.specs.Plan.{IsPlan, Ports}
 use Rattle.table_schema.specs.declared.key.Key.{Key}
 use Rattle.table_schema.specs.declared.row.Row.{Row}
+use Rattle.sai_types.specs.declared.body.Attr.{Attr}
+use Rattle.sai_types.specs.declared.body.Body.{Body}
 use Rattle.sai_types.specs.declared.body.Call.{Call}
 use Rattle.sai_types.specs.declared.body.Call.TheVariants as call_as
+use Rattle.sai_types.specs.declared.body.Entry.{Entry}
+use Rattle.sai_types.specs.declared.body.Entry.TheVariants as entry
 use Rattle.sai_types.specs.declared.ids.Rid.{Rid}
 use Rattle.sai_types.specs.declared.ids.Vid.{Vid}
 use Rattle.sai_types.specs.declared.thing.Thing.{Thing}
@@ -23,15 +27,16 @@ use Rattle.switch_machine.proofs.Kept.{kept-answers, moves_back, moves_by}
 use Rattle.machine_laws.proofs.Completing.{Changed, change}
 use Rattle.ref_counts.specs.Registry.{Names}
 use Rattle.ref_counts.specs.Room.{GivesBack, RoomState}
-use Rattle.orch_flight.specs.Calling.{HasVid, IsCallOf, entry_by}
+use Rattle.orch_flight.specs.Calling.{HasVid, IsCallOf}
 use Rattle.registry_laws.specs.Ending.{ended_names}
 use Rattle.registry_laws.specs.Flown.{Flown, due_for, flight_of}
 use Rattle.registry_laws.specs.Flying.{KnowsBoard}
 use Rattle.registry_laws.proofs.Fine.{AreFine}
 use Rattle.registry_laws.proofs.Listing.{not_some, same_some}
 use Rattle.identifier_laws.specs.Identified.{HasWholeGroups, Identified, TiesAfter, tie_by}
+use Rattle.identifier_laws.proofs.Entering.{taken_entry}
 use Rattle.identifier_laws.proofs.Whole.{whole_ended}
-use Rattle.core_laws.specs.Calls.{TiesFollow, removed_id}
+use Rattle.core_laws.specs.Calls.{TiesFollow}
 use Rattle.core_laws.specs.Standing.{StandsFor, with_answer}
 use Rattle.core_laws.proofs.Due.{IsNext}
 use Rattle.core_laws.proofs.Ended.{ended_identified}
@@ -39,14 +44,6 @@ use Rattle.core_laws.proofs.Nexts.{below, its}
 use Rattle.core_laws.proofs.Taken.{making_number}
 
 -- ---- how identifiers are tied
-
--- what is removed by its identifier has a number
-removed_is : (t : Thing) (id a b v : Vid) → removed_id (call_as.Remove (entry_by id (body_with t a b))) ≡ Some v → (has_number t ≡ true) × (id ≡ v)
-removed_is (thing.Own ip) id a b v h = not_some v h
-removed_is (thing.Neighbor hop mac) id a b v h = not_some v h
-removed_is (thing.Route prefix g) id a b v h = not_some v h
-removed_is (thing.Port p) id a b v h = (refl, same_some id v h)
-removed_is _ id a b v h = (refl, same_some id v h)
 
 some_of : (made : Option Vid) → is_some made ≡ true → (v : Vid) × (made ≡ Some v)
 some_of None h = absurd cc
@@ -59,16 +56,17 @@ given_by L made call (Take n) of i given t e h = absurd cc
 
 ties_by : (plan : Ports) (names : Names) (rid rid' : Vid → Option Rid) (c : Call Vid) (made : Option Vid) (number : is_some made ≡ makes_id c) (next : Rid) (ties : TiesFollow rid rid' c made next) (has : Name → Vid → Type 0) (things : List Thing) (d : Change) → IsCallOf has things d c → (i : Rid) → ((t : Thing) → d ≡ Make t → has_number t ≡ true → i ≡ next) → ((n : Name) → d ≡ Take n → (v : Vid) → has n v → HasVid plan names n v) → TiesAfter plan names rid rid' d made i
 ties_by plan names rid rid' c made number next ties has things (Make t) told i given take = (
-  (λ v j e. ties.kept v j (λ r. not_some v (sym (ap removed_id told.is) ∙ r)) e),
+  (λ v j e. ties.kept v j (λ r. no_create told.body v (sym told.is ∙ r)) e),
   (λ h. let v = some_of made (number ∙ making_number has t c told ∙ h) in (v.0, v.1, ties.new v.0 v.1 ∙ ap Some (sym (given t refl h)))),
 )
-ties_by plan names rid rid' c made number next ties has things (Set u) told i given take = λ v j e. ties.kept v j (λ r. not_some v (sym (ap removed_id told.is) ∙ r)) e
-ties_by plan names rid rid' c made number next ties has things (Take n) told i given take = λ v j none e. ties.kept v j (λ r. none (removed v r)) e
   where
-    removed : (v : Vid) → removed_id c ≡ Some v → HasVid plan names n v
-    removed v r =
-        let is = removed_is told.old told.of.id told.of.of.first told.of.of.second v (sym (ap removed_id (told.is ∙ ap call_as.Remove (told.of.is ∙ ap (entry_by told.of.id) told.of.of.body_is))) ∙ r) in
-        take n refl v (subst (λ z. has z v) told.same (subst (has (name_of told.old)) is.1 (told.of.numbered is.0)))
+    no_create : (b : Body Vid) (v : Vid) → call_as.Create b ≡ call_as.Remove (entry.Oid v) → ⊥
+    no_create b v e = cc
+ties_by plan names rid rid' c made number next ties has things (Set u) told i given take = λ v j e. ties.kept v j (λ r. no_set told.entry told.attr v (sym told.is ∙ r)) e
+  where
+    no_set : (e : Entry Vid) (a : Attr Vid) (v : Vid) → call_as.Set e a ≡ call_as.Remove (entry.Oid v) → ⊥
+    no_set e a v h = cc
+ties_by plan names rid rid' c made number next ties has things (Take n) told i given take = λ v j none e. ties.kept v j (λ r. none (take n refl v (taken_entry has things n c v told r))) e
 
 -- ---- the call is made
 

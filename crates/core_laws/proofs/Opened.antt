@@ -13,7 +13,6 @@ use Rattle.switch_machine.specs.Events.{HasLeft, IsBegin, IsSafe, SwitchState}
 use Rattle.switch_machine.specs.Flights.{Fits, IsResting, Machine, put}
 use Rattle.switch_machine.specs.Written.{good_of}
 use Rattle.switch_machine.proofs.Kept.{kept-event}
-use Rattle.ref_counts.specs.Registered.{IsReadable}
 use Rattle.ref_counts.specs.Registry.{Names}
 use Rattle.ref_counts.specs.Room.{GivesBack, RoomState}
 use Rattle.orch_flight.specs.Operation.{Operation}
@@ -33,6 +32,7 @@ use Rattle.identifier_laws.proofs.Staying.{flown_identified, puts_kept, same_ide
 use Rattle.identifier_laws.proofs.Whole.{whole_ended, whole_same}
 use Rattle.core_laws.specs.Standing.{StandsFor}
 use Rattle.core_laws.proofs.Ended.{ended_identified}
+use Rattle.core_laws.proofs.Resting.{differing_reads}
 
 started_fine : (plan : Ports) (names : Names) (w : ℕ) (k : Key) (old new : Option Row) → AreFine names → AreFine (started_names plan names w k old new)
 started_fine plan names w k old new fine = by (first_due plan names k old new) (leaving plan k old new)
@@ -45,7 +45,7 @@ started_fine plan names w k old new fine = by (first_due plan names k old new) (
     by [] None = begun
     by (c ∷ cs) leaves = begun
 
-module _ (plan : Ports) (is : IsPlan plan) (capacities : List ℕ) (names : Names) (room : RoomState) (flown : ℕ → Option Flown) (rid : Vid → Option Rid) (s : SwitchState) (stands : StandsFor plan capacities names room flown rid s) (room' : RoomState) (numbers : List ℕ) (are : AreUsed s.objects numbers) (w : ℕ) (less : w < 4) (free : flown w ≡ None) (k : Key) (readable : IsReadable k) (rests : IsResting s.machine.board k) (differs : s.machine.board.applied k ≡ good_of plan s.written k → ⊥) (fits : (r : Row) → good_of plan s.written k ≡ Some r → have_rows s.machine.board.applied (names_of k r) ≡ true → Fits plan k r) (later : List Key) (left : HasLeft k s.to_sync later) (f : Operation) (names' : Names) (starts : IsStartedBy plan names room numbers w k (s.machine.board.applied k) (good_of plan s.written k) (Ok f) names' room') where
+module _ (plan : Ports) (is : IsPlan plan) (capacities : List ℕ) (names : Names) (room : RoomState) (flown : ℕ → Option Flown) (rid : Vid → Option Rid) (s : SwitchState) (stands : StandsFor plan capacities names room flown rid s) (room' : RoomState) (numbers : List ℕ) (are : AreUsed s.objects numbers) (w : ℕ) (less : w < 4) (free : flown w ≡ None) (k : Key) (rests : IsResting s.machine.board k) (differs : s.machine.board.applied k ≡ good_of plan s.written k → ⊥) (fits : (r : Row) → good_of plan s.written k ≡ Some r → have_rows s.machine.board.applied (names_of k r) ≡ true → Fits plan k r) (later : List Key) (left : HasLeft k s.to_sync later) (f : Operation) (names' : Names) (starts : IsStartedBy plan names room numbers w k (s.machine.board.applied k) (good_of plan s.written k) (Ok f) names' room') where
   abbrev old : Option Row
   old = s.machine.board.applied k
 
@@ -53,7 +53,7 @@ module _ (plan : Ports) (is : IsPlan plan) (capacities : List ℕ) (names : Name
   new = good_of plan s.written k
 
   may : MayStart plan names w k old new
-  may = may_start plan is capacities s stands.safe names room flown stands.board w free k rests less readable differs fits
+  may = may_start plan is capacities s stands.safe names room flown stands.board w free k rests less (differing_reads plan s stands.safe.sound k differs) differs fits
 
   same : HaveSameIds names names'
   same = subst (HaveSameIds names) (sym starts.2) (ids_started plan is names w k old new may)

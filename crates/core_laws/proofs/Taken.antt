@@ -26,17 +26,14 @@ use Rattle.registry_laws.specs.Flown.{Flown}
 use Rattle.registry_laws.specs.Making.{IsNextCall, MayTakeFor}
 use Rattle.registry_laws.proofs.Replied.{same_first}
 use Rattle.registry_laws.proofs.Taking.{may_take, may_take_group}
+use Rattle.identifier_laws.proofs.Entering.{made_number}
 use Rattle.identifier_laws.proofs.Owning.{group_numbered}
 use Rattle.core_laws.specs.Standing.{HasBegun, StandsFor}
 use Rattle.core_laws.proofs.Nexts.{makes_next, no_group, takes_next}
 
-body_number : (t : Thing) (v u : Vid) → has_id (body_with t v u) ≡ has_number t
-body_number (thing.Port p) v u = refl
-body_number _ v u = refl
-
 -- the call of a thing that is made makes an identifier where its object has one
 pub making_number : (has : Name → Vid → Type 0) (t : Thing) (c : Call Vid) → IsMaking has t c → makes_id c ≡ has_number t
-making_number has t c x = ap makes_id x.is ∙ ap has_id x.of.body_is ∙ body_number t x.of.first x.of.second
+making_number has t c x = ap makes_id x.is ∙ made_number has t c x.body x x.is
 
 pub taking_number : (has : Name → Vid → Type 0) (things : List Thing) (n : Name) (c : Call Vid) → IsCallOf has things (Take n) c → makes_id c ≡ false
 taking_number has things n c x = ap makes_id x.is

@@ -1,5 +1,5 @@
 -- The identifiers that a call names, and how identifiers are tied once it has taken effect. Own.
-use Rattle.std.specs.Prelude.{◌≡◌, ◌++◌, List, [], ◌∷◌, Option, Some, None}
+use Rattle.std.specs.Prelude.{◌≡◌, ◌++◌, List, [], ◌∷◌, Option, Some}
 use Rattle.sai_types.specs.declared.body.Attr.{Attr}
 use Rattle.sai_types.specs.declared.body.Attr.TheVariants as attr
 use Rattle.sai_types.specs.declared.body.Body.{Body}
@@ -61,12 +61,7 @@ IsTied rid v = (i : Rid) × (rid v ≡ Some i)
 
 -- ---- and how they are tied then
 
--- the identifier of what a call removes, where it has one
-abbrev pub removed_id : Call Vid → Option Vid
-removed_id (call.Remove (entry.Oid v)) = Some v
-removed_id _ = None
-
--- one that was made is tied to this one of the chip, and each other, but that of what was removed, as it was
+-- one that was made is tied to this one of the chip, and each other as it was, but that by which something was removed
 pub record TiesFollow (rid rid' : Vid → Option Rid) (c : Call Vid) (made : Option Vid) (i : Rid) : Type 0 where
   pub new : (v : Vid) → made ≡ Some v → rid' v ≡ Some i
-  pub kept : (v : Vid) (j : Rid) → (removed_id c ≡ Some v → ⊥) → rid v ≡ Some j → rid' v ≡ Some j
+  pub kept : (v : Vid) (j : Rid) → (c ≡ call.Remove (entry.Oid v) → ⊥) → rid v ≡ Some j → rid' v ≡ Some j
