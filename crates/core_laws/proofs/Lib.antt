@@ -12,3 +12,4 @@ pub mod Making
 pub mod RowAnswered
 pub mod GroupAnswered
 pub mod Answered
+pub mod Renamed

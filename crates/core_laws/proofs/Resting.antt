@@ -1,5 +1,5 @@
 -- the keys of what workers have under way are those of the machine's operations
-use Rattle.std.proofs.Common.{◌≡◌, ◌∙◌, inl, ℕ, Bool, true, false, List, Option, None, Some, refl, sym, ap}
+use Rattle.std.proofs.Common.{◌≡◌, ◌<◌, ◌∙◌, inl, ℕ, Bool, true, false, List, Option, None, Some, refl, sym, ap}
 use Rattle.std.specs.Prelude.{◌&&◌, bytes_eq, codes, if◌then◌else◌}
 use Rattle.swss_types.specs.Prefix.{has_host_bits}
 use Rattle.table_schema.specs.Broken.{bad}
@@ -13,7 +13,7 @@ use Rattle.table_schema.specs.declared.row.BadWhy.TheVariants.{HostBits, Unsuppo
 use Rattle.table_schema.specs.declared.row.Row.{Row}
 use Rattle.switch_model.specs.Good.{good_row, row_read}
 use Rattle.switch_machine.specs.Consistent.{IsConsistent}
-use Rattle.switch_machine.specs.Events.{SwitchState}
+use Rattle.switch_machine.specs.Events.{IsQuiet, SwitchState}
 use Rattle.switch_machine.specs.Flights.{Flight, IsResting}
 use Rattle.switch_machine.specs.Reasons.{IsReason}
 use Rattle.switch_machine.specs.Written.{good_of}
@@ -39,6 +39,9 @@ module _ (plan : Ports) (capacities : List ℕ) (names : Names) (room : RoomStat
 
   pub flown_busy : (v : ℕ) (x : Flown) → flown v ≡ Some x → IsReason plan 4 capacities s x.operation.key (wait.Busy v)
   flown_busy v x at = inl (flight_of x.operation, (board.flying v x at).flying, refl)
+
+  pub none_flies : ((v : ℕ) → v < 4 → flown v ≡ None) → IsQuiet s
+  none_flies none v f there = not_some f (sym (board.idle v (none v (board.registers.below v f there))) ∙ there)
 
 -- a key that does not read has no good row
 none_good : (plan : Ports) (text : List ℕ) (fields : Option Pairs) → good_row plan (key.Other text) fields ≡ None

@@ -5,12 +5,15 @@ ghost use Rattle.table_schema.specs.declared.key.Key.{Key};
 ghost use Rattle.sai_types.specs.declared.body.Call.{Call};
 ghost use Rattle.sai_types.specs.declared.ids.Rid.{Rid};
 ghost use Rattle.sai_types.specs.declared.ids.Vid.{Vid};
+ghost use Rattle.sai_types.specs.declared.thing.Thing.{Thing};
 ghost use Rattle.sai_types.specs.After.{makes_id};
 ghost use Rattle.sai_types.specs.Alike.{IsIn};
+ghost use Rattle.sai_types.specs.Made.{IsWhole};
+ghost use Rattle.sai_types.specs.Objects.{Objects};
 ghost use Rattle.sai_types.specs.Refusal.{IsLegal};
-ghost use Rattle.chip_layout.specs.Layout.{next_id};
+ghost use Rattle.chip_layout.specs.Layout.{IsLaidOut, listed, next_id};
 ghost use Rattle.chip_layout.specs.Renamed.{call_renamed};
-ghost use Rattle.switch_machine.specs.Events.{HasLeft, IsAnswer, IsBegin, IsDrop, IsDueCall, IsPop, IsTake, SwitchState, empty_switch, fresh_view};
+ghost use Rattle.switch_machine.specs.Events.{HasLeft, IsAnswer, IsBegin, IsDrop, IsDueCall, IsPop, IsQuiet, IsTake, SwitchState, empty_switch, fresh_view};
 ghost use Rattle.switch_machine.specs.Flights.{Fits, IsResting, Machine, put};
 ghost use Rattle.table_schema.specs.Names.{names_of};
 ghost use Rattle.table_schema.specs.declared.row.Row.{Row};
@@ -29,12 +32,12 @@ ghost use Rattle.registry_laws.specs.Registers.{AreUsed};
 ghost use Rattle.ref_counts.specs.Registry.{Names};
 ghost use Rattle.ref_counts.specs.Room.{GivesBack, RoomState, all_free};
 ghost use Rattle.registry_laws.specs.Ending.{ended_names};
-ghost use Rattle.registry_laws.specs.Flown.{Flown, due_for};
+ghost use Rattle.registry_laws.specs.Flown.{Flown, due_for, flight_of};
 ghost use Rattle.registry_laws.specs.Flying.{flown_as, with_machine};
 ghost use Rattle.registry_laws.specs.Making.{IsNextCall, KnowsNext, MayTakeFor, TookFor, with_group_begun};
 ghost use Rattle.identifier_laws.specs.Identified.{tie_by};
 ghost use Rattle.core_laws.specs.Calls.{IsTied, TiesFollow, ids_of_call};
-ghost use Rattle.core_laws.specs.Standing.{HasBegun, IsFree, StandsFor, with_answer};
+ghost use Rattle.core_laws.specs.Standing.{AreRetied, HasBegun, IsFree, StandsFor, over_chip, with_answer};
 
 /// With no names, all places free and nothing under way all stands for the empty switch; and for an empty view, where each key with
 /// a row is to sync.
@@ -98,4 +101,16 @@ pub fn beginnings_are_events()
 pub fn answers_are_events()
     ensures goes_on { (plan : Ports) (capacities : List ℕ) (names names' : Names) (room : RoomState) (flown : ℕ → Option Flown) (rid rid' : Vid → Option Rid) (s : SwitchState) (w : ℕ) (x x' : Flown) (c : Call Vid) (made : Option Vid) → IsPlan plan → StandsFor plan capacities names room flown rid s → flown w ≡ Some x → HasBegun plan names x → IsNextCall plan names x.operation x.group c → is_some made ≡ makes_id c → TiesFollow rid rid' c made (next_id s.made) → TookFor x.operation x.group made names x' names' → (due_for plan names' x' ≡ [] → ⊥) → (t : Machine) × ((z : IsAnswer plan 4 (call_renamed (tie_by rid) c) s (with_answer s t (call_renamed (tie_by rid) c))) × (z.next.worker ≡ w)) × StandsFor plan capacities names' room (put w (Some x') flown) rid' (with_answer s t (call_renamed (tie_by rid) c)) }
     ensures ends { (plan : Ports) (capacities : List ℕ) (names names' : Names) (room : RoomState) (flown : ℕ → Option Flown) (rid rid' : Vid → Option Rid) (s : SwitchState) (w : ℕ) (x x' : Flown) (c : Call Vid) (made : Option Vid) → IsPlan plan → StandsFor plan capacities names room flown rid s → flown w ≡ Some x → HasBegun plan names x → IsNextCall plan names x.operation x.group c → is_some made ≡ makes_id c → TiesFollow rid rid' c made (next_id s.made) → TookFor x.operation x.group made names x' names' → (given : RoomState) → due_for plan names' x' ≡ [] → GivesBack room w given → (t : Machine) × ((z : IsAnswer plan 4 (call_renamed (tie_by rid) c) s (with_answer s t (call_renamed (tie_by rid) c))) × (z.next.worker ≡ w)) × StandsFor plan capacities (ended_names names' w x'.operation.key (s.machine.board.applied x'.operation.key) x'.operation.new) given (put w None flown) rid' (with_answer s t (call_renamed (tie_by rid) c)) }
+{}
+
+/// Once the same things stand on a chip by its identifiers, to which those of the service are tied, all stands for the state over the chip.
+pub fn views_go_over()
+    ensures { (plan : Ports) (capacities : List ℕ) (names : Names) (room : RoomState) (flown : ℕ → Option Flown) (rid rid' : Vid → Option Rid) (s : SwitchState) (later : List (Rid × Thing)) (made : ℕ) (objects : Objects) → IsPlan plan → StandsFor plan capacities names room flown rid s → AreRetied rid rid' s.machine.stands later → IsWhole made objects → IsLaidOut (listed later) objects → StandsFor plan capacities names room flown rid' (over_chip s later made objects) }
+{}
+
+/// A worker that has nothing under way has no operation on the machine; where none of the workers has, it is quiet.
+pub fn workers_rest()
+    ensures idle { (plan : Ports) (capacities : List ℕ) (names : Names) (room : RoomState) (flown : ℕ → Option Flown) (rid : Vid → Option Rid) (s : SwitchState) (w : ℕ) → StandsFor plan capacities names room flown rid s → flown w ≡ None → s.machine.board.flights w ≡ None }
+    ensures quiet { (plan : Ports) (capacities : List ℕ) (names : Names) (room : RoomState) (flown : ℕ → Option Flown) (rid : Vid → Option Rid) (s : SwitchState) → StandsFor plan capacities names room flown rid s → ((v : ℕ) → v < 4 → flown v ≡ None) → IsQuiet s }
+    ensures flown { (plan : Ports) (capacities : List ℕ) (names : Names) (room : RoomState) (flown : ℕ → Option Flown) (rid : Vid → Option Rid) (s : SwitchState) (w : ℕ) (x : Flown) → StandsFor plan capacities names room flown rid s → flown w ≡ Some x → (w < 4) × (x.operation.worker ≡ w) × (s.machine.board.flights w ≡ Some (flight_of x.operation)) × (s.machine.due w ≡ due_for plan names x) }
 {}
