@@ -1,5 +1,5 @@
 -- all stands for the state when the call of a group's operation has taken effect
-use Rattle.std.proofs.Common.{◌≡◌, ◌∷◌, ◌++◌, ◌∙◌, inl, inr, ℕ, Bool, true, false, cond, List, [], Option, None, Some, is_some, refl, sym, ap, subst}
+use Rattle.std.proofs.Common.{◌≡◌, ◌∷◌, ◌++◌, ◌∙◌, inl, ℕ, Bool, true, false, cond, List, [], Option, None, Some, is_some, refl, sym, ap, subst}
 use Rattle.table_schema.specs.Plan.{IsPlan, Ports}
 use Rattle.sai_types.specs.declared.body.Call.{Call}
 use Rattle.sai_types.specs.declared.ids.Rid.{Rid}
@@ -24,12 +24,11 @@ use Rattle.ref_counts.specs.Room.{RoomState}
 use Rattle.orch_flight.specs.Calling.{HasVid}
 use Rattle.orch_flight.specs.Grouping.{GroupOperation, HasGroupVid, IsGroupTook, with_made}
 use Rattle.orch_flight.specs.Operation.{Operation}
-use Rattle.orch_flight.specs.Starting.{taken_here}
 use Rattle.registry_laws.specs.Flown.{Flown, group_to_build, group_to_take, whole_group}
-use Rattle.registry_laws.specs.Flying.{IsRestFrom, flown_as}
+use Rattle.registry_laws.specs.Flying.{flown_as}
 use Rattle.registry_laws.specs.Making.{IsNextCall, left_of_group_by}
 use Rattle.registry_laws.proofs.Fine.{AreFine, fine_of, group_fine}
-use Rattle.registry_laws.proofs.Listing.{not_some, nothing_after}
+use Rattle.registry_laws.proofs.Listing.{nothing_after}
 use Rattle.registry_laws.proofs.Replied.{same_first}
 use Rattle.registry_laws.proofs.Replies.{group_goes_on, group_is_built, group_is_gone}
 use Rattle.registry_laws.proofs.Settled.{nothing_behind, some_of_due}
@@ -43,8 +42,8 @@ use Rattle.core_laws.specs.Calls.{TiesFollow}
 use Rattle.core_laws.specs.Standing.{StandsFor, with_answer}
 use Rattle.core_laws.proofs.Due.{IsNext, group_next}
 use Rattle.core_laws.proofs.Making.{Answers, Both, On, Over, answer, later, moves, stands_on, stands_over, then, tied}
-use Rattle.core_laws.proofs.Nexts.{builds, group_due_is, grouped, its, makes_next, own_next, takes_next}
-use Rattle.core_laws.proofs.Parts.{built_part, retired_group, to_be_built}
+use Rattle.core_laws.proofs.Nexts.{builds, goes_alone, group_due_is, grouped, makes_next, own_later, own_next, retires_it, takes_next}
+use Rattle.core_laws.proofs.Parts.{built_part}
 use Rattle.core_laws.proofs.Taken.{group_number}
 
 module _ (plan : Ports) (is : IsPlan plan) (capacities : List ℕ) (names : Names) (room : RoomState) (flown : ℕ → Option Flown) (rid : Vid → Option Rid) (s : SwitchState) (stands : StandsFor plan capacities names room flown rid s) (w : ℕ) (x : Flown) (at : flown w ≡ Some x) (c : Call Vid) (made : Option Vid) (rid' : Vid → Option Rid) (number : is_some made ≡ makes_id c) (ties : TiesFollow rid rid' c made (next_id s.made)) (g : GroupOperation) (has : x.group ≡ Some g) (told : IsNextCall plan names x.operation (Some g) c) (g' : GroupOperation) (names' : Names) (took : IsGroupTook g made names g' names') where
@@ -147,24 +146,13 @@ module _ (plan : Ports) (is : IsPlan plan) (capacities : List ℕ) (names : Name
             (z.0, answers z.0 z.1, stands_on plan capacities rid rid' flown room s w c names' is stands.safe z.0 (answers z.0 z.1) (whole_by (flown_as f None) own z.0 z.1) (flown_as f None) z.3 (known (flown_as f None) own z.0 z.1).0)
 
         over : Over plan capacities rid rid' flown room s w c names' (flown_as f None)
-        over given empty gives = absurd ((its plan is capacities names room flown rid s stands w x at).later g.hops (to_be_built plan names f g (grouped plan is capacities names room flown rid s stands w x at g has) b) (nothing_behind (whole_group (group_to_build plan names' f) (group_to_take f)) f.due empty))
+        over given empty gives = absurd (own_later plan is capacities names room flown rid s stands w x at g has b (nothing_behind (whole_group (group_to_build plan names' f) (group_to_take f)) f.due empty))
 
   -- ---- the group goes
 
   module _ (goes : g.builds ≡ false) where
-    retires : f.retires ≡ Some (owner.Group g.hops)
-    retires = retired_group plan names f g (grouped plan is capacities names room flown rid s stands w x at g has) goes
-
-    -- nothing is due but of the group
-    none_own : f.due ≡ []
-    none_own = by (its plan is capacities names room flown rid s stands w x at).rest
-      where
-        by : IsRestFrom plan (m.board.applied f.key) f → f.due ≡ []
-        by (inl r) = not_some (owner.Group g.hops) (sym r.0 ∙ retires)
-        by (inr r) = nothing_behind r.0 f.due (sym r.1 ∙ ap taken_here retires)
-
     all_due : m.due w ≡ g.due
-    all_due = group_due_is plan is capacities names room flown rid s stands w x at g has ∙ ap (λ l. g.due ++ l) none_own ∙ nothing_after g.due
+    all_due = group_due_is plan is capacities names room flown rid s stands w x at g has ∙ ap (λ l. g.due ++ l) (goes_alone plan is capacities names room flown rid s stands w x at g has goes) ∙ nothing_after g.due
 
     kept_builds : (z : Option Flown) → KeepsBuilds flown (put w z flown)
     kept_builds z = puts_kept flown w z (λ h there b. no_build h there b)
@@ -179,7 +167,7 @@ module _ (plan : Ports) (is : IsPlan plan) (capacities : List ℕ) (names : Name
     gone_known z t follows =
         let n = takes_next plan is capacities names room flown rid s stands w x at g has goes y.change next_in in
         flown_identified plan names' rid' flown t.stands
-        (taken_took plan is 4 capacities s (with_answer s t call) call (answer plan is capacities names room flown rid s stands w x at c (HasGroupVid plan names g) (shared_things (owner.Group g.hops)) y t follows) stands.safe names names' rid rid' flown stands.identified (builds plan is capacities names room flown rid s stands w x at) g g' made took.rest due tied_then took goes n.0 n.1 (subst (λ d. IsOwnedBy plan (changed_name d) (owner.Group g.hops)) n.1 (own_next plan is capacities names room flown rid s stands w x at g has y.change next_in)) retires all_due)
+        (taken_took plan is 4 capacities s (with_answer s t call) call (answer plan is capacities names room flown rid s stands w x at c (HasGroupVid plan names g) (shared_things (owner.Group g.hops)) y t follows) stands.safe names names' rid rid' flown stands.identified (builds plan is capacities names room flown rid s stands w x at) g g' made took.rest due tied_then took goes n.0 n.1 (subst (λ d. IsOwnedBy plan (changed_name d) (owner.Group g.hops)) n.1 (own_next plan is capacities names room flown rid s stands w x at g has y.change next_in)) (retires_it plan is capacities names room flown rid s stands w x at g has goes) all_due)
         (put w z flown) (kept_builds z)
 
     gone_groups : HasWholeGroups names'
@@ -202,7 +190,7 @@ module _ (plan : Ports) (is : IsPlan plan) (capacities : List ℕ) (names : Name
     gone_whole end = (on, over)
       where
         on : On plan capacities rid rid' flown room s w c names' (flown_as f (Some g'))
-        on some = absurd (some (group_due plan names' (flown_as f (Some g')) g' refl ∙ ap (λ l. l ++ f.due) end ∙ none_own))
+        on some = absurd (some (group_due plan names' (flown_as f (Some g')) g' refl ∙ ap (λ l. l ++ f.due) end ∙ goes_alone plan is capacities names room flown rid s stands w x at g has goes))
 
         over : Over plan capacities rid rid' flown room s w c names' (flown_as f (Some g'))
         over given empty gives =

@@ -13,3 +13,4 @@ pub mod RowAnswered
 pub mod GroupAnswered
 pub mod Answered
 pub mod Renamed
+pub mod Told

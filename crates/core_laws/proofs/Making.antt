@@ -1,5 +1,5 @@
 -- the call that is due for a worker is made
-use Rattle.std.proofs.Common.{◌≡◌, ◌∙◌, ℕ, true, List, [], Option, None, Some, is_some, refl, sym, ap, subst}
+use Rattle.std.proofs.Common.{◌≡◌, ◌∙◌, ℕ, true, List, [], Option, None, Some, is_some, refl, sym, ap}
 use Rattle.table_schema.specs.Plan.{IsPlan, Ports}
 use Rattle.table_schema.specs.declared.key.Key.{Key}
 use Rattle.table_schema.specs.declared.row.Row.{Row}
@@ -12,10 +12,8 @@ use Rattle.sai_types.specs.declared.body.Entry.TheVariants as entry
 use Rattle.sai_types.specs.declared.ids.Rid.{Rid}
 use Rattle.sai_types.specs.declared.ids.Vid.{Vid}
 use Rattle.sai_types.specs.declared.thing.Thing.{Thing}
-use Rattle.sai_types.specs.declared.thing.Thing.TheVariants as thing
 use Rattle.sai_types.specs.After.{makes_id}
-use Rattle.sai_types.specs.Names.{Name, name_of}
-use Rattle.chip_layout.specs.Bodies.{body_with}
+use Rattle.sai_types.specs.Names.{Name}
 use Rattle.chip_layout.specs.Layout.{Layout, has_number, listed, next_id}
 use Rattle.chip_layout.specs.Renamed.{call_renamed}
 use Rattle.row_layout.specs.Operations.{Change, Make, Set, Take}
@@ -32,7 +30,6 @@ use Rattle.registry_laws.specs.Ending.{ended_names}
 use Rattle.registry_laws.specs.Flown.{Flown, due_for, flight_of}
 use Rattle.registry_laws.specs.Flying.{KnowsBoard}
 use Rattle.registry_laws.proofs.Fine.{AreFine}
-use Rattle.registry_laws.proofs.Listing.{not_some, same_some}
 use Rattle.identifier_laws.specs.Identified.{HasWholeGroups, Identified, TiesAfter, tie_by}
 use Rattle.identifier_laws.proofs.Entering.{taken_entry}
 use Rattle.identifier_laws.proofs.Whole.{whole_ended}

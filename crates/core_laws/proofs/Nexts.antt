@@ -1,5 +1,5 @@
 -- what is due next for a worker, and that the registry has the identifiers for it
-use Rattle.std.proofs.Common.{◌≡◌, ◌<◌, ◌∷◌, ◌++◌, ◌∙◌, inl, ℕ, Bool, true, false, List, [], Option, None, Some, refl, sym, ap, subst}
+use Rattle.std.proofs.Common.{◌≡◌, ◌<◌, ◌∷◌, ◌++◌, ◌∙◌, inl, inr, ℕ, Bool, true, false, List, [], Option, None, Some, refl, sym, ap, subst}
 use Rattle.table_schema.specs.Plan.{IsPlan, Ports}
 use Rattle.sai_types.specs.declared.hop.Hop.{Hop}
 use Rattle.sai_types.specs.declared.ids.Rid.{Rid}
@@ -22,20 +22,22 @@ use Rattle.ref_counts.specs.Room.{RoomState}
 use Rattle.orch_flight.specs.Calling.{KnowsIds, knows_for}
 use Rattle.orch_flight.specs.Grouping.{GroupOperation, KnowsGroupIds, first_group, first_group_due}
 use Rattle.orch_flight.specs.Operation.{Operation}
+use Rattle.orch_flight.specs.Starting.{taken_here}
 use Rattle.registry_laws.specs.Answering.{IsOfGroup}
 use Rattle.registry_laws.specs.Flown.{Flown, flight_of, group_to_build, group_to_take}
-use Rattle.registry_laws.specs.Flying.{IsFlown, IsGroupFlown}
+use Rattle.registry_laws.specs.Flying.{IsFlown, IsGroupFlown, IsRestFrom}
 use Rattle.registry_laws.specs.Making.{KnowsNext, group_begun, group_or}
 use Rattle.registry_laws.proofs.Grouped.{built_use}
 use Rattle.registry_laws.proofs.Listing.{in_right, not_some}
 use Rattle.registry_laws.proofs.Parting.{removals_of, taken_in}
 use Rattle.registry_laws.proofs.Rests.{none_of_group, rest_order}
+use Rattle.registry_laws.proofs.Settled.{nothing_behind}
 use Rattle.registry_laws.proofs.Taking.{group_due, made_in, may_take_group, row_due}
 use Rattle.identifier_laws.specs.Identified.{BuildsGroups, IsUnderWay}
 use Rattle.identifier_laws.proofs.Knowing.{row_known}
 use Rattle.identifier_laws.proofs.Neighbours.{building_known, going_known}
 use Rattle.core_laws.specs.Standing.{HasBegun, StandsFor}
-use Rattle.core_laws.proofs.Parts.{builds_groups, to_be_built}
+use Rattle.core_laws.proofs.Parts.{builds_groups, retired_group, to_be_built}
 
 module _ (plan : Ports) (is : IsPlan plan) (capacities : List ℕ) (names : Names) (room : RoomState) (flown : ℕ → Option Flown) (rid : Vid → Option Rid) (s : SwitchState) (stands : StandsFor plan capacities names room flown rid s) (w : ℕ) (x : Flown) (at : flown w ≡ Some x) where
   abbrev pub m : Machine
@@ -130,6 +132,21 @@ module _ (plan : Ports) (is : IsPlan plan) (capacities : List ℕ) (names : Name
         by : (due : List Change) → g.due ≡ due → (c : Change) × (rest : List Change) × (g.due ≡ c ∷ rest)
         by [] e = absurd (grouped.some e)
         by (c ∷ cs) e = (c, cs, e)
+
+    pub retires_it : g.builds ≡ false → f.retires ≡ Some (owner.Group g.hops)
+    retires_it goes = retired_group plan names f g grouped goes
+
+    -- a group that goes, goes alone
+    pub goes_alone : g.builds ≡ false → f.due ≡ []
+    goes_alone goes = by its.rest
+      where
+        by : IsRestFrom plan (m.board.applied f.key) f → f.due ≡ []
+        by (inl r) = not_some (owner.Group g.hops) (sym r.0 ∙ retires_it goes)
+        by (inr r) = nothing_behind r.0 f.due (sym r.1 ∙ ap taken_here (retires_it goes))
+
+    -- and after one that is built the row's own changes are due
+    pub own_later : g.builds ≡ true → f.due ≡ [] → ⊥
+    own_later b e = its.later g.hops (to_be_built plan names f g grouped b) e
 
     pub group_knows : KnowsGroupIds names g
     group_knows = by g.builds refl

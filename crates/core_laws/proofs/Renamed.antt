@@ -1,5 +1,5 @@
 -- all stands for a view when what stands in it has the identifiers of the chip
-use Rattle.std.proofs.Common.{◌≡◌, ◌⊎◌, inl, inr, ℕ, true, List, Option, Some}
+use Rattle.std.proofs.Common.{inl, inr, ℕ, List, Option}
 use Rattle.table_schema.specs.Plan.{IsPlan, Ports}
 use Rattle.table_schema.specs.declared.key.Key.{Key}
 use Rattle.sai_types.specs.declared.ids.Rid.{Rid}
@@ -11,7 +11,7 @@ use Rattle.sai_types.specs.Objects.{Objects}
 use Rattle.chip_layout.specs.Layout.{IsLaidOut, listed}
 use Rattle.row_layout.specs.Rows.{Owner}
 use Rattle.switch_machine.specs.Events.{SwitchState}
-use Rattle.switch_machine.specs.Flights.{IsFirm, Machine, StandsIn}
+use Rattle.switch_machine.specs.Flights.{Machine, StandsIn}
 use Rattle.switch_machine.proofs.Renaming.{kept-renamed}
 use Rattle.ref_counts.specs.declared.name.NameState.{NameState}
 use Rattle.ref_counts.specs.declared.name.NameState.TheVariants as state
@@ -20,8 +20,8 @@ use Rattle.ref_counts.specs.Registry.{Names, state_in}
 use Rattle.ref_counts.specs.Room.{RoomState}
 use Rattle.registry_laws.specs.Flown.{Flown}
 use Rattle.registry_laws.specs.Flying.{IsFlown, KnowsBoard}
-use Rattle.registry_laws.specs.Known.{IsAllMade, IsKnownRow, IsKnownShared, RowStands, SharedStands}
-use Rattle.registry_laws.specs.Registers.{KnowsNames, KnowsRoom, Registers}
+use Rattle.registry_laws.specs.Known.{IsKnownRow, IsKnownShared, RowStands, SharedStands}
+use Rattle.registry_laws.specs.Registers.{Registers}
 use Rattle.core_laws.specs.Standing.{AreRetied, StandsFor, over_chip}
 
 -- a machine with other identifiers of the things that stand

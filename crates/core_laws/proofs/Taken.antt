@@ -5,11 +5,9 @@ use Rattle.sai_types.specs.declared.body.Call.{Call}
 use Rattle.sai_types.specs.declared.ids.Rid.{Rid}
 use Rattle.sai_types.specs.declared.ids.Vid.{Vid}
 use Rattle.sai_types.specs.declared.thing.Thing.{Thing}
-use Rattle.sai_types.specs.declared.thing.Thing.TheVariants as thing
-use Rattle.sai_types.specs.After.{has_id, makes_id}
+use Rattle.sai_types.specs.After.{makes_id}
 use Rattle.sai_types.specs.Alike.{IsIn}
 use Rattle.sai_types.specs.Names.{Name, name_of}
-use Rattle.chip_layout.specs.Bodies.{body_with}
 use Rattle.chip_layout.specs.Layout.{has_number}
 use Rattle.row_layout.specs.Operations.{Make, Take}
 use Rattle.row_layout.specs.Rows as owner

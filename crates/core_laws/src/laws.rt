@@ -23,7 +23,7 @@ ghost use Rattle.switch_model.specs.declared.wait.Wait.TheVariants as wait;
 ghost use Rattle.switch_machine.specs.Reasons.{IsReason};
 ghost use Rattle.switch_machine.specs.Written.{HasWrittenRows, IsTold, Written, good_of};
 ghost use Rattle.orch_flight.specs.Calling.{IsOver};
-ghost use Rattle.orch_flight.specs.Grouping.{GroupOperation, IsGroupOver};
+ghost use Rattle.orch_flight.specs.Grouping.{GroupOperation, IsGroupOver, IsGroupTook};
 ghost use Rattle.orch_flight.specs.Needing.{wait_of};
 ghost use Rattle.orch_flight.specs.Operation.{Operation};
 ghost use Rattle.orch_flight.specs.Sharing.{MayStart};
@@ -34,7 +34,7 @@ ghost use Rattle.ref_counts.specs.Room.{GivesBack, RoomState, all_free};
 ghost use Rattle.registry_laws.specs.Ending.{ended_names};
 ghost use Rattle.registry_laws.specs.Flown.{Flown, due_for, flight_of};
 ghost use Rattle.registry_laws.specs.Flying.{flown_as, with_machine};
-ghost use Rattle.registry_laws.specs.Making.{IsNextCall, KnowsNext, MayTakeFor, TookFor, with_group_begun};
+ghost use Rattle.registry_laws.specs.Making.{IsNextCall, KnowsNext, MayTakeFor, TookFor, left_of_group_by, with_group_begun};
 ghost use Rattle.identifier_laws.specs.Identified.{tie_by};
 ghost use Rattle.core_laws.specs.Calls.{IsTied, TiesFollow, ids_of_call};
 ghost use Rattle.core_laws.specs.Standing.{AreRetied, HasBegun, IsFree, StandsFor, over_chip, with_answer};
@@ -113,4 +113,11 @@ pub fn workers_rest()
     ensures idle { (plan : Ports) (capacities : List ℕ) (names : Names) (room : RoomState) (flown : ℕ → Option Flown) (rid : Vid → Option Rid) (s : SwitchState) (w : ℕ) → StandsFor plan capacities names room flown rid s → flown w ≡ None → s.machine.board.flights w ≡ None }
     ensures quiet { (plan : Ports) (capacities : List ℕ) (names : Names) (room : RoomState) (flown : ℕ → Option Flown) (rid : Vid → Option Rid) (s : SwitchState) → StandsFor plan capacities names room flown rid s → ((v : ℕ) → v < 4 → flown v ≡ None) → IsQuiet s }
     ensures flown { (plan : Ports) (capacities : List ℕ) (names : Names) (room : RoomState) (flown : ℕ → Option Flown) (rid : Vid → Option Rid) (s : SwitchState) (w : ℕ) (x : Flown) → StandsFor plan capacities names room flown rid s → flown w ≡ Some x → (w < 4) × (x.operation.worker ≡ w) × (s.machine.board.flights w ≡ Some (flight_of x.operation)) × (s.machine.due w ≡ due_for plan names x) }
+{}
+
+/// Once an answer of a group's operation was taken: where the group is built, something is due still; where it is taken away, what is due
+/// is what is left of it.
+pub fn ends_are_told()
+    ensures built { (plan : Ports) (capacities : List ℕ) (names names' : Names) (room : RoomState) (flown : ℕ → Option Flown) (rid : Vid → Option Rid) (s : SwitchState) (w : ℕ) (x : Flown) (g g' : GroupOperation) (made : Option Vid) → IsPlan plan → StandsFor plan capacities names room flown rid s → flown w ≡ Some x → x.group ≡ Some g → IsGroupTook g made names g' names' → g.builds ≡ true → due_for plan names' (flown_as x.operation (left_of_group_by g' g'.due)) ≡ [] → ⊥ }
+    ensures taken { (plan : Ports) (capacities : List ℕ) (names names' : Names) (room : RoomState) (flown : ℕ → Option Flown) (rid : Vid → Option Rid) (s : SwitchState) (w : ℕ) (x : Flown) (g g' : GroupOperation) (made : Option Vid) → IsPlan plan → StandsFor plan capacities names room flown rid s → flown w ≡ Some x → x.group ≡ Some g → IsGroupTook g made names g' names' → g.builds ≡ false → due_for plan names' (flown_as x.operation (left_of_group_by g' g'.due)) ≡ g'.due }
 {}
