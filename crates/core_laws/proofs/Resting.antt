@@ -24,10 +24,10 @@ use Rattle.ref_counts.specs.Room.{RoomState}
 use Rattle.registry_laws.specs.Flown.{Flown, flight_of}
 use Rattle.registry_laws.specs.Flying.{KnowsBoard}
 use Rattle.registry_laws.proofs.Listing.{not_some, same_some}
-use Rattle.core_laws.specs.Standing.{IsFree}
+use Rattle.core_laws.specs.Standing.{IsNotFlown}
 
 module _ (plan : Ports) (capacities : List ℕ) (names : Names) (room : RoomState) (flown : ℕ → Option Flown) (s : SwitchState) (board : KnowsBoard plan capacities names room flown s.machine) where
-  pub free_rests : (k : Key) → IsFree flown k → IsResting s.machine.board k
+  pub free_rests : (k : Key) → IsNotFlown flown k → IsResting s.machine.board k
   free_rests k free v f there same = by (flown v) refl
     where
       by : (o : Option Flown) → flown v ≡ o → ⊥

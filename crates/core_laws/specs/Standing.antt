@@ -32,8 +32,8 @@ abbrev pub HasBegun : Ports → Names → Flown → Type 0
 HasBegun plan names x = x ≡ with_group_begun plan names x
 
 -- none of the workers has an operation of the key under way
-abbrev pub IsFree : (ℕ → Option Flown) → Key → Type 0
-IsFree flown k = (v : ℕ) (x : Flown) → v < 4 → flown v ≡ Some x → x.operation.key ≡ k → ⊥
+abbrev pub IsNotFlown : (ℕ → Option Flown) → Key → Type 0
+IsNotFlown flown k = (v : ℕ) (x : Flown) → v < 4 → flown v ≡ Some x → x.operation.key ≡ k → ⊥
 
 -- the state when a call has taken effect, with this machine
 abbrev pub with_answer : SwitchState → Machine → Call Rid → SwitchState
