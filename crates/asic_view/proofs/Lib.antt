@@ -2,4 +2,4 @@ pub mod Keeping
 pub mod Naming
 pub mod Same
 pub mod Shown
-pub mod Standing
+mod Standing

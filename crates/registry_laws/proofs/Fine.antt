@@ -203,7 +203,7 @@ group_fine names g ids [] are = by g.builds
 
 -- ---- what ends
 
-dropped_fine : (k : Key) (ks : List Key) (names : Names) → AreFine names → AreFine (users_dropped names k ks)
+pub dropped_fine : (k : Key) (ks : List Key) (names : Names) → AreFine names → AreFine (users_dropped names k ks)
 dropped_fine k [] names are = are
 dropped_fine k (q ∷ ks) names are = dropped_fine k ks (changed names (name.Row q) (without_user k)) (changed_fine (owner.OfRow q) (without_user k) (λ r h. h) names are)
 

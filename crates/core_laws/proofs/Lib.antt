@@ -1,0 +1,16 @@
+pub mod Empty
+pub mod Parts
+pub mod Begun
+pub mod Resting
+pub mod Nexts
+pub mod Tied
+pub mod Due
+pub mod Taken
+pub mod Ended
+pub mod Opened
+pub mod Making
+pub mod RowAnswered
+pub mod GroupAnswered
+pub mod Answered
+pub mod Renamed
+pub mod Told
