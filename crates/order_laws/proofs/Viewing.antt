@@ -343,7 +343,7 @@ module _ {made : ℕ} {S : Objects} {new : List (Object Vid)} (m : IsMadeView ma
     keys = keys-are;
     once = names-apart;
     ids = one-id;
-    lanes = record { apart = λ t u i j share. elim j [ | inl none ↦ elim none [ ] | inr other ↦ lanes-in t u i other share ] };
+    lanes = record { apart = λ t u i j share. elim j [ inl none ↦ elim none [ ] | inr other ↦ lanes-in t u i other share ] };
   }
 
   -- and they are those that the chip would show
