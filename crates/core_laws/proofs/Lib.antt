@@ -14,3 +14,4 @@ pub mod GroupAnswered
 pub mod Answered
 pub mod Renamed
 pub mod Told
+pub mod Same

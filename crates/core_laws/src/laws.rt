@@ -35,7 +35,7 @@ ghost use Rattle.registry_laws.specs.Ending.{ended_names};
 ghost use Rattle.registry_laws.specs.Flown.{Flown, due_for, flight_of};
 ghost use Rattle.registry_laws.specs.Flying.{flown_as, with_machine};
 ghost use Rattle.registry_laws.specs.Making.{IsNextCall, KnowsNext, MayTakeFor, TookFor, left_of_group_by, with_group_begun};
-ghost use Rattle.identifier_laws.specs.Identified.{tie_by};
+ghost use Rattle.identifier_laws.specs.Identified.{KeepsTies, tie_by};
 ghost use Rattle.core_laws.specs.Calls.{IsTied, TiesFollow, ids_of_call};
 ghost use Rattle.core_laws.specs.Standing.{AreRetied, HasBegun, IsNotFlown, StandsFor, over_chip, with_answer};
 
@@ -51,6 +51,12 @@ pub fn rows_stand_for()
     ensures taken { (plan : Ports) (capacities : List ℕ) (names : Names) (room : RoomState) (flown : ℕ → Option Flown) (rid : Vid → Option Rid) (s t : SwitchState) → IsPlan plan → StandsFor plan capacities names room flown rid s → IsTake s t → StandsFor plan capacities names room flown rid t }
     ensures popped { (plan : Ports) (capacities : List ℕ) (names : Names) (room : RoomState) (flown : ℕ → Option Flown) (rid : Vid → Option Rid) (s t : SwitchState) → IsPlan plan → StandsFor plan capacities names room flown rid s → IsPop s t → StandsFor plan capacities names room flown rid t }
     ensures dropped { (plan : Ports) (capacities : List ℕ) (names : Names) (room : RoomState) (flown : ℕ → Option Flown) (rid : Vid → Option Rid) (s t : SwitchState) → IsPlan plan → StandsFor plan capacities names room flown rid s → IsDrop plan s t → StandsFor plan capacities names room flown rid t }
+{}
+
+/// All stands for the state where what each worker has under way is the same, and where each identifier is tied as it was.
+pub fn the_same_stands_for()
+    ensures flown { (plan : Ports) (capacities : List ℕ) (names : Names) (room : RoomState) (flown flown' : ℕ → Option Flown) (rid : Vid → Option Rid) (s : SwitchState) → StandsFor plan capacities names room flown rid s → ((v : ℕ) → flown' v ≡ flown v) → StandsFor plan capacities names room flown' rid s }
+    ensures tied { (plan : Ports) (capacities : List ℕ) (names : Names) (room : RoomState) (flown : ℕ → Option Flown) (rid rid' : Vid → Option Rid) (s : SwitchState) → StandsFor plan capacities names room flown rid s → KeepsTies rid rid' → StandsFor plan capacities names room flown rid' s }
 {}
 
 /// The operation of the group that a worker is to build, or to take away, begins with no event, and has begun then.
