@@ -1,5 +1,5 @@
 -- after the last call of an apply the view stands for the chip
-use Rattle.std.proofs.Common.{◌≡◌, ◌⊎◌, inl, inr, ℕ, ◌+◌, ◌++◌, Bool, true, false, cond, List, [], ◌∷◌, map, Option, None, Some, refl, sym, ap, ◌∙◌, subst}
+use Rattle.std.proofs.Common.{◌≡◌, ◌⊎◌, inl, inr, ℕ, ◌+◌, Bool, true, false, cond, List, [], ◌∷◌, map, Option, None, Some, refl, sym, ap, ◌∙◌, subst}
 use Rattle.std.specs.BTreeMap.{insert_entry, is_at}
 use Rattle.std.specs.List.{slice_get}
 use Rattle.std.specs.Map.{lookup}
@@ -7,7 +7,6 @@ use Rattle.std.specs.Ordering.{nat_cmp}
 use Rattle.std.proofs.lemmas.List.{append-nil}
 use Rattle.sai_types.specs.declared.ids.Rid.{Rid}
 use Rattle.sai_types.specs.declared.ids.Vid.{Vid}
-use Rattle.sai_types.specs.declared.body.Call.{Call}
 use Rattle.sai_types.specs.declared.body.Entry.{Entry}
 use Rattle.sai_types.specs.declared.body.Entry.TheVariants as entry
 use Rattle.sai_types.specs.declared.body.Object.{Object}
@@ -21,7 +20,7 @@ use Rattle.sai_types.specs.After.{after_calls, makes_id}
 use Rattle.sai_types.specs.Alike.{IsIn}
 use Rattle.sai_types.specs.Made.{made_after_all}
 use Rattle.sai_types.specs.Names.{name_of}
-use Rattle.sai_types.specs.Objects.{Objects, entry_cmp}
+use Rattle.sai_types.specs.Objects.{entry_cmp}
 use Rattle.sai_chip.specs.Naming.{entries_of}
 use Rattle.chip_layout.specs.Layout.{Has, Layout, has_number}
 use Rattle.chip_layout.specs.Renamed.{body_renamed, call_renamed, entry_renamed}
@@ -34,10 +33,10 @@ use Rattle.plan_laws.proofs.Cold.{half-room, halfway, makes-safe}
 use Rattle.plan_laws.proofs.Lists.{in-map}
 use Rattle.plan_laws.proofs.Running.{after-append, new-stand, stands-new}
 use Rattle.view_match.specs.Pairs.{pairs_of}
-use Rattle.apply_order.specs.Naming.{id_by, names_from, new_id}
+use Rattle.apply_order.specs.Naming.{id_by, names_from}
 use Rattle.asic_view.specs.View.{ViewObjects, entry_at, rid_at, shown_by, vid_cmp, with_tie}
 use Rattle.syncd_core.specs.Begun.{objects_in, tied_entries, tied_in, tied_objects, tied_pairs}
-use Rattle.syncd_core.specs.Run.{AreInTime, made_by, tied_after, view_by}
+use Rattle.syncd_core.specs.Run.{made_by, tied_after, view_by}
 use Rattle.syncd_core.specs.Synced.{tied_by}
 use Rattle.syncd_core.specs.Tied.{rid_or_none, tie_of}
 use Rattle.syncd_core.proofs.Ties.{kept}
