@@ -49,7 +49,7 @@ use Rattle.sync_laws.proofs.InTime.{plan-in_time}
 use Rattle.sync_laws.proofs.Numbered.{apply-by_ties, last_ties}
 use Rattle.sync_laws.proofs.Standing.{stands-for-chip}
 use Rattle.sync_laws.proofs.Started.{there-first}
-use Rattle.sync_laws.proofs.Ties.{IsThere, there-kept, tied-apart, tied-same, vid-or}
+use Rattle.sync_laws.proofs.Ties.{IsThere, objects-there, tied-apart, tied-same, vid-or}
 
 -- ---- a new object is tied to its partner
 
@@ -79,15 +79,6 @@ module _ (old : List (Object Rid)) (objects : ViewObjects) (v : Vid) (r : Rid) w
   entries_tied os (entry.Route p) f there one (inl tied) = tied
   entries_tied os (entry.Route p) f there one (inr both) = let wrong = both.0 in absurd cc
 
-  entries_there : (os : ViewObjects) (e : Entry Rid) (f : Entry Vid) → IsThere os v → IsThere (tied_entries os e f) v
-  entries_there os (entry.Oid s) (entry.Oid w) h = there-kept os v w s h
-  entries_there os (entry.Oid s) (entry.Own ip) h = h
-  entries_there os (entry.Oid s) (entry.Neigh w ip) h = h
-  entries_there os (entry.Oid s) (entry.Route p) h = h
-  entries_there os (entry.Own ip) f h = h
-  entries_there os (entry.Neigh w ip) f h = h
-  entries_there os (entry.Route p) f h = h
-
   -- two objects of a pair with these identifiers
   abbrev AreBoth : Option (Object Rid) → Option (Object Vid) → Rid → Type 0
   AreBoth o n s = (a : Object Rid) × (b : Object Vid) × (o ≡ Some a) × (n ≡ Some b) × (a.entry ≡ entry.Oid s) × (b.entry ≡ entry.Oid v)
@@ -106,11 +97,6 @@ module _ (old : List (Object Rid)) (objects : ViewObjects) (v : Vid) (r : Rid) w
   objects_tied os None n there one (inl tied) = tied
   objects_tied os None n there one (inr both) = let wrong = both.2 in absurd cc
 
-  objects_there : (os : ViewObjects) (o : Option (Object Rid)) (n : Option (Object Vid)) → IsThere os v → IsThere (tied_objects os o n) v
-  objects_there os (Some a) (Some b) h = entries_there os a.entry b.entry h
-  objects_there os (Some a) None h = h
-  objects_there os None n h = h
-
   abbrev IsPairOf : ℕ × ℕ → Rid → Type 0
   IsPairOf p s = AreBoth (slice_get old p.0) (slice_get (objects_in objects) p.1) s
 
@@ -120,7 +106,7 @@ module _ (old : List (Object Rid)) (objects : ViewObjects) (v : Vid) (r : Rid) w
   pairs-tied (p ∷ ps) os there one h =
       let o = slice_get old p.0 in
       let n = slice_get (objects_in objects) p.1 in
-      let there' = objects_there os o n there in
+      let there' = objects-there v os o n there in
       let rest = pairs-tied ps (tied_objects os o n) there' (λ q s i. one q s (inr i)) in
       let here = λ (x : (rid_at os v ≡ Some r) ⊎ AreBoth o n r). rest (inl (objects_tied os o n there (λ s. one p s (inl refl)) x)) in
       elim h [
