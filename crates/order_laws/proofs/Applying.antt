@@ -1,6 +1,6 @@
 -- the plan of two views applies as the plans that are proved
 use Rattle.std.proofs.Common.{◌≡◌, inl, inr, ℕ, ◌≤◌, ◌++◌, List, [], ◌∷◌, length, map, Some, refl, sym, ap, ◌∙◌, subst, arith, IsPermutation}
-use Rattle.std.proofs.lemmas.List.{append-nil, length-append, map-append}
+use Rattle.std.proofs.lemmas.List.{append-nil, append_assoc, length-append, map-append}
 use Rattle.sai_types.specs.declared.ids.Rid.{Rid}
 use Rattle.sai_types.specs.declared.ids.Vid.{Vid}
 use Rattle.sai_types.specs.declared.body.Call.{Call}
@@ -54,11 +54,7 @@ steps_append : (names : Names) (old : List (Object Rid)) (new : List (Object Vid
 steps_append names old new [] ys = refl
 steps_append names old new (x ∷ xs) ys =
     ap (λ l. step_calls names old new x.step ++ l) (steps_append names old new xs ys)
-    ∙ joined (step_calls names old new x.step) (steps_calls names old new xs) (steps_calls names old new ys)
-  where
-    joined : (a b c : List PlanCall) → a ++ (b ++ c) ≡ (a ++ b) ++ c
-    joined [] b c = refl
-    joined (x ∷ a) b c = ap (λ l. x ∷ l) (joined a b c)
+    ∙ sym (append_assoc (step_calls names old new x.step) (steps_calls names old new xs) (steps_calls names old new ys))
 
 abbrev these : List PlanCall → List (Call PlanId)
 these cs = map (λ c. c.call) cs

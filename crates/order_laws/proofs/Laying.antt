@@ -1,7 +1,5 @@
 -- the objects of a new view that legal calls made are laid out by their things
-use Rattle.std.proofs.Common.{◌≡◌, ◌⊎◌, inl, inr, ℕ, ◌<◌, Bool, true, false, cond, ◌&&◌, not, nat_lt, List, [], ◌∷◌, map, Option, None, Some, option_map, refl, sym, ap, ap₂, ◌∙◌, subst, arith}
-use Rattle.std.specs.List.{list_any}
-use Rattle.std.specs.List.Sorted.{IsStrictlySortedBy}
+use Rattle.std.proofs.Common.{◌≡◌, inl, inr, ℕ, ◌<◌, Bool, true, false, cond, ◌&&◌, not, nat_lt, List, [], ◌∷◌, map, Option, None, Some, option_map, refl, sym, ap, ◌∙◌, subst, arith}
 use Rattle.std.proofs.lemmas.Bool.{and_parts, eq-eqb, false≢true}
 use Rattle.std.proofs.lemmas.Bool.Decides.{nat_tests}
 use Rattle.std.proofs.lemmas.Option.{same_Some}
@@ -20,39 +18,32 @@ use Rattle.sai_types.specs.declared.thing.Thing.{Thing}
 use Rattle.sai_types.specs.declared.thing.Thing.TheVariants as thing
 use Rattle.sai_types.specs.After.{entry_of}
 use Rattle.sai_types.specs.Alike.{IsIn}
-use Rattle.sai_types.specs.Named.{both, hop_cmp, hops_at, named, next_hop_at, thing_by, thing_of, things_among, those}
-use Rattle.sai_types.specs.Names as name
-use Rattle.sai_types.specs.Names.{Name, name_kind, name_of}
+use Rattle.sai_types.specs.Named.{both, hops_at, named, next_hop_at, thing_by, thing_of, things_among, those}
 use Rattle.sai_types.specs.Objects.{Objects, body_at}
 use Rattle.sai_types.specs.Refusal.{same_id}
 use Rattle.sai_types.proofs.Exact.{entry-exact}
 use Rattle.sai_types.proofs.Keys.{both_true}
 use Rattle.sai_types.proofs.Listed.{found-in, in-found}
 use Rattle.sai_chip.specs.Naming.{entries_of}
-use Rattle.chip_layout.specs.Bodies.{IsAt, IsBody, body_with, first_name, is_numbered, second_name}
+use Rattle.chip_layout.specs.Bodies.{body_with}
 use Rattle.chip_layout.specs.Counted.{AreDistinct}
-use Rattle.chip_layout.specs.Layout.{Has, Layout, has_number}
+use Rattle.chip_layout.specs.Layout.{Layout, has_number}
 use Rattle.chip_layout.specs.Renamed.{body_renamed, entry_renamed}
 use Rattle.chip_layout.specs.Seen.{tagged}
 use Rattle.chip_layout.proofs.Answering.{in_those, thing_in, those_in}
-use Rattle.chip_layout.proofs.Bodies.{entry-body, first-numbered, second-numbered}
-use Rattle.chip_layout.proofs.Shapes.{renamed_with}
-use Rattle.plan_laws.specs.Applied.{IsListedChip, chip_things}
-use Rattle.plan_laws.specs.Calls.{viewed}
-use Rattle.plan_laws.specs.Old.{chip_group, chip_groups, filler, group_stays, is_double, is_group_of, old_layout, old_things, same_hops, shown_hops, tag_of}
+use Rattle.plan_laws.specs.Applied.{chip_things}
+use Rattle.plan_laws.specs.Old.{chip_group, chip_groups, filler, group_stays, is_double, is_group_of, old_layout, same_hops, shown_hops, tag_of}
 use Rattle.plan_laws.proofs.Doubles.{is_grouped}
 use Rattle.plan_laws.proofs.Lists.{any-in, in-any, in-map, map-in}
 use Rattle.plan_laws.proofs.Named.{hops_exact, hops_refl}
-use Rattle.plan_laws.proofs.Starting.{hops-there, old-laid}
+use Rattle.plan_laws.proofs.Starting.{hops-there}
 use Rattle.plan_laws.proofs.Tagging.{all-groups}
 use Rattle.view_match.specs.declared.key.NaturalKey.{NaturalKey}
 use Rattle.view_match.specs.declared.key.NaturalKey.TheVariants as key
 use Rattle.view_match.specs.Keys.{key_of}
-use Rattle.view_match.specs.Listed.{object_as, objects_as, rid_of}
-use Rattle.view_match.specs.Pairs.{new_keys}
-use Rattle.order_laws.specs.Viewed.{AreObjects, IsEntry, IsMadeView, things_in}
-use Rattle.order_laws.proofs.Raw.{found-raw, group-there, member-group, raw-found, route_group, thing-raw}
-use Rattle.order_laws.proofs.Standing.{IsStood, stood}
+use Rattle.view_match.specs.Listed.{objects_as, rid_of}
+use Rattle.order_laws.specs.Viewed.{IsMadeView}
+use Rattle.order_laws.proofs.Raw.{group-there, member-group, raw-found, route_group, thing-raw}
 
 abbrev Item : Type 0
 Item = Entry Rid × Body Rid

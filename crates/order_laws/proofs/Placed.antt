@@ -18,7 +18,6 @@ use Rattle.sai_types.specs.Made.{AreSorted, same_entry}
 use Rattle.sai_types.specs.Named.{named, thing_by, thing_of}
 use Rattle.sai_types.specs.Names.{name_of}
 use Rattle.sai_types.specs.Objects.{Objects, body_at}
-use Rattle.sai_types.proofs.Exact.{entry-exact}
 use Rattle.sai_types.proofs.Found.{same-refl}
 use Rattle.sai_types.proofs.Listed.{apart-behind, found-in, sorted-behind}
 use Rattle.sai_chip.specs.Naming.{entries_of}
@@ -28,7 +27,6 @@ use Rattle.chip_layout.specs.Layout.{Has, Layout}
 use Rattle.chip_layout.specs.Seen.{tagged}
 use Rattle.chip_layout.proofs.Answering.{in_those, thing_in}
 use Rattle.chip_layout.proofs.Laid.{body-one}
-use Rattle.chip_layout.proofs.Seeing.{body-seen}
 use Rattle.plan_laws.specs.Applied.{IsListedChip, chip_things}
 use Rattle.plan_laws.specs.Calls.{viewed}
 use Rattle.plan_laws.specs.Old.{old_layout, tag_of}

@@ -1,5 +1,5 @@
 -- the objects of a chip in another order stand for the same things
-use Rattle.std.proofs.Common.{◌≡◌, ◌⊎◌, inl, inr, ℕ, Bool, true, false, cond, ◌&&◌, List, [], ◌∷◌, Option, None, Some, refl, sym, ap, ap₂, ◌∙◌, subst, IsPermutation}
+use Rattle.std.proofs.Common.{◌≡◌, inl, inr, ℕ, Bool, true, false, cond, List, [], ◌∷◌, Option, None, Some, refl, sym, ap, ◌∙◌, subst, IsPermutation}
 use Rattle.std.proofs.lemmas.Bool.{and_parts, false≢true}
 use Rattle.sai_types.specs.declared.ids.Rid.{Rid}
 use Rattle.sai_types.specs.declared.body.Body.{Body}
@@ -25,8 +25,8 @@ use Rattle.sai_types.proofs.Listed.{found-in, in-found}
 use Rattle.sai_types.proofs.Rising.{hop_exact, hop_total, same-rising}
 use Rattle.sai_chip.specs.Naming.{AreBodies}
 use Rattle.sai_chip.proofs.SameNames.{hops_among-same, thing_by-same}
-use Rattle.chip_layout.specs.Layout.{Has, Layout}
-use Rattle.chip_layout.proofs.Naming.{IsAmong, among}
+use Rattle.chip_layout.specs.Layout.{Layout}
+use Rattle.chip_layout.proofs.Naming.{among}
 use Rattle.plan_laws.specs.Applied.{IsListedChip}
 use Rattle.plan_laws.specs.Old.{old_layout, tag_of}
 use Rattle.plan_laws.proofs.Starting.{old-laid}

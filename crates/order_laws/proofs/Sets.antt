@@ -87,7 +87,7 @@ module _ (by : Layout PlanId) (e : Entry Rid) where
   mac_set h m m' true is = ap (thing.Neighbor h) (mac_exact m m' is)
   mac_set h m m' false is = (attr.Mac m', thing.Neighbor h m', refl, refl, omega arith, refl)
 
-to_by : {I J : Type 0} (f : I → J) (g : Goal) (i : I) → to_renamed f (to_with g i) ≡ to_with g (f i)
+pub to_by : {I J : Type 0} (f : I → J) (g : Goal) (i : I) → to_renamed f (to_with g i) ≡ to_with g (f i)
 to_by f goal.Drop i = refl
 to_by f (goal.Direct on) i = refl
 to_by f (goal.Via hop) i = refl

@@ -1,5 +1,5 @@
 -- a new view that legal calls made is one that a plan can lead to
-use Rattle.std.proofs.Common.{◌≡◌, ◌⊎◌, ◌↔◌, inl, inr, ℕ, Bool, true, false, ◌&&◌, List, [], ◌∷◌, map, Option, None, Some, option_map, refl, sym, ap, ap₂, ◌∙◌, subst}
+use Rattle.std.proofs.Common.{◌≡◌, ◌↔◌, inl, inr, ℕ, true, List, [], ◌∷◌, map, Option, None, Some, option_map, refl, sym, ap, ap₂, ◌∙◌, subst}
 use Rattle.std.specs.List.Sorted.{IsStrictlySortedBy}
 use Rattle.std.specs.Option.{is_some}
 use Rattle.std.proofs.lemmas.Bool.{and_parts, false≢true}
@@ -7,7 +7,6 @@ use Rattle.std.proofs.lemmas.Option.{same_Some}
 use Rattle.sai_types.specs.declared.ids.Rid.{Rid}
 use Rattle.sai_types.specs.declared.ids.Vid.{Vid}
 use Rattle.sai_types.specs.declared.body.Body.{Body}
-use Rattle.sai_types.specs.declared.body.Body.TheVariants as body
 use Rattle.sai_types.specs.declared.body.Entry.{Entry}
 use Rattle.sai_types.specs.declared.body.Entry.TheVariants as entry
 use Rattle.sai_types.specs.declared.body.Object.{Object}
@@ -20,7 +19,6 @@ use Rattle.sai_types.specs.declared.thing.Thing.{Thing}
 use Rattle.sai_types.specs.declared.thing.Thing.TheVariants as thing
 use Rattle.sai_types.specs.After.{entry_of}
 use Rattle.sai_types.specs.Alike.{IsIn}
-use Rattle.sai_types.specs.Made.{same_entry}
 use Rattle.sai_types.specs.Named.{first_lane, hop_cmp, named, thing_by, thing_of, things_among, those}
 use Rattle.sai_types.specs.Names as name
 use Rattle.sai_types.specs.Names.{Name, Refers, ShareLane, name_kind, name_of}
@@ -40,11 +38,9 @@ use Rattle.chip_layout.proofs.Bodies.{entry-body, first-numbered, second-numbere
 use Rattle.chip_layout.proofs.Shapes.{renamed_with}
 use Rattle.plan_laws.specs.Applied.{IsView, chip_things}
 use Rattle.plan_laws.specs.Calls.{viewed}
-use Rattle.plan_laws.specs.Old.{old_layout, old_things, shown_hops, tag_of}
-use Rattle.plan_laws.specs.Views.{LanesApart}
+use Rattle.plan_laws.specs.Old.{old_layout, old_things, tag_of}
 use Rattle.plan_laws.proofs.Lists.{in-map, map-in}
 use Rattle.plan_laws.proofs.Starting.{group-seen, group-there, hops-rise, hops-same, old-laid, old-named, old-seen, old-tagged, seen-old}
-use Rattle.view_match.specs.declared.key.NaturalKey.{NaturalKey}
 use Rattle.view_match.specs.Keys.{key_of}
 use Rattle.view_match.specs.Listed.{object_as, objects_as, rid_of}
 use Rattle.view_match.specs.Pairs.{new_keys}

@@ -1,5 +1,5 @@
 // What the plan of two views does. Each function is a law: it does nothing, and its contract is proved.
-ghost use Rattle.std.specs.Prelude.{◌≡◌, ◌↔◌, ◌⊎◌, ℕ, ◌+◌, ◌*◌, ◌≤◌, ◌++◌, List, [], length, map};
+ghost use Rattle.std.specs.Prelude.{◌≡◌, ◌↔◌, ◌⊎◌, ℕ, ◌+◌, ◌*◌, ◌≤◌, ◌++◌, List, [], length, map, count_by};
 ghost use Rattle.sai_types.specs.declared.ids.Rid.{Rid};
 ghost use Rattle.sai_types.specs.declared.ids.Vid.{Vid};
 ghost use Rattle.sai_types.specs.declared.body.Call.{Call};
@@ -11,7 +11,11 @@ ghost use Rattle.sai_types.specs.declared.thing.Thing.{Thing};
 ghost use Rattle.sai_types.specs.After.{after_calls};
 ghost use Rattle.sai_types.specs.Alike.{IsAlike, IsIn};
 ghost use Rattle.sai_types.specs.Made.{AreLegal, made_after_all};
-ghost use Rattle.sai_types.specs.Names.{name_of};
+ghost use Rattle.sai_types.specs.Names.{Name, name_of};
+ghost use Rattle.sai_types.specs.declared.body.Call.TheVariants as call;
+ghost use Rattle.sai_types.specs.declared.body.Entry.{Entry};
+ghost use Rattle.sai_types.specs.declared.kind.Kind.{Kind};
+ghost use Rattle.plan_laws.specs.Bounds.{IsUnwanted, makes_kind};
 ghost use Rattle.sai_chip.specs.Naming.{entries_of};
 ghost use Rattle.chip_layout.specs.Renamed.{call_renamed};
 ghost use Rattle.plan_laws.specs.Applied.{IsColdPlan, IsHitlessPlan, chip_things, nothing};
@@ -19,7 +23,7 @@ ghost use Rattle.plan_laws.specs.Calls.{PlansChanges, resolve, viewed};
 ghost use Rattle.plan_laws.specs.Old.{old_layout};
 ghost use Rattle.plan_laws.specs.Plans.{PlanChange};
 ghost use Rattle.plan_laws.specs.Steady.{IsForwarding, IsHitless, IsOldOrNew, StaysNew};
-ghost use Rattle.plan_laws.specs.Views.{FitsHitless};
+ghost use Rattle.plan_laws.specs.Views.{AreLacking, FitsHitless};
 ghost use Rattle.order_laws.specs.Apply.{IsApply, IsPlanned, calls_by, plan_calls};
 ghost use Rattle.sai_types.specs.Objects.{Objects};
 ghost use Rattle.order_laws.specs.Viewed.{IsMadeView, IsViewOf, things_in};
@@ -70,4 +74,11 @@ pub fn applies_show_old_or_new()
 /// most the capacity.
 pub fn modes_are_told_by_room()
     ensures { (capacities : List ℕ) (made : ℕ) (old : List (Object Rid)) (new : List (Object Vid)) (things : List (Vid × Thing)) (plan : Plan) → IsPlanned capacities made old new things plan → (plan.mode ≡ mode.Hitless) ↔ FitsHitless capacities (entries_of old) (chip_things (entries_of old)) (things_in things) }
+{}
+
+/// Of each kind a hitless apply makes at most as many objects as the view has names that the chip does not show, and it
+/// removes nothing whose name the view has, but doubles.
+pub fn hitless_applies_keep()
+    ensures made { (capacities : List ℕ) (made : ℕ) (old : List (Object Rid)) (new : List (Object Vid)) (things : List (Vid × Thing)) (plan : Plan) (ids : Vid → Rid) (kind : Kind) → IsApply capacities made old new things plan ids → plan.mode ≡ mode.Hitless → (names : List Name) × AreLacking (chip_things (entries_of old)) (things_in things) kind names × (count_by (makes_kind kind) (calls_by ids plan) ≡ length names) }
+    ensures kept { (capacities : List ℕ) (made : ℕ) (old : List (Object Rid)) (new : List (Object Vid)) (things : List (Vid × Thing)) (plan : Plan) (ids : Vid → Rid) (e : Entry Rid) → IsApply capacities made old new things plan ids → plan.mode ≡ mode.Hitless → IsIn (call.Remove e) (calls_by ids plan) → IsUnwanted (entries_of old) (things_in things) e }
 {}

@@ -6,5 +6,6 @@ mod laws;
 
 pub use laws::{
     applies_are_legal, applies_are_short, applies_lead_to_the_view, applies_show_old_or_new,
-    hitless_applies_are_steady, modes_are_told_by_room, plans_are_of_the_views, views_are_laid_out,
+    hitless_applies_are_steady, hitless_applies_keep, modes_are_told_by_room,
+    plans_are_of_the_views, views_are_laid_out,
 };

@@ -169,7 +169,7 @@ module _ {made : ℕ} {objects : Objects} (chip : IsListedChip made objects) (ne
           let r = lesser x.0 (lower x.0.0 g.0 parts.0) x.1 in
           (r.0, r.1, r.2, r.3 ∙ hops_exact (hops x.0) (hops g) parts.1)
 
-  pub group_old : (g : Rid) → IsIn g (chip_groups objects) → IsIn (thing.Group (hops g)) new → IsIn (thing.Group (hops g)) (old_things objects new)
+  group_old : (g : Rid) → IsIn g (chip_groups objects) → IsIn (thing.Group (hops g)) new → IsIn (thing.Group (hops g)) (old_things objects new)
   group_old g i wanted =
       let h = least (suc g.0) g (omega arith) i in
       let stays = stays_if h.0 h.1 (subst (λ z. IsIn (thing.Group z) new) (sym h.3) wanted) h.2 in
@@ -216,10 +216,10 @@ module _ {made : ℕ} {objects : Objects} (chip : IsListedChip made objects) (ne
 
   -- ---- and what of the old things the new view has the chip shows
 
-  pub hops_of_group : (g : Rid) → body_at objects (entry.Oid g) ≡ Some body.Group → hops_at objects g ≡ Some (hops g)
+  hops_of_group : (g : Rid) → body_at objects (entry.Oid g) ≡ Some body.Group → hops_at objects g ≡ Some (hops g)
   hops_of_group g found = hops-there chip new g (tag g) (record { entry = entry.Oid g; body = body.Group; found = found; at = same-refl (entry.Oid g); thing = refl; none = λ h. absurd (false≢true (sym h)) })
 
-  pub real_tag : (g : Rid) → IsIn (thing.Group (tag g)) new → hops g ≡ tag g
+  real_tag : (g : Rid) → IsIn (thing.Group (tag g)) new → hops g ≡ tag g
   real_tag g i = sym (hops-of_tag (group_stays objects new) (shown_hops objects) (rises chip new) g) ∙ hops-same chip new (tag g) (view.grouped.rising (tag g) i)
 
   goal_there : (e : Entry Rid) (p : Prefix) (t : To Rid) (g : Goal) → body_at objects e ≡ Some (body.Route p t) → goal_by (tagged tag) objects t ≡ Some g → (h : Goal) × (goal_by (hops_at objects) objects t ≡ Some h)

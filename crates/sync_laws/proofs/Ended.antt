@@ -1,5 +1,5 @@
 -- after the last call of an apply the view stands for the chip
-use Rattle.std.proofs.Common.{◌≡◌, ◌⊎◌, inl, inr, ℕ, ◌+◌, ◌++◌, Bool, true, false, cond, List, [], ◌∷◌, map, Option, None, Some, refl, sym, ap, ◌∙◌, subst}
+use Rattle.std.proofs.Common.{◌≡◌, ◌⊎◌, inl, inr, ℕ, ◌+◌, Bool, true, false, cond, List, [], ◌∷◌, map, Option, None, Some, refl, sym, ap, ◌∙◌, subst}
 use Rattle.std.specs.BTreeMap.{insert_entry, is_at}
 use Rattle.std.specs.List.{slice_get}
 use Rattle.std.specs.Map.{lookup}
@@ -7,7 +7,6 @@ use Rattle.std.specs.Ordering.{nat_cmp}
 use Rattle.std.proofs.lemmas.List.{append-nil}
 use Rattle.sai_types.specs.declared.ids.Rid.{Rid}
 use Rattle.sai_types.specs.declared.ids.Vid.{Vid}
-use Rattle.sai_types.specs.declared.body.Call.{Call}
 use Rattle.sai_types.specs.declared.body.Entry.{Entry}
 use Rattle.sai_types.specs.declared.body.Entry.TheVariants as entry
 use Rattle.sai_types.specs.declared.body.Object.{Object}
@@ -21,7 +20,7 @@ use Rattle.sai_types.specs.After.{after_calls, makes_id}
 use Rattle.sai_types.specs.Alike.{IsIn}
 use Rattle.sai_types.specs.Made.{made_after_all}
 use Rattle.sai_types.specs.Names.{name_of}
-use Rattle.sai_types.specs.Objects.{Objects, entry_cmp}
+use Rattle.sai_types.specs.Objects.{entry_cmp}
 use Rattle.sai_chip.specs.Naming.{entries_of}
 use Rattle.chip_layout.specs.Layout.{Has, Layout, has_number}
 use Rattle.chip_layout.specs.Renamed.{body_renamed, call_renamed, entry_renamed}
@@ -34,10 +33,10 @@ use Rattle.plan_laws.proofs.Cold.{half-room, halfway, makes-safe}
 use Rattle.plan_laws.proofs.Lists.{in-map}
 use Rattle.plan_laws.proofs.Running.{after-append, new-stand, stands-new}
 use Rattle.view_match.specs.Pairs.{pairs_of}
-use Rattle.apply_order.specs.Naming.{id_by, names_from, new_id}
+use Rattle.apply_order.specs.Naming.{id_by, names_from}
 use Rattle.asic_view.specs.View.{ViewObjects, entry_at, rid_at, shown_by, vid_cmp, with_tie}
 use Rattle.syncd_core.specs.Begun.{objects_in, tied_entries, tied_in, tied_objects, tied_pairs}
-use Rattle.syncd_core.specs.Run.{AreInTime, made_by, tied_after, view_by}
+use Rattle.syncd_core.specs.Run.{made_by, tied_after, view_by}
 use Rattle.syncd_core.specs.Synced.{tied_by}
 use Rattle.syncd_core.specs.Tied.{rid_or_none, tie_of}
 use Rattle.syncd_core.proofs.Ties.{kept}
@@ -50,7 +49,7 @@ use Rattle.sync_laws.proofs.InTime.{plan-in_time}
 use Rattle.sync_laws.proofs.Numbered.{apply-by_ties, last_ties}
 use Rattle.sync_laws.proofs.Standing.{stands-for-chip}
 use Rattle.sync_laws.proofs.Started.{there-first}
-use Rattle.sync_laws.proofs.Ties.{IsThere, there-kept, tied-apart, tied-same, vid-or}
+use Rattle.sync_laws.proofs.Ties.{IsThere, objects-there, tied-apart, tied-same, vid-or}
 
 -- ---- a new object is tied to its partner
 
@@ -80,15 +79,6 @@ module _ (old : List (Object Rid)) (objects : ViewObjects) (v : Vid) (r : Rid) w
   entries_tied os (entry.Route p) f there one (inl tied) = tied
   entries_tied os (entry.Route p) f there one (inr both) = let wrong = both.0 in absurd cc
 
-  entries_there : (os : ViewObjects) (e : Entry Rid) (f : Entry Vid) → IsThere os v → IsThere (tied_entries os e f) v
-  entries_there os (entry.Oid s) (entry.Oid w) h = there-kept os v w s h
-  entries_there os (entry.Oid s) (entry.Own ip) h = h
-  entries_there os (entry.Oid s) (entry.Neigh w ip) h = h
-  entries_there os (entry.Oid s) (entry.Route p) h = h
-  entries_there os (entry.Own ip) f h = h
-  entries_there os (entry.Neigh w ip) f h = h
-  entries_there os (entry.Route p) f h = h
-
   -- two objects of a pair with these identifiers
   abbrev AreBoth : Option (Object Rid) → Option (Object Vid) → Rid → Type 0
   AreBoth o n s = (a : Object Rid) × (b : Object Vid) × (o ≡ Some a) × (n ≡ Some b) × (a.entry ≡ entry.Oid s) × (b.entry ≡ entry.Oid v)
@@ -107,11 +97,6 @@ module _ (old : List (Object Rid)) (objects : ViewObjects) (v : Vid) (r : Rid) w
   objects_tied os None n there one (inl tied) = tied
   objects_tied os None n there one (inr both) = let wrong = both.2 in absurd cc
 
-  objects_there : (os : ViewObjects) (o : Option (Object Rid)) (n : Option (Object Vid)) → IsThere os v → IsThere (tied_objects os o n) v
-  objects_there os (Some a) (Some b) h = entries_there os a.entry b.entry h
-  objects_there os (Some a) None h = h
-  objects_there os None n h = h
-
   abbrev IsPairOf : ℕ × ℕ → Rid → Type 0
   IsPairOf p s = AreBoth (slice_get old p.0) (slice_get (objects_in objects) p.1) s
 
@@ -121,7 +106,7 @@ module _ (old : List (Object Rid)) (objects : ViewObjects) (v : Vid) (r : Rid) w
   pairs-tied (p ∷ ps) os there one h =
       let o = slice_get old p.0 in
       let n = slice_get (objects_in objects) p.1 in
-      let there' = objects_there os o n there in
+      let there' = objects-there v os o n there in
       let rest = pairs-tied ps (tied_objects os o n) there' (λ q s i. one q s (inr i)) in
       let here = λ (x : (rid_at os v ≡ Some r) ⊎ AreBoth o n r). rest (inl (objects_tied os o n there (λ s. one p s (inl refl)) x)) in
       elim h [

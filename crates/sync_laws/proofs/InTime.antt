@@ -1,5 +1,6 @@
 -- the calls of a plan are in time
 use Rattle.std.proofs.Common.{◌≡◌, inl, inr, ℕ, ◌++◌, List, [], ◌∷◌, None, refl, sym, ap, ◌∙◌, subst}
+use Rattle.std.proofs.lemmas.List.{append_assoc}
 use Rattle.sai_types.specs.declared.ids.Rid.{Rid}
 use Rattle.sai_types.specs.declared.ids.Vid.{Vid}
 use Rattle.sai_types.specs.declared.body.Call.TheVariants as call
@@ -36,10 +37,6 @@ use Rattle.sync_laws.proofs.Names.{remove-tied}
 use Rattle.sync_laws.proofs.Started.{none-named, pairs-free, pairs-there, there-first}
 use Rattle.sync_laws.proofs.Timed.{in-time}
 
-joined : (a b c : List PlanCall) → a ++ (b ++ c) ≡ (a ++ b) ++ c
-joined [] b c = refl
-joined (x ∷ a) b c = ap (λ l. x ∷ l) (joined a b c)
-
 -- steps that remove name nothing new
 gone_time : {made' : ℕ} (old : List (Object Rid)) {new : List (Object Vid)} {things : List (Vid × Thing)} (chip : IsListedChip made' (entries_of old)) (view : IsViewOf things new) (V : ViewObjects) (made : ℕ) (ts : List Timed) (rest : List PlanCall) → ((t : Timed) → IsIn t ts → IsGoneDue old chip view mode.Cold t) → AreInTime made V rest → AreInTime made V (steps_calls [] old new ts ++ rest)
 gone_time old chip view V made [] rest gone h = h
@@ -47,7 +44,7 @@ gone_time old {new = new} chip view V made (t ∷ ts) rest gone h =
     let d = gone t (inl refl) in
     let c : PlanCall = record { call = call.Remove (old_entry d.o.entry); makes = None } in
     let call_is : step_calls [] old new t.step ≡ c ∷ [] = ap (step_calls [] old new) d.step ∙ ap remove_calls d.at in
-    subst (AreInTime made V) (joined (step_calls [] old new t.step) (steps_calls [] old new ts) rest)
+    subst (AreInTime made V) (sym (append_assoc (step_calls [] old new t.step) (steps_calls [] old new ts) rest))
     (subst (λ cs. AreInTime made V (cs ++ (steps_calls [] old new ts ++ rest))) (sym call_is) (remove-tied V d.o.entry, tt, gone_time old chip view V made ts rest (λ s i. gone s (inr i)) h))
 
 module _ {capacities : List ℕ} {made : ℕ} {old : List (Object Rid)} (objects : ViewObjects) {things : List (Vid × Thing)} {plan : Plan} (x : IsPlanned capacities made old (objects_in objects) things plan) (free : (v : Vid) → rid_at objects v ≡ None) where

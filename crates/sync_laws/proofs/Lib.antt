@@ -9,3 +9,4 @@ pub mod Ended
 pub mod Made
 pub mod Ready
 pub mod Next
+pub mod Worked

@@ -1,11 +1,10 @@
 -- the objects of a view are, in another order, those of a chip that holds them
-use Rattle.std.proofs.Common.{◌≡◌, ◌⊎◌, inl, inr, Bool, true, false, cond, List, [], ◌∷◌, map, Ordering, Option, None, Some, refl, sym, ap, ◌∙◌, subst, IsPermutation}
+use Rattle.std.proofs.Common.{◌≡◌, inl, inr, [], ◌∷◌, Ordering, refl, sym, ap, subst, IsPermutation}
 use Rattle.std.specs.declared.cmp.Ordering.TheVariants.{Less, Equal, Greater}
 use Rattle.std.specs.BTreeMap.{insert_entry}
 use Rattle.std.specs.Ordering.{is_eq, match_ordering}
 use Rattle.std.proofs.lemmas.List.Sorted.{IsPermutation-cons, IsPermutation-middle, IsPermutation-refl, IsPermutation-sym, IsPermutation-trans}
 use Rattle.sai_types.specs.declared.ids.Rid.{Rid}
-use Rattle.sai_types.specs.declared.ids.Vid.{Vid}
 use Rattle.sai_types.specs.declared.body.Body.{Body}
 use Rattle.sai_types.specs.declared.body.Entry.{Entry}
 use Rattle.sai_types.specs.Alike.{IsIn}
@@ -13,13 +12,10 @@ use Rattle.sai_types.specs.Objects.{Objects, entry_cmp}
 use Rattle.sai_types.proofs.Exact.{entry-exact}
 use Rattle.sai_chip.specs.Naming.{entries_of}
 use Rattle.chip_layout.specs.Counted.{AreDistinct}
-use Rattle.plan_laws.proofs.Lists.{in-map}
 use Rattle.view_match.specs.Listed.{objects_as}
-use Rattle.asic_view.specs.declared.object.ViewObject.{ViewObject}
 use Rattle.asic_view.specs.View.{ViewObjects, as_chip, as_rid}
 use Rattle.asic_view.proofs.Shown.{shown_body, shown_entry}
 use Rattle.syncd_core.specs.Begun.{objects_in}
-use Rattle.order_laws.specs.Viewed.{IsMadeView}
 use Rattle.order_laws.proofs.Shuffled.{in-shuffled}
 use Rattle.sync_laws.specs.Begun.{entries_in}
 

@@ -30,6 +30,7 @@ use Rattle.syncd_core.specs.Run.{AreInTime, HasCome, NamesTied}
 use Rattle.syncd_core.specs.Tied.{plan_tie}
 use Rattle.apply_order.specs.Attributes.{differing, is_target, set_call, unless}
 use Rattle.apply_order.specs.Naming.{Names, new_id}
+use Rattle.order_laws.proofs.Sets.{to_by}
 
 -- the body of a thing depends on what it refers to alone
 with_same : {I : Type 0} (t : Thing) (i j p q : I) → ((k : Name) → first_name t ≡ Some k → i ≡ p) → ((k : Name) → second_name t ≡ Some k → j ≡ q) → body_with t i j ≡ body_with t p q
@@ -54,12 +55,6 @@ to_same goal.Drop i p a = refl
 to_same (goal.Direct on) i p a = ap (to_with (goal.Direct on)) (a _ refl)
 to_same (goal.Via hop) i p a = ap (to_with (goal.Via hop)) (a _ refl)
 to_same (goal.Group hs) i p a = ap (to_with (goal.Group hs)) (a _ refl)
-
-to_by : {I J : Type 0} (f : I → J) (g : Goal) (i : I) → to_renamed f (to_with g i) ≡ to_with g (f i)
-to_by f goal.Drop i = refl
-to_by f (goal.Direct on) i = refl
-to_by f (goal.Via hop) i = refl
-to_by f (goal.Group hops) i = refl
 
 module _ (view : ViewObjects) where
   -- other identifiers, where those that have come are as tied

@@ -1,7 +1,6 @@
 -- what the calls of a plan make comes to the chip's next identifiers
 use Rattle.std.proofs.Common.{◌≡◌, inl, inr, ℕ, ◌+◌, Bool, true, false, cond, List, [], ◌∷◌, map, Option, None, Some, refl, sym, ap, ◌∙◌, subst}
 use Rattle.std.specs.List.{slice_get}
-use Rattle.std.proofs.lemmas.Option.{same_Some}
 use Rattle.sai_types.specs.declared.ids.Rid.{Rid}
 use Rattle.sai_types.specs.declared.ids.Vid.{Vid}
 use Rattle.sai_types.specs.declared.body.Call.TheVariants as call
@@ -43,7 +42,7 @@ use Rattle.order_laws.proofs.Shuffled.{in-shuffled}
 use Rattle.sync_laws.proofs.InTime.{plan-in_time}
 use Rattle.sync_laws.proofs.Started.{pairs-there, there-first}
 use Rattle.sync_laws.proofs.Ties.{IsThere, there-kept, tied-same}
-use Rattle.sync_laws.proofs.Timed.{has_number_with}
+use Rattle.sync_laws.proofs.Timed.{has_number_with, made-id}
 
 -- ---- ties and numbers
 
@@ -73,12 +72,6 @@ numbered-by (c ∷ cs) V made times known = (
 
 -- ---- what the calls of steps make
 
-id_of : (f : Entry Vid) (v : Vid) → made_id f ≡ Some v → f ≡ entry.Oid v
-id_of (entry.Oid w) v e = ap entry.Oid (same_Some w v e)
-id_of (entry.Own ip) v e = absurd cc
-id_of (entry.Neigh r ip) v e = absurd cc
-id_of (entry.Route p) v e = absurd cc
-
 oids : (v w : Vid) → entry.Oid v ≡ entry.Oid w → v ≡ w
 oids v w e = cc
 
@@ -92,7 +85,7 @@ module _ {made : ℕ} (old : List (Object Rid)) {new : List (Object Vid)} {thing
       let made_call : PlanCall = record { call = call.Create (body_renamed (new_id names) d.n.body); makes = made_id d.n.entry } in
       let call_is : step_calls names old new t.step ≡ made_call ∷ [] = ap (step_calls names old new) d.step ∙ ap (make_calls names) d.at in
       let same : c ≡ made_call = only c made_call (subst (IsIn c) call_is i) in
-      let f = id_of d.n.entry v (ap (λ (z : PlanCall). z.makes) (sym same) ∙ is) in
+      let f = made-id d.n.entry v (ap (λ (z : PlanCall). z.makes) (sym same) ∙ is) in
       let number = numbered d.x.1 d.n.entry (has_number d.x.1) refl d.entry.none v f in
       let mine : d.x.0 ≡ v = oids d.x.0 v (sym (d.entry.some number) ∙ f) in
       let makes : makes_id made_call.call ≡ true = ap (λ b. has_id (body_renamed (new_id names) b)) d.of.body_is ∙ ap has_id (renamed_with (new_id names) d.x.1 d.of.first d.of.second) ∙ has_number_with d.x.1 (new_id names d.of.first) (new_id names d.of.second) ∙ number in

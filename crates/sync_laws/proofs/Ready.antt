@@ -1,17 +1,13 @@
 -- an apply that syncd begins is one of those that are proved
-use Rattle.std.proofs.Common.{◌≡◌, ◌↔◌, inl, inr, ℕ, List, refl, sym, ap, ◌∙◌, subst}
+use Rattle.std.proofs.Common.{ℕ, List}
 use Rattle.sai_types.specs.declared.ids.Rid.{Rid}
-use Rattle.sai_types.specs.declared.ids.Vid.{Vid}
 use Rattle.sai_types.specs.declared.body.Object.{Object}
 use Rattle.sai_types.specs.declared.plan.Plan.{Plan}
-use Rattle.sai_types.specs.declared.thing.Thing.{Thing}
-use Rattle.sai_types.specs.Alike.{IsIn}
-use Rattle.plan_laws.specs.Applied.{chip_things}
 use Rattle.view_match.specs.Pairs.{pairs_of}
 use Rattle.apply_order.specs.Planned.{IsPlanOf}
 use Rattle.asic_view.specs.View.{ViewObjects, as_chip}
 use Rattle.syncd_core.specs.Begun.{objects_in}
-use Rattle.order_laws.specs.Viewed.{HaveOneLanes, IsMadeView, things_in}
+use Rattle.order_laws.specs.Viewed.{IsMadeView}
 use Rattle.order_laws.proofs.Viewing.{laid_things, shown-of, view-of}
 use Rattle.sync_laws.specs.Begun.{IsBegun, IsReady, IsReadyView}
 use Rattle.sync_laws.proofs.Made.{as-listed}

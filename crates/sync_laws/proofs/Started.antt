@@ -28,7 +28,7 @@ use Rattle.order_laws.proofs.Ids.{named-has}
 use Rattle.order_laws.proofs.Partners.{in-place, place-in}
 use Rattle.order_laws.proofs.Placed.{thing-at}
 use Rattle.order_laws.proofs.Puts.{IsNamed}
-use Rattle.sync_laws.proofs.Ties.{IsThere, there-kept, tied-apart, vid-self}
+use Rattle.sync_laws.proofs.Ties.{IsThere, objects-there, tied-apart, vid-self}
 
 -- ---- the objects of a view are there
 
@@ -71,23 +71,9 @@ module _ {made : ℕ} (old : List (Object Rid)) (objects : ViewObjects) {things 
     abbrev NoneNamed : List (ℕ × ℕ) → Type 0
     NoneNamed ps = (p : ℕ × ℕ) (o : Object Rid) (n : Object Vid) (r : Rid) → IsIn p ps → slice_get old p.0 ≡ Some o → slice_get (objects_in objects) p.1 ≡ Some n → o.entry ≡ entry.Oid r → n.entry ≡ entry.Oid v → ⊥
 
-    entries_there : (os : ViewObjects) (e : Entry Rid) (f : Entry Vid) → IsThere os v → IsThere (tied_entries os e f) v
-    entries_there os (entry.Oid r) (entry.Oid w) h = there-kept os v w r h
-    entries_there os (entry.Oid r) (entry.Own ip) h = h
-    entries_there os (entry.Oid r) (entry.Neigh w ip) h = h
-    entries_there os (entry.Oid r) (entry.Route p) h = h
-    entries_there os (entry.Own ip) f h = h
-    entries_there os (entry.Neigh w ip) f h = h
-    entries_there os (entry.Route p) f h = h
-
-    objects_there : (os : ViewObjects) (o : Option (Object Rid)) (n : Option (Object Vid)) → IsThere os v → IsThere (tied_objects os o n) v
-    objects_there os (Some o) (Some n) h = entries_there os o.entry n.entry h
-    objects_there os (Some o) None h = h
-    objects_there os None n h = h
-
     pub pairs-there : (ps : List (ℕ × ℕ)) (os : ViewObjects) → IsThere os v → IsThere (tied_pairs os old (objects_in objects) ps) v
     pairs-there [] os h = h
-    pairs-there (p ∷ ps) os h = pairs-there ps (tied_objects os (slice_get old p.0) (slice_get (objects_in objects) p.1)) (objects_there os (slice_get old p.0) (slice_get (objects_in objects) p.1) h)
+    pairs-there (p ∷ ps) os h = pairs-there ps (tied_objects os (slice_get old p.0) (slice_get (objects_in objects) p.1)) (objects-there v os (slice_get old p.0) (slice_get (objects_in objects) p.1) h)
 
     entries_free : (os : ViewObjects) (e : Entry Rid) (f : Entry Vid) → ((r : Rid) → e ≡ entry.Oid r → f ≡ entry.Oid v → ⊥) → rid_at os v ≡ None → rid_at (tied_entries os e f) v ≡ None
     entries_free os (entry.Oid r) (entry.Oid w) apart h = tied-apart os v w r (λ same. apart r refl (ap entry.Oid (sym same))) ∙ h

@@ -1,13 +1,17 @@
 -- ties, one more at a time
-use Rattle.std.proofs.Common.{◌≡◌, ◌⊎◌, inl, inr, Bool, true, false, cond, [], ◌∷◌, Option, Some, option_map, refl, sym, ap, ◌∙◌}
+use Rattle.std.proofs.Common.{◌≡◌, ◌⊎◌, inl, inr, Bool, true, false, cond, [], ◌∷◌, Option, None, Some, option_map, refl, sym, ap, ◌∙◌}
 use Rattle.std.specs.BTreeMap.{is_at}
 use Rattle.std.specs.Cmp.{eq_by_cmp_equiv}
 use Rattle.std.specs.Map.{lookup}
 use Rattle.sai_types.specs.declared.ids.Rid.{Rid}
 use Rattle.sai_types.specs.declared.ids.Vid.{Vid}
 use Rattle.sai_types.specs.contracts.ids.VidOrd.TheImpl.Laws as ordered_vid
+use Rattle.sai_types.specs.declared.body.Entry.{Entry}
+use Rattle.sai_types.specs.declared.body.Entry.TheVariants as entry
+use Rattle.sai_types.specs.declared.body.Object.{Object}
 use Rattle.asic_view.specs.declared.object.ViewObject.{ViewObject}
 use Rattle.asic_view.specs.View.{ViewObjects, changed_at, rid_at, rid_in, vid_cmp, with_tie}
+use Rattle.syncd_core.specs.Begun.{tied_entries, tied_objects}
 use Rattle.syncd_core.proofs.Ties.{apart_found, vid-exact}
 
 abbrev pub Found : ViewObjects → Vid → Option ViewObject
@@ -62,3 +66,19 @@ tied-kept os v w r s there tied =
       | inl is ↦ (r, ap (λ z. rid_at (with_tie os z r) v) (sym is) ∙ tied-same os v r there)
       | inr apart ↦ (s, tied-apart os v w r apart ∙ tied)
     ]
+
+-- ties of pairs take away none
+module _ (v : Vid) where
+  pub entries-there : (os : ViewObjects) (e : Entry Rid) (f : Entry Vid) → IsThere os v → IsThere (tied_entries os e f) v
+  entries-there os (entry.Oid r) (entry.Oid w) h = there-kept os v w r h
+  entries-there os (entry.Oid r) (entry.Own ip) h = h
+  entries-there os (entry.Oid r) (entry.Neigh w ip) h = h
+  entries-there os (entry.Oid r) (entry.Route p) h = h
+  entries-there os (entry.Own ip) f h = h
+  entries-there os (entry.Neigh w ip) f h = h
+  entries-there os (entry.Route p) f h = h
+
+  pub objects-there : (os : ViewObjects) (o : Option (Object Rid)) (n : Option (Object Vid)) → IsThere os v → IsThere (tied_objects os o n) v
+  objects-there os (Some o) (Some n) h = entries-there os o.entry n.entry h
+  objects-there os (Some o) None h = h
+  objects-there os None n h = h

@@ -55,6 +55,13 @@ has_number_with (thing.Route p g) i j = refl
 has_number_with (thing.Port p) i j = refl
 has_number_with _ i j = refl
 
+-- the identifier that a call makes is that of its object
+pub made-id : (f : Entry Vid) (v : Vid) → made_id f ≡ Some v → f ≡ entry.Oid v
+made-id (entry.Oid w) v e = ap entry.Oid (same_Some w v e)
+made-id (entry.Own ip) v e = absurd cc
+made-id (entry.Neigh r ip) v e = absurd cc
+made-id (entry.Route p) v e = absurd cc
+
 apart_set : (t u : Thing) → Set t ≡ Make u → ⊥
 apart_set t u e = cc
 
@@ -212,12 +219,6 @@ module _ (olds : List Thing) {made' : ℕ} (old : List (Object Rid)) {new : List
         untied : (V : ViewObjects) → AreTied front V → (d : IsMadeDue old chip view m t) → IsUntied V (made_id d.n.entry)
         untied V tied d = by (made_id d.n.entry) refl
           where
-            id_of : (f : Entry Vid) (v : Vid) → made_id f ≡ Some v → f ≡ entry.Oid v
-            id_of (entry.Oid w) v e = ap entry.Oid (same_Some w v e)
-            id_of (entry.Own ip) v e = absurd cc
-            id_of (entry.Neigh r ip) v e = absurd cc
-            id_of (entry.Route p) v e = absurd cc
-
             numbered : (b : Bool) → has_number d.x.1 ≡ b → (v : Vid) → d.n.entry ≡ entry.Oid v → has_number d.x.1 ≡ true
             numbered true e v f = e
             numbered false e v f = absurd (d.entry.none e v f)
@@ -228,7 +229,7 @@ module _ (olds : List Thing) {made' : ℕ} (old : List (Object Rid)) {new : List
             by : (o : Option Vid) → made_id d.n.entry ≡ o → IsUntied V o
             by None e = tt
             by (Some v) e =
-                let f = id_of d.n.entry v e in
+                let f = made-id d.n.entry v e in
                 let number = numbered (has_number d.x.1) refl v f in
                 let mine : d.x.0 ≡ v = oids d.x.0 v (sym (d.entry.some number) ∙ f) in
                 let made_in = due-in safe.is_plan (map change front) (Make d.x.1 ∷ map change ts) (next_cut (Make d.x.1) (made_is d)) (Make d.x.1) (inl refl) in

@@ -1,6 +1,6 @@
 pub mod Best
-pub mod Exact
-pub mod Free
+mod Exact
+mod Free
 mod Orders
 pub mod Paired
 mod Put
