@@ -3,3 +3,4 @@ pub mod Merged
 pub mod Waits
 pub mod Popped
 pub mod Walks
+pub mod LeftWaiting

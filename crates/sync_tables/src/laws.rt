@@ -7,7 +7,7 @@ ghost use Rattle.sai_types.specs.Alike.{IsIn};
 ghost use Rattle.producer_table.specs.Pending.{AreInOrder};
 ghost use Rattle.consumer_table.specs.Ops.{Ops, AreOpsInOrder, first_in, keys_behind};
 ghost use Rattle.switch_machine.specs.Events.{IsPop, SwitchState, no_writes};
-ghost use Rattle.switch_machine.specs.Written.{IsAsBefore, IsPopped, IsTold, TakesWrite};
+ghost use Rattle.switch_machine.specs.Written.{HasNoWrite, IsAsBefore, IsPopped, IsTold, TakesWrite};
 ghost use Rattle.sync_tables.specs.Tables.{IsBehind, IsNextKey, PopsKeys, TablesState, no_tables, with_write, written_in};
 
 /// A write that waits is a write taken.
@@ -30,6 +30,11 @@ pub fn no_tables_are_told()
 /// A pop is an event of the machine.
 pub fn pops_are_events()
     ensures { (old new : TablesState) (taken : List Write) (s t : SwitchState) → PopsKeys old new → s.written ≡ written_in taken old → s.to_sync ≡ keys_of old.ops → t ≡ record s { written = written_in taken new; to_sync = keys_of new.ops } → IsPop s t }
+{}
+
+/// A key of which a write waits still after a pop is as it was: its row, and what waits of it.
+pub fn waiting_keys_are_as_before()
+    ensures { (old new : TablesState) (taken : List Write) (k : Key) → PopsKeys old new → (HasNoWrite (written_in taken new) k → ⊥) → IsAsBefore (written_in taken old) (written_in taken new) k }
 {}
 
 /// A walk over the keys to sync goes in key order and passes none over: the next key is the first behind this one, and where
