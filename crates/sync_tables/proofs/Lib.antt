@@ -4,3 +4,4 @@ pub mod Waits
 pub mod Popped
 pub mod Walks
 pub mod LeftWaiting
+pub mod KeysLeave

@@ -5,8 +5,8 @@ ghost use Rattle.table_schema.specs.declared.key.Key.{Key};
 ghost use Rattle.table_schema.specs.declared.write.Write.{Write};
 ghost use Rattle.sai_types.specs.Alike.{IsIn};
 ghost use Rattle.producer_table.specs.Pending.{AreInOrder};
-ghost use Rattle.consumer_table.specs.Ops.{Ops, AreOpsInOrder, first_in, keys_behind};
-ghost use Rattle.switch_machine.specs.Events.{IsPop, SwitchState, no_writes};
+ghost use Rattle.consumer_table.specs.Ops.{Ops, AreOpsInOrder, first_in, keys_behind, without_op};
+ghost use Rattle.switch_machine.specs.Events.{HasLeft, IsPop, SwitchState, no_writes};
 ghost use Rattle.switch_machine.specs.Written.{HasNoWrite, IsAsBefore, IsPopped, IsTold, TakesWrite};
 ghost use Rattle.sync_tables.specs.Tables.{IsBehind, IsNextKey, PopsKeys, TablesState, no_tables, with_write, written_in};
 
@@ -35,6 +35,12 @@ pub fn pops_are_events()
 /// A key of which a write waits still after a pop is as it was: its row, and what waits of it.
 pub fn waiting_keys_are_as_before()
     ensures { (old new : TablesState) (taken : List Write) (k : Key) → PopsKeys old new → (HasNoWrite (written_in taken new) k → ⊥) → IsAsBefore (written_in taken old) (written_in taken new) k }
+{}
+
+/// A key that is done leaves the keys to sync: it is there no more, no other leaves with it, and the others stay in order.
+pub fn keys_leave()
+    ensures left { (ops : Ops) (k : Key) → AreOpsInOrder ops → IsIn k (keys_of ops) → HasLeft k (keys_of ops) (keys_of (without_op ops k)) }
+    ensures order { (ops : Ops) (k : Key) → AreOpsInOrder ops → AreOpsInOrder (without_op ops k) }
 {}
 
 /// A walk over the keys to sync goes in key order and passes none over: the next key is the first behind this one, and where
