@@ -1,5 +1,5 @@
 -- a key that is done leaves the keys to sync
-use Rattle.std.proofs.Common.{◌≡◌, ◌⊎◌, inl, inr, Bool, true, false, cond, None, is_some, refl, sym, ap, ◌∙◌}
+use Rattle.std.proofs.Common.{◌≡◌, ◌⊎◌, ◌<◌, inl, inr, Bool, true, false, cond, [], ◌∷◌, None, is_some, length, arith, refl, sym, ap, ◌∙◌}
 use Rattle.std.specs.BTreeMap.{is_at}
 use Rattle.std.specs.Map.{keys_of}
 use Rattle.std.proofs.lemmas.Bool.{false≢true}
@@ -36,3 +36,15 @@ module _ (ops : Ops) (k : Key) (order : AreOpsInOrder ops) where
     others = λ q. other q (is_at (key_cmp q) k) refl;
     only = λ q. only q (is_at (key_cmp q) k) refl;
   }
+
+-- and makes them fewer
+pub fewer-keys : (ops : Ops) (k : Key) → IsIn k (keys_of ops) → length (keys_of (without_op ops k)) < length (keys_of ops)
+fewer-keys [] k i = elim i [ ]
+fewer-keys (e ∷ es) k i =
+    let rest = fewer-keys es k in
+    let by : (b : Bool) → is_at (key_cmp k) e.0 ≡ b → length (keys_of (cond b es (e ∷ without_op es k))) < length (e.0 ∷ keys_of es) =
+    λ b. elim b as (λ b. is_at (key_cmp k) e.0 ≡ b → length (keys_of (cond b es (e ∷ without_op es k))) < length (e.0 ∷ keys_of es)) [
+      | true ↦ λ at. omega arith
+      | false ↦ λ apart. elim i [ inl is ↦ absurd (false≢true (sym apart ∙ at_itself k e.0 is)) | inr later ↦ let less = rest later in omega (arith, less) ]
+    ] in
+    by (is_at (key_cmp k) e.0) refl

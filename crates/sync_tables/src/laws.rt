@@ -1,5 +1,5 @@
 // The tables beside the machine. Each function is a law: it does nothing, and its contract is proved.
-ghost use Rattle.std.specs.Prelude.{◌≡◌, ◌++◌, ◌∷◌, [], List, Option, None, Some};
+ghost use Rattle.std.specs.Prelude.{◌≡◌, ◌<◌, ◌++◌, ◌∷◌, [], List, Option, None, Some, length};
 ghost use Rattle.std.specs.Map.{keys_of};
 ghost use Rattle.table_schema.specs.declared.key.Key.{Key};
 ghost use Rattle.table_schema.specs.declared.write.Write.{Write};
@@ -41,6 +41,11 @@ pub fn waiting_keys_are_as_before()
 pub fn keys_leave()
     ensures left { (ops : Ops) (k : Key) → AreOpsInOrder ops → IsIn k (keys_of ops) → HasLeft k (keys_of ops) (keys_of (without_op ops k)) }
     ensures order { (ops : Ops) (k : Key) → AreOpsInOrder ops → AreOpsInOrder (without_op ops k) }
+{}
+
+/// A key that leaves makes the keys to sync fewer, so that turns end.
+pub fn left_keys_are_fewer()
+    ensures { (ops : Ops) (k : Key) → IsIn k (keys_of ops) → length (keys_of (without_op ops k)) < length (keys_of ops) }
 {}
 
 /// A walk over the keys to sync goes in key order and passes none over: the next key is the first behind this one, and where

@@ -149,7 +149,8 @@ impl Tables {
 
     /// How many keys are to sync.
     pub fn count(&self) -> usize
-        ensures { result ≡ length self.now.ops }
+        ensures ops { result ≡ length self.now.ops }
+        ensures keys { result ≡ length (keys_of self.now.ops) }
     {
         self.to_sync.len()
     }
