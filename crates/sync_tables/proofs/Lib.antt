@@ -3,3 +3,5 @@ pub mod Merged
 pub mod Waits
 pub mod Popped
 pub mod Walks
+pub mod LeftWaiting
+pub mod KeysLeave

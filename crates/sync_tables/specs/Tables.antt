@@ -1,5 +1,5 @@
 -- The tables: rows, writes that wait to be popped, and keys to sync. A write waits in its producer's table until it is popped; then it is in the rows, and its key is to sync (SWSS: producer and consumer state tables).
-use Rattle.std.specs.Prelude.{◌≡◌, ◌⊎◌, true, List, [], ◌∷◌, Option, Some, None, is_some, if◌then◌else◌}
+use Rattle.std.specs.Prelude.{◌≡◌, ◌⊎◌, ◌≤◌, ℕ, drop, true, List, [], ◌∷◌, Option, Some, None, is_some, if◌then◌else◌}
 use Rattle.std.specs.BTreeMap.{is_at}
 use Rattle.std.specs.List.{AllByRecursion}
 use Rattle.std.specs.Map.{keys_of}
@@ -76,6 +76,10 @@ pub record PopsKeys (old new : TablesState) : Type 0 where
 -- one of them was popped
 abbrev pub PopsSome : TablesState → TablesState → Type 0
 PopsSome old new = (k : Key) × ((taken : List Write) → HasNoWrite (written_in taken old) k → ⊥) × ((taken : List Write) → IsPoppedKey (written_in taken old) (written_in taken new) k)
+
+-- the first keys that waited are taken off, at most so many; the others wait, with what waited of them
+abbrev pub TakesAtMost : ℕ → PendingKeys → PendingKeys → Type 0
+TakesAtMost most old new = (n : ℕ) × (n ≤ most) × (new ≡ drop n old)
 
 -- ---- walks over the keys to sync
 

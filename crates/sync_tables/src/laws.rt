@@ -1,13 +1,13 @@
 // The tables beside the machine. Each function is a law: it does nothing, and its contract is proved.
-ghost use Rattle.std.specs.Prelude.{◌≡◌, ◌++◌, ◌∷◌, [], List, Option, None, Some};
+ghost use Rattle.std.specs.Prelude.{◌≡◌, ◌<◌, ◌++◌, ◌∷◌, [], List, Option, None, Some, length};
 ghost use Rattle.std.specs.Map.{keys_of};
 ghost use Rattle.table_schema.specs.declared.key.Key.{Key};
 ghost use Rattle.table_schema.specs.declared.write.Write.{Write};
 ghost use Rattle.sai_types.specs.Alike.{IsIn};
 ghost use Rattle.producer_table.specs.Pending.{AreInOrder};
-ghost use Rattle.consumer_table.specs.Ops.{Ops, AreOpsInOrder, first_in, keys_behind};
-ghost use Rattle.switch_machine.specs.Events.{IsPop, SwitchState, no_writes};
-ghost use Rattle.switch_machine.specs.Written.{IsAsBefore, IsPopped, IsTold, TakesWrite};
+ghost use Rattle.consumer_table.specs.Ops.{Ops, AreOpsInOrder, first_in, keys_behind, without_op};
+ghost use Rattle.switch_machine.specs.Events.{HasLeft, IsPop, SwitchState, no_writes};
+ghost use Rattle.switch_machine.specs.Written.{HasNoWrite, IsAsBefore, IsPopped, IsTold, TakesWrite};
 ghost use Rattle.sync_tables.specs.Tables.{IsBehind, IsNextKey, PopsKeys, TablesState, no_tables, with_write, written_in};
 
 /// A write that waits is a write taken.
@@ -30,6 +30,22 @@ pub fn no_tables_are_told()
 /// A pop is an event of the machine.
 pub fn pops_are_events()
     ensures { (old new : TablesState) (taken : List Write) (s t : SwitchState) → PopsKeys old new → s.written ≡ written_in taken old → s.to_sync ≡ keys_of old.ops → t ≡ record s { written = written_in taken new; to_sync = keys_of new.ops } → IsPop s t }
+{}
+
+/// A key of which a write waits still after a pop is as it was: its row, and what waits of it.
+pub fn waiting_keys_are_as_before()
+    ensures { (old new : TablesState) (taken : List Write) (k : Key) → PopsKeys old new → (HasNoWrite (written_in taken new) k → ⊥) → IsAsBefore (written_in taken old) (written_in taken new) k }
+{}
+
+/// A key that is done leaves the keys to sync: it is there no more, no other leaves with it, and the others stay in order.
+pub fn keys_leave()
+    ensures left { (ops : Ops) (k : Key) → AreOpsInOrder ops → IsIn k (keys_of ops) → HasLeft k (keys_of ops) (keys_of (without_op ops k)) }
+    ensures order { (ops : Ops) (k : Key) → AreOpsInOrder ops → AreOpsInOrder (without_op ops k) }
+{}
+
+/// A key that leaves makes the keys to sync fewer, so that turns end.
+pub fn left_keys_are_fewer()
+    ensures { (ops : Ops) (k : Key) → IsIn k (keys_of ops) → length (keys_of (without_op ops k)) < length (keys_of ops) }
 {}
 
 /// A walk over the keys to sync goes in key order and passes none over: the next key is the first behind this one, and where

@@ -7,7 +7,7 @@ mod merging;
 mod tables;
 
 pub use laws::{
-    no_tables_are_told, popped_tables_wait_for_nothing, pops_are_events, walks_pass_no_key,
-    writes_are_taken,
+    keys_leave, left_keys_are_fewer, no_tables_are_told, popped_tables_wait_for_nothing,
+    pops_are_events, waiting_keys_are_as_before, walks_pass_no_key, writes_are_taken,
 };
-pub use tables::Tables;
+pub use tables::{BATCH, Tables};

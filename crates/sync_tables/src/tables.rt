@@ -1,5 +1,5 @@
 // The tables.
-ghost use Rattle.std.specs.Prelude.{◌≡◌, ◌⊎◌, ◌↔◌, [], length, IsTrue, IfOk, OnOk, OnErr, option_map};
+ghost use Rattle.std.specs.Prelude.{◌≡◌, ◌⊎◌, ◌↔◌, ◌<◌, [], drop, length, IsTrue, IfOk, OnOk, OnErr, option_map};
 ghost use Rattle.std.specs.Bool.{OnTrue, OnFalse};
 ghost use Rattle.std.specs.Map.{keys_of};
 ghost use Rattle.table_schema.specs.Rows.{fields_at};
@@ -7,7 +7,8 @@ ghost use Rattle.table_schema.specs.declared.write.Write.TheVariants as write;
 ghost use Rattle.switch_model.specs.Good.{good_row};
 ghost use Rattle.producer_table.specs.Pending.{AreInOrder};
 ghost use Rattle.consumer_table.specs.Ops.{AreOpsInOrder, first_in, keys_behind, without_op};
-ghost use Rattle.sync_tables.specs.Tables.{PopsKeys, PopsSome, no_tables, with_write};
+ghost use Rattle.sync_tables.specs.Tables.{PopsKeys, PopsSome, TakesAtMost, no_tables, with_write};
+ghost use Rattle.sync_tables.specs.declared.tables.TheConstants.{BATCH};
 
 use crate::merging::take_in;
 use consumer_table::ToSync;
@@ -19,7 +20,7 @@ use swss_types::OutOfMemory;
 use table_schema::{Fields, Key, PortPlan, Row, read_row};
 
 /// How many keys one pop takes at most.
-const BATCH: u64 = 128;
+pub const BATCH: u64 = 128;
 
 /// The rows of the application tables, the writes that wait to be popped, and the keys that are to be brought to the chip.
 #[derive(Debug, Drop)]
@@ -75,23 +76,28 @@ impl Tables {
         self.waiting.is_empty()
     }
 
-    /// Pops a batch of keys, in key order: what waited of each is merged into its row, and it is to sync. After want of
-    /// memory some of the keys are popped, and the others wait.
+    /// Pops a batch of keys: the first `BATCH` that wait, in key order, or all where no more wait. What waited of each is
+    /// merged into its row, and it is to sync. After want of memory some of these first keys are popped, and the others wait.
     pub fn pop(&mut self) -> Result<(), OutOfMemory>
         ensures keys { PopsKeys self.old self.new }
         ensures some { OnOk result ((self.old.waiting ≡ []) ⊎ PopsSome self.old self.new) }
+        ensures left { OnOk result (self.new.waiting ≡ drop BATCH self.old.waiting) }
+        ensures fewer { OnOk result ((self.old.waiting ≡ []) ⊎ (length self.new.waiting < length self.old.waiting)) }
+        ensures err { OnErr result (TakesAtMost BATCH self.old.waiting self.new.waiting) }
     {
         if self.pop_first()? {
-            self.pop_more()?;
+            self.pop_more(BATCH - 1)?;
         }
         Ok(())
     }
 
-    /// Pops the keys of a batch but the first.
-    fn pop_more(&mut self) -> Result<(), OutOfMemory>
-        ensures { PopsKeys self.old self.new }
+    /// Pops the first keys that wait, at most so many.
+    fn pop_more(&mut self, count: u64) -> Result<(), OutOfMemory>
+        ensures keys { PopsKeys self.old self.new }
+        ensures left { OnOk result (self.new.waiting ≡ drop count self.old.waiting) }
+        ensures err { OnErr result (TakesAtMost count self.old.waiting self.new.waiting) }
     {
-        for _ in 1..BATCH {
+        for _ in 0..count {
             if !self.pop_first()? {
                 break;
             }
@@ -104,6 +110,8 @@ impl Tables {
         ensures keys { PopsKeys self.old self.new }
         ensures some { IfOk result (λ popped. OnTrue popped (PopsSome self.old self.new)) }
         ensures empty { IfOk result (λ popped. OnFalse popped (self.old.waiting ≡ [])) }
+        ensures left { OnOk result (self.new.waiting ≡ drop 1 self.old.waiting) }
+        ensures err { OnErr result (self.new.waiting ≡ self.old.waiting) }
     {
         let _order = self.waiting.is_empty();
         let Some((key, pending)) = self.waiting.first() else {
@@ -141,7 +149,8 @@ impl Tables {
 
     /// How many keys are to sync.
     pub fn count(&self) -> usize
-        ensures { result ≡ length self.now.ops }
+        ensures ops { result ≡ length self.now.ops }
+        ensures keys { result ≡ length (keys_of self.now.ops) }
     {
         self.to_sync.len()
     }
