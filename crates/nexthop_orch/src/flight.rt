@@ -136,6 +136,13 @@ impl GroupFlight {
         self.hops().len() < self.done
     }
 
+    /// Whether the group is built, or else taken away.
+    pub fn builds(&self) -> bool
+        ensures { result ≡ self.now.builds }
+    {
+        self.builds
+    }
+
     /// All calls have taken effect: a group that was built is live, and one that went is absent.
     fn end(&self, reg: &mut Registry)
         requires builds { self.now.builds ≡ true → state_of reg.old (Name.Group self.now.hops) ≡ state.Building self.now.worker }
