@@ -1,5 +1,5 @@
 // The operation of a port.
-ghost use Rattle.std.specs.Prelude.{◌≡◌, [], ◌∷◌, IsSome, Some, None, option_map, IfOk, OnErr};
+ghost use Rattle.std.specs.Prelude.{◌≡◌, ◌↔◌, [], ◌∷◌, IsSome, IsTrue, Some, None, option_map, IfOk, OnErr};
 ghost use Rattle.table_schema.specs.Plan.{Ports};
 ghost use Rattle.orch_flight.specs.Calling.{IsNextOf, IsOver, KnowsIds};
 ghost use Rattle.orch_flight.specs.Sharing.{MayStart};
@@ -148,6 +148,20 @@ impl PortFlight {
                 }
             }
             _ => self.done = true,
+        }
+    }
+
+    /// Whether no call is due.
+    pub fn is_over(&self) -> bool
+        ensures { IsTrue result ↔ (self.now.due ≡ []) }
+    {
+        if self.done {
+            return true;
+        }
+        match (&self.current, &self.target) {
+            (None, Some(_)) | (Some(_), None) => false,
+            (Some(now), Some(new)) => first_attr(now, new).is_none(),
+            (None, None) => true,
         }
     }
 }
