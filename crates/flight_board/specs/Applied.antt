@@ -1,0 +1,32 @@
+-- The applied rows as they are kept: with places for those of keys that are to have one. Own.
+use Rattle.std.specs.Prelude.{◌≡◌, List, Option, Some, None, IsSome}
+use Rattle.std.specs.BTreeMap.{is_at}
+use Rattle.std.specs.Map.{lookup}
+use Rattle.table_schema.specs.Key.{key_cmp}
+use Rattle.table_schema.specs.declared.key.Key.{Key}
+use Rattle.table_schema.specs.declared.row.Row.{Row}
+
+-- keys with their rows, or with a place alone
+abbrev pub Entries : Type 0
+Entries = List (Key × Option Row)
+
+abbrev pub row_in : Option (Option Row) → Option Row
+row_in None = None
+row_in (Some o) = o
+
+-- the applied row of a key
+abbrev pub row_at : Entries → Key → Option Row
+row_at entries k = row_in (lookup (is_at (key_cmp k)) entries)
+
+-- a key has a place, with a row in it or none
+abbrev pub HasPlace : Entries → Key → Type 0
+HasPlace entries k = IsSome (lookup (is_at (key_cmp k)) entries)
+
+-- the rows stay
+abbrev pub HasSameRows : Entries → Entries → Type 0
+HasSameRows old new = (q : Key) → row_at new q ≡ row_at old q
+
+-- the rows and places of other keys stay
+pub record KeepsOthers (k : Key) (old new : Entries) : Type 0 where
+  pub rows : (q : Key) → (q ≡ k → ⊥) → row_at new q ≡ row_at old q
+  pub places : (q : Key) → (q ≡ k → ⊥) → HasPlace old q → HasPlace new q

@@ -1,0 +1,155 @@
+-- The board: names and places, the applied rows, and the operations of four workers; and how an operation begins, goes on and ends. Own.
+use Rattle.std.specs.Prelude.{◌≡◌, ◌⊎◌, ℕ, List, [], ◌∷◌, map, length, Option, Some, None, option_map, Result, Ok, Err, zero, suc}
+use Rattle.table_schema.specs.Plan.{IsPlan, Ports}
+use Rattle.table_schema.specs.declared.key.Key.{Key}
+use Rattle.table_schema.specs.declared.row.Row.{Row}
+use Rattle.sai_types.specs.declared.ids.Vid.{Vid}
+use Rattle.switch_model.specs.declared.wait.Wait.{Wait}
+use Rattle.switch_model.specs.declared.wait.Wait.TheVariants as wait
+use Rattle.row_layout.specs.Operations.{uses_of}
+use Rattle.ref_counts.specs.declared.name.Name.{Name}
+use Rattle.ref_counts.specs.declared.name.Name.TheVariants as name
+use Rattle.ref_counts.specs.Registry.{Names}
+use Rattle.ref_counts.specs.Room.{GivesBack, RoomState, all_free}
+use Rattle.orch_flight.specs.Calling.{IsOver}
+use Rattle.orch_flight.specs.Grouping.{GroupOperation, IsGroupOver}
+use Rattle.orch_flight.specs.Needing.{wait_of}
+use Rattle.orch_flight.specs.Operation.{Operation}
+use Rattle.orch_flight.specs.Sharing.{owners_of}
+use Rattle.orch_flight.specs.Starting.{IsStartedBy}
+use Rattle.registry_laws.specs.Ending.{ended_names, named_by}
+use Rattle.registry_laws.specs.Flown.{Flown, due_for}
+use Rattle.registry_laws.specs.Making.{KnowsNext, TookFor, with_group_begun}
+use Rattle.flight_board.specs.Applied.{Entries, HasPlace, row_at}
+
+-- what a worker has under way: the names of the rows that the key's applied row names, what its new row shares, and the operations
+pub record FlightState : Type 0 where
+  pub named : List Name
+  pub shared : Option Name
+  pub flown : Flown
+
+pub record BoardState : Type 0 where
+  pub plan : Ports
+  pub names : Names
+  pub room : RoomState
+  pub applied : Entries
+  pub flights : List (Option FlightState)
+
+abbrev pub new_board : Ports → List ℕ → BoardState
+new_board plan capacities = record { plan = plan; names = []; room = all_free capacities; applied = []; flights = None ∷ None ∷ None ∷ None ∷ [] }
+
+abbrev pub flight_on : List (Option FlightState) → ℕ → Option FlightState
+flight_on [] w = None
+flight_on (o ∷ os) zero = o
+flight_on (o ∷ os) (suc w) = flight_on os w
+
+-- the operation of what this worker has under way has the key
+abbrev pub HasKeyAt : List (Option FlightState) → Key → ℕ → Type 0
+HasKeyAt flights k v = (x : Flown) × (option_map (λ f. f.flown) (flight_on flights v) ≡ Some x) × (x.operation.key ≡ k)
+
+-- the row's operation among what a worker has under way
+abbrev pub operation_in : FlightState → Operation
+operation_in f = f.flown.operation
+
+abbrev pub flight_at : BoardState → ℕ → Option FlightState
+flight_at b w = flight_on b.flights w
+
+abbrev pub flown_at : BoardState → ℕ → Option Flown
+flown_at b w = option_map (λ f. f.flown) (flight_at b w)
+
+-- ---- what holds of each flight
+
+-- one that begins: it has to do with no group yet, and keeps the names of the rows that the key's old row names, and what its new row shares
+pub record IsBegun (plan : Ports) (k : Key) (old new : Option Row) (f : FlightState) : Type 0 where
+  pub group : f.flown.group ≡ None
+  pub named : f.named ≡ map name.Row (named_by k old)
+  pub shared : uses_of plan k new ≡ owners_of f.shared
+
+pub record IsKeptFlight (plan : Ports) (applied : Entries) (w : ℕ) (f : FlightState) : Type 0 where
+  pub worker : f.flown.operation.worker ≡ w
+  pub named : f.named ≡ map name.Row (named_by f.flown.operation.key (row_at applied f.flown.operation.key))
+  pub shared : uses_of plan f.flown.operation.key f.flown.operation.new ≡ owners_of f.shared
+  pub placed : HasPlace applied f.flown.operation.key
+
+-- each worker's is its own, and no two have one key
+pub record AreKept (plan : Ports) (applied : Entries) (flights : List (Option FlightState)) : Type 0 where
+  pub four : length flights ≡ 4
+  pub each : (w : ℕ) (f : FlightState) → flight_on flights w ≡ Some f → IsKeptFlight plan applied w f
+  pub apart : (w v : ℕ) (f g : FlightState) → flight_on flights w ≡ Some f → flight_on flights v ≡ Some g → f.flown.operation.key ≡ g.flown.operation.key → w ≡ v
+
+-- ---- what follows in an event
+
+-- the other workers' operations, and the applied rows of other keys, are as they were
+pub record LeavesOthers (w : ℕ) (k : Key) (old new : BoardState) : Type 0 where
+  pub plan : new.plan ≡ old.plan
+  pub flights : (v : ℕ) → (v ≡ w → ⊥) → flight_at new v ≡ flight_at old v
+  pub rows : (q : Key) → (q ≡ k → ⊥) → row_at new.applied q ≡ row_at old.applied q
+
+-- an operation for which something is due goes on, with these names and this room
+pub record GoesOn (w : ℕ) (x : Flown) (names : Names) (room : RoomState) (old new : BoardState) : Type 0 where
+  pub row : row_at new.applied x.operation.key ≡ row_at old.applied x.operation.key
+  pub flying : flown_at new w ≡ Some x
+  pub names_are : new.names ≡ names
+  pub room_is : new.room ≡ room
+
+-- one for which nothing is due ends: its key has its new row, and what it used and kept is given up
+pub record EndsNow (w : ℕ) (x : Flown) (names : Names) (room : RoomState) (old new : BoardState) : Type 0 where
+  pub row : row_at new.applied x.operation.key ≡ x.operation.new
+  pub none : flight_at new w ≡ None
+  pub names_are : new.names ≡ ended_names names w x.operation.key (row_at old.applied x.operation.key) x.operation.new
+  pub room_is : GivesBack room w new.room
+
+pub record Follows (w : ℕ) (x : Flown) (names : Names) (room : RoomState) (old new : BoardState) : Type 0 where
+  pub others : LeavesOthers w x.operation.key old new
+  pub more : (due_for old.plan names x ≡ [] → ⊥) → GoesOn w x names room old new
+  pub over : due_for old.plan names x ≡ [] → EndsNow w x names room old new
+
+-- ---- a beginning
+
+-- this worker's operation has the key
+abbrev pub IsFlownAt : BoardState → Key → ℕ → Type 0
+IsFlownAt b k v = HasKeyAt b.flights k v
+
+-- no operation has the key
+abbrev pub IsUnflown : BoardState → Key → Type 0
+IsUnflown b k = (v : ℕ) → IsFlownAt b k v → ⊥
+
+-- the same board, but for places that are kept for nothing
+pub record IsSameBoard (old new : BoardState) : Type 0 where
+  pub plan : new.plan ≡ old.plan
+  pub names : new.names ≡ old.names
+  pub room : new.room ≡ old.room
+  pub flights : new.flights ≡ old.flights
+  pub rows : (q : Key) → row_at new.applied q ≡ row_at old.applied q
+
+-- the operation of a key begins, or the key waits and nothing changes: for the worker whose operation has it, or for the first reason that the registry and the room tell
+abbrev pub IsBegunFor : BoardState → List ℕ → ℕ → Key → Option Row → Result (Unit {0}) Wait → BoardState → Type 0
+IsBegunFor old used w k row (Err reason) new =
+    IsSameBoard old new × (((v : ℕ) × IsFlownAt old k v × (reason ≡ wait.Busy v)) ⊎ (IsUnflown old k × (wait_of old.plan old.names old.room used w k (row_at old.applied k) row ≡ Some reason)))
+IsBegunFor old used w k row (Ok _) new =
+    IsUnflown old k × (f : Operation) × (names : Names) × (room : RoomState) × IsStartedBy old.plan old.names old.room used w k (row_at old.applied k) row (Ok f) names room
+    × Follows w (record { operation = f; group = None }) names room old new
+
+-- ---- calls and their effects
+
+-- a worker's group that is due begins, and nothing else changes
+pub record IsPrepared (old : BoardState) (w : ℕ) (new : BoardState) : Type 0 where
+  pub plan : new.plan ≡ old.plan
+  pub names : new.names ≡ old.names
+  pub room : new.room ≡ old.room
+  pub applied : new.applied ≡ old.applied
+  pub own : flown_at new w ≡ option_map (with_group_begun old.plan old.names) (flown_at old w)
+  pub others : (v : ℕ) → (v ≡ w → ⊥) → flight_at new v ≡ flight_at old v
+
+-- the next call can be told: something is due, of the group or else of the row's operation, and the registry knows the identifiers that the call needs
+pub record IsReady (plan : Ports) (names : Names) (x : Flown) : Type 0 where
+  pub plans : IsPlan plan
+  pub over : IsOver plan x.operation
+  pub group_over : (g : GroupOperation) → x.group ≡ Some g → IsGroupOver plan g
+  pub group_due : (g : GroupOperation) → x.group ≡ Some g → g.due ≡ [] → ⊥
+  pub due : x.group ≡ None → x.operation.due ≡ [] → ⊥
+  pub known : KnowsNext names x.operation x.group
+
+-- the call that was due for a worker has taken effect
+abbrev pub IsTakenFor : BoardState → ℕ → Option Vid → BoardState → Type 0
+IsTakenFor old w made new = (x : Flown) → flown_at old w ≡ Some x → (x' : Flown) × (names : Names) × TookFor x.operation x.group made old.names x' names × Follows w x' names old.room old new

@@ -1,0 +1,186 @@
+// The board.
+ghost use Rattle.std.specs.Prelude.{◌≡◌, ◌<◌, ◌↔◌, Some, None, IsSome, IsTrue, option_map, IfOk, IfSome, IfNone, OnOk, OnErr};
+ghost use Rattle.orch_flight.specs.Sharing.{MayStart};
+ghost use Rattle.registry_laws.specs.Flown.{Flown};
+ghost use Rattle.registry_laws.specs.Making.{IsNextCall, MayTakeFor};
+ghost use Rattle.flight_board.specs.Applied.{row_at};
+ghost use Rattle.flight_board.specs.Board.{Follows, IsBegunFor, IsFlownAt, IsKeptFlight, IsPrepared, IsReady, IsSameBoard, IsTakenFor, IsUnflown, flight_at, flown_at, new_board};
+
+use crate::applied::AppliedRows;
+use crate::flight::Flight;
+use crate::workers::Workers;
+use ref_counts::{Registry, Room};
+use sai_types::{Call, Caps, Vid};
+use std::alloc::Global;
+use std::marker::Model;
+use switch_model::Wait;
+use swss_types::OutOfMemory;
+use table_schema::{Key, PortPlan, Row};
+
+/// The rows that are applied, and the operations of up to four workers, which know names, users, pins and places, and no chip.
+#[derive(Drop)]
+pub struct Board {
+    alloc: Global,
+    plan: PortPlan,
+    registry: Registry,
+    room: Room,
+    applied: AppliedRows,
+    workers: Workers,
+}
+
+impl Model for Board {
+    ghost use Rattle.flight_board.specs.Board.{AreKept, BoardState};
+
+    ghost Value = { BoardState };
+
+    ghost view = { λ b. record { plan = b.plan; names = b.registry; room = b.room; applied = b.applied; flights = b.workers } };
+
+    ghost invariant = { λ b. AreKept b.plan b.applied b.workers };
+}
+
+impl Board {
+    /// No row is applied, and nothing is under way.
+    pub fn new(alloc: Global, plan: PortPlan, caps: Caps) -> Board
+        ensures { result ≡ new_board plan caps.0 }
+    {
+        Board {
+            alloc,
+            plan,
+            registry: Registry::new(alloc),
+            room: Room::new(caps),
+            applied: AppliedRows::new(alloc),
+            workers: Workers::new(),
+        }
+    }
+
+    /// The port plan.
+    pub fn plan(&self) -> &PortPlan
+        ensures { result.now ≡ self.now.plan }
+    {
+        &self.plan
+    }
+
+    /// The applied row of a key.
+    pub fn row(&self, key: &Key) -> Option<&Row>
+        ensures { option_map (λ row. row.now) result ≡ row_at self.now.applied key.now }
+    {
+        self.applied.row(key)
+    }
+
+    /// Whether a worker has something under way.
+    pub fn is_flying(&self, worker: u32) -> bool
+        requires { worker < 4 }
+        ensures { IsTrue result ↔ IsSome (flown_at self.now worker) }
+    {
+        self.workers.get(worker).is_some()
+    }
+
+    /// The worker whose operation has a key.
+    pub fn worker_of(&self, key: &Key) -> Option<u32>
+        ensures some { IfSome result (λ worker. IsFlownAt self.now key.now worker) }
+        ensures none { IfNone result (IsUnflown self.now key.now) }
+    {
+        self.workers.worker_of(key)
+    }
+
+    /// Begins the operation that brings a key from its applied row to this one, or tells why it has to wait: for the worker
+    /// whose operation has the key, or for the first reason that holds. An operation for which no call is due ends at once. The
+    /// worker has nothing under way.
+    pub fn begin(
+        &mut self,
+        used: &[u64; 11],
+        worker: u32,
+        key: &Key,
+        new: Option<Row>,
+    ) -> Result<Result<(), Wait>, OutOfMemory>
+        requires worker { worker < 4 }
+        requires none { flown_at self.old worker ≡ None }
+        requires may { IsUnflown self.old key.now → MayStart self.old.plan self.old.names worker key.now (row_at self.old.applied key.now) new }
+        ensures begun { IfOk result (λ answer. IsBegunFor self.old used.now worker key.now new answer self.new) }
+        ensures err { OnErr result (IsSameBoard self.old self.new) }
+    {
+        if let Some(other) = self.workers.worker_of(key) {
+            return Ok(Err(Wait::Busy(other)));
+        }
+        self.applied.keep_place(key)?;
+        match Flight::start(
+            self.alloc,
+            &self.plan,
+            &mut self.registry,
+            &mut self.room,
+            used,
+            worker,
+            key,
+            self.applied.row(key),
+            new,
+        ) {
+            Ok(Ok(flight)) => {
+                self.go_on(flight);
+                Ok(Ok(()))
+            }
+            Ok(Err(wait)) => {
+                self.applied.forget_place(key);
+                Ok(Err(wait))
+            }
+            Err(error) => {
+                self.applied.forget_place(key);
+                Err(error)
+            }
+        }
+    }
+
+    /// Begins the operation of a group that is due for a worker. Nothing else changes.
+    pub fn prepare(&mut self, worker: u32) -> Result<(), OutOfMemory>
+        requires { worker < 4 }
+        ensures ok { OnOk result (IsPrepared self.old worker self.new) }
+        ensures err { OnErr result (self.new ≡ self.old) }
+    {
+        let Some(mut flight) = self.workers.take(worker) else {
+            return Ok(());
+        };
+        let prepared = flight.prepare(self.alloc, &self.plan, &self.registry);
+        self.workers.put(worker, flight);
+        prepared
+    }
+
+    /// The call that is due for a worker that has something under way.
+    pub fn next(&self, worker: u32) -> Result<Call<Vid>, OutOfMemory>
+        requires worker { worker < 4 }
+        requires flying { (x : Flown) × (flown_at self.now worker ≡ Some x) × IsReady self.now.plan self.now.names x }
+        ensures { IfOk result (λ call. (x : Flown) → flown_at self.now worker ≡ Some x → IsNextCall self.now.plan self.now.names x.operation x.group call) }
+    {
+        match self.workers.get(worker) {
+            Some(flight) => flight.next(&self.registry),
+            None => unreachable!(),
+        }
+    }
+
+    /// The call that was due for a worker has taken effect: `made` is the identifier of what it made, where that has one. An
+    /// operation for which no call is due any more ends.
+    pub fn took(&mut self, worker: u32, made: Option<Vid>)
+        requires worker { worker < 4 }
+        requires may { (x : Flown) × (flown_at self.old worker ≡ Some x) × MayTakeFor x.operation x.group made self.old.names }
+        ensures { IsTakenFor self.old worker made self.new }
+    {
+        if let Some(mut flight) = self.workers.take(worker) {
+            flight.took(made, &mut self.registry);
+            self.go_on(flight);
+        }
+    }
+
+    /// An operation goes on where something is due for it, and ends where nothing is.
+    fn go_on(&mut self, flight: Flight)
+        requires worker { flight.flown.operation.worker < 4 }
+        requires kept { IsKeptFlight self.old.plan self.old.applied flight.flown.operation.worker flight }
+        requires none { flight_at self.old flight.flown.operation.worker ≡ None }
+        requires unflown { IsUnflown self.old flight.flown.operation.key }
+        ensures { Follows flight.flown.operation.worker flight.flown self.old.names self.old.room self.old self.new }
+    {
+        let worker = flight.worker();
+        if flight.is_over(&self.registry) {
+            flight.end(&mut self.registry, &mut self.room, &mut self.applied);
+        } else {
+            self.workers.put(worker, flight);
+        }
+    }
+}

@@ -1,0 +1,87 @@
+// What each worker has under way.
+ghost use Rattle.std.specs.Prelude.{◌≡◌, ◌<◌, ◌↔◌, ◌∷◌, [], ℕ, None, Some, length, set, option_map, IfSome, IfNone, IsTrue};
+ghost use Rattle.flight_board.specs.Board.{HasKeyAt, flight_on};
+
+use crate::flight::Flight;
+use std::marker::Model;
+use table_schema::Key;
+
+/// What each of four workers has under way.
+#[derive(Drop)]
+pub struct Workers {
+    flights: [Option<Flight>; 4],
+}
+
+impl Model for Workers {
+    ghost use Rattle.std.specs.Prelude.{List, Option};
+    ghost use Rattle.flight_board.specs.Board.{FlightState};
+
+    ghost Value = { List (Option FlightState) };
+
+    ghost view = { λ w. w.flights };
+}
+
+impl Workers {
+    /// Nobody has anything under way.
+    pub fn new() -> Workers
+        ensures { result ≡ None ∷ None ∷ None ∷ None ∷ [] }
+    {
+        Workers {
+            flights: [None, None, None, None],
+        }
+    }
+
+    /// What a worker has under way.
+    pub fn get(&self, worker: u32) -> Option<&Flight>
+        requires worker { worker < 4 }
+        requires four { length self.now ≡ 4 }
+        ensures { option_map (λ f. f.now) result ≡ flight_on self.now worker }
+    {
+        self.flights[worker as usize].as_ref()
+    }
+
+    /// Takes out what a worker has under way.
+    pub fn take(&mut self, worker: u32) -> Option<Flight>
+        requires worker { worker < 4 }
+        requires four { length self.old ≡ 4 }
+        ensures value { result ≡ flight_on self.old worker }
+        ensures rest { self.new ≡ set self.old worker None }
+    {
+        self.flights[worker as usize].take()
+    }
+
+    /// Puts in what a worker has under way.
+    pub fn put(&mut self, worker: u32, flight: Flight)
+        requires worker { worker < 4 }
+        requires four { length self.old ≡ 4 }
+        ensures { self.new ≡ set self.old worker (Some flight) }
+    {
+        self.flights[worker as usize] = Some(flight);
+    }
+
+    /// The worker whose operation has a key.
+    pub fn worker_of(&self, key: &Key) -> Option<u32>
+        requires four { length self.now ≡ 4 }
+        ensures some { IfSome result (λ worker. HasKeyAt self.now key.now worker) }
+        ensures none { IfNone result ((v : ℕ) → HasKeyAt self.now key.now v → ⊥) }
+    {
+        for worker in 0..4u32 {
+            if self.has_key_at(key, worker) {
+                return Some(worker);
+            }
+        }
+        None
+    }
+
+    /// Whether a worker's operation has a key.
+    fn has_key_at(&self, key: &Key, worker: u32) -> bool
+        requires worker { worker < 4 }
+        requires four { length self.now ≡ 4 }
+        ensures { IsTrue result ↔ HasKeyAt self.now key.now worker }
+    {
+        match self.get(worker) {
+            Some(flight) => flight.has_key(key),
+            None => false,
+        }
+    }
+}
