@@ -10,6 +10,7 @@ use Rattle.table_schema.specs.declared.row.Row.{Row}
 abbrev pub Entries : Type 0
 Entries = List (Key × Option Row)
 
+-- the row in a place, where there are both
 abbrev pub row_in : Option (Option Row) → Option Row
 row_in None = None
 row_in (Some o) = o

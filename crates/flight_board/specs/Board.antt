@@ -28,6 +28,7 @@ pub record FlightState : Type 0 where
   pub shared : Option Name
   pub flown : Flown
 
+-- the port plan, what the registry and the room know, the applied rows, and what each of the four workers has under way
 pub record BoardState : Type 0 where
   pub plan : Ports
   pub names : Names
@@ -35,9 +36,11 @@ pub record BoardState : Type 0 where
   pub applied : Entries
   pub flights : List (Option FlightState)
 
+-- nothing is applied, and nothing is under way
 abbrev pub new_board : Ports → List ℕ → BoardState
 new_board plan capacities = record { plan = plan; names = []; room = all_free capacities; applied = []; flights = None ∷ None ∷ None ∷ None ∷ [] }
 
+-- what a worker has under way
 abbrev pub flight_on : List (Option FlightState) → ℕ → Option FlightState
 flight_on [] w = None
 flight_on (o ∷ os) zero = o
@@ -65,6 +68,7 @@ pub record IsBegun (plan : Ports) (k : Key) (old new : Option Row) (f : FlightSt
   pub named : f.named ≡ map name.Row (named_by k old)
   pub shared : uses_of plan k new ≡ owners_of f.shared
 
+-- what a worker has under way names what its key's applied row names, keeps what its new row shares, and has a place for its row
 pub record IsKeptFlight (plan : Ports) (applied : Entries) (w : ℕ) (f : FlightState) : Type 0 where
   pub worker : f.flown.operation.worker ≡ w
   pub named : f.named ≡ map name.Row (named_by f.flown.operation.key (row_at applied f.flown.operation.key))
@@ -99,6 +103,7 @@ pub record EndsNow (w : ℕ) (x : Flown) (names : Names) (room : RoomState) (old
   pub names_are : new.names ≡ ended_names names w x.operation.key (row_at old.applied x.operation.key) x.operation.new
   pub room_is : GivesBack room w new.room
 
+-- what follows at once: an operation for which something is due goes on, and one for which nothing is ends
 pub record Follows (w : ℕ) (x : Flown) (names : Names) (room : RoomState) (old new : BoardState) : Type 0 where
   pub others : LeavesOthers w x.operation.key old new
   pub more : (due_for old.plan names x ≡ [] → ⊥) → GoesOn w x names room old new

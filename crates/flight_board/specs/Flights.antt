@@ -8,6 +8,7 @@ use Rattle.orch_flight.specs.Operation.{Operation}
 use Rattle.flight_board.specs.declared.row_flight.RowFlight.{RowFlight}
 use Rattle.flight_board.specs.declared.row_flight.RowFlight.TheVariants as flight
 
+-- the operation of a row's flight, of whichever table
 abbrev pub operation_of : RowFlight → Operation
 operation_of (flight.Port f) = f
 operation_of (flight.Vlan f) = f
@@ -15,6 +16,7 @@ operation_of (flight.Intf f) = f
 operation_of (flight.Neigh f) = f
 operation_of (flight.Route f) = f
 
+-- what is left or taken away is no group
 abbrev pub IsNoGroup : Option Owner → Type 0
 IsNoGroup (Some (Group hops)) = ⊥
 IsNoGroup o = Unit {0}
