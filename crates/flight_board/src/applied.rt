@@ -1,5 +1,5 @@
 // The applied rows.
-ghost use Rattle.std.specs.Prelude.{◌≡◌, [], Some, OnOk, OnErr, option_map};
+ghost use Rattle.std.specs.Prelude.{◌≡◌, [], None, Some, OnOk, OnErr, option_map};
 ghost use Rattle.flight_board.specs.Applied.{HasPlace, HasSameRows, KeepsOthers, row_at};
 
 use std::alloc::Global;
@@ -58,6 +58,7 @@ impl AppliedRows {
 
     /// Gives up the place of a key that has no row.
     pub fn forget_place(&mut self, key: &Key)
+        ensures gone { row_at self.old key.now ≡ None → HasPlace self.new key.now → ⊥ }
         ensures rows { HasSameRows self.old self.new }
         ensures others { KeepsOthers key.now self.old self.new }
     {
