@@ -1,5 +1,5 @@
-mod Alike
-mod Calls
+pub mod Alike
+pub mod Calls
 mod Counted
 mod Lists
 mod Making
