@@ -1,0 +1,16 @@
+pub mod Beginning
+pub mod Making
+pub mod Writing
+pub mod Popping
+pub mod Preparing
+pub mod Following
+pub mod Tying
+pub mod Called
+pub mod Answering
+pub mod Faulting
+pub mod Beginnings
+pub mod Counting
+pub mod Marking
+pub mod Joining
+pub mod Seeing
+pub mod Sizing

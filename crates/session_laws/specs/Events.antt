@@ -1,0 +1,39 @@
+-- What each call of the core comes to: steps of the service, and the session that it stands for then. Own.
+use Rattle.std.specs.Prelude.{◌≡◌, List, [], ◌∷◌, Option, Some, None}
+use Rattle.sai_types.specs.declared.answer.SyncAnswer.{SyncAnswer}
+use Rattle.sai_types.specs.declared.answer.SyncAnswer.TheVariants as sync
+use Rattle.sai_types.specs.declared.ids.Vid.{Vid}
+use Rattle.sai_types.specs.ChipState.{ChipState}
+use Rattle.switch_model.specs.Marks.{Waiting}
+use Rattle.switch_machine.specs.Events.{SwitchState}
+use Rattle.switch_machine.specs.Reasons.{IsReason}
+use Rattle.restart_laws.specs.Logged.{AreLoggedSteps, IsLoggedStep, LoggedService, session_after}
+use Rattle.flight_board.specs.Applied.{row_at}
+use Rattle.session_laws.specs.Core.{CoreState}
+use Rattle.session_laws.specs.Standing.{IsSessionOf}
+
+-- one step of the session leads to one of the later core and chip, with the same port plan and capacities
+pub record MakesOne (c : CoreState) (s : LoggedService) (c' : CoreState) (chip' : ChipState) : Type 0 where
+  pub later : LoggedService
+  pub makes : IsLoggedStep c.board.plan 4 c.sync.capacities s later
+  pub stands : IsSessionOf c' chip' later
+  pub plan : c'.board.plan ≡ c.board.plan
+  pub capacities : c'.sync.capacities ≡ c.sync.capacities
+
+-- so many steps do
+pub record MakesSome (c : CoreState) (s : LoggedService) (c' : CoreState) (chip' : ChipState) : Type 0 where
+  pub steps : List LoggedService
+  pub are : AreLoggedSteps c.board.plan 4 c.sync.capacities s steps
+  pub stands : IsSessionOf c' chip' (session_after s steps)
+  pub plan : c'.board.plan ≡ c.board.plan
+  pub capacities : c'.sync.capacities ≡ c.sync.capacities
+
+-- the identifier of what a call made
+abbrev pub made_by : SyncAnswer → Option Vid
+made_by (sync.Made v) = Some v
+made_by _ = None
+
+-- each listed key has a true reason and its applied row
+abbrev pub HaveReasons : CoreState → SwitchState → Waiting → Type 0
+HaveReasons c s [] = Unit {0}
+HaveReasons c s (w ∷ ws) = IsReason c.board.plan 4 c.sync.capacities s w.0 w.1 × (w.2 ≡ row_at c.board.applied w.0) × HaveReasons c s ws
