@@ -74,7 +74,7 @@ all-more P Q (x ∷ xs) f h = (f x h.0, all-more P Q xs f h.1)
 vid_tied : (v w : Vid) → is_at (vid_cmp v) w ≡ (v.0 == w.0)
 vid_tied v w = search rules
 
-vid-exact : (v w : Vid) → is_at (vid_cmp v) w ≡ true → v ≡ w
+pub vid-exact : (v w : Vid) → is_at (vid_cmp v) w ≡ true → v ≡ w
 vid-exact v w h = let made : ℕ → Vid = λ n. record { 0 = n } in ap made (eqb-true v.0 w.0 (sym (vid_tied v w) ∙ h))
 
 above : (v : Vid) (w : Vid) → w.0 < v.0 → vid_cmp v w ≡ Greater
@@ -135,7 +135,7 @@ unfiled-kept keyed e (y ∷ ys) sorted apart h = (unfiled-other keyed e (entry_a
 -- ---- by identifier and by entry
 
 -- an object of the list is found
-found-key : (os : ViewObjects) (x : Item) → IsStrictlySortedBy vid_cmp (keys_of os) → IsIn x os → lookup (is_at (vid_cmp x.0)) os ≡ Some x.1
+pub found-key : (os : ViewObjects) (x : Item) → IsStrictlySortedBy vid_cmp (keys_of os) → IsIn x os → lookup (is_at (vid_cmp x.0)) os ≡ Some x.1
 found-key [] x sorted i = absurd i
 found-key (y ∷ ys) x sorted (inl is) =
     ap (λ (z : Item). lookup (is_at (vid_cmp z.0)) (y ∷ ys)) is
@@ -179,7 +179,7 @@ none_pass : (v : Vid) (p : Item → Bool) (os : ViewObjects) → NonePasses (is_
 none_pass v p [] none only = tt
 none_pass v p (y ∷ ys) none only = (only.0 ∙ none.0, none_pass v p ys none.1 only.1)
 
-removed_by : (v : Vid) (p : Item → Bool) (os : ViewObjects) → IsStrictlySortedBy vid_cmp (keys_of os) → AllByRecursion (λ y. p y ≡ is_at (vid_cmp v) y.0) os → remove_entry (is_at (vid_cmp v)) os ≡ filter (λ y. not (p y)) os
+pub removed_by : (v : Vid) (p : Item → Bool) (os : ViewObjects) → IsStrictlySortedBy vid_cmp (keys_of os) → AllByRecursion (λ y. p y ≡ is_at (vid_cmp v) y.0) os → remove_entry (is_at (vid_cmp v)) os ≡ filter (λ y. not (p y)) os
 removed_by v p [] sorted only = refl
 removed_by v p (y ∷ ys) sorted only = by (is_at (vid_cmp v) y.0) refl (removed_by v p ys (sorted_tail vid_cmp y.0 (keys_of ys) sorted) only.1) ∙ ap (λ b. cond (not b) (y ∷ filter (λ z. not (p z)) ys) (filter (λ z. not (p z)) ys)) (sym only.0)
   where

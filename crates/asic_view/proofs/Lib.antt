@@ -1,5 +1,5 @@
-mod Keeping
-mod Naming
-mod Same
+pub mod Keeping
+pub mod Naming
+pub mod Same
 pub mod Shown
 mod Standing
