@@ -1,5 +1,5 @@
 -- a chip that holds the temporary view, and one object more on both
-use Rattle.std.proofs.Common.{◌≡◌, ℕ, ◌+◌, Bool, true, false, cond, List, [], ◌∷◌, ◌++◌, map, count_by, Option, None, Some, if◌then◌else◌, refl, sym, ap, ap₂, ◌∙◌, subst, arith}
+use Rattle.std.proofs.Common.{◌≡◌, ℕ, ◌+◌, Bool, true, false, cond, List, [], ◌∷◌, ◌++◌, count_by, Option, None, Some, if◌then◌else◌, refl, sym, ap, ap₂, ◌∙◌, subst, arith}
 use Rattle.std.specs.BTreeMap.{insert_entry}
 use Rattle.std.proofs.lemmas.List.{map-append}
 use Rattle.std.proofs.lemmas.List.Sums.{sum_by-append}
@@ -16,9 +16,9 @@ use Rattle.sai_types.specs.After.{after_call, entry_of, has_id, makes_id, next_i
 use Rattle.sai_types.specs.declared.answer.SyncAnswer.{SyncAnswer}
 use Rattle.sai_types.specs.declared.answer.SyncAnswer.TheVariants as sync
 use Rattle.sai_types.specs.ChipState.{ChipState, IsAnswered, TakesEffect, objects_of}
-use Rattle.sai_types.specs.Made.{AreSorted, IsWhole, made_after, same_entry}
+use Rattle.sai_types.specs.Made.{IsWhole, made_after, same_entry}
 use Rattle.sai_types.specs.Named.{those}
-use Rattle.sai_types.specs.Objects.{Objects, body_at, entry_cmp}
+use Rattle.sai_types.specs.Objects.{body_at, entry_cmp}
 use Rattle.sai_types.specs.Refusal.{IsLegal}
 use Rattle.sai_types.proofs.Found.{body_at-insert, body_at-remove, body_at-same, same-symm}
 use Rattle.sai_types.proofs.Legal.{fresh, legal-create}

@@ -1,18 +1,14 @@
 -- How the chips and views of a case hang together, so that each call can be tried before it is made. Own.
-use Rattle.std.specs.Prelude.{◌≡◌, List, Option, Some, None, count_by, if◌then◌else◌}
+use Rattle.std.specs.Prelude.{◌≡◌, List, Option, Some, None, count_by}
 use Rattle.sai_types.specs.declared.ids.Rid.{Rid}
 use Rattle.sai_types.specs.declared.ids.Vid.{Vid}
 use Rattle.sai_types.specs.declared.answer.ChipAnswer.{ChipAnswer}
 use Rattle.sai_types.specs.declared.answer.ChipAnswer.TheVariants as answer
-use Rattle.sai_types.specs.declared.body.Body.{Body}
-use Rattle.sai_types.specs.declared.body.Call.{Call}
-use Rattle.sai_types.specs.declared.body.Call.TheVariants as call
 use Rattle.sai_types.specs.declared.body.Object.{Object}
-use Rattle.sai_types.specs.After.{after_call, makes_id, next_id}
-use Rattle.sai_types.specs.ChipState.{ChipState, IsAnswered}
+use Rattle.sai_types.specs.After.{makes_id}
+use Rattle.sai_types.specs.ChipState.{ChipState}
 use Rattle.sai_types.specs.Made.{IsWhole}
-use Rattle.chip_layout.specs.Renamed.{call_renamed}
-use Rattle.asic_view.specs.View.{ViewObjects, as_chip, as_rid}
+use Rattle.asic_view.specs.View.{ViewObjects, as_chip}
 use Rattle.syncd_core.specs.Begun.{objects_in}
 use Rattle.syncd_core.specs.Synced.{SyncState}
 

@@ -18,7 +18,8 @@
 //! - After each call every own address, neighbour and route on the chip is of the old view or of the new one.
 //! - After each call of a hitless plan each address goes over the hops of the old view or of the new one, once over
 //!   those of the new one always so, and where both views agree, Ethernet addresses included, as both.
-//! - In the end the chip holds the things of the new view, and a plan from there has no call.
+//! - In the end the chip holds the things of the new view, and of old groups that had the same hops none but the first;
+//!   a plan from there has no call.
 //!
 //! A case in which something else is found is printed, with what was found, and at the end `N passed, M failed`; the exit status
 //! is 1 where one failed. With the words `time ROUTES GROUPS` it prints how long the planner takes for so many routes

@@ -1,9 +1,10 @@
 // What may be seen of a chip while it is brought from an old view to a new one.
 use anyhow::{Result, ensure};
 use sai_chip::{Forward, SimChip, named};
-use sai_types::{Body, Hop, Thing, Vid};
+use sai_types::{Body, Entry, Hop, Rid, Thing, Vid};
 use std::alloc::Global;
 use swss_types::{Bits, Ip, Mac};
+use view_match::natural_keys;
 
 /// An address with where its packets go by the old view and by the new one.
 #[derive(Drop)]
@@ -21,6 +22,7 @@ pub struct Watch {
     ways: Vec<Way>,
     old: Vec<Thing>,
     new: Vec<Thing>,
+    doubles: Vec<Entry<Rid>>,
 }
 
 /// The addresses that are looked at: three of each route, and the own ones.
@@ -70,6 +72,7 @@ impl Watch {
             ways,
             old: named(alloc, chip.objects(alloc)?.as_slice())?,
             new: named(alloc, second.objects(alloc)?.as_slice())?,
+            doubles: doubles(alloc, chip)?,
         })
     }
 
@@ -104,10 +107,32 @@ impl Watch {
         Ok(())
     }
 
-    /// Whether the chip holds the things of the new view.
+    /// Whether the chip holds the things of the new view, and of groups that had the same hops the first at most.
     pub fn ends_at(&self, alloc: Global, chip: &SimChip) -> Result<bool> {
-        Ok(named(alloc, chip.objects(alloc)?.as_slice())? == self.new)
+        let objects = chip.objects(alloc)?;
+        for object in objects.as_slice() {
+            if self.doubles.contains(&object.entry) {
+                return Ok(false);
+            }
+        }
+        Ok(named(alloc, objects.as_slice())? == self.new)
     }
+}
+
+/// The groups of a chip that have the hops of one that was made before.
+fn doubles(alloc: Global, chip: &SimChip) -> Result<Vec<Entry<Rid>>> {
+    let (mut doubles, mut seen) = (Vec::new(alloc), Vec::new(alloc));
+    let objects = chip.objects(alloc)?;
+    let keys = natural_keys(alloc, objects.as_slice())?;
+    for (object, key) in objects.iter().zip(keys) {
+        if matches!(object.body, Body::Group) {
+            if seen.contains(&key) {
+                doubles.push(object.entry)?;
+            }
+            seen.push(key)?;
+        }
+    }
+    Ok(doubles)
 }
 
 impl Way {
