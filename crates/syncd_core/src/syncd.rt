@@ -5,6 +5,7 @@ ghost use Rattle.sai_types.specs.Refusal.{IsLegal};
 ghost use Rattle.chip_layout.specs.Renamed.{call_renamed};
 ghost use Rattle.asic_view.specs.View.{used_of};
 ghost use Rattle.syncd_core.specs.Begun.{Begins, CanBegin};
+ghost use Rattle.syncd_core.specs.Next.{next_call};
 ghost use Rattle.syncd_core.specs.Synced.{Applies, CanApply, CanCall, Calls, TakesList, Ties, answer_by, current, new_state, step_after, tied_by, with_temporary};
 ghost use Rattle.syncd_core.specs.Tied.{plan_tie};
 
@@ -143,6 +144,16 @@ impl Syncd {
         ensures { result ≡ length self.now.left }
     {
         (self.plan.items().len() - self.made) as u64
+    }
+
+    /// The plan's next call with the chip's identifiers, as it comes to the chip: None where no call is left.
+    pub fn next(&self) -> Result<Option<Call<Rid>>, OutOfMemory>
+        ensures { IfOk result (λ next. next ≡ next_call self.now.left self.now.view) }
+    {
+        match self.plan.items().get(self.made) {
+            Some(next) => Ok(Some(tied_call(&self.view, &next.call)?)),
+            None => Ok(None),
+        }
     }
 
     /// Makes the plan's next call on the chip, and ties what it makes. Ended exactly where every call was made, then and
