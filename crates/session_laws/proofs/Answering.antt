@@ -37,11 +37,11 @@ use Rattle.flight_board.specs.Applied.{row_at}
 use Rattle.flight_board.specs.Board.{BoardState, FlightState, Follows, IsTakenFor, flown_at}
 use Rattle.warm_state.specs.declared.warm.Warm.TheVariants as warm
 use Rattle.session_laws.specs.Core.{CoreState}
-use Rattle.session_laws.specs.Events.{MakesOne, made_by}
+use Rattle.session_laws.specs.Events.{IsMachineStep, MakesOne, made_by, session_with}
 use Rattle.session_laws.specs.Standing.{IsSessionOf, IsWorking}
 use Rattle.session_laws.proofs.Called.{answered, capacities_then, clean_then, effects_then, legal_on, made_then, objects_then, whole}
 use Rattle.session_laws.proofs.Following.{key_kept, rows_by, rows_ended, rows_kept}
-use Rattle.session_laws.proofs.Making.{after_event, machine_step}
+use Rattle.session_laws.proofs.Making.{machine_step}
 use Rattle.session_laws.proofs.Preparing.{flown_alike, stands_on, ties_alike}
 use Rattle.session_laws.proofs.Tying.{IsWell, follow, makes_renamed, well}
 
@@ -50,7 +50,7 @@ nothing_not e es h = cc
 
 -- a step that is an answer of a worker
 abbrev pub AnswersFor : CoreState → LoggedService → ℕ → CoreState → ChipState → Type 0
-AnswersFor c s w c' chip' = (x : MakesOne c s c' chip') × (e : Call Rid) × (z : IsAnswer c.board.plan 4 e s.service.core x.later.service.core) × (z.next.worker ≡ w)
+AnswersFor c s w c' chip' = (x : MakesOne c s c' chip') × (e : Call Rid) × (z : IsAnswer c.board.plan 4 e s.service.core x.later.service.core) × (z.next.worker ≡ w) × IsMachineStep s (Some e) x.later
 
 -- all rows, from those of one key and of the others
 pub rows_all : (k : Key) (old now : Key → Option Row) → now k ≡ old k → ((q : Key) → (q ≡ k → ⊥) → now q ≡ old q) → (q : Key) → old q ≡ now q
@@ -107,7 +107,7 @@ module _ (c : CoreState) (chip : ChipState) (s : LoggedService) (is : IsSessionO
     step : (t : Machine) → Answers t → StandsFor b.plan c.sync.capacities b.names b.room (flown_at b) (rid_at view') (with t) → ((k : Key) → t.board.applied k ≡ row_at b.applied k) → AnswersFor c s w c' chip'
     step t z stands rows = (
       record {
-        later = after_event s (with t) (Some d);
+        later = session_with s (with t) (Some d);
         plan = follows.others.plan;
         capacities = refl;
         makes = machine_step c.board.plan c.sync.capacities s (with t) (Some d) (is.warm_is ∙ at) z.0 refl;
@@ -131,6 +131,7 @@ module _ (c : CoreState) (chip : ChipState) (s : LoggedService) (is : IsSessionO
       d,
       z.0,
       z.1,
+      refl,
     )
 
     on : (due_for c.board.plan names' x' ≡ [] → ⊥) → AnswersFor c s w c' chip'

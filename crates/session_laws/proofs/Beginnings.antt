@@ -54,11 +54,11 @@ use Rattle.flight_board.specs.Applied.{row_at}
 use Rattle.flight_board.specs.Board.{BoardState, FlightState, Follows, IsBegunFor, IsFlownAt, IsSameBoard, IsUnflown, flight_on, flown_at}
 use Rattle.warm_state.specs.declared.warm.Warm.TheVariants as warm
 use Rattle.session_laws.specs.Core.{CoreState, good_in}
-use Rattle.session_laws.specs.Events.{MakesOne}
+use Rattle.session_laws.specs.Events.{IsMachineStep, MakesOne, session_with}
 use Rattle.session_laws.specs.Standing.{IsSessionOf, IsWorking}
 use Rattle.session_laws.proofs.Answering.{nothing_not, rows_all}
 use Rattle.session_laws.proofs.Following.{rows_by, rows_ended, rows_kept}
-use Rattle.session_laws.proofs.Making.{after_event, machine_step, without_call}
+use Rattle.session_laws.proofs.Making.{machine_step, without_call}
 use Rattle.session_laws.proofs.Preparing.{flown_alike, stands_on, with_board}
 
 -- ---- keys that leave those to sync
@@ -97,11 +97,11 @@ starts_as names w k old new (e ∷ es) leaves = (refl, refl)
 
 -- a step that drops this key, which has its good row
 abbrev pub DropsKey : CoreState → LoggedService → Key → CoreState → ChipState → Type 0
-DropsKey c s k c' chip' = (x : MakesOne c s c' chip') × (y : IsDrop c.board.plan s.service.core x.later.service.core) × (y.key ≡ k)
+DropsKey c s k c' chip' = (x : MakesOne c s c' chip') × (y : IsDrop c.board.plan s.service.core x.later.service.core) × (y.key ≡ k) × IsMachineStep s None x.later
 
 -- a step in which an operation of the key begins for a worker
 abbrev pub BeginsKey : CoreState → LoggedService → ℕ → Key → CoreState → ChipState → Type 0
-BeginsKey c s w k c' chip' = (x : MakesOne c s c' chip') × (y : IsBegin c.board.plan 4 c.sync.capacities s.service.core x.later.service.core) × (y.worker ≡ w) × (y.flight.key ≡ k)
+BeginsKey c s w k c' chip' = (x : MakesOne c s c' chip') × (y : IsBegin c.board.plan 4 c.sync.capacities s.service.core x.later.service.core) × (y.worker ≡ w) × (y.flight.key ≡ k) × IsMachineStep s None x.later
 
 module _ (c : CoreState) (chip : ChipState) (s : LoggedService) (is : IsSessionOf c chip s) (at : c.warm ≡ warm.Reconciled) (k : Key) where
   abbrev core : SwitchState
@@ -155,7 +155,7 @@ module _ (c : CoreState) (chip : ChipState) (s : LoggedService) (is : IsSessionO
 
       drop_step : MakesOne c s without chip
       drop_step = record {
-        later = after_event s dropped None;
+        later = session_with s dropped None;
         plan = refl;
         capacities = refl;
         makes = machine_step c.board.plan c.sync.capacities s dropped None (is.warm_is ∙ at) (inr (inr (inl drop))) refl;
@@ -185,7 +185,7 @@ module _ (c : CoreState) (chip : ChipState) (s : LoggedService) (is : IsSessionO
 
       pub drops : DropsKey c s k without chip
       unfolding drop drop_step
-      drops = (drop_step, drop, refl)
+      drops = (drop_step, drop, refl, refl)
 
     -- ---- it has another
 
@@ -239,7 +239,7 @@ module _ (c : CoreState) (chip : ChipState) (s : LoggedService) (is : IsSessionO
           step : (t : Machine) → Begins t → StandsFor b.plan c.sync.capacities b.names b.room (flown_at b) (rid_at c.sync.view) (with t) → ((q : Key) → t.board.applied q ≡ row_at b.applied q) → BeginsKey c s w k (record without { board = b }) chip
           step t z stands rows = (
             record {
-              later = after_event s (with t) None;
+              later = session_with s (with t) None;
               plan = follows.others.plan;
               capacities = refl;
               makes = machine_step c.board.plan c.sync.capacities s (with t) None (is.warm_is ∙ at) (inr (inr (inr z.0))) refl;
@@ -263,6 +263,7 @@ module _ (c : CoreState) (chip : ChipState) (s : LoggedService) (is : IsSessionO
             z.0,
             z.1,
             z.2,
+            refl,
           )
 
           on : (due_for c.board.plan names' (flown_as f None) ≡ [] → ⊥) → BeginsKey c s w k (record without { board = b }) chip

@@ -14,3 +14,4 @@ pub mod Marking
 pub mod Joining
 pub mod Seeing
 pub mod Sizing
+pub mod Beside

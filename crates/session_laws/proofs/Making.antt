@@ -7,12 +7,9 @@ use Rattle.sai_types.specs.declared.body.Call.{Call}
 use Rattle.switch_machine.specs.Events.{IsEvent, SwitchState, with_made_call}
 use Rattle.restart_laws.specs.Logged.{IsLoggedStep, LoggedService, OfMachine}
 use Rattle.warm_state.specs.declared.warm.Warm.TheVariants as warm
+use Rattle.session_laws.specs.Events.{session_with}
 
--- the session after an event, with the call that took effect in it
-abbrev pub after_event : LoggedService → SwitchState → Option (Call Rid) → LoggedService
-after_event s core call = record { service = record { warm = s.service.warm; core = core; seen = s.service.seen; left = s.service.left }; log = s.log; effects = s.effects ++ with_made_call call [] }
-
-pub machine_step : (plan : Ports) (capacities : List ℕ) (s : LoggedService) (core : SwitchState) (call : Option (Call Rid)) → s.service.warm ≡ warm.Reconciled → IsEvent plan 4 capacities s.service.core call core → core.written.taken ≡ s.service.core.written.taken → IsLoggedStep plan 4 capacities s (after_event s core call)
+pub machine_step : (plan : Ports) (capacities : List ℕ) (s : LoggedService) (core : SwitchState) (call : Option (Call Rid)) → s.service.warm ≡ warm.Reconciled → IsEvent plan 4 capacities s.service.core call core → core.written.taken ≡ s.service.core.written.taken → IsLoggedStep plan 4 capacities s (session_with s core call)
 machine_step plan capacities s core call at event taken = OfMachine at at (inr (inl (record { call = call; event = event; taken = taken; log = refl; effects = refl })))
 
 pub without_call : (s : LoggedService) → s.effects ++ with_made_call None [] ≡ s.effects

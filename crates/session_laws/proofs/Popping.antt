@@ -16,9 +16,9 @@ use Rattle.sync_tables.proofs.Popped.{is_pop}
 use Rattle.flight_board.specs.Board.{flown_at}
 use Rattle.warm_state.specs.declared.warm.Warm.TheVariants as warm
 use Rattle.session_laws.specs.Core.{CoreState}
-use Rattle.session_laws.specs.Events.{MakesOne}
+use Rattle.session_laws.specs.Events.{IsMachineStep, MakesOne, session_with}
 use Rattle.session_laws.specs.Standing.{IsSessionOf}
-use Rattle.session_laws.proofs.Making.{after_event, machine_step, without_call}
+use Rattle.session_laws.proofs.Making.{machine_step, without_call}
 
 module _ (c : CoreState) (chip : ChipState) (s : LoggedService) (t : TablesState) (is : IsSessionOf c chip s) (at : c.warm ≡ warm.Reconciled) (pops : PopsKeys c.tables t) where
   abbrev taken : List Write
@@ -43,7 +43,7 @@ module _ (c : CoreState) (chip : ChipState) (s : LoggedService) (t : TablesState
 
   pub pop_step : MakesOne c s (record c { tables = t }) chip
   pop_step = record {
-    later = after_event s core None;
+    later = session_with s core None;
     plan = refl;
     capacities = refl;
     makes = machine_step c.board.plan c.sync.capacities s core None (is.warm_is ∙ at) (inr (inl pop)) pop.taken;
@@ -74,6 +74,6 @@ module _ (c : CoreState) (chip : ChipState) (s : LoggedService) (t : TablesState
   pub pop_some : PopsSome c.tables t → (k : Key) × (HasNoWrite s.service.core.written k → ⊥) × IsPoppedKey s.service.core.written (written_in taken t) k
   pop_some x = (x.0, subst (λ z. HasNoWrite z x.0 → ⊥) (sym is.written) (x.1 taken), subst (λ z. IsPoppedKey z (written_in taken t) x.0) (sym is.written) (x.2 taken))
 
-  pub pop_told : (x : MakesOne c s (record c { tables = t }) chip) × IsPop s.service.core x.later.service.core × (PopsSome c.tables t → (k : Key) × (HasNoWrite s.service.core.written k → ⊥) × IsPoppedKey s.service.core.written x.later.service.core.written k)
+  pub pop_told : (x : MakesOne c s (record c { tables = t }) chip) × IsPop s.service.core x.later.service.core × IsMachineStep s None x.later × (PopsSome c.tables t → (k : Key) × (HasNoWrite s.service.core.written k → ⊥) × IsPoppedKey s.service.core.written x.later.service.core.written k)
   unfolding pop_step
-  pop_told = (pop_step, pop, pop_some)
+  pop_told = (pop_step, pop, refl, pop_some)

@@ -1,11 +1,13 @@
 -- What each call of the core comes to: steps of the service, and the session that it stands for then. Own.
-use Rattle.std.specs.Prelude.{◌≡◌, List, [], ◌∷◌, Option, Some, None}
+use Rattle.std.specs.Prelude.{◌≡◌, ◌++◌, List, [], ◌∷◌, Option, Some, None}
 use Rattle.sai_types.specs.declared.answer.SyncAnswer.{SyncAnswer}
 use Rattle.sai_types.specs.declared.answer.SyncAnswer.TheVariants as sync
+use Rattle.sai_types.specs.declared.body.Call.{Call}
+use Rattle.sai_types.specs.declared.ids.Rid.{Rid}
 use Rattle.sai_types.specs.declared.ids.Vid.{Vid}
 use Rattle.sai_types.specs.ChipState.{ChipState}
 use Rattle.switch_model.specs.Marks.{Waiting}
-use Rattle.switch_machine.specs.Events.{SwitchState}
+use Rattle.switch_machine.specs.Events.{SwitchState, with_made_call}
 use Rattle.switch_machine.specs.Reasons.{IsReason}
 use Rattle.restart_laws.specs.Logged.{AreLoggedSteps, IsLoggedStep, LoggedService, session_after}
 use Rattle.flight_board.specs.Applied.{row_at}
@@ -19,6 +21,14 @@ pub record MakesOne (c : CoreState) (s : LoggedService) (c' : CoreState) (chip' 
   pub stands : IsSessionOf c' chip' later
   pub plan : c'.board.plan ≡ c.board.plan
   pub capacities : c'.sync.capacities ≡ c.sync.capacities
+
+-- the session behind an event of the machine, with the call that took effect in it
+abbrev pub session_with : LoggedService → SwitchState → Option (Call Rid) → LoggedService
+session_with s core call = record { service = record { warm = s.service.warm; core = core; seen = s.service.seen; left = s.service.left }; log = s.log; effects = s.effects ++ with_made_call call [] }
+
+-- the machine alone went on, with this call: nothing was logged
+abbrev pub IsMachineStep : LoggedService → Option (Call Rid) → LoggedService → Type 0
+IsMachineStep s call t = t ≡ session_with s t.service.core call
 
 -- so many steps do
 pub record MakesSome (c : CoreState) (s : LoggedService) (c' : CoreState) (chip' : ChipState) : Type 0 where

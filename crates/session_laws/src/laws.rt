@@ -12,6 +12,7 @@ ghost use Rattle.sai_types.specs.declared.kind.Kind.{Kind};
 ghost use Rattle.sai_types.specs.Alike.{IsIn};
 ghost use Rattle.sai_types.specs.ChipState.{ChipState};
 ghost use Rattle.switch_model.specs.History.{log_size, with_end, with_mark};
+ghost use Rattle.retry_list.specs.Reasons.{Reasons};
 ghost use Rattle.switch_model.specs.Marks.{Waiting, written_key};
 ghost use Rattle.switch_model.specs.Marks as marks;
 ghost use Rattle.switch_model.specs.declared.wait.Wait.{Wait};
@@ -39,7 +40,7 @@ ghost use Rattle.flight_board.specs.Applied.{row_at};
 ghost use Rattle.flight_board.specs.Board.{BoardState, IsBegunFor, IsFlownAt, IsPrepared, IsReady, IsTakenFor, IsUnflown, flown_at};
 ghost use Rattle.warm_state.specs.declared.warm.Warm.TheVariants as warm;
 ghost use Rattle.session_laws.specs.Core.{CoreState, good_in, mark_at, new_core, size_beside, with_taken};
-ghost use Rattle.session_laws.specs.Events.{HaveReasons, MakesOne, MakesSome, made_by};
+ghost use Rattle.session_laws.specs.Events.{HaveReasons, IsMachineStep, MakesOne, MakesSome, made_by};
 ghost use Rattle.session_laws.specs.Standing.{IsSessionOf};
 
 /// A new core over a chip on which nothing stands begins a session.
@@ -54,7 +55,7 @@ pub fn writes_are_steps()
 
 /// A pop is a step; where a key is popped the step is that of a worker that has nothing under way.
 pub fn pops_are_steps()
-    ensures { (c : CoreState) (chip : ChipState) (s : LoggedService) (t : TablesState) → IsSessionOf c chip s → c.warm ≡ warm.Reconciled → PopsKeys c.tables t → (x : MakesOne c s (record c { tables = t }) chip) × IsPop s.service.core x.later.service.core × (PopsSome c.tables t → (k : Key) × (HasNoWrite s.service.core.written k → ⊥) × IsPoppedKey s.service.core.written x.later.service.core.written k) }
+    ensures { (c : CoreState) (chip : ChipState) (s : LoggedService) (t : TablesState) → IsSessionOf c chip s → c.warm ≡ warm.Reconciled → PopsKeys c.tables t → (x : MakesOne c s (record c { tables = t }) chip) × IsPop s.service.core x.later.service.core × IsMachineStep s None x.later × (PopsSome c.tables t → (k : Key) × (HasNoWrite s.service.core.written k → ⊥) × IsPoppedKey s.service.core.written x.later.service.core.written k) }
 {}
 
 /// The operation of a group that is due begins within the session, and then the worker's next call can be told.
@@ -72,7 +73,7 @@ pub fn calls_can_be_made()
 /// The answer of a call that did not fail may be taken, and then it is a step, an Answer of the machine for the worker.
 pub fn answers_are_steps()
     ensures may { (c : CoreState) (chip : ChipState) (s : LoggedService) (w : ℕ) (x : Flown) (call : Call Vid) (a : SyncAnswer) (sync' : SyncState) (chip' : ChipState) → IsSessionOf c chip s → c.warm ≡ warm.Reconciled → flown_at c.board w ≡ Some x → HasBegun c.board.plan c.board.names x → IsNextCall c.board.plan c.board.names x.operation x.group call → (a ≡ sync.Failed → ⊥) → Calls c.sync c.sync.temporary chip call a sync' chip' → MayTakeFor x.operation x.group (made_by a) c.board.names }
-    ensures makes { (c : CoreState) (chip : ChipState) (s : LoggedService) (w : ℕ) (x : Flown) (call : Call Vid) (a : SyncAnswer) (sync' : SyncState) (chip' : ChipState) (b : BoardState) → IsSessionOf c chip s → c.warm ≡ warm.Reconciled → flown_at c.board w ≡ Some x → HasBegun c.board.plan c.board.names x → IsNextCall c.board.plan c.board.names x.operation x.group call → (a ≡ sync.Failed → ⊥) → Calls c.sync c.sync.temporary chip call a sync' chip' → IsTakenFor c.board w (made_by a) b → (y : MakesOne c s (record c { board = b; sync = sync' }) chip') × (e : Call Rid) × (z : IsAnswer c.board.plan 4 e s.service.core y.later.service.core) × (z.next.worker ≡ w) }
+    ensures makes { (c : CoreState) (chip : ChipState) (s : LoggedService) (w : ℕ) (x : Flown) (call : Call Vid) (a : SyncAnswer) (sync' : SyncState) (chip' : ChipState) (b : BoardState) → IsSessionOf c chip s → c.warm ≡ warm.Reconciled → flown_at c.board w ≡ Some x → HasBegun c.board.plan c.board.names x → IsNextCall c.board.plan c.board.names x.operation x.group call → (a ≡ sync.Failed → ⊥) → Calls c.sync c.sync.temporary chip call a sync' chip' → IsTakenFor c.board w (made_by a) b → (y : MakesOne c s (record c { board = b; sync = sync' }) chip') × (e : Call Rid) × (z : IsAnswer c.board.plan 4 e s.service.core y.later.service.core) × (z.next.worker ≡ w) × IsMachineStep s (Some e) y.later }
 {}
 
 /// A call of a worker that failed, without effect or with it, is a fault with its mark, after which the service is suspect; in a settling
@@ -84,7 +85,7 @@ pub fn faults_are_steps()
 
 /// A key to sync that no worker has under way and that has its good row leaves those to sync in a step, a Drop of the machine.
 pub fn drops_are_steps()
-    ensures { (c : CoreState) (chip : ChipState) (s : LoggedService) (k : Key) → IsSessionOf c chip s → c.warm ≡ warm.Reconciled → AreOpsInOrder c.tables.ops → IsToSync c.tables k → IsUnflown c.board k → row_at c.board.applied k ≡ good_in c k → (x : MakesOne c s (record c { tables = record c.tables { ops = without_op c.tables.ops k } }) chip) × (y : IsDrop c.board.plan s.service.core x.later.service.core) × (y.key ≡ k) }
+    ensures { (c : CoreState) (chip : ChipState) (s : LoggedService) (k : Key) → IsSessionOf c chip s → c.warm ≡ warm.Reconciled → AreOpsInOrder c.tables.ops → IsToSync c.tables k → IsUnflown c.board k → row_at c.board.applied k ≡ good_in c k → (x : MakesOne c s (record c { tables = record c.tables { ops = without_op c.tables.ops k } }) chip) × (y : IsDrop c.board.plan s.service.core x.later.service.core) × (y.key ≡ k) × IsMachineStep s None x.later }
 {}
 
 /// A key to sync that no worker has under way, and whose good row is another than its applied one, may begin for a worker that has
@@ -92,7 +93,7 @@ pub fn drops_are_steps()
 /// is a true reason; and one that a worker has waits for that worker. What syncd counts is what stands on the chip.
 pub fn keys_are_tried()
     ensures may { (c : CoreState) (chip : ChipState) (s : LoggedService) (w : ℕ) (k : Key) → IsSessionOf c chip s → c.warm ≡ warm.Reconciled → IsToSync c.tables k → w < 4 → flown_at c.board w ≡ None → (row_at c.board.applied k ≡ good_in c k → ⊥) → IsUnflown c.board k → MayStart c.board.plan c.board.names w k (row_at c.board.applied k) (good_in c k) }
-    ensures begins { (c : CoreState) (chip : ChipState) (s : LoggedService) (w : ℕ) (k : Key) (used : List ℕ) (x : Unit {0}) (b : BoardState) → IsSessionOf c chip s → c.warm ≡ warm.Reconciled → AreOpsInOrder c.tables.ops → IsToSync c.tables k → w < 4 → flown_at c.board w ≡ None → (IsUnflown c.board k → row_at c.board.applied k ≡ good_in c k → ⊥) → AreUsed s.service.core.objects used → IsBegunFor c.board used w k (good_in c k) (Ok x) b → (x : MakesOne c s (record c { board = b; tables = record c.tables { ops = without_op c.tables.ops k } }) chip) × (y : IsBegin c.board.plan 4 c.sync.capacities s.service.core x.later.service.core) × (y.worker ≡ w) × (y.flight.key ≡ k) }
+    ensures begins { (c : CoreState) (chip : ChipState) (s : LoggedService) (w : ℕ) (k : Key) (used : List ℕ) (x : Unit {0}) (b : BoardState) → IsSessionOf c chip s → c.warm ≡ warm.Reconciled → AreOpsInOrder c.tables.ops → IsToSync c.tables k → w < 4 → flown_at c.board w ≡ None → (IsUnflown c.board k → row_at c.board.applied k ≡ good_in c k → ⊥) → AreUsed s.service.core.objects used → IsBegunFor c.board used w k (good_in c k) (Ok x) b → (x : MakesOne c s (record c { board = b; tables = record c.tables { ops = without_op c.tables.ops k } }) chip) × (y : IsBegin c.board.plan 4 c.sync.capacities s.service.core x.later.service.core) × (y.worker ≡ w) × (y.flight.key ≡ k) × IsMachineStep s None x.later }
     ensures waits { (c : CoreState) (chip : ChipState) (s : LoggedService) (w : ℕ) (k : Key) (used : List ℕ) (r : Wait) (b : BoardState) → IsSessionOf c chip s → c.warm ≡ warm.Reconciled → IsToSync c.tables k → w < 4 → flown_at c.board w ≡ None → (IsUnflown c.board k → row_at c.board.applied k ≡ good_in c k → ⊥) → AreUsed s.service.core.objects used → IsBegunFor c.board used w k (good_in c k) (Err r) b → IsSessionOf (record c { board = b }) chip s × IsReason c.board.plan 4 c.sync.capacities s.service.core k r }
     ensures busy { (c : CoreState) (chip : ChipState) (s : LoggedService) (k : Key) (v : ℕ) → IsSessionOf c chip s → c.warm ≡ warm.Reconciled → IsFlownAt c.board k v → IsReason c.board.plan 4 c.sync.capacities s.service.core k (wait.Busy v) }
     ensures counts { (c : CoreState) (chip : ChipState) (s : LoggedService) (numbers : List ℕ) → IsSessionOf c chip s → c.warm ≡ warm.Reconciled → ((kind : Kind) → number_of numbers kind ≡ used_of (current c.sync) kind) → AreUsed s.service.core.objects numbers }
@@ -109,6 +110,12 @@ pub fn steps_join()
     ensures none { (c : CoreState) (chip : ChipState) (s : LoggedService) → IsSessionOf c chip s → MakesSome c s c chip }
     ensures one { (c c' : CoreState) (chip' : ChipState) (s : LoggedService) → MakesOne c s c' chip' → MakesSome c s c' chip' }
     ensures more { (c c' c'' : CoreState) (chip' chip'' : ChipState) (s : LoggedService) (x : MakesSome c s c' chip') → MakesSome c' (session_after s x.steps) c'' chip'' → MakesSome c s c'' chip'' }
+{}
+
+/// The list of the keys that wait stands beside the session: whatever is on it, the core and its chip stand for the same session.
+pub fn lists_stand_beside()
+    ensures stands { (c : CoreState) (chip : ChipState) (s : LoggedService) (waiting : Reasons) → IsSessionOf c chip s → IsSessionOf (record c { waiting = waiting }) chip s }
+    ensures makes { (c c' : CoreState) (chip' : ChipState) (s : LoggedService) (waiting : Reasons) (x : MakesOne c s c' chip') → (y : MakesOne c s (record c' { waiting = waiting }) chip') × (y.later ≡ x.later) }
 {}
 
 /// What a worker that has nothing under way sees of the session: it has no operation there, nothing waits in its tables where nothing

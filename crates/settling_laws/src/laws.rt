@@ -1,0 +1,63 @@
+// The parts of a settling, one step more each time. Each function is a law: it does nothing, and its contract is proved.
+
+/// Steps that lead to a session are steps of the core.
+pub fn leads_are_steps()
+    ensures none { (c : CoreState) (chip : ChipState) (s : LoggedService) → IsSessionOf c chip s → LeadsTo c s s c chip }
+    ensures one { (c c' : CoreState) (chip' : ChipState) (s : LoggedService) (x : MakesOne c s c' chip') → LeadsTo c s x.later c' chip' }
+    ensures more { (c c' c'' : CoreState) (chip' chip'' : ChipState) (s t u : LoggedService) → LeadsTo c s t c' chip' → LeadsTo c' t u c'' chip'' → LeadsTo c s u c'' chip'' }
+    ensures some { (c c' : CoreState) (chip' : ChipState) (s t : LoggedService) → LeadsTo c s t c' chip' → MakesSome c s c' chip' }
+{}
+
+/// Answers go on with one more.
+pub fn runs_go_on()
+    ensures none { (c : CoreState) (chip : ChipState) (s : LoggedService) → IsSessionOf c chip s → RunsTo c s c chip }
+    ensures more { (c c' c'' : CoreState) (chip' chip'' : ChipState) (s : LoggedService) (x : RunsTo c s c' chip') (y : MakesOne c' x.later c'' chip'') (e : Call Rid) (z : IsAnswer c'.board.plan 4 e x.later.service.core y.later.service.core) → IsMachineStep x.later (Some e) y.later → RunsTo c s c'' chip'' }
+    ensures both { (c c' c'' : CoreState) (chip' chip'' : ChipState) (s : LoggedService) (x : RunsTo c s c' chip') (y : RunsTo c' x.later c'' chip'') → RunsTo c s c'' chip'' }
+{}
+
+/// Pops go on with one more.
+pub fn pops_go_on()
+    ensures none { (c : CoreState) (chip : ChipState) (s : LoggedService) → IsSessionOf c chip s → PopsTo c s c chip }
+    ensures more { (c c' c'' : CoreState) (chip' chip'' : ChipState) (s : LoggedService) (x : PopsTo c s c' chip') (y : MakesOne c' x.later c'' chip'') → IsPop x.later.service.core y.later.service.core → IsMachineStep x.later None y.later → PopsTo c s c'' chip'' }
+{}
+
+/// A walk over keys in order: behind none stand all; the first of those that are left is the next; and behind it stand the others,
+/// whether it stays or goes.
+pub fn walks_go_on()
+    ensures next { (keys : List Key) (k : Key) → first_in keys ≡ Some k → (rest : List Key) × (keys ≡ k ∷ rest) }
+    ensures last { (keys : List Key) → first_in keys ≡ None → keys ≡ [] }
+    ensures stays { (ops : Ops) (left rest : List Key) (k : Key) → AreOpsInOrder ops → keys_of ops ≡ left ++ (k ∷ rest) → keys_behind (Some k) (keys_of ops) ≡ rest }
+    ensures goes { (ops : Ops) (left rest : List Key) (k : Key) → AreOpsInOrder ops → keys_of ops ≡ left ++ (k ∷ rest) → (keys_of (without_op ops k) ≡ left ++ rest) × (keys_behind (Some k) (keys_of (without_op ops k)) ≡ rest) }
+{}
+
+/// A turn begins with all keys that are to sync; goes on where a key waits and its reason is put on the list, where a key has its good
+/// row, and where an operation begins and is run to its end; and a board or a list that is the same to all changes nothing.
+pub fn turns_go_on()
+    ensures begins { (c : CoreState) (chip : ChipState) (s : LoggedService) → IsSessionOf c chip s → IsAtRest c → IsTurning (keys_of c.tables.ops) c s [] (keys_of c.tables.ops) c chip }
+    ensures waits { (keys left rest : List Key) (k : Key) (c c' c'' : CoreState) (chip' : ChipState) (s : LoggedService) (x : IsTurning keys c s left (k ∷ rest) c' chip') (r : Wait) → AreOpsInOrder c'.tables.ops → IsSessionOf c'' chip' x.later → c''.board.plan ≡ c'.board.plan → c''.sync.capacities ≡ c'.sync.capacities → IsAtRest c'' → c''.tables.ops ≡ c'.tables.ops → IsReason c'.board.plan 4 c'.sync.capacities x.later.service.core k r → c''.waiting ≡ with_reason c'.waiting k r → IsTurning keys c s (left ++ k ∷ []) rest c'' chip' }
+    ensures drops { (keys left rest : List Key) (k : Key) (c c' c'' : CoreState) (chip' : ChipState) (s : LoggedService) (x : IsTurning keys c s left (k ∷ rest) c' chip') (y : MakesOne c' x.later c'' chip') (z : IsDrop c'.board.plan x.later.service.core y.later.service.core) → z.key ≡ k → IsMachineStep x.later None y.later → IsAtRest c'' → keys_of c''.tables.ops ≡ left ++ rest → IsTurning keys c s left rest c'' chip' }
+    ensures runs { (keys left rest : List Key) (k : Key) (c c' c'' d : CoreState) (chip' chip'' : ChipState) (s : LoggedService) (x : IsTurning keys c s left (k ∷ rest) c' chip') (y : MakesOne c' x.later c'' chip') (z : IsBegin c'.board.plan 4 c'.sync.capacities x.later.service.core y.later.service.core) → z.flight.key ≡ k → IsMachineStep x.later None y.later → RunsTo c'' y.later d chip'' → IsAtRest d → keys_of d.tables.ops ≡ left ++ rest → IsTurning keys c s left rest d chip'' }
+{}
+
+/// Turns begin with none; go on with one that took a key away; and end where no key is to sync, or with one that took none away.
+pub fn turns_follow()
+    ensures none { (c : CoreState) (chip : ChipState) (s : LoggedService) → IsSessionOf c chip s → IsAtRest c → IsTurned 0 c s c chip }
+    ensures more { (n : ℕ) (left : List Key) (c c' c'' : CoreState) (chip' chip'' : ChipState) (s : LoggedService) (x : IsTurned n c s c' chip') (y : IsTurning (keys_of c'.tables.ops) c' x.later left [] c'' chip'') → length (keys_of c''.tables.ops) < length (keys_of c'.tables.ops) → IsTurned (n + 1) c s c'' chip'' }
+    ensures still { (n : ℕ) (left : List Key) (c c' c'' : CoreState) (chip' chip'' : ChipState) (s : LoggedService) (x : IsTurned n c s c' chip') (y : IsTurning (keys_of c'.tables.ops) c' x.later left [] c'' chip'') → 0 < length (keys_of c'.tables.ops) → length (keys_of c''.tables.ops) ≡ length (keys_of c'.tables.ops) → TurnsTo (n + 1) c s c'' chip'' }
+    ensures empty { (n : ℕ) (c c' : CoreState) (chip' : ChipState) (s : LoggedService) → IsTurned n c s c' chip' → keys_of c'.tables.ops ≡ [] → TurnsTo n c s c' chip' }
+{}
+
+/// The list of those that wait, with their applied rows, can be marked: it has each key to sync with a true reason, and no other.
+pub fn marks_list_what_waits()
+    ensures reasons { (n : ℕ) (c c' : CoreState) (chip' : ChipState) (s : LoggedService) (x : TurnsTo n c s c' chip') (waits : Waiting) → HasRisingKeys key_cmp c'.waiting → ((k : Key) → IsIn k (keys_of c'.waiting) → IsIn k (keys_of c'.tables.ops)) → waits ≡ map (λ e. (e.0, e.1, row_at c'.board.applied e.0)) c'.waiting → HaveReasons c' x.later.service.core waits }
+    ensures all { (n : ℕ) (c c' : CoreState) (chip' : ChipState) (s : LoggedService) (x : TurnsTo n c s c' chip') (waits : Waiting) (k : Key) → waits ≡ map (λ e. (e.0, e.1, row_at c'.board.applied e.0)) c'.waiting → IsIn k (keys_of c'.tables.ops) → ListsKey k waits }
+    ensures only { (c' : CoreState) (waits : Waiting) (k : Key) → waits ≡ map (λ e. (e.0, e.1, row_at c'.board.applied e.0)) c'.waiting → ListsKey k waits → IsIn k (keys_of c'.waiting) }
+    ensures order { (c' : CoreState) (waits : Waiting) → HasRisingKeys key_cmp c'.waiting → waits ≡ map (λ e. (e.0, e.1, row_at c'.board.applied e.0)) c'.waiting → marks.AreInOrder waits }
+    ensures as_many { (n : ℕ) (c c' : CoreState) (chip' : ChipState) (s : LoggedService) (x : TurnsTo n c s c' chip') → HasRisingKeys key_cmp c'.waiting → AreOpsInOrder c'.tables.ops → ((k : Key) → IsIn k (keys_of c'.waiting) → IsIn k (keys_of c'.tables.ops)) → length c'.waiting ≡ length c'.tables.ops }
+{}
+
+/// A settling ends at its mark: answers until no worker has anything under way, pops until no write waits, turns until no more are made,
+/// and the mark with the keys that wait and the number of turns.
+pub fn settlings_end()
+    ensures { (n : ℕ) (c c1 c2 c3 : CoreState) (chip1 chip2 chip3 : ChipState) (s : LoggedService) (x : RunsTo c s c1 chip1) (y : PopsTo c1 x.later c2 chip2) (z : TurnsTo n c2 y.later c3 chip3) (waits : Waiting) → c.warm ≡ warm.Reconciled → IsAtRest c2 → AreOpsInOrder c2.tables.ops → HaveReasons c3 z.later.service.core waits → ((k : Key) → IsIn k (keys_of c3.tables.ops) → ListsKey k waits) → ((k : Key) → ListsKey k waits → IsIn k (keys_of c3.tables.ops)) → marks.AreInOrder waits → SettlesTo c s (record c3 { log = with_end (with_mark c3.log (mark_at c3 (length chip3.effects) (event.Settled waits n))); listed = c3.listed + length waits }) chip3 }
+{}
