@@ -1,5 +1,5 @@
 // The operations by key.
-ghost use Rattle.std.specs.Prelude.{◌≡◌, [], length, Some, option_map, IfOk, OnOk, OnErr};
+ghost use Rattle.std.specs.Prelude.{◌≡◌, ◌<◌, ◌^◌, [], length, Some, option_map, IfOk, OnOk, OnErr};
 ghost use Rattle.std.specs.List.Sorted.{IsStrictlySortedBy};
 ghost use Rattle.std.specs.Map.{keys_of};
 ghost use Rattle.table_schema.specs.Fields.{merged};
@@ -137,6 +137,7 @@ impl ToSync {
     /// How many keys there are. What is held is in order, as `AreOpsInOrder` says.
     pub fn len(&self) -> usize
         ensures count { result ≡ length self.now }
+        ensures small { result < 2 ^ 63 }
         ensures order { AreOpsInOrder self.now }
     {
         self.ops.len()

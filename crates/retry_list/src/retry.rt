@@ -1,10 +1,10 @@
 // The list of the rows that wait.
-ghost use Rattle.std.specs.Prelude.{◌≡◌, ◌≤◌, [], length, IfOk, IsOkAnd, OnOk, OnErr, vec_capacity};
+ghost use Rattle.std.specs.Prelude.{◌≡◌, ◌≤◌, [], length, IfOk, IsOkAnd, OnOk, OnErr, option_map, vec_capacity};
 ghost use Rattle.std.specs.List.Sorted.{IsStrictlySortedBy};
 ghost use Rattle.table_schema.specs.Fields.{HasRisingKeys};
 ghost use Rattle.table_schema.specs.Key.{key_cmp};
 ghost use Rattle.retry_list.specs.Index.{IsIndexed};
-ghost use Rattle.retry_list.specs.Reasons.{left_asleep, with_reason, without_all, without_reason, woken_keys};
+ghost use Rattle.retry_list.specs.Reasons.{left_asleep, reason_at, with_reason, without_all, without_reason, woken_keys};
 
 use crate::Event;
 use crate::index::Index;
@@ -76,6 +76,13 @@ impl Retry {
         let room = Vec::with_capacity(self.alloc, self.index.count(event))?;
         let keys = self.index.clear(event);
         take_off(&mut self.reasons, keys, room)
+    }
+
+    /// The reason of a key, where it is on the list.
+    pub fn reason(&self, key: &Key) -> Option<&Wait>
+        ensures { option_map (λ wait. wait.now) result ≡ reason_at self.now key.now }
+    {
+        self.reasons.get(key)
     }
 
     /// The keys on the list with their reasons, in key order.

@@ -140,6 +140,16 @@ module _ (c : CoreState) (chip : ChipState) (s : LoggedService) (is : IsSessionO
   pub busy : (v : ℕ) → IsFlownAt c.board k v → IsReason c.board.plan 4 c.sync.capacities core k (wait.Busy v)
   busy v flown = subst (λ q. IsReason c.board.plan 4 c.sync.capacities core q (wait.Busy v)) flown.2 (flown_busy c.board.plan c.sync.capacities c.board.names c.board.room (flown_at c.board) core its.stands.board v flown.0 flown.1)
 
+  -- places that the board keeps for nothing
+  pub same_board : (b : BoardState) → IsSameBoard c.board b → IsSessionOf (record c { board = b }) chip s
+  same_board b same = with_board c chip s b is same.plan (λ _ x. record {
+    stands = stands_on c.sync.capacities (rid_at c.sync.view) core b c.board.plan c.board.names c.board.room (flown_at c.board) same.plan same.names same.room (λ v. ap (λ l. option_map (λ (f : FlightState). f.flown) (flight_on l v)) same.flights) x.stands;
+    rows = λ q. x.rows q ∙ sym (same.rows q);
+    tied = x.tied;
+    no_view = x.no_view;
+    no_plan = x.no_plan;
+  })
+
   -- ---- it has its good row
 
   abbrev without : CoreState
@@ -198,15 +208,6 @@ module _ (c : CoreState) (chip : ChipState) (s : LoggedService) (is : IsSessionO
 
       module _ (used : List ℕ) (are : AreUsed core.objects used) where
         -- it waits
-        same_board : (b : BoardState) → IsSameBoard c.board b → IsSessionOf (record c { board = b }) chip s
-        same_board b same = with_board c chip s b is same.plan (λ _ x. record {
-          stands = stands_on c.sync.capacities (rid_at c.sync.view) core b c.board.plan c.board.names c.board.room (flown_at c.board) same.plan same.names same.room (λ v. ap (λ l. option_map (λ (f : FlightState). f.flown) (flight_on l v)) same.flights) x.stands;
-          rows = λ q. x.rows q ∙ sym (same.rows q);
-          tied = x.tied;
-          no_view = x.no_view;
-          no_plan = x.no_plan;
-        })
-
         reason : (r : Wait) → (((v : ℕ) × IsFlownAt c.board k v × (r ≡ wait.Busy v)) ⊎ (IsUnflown c.board k × (wait_of c.board.plan c.board.names c.board.room used w k (row_at c.board.applied k) (good_in c k) ≡ Some r))) → IsReason c.board.plan 4 c.sync.capacities core k r
         reason r (inl (v, flown, is_busy)) = subst (IsReason c.board.plan 4 c.sync.capacities core k) (sym is_busy) (busy v flown)
         reason r (inr (un, waits)) =

@@ -1,5 +1,5 @@
 // The tables.
-ghost use Rattle.std.specs.Prelude.{◌≡◌, ◌⊎◌, ◌↔◌, ◌<◌, [], drop, length, IsTrue, IfOk, OnOk, OnErr, option_map};
+ghost use Rattle.std.specs.Prelude.{◌≡◌, ◌⊎◌, ◌↔◌, ◌<◌, ◌^◌, [], drop, length, IsTrue, IfOk, OnOk, OnErr, option_map};
 ghost use Rattle.std.specs.Bool.{OnTrue, OnFalse};
 ghost use Rattle.std.specs.Map.{keys_of};
 ghost use Rattle.table_schema.specs.Rows.{fields_at};
@@ -147,10 +147,12 @@ impl Tables {
         self.to_sync.next_key(after)
     }
 
-    /// How many keys are to sync.
+    /// How many keys are to sync. They are in order, as `AreOpsInOrder` says.
     pub fn count(&self) -> usize
         ensures ops { result ≡ length self.now.ops }
         ensures keys { result ≡ length (keys_of self.now.ops) }
+        ensures small { result < 2 ^ 63 }
+        ensures order { AreOpsInOrder self.now.ops }
     {
         self.to_sync.len()
     }
