@@ -1,6 +1,5 @@
 -- Steps of a core that lead to a later session, in which nothing or one mark is logged: answers, pops, and whole settlings. Own.
 use Rattle.std.specs.Prelude.{◌≡◌, ◌++◌, ◌<◌, ℕ, List, [], map, None}
-use Rattle.table_schema.specs.declared.key.Key.{Key}
 use Rattle.sai_types.specs.declared.body.Call.{Call}
 use Rattle.sai_types.specs.declared.ids.Rid.{Rid}
 use Rattle.sai_types.specs.ChipState.{ChipState}
