@@ -19,6 +19,11 @@ pops_one : (s : SwitchState) (xs : List SwitchState) (t : SwitchState) → ArePo
 pops_one s [] t a b = (b, tt)
 pops_one s (x ∷ xs) t a b = (a.0, pops_one x xs t a.1 b)
 
+-- the machine stays
+pub machine_stays : (s : SwitchState) (xs : List SwitchState) → ArePops s xs → (after_pops s xs).machine ≡ s.machine
+machine_stays s [] a = refl
+machine_stays s (x ∷ xs) a = machine_stays x xs a.1 ∙ a.0.machine
+
 pub pops_none : (c : CoreState) (chip : ChipState) (s : LoggedService) → IsSessionOf c chip s → PopsTo c s c chip
 pops_none c chip s is = record { later = s; leads = leads_none c chip s is; pops = []; are = tt; core = refl; effects = refl; log = refl }
 

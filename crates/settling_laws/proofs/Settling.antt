@@ -1,5 +1,5 @@
 -- a settling ends at its mark
-use Rattle.std.proofs.Common.{◌≡◌, ◌+◌, ◌∷◌, ◌++◌, ◌∙◌, ℕ, [], length, sym, ap, subst}
+use Rattle.std.proofs.Common.{◌≡◌, ◌+◌, ◌∷◌, ◌++◌, ◌∙◌, ℕ, [], length, Some, sym, ap, subst}
 use Rattle.std.specs.Map.{keys_of}
 use Rattle.table_schema.specs.declared.key.Key.{Key}
 use Rattle.sai_types.specs.Alike.{IsIn}
@@ -9,7 +9,8 @@ use Rattle.switch_model.specs.Marks.{AreInOrder, Waiting}
 use Rattle.switch_model.specs.declared.mark.MarkEvent.{MarkEvent}
 use Rattle.switch_model.specs.declared.mark.MarkEvent.TheVariants as event
 use Rattle.consumer_table.specs.Ops.{AreOpsInOrder}
-use Rattle.switch_machine.specs.Events.{SwitchState, after_answers}
+use Rattle.switch_machine.specs.Events.{IsQuiet, SwitchState, after_answers}
+use Rattle.switch_machine.specs.Flights.{Flight, Machine}
 use Rattle.switch_machine.specs.Written.{IsPopped}
 use Rattle.machine_laws.specs.Logged.{AreListed, ArePops, IsWholeSettling, ListsKey, LogsMark, after_pops}
 use Rattle.machine_laws.specs.Settling.{AreMachineTurns}
@@ -20,6 +21,8 @@ use Rattle.session_laws.proofs.Marking.{marks_told, popped}
 use Rattle.settling_laws.specs.Leading.{LeadsTo, PopsTo, RunsTo, SettlesTo, switch_answered}
 use Rattle.settling_laws.specs.Turning.{IsAtRest, TurnsTo}
 use Rattle.settling_laws.proofs.Leading.{back, leads_more, leads_one}
+use Rattle.settling_laws.proofs.Popping.{machine_stays}
+use Rattle.settling_laws.proofs.Turning.{quiet}
 use Rattle.settling_laws.proofs.Walking.{in_key_order}
 
 module _ (n : ℕ) (c c1 c2 c3 : CoreState) (chip1 chip2 chip3 : ChipState) (s : LoggedService) (x : RunsTo c s c1 chip1) (y : PopsTo c1 x.later c2 chip2) (z : TurnsTo n c2 y.later c3 chip3) where
@@ -36,6 +39,12 @@ module _ (n : ℕ) (c c1 c2 c3 : CoreState) (chip1 chip2 chip3 : ChipState) (s :
 
   after : y.later.service.core ≡ after_pops answered y.pops
   after = y.core ∙ ap (λ t. after_pops t y.pops) x.core
+
+  -- pops leave the machine as the answers left it, where no worker has anything under way
+  quiet_answered : IsAtRest c2 → IsQuiet answered
+  quiet_answered rest =
+      let same = ap (λ (t : SwitchState). t.machine) y.core ∙ machine_stays x.later.service.core y.pops y.are ∙ ap (λ (t : SwitchState). t.machine) x.core in
+      subst (λ (m : Machine). (w : ℕ) (f : Flight) → m.board.flights w ≡ Some f → ⊥) same (quiet c2 chip2 y.later y.leads.stands rest)
 
   log_same : c3.log ≡ s.log
   log_same = sym z.leads.stands.log ∙ z.log ∙ y.log ∙ x.log
@@ -103,6 +112,7 @@ module _ (n : ℕ) (c c1 c2 c3 : CoreState) (chip1 chip2 chip3 : ChipState) (s :
       leads = leads_more c c3 marked chip3 chip3 s z.later later turned_from (leads_one c3 marked chip3 z.later mark.0);
       answers = x.answers;
       are = x.are;
+      quiet = quiet_answered rest;
       settling = whole;
       free = z.at_rest.free;
       popped = z.at_rest.popped;

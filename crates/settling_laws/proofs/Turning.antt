@@ -44,7 +44,7 @@ turn_begins c chip s is rest = record {
 }
 
 -- where no worker has anything under way the machine is quiet
-quiet : (c : CoreState) (chip : ChipState) (s : LoggedService) → IsSessionOf c chip s → IsAtRest c → IsQuiet s.service.core
+pub quiet : (c : CoreState) (chip : ChipState) (s : LoggedService) → IsSessionOf c chip s → IsAtRest c → IsQuiet s.service.core
 quiet c chip s is rest = none_flies c.board.plan c.sync.capacities c.board.names c.board.room (flown_at c.board) s.service.core (is.working rest.warm).stands.board rest.free
 
 module _ (keys left rest : List Key) (k : Key) (c c' : CoreState) (chip' : ChipState) (s : LoggedService) (x : IsTurning keys c s left (k ∷ rest) c' chip') where
