@@ -1,0 +1,4 @@
+pub mod Sessions
+pub mod Named
+pub mod ToSync
+pub mod Awaited

@@ -1,0 +1,41 @@
+use Rattle.round_laws.proofs.Sessions.{applies-followed, counts-within, effects-legal, known-then, log-ordered, marks-true, objects-left, outside-few-of, sized, suspect-then, warm-after}
+use Rattle.round_laws.proofs.laws.sessions_are_true.Goals as goal
+
+pub returns-clause-legality : goal.returns-clause-legality
+returns-clause-legality c = λ core chip x. effects-legal core chip x
+
+pub returns-clause-marks : goal.returns-clause-marks
+returns-clause-marks c = λ core chip x. marks-true core chip x
+
+pub returns-clause-counts : goal.returns-clause-counts
+returns-clause-counts c = λ core chip x. counts-within core chip x
+
+pub returns-clause-order : goal.returns-clause-order
+returns-clause-order c = λ core chip x. log-ordered core chip x
+
+pub returns-clause-warm : goal.returns-clause-warm
+returns-clause-warm c = λ core chip x. warm-after core chip x
+
+pub returns-clause-suspect : goal.returns-clause-suspect
+returns-clause-suspect c = λ core chip x. suspect-then core chip x
+
+pub returns-clause-known : goal.returns-clause-known
+returns-clause-known c = λ core chip x. known-then core chip x
+
+pub returns-clause-objects : goal.returns-clause-objects
+returns-clause-objects c = λ core chip x. objects-left core chip x
+
+pub returns-clause-clean : goal.returns-clause-clean
+returns-clause-clean c = λ core chip x. x.stands.clean
+
+pub returns-clause-capacities : goal.returns-clause-capacities
+returns-clause-capacities c = λ core chip x. x.stands.capacities
+
+pub returns-clause-size : goal.returns-clause-size
+returns-clause-size c = λ core chip x. sized core chip x
+
+pub returns-clause-few : goal.returns-clause-few
+returns-clause-few c = λ core chip x. outside-few-of core chip x
+
+pub returns-clause-applies : goal.returns-clause-applies
+returns-clause-applies c = λ core chip x. applies-followed core chip x

@@ -1,0 +1,17 @@
+use Rattle.round_laws.proofs.Awaited.{awaited-legal, awaited-true, call-awaited, keys-awaited, mark-awaited}
+use Rattle.round_laws.proofs.laws.what_is_due_is_awaited.Goals as goal
+
+pub returns-clause-call : goal.returns-clause-call
+returns-clause-call c = λ core chip w f x at below there. call-awaited core chip x at w f below there
+
+pub returns-clause-legal : goal.returns-clause-legal
+returns-clause-legal c = awaited-legal
+
+pub returns-clause-mark : goal.returns-clause-mark
+returns-clause-mark c = λ core chip waits x at none rest reasons all only order. mark-awaited core chip x at none rest waits reasons all only order
+
+pub returns-clause-keys : goal.returns-clause-keys
+returns-clause-keys c = keys-awaited
+
+pub returns-clause-is_true : goal.returns-clause-is_true
+returns-clause-is_true c = awaited-true

@@ -1,0 +1,19 @@
+-- A core and its chip within a session of the service: what steps of the service have led to, from its beginning over an empty chip. Own.
+use Rattle.std.specs.Prelude.{◌≡◌, ℕ, List}
+use Rattle.table_schema.specs.Plan.{Ports}
+use Rattle.sai_types.specs.ChipState.{ChipState}
+use Rattle.restart_laws.specs.Logged.{AreLoggedSteps, LoggedService, new_session, session_after}
+use Rattle.session_laws.specs.Core.{CoreState}
+use Rattle.session_laws.specs.Standing.{IsSessionOf}
+
+-- steps of the service lead from its beginning to this session
+pub record HasComeAbout (plan : Ports) (capacities : List ℕ) (s : LoggedService) : Type 0 where
+  pub steps : List LoggedService
+  pub are : AreLoggedSteps plan 4 capacities new_session steps
+  pub is : session_after new_session steps ≡ s
+
+-- a core and its chip stand for a session that has come about
+pub record InSession (c : CoreState) (chip : ChipState) : Type 0 where
+  pub session : LoggedService
+  pub came : HasComeAbout c.board.plan c.sync.capacities session
+  pub stands : IsSessionOf c chip session

@@ -1,0 +1,10 @@
+//! What whole rounds of the service come to, told by the port plan, the capacities, the log and the chip's effects alone. Laws of
+//! definitions, with no code.
+#![tactic(auto)]
+
+mod laws;
+
+pub use laws::{
+    keys_to_sync_were_named, sessions_are_true, sessions_begin, sessions_go_on,
+    what_is_due_is_awaited,
+};
