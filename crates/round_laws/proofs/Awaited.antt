@@ -129,10 +129,10 @@ module _ (c : CoreState) (chip : ChipState) (x : InSession c chip) (at : c.warm 
           listed = (reason.1, refl, rest.listed);
         }
 
-lists : (waits : Waiting) (k : Key) → IsIn k (map (λ w. w.0) waits) → ListsKey k waits
-lists [] k i = absurd i
-lists (w ∷ ws) k (inl is) = inl (sym is)
-lists (w ∷ ws) k (inr i) = inr (lists ws k i)
+pub lists-in : (waits : Waiting) (k : Key) → IsIn k (map (λ w. w.0) waits) → ListsKey k waits
+lists-in [] k i = absurd i
+lists-in (w ∷ ws) k (inl is) = inl (sym is)
+lists-in (w ∷ ws) k (inr i) = inr (lists-in ws k i)
 
 pub listed-in : (waits : Waiting) (k : Key) → ListsKey k waits → IsIn k (map (λ w. w.0) waits)
 listed-in [] k i = absurd i
@@ -145,14 +145,14 @@ keys-awaited c chip x at none rest order must =
     let y = list_of c chip x at none rest must keys (λ k i. i) in (
       y.waits,
       sym (length-map y.waits (λ w. w.0)) ∙ ap length y.keys_are ∙ length-map c.tables.ops (λ e. e.0),
-      awaits c chip x at none rest y.waits y.listed (λ k i. lists y.waits k (subst (IsIn k) (sym y.keys_are) i)) (λ k i. subst (IsIn k) y.keys_are (listed-in y.waits k i)) (subst (IsStrictlySortedBy key_cmp) (sym y.keys_are) (rising-sorted c.tables.ops order.keys)),
+      awaits c chip x at none rest y.waits y.listed (λ k i. lists-in y.waits k (subst (IsIn k) (sym y.keys_are) i)) (λ k i. subst (IsIn k) y.keys_are (listed-in y.waits k i)) (subst (IsStrictlySortedBy key_cmp) (sym y.keys_are) (rising-sorted c.tables.ops order.keys)),
     )
 
 -- the keys that such a mark lists were named
 pub awaited-few : (plan : Ports) (capacities : List ℕ) (log : History) (effects : List (Call Rid)) (waits : Waiting) → IsPlan plan → AwaitsMark plan capacities log effects waits → length waits ≤ length (keys_named log.taken)
 awaited-few plan capacities log effects waits is x =
     let few = few-among (map (λ w. w.0) waits) (keys_named log.taken) x.in_order (named-sorted log.taken)
-    (λ k i. subst (λ (z : History). IsIn k (keys_named z.taken)) x.recorded.log_is (came-synced plan is capacities x.session x.recorded.came (not_suspect x.session x.warm) k (x.only k (lists waits k i)))) in
+    (λ k i. subst (λ (z : History). IsIn k (keys_named z.taken)) x.recorded.log_is (came-synced plan is capacities x.session x.recorded.came (not_suspect x.session x.warm) k (x.only k (lists-in waits k i)))) in
     let long = length-map waits (λ w. w.0) in
     omega (arith, few, long)
 

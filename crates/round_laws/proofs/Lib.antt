@@ -2,3 +2,11 @@ pub mod Sessions
 pub mod Named
 pub mod ToSync
 pub mod Awaited
+pub mod Writes
+pub mod Resting
+pub mod Between
+pub mod Ordering
+pub mod Turned
+pub mod Quieted
+pub mod Drained
+pub mod Ending

@@ -48,8 +48,8 @@ came-more plan capacities s ts x run = record {
 }
 
 -- the same port plan and capacities
-came_by : (plan plan' : Ports) (capacities capacities' : List ℕ) (s : LoggedService) → plan' ≡ plan → capacities' ≡ capacities → HasComeAbout plan capacities s → HasComeAbout plan' capacities' s
-came_by plan plan' capacities capacities' s p l x = subst (λ z. HasComeAbout z capacities' s) (sym p) (subst (λ z. HasComeAbout plan z s) (sym l) x)
+pub came-by : (plan plan' : Ports) (capacities capacities' : List ℕ) (s : LoggedService) → plan' ≡ plan → capacities' ≡ capacities → HasComeAbout plan capacities s → HasComeAbout plan' capacities' s
+came-by plan plan' capacities capacities' s p l x = subst (λ z. HasComeAbout z capacities' s) (sym p) (subst (λ z. HasComeAbout plan z s) (sym l) x)
 
 pub begins-session : (plan : Ports) (capacities : List ℕ) (limit : ℕ) (chip : ChipState) → IsPlan plan → chip.objects ≡ [] → chip.effects ≡ [] → chip.clean ≡ true → chip.capacities ≡ capacities → InSession (new_core plan capacities limit) chip
 begins-session plan capacities limit chip is objects effects clean room = record {
@@ -59,23 +59,22 @@ begins-session plan capacities limit chip is objects effects clean room = record
 }
 
 module _ (c c' : CoreState) (chip chip' : ChipState) (x : InSession c chip) where
-  in_later : (later : LoggedService) (ts : List LoggedService) → AreLoggedSteps c.board.plan 4 c.sync.capacities x.session ts → session_after x.session ts ≡ later → IsSessionOf c' chip' later → c'.board.plan ≡ c.board.plan → c'.sync.capacities ≡ c.sync.capacities → InSession c' chip'
+  -- the core that stands for a later session
+  abbrev pub in_later : (later : LoggedService) (ts : List LoggedService) → AreLoggedSteps c.board.plan 4 c.sync.capacities x.session ts → session_after x.session ts ≡ later → IsSessionOf c' chip' later → c'.board.plan ≡ c.board.plan → c'.sync.capacities ≡ c.sync.capacities → InSession c' chip'
   in_later later ts run same stands plan capacities = record {
     session = later;
     came = subst (HasComeAbout c'.board.plan c'.sync.capacities) same
-        (came_by c.board.plan c'.board.plan c.sync.capacities c'.sync.capacities (session_after x.session ts) plan capacities (came-more c.board.plan c.sync.capacities x.session ts x.came run));
+        (came-by c.board.plan c'.board.plan c.sync.capacities c'.sync.capacities (session_after x.session ts) plan capacities (came-more c.board.plan c.sync.capacities x.session ts x.came run));
     stands = stands;
   }
 
   pub one-on : (y : MakesOne c x.session c' chip') → (z : InSession c' chip') × (z.session ≡ y.later)
-  unfolding in_later
   one-on y = (in_later y.later (y.later ∷ []) (y.makes, tt) refl y.stands y.plan y.capacities, refl)
 
   pub some-on : MakesSome c x.session c' chip' → InSession c' chip'
   some-on y = in_later (session_after x.session y.steps) y.steps y.are refl y.stands y.plan y.capacities
 
   pub leads-on : (later : LoggedService) → LeadsTo c x.session later c' chip' → (z : InSession c' chip') × (z.session ≡ later)
-  unfolding in_later
   leads-on later y = (in_later later y.steps y.are y.is y.stands y.plan y.capacities, refl)
 
   pub same-on : IsSessionOf c' chip' x.session → c'.board.plan ≡ c.board.plan → c'.sync.capacities ≡ c.sync.capacities → InSession c' chip'

@@ -1,3 +1,7 @@
 pub mod Sessions
 pub mod Named
 pub mod Awaited
+pub mod Ended
+pub mod Turns
+pub mod Quiet
+pub mod Between

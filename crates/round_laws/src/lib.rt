@@ -3,8 +3,10 @@
 #![tactic(auto)]
 
 mod laws;
+mod rounds;
 
 pub use laws::{
     keys_to_sync_were_named, sessions_are_true, sessions_begin, sessions_go_on,
     what_is_due_is_awaited,
 };
+pub use rounds::{rounds_begin, rounds_drain, rounds_end};

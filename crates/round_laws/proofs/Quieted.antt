@@ -1,0 +1,113 @@
+-- a round leaves quiet rows alone
+use Rattle.std.proofs.Common.{◌≡◌, ◌∷◌, ◌++◌, ◌∙◌, inl, inr, ℕ, List, [], length, Option, None, Some, refl, sym, ap, subst, arith}
+use Rattle.std.proofs.lemmas.List.{length-append}
+use Rattle.table_schema.specs.Plan.{IsPlan, Ports}
+use Rattle.table_schema.specs.declared.key.Key.{Key}
+use Rattle.table_schema.specs.declared.row.Row.{Row}
+use Rattle.table_schema.specs.declared.write.Sent.{Sent}
+use Rattle.sai_types.specs.declared.ids.Rid.{Rid}
+use Rattle.sai_types.specs.declared.body.Call.{Call}
+use Rattle.sai_types.specs.declared.body.Entry.{Entry}
+use Rattle.sai_types.specs.declared.thing.Thing.{Thing}
+use Rattle.sai_types.specs.After.{chip_after, entry_of}
+use Rattle.sai_types.specs.Alike.{IsIn}
+use Rattle.sai_types.specs.ChipState.{ChipState}
+use Rattle.sai_types.specs.Named.{thing_of}
+use Rattle.sai_types.specs.Objects.{Objects, body_at}
+use Rattle.sai_types.proofs.Exact.{entry-exact}
+use Rattle.switch_model.specs.Things.{things_of}
+use Rattle.chip_layout.specs.Layout.{listed}
+use Rattle.chip_layout.proofs.Naming.{thing-laid}
+use Rattle.switch_machine.specs.Events.{AreEvents, IsEvent, IsQuiet, IsSafe, SwitchState}
+use Rattle.switch_machine.specs.Written.{HasNoWrite}
+use Rattle.switch_machine.proofs.Resting.{grouped}
+use Rattle.switch_machine.proofs.Tabled.{tabled}
+use Rattle.machine_laws.specs.Logged.{ArePops, after_pops}
+use Rattle.machine_laws.specs.Quiet.{NamesNot, StandsFor, TakesNoWriteOf}
+use Rattle.machine_laws.proofs.Turning.{Leads, TakeNothing, both, turns-lead}
+use Rattle.machine_laws.proofs.Unnamed.{unnamed-rows}
+use Rattle.session_laws.specs.Core.{CoreState}
+use Rattle.settling_laws.specs.Leading.{SettlesTo}
+use Rattle.round_laws.specs.Between.{IsInRound}
+use Rattle.round_laws.specs.Quiet.{LeavesQuietRows, StandsForRow}
+use Rattle.round_laws.proofs.Sessions.{objects-left}
+use Rattle.round_laws.proofs.Turned.{before, round-rows, round-synced, round-unnamed, s, same-switch, settling-quiet, settling-safe, the-round}
+
+-- ---- a settling's events take no write
+
+pub pops-lead : (plan : Ports) (capacities : List ℕ) (s : SwitchState) (ts : List SwitchState) → ArePops s ts → Leads plan 4 capacities s (after_pops s ts) []
+pops-lead plan capacities s [] run = record { events = []; are = tt; last = refl; takeless = tt; calls_are = refl }
+pops-lead plan capacities s (t ∷ ts) run =
+    let y = pops-lead plan capacities t ts run.1 in
+    record { events = (None, t) ∷ y.events; are = (inr (inl run.0), y.are); last = y.last; takeless = (run.0.taken, y.takeless); calls_are = y.calls_are }
+
+one_more : {A : Type 0} (xs : List A) (x : A) → xs ++ x ∷ [] ≡ xs → ⊥
+one_more xs x h = absurd (omega (arith, ap length h, length-append xs (x ∷ [])))
+
+module _ (plan : Ports) (capacities : List ℕ) (k : Key) where
+  takes_none : (s t : SwitchState) (c : Option (Call Rid)) (x : IsEvent plan 4 capacities s c t) → t.written.taken ≡ s.written.taken → TakesNoWriteOf plan 4 capacities k s c t x
+  takes_none s t None (inl x) same = λ e. one_more s.written.taken x.write (sym x.taken.taken ∙ same)
+  takes_none s t None (inr x) same = tt
+  takes_none s t (Some call) x same = tt
+
+  names_not : (s : SwitchState) (es : List (Option (Call Rid) × SwitchState)) (run : AreEvents plan 4 capacities s es) → TakeNothing plan 4 capacities s es → NamesNot plan 4 capacities k s es run
+  names_not s [] run h = tt
+  names_not s (e ∷ es) run h = (takes_none s e.1 e.0 run.0 h.0, names_not e.1 es run.1 h.1)
+
+-- ---- what stands for a row on the chip stands for it in the machine
+
+module _ (plan : Ports) (is : IsPlan plan) (capacities : List ℕ) (s : SwitchState) (safe : IsSafe plan 4 capacities s) (quiet : IsQuiet s) where
+  same_thing : (a b : Thing) → Some a ≡ Some b → a ≡ b
+  same_thing a b e = cc
+
+  pub stands-for : (objects : Objects) (k : Key) (row : Row) (e : Entry Rid) → s.objects ≡ objects → s.machine.board.applied k ≡ Some row → StandsForRow plan objects k row e → StandsFor plan k e s.machine
+  stands-for objects k row e same at x =
+      let laid = safe.laid in
+      let owner = laid.tied e x.body (subst (λ o. body_at o e ≡ Some x.body) (sym same) x.there) in
+      let named = thing-laid (listed s.machine.stands) s.objects laid s.made safe.whole (grouped plan (tabled plan is) s.machine safe.sound quiet) owner.0 owner.1 e x.body owner.2 owner.3 owner.4 in
+      let one : x.thing ≡ owner.1 = same_thing x.thing owner.1 (sym x.is ∙ ap (λ o. thing_of o (e, x.body)) (sym same) ∙ named) in
+      record {
+        row = row;
+        applied = at;
+        thing = owner.1;
+        of = subst (λ t. IsIn t (things_of plan k row)) one x.of;
+        id = owner.0;
+        stands = owner.2;
+        body = x.body;
+        is_body = owner.3;
+        entry = entry-exact e (entry_of owner.0.0 x.body) owner.4;
+      }
+
+-- ---- of a round
+
+module _ (old c c' : CoreState) (chip chip' : ChipState) (sent : List Sent) (x : IsInRound old chip sent c) (y : SettlesTo c x.within.session c' chip') where
+  abbrev plan : Ports
+  plan = c.board.plan
+
+  abbrev room : List ℕ
+  room = c.sync.capacities
+
+  abbrev from : SwitchState
+  from = (s old c c' chip chip' sent x y).switch
+
+  events : Leads plan 4 room from y.later.service.core y.settling.calls
+  events =
+      both plan 4 room from (after_pops from y.settling.pops) y.later.service.core [] y.settling.calls y.settling.calls refl (pops-lead plan room from y.settling.pops y.settling.are_pops)
+      (turns-lead plan 4 room y.settling.turns (after_pops from y.settling.pops) y.later.service.core y.settling.keys y.settling.left y.settling.calls y.settling.turns_are)
+
+  same : from ≡ before old c chip sent x
+  same = same-switch old c c' chip chip' sent x y
+
+  objects : from.objects ≡ chip_after chip.effects (length chip.effects)
+  objects = ap (λ (z : SwitchState). z.objects) same ∙ x.within.stands.objects ∙ objects-left c chip x.within
+
+  pub quiet-left : LeavesQuietRows c.board.plan (the-round old c c' chip chip' sent x y)
+  quiet-left k row e at other stood call called =
+      let safe = settling-safe old c c' chip chip' sent x y in
+      let rows = ap (λ (z : SwitchState). z.machine.board.applied k) same ∙ round-rows old c chip sent x k ∙ at in
+      let there = stands-for plan x.within.stands.plan room from safe (settling-quiet old c c' chip chip' sent x y) (chip_after chip.effects (length chip.effects)) k row e objects rows stood in
+      (unnamed-rows plan x.within.stands.plan 4 room k from events.events e safe events.are (names_not plan room k from events.events events.are events.takeless)
+      (subst (λ (z : SwitchState). HasNoWrite z.written k) (sym same) (round-unnamed old c chip sent x k (λ i. other (inr i))))
+      (λ w f flying is. settling-quiet old c c' chip chip' sent x y w f flying)
+      (λ i. other (inl (x.began.to_sync k (round-synced old c chip sent x k (subst (λ (z : SwitchState). IsIn k z.to_sync) same i)))))
+      there).2 call (subst (IsIn call) (sym events.calls_are) called)
