@@ -1,5 +1,5 @@
 -- what is due in a session, and what its mark would say
-use Rattle.std.proofs.Common.{◌≡◌, ◌<◌, ◌≤◌, ◌∷◌, ◌++◌, ◌∙◌, inl, inr, ℕ, List, [], length, map, Option, None, Some, refl, sym, ap, subst, arith}
+use Rattle.std.proofs.Common.{◌≡◌, ◌<◌, ◌≤◌, ◌∷◌, ◌++◌, ◌∙◌, inl, inr, ℕ, List, [], length, map, Option, None, Some, IsSome, refl, sym, ap, subst, arith}
 use Rattle.std.specs.List.Sorted.{IsStrictlySortedBy}
 use Rattle.std.specs.Map.{keys_of}
 use Rattle.std.proofs.lemmas.List.{length-map}
@@ -74,10 +74,12 @@ module _ (c : CoreState) (chip : ChipState) (x : InSession c chip) (at : c.warm 
       by [] e = absurd (its.stands.board.busy w (flight_of f.operation) flying e)
       by (d ∷ ds) e = has-call c.board.plan x.stands.plan 4 c.sync.capacities core its.stands.safe w (flight_of f.operation) d ds below flying e
 
-  pub call-awaited : (w : ℕ) (f : Flown) → w < 4 → flown_at c.board w ≡ Some f → AwaitsCall c.board.plan c.sync.capacities c.log chip.effects
-  call-awaited w f below there =
-      let y = due_for w f below there in
-      record { session = x.session; recorded = recorded c chip x; call = y.0; due = OfFlight (x.stands.warm_is ∙ at) y.1 }
+  pub call-awaited : (w : ℕ) → w < 4 → IsSome (flown_at c.board w) → AwaitsCall c.board.plan c.sync.capacities c.log chip.effects
+  call-awaited w below some = by (flown_at c.board w) refl some
+    where
+      by : (o : Option Flown) → flown_at c.board w ≡ o → IsSome o → AwaitsCall c.board.plan c.sync.capacities c.log chip.effects
+      by None e h = absurd cc
+      by (Some f) e h = let y = due_for w f below e in record { session = x.session; recorded = recorded c chip x; call = y.0; due = OfFlight (x.stands.warm_is ∙ at) y.1 }
 
 pub awaited-legal : (plan : Ports) (capacities : List ℕ) (log : History) (effects : List (Call Rid)) → IsPlan plan → (x : AwaitsCall plan capacities log effects) → IsLegal capacities (chip_after effects (length effects)) x.call
 awaited-legal plan capacities log effects is x =

@@ -14,6 +14,7 @@ use Rattle.switch_model.specs.Promises.{good_rows_at}
 use Rattle.switch_model.specs.declared.mark.Mark.{Mark}
 use Rattle.switch_model.specs.declared.mark.MarkEvent.TheVariants as event
 use Rattle.producer_table.specs.Pending.{AreInOrder}
+use Rattle.producer_table.proofs.PendingWrites.{AreInOrder-after}
 use Rattle.switch_machine.specs.Events.{SwitchState, after_answers}
 use Rattle.switch_machine.specs.Written.{HasNoWrite, TakesWrite, Written}
 use Rattle.switch_machine.proofs.Runs.{good-quiet}
@@ -76,6 +77,7 @@ round-begins c chip x = record {
   sync = refl;
   warm = refl;
   ops = refl;
+  order = subst AreInOrder (sym x.rest.popped) (record { keys = tt; names = tt });
   named = λ k i. absurd i;
   unnamed = λ k none o. subst (λ w. HasNoWrite w k) x.within.stands.written (λ o. no_write k o) o;
 }
@@ -83,7 +85,7 @@ round-begins c chip x = record {
     no_write : (k : Key) → HasNoWrite x.within.session.service.core.written k
     no_write k = core-popped c chip x.within x.rest.warm x.rest.free x.rest.popped k
 
-module _ (old c : CoreState) (chip : ChipState) (sent : List Sent) (next : Sent) (x : IsInRound old chip sent c) (on : IsOnSwitch (written_key next.write)) (order : AreInOrder c.tables.waiting) where
+module _ (old c : CoreState) (chip : ChipState) (sent : List Sent) (next : Sent) (x : IsInRound old chip sent c) (on : IsOnSwitch (written_key next.write)) where
   abbrev before : Written
   before = written_in (sent_writes c.log.taken) c.tables
 
@@ -91,7 +93,7 @@ module _ (old c : CoreState) (chip : ChipState) (sent : List Sent) (next : Sent)
   then = written_in (sent_writes c.log.taken ++ next.write ∷ []) (waiting_write c.tables next.write)
 
   takes : TakesWrite next.write before then
-  takes = takes_write c.tables (sent_writes c.log.taken) next.write order
+  takes = takes_write c.tables (sent_writes c.log.taken) next.write x.order
 
   -- a key that is named is that of the last write, or was named before
   but_last : (ss : List Sent) (k : Key) → IsIn k (keys_named (ss ++ next ∷ [])) → (k ≡ written_key next.write) ⊎ IsIn k (keys_named ss)
@@ -117,12 +119,13 @@ module _ (old c : CoreState) (chip : ChipState) (sent : List Sent) (next : Sent)
   pub round-takes : IsInRound old chip (sent ++ next ∷ []) (with_taken c next)
   round-takes = record {
     began = x.began;
-    within = (one-on c (with_taken c next) chip chip x.within (write_step c chip x.within.session next x.within.stands on order)).0;
+    within = (one-on c (with_taken c next) chip chip x.within (write_step c chip x.within.session next x.within.stands on x.order)).0;
     log = ap (λ h. with_write h next) x.log ∙ ap (λ ts. record { taken = ts; marks = old.log.marks; ends = old.log.ends }) (append_assoc old.log.taken sent (next ∷ []));
     board = x.board;
     sync = x.sync;
     warm = x.warm;
     ops = x.ops;
+    order = AreInOrder-after c.tables.waiting next.write x.order;
     named = λ k i none. named_or k (key_split (written_key next.write) k) i none;
     unnamed = λ k none. write-beside next.write before then k takes (λ same. none (subst (λ z. IsIn z (keys_named (sent ++ next ∷ []))) same (named-last sent next))) (x.unnamed k (λ i. none (named-front sent (next ∷ []) k i)));
   }

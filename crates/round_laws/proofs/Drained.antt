@@ -1,5 +1,5 @@
 -- where its good rows are closed and there is room, a settling leaves no key
-use Rattle.std.proofs.Common.{◌≡◌, ◌⊎◌, ◌≤◌, ◌∷◌, ◌∙◌, inl, inr, ℕ, List, [], length, map, Option, None, Some, refl, sym, ap, subst}
+use Rattle.std.proofs.Common.{◌≡◌, ◌⊎◌, ◌≤◌, ◌∷◌, ◌∙◌, inl, inr, ℕ, List, [], length, map, Option, None, Some, refl, sym, ap, subst, arith}
 use Rattle.table_schema.specs.Names.{names_of}
 use Rattle.table_schema.specs.Plan.{IsPlan, Ports}
 use Rattle.table_schema.specs.Rows.{rows_of}
@@ -41,6 +41,7 @@ use Rattle.restart_laws.specs.Logged.{switch_of}
 use Rattle.warm_state.specs.declared.warm.Warm.TheVariants as warm
 use Rattle.session_laws.specs.Core.{CoreState}
 use Rattle.settling_laws.specs.Leading.{SettlesTo, switch_answered}
+use Rattle.round_laws.specs.Drained.{Drains}
 use Rattle.round_laws.specs.Ended.{EndedRound, IsToTry, LeavesSettled, applied_by, applied_since, rows_before, rows_wanted, taken_then, waits_by, waits_since}
 use Rattle.round_laws.specs.Sessions.{InSession}
 use Rattle.round_laws.specs.Turns.{IsMadeByTurns}
@@ -106,11 +107,20 @@ module _ (plan : Ports) (capacities : List ℕ) (r : EndedRound) (x : IsMadeByTu
   no_waits [] e = refl
   no_waits (w ∷ ws) e = absurd cc
 
-  pub round-drains : (from to : ℕ) → IsClosed (rows_wanted plan r) → from ≤ length (taken_then r) → length (taken_then r) ≤ to → HasRoom capacities (IsRoundThing plan (rows_before plan r) (taken_then r) from to) → (x.waits ≡ []) × (x.turns ≤ 4)
-  round-drains from to closed least most room =
+  round_drains : (from to : ℕ) → IsClosed (rows_wanted plan r) → from ≤ length (taken_then r) → length (taken_then r) ≤ to → HasRoom capacities (IsRoundThing plan (rows_before plan r) (taken_then r) from to) → (x.waits ≡ []) × (x.turns ≤ 4)
+  round_drains from to closed least most room =
       let together = room_together plan capacities (rows_before plan r) x.start.applied x.good (taken_then r) from to (λ k row at. inl (sym (x.applied k) ∙ at)) x.wanted least most room in
       let y = four plan capacities x.good (closed_same (rows_wanted plan r) x.good (λ k. sym (x.wanted k)) closed) x.start.applied together x.turns x.later.applied x.keys x.left synced x.order (turns-rows plan capacities x.good x.turns x.start x.later x.keys x.left r.calls x.are) in
       (no_waits x.waits (sym y.0 ∙ x.lists), y.1)
+
+  same_waits : (a b : Waiting) (m n : ℕ) → event.Settled a m ≡ event.Settled b n → (a ≡ b) × (m ≡ n)
+  same_waits a b m n e = (cc, cc)
+
+  pub round-drained : (from : ℕ) → from ≤ length (taken_then r) → Drains plan capacities from r
+  round-drained from least waits turns is closed room =
+      let y = round_drains from (length (taken_then r)) closed least (omega arith) room in
+      let same = same_waits waits x.waits turns x.turns (sym is ∙ x.event_is) in
+      (same.0 ∙ y.0, subst (λ n. n ≤ 4) (sym same.1) y.1)
 
 -- ---- of any settling
 

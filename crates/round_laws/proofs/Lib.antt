@@ -10,3 +10,5 @@ pub mod Turned
 pub mod Quieted
 pub mod Drained
 pub mod Ending
+pub mod Bounded
+pub mod Growing

@@ -71,8 +71,8 @@ module _ (c c' : CoreState) (chip chip' : ChipState) (x : InSession c chip) wher
   pub one-on : (y : MakesOne c x.session c' chip') → (z : InSession c' chip') × (z.session ≡ y.later)
   one-on y = (in_later y.later (y.later ∷ []) (y.makes, tt) refl y.stands y.plan y.capacities, refl)
 
-  pub some-on : MakesSome c x.session c' chip' → InSession c' chip'
-  some-on y = in_later (session_after x.session y.steps) y.steps y.are refl y.stands y.plan y.capacities
+  pub some-on : (y : MakesSome c x.session c' chip') → (z : InSession c' chip') × (z.session ≡ session_after x.session y.steps)
+  some-on y = (in_later (session_after x.session y.steps) y.steps y.are refl y.stands y.plan y.capacities, refl)
 
   pub leads-on : (later : LoggedService) → LeadsTo c x.session later c' chip' → (z : InSession c' chip') × (z.session ≡ later)
   leads-on later y = (in_later later y.steps y.are y.is y.stands y.plan y.capacities, refl)

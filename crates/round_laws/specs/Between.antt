@@ -9,6 +9,7 @@ use Rattle.sai_types.specs.ChipState.{ChipState}
 use Rattle.switch_model.specs.History.{with_end, with_mark}
 use Rattle.switch_model.specs.Marks.{sent_writes}
 use Rattle.switch_model.specs.declared.mark.Mark.{Mark}
+use Rattle.producer_table.specs.Pending.{AreInOrder}
 use Rattle.switch_machine.specs.Written.{HasNoWrite}
 use Rattle.machine_laws.specs.Logged.{ListsKey}
 use Rattle.restart_laws.specs.Logged.{last_mark}
@@ -47,6 +48,7 @@ pub record IsInRound (old : CoreState) (chip : ChipState) (sent : List Sent) (c 
   pub sync : c.sync ≡ old.sync
   pub warm : c.warm ≡ old.warm
   pub ops : c.tables.ops ≡ old.tables.ops
+  pub order : AreInOrder c.tables.waiting
   pub named : (k : Key) → IsIn k (keys_named sent) → HasNoWrite (written_in (sent_writes c.log.taken) c.tables) k → ⊥
   pub unnamed : (k : Key) → (IsIn k (keys_named sent) → ⊥) → HasNoWrite (written_in (sent_writes c.log.taken) c.tables) k
 

@@ -4,4 +4,5 @@ pub mod Awaited
 pub mod Ended
 pub mod Turns
 pub mod Quiet
+pub mod Drained
 pub mod Between

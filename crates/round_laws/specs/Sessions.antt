@@ -1,7 +1,10 @@
 -- A core and its chip within a session of the service: what steps of the service have led to, from its beginning over an empty chip. Own.
-use Rattle.std.specs.Prelude.{◌≡◌, ℕ, List}
+use Rattle.std.specs.Prelude.{◌≡◌, ℕ, List, [], ◌∷◌}
 use Rattle.table_schema.specs.Plan.{Ports}
 use Rattle.sai_types.specs.ChipState.{ChipState}
+use Rattle.switch_model.specs.declared.mark.Mark.{Mark}
+use Rattle.switch_model.specs.declared.mark.MarkEvent.{MarkEvent}
+use Rattle.switch_model.specs.declared.mark.MarkEvent.TheVariants as event
 use Rattle.restart_laws.specs.Logged.{AreLoggedSteps, LoggedService, new_session, session_after}
 use Rattle.session_laws.specs.Core.{CoreState}
 use Rattle.session_laws.specs.Standing.{IsSessionOf}
@@ -17,3 +20,12 @@ pub record InSession (c : CoreState) (chip : ChipState) : Type 0 where
   pub session : LoggedService
   pub came : HasComeAbout c.board.plan c.sync.capacities session
   pub stands : IsSessionOf c chip session
+
+-- none of these marks is that of the beginning of an apply
+abbrev pub BeginsNoApply : MarkEvent → Type 0
+BeginsNoApply (event.ApplyBegan mode waits) = ⊥
+BeginsNoApply _ = Unit {0}
+
+abbrev pub BeginNoApply : List Mark → Type 0
+BeginNoApply [] = Unit {0}
+BeginNoApply (mark ∷ marks) = BeginsNoApply mark.event × BeginNoApply marks

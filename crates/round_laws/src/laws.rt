@@ -1,7 +1,8 @@
 // What holds of a core and its chip within a session, and of what the session awaits. Each function is a law: it does nothing, and its contract is proved.
-ghost use Rattle.std.specs.Prelude.{◌≡◌, ℕ, ◌*◌, ◌+◌, ◌≤◌, ◌<◌, true, false, List, [], length, Some, None};
+ghost use Rattle.std.specs.Prelude.{◌≡◌, ◌++◌, ℕ, ◌*◌, ◌+◌, ◌≤◌, ◌<◌, true, false, List, [], length, None, IsSome};
 ghost use Rattle.table_schema.specs.Plan.{IsPlan, Ports};
 ghost use Rattle.table_schema.specs.declared.key.Key.{Key};
+ghost use Rattle.table_schema.specs.declared.write.Sent.{Sent};
 ghost use Rattle.sai_types.specs.declared.body.Call.{Call};
 ghost use Rattle.sai_types.specs.declared.ids.Rid.{Rid};
 ghost use Rattle.sai_types.specs.After.{chip_after};
@@ -13,16 +14,16 @@ ghost use Rattle.switch_model.specs.Marks.{Waiting};
 ghost use Rattle.switch_model.specs.Marks as marks;
 ghost use Rattle.switch_model.specs.Promises.{EffectsAreLegal, IsSettled, MarksAreTrue};
 ghost use Rattle.switch_model.specs.Sound.{AreWithin, is_suspect};
+ghost use Rattle.switch_model.specs.declared.mark.Mark.{Mark};
 ghost use Rattle.switch_model.specs.declared.mark.MarkEvent.TheVariants as event;
 ghost use Rattle.consumer_table.specs.Ops.{AreOpsInOrder};
 ghost use Rattle.switch_machine.specs.Next.{MustWait};
 ghost use Rattle.machine_laws.specs.Bounds.{most_calls};
 ghost use Rattle.machine_laws.specs.Logged.{ListsKey};
 ghost use Rattle.machine_laws.specs.Order.{IsOrdered};
-ghost use Rattle.registry_laws.specs.Flown.{Flown};
 ghost use Rattle.restart_laws.specs.Applied.{AreFollowed};
 ghost use Rattle.restart_laws.specs.Bounded.{effects_outside, listed_at_applies};
-ghost use Rattle.restart_laws.specs.Logged.{IsWarmAfter, LoggedService, last_mark, mark_now};
+ghost use Rattle.restart_laws.specs.Logged.{IsWarmAfter, LoggedService, last_mark, mark_now, session_after};
 ghost use Rattle.sync_tables.specs.Tables.{IsToSync};
 ghost use Rattle.flight_board.specs.Board.{flown_at};
 ghost use Rattle.warm_state.specs.declared.warm.Warm.TheVariants as warm;
@@ -32,7 +33,7 @@ ghost use Rattle.session_laws.specs.Standing.{IsSessionOf};
 ghost use Rattle.settling_laws.specs.Leading.{LeadsTo};
 ghost use Rattle.round_laws.specs.Awaited.{AwaitsCall, AwaitsMark};
 ghost use Rattle.round_laws.specs.Named.{keys_named};
-ghost use Rattle.round_laws.specs.Sessions.{HasComeAbout, InSession};
+ghost use Rattle.round_laws.specs.Sessions.{BeginNoApply, InSession};
 
 /// A new core over a chip on which nothing stands is in a session.
 pub fn sessions_begin()
@@ -43,15 +44,23 @@ pub fn sessions_begin()
 /// another core that stands for the same session.
 pub fn sessions_go_on()
     ensures one { (c c' : CoreState) (chip chip' : ChipState) (x : InSession c chip) (y : MakesOne c x.session c' chip') → (z : InSession c' chip') × (z.session ≡ y.later) }
-    ensures some { (c c' : CoreState) (chip chip' : ChipState) (x : InSession c chip) → MakesSome c x.session c' chip' → InSession c' chip' }
+    ensures some { (c c' : CoreState) (chip chip' : ChipState) (x : InSession c chip) (y : MakesSome c x.session c' chip') → (z : InSession c' chip') × (z.session ≡ session_after x.session y.steps) }
     ensures leads { (c c' : CoreState) (chip chip' : ChipState) (later : LoggedService) (x : InSession c chip) → LeadsTo c x.session later c' chip' → (z : InSession c' chip') × (z.session ≡ later) }
     ensures same { (c c' : CoreState) (chip chip' : ChipState) (x : InSession c chip) → IsSessionOf c' chip' x.session → c'.board.plan ≡ c.board.plan → c'.sync.capacities ≡ c.sync.capacities → InSession c' chip' }
+{}
+
+/// Steps only add to a log and to the effects.
+pub fn sessions_grow()
+    ensures effects { (c c' : CoreState) (chip chip' : ChipState) (x : InSession c chip) → MakesSome c x.session c' chip' → (calls : List (Call Rid)) × (chip'.effects ≡ chip.effects ++ calls) }
+    ensures taken { (c c' : CoreState) (chip chip' : ChipState) (x : InSession c chip) → MakesSome c x.session c' chip' → (sent : List Sent) × (c'.log.taken ≡ c.log.taken ++ sent) }
+    ensures marks { (c c' : CoreState) (chip chip' : ChipState) (x : InSession c chip) → MakesSome c x.session c' chip' → (more : List Mark) × (c'.log.marks ≡ c.log.marks ++ more) }
+    ensures ends { (c c' : CoreState) (chip chip' : ChipState) (x : InSession c chip) → MakesSome c x.session c' chip' → (more : List ℕ) × (c'.log.ends ≡ c.log.ends ++ more) }
 {}
 
 /// Within a session each call that took effect was legal, and no route ever pointed where no row sent it; each mark is true; the marks
 /// count what there is, and stand in their order, and no round ends but at the mark of a settling or of a fault; the last mark tells the
 /// warm state; the chip holds what its effects left; outside applies the effects are few, by the writes taken and the keys listed where
-/// applies began; and applies are steady and short.
+/// applies began, and where none began all effects are; and applies are steady and short.
 pub fn sessions_are_true()
     ensures legality { (c : CoreState) (chip : ChipState) → InSession c chip → EffectsAreLegal c.board.plan c.sync.capacities c.log.taken chip.effects }
     ensures marks { (c : CoreState) (chip : ChipState) → InSession c chip → MarksAreTrue c.board.plan c.sync.capacities c.log chip.effects }
@@ -65,6 +74,7 @@ pub fn sessions_are_true()
     ensures capacities { (c : CoreState) (chip : ChipState) → InSession c chip → chip.capacities ≡ c.sync.capacities }
     ensures size { (c : CoreState) (chip : ChipState) → InSession c chip → size_beside c (length chip.effects) ≡ log_size c.log (length chip.effects) }
     ensures few { (c : CoreState) (chip : ChipState) → InSession c chip → effects_outside None c.log.marks (length chip.effects) ≤ most_calls * (length c.log.taken + listed_at_applies c.log.marks) }
+    ensures all_few { (c : CoreState) (chip : ChipState) → InSession c chip → BeginNoApply c.log.marks → length chip.effects ≤ most_calls * length c.log.taken }
     ensures applies { (c : CoreState) (chip : ChipState) → InSession c chip → AreFollowed c.board.plan c.sync.capacities c.log.taken chip.effects c.log.marks }
 {}
 
@@ -79,7 +89,7 @@ pub fn keys_to_sync_were_named()
 /// Where a worker has something under way, a call is awaited, and it is legal on the chip. Where no worker has anything under way, no
 /// write waits, and each key to sync has a reason to wait, a mark is awaited that lists as many keys, and what it would say is true.
 pub fn what_is_due_is_awaited()
-    ensures call { (c : CoreState) (chip : ChipState) (w : ℕ) (f : Flown) → InSession c chip → c.warm ≡ warm.Reconciled → w < 4 → flown_at c.board w ≡ Some f → AwaitsCall c.board.plan c.sync.capacities c.log chip.effects }
+    ensures call { (c : CoreState) (chip : ChipState) (w : ℕ) → InSession c chip → c.warm ≡ warm.Reconciled → w < 4 → IsSome (flown_at c.board w) → AwaitsCall c.board.plan c.sync.capacities c.log chip.effects }
     ensures legal { (plan : Ports) (capacities : List ℕ) (log : History) (effects : List (Call Rid)) → IsPlan plan → (x : AwaitsCall plan capacities log effects) → IsLegal capacities (chip_after effects (length effects)) x.call }
     ensures mark { (c : CoreState) (chip : ChipState) (waits : Waiting) (x : InSession c chip) → c.warm ≡ warm.Reconciled → c.tables.waiting ≡ [] → ((v : ℕ) → v < 4 → flown_at c.board v ≡ None) → HaveReasons c x.session.service.core waits → ((k : Key) → IsToSync c.tables k → ListsKey k waits) → ((k : Key) → ListsKey k waits → IsToSync c.tables k) → marks.AreInOrder waits → AwaitsMark c.board.plan c.sync.capacities c.log chip.effects waits }
     ensures keys { (c : CoreState) (chip : ChipState) (x : InSession c chip) → c.warm ≡ warm.Reconciled → c.tables.waiting ≡ [] → ((v : ℕ) → v < 4 → flown_at c.board v ≡ None) → AreOpsInOrder c.tables.ops → ((k : Key) → IsToSync c.tables k → MustWait c.board.plan 4 c.sync.capacities x.session.service.core k) → (waits : Waiting) × (length waits ≡ length c.tables.ops) × AwaitsMark c.board.plan c.sync.capacities c.log chip.effects waits }

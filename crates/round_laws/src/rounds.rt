@@ -11,14 +11,14 @@ ghost use Rattle.switch_model.specs.Good.{TypedRows, good_rows};
 ghost use Rattle.switch_model.specs.Marks.{sent_writes, written_key};
 ghost use Rattle.switch_model.specs.Promises.{good_rows_at};
 ghost use Rattle.switch_model.specs.Room.{HasRoom, IsRoundThing};
-ghost use Rattle.producer_table.specs.Pending.{AreInOrder};
 ghost use Rattle.switch_machine.specs.Events.{after_answers};
 ghost use Rattle.machine_laws.specs.Reading.{IsOnSwitch};
 ghost use Rattle.warm_state.specs.declared.warm.Warm.TheVariants as warm;
 ghost use Rattle.session_laws.specs.Core.{CoreState, new_core, with_taken};
 ghost use Rattle.settling_laws.specs.Leading.{SettlesTo};
 ghost use Rattle.round_laws.specs.Between.{IsBetweenRounds, IsInRound, RoundEnds};
-ghost use Rattle.round_laws.specs.Ended.{EndedRound, rows_before, rows_wanted, taken_then};
+ghost use Rattle.round_laws.specs.Drained.{Drains};
+ghost use Rattle.round_laws.specs.Ended.{EndedRound, taken_then};
 ghost use Rattle.round_laws.specs.Sessions.{InSession};
 ghost use Rattle.round_laws.specs.Turns.{IsMadeByTurns};
 
@@ -27,7 +27,7 @@ ghost use Rattle.round_laws.specs.Turns.{IsMadeByTurns};
 pub fn rounds_begin()
     ensures first { (plan : Ports) (capacities : List ℕ) (limit : ℕ) (chip : ChipState) → IsPlan plan → chip.objects ≡ [] → chip.effects ≡ [] → chip.clean ≡ true → chip.capacities ≡ capacities → IsBetweenRounds (new_core plan capacities limit) chip }
     ensures begins { (c : CoreState) (chip : ChipState) → IsBetweenRounds c chip → IsInRound c chip [] c }
-    ensures takes { (old c : CoreState) (chip : ChipState) (sent : List Sent) (next : Sent) → IsInRound old chip sent c → IsOnSwitch (written_key next.write) → AreInOrder c.tables.waiting → IsInRound old chip (sent ++ next ∷ []) (with_taken c next) }
+    ensures takes { (old c : CoreState) (chip : ChipState) (sent : List Sent) (next : Sent) → IsInRound old chip sent c → IsOnSwitch (written_key next.write) → IsInRound old chip (sent ++ next ∷ []) (with_taken c next) }
 {}
 
 /// A settling that ends at its mark ends between rounds, whatever came before it. Where it ends a round in which writes were taken and
@@ -38,10 +38,10 @@ pub fn rounds_end()
     ensures round { (old c c' : CoreState) (chip chip' : ChipState) (sent : List Sent) (x : IsInRound old chip sent c) → SettlesTo c x.within.session c' chip' → RoundEnds old chip sent c' chip' }
 {}
 
-/// Where the good rows of all writes then taken are closed, and there is room for the things of the rows applied before the round and of
-/// the good rows after each number of writes in its range, that at its mark among them, the mark of the round lists no key, and its turns
-/// are at most four. So does a settling, where each row that is applied when its turns begin is one of those.
+/// A round whose calls are those of turns drains: where its good rows are closed and there is room, its mark lists no key, and its turns
+/// are at most four. So does a settling, where each row that is applied when its turns begin was applied before the round, or is a good
+/// row after one of these numbers of writes.
 pub fn rounds_drain()
-    ensures round { (plan : Ports) (capacities : List ℕ) (r : EndedRound) (from to : ℕ) (x : IsMadeByTurns plan capacities r) → IsClosed (rows_wanted plan r) → from ≤ length (taken_then r) → length (taken_then r) ≤ to → HasRoom capacities (IsRoundThing plan (rows_before plan r) (taken_then r) from to) → (x.waits ≡ []) × (x.turns ≤ 4) }
+    ensures round { (plan : Ports) (capacities : List ℕ) (from : ℕ) (r : EndedRound) → IsMadeByTurns plan capacities r → from ≤ length (taken_then r) → Drains plan capacities from r }
     ensures settling { (c c' : CoreState) (chip chip' : ChipState) (before : TypedRows) (from to : ℕ) (x : InSession c chip) (y : SettlesTo c x.session c' chip') → c.warm ≡ warm.Reconciled → ((k : Key) (row : Row) → (after_answers x.session.service.core y.answers).machine.board.applied k ≡ Some row → (before k ≡ Some row) ⊎ ((n : ℕ) × (from ≤ n) × (n ≤ to) × (good_rows_at c.board.plan c.log.taken n k ≡ Some row))) → IsClosed (good_rows c.board.plan (rows_of (sent_writes c.log.taken))) → from ≤ length c.log.taken → length c.log.taken ≤ to → HasRoom c.sync.capacities (IsRoundThing c.board.plan before c.log.taken from to) → (y.settling.waits ≡ []) × (y.settling.turns ≤ 4) }
 {}

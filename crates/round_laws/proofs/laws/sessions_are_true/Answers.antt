@@ -1,4 +1,5 @@
 use Rattle.round_laws.proofs.Sessions.{applies-followed, counts-within, effects-legal, known-then, log-ordered, marks-true, objects-left, outside-few-of, sized, suspect-then, warm-after}
+use Rattle.round_laws.proofs.Bounded.{all-few}
 use Rattle.round_laws.proofs.laws.sessions_are_true.Goals as goal
 
 pub returns-clause-legality : goal.returns-clause-legality
@@ -36,6 +37,9 @@ returns-clause-size c = λ core chip x. sized core chip x
 
 pub returns-clause-few : goal.returns-clause-few
 returns-clause-few c = λ core chip x. outside-few-of core chip x
+
+pub returns-clause-all_few : goal.returns-clause-all_few
+returns-clause-all_few c = λ core chip x none. all-few core chip x none
 
 pub returns-clause-applies : goal.returns-clause-applies
 returns-clause-applies c = λ core chip x. applies-followed core chip x

@@ -2,7 +2,7 @@ use Rattle.round_laws.proofs.Awaited.{awaited-legal, awaited-true, call-awaited,
 use Rattle.round_laws.proofs.laws.what_is_due_is_awaited.Goals as goal
 
 pub returns-clause-call : goal.returns-clause-call
-returns-clause-call c = λ core chip w f x at below there. call-awaited core chip x at w f below there
+returns-clause-call c = λ core chip w x at below some. call-awaited core chip x at w below some
 
 pub returns-clause-legal : goal.returns-clause-legal
 returns-clause-legal c = awaited-legal

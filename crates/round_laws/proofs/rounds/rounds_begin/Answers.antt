@@ -8,4 +8,4 @@ pub returns-clause-begins : goal.returns-clause-begins
 returns-clause-begins c = round-begins
 
 pub returns-clause-takes : goal.returns-clause-takes
-returns-clause-takes c = λ old core chip sent next x on order. round-takes old core chip sent next x on order
+returns-clause-takes c = λ old core chip sent next x on. round-takes old core chip sent next x on
