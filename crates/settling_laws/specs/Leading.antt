@@ -1,10 +1,9 @@
 -- Steps of a core that lead to a later session, in which nothing or one mark is logged: answers, pops, and whole settlings. Own.
 use Rattle.std.specs.Prelude.{◌≡◌, ◌++◌, ◌<◌, ℕ, List, [], map, None}
-use Rattle.table_schema.specs.declared.key.Key.{Key}
 use Rattle.sai_types.specs.declared.body.Call.{Call}
 use Rattle.sai_types.specs.declared.ids.Rid.{Rid}
 use Rattle.sai_types.specs.ChipState.{ChipState}
-use Rattle.switch_machine.specs.Events.{AreAnswers, SwitchState, after_answers}
+use Rattle.switch_machine.specs.Events.{AreAnswers, IsQuiet, SwitchState, after_answers}
 use Rattle.machine_laws.specs.Logged.{ArePops, IsWholeSettling, LoggedSwitch, after_pops}
 use Rattle.restart_laws.specs.Logged.{AreLoggedSteps, LoggedService, session_after, switch_of}
 use Rattle.flight_board.specs.Board.{flown_at}
@@ -55,6 +54,7 @@ pub record SettlesTo (c : CoreState) (s : LoggedService) (c' : CoreState) (chip'
   pub leads : LeadsTo c s later c' chip'
   pub answers : List (Call Rid × SwitchState)
   pub are : AreAnswers c.board.plan 4 s.service.core answers
+  pub quiet : IsQuiet (after_answers s.service.core answers)
   pub settling : IsWholeSettling c.board.plan 4 c.sync.capacities (switch_answered s answers) (switch_of later)
   pub free : (v : ℕ) → v < 4 → flown_at c'.board v ≡ None
   pub popped : c'.tables.waiting ≡ []

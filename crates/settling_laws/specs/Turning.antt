@@ -1,5 +1,5 @@
 -- How far a turn of a core has come, and what turns come to. Own.
-use Rattle.std.specs.Prelude.{◌≡◌, ◌⊎◌, ◌+◌, ◌++◌, ◌<◌, ℕ, List, [], ◌∷◌, length, None, Some}
+use Rattle.std.specs.Prelude.{◌≡◌, ◌⊎◌, ◌+◌, ◌++◌, ◌<◌, ℕ, List, [], length, None, Some}
 use Rattle.std.specs.Map.{keys_of}
 use Rattle.table_schema.specs.declared.key.Key.{Key}
 use Rattle.sai_types.specs.declared.body.Call.{Call}

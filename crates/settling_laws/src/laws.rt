@@ -1,4 +1,30 @@
 // The parts of a settling, one step more each time. Each function is a law: it does nothing, and its contract is proved.
+ghost use Rattle.std.specs.Prelude.{◌≡◌, ◌+◌, ◌<◌, ◌++◌, ℕ, List, [], ◌∷◌, length, map, None, Some};
+ghost use Rattle.std.specs.Map.{keys_of};
+ghost use Rattle.table_schema.specs.Fields.{HasRisingKeys};
+ghost use Rattle.table_schema.specs.Key.{key_cmp};
+ghost use Rattle.table_schema.specs.declared.key.Key.{Key};
+ghost use Rattle.sai_types.specs.declared.body.Call.{Call};
+ghost use Rattle.sai_types.specs.declared.ids.Rid.{Rid};
+ghost use Rattle.sai_types.specs.Alike.{IsIn};
+ghost use Rattle.sai_types.specs.ChipState.{ChipState};
+ghost use Rattle.switch_model.specs.History.{with_end, with_mark};
+ghost use Rattle.switch_model.specs.Marks.{Waiting};
+ghost use Rattle.switch_model.specs.Marks as marks;
+ghost use Rattle.switch_model.specs.declared.mark.MarkEvent.TheVariants as event;
+ghost use Rattle.switch_model.specs.declared.wait.Wait.{Wait};
+ghost use Rattle.consumer_table.specs.Ops.{AreOpsInOrder, Ops, first_in, keys_behind, without_op};
+ghost use Rattle.retry_list.specs.Reasons.{with_reason};
+ghost use Rattle.switch_machine.specs.Events.{IsAnswer, IsBegin, IsDrop, IsPop};
+ghost use Rattle.switch_machine.specs.Reasons.{IsReason};
+ghost use Rattle.machine_laws.specs.Logged.{ListsKey};
+ghost use Rattle.restart_laws.specs.Logged.{LoggedService};
+ghost use Rattle.flight_board.specs.Applied.{row_at};
+ghost use Rattle.session_laws.specs.Core.{CoreState, mark_at};
+ghost use Rattle.session_laws.specs.Events.{HaveReasons, IsMachineStep, MakesOne, MakesSome};
+ghost use Rattle.session_laws.specs.Standing.{IsSessionOf};
+ghost use Rattle.settling_laws.specs.Leading.{LeadsTo, PopsTo, RunsTo, SettlesTo};
+ghost use Rattle.settling_laws.specs.Turning.{IsAtRest, IsTurned, IsTurning, TurnsTo};
 
 /// Steps that lead to a session are steps of the core.
 pub fn leads_are_steps()
@@ -30,11 +56,11 @@ pub fn walks_go_on()
     ensures goes { (ops : Ops) (left rest : List Key) (k : Key) → AreOpsInOrder ops → keys_of ops ≡ left ++ (k ∷ rest) → (keys_of (without_op ops k) ≡ left ++ rest) × (keys_behind (Some k) (keys_of (without_op ops k)) ≡ rest) }
 {}
 
-/// A turn begins with all keys that are to sync; goes on where a key waits and its reason is put on the list, where a key has its good
-/// row, and where an operation begins and is run to its end; and a board or a list that is the same to all changes nothing.
+/// A turn begins with all keys that are to sync; and goes on where a key waits and its reason is put on the list, where a key has its
+/// good row, and where an operation begins and is run to its end.
 pub fn turns_go_on()
     ensures begins { (c : CoreState) (chip : ChipState) (s : LoggedService) → IsSessionOf c chip s → IsAtRest c → IsTurning (keys_of c.tables.ops) c s [] (keys_of c.tables.ops) c chip }
-    ensures waits { (keys left rest : List Key) (k : Key) (c c' c'' : CoreState) (chip' : ChipState) (s : LoggedService) (x : IsTurning keys c s left (k ∷ rest) c' chip') (r : Wait) → AreOpsInOrder c'.tables.ops → IsSessionOf c'' chip' x.later → c''.board.plan ≡ c'.board.plan → c''.sync.capacities ≡ c'.sync.capacities → IsAtRest c'' → c''.tables.ops ≡ c'.tables.ops → IsReason c'.board.plan 4 c'.sync.capacities x.later.service.core k r → c''.waiting ≡ with_reason c'.waiting k r → IsTurning keys c s (left ++ k ∷ []) rest c'' chip' }
+    ensures waits { (keys left rest : List Key) (k : Key) (c c' c'' : CoreState) (chip' : ChipState) (s : LoggedService) (x : IsTurning keys c s left (k ∷ rest) c' chip') (r : Wait) → IsSessionOf c'' chip' x.later → c''.board.plan ≡ c'.board.plan → c''.sync.capacities ≡ c'.sync.capacities → IsAtRest c'' → c''.tables.ops ≡ c'.tables.ops → IsReason c'.board.plan 4 c'.sync.capacities x.later.service.core k r → c''.waiting ≡ with_reason c'.waiting k r → IsTurning keys c s (left ++ k ∷ []) rest c'' chip' }
     ensures drops { (keys left rest : List Key) (k : Key) (c c' c'' : CoreState) (chip' : ChipState) (s : LoggedService) (x : IsTurning keys c s left (k ∷ rest) c' chip') (y : MakesOne c' x.later c'' chip') (z : IsDrop c'.board.plan x.later.service.core y.later.service.core) → z.key ≡ k → IsMachineStep x.later None y.later → IsAtRest c'' → keys_of c''.tables.ops ≡ left ++ rest → IsTurning keys c s left rest c'' chip' }
     ensures runs { (keys left rest : List Key) (k : Key) (c c' c'' d : CoreState) (chip' chip'' : ChipState) (s : LoggedService) (x : IsTurning keys c s left (k ∷ rest) c' chip') (y : MakesOne c' x.later c'' chip') (z : IsBegin c'.board.plan 4 c'.sync.capacities x.later.service.core y.later.service.core) → z.flight.key ≡ k → IsMachineStep x.later None y.later → RunsTo c'' y.later d chip'' → IsAtRest d → keys_of d.tables.ops ≡ left ++ rest → IsTurning keys c s left rest d chip'' }
 {}
@@ -49,15 +75,15 @@ pub fn turns_follow()
 
 /// The list of those that wait, with their applied rows, can be marked: it has each key to sync with a true reason, and no other.
 pub fn marks_list_what_waits()
-    ensures reasons { (n : ℕ) (c c' : CoreState) (chip' : ChipState) (s : LoggedService) (x : TurnsTo n c s c' chip') (waits : Waiting) → HasRisingKeys key_cmp c'.waiting → ((k : Key) → IsIn k (keys_of c'.waiting) → IsIn k (keys_of c'.tables.ops)) → waits ≡ map (λ e. (e.0, e.1, row_at c'.board.applied e.0)) c'.waiting → HaveReasons c' x.later.service.core waits }
-    ensures all { (n : ℕ) (c c' : CoreState) (chip' : ChipState) (s : LoggedService) (x : TurnsTo n c s c' chip') (waits : Waiting) (k : Key) → waits ≡ map (λ e. (e.0, e.1, row_at c'.board.applied e.0)) c'.waiting → IsIn k (keys_of c'.tables.ops) → ListsKey k waits }
-    ensures only { (c' : CoreState) (waits : Waiting) (k : Key) → waits ≡ map (λ e. (e.0, e.1, row_at c'.board.applied e.0)) c'.waiting → ListsKey k waits → IsIn k (keys_of c'.waiting) }
-    ensures order { (c' : CoreState) (waits : Waiting) → HasRisingKeys key_cmp c'.waiting → waits ≡ map (λ e. (e.0, e.1, row_at c'.board.applied e.0)) c'.waiting → marks.AreInOrder waits }
+    ensures reasons { (n : ℕ) (c c' : CoreState) (chip' : ChipState) (s : LoggedService) (x : TurnsTo n c s c' chip') (waits : Waiting) → HasRisingKeys key_cmp c'.waiting → ((k : Key) → IsIn k (keys_of c'.waiting) → IsIn k (keys_of c'.tables.ops)) → waits ≡ map (λ (e : Key × Wait). (e.0, e.1, row_at c'.board.applied e.0)) c'.waiting → HaveReasons c' x.later.service.core waits }
+    ensures all { (n : ℕ) (c c' : CoreState) (chip' : ChipState) (s : LoggedService) (x : TurnsTo n c s c' chip') (waits : Waiting) (k : Key) → waits ≡ map (λ (e : Key × Wait). (e.0, e.1, row_at c'.board.applied e.0)) c'.waiting → IsIn k (keys_of c'.tables.ops) → ListsKey k waits }
+    ensures only { (c' : CoreState) (waits : Waiting) (k : Key) → waits ≡ map (λ (e : Key × Wait). (e.0, e.1, row_at c'.board.applied e.0)) c'.waiting → ListsKey k waits → IsIn k (keys_of c'.waiting) }
+    ensures order { (c' : CoreState) (waits : Waiting) → HasRisingKeys key_cmp c'.waiting → waits ≡ map (λ (e : Key × Wait). (e.0, e.1, row_at c'.board.applied e.0)) c'.waiting → marks.AreInOrder waits }
     ensures as_many { (n : ℕ) (c c' : CoreState) (chip' : ChipState) (s : LoggedService) (x : TurnsTo n c s c' chip') → HasRisingKeys key_cmp c'.waiting → AreOpsInOrder c'.tables.ops → ((k : Key) → IsIn k (keys_of c'.waiting) → IsIn k (keys_of c'.tables.ops)) → length c'.waiting ≡ length c'.tables.ops }
 {}
 
 /// A settling ends at its mark: answers until no worker has anything under way, pops until no write waits, turns until no more are made,
 /// and the mark with the keys that wait and the number of turns.
 pub fn settlings_end()
-    ensures { (n : ℕ) (c c1 c2 c3 : CoreState) (chip1 chip2 chip3 : ChipState) (s : LoggedService) (x : RunsTo c s c1 chip1) (y : PopsTo c1 x.later c2 chip2) (z : TurnsTo n c2 y.later c3 chip3) (waits : Waiting) → c.warm ≡ warm.Reconciled → IsAtRest c2 → AreOpsInOrder c2.tables.ops → HaveReasons c3 z.later.service.core waits → ((k : Key) → IsIn k (keys_of c3.tables.ops) → ListsKey k waits) → ((k : Key) → ListsKey k waits → IsIn k (keys_of c3.tables.ops)) → marks.AreInOrder waits → SettlesTo c s (record c3 { log = with_end (with_mark c3.log (mark_at c3 (length chip3.effects) (event.Settled waits n))); listed = c3.listed + length waits }) chip3 }
+    ensures { (n : ℕ) (c c1 c2 c3 : CoreState) (chip1 chip2 chip3 : ChipState) (s : LoggedService) (x : RunsTo c s c1 chip1) (y : PopsTo c1 x.later c2 chip2) (z : TurnsTo n c2 y.later c3 chip3) (waits : Waiting) → IsAtRest c2 → AreOpsInOrder c2.tables.ops → HaveReasons c3 z.later.service.core waits → ((k : Key) → IsIn k (keys_of c3.tables.ops) → ListsKey k waits) → ((k : Key) → ListsKey k waits → IsIn k (keys_of c3.tables.ops)) → marks.AreInOrder waits → SettlesTo c s (record c3 { log = with_end (with_mark c3.log (mark_at c3 (length chip3.effects) (event.Settled waits n))); listed = c3.listed + length waits }) chip3 }
 {}
