@@ -18,7 +18,10 @@
 //! listed all                 no other is on the list
 //! port NAME LANES            the plan has this port
 //! row KEY F=V ..             fields of a row are set; without any, the row is deleted
-//! settled KEY ..             the round has a mark of a settling at which these keys wait
+//! waits KEY WHY              a key waits at the next settling of the round; WHY is `missing KEY`, `held KEY`, `no-room KIND`
+//!                            or `busy N`
+//! turns N                    the next settling of the round makes so many turns; none without such a line
+//! settled KEY ..             the round has a mark of a settling at which these keys wait too, for a worker
 //! faulted N                  the round has a mark of the chip's fault N
 //! show WHAT ..               the round ends with these shows, which are those of scripts; its report is the lines behind
 //! |LINE                      a line of that report

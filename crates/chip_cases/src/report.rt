@@ -1,20 +1,28 @@
 // What is reported of a chip and of rows, round by round.
-use crate::words::{fields, ip, key, number};
+use crate::words::{fields, ip, key, kind, number, short};
 use anyhow::{Context, Result, bail};
 use row_store::Rows;
 use sai_chip::{Replay, SimChip};
 use std::alloc::Global;
+use std::mem;
 use switch_model::{Mark, MarkEvent, Wait, Waits};
 use swss_report::{RoundEnd, round_lines};
 use swss_script::Show;
-use table_schema::{PortPlan, Write};
+use table_schema::{Key, PortPlan, Row, Write};
 
-/// The plan and the rows of a switch, its marks of the round, and how far it was reported.
+/// A key that waits, why, and its applied row.
+type Waiting = (Key, Wait, Option<Row>);
+
+/// The plan and the rows of a switch, its marks of the round and what the next of a settling has, and how far it was
+/// reported.
 #[derive(Drop)]
 pub struct Reporter {
     plan: PortPlan,
+    taken: u64,
     rows: Rows,
     marks: Vec<Mark>,
+    waits: Vec<Waiting>,
+    turns: u64,
     replay: Replay,
     rounds: u64,
     lines: Vec<u8>,
@@ -25,8 +33,11 @@ impl Reporter {
     pub fn new(alloc: Global) -> Result<Reporter> {
         Ok(Reporter {
             plan: PortPlan::new(alloc)?,
+            taken: 0,
             rows: Rows::new(alloc),
             marks: Vec::new(alloc),
+            waits: Vec::new(alloc),
+            turns: 0,
             replay: Replay::new(alloc),
             rounds: 0,
             lines: Vec::new(alloc),
@@ -43,10 +54,9 @@ impl Reporter {
         match words {
             ["port", name, lanes] => self.put_port(alloc, name, lanes)?,
             ["row", name, set @ ..] => self.write(alloc, name, set)?,
-            ["settled", keys @ ..] => {
-                let waits = waits(alloc, keys)?;
-                self.mark(MarkEvent::Settled { waits, turns: 9 })?;
-            }
+            ["waits", name, why @ ..] => self.put_wait(alloc, name, wait(alloc, why)?)?,
+            ["turns", turns] => self.turns = number(turns)?,
+            ["settled", keys @ ..] => self.settle(alloc, keys)?,
             ["faulted", after] => {
                 let after = number(after)?;
                 self.mark(MarkEvent::Faulted { before: 0, after })?;
@@ -75,7 +85,24 @@ impl Reporter {
             Write::Set(key, fields(alloc, set)?)
         };
         self.rows.apply(&write)?;
+        self.taken = self.taken.saturating_add(1);
         Ok(())
+    }
+
+    /// Lets a key wait at the next settling.
+    fn put_wait(&mut self, alloc: Global, name: &str, wait: Wait) -> Result<()> {
+        self.waits.push((key(alloc, name)?, wait, None))?;
+        Ok(())
+    }
+
+    /// Puts the mark of a settling, at which these keys wait too.
+    fn settle(&mut self, alloc: Global, keys: &[&str]) -> Result<()> {
+        for name in keys {
+            self.put_wait(alloc, name, Wait::Busy(1))?;
+        }
+        let waits = Waits::from_vec(mem::replace(&mut self.waits, Vec::new(alloc)))?;
+        let turns = mem::replace(&mut self.turns, 0);
+        self.mark(MarkEvent::Settled { waits, turns })
     }
 
     /// Puts a mark of the round. What it counts does not show.
@@ -96,23 +123,27 @@ impl Reporter {
             plan: &self.plan,
             number: self.rounds,
             marks: self.marks.as_slice(),
+            taken: self.taken,
             rows: &self.rows,
+            chip,
             shows: shows.as_slice(),
         };
-        let lines = round_lines(alloc, &end, chip, &mut self.replay)?;
+        let lines = round_lines(alloc, &end, &mut self.replay)?;
         self.marks = Vec::new(alloc);
         self.lines.extend_from_slice(lines.as_slice())?;
         Ok(())
     }
 }
 
-/// Keys that wait.
-fn waits(alloc: Global, keys: &[&str]) -> Result<Waits> {
-    let mut waits = Vec::new(alloc);
-    for word in keys {
-        waits.push((key(alloc, word)?, Wait::Busy(1), None))?;
-    }
-    Ok(Waits::from_vec(waits)?)
+/// Why a key waits.
+fn wait(alloc: Global, why: &[&str]) -> Result<Wait> {
+    Ok(match why {
+        ["missing", name] => Wait::Missing(key(alloc, name)?),
+        ["held", name] => Wait::Held(key(alloc, name)?),
+        ["no-room", name] => Wait::NoRoom(kind(name)?),
+        ["busy", worker] => Wait::Busy(short(worker)?),
+        _ => bail!("a reason"),
+    })
 }
 
 /// What is shown.
@@ -124,8 +155,10 @@ fn shows(alloc: Global, words: &[&str]) -> Result<Vec<Show>> {
             "chip" => Show::Chip,
             "tables" => Show::Tables,
             "ignored" => Show::Ignored,
-            "calls" => Show::Calls,
+            "waiting" => Show::Waiting,
             "ready" => Show::Ready,
+            "calls" => Show::Calls,
+            "counts" => Show::Counts,
             "forward" => Show::Forward(ip(words.next().context("an address")?)?),
             _ => bail!("a show"),
         })?;

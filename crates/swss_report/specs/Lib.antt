@@ -2,10 +2,15 @@ pub mod Calls
 pub mod Chip
 pub mod ChipLine
 pub mod Counted
+pub mod Counts
+pub mod Ended
+pub mod Ending
 pub mod Escaped
 pub mod Ignored
+pub mod Kinds
 pub mod Marks
 pub mod Round
 pub mod Shows
 pub mod Tables
+pub mod Waiting
 pub mod Ways

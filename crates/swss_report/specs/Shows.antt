@@ -1,39 +1,36 @@
 -- What the shows of a round print. Own.
 use Rattle.std.specs.Prelude.{◌≡◌, ℕ, Bool, true, false, List, [], ◌∷◌, ◌++◌}
-use Rattle.table_schema.specs.Plan.{Ports}
-use Rattle.table_schema.specs.Rows.{Rows}
 use Rattle.sai_types.specs.Forwarding.{forward}
 use Rattle.sai_types.specs.Named.{named, those}
-use Rattle.sai_types.specs.Objects.{Objects}
 use Rattle.sai_types.specs.declared.thing.Thing.{Thing}
 use Rattle.sai_chip.specs.Forward.{answer_of}
 use Rattle.swss_script.specs.declared.parts.Show.{Show}
 use Rattle.swss_script.specs.declared.parts.Show.TheVariants as show
 use Rattle.swss_report.specs.Chip.{Stand, chip_text}
+use Rattle.swss_report.specs.Counts.{counts_text}
+use Rattle.swss_report.specs.Ended.{Ended}
+use Rattle.swss_report.specs.Ending.{waits_at_end}
 use Rattle.swss_report.specs.Ignored.{ignored_text}
 use Rattle.swss_report.specs.Tables.{tables_text}
+use Rattle.swss_report.specs.Waiting.{ready_text, waiting_text}
 use Rattle.swss_report.specs.Ways.{forward_text}
 
--- what shows look at: the port plan, the rows of the writes taken, what stands on the chip, and the lines of the round's calls
-pub record View : Type 0 where
-  pub plan : Ports
-  pub rows : Rows
-  pub objects : Objects
-  pub calls : List ℕ
-
--- what a show prints; the shows that the script reader refuses as not built yet print nothing
-abbrev pub IsShown : View → Show → List ℕ → Type 0
-IsShown v show.Chip text = (things : List Thing) × Stand v.objects things × (text ≡ chip_text v.plan things)
-IsShown v show.Tables text = text ≡ tables_text v.rows
-IsShown v show.Ignored text = text ≡ ignored_text v.plan v.rows
-IsShown v show.Calls text = text ≡ v.calls
-IsShown v (show.Forward ip) text = text ≡ forward_text v.plan ip (answer_of (forward (those (named v.objects)) ip))
-IsShown v _ text = text ≡ []
+-- what a show prints of a round whose calls have these lines; the shows that the script reader refuses as not built yet print nothing
+abbrev pub IsShown : Ended → List ℕ → Show → List ℕ → Type 0
+IsShown e calls show.Chip text = (things : List Thing) × Stand e.objects things × (text ≡ chip_text e.plan things)
+IsShown e calls show.Tables text = text ≡ tables_text e.rows
+IsShown e calls show.Ignored text = text ≡ ignored_text e.plan e.rows
+IsShown e calls show.Waiting text = text ≡ waiting_text (waits_at_end e.marks)
+IsShown e calls show.Ready text = text ≡ ready_text (waits_at_end e.marks)
+IsShown e calls show.Calls text = text ≡ calls
+IsShown e calls show.Counts text = text ≡ counts_text e
+IsShown e calls (show.Forward ip) text = text ≡ forward_text e.plan ip (answer_of (forward (those (named e.objects)) ip))
+IsShown e calls _ text = text ≡ []
 
 -- what shows print, one after the other
-abbrev pub AreShown : View → List Show → List ℕ → Type 0
-AreShown v [] text = text ≡ []
-AreShown v (s ∷ ss) text = (first : List ℕ) × (rest : List ℕ) × IsShown v s first × AreShown v ss rest × (text ≡ first ++ rest)
+abbrev pub AreShown : Ended → List ℕ → List Show → List ℕ → Type 0
+AreShown e calls [] text = text ≡ []
+AreShown e calls (s ∷ ss) text = (first : List ℕ) × (rest : List ℕ) × IsShown e calls s first × AreShown e calls ss rest × (text ≡ first ++ rest)
 
 -- whether a show prints the lines of the round's calls
 abbrev pub is_calls : Show → Bool

@@ -5,12 +5,16 @@ mod calls;
 mod chip;
 mod chip_line;
 mod counted;
+mod counts;
+mod ending;
 mod escaped;
 mod ignored;
+mod kinds;
 mod marks;
 mod round;
 mod shows;
 mod tables;
+mod waiting;
 mod ways;
 
 pub use chip_line::write_chip_line;

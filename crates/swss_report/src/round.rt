@@ -3,6 +3,7 @@ ghost use Rattle.std.specs.Prelude.{◌≡◌, true, length, IfOk};
 ghost use Rattle.std.specs.List.{list_any};
 ghost use Rattle.sai_chip.specs.Replay.{IsReplayOf};
 ghost use Rattle.swss_report.specs.Calls.{calls_text};
+ghost use Rattle.swss_report.specs.Ended.{ended_round};
 ghost use Rattle.swss_report.specs.Round.{IsRoundText};
 ghost use Rattle.swss_report.specs.Shows.{is_calls};
 
@@ -18,7 +19,7 @@ use swss_types::OutOfMemory;
 use table_schema::PortPlan;
 
 /// A round that has ended, as its lines tell of it.
-#[derive(Clone, Copy, Debug, Drop)]
+#[derive(Clone, Copy, Drop)]
 pub struct RoundEnd<'a> {
     /// The port plan.
     pub plan: &'a PortPlan,
@@ -26,8 +27,12 @@ pub struct RoundEnd<'a> {
     pub number: u64,
     /// The marks that were made in it.
     pub marks: &'a [Mark],
-    /// The rows of the writes taken so far.
+    /// How many writes were taken so far.
+    pub taken: u64,
+    /// The rows of these writes.
     pub rows: &'a Rows,
+    /// The chip, as the round left it.
+    pub chip: &'a SimChip,
     /// What is shown.
     pub shows: &'a [Show],
 }
@@ -37,23 +42,15 @@ pub struct RoundEnd<'a> {
 pub fn round_lines(
     alloc: Global,
     end: &RoundEnd<'_>,
-    chip: &SimChip,
     replay: &mut Replay,
 ) -> Result<Vec<u8>, OutOfMemory>
-    ensures text { IfOk result (λ lines. IsReplayOf replay.old chip.now.chip.effects → IsRoundText (record { plan = end.now.plan.now; number = end.now.number; marks = end.now.marks.now; rows = end.now.rows.now; objects = chip.now.chip.objects; effects = chip.now.chip.effects; before = replay.old.at }) end.now.shows.now lines.items) }
-    ensures replay { IfOk result (λ lines. IsReplayOf replay.old chip.now.chip.effects → IsReplayOf replay.new chip.now.chip.effects × (replay.new.at ≡ length chip.now.chip.effects)) }
+    ensures text { IfOk result (λ lines. IsReplayOf replay.old (ended_round end.now).effects → IsRoundText (ended_round end.now) replay.old.at end.now.shows.now lines.items) }
+    ensures replay { IfOk result (λ lines. IsReplayOf replay.old (ended_round end.now).effects → IsReplayOf replay.new (ended_round end.now).effects × (replay.new.at ≡ length (ended_round end.now).effects)) }
 {
-    let RoundEnd {
-        plan,
-        number,
-        marks,
-        rows,
-        shows,
-    } = *end;
-    let calls = lines_of_calls(alloc, plan, shows, chip, replay)?;
+    let calls = lines_of_calls(alloc, end.plan, end.shows, end.chip, replay)?;
     let mut lines = Vec::new(alloc);
-    write_marks(&mut lines, number, marks)?;
-    write_shows(alloc, &mut lines, plan, rows, chip, calls.as_slice(), shows)?;
+    write_marks(&mut lines, end.number, end.marks)?;
+    write_shows(alloc, &mut lines, end, calls.as_slice())?;
     Ok(lines)
 }
 

@@ -44,7 +44,8 @@ use Rattle.swss_script.specs.Sent.{sent_after, sent_in_round, writes_in}
 use Rattle.swss_script.specs.Stage.{is_built_round}
 use Rattle.swss_script.specs.declared.parts.Round.{Round}
 use Rattle.swss_script.specs.declared.parts.Show.{Show}
-use Rattle.swss_report.specs.Round.{Ended, IsRoundText}
+use Rattle.swss_report.specs.Ended.{Ended}
+use Rattle.swss_report.specs.Round.{IsRoundText}
 use Rattle.row_layout.specs.Due.{HasChange}
 use Rattle.swss_run.specs.Full.{AreApplied, CallIsDue, IsFull, MarkIsDue, good_now, keys_named}
 use Rattle.swss_run.specs.Full.IsFull.{AtWrite, AtCall, AtMark}
@@ -111,18 +112,20 @@ replay-grown r effects more follows = IsReplayOf-append r effects more follows
 -- ---- the lines
 
 -- what stands at the end of a round, said in other words
-text-as : (shows : List Show) (lines : List ℕ) (p p' : Ports) (n n' : ℕ) (ms ms' : List Mark) (r r' : Rows) (o o' : Objects) (e e' : List (Call Rid)) (b b' : ℕ)
-    → p ≡ p' → n ≡ n' → ms ≡ ms' → r ≡ r' → o ≡ o' → e ≡ e' → b ≡ b'
-    → IsRoundText (record { plan = p; number = n; marks = ms; rows = r; objects = o; effects = e; before = b }) shows lines
-    → IsRoundText (record { plan = p'; number = n'; marks = ms'; rows = r'; objects = o'; effects = e'; before = b' }) shows lines
-text-as shows lines p p' n n' ms ms' r r' o o' e e' b b' ps ns mss rs os es bs text =
-    subst (λ x. IsRoundText (record { plan = x; number = n'; marks = ms'; rows = r'; objects = o'; effects = e'; before = b' }) shows lines) ps
-    (subst (λ x. IsRoundText (record { plan = p; number = x; marks = ms'; rows = r'; objects = o'; effects = e'; before = b' }) shows lines) ns
-    (subst (λ x. IsRoundText (record { plan = p; number = n; marks = x; rows = r'; objects = o'; effects = e'; before = b' }) shows lines) mss
-    (subst (λ x. IsRoundText (record { plan = p; number = n; marks = ms; rows = x; objects = o'; effects = e'; before = b' }) shows lines) rs
-    (subst (λ x. IsRoundText (record { plan = p; number = n; marks = ms; rows = r; objects = x; effects = e'; before = b' }) shows lines) os
-    (subst (λ x. IsRoundText (record { plan = p; number = n; marks = ms; rows = r; objects = o; effects = x; before = b' }) shows lines) es
-    (subst (λ x. IsRoundText (record { plan = p; number = n; marks = ms; rows = r; objects = o; effects = e; before = x }) shows lines) bs text))))))
+text-as : (shows : List Show) (lines : List ℕ) (p p' : Ports) (n n' : ℕ) (ms ms' : List Mark) (t t' : ℕ) (r r' : Rows) (c c' : List ℕ) (o o' : Objects) (e e' : List (Call Rid)) (b b' : ℕ)
+    → p ≡ p' → n ≡ n' → ms ≡ ms' → t ≡ t' → r ≡ r' → c ≡ c' → o ≡ o' → e ≡ e' → b ≡ b'
+    → IsRoundText (record { plan = p; number = n; marks = ms; taken = t; rows = r; capacities = c; objects = o; effects = e }) b shows lines
+    → IsRoundText (record { plan = p'; number = n'; marks = ms'; taken = t'; rows = r'; capacities = c'; objects = o'; effects = e' }) b' shows lines
+text-as shows lines p p' n n' ms ms' t t' r r' c c' o o' e e' b b' ps ns mss ts rs cs os es bs text =
+    subst (λ x. IsRoundText (record { plan = x; number = n'; marks = ms'; taken = t'; rows = r'; capacities = c'; objects = o'; effects = e' }) b' shows lines) ps
+    (subst (λ x. IsRoundText (record { plan = p; number = x; marks = ms'; taken = t'; rows = r'; capacities = c'; objects = o'; effects = e' }) b' shows lines) ns
+    (subst (λ x. IsRoundText (record { plan = p; number = n; marks = x; taken = t'; rows = r'; capacities = c'; objects = o'; effects = e' }) b' shows lines) mss
+    (subst (λ x. IsRoundText (record { plan = p; number = n; marks = ms; taken = x; rows = r'; capacities = c'; objects = o'; effects = e' }) b' shows lines) ts
+    (subst (λ x. IsRoundText (record { plan = p; number = n; marks = ms; taken = t; rows = x; capacities = c'; objects = o'; effects = e' }) b' shows lines) rs
+    (subst (λ x. IsRoundText (record { plan = p; number = n; marks = ms; taken = t; rows = r; capacities = x; objects = o'; effects = e' }) b' shows lines) cs
+    (subst (λ x. IsRoundText (record { plan = p; number = n; marks = ms; taken = t; rows = r; capacities = c; objects = x; effects = e' }) b' shows lines) os
+    (subst (λ x. IsRoundText (record { plan = p; number = n; marks = ms; taken = t; rows = r; capacities = c; objects = o; effects = x }) b' shows lines) es
+    (subst (λ x. IsRoundText (record { plan = p; number = n; marks = ms; taken = t; rows = r; capacities = c; objects = o; effects = e }) x shows lines) bs text))))))))
 
 -- the mark of a settling, and that of a failed call, had their places
 pub fits-settled : (mid new : State) (chip chip' : ChipState) → IsKept new chip' → settling.MarksSettled mid chip new chip' → log_size new.log (length chip'.effects) ≤ new.limit
@@ -240,7 +243,7 @@ module _ (round : Round) (old : State) (sim : Sim) (replay : Replayed) (ready : 
 
       -- what stands when the round has ended, as its lines are asked for
       abbrev pub ended_now : ℕ → Ended
-      ended_now number = record { plan = new.plan; number = number; marks = drop (length old.log.marks) new.log.marks; rows = new.rows; objects = sim'.chip.objects; effects = sim'.chip.effects; before = replay.at }
+      ended_now number = record { plan = new.plan; number = number; marks = drop (length old.log.marks) new.log.marks; taken = length new.log.taken; rows = new.rows; capacities = sim'.chip.capacities; objects = sim'.chip.objects; effects = sim'.chip.effects }
 
       pub follows-new : IsReplayOf replay sim'.chip.effects
       follows-new = subst (IsReplayOf replay) (sym grown.grown) (replay-grown replay sim.chip.effects grown.calls ready.follows)
@@ -370,18 +373,20 @@ module _ (round : Round) (old : State) (sim : Sim) (replay : Replayed) (ready : 
           fault_places = λ suspect. failed (sym suspect-is ∙ suspect);
         }
 
-        pub has-lines : (number : ℕ) (lines : List ℕ) → 0 < number → IsRoundText (ended_now number) round.shows lines → HasLines number round old sim ran lines
+        pub has-lines : (number : ℕ) (lines : List ℕ) → 0 < number → IsRoundText (ended_now number) replay.at round.shows lines → HasLines number round old sim ran lines
         has-lines number lines counted text = record {
           before = number - 1;
           number_is = omega (arith, counted);
           text =
               text-as round.shows lines
-              new.plan old.plan number (number - 1 + 1) (drop (length old.log.marks) new.log.marks) (mark ∷ []) new.rows (rows_of (sent_writes (old.log.taken ++ sent)))
-              sim'.chip.objects (chip_after (sim.chip.effects ++ grown.calls) (length (sim.chip.effects ++ grown.calls))) sim'.chip.effects (sim.chip.effects ++ grown.calls) replay.at (length sim.chip.effects)
+              new.plan old.plan number (number - 1 + 1) (drop (length old.log.marks) new.log.marks) (mark ∷ []) (length new.log.taken) (length (old.log.taken ++ sent)) new.rows (rows_of (sent_writes (old.log.taken ++ sent)))
+              sim'.chip.capacities old.capacities sim'.chip.objects (chip_after (sim.chip.effects ++ grown.calls) (length (sim.chip.effects ++ grown.calls))) sim'.chip.effects (sim.chip.effects ++ grown.calls) replay.at (length sim.chip.effects)
               plan-new.plan
               (omega (arith, counted))
               (ap (λ (h : History). drop (length old.log.marks) h.marks) log-marked ∙ drop-append_seam old.log.marks (mark ∷ []))
+              (ap (λ (h : History). length h.taken) log-marked)
               (kept.keeps.rows ∙ ap (λ (h : History). rows_of (sent_writes h.taken)) log-marked)
+              (kept.keeps.capacities ∙ plan-new.capacities)
               (kept.keeps.objects ∙ ap (λ l. chip_after l (length l)) grown.grown)
               grown.grown
               ready.at_end
@@ -398,7 +403,7 @@ module _ (round : Round) (old : State) (sim : Sim) (replay : Replayed) (ready : 
           sorted = sorted-new;
         }
 
-        pub run-done : (number : ℕ) (held held' : Option (List ℕ)) (faults faults' : ℕ) (result : Status) (replay' : Replayed) → 0 < number → Rattle.switch_model.specs.Sound.is_fault e ≡ false → IsWritten (ended_now number) round.shows status.Done held faults result replay' held' faults' → IsRoundRun number round old sim held faults result new sim' replay' held' faults'
+        pub run-done : (number : ℕ) (held held' : Option (List ℕ)) (faults faults' : ℕ) (result : Status) (replay' : Replayed) → 0 < number → Rattle.switch_model.specs.Sound.is_fault e ≡ false → IsWritten (ended_now number) replay.at round.shows status.Done held faults result replay' held' faults' → IsRoundRun number round old sim held faults result new sim' replay' held' faults'
         run-done number held held' faults faults' result replay' counted good (Whole lines text took follows at is) =
             subst (λ r. IsRoundRun number round old sim held faults r new sim' replay' held' faults') (sym is) (ran, lines, ends-round, has-lines number lines counted text, took, ready-new replay' good follows at)
         run-done number held held' faults faults' result replay' counted good (Failed lines text took rose is) =
@@ -408,7 +413,7 @@ module _ (round : Round) (old : State) (sim : Sim) (replay : Replayed) (ready : 
         run-done number held held' faults faults' result replay' counted good (Unwritten same is) =
             subst (λ r. IsRoundRun number round old sim held faults r new sim' replay' held' faults') (sym is) (inr (ran, ends-round, inl same))
 
-        pub run-failed : (number : ℕ) (held held' : Option (List ℕ)) (faults faults' : ℕ) (result : Status) (replay' : Replayed) → 0 < number → Rattle.switch_model.specs.Sound.is_fault e ≡ true → 0 < sim'.chip.faults → IsWritten (ended_now number) round.shows status.ChipFault held faults result replay' held' faults' → IsRoundRun number round old sim held faults result new sim' replay' held' faults'
+        pub run-failed : (number : ℕ) (held held' : Option (List ℕ)) (faults faults' : ℕ) (result : Status) (replay' : Replayed) → 0 < number → Rattle.switch_model.specs.Sound.is_fault e ≡ true → 0 < sim'.chip.faults → IsWritten (ended_now number) replay.at round.shows status.ChipFault held faults result replay' held' faults' → IsRoundRun number round old sim held faults result new sim' replay' held' faults'
         run-failed number held held' faults faults' result replay' counted bad rose (Whole lines text took follows at is) =
             subst (λ r. IsRoundRun number round old sim held faults r new sim' replay' held' faults') (sym is) (ran, lines, ends-round, has-lines number lines counted text, took, suspect-is ∙ bad, rose)
         run-failed number held held' faults faults' result replay' counted bad rose (Failed lines text took more is) =
@@ -419,15 +424,15 @@ module _ (round : Round) (old : State) (sim : Sim) (replay : Replayed) (ready : 
             subst (λ r. IsRoundRun number round old sim held faults r new sim' replay' held' faults') (sym is) (inr (ran, ends-round, inl same))
 
       -- how the settling ended
-      pub run-marked : (r : Result Settled OutOfMemory) (ended : Status) → round_ended r ≡ Ok ended → EndsSettling mid sim.chip r new sim'.chip → (number : ℕ) (held held' : Option (List ℕ)) (faults faults' : ℕ) (result : Status) (replay' : Replayed) → 0 < number → IsWritten (ended_now number) round.shows ended held faults result replay' held' faults' → IsRoundRun number round old sim held faults result new sim' replay' held' faults'
+      pub run-marked : (r : Result Settled OutOfMemory) (ended : Status) → round_ended r ≡ Ok ended → EndsSettling mid sim.chip r new sim'.chip → (number : ℕ) (held held' : Option (List ℕ)) (faults faults' : ℕ) (result : Status) (replay' : Replayed) → 0 < number → IsWritten (ended_now number) replay.at round.shows ended held faults result replay' held' faults' → IsRoundRun number round old sim held faults result new sim' replay' held' faults'
       run-marked (Ok settled.Settled) ended is e number held held' faults faults' result replay' counted written =
           let same_end : ended ≡ status.Done = cc in
           run-done (event.Settled (listing new) e.turns) refl e.log (fits-settled mid new sim.chip sim'.chip kept e) (λ no. cc) number held held' faults faults' result replay' counted refl
-          (subst (λ x. IsWritten (ended_now number) round.shows x held faults result replay' held' faults') same_end written)
+          (subst (λ x. IsWritten (ended_now number) replay.at round.shows x held faults result replay' held' faults') same_end written)
       run-marked (Ok settled.Faulted) ended is e number held held' faults faults' result replay' counted written =
           let same_end : ended ≡ status.ChipFault = cc in
           run-failed (event.Faulted sim.chip.faults sim'.chip.faults) refl e.log (fits-faulted mid new sim.chip sim'.chip kept same e) (λ is_fault. places-faulted mid new sim.chip sim'.chip kept same e) number held held' faults faults' result replay' counted refl (omega (arith, e.rose))
-          (subst (λ x. IsWritten (ended_now number) round.shows x held faults result replay' held' faults') same_end written)
+          (subst (λ x. IsWritten (ended_now number) replay.at round.shows x held faults result replay' held' faults') same_end written)
       run-marked (Ok settled.LogFull) ended is e number held held' faults faults' result replay' counted written = cc
       run-marked (Err wanting) ended is e number held held' faults faults' result replay' counted written = cc
 

@@ -71,28 +71,28 @@ taken-since [] (r ∷ rounds) round sent rest were at is =
 taken-since (x ∷ rans) [] round sent rest were at is = absurd were
 taken-since (x ∷ rans) (r ∷ rounds) round sent rest (first, more) at is = (first, taken-since rans rounds round sent rest more at is)
 
-pub report-more : (plan : Ports) (number : ℕ) (sent : List Sent) (calls : List (Call Rid)) (rans : List Ran) (rounds : List Round) (text : List ℕ) (ran : Ran) (round : Round) (lines : List ℕ) (before : ℕ) (s : List Sent) (c : List (Call Rid))
-    → IsReportFrom plan number sent calls rans rounds text → slice_get rounds (length rans) ≡ Some round
+pub report-more : (plan : Ports) (capacities : List ℕ) (number : ℕ) (sent : List Sent) (calls : List (Call Rid)) (rans : List Ran) (rounds : List Round) (text : List ℕ) (ran : Ran) (round : Round) (lines : List ℕ) (before : ℕ) (s : List Sent) (c : List (Call Rid))
+    → IsReportFrom plan capacities number sent calls rans rounds text → slice_get rounds (length rans) ≡ Some round
     → before ≡ number + length rans → s ≡ sent ++ all_sent rans → c ≡ calls ++ all_calls rans
-    → IsRoundText (standing plan before s c ran) round.shows lines
-    → IsReportFrom plan number sent calls (rans ++ ran ∷ []) rounds (text ++ lines)
-report-more plan number sent calls [] [] text ran round lines before s c told at number_is s_is c_is is = cc
-report-more plan number sent calls [] (r ∷ rounds) text ran round lines before s c told at number_is s_is c_is is =
+    → IsRoundText (standing plan capacities before s c ran) (length c) round.shows lines
+    → IsReportFrom plan capacities number sent calls (rans ++ ran ∷ []) rounds (text ++ lines)
+report-more plan capacities number sent calls [] [] text ran round lines before s c told at number_is s_is c_is is = cc
+report-more plan capacities number sent calls [] (r ∷ rounds) text ran round lines before s c told at number_is s_is c_is is =
     let same : round ≡ r = cc in
     let number_same : before ≡ number = omega (arith, number_is) in
-    let moved : IsRoundText (standing plan number sent calls ran) r.shows lines =
-    subst (λ n. IsRoundText (standing plan n sent calls ran) r.shows lines) number_same
-    (subst (λ x. IsRoundText (standing plan before x calls ran) r.shows lines) (s_is ∙ append-nil sent)
-    (subst (λ x. IsRoundText (standing plan before s x ran) r.shows lines) (c_is ∙ append-nil calls)
-    (subst (λ (x : Round). IsRoundText (standing plan before s c ran) x.shows lines) same is))) in
+    let moved : IsRoundText (standing plan capacities number sent calls ran) (length calls) r.shows lines =
+    subst (λ n. IsRoundText (standing plan capacities n sent calls ran) (length calls) r.shows lines) number_same
+    (subst (λ x. IsRoundText (standing plan capacities before x calls ran) (length calls) r.shows lines) (s_is ∙ append-nil sent)
+    (subst (λ x. IsRoundText (standing plan capacities before s x ran) (length x) r.shows lines) (c_is ∙ append-nil calls)
+    (subst (λ (x : Round). IsRoundText (standing plan capacities before s c ran) (length c) x.shows lines) same is))) in
     (lines, [], moved, ap (λ t. t ++ lines) told ∙ sym (append-nil lines), refl)
-report-more plan number sent calls (x ∷ rans) [] text ran round lines before s c told at number_is s_is c_is is = absurd told
-report-more plan number sent calls (x ∷ rans) (r ∷ rounds) text ran round lines before s c (first, rest, one, text_is, more) at number_is s_is c_is is = (
+report-more plan capacities number sent calls (x ∷ rans) [] text ran round lines before s c told at number_is s_is c_is is = absurd told
+report-more plan capacities number sent calls (x ∷ rans) (r ∷ rounds) text ran round lines before s c (first, rest, one, text_is, more) at number_is s_is c_is is = (
   first,
   rest ++ lines,
   one,
   ap (λ t. t ++ lines) text_is ∙ append_assoc first rest lines,
-  report-more plan (number + 1) (sent ++ x.sent) (calls ++ x.calls) rans rounds rest ran round lines before s c more at
+  report-more plan capacities (number + 1) (sent ++ x.sent) (calls ++ x.calls) rans rounds rest ran round lines before s c more at
       (omega (arith, number_is))
       (s_is ∙ sym (append_assoc sent x.sent (all_sent rans)))
       (c_is ∙ sym (append_assoc calls x.calls (all_calls rans)))

@@ -83,10 +83,11 @@ module _ (round : Round) (old : State) (sim : Sim) (ran : Ran) (new : State) (si
     at_marks = at_marks-more 0 0 rans ran cut.at_marks at_mark;
   }
 
-  report-longer : (number : ℕ) (plan : Ports) (rounds : List Round) (text lines : List ℕ) → plan ≡ old.plan → slice_get rounds (length rans) ≡ Some round → number ≡ length rans + 1 → IsReport plan rans rounds text → HasLines number round old sim ran lines → IsReport plan (rans ++ ran ∷ []) rounds (text ++ lines)
-  report-longer number plan rounds text lines plan_is at number_is told has =
-      report-more plan 0 [] [] rans rounds text ran round lines has.before old.log.taken sim.chip.effects told at (omega (arith, number_is, has.number_is)) taken_were effects_were
-      (subst (λ p. IsRoundText (standing p has.before old.log.taken sim.chip.effects ran) round.shows lines) (sym plan_is) has.text)
+  report-longer : (number : ℕ) (plan : Ports) (capacities : List ℕ) (rounds : List Round) (text lines : List ℕ) → plan ≡ old.plan → capacities ≡ old.capacities → slice_get rounds (length rans) ≡ Some round → number ≡ length rans + 1 → IsReport plan capacities rans rounds text → HasLines number round old sim ran lines → IsReport plan capacities (rans ++ ran ∷ []) rounds (text ++ lines)
+  report-longer number plan capacities rounds text lines plan_is capacities_are at number_is told has =
+      report-more plan capacities 0 [] [] rans rounds text ran round lines has.before old.log.taken sim.chip.effects told at (omega (arith, number_is, has.number_is)) taken_were effects_were
+      (subst (λ p. IsRoundText (standing p capacities has.before old.log.taken sim.chip.effects ran) (length sim.chip.effects) round.shows lines) (sym plan_is)
+      (subst (λ c. IsRoundText (standing old.plan c has.before old.log.taken sim.chip.effects ran) (length sim.chip.effects) round.shows lines) (sym capacities_are) has.text))
 
 -- ---- a session
 
@@ -99,7 +100,7 @@ pub record IsRunning (rounds done : List Round) (first : State) (held0 : Option 
   pub cut : IsCut core.log sim.chip.effects rans [] []
   pub many : length rans ≡ length done
   pub writes : AreTaken rans rounds []
-  pub told : TookReport first.plan rans rounds held0 held
+  pub told : TookReport first.plan first.capacities rans rounds held0 held
   pub fits : log_size core.log (length sim.chip.effects) ≤ log_limit
   pub unused : rans ≡ [] → IsUnused core sim
 
@@ -189,6 +190,9 @@ module _ (rounds done : List Round) (first : State) (held0 : Option (List ℕ)) 
     plan_is : first.plan ≡ core.plan
     plan_is = sym running.same.plan
 
+    capacities_are : first.capacities ≡ core.capacities
+    capacities_are = sym running.same.capacities
+
     module _ (ran : Ran) (ends : EndsRound round core sim ran new sim') where
       longer : List Ran
       longer = rans ++ ran ∷ []
@@ -205,13 +209,13 @@ module _ (rounds done : List Round) (first : State) (held0 : Option (List ℕ)) 
       fits_now : log_size new.log (length sim'.chip.effects) ≤ log_limit
       fits_now = subst (λ n. log_size new.log (length sim'.chip.effects) ≤ n) (same_now.limit ∙ running.limit) ends.places
 
-      report_now : (lines : List ℕ) → HasLines number round core sim ran lines → IsReport first.plan (rans ++ ran ∷ []) rounds (running.told.text ++ lines)
-      report_now lines has = report-longer round core sim ran new sim' ends rans running.cut number first.plan rounds running.told.text lines plan_is at_round number_at running.told.report has
+      report_now : (lines : List ℕ) → HasLines number round core sim ran lines → IsReport first.plan first.capacities (rans ++ ran ∷ []) rounds (running.told.text ++ lines)
+      report_now lines has = report-longer round core sim ran new sim' ends rans running.cut number first.plan first.capacities rounds running.told.text lines plan_is capacities_are at_round number_at running.told.report has
 
-      told_now : (lines : List ℕ) → HasLines number round core sim ran lines → Takes held lines held' → TookReport first.plan (rans ++ ran ∷ []) rounds held0 held'
+      told_now : (lines : List ℕ) → HasLines number round core sim ran lines → Takes held lines held' → TookReport first.plan first.capacities (rans ++ ran ∷ []) rounds held0 held'
       told_now lines has took = record { text = running.told.text ++ lines; report = report_now lines has; took = Takes-trans held0 held held' running.told.text lines running.told.took took }
 
-      front_now : (lines : List ℕ) → HasLines number round core sim ran lines → TakesFront held lines held' → TookFront first.plan (rans ++ ran ∷ []) rounds held0 held'
+      front_now : (lines : List ℕ) → HasLines number round core sim ran lines → TakesFront held lines held' → TookFront first.plan first.capacities (rans ++ ran ∷ []) rounds held0 held'
       front_now lines has took = record { text = running.told.text ++ lines; report = report_now lines has; took = front-more held0 held held' running.told.text lines running.told.took took }
 
       session_now : (ended : Status) → IsReported ended first.plan first.capacities rounds (rans ++ ran ∷ []) [] [] new.log sim'.chip held0 held' → IsSession first.plan first.capacities rounds ended new.log sim'.chip held0 held'
@@ -235,7 +239,7 @@ module _ (rounds done : List Round) (first : State) (held0 : Option (List ℕ)) 
     }
 
     -- a front of what was told before
-    front_before : held' ≡ held → TookFront first.plan rans rounds held0 held'
+    front_before : held' ≡ held → TookFront first.plan first.capacities rans rounds held0 held'
     front_before same = record { text = running.told.text; report = running.told.report; took = whole-front held0 held' running.told.text (subst (λ h. Takes held0 running.told.text h) (sym same) running.told.took) }
 
     module _ (stops : StopsRound round core sim new sim') where

@@ -13,7 +13,8 @@ use Rattle.switch_model.specs.declared.mark.MarkEvent.{MarkEvent}
 use Rattle.switch_model.specs.declared.mark.MarkEvent.TheVariants as event
 use Rattle.swss_script.specs.Sent.{sent_in_round}
 use Rattle.swss_script.specs.declared.parts.Round.{Round}
-use Rattle.swss_report.specs.Round.{Ended, IsRoundText}
+use Rattle.swss_report.specs.Ended.{Ended}
+use Rattle.swss_report.specs.Round.{IsRoundText}
 
 -- a round that ended: its marks, the writes taken in it, and the chip's calls in it that took effect
 pub record Ran : Type 0 where
@@ -73,25 +74,26 @@ AreTaken [] (round ∷ rounds) sent = (rest : List Sent) × (sent_in_round round
 AreTaken (ran ∷ rans) [] sent = ⊥
 AreTaken (ran ∷ rans) (round ∷ rounds) sent = (ran.sent ≡ sent_in_round round) × AreTaken rans rounds sent
 
--- what stands when a round has ended, where so many rounds, these writes and these calls came before
-abbrev pub standing : Ports → ℕ → List Sent → List (Call Rid) → Ran → Ended
-standing plan number sent calls ran = record {
+-- what stands when a round has ended, on a chip with these capacities, where so many rounds, these writes and these calls came before
+abbrev pub standing : Ports → List ℕ → ℕ → List Sent → List (Call Rid) → Ran → Ended
+standing plan capacities number sent calls ran = record {
   plan = plan;
   number = number + 1;
   marks = ran.marks;
+  taken = length (sent ++ ran.sent);
   rows = rows_of (sent_writes (sent ++ ran.sent));
+  capacities = capacities;
   objects = chip_after (calls ++ ran.calls) (length (calls ++ ran.calls));
   effects = calls ++ ran.calls;
-  before = length calls;
 }
 
 -- the report of rounds that ended: the lines of each, one round after the other
-abbrev pub IsReportFrom : Ports → ℕ → List Sent → List (Call Rid) → List Ran → List Round → List ℕ → Type 0
-IsReportFrom plan number sent calls [] rounds text = text ≡ []
-IsReportFrom plan number sent calls (ran ∷ rans) [] text = ⊥
-IsReportFrom plan number sent calls (ran ∷ rans) (round ∷ rounds) text =
-    (lines : List ℕ) × (rest : List ℕ) × IsRoundText (standing plan number sent calls ran) round.shows lines × (text ≡ lines ++ rest)
-    × IsReportFrom plan (number + 1) (sent ++ ran.sent) (calls ++ ran.calls) rans rounds rest
+abbrev pub IsReportFrom : Ports → List ℕ → ℕ → List Sent → List (Call Rid) → List Ran → List Round → List ℕ → Type 0
+IsReportFrom plan capacities number sent calls [] rounds text = text ≡ []
+IsReportFrom plan capacities number sent calls (ran ∷ rans) [] text = ⊥
+IsReportFrom plan capacities number sent calls (ran ∷ rans) (round ∷ rounds) text =
+    (lines : List ℕ) × (rest : List ℕ) × IsRoundText (standing plan capacities number sent calls ran) (length calls) round.shows lines × (text ≡ lines ++ rest)
+    × IsReportFrom plan capacities (number + 1) (sent ++ ran.sent) (calls ++ ran.calls) rans rounds rest
 
-abbrev pub IsReport : Ports → List Ran → List Round → List ℕ → Type 0
-IsReport plan rans rounds text = IsReportFrom plan 0 [] [] rans rounds text
+abbrev pub IsReport : Ports → List ℕ → List Ran → List Round → List ℕ → Type 0
+IsReport plan capacities rans rounds text = IsReportFrom plan capacities 0 [] [] rans rounds text

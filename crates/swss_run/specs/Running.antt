@@ -21,7 +21,8 @@ use Rattle.swss_types.specs.declared.out_of_memory.OutOfMemory.{OutOfMemory}
 use Rattle.swss_script.specs.Sent.{sent_in_round}
 use Rattle.swss_script.specs.declared.parts.Round.{Round}
 use Rattle.swss_script.specs.declared.parts.Show.{Show}
-use Rattle.swss_report.specs.Round.{Ended, IsRoundText}
+use Rattle.swss_report.specs.Ended.{Ended}
+use Rattle.swss_report.specs.Round.{IsRoundText}
 use Rattle.swss_run.specs.Full.{IsFull, keys_named}
 use Rattle.swss_run.specs.Output.{TakesFront}
 use Rattle.swss_run.specs.Rounds.{Ran, is_settling, standing}
@@ -85,18 +86,18 @@ round_ended (Ok settled.Faulted) = Ok status.ChipFault
 round_ended (Ok settled.LogFull) = Err status.LogFull
 round_ended (Err e) = Err status.OutOfMemory
 
--- the lines of a round were written, which ended with this status: all of them, and then the replay has followed the chip; or a front where the sink failed or found no memory; or nothing where there was none for them
-pub data IsWritten (e : Ended) (shows : List Show) (ended : Status) (held : Option (List ℕ)) (faults : ℕ) (result : Status) (replay : Replayed) (held' : Option (List ℕ)) (faults' : ℕ) : Type 0 where
-  Whole : (lines : List ℕ) → IsRoundText e shows lines → Takes held lines held' → IsReplayOf replay e.effects → replay.at ≡ length e.effects → result ≡ ended → IsWritten e shows ended held faults result replay held' faults'
-  Failed : (lines : List ℕ) → IsRoundText e shows lines → TakesFront held lines held' → HasRisen faults faults' → result ≡ status.WriteFault → IsWritten e shows ended held faults result replay held' faults'
-  Wanting : (lines : List ℕ) → IsRoundText e shows lines → TakesFront held lines held' → result ≡ status.OutOfMemory → IsWritten e shows ended held faults result replay held' faults'
-  Unwritten : held' ≡ held → result ≡ status.OutOfMemory → IsWritten e shows ended held faults result replay held' faults'
+-- the lines of a round were written, which ended with this status and before which so many calls took effect: all of them, and then the replay has followed the chip; or a front where the sink failed or found no memory; or nothing where there was none for them
+pub data IsWritten (e : Ended) (before : ℕ) (shows : List Show) (ended : Status) (held : Option (List ℕ)) (faults : ℕ) (result : Status) (replay : Replayed) (held' : Option (List ℕ)) (faults' : ℕ) : Type 0 where
+  Whole : (lines : List ℕ) → IsRoundText e before shows lines → Takes held lines held' → IsReplayOf replay e.effects → replay.at ≡ length e.effects → result ≡ ended → IsWritten e before shows ended held faults result replay held' faults'
+  Failed : (lines : List ℕ) → IsRoundText e before shows lines → TakesFront held lines held' → HasRisen faults faults' → result ≡ status.WriteFault → IsWritten e before shows ended held faults result replay held' faults'
+  Wanting : (lines : List ℕ) → IsRoundText e before shows lines → TakesFront held lines held' → result ≡ status.OutOfMemory → IsWritten e before shows ended held faults result replay held' faults'
+  Unwritten : held' ≡ held → result ≡ status.OutOfMemory → IsWritten e before shows ended held faults result replay held' faults'
 
 -- the lines of a round that ended, where so many ended before it
 pub record HasLines (number : ℕ) (round : Round) (old : State) (sim : Sim) (ran : Ran) (lines : List ℕ) : Type 0 where
   pub before : ℕ
   pub number_is : number ≡ before + 1
-  pub text : IsRoundText (standing old.plan before old.log.taken sim.chip.effects ran) round.shows lines
+  pub text : IsRoundText (standing old.plan old.capacities before old.log.taken sim.chip.effects ran) (length sim.chip.effects) round.shows lines
 
 -- the sink took a front of the lines of the round, or nothing
 abbrev pub TakesSome : ℕ → Round → State → Sim → Ran → Option (List ℕ) → Option (List ℕ) → Type 0

@@ -28,15 +28,15 @@ abbrev pub log_limit : ℕ
 log_limit = LOG_LIMIT
 
 -- the sink took the whole report of these rounds
-pub record TookReport (plan : Ports) (rans : List Ran) (rounds : List Round) (held held' : Option (List ℕ)) : Type 0 where
+pub record TookReport (plan : Ports) (capacities : List ℕ) (rans : List Ran) (rounds : List Round) (held held' : Option (List ℕ)) : Type 0 where
   pub text : List ℕ
-  pub report : IsReport plan rans rounds text
+  pub report : IsReport plan capacities rans rounds text
   pub took : Takes held text held'
 
 -- the sink took a front of the report of these rounds
-pub record TookFront (plan : Ports) (rans : List Ran) (rounds : List Round) (held held' : Option (List ℕ)) : Type 0 where
+pub record TookFront (plan : Ports) (capacities : List ℕ) (rans : List Ran) (rounds : List Round) (held held' : Option (List ℕ)) : Type 0 where
   pub text : List ℕ
-  pub report : IsReport plan rans rounds text
+  pub report : IsReport plan capacities rans rounds text
   pub took : TakesFront held text held'
 
 -- the log is full: an event of the round that did not end needs more places than are left; and so the places, 2 more and one for each key that was written are more than the log has; in the first round each key that was written has a chip call or waits, so twice the writes and 2 more are
@@ -57,15 +57,15 @@ pub record HasEnded (sent : List Sent) (calls : List (Call Rid)) (log : History)
 -- what the status says of the rounds that ended, of the log's places, and of what the sink took: the whole report where all rounds ended, where the chip failed in the last that ended, and where the log is full; a front of it where the sink failed; a front of that of some of the rounds where memory was refused
 abbrev pub IsReported : Status → Ports → List ℕ → List Round → List Ran → List Sent → List (Call Rid) → History → ChipState → Option (List ℕ) → Option (List ℕ) → Type 0
 IsReported status.Done plan capacities rounds rans sent calls log chip held held' =
-    HasEnded sent calls log chip × (length rans ≡ length rounds) × (is_suspect log.marks ≡ false) × TookReport plan rans rounds held held'
+    HasEnded sent calls log chip × (length rans ≡ length rounds) × (is_suspect log.marks ≡ false) × TookReport plan capacities rans rounds held held'
 IsReported status.ChipFault plan capacities rounds rans sent calls log chip held held' =
-    HasEnded sent calls log chip × (is_suspect log.marks ≡ true) × (0 < chip.faults) × TookReport plan rans rounds held held'
+    HasEnded sent calls log chip × (is_suspect log.marks ≡ true) × (0 < chip.faults) × TookReport plan capacities rans rounds held held'
 IsReported status.WriteFault plan capacities rounds rans sent calls log chip held held' =
-    HasEnded sent calls log chip × TookFront plan rans rounds held held'
+    HasEnded sent calls log chip × TookFront plan capacities rans rounds held held'
 IsReported status.LogFull plan capacities rounds rans sent calls log chip held held' =
-    HasNoPlace plan capacities rounds rans sent log chip × TookReport plan rans rounds held held'
+    HasNoPlace plan capacities rounds rans sent log chip × TookReport plan capacities rans rounds held held'
 IsReported status.OutOfMemory plan capacities rounds rans sent calls log chip held held' =
-    (told : List Ran) × (untold : List Ran) × (rans ≡ told ++ untold) × TookFront plan told rounds held held'
+    (told : List Ran) × (untold : List Ran) × (rans ≡ told ++ untold) × TookFront plan capacities told rounds held held'
 IsReported _ plan capacities rounds rans sent calls log chip held held' = ⊥
 
 -- a session over rounds: every chip call was legal, every mark is true and counts no fewer writes and calls than the mark before it and no more than there are, the writes taken are those of the rounds in order and each once, the ends of rounds rise, and the sink took what the status says of the report

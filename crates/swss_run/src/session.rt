@@ -7,6 +7,7 @@ ghost use Rattle.orch_core.specs.State.{new_state};
 ghost use Rattle.swss_run.specs.Run.{ends_early};
 ghost use Rattle.std.specs.List.{list_all};
 ghost use Rattle.sai_chip.specs.Replay.{IsReplayOf};
+ghost use Rattle.swss_report.specs.Ended.{ended_round};
 ghost use Rattle.swss_script.specs.Stage.{is_built_round};
 ghost use Rattle.swss_run.specs.Running.{IsReady, IsRoundRun, IsWritten, round_ended};
 ghost use Rattle.swss_run.specs.Session.{IsSession, log_limit};
@@ -82,10 +83,12 @@ fn run_round<K: Sink>(
                 plan: core.plan(),
                 number,
                 marks: &core.log().marks()[before..],
+                taken: core.log().taken().len() as u64,
                 rows: core.rows(),
+                chip,
                 shows: shows.items(),
             };
-            write_lines(alloc, &end, chip, replay, ended, sink)
+            write_lines(alloc, &end, replay, ended, sink)
         }
         Err(status) => status,
     }
@@ -107,16 +110,15 @@ fn round_ended(settled: Result<Settled, OutOfMemory>) -> Result<Status, Status>
 fn write_lines<K: Sink>(
     alloc: Global,
     end: &RoundEnd<'_>,
-    chip: &SimChip,
     replay: &mut Replay,
     ended: Status,
     sink: &mut K,
 ) -> Status
-    requires follows { IsReplayOf replay.old chip.now.chip.effects }
+    requires follows { IsReplayOf replay.old (ended_round end.now).effects }
     ensures counts { K.faults sink.old ≤ K.faults sink.new }
-    ensures written { IsWritten (record { plan = end.now.plan.now; number = end.now.number; marks = end.now.marks.now; rows = end.now.rows.now; objects = chip.now.chip.objects; effects = chip.now.chip.effects; before = replay.old.at }) end.now.shows.now ended (K.holds sink.old) (K.faults sink.old) result replay.new (K.holds sink.new) (K.faults sink.new) }
+    ensures written { IsWritten (ended_round end.now) replay.old.at end.now.shows.now ended (K.holds sink.old) (K.faults sink.old) result replay.new (K.holds sink.new) (K.faults sink.new) }
 {
-    match round_lines(alloc, end, chip, replay) {
+    match round_lines(alloc, end, replay) {
         Ok(lines) => match write_all(sink, &lines) {
             Output::Written => ended,
             Output::Failed => Status::WriteFault,

@@ -57,15 +57,16 @@ returns-clause-run g c =
     run-stopped c.args.round c.args.core.now c.args.chip.now c.args.replay.now c.requires.ready c.requires.built c.take_round.new.core t.0 t.1.0 t.1.1 t.1.2 c.settle-settled.new.self c.settle-settled.new.chip c.settle-settled.ensures.kept c.settle-settled.ensures.same c.settle-settled.ensures.sync c.settle-settled.ensures.grown c.settle-settled.result c.in-Err.status (sym c.round_ended.ensures ∙ c.in-Err.is) c.settle-settled.ensures.ended c.args.number (g.K.Sink.holds c.args.sink.now) (g.K.Sink.faults c.args.sink.now) c.args.replay.now
 
 -- the lines that were asked for, said in other words
-written_as : (p p' : Ports) (n : ℕ) (ms ms' : List Mark) (r r' : Rows) (o : Objects) (e : List (Call Rid)) (b : ℕ) (shows shows' : List Show) (ended : Status) (held : Option (List ℕ)) (faults : ℕ) (result : Status) (replay : Replayed) (held' : Option (List ℕ)) (faults' : ℕ)
-    → p ≡ p' → ms ≡ ms' → r ≡ r' → shows ≡ shows'
-    → IsWritten (record { plan = p; number = n; marks = ms; rows = r; objects = o; effects = e; before = b }) shows ended held faults result replay held' faults'
-    → IsWritten (record { plan = p'; number = n; marks = ms'; rows = r'; objects = o; effects = e; before = b }) shows' ended held faults result replay held' faults'
-written_as p p' n ms ms' r r' o e b shows shows' ended held faults result replay held' faults' plans marks rows same written =
-    subst (λ x. IsWritten (record { plan = x; number = n; marks = ms'; rows = r'; objects = o; effects = e; before = b }) shows' ended held faults result replay held' faults') plans
-    (subst (λ x. IsWritten (record { plan = p; number = n; marks = x; rows = r'; objects = o; effects = e; before = b }) shows' ended held faults result replay held' faults') marks
-    (subst (λ x. IsWritten (record { plan = p; number = n; marks = ms; rows = x; objects = o; effects = e; before = b }) shows' ended held faults result replay held' faults') rows
-    (subst (λ x. IsWritten (record { plan = p; number = n; marks = ms; rows = r; objects = o; effects = e; before = b }) x ended held faults result replay held' faults') same written)))
+written_as : (p p' : Ports) (n : ℕ) (ms ms' : List Mark) (t t' : ℕ) (r r' : Rows) (c : List ℕ) (o : Objects) (e : List (Call Rid)) (b : ℕ) (shows shows' : List Show) (ended : Status) (held : Option (List ℕ)) (faults : ℕ) (result : Status) (replay : Replayed) (held' : Option (List ℕ)) (faults' : ℕ)
+    → p ≡ p' → ms ≡ ms' → t ≡ t' → r ≡ r' → shows ≡ shows'
+    → IsWritten (record { plan = p; number = n; marks = ms; taken = t; rows = r; capacities = c; objects = o; effects = e }) b shows ended held faults result replay held' faults'
+    → IsWritten (record { plan = p'; number = n; marks = ms'; taken = t'; rows = r'; capacities = c; objects = o; effects = e }) b shows' ended held faults result replay held' faults'
+written_as p p' n ms ms' t t' r r' c o e b shows shows' ended held faults result replay held' faults' plans marks taken rows same written =
+    subst (λ x. IsWritten (record { plan = x; number = n; marks = ms'; taken = t'; rows = r'; capacities = c; objects = o; effects = e }) b shows' ended held faults result replay held' faults') plans
+    (subst (λ x. IsWritten (record { plan = p; number = n; marks = x; taken = t'; rows = r'; capacities = c; objects = o; effects = e }) b shows' ended held faults result replay held' faults') marks
+    (subst (λ x. IsWritten (record { plan = p; number = n; marks = ms; taken = x; rows = r'; capacities = c; objects = o; effects = e }) b shows' ended held faults result replay held' faults') taken
+    (subst (λ x. IsWritten (record { plan = p; number = n; marks = ms; taken = t; rows = x; capacities = c; objects = o; effects = e }) b shows' ended held faults result replay held' faults') rows
+    (subst (λ x. IsWritten (record { plan = p; number = n; marks = ms; taken = t; rows = r; capacities = c; objects = o; effects = e }) b x ended held faults result replay held' faults') same written))))
 
 -- the marks behind so many, as a slice has them
 marks_behind : (before before' : List Mark) (n : ℕ) (ms ms' : List Mark) → n ≡ length before → before ≡ before' → ms ≡ ms' → take (length ms - n) (drop n ms) ≡ drop (length before') ms'
@@ -77,7 +78,7 @@ returns-in-Ok-clause-run g c =
     let t = (took_as c.effects.result (length c.args.chip.now.chip.effects) (writes_in c.args.round.sections) c.args.core.now c.take_round.new.core c.effects.ensures c.in-All.is c.take_round.ensures) in
     let marks : c.marks-before.result.now ≡ c.args.core.now.log.marks = search rules in
     run-marked c.args.round c.args.core.now c.args.chip.now c.args.replay.now c.requires.ready c.requires.built c.take_round.new.core t.0 t.1.0 t.1.1 t.1.2 c.settle-settled.new.self c.settle-settled.new.chip c.settle-settled.ensures.kept c.settle-settled.ensures.same c.settle-settled.ensures.sync c.settle-settled.ensures.grown c.settle-settled.result c.in-Ok.ended (sym c.round_ended.ensures ∙ c.in-Ok.is) c.settle-settled.ensures.ended c.args.number (g.K.Sink.holds c.args.sink.now) (g.K.Sink.holds c.write_lines.new.sink) (g.K.Sink.faults c.args.sink.now) (g.K.Sink.faults c.write_lines.new.sink) c.write_lines.result c.write_lines.new.replay c.requires.counted
-    (written_as c.plan.result.now c.settle-settled.new.self.plan c.args.number (take (length c.marks.result.now - length c.marks-before.result.now) (drop (length c.marks-before.result.now) c.marks.result.now)) (drop (length c.args.core.now.log.marks) c.settle-settled.new.self.log.marks) c.rows.result.now c.settle-settled.new.self.rows c.settle-settled.new.chip.chip.objects c.settle-settled.new.chip.chip.effects c.args.replay.now.at c.items.result.now c.args.round.shows c.in-Ok.ended (g.K.Sink.holds c.args.sink.now) (g.K.Sink.faults c.args.sink.now) c.write_lines.result c.write_lines.new.replay (g.K.Sink.holds c.write_lines.new.sink) (g.K.Sink.faults c.write_lines.new.sink)
+    (written_as c.plan.result.now c.settle-settled.new.self.plan c.args.number (take (length c.marks.result.now - length c.marks-before.result.now) (drop (length c.marks-before.result.now) c.marks.result.now)) (drop (length c.args.core.now.log.marks) c.settle-settled.new.self.log.marks) (length c.taken.result.now) (length c.settle-settled.new.self.log.taken) c.rows.result.now c.settle-settled.new.self.rows c.settle-settled.new.chip.chip.capacities c.settle-settled.new.chip.chip.objects c.settle-settled.new.chip.chip.effects c.args.replay.now.at c.items.result.now c.args.round.shows c.in-Ok.ended (g.K.Sink.holds c.args.sink.now) (g.K.Sink.faults c.args.sink.now) c.write_lines.result c.write_lines.new.replay (g.K.Sink.holds c.write_lines.new.sink) (g.K.Sink.faults c.write_lines.new.sink)
     (search rules)
     (marks_behind c.marks-before.result.now c.args.core.now.log.marks (length c.marks-before.result.now) c.marks.result.now c.settle-settled.new.self.log.marks refl marks (search rules))
-    (search rules) c.items.ensures c.write_lines.ensures.written)
+    (search rules) (search rules) c.items.ensures c.write_lines.ensures.written)
