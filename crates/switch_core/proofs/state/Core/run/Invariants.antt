@@ -7,7 +7,7 @@ use Rattle.switch_core.proofs.state.Core.run.Given as goal
 
 -- answers alone were given
 abbrev pub invariant-loop-self : goal.invariant-loop-self
-invariant-loop-self g l = (s : LoggedService) → IsSessionOf l.fn.self (g.C.Chip.state l.fn.chip) s → RunsWhole s l.fn.worker l.fn.self l.self (g.C.Chip.state l.chip)
+invariant-loop-self g l = (s : LoggedService) → IsSessionOf l.fn.self (g.C.Chip.state l.fn.chip) s → RunsWhole s l.fn.worker l.fn.self (g.C.Chip.state l.fn.chip) l.self (g.C.Chip.state l.chip)
 
 -- each takes a place of the log
 abbrev pub decreases-loop-self : goal.decreases-loop-self
