@@ -1,0 +1,4 @@
+pub mod Outcomes
+pub mod Taking
+pub mod Marked
+pub mod Settled
