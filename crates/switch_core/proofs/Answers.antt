@@ -89,6 +89,7 @@ module _ (s : LoggedService) (w : ℕ) (c : CoreState) (chip : ChipState) (is : 
       let behind = one.1 in
       record {
         makes = failed ends calls;
+        tables = refl;
         keeps = keeps sync.Failed calls;
         marks = record {
           before = chip.faults;
@@ -185,6 +186,7 @@ module _ (s : LoggedService) (w : ℕ) (c : CoreState) (b : BoardState) (chip : 
   fault_from : (ends : Bool) (c' : CoreState) (chip' : ChipState) → FaultsCall ends s with chip c' chip' → FaultsCall ends s c chip c' chip'
   fault_from ends c' chip' x = record {
     makes = makes_from c' chip' x.makes;
+    tables = x.tables;
     keeps = x.keeps;
     marks = record { before = x.marks.before; risen = x.marks.risen; more = x.marks.more; log = x.marks.log; warm = x.marks.warm; places = x.marks.places; few = x.marks.few };
   }

@@ -92,7 +92,7 @@ module _ (s : LoggedService) (c : CoreState) (first : ChipState) (is : IsSession
 
   pub settles_all : (r : Result Settled OutOfMemory) (c' : CoreState) (chip' : ChipState) → SettlesKeys y.later c2 chip1 r c' chip' → Settles s c first r c' chip'
   settles_all (Ok settled.Settled) c' chip' m = whole c' chip' m
-  settles_all (Ok settled.Faulted) c' chip' h = faulted_more s y.later c c2 chip1 leads first is kept_log keeps c' chip' h
+  settles_all (Ok settled.Faulted) c' chip' h = (faulted_more s y.later c c2 chip1 leads first is kept_log keeps (λ none. rest.popped) c' chip' h, λ free. h.popped rest.popped)
   settles_all (Ok settled.LogFull) c' chip' (inl h) = inl (full_more s y.later c c2 chip1 leads first is kept_log keeps c' chip' h)
   settles_all (Ok settled.LogFull) c' chip' (inr h) = inr (record {
     later = h.later;

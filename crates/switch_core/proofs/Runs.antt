@@ -1,5 +1,5 @@
 -- answers and pops, one after the other
-use Rattle.std.proofs.Common.{◌≡◌, ◌+◌, ◌<◌, ◌==◌, ◌∷◌, ◌++◌, ◌∙◌, ℕ, Bool, true, false, List, [], length, None, Result, Ok, Err, refl, sym, ap, subst, arith}
+use Rattle.std.proofs.Common.{◌≡◌, ◌+◌, ◌<◌, ◌≤◌, ◌==◌, ◌∷◌, ◌++◌, ◌∙◌, ◌⊎◌, inl, inr, ℕ, Bool, true, false, List, [], length, Option, None, Some, Result, Ok, Err, refl, sym, ap, subst, arith}
 use Rattle.std.proofs.lemmas.List.{length-append}
 use Rattle.std.specs.Option.{IsSome}
 use Rattle.std.specs.Result.{IsErr}
@@ -72,8 +72,8 @@ module _ (s t : LoggedService) (c d : CoreState) (chip : ChipState) (leads : Lea
           few = y.few;
         }
 
-    pub faulted_more : (e : CoreState) (chip' : ChipState) → StopsFaulted t d chip e chip' → StopsFaulted s c first e chip'
-    faulted_more e chip' y = record { steps = all_more e chip' y.steps; marks = marks_more e chip' y.marks; keeps = keeps_on first chip chip' keeps y.keeps }
+    pub faulted_more : (c.tables.waiting ≡ [] → d.tables.waiting ≡ []) → (e : CoreState) (chip' : ChipState) → StopsFaulted t d chip e chip' → StopsFaulted s c first e chip'
+    faulted_more popped e chip' y = record { steps = all_more e chip' y.steps; marks = marks_more e chip' y.marks; popped = λ none. y.popped (popped none); keeps = keeps_on first chip chip' keeps y.keeps }
 
     pub full_more : (e : CoreState) (chip' : ChipState) → StopsFull t d chip e chip' → StopsFull s c first e chip'
     full_more e chip' y = record { steps = all_more e chip' y.steps; warm = y.warm; log = y.log ∙ same; flying = y.flying; full = y.full; keeps = keeps_on first chip chip' keeps y.keeps }
@@ -88,7 +88,7 @@ log_same c d first chip s t is there same = sym there.log ∙ same ∙ is.log
 -- the answer of a call that stops
 module _ (s : LoggedService) (w : ℕ) (c : CoreState) (chip : ChipState) (at : c.warm ≡ warm.Reconciled) (d : CoreState) (chip' : ChipState) where
   pub stop_faulted : Answered true s w c chip (Ok step.Faulted) d chip' → StopsFaulted s c chip d chip'
-  stop_faulted y = record { steps = one_step c d chip' s y.makes; marks = y.marks; keeps = y.keeps }
+  stop_faulted y = record { steps = one_step c d chip' s y.makes; marks = y.marks; popped = λ none. ap (λ t. t.waiting) y.tables ∙ none; keeps = y.keeps }
 
   pub stop_full : IsSessionOf c chip s → w < 4 → IsSome (flown_at c.board w) → Answered true s w c chip (Ok step.LogFull) d chip' → StopsFull s c chip d chip'
   stop_full is less flying y =
@@ -168,10 +168,13 @@ module _ (s : LoggedService) (c : CoreState) (first : ChipState) (is : IsSession
   same : d.log ≡ c.log
   same = log_same c d first chip s x.later is x.leads.stands x.log
 
-  pub all_stops : (r : Ran) → (r ≡ ran.Whole → ⊥) → (e : CoreState) (chip' : ChipState) → RunsOut x.later w d chip (Ok r) e chip' → RunsAll s c first (Ok r) e chip'
-  all_stops ran.Whole not e chip' h = absurd (not refl)
-  all_stops ran.Faulted not e chip' h = faulted_more s x.later c d chip x.leads first is same keeps e chip' h
-  all_stops ran.LogFull not e chip' h = full_more s x.later c d chip x.leads first is same keeps e chip' h
+  pub all_stops : (r : Ran) → (r ≡ ran.Whole → ⊥) → IsSameBeside c d → w < 4 → flown_at d.board w ≡ flown_at c.board w → (e : CoreState) (chip' : ChipState) → RunsOut x.later w d chip (Ok r) e chip' → RunsAll s c first (Ok r) e chip'
+  all_stops ran.Whole not beside less still e chip' h = absurd (not refl)
+  all_stops ran.Faulted not beside less still e chip' h = (
+    faulted_more s x.later c d chip x.leads first is same keeps (λ none. ap (λ t. t.waiting) beside.tables ∙ none) e chip' h.0,
+    (w, less, subst (λ o. IsSome o) still h.1),
+  )
+  all_stops ran.LogFull not beside less still e chip' h = full_more s x.later c d chip x.leads first is same keeps e chip' h
 
   pub all_short : (e : CoreState) (chip' : ChipState) → StopsShort x.later d chip e chip' → StopsShort s c first e chip'
   all_short e chip' h = short_more s x.later c d chip x.leads first is same keeps e chip' h
@@ -182,6 +185,19 @@ free_on w b b' free others own v less = by (v == w) refl
     by : (same : Bool) → (v == w) ≡ same → flown_at b' v ≡ None
     by true h = ap (flown_at b') (eqb-true v w h) ∙ own
     by false h = let apart : v ≡ w → ⊥ = λ e. false≢true (sym h ∙ eq-eqb v w e) in others v apart ∙ free v (omega (arith, less, apart))
+
+-- a worker that has something under way had it from the first, or at once
+pub flew : (w : ℕ) (c d : CoreState) → (d ≡ c) ⊎ IsSome (flown_at c.board w) → IsSome (flown_at d.board w) → IsSome (flown_at c.board w)
+flew w c d (inl same) h = subst (λ (z : CoreState). IsSome (flown_at z.board w)) same h
+flew w c d (inr had) h = had
+
+pub still_on : (w : ℕ) (b0 b b' : BoardState) → ((v : ℕ) → w ≤ v → flown_at b v ≡ flown_at b0 v) → KeepsFlights w b b' → (v : ℕ) → w + 1 ≤ v → flown_at b' v ≡ flown_at b0 v
+still_on w b0 b b' still others v more = others v (λ e. absurd (omega (arith, more, e))) ∙ still v (omega (arith, more))
+
+-- nothing under way, and something
+pub none_and_some : {X : Type 0} (o : Option X) → o ≡ None → IsSome o → ⊥
+none_and_some None e h = false≢true h
+none_and_some (Some x) e h = cc
 
 -- ---- after all pops
 

@@ -172,7 +172,7 @@ module _ (s : LoggedService) (c : CoreState) (first : ChipState) (is : IsSession
 
   pub turn_stops : (k : Key) (r : Ran) → (r ≡ ran.Whole → ⊥) → (e : CoreState) (chip' : ChipState) → Brings x.later k d chip (Ok r) e chip' → MakesTurn s c first (Ok r) e chip'
   turn_stops k ran.Whole not e chip' h = absurd (not refl)
-  turn_stops k ran.Faulted not e chip' h = faulted_more s x.later c d chip x.leads first is same keeps e chip' h
+  turn_stops k ran.Faulted not e chip' h = faulted_more s x.later c d chip x.leads first is same keeps (λ none. x.at_rest.popped) e chip' h
   turn_stops k ran.LogFull not e chip' h = full_more s x.later c d chip x.leads first is same keeps e chip' h
 
   pub turn_short : (e : CoreState) (chip' : ChipState) → StopsShort x.later d chip e chip' → StopsShort s c first e chip'
@@ -184,7 +184,7 @@ module _ (n : ℕ) (s : LoggedService) (c : CoreState) (first : ChipState) (is :
   same_log = log_same c d first chip s x.later is x.leads.stands x.log
 
   pub turns_faulted : StopsFaulted x.later d chip e chip' → StopsFaulted s c first e chip'
-  turns_faulted h = faulted_more s x.later c d chip x.leads first is same_log keeps e chip' h
+  turns_faulted h = faulted_more s x.later c d chip x.leads first is same_log keeps (λ none. x.at_rest.popped) e chip' h
 
   pub turns_full : StopsFull x.later d chip e chip' → StopsFull s c first e chip'
   turns_full h = full_more s x.later c d chip x.leads first is same_log keeps e chip' h
@@ -202,7 +202,7 @@ module _ (s : LoggedService) (k : Key) (c : CoreState) (chip : ChipState) (is : 
 
   pub begun_runs : (r : Result Ran OutOfMemory) → RunsOut x.makes.later 0 mid chip r d chip' → Brings s k c chip r d chip'
   begun_runs (Ok ran.Whole) h = Begun mid x h.0 h.1
-  begun_runs (Ok ran.Faulted) h = faulted_more s x.makes.later c mid chip leads chip is log_kept (keeps_itself chip) d chip' h
+  begun_runs (Ok ran.Faulted) h = faulted_more s x.makes.later c mid chip leads chip is log_kept (keeps_itself chip) (λ none. ap (λ (z : CoreState). z.tables.waiting) x.is ∙ none) d chip' h.0
   begun_runs (Ok ran.LogFull) h = full_more s x.makes.later c mid chip leads chip is log_kept (keeps_itself chip) d chip' h
   begun_runs (Err e) h = short_more s x.makes.later c mid chip leads chip is log_kept (keeps_itself chip) d chip' h
 

@@ -120,10 +120,11 @@ pub record AnswersCall (s : LoggedService) (w : ℕ) (c : CoreState) (chip : Chi
   pub room : IsFullFor c (length chip.effects) 2 → ⊥
   pub keeps : KeepsChip chip chip'
 
--- a fault of the call is one step too
+-- a fault of the call is one step too, and leaves the tables as they were
 pub record FaultsCall (ends : Bool) (s : LoggedService) (c : CoreState) (chip : ChipState) (c' : CoreState) (chip' : ChipState) : Type 0 where
   pub makes : MakesOne c s c' chip'
   pub marks : MarksFault ends c chip c' chip'
+  pub tables : c'.tables ≡ c.tables
   pub keeps : KeepsChip chip chip'
 
 -- what the call came to: one step; a fault, which is marked; no places in the log, and then nothing was done; or no call, after want of memory

@@ -29,10 +29,11 @@ use Rattle.switch_core.specs.declared.answer.Turned.TheVariants as turned
 
 -- ---- where it stops
 
--- steps were made, and then a call failed, which is marked, and the round ends at the mark
+-- steps were made, and then a call failed, which is marked, and the round ends at the mark; where no write waited before, none waits then
 pub record StopsFaulted (s : LoggedService) (c : CoreState) (chip : ChipState) (c' : CoreState) (chip' : ChipState) : Type 0 where
   pub steps : MakesSome c s c' chip'
   pub marks : MarksFault true c chip c' chip'
+  pub popped : c.tables.waiting ≡ [] → c'.tables.waiting ≡ []
   pub keeps : KeepsChip chip chip'
 
 -- steps were made, and then the call that was due for a worker had no places in the log
@@ -62,13 +63,13 @@ pub record RunsWhole (s : LoggedService) (w : ℕ) (c : CoreState) (chip : ChipS
 
 abbrev pub RunsOut : LoggedService → ℕ → CoreState → ChipState → Result Ran OutOfMemory → CoreState → ChipState → Type 0
 RunsOut s w c chip (Ok ran.Whole) c' chip' = RunsWhole s w c chip c' chip' × (flown_at c'.board w ≡ None)
-RunsOut s w c chip (Ok ran.Faulted) c' chip' = StopsFaulted s c chip c' chip'
+RunsOut s w c chip (Ok ran.Faulted) c' chip' = StopsFaulted s c chip c' chip' × IsSome (flown_at c.board w)
 RunsOut s w c chip (Ok ran.LogFull) c' chip' = StopsFull s c chip c' chip'
 RunsOut s w c chip (Err e) c' chip' = StopsShort s c chip c' chip'
 
 abbrev pub RunsAll : LoggedService → CoreState → ChipState → Result Ran OutOfMemory → CoreState → ChipState → Type 0
 RunsAll s c chip (Ok ran.Whole) c' chip' = RunsTo c s c' chip' × IsSameBeside c c' × ((v : ℕ) → v < 4 → flown_at c'.board v ≡ None) × KeepsChip chip chip'
-RunsAll s c chip (Ok ran.Faulted) c' chip' = StopsFaulted s c chip c' chip'
+RunsAll s c chip (Ok ran.Faulted) c' chip' = StopsFaulted s c chip c' chip' × ((v : ℕ) × (v < 4) × IsSome (flown_at c.board v))
 RunsAll s c chip (Ok ran.LogFull) c' chip' = StopsFull s c chip c' chip'
 RunsAll s c chip (Err e) c' chip' = StopsShort s c chip c' chip'
 
@@ -127,10 +128,10 @@ pub record SettlesWhole (s : LoggedService) (c : CoreState) (chip : ChipState) (
   pub places : size_beside c' (length chip'.effects) ≤ c'.limit
   pub keeps : KeepsChip chip chip'
 
--- a settling ends at its mark; a call fails, and its mark ends it; the log has no place for the call that is due or for the mark; or memory is refused, and then whole events were made
+-- a settling ends at its mark; a call fails, and its mark ends it, and where no worker had anything under way no write waits any more; the log has no place for the call that is due or for the mark; or memory is refused, and then whole events were made
 abbrev pub Settles : LoggedService → CoreState → ChipState → Result Settled OutOfMemory → CoreState → ChipState → Type 0
 Settles s c chip (Ok settled.Settled) c' chip' = SettlesWhole s c chip c' chip'
-Settles s c chip (Ok settled.Faulted) c' chip' = StopsFaulted s c chip c' chip'
+Settles s c chip (Ok settled.Faulted) c' chip' = StopsFaulted s c chip c' chip' × (((v : ℕ) → v < 4 → flown_at c.board v ≡ None) → c'.tables.waiting ≡ [])
 Settles s c chip (Ok settled.LogFull) c' chip' = StopsFull s c chip c' chip' ⊎ StopsAtMark s c chip c' chip'
 Settles s c chip (Err e) c' chip' = StopsShort s c chip c' chip'
 

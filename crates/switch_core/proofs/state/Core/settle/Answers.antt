@@ -1,8 +1,14 @@
 use Rattle.std.proofs.Common.{◌∙◌, Ok, ap, subst}
+use Rattle.flight_board.specs.Board.{flown_at}
 use Rattle.switch_core.specs.Settled.{Pops, RunsAll}
 use Rattle.switch_core.proofs.Ends.{settles_all}
-use Rattle.switch_core.proofs.Runs.{rest_popped, settles_err, short_popped}
+use Rattle.switch_core.proofs.Runs.{none_and_some, rest_popped, settles_err, short_popped}
 use Rattle.switch_core.proofs.state.Core.settle.Goals as goal
+
+pub returns-in-Faulted : goal.returns-in-Faulted
+returns-in-Faulted g c = λ s is.
+    let x = subst (λ r. RunsAll s c.args.self.now (g.C.Chip.state c.args.chip.now) r c.run_all.new.self (g.C.Chip.state c.run_all.new.chip)) (c.in_ok-run_all.was ∙ ap Ok c.in-Faulted.is) (c.run_all.ensures s is) in
+    (x.0, λ free. absurd (none_and_some (flown_at c.args.self.now.board x.1.0) (free x.1.0 x.1.1) x.1.2))
 
 pub returns-in_err-pop_all : goal.returns-in_err-pop_all
 returns-in_err-pop_all g c = λ s is.
