@@ -19,6 +19,7 @@ use Rattle.switch_model.specs.Marks.{sent_writes}
 use Rattle.switch_model.specs.Sound.{is_fault, is_suspect}
 use Rattle.switch_model.specs.declared.mark.Mark.{Mark}
 use Rattle.switch_model.specs.declared.mark.MarkEvent.TheVariants as event
+use Rattle.machine_laws.specs.Order.{IsSettledMark}
 use Rattle.flight_board.specs.Board.{BoardState, flown_at}
 use Rattle.restart_laws.specs.Logged.{LoggedService}
 use Rattle.switch_machine.specs.Next.{MustWait}
@@ -29,11 +30,12 @@ use Rattle.session_laws.specs.Core.{CoreState, mark_at, size_beside}
 use Rattle.session_laws.specs.Events.{MakesSome}
 use Rattle.session_laws.proofs.Faulting.{listed_more}
 use Rattle.settling_laws.proofs.Leading.{leads_some}
-use Rattle.round_laws.specs.Between.{IsBetweenRounds, IsInRound}
+use Rattle.round_laws.specs.Between.{IsBetweenRounds, IsInRound, round_from}
 use Rattle.round_laws.specs.Named.{keys_named}
 use Rattle.round_laws.specs.Sessions.{InSession}
 use Rattle.round_laws.proofs.Awaited.{call-awaited, keys-awaited, ops-few}
 use Rattle.round_laws.proofs.Between.{round-begins}
+use Rattle.round_laws.proofs.Drained.{round-drained}
 use Rattle.round_laws.proofs.Ending.{round-ends}
 use Rattle.round_laws.proofs.Growing.{effects-grow, marks-grow}
 use Rattle.round_laws.proofs.Sessions.{known-then, leads-on, objects-left, sized, some-on}
@@ -52,6 +54,7 @@ use Rattle.swss_run.specs.Rounds.{Ran, is_settling}
 use Rattle.swss_run.specs.Running.{EndsRound, HasLines, IsReady, IsRoundRun, IsWritten, KeepsPlan, StopsRound, round_ended, with_round}
 use Rattle.swss_run.specs.Running.IsWritten.{Whole, Failed, Wanting, Unwritten}
 use Rattle.swss_run.specs.Taking.{Counts, HaveReadKeys, IsRoundTook, with_all}
+use Rattle.swss_run.specs.Turned.{EndsTurned}
 use Rattle.swss_run.specs.declared.status.Status.{Status}
 use Rattle.swss_run.specs.declared.status.Status.TheVariants as status
 use Rattle.swss_run.specs.declared.taking.Taken.TheVariants as taken
@@ -237,7 +240,7 @@ module _ (round : Round) (old : CoreState) (sim : Sim) (replay : Replayed) (read
         }
 
         -- a mark was made
-        module _ (mark : Mark) (kind : is_settling mark.event ≡ true) (counts_sent : mark.taken ≡ length (old.log.taken ++ sent)) (counts_calls : mark.effects ≡ length (sim.chip.effects ++ calls)) (log : new.log ≡ with_round old.log sent mark) (popped : new.tables.waiting ≡ []) (fits : log_size new.log (length sim'.chip.effects) ≤ new.limit) (failed : is_fault mark.event ≡ true → log_size new.log sim'.chip.before_fault + 1 ≤ new.limit) where
+        module _ (mark : Mark) (kind : is_settling mark.event ≡ true) (counts_sent : mark.taken ≡ length (old.log.taken ++ sent)) (counts_calls : mark.effects ≡ length (sim.chip.effects ++ calls)) (log : new.log ≡ with_round old.log sent mark) (turned : IsSettledMark mark.event → EndsTurned old.board.plan old.sync.capacities (round_from old sim.chip sent calls mark)) (popped : new.tables.waiting ≡ []) (fits : log_size new.log (length sim'.chip.effects) ≤ new.limit) (failed : is_fault mark.event ≡ true → log_size new.log sim'.chip.before_fault + 1 ≤ new.limit) where
           abbrev ran : Ran
           ran = record { marks = mark ∷ []; sent = sent; calls = calls }
 
@@ -254,6 +257,7 @@ module _ (round : Round) (old : CoreState) (sim : Sim) (replay : Replayed) (read
             effects = counts_calls;
             log = log;
             calls = grown;
+            turned = λ m is settled. let same_mark : mark ≡ m = cc in subst (λ (x : Mark). IsSettledMark x.event → EndsTurned old.board.plan old.sync.capacities (round_from old sim.chip sent calls x)) same_mark turned settled;
             within = within;
             same = plan-new;
             places = fits;
@@ -319,7 +323,9 @@ module _ (round : Round) (old : CoreState) (sim : Sim) (replay : Replayed) (read
             let size = sized new sim'.chip ends.later.within in
             let places = e.places in
             run-done ends.later.within (record { plan = leads.plan; capacities = leads.capacities; limit = leads.limit }) ends.calls ends.effects
-            ends.mark (ap is_settling ends.made.event_is) ends.made.counts.taken ends.made.counts.effects (ends.log ∙ with-round ends.mark) e.settles.popped
+            ends.mark (ap is_settling ends.made.event_is) ends.made.counts.taken ends.made.counts.effects (ends.log ∙ with-round ends.mark)
+            (λ settled. record { made = ends.made; quiet = ends.quiet; drains = λ from least. round-drained old.board.plan old.sync.capacities (round_from old sim.chip sent ends.calls ends.mark) ends.made from least })
+            e.settles.popped
             (omega (arith, size, places))
             (λ bad. absurd (no_fault (sym bad ∙ ap is_fault ends.made.event_is)))
             number counted rising held held' faults faults' result replay' ends.later written
@@ -336,6 +342,7 @@ module _ (round : Round) (old : CoreState) (sim : Sim) (replay : Replayed) (read
             run-failed (some-on mid new sim.chip sim'.chip in-all.within stops.steps).0 (some-same stops.steps) grown.0 grown.1
             mark refl (ap (λ (h : History). length h.taken) in-all.log) (ap length grown.1)
             (stops.marks.log ∙ ap (λ (h : History). with_end (with_mark h mark)) in-all.log ∙ with-round mark)
+            (λ settled. absurd settled)
             (e.1 free-all)
             (fits-faulted mid new sim.chip sim'.chip in-all.within.session in-all.within stops)
             (λ bad. places-faulted mid new sim.chip sim'.chip in-all.within.session in-all.within stops)

@@ -15,8 +15,9 @@ use Rattle.sai_chip.specs.Sim.{Sim}
 use Rattle.switch_model.specs.History.{History, log_size, no_history}
 use Rattle.switch_model.specs.Promises.{EffectsAreLegal, MarksAreTrue}
 use Rattle.switch_model.specs.Sound.{is_suspect}
+use Rattle.restart_laws.specs.Logged.{last_mark}
 use Rattle.session_laws.specs.Core.{CoreState, new_core}
-use Rattle.round_laws.specs.Between.{IsBetweenRounds}
+use Rattle.round_laws.specs.Between.{IsBetweenRounds, mark_of}
 use Rattle.round_laws.specs.Named.{keys_named}
 use Rattle.round_laws.specs.Sessions.{InSession}
 use Rattle.round_laws.proofs.Between.{between-first}
@@ -30,10 +31,11 @@ use Rattle.swss_run.specs.Output.{TakesFront}
 use Rattle.swss_run.specs.Rounds.{AreTaken, EndsAtMark, IsCut, IsReport, Ran, Rise, all_calls, all_marks, all_sent, ends_from, standing}
 use Rattle.swss_run.specs.Running.{EndsRound, HasLines, IsReady, IsRoundRun, KeepsPlan, StopsRound}
 use Rattle.swss_run.specs.Session.{HasEnded, IsReported, IsSession, TookFront, TookReport, log_limit}
+use Rattle.swss_run.specs.Turned.{AreTurned, IsTurned}
 use Rattle.swss_run.specs.declared.status.Status.{Status}
 use Rattle.swss_run.specs.declared.status.Status.TheVariants as status
 use Rattle.swss_run.proofs.Pieces.{Takes-trans}
-use Rattle.swss_run.proofs.Rounds.{at_marks-more, begin-none, calls-more, ends-more, ends-rise, marks-more, report-more, sent-more, taken-more, taken-since}
+use Rattle.swss_run.proofs.Rounds.{at_marks-more, begin-none, calls-more, ends-more, ends-rise, marks-more, report-more, sent-more, taken-more, taken-since, turned-more}
 use Rattle.swss_run.proofs.RoundRuns.{known-ready, same-trans}
 
 -- ---- what the sink took
@@ -103,6 +105,7 @@ pub record IsRunning (rounds done : List Round) (first : CoreState) (held0 : Opt
   pub cut : IsCut core.log sim.chip.effects rans [] []
   pub many : length rans ≡ length done
   pub writes : AreTaken rans rounds []
+  pub turned : AreTurned first.board.plan first.sync.capacities None [] [] rans
   pub told : TookReport first.board.plan first.sync.capacities rans rounds held0 held
   pub fits : log_size core.log (length sim.chip.effects) ≤ log_limit
 
@@ -138,16 +141,17 @@ running-none rounds first sim held replay new chip plan follows at = record {
   };
   many = refl;
   writes = none_taken rounds;
+  turned = tt;
   told = record { text = []; report = refl; took = Takes-none held };
   fits = subst (λ n. n ≤ log_limit) (sym (ap (λ (s : CoreState). log_size s.log (length sim.chip.effects)) new ∙ ap (λ (c : ChipState). log_size no_history (length c.effects)) chip)) (omega arith);
 }
 
 -- a session, from a core and a chip within one of the service
 session-from : (rounds : List Round) (ended : Status) (first core : CoreState) (chip : ChipState) (held held' : Option (List ℕ)) (rans : List Ran) (sent : List Sent) (calls : List (Call Rid))
-    → InSession core chip → KeepsPlan first core → IsCut core.log chip.effects rans sent calls → AreTaken rans rounds sent
+    → InSession core chip → KeepsPlan first core → IsCut core.log chip.effects rans sent calls → AreTaken rans rounds sent → AreTurned first.board.plan first.sync.capacities None [] [] rans
     → IsReported ended first.board.plan first.sync.capacities rounds rans sent calls core.log chip held held'
     → IsSession first.board.plan first.sync.capacities rounds ended core.log chip held held'
-session-from rounds ended first core chip held held' rans sent calls within same cut writes reported = record {
+session-from rounds ended first core chip held held' rans sent calls within same cut writes turned reported = record {
   room = within.stands.capacities ∙ same.capacities;
   clean = within.stands.clean;
   legality = subst (λ p. EffectsAreLegal p first.sync.capacities core.log.taken chip.effects) same.plan (subst (λ c. EffectsAreLegal core.board.plan c core.log.taken chip.effects) same.capacities (effects-legal core chip within));
@@ -160,6 +164,7 @@ session-from rounds ended first core chip held held' rans sent calls within same
   cut = cut;
   rise = subst (Rise 0) (sym cut.ends) (ends-rise 0 0 0 rans cut.at_marks);
   writes = writes;
+  turned = turned;
   reported = reported;
 }
 
@@ -167,7 +172,7 @@ module _ (rounds done : List Round) (first : CoreState) (held0 : Option (List �
   -- every round ended
   pub session-done : length done ≡ length rounds → IsSession first.board.plan first.sync.capacities rounds status.Done core.log sim.chip held0 held
   session-done all =
-      session-from rounds status.Done first core sim.chip held0 held running.rans [] [] running.ready.between.within running.same running.cut running.writes
+      session-from rounds status.Done first core sim.chip held0 held running.rans [] [] running.ready.between.within running.same running.cut running.writes running.turned
       (record { no_write = refl; no_call = refl; places = running.fits; fault_places = λ failed. absurd (false≢true (sym known ∙ failed)) }, running.many ∙ all, known, running.told)
     where
       known : is_suspect core.log.marks ≡ false
@@ -199,6 +204,13 @@ module _ (rounds done : List Round) (first : CoreState) (held0 : Option (List �
       taken_now : AreTaken (rans ++ ran ∷ []) rounds []
       taken_now = taken-more rans rounds ran round running.writes at_round ends.sent
 
+      turned_now : AreTurned first.board.plan first.sync.capacities None [] [] (rans ++ ran ∷ [])
+      turned_now =
+          turned-more first.board.plan first.sync.capacities None [] [] rans ran (mark_of core) core.log.taken sim.chip.effects running.turned
+          (ap (λ l. last_mark None l) running.cut.marks) (running.cut.taken ∙ append-nil (all_sent rans)) (running.cut.effects ∙ append-nil (all_calls rans))
+          (subst (λ p. IsTurned p first.sync.capacities (mark_of core) core.log.taken sim.chip.effects ran) (sym plan_is)
+          (subst (λ c. IsTurned core.board.plan c (mark_of core) core.log.taken sim.chip.effects ran) (sym capacities_are) ends.turned))
+
       same_now : KeepsPlan first new
       same_now = same-trans first core new running.same ends.same
 
@@ -215,7 +227,7 @@ module _ (rounds done : List Round) (first : CoreState) (held0 : Option (List �
       front_now lines has took = record { text = running.told.text ++ lines; report = report_now lines has; took = front-more held0 held held' running.told.text lines running.told.took took }
 
       session_now : (ended : Status) → IsReported ended first.board.plan first.sync.capacities rounds (rans ++ ran ∷ []) [] [] new.log sim'.chip held0 held' → IsSession first.board.plan first.sync.capacities rounds ended new.log sim'.chip held0 held'
-      session_now ended reported = session-from rounds ended first new sim'.chip held0 held' (rans ++ ran ∷ []) [] [] ends.within same_now cut_now taken_now reported
+      session_now ended reported = session-from rounds ended first new sim'.chip held0 held' (rans ++ ran ∷ []) [] [] ends.within same_now cut_now taken_now turned_now reported
 
       has_ended : HasEnded [] [] new.log sim'.chip
       has_ended = record { no_write = refl; no_call = refl; places = fits_now; fault_places = λ failed. subst (λ n. log_size new.log sim'.chip.before_fault + 1 ≤ n) (same_now.limit ∙ running.limit) (ends.fault_places failed) }
@@ -229,6 +241,7 @@ module _ (rounds done : List Round) (first : CoreState) (held0 : Option (List �
       cut = cut_now ran ends;
       many = length-append rans (ran ∷ []) ∙ ap (λ n. n + 1) running.many ∙ sym (length-append done (round ∷ []));
       writes = taken_now ran ends;
+      turned = turned_now ran ends;
       told = told_now ran ends lines has took;
       fits = fits_now ran ends;
     }
@@ -254,7 +267,7 @@ module _ (rounds done : List Round) (first : CoreState) (held0 : Option (List �
       same_stopped = same-trans first core new running.same stops.same
 
       session_stopped : (ended : Status) → IsReported ended first.board.plan first.sync.capacities rounds rans stops.sent stops.calls new.log sim'.chip held0 held' → IsSession first.board.plan first.sync.capacities rounds ended new.log sim'.chip held0 held'
-      session_stopped ended reported = session-from rounds ended first new sim'.chip held0 held' rans stops.sent stops.calls stops.within same_stopped cut_stopped taken_stopped reported
+      session_stopped ended reported = session-from rounds ended first new sim'.chip held0 held' rans stops.sent stops.calls stops.within same_stopped cut_stopped taken_stopped running.turned reported
 
     pub session-ended : (ended : Status) → ¬ (ended ≡ status.Done) → IsRoundRun number round core sim held faults ended new sim' replay' held' faults' → IsSession first.board.plan first.sync.capacities rounds ended new.log sim'.chip held0 held'
     session-ended status.Done other run = absurd (other refl)

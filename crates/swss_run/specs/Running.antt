@@ -11,7 +11,7 @@ use Rattle.switch_model.specs.History.{History, log_size}
 use Rattle.switch_model.specs.Sound.{is_suspect}
 use Rattle.switch_model.specs.declared.mark.Mark.{Mark}
 use Rattle.session_laws.specs.Core.{CoreState}
-use Rattle.round_laws.specs.Between.{IsBetweenRounds}
+use Rattle.round_laws.specs.Between.{IsBetweenRounds, mark_of}
 use Rattle.round_laws.specs.Named.{keys_named}
 use Rattle.round_laws.specs.Sessions.{InSession}
 use Rattle.switch_core.specs.declared.answer.Settled.{Settled}
@@ -24,6 +24,7 @@ use Rattle.swss_report.specs.Round.{IsRoundText}
 use Rattle.swss_run.specs.Full.{IsFull}
 use Rattle.swss_run.specs.Output.{TakesFront}
 use Rattle.swss_run.specs.Rounds.{Ran, is_settling, standing}
+use Rattle.swss_run.specs.Turned.{IsTurned}
 use Rattle.swss_run.specs.declared.status.Status.{Status}
 use Rattle.swss_run.specs.declared.status.Status.TheVariants as status
 
@@ -43,7 +44,7 @@ pub record KeepsPlan (old new : CoreState) : Type 0 where
 abbrev pub with_round : History → List Sent → Mark → History
 with_round log sent mark = record { taken = log.taken ++ sent; marks = log.marks ++ mark ∷ []; ends = log.ends ++ (length log.marks + 1) ∷ [] }
 
--- the round ended: all its writes were taken, and its mark counts them and the calls
+-- the round ended: all its writes were taken, and its mark counts them and the calls; where a settling ended at it, the calls are those of its turns
 pub record EndsRound (round : Round) (old : CoreState) (sim : Sim) (ran : Ran) (new : CoreState) (sim' : Sim) : Type 0 where
   pub mark : Mark
   pub marks : ran.marks ≡ mark ∷ []
@@ -53,6 +54,7 @@ pub record EndsRound (round : Round) (old : CoreState) (sim : Sim) (ran : Ran) (
   pub effects : mark.effects ≡ length (sim.chip.effects ++ ran.calls)
   pub log : new.log ≡ with_round old.log ran.sent mark
   pub calls : sim'.chip.effects ≡ sim.chip.effects ++ ran.calls
+  pub turned : IsTurned old.board.plan old.sync.capacities (mark_of old) old.log.taken sim.chip.effects ran
   pub within : InSession new sim'.chip
   pub same : KeepsPlan old new
   pub places : log_size new.log (length sim'.chip.effects) ≤ new.limit

@@ -19,6 +19,7 @@ use Rattle.swss_run.specs.Output.{TakesFront}
 use Rattle.swss_run.specs.Read.{WasRead}
 use Rattle.swss_run.specs.Run.{HasNoSession, chip_fail}
 use Rattle.swss_run.specs.Rounds.{AreTaken, IsCut, IsReport, Ran, Rise}
+use Rattle.swss_run.specs.Turned.{AreTurned}
 use Rattle.swss_run.specs.declared.outcome.Outcome.{Outcome}
 use Rattle.swss_run.specs.declared.run.TheConstants.{LOG_LIMIT}
 use Rattle.swss_run.specs.declared.status.Status.{Status}
@@ -68,7 +69,7 @@ IsReported status.OutOfMemory plan capacities rounds rans sent calls log chip he
     (told : List Ran) × (untold : List Ran) × (rans ≡ told ++ untold) × TookFront plan capacities told rounds held held'
 IsReported _ plan capacities rounds rans sent calls log chip held held' = ⊥
 
--- a session over rounds: every chip call was legal, and at most so many took effect as an operation makes for each write taken; every mark is true and counts no fewer writes and calls than the mark before it and no more than there are, the writes taken are those of the rounds in order and each once, the ends of rounds rise, and the sink took what the status says of the report
+-- a session over rounds: every chip call was legal, and at most so many took effect as an operation makes for each write taken; every mark is true and counts no fewer writes and calls than the mark before it and no more than there are, the writes taken are those of the rounds in order and each once, the ends of rounds rise, the calls of each round whose settling ended are those of its turns, which leave quiet rows alone and drain where there is room, and the sink took what the status says of the report
 pub record IsSession (plan : Ports) (capacities : List ℕ) (rounds : List Round) (ended : Status) (log : History) (chip : ChipState) (held held' : Option (List ℕ)) : Type 0 where
   pub room : chip.capacities ≡ capacities
   pub clean : chip.clean ≡ true
@@ -82,6 +83,7 @@ pub record IsSession (plan : Ports) (capacities : List ℕ) (rounds : List Round
   pub cut : IsCut log chip.effects rans sent calls
   pub rise : Rise 0 log.ends
   pub writes : AreTaken rans rounds sent
+  pub turned : AreTurned plan capacities None [] [] rans
   pub reported : IsReported ended plan capacities rounds rans sent calls log chip held held'
 
 -- a session of a script: its chip has the script's failing calls, and failed at no more calls than these are
