@@ -110,6 +110,7 @@ module _ (c : CoreState) (chip : ChipState) (s : LoggedService) (is : IsSessionO
         later = session_with s (with t) (Some d);
         plan = follows.others.plan;
         capacities = refl;
+        limit = refl;
         makes = machine_step c.board.plan c.sync.capacities s (with t) (Some d) (is.warm_is ∙ at) z.0 refl;
         stands = record {
           plan = subst IsPlan (sym follows.others.plan) is.plan;

@@ -168,6 +168,7 @@ module _ (c : CoreState) (chip : ChipState) (s : LoggedService) (is : IsSessionO
         later = session_with s dropped None;
         plan = refl;
         capacities = refl;
+        limit = refl;
         makes = machine_step c.board.plan c.sync.capacities s dropped None (is.warm_is ∙ at) (inr (inr (inl drop))) refl;
         stands = record {
           plan = is.plan;
@@ -243,6 +244,7 @@ module _ (c : CoreState) (chip : ChipState) (s : LoggedService) (is : IsSessionO
               later = session_with s (with t) None;
               plan = follows.others.plan;
               capacities = refl;
+              limit = refl;
               makes = machine_step c.board.plan c.sync.capacities s (with t) None (is.warm_is ∙ at) (inr (inr (inr z.0))) refl;
               stands = record {
                 plan = subst IsPlan (sym follows.others.plan) is.plan;

@@ -26,4 +26,4 @@ stands_with c chip s waiting is = record {
 }
 
 pub makes_with : (c c' : CoreState) (chip' : ChipState) (s : LoggedService) (waiting : Reasons) (x : MakesOne c s c' chip') → (y : MakesOne c s (record c' { waiting = waiting }) chip') × (y.later ≡ x.later)
-makes_with c c' chip' s waiting x = (record { later = x.later; makes = x.makes; stands = stands_with c' chip' x.later waiting x.stands; plan = x.plan; capacities = x.capacities }, refl)
+makes_with c c' chip' s waiting x = (record { later = x.later; makes = x.makes; stands = stands_with c' chip' x.later waiting x.stands; plan = x.plan; capacities = x.capacities; limit = x.limit }, refl)

@@ -55,7 +55,7 @@ failed_not_done : sync.Failed ≡ sync.Done → ⊥
 failed_not_done h = cc
 
 -- the chip said so where the call failed
-said_failed : (view view' : ViewObjects) (c : Call Vid) (said : ChipAnswer) → Follows view c said sync.Failed view' → said ≡ answer.Failed
+pub said_failed : (view view' : ViewObjects) (c : Call Vid) (said : ChipAnswer) → Follows view c said sync.Failed view' → said ≡ answer.Failed
 said_failed view view' (call.Create b) (answer.Made r) f = absurd (failed_not_made f.0 f.3)
 said_failed view view' (call.Create b) answer.Done f = absurd (failed_not_done f.3)
 said_failed view view' (call.Set e x) answer.Done f = absurd (failed_not_done f.1)
@@ -127,6 +127,7 @@ module _ (c : CoreState) (chip : ChipState) (s : LoggedService) (is : IsSessionO
       later = then log;
       plan = refl;
       capacities = refl;
+      limit = refl;
       makes = OfService effect (OfFault effect (then log).service (record { call = d; due = OfFlight (is.warm_is ∙ at) (due_call c chip s is at w x there begun call told).0; warm = refl; written = written; chip = has })) refl (chip.faults, chip'.faults, failed.1, adds log form);
       stands = stands log (same_taken log form) (same_marks log form);
     }

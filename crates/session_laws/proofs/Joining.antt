@@ -16,10 +16,10 @@ are_both plan capacities s [] ys a b = b
 are_both plan capacities s (x ∷ xs) ys a b = (a.0, are_both plan capacities x xs ys a.1 b)
 
 pub no_step : (c : CoreState) (chip : ChipState) (s : LoggedService) → IsSessionOf c chip s → MakesSome c s c chip
-no_step c chip s is = record { steps = []; are = tt; stands = is; plan = refl; capacities = refl }
+no_step c chip s is = record { steps = []; are = tt; stands = is; plan = refl; capacities = refl; limit = refl }
 
 pub one_step : (c c' : CoreState) (chip' : ChipState) (s : LoggedService) → MakesOne c s c' chip' → MakesSome c s c' chip'
-one_step c c' chip' s x = record { steps = x.later ∷ []; are = (x.makes, tt); stands = x.stands; plan = x.plan; capacities = x.capacities }
+one_step c c' chip' s x = record { steps = x.later ∷ []; are = (x.makes, tt); stands = x.stands; plan = x.plan; capacities = x.capacities; limit = x.limit }
 
 pub more_steps : (c c' c'' : CoreState) (chip' chip'' : ChipState) (s : LoggedService) (x : MakesSome c s c' chip') → MakesSome c' (session_after s x.steps) c'' chip'' → MakesSome c s c'' chip''
 more_steps c c' c'' chip' chip'' s x y = record {
@@ -30,4 +30,5 @@ more_steps c c' c'' chip' chip'' s x y = record {
   stands = subst (IsSessionOf c'' chip'') (sym (after_both s x.steps y.steps)) y.stands;
   plan = y.plan ∙ x.plan;
   capacities = y.capacities ∙ x.capacities;
+  limit = y.limit ∙ x.limit;
 }

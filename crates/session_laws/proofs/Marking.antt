@@ -76,6 +76,7 @@ module _ (c : CoreState) (chip : ChipState) (s : LoggedService) (is : IsSessionO
       later = later;
       plan = refl;
       capacities = refl;
+      limit = refl;
       makes = OfMachine (is.warm_is ∙ at) (is.warm_is ∙ at) (inr (inr marks));
       stands = record {
         plan = is.plan;

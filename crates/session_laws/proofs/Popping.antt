@@ -46,6 +46,7 @@ module _ (c : CoreState) (chip : ChipState) (s : LoggedService) (t : TablesState
     later = session_with s core None;
     plan = refl;
     capacities = refl;
+    limit = refl;
     makes = machine_step c.board.plan c.sync.capacities s core None (is.warm_is ∙ at) (inr (inl pop)) pop.taken;
     stands = record {
       plan = is.plan;

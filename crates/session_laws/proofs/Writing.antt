@@ -68,6 +68,7 @@ module _ (c : CoreState) (chip : ChipState) (s : LoggedService) (sent : Sent) (i
     later = later;
     plan = refl;
     capacities = refl;
+    limit = refl;
     makes = OfService None (OfTake later.service (record { warm = refl; core = takes; seen = refl; left = refl })) (sym (append-nil s.effects)) (sent, refl, refl);
     stands = record {
       plan = is.plan;

@@ -14,13 +14,14 @@ use Rattle.flight_board.specs.Applied.{row_at}
 use Rattle.session_laws.specs.Core.{CoreState}
 use Rattle.session_laws.specs.Standing.{IsSessionOf}
 
--- one step of the session leads to one of the later core and chip, with the same port plan and capacities
+-- one step of the session leads to one of the later core and chip, with the same port plan, capacities and places of the log
 pub record MakesOne (c : CoreState) (s : LoggedService) (c' : CoreState) (chip' : ChipState) : Type 0 where
   pub later : LoggedService
   pub makes : IsLoggedStep c.board.plan 4 c.sync.capacities s later
   pub stands : IsSessionOf c' chip' later
   pub plan : c'.board.plan ≡ c.board.plan
   pub capacities : c'.sync.capacities ≡ c.sync.capacities
+  pub limit : c'.limit ≡ c.limit
 
 -- the session behind an event of the machine, with the call that took effect in it
 abbrev pub session_with : LoggedService → SwitchState → Option (Call Rid) → LoggedService
@@ -37,6 +38,7 @@ pub record MakesSome (c : CoreState) (s : LoggedService) (c' : CoreState) (chip'
   pub stands : IsSessionOf c' chip' (session_after s steps)
   pub plan : c'.board.plan ≡ c.board.plan
   pub capacities : c'.sync.capacities ≡ c.sync.capacities
+  pub limit : c'.limit ≡ c.limit
 
 -- the identifier of what a call made
 abbrev pub made_by : SyncAnswer → Option Vid

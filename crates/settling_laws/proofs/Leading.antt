@@ -29,14 +29,14 @@ pub grown : {X : Type 0} (first mid last more others : List X) → mid ≡ first
 grown first mid last more others one two = two ∙ ap (λ l. l ++ others) one ∙ append_assoc first more others
 
 -- no step leads to another core that stands for the same session
-pub leads_still : (c c' : CoreState) (chip : ChipState) (s : LoggedService) → IsSessionOf c' chip s → c'.board.plan ≡ c.board.plan → c'.sync.capacities ≡ c.sync.capacities → LeadsTo c s s c' chip
-leads_still c c' chip s is plan capacities = record { steps = []; are = tt; is = refl; stands = is; plan = plan; capacities = capacities }
+pub leads_still : (c c' : CoreState) (chip : ChipState) (s : LoggedService) → IsSessionOf c' chip s → c'.board.plan ≡ c.board.plan → c'.sync.capacities ≡ c.sync.capacities → c'.limit ≡ c.limit → LeadsTo c s s c' chip
+leads_still c c' chip s is plan capacities limit = record { steps = []; are = tt; is = refl; stands = is; plan = plan; capacities = capacities; limit = limit }
 
 pub leads_none : (c : CoreState) (chip : ChipState) (s : LoggedService) → IsSessionOf c chip s → LeadsTo c s s c chip
-leads_none c chip s is = leads_still c c chip s is refl refl
+leads_none c chip s is = leads_still c c chip s is refl refl refl
 
 pub leads_one : (c c' : CoreState) (chip' : ChipState) (s : LoggedService) (x : MakesOne c s c' chip') → LeadsTo c s x.later c' chip'
-leads_one c c' chip' s x = record { steps = x.later ∷ []; are = (x.makes, tt); is = refl; stands = x.stands; plan = x.plan; capacities = x.capacities }
+leads_one c c' chip' s x = record { steps = x.later ∷ []; are = (x.makes, tt); is = refl; stands = x.stands; plan = x.plan; capacities = x.capacities; limit = x.limit }
 
 pub leads_more : (c c' c'' : CoreState) (chip' chip'' : ChipState) (s t u : LoggedService) → LeadsTo c s t c' chip' → LeadsTo c' t u c'' chip'' → LeadsTo c s u c'' chip''
 leads_more c c' c'' chip' chip'' s t u x y = record {
@@ -47,7 +47,8 @@ leads_more c c' c'' chip' chip'' s t u x y = record {
   stands = y.stands;
   plan = y.plan ∙ x.plan;
   capacities = y.capacities ∙ x.capacities;
+  limit = y.limit ∙ x.limit;
 }
 
 pub leads_some : (c c' : CoreState) (chip' : ChipState) (s t : LoggedService) → LeadsTo c s t c' chip' → MakesSome c s c' chip'
-leads_some c c' chip' s t x = record { steps = x.steps; are = x.are; stands = subst (IsSessionOf c' chip') (sym x.is) x.stands; plan = x.plan; capacities = x.capacities }
+leads_some c c' chip' s t x = record { steps = x.steps; are = x.are; stands = subst (IsSessionOf c' chip') (sym x.is) x.stands; plan = x.plan; capacities = x.capacities; limit = x.limit }

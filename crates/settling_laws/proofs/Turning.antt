@@ -118,12 +118,12 @@ module _ (keys left rest : List Key) (k : Key) (c c' : CoreState) (chip' : ChipS
         let one = one_listed have q (is_at (key_cmp q) k) refl (in_both q left (k ∷ []) i) in
         (one.0, ap (λ l. reason_at l q) is ∙ lookup-put key_cmp key_total c'.waiting k r q ∙ one.1, one.2)
 
-    pub turn_waits : (c'' : CoreState) → IsSessionOf c'' chip' x.later → c''.board.plan ≡ c'.board.plan → c''.sync.capacities ≡ c'.sync.capacities → IsAtRest c'' → c''.tables.ops ≡ c'.tables.ops → c''.waiting ≡ with_reason c'.waiting k r → IsTurning keys c s (left ++ k ∷ []) rest c'' chip'
-    turn_waits c'' is plan capacities rests ops waiting =
+    pub turn_waits : (c'' : CoreState) → IsSessionOf c'' chip' x.later → c''.board.plan ≡ c'.board.plan → c''.sync.capacities ≡ c'.sync.capacities → c''.limit ≡ c'.limit → IsAtRest c'' → c''.tables.ops ≡ c'.tables.ops → c''.waiting ≡ with_reason c'.waiting k r → IsTurning keys c s (left ++ k ∷ []) rest c'' chip'
+    turn_waits c'' is plan capacities limit rests ops waiting =
         let long : length ((left ++ k ∷ []) ++ rest) ≡ length (left ++ k ∷ rest) = ap length (append_assoc left (k ∷ []) rest) in
         record {
           later = x.later;
-          leads = leads_more c c' c'' chip' chip' s x.later x.later x.leads (leads_still c' c'' chip' x.later is plan capacities);
+          leads = leads_more c c' c'' chip' chip' s x.later x.later x.leads (leads_still c' c'' chip' x.later is plan capacities limit);
           calls = x.calls;
           turn = λ t left' calls' h.
               subst (λ l. IsMachineTurn c.board.plan 4 c.sync.capacities s.service.core keys t l (x.calls ++ calls')) (sym (append_assoc left (k ∷ []) left'))

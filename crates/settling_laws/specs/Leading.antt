@@ -19,6 +19,7 @@ pub record LeadsTo (c : CoreState) (s later : LoggedService) (c' : CoreState) (c
   pub stands : IsSessionOf c' chip' later
   pub plan : c'.board.plan ≡ c.board.plan
   pub capacities : c'.sync.capacities ≡ c.sync.capacities
+  pub limit : c'.limit ≡ c.limit
 
 -- the calls of answers
 abbrev pub calls_in : List (Call Rid × SwitchState) → List (Call Rid)

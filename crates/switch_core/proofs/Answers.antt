@@ -1,34 +1,39 @@
 -- the call that was due for a worker, as the core makes it
-use Rattle.std.proofs.Common.{◌≡◌, ◌∙◌, ℕ, Bool, true, false, length, Option, Some, None, option_map, is_some, Result, Ok, Err, refl, sym, ap, subst}
+use Rattle.std.proofs.Common.{◌≡◌, ◌∙◌, ℕ, Bool, true, false, length, Option, Some, None, option_map, is_some, Result, Ok, Err, refl, sym, ap, subst, arith}
 use Rattle.std.specs.Option.{IfNone, IfSome, IsSome}
 use Rattle.std.specs.Result.{IsErr}
 use Rattle.std.proofs.lemmas.Bool.{false≢true}
 use Rattle.sai_types.specs.declared.answer.SyncAnswer.{SyncAnswer}
 use Rattle.sai_types.specs.declared.answer.SyncAnswer.TheVariants as sync
 use Rattle.sai_types.specs.declared.body.Call.{Call}
+use Rattle.sai_types.specs.declared.ids.Rid.{Rid}
 use Rattle.sai_types.specs.declared.ids.Vid.{Vid}
 use Rattle.sai_types.specs.ChipState.{ChipState}
 use Rattle.swss_types.specs.declared.out_of_memory.OutOfMemory.{OutOfMemory}
 use Rattle.switch_model.specs.History.{History}
 use Rattle.switch_model.specs.declared.mark.Mark.{Mark}
 use Rattle.switch_model.specs.declared.mark.MarkEvent.TheVariants as event
+use Rattle.chip_layout.specs.Renamed.{call_renamed}
 use Rattle.switch_machine.specs.Events.{IsAnswer}
 use Rattle.registry_laws.specs.Flown.{Flown}
 use Rattle.registry_laws.specs.Making.{IsNextCall, MayTakeFor, with_group_begun}
 use Rattle.core_laws.specs.Standing.{HasBegun}
 use Rattle.restart_laws.specs.Logged.{IsLoggedStep, LoggedService}
-use Rattle.syncd_core.specs.Synced.{CanCall, Calls, SyncState}
+use Rattle.asic_view.specs.View.{ViewObjects}
+use Rattle.syncd_core.specs.Synced.{CanCall, Calls, IsMade, SyncState}
+use Rattle.syncd_core.specs.Tied.{tie_of}
 use Rattle.flight_board.specs.Board.{BoardState, FlightState, IsPrepared, IsReady, IsTakenFor, flown_at}
 use Rattle.warm_state.specs.declared.warm.Warm.TheVariants as warm
 use Rattle.session_laws.specs.Core.{CoreState, IsFullFor, mark_at}
 use Rattle.session_laws.specs.Events.{MakesOne, made_by}
 use Rattle.session_laws.specs.Standing.{IsSessionOf}
 use Rattle.session_laws.proofs.Answering.{answers_step, may_take}
-use Rattle.session_laws.proofs.Faulting.{Ended, Marked, faults_step}
+use Rattle.session_laws.proofs.Faulting.{Ended, Marked, faults_step, said_failed}
 use Rattle.session_laws.proofs.Preparing.{has_begun, prepared_stands, ready as ready_of}
-use Rattle.switch_core.specs.Outcomes.{Answered, AnswersCall, Heeds, KeepsFlights, with_fault}
+use Rattle.switch_core.specs.Outcomes.{Answered, AnswersCall, FaultsCall, Heeds, KeepsChip, KeepsFlights, StaysInSession, with_fault}
 use Rattle.switch_core.specs.declared.answer.Step.{Step}
 use Rattle.switch_core.specs.declared.answer.Step.TheVariants as step
+use Rattle.switch_core.proofs.Chips.{keeps_answered, one_more_effect}
 
 -- ---- a call that was made
 
@@ -44,6 +49,16 @@ module _ (s : LoggedService) (w : ℕ) (c : CoreState) (chip : ChipState) (is : 
   abbrev fault : Bool → Mark
   fault ends = mark_at (beside ends) (length chip'.effects) (event.Faulted chip.faults chip'.faults)
 
+  -- syncd made the call on the chip
+  abbrev d : Call Rid
+  d = call_renamed (tie_of c.sync.view) call
+
+  is_made : (a : SyncAnswer) → Calls c.sync c.sync.temporary chip call a y chip' → (view : ViewObjects) × IsMade c.sync.view chip call a view chip'
+  is_made a calls = let z = subst (λ o. Calls c.sync o chip call a y chip') (is.working at).no_view calls in (z.0, z.2)
+
+  keeps : (a : SyncAnswer) → Calls c.sync c.sync.temporary chip call a y chip' → KeepsChip chip chip'
+  keeps a calls = let z = is_made a calls in keeps_answered chip chip' d z.1.answer z.1.answered
+
   effect : (a : SyncAnswer) → (a ≡ sync.Failed → ⊥) → Calls c.sync c.sync.temporary chip call a y chip' → (b : BoardState) → IsTakenFor c.board w (made_by a) b → AnswersCall s w c chip (record c { sync = y; board = b }) chip'
   effect a went calls b taken =
       let z = answers_step c chip s is at w x there begun call told a went y chip' calls b taken in
@@ -56,21 +71,46 @@ module _ (s : LoggedService) (w : ℕ) (c : CoreState) (chip : ChipState) (is : 
         beside = record { tables = refl; waiting = refl; log = refl; listed = refl; limit = refl; warm = refl };
         others = kept_flights w x (made_by a) c.board b there taken;
         room = room;
+        keeps = keeps a calls;
       }
 
   failed : (ends : Bool) → Calls c.sync c.sync.temporary chip call sync.Failed y chip' → MakesOne c s (record c { sync = y; log = with_fault ends c.log (fault ends); warm = warm.Suspect }) chip'
   failed true calls = faults_step c chip s w x call y chip' (with_fault true c.log (fault true)) is at there begun told calls Ended
   failed false calls = faults_step c chip s w x call y chip' (with_fault false c.log (fault false)) is at there begun told calls Marked
 
-  as_did : (ends : Bool) (a : SyncAnswer) → (a ≡ sync.Failed → ⊥) → Calls c.sync c.sync.temporary chip call a y chip' → (r : Step) (c' : CoreState) → r ≡ step.Did → (b : BoardState) → IsTakenFor c.board w (made_by a) b → c' ≡ record c { sync = y; board = b } → Answered s w c chip (Ok r) c' chip'
+  taken_same : (ends : Bool) → length (with_fault ends c.log m).taken ≡ length c.log.taken
+  taken_same true = refl
+  taken_same false = refl
+
+  faulted : (ends : Bool) → Calls c.sync c.sync.temporary chip call sync.Failed y chip' → FaultsCall ends s c chip (record c { sync = y; log = with_fault ends c.log (fault ends); warm = warm.Suspect }) chip'
+  faulted ends calls =
+      let z = is_made sync.Failed calls in
+      let one = one_more_effect chip chip' d z.1.answer (said_failed c.sync.view z.0 call z.1.answer z.1.follows) z.1.answered in
+      let behind = one.1 in
+      record {
+        makes = failed ends calls;
+        tables = refl;
+        keeps = keeps sync.Failed calls;
+        marks = record {
+          before = chip.faults;
+          risen = omega arith;
+          more = one.2;
+          log = ap (λ n. with_fault ends c.log (record { taken = n; effects = length chip'.effects; event = event.Faulted chip.faults chip'.faults })) (taken_same ends);
+          warm = refl;
+          places = omega (arith, behind, room);
+          few = one.0;
+        };
+      }
+
+  as_did : (ends : Bool) (a : SyncAnswer) → (a ≡ sync.Failed → ⊥) → Calls c.sync c.sync.temporary chip call a y chip' → (r : Step) (c' : CoreState) → r ≡ step.Did → (b : BoardState) → IsTakenFor c.board w (made_by a) b → c' ≡ record c { sync = y; board = b } → Answered ends s w c chip (Ok r) c' chip'
   as_did ends a went calls r c' did b taken same =
-      subst (λ q. Answered s w c chip (Ok q) c' chip') (sym did)
+      subst (λ q. Answered ends s w c chip (Ok q) c' chip') (sym did)
       (subst (λ d. AnswersCall s w c chip d chip') (sym same) (effect a went calls b taken))
 
-  pub heeded : (ends : Bool) (a : SyncAnswer) (r : Step) (c' : CoreState) → Calls c.sync c.sync.temporary chip call a y chip' → Heeds w a (fault ends) ends (beside ends) r c' → Answered s w c chip (Ok r) c' chip'
+  pub heeded : (ends : Bool) (a : SyncAnswer) (r : Step) (c' : CoreState) → Calls c.sync c.sync.temporary chip call a y chip' → Heeds w a (fault ends) ends (beside ends) r c' → Answered ends s w c chip (Ok r) c' chip'
   heeded ends sync.Failed r c' calls h =
-      subst (λ q. Answered s w c chip (Ok q) c' chip') (sym h.0)
-      (subst (λ (d : CoreState). MakesOne c s d chip' × (d.warm ≡ warm.Suspect)) (sym (h.1 c.log m refl)) (failed ends calls, refl))
+      subst (λ q. Answered ends s w c chip (Ok q) c' chip') (sym h.0)
+      (subst (λ z. FaultsCall ends s c chip z chip') (sym (h.1 c.log m refl)) (faulted ends calls))
   heeded ends (sync.Made v) r c' calls h = let f = h.1 c.log m refl in as_did ends (sync.Made v) (λ e. cc) calls r c' h.0 f.0 f.1 f.2
   heeded ends sync.Done r c' calls h = let f = h.1 c.log m refl in as_did ends sync.Done (λ e. cc) calls r c' h.0 f.0 f.1 f.2
 
@@ -83,7 +123,7 @@ module _ (s : LoggedService) (w : ℕ) (c : CoreState) (chip : ChipState) (is : 
       ap (λ z. mark_at z n (event.Faulted before after)) is_with ∙ ap (λ k. mark_at (beside ends) k (event.Faulted before after)) many
       ∙ ap (λ k. mark_at (beside ends) (length chip'.effects) (event.Faulted k after)) first ∙ ap (λ k. mark_at (beside ends) (length chip'.effects) (event.Faulted chip.faults k)) last
 
-  pub made : (ends : Bool) (d : CoreState) → d ≡ beside ends → (a : SyncAnswer) → Calls c.sync c.sync.temporary chip call a y chip' → (n before after : ℕ) → n ≡ length chip'.effects → before ≡ chip.faults → after ≡ chip'.faults → (f : Mark) → f ≡ mark_at d n (event.Faulted before after) → (r : Step) (c' : CoreState) → Heeds w a f ends d r c' → Answered s w c chip (Ok r) c' chip'
+  pub made : (ends : Bool) (d : CoreState) → d ≡ beside ends → (a : SyncAnswer) → Calls c.sync c.sync.temporary chip call a y chip' → (n before after : ℕ) → n ≡ length chip'.effects → before ≡ chip.faults → after ≡ chip'.faults → (f : Mark) → f ≡ mark_at d n (event.Faulted before after) → (r : Step) (c' : CoreState) → Heeds w a f ends d r c' → Answered ends s w c chip (Ok r) c' chip'
   made ends d is_with a calls n before after many first last f marked r c' h =
       heeded ends a r c' calls (subst (λ g. Heeds w a g ends (beside ends) r c') (marked ∙ fault_is ends d is_with n before after many first last) (subst (λ z. Heeds w a f ends z r c') is_with h))
 
@@ -114,9 +154,9 @@ some_then None h p = absurd (false≢true h)
 pub never : {P : Type 0} (b : Bool) → b ≡ false → (P → b ≡ true) → P → ⊥
 never b off on p = false≢true (sym off ∙ on p)
 
-pub answered_err : (s : LoggedService) (w : ℕ) (c : CoreState) (chip : ChipState) (r : Result Step OutOfMemory) (c' : CoreState) → IsErr r → IsSessionOf c' chip s → c'.board.plan ≡ c.board.plan → c'.sync.capacities ≡ c.sync.capacities → c'.warm ≡ c.warm → Answered s w c chip r c' chip
-answered_err s w c chip (Err e) c' h is plan capacities same = (refl, is, plan, capacities, same)
-answered_err s w c chip (Ok r) c' h is plan capacities same = absurd (false≢true h)
+pub answered_err : (ends : Bool) (s : LoggedService) (w : ℕ) (c : CoreState) (chip : ChipState) (r : Result Step OutOfMemory) (c' : CoreState) → IsErr r → StaysInSession s c c' chip → Answered ends s w c chip r c' chip
+answered_err ends s w c chip (Err e) c' h x = (refl, x)
+answered_err ends s w c chip (Ok r) c' h x = absurd (false≢true h)
 
 -- ---- a worker's group began before it
 
@@ -125,7 +165,7 @@ module _ (s : LoggedService) (w : ℕ) (c : CoreState) (b : BoardState) (chip : 
   with = record c { board = b }
 
   makes_from : (c' : CoreState) (chip' : ChipState) → MakesOne with s c' chip' → MakesOne c s c' chip'
-  makes_from c' chip' x = record { later = x.later; makes = subst (λ p. IsLoggedStep p 4 c.sync.capacities s x.later) ready.plan x.makes; stands = x.stands; plan = x.plan ∙ ready.plan; capacities = x.capacities }
+  makes_from c' chip' x = record { later = x.later; makes = subst (λ p. IsLoggedStep p 4 c.sync.capacities s x.later) ready.plan x.makes; stands = x.stands; plan = x.plan ∙ ready.plan; capacities = x.capacities; limit = x.limit }
 
   call_from : (c' : CoreState) (chip' : ChipState) → AnswersCall s w with chip c' chip' → AnswersCall s w c chip c' chip'
   unfolding makes_from
@@ -140,15 +180,27 @@ module _ (s : LoggedService) (w : ℕ) (c : CoreState) (b : BoardState) (chip : 
         beside = record { tables = x.beside.tables; waiting = x.beside.waiting; log = x.beside.log; listed = x.beside.listed; limit = x.beside.limit; warm = x.beside.warm };
         others = λ v apart. x.others v apart ∙ ap (option_map (λ (f : FlightState). f.flown)) (ready.others v apart);
         room = x.room;
+        keeps = x.keeps;
       }
 
-  pub answered_from : (IsFullFor c (length chip.effects) 2 → ⊥) → (r : Result Step OutOfMemory) (c' : CoreState) (chip' : ChipState) → Answered s w with chip r c' chip' → Answered s w c chip r c' chip'
-  answered_from room (Ok step.Did) c' chip' x = call_from c' chip' x
-  answered_from room (Ok step.Faulted) c' chip' x = (makes_from c' chip' x.0, x.1)
-  answered_from room (Ok step.LogFull) c' chip' x = absurd (room x.2)
-  answered_from room (Ok step.Idle) c' chip' x = absurd x
-  answered_from room (Ok step.Suspect) c' chip' x = absurd x
-  answered_from room (Err e) c' chip' x = (x.0, x.1, x.2 ∙ ready.plan, x.3, x.4)
+  fault_from : (ends : Bool) (c' : CoreState) (chip' : ChipState) → FaultsCall ends s with chip c' chip' → FaultsCall ends s c chip c' chip'
+  fault_from ends c' chip' x = record {
+    makes = makes_from c' chip' x.makes;
+    tables = x.tables;
+    keeps = x.keeps;
+    marks = record { before = x.marks.before; risen = x.marks.risen; more = x.marks.more; log = x.marks.log; warm = x.marks.warm; places = x.marks.places; few = x.marks.few };
+  }
+
+  stays_from : (c' : CoreState) → StaysInSession s with c' chip → StaysInSession s c c' chip
+  stays_from c' x = record { stands = x.stands; plan = x.plan ∙ ready.plan; capacities = x.capacities; limit = x.limit; warm = x.warm; log = x.log }
+
+  pub answered_from : (ends : Bool) → (IsFullFor c (length chip.effects) 2 → ⊥) → (r : Result Step OutOfMemory) (c' : CoreState) (chip' : ChipState) → Answered ends s w with chip r c' chip' → Answered ends s w c chip r c' chip'
+  answered_from ends room (Ok step.Did) c' chip' x = call_from c' chip' x
+  answered_from ends room (Ok step.Faulted) c' chip' x = fault_from ends c' chip' x
+  answered_from ends room (Ok step.LogFull) c' chip' x = absurd (room x.2)
+  answered_from ends room (Ok step.Idle) c' chip' x = absurd x
+  answered_from ends room (Ok step.Suspect) c' chip' x = absurd x
+  answered_from ends room (Err e) c' chip' x = (x.0, stays_from c' x.1)
 
   -- what the next call is about, once it is prepared
   module _ (is : IsSessionOf c chip s) (x : Flown) (there : flown_at c.board w ≡ Some x) (d : CoreState) (is_with : d ≡ with) where
@@ -172,5 +224,8 @@ module _ (s : LoggedService) (w : ℕ) (c : CoreState) (b : BoardState) (chip : 
     pub room_now : (IsFullFor c (length chip.effects) 2 → ⊥) → IsFullFor d (length chip.effects) 2 → ⊥
     room_now room = subst (λ z. IsFullFor z (length chip.effects) 2 → ⊥) (sym is_with) room
 
-    pub whole : (IsFullFor c (length chip.effects) 2 → ⊥) → (r : Result Step OutOfMemory) (c' : CoreState) (chip' : ChipState) → Answered s w d chip r c' chip' → Answered s w c chip r c' chip'
-    whole room r c' chip' h = answered_from room r c' chip' (subst (λ z. Answered s w z chip r c' chip') is_with h)
+    pub whole : (ends : Bool) → (IsFullFor c (length chip.effects) 2 → ⊥) → (r : Result Step OutOfMemory) (c' : CoreState) (chip' : ChipState) → Answered ends s w d chip r c' chip' → Answered ends s w c chip r c' chip'
+    whole ends room r c' chip' h = answered_from ends room r c' chip' (subst (λ z. Answered ends s w z chip r c' chip') is_with h)
+
+    pub stays_now : StaysInSession s c d chip
+    stays_now = record { stands = stands_now; plan = ap (λ (z : CoreState). z.board.plan) is_with ∙ ready.plan; capacities = ap (λ (z : CoreState). z.sync.capacities) is_with; limit = ap (λ (z : CoreState). z.limit) is_with; warm = ap (λ (z : CoreState). z.warm) is_with; log = ap (λ (z : CoreState). z.log) is_with }

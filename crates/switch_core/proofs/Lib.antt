@@ -1,3 +1,4 @@
+pub mod Chips
 pub mod Answers
 pub mod Tries
 pub mod Walks

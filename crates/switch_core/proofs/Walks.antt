@@ -1,5 +1,5 @@
 -- the walk of a worker over the keys to sync, up to the first that can begin
-use Rattle.std.proofs.Common.{◌≡◌, ◌⊎◌, ◌∙◌, inl, inr, ℕ, true, [], Option, Some, None, Result, Ok, Err, Ordering, refl, sym, ap, subst}
+use Rattle.std.proofs.Common.{◌≡◌, ◌⊎◌, ◌∙◌, inl, inr, ℕ, true, false, [], Option, Some, None, Result, Ok, Err, Ordering, refl, sym, ap, subst}
 use Rattle.std.specs.Map.{keys_of}
 use Rattle.std.specs.Ordering.{is_lt, ordering_reverse}
 use Rattle.std.specs.Result.{IsErr}
@@ -29,6 +29,7 @@ use Rattle.session_laws.proofs.Seeing.{is_idle, no_flight, same_keys}
 use Rattle.switch_core.specs.Outcomes.{Answered, Begins, BeginsTo, DropsTo, IsInSession, IsSameCore, StepsTo}
 use Rattle.switch_core.specs.declared.answer.Step.{Step}
 use Rattle.switch_core.specs.declared.answer.Step.TheVariants as step
+use Rattle.switch_core.proofs.Chips.{keeps_itself}
 
 -- ---- orders
 
@@ -66,6 +67,9 @@ plan_same c c' same = ap (λ (z : CoreState). z.board.plan) same.2 ∙ same.1.pl
 capacities_same : (c c' : CoreState) → IsSameCore c c' → c'.sync.capacities ≡ c.sync.capacities
 capacities_same c c' same = ap (λ (z : CoreState). z.sync.capacities) same.2
 
+limit_same : (c c' : CoreState) → IsSameCore c c' → c'.limit ≡ c.limit
+limit_same c c' same = ap (λ (z : CoreState). z.limit) same.2
+
 abbrev makes_same : (c c' d : CoreState) (chip : ChipState) (s : LoggedService) → IsSameCore c c' → MakesOne c' s d chip → MakesOne c s d chip
 makes_same c c' d chip s same m = record {
   later = m.later;
@@ -73,6 +77,7 @@ makes_same c c' d chip s same m = record {
   stands = m.stands;
   plan = m.plan ∙ plan_same c c' same;
   capacities = m.capacities ∙ capacities_same c c' same;
+  limit = m.limit ∙ limit_same c c' same;
 }
 
 -- what is said of the plan and the capacities is said of the same core
@@ -118,13 +123,13 @@ module _ (c c' : CoreState) (after : Option Key) (walked : IsWalkedTo c after c'
     walk_drops x =
         let makes = makes_same c c' d chip s walked.0 x.makes in
         let z : (z : IsDrop c.board.plan s.service.core makes.later.service.core) × (z.key ≡ k) = of_same (λ y. (z : IsDrop y.board.plan s.service.core x.makes.later.service.core) × (z.key ≡ k)) c c' (λ b e h. subst (λ p. (z : IsDrop p s.service.core x.makes.later.service.core) × (z.key ≡ k)) e h) walked.0 (x.drop, x.key) in
-        (makes, None, Dropping makes.later.service.core z.0 (no_flight c chip s is at w none) (popped c chip s is at empty) (subst (AreHindered c.board.plan 4 c.sync.capacities s.service.core) (sym z.1) (hindered s chip is)), x.moves)
+        (makes, None, Dropping makes.later.service.core z.0 (no_flight c chip s is at w none) (popped c chip s is at empty) (subst (AreHindered c.board.plan 4 c.sync.capacities s.service.core) (sym z.1) (hindered s chip is)), x.moves, keeps_itself chip)
 
     pub walk_begins : BeginsTo s w k c' d chip → StepsTo s w c chip (Ok step.Did) d chip
     walk_begins x =
         let makes = makes_same c c' d chip s walked.0 x.makes in
         let z : (z : IsBegin c.board.plan 4 c.sync.capacities s.service.core makes.later.service.core) × (z.worker ≡ w) × (z.flight.key ≡ k) = of_same (λ y. (z : IsBegin y.board.plan 4 y.sync.capacities s.service.core x.makes.later.service.core) × (z.worker ≡ w) × (z.flight.key ≡ k)) c c' (λ b e h. subst (λ p. (z : IsBegin p 4 c.sync.capacities s.service.core x.makes.later.service.core) × (z.worker ≡ w) × (z.flight.key ≡ k)) e h) walked.0 (x.begin, x.worker, x.key) in
-        (makes, None, Beginning makes.later.service.core z.0 z.1 (popped c chip s is at empty) (subst (AreHindered c.board.plan 4 c.sync.capacities s.service.core) (sym z.2) (hindered s chip is)), x.moves)
+        (makes, None, Beginning makes.later.service.core z.0 z.1 (popped c chip s is at empty) (subst (AreHindered c.board.plan 4 c.sync.capacities s.service.core) (sym z.2) (hindered s chip is)), x.moves, keeps_itself chip)
 
 -- no key is left: the worker is idle
 pub walk_idle : (c c' : CoreState) (after : Option Key) → IsWalkedTo c after c' → ((q : Key) → IsIn q (keys_of c'.tables.ops) → IsBehind after q → ⊥) → (w : ℕ) → c.warm ≡ warm.Reconciled → flown_at c.board w ≡ None → c.tables.waiting ≡ [] → (s : LoggedService) (chip : ChipState) → IsSessionOf c chip s → StepsTo s w c chip (Ok step.Idle) c' chip
@@ -134,13 +139,13 @@ walk_idle c c' after walked last w at none empty s chip is =
 
 -- the session stays where memory was refused
 pub some_same : (c d : CoreState) (s : LoggedService) (chip : ChipState) → IsSameCore c d → IsSessionOf d chip s → MakesSome c s d chip
-some_same c d s chip same is = record { steps = []; are = tt; stands = is; plan = plan_same c d same; capacities = capacities_same c d same }
+some_same c d s chip same is = record { steps = []; are = tt; stands = is; plan = plan_same c d same; capacities = capacities_same c d same; limit = limit_same c d same }
 
 pub warm_same : (c d : CoreState) → IsSameCore c d → d.warm ≡ c.warm
 warm_same c d same = ap (λ (z : CoreState). z.warm) same.2
 
 pub walk_err : (c c' d : CoreState) (after : Option Key) (e : OutOfMemory) → IsWalkedTo c after c' → IsSameCore c' d → (w : ℕ) → (s : LoggedService) (chip : ChipState) → IsSessionOf d chip s → StepsTo s w c chip (Err e) d chip
-walk_err c c' d after e walked same w s chip is = (refl, some_same c d s chip (same_on c c' d walked.0 same) is, warm_same c d (same_on c c' d walked.0 same))
+walk_err c c' d after e walked same w s chip is = (refl, some_same c d s chip (same_on c c' d walked.0 same) is, warm_same c d (same_on c c' d walked.0 same), ap (λ (z : CoreState). z.log) (same_on c c' d walked.0 same).2)
 
 -- ---- by the answer
 
@@ -155,21 +160,21 @@ steps_err s w c chip (Ok r) d h x = absurd (false≢true h)
 
 -- ---- the other steps
 
-pub answering_steps : (s : LoggedService) (w : ℕ) (c : CoreState) (chip : ChipState) (r : Result Step OutOfMemory) (d : CoreState) (chip' : ChipState) → Answered s w c chip r d chip' → StepsTo s w c chip r d chip'
-answering_steps s w c chip (Ok step.Did) d chip' x = (x.makes, Some x.call, Answering x.call x.makes.later.service.core x.answer x.worker, x.moves)
+pub answering_steps : (s : LoggedService) (w : ℕ) (c : CoreState) (chip : ChipState) (r : Result Step OutOfMemory) (d : CoreState) (chip' : ChipState) → Answered false s w c chip r d chip' → StepsTo s w c chip r d chip'
+answering_steps s w c chip (Ok step.Did) d chip' x = (x.makes, Some x.call, Answering x.call x.makes.later.service.core x.answer x.worker, x.moves, x.keeps)
 answering_steps s w c chip (Ok step.Faulted) d chip' x = x
 answering_steps s w c chip (Ok step.LogFull) d chip' x = x
 answering_steps s w c chip (Ok step.Idle) d chip' x = absurd x
 answering_steps s w c chip (Ok step.Suspect) d chip' x = absurd x
-answering_steps s w c chip (Err e) d chip' x = (x.0, subst (λ k. MakesSome c s d k) (sym x.0) (record { steps = []; are = tt; stands = x.1; plan = x.2; capacities = x.3 }), x.4)
+answering_steps s w c chip (Err e) d chip' x = (x.0, subst (λ k. MakesSome c s d k) (sym x.0) (record { steps = []; are = tt; stands = x.1.stands; plan = x.1.plan; capacities = x.1.capacities; limit = x.1.limit }), x.1.warm, x.1.log)
 
 module _ (s : LoggedService) (w : ℕ) (c : CoreState) (chip : ChipState) (is : IsSessionOf c chip s) (at : c.warm ≡ warm.Reconciled) (t : TablesState) (keys : PopsKeys c.tables t) (d : CoreState) (same : d ≡ record c { tables = t }) where
   pub popping_part : (e : OutOfMemory) → StepsTo s w c chip (Err e) d chip
-  popping_part e = subst (λ z. StepsTo s w c chip (Err e) z chip) (sym same) (refl, one_step c (record c { tables = t }) chip s (pop_told c chip s t is at keys).0, refl)
+  popping_part e = subst (λ z. StepsTo s w c chip (Err e) z chip) (sym same) (refl, one_step c (record c { tables = t }) chip s (pop_told c chip s t is at keys).0, refl, refl)
 
   pub popping_steps : flown_at c.board w ≡ None → (c.tables.waiting ≡ [] → ⊥) → (c.tables.waiting ≡ []) ⊎ PopsSome c.tables d.tables → StepsTo s w c chip (Ok step.Did) d chip
   popping_steps none some (inl empty) = absurd (some empty)
   popping_steps none some (inr popped) =
       let told = pop_told c chip s t is at keys in
       let one = told.3 (subst (λ (z : CoreState). PopsSome c.tables z.tables) same popped) in
-      subst (λ z. StepsTo s w c chip (Ok step.Did) z chip) (sym same) (told.0, None, Popping told.0.later.service.core one.0 (no_flight c chip s is at w none) told.1 one.1 one.2, told.2)
+      subst (λ z. StepsTo s w c chip (Ok step.Did) z chip) (sym same) (told.0, None, Popping told.0.later.service.core one.0 (no_flight c chip s is at w none) told.1 one.1 one.2, told.2, keeps_itself chip)

@@ -31,7 +31,7 @@ with_settled c effects waits turns count = record c { log = with_end (with_mark 
 
 -- the mark is made, with each key to sync; or the log has no place for it, or memory was refused, and nothing is done
 abbrev pub Marks : ℕ → ℕ → CoreState → Result Settled OutOfMemory → CoreState → Type 0
-Marks effects turns c (Ok settled.Settled) c' = AreOpsInOrder c.tables.ops × (waits : Waiting) × AreListedFrom c (keys_of c.tables.ops) waits × (c' ≡ with_settled c effects waits turns (length c.tables.ops))
-Marks effects turns c (Ok settled.LogFull) c' = (c' ≡ c) × IsFullFor c effects (1 + length c.tables.ops)
+Marks effects turns c (Ok settled.Settled) c' = AreOpsInOrder c.tables.ops × (waits : Waiting) × AreListedFrom c (keys_of c.tables.ops) waits × (c' ≡ with_settled c effects waits turns (length c.tables.ops)) × (IsFullFor c effects (1 + length c.tables.ops) → ⊥)
+Marks effects turns c (Ok settled.LogFull) c' = (c' ≡ c) × IsFullFor c effects (1 + length c.tables.ops) × AreOpsInOrder c.tables.ops
 Marks effects turns c (Ok settled.Faulted) c' = ⊥
 Marks effects turns c (Err e) c' = c' ≡ c

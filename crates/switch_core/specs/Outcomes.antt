@@ -1,5 +1,5 @@
 -- What the core's events come to, by their answers. Own.
-use Rattle.std.specs.Prelude.{◌≡◌, ◌⊎◌, ℕ, Bool, true, false, List, length, Option, Some, None, Result, Ok, Err}
+use Rattle.std.specs.Prelude.{◌≡◌, ◌+◌, ◌<◌, ◌≤◌, ◌⊎◌, ℕ, Bool, true, false, List, length, Option, Some, None, Result, Ok, Err}
 use Rattle.swss_types.specs.declared.out_of_memory.OutOfMemory.{OutOfMemory}
 use Rattle.table_schema.specs.declared.key.Key.{Key}
 use Rattle.table_schema.specs.declared.row.Row.{Row}
@@ -11,6 +11,7 @@ use Rattle.sai_types.specs.declared.kind.Kind.{Kind}
 use Rattle.sai_types.specs.ChipState.{ChipState}
 use Rattle.switch_model.specs.History.{History, with_end, with_mark}
 use Rattle.switch_model.specs.declared.mark.Mark.{Mark}
+use Rattle.switch_model.specs.declared.mark.MarkEvent.TheVariants as event
 use Rattle.switch_model.specs.declared.wait.Wait.{Wait}
 use Rattle.consumer_table.specs.Ops.{without_op}
 use Rattle.retry_list.specs.Reasons.{without_reason}
@@ -23,7 +24,7 @@ use Rattle.ref_counts.specs.Room.{number_of}
 use Rattle.syncd_core.specs.Synced.{SyncState, current}
 use Rattle.flight_board.specs.Board.{BoardState, IsBegunFor, IsSameBoard, IsTakenFor, flown_at}
 use Rattle.warm_state.specs.declared.warm.Warm.TheVariants as warm
-use Rattle.session_laws.specs.Core.{CoreState, IsFullFor}
+use Rattle.session_laws.specs.Core.{CoreState, IsFullFor, mark_at, size_beside}
 use Rattle.session_laws.specs.Events.{IsMachineStep, MakesOne, MakesSome, made_by}
 use Rattle.session_laws.specs.Standing.{IsSessionOf}
 use Rattle.switch_core.specs.declared.answer.Step.{Step}
@@ -83,6 +84,30 @@ abbrev pub Heeds : ℕ → SyncAnswer → Mark → Bool → CoreState → Step �
 Heeds w sync.Failed fault ends c r c' = (r ≡ step.Faulted) × ((h : History) (m : Mark) → c.log ≡ with_fault ends h m → c' ≡ record c { log = with_fault ends h fault; warm = warm.Suspect })
 Heeds w a fault ends c r c' = (r ≡ step.Did) × ((h : History) (m : Mark) → c.log ≡ with_fault ends h m → (b : BoardState) × IsTakenFor c.board w (made_by a) b × (c' ≡ record c { log = h; board = b }))
 
+-- the chip has the failing calls that it was made with, and failed no less often than before
+pub record KeepsChip (old new : ChipState) : Type 0 where
+  pub fails : new.fails ≡ old.fails
+  pub faults : old.faults ≤ new.faults
+
+-- a call failed, and its mark says so, with the chip's counts of faults; the call had two places in the log, and at most its own effect came behind those before it
+pub record MarksFault (ends : Bool) (c : CoreState) (chip : ChipState) (c' : CoreState) (chip' : ChipState) : Type 0 where
+  pub before : ℕ
+  pub risen : chip.faults ≤ before
+  pub more : before < chip'.faults
+  pub log : c'.log ≡ with_fault ends c.log (mark_at c (length chip'.effects) (event.Faulted before chip'.faults))
+  pub warm : c'.warm ≡ warm.Suspect
+  pub places : size_beside c chip'.before_fault + 2 ≤ c.limit
+  pub few : length chip'.effects ≤ chip'.before_fault + 1
+
+-- the core stands for the same session still, and its log is the same
+pub record StaysInSession (s : LoggedService) (c : CoreState) (c' : CoreState) (chip : ChipState) : Type 0 where
+  pub stands : IsSessionOf c' chip s
+  pub plan : c'.board.plan ≡ c.board.plan
+  pub capacities : c'.sync.capacities ≡ c.sync.capacities
+  pub limit : c'.limit ≡ c.limit
+  pub warm : c'.warm ≡ c.warm
+  pub log : c'.log ≡ c.log
+
 -- the answer of the call that was due for a worker is one step of the session, an Answer of the machine
 pub record AnswersCall (s : LoggedService) (w : ℕ) (c : CoreState) (chip : ChipState) (c' : CoreState) (chip' : ChipState) : Type 0 where
   pub makes : MakesOne c s c' chip'
@@ -93,14 +118,22 @@ pub record AnswersCall (s : LoggedService) (w : ℕ) (c : CoreState) (chip : Chi
   pub beside : IsSameBeside c c'
   pub others : KeepsFlights w c.board c'.board
   pub room : IsFullFor c (length chip.effects) 2 → ⊥
+  pub keeps : KeepsChip chip chip'
+
+-- a fault of the call is one step too, and leaves the tables as they were
+pub record FaultsCall (ends : Bool) (s : LoggedService) (c : CoreState) (chip : ChipState) (c' : CoreState) (chip' : ChipState) : Type 0 where
+  pub makes : MakesOne c s c' chip'
+  pub marks : MarksFault ends c chip c' chip'
+  pub tables : c'.tables ≡ c.tables
+  pub keeps : KeepsChip chip chip'
 
 -- what the call came to: one step; a fault, which is marked; no places in the log, and then nothing was done; or no call, after want of memory
-abbrev pub Answered : LoggedService → ℕ → CoreState → ChipState → Result Step OutOfMemory → CoreState → ChipState → Type 0
-Answered s w c chip (Ok step.Did) c' chip' = AnswersCall s w c chip c' chip'
-Answered s w c chip (Ok step.Faulted) c' chip' = MakesOne c s c' chip' × (c'.warm ≡ warm.Suspect)
-Answered s w c chip (Ok step.LogFull) c' chip' = (c' ≡ c) × (chip' ≡ chip) × IsFullFor c (length chip.effects) 2
-Answered s w c chip (Ok _) c' chip' = ⊥
-Answered s w c chip (Err e) c' chip' = (chip' ≡ chip) × IsSessionOf c' chip s × (c'.board.plan ≡ c.board.plan) × (c'.sync.capacities ≡ c.sync.capacities) × (c'.warm ≡ c.warm)
+abbrev pub Answered : Bool → LoggedService → ℕ → CoreState → ChipState → Result Step OutOfMemory → CoreState → ChipState → Type 0
+Answered ends s w c chip (Ok step.Did) c' chip' = AnswersCall s w c chip c' chip'
+Answered ends s w c chip (Ok step.Faulted) c' chip' = FaultsCall ends s c chip c' chip'
+Answered ends s w c chip (Ok step.LogFull) c' chip' = (c' ≡ c) × (chip' ≡ chip) × IsFullFor c (length chip.effects) 2
+Answered ends s w c chip (Ok _) c' chip' = ⊥
+Answered ends s w c chip (Err e) c' chip' = (chip' ≡ chip) × StaysInSession s c c' chip
 
 -- ---- a key to sync
 
@@ -151,9 +184,9 @@ Begins s w k c chip (Err e) c' = IsSameCore c c' × IsSessionOf c' chip s
 
 -- a step of a worker is the first event that applies to it, and Idle where none does; Faulted where its call failed, which is marked; LogFull where its call has no places; and after want of memory perhaps a part of a pop was made
 abbrev pub StepsTo : LoggedService → ℕ → CoreState → ChipState → Result Step OutOfMemory → CoreState → ChipState → Type 0
-StepsTo s w c chip (Ok step.Did) c' chip' = (y : MakesOne c s c' chip') × (call : Option (Call Rid)) × IsNextEvent c.board.plan 4 c.sync.capacities w s.service.core call y.later.service.core × IsMachineStep s call y.later
+StepsTo s w c chip (Ok step.Did) c' chip' = (y : MakesOne c s c' chip') × (call : Option (Call Rid)) × IsNextEvent c.board.plan 4 c.sync.capacities w s.service.core call y.later.service.core × IsMachineStep s call y.later × KeepsChip chip chip'
 StepsTo s w c chip (Ok step.Idle) c' chip' = (chip' ≡ chip) × IsSameCore c c' × IsSessionOf c' chip s × IsIdle c.board.plan 4 c.sync.capacities w s.service.core
 StepsTo s w c chip (Ok step.Suspect) c' chip' = (c' ≡ c) × (chip' ≡ chip) × (c.warm ≡ warm.Suspect)
-StepsTo s w c chip (Ok step.Faulted) c' chip' = MakesOne c s c' chip' × (c'.warm ≡ warm.Suspect)
+StepsTo s w c chip (Ok step.Faulted) c' chip' = FaultsCall false s c chip c' chip'
 StepsTo s w c chip (Ok step.LogFull) c' chip' = (c' ≡ c) × (chip' ≡ chip) × IsFullFor c (length chip.effects) 2
-StepsTo s w c chip (Err e) c' chip' = (chip' ≡ chip) × MakesSome c s c' chip' × (c'.warm ≡ c.warm)
+StepsTo s w c chip (Err e) c' chip' = (chip' ≡ chip) × MakesSome c s c' chip' × (c'.warm ≡ c.warm) × (c'.log ≡ c.log)

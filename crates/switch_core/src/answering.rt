@@ -31,7 +31,7 @@ impl Core {
         requires session { IsInSession self.old (C.state chip.old) }
         requires warm { self.old.warm ≡ warm.Reconciled }
         requires flying { IsSome (flown_at self.old.board worker) }
-        ensures { (s : LoggedService) → IsSessionOf self.old (C.state chip.old) s → Answered s worker self.old (C.state chip.old) result self.new (C.state chip.new) }
+        ensures { (s : LoggedService) → IsSessionOf self.old (C.state chip.old) s → Answered ends s worker self.old (C.state chip.old) result self.new (C.state chip.new) }
     {
         if self.is_full(chip.effects(), 2) {
             return Ok(Step::LogFull);
@@ -54,7 +54,7 @@ impl Core {
         requires warm { self.old.warm ≡ warm.Reconciled }
         requires flying { (x : Flown) × (flown_at self.old.board worker ≡ Some x) × HasBegun self.old.board.plan self.old.board.names x × IsNextCall self.old.board.plan self.old.board.names x.operation x.group call.now }
         requires room { IsFullFor self.old (length (C.state chip.old).effects) 2 → ⊥ }
-        ensures { (s : LoggedService) → IsSessionOf self.old (C.state chip.old) s → Answered s worker self.old (C.state chip.old) result self.new (C.state chip.new) }
+        ensures { (s : LoggedService) → IsSessionOf self.old (C.state chip.old) s → Answered ends s worker self.old (C.state chip.old) result self.new (C.state chip.new) }
     {
         let before = chip.faults();
         self.keep_place(chip.effects(), ends)?;

@@ -18,7 +18,7 @@ impl Core {
     pub fn settle<C: Chip>(&mut self, chip: &mut C) -> Result<Settled, OutOfMemory>
         requires session { IsInSession self.old (C.state chip.old) }
         requires warm { self.old.warm ≡ warm.Reconciled }
-        ensures { (s : LoggedService) → IsSessionOf self.old (C.state chip.old) s → Settles s self.old result self.new (C.state chip.new) }
+        ensures { (s : LoggedService) → IsSessionOf self.old (C.state chip.old) s → Settles s self.old (C.state chip.old) result self.new (C.state chip.new) }
     {
         match self.run_all(chip)? {
             Ran::Whole => {}
@@ -33,7 +33,7 @@ impl Core {
     fn settle_keys<C: Chip>(&mut self, chip: &mut C) -> Result<Settled, OutOfMemory>
         requires session { IsInSession self.old (C.state chip.old) }
         requires rest { IsAtRest self.old }
-        ensures { (s : LoggedService) → IsSessionOf self.old (C.state chip.old) s → SettlesKeys s self.old result self.new (C.state chip.new) }
+        ensures { (s : LoggedService) → IsSessionOf self.old (C.state chip.old) s → SettlesKeys s self.old (C.state chip.old) result self.new (C.state chip.new) }
     {
         match self.make_turns(chip)? {
             Turned::Whole(turns) => self.mark_settled(chip.effects(), turns),

@@ -20,7 +20,7 @@ impl Core {
     pub(crate) fn make_turns<C: Chip>(&mut self, chip: &mut C) -> Result<Turned, OutOfMemory>
         requires session { IsInSession self.old (C.state chip.old) }
         requires rest { IsAtRest self.old }
-        ensures { (s : LoggedService) → IsSessionOf self.old (C.state chip.old) s → MakesTurns s self.old result self.new (C.state chip.new) }
+        ensures { (s : LoggedService) → IsSessionOf self.old (C.state chip.old) s → MakesTurns s self.old (C.state chip.old) result self.new (C.state chip.new) }
     {
         let mut turns = 0u64;
         let mut left = self.count();
@@ -44,7 +44,7 @@ impl Core {
     fn turn<C: Chip>(&mut self, chip: &mut C) -> Result<Ran, OutOfMemory>
         requires session { IsInSession self.old (C.state chip.old) }
         requires rest { IsAtRest self.old }
-        ensures { (s : LoggedService) → IsSessionOf self.old (C.state chip.old) s → MakesTurn s self.old result self.new (C.state chip.new) }
+        ensures { (s : LoggedService) → IsSessionOf self.old (C.state chip.old) s → MakesTurn s self.old (C.state chip.old) result self.new (C.state chip.new) }
     {
         let mut after: Option<Key> = None;
         while let Some(key) = self.key_behind(after.as_ref())? {

@@ -1,17 +1,12 @@
 -- what a round comes to, from its takes and its settling
-use Rattle.std.proofs.Common.{◌≡◌, inl, inr, ℕ, ◌+◌, ◌*◌, ◌-◌, ◌<◌, ◌≤◌, true, false, List, [], ◌∷◌, ◌++◌, length, map, drop, Option, Result, Ok, Err, refl, sym, ap, ◌∙◌, subst, ⊎_elim, arith}
+use Rattle.std.proofs.Common.{◌≡◌, inl, inr, ℕ, ◌+◌, ◌-◌, ◌<◌, ◌≤◌, true, false, List, [], ◌∷◌, ◌++◌, length, drop, None, Option, Result, Ok, Err, refl, sym, ap, ◌∙◌, subst, arith}
 use Rattle.std.proofs.Math.Seq.{drop-append_seam}
-use Rattle.std.proofs.lemmas.List.{append-nil, length-append, length-map}
-use Rattle.std.specs.List.Sorted.{IsStrictlySortedBy}
+use Rattle.std.proofs.lemmas.List.{append-nil, length-append}
 use Rattle.swss_types.specs.declared.out_of_memory.OutOfMemory.{OutOfMemory}
-use Rattle.table_schema.specs.Key.{key_cmp}
 use Rattle.table_schema.specs.Plan.{Ports}
-use Rattle.table_schema.specs.Rows.{Rows, rows_of}
-use Rattle.table_schema.specs.declared.key.Key.{Key}
-use Rattle.table_schema.specs.declared.row.Row.{Row}
+use Rattle.table_schema.specs.Rows.{HasRisingRows, Rows, rows_of}
 use Rattle.table_schema.specs.declared.write.Sent.{Sent}
 use Rattle.sai_types.specs.After.{chip_after}
-use Rattle.sai_types.specs.Alike.{IsIn}
 use Rattle.sai_types.specs.ChipState.{ChipState}
 use Rattle.sai_types.specs.Objects.{Objects}
 use Rattle.sai_types.specs.declared.ids.Rid.{Rid}
@@ -19,95 +14,127 @@ use Rattle.sai_types.specs.declared.body.Call.{Call}
 use Rattle.sai_chip.specs.Replay.{IsReplayOf, Replayed}
 use Rattle.sai_chip.proofs.Replays.{IsReplayOf-append}
 use Rattle.sai_chip.specs.Sim.{Sim}
-use Rattle.switch_model.specs.Good.{TypedRows, good_rows}
-use Rattle.switch_model.specs.History.{History, log_size}
-use Rattle.switch_model.specs.Marks.{IsTrueReason, ReasonsAreTrue, sent_writes}
-use Rattle.switch_model.specs.Sound.{is_suspect}
+use Rattle.switch_model.specs.History.{History, log_size, size_listing, with_end, with_mark}
+use Rattle.switch_model.specs.Marks.{sent_writes}
+use Rattle.switch_model.specs.Sound.{is_fault, is_suspect}
 use Rattle.switch_model.specs.declared.mark.Mark.{Mark}
-use Rattle.switch_model.specs.declared.mark.MarkEvent.{MarkEvent}
 use Rattle.switch_model.specs.declared.mark.MarkEvent.TheVariants as event
-use Rattle.switch_model.specs.declared.wait.Wait.{Wait}
-use Rattle.orch_core.specs.Called.{IsGrown}
-use Rattle.orch_core.specs.Due as due
-use Rattle.orch_core.specs.Keeps.{IsKept}
-use Rattle.orch_core.specs.Settling as settling
-use Rattle.orch_core.specs.Settling.{EndsSettling, listing, mark_at, with_ending}
-use Rattle.orch_core.specs.Standing.{rows_applied}
-use Rattle.orch_core.specs.State.{State, counted_size}
-use Rattle.orch_core.specs.Turn.{BringsNew, OnlyLeave, WaitTruly, waiting_keys}
-use Rattle.orch_core.specs.declared.answer.Settled.{Settled}
-use Rattle.orch_core.specs.declared.answer.Settled.TheVariants as settled
-use Rattle.orch_core.proofs.Ending.{sound-kept}
-use Rattle.orch_core.proofs.Logged.{suspect-more}
-use Rattle.orch_core.proofs.Ordered.{keys-listing, order-listing}
+use Rattle.machine_laws.specs.Order.{IsSettledMark}
+use Rattle.flight_board.specs.Board.{BoardState, flown_at}
+use Rattle.restart_laws.specs.Logged.{LoggedService}
+use Rattle.switch_machine.specs.Next.{MustWait}
+use Rattle.syncd_core.specs.Synced.{SyncState}
+use Rattle.warm_state.specs.declared.warm.Warm.{Warm}
+use Rattle.warm_state.specs.declared.warm.Warm.TheVariants as warm
+use Rattle.session_laws.specs.Core.{CoreState, mark_at, size_beside}
+use Rattle.session_laws.specs.Events.{MakesSome}
+use Rattle.session_laws.proofs.Faulting.{listed_more}
+use Rattle.settling_laws.proofs.Leading.{leads_some}
+use Rattle.round_laws.specs.Between.{IsBetweenRounds, IsInRound, round_from}
+use Rattle.round_laws.specs.Named.{keys_named}
+use Rattle.round_laws.specs.Sessions.{InSession}
+use Rattle.round_laws.proofs.Awaited.{call-awaited, keys-awaited, ops-few}
+use Rattle.round_laws.proofs.Between.{round-begins}
+use Rattle.round_laws.proofs.Drained.{round-drained}
+use Rattle.round_laws.proofs.Ending.{round-ends}
+use Rattle.round_laws.proofs.Growing.{effects-grow, marks-grow}
+use Rattle.round_laws.proofs.Sessions.{known-then, leads-on, objects-left, sized, some-on}
+use Rattle.switch_core.specs.Outcomes.{KeepsChip}
+use Rattle.switch_core.specs.Settled.{Settles, SettlesWhole, StopsAtMark, StopsFaulted, StopsFull}
+use Rattle.switch_core.specs.declared.answer.Settled.{Settled}
+use Rattle.switch_core.specs.declared.answer.Settled.TheVariants as settled
 use Rattle.swss_script.specs.Sent.{sent_after, sent_in_round, writes_in}
-use Rattle.swss_script.specs.Stage.{is_built_round}
 use Rattle.swss_script.specs.declared.parts.Round.{Round}
 use Rattle.swss_script.specs.declared.parts.Show.{Show}
 use Rattle.swss_report.specs.Ended.{Ended}
 use Rattle.swss_report.specs.Round.{IsRoundText}
-use Rattle.row_layout.specs.Due.{HasChange}
-use Rattle.swss_run.specs.Full.{AreApplied, CallIsDue, IsFull, MarkIsDue, good_now, keys_named}
+use Rattle.swss_run.specs.Full.{IsFull}
 use Rattle.swss_run.specs.Full.IsFull.{AtWrite, AtCall, AtMark}
 use Rattle.swss_run.specs.Rounds.{Ran, is_settling}
-use Rattle.swss_run.specs.Running.{EndsRound, HasLines, IsReady, IsRoundRun, IsUnused, IsWritten, KeepsPlan, StopsRound, round_ended, with_round}
+use Rattle.swss_run.specs.Running.{EndsRound, HasLines, IsReady, IsRoundRun, IsWritten, KeepsPlan, StopsRound, round_ended, with_round}
 use Rattle.swss_run.specs.Running.IsWritten.{Whole, Failed, Wanting, Unwritten}
-use Rattle.swss_run.specs.Taking.{NameServedRows, IsRoundTook, Took, TookAll}
+use Rattle.swss_run.specs.Taking.{Counts, HaveReadKeys, IsRoundTook, with_all}
+use Rattle.swss_run.specs.Turned.{EndsTurned}
 use Rattle.swss_run.specs.declared.status.Status.{Status}
 use Rattle.swss_run.specs.declared.status.Status.TheVariants as status
 use Rattle.swss_run.specs.declared.taking.Taken.TheVariants as taken
-use Rattle.swss_run.proofs.Named.{few-among, few-named, named-back, named-front, named-sorted}
-use Rattle.swss_run.proofs.Served.{served-front, served-round}
-use Rattle.swss_run.proofs.Sessions.{same-trans}
+use Rattle.swss_run.proofs.Given.{AreOnSwitch, on-front, on-round}
+use Rattle.swss_run.proofs.Tables.{all-limit, in-round, rows-told}
 
 -- ---- a core and its chip
 
--- the size that the core counts is that of the log and the effects
-places-are : (core : State) (chip : ChipState) → IsKept core chip → counted_size core (length chip.effects) ≡ log_size core.log (length chip.effects)
-places-are core chip kept = ap (λ n. length chip.effects + length core.log.taken + length core.log.marks + n) kept.keeps.listed
+pub same-trans : (a b c : CoreState) → KeepsPlan a b → KeepsPlan b c → KeepsPlan a c
+same-trans a b c first next = record { plan = next.plan ∙ first.plan; capacities = next.capacities ∙ first.capacities; limit = next.limit ∙ first.limit }
 
--- the good rows are those of the writes taken
-good-are : (core : State) (chip : ChipState) → IsKept core chip → (k : Key) → good_rows core.plan core.rows k ≡ good_now core.plan core.log k
-good-are core chip kept k = ap (λ r. good_rows core.plan r k) kept.keeps.rows
+not_suspect : (w : Warm) → w ≡ warm.Reconciled → w ≡ warm.Suspect → ⊥
+not_suspect w is other = two (sym is ∙ other)
+  where
+    two : warm.Reconciled ≡ warm.Suspect → ⊥
+    two e = cc
 
-applied-are : (core : State) (chip : ChipState) → IsKept core chip → is_suspect core.log.marks ≡ false → AreApplied core.plan chip (rows_applied core.applied)
-applied-are core chip kept known = record { closed = kept.keeps.closed; alike = (sound-kept core chip kept).alike known }
+-- a core that is reconciled is not suspect
+known-warm : (c : CoreState) (chip : ChipState) → InSession c chip → c.warm ≡ warm.Reconciled → is_suspect c.log.marks ≡ false
+known-warm c chip within at = known-then c chip within (not_suspect c.warm at)
 
--- a reason is the same by equal rows
-reason-at : (plan : Ports) (capacities : List ℕ) (applied : TypedRows) (r s : Rows) (k : Key) (w : Wait) → r ≡ s → IsTrueReason plan capacities (good_rows plan r) applied k w → IsTrueReason plan capacities (good_rows plan s) applied k w
-reason-at plan capacities applied r s k w same is = subst (λ x. IsTrueReason plan capacities (good_rows plan x) applied k w) same is
+pub known-ready : (core : CoreState) (sim : Sim) (replay : Replayed) → IsReady core sim replay → is_suspect core.log.marks ≡ false
+known-ready core sim replay ready = known-warm core sim.chip ready.between.within ready.between.rest.warm
 
-call-due : (core : State) (chip : ChipState) → IsKept core chip → is_suspect core.log.marks ≡ false → due.OwesCall core → CallIsDue core.plan core.capacities core.log chip
-call-due core chip kept known is = record {
-  applied = rows_applied core.applied;
-  are = applied-are core chip kept known;
-  key = is.key;
-  differs = λ same. is.differs (same ∙ sym (good-are core chip kept is.key));
-  free = λ w true_of. is.free w (reason-at core.plan core.capacities (rows_applied core.applied) (rows_of (sent_writes core.log.taken)) core.rows is.key w (sym kept.keeps.rows) true_of);
-  change = subst (λ r. HasChange core.plan (good_rows core.plan r) (rows_applied core.applied) is.key) kept.keeps.rows is.change;
-}
+suspect-more : (marks : List Mark) (mark : Mark) → is_suspect (marks ++ mark ∷ []) ≡ is_fault mark.event
+suspect-more [] mark = refl
+suspect-more (m ∷ []) mark = refl
+suspect-more (m ∷ n ∷ marks) mark = suspect-more (n ∷ marks) mark
 
-listed-reasons : (core : State) (r : Rows) → core.rows ≡ r → (ws : List (Key × Wait)) → WaitTruly core ws → ReasonsAreTrue core.plan core.capacities (good_rows core.plan r) (rows_applied core.applied) (map (λ w. (w.0, w.1, rows_applied core.applied w.0)) ws)
-listed-reasons core r is [] truly = tt
-listed-reasons core r is (w ∷ ws) (one, truly) = (reason-at core.plan core.capacities (rows_applied core.applied) core.rows r w.0 w.1 is one.0, listed-reasons core r is ws truly)
+-- the size that a core counts is that of its log
+sized-at : (c : CoreState) (chip : ChipState) → InSession c chip → (n : ℕ) → size_beside c n ≡ log_size c.log n
+sized-at c chip within n = ap (λ k. size_listing k c.log n) within.stands.listed
 
-mark-due : (core : State) (chip : ChipState) → IsKept core chip → is_suspect core.log.marks ≡ false → IsStrictlySortedBy key_cmp core.to_sync → settling.OwesMark core → MarkIsDue core.plan core.capacities core.log chip (listing core)
-mark-due core chip kept known sorted is = record {
-  applied = rows_applied core.applied;
-  are = applied-are core chip kept known;
-  order = order-listing core is.rest sorted;
-  reasons = listed-reasons core (rows_of (sent_writes core.log.taken)) kept.keeps.rows core.waiting is.truly;
-  others = λ key away.
-      ⊎_elim
-      (λ there. absurd (away (subst (λ ks. IsIn key ks) (sym (keys-listing core core.waiting)) (subst (λ ks. IsIn key ks) (is.rest ∙ append-nil (waiting_keys core.waiting)) there))))
-      (λ same. same ∙ good-are core chip kept key)
-      (kept.keeps.to_sync key);
-}
+-- whatever a settling came to, steps of the session led there
+pub settled-some : (mid : CoreState) (chip : ChipState) (s : LoggedService) (r : Result Settled OutOfMemory) (new : CoreState) (chip' : ChipState) → Settles s mid chip r new chip' → MakesSome mid s new chip'
+settled-some mid chip s (Ok settled.Settled) new chip' e = leads_some mid new chip' s e.settles.later e.settles.leads
+settled-some mid chip s (Ok settled.Faulted) new chip' e = e.0.steps
+settled-some mid chip s (Ok settled.LogFull) new chip' (inl e) = e.steps
+settled-some mid chip s (Ok settled.LogFull) new chip' (inr e) = leads_some mid new chip' s e.later e.leads
+settled-some mid chip s (Err wanting) new chip' e = e.steps
 
--- ---- a replay of effects that grew
+-- and the chip has the failing calls that it was made with
+pub settled-keeps : (mid : CoreState) (chip : ChipState) (s : LoggedService) (r : Result Settled OutOfMemory) (new : CoreState) (chip' : ChipState) → Settles s mid chip r new chip' → KeepsChip chip chip'
+settled-keeps mid chip s (Ok settled.Settled) new chip' e = e.keeps
+settled-keeps mid chip s (Ok settled.Faulted) new chip' e = e.0.keeps
+settled-keeps mid chip s (Ok settled.LogFull) new chip' (inl e) = e.keeps
+settled-keeps mid chip s (Ok settled.LogFull) new chip' (inr e) = e.keeps
+settled-keeps mid chip s (Err wanting) new chip' e = e.keeps
 
-replay-grown : (r : Replayed) (effects more : List (Call Rid)) → IsReplayOf r effects → IsReplayOf r (effects ++ more)
-replay-grown r effects more follows = IsReplayOf-append r effects more follows
+-- the mark of a failed call, and the places that it had
+module _ (mid new : CoreState) (chip chip' : ChipState) (s : LoggedService) (is : InSession mid chip) (e : StopsFaulted s mid chip new chip') where
+  abbrev fault_mark : Mark
+  fault_mark = mark_at mid (length chip'.effects) (event.Faulted e.marks.before chip'.faults)
+
+  size-faulted : (n : ℕ) → log_size new.log n ≡ size_beside mid n + 1
+  size-faulted n =
+      ap (λ (h : History). log_size h n) e.marks.log ∙ size_after
+    where
+      size_after : log_size (with_end (with_mark mid.log fault_mark)) n ≡ size_beside mid n + 1
+      size_after =
+          let sized = sized-at mid chip is n in
+          let marks = length-append mid.log.marks (fault_mark ∷ []) in
+          let listed = listed_more mid.log.marks fault_mark in
+          omega (arith, sized, marks, listed)
+
+  pub fits-faulted : log_size new.log (length chip'.effects) ≤ new.limit
+  fits-faulted =
+      let size = size-faulted (length chip'.effects) in
+      let places = e.marks.places in
+      let few = e.marks.few in
+      let limit = e.steps.limit in
+      omega (arith, size, places, few, limit)
+
+  -- the failed call had a place for its effect and one for the mark
+  pub places-faulted : log_size new.log chip'.before_fault + 1 ≤ new.limit
+  places-faulted =
+      let size = size-faulted chip'.before_fault in
+      let places = e.marks.places in
+      let limit = e.steps.limit in
+      omega (arith, size, places, limit)
 
 -- ---- the lines
 
@@ -127,51 +154,16 @@ text-as shows lines p p' n n' ms ms' t t' r r' c c' o o' e e' b b' ps ns mss ts 
     (subst (λ x. IsRoundText (record { plan = p; number = n; marks = ms; taken = t; rows = r; capacities = c; objects = o; effects = x }) b' shows lines) es
     (subst (λ x. IsRoundText (record { plan = p; number = n; marks = ms; taken = t; rows = r; capacities = c; objects = o; effects = e }) x shows lines) bs text))))))))
 
--- the mark of a settling, and that of a failed call, had their places
-pub fits-settled : (mid new : State) (chip chip' : ChipState) → IsKept new chip' → settling.MarksSettled mid chip new chip' → log_size new.log (length chip'.effects) ≤ new.limit
-fits-settled mid new chip chip' kept is = omega (arith, is.places, places-are new chip' kept)
-
-pub fits-faulted : (mid new : State) (chip chip' : ChipState) → IsKept new chip' → settling.IsSame mid new → settling.MarksFaulted mid chip new chip' → log_size new.log (length chip'.effects) ≤ new.limit
-fits-faulted mid new chip chip' kept same is =
-    omega (
-      arith,
-      is.places.fits,
-      is.places.last,
-      places-are new chip' kept,
-      is.listed,
-      same.limit,
-      ap (λ (h : History). length h.taken) is.log,
-      ap (λ (h : History). length h.marks) is.log,
-      length-append mid.log.marks (mark_at mid (length chip'.effects) (event.Faulted chip.faults chip'.faults) ∷ []),
-    )
-
--- the failed call had a place for its effect and one for the mark
-pub places-faulted : (mid new : State) (chip chip' : ChipState) → IsKept new chip' → settling.IsSame mid new → settling.MarksFaulted mid chip new chip' → log_size new.log chip'.before_fault + 1 ≤ new.limit
-places-faulted mid new chip chip' kept same is =
-    omega (
-      arith,
-      is.places.fits,
-      places-are new chip' kept,
-      is.listed,
-      same.limit,
-      ap (λ (h : History). length h.taken) is.log,
-      ap (λ (h : History). length h.marks) is.log,
-      length-append mid.log.marks (mark_at mid (length chip'.effects) (event.Faulted chip.faults chip'.faults) ∷ []),
-    )
-
 -- ---- a round
 
-module _ (round : Round) (old : State) (sim : Sim) (replay : Replayed) (ready : IsReady old sim replay) (built : is_built_round round ≡ true) (mid : State) where
+module _ (round : Round) (old : CoreState) (sim : Sim) (replay : Replayed) (ready : IsReady old sim replay) (read : HaveReadKeys (writes_in round.sections)) (mid : CoreState) where
   -- after some of its writes
-  module _ (sent rest : List Sent) (front : sent_in_round round ≡ sent ++ rest) (took : Took sent old mid) where
-    kept-mid : IsKept mid sim.chip
-    kept-mid = took.kept sim.chip (served-front sent rest (subst NameServedRows front (served-round round built))) ready.kept
-
-    log-mid : mid.log ≡ record old.log { taken = old.log.taken ++ sent }
-    log-mid = ap (λ (s : State). s.log) took.behind
+  module _ (sent rest : List Sent) (front : sent_in_round round ≡ sent ++ rest) (took : mid ≡ with_all old sent) where
+    in-mid : IsInRound old sim.chip sent mid
+    in-mid = subst (IsInRound old sim.chip sent) (sym took) (in-round old sim.chip [] sent old (round-begins old sim.chip ready.between) (on-front sent rest (subst AreOnSwitch front (on-round round read))))
 
     plan-mid : KeepsPlan old mid
-    plan-mid = record { plan = ap (λ (s : State). s.plan) took.behind; capacities = ap (λ (s : State). s.capacities) took.behind; limit = ap (λ (s : State). s.limit) took.behind }
+    plan-mid = record { plan = ap (λ (b : BoardState). b.plan) in-mid.board; capacities = ap (λ (z : SyncState). z.capacities) in-mid.sync; limit = ap (λ (c : CoreState). c.limit) took ∙ all-limit old sent }
 
     abbrev stops-mid : StopsRound round old sim mid sim
     stops-mid = record {
@@ -179,269 +171,241 @@ module _ (round : Round) (old : State) (sim : Sim) (replay : Replayed) (ready : 
       rest = rest;
       calls = [];
       front = front;
-      log = log-mid;
+      log = in-mid.log;
       grown = sym (append-nil sim.chip.effects);
-      kept = kept-mid;
+      within = in-mid.within;
       same = plan-mid;
     }
-
-    known-mid : is_suspect mid.log.marks ≡ false
-    known-mid = ap (λ (h : History). is_suspect h.marks) log-mid ∙ ready.known
 
   pub stops-wanting : IsRoundTook (length sim.chip.effects) (writes_in round.sections) old taken.NoMemory mid → StopsRound round old sim mid sim
   stops-wanting (counts, (sent, later, gives, took)) = stops-mid sent later gives took
 
   pub full-taking : {H : Type 0} (held : H) → IsRoundTook (length sim.chip.effects) (writes_in round.sections) old taken.LogFull mid
-      → (stops : StopsRound round old sim mid sim) × IsFull mid.plan mid.capacities mid.limit round mid.log sim.chip stops.sent × (mid.limit < log_size mid.log (length sim.chip.effects) + 2 + length (keys_named mid.log.taken))
-      × (IsUnused old sim → mid.limit < 2 * length stops.sent + 2) × (held ≡ held)
+      → (stops : StopsRound round old sim mid sim) × IsFull mid.board.plan mid.sync.capacities mid.limit round mid.log sim.chip stops.sent × (mid.limit < log_size mid.log (length sim.chip.effects) + 2 + length (keys_named mid.log.taken)) × (held ≡ held)
   full-taking held (counts, (sent, next, later, gives, took, full)) =
-      let kept = kept-mid sent (next ∷ later) gives took in
-      let size = places-are mid sim.chip kept in (
+      let size = sized mid sim.chip (in-mid sent (next ∷ later) gives took).within in (
         stops-mid sent (next ∷ later) gives took,
         AtWrite next later gives (omega (arith, full, size)),
         omega (arith, full, size),
-        (λ unused. omega (
-          arith,
-          full,
-          ap length unused.still,
-          ap (λ (s : State). s.listed) took.behind,
-          ap (λ (s : State). s.listed) unused.new,
-          ap (λ (s : State). length s.log.marks) took.behind,
-          ap (λ (s : State). length s.log.marks) unused.new,
-          ap (λ (s : State). length s.log.taken) took.behind,
-          ap (λ (s : State). length (s.log.taken ++ sent)) unused.new,
-        )),
         refl,
       )
 
   -- after all of its writes
-  module _ (counts : Rattle.swss_run.specs.Taking.Counts) (sent : List Sent) (gives : sent_after [] (writes_in round.sections) ≡ [] ++ sent) (took : TookAll sent old mid) where
+  module _ (counts : Counts) (sent : List Sent) (gives : sent_after [] (writes_in round.sections) ≡ [] ++ sent) (took : mid ≡ with_all old sent) where
     pub all_sent : sent_in_round round ≡ sent ++ []
     all_sent = gives ∙ sym (append-nil sent)
 
-    pub kept-all : IsKept mid sim.chip
-    kept-all = kept-mid sent [] all_sent took.took
+    pub in-all : IsInRound old sim.chip sent mid
+    in-all = in-mid sent [] all_sent took
 
-    pub known-all : is_suspect mid.log.marks ≡ false
-    known-all = known-mid sent [] all_sent took.took
+    pub warm-all : mid.warm ≡ warm.Reconciled
+    warm-all = in-all.warm ∙ ready.between.rest.warm
 
-    log-all : mid.log ≡ record old.log { taken = old.log.taken ++ sent }
-    log-all = log-mid sent [] all_sent took.took
+    free-all : (v : ℕ) → v < 4 → flown_at mid.board v ≡ None
+    free-all v less = ap (λ (b : BoardState). flown_at b v) in-all.board ∙ ready.between.rest.free v less
 
-    module _ (new : State) (sim' : Sim) (kept : IsKept new sim'.chip) (same : settling.IsSame mid new) (sync : OnlyLeave mid.to_sync new.to_sync) (grown : IsGrown sim.chip sim'.chip) where
-      pub plan-new : KeepsPlan old new
-      plan-new = same-trans old mid new (plan-mid sent [] all_sent took.took) (record { plan = same.plan; capacities = same.capacities; limit = same.limit })
-
-      -- each key to sync was written
-      keys-new : new.log.taken ≡ old.log.taken ++ sent → (key : Key) → IsIn key new.to_sync → IsIn key (keys_named new.log.taken)
-      keys-new is key there =
-          subst (λ l. IsIn key (keys_named l)) (sym is)
-          (⊎_elim (λ before. named-front old.log.taken sent key (ready.keys key before)) (λ named. named-back old.log.taken sent key named) (took.keys key (sync.each key there)))
-
-      sorted-new : IsStrictlySortedBy key_cmp new.to_sync
-      sorted-new = sync.order (took.sorted ready.sorted)
-
+    module _ (new : CoreState) (sim' : Sim) where
       -- what stands when the round has ended, as its lines are asked for
       abbrev pub ended_now : ℕ → Ended
-      ended_now number = record { plan = new.plan; number = number; marks = drop (length old.log.marks) new.log.marks; taken = length new.log.taken; rows = new.rows; capacities = sim'.chip.capacities; objects = sim'.chip.objects; effects = sim'.chip.effects }
+      ended_now number = record { plan = new.board.plan; number = number; marks = drop (length old.log.marks) new.log.marks; taken = length new.log.taken; rows = new.tables.rows; capacities = sim'.chip.capacities; objects = sim'.chip.objects; effects = sim'.chip.effects }
 
-      pub follows-new : IsReplayOf replay sim'.chip.effects
-      follows-new = subst (IsReplayOf replay) (sym grown.grown) (replay-grown replay sim.chip.effects grown.calls ready.follows)
+      pub follows-new : MakesSome mid in-all.within.session new sim'.chip → IsReplayOf replay sim'.chip.effects
+      follows-new some =
+          let grown = effects-grow mid new sim.chip sim'.chip in-all.within some in
+          subst (IsReplayOf replay) (sym grown.1) (IsReplayOf-append replay sim.chip.effects grown.0 ready.follows)
 
-      -- no mark was made
-      module _ (log : new.log ≡ mid.log) (listed : new.listed ≡ mid.listed) where
-        pub log-stopped : new.log ≡ record old.log { taken = old.log.taken ++ sent }
-        log-stopped = log ∙ log-all
+      -- no mark is lost
+      pub marks-longer : MakesSome mid in-all.within.session new sim'.chip → length old.log.marks ≤ length new.log.marks
+      marks-longer some =
+          let more = marks-grow mid new sim.chip sim'.chip in-all.within some in
+          let same = ap (λ (h : History). length h.marks) in-all.log in
+          let longer = length-append mid.log.marks more.0 in
+          omega (arith, ap length more.1, same, longer)
 
-        abbrev pub stops-new : StopsRound round old sim new sim'
-        stops-new = record {
+      module _ (within : InSession new sim'.chip) (same : KeepsPlan mid new) (calls : List (Call Rid)) (grown : sim'.chip.effects ≡ sim.chip.effects ++ calls) where
+        plan-new : KeepsPlan old new
+        plan-new = same-trans old mid new (plan-mid sent [] all_sent took) same
+
+        -- no mark was made
+        abbrev stops-new : new.log ≡ mid.log → StopsRound round old sim new sim'
+        stops-new log = record {
           sent = sent;
           rest = [];
-          calls = grown.calls;
+          calls = calls;
           front = all_sent;
-          log = log-stopped;
-          grown = grown.grown;
-          kept = kept;
+          log = log ∙ in-all.log;
+          grown = grown;
+          within = within;
           same = plan-new;
         }
 
-        known-stopped : is_suspect new.log.marks ≡ false
-        known-stopped = ap (λ (h : History). is_suspect h.marks) log ∙ known-all
+        -- a mark was made
+        module _ (mark : Mark) (kind : is_settling mark.event ≡ true) (counts_sent : mark.taken ≡ length (old.log.taken ++ sent)) (counts_calls : mark.effects ≡ length (sim.chip.effects ++ calls)) (log : new.log ≡ with_round old.log sent mark) (turned : IsSettledMark mark.event → EndsTurned old.board.plan old.sync.capacities (round_from old sim.chip sent calls mark)) (popped : new.tables.waiting ≡ []) (fits : log_size new.log (length sim'.chip.effects) ≤ new.limit) (failed : is_fault mark.event ≡ true → log_size new.log sim'.chip.before_fault + 1 ≤ new.limit) where
+          abbrev ran : Ran
+          ran = record { marks = mark ∷ []; sent = sent; calls = calls }
 
-        few-waiting : settling.OwesMark new → length new.waiting ≤ length (keys_named new.log.taken)
-        few-waiting is =
-            omega (
-              arith,
-              few-among new.to_sync (keys_named new.log.taken) sorted-new (named-sorted new.log.taken) (keys-new (ap (λ (h : History). h.taken) log-stopped)),
-              ap length (is.rest ∙ append-nil (waiting_keys new.waiting)),
-              length-map new.waiting (λ (w : Key × Wait). w.0),
+          suspect-is : is_suspect new.log.marks ≡ is_fault mark.event
+          suspect-is = ap (λ (h : History). is_suspect h.marks) log ∙ suspect-more old.log.marks mark
+
+          abbrev ends-round : EndsRound round old sim ran new sim'
+          ends-round = record {
+            mark = mark;
+            marks = refl;
+            settling = kind;
+            sent = sym gives;
+            taken = counts_sent;
+            effects = counts_calls;
+            log = log;
+            calls = grown;
+            turned = λ m is settled. let same_mark : mark ≡ m = cc in subst (λ (x : Mark). IsSettledMark x.event → EndsTurned old.board.plan old.sync.capacities (round_from old sim.chip sent calls x)) same_mark turned settled;
+            within = within;
+            same = plan-new;
+            places = fits;
+            fault_places = λ suspect. failed (sym suspect-is ∙ suspect);
+          }
+
+          module _ (number : ℕ) (counted : 0 < number) (rising : HasRisingRows new.tables.rows) where
+            has-lines : (lines : List ℕ) → IsRoundText (ended_now number) replay.at round.shows lines → HasLines number round old sim ran lines
+            has-lines lines text = record {
+              before = number - 1;
+              number_is = omega (arith, counted);
+              text =
+                  text-as round.shows lines
+                  new.board.plan old.board.plan number (number - 1 + 1) (drop (length old.log.marks) new.log.marks) (mark ∷ []) (length new.log.taken) (length (old.log.taken ++ sent)) new.tables.rows (rows_of (sent_writes (old.log.taken ++ sent)))
+                  sim'.chip.capacities old.sync.capacities sim'.chip.objects (chip_after (sim.chip.effects ++ calls) (length (sim.chip.effects ++ calls))) sim'.chip.effects (sim.chip.effects ++ calls) replay.at (length sim.chip.effects)
+                  plan-new.plan
+                  (omega (arith, counted))
+                  (ap (λ (h : History). drop (length old.log.marks) h.marks) log ∙ drop-append_seam old.log.marks (mark ∷ []))
+                  (ap (λ (h : History). length h.taken) log)
+                  (rows-told new sim'.chip within popped rising ∙ ap (λ (h : History). rows_of (sent_writes h.taken)) log)
+                  (within.stands.capacities ∙ plan-new.capacities)
+                  (objects-left new sim'.chip within ∙ ap (λ l. chip_after l (length l)) grown)
+                  grown
+                  ready.at_end
+                  text;
+            }
+
+            module _ (held held' : Option (List ℕ)) (faults faults' : ℕ) (result : Status) (replay' : Replayed) where
+              run-done : IsBetweenRounds new sim'.chip → IsWritten (ended_now number) replay.at round.shows status.Done held faults result replay' held' faults' → IsRoundRun number round old sim held faults result new sim' replay' held' faults'
+              run-done between (Whole lines text took follows at is) =
+                  subst (λ r. IsRoundRun number round old sim held faults r new sim' replay' held' faults') (sym is) (ran, lines, ends-round, has-lines lines text, took, record { between = between; follows = follows; at_end = at })
+              run-done between (Failed lines text took rose is) =
+                  subst (λ r. IsRoundRun number round old sim held faults r new sim' replay' held' faults') (sym is) (ran, lines, ends-round, has-lines lines text, took, rose)
+              run-done between (Wanting lines text took is) =
+                  subst (λ r. IsRoundRun number round old sim held faults r new sim' replay' held' faults') (sym is) (inr (ran, ends-round, inr (lines, has-lines lines text, took)))
+              run-done between (Unwritten same is) =
+                  subst (λ r. IsRoundRun number round old sim held faults r new sim' replay' held' faults') (sym is) (inr (ran, ends-round, inl same))
+
+              run-failed : is_fault mark.event ≡ true → 0 < sim'.chip.faults → IsWritten (ended_now number) replay.at round.shows status.ChipFault held faults result replay' held' faults' → IsRoundRun number round old sim held faults result new sim' replay' held' faults'
+              run-failed bad rose (Whole lines text took follows at is) =
+                  subst (λ r. IsRoundRun number round old sim held faults r new sim' replay' held' faults') (sym is) (ran, lines, ends-round, has-lines lines text, took, suspect-is ∙ bad, rose)
+              run-failed bad rose (Failed lines text took more is) =
+                  subst (λ r. IsRoundRun number round old sim held faults r new sim' replay' held' faults') (sym is) (ran, lines, ends-round, has-lines lines text, took, more)
+              run-failed bad rose (Wanting lines text took is) =
+                  subst (λ r. IsRoundRun number round old sim held faults r new sim' replay' held' faults') (sym is) (inr (ran, ends-round, inr (lines, has-lines lines text, took)))
+              run-failed bad rose (Unwritten same is) =
+                  subst (λ r. IsRoundRun number round old sim held faults r new sim' replay' held' faults') (sym is) (inr (ran, ends-round, inl same))
+
+      -- ---- how the settling ended
+
+      some-same : MakesSome mid in-all.within.session new sim'.chip → KeepsPlan mid new
+      some-same some = record { plan = some.plan; capacities = some.capacities; limit = some.limit }
+
+      -- the log behind its mark
+      with-round : (mark : Mark) → with_end (with_mark (record old.log { taken = old.log.taken ++ sent }) mark) ≡ with_round old.log sent mark
+      with-round mark = ap (λ n. record { taken = old.log.taken ++ sent; marks = old.log.marks ++ mark ∷ []; ends = old.log.ends ++ n ∷ [] }) (length-append old.log.marks (mark ∷ []))
+
+      module _ (number : ℕ) (held held' : Option (List ℕ)) (faults faults' : ℕ) (result : Status) (replay' : Replayed) (counted : 0 < number) (rising : HasRisingRows new.tables.rows) where
+        run-settled : SettlesWhole in-all.within.session mid sim.chip new sim'.chip → IsWritten (ended_now number) replay.at round.shows status.Done held faults result replay' held' faults' → IsRoundRun number round old sim held faults result new sim' replay' held' faults'
+        run-settled e written =
+            let ends = round-ends old mid new sim.chip sim'.chip sent in-all e.settles in
+            let leads = e.settles.leads in
+            let size = sized new sim'.chip ends.later.within in
+            let places = e.places in
+            run-done ends.later.within (record { plan = leads.plan; capacities = leads.capacities; limit = leads.limit }) ends.calls ends.effects
+            ends.mark (ap is_settling ends.made.event_is) ends.made.counts.taken ends.made.counts.effects (ends.log ∙ with-round ends.mark)
+            (λ settled. record { made = ends.made; quiet = ends.quiet; drains = λ from least. round-drained old.board.plan old.sync.capacities (round_from old sim.chip sent ends.calls ends.mark) ends.made from least })
+            e.settles.popped
+            (omega (arith, size, places))
+            (λ bad. absurd (no_fault (sym bad ∙ ap is_fault ends.made.event_is)))
+            number counted rising held held' faults faults' result replay' ends.later written
+          where
+            no_fault : true ≡ false → ⊥
+            no_fault h = cc
+
+        run-faulted : Settles in-all.within.session mid sim.chip (Ok settled.Faulted) new sim'.chip → IsWritten (ended_now number) replay.at round.shows status.ChipFault held faults result replay' held' faults' → IsRoundRun number round old sim held faults result new sim' replay' held' faults'
+        run-faulted e written =
+            let stops = e.0 in
+            let grown = effects-grow mid new sim.chip sim'.chip in-all.within stops.steps in
+            let mark = mark_at mid (length sim'.chip.effects) (event.Faulted stops.marks.before sim'.chip.faults) in
+            let rose = stops.marks.more in
+            run-failed (some-on mid new sim.chip sim'.chip in-all.within stops.steps).0 (some-same stops.steps) grown.0 grown.1
+            mark refl (ap (λ (h : History). length h.taken) in-all.log) (ap length grown.1)
+            (stops.marks.log ∙ ap (λ (h : History). with_end (with_mark h mark)) in-all.log ∙ with-round mark)
+            (λ settled. absurd settled)
+            (e.1 free-all)
+            (fits-faulted mid new sim.chip sim'.chip in-all.within.session in-all.within stops)
+            (λ bad. places-faulted mid new sim.chip sim'.chip in-all.within.session in-all.within stops)
+            number counted rising held held' faults faults' result replay' refl (omega (arith, rose)) written
+
+        pub run-marked : (r : Result Settled OutOfMemory) (ended : Status) → round_ended r ≡ Ok ended → Settles in-all.within.session mid sim.chip r new sim'.chip → IsWritten (ended_now number) replay.at round.shows ended held faults result replay' held' faults' → IsRoundRun number round old sim held faults result new sim' replay' held' faults'
+        run-marked (Ok settled.Settled) ended is e written =
+            let same_end : ended ≡ status.Done = cc in
+            run-settled e (subst (λ x. IsWritten (ended_now number) replay.at round.shows x held faults result replay' held' faults') same_end written)
+        run-marked (Ok settled.Faulted) ended is e written =
+            let same_end : ended ≡ status.ChipFault = cc in
+            run-faulted e (subst (λ x. IsWritten (ended_now number) replay.at round.shows x held faults result replay' held' faults') same_end written)
+        run-marked (Ok settled.LogFull) ended is e written = cc
+        run-marked (Err wanting) ended is e written = cc
+
+      -- the log is full
+      module _ {H : Type 0} (held : H) where
+        abbrev IsFullHere : Type 0
+        IsFullHere = (stops : StopsRound round old sim new sim') × IsFull new.board.plan new.sync.capacities new.limit round new.log sim'.chip stops.sent × (new.limit < log_size new.log (length sim'.chip.effects) + 2 + length (keys_named new.log.taken)) × (held ≡ held)
+
+        full-call : StopsFull in-all.within.session mid sim.chip new sim'.chip → IsFullHere
+        full-call e =
+            let grown = effects-grow mid new sim.chip sim'.chip in-all.within e.steps in
+            let within = (some-on mid new sim.chip sim'.chip in-all.within e.steps).0 in
+            let size = sized new sim'.chip within in
+            let full = e.full in (
+              stops-new within (some-same e.steps) grown.0 grown.1 e.log,
+              AtCall (sym gives) (call-awaited new sim'.chip within e.warm e.flying.0 e.flying.1 e.flying.2) (omega (arith, full, size)),
+              omega (arith, full, size),
+              refl,
             )
 
-        -- in the first round each key to sync was written in it, and the keys to sync that left have a chip call each
-        module _ (unused : IsUnused old sim) (brings : BringsNew mid (length sim.chip.effects) new (length sim'.chip.effects)) where
-          applied-none : mid.applied ≡ []
-          applied-none = ap (λ (s : State). s.applied) took.took.behind ∙ ap (λ (s : State). s.applied) unused.new
+        full-mark : StopsAtMark in-all.within.session mid sim.chip new sim'.chip → IsFullHere
+        full-mark e =
+            let some = leads_some mid new sim'.chip in-all.within.session e.later e.leads in
+            let grown = effects-grow mid new sim.chip sim'.chip in-all.within some in
+            let there = leads-on mid new sim.chip sim'.chip in-all.within e.later e.leads in
+            let within = there.0 in
+            let awaited = keys-awaited new sim'.chip within e.at_rest.warm e.at_rest.popped e.at_rest.free e.order (λ k to_sync. subst (λ (s : LoggedService). MustWait new.board.plan 4 new.sync.capacities s.service.core k) (sym there.1) (e.waits k to_sync)) in
+            let size = sized new sim'.chip within in
+            let full = e.full in
+            let many = awaited.1 in
+            let few = ops-few new sim'.chip within (not_suspect new.warm e.at_rest.warm) e.order in (
+              stops-new within (some-same some) grown.0 grown.1 e.log,
+              AtMark awaited.0 (sym gives) awaited.2 (omega (arith, full, size, many)),
+              omega (arith, full, size, few),
+              refl,
+            )
 
-          few-effects : length sim'.chip.effects + length new.to_sync ≤ length mid.to_sync
-          few-effects =
-              omega (
-                arith,
-                (brings (λ k there. ap (λ entries. rows_applied entries k) applied-none)).few,
-                ap length unused.still,
-              )
+      stops-short : (e : OutOfMemory) → Settles in-all.within.session mid sim.chip (Err e) new sim'.chip → StopsRound round old sim new sim'
+      stops-short wanting e =
+          let grown = effects-grow mid new sim.chip sim'.chip in-all.within e.steps in
+          stops-new (some-on mid new sim.chip sim'.chip in-all.within e.steps).0 (some-same e.steps) grown.0 grown.1 e.log
 
-          few-to_sync : length mid.to_sync ≤ length sent
-          few-to_sync =
-              let to_sync_none : old.to_sync ≡ [] = ap (λ (s : State). s.to_sync) unused.new in
-              let named : (k : Key) → IsIn k mid.to_sync → IsIn k (keys_named sent) = λ k there. ⊎_elim (λ before. absurd (subst (λ ks. IsIn k ks) to_sync_none before)) (λ new_one. new_one) (took.keys k there) in
-              omega (arith, few-among mid.to_sync (keys_named sent) (took.sorted ready.sorted) (named-sorted sent) named, few-named sent)
-
-          size-new : counted_size new (length sim'.chip.effects) ≡ length sim'.chip.effects + length sent
-          size-new =
-              omega (
-                arith,
-                listed,
-                ap (λ (s : State). s.listed) took.took.behind,
-                ap (λ (s : State). s.listed) unused.new,
-                ap (λ (h : History). length h.marks) log-stopped,
-                ap (λ (s : State). length s.log.marks) unused.new,
-                ap (λ (h : History). length h.taken) log-stopped,
-                ap (λ (s : State). length (s.log.taken ++ sent)) unused.new,
-              )
-
-          pub full-first : settling.LacksPlaces new (length sim'.chip.effects) → new.limit < 2 * length sent + 2
-          full-first (inl (is, full)) = omega (arith, full, size-new, few-effects, few-to_sync)
-          full-first (inr (is, full)) =
-              omega (
-                arith,
-                full,
-                size-new,
-                few-effects,
-                few-to_sync,
-                ap length (is.rest ∙ append-nil (waiting_keys new.waiting)),
-                length-map new.waiting (λ (w : Key × Wait). w.0),
-              )
-
-        pub full-settling : {H : Type 0} (held : H) → settling.LacksPlaces new (length sim'.chip.effects) → BringsNew mid (length sim.chip.effects) new (length sim'.chip.effects)
-            → (stops : StopsRound round old sim new sim') × IsFull new.plan new.capacities new.limit round new.log sim'.chip stops.sent × (new.limit < log_size new.log (length sim'.chip.effects) + 2 + length (keys_named new.log.taken))
-            × (IsUnused old sim → new.limit < 2 * length stops.sent + 2) × (held ≡ held)
-        full-settling held (inl (is, full)) brings = (
-          stops-new,
-          AtCall (sym (gives)) (call-due new sim'.chip kept known-stopped is) (omega (arith, full, places-are new sim'.chip kept)),
-          omega (arith, full, places-are new sim'.chip kept),
-          (λ unused. full-first unused brings (inl (is, full))),
-          refl,
-        )
-        full-settling held (inr (is, full)) brings = (
-          stops-new,
-          AtMark (listing new) (sym (gives)) (mark-due new sim'.chip kept known-stopped sorted-new is) (omega (arith, full, places-are new sim'.chip kept, length-map {B = Key × Wait × Option Row} new.waiting (λ (w : Key × Wait). (w.0, w.1, rows_applied new.applied w.0)))),
-          omega (arith, full, places-are new sim'.chip kept, few-waiting is),
-          (λ unused. full-first unused brings (inr (is, full))),
-          refl,
-        )
-
-      -- a mark was made
-      module _ (e : MarkEvent) (kind : is_settling e ≡ true) (log : new.log ≡ with_ending mid.log (mark_at mid (length sim'.chip.effects) e)) (fits : log_size new.log (length sim'.chip.effects) ≤ new.limit) (failed : Rattle.switch_model.specs.Sound.is_fault e ≡ true → log_size new.log sim'.chip.before_fault + 1 ≤ new.limit) where
-        abbrev mark : Mark
-        mark = mark_at mid (length sim'.chip.effects) e
-
-        abbrev pub ran : Ran
-        ran = record { marks = mark ∷ []; sent = sent; calls = grown.calls }
-
-        log-marked : new.log ≡ with_round old.log sent mark
-        log-marked =
-            log
-            ∙ ap (λ (h : History). with_ending h mark) log-all
-            ∙ ap (λ n. record { taken = old.log.taken ++ sent; marks = old.log.marks ++ mark ∷ []; ends = old.log.ends ++ n ∷ [] }) (length-append old.log.marks (mark ∷ []))
-
-        pub suspect-is : is_suspect new.log.marks ≡ Rattle.switch_model.specs.Sound.is_fault e
-        suspect-is = ap (λ (h : History). is_suspect h.marks) log-marked ∙ suspect-more old.log.marks mark
-
-        pub ends-round : EndsRound round old sim ran new sim'
-        ends-round = record {
-          mark = mark;
-          marks = refl;
-          settling = kind;
-          sent = sym gives;
-          taken = ap (λ (h : History). length h.taken) log-all;
-          effects = ap length grown.grown;
-          log = log-marked;
-          calls = grown.grown;
-          kept = kept;
-          same = plan-new;
-          places = fits;
-          fault_places = λ suspect. failed (sym suspect-is ∙ suspect);
-        }
-
-        pub has-lines : (number : ℕ) (lines : List ℕ) → 0 < number → IsRoundText (ended_now number) replay.at round.shows lines → HasLines number round old sim ran lines
-        has-lines number lines counted text = record {
-          before = number - 1;
-          number_is = omega (arith, counted);
-          text =
-              text-as round.shows lines
-              new.plan old.plan number (number - 1 + 1) (drop (length old.log.marks) new.log.marks) (mark ∷ []) (length new.log.taken) (length (old.log.taken ++ sent)) new.rows (rows_of (sent_writes (old.log.taken ++ sent)))
-              sim'.chip.capacities old.capacities sim'.chip.objects (chip_after (sim.chip.effects ++ grown.calls) (length (sim.chip.effects ++ grown.calls))) sim'.chip.effects (sim.chip.effects ++ grown.calls) replay.at (length sim.chip.effects)
-              plan-new.plan
-              (omega (arith, counted))
-              (ap (λ (h : History). drop (length old.log.marks) h.marks) log-marked ∙ drop-append_seam old.log.marks (mark ∷ []))
-              (ap (λ (h : History). length h.taken) log-marked)
-              (kept.keeps.rows ∙ ap (λ (h : History). rows_of (sent_writes h.taken)) log-marked)
-              (kept.keeps.capacities ∙ plan-new.capacities)
-              (kept.keeps.objects ∙ ap (λ l. chip_after l (length l)) grown.grown)
-              grown.grown
-              ready.at_end
-              text;
-        }
-
-        pub ready-new : (replay' : Replayed) → Rattle.switch_model.specs.Sound.is_fault e ≡ false → IsReplayOf replay' sim'.chip.effects → replay'.at ≡ length sim'.chip.effects → IsReady new sim' replay'
-        ready-new replay' good follows at = record {
-          kept = kept;
-          known = suspect-is ∙ good;
-          follows = follows;
-          at_end = at;
-          keys = keys-new (ap (λ (h : History). h.taken) log-marked);
-          sorted = sorted-new;
-        }
-
-        pub run-done : (number : ℕ) (held held' : Option (List ℕ)) (faults faults' : ℕ) (result : Status) (replay' : Replayed) → 0 < number → Rattle.switch_model.specs.Sound.is_fault e ≡ false → IsWritten (ended_now number) replay.at round.shows status.Done held faults result replay' held' faults' → IsRoundRun number round old sim held faults result new sim' replay' held' faults'
-        run-done number held held' faults faults' result replay' counted good (Whole lines text took follows at is) =
-            subst (λ r. IsRoundRun number round old sim held faults r new sim' replay' held' faults') (sym is) (ran, lines, ends-round, has-lines number lines counted text, took, ready-new replay' good follows at)
-        run-done number held held' faults faults' result replay' counted good (Failed lines text took rose is) =
-            subst (λ r. IsRoundRun number round old sim held faults r new sim' replay' held' faults') (sym is) (ran, lines, ends-round, has-lines number lines counted text, took, rose)
-        run-done number held held' faults faults' result replay' counted good (Wanting lines text took is) =
-            subst (λ r. IsRoundRun number round old sim held faults r new sim' replay' held' faults') (sym is) (inr (ran, ends-round, inr (lines, has-lines number lines counted text, took)))
-        run-done number held held' faults faults' result replay' counted good (Unwritten same is) =
-            subst (λ r. IsRoundRun number round old sim held faults r new sim' replay' held' faults') (sym is) (inr (ran, ends-round, inl same))
-
-        pub run-failed : (number : ℕ) (held held' : Option (List ℕ)) (faults faults' : ℕ) (result : Status) (replay' : Replayed) → 0 < number → Rattle.switch_model.specs.Sound.is_fault e ≡ true → 0 < sim'.chip.faults → IsWritten (ended_now number) replay.at round.shows status.ChipFault held faults result replay' held' faults' → IsRoundRun number round old sim held faults result new sim' replay' held' faults'
-        run-failed number held held' faults faults' result replay' counted bad rose (Whole lines text took follows at is) =
-            subst (λ r. IsRoundRun number round old sim held faults r new sim' replay' held' faults') (sym is) (ran, lines, ends-round, has-lines number lines counted text, took, suspect-is ∙ bad, rose)
-        run-failed number held held' faults faults' result replay' counted bad rose (Failed lines text took more is) =
-            subst (λ r. IsRoundRun number round old sim held faults r new sim' replay' held' faults') (sym is) (ran, lines, ends-round, has-lines number lines counted text, took, more)
-        run-failed number held held' faults faults' result replay' counted bad rose (Wanting lines text took is) =
-            subst (λ r. IsRoundRun number round old sim held faults r new sim' replay' held' faults') (sym is) (inr (ran, ends-round, inr (lines, has-lines number lines counted text, took)))
-        run-failed number held held' faults faults' result replay' counted bad rose (Unwritten same is) =
-            subst (λ r. IsRoundRun number round old sim held faults r new sim' replay' held' faults') (sym is) (inr (ran, ends-round, inl same))
-
-      -- how the settling ended
-      pub run-marked : (r : Result Settled OutOfMemory) (ended : Status) → round_ended r ≡ Ok ended → EndsSettling mid sim.chip r new sim'.chip → (number : ℕ) (held held' : Option (List ℕ)) (faults faults' : ℕ) (result : Status) (replay' : Replayed) → 0 < number → IsWritten (ended_now number) replay.at round.shows ended held faults result replay' held' faults' → IsRoundRun number round old sim held faults result new sim' replay' held' faults'
-      run-marked (Ok settled.Settled) ended is e number held held' faults faults' result replay' counted written =
-          let same_end : ended ≡ status.Done = cc in
-          run-done (event.Settled (listing new) e.turns) refl e.log (fits-settled mid new sim.chip sim'.chip kept e) (λ no. cc) number held held' faults faults' result replay' counted refl
-          (subst (λ x. IsWritten (ended_now number) replay.at round.shows x held faults result replay' held' faults') same_end written)
-      run-marked (Ok settled.Faulted) ended is e number held held' faults faults' result replay' counted written =
-          let same_end : ended ≡ status.ChipFault = cc in
-          run-failed (event.Faulted sim.chip.faults sim'.chip.faults) refl e.log (fits-faulted mid new sim.chip sim'.chip kept same e) (λ is_fault. places-faulted mid new sim.chip sim'.chip kept same e) number held held' faults faults' result replay' counted refl (omega (arith, e.rose))
-          (subst (λ x. IsWritten (ended_now number) replay.at round.shows x held faults result replay' held' faults') same_end written)
-      run-marked (Ok settled.LogFull) ended is e number held held' faults faults' result replay' counted written = cc
-      run-marked (Err wanting) ended is e number held held' faults faults' result replay' counted written = cc
-
-      pub run-stopped : (r : Result Settled OutOfMemory) (ended : Status) → round_ended r ≡ Err ended → EndsSettling mid sim.chip r new sim'.chip → (number : ℕ) (held : Option (List ℕ)) (faults : ℕ) (replay' : Replayed) → IsRoundRun number round old sim held faults ended new sim' replay' held faults
+      pub run-stopped : (r : Result Settled OutOfMemory) (ended : Status) → round_ended r ≡ Err ended → Settles in-all.within.session mid sim.chip r new sim'.chip → (number : ℕ) (held : Option (List ℕ)) (faults : ℕ) (replay' : Replayed) → IsRoundRun number round old sim held faults ended new sim' replay' held faults
       run-stopped (Ok settled.Settled) ended is e number held faults replay' = cc
       run-stopped (Ok settled.Faulted) ended is e number held faults replay' = cc
-      run-stopped (Ok settled.LogFull) ended is e number held faults replay' =
+      run-stopped (Ok settled.LogFull) ended is (inl e) number held faults replay' =
           let same_end : status.LogFull ≡ ended = cc in
-          subst (λ x. IsRoundRun number round old sim held faults x new sim' replay' held faults) same_end (full-settling e.0.log e.0.listed held e.1 e.2)
+          subst (λ x. IsRoundRun number round old sim held faults x new sim' replay' held faults) same_end (full-call held e)
+      run-stopped (Ok settled.LogFull) ended is (inr e) number held faults replay' =
+          let same_end : status.LogFull ≡ ended = cc in
+          subst (λ x. IsRoundRun number round old sim held faults x new sim' replay' held faults) same_end (full-mark held e)
       run-stopped (Err wanting) ended is e number held faults replay' =
           let same_end : status.OutOfMemory ≡ ended = cc in
-          subst (λ x. IsRoundRun number round old sim held faults x new sim' replay' held faults) same_end (inl (stops-new e.log e.listed, refl))
+          subst (λ x. IsRoundRun number round old sim held faults x new sim' replay' held faults) same_end (inl (stops-short wanting e, refl))

@@ -1,15 +1,21 @@
 -- one round more that ended
-use Rattle.std.proofs.Common.{◌≡◌, ℕ, ◌+◌, List, [], ◌∷◌, ◌++◌, length, slice_get, Some, refl, sym, ap, ◌∙◌, subst, arith}
+use Rattle.std.proofs.Common.{◌≡◌, ℕ, ◌+◌, true, List, [], ◌∷◌, ◌++◌, length, slice_get, Option, Some, refl, sym, ap, ◌∙◌, subst, arith}
 use Rattle.std.proofs.lemmas.Grind.{flat_map-append}
 use Rattle.std.proofs.lemmas.List.{append_assoc, append-nil, length-append}
 use Rattle.table_schema.specs.Plan.{Ports}
 use Rattle.table_schema.specs.declared.write.Sent.{Sent}
 use Rattle.sai_types.specs.declared.ids.Rid.{Rid}
 use Rattle.sai_types.specs.declared.body.Call.{Call}
+use Rattle.switch_model.specs.declared.mark.Mark.{Mark}
+use Rattle.switch_model.specs.declared.mark.MarkEvent.{MarkEvent}
+use Rattle.switch_model.specs.declared.mark.MarkEvent.TheVariants as event
+use Rattle.restart_laws.specs.Logged.{last_mark}
+use Rattle.round_laws.specs.Sessions.{BeginNoApply, BeginsNoApply}
 use Rattle.swss_script.specs.Sent.{sent_in_round}
 use Rattle.swss_script.specs.declared.parts.Round.{Round}
 use Rattle.swss_report.specs.Round.{IsRoundText}
-use Rattle.swss_run.specs.Rounds.{AreTaken, EndAtMarks, EndsAtMark, IsReportFrom, Ran, Rise, all_calls, all_marks, all_sent, ends_from, standing}
+use Rattle.swss_run.specs.Rounds.{AreTaken, EndAtMarks, EndsAtMark, IsReportFrom, Ran, Rise, all_calls, all_marks, all_sent, ends_from, is_settling, standing}
+use Rattle.swss_run.specs.Turned.{AreTurned, IsTurned}
 
 pub marks-more : (rans : List Ran) (ran : Ran) → all_marks (rans ++ ran ∷ []) ≡ all_marks rans ++ ran.marks
 marks-more rans ran = flat_map-append (λ (r : Ran). r.marks) rans (ran ∷ []) ∙ ap (λ l. all_marks rans ++ l) (append-nil ran.marks)
@@ -98,3 +104,49 @@ report-more plan capacities number sent calls (x ∷ rans) (r ∷ rounds) text r
       (c_is ∙ sym (append_assoc calls x.calls (all_calls rans)))
       is,
 )
+
+-- ---- what the calls of rounds are
+
+last-both : (before : Option Mark) (xs ys : List Mark) → last_mark before (xs ++ ys) ≡ last_mark (last_mark before xs) ys
+last-both before [] ys = refl
+last-both before (x ∷ xs) ys = last-both (Some x) xs ys
+
+pub turned-more : (plan : Ports) (capacities : List ℕ) (before : Option Mark) (taken : List Sent) (effects : List (Call Rid)) (rans : List Ran) (ran : Ran) (b : Option Mark) (s : List Sent) (c : List (Call Rid))
+    → AreTurned plan capacities before taken effects rans → b ≡ last_mark before (all_marks rans) → s ≡ taken ++ all_sent rans → c ≡ effects ++ all_calls rans
+    → IsTurned plan capacities b s c ran → AreTurned plan capacities before taken effects (rans ++ ran ∷ [])
+turned-more plan capacities before taken effects [] ran b s c turned b_is s_is c_is one = (
+  subst (λ x. IsTurned plan capacities x taken effects ran) b_is
+      (subst (λ x. IsTurned plan capacities b x effects ran) (s_is ∙ append-nil taken) (subst (λ x. IsTurned plan capacities b s x ran) (c_is ∙ append-nil effects) one)),
+  tt,
+)
+turned-more plan capacities before taken effects (r ∷ rans) ran b s c (first, turned) b_is s_is c_is one = (
+  first,
+  turned-more plan capacities (last_mark before r.marks) (taken ++ r.sent) (effects ++ r.calls) rans ran b s c turned
+      (b_is ∙ last-both before r.marks (all_marks rans))
+      (s_is ∙ sym (append_assoc taken r.sent (all_sent rans)))
+      (c_is ∙ sym (append_assoc effects r.calls (all_calls rans)))
+      one,
+)
+
+-- ---- no apply began
+
+settling_begins_none : (e : MarkEvent) → is_settling e ≡ true → BeginsNoApply e
+settling_begins_none (event.Settled waits turns) h = tt
+settling_begins_none (event.Faulted before after) h = tt
+settling_begins_none event.Restarted h = cc
+settling_begins_none (event.ApplyBegan mode waits) h = cc
+settling_begins_none event.ApplyEnded h = cc
+
+begin_both : (xs ys : List Mark) → BeginNoApply xs → BeginNoApply ys → BeginNoApply (xs ++ ys)
+begin_both [] ys h more = more
+begin_both (x ∷ xs) ys h more = (h.0, begin_both xs ys h.1 more)
+
+begin_all : (rans : List Ran) (sent calls : ℕ) → EndAtMarks sent calls rans → BeginNoApply (all_marks rans)
+begin_all [] sent calls at = tt
+begin_all (r ∷ rans) sent calls at =
+    begin_both r.marks (all_marks rans) (subst BeginNoApply (sym at.0.marks) (settling_begins_none at.0.mark.event at.0.settling, tt))
+    (begin_all rans (sent + length r.sent) (calls + length r.calls) at.1)
+
+-- each mark of rounds that ended is that of a settling
+pub begin-none : (marks : List Mark) (rans : List Ran) → marks ≡ all_marks rans → (sent calls : ℕ) → EndAtMarks sent calls rans → BeginNoApply marks
+begin-none marks rans is sent calls at = subst BeginNoApply (sym is) (begin_all rans sent calls at)

@@ -1,37 +1,42 @@
 -- what a session comes to, round by round
-use Rattle.std.proofs.Common.{◌≡◌, inl, inr, ℕ, ◌+◌, ◌*◌, ◌<◌, ◌≤◌, List, [], ◌∷◌, ◌++◌, length, take, drop, slice_get, Option, Some, None, refl, sym, ap, ◌∙◌, subst, arith}
+use Rattle.std.proofs.Common.{◌≡◌, inl, inr, ℕ, ◌+◌, ◌<◌, ◌≤◌, List, [], ◌∷◌, ◌++◌, length, take, drop, slice_get, Option, Some, None, refl, sym, ap, ◌∙◌, subst, arith, false}
 use Rattle.std.proofs.Math.Seq.{drop-append_seam, take-add, take-append_seam, take-length}
-use Rattle.std.specs.List.Sorted.{IsStrictlySortedBy}
-use Rattle.table_schema.specs.Key.{key_cmp}
 use Rattle.std.proofs.lemmas.Bool.{false≢true}
 use Rattle.std.proofs.lemmas.List.{append-nil, length-append}
 use Rattle.swss_types.specs.Outside.{Takes}
-use Rattle.table_schema.specs.Plan.{Ports}
+use Rattle.table_schema.specs.Plan.{IsPlan, Ports}
 use Rattle.table_schema.specs.declared.write.Sent.{Sent}
-use Rattle.sai_types.specs.Alike.{IsIn}
 use Rattle.sai_types.specs.ChipState.{ChipState, new_chip}
 use Rattle.sai_types.specs.declared.ids.Rid.{Rid}
 use Rattle.sai_types.specs.declared.body.Call.{Call}
 use Rattle.sai_chip.specs.Replay.{IsReplayOf, Replayed, new_replay}
 use Rattle.sai_chip.proofs.Replays.{IsReplayOf-new}
 use Rattle.sai_chip.specs.Sim.{Sim}
-use Rattle.switch_model.specs.History.{History, log_size}
+use Rattle.switch_model.specs.History.{History, log_size, no_history}
 use Rattle.switch_model.specs.Promises.{EffectsAreLegal, MarksAreTrue}
 use Rattle.switch_model.specs.Sound.{is_suspect}
-use Rattle.orch_core.specs.Keeps.{IsKept}
-use Rattle.orch_core.specs.State.{State, new_state}
+use Rattle.restart_laws.specs.Logged.{last_mark}
+use Rattle.session_laws.specs.Core.{CoreState, new_core}
+use Rattle.round_laws.specs.Between.{IsBetweenRounds, mark_of}
+use Rattle.round_laws.specs.Named.{keys_named}
+use Rattle.round_laws.specs.Sessions.{InSession}
+use Rattle.round_laws.proofs.Between.{between-first}
+use Rattle.round_laws.proofs.Bounded.{all-few}
+use Rattle.round_laws.proofs.Sessions.{counts-within, effects-legal, marks-true}
+use Rattle.swss_script.specs.Sent.{sent_in_round}
 use Rattle.swss_script.specs.declared.parts.Round.{Round}
 use Rattle.swss_report.specs.Round.{IsRoundText}
-use Rattle.swss_run.specs.Full.{IsFull, keys_named}
+use Rattle.swss_run.specs.Full.{IsFull}
 use Rattle.swss_run.specs.Output.{TakesFront}
-use Rattle.swss_run.specs.Rounds.{AreTaken, EndsAtMark, IsCut, IsReport, Ran, all_calls, all_marks, all_sent, ends_from, standing}
-use Rattle.swss_run.specs.Running.{EndsRound, HasLines, IsReady, IsRoundRun, IsUnused, KeepsPlan, StopsRound}
+use Rattle.swss_run.specs.Rounds.{AreTaken, EndsAtMark, IsCut, IsReport, Ran, Rise, all_calls, all_marks, all_sent, ends_from, standing}
+use Rattle.swss_run.specs.Running.{EndsRound, HasLines, IsReady, IsRoundRun, KeepsPlan, StopsRound}
 use Rattle.swss_run.specs.Session.{HasEnded, IsReported, IsSession, TookFront, TookReport, log_limit}
+use Rattle.swss_run.specs.Turned.{AreTurned, IsTurned}
 use Rattle.swss_run.specs.declared.status.Status.{Status}
 use Rattle.swss_run.specs.declared.status.Status.TheVariants as status
-use Rattle.swss_run.proofs.Named.{sorted-none}
 use Rattle.swss_run.proofs.Pieces.{Takes-trans}
-use Rattle.swss_run.proofs.Rounds.{at_marks-more, calls-more, ends-more, ends-rise, marks-more, report-more, sent-more, taken-more, taken-since}
+use Rattle.swss_run.proofs.Rounds.{at_marks-more, begin-none, calls-more, ends-more, ends-rise, marks-more, report-more, sent-more, taken-more, taken-since, turned-more}
+use Rattle.swss_run.proofs.RoundRuns.{known-ready, same-trans}
 
 -- ---- what the sink took
 
@@ -58,7 +63,7 @@ front-more a b c text lines took (n, few, next) = (
 
 -- ---- one round more
 
-module _ (round : Round) (old : State) (sim : Sim) (ran : Ran) (new : State) (sim' : Sim) (ends : EndsRound round old sim ran new sim') (rans : List Ran) (cut : IsCut old.log sim.chip.effects rans [] []) where
+module _ (round : Round) (old : CoreState) (sim : Sim) (ran : Ran) (new : CoreState) (sim' : Sim) (ends : EndsRound round old sim ran new sim') (rans : List Ran) (cut : IsCut old.log sim.chip.effects rans [] []) where
   taken_were : old.log.taken ≡ all_sent rans
   taken_were = cut.taken ∙ append-nil (all_sent rans)
 
@@ -83,16 +88,16 @@ module _ (round : Round) (old : State) (sim : Sim) (ran : Ran) (new : State) (si
     at_marks = at_marks-more 0 0 rans ran cut.at_marks at_mark;
   }
 
-  report-longer : (number : ℕ) (plan : Ports) (capacities : List ℕ) (rounds : List Round) (text lines : List ℕ) → plan ≡ old.plan → capacities ≡ old.capacities → slice_get rounds (length rans) ≡ Some round → number ≡ length rans + 1 → IsReport plan capacities rans rounds text → HasLines number round old sim ran lines → IsReport plan capacities (rans ++ ran ∷ []) rounds (text ++ lines)
+  report-longer : (number : ℕ) (plan : Ports) (capacities : List ℕ) (rounds : List Round) (text lines : List ℕ) → plan ≡ old.board.plan → capacities ≡ old.sync.capacities → slice_get rounds (length rans) ≡ Some round → number ≡ length rans + 1 → IsReport plan capacities rans rounds text → HasLines number round old sim ran lines → IsReport plan capacities (rans ++ ran ∷ []) rounds (text ++ lines)
   report-longer number plan capacities rounds text lines plan_is capacities_are at number_is told has =
       report-more plan capacities 0 [] [] rans rounds text ran round lines has.before old.log.taken sim.chip.effects told at (omega (arith, number_is, has.number_is)) taken_were effects_were
       (subst (λ p. IsRoundText (standing p capacities has.before old.log.taken sim.chip.effects ran) (length sim.chip.effects) round.shows lines) (sym plan_is)
-      (subst (λ c. IsRoundText (standing old.plan c has.before old.log.taken sim.chip.effects ran) (length sim.chip.effects) round.shows lines) (sym capacities_are) has.text))
+      (subst (λ c. IsRoundText (standing old.board.plan c has.before old.log.taken sim.chip.effects ran) (length sim.chip.effects) round.shows lines) (sym capacities_are) has.text))
 
 -- ---- a session
 
 -- what holds between two rounds
-pub record IsRunning (rounds done : List Round) (first : State) (held0 : Option (List ℕ)) (core : State) (sim : Sim) (replay : Replayed) (held : Option (List ℕ)) : Type 0 where
+pub record IsRunning (rounds done : List Round) (first : CoreState) (held0 : Option (List ℕ)) (core : CoreState) (sim : Sim) (replay : Replayed) (held : Option (List ℕ)) : Type 0 where
   pub ready : IsReady core sim replay
   pub same : KeepsPlan first core
   pub limit : first.limit ≡ log_limit
@@ -100,17 +105,13 @@ pub record IsRunning (rounds done : List Round) (first : State) (held0 : Option 
   pub cut : IsCut core.log sim.chip.effects rans [] []
   pub many : length rans ≡ length done
   pub writes : AreTaken rans rounds []
-  pub told : TookReport first.plan first.capacities rans rounds held0 held
+  pub turned : AreTurned first.board.plan first.sync.capacities None [] [] rans
+  pub told : TookReport first.board.plan first.sync.capacities rans rounds held0 held
   pub fits : log_size core.log (length sim.chip.effects) ≤ log_limit
-  pub unused : rans ≡ [] → IsUnused core sim
-
-not_none : (rans : List Ran) (ran : Ran) → rans ++ ran ∷ [] ≡ [] → ⊥
-not_none [] ran is = cc
-not_none (r ∷ rans) ran is = cc
 
 none_taken : (rounds : List Round) → AreTaken [] rounds []
 none_taken [] = refl
-none_taken (r ∷ rounds) = (Rattle.swss_script.specs.Sent.sent_in_round r, refl)
+none_taken (r ∷ rounds) = (sent_in_round r, refl)
 
 Takes-none : (held : Option (List ℕ)) → Takes held [] held
 Takes-none None = refl
@@ -120,64 +121,64 @@ Takes-none (Some text) = ap Some (sym (append-nil text))
 pub replay-none : (effects : List (Call Rid)) (r : Replayed) → r ≡ new_replay → IsReplayOf r effects
 replay-none effects r is = subst (λ x. IsReplayOf x effects) (sym is) (IsReplayOf-new effects)
 
-pub running-none : (rounds : List Round) (first : State) (sim : Sim) (held : Option (List ℕ)) (replay : Replayed) → first ≡ new_state first.plan first.capacities log_limit → sim.chip ≡ new_chip first.capacities sim.chip.fails → IsKept first sim.chip → IsReplayOf replay sim.chip.effects → replay.at ≡ 0 → IsRunning rounds [] first held first sim replay held
-running-none rounds first sim held replay new chip kept follows at = record {
+pub running-none : (rounds : List Round) (first : CoreState) (sim : Sim) (held : Option (List ℕ)) (replay : Replayed) → first ≡ new_core first.board.plan first.sync.capacities log_limit → sim.chip ≡ new_chip first.sync.capacities sim.chip.fails → IsPlan first.board.plan → IsReplayOf replay sim.chip.effects → replay.at ≡ 0 → IsRunning rounds [] first held first sim replay held
+running-none rounds first sim held replay new chip plan follows at = record {
   ready = record {
-    kept = kept;
-    known = ap (λ (s : State). is_suspect s.log.marks) new;
+    between = subst (λ c. IsBetweenRounds c sim.chip) (sym new)
+        (between-first first.board.plan first.sync.capacities log_limit sim.chip plan (ap (λ (c : ChipState). c.objects) chip) (ap (λ (c : ChipState). c.effects) chip) (ap (λ (c : ChipState). c.clean) chip) (ap (λ (c : ChipState). c.capacities) chip));
     follows = follows;
     at_end = at ∙ sym (ap (λ (c : ChipState). length c.effects) chip);
-    keys = λ key there. absurd (subst (λ (s : State). IsIn key s.to_sync) new there);
-    sorted = subst (λ ks. IsStrictlySortedBy key_cmp ks) (sym (ap (λ (s : State). s.to_sync) new)) sorted-none;
   };
   same = record { plan = refl; capacities = refl; limit = refl };
-  limit = ap (λ (s : State). s.limit) new;
+  limit = ap (λ (s : CoreState). s.limit) new;
   rans = [];
   cut = record {
-    marks = ap (λ (s : State). s.log.marks) new;
-    ends = ap (λ (s : State). s.log.ends) new;
-    taken = ap (λ (s : State). s.log.taken) new;
+    marks = ap (λ (s : CoreState). s.log.marks) new;
+    ends = ap (λ (s : CoreState). s.log.ends) new;
+    taken = ap (λ (s : CoreState). s.log.taken) new;
     effects = ap (λ (c : ChipState). c.effects) chip;
     at_marks = tt;
   };
   many = refl;
   writes = none_taken rounds;
+  turned = tt;
   told = record { text = []; report = refl; took = Takes-none held };
-  fits = subst (λ n. n ≤ log_limit) (sym (ap (λ (s : State). log_size s.log (length sim.chip.effects)) new ∙ ap (λ (c : ChipState). log_size Rattle.switch_model.specs.History.no_history (length c.effects)) chip)) (omega arith);
-  unused = λ none. record { new = subst (λ n. first ≡ new_state first.plan first.capacities n) (sym (ap (λ (s : State). s.limit) new)) new; still = ap (λ (c : ChipState). c.effects) chip };
+  fits = subst (λ n. n ≤ log_limit) (sym (ap (λ (s : CoreState). log_size s.log (length sim.chip.effects)) new ∙ ap (λ (c : ChipState). log_size no_history (length c.effects)) chip)) (omega arith);
 }
 
--- a session, from a core that keeps its promises
-session-from : (rounds : List Round) (ended : Status) (first core : State) (chip : ChipState) (held held' : Option (List ℕ)) (rans : List Ran) (sent : List Sent) (calls : List (Call Rid))
-    → IsKept core chip → KeepsPlan first core → IsCut core.log chip.effects rans sent calls → AreTaken rans rounds sent
-    → IsReported ended first.plan first.capacities rounds rans sent calls core.log chip held held'
-    → IsSession first.plan first.capacities rounds ended core.log chip held held'
-session-from rounds ended first core chip held held' rans sent calls kept same cut writes reported = record {
-  room = kept.keeps.capacities ∙ same.capacities;
-  clean = kept.keeps.clean;
-  legality = subst (λ p. EffectsAreLegal p first.capacities core.log.taken chip.effects) same.plan (subst (λ c. EffectsAreLegal core.plan c core.log.taken chip.effects) same.capacities kept.keeps.legality);
-  marks = subst (λ p. MarksAreTrue p first.capacities core.log chip.effects) same.plan (subst (λ c. MarksAreTrue core.plan c core.log chip.effects) same.capacities kept.keeps.marks);
-  counts = kept.keeps.counts;
+-- a session, from a core and a chip within one of the service
+session-from : (rounds : List Round) (ended : Status) (first core : CoreState) (chip : ChipState) (held held' : Option (List ℕ)) (rans : List Ran) (sent : List Sent) (calls : List (Call Rid))
+    → InSession core chip → KeepsPlan first core → IsCut core.log chip.effects rans sent calls → AreTaken rans rounds sent → AreTurned first.board.plan first.sync.capacities None [] [] rans
+    → IsReported ended first.board.plan first.sync.capacities rounds rans sent calls core.log chip held held'
+    → IsSession first.board.plan first.sync.capacities rounds ended core.log chip held held'
+session-from rounds ended first core chip held held' rans sent calls within same cut writes turned reported = record {
+  room = within.stands.capacities ∙ same.capacities;
+  clean = within.stands.clean;
+  legality = subst (λ p. EffectsAreLegal p first.sync.capacities core.log.taken chip.effects) same.plan (subst (λ c. EffectsAreLegal core.board.plan c core.log.taken chip.effects) same.capacities (effects-legal core chip within));
+  few = all-few core chip within (begin-none core.log.marks rans cut.marks 0 0 cut.at_marks);
+  marks = subst (λ p. MarksAreTrue p first.sync.capacities core.log chip.effects) same.plan (subst (λ c. MarksAreTrue core.board.plan c core.log chip.effects) same.capacities (marks-true core chip within));
+  counts = counts-within core chip within;
   rans = rans;
   sent = sent;
   calls = calls;
   cut = cut;
-  rise = subst (Rattle.swss_run.specs.Rounds.Rise 0) (sym cut.ends) (ends-rise 0 0 0 rans cut.at_marks);
+  rise = subst (Rise 0) (sym cut.ends) (ends-rise 0 0 0 rans cut.at_marks);
   writes = writes;
+  turned = turned;
   reported = reported;
 }
 
-pub same-trans : (a b c : State) → KeepsPlan a b → KeepsPlan b c → KeepsPlan a c
-same-trans a b c first next = record { plan = next.plan ∙ first.plan; capacities = next.capacities ∙ first.capacities; limit = next.limit ∙ first.limit }
-
-module _ (rounds done : List Round) (first : State) (held0 : Option (List ℕ)) (core : State) (sim : Sim) (replay : Replayed) (held : Option (List ℕ)) (running : IsRunning rounds done first held0 core sim replay held) where
+module _ (rounds done : List Round) (first : CoreState) (held0 : Option (List ℕ)) (core : CoreState) (sim : Sim) (replay : Replayed) (held : Option (List ℕ)) (running : IsRunning rounds done first held0 core sim replay held) where
   -- every round ended
-  pub session-done : length done ≡ length rounds → IsSession first.plan first.capacities rounds status.Done core.log sim.chip held0 held
+  pub session-done : length done ≡ length rounds → IsSession first.board.plan first.sync.capacities rounds status.Done core.log sim.chip held0 held
   session-done all =
-      session-from rounds status.Done first core sim.chip held0 held running.rans [] [] running.ready.kept running.same running.cut running.writes
-      (record { no_write = refl; no_call = refl; places = running.fits; fault_places = λ failed. absurd (false≢true (sym running.ready.known ∙ failed)) }, running.many ∙ all, running.ready.known, running.told)
+      session-from rounds status.Done first core sim.chip held0 held running.rans [] [] running.ready.between.within running.same running.cut running.writes running.turned
+      (record { no_write = refl; no_call = refl; places = running.fits; fault_places = λ failed. absurd (false≢true (sym known ∙ failed)) }, running.many ∙ all, known, running.told)
+    where
+      known : is_suspect core.log.marks ≡ false
+      known = known-ready core sim replay running.ready
 
-  module _ (round : Round) (number : ℕ) (next : slice_get rounds (length done) ≡ Some round) (number_is : number ≡ length done + 1) (faults faults' : ℕ) (new : State) (sim' : Sim) (replay' : Replayed) (held' : Option (List ℕ)) where
+  module _ (round : Round) (number : ℕ) (next : slice_get rounds (length done) ≡ Some round) (number_is : number ≡ length done + 1) (faults faults' : ℕ) (new : CoreState) (sim' : Sim) (replay' : Replayed) (held' : Option (List ℕ)) where
     abbrev rans : List Ran
     rans = running.rans
 
@@ -187,10 +188,10 @@ module _ (rounds done : List Round) (first : State) (held0 : Option (List ℕ)) 
     number_at : number ≡ length rans + 1
     number_at = number_is ∙ ap (λ n. n + 1) (sym running.many)
 
-    plan_is : first.plan ≡ core.plan
+    plan_is : first.board.plan ≡ core.board.plan
     plan_is = sym running.same.plan
 
-    capacities_are : first.capacities ≡ core.capacities
+    capacities_are : first.sync.capacities ≡ core.sync.capacities
     capacities_are = sym running.same.capacities
 
     module _ (ran : Ran) (ends : EndsRound round core sim ran new sim') where
@@ -203,23 +204,30 @@ module _ (rounds done : List Round) (first : State) (held0 : Option (List ℕ)) 
       taken_now : AreTaken (rans ++ ran ∷ []) rounds []
       taken_now = taken-more rans rounds ran round running.writes at_round ends.sent
 
+      turned_now : AreTurned first.board.plan first.sync.capacities None [] [] (rans ++ ran ∷ [])
+      turned_now =
+          turned-more first.board.plan first.sync.capacities None [] [] rans ran (mark_of core) core.log.taken sim.chip.effects running.turned
+          (ap (λ l. last_mark None l) running.cut.marks) (running.cut.taken ∙ append-nil (all_sent rans)) (running.cut.effects ∙ append-nil (all_calls rans))
+          (subst (λ p. IsTurned p first.sync.capacities (mark_of core) core.log.taken sim.chip.effects ran) (sym plan_is)
+          (subst (λ c. IsTurned core.board.plan c (mark_of core) core.log.taken sim.chip.effects ran) (sym capacities_are) ends.turned))
+
       same_now : KeepsPlan first new
       same_now = same-trans first core new running.same ends.same
 
       fits_now : log_size new.log (length sim'.chip.effects) ≤ log_limit
       fits_now = subst (λ n. log_size new.log (length sim'.chip.effects) ≤ n) (same_now.limit ∙ running.limit) ends.places
 
-      report_now : (lines : List ℕ) → HasLines number round core sim ran lines → IsReport first.plan first.capacities (rans ++ ran ∷ []) rounds (running.told.text ++ lines)
-      report_now lines has = report-longer round core sim ran new sim' ends rans running.cut number first.plan first.capacities rounds running.told.text lines plan_is capacities_are at_round number_at running.told.report has
+      report_now : (lines : List ℕ) → HasLines number round core sim ran lines → IsReport first.board.plan first.sync.capacities (rans ++ ran ∷ []) rounds (running.told.text ++ lines)
+      report_now lines has = report-longer round core sim ran new sim' ends rans running.cut number first.board.plan first.sync.capacities rounds running.told.text lines plan_is capacities_are at_round number_at running.told.report has
 
-      told_now : (lines : List ℕ) → HasLines number round core sim ran lines → Takes held lines held' → TookReport first.plan first.capacities (rans ++ ran ∷ []) rounds held0 held'
+      told_now : (lines : List ℕ) → HasLines number round core sim ran lines → Takes held lines held' → TookReport first.board.plan first.sync.capacities (rans ++ ran ∷ []) rounds held0 held'
       told_now lines has took = record { text = running.told.text ++ lines; report = report_now lines has; took = Takes-trans held0 held held' running.told.text lines running.told.took took }
 
-      front_now : (lines : List ℕ) → HasLines number round core sim ran lines → TakesFront held lines held' → TookFront first.plan first.capacities (rans ++ ran ∷ []) rounds held0 held'
+      front_now : (lines : List ℕ) → HasLines number round core sim ran lines → TakesFront held lines held' → TookFront first.board.plan first.sync.capacities (rans ++ ran ∷ []) rounds held0 held'
       front_now lines has took = record { text = running.told.text ++ lines; report = report_now lines has; took = front-more held0 held held' running.told.text lines running.told.took took }
 
-      session_now : (ended : Status) → IsReported ended first.plan first.capacities rounds (rans ++ ran ∷ []) [] [] new.log sim'.chip held0 held' → IsSession first.plan first.capacities rounds ended new.log sim'.chip held0 held'
-      session_now ended reported = session-from rounds ended first new sim'.chip held0 held' (rans ++ ran ∷ []) [] [] ends.kept same_now cut_now taken_now reported
+      session_now : (ended : Status) → IsReported ended first.board.plan first.sync.capacities rounds (rans ++ ran ∷ []) [] [] new.log sim'.chip held0 held' → IsSession first.board.plan first.sync.capacities rounds ended new.log sim'.chip held0 held'
+      session_now ended reported = session-from rounds ended first new sim'.chip held0 held' (rans ++ ran ∷ []) [] [] ends.within same_now cut_now taken_now turned_now reported
 
       has_ended : HasEnded [] [] new.log sim'.chip
       has_ended = record { no_write = refl; no_call = refl; places = fits_now; fault_places = λ failed. subst (λ n. log_size new.log sim'.chip.before_fault + 1 ≤ n) (same_now.limit ∙ running.limit) (ends.fault_places failed) }
@@ -233,13 +241,13 @@ module _ (rounds done : List Round) (first : State) (held0 : Option (List ℕ)) 
       cut = cut_now ran ends;
       many = length-append rans (ran ∷ []) ∙ ap (λ n. n + 1) running.many ∙ sym (length-append done (round ∷ []));
       writes = taken_now ran ends;
+      turned = turned_now ran ends;
       told = told_now ran ends lines has took;
       fits = fits_now ran ends;
-      unused = λ none. absurd (not_none rans ran none);
     }
 
     -- a front of what was told before
-    front_before : held' ≡ held → TookFront first.plan first.capacities rans rounds held0 held'
+    front_before : held' ≡ held → TookFront first.board.plan first.sync.capacities rans rounds held0 held'
     front_before same = record { text = running.told.text; report = running.told.report; took = whole-front held0 held' running.told.text (subst (λ h. Takes held0 running.told.text h) (sym same) running.told.took) }
 
     module _ (stops : StopsRound round core sim new sim') where
@@ -258,32 +266,31 @@ module _ (rounds done : List Round) (first : State) (held0 : Option (List ℕ)) 
       same_stopped : KeepsPlan first new
       same_stopped = same-trans first core new running.same stops.same
 
-      session_stopped : (ended : Status) → IsReported ended first.plan first.capacities rounds rans stops.sent stops.calls new.log sim'.chip held0 held' → IsSession first.plan first.capacities rounds ended new.log sim'.chip held0 held'
-      session_stopped ended reported = session-from rounds ended first new sim'.chip held0 held' rans stops.sent stops.calls stops.kept same_stopped cut_stopped taken_stopped reported
+      session_stopped : (ended : Status) → IsReported ended first.board.plan first.sync.capacities rounds rans stops.sent stops.calls new.log sim'.chip held0 held' → IsSession first.board.plan first.sync.capacities rounds ended new.log sim'.chip held0 held'
+      session_stopped ended reported = session-from rounds ended first new sim'.chip held0 held' rans stops.sent stops.calls stops.within same_stopped cut_stopped taken_stopped running.turned reported
 
-    pub session-ended : (ended : Status) → ¬ (ended ≡ status.Done) → IsRoundRun number round core sim held faults ended new sim' replay' held' faults' → IsSession first.plan first.capacities rounds ended new.log sim'.chip held0 held'
+    pub session-ended : (ended : Status) → ¬ (ended ≡ status.Done) → IsRoundRun number round core sim held faults ended new sim' replay' held' faults' → IsSession first.board.plan first.sync.capacities rounds ended new.log sim'.chip held0 held'
     session-ended status.Done other run = absurd (other refl)
     session-ended status.ChipFault other (ran, lines, ends, has, took, failed, rose) =
         session_now ran ends status.ChipFault (has_ended ran ends, failed, rose, told_now ran ends lines has took)
     session-ended status.WriteFault other (ran, lines, ends, has, took, rose) =
         session_now ran ends status.WriteFault (has_ended ran ends, front_now ran ends lines has took)
-    session-ended status.LogFull other (stops, full, many, first_round, same) =
+    session-ended status.LogFull other (stops, full, many, same) =
         session_stopped stops status.LogFull (
           record {
             round = round;
             next = at_round;
             full = full_here stops full;
             many = subst (λ n. n < log_size new.log (length sim'.chip.effects) + 2 + length (keys_named new.log.taken)) ((same_stopped stops).limit ∙ running.limit) many;
-            first = λ none. subst (λ n. n < 2 * length stops.sent + 2) ((same_stopped stops).limit ∙ running.limit) (first_round (running.unused none));
           },
           record { text = running.told.text; report = running.told.report; took = subst (λ h. Takes held0 running.told.text h) (sym same) running.told.took },
         )
       where
-        full_here : (stops : StopsRound round core sim new sim') → IsFull new.plan new.capacities new.limit round new.log sim'.chip stops.sent → IsFull first.plan first.capacities log_limit round new.log sim'.chip stops.sent
+        full_here : (stops : StopsRound round core sim new sim') → IsFull new.board.plan new.sync.capacities new.limit round new.log sim'.chip stops.sent → IsFull first.board.plan first.sync.capacities log_limit round new.log sim'.chip stops.sent
         full_here stops full =
-            subst (λ n. IsFull first.plan first.capacities n round new.log sim'.chip stops.sent) ((same_stopped stops).limit ∙ running.limit)
-            (subst (λ p. IsFull p first.capacities new.limit round new.log sim'.chip stops.sent) (same_stopped stops).plan
-            (subst (λ c. IsFull new.plan c new.limit round new.log sim'.chip stops.sent) (same_stopped stops).capacities full))
+            subst (λ n. IsFull first.board.plan first.sync.capacities n round new.log sim'.chip stops.sent) ((same_stopped stops).limit ∙ running.limit)
+            (subst (λ p. IsFull p first.sync.capacities new.limit round new.log sim'.chip stops.sent) (same_stopped stops).plan
+            (subst (λ c. IsFull new.board.plan c new.limit round new.log sim'.chip stops.sent) (same_stopped stops).capacities full))
     session-ended status.OutOfMemory other (inl (stops, same)) =
         session_stopped stops status.OutOfMemory (rans, [], sym (append-nil rans), front_before same)
     session-ended status.OutOfMemory other (inr (ran, ends, inl same)) =

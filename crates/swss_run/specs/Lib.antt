@@ -8,4 +8,5 @@ pub mod Running
 pub mod Session
 pub mod Status
 pub mod Taking
+pub mod Turned
 pub mod Words

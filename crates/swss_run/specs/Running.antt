@@ -1,11 +1,8 @@
 -- What running a round comes to. Own.
-use Rattle.std.specs.Prelude.{◌≡◌, ◌⊎◌, ℕ, ◌+◌, ◌*◌, ◌<◌, ◌≤◌, true, false, List, [], ◌∷◌, ◌++◌, length, Option, Result, Ok, Err}
-use Rattle.std.specs.List.Sorted.{IsStrictlySortedBy}
+use Rattle.std.specs.Prelude.{◌≡◌, ◌⊎◌, ℕ, ◌+◌, ◌<◌, ◌≤◌, true, List, [], ◌∷◌, ◌++◌, length, Option, Result, Ok, Err}
 use Rattle.swss_types.specs.Outside.{HasRisen, Takes}
-use Rattle.table_schema.specs.Key.{key_cmp}
-use Rattle.table_schema.specs.declared.key.Key.{Key}
+use Rattle.swss_types.specs.declared.out_of_memory.OutOfMemory.{OutOfMemory}
 use Rattle.table_schema.specs.declared.write.Sent.{Sent}
-use Rattle.sai_types.specs.Alike.{IsIn}
 use Rattle.sai_types.specs.declared.ids.Rid.{Rid}
 use Rattle.sai_types.specs.declared.body.Call.{Call}
 use Rattle.sai_chip.specs.Replay.{IsReplayOf, Replayed}
@@ -13,48 +10,42 @@ use Rattle.sai_chip.specs.Sim.{Sim}
 use Rattle.switch_model.specs.History.{History, log_size}
 use Rattle.switch_model.specs.Sound.{is_suspect}
 use Rattle.switch_model.specs.declared.mark.Mark.{Mark}
-use Rattle.orch_core.specs.Keeps.{IsKept}
-use Rattle.orch_core.specs.State.{State, new_state}
-use Rattle.orch_core.specs.declared.answer.Settled.{Settled}
-use Rattle.orch_core.specs.declared.answer.Settled.TheVariants as settled
-use Rattle.swss_types.specs.declared.out_of_memory.OutOfMemory.{OutOfMemory}
+use Rattle.session_laws.specs.Core.{CoreState}
+use Rattle.round_laws.specs.Between.{IsBetweenRounds, mark_of}
+use Rattle.round_laws.specs.Named.{keys_named}
+use Rattle.round_laws.specs.Sessions.{InSession}
+use Rattle.switch_core.specs.declared.answer.Settled.{Settled}
+use Rattle.switch_core.specs.declared.answer.Settled.TheVariants as settled
 use Rattle.swss_script.specs.Sent.{sent_in_round}
 use Rattle.swss_script.specs.declared.parts.Round.{Round}
 use Rattle.swss_script.specs.declared.parts.Show.{Show}
 use Rattle.swss_report.specs.Ended.{Ended}
 use Rattle.swss_report.specs.Round.{IsRoundText}
-use Rattle.swss_run.specs.Full.{IsFull, keys_named}
+use Rattle.swss_run.specs.Full.{IsFull}
 use Rattle.swss_run.specs.Output.{TakesFront}
 use Rattle.swss_run.specs.Rounds.{Ran, is_settling, standing}
+use Rattle.swss_run.specs.Turned.{IsTurned}
 use Rattle.swss_run.specs.declared.status.Status.{Status}
 use Rattle.swss_run.specs.declared.status.Status.TheVariants as status
 
--- a session between two rounds: the core keeps its promises and the chip did not fail, the replay has followed the chip, and each key to sync was written
-pub record IsReady (core : State) (sim : Sim) (replay : Replayed) : Type 0 where
-  pub kept : IsKept core sim.chip
-  pub known : is_suspect core.log.marks ≡ false
+-- a session between two rounds: the core and the chip are between rounds of a session of the service, and the replay has followed the chip
+pub record IsReady (core : CoreState) (sim : Sim) (replay : Replayed) : Type 0 where
+  pub between : IsBetweenRounds core sim.chip
   pub follows : IsReplayOf replay sim.chip.effects
   pub at_end : replay.at ≡ length sim.chip.effects
-  pub keys : (key : Key) → IsIn key core.to_sync → IsIn key (keys_named core.log.taken)
-  pub sorted : IsStrictlySortedBy key_cmp core.to_sync
-
--- a new core and a chip without effects, as they stand before the first round
-pub record IsUnused (core : State) (sim : Sim) : Type 0 where
-  pub new : core ≡ new_state core.plan core.capacities core.limit
-  pub still : sim.chip.effects ≡ []
 
 -- the plan, the room and the places of the log stay
-pub record KeepsPlan (old new : State) : Type 0 where
-  pub plan : new.plan ≡ old.plan
-  pub capacities : new.capacities ≡ old.capacities
+pub record KeepsPlan (old new : CoreState) : Type 0 where
+  pub plan : new.board.plan ≡ old.board.plan
+  pub capacities : new.sync.capacities ≡ old.sync.capacities
   pub limit : new.limit ≡ old.limit
 
 -- a log behind a round that ended with one mark
 abbrev pub with_round : History → List Sent → Mark → History
 with_round log sent mark = record { taken = log.taken ++ sent; marks = log.marks ++ mark ∷ []; ends = log.ends ++ (length log.marks + 1) ∷ [] }
 
--- the round ended: all its writes were taken, and its mark counts them and the calls
-pub record EndsRound (round : Round) (old : State) (sim : Sim) (ran : Ran) (new : State) (sim' : Sim) : Type 0 where
+-- the round ended: all its writes were taken, and its mark counts them and the calls; where a settling ended at it, the calls are those of its turns
+pub record EndsRound (round : Round) (old : CoreState) (sim : Sim) (ran : Ran) (new : CoreState) (sim' : Sim) : Type 0 where
   pub mark : Mark
   pub marks : ran.marks ≡ mark ∷ []
   pub settling : is_settling mark.event ≡ true
@@ -63,20 +54,21 @@ pub record EndsRound (round : Round) (old : State) (sim : Sim) (ran : Ran) (new 
   pub effects : mark.effects ≡ length (sim.chip.effects ++ ran.calls)
   pub log : new.log ≡ with_round old.log ran.sent mark
   pub calls : sim'.chip.effects ≡ sim.chip.effects ++ ran.calls
-  pub kept : IsKept new sim'.chip
+  pub turned : IsTurned old.board.plan old.sync.capacities (mark_of old) old.log.taken sim.chip.effects ran
+  pub within : InSession new sim'.chip
   pub same : KeepsPlan old new
   pub places : log_size new.log (length sim'.chip.effects) ≤ new.limit
   pub fault_places : is_suspect new.log.marks ≡ true → log_size new.log sim'.chip.before_fault + 1 ≤ new.limit
 
 -- the round did not end: some of its writes were taken, and no mark was made
-pub record StopsRound (round : Round) (old : State) (sim : Sim) (new : State) (sim' : Sim) : Type 0 where
+pub record StopsRound (round : Round) (old : CoreState) (sim : Sim) (new : CoreState) (sim' : Sim) : Type 0 where
   pub sent : List Sent
   pub rest : List Sent
   pub calls : List (Call Rid)
   pub front : sent_in_round round ≡ sent ++ rest
   pub log : new.log ≡ record old.log { taken = old.log.taken ++ sent }
   pub grown : sim'.chip.effects ≡ sim.chip.effects ++ calls
-  pub kept : IsKept new sim'.chip
+  pub within : InSession new sim'.chip
   pub same : KeepsPlan old new
 
 -- how a settling that answered so ends the round, or the run
@@ -94,17 +86,17 @@ pub data IsWritten (e : Ended) (before : ℕ) (shows : List Show) (ended : Statu
   Unwritten : held' ≡ held → result ≡ status.OutOfMemory → IsWritten e before shows ended held faults result replay held' faults'
 
 -- the lines of a round that ended, where so many ended before it
-pub record HasLines (number : ℕ) (round : Round) (old : State) (sim : Sim) (ran : Ran) (lines : List ℕ) : Type 0 where
+pub record HasLines (number : ℕ) (round : Round) (old : CoreState) (sim : Sim) (ran : Ran) (lines : List ℕ) : Type 0 where
   pub before : ℕ
   pub number_is : number ≡ before + 1
-  pub text : IsRoundText (standing old.plan old.capacities before old.log.taken sim.chip.effects ran) (length sim.chip.effects) round.shows lines
+  pub text : IsRoundText (standing old.board.plan old.sync.capacities before old.log.taken sim.chip.effects ran) (length sim.chip.effects) round.shows lines
 
 -- the sink took a front of the lines of the round, or nothing
-abbrev pub TakesSome : ℕ → Round → State → Sim → Ran → Option (List ℕ) → Option (List ℕ) → Type 0
+abbrev pub TakesSome : ℕ → Round → CoreState → Sim → Ran → Option (List ℕ) → Option (List ℕ) → Type 0
 TakesSome number round old sim ran held held' = (held' ≡ held) ⊎ ((lines : List ℕ) × HasLines number round old sim ran lines × TakesFront held lines held')
 
 -- what a round came to, by the status
-abbrev pub IsRoundRun : ℕ → Round → State → Sim → Option (List ℕ) → ℕ → Status → State → Sim → Replayed → Option (List ℕ) → ℕ → Type 0
+abbrev pub IsRoundRun : ℕ → Round → CoreState → Sim → Option (List ℕ) → ℕ → Status → CoreState → Sim → Replayed → Option (List ℕ) → ℕ → Type 0
 IsRoundRun number round old sim held faults status.Done new sim' replay held' faults' =
     (ran : Ran) × (lines : List ℕ) × EndsRound round old sim ran new sim' × HasLines number round old sim ran lines × Takes held lines held' × IsReady new sim' replay
 IsRoundRun number round old sim held faults status.ChipFault new sim' replay held' faults' =
@@ -112,8 +104,7 @@ IsRoundRun number round old sim held faults status.ChipFault new sim' replay hel
 IsRoundRun number round old sim held faults status.WriteFault new sim' replay held' faults' =
     (ran : Ran) × (lines : List ℕ) × EndsRound round old sim ran new sim' × HasLines number round old sim ran lines × TakesFront held lines held' × HasRisen faults faults'
 IsRoundRun number round old sim held faults status.LogFull new sim' replay held' faults' =
-    (stops : StopsRound round old sim new sim') × IsFull new.plan new.capacities new.limit round new.log sim'.chip stops.sent × (new.limit < log_size new.log (length sim'.chip.effects) + 2 + length (keys_named new.log.taken))
-    × (IsUnused old sim → new.limit < 2 * length stops.sent + 2) × (held' ≡ held)
+    (stops : StopsRound round old sim new sim') × IsFull new.board.plan new.sync.capacities new.limit round new.log sim'.chip stops.sent × (new.limit < log_size new.log (length sim'.chip.effects) + 2 + length (keys_named new.log.taken)) × (held' ≡ held)
 IsRoundRun number round old sim held faults status.OutOfMemory new sim' replay held' faults' =
     (StopsRound round old sim new sim' × (held' ≡ held)) ⊎ ((ran : Ran) × EndsRound round old sim ran new sim' × TakesSome number round old sim ran held held')
 IsRoundRun number round old sim held faults _ new sim' replay held' faults' = ⊥

@@ -10,14 +10,16 @@ use Rattle.sai_chip.specs.Sim.{Sim}
 use Rattle.switch_model.specs.History.{History, log_size, no_history}
 use Rattle.switch_model.specs.Promises.{EffectsAreLegal, MarksAreTrue}
 use Rattle.switch_model.specs.Sound.{AreWithin, is_suspect}
-use Rattle.swss_script.specs.Plain.{has_batch}
+use Rattle.machine_laws.specs.Bounds.{most_calls}
+use Rattle.round_laws.specs.Named.{keys_named}
 use Rattle.swss_script.specs.declared.parts.Round.{Round}
 use Rattle.swss_script.specs.declared.script.Script.{Script}
-use Rattle.swss_run.specs.Full.{IsFull, keys_named}
+use Rattle.swss_run.specs.Full.{IsFull}
 use Rattle.swss_run.specs.Output.{TakesFront}
 use Rattle.swss_run.specs.Read.{WasRead}
 use Rattle.swss_run.specs.Run.{HasNoSession, chip_fail}
 use Rattle.swss_run.specs.Rounds.{AreTaken, IsCut, IsReport, Ran, Rise}
+use Rattle.swss_run.specs.Turned.{AreTurned}
 use Rattle.swss_run.specs.declared.outcome.Outcome.{Outcome}
 use Rattle.swss_run.specs.declared.run.TheConstants.{LOG_LIMIT}
 use Rattle.swss_run.specs.declared.status.Status.{Status}
@@ -39,13 +41,12 @@ pub record TookFront (plan : Ports) (capacities : List ℕ) (rans : List Ran) (r
   pub report : IsReport plan capacities rans rounds text
   pub took : TakesFront held text held'
 
--- the log is full: an event of the round that did not end needs more places than are left; and so the places, 2 more and one for each key that was written are more than the log has; in the first round each key that was written has a chip call or waits, so twice the writes and 2 more are
+-- the log is full: an event of the round that did not end needs more places than are left; and so the places, 2 more and one for each key that was written are more than the log has
 pub record HasNoPlace (plan : Ports) (capacities : List ℕ) (rounds : List Round) (rans : List Ran) (sent : List Sent) (log : History) (chip : ChipState) : Type 0 where
   pub round : Round
   pub next : slice_get rounds (length rans) ≡ Some round
   pub full : IsFull plan capacities log_limit round log chip sent
   pub many : log_limit < log_size log (length chip.effects) + 2 + length (keys_named log.taken)
-  pub first : rans ≡ [] → log_limit < 2 * length sent + 2
 
 -- the last round ended at its mark, and each event found its places; where the chip failed, the call at which it did had two, for its effect and for the mark, also where it took no effect
 pub record HasEnded (sent : List Sent) (calls : List (Call Rid)) (log : History) (chip : ChipState) : Type 0 where
@@ -68,11 +69,12 @@ IsReported status.OutOfMemory plan capacities rounds rans sent calls log chip he
     (told : List Ran) × (untold : List Ran) × (rans ≡ told ++ untold) × TookFront plan capacities told rounds held held'
 IsReported _ plan capacities rounds rans sent calls log chip held held' = ⊥
 
--- a session over rounds: every chip call was legal, every mark is true and counts no fewer writes and calls than the mark before it and no more than there are, the writes taken are those of the rounds in order and each once, the ends of rounds rise, and the sink took what the status says of the report
+-- a session over rounds: every chip call was legal, and at most so many took effect as an operation makes for each write taken; every mark is true and counts no fewer writes and calls than the mark before it and no more than there are, the writes taken are those of the rounds in order and each once, the ends of rounds rise, the calls of each round whose settling ended are those of its turns, which leave quiet rows alone and drain where there is room, and the sink took what the status says of the report
 pub record IsSession (plan : Ports) (capacities : List ℕ) (rounds : List Round) (ended : Status) (log : History) (chip : ChipState) (held held' : Option (List ℕ)) : Type 0 where
   pub room : chip.capacities ≡ capacities
   pub clean : chip.clean ≡ true
   pub legality : EffectsAreLegal plan capacities log.taken chip.effects
+  pub few : length chip.effects ≤ most_calls * length log.taken
   pub marks : MarksAreTrue plan capacities log chip.effects
   pub counts : AreWithin (length log.taken) (length chip.effects) log.marks
   pub rans : List Ran
@@ -81,6 +83,7 @@ pub record IsSession (plan : Ports) (capacities : List ℕ) (rounds : List Round
   pub cut : IsCut log chip.effects rans sent calls
   pub rise : Rise 0 log.ends
   pub writes : AreTaken rans rounds sent
+  pub turned : AreTurned plan capacities None [] [] rans
   pub reported : IsReported ended plan capacities rounds rans sent calls log chip held held'
 
 -- a session of a script: its chip has the script's failing calls, and failed at no more calls than these are
@@ -97,12 +100,11 @@ IsRunBy script ended log (Some sim) held held' = IsScriptRun script ended log si
 abbrev pub IsRun : Script → Outcome → Option (List ℕ) → Option (List ℕ) → Type 0
 IsRun script outcome held held' = IsRunBy script outcome.status outcome.log outcome.chip held held'
 
--- a run of the script that the source gave; one round of lines that are no batches can't fill the log
+-- a run of the script that the source gave
 pub record RanScript (outcome : Outcome) (left left' held held' : Option (List ℕ)) : Type 0 where
   pub script : Script
   pub read : WasRead left script left'
   pub run : IsRun script outcome held held'
-  pub one_round : length script.rounds ≡ 1 → has_batch read.bytes ≡ false → ¬ (outcome.status ≡ status.LogFull)
 
 -- what a run tells of its session: where the words, the script or the source ended it there was none; where memory was refused there was none, or one over the script that the source gave; else there was one
 abbrev pub TellsOfSession : Status → Outcome → Option (List ℕ) → Option (List ℕ) → Option (List ℕ) → Option (List ℕ) → Type 0

@@ -2,8 +2,8 @@
 ghost use Rattle.std.specs.Prelude.{◌≡◌};
 
 use crate::Status;
-use orch_core::Log;
 use sai_chip::SimChip;
+use switch_model::Log;
 
 /// What a run leaves: how it ended, what was taken and marked, and the chip.
 #[derive(Drop)]

@@ -1,25 +1,29 @@
 // The top call.
 ghost use Rattle.std.specs.Prelude.{◌≡◌, ◌↔◌, false, None, map, IfOk};
+ghost use Rattle.std.specs.List.{AllByRecursion};
 ghost use Rattle.std.specs.String.{string_bytes};
 ghost use Rattle.swss_types.specs.Outside.{HasRisen};
 ghost use Rattle.switch_model.specs.History.{no_history};
-ghost use Rattle.swss_script.specs.Stage.{IsOfStage};
+ghost use Rattle.table_schema.specs.Plan.{IsPlan};
+ghost use Rattle.swss_script.specs.Sent.{writes_in};
 ghost use Rattle.swss_run.specs.Input.{GaveFew};
 ghost use Rattle.swss_run.specs.Read.{IsScriptRead};
 ghost use Rattle.swss_run.specs.Run.{SaysOfSource, chip_fail, ends_early};
 ghost use Rattle.swss_run.specs.Session.{IsRun, TellsOfSession};
+ghost use Rattle.swss_run.specs.Taking.{HaveReadKeys};
 ghost use Rattle.swss_run.specs.Words.{is_command};
 
 use crate::input::{Input, read_all};
 use crate::session::run_rounds;
 use crate::words::is_run;
 use crate::{Outcome, Refused, Status, Why};
-use orch_core::{Core, Log};
 use sai_chip::{Fail, SimChip};
 use sai_types::Chip;
 use std::alloc::Global;
 use std::sync::Wait;
 use std::thread::Threads;
+use switch_core::Core;
+use switch_model::Log;
 use swss_script::{Fails, Script};
 use swss_types::{Gate, OutOfMemory, Sink, Source};
 
@@ -49,10 +53,10 @@ pub fn swss_main<R: Threads + Wait + Sync, S: Source, K: Sink, G: Gate + Sync>(
     ensures write_fault { result.status ≡ Status.WriteFault → HasRisen (K.faults sink.old) (K.faults sink.new) }
 
     // On wrong words, a refused script and a fault of reading no session begins and nothing is written. Else the session is
-    // that of the script that the source gave: every chip call was legal, every mark is true, the writes taken are the
-    // script's, round by round, in order and each once, the ends of the rounds rise, the log is full exactly where an event
-    // needs more places than are left, and the sink took the report as the status says. The chip has the script's failing
-    // calls and failed at no more than these, so a chip fault comes only where the script has one.
+    // that of the script that the source gave: every chip call was legal, and they are few by the writes taken; every mark is
+    // true; the writes taken are the script's, round by round, in order and each once, the ends of the rounds rise, the log is
+    // full exactly where an event needs more places than are left, and the sink took the report as the status says. The chip
+    // has the script's failing calls and failed at no more than these, so a chip fault comes only where the script has one.
     ensures session { TellsOfSession result.status result (S.left source.old) (S.left source.new) (K.holds sink.old) (K.holds sink.new) }
 {
     run(alloc, words, source, sink)
@@ -109,7 +113,8 @@ fn read_input<S: Source>(alloc: Global, source: &mut S) -> Result<Script, Status
 
 /// Runs a script on a new chip, and writes its report.
 fn run_script<K: Sink>(alloc: Global, script: Script, sink: &mut K) -> Outcome
-    requires stage { IsOfStage script }
+    requires plan { IsPlan script.plan }
+    requires read { AllByRecursion (λ r. HaveReadKeys (writes_in r.sections)) script.rounds }
     ensures ran { ends_early result.status ≡ false }
     ensures write_fault { result.status ≡ Status.WriteFault → HasRisen (K.faults sink.old) (K.faults sink.new) }
     ensures session { IsRun script result (K.holds sink.old) (K.holds sink.new) }
@@ -123,12 +128,10 @@ fn run_script<K: Sink>(alloc: Global, script: Script, sink: &mut K) -> Outcome
     } = script;
     // A plan has at most 256 ports, so the chip has room for all of them.
     let _ports = plan.len();
-    let (Ok(mut core), Ok(fails)) = (
-        Core::new(alloc, plan, caps, LOG_LIMIT),
-        chip_fails(alloc, &fails),
-    ) else {
+    let Ok(fails) = chip_fails(alloc, &fails) else {
         return at_once(alloc, Status::OutOfMemory);
     };
+    let mut core = Core::new(alloc, plan, caps, LOG_LIMIT);
     let mut chip = SimChip::new(alloc, caps, fails);
     let status = run_rounds(alloc, &mut core, &mut chip, rounds, sink);
     // It failed at no more calls than the script lists.

@@ -1,24 +1,25 @@
 // A session: each round of a script is taken and settled, and its lines are written.
-ghost use Rattle.std.specs.Prelude.{◌≡◌, ◌<◌, ◌≤◌, true, false, [], ◌∷◌};
+ghost use Rattle.std.specs.Prelude.{◌≡◌, ◌<◌, ◌≤◌, false};
+ghost use Rattle.std.specs.List.{AllByRecursion};
 ghost use Rattle.swss_types.specs.Outside.{HasRisen};
 ghost use Rattle.sai_types.specs.ChipState.{new_chip};
-ghost use Rattle.orch_core.specs.Keeps.{IsKept};
-ghost use Rattle.orch_core.specs.State.{new_state};
+ghost use Rattle.table_schema.specs.Plan.{IsPlan};
+ghost use Rattle.session_laws.specs.Core.{new_core};
 ghost use Rattle.swss_run.specs.Run.{ends_early};
-ghost use Rattle.std.specs.List.{list_all};
 ghost use Rattle.sai_chip.specs.Replay.{IsReplayOf};
 ghost use Rattle.swss_report.specs.Ended.{ended_round};
-ghost use Rattle.swss_script.specs.Stage.{is_built_round};
+ghost use Rattle.swss_script.specs.Sent.{writes_in};
 ghost use Rattle.swss_run.specs.Running.{IsReady, IsRoundRun, IsWritten, round_ended};
 ghost use Rattle.swss_run.specs.Session.{IsSession, log_limit};
+ghost use Rattle.swss_run.specs.Taking.{HaveReadKeys};
 
 use crate::Status;
 use crate::output::{Output, write_all};
 use crate::taking::{Taken, take_round};
-use orch_core::{Core, Settled};
 use sai_chip::{Replay, SimChip};
 use sai_types::Chip;
 use std::alloc::Global;
+use switch_core::{Core, Settled};
 use swss_report::{RoundEnd, round_lines};
 use swss_script::{Round, RoundList};
 use swss_types::{OutOfMemory, Sink};
@@ -31,13 +32,13 @@ pub(crate) fn run_rounds<K: Sink>(
     rounds: RoundList,
     sink: &mut K,
 ) -> Status
-    requires new { core.old ≡ new_state core.old.plan core.old.capacities log_limit }
-    requires chip { chip.old.chip ≡ new_chip core.old.capacities chip.old.chip.fails }
-    requires kept { IsKept core.old chip.old.chip }
-    requires built { list_all is_built_round rounds ≡ true }
+    requires new { core.old ≡ new_core core.old.board.plan core.old.sync.capacities log_limit }
+    requires chip { chip.old.chip ≡ new_chip core.old.sync.capacities chip.old.chip.fails }
+    requires plan { IsPlan core.old.board.plan }
+    requires read { AllByRecursion (λ r. HaveReadKeys (writes_in r.sections)) rounds }
     ensures ran { ends_early result ≡ false }
     ensures write_fault { result ≡ Status.WriteFault → HasRisen (K.faults sink.old) (K.faults sink.new) }
-    ensures session { IsSession core.old.plan core.old.capacities rounds result core.new.log chip.new.chip (K.holds sink.old) (K.holds sink.new) }
+    ensures session { IsSession core.old.board.plan core.old.sync.capacities rounds result core.new.log chip.new.chip (K.holds sink.old) (K.holds sink.new) }
     ensures fails { chip.new.chip.fails ≡ chip.old.chip.fails }
 {
     let mut replay = Replay::new(alloc);
@@ -64,7 +65,7 @@ fn run_round<K: Sink>(
 ) -> Status
     requires ready { IsReady core.old chip.old replay.old }
     requires counted { 0 < number }
-    requires built { is_built_round round ≡ true }
+    requires read { HaveReadKeys (writes_in round.sections) }
     ensures counts { K.faults sink.old ≤ K.faults sink.new }
     ensures fails { chip.new.chip.fails ≡ chip.old.chip.fails }
     ensures run { IsRoundRun number round core.old chip.old (K.holds sink.old) (K.faults sink.old) result core.new chip.new replay.new (K.holds sink.new) (K.faults sink.new) }
@@ -79,6 +80,8 @@ fn run_round<K: Sink>(
     let settled = core.settle(chip);
     match round_ended(settled) {
         Ok(ended) => {
+            // The rows are in key order.
+            let _count = core.rows().len();
             let end = RoundEnd {
                 plan: core.plan(),
                 number,

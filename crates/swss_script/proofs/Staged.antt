@@ -1,13 +1,16 @@
 -- an accepted script has the forms of this stage alone
-use Rattle.std.proofs.Common.{◌≡◌, ℕ, ◌+◌, ◌<◌, ◌≤◌, nat_lt, Bool, true, false, cond, ◌&&◌, List, [], ◌∷◌, ◌++◌, length, map, Option, Some, None, Result, Ok, Err, refl, sym, ap, ap₂, ◌∙◌, subst, arith, length-append, bytes_eq}
+use Rattle.std.proofs.Common.{◌≡◌, ℕ, ◌+◌, ◌<◌, ◌≤◌, nat_lt, Bool, true, false, cond, ◌&&◌, List, [], ◌∷◌, ◌++◌, length, map, Option, Some, None, Result, Ok, Err, refl, sym, ap, ap₂, ◌∙◌, subst, arith, length-append, bytes_eq, slice_index_or, slice_set, if◌then◌else◌}
 use Rattle.std.proofs.lemmas.Bool.{ltb-true}
-use Rattle.std.proofs.lemmas.List.Folds.{list_all-append, list_all-map}
+use Rattle.std.proofs.lemmas.List.Folds.{list_all-append}
 use Rattle.std.specs.List.{list_all, position}
 use Rattle.table_schema.specs.Plan.{IsPlan, Ports, plan_step}
 use Rattle.table_schema.specs.declared.plan.PlanWhy.{PlanWhy}
+use Rattle.table_schema.specs.declared.write.Write.{Write}
 use Rattle.table_schema.proofs.Plans.{IsPlan-none, IsPlan-plan_step}
+use Rattle.sai_types.specs.Objects.{level}
+use Rattle.sai_types.specs.declared.kind.Kind.{Kind}
 use Rattle.swss_script.specs.Built.{is_built, is_built_show}
-use Rattle.swss_script.specs.Script.{begun, default_caps, ended_in, in_head, in_section, named, round_ended, script_at, script_of, section_begun, settled, shown_in, with_line, with_plan}
+use Rattle.swss_script.specs.Script.{begun, ended_in, in_head, in_section, named, round_ended, script_at, script_of, section_begun, settled, shown_in, with_capacity, with_line, with_plan}
 use Rattle.swss_script.specs.Stage.{IsOfStage, is_built_act, is_built_round, is_built_section}
 use Rattle.swss_script.specs.declared.draft.Draft.{Draft}
 use Rattle.swss_script.specs.declared.draft.Place.{Place}
@@ -27,7 +30,6 @@ use Rattle.swss_script.proofs.Steps.{same-ok, with_producer}
 
 -- the script of a draft, with the rounds that ended
 record IsBuiltScript (script : Script) : Type 0 where
-  caps : script.caps ≡ default_caps
   fails : script.fails ≡ []
   image : script.image ≡ []
   plan : IsPlan script.plan
@@ -52,7 +54,6 @@ staged-round : (d : Draft) → IsStaged d → IsBuiltScript (round_ended d).scri
 staged-round d h =
     let s = h.script in
     record {
-      caps = s.caps;
       fails = s.fails;
       image = s.image;
       plan = s.plan;
@@ -72,13 +73,27 @@ staged-ended place.Settled next d h = record { script = staged-round d h; sectio
 staged-plan : (d e : Draft) (text : List ℕ) (plan : Result Ports PlanWhy) → plan_step d.script.plan text ≡ plan → with_plan d plan ≡ Ok e → IsStaged d → IsStaged e
 staged-plan d e text (Ok plan) is k h =
     let s = h.script in
-    let more : IsBuiltScript (record d.script { plan = plan }) = record { caps = s.caps; fails = s.fails; image = s.image; plan = IsPlan-plan_step d.script.plan plan text s.plan is; producers = s.producers; rounds = s.rounds } in
+    let more : IsBuiltScript (record d.script { plan = plan }) = record { fails = s.fails; image = s.image; plan = IsPlan-plan_step d.script.plan plan text s.plan is; producers = s.producers; rounds = s.rounds } in
     subst IsStaged (same-ok (record d { script = record d.script { plan = plan } }) e k) (record { script = more; sections = h.sections; acts = h.acts; shows = h.shows })
 staged-plan d e text (Err fault) is k h = cc
 
+-- a capacity of the head
+staged-capacity : (d e : Draft) (kind : Kind) (most : ℕ) → with_capacity d kind most ≡ Ok e → IsStaged d → IsStaged e
+staged-capacity d e kind most k h = by (slice_index_or d.kinds (level kind) false) k
+  where
+    room : Draft
+    room = record d { script = record d.script { caps = record { 0 = slice_set d.script.caps.0 (level kind) most } }; kinds = slice_set d.kinds (level kind) true }
+
+    by : (twice : Bool) → (if twice then Err why.HeadTwice else Ok room) ≡ Ok e → IsStaged e
+    by true k = cc
+    by false k =
+        let s = h.script in
+        let more : IsBuiltScript room.script = record { fails = s.fails; image = s.image; plan = s.plan; producers = s.producers; rounds = s.rounds } in
+        subst IsStaged (same-ok room e k) (record { script = more; sections = h.sections; acts = h.acts; shows = h.shows })
+
 staged-head : (p : Place) (d e : Draft) (line : Option HeadLine) → is_built (Head line) ≡ true → in_head p d line ≡ Ok e → IsStaged d → IsStaged e
 staged-head place.Head d e (Some (head.Port text)) built k h = staged-plan d e text (plan_step d.script.plan text) refl k h
-staged-head place.Head d e (Some (head.Chip kind most)) built k h = cc
+staged-head place.Head d e (Some (head.Chip kind most)) built k h = staged-capacity d e kind most k h
 staged-head place.Head d e (Some (head.Fail fail)) built k h = cc
 staged-head place.Head d e (Some (head.Image fault)) built k h = cc
 staged-head place.Head d e None built k h = cc
@@ -101,7 +116,7 @@ staged-new : (d : Draft) (name : List ℕ) → length d.script.producers < 4 →
 staged-new d name fits h =
     let s = h.script in
     let few : length (d.script.producers ++ name ∷ []) ≤ 4 = omega (arith, fits, length-append d.script.producers (name ∷ [])) in
-    let more : IsBuiltScript (with_producer d name).script = record { caps = s.caps; fails = s.fails; image = s.image; plan = s.plan; producers = few; rounds = s.rounds } in
+    let more : IsBuiltScript (with_producer d name).script = record { fails = s.fails; image = s.image; plan = s.plan; producers = few; rounds = s.rounds } in
     record { script = more; sections = h.sections; acts = h.acts; shows = h.shows }
 
 staged-first : (d e : Draft) (name : List ℕ) (fits : Bool) → nat_lt (length d.script.producers) 4 ≡ fits → cond fits (Ok (section_begun (with_producer d name) (length d.script.producers + 1))) (Err why.TooManyProducers) ≡ Ok e → IsStaged d → IsStaged e
@@ -113,12 +128,17 @@ staged-named : (d e : Draft) (name : List ℕ) (at : Option ℕ) → named d nam
 staged-named d e name (Some at) k h = subst IsStaged (same-ok _ _ k) (staged-ended d.place (place.Section (at + 1)) d h)
 staged-named d e name None k h = staged-first d e name (nat_lt (length d.script.producers) 4) refl k h
 
+-- writes are acts that the service has
+writes-built : (writes : List Write) → list_all is_built_act (map act.Write writes) ≡ true
+writes-built [] = refl
+writes-built (write ∷ writes) = writes-built writes
+
 staged-line : (d e : Draft) (line : Line) → is_built line ≡ true → with_line d line ≡ Ok e → IsStaged d → IsStaged e
 staged-line d e Blank built k h = subst IsStaged (same-ok _ _ k) h
 staged-line d e (Head line) built k h = staged-head d.place d e line built k h
 staged-line d e (Producer name) built k h = staged-named d e name (position (bytes_eq name) d.script.producers) k h
-staged-line d e (Put write) built k h = staged-acts d.place d e (act.Write write ∷ []) (ap (λ b. b && true) built) k h
-staged-line d e (Batch (Some writes)) built k h = staged-acts d.place d e (map act.Write writes) (list_all-map is_built_act act.Write writes ∙ built) k h
+staged-line d e (Put write) built k h = staged-acts d.place d e (act.Write write ∷ []) refl k h
+staged-line d e (Batch (Some writes)) built k h = staged-acts d.place d e (map act.Write writes) (writes-built writes) k h
 staged-line d e (Batch None) built k h = cc
 staged-line d e Block built k h = cc
 staged-line d e Restart built k h = cc
@@ -142,7 +162,7 @@ done-at (place.Section producer) d is h = done-round (settled d) (staged-ended d
 
 done-script : (bytes : List ℕ) (script : Script) → script_of bytes ≡ Ok script → IsDone script
 done-script bytes script h =
-    let empty : IsBuiltScript begun.script = record { caps = refl; fails = refl; image = refl; plan = IsPlan-none; producers = omega arith; rounds = refl } in
+    let empty : IsBuiltScript begun.script = record { fails = refl; image = refl; plan = IsPlan-none; producers = omega arith; rounds = refl } in
     kept-script IsStaged staged-line (λ d block s. record { script = s.script; sections = s.sections; acts = s.acts; shows = s.shows }) IsDone (λ d s. done-at d.place d refl s) bytes script (record { script = empty; sections = refl; acts = refl; shows = refl }) h
 
 -- what an accepted script of this stage has
@@ -150,4 +170,4 @@ pub stage-of_script : (bytes : List ℕ) (script : Script) → script_of bytes �
 stage-of_script bytes script h =
     let done = done-script bytes script h in
     let s = done.0 in
-    record { caps = s.caps; fails = s.fails; image = s.image; plan = s.plan; producers = s.producers; several = done.1; rounds = s.rounds; numbers = (numbered-script bytes script h).rounds }
+    record { fails = s.fails; image = s.image; plan = s.plan; producers = s.producers; several = done.1; rounds = s.rounds; numbers = (numbered-script bytes script h).rounds }

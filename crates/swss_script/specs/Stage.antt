@@ -2,8 +2,7 @@
 use Rattle.std.specs.Prelude.{◌≡◌, ℕ, ◌<◌, ◌≤◌, Bool, true, false, ◌&&◌, List, [], length}
 use Rattle.std.specs.List.{AllByRecursion, list_all}
 use Rattle.table_schema.specs.Plan.{IsPlan}
-use Rattle.swss_script.specs.Built.{is_built_show, is_built_write}
-use Rattle.swss_script.specs.Script.{default_caps}
+use Rattle.swss_script.specs.Built.{is_built_show}
 use Rattle.swss_script.specs.declared.draft.TheConstants.{MOST_PRODUCERS}
 use Rattle.swss_script.specs.declared.parts.Act.{Act}
 use Rattle.swss_script.specs.declared.parts.Act.TheVariants as act
@@ -11,12 +10,12 @@ use Rattle.swss_script.specs.declared.parts.Round.{Round}
 use Rattle.swss_script.specs.declared.parts.Section.{Section}
 use Rattle.swss_script.specs.declared.script.Script.{Script}
 
--- a write with a key that the service has
+-- a write
 abbrev pub is_built_act : Act → Bool
-is_built_act (act.Write write) = is_built_write write
+is_built_act (act.Write write) = true
 is_built_act act.Restart = false
 
--- a section of such writes
+-- a section of writes
 abbrev pub is_built_section : Section → Bool
 is_built_section section = list_all is_built_act section.acts
 
@@ -32,10 +31,9 @@ IsNumber count number = (0 < number) × (number ≤ count)
 abbrev pub AreNumbered : ℕ → List Section → Type 0
 AreNumbered count sections = AllByRecursion (λ s. IsNumber count s.producer) sections
 
--- what an accepted script of this stage has: the chip's own capacities, no failing call, no image and no restart, a plan,
--- no more producers than a script may have, and at least one round
+-- what an accepted script of this stage has: no failing call, no image and no restart, a plan, no more producers than a
+-- script may have, and at least one round
 pub record IsOfStage (script : Script) : Type 0 where
-  pub caps : script.caps ≡ default_caps
   pub fails : script.fails ≡ []
   pub image : script.image ≡ []
   pub plan : IsPlan script.plan

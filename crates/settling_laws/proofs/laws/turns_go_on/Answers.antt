@@ -5,7 +5,7 @@ pub returns-clause-begins : goal.returns-clause-begins
 returns-clause-begins c = turn_begins
 
 pub returns-clause-waits : goal.returns-clause-waits
-returns-clause-waits c = λ keys left rest k core core' core'' chip' s x r is plan capacities rests ops reason waiting. turn_waits keys left rest k core core' chip' s x r reason core'' is plan capacities rests ops waiting
+returns-clause-waits c = λ keys left rest k core core' core'' chip' s x r is plan capacities limit rests ops reason waiting. turn_waits keys left rest k core core' chip' s x r reason core'' is plan capacities limit rests ops waiting
 
 pub returns-clause-drops : goal.returns-clause-drops
 returns-clause-drops c = λ keys left rest k core core' core'' chip' s x y z at step rests ops. turn_drops keys left rest k core core' chip' s x core'' y z at step rests ops

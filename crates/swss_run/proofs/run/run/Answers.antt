@@ -1,9 +1,13 @@
 use Rattle.swss_script.proofs.Staged.{stage-of_script}
-use Rattle.swss_run.proofs.OneRound.{tells}
+use Rattle.swss_run.proofs.Given.{rounds-were_read}
+use Rattle.swss_run.proofs.Telling.{tells}
 use Rattle.swss_run.proofs.run.run.Goals as goal
 
 pub run_script-requires : goal.run_script-requires
-run_script-requires g c = record { stage = stage-of_script c.in-Ok.ensures.read.bytes c.in-Ok.script c.in-Ok.ensures.read.says }
+run_script-requires g c = record {
+  plan = (stage-of_script c.in-Ok.ensures.read.bytes c.in-Ok.script c.in-Ok.ensures.read.says).plan;
+  read = rounds-were_read c.in-Ok.ensures.read.bytes c.in-Ok.script c.in-Ok.ensures.read.says;
+}
 
 pub returns-in-Ok-clause-session : goal.returns-in-Ok-clause-session
 returns-in-Ok-clause-session g c =

@@ -1,12 +1,12 @@
-use Rattle.std.proofs.Common.{rules, ◌≡◌, ◌∙◌, ◌+◌, true, List, [], ◌∷◌, ◌++◌, length, slice_get, Some, refl, sym, ap, subst, arith}
+use Rattle.std.proofs.Common.{rules, ◌≡◌, ◌∙◌, ◌+◌, List, [], ◌∷◌, ◌++◌, length, slice_get, Some, refl, sym, ap, subst, arith}
 use Rattle.std.proofs.Math.Seq.{get_or-append_seam}
 use Rattle.std.proofs.lemmas.List.{append_assoc, append-nil, length-append, nil_from_length}
 use Rattle.std.proofs.lemmas.Option.{slice_get-get_or}
-use Rattle.std.specs.List.{list_all}
+use Rattle.std.specs.List.{AllByRecursion}
 use Rattle.sai_chip.specs.Replay.{Replayed}
-use Rattle.switch_model.proofs.Ready.{both_true}
-use Rattle.swss_script.specs.Stage.{is_built_round}
+use Rattle.swss_script.specs.Sent.{writes_in}
 use Rattle.swss_script.specs.declared.parts.Round.{Round}
+use Rattle.swss_run.specs.Taking.{HaveReadKeys}
 use Rattle.swss_run.proofs.Sessions.{replay-none, running-more, running-none, session-done, session-ended}
 use Rattle.swss_run.proofs.session.run_rounds.Goals as goal
 
@@ -16,8 +16,11 @@ round-at done round rest rounds is =
     ∙ slice_get-get_or (done ++ round ∷ rest) (length done) round (omega (arith, length-append done (round ∷ rest)))
     ∙ ap Some (get_or-append_seam done round rest round)
 
-built-first : (left rest : List Round) (round : Round) → left ≡ round ∷ rest → list_all is_built_round left ≡ true → (is_built_round round ≡ true) × (list_all is_built_round rest ≡ true)
-built-first left rest round is built = both_true (is_built_round round) (list_all is_built_round rest) (subst (λ l. list_all is_built_round l ≡ true) is built)
+abbrev AreRead : List Round → Type 0
+AreRead rounds = AllByRecursion (λ (r : Round). HaveReadKeys (writes_in r.sections)) rounds
+
+read-first : (left rest : List Round) (round : Round) → left ≡ round ∷ rest → AreRead left → HaveReadKeys (writes_in round.sections) × AreRead rest
+read-first left rest round is read = subst AreRead is read
 
 pub loop-round-init : goal.loop-round-init
 loop-round-init g c =
@@ -25,16 +28,16 @@ loop-round-init g c =
       [],
       sym items,
       refl,
-      subst (λ l. list_all is_built_round l ≡ true) (sym items) c.requires.built,
+      subst AreRead (sym items) c.requires.read,
       omega arith,
-      running-none c.args.rounds c.args.core.now c.args.chip.now (g.K.Sink.holds c.args.sink.now) c.new-replay.result c.requires.new c.requires.chip c.requires.kept (replay-none c.args.chip.now.chip.effects c.new-replay.result c.new-replay.ensures) (ap (λ (r : Replayed). r.at) c.new-replay.ensures),
+      running-none c.args.rounds c.args.core.now c.args.chip.now (g.K.Sink.holds c.args.sink.now) c.new-replay.result c.requires.new c.requires.chip c.requires.plan (replay-none c.args.chip.now.chip.effects c.new-replay.result c.new-replay.ensures) (ap (λ (r : Replayed). r.at) c.new-replay.ensures),
       refl,
     )
 
-pub run_round-requires-clause-built : goal.run_round-requires-clause-built
-run_round-requires-clause-built g c =
+pub run_round-requires-clause-read : goal.run_round-requires-clause-read
+run_round-requires-clause-read g c =
     let left : c.loop-round.round-iterator.rest.items ≡ c.in-Some.round ∷ c.next.new.self.rest.items = search rules in
-    (built-first c.loop-round.round-iterator.rest.items c.next.new.self.rest.items c.in-Some.round left c.loop-round.invariant.3).0
+    (read-first c.loop-round.round-iterator.rest.items c.next.new.self.rest.items c.in-Some.round left c.loop-round.invariant.3).0
 
 pub returns-in_default-clause-session : goal.returns-in_default-clause-session
 returns-in_default-clause-session g c =
@@ -52,7 +55,7 @@ loop-round-preserved g c =
       c.loop-round.invariant.0 ++ c.in-Some.round ∷ [],
       split ∙ sym (append_assoc c.loop-round.invariant.0 (c.in-Some.round ∷ []) c.next.new.self.rest.items),
       ap (λ n. n + 1) c.loop-round.invariant.2 ∙ sym (length-append c.loop-round.invariant.0 (c.in-Some.round ∷ [])),
-      (built-first c.loop-round.round-iterator.rest.items c.next.new.self.rest.items c.in-Some.round left c.loop-round.invariant.3).1,
+      (read-first c.loop-round.round-iterator.rest.items c.next.new.self.rest.items c.in-Some.round left c.loop-round.invariant.3).1,
       omega (arith, c.loop-round.invariant.4, c.run_round.ensures.counts),
       running-more c.args.rounds c.loop-round.invariant.0 c.args.core.now (g.K.Sink.holds c.args.sink.now) c.loop-round.core c.loop-round.chip c.loop-round.replay (g.K.Sink.holds c.loop-round.sink) c.loop-round.invariant.5
           c.in-Some.round (c.loop-round.number + 1) (round-at c.loop-round.invariant.0 c.in-Some.round c.next.new.self.rest.items c.args.rounds split) (ap (λ n. n + 1) c.loop-round.invariant.2)

@@ -2,15 +2,14 @@ use Rattle.std.proofs.Common.{◌∙◌, Ok, ap, refl, subst, sym}
 use Rattle.session_laws.specs.Core.{CoreState}
 use Rattle.switch_core.specs.Outcomes.{Tries}
 use Rattle.switch_core.specs.Settled.{Dropped, StopsShort, Waits}
-use Rattle.switch_core.proofs.Turns.{begun_runs, brings_err}
-use Rattle.switch_core.proofs.Walks.{some_same, warm_same}
+use Rattle.switch_core.proofs.Turns.{begun_runs, brings_err, short_same}
 use Rattle.switch_core.proofs.state.Core.bring.Goals as goal
 
 pub returns-in_err-try_key : goal.returns-in_err-try_key
 returns-in_err-try_key g c = λ s is.
     let x = subst (λ r. Tries s 0 c.args.key.now c.args.self.now (g.C.Chip.state c.args.chip.now) r c.try_key.new.self) c.in_err-try_key.was (c.try_key.ensures s (g.C.Chip.state c.args.chip.now) is) in
     brings_err s c.args.key.now c.args.self.now (g.C.Chip.state c.args.chip.now) c.from_residual.result c.try_key.new.self (g.C.Chip.state c.args.chip.now) c.from_residual.ensures.0
-    (some_same c.args.self.now c.try_key.new.self s (g.C.Chip.state c.args.chip.now) x.0 x.1, warm_same c.args.self.now c.try_key.new.self x.0 ∙ c.requires.rest.warm)
+    (short_same s c.args.self.now c.try_key.new.self (g.C.Chip.state c.args.chip.now) c.requires.rest.warm x.0 x.1)
 
 pub run-requires-clause-session : goal.run-requires-clause-session
 run-requires-clause-session g c =
@@ -28,7 +27,7 @@ pub returns-in_err-wait-in-Waits : goal.returns-in_err-wait-in-Waits
 returns-in_err-wait-in-Waits g c = λ s is.
     let x = subst (λ r. Tries s 0 c.args.key.now c.args.self.now (g.C.Chip.state c.args.chip.now) r c.try_key.new.self) (c.in_ok-try_key.was ∙ ap Ok c.in-Waits.is) (c.try_key.ensures s (g.C.Chip.state c.args.chip.now) is) in
     brings_err s c.args.key.now c.args.self.now (g.C.Chip.state c.args.chip.now) c.from_residual-in_err-wait-in-Waits.result c.wait.new.self (g.C.Chip.state c.args.chip.now) c.from_residual-in_err-wait-in-Waits.ensures.0
-    (subst (λ d. StopsShort s c.args.self.now d (g.C.Chip.state c.args.chip.now)) (sym c.in_err-wait-in-Waits.ensures.err) (some_same c.args.self.now c.try_key.new.self s (g.C.Chip.state c.args.chip.now) x.0 x.1, warm_same c.args.self.now c.try_key.new.self x.0 ∙ c.requires.rest.warm))
+    (subst (λ d. StopsShort s c.args.self.now (g.C.Chip.state c.args.chip.now) d (g.C.Chip.state c.args.chip.now)) (sym c.in_err-wait-in-Waits.ensures.err) (short_same s c.args.self.now c.try_key.new.self (g.C.Chip.state c.args.chip.now) c.requires.rest.warm x.0 x.1))
 
 pub returns-in-Dropped : goal.returns-in-Dropped
 returns-in-Dropped g c = λ s is. Dropped refl (subst (λ r. Tries s 0 c.args.key.now c.args.self.now (g.C.Chip.state c.args.chip.now) r c.try_key.new.self) (c.in_ok-try_key.was ∙ ap Ok c.in-Dropped.is) (c.try_key.ensures s (g.C.Chip.state c.args.chip.now) is))
@@ -36,7 +35,7 @@ returns-in-Dropped g c = λ s is. Dropped refl (subst (λ r. Tries s 0 c.args.ke
 pub returns-in-Begun : goal.returns-in-Begun
 returns-in-Begun g c = λ s is.
     let x = subst (λ r. Tries s 0 c.args.key.now c.args.self.now (g.C.Chip.state c.args.chip.now) r c.try_key.new.self) (c.in_ok-try_key.was ∙ ap Ok c.in-Begun.is) (c.try_key.ensures s (g.C.Chip.state c.args.chip.now) is) in
-    begun_runs s c.args.key.now c.args.self.now (g.C.Chip.state c.args.chip.now) c.try_key.new.self x c.run.result c.run.new.self (g.C.Chip.state c.run.new.chip) (c.run.ensures x.makes.later x.makes.stands)
+    begun_runs s c.args.key.now c.args.self.now (g.C.Chip.state c.args.chip.now) is c.try_key.new.self x c.run.new.self (g.C.Chip.state c.run.new.chip) c.run.result (c.run.ensures x.makes.later x.makes.stands)
 
 pub returns-in_ok-wait-in-Waits : goal.returns-in_ok-wait-in-Waits
 returns-in_ok-wait-in-Waits g c = λ s is.

@@ -1,0 +1,33 @@
+-- What the calls of rounds are whose settlings ended. Own.
+use Rattle.std.specs.Prelude.{◌≡◌, ◌≤◌, ℕ, List, [], ◌∷◌, ◌++◌, length, Option}
+use Rattle.table_schema.specs.Plan.{Ports}
+use Rattle.table_schema.specs.declared.write.Sent.{Sent}
+use Rattle.sai_types.specs.declared.ids.Rid.{Rid}
+use Rattle.sai_types.specs.declared.body.Call.{Call}
+use Rattle.switch_model.specs.declared.mark.Mark.{Mark}
+use Rattle.machine_laws.specs.Order.{IsSettledMark}
+use Rattle.restart_laws.specs.Logged.{last_mark}
+use Rattle.round_laws.specs.Drained.{Drains}
+use Rattle.round_laws.specs.Ended.{EndedRound, taken_then}
+use Rattle.round_laws.specs.Quiet.{LeavesQuietRows}
+use Rattle.round_laws.specs.Turns.{IsMadeByTurns}
+use Rattle.swss_run.specs.Rounds.{Ran}
+
+-- a round is made by the turns that its mark counts; it leaves alone what stood for the rows of keys that it does not try; and it drains where its good rows are closed and there is room
+pub record EndsTurned (plan : Ports) (capacities : List ℕ) (r : EndedRound) : Type 0 where
+  pub made : IsMadeByTurns plan capacities r
+  pub quiet : LeavesQuietRows plan r
+  pub drains : (from : ℕ) → from ≤ length (taken_then r) → Drains plan capacities from r
+
+-- the round ended at this mark, and before it came that mark or none, these writes and these calls
+abbrev pub round_at : Option Mark → List Sent → List (Call Rid) → Ran → Mark → EndedRound
+round_at before taken effects ran mark = record { before = before; taken = taken; effects = effects; sent = ran.sent; calls = ran.calls; mark = mark }
+
+-- so it is where the mark is that of a settling that ended
+abbrev pub IsTurned : Ports → List ℕ → Option Mark → List Sent → List (Call Rid) → Ran → Type 0
+IsTurned plan capacities before taken effects ran = (mark : Mark) → ran.marks ≡ mark ∷ [] → IsSettledMark mark.event → EndsTurned plan capacities (round_at before taken effects ran mark)
+
+-- and so of rounds that ended one after the other
+abbrev pub AreTurned : Ports → List ℕ → Option Mark → List Sent → List (Call Rid) → List Ran → Type 0
+AreTurned plan capacities before taken effects [] = Unit {0}
+AreTurned plan capacities before taken effects (ran ∷ rans) = IsTurned plan capacities before taken effects ran × AreTurned plan capacities (last_mark before ran.marks) (taken ++ ran.sent) (effects ++ ran.calls) rans
