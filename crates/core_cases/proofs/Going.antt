@@ -50,7 +50,7 @@ pub stepped : (w : ℕ) (c : CoreState) (chip : ChipState) (is : IsRunning c chi
 stepped w c chip is (Ok step.Did) c' chip' x = ((x.0.later, x.0.stands), with_warm c c' (same_warm c c' chip chip' is.0.0 x.0.later is.0.1 x.0.stands (ap (λ (t : LoggedService). t.service.warm) x.3)) is.1)
 stepped w c chip is (Ok step.Idle) c' chip' x = subst (λ z. IsRunning c' z) (sym x.0) ((is.0.0, x.2), with_warm c c' (same_warm c c' chip chip is.0.0 is.0.0 is.0.1 x.2 refl) is.1)
 stepped w c chip is (Ok step.Suspect) c' chip' x = same_runs c c' chip chip' is x.0 x.1
-stepped w c chip is (Ok step.Faulted) c' chip' x = ((x.0.later, x.0.stands), inr x.1)
+stepped w c chip is (Ok step.Faulted) c' chip' x = ((x.makes.later, x.makes.stands), inr x.marks.warm)
 stepped w c chip is (Ok step.LogFull) c' chip' x = same_runs c c' chip chip' is x.0 x.1
 stepped w c chip is (Err e) c' chip' x = some_runs c c' chip' is.0.0 x.1 (with_warm c c' x.2 is.1)
 
