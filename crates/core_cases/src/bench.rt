@@ -1,0 +1,93 @@
+// A core and its chip.
+ghost use Rattle.std.specs.Prelude.{◌<◌};
+ghost use Rattle.switch_model.specs.Marks.{written_key};
+ghost use Rattle.machine_laws.specs.Reading.{IsOnSwitch};
+
+use sai_chip::SimChip;
+use sai_types::{Caps, Chip, Object, Rid};
+use std::alloc::Global;
+use std::marker::Model;
+use switch_core::{Core, Settled, Step, TakeFault};
+use switch_model::MarkEvent;
+use swss_types::OutOfMemory;
+use table_schema::{PortPlan, Sent, Write};
+use warm_state::Warm;
+
+/// How many objects of each kind the chip has room for.
+const ROOM: Caps = Caps([
+    256, 4094, 256, 16_384, 1024, 2048, 16_384, 16_384, 512, 16_384, 65_536,
+]);
+
+/// How many places the log has.
+const PLACES: u64 = 4_194_304;
+
+/// A core and its chip, which stand for a session of the service at each moment.
+#[derive(Drop)]
+pub struct Bench {
+    core: Core,
+    chip: SimChip,
+}
+
+impl Model for Bench {
+    ghost use Rattle.sai_types.specs.ChipState.{ChipState};
+    ghost use Rattle.session_laws.specs.Core.{CoreState};
+    ghost use Rattle.core_cases.specs.Running.{IsRunning};
+
+    ghost Value = { CoreState × ChipState };
+
+    ghost view = { λ b. (b.core, b.chip.chip) };
+
+    ghost invariant = { λ b. IsRunning b.core b.chip.chip };
+}
+
+impl Bench {
+    /// A new core over an empty chip.
+    pub fn new(alloc: Global, plan: PortPlan) -> Bench {
+        // It says that the plan is one.
+        let _ports = plan.len();
+        Bench {
+            core: Core::new(alloc, plan, ROOM, PLACES),
+            chip: SimChip::new(alloc, ROOM, Vec::new(alloc)),
+        }
+    }
+
+    /// Takes a write of a key that was read.
+    pub fn take(&mut self, write: Write) -> Result<Result<(), TakeFault>, OutOfMemory>
+        requires { IsOnSwitch (written_key write) }
+    {
+        let sent = Sent {
+            from: 1,
+            number: self.core.log().taken().len() as u64,
+            write,
+        };
+        self.core.take(sent, self.chip.effects())
+    }
+
+    /// Makes a step of a worker.
+    pub fn step(&mut self, worker: u32) -> Result<Step, OutOfMemory>
+        requires { worker < 4 }
+    {
+        self.core.step(&mut self.chip, worker)
+    }
+
+    /// Settles. None where the core is suspect.
+    pub fn settle(&mut self) -> Result<Option<Settled>, OutOfMemory> {
+        match self.core.state() {
+            Warm::Reconciled => Ok(Some(self.core.settle(&mut self.chip)?)),
+            _ => Ok(None),
+        }
+    }
+
+    /// How many keys wait by the last mark. None where that is not a mark of a settling.
+    pub fn waits(&self) -> Option<usize> {
+        match &self.core.log().marks().last()?.event {
+            MarkEvent::Settled { waits, .. } => Some(waits.items().len()),
+            _ => None,
+        }
+    }
+
+    /// The objects on the chip.
+    pub fn objects(&self, alloc: Global) -> Result<Vec<Object<Rid>>, OutOfMemory> {
+        self.chip.objects(alloc)
+    }
+}

@@ -1,0 +1,86 @@
+// A case, as its lines give it.
+use crate::words::number;
+use crate::workers::Workers;
+use anyhow::{Result, bail};
+use std::alloc::Global;
+use std::mem;
+
+/// What is written between two settlings, and what is wanted at the second.
+#[derive(Drop)]
+pub struct Round {
+    /// The writes, each as its line.
+    pub writes: Vec<String>,
+    /// How many keys wait.
+    pub waits: u64,
+    /// How many objects stand.
+    pub objects: u64,
+}
+
+/// A plan, writes round by round, and workers by which they are run.
+#[derive(Drop)]
+pub struct Case {
+    name: String,
+    round: Round,
+    /// The lines of the plan.
+    pub ports: Vec<String>,
+    /// The rounds that ended.
+    pub rounds: Vec<Round>,
+    /// How often the case is run, and by which workers.
+    pub workers: Vec<Workers>,
+}
+
+impl Round {
+    /// Nothing is written, and nothing is to wait or to stand.
+    fn new(alloc: Global) -> Round {
+        Round {
+            writes: Vec::new(alloc),
+            waits: 0,
+            objects: 0,
+        }
+    }
+}
+
+impl Case {
+    /// A case without lines.
+    pub fn new(alloc: Global, name: &str) -> Result<Case> {
+        Ok(Case {
+            name: String::from_str(alloc, name)?,
+            round: Round::new(alloc),
+            ports: Vec::new(alloc),
+            rounds: Vec::new(alloc),
+            workers: Vec::new(alloc),
+        })
+    }
+
+    /// The name of the case.
+    pub fn name(&self) -> &str {
+        self.name.as_str()
+    }
+
+    /// Adds a line.
+    pub fn add_line(&mut self, alloc: Global, line: &str) -> Result<()> {
+        let words = line.split_whitespace().collect::<Vec<&str>>(alloc)?;
+        match words.as_slice() {
+            ["port", name, lanes] => self.ports.push(format!(in alloc; "{name} {lanes}")?)?,
+            ["set", _, ..] | ["del", _] => {
+                self.round.writes.push(String::from_str(alloc, line)?)?;
+            }
+            ["waits", count] => self.round.waits = number(count)?,
+            ["objects", count] => self.round.objects = number(count)?,
+            ["settle"] => self.end_round(alloc)?,
+            ["workers", count, order @ ..] => {
+                let line = String::from_str(alloc, line)?;
+                self.workers.push(Workers::read(line, count, order)?)?;
+            }
+            _ => bail!("no line of a case"),
+        }
+        Ok(())
+    }
+
+    /// Ends the round, and begins the next.
+    pub fn end_round(&mut self, alloc: Global) -> Result<()> {
+        self.rounds
+            .push(mem::replace(&mut self.round, Round::new(alloc)))?;
+        Ok(())
+    }
+}
