@@ -117,6 +117,24 @@ fn a_source_in_memory_gives_all_bytes(rt: HostRuntime) -> Result<(), Fail> {
 }
 
 #[test]
+fn a_source_in_memory_gives_as_much_as_there_is_place_for(rt: HostRuntime) -> Result<(), Fail> {
+    let bytes = Vec::from_slice(rt.alloc(), b"abcde")?;
+    let mut source = MemSource::new(bytes, Vec::new(rt.alloc()));
+    let mut part = [0; 3];
+    // The second call leaves the last byte as it was.
+    for (answer, bytes) in [
+        (Got::Bytes(3), b"abc".as_slice()),
+        (Got::Bytes(2), b"dec"),
+        (Got::End, b"dec"),
+    ] {
+        assert_eq!(rt; source.read(&mut part), answer);
+        assert_eq!(rt; part.as_slice(), bytes);
+    }
+    assert_eq!(rt; source.faults(), 0);
+    Ok(())
+}
+
+#[test]
 fn a_sink_in_memory_holds_what_it_took(rt: HostRuntime) -> Result<(), Fail> {
     let fails = Vec::from_slice(rt.alloc(), &[1, 3])?;
     let mut sink = MemSink::in_pieces(rt.alloc(), fails, 1);

@@ -5,6 +5,7 @@ use sai_types::{
 };
 use std::alloc::Global;
 use std::test::Fail;
+use swss_script::DEFAULT_CAPS;
 use swss_types::{Bits, Family, Ip, Lanes, OutOfMemory, Prefix, Text, insert_rising};
 
 /// The address 10.0.0.1.
@@ -95,5 +96,16 @@ fn texts_are_of_utf8_and_lists_rise(rt: HostRuntime) -> Result<(), Fail> {
     assert_eq!(rt; list.as_slice(), [1, 3, 5, 9].as_slice());
     let text = format!(in alloc; "{OutOfMemory}")?;
     assert_eq!(rt; text.as_str(), "out of memory");
+    Ok(())
+}
+
+#[test]
+fn capacities_of_a_chip_are_as_many_as_the_formats_say(rt: HostRuntime) -> Result<(), Fail> {
+    // Of ports, VLANs, bridge ports, members of VLANs, interfaces, own addresses, neighbours, next hops, groups, members of
+    // groups, and routes.
+    let most: [u64; 11] = [
+        256, 4094, 256, 16384, 1024, 2048, 16384, 16384, 512, 16384, 65536,
+    ];
+    assert_eq!(rt; DEFAULT_CAPS.0.as_slice(), most.as_slice());
     Ok(())
 }
