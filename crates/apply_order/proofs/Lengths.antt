@@ -1,18 +1,13 @@
 -- keys are as many as objects
-use Rattle.std.proofs.Common.{◌≡◌, suc, List, [], ◌∷◌, length, map, Option, option_map, refl, ap, ◌∙◌}
+use Rattle.std.proofs.Common.{◌≡◌, suc, List, [], ◌∷◌, length, Option, refl, ap, ◌∙◌}
 use Rattle.sai_types.specs.declared.ids.Rid.{Rid}
 use Rattle.sai_types.specs.declared.ids.Vid.{Vid}
 use Rattle.sai_types.specs.declared.body.Object.{Object}
-use Rattle.sai_types.specs.Named.{things_among}
-use Rattle.sai_types.specs.Objects.{Objects}
 use Rattle.sai_chip.specs.Naming.{entries_of}
-use Rattle.view_match.specs.Keys.{key_of, keys_of_objects}
+use Rattle.view_match.specs.Keys.{keys_of_objects}
 use Rattle.view_match.specs.Listed.{objects_as}
 use Rattle.view_match.specs.declared.key.NaturalKey.{NaturalKey}
-
-length_keys : (objects os : Objects) → length (map (option_map key_of) (things_among objects os)) ≡ length os
-length_keys objects [] = refl
-length_keys objects (o ∷ os) = ap suc (length_keys objects os)
+use Rattle.view_match.proofs.Paired.{length_keys}
 
 length_entries : (objects : List (Object Rid)) → length (entries_of objects) ≡ length objects
 length_entries [] = refl

@@ -10,7 +10,7 @@ use Rattle.view_match.specs.Keys.{key_cmp}
 use Rattle.apply_order.specs.Ranks.{timed_cmp}
 use Rattle.apply_order.specs.Turns.{rank_order}
 use Rattle.apply_order.specs.contracts.ranks.RankOrd.TheImpl as rank_ord
-use Rattle.apply_order.specs.contracts.ranks.StepOrd.TheImpl as step_ord
+use Rattle.apply_order.specs.contracts.ranks.PlanStepOrd.TheImpl as step_ord
 use Rattle.apply_order.specs.declared.ranks.Rank.{Rank}
 use Rattle.apply_order.specs.declared.ranks.Rank.TheVariants as rank
 use Rattle.apply_order.specs.declared.ranks.Timed.{Timed}

@@ -11,8 +11,8 @@ use Rattle.chip_layout.specs.Renamed.{body_renamed}
 use Rattle.plan_laws.specs.Calls.{old_entry}
 use Rattle.apply_order.specs.Attributes.{set_calls}
 use Rattle.apply_order.specs.Naming.{Names, new_id}
-use Rattle.apply_order.specs.declared.ranks.Step.{Step}
-use Rattle.apply_order.specs.declared.ranks.Step.TheVariants as step
+use Rattle.apply_order.specs.declared.ranks.PlanStep.{PlanStep}
+use Rattle.apply_order.specs.declared.ranks.PlanStep.TheVariants as step
 use Rattle.apply_order.specs.declared.ranks.Timed.{Timed}
 
 -- the identifier that a call makes, where it makes one
@@ -33,7 +33,7 @@ both_calls names (Some o) (Some n) = set_calls names o n
 both_calls names _ _ = []
 
 -- the calls of a step
-abbrev pub step_calls : Names → List (Object Rid) → List (Object Vid) → Step → List PlanCall
+abbrev pub step_calls : Names → List (Object Rid) → List (Object Vid) → PlanStep → List PlanCall
 step_calls names old new (step.Make j) = make_calls names (slice_get new j)
 step_calls names old new (step.Set i j) = both_calls names (slice_get old i) (slice_get new j)
 step_calls names old new (step.Remove i) = remove_calls (slice_get old i)

@@ -13,7 +13,7 @@ use Rattle.view_match.specs.Pairs.{new_keys}
 use Rattle.view_match.specs.declared.key.NaturalKey.{NaturalKey}
 use Rattle.apply_order.specs.Places.{Places, by_new, by_old, partner_at}
 use Rattle.apply_order.specs.Ranks.{make_rank, remove_rank, set_rank}
-use Rattle.apply_order.specs.declared.ranks.Step.TheVariants as step
+use Rattle.apply_order.specs.declared.ranks.PlanStep.TheVariants as step
 use Rattle.apply_order.specs.declared.ranks.Timed.{Timed}
 
 -- in a cold plan no object counts as paired

@@ -4,7 +4,7 @@ ghost use Rattle.apply_order.specs.Calls.{both_calls, made_id, make_calls, remov
 
 use crate::attributes::push_sets;
 use crate::naming::{Names, new_body, old_entry};
-use crate::ranks::{Step, Timed};
+use crate::ranks::{PlanStep, Timed};
 use sai_types::{Call, Entry, Object, PlanCall, PlanCalls, Rid, Vid};
 use std::alloc::Global;
 use swss_types::OutOfMemory;
@@ -32,19 +32,19 @@ fn push_step(
     calls: &mut PlanCalls,
     old: &[Object<Rid>],
     new: &[Object<Vid>],
-    step: Step,
+    step: PlanStep,
 ) -> Result<(), OutOfMemory>
     ensures { OnOk result (calls.new ≡ calls.old ++ step_calls names.now.entries old.now new.now step) }
 {
     match step {
-        Step::Make(place) => push_make(names, calls, new.get(place as usize)),
-        Step::Set(from, to) => push_both(
+        PlanStep::Make(place) => push_make(names, calls, new.get(place as usize)),
+        PlanStep::Set(from, to) => push_both(
             names,
             calls,
             old.get(from as usize),
             new.get(to as usize),
         ),
-        Step::Remove(place) => push_remove(calls, old.get(place as usize)),
+        PlanStep::Remove(place) => push_remove(calls, old.get(place as usize)),
     }
 }
 

@@ -6,7 +6,7 @@ ghost use Rattle.apply_order.specs.Places.{by_new, by_old};
 ghost use Rattle.apply_order.specs.Ranks.{timed_cmp};
 
 use crate::places::{Places, by_new, by_old, partner};
-use crate::ranks::{Step, Timed, make_rank, remove_rank, set_rank};
+use crate::ranks::{PlanStep, Timed, make_rank, remove_rank, set_rank};
 use sai_types::{Entry, Mode, Object, Rid, Vid};
 use std::alloc::Global;
 use swss_types::OutOfMemory;
@@ -92,13 +92,13 @@ fn new_step(
             rank: make_rank(mode, &new.body),
             key,
             id: 0,
-            step: Step::Make(place),
+            step: PlanStep::Make(place),
         },
         Some(old) => Timed {
             rank: set_rank(&new.body),
             key,
             id: 0,
-            step: Step::Set(old, place),
+            step: PlanStep::Set(old, place),
         },
     }
 }
@@ -141,7 +141,7 @@ fn push_old_step(
         rank: remove_rank(mode, &old.body),
         key,
         id: entry_number(&old.entry),
-        step: Step::Remove(place),
+        step: PlanStep::Remove(place),
     })?;
     Ok(())
 }

@@ -13,4 +13,4 @@ mod room;
 
 pub use laws::turns_are_ordered;
 pub use planned::plan;
-pub use ranks::{Rank, Step, Timed};
+pub use ranks::{PlanStep, Rank, Timed};

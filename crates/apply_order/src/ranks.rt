@@ -30,7 +30,7 @@ pub enum Rank {
 
 /// A step of a plan, by places in the old and in the new objects.
 #[derive(Clone, Copy, Debug, PartialEq, Eq, PartialOrd, Ord)]
-pub enum Step {
+pub enum PlanStep {
     /// Makes the new object at this place.
     Make(u64),
     /// Sets what differs on the old object at the first place, so that it is as the new one at the second.
@@ -49,7 +49,7 @@ pub struct Timed {
     /// The identifier of the object that it removes, where there is one, else 0.
     pub id: u64,
     /// The step.
-    pub step: Step,
+    pub step: PlanStep,
 }
 
 /// The kind of a body.

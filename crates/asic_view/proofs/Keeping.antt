@@ -32,8 +32,8 @@ use Rattle.sai_types.proofs.Maps.{lookup-insert_entry, lookup-removed, sorted-in
 use Rattle.chip_layout.specs.Renamed.{attr_renamed, entry_renamed}
 use Rattle.asic_view.specs.declared.object.ViewObject.{ViewObject}
 use Rattle.asic_view.specs.View.{IsLegalOn, IsNew, ViewObjects, after_create, after_remove, after_set, as_chip, as_rid, body_set, changed_at, entry_at, is_named, key_cmp, object_set, same_key, untied, used_of, vid_cmp}
-use Rattle.asic_view.specs.Kept.{AreFiled, IsKept, Keyed, filed, unfiled, vid_by}
-use Rattle.asic_view.proofs.Naming.{key-exact, key_total, named-there, vid_total}
+use Rattle.asic_view.specs.Kept.{AreFiled, IsViewKept, Keyed, filed, unfiled, vid_by}
+use Rattle.asic_view.proofs.Naming.{key-exact, vid_entry_total, named-there, vid_total}
 
 abbrev Item : Type 0
 Item = Vid × ViewObject
@@ -71,14 +71,14 @@ all-more P Q (x ∷ xs) f h = (f x h.0, all-more P Q xs f h.1)
 
 -- ---- identifiers
 
-vid_tied : (v w : Vid) → is_at (vid_cmp v) w ≡ (v.0 == w.0)
+pub vid_tied : (v w : Vid) → is_at (vid_cmp v) w ≡ (v.0 == w.0)
 vid_tied v w = search rules
 
 pub vid-exact : (v w : Vid) → is_at (vid_cmp v) w ≡ true → v ≡ w
 vid-exact v w h = let made : ℕ → Vid = λ n. record { 0 = n } in ap made (eqb-true v.0 w.0 (sym (vid_tied v w) ∙ h))
 
-above : (v : Vid) (w : Vid) → w.0 < v.0 → vid_cmp v w ≡ Greater
-above v w h = sym (nat_cmp_is v.0 w.0 Greater h)
+greater_vid : (v : Vid) (w : Vid) → w.0 < v.0 → vid_cmp v w ≡ Greater
+greater_vid v w h = sym (nat_cmp_is v.0 w.0 Greater h)
 
 push_step : (v : Vid) (x : ViewObject) (y : Item) (ys : ViewObjects) → vid_cmp v y.0 ≡ Greater → insert_entry vid_cmp (y ∷ ys) v x ≡ y ∷ insert_entry vid_cmp ys v x
 push_step v x y ys h = ap (λ r. match_ordering r ((v, x) ∷ y ∷ ys) ((y.0, x) ∷ ys) (y ∷ insert_entry vid_cmp ys v x)) h
@@ -86,29 +86,29 @@ push_step v x y ys h = ap (λ r. match_ordering r ((v, x) ∷ y ∷ ys) ((y.0, x
 -- what comes after all others is put last
 pub pushed : (os : ViewObjects) (v : Vid) (x : ViewObject) → AllByRecursion (λ y. y.0.0 < v.0) os → insert_entry vid_cmp os v x ≡ os ++ (v, x) ∷ []
 pushed [] v x h = refl
-pushed (y ∷ ys) v x h = push_step v x y ys (above v y.0 h.0) ∙ ap (λ zs. y ∷ zs) (pushed ys v x h.1)
+pushed (y ∷ ys) v x h = push_step v x y ys (greater_vid v y.0 h.0) ∙ ap (λ zs. y ∷ zs) (pushed ys v x h.1)
 
 pub taken-back : (os : ViewObjects) (v : Vid) (x : ViewObject) → AllByRecursion (λ y. y.0.0 < v.0) os → remove_entry (is_at (vid_cmp v)) (os ++ (v, x) ∷ []) ≡ os
 taken-back [] v x h = ap (λ b. cond b [] ((v, x) ∷ [])) ((eq_by_cmp_equiv vid_total).refl v)
-taken-back (y ∷ ys) v x h = ap₂ (λ r l. cond (is_eq r) (ys ++ (v, x) ∷ []) (y ∷ l)) (above v y.0 h.0) (taken-back ys v x h.1)
+taken-back (y ∷ ys) v x h = ap₂ (λ r l. cond (is_eq r) (ys ++ (v, x) ∷ []) (y ∷ l)) (greater_vid v y.0 h.0) (taken-back ys v x h.1)
 
 -- ---- the index
 
 pub key-refl : (e : Entry Vid) → same_key e e ≡ true
-key-refl e = (eq_by_cmp_equiv key_total).refl e
+key-refl e = (eq_by_cmp_equiv vid_entry_total).refl e
 
 filed-other : (keyed : Keyed) (e d : Entry Vid) (v : Vid) → same_key e d ≡ false → vid_by (filed keyed e v) d ≡ vid_by keyed d
 filed-other keyed (entry.Oid w) d v h = refl
 filed-other keyed e (entry.Oid w) v h = refl
-filed-other keyed e d v h = lookup-insert_entry key_cmp key_total keyed e v d ∙ ap (λ b. cond b (Some v) (lookup (is_at (key_cmp d)) keyed)) ((eq_by_cmp_equiv key_total).symm d e ∙ h)
+filed-other keyed e d v h = lookup-insert_entry key_cmp vid_entry_total keyed e v d ∙ ap (λ b. cond b (Some v) (lookup (is_at (key_cmp d)) keyed)) ((eq_by_cmp_equiv vid_entry_total).symm d e ∙ h)
 
 unfiled-other : (keyed : Keyed) (e d : Entry Vid) → IsStrictlySortedBy key_cmp (keys_of keyed) → same_key e d ≡ false → vid_by (unfiled keyed e) d ≡ vid_by keyed d
 unfiled-other keyed (entry.Oid w) d sorted h = refl
 unfiled-other keyed e (entry.Oid w) sorted h = refl
-unfiled-other keyed e d sorted h = lookup-removed key_cmp key_total keyed e d sorted ∙ ap (λ b. cond b None (lookup (is_at (key_cmp d)) keyed)) h
+unfiled-other keyed e d sorted h = lookup-removed key_cmp vid_entry_total keyed e d sorted ∙ ap (λ b. cond b None (lookup (is_at (key_cmp d)) keyed)) h
 
 filed_key : (keyed : Keyed) (e : Entry Vid) (v : Vid) → lookup (is_at (key_cmp e)) (insert_entry key_cmp keyed e v) ≡ Some v
-filed_key keyed e v = lookup-insert_entry key_cmp key_total keyed e v e ∙ ap (λ b. cond b (Some v) (lookup (is_at (key_cmp e)) keyed)) ((eq_by_cmp_equiv key_total).refl e)
+filed_key keyed e v = lookup-insert_entry key_cmp vid_entry_total keyed e v e ∙ ap (λ b. cond b (Some v) (lookup (is_at (key_cmp e)) keyed)) ((eq_by_cmp_equiv vid_entry_total).refl e)
 
 filed-own : (keyed : Keyed) (v : Vid) (b : Body Vid) → vid_by (filed keyed (entry_at v b) v) (entry_at v b) ≡ Some v
 filed-own keyed v (body.OwnAddress ip) = filed_key keyed (entry.Own ip) v
@@ -118,11 +118,11 @@ filed-own keyed v _ = refl
 
 filed-rise : (keyed : Keyed) (e : Entry Vid) (v : Vid) → IsStrictlySortedBy key_cmp (keys_of keyed) → IsStrictlySortedBy key_cmp (keys_of (filed keyed e v))
 filed-rise keyed (entry.Oid w) v sorted = sorted
-filed-rise keyed e v sorted = sorted-insert_entry key_cmp key_total keyed e v sorted
+filed-rise keyed e v sorted = sorted-insert_entry key_cmp vid_entry_total keyed e v sorted
 
 unfiled-rise : (keyed : Keyed) (e : Entry Vid) → IsStrictlySortedBy key_cmp (keys_of keyed) → IsStrictlySortedBy key_cmp (keys_of (unfiled keyed e))
 unfiled-rise keyed (entry.Oid w) sorted = sorted
-unfiled-rise keyed e sorted = sorted-remove_entry key_cmp key_total (is_at (key_cmp e)) keyed sorted
+unfiled-rise keyed e sorted = sorted-remove_entry key_cmp vid_entry_total (is_at (key_cmp e)) keyed sorted
 
 filed-kept : (keyed : Keyed) (e : Entry Vid) (v : Vid) (os : ViewObjects) → AllByRecursion (λ y. is_named e y ≡ false) os → AreFiled keyed os → AreFiled (filed keyed e v) os
 filed-kept keyed e v [] apart h = tt
@@ -243,7 +243,7 @@ count-push (y ∷ ys) v x k =
 
 -- ---- a new object
 
-module _ (made : ℕ) (os : ViewObjects) (keyed : Keyed) (counts : List ℕ) (kept : IsKept made os keyed counts) where
+module _ (made : ℕ) (os : ViewObjects) (keyed : Keyed) (counts : List ℕ) (kept : IsViewKept made os keyed counts) where
   new_above : (v : Vid) → v.0 ≡ made + 1 → AllByRecursion (λ y. y.0.0 < v.0) os
   new_above v next = all-more (λ y. y.0.0 ≤ made) (λ y. y.0.0 < v.0) os (λ y h. omega (arith, h, next)) kept.below
 
@@ -253,7 +253,7 @@ module _ (made : ℕ) (os : ViewObjects) (keyed : Keyed) (counts : List ℕ) (ke
   pub made-last : (v : Vid) (x : ViewObject) → v.0 ≡ made + 1 → insert_entry vid_cmp os v x ≡ os ++ (v, x) ∷ []
   made-last v x next = pushed os v x (new_above v next)
 
-  pub kept-made : (counts' : List ℕ) (v : Vid) (b : Body Vid) → v.0 ≡ made + 1 → AllByRecursion (λ y. is_named (entry_at v b) y ≡ false) os → ((k : Kind) → slice_index counts' (level k) ≡ slice_index counts (level k) + cond (level (kind_of b) == level k) 1 0) → IsKept v.0 (after_create os v b) (filed keyed (entry_at v b) v) counts'
+  pub kept-made : (counts' : List ℕ) (v : Vid) (b : Body Vid) → v.0 ≡ made + 1 → AllByRecursion (λ y. is_named (entry_at v b) y ≡ false) os → ((k : Kind) → slice_index counts' (level k) ≡ slice_index counts (level k) + cond (level (kind_of b) == level k) 1 0) → IsViewKept v.0 (after_create os v b) (filed keyed (entry_at v b) v) counts'
   kept-made counts' v b next apart raised = record {
     rising = subst (λ l. IsStrictlySortedBy vid_cmp (keys_of l)) (made-last v (untied b) next) (sorted-insert_entry vid_cmp vid_total os v (untied b) kept.rising);
     below = all-push (λ y. y.0.0 ≤ v.0) os (v, untied b) (all-more (λ y. y.0.0 ≤ made) (λ y. y.0.0 ≤ v.0) os (λ y h. omega (arith, h, next)) kept.below) (omega arith);
@@ -263,7 +263,7 @@ module _ (made : ℕ) (os : ViewObjects) (keyed : Keyed) (counts : List ℕ) (ke
   }
 
   -- where there was no memory for it, the key is taken out again
-  pub kept-undone : (v : Vid) (e : Entry Vid) → AllByRecursion (λ y. is_named e y ≡ false) os → IsKept made os (unfiled (filed keyed e v) e) counts
+  pub kept-undone : (v : Vid) (e : Entry Vid) → AllByRecursion (λ y. is_named e y ≡ false) os → IsViewKept made os (unfiled (filed keyed e v) e) counts
   kept-undone v e apart = record {
     rising = kept.rising;
     below = kept.below;
@@ -308,7 +308,7 @@ module _ (made : ℕ) (os : ViewObjects) (keyed : Keyed) (counts : List ℕ) (ke
         by true rest = sum_by-cons (one_if k) (g y.1) (values_of (changed_at ys v g)) ∙ ap₂ (λ m n. cond (level m == level k) 1 0 + n) (alike y.1) rest ∙ sym (sum_by-cons (one_if k) y.1 (values_of ys))
         by false rest = sum_by-cons (one_if k) y.1 (values_of (changed_at ys v g)) ∙ ap (λ n. one_if k y.1 + n) rest ∙ sym (sum_by-cons (one_if k) y.1 (values_of ys))
 
-    pub kept-changed : IsKept made (changed_at os v g) keyed counts
+    pub kept-changed : IsViewKept made (changed_at os v g) keyed counts
     kept-changed = record {
       rising = subst (IsStrictlySortedBy vid_cmp) (sym (keys_stay os)) kept.rising;
       below = all-map (λ y. y.0.0 ≤ made) (λ y. y.0.0 ≤ made) change os (λ y h. subst (λ (w : Vid). w.0 ≤ made) (sym (key_stays y)) h) kept.below;
@@ -364,7 +364,7 @@ module _ (made : ℕ) (os : ViewObjects) (keyed : Keyed) (counts : List ℕ) (ke
         let all = kept.counted (kind_of x.1.body) in
         omega (arith, left, own, all)
 
-    pub kept-left : (counts' : List ℕ) → ((k : Kind) → slice_index counts' (level k) + cond (level (kind_of x.1.body) == level k) 1 0 ≡ slice_index counts (level k)) → IsKept made (after_remove os e) (unfiled keyed e) counts'
+    pub kept-left : (counts' : List ℕ) → ((k : Kind) → slice_index counts' (level k) + cond (level (kind_of x.1.body) == level k) 1 0 ≡ slice_index counts (level k)) → IsViewKept made (after_remove os e) (unfiled keyed e) counts'
     kept-left counts' lowered = record {
       rising = subst (λ l. IsStrictlySortedBy vid_cmp (keys_of l)) removed-is (sorted-remove_entry vid_cmp vid_total (is_at (vid_cmp x.0)) os kept.rising);
       below = all-filter (λ y. y.0.0 ≤ made) (λ y. not (is_named e y)) os kept.below;

@@ -34,31 +34,31 @@ use Rattle.asic_view.proofs.Shown.{Tells, shown_body, shown_entry}
 pub vid_total : IsTotalOrder vid_cmp
 vid_total = ordered_vid.total-law
 
-pub key_total : IsTotalOrder key_cmp
-key_total = ordered_entry.total-law vid.the_row vid_ord.ghosts vid_ord.dict vid_eq.ghosts vid_eq.dict vid_partial_eq.ghosts vid_partial_eq.dict vid_partial_ord.ghosts vid_partial_ord.dict ordered_vid.lawful equal_vid.lawful same_vid.lawful compared_vid.lawful
+pub vid_entry_total : IsTotalOrder key_cmp
+vid_entry_total = ordered_entry.total-law vid.the_row vid_ord.ghosts vid_ord.dict vid_eq.ghosts vid_eq.dict vid_partial_eq.ghosts vid_partial_eq.dict vid_partial_ord.ghosts vid_partial_ord.dict ordered_vid.lawful equal_vid.lawful same_vid.lawful compared_vid.lawful
 
 -- entries are told apart as those of the same numbers are
-pub told : (e d : Entry Vid) → same_entry (entry_renamed as_rid e) (entry_renamed as_rid d) ≡ same_key e d
-told (entry.Oid v) (entry.Oid w) = refl
-told (entry.Own a) (entry.Own b) = refl
-told (entry.Neigh v a) (entry.Neigh w b) = refl
-told (entry.Route p) (entry.Route q) = refl
-told (entry.Oid v) (entry.Own b) = refl
-told (entry.Oid v) (entry.Neigh w b) = refl
-told (entry.Oid v) (entry.Route q) = refl
-told (entry.Own a) (entry.Oid w) = refl
-told (entry.Own a) (entry.Neigh w b) = refl
-told (entry.Own a) (entry.Route q) = refl
-told (entry.Neigh v a) (entry.Oid w) = refl
-told (entry.Neigh v a) (entry.Own b) = refl
-told (entry.Neigh v a) (entry.Route q) = refl
-told (entry.Route p) (entry.Oid w) = refl
-told (entry.Route p) (entry.Own b) = refl
-told (entry.Route p) (entry.Neigh w b) = refl
+pub entries_told_alike : (e d : Entry Vid) → same_entry (entry_renamed as_rid e) (entry_renamed as_rid d) ≡ same_key e d
+entries_told_alike (entry.Oid v) (entry.Oid w) = refl
+entries_told_alike (entry.Own a) (entry.Own b) = refl
+entries_told_alike (entry.Neigh v a) (entry.Neigh w b) = refl
+entries_told_alike (entry.Route p) (entry.Route q) = refl
+entries_told_alike (entry.Oid v) (entry.Own b) = refl
+entries_told_alike (entry.Oid v) (entry.Neigh w b) = refl
+entries_told_alike (entry.Oid v) (entry.Route q) = refl
+entries_told_alike (entry.Own a) (entry.Oid w) = refl
+entries_told_alike (entry.Own a) (entry.Neigh w b) = refl
+entries_told_alike (entry.Own a) (entry.Route q) = refl
+entries_told_alike (entry.Neigh v a) (entry.Oid w) = refl
+entries_told_alike (entry.Neigh v a) (entry.Own b) = refl
+entries_told_alike (entry.Neigh v a) (entry.Route q) = refl
+entries_told_alike (entry.Route p) (entry.Oid w) = refl
+entries_told_alike (entry.Route p) (entry.Own b) = refl
+entries_told_alike (entry.Route p) (entry.Neigh w b) = refl
 
 pub tells : (e : Entry Vid) (os : ViewObjects) → Tells as_rid e os
 tells e [] = tt
-tells e (x ∷ xs) = (told e (entry_at x.0 x.1.body), tells e xs)
+tells e (x ∷ xs) = (entries_told_alike e (entry_at x.0 x.1.body), tells e xs)
 
 back_and_forth : (e : Entry Vid) → entry_renamed as_vid (entry_renamed as_rid e) ≡ e
 back_and_forth (entry.Oid v) = refl
@@ -67,7 +67,7 @@ back_and_forth (entry.Neigh v a) = refl
 back_and_forth (entry.Route p) = refl
 
 pub key-exact : (e d : Entry Vid) → same_key e d ≡ true → e ≡ d
-key-exact e d same = sym (back_and_forth e) ∙ ap (entry_renamed as_vid) (entry-exact (entry_renamed as_rid e) (entry_renamed as_rid d) (told e d ∙ same)) ∙ back_and_forth d
+key-exact e d same = sym (back_and_forth e) ∙ ap (entry_renamed as_vid) (entry-exact (entry_renamed as_rid e) (entry_renamed as_rid d) (entries_told_alike e d ∙ same)) ∙ back_and_forth d
 
 pub entry-number : (v : Vid) (b : Body Vid) → entry_renamed as_rid (entry_at v b) ≡ entry_of v.0 (body_renamed as_rid b)
 entry-number v (body.OwnAddress ip) = refl
@@ -103,22 +103,22 @@ no-other e (y ∷ ys) none = by (same_entry (entry_renamed as_rid e) (shown_entr
   where
     by : (t : Bool) → same_entry (entry_renamed as_rid e) (shown_entry as_rid y) ≡ t → cond t (Some (shown_body as_rid y)) (body_at (as_chip ys) (entry_renamed as_rid e)) ≡ None → (body_at (as_chip ys) (entry_renamed as_rid e) ≡ None → AllByRecursion (λ y. is_named e y ≡ false) ys) → AllByRecursion (λ y. is_named e y ≡ false) (y ∷ ys)
     by true at h behind = absurd cc
-    by false at h behind = (sym (told e (entry_at y.0 y.1.body)) ∙ at, behind h)
+    by false at h behind = (sym (entries_told_alike e (entry_at y.0 y.1.body)) ∙ at, behind h)
 
-at_most : (v : Vid) (os : ViewObjects) → AllByRecursion (λ x. x.0.0 < v.0) os → AllByRecursion (λ x. x.0.0 ≤ v.0 - 1) os
-at_most v [] h = tt
-at_most v (x ∷ xs) h = (let less = h.0 in omega arith, at_most v xs h.1)
+all_before_vid : (v : Vid) (os : ViewObjects) → AllByRecursion (λ x. x.0.0 < v.0) os → AllByRecursion (λ x. x.0.0 ≤ v.0 - 1) os
+all_before_vid v [] h = tt
+all_before_vid v (x ∷ xs) h = (let less = h.0 in omega arith, all_before_vid v xs h.1)
 
 -- what is known of a call that makes an object
-pub record IsMaking (v : Vid) (b : Body Vid) (os : ViewObjects) : Type 0 where
+pub record IsNewEntry (v : Vid) (b : Body Vid) (os : ViewObjects) : Type 0 where
   pub number : (v.0 - 1) + 1 ≡ v.0
   pub entered : AreEntered (v.0 - 1) (as_chip os)
   pub apart : AllByRecursion (λ y. is_named (entry_at v b) y ≡ false) os
 
-pub making : (v : Vid) (b : Body Vid) (os : ViewObjects) → IsNew v os → IsLegalOn os (call.Create b) → IsMaking v b os
+pub making : (v : Vid) (b : Body Vid) (os : ViewObjects) → IsNew v os → IsLegalOn os (call.Create b) → IsNewEntry v b os
 making v b os new legal =
     let one : (v.0 - 1) + 1 ≡ v.0 = let some = new.counted in omega arith in
-    let entered = entered-below (v.0 - 1) os (at_most v os new.above) in
+    let entered = entered-below (v.0 - 1) os (all_before_vid v os new.above) in
     let none = fresh (v.0 - 1) (as_chip os) (body_renamed as_rid b) entered (legal-create legal.capacities (as_chip os) (body_renamed as_rid b) legal.legal).1 in
     record {
       number = one;
@@ -132,5 +132,5 @@ named-there e [] b found = absurd cc
 named-there e (y ∷ ys) b found = by (same_entry (entry_renamed as_rid e) (shown_entry as_rid y)) refl (sym (body_at-insert (as_chip ys) (shown_entry as_rid y) (shown_body as_rid y) (entry_renamed as_rid e)) ∙ found) (named-there e ys b)
   where
     by : (t : Bool) → same_entry (entry_renamed as_rid e) (shown_entry as_rid y) ≡ t → cond t (Some (shown_body as_rid y)) (body_at (as_chip ys) (entry_renamed as_rid e)) ≡ Some b → (body_at (as_chip ys) (entry_renamed as_rid e) ≡ Some b → (x : Vid × ViewObject) × IsIn x ys × (is_named e x ≡ true)) → (x : Vid × ViewObject) × IsIn x (y ∷ ys) × (is_named e x ≡ true)
-    by true at h behind = (y, inl refl, sym (told e (entry_at y.0 y.1.body)) ∙ at)
+    by true at h behind = (y, inl refl, sym (entries_told_alike e (entry_at y.0 y.1.body)) ∙ at)
     by false at h behind = let rest = behind h in (rest.0, inr rest.1, rest.2)

@@ -42,10 +42,10 @@ hidden_apart true true v rest f = absurd (f refl refl)
 hidden_apart true false v rest f = refl
 hidden_apart false s v rest f = refl
 
-changed : {X : Type 0} (g : X → X) (t s : Bool) (v : X) (rest : Option X) → (t ≡ true → s ≡ true) → cond t (Some (g v)) (cond s (option_map g rest) rest) ≡ cond s (option_map g (cond t (Some v) rest)) (cond t (Some v) rest)
-changed g true true v rest f = refl
-changed g true false v rest f = absurd (false≢true (f refl))
-changed g false s v rest f = refl
+changed_over_choice : {X : Type 0} (g : X → X) (t s : Bool) (v : X) (rest : Option X) → (t ≡ true → s ≡ true) → cond t (Some (g v)) (cond s (option_map g rest) rest) ≡ cond s (option_map g (cond t (Some v) rest)) (cond t (Some v) rest)
+changed_over_choice g true true v rest f = refl
+changed_over_choice g true false v rest f = absurd (false≢true (f refl))
+changed_over_choice g false s v rest f = refl
 
 changed_apart : {X : Type 0} (g : X → X) (t s : Bool) (v : X) (rest : Option X) → (t ≡ true → s ≡ true → ⊥) → cond t (Some v) (cond s (option_map g rest) rest) ≡ cond s (option_map g (cond t (Some v) rest)) (cond t (Some v) rest)
 changed_apart g true true v rest f = absurd (f refl refl)
@@ -145,38 +145,38 @@ module _ (f : Vid → Rid) where
     -- ---- sets
 
     module _ (a : Attr Vid) where
-      abbrev put : Body Rid → Body Rid
-      put b = with_attr b (attr_renamed f a)
+      abbrev body_with_set : Body Rid → Body Rid
+      body_with_set b = with_attr b (attr_renamed f a)
 
-      found-set : (os : ViewObjects) → Tells e os → (q : Entry Rid) → body_at (shown_by f (after_set os e a)) q ≡ cond (same_entry at q) (option_map put (body_at (shown_by f os) q)) (body_at (shown_by f os) q)
-      found-set [] told q = none_changed put (same_entry at q)
+      found-set : (os : ViewObjects) → Tells e os → (q : Entry Rid) → body_at (shown_by f (after_set os e a)) q ≡ cond (same_entry at q) (option_map body_with_set (body_at (shown_by f os) q)) (body_at (shown_by f os) q)
+      found-set [] told q = none_changed body_with_set (same_entry at q)
       found-set (y ∷ ys) told q = by (is_named e y) refl (found-set ys told.1 q)
         where
-          before : cond (same_entry at q) (option_map put (cond (same_entry q (shown_entry y)) (Some (shown_body y)) (body_at (shown_by f ys) q))) (cond (same_entry q (shown_entry y)) (Some (shown_body y)) (body_at (shown_by f ys) q)) ≡ cond (same_entry at q) (option_map put (body_at (shown_by f (y ∷ ys)) q)) (body_at (shown_by f (y ∷ ys)) q)
-          before = ap (λ o. cond (same_entry at q) (option_map put o) o) (sym (found-put y ys q))
+          before : cond (same_entry at q) (option_map body_with_set (cond (same_entry q (shown_entry y)) (Some (shown_body y)) (body_at (shown_by f ys) q))) (cond (same_entry q (shown_entry y)) (Some (shown_body y)) (body_at (shown_by f ys) q)) ≡ cond (same_entry at q) (option_map body_with_set (body_at (shown_by f (y ∷ ys)) q)) (body_at (shown_by f (y ∷ ys)) q)
+          before = ap (λ o. cond (same_entry at q) (option_map body_with_set o) o) (sym (found-put y ys q))
 
-          by : (t : Bool) → is_named e y ≡ t → body_at (shown_by f (after_set ys e a)) q ≡ cond (same_entry at q) (option_map put (body_at (shown_by f ys) q)) (body_at (shown_by f ys) q) → body_at (shown_by f (cond t (y.0, object_set y.1 a) y ∷ after_set ys e a)) q ≡ cond (same_entry at q) (option_map put (body_at (shown_by f (y ∷ ys)) q)) (body_at (shown_by f (y ∷ ys)) q)
+          by : (t : Bool) → is_named e y ≡ t → body_at (shown_by f (after_set ys e a)) q ≡ cond (same_entry at q) (option_map body_with_set (body_at (shown_by f ys) q)) (body_at (shown_by f ys) q) → body_at (shown_by f (cond t (y.0, object_set y.1 a) y ∷ after_set ys e a)) q ≡ cond (same_entry at q) (option_map body_with_set (body_at (shown_by f (y ∷ ys)) q)) (body_at (shown_by f (y ∷ ys)) q)
           by true named behind =
               found-put (y.0, object_set y.1 a) (after_set ys e a) q
               ∙ ap (λ z. cond (same_entry q (entry_renamed f z)) (Some (body_renamed f (body_set y.1.body a))) (body_at (shown_by f (after_set ys e a)) q)) (entry-set y.0 y.1.body a)
               ∙ ap (λ z. cond (same_entry q (shown_entry y)) (Some z) (body_at (shown_by f (after_set ys e a)) q)) (body-set f y.1.body a)
-              ∙ ap (cond (same_entry q (shown_entry y)) (Some (put (shown_body y)))) behind
-              ∙ changed put (same_entry q (shown_entry y)) (same_entry at q) (shown_body y) (body_at (shown_by f ys) q) (λ h. same-trans at (shown_entry y) q (told.0 ∙ named) (same-symm (shown_entry y) q ∙ h))
+              ∙ ap (cond (same_entry q (shown_entry y)) (Some (body_with_set (shown_body y)))) behind
+              ∙ changed_over_choice body_with_set (same_entry q (shown_entry y)) (same_entry at q) (shown_body y) (body_at (shown_by f ys) q) (λ h. same-trans at (shown_entry y) q (told.0 ∙ named) (same-symm (shown_entry y) q ∙ h))
               ∙ before
           by false other behind =
               found-put y (after_set ys e a) q
               ∙ ap (cond (same_entry q (shown_entry y)) (Some (shown_body y))) behind
-              ∙ changed_apart put (same_entry q (shown_entry y)) (same_entry at q) (shown_body y) (body_at (shown_by f ys) q) (λ h g. false≢true (sym other ∙ sym told.0 ∙ same-trans at q (shown_entry y) g h))
+              ∙ changed_apart body_with_set (same_entry q (shown_entry y)) (same_entry at q) (shown_body y) (body_at (shown_by f ys) q) (λ h g. false≢true (sym other ∙ sym told.0 ∙ same-trans at q (shown_entry y) g h))
               ∙ before
 
-      chip_set : (objects : Objects) (o : Option (Body Rid)) (q : Entry Rid) → body_at objects at ≡ o → body_at (chip.after_set objects at (attr_renamed f a) o) q ≡ cond (same_entry at q) (option_map put (body_at objects q)) (body_at objects q)
+      chip_set : (objects : Objects) (o : Option (Body Rid)) (q : Entry Rid) → body_at objects at ≡ o → body_at (chip.after_set objects at (attr_renamed f a) o) q ≡ cond (same_entry at q) (option_map body_with_set (body_at objects q)) (body_at objects q)
       chip_set objects o q h = by (same_entry at q) refl o h
         where
-          by : (t : Bool) → same_entry at q ≡ t → (o : Option (Body Rid)) → body_at objects at ≡ o → body_at (chip.after_set objects at (attr_renamed f a) o) q ≡ cond t (option_map put (body_at objects q)) (body_at objects q)
-          by true is None none = let there = body_at-same objects at q is in sym there ∙ none ∙ sym (ap (option_map put) (sym there ∙ none))
-          by true is (Some b) found = body_at-insert objects at (put b) q ∙ ap (λ c. cond c (Some (put b)) (body_at objects q)) (same-symm q at ∙ is) ∙ ap (option_map put) (sym found ∙ body_at-same objects at q is)
+          by : (t : Bool) → same_entry at q ≡ t → (o : Option (Body Rid)) → body_at objects at ≡ o → body_at (chip.after_set objects at (attr_renamed f a) o) q ≡ cond t (option_map body_with_set (body_at objects q)) (body_at objects q)
+          by true is None none = let there = body_at-same objects at q is in sym there ∙ none ∙ sym (ap (option_map body_with_set) (sym there ∙ none))
+          by true is (Some b) found = body_at-insert objects at (body_with_set b) q ∙ ap (λ c. cond c (Some (body_with_set b)) (body_at objects q)) (same-symm q at ∙ is) ∙ ap (option_map body_with_set) (sym found ∙ body_at-same objects at q is)
           by false is None none = refl
-          by false is (Some b) found = body_at-insert objects at (put b) q ∙ ap (λ c. cond c (Some (put b)) (body_at objects q)) (same-symm q at ∙ is)
+          by false is (Some b) found = body_at-insert objects at (body_with_set b) q ∙ ap (λ c. cond c (Some (body_with_set b)) (body_at objects q)) (same-symm q at ∙ is)
 
       pub shown-set : (os : ViewObjects) → Tells e os → shown_by f (after_set os e a) ≡ chip.after_set (shown_by f os) at (attr_renamed f a) (body_at (shown_by f os) at)
       shown-set os told =

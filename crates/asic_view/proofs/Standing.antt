@@ -13,7 +13,7 @@ use Rattle.sai_types.specs.declared.thing.Thing.{Thing}
 use Rattle.sai_types.specs.declared.thing.Thing.TheVariants as thing
 use Rattle.sai_types.specs.After.{after_call, entry_of}
 use Rattle.sai_types.specs.Made.{IsWhole, made_after, same_entry}
-use Rattle.sai_types.specs.Names.{Name, name_of}
+use Rattle.sai_types.specs.Names.{ThingName, name_of}
 use Rattle.sai_types.specs.Objects.{entry_cmp}
 use Rattle.std.specs.BTreeMap.{insert_entry}
 use Rattle.sai_types.specs.Refusal.{IsLegal}
@@ -28,14 +28,14 @@ use Rattle.chip_layout.proofs.Setting.{set-laid, set-legal}
 use Rattle.chip_layout.proofs.Shapes.{IsWithin, laid-none, laid-same, renamed_with}
 use Rattle.asic_view.specs.Things.{IsFree, IsUnused, RefersWell, StandFor, by_number, listed, with_changed, with_thing, without}
 use Rattle.asic_view.specs.View.{IsLegalOn, IsLegalWith, IsNew, ViewObjects, after_create, after_remove, after_set, as_chip, as_rid, as_vid, entry_at, is_named}
-use Rattle.asic_view.proofs.Naming.{entry-number, making, tells, told}
+use Rattle.asic_view.proofs.Naming.{entries_told_alike, entry-number, making, tells}
 use Rattle.asic_view.proofs.Shown.{shown-left, shown-made, shown-set, shown_entry}
 
 -- ---- a call changes a view as it changes a chip
 
 apart_by : (e : Entry Vid) (os : ViewObjects) → AllByRecursion (λ y. is_named e y ≡ false) os → AllByRecursion (λ y. same_entry (entry_renamed as_rid e) (shown_entry as_rid y) ≡ false) os
 apart_by e [] h = tt
-apart_by e (y ∷ ys) h = (told e (entry_at y.0 y.1.body) ∙ h.0, apart_by e ys h.1)
+apart_by e (y ∷ ys) h = (entries_told_alike e (entry_at y.0 y.1.body) ∙ h.0, apart_by e ys h.1)
 
 pub made-chip : (os : ViewObjects) (v : Vid) (b : Body Vid) → IsNew v os → IsLegalOn os (call.Create b) → as_chip (after_create os v b) ≡ after_call v.0 (as_chip os) (call.Create (body_renamed as_rid b))
 made-chip os v b new legal =
@@ -61,7 +61,7 @@ by_rid layout v t i u (inr (is, same)) = inr (ap as_rid is, same)
 -- ---- bodies and changes by number
 
 module _ (layout : Layout Vid) where
-  at_number : (o : Option Name) (v : Vid) → IsAt (Has layout) o v → IsAt (Has (by_number layout)) o (as_rid v)
+  at_number : (o : Option ThingName) (v : Vid) → IsAt (Has layout) o v → IsAt (Has (by_number layout)) o (as_rid v)
   at_number None v h = tt
   at_number (Some k) v h = h
 
@@ -147,18 +147,18 @@ none-stand = record { made = 0; whole = whole-empty; laid = laid-none (by_number
 
 -- ---- the things as a list
 
-into : (things : List (Vid × Thing)) (v : Vid) (t : Thing) → IsWithin (with_thing (listed things) v t) (listed ((v, t) ∷ things))
-into things v t w u (inl h) = inr h
-into things v t w u (inr h) =
+made_in_listed : (things : List (Vid × Thing)) (v : Vid) (t : Thing) → IsWithin (with_thing (listed things) v t) (listed ((v, t) ∷ things))
+made_in_listed things v t w u (inl h) = inr h
+made_in_listed things v t w u (inr h) =
     let pair : Vid → Thing → Vid × Thing = λ x y. (x, y) in
     inl (ap₂ pair h.0 h.1)
 
-back : (things : List (Vid × Thing)) (v : Vid) (t : Thing) → IsWithin (listed ((v, t) ∷ things)) (with_thing (listed things) v t)
-back things v t w u (inl is) = inr (ap (λ (p : Vid × Thing). p.0) is, ap (λ (p : Vid × Thing). p.1) is)
-back things v t w u (inr h) = inl h
+listed_in_made : (things : List (Vid × Thing)) (v : Vid) (t : Thing) → IsWithin (listed ((v, t) ∷ things)) (with_thing (listed things) v t)
+listed_in_made things v t w u (inl is) = inr (ap (λ (p : Vid × Thing). p.0) is, ap (λ (p : Vid × Thing). p.1) is)
+listed_in_made things v t w u (inr h) = inl h
 
 stand-same : (layout other : Layout Vid) (os : ViewObjects) → IsWithin layout other → IsWithin other layout → StandFor layout os → StandFor other os
 stand-same layout other os f g stand = record { made = stand.made; whole = stand.whole; laid = laid-same (by_number layout) (by_number other) (as_chip os) (λ i t h. f (as_vid i) t h) (λ i t h. g (as_vid i) t h) stand.laid }
 
 pub made-stand : (things : List (Vid × Thing)) (os : ViewObjects) (v : Vid) (t : Thing) (b : Body Vid) → StandFor (listed things) os → IsBody (Has (listed things)) t b → IsFree (listed things) t → IsNew v os → IsLegalOn os (call.Create b) → StandFor (listed ((v, t) ∷ things)) (after_create os v b)
-made-stand things os v t b stand of free new legal = stand-same (with_thing (listed things) v t) (listed ((v, t) ∷ things)) (after_create os v b) (into things v t) (back things v t) (make-stand (listed things) os stand v t b of free new legal)
+made-stand things os v t b stand of free new legal = stand-same (with_thing (listed things) v t) (listed ((v, t) ∷ things)) (after_create os v b) (made_in_listed things v t) (listed_in_made things v t) (make-stand (listed things) os stand v t b of free new legal)

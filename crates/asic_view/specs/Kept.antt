@@ -33,7 +33,7 @@ unfiled keyed e = remove_entry (is_at (key_cmp e)) keyed
 abbrev pub AreFiled : Keyed → ViewObjects → Type 0
 AreFiled keyed objects = AllByRecursion (λ x. vid_by keyed (entry_at x.0 x.1.body) ≡ Some x.0) objects
 
-pub record IsKept (made : ℕ) (objects : ViewObjects) (keyed : Keyed) (counts : List ℕ) : Type 0 where
+pub record IsViewKept (made : ℕ) (objects : ViewObjects) (keyed : Keyed) (counts : List ℕ) : Type 0 where
   pub rising : IsStrictlySortedBy vid_cmp (keys_of objects)
   pub below : AllByRecursion (λ x. x.0.0 ≤ made) objects
   pub keys_rise : IsStrictlySortedBy key_cmp (keys_of keyed)

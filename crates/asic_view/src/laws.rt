@@ -33,19 +33,19 @@ pub fn nothing_stands()
 {}
 
 /// A thing that is free, whose references stand, and for which there is room can be made, and then it stands too.
-pub fn made_stands()
+pub fn view_things_are_made()
     ensures legal { (things : List (Vid × Thing)) (objects : ViewObjects) (t : Thing) (b : Body Vid) (capacities : List ℕ) → StandFor (listed things) objects → IsBody (Has (listed things)) t b → IsFree (listed things) t → RefersWell (listed things) t → HasRoom capacities (as_chip objects) t → IsLegalWith capacities objects (call.Create b) }
     ensures stands { (things : List (Vid × Thing)) (objects : ViewObjects) (v : Vid) (t : Thing) (b : Body Vid) → StandFor (listed things) objects → IsBody (Has (listed things)) t b → IsFree (listed things) t → IsNew v objects → IsLegalOn objects (call.Create b) → StandFor (listed ((v, t) ∷ things)) (after_create objects v b) }
 {}
 
 /// An attribute of a thing can be set where the new target of a route stands, and then the changed thing stands.
-pub fn set_changes()
+pub fn view_things_are_set()
     ensures legal { (things : List (Vid × Thing)) (objects : ViewObjects) (v : Vid) (t u : Thing) (b : Body Vid) (a : Attr Vid) (capacities : List ℕ) → StandFor (listed things) objects → listed things v t → IsBody (Has (listed things)) t b → IsChange (Has (listed things)) t a u → IsLegalWith capacities objects (call.Set (entry_at v b) a) }
     ensures stands { (things : List (Vid × Thing)) (objects : ViewObjects) (v : Vid) (t u : Thing) (b : Body Vid) (a : Attr Vid) → StandFor (listed things) objects → listed things v t → IsBody (Has (listed things)) t b → IsChange (Has (listed things)) t a u → StandFor (with_changed (listed things) v u) (after_set objects (entry_at v b) a) }
 {}
 
 /// A thing to which nothing refers can be removed, and then the others stand.
-pub fn removed_leaves()
+pub fn view_things_are_removed()
     ensures legal { (things : List (Vid × Thing)) (objects : ViewObjects) (v : Vid) (t : Thing) (b : Body Vid) (capacities : List ℕ) → StandFor (listed things) objects → listed things v t → IsBody (Has (listed things)) t b → IsUnused (listed things) (name_of t) → IsLegalWith capacities objects (call.Remove (entry_at v b)) }
     ensures stands { (things : List (Vid × Thing)) (objects : ViewObjects) (v : Vid) (t : Thing) (b : Body Vid) → StandFor (listed things) objects → listed things v t → IsBody (Has (listed things)) t b → IsUnused (listed things) (name_of t) → StandFor (without (listed things) (name_of t)) (after_remove objects (entry_at v b)) }
 {}

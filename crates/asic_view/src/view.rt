@@ -25,13 +25,13 @@ pub struct View {
 
 impl Model for View {
     ghost use Rattle.asic_view.specs.View.{ViewObjects};
-    ghost use Rattle.asic_view.specs.Kept.{IsKept};
+    ghost use Rattle.asic_view.specs.Kept.{IsViewKept};
 
     ghost Value = { ViewObjects };
 
     ghost view = { λ v. v.objects.entries };
 
-    ghost invariant = { λ v. IsKept v.made v.objects.entries v.keyed.entries v.counts };
+    ghost invariant = { λ v. IsViewKept v.made v.objects.entries v.keyed.entries v.counts };
 }
 
 impl View {

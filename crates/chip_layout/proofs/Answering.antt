@@ -7,6 +7,7 @@ use Rattle.swss_types.specs.Address.{IsProperPrefix}
 use Rattle.swss_types.specs.declared.address.Ip.{Ip}
 use Rattle.swss_types.specs.declared.address.Mac.{Mac}
 use Rattle.swss_types.specs.declared.address.Prefix.{Prefix}
+use Rattle.swss_types.proofs.Proper.{mapped}
 use Rattle.sai_types.specs.contracts.hop.HopEq.TheImpl.Laws as equal_hop
 use Rattle.sai_types.specs.declared.ids.Rid.{Rid}
 use Rattle.sai_types.specs.declared.hop.Hop.{Hop}
@@ -31,7 +32,7 @@ use Rattle.sai_types.specs.Names.{name_of}
 use Rattle.sai_types.specs.Objects.{Objects, body_at}
 use Rattle.sai_types.specs.Refusal.{same_id}
 use Rattle.sai_types.proofs.Decided.{IsAnswer, IsBest, answer_is, decide-alike}
-use Rattle.sai_types.proofs.Keys.{mapped, next_hop_found}
+use Rattle.sai_types.proofs.Keys.{next_hop_found}
 use Rattle.sai_types.proofs.Things.{both_mapped, one-each}
 use Rattle.chip_layout.specs.Answered.{AreSame, HasOneMac, HasPrefix, HavePrefixes, HopsAreReached}
 use Rattle.sai_types.proofs.Exact.{entry-exact}

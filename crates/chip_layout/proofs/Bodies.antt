@@ -14,7 +14,7 @@ use Rattle.sai_types.specs.declared.thing.Thing.TheVariants as thing
 use Rattle.sai_types.specs.Alike.{IsIn}
 use Rattle.sai_types.specs.Objects.{kind_of}
 use Rattle.sai_types.specs.After.{entry_of}
-use Rattle.sai_types.specs.Names.{Name, name_of, name_kind, Refers, base_name, goal_names, thing_references}
+use Rattle.sai_types.specs.Names.{ThingName, name_of, name_kind, Refers, base_name, goal_names, thing_references}
 use Rattle.chip_layout.specs.Bodies.{IsBody, IsAt, body_with, first_name, first_of, is_numbered, second_name, second_of}
 use Rattle.chip_layout.specs.Layout.{has_number}
 
@@ -24,48 +24,48 @@ kind-body_with (thing.Vlan v) i j = refl
 kind-body_with _ i j = refl
 
 -- the kind of a thing's body
-pub kind-body : {I : Type 0} (at : Name → I → Type 0) (t : Thing) (b : Body I) → IsBody at t b → kind_of b ≡ name_kind (name_of t)
+pub kind-body : {I : Type 0} (at : ThingName → I → Type 0) (t : Thing) (b : Body I) → IsBody at t b → kind_of b ≡ name_kind (name_of t)
 kind-body at t b x = ap kind_of x.body_is ∙ kind-body_with t x.first x.second
 
-entry_with : (n : ℕ) (t : Thing) (i j : Rid) → has_number t ≡ true → entry_of n (body_with t i j) ≡ entry.Oid (record { 0 = n })
-entry_with n (thing.Own ip) i j h = absurd (false≢true h)
-entry_with n (thing.Neighbor hop mac) i j h = absurd (false≢true h)
-entry_with n (thing.Route prefix goal) i j h = absurd (false≢true h)
-entry_with n _ i j h = refl
+oid_entry_with : (n : ℕ) (t : Thing) (i j : Rid) → has_number t ≡ true → entry_of n (body_with t i j) ≡ entry.Oid (record { 0 = n })
+oid_entry_with n (thing.Own ip) i j h = absurd (false≢true h)
+oid_entry_with n (thing.Neighbor hop mac) i j h = absurd (false≢true h)
+oid_entry_with n (thing.Route prefix goal) i j h = absurd (false≢true h)
+oid_entry_with n _ i j h = refl
 
 -- the entry of a thing's object that has an identifier
-pub entry-body : (at : Name → Rid → Type 0) (n : ℕ) (t : Thing) (b : Body Rid) → IsBody at t b → has_number t ≡ true → entry_of n b ≡ entry.Oid (record { 0 = n })
-entry-body at n t b x h = ap (entry_of n) x.body_is ∙ entry_with n t x.first x.second h
+pub entry-body : (at : ThingName → Rid → Type 0) (n : ℕ) (t : Thing) (b : Body Rid) → IsBody at t b → has_number t ≡ true → entry_of n b ≡ entry.Oid (record { 0 = n })
+entry-body at n t b x h = ap (entry_of n) x.body_is ∙ oid_entry_with n t x.first x.second h
 
-at_kept : {I : Type 0} (at later : Name → I → Type 0) (o : Option Name) (i : I) → ((k : Name) → o ≡ Some k → at k i → later k i) → IsAt at o i → IsAt later o i
+at_kept : {I : Type 0} (at later : ThingName → I → Type 0) (o : Option ThingName) (i : I) → ((k : ThingName) → o ≡ Some k → at k i → later k i) → IsAt at o i → IsAt later o i
 at_kept at later None i kept h = tt
 at_kept at later (Some k) i kept h = kept k refl h
 
 -- what an identifier of a thing's object names is a name that the thing refers to
-first_in : (ks : List Name) (k : Name) → first_of ks ≡ Some k → IsIn k ks
-first_in [] k h = absurd cc
-first_in (l ∷ ks) k h = inl (sym (same_Some l k h))
+first_name_in : (ks : List ThingName) (k : ThingName) → first_of ks ≡ Some k → IsIn k ks
+first_name_in [] k h = absurd cc
+first_name_in (l ∷ ks) k h = inl (sym (same_Some l k h))
 
-second_in : (ks : List Name) (k : Name) → second_of ks ≡ Some k → IsIn k ks
+second_in : (ks : List ThingName) (k : ThingName) → second_of ks ≡ Some k → IsIn k ks
 second_in [] k h = absurd cc
 second_in (l ∷ []) k h = absurd cc
 second_in (l ∷ m ∷ ks) k h = inr (inl (sym (cond_some (is_numbered (name_kind m)) m k h).1))
 
-pub first-refers : (t : Thing) (k : Name) → first_name t ≡ Some k → Refers t k
-first-refers t k h = first_in (thing_references t) k h
+pub first-refers : (t : Thing) (k : ThingName) → first_name t ≡ Some k → Refers t k
+first-refers t k h = first_name_in (thing_references t) k h
 
-pub second-refers : (t : Thing) (k : Name) → second_name t ≡ Some k → Refers t k
+pub second-refers : (t : Thing) (k : ThingName) → second_name t ≡ Some k → Refers t k
 second-refers t k h = second_in (thing_references t) k h
 
 -- a route has one reference at most
-pub at-route : {I : Type 0} (at : Name → I → Type 0) (goal : Goal) (i : I) → IsAt at (second_of (goal_names goal)) i
+pub at-route : {I : Type 0} (at : ThingName → I → Type 0) (goal : Goal) (i : I) → IsAt at (second_of (goal_names goal)) i
 at-route at goal.Drop i = tt
 at-route at (goal.Direct on) i = tt
 at-route at (goal.Via hop) i = tt
 at-route at (goal.Group hops) i = tt
 
 -- a body is still that of its thing where the names in it keep their identifiers
-pub body-kept : {I : Type 0} (at later : Name → I → Type 0) (t : Thing) (b : Body I) → ((k : Name) (i : I) → Refers t k → at k i → later k i) → IsBody at t b → IsBody later t b
+pub body-kept : {I : Type 0} (at later : ThingName → I → Type 0) (t : Thing) (b : Body I) → ((k : ThingName) (i : I) → Refers t k → at k i → later k i) → IsBody at t b → IsBody later t b
 body-kept at later t b kept x = record {
   first = x.first;
   second = x.second;
@@ -78,11 +78,11 @@ base_numbered : (on : Base) → is_numbered (name_kind (base_name on)) ≡ true
 base_numbered (base.Port lane) = refl
 base_numbered (base.Vlan vlan) = refl
 
-numbered_by : (k l : Name) → Some k ≡ Some l → is_numbered (name_kind k) ≡ true → is_numbered (name_kind l) ≡ true
+numbered_by : (k l : ThingName) → Some k ≡ Some l → is_numbered (name_kind k) ≡ true → is_numbered (name_kind l) ≡ true
 numbered_by k l is h = let same : l ≡ k = cc in ap (λ x. is_numbered (name_kind x)) same ∙ h
 
 -- what a thing's body refers to by identifiers has them
-pub first-numbered : (t : Thing) (k : Name) → first_name t ≡ Some k → is_numbered (name_kind k) ≡ true
+pub first-numbered : (t : Thing) (k : ThingName) → first_name t ≡ Some k → is_numbered (name_kind k) ≡ true
 first-numbered (thing.BridgePort lane) k h = numbered_by _ k h refl
 first-numbered (thing.VlanMember vlan lane tagging) k h = numbered_by _ k h refl
 first-numbered (thing.Rif on) k h = numbered_by _ k h (base_numbered on)
@@ -95,12 +95,12 @@ first-numbered (thing.Route prefix (goal.Via hop)) k h = numbered_by _ k h refl
 first-numbered (thing.Route prefix (goal.Group hops)) k h = numbered_by _ k h refl
 first-numbered _ k h = absurd cc
 
-second_numbered : (ks : List Name) (k : Name) → second_of ks ≡ Some k → is_numbered (name_kind k) ≡ true
+second_numbered : (ks : List ThingName) (k : ThingName) → second_of ks ≡ Some k → is_numbered (name_kind k) ≡ true
 second_numbered [] k h = absurd cc
 second_numbered (l ∷ []) k h = absurd cc
 second_numbered (l ∷ m ∷ ks) k h = let parts = cond_some (is_numbered (name_kind m)) m k h in ap (λ x. is_numbered (name_kind x)) (sym parts.1) ∙ parts.0
 
-pub second-numbered : (t : Thing) (k : Name) → second_name t ≡ Some k → is_numbered (name_kind k) ≡ true
+pub second-numbered : (t : Thing) (k : ThingName) → second_name t ≡ Some k → is_numbered (name_kind k) ≡ true
 second-numbered t k h = second_numbered (thing_references t) k h
 
 entry_same : (n m : ℕ) (t : Thing) (i j : Rid) → (has_number t ≡ true → n ≡ m) → entry_of n (body_with t i j) ≡ entry_of m (body_with t i j)
@@ -110,5 +110,5 @@ entry_same n m (thing.Route prefix goal) i j h = refl
 entry_same n m t i j h = ap (λ z. entry_of z (body_with t i j)) (h refl)
 
 -- the number has a part in the entry only where the object has an identifier
-pub entry-same : (at : Name → Rid → Type 0) (n m : ℕ) (t : Thing) (b : Body Rid) → IsBody at t b → (has_number t ≡ true → n ≡ m) → entry_of n b ≡ entry_of m b
+pub entry-same : (at : ThingName → Rid → Type 0) (n m : ℕ) (t : Thing) (b : Body Rid) → IsBody at t b → (has_number t ≡ true → n ≡ m) → entry_of n b ≡ entry_of m b
 entry-same at n m t b x h = ap (entry_of n) x.body_is ∙ entry_same n m t x.first x.second h ∙ ap (entry_of m) (sym x.body_is)

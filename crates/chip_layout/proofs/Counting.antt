@@ -12,7 +12,7 @@ use Rattle.sai_types.specs.Alike.{IsIn}
 use Rattle.sai_types.specs.Made.{AreSorted, IsWhole, same_entry}
 use Rattle.sai_types.specs.Objects.{Objects, body_at, is_of, kind_of, level, used}
 use Rattle.sai_types.proofs.Found.{same-symm, same-trans}
-use Rattle.sai_types.specs.Names.{Name, name_kind, name_of}
+use Rattle.sai_types.specs.Names.{ThingName, name_kind, name_of}
 use Rattle.chip_layout.specs.Bodies.{IsBody}
 use Rattle.chip_layout.specs.Counted.{AreAll, AreDistinct, IsOfKind}
 use Rattle.chip_layout.specs.Layout.{Has, IsLaidOut, Layout}
@@ -60,10 +60,10 @@ count_one false x c h e = absurd cc
 module _ (layout : Layout Rid) (objects : Objects) (laid : IsLaidOut layout objects) (kind : Kind) where
   -- the names of the objects of the kind among some
   record Names (os : Objects) : Type 0 where
-    pub names : List Name
+    pub names : List ThingName
     pub count : length names ≡ count_by (λ o. is_of kind o.1) os
     pub distinct : AreDistinct names
-    pub sound : (k : Name) → IsIn k names → (level (name_kind k) ≡ level kind) × (e : Entry Rid) × (d : Body Rid) × IsIn (e, d) os × (i : Rid) × (t : Thing) × layout i t × IsBody (Has layout) t d × (same_entry e (entry_of i.0 d) ≡ true) × (name_of t ≡ k)
+    pub sound : (k : ThingName) → IsIn k names → (level (name_kind k) ≡ level kind) × (e : Entry Rid) × (d : Body Rid) × IsIn (e, d) os × (i : Rid) × (t : Thing) × layout i t × IsBody (Has layout) t d × (same_entry e (entry_of i.0 d) ≡ true) × (name_of t ≡ k)
     pub all : (e : Entry Rid) (d : Body Rid) (i : Rid) (t : Thing) → IsIn (e, d) os → layout i t → IsBody (Has layout) t d → same_entry e (entry_of i.0 d) ≡ true → level (name_kind (name_of t)) ≡ level kind → IsIn (name_of t) names
 
   level_by : (t : Thing) (d : Body Rid) → IsBody (Has layout) t d → level (kind_of d) ≡ level (name_kind (name_of t))
@@ -85,7 +85,7 @@ module _ (layout : Layout Rid) (objects : Objects) (laid : IsLaidOut layout obje
     all = λ f c j u in_it there y same of'. all_by f c j u there y same of' in_it;
   }
     where
-      sound_by : (k : Name) → (k ≡ name_of t) ⊎ IsIn k rest.names → (level (name_kind k) ≡ level kind) × (f : Entry Rid) × (c : Body Rid) × IsIn (f, c) ((e, d) ∷ os) × (j : Rid) × (u : Thing) × layout j u × IsBody (Has layout) u c × (same_entry f (entry_of j.0 c) ≡ true) × (name_of u ≡ k)
+      sound_by : (k : ThingName) → (k ≡ name_of t) ⊎ IsIn k rest.names → (level (name_kind k) ≡ level kind) × (f : Entry Rid) × (c : Body Rid) × IsIn (f, c) ((e, d) ∷ os) × (j : Rid) × (u : Thing) × layout j u × IsBody (Has layout) u c × (same_entry f (entry_of j.0 c) ≡ true) × (name_of u ≡ k)
       sound_by k (inl is) = (ap (λ z. level (name_kind z)) is ∙ sym (level_by t d x) ∙ eqb-true (level (kind_of d)) (level kind) of, e, d, inl refl, i, t, h, x, at, sym is)
       sound_by k (inr more) = let r = rest.sound k more in (r.0, r.1, r.2, inr r.3, r.4, r.5, r.6, r.7, r.8, r.9)
 
@@ -115,7 +115,7 @@ module _ (layout : Layout Rid) (objects : Objects) (laid : IsLaidOut layout obje
       names_step (is_of kind o.1) o.0 o.1 os owner.0 owner.1 refl sorted owner.2 owner.3 owner.4 (names_among os (sorted-behind o os sorted) (λ e b h. found e b (inr h)))
 
   -- the things of a kind, each once, are as many as its objects
-  pub counted : (made : ℕ) → IsWhole made objects → (names : List Name) × AreAll layout kind names × (length names ≡ used objects kind)
+  pub counted : (made : ℕ) → IsWhole made objects → (names : List ThingName) × AreAll layout kind names × (length names ≡ used objects kind)
   counted made whole =
       let these = names_among objects whole.sorted (λ e b h. found-in objects e b whole.sorted h) in (
         these.names,
@@ -133,7 +133,7 @@ module _ (layout : Layout Rid) (objects : Objects) (laid : IsLaidOut layout obje
       )
 
   -- no more names of a kind stand than it has objects
-  pub at-most-used : (made : ℕ) → IsWhole made objects → (names : List Name) → AreDistinct names → ((k : Name) → IsIn k names → IsOfKind layout kind k) → length names ≤ used objects kind
+  pub at-most-used : (made : ℕ) → IsWhole made objects → (names : List ThingName) → AreDistinct names → ((k : ThingName) → IsIn k names → IsOfKind layout kind k) → length names ≤ used objects kind
   at-most-used made whole names distinct stand =
       let these = counted made whole in
       let short = no-longer names these.0 distinct (λ k h. these.1.all k (stand k h)) in
@@ -141,7 +141,7 @@ module _ (layout : Layout Rid) (objects : Objects) (laid : IsLaidOut layout obje
       omega (arith, short, count)
 
   -- where all the names of a kind are among some, it has no more objects
-  pub used-at-most : (made : ℕ) → IsWhole made objects → (names : List Name) → ((k : Name) → IsOfKind layout kind k → IsIn k names) → used objects kind ≤ length names
+  pub used-at-most : (made : ℕ) → IsWhole made objects → (names : List ThingName) → ((k : ThingName) → IsOfKind layout kind k → IsIn k names) → used objects kind ≤ length names
   used-at-most made whole names all =
       let these = counted made whole in
       let short = no-longer these.0 names these.1.distinct (λ k h. all k (these.1.sound k h)) in

@@ -1,7 +1,7 @@
 -- the entries of names, and what refers to them
-use Rattle.std.proofs.Common.{◌≡◌, ◌⊎◌, inl, inr, Bool, true, false, ◌||◌, List, [], ◌∷◌, Some, refl, sym, ap, ap₂, ◌∙◌, subst}
+use Rattle.std.proofs.Common.{◌≡◌, ◌⊎◌, inl, inr, Bool, true, false, List, [], ◌∷◌, Some, refl, sym, ap, ap₂, ◌∙◌, subst}
 use Rattle.std.specs.List.{list_all, list_any}
-use Rattle.std.proofs.lemmas.Bool.{eq-eqb, false≢true}
+use Rattle.std.proofs.lemmas.Bool.{eq-eqb, false≢true, or_cases}
 use Rattle.sai_types.specs.declared.ids.Rid.{Rid}
 use Rattle.sai_types.specs.declared.hop.Base.{Base}
 use Rattle.sai_types.specs.declared.hop.Base.TheVariants as base
@@ -16,7 +16,7 @@ use Rattle.sai_types.specs.After.{entry_of}
 use Rattle.sai_types.specs.Alike.{IsIn}
 use Rattle.sai_types.specs.Made.{same_entry}
 use Rattle.sai_types.specs.Names as name
-use Rattle.sai_types.specs.Names.{Name, Refers, goal_names, name_of, name_kind, thing_references}
+use Rattle.sai_types.specs.Names.{ThingName, Refers, goal_names, name_of, name_kind, thing_references}
 use Rattle.sai_types.specs.Objects.{Objects, body_at, kind_of, level}
 use Rattle.sai_types.specs.References.{Reference, is_meant, references, refers_to, refers_well, stands, target_references}
 use Rattle.sai_types.proofs.Found.{same-refl}
@@ -28,19 +28,19 @@ use Rattle.sai_types.proofs.Keys.{both_true}
 use Rattle.sai_types.proofs.Things.{neighbors, rifs}
 
 -- an entry that is a name's, where names have identifiers
-abbrev pub IsEntry : {I : Type 0} → (Name → I → Type 0) → Name → Entry I → Type 0
+abbrev pub IsEntry : {I : Type 0} → (ThingName → I → Type 0) → ThingName → Entry I → Type 0
 IsEntry at k (entry.Oid i) = (is_numbered (name_kind k) ≡ true) × at k i
 IsEntry at k (entry.Own ip) = k ≡ name.Own ip
 IsEntry at k (entry.Neigh r ip) = (on : Base) × (k ≡ name.Neighbor (record { on = on; ip = ip })) × at (name.Rif on) r
 IsEntry at k (entry.Route p) = k ≡ name.Route p
 
 -- the references are to these names, one after another
-abbrev pub AreTo : {I : Type 0} → (Name → I → Type 0) → List Name → List (Reference I) → Type 0
+abbrev pub AreTo : {I : Type 0} → (ThingName → I → Type 0) → List ThingName → List (Reference I) → Type 0
 AreTo at [] [] = Unit {0}
 AreTo at (k ∷ ks) (r ∷ rs) = ((r.0 ≡ name_kind k) × IsEntry at k r.1) × AreTo at ks rs
 AreTo at _ _ = ⊥
 
-module _ {I : Type 0} (at : Name → I → Type 0) where
+module _ {I : Type 0} (at : ThingName → I → Type 0) where
   pub goal-refers : (goal : Goal) (i : I) → IsAt at (goal_name goal) i → AreTo at (goal_names goal) (target_references (to_with goal i))
   goal-refers goal.Drop i x = tt
   goal-refers (goal.Direct on) i x = ((refl, (refl, x)), tt)
@@ -62,13 +62,13 @@ module _ {I : Type 0} (at : Name → I → Type 0) where
   pub body-refers : (t : Thing) (b : Body I) → IsBody at t b → AreTo at (thing_references t) (references b)
   body-refers t b x = subst (λ z. AreTo at (thing_references t) (references z)) (sym x.body_is) (refers_with t x.first x.second x.first_at x.second_at)
 
-entry_with : (at : Name → Rid → Type 0) (i : Rid) (t : Thing) (m n : Rid) → at (name_of t) i → IsAt at (first_name t) m → IsEntry at (name_of t) (entry_of i.0 (body_with t m n))
+entry_with : (at : ThingName → Rid → Type 0) (i : Rid) (t : Thing) (m n : Rid) → at (name_of t) i → IsAt at (first_name t) m → IsEntry at (name_of t) (entry_of i.0 (body_with t m n))
 entry_with at i (thing.Own ip) m n h x = refl
 entry_with at i (thing.Neighbor hop mac) m n h x = (hop.on, refl, x)
 entry_with at i (thing.Route prefix goal) m n h x = refl
 entry_with at i _ m n h x = (refl, h)
 
-no_key : (k l : Name) → is_numbered (name_kind k) ≡ true → k ≡ l → is_numbered (name_kind l) ≡ false → ⊥
+no_key : (k l : ThingName) → is_numbered (name_kind k) ≡ true → k ≡ l → is_numbered (name_kind l) ≡ false → ⊥
 no_key k l h is not = false≢true (sym not ∙ ap (λ n. is_numbered (name_kind n)) (sym is) ∙ h)
 
 meant : (r : Reference Rid) (d : Body Rid) → kind_of d ≡ r.0 → is_meant r (Some d) ≡ true
@@ -77,20 +77,16 @@ meant (k, entry.Own ip) d e = refl
 meant (k, entry.Neigh r ip) d e = refl
 meant (k, entry.Route p) d e = refl
 
-or_split : (a b : Bool) → (a || b) ≡ true → (a ≡ true) ⊎ (b ≡ true)
-or_split true b h = inl refl
-or_split false b h = inr h
-
 module _ (layout : Layout Rid) (objects : Objects) (laid : IsLaidOut layout objects) where
   -- a name has one identifier
-  pub one-id : (k : Name) (i j : Rid) → Has layout k i → Has layout k j → i ≡ j
+  pub one-id : (k : ThingName) (i j : Rid) → Has layout k i → Has layout k j → i ≡ j
   one-id k i j x y = (laid.one i j x.0 y.0 x.1 y.1 (x.2 ∙ sym y.2)).0
 
-  numbered : (k : Name) (t : Thing) → name_of t ≡ k → is_numbered (name_kind k) ≡ true → has_number t ≡ true
+  numbered : (k : ThingName) (t : Thing) → name_of t ≡ k → is_numbered (name_kind k) ≡ true → has_number t ≡ true
   numbered k t is h = ap (λ x. is_numbered (name_kind x)) is ∙ h
 
   -- and an identifier one name
-  pub one-name : (k l : Name) (i : Rid) → is_numbered (name_kind k) ≡ true → is_numbered (name_kind l) ≡ true → Has layout k i → Has layout l i → k ≡ l
+  pub one-name : (k l : ThingName) (i : Rid) → is_numbered (name_kind k) ≡ true → is_numbered (name_kind l) ≡ true → Has layout k i → Has layout l i → k ≡ l
   one-name k l i e f x y = sym x.2 ∙ ap name_of (laid.ids i x.0 y.0 x.1 y.1 (numbered k x.0 x.2 e) (numbered l y.0 y.2 f)) ∙ y.2
 
   -- the entry of a thing's object is its name's
@@ -98,7 +94,7 @@ module _ (layout : Layout Rid) (objects : Objects) (laid : IsLaidOut layout obje
   entry-named i t b h x = subst (λ z. IsEntry (Has layout) (name_of t) (entry_of i.0 z)) (sym x.body_is) (entry_with (Has layout) i t x.first x.second (t, h, refl) x.first_at)
 
   -- an entry is one name's
-  pub name-entered : (k l : Name) (e : Entry Rid) → IsEntry (Has layout) k e → IsEntry (Has layout) l e → k ≡ l
+  pub name-entered : (k l : ThingName) (e : Entry Rid) → IsEntry (Has layout) k e → IsEntry (Has layout) l e → k ≡ l
   name-entered k l (entry.Oid i) x y = one-name k l i x.0 y.0 x.1 y.1
   name-entered k l (entry.Own ip) x y = x ∙ sym y
   name-entered k l (entry.Neigh r ip) x y =
@@ -107,7 +103,7 @@ module _ (layout : Layout Rid) (objects : Objects) (laid : IsLaidOut layout obje
   name-entered k l (entry.Route p) x y = x ∙ sym y
 
   -- a name has one entry
-  pub entry-one : (k : Name) (e f : Entry Rid) → IsEntry (Has layout) k e → IsEntry (Has layout) k f → e ≡ f
+  pub entry-one : (k : ThingName) (e f : Entry Rid) → IsEntry (Has layout) k e → IsEntry (Has layout) k f → e ≡ f
   entry-one k (entry.Oid i) (entry.Oid j) x y = ap entry.Oid (one-id k i j x.1 y.1)
   entry-one k (entry.Own a) (entry.Own b) x y = let is = sym x ∙ y in cc
   entry-one k (entry.Neigh r a) (entry.Neigh s b) x y =
@@ -150,13 +146,13 @@ module _ (layout : Layout Rid) (objects : Objects) (laid : IsLaidOut layout obje
 
   -- ---- references
 
-  ref_stands : (k : Name) (r : Reference Rid) (i : Rid) → r.0 ≡ name_kind k → IsEntry (Has layout) k r.1 → Has layout k i → stands objects r ≡ true
+  ref_stands : (k : ThingName) (r : Reference Rid) (i : Rid) → r.0 ≡ name_kind k → IsEntry (Has layout) k r.1 → Has layout k i → stands objects r ≡ true
   ref_stands k r i is at x =
       let has = laid.stand i x.0 x.1 in
       let entries : entry_of i.0 has.0 ≡ r.1 = entry-one k _ r.1 (subst (λ z. IsEntry (Has layout) z (entry_of i.0 has.0)) x.2 (entry-named i x.0 has.0 x.1 has.1)) at in
       ap (is_meant r) (ap (body_at objects) (sym entries) ∙ has.2) ∙ meant r has.0 (kind-body (Has layout) x.0 has.0 has.1 ∙ ap name_kind x.2 ∙ sym is)
 
-  all_stand : (ks : List Name) (rs : List (Reference Rid)) → AreTo (Has layout) ks rs → ((k : Name) → IsIn k ks → (i : Rid) × Has layout k i) → list_all (stands objects) rs ≡ true
+  all_stand : (ks : List ThingName) (rs : List (Reference Rid)) → AreTo (Has layout) ks rs → ((k : ThingName) → IsIn k ks → (i : Rid) × Has layout k i) → list_all (stands objects) rs ≡ true
   all_stand [] [] to f = refl
   all_stand (k ∷ ks) (r ∷ rs) to f =
       let has = f k (inl refl) in
@@ -168,7 +164,7 @@ module _ (layout : Layout Rid) (objects : Objects) (laid : IsLaidOut layout obje
   pub refers-body : (t : Thing) (b : Body Rid) → IsBody (Has layout) t b → RefersWell layout t → refers_well objects b ≡ true
   refers-body t b x f = all_stand (thing_references t) (references b) (body-refers (Has layout) t b x) f
 
-  goal_at : (next : Goal) (i : Rid) → IsAt (Has layout) (goal_name next) i → (k : Name) → IsIn k (goal_names next) → (j : Rid) × Has layout k j
+  goal_at : (next : Goal) (i : Rid) → IsAt (Has layout) (goal_name next) i → (k : ThingName) → IsIn k (goal_names next) → (j : Rid) × Has layout k j
   goal_at (goal.Direct on) i x k (inl is) = (i, subst (λ z. Has layout z i) (sym is) x)
   goal_at (goal.Via hop) i x k (inl is) = (i, subst (λ z. Has layout z i) (sym is) x)
   goal_at (goal.Group hops) i x k (inl is) = (i, subst (λ z. Has layout z i) (sym is) x)
@@ -178,9 +174,9 @@ module _ (layout : Layout Rid) (objects : Objects) (laid : IsLaidOut layout obje
   pub goal-stands : (next : Goal) (i : Rid) → IsAt (Has layout) (goal_name next) i → list_all (stands objects) (target_references (to_with next i)) ≡ true
   goal-stands next i x = all_stand (goal_names next) (target_references (to_with next i)) (goal-refers (Has layout) next i x) (goal_at next i x)
 
-  any_named : (l : Name) (e : Entry Rid) (ks : List Name) (rs : List (Reference Rid)) → IsEntry (Has layout) l e → AreTo (Has layout) ks rs → list_any (λ r. same_entry r.1 e) rs ≡ true → IsIn l ks
+  any_named : (l : ThingName) (e : Entry Rid) (ks : List ThingName) (rs : List (Reference Rid)) → IsEntry (Has layout) l e → AreTo (Has layout) ks rs → list_any (λ r. same_entry r.1 e) rs ≡ true → IsIn l ks
   any_named l e [] [] at to h = false≢true h
-  any_named l e (k ∷ ks) (r ∷ rs) at to h = by (or_split (same_entry r.1 e) (list_any (λ q. same_entry q.1 e) rs) h) (any_named l e ks rs at to.1)
+  any_named l e (k ∷ ks) (r ∷ rs) at to h = by (or_cases (same_entry r.1 e) (list_any (λ q. same_entry q.1 e) rs) h) (any_named l e ks rs at to.1)
     where
       by : (same_entry r.1 e ≡ true) ⊎ (list_any (λ q. same_entry q.1 e) rs ≡ true) → (list_any (λ q. same_entry q.1 e) rs ≡ true → IsIn l ks) → IsIn l (k ∷ ks)
       by (inl same) behind = inl (name-entered l k e at (subst (IsEntry (Has layout) k) (entry-exact r.1 e same) to.0.1))

@@ -15,7 +15,7 @@ use Rattle.sai_types.specs.declared.thing.Thing.{Thing}
 use Rattle.sai_types.specs.declared.thing.Thing.TheVariants as thing
 use Rattle.sai_types.specs.After.{entry_of, with_attr}
 use Rattle.sai_types.specs.Names as name
-use Rattle.sai_types.specs.Names.{Meet, Name, name_kind, name_of}
+use Rattle.sai_types.specs.Names.{Meet, ThingName, name_kind, name_of}
 use Rattle.sai_types.specs.Objects.{Objects, body_at}
 use Rattle.sai_types.specs.References.{attr_refers_well, is_target}
 use Rattle.sai_types.specs.Refusal.{clash, has_attr, same_id, same_ip}
@@ -27,7 +27,7 @@ use Rattle.sai_types.proofs.Exact.{id-exact, ip-exact, prefix-exact}
 use Rattle.sai_types.proofs.Things.{rifs}
 
 module _ (layout : Layout Rid) (objects : Objects) (laid : IsLaidOut layout objects) where
-  same_name : (k l : Name) (i j : Rid) → is_numbered (name_kind k) ≡ true → is_numbered (name_kind l) ≡ true → Has layout k i → Has layout l j → same_id i j ≡ true → k ≡ l
+  same_name : (k l : ThingName) (i j : Rid) → is_numbered (name_kind k) ≡ true → is_numbered (name_kind l) ≡ true → Has layout k i → Has layout l j → same_id i j ≡ true → k ≡ l
   same_name k l i j e f x y same = one-name layout objects laid k l i e f x (subst (λ z. Has layout l z) (sym (id-exact i j same)) y)
 
   same_hop : (h g : Hop) (i j : Rid) → Has layout (name.Rif h.on) i → Has layout (name.Rif g.on) j → (same_id i j && same_ip h.ip g.ip) ≡ true → h ≡ g
@@ -69,7 +69,7 @@ module _ (layout : Layout Rid) (objects : Objects) (laid : IsLaidOut layout obje
 
   -- ---- a thing has one body
 
-  one : (k : Name) (i j : Rid) → Has layout k i → Has layout k j → i ≡ j
+  one : (k : ThingName) (i j : Rid) → Has layout k i → Has layout k j → i ≡ j
   one k i j x y = one-id layout objects laid k i j x y
 
   body_one : (t : Thing) (i j k l : Rid) → IsAt (Has layout) (first_name t) i → IsAt (Has layout) (second_name t) j → IsAt (Has layout) (first_name t) k → IsAt (Has layout) (second_name t) l → body_with t i j ≡ body_with t k l

@@ -34,10 +34,10 @@ use Rattle.chip_layout.specs.Counted.{AreDistinct}
 use Rattle.chip_layout.specs.Renamed.{AreRenamed, attr_renamed, body_renamed, call_renamed, entry_renamed, on_renamed, to_renamed}
 use Rattle.chip_layout.proofs.Counting.{count_one, count_skip, no-longer}
 
-oids : (r s : Rid) → entry.Oid r ≡ entry.Oid s → r ≡ s
+pub oids : (r s : Rid) → entry.Oid r ≡ entry.Oid s → r ≡ s
 oids r s h = cc
 
-neighs : (r s : Rid) (a b : Ip) → entry.Neigh r a ≡ entry.Neigh s b → (r ≡ s) × (a ≡ b)
+pub neighs : (r s : Rid) (a b : Ip) → entry.Neigh r a ≡ entry.Neigh s b → (r ≡ s) × (a ≡ b)
 neighs r s a b h = (cc, cc)
 
 -- ---- objects that pass a test

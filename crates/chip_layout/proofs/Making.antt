@@ -2,6 +2,7 @@
 use Rattle.std.proofs.Common.{◌≡◌, ◌⊎◌, inl, inr, ℕ, ◌+◌, Bool, true, false, List, cond, Option, None, Some, refl, sym, ap, ◌∙◌, subst}
 use Rattle.std.specs.Bool.{nat_le}
 use Rattle.std.specs.List.{list_any}
+use Rattle.std.proofs.lemmas.Bool.{false_from_ne_true}
 use Rattle.sai_types.specs.declared.ids.Rid.{Rid}
 use Rattle.sai_types.specs.declared.body.Body.{Body}
 use Rattle.sai_types.specs.declared.body.Call.TheVariants as call
@@ -13,17 +14,14 @@ use Rattle.sai_types.specs.Objects.{Objects, body_at, kind_of, used}
 use Rattle.sai_types.specs.Refusal.{IsLegal, capacity_of, clash, create_refusal, refers_well}
 use Rattle.sai_types.proofs.Found.{body_at-insert, body_at-same, found-created}
 use Rattle.sai_types.proofs.Legal.{fresh}
-use Rattle.sai_types.specs.Names.{Name, name_of}
+use Rattle.sai_types.specs.Names.{ThingName, name_of}
 use Rattle.chip_layout.specs.Bodies.{IsBody}
 use Rattle.chip_layout.specs.Layout.{Has, HasRoom, IsFree, IsLaidOut, Layout, RefersWell, has_number, next_id, with_thing}
 use Rattle.chip_layout.proofs.Bodies.{body-kept, entry-body, entry-same, kind-body}
 use Rattle.chip_layout.proofs.Entries.{refers-body}
 use Rattle.chip_layout.proofs.Laid.{clash-meet}
 use Rattle.sai_types.proofs.Listed.{any-none, found-in}
-
-pub not_true : (b : Bool) → (b ≡ true → ⊥) → b ≡ false
-not_true true never = absurd (never refl)
-not_true false never = refl
+use Rattle.sai_types.proofs.Whole.{kept_put}
 
 legal_from : (capacities : List ℕ) (objects : Objects) (b : Body Rid) → refers_well objects b ≡ true → list_any (λ o. clash b o.1) objects ≡ false → nat_le (capacity_of capacities (kind_of b)) (used objects (kind_of b)) ≡ false → create_refusal capacities objects b ≡ None
 legal_from capacities objects b well free room = rw (well, free, room) refl
@@ -32,15 +30,11 @@ put_or_old : (t : Bool) (x y : Body Rid) (rest : Option (Body Rid)) → cond t (
 put_or_old true x y rest h = inl (refl, cc)
 put_or_old false x y rest h = inr h
 
-kept_put : (t : Bool) (x y : Body Rid) (rest : Option (Body Rid)) → (t ≡ true → ⊥) → rest ≡ Some y → cond t (Some x) rest ≡ Some y
-kept_put true x y rest never h = absurd (never refl)
-kept_put false x y rest never h = h
-
 module _ (layout : Layout Rid) (made : ℕ) (objects : Objects) (whole : IsWhole made objects) (laid : IsLaidOut layout objects) (t : Thing) (b : Body Rid) (of : IsBody (Has layout) t b) (free : IsFree layout t) where
   no_clash : list_any (λ o. clash b o.1) objects ≡ false
   no_clash = any-none (clash b) objects (λ e d in_it.
       let owner = laid.tied e d (found-in objects e d whole.sorted in_it) in
-      not_true (clash b d) (λ h. free owner.0 owner.1 owner.2 (clash-meet layout objects laid t owner.1 b d of owner.3 h)))
+      false_from_ne_true (clash b d) (λ h. free owner.0 owner.1 owner.2 (clash-meet layout objects laid t owner.1 b d of owner.3 h)))
 
   pub make-legal : (capacities : List ℕ) → RefersWell layout t → HasRoom capacities objects t → IsLegal capacities objects (call.Create b)
   make-legal capacities near room =
@@ -57,7 +51,7 @@ module _ (layout : Layout Rid) (made : ℕ) (objects : Objects) (whole : IsWhole
     abbrev objects' : Objects
     objects' = after_call (made + 1) objects (call.Create b)
 
-    has_kept : (k : Name) (j : Rid) → Has layout k j → Has later k j
+    has_kept : (k : ThingName) (j : Rid) → Has layout k j → Has later k j
     has_kept k j x = (x.0, inl x.1, x.2)
 
     is_kept : (u : Thing) (d : Body Rid) → IsBody (Has layout) u d → IsBody (Has later) u d

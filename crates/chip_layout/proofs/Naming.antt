@@ -22,7 +22,7 @@ use Rattle.sai_types.specs.Named.{both, bridge_port_at, bridge_port_of, first_la
 use Rattle.sai_types.specs.Refusal.{same_id}
 use Rattle.sai_types.proofs.Found.{same-refl, same-symm, same-trans}
 use Rattle.sai_types.specs.Names as name
-use Rattle.sai_types.specs.Names.{Name, name_kind, name_of}
+use Rattle.sai_types.specs.Names.{ThingName, name_kind, name_of}
 use Rattle.sai_types.proofs.Things.{bridge_ports, group_members, groups, next_hops, ports, rifs, vlans}
 use Rattle.chip_layout.specs.Bodies.{first_name, second_name}
 use Rattle.chip_layout.specs.Bodies.{IsAt, IsBody, body_with}

@@ -5,7 +5,7 @@ use Rattle.sai_types.specs.declared.thing.Thing.{Thing}
 use Rattle.sai_types.specs.Alike.{IsIn}
 use Rattle.sai_types.specs.Objects.{Objects}
 use Rattle.chip_layout.specs.Layout.{IsFree, IsLaidOut, with_thing, without}
-use Rattle.sai_types.specs.Names.{Name, ShareLane, name_of}
+use Rattle.sai_types.specs.Names.{ThingName, ShareLane, name_of}
 use Rattle.chip_layout.specs.Owned.{AreOwned, Gains, Holdings, Loses, laid_by}
 use Rattle.chip_layout.proofs.Shapes.{laid-same}
 
@@ -15,7 +15,7 @@ pair x y = (x, y)
 some_owners : {O : Type 0} (p o : O) → Some p ≡ Some o → p ≡ o
 some_owners p o h = cc
 
-module _ {O : Type 0} (owner_of : Name → Option O) (holds : Holdings O) (owned : AreOwned owner_of holds) where
+module _ {O : Type 0} (owner_of : ThingName → Option O) (holds : Holdings O) (owned : AreOwned owner_of holds) where
   -- things of one name have one owner
   pub one-owner : (o p : O) (i j : Rid) (t u : Thing) → IsIn (i, t) (holds o) → IsIn (j, u) (holds p) → name_of t ≡ name_of u → o ≡ p
   one-owner o p i j t u h g same = some_owners o p (sym (owned o i t h) ∙ ap owner_of same ∙ owned p j u g)
@@ -42,7 +42,7 @@ module _ {O : Type 0} (holds later : Holdings O) (objects : Objects) where
       back : (j : Rid) (u : Thing) → laid_by later j u → with_thing (laid_by holds) i t j u
       back j u (p, h) = back_by p j u (gains.only p (j, u) h)
 
-  pub laid-lost : (k : Name) → Loses holds later k → IsLaidOut (without (laid_by holds) k) objects → IsLaidOut (laid_by later) objects
+  pub laid-lost : (k : ThingName) → Loses holds later k → IsLaidOut (without (laid_by holds) k) objects → IsLaidOut (laid_by later) objects
   laid-lost k loses laid =
       laid-same (without (laid_by holds) k) (laid_by later) objects
       (λ j u h. (h.0.0, loses.kept h.0.0 (j, u) h.0.1 h.1))

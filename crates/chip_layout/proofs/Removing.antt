@@ -1,7 +1,7 @@
 -- removing the object of a thing
 use Rattle.std.proofs.Common.{◌≡◌, ℕ, ◌+◌, Bool, true, false, List, cond, Option, None, Some, refl, sym, ap, ◌∙◌, subst}
 use Rattle.std.specs.List.{list_any}
-use Rattle.std.proofs.lemmas.Bool.{false≢true}
+use Rattle.std.proofs.lemmas.Bool.{false_from_ne_true, false≢true}
 use Rattle.sai_types.specs.declared.ids.Rid.{Rid}
 use Rattle.sai_types.specs.declared.body.Body.{Body}
 use Rattle.sai_types.specs.declared.body.Call.TheVariants as call
@@ -19,7 +19,6 @@ use Rattle.chip_layout.proofs.Bodies.{body-kept}
 use Rattle.chip_layout.proofs.Entries.{one-entry, refers-name}
 use Rattle.chip_layout.proofs.Laid.{body-one, found-body}
 use Rattle.sai_types.proofs.Listed.{any-none, found-in}
-use Rattle.chip_layout.proofs.Making.{not_true}
 
 legal_from : (objects : Objects) (e : Entry Rid) (b : Body Rid) → list_any (λ o. refers_to o.1 e) objects ≡ false → remove_refusal objects e (Some b) ≡ None
 legal_from objects e b unused = rw unused refl
@@ -47,7 +46,7 @@ module _ (layout : Layout Rid) (made : ℕ) (objects : Objects) (whole : IsWhole
       ap (remove_refusal objects at) (found-body layout objects laid i t b there of)
       ∙ legal_from objects at b (any-none (λ d. refers_to d at) objects (λ e d in_it.
       let owner = laid.tied e d (found-in objects e d whole.sorted in_it) in
-      not_true (refers_to d at) (λ h. unused owner.0 owner.1 owner.2 (refers-name layout objects laid i t owner.1 b d there of owner.3 h))))
+      false_from_ne_true (refers_to d at) (λ h. unused owner.0 owner.1 owner.2 (refers-name layout objects laid i t owner.1 b d there of owner.3 h))))
 
   is_kept : (j : Rid) (u : Thing) (d : Body Rid) → layout j u → IsBody (Has layout) u d → IsBody (Has later) u d
   is_kept j u d h x = body-kept (Has layout) (Has later) u d (λ k r refers has. (has.0, (has.1, λ same. unused j u h (subst (Refers u) (sym has.2 ∙ same) refers)), has.2)) x
@@ -60,7 +59,7 @@ module _ (layout : Layout Rid) (made : ℕ) (objects : Objects) (whole : IsWhole
       let old = laid.stand j u h.0 in (
         old.0,
         is_kept j u old.0 h.0 old.1,
-        stays (entry_of j.0 old.0) (not_true (same_entry at (entry_of j.0 old.0)) (λ same. h.1 (sym (one-entry layout objects laid i j t u b old.0 there h.0 of old.1 same)))) ∙ old.2,
+        stays (entry_of j.0 old.0) (false_from_ne_true (same_entry at (entry_of j.0 old.0)) (λ same. h.1 (sym (one-entry layout objects laid i j t u b old.0 there h.0 of old.1 same)))) ∙ old.2,
       )
 
   tied_by : (e : Entry Rid) (d : Body Rid) → (same_entry at e ≡ false) × (body_at objects e ≡ Some d) → (j : Rid) × (u : Thing) × later j u × IsBody (Has later) u d × (same_entry e (entry_of j.0 d) ≡ true)

@@ -5,7 +5,7 @@ use Rattle.sai_types.specs.declared.body.Body.{Body}
 use Rattle.sai_types.specs.declared.body.Body.TheVariants as body
 use Rattle.sai_types.specs.declared.body.Entry.{Entry}
 use Rattle.sai_types.specs.declared.thing.Thing.{Thing}
-use Rattle.sai_types.specs.After.{entry_of}
+use Rattle.sai_types.specs.After.{entry_of, has_id}
 use Rattle.sai_types.specs.Alike.{IsIn}
 use Rattle.sai_types.specs.Made.{same_entry}
 use Rattle.sai_types.specs.Names.{name_of}
@@ -72,3 +72,10 @@ module _ (f : Rid → Rid) (things : List (Rid × Thing)) (objects others : Obje
 
   pub renamed-laid : IsLaidOut (listed (things_renamed f things)) others
   renamed-laid = record { stand = stand; tied = tied; one = one; ids = ids }
+
+pub has_renamed : {I J : Type 0} (f : I → J) (b : Body I) → has_id (body_renamed f b) ≡ has_id b
+has_renamed f (body.OwnAddress ip) = refl
+has_renamed f (body.Neighbor i ip mac) = refl
+has_renamed f (body.Route p t) = refl
+has_renamed f (body.Port l s m u) = refl
+has_renamed f _ = refl

@@ -3,6 +3,7 @@ use Rattle.std.proofs.Common.{◌≡◌, inr, ℕ, Bool, true, false, ◌&&◌, 
 use Rattle.std.proofs.lemmas.Bool.{and_parts, eq-eqb, false≢true}
 use Rattle.std.proofs.lemmas.Option.{same_Some}
 use Rattle.swss_types.specs.declared.address.Ip.{Ip}
+use Rattle.swss_types.proofs.Truths.{true_not_false}
 use Rattle.sai_types.specs.declared.ids.Rid.{Rid}
 use Rattle.sai_types.specs.declared.kind.Kind.TheVariants as kind
 use Rattle.sai_types.specs.declared.hop.Base.{Base}
@@ -31,19 +32,14 @@ use Rattle.chip_layout.specs.Bodies.{IsAt, IsBody, body_with, first_name, second
 use Rattle.chip_layout.specs.Layout.{Has, IsLaidOut, Layout, has_number}
 use Rattle.chip_layout.specs.Seen.{no_id, seen, tagged}
 use Rattle.chip_layout.proofs.Bodies.{entry-body, entry-same}
+use Rattle.chip_layout.proofs.Legality.{oids}
 use Rattle.sai_types.proofs.Exact.{entry-exact}
 
-first : (a b : Bool) → (a && b) ≡ true → a ≡ true
-first a b h = (and_parts a b h).0
+first_of_both : (a b : Bool) → (a && b) ≡ true → a ≡ true
+first_of_both a b h = (and_parts a b h).0
 
 second : (a b c : Bool) → (a && (b && c)) ≡ true → b ≡ true
-second a b c h = first b c (and_parts a (b && c) h).1
-
-never : {X : Type 0} (b : Bool) → b ≡ true → b ≡ false → X
-never b h g = absurd (false≢true (sym g ∙ h))
-
-oids : (r s : Rid) → entry.Oid r ≡ entry.Oid s → r ≡ s
-oids r s h = cc
+second a b c h = first_of_both b c (and_parts a (b && c) h).1
 
 module _ (tag : Rid → List Hop) (made : ℕ) (objects : Objects) (whole : IsWhole made objects) where
   abbrev L : Layout Rid
@@ -51,7 +47,7 @@ module _ (tag : Rid → List Hop) (made : ℕ) (objects : Objects) (whole : IsWh
 
   -- an object under an identifier is seen
   see : (r : Rid) (b : Body Rid) (t : Thing) → body_at objects (entry.Oid r) ≡ Some b → same_entry (entry.Oid r) (entry_of r.0 b) ≡ true → thing_by (tagged tag) objects (entry.Oid r, b) ≡ Some t → has_number t ≡ true → L r t
-  see r b t found at is numbered = record { entry = entry.Oid r; body = b; found = found; at = at; thing = is; none = never (has_number t) numbered }
+  see r b t found at is numbered = record { entry = entry.Oid r; body = b; found = found; at = at; thing = is; none = true_not_false (has_number t) numbered }
 
   -- what stands under an identifier has a name, by which it is seen
   port_by : (r : Rid) (o : Option (Body Rid)) → body_at objects (entry.Oid r) ≡ o → is_kind_of kind.Port o ≡ true → (n : ℕ) × (port_of o ≡ Some n) × Has L (name.Port n) r
@@ -73,7 +69,7 @@ module _ (tag : Rid → List Hop) (made : ℕ) (objects : Objects) (whole : IsWh
 
   bridge_port_by : (r : Rid) (o : Option (Body Rid)) → body_at objects (entry.Oid r) ≡ o → is_kind_of kind.BridgePort o ≡ true → (n : ℕ) × (bridge_port_of objects o ≡ Some n) × Has L (name.BridgePort n) r
   bridge_port_by r (Some (body.BridgePort p)) e h =
-      let n = port p (first _ _ (whole.refer.each (entry.Oid r) (body.BridgePort p) e)) in
+      let n = port p (first_of_both _ _ (whole.refer.each (entry.Oid r) (body.BridgePort p) e)) in
       (n.0, n.1, (thing.BridgePort n.0, see r _ _ e (same-refl (entry.Oid r)) (ap (option_map thing.BridgePort) n.1) refl, refl))
   bridge_port_by r (Some (body.Port lanes speed mtu up)) e h = absurd (false≢true h)
   bridge_port_by r (Some _) e h = absurd (false≢true h)
@@ -84,11 +80,11 @@ module _ (tag : Rid → List Hop) (made : ℕ) (objects : Objects) (whole : IsWh
 
   rif_by : (r : Rid) (o : Option (Body Rid)) → body_at objects (entry.Oid r) ≡ o → is_kind_of kind.Rif o ≡ true → (b : Base) × (rif_of objects o ≡ Some b) × Has L (name.Rif b) r
   rif_by r (Some (body.Rif (on.Port p))) e h =
-      let n = port p (first _ _ (whole.refer.each (entry.Oid r) (body.Rif (on.Port p)) e)) in
+      let n = port p (first_of_both _ _ (whole.refer.each (entry.Oid r) (body.Rif (on.Port p)) e)) in
       let is = ap (option_map base.Port) n.1 in
       (base.Port n.0, is, (thing.Rif (base.Port n.0), see r _ _ e (same-refl (entry.Oid r)) (ap (option_map thing.Rif) is) refl, refl))
   rif_by r (Some (body.Rif (on.Vlan v))) e h =
-      let n = vlan v (first _ _ (whole.refer.each (entry.Oid r) (body.Rif (on.Vlan v)) e)) in
+      let n = vlan v (first_of_both _ _ (whole.refer.each (entry.Oid r) (body.Rif (on.Vlan v)) e)) in
       let is = ap (option_map base.Vlan) n.1 in
       (base.Vlan n.0, is, (thing.Rif (base.Vlan n.0), see r _ _ e (same-refl (entry.Oid r)) (ap (option_map thing.Rif) is) refl, refl))
   rif_by r (Some (body.Port lanes speed mtu up)) e h = absurd (false≢true h)
@@ -103,7 +99,7 @@ module _ (tag : Rid → List Hop) (made : ℕ) (objects : Objects) (whole : IsWh
 
   next_hop_by : (r : Rid) (o : Option (Body Rid)) → body_at objects (entry.Oid r) ≡ o → is_kind_of kind.NextHop o ≡ true → (hop : Hop) × (next_hop_of objects o ≡ Some hop) × Has L (name.NextHop hop) r
   next_hop_by r (Some (body.NextHop on ip)) e h =
-      let b = rif on (first _ _ (whole.refer.each (entry.Oid r) (body.NextHop on ip) e)) in
+      let b = rif on (first_of_both _ _ (whole.refer.each (entry.Oid r) (body.NextHop on ip) e)) in
       let is = ap (option_map (λ x. hop_of x ip)) b.1 in
       (hop_of b.0 ip, is, (thing.NextHop (hop_of b.0 ip), see r _ _ e (same-refl (entry.Oid r)) (ap (option_map thing.NextHop) is) refl, refl))
   next_hop_by r (Some (body.Port lanes speed mtu up)) e h = absurd (false≢true h)
@@ -132,25 +128,25 @@ module _ (tag : Rid → List Hop) (made : ℕ) (objects : Objects) (whole : IsWh
   pub shown : (e : Entry Rid) (b : Body Rid) → body_at objects e ≡ Some b → refers_well objects b ≡ true → IsShown e b
   shown e (body.Port lanes speed mtu up) f w = show e _ (thing.Port (record { lanes = lanes; speed = speed; mtu = mtu; up = up })) no_id no_id refl tt tt refl
   shown e (body.Vlan v) f w = show e _ (thing.Vlan v) no_id no_id refl tt tt refl
-  shown e (body.BridgePort p) f w = let n = port p (first _ _ w) in show e _ (thing.BridgePort n.0) p no_id (ap (option_map thing.BridgePort) n.1) n.2 tt refl
+  shown e (body.BridgePort p) f w = let n = port p (first_of_both _ _ w) in show e _ (thing.BridgePort n.0) p no_id (ap (option_map thing.BridgePort) n.1) n.2 tt refl
   shown e (body.VlanMember v p tagging) f w =
-      let m = vlan v (first _ _ w) in
+      let m = vlan v (first_of_both _ _ w) in
       let n = bridge_port p (second _ _ _ w) in
       show e _ (thing.VlanMember m.0 n.0 tagging) v p (ap₂ (both (λ x y. thing.VlanMember x y tagging)) m.1 n.1) m.2 n.2 refl
-  shown e (body.Rif (on.Port p)) f w = let n = port p (first _ _ w) in show e _ (thing.Rif (base.Port n.0)) p no_id (ap (λ o. option_map thing.Rif (option_map base.Port o)) n.1) n.2 tt refl
-  shown e (body.Rif (on.Vlan v)) f w = let n = vlan v (first _ _ w) in show e _ (thing.Rif (base.Vlan n.0)) v no_id (ap (λ o. option_map thing.Rif (option_map base.Vlan o)) n.1) n.2 tt refl
+  shown e (body.Rif (on.Port p)) f w = let n = port p (first_of_both _ _ w) in show e _ (thing.Rif (base.Port n.0)) p no_id (ap (λ o. option_map thing.Rif (option_map base.Port o)) n.1) n.2 tt refl
+  shown e (body.Rif (on.Vlan v)) f w = let n = vlan v (first_of_both _ _ w) in show e _ (thing.Rif (base.Vlan n.0)) v no_id (ap (λ o. option_map thing.Rif (option_map base.Vlan o)) n.1) n.2 tt refl
   shown e (body.OwnAddress ip) f w = show e _ (thing.Own ip) no_id no_id refl tt tt refl
-  shown e (body.Neighbor r ip mac) f w = let b = rif r (first _ _ w) in show e _ (thing.Neighbor (hop_of b.0 ip) mac) r no_id (ap (λ o. option_map (λ z. thing.Neighbor z mac) (option_map (λ x. hop_of x ip) o)) b.1) b.2 tt refl
-  shown e (body.NextHop r ip) f w = let b = rif r (first _ _ w) in show e _ (thing.NextHop (hop_of b.0 ip)) r no_id (ap (λ o. option_map thing.NextHop (option_map (λ x. hop_of x ip) o)) b.1) b.2 tt refl
+  shown e (body.Neighbor r ip mac) f w = let b = rif r (first_of_both _ _ w) in show e _ (thing.Neighbor (hop_of b.0 ip) mac) r no_id (ap (λ o. option_map (λ z. thing.Neighbor z mac) (option_map (λ x. hop_of x ip) o)) b.1) b.2 tt refl
+  shown e (body.NextHop r ip) f w = let b = rif r (first_of_both _ _ w) in show e _ (thing.NextHop (hop_of b.0 ip)) r no_id (ap (λ o. option_map thing.NextHop (option_map (λ x. hop_of x ip) o)) b.1) b.2 tt refl
   shown e body.Group f w =
       let at = whole.entered.each e body.Group f in
       let g : Rid = record { 0 = at.0 } in
       show e body.Group (thing.Group (tag g)) no_id no_id (ap (λ z. thing_by (tagged tag) objects (z, body.Group)) (entry-exact e (entry.Oid g) at.2)) tt tt refl
-  shown e (body.GroupMember g n) f w = let hop = next_hop n (second _ _ _ w) in show e _ (thing.GroupMember (tag g) hop.0) g n (ap (both thing.GroupMember (tagged tag g)) hop.1) (group g (first _ _ w)) hop.2 refl
+  shown e (body.GroupMember g n) f w = let hop = next_hop n (second _ _ _ w) in show e _ (thing.GroupMember (tag g) hop.0) g n (ap (both thing.GroupMember (tagged tag g)) hop.1) (group g (first_of_both _ _ w)) hop.2 refl
   shown e (body.Route prefix to.Drop) f w = show e _ (thing.Route prefix goal.Drop) no_id no_id refl tt tt refl
-  shown e (body.Route prefix (to.Rif r)) f w = let b = rif r (first _ _ w) in show e _ (thing.Route prefix (goal.Direct b.0)) r no_id (ap (λ o. option_map (thing.Route prefix) (option_map goal.Direct o)) b.1) b.2 tt refl
-  shown e (body.Route prefix (to.NextHop r)) f w = let hop = next_hop r (first _ _ w) in show e _ (thing.Route prefix (goal.Via hop.0)) r no_id (ap (λ o. option_map (thing.Route prefix) (option_map goal.Via o)) hop.1) hop.2 tt refl
-  shown e (body.Route prefix (to.Group g)) f w = show e _ (thing.Route prefix (goal.Group (tag g))) g no_id refl (group g (first _ _ w)) tt refl
+  shown e (body.Route prefix (to.Rif r)) f w = let b = rif r (first_of_both _ _ w) in show e _ (thing.Route prefix (goal.Direct b.0)) r no_id (ap (λ o. option_map (thing.Route prefix) (option_map goal.Direct o)) b.1) b.2 tt refl
+  shown e (body.Route prefix (to.NextHop r)) f w = let hop = next_hop r (first_of_both _ _ w) in show e _ (thing.Route prefix (goal.Via hop.0)) r no_id (ap (λ o. option_map (thing.Route prefix) (option_map goal.Via o)) hop.1) hop.2 tt refl
+  shown e (body.Route prefix (to.Group g)) f w = show e _ (thing.Route prefix (goal.Group (tag g))) g no_id refl (group g (first_of_both _ _ w)) tt refl
 
   -- the body of what is seen is its thing's
   pub body-seen : (e : Entry Rid) (b : Body Rid) (t : Thing) → body_at objects e ≡ Some b → thing_by (tagged tag) objects (e, b) ≡ Some t → IsBody (Has L) t b
@@ -162,9 +158,9 @@ module _ (tag : Rid → List Hop) (made : ℕ) (objects : Objects) (whole : IsWh
   stand i t s = (s.body, body-seen s.entry s.body t s.found s.thing, sym (body_at-same objects s.entry (entry_of i.0 s.body) s.at) ∙ s.found)
 
   tied_by : (x : Bool) (e : Entry Rid) (b : Body Rid) (n : ℕ) (t : Thing) → body_at objects e ≡ Some b → same_entry e (entry_of n b) ≡ true → thing_by (tagged tag) objects (e, b) ≡ Some t → has_number t ≡ x → IsBody (Has L) t b → (i : Rid) × (u : Thing) × L i u × IsBody (Has L) u b × (same_entry e (entry_of i.0 b) ≡ true)
-  tied_by true e b n t found at is numbered of = (record { 0 = n }, t, record { entry = e; body = b; found = found; at = at; thing = is; none = never (has_number t) numbered }, of, at)
+  tied_by true e b n t found at is numbered of = (record { 0 = n }, t, record { entry = e; body = b; found = found; at = at; thing = is; none = true_not_false (has_number t) numbered }, of, at)
   tied_by false e b n t found at is numbered of =
-      let at' : same_entry e (entry_of 0 b) ≡ true = ap (same_entry e) (entry-same (Has L) 0 n t b of (λ h. never (has_number t) h numbered)) ∙ at in
+      let at' : same_entry e (entry_of 0 b) ≡ true = ap (same_entry e) (entry-same (Has L) 0 n t b of (λ h. true_not_false (has_number t) h numbered)) ∙ at in
       (no_id, t, record { entry = e; body = b; found = found; at = at'; thing = is; none = λ h. refl }, of, at')
 
   tied : (e : Entry Rid) (b : Body Rid) → body_at objects e ≡ Some b → (i : Rid) × (t : Thing) × L i t × IsBody (Has L) t b × (same_entry e (entry_of i.0 b) ≡ true)

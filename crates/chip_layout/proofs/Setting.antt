@@ -1,6 +1,6 @@
 -- setting an attribute of the object of a thing
 use Rattle.std.proofs.Common.{◌≡◌, ◌⊎◌, inl, inr, ℕ, ◌+◌, Bool, true, false, List, cond, Option, None, Some, refl, sym, ap, ◌∙◌, subst}
-use Rattle.std.proofs.lemmas.Bool.{false≢true}
+use Rattle.std.proofs.lemmas.Bool.{false_from_ne_true, false≢true}
 use Rattle.sai_types.specs.declared.ids.Rid.{Rid}
 use Rattle.sai_types.specs.declared.body.Attr.{Attr}
 use Rattle.sai_types.specs.declared.body.Body.{Body}
@@ -12,15 +12,14 @@ use Rattle.sai_types.specs.Made.{same_entry}
 use Rattle.sai_types.specs.Objects.{Objects, body_at}
 use Rattle.sai_types.specs.Refusal.{IsLegal, attr_refers_well, has_attr, set_refusal}
 use Rattle.sai_types.proofs.Apart.{entry_of-with_attr}
-use Rattle.sai_types.proofs.Found.{body_at-insert, same-refl}
-use Rattle.sai_types.specs.Names.{Name, name_kind, name_of}
+use Rattle.sai_types.proofs.Found.{body_at-insert, same-refl, found_other, found_same}
+use Rattle.sai_types.specs.Names.{ThingName, name_kind, name_of}
 use Rattle.chip_layout.specs.Bodies.{is_numbered}
 use Rattle.chip_layout.specs.Bodies.{IsBody, IsChange}
 use Rattle.chip_layout.specs.Layout.{Has, IsLaidOut, Layout, has_number, with_changed}
 use Rattle.chip_layout.proofs.Bodies.{body-kept}
 use Rattle.chip_layout.proofs.Entries.{named, one-entry, same-entry}
 use Rattle.chip_layout.proofs.Laid.{IsChanged, changed, found-body}
-use Rattle.chip_layout.proofs.Making.{not_true}
 
 legal_from : (objects : Objects) (b : Body Rid) (a : Attr Rid) → has_attr b a ≡ true → attr_refers_well objects a ≡ true → set_refusal objects (Some b) a ≡ None
 legal_from objects b a has well = rw (has, well) refl
@@ -28,14 +27,6 @@ legal_from objects b a has well = rw (has, well) refl
 put_or_left : (t : Bool) (x y : Body Rid) (rest : Option (Body Rid)) → cond t (Some x) rest ≡ Some y → ((t ≡ true) × (y ≡ x)) ⊎ ((t ≡ false) × (rest ≡ Some y))
 put_or_left true x y rest h = inl (refl, cc)
 put_or_left false x y rest h = inr (refl, h)
-
-found_same : (t : Bool) (x rest : Option (Body Rid)) → t ≡ true → cond t x rest ≡ x
-found_same true x rest h = refl
-found_same false x rest h = absurd cc
-
-found_other : (t : Bool) (x rest : Option (Body Rid)) → t ≡ false → cond t x rest ≡ rest
-found_other true x rest h = absurd cc
-found_other false x rest h = refl
 
 module _ (layout : Layout Rid) (made : ℕ) (objects : Objects) (laid : IsLaidOut layout objects) (i : Rid) (t u : Thing) (b : Body Rid) (a : Attr Rid) (there : layout i t) (of : IsBody (Has layout) t b) (change : IsChange (Has layout) t a u) where
   abbrev at : Entry Rid
@@ -59,11 +50,11 @@ module _ (layout : Layout Rid) (made : ℕ) (objects : Objects) (laid : IsLaidOu
   after_is : (e : Entry Rid) → body_at objects' e ≡ cond (same_entry e at) (Some (with_attr b a)) (body_at objects e)
   after_is e = ap (λ o. body_at (after_set objects at a o) e) found ∙ body_at-insert objects at (with_attr b a) e
 
-  has_by : (k : Name) (j : Rid) (x : Has layout k j) → (name_of x.0 ≡ name_of t) ⊎ (name_of x.0 ≡ name_of t → ⊥) → Has later k j
+  has_by : (k : ThingName) (j : Rid) (x : Has layout k j) → (name_of x.0 ≡ name_of t) ⊎ (name_of x.0 ≡ name_of t → ⊥) → Has later k j
   has_by k j x (inl same) = (u, inr ((laid.one j i x.0 t x.1 there same).0, refl), is.same ∙ sym same ∙ x.2)
   has_by k j x (inr apart) = (x.0, inl (x.1, λ same. apart (same ∙ is.same)), x.2)
 
-  has_kept : (k : Name) (j : Rid) → Has layout k j → Has later k j
+  has_kept : (k : ThingName) (j : Rid) → Has layout k j → Has later k j
   has_kept k j x = has_by k j x (named layout objects laid j i x.0 t x.1 there)
 
   is_kept : (v : Thing) (d : Body Rid) → IsBody (Has layout) v d → IsBody (Has later) v d
@@ -72,7 +63,7 @@ module _ (layout : Layout Rid) (made : ℕ) (objects : Objects) (laid : IsLaidOu
   stand_by : (j : Rid) (v : Thing) → later j v → (d : Body Rid) × IsBody (Has later) v d × (body_at objects' (entry_of j.0 d) ≡ Some d)
   stand_by j v (inl h) =
       let old = laid.stand j v h.0 in
-      let apart = not_true (same_entry (entry_of j.0 old.0) at) (λ same. h.1 (one-entry layout objects laid j i v t old.0 b h.0 there old.1 of same ∙ sym is.same)) in
+      let apart = false_from_ne_true (same_entry (entry_of j.0 old.0) at) (λ same. h.1 (one-entry layout objects laid j i v t old.0 b h.0 there old.1 of same ∙ sym is.same)) in
       (old.0, is_kept v old.0 old.1, after_is (entry_of j.0 old.0) ∙ found_other (same_entry (entry_of j.0 old.0) at) (Some (with_attr b a)) (body_at objects (entry_of j.0 old.0)) apart ∙ old.2)
   stand_by j v (inr (same, thing)) = (
     with_attr b a,

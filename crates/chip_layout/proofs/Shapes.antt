@@ -7,7 +7,7 @@ use Rattle.sai_types.specs.declared.thing.Goal.TheVariants as goal
 use Rattle.sai_types.specs.declared.thing.Thing.{Thing}
 use Rattle.sai_types.specs.declared.thing.Thing.TheVariants as thing
 use Rattle.sai_types.specs.Objects.{Objects}
-use Rattle.sai_types.specs.Names.{Name, Refers}
+use Rattle.sai_types.specs.Names.{ThingName, Refers}
 use Rattle.chip_layout.specs.Bodies.{first_name, second_name}
 use Rattle.chip_layout.specs.Bodies.{IsAt, IsBody, body_with}
 use Rattle.chip_layout.specs.Layout.{Has, IsLaidOut, Layout}
@@ -20,7 +20,7 @@ use Rattle.chip_layout.proofs.Bodies.{body-kept, first-refers, second-refers}
 abbrev pub IsWithin : {I : Type 0} → Layout I → Layout I → Type 0
 IsWithin {I} layout other = (i : I) (t : Thing) → layout i t → other i t
 
-has_within : {I : Type 0} (layout other : Layout I) → IsWithin layout other → (k : Name) (i : I) → Has layout k i → Has other k i
+has_within : {I : Type 0} (layout other : Layout I) → IsWithin layout other → (k : ThingName) (i : I) → Has layout k i → Has other k i
 has_within layout other f k i x = (x.0, f i x.0 x.1, x.2)
 
 pub body-within : {I : Type 0} (layout other : Layout I) (t : Thing) (b : Body I) → IsWithin layout other → IsBody (Has layout) t b → IsBody (Has other) t b
@@ -36,11 +36,11 @@ laid-same layout other objects f g laid = record {
 
 -- ---- a body for each thing whose references stand
 
-at_some : {I : Type 0} (layout : Layout I) (o : Option Name) (none : I) → ((k : Name) → o ≡ Some k → (i : I) × Has layout k i) → (i : I) × IsAt (Has layout) o i
+at_some : {I : Type 0} (layout : Layout I) (o : Option ThingName) (none : I) → ((k : ThingName) → o ≡ Some k → (i : I) × Has layout k i) → (i : I) × IsAt (Has layout) o i
 at_some layout None none f = (none, tt)
 at_some layout (Some k) none f = f k refl
 
-pub has-body : {I : Type 0} (layout : Layout I) (t : Thing) (none : I) → ((k : Name) → Refers t k → (i : I) × Has layout k i) → (b : Body I) × IsBody (Has layout) t b
+pub has-body : {I : Type 0} (layout : Layout I) (t : Thing) (none : I) → ((k : ThingName) → Refers t k → (i : I) × Has layout k i) → (b : Body I) × IsBody (Has layout) t b
 has-body layout t none f =
     let one = at_some layout (first_name t) none (λ k e. f k (first-refers t k e)) in
     let two = at_some layout (second_name t) none (λ k e. f k (second-refers t k e)) in
@@ -61,7 +61,7 @@ renamed_with f (thing.Route prefix (goal.Via hop)) i j = refl
 renamed_with f (thing.Route prefix (goal.Group hops)) i j = refl
 renamed_with f _ i j = refl
 
-at_renamed : {I J : Type 0} (f : I → J) (layout : Layout I) (o : Option Name) (i : I) → IsAt (Has layout) o i → IsAt (Has (renamed f layout)) o (f i)
+at_renamed : {I J : Type 0} (f : I → J) (layout : Layout I) (o : Option ThingName) (i : I) → IsAt (Has layout) o i → IsAt (Has (renamed f layout)) o (f i)
 at_renamed f layout None i h = tt
 at_renamed f layout (Some k) i h = (h.0, (i, h.1, refl), h.2)
 

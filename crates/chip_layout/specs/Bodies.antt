@@ -16,7 +16,7 @@ use Rattle.sai_types.specs.declared.thing.Goal.{Goal}
 use Rattle.sai_types.specs.declared.thing.Goal.TheVariants as goal
 use Rattle.sai_types.specs.declared.thing.Thing.{Thing}
 use Rattle.sai_types.specs.declared.thing.Thing.TheVariants as thing
-use Rattle.sai_types.specs.Names.{Name, goal_names, name_kind, thing_references}
+use Rattle.sai_types.specs.Names.{ThingName, goal_names, name_kind, thing_references}
 
 -- whether objects of this kind have identifiers
 abbrev pub is_numbered : Kind → Bool
@@ -25,23 +25,23 @@ is_numbered kind.Neighbor = false
 is_numbered kind.Route = false
 is_numbered _ = true
 
-abbrev pub first_of : List Name → Option Name
+abbrev pub first_of : List ThingName → Option ThingName
 first_of [] = None
 first_of (k ∷ ks) = Some k
 
 -- the second of some names, where its object has an identifier
-abbrev pub second_of : List Name → Option Name
+abbrev pub second_of : List ThingName → Option ThingName
 second_of (k ∷ l ∷ ks) = if is_numbered (name_kind l) then Some l else None
 second_of _ = None
 
 -- what the first identifier in a thing's object names, and the second: a next hop's neighbour is named by the identifier of its interface
-abbrev pub first_name : Thing → Option Name
+abbrev pub first_name : Thing → Option ThingName
 first_name t = first_of (thing_references t)
 
-abbrev pub second_name : Thing → Option Name
+abbrev pub second_name : Thing → Option ThingName
 second_name t = second_of (thing_references t)
 
-abbrev pub goal_name : Goal → Option Name
+abbrev pub goal_name : Goal → Option ThingName
 goal_name goal = first_of (goal_names goal)
 
 abbrev pub on_with : {I : Type 0} → Base → I → RifOn I
@@ -69,12 +69,12 @@ body_with (thing.GroupMember hops hop) i j = body.GroupMember i j
 body_with (thing.Route prefix goal) i j = body.Route prefix (to_with goal i)
 
 -- an identifier is that of a name, where there is a name
-abbrev pub IsAt : {I : Type 0} → (Name → I → Type 0) → Option Name → I → Type 0
+abbrev pub IsAt : {I : Type 0} → (ThingName → I → Type 0) → Option ThingName → I → Type 0
 IsAt at None i = Unit {0}
 IsAt at (Some k) i = at k i
 
 -- the body of a thing, where names have identifiers
-pub record IsBody {I : Type 0} (at : Name → I → Type 0) (t : Thing) (b : Body I) : Type 0 where
+pub record IsBody {I : Type 0} (at : ThingName → I → Type 0) (t : Thing) (b : Body I) : Type 0 where
   pub first : I
   pub second : I
   pub first_at : IsAt at (first_name t) first
@@ -82,7 +82,7 @@ pub record IsBody {I : Type 0} (at : Name → I → Type 0) (t : Thing) (b : Bod
   pub body_is : b ≡ body_with t first second
 
 -- a set of an attribute makes another thing of a thing; the new target of a route has an identifier
-abbrev pub IsChange : {I : Type 0} → (Name → I → Type 0) → Thing → Attr I → Thing → Type 0
+abbrev pub IsChange : {I : Type 0} → (ThingName → I → Type 0) → Thing → Attr I → Thing → Type 0
 IsChange at (thing.Port p) (attr.Speed s) u = u ≡ thing.Port (record { lanes = p.lanes; speed = s; mtu = p.mtu; up = p.up })
 IsChange at (thing.Port p) (attr.Mtu m) u = u ≡ thing.Port (record { lanes = p.lanes; speed = p.speed; mtu = m; up = p.up })
 IsChange at (thing.Port p) (attr.Up x) u = u ≡ thing.Port (record { lanes = p.lanes; speed = p.speed; mtu = p.mtu; up = x })

@@ -9,7 +9,7 @@ use Rattle.sai_types.specs.Alike.{IsIn}
 use Rattle.sai_types.specs.Made.{same_entry}
 use Rattle.sai_types.specs.Objects.{Objects, body_at, used}
 use Rattle.sai_types.specs.Refusal.{capacity_of}
-use Rattle.sai_types.specs.Names.{Name, Meet, Refers, name_kind, name_of}
+use Rattle.sai_types.specs.Names.{ThingName, Meet, Refers, name_kind, name_of}
 use Rattle.chip_layout.specs.Bodies.{IsBody, is_numbered}
 
 -- the things that stand, each with its identifier; own addresses, neighbours and routes have none, and any may stand there
@@ -17,7 +17,7 @@ abbrev pub Layout : Type 0 → Type 1
 Layout I = I → Thing → Type 0
 
 -- a name has this identifier
-abbrev pub Has : {I : Type 0} → Layout I → Name → I → Type 0
+abbrev pub Has : {I : Type 0} → Layout I → ThingName → I → Type 0
 Has layout k i = (t : Thing) × layout i t × (name_of t ≡ k)
 
 -- whether a thing's object has an identifier
@@ -37,10 +37,10 @@ IsFree layout t = (i : Rid) (u : Thing) → layout i u → Meet t u → ⊥
 
 -- what a thing refers to stands
 abbrev pub RefersWell : Layout Rid → Thing → Type 0
-RefersWell layout t = (k : Name) → Refers t k → (i : Rid) × Has layout k i
+RefersWell layout t = (k : ThingName) → Refers t k → (i : Rid) × Has layout k i
 
 -- nothing that stands refers to this name
-abbrev pub IsUnused : Layout Rid → Name → Type 0
+abbrev pub IsUnused : Layout Rid → ThingName → Type 0
 IsUnused layout k = (i : Rid) (u : Thing) → layout i u → Refers u k → ⊥
 
 -- the things that stand, and one more
@@ -48,7 +48,7 @@ abbrev pub with_thing : Layout Rid → Rid → Thing → Layout Rid
 with_thing layout i t j u = layout j u ⊎ ((j ≡ i) × (u ≡ t))
 
 -- but what has this name
-abbrev pub without : Layout Rid → Name → Layout Rid
+abbrev pub without : Layout Rid → ThingName → Layout Rid
 without layout k j u = layout j u × (name_of u ≡ k → ⊥)
 
 -- the identifier of the next thing to be made

@@ -9,7 +9,7 @@ use Rattle.table_schema.specs.Key.{key_cmp}
 use Rattle.table_schema.specs.declared.key.Key.{Key}
 use Rattle.table_schema.specs.declared.write.Write.{Write}
 use Rattle.table_schema.specs.declared.write.Write.TheVariants.{Set, Del}
-use Rattle.table_schema.proofs.Keys.{key_total}
+use Rattle.table_schema.proofs.Keys.{key_total, tied_keys_same}
 use Rattle.table_schema.proofs.LastValues.{HasRisingNames-merged}
 use Rattle.table_schema.proofs.Places.{HasRisingKeys-insert_entry}
 use Rattle.table_schema.proofs.RowLists.{HasRisingKeys-remove_entry}
@@ -17,7 +17,7 @@ use Rattle.producer_table.specs.declared.key_op.KeyOp.{KeyOp}
 use Rattle.producer_table.specs.Pending.{set_of}
 use Rattle.producer_table.proofs.Found.{each-found, each-put, lookup-put}
 use Rattle.producer_table.proofs.Merging.{merged-merged, put-twice}
-use Rattle.producer_table.proofs.RowWrites.{row_after, same_key}
+use Rattle.producer_table.proofs.RowWrites.{row_after}
 use Rattle.consumer_table.specs.declared.op.Op.{Op}
 use Rattle.consumer_table.specs.declared.op.Op.TheVariants as op
 use Rattle.consumer_table.specs.Ops.{Ops, AreOpsInOrder, HaveOpNames, op_at, op_fields, op_with_set, ops_after, ops_after_all, ops_with, without_op}
@@ -28,12 +28,12 @@ abbrev pub op_after : Key → Write → Option Op → Option Op
 op_after q (Set k fields) o = cond (is_at (key_cmp q) k) (Some (op_with_set o fields)) o
 op_after q (Del k) o = cond (is_at (key_cmp q) k) (Some op.Del) o
 
-at_key : (b : Bool) (q k : Key) (ops : Ops) (fields : Pairs) → (b ≡ true → q ≡ k) → cond b (Some (op_with_set (op_at ops k) fields)) (op_at ops q) ≡ cond b (Some (op_with_set (op_at ops q) fields)) (op_at ops q)
-at_key true q k ops fields same = ap (λ x. Some (op_with_set (op_at ops x) fields)) (sym (same refl))
-at_key false q k ops fields same = refl
+operation_at_key : (b : Bool) (q k : Key) (ops : Ops) (fields : Pairs) → (b ≡ true → q ≡ k) → cond b (Some (op_with_set (op_at ops k) fields)) (op_at ops q) ≡ cond b (Some (op_with_set (op_at ops q) fields)) (op_at ops q)
+operation_at_key true q k ops fields same = ap (λ x. Some (op_with_set (op_at ops x) fields)) (sym (same refl))
+operation_at_key false q k ops fields same = refl
 
 pub op_at-after : (ops : Ops) (w : Write) (q : Key) → op_at (ops_after ops w) q ≡ op_after q w (op_at ops q)
-op_at-after ops (Set k fields) q = lookup-put key_cmp key_total ops k (op_with_set (op_at ops k) fields) q ∙ at_key (is_at (key_cmp q) k) q k ops fields (same_key q k)
+op_at-after ops (Set k fields) q = lookup-put key_cmp key_total ops k (op_with_set (op_at ops k) fields) q ∙ operation_at_key (is_at (key_cmp q) k) q k ops fields (tied_keys_same q k)
 op_at-after ops (Del k) q = lookup-put key_cmp key_total ops k op.Del q
 
 -- the names of an operation's fields rise
@@ -41,8 +41,8 @@ abbrev pub HasNames : Option Op → Type 0
 HasNames None = Unit {0}
 HasNames (Some o) = HasRisingNames (op_fields o)
 
-pub names_at : (ops : Ops) (q : Key) → HaveOpNames ops → HasNames (op_at ops q)
-names_at ops q h =
+pub op_names_at : (ops : Ops) (q : Key) → HaveOpNames ops → HasNames (op_at ops q)
+op_names_at ops q h =
     let found = each-found (λ (o : Op). HasRisingNames (op_fields o)) (is_at (key_cmp q)) ops in
     elim (op_at ops q) as (λ o. ((v : Op) → HaveOpNames ops → o ≡ Some v → HasRisingNames (op_fields v)) → HasNames o) [ None ↦ λ f. tt | Some v ↦ λ f. f v h refl ] found
 
@@ -68,7 +68,7 @@ row_with-after q (Del k) row o h = elim (is_at (key_cmp q) k) as (λ b. row_with
 
 -- operations stay in order
 pub HaveOpNames-after : (ops : Ops) (w : Write) → HaveOpNames ops → HaveOpNames (ops_after ops w)
-HaveOpNames-after ops (Set k fields) h = each-put (λ (o : Op). HasRisingNames (op_fields o)) key_cmp ops k (op_with_set (op_at ops k) fields) (names-with_set (op_at ops k) fields (names_at ops k h)) h
+HaveOpNames-after ops (Set k fields) h = each-put (λ (o : Op). HasRisingNames (op_fields o)) key_cmp ops k (op_with_set (op_at ops k) fields) (names-with_set (op_at ops k) fields (op_names_at ops k h)) h
 HaveOpNames-after ops (Del k) h = each-put (λ (o : Op). HasRisingNames (op_fields o)) key_cmp ops k op.Del tt h
 
 HasRisingKeys-after : (ops : Ops) (w : Write) → HasRisingKeys key_cmp ops → HasRisingKeys key_cmp (ops_after ops w)

@@ -15,7 +15,7 @@ use Rattle.producer_table.proofs.RowWrites.{HasRisingRows-after_writes, after_wr
 use Rattle.consumer_table.specs.declared.op.Op.{Op}
 use Rattle.consumer_table.specs.Ops.{Ops, AreOpsInOrder, op_at, ops_after, ops_after_all, ops_with, without_op}
 use Rattle.consumer_table.specs.Synced.{AreRowsNow, Added, Finished, SyncStep, Synced, after_step, after_steps, all_done, row_with_op, with_added, with_finished}
-use Rattle.consumer_table.proofs.OpWrites.{AreOpsInOrder-after, AreOpsInOrder-after_all, AreOpsInOrder-without, names_at, op_after, op_at-after, row_with-after}
+use Rattle.consumer_table.proofs.OpWrites.{AreOpsInOrder-after, AreOpsInOrder-after_all, AreOpsInOrder-without, op_after, op_at-after, op_names_at, row_with-after}
 
 -- writes to the rows, and the same writes to the operations
 now-after : (done : Key → Option Pairs) (rows : Rows) (ops : Ops) (ws : List Write) → HasRisingRows rows → AreOpsInOrder ops → ((q : Key) → row_with_op (done q) (op_at ops q) ≡ fields_at rows q) → (q : Key) → row_with_op (done q) (op_at (ops_after_all ops ws) q) ≡ fields_at (after_writes rows ws) q
@@ -23,7 +23,7 @@ now-after done rows ops [] h order now = now
 now-after done rows ops (w ∷ ws) h order now =
     now-after done (after_write rows w) (ops_after ops w) ws (HasRisingRows-after_write rows w h) (AreOpsInOrder-after ops w order)
     (λ q. ap (row_with_op (done q)) (op_at-after ops w q)
-    ∙ row_with-after q w (done q) (op_at ops q) (names_at ops q order.names)
+    ∙ row_with-after q w (done q) (op_at ops q) (op_names_at ops q order.names)
     ∙ ap (row_after q w) (now q)
     ∙ sym (fields_at-after_write rows w q h))
 

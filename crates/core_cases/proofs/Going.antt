@@ -20,13 +20,13 @@ use Rattle.switch_core.specs.declared.answer.Step.TheVariants as step
 use Rattle.switch_core.specs.declared.answer.TakeFault.{TakeFault}
 use Rattle.core_cases.specs.Running.{IsRunning}
 
-begins : (plan : Ports) (capacities : List ℕ) (limit : ℕ) (fails : List Fail) → IsPlan plan → IsRunning (new_core plan capacities limit) (new_chip capacities fails)
-begins plan capacities limit fails is = ((new_session, new_stands plan capacities limit (new_chip capacities fails) is refl refl refl refl), inl refl)
+new_core_runs : (plan : Ports) (capacities : List ℕ) (limit : ℕ) (fails : List Fail) → IsPlan plan → IsRunning (new_core plan capacities limit) (new_chip capacities fails)
+new_core_runs plan capacities limit fails is = ((new_session, new_stands plan capacities limit (new_chip capacities fails) is refl refl refl refl), inl refl)
 
-pub begun : (plan : Ports) (capacities : List ℕ) (limit : ℕ) (fails : List Fail) (c : CoreState) (sim : Sim) → IsPlan plan → c ≡ new_core plan capacities limit → sim ≡ new_sim capacities fails → IsRunning c sim.chip
-begun plan capacities limit fails c sim is core chip =
+pub begun_core_runs : (plan : Ports) (capacities : List ℕ) (limit : ℕ) (fails : List Fail) (c : CoreState) (sim : Sim) → IsPlan plan → c ≡ new_core plan capacities limit → sim ≡ new_sim capacities fails → IsRunning c sim.chip
+begun_core_runs plan capacities limit fails c sim is core chip =
     subst (λ z. IsRunning z sim.chip) (sym core)
-    (subst (λ (z : Sim). IsRunning (new_core plan capacities limit) z.chip) (sym chip) (begins plan capacities limit fails is))
+    (subst (λ (z : Sim). IsRunning (new_core plan capacities limit) z.chip) (sym chip) (new_core_runs plan capacities limit fails is))
 
 -- ---- the warm state
 
@@ -54,7 +54,7 @@ stepped w c chip is (Ok step.Faulted) c' chip' x = ((x.makes.later, x.makes.stan
 stepped w c chip is (Ok step.LogFull) c' chip' x = same_runs c c' chip chip' is x.0 x.1
 stepped w c chip is (Err e) c' chip' x = some_runs c c' chip' is.0.0 x.1 (with_warm c c' x.2 is.1)
 
-pub takes : (c : CoreState) (chip : ChipState) (is : IsRunning c chip) (sent : Sent) (effects : ℕ) (r : Result (Result (Unit {0}) TakeFault) OutOfMemory) (c' : CoreState) → IfOk r (λ taken. Takes c sent effects taken c') → TakesStep is.0.0 c chip r c' → IsRunning c' chip
-takes c chip is sent effects (Ok (Ok u)) c' same x = ((x.later, x.stands), with_warm c c' (ap (λ (z : CoreState). z.warm) same.0) is.1)
-takes c chip is sent effects (Ok (Err f)) c' same x = same_runs c c' chip chip is x refl
-takes c chip is sent effects (Err e) c' same x = same_runs c c' chip chip is x refl
+pub runs_after_take : (c : CoreState) (chip : ChipState) (is : IsRunning c chip) (sent : Sent) (effects : ℕ) (r : Result (Result (Unit {0}) TakeFault) OutOfMemory) (c' : CoreState) → IfOk r (λ taken. Takes c sent effects taken c') → TakesStep is.0.0 c chip r c' → IsRunning c' chip
+runs_after_take c chip is sent effects (Ok (Ok u)) c' same x = ((x.later, x.stands), with_warm c c' (ap (λ (z : CoreState). z.warm) same.0) is.1)
+runs_after_take c chip is sent effects (Ok (Err f)) c' same x = same_runs c c' chip chip is x refl
+runs_after_take c chip is sent effects (Err e) c' same x = same_runs c c' chip chip is x refl

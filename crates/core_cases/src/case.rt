@@ -1,13 +1,13 @@
 // A case, as its lines give it.
 use crate::words::number;
-use crate::workers::Workers;
+use crate::workers::CaseWorkers;
 use anyhow::{Result, bail};
 use std::alloc::Global;
 use std::mem;
 
 /// What is written between two settlings, and what is wanted at the second.
 #[derive(Drop)]
-pub struct Round {
+pub struct CaseRound {
     /// The writes, each as its line.
     pub writes: Vec<String>,
     /// How many keys wait.
@@ -20,19 +20,19 @@ pub struct Round {
 #[derive(Drop)]
 pub struct Case {
     name: String,
-    round: Round,
+    round: CaseRound,
     /// The lines of the plan.
     pub ports: Vec<String>,
     /// The rounds that ended.
-    pub rounds: Vec<Round>,
+    pub rounds: Vec<CaseRound>,
     /// How often the case is run, and by which workers.
-    pub workers: Vec<Workers>,
+    pub workers: Vec<CaseWorkers>,
 }
 
-impl Round {
+impl CaseRound {
     /// Nothing is written, and nothing is to wait or to stand.
-    fn new(alloc: Global) -> Round {
-        Round {
+    fn new(alloc: Global) -> CaseRound {
+        CaseRound {
             writes: Vec::new(alloc),
             waits: 0,
             objects: 0,
@@ -45,7 +45,7 @@ impl Case {
     pub fn new(alloc: Global, name: &str) -> Result<Case> {
         Ok(Case {
             name: String::from_str(alloc, name)?,
-            round: Round::new(alloc),
+            round: CaseRound::new(alloc),
             ports: Vec::new(alloc),
             rounds: Vec::new(alloc),
             workers: Vec::new(alloc),
@@ -70,7 +70,7 @@ impl Case {
             ["settle"] => self.end_round(alloc)?,
             ["workers", count, order @ ..] => {
                 let line = String::from_str(alloc, line)?;
-                self.workers.push(Workers::read(line, count, order)?)?;
+                self.workers.push(CaseWorkers::read(line, count, order)?)?;
             }
             _ => bail!("no line of a case"),
         }
@@ -80,7 +80,7 @@ impl Case {
     /// Ends the round, and begins the next.
     pub fn end_round(&mut self, alloc: Global) -> Result<()> {
         self.rounds
-            .push(mem::replace(&mut self.round, Round::new(alloc)))?;
+            .push(mem::replace(&mut self.round, CaseRound::new(alloc)))?;
         Ok(())
     }
 }

@@ -2,10 +2,10 @@
 ghost use Rattle.std.specs.Prelude.{◌<◌};
 
 use crate::bench::Bench;
-use crate::case::{Case, Round};
+use crate::case::{Case, CaseRound};
 use crate::draw::Draw;
 use crate::words::read_write;
-use crate::workers::{Order, Workers};
+use crate::workers::{CaseWorkers, Order};
 use anyhow::{Context, Result, bail, ensure};
 use sai_chip::named;
 use sai_types::Thing;
@@ -15,7 +15,7 @@ use table_schema::PortPlan;
 
 /// Runs a case without workers, and then by each of its workers. It fails where something is found that is not wanted.
 pub fn run_case(alloc: Global, case: &Case) -> Result<()> {
-    let alone = Workers::none(alloc)?;
+    let alone = CaseWorkers::none(alloc)?;
     let wanted = run(alloc, case, &alone).context("without workers")?;
     for workers in case.workers.as_slice() {
         let ends = run(alloc, case, workers).context(workers.line())?;
@@ -25,7 +25,7 @@ pub fn run_case(alloc: Global, case: &Case) -> Result<()> {
 }
 
 /// Runs a case on a new core and chip. It tells what stands at the end of each round.
-fn run(alloc: Global, case: &Case, workers: &Workers) -> Result<Vec<Vec<Thing>>> {
+fn run(alloc: Global, case: &Case, workers: &CaseWorkers) -> Result<Vec<Vec<Thing>>> {
     let plan = plan_of(alloc, case.ports.as_slice())?;
     let mut bench = Bench::new(alloc, plan);
     run_rounds(alloc, &mut bench, case.rounds.as_slice(), workers)
@@ -35,8 +35,8 @@ fn run(alloc: Global, case: &Case, workers: &Workers) -> Result<Vec<Vec<Thing>>>
 fn run_rounds(
     alloc: Global,
     bench: &mut Bench,
-    rounds: &[Round],
-    workers: &Workers,
+    rounds: &[CaseRound],
+    workers: &CaseWorkers,
 ) -> Result<Vec<Vec<Thing>>> {
     let mut draw = Draw::new(workers.seed());
     let mut ends = Vec::new(alloc);
@@ -51,8 +51,8 @@ fn run_rounds(
 fn run_round(
     alloc: Global,
     bench: &mut Bench,
-    round: &Round,
-    workers: &Workers,
+    round: &CaseRound,
+    workers: &CaseWorkers,
     draw: &mut Draw,
 ) -> Result<()> {
     match workers.order {
@@ -76,8 +76,8 @@ fn plan_of(alloc: Global, ports: &[String]) -> Result<PortPlan> {
 fn step_in_turn(
     alloc: Global,
     bench: &mut Bench,
-    round: &Round,
-    workers: &Workers,
+    round: &CaseRound,
+    workers: &CaseWorkers,
     idle: bool,
 ) -> Result<()> {
     take_all(alloc, bench, round.writes.as_slice())?;
@@ -96,8 +96,8 @@ fn step_in_turn(
 fn step_as_drawn(
     alloc: Global,
     bench: &mut Bench,
-    round: &Round,
-    workers: &Workers,
+    round: &CaseRound,
+    workers: &CaseWorkers,
     draw: &mut Draw,
 ) -> Result<()> {
     // So many steps of each worker come to a write.
@@ -149,7 +149,7 @@ fn step(bench: &mut Bench, worker: u32) -> Result<Step>
 }
 
 /// Settles, and looks at how many keys wait and how many objects stand. It tells what stands.
-fn settle(alloc: Global, bench: &mut Bench, round: &Round) -> Result<Vec<Thing>> {
+fn settle(alloc: Global, bench: &mut Bench, round: &CaseRound) -> Result<Vec<Thing>> {
     let settled = bench.settle()?;
     ensure!(settled == Some(Settled::Settled), "{settled:?}");
     let waits = bench.waits().context("a mark of a settling")? as u64;

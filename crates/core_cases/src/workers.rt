@@ -16,7 +16,7 @@ pub enum Order {
 
 /// So many workers, who make so many steps in each round.
 #[derive(Drop)]
-pub struct Workers {
+pub struct CaseWorkers {
     line: String,
     count: u32,
     /// In which order they step.
@@ -25,10 +25,10 @@ pub struct Workers {
     pub steps: u64,
 }
 
-impl Workers {
+impl CaseWorkers {
     /// A worker that makes no step: the settling finds all still to be done.
-    pub fn none(alloc: Global) -> Result<Workers> {
-        Ok(Workers {
+    pub fn none(alloc: Global) -> Result<CaseWorkers> {
+        Ok(CaseWorkers {
             line: String::from_str(alloc, "no worker")?,
             count: 1,
             order: Order::Turn(false),
@@ -37,7 +37,7 @@ impl Workers {
     }
 
     /// The workers of a line, by its words.
-    pub fn read(line: String, count: &str, order: &[&str]) -> Result<Workers> {
+    pub fn read(line: String, count: &str, order: &[&str]) -> Result<CaseWorkers> {
         let count = match count {
             "1" => 1,
             "2" => 2,
@@ -51,7 +51,7 @@ impl Workers {
             ["drawn", seed, steps] => (Order::Drawn(number(seed)?), number(steps)?),
             _ => bail!("an order of steps"),
         };
-        Ok(Workers {
+        Ok(CaseWorkers {
             line,
             count,
             order,

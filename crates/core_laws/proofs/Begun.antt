@@ -1,6 +1,7 @@
 -- the operation of a group begins
 use Rattle.std.proofs.Common.{◌≡◌, ◌∙◌, inl, inr, ℕ, true, false, List, Option, None, Some, refl, sym, ap, subst}
 use Rattle.std.proofs.Math.Path.{fun_ext}
+use Rattle.std.proofs.lemmas.Option.{same_Some}
 use Rattle.table_schema.specs.Plan.{Ports}
 use Rattle.sai_types.specs.declared.hop.Hop.{Hop}
 use Rattle.sai_types.specs.declared.ids.Rid.{Rid}
@@ -16,7 +17,6 @@ use Rattle.registry_laws.specs.Flown.{Flown, group_to_build, group_to_take}
 use Rattle.registry_laws.specs.Flying.{KnowsBoard, flown_as}
 use Rattle.registry_laws.specs.Making.{group_begun, group_or, with_group_begun}
 use Rattle.registry_laws.proofs.Grouped.{builds_begun, takes_begun}
-use Rattle.registry_laws.proofs.Listing.{same_some}
 use Rattle.identifier_laws.specs.Identified.{IsUnderWay}
 use Rattle.identifier_laws.proofs.Staying.{flown_identified, puts_kept}
 use Rattle.core_laws.specs.Standing.{HasBegun, StandsFor}
@@ -72,5 +72,5 @@ module _ (plan : Ports) (capacities : List ℕ) (names : Names) (room : RoomStat
     where
       kept : (g : GroupOperation) → IsUnderWay flown w g → group_or x.group (begins (group_to_build plan names f) (group_to_take f)) ≡ Some g
       kept g here =
-          let one = same_some here.0 x (sym here.1 ∙ at) in
+          let one = same_Some here.0 x (sym here.1 ∙ at) in
           ap (λ z. group_or z (begins (group_to_build plan names f) (group_to_take f))) (ap (λ (z : Flown). z.group) (sym one) ∙ here.2)

@@ -7,7 +7,7 @@ use Rattle.sai_types.specs.declared.ids.Vid.{Vid}
 use Rattle.sai_types.specs.declared.thing.Thing.{Thing}
 use Rattle.sai_types.specs.declared.thing.Thing.TheVariants as thing
 use Rattle.sai_types.specs.Alike.{IsIn}
-use Rattle.sai_types.specs.Names.{Name, name_kind}
+use Rattle.sai_types.specs.Names.{ThingName, name_kind}
 use Rattle.chip_layout.specs.Bodies.{is_numbered}
 use Rattle.chip_layout.specs.Layout.{Has, listed}
 use Rattle.chip_layout.specs.Renamed.{call_renamed}
@@ -44,20 +44,20 @@ module _ (plan : Ports) (is : IsPlan plan) (capacities : List ℕ) (names : Name
   call = call_renamed (tie_by rid) c
 
   -- what stands has one identifier, which is tied
-  tied_by : (has : Name → Vid → Type 0) → ((n : Name) (v u : Vid) → has n v → IsVidOf plan names flown n u → v ≡ u) → (n : Name) (v : Vid) (i : Rid) → is_numbered (name_kind n) ≡ true → Has (listed m.stands) n i → has n v → IsTied rid v
+  tied_by : (has : ThingName → Vid → Type 0) → ((n : ThingName) (v u : Vid) → has n v → IsVidOf plan names flown n u → v ≡ u) → (n : ThingName) (v : Vid) (i : Rid) → is_numbered (name_kind n) ≡ true → Has (listed m.stands) n i → has n v → IsTied rid v
   tied_by has one n v i numbered (t, there, same) told =
       let y = stands.identified.each i t there (ap (λ z. is_numbered (name_kind z)) same ∙ numbered) in
       (i, ap rid (one n v y.0 told (subst (λ z. IsVidOf plan names flown z y.0) same y.1)) ∙ y.2)
 
   -- a call that is due for the worker
-  pub record IsNext (has : Name → Vid → Type 0) (things : List Thing) : Type 0 where
+  pub record IsNext (has : ThingName → Vid → Type 0) (things : List Thing) : Type 0 where
     pub change : Change
     pub rest : List Change
     pub due : m.due w ≡ change ∷ rest
     pub told : IsCallOf has things change c
     pub of : IsCall (listed m.stands) change call
 
-  module _ (has : Name → Vid → Type 0) (one : (n : Name) (v u : Vid) → has n v → IsVidOf plan names flown n u → v ≡ u) (things : List Thing) (change : Change) (rest : List Change) (due : m.due w ≡ change ∷ rest) (ports : PortsStand m things change) (told : IsCallOf has things change c) where
+  module _ (has : ThingName → Vid → Type 0) (one : (n : ThingName) (v u : Vid) → has n v → IsVidOf plan names flown n u → v ≡ u) (things : List Thing) (change : Change) (rest : List Change) (due : m.due w ≡ change ∷ rest) (ports : PortsStand m things change) (told : IsCallOf has things change c) where
     next : IsNext has things
     next =
         let y = is_due plan is 4 capacities s stands.safe names rid flown stands.identified w (flight_of f) (its plan is capacities names room flown rid s stands w x at).flying change rest due has one things ports c (below plan is capacities names room flown rid s stands w x at) told in
@@ -89,7 +89,7 @@ module _ (plan : Ports) (is : IsPlan plan) (capacities : List ℕ) (names : Name
     due_group : m.due w ≡ told.0 ∷ (told.1 ++ f.due)
     due_group = group_due_is plan is capacities names room flown rid s stands w x at g has ∙ ap (λ l. l ++ f.due) told.2
 
-    one_vid : (n : Name) (v u : Vid) → HasGroupVid plan names g n v → IsVidOf plan names flown n u → v ≡ u
+    one_vid : (n : ThingName) (v u : Vid) → HasGroupVid plan names g n v → IsVidOf plan names flown n u → v ≡ u
     one_vid = group_vid_one plan names flown (builds plan is capacities names room flown rid s stands w x at) w g (x, at, has)
 
     pub group_next : IsNext (HasGroupVid plan names g) (shared_things (owner.Group g.hops))
@@ -100,7 +100,7 @@ module _ (plan : Ports) (is : IsPlan plan) (capacities : List ℕ) (names : Name
 
   -- ---- both
 
-  due_of : (has : Name → Vid → Type 0) (things : List Thing) → IsNext has things → (y : IsDueCall 4 call s) × (y.worker ≡ w)
+  due_of : (has : ThingName → Vid → Type 0) (things : List Thing) → IsNext has things → (y : IsDueCall 4 call s) × (y.worker ≡ w)
   due_of has things y = (record { worker = w; below = below plan is capacities names room flown rid s stands w x at; flight = flight_of f; change = y.change; rest = y.rest; flying = (its plan is capacities names room flown rid s stands w x at).flying; due = y.due; of = y.of }, refl)
 
   module _ (begun : HasBegun plan names x) (told : IsNextCall plan names f x.group c) where

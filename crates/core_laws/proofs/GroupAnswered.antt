@@ -7,7 +7,7 @@ use Rattle.sai_types.specs.declared.ids.Vid.{Vid}
 use Rattle.sai_types.specs.declared.thing.Thing.{Thing}
 use Rattle.sai_types.specs.After.{makes_id}
 use Rattle.sai_types.specs.Alike.{IsIn}
-use Rattle.sai_types.specs.Names.{Name}
+use Rattle.sai_types.specs.Names.{ThingName}
 use Rattle.chip_layout.specs.Layout.{next_id}
 use Rattle.chip_layout.specs.Renamed.{call_renamed}
 use Rattle.row_layout.specs.Operations.{Change, Make, Take}
@@ -90,7 +90,7 @@ module _ (plan : Ports) (is : IsPlan plan) (capacities : List ℕ) (names : Name
   answers : (t : Machine) → Goes t → Answers plan capacities rid rid' flown room s w c names' t
   answers t follows = (answer plan is capacities names room flown rid s stands w x at c (HasGroupVid plan names g) (shared_things (owner.Group g.hops)) y t follows, refl)
 
-  takes : (n : Name) → y.change ≡ Take n → (v : Vid) → HasGroupVid plan names g n v → HasVid plan names n v
+  takes : (n : ThingName) → y.change ≡ Take n → (v : Vid) → HasGroupVid plan names g n v → HasVid plan names n v
   takes n e v h = by g.builds refl
     where
       by : (b : Bool) → g.builds ≡ b → HasVid plan names n v

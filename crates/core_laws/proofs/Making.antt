@@ -13,7 +13,7 @@ use Rattle.sai_types.specs.declared.ids.Rid.{Rid}
 use Rattle.sai_types.specs.declared.ids.Vid.{Vid}
 use Rattle.sai_types.specs.declared.thing.Thing.{Thing}
 use Rattle.sai_types.specs.After.{makes_id}
-use Rattle.sai_types.specs.Names.{Name}
+use Rattle.sai_types.specs.Names.{ThingName}
 use Rattle.chip_layout.specs.Layout.{Layout, has_number, listed, next_id}
 use Rattle.chip_layout.specs.Renamed.{call_renamed}
 use Rattle.row_layout.specs.Operations.{Change, Make, Set, Take}
@@ -22,7 +22,7 @@ use Rattle.switch_machine.specs.Events.{Follows, IsAnswer, IsDueCall, IsGiven, I
 use Rattle.switch_machine.specs.Flights.{Machine, put}
 use Rattle.switch_machine.specs.Steps.{Moves, moved}
 use Rattle.switch_machine.proofs.Kept.{kept-answers, moves_back, moves_by}
-use Rattle.machine_laws.proofs.Completing.{Changed, change}
+use Rattle.machine_laws.proofs.Completing.{Changed, change_made}
 use Rattle.ref_counts.specs.Registry.{Names}
 use Rattle.ref_counts.specs.Room.{GivesBack, RoomState}
 use Rattle.orch_flight.specs.Calling.{HasVid, IsCallOf}
@@ -51,7 +51,7 @@ given_by L made call (Make u) of i given t e h = let same : u ≡ t = cc in give
 given_by L made call (Set u) of i given t e h = absurd cc
 given_by L made call (Take n) of i given t e h = absurd cc
 
-ties_by : (plan : Ports) (names : Names) (rid rid' : Vid → Option Rid) (c : Call Vid) (made : Option Vid) (number : is_some made ≡ makes_id c) (next : Rid) (ties : TiesFollow rid rid' c made next) (has : Name → Vid → Type 0) (things : List Thing) (d : Change) → IsCallOf has things d c → (i : Rid) → ((t : Thing) → d ≡ Make t → has_number t ≡ true → i ≡ next) → ((n : Name) → d ≡ Take n → (v : Vid) → has n v → HasVid plan names n v) → TiesAfter plan names rid rid' d made i
+ties_by : (plan : Ports) (names : Names) (rid rid' : Vid → Option Rid) (c : Call Vid) (made : Option Vid) (number : is_some made ≡ makes_id c) (next : Rid) (ties : TiesFollow rid rid' c made next) (has : ThingName → Vid → Type 0) (things : List Thing) (d : Change) → IsCallOf has things d c → (i : Rid) → ((t : Thing) → d ≡ Make t → has_number t ≡ true → i ≡ next) → ((n : ThingName) → d ≡ Take n → (v : Vid) → has n v → HasVid plan names n v) → TiesAfter plan names rid rid' d made i
 ties_by plan names rid rid' c made number next ties has things (Make t) told i given take = (
   (λ v j e. ties.kept v j (λ r. no_create told.body v (sym told.is ∙ r)) e),
   (λ h. let v = some_of made (number ∙ making_number has t c told ∙ h) in (v.0, v.1, ties.new v.0 v.1 ∙ ap Some (sym (given t refl h)))),
@@ -67,7 +67,7 @@ ties_by plan names rid rid' c made number next ties has things (Take n) told i g
 
 -- ---- the call is made
 
-module _ (plan : Ports) (is : IsPlan plan) (capacities : List ℕ) (names : Names) (room : RoomState) (flown : ℕ → Option Flown) (rid : Vid → Option Rid) (s : SwitchState) (stands : StandsFor plan capacities names room flown rid s) (w : ℕ) (x : Flown) (at : flown w ≡ Some x) (c : Call Vid) (has : Name → Vid → Type 0) (things : List Thing) (y : IsNext plan is capacities names room flown rid s stands w x at c has things) where
+module _ (plan : Ports) (is : IsPlan plan) (capacities : List ℕ) (names : Names) (room : RoomState) (flown : ℕ → Option Flown) (rid : Vid → Option Rid) (s : SwitchState) (stands : StandsFor plan capacities names room flown rid s) (w : ℕ) (x : Flown) (at : flown w ≡ Some x) (c : Call Vid) (has : ThingName → Vid → Type 0) (things : List Thing) (y : IsNext plan is capacities names room flown rid s stands w x at c has things) where
   abbrev m : Machine
   m = s.machine
 
@@ -76,7 +76,7 @@ module _ (plan : Ports) (is : IsPlan plan) (capacities : List ℕ) (names : Name
 
   -- what stands then
   pub then : Changed m.stands s.made y.change call y.of
-  then = change m.stands s.made y.change call y.of
+  then = change_made m.stands s.made y.change call y.of
 
   abbrev pub later : List (Rid × Thing)
   later = then.later
@@ -96,7 +96,7 @@ module _ (plan : Ports) (is : IsPlan plan) (capacities : List ℕ) (names : Name
   answer t follows = record { next = next; id = then.id; given = then.given; stands = later; into = then.into; back = then.back; follows = follows; written = refl; to_sync = refl; made = refl; objects = refl }
 
   module _ (made : Option Vid) (rid' : Vid → Option Rid) (number : is_some made ≡ makes_id c) (ties : TiesFollow rid rid' c made (next_id s.made)) where
-    pub tied : ((n : Name) → y.change ≡ Take n → (v : Vid) → has n v → HasVid plan names n v) → TiesAfter plan names rid rid' y.change made then.id
+    pub tied : ((n : ThingName) → y.change ≡ Take n → (v : Vid) → has n v → HasVid plan names n v) → TiesAfter plan names rid rid' y.change made then.id
     tied take = ties_by plan names rid rid' c made number (next_id s.made) ties has things y.change y.told then.id (given_by (listed m.stands) s.made call y.change y.of then.id then.given) take
 
 -- ---- what stands for the state then

@@ -6,7 +6,7 @@ use Rattle.sai_types.specs.declared.ids.Rid.{Rid}
 use Rattle.sai_types.specs.declared.ids.Vid.{Vid}
 use Rattle.sai_types.specs.declared.thing.Thing.{Thing}
 use Rattle.sai_types.specs.Alike.{IsIn}
-use Rattle.sai_types.specs.Names.{Name}
+use Rattle.sai_types.specs.Names.{ThingName}
 use Rattle.row_layout.specs.Operations.{Change, Make, Take}
 use Rattle.row_layout.specs.Rows as owner
 use Rattle.row_layout.specs.Shared.{shared_things}
@@ -113,7 +113,7 @@ module _ (plan : Ports) (is : IsPlan plan) (capacities : List ℕ) (names : Name
     pub makes_next : g.builds ≡ true → (c : Change) → IsIn c g.due → (t : Thing) × IsIn t (shared_things (owner.Group g.hops)) × (c ≡ Make t)
     makes_next b c i = made_in (shared_things (owner.Group g.hops)) c (in_first true b c i)
 
-    pub takes_next : g.builds ≡ false → (c : Change) → IsIn c g.due → (n : Name) × (c ≡ Take n)
+    pub takes_next : g.builds ≡ false → (c : Change) → IsIn c g.due → (n : ThingName) × (c ≡ Take n)
     takes_next goes c i = let z = taken_in _ c (in_first false goes c i) in (_, z.2)
 
     pub own_next : (c : Change) → IsIn c g.due → IsOwnedBy plan (changed_name c) (owner.Group g.hops)

@@ -1,6 +1,7 @@
 -- the keys of what workers have under way are those of the machine's operations
 use Rattle.std.proofs.Common.{◌≡◌, ◌<◌, ◌∙◌, inl, ℕ, Bool, true, false, List, Option, None, Some, refl, sym, ap}
 use Rattle.std.specs.Prelude.{◌&&◌, bytes_eq, codes, if◌then◌else◌}
+use Rattle.std.proofs.lemmas.Option.{same_Some}
 use Rattle.swss_types.specs.Prefix.{has_host_bits}
 use Rattle.table_schema.specs.Broken.{bad}
 use Rattle.table_schema.specs.Fields.{Pairs}
@@ -14,7 +15,7 @@ use Rattle.table_schema.specs.declared.row.Row.{Row}
 use Rattle.switch_model.specs.Good.{good_row, row_read}
 use Rattle.switch_machine.specs.Consistent.{IsConsistent}
 use Rattle.switch_machine.specs.Events.{IsQuiet, SwitchState}
-use Rattle.switch_machine.specs.Flights.{Flight, IsResting}
+use Rattle.switch_machine.specs.Flights.{MachineFlight, IsResting}
 use Rattle.switch_machine.specs.Reasons.{IsReason}
 use Rattle.switch_machine.specs.Written.{good_of}
 use Rattle.switch_model.specs.declared.wait.Wait.TheVariants as wait
@@ -23,7 +24,7 @@ use Rattle.ref_counts.specs.Registry.{Names}
 use Rattle.ref_counts.specs.Room.{RoomState}
 use Rattle.registry_laws.specs.Flown.{Flown, flight_of}
 use Rattle.registry_laws.specs.Flying.{KnowsBoard}
-use Rattle.registry_laws.proofs.Listing.{not_some, same_some}
+use Rattle.registry_laws.proofs.Listing.{not_some}
 use Rattle.core_laws.specs.Standing.{IsNotFlown}
 
 module _ (plan : Ports) (capacities : List ℕ) (names : Names) (room : RoomState) (flown : ℕ → Option Flown) (s : SwitchState) (board : KnowsBoard plan capacities names room flown s.machine) where
@@ -34,8 +35,8 @@ module _ (plan : Ports) (capacities : List ℕ) (names : Names) (room : RoomStat
       by None e = not_some f (sym (board.idle v e) ∙ there)
       by (Some x) e =
           let y = board.flying v x e in
-          let one = same_some f (flight_of x.operation) (sym there ∙ y.flying) in
-          free v x (board.registers.below v f there) e (sym (ap (λ (z : Flight). z.key) one) ∙ same)
+          let one = same_Some f (flight_of x.operation) (sym there ∙ y.flying) in
+          free v x (board.registers.below v f there) e (sym (ap (λ (z : MachineFlight). z.key) one) ∙ same)
 
   pub flown_busy : (v : ℕ) (x : Flown) → flown v ≡ Some x → IsReason plan 4 capacities s x.operation.key (wait.Busy v)
   flown_busy v x at = inl (flight_of x.operation, (board.flying v x at).flying, refl)

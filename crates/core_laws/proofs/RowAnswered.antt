@@ -1,5 +1,6 @@
 -- all stands for the state when the call of a row's operation has taken effect
 use Rattle.std.proofs.Common.{◌≡◌, ◌∷◌, ◌∙◌, inl, ℕ, List, [], Option, None, Some, is_some, refl, sym, ap, subst}
+use Rattle.std.proofs.lemmas.Option.{same_Some}
 use Rattle.table_schema.specs.Plan.{IsPlan, Ports}
 use Rattle.sai_types.specs.declared.body.Call.{Call}
 use Rattle.sai_types.specs.declared.ids.Rid.{Rid}
@@ -24,7 +25,7 @@ use Rattle.registry_laws.specs.Flown.{Flown, group_to_build, group_to_take}
 use Rattle.registry_laws.specs.Flying.{flown_as}
 use Rattle.registry_laws.specs.Making.{IsNextCall}
 use Rattle.registry_laws.proofs.Fine.{AreFine, after_fine, fine_of, left_fine}
-use Rattle.registry_laws.proofs.Listing.{not_some, same_some}
+use Rattle.registry_laws.proofs.Listing.{not_some}
 use Rattle.registry_laws.proofs.Replies.{row_ends, row_goes_on}
 use Rattle.identifier_laws.specs.Identified.{HasWholeGroups, Identified, KeepsBuilds, TiesAfter, tie_by}
 use Rattle.identifier_laws.proofs.Staying.{flown_identified, puts_kept}
@@ -94,7 +95,7 @@ module _ (plan : Ports) (is : IsPlan plan) (capacities : List ℕ) (names : Name
 
   -- no group is built
   kept_builds : (z : Option Flown) → KeepsBuilds flown (put w z flown)
-  kept_builds z = puts_kept flown w z (λ g there b. not_some g (sym none ∙ ap (λ (v : Flown). v.group) (same_some x there.0 (sym at ∙ there.1)) ∙ there.2))
+  kept_builds z = puts_kept flown w z (λ g there b. not_some g (sym none ∙ ap (λ (v : Flown). v.group) (same_Some x there.0 (sym at ∙ there.1)) ∙ there.2))
 
   known : (z : Option Flown) (t : Machine) → Goes t → Identified plan names' rid' (put w z flown) t.stands
   known z t follows =

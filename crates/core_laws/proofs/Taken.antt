@@ -7,7 +7,7 @@ use Rattle.sai_types.specs.declared.ids.Vid.{Vid}
 use Rattle.sai_types.specs.declared.thing.Thing.{Thing}
 use Rattle.sai_types.specs.After.{makes_id}
 use Rattle.sai_types.specs.Alike.{IsIn}
-use Rattle.sai_types.specs.Names.{Name, name_of}
+use Rattle.sai_types.specs.Names.{ThingName, name_of}
 use Rattle.chip_layout.specs.Layout.{has_number}
 use Rattle.row_layout.specs.Operations.{Make, Take}
 use Rattle.row_layout.specs.Rows as owner
@@ -30,10 +30,10 @@ use Rattle.core_laws.specs.Standing.{HasBegun, StandsFor}
 use Rattle.core_laws.proofs.Nexts.{makes_next, no_group, takes_next}
 
 -- the call of a thing that is made makes an identifier where its object has one
-pub making_number : (has : Name → Vid → Type 0) (t : Thing) (c : Call Vid) → IsMaking has t c → makes_id c ≡ has_number t
+pub making_number : (has : ThingName → Vid → Type 0) (t : Thing) (c : Call Vid) → IsMaking has t c → makes_id c ≡ has_number t
 making_number has t c x = ap makes_id x.is ∙ made_number has t c x.body x x.is
 
-pub taking_number : (has : Name → Vid → Type 0) (things : List Thing) (n : Name) (c : Call Vid) → IsCallOf has things (Take n) c → makes_id c ≡ false
+pub taking_number : (has : ThingName → Vid → Type 0) (things : List Thing) (n : ThingName) (c : Call Vid) → IsCallOf has things (Take n) c → makes_id c ≡ false
 taking_number has things n c x = ap makes_id x.is
 
 module _ (plan : Ports) (is : IsPlan plan) (capacities : List ℕ) (names : Names) (room : RoomState) (flown : ℕ → Option Flown) (rid : Vid → Option Rid) (s : SwitchState) (stands : StandsFor plan capacities names room flown rid s) (w : ℕ) (x : Flown) (at : flown w ≡ Some x) (c : Call Vid) (made : Option Vid) (number : is_some made ≡ makes_id c) where

@@ -1,5 +1,6 @@
 -- the identifiers that a call names are tied to those of objects that stand
 use Rattle.std.proofs.Common.{◌≡◌, ◌⊎◌, ◌∷◌, ◌++◌, ◌∙◌, inl, inr, true, List, [], Option, None, Some, refl, sym, ap, subst}
+use Rattle.std.proofs.lemmas.Option.{same_Some}
 use Rattle.sai_types.specs.declared.body.Attr.{Attr}
 use Rattle.sai_types.specs.declared.body.Attr.TheVariants as attr
 use Rattle.sai_types.specs.declared.body.Body.{Body}
@@ -16,7 +17,7 @@ use Rattle.sai_types.specs.declared.thing.Thing.{Thing}
 use Rattle.sai_types.specs.declared.thing.Thing.TheVariants as thing
 use Rattle.sai_types.specs.Alike.{IsIn}
 use Rattle.sai_types.specs.Names as name
-use Rattle.sai_types.specs.Names.{Name, name_kind, name_of}
+use Rattle.sai_types.specs.Names.{ThingName, name_kind, name_of}
 use Rattle.sai_types.specs.Objects.{Objects}
 use Rattle.chip_layout.specs.Bodies.{IsAt, IsBody, IsChange, body_with, first_name, goal_name, is_numbered, second_name, to_with}
 use Rattle.chip_layout.specs.Layout.{Has, IsLaidOut, Layout, has_number}
@@ -25,7 +26,7 @@ use Rattle.chip_layout.proofs.Laid.{changed}
 use Rattle.row_layout.specs.Operations.{Change, Make, Set, Take}
 use Rattle.switch_machine.specs.Changes.{IsCall}
 use Rattle.orch_flight.specs.Calling.{IsCallOf, IsEnteredBy, IsEntryOf, entry_by}
-use Rattle.registry_laws.proofs.Listing.{not_some, same_some}
+use Rattle.registry_laws.proofs.Listing.{not_some}
 use Rattle.identifier_laws.proofs.Telling.{neighbor_entered, neighbor_first}
 use Rattle.core_laws.specs.Calls.{IsTied, ids_of_attr, ids_of_body, ids_of_call, ids_of_entry, ids_of_target}
 
@@ -40,8 +41,8 @@ in_parts x (y ∷ xs) ys (inr h) = by (in_parts x xs ys h)
 
 module _ (rid : Vid → Option Rid) where
   -- where it is that of a name
-  abbrev TiedFor : Option Name → Vid → Type 0
-  TiedFor o v = (n : Name) → o ≡ Some n → IsTied rid v
+  abbrev TiedFor : Option ThingName → Vid → Type 0
+  TiedFor o v = (n : ThingName) → o ≡ Some n → IsTied rid v
 
   one_in : (v : Vid) → IsTied rid v → (z : Vid) → IsIn z (v ∷ []) → IsTied rid z
   one_in v x z (inl e) = subst (IsTied rid) (sym e) x
@@ -77,8 +78,8 @@ module _ (rid : Vid → Option Rid) where
   entry_tied (thing.Route prefix g) v a b h n z i = elim i [ ]
   entry_tied _ v a b h n z i = one_in v (h refl) z i
 
-  module _ (L : Layout Rid) (objects : Objects) (laid : IsLaidOut L objects) (at : Name → Vid → Type 0) (tied : (n : Name) (v : Vid) (i : Rid) → is_numbered (name_kind n) ≡ true → Has L n i → at n v → IsTied rid v) where
-    tied_at : (o : Option Name) (v : Vid) (i : Rid) → ((n : Name) → o ≡ Some n → is_numbered (name_kind n) ≡ true) → IsAt (Has L) o i → IsAt at o v → TiedFor o v
+  module _ (L : Layout Rid) (objects : Objects) (laid : IsLaidOut L objects) (at : ThingName → Vid → Type 0) (tied : (n : ThingName) (v : Vid) (i : Rid) → is_numbered (name_kind n) ≡ true → Has L n i → at n v → IsTied rid v) where
+    tied_at : (o : Option ThingName) (v : Vid) (i : Rid) → ((n : ThingName) → o ≡ Some n → is_numbered (name_kind n) ≡ true) → IsAt (Has L) o i → IsAt at o v → TiedFor o v
     tied_at None v i numbered there h n e = not_some n e
     tied_at (Some k) v i numbered there h n e = tied k v i (numbered k refl) there h
 
@@ -95,11 +96,11 @@ module _ (rid : Vid → Option Rid) where
             let told : at (name.Rif hop.on) x.of.first = subst (λ o. IsAt (λ n v. IsEnteredBy old → at n v) o x.of.first) (neighbor_first old hop e) x.of.first_at (neighbor_entered old hop e) in
             tied (name.Rif hop.on) x.of.first y.first refl on told
 
-    goal_numbered : (g : Goal) (n : Name) → goal_name g ≡ Some n → is_numbered (name_kind n) ≡ true
+    goal_numbered : (g : Goal) (n : ThingName) → goal_name g ≡ Some n → is_numbered (name_kind n) ≡ true
     goal_numbered goal.Drop n e = not_some n e
-    goal_numbered (goal.Direct on) n e = ap (λ z. is_numbered (name_kind z)) (sym (same_some (name.Rif on) n e))
-    goal_numbered (goal.Via hop) n e = ap (λ z. is_numbered (name_kind z)) (sym (same_some (name.NextHop hop) n e))
-    goal_numbered (goal.Group hops) n e = ap (λ z. is_numbered (name_kind z)) (sym (same_some (name.Group hops) n e))
+    goal_numbered (goal.Direct on) n e = ap (λ z. is_numbered (name_kind z)) (sym (same_Some (name.Rif on) n e))
+    goal_numbered (goal.Via hop) n e = ap (λ z. is_numbered (name_kind z)) (sym (same_Some (name.NextHop hop) n e))
+    goal_numbered (goal.Group hops) n e = ap (λ z. is_numbered (name_kind z)) (sym (same_Some (name.Group hops) n e))
 
     -- what an attribute refers to that is set
     attr_tied : (old other u : Thing) (a : Attr Vid) (b : Attr Rid) → name_of old ≡ name_of other → IsChange at old a u → IsChange (Has L) other b u → (z : Vid) → IsIn z (ids_of_attr a) → IsTied rid z

@@ -84,7 +84,7 @@ pub fn next_calls_are_known()
 
 /// The next call of what a worker has under way, by the identifiers of the chip to which those that it names are tied, is due for the
 /// worker: so it is legal. Each identifier that it names is tied.
-pub fn next_calls_are_due()
+pub fn tied_calls_are_due()
     ensures due { (plan : Ports) (capacities : List ℕ) (names : Names) (room : RoomState) (flown : ℕ → Option Flown) (rid : Vid → Option Rid) (s : SwitchState) (w : ℕ) (x : Flown) (c : Call Vid) → IsPlan plan → StandsFor plan capacities names room flown rid s → flown w ≡ Some x → HasBegun plan names x → IsNextCall plan names x.operation x.group c → (y : IsDueCall 4 (call_renamed (tie_by rid) c) s) × (y.worker ≡ w) }
     ensures legal { (plan : Ports) (capacities : List ℕ) (names : Names) (room : RoomState) (flown : ℕ → Option Flown) (rid : Vid → Option Rid) (s : SwitchState) (w : ℕ) (x : Flown) (c : Call Vid) → IsPlan plan → StandsFor plan capacities names room flown rid s → flown w ≡ Some x → HasBegun plan names x → IsNextCall plan names x.operation x.group c → IsLegal capacities s.objects (call_renamed (tie_by rid) c) }
     ensures tied { (plan : Ports) (capacities : List ℕ) (names : Names) (room : RoomState) (flown : ℕ → Option Flown) (rid : Vid → Option Rid) (s : SwitchState) (w : ℕ) (x : Flown) (c : Call Vid) (v : Vid) → IsPlan plan → StandsFor plan capacities names room flown rid s → flown w ≡ Some x → HasBegun plan names x → IsNextCall plan names x.operation x.group c → IsIn v (ids_of_call c) → IsTied rid v }

@@ -6,6 +6,6 @@ mod laws;
 
 pub use laws::{
     answers_are_events, answers_may_come, beginnings_are_events, ends_are_told,
-    groups_begin_in_place, keys_wait_or_begin, next_calls_are_due, next_calls_are_known,
-    nothing_stands_for, rows_stand_for, the_same_stands_for, views_go_over, workers_rest,
+    groups_begin_in_place, keys_wait_or_begin, next_calls_are_known, nothing_stands_for,
+    rows_stand_for, the_same_stands_for, tied_calls_are_due, views_go_over, workers_rest,
 };

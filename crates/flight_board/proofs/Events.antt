@@ -15,7 +15,7 @@ use Rattle.registry_laws.specs.Ending.{ended_names}
 use Rattle.registry_laws.specs.Flown.{Flown, due_for}
 use Rattle.registry_laws.specs.Making.{TookFor, with_group_begun}
 use Rattle.flight_board.specs.Applied.{Entries, HasSameRows, KeepsOthers, row_at}
-use Rattle.flight_board.specs.Board.{BoardState, FlightState, Follows, IsBegunFor, IsPrepared, IsTakenFor, IsUnflown, flight_at, flight_on, operation_in}
+use Rattle.flight_board.specs.Board.{BoardState, FlightState, BoardFollows, IsBegunFor, IsPrepared, IsTakenFor, IsUnflown, flight_at, flight_on, operation_in}
 use Rattle.flight_board.proofs.Kept.{IsOperationOf, starts-as}
 use Rattle.flight_board.proofs.Places.{Under, on-other, on-same, set-same}
 
@@ -62,7 +62,7 @@ module _ (b : BoardState) (w : ℕ) (below : w < length b.flights) where
 -- ---- what follows
 
 -- what follows from a board follows from one with the same rows and the same operations of other workers
-pub follows-from : (w : ℕ) (x : Flown) (names : Names) (room : RoomState) (old mid new : BoardState) → mid.plan ≡ old.plan → HasSameRows old.applied mid.applied → ((v : ℕ) → (v ≡ w → ⊥) → flight_at mid v ≡ flight_at old v) → Follows w x names room mid new → Follows w x names room old new
+pub follows-from : (w : ℕ) (x : Flown) (names : Names) (room : RoomState) (old mid new : BoardState) → mid.plan ≡ old.plan → HasSameRows old.applied mid.applied → ((v : ℕ) → (v ≡ w → ⊥) → flight_at mid v ≡ flight_at old v) → BoardFollows w x names room mid new → BoardFollows w x names room old new
 follows-from w x names room old mid new plan rows flights h =
     let k = x.operation.key in record {
       others = record {
@@ -83,7 +83,7 @@ module _ (b : BoardState) (w : ℕ) (f : FlightState) where
   x = f.flown
 
   -- an operation goes on
-  pub goes-on : (fs : Under) → w < length b.flights → fs ≡ set b.flights w (Some f) → (due_for b.plan b.names x ≡ [] → ⊥) → Follows w x b.names b.room b (record { plan = b.plan; names = b.names; room = b.room; applied = b.applied; flights = fs })
+  pub goes-on : (fs : Under) → w < length b.flights → fs ≡ set b.flights w (Some f) → (due_for b.plan b.names x ≡ [] → ⊥) → BoardFollows w x b.names b.room b (record { plan = b.plan; names = b.names; room = b.room; applied = b.applied; flights = fs })
   goes-on fs below is some = record {
     others = record { plan = refl; flights = λ v apart. ap (λ l. flight_on l v) is ∙ on-other b.flights w v (Some f) apart; rows = λ q apart. refl };
     more = λ _. record { row = refl; flying = ap (λ l. option_map (λ z. z.flown) (flight_on l w)) is ∙ ap (option_map (λ z. z.flown)) (on-same b.flights w (Some f) below); names_are = refl; room_is = refl };
@@ -91,7 +91,7 @@ module _ (b : BoardState) (w : ℕ) (f : FlightState) where
   }
 
   -- an operation ends
-  pub ends : (names : Names) (room : RoomState) (applied : Entries) → flight_at b w ≡ None → due_for b.plan b.names x ≡ [] → names ≡ ended_names b.names w x.operation.key (row_at b.applied x.operation.key) x.operation.new → GivesBack b.room w room → row_at applied x.operation.key ≡ x.operation.new → KeepsOthers x.operation.key b.applied applied → Follows w x b.names b.room b (record { plan = b.plan; names = names; room = room; applied = applied; flights = b.flights })
+  pub ends : (names : Names) (room : RoomState) (applied : Entries) → flight_at b w ≡ None → due_for b.plan b.names x ≡ [] → names ≡ ended_names b.names w x.operation.key (row_at b.applied x.operation.key) x.operation.new → GivesBack b.room w room → row_at applied x.operation.key ≡ x.operation.new → KeepsOthers x.operation.key b.applied applied → BoardFollows w x b.names b.room b (record { plan = b.plan; names = names; room = room; applied = applied; flights = b.flights })
   ends names room applied free none names_are room_is row others = record {
     others = record { plan = refl; flights = λ v apart. refl; rows = others.rows };
     more = λ some. absurd (some none);
@@ -102,28 +102,28 @@ module _ (b : BoardState) (w : ℕ) (f : FlightState) where
 
 module _ (plan : Ports) (names : Names) (room : RoomState) (used : List ℕ) (w : ℕ) (k : Key) (new : Option Row) (names' : Names) (room' : RoomState) where
   -- what a start tells, of the row and the answer as they are known
-  pub told : (seen old : Option Row) (a a' : Result FlightState Wait) → seen ≡ old → a ≡ a' → IsStartedBy plan names room used w k seen new (answered operation_in a) names' room' → IsStartedBy plan names room used w k old new (answered operation_in a') names' room'
-  told seen old a a' same is h = subst (λ z. IsStartedBy plan names room used w k old new (answered operation_in z) names' room') is (subst (λ o. IsStartedBy plan names room used w k o new (answered operation_in a) names' room') same h)
+  pub started_operation_told : (seen old : Option Row) (a a' : Result FlightState Wait) → seen ≡ old → a ≡ a' → IsStartedBy plan names room used w k seen new (answered operation_in a) names' room' → IsStartedBy plan names room used w k old new (answered operation_in a') names' room'
+  started_operation_told seen old a a' same is h = subst (λ z. IsStartedBy plan names room used w k old new (answered operation_in z) names' room') is (subst (λ o. IsStartedBy plan names room used w k o new (answered operation_in a) names' room') same h)
 
   pub operation-is : (old : Option Row) (f : Operation) → IsStartedBy plan names room used w k old new (Ok f) names' room' → IsOperationOf w k new f
   operation-is old f h = subst (IsOperationOf w k new) (sym h.1) (starts-as (begun_names plan names w k old new) w k old new (first_due plan names k old new) (leaving plan k old new))
 
 module _ (old mid new : BoardState) (used : List ℕ) (w : ℕ) (k : Key) (row : Option Row) (free : IsUnflown old k) where
-  pub begun-ok : (f : FlightState) → IsStartedBy old.plan old.names old.room used w k (row_at old.applied k) row (Ok f.flown.operation) mid.names mid.room → f.flown.group ≡ None → f.flown.operation.worker ≡ w → mid.plan ≡ old.plan → HasSameRows old.applied mid.applied → mid.flights ≡ old.flights → Follows f.flown.operation.worker f.flown mid.names mid.room mid new → IsBegunFor old used w k row (Ok tt) new
+  pub begun-ok : (f : FlightState) → IsStartedBy old.plan old.names old.room used w k (row_at old.applied k) row (Ok f.flown.operation) mid.names mid.room → f.flown.group ≡ None → f.flown.operation.worker ≡ w → mid.plan ≡ old.plan → HasSameRows old.applied mid.applied → mid.flights ≡ old.flights → BoardFollows f.flown.operation.worker f.flown mid.names mid.room mid new → IsBegunFor old used w k row (Ok tt) new
   begun-ok f h group worker plan rows flights follows =
       let from = follows-from f.flown.operation.worker f.flown mid.names mid.room old mid new plan rows (λ v apart. ap (λ l. flight_on l v) flights) follows in
-      let here = subst (λ n. Follows n f.flown mid.names mid.room old new) worker from in
-      (free, f.flown.operation, mid.names, mid.room, h, subst (λ g. Follows w (record { operation = f.flown.operation; group = g }) mid.names mid.room old new) group here)
+      let here = subst (λ n. BoardFollows n f.flown mid.names mid.room old new) worker from in
+      (free, f.flown.operation, mid.names, mid.room, h, subst (λ g. BoardFollows w (record { operation = f.flown.operation; group = g }) mid.names mid.room old new) group here)
 
   pub begun-err : (wait : Wait) → IsStartedBy old.plan old.names old.room used w k (row_at old.applied k) row (Err wait) new.names new.room → new.plan ≡ old.plan → HasSameRows old.applied new.applied → new.flights ≡ old.flights → IsBegunFor old used w k row (Err wait) new
   begun-err wait h plan rows flights = (record { plan = plan; names = h.1; room = h.2; flights = flights; rows = rows }, inr (free, h.0))
 
 -- ---- an answer
 
-pub taken : (old mid new : BoardState) (w : ℕ) (made : Option Vid) (f g : FlightState) → flight_on old.flights w ≡ Some f → g.flown.operation.worker ≡ w → TookFor f.flown.operation f.flown.group made old.names g.flown mid.names → mid.plan ≡ old.plan → mid.applied ≡ old.applied → mid.room ≡ old.room → mid.flights ≡ set old.flights w None → Follows g.flown.operation.worker g.flown mid.names mid.room mid new → IsTakenFor old w made new
-taken old mid new w made f g at worker took plan applied room flights follows = λ x e.
+pub took_event : (old mid new : BoardState) (w : ℕ) (made : Option Vid) (f g : FlightState) → flight_on old.flights w ≡ Some f → g.flown.operation.worker ≡ w → TookFor f.flown.operation f.flown.group made old.names g.flown mid.names → mid.plan ≡ old.plan → mid.applied ≡ old.applied → mid.room ≡ old.room → mid.flights ≡ set old.flights w None → BoardFollows g.flown.operation.worker g.flown mid.names mid.room mid new → IsTakenFor old w made new
+took_event old mid new w made f g at worker took plan applied room flights follows = λ x e.
     let is : Some f.flown ≡ Some x = sym (ap (λ o. option_map (λ z. z.flown) o) at) ∙ e in
     let same : f.flown ≡ x = cc in
     let from = follows-from g.flown.operation.worker g.flown mid.names mid.room old mid new plan (λ q. ap (λ es. row_at es q) applied) (λ v apart. ap (λ l. flight_on l v) flights ∙ on-other old.flights w v None (λ h. apart (h ∙ sym worker))) follows in
-    let here = subst (λ n. Follows n g.flown mid.names mid.room old new) worker from in
-    (g.flown, mid.names, subst (λ z. TookFor z.operation z.group made old.names g.flown mid.names) same took, subst (λ r. Follows w g.flown mid.names r old new) room here)
+    let here = subst (λ n. BoardFollows n g.flown mid.names mid.room old new) worker from in
+    (g.flown, mid.names, subst (λ z. TookFor z.operation z.group made old.names g.flown mid.names) same took, subst (λ r. BoardFollows w g.flown mid.names r old new) room here)

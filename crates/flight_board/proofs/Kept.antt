@@ -19,31 +19,31 @@ use Rattle.registry_laws.specs.Ending.{named_by}
 use Rattle.registry_laws.specs.Flown.{Flown}
 use Rattle.registry_laws.specs.Making.{TookFor, with_group_begun}
 use Rattle.flight_board.specs.Applied.{Entries, HasPlace, KeepsOthers, row_at}
-use Rattle.flight_board.specs.Board.{AreKept, FlightState, HasKeyAt, IsBegun, IsKeptFlight, flight_on}
+use Rattle.flight_board.specs.Board.{AreKept, FlightState, HasKeyAt, IsFlightBegun, IsKeptFlight, flight_on}
 use Rattle.flight_board.proofs.Places.{Under, held-by, holds, put-by, taken-by}
 
 -- ---- of one worker
 
 -- an operation of the same worker, of the same key and to the same row
-pub record IsAlike (f g : Operation) : Type 0 where
+pub record IsSameOperation (f g : Operation) : Type 0 where
   pub worker : g.worker ≡ f.worker
   pub key : g.key ≡ f.key
   pub new : g.new ≡ f.new
 
-pub alike-itself : (f : Operation) → IsAlike f f
+pub alike-itself : (f : Operation) → IsSameOperation f f
 alike-itself f = record { worker = refl; key = refl; new = refl }
 
-took-row : (f f' : Operation) (made : Option Vid) (names names' : Names) → IsTook f made names f' names' → IsAlike f f'
-took-row f f' made names names' t = subst (IsAlike f) (sym t.operation) (by _ t.change t.rest f.leaves)
+took-row : (f f' : Operation) (made : Option Vid) (names names' : Names) → IsTook f made names f' names' → IsSameOperation f f'
+took-row f f' made names names' t = subst (IsSameOperation f) (sym t.operation) (by _ t.change t.rest f.leaves)
   where
-    by : (ns : Names) (c : Change) (rest : List Change) (leaves : Option Owner) → IsAlike f (operation_by ns f c rest leaves)
+    by : (ns : Names) (c : Change) (rest : List Change) (leaves : Option Owner) → IsSameOperation f (operation_by ns f c rest leaves)
     by ns c [] (Some o) = record { worker = refl; key = refl; new = refl }
     by ns c [] None = record { worker = refl; key = refl; new = refl }
     by ns c (d ∷ ds) leaves = record { worker = refl; key = refl; new = refl }
 
-pub took-alike : (f : Operation) (g : Option GroupOperation) (made : Option Vid) (names : Names) (x : Flown) (names' : Names) → TookFor f g made names x names' → IsAlike f x.operation
-took-alike f None made names x names' h = subst (λ z. IsAlike f z.operation) (sym h.2) (took-row f h.0 made names names' h.1)
-took-alike f (Some g) made names x names' h = subst (λ z. IsAlike f z.operation) (sym h.2) (alike-itself f)
+pub took-alike : (f : Operation) (g : Option GroupOperation) (made : Option Vid) (names : Names) (x : Flown) (names' : Names) → TookFor f g made names x names' → IsSameOperation f x.operation
+took-alike f None made names x names' h = subst (λ z. IsSameOperation f z.operation) (sym h.2) (took-row f h.0 made names names' h.1)
+took-alike f (Some g) made names x names' h = subst (λ z. IsSameOperation f z.operation) (sym h.2) (alike-itself f)
 
 -- what an operation starts as
 pub record IsOperationOf (w : ℕ) (k : Key) (new : Option Row) (f : Operation) : Type 0 where
@@ -57,12 +57,12 @@ starts-as names w k old new [] None = record { worker = refl; key = refl; row = 
 starts-as names w k old new (c ∷ cs) leaves = record { worker = refl; key = refl; row = refl }
 
 -- a group's operation that begins, or does not for want of memory
-pub prepared-alike : {E : Type 0} (plan : Ports) (names : Names) (f g : FlightState) (r : Result (Unit {0}) E) → OnOk r (g ≡ record { named = f.named; shared = f.shared; flown = with_group_begun plan names f.flown }) → OnErr r (g ≡ f) → (g.named ≡ f.named) × (g.shared ≡ f.shared) × IsAlike f.flown.operation g.flown.operation
-prepared-alike plan names f g (Ok _) is h = (ap (λ z. z.named) is, ap (λ z. z.shared) is, subst (λ z. IsAlike f.flown.operation z.flown.operation) (sym is) (alike-itself f.flown.operation))
-prepared-alike plan names f g (Err _) h is = (ap (λ z. z.named) is, ap (λ z. z.shared) is, subst (λ z. IsAlike f.flown.operation z.flown.operation) (sym is) (alike-itself f.flown.operation))
+pub prepared-alike : {E : Type 0} (plan : Ports) (names : Names) (f g : FlightState) (r : Result (Unit {0}) E) → OnOk r (g ≡ record { named = f.named; shared = f.shared; flown = with_group_begun plan names f.flown }) → OnErr r (g ≡ f) → (g.named ≡ f.named) × (g.shared ≡ f.shared) × IsSameOperation f.flown.operation g.flown.operation
+prepared-alike plan names f g (Ok _) is h = (ap (λ z. z.named) is, ap (λ z. z.shared) is, subst (λ z. IsSameOperation f.flown.operation z.flown.operation) (sym is) (alike-itself f.flown.operation))
+prepared-alike plan names f g (Err _) h is = (ap (λ z. z.named) is, ap (λ z. z.shared) is, subst (λ z. IsSameOperation f.flown.operation z.flown.operation) (sym is) (alike-itself f.flown.operation))
 
 module _ (plan : Ports) (applied : Entries) (w : ℕ) where
-  pub kept-alike : (f g : FlightState) → g.named ≡ f.named → g.shared ≡ f.shared → IsAlike f.flown.operation g.flown.operation → IsKeptFlight plan applied w f → IsKeptFlight plan applied w g
+  pub kept-alike : (f g : FlightState) → g.named ≡ f.named → g.shared ≡ f.shared → IsSameOperation f.flown.operation g.flown.operation → IsKeptFlight plan applied w f → IsKeptFlight plan applied w g
   kept-alike f g named shared same is = record {
     worker = same.worker ∙ is.worker;
     named = named ∙ is.named ∙ ap (λ k. map name.Row (named_by k (row_at applied k))) (sym same.key);
@@ -70,7 +70,7 @@ module _ (plan : Ports) (applied : Entries) (w : ℕ) where
     placed = subst (HasPlace applied) (sym same.key) is.placed;
   }
 
-  pub kept-begun : (k : Key) (new : Option Row) (f : FlightState) → IsOperationOf w k new f.flown.operation → IsBegun plan k (row_at applied k) new f → HasPlace applied k → IsKeptFlight plan applied w f
+  pub kept-begun : (k : Key) (new : Option Row) (f : FlightState) → IsOperationOf w k new f.flown.operation → IsFlightBegun plan k (row_at applied k) new f → HasPlace applied k → IsKeptFlight plan applied w f
   kept-begun k new f is begun placed = record {
     worker = is.worker;
     named = begun.named ∙ ap (λ q. map name.Row (named_by q (row_at applied q))) (sym is.key);
@@ -102,8 +102,8 @@ module _ (plan : Ports) (applied : Entries) (fs : Under) (w : ℕ) where
     abbrev IsPut : ℕ → FlightState → Type 0
     IsPut v g = ((v ≡ w) × (f ≡ g)) ⊎ (flight_on fs v ≡ Some g)
 
-    put : (v : ℕ) (g : FlightState) → flight_on (set fs w (Some f)) v ≡ Some g → IsPut v g
-    put v g e = put-by fs w f v g (within below kept) e
+    flight_put_back : (v : ℕ) (g : FlightState) → flight_on (set fs w (Some f)) v ≡ Some g → IsPut v g
+    flight_put_back v g e = put-by fs w f v g (within below kept) e
 
     each : (v : ℕ) (g : FlightState) → IsPut v g → IsKeptFlight plan applied v g
     each v g (inl h) = subst (λ z. IsKeptFlight plan applied z g) (sym h.0) (subst (IsKeptFlight plan applied w) h.1 is)
@@ -118,12 +118,12 @@ module _ (plan : Ports) (applied : Entries) (fs : Under) (w : ℕ) where
     pub kept-with : AreKept plan applied (set fs w (Some f))
     kept-with = record {
       four = length-set fs w (Some f) ∙ kept.four;
-      each = λ v g e. each v g (put v g e);
-      apart = λ v u g h e d same. apart v u g h (put v g e) (put u h d) same;
+      each = λ v g e. each v g (flight_put_back v g e);
+      apart = λ v u g h e d same. apart v u g h (flight_put_back v g e) (flight_put_back u h d) same;
     }
 
 -- what is put back after it was taken out is alike
-pub kept-back : (plan : Ports) (applied : Entries) (fs : Under) (w : ℕ) (f g : FlightState) → w < 4 → AreKept plan applied fs → flight_on fs w ≡ Some f → g.named ≡ f.named → g.shared ≡ f.shared → IsAlike f.flown.operation g.flown.operation → AreKept plan applied (set (set fs w None) w (Some g))
+pub kept-back : (plan : Ports) (applied : Entries) (fs : Under) (w : ℕ) (f g : FlightState) → w < 4 → AreKept plan applied fs → flight_on fs w ≡ Some f → g.named ≡ f.named → g.shared ≡ f.shared → IsSameOperation f.flown.operation g.flown.operation → AreKept plan applied (set (set fs w None) w (Some g))
 kept-back plan applied fs w f g below kept at named shared same =
     kept-with plan applied (set fs w None) w g below (kept-alike plan applied w f g named shared same (kept.each w f at)) (λ v h. free-without plan applied fs w f below kept at v (subst (λ k. HasKeyAt (set fs w None) k v) same.key h)) (kept-without plan applied fs w below kept)
 

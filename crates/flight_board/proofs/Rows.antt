@@ -3,11 +3,11 @@ use Rattle.std.proofs.Common.{◌≡◌, Bool, true, false, cond, Option, None, 
 use Rattle.std.proofs.lemmas.Bool.{false≢true}
 use Rattle.std.specs.BTreeMap.{is_at}
 use Rattle.std.specs.Map.{lookup}
+use Rattle.swss_types.proofs.Tied.{tied}
 use Rattle.table_schema.specs.Key.{key_cmp}
 use Rattle.table_schema.specs.declared.key.Key.{Key}
 use Rattle.table_schema.specs.declared.row.Row.{Row}
 use Rattle.table_schema.proofs.Keys.{key_exact}
-use Rattle.switch_model.proofs.Tied.{tied}
 use Rattle.flight_board.specs.Applied.{Entries, HasSameRows, KeepsOthers, row_at, row_in}
 
 abbrev pub found : Entries → Key → Option (Option Row)

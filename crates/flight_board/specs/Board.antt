@@ -63,7 +63,7 @@ flown_at b w = option_map (λ f. f.flown) (flight_at b w)
 -- ---- what holds of each flight
 
 -- one that begins: it has to do with no group yet, and keeps the names of the rows that the key's old row names, and what its new row shares
-pub record IsBegun (plan : Ports) (k : Key) (old new : Option Row) (f : FlightState) : Type 0 where
+pub record IsFlightBegun (plan : Ports) (k : Key) (old new : Option Row) (f : FlightState) : Type 0 where
   pub group : f.flown.group ≡ None
   pub named : f.named ≡ map name.Row (named_by k old)
   pub shared : uses_of plan k new ≡ owners_of f.shared
@@ -84,7 +84,7 @@ pub record AreKept (plan : Ports) (applied : Entries) (flights : List (Option Fl
 -- ---- what follows in an event
 
 -- the other workers' operations, and the applied rows of other keys, are as they were
-pub record LeavesOthers (w : ℕ) (k : Key) (old new : BoardState) : Type 0 where
+pub record LeavesOtherFlights (w : ℕ) (k : Key) (old new : BoardState) : Type 0 where
   pub plan : new.plan ≡ old.plan
   pub flights : (v : ℕ) → (v ≡ w → ⊥) → flight_at new v ≡ flight_at old v
   pub rows : (q : Key) → (q ≡ k → ⊥) → row_at new.applied q ≡ row_at old.applied q
@@ -104,8 +104,8 @@ pub record EndsNow (w : ℕ) (x : Flown) (names : Names) (room : RoomState) (old
   pub room_is : GivesBack room w new.room
 
 -- what follows at once: an operation for which something is due goes on, and one for which nothing is ends
-pub record Follows (w : ℕ) (x : Flown) (names : Names) (room : RoomState) (old new : BoardState) : Type 0 where
-  pub others : LeavesOthers w x.operation.key old new
+pub record BoardFollows (w : ℕ) (x : Flown) (names : Names) (room : RoomState) (old new : BoardState) : Type 0 where
+  pub others : LeavesOtherFlights w x.operation.key old new
   pub more : (due_for old.plan names x ≡ [] → ⊥) → GoesOn w x names room old new
   pub over : due_for old.plan names x ≡ [] → EndsNow w x names room old new
 
@@ -133,7 +133,7 @@ IsBegunFor old used w k row (Err reason) new =
     IsSameBoard old new × (((v : ℕ) × IsFlownAt old k v × (reason ≡ wait.Busy v)) ⊎ (IsUnflown old k × (wait_of old.plan old.names old.room used w k (row_at old.applied k) row ≡ Some reason)))
 IsBegunFor old used w k row (Ok _) new =
     IsUnflown old k × (f : Operation) × (names : Names) × (room : RoomState) × IsStartedBy old.plan old.names old.room used w k (row_at old.applied k) row (Ok f) names room
-    × Follows w (record { operation = f; group = None }) names room old new
+    × BoardFollows w (record { operation = f; group = None }) names room old new
 
 -- ---- calls and their effects
 
@@ -147,7 +147,7 @@ pub record IsPrepared (old : BoardState) (w : ℕ) (new : BoardState) : Type 0 w
   pub others : (v : ℕ) → (v ≡ w → ⊥) → flight_at new v ≡ flight_at old v
 
 -- the next call can be told: something is due, of the group or else of the row's operation, and the registry knows the identifiers that the call needs
-pub record IsReady (plan : Ports) (names : Names) (x : Flown) : Type 0 where
+pub record IsCallReady (plan : Ports) (names : Names) (x : Flown) : Type 0 where
   pub plans : IsPlan plan
   pub over : IsOver plan x.operation
   pub group_over : (g : GroupOperation) → x.group ≡ Some g → IsGroupOver plan g
@@ -157,4 +157,4 @@ pub record IsReady (plan : Ports) (names : Names) (x : Flown) : Type 0 where
 
 -- the call that was due for a worker has taken effect
 abbrev pub IsTakenFor : BoardState → ℕ → Option Vid → BoardState → Type 0
-IsTakenFor old w made new = (x : Flown) → flown_at old w ≡ Some x → (x' : Flown) × (names : Names) × TookFor x.operation x.group made old.names x' names × Follows w x' names old.room old new
+IsTakenFor old w made new = (x : Flown) → flown_at old w ≡ Some x → (x' : Flown) × (names : Names) × TookFor x.operation x.group made old.names x' names × BoardFollows w x' names old.room old new

@@ -4,7 +4,7 @@ ghost use Rattle.orch_flight.specs.Sharing.{MayStart};
 ghost use Rattle.registry_laws.specs.Flown.{Flown};
 ghost use Rattle.registry_laws.specs.Making.{IsNextCall, MayTakeFor};
 ghost use Rattle.flight_board.specs.Applied.{row_at};
-ghost use Rattle.flight_board.specs.Board.{Follows, IsBegunFor, IsFlownAt, IsKeptFlight, IsPrepared, IsReady, IsSameBoard, IsTakenFor, IsUnflown, flight_at, flown_at, new_board};
+ghost use Rattle.flight_board.specs.Board.{BoardFollows, IsBegunFor, IsFlownAt, IsKeptFlight, IsPrepared, IsCallReady, IsSameBoard, IsTakenFor, IsUnflown, flight_at, flown_at, new_board};
 
 use crate::applied::AppliedRows;
 use crate::flight::Flight;
@@ -146,7 +146,7 @@ impl Board {
     /// The call that is due for a worker that has something under way.
     pub fn next(&self, worker: u32) -> Result<Call<Vid>, OutOfMemory>
         requires worker { worker < 4 }
-        requires flying { (x : Flown) × (flown_at self.now worker ≡ Some x) × IsReady self.now.plan self.now.names x }
+        requires flying { (x : Flown) × (flown_at self.now worker ≡ Some x) × IsCallReady self.now.plan self.now.names x }
         ensures { IfOk result (λ call. (x : Flown) → flown_at self.now worker ≡ Some x → IsNextCall self.now.plan self.now.names x.operation x.group call) }
     {
         match self.workers.get(worker) {
@@ -174,7 +174,7 @@ impl Board {
         requires kept { IsKeptFlight self.old.plan self.old.applied flight.flown.operation.worker flight }
         requires none { flight_at self.old flight.flown.operation.worker ≡ None }
         requires unflown { IsUnflown self.old flight.flown.operation.key }
-        ensures { Follows flight.flown.operation.worker flight.flown self.old.names self.old.room self.old self.new }
+        ensures { BoardFollows flight.flown.operation.worker flight.flown self.old.names self.old.room self.old self.new }
     {
         let worker = flight.worker();
         if flight.is_over(&self.registry) {

@@ -9,7 +9,7 @@ ghost use Rattle.registry_laws.specs.Ending.{ended_names, named_by};
 ghost use Rattle.registry_laws.specs.Flown.{due_for, group_to_build, group_to_take};
 ghost use Rattle.registry_laws.specs.Making.{IsNextCall, MayTakeFor, TookFor, group_begun, left_of_group_by, with_group_begun};
 ghost use Rattle.flight_board.specs.Applied.{HasPlace, KeepsOthers, row_at};
-ghost use Rattle.flight_board.specs.Board.{IsBegun, IsReady, operation_in};
+ghost use Rattle.flight_board.specs.Board.{IsFlightBegun, IsCallReady, operation_in};
 
 use crate::applied::AppliedRows;
 use crate::ending::{drop_users, end_row};
@@ -65,7 +65,7 @@ impl Flight {
     ) -> Result<Result<Flight, Wait>, OutOfMemory>
         requires may { MayStart plan.now reg.old worker key.now (option_map (λ r. r.now) old) new }
         ensures started { IfOk result (λ answer. IsStartedBy plan.now reg.old room.old used.now worker key.now (option_map (λ r. r.now) old.entry) new (answered operation_in answer) reg.new room.new) }
-        ensures begun { IfOk result (λ answer. IfOk answer (IsBegun plan.now key.now (option_map (λ r. r.now) old.entry) new)) }
+        ensures begun { IfOk result (λ answer. IfOk answer (IsFlightBegun plan.now key.now (option_map (λ r. r.now) old.entry) new)) }
         ensures err { OnErr result (reg.new ≡ reg.old) }
         ensures err_room { OnErr result (room.new ≡ room.old) }
     {
@@ -173,8 +173,8 @@ impl Flight {
 
     /// The call that is due.
     pub fn next(&self, reg: &Registry) -> Result<Call<Vid>, OutOfMemory>
-        requires { (plan : Ports) × IsReady plan reg.now self.now.flown }
-        ensures { IfOk result (λ call. (plan : Ports) → IsReady plan reg.now self.now.flown → IsNextCall plan reg.now self.now.flown.operation self.now.flown.group call) }
+        requires { (plan : Ports) × IsCallReady plan reg.now self.now.flown }
+        ensures { IfOk result (λ call. (plan : Ports) → IsCallReady plan reg.now self.now.flown → IsNextCall plan reg.now self.now.flown.operation self.now.flown.group call) }
     {
         match &self.group {
             Some(group) => Ok(call_in(group.next(reg)?)),

@@ -1,10 +1,12 @@
 -- each object that stands has its identifier when a change of a row's operation has taken effect
 use Rattle.std.proofs.Common.{◌≡◌, ◌⊎◌, ◌∙◌, inl, inr, ℕ, Bool, true, false, List, [], Option, None, Some, option_map, refl, sym, ap, subst}
 use Rattle.std.proofs.lemmas.Bool.{false≢true}
+use Rattle.std.proofs.lemmas.Option.{same_Some}
 use Rattle.table_schema.specs.Plan.{IsPlan, Ports, port_named}
 use Rattle.table_schema.specs.declared.key.Key.{Key}
 use Rattle.table_schema.specs.declared.key.Key.TheVariants as key
 use Rattle.swss_types.specs.declared.address.Ip.{Ip}
+use Rattle.swss_types.proofs.Proper.{mapped}
 use Rattle.sai_types.specs.declared.hop.Hop.{Hop}
 use Rattle.sai_types.specs.declared.ids.Rid.{Rid}
 use Rattle.sai_types.specs.declared.ids.Vid.{Vid}
@@ -12,7 +14,7 @@ use Rattle.sai_types.specs.declared.thing.Thing.{Thing}
 use Rattle.sai_types.specs.declared.thing.Thing.TheVariants as thing
 use Rattle.sai_types.specs.Named.{first_lane}
 use Rattle.sai_types.specs.Names as thing_name
-use Rattle.sai_types.specs.Names.{Name, name_kind, name_of}
+use Rattle.sai_types.specs.Names.{ThingName, name_kind, name_of}
 use Rattle.sai_types.specs.Objects.{Objects}
 use Rattle.chip_layout.specs.Bodies.{is_numbered}
 use Rattle.chip_layout.specs.Layout.{Has, IsLaidOut, Layout, has_number, listed, with_changed, with_thing, without}
@@ -20,8 +22,8 @@ use Rattle.row_layout.specs.Operations.{Make, Take}
 use Rattle.row_layout.specs.Rows as owner
 use Rattle.row_layout.specs.Rows.{Owner, interface_on}
 use Rattle.switch_machine.specs.Consistent.{IsConsistent}
-use Rattle.switch_machine.specs.Flights.{CanMake, CanTake, Flight, IsFinal, IsOwnedBy, IsShared, Machine, StandsIn}
-use Rattle.switch_machine.specs.Tables.{Tables}
+use Rattle.switch_machine.specs.Flights.{CanMake, CanTake, MachineFlight, IsFinal, IsOwnedBy, IsShared, Machine, StandsIn}
+use Rattle.switch_machine.specs.Tables.{TableLaws}
 use Rattle.switch_machine.proofs.Moving.{fit_of}
 use Rattle.switch_machine.proofs.Running.{shared_row, some_owner}
 use Rattle.switch_machine.proofs.Splits.{own_row_in, use_row_in}
@@ -35,7 +37,7 @@ use Rattle.orch_flight.specs.Needing.{name_for}
 use Rattle.orch_flight.specs.Taking.{built_name, made_names, taken_names, to_list}
 use Rattle.registry_laws.specs.Flown.{Flown}
 use Rattle.registry_laws.proofs.Finding.{gone_off}
-use Rattle.registry_laws.proofs.Listing.{mapped, not_some, same_some}
+use Rattle.registry_laws.proofs.Listing.{not_some}
 use Rattle.identifier_laws.specs.Identified.{BuildsGroups, Identified, IsVidOf, KeepsTies, TiesAfter}
 use Rattle.identifier_laws.proofs.Ids.{ids_live, ids_off}
 use Rattle.identifier_laws.proofs.Known.{vid_one}
@@ -89,10 +91,10 @@ made_numbered k _ o e = inl refl
 
 module _ (plan : Ports) where
   -- it belongs to no group
-  abbrev IsAlone : Name → Type 0
+  abbrev IsAlone : ThingName → Type 0
   IsAlone n = (hops : List Hop) → IsOwnedBy plan n (owner.Group hops) → ⊥
 
-  first_alone : (n : Name) → IsAlone n → IsFirst n
+  first_alone : (n : ThingName) → IsAlone n → IsFirst n
   first_alone (thing_name.GroupMember hops hop) alone = alone hops refl
   first_alone _ alone = tt
 
@@ -111,7 +113,7 @@ module _ (plan : Ports) where
   made_some k (thing.GroupMember hops hop) o of whose numbered alone = absurd (alone hops refl)
   made_some k _ o of whose numbered alone = absurd (false≢true numbered)
 
-  unnumbered_vid : (names : Names) (n : Name) (v : Vid) → is_numbered (name_kind n) ≡ false → HasVid plan names n v → ⊥
+  unnumbered_vid : (names : Names) (n : ThingName) (v : Vid) → is_numbered (name_kind n) ≡ false → HasVid plan names n v → ⊥
   unnumbered_vid names (thing_name.Own ip) v h x = not_some v x
   unnumbered_vid names (thing_name.Neighbor hop) v h x = not_some v x
   unnumbered_vid names (thing_name.Route prefix) v h x = not_some v x
@@ -121,11 +123,11 @@ module _ (plan : Ports) (is : IsPlan plan) (m : Machine) (sound : IsConsistent p
   abbrev L : Layout Rid
   L = listed m.stands
 
-  T : Tables plan
+  T : TableLaws plan
   T = tabled plan is
 
   -- a thing has an identifier that is tied to its object
-  abbrev pub HasTied : Names → Name → Rid → Type 0
+  abbrev pub HasTied : Names → ThingName → Rid → Type 0
   HasTied names' n i = (v : Vid) × IsVidOf plan names' flown n v × (rid' v ≡ Some i)
 
   pub tied_kept : (names' : Names) (i : Rid) (t : Thing) → L i t → has_number t ≡ true → ((o : Owner) → IsOwnedBy plan (name_of t) o → ids_of names' (name_for o) ≡ ids_of names (name_for o)) → ((v : Vid) → IsVidOf plan names flown (name_of t) v → rid v ≡ Some i → rid' v ≡ Some i) → HasTied names' (name_of t) i
@@ -135,7 +137,7 @@ module _ (plan : Ports) (is : IsPlan plan) (m : Machine) (sound : IsConsistent p
 
   -- ---- a thing is made
 
-  module _ (w : ℕ) (f : Flight) (flying : m.board.flights w ≡ Some f) (t : Thing) (can : CanMake plan f (StandsIn m) t) (made : Option Vid) (i : Rid) (alone : IsAlone plan (name_of t)) (builds : (n : registry_name.Name) → built_name f.key t ≡ Some n → (v : ℕ) × (state_of names n ≡ state.Building v)) (ties : TiesAfter plan names rid rid' (Make t) made i) where
+  module _ (w : ℕ) (f : MachineFlight) (flying : m.board.flights w ≡ Some f) (t : Thing) (can : CanMake plan f (StandsIn m) t) (made : Option Vid) (i : Rid) (alone : IsAlone plan (name_of t)) (builds : (n : registry_name.Name) → built_name f.key t ≡ Some n → (v : ℕ) × (state_of names n ≡ state.Building v)) (ties : TiesAfter plan names rid rid' (Make t) made i) where
     abbrev later : Names
     later = made_names names f.key t made
 
@@ -179,7 +181,7 @@ module _ (plan : Ports) (is : IsPlan plan) (m : Machine) (sound : IsConsistent p
 
   -- ---- a thing is taken away
 
-  module _ (builds : BuildsGroups names flown) (f : Flight) (n : Name) (can : CanTake plan f (StandsIn m) n) where
+  module _ (builds : BuildsGroups names flown) (f : MachineFlight) (n : ThingName) (can : CanTake plan f (StandsIn m) n) where
     -- what is taken away has an identifier of its own
     pub other_vid : (j : Rid) (u : Thing) → L j u → has_number u ≡ true → (name_of u ≡ n → ⊥) → (v : Vid) → rid v ≡ Some j → HasVid plan names n v → ⊥
     other_vid j u h numbered other v tie has = by (is_numbered (name_kind n)) refl can.there
@@ -190,13 +192,13 @@ module _ (plan : Ports) (is : IsPlan plan) (m : Machine) (sound : IsConsistent p
             let number : has_number x ≡ true = ap (λ z. is_numbered (name_kind z)) same ∙ e in
             let y = known.each i x at number in
             let vids = vid_one plan names flown builds n v y.0 has (subst (λ z. IsVidOf plan names flown z y.0) same y.1) in
-            let ids : i ≡ j = same_some i j (sym y.2 ∙ sym (ap rid vids) ∙ tie) in
+            let ids : i ≡ j = same_Some i j (sym y.2 ∙ sym (ap rid vids) ∙ tie) in
             other (ap name_of (laid.ids j u x h (subst (λ z. L z x) ids at) numbered number) ∙ same)
 
     taken_off : (u : Thing) → has_number u ≡ true → (name_of u ≡ n → ⊥) → (o : Owner) → IsOwnedBy plan (name_of u) o → ids_of (taken_names names n) (name_for o) ≡ ids_of names (name_for o)
     taken_off u numbered other o of = by n other
       where
-        by : (l : Name) → (name_of u ≡ l → ⊥) → ids_of (taken_names names l) (name_for o) ≡ ids_of names (name_for o)
+        by : (l : ThingName) → (name_of u ≡ l → ⊥) → ids_of (taken_names names l) (name_for o) ≡ ids_of names (name_for o)
         by (thing_name.BridgePort lane) apart = ap ids_in (gone_off names (owner.Bridge lane) o (λ e. apart (one_name plan is (name_of u) (thing_name.BridgePort lane) o numbered refl (λ hops x. no_group lane hops (e ∙ x)) of (ap Some e))))
           where
             no_group : (lane : ℕ) (hops : List Hop) → owner.Bridge lane ≡ owner.Group hops → ⊥

@@ -9,7 +9,7 @@ use Rattle.sai_types.specs.declared.body.Entry.TheVariants as entry
 use Rattle.sai_types.specs.declared.thing.Thing.{Thing}
 use Rattle.sai_types.specs.declared.thing.Thing.TheVariants as thing
 use Rattle.sai_types.specs.After.{has_id}
-use Rattle.sai_types.specs.Names.{Name, name_of}
+use Rattle.sai_types.specs.Names.{ThingName, name_of}
 use Rattle.chip_layout.specs.Bodies.{body_with}
 use Rattle.chip_layout.specs.Layout.{has_number}
 use Rattle.orch_flight.specs.Calling.{IsMaking, IsTaking, entry_by}
@@ -18,24 +18,24 @@ number_with : (t : Thing) (i j : Vid) → has_id (body_with t i j) ≡ has_numbe
 number_with (thing.Port p) i j = refl
 number_with _ i j = refl
 
-bodies : (a b : Body Vid) → call.Create a ≡ call.Create b → a ≡ b
-bodies a b e = cc
+created_bodies : (a b : Body Vid) → call.Create a ≡ call.Create b → a ≡ b
+created_bodies a b e = cc
 
-entries : (a b : Entry Vid) → call.Remove a ≡ call.Remove b → a ≡ b
-entries a b e = cc
+removed_entries : (a b : Entry Vid) → call.Remove a ≡ call.Remove b → a ≡ b
+removed_entries a b e = cc
 
-entry_with : (t : Thing) (v i j u : Vid) → entry_by v (body_with t i j) ≡ entry.Oid u → (has_number t ≡ true) × (v ≡ u)
-entry_with (thing.Own ip) v i j u e = absurd cc
-entry_with (thing.Neighbor hop mac) v i j u e = absurd cc
-entry_with (thing.Route prefix goal) v i j u e = absurd cc
-entry_with _ v i j u e = let same : v ≡ u = cc in (refl, same)
+entry_by_with : (t : Thing) (v i j u : Vid) → entry_by v (body_with t i j) ≡ entry.Oid u → (has_number t ≡ true) × (v ≡ u)
+entry_by_with (thing.Own ip) v i j u e = absurd cc
+entry_by_with (thing.Neighbor hop mac) v i j u e = absurd cc
+entry_by_with (thing.Route prefix goal) v i j u e = absurd cc
+entry_by_with _ v i j u e = let same : v ≡ u = cc in (refl, same)
 
-module _ (at : Name → Vid → Type 0) where
+module _ (at : ThingName → Vid → Type 0) where
   pub made_number : (t : Thing) (c : Call Vid) (b : Body Vid) → IsMaking at t c → c ≡ call.Create b → has_id b ≡ has_number t
-  made_number t c b x e = ap has_id (bodies b x.body (sym e ∙ x.is) ∙ x.of.body_is) ∙ number_with t x.of.first x.of.second
+  made_number t c b x e = ap has_id (created_bodies b x.body (sym e ∙ x.is) ∙ x.of.body_is) ∙ number_with t x.of.first x.of.second
 
-  pub taken_entry : (things : List Thing) (n : Name) (c : Call Vid) (v : Vid) → IsTaking at things n c → c ≡ call.Remove (entry.Oid v) → at n v
+  pub taken_entry : (things : List Thing) (n : ThingName) (c : Call Vid) (v : Vid) → IsTaking at things n c → c ≡ call.Remove (entry.Oid v) → at n v
   taken_entry things n c v x e =
-      let same = sym (x.of.is ∙ ap (entry_by x.of.id) x.of.of.body_is) ∙ entries x.entry (entry.Oid v) (sym x.is ∙ e) in
-      let y = entry_with x.old x.of.id x.of.of.first x.of.of.second v same in
+      let same = sym (x.of.is ∙ ap (entry_by x.of.id) x.of.of.body_is) ∙ removed_entries x.entry (entry.Oid v) (sym x.is ∙ e) in
+      let y = entry_by_with x.old x.of.id x.of.of.first x.of.of.second v same in
       subst (λ z. at z v) x.same (subst (at (name_of x.old)) y.1 (x.of.numbered y.0))

@@ -9,7 +9,7 @@ use Rattle.sai_types.specs.declared.ids.Vid.{Vid}
 use Rattle.sai_types.specs.declared.thing.Thing.{Thing}
 use Rattle.sai_types.specs.Alike.{IsIn}
 use Rattle.sai_types.specs.Named.{hop_cmp}
-use Rattle.sai_types.specs.Names.{Name, name_of}
+use Rattle.sai_types.specs.Names.{ThingName, name_of}
 use Rattle.chip_layout.specs.Layout.{Layout, has_number, listed, with_thing, without}
 use Rattle.row_layout.specs.Operations.{Change, Make, Take, make_all}
 use Rattle.row_layout.specs.Rows as owner
@@ -17,8 +17,8 @@ use Rattle.row_layout.specs.Rows.{Owner}
 use Rattle.row_layout.specs.Shared.{shared_things}
 use Rattle.switch_machine.specs.Changes.{after, changed_by}
 use Rattle.switch_machine.specs.Events.{IsAnswer, IsSafe, SwitchState}
-use Rattle.switch_machine.specs.Flights.{Can, CanMake, CanTake, Flight, IsOwnedBy, Runs, StandsIn}
-use Rattle.switch_machine.specs.Tables.{Tables}
+use Rattle.switch_machine.specs.Flights.{Can, CanMake, CanTake, MachineFlight, IsOwnedBy, Runs, StandsIn}
+use Rattle.switch_machine.specs.Tables.{TableLaws}
 use Rattle.switch_machine.proofs.Moving.{fit_of}
 use Rattle.switch_machine.proofs.Ordered.{group_rising}
 use Rattle.switch_machine.proofs.Running.{shared_of}
@@ -44,10 +44,10 @@ module _ (plan : Ports) (is : IsPlan plan) (workers : ℕ) (capacities : List �
   abbrev L : Layout Rid
   L = listed s.machine.stands
 
-  T : Tables plan
+  T : TableLaws plan
   T = tabled plan is
 
-  abbrev F : Flight
+  abbrev F : MachineFlight
   F = x.next.flight
 
   abbrev later : Names
@@ -125,7 +125,7 @@ module _ (plan : Ports) (is : IsPlan plan) (workers : ℕ) (capacities : List �
 
   -- ---- the group goes
 
-  module _ (b : g.builds ≡ false) (n : Name) (change : x.next.change ≡ Take n) (of : IsOwnedBy plan n (owner.Group g.hops)) (retires : x.next.flight.retires ≡ Some (owner.Group g.hops)) (all : s.machine.due x.next.worker ≡ g.due) where
+  module _ (b : g.builds ≡ false) (n : ThingName) (change : x.next.change ≡ Take n) (of : IsOwnedBy plan n (owner.Group g.hops)) (retires : x.next.flight.retires ≡ Some (owner.Group g.hops)) (all : s.machine.due x.next.worker ≡ g.due) where
     can_take : CanTake plan F (StandsIn s.machine) n
     can_take = subst (Can plan F (StandsIn s.machine)) change runs.0
 
@@ -178,5 +178,5 @@ module _ (plan : Ports) (is : IsPlan plan) (workers : ℕ) (capacities : List �
         subst IsPartlyBuilt (sym took.operation) (still_part plan is workers capacities s t call x kept names rid rid' flown known builds g made took.rest took_due ties flown' at b part on'),
       )
 
-  pub taken_took : g.builds ≡ false → (n : Name) → x.next.change ≡ Take n → IsOwnedBy plan n (owner.Group g.hops) → x.next.flight.retires ≡ Some (owner.Group g.hops) → s.machine.due x.next.worker ≡ g.due → Identified plan names' rid' flown t.machine.stands
+  pub taken_took : g.builds ≡ false → (n : ThingName) → x.next.change ≡ Take n → IsOwnedBy plan n (owner.Group g.hops) → x.next.flight.retires ≡ Some (owner.Group g.hops) → s.machine.due x.next.worker ≡ g.due → Identified plan names' rid' flown t.machine.stands
   taken_took b n change of retires all = subst (λ z. Identified plan z rid' flown t.machine.stands) (sym took.names_are) (taken_identified plan is workers capacities s t call x kept names rid rid' flown known builds g made took.rest took_due ties b n change of retires all)

@@ -8,7 +8,7 @@ use Rattle.sai_types.specs.declared.thing.Thing.{Thing}
 use Rattle.sai_types.specs.declared.thing.Thing.TheVariants as thing
 use Rattle.sai_types.specs.Named.{hop_cmp}
 use Rattle.sai_types.specs.Names as thing_name
-use Rattle.sai_types.specs.Names.{Name, name_of}
+use Rattle.sai_types.specs.Names.{ThingName, name_of}
 use Rattle.row_layout.specs.Operations.{Change}
 use Rattle.row_layout.specs.Rows as owner
 use Rattle.row_layout.specs.Rows.{Owner}
@@ -37,13 +37,13 @@ grown g made rest = record { worker = g.worker; hops = g.hops; builds = g.builds
 
 module _ (plan : Ports) where
   -- an identifier that a group's operation has is of its group, or the registry's
-  sort_vid : (names : Names) (g : GroupOperation) (n : Name) (v : Vid) → HasGroupVid plan names g n v → HasVid plan names n v ⊎ IsOwnedBy plan n (owner.Group g.hops)
+  sort_vid : (names : Names) (g : GroupOperation) (n : ThingName) (v : Vid) → HasGroupVid plan names g n v → HasVid plan names n v ⊎ IsOwnedBy plan n (owner.Group g.hops)
   sort_vid names g (thing_name.Group hops) v x = inr (ap (λ z. Some (owner.Group z)) x.0)
   sort_vid names g (thing_name.GroupMember hops hop) v x = inr (ap (λ z. Some (owner.Group z)) x.0)
   sort_vid names g _ v x = inl x
 
   -- the registry has them under the group's name
-  group_vid_as : (names names' : Names) (g : GroupOperation) (n : Name) (v : Vid) → group_ids names g ≡ ids_of names' (name.Group g.hops) → IsOwnedBy plan n (owner.Group g.hops) → HasGroupVid plan names g n v → HasVid plan names' n v
+  group_vid_as : (names names' : Names) (g : GroupOperation) (n : ThingName) (v : Vid) → group_ids names g ≡ ids_of names' (name.Group g.hops) → IsOwnedBy plan n (owner.Group g.hops) → HasGroupVid plan names g n v → HasVid plan names' n v
   group_vid_as names names' g n v same of x = by (group_names plan n g.hops of)
     where
       by : (n ≡ thing_name.Group g.hops) ⊎ ((hop : Hop) × (n ≡ thing_name.GroupMember g.hops hop)) → HasVid plan names' n v
@@ -55,7 +55,7 @@ module _ (plan : Ports) where
           ap (vid_at plan names') e ∙ ap (λ z. member_vid g.hops hop (members_ids z)) (sym same) ∙ y.1
 
   -- more are made
-  vid_grown : (names names' : Names) (g h : GroupOperation) (n : Name) (v : Vid) (more : List Vid) → h.hops ≡ g.hops → group_ids names' h ≡ group_ids names g ++ more → IsOwnedBy plan n (owner.Group g.hops) → HasGroupVid plan names g n v → HasGroupVid plan names' h n v
+  vid_grown : (names names' : Names) (g h : GroupOperation) (n : ThingName) (v : Vid) (more : List Vid) → h.hops ≡ g.hops → group_ids names' h ≡ group_ids names g ++ more → IsOwnedBy plan n (owner.Group g.hops) → HasGroupVid plan names g n v → HasGroupVid plan names' h n v
   vid_grown names names' g h n v more hops ids of x = by (group_names plan n g.hops of)
     where
       by : (n ≡ thing_name.Group g.hops) ⊎ ((hop : Hop) × (n ≡ thing_name.GroupMember g.hops hop)) → HasGroupVid plan names' h n v
@@ -92,7 +92,7 @@ module _ (plan : Ports) (names : Names) (flown flown' : ℕ → Option Flown) (b
       by (c ∷ cs) = refl
 
   -- what the operation has, the registry has at the end
-  own_vid : (n : Name) (v : Vid) → IsOwnedBy plan n (owner.Group g.hops) → HasGroupVid plan later next n v → IsVidOf plan later flown' n v
+  own_vid : (n : ThingName) (v : Vid) → IsOwnedBy plan n (owner.Group g.hops) → HasGroupVid plan later next n v → IsVidOf plan later flown' n v
   own_vid n v of x = by rest refl
     where
       end : (z : Bool) → g.builds ≡ z → z ≡ true → ids_of (cond z (changed names (name.Group g.hops) (made_live (with_made g made))) (gone_from names (name.Group g.hops))) (name.Group g.hops) ≡ with_made g made
@@ -109,7 +109,7 @@ module _ (plan : Ports) (names : Names) (flown flown' : ℕ → Option Flown) (b
           none h = cc
 
   -- an identifier that there was
-  pub old_vid : (n : Name) (v : Vid) → IsVidOf plan names flown n v → IsVidOf plan later flown' n v
+  pub old_vid : (n : ThingName) (v : Vid) → IsVidOf plan names flown n v → IsVidOf plan later flown' n v
   old_vid n v (inl x) = inl (vid_same plan names later n (λ o of. later_off o (λ e. no_group_vid plan names n g.hops v (of ∙ ap Some (sym e)) no_ids_yet x)) ∙ x)
   old_vid n v (inr x) = by (nat_split x.worker w)
     where

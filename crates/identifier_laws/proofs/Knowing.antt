@@ -6,6 +6,7 @@ use Rattle.table_schema.specs.declared.key.Key.TheVariants as key
 use Rattle.table_schema.specs.declared.row.Row.{Row}
 use Rattle.table_schema.specs.declared.row.Row.TheVariants as row
 use Rattle.swss_types.specs.declared.interface.IfName.{IfName}
+use Rattle.swss_types.proofs.Proper.{mapped}
 use Rattle.sai_types.specs.declared.hop.Hop.{Hop}
 use Rattle.sai_types.specs.declared.ids.Rid.{Rid}
 use Rattle.sai_types.specs.declared.ids.Vid.{Vid}
@@ -14,7 +15,7 @@ use Rattle.sai_types.specs.declared.thing.Thing.{Thing}
 use Rattle.sai_types.specs.declared.thing.Thing.TheVariants as thing
 use Rattle.sai_types.specs.Alike.{IsIn}
 use Rattle.sai_types.specs.Names as thing_name
-use Rattle.sai_types.specs.Names.{Name, name_kind, name_of}
+use Rattle.sai_types.specs.Names.{ThingName, name_kind, name_of}
 use Rattle.chip_layout.specs.Bodies.{IsAt, is_numbered}
 use Rattle.sai_types.specs.Objects.{Objects}
 use Rattle.chip_layout.specs.Layout.{Has, IsLaidOut, listed}
@@ -24,9 +25,9 @@ use Rattle.row_layout.specs.Rows.{Owner, goal_of, interface_on, own_things}
 use Rattle.row_layout.specs.Shared.{shared_things}
 use Rattle.row_layout.proofs.Members.{from_in}
 use Rattle.switch_machine.specs.Changes.{IsSamePort, Resembles}
-use Rattle.switch_machine.specs.Flights.{Can, CanMake, Flight, Goes, HasName, IsFinal, IsOwnedBy, IsShared, Machine, Runs, StandsIn}
+use Rattle.switch_machine.specs.Flights.{Can, CanMake, MachineFlight, Goes, HasName, IsFinal, IsOwnedBy, IsShared, Machine, Runs, StandsIn}
 use Rattle.switch_machine.specs.Consistent.{IsConsistent}
-use Rattle.switch_machine.specs.Tables.{Tables}
+use Rattle.switch_machine.specs.Tables.{TableLaws}
 use Rattle.switch_machine.proofs.Moving.{fit_of}
 use Rattle.switch_machine.proofs.Running.{row_keys, settable_name, shared_row, some_owner}
 use Rattle.switch_machine.proofs.Splits.{own_row_in, use_row_in}
@@ -41,27 +42,26 @@ use Rattle.registry_laws.specs.Answering.{IsOfGroup}
 use Rattle.registry_laws.specs.Flown.{Flown}
 use Rattle.registry_laws.specs.Known.{SharedStands}
 use Rattle.registry_laws.specs.Registers.{KnowsNames}
-use Rattle.registry_laws.proofs.Listing.{mapped}
 use Rattle.identifier_laws.specs.Identified.{BuildsGroups, Identified, IsUnderWay, IsVidOf}
 use Rattle.identifier_laws.proofs.Needing.{IsKnown, RowsKnown, SharedKnown, both_known, entered_by, entered_other, pointed_known, referred_known, shared_referred}
 use Rattle.identifier_laws.proofs.Owning.{IsFirst, vid_by}
 use Rattle.identifier_laws.proofs.Telling.{neighbor_first}
 
 -- an identifier of what is of no group that is built is the registry's
-free_built : (plan : Ports) (names : Names) (g : GroupOperation) (n : Name) (v : Vid) (o : Owner) → IsFirst n → IsOwnedBy plan n o → (o ≡ owner.Group g.hops → ⊥) → HasGroupVid plan names g n v → HasVid plan names n v
+free_built : (plan : Ports) (names : Names) (g : GroupOperation) (n : ThingName) (v : Vid) (o : Owner) → IsFirst n → IsOwnedBy plan n o → (o ≡ owner.Group g.hops → ⊥) → HasGroupVid plan names g n v → HasVid plan names n v
 free_built plan names g (thing_name.Group hops) v o first of free x = absurd (free (sym (some_owner (owner.Group hops) o of) ∙ ap owner.Group x.0))
 free_built plan names g (thing_name.GroupMember hops hop) v o first of free x = elim first [ ]
 free_built plan names g _ v o first of free x = x
 
 module _ (plan : Ports) (is : IsPlan plan) (m : Machine) (sound : IsConsistent plan m) (names : Names) (rid : Vid → Option Rid) (flown : ℕ → Option Flown) (known : Identified plan names rid flown m.stands) where
-  T : Tables plan
+  T : TableLaws plan
   T = tabled plan is
 
   -- no operation builds it
   abbrev pub IsBuiltByNone : Owner → Type 0
   IsBuiltByNone o = (v : ℕ) (g : GroupOperation) → IsUnderWay flown v g → g.builds ≡ true → o ≡ owner.Group g.hops → ⊥
 
-  pub standing_vid : (n : Name) (o : Owner) → is_numbered (name_kind n) ≡ true → IsFirst n → IsOwnedBy plan n o → IsBuiltByNone o → HasName (StandsIn m) n → (v : Vid) × HasVid plan names n v
+  pub standing_vid : (n : ThingName) (o : Owner) → is_numbered (name_kind n) ≡ true → IsFirst n → IsOwnedBy plan n o → IsBuiltByNone o → HasName (StandsIn m) n → (v : Vid) × HasVid plan names n v
   standing_vid n o numbered first of free (u, (i, h), same) =
       let x = known.each i u h (ap (λ z. is_numbered (name_kind z)) same ∙ numbered) in
       (x.0, by x.0 (subst (λ z. IsVidOf plan names flown z x.0) same x.1))
@@ -70,17 +70,17 @@ module _ (plan : Ports) (is : IsPlan plan) (m : Machine) (sound : IsConsistent p
       by v (inl x) = x
       by v (inr x) = free_built plan names x.group n v o first of (free x.worker x.group x.under_way x.builds) x.of
 
-  pub stands_known : (n : Name) (o : Owner) → is_numbered (name_kind n) ≡ true → IsFirst n → IsOwnedBy plan n o → IsBuiltByNone o → HasName (StandsIn m) n → IsKnown names (name_for o)
+  pub stands_known : (n : ThingName) (o : Owner) → is_numbered (name_kind n) ≡ true → IsFirst n → IsOwnedBy plan n o → IsBuiltByNone o → HasName (StandsIn m) n → IsKnown names (name_for o)
   stands_known n o numbered first of free there =
       let x = standing_vid n o numbered first of free there in
       ap is_some (sym (vid_by plan names n o numbered first of) ∙ x.1)
 
-  pub no_row : (k : Key) → IsBuiltByNone (owner.OfRow k)
-  no_row k v g at builds e = cc
+  pub row_built_by_none : (k : Key) → IsBuiltByNone (owner.OfRow k)
+  row_built_by_none k v g at builds e = cc
 
-  module _ (w : ℕ) (f : Flight) (flying : m.board.flights w ≡ Some f) where
+  module _ (w : ℕ) (f : MachineFlight) (flying : m.board.flights w ≡ Some f) where
     rows_known : (r : Row) → f.new ≡ Some r → RowsKnown plan names f.key r
-    rows_known r new p n i own numbered first = stands_known n (owner.OfRow p) numbered first (T.names_own p n own) (no_row p) (sound.present p n (sound.board.named f.key p r (inr (w, f, flying, refl, new)) i) own)
+    rows_known r new p n i own numbered first = stands_known n (owner.OfRow p) numbered first (T.names_own p n own) (row_built_by_none p) (sound.present p n (sound.board.named f.key p r (inr (w, f, flying, refl, new)) i) own)
 
     module _ (free : (o : Owner) → IsIn o (uses_of plan f.key f.new) → IsBuiltByNone o) where
       shared_known : (r : Row) → f.new ≡ Some r → ((o : Owner) (x : Thing) → IsIn o (uses_of plan f.key f.new) → IsIn x (shared_things o) → StandsIn m x) → SharedKnown plan names f.key r
@@ -102,23 +102,23 @@ module _ (plan : Ports) (is : IsPlan plan) (m : Machine) (sound : IsConsistent p
       -- ---- an attribute is set, and a thing is taken away
 
       -- an own thing's name, or one of what is shared but for a group
-      row_entered : (k : Key) (n : Name) (o : Owner) → is_numbered (name_kind n) ≡ true → IsFirst n → IsOwnedBy plan n o → (p : Key) × (owner.OfRow p ≡ o) → (o ≡ owner.OfRow k) ⊎ IsShared o → HasName (StandsIn m) n → HaveIds names (name.Row k ∷ [])
-      row_entered k n o numbered first of row (inl same) there = (stands_known n (owner.OfRow k) numbered first (of ∙ ap Some same) (no_row k) there, tt)
+      row_entered : (k : Key) (n : ThingName) (o : Owner) → is_numbered (name_kind n) ≡ true → IsFirst n → IsOwnedBy plan n o → (p : Key) × (owner.OfRow p ≡ o) → (o ≡ owner.OfRow k) ⊎ IsShared o → HasName (StandsIn m) n → HaveIds names (name.Row k ∷ [])
+      row_entered k n o numbered first of row (inl same) there = (stands_known n (owner.OfRow k) numbered first (of ∙ ap Some same) (row_built_by_none k) there, tt)
       row_entered k n o numbered first of row (inr shared) there = absurd (shared_row o row.0 shared (sym row.1))
 
-      as_is : (k : Key) (n : Name) → ((hop : Hop) → n ≡ thing_name.Neighbor hop → ⊥) → HaveIds names (entered_by k n) → HaveIds names (entered k n)
+      as_is : (k : Key) (n : ThingName) → ((hop : Hop) → n ≡ thing_name.Neighbor hop → ⊥) → HaveIds names (entered_by k n) → HaveIds names (entered k n)
       as_is k n other h = subst (HaveIds names) (sym (entered_other k n other)) h
 
       of_row : {X : Type 0} (o : Owner) (x : Option X) (g : X → Key) → option_map (λ z. owner.OfRow (g z)) x ≡ Some o → (p : Key) × (owner.OfRow p ≡ o)
       of_row o x g h = let y = mapped (λ z. owner.OfRow (g z)) x o h in (g y.0, y.2)
 
-      entered_known : (k : Key) (n : Name) (o : Owner) → IsOwnedBy plan n o → (o ≡ owner.OfRow k) ⊎ IsShared o → ((hops : List Hop) → o ≡ owner.Group hops → ⊥) → HasName (StandsIn m) n → ((hop : Hop) → n ≡ thing_name.Neighbor hop → HasName (StandsIn m) (thing_name.Rif hop.on)) → HaveIds names (entered k n)
+      entered_known : (k : Key) (n : ThingName) (o : Owner) → IsOwnedBy plan n o → (o ≡ owner.OfRow k) ⊎ IsShared o → ((hops : List Hop) → o ≡ owner.Group hops → ⊥) → HasName (StandsIn m) n → ((hop : Hop) → n ≡ thing_name.Neighbor hop → HasName (StandsIn m) (thing_name.Rif hop.on)) → HaveIds names (entered k n)
       entered_known k (thing_name.Neighbor hop) o of whose alone there rif =
           let x = mapped (λ i. owner.OfRow (key.Neigh i hop.ip)) (interface_on plan hop.on) o of in
           by x.0 x.1 x.2 whose
         where
           by : (i : IfName) → interface_on plan hop.on ≡ Some i → owner.OfRow (key.Neigh i hop.ip) ≡ o → (o ≡ owner.OfRow k) ⊎ IsShared o → HaveIds names (entered k (thing_name.Neighbor hop))
-          by i at e (inl same) = subst (λ z. HaveIds names (entered z (thing_name.Neighbor hop))) (row_keys (key.Neigh i hop.ip) k (e ∙ same)) (stands_known (thing_name.Rif hop.on) (owner.OfRow (key.Intf i)) refl tt (ap (option_map (λ j. owner.OfRow (key.Intf j))) at) (no_row (key.Intf i)) (rif hop refl), tt)
+          by i at e (inl same) = subst (λ z. HaveIds names (entered z (thing_name.Neighbor hop))) (row_keys (key.Neigh i hop.ip) k (e ∙ same)) (stands_known (thing_name.Rif hop.on) (owner.OfRow (key.Intf i)) refl tt (ap (option_map (λ j. owner.OfRow (key.Intf j))) at) (row_built_by_none (key.Intf i)) (rif hop refl), tt)
           by i at e (inr shared) = absurd (shared_row o (key.Neigh i hop.ip) shared (sym e))
       entered_known k (thing_name.Port lane) o of whose alone there rif = as_is k (thing_name.Port lane) (λ hop e. cc) (row_entered k (thing_name.Port lane) o refl tt of (of_row o (port_named plan lane) key.Port of) whose there)
       entered_known k (thing_name.Vlan vlan) o of whose alone there rif = as_is k (thing_name.Vlan vlan) (λ hop e. cc) (row_entered k (thing_name.Vlan vlan) o refl tt of (key.Vlan vlan, some_owner _ o of) whose there)
@@ -151,7 +151,7 @@ module _ (plan : Ports) (is : IsPlan plan) (m : Machine) (sound : IsConsistent p
 
     module _ (objects : Objects) (laid : IsLaidOut (listed m.stands) objects) (free : (o : Owner) → IsIn o (uses_of plan f.key f.new) → IsBuiltByNone o) where
       -- the interface of a neighbour that stands
-      rif_there : (n : Name) → HasName (StandsIn m) n → (hop : Hop) → n ≡ thing_name.Neighbor hop → HasName (StandsIn m) (thing_name.Rif hop.on)
+      rif_there : (n : ThingName) → HasName (StandsIn m) n → (hop : Hop) → n ≡ thing_name.Neighbor hop → HasName (StandsIn m) (thing_name.Rif hop.on)
       rif_there n (u, (i, h), same) hop e =
           let b = laid.stand i u h in
           let on : Has (listed m.stands) (thing_name.Rif hop.on) b.1.first = subst (λ o. IsAt (Has (listed m.stands)) o b.1.first) (neighbor_first u hop (same ∙ e)) b.1.first_at in
@@ -174,7 +174,7 @@ module _ (plan : Ports) (is : IsPlan plan) (m : Machine) (sound : IsConsistent p
               entered_known free f.key n o of (inr (T.are_shared f.key was.row o was.used)) (λ hops e. alone (hops, of ∙ ap Some e)) can.there (rif_there n can.there)
 
   -- no other operation builds what its new row shares
-  free_of : (w : ℕ) (f : Flight) → m.board.flights w ≡ Some f → KnowsNames plan names m → BuildsGroups names flown → ((g : GroupOperation) → IsUnderWay flown w g → g.builds ≡ true → ⊥) → (o : Owner) → IsIn o (uses_of plan f.key f.new) → IsBuiltByNone o
+  free_of : (w : ℕ) (f : MachineFlight) → m.board.flights w ≡ Some f → KnowsNames plan names m → BuildsGroups names flown → ((g : GroupOperation) → IsUnderWay flown w g → g.builds ≡ true → ⊥) → (o : Owner) → IsIn o (uses_of plan f.key f.new) → IsBuiltByNone o
   free_of w f flying stages builds none o used v g at b e = by (subst (SharedStands plan m (owner.Group g.hops)) (builds.building v g at b) (stages.shared (owner.Group g.hops) tt).stands)
     where
       by : SharedStands plan m (owner.Group g.hops) (state.Building v) → ⊥
@@ -183,5 +183,5 @@ module _ (plan : Ports) (is : IsPlan plan) (m : Machine) (sound : IsConsistent p
           let workers = sound.board.one w v f other flying flies keys in
           none g (subst (λ z. IsUnderWay flown z g) (sym workers) at) b
 
-  pub row_known : (objects : Objects) → IsLaidOut (listed m.stands) objects → KnowsNames plan names m → BuildsGroups names flown → (w : ℕ) (f : Flight) → m.board.flights w ≡ Some f → ((g : GroupOperation) → IsUnderWay flown w g → g.builds ≡ true → ⊥) → (c : Change) (cs : List Change) → m.due w ≡ c ∷ cs → (IsOfGroup plan c → ⊥) → HaveIds names (ids_needed f.key f.new c)
+  pub row_known : (objects : Objects) → IsLaidOut (listed m.stands) objects → KnowsNames plan names m → BuildsGroups names flown → (w : ℕ) (f : MachineFlight) → m.board.flights w ≡ Some f → ((g : GroupOperation) → IsUnderWay flown w g → g.builds ≡ true → ⊥) → (c : Change) (cs : List Change) → m.due w ≡ c ∷ cs → (IsOfGroup plan c → ⊥) → HaveIds names (ids_needed f.key f.new c)
   row_known objects laid stages builds w f flying none c cs due alone = change_known w f flying objects laid (free_of w f flying stages builds none) c (subst (Runs plan f (StandsIn m)) due (sound.runs w f flying)).0 alone

@@ -1,5 +1,6 @@
 -- what has a name has one identifier
 use Rattle.std.proofs.Common.{◌≡◌, ◌∙◌, inl, inr, ℕ, Bool, true, false, cond, List, [], ◌∷◌, Option, None, Some, refl, sym, ap, subst}
+use Rattle.std.proofs.lemmas.Option.{same_Some}
 use Rattle.table_schema.specs.Plan.{Ports}
 use Rattle.sai_types.specs.declared.hop.Hop.{Hop}
 use Rattle.sai_types.specs.declared.ids.Vid.{Vid}
@@ -11,7 +12,7 @@ use Rattle.ref_counts.specs.Registry.{Names, ids_by, ids_in, ids_of, registered_
 use Rattle.orch_flight.specs.Calling.{HasVid, member_vid, members_ids}
 use Rattle.orch_flight.specs.Grouping.{GroupOperation, HasGroupVid, group_ids}
 use Rattle.registry_laws.specs.Flown.{Flown}
-use Rattle.registry_laws.proofs.Listing.{not_some, same_some}
+use Rattle.registry_laws.proofs.Listing.{not_some}
 use Rattle.identifier_laws.specs.Identified.{BuildsGroups, IsUnderWay, IsVidOf}
 
 -- ---- a name that is built has no identifier yet
@@ -23,23 +24,23 @@ ids_building (Some r) w h = ap (λ z. ids_by z r.ids) h
 pub no_ids : (names : Names) (hops : List Hop) (w : ℕ) → state_of names (name.Group hops) ≡ state.Building w → ids_of names (name.Group hops) ≡ []
 no_ids names hops w h = ids_building (registered_at names (name.Group hops)) w h
 
-pub no_member : (hops : List Hop) (hop : Hop) → member_vid hops hop [] ≡ None
-no_member [] hop = refl
-no_member (h ∷ hops) hop = refl
+pub no_member_vid : (hops : List Hop) (hop : Hop) → member_vid hops hop [] ≡ None
+no_member_vid [] hop = refl
+no_member_vid (h ∷ hops) hop = refl
 
 module _ (plan : Ports) (names : Names) where
   -- what has an identifier of the registry is not of a group that is built
-  built_or : (g : GroupOperation) (n : thing_name.Name) (v u : Vid) → ids_of names (name.Group g.hops) ≡ [] → HasVid plan names n v → HasGroupVid plan names g n u → v ≡ u
+  built_or : (g : GroupOperation) (n : thing_name.ThingName) (v u : Vid) → ids_of names (name.Group g.hops) ≡ [] → HasVid plan names n v → HasGroupVid plan names g n u → v ≡ u
   built_or g (thing_name.Group hops) v u none x y =
       let here : ids_of names (name.Group hops) ≡ [] = ap (λ z. ids_of names (name.Group z)) y.0 ∙ none in
       not_some v (sym (ap (λ z. first_of z) here) ∙ x)
   built_or g (thing_name.GroupMember hops hop) v u none x y =
       let here : ids_of names (name.Group hops) ≡ [] = ap (λ z. ids_of names (name.Group z)) y.0 ∙ none in
-      not_some v (sym (no_member hops hop) ∙ sym (ap (λ z. member_vid hops hop (members_ids z)) here) ∙ x)
-  built_or g _ v u none x y = same_some v u (sym x ∙ y)
+      not_some v (sym (no_member_vid hops hop) ∙ sym (ap (λ z. member_vid hops hop (members_ids z)) here) ∙ x)
+  built_or g _ v u none x y = same_Some v u (sym x ∙ y)
 
   -- a group that goes has the registry's identifiers
-  pub group_goes : (g : GroupOperation) (n : thing_name.Name) (v : Vid) → g.builds ≡ false → HasGroupVid plan names g n v → HasVid plan names n v
+  pub group_goes : (g : GroupOperation) (n : thing_name.ThingName) (v : Vid) → g.builds ≡ false → HasGroupVid plan names g n v → HasVid plan names n v
   group_goes g (thing_name.Group hops) v goes x =
       let ids : group_ids names g ≡ ids_of names (name.Group g.hops) = ap (λ b. cond b g.made (ids_of names (name.Group g.hops))) goes in
       ap (λ z. first_of (ids_of names (name.Group z))) x.0 ∙ sym (ap (λ z. first_of z) ids) ∙ x.1
@@ -49,20 +50,20 @@ module _ (plan : Ports) (names : Names) where
   group_goes g _ v goes x = x
 
   -- two operations of one group are one
-  one_built : (g h : GroupOperation) (n : thing_name.Name) (v u : Vid) → (g.hops ≡ h.hops → g ≡ h) → HasGroupVid plan names g n v → HasGroupVid plan names h n u → v ≡ u
+  one_built : (g h : GroupOperation) (n : thing_name.ThingName) (v u : Vid) → (g.hops ≡ h.hops → g ≡ h) → HasGroupVid plan names g n v → HasGroupVid plan names h n u → v ≡ u
   one_built g h (thing_name.Group hops) v u one x y =
       let same = one (sym x.0 ∙ y.0) in
-      same_some v u (sym x.1 ∙ ap (λ z. first_of (group_ids names z)) same ∙ y.1)
+      same_Some v u (sym x.1 ∙ ap (λ z. first_of (group_ids names z)) same ∙ y.1)
   one_built g h (thing_name.GroupMember hops hop) v u one x y =
       let same = one (sym x.0 ∙ y.0) in
-      same_some v u (sym x.1 ∙ ap (λ z. member_vid hops hop (members_ids (group_ids names z))) same ∙ y.1)
-  one_built g h _ v u one x y = same_some v u (sym x ∙ y)
+      same_Some v u (sym x.1 ∙ ap (λ z. member_vid hops hop (members_ids (group_ids names z))) same ∙ y.1)
+  one_built g h _ v u one x y = same_Some v u (sym x ∙ y)
 
   module _ (flown : ℕ → Option Flown) (builds : BuildsGroups names flown) where
     pub one_way : (w : ℕ) (g h : GroupOperation) → IsUnderWay flown w g → IsUnderWay flown w h → g ≡ h
     one_way w g h x y =
-        let same = same_some x.0 y.0 (sym x.1 ∙ y.1) in
-        same_some g h (sym x.2 ∙ ap (λ (z : Flown). z.group) same ∙ y.2)
+        let same = same_Some x.0 y.0 (sym x.1 ∙ y.1) in
+        same_Some g h (sym x.2 ∙ ap (λ (z : Flown). z.group) same ∙ y.2)
 
     pub workers_one : (w v : ℕ) → state.Building w ≡ state.Building v → w ≡ v
     workers_one w v h = cc
@@ -73,12 +74,12 @@ module _ (plan : Ports) (names : Names) where
         let workers = workers_one w v (sym (builds.building w g x a) ∙ ap (λ z. state_of names (name.Group z)) same ∙ builds.building v h y b) in
         one_way v g h (subst (λ z. IsUnderWay flown z g) workers x) y
 
-    pub vid_one : (n : thing_name.Name) (v u : Vid) → HasVid plan names n v → IsVidOf plan names flown n u → v ≡ u
-    vid_one n v u x (inl y) = same_some v u (sym x ∙ y)
+    pub vid_one : (n : thing_name.ThingName) (v u : Vid) → HasVid plan names n v → IsVidOf plan names flown n u → v ≡ u
+    vid_one n v u x (inl y) = same_Some v u (sym x ∙ y)
     vid_one n v u x (inr y) = built_or y.group n v u (no_ids names y.group.hops y.worker (builds.building y.worker y.group y.under_way y.builds)) x y.of
 
     -- the same of the identifiers that a group's operation has
-    pub group_vid_one : (w : ℕ) (g : GroupOperation) → IsUnderWay flown w g → (n : thing_name.Name) (v u : Vid) → HasGroupVid plan names g n v → IsVidOf plan names flown n u → v ≡ u
+    pub group_vid_one : (w : ℕ) (g : GroupOperation) → IsUnderWay flown w g → (n : thing_name.ThingName) (v u : Vid) → HasGroupVid plan names g n v → IsVidOf plan names flown n u → v ≡ u
     group_vid_one w g at n v u x y = by g.builds refl y
       where
         by : (b : Bool) → g.builds ≡ b → IsVidOf plan names flown n u → v ≡ u

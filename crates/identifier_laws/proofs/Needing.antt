@@ -6,6 +6,7 @@ use Rattle.std.specs.Prelude.{IsSome}
 use Rattle.swss_types.specs.declared.address.Prefix as key_prefix
 use Rattle.swss_types.specs.declared.interface.IfName.{IfName}
 use Rattle.swss_types.specs.declared.interface.IfName.TheVariants as on
+use Rattle.swss_types.proofs.Proper.{mapped}
 use Rattle.table_schema.specs.Names.{base_names, names_of}
 use Rattle.table_schema.specs.Plan.{Ports}
 use Rattle.table_schema.specs.declared.key.Key.{Key}
@@ -25,31 +26,28 @@ use Rattle.sai_types.specs.declared.thing.Thing.TheVariants as thing
 use Rattle.sai_types.specs.Alike.{IsIn}
 use Rattle.sai_types.specs.Named.{hop_cmp}
 use Rattle.sai_types.specs.Names as thing_name
-use Rattle.sai_types.specs.Names.{Name, name_kind, name_of}
+use Rattle.sai_types.specs.Names.{ThingName, name_kind, name_of}
 use Rattle.sai_types.proofs.Things.{both_mapped}
 use Rattle.switch_model.specs.Things.{base_of, hop_of, hops_of, lane_of}
 use Rattle.chip_layout.specs.Bodies.{is_numbered}
 use Rattle.row_layout.specs.Rows as owner
-use Rattle.row_layout.specs.Rows.{Owner, from, goal_by, goal_of, own_things}
+use Rattle.row_layout.specs.Rows.{Owner, goal_by, goal_of, own_things}
 use Rattle.row_layout.specs.Shared.{group_by, shared_things, uses}
 use Rattle.row_layout.proofs.Members.{from_in, in_map, only, two}
 use Rattle.switch_machine.specs.Flights.{Fits, own_names}
-use Rattle.switch_machine.proofs.Tabled.{group_use, member_of}
+use Rattle.switch_machine.proofs.Tabled.{group_use, member_of, in_from}
 use Rattle.ref_counts.specs.declared.name.Name as registry_name
 use Rattle.ref_counts.specs.declared.name.Name.TheVariants as name
 use Rattle.ref_counts.specs.Registered.{first_of}
 use Rattle.ref_counts.specs.Registry.{Names, ids_of}
 use Rattle.orch_flight.specs.Calling.{HaveIds, entered, pointed, referred}
 use Rattle.orch_flight.specs.Needing.{name_for}
-use Rattle.registry_laws.proofs.Listing.{map_in, mapped, not_some}
+use Rattle.registry_laws.proofs.Listing.{map_in, not_some}
 use Rattle.identifier_laws.proofs.Owning.{IsFirst}
 
-in_from : {X Y : Type 0} (o : Option X) (f : X → List Y) (x : X) (y : Y) → o ≡ Some x → IsIn y (f x) → IsIn y (from o f)
-in_from o f x y at h = subst (λ z. IsIn y (from z f)) (sym at) h
-
 -- each hop of a route's row is on an interface of the plan
-hop_step : (plan : Ports) (x h : RowHop) (b : Hop) → hop_of plan x ≡ Some b → h ≡ x → (c : Base) × (base_of plan h.on ≡ Some c)
-hop_step plan x h b at same =
+same_hop_base : (plan : Ports) (x h : RowHop) (b : Hop) → hop_of plan x ≡ Some b → h ≡ x → (c : Base) × (base_of plan h.on ≡ Some c)
+same_hop_base plan x h b at same =
     let m = mapped (λ c. record { on = c; ip = x.ip }) (base_of plan x.on) b at in
     (m.0, ap (λ (z : RowHop). base_of plan z.on) same ∙ m.1)
 
@@ -57,7 +55,7 @@ hops_based : (plan : Ports) (hops : List RowHop) (group : List Hop) (h : RowHop)
 hops_based plan [] group h e i = elim i [ ]
 hops_based plan (x ∷ xs) group h e (inl same) =
     let parts = both_mapped (insert_key hop_cmp) (hops_of plan xs) (hop_of plan x) group e in
-    hop_step plan x h parts.1 parts.3 same
+    same_hop_base plan x h parts.1 parts.3 same
 hops_based plan (x ∷ xs) group h e (inr more) =
     let parts = both_mapped (insert_key hop_cmp) (hops_of plan xs) (hop_of plan x) group e in
     hops_based plan xs parts.0 h parts.2 more
@@ -76,9 +74,9 @@ group_used (Some (hop ∷ next ∷ hops)) group h = let same : hop ∷ next ∷ 
 abbrev pub IsKnown : Names → registry_name.Name → Type 0
 IsKnown names n = IsSome (first_of (ids_of names n))
 
-pub all_in : {X : Type 0} (P : X → Type 0) (xs : List X) → ((x : X) → IsIn x xs → P x) → AllByRecursion P xs
-all_in P [] each = tt
-all_in P (x ∷ xs) each = (each x (inl refl), all_in P xs (λ y h. each y (inr h)))
+pub all_from_each : {X : Type 0} (P : X → Type 0) (xs : List X) → ((x : X) → IsIn x xs → P x) → AllByRecursion P xs
+all_from_each P [] each = tt
+all_from_each P (x ∷ xs) each = (each x (inl refl), all_from_each P xs (λ y h. each y (inr h)))
 
 pub both_known : (names : Names) (ns ms : List registry_name.Name) → HaveIds names ns → HaveIds names ms → HaveIds names (ns ++ ms)
 both_known names [] ms x y = y
@@ -87,7 +85,7 @@ both_known names (n ∷ ns) ms x y = (x.0, both_known names ns ms x.1 y)
 -- of rows that this row names, and of what it shares
 module _ (plan : Ports) (names : Names) (k : Key) (r : Row) where
   abbrev pub RowsKnown : Type 0
-  RowsKnown = (p : Key) (n : Name) → IsIn p (names_of k r) → IsIn n (own_names plan p) → is_numbered (name_kind n) ≡ true → IsFirst n → IsKnown names (name.Row p)
+  RowsKnown = (p : Key) (n : ThingName) → IsIn p (names_of k r) → IsIn n (own_names plan p) → is_numbered (name_kind n) ≡ true → IsFirst n → IsKnown names (name.Row p)
 
   abbrev pub SharedKnown : Type 0
   SharedKnown = (o : Owner) (x : Thing) → IsIn o (uses plan k r) → IsIn x (shared_things o) → is_numbered (name_kind (name_of x)) ≡ true → IsFirst (name_of x) → IsKnown names (name_for o)
@@ -104,7 +102,7 @@ module _ (plan : Ports) (names : Names) where
   rif_known k r i b at h rows = (rows (key.Intf i) (thing_name.Rif b) h (in_from (base_of plan i) (λ c. thing_name.Rif c ∷ []) b (thing_name.Rif b) at (inl refl)) refl tt, tt)
 
   hops_known : (prefix : key_prefix.Prefix) (hops : List RowHop) (g : Goal) → goal_by (hops_of plan hops) ≡ Some g → RowsKnown plan names (key.Route prefix) (row.Route (route.Hops hops)) → HaveIds names (map (λ h. name.Row (key.Neigh h.on h.ip)) hops)
-  hops_known prefix hops g at rows = all_in (IsKnown names) (map (λ (h : RowHop). name.Row (key.Neigh h.on h.ip)) hops) (λ n i. by n (map_in (λ (h : RowHop). name.Row (key.Neigh h.on h.ip)) n hops i))
+  hops_known prefix hops g at rows = all_from_each (IsKnown names) (map (λ (h : RowHop). name.Row (key.Neigh h.on h.ip)) hops) (λ n i. by n (map_in (λ (h : RowHop). name.Row (key.Neigh h.on h.ip)) n hops i))
     where
       group : (group : List Hop) × (hops_of plan hops ≡ Some group)
       group = some_hops (hops_of plan hops) g at
@@ -169,13 +167,13 @@ module _ (plan : Ports) (names : Names) where
 -- ---- by what a thing is named itself
 
 -- but for a neighbour, which is named by its interface
-abbrev pub entered_by : Key → Name → List registry_name.Name
+abbrev pub entered_by : Key → ThingName → List registry_name.Name
 entered_by k (thing_name.BridgePort lane) = name.BridgePort lane ∷ []
 entered_by k (thing_name.Own ip) = []
 entered_by k (thing_name.Route prefix) = []
 entered_by k n = name.Row k ∷ []
 
-pub entered_other : (k : Key) (n : Name) → ((hop : Hop) → n ≡ thing_name.Neighbor hop → ⊥) → entered k n ≡ entered_by k n
+pub entered_other : (k : Key) (n : ThingName) → ((hop : Hop) → n ≡ thing_name.Neighbor hop → ⊥) → entered k n ≡ entered_by k n
 entered_other (key.Neigh i ip) (thing_name.Neighbor hop) other = absurd (other hop refl)
 entered_other (key.Neigh i ip) _ other = refl
 entered_other k n other = refl

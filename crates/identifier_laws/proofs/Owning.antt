@@ -1,13 +1,15 @@
 -- the identifiers of a thing are kept under the name of its owner
 use Rattle.std.proofs.Common.{◌≡◌, ◌⊎◌, ◌∙◌, inl, inr, true, List, [], Option, None, Some, option_map, refl, sym, ap, subst}
 use Rattle.std.proofs.lemmas.Bool.{false≢true}
+use Rattle.std.proofs.lemmas.Option.{same_Some}
+use Rattle.swss_types.proofs.Proper.{mapped}
 use Rattle.table_schema.specs.Plan.{Ports, port_named}
 use Rattle.table_schema.specs.declared.key.Key.{Key}
 use Rattle.table_schema.specs.declared.key.Key.TheVariants as key
 use Rattle.sai_types.specs.declared.hop.Hop.{Hop}
 use Rattle.sai_types.specs.declared.ids.Vid.{Vid}
 use Rattle.sai_types.specs.Names as thing_name
-use Rattle.sai_types.specs.Names.{Name, name_kind}
+use Rattle.sai_types.specs.Names.{ThingName, name_kind}
 use Rattle.chip_layout.specs.Bodies.{is_numbered}
 use Rattle.row_layout.specs.Rows as owner
 use Rattle.row_layout.specs.Rows.{Owner, interface_on}
@@ -18,11 +20,11 @@ use Rattle.ref_counts.specs.Registry.{Names, ids_of}
 use Rattle.orch_flight.specs.Calling.{HasVid, member_vid, members_ids, row_vid, vid_at}
 use Rattle.orch_flight.specs.Grouping.{GroupOperation, HasGroupVid}
 use Rattle.orch_flight.specs.Needing.{name_for}
-use Rattle.registry_laws.proofs.Listing.{mapped, not_some, same_some}
-use Rattle.identifier_laws.proofs.Known.{no_member}
+use Rattle.registry_laws.proofs.Listing.{not_some}
+use Rattle.identifier_laws.proofs.Known.{no_member_vid}
 
 -- it is not one of the members of a group: its identifier is the first that its owner's name has
-abbrev pub IsFirst : Name → Type 0
+abbrev pub IsFirst : ThingName → Type 0
 IsFirst (thing_name.GroupMember hops hop) = ⊥
 IsFirst _ = Unit {0}
 
@@ -34,9 +36,9 @@ module _ (plan : Ports) where
         ap (λ z. row_vid names (option_map f z)) m.1 ∙ ap (λ z. first_of (ids_of names (name_for z))) m.2
 
     first_by : (p o : Owner) → Some p ≡ Some o → first_of (ids_of names (name_for p)) ≡ first_of (ids_of names (name_for o))
-    first_by p o h = ap (λ z. first_of (ids_of names (name_for z))) (same_some p o h)
+    first_by p o h = ap (λ z. first_of (ids_of names (name_for z))) (same_Some p o h)
 
-    pub vid_by : (n : Name) (o : Owner) → is_numbered (name_kind n) ≡ true → IsFirst n → IsOwnedBy plan n o → vid_at plan names n ≡ first_of (ids_of names (name_for o))
+    pub vid_by : (n : ThingName) (o : Owner) → is_numbered (name_kind n) ≡ true → IsFirst n → IsOwnedBy plan n o → vid_at plan names n ≡ first_of (ids_of names (name_for o))
     vid_by (thing_name.Port lane) o numbered first h = row_by (port_named plan lane) key.Port o h
     vid_by (thing_name.Vlan vlan) o numbered first h = first_by _ o h
     vid_by (thing_name.BridgePort lane) o numbered first h = first_by _ o h
@@ -53,7 +55,7 @@ module _ (plan : Ports) where
     row_same None f same = refl
     row_same (Some z) f same = ap first_of (same (owner.OfRow (f z)) refl)
 
-    pub vid_same : (n : Name) → ((o : Owner) → IsOwnedBy plan n o → ids_of names' (name_for o) ≡ ids_of names (name_for o)) → vid_at plan names' n ≡ vid_at plan names n
+    pub vid_same : (n : ThingName) → ((o : Owner) → IsOwnedBy plan n o → ids_of names' (name_for o) ≡ ids_of names (name_for o)) → vid_at plan names' n ≡ vid_at plan names n
     vid_same (thing_name.Port lane) same = row_same (port_named plan lane) key.Port same
     vid_same (thing_name.Vlan vlan) same = ap first_of (same (owner.OfRow (key.Vlan vlan)) refl)
     vid_same (thing_name.BridgePort lane) same = ap first_of (same (owner.Bridge lane) refl)
@@ -70,7 +72,7 @@ module _ (plan : Ports) where
   not_group None f hops h = absurd cc
   not_group (Some z) f hops h = absurd cc
 
-  pub group_names : (n : Name) (hops : List Hop) → IsOwnedBy plan n (owner.Group hops) → (n ≡ thing_name.Group hops) ⊎ ((hop : Hop) × (n ≡ thing_name.GroupMember hops hop))
+  pub group_names : (n : ThingName) (hops : List Hop) → IsOwnedBy plan n (owner.Group hops) → (n ≡ thing_name.Group hops) ⊎ ((hop : Hop) × (n ≡ thing_name.GroupMember hops hop))
   group_names (thing_name.Port lane) hops h = not_group (port_named plan lane) key.Port hops h
   group_names (thing_name.VlanMember vlan lane) hops h = not_group (port_named plan lane) (key.Member vlan) hops h
   group_names (thing_name.Rif b) hops h = not_group (interface_on plan b) key.Intf hops h
@@ -82,22 +84,22 @@ module _ (plan : Ports) where
 
   module _ (names : Names) where
     -- without identifiers of the group nothing of it has one
-    pub no_group_vid : (n : Name) (hops : List Hop) (v : Vid) → IsOwnedBy plan n (owner.Group hops) → ids_of names (name.Group hops) ≡ [] → HasVid plan names n v → ⊥
+    pub no_group_vid : (n : ThingName) (hops : List Hop) (v : Vid) → IsOwnedBy plan n (owner.Group hops) → ids_of names (name.Group hops) ≡ [] → HasVid plan names n v → ⊥
     no_group_vid n hops v of none x = by (group_names n hops of)
       where
         by : (n ≡ thing_name.Group hops) ⊎ ((hop : Hop) × (n ≡ thing_name.GroupMember hops hop)) → ⊥
         by (inl e) = not_some v (sym (ap first_of none) ∙ sym (ap (vid_at plan names) e) ∙ x)
-        by (inr (hop, e)) = not_some v (sym (no_member hops hop) ∙ sym (ap (λ z. member_vid hops hop (members_ids z)) none) ∙ sym (ap (vid_at plan names) e) ∙ x)
+        by (inr (hop, e)) = not_some v (sym (no_member_vid hops hop) ∙ sym (ap (λ z. member_vid hops hop (members_ids z)) none) ∙ sym (ap (vid_at plan names) e) ∙ x)
 
     -- a group that is built has identifiers of its own alone
-    pub built_hops : (g : GroupOperation) (n : Name) (hops : List Hop) (v : Vid) → IsOwnedBy plan n (owner.Group hops) → HasGroupVid plan names g n v → hops ≡ g.hops
+    pub built_hops : (g : GroupOperation) (n : ThingName) (hops : List Hop) (v : Vid) → IsOwnedBy plan n (owner.Group hops) → HasGroupVid plan names g n v → hops ≡ g.hops
     built_hops g n hops v of x = by (group_names n hops of)
       where
         by : (n ≡ thing_name.Group hops) ⊎ ((hop : Hop) × (n ≡ thing_name.GroupMember hops hop)) → hops ≡ g.hops
         by (inl e) = (subst (λ z. HasGroupVid plan names g z v) e x).0
         by (inr (hop, e)) = (subst (λ z. HasGroupVid plan names g z v) e x).0
 
-  pub group_numbered : (n : Name) (hops : List Hop) → IsOwnedBy plan n (owner.Group hops) → is_numbered (name_kind n) ≡ true
+  pub group_numbered : (n : ThingName) (hops : List Hop) → IsOwnedBy plan n (owner.Group hops) → is_numbered (name_kind n) ≡ true
   group_numbered n hops of = by (group_names n hops of)
     where
       by : (n ≡ thing_name.Group hops) ⊎ ((hop : Hop) × (n ≡ thing_name.GroupMember hops hop)) → is_numbered (name_kind n) ≡ true

@@ -17,7 +17,7 @@ use Rattle.switch_model.specs.Things.{members_of}
 use Rattle.ref_counts.specs.Registered.{first_of}
 use Rattle.orch_flight.specs.Calling.{member_vid, members_ids}
 use Rattle.registry_laws.proofs.Listing.{not_some}
-use Rattle.identifier_laws.proofs.Known.{no_member}
+use Rattle.identifier_laws.proofs.Known.{no_member_vid}
 
 rising_parts : (h : Hop) (hs : List Hop) → IsStrictlySortedBy hop_cmp (h ∷ hs) → AllByRecursion (λ y. hop_cmp h y ≡ Less) hs × IsStrictlySortedBy hop_cmp hs
 unfolding IsStrictlySortedBy
@@ -39,7 +39,7 @@ member_of_more (k ∷ hops) hop [] ys v h = not_some v h
 member_of_more (k ∷ hops) hop (x ∷ xs) ys v h = more_by (is_at (hop_cmp k) hop) x v (member_vid hops hop xs) (member_vid hops hop (xs ++ ys)) (member_of_more hops hop xs ys v) h
 
 pub member_more : (hops : List Hop) (hop : Hop) (xs ys : List Vid) (v : Vid) → member_vid hops hop (members_ids xs) ≡ Some v → member_vid hops hop (members_ids (xs ++ ys)) ≡ Some v
-member_more hops hop [] ys v h = not_some v (sym (no_member hops hop) ∙ h)
+member_more hops hop [] ys v h = not_some v (sym (no_member_vid hops hop) ∙ h)
 member_more hops hop (x ∷ xs) ys v h = member_of_more hops hop xs ys v h
 
 -- ---- the one that is made next comes next
@@ -47,10 +47,10 @@ member_more hops hop (x ∷ xs) ys v h = member_of_more hops hop xs ys v h
 abbrev IsMemberAt : List Hop → List Hop → Thing → List Vid → Vid → Type 0
 IsMemberAt all hops z ids v = (hop : Hop) × (z ≡ thing.GroupMember all hop) × (member_vid hops hop ids ≡ Some v) × IsIn hop hops
 
-below : (h hop : Hop) (hs : List Hop) → AllByRecursion (λ y. hop_cmp h y ≡ Less) hs → IsIn hop hs → is_at (hop_cmp h) hop ≡ false
-below h hop [] all i = elim i [ ]
-below h hop (x ∷ xs) all (inl e) = ap (λ z. is_at (hop_cmp h) z) e ∙ ap is_eq all.0
-below h hop (x ∷ xs) all (inr i) = below h hop xs all.1 i
+hop_apart_from_rest : (h hop : Hop) (hs : List Hop) → AllByRecursion (λ y. hop_cmp h y ≡ Less) hs → IsIn hop hs → is_at (hop_cmp h) hop ≡ false
+hop_apart_from_rest h hop [] all i = elim i [ ]
+hop_apart_from_rest h hop (x ∷ xs) all (inl e) = ap (λ z. is_at (hop_cmp h) z) e ∙ ap is_eq all.0
+hop_apart_from_rest h hop (x ∷ xs) all (inr i) = hop_apart_from_rest h hop xs all.1 i
 
 member_placed : (all hops : List Hop) (before : List Thing) (z : Thing) (after : List Thing) (ids : List Vid) (v : Vid) → IsStrictlySortedBy hop_cmp hops → members_of all hops ≡ before ++ (z ∷ after) → length ids ≡ length before → IsMemberAt all hops z (ids ++ (v ∷ [])) v
 member_placed all [] [] z after ids v rising e n = absurd cc
@@ -65,7 +65,7 @@ member_placed all (h ∷ hops) (b ∷ before) z after (x ∷ ids) v rising e n =
     let rest : members_of all hops ≡ before ++ (z ∷ after) = cc in
     let shorter : length ids ≡ length before = cc in
     let m = member_placed all hops before z after ids v parts.1 rest shorter in
-    (m.0, m.1, ap (λ b. cond b (Some x) (member_vid hops m.0 (ids ++ (v ∷ [])))) (below h m.0 hops parts.0 m.3) ∙ m.2, inr m.3)
+    (m.0, m.1, ap (λ b. cond b (Some x) (member_vid hops m.0 (ids ++ (v ∷ [])))) (hop_apart_from_rest h m.0 hops parts.0 m.3) ∙ m.2, inr m.3)
 
 pub placed : (hops : List Hop) (before : List Thing) (z : Thing) (after : List Thing) (ids : List Vid) (v : Vid) → IsStrictlySortedBy hop_cmp hops → thing.Group hops ∷ members_of hops hops ≡ before ++ (z ∷ after) → length ids ≡ length before → ((z ≡ thing.Group hops) × (first_of (ids ++ (v ∷ [])) ≡ Some v)) ⊎ ((hop : Hop) × (z ≡ thing.GroupMember hops hop) × (member_vid hops hop (members_ids (ids ++ (v ∷ []))) ≡ Some v))
 placed hops [] z after [] v rising e n = let same : z ≡ thing.Group hops = cc in inl (same, refl)

@@ -1,5 +1,6 @@
 -- a port for which an operation's key has a row now stands so
 use Rattle.std.proofs.Common.{◌≡◌, ◌⊎◌, ◌∷◌, ◌∙◌, inl, inr, ℕ, List, [], Option, None, Some, option_map, refl, sym, ap, subst}
+use Rattle.swss_types.proofs.Proper.{mapped}
 use Rattle.table_schema.specs.Plan.{IsPlan, Ports, port_named}
 use Rattle.table_schema.specs.declared.key.Key.{Key}
 use Rattle.table_schema.specs.declared.key.Key.TheVariants as key
@@ -15,7 +16,7 @@ use Rattle.sai_types.specs.declared.thing.Thing.TheVariants as thing
 use Rattle.sai_types.specs.Alike.{IsIn}
 use Rattle.sai_types.specs.Named.{first_lane}
 use Rattle.sai_types.specs.Names as thing_name
-use Rattle.sai_types.specs.Names.{Name, name_of}
+use Rattle.sai_types.specs.Names.{ThingName, name_of}
 use Rattle.switch_model.specs.Things.{lane_of}
 use Rattle.chip_layout.specs.Layout.{listed}
 use Rattle.row_layout.specs.Operations.{Change, Make, Set, Take}
@@ -25,9 +26,9 @@ use Rattle.row_layout.proofs.Members.{from_in, only}
 use Rattle.switch_machine.specs.Changes.{changed_by, changed_name}
 use Rattle.switch_machine.specs.Consistent.{IsConsistent}
 use Rattle.switch_machine.specs.Events.{IsAnswer, IsSafe, SwitchState}
-use Rattle.switch_machine.specs.Flights.{Can, CanSet, Flight, Goes, IsFinal, IsOwnedBy, IsResting, IsShared, Machine, Runs, StandsIn, own_of}
+use Rattle.switch_machine.specs.Flights.{Can, CanSet, MachineFlight, Goes, IsFinal, IsOwnedBy, IsResting, IsShared, Machine, Runs, StandsIn, own_of}
 use Rattle.switch_machine.specs.Steps.{moved}
-use Rattle.switch_machine.specs.Tables.{Tables}
+use Rattle.switch_machine.specs.Tables.{TableLaws}
 use Rattle.switch_machine.proofs.Calling.{shared_no_port}
 use Rattle.switch_machine.proofs.Kept.{same_stands}
 use Rattle.switch_machine.proofs.Moving.{fit_of}
@@ -41,7 +42,6 @@ use Rattle.orch_flight.specs.Starting.{begun_names, first_due, leaving, started_
 use Rattle.orch_flight.specs.Taking.{IsTook, names_after, now_after, operation_by, row_set}
 use Rattle.registry_laws.specs.Answering.{IsOfGroup}
 use Rattle.registry_laws.specs.Flown.{flight_of}
-use Rattle.registry_laws.proofs.Listing.{mapped}
 use Rattle.identifier_laws.specs.Identified.{HoldsPort, PortsStand}
 
 -- ---- what is told by a name
@@ -75,7 +75,7 @@ row_port plan k p r h = elim h [ ]
 -- ---- at the start
 
 module _ (plan : Ports) (is : IsPlan plan) (m : Machine) (sound : IsConsistent plan m) (k : Key) (rests : IsResting m.board k) where
-  T : Tables plan
+  T : TableLaws plan
   T = tabled plan is
 
   applied_stands : (u : Thing) → IsIn u (own_of plan k (m.board.applied k)) → StandsIn m u
@@ -94,10 +94,10 @@ module _ (plan : Ports) (is : IsPlan plan) (m : Machine) (sound : IsConsistent p
 -- ---- a call is made
 
 module _ (plan : Ports) (is : IsPlan plan) (workers : ℕ) (capacities : List ℕ) (s t : SwitchState) (call : Call Rid) (x : IsAnswer plan workers call s t) (kept : IsSafe plan workers capacities s) where
-  T' : Tables plan
+  T' : TableLaws plan
   T' = tabled plan is
 
-  abbrev F : Flight
+  abbrev F : MachineFlight
   F = x.next.flight
 
   can : Can plan F (StandsIn s.machine) x.next.change
@@ -180,7 +180,7 @@ module _ (plan : Ports) (is : IsPlan plan) (workers : ℕ) (capacities : List �
     set_holds (thing.Port r) e set p h some = standing (thing.Port p) x.id (subst (λ c. changed_by (listed s.machine.stands) c x.id x.id (thing.Port p)) (sym e) (inr (refl, row_port plan f.key p r h)))
     set_holds u e set p h some = absurd (no_port u (λ r same. cc) set p h)
 
-    take_apart : (n : Name) (p : PortThing) → (f.new ≡ None → ⊥) → Goes plan (flight_of f) n → n ≡ name_of (thing.Port p) → ⊥
+    take_apart : (n : ThingName) (p : PortThing) → (f.new ≡ None → ⊥) → Goes plan (flight_of f) n → n ≡ name_of (thing.Port p) → ⊥
     take_apart n p some (inl (of, none)) e = some none
     take_apart n p some (inr (o, of, retires)) e =
         let was = kept.sound.board.left x.next.worker (flight_of f) o flying retires in

@@ -6,9 +6,11 @@ use Rattle.std.specs.Ordering.{is_eq, nat_cmp}
 use Rattle.std.specs.declared.cmp.Ordering.TheVariants.{Less}
 use Rattle.std.proofs.lemmas.Bool.{eqb-true, false≢true}
 use Rattle.std.proofs.lemmas.Cmp.{nat_cmp_total, tied_itself}
+use Rattle.std.proofs.lemmas.Option.{same_Some}
 use Rattle.swss_types.specs.declared.address.Ip.{Ip}
 use Rattle.swss_types.specs.declared.interface.IfName.{IfName}
 use Rattle.swss_types.specs.declared.interface.IfName.TheVariants as on
+use Rattle.swss_types.proofs.Proper.{mapped}
 use Rattle.table_schema.specs.Fields.{HasRisingKeys}
 use Rattle.table_schema.specs.Plan.{IsPlan, Ports, lanes_in_plan, port_named}
 use Rattle.table_schema.specs.declared.key.Key.{Key}
@@ -18,7 +20,7 @@ use Rattle.sai_types.specs.declared.hop.Base.TheVariants as base
 use Rattle.sai_types.specs.declared.hop.Hop.{Hop}
 use Rattle.sai_types.specs.Named.{first_lane}
 use Rattle.sai_types.specs.Names as thing_name
-use Rattle.sai_types.specs.Names.{Name, name_kind}
+use Rattle.sai_types.specs.Names.{ThingName, name_kind}
 use Rattle.switch_model.specs.Things.{base_of, lane_of}
 use Rattle.switch_model.proofs.Planned.{number-is}
 use Rattle.chip_layout.specs.Bodies.{is_numbered}
@@ -26,7 +28,7 @@ use Rattle.row_layout.specs.Rows as owner
 use Rattle.row_layout.specs.Rows.{Owner, interface_on}
 use Rattle.switch_machine.specs.Flights.{IsOwnedBy}
 use Rattle.switch_machine.proofs.Running.{some_owner}
-use Rattle.registry_laws.proofs.Listing.{mapped, not_some, same_some}
+use Rattle.registry_laws.proofs.Listing.{not_some}
 
 -- ---- the port whose first lane it is has it as its first lane
 
@@ -34,23 +36,23 @@ none_behind : (n : ℕ) (ports : Ports) → AllByRecursion (λ p. nat_cmp n p.0 
 none_behind n [] h = refl
 none_behind n (p ∷ ps) h = ap (λ o. cond (is_eq o) (Some p.1) (lanes_in_plan ps n)) h.0 ∙ none_behind n ps h.1
 
-named_step : (s t : Bool) (q : ℕ × List ℕ) (qs : Ports) (lane p : ℕ) → (slice_index q.1 0 == lane) ≡ s → is_at (nat_cmp p) q.0 ≡ t → AllByRecursion (λ e. nat_cmp q.0 e.0 ≡ Less) qs → cond s (Some q.0) (port_named qs lane) ≡ Some p → (port_named qs lane ≡ Some p → lane_of qs p ≡ Some lane) → option_map first_lane (cond t (Some q.1) (lanes_in_plan qs p)) ≡ Some lane
-named_step true true q qs lane p first at above h rest = ap Some (eqb-true (slice_index q.1 0) lane first)
-named_step true false q qs lane p first at above h rest =
-    let same : q.0 ≡ p = same_some q.0 p h in
+lane_named_step : (s t : Bool) (q : ℕ × List ℕ) (qs : Ports) (lane p : ℕ) → (slice_index q.1 0 == lane) ≡ s → is_at (nat_cmp p) q.0 ≡ t → AllByRecursion (λ e. nat_cmp q.0 e.0 ≡ Less) qs → cond s (Some q.0) (port_named qs lane) ≡ Some p → (port_named qs lane ≡ Some p → lane_of qs p ≡ Some lane) → option_map first_lane (cond t (Some q.1) (lanes_in_plan qs p)) ≡ Some lane
+lane_named_step true true q qs lane p first at above h rest = ap Some (eqb-true (slice_index q.1 0) lane first)
+lane_named_step true false q qs lane p first at above h rest =
+    let same : q.0 ≡ p = same_Some q.0 p h in
     absurd (false≢true (sym at ∙ ap (λ z. is_at (nat_cmp p) z) same ∙ ap is_eq (tied_itself nat_cmp_total p)))
-named_step false true q qs lane p first at above h rest =
+lane_named_step false true q qs lane p first at above h rest =
     let same : p ≡ q.0 = number-is p q.0 at in
     not_some lane (sym (ap (option_map first_lane) (none_behind q.0 qs above)) ∙ sym (ap (lane_of qs) same) ∙ rest h)
-named_step false false q qs lane p first at above h rest = rest h
+lane_named_step false false q qs lane p first at above h rest = rest h
 
 lane_named : (ports : Ports) → HasRisingKeys nat_cmp ports → (lane p : ℕ) → port_named ports lane ≡ Some p → lane_of ports p ≡ Some lane
 lane_named [] rising lane p h = not_some p h
-lane_named (q ∷ qs) rising lane p h = named_step (slice_index q.1 0 == lane) (is_at (nat_cmp p) q.0) q qs lane p refl refl rising.0 h (lane_named qs rising.1 lane p)
+lane_named (q ∷ qs) rising lane p h = lane_named_step (slice_index q.1 0 == lane) (is_at (nat_cmp p) q.0) q qs lane p refl refl rising.0 h (lane_named qs rising.1 lane p)
 
 -- ---- the name of a row's thing that has an identifier
 
-abbrev row_name : Ports → Key → Option Name
+abbrev row_name : Ports → Key → Option ThingName
 row_name plan (key.Port p) = option_map thing_name.Port (lane_of plan p)
 row_name plan (key.Vlan vlan) = Some (thing_name.Vlan vlan)
 row_name plan (key.Member vlan p) = option_map (thing_name.VlanMember vlan) (lane_of plan p)
@@ -58,7 +60,7 @@ row_name plan (key.Intf i) = option_map thing_name.Rif (base_of plan i)
 row_name plan (key.Neigh i ip) = option_map (λ b. thing_name.NextHop (record { on = b; ip = ip })) (base_of plan i)
 row_name plan _ = None
 
-abbrev owner_name : Ports → Owner → Option Name
+abbrev owner_name : Ports → Owner → Option ThingName
 owner_name plan (owner.OfRow k) = row_name plan k
 owner_name plan (owner.Bridge lane) = Some (thing_name.BridgePort lane)
 owner_name plan _ = None
@@ -68,10 +70,10 @@ module _ (plan : Ports) (is : IsPlan plan) where
   base_on (base.Port lane) i h =
       let m = mapped on.Ethernet (port_named plan lane) i h in
       ap (base_of plan) (sym m.2) ∙ ap (option_map base.Port) (lane_named plan is.rising lane m.0 m.1)
-  base_on (base.Vlan vlan) i h = let same : on.Vlan vlan ≡ i = same_some (on.Vlan vlan) i h in ap (base_of plan) (sym same)
+  base_on (base.Vlan vlan) i h = let same : on.Vlan vlan ≡ i = same_Some (on.Vlan vlan) i h in ap (base_of plan) (sym same)
 
   -- what is no group's has its owner's name
-  named_by : (n : Name) (o : Owner) → is_numbered (name_kind n) ≡ true → ((hops : List Hop) → o ≡ owner.Group hops → ⊥) → IsOwnedBy plan n o → owner_name plan o ≡ Some n
+  named_by : (n : ThingName) (o : Owner) → is_numbered (name_kind n) ≡ true → ((hops : List Hop) → o ≡ owner.Group hops → ⊥) → IsOwnedBy plan n o → owner_name plan o ≡ Some n
   named_by (thing_name.Port lane) o numbered alone h =
       let m = mapped (λ p. owner.OfRow (key.Port p)) (port_named plan lane) o h in
       ap (owner_name plan) (sym m.2) ∙ ap (option_map thing_name.Port) (lane_named plan is.rising lane m.0 m.1)
@@ -90,11 +92,11 @@ module _ (plan : Ports) (is : IsPlan plan) where
   named_by (thing_name.GroupMember hops hop) o numbered alone h = absurd (alone hops (sym (some_owner (owner.Group hops) o h)))
   named_by _ o numbered alone h = absurd (false≢true numbered)
 
-  pub one_name : (n m : Name) (o : Owner) → is_numbered (name_kind n) ≡ true → is_numbered (name_kind m) ≡ true → ((hops : List Hop) → o ≡ owner.Group hops → ⊥) → IsOwnedBy plan n o → IsOwnedBy plan m o → n ≡ m
-  one_name n m o x y alone of other = same_some n m (sym (named_by n o x alone of) ∙ named_by m o y alone other)
+  pub one_name : (n m : ThingName) (o : Owner) → is_numbered (name_kind n) ≡ true → is_numbered (name_kind m) ≡ true → ((hops : List Hop) → o ≡ owner.Group hops → ⊥) → IsOwnedBy plan n o → IsOwnedBy plan m o → n ≡ m
+  one_name n m o x y alone of other = same_Some n m (sym (named_by n o x alone of) ∙ named_by m o y alone other)
 
   -- an own address has none
-  pub no_own : (n : Name) (o : Owner) (ip : Ip) → o ≡ owner.Own ip → is_numbered (name_kind n) ≡ true → IsOwnedBy plan n o → ⊥
+  pub no_own : (n : ThingName) (o : Owner) (ip : Ip) → o ≡ owner.Own ip → is_numbered (name_kind n) ≡ true → IsOwnedBy plan n o → ⊥
   no_own n o ip e numbered of = not_some n (sym (ap (owner_name plan) e) ∙ named_by n o numbered (λ hops h. no_group ip hops (sym e ∙ h)) of)
     where
       no_group : (ip : Ip) (hops : List Hop) → owner.Own ip ≡ owner.Group hops → ⊥

@@ -72,9 +72,9 @@ used_state : (names : Names) (k : Key) (os : List Owner) (p : Owner) → state_o
 used_state names k [] p = refl
 used_state names k (o ∷ os) p = used_state (changed names (name_for o) (with_user k)) k os p ∙ state_kept names o p (with_user k) (λ r. refl)
 
-absent_none : (x : Option Registered) → state_in x ≡ state.Absent → (option_map (λ (r : Registered). r.state) x ≡ Some state.Absent → ⊥) → x ≡ None
-absent_none None h known = refl
-absent_none (Some r) h known = absurd (known (ap Some h))
+unregistered_absent : (x : Option Registered) → state_in x ≡ state.Absent → (option_map (λ (r : Registered). r.state) x ≡ Some state.Absent → ⊥) → x ≡ None
+unregistered_absent None h known = refl
+unregistered_absent (Some r) h known = absurd (known (ap Some h))
 
 module _ (plan : Ports) (is : IsPlan plan) (names : Names) (w : ℕ) (k : Key) (old new : Option Row) (may : MayStart plan names w k old new) where
   abbrev pinned_names : Names
@@ -125,7 +125,7 @@ module _ (plan : Ports) (is : IsPlan plan) (names : Names) (w : ℕ) (k : Key) (
       by None e = λ p. refl
       by (Some o) e =
           let x = build_absent o new refl e in
-          ids_put own_names o (begun w (ids_for o)) (own_ids o ∙ pins_ids o ∙ ids_absent names o (absent_none (registered_at names (name_for o)) x.1 (may.shares o x.0).1)) refl
+          ids_put own_names o (begun w (ids_for o)) (own_ids o ∙ pins_ids o ∙ ids_absent names o (unregistered_absent (registered_at names (name_for o)) x.1 (may.shares o x.0).1)) refl
 
   begun_ids : HaveSameIds names begun_now
   begun_ids p = used_ids built_names k (uses_of plan k new) p ∙ built_ids p ∙ own_ids p ∙ pins_ids p

@@ -1,5 +1,6 @@
 -- each object that stands keeps its identifier
 use Rattle.std.proofs.Common.{◌≡◌, ◌∙◌, inl, inr, ℕ, Bool, true, cond, List, [], Option, None, Some, refl, sym, ap, subst}
+use Rattle.std.proofs.lemmas.Option.{same_Some}
 use Rattle.table_schema.specs.Plan.{Ports}
 use Rattle.table_schema.specs.declared.row.Row.{Row}
 use Rattle.sai_types.specs.declared.hop.Hop.{Hop}
@@ -8,13 +9,13 @@ use Rattle.sai_types.specs.declared.ids.Vid.{Vid}
 use Rattle.sai_types.specs.declared.thing.Thing.{Thing}
 use Rattle.sai_types.specs.Alike.{IsIn}
 use Rattle.sai_types.specs.Names as thing_name
-use Rattle.sai_types.specs.Names.{Name, name_of}
+use Rattle.sai_types.specs.Names.{ThingName, name_of}
 use Rattle.row_layout.specs.Operations.{uses_of}
 use Rattle.row_layout.specs.Rows as owner
 use Rattle.row_layout.specs.Shared.{shared_things}
 use Rattle.row_layout.specs.Rows.{Owner}
 use Rattle.switch_machine.specs.Consistent.{IsConsistent}
-use Rattle.switch_machine.specs.Flights.{Flight, IsFinal, IsOwnedBy, Machine, Runs, StandsIn, own_of, put}
+use Rattle.switch_machine.specs.Flights.{MachineFlight, IsFinal, IsOwnedBy, Machine, Runs, StandsIn, own_of, put}
 use Rattle.switch_machine.specs.Steps.{Ends}
 use Rattle.switch_machine.proofs.Splits.{IsSplit, nat_split, put_at, put_off}
 use Rattle.ref_counts.specs.declared.name.Name.TheVariants as name
@@ -25,7 +26,7 @@ use Rattle.orch_flight.specs.Grouping.{GroupOperation, HasGroupVid, first_group,
 use Rattle.orch_flight.specs.Needing.{name_for}
 use Rattle.registry_laws.specs.Ending.{ended_names}
 use Rattle.registry_laws.specs.Flown.{Flown}
-use Rattle.registry_laws.proofs.Listing.{not_some, same_some}
+use Rattle.registry_laws.proofs.Listing.{not_some}
 use Rattle.identifier_laws.specs.Identified.{HaveSameIds, Identified, IsPartlyBuilt, IsUnderWay, IsVidOf, KeepsBuilds}
 use Rattle.identifier_laws.proofs.Owning.{vid_same}
 use Rattle.identifier_laws.proofs.Starting.{ids_ended, ids_ended_off}
@@ -47,12 +48,12 @@ group_made names g builds = ap (λ b. cond b g.made (ids_of names (name.Group g.
 
 module _ (plan : Ports) (names names' : Names) where
   -- of a group that is built they are its operation's
-  pub built_kept : (g : GroupOperation) (n : Name) (v : Vid) → g.builds ≡ true → ((o : Owner) → IsOwnedBy plan n o → ids_of names' (name_for o) ≡ ids_of names (name_for o)) → HasGroupVid plan names g n v → HasGroupVid plan names' g n v
+  pub built_kept : (g : GroupOperation) (n : ThingName) (v : Vid) → g.builds ≡ true → ((o : Owner) → IsOwnedBy plan n o → ids_of names' (name_for o) ≡ ids_of names (name_for o)) → HasGroupVid plan names g n v → HasGroupVid plan names' g n v
   built_kept g (thing_name.Group hops) v builds same x = (x.0, ap first_of (group_made names' g builds ∙ sym (group_made names g builds)) ∙ x.1)
   built_kept g (thing_name.GroupMember hops hop) v builds same x = (x.0, ap (λ z. member_vid hops hop (members_ids z)) (group_made names' g builds ∙ sym (group_made names g builds)) ∙ x.1)
   built_kept g n v builds same x = vid_same plan names names' n same ∙ x
 
-  pub vid_kept : (flown flown' : ℕ → Option Flown) → KeepsBuilds flown flown' → (n : Name) (v : Vid) → ((o : Owner) → IsOwnedBy plan n o → ids_of names' (name_for o) ≡ ids_of names (name_for o)) → IsVidOf plan names flown n v → IsVidOf plan names' flown' n v
+  pub vid_kept : (flown flown' : ℕ → Option Flown) → KeepsBuilds flown flown' → (n : ThingName) (v : Vid) → ((o : Owner) → IsOwnedBy plan n o → ids_of names' (name_for o) ≡ ids_of names (name_for o)) → IsVidOf plan names flown n v → IsVidOf plan names' flown' n v
   vid_kept flown flown' builds n v same (inl x) = inl (vid_same plan names names' n same ∙ x)
   vid_kept flown flown' builds n v same (inr x) = inr (record { worker = x.worker; group = x.group; under_way = builds x.worker x.group x.under_way x.builds; builds = x.builds; of = built_kept x.group n v x.builds same x.of })
 
@@ -73,7 +74,7 @@ module _ (plan : Ports) (names : Names) (rid : Vid → Option Rid) (flown : ℕ 
   begun_identified w x here none g = flown_identified (put w (Some (record { operation = x.operation; group = Some g })) flown) (puts_kept flown w (Some (record { operation = x.operation; group = Some g })) (λ h at builds. no_group h at))
     where
       no_group : {X : Type 0} (h : GroupOperation) → IsUnderWay flown w h → X
-      no_group h at = not_some h (sym none ∙ ap (λ (z : Flown). z.group) (same_some x at.0 (sym here ∙ at.1)) ∙ at.2)
+      no_group h at = not_some h (sym none ∙ ap (λ (z : Flown). z.group) (same_Some x at.0 (sym here ∙ at.1)) ∙ at.2)
 
 -- of which nothing is made
 pub first_part : (plan : Ports) (w : ℕ) (hops : List Hop) (builds : Bool) → builds ≡ true → IsPartlyBuilt (first_group plan w hops builds)
@@ -81,7 +82,7 @@ first_part plan w hops builds e = record { before = []; after = shared_things (o
 
 -- ---- an operation ends
 
-module _ (plan : Ports) (m : Machine) (sound : IsConsistent plan m) (w : ℕ) (f : Flight) (ends : Ends m w f) (names : Names) (rid : Vid → Option Rid) (flown : ℕ → Option Flown) (known : Identified plan names rid flown m.stands) where
+module _ (plan : Ports) (m : Machine) (sound : IsConsistent plan m) (w : ℕ) (f : MachineFlight) (ends : Ends m w f) (names : Names) (rid : Vid → Option Rid) (flown : ℕ → Option Flown) (known : Identified plan names rid flown m.stands) where
   -- of a row that is gone nothing stands
   none_stands : f.new ≡ None → (i : Rid) (t : Thing) → IsIn (i, t) m.stands → IsOwnedBy plan (name_of t) (owner.OfRow f.key) → ⊥
   none_stands none i t h of = by ((subst (Runs plan f (StandsIn m)) ends.done (sound.runs w f ends.flying)) t (owner.OfRow f.key, of, inl refl)).0

@@ -17,7 +17,7 @@ use Rattle.sai_types.specs.declared.thing.Thing.TheVariants as thing
 use Rattle.sai_types.specs.After.{entry_of}
 use Rattle.sai_types.specs.Alike.{IsIn}
 use Rattle.sai_types.specs.Names as name
-use Rattle.sai_types.specs.Names.{Name, name_kind, name_of}
+use Rattle.sai_types.specs.Names.{ThingName, name_kind, name_of}
 use Rattle.sai_types.specs.Objects.{Objects}
 use Rattle.chip_layout.specs.Bodies.{IsAt, IsBody, IsChange, body_with, first_name, goal_name, is_numbered, second_name, to_with}
 use Rattle.chip_layout.specs.Layout.{Has, IsLaidOut, Layout, has_number}
@@ -31,7 +31,7 @@ use Rattle.orch_flight.specs.Calling.{IsEnteredBy, IsEntryOf, IsMaking, IsSettin
 
 -- ---- names of things
 
-abbrev FirstIs : Thing → Name → Type 0
+abbrev FirstIs : Thing → ThingName → Type 0
 FirstIs t n = first_name t ≡ Some n
 
 -- a neighbour refers to its interface
@@ -44,7 +44,7 @@ pub neighbor_entered : (t : Thing) (hop : Hop) → name_of t ≡ name.Neighbor h
 neighbor_entered (thing.Neighbor hop mac) other h = tt
 neighbor_entered _ other h = absurd cc
 
-goal_numbered : (g : Goal) (n : Name) → goal_name g ≡ Some n → is_numbered (name_kind n) ≡ true
+goal_numbered : (g : Goal) (n : ThingName) → goal_name g ≡ Some n → is_numbered (name_kind n) ≡ true
 goal_numbered goal.Drop n h = absurd cc
 goal_numbered (goal.Direct on) n h = let same : n ≡ name.Rif on = cc in ap (λ z. is_numbered (name_kind z)) same
 goal_numbered (goal.Via hop) n h = let same : n ≡ name.NextHop hop = cc in ap (λ z. is_numbered (name_kind z)) same
@@ -62,9 +62,9 @@ port_or _ = inr (λ p h. cc)
 
 -- ---- the call
 
-module _ (L : Layout Rid) (objects : Objects) (laid : IsLaidOut L objects) (at : Name → Vid → Type 0) (f : Vid → Rid) (tied : (n : Name) (v : Vid) (i : Rid) → is_numbered (name_kind n) ≡ true → Has L n i → at n v → f v ≡ i) where
+module _ (L : Layout Rid) (objects : Objects) (laid : IsLaidOut L objects) (at : ThingName → Vid → Type 0) (f : Vid → Rid) (tied : (n : ThingName) (v : Vid) (i : Rid) → is_numbered (name_kind n) ≡ true → Has L n i → at n v → f v ≡ i) where
   -- what has an identifier on the chip has the one to which its own is tied
-  tied_at : (o : Option Name) (v : Vid) (i : Rid) → ((n : Name) → o ≡ Some n → is_numbered (name_kind n) ≡ true) → IsAt (Has L) o i → IsAt at o v → IsAt (Has L) o (f v)
+  tied_at : (o : Option ThingName) (v : Vid) (i : Rid) → ((n : ThingName) → o ≡ Some n → is_numbered (name_kind n) ≡ true) → IsAt (Has L) o i → IsAt at o v → IsAt (Has L) o (f v)
   tied_at None v i numbered there h = tt
   tied_at (Some n) v i numbered there h = subst (Has L n) (sym (tied n v i (numbered n refl) there h)) there
 
@@ -111,7 +111,7 @@ module _ (L : Layout Rid) (objects : Objects) (laid : IsLaidOut L objects) (at :
 
   -- ---- a thing is taken away
 
-  pub taking_told : (things : List Thing) (n : Name) (c : Call Vid) (d : Call Rid) → IsTaking at things n c → IsTakeCall L n d → IsTakeCall L n (call_renamed f c)
+  pub taking_told : (things : List Thing) (n : ThingName) (c : Call Vid) (d : Call Rid) → IsTaking at things n c → IsTakeCall L n d → IsTakeCall L n (call_renamed f c)
   taking_told things n c d x y = record {
     id = y.id;
     old = y.old;

@@ -10,7 +10,7 @@ use Rattle.sai_types.specs.declared.ids.Vid.{Vid}
 use Rattle.sai_types.specs.declared.thing.Thing.{Thing}
 use Rattle.sai_types.specs.declared.thing.Thing.TheVariants as thing
 use Rattle.sai_types.specs.Names as thing_name
-use Rattle.sai_types.specs.Names.{Name, name_of}
+use Rattle.sai_types.specs.Names.{ThingName, name_of}
 use Rattle.chip_layout.specs.Layout.{Layout, has_number, listed}
 use Rattle.chip_layout.proofs.Laid.{changed}
 use Rattle.row_layout.specs.Operations.{Change, Make, Set, Take}

@@ -38,7 +38,7 @@ abbrev pub IsUnderWay : (ℕ → Option Flown) → ℕ → GroupOperation → Ty
 IsUnderWay flown worker g = (x : Flown) × (flown worker ≡ Some x) × (x.group ≡ Some g)
 
 -- an operation that builds a group has made the identifier of what has this name
-pub record IsVidOfBuilt (plan : Ports) (names : Names) (flown : ℕ → Option Flown) (n : thing_name.Name) (v : Vid) : Type 0 where
+pub record IsVidOfBuilt (plan : Ports) (names : Names) (flown : ℕ → Option Flown) (n : thing_name.ThingName) (v : Vid) : Type 0 where
   pub worker : ℕ
   pub group : GroupOperation
   pub under_way : IsUnderWay flown worker group
@@ -46,7 +46,7 @@ pub record IsVidOfBuilt (plan : Ports) (names : Names) (flown : ℕ → Option F
   pub of : HasGroupVid plan names group n v
 
 -- the identifier of what has this name: the registry's; while a group is built its operation has those of the group and of its members
-abbrev pub IsVidOf : Ports → Names → (ℕ → Option Flown) → thing_name.Name → Vid → Type 0
+abbrev pub IsVidOf : Ports → Names → (ℕ → Option Flown) → thing_name.ThingName → Vid → Type 0
 IsVidOf plan names flown n v = HasVid plan names n v ⊎ IsVidOfBuilt plan names flown n v
 
 -- each object that stands and has an identifier of the chip has one of the service, which is tied to it

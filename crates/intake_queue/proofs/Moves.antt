@@ -37,8 +37,8 @@ sends n pass v x few may from number queued views space h at =
       refl,
     )
 
-pub takes : (pass : ℕ) (v : Known) → v.takes ≡ true → Pops IsInOrder pass v (IsReceived v)
-takes pass v may x queued views h at =
+pub pops_in_order : (pass : ℕ) (v : Known) → v.takes ≡ true → Pops IsInOrder pass v (IsReceived v)
+pops_in_order pass v may x queued views h at =
     let mine = h.takers pass v at may in
     let received : List Sent = h.received ++ x ∷ [] in
     let around = sent_of-around h.received x queued in

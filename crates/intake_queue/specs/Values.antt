@@ -45,13 +45,13 @@ pub record IsNext (t : Receiver) (w : Sent) : Type 0 where
 -- ---- all passes
 
 -- these are all passes of an intake, in the order of its producers
-pub record AreAll (intake : IntakeId) (passes : List Sender) : Type 0 where
+pub record AreAllPasses (intake : IntakeId) (passes : List Sender) : Type 0 where
   pub count : length passes ≡ intake.producers
   pub each : (i : ℕ) (d : Sender) → i < length passes → ((slice_index_or passes i d).queue ≡ intake.queue) × ((slice_index_or passes i d).from ≡ i + 1)
 
 -- all passes of an intake over which nothing was sent
 pub record AreNew (intake : IntakeId) (passes : List Sender) : Type 0 where
-  pub all : AreAll intake passes
+  pub all : AreAllPasses intake passes
   pub unsent : All (λ s. s.sent ≡ []) passes
 
 -- what was sent over the pass of the producer p, the p-th of these

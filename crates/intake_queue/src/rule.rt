@@ -5,7 +5,7 @@ use crossbeam_queue::protocol::{Join, Lesson, Outcome, Protocol, Split};
 use table_schema::Sent;
 
 /// The queue under its rule.
-pub type Line = RuledArrayQueue<Sent, Known, InOrder>;
+pub type SentLine = RuledArrayQueue<Sent, Known, InOrder>;
 
 /// A pass of the queue.
 pub type Token = crossbeam_queue::Pass<Sent, Known>;
@@ -23,9 +23,9 @@ impl Protocol<Sent, Known> for InOrder {
 }
 
 /// The taker makes the next producer's pass.
-pub struct Next;
+pub struct NextPass;
 
-impl Split<Known> for Next {
+impl Split<Known> for NextPass {
     ghost use Rattle.std.specs.Prelude.{[], ◌+◌};
     ghost use Rattle.intake_queue.specs.Rule.{producer, one_more};
 

@@ -4,6 +4,7 @@ use Rattle.std.proofs.lemmas.Bool.{false≢true}
 use Rattle.swss_types.specs.declared.address.Ip.{Ip}
 use Rattle.swss_types.specs.declared.interface.IfName.{IfName}
 use Rattle.swss_types.specs.declared.interface.IfName.TheVariants as on
+use Rattle.swss_types.proofs.Proper.{mapped}
 use Rattle.table_schema.specs.Plan.{IsPlan, Ports}
 use Rattle.table_schema.specs.declared.key.Key.TheVariants as key
 use Rattle.table_schema.specs.declared.row.Row.TheVariants as row
@@ -19,7 +20,6 @@ use Rattle.sai_types.specs.declared.body.Entry.TheVariants as entry
 use Rattle.sai_types.specs.declared.body.RifOn.TheVariants as rif_on
 use Rattle.sai_types.specs.declared.thing.Thing.{Thing}
 use Rattle.sai_types.specs.declared.thing.Thing.TheVariants as thing
-use Rattle.sai_types.proofs.Keys.{mapped}
 use Rattle.switch_model.specs.Things.{base_of, lane_of}
 use Rattle.chip_layout.specs.Bodies.{IsBody, on_with}
 use Rattle.row_layout.specs.Operations.{Make, Take}
@@ -42,8 +42,8 @@ use Rattle.intf_orch.specs.declared.stage.Subject.{Subject}
 use Rattle.intf_orch.specs.declared.stage.Subject.TheVariants as subject
 
 -- an operation, from what its subject is known to be
-pub told : (f : Operation) (worker : ℕ) (applied wanted : Bool) (s s' : Subject) → intf_operation worker applied wanted s ≡ f → s ≡ s' → f ≡ intf_operation worker applied wanted s'
-told f worker applied wanted s s' view is = sym view ∙ ap (intf_operation worker applied wanted) is
+pub intf_operation_told : (f : Operation) (worker : ℕ) (applied wanted : Bool) (s s' : Subject) → intf_operation worker applied wanted s ≡ f → s ≡ s' → f ≡ intf_operation worker applied wanted s'
+intf_operation_told f worker applied wanted s s' view is = sym view ∙ ap (intf_operation worker applied wanted) is
 
 module _ (plan : Ports) (names : Names) (n : IfName) (b : Base) where
   -- what is of an interface stands on what the interface stands on
@@ -133,7 +133,7 @@ module _ (names : Names) (worker : ℕ) (applied wanted : Bool) (f : Operation) 
     abbrev some_id : Vid
     some_id = record { 0 = 0 }
 
-    own-body : {at : thing_name.Name → Vid → Type 0} → IsBody at (thing.Own ip) (body.OwnAddress ip)
+    own-body : {at : thing_name.ThingName → Vid → Type 0} → IsBody at (thing.Own ip) (body.OwnAddress ip)
     own-body = record { first = some_id; second = some_id; first_at = tt; second_at = tt; body_is = refl }
 
     held-own : (plan : Ports) (applied : Bool) → IsIn (thing.Own ip) (things_held plan (intf_operation worker applied wanted (subject.Addr n ip len own.Goes)))

@@ -10,7 +10,7 @@ use Rattle.sai_types.specs.declared.thing.Thing.TheVariants as thing
 use Rattle.sai_types.specs.After.{after_call}
 use Rattle.sai_types.specs.Alike.{IsIn}
 use Rattle.sai_types.specs.Made.{made_after}
-use Rattle.sai_types.specs.Names.{Name, name_of}
+use Rattle.sai_types.specs.Names.{ThingName, name_of}
 use Rattle.chip_layout.specs.Layout.{listed, next_id}
 use Rattle.switch_model.specs.Things.{members_of}
 use Rattle.row_layout.specs.Operations.{Change, Make, Set, Take, shared_going, take_all, uses_of}
@@ -18,29 +18,26 @@ use Rattle.row_layout.specs.Rows as owner
 use Rattle.row_layout.specs.Rows.{Owner}
 use Rattle.switch_machine.specs.Changes.{IsCall, changed_by}
 use Rattle.switch_machine.specs.Events.{AreAnswers, Due, Ended, Follows, IsAnswer, IsBegin, IsDueCall, IsGiven, IsQuiet, IsSafe, Left, Retires, SwitchState, after_answers}
-use Rattle.switch_machine.specs.Flights.{Flight, IsShared, IsUser, Machine}
+use Rattle.switch_machine.specs.Flights.{MachineFlight, IsShared, IsUser, Machine}
 use Rattle.switch_machine.specs.Steps.{finished, left, moved, parted, started}
 use Rattle.switch_machine.proofs.Kept.{kept-answers, kept-event}
 use Rattle.switch_machine.proofs.Reasoned.{has-call}
-use Rattle.switch_machine.proofs.Running.{one_flight}
+use Rattle.switch_machine.proofs.Running.{no_flight, one_flight}
 use Rattle.switch_machine.proofs.Splits.{IsPut, IsSplit, New, Old, key_split, name_split, put_at, put_by, use_row_in}
 use Rattle.switch_machine.proofs.Tabled.{tabled}
 use Rattle.machine_laws.proofs.Sharing.{others-use, used-by}
 
-no_flight : {X : Type 0} (g : Flight) → None ≡ Some g → X
-no_flight g h = absurd cc
-
 -- ---- what stands after a change, as a list
 
-keep_by : (n : Name) (x : Rid × Thing) → List (Rid × Thing) → IsSplit (name_of x.1) n → List (Rid × Thing)
+keep_by : (n : ThingName) (x : Rid × Thing) → List (Rid × Thing) → IsSplit (name_of x.1) n → List (Rid × Thing)
 keep_by n x rest (inl e) = rest
 keep_by n x rest (inr apart) = x ∷ rest
 
-without_name : Name → List (Rid × Thing) → List (Rid × Thing)
+without_name : ThingName → List (Rid × Thing) → List (Rid × Thing)
 without_name n [] = []
 without_name n (x ∷ xs) = keep_by n x (without_name n xs) (name_split (name_of x.1) n)
 
-kept_in : (n : Name) (y : Rid × Thing) (xs : List (Rid × Thing)) → IsIn y (without_name n xs) → IsIn y xs × (name_of y.1 ≡ n → ⊥)
+kept_in : (n : ThingName) (y : Rid × Thing) (xs : List (Rid × Thing)) → IsIn y (without_name n xs) → IsIn y xs × (name_of y.1 ≡ n → ⊥)
 unfolding keep_by without_name
 kept_in n y [] h = elim h [ ]
 kept_in n y (x ∷ xs) h = by (name_split (name_of x.1) n) (λ g. kept_in n y xs g) h
@@ -50,7 +47,7 @@ kept_in n y (x ∷ xs) h = by (name_split (name_of x.1) n) (λ g. kept_in n y xs
     by (inr apart) rest (inl e) = (inl e, λ same. apart (ap (λ (z : Rid × Thing). name_of z.1) (sym e) ∙ same))
     by (inr apart) rest (inr g) = let z = rest g in (inr z.0, z.1)
 
-in_kept : (n : Name) (y : Rid × Thing) (xs : List (Rid × Thing)) → IsIn y xs → (name_of y.1 ≡ n → ⊥) → IsIn y (without_name n xs)
+in_kept : (n : ThingName) (y : Rid × Thing) (xs : List (Rid × Thing)) → IsIn y xs → (name_of y.1 ≡ n → ⊥) → IsIn y (without_name n xs)
 unfolding keep_by without_name
 in_kept n y [] h other = elim h [ ]
 in_kept n y (x ∷ xs) h other = by (name_split (name_of x.1) n) (λ g. in_kept n y xs g other) h
@@ -75,8 +72,8 @@ pair i t = (i, t)
 one_pair : (i j : Rid) (t u : Thing) → i ≡ j → t ≡ u → pair i t ≡ pair j u
 one_pair i j t u e h = ap₂ pair e h
 
-pub change : (stands : List (Rid × Thing)) (made : ℕ) (c : Change) (call : Call Rid) (of : IsCall (listed stands) c call) → Changed stands made c call of
-change stands made (Make t) call of = record { id = next_id made; given = λ h. refl; later = (next_id made, t) ∷ stands; into = into; back = back }
+pub change_made : (stands : List (Rid × Thing)) (made : ℕ) (c : Change) (call : Call Rid) (of : IsCall (listed stands) c call) → Changed stands made c call of
+change_made stands made (Make t) call of = record { id = next_id made; given = λ h. refl; later = (next_id made, t) ∷ stands; into = into; back = back }
   where
     into : (i : Rid) (u : Thing) → IsIn (i, u) stands ⊎ ((i ≡ next_id made) × (u ≡ t)) → IsIn (i, u) ((next_id made, t) ∷ stands)
     into i u (inl h) = inr h
@@ -85,7 +82,7 @@ change stands made (Make t) call of = record { id = next_id made; given = λ h. 
     back : (i : Rid) (u : Thing) → IsIn (i, u) ((next_id made, t) ∷ stands) → IsIn (i, u) stands ⊎ ((i ≡ next_id made) × (u ≡ t))
     back i u (inl e) = inr (ap (λ (z : Rid × Thing). z.0) e, ap (λ (z : Rid × Thing). z.1) e)
     back i u (inr h) = inl h
-change stands made (Set t) call of = record { id = of.id; given = refl; later = (of.id, t) ∷ without_name (name_of t) stands; into = into; back = back }
+change_made stands made (Set t) call of = record { id = of.id; given = refl; later = (of.id, t) ∷ without_name (name_of t) stands; into = into; back = back }
   where
     into : (i : Rid) (u : Thing) → (IsIn (i, u) stands × (name_of u ≡ name_of t → ⊥)) ⊎ ((i ≡ of.id) × (u ≡ t)) → IsIn (i, u) ((of.id, t) ∷ without_name (name_of t) stands)
     into i u (inl (h, other)) = inr (in_kept (name_of t) (i, u) stands h other)
@@ -94,7 +91,7 @@ change stands made (Set t) call of = record { id = of.id; given = refl; later = 
     back : (i : Rid) (u : Thing) → IsIn (i, u) ((of.id, t) ∷ without_name (name_of t) stands) → (IsIn (i, u) stands × (name_of u ≡ name_of t → ⊥)) ⊎ ((i ≡ of.id) × (u ≡ t))
     back i u (inl e) = inr (ap (λ (z : Rid × Thing). z.0) e, ap (λ (z : Rid × Thing). z.1) e)
     back i u (inr h) = inl (kept_in (name_of t) (i, u) stands h)
-change stands made (Take n) call of = record { id = next_id made; given = tt; later = without_name n stands; into = λ i u h. in_kept n (i, u) stands h.0 h.1; back = λ i u h. kept_in n (i, u) stands h }
+change_made stands made (Take n) call of = record { id = next_id made; given = tt; later = without_name n stands; into = λ i u h. in_kept n (i, u) stands h.0 h.1; back = λ i u h. kept_in n (i, u) stands h }
 
 -- ---- what follows, and what is left to do
 
@@ -117,31 +114,31 @@ module _ (plan : Ports) (is : IsPlan plan) (workers : ℕ) (capacities : List �
   pub record Single (m : Machine) (n : ℕ) : Type 0 where
     pub worker : ℕ
     pub below : worker < workers
-    pub flight : Flight
+    pub flight : MachineFlight
     pub there : m.board.flights worker ≡ Some flight
-    pub only : (v : ℕ) (g : Flight) → m.board.flights v ≡ Some g → v ≡ worker
+    pub only : (v : ℕ) (g : MachineFlight) → m.board.flights v ≡ Some g → v ≡ worker
     pub some : 0 < length (m.due worker)
     pub size : length (m.due worker) + going_length flight.leaves ≡ n
 
   abbrev pub IsStill : Machine → Type 0
-  IsStill m = (v : ℕ) (g : Flight) → m.board.flights v ≡ Some g → ⊥
+  IsStill m = (v : ℕ) (g : MachineFlight) → m.board.flights v ≡ Some g → ⊥
 
-  module _ (m : Machine) (w : ℕ) (f : Flight) (below : w < workers) (there : m.board.flights w ≡ Some f) (only : (v : ℕ) (g : Flight) → m.board.flights v ≡ Some g → v ≡ w) where
-    one : (v : ℕ) (g : Flight) → m.board.flights v ≡ Some g → g.key ≡ f.key
-    one v g at = ap (λ (z : Flight). z.key) (one_flight g f (sym at ∙ ap m.board.flights (only v g at) ∙ there))
+  module _ (m : Machine) (w : ℕ) (f : MachineFlight) (below : w < workers) (there : m.board.flights w ≡ Some f) (only : (v : ℕ) (g : MachineFlight) → m.board.flights v ≡ Some g → v ≡ w) where
+    one : (v : ℕ) (g : MachineFlight) → m.board.flights v ≡ Some g → g.key ≡ f.key
+    one v g at = ap (λ (z : MachineFlight). z.key) (one_flight g f (sym at ∙ ap m.board.flights (only v g at) ∙ there))
 
-    ended : (v : ℕ) (g : Flight) → IsPut w v None m.board.flights (Some g) → ⊥
+    ended : (v : ℕ) (g : MachineFlight) → IsPut w v None m.board.flights (Some g) → ⊥
     ended v g (New same h) = no_flight g h
     ended v g (Old other at) = other (only v g at)
 
-    left_one : (h : Flight) (retires : Option Owner) (due : List Change) (v : ℕ) (g : Flight) → (left m w h retires due).board.flights v ≡ Some g → v ≡ w
+    left_one : (h : MachineFlight) (retires : Option Owner) (due : List Change) (v : ℕ) (g : MachineFlight) → (left m w h retires due).board.flights v ≡ Some g → v ≡ w
     left_one h retires due v g at = by (put_by w v (Some (parted h retires)) m.board.flights (Some g) at)
       where
         by : IsPut w v (Some (parted h retires)) m.board.flights (Some g) → v ≡ w
         by (New same e) = same
         by (Old other at) = only v g at
 
-    left_ended : (h : Flight) (retires : Option Owner) (due : List Change) (v : ℕ) (g : Flight) → IsPut w v None (left m w h retires due).board.flights (Some g) → ⊥
+    left_ended : (h : MachineFlight) (retires : Option Owner) (due : List Change) (v : ℕ) (g : MachineFlight) → IsPut w v None (left m w h retires due).board.flights (Some g) → ⊥
     left_ended h retires due v g (New same e) = no_flight g e
     left_ended h retires due v g (Old other at) = other (left_one h retires due v g at)
 
@@ -151,7 +148,7 @@ module _ (plan : Ports) (is : IsPlan plan) (workers : ℕ) (capacities : List �
     goes-on shared _ (Ended g x) = inl (λ v h at. ended v h (put_by w v None m.board.flights (Some h) at))
     goes-on shared _ (Left g o x) = inl (λ v h at. left_ended g g.retires [] v h (put_by w v None (left m w g g.retires []).board.flights (Some h) at))
     goes-on shared _ (Retires g o x) =
-        let same : f.leaves ≡ Some o = ap (λ (z : Flight). z.leaves) (one_flight f g (sym there ∙ x.leaving.flying)) ∙ x.leaving.leaves in
+        let same : f.leaves ≡ Some o = ap (λ (z : MachineFlight). z.leaves) (one_flight f g (sym there ∙ x.leaving.flying)) ∙ x.leaving.leaves in
         inr (record {
           worker = w;
           below = below;
@@ -209,13 +206,13 @@ module _ (plan : Ports) (is : IsPlan plan) (workers : ℕ) (capacities : List �
     where
       by : (call : Call Rid) → IsDueCall workers call s → Answered s n
       by call y =
-          let z = change s.machine.stands s.made y.change call y.of in
+          let z = change_made s.machine.stands s.made y.change call y.of in
           let at : y.worker ≡ x.worker = x.only y.worker y.flight y.flying in
           let m : Machine = moved s.machine y.worker y.rest z.later in
           let flight : y.flight ≡ x.flight = one_flight y.flight x.flight (sym y.flying ∙ ap s.machine.board.flights at ∙ x.there) in
           let due : s.machine.due x.worker ≡ y.change ∷ y.rest = ap s.machine.due (sym at) ∙ y.due in
           let size : length y.rest + going_length y.flight.leaves ≡ n = omega (arith, subst (λ v. length (y.change ∷ y.rest) + going_length v.leaves ≡ suc n) (sym flight) (subst (λ v. length v + going_length x.flight.leaves ≡ suc n) due x.size)) in
-          let only : (v : ℕ) (g : Flight) → m.board.flights v ≡ Some g → v ≡ y.worker = λ v g there. x.only v g there ∙ sym at in
+          let only : (v : ℕ) (g : MachineFlight) → m.board.flights v ≡ Some g → v ≡ y.worker = λ v g there. x.only v g there ∙ sym at in
           let f = follow m y.worker y.flight y.below y.flying only s kept (λ q. refl) (m.due y.worker) refl y.flight.leaves refl in
           let due_is : m.due y.worker ≡ y.rest = put_at y.worker y.worker y.rest s.machine.due refl in
           let on = goes-on m y.worker y.flight y.below y.flying only (λ o leaves. let was = (kept.sound.board.leaves y.worker y.flight o y.flying leaves).0 in (tabled plan is).are_shared y.flight.key was.row o was.used) f.0 f.1 in
@@ -242,6 +239,6 @@ module _ (plan : Ports) (is : IsPlan plan) (workers : ℕ) (capacities : List �
       let on = goes-on m x.worker x.flight x.below (put_at x.worker x.worker (Some x.flight) s.machine.board.flights refl) (λ v g at. by v g (put_by x.worker v (Some x.flight) s.machine.board.flights (Some g) at)) (λ o leaves. use_shared x.flight.key (s.machine.board.applied x.flight.key) o (x.begins.leaves o leaves).0) t.machine x.follows in
       to-rest (length (m.due x.worker) + going_length x.flight.leaves) t (kept-event plan is workers capacities s t None kept (inr (inr (inr x)))) on
     where
-      by : (v : ℕ) (g : Flight) → IsPut x.worker v (Some x.flight) s.machine.board.flights (Some g) → v ≡ x.worker
+      by : (v : ℕ) (g : MachineFlight) → IsPut x.worker v (Some x.flight) s.machine.board.flights (Some g) → v ≡ x.worker
       by v g (New same e) = same
       by v g (Old other at) = absurd (quiet v g at)

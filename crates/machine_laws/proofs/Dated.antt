@@ -35,7 +35,7 @@ use Rattle.switch_machine.proofs.Kept.{called-laid, called-sound, legal-call}
 use Rattle.machine_laws.specs.Logged.{AreLoggedEvents, IsLoggedEvent, LoggedSwitch, new_switch, after_logged}
 use Rattle.switch_model.specs.declared.mark.MarkEvent.TheVariants as event
 use Rattle.machine_laws.specs.Order.{IsOrdered}
-use Rattle.machine_laws.proofs.Completing.{change}
+use Rattle.machine_laws.proofs.Completing.{change_made}
 use Rattle.machine_laws.proofs.Ordering.{Rounds, ordered-rounds, rounds-more}
 use Rattle.machine_laws.proofs.Named.{route-stands}
 use Rattle.machine_laws.proofs.Staying.{chip_after-all, chip_after-front, good-front, split}
@@ -76,7 +76,7 @@ module _ (plan : Ports) (is : IsPlan plan) (workers : ℕ) (capacities : List �
   -- and so they are after a call that was due took effect, whether it was answered so or not
   pub routes-called : (c : SwitchState) (taken : List Sent) (call : Call Rid) → IsSafe plan workers capacities c → IsDueCall workers call c → c.written.taken ≡ sent_writes taken → RoutesAreOfRows plan taken (after_call (c.made + 1) c.objects call)
   routes-called c taken call kept due same prefix goal h =
-      let z = change c.machine.stands c.made due.change call due.of in
+      let z = change_made c.machine.stands c.made due.change call due.of in
       let m : Machine = moved c.machine due.worker due.rest z.later in
       let sound = called-sound plan is workers capacities c kept call due z.id z.given z.later z.into z.back in
       let laid = called-laid plan is workers capacities c kept call due z.id z.given z.later z.into z.back in

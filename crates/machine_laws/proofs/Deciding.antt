@@ -9,9 +9,9 @@ abbrev pub IsDecided : Type 0 → Type 0
 IsDecided X = X ⊎ (X → ⊥)
 
 -- whether one of the items is so
-pub any_or : {A : Type 0} (P : A → Type 0) → ((x : A) → IsDecided (P x)) → (xs : List A) → IsDecided ((x : A) × IsIn x xs × P x)
-any_or P d [] = inr (λ h. elim h.1 [ ])
-any_or {A} P d (x ∷ xs) = by (d x) (any_or P d xs)
+pub any_decided : {A : Type 0} (P : A → Type 0) → ((x : A) → IsDecided (P x)) → (xs : List A) → IsDecided ((x : A) × IsIn x xs × P x)
+any_decided P d [] = inr (λ h. elim h.1 [ ])
+any_decided {A} P d (x ∷ xs) = by (d x) (any_decided P d xs)
   where
     by : IsDecided (P x) → IsDecided ((y : A) × IsIn y xs × P y) → IsDecided ((y : A) × IsIn y (x ∷ xs) × P y)
     by (inl p) _ = inl (x, inl refl, p)
@@ -23,7 +23,7 @@ any_or {A} P d (x ∷ xs) = by (d x) (any_or P d xs)
         neither y (inr at) p = none (y, at, p)
 
 pub in_split : (o : Owner) (xs : List Owner) → IsDecided (IsIn o xs)
-in_split o xs = by (any_or (λ p. o ≡ p) (λ p. owner_split o p) xs)
+in_split o xs = by (any_decided (λ p. o ≡ p) (λ p. owner_split o p) xs)
   where
     by : IsDecided ((p : Owner) × IsIn p xs × (o ≡ p)) → IsDecided (IsIn o xs)
     by (inl (p, at, e)) = inl (subst (λ z. IsIn z xs) (sym e) at)

@@ -14,7 +14,7 @@ use Rattle.row_layout.specs.Operations.{Change, own_changes, uses_of}
 use Rattle.row_layout.specs.Rows.{Owner}
 use Rattle.row_layout.proofs.Changing.{own_same}
 use Rattle.switch_machine.specs.Events.{IsQuiet, IsSafe, SwitchState}
-use Rattle.switch_machine.specs.Flights.{Fits, Flight}
+use Rattle.switch_machine.specs.Flights.{Fits, MachineFlight}
 use Rattle.switch_machine.specs.Operations.{MayBegin, built_first}
 use Rattle.switch_machine.specs.Places.{makes}
 use Rattle.switch_machine.specs.Written.{good_of}
@@ -32,7 +32,7 @@ module _ (plan : Ports) (is : IsPlan plan) (workers : ℕ) (capacities : List �
     named q h = has_row rows (names_of k r) q (closed plan is workers capacities s kept k r at) h
 
     -- an operation that would bring the row again makes nothing
-    nothing_made : (kind : Kind) (f : Flight) (due : List Change) → f.key ≡ k → f.new ≡ Some r → MayBegin plan s.machine 0 f due → makes kind due ≡ 0
+    nothing_made : (kind : Kind) (f : MachineFlight) (due : List Change) → f.key ≡ k → f.new ≡ Some r → MayBegin plan s.machine 0 f due → makes kind due ≡ 0
     nothing_made kind f due is_key new begins = by begins.operation.builds refl
       where
         applied : rows f.key ≡ f.new

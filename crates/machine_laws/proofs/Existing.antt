@@ -3,6 +3,7 @@ use Rattle.std.proofs.Common.{◌≡◌, ◌⊎◌, ◌<◌, ◌≤◌, ◌∷�
 use Rattle.std.specs.Cmp.{eq_by_cmp_equiv}
 use Rattle.std.specs.declared.cmp.Ordering.{Ordering}
 use Rattle.std.specs.declared.cmp.Ordering.TheVariants.{Less, Equal}
+use Rattle.swss_types.proofs.Tied.{tied}
 use Rattle.table_schema.specs.Key.{key_cmp}
 use Rattle.table_schema.specs.Plan.{IsPlan, Ports}
 use Rattle.table_schema.specs.declared.key.Key.{Key}
@@ -10,7 +11,6 @@ use Rattle.table_schema.proofs.Keys.{key_total}
 use Rattle.sai_types.specs.declared.ids.Rid.{Rid}
 use Rattle.sai_types.specs.declared.body.Call.{Call}
 use Rattle.sai_types.specs.Alike.{IsIn}
-use Rattle.switch_model.proofs.Tied.{tied}
 use Rattle.switch_machine.specs.Events.{IsBegin, IsQuiet, IsSafe, SwitchState, after_answers}
 use Rattle.switch_machine.specs.Next.{MustWait}
 use Rattle.machine_laws.specs.Reading.{IsOnSwitch}

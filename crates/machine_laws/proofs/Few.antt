@@ -28,7 +28,7 @@ use Rattle.row_layout.specs.Rows as owner
 use Rattle.row_layout.specs.Rows.{Owner, from, goal_of, own_things}
 use Rattle.row_layout.specs.Shared.{address_uses, group_by, route_uses, shared_things, uses}
 use Rattle.row_layout.proofs.Members.{from_in, only}
-use Rattle.switch_machine.specs.Flights.{Flight, Machine}
+use Rattle.switch_machine.specs.Flights.{MachineFlight, Machine}
 use Rattle.switch_machine.specs.Operations.{MayBegin, built_first}
 use Rattle.machine_laws.proofs.Completing.{going_length}
 use Rattle.machine_laws.proofs.Fitting.{hop_count, hops-few, insert-few}
@@ -191,7 +191,7 @@ module _ (plan : Ports) (k : Key) (old new : Option Row) (old_reads : HasReadRow
       omega (arith, number, same, shared)
 
 -- what is due for an operation that begins, and what it may retire, are at most 259 changes
-pub operation-few : (plan : Ports) (m : Machine) (w : ℕ) (f : Flight) (due : List Change) → MayBegin plan m w f due → HasReadRow plan f.key (m.board.applied f.key) → HasReadRow plan f.key f.new → length due + going_length f.leaves ≤ 259
+pub operation-few : (plan : Ports) (m : Machine) (w : ℕ) (f : MachineFlight) (due : List Change) → MayBegin plan m w f due → HasReadRow plan f.key (m.board.applied f.key) → HasReadRow plan f.key f.new → length due + going_length f.leaves ≤ 259
 operation-few plan m w f due begins old new =
     let x = begins.operation in
     let built = built_few plan f.key (m.board.applied f.key) f.new old new x.builds (λ p e. (x.built p e).0) in

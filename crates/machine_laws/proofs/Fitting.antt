@@ -1,6 +1,6 @@
 -- a good row all of whose names are applied is one of its table
 use Rattle.std.proofs.Common.{◌≡◌, ◌+◌, ◌<◌, ◌≤◌, ◌==◌, ◌&&◌, ◌∷◌, ◌∙◌, ℕ, nat_le, nat_lt, Bool, true, false, cond, List, [], map, length, Option, None, Some, option_map, is_some, Ordering, Result, Ok, Err, codes, bytes_eq, refl, sym, ap, subst, arith}
-use Rattle.std.proofs.lemmas.Bool.{eqb-true}
+use Rattle.std.proofs.lemmas.Bool.{eqb-true, and_parts}
 use Rattle.std.proofs.lemmas.Bool.Decides.{nat_tests}
 use Rattle.std.proofs.lemmas.List.Splits.{length-slice_split}
 use Rattle.std.proofs.lemmas.Slice.Eq.{bytes_eq-Decides}
@@ -55,7 +55,7 @@ use Rattle.switch_model.specs.Things as things
 use Rattle.row_layout.specs.Rows.{goal_by, goal_of}
 use Rattle.switch_machine.specs.Flights.{Fits}
 use Rattle.machine_laws.specs.Reading.{IsOnSwitch}
-use Rattle.machine_laws.proofs.Rows.{both_true, there}
+use Rattle.machine_laws.proofs.Rows.{there}
 
 then_ok : {A B : Type 0} (x : Result A BadRow) (f : A → Result B BadRow) (y : B) → and_then x f ≡ Ok y → (v : A) × (x ≡ Ok v) × (f v ≡ Ok y)
 then_ok (Ok v) f y h = (v, refl, h)
@@ -68,8 +68,8 @@ read_ok (Err e) r h = absurd cc
 abbrev okay : {A : Type 0} → A → Result A BadRow
 okay x = Ok x
 
-ok_is : {A : Type 0} (x y : A) → okay x ≡ okay y → x ≡ y
-ok_is x y h = cc
+same_okay : {A : Type 0} (x y : A) → okay x ≡ okay y → x ≡ y
+same_okay x y h = cc
 
 -- ---- ports
 
@@ -111,7 +111,7 @@ tagged_ok None r h = absurd cc
 tagged_ok (Some x) r h = (x, cc)
 
 tagging_ok : (text : Option (List ℕ)) (r : Row) → tagging_row text ≡ Ok r → (x : Tagging) × (r ≡ row.Member x)
-tagging_ok None r h = (_, sym (ok_is _ r h))
+tagging_ok None r h = (_, sym (same_okay _ r h))
 tagging_ok (Some text) r h = tagged_ok (tagging_of text) r h
 
 mac_ok : (m : Option Mac) (r : Row) → mac_row m ≡ Ok r → (x : Mac) × (r ≡ row.Neigh x)
@@ -141,15 +141,15 @@ hop_at_ok several on (Some ip) h e = by (several && is_zero ip) e
   where
     by : (b : Bool) → cond b (bad BadValue 7) (Ok (record { on = on; ip = ip })) ≡ Ok h → h.on ≡ on
     by true e = absurd cc
-    by false e = ap (λ (z : RowHop). z.on) (sym (ok_is _ h e))
+    by false e = ap (λ (z : RowHop). z.on) (sym (same_okay _ h e))
 
 hop_on_ok : (several : Bool) (text : List ℕ) (on : Option IfName) (ip : Option Ip) (h : RowHop) → on_switch (if_name_of text) ≡ on → hop_on several on ip ≡ Ok h → IsSwitched h
 hop_on_ok several text None ip h is e = absurd cc
 hop_on_ok several text (Some on) ip h is e = subst (λ z. on_switch (Some z) ≡ Some z) (sym (hop_at_ok several on ip h e)) (on_switch_stays (if_name_of text) on is).1
 
 hops_with_ok : (several : Bool) (hops : List RowHop) (ips names : List (List ℕ)) (out : List RowHop) → AllByRecursion IsSwitched hops → hops_with several hops ips names ≡ Ok out → AllByRecursion IsSwitched out
-hops_with_ok several hops [] names out all h = subst (AllByRecursion IsSwitched) (ok_is hops out h) all
-hops_with_ok several hops (ip ∷ ips) [] out all h = subst (AllByRecursion IsSwitched) (ok_is hops out h) all
+hops_with_ok several hops [] names out all h = subst (AllByRecursion IsSwitched) (same_okay hops out h) all
+hops_with_ok several hops (ip ∷ ips) [] out all h = subst (AllByRecursion IsSwitched) (same_okay hops out h) all
 hops_with_ok several hops (ip ∷ ips) (on ∷ names) out all h =
     let x = then_ok (hop_of several ip on) (λ hop. hops_with several (insert_key hop_cmp hops hop) ips names) out h in
     hops_with_ok several (insert_key hop_cmp hops x.0) ips names out (AllByRecursion-insert_key IsSwitched hops x.0 (hop_on_ok several on (on_switch (if_name_of on)) (ip_of ip) x.0 refl x.1) all) x.2
@@ -166,8 +166,8 @@ insert-few {A} cmp (x ∷ hops) hop =
     elim (cmp hop x) as (λ r. length (match_ordering r (hop ∷ x ∷ hops) (x ∷ hops) (x ∷ insert_key cmp hops hop)) ≤ length (x ∷ hops) + 1) [ Less ↦ omega arith | Equal ↦ omega arith | Greater ↦ omega (arith, rest) ]
 
 hops_with_few : (several : Bool) (hops : List RowHop) (ips names : List (List ℕ)) (out : List RowHop) → hops_with several hops ips names ≡ Ok out → length out ≤ length hops + length ips
-hops_with_few several hops [] names out h = let same = ap length (ok_is hops out h) in omega (arith, same)
-hops_with_few several hops (ip ∷ ips) [] out h = let same = ap length (ok_is hops out h) in omega (arith, same)
+hops_with_few several hops [] names out h = let same = ap length (same_okay hops out h) in omega (arith, same)
+hops_with_few several hops (ip ∷ ips) [] out h = let same = ap length (same_okay hops out h) in omega (arith, same)
 hops_with_few several hops (ip ∷ ips) (on ∷ names) out h =
     let x = then_ok (hop_of several ip on) (λ hop. hops_with several (insert_key hop_cmp hops hop) ips names) out h in
     let rest = hops_with_few several (insert_key hop_cmp hops x.0) ips names out x.2 in
@@ -175,44 +175,44 @@ hops_with_few several hops (ip ∷ ips) (on ∷ names) out h =
     omega (arith, rest, one)
 
 stay_some : (several : Bool) (hops : List RowHop) (ips names : List (List ℕ)) (out : List RowHop) → 0 < length hops → hops_with several hops ips names ≡ Ok out → 0 < length out
-stay_some several hops [] names out some h = subst (λ z. 0 < length z) (ok_is hops out h) some
-stay_some several hops (ip ∷ ips) [] out some h = subst (λ z. 0 < length z) (ok_is hops out h) some
+stay_some several hops [] names out some h = subst (λ z. 0 < length z) (same_okay hops out h) some
+stay_some several hops (ip ∷ ips) [] out some h = subst (λ z. 0 < length z) (same_okay hops out h) some
 stay_some several hops (ip ∷ ips) (on ∷ names) out some h =
     let x = then_ok (hop_of several ip on) (λ hop. hops_with several (insert_key hop_cmp hops hop) ips names) out h in
     stay_some several (insert_key hop_cmp hops x.0) ips names out (some_hop hop_cmp hops x.0) x.2
 
-first_some : (several : Bool) (ips names : List (List ℕ)) (out : List RowHop) → 0 < length ips → length ips ≡ length names → hops_with several [] ips names ≡ Ok out → 0 < length out
-first_some several [] names out some same h = absurd (omega (arith, some))
-first_some several (ip ∷ ips) [] out some same h = absurd (omega (arith, same))
-first_some several (ip ∷ ips) (on ∷ names) out some same h =
+read_hops_some : (several : Bool) (ips names : List (List ℕ)) (out : List RowHop) → 0 < length ips → length ips ≡ length names → hops_with several [] ips names ≡ Ok out → 0 < length out
+read_hops_some several [] names out some same h = absurd (omega (arith, some))
+read_hops_some several (ip ∷ ips) [] out some same h = absurd (omega (arith, same))
+read_hops_some several (ip ∷ ips) (on ∷ names) out some same h =
     let x = then_ok (hop_of several ip on) (λ hop. hops_with several (insert_key hop_cmp [] hop) ips names) out h in
     stay_some several (insert_key hop_cmp [] x.0) ips names out (some_hop hop_cmp [] x.0) x.2
 
-record AreHops (out : List RowHop) : Type 0 where
+record AreSwitchedHops (out : List RowHop) : Type 0 where
   all : AllByRecursion IsSwitched out
   some : 0 < length out
   few : length out ≤ 128
 
-at_most : (n m : ℕ) → nat_le n m ≡ true → n ≤ m
-at_most n m h = grind (arith, nat_tests)
+at_most_by_test : (n m : ℕ) → nat_le n m ≡ true → n ≤ m
+at_most_by_test n m h = grind (arith, nat_tests)
 
-hops_ok : (ips names : List (List ℕ)) (out : List RowHop) → 0 < length ips → hops_of ips names ≡ Ok out → AreHops out
+hops_ok : (ips names : List (List ℕ)) (out : List RowHop) → 0 < length ips → hops_of ips names ≡ Ok out → AreSwitchedHops out
 hops_ok ips names out some h = counted (length ips == length names) refl h
   where
-    few : (b : Bool) → nat_le (length ips) 128 ≡ b → length ips ≡ length names → cond b (hops_with (nat_lt 1 (length ips)) [] ips names) (bad TooManyHops 7) ≡ Ok out → AreHops out
+    few : (b : Bool) → nat_le (length ips) 128 ≡ b → length ips ≡ length names → cond b (hops_with (nat_lt 1 (length ips)) [] ips names) (bad TooManyHops 7) ≡ Ok out → AreSwitchedHops out
     few true most same h =
-        let bound = at_most (length ips) 128 most in
+        let bound = at_most_by_test (length ips) 128 most in
         let number = hops_with_few (nat_lt 1 (length ips)) [] ips names out h in
-        record { all = hops_with_ok (nat_lt 1 (length ips)) [] ips names out tt h; some = first_some (nat_lt 1 (length ips)) ips names out some same h; few = omega (arith, bound, number) }
+        record { all = hops_with_ok (nat_lt 1 (length ips)) [] ips names out tt h; some = read_hops_some (nat_lt 1 (length ips)) ips names out some same h; few = omega (arith, bound, number) }
     few false most same h = absurd cc
 
-    counted : (b : Bool) → (length ips == length names) ≡ b → cond b (cond (nat_le (length ips) 128) (hops_with (nat_lt 1 (length ips)) [] ips names) (bad TooManyHops 7)) (bad CountsDiffer 8) ≡ Ok out → AreHops out
+    counted : (b : Bool) → (length ips == length names) ≡ b → cond b (cond (nat_le (length ips) 128) (hops_with (nat_lt 1 (length ips)) [] ips names) (bad TooManyHops 7)) (bad CountsDiffer 8) ≡ Ok out → AreSwitchedHops out
     counted true same h = few (nat_le (length ips) 128) refl (eqb-true (length ips) (length names) same) h
     counted false same h = absurd cc
 
 data IsTarget (t : RouteRow) : Type 0 where
   IsDrop : t ≡ route.Drop → IsTarget t
-  Goes : (out : List RowHop) → AreHops out → t ≡ target_of out → IsTarget t
+  Goes : (out : List RowHop) → AreSwitchedHops out → t ≡ target_of out → IsTarget t
 
 forwarding_ok : (fields : Pairs) (t : RouteRow) → forwarding_of fields ≡ Ok t → IsTarget t
 forwarding_ok fields t h =
@@ -220,17 +220,17 @@ forwarding_ok fields t h =
     let names = then_ok (filled 8 (value_of (codes "ifname") fields)) _ t ips.2 in
     let out = then_ok (hops_of (parts_at 44 ips.0) (parts_at 44 names.0)) (λ hops. Ok (target_of hops)) t names.2 in
     let many = length-slice_split (λ b. b == 44) ips.0 in
-    Goes out.0 (hops_ok (parts_at 44 ips.0) (parts_at 44 names.0) out.0 (omega (arith, many)) out.1) (sym (ok_is (target_of out.0) t out.2))
+    Goes out.0 (hops_ok (parts_at 44 ips.0) (parts_at 44 names.0) out.0 (omega (arith, many)) out.1) (sym (same_okay (target_of out.0) t out.2))
 
 target_ok : (drops : Bool) (fields : Pairs) (t : RouteRow) → route_target drops fields ≡ Ok t → IsTarget t
-target_ok true fields t h = IsDrop (sym (ok_is route.Drop t h))
+target_ok true fields t h = IsDrop (sym (same_okay route.Drop t h))
 target_ok false fields t h = forwarding_ok fields t h
 
 route_ok : (fields : Pairs) (r : Row) → and_then (route_row_of fields) (λ target. Ok (row.Route target)) ≡ Ok r → (t : RouteRow) × (r ≡ row.Route t) × IsTarget t
 route_ok fields r h =
     let t = then_ok (route_row_of fields) (λ target. Ok (row.Route target)) r h in
     let d = then_ok (drops_of fields) (λ drops. route_target drops fields) t.0 t.1 in
-    (t.0, sym (ok_is (row.Route t.0) r t.2), target_ok d.0 fields t.0 d.2)
+    (t.0, sym (same_okay (row.Route t.0) r t.2), target_ok d.0 fields t.0 d.2)
 
 -- ---- how many hops a row has
 
@@ -274,7 +274,7 @@ module _ (plan : Ports) (applied : TypedRows) (fit : (q : Key) (x : Row) → app
   lane_there port h = let r = there (applied (key.Port port)) h in port_lane port r.0 (fit (key.Port port) r.0 r.1)
 
   base_by : (on : IfName) → on_switch (Some on) ≡ Some on → have_rows applied (base_names on) ≡ true → (b : Base) × (base_of plan on ≡ Some b)
-  base_by (name.Ethernet port) is h = let l = lane_there port (both_true (is_some (applied (key.Port port))) true h).0 in (base.Port l.0, ap (option_map base.Port) l.1)
+  base_by (name.Ethernet port) is h = let l = lane_there port (and_parts (is_some (applied (key.Port port))) true h).0 in (base.Port l.0, ap (option_map base.Port) l.1)
   base_by (name.Vlan vlan) is h = (base.Vlan vlan, refl)
   base_by (name.Loopback number) is h = absurd cc
 
@@ -295,7 +295,7 @@ module _ (plan : Ports) (applied : TypedRows) (fit : (q : Key) (x : Row) → app
   hops_there : (hops : List RowHop) → have_rows applied (map (λ h. key.Neigh h.on h.ip) hops) ≡ true → (out : List Hop) × (things.hops_of plan hops ≡ Some out) × (0 < length hops → 0 < length out)
   hops_there [] h = ([], refl, λ some. some)
   hops_there (x ∷ xs) h =
-      let parts = both_true (is_some (applied (key.Neigh x.on x.ip))) (have_rows applied (map (λ h. key.Neigh h.on h.ip) xs)) h in
+      let parts = and_parts (is_some (applied (key.Neigh x.on x.ip))) (have_rows applied (map (λ h. key.Neigh h.on h.ip) xs)) h in
       let one = hop_there x parts.0 in
       let rest = hops_there xs parts.1 in
       (insert_key named.hop_cmp rest.0 one.0, (ap (λ z. both (insert_key named.hop_cmp) z (things.hop_of plan x)) rest.1 ∙ ap (both (insert_key named.hop_cmp) (Some rest.0)) one.1), λ some. some_hop named.hop_cmp rest.0 one.0)
@@ -311,12 +311,12 @@ module _ (plan : Ports) (applied : TypedRows) (fit : (q : Key) (x : Row) → app
       let g = goal_some x.0 (x.2 some) in
       (g.0, ap goal_by x.1 ∙ g.1)
 
-  target_goal : (out : List RowHop) → AreHops out → have_rows applied (route_names (target_of out)) ≡ true → (g : Goal) × (goal_of plan (target_of out) ≡ Some g)
+  target_goal : (out : List RowHop) → AreSwitchedHops out → have_rows applied (route_names (target_of out)) ≡ true → (g : Goal) × (goal_of plan (target_of out) ≡ Some g)
   target_goal [] are h = absurd (let some = are.some in omega (arith, some))
   target_goal (x ∷ []) are h = by (is_zero x.ip) h
     where
       by : (b : Bool) → have_rows applied (route_names (cond b (route.Direct x.on) (route.Hops (x ∷ [])))) ≡ true → (g : Goal) × (goal_of plan (cond b (route.Direct x.on) (route.Hops (x ∷ []))) ≡ Some g)
-      by true h = let b = base_there x.on are.all.0 (both_true (is_some (applied (key.Intf x.on))) true h).0 in (goal.Direct b.0, ap (option_map goal.Direct) b.1)
+      by true h = let b = base_there x.on are.all.0 (and_parts (is_some (applied (key.Intf x.on))) true h).0 in (goal.Direct b.0, ap (option_map goal.Direct) b.1)
       by false h = hops_goal (x ∷ []) are.some h
   target_goal (x ∷ y ∷ zs) are h = hops_goal (x ∷ y ∷ zs) are.some h
 
@@ -326,17 +326,17 @@ module _ (plan : Ports) (applied : TypedRows) (fit : (q : Key) (x : Row) → app
 
   fits_by : (k : Key) (fields : Pairs) (r : Row) → IsOnSwitch k → row_of plan k fields ≡ Ok r → have_rows applied (names_of k r) ≡ true → Fits plan k r
   fits_by (key.Port port) fields r on h names = let x = port_ok plan port fields r h in subst (Fits plan (key.Port port)) (sym x.1) x.2
-  fits_by (key.Vlan vlan) fields r on h names = subst (Fits plan (key.Vlan vlan)) (ok_is row.Vlan r h) tt
+  fits_by (key.Vlan vlan) fields r on h names = subst (Fits plan (key.Vlan vlan)) (same_okay row.Vlan r h) tt
   fits_by (key.Member vlan port) fields r on h names =
       let x = tagging_ok (value_of (codes "tagging_mode") fields) r h in
-      let one = both_true (is_some (applied (key.Vlan vlan))) (is_some (applied (key.Port port)) && true) names in
-      let two = both_true (is_some (applied (key.Port port))) true one.1 in
+      let one = and_parts (is_some (applied (key.Vlan vlan))) (is_some (applied (key.Port port)) && true) names in
+      let two = and_parts (is_some (applied (key.Port port))) true one.1 in
       subst (Fits plan (key.Member vlan port)) (sym x.1) (lane_there port two.0)
   fits_by (key.Intf n) fields r on h names = subst (Fits plan (key.Intf n)) (sym (router_ok (value_of (codes "vrf_name") fields) r h)) tt
-  fits_by (key.Addr n ip len) fields r on h names = subst (Fits plan (key.Addr n ip len)) (ok_is row.Addr r h) tt
+  fits_by (key.Addr n ip len) fields r on h names = subst (Fits plan (key.Addr n ip len)) (same_okay row.Addr r h) tt
   fits_by (key.Neigh n ip) fields r on h names =
       let x = lladdr_ok (value_of (codes "neigh") fields) r h in
-      subst (Fits plan (key.Neigh n ip)) (sym x.1) (base_there n on (both_true (is_some (applied (key.Intf n))) true names).0)
+      subst (Fits plan (key.Neigh n ip)) (sym x.1) (base_there n on (and_parts (is_some (applied (key.Intf n))) true names).0)
   fits_by (key.Route prefix) fields r on h names =
       let x = route_ok fields r h in
       subst (Fits plan (key.Route prefix)) (sym x.1) (on, route_goal x.0 x.2 (subst (λ z. have_rows applied (names_of (key.Route prefix) z) ≡ true) x.1 names))

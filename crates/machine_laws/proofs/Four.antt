@@ -19,7 +19,7 @@ use Rattle.switch_model.specs.Good.{TypedRows}
 use Rattle.switch_model.specs.Marks.{Overflows, first_missing}
 use Rattle.switch_model.specs.Things.{things_of}
 use Rattle.switch_model.specs.declared.wait.Wait.TheVariants as wait
-use Rattle.switch_model.proofs.Ready.{AreBelow, names_below}
+use Rattle.switch_model.proofs.Ready.{AreBelow, low, names_below}
 use Rattle.machine_laws.specs.ToSync.{AreInKeyOrder, AreSynced, HasRoomTogether}
 use Rattle.switch_model.specs.Levels.{level_of}
 use Rattle.switch_model.specs.Turns.{HasReason, IsTurn, TakeTurns, with_good}
@@ -36,23 +36,13 @@ in_below n (k ∷ ks) p below (inr h) = in_below n ks p below.1 h
 pub named_below : (k : Key) (r : Row) (p : Key) → IsIn p (names_of k r) → level_of p < level_of k
 named_below k r p h = in_below (level_of k) (names_of k r) p (names_below k r) h
 
-low : (k : Key) → level_of k < 4
-low (key.Port port) = omega arith
-low (key.Vlan vlan) = omega arith
-low (key.Member vlan port) = omega arith
-low (key.Intf on) = omega arith
-low (key.Addr on ip len) = omega arith
-low (key.Neigh on ip) = omega arith
-low (key.Route prefix) = omega arith
-low (key.Other text) = omega arith
-
-least : (q : Key) → 0 ≤ level_of q
-least q = omega arith
+level_not_below_zero : (q : Key) → 0 ≤ level_of q
+level_not_below_zero q = omega arith
 
 -- lower levels come first
 pub first_lower : (k q : Key) → key_cmp k q ≡ Less → level_of k ≤ level_of q
-first_lower (key.Port port) q h = least q
-first_lower (key.Vlan vlan) q h = least q
+first_lower (key.Port port) q h = level_not_below_zero q
+first_lower (key.Vlan vlan) q h = level_not_below_zero q
 first_lower k (key.Route x) h = let l = low k in omega (arith, l)
 first_lower k (key.Other x) h = let l = low k in omega (arith, l)
 first_lower (key.Member vlan port) (key.Member x y) h = omega arith

@@ -4,6 +4,7 @@ use Rattle.std.proofs.lemmas.Bool.{false≢true}
 use Rattle.std.specs.Cmp.{eq_by_cmp_equiv}
 use Rattle.std.specs.Ordering.{is_le, ordering_reverse}
 use Rattle.std.specs.declared.cmp.Ordering.TheVariants.{Less, Equal, Greater}
+use Rattle.swss_types.proofs.Tied.{tied}
 use Rattle.table_schema.specs.Key.{key_cmp}
 use Rattle.table_schema.specs.Names.{names_of}
 use Rattle.table_schema.specs.declared.key.Key.{Key}
@@ -12,9 +13,8 @@ use Rattle.table_schema.proofs.Keys.{key_exact, key_total}
 use Rattle.sai_types.specs.Alike.{IsIn}
 use Rattle.switch_model.specs.Good.{TypedRows}
 use Rattle.switch_model.specs.Marks.{IsHeldBy}
-use Rattle.switch_model.proofs.Tied.{tied}
 use Rattle.machine_laws.proofs.Deciding.{IsDecided}
-use Rattle.machine_laws.proofs.Sharing.{key_in}
+use Rattle.machine_laws.proofs.Sharing.{key_listed_decided}
 
 -- a key does not stand behind another
 abbrev IsFirst : Key → Key → Type 0
@@ -97,7 +97,7 @@ module _ (rows : TypedRows) (k : Key) where
 
       by : (o : Option Row) → rows q ≡ o → IsDecided (Holds q)
       by None e = inr (λ h. let never : None ≡ Some h.0 = sym e ∙ h.1 in cc)
-      by (Some r) e = named r e (key_in k (names_of q r))
+      by (Some r) e = named r e (key_listed_decided k (names_of q r))
 
   -- where the keys of all rows are among these, a least row holds the key or none does
   pub held-or : (keys : List Key) → ((q : Key) (r : Row) → rows q ≡ Some r → IsIn q keys) → ((holder : Key) × IsHeldBy rows k holder) ⊎ ((q : Key) (r : Row) → rows q ≡ Some r → IsIn k (names_of q r) → ⊥)

@@ -7,7 +7,7 @@ use Rattle.sai_types.specs.declared.ids.Rid.{Rid}
 use Rattle.sai_types.specs.declared.body.Call.{Call}
 use Rattle.sai_types.specs.Alike.{IsIn}
 use Rattle.switch_machine.specs.Events.{AreEvents, IsQuiet, IsSafe, Popped, PopsKey, Stays, SwitchState, after_events, calls_of, with_made_call}
-use Rattle.switch_machine.specs.Flights.{Flight}
+use Rattle.switch_machine.specs.Flights.{MachineFlight}
 use Rattle.switch_machine.specs.Written.{HasNoWrite, IsAsBefore, IsPoppedKey, IsTold, good_of}
 use Rattle.switch_machine.proofs.Runs.{kept-run}
 use Rattle.switch_machine.proofs.Telling.{told-popped}
@@ -83,7 +83,7 @@ module _ (plan : Ports) (workers : ℕ) (capacities : List ℕ) where
   pops_machine s (t ∷ ts) run =
       let y = pops_machine t ts run.1 in (
         y.0 ∙ ap (λ z. record { applied = z.board.applied; stands = z.stands; made = t.made }) run.0.machine ∙ ap (λ z. record { applied = s.machine.board.applied; stands = s.machine.stands; made = z }) run.0.made,
-        λ h. y.1 (subst (λ z. (w : ℕ) (f : Flight) → z.board.flights w ≡ Some f → ⊥) (sym run.0.machine) h),
+        λ h. y.1 (subst (λ z. (w : ℕ) (f : MachineFlight) → z.board.flights w ≡ Some f → ⊥) (sym run.0.machine) h),
       )
 
   -- the keys that a settling tries are those that were to sync, and those of which a write waited

@@ -11,7 +11,7 @@ use Rattle.switch_model.specs.Marks.{written_key}
 use Rattle.row_layout.specs.Operations.{Change, shared_going, take_all}
 use Rattle.row_layout.specs.Rows.{Owner}
 use Rattle.switch_machine.specs.Events.{AreAnswers, AreEvents, Due, Ended, Follows, IsAnswer, IsBegin, IsDrop, IsDueCall, IsEvent, IsPop, IsQuiet, IsSafe, IsTake, Left, Popped, PopsKey, Retires, Stays, SwitchState, after_events, calls_of, empty_switch, with_made_call}
-use Rattle.switch_machine.specs.Flights.{Flight, Machine, put}
+use Rattle.switch_machine.specs.Flights.{MachineFlight, Machine, put}
 use Rattle.switch_machine.specs.Places.{sum_below}
 use Rattle.switch_machine.specs.Steps.{finished, left, moved, parted, started}
 use Rattle.switch_machine.specs.Written.{HasNoWrite}
@@ -25,7 +25,7 @@ use Rattle.machine_laws.proofs.Sharing.{fields_beside}
 -- ---- what is still to be done for operations
 
 -- what is due for an operation, and what it may retire
-abbrev pub left_of : Option Flight → List Change → ℕ
+abbrev pub left_of : Option MachineFlight → List Change → ℕ
 left_of None due = 0
 left_of (Some f) due = length due + going_length f.leaves
 
@@ -35,31 +35,31 @@ left_for m w = left_of (m.board.flights w) (m.due w)
 abbrev pub left_in : ℕ → Machine → ℕ
 left_in workers m = sum_below workers (left_for m)
 
-left_by : (f g : Option Flight) (d e : List Change) → f ≡ g → d ≡ e → left_of f d ≡ left_of g e
-left_by f g d e a b = ap (λ z. left_of z d) a ∙ ap (left_of g) b
+same_parts_left : (f g : Option MachineFlight) (d e : List Change) → f ≡ g → d ≡ e → left_of f d ≡ left_of g e
+same_parts_left f g d e a b = ap (λ z. left_of z d) a ∙ ap (left_of g) b
 
 module _ (workers w : ℕ) (below : w < workers) where
   -- of one worker alone it changes
   one_worker : (m later : Machine) → ((v : ℕ) → (v ≡ w → ⊥) → later.board.flights v ≡ m.board.flights v) → ((v : ℕ) → (v ≡ w → ⊥) → later.due v ≡ m.due v) → left_in workers later + left_for m w ≡ left_in workers m + left_for later w
-  one_worker m later flights due = sum_put workers w (left_for m) (left_for later) below (λ v other. left_by (m.board.flights v) (later.board.flights v) (m.due v) (later.due v) (sym (flights v other)) (sym (due v other)))
+  one_worker m later flights due = sum_put workers w (left_for m) (left_for later) below (λ v other. same_parts_left (m.board.flights v) (later.board.flights v) (m.due v) (later.due v) (sym (flights v other)) (sym (due v other)))
 
-  started_left : (m : Machine) (f : Flight) (due : List Change) → left_in workers (started m w f due) ≤ left_in workers m + (length due + going_length f.leaves)
+  started_left : (m : Machine) (f : MachineFlight) (due : List Change) → left_in workers (started m w f due) ≤ left_in workers m + (length due + going_length f.leaves)
   started_left m f due =
       let sum = one_worker m (started m w f due) (λ v other. put_off w v (Some f) m.board.flights other) (λ v other. put_off w v due m.due other) in
-      let now = left_by (put w (Some f) m.board.flights w) (Some f) (put w due m.due w) due (put_at w w (Some f) m.board.flights refl) (put_at w w due m.due refl) in
+      let now = same_parts_left (put w (Some f) m.board.flights w) (Some f) (put w due m.due w) due (put_at w w (Some f) m.board.flights refl) (put_at w w due m.due refl) in
       omega (arith, sum, now)
 
-  finished_left : (m : Machine) (f : Flight) → left_in workers (finished m w f) ≤ left_in workers m
+  finished_left : (m : Machine) (f : MachineFlight) → left_in workers (finished m w f) ≤ left_in workers m
   finished_left m f =
       let sum = one_worker m (finished m w f) (λ v other. put_off w v None m.board.flights other) (λ v other. refl) in
-      let now = left_by (put w None m.board.flights w) None (m.due w) (m.due w) (put_at w w None m.board.flights refl) refl in
+      let now = same_parts_left (put w None m.board.flights w) None (m.due w) (m.due w) (put_at w w None m.board.flights refl) refl in
       omega (arith, sum, now)
 
-  left_left : (m : Machine) (f : Flight) (retires : Option Owner) (due : List Change) → m.board.flights w ≡ Some f → length due ≤ going_length f.leaves → left_in workers (left m w f retires due) ≤ left_in workers m
+  left_left : (m : Machine) (f : MachineFlight) (retires : Option Owner) (due : List Change) → m.board.flights w ≡ Some f → length due ≤ going_length f.leaves → left_in workers (left m w f retires due) ≤ left_in workers m
   left_left m f retires due at few =
       let sum = one_worker m (left m w f retires due) (λ v other. put_off w v (Some (parted f retires)) m.board.flights other) (λ v other. put_off w v due m.due other) in
-      let was = left_by (m.board.flights w) (Some f) (m.due w) (m.due w) at refl in
-      let now = left_by (put w (Some (parted f retires)) m.board.flights w) (Some (parted f retires)) (put w due m.due w) due (put_at w w (Some (parted f retires)) m.board.flights refl) (put_at w w due m.due refl) in
+      let was = same_parts_left (m.board.flights w) (Some f) (m.due w) (m.due w) at refl in
+      let now = same_parts_left (put w (Some (parted f retires)) m.board.flights w) (Some (parted f retires)) (put w due m.due w) due (put_at w w (Some (parted f retires)) m.board.flights refl) (put_at w w due m.due refl) in
       omega (arith, sum, was, now, few)
 
   -- what follows an event leaves no more to do
@@ -72,18 +72,18 @@ module _ (workers w : ℕ) (below : w < workers) where
       omega (arith, first, last)
   follows_left plan m _ (Retires f o x) = let same = ap going_length x.leaving.leaves in left_left m f (Some o) (take_all (shared_going o) []) x.leaving.flying (omega (arith, same))
 
-  moved_left : (m : Machine) (f : Flight) (c : Change) (cs : List Change) (stands : _) → m.board.flights w ≡ Some f → m.due w ≡ c ∷ cs → left_in workers (moved m w cs stands) + 1 ≤ left_in workers m
+  moved_left : (m : Machine) (f : MachineFlight) (c : Change) (cs : List Change) (stands : _) → m.board.flights w ≡ Some f → m.due w ≡ c ∷ cs → left_in workers (moved m w cs stands) + 1 ≤ left_in workers m
   moved_left m f c cs stands at due =
       let sum = one_worker m (moved m w cs stands) (λ v other. refl) (λ v other. put_off w v cs m.due other) in
-      let was = left_by (m.board.flights w) (Some f) (m.due w) (c ∷ cs) at due in
-      let now = left_by (m.board.flights w) (Some f) (put w cs m.due w) cs at (put_at w w cs m.due refl) in
+      let was = same_parts_left (m.board.flights w) (Some f) (m.due w) (c ∷ cs) at due in
+      let now = same_parts_left (m.board.flights w) (Some f) (put w cs m.due w) cs at (put_at w w cs m.due refl) in
       omega (arith, sum, was, now)
 
 -- where a call is due something is left to do
 pub due-left : (workers : ℕ) (s : SwitchState) (call : Call Rid) → IsDueCall workers call s → 1 ≤ left_in workers s.machine
 due-left workers s call x =
     let least = sum_least workers x.worker (left_for s.machine) x.below in
-    let is = left_by (s.machine.board.flights x.worker) (Some x.flight) (s.machine.due x.worker) (x.change ∷ x.rest) x.flying x.due in
+    let is = same_parts_left (s.machine.board.flights x.worker) (Some x.flight) (s.machine.due x.worker) (x.change ∷ x.rest) x.flying x.due in
     omega (arith, least, is)
 
 -- an operation that begins leaves at most so much more to do
@@ -295,14 +295,14 @@ paid-event plan workers capacities s t (Some call) calls listed kept paid x = pa
 
 -- ---- runs
 
-pub none-left : (workers : ℕ) (m : Machine) → ((w : ℕ) (f : Flight) → m.board.flights w ≡ Some f → ⊥) → left_in workers m ≡ 0
+pub none-left : (workers : ℕ) (m : Machine) → ((w : ℕ) (f : MachineFlight) → m.board.flights w ≡ Some f → ⊥) → left_in workers m ≡ 0
 none-left zero m quiet = refl
 none-left (suc n) m quiet =
     let rest = none-left n m quiet in
     let last = none (m.board.flights n) (quiet n) in
     omega (arith, rest, last)
   where
-    none : (o : Option Flight) → ((f : Flight) → o ≡ Some f → ⊥) → left_of o (m.due n) ≡ 0
+    none : (o : Option MachineFlight) → ((f : MachineFlight) → o ≡ Some f → ⊥) → left_of o (m.due n) ≡ 0
     none None never = refl
     none (Some f) never = absurd (never f refl)
 

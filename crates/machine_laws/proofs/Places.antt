@@ -1,22 +1,22 @@
 -- there is room for what an operation makes, or a first kind lacks it
-use Rattle.std.proofs.Common.{◌≡◌, ◌⊎◌, ◌+◌, ◌<◌, ◌≤◌, ◌∷◌, ◌∙◌, inl, inr, ℕ, zero, suc, List, [], Option, None, Some, refl, sym, ap, subst, arith}
+use Rattle.std.proofs.Common.{◌≡◌, ◌⊎◌, ◌+◌, ◌<◌, ◌≤◌, ◌∙◌, inl, inr, ℕ, zero, suc, List, Option, None, Some, refl, sym, ap, subst, arith}
 use Rattle.table_schema.specs.Plan.{Ports}
 use Rattle.table_schema.specs.declared.key.Key.{Key}
 use Rattle.table_schema.specs.declared.row.Row.{Row}
 use Rattle.sai_types.specs.declared.kind.Kind.{Kind}
 use Rattle.sai_types.specs.declared.kind.Kind.TheVariants as kind
-use Rattle.sai_types.specs.declared.thing.Thing.{Thing}
 use Rattle.sai_types.specs.Alike.{IsIn}
 use Rattle.sai_types.specs.Objects.{level, used}
 use Rattle.sai_types.specs.Refusal.{capacity_of}
 use Rattle.row_layout.specs.Rows.{Owner}
-use Rattle.row_layout.specs.Operations.{Change, going, own_changes, take_all, uses_of}
+use Rattle.row_layout.specs.Operations.{Change, going, own_changes, uses_of}
 use Rattle.switch_machine.specs.Events.{SwitchState}
-use Rattle.switch_machine.specs.Flights.{Flight}
+use Rattle.switch_machine.specs.Flights.{MachineFlight}
 use Rattle.switch_machine.specs.Operations.{MayBegin, built_first}
 use Rattle.switch_machine.specs.Reasons.{LacksRoom}
 use Rattle.switch_machine.specs.Places.{HasRoomFor, makes, places_kept}
 use Rattle.switch_machine.specs.Written.{good_of}
+use Rattle.switch_machine.proofs.Kept.{no_makes}
 
 of_level : ℕ → Kind
 of_level zero = kind.Port
@@ -59,18 +59,18 @@ level_low (suc (suc (suc (suc (suc (suc (suc (suc zero)))))))) = omega arith
 level_low (suc (suc (suc (suc (suc (suc (suc (suc (suc zero))))))))) = omega arith
 level_low (suc (suc (suc (suc (suc (suc (suc (suc (suc (suc n)))))))))) = omega arith
 
-level_most : (k : Kind) → level k < 11
-level_most kind.Port = omega arith
-level_most kind.Vlan = omega arith
-level_most kind.BridgePort = omega arith
-level_most kind.VlanMember = omega arith
-level_most kind.Rif = omega arith
-level_most kind.OwnAddress = omega arith
-level_most kind.Neighbor = omega arith
-level_most kind.NextHop = omega arith
-level_most kind.Group = omega arith
-level_most kind.GroupMember = omega arith
-level_most kind.Route = omega arith
+level_below_eleven : (k : Kind) → level k < 11
+level_below_eleven kind.Port = omega arith
+level_below_eleven kind.Vlan = omega arith
+level_below_eleven kind.BridgePort = omega arith
+level_below_eleven kind.VlanMember = omega arith
+level_below_eleven kind.Rif = omega arith
+level_below_eleven kind.OwnAddress = omega arith
+level_below_eleven kind.Neighbor = omega arith
+level_below_eleven kind.NextHop = omega arith
+level_below_eleven kind.Group = omega arith
+level_below_eleven kind.GroupMember = omega arith
+level_below_eleven kind.Route = omega arith
 
 le_or : (a b : ℕ) → (a ≤ b) ⊎ (b < a)
 le_or zero b = inl (omega arith)
@@ -80,10 +80,6 @@ le_or (suc a) (suc b) = up (le_or a b)
     up : (a ≤ b) ⊎ (b < a) → (suc a ≤ suc b) ⊎ (suc b < suc a)
     up (inl h) = inl (omega (arith, h))
     up (inr h) = inr (omega (arith, h))
-
-no_makes : (kind : Kind) (ts : List Thing) → makes kind (take_all ts []) ≡ 0
-no_makes kind [] = refl
-no_makes kind (t ∷ ts) = no_makes kind ts
 
 module _ (plan : Ports) (workers : ℕ) (capacities : List ℕ) (s : SwitchState) where
   module _ (due : List Change) where
@@ -121,11 +117,11 @@ module _ (plan : Ports) (workers : ℕ) (capacities : List ℕ) (s : SwitchState
             one low (inr more) h = let same : level low ≡ n = omega (arith, more, h) in subst Fit (ap of_level (sym same) ∙ level_back low) fit
 
   -- a row that is to come has room, or a first kind lacks it
-  pub room-or : (w : ℕ) (f : Flight) (due : List Change) → MayBegin plan s.machine w f due → (row : Row) → f.new ≡ Some row → good_of plan s.written f.key ≡ Some row → HasRoomFor workers capacities s.objects s.machine due ⊎ ((kind : Kind) × LacksRoom plan workers capacities s f.key kind)
+  pub room-or : (w : ℕ) (f : MachineFlight) (due : List Change) → MayBegin plan s.machine w f due → (row : Row) → f.new ≡ Some row → good_of plan s.written f.key ≡ Some row → HasRoomFor workers capacities s.objects s.machine due ⊎ ((kind : Kind) × LacksRoom plan workers capacities s f.key kind)
   room-or w f due begins row new good = by (scan due 11)
     where
       by : ((low : Kind) → level low < 11 → Fit due low) ⊎ Lacks due → HasRoomFor workers capacities s.objects s.machine due ⊎ ((kind : Kind) × LacksRoom plan workers capacities s f.key kind)
-      by (inl fit) = inl (λ kind. fit kind (level_most kind))
+      by (inl fit) = inl (λ kind. fit kind (level_below_eleven kind))
       by (inr x) = inr (x.which, record { worker = w; flight = f; due = due; begins = begins; is = refl; row = row; new = new; good = good; some = x.some; many = x.many; lower = x.lower })
 
   no_builds : (b : Option Owner) → ((o : Owner) → b ≡ Some o → ⊥) → b ≡ None
@@ -137,7 +133,7 @@ module _ (plan : Ports) (workers : ℕ) (capacities : List ℕ) (s : SwitchState
   gone_makes kind k (Some a) = no_makes kind (going plan k a)
 
   -- a row that is to go needs no room
-  pub room-gone : (w : ℕ) (f : Flight) (due : List Change) → MayBegin plan s.machine w f due → f.new ≡ None → HasRoomFor workers capacities s.objects s.machine due
+  pub room-gone : (w : ℕ) (f : MachineFlight) (due : List Change) → MayBegin plan s.machine w f due → f.new ≡ None → HasRoomFor workers capacities s.objects s.machine due
   room-gone w f due begins none kind some =
       let op = begins.operation in
       let builds = no_builds op.builds (λ o e. subst (λ z. IsIn o (uses_of plan f.key z)) none (op.built o e).0) in

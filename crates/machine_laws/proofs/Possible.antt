@@ -17,22 +17,22 @@ use Rattle.row_layout.specs.Rows.{Owner}
 use Rattle.row_layout.specs.Shared.{shared_things}
 use Rattle.row_layout.specs.Operations.{Change, own_changes, uses_of}
 use Rattle.switch_machine.specs.Events.{SwitchState, IsSafe, IsQuiet}
-use Rattle.switch_machine.specs.Flights.{Fits, Flight, IsFirm, IsRow, IsShared, IsUser, Machine}
+use Rattle.switch_machine.specs.Flights.{Fits, MachineFlight, IsFirm, IsRow, IsShared, IsUser, Machine}
 use Rattle.switch_machine.specs.Operations.{MayBegin, built_first}
 use Rattle.switch_machine.specs.Consistent.{IsUsedOrRetired, IsConsistent}
-use Rattle.switch_machine.specs.Tables.{Tables}
+use Rattle.switch_machine.specs.Tables.{TableLaws}
 use Rattle.switch_machine.specs.Written.{good_of}
 use Rattle.switch_machine.proofs.Ordered.{ordered}
 use Rattle.switch_machine.proofs.Reasoned.{closed}
 use Rattle.switch_machine.proofs.Splits.{name_split}
 use Rattle.switch_machine.proofs.Tabled.{tabled}
 use Rattle.machine_laws.specs.Reading.{IsOnSwitch}
-use Rattle.machine_laws.proofs.Deciding.{IsDecided, any_or, in_split}
+use Rattle.machine_laws.proofs.Deciding.{IsDecided, any_decided, in_split}
 use Rattle.machine_laws.proofs.Fitting.{fits-good}
 use Rattle.machine_laws.proofs.Rows.{has_row, there}
 
-module _ (plan : Ports) (is : IsPlan plan) (m : Machine) (sound : IsConsistent plan m) (quiet : (w : ℕ) (f : Flight) → m.board.flights w ≡ Some f → ⊥) where
-  T : Tables plan
+module _ (plan : Ports) (is : IsPlan plan) (m : Machine) (sound : IsConsistent plan m) (quiet : (w : ℕ) (f : MachineFlight) → m.board.flights w ≡ Some f → ⊥) where
+  T : TableLaws plan
   T = tabled plan is
 
   first_shared : (o : Owner) → IsShared o → (x : Thing) × IsIn x (shared_things o)
@@ -50,7 +50,7 @@ module _ (plan : Ports) (is : IsPlan plan) (m : Machine) (sound : IsConsistent p
       held (inr (w, f, at, h)) = absurd (quiet w f at)
 
       by : ((x : Thing) × IsIn x (shared_things o)) → ((k : Key) × IsUser plan m.board k o) ⊎ ((k : Key) → IsUser plan m.board k o → ⊥)
-      by (x, in_it) = found (any_or (λ (v : Rid × Thing). name_of v.1 ≡ name_of x) (λ v. name_split (name_of v.1) (name_of x)) m.stands)
+      by (x, in_it) = found (any_decided (λ (v : Rid × Thing). name_of v.1 ≡ name_of x) (λ v. name_split (name_of v.1) (name_of x)) m.stands)
         where
           found : IsDecided ((v : Rid × Thing) × IsIn v m.stands × (name_of v.1 ≡ name_of x)) → ((k : Key) × IsUser plan m.board k o) ⊎ ((k : Key) → IsUser plan m.board k o → ⊥)
           found (inl (v, at, named)) = inl (held (sound.held o v.1 (v.0, at) (ap (owner.owner_of plan) named ∙ T.shared o x in_it) shared).1)
@@ -93,9 +93,9 @@ module _ (plan : Ports) (is : IsPlan plan) (m : Machine) (sound : IsConsistent p
       by (inl (k, user)) = record { builds = None; built = λ o e. no_owner o e; found = λ e o at. (k, subst (IsUser plan m.board k) (one y o (inl refl) at) user) }
       by (inr out) = record { builds = Some y; built = λ o e. (inl (sym (some_owner y o e)), λ k user. out k (subst (IsUser plan m.board k) (sym (some_owner y o e)) user)); found = λ e. no_owner y (sym e) }
 
-  no_flight : (o : Option Flight) → ((f : Flight) → o ≡ Some f → ⊥) → o ≡ None
-  no_flight None never = refl
-  no_flight (Some f) never = absurd (never f refl)
+  flies_never : (o : Option MachineFlight) → ((f : MachineFlight) → o ≡ Some f → ⊥) → o ≡ None
+  flies_never None never = refl
+  flies_never (Some f) never = absurd (never f refl)
 
   one_of : (k : Key) (o : Option Row) → AreOne (uses_of plan k o)
   one_of k None a b h g = elim h [ ]
@@ -106,7 +106,7 @@ module _ (plan : Ports) (is : IsPlan plan) (m : Machine) (sound : IsConsistent p
   shared_of k (Some r) p h = T.are_shared k r p h
 
   -- at rest a key whose row fits, and whose names are applied or which nothing names, can begin, where its own changes are given
-  pub can-begin : (w : ℕ) (k : Key) (new : Option Row) → ((r : Row) → new ≡ Some r → Fits plan k r) → ((p : Key) (r : Row) → new ≡ Some r → IsIn p (names_of k r) → is_some (m.board.applied p) ≡ true) → (new ≡ None → (q : Key) (r : Row) → m.board.applied q ≡ Some r → IsIn k (names_of q r) → ⊥) → (f : Flight) × (due : List Change) × (f.key ≡ k) × (f.new ≡ new) × MayBegin plan m w f due
+  pub can-begin : (w : ℕ) (k : Key) (new : Option Row) → ((r : Row) → new ≡ Some r → Fits plan k r) → ((p : Key) (r : Row) → new ≡ Some r → IsIn p (names_of k r) → is_some (m.board.applied p) ≡ true) → (new ≡ None → (q : Key) (r : Row) → m.board.applied q ≡ Some r → IsIn k (names_of q r) → ⊥) → (f : MachineFlight) × (due : List Change) × (f.key ≡ k) × (f.new ≡ new) × MayBegin plan m w f due
   can-begin w k new fit named unnamed =
       let l = leaving (uses_of plan k (m.board.applied k)) (uses_of plan k new) (one_of k (m.board.applied k)) in
       let b = building (uses_of plan k new) (one_of k new) (shared_of k new) in (
@@ -115,7 +115,7 @@ module _ (plan : Ports) (is : IsPlan plan) (m : Machine) (sound : IsConsistent p
         refl,
         refl,
         record {
-          idle = no_flight (m.board.flights w) (quiet w);
+          idle = flies_never (m.board.flights w) (quiet w);
           rests = λ v f at e. quiet v f at;
           fit = fit;
           named = λ p r e h. firm p (there (m.board.applied p) (named p r e h));
@@ -136,7 +136,7 @@ module _ (plan : Ports) (is : IsPlan plan) (m : Machine) (sound : IsConsistent p
       unnamed_by e q r h (inr (v, f, at, same, that)) = quiet v f at
 
 -- at rest a key that is neither missing a name nor held can begin
-pub begin-free : (plan : Ports) (is : IsPlan plan) (workers : ℕ) (capacities : List ℕ) (s : SwitchState) (w : ℕ) (k : Key) → IsSafe plan workers capacities s → IsQuiet s → IsOnSwitch k → ((r : Row) → good_of plan s.written k ≡ Some r → have_rows s.machine.board.applied (names_of k r) ≡ true) → (good_of plan s.written k ≡ None → (q : Key) (r : Row) → s.machine.board.applied q ≡ Some r → IsIn k (names_of q r) → ⊥) → (f : Flight) × (due : List Change) × (f.key ≡ k) × (f.new ≡ good_of plan s.written k) × MayBegin plan s.machine w f due
+pub begin-free : (plan : Ports) (is : IsPlan plan) (workers : ℕ) (capacities : List ℕ) (s : SwitchState) (w : ℕ) (k : Key) → IsSafe plan workers capacities s → IsQuiet s → IsOnSwitch k → ((r : Row) → good_of plan s.written k ≡ Some r → have_rows s.machine.board.applied (names_of k r) ≡ true) → (good_of plan s.written k ≡ None → (q : Key) (r : Row) → s.machine.board.applied q ≡ Some r → IsIn k (names_of q r) → ⊥) → (f : MachineFlight) × (due : List Change) × (f.key ≡ k) × (f.new ≡ good_of plan s.written k) × MayBegin plan s.machine w f due
 begin-free plan is workers capacities s w k kept quiet on ready free =
     can-begin plan is s.machine kept.sound quiet w k (good_of plan s.written k) fit (λ p r at h. has_row s.machine.board.applied (names_of k r) p (ready r at) h) free
   where

@@ -12,7 +12,7 @@ use Rattle.switch_model.specs.Marks.{IsHeldBy, first_missing}
 use Rattle.switch_model.specs.declared.wait.Wait.TheVariants as wait
 use Rattle.row_layout.specs.Operations.{Change}
 use Rattle.switch_machine.specs.Events.{HasLeft, IsBegin, IsQuiet, IsSafe, SwitchState}
-use Rattle.switch_machine.specs.Flights.{Flight, Machine}
+use Rattle.switch_machine.specs.Flights.{MachineFlight, Machine}
 use Rattle.switch_machine.specs.Next.{MustWait}
 use Rattle.switch_machine.specs.Operations.{MayBegin}
 use Rattle.switch_machine.specs.Places.{HasRoomFor}
@@ -79,7 +79,7 @@ module _ (plan : Ports) (is : IsPlan plan) (workers : ℕ) (capacities : List �
   abbrev rows : TypedRows
   rows = s.machine.board.applied
 
-  one_begun : (f : Flight) (v : ℕ) (g : Flight) → IsPut w v (Some f) s.machine.board.flights (Some g) → v ≡ w
+  one_begun : (f : MachineFlight) (v : ℕ) (g : MachineFlight) → IsPut w v (Some f) s.machine.board.flights (Some g) → v ≡ w
   one_begun f v g (New same e) = same
   one_begun f v g (Old other at) = absurd (quiet v g at)
 
@@ -87,7 +87,7 @@ module _ (plan : Ports) (is : IsPlan plan) (workers : ℕ) (capacities : List �
     abbrev Starts : Type 0
     Starts = (t : SwitchState) × (x : IsBegin plan workers capacities s t) × (x.worker ≡ w) × (x.flight.key ≡ k)
 
-    starts : (f : Flight) (due : List Change) → f.key ≡ k → f.new ≡ good_of plan s.written k → MayBegin plan s.machine w f due → HasRoomFor workers capacities s.objects s.machine due → Starts
+    starts : (f : MachineFlight) (due : List Change) → f.key ≡ k → f.new ≡ good_of plan s.written k → MayBegin plan s.machine w f due → HasRoomFor workers capacities s.objects s.machine due → Starts
     starts f due same new begins room =
         let m : Machine = started s.machine w f due in
         let y = follow plan is workers capacities m w f below (put_at w w (Some f) s.machine.board.flights refl) (λ v g at. one_begun f v g (put_by w v (Some f) s.machine.board.flights (Some g) at)) s kept (λ q. refl) (m.due w) refl f.leaves refl in (
@@ -125,15 +125,15 @@ module _ (plan : Ports) (is : IsPlan plan) (workers : ℕ) (capacities : List �
         let x = begin-free plan is workers capacities s w k kept quiet on free.0 free.1 in
         by x.0 x.1 x.2 x.3 x.4 (good_of plan s.written k) refl
       where
-        roomy : (f : Flight) (due : List Change) → f.key ≡ k → f.new ≡ good_of plan s.written k → MayBegin plan s.machine w f due → HasRoomFor workers capacities s.objects s.machine due ⊎ ((kind : Kind) × LacksRoom plan workers capacities s f.key kind) → MustWait plan workers capacities s k ⊎ Starts
+        roomy : (f : MachineFlight) (due : List Change) → f.key ≡ k → f.new ≡ good_of plan s.written k → MayBegin plan s.machine w f due → HasRoomFor workers capacities s.objects s.machine due ⊎ ((kind : Kind) × LacksRoom plan workers capacities s f.key kind) → MustWait plan workers capacities s k ⊎ Starts
         roomy f due same new begins (inl room) = inr (starts f due same new begins room)
         roomy f due same new begins (inr (kind, lacks)) = inl (wait.NoRoom kind, subst (λ z. LacksRoom plan workers capacities s z kind) same lacks)
 
-        by : (f : Flight) (due : List Change) → f.key ≡ k → f.new ≡ good_of plan s.written k → MayBegin plan s.machine w f due → (o : Option Row) → good_of plan s.written k ≡ o → MustWait plan workers capacities s k ⊎ Starts
+        by : (f : MachineFlight) (due : List Change) → f.key ≡ k → f.new ≡ good_of plan s.written k → MayBegin plan s.machine w f due → (o : Option Row) → good_of plan s.written k ≡ o → MustWait plan workers capacities s k ⊎ Starts
         by f due same new begins None e = inr (starts f due same new begins (room-gone plan workers capacities s w f due begins (new ∙ e)))
         by f due same new begins (Some r) e = roomy f due same new begins (room-or plan workers capacities s w f due begins r (new ∙ e) (ap (good_of plan s.written) same ∙ e))
 
-    rests : (v : ℕ) (g : Flight) → s.machine.board.flights v ≡ Some g → g.key ≡ k → ⊥
+    rests : (v : ℕ) (g : MachineFlight) → s.machine.board.flights v ≡ Some g → g.key ≡ k → ⊥
     rests v g at same = quiet v g at
 
     -- it has a reason to wait, or an operation of it begins

@@ -13,7 +13,7 @@ use Rattle.sai_types.specs.Made.{same_entry}
 use Rattle.sai_types.specs.Objects.{Objects}
 use Rattle.chip_layout.specs.Bodies.{IsAt, IsBody, first_name, second_name}
 use Rattle.chip_layout.specs.Layout.{Has, IsLaidOut, Layout, listed}
-use Rattle.sai_types.specs.Names.{Name, name_of}
+use Rattle.sai_types.specs.Names.{ThingName, name_of}
 use Rattle.chip_layout.proofs.Entries.{one-entry}
 use Rattle.chip_layout.proofs.Laid.{changed}
 use Rattle.row_layout.specs.Rows as owner
@@ -25,20 +25,17 @@ use Rattle.switch_machine.specs.Changes.{IsCall, changed_by}
 use Rattle.switch_machine.specs.Changes as change
 use Rattle.switch_machine.specs.Events.{IsAnswer, SwitchState, Due, Ended, Follows, IsEvent, IsGiven, IsSafe, AreEvents, Left, Retires, IsBegin, with_made_call, calls_of, after_events}
 use Rattle.switch_machine.specs.Steps.{finished, left, moved, parted, started}
-use Rattle.switch_machine.specs.Flights.{Can, Flight, Goes, IsResting, IsShared, IsUser, Machine, Runs, StandsIn, put}
+use Rattle.switch_machine.specs.Flights.{Can, MachineFlight, Goes, IsResting, IsShared, IsUser, Machine, Runs, StandsIn, put}
 use Rattle.switch_machine.specs.Consistent.{IsConsistent}
-use Rattle.switch_machine.specs.Tables.{Tables}
+use Rattle.switch_machine.specs.Tables.{TableLaws}
 use Rattle.switch_machine.proofs.Runs.{kept-run}
-use Rattle.switch_machine.proofs.Running.{one_flight}
+use Rattle.switch_machine.proofs.Running.{no_flight, one_flight}
 use Rattle.switch_machine.proofs.Splits.{IsPut, IsSplit, New, Old, name_split, put_by, row_off}
 use Rattle.switch_machine.proofs.Tabled.{tabled}
-use Rattle.machine_laws.specs.Quiet.{LeavesAlone, StandsFor, ChangesEntry}
+use Rattle.machine_laws.specs.Quiet.{LeavesAlone, EntryStandsFor, ChangesEntry}
 
-no_flight : {X : Type 0} (g : Flight) → None ≡ Some g → X
-no_flight g h = absurd cc
-
-one_owner : (o p : Owner) (x : Option Owner) → x ≡ Some o → x ≡ Some p → o ≡ p
-one_owner o p x a b = cc
+some_owner_once : (o p : Owner) (x : Option Owner) → x ≡ Some o → x ≡ Some p → o ≡ p
+some_owner_once o p x a b = cc
 
 own_key : (k q : Key) → OfRow k ≡ OfRow q → k ≡ q
 own_key k q h = cc
@@ -48,23 +45,23 @@ own_key k q h = cc
 module _ (plan : Ports) (k : Key) where
   record Quiet (e : Entry Rid) (m : Machine) : Type 0 where
     rests : IsResting m.board k
-    stood : StandsFor plan k e m
+    stood : EntryStandsFor plan k e m
 
-  rests_put : (w : ℕ) (f : Flight) (flights : ℕ → Option Flight) → (f.key ≡ k → ⊥) → ((v : ℕ) (g : Flight) → flights v ≡ Some g → g.key ≡ k → ⊥) → (v : ℕ) (g : Flight) → put w (Some f) flights v ≡ Some g → g.key ≡ k → ⊥
+  rests_put : (w : ℕ) (f : MachineFlight) (flights : ℕ → Option MachineFlight) → (f.key ≡ k → ⊥) → ((v : ℕ) (g : MachineFlight) → flights v ≡ Some g → g.key ≡ k → ⊥) → (v : ℕ) (g : MachineFlight) → put w (Some f) flights v ≡ Some g → g.key ≡ k → ⊥
   rests_put w f flights apart rests v g at is = by (put_by w v (Some f) flights (Some g) at)
     where
       by : IsPut w v (Some f) flights (Some g) → ⊥
-      by (New same e) = apart (ap (λ (z : Flight). z.key) (one_flight f g e) ∙ is)
+      by (New same e) = apart (ap (λ (z : MachineFlight). z.key) (one_flight f g e) ∙ is)
       by (Old other there) = rests v g there is
 
-  rests_none : (w : ℕ) (flights : ℕ → Option Flight) → ((v : ℕ) (g : Flight) → flights v ≡ Some g → g.key ≡ k → ⊥) → (v : ℕ) (g : Flight) → put w None flights v ≡ Some g → g.key ≡ k → ⊥
+  rests_none : (w : ℕ) (flights : ℕ → Option MachineFlight) → ((v : ℕ) (g : MachineFlight) → flights v ≡ Some g → g.key ≡ k → ⊥) → (v : ℕ) (g : MachineFlight) → put w None flights v ≡ Some g → g.key ≡ k → ⊥
   rests_none w flights rests v g at is = by (put_by w v None flights (Some g) at)
     where
       by : IsPut w v None flights (Some g) → ⊥
       by (New same e) = no_flight g e
       by (Old other there) = rests v g there is
 
-  with_board : (e : Entry Rid) (m later : Machine) → later.stands ≡ m.stands → later.board.applied k ≡ m.board.applied k → StandsFor plan k e m → StandsFor plan k e later
+  with_board : (e : Entry Rid) (m later : Machine) → later.stands ≡ m.stands → later.board.applied k ≡ m.board.applied k → EntryStandsFor plan k e m → EntryStandsFor plan k e later
   with_board e m later same rows x = record {
     row = x.row;
     applied = rows ∙ x.applied;
@@ -77,13 +74,13 @@ module _ (plan : Ports) (k : Key) where
     entry = x.entry;
   }
 
-  quiet_left : (e : Entry Rid) (m : Machine) (w : ℕ) (f : Flight) (retires : Option Owner) (due : List Change) → m.board.flights w ≡ Some f → Quiet e m → Quiet e (left m w f retires due)
+  quiet_left : (e : Entry Rid) (m : Machine) (w : ℕ) (f : MachineFlight) (retires : Option Owner) (due : List Change) → m.board.flights w ≡ Some f → Quiet e m → Quiet e (left m w f retires due)
   quiet_left e m w f retires due at x = record {
     rests = rests_put w (parted f retires) m.board.flights (x.rests w f at) x.rests;
     stood = with_board e m (left m w f retires due) refl refl x.stood;
   }
 
-  quiet_ended : (e : Entry Rid) (m : Machine) (w : ℕ) (f : Flight) → (f.key ≡ k → ⊥) → Quiet e m → Quiet e (finished m w f)
+  quiet_ended : (e : Entry Rid) (m : Machine) (w : ℕ) (f : MachineFlight) → (f.key ≡ k → ⊥) → Quiet e m → Quiet e (finished m w f)
   quiet_ended e m w f apart x = record {
     rests = rests_none w m.board.flights x.rests;
     stood = with_board e m (finished m w f) refl (row_off f.key k f.new m.board.applied apart) x.stood;
@@ -104,41 +101,41 @@ module _ (plan : Ports) (k : Key) where
 -- ---- a call
 
 module _ (plan : Ports) (is : IsPlan plan) (workers : ℕ) (capacities : List ℕ) (k : Key) where
-  abbrev T : Tables plan
+  abbrev T : TableLaws plan
   T = tabled plan is
 
   -- the change is not about the thing
-  spares : (e : Entry Rid) (m : Machine) → IsConsistent plan m → (x : Quiet plan k e m) (w : ℕ) (f : Flight) (c : Change) → m.board.flights w ≡ Some f → Can plan f (StandsIn m) c → name_of x.stood.thing ≡ change.changed_name c → ⊥
+  spares : (e : Entry Rid) (m : Machine) → IsConsistent plan m → (x : Quiet plan k e m) (w : ℕ) (f : MachineFlight) (c : Change) → m.board.flights w ≡ Some f → Can plan f (StandsIn m) c → name_of x.stood.thing ≡ change.changed_name c → ⊥
   spares e m sound x w f c flying can same = by ((things-split plan k x.stood.row).into x.stood.thing x.stood.of)
     where
       -- it is of the key's row
       mine : (c : Change) → Can plan f (StandsIn m) c → name_of x.stood.thing ≡ change.changed_name c → owner.owner_of plan (name_of x.stood.thing) ≡ Some (OfRow k) → ⊥
       mine (Make t) can same of = can.fresh x.stood.thing (x.stood.id, x.stood.stands) same
-      mine (Set t) can same of = x.rests w f flying (sym (own_key k f.key (one_owner (OfRow k) (OfRow f.key) (owner.owner_of plan (name_of x.stood.thing)) of (ap (owner.owner_of plan) same ∙ can.own))))
+      mine (Set t) can same of = x.rests w f flying (sym (own_key k f.key (some_owner_once (OfRow k) (OfRow f.key) (owner.owner_of plan (name_of x.stood.thing)) of (ap (owner.owner_of plan) same ∙ can.own))))
       mine (Take n) can same of = goes can.goes
         where
           goes : Goes plan f n → ⊥
-          goes (inl (own, none)) = x.rests w f flying (sym (own_key k f.key (one_owner (OfRow k) (OfRow f.key) (owner.owner_of plan (name_of x.stood.thing)) of (ap (owner.owner_of plan) same ∙ own))))
+          goes (inl (own, none)) = x.rests w f flying (sym (own_key k f.key (some_owner_once (OfRow k) (OfRow f.key) (owner.owner_of plan (name_of x.stood.thing)) of (ap (owner.owner_of plan) same ∙ own))))
           goes (inr (o, at, retires)) =
               let was = sound.board.left w f o flying retires in
-              subst IsShared (sym (one_owner (OfRow k) o (owner.owner_of plan (name_of x.stood.thing)) of (ap (owner.owner_of plan) same ∙ at))) (T.are_shared f.key was.row o was.used)
+              subst IsShared (sym (some_owner_once (OfRow k) o (owner.owner_of plan (name_of x.stood.thing)) of (ap (owner.owner_of plan) same ∙ at))) (T.are_shared f.key was.row o was.used)
 
       -- it is of what the row shares
       shared : (c : Change) → Can plan f (StandsIn m) c → name_of x.stood.thing ≡ change.changed_name c → (o : Owner) → IsShared o → IsUser plan m.board k o → owner.owner_of plan (name_of x.stood.thing) ≡ Some o → ⊥
       shared (Make t) can same o sh user of = can.fresh x.stood.thing (x.stood.id, x.stood.stands) same
-      shared (Set t) can same o sh user of = subst IsShared (one_owner o (OfRow f.key) (owner.owner_of plan (name_of x.stood.thing)) of (ap (owner.owner_of plan) same ∙ can.own)) sh
+      shared (Set t) can same o sh user of = subst IsShared (some_owner_once o (OfRow f.key) (owner.owner_of plan (name_of x.stood.thing)) of (ap (owner.owner_of plan) same ∙ can.own)) sh
       shared (Take n) can same o sh user of = goes can.goes
         where
           goes : Goes plan f n → ⊥
-          goes (inl (own, none)) = subst IsShared (one_owner o (OfRow f.key) (owner.owner_of plan (name_of x.stood.thing)) of (ap (owner.owner_of plan) same ∙ own)) sh
-          goes (inr (p, at, retires)) = sound.board.unused w f k o flying (subst (λ z. f.retires ≡ Some z) (sym (one_owner o p (owner.owner_of plan (name_of x.stood.thing)) of (ap (owner.owner_of plan) same ∙ at))) retires) user
+          goes (inl (own, none)) = subst IsShared (some_owner_once o (OfRow f.key) (owner.owner_of plan (name_of x.stood.thing)) of (ap (owner.owner_of plan) same ∙ own)) sh
+          goes (inr (p, at, retires)) = sound.board.unused w f k o flying (subst (λ z. f.retires ≡ Some z) (sym (some_owner_once o p (owner.owner_of plan (name_of x.stood.thing)) of (ap (owner.owner_of plan) same ∙ at))) retires) user
 
       by : IsOf (own_things plan k x.stood.row) (uses plan k x.stood.row) x.stood.thing → ⊥
       by (inl h) = mine c can same (T.own k x.stood.row x.stood.thing (sound.board.fit k x.stood.row (inl x.stood.applied)) h)
       by (inr (o, h, in_it)) = shared c can same o (T.are_shared k x.stood.row o h) (inr (x.rests, subst (λ z. IsIn o (uses_of plan k z)) (sym x.stood.applied) h)) (T.shared o x.stood.thing in_it)
 
   -- a call of the change sets or removes no entry of the thing
-  untouched : (e : Entry Rid) (s : SwitchState) → IsSafe plan workers capacities s → (x : Quiet plan k e s.machine) (w : ℕ) (f : Flight) (c : Change) → s.machine.board.flights w ≡ Some f → Can plan f (StandsIn s.machine) c → (call : Call Rid) → IsCall (listed s.machine.stands) c call → ChangesEntry call e → ⊥
+  untouched : (e : Entry Rid) (s : SwitchState) → IsSafe plan workers capacities s → (x : Quiet plan k e s.machine) (w : ℕ) (f : MachineFlight) (c : Change) → s.machine.board.flights w ≡ Some f → Can plan f (StandsIn s.machine) c → (call : Call Rid) → IsCall (listed s.machine.stands) c call → ChangesEntry call e → ⊥
   untouched e s kept x w f (Make t) flying can call of h = subst (λ z. ChangesEntry z e) of.is h
   untouched e s kept x w f (Set t) flying can call of h =
       let named : name_of t ≡ name_of of.old = (changed (listed s.machine.stands) s.objects kept.laid of.old t of.body of.attr of.of of.change).same in
@@ -150,10 +147,10 @@ module _ (plan : Ports) (is : IsPlan plan) (workers : ℕ) (capacities : List �
 
   -- ---- and the thing keeps its identifier and its body
 
-  abbrev IsInBody : Thing → Name → Type 0
+  abbrev IsInBody : Thing → ThingName → Type 0
   IsInBody u n = (first_name u ≡ Some n) ⊎ (second_name u ≡ Some n)
 
-  has_in : (layout : Layout Rid) (u : Thing) (b : Body Rid) (n : Name) → IsBody (Has layout) u b → IsInBody u n → (j : Rid) × Has layout n j
+  has_in : (layout : Layout Rid) (u : Thing) (b : Body Rid) (n : ThingName) → IsBody (Has layout) u b → IsInBody u n → (j : Rid) × Has layout n j
   has_in layout u b n x (inl h) = (x.first, subst (λ z. IsAt (Has layout) z x.first) h x.first_at)
   has_in layout u b n x (inr h) = (x.second, subst (λ z. IsAt (Has layout) z x.second) h x.second_at)
 
@@ -163,7 +160,7 @@ module _ (plan : Ports) (is : IsPlan plan) (workers : ℕ) (capacities : List �
     still (Set t) at apart into = into i u (inl (at, apart))
     still (Take n) at apart into = into i u (at, apart)
 
-    has_still : (c : Change) (of : IsCall old c call) → IsGiven old made c call of id → new i u → ((j : Rid) (t : Thing) → changed_by old c id j t → new j t) → ((j : Rid) (t : Thing) → new j t → changed_by old c id j t) → (n : Name) (j : Rid) → IsInBody u n → Has old n j → Has new n j
+    has_still : (c : Change) (of : IsCall old c call) → IsGiven old made c call of id → new i u → ((j : Rid) (t : Thing) → changed_by old c id j t → new j t) → ((j : Rid) (t : Thing) → new j t → changed_by old c id j t) → (n : ThingName) (j : Rid) → IsInBody u n → Has old n j → Has new n j
     has_still (Make t) of given at into back n j refers (v, there, named) = (v, into j v (inl there), named)
     has_still (Set t) of given at into back n j refers (v, there, named) = by (name_split (name_of v) (name_of t))
       where
@@ -182,11 +179,11 @@ module _ (plan : Ports) (is : IsPlan plan) (workers : ℕ) (capacities : List �
             let x = has_in new u b.0 n b.1 refers in
             absurd ((back x.0 x.1.0 x.1.1).1 (x.1.2 ∙ sym named ∙ same))
 
-    at_still : (f : (n : Name) (j : Rid) → IsInBody u n → Has old n j → Has new n j) (o : Option Name) (j : Rid) → ((n : Name) → o ≡ Some n → IsInBody u n) → IsAt (Has old) o j → IsAt (Has new) o j
+    at_still : (f : (n : ThingName) (j : Rid) → IsInBody u n → Has old n j → Has new n j) (o : Option ThingName) (j : Rid) → ((n : ThingName) → o ≡ Some n → IsInBody u n) → IsAt (Has old) o j → IsAt (Has new) o j
     at_still f None j refers h = tt
     at_still f (Some n) j refers h = f n j (refers n refl) h
 
-    body_still : (f : (n : Name) (j : Rid) → IsInBody u n → Has old n j → Has new n j) (b : Body Rid) → IsBody (Has old) u b → IsBody (Has new) u b
+    body_still : (f : (n : ThingName) (j : Rid) → IsInBody u n → Has old n j → Has new n j) (b : Body Rid) → IsBody (Has old) u b → IsBody (Has new) u b
     body_still f b x = record {
       first = x.first;
       second = x.second;
@@ -210,7 +207,7 @@ module _ (plan : Ports) (is : IsPlan plan) (workers : ℕ) (capacities : List �
       at : listed x.stands q.stood.id q.stood.thing
       at = still (listed s.machine.stands) (listed x.stands) s.objects t.objects kept.laid laid_now s.made call x.id q.stood.id q.stood.thing x.next.change q.stood.stands (spares e s.machine kept.sound q x.next.worker x.next.flight x.next.change x.next.flying can) x.into
 
-      stood : StandsFor plan k e m
+      stood : EntryStandsFor plan k e m
       stood = record {
         row = q.stood.row;
         applied = q.stood.applied;
@@ -261,5 +258,5 @@ module _ (plan : Ports) (is : IsPlan plan) (workers : ℕ) (capacities : List �
       let rest = quiet_run e x.1 es later run.1 alone.1 (λ h. none (alone.0 h)) one.0 in
       (rest.0, spared_called e x.0 (calls_of es) one.1 rest.1)
 
-  pub quiet-rows : (s : SwitchState) (es : List (Option (Call Rid) × SwitchState)) (e : Entry Rid) → IsSafe plan workers capacities s → AreEvents plan workers capacities s es → LeavesAlone k s es → IsResting s.machine.board k → (IsIn k s.to_sync → ⊥) → StandsFor plan k e s.machine → IsResting (after_events s es).machine.board k × StandsFor plan k e (after_events s es).machine × ((call : Call Rid) → IsIn call (calls_of es) → ChangesEntry call e → ⊥)
+  pub quiet-rows : (s : SwitchState) (es : List (Option (Call Rid) × SwitchState)) (e : Entry Rid) → IsSafe plan workers capacities s → AreEvents plan workers capacities s es → LeavesAlone k s es → IsResting s.machine.board k → (IsIn k s.to_sync → ⊥) → EntryStandsFor plan k e s.machine → IsResting (after_events s es).machine.board k × EntryStandsFor plan k e (after_events s es).machine × ((call : Call Rid) → IsIn call (calls_of es) → ChangesEntry call e → ⊥)
   quiet-rows s es e kept run alone rests none stood = let y = quiet_run e s es kept run alone none (record { rests = rests; stood = stood }) in (y.0.rests, y.0.stood, y.1)

@@ -1,5 +1,6 @@
 -- rows, and the keys that they name: what the other proofs say of them
-use Rattle.std.proofs.Common.{◌≡◌, ◌⊎◌, ◌&&◌, ◌∷◌, ◌∙◌, inl, inr, ℕ, Bool, true, false, if◌then◌else◌, List, [], Option, None, Some, is_some, refl, sym, ap, ap₂, subst}
+use Rattle.std.proofs.Common.{◌≡◌, ◌⊎◌, ◌&&◌, ◌∷◌, ◌∙◌, inl, inr, ℕ, Bool, true, if◌then◌else◌, List, [], Option, None, Some, is_some, refl, sym, ap, ap₂, subst}
+use Rattle.std.proofs.lemmas.Bool.{and_parts}
 use Rattle.table_schema.specs.Names.{names_of}
 use Rattle.table_schema.specs.Plan.{Ports}
 use Rattle.table_schema.specs.declared.key.Key.{Key}
@@ -14,15 +15,10 @@ use Rattle.switch_model.specs.Things.{things_of}
 use Rattle.switch_model.specs.declared.wait.Wait.{Wait}
 use Rattle.switch_model.specs.declared.wait.Wait.TheVariants as wait
 
-pub both_true : (a b : Bool) → (a && b) ≡ true → (a ≡ true) × (b ≡ true)
-both_true true true h = (refl, refl)
-both_true true false h = cc
-both_true false b h = cc
-
 pub has_row : (rows : TypedRows) (ks : List Key) (p : Key) → have_rows rows ks ≡ true → IsIn p ks → is_some (rows p) ≡ true
 has_row rows [] p h at = elim at [ ]
-has_row rows (k ∷ ks) p h (inl e) = subst (λ z. is_some (rows z) ≡ true) (sym e) (both_true (is_some (rows k)) (have_rows rows ks) h).0
-has_row rows (k ∷ ks) p h (inr at) = has_row rows ks p (both_true (is_some (rows k)) (have_rows rows ks) h).1 at
+has_row rows (k ∷ ks) p h (inl e) = subst (λ z. is_some (rows z) ≡ true) (sym e) (and_parts (is_some (rows k)) (have_rows rows ks) h).0
+has_row rows (k ∷ ks) p h (inr at) = has_row rows ks p (and_parts (is_some (rows k)) (have_rows rows ks) h).1 at
 
 pub none_missing : (rows : TypedRows) (ks : List Key) → ((p : Key) → IsIn p ks → is_some (rows p) ≡ true) → first_missing rows ks ≡ None
 none_missing rows [] f = refl
@@ -44,12 +40,12 @@ pub have_same : (a b : TypedRows) → AreSameRows a b → (ks : List Key) → ha
 have_same a b f [] = refl
 have_same a b f (k ∷ ks) = ap₂ (λ x y. x && y) (ap is_some (f k)) (have_same a b f ks)
 
-first_by : (x y : Bool) (p : Key) (o u : Option Key) → x ≡ y → o ≡ u → (if x then o else Some p) ≡ (if y then u else Some p)
-first_by x y p o u e h = ap₂ (λ (b : Bool) (z : Option Key). if b then z else Some p) e h
+same_choice_by : (x y : Bool) (p : Key) (o u : Option Key) → x ≡ y → o ≡ u → (if x then o else Some p) ≡ (if y then u else Some p)
+same_choice_by x y p o u e h = ap₂ (λ (b : Bool) (z : Option Key). if b then z else Some p) e h
 
 first_same : (a b : TypedRows) → AreSameRows a b → (ks : List Key) → first_missing a ks ≡ first_missing b ks
 first_same a b f [] = refl
-first_same a b f (k ∷ ks) = first_by (is_some (a k)) (is_some (b k)) k (first_missing a ks) (first_missing b ks) (ap is_some (f k)) (first_same a b f ks)
+first_same a b f (k ∷ ks) = same_choice_by (is_some (a k)) (is_some (b k)) k (first_missing a ks) (first_missing b ks) (ap is_some (f k)) (first_same a b f ks)
 
 pub thing_same : (plan : Ports) (a b : TypedRows) → AreSameRows a b → (t : Thing) → IsThingOf plan a t → IsThingOf plan b t
 thing_same plan a b f t (k, r, at, h) = (k, r, sym (f k) ∙ at, h)

@@ -18,7 +18,7 @@ use Rattle.row_layout.specs.Operations.{Change, changes_of}
 use Rattle.row_layout.specs.Rows.{Owner}
 use Rattle.row_layout.proofs.Changing.{changes-same}
 use Rattle.switch_machine.specs.Events.{AreAnswers, SwitchState, IsSafe, IsQuiet, after_answers, changes_made}
-use Rattle.switch_machine.specs.Flights.{Flight, Machine}
+use Rattle.switch_machine.specs.Flights.{MachineFlight, Machine}
 use Rattle.switch_machine.specs.Places.{makes}
 use Rattle.switch_machine.specs.Steps.{started, with_row}
 use Rattle.switch_machine.specs.Written.{Written, good_of}
@@ -72,14 +72,14 @@ module _ (plan : Ports) (is : IsPlan plan) (workers : ℕ) (capacities : List �
     dropped : DropsKey plan k s t calls → Rests plan workers capacities s.written t
     dropped x = record {
       kept = kept-run plan is workers capacities s ((None, t) ∷ []) kept (inr (inr (inl x.drop)), tt);
-      quiet = subst (λ z. (w : ℕ) (f : Flight) → z.board.flights w ≡ Some f → ⊥) (sym x.drop.machine) quiet;
+      quiet = subst (λ z. (w : ℕ) (f : MachineFlight) → z.board.flights w ≡ Some f → ⊥) (sym x.drop.machine) quiet;
       same = x.drop.written;
     }
 
     -- ---- an operation that runs alone
 
     module _ (x : RunsAlone plan workers capacities k s t calls) where
-      abbrev f : Flight
+      abbrev f : MachineFlight
       f = x.starting.flight
 
       first_safe : IsSafe plan workers capacities x.first
@@ -143,8 +143,8 @@ module _ (plan : Ports) (is : IsPlan plan) (workers : ℕ) (capacities : List �
       rest : Rests plan workers capacities s.written t
       none : HasReason plan capacities good z.applied k → ⊥
 
-    left_by : (z : Situation) → IsSituationOf z s → DropsKey plan k s t calls ⊎ RunsAlone plan workers capacities k s t calls → Left z
-    left_by z agrees (inl x) = record {
+    left_when_done : (z : Situation) → IsSituationOf z s → DropsKey plan k s t calls ⊎ RunsAlone plan workers capacities k s t calls → Left z
+    left_when_done z agrees (inl x) = record {
       then = then;
       so = record {
         changes = [];
@@ -175,7 +175,7 @@ module _ (plan : Ports) (is : IsPlan plan) (workers : ℕ) (capacities : List �
         by : (q : Key) → IsSplit k q → with_good good z.applied k q ≡ s.machine.board.applied q
         by q (inl e) = row_at k q (good q) z.applied e ∙ subst (λ v. good v ≡ s.machine.board.applied v) e (sym same)
         by q (inr h) = row_off k q (good q) z.applied h ∙ agrees.rows q
-    left_by z agrees (inr x) = record {
+    left_when_done z agrees (inr x) = record {
       then = record { applied = with_good good z.applied k; stands = t.machine.stands; made = made_after_all z.made calls };
       so = record {
         changes = changes x;
@@ -206,7 +206,7 @@ module _ (plan : Ports) (is : IsPlan plan) (workers : ℕ) (capacities : List �
       let y = turn ks s t rest calls z kept quiet agrees more in
       record { then = y.then; so = inl ((w, reason-same plan capacities (good_of plan s.written) s.machine.board.applied z.applied (λ q. sym (agrees.rows q)) k w (reason-true plan is workers capacities s kept quiet k w reason)), rest, e, y.so); agrees = y.agrees; rest = y.rest }
   turn (k ∷ ks) s t left calls z kept quiet agrees (inr (mid, own, rest, x, e, more)) =
-      let r = left_by k s mid own kept quiet z agrees x in
+      let r = left_when_done k s mid own kept quiet z agrees x in
       let y = turn ks mid t left rest r.then r.rest.kept r.rest.quiet r.agrees more in
       record {
         then = y.then;
@@ -240,4 +240,4 @@ module _ (plan : Ports) (is : IsPlan plan) (workers : ℕ) (capacities : List �
   settles n s t keys left calls kept quiet h = turns n s t keys left calls (situation s) kept quiet (record { rows = λ q. refl; stands = refl; made = refl }) h
 
   pub alone : (k : Key) (s t : SwitchState) (calls : List (Call Rid)) → IsSafe plan workers capacities s → IsQuiet s → RunsAlone plan workers capacities k s t calls → (z : Situation) × CompletesWith plan (good_of plan s.written) k (situation s) z calls × IsSituationOf z t
-  alone k s t calls kept quiet x = let y = left_by k s t calls kept quiet (situation s) (record { rows = λ q. refl; stands = refl; made = refl }) (inr x) in (y.then, y.so, y.agrees)
+  alone k s t calls kept quiet x = let y = left_when_done k s t calls kept quiet (situation s) (record { rows = λ q. refl; stands = refl; made = refl }) (inr x) in (y.then, y.so, y.agrees)

@@ -3,6 +3,7 @@ use Rattle.std.proofs.Common.{◌≡◌, ◌∷◌, ◌++◌, ◌∙◌, inl, in
 use Rattle.std.proofs.lemmas.Bool.{false≢true}
 use Rattle.std.proofs.lemmas.List.{append-nil, append_assoc}
 use Rattle.std.specs.BTreeMap.{is_at}
+use Rattle.swss_types.proofs.Tied.{tied}
 use Rattle.table_schema.specs.Fields.{Pairs}
 use Rattle.table_schema.specs.Key.{key_cmp}
 use Rattle.table_schema.specs.Plan.{Ports}
@@ -17,13 +18,12 @@ use Rattle.switch_model.specs.Good.{TypedRows, good_row}
 use Rattle.switch_model.specs.Marks.{written_key}
 use Rattle.row_layout.specs.Operations.{uses_of}
 use Rattle.row_layout.specs.Rows.{Owner}
-use Rattle.switch_model.proofs.Tied.{tied}
 use Rattle.switch_machine.specs.Events.{IsSafe, SwitchState}
 use Rattle.switch_machine.specs.Operations.{IsUsedByOthers}
 use Rattle.switch_machine.specs.Written.{IsGoodOnce, Written, fields_after}
 use Rattle.switch_machine.proofs.Splits.{key_split, use_row_in}
 use Rattle.switch_machine.proofs.Telling.{told-taken}
-use Rattle.machine_laws.proofs.Deciding.{IsDecided, any_or, both_or, in_split, is_so, not_or, so_found, so_told}
+use Rattle.machine_laws.proofs.Deciding.{IsDecided, any_decided, both_or, in_split, is_so, not_or, so_found, so_told}
 
 -- ---- writes of other keys
 
@@ -36,7 +36,7 @@ fields_beside (write.Set q fields) k o apart = beside (is_at (key_cmp k) q) _ o 
 fields_beside (write.Del q) k o apart = beside (is_at (key_cmp k) q) None o (λ h. apart (sym (key_exact k q (tied (key_cmp k q) h))))
 
 -- a key's fields after one write more
-fields_more : (ws : List Write) (w : Write) (k : Key) → fields_at (rows_of (ws ++ w ∷ [])) k ≡ fields_after w k (fields_at (rows_of ws) k)
+pub fields_more : (ws : List Write) (w : Write) (k : Key) → fields_at (rows_of (ws ++ w ∷ [])) k ≡ fields_after w k (fields_at (rows_of ws) k)
 fields_more ws w k = told-taken w old new (record { taken = refl; rows = λ q. refl; waiting = λ q o. refl }) (λ q. refl) k
   where
     old : Written
@@ -48,7 +48,7 @@ fields_more ws w k = told-taken w old new (record { taken = refl; rows = λ q. r
 abbrev pub AreKeys : List Write → List Key
 AreKeys ws = map written_key ws
 
-unwritten : (front ws : List Write) (k : Key) → (IsIn k (AreKeys ws) → ⊥) → fields_at (rows_of (front ++ ws)) k ≡ fields_at (rows_of front) k
+pub unwritten : (front ws : List Write) (k : Key) → (IsIn k (AreKeys ws) → ⊥) → fields_at (rows_of (front ++ ws)) k ≡ fields_at (rows_of front) k
 unwritten front [] k none = ap (λ z. fields_at (rows_of z) k) (append-nil front)
 unwritten front (w ∷ ws) k none =
     ap (λ z. fields_at (rows_of z) k) (sym (append_assoc front (w ∷ []) ws))
@@ -62,8 +62,8 @@ in_take (suc n) [] k h = elim h [ ]
 in_take (suc n) (w ∷ ws) k (inl e) = inl e
 in_take (suc n) (w ∷ ws) k (inr h) = inr (in_take n ws k h)
 
-pub key_in : (k : Key) (ks : List Key) → IsDecided (IsIn k ks)
-key_in k ks = by (any_or (λ q. k ≡ q) (λ q. key_split k q) ks)
+pub key_listed_decided : (k : Key) (ks : List Key) → IsDecided (IsIn k ks)
+key_listed_decided k ks = by (any_decided (λ q. k ≡ q) (λ q. key_split k q) ks)
   where
     by : IsDecided ((q : Key) × IsIn q ks × (k ≡ q)) → IsDecided (IsIn k ks)
     by (inl (q, at, e)) = inl (subst (λ z. IsIn z ks) (sym e) at)
@@ -71,7 +71,7 @@ key_in k ks = by (any_or (λ q. k ≡ q) (λ q. key_split k q) ks)
 
 -- a row that was good once is of a key that was written
 pub written-once : (plan : Ports) (taken : List Write) (k : Key) (r : Row) → IsGoodOnce plan taken k r → IsIn k (AreKeys taken)
-written-once plan taken k r (n, le, h) = by (key_in k (AreKeys (take n taken)))
+written-once plan taken k r (n, le, h) = by (key_listed_decided k (AreKeys (take n taken)))
   where
     no_row : (o : Option Row) → o ≡ None → o ≡ Some r → ⊥
     no_row o a b = absurd cc
@@ -91,7 +91,7 @@ module _ (plan : Ports) (workers : ℕ) (capacities : List ℕ) (s : SwitchState
 
   -- among the keys that were written each applied row's is
   abbrev decided : (o : Owner) → IsDecided ((q : Key) × IsIn q (AreKeys s.written.taken) × IsOther o q)
-  decided o = any_or (IsOther o) (λ q. both_or (not_or (key_split q k)) (in_split o (uses_of plan q (rows q)))) (AreKeys s.written.taken)
+  decided o = any_decided (IsOther o) (λ q. both_or (not_or (key_split q k)) (in_split o (uses_of plan q (rows q)))) (AreKeys s.written.taken)
 
   abbrev pub used-by : Owner → Bool
   used-by o = is_so (decided o)

@@ -11,7 +11,7 @@ use Rattle.switch_machine.specs.Events.{IsQuiet, with_made_call, Popped, PopsKey
 use Rattle.switch_machine.specs.Flights.{IsResting}
 use Rattle.switch_machine.specs.Written.{HasNoWrite}
 use Rattle.machine_laws.specs.Logged.{AreLoggedEvents, ListsKey, LoggedSwitch, LogsMark, AreNoWritesOf, after_logged}
-use Rattle.machine_laws.specs.Quiet.{ChangesEntry, LeavesAlone, NamesNot, StandsFor, TakesNoWriteOf}
+use Rattle.machine_laws.specs.Quiet.{ChangesEntry, LeavesAlone, NamesNot, EntryStandsFor, TakesNoWriteOf}
 use Rattle.switch_model.specs.Marks.{written_key}
 use Rattle.machine_laws.proofs.Sharing.{fields_beside}
 use Rattle.machine_laws.proofs.Quieting.{quiet-rows}
@@ -39,13 +39,13 @@ module _ (plan : Ports) (workers : ℕ) (capacities : List ℕ) (k : Key) where
       (x.gone, leaves_alone e.1 es run.1 x.none names.1)
 
 -- what stands for the row of a key that is at rest, not to sync, and named by no write is neither set nor removed
-pub unnamed-rows : (plan : Ports) (is : IsPlan plan) (workers : ℕ) (capacities : List ℕ) (k : Key) (s : SwitchState) (es : List (Option (Call Rid) × SwitchState)) (e : Entry Rid) → IsSafe plan workers capacities s → (run : AreEvents plan workers capacities s es) → NamesNot plan workers capacities k s es run → HasNoWrite s.written k → IsResting s.machine.board k → (IsIn k s.to_sync → ⊥) → StandsFor plan k e s.machine → IsResting (after_events s es).machine.board k × StandsFor plan k e (after_events s es).machine × ((call : Call Rid) → IsIn call (calls_of es) → ChangesEntry call e → ⊥)
+pub unnamed-rows : (plan : Ports) (is : IsPlan plan) (workers : ℕ) (capacities : List ℕ) (k : Key) (s : SwitchState) (es : List (Option (Call Rid) × SwitchState)) (e : Entry Rid) → IsSafe plan workers capacities s → (run : AreEvents plan workers capacities s es) → NamesNot plan workers capacities k s es run → HasNoWrite s.written k → IsResting s.machine.board k → (IsIn k s.to_sync → ⊥) → EntryStandsFor plan k e s.machine → IsResting (after_events s es).machine.board k × EntryStandsFor plan k e (after_events s es).machine × ((call : Call Rid) → IsIn call (calls_of es) → ChangesEntry call e → ⊥)
 unnamed-rows plan is workers capacities k s es e kept run names none rests out stood = quiet-rows plan is workers capacities k s es e kept run (leaves_alone plan workers capacities k s es run none names) rests out stood
 
 -- ---- of logged events
 
-one_more : {A : Type 0} (xs : List A) (x : A) → xs ++ x ∷ [] ≡ xs → ⊥
-one_more xs x h = absurd (omega (arith, ap length h, length-append xs (x ∷ [])))
+pub one_more_differs : {A : Type 0} (xs : List A) (x : A) → xs ++ x ∷ [] ≡ xs → ⊥
+one_more_differs xs x h = absurd (omega (arith, ap length h, length-append xs (x ∷ [])))
 
 module _ (plan : Ports) (is : IsPlan plan) (workers : ℕ) (capacities : List ℕ) (k : Key) where
   -- the events of a log, without its marks
@@ -57,7 +57,7 @@ module _ (plan : Ports) (is : IsPlan plan) (workers : ℕ) (capacities : List �
     names : NamesNot plan workers capacities k s events are
 
   takes_none : (s t : SwitchState) (c : Option (Call Rid)) (x : IsEvent plan workers capacities s c t) → t.written.taken ≡ s.written.taken → TakesNoWriteOf plan workers capacities k s c t x
-  takes_none s t None (inl x) same = λ e. one_more s.written.taken x.write (sym x.taken.taken ∙ same)
+  takes_none s t None (inl x) same = λ e. one_more_differs s.written.taken x.write (sym x.taken.taken ∙ same)
   takes_none s t None (inr x) same = tt
   takes_none s t (Some call) x same = tt
 
@@ -88,8 +88,8 @@ module _ (plan : Ports) (is : IsPlan plan) (workers : ℕ) (capacities : List �
   run_of s (t ∷ ts) (inr (inr x), run) h = subst (λ z. Run z s.effects (after_logged t ts)) x.switch (subst (λ z. Run t.switch z (after_logged t ts)) x.effects (run_of t ts run h.1))
 
   -- after a mark that doesn't list the key, what stands for its row is neither set nor removed until a write of it is taken
-  pub round-quiet : (s t : LoggedSwitch) (x : LogsMark plan workers capacities s t) (ts : List LoggedSwitch) (run : AreLoggedEvents plan workers capacities t ts) (e : Entry Rid) → IsSafe plan workers capacities t.switch → AreNoWritesOf plan workers capacities k t ts run → (ListsKey k x.waits → ⊥) → StandsFor plan k e t.switch.machine → (calls : List (Call Rid)) × ((after_logged t ts).effects ≡ t.effects ++ calls) × StandsFor plan k e (after_logged t ts).switch.machine × ((call : Call Rid) → IsIn call calls → ChangesEntry call e → ⊥)
+  pub round-quiet : (s t : LoggedSwitch) (x : LogsMark plan workers capacities s t) (ts : List LoggedSwitch) (run : AreLoggedEvents plan workers capacities t ts) (e : Entry Rid) → IsSafe plan workers capacities t.switch → AreNoWritesOf plan workers capacities k t ts run → (ListsKey k x.waits → ⊥) → EntryStandsFor plan k e t.switch.machine → (calls : List (Call Rid)) × ((after_logged t ts).effects ≡ t.effects ++ calls) × EntryStandsFor plan k e (after_logged t ts).switch.machine × ((call : Call Rid) → IsIn call calls → ChangesEntry call e → ⊥)
   round-quiet s t x ts run e kept none out stood =
       let y = run_of t ts run none in
       let z = unnamed-rows plan is workers capacities k t.switch y.events e kept y.are y.names (subst (λ (v : SwitchState). HasNoWrite v.written k) (sym x.switch) (x.popped k)) (λ w f at same. subst (λ (v : SwitchState). IsQuiet v) (sym x.switch) x.quiet w f at) (λ h. out (x.all k (subst (λ (v : SwitchState). IsIn k v.to_sync) x.switch h))) stood in
-      (calls_of y.events, y.grown, subst (λ (v : SwitchState). StandsFor plan k e v.machine) y.last z.1, z.2)
+      (calls_of y.events, y.grown, subst (λ (v : SwitchState). EntryStandsFor plan k e v.machine) y.last z.1, z.2)

@@ -27,7 +27,7 @@ ChangesEntry (call.Set f a) e = same_entry f e ≡ true
 ChangesEntry (call.Remove f) e = same_entry f e ≡ true
 
 -- an entry stands for a thing of a key's applied row
-pub record StandsFor (plan : Ports) (k : Key) (e : Entry Rid) (m : Machine) : Type 0 where
+pub record EntryStandsFor (plan : Ports) (k : Key) (e : Entry Rid) (m : Machine) : Type 0 where
   pub row : Row
   pub applied : m.board.applied k ≡ Some row
   pub thing : Thing

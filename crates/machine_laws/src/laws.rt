@@ -21,7 +21,7 @@ ghost use Rattle.switch_model.specs.Sound.{AreWithin};
 ghost use Rattle.switch_model.specs.Turns.{TakeTurns};
 ghost use Rattle.row_layout.specs.Operations.{Change};
 ghost use Rattle.switch_machine.specs.Events.{AreAnswers, AreEvents, IsBegin, IsQuiet, IsSafe, SwitchState, after_answers, after_events, calls_of, empty_switch};
-ghost use Rattle.switch_machine.specs.Flights.{Fits, Flight, IsResting, IsRow};
+ghost use Rattle.switch_machine.specs.Flights.{Fits, MachineFlight, IsResting, IsRow};
 ghost use Rattle.switch_machine.specs.Next.{MustWait};
 ghost use Rattle.switch_machine.specs.Operations.{MayBegin};
 ghost use Rattle.switch_machine.specs.Places.{HasRoomFor};
@@ -31,7 +31,7 @@ ghost use Rattle.machine_laws.specs.Bounds.{most_calls};
 ghost use Rattle.machine_laws.specs.Calls.{AreTurnsWith, CompletesWith, Situation};
 ghost use Rattle.machine_laws.specs.Logged.{AreListed, AreLoggedEvents, IsWholeSettling, ListsKey, LoggedSwitch, LogsMark, AreNoWritesOf, after_logged, after_pops, new_switch};
 ghost use Rattle.machine_laws.specs.Order.{IsOrdered};
-ghost use Rattle.machine_laws.specs.Quiet.{ChangesEntry, LeavesAlone, NamesNot, StandsFor};
+ghost use Rattle.machine_laws.specs.Quiet.{ChangesEntry, LeavesAlone, NamesNot, EntryStandsFor};
 ghost use Rattle.machine_laws.specs.Reading.{IsOnSwitch};
 ghost use Rattle.machine_laws.specs.Settling.{AreMachineTurns, IsSituationOf, RunsAlone, situation};
 ghost use Rattle.machine_laws.specs.ToSync.{AreInKeyOrder, AreSynced, HasRoomTogether};
@@ -93,9 +93,9 @@ pub fn marks_are_true()
 /// stands for it still; so it is where no write of the key waits and the events take none, and after a mark that doesn't list the
 /// key as long as no write of it is taken.
 pub fn quiet_rows_stay()
-    ensures alone { (plan : Ports) (workers : ℕ) (capacities : List ℕ) (k : Key) (s : SwitchState) (es : List (Option (Call Rid) × SwitchState)) (e : Entry Rid) → IsPlan plan → IsSafe plan workers capacities s → AreEvents plan workers capacities s es → LeavesAlone k s es → IsResting s.machine.board k → (IsIn k s.to_sync → ⊥) → StandsFor plan k e s.machine → IsResting (after_events s es).machine.board k × StandsFor plan k e (after_events s es).machine × ((call : Call Rid) → IsIn call (calls_of es) → ChangesEntry call e → ⊥) }
-    ensures unnamed { (plan : Ports) (workers : ℕ) (capacities : List ℕ) (k : Key) (s : SwitchState) (es : List (Option (Call Rid) × SwitchState)) (e : Entry Rid) → IsPlan plan → IsSafe plan workers capacities s → (run : AreEvents plan workers capacities s es) → NamesNot plan workers capacities k s es run → HasNoWrite s.written k → IsResting s.machine.board k → (IsIn k s.to_sync → ⊥) → StandsFor plan k e s.machine → IsResting (after_events s es).machine.board k × StandsFor plan k e (after_events s es).machine × ((call : Call Rid) → IsIn call (calls_of es) → ChangesEntry call e → ⊥) }
-    ensures round { (plan : Ports) (workers : ℕ) (capacities : List ℕ) (k : Key) (s t : LoggedSwitch) (x : LogsMark plan workers capacities s t) (ts : List LoggedSwitch) (run : AreLoggedEvents plan workers capacities t ts) (e : Entry Rid) → IsPlan plan → IsSafe plan workers capacities t.switch → AreNoWritesOf plan workers capacities k t ts run → (ListsKey k x.waits → ⊥) → StandsFor plan k e t.switch.machine → (calls : List (Call Rid)) × ((after_logged t ts).effects ≡ t.effects ++ calls) × StandsFor plan k e (after_logged t ts).switch.machine × ((call : Call Rid) → IsIn call calls → ChangesEntry call e → ⊥) }
+    ensures alone { (plan : Ports) (workers : ℕ) (capacities : List ℕ) (k : Key) (s : SwitchState) (es : List (Option (Call Rid) × SwitchState)) (e : Entry Rid) → IsPlan plan → IsSafe plan workers capacities s → AreEvents plan workers capacities s es → LeavesAlone k s es → IsResting s.machine.board k → (IsIn k s.to_sync → ⊥) → EntryStandsFor plan k e s.machine → IsResting (after_events s es).machine.board k × EntryStandsFor plan k e (after_events s es).machine × ((call : Call Rid) → IsIn call (calls_of es) → ChangesEntry call e → ⊥) }
+    ensures unnamed { (plan : Ports) (workers : ℕ) (capacities : List ℕ) (k : Key) (s : SwitchState) (es : List (Option (Call Rid) × SwitchState)) (e : Entry Rid) → IsPlan plan → IsSafe plan workers capacities s → (run : AreEvents plan workers capacities s es) → NamesNot plan workers capacities k s es run → HasNoWrite s.written k → IsResting s.machine.board k → (IsIn k s.to_sync → ⊥) → EntryStandsFor plan k e s.machine → IsResting (after_events s es).machine.board k × EntryStandsFor plan k e (after_events s es).machine × ((call : Call Rid) → IsIn call (calls_of es) → ChangesEntry call e → ⊥) }
+    ensures round { (plan : Ports) (workers : ℕ) (capacities : List ℕ) (k : Key) (s t : LoggedSwitch) (x : LogsMark plan workers capacities s t) (ts : List LoggedSwitch) (run : AreLoggedEvents plan workers capacities t ts) (e : Entry Rid) → IsPlan plan → IsSafe plan workers capacities t.switch → AreNoWritesOf plan workers capacities k t ts run → (ListsKey k x.waits → ⊥) → EntryStandsFor plan k e t.switch.machine → (calls : List (Call Rid)) × ((after_logged t ts).effects ≡ t.effects ++ calls) × EntryStandsFor plan k e (after_logged t ts).switch.machine × ((call : Call Rid) → IsIn call calls → ChangesEntry call e → ⊥) }
 {}
 
 /// From the new switch on each row that is applied or to be applied is its key's good row after some number of the writes taken.
@@ -109,9 +109,9 @@ pub fn rows_are_dated()
 pub fn keys_may_begin()
     ensures reads { (text : List ℕ) → IsOnSwitch (key_of text) }
     ensures fits { (plan : Ports) (applied : TypedRows) (k : Key) (fields : Pairs) (r : Row) → ((q : Key) (x : Row) → applied q ≡ Some x → Fits plan q x) → IsClosed applied → IsOnSwitch k → good_row plan k (Some fields) ≡ Some r → have_rows applied (names_of k r) ≡ true → Fits plan k r }
-    ensures begins { (plan : Ports) (workers : ℕ) (capacities : List ℕ) (s : SwitchState) (w : ℕ) (k : Key) → IsPlan plan → IsSafe plan workers capacities s → IsQuiet s → IsOnSwitch k → ((r : Row) → good_of plan s.written k ≡ Some r → have_rows s.machine.board.applied (names_of k r) ≡ true) → (good_of plan s.written k ≡ None → (q : Key) (r : Row) → s.machine.board.applied q ≡ Some r → IsIn k (names_of q r) → ⊥) → (f : Flight) × (due : List Change) × (f.key ≡ k) × (f.new ≡ good_of plan s.written k) × MayBegin plan s.machine w f due }
-    ensures room { (plan : Ports) (workers : ℕ) (capacities : List ℕ) (s : SwitchState) (w : ℕ) (f : Flight) (due : List Change) (row : Row) → MayBegin plan s.machine w f due → f.new ≡ Some row → good_of plan s.written f.key ≡ Some row → HasRoomFor workers capacities s.objects s.machine due ⊎ ((kind : Kind) × LacksRoom plan workers capacities s f.key kind) }
-    ensures room_gone { (plan : Ports) (workers : ℕ) (capacities : List ℕ) (s : SwitchState) (w : ℕ) (f : Flight) (due : List Change) → MayBegin plan s.machine w f due → f.new ≡ None → HasRoomFor workers capacities s.objects s.machine due }
+    ensures begins { (plan : Ports) (workers : ℕ) (capacities : List ℕ) (s : SwitchState) (w : ℕ) (k : Key) → IsPlan plan → IsSafe plan workers capacities s → IsQuiet s → IsOnSwitch k → ((r : Row) → good_of plan s.written k ≡ Some r → have_rows s.machine.board.applied (names_of k r) ≡ true) → (good_of plan s.written k ≡ None → (q : Key) (r : Row) → s.machine.board.applied q ≡ Some r → IsIn k (names_of q r) → ⊥) → (f : MachineFlight) × (due : List Change) × (f.key ≡ k) × (f.new ≡ good_of plan s.written k) × MayBegin plan s.machine w f due }
+    ensures room { (plan : Ports) (workers : ℕ) (capacities : List ℕ) (s : SwitchState) (w : ℕ) (f : MachineFlight) (due : List Change) (row : Row) → MayBegin plan s.machine w f due → f.new ≡ Some row → good_of plan s.written f.key ≡ Some row → HasRoomFor workers capacities s.objects s.machine due ⊎ ((kind : Kind) × LacksRoom plan workers capacities s f.key kind) }
+    ensures room_gone { (plan : Ports) (workers : ℕ) (capacities : List ℕ) (s : SwitchState) (w : ℕ) (f : MachineFlight) (due : List Change) → MayBegin plan s.machine w f due → f.new ≡ None → HasRoomFor workers capacities s.objects s.machine due }
     ensures waits_or_begins { (plan : Ports) (workers : ℕ) (capacities : List ℕ) (s : SwitchState) (w : ℕ) (k : Key) → IsPlan plan → IsSafe plan workers capacities s → IsQuiet s → w < workers → IsIn k s.to_sync → IsOnSwitch k → MustWait plan workers capacities s k ⊎ ((t : SwitchState) × (x : IsBegin plan workers capacities s t) × (x.worker ≡ w) × (x.flight.key ≡ k)) }
 {}
 

@@ -30,10 +30,10 @@ use Rattle.neigh_orch.specs.declared.left.Left.TheVariants as left
 use Rattle.neigh_orch.proofs.Starts.{things_on}
 
 -- a neighbour's operation, from what its fields are known to be
-pub told : (f : Operation) (worker : ℕ) (n : IfName) (ip : Ip) (b : Base) (l : Left) (now now' new new' : Option Mac) → neigh_operation worker n ip b l now new ≡ f → now ≡ now' → new ≡ new' → f ≡ neigh_operation worker n ip b l now' new'
-told f worker n ip b l now now' new new' view o e = sym view ∙ ap (λ z. neigh_operation worker n ip b l z new) o ∙ ap (neigh_operation worker n ip b l now') e
+pub neigh_operation_told : (f : Operation) (worker : ℕ) (n : IfName) (ip : Ip) (b : Base) (l : Left) (now now' new new' : Option Mac) → neigh_operation worker n ip b l now new ≡ f → now ≡ now' → new ≡ new' → f ≡ neigh_operation worker n ip b l now' new'
+neigh_operation_told f worker n ip b l now now' new new' view o e = sym view ∙ ap (λ z. neigh_operation worker n ip b l z new) o ∙ ap (neigh_operation worker n ip b l now') e
 
-abbrev base_in : thing_name.Name → Base
+abbrev base_in : thing_name.ThingName → Base
 base_in (thing_name.Neighbor h) = h.on
 base_in (thing_name.NextHop h) = h.on
 base_in _ = base.Vlan 0

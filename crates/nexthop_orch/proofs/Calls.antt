@@ -25,8 +25,8 @@ use Rattle.nexthop_orch.proofs.Dues.{due-over, last-taken, member-made, member-t
 use Rattle.nexthop_orch.proofs.Members.{all-at, member-at, member-in, neighbour-at}
 
 -- a group's operation, from what its fields are known to be
-pub told : (f : GroupOperation) (w : ℕ) (n : Name) (b b' : Bool) (keys : List Key) (made : List Vid) (d d' : ℕ) → group_operation w n b keys made d ≡ f → b ≡ b' → d ≡ d' → f ≡ group_operation w n b' keys made d'
-told f w n b b' keys made d d' is builds done = sym is ∙ ap (λ z. group_operation w n z keys made d) builds ∙ ap (group_operation w n b' keys made) done
+pub group_operation_told : (f : GroupOperation) (w : ℕ) (n : Name) (b b' : Bool) (keys : List Key) (made : List Vid) (d d' : ℕ) → group_operation w n b keys made d ≡ f → b ≡ b' → d ≡ d' → f ≡ group_operation w n b' keys made d'
+group_operation_told f w n b b' keys made d d' is builds done = sym is ∙ ap (λ z. group_operation w n z keys made d) builds ∙ ap (group_operation w n b' keys made) done
 
 past-none : {X : Type 0} (xs : List X) (i : ℕ) → slice_get xs i ≡ None → length xs < suc i
 past-none [] i h = omega arith

@@ -39,10 +39,10 @@ member-in all (h ∷ hs) (suc i) hop is = inr (member-in all hs i hop is)
 abbrev pub neighbour_of : Ports → Hop → Option Key
 neighbour_of plan hop = option_map (λ n. key.Neigh n hop.ip) (interface_on plan hop.on)
 
-fewer : (plan : Ports) (hops : List Hop) → length (neighbour_keys plan hops) ≤ length hops
-fewer plan [] = omega arith
-fewer plan (hop ∷ hops) =
-    let rest = fewer plan hops in
+fewer_keys_than_hops : (plan : Ports) (hops : List Hop) → length (neighbour_keys plan hops) ≤ length hops
+fewer_keys_than_hops plan [] = omega arith
+fewer_keys_than_hops plan (hop ∷ hops) =
+    let rest = fewer_keys_than_hops plan hops in
     elim (neighbour_of plan hop) as (λ o. length (those (o ∷ map (neighbour_of plan) hops)) ≤ suc (length hops)) [ None ↦ omega (arith, rest) | Some k ↦ omega (arith, rest) ]
 
 -- the hop of a neighbour, where each hop has one
@@ -51,7 +51,7 @@ neighbour-at plan [] i k same is = absurd (none-some k is)
 neighbour-at plan (hop ∷ hops) i k same is = by (λ same i is. neighbour-at plan hops i k same is) (neighbour_of plan hop) refl same i is
   where
     by : (length (neighbour_keys plan hops) ≡ length hops → (i : ℕ) → slice_get (neighbour_keys plan hops) i ≡ Some k → (h : Hop) × (slice_get hops i ≡ Some h) × (neighbour_of plan h ≡ Some k)) → (o : Option Key) → neighbour_of plan hop ≡ o → length (those (o ∷ map (neighbour_of plan) hops)) ≡ suc (length hops) → (i : ℕ) → slice_get (those (o ∷ map (neighbour_of plan) hops)) i ≡ Some k → (h : Hop) × (slice_get (hop ∷ hops) i ≡ Some h) × (neighbour_of plan h ≡ Some k)
-    by rest None at same i is = let less = fewer plan hops in absurd (omega (arith, less, same))
+    by rest None at same i is = let less = fewer_keys_than_hops plan hops in absurd (omega (arith, less, same))
     by rest (Some q) at same zero is = (hop, refl, at ∙ is)
     by rest (Some q) at same (suc i) is = rest (omega (arith, same)) i is
 

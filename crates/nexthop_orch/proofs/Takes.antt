@@ -82,8 +82,8 @@ module _ (names : Names) (w : ℕ) (n : Name) (keys : List Key) (made : List Vid
   with-made true may = refl
   with-made false may = sym (ap (λ o. made ++ to_list o) (may.unnumbered refl) ∙ append-nil made)
 
-  next : d + 1 ≡ suc d
-  next = omega arith
+  one_more_done : d + 1 ≡ suc d
+  one_more_done = omega arith
 
   took : (b : Bool) (made' : List Vid) (names' : Names) → MayTakeGroup (Before b) given names → made' ≡ made ++ to_list given → names' ≡ group_names_by names (Before b) made' (drop (suc d) (first_group_due (hops_in n) b)) → IsGroupTook (Before b) given names (group_operation w n b keys made' (d + 1)) names'
   took b made' names' may more later =
@@ -93,7 +93,7 @@ module _ (names : Names) (w : ℕ) (n : Name) (keys : List Key) (made : List Vid
         change = step.0;
         rest = drop (suc d) (first_group_due (hops_in n) b);
         due = step.1;
-        operation = ap (group_operation w n b keys made') next ∙ ap (λ l. group_operation w n b keys l (suc d)) same;
+        operation = ap (group_operation w n b keys made') one_more_done ∙ ap (λ l. group_operation w n b keys l (suc d)) same;
         names_are = later ∙ ap (λ l. group_names_by names (Before b) l (drop (suc d) (first_group_due (hops_in n) b))) same;
       }
 
@@ -101,7 +101,7 @@ module _ (names : Names) (w : ℕ) (n : Name) (keys : List Key) (made : List Vid
   pub took-last : (b : Bool) (made' : List Vid) (names' : Names) (f : GroupOperation) → Before b ≡ f → MayTakeGroup f given names → made' ≡ made ++ to_list given → length (hops_in n) < d + 1 → names' ≡ group_names_by names (group_operation w n b keys made' (d + 1)) made' [] → IsGroupTook f given names (group_operation w n b keys made' (d + 1)) names'
   took-last b made' names' f is may more past later =
       subst (λ z. MayTakeGroup z given names → IsGroupTook z given names (group_operation w n b keys made' (d + 1)) names') is
-      (λ may. took b made' names' may more (later ∙ ap (group_names_by names (Before b) made') (sym (due-over (hops_in n) b (suc d) (subst (λ m. length (hops_in n) < m) next past))))) may
+      (λ may. took b made' names' may more (later ∙ ap (group_names_by names (Before b) made') (sym (due-over (hops_in n) b (suc d) (subst (λ m. length (hops_in n) < m) one_more_done past))))) may
 
   kept-names : (b : Bool) (made' : List Vid) (due : List Change) → (due ≡ [] → ⊥) → group_names_by names (Before b) made' due ≡ names
   kept-names b made' [] some = absurd (some refl)
@@ -111,4 +111,4 @@ module _ (names : Names) (w : ℕ) (n : Name) (keys : List Key) (made : List Vid
   pub took-one : (b : Bool) (made' : List Vid) (f : GroupOperation) → Before b ≡ f → MayTakeGroup f given names → made' ≡ made ++ to_list given → (length (hops_in n) < d + 1 → ⊥) → IsGroupTook f given names (group_operation w n b keys made' (d + 1)) names
   took-one b made' f is may more not =
       subst (λ z. MayTakeGroup z given names → IsGroupTook z given names (group_operation w n b keys made' (d + 1)) names) is
-      (λ may. took b made' names may more (sym (kept-names b made' (drop (suc d) (first_group_due (hops_in n) b)) (λ none. not (subst (λ m. length (hops_in n) < m) (sym next) (over-due (hops_in n) b (suc d) none)))))) may
+      (λ may. took b made' names may more (sym (kept-names b made' (drop (suc d) (first_group_due (hops_in n) b)) (λ none. not (subst (λ m. length (hops_in n) < m) (sym one_more_done) (over-due (hops_in n) b (suc d) none)))))) may

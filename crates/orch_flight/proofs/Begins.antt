@@ -62,9 +62,9 @@ lacking-no_need room need used is = ap (λ l. lacking room l used) is ∙ lackin
 
 -- ---- a row that is to go
 
-refused : (worker : ℕ) (o : Option Registered) → option_and_then (retire_refusal worker) o ≡ or_else (option_map wait.Held (first_of (users_at o))) (option_map wait.Busy (pinning worker o))
-refused worker None = refl
-refused worker (Some r) = by (first_of r.users) (least_worker (pins_but worker r.pins))
+retire_refused : (worker : ℕ) (o : Option Registered) → option_and_then (retire_refusal worker) o ≡ or_else (option_map wait.Held (first_of (users_at o))) (option_map wait.Busy (pinning worker o))
+retire_refused worker None = refl
+retire_refused worker (Some r) = by (first_of r.users) (least_worker (pins_but worker r.pins))
   where
     by : (u : Option Key) (w : Option ℕ) → held_or u w ≡ or_else (option_map wait.Held u) (option_map wait.Busy w)
     by None None = refl
@@ -81,7 +81,7 @@ pub wait-removal : (plan : Ports) (names : Names) (room : RoomState) (used : Lis
 wait-removal plan names room used worker k old none =
     or_else-then (holder_of names k None) (busy_for plan names worker k None) (crowded_for plan names room used k old None)
     (ap (option_map wait.NoRoom) (lacking-no_need room (places_for (own_changes plan k old None)) used none))
-    ∙ sym (refused worker (registered_at names (name.Row k)))
+    ∙ sym (retire_refused worker (registered_at names (name.Row k)))
 
 -- ---- what is left to do, where nothing has to be left
 

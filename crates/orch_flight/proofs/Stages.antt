@@ -15,7 +15,7 @@ use Rattle.ref_counts.specs.Registered.{Registered, begun, pins_but, released, w
 use Rattle.ref_counts.specs.Registry.{Names, all_released, changed, changed_at, name_cmp, pinned, registered_at, state_in, state_of}
 use Rattle.ref_counts.proofs.Found.{apart_from}
 use Rattle.orch_flight.specs.Starting.{ids_for_row}
-use Rattle.orch_flight.specs.Sharing.{HasNoPins, IsOfShared, IsReady, IsSettled, is_absent, lacks_shared, stage_of, with_row_begun, with_shared}
+use Rattle.orch_flight.specs.Sharing.{HasNoPins, IsOfShared, IsNameReady, IsSettled, is_absent, lacks_shared, stage_of, with_row_begun, with_shared}
 
 stage_step : (e : Name × Registered) (es : Names) (n : Name) (b : Bool) → is_at (name_cmp n) e.0 ≡ b → stage_of (e ∷ es) n ≡ cond b (Some e.1.state) (stage_of es n)
 stage_step e es n true h = ap (λ b. option_map (λ r. r.state) (cond b (Some e.1) (registered_at es n))) h
@@ -118,11 +118,11 @@ apart_row k (name.Group hops) h = refl
 abbrev pub AreAlike : Names → Names → Type 0
 AreAlike new names = (n : Name) → IsOfShared n → stage_of new n ≡ stage_of names n
 
-pub alike-ready : (new names : Names) (shared : Option Name) → AreAlike new names → IsReady names shared → IsReady new shared
+pub alike-ready : (new names : Names) (shared : Option Name) → AreAlike new names → IsNameReady names shared → IsNameReady new shared
 alike-ready new names None same h = tt
 alike-ready new names (Some n) same h = (h.0, subst IsSettled (sym (same n h.0)) h.1)
 
-pub alike-lacks : (new names : Names) (shared : Option Name) → AreAlike new names → IsReady names shared → lacks_shared new shared ≡ lacks_shared names shared
+pub alike-lacks : (new names : Names) (shared : Option Name) → AreAlike new names → IsNameReady names shared → lacks_shared new shared ≡ lacks_shared names shared
 alike-lacks new names None same h = refl
 alike-lacks new names (Some n) same h = ap is_absent (state-stage new n ∙ ap (λ o. unwrap_or o state.Absent) (same n h.0) ∙ sym (state-stage names n))
 
@@ -131,7 +131,7 @@ alike-begun new names k m worker vids same is n h =
     ap (λ l. stage_of l n) is ∙ ap (λ m. stage_of (insert_entry name_cmp names m (begun worker vids)) n) same ∙ stage-put names (name.Row k) (begun worker vids) n (row_apart k n h) (apart_row k n h)
 
 -- a row's name begins to be built, and then what it shares
-pub row-shared-begun : (later new names : Names) (k : Key) (m : Name) (worker vids : ℕ) (applied : Bool) (shared : Option Name) → m ≡ name.Row k → vids ≡ ids_for_row k → applied ≡ false → new ≡ insert_entry name_cmp names m (begun worker vids) → IsReady names shared → later ≡ with_shared new worker k shared (lacks_shared new shared) → later ≡ with_shared (with_row_begun names worker k applied) worker k shared (lacks_shared names shared)
+pub row-shared-begun : (later new names : Names) (k : Key) (m : Name) (worker vids : ℕ) (applied : Bool) (shared : Option Name) → m ≡ name.Row k → vids ≡ ids_for_row k → applied ≡ false → new ≡ insert_entry name_cmp names m (begun worker vids) → IsNameReady names shared → later ≡ with_shared new worker k shared (lacks_shared new shared) → later ≡ with_shared (with_row_begun names worker k applied) worker k shared (lacks_shared names shared)
 row-shared-begun later new names k m worker vids applied shared same ids not is ready then =
     let row : new ≡ with_row_begun names worker k applied = is ∙ ap₂ (λ m v. insert_entry name_cmp names m (begun worker v)) same ids ∙ sym (ap (with_row_begun names worker k) not) in
     then ∙ ap₂ (λ l b. with_shared l worker k shared b) row (alike-lacks new names shared (alike-begun new names k m worker vids same is) ready)

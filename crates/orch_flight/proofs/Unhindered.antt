@@ -12,12 +12,12 @@ use Rattle.ref_counts.specs.Registered.{Registered}
 use Rattle.ref_counts.specs.Registry.{Names, first_missing, is_live, owner_in, registered_at, state_in, state_of}
 use Rattle.ref_counts.specs.Room.{RoomState, lacking}
 use Rattle.orch_flight.specs.Needing.{first_unapplied, least_of, or_else, row_reason, unapplied_or, workers_on}
-use Rattle.orch_flight.specs.Sharing.{IsReady, IsSettled, MayShare}
+use Rattle.orch_flight.specs.Sharing.{IsNameReady, IsSettled, MayShare}
 use Rattle.orch_flight.specs.Taking.{to_list}
 
-first_none : (a b : Option Wait) → or_else a b ≡ None → a ≡ None
-first_none None b h = refl
-first_none (Some w) b h = cc
+or_else_none : (a b : Option Wait) → or_else a b ≡ None → a ≡ None
+or_else_none None b h = refl
+or_else_none (Some w) b h = cc
 
 second_none : (a b : Option Wait) → or_else a b ≡ None → b ≡ None
 second_none None b h = h
@@ -61,21 +61,21 @@ live_step state.Live k a b free h next = next h
 live_step (state.Building w) k a b free h next = cc
 live_step (state.Retiring w) k a b free h next = cc
 
-none_missing : (names : Names) (ks : List Key) (ns : List Name) → AreFree names (map name.Row ks ++ ns) → first_unapplied names ks ≡ None → first_missing names ks ≡ None
-none_missing names [] ns free h = refl
-none_missing names (k ∷ ks) ns free h =
-    live_step (state_of names (name.Row k)) k (first_unapplied names ks) (first_missing names ks) free.0 h (none_missing names ks ns free.1)
+applied_so_there : (names : Names) (ks : List Key) (ns : List Name) → AreFree names (map name.Row ks ++ ns) → first_unapplied names ks ≡ None → first_missing names ks ≡ None
+applied_so_there names [] ns free h = refl
+applied_so_there names (k ∷ ks) ns free h =
+    live_step (state_of names (name.Row k)) k (first_unapplied names ks) (first_missing names ks) free.0 h (applied_so_there names ks ns free.1)
 
 module _ (names : Names) (room : RoomState) (used : List ℕ) (ks : List Key) (ns : List Name) (need : List ℕ) (none : row_reason names room used ks ns need ≡ None) where
   busy_none : or_else (option_map wait.Busy (least_of (workers_on names (map name.Row ks ++ ns)))) (option_map wait.NoRoom (lacking room need used)) ≡ None
   busy_none = second_none (option_map wait.Missing (first_unapplied names ks)) _ none
 
   free : AreFree names (map name.Row ks ++ ns)
-  free = are_free names (map name.Row ks ++ ns) (no_least _ (unmapped wait.Busy _ (first_none _ (option_map wait.NoRoom (lacking room need used)) busy_none)))
+  free = are_free names (map name.Row ks ++ ns) (no_least _ (unmapped wait.Busy _ (or_else_none _ (option_map wait.NoRoom (lacking room need used)) busy_none)))
 
   -- the keys that are named are live
   pub reason-named : first_missing names ks ≡ None
-  reason-named = none_missing names ks ns free (unmapped wait.Missing (first_unapplied names ks) (first_none _ _ none))
+  reason-named = applied_so_there names ks ns free (unmapped wait.Missing (first_unapplied names ks) (or_else_none _ _ none))
 
   -- there is room
   pub reason-room : lacking room need used ≡ None
@@ -95,6 +95,6 @@ settled (Some r) free not = by r.state free (λ e. not (ap Some e))
     by (state.Retiring w) free not = cc
 
 -- and what is shared is ready
-pub reason-ready : (names : Names) (room : RoomState) (used : List ℕ) (ks : List Key) (shared : Option Name) (need : List ℕ) → MayShare names shared → row_reason names room used ks (to_list shared) need ≡ None → IsReady names shared
+pub reason-ready : (names : Names) (room : RoomState) (used : List ℕ) (ks : List Key) (shared : Option Name) (need : List ℕ) → MayShare names shared → row_reason names room used ks (to_list shared) need ≡ None → IsNameReady names shared
 reason-ready names room used ks None need may none = tt
 reason-ready names room used ks (Some n) need may none = (may.0, settled (registered_at names n) (reason-free names room used ks (n ∷ []) need none).0 may.1)

@@ -58,7 +58,7 @@ member_vid (h ∷ hs) hop [] = None
 member_vid (h ∷ hs) hop (v ∷ vs) = if is_at (hop_cmp h) hop then Some v else member_vid hs hop vs
 
 -- the identifier of what has this name on the chip. A neighbour's row has that of its next hop
-abbrev pub vid_at : Ports → Names → thing_name.Name → Option Vid
+abbrev pub vid_at : Ports → Names → thing_name.ThingName → Option Vid
 vid_at plan names (thing_name.Port lane) = row_vid names (option_map key.Port (port_named plan lane))
 vid_at plan names (thing_name.Vlan vlan) = row_vid names (Some (key.Vlan vlan))
 vid_at plan names (thing_name.BridgePort lane) = first_of (ids_of names (name.BridgePort lane))
@@ -69,11 +69,11 @@ vid_at plan names (thing_name.Group hops) = first_of (ids_of names (name.Group h
 vid_at plan names (thing_name.GroupMember hops hop) = member_vid hops hop (members_ids (ids_of names (name.Group hops)))
 vid_at plan names _ = None
 
-abbrev pub HasVid : Ports → Names → thing_name.Name → Vid → Type 0
+abbrev pub HasVid : Ports → Names → thing_name.ThingName → Vid → Type 0
 HasVid plan names n v = vid_at plan names n ≡ Some v
 
 -- a thing is made
-pub record IsMaking (at : thing_name.Name → Vid → Type 0) (t : Thing) (c : Call Vid) : Type 0 where
+pub record IsMaking (at : thing_name.ThingName → Vid → Type 0) (t : Thing) (c : Call Vid) : Type 0 where
   pub body : Body Vid
   pub of : IsBody at t body
   pub is : c ≡ call.Create body
@@ -91,7 +91,7 @@ IsEnteredBy (thing.Neighbor hop mac) = Unit {0}
 IsEnteredBy t = ⊥
 
 -- a thing that stands, with its entry
-pub record IsEntryOf (at : thing_name.Name → Vid → Type 0) (t : Thing) (e : Entry Vid) : Type 0 where
+pub record IsEntryOf (at : thing_name.ThingName → Vid → Type 0) (t : Thing) (e : Entry Vid) : Type 0 where
   pub body : Body Vid
   pub of : IsBody (λ n v. IsEnteredBy t → at n v) t body
   pub id : Vid
@@ -99,7 +99,7 @@ pub record IsEntryOf (at : thing_name.Name → Vid → Type 0) (t : Thing) (e : 
   pub is : e ≡ entry_by id body
 
 -- an attribute of one of the things is set, by which it becomes this one
-pub record IsSetting (at : thing_name.Name → Vid → Type 0) (things : List Thing) (u : Thing) (c : Call Vid) : Type 0 where
+pub record IsSetting (at : thing_name.ThingName → Vid → Type 0) (things : List Thing) (u : Thing) (c : Call Vid) : Type 0 where
   pub old : Thing
   pub there : IsIn old things
   pub same : name_of old ≡ name_of u
@@ -110,7 +110,7 @@ pub record IsSetting (at : thing_name.Name → Vid → Type 0) (things : List Th
   pub is : c ≡ call.Set entry attr
 
 -- one of the things is removed, which has this name
-pub record IsTaking (at : thing_name.Name → Vid → Type 0) (things : List Thing) (n : thing_name.Name) (c : Call Vid) : Type 0 where
+pub record IsTaking (at : thing_name.ThingName → Vid → Type 0) (things : List Thing) (n : thing_name.ThingName) (c : Call Vid) : Type 0 where
   pub old : Thing
   pub there : IsIn old things
   pub same : name_of old ≡ n
@@ -118,7 +118,7 @@ pub record IsTaking (at : thing_name.Name → Vid → Type 0) (things : List Thi
   pub of : IsEntryOf at old entry
   pub is : c ≡ call.Remove entry
 
-abbrev pub IsCallOf : (thing_name.Name → Vid → Type 0) → List Thing → Change → Call Vid → Type 0
+abbrev pub IsCallOf : (thing_name.ThingName → Vid → Type 0) → List Thing → Change → Call Vid → Type 0
 IsCallOf at things (Make t) c = IsMaking at t c
 IsCallOf at things (Set u) c = IsSetting at things u c
 IsCallOf at things (Take n) c = IsTaking at things n c
@@ -156,7 +156,7 @@ referred (key.Route prefix) new (thing.Route p g) = pointed new g
 referred k new t = []
 
 -- and those by which it is named itself: a neighbour by its interface; an own address and a route by themselves
-abbrev pub entered : Key → thing_name.Name → List Name
+abbrev pub entered : Key → thing_name.ThingName → List Name
 entered (key.Neigh n ip) (thing_name.Neighbor hop) = name.Row (key.Intf n) ∷ []
 entered k (thing_name.BridgePort lane) = name.BridgePort lane ∷ []
 entered k (thing_name.Own ip) = []

@@ -49,7 +49,7 @@ abbrev pub group_ids : Names → GroupOperation → List Vid
 group_ids names g = if g.builds then g.made else ids_of names (name.Group g.hops)
 
 -- the group that is built is not yet known to the registry
-abbrev pub HasGroupVid : Ports → Names → GroupOperation → thing_name.Name → Vid → Type 0
+abbrev pub HasGroupVid : Ports → Names → GroupOperation → thing_name.ThingName → Vid → Type 0
 HasGroupVid plan names g (thing_name.Group hops) v = (hops ≡ g.hops) × (first_of (group_ids names g) ≡ Some v)
 HasGroupVid plan names g (thing_name.GroupMember hops hop) v = (hops ≡ g.hops) × (member_vid hops hop (members_ids (group_ids names g)) ≡ Some v)
 HasGroupVid plan names g n v = HasVid plan names n v

@@ -75,9 +75,9 @@ abbrev pub IsSettled : Option NameState → Type 0
 IsSettled None = Unit {0}
 IsSettled (Some stage) = stage ≡ state.Live
 
-abbrev pub IsReady : Names → Option Name → Type 0
-IsReady names None = Unit {0}
-IsReady names (Some n) = IsOfShared n × IsSettled (stage_of names n)
+abbrev pub IsNameReady : Names → Option Name → Type 0
+IsNameReady names None = Unit {0}
+IsNameReady names (Some n) = IsOfShared n × IsSettled (stage_of names n)
 
 -- it may be absent, but is not registered as that
 abbrev pub MayShare : Names → Option Name → Type 0

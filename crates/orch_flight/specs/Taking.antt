@@ -34,7 +34,7 @@ made_names names k (thing.GroupMember hops hop) made = names
 made_names names k t made = changed names (name.Row k) (made_live (to_list made))
 
 -- and what was shared and is taken away is absent
-abbrev pub taken_names : Names → thing_name.Name → Names
+abbrev pub taken_names : Names → thing_name.ThingName → Names
 taken_names names (thing_name.BridgePort lane) = gone_from names (name.BridgePort lane)
 taken_names names (thing_name.Own ip) = gone_from names (name.Own ip)
 taken_names names n = names

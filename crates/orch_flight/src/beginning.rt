@@ -3,7 +3,7 @@ ghost use Rattle.std.specs.Prelude.{◌≡◌, true, false, None, OnOk, OnErr};
 ghost use Rattle.ref_counts.specs.Registered.{IsReadable, with_user};
 ghost use Rattle.ref_counts.specs.Registry.{changed, first_missing, registered_at};
 ghost use Rattle.orch_flight.specs.Starting.{ids_for, ids_for_row};
-ghost use Rattle.orch_flight.specs.Sharing.{HasNoPins, IsReady, begun_by, lacks_shared, owner_for, with_row_begun, with_shared, with_shared_begun};
+ghost use Rattle.orch_flight.specs.Sharing.{HasNoPins, IsNameReady, begun_by, lacks_shared, owner_for, with_row_begun, with_shared, with_shared_begun};
 
 use crate::undoing::{begin_build, end_build};
 use ref_counts::{Name, NameState, Registry};
@@ -24,7 +24,7 @@ pub fn begin(
     requires unpinned { HasNoPins reg.old worker }
     requires named { first_missing reg.old keys.now ≡ None }
     requires own { applied ≡ false → registered_at reg.old (Name.Row key.now) ≡ None }
-    requires shared { IsReady reg.old shared.now }
+    requires shared { IsNameReady reg.old shared.now }
     ensures ok { OnOk result (reg.new ≡ begun_by reg.old worker key.now keys.now applied shared.now (lacks_shared reg.old shared.now)) }
     ensures err { OnErr result (reg.new ≡ reg.old) }
 {
@@ -49,7 +49,7 @@ fn begin_row(
 ) -> Result<(), OutOfMemory>
     requires readable { IsReadable key.now }
     requires own { applied ≡ false → registered_at reg.old (Name.Row key.now) ≡ None }
-    requires shared { IsReady reg.old shared.now }
+    requires shared { IsNameReady reg.old shared.now }
     ensures ok { OnOk result (reg.new ≡ with_shared (with_row_begun reg.old worker key.now applied) worker key.now shared.now (lacks_shared reg.old shared.now)) }
     ensures err { OnErr result (reg.new ≡ reg.old) }
 {
@@ -73,7 +73,7 @@ fn begin_shared(
     shared: &Option<Name>,
 ) -> Result<(), OutOfMemory>
     requires readable { IsReadable key.now }
-    requires shared { IsReady reg.old shared.now }
+    requires shared { IsNameReady reg.old shared.now }
     ensures ok { OnOk result (reg.new ≡ with_shared reg.old worker key.now shared.now (lacks_shared reg.old shared.now)) }
     ensures err { OnErr result (reg.new ≡ reg.old) }
 {

@@ -33,6 +33,7 @@ use Rattle.plan_laws.specs.Views.{HasRoomForPlan, LanesApart, made_name, made_na
 use Rattle.plan_laws.proofs.Applied.{plan-comes}
 use Rattle.plan_laws.proofs.Cold.{cold-comes}
 use Rattle.plan_laws.proofs.Starting.{old-seen}
+use Rattle.plan_laws.proofs.Picked.{those_append}
 use Rattle.view_match.specs.Pairs.{pairs_of}
 use Rattle.apply_order.specs.Calls.{step_calls, steps_calls}
 use Rattle.apply_order.specs.Due.{due_steps}
@@ -42,12 +43,12 @@ use Rattle.order_laws.specs.Apply.{AreNumbered, IsPlanned, calls_by, plan_calls}
 use Rattle.order_laws.specs.Viewed.{things_in}
 use Rattle.order_laws.proofs.Called.{HasPlan, calls-all, gone-plan, made-plan, made-same, made_all, numbered-append, plans-all, set-plan}
 use Rattle.order_laws.proofs.Changes.{change_of, due-of, new_thing, old_name}
-use Rattle.order_laws.proofs.Cold.{IsCut, IsGone, IsMade, cold-cut, cold-makes, cold-removes}
+use Rattle.order_laws.proofs.Cold.{IsCutInTwo, IsGone, IsMade, cold-cut, cold-makes, cold-removes}
 use Rattle.order_laws.proofs.Hitless.{hitless-plan}
 use Rattle.order_laws.proofs.Ids.{cold-named, hitless-named}
 use Rattle.order_laws.proofs.Partners.{place-in}
 use Rattle.order_laws.proofs.Placed.{old-place}
-use Rattle.order_laws.proofs.Roomy.{made-count, those_append, used-count}
+use Rattle.order_laws.proofs.Roomy.{made-count, used-count}
 use Rattle.order_laws.proofs.Shuffled.{in-shuffled}
 
 steps_append : (names : Names) (old : List (Object Rid)) (new : List (Object Vid)) (xs ys : List Timed) → steps_calls names old new (xs ++ ys) ≡ steps_calls names old new xs ++ steps_calls names old new ys
@@ -135,7 +136,7 @@ module _ {capacities : List ℕ} {made : ℕ} {old : List (Object Rid)} {new : L
   -- ---- a cold plan
 
   module _ (e : plan.mode ≡ mode.Cold) where
-    abbrev cut : IsCut (IsGone old x.chip x.view) (IsMade old x.chip x.view) steps
+    abbrev cut : IsCutInTwo (IsGone old x.chip x.view) (IsMade old x.chip x.view) steps
     cut = cold-cut old x.chip x.view steps (due-in mode.Cold e) x.planned.in_order
 
     abbrev pub cold_removes : List PlanChange
@@ -177,21 +178,21 @@ module _ {capacities : List ℕ} {made : ℕ} {old : List (Object Rid)} {new : L
     cold-split = ap these calls_are ∙ map-append (λ (c : PlanCall). c.call) cold_front cold_back
 
     module _ (ids : Vid → Rid) (numbered : AreNumbered ids made plan.calls) where
-      numbers : AreNumbered ids made cold_front × AreNumbered ids (made_all made cold_front) cold_back
-      numbers = numbered-append ids cold_front cold_back made (subst (AreNumbered ids made) calls_are numbered)
+      cold_parts_numbered : AreNumbered ids made cold_front × AreNumbered ids (made_all made cold_front) cold_back
+      cold_parts_numbered = numbered-append ids cold_front cold_back made (subst (AreNumbered ids made) calls_are numbered)
 
       pub cold-removing : PlansChanges (old_layout O N) (viewed things) ids made cold_removes (these cold_front)
       cold-removing =
           let all = calls-all [] old new (old_layout O N) (viewed things) change cut.front in
           subst (λ cs. PlansChanges (old_layout O N) (viewed things) ids made cold_removes (these cs)) all
-          (plans-all (old_layout O N) (viewed things) change (λ (t : Timed). step_calls [] old new t.step) ids cut.front made (λ t i. gone-plan old x.chip x.view mode.Cold [] t (cut.first t i)) (subst (AreNumbered ids made) (sym all) numbers.0))
+          (plans-all (old_layout O N) (viewed things) change (λ (t : Timed). step_calls [] old new t.step) ids cut.front made (λ t i. gone-plan old x.chip x.view mode.Cold [] t (cut.first t i)) (subst (AreNumbered ids made) (sym all) cold_parts_numbered.0))
 
       pub cold-making : PlansChanges nothing (viewed things) ids (made_after_all made (map (call_renamed (resolve ids)) (these cold_front))) cold_makes (these cold_back)
       cold-making =
           let all = calls-all [] old new nothing (viewed things) change cut.back in
           subst (λ n. PlansChanges nothing (viewed things) ids n cold_makes (these cold_back)) (sym (made-same (resolve ids) cold_front made))
           (subst (λ cs. PlansChanges nothing (viewed things) ids (made_all made cold_front) cold_makes (these cs)) all
-          (plans-all nothing (viewed things) change (λ (t : Timed). step_calls [] old new t.step) ids cut.back (made_all made cold_front) (λ t i. made-plan old x.chip x.view mode.Cold [] nothing (cold-named things) t (cut.last t i)) (subst (AreNumbered ids (made_all made cold_front)) (sym all) numbers.1)))
+          (plans-all nothing (viewed things) change (λ (t : Timed). step_calls [] old new t.step) ids cut.back (made_all made cold_front) (λ t i. made-plan old x.chip x.view mode.Cold [] nothing (cold-named things) t (cut.last t i)) (subst (AreNumbered ids (made_all made cold_front)) (sym all) cold_parts_numbered.1)))
 
       pub applies-cold : AppliesCold capacities made O N cold_removes cold_makes (map (call_renamed (resolve ids)) (these cold_front)) (map (call_renamed (resolve ids)) (these cold_back))
       applies-cold = cold-comes is-cold things ids (these cold_front) (these cold_back) cold-removing cold-making

@@ -6,7 +6,6 @@ use Rattle.std.proofs.lemmas.Option.{same_Some}
 use Rattle.sai_types.specs.declared.ids.Rid.{Rid}
 use Rattle.sai_types.specs.declared.ids.Vid.{Vid}
 use Rattle.sai_types.specs.declared.body.Body.{Body}
-use Rattle.sai_types.specs.declared.body.Body.TheVariants as body
 use Rattle.sai_types.specs.declared.body.Call.{Call}
 use Rattle.sai_types.specs.declared.body.Call.TheVariants as call
 use Rattle.sai_types.specs.declared.body.Object.{Object}
@@ -16,11 +15,11 @@ use Rattle.sai_types.specs.declared.plan.PlanId.{PlanId}
 use Rattle.sai_types.specs.declared.thing.PortThing.{PortThing}
 use Rattle.sai_types.specs.declared.thing.Thing.{Thing}
 use Rattle.sai_types.specs.declared.thing.Thing.TheVariants as thing
-use Rattle.sai_types.specs.After.{has_id, makes_id}
+use Rattle.sai_types.specs.After.{makes_id}
 use Rattle.sai_types.specs.Alike.{IsIn}
 use Rattle.sai_types.specs.Made.{made_after_all}
 use Rattle.sai_types.specs.Named.{thing_of}
-use Rattle.sai_types.specs.Names.{Name, name_kind, name_of}
+use Rattle.sai_types.specs.Names.{ThingName, name_kind, name_of}
 use Rattle.sai_types.specs.Objects.{Objects}
 use Rattle.sai_chip.specs.Naming.{entries_of}
 use Rattle.chip_layout.specs.Bodies.{IsAt, IsBody, body_with, first_name, is_numbered, second_name}
@@ -28,6 +27,7 @@ use Rattle.chip_layout.specs.Layout.{Has, Layout, has_number}
 use Rattle.chip_layout.specs.Renamed.{body_renamed, call_renamed}
 use Rattle.chip_layout.proofs.Bodies.{first-numbered, second-numbered}
 use Rattle.chip_layout.proofs.Shapes.{renamed_with}
+use Rattle.chip_layout.proofs.Renaming.{has_renamed}
 use Rattle.plan_laws.specs.Applied.{IsListedChip}
 use Rattle.plan_laws.specs.Calls.{PlansChange, PlansChanges, PlansSets, old_entry, plan_layout, resolve, viewed}
 use Rattle.plan_laws.specs.Old.{old_layout, tag_of}
@@ -38,7 +38,7 @@ use Rattle.view_match.specs.Keys.{key_of}
 use Rattle.apply_order.specs.Attributes.{differing, set_call}
 use Rattle.apply_order.specs.Calls.{both_calls, make_calls, made_id, remove_calls, step_calls, steps_calls}
 use Rattle.apply_order.specs.Naming.{Names, new_id}
-use Rattle.apply_order.specs.declared.ranks.Step.{Step}
+use Rattle.apply_order.specs.declared.ranks.PlanStep.{PlanStep}
 use Rattle.apply_order.specs.declared.ranks.Timed.{Timed}
 use Rattle.order_laws.specs.Apply.{AreNumbered, made_by}
 use Rattle.order_laws.specs.Viewed.{IsViewOf, things_in}
@@ -52,13 +52,6 @@ use Rattle.order_laws.proofs.Sets.{attr_calls, sets-lead}
 abbrev pub made_all : ℕ → List PlanCall → ℕ
 made_all made [] = made
 made_all made (c ∷ cs) = made_all (made_by made c) cs
-
-has_renamed : {I J : Type 0} (f : I → J) (b : Body I) → has_id (body_renamed f b) ≡ has_id b
-has_renamed f (body.OwnAddress ip) = refl
-has_renamed f (body.Neighbor i ip mac) = refl
-has_renamed f (body.Route p t) = refl
-has_renamed f (body.Port l s m u) = refl
-has_renamed f _ = refl
 
 makes_renamed : {I J : Type 0} (f : I → J) (c : Call I) → makes_id (call_renamed f c) ≡ makes_id c
 makes_renamed f (call.Create b) = has_renamed f b
@@ -110,7 +103,7 @@ calls-all names old new start view change (t ∷ ts) = ap (λ cs. step_calls nam
 -- ---- the bodies of new objects, as a plan names them
 
 module _ (start : Layout Rid) (view : Layout Vid) (names : Names) (named : (v : Vid) (u : Thing) → view v u → has_number u ≡ true → plan_layout start view (new_id names v) u) where
-  pub at-new : (o : Option Name) (v : Vid) → ((k : Name) → o ≡ Some k → is_numbered (name_kind k) ≡ true) → IsAt (Has view) o v → IsAt (Has (plan_layout start view)) o (new_id names v)
+  pub at-new : (o : Option ThingName) (v : Vid) → ((k : ThingName) → o ≡ Some k → is_numbered (name_kind k) ≡ true) → IsAt (Has view) o v → IsAt (Has (plan_layout start view)) o (new_id names v)
   at-new None v number h = tt
   at-new (Some k) v number h = (h.0, named v h.0 h.1 (ap (λ z. is_numbered (name_kind z)) h.2 ∙ number k refl), h.2)
 
@@ -141,7 +134,7 @@ module _ {made : ℕ} (old : List (Object Rid)) {new : List (Object Vid)} {thing
   abbrev these : List PlanCall → List (Call PlanId)
   these cs = map (λ c. c.call) cs
 
-  abbrev by_step : Step → PlanChange
+  abbrev by_step : PlanStep → PlanChange
   by_step = change_of (new_thing things) (old_name (tag_of O N) O)
 
   -- what a step that makes an object calls
@@ -173,7 +166,7 @@ module _ {made : ℕ} (old : List (Object Rid)) {new : List (Object Vid)} {thing
         makes = λ u is v w there same number. absurd (apart_made (name_of d.was.thing) u (sym change_is ∙ is));
       }
     where
-      apart_made : (k : Name) (u : Thing) → Remove k ≡ Make u → ⊥
+      apart_made : (k : ThingName) (u : Thing) → Remove k ≡ Make u → ⊥
       apart_made k u e = cc
 
   -- what a step that sets what differs calls

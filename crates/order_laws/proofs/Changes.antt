@@ -16,7 +16,7 @@ use Rattle.sai_types.specs.declared.thing.Thing.TheVariants as thing
 use Rattle.sai_types.specs.Alike.{IsIn}
 use Rattle.sai_types.specs.Named.{thing_by}
 use Rattle.sai_types.specs.Names as name
-use Rattle.sai_types.specs.Names.{Name, name_of}
+use Rattle.sai_types.specs.Names.{ThingName, name_of}
 use Rattle.sai_types.specs.Objects.{Objects}
 use Rattle.sai_chip.specs.Naming.{entries_of}
 use Rattle.chip_layout.specs.Bodies.{IsBody}
@@ -31,11 +31,12 @@ use Rattle.plan_laws.proofs.Lists.{in-either, in-left, in-map, in-right, map-in}
 use Rattle.view_match.specs.Keys.{key_of, keys_of_objects}
 use Rattle.view_match.specs.Pairs.{new_keys, pairs_of}
 use Rattle.view_match.specs.declared.key.NaturalKey.{NaturalKey}
+use Rattle.view_match.proofs.Paired.{from_none}
 use Rattle.apply_order.specs.Due.{due_steps, new_step, new_steps, old_steps, paired_in}
 use Rattle.apply_order.specs.Places.{by_new, by_old, partner_at}
 use Rattle.apply_order.specs.Ranks.{make_rank, remove_rank, set_rank}
-use Rattle.apply_order.specs.declared.ranks.Step.{Step}
-use Rattle.apply_order.specs.declared.ranks.Step.TheVariants as step
+use Rattle.apply_order.specs.declared.ranks.PlanStep.{PlanStep}
+use Rattle.apply_order.specs.declared.ranks.PlanStep.TheVariants as step
 use Rattle.apply_order.specs.declared.ranks.Timed.{Timed}
 use Rattle.order_laws.specs.Viewed.{IsEntry, IsViewOf, things_in}
 use Rattle.order_laws.proofs.Dues.{due-new, due-old, joined-distinct, new-distinct, new-due, old-distinct, old-due}
@@ -53,18 +54,18 @@ thing_or (Some x) = x.1
 abbrev pub new_thing : List (Vid × Thing) → ℕ → Thing
 new_thing things j = thing_or (slice_get things j)
 
-abbrev pub name_or : Option Thing → Name
+abbrev pub name_or : Option Thing → ThingName
 name_or None = name.Vlan 0
 name_or (Some w) = name_of w
 
-abbrev pub name_at : (Rid → List Hop) → Objects → Option (Entry Rid × Body Rid) → Name
+abbrev pub name_at : (Rid → List Hop) → Objects → Option (Entry Rid × Body Rid) → ThingName
 name_at tag objects None = name.Vlan 0
 name_at tag objects (Some o) = name_or (thing_by (tagged tag) objects o)
 
-abbrev pub old_name : (Rid → List Hop) → Objects → ℕ → Name
+abbrev pub old_name : (Rid → List Hop) → Objects → ℕ → ThingName
 old_name tag objects i = name_at tag objects (slice_get objects i)
 
-abbrev pub change_of : (ℕ → Thing) → (ℕ → Name) → Step → PlanChange
+abbrev pub change_of : (ℕ → Thing) → (ℕ → ThingName) → PlanStep → PlanChange
 change_of new old (step.Make j) = Make (new j)
 change_of new old (step.Set i j) = Set (new j)
 change_of new old (step.Remove i) = Remove (old i)
@@ -82,9 +83,6 @@ ranked rank f value (x ∷ xs) same rising d = (
       (omega (arith, low, one, two, three), λ e. d.0 (subst (λ k. IsIn k (map (λ z. subject (f z)) xs)) (sym (e ∙ ap subject y.2)) (in-map (λ z. subject (f z)) xs y.0 y.1))),
   ranked rank f value xs (λ z i. same z (inr i)) rising.1 d.1,
 )
-
-from_none : (n : ℕ) → 0 + n ≡ n
-from_none n = omega arith
 
 module _ {made : ℕ} (old : List (Object Rid)) {new : List (Object Vid)} {things : List (Vid × Thing)} (chip : IsListedChip made (entries_of old)) (view : IsViewOf things new) (m : Mode) where
   abbrev O : Objects
@@ -207,7 +205,7 @@ module _ {made : ℕ} (old : List (Object Rid)) {new : List (Object Vid)} {thing
             }))
       ]
 
-  abbrev HasStep : Step → Type 0
+  abbrev HasStep : PlanStep → Type 0
   HasStep s = (t : Timed) × IsIn t due × (t.step ≡ s)
 
   new_in : (j : ℕ) (x : Vid × Thing) → slice_get things j ≡ Some x → (n : Object Vid) × IsIn (new_step m (Some (key_of x.1)) n j (partner_at (by_new ps) j)) due
@@ -231,7 +229,7 @@ module _ {made : ℕ} (old : List (Object Rid)) {new : List (Object Vid)} {thing
 
   -- ---- no two are about one name
 
-  abbrev about : Timed → Name
+  abbrev about : Timed → ThingName
   about t = subject (change t)
 
   about_new : (key : Option NaturalKey) (n : Object Vid) (p : ℕ) (q : Option ℕ) → about (new_step m key n p q) ≡ name_of (new_thing things p)

@@ -7,7 +7,7 @@ use Rattle.sai_types.specs.declared.body.Object.{Object}
 use Rattle.sai_types.specs.declared.plan.Mode.TheVariants as mode
 use Rattle.sai_types.specs.declared.thing.Thing.{Thing}
 use Rattle.sai_types.specs.Alike.{IsIn}
-use Rattle.sai_types.specs.Names.{Name, name_kind, name_of}
+use Rattle.sai_types.specs.Names.{ThingName, name_kind, name_of}
 use Rattle.sai_types.specs.Objects.{Objects, level}
 use Rattle.sai_chip.specs.Naming.{entries_of}
 use Rattle.chip_layout.specs.Counted.{AreDistinct}
@@ -24,8 +24,8 @@ use Rattle.view_match.specs.Pairs.{new_keys, pairs_of}
 use Rattle.apply_order.specs.Due.{due_steps, new_steps, old_steps}
 use Rattle.apply_order.specs.Places.{by_new, by_old}
 use Rattle.apply_order.specs.Ranks.{timed_cmp}
-use Rattle.apply_order.specs.declared.ranks.Step.{Step}
-use Rattle.apply_order.specs.declared.ranks.Step.TheVariants as step
+use Rattle.apply_order.specs.declared.ranks.PlanStep.{PlanStep}
+use Rattle.apply_order.specs.declared.ranks.PlanStep.TheVariants as step
 use Rattle.apply_order.specs.declared.ranks.Timed.{Timed}
 use Rattle.order_laws.specs.Viewed.{IsViewOf, things_in}
 use Rattle.order_laws.proofs.Changes.{IsGoneDue, IsMadeDue, change_of, due-of, gone-due, made-due, name-is, new_thing, old_name, ranked, thing-is}
@@ -57,14 +57,14 @@ distinct-right [] ys h = h
 distinct-right (x ∷ xs) ys h = distinct-right xs ys h.1
 
 -- items of one sort come before those of another
-pub record IsCut {X : Type 0} (P Q : X → Type 0) (xs : List X) : Type 0 where
+pub record IsCutInTwo {X : Type 0} (P Q : X → Type 0) (xs : List X) : Type 0 where
   pub front : List X
   pub back : List X
   pub all : xs ≡ front ++ back
   pub first : (x : X) → IsIn x front → P x
   pub last : (x : X) → IsIn x back → Q x
 
-cut : {X : Type 0} (P Q : X → Type 0) (n : X → ℕ) → ((x y : X) → Q x → P y → n x ≤ n y → ⊥) → (xs : List X) → ((x : X) → IsIn x xs → Q x ⊎ P x) → AreRising n xs → IsCut P Q xs
+cut : {X : Type 0} (P Q : X → Type 0) (n : X → ℕ) → ((x y : X) → Q x → P y → n x ≤ n y → ⊥) → (xs : List X) → ((x : X) → IsIn x xs → Q x ⊎ P x) → AreRising n xs → IsCutInTwo P Q xs
 cut P Q n apart [] each rising = record { front = []; back = []; all = refl; first = λ x i. elim i [ ]; last = λ x i. elim i [ ] }
 cut {X} P Q n apart (x ∷ xs) each rising =
     let rest = cut P Q n apart xs (λ y i. each y (inr i)) rising.1 in
@@ -97,7 +97,7 @@ renamed_apart f g (x ∷ xs) one d = (
 )
 
 -- a number for each step of a cold plan
-abbrev step_code : Step → ℕ
+abbrev step_code : PlanStep → ℕ
 step_code (step.Make j) = 2 * j
 step_code (step.Set i j) = 0
 step_code (step.Remove i) = 2 * i + 1
@@ -105,8 +105,8 @@ step_code (step.Remove i) = 2 * i + 1
 abbrev code : Timed → ℕ
 code t = step_code t.step
 
-numbers : (m n : ℕ) → IsTold m n
-numbers m n = grind arith
+told_or_not : (m n : ℕ) → IsTold m n
+told_or_not m n = grind arith
 
 -- ---- the steps
 
@@ -120,7 +120,7 @@ module _ {made : ℕ} (old : List (Object Rid)) {new : List (Object Vid)} {thing
   abbrev due : List Timed
   due = due_steps mode.Cold old new (pairs_of old new)
 
-  abbrev by_step : Step → PlanChange
+  abbrev by_step : PlanStep → PlanChange
   by_step = change_of (new_thing things) (old_name (tag_of O N) O)
 
   abbrev change : Timed → PlanChange
@@ -185,7 +185,7 @@ module _ {made : ℕ} (old : List (Object Rid)) {new : List (Object Vid)} {thing
   thing_in : (t u : Thing) → Make t ≡ Make u → t ≡ u
   thing_in t u e = cc
 
-  name_in : (k l : Name) → Remove k ≡ Remove l → k ≡ l
+  name_in : (k l : ThingName) → Remove k ≡ Remove l → k ≡ l
   name_in k l e = cc
 
   module _ (steps : List Timed) (same : IsPermutation due steps) (sorted : IsSorted timed_cmp steps) where
@@ -196,7 +196,7 @@ module _ {made : ℕ} (old : List (Object Rid)) {new : List (Object Vid)} {thing
     rises = cold-rising steps (λ t i. good_of t (of_step t i)) sorted
 
     -- the steps that remove come before those that make
-    pub cold-cut : IsCut IsGone IsMade steps
+    pub cold-cut : IsCutInTwo IsGone IsMade steps
     cold-cut = cut IsGone IsMade (λ (t : Timed). cold_value t.rank) made_before steps of_step rises
 
     abbrev pub removes : List PlanChange
@@ -211,7 +211,7 @@ module _ {made : ℕ} (old : List (Object Rid)) {new : List (Object Vid)} {thing
     abbrev back : List Timed
     back = cold-cut.back
 
-    in_halves : (s : Step) → (t : Timed) × IsIn t due × (t.step ≡ s) → (t : Timed) × (IsIn t front ⊎ IsIn t back) × (t.step ≡ s)
+    in_halves : (s : PlanStep) → (t : Timed) × IsIn t due × (t.step ≡ s) → (t : Timed) × (IsIn t front ⊎ IsIn t back) × (t.step ≡ s)
     in_halves s x = (x.0, in-either x.0 front back (subst (λ l. IsIn x.0 l) cold-cut.all (shuffled-in due steps same x.0 x.1)), x.2)
 
     removed_in : (k : ℕ) (x : (t : Timed) × (IsIn t front ⊎ IsIn t back) × (t.step ≡ step.Remove k)) → IsIn x.0 front
@@ -236,7 +236,7 @@ module _ {made : ℕ} (old : List (Object Rid)) {new : List (Object Vid)} {thing
     -- ---- no two are about one name
 
     places : AreDistinct (map code steps)
-    places = distinct-shuffled numbers code due steps same (due-places)
+    places = distinct-shuffled told_or_not code due steps same (due-places)
 
     halves : AreDistinct (map code front ++ map code back)
     halves = subst AreDistinct (ap (map code) cold-cut.all ∙ map-append code front back) places

@@ -12,7 +12,7 @@ use Rattle.view_match.specs.declared.key.NaturalKey.{NaturalKey}
 use Rattle.apply_order.specs.Due.{entry_number, new_step, new_steps, old_step, old_steps}
 use Rattle.apply_order.specs.Places.{Places, partner_at}
 use Rattle.apply_order.specs.Ranks.{remove_rank}
-use Rattle.apply_order.specs.declared.ranks.Step.TheVariants as step
+use Rattle.apply_order.specs.declared.ranks.PlanStep.TheVariants as step
 use Rattle.apply_order.specs.declared.ranks.Timed.{Timed}
 
 abbrev Key : Type 0

@@ -42,9 +42,9 @@ same_length view (x ∷ xs) (o ∷ os) h = ap suc (same_length view xs os h.2)
 same_length view [] (o ∷ os) h = elim h [ ]
 same_length view (x ∷ xs) [] h = elim h [ ]
 
-either : (m : Mode) → (m ≡ mode.Hitless) ⊎ (m ≡ mode.Cold)
-either mode.Hitless = inl refl
-either mode.Cold = inr refl
+hitless_or_cold : (m : Mode) → (m ≡ mode.Hitless) ⊎ (m ≡ mode.Cold)
+hitless_or_cold mode.Hitless = inl refl
+hitless_or_cold mode.Cold = inr refl
 
 module _ {capacities : List ℕ} {made : ℕ} {old : List (Object Rid)} {new : List (Object Vid)} {things : List (Vid × Thing)} {plan : Plan} {ids : Vid → Rid} (x : IsApply capacities made old new things plan ids) where
   abbrev O : Objects
@@ -55,14 +55,14 @@ module _ {capacities : List ℕ} {made : ℕ} {old : List (Object Rid)} {new : L
 
   pub all-legal : AreLegal capacities made O (calls_by ids plan)
   all-legal =
-      elim (either plan.mode) [
+      elim (hitless_or_cold plan.mode) [
         | inl e ↦ (hitless-end (applies-hitless x.of e ids x.numbered)).legal
         | inr e ↦ subst (AreLegal capacities made O) (sym (cold-all x.of e ids x.numbered)) (cold-legal (applies-cold x.of e ids x.numbered))
       ]
 
   pub all-alike : IsAlike (after_calls made O (calls_by ids plan)) (λ t. IsIn t N)
   all-alike =
-      elim (either plan.mode) [
+      elim (hitless_or_cold plan.mode) [
         | inl e ↦ hitless-alike (applies-hitless x.of e ids x.numbered) refl
         | inr e ↦ subst (λ cs. IsAlike (after_calls made O cs) (λ t. IsIn t N)) (sym (cold-all x.of e ids x.numbered)) (cold-alike (applies-cold x.of e ids x.numbered))
       ]
@@ -78,14 +78,14 @@ module _ {capacities : List ℕ} {made : ℕ} {old : List (Object Rid)} {new : L
 
   pub all-origin : (front rest : List (Call Rid)) (t : Thing) → calls_by ids plan ≡ front ++ rest → IsForwarding (name_of t) → IsIn t (chip_things (after_calls made O front)) → IsIn t (chip_things O) ⊎ IsIn t N
   all-origin front rest t cut fw i =
-      elim (either plan.mode) [
+      elim (hitless_or_cold plan.mode) [
         | inl e ↦ hitless-origin (applies-hitless x.of e ids x.numbered) front rest cut t fw i
         | inr e ↦ cold-origin (applies-cold x.of e ids x.numbered) front rest (sym (cold-all x.of e ids x.numbered) ∙ cut) t fw i
       ]
 
   few_calls : length (calls_by ids plan) ≤ length O + 3 * length N
   few_calls =
-      elim (either plan.mode) [
+      elim (hitless_or_cold plan.mode) [
         | inl e ↦
             let a = applies-hitless x.of e ids x.numbered in
             let few = calls-few a.planned.is_plan (hitless_changes x.of e) [] refl made (old_layout O N) (calls_by ids plan) a.run in

@@ -9,7 +9,7 @@ use Rattle.sai_types.specs.declared.body.Object.{Object}
 use Rattle.sai_types.specs.declared.plan.Mode.TheVariants as mode
 use Rattle.sai_types.specs.declared.thing.Thing.{Thing}
 use Rattle.sai_types.specs.Alike.{IsIn}
-use Rattle.sai_types.specs.Names.{Name, name_of}
+use Rattle.sai_types.specs.Names.{ThingName, name_of}
 use Rattle.sai_types.specs.Objects.{Objects}
 use Rattle.sai_chip.specs.Naming.{entries_of}
 use Rattle.chip_layout.specs.Counted.{AreDistinct}
@@ -27,8 +27,8 @@ use Rattle.view_match.specs.Pairs.{pairs_of}
 use Rattle.apply_order.specs.Due.{due_steps}
 use Rattle.apply_order.specs.Places.{by_new, by_old, partner_at}
 use Rattle.apply_order.specs.Ranks.{timed_cmp}
-use Rattle.apply_order.specs.declared.ranks.Step.{Step}
-use Rattle.apply_order.specs.declared.ranks.Step.TheVariants as step
+use Rattle.apply_order.specs.declared.ranks.PlanStep.{PlanStep}
+use Rattle.apply_order.specs.declared.ranks.PlanStep.TheVariants as step
 use Rattle.apply_order.specs.declared.ranks.Timed.{Timed}
 use Rattle.order_laws.specs.Viewed.{HaveOneLanes, IsViewOf, things_in}
 use Rattle.order_laws.proofs.Changes.{AreApart, IsDueStep, change_of, due-distinct, due-of, free-new, free-old, gone-due, made-due, name-is, new_thing, old_name, ranked, set-due, thing-is}
@@ -113,7 +113,7 @@ module _ {made : ℕ} (old : List (Object Rid)) {new : List (Object Vid)} {thing
         let t = map-in change steps c i in
         subst (λ d. ChangeMade d ⊎ (ChangeSet d ⊎ ChangeGone d)) (sym t.2) (by_due t.0 (of_step t.0 t.1))
 
-    has_change : (s : Step) (c : PlanChange) → (t : Timed) × IsIn t due × (t.step ≡ s) → change_of (new_thing things) (old_name (tag_of O N) O) s ≡ c → IsIn c changes
+    has_change : (s : PlanStep) (c : PlanChange) → (t : Timed) × IsIn t due × (t.step ≡ s) → change_of (new_thing things) (old_name (tag_of O N) O) s ≡ c → IsIn c changes
     has_change s c t is = subst (λ d. IsIn d changes) (ap (change_of (new_thing things) (old_name (tag_of O N) O)) t.2 ∙ is) (in-map change steps t.0 (shuffled-in due steps same t.0 t.1))
 
     makes : (t : Thing) → IsIn (Make t) changes → IsIn t N × ((u : Thing) → IsIn u (old_things O N) → name_of u ≡ name_of t → ⊥)
@@ -138,7 +138,7 @@ module _ {made : ℕ} (old : List (Object Rid)) {new : List (Object Vid)} {thing
             (subst (λ z. IsIn z N) (sym is) (new-in old chip view c.1 c.2 c.3), p.was.thing, seen-old chip N p.was.id p.was.thing p.was.stands, p.same ∙ ap (λ (z : Vid × Thing). name_of z.1) news ∙ ap name_of (sym is))
         by (inr (inr c)) = absurd (cc (c.5))
 
-    removes : (k : Name) → IsIn (Remove k) changes → (u : Thing) × IsIn u (old_things O N) × (name_of u ≡ k) × ((t : Thing) → IsIn t N → name_of t ≡ k → ⊥)
+    removes : (k : ThingName) → IsIn (Remove k) changes → (u : Thing) × IsIn u (old_things O N) × (name_of u ≡ k) × ((t : Thing) → IsIn t N → name_of t ≡ k → ⊥)
     removes k i = by (of_change (Remove k) i)
       where
         by : ChangeMade (Remove k) ⊎ (ChangeSet (Remove k) ⊎ ChangeGone (Remove k)) → (u : Thing) × IsIn u (old_things O N) × (name_of u ≡ k) × ((t : Thing) → IsIn t N → name_of t ≡ k → ⊥)

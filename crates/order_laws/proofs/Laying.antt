@@ -1,7 +1,6 @@
 -- the objects of a new view that legal calls made are laid out by their things
-use Rattle.std.proofs.Common.{◌≡◌, inl, inr, ℕ, ◌<◌, Bool, true, false, cond, ◌&&◌, not, nat_lt, List, [], ◌∷◌, map, Option, None, Some, option_map, refl, sym, ap, ◌∙◌, subst, arith}
-use Rattle.std.proofs.lemmas.Bool.{and_parts, eq-eqb, false≢true}
-use Rattle.std.proofs.lemmas.Bool.Decides.{nat_tests}
+use Rattle.std.proofs.Common.{◌≡◌, inl, inr, ℕ, Bool, true, false, cond, ◌&&◌, not, nat_lt, List, [], ◌∷◌, map, Option, None, Some, option_map, refl, sym, ap, ◌∙◌, subst, arith}
+use Rattle.std.proofs.lemmas.Bool.{and_parts, eq-eqb, false≢true, ltb-true}
 use Rattle.std.proofs.lemmas.Option.{same_Some}
 use Rattle.sai_types.specs.declared.ids.Rid.{Rid}
 use Rattle.sai_types.specs.declared.ids.Vid.{Vid}
@@ -35,13 +34,14 @@ use Rattle.plan_laws.specs.Applied.{chip_things}
 use Rattle.plan_laws.specs.Old.{chip_group, chip_groups, filler, group_stays, is_double, is_group_of, old_layout, same_hops, shown_hops, tag_of}
 use Rattle.plan_laws.proofs.Doubles.{is_grouped}
 use Rattle.plan_laws.proofs.Lists.{any-in, in-any, in-map, map-in}
-use Rattle.plan_laws.proofs.Named.{hops_exact, hops_refl}
+use Rattle.plan_laws.proofs.Named.{same_hops_exact, hops_refl}
 use Rattle.plan_laws.proofs.Starting.{hops-there}
 use Rattle.plan_laws.proofs.Tagging.{all-groups}
 use Rattle.view_match.specs.declared.key.NaturalKey.{NaturalKey}
 use Rattle.view_match.specs.declared.key.NaturalKey.TheVariants as key
 use Rattle.view_match.specs.Keys.{key_of}
 use Rattle.view_match.specs.Listed.{objects_as, rid_of}
+use Rattle.view_match.proofs.Free.{rest_distinct}
 use Rattle.order_laws.specs.Viewed.{IsMadeView}
 use Rattle.order_laws.proofs.Raw.{group-there, member-group, raw-found, route_group, thing-raw}
 
@@ -54,22 +54,18 @@ head_apart : (x : Option NaturalKey) (xs : List (Option NaturalKey)) → AreDist
 head_apart None xs d k e i = absurd cc
 head_apart (Some l) xs d k e i = d.0 (subst (λ z. IsIn z (those xs)) (sym (same_Some l k e)) (in_those k xs i))
 
-behind : (x : Option NaturalKey) (xs : List (Option NaturalKey)) → AreDistinct (those (x ∷ xs)) → AreDistinct (those xs)
-behind None xs d = d
-behind (Some k) xs d = d.1
-
 abbrev keys_among : Objects → Objects → List (Option NaturalKey)
 keys_among objects os = map (option_map key_of) (things_among objects os)
 
-key_in : (objects os : Objects) (o : Item) (t : Thing) → IsIn o os → thing_of objects o ≡ Some t → IsIn (Some (key_of t)) (keys_among objects os)
-key_in objects os o t i is = subst (λ z. IsIn z (keys_among objects os)) (ap (option_map key_of) is) (in-map (option_map key_of) (things_among objects os) (thing_of objects o) (thing_in objects os o.0 o.1 i))
+natural_key_among : (objects os : Objects) (o : Item) (t : Thing) → IsIn o os → thing_of objects o ≡ Some t → IsIn (Some (key_of t)) (keys_among objects os)
+natural_key_among objects os o t i is = subst (λ z. IsIn z (keys_among objects os)) (ap (option_map key_of) is) (in-map (option_map key_of) (things_among objects os) (thing_of objects o) (thing_in objects os o.0 o.1 i))
 
 keys_apart : (objects os : Objects) → AreDistinct (those (keys_among objects os)) → (o p : Item) (t u : Thing) → IsIn o os → IsIn p os → thing_of objects o ≡ Some t → thing_of objects p ≡ Some u → key_of t ≡ key_of u → o ≡ p
 keys_apart objects [] d o p t u i j x y same = elim i [ ]
 keys_apart objects (q ∷ os) d o p t u (inl a) (inl b) x y same = a ∙ sym b
-keys_apart objects (q ∷ os) d o p t u (inl a) (inr j) x y same = absurd (head_apart (option_map key_of (thing_of objects q)) (keys_among objects os) d (key_of u) (ap (λ z. option_map key_of (thing_of objects z)) (sym a) ∙ ap (option_map key_of) x ∙ ap Some same) (key_in objects os p u j y))
-keys_apart objects (q ∷ os) d o p t u (inr i) (inl b) x y same = absurd (head_apart (option_map key_of (thing_of objects q)) (keys_among objects os) d (key_of t) (ap (λ z. option_map key_of (thing_of objects z)) (sym b) ∙ ap (option_map key_of) y ∙ ap Some (sym same)) (key_in objects os o t i x))
-keys_apart objects (q ∷ os) d o p t u (inr i) (inr j) x y same = keys_apart objects os (behind (option_map key_of (thing_of objects q)) (keys_among objects os) d) o p t u i j x y same
+keys_apart objects (q ∷ os) d o p t u (inl a) (inr j) x y same = absurd (head_apart (option_map key_of (thing_of objects q)) (keys_among objects os) d (key_of u) (ap (λ z. option_map key_of (thing_of objects z)) (sym a) ∙ ap (option_map key_of) x ∙ ap Some same) (natural_key_among objects os p u j y))
+keys_apart objects (q ∷ os) d o p t u (inr i) (inl b) x y same = absurd (head_apart (option_map key_of (thing_of objects q)) (keys_among objects os) d (key_of t) (ap (λ z. option_map key_of (thing_of objects z)) (sym b) ∙ ap (option_map key_of) y ∙ ap Some (sym same)) (natural_key_among objects os o t i x))
+keys_apart objects (q ∷ os) d o p t u (inr i) (inr j) x y same = keys_apart objects os (rest_distinct (option_map key_of (thing_of objects q)) (keys_among objects os) d) o p t u i j x y same
 
 -- ---- identifiers
 
@@ -109,9 +105,6 @@ no_oid n (thing.Neighbor x m) i j h r e = cc
 no_oid n (thing.Route p g) i j h r e = cc
 no_oid n (thing.Port p) i j h r e = false≢true (sym h)
 no_oid n _ i j h r e = false≢true (sym h)
-
-lower : (m n : ℕ) → nat_lt m n ≡ true → m < n
-lower m n h = grind (arith, nat_tests)
 
 module _ {made : ℕ} {S : Objects} {new : List (Object Vid)} (m : IsMadeView made S new) where
   abbrev R : Objects
@@ -156,8 +149,8 @@ module _ {made : ℕ} {S : Objects} {new : List (Object Vid)} (m : IsMadeView ma
           let x = any-in (λ h. nat_lt h.0 g.0 && same_hops (hops h) (hops g)) (chip_groups S) e in
           let parts = and_parts (nat_lt x.0.0 g.0) (same_hops (hops x.0) (hops g)) x.2 in
           let there = in_groups x.0 x.1 in
-          let same = oids x.0 g (one-key (entry.Oid x.0) (entry.Oid g) body.Group body.Group (thing.Group (hops x.0)) (thing.Group (hops g)) there found (group_shows x.0 there) (group_shows g found) (ap key.Group (hops_exact (hops x.0) (hops g) parts.1))) in
-          let less = lower x.0.0 g.0 parts.0 in
+          let same = oids x.0 g (one-key (entry.Oid x.0) (entry.Oid g) body.Group body.Group (thing.Group (hops x.0)) (thing.Group (hops g)) there found (group_shows x.0 there) (group_shows g found) (ap key.Group (same_hops_exact (hops x.0) (hops g) parts.1))) in
+          let less = ltb-true x.0.0 g.0 parts.0 in
           let number = ap (λ (r : Rid). r.0) same in
           absurd (omega (arith, less, number))
 

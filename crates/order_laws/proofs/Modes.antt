@@ -9,7 +9,7 @@ use Rattle.sai_types.specs.declared.kind.Kind.{Kind}
 use Rattle.sai_types.specs.declared.plan.Mode.TheVariants as mode
 use Rattle.sai_types.specs.declared.thing.Thing.{Thing}
 use Rattle.sai_types.specs.Alike.{IsIn}
-use Rattle.sai_types.specs.Names.{Name, name_kind, name_of}
+use Rattle.sai_types.specs.Names.{ThingName, name_kind, name_of}
 use Rattle.sai_types.specs.Objects.{Objects, level}
 use Rattle.sai_chip.specs.Naming.{entries_of}
 use Rattle.chip_layout.proofs.Counting.{no-longer}
@@ -52,11 +52,11 @@ module _ {made : ℕ} (old : List (Object Rid)) {new : List (Object Vid)} {thing
       let all = fits kind (made_names kind changes) (lacking-shown chip N view.view kind (made_names kind changes) (makes-lacking plan kind)) in
       omega (arith, olds, news, all)
 
-  of_kind : (kind : Kind) (t : Thing) (k : Name) → name_of t ≡ k → level (name_kind k) ≡ level kind → made_name kind (Make t) ≡ Some k
+  of_kind : (kind : Kind) (t : Thing) (k : ThingName) → name_of t ≡ k → level (name_kind k) ≡ level kind → made_name kind (Make t) ≡ Some k
   of_kind kind t k is same =
       ap (λ b. cond b (Some (name_of t)) None) (eq-eqb (level (name_kind (name_of t))) (level kind) (ap (λ z. level (name_kind z)) is ∙ same)) ∙ ap Some is
 
-  made_of : (kind : Kind) (names : List Name) → AreLacking (old_things O N) N kind names → (k : Name) → IsIn k names → IsIn k (made_names kind changes)
+  made_of : (kind : Kind) (names : List ThingName) → AreLacking (old_things O N) N kind names → (k : ThingName) → IsIn k names → IsIn k (made_names kind changes)
   made_of kind names lack k i =
       let x = lack.each k i in
       elim (plan.whole x.1 x.2) [

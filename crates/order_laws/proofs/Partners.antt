@@ -1,9 +1,10 @@
 -- a new thing and an old one of its name are those of paired objects, and back
 use Rattle.std.proofs.Common.{zero, suc, ◌≡◌, inl, inr, ℕ, ◌<◌, ◌≤◌, Bool, true, false, ◌&&◌, nat_lt, List, [], ◌∷◌, map, Option, None, Some, option_map, refl, sym, ap, ap₂, ◌∙◌, subst, arith}
 use Rattle.std.specs.List.{slice_get}
-use Rattle.std.proofs.lemmas.Bool.{and_parts, false≢true}
+use Rattle.std.proofs.lemmas.Bool.{and_parts, false≢true, ltb-true}
 use Rattle.std.proofs.lemmas.Option.{same_Some}
 use Rattle.std.proofs.lemmas.Bool.Decides.{nat_tests}
+use Rattle.swss_types.proofs.Proper.{mapped}
 use Rattle.sai_types.specs.declared.ids.Rid.{Rid}
 use Rattle.sai_types.specs.declared.body.Body.{Body}
 use Rattle.sai_types.specs.declared.body.Body.TheVariants as body
@@ -15,12 +16,12 @@ use Rattle.sai_types.specs.declared.thing.Thing.TheVariants as thing
 use Rattle.sai_types.specs.Alike.{IsIn}
 use Rattle.sai_types.specs.Named.{both, first_lane, hops_at, next_hop_at, thing_by, thing_of, things_among}
 use Rattle.sai_types.proofs.Found.{same-refl}
-use Rattle.sai_types.proofs.Keys.{both_true, mapped}
+use Rattle.sai_types.proofs.Keys.{both_true}
 use Rattle.sai_types.proofs.Things.{both_mapped}
 use Rattle.chip_layout.proofs.Answering.{those_in}
 use Rattle.plan_laws.proofs.Targets.{is-group, is-member}
 use Rattle.sai_types.specs.Names as name
-use Rattle.sai_types.specs.Names.{Name, name_of}
+use Rattle.sai_types.specs.Names.{ThingName, name_of}
 use Rattle.sai_types.specs.Objects.{Objects, body_at}
 use Rattle.sai_types.proofs.Exact.{entry-exact}
 use Rattle.sai_types.proofs.Listed.{found-in, in-found}
@@ -29,7 +30,7 @@ use Rattle.plan_laws.specs.Applied.{IsListedChip, IsView}
 use Rattle.plan_laws.specs.Old.{chip_groups, group_stays, is_double, old_layout, same_hops, shown_hops, tag_of}
 use Rattle.plan_laws.proofs.Doubles.{group_found, least, member_group, member_old, names, new_group, stays_if, tag_is}
 use Rattle.plan_laws.proofs.Lists.{any-in, in-any, map-in}
-use Rattle.plan_laws.proofs.Named.{hops_exact, hops_refl}
+use Rattle.plan_laws.proofs.Named.{same_hops_exact, hops_refl}
 use Rattle.plan_laws.proofs.Starting.{hops-there, rises}
 use Rattle.plan_laws.proofs.Tagging.{all-groups, stays-apart, tags-apart}
 use Rattle.view_match.specs.declared.key.NaturalKey.{NaturalKey}
@@ -69,7 +70,7 @@ at_key objects (o ∷ os) (suc n) k h = at_key objects os n k h
 
 -- ---- names and keys
 
-abbrev key_name : NaturalKey → Name
+abbrev key_name : NaturalKey → ThingName
 key_name (key.Port lanes) = name.Port (first_lane lanes)
 key_name (key.Vlan vlan) = name.Vlan vlan
 key_name (key.BridgePort lane) = name.BridgePort lane
@@ -141,9 +142,6 @@ module _ {made : ℕ} {objects : Objects} (chip : IsListedChip made objects) (ne
       let two : group_of (slice_get objects n) ≡ group_number (f, c) = ap group_of there in
       elim h [ inl less ↦ omega (arith, less, one, two) | inr same ↦ let is = same.0 in omega (arith, is, one, two) ]
 
-  lower : (m n : ℕ) → nat_lt m n ≡ true → m < n
-  lower m n h = grind (arith, nat_tests)
-
   -- another group of the same hops and a lesser number
   record HasLesser (g : Rid) : Type 0 where
     other : Rid
@@ -155,7 +153,7 @@ module _ {made : ℕ} {objects : Objects} (chip : IsListedChip made objects) (ne
   lesser g e =
       let x = any-in (λ h. nat_lt h.0 g.0 && same_hops (hops h) (hops g)) (chip_groups objects) e in
       let parts = and_parts (nat_lt x.0.0 g.0) (same_hops (hops x.0) (hops g)) x.2 in
-      record { other = x.0; there = x.1; less = lower x.0.0 g.0 parts.0; same = hops_exact (hops x.0) (hops g) parts.1 }
+      record { other = x.0; there = x.1; less = ltb-true x.0.0 g.0 parts.0; same = same_hops_exact (hops x.0) (hops g) parts.1 }
 
   single : (g : Rid) → (HasLesser g → ⊥) → is_double objects g ≡ false
   single g none = by (is_double objects g) refl

@@ -10,7 +10,7 @@ use Rattle.sai_types.specs.declared.kind.Kind.{Kind}
 use Rattle.sai_types.specs.declared.plan.Mode.{Mode}
 use Rattle.sai_types.specs.declared.thing.Thing.{Thing}
 use Rattle.sai_types.specs.Named.{those}
-use Rattle.sai_types.specs.Names.{Name, name_kind, name_of}
+use Rattle.sai_types.specs.Names.{ThingName, name_kind, name_of}
 use Rattle.sai_types.specs.Objects.{is_of, kind_of, level, used}
 use Rattle.sai_chip.specs.Naming.{entries_of}
 use Rattle.chip_layout.specs.Layout.{Has}
@@ -18,6 +18,7 @@ use Rattle.chip_layout.proofs.Bodies.{kind-body}
 use Rattle.plan_laws.specs.Applied.{IsListedChip}
 use Rattle.plan_laws.specs.Calls.{viewed}
 use Rattle.plan_laws.specs.Views.{made_name, made_names}
+use Rattle.plan_laws.proofs.Picked.{those_append}
 use Rattle.view_match.specs.Keys.{keys_of_objects}
 use Rattle.view_match.specs.Listed.{objects_as}
 use Rattle.view_match.specs.Pairs.{new_keys, pairs_of}
@@ -38,11 +39,6 @@ pub map_map : {X Y Z : Type 0} (g : Y → Z) (f : X → Y) (xs : List X) → map
 map_map g f [] = refl
 map_map g f (x ∷ xs) = ap (λ l. g (f x) ∷ l) (map_map g f xs)
 
-pub those_append : {X : Type 0} (xs ys : List (Option X)) → those (xs ++ ys) ≡ those xs ++ those ys
-those_append [] ys = refl
-those_append (None ∷ xs) ys = those_append xs ys
-those_append (Some x ∷ xs) ys = ap (λ l. x ∷ l) (those_append xs ys)
-
 abbrev one_in : {X : Type 0} → Option X → ℕ
 one_in None = 0
 one_in (Some x) = 1
@@ -62,8 +58,8 @@ used-count kind (o ∷ os) =
 
 -- ---- the steps
 
-module _ (kind : Kind) (things : List (Vid × Thing)) (names : ℕ → Name) (m : Mode) (paired : Places) where
-  abbrev makes : Timed → Option Name
+module _ (kind : Kind) (things : List (Vid × Thing)) (names : ℕ → ThingName) (m : Mode) (paired : Places) where
+  abbrev makes : Timed → Option ThingName
   makes t = made_name kind (change_of (new_thing things) names t.step)
 
   one_new : (key : Option NaturalKey) (n : Object Vid) (place : ℕ) (p : Option ℕ) → kind_of n.body ≡ name_kind (name_of (new_thing things place)) → one_in (makes (new_step m key n place p)) ≡ cond (is_lacking kind n p) 1 0
@@ -100,7 +96,7 @@ module _ (kind : Kind) (things : List (Vid × Thing)) (names : ℕ → Name) (m 
       by (Some j) h = h
 
 -- the due steps make as many objects of a kind as new ones have no partner
-pub made-count : {made : ℕ} (old : List (Object Rid)) {new : List (Object Vid)} {things : List (Vid × Thing)} (chip : IsListedChip made (entries_of old)) (view : IsViewOf things new) (m : Mode) (names : ℕ → Name) (kind : Kind) (steps : List Timed) → IsPermutation (due_steps m old new (pairs_of old new)) steps → length (made_names kind (map (λ t. change_of (new_thing things) names t.step) steps)) ≡ lacking_from kind (by_new (paired_in m (pairs_of old new))) new 0
+pub made-count : {made : ℕ} (old : List (Object Rid)) {new : List (Object Vid)} {things : List (Vid × Thing)} (chip : IsListedChip made (entries_of old)) (view : IsViewOf things new) (m : Mode) (names : ℕ → ThingName) (kind : Kind) (steps : List Timed) → IsPermutation (due_steps m old new (pairs_of old new)) steps → length (made_names kind (map (λ t. change_of (new_thing things) names t.step) steps)) ≡ lacking_from kind (by_new (paired_in m (pairs_of old new))) new 0
 made-count old {new = new} {things = things} chip view m names kind steps same =
     let ps = paired_in m (pairs_of old new) in
     let f = makes kind things names m (by_new ps) in

@@ -2,13 +2,12 @@
 use mathlib.Core.Bool.{beq}
 use Rattle.std.proofs.Common.{◌≡◌, ℕ, ◌≤◌, ◌==◌, ◌++◌, Bool, true, false, List, map, refl, sym, ap, ap₂, ◌∙◌, subst, arith}
 use Rattle.std.proofs.lemmas.Bool.{eqb-true, false≢true}
-use Rattle.std.specs.Cmp.Lexicographic.{same_text}
 use Rattle.swss_types.specs.declared.address.Mac.{Mac}
 use Rattle.swss_types.specs.declared.address.Prefix.{Prefix}
 use Rattle.swss_types.specs.declared.tagging.Tagging.{Tagging}
-use Rattle.swss_types.specs.declared.tagging.Tagging.TheVariants as tagging
 use Rattle.swss_types.specs.contracts.tagging.TaggingPartialEq.TheImpl as tagging_eq
 use Rattle.swss_types.specs.contracts.address.MacPartialEq.TheImpl as mac_eq
+use Rattle.swss_types.proofs.SameValues.{mac_exact, tagging_exact}
 use Rattle.sai_types.specs.declared.ids.Rid.{Rid}
 use Rattle.sai_types.specs.declared.ids.Vid.{Vid}
 use Rattle.sai_types.specs.declared.body.Attr.{Attr}
@@ -24,7 +23,7 @@ use Rattle.sai_types.specs.declared.thing.PortThing.{PortThing}
 use Rattle.sai_types.specs.declared.thing.Thing.{Thing}
 use Rattle.sai_types.specs.declared.thing.Thing.TheVariants as thing
 use Rattle.sai_types.specs.Names as name
-use Rattle.sai_types.specs.Names.{Name, name_kind, name_of}
+use Rattle.sai_types.specs.Names.{ThingName, name_kind, name_of}
 use Rattle.sai_types.proofs.Exact.{id-exact}
 use Rattle.chip_layout.specs.Bodies.{IsAt, body_with, first_name, goal_name, is_numbered, to_with}
 use Rattle.chip_layout.specs.Layout.{Has, Layout, has_number}
@@ -34,15 +33,6 @@ use Rattle.apply_order.specs.Attributes.{differing, is_old, is_target, set_call,
 use Rattle.apply_order.specs.Naming.{Names, new_id}
 
 -- ---- what tests tell
-
-tagging_exact : (a b : Tagging) → tagging_eq.ghosts.eq a b ≡ true → a ≡ b
-tagging_exact tagging.Untagged tagging.Untagged h = refl
-tagging_exact tagging.Tagged tagging.Tagged h = refl
-tagging_exact tagging.PriorityTagged tagging.PriorityTagged h = refl
-tagging_exact _ _ h = absurd (false≢true h)
-
-mac_exact : (a b : Mac) → mac_eq.ghosts.eq a b ≡ true → a ≡ b
-mac_exact a b h = let made : List ℕ → Mac = λ bytes. record { 0 = bytes } in ap made (same_text a.0 b.0 (sym h))
 
 bool_exact : (a b : Bool) → beq a b ≡ true → a ≡ b
 bool_exact true true h = refl
@@ -102,12 +92,12 @@ module _ (start : Layout Rid) (ids : (i : Rid) (t u : Thing) → start i t → s
   by = plan_layout start view
 
   -- two names of one identifier are one
-  one_name : (k l : Name) (r : Rid) → is_numbered (name_kind k) ≡ true → is_numbered (name_kind l) ≡ true → Has start k r → Has start l r → k ≡ l
+  one_name : (k l : ThingName) (r : Rid) → is_numbered (name_kind k) ≡ true → is_numbered (name_kind l) ≡ true → Has start k r → Has start l r → k ≡ l
   one_name k l r x y a b =
       let same = ids r a.0 b.0 a.1 b.1 (ap (λ z. is_numbered (name_kind z)) a.2 ∙ x) (ap (λ z. is_numbered (name_kind z)) b.2 ∙ y) in
       sym a.2 ∙ ap name_of same ∙ b.2
 
-  at_old : (k l : Name) (r : Rid) (p : PlanId) → is_numbered (name_kind k) ≡ true → is_numbered (name_kind l) ≡ true → Has start k r → Has by l p → is_old r p ≡ true → k ≡ l
+  at_old : (k l : ThingName) (r : Rid) (p : PlanId) → is_numbered (name_kind k) ≡ true → is_numbered (name_kind l) ≡ true → Has start k r → Has by l p → is_old r p ≡ true → k ≡ l
   at_old k l r p x y a b h =
       let is = old_id r p h in
       let at : Has by l (plan_id.Old r) = subst (Has by l) is b in

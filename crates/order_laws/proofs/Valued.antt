@@ -7,7 +7,7 @@ use Rattle.sai_types.specs.declared.body.Body.{Body}
 use Rattle.sai_types.specs.declared.plan.Mode.TheVariants as mode
 use Rattle.sai_types.specs.declared.thing.Thing.{Thing}
 use Rattle.sai_types.specs.declared.thing.Thing.TheVariants as thing
-use Rattle.sai_types.specs.Names.{Name, name_of}
+use Rattle.sai_types.specs.Names.{ThingName, name_of}
 use Rattle.chip_layout.specs.Bodies.{IsBody, body_with}
 use Rattle.plan_laws.specs.Plans.{Make, Remove, Set, hitless_rank}
 use Rattle.plan_laws.proofs.Deciders.{len_within}
@@ -51,7 +51,7 @@ module _ {I : Type 0} where
   remove_good (thing.Port p) i j proper = tt
   remove_good _ i j proper = tt
 
-  module _ (at : Name → I → Type 0) (t : Thing) (b : Body I) (x : IsBody at t b) where
+  module _ (at : ThingName → I → Type 0) (t : Thing) (b : Body I) (x : IsBody at t b) where
     pub make-value : hitless_value (make_rank mode.Hitless b) ≡ hitless_rank (Make t)
     make-value = ap (λ z. hitless_value (make_rank mode.Hitless z)) x.body_is ∙ make_value t x.first x.second
 

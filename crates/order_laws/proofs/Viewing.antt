@@ -21,7 +21,7 @@ use Rattle.sai_types.specs.After.{entry_of}
 use Rattle.sai_types.specs.Alike.{IsIn}
 use Rattle.sai_types.specs.Named.{first_lane, hop_cmp, named, thing_by, thing_of, things_among, those}
 use Rattle.sai_types.specs.Names as name
-use Rattle.sai_types.specs.Names.{Name, Refers, ShareLane, name_kind, name_of}
+use Rattle.sai_types.specs.Names.{ThingName, Refers, ShareLane, name_kind, name_of}
 use Rattle.sai_types.specs.Objects.{Objects, body_at}
 use Rattle.sai_types.specs.References.{refers_well}
 use Rattle.sai_types.specs.Refusal.{clash}
@@ -130,14 +130,14 @@ module _ {made : ℕ} {S : Objects} {new : List (Object Vid)} (m : IsMadeView ma
 
   -- ---- names in the view
 
-  has-new : (k : Name) (r : Rid) → is_numbered (name_kind k) ≡ true → Has L k r → Has (viewed laid_things) k (vid_by r)
+  has-new : (k : ThingName) (r : Rid) → is_numbered (name_kind k) ≡ true → Has L k r → Has (viewed laid_things) k (vid_by r)
   has-new k r number h =
       let o = layout-in r h.0 h.1 in
       let numbered : has_number (each o.0 o.1).thing ≡ true = ap has_number o.2 ∙ ap (λ z. is_numbered (name_kind z)) h.2 ∙ number in
       let vid : vid_of o.0.entry ≡ vid_by r = ap vid_of (entry-is o.0 o.1 numbered) ∙ ap vid_by o.3 in
       (h.0, subst (λ z. IsIn z laid_things) (ap₂ pair_with vid o.2) (things-in o.0 o.1), h.2)
 
-  at-new : (o : Option Name) (r : Rid) → ((k : Name) → o ≡ Some k → is_numbered (name_kind k) ≡ true) → IsAt (Has L) o r → IsAt (Has (viewed laid_things)) o (vid_by r)
+  at-new : (o : Option ThingName) (r : Rid) → ((k : ThingName) → o ≡ Some k → is_numbered (name_kind k) ≡ true) → IsAt (Has L) o r → IsAt (Has (viewed laid_things)) o (vid_by r)
   at-new None r number h = tt
   at-new (Some k) r number h = has-new k r (number k refl) h
 
@@ -194,7 +194,7 @@ module _ {made : ℕ} {S : Objects} {new : List (Object Vid)} (m : IsMadeView ma
   from-old t i = let s = old-seen m.chip N t i in stands-in s.0 t s.1
 
   -- each thing's references stand
-  goal_refers : (t : Thing) (p : _) (g : _) → t ≡ thing.Route p g → (i : Rid) → IsAt (Has L) (first_name t) i → (k : Name) → Refers t k → (j : Rid) × Has L k j
+  goal_refers : (t : Thing) (p : _) (g : _) → t ≡ thing.Route p g → (i : Rid) → IsAt (Has L) (first_name t) i → (k : ThingName) → Refers t k → (j : Rid) × Has L k j
   goal_refers t p goal.Drop e i at k r = elim (subst (λ z. Refers z k) e r) [ ]
   goal_refers t p (goal.Direct on) e i at k r = elim (subst (λ z. Refers z k) e r) [ inl is ↦ (i, subst (λ z. Has L z i) (sym is) (subst (λ z. IsAt (Has L) (first_name z) i) e at)) | inr none ↦ elim none [ ] ]
   goal_refers t p (goal.Via hop) e i at k r = elim (subst (λ z. Refers z k) e r) [ inl is ↦ (i, subst (λ z. Has L z i) (sym is) (subst (λ z. IsAt (Has L) (first_name z) i) e at)) | inr none ↦ elim none [ ] ]
@@ -208,7 +208,7 @@ module _ {made : ℕ} {S : Objects} {new : List (Object Vid)} (m : IsMadeView ma
   neigh_of n (thing.Port p) i j r ip e = absurd cc
   neigh_of n _ i j r ip e = absurd cc
 
-  one_rif : (a b : name.Name) (i j : Rid) → is_numbered (name_kind a) ≡ true → is_numbered (name_kind b) ≡ true → i ≡ j → Has L a i → Has L b j → a ≡ b
+  one_rif : (a b : name.ThingName) (i j : Rid) → is_numbered (name_kind a) ≡ true → is_numbered (name_kind b) ≡ true → i ≡ j → Has L a i → Has L b j → a ≡ b
   one_rif a b i j x y same h k =
       let there = subst (λ z. L z h.0) same h.1 in
       let is = (old-laid m.chip N).ids j h.0 k.0 there k.1 (ap (λ z. is_numbered (name_kind z)) h.2 ∙ x) (ap (λ z. is_numbered (name_kind z)) k.2 ∙ y) in
@@ -231,7 +231,7 @@ module _ {made : ℕ} {S : Objects} {new : List (Object Vid)} (m : IsMadeView ma
           let hops : n.0 ≡ hop = ap₂ make ons n.4 in
           (x.id, (x.thing, x.stands, ap name_of n.2 ∙ ap name.Neighbor hops))
 
-  refer-by : (t : Thing) (i j : Rid) (b : Body Rid) → b ≡ body_with t i j → IsAt (Has L) (first_name t) i → IsAt (Has L) (second_name t) j → refers_well S b ≡ true → (k : Name) → Refers t k → (r : Rid) × Has L k r
+  refer-by : (t : Thing) (i j : Rid) (b : Body Rid) → b ≡ body_with t i j → IsAt (Has L) (first_name t) i → IsAt (Has L) (second_name t) j → refers_well S b ≡ true → (k : ThingName) → Refers t k → (r : Rid) × Has L k r
   refer-by (thing.Port p) i j b is x y well k r = elim r [ ]
   refer-by (thing.Vlan v) i j b is x y well k r = elim r [ ]
   refer-by (thing.Own ip) i j b is x y well k r = elim r [ ]
@@ -257,7 +257,7 @@ module _ {made : ℕ} {S : Objects} {new : List (Object Vid)} (m : IsMadeView ma
   refer-by (thing.GroupMember hs h) i j b is x y well k (inr (inr none)) = elim none [ ]
   refer-by (thing.Route p g) i j b is x y well k r = goal_refers (thing.Route p g) p g refl i x k r
 
-  refers : (t : Thing) (k : Name) → IsIn t (things_in laid_things) → Refers t k → (u : Thing) × IsIn u (things_in laid_things) × (name_of u ≡ k)
+  refers : (t : Thing) (k : ThingName) → IsIn t (things_in laid_things) → Refers t k → (u : Thing) × IsIn u (things_in laid_things) × (name_of u ≡ k)
   refers t k i r =
       let s = stands-for t i in
       let o = layout-in s.0 t s.1 in

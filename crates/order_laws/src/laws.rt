@@ -11,7 +11,7 @@ ghost use Rattle.sai_types.specs.declared.thing.Thing.{Thing};
 ghost use Rattle.sai_types.specs.After.{after_calls};
 ghost use Rattle.sai_types.specs.Alike.{IsAlike, IsIn};
 ghost use Rattle.sai_types.specs.Made.{AreLegal, made_after_all};
-ghost use Rattle.sai_types.specs.Names.{Name, name_of};
+ghost use Rattle.sai_types.specs.Names.{ThingName, name_of};
 ghost use Rattle.sai_types.specs.declared.body.Call.TheVariants as call;
 ghost use Rattle.sai_types.specs.declared.body.Entry.{Entry};
 ghost use Rattle.sai_types.specs.declared.kind.Kind.{Kind};
@@ -79,6 +79,6 @@ pub fn modes_are_told_by_room()
 /// Of each kind a hitless apply makes at most as many objects as the view has names that the chip does not show, and it
 /// removes nothing whose name the view has, but doubles.
 pub fn hitless_applies_keep()
-    ensures made { (capacities : List ℕ) (made : ℕ) (old : List (Object Rid)) (new : List (Object Vid)) (things : List (Vid × Thing)) (plan : Plan) (ids : Vid → Rid) (kind : Kind) → IsApply capacities made old new things plan ids → plan.mode ≡ mode.Hitless → (names : List Name) × AreLacking (chip_things (entries_of old)) (things_in things) kind names × (count_by (makes_kind kind) (calls_by ids plan) ≡ length names) }
+    ensures made { (capacities : List ℕ) (made : ℕ) (old : List (Object Rid)) (new : List (Object Vid)) (things : List (Vid × Thing)) (plan : Plan) (ids : Vid → Rid) (kind : Kind) → IsApply capacities made old new things plan ids → plan.mode ≡ mode.Hitless → (names : List ThingName) × AreLacking (chip_things (entries_of old)) (things_in things) kind names × (count_by (makes_kind kind) (calls_by ids plan) ≡ length names) }
     ensures kept { (capacities : List ℕ) (made : ℕ) (old : List (Object Rid)) (new : List (Object Vid)) (things : List (Vid × Thing)) (plan : Plan) (ids : Vid → Rid) (e : Entry Rid) → IsApply capacities made old new things plan ids → plan.mode ≡ mode.Hitless → IsIn (call.Remove e) (calls_by ids plan) → IsUnwanted (entries_of old) (things_in things) e }
 {}

@@ -34,9 +34,9 @@ use Rattle.syncd_core.specs.declared.answer.Listed.TheVariants as listed
 use Rattle.plan_cases.specs.Tested.{AreLinked, IsWholeChip, answer_of}
 
 -- a call that was answered so took effect
-effect : (a a' : ChipState) (c : Call Rid) (m : Option Rid) → IsAnswered a c (answer_of m) a' → TakesEffect a c a'
-effect a a' c None h = h.answer.0
-effect a a' c (Some r) h = h.answer.0
+takes_answered_effect : (a a' : ChipState) (c : Call Rid) (m : Option Rid) → IsAnswered a c (answer_of m) a' → TakesEffect a c a'
+takes_answered_effect a a' c None h = h.answer.0
+takes_answered_effect a a' c (Some r) h = h.answer.0
 
 count-one : (b : Bool) (n : ℕ) → n + (0 + cond b 1 0) ≡ (if b then n + 1 else n)
 count-one true n = omega arith
@@ -48,7 +48,7 @@ made-grown cs c = sum_by-append (λ x. cond (makes_id x) 1 0) cs (c ∷ []) ∙ 
 -- a call leaves whole what legal calls made
 pub whole-follows : (a a' : ChipState) (c : Call Rid) (m : Option Rid) → IsWholeChip a → IsAnswered a c (answer_of m) a' → IsWholeChip a'
 whole-follows a a' c m whole h =
-    let x = effect a a' c m h in
+    let x = takes_answered_effect a a' c m h in
     subst (λ es. IsWhole (count_by makes_id es) a'.objects) (sym x.effects)
     (subst (λ n. IsWhole n a'.objects) (sym (made-grown a.effects c))
     (subst (IsWhole (made_after (count_by makes_id a.effects) c)) (sym x.objects)
@@ -76,7 +76,7 @@ used-up a b c vlan r m whole made gone = same-objects c.objects a.objects (whole
 
     found : (q : Entry Rid) → body_at c.objects q ≡ body_at a.objects q
     found q =
-        ap (λ os. body_at os q) (effect b c _ m gone).objects
+        ap (λ os. body_at os q) (takes_answered_effect b c _ m gone).objects
         ∙ body_at-remove b.objects (entry.Oid r) q middle.sorted
         ∙ ap (λ i. cond (same_entry (entry.Oid i) q) None (body_at b.objects q)) is
         ∙ ap (cond (same_entry (entry.Oid id) q) None) (ap (λ os. body_at os q) made.answer.0.objects ∙ body_at-insert a.objects (entry.Oid id) (body.Vlan vlan) q ∙ ap (λ t. cond t (Some (body.Vlan vlan)) (body_at a.objects q)) (same-symm q (entry.Oid id)))
@@ -101,7 +101,7 @@ linked-empty s chip temporary objects effects = record {
 linked-legal : (s : SyncState) (objects : List (Object Vid)) (chip chip' : ChipState) (b : Body Vid) (m : Option Rid) (linked : AreLinked s objects chip) → IsAnswered chip (call_renamed as_rid (call.Create b)) (answer_of m) chip' → IsLegalOn linked.view (call.Create b)
 linked-legal s objects chip chip' b m linked h = record {
   capacities = chip.capacities;
-  legal = subst (λ os. IsLegal chip.capacities os (call_renamed as_rid (call.Create b))) linked.same (effect chip chip' _ m h).legal;
+  legal = subst (λ os. IsLegal chip.capacities os (call_renamed as_rid (call.Create b))) linked.same (takes_answered_effect chip chip' _ m h).legal;
 }
 
 -- what the chip made can be made in the view
@@ -156,18 +156,18 @@ unnumbered (body.NextHop rif ip) v w h = absurd cc
 unnumbered body.Group v w h = absurd cc
 unnumbered (body.GroupMember group next_hop) v w h = absurd cc
 
-keyed : (b : Body Vid) (n m : ℕ) → has_id b ≡ false → entry_of n (body_renamed as_rid b) ≡ entry_of m (body_renamed as_rid b)
-keyed (body.OwnAddress ip) n m h = refl
-keyed (body.Neighbor rif ip mac) n m h = refl
-keyed (body.Route prefix to) n m h = refl
-keyed (body.Port lanes speed mtu up) n m h = absurd cc
-keyed (body.Vlan vlan) n m h = absurd cc
-keyed (body.BridgePort port) n m h = absurd cc
-keyed (body.VlanMember vlan bridge_port tagging) n m h = absurd cc
-keyed (body.Rif on) n m h = absurd cc
-keyed (body.NextHop rif ip) n m h = absurd cc
-keyed body.Group n m h = absurd cc
-keyed (body.GroupMember group next_hop) n m h = absurd cc
+keyed_alike : (b : Body Vid) (n m : ℕ) → has_id b ≡ false → entry_of n (body_renamed as_rid b) ≡ entry_of m (body_renamed as_rid b)
+keyed_alike (body.OwnAddress ip) n m h = refl
+keyed_alike (body.Neighbor rif ip mac) n m h = refl
+keyed_alike (body.Route prefix to) n m h = refl
+keyed_alike (body.Port lanes speed mtu up) n m h = absurd cc
+keyed_alike (body.Vlan vlan) n m h = absurd cc
+keyed_alike (body.BridgePort port) n m h = absurd cc
+keyed_alike (body.VlanMember vlan bridge_port tagging) n m h = absurd cc
+keyed_alike (body.Rif on) n m h = absurd cc
+keyed_alike (body.NextHop rif ip) n m h = absurd cc
+keyed_alike body.Group n m h = absurd cc
+keyed_alike (body.GroupMember group next_hop) n m h = absurd cc
 
 -- an object that is known by its key, behind which the chip used up an identifier
 pub linked-keyed : ViewsGrow → (s s' : SyncState) (objects : List (Object Vid)) (chip chip' chip'' last : ChipState) (b : Body Vid) (w : Vid) → AreLinked s objects chip → IsAnswered chip (call_renamed as_rid (call.Create b)) (answer_of None) chip' → Calls s s.temporary chip' (call.Create b) sync.Done s' chip'' → last.objects ≡ chip''.objects → IsWholeChip last → AreLinked s' (objects ++ (record { entry = entry_at w b; body = b }) ∷ []) last
@@ -177,7 +177,7 @@ linked-keyed grow s s' objects chip chip' chip'' last b w linked h calls same wh
     let v = change.0 in
     let none : has_id b ≡ false = no_vid (has_id b) v change.3 in
     let legal = linked-legal s objects chip chip' b None linked h in
-    let made : chip'.objects ≡ as_chip (after_create linked.view v b) = h.answer.0.objects ∙ ap₂ (λ e os. insert_entry entry_cmp os e (body_renamed as_rid b)) (keyed b (next_id chip.effects) v.0 none) linked.same ∙ sym (grow linked.view v b change.1 legal) in
+    let made : chip'.objects ≡ as_chip (after_create linked.view v b) = h.answer.0.objects ∙ ap₂ (λ e os. insert_entry entry_cmp os e (body_renamed as_rid b)) (keyed_alike b (next_id chip.effects) v.0 none) linked.same ∙ sym (grow linked.view v b change.1 legal) in
     linked-more s s' linked.view did.0 objects last b v w did.1 change.2 linked.listed (same ∙ ap (λ (z : ChipState). z.objects) did.3 ∙ made) whole (unnumbered b v w none)
 
 -- a view whose natural keys are distinct, beside a list of the chip, can be applied

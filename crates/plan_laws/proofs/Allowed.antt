@@ -1,8 +1,7 @@
 -- each change of a plan may be made when its turn has come, and at the end the new things stand
 use Rattle.std.proofs.Common.{◌≡◌, inl, inr, ◌⊎◌, ℕ, ◌-◌, ◌<◌, ◌≤◌, true, nat_lt, ◌++◌, List, [], ◌∷◌, refl, sym, ap, ◌∙◌, subst, arith}
 use Rattle.std.specs.List.{list_all}
-use Rattle.std.proofs.lemmas.Bool.{and_parts}
-use Rattle.std.proofs.lemmas.Bool.Decides.{nat_tests}
+use Rattle.std.proofs.lemmas.Bool.{and_parts, ltb-true}
 use Rattle.std.proofs.lemmas.List.{append-nil}
 use Rattle.sai_types.specs.declared.hop.Base.TheVariants as base
 use Rattle.sai_types.specs.declared.thing.Goal.TheVariants as goal
@@ -11,7 +10,7 @@ use Rattle.sai_types.specs.declared.thing.Thing.TheVariants as thing
 use Rattle.sai_types.specs.Alike.{IsIn}
 use Rattle.sai_types.specs.Objects.{level}
 use Rattle.sai_types.specs.Names as name
-use Rattle.sai_types.specs.Names.{Meet, Name, Refers, name_kind, name_of, thing_references}
+use Rattle.sai_types.specs.Names.{Meet, ThingName, Refers, name_kind, name_of, thing_references}
 use Rattle.plan_laws.specs.Plans.{AreRanked, PlanChange, IsViewPlan, Make, Remove, Set, stands_after_all, cold_rank, hitless_rank, make_rank, remove_rank, set_rank, subject}
 use Rattle.plan_laws.specs.Views.{HaveOwnNames, LanesApart, ReferWithin}
 use Rattle.plan_laws.proofs.Following.{HasNamed, before, done-in, due-in, ranked-right, new-stands, now-new, old-stands, origin, outcome-named, outcome-new}
@@ -19,15 +18,12 @@ use Rattle.plan_laws.proofs.Deciders.{IsGood, good-names, len_within}
 
 -- ---- what refers is of a higher kind
 
-abbrev pub height : Name → ℕ
+abbrev pub height : ThingName → ℕ
 height k = level (name_kind k)
 
-less_by : (m n : ℕ) → nat_lt m n ≡ true → m < n
-less_by m n h = grind (arith, nat_tests)
-
-low_enough : (n : ℕ) (ks : List Name) (k : Name) → list_all (λ m. nat_lt (height m) n) ks ≡ true → IsIn k ks → height k < n
+low_enough : (n : ℕ) (ks : List ThingName) (k : ThingName) → list_all (λ m. nat_lt (height m) n) ks ≡ true → IsIn k ks → height k < n
 low_enough n [] k h i = elim i [ ]
-low_enough n (m ∷ ks) k h (inl is) = let less = (and_parts (nat_lt (height m) n) _ h).0 in subst (λ z. height z < n) (sym is) (less_by (height m) n less)
+low_enough n (m ∷ ks) k h (inl is) = let less = (and_parts (nat_lt (height m) n) _ h).0 in subst (λ z. height z < n) (sym is) (ltb-true (height m) n less)
 low_enough n (m ∷ ks) k h (inr i) = low_enough n ks k (and_parts (nat_lt (height m) n) _ h).1 i
 
 all_low : (t : Thing) → list_all (λ m. nat_lt (height m) (height (name_of t))) (thing_references t) ≡ true
@@ -39,37 +35,37 @@ all_low (thing.Route prefix (goal.Via hop)) = refl
 all_low (thing.Route prefix (goal.Group hops)) = refl
 all_low _ = refl
 
-pub refers-lower : (t : Thing) (k : Name) → Refers t k → height k < height (name_of t)
+pub refers-lower : (t : Thing) (k : ThingName) → Refers t k → height k < height (name_of t)
 refers-lower t k r = low_enough (height (name_of t)) (thing_references t) k (all_low t) r
 
-height_most : (k : Name) → height k ≤ 10
+height_most : (k : ThingName) → height k ≤ 10
 height_most (name.Route p) = omega arith
 height_most _ = omega arith
 
 -- ---- turns
 
-make_low : (k : Name) → height k < 10 → make_rank k ≡ height k
+make_low : (k : ThingName) → height k < 10 → make_rank k ≡ height k
 make_low (name.Route p) less = absurd (omega (arith, less))
 make_low _ less = refl
 
-remove_low : (k : Name) → height k < 10 → remove_rank k ≡ 1400 - height k
+remove_low : (k : ThingName) → height k < 10 → remove_rank k ≡ 1400 - height k
 remove_low (name.Route p) less = absurd (omega (arith, less))
 remove_low _ less = refl
 
 -- what is made later than by this turn is no lower than this
-make_high : (k : Name) (n : ℕ) → IsGood k → n < height k → n < 10 → n < make_rank k
+make_high : (k : ThingName) (n : ℕ) → IsGood k → n < height k → n < 10 → n < make_rank k
 make_high (name.Route p) n good less small = let len = len_within p good in omega (arith, len, small)
 make_high _ n good less small = less
 
-set_high : (k : Name) (n : ℕ) → n < 10 → n < set_rank k
+set_high : (k : ThingName) (n : ℕ) → n < 10 → n < set_rank k
 set_high (name.Route p) n small = omega (arith, small)
 set_high _ n small = omega (arith, small)
 
-set_most : (k : Name) → set_rank k ≤ 800
+set_most : (k : ThingName) → set_rank k ≤ 800
 set_most (name.Route p) = omega arith
 set_most _ = omega arith
 
-remove_less : (k : Name) (n : ℕ) → IsGood k → n < height k → n < 10 → remove_rank k < 1400 - n
+remove_less : (k : ThingName) (n : ℕ) → IsGood k → n < height k → n < 10 → remove_rank k < 1400 - n
 remove_less (name.Route p) n good less small = let len = len_within p good in omega (arith, len, small)
 remove_less _ n good less small = omega (arith, less)
 
@@ -77,8 +73,8 @@ remove_less _ n good less small = omega (arith, less)
 pub record IsSafeOrder (order : PlanChange → ℕ) : Type 0 where
   pub make_after : (t w : Thing) → IsGood (name_of t) → height (name_of w) < height (name_of t) → height (name_of w) < 10 → order (Make w) < order (Make t)
   pub set_after : (t w : Thing) → height (name_of w) < 10 → order (Make w) < order (Set t)
-  pub remove_before : (k m : Name) → IsGood m → height k < height m → height k < 10 → order (Remove m) < order (Remove k)
-  pub set_before : (t : Thing) (k : Name) → height k < 10 → order (Set t) < order (Remove k)
+  pub remove_before : (k m : ThingName) → IsGood m → height k < height m → height k < 10 → order (Remove m) < order (Remove k)
+  pub set_before : (t : Thing) (k : ThingName) → height k < 10 → order (Set t) < order (Remove k)
 
 pub hitless-safe : IsSafeOrder hitless_rank
 hitless-safe = record {
@@ -122,7 +118,7 @@ module _ {order : PlanChange → ℕ} {old new : List Thing} {plan : List PlanCh
     not_before d (inr i) = ((ranked-right order done (next ∷ due) (subst (AreRanked order) cut p.is_plan.in_order)).0 d i).0
 
     -- what a new thing refers to stands where that is made before the next change
-    refers_well : (t : Thing) → IsIn t new → ((w : Thing) → height (name_of w) < height (name_of t) → height (name_of w) < 10 → order (Make w) < order next) → (k : Name) → Refers t k → HasNamed now k
+    refers_well : (t : Thing) → IsIn t new → ((w : Thing) → height (name_of w) < height (name_of t) → height (name_of w) < 10 → order (Make w) < order next) → (k : ThingName) → Refers t k → HasNamed now k
     refers_well t i late k r =
         let w = p.within.refers t k i r in
         let low = refers-lower t k r in
@@ -153,7 +149,7 @@ module _ {order : PlanChange → ℕ} {old new : List Thing} {plan : List PlanCh
       make-free u h (inl same) = fresh done (Make t) due cut make_new.1 u h (sym same)
       make-free u h (inr lane) = fresh done (Make t) due cut make_new.1 u h (sym (p.lanes.apart t u make_new.0 (old_or_new done (Make t) due cut u h) lane))
 
-      pub make-refers : (k : Name) → Refers t k → HasNamed (stands_after_all done stood) k
+      pub make-refers : (k : ThingName) → Refers t k → HasNamed (stands_after_all done stood) k
       make-refers = refers_well done (Make t) due cut t make_new.0 (λ w. p.safe.make_after t w (good-names new p.new_named t make_new.0))
 
     module _ (cut : plan ≡ done ++ (Set t ∷ due)) where
@@ -167,10 +163,10 @@ module _ {order : PlanChange → ℕ} {old new : List Thing} {plan : List PlanCh
             | inr make ↦ absurd ((p.is_plan.makes t (due-in p.is_plan done (Set t ∷ due) cut (Make t) make)).1 set_new.1 set_new.2 set_new.3)
           ]
 
-      pub set-refers : (k : Name) → Refers t k → HasNamed (stands_after_all done stood) k
+      pub set-refers : (k : ThingName) → Refers t k → HasNamed (stands_after_all done stood) k
       set-refers = refers_well done (Set t) due cut t set_new.0 (λ w less small. p.safe.set_after t w small)
 
-  module _ (k : Name) (done due : List PlanChange) (cut : plan ≡ done ++ (Remove k ∷ due)) where
+  module _ (k : ThingName) (done due : List PlanChange) (cut : plan ≡ done ++ (Remove k ∷ due)) where
     gone_old : (u : Thing) × IsIn u old × (name_of u ≡ k) × ((t : Thing) → IsIn t new → name_of t ≡ k → ⊥)
     gone_old = p.is_plan.removes k (next_in done (Remove k) due cut)
 

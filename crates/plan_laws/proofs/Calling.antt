@@ -20,7 +20,7 @@ use Rattle.sai_types.specs.declared.thing.Thing.{Thing}
 use Rattle.sai_types.specs.declared.thing.Thing.TheVariants as thing
 use Rattle.sai_types.specs.After.{entry_of}
 use Rattle.sai_types.specs.Alike.{IsIn}
-use Rattle.sai_types.specs.Names.{Name, name_kind, name_of}
+use Rattle.sai_types.specs.Names.{ThingName, name_kind, name_of}
 use Rattle.sai_types.specs.Objects.{Objects}
 use Rattle.chip_layout.specs.Bodies.{IsAt, IsBody, IsChange, first_name, goal_name, is_numbered, second_name, to_with}
 use Rattle.chip_layout.specs.Layout.{Has, Layout, RefersWell, has_number, next_id, with_changed}
@@ -33,18 +33,18 @@ use Rattle.plan_laws.specs.Plans.{PlanChange, Make, Remove, Set, subject}
 use Rattle.plan_laws.specs.Views.{HasRoomForPlan}
 use Rattle.plan_laws.proofs.Allowed.{IsSafePlan}
 use Rattle.plan_laws.proofs.Following.{before, due-in, origin, outcome-named}
-use Rattle.plan_laws.proofs.Running.{IsEnd, allowed, end-append, joined, plan-step}
+use Rattle.plan_laws.proofs.Running.{IsEnd, allowed, end-append, one_then_rest, plan-step}
 use Rattle.plan_laws.proofs.Stepping.{IsAllowed, IsChangeMade, first-place, is-port}
 
 -- ---- identifiers that the plan's come to
 
 module _ (start : Layout Rid) (view : Layout Vid) (ids : Vid → Rid) (now : Layout Rid) (resolves : Resolves start view ids now) where
   -- what stands has the identifier that a plan names it by
-  has_resolved : (k : Name) (r : PlanId) → is_numbered (name_kind k) ≡ true → Has (plan_layout start view) k r → (j : Rid) → Has now k j → Has now k (resolve ids r)
+  has_resolved : (k : ThingName) (r : PlanId) → is_numbered (name_kind k) ≡ true → Has (plan_layout start view) k r → (j : Rid) → Has now k j → Has now k (resolve ids r)
   has_resolved k (plan_id.Old i) n h j there = resolves.old k i (subst (λ z. Has start z i) h.2 h.1.1) j there
   has_resolved k (plan_id.New v) n h j there = subst (λ z. Has now z (ids v)) h.2 (resolves.new v h.0 h.1.0 (ap (λ z. is_numbered (name_kind z)) h.2 ∙ n) h.1.1 j (subst (λ z. Has now z j) (sym h.2) there))
 
-  at_resolved : (o : Option Name) (r : PlanId) → ((k : Name) → o ≡ Some k → is_numbered (name_kind k) ≡ true) → ((k : Name) → o ≡ Some k → (j : Rid) × Has now k j) → IsAt (Has (plan_layout start view)) o r → IsAt (Has now) o (resolve ids r)
+  at_resolved : (o : Option ThingName) (r : PlanId) → ((k : ThingName) → o ≡ Some k → is_numbered (name_kind k) ≡ true) → ((k : ThingName) → o ≡ Some k → (j : Rid) × Has now k j) → IsAt (Has (plan_layout start view)) o r → IsAt (Has now) o (resolve ids r)
   at_resolved None r n stand h = tt
   at_resolved (Some k) r n stand h = let j = stand k refl in has_resolved k r (n k refl) h j.0 j.1
 
@@ -58,7 +58,7 @@ module _ (start : Layout Rid) (view : Layout Vid) (ids : Vid → Rid) (now : Lay
     body_is = ap (body_renamed (resolve ids)) x.body_is ∙ renamed_with (resolve ids) t x.first x.second;
   }
 
-  at_stood : (o : Option Name) (i j : Rid) → IsAt (Has start) o i → IsAt (Has now) o j → IsAt (Has now) o i
+  at_stood : (o : Option ThingName) (i j : Rid) → IsAt (Has start) o i → IsAt (Has now) o j → IsAt (Has now) o i
   at_stood None i j x y = tt
   at_stood (Some k) i j x y = resolves.old k i x j y
 
@@ -238,11 +238,11 @@ module _ (start : Layout Rid) (view : Layout Vid) (ids : Vid → Rid) where
           let these = calls_of done (cs ++ due) c cut at r front run.3 in
           let step = plan-step p first capacities room done (cs ++ due) at c cut (resolved front) these in
           let r' = resolves-next at capacities c (resolved front) (layout_after made layout c) step start view ids (λ t e. (none-before done (cs ++ due) c cut at r t e, run.4 t e)) r in
-          let rest = called_from cs due (done ++ (c ∷ [])) (cut ∙ joined done c (cs ++ due)) step.next r' run.1 run.5 in
+          let rest = called_from cs due (done ++ (c ∷ [])) (cut ∙ one_then_rest done c (cs ++ due)) step.next r' run.1 run.5 in
           let whole : resolved calls ≡ resolved front ++ resolved run.1 = ap resolved run.2 ∙ map-append (call_renamed f) front run.1 in
           subst (IsCalled done (c ∷ cs) made objects layout) (sym whole) (record {
             run = (resolved front, resolved run.1, refl, these, rest.run);
-            end = end-append capacities old _ _ made objects (resolved front) (resolved run.1) (sym (joined done c cs)) step.legal rest.end;
+            end = end-append capacities old _ _ made objects (resolved front) (resolved run.1) (sym (one_then_rest done c cs)) step.legal rest.end;
             resolves = rest.resolves;
           })
 

@@ -13,7 +13,7 @@ use Rattle.sai_types.specs.declared.thing.Thing.TheVariants as thing
 use Rattle.sai_types.specs.Alike.{IsIn}
 use Rattle.sai_types.specs.Forwarding.{decide, forward}
 use Rattle.sai_types.specs.Names as name
-use Rattle.sai_types.specs.Names.{Name, name_of}
+use Rattle.sai_types.specs.Names.{ThingName, name_of}
 use Rattle.sai_types.specs.Objects.{Objects}
 use Rattle.chip_layout.specs.Layout.{Layout}
 use Rattle.plan_laws.specs.Applied.{chip_things}
@@ -27,7 +27,7 @@ use Rattle.plan_laws.proofs.Shown.{AreTargets, real_goal, real_route, shown-all,
 use Rattle.plan_laws.proofs.Stepping.{IsMidMoment, IsPortName}
 use Rattle.plan_laws.proofs.Targets.{IsTaggedPlan, group-of_route, member-only, member-there, target-rising}
 
-pub no_port : (k : Name) → IsForwarding k → IsPortName k → ⊥
+pub no_port : (k : ThingName) → IsForwarding k → IsPortName k → ⊥
 no_port (name.Port lane) fw port = fw
 no_port _ fw port = port
 

@@ -14,7 +14,7 @@ use Rattle.sai_types.specs.After.{entry_of}
 use Rattle.sai_types.specs.Alike.{IsIn}
 use Rattle.sai_types.specs.Made.{made_after_all}
 use Rattle.sai_types.specs.Named.{thing_by, those}
-use Rattle.sai_types.specs.Names.{Name, name_kind, name_of}
+use Rattle.sai_types.specs.Names.{ThingName, name_kind, name_of}
 use Rattle.sai_types.specs.Objects.{Objects, level}
 use Rattle.chip_layout.specs.Counted.{AreDistinct}
 use Rattle.chip_layout.specs.Layout.{Has, Layout, with_changed}
@@ -38,28 +38,28 @@ place_most (attr.Up up) = omega arith
 place_most (attr.Speed speed) = omega arith
 place_most _ = omega arith
 
-sets_few : (i : Rid) (place : ℕ) (calls : List (Call Rid)) (layout : Layout Rid) (u t : Thing) → place ≤ 3 → SetsThing i place calls layout u t → length calls + place ≤ 3
-sets_few i place [] layout u t small is = omega (arith, small)
-sets_few i place (c ∷ cs) layout u t small is =
+sets_at_most_three : (i : Rid) (place : ℕ) (calls : List (Call Rid)) (layout : Layout Rid) (u t : Thing) → place ≤ 3 → SetsThing i place calls layout u t → length calls + place ≤ 3
+sets_at_most_three i place [] layout u t small is = omega (arith, small)
+sets_at_most_three i place (c ∷ cs) layout u t small is =
     let most = place_most is.1 in
-    let rest = sets_few i (attr_place is.1 + 1) cs (with_changed layout i is.2) is.2 t (omega (arith, most)) is.7 in
+    let rest = sets_at_most_three i (attr_place is.1 + 1) cs (with_changed layout i is.2) is.2 t (omega (arith, most)) is.7 in
     let from = is.6 in
     omega (arith, rest, from)
 
 -- the name that a change brings, and the one that it removes
-abbrev brings : PlanChange → Option Name
+abbrev brings : PlanChange → Option ThingName
 brings (Remove k) = None
 brings (Make t) = Some (name_of t)
 brings (Set t) = Some (name_of t)
 
-abbrev takes : PlanChange → Option Name
+abbrev takes : PlanChange → Option ThingName
 takes (Remove k) = Some k
 takes _ = None
 
-abbrev brought : List PlanChange → List Name
+abbrev brought : List PlanChange → List ThingName
 brought cs = those (map brings cs)
 
-abbrev taken : List PlanChange → List Name
+abbrev taken : List PlanChange → List ThingName
 taken cs = those (map takes cs)
 
 abbrev cost : PlanChange → ℕ
@@ -73,7 +73,7 @@ run_few made layout (c ∷ cs) calls run =
   where
     few : (d : PlanChange) → MakesChange layout d run.0 → length run.0 ≤ cost d
     few (Make t) is = let one : length run.0 ≡ 1 = ap length is.2 in omega (arith, one)
-    few (Set t) is = let three = sets_few is.0 0 run.0 layout is.1 t (omega arith) is.4 in omega (arith, three)
+    few (Set t) is = let three = sets_at_most_three is.0 0 run.0 layout is.1 t (omega arith) is.4 in omega (arith, three)
     few (Remove k) is = let one : length run.0 ≡ 1 = ap length is.6 in omega (arith, one)
 
     step : (d : PlanChange) (n x y : ℕ) → n ≡ x + y → x ≤ cost d → y ≤ length (taken cs) + 3 * length (brought cs) → n ≤ length (taken (d ∷ cs)) + 3 * length (brought (d ∷ cs))
@@ -87,24 +87,24 @@ module _ {order : PlanChange → ℕ} {old new : List Thing} {plan : List PlanCh
   up : AreRanked order done
   up = ranked-left order done due (subst (AreRanked order) cut is_plan.in_order)
 
-  brings_new : (c : PlanChange) (k : Name) → brings c ≡ Some k → IsIn c plan → IsIn k (map name_of new)
+  brings_new : (c : PlanChange) (k : ThingName) → brings c ≡ Some k → IsIn c plan → IsIn k (map name_of new)
   brings_new (Make t) k e i = subst (λ z. IsIn z (map name_of new)) (same_Some (name_of t) k e) (in-map name_of new t (is_plan.makes t i).0)
   brings_new (Set t) k e i = subst (λ z. IsIn z (map name_of new)) (same_Some (name_of t) k e) (in-map name_of new t (is_plan.sets t i).0)
   brings_new (Remove m) k e i = absurd cc
 
-  takes_old : (c : PlanChange) (k : Name) → takes c ≡ Some k → IsIn c plan → IsIn k (map name_of old)
+  takes_old : (c : PlanChange) (k : ThingName) → takes c ≡ Some k → IsIn c plan → IsIn k (map name_of old)
   takes_old (Remove m) k e i =
       let has = is_plan.removes m i in
       subst (λ z. IsIn z (map name_of old)) (has.2 ∙ same_Some m k e) (in-map name_of old has.0 has.1)
   takes_old (Make t) k e i = absurd cc
   takes_old (Set t) k e i = absurd cc
 
-  brings_subject : (c : PlanChange) (k : Name) → brings c ≡ Some k → subject c ≡ k
+  brings_subject : (c : PlanChange) (k : ThingName) → brings c ≡ Some k → subject c ≡ k
   brings_subject (Make t) k e = same_Some (name_of t) k e
   brings_subject (Set t) k e = same_Some (name_of t) k e
   brings_subject (Remove m) k e = absurd cc
 
-  takes_subject : (c : PlanChange) (k : Name) → takes c ≡ Some k → subject c ≡ k
+  takes_subject : (c : PlanChange) (k : ThingName) → takes c ≡ Some k → subject c ≡ k
   takes_subject (Remove m) k e = same_Some m k e
   takes_subject (Make t) k e = absurd cc
   takes_subject (Set t) k e = absurd cc
@@ -120,7 +120,7 @@ module _ {order : PlanChange → ℕ} {old new : List Thing} {plan : List PlanCh
       omega (arith, few, bring, take, olds, news)
 
   -- the names that a plan brings: each call of it is of one of these, three at most, or removes an old thing
-  pub calls-named : (made : ℕ) (layout : Layout Rid) (calls : List (Call Rid)) → MakesChanges made layout done calls → (names : List Name) × AreDistinct names × ((k : Name) → IsIn k names → IsIn k (map name_of new)) × (length calls ≤ length old + 3 * length names)
+  pub calls-named : (made : ℕ) (layout : Layout Rid) (calls : List (Call Rid)) → MakesChanges made layout done calls → (names : List ThingName) × AreDistinct names × ((k : ThingName) → IsIn k names → IsIn k (map name_of new)) × (length calls ≤ length old + 3 * length names)
   calls-named made layout calls run =
       let few = run_few made layout done calls run in
       let take = no-longer (taken done) (map name_of old) (picked-distinct takes takes_subject order done up) (λ k i. let c = in-picked takes done k i in takes_old c.0 k c.2 (done-in is_plan done due cut c.0 c.1)) in
@@ -154,7 +154,7 @@ module _ (kind : Kind) where
       let zero : one_of c ≡ 0 = ap (λ b. cond b 1 0) none in
       omega (arith, sum, zero, rest)
 
-  one_by : (b : Bool) (k : Name) → cond b 1 0 ≡ length (those (cond b (Some k) None ∷ []))
+  one_by : (b : Bool) (k : ThingName) → cond b 1 0 ≡ length (those (cond b (Some k) None ∷ []))
   one_by true k = refl
   one_by false k = refl
 

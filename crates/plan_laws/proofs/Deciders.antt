@@ -13,12 +13,12 @@ use Rattle.sai_types.specs.Alike.{IsIn}
 use Rattle.sai_types.specs.Forwarding.{Decision, best_route, decide, decide_route, decision_of, has_own}
 use Rattle.sai_types.specs.Forwarding as to
 use Rattle.sai_types.specs.Names as name
-use Rattle.sai_types.specs.Names.{Name, name_of}
+use Rattle.sai_types.specs.Names.{ThingName, name_of}
 use Rattle.sai_types.proofs.Decided.{IsAnswer, answer_is, has_own-in, in-has_own, prefix_unique}
 use Rattle.plan_laws.specs.Views.{HaveOwnNames}
 
 -- a name that is not that of a route whose prefix is not proper
-abbrev pub IsGood : Name → Type 0
+abbrev pub IsGood : ThingName → Type 0
 IsGood (name.Route p) = IsProperPrefix p
 IsGood _ = Unit {0}
 
@@ -34,12 +34,12 @@ good-names ts named (thing.Route p g) i = named.proper p g i
 good-names ts named _ i = tt
 
 -- what has a name decides an address where nothing stronger does
-abbrev pub Decides : Ip → Name → Type 0
+abbrev pub Decides : Ip → ThingName → Type 0
 Decides a (name.Own ip) = ip ≡ a
 Decides a (name.Route p) = covers p a ≡ true
 Decides a _ = ⊥
 
-abbrev pub strength : Name → ℕ
+abbrev pub strength : ThingName → ℕ
 strength (name.Route p) = p.len
 strength _ = 129
 
@@ -49,7 +49,7 @@ decision (thing.Route p g) = decision_of g
 decision _ = to.Drop
 
 -- one name of a strength decides an address
-one-decider : (a : Ip) (k m : Name) → IsGood k → IsGood m → Decides a k → Decides a m → strength k ≡ strength m → k ≡ m
+one-decider : (a : Ip) (k m : ThingName) → IsGood k → IsGood m → Decides a k → Decides a m → strength k ≡ strength m → k ≡ m
 one-decider a (name.Own x) (name.Own y) g h e f same = ap name.Own (e ∙ sym f)
 one-decider a (name.Own x) (name.Route q) g h e f same = let small = len_within q h in absurd (omega (arith, small, same))
 one-decider a (name.Route p) (name.Own y) g h e f same = let small = len_within p g in absurd (omega (arith, small, same))
@@ -58,7 +58,7 @@ one-decider a (name.Own x) _ g h e f same = elim f [ ]
 one-decider a (name.Route x) _ g h e f same = elim f [ ]
 one-decider a _ _ g h e f same = elim e [ ]
 
-pub strength-most : (k : Name) → IsGood k → strength k ≤ 129
+pub strength-most : (k : ThingName) → IsGood k → strength k ≤ 129
 strength-most (name.Route p) g = let small = len_within p g in omega (arith, small)
 strength-most _ g = omega arith
 

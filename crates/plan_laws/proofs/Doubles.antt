@@ -1,7 +1,6 @@
 -- an object's name among the old things is the one that it shows, but of groups that do not stay and their members
 use Rattle.std.proofs.Common.{◌≡◌, inl, inr, ◌⊎◌, ℕ, zero, suc, ◌<◌, Bool, true, false, cond, ◌&&◌, not, nat_lt, List, map, Some, option_map, refl, sym, ap, ap₂, ◌∙◌, subst, arith}
-use Rattle.std.proofs.lemmas.Bool.{and_parts, eq-eqb, false≢true}
-use Rattle.std.proofs.lemmas.Bool.Decides.{nat_tests}
+use Rattle.std.proofs.lemmas.Bool.{and_parts, eq-eqb, false≢true, ltb-true}
 use Rattle.std.proofs.lemmas.Option.{same_Some}
 use Rattle.sai_types.specs.declared.ids.Rid.{Rid}
 use Rattle.sai_types.specs.declared.hop.Hop.{Hop}
@@ -15,15 +14,16 @@ use Rattle.sai_types.specs.declared.kind.Kind.{Kind}
 use Rattle.sai_types.specs.declared.thing.Goal.{Goal}
 use Rattle.sai_types.specs.declared.thing.Goal.TheVariants as goal
 use Rattle.swss_types.specs.declared.address.Prefix.{Prefix}
+use Rattle.swss_types.proofs.Proper.{mapped}
 use Rattle.sai_types.specs.declared.thing.Thing.{Thing}
 use Rattle.sai_types.specs.declared.thing.Thing.TheVariants as thing
 use Rattle.sai_types.specs.Alike.{IsIn}
 use Rattle.sai_types.specs.Named.{both, goal_by, hops_at, named, next_hop_at, thing_by, thing_of}
 use Rattle.sai_types.specs.Names as name
-use Rattle.sai_types.specs.Names.{Name, name_of}
+use Rattle.sai_types.specs.Names.{ThingName, name_of}
 use Rattle.sai_types.specs.Objects.{Objects, body_at}
 use Rattle.sai_types.specs.Refusal.{same_id}
-use Rattle.sai_types.proofs.Keys.{both_true, mapped}
+use Rattle.sai_types.proofs.Keys.{both_true}
 use Rattle.sai_types.proofs.Exact.{entry-exact}
 use Rattle.sai_types.proofs.Found.{same-refl}
 use Rattle.sai_types.proofs.Listed.{found-in, in-found, object-of_thing}
@@ -37,7 +37,7 @@ use Rattle.plan_laws.specs.Bounds.{IsDouble}
 use Rattle.plan_laws.specs.Old.{filler, chip_group, group_stays, chip_groups, hops_or_none, is_double, is_group_of, old_layout, old_things, same_hops, shown_hops, tag_of}
 use Rattle.plan_laws.specs.Views.{AreLacking, FitsHitless}
 use Rattle.plan_laws.proofs.Lists.{any-in, in-any, map-in}
-use Rattle.plan_laws.proofs.Named.{hops_exact, hops_refl}
+use Rattle.plan_laws.proofs.Named.{same_hops_exact, hops_refl}
 use Rattle.plan_laws.proofs.Starting.{group-seen, group-there, hops-same, hops-there, object-seen, old-seen, old-tagged, rises}
 use Rattle.plan_laws.proofs.Tagging.{all-groups, hops-of_tag}
 use Rattle.plan_laws.proofs.Targets.{is-group, is-member}
@@ -150,9 +150,6 @@ module _ {made : ℕ} {objects : Objects} (chip : IsListedChip made objects) (ne
       let is = is_grouped o.0 g o.2 in
       ap (body_at objects) (sym is.0) ∙ found-in objects o.0.0 o.0.1 chip.whole.sorted o.1 ∙ ap Some is.1
 
-  lower : (m n : ℕ) → nat_lt m n ≡ true → m < n
-  lower m n h = grind (arith, nat_tests)
-
   -- of the groups of some hops the one of the least identifier
   abbrev HasLeast : Rid → Type 0
   HasLeast g = (h : Rid) × IsIn h (chip_groups objects) × (is_double objects h ≡ false) × (hops h ≡ hops g)
@@ -166,8 +163,8 @@ module _ {made : ℕ} {objects : Objects} (chip : IsListedChip made objects) (ne
       by true e lesser =
           let x = any-in (λ h. nat_lt h.0 g.0 && same_hops (hops h) (hops g)) (chip_groups objects) e in
           let parts = and_parts (nat_lt x.0.0 g.0) (same_hops (hops x.0) (hops g)) x.2 in
-          let r = lesser x.0 (lower x.0.0 g.0 parts.0) x.1 in
-          (r.0, r.1, r.2, r.3 ∙ hops_exact (hops x.0) (hops g) parts.1)
+          let r = lesser x.0 (ltb-true x.0.0 g.0 parts.0) x.1 in
+          (r.0, r.1, r.2, r.3 ∙ same_hops_exact (hops x.0) (hops g) parts.1)
 
   group_old : (g : Rid) → IsIn g (chip_groups objects) → IsIn (thing.Group (hops g)) new → IsIn (thing.Group (hops g)) (old_things objects new)
   group_old g i wanted =
@@ -202,7 +199,7 @@ module _ {made : ℕ} {objects : Objects} (chip : IsListedChip made objects) (ne
       ]
 
   -- names that no old thing has are names that the chip does not show
-  pub lacking-shown : (kind : Kind) (ks : List Name) → AreLacking (old_things objects new) new kind ks → AreLacking (chip_things objects) new kind ks
+  pub lacking-shown : (kind : Kind) (ks : List ThingName) → AreLacking (old_things objects new) new kind ks → AreLacking (chip_things objects) new kind ks
   lacking-shown kind ks l = record {
     distinct = l.distinct;
     each = λ k i.
@@ -235,7 +232,7 @@ module _ {made : ℕ} {objects : Objects} (chip : IsListedChip made objects) (ne
       target_of : (x y : Rid) → body.Route p (to.Group x) ≡ body.Route p (to.Group y) → x ≡ y
       target_of x y h = cc
 
-  abbrev ShownAs : Entry Rid → Body Rid → Name → Type 0
+  abbrev ShownAs : Entry Rid → Body Rid → ThingName → Type 0
   ShownAs e b n = (v : Thing) × (thing_of objects (e, b) ≡ Some v) × (name_of v ≡ n)
 
   pub shown_as : (e : Entry Rid) (b : Body Rid) (u t : Thing) → body_at objects e ≡ Some b → thing_by (tagged tag) objects (e, b) ≡ Some u → IsIn t new → name_of u ≡ name_of t → ShownAs e b (name_of t)
@@ -272,7 +269,7 @@ module _ {made : ℕ} {objects : Objects} (chip : IsListedChip made objects) (ne
       (v.0, in_those v.0 (named objects) (subst (λ z. IsIn z (named objects)) is (thing_in objects objects o.0 s.body o.2)), v.2)
 
   -- so names that the chip does not show are names that no old thing has
-  pub shown-lacking : (kind : Kind) (ks : List Name) → AreLacking (chip_things objects) new kind ks → AreLacking (old_things objects new) new kind ks
+  pub shown-lacking : (kind : Kind) (ks : List ThingName) → AreLacking (chip_things objects) new kind ks → AreLacking (old_things objects new) new kind ks
   shown-lacking kind ks l = record {
     distinct = l.distinct;
     each = λ k i.

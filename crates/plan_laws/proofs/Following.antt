@@ -2,7 +2,7 @@
 use Rattle.std.proofs.Common.{◌≡◌, inl, inr, ◌⊎◌, ℕ, ◌≤◌, ◌++◌, List, [], ◌∷◌, Some, refl, sym, ap, ◌∙◌, subst}
 use Rattle.sai_types.specs.declared.thing.Thing.{Thing}
 use Rattle.sai_types.specs.Alike.{IsIn}
-use Rattle.sai_types.specs.Names.{Name, name_of}
+use Rattle.sai_types.specs.Names.{ThingName, name_of}
 use Rattle.plan_laws.specs.Plans.{AreRanked, PlanChange, IsViewPlan, Make, Remove, Set, stands_after_all, stands_after, outcome, subject}
 use Rattle.plan_laws.specs.Views.{HaveOwnNames}
 use Rattle.plan_laws.proofs.Lists.{in-either, in-left, in-right}
@@ -14,11 +14,11 @@ outcome-named (Set u) t e = let same : u ≡ t = cc in ap name_of (sym same)
 outcome-named (Remove k) t e = absurd cc
 
 -- no change is about a name
-abbrev pub IsUntouched : List PlanChange → Name → Type 0
+abbrev pub IsUntouched : List PlanChange → ThingName → Type 0
 IsUntouched cs k = (c : PlanChange) → IsIn c cs → subject c ≡ k → ⊥
 
 -- whether one is, is told
-touched-or : (cs : List PlanChange) (k : Name) → ((c : PlanChange) × IsIn c cs × (subject c ≡ k)) ⊎ IsUntouched cs k
+touched-or : (cs : List PlanChange) (k : ThingName) → ((c : PlanChange) × IsIn c cs × (subject c ≡ k)) ⊎ IsUntouched cs k
 touched-or [] k = inr (λ c i e. elim i [ ])
 touched-or (c ∷ cs) k =
     elim (same-or (subject c) k) [
@@ -53,7 +53,7 @@ origin (c ∷ cs) now t h =
     ]
 
 -- something stands that has this name
-abbrev pub HasNamed : (Thing → Type 0) → Name → Type 0
+abbrev pub HasNamed : (Thing → Type 0) → ThingName → Type 0
 HasNamed now k = (t : Thing) × now t × (name_of t ≡ k)
 
 pub ranked-left : (order : PlanChange → ℕ) (xs ys : List PlanChange) → AreRanked order (xs ++ ys) → AreRanked order xs

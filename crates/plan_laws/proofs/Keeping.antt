@@ -31,7 +31,7 @@ use Rattle.plan_laws.proofs.Calling.{none-before, resolves-first, resolves-next,
 use Rattle.plan_laws.proofs.Doubles.{unwanted}
 use Rattle.plan_laws.proofs.Following.{due-in}
 use Rattle.plan_laws.proofs.Lists.{in-either}
-use Rattle.plan_laws.proofs.Running.{joined, plan-step}
+use Rattle.plan_laws.proofs.Running.{one_then_rest, plan-step}
 use Rattle.plan_laws.proofs.Starting.{first-moment, old-laid}
 
 -- no view is needed here
@@ -46,8 +46,8 @@ sets_only e i place [] layout u t is h = h
 sets_only e i place (c ∷ cs) layout u t is (inl same) = let both = same ∙ is.5 in absurd cc
 sets_only e i place (c ∷ cs) layout u t is (inr h) = sets_only e i (attr_place is.1 + 1) cs (with_changed layout i is.2) is.2 t is.7 h
 
-entries : (e f : Entry Rid) → call.Remove e ≡ call.Remove f → e ≡ f
-entries e f h = cc
+same_removed : (e f : Entry Rid) → call.Remove e ≡ call.Remove f → e ≡ f
+same_removed e f h = cc
 
 module _ {order : PlanChange → ℕ} {old new : List Thing} {plan : List PlanChange} (p : IsSafePlan order old new plan) {start : Layout Rid} {made' : ℕ} {objects' : Objects} (first : IsMoment old [] start made' objects') (capacities : List ℕ) (room : HasRoomForPlan capacities objects' plan) where
   -- an old object, by its entry at the start, whose name no new thing has
@@ -88,7 +88,7 @@ module _ {order : PlanChange → ℕ} {old new : List Thing} {plan : List PlanCh
         }
       where
         by : IsIn (call.Remove e) (call.Remove (entry_of is.0.0 is.2) ∷ []) → e ≡ entry_of is.0.0 is.2
-        by (inl same) = entries e (entry_of is.0.0 is.2) same
+        by (inl same) = same_removed e (entry_of is.0.0 is.2) same
         by (inr h) = elim h [ ]
 
   removed_from : (e : Entry Rid) (todo due done : List PlanChange) → plan ≡ done ++ (todo ++ due) → {layout : Layout Rid} {made : ℕ} {objects : Objects} → IsMoment old done layout made objects → Resolves start no_view no_ids layout → (calls : List (Call Rid)) → MakesChanges made layout todo calls → IsIn (call.Remove e) calls → IsOld e
@@ -99,7 +99,7 @@ module _ {order : PlanChange → ℕ} {old new : List Thing} {plan : List PlanCh
         | inr rest ↦
             let step = plan-step p first capacities room done (cs ++ due) at c cut run.0 run.3 in
             let r' = resolves-next at capacities c run.0 (layout_after made layout c) step start no_view no_ids (λ t is. (none-before start no_view no_ids p first done (cs ++ due) c cut at r t is, λ v u h same number. absurd h)) r in
-            removed_from e cs due (done ++ (c ∷ [])) (cut ∙ joined done c (cs ++ due)) step.next r' run.1 run.4 rest
+            removed_from e cs due (done ++ (c ∷ [])) (cut ∙ one_then_rest done c (cs ++ due)) step.next r' run.1 run.4 rest
       ]
 
   -- what the calls of the first changes remove is old, and has no name of a new thing

@@ -1,7 +1,7 @@
 -- what is in lists that are joined, and two cuts of one list
 use Rattle.std.proofs.Common.{◌≡◌, inl, inr, ◌⊎◌, Bool, true, false, ◌||◌, ◌++◌, List, [], ◌∷◌, map, refl, sym, ap, ap₂, ◌∙◌}
 use Rattle.std.specs.List.{list_any}
-use Rattle.std.proofs.lemmas.Bool.{false≢true}
+use Rattle.std.proofs.lemmas.Bool.{false≢true, or_right}
 use Rattle.sai_types.specs.Alike.{IsIn}
 
 pub in-left : {X : Type 0} (x : X) (xs ys : List X) → IsIn x xs → IsIn x (xs ++ ys)
@@ -27,10 +27,6 @@ pub map-in : {X Y : Type 0} (f : X → Y) (xs : List X) (y : Y) → IsIn y (map 
 map-in f [] y i = elim i [ ]
 map-in f (x ∷ xs) y (inl is) = (x, inl refl, is)
 map-in f (x ∷ xs) y (inr i) = let rest = map-in f xs y i in (rest.0, inr rest.1, rest.2)
-
-or_right : (b c : Bool) → c ≡ true → (b || c) ≡ true
-or_right true c h = refl
-or_right false c h = h
 
 -- one of a list passes a test
 pub in-any : {X : Type 0} (p : X → Bool) (xs : List X) (x : X) → IsIn x xs → p x ≡ true → list_any p xs ≡ true

@@ -9,7 +9,7 @@ use Rattle.sai_types.specs.Alike.{IsIn}
 use Rattle.sai_types.specs.Forwarding.{Decision, decide, forward, forwarding_of, mac_of}
 use Rattle.sai_types.specs.Forwarding as to
 use Rattle.sai_types.specs.Names as name
-use Rattle.sai_types.specs.Names.{Name, name_of}
+use Rattle.sai_types.specs.Names.{ThingName, name_of}
 use Rattle.chip_layout.proofs.Answering.{front}
 use Rattle.plan_laws.specs.Plans.{PlanChange, IsViewPlan, Remove, hitless_rank}
 use Rattle.plan_laws.specs.Steady.{ForwardsAfter, IsForwarding, IsHitless, IsOldOrNew, StaysNew}

@@ -6,7 +6,7 @@ use Rattle.sai_types.specs.declared.thing.Thing.{Thing}
 use Rattle.sai_types.specs.Alike.{IsIn}
 use Rattle.sai_types.specs.Forwarding.{decide}
 use Rattle.sai_types.specs.Names as name
-use Rattle.sai_types.specs.Names.{Name, name_of}
+use Rattle.sai_types.specs.Names.{ThingName, name_of}
 use Rattle.plan_laws.specs.Plans.{PlanChange, IsViewPlan, Make, Remove, Set, stands_after_all, hitless_rank, make_rank, outcome, remove_rank, set_rank}
 use Rattle.plan_laws.specs.Steady.{ForwardsAfter, IsForwarding}
 use Rattle.plan_laws.specs.Views.{HaveOwnNames}
@@ -14,45 +14,45 @@ use Rattle.plan_laws.proofs.Deciders.{Decides, IsGood, IsStrongest, NoneDecides,
 use Rattle.plan_laws.proofs.Following.{IsUntouched, before, done-in, done-stands, new-stands, old-new, old-stands, origin, outcome-named, outcome-new, still}
 use Rattle.plan_laws.proofs.Lists.{in-left}
 
-decides_forwarding : (a : Ip) (k : Name) → Decides a k → IsForwarding k
+decides_forwarding : (a : Ip) (k : ThingName) → Decides a k → IsForwarding k
 decides_forwarding a (name.Own ip) h = tt
 decides_forwarding a (name.Route p) h = tt
 decides_forwarding a _ h = elim h [ ]
 
-good_if : (k : Name) → (IsForwarding k → IsGood k) → IsGood k
+good_if : (k : ThingName) → (IsForwarding k → IsGood k) → IsGood k
 good_if (name.Route p) h = h tt
 good_if _ h = tt
 
 -- ---- of what decides an address the stronger is made first and removed last
 
-make_falls : (a : Ip) (k m : Name) → IsGood m → Decides a k → Decides a m → strength k < strength m → make_rank m < make_rank k
+make_falls : (a : Ip) (k m : ThingName) → IsGood m → Decides a k → Decides a m → strength k < strength m → make_rank m < make_rank k
 make_falls a (name.Route p) (name.Route q) good x y less = let most = strength-most (name.Route q) good in omega (arith, less, most)
 make_falls a (name.Route p) (name.Own ip) good x y less = omega (arith, less)
 make_falls a (name.Own ip) m good x y less = let most = strength-most m good in absurd (omega (arith, less, most))
 make_falls a (name.Route p) _ good x y less = elim y [ ]
 make_falls a _ _ good x y less = elim x [ ]
 
-remove_rises : (a : Ip) (k m : Name) → IsGood m → Decides a k → Decides a m → strength k < strength m → remove_rank k < remove_rank m
+remove_rises : (a : Ip) (k m : ThingName) → IsGood m → Decides a k → Decides a m → strength k < strength m → remove_rank k < remove_rank m
 remove_rises a (name.Route p) (name.Route q) good x y less = omega (arith, less)
 remove_rises a (name.Route p) (name.Own ip) good x y less = omega (arith, less)
 remove_rises a (name.Own ip) m good x y less = let most = strength-most m good in absurd (omega (arith, less, most))
 remove_rises a (name.Route p) _ good x y less = elim y [ ]
 remove_rises a _ _ good x y less = elim x [ ]
 
-route_set : (a : Ip) (k m : Name) → IsGood m → Decides a k → strength k < strength m → set_rank k ≡ 800
+route_set : (a : Ip) (k m : ThingName) → IsGood m → Decides a k → strength k < strength m → set_rank k ≡ 800
 route_set a (name.Route p) m good x less = refl
 route_set a (name.Own ip) m good x less = let most = strength-most m good in absurd (omega (arith, less, most))
 route_set a _ m good x less = elim x [ ]
 
-make_most : (k : Name) → make_rank k ≤ 728
+make_most : (k : ThingName) → make_rank k ≤ 728
 make_most (name.Route p) = omega arith
 make_most _ = omega arith
 
-pub set-most : (k : Name) → set_rank k ≤ 800
+pub set-most : (k : ThingName) → set_rank k ≤ 800
 set-most (name.Route p) = omega arith
 set-most _ = omega arith
 
-remove_least : (k : Name) → 1000 ≤ remove_rank k
+remove_least : (k : ThingName) → 1000 ≤ remove_rank k
 remove_least (name.Route p) = omega arith
 remove_least _ = omega arith
 
@@ -127,10 +127,10 @@ module _ (a : Ip) {old new : List Thing} (old_named : HaveOwnNames old) (new_nam
         ]
 
     -- and then nothing is still to be made or set
-    no_make : (k : Name) (v : Thing) → IsIn (Remove k) done → IsIn (Make v) due → ⊥
+    no_make : (k : ThingName) (v : Thing) → IsIn (Remove k) done → IsIn (Make v) due → ⊥
     no_make k v gone make = let order = (before is_plan done due cut (Remove k) (Make v) gone make).0 in let least = remove_least k in let most = make_most (name_of v) in absurd (omega (arith, order, least, most))
 
-    no_set : (k : Name) (v : Thing) → IsIn (Remove k) done → IsIn (Set v) due → ⊥
+    no_set : (k : ThingName) (v : Thing) → IsIn (Remove k) done → IsIn (Set v) due → ⊥
     no_set k v gone set = let order = (before is_plan done due cut (Remove k) (Set v) gone set).0 in let least = remove_least k in let most = set-most (name_of v) in absurd (omega (arith, order, least, most))
 
     late_change : (t v : Thing) (c : PlanChange) → outcome c ≡ Some t → IsIn v new → Decides a (name_of t) → Decides a (name_of v) → strength (name_of t) < strength (name_of v) → make_rank (name_of v) < hitless_rank c

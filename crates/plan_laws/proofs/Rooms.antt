@@ -8,7 +8,7 @@ use Rattle.sai_types.specs.declared.kind.Kind.{Kind}
 use Rattle.sai_types.specs.declared.thing.Thing.{Thing}
 use Rattle.sai_types.specs.Alike.{IsIn}
 use Rattle.sai_types.specs.Named.{those}
-use Rattle.sai_types.specs.Names.{Name, name_kind, name_of}
+use Rattle.sai_types.specs.Names.{ThingName, name_kind, name_of}
 use Rattle.sai_types.specs.Objects.{Objects, level, used}
 use Rattle.sai_types.specs.Refusal.{capacity_of}
 use Rattle.chip_layout.specs.Counted.{IsOfKind}
@@ -21,7 +21,7 @@ use Rattle.plan_laws.proofs.Following.{done-in, ranked-left, origin}
 use Rattle.plan_laws.proofs.Lists.{in-left, in-right}
 use Rattle.plan_laws.proofs.Picked.{in-picked, picked-distinct, picked-in, picked-length}
 
-by_kind : (b : Bool) (k m : Name) → cond b (Some k) None ≡ Some m → (b ≡ true) × (k ≡ m)
+by_kind : (b : Bool) (k m : ThingName) → cond b (Some k) None ≡ Some m → (b ≡ true) × (k ≡ m)
 by_kind true k m e = (refl, same_Some k m e)
 by_kind false k m e = absurd cc
 
@@ -29,12 +29,12 @@ of_kind : (kind : Kind) (t : Thing) → level (name_kind (name_of t)) ≡ level 
 of_kind kind t of = ap (λ b. cond b (Some (name_of t)) None) (eq-eqb _ _ of)
 
 -- a name that changes make is that of a thing that they make
-is_made : (kind : Kind) (c : PlanChange) (k : Name) → made_name kind c ≡ Some k → (t : Thing) × (c ≡ Make t) × (name_of t ≡ k) × (level (name_kind k) ≡ level kind)
+is_made : (kind : Kind) (c : PlanChange) (k : ThingName) → made_name kind c ≡ Some k → (t : Thing) × (c ≡ Make t) × (name_of t ≡ k) × (level (name_kind k) ≡ level kind)
 is_made kind (Make t) k e = let x = by_kind (level (name_kind (name_of t)) == level kind) (name_of t) k e in (t, refl, x.1, ap (λ z. level (name_kind z)) (sym x.1) ∙ eqb-true _ _ x.0)
 is_made kind (Set t) k e = absurd cc
 is_made kind (Remove m) k e = absurd cc
 
-made_subject : (kind : Kind) (c : PlanChange) (k : Name) → made_name kind c ≡ Some k → subject c ≡ k
+made_subject : (kind : Kind) (c : PlanChange) (k : ThingName) → made_name kind c ≡ Some k → subject c ≡ k
 made_subject kind c k e = let x = is_made kind c k e in ap subject x.1 ∙ x.2
 
 -- there is room for the next change of a plan that there was room for
@@ -42,11 +42,11 @@ module _ {order : PlanChange → ℕ} {old new : List Thing} {plan : List PlanCh
   abbrev its_kind : Kind
   its_kind = name_kind (name_of t)
 
-  module _ (names : List Name) (all : (k : Name) → IsOfKind start its_kind k → IsIn k names) where
-    of_old : (u : Thing) (k : Name) → IsIn u old → name_of u ≡ k → level (name_kind k) ≡ level its_kind → IsIn k (names ++ made_names its_kind done)
+  module _ (names : List ThingName) (all : (k : ThingName) → IsOfKind start its_kind k → IsIn k names) where
+    of_old : (u : Thing) (k : ThingName) → IsIn u old → name_of u ≡ k → level (name_kind k) ≡ level its_kind → IsIn k (names ++ made_names its_kind done)
     of_old u k i same of = let j = first.all u i in in-left k names (made_names its_kind done) (all k (of, j.0, (u, j.1, same)))
 
-    of_change : (c : PlanChange) (u : Thing) (k : Name) → IsIn c done → outcome c ≡ Some u → name_of u ≡ k → level (name_kind k) ≡ level its_kind → IsIn k (names ++ made_names its_kind done)
+    of_change : (c : PlanChange) (u : Thing) (k : ThingName) → IsIn c done → outcome c ≡ Some u → name_of u ≡ k → level (name_kind k) ≡ level its_kind → IsIn k (names ++ made_names its_kind done)
     of_change (Make v) u k i o same of =
         let is : v ≡ u = cc in
         in-right k names (made_names its_kind done) (subst (λ m. IsIn m (made_names its_kind done)) (ap name_of is ∙ same) (picked-in (made_name its_kind) done (Make v) (name_of v) i (of_kind its_kind v (ap (λ m. level (name_kind m)) (ap name_of is ∙ same) ∙ of))))
@@ -56,7 +56,7 @@ module _ {order : PlanChange → ℕ} {old new : List Thing} {plan : List PlanCh
         of_old has.1 k has.2 (has.3 ∙ ap name_of is ∙ same) of
     of_change (Remove m) u k i o same of = absurd cc
 
-    among : (k : Name) → IsOfKind layout its_kind k → IsIn k (names ++ made_names its_kind done)
+    among : (k : ThingName) → IsOfKind layout its_kind k → IsIn k (names ++ made_names its_kind done)
     among k of =
         elim (origin done (λ v. IsIn v old) of.2.0 (at.sound of.1 of.2.0 of.2.1)) [
           | inl there ↦ of_old of.2.0 k there.0 of.2.2 of.0

@@ -13,7 +13,7 @@ use Rattle.sai_types.specs.After.{after_calls}
 use Rattle.sai_types.specs.Alike.{IsIn}
 use Rattle.sai_types.specs.Made.{made_after_all}
 use Rattle.sai_types.specs.Names as name
-use Rattle.sai_types.specs.Names.{Name, name_of}
+use Rattle.sai_types.specs.Names.{ThingName, name_of}
 use Rattle.sai_types.specs.Objects.{Objects}
 use Rattle.chip_layout.specs.Layout.{Layout}
 use Rattle.plan_laws.specs.Applied.{AppliesCold, IsListedChip, chip_things}

@@ -8,7 +8,7 @@ use Rattle.sai_types.specs.declared.thing.Thing.{Thing}
 use Rattle.sai_types.specs.After.{after_call, after_calls, entry_of}
 use Rattle.sai_types.specs.Alike.{IsAlike, IsIn}
 use Rattle.sai_types.specs.Made.{AreLegal, made_after, made_after_all}
-use Rattle.sai_types.specs.Names.{Name, name_of}
+use Rattle.sai_types.specs.Names.{ThingName, name_of}
 use Rattle.sai_types.specs.Objects.{Objects}
 use Rattle.chip_layout.specs.Layout.{Has, IsUnused, Layout, next_id, with_changed, with_thing, without}
 use Rattle.chip_layout.proofs.Naming.{alike-laid}
@@ -33,8 +33,8 @@ pub after-append : (made : ℕ) (objects : Objects) (xs ys : List (Call Rid)) �
 after-append made objects [] ys = refl
 after-append made objects (x ∷ xs) ys = after-append (made_after made x) (after_call (made + 1) objects x) xs ys
 
-pub joined : (xs : List PlanChange) (y : PlanChange) (ys : List PlanChange) → xs ++ (y ∷ ys) ≡ (xs ++ (y ∷ [])) ++ ys
-joined xs y ys = sym (append_assoc xs (y ∷ []) ys)
+pub one_then_rest : (xs : List PlanChange) (y : PlanChange) (ys : List PlanChange) → xs ++ (y ∷ ys) ≡ (xs ++ (y ∷ [])) ++ ys
+one_then_rest xs y ys = sym (append_assoc xs (y ∷ []) ys)
 
 -- the calls before some of one call
 one_cut : (xs m : List (Call Rid)) (x : Call Rid) → xs ++ m ≡ x ∷ [] → (xs ≡ []) ⊎ ((xs ≡ x ∷ []) × (m ≡ []))
@@ -76,7 +76,7 @@ pub record IsBreak (old : List Thing) (done todo : List PlanChange) (made : ℕ)
 
 module _ {order : PlanChange → ℕ} {old new : List Thing} {plan : List PlanChange} (p : IsSafePlan order old new plan) where
   module _ (done due : List PlanChange) {layout : Layout Rid} {made : ℕ} {objects : Objects} (at : IsMoment old done layout made objects) where
-    has_named : (k : Name) → HasNamed (stands_after_all done (λ u. IsIn u old)) k → (i : Rid) × Has layout k i
+    has_named : (k : ThingName) → HasNamed (stands_after_all done (λ u. IsIn u old)) k → (i : Rid) × Has layout k i
     has_named k h = let i = at.all h.0 h.1 in (i.0, (h.0, i.1, h.2))
 
     -- each change may be made when its turn has come
@@ -103,7 +103,7 @@ module _ {order : PlanChange → ℕ} {old new : List Thing} {plan : List PlanCh
     run_from (c ∷ cs) due done cut {layout} {made} {objects} at calls run =
         let step = plan-step done (cs ++ due) at c cut run.0 run.3 in
         subst (IsEnd capacities old (done ++ (c ∷ cs)) made objects) (sym run.2)
-        (end-append capacities old _ _ made objects run.0 run.1 (sym (joined done c cs)) step.legal (run_from cs due (done ++ (c ∷ [])) (cut ∙ joined done c (cs ++ due)) step.next run.1 run.4))
+        (end-append capacities old _ _ made objects run.0 run.1 (sym (one_then_rest done c cs)) step.legal (run_from cs due (done ++ (c ∷ [])) (cut ∙ one_then_rest done c (cs ++ due)) step.next run.1 run.4))
 
     -- the calls of the first changes are legal, and lead to a moment
     pub run-end : (todo due : List PlanChange) → plan ≡ todo ++ due → (calls : List (Call Rid)) → MakesChanges made' start todo calls → IsEnd capacities old todo made' objects' calls
@@ -189,7 +189,7 @@ module _ {order : PlanChange → ℕ} {old new : List Thing} {plan : List PlanCh
       -- behind them
       cut_behind : (xs ms ys : List (Call Rid)) → xs ≡ front ++ ms → IsBreak old (done ++ (c ∷ [])) cs (made_after_all made front) (after_calls made objects front) ms ys → IsBreak old done (c ∷ cs) made objects xs ys
       cut_behind xs ms ys e r =
-          let changes = sym (joined done c r.more) in
+          let changes = sym (one_then_rest done c r.more) in
           let calls = sym (after-append made objects front ms) ∙ ap (after_calls made objects) (sym e) in
           let count = sym (made-append made front r.before) in record {
             more = c ∷ r.more;
@@ -212,7 +212,7 @@ module _ {order : PlanChange → ℕ} {old new : List Thing} {plan : List PlanCh
     cut_from (c ∷ cs) due done cut at calls xs ys run part =
         elim (cuts run.0 run.1 xs ys (sym run.2 ∙ part)) [
           | inl m ↦ cut_within c cs due done cut at run.0 run.1 run.3 run.4 xs m.0 ys m.1 m.2
-          | inr m ↦ cut_behind c cs due done cut at run.0 run.1 run.3 run.4 xs m.0 ys m.1 (cut_from cs due (done ++ (c ∷ [])) (cut ∙ joined done c (cs ++ due)) (step c cs due done cut at run.0 run.1 run.3 run.4).next run.1 m.0 ys run.4 m.2)
+          | inr m ↦ cut_behind c cs due done cut at run.0 run.1 run.3 run.4 xs m.0 ys m.1 (cut_from cs due (done ++ (c ∷ [])) (cut ∙ one_then_rest done c (cs ++ due)) (step c cs due done cut at run.0 run.1 run.3 run.4).next run.1 m.0 ys run.4 m.2)
         ]
 
     pub run-cut : (todo due : List PlanChange) → plan ≡ todo ++ due → (calls xs ys : List (Call Rid)) → MakesChanges made' start todo calls → calls ≡ xs ++ ys → IsBreak old [] todo made' objects' xs ys

@@ -18,7 +18,7 @@ use Rattle.sai_types.specs.Named.{hop_cmp, hops_at, named, thing_of, those}
 use Rattle.sai_types.specs.Objects.{Objects}
 use Rattle.chip_layout.specs.Layout.{Has, IsLaidOut, Layout}
 use Rattle.sai_types.specs.Names as name
-use Rattle.sai_types.specs.Names.{Name, name_of}
+use Rattle.sai_types.specs.Names.{ThingName, name_of}
 use Rattle.chip_layout.proofs.Answering.{in_those, thing_in, those_in}
 use Rattle.chip_layout.proofs.Naming.{among, hop_named, next_hop_named, rif_by}
 use Rattle.plan_laws.specs.Steady.{IsForwarding}

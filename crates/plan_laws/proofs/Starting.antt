@@ -49,9 +49,9 @@ rising_member true o p hs up h =
     subst (IsStrictlySortedBy hop_cmp) m.4 (rising-insert hop_cmp hop_total hop_exact m.0 m.1 (up m.0 m.2))
 rising_member false o p hs up h = up hs h
 
-none_rising : (hs : List Hop) → Some [] ≡ Some hs → IsStrictlySortedBy hop_cmp hs
+no_hops_rising : (hs : List Hop) → Some [] ≡ Some hs → IsStrictlySortedBy hop_cmp hs
 unfolding IsStrictlySortedBy
-none_rising hs h = let is : [] ≡ hs = cc in subst (IsStrictlySortedBy hop_cmp) is tt
+no_hops_rising hs h = let is : [] ≡ hs = cc in subst (IsStrictlySortedBy hop_cmp) is tt
 
 member_rising : (objects : Objects) (g : Rid) (b : Body Rid) (others : Option (List Hop)) (hs : List Hop) → ((xs : List Hop) → others ≡ Some xs → IsStrictlySortedBy hop_cmp xs) → with_member objects g b others ≡ Some hs → IsStrictlySortedBy hop_cmp hs
 member_rising objects g (body.GroupMember group next) others hs up h = rising_member (same_id group g) others (next_hop_at objects next) hs up h
@@ -59,11 +59,11 @@ member_rising objects g (body.Port l s m u) others hs up h = up hs h
 member_rising objects g _ others hs up h = up hs h
 
 among_rising : (objects : Objects) (g : Rid) (os : Objects) (hs : List Hop) → hops_among objects g os ≡ Some hs → IsStrictlySortedBy hop_cmp hs
-among_rising objects g [] hs h = none_rising hs h
+among_rising objects g [] hs h = no_hops_rising hs h
 among_rising objects g (o ∷ os) hs h = member_rising objects g o.1 (hops_among objects g os) hs (among_rising objects g os) h
 
 rising_or_none : (objects : Objects) (g : Rid) (o : Option (List Hop)) → hops_at objects g ≡ o → IsStrictlySortedBy hop_cmp (hops_or_none o)
-rising_or_none objects g None e = none_rising [] refl
+rising_or_none objects g None e = no_hops_rising [] refl
 rising_or_none objects g (Some hs) e = among_rising objects g objects hs e
 
 pub hops-rise : (objects : Objects) (g : Rid) → IsStrictlySortedBy hop_cmp (shown_hops objects g)

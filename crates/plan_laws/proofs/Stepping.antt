@@ -13,7 +13,7 @@ use Rattle.sai_types.specs.After.{after_call, after_calls, entry_of}
 use Rattle.sai_types.specs.Alike.{IsIn}
 use Rattle.sai_types.specs.Made.{AreLegal, IsWhole, made_after_all}
 use Rattle.sai_types.specs.Names as name
-use Rattle.sai_types.specs.Names.{Name, name_of}
+use Rattle.sai_types.specs.Names.{ThingName, name_of}
 use Rattle.sai_types.specs.Objects.{Objects}
 use Rattle.sai_types.proofs.Whole.{whole-after_call, whole-after_calls}
 use Rattle.chip_layout.specs.Bodies.{IsBody, IsChange}
@@ -80,7 +80,7 @@ sets_named i place (c ∷ cs) layout objects u t laid there is capacities made =
 
 -- ---- how many sets
 
-abbrev pub IsPortName : Name → Type 0
+abbrev pub IsPortName : ThingName → Type 0
 IsPortName (name.Port lane) = Unit {0}
 IsPortName _ = ⊥
 
@@ -89,7 +89,7 @@ is-port (thing.Port p) h = (p, refl)
 is-port _ h = elim h [ ]
 
 -- the one attribute of a thing that is no port has the first place
-pub first-place : {I : Type 0} (at : Name → I → Type 0) (u : Thing) (a : Attr I) (v : Thing) → IsChange at u a v → IsPortName (name_of u) ⊎ ((attr_place a ≡ 0) × (IsPortName (name_of v) → ⊥))
+pub first-place : {I : Type 0} (at : ThingName → I → Type 0) (u : Thing) (a : Attr I) (v : Thing) → IsChange at u a v → IsPortName (name_of u) ⊎ ((attr_place a ≡ 0) × (IsPortName (name_of v) → ⊥))
 first-place at (thing.Port p) a v h = inl tt
 first-place at (thing.VlanMember vlan lane tagging) (attr.Tagging x) v h = inr (refl, subst IsPortName (ap name_of h))
 first-place at (thing.Neighbor hop mac) (attr.Mac m) v h = inr (refl, subst IsPortName (ap name_of h))
@@ -125,10 +125,10 @@ module _ {old : List Thing} {done : List PlanChange} {layout : Layout Rid} {made
   pub record IsChangeMade (c : PlanChange) (calls : List (Call Rid)) (later : Layout Rid) : Type 0 where
     pub legal : AreLegal capacities made objects calls
     pub next : IsMoment old (done ++ (c ∷ [])) later (made_after_all made calls) (after_calls made objects calls)
-    pub keeps : (k : Name) (j : Rid) → Has layout k j → (i : Rid) → Has later k i → Has later k j
-    pub fresh : (k : Name) (i : Rid) → Has later k i → ((j : Rid) × Has layout k j) ⊎ ((t : Thing) × (c ≡ Make t) × (name_of t ≡ k) × Has later k (next_id made))
+    pub keeps : (k : ThingName) (j : Rid) → Has layout k j → (i : Rid) → Has later k i → Has later k j
+    pub fresh : (k : ThingName) (i : Rid) → Has later k i → ((j : Rid) × Has layout k j) ⊎ ((t : Thing) × (c ≡ Make t) × (name_of t ≡ k) × Has later k (next_id made))
 
-  has_within : (x y : Layout Rid) → IsWithin x y → (k : Name) (j : Rid) → Has x k j → Has y k j
+  has_within : (x y : Layout Rid) → IsWithin x y → (k : ThingName) (j : Rid) → Has x k j → Has y k j
   has_within x y to k j h = (h.0, to j h.0 h.1, h.2)
 
   pub done-same : (c : PlanChange) (calls : List (Call Rid)) (later other : Layout Rid) → IsWithin later other → IsWithin other later → IsChangeMade c calls later → IsChangeMade c calls other

@@ -1,9 +1,9 @@
 -- tags of groups: no two groups have one, and each is for the hops of its group
-use Rattle.std.proofs.Common.{◌≡◌, inl, inr, ◌⊎◌, ℕ, zero, suc, ◌+◌, ◌-◌, Bool, true, false, cond, ◌&&◌, not, nat_lt, List, [], ◌∷◌, length, map, Some, refl, sym, ap, ◌∙◌, subst, arith}
+use Rattle.std.proofs.Common.{◌≡◌, inl, inr, ◌⊎◌, ℕ, zero, suc, ◌+◌, ◌-◌, Bool, true, false, cond, ◌&&◌, nat_lt, List, [], ◌∷◌, length, map, Some, refl, sym, ap, ◌∙◌, subst, arith}
 use Rattle.std.specs.List.{list_any}
 use Rattle.std.specs.List.Sorted.{IsStrictlySortedBy}
 use Rattle.std.specs.declared.cmp.Ordering.TheVariants.{Less}
-use Rattle.std.proofs.lemmas.Bool.{and_parts, false≢true}
+use Rattle.std.proofs.lemmas.Bool.{and_parts, false≢true, not-true}
 use Rattle.std.proofs.lemmas.Bool.Decides.{nat_tests}
 use Rattle.sai_types.specs.declared.ids.Rid.{Rid}
 use Rattle.sai_types.specs.declared.body.Body.TheVariants as body
@@ -20,7 +20,7 @@ use Rattle.sai_types.proofs.Listed.{in-found}
 use Rattle.chip_layout.proofs.Answering.{in_those}
 use Rattle.plan_laws.specs.Old.{filler, chip_group, group_stays, chip_groups, is_double, is_group_of, no_hop, same_hops, shown_hops, tag_for}
 use Rattle.plan_laws.proofs.Lists.{any-in, in-any, in-map}
-use Rattle.plan_laws.proofs.Named.{hops_exact, hops_refl}
+use Rattle.plan_laws.proofs.Named.{same_hops_exact, hops_refl}
 
 -- ---- fillers
 
@@ -48,7 +48,7 @@ abbrev pub hops_for : (Rid → List Hop) → List Hop → List Hop
 hops_for hops tag = cond (same_hops (filler (length tag - 2)) tag) (hops (group_id (length tag - 2))) tag
 
 hops_by : (b : Bool) (hops tag : List Hop) (n : ℕ) → same_hops (filler n) tag ≡ b → IsStrictlySortedBy hop_cmp tag → cond b hops tag ≡ tag
-hops_by true hops tag n e up = absurd (filler_falls n (subst (IsStrictlySortedBy hop_cmp) (sym (hops_exact (filler n) tag e)) up))
+hops_by true hops tag n e up = absurd (filler_falls n (subst (IsStrictlySortedBy hop_cmp) (sym (same_hops_exact (filler n) tag e)) up))
 hops_by false hops tag n e up = refl
 
 -- hops that rise are for themselves
@@ -88,10 +88,6 @@ all-groups objects g found =
     let o = in-found objects (entry.Oid g) body.Group found in
     in_those g (map chip_group objects) (in-map chip_group objects (entry.Oid g, body.Group) (subst (λ e. IsIn (e, body.Group) objects) (sym (entry-exact (entry.Oid g) o.0 o.1)) o.2))
 
-not_false : (b : Bool) → not b ≡ true → b ≡ false
-not_false true h = absurd (false≢true h)
-not_false false h = refl
-
 lesser_or : (m n : ℕ) → (nat_lt m n ≡ true) ⊎ ((nat_lt n m ≡ true) ⊎ (m ≡ n))
 lesser_or m n = grind (arith, nat_tests)
 
@@ -106,7 +102,7 @@ module _ (objects : Objects) (new : List Thing) where
       let parts = and_parts (list_any (same_id g) (chip_groups objects)) _ h in
       let rest = and_parts (list_any (is_group_of (shown_hops objects g)) new) _ parts.1 in
       let x = any-in (same_id g) (chip_groups objects) parts.0 in
-      record { there = subst (λ z. IsIn z (chip_groups objects)) (sym (id-exact g x.0 x.2)) x.1; wanted = rest.0; least = not_false _ rest.1 }
+      record { there = subst (λ z. IsIn z (chip_groups objects)) (sym (id-exact g x.0 x.2)) x.1; wanted = rest.0; least = not-true _ rest.1 }
 
   not_less : (g h : Rid) → IsStaying g → IsStaying h → shown_hops objects g ≡ shown_hops objects h → nat_lt g.0 h.0 ≡ true → ⊥
   not_less g h x y same less =

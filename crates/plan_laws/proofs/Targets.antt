@@ -10,7 +10,7 @@ use Rattle.sai_types.specs.declared.thing.Thing.TheVariants as thing
 use Rattle.sai_types.specs.Alike.{IsIn}
 use Rattle.sai_types.specs.Named.{hop_cmp}
 use Rattle.sai_types.specs.Names as name
-use Rattle.sai_types.specs.Names.{Name, name_of}
+use Rattle.sai_types.specs.Names.{ThingName, name_of}
 use Rattle.plan_laws.specs.Plans.{PlanChange, Make, Remove, Set, stands_after_all, hitless_rank, make_rank, outcome, set_rank}
 use Rattle.plan_laws.specs.Views.{HaveWholeGroups}
 use Rattle.plan_laws.proofs.Allowed.{IsSafePlan}

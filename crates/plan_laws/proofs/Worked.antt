@@ -138,17 +138,17 @@ wide_stays : map (after 700) (0 ∷ 1 ∷ 2 ∷ 3 ∷ 4 ∷ 5 ∷ 6 ∷ 7 ∷ []
 wide_stays = refl
 
 -- in the end the new view stands
-ends : chip_things (after_calls 8 objects calls) ≡ thing.Vlan 10 ∷ thing.Rif (base.Vlan 10) ∷ thing.NextHop (hop 1) ∷ thing.NextHop (hop 2) ∷ thing.NextHop (hop 3) ∷ thing.Group new_group ∷ thing.GroupMember new_group (hop 2) ∷ thing.GroupMember new_group (hop 3) ∷ thing.Neighbor (hop 1) (mac 1) ∷ thing.Neighbor (hop 2) (mac 2) ∷ thing.Neighbor (hop 3) (mac 3) ∷ thing.Route wide (goal.Via (hop 1)) ∷ thing.Route narrow (goal.Group new_group) ∷ []
-ends = refl
+worked_plan_ends : chip_things (after_calls 8 objects calls) ≡ thing.Vlan 10 ∷ thing.Rif (base.Vlan 10) ∷ thing.NextHop (hop 1) ∷ thing.NextHop (hop 2) ∷ thing.NextHop (hop 3) ∷ thing.Group new_group ∷ thing.GroupMember new_group (hop 2) ∷ thing.GroupMember new_group (hop 3) ∷ thing.Neighbor (hop 1) (mac 1) ∷ thing.Neighbor (hop 2) (mac 2) ∷ thing.Neighbor (hop 3) (mac 3) ∷ thing.Route wide (goal.Via (hop 1)) ∷ thing.Route narrow (goal.Group new_group) ∷ []
+worked_plan_ends = refl
 
 -- ---- the premises can be met: a route comes to an empty chip
 
 abbrev route : Thing
 route = thing.Route wide goal.Drop
 
-only : (t : Thing) → IsIn t (route ∷ []) → t ≡ route
-only t (inl e) = e
-only t (inr h) = elim h [ ]
+only_the_route : (t : Thing) → IsIn t (route ∷ []) → t ≡ route
+only_the_route t (inl e) = e
+only_the_route t (inr h) = elim h [ ]
 
 made_only : (c : PlanChange) → IsIn c (Make route ∷ []) → c ≡ Make route
 made_only c (inl e) = e
@@ -170,16 +170,16 @@ comes = record {
   planned = record {
     chip = record { whole = whole-empty; lanes = record { each = λ e b h. absurd cc }; prefixes = record { each = λ e b h. absurd cc } };
     view = record {
-      named = record { one = λ t u i j e. only t i ∙ sym (only u j); proper = λ p g i. subst IsProperPrefix (same_prefix p g (only _ i)) proper_wide };
-      within = record { refers = λ t k i r. elim (subst (λ z. Refers z k) (only t i) r) [ ] };
-      grouped = record { rising = λ hops i. let e = only _ i in absurd cc; have = λ hops hop i h. let e = only _ i in absurd cc; only = λ hops hop i. let e = only _ i in absurd cc };
+      named = record { one = λ t u i j e. only_the_route t i ∙ sym (only_the_route u j); proper = λ p g i. subst IsProperPrefix (same_prefix p g (only_the_route _ i)) proper_wide };
+      within = record { refers = λ t k i r. elim (subst (λ z. Refers z k) (only_the_route t i) r) [ ] };
+      grouped = record { rising = λ hops i. let e = only_the_route _ i in absurd cc; have = λ hops hop i h. let e = only_the_route _ i in absurd cc; only = λ hops hop i. let e = only_the_route _ i in absurd cc };
     };
-    lanes = record { apart = λ t u i j l. absurd (subst (λ z. ShareLane z u) (only t i) l) };
+    lanes = record { apart = λ t u i j l. absurd (subst (λ z. ShareLane z u) (only_the_route t i) l) };
     is_plan = record {
       makes = λ t i. let e = made_only (Make t) i in let is : t ≡ route = cc in (inl is, λ u j same. j);
       sets = λ t i. let e = made_only (Set t) i in absurd cc;
       removes = λ k i. let e = made_only (Remove k) i in absurd cc;
-      whole = λ t i. inr (inl (inl (ap Make (only t i))));
+      whole = λ t i. inr (inl (inl (ap Make (only_the_route t i))));
       gone = λ u i. elim i [ ];
       in_order = (λ d i. elim i [ ], tt);
     };

@@ -14,7 +14,7 @@ use Rattle.sai_types.specs.declared.thing.Thing.{Thing}
 use Rattle.sai_types.specs.After.{entry_of}
 use Rattle.sai_types.specs.Alike.{IsIn}
 use Rattle.sai_types.specs.Made.{made_after_all}
-use Rattle.sai_types.specs.Names.{Name, name_of}
+use Rattle.sai_types.specs.Names.{ThingName, name_of}
 use Rattle.chip_layout.specs.Bodies.{IsBody, IsChange}
 use Rattle.chip_layout.specs.Layout.{Has, Layout, has_number, next_id}
 use Rattle.chip_layout.specs.Renamed.{call_renamed}
@@ -37,7 +37,7 @@ resolve ids (plan_id.New v) = ids v
 
 -- what stands has the identifier that it had at the start, and what was made the one that was made for it
 pub record Resolves (start : Layout Rid) (view : Layout Vid) (ids : Vid → Rid) (now : Layout Rid) : Type 0 where
-  pub old : (k : Name) (i : Rid) → Has start k i → (j : Rid) → Has now k j → Has now k i
+  pub old : (k : ThingName) (i : Rid) → Has start k i → (j : Rid) → Has now k j → Has now k i
   pub new : (v : Vid) (t : Thing) → view v t → has_number t ≡ true → ((i : Rid) → Has start (name_of t) i → ⊥) → (j : Rid) → Has now (name_of t) j → Has now (name_of t) (ids v)
 
 -- the entry of an old object, as a plan names it

@@ -2,17 +2,17 @@
 use Rattle.std.specs.Prelude.{◌≡◌, ◌⊎◌, ℕ, ◌+◌, ◌-◌, ◌≤◌, List, [], ◌∷◌, Option, Some, None}
 use Rattle.sai_types.specs.declared.thing.Thing.{Thing}
 use Rattle.sai_types.specs.Alike.{IsIn}
-use Rattle.sai_types.specs.Names.{Name, Route, name_kind, name_of}
+use Rattle.sai_types.specs.Names.{ThingName, Route, name_kind, name_of}
 use Rattle.sai_types.specs.Objects.{level}
 
 -- a new thing is made, or takes the place of the old one of its name, or what has this name is removed
 pub data PlanChange : Type 0 where
   Make : Thing → PlanChange
   Set : Thing → PlanChange
-  Remove : Name → PlanChange
+  Remove : ThingName → PlanChange
 
 -- the name that a change is about
-abbrev pub subject : PlanChange → Name
+abbrev pub subject : PlanChange → ThingName
 subject (Make t) = name_of t
 subject (Set t) = name_of t
 subject (Remove k) = k
@@ -41,22 +41,22 @@ AreRanked rank (c ∷ cs) = ((d : PlanChange) → IsIn d cs → (rank c ≤ rank
 pub record IsViewPlan (rank : PlanChange → ℕ) (old new : List Thing) (plan : List PlanChange) : Type 0 where
   pub makes : (t : Thing) → IsIn (Make t) plan → IsIn t new × ((u : Thing) → IsIn u old → name_of u ≡ name_of t → ⊥)
   pub sets : (t : Thing) → IsIn (Set t) plan → IsIn t new × (u : Thing) × IsIn u old × (name_of u ≡ name_of t)
-  pub removes : (k : Name) → IsIn (Remove k) plan → (u : Thing) × IsIn u old × (name_of u ≡ k) × ((t : Thing) → IsIn t new → name_of t ≡ k → ⊥)
+  pub removes : (k : ThingName) → IsIn (Remove k) plan → (u : Thing) × IsIn u old × (name_of u ≡ k) × ((t : Thing) → IsIn t new → name_of t ≡ k → ⊥)
   pub whole : (t : Thing) → IsIn t new → IsIn t old ⊎ (IsIn (Make t) plan ⊎ IsIn (Set t) plan)
   pub gone : (u : Thing) → IsIn u old → ((t : Thing) × IsIn t new × (name_of t ≡ name_of u)) ⊎ IsIn (Remove (name_of u)) plan
   pub in_order : AreRanked rank plan
 
 -- ---- the two orders
 
-abbrev pub make_rank : Name → ℕ
+abbrev pub make_rank : ThingName → ℕ
 make_rank (Route p) = 728 - p.len
 make_rank k = level (name_kind k)
 
-abbrev pub set_rank : Name → ℕ
+abbrev pub set_rank : ThingName → ℕ
 set_rank (Route p) = 800
 set_rank k = 400 + level (name_kind k)
 
-abbrev pub remove_rank : Name → ℕ
+abbrev pub remove_rank : ThingName → ℕ
 remove_rank (Route p) = 1000 + p.len
 remove_rank k = 1400 - level (name_kind k)
 

@@ -5,11 +5,11 @@ use Rattle.sai_types.specs.declared.thing.Thing.{Thing}
 use Rattle.sai_types.specs.Alike.{IsIn}
 use Rattle.sai_types.specs.Forwarding.{decide, forward}
 use Rattle.sai_types.specs.Names as name
-use Rattle.sai_types.specs.Names.{Name, name_of}
+use Rattle.sai_types.specs.Names.{ThingName, name_of}
 use Rattle.plan_laws.specs.Plans.{PlanChange, stands_after_all}
 
 -- the names by which packets go
-abbrev pub IsForwarding : Name → Type 0
+abbrev pub IsForwarding : ThingName → Type 0
 IsForwarding (name.Own ip) = Unit {0}
 IsForwarding (name.Neighbor hop) = Unit {0}
 IsForwarding (name.Route prefix) = Unit {0}

@@ -10,7 +10,7 @@ use Rattle.sai_types.specs.declared.thing.Thing.{Thing}
 use Rattle.sai_types.specs.declared.thing.Thing.TheVariants as thing
 use Rattle.sai_types.specs.Alike.{IsIn}
 use Rattle.sai_types.specs.Named.{hop_cmp, those}
-use Rattle.sai_types.specs.Names.{Name, Refers, ShareLane, name_kind, name_of}
+use Rattle.sai_types.specs.Names.{ThingName, Refers, ShareLane, name_kind, name_of}
 use Rattle.sai_types.specs.Objects.{Objects, level, used}
 use Rattle.sai_types.specs.Refusal.{capacity_of}
 use Rattle.chip_layout.specs.Counted.{AreDistinct}
@@ -23,7 +23,7 @@ pub record HaveOwnNames (things : List Thing) : Type 0 where
 
 -- what a thing of the view refers to is one of the view
 pub record ReferWithin (things : List Thing) : Type 0 where
-  pub refers : (t : Thing) (k : Name) → IsIn t things → Refers t k → (u : Thing) × IsIn u things × (name_of u ≡ k)
+  pub refers : (t : Thing) (k : ThingName) → IsIn t things → Refers t k → (u : Thing) × IsIn u things × (name_of u ≡ k)
 
 -- a new port and another have one name where they have a lane in common
 pub record LanesApart (old new : List Thing) : Type 0 where
@@ -38,12 +38,12 @@ pub record HaveWholeGroups (things : List Thing) : Type 0 where
 -- ---- room
 
 -- the name of a kind that a change makes
-abbrev pub made_name : Kind → PlanChange → Option Name
+abbrev pub made_name : Kind → PlanChange → Option ThingName
 made_name kind (Make t) = if level (name_kind (name_of t)) == level kind then Some (name_of t) else None
 made_name kind _ = None
 
 -- the names of a kind that changes make
-abbrev pub made_names : Kind → List PlanChange → List Name
+abbrev pub made_names : Kind → List PlanChange → List ThingName
 made_names kind cs = those (map (made_name kind) cs)
 
 -- there is room for the old objects of each kind and all that the plan makes
@@ -51,10 +51,10 @@ abbrev pub HasRoomForPlan : List ℕ → Objects → List PlanChange → Type 0
 HasRoomForPlan capacities objects plan = (kind : Kind) → used objects kind + length (made_names kind plan) ≤ capacity_of capacities kind
 
 -- names of new things of a kind that no old thing has, each once
-pub record AreLacking (old new : List Thing) (kind : Kind) (names : List Name) : Type 0 where
+pub record AreLacking (old new : List Thing) (kind : Kind) (names : List ThingName) : Type 0 where
   pub distinct : AreDistinct names
-  pub each : (k : Name) → IsIn k names → (level (name_kind k) ≡ level kind) × (t : Thing) × IsIn t new × (name_of t ≡ k) × ((u : Thing) → IsIn u old → name_of u ≡ k → ⊥)
+  pub each : (k : ThingName) → IsIn k names → (level (name_kind k) ≡ level kind) × (t : Thing) × IsIn t new × (name_of t ≡ k) × ((u : Thing) → IsIn u old → name_of u ≡ k → ⊥)
 
 -- of each kind the objects and the new names that no old thing has number at most the capacity
 abbrev pub FitsHitless : List ℕ → Objects → List Thing → List Thing → Type 0
-FitsHitless capacities objects old new = (kind : Kind) (names : List Name) → AreLacking old new kind names → used objects kind + length names ≤ capacity_of capacities kind
+FitsHitless capacities objects old new = (kind : Kind) (names : List ThingName) → AreLacking old new kind names → used objects kind + length names ≤ capacity_of capacities kind

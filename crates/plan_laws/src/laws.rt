@@ -11,7 +11,7 @@ ghost use Rattle.sai_types.specs.declared.thing.Thing.{Thing};
 ghost use Rattle.sai_types.specs.After.{after_calls};
 ghost use Rattle.sai_types.specs.Alike.{IsAlike, IsIn};
 ghost use Rattle.sai_types.specs.Made.{AreLegal, made_after_all};
-ghost use Rattle.sai_types.specs.Names.{Name, name_of};
+ghost use Rattle.sai_types.specs.Names.{ThingName, name_of};
 ghost use Rattle.sai_types.specs.Objects.{Objects};
 ghost use Rattle.chip_layout.specs.Renamed.{call_renamed};
 ghost use Rattle.plan_laws.specs.Applied.{AppliesCold, AppliesHitless, IsColdPlan, IsHitlessPlan, IsListedChip, IsView, chip_things, nothing};
@@ -64,7 +64,7 @@ pub fn fitting_has_room()
 /// removes nothing whose name the view has, but doubles: of several groups of the same hops all but the one with the
 /// least identifier, and their members.
 pub fn hitless_keeps()
-    ensures made { (capacities : List ℕ) (made : ℕ) (objects : Objects) (new : List Thing) (todo due : List PlanChange) (calls : List (Call Rid)) (kind : Kind) → AppliesHitless capacities made objects new todo due calls → (names : List Name) × AreLacking (chip_things objects) new kind names × (count_by (makes_kind kind) calls ≡ length names) }
+    ensures made { (capacities : List ℕ) (made : ℕ) (objects : Objects) (new : List Thing) (todo due : List PlanChange) (calls : List (Call Rid)) (kind : Kind) → AppliesHitless capacities made objects new todo due calls → (names : List ThingName) × AreLacking (chip_things objects) new kind names × (count_by (makes_kind kind) calls ≡ length names) }
     ensures kept { (capacities : List ℕ) (made : ℕ) (objects : Objects) (new : List Thing) (todo due : List PlanChange) (calls : List (Call Rid)) (e : Entry Rid) → AppliesHitless capacities made objects new todo due calls → IsIn (call.Remove e) calls → IsUnwanted objects new e }
 {}
 

@@ -28,8 +28,8 @@ use Rattle.port_orch.specs.Ports.{first_attr, port_body, port_operation, port_se
 use Rattle.port_orch.proofs.Sets.{Leads, leads}
 
 -- a port's operation, from what its fields are known to be
-pub told : (f : Operation) (worker p : ℕ) (done done' : Bool) (now now' next next' : Option PortRow) → port_operation worker p done now next ≡ f → done ≡ done' → now ≡ now' → next ≡ next' → f ≡ port_operation worker p done' now' next'
-told f worker p done done' now now' next next' is d n x =
+pub port_operation_told : (f : Operation) (worker p : ℕ) (done done' : Bool) (now now' next next' : Option PortRow) → port_operation worker p done now next ≡ f → done ≡ done' → now ≡ now' → next ≡ next' → f ≡ port_operation worker p done' now' next'
+port_operation_told f worker p done done' now now' next next' is d n x =
     sym is ∙ ap (λ z. port_operation worker p z now next) d ∙ ap (λ z. port_operation worker p done' z next) n ∙ ap (port_operation worker p done' now') x
 
 pub due-none : (f : Operation) (worker p : ℕ) → f ≡ port_operation worker p false None None → f.due ≡ []
@@ -47,7 +47,7 @@ abbrev pub IsPortEntry : Names → Operation → Entry Vid → Type 0
 IsPortEntry names f e = (v : Vid) → first_of (ids_of names (name.Row f.key)) ≡ Some v → e ≡ entry.Oid v
 
 module _ (names : Names) (worker p : ℕ) where
-  led : (at : thing_name.Name → Vid → Type 0) (a r : PortRow) (x : Option (Attr Vid)) → x ≡ first_attr a r → Leads at a r x (stepped a r)
+  led : (at : thing_name.ThingName → Vid → Type 0) (a r : PortRow) (x : Option (Attr Vid)) → x ≡ first_attr a r → Leads at a r x (stepped a r)
   led at a r x is = subst (λ o. Leads at a r o (stepped a r)) (sym is) (leads at a r)
 
   pub due-alike : (a r : PortRow) (f : Operation) → f ≡ port_operation worker p false (Some a) (Some r) → None ≡ first_attr a r → f.due ≡ []

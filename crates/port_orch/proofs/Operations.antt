@@ -55,9 +55,9 @@ pub started : (plan : Ports) (names : Names) (room : RoomState) (used : List ℕ
 started plan names room used worker p now next names' room' (Ok x) a b (free, is, places) = (free, sym (operation-first plan names worker p now next a b), is, places)
 started plan names room used worker p now next names' room' (Err w) a b h = h
 
-planned : (plan : Ports) (p : ℕ) (o : Option PortRow) → ((r : Row) → option_map row.Port o ≡ Some r → Fits plan (key.Port p) r) → IsPlannedAs plan p o
-planned plan p None fits = tt
-planned plan p (Some r) fits = fits (row.Port r) refl
+fits_as_planned : (plan : Ports) (p : ℕ) (o : Option PortRow) → ((r : Row) → option_map row.Port o ≡ Some r → Fits plan (key.Port p) r) → IsPlannedAs plan p o
+fits_as_planned plan p None fits = tt
+fits_as_planned plan p (Some r) fits = fits (row.Port r) refl
 
 module _ (plan : Ports) (names : Names) (room : RoomState) (used : List ℕ) (worker : ℕ) where
   -- what began is the start of this operation, where the rows fit
@@ -70,7 +70,7 @@ module _ (plan : Ports) (names : Names) (room : RoomState) (used : List ℕ) (wo
       (subst (λ z. Turns names' room' res (key.Port p) z new flight) (sym is_old)
       (subst (λ z. Turns names' room' res (key.Port p) (option_map row.Port now) z flight) (sym is_new)
       (subst (Turns names' room' res (key.Port p) (option_map row.Port now) (option_map row.Port next)) (sym is)
-      (λ of_old of_new begun. started plan names room used worker p now next names' room' res (planned plan p now of_old) (planned plan p next of_new) begun))))
+      (λ of_old of_new begun. started plan names room used worker p now next names' room' res (fits_as_planned plan p now of_old) (fits_as_planned plan p next of_new) begun))))
 
   names-none : (k : Key) (old new : Option Row) (flight : Operation) → IsFirst worker k old new flight → (r : Row) → first_unapplied names (names_of k r) ≡ None
   names-none k old new flight (p, now, next, is_key, is_old, is_new, is) r = ap (λ z. first_unapplied names (names_of z r)) is_key

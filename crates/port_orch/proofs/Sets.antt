@@ -8,7 +8,7 @@ use Rattle.sai_types.specs.declared.body.Attr.{Attr}
 use Rattle.sai_types.specs.declared.body.Attr.TheVariants as attr
 use Rattle.sai_types.specs.declared.thing.Thing.{Thing}
 use Rattle.sai_types.specs.declared.thing.Thing.TheVariants as thing
-use Rattle.sai_types.specs.Names.{Name}
+use Rattle.sai_types.specs.Names.{ThingName}
 use Rattle.chip_layout.specs.Bodies.{IsChange}
 use Rattle.row_layout.specs.Operations.{Change, Set, port_with, same_thing, set_to}
 use Rattle.switch_machine.proofs.Equal.{thing-exact}
@@ -77,11 +77,11 @@ module _ (l : List ℕ) where
       ∙ ap (λ cs. Set v ∷ cs) (sym (nothing-due s m u'))
 
 -- where a value differs it is set first, by which the port stands as for the row with it
-abbrev pub Leads : (Name → Vid → Type 0) → PortRow → PortRow → Option (Attr Vid) → PortRow → Type 0
+abbrev pub Leads : (ThingName → Vid → Type 0) → PortRow → PortRow → Option (Attr Vid) → PortRow → Type 0
 Leads at a r None q = port_sets a r ≡ []
 Leads at a r (Some x) q = (port_sets a r ≡ Set (port_thing q) ∷ port_sets q r) × IsChange at (port_thing a) x (port_thing q) × (q.lanes ≡ a.lanes)
 
-module _ (at : Name → Vid → Type 0) (a r : PortRow) where
+module _ (at : ThingName → Vid → Type 0) (a r : PortRow) where
   leads-by : (s m u : Bool) → (a.speed == r.speed) ≡ s → (a.mtu == r.mtu) ≡ m → are_alike a.up r.up ≡ u
       → Leads at a r (if s then (if m then (if u then None else Some (attr.Up r.up)) else Some (attr.Mtu r.mtu)) else Some (attr.Speed r.speed)) (if s then (if m then record a { up = r.up } else record a { mtu = r.mtu }) else record a { speed = r.speed })
   leads-by false m u hs hm hu = (speed-first a.lanes a.speed a.mtu r.speed r.mtu a.up r.up hs, refl, refl)

@@ -1,5 +1,5 @@
 -- what is found among entries whose keys rise, after one is put or removed
-use Rattle.std.proofs.Common.{◌≡◌, Bool, true, false, cond, List, [], ◌∷◌, Option, None, Some, Ordering, refl, sym, ap, ap₂, subst, ◌∙◌}
+use Rattle.std.proofs.Common.{◌≡◌, Bool, true, false, cond, List, [], ◌∷◌, None, Some, Ordering, refl, sym, ap, ap₂, subst, ◌∙◌}
 use Rattle.std.specs.declared.cmp.Ordering.TheVariants.{Less, Equal, Greater}
 use Rattle.std.specs.Ordering.{is_eq, match_ordering, ordering_reverse}
 use Rattle.std.specs.BTreeMap.{insert_entry, is_at}
@@ -14,17 +14,7 @@ use Rattle.std.proofs.lemmas.Map.Lookups.{CmpEqualImpliesEq}
 use Rattle.std.proofs.lemmas.Option.{none-some, same_Some}
 use Rattle.table_schema.specs.Fields.{HasRisingKeys}
 use Rattle.table_schema.proofs.Places.{above_more}
-
-by_greater : {X : Type 0} (b c : Bool) (v w : X) (rest : Option X) → (b ≡ true → c ≡ true → ⊥) → cond c (Some w) (cond b (Some v) rest) ≡ cond b (Some v) (cond c (Some w) rest)
-by_greater true true v w rest f = absurd (f refl refl)
-by_greater true false v w rest f = refl
-by_greater false c v w rest f = refl
-
-by_equal : {X : Type 0} (b c : Bool) (v w : X) (rest : Option X) → c ≡ b → cond c (Some v) rest ≡ cond b (Some v) (cond c (Some w) rest)
-by_equal true true v w rest e = refl
-by_equal false false v w rest e = refl
-by_equal true false v w rest e = absurd cc
-by_equal false true v w rest e = absurd cc
+use Rattle.swss_types.proofs.Choices.{by_equal, by_greater}
 
 module _ {K X : Type 0} (cmp : K → K → Ordering) where
   keys_above : (k : K) (es : List (K × X)) → AllByRecursion (λ e. cmp k e.0 ≡ Less) es → AllByRecursion (λ y. cmp k y ≡ Less) (keys_of es)

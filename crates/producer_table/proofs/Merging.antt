@@ -11,8 +11,8 @@ use Rattle.std.proofs.lemmas.Map.Lookups.{exact_bytes}
 use Rattle.table_schema.specs.Fields.{Pairs, HasRisingNames, by_bytes, merged, with_pair}
 use Rattle.table_schema.proofs.Places.{HasRisingKeys-insert_entry, above_more, put_step}
 
-back : {K : Type 0} (cmp : K → K → Ordering) (o : IsTotalOrder cmp) (a b : K) → cmp a b ≡ Less → cmp b a ≡ Greater
-back cmp o a b less = o.antisymm b a ∙ ap ordering_reverse less
+less_turned_greater : {K : Type 0} (cmp : K → K → Ordering) (o : IsTotalOrder cmp) (a b : K) → cmp a b ≡ Less → cmp b a ≡ Greater
+less_turned_greater cmp o a b less = o.antisymm b a ∙ ap ordering_reverse less
 
 module _ {K X : Type 0} (cmp : K → K → Ordering) (o : IsTotalOrder cmp) where
   -- the later of two values under one key stays
@@ -29,11 +29,11 @@ module _ {K X : Type 0} (cmp : K → K → Ordering) (o : IsTotalOrder cmp) wher
 
   -- where a lesser and a greater key are put, the order of the two puts is nothing
   pub put-put : (es : List (K × X)) (k j : K) (v w : X) → cmp k j ≡ Less → insert_entry cmp (insert_entry cmp es k v) j w ≡ insert_entry cmp (insert_entry cmp es j w) k v
-  put-put [] k j v w less = put_step cmp (k, v) [] j w Greater (back cmp o k j less) ∙ sym (put_step cmp (j, w) [] k v Less less)
+  put-put [] k j v w less = put_step cmp (k, v) [] j w Greater (less_turned_greater cmp o k j less) ∙ sym (put_step cmp (j, w) [] k v Less less)
   put-put (e ∷ es) k j v w less =
       let all = e ∷ es in
       let first : cmp k e.0 ≡ Less → insert_entry cmp (insert_entry cmp all k v) j w ≡ (k, v) ∷ insert_entry cmp all j w =
-      λ is. ap (λ l. insert_entry cmp l j w) (put_step cmp e es k v Less is) ∙ put_step cmp (k, v) all j w Greater (back cmp o k j less) in
+      λ is. ap (λ l. insert_entry cmp l j w) (put_step cmp e es k v Less is) ∙ put_step cmp (k, v) all j w Greater (less_turned_greater cmp o k j less) in
       let beyond : cmp j e.0 ≡ Greater → insert_entry cmp all j w ≡ e ∷ insert_entry cmp es j w = put_step cmp e es j w Greater in
       let above : (r : Ordering) → cmp j e.0 ≡ r → cmp k e.0 ≡ Less → (k, v) ∷ insert_entry cmp all j w ≡ insert_entry cmp (insert_entry cmp all j w) k v =
       λ r. elim r as (λ r. cmp j e.0 ≡ r → cmp k e.0 ≡ Less → (k, v) ∷ insert_entry cmp all j w ≡ insert_entry cmp (insert_entry cmp all j w) k v) [
@@ -45,10 +45,10 @@ module _ {K X : Type 0} (cmp : K → K → Ordering) (o : IsTotalOrder cmp) wher
       λ r. elim r as (λ r. cmp k e.0 ≡ r → insert_entry cmp (insert_entry cmp all k v) j w ≡ insert_entry cmp (insert_entry cmp all j w) k v) [
         | Less ↦ λ is. first is ∙ above (cmp j e.0) refl is
         | Equal ↦ λ is.
-            let far : cmp j e.0 ≡ Greater = back cmp o e.0 j (sym (o.congr k e.0 j is) ∙ less) in
+            let far : cmp j e.0 ≡ Greater = less_turned_greater cmp o e.0 j (sym (o.congr k e.0 j is) ∙ less) in
             ap (λ l. insert_entry cmp l j w) (put_step cmp e es k v Equal is) ∙ put_step cmp (e.0, v) es j w Greater far ∙ sym (put_step cmp e (insert_entry cmp es j w) k v Equal is) ∙ ap (λ l. insert_entry cmp l k v) (sym (beyond far))
         | Greater ↦ λ is.
-            let far : cmp j e.0 ≡ Greater = back cmp o e.0 j (o.trans e.0 k j (o.antisymm e.0 k ∙ ap ordering_reverse is) less) in
+            let far : cmp j e.0 ≡ Greater = less_turned_greater cmp o e.0 j (o.trans e.0 k j (o.antisymm e.0 k ∙ ap ordering_reverse is) less) in
             ap (λ l. insert_entry cmp l j w) (put_step cmp e es k v Greater is) ∙ put_step cmp e (insert_entry cmp es k v) j w Greater far ∙ ap (λ l. e ∷ l) (put-put es k j v w less) ∙ sym (put_step cmp e (insert_entry cmp es j w) k v Greater is) ∙ ap (λ l. insert_entry cmp l k v) (sym (beyond far))
       ] in
       by (cmp k e.0) refl

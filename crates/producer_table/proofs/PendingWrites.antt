@@ -11,7 +11,7 @@ use Rattle.table_schema.specs.Rows.{Rows, HasRisingRows, after_write, after_writ
 use Rattle.table_schema.specs.declared.key.Key.{Key}
 use Rattle.table_schema.specs.declared.write.Write.{Write}
 use Rattle.table_schema.specs.declared.write.Write.TheVariants.{Set, Del}
-use Rattle.table_schema.proofs.Keys.{key_exact, key_total}
+use Rattle.table_schema.proofs.Keys.{key_exact, key_total, tied_keys_same}
 use Rattle.table_schema.proofs.LastValues.{HasRisingNames-merged}
 use Rattle.table_schema.proofs.Places.{HasRisingKeys-insert_entry}
 use Rattle.table_schema.proofs.RowLists.{HasRisingRows-after_write}
@@ -20,7 +20,7 @@ use Rattle.producer_table.specs.declared.waiting.Pending.{Pending}
 use Rattle.producer_table.specs.Pending.{PendingKeys, AreInOrder, HaveRisingNames, has_write, is_write_of, laid_over, nothing_pending, op_of, ops_of, pending_after, pending_after_all, pending_at, pending_fields, pending_of, row_with_fields, row_with_pending, set_of, with_ops, with_pending, writes_of_op, writes_of_ops}
 use Rattle.producer_table.proofs.Found.{each-found, each-put, lookup-above, lookup-put, same_entries}
 use Rattle.producer_table.proofs.Merging.{merged-merged}
-use Rattle.producer_table.proofs.RowWrites.{HasRisingRows-after_writes, after_writes-append, fields_at-after_write, row_after, same_key}
+use Rattle.producer_table.proofs.RowWrites.{HasRisingRows-after_writes, after_writes-append, fields_at-after_write, row_after}
 
 -- what a write makes of what waits of a key
 abbrev more : Key → Write → Pending → Pending
@@ -31,16 +31,16 @@ or_nothing : (b : Bool) (v : Pending) (rest : Option Pending) → unwrap_or (con
 or_nothing true v rest = refl
 or_nothing false v rest = refl
 
-at_key : (b : Bool) (q k : Key) (pending : PendingKeys) (fields : Pairs) → (b ≡ true → q ≡ k) → cond b (laid_over (pending_at pending k) fields) (pending_at pending q) ≡ cond b (laid_over (pending_at pending q) fields) (pending_at pending q)
-at_key true q k pending fields same = ap (λ x. laid_over (pending_at pending x) fields) (sym (same refl))
-at_key false q k pending fields same = refl
+pending_at_key : (b : Bool) (q k : Key) (pending : PendingKeys) (fields : Pairs) → (b ≡ true → q ≡ k) → cond b (laid_over (pending_at pending k) fields) (pending_at pending q) ≡ cond b (laid_over (pending_at pending q) fields) (pending_at pending q)
+pending_at_key true q k pending fields same = ap (λ x. laid_over (pending_at pending x) fields) (sym (same refl))
+pending_at_key false q k pending fields same = refl
 
-put_at : (pending : PendingKeys) (k q : Key) (p : Pending) → pending_at (insert_entry key_cmp pending k p) q ≡ cond (is_at (key_cmp q) k) p (pending_at pending q)
-put_at pending k q p = ap (λ o. unwrap_or o nothing_pending) (lookup-put key_cmp key_total pending k p q) ∙ or_nothing (is_at (key_cmp q) k) p (lookup (is_at (key_cmp q)) pending)
+pending_put_at : (pending : PendingKeys) (k q : Key) (p : Pending) → pending_at (insert_entry key_cmp pending k p) q ≡ cond (is_at (key_cmp q) k) p (pending_at pending q)
+pending_put_at pending k q p = ap (λ o. unwrap_or o nothing_pending) (lookup-put key_cmp key_total pending k p q) ∙ or_nothing (is_at (key_cmp q) k) p (lookup (is_at (key_cmp q)) pending)
 
 pending_at-after : (pending : PendingKeys) (w : Write) (q : Key) → pending_at (pending_after pending w) q ≡ more q w (pending_at pending q)
-pending_at-after pending (Set k fields) q = put_at pending k q (laid_over (pending_at pending k) fields) ∙ at_key (is_at (key_cmp q) k) q k pending fields (same_key q k)
-pending_at-after pending (Del k) q = put_at pending k q (record { dropped = true; fields = None })
+pending_at-after pending (Set k fields) q = pending_put_at pending k q (laid_over (pending_at pending k) fields) ∙ pending_at_key (is_at (key_cmp q) k) q k pending fields (tied_keys_same q k)
+pending_at-after pending (Del k) q = pending_put_at pending k q (record { dropped = true; fields = None })
 
 -- a write that waits, laid over a key's row
 laid_behind : (base held : Option Pairs) (fields : Pairs) → HasRisingNames (unwrap_or held []) → row_with_fields base (Some (merged (unwrap_or held []) fields)) ≡ Some (merged (unwrap_or (row_with_fields base held) []) fields)
@@ -169,16 +169,16 @@ or_false : (b : Bool) → (b || false) ≡ b
 or_false true = refl
 or_false false = refl
 
-moved : (a b c : Bool) → ((b || a) || c) ≡ (a || (b || c))
-moved true true c = refl
-moved true false c = refl
-moved false true c = refl
-moved false false c = refl
+or_rotated : (a b c : Bool) → ((b || a) || c) ≡ (a || (b || c))
+or_rotated true true c = refl
+or_rotated true false c = refl
+or_rotated false true c = refl
+or_rotated false false c = refl
 
 found-after_all : (pending : PendingKeys) (ws : List Write) (q : Key) → is_some (lookup (is_at (key_cmp q)) (pending_after_all pending ws)) ≡ (is_some (lookup (is_at (key_cmp q)) pending) || has_write q ws)
 found-after_all pending [] q = sym (or_false (is_some (lookup (is_at (key_cmp q)) pending)))
 found-after_all pending (w ∷ ws) q =
-    found-after_all (pending_after pending w) ws q ∙ ap (λ b. b || has_write q ws) (found-after pending w q) ∙ moved (is_some (lookup (is_at (key_cmp q)) pending)) (is_write_of q w) (has_write q ws)
+    found-after_all (pending_after pending w) ws q ∙ ap (λ b. b || has_write q ws) (found-after pending w q) ∙ or_rotated (is_some (lookup (is_at (key_cmp q)) pending)) (is_write_of q w) (has_write q ws)
 
 pub found-pending_of : (ws : List Write) (q : Key) → is_some (lookup (is_at (key_cmp q)) (pending_of ws)) ≡ has_write q ws
 found-pending_of ws q = found-after_all [] ws q

@@ -7,7 +7,7 @@ abbrev pub nowhere : IntakeId
 nowhere = record { queue = record { words = 0; slots = 0; views_name = 0; atom = 0; block = 0; offset = 0; slot_names = [] }; producers = 0 }
 
 -- the pass is of the intake, and sent what so many tenths may have
-pub record IsReady (intake : IntakeId) (tenths : ℕ) (s : Sender) : Type 0 where
+pub record IsQueueReady (intake : IntakeId) (tenths : ℕ) (s : Sender) : Type 0 where
   pub here : s.queue ≡ intake.queue
   pub few : length s.sent ≤ tenths * 4294967296
 

@@ -1,6 +1,6 @@
 // One thread.
 ghost use Rattle.std.specs.Prelude.{◌≡◌, ◌+◌, ◌<◌};
-ghost use Rattle.queue_bench.specs.Ready.{IsReady};
+ghost use Rattle.queue_bench.specs.Ready.{IsQueueReady};
 
 use anyhow::Result;
 use intake_queue::{Full, Intake, Made, Pass, Taker};
@@ -31,7 +31,7 @@ fn send_tenths<R: Wait + Eprint + Clock>(
     each: u32,
 ) -> Result<u64>
     requires taker { taker.old.intake ≡ intake.now }
-    requires ready { IsReady intake.now 0 pass.old }
+    requires ready { IsQueueReady intake.now 0 pass.old }
 {
     let mut taken = 0u64;
     for tenth in 0..10u64 {
@@ -56,9 +56,9 @@ fn send_and_take<R: Wait>(
 ) -> u64
     requires taker { taker.old.intake ≡ intake.now }
     requires tenth { tenth < 10 }
-    requires ready { IsReady intake.now tenth pass.old }
+    requires ready { IsQueueReady intake.now tenth pass.old }
     ensures taker { taker.new.intake ≡ intake.now }
-    ensures ready { IsReady intake.now (tenth + 1) pass.new }
+    ensures ready { IsQueueReady intake.now (tenth + 1) pass.new }
 {
     let mut taken = 0u64;
     for number in 0..each {

@@ -1,20 +1,20 @@
 // What stands under the lock.
 ghost use Rattle.std.specs.Prelude.{◌≡◌};
 
-use crate::name::Name;
+use crate::name::IntakeName;
 use intake_queue::{Intake, Taker};
 use std::marker::{Model, PhantomData};
 use std::sync::Wait;
 
 /// The taker of the intake that J names, and how many writes it took.
 #[derive(Drop)]
-pub struct Locked<J: Name> {
+pub struct Locked<J: IntakeName> {
     taker: Taker,
     taken: u64,
     of: PhantomData<J>,
 }
 
-impl<J: Name> Model for Locked<J> {
+impl<J: IntakeName> Model for Locked<J> {
     ghost use Rattle.std.specs.Prelude.{ℕ, ◌≡◌};
 
     ghost Value = { ℕ };
@@ -24,7 +24,7 @@ impl<J: Name> Model for Locked<J> {
     ghost invariant = { λ l. l.taker.intake ≡ J.intake };
 }
 
-impl<J: Name> Locked<J> {
+impl<J: IntakeName> Locked<J> {
     /// The taker that took nothing.
     pub fn new(taker: Taker) -> Locked<J>
         requires { taker.intake ≡ J.intake }

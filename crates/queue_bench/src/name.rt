@@ -2,13 +2,13 @@
 use std::marker::Brand;
 
 /// Stands for an intake.
-pub trait Name {
+pub trait IntakeName {
     ghost use Rattle.intake_queue.specs.Values.{IntakeId};
 
     ghost intake: { IntakeId };
 }
 
-impl Name for Brand {
+impl IntakeName for Brand {
     ghost use Rattle.queue_bench.specs.Ready.{nowhere};
 
     ghost intake = { nowhere };

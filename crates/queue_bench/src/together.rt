@@ -1,9 +1,9 @@
 // Four producers beside each other.
 ghost use Rattle.std.specs.Prelude.{◌≡◌, ◌+◌, ◌<◌, All};
-ghost use Rattle.queue_bench.specs.Ready.{CanSend, IsReady, SentOne};
+ghost use Rattle.queue_bench.specs.Ready.{CanSend, IsQueueReady, SentOne};
 
 use crate::locked::Locked;
-use crate::name::Name;
+use crate::name::IntakeName;
 use anyhow::Result;
 use intake_queue::{Full, Intake, Made, Pass};
 use std::alloc::Global;
@@ -29,13 +29,13 @@ pub fn together<R: Threads + Wait + Sync + Print + Eprint + Clock>(
 }
 
 /// Sends them by the passes of a new intake.
-fn send_all<R: Threads + Wait + Sync + Print + Eprint + Clock, J: Name + Send + Sync>(
+fn send_all<R: Threads + Wait + Sync + Print + Eprint + Clock, J: IntakeName + Send + Sync>(
     rt: &R,
     made: Made,
     number: u32,
 ) -> Result<()>
     requires name { (made.intake ≡ J.intake) × (made.taker.intake ≡ J.intake) }
-    requires ready { All (λ s. IsReady made.intake 0 s) made.passes.items }
+    requires ready { All (λ s. IsQueueReady made.intake 0 s) made.passes.items }
 {
     let Made {
         intake,
@@ -52,7 +52,7 @@ fn send_all<R: Threads + Wait + Sync + Print + Eprint + Clock, J: Name + Send + 
 }
 
 /// Each producer sends so many writes ten times over.
-fn send_tenths<R: Threads + Wait + Sync + Eprint + Clock, J: Name + Send + Sync>(
+fn send_tenths<R: Threads + Wait + Sync + Eprint + Clock, J: IntakeName + Send + Sync>(
     rt: &R,
     intake: &Intake,
     locked: &Mutex<Locked<J>>,
@@ -60,7 +60,7 @@ fn send_tenths<R: Threads + Wait + Sync + Eprint + Clock, J: Name + Send + Sync>
     each: u32,
 ) -> Result<()>
     requires name { intake.now ≡ J.intake }
-    requires ready { All (λ s. IsReady intake.now 0 s) passes.old }
+    requires ready { All (λ s. IsQueueReady intake.now 0 s) passes.old }
 {
     for tenth in 0..10u64 {
         let start = Instant::now(rt)?;
@@ -73,7 +73,7 @@ fn send_tenths<R: Threads + Wait + Sync + Eprint + Clock, J: Name + Send + Sync>
 }
 
 /// Each producer sends so many writes, beside the others.
-fn send_tenth<R: Threads + Wait + Sync, J: Name + Send + Sync>(
+fn send_tenth<R: Threads + Wait + Sync, J: IntakeName + Send + Sync>(
     rt: &R,
     intake: &Intake,
     locked: &Mutex<Locked<J>>,
@@ -83,8 +83,8 @@ fn send_tenth<R: Threads + Wait + Sync, J: Name + Send + Sync>(
 )
     requires name { intake.now ≡ J.intake }
     requires tenth { tenth < 10 }
-    requires ready { All (λ s. IsReady intake.now tenth s) passes.old }
-    ensures { All (λ s. IsReady intake.now (tenth + 1) s) passes.new }
+    requires ready { All (λ s. IsQueueReady intake.now tenth s) passes.old }
+    ensures { All (λ s. IsQueueReady intake.now (tenth + 1) s) passes.new }
 {
     thread::for_each_mut(
         rt,
@@ -95,7 +95,7 @@ fn send_tenth<R: Threads + Wait + Sync, J: Name + Send + Sync>(
 }
 
 /// Sends so many writes.
-fn send_some<R: Wait, J: Name>(
+fn send_some<R: Wait, J: IntakeName>(
     rt: &R,
     intake: &Intake,
     locked: &Mutex<Locked<J>>,
@@ -105,8 +105,8 @@ fn send_some<R: Wait, J: Name>(
 )
     requires name { intake.now ≡ J.intake }
     requires tenth { tenth < 10 }
-    requires ready { IsReady intake.now tenth pass.old }
-    ensures { IsReady intake.now (tenth + 1) pass.new }
+    requires ready { IsQueueReady intake.now tenth pass.old }
+    ensures { IsQueueReady intake.now (tenth + 1) pass.new }
 {
     for number in 0..each {
         send_one(rt, intake, locked, pass, Write::Del(Key::Port(number)));
@@ -114,7 +114,7 @@ fn send_some<R: Wait, J: Name>(
 }
 
 /// Sends a write. While the queue is full, it takes some under the lock.
-fn send_one<R: Wait, J: Name>(
+fn send_one<R: Wait, J: IntakeName>(
     rt: &R,
     intake: &Intake,
     locked: &Mutex<Locked<J>>,

@@ -70,11 +70,11 @@ take_all : (xs : List Pin) (p : Pin) → take (length xs) (xs ++ p ∷ []) ≡ x
 take_all [] p = refl
 take_all (x ∷ xs) p = ap (λ l. x ∷ l) (take_all xs p)
 
-one_less : (n : ℕ) → suc n - 1 ≡ n
-one_less n = omega arith
+one_taken_off : (n : ℕ) → suc n - 1 ≡ n
+one_taken_off n = omega arith
 
 last_gone : (xs : List Pin) (p : Pin) → take (length (xs ++ p ∷ []) - 1) (xs ++ p ∷ []) ≡ xs
-last_gone xs p = ap (λ n. take (n - 1) (xs ++ p ∷ [])) (length_push xs p) ∙ ap (λ n. take n (xs ++ p ∷ [])) (one_less (length xs)) ∙ take_all xs p
+last_gone xs p = ap (λ n. take (n - 1) (xs ++ p ∷ [])) (length_push xs p) ∙ ap (λ n. take n (xs ++ p ∷ [])) (one_taken_off (length xs)) ∙ take_all xs p
 
 pin-taken_back : (worker : ℕ) (user : Key) (r : Registered) → without_last_pin (with_pin worker user r) ≡ r
 pin-taken_back worker user r =

@@ -173,9 +173,9 @@ readable-first (e ∷ es) k h first =
 
 -- ---- places
 
-place_by : (b : Bool) (x y : Bool) (o p : Option Bool) → (is_some o ≡ true → is_some p ≡ true) → is_some (cond b (Some x) o) ≡ true → is_some (cond b (Some y) p) ≡ true
-place_by true x y o p f h = refl
-place_by false x y o p f h = f h
+place_stays_there : (b : Bool) (x y : Bool) (o p : Option Bool) → (is_some o ≡ true → is_some p ≡ true) → is_some (cond b (Some x) o) ≡ true → is_some (cond b (Some y) p) ≡ true
+place_stays_there true x y o p f h = refl
+place_stays_there false x y o p f h = f h
 
 place_more : (b : Bool) (x : Bool) (o : Option Bool) → is_some o ≡ true → is_some (cond b (Some x) o) ≡ true
 place_more true x o h = refl
@@ -188,8 +188,8 @@ place-put (e ∷ es) k v q h =
     let rest = place-put es k v q in
     elim (key_cmp k e.0) as (λ r. HasPlace (match_ordering r ((k, v) ∷ e ∷ es) ((e.0, v) ∷ es) (e ∷ insert_entry key_cmp es k v)) q) [
       | Less ↦ place_more (is_at (key_cmp q) k) v (lookup (is_at (key_cmp q)) (e ∷ es)) h
-      | Equal ↦ place_by (is_at (key_cmp q) e.0) e.1 v (lookup (is_at (key_cmp q)) es) (lookup (is_at (key_cmp q)) es) (λ x. x) h
-      | Greater ↦ place_by (is_at (key_cmp q) e.0) e.1 e.1 (lookup (is_at (key_cmp q)) es) (lookup (is_at (key_cmp q)) (insert_entry key_cmp es k v)) rest h
+      | Equal ↦ place_stays_there (is_at (key_cmp q) e.0) e.1 v (lookup (is_at (key_cmp q)) es) (lookup (is_at (key_cmp q)) es) (λ x. x) h
+      | Greater ↦ place_stays_there (is_at (key_cmp q) e.0) e.1 e.1 (lookup (is_at (key_cmp q)) es) (lookup (is_at (key_cmp q)) (insert_entry key_cmp es k v)) rest h
     ]
 
 -- a place that is set is there, and so are the others
@@ -198,10 +198,10 @@ place-set test [] v q h = h
 place-set test (e ∷ es) v q h =
     let rest = place-set test es v q in
     elim (test e.0) as (λ b. HasPlace (cond b ((e.0, v) ∷ es) (e ∷ set_value test es v)) q) [
-      | true ↦ place_by (is_at (key_cmp q) e.0) e.1 v (lookup (is_at (key_cmp q)) es) (lookup (is_at (key_cmp q)) es) (λ x. x) h
-      | false ↦ place_by (is_at (key_cmp q) e.0) e.1 e.1 (lookup (is_at (key_cmp q)) es) (lookup (is_at (key_cmp q)) (set_value test es v)) rest h
+      | true ↦ place_stays_there (is_at (key_cmp q) e.0) e.1 v (lookup (is_at (key_cmp q)) es) (lookup (is_at (key_cmp q)) es) (λ x. x) h
+      | false ↦ place_stays_there (is_at (key_cmp q) e.0) e.1 e.1 (lookup (is_at (key_cmp q)) es) (lookup (is_at (key_cmp q)) (set_value test es v)) rest h
     ]
 
-pub none_from : (o : Option Bool) → is_some o ≡ false → o ≡ None
-none_from None h = refl
-none_from (Some x) h = absurd cc
+pub not_there_none : (o : Option Bool) → is_some o ≡ false → o ≡ None
+not_there_none None h = refl
+not_there_none (Some x) h = absurd cc

@@ -2,6 +2,7 @@
 use Rattle.std.proofs.Common.{◌≡◌, ℕ, zero, suc, ◌==◌, Bool, true, false, not, ◌&&◌, ◌||◌, cond, List, [], ◌∷◌, ◌++◌, take, refl, sym}
 use Rattle.std.specs.BTreeMap.{is_at}
 use Rattle.std.specs.List.{list_any}
+use Rattle.std.proofs.lemmas.Bool.{or_parts}
 use Rattle.table_schema.specs.Key.{key_cmp}
 use Rattle.table_schema.specs.declared.key.Key.{Key}
 use Rattle.ref_counts.specs.declared.pin.Pin.{Pin}
@@ -12,15 +13,11 @@ pub places-kept : (old new : Kept) → ((q : Key) → HasPlace old q → HasPlac
 places-kept old new f [] h = tt
 places-kept old new f (p ∷ ps) h = (f p.user h.0, places-kept old new f ps h.1)
 
-neither : (a b : Bool) → (a || b) ≡ false → (a ≡ false) × (b ≡ false)
-neither true b h = absurd cc
-neither false b h = (refl, h)
-
 -- the place of a key that no pin is for may go
 pub places-others : (k : Key) (old new : Kept) → ((q : Key) → is_at (key_cmp k) q ≡ false → HasPlace old q → HasPlace new q) → (pins : List Pin) → list_any (λ p. is_at (key_cmp k) p.user) pins ≡ false → HavePlaces old pins → HavePlaces new pins
 places-others k old new f [] none h = tt
 places-others k old new f (p ∷ ps) none h =
-    let parts = neither (is_at (key_cmp k) p.user) (list_any (λ p. is_at (key_cmp k) p.user) ps) none in
+    let parts = or_parts (is_at (key_cmp k) p.user) (list_any (λ p. is_at (key_cmp k) p.user) ps) none in
     (f p.user parts.0 h.0, places-others k old new f ps parts.1 h.1)
 
 pub places-push : (kept : Kept) (pins : List Pin) (p : Pin) → HavePlaces kept pins → HasPlace kept p.user → HavePlaces kept (pins ++ p ∷ [])
@@ -53,6 +50,6 @@ none-but k worker [] h = refl
 none-but k worker (p ∷ ps) h =
     let rest = none-but k worker ps in
     elim (not (p.worker == worker)) as (λ b. ((b && is_at (key_cmp k) p.user) || list_any (λ p. not (p.worker == worker) && is_at (key_cmp k) p.user) ps) ≡ false → list_any (λ p. is_at (key_cmp k) p.user) (cond b (p ∷ pins_but worker ps) (pins_but worker ps)) ≡ false) [
-      | true ↦ λ none. let parts = neither (is_at (key_cmp k) p.user) _ none in rw (parts.0, rest parts.1) refl
+      | true ↦ λ none. let parts = or_parts (is_at (key_cmp k) p.user) _ none in rw (parts.0, rest parts.1) refl
       | false ↦ λ none. rest none
     ] h

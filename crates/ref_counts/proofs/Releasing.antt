@@ -57,9 +57,9 @@ vacuous : (worker : ℕ) (X : Type 0) (ps : List Pin) → HasNone worker ps → 
 vacuous worker X [] h = tt
 vacuous worker X (p ∷ ps) h = ((λ is. absurd (false≢true (sym h.0 ∙ is))), vacuous worker X ps h.1)
 
-past : (worker : ℕ) (m n : Name) (ns : List Name) → is_at (name_cmp n) m ≡ false → (ps : List Pin) → AllByRecursion (λ p. (p.worker == worker) ≡ true → is_among m (n ∷ ns) ≡ true) ps → AllByRecursion (λ p. (p.worker == worker) ≡ true → is_among m ns ≡ true) ps
-past worker m n ns apart [] h = tt
-past worker m n ns apart (p ∷ ps) h = ((λ is. let found = h.0 is in rw apart at found), past worker m n ns apart ps h.1)
+past_other_name : (worker : ℕ) (m n : Name) (ns : List Name) → is_at (name_cmp n) m ≡ false → (ps : List Pin) → AllByRecursion (λ p. (p.worker == worker) ≡ true → is_among m (n ∷ ns) ≡ true) ps → AllByRecursion (λ p. (p.worker == worker) ≡ true → is_among m ns ≡ true) ps
+past_other_name worker m n ns apart [] h = tt
+past_other_name worker m n ns apart (p ∷ ps) h = ((λ is. let found = h.0 is in rw apart at found), past_other_name worker m n ns apart ps h.1)
 
 covered-changed : (worker : ℕ) (used : Bool) (n : Name) (ns : List Name) (names : Names) → AreCovered worker (n ∷ ns) names → AreCovered worker ns (changed names n (released worker used))
 covered-changed worker used n ns [] h = tt
@@ -68,7 +68,7 @@ covered-changed worker used n ns (e ∷ es) h =
     let first : IsCovered worker ns (changed_at n (released worker used) e) =
     elim (is_at (name_cmp n) e.0) as (λ b. is_at (name_cmp n) e.0 ≡ b → IsCovered worker ns (cond b (e.0, released worker used e.1) e)) [
       | true ↦ λ is. vacuous worker (is_among e.0 ns ≡ true) (pins_but worker e.1.pins) (has_none-but worker e.1.pins)
-      | false ↦ λ is. past worker e.0 n ns is e.1.pins h.0
+      | false ↦ λ is. past_other_name worker e.0 n ns is e.1.pins h.0
     ] refl in
     (first, rest)
 

@@ -5,6 +5,7 @@ use Rattle.std.specs.declared.cmp.Ordering.TheVariants.{Less, Equal, Greater}
 use Rattle.std.specs.List.{AllByRecursion}
 use Rattle.std.proofs.lemmas.Bool.{eqb-true}
 use Rattle.std.proofs.lemmas.Cmp.{tied_itself}
+use Rattle.swss_types.proofs.Proper.{mapped}
 use Rattle.table_schema.specs.Fields.{HasRisingKeys}
 use Rattle.table_schema.specs.Names.{names_of}
 use Rattle.table_schema.specs.Plan.{IsPlan, Ports}
@@ -36,7 +37,7 @@ use Rattle.registry_laws.specs.Flown.{Flown}
 use Rattle.registry_laws.specs.Flying.{KnowsBoard}
 use Rattle.registry_laws.specs.Known.{IsPinOf, RowStands, SharedStands, pins_at}
 use Rattle.registry_laws.proofs.Finding.{none_below}
-use Rattle.registry_laws.proofs.Listing.{mapped, not_some}
+use Rattle.registry_laws.proofs.Listing.{not_some}
 use Rattle.registry_laws.proofs.Telling.{have-of_missing, row_at, shared_at, unapplied_is}
 
 -- ---- each entry is found under its name

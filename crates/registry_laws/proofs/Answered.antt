@@ -1,5 +1,7 @@
 -- the registry stands for the machine with the names after a change
 use Rattle.std.proofs.Common.{◌≡◌, ◌∷◌, ◌∙◌, inl, inr, ℕ, List, [], Option, None, Some, option_map, refl, sym, ap, subst}
+use Rattle.std.proofs.lemmas.Option.{same_Some}
+use Rattle.swss_types.proofs.Proper.{mapped}
 use Rattle.table_schema.specs.Fields.{HasRisingKeys}
 use Rattle.table_schema.specs.Plan.{IsPlan, Ports, port_named}
 use Rattle.table_schema.specs.declared.key.Key.{Key}
@@ -11,16 +13,16 @@ use Rattle.sai_types.specs.declared.thing.Thing.{Thing}
 use Rattle.sai_types.specs.declared.thing.Thing.TheVariants as thing
 use Rattle.sai_types.specs.Alike.{IsIn}
 use Rattle.sai_types.specs.Names as thing_name
-use Rattle.sai_types.specs.Names.{Name, name_of}
+use Rattle.sai_types.specs.Names.{ThingName, name_of}
 use Rattle.row_layout.specs.Operations.{Change, Make, Set, Take, uses_of}
 use Rattle.row_layout.specs.Rows as owner
 use Rattle.row_layout.specs.Rows.{Owner, interface_on}
 use Rattle.row_layout.specs.Shared.{shared_things}
 use Rattle.switch_machine.specs.Changes.{after, changed_name}
 use Rattle.switch_machine.specs.Consistent.{IsConsistent}
-use Rattle.switch_machine.specs.Flights.{Can, Fits, Flight, Goes, HasChangeOf, IsConcern, IsOwnedBy, IsShared, Machine, Runs, StandsIn}
+use Rattle.switch_machine.specs.Flights.{Can, Fits, MachineFlight, Goes, HasChangeOf, IsConcern, IsOwnedBy, IsShared, Machine, Runs, StandsIn}
 use Rattle.switch_machine.specs.Steps.{Moves, moved}
-use Rattle.switch_machine.specs.Tables.{Tables}
+use Rattle.switch_machine.specs.Tables.{TableLaws}
 use Rattle.switch_machine.proofs.Moving.{fit_of}
 use Rattle.switch_machine.proofs.Running.{final-concern, one_owner, shared_of, shared_row}
 use Rattle.switch_machine.proofs.Splits.{use_row_in}
@@ -34,11 +36,10 @@ use Rattle.orch_flight.specs.Taking.{names_after, to_list}
 use Rattle.registry_laws.specs.Answering.{IsOfGroup, MakesRowLive}
 use Rattle.registry_laws.specs.Registers.{Registers, made_live_at}
 use Rattle.registry_laws.proofs.Begun.{untouched_whole}
-use Rattle.registry_laws.proofs.Listing.{mapped, same_some}
 use Rattle.registry_laws.proofs.Moved.{gone_moved, row_moved, same_moved, shared_moved}
 
 -- of what is gone nothing more is due
-module _ (plan : Ports) (tables : Tables plan) (f : Flight) (fit : (r : Row) → f.new ≡ Some r → Fits plan f.key r) (o : Owner) (shared : IsShared o) (unused : IsIn o (uses_of plan f.key f.new) → ⊥) where
+module _ (plan : Ports) (tables : TableLaws plan) (f : MachineFlight) (fit : (r : Row) → f.new ≡ Some r → Fits plan f.key r) (o : Owner) (shared : IsShared o) (unused : IsIn o (uses_of plan f.key f.new) → ⊥) where
   abbrev IsGone : (Thing → Type 0) → Type 0
   IsGone V = (u : Thing) → V u → IsOwnedBy plan (name_of u) o → ⊥
 
@@ -61,17 +62,17 @@ module _ (plan : Ports) (tables : Tables plan) (f : Flight) (fit : (r : Row) →
 
 -- a name of a row's things
 module _ (plan : Ports) where
-  abbrev pub IsRowName : Name → Type 0
+  abbrev pub IsRowName : ThingName → Type 0
   IsRowName n = (o : Owner) → IsShared o → IsOwnedBy plan n o → ⊥
 
   pub mapped_row : {X : Type 0} (g : X → Key) (x : Option X) (o : Owner) → IsShared o → option_map (λ z. owner.OfRow (g z)) x ≡ Some o → ⊥
   mapped_row g x o shared h = let m = mapped (λ z. owner.OfRow (g z)) x o h in shared_row o (g m.0) shared (sym m.2)
 
   pub some_row : (k : Key) (o : Owner) → IsShared o → Some (owner.OfRow k) ≡ Some o → ⊥
-  some_row k o shared h = shared_row o k shared (sym (same_some (owner.OfRow k) o h))
+  some_row k o shared h = shared_row o k shared (sym (same_Some (owner.OfRow k) o h))
 
-module _ (plan : Ports) (is : IsPlan plan) (workers : ℕ) (capacities : List ℕ) (m : Machine) (sound : IsConsistent plan m) (names : registry.Names) (room : RoomState) (known : Registers plan workers capacities names room m) (rising : HasRisingKeys name_cmp names) (w : ℕ) (f : Flight) (cs : List Change) (stands : List (Rid × Thing)) where
-  abbrev T : Tables plan
+module _ (plan : Ports) (is : IsPlan plan) (workers : ℕ) (capacities : List ℕ) (m : Machine) (sound : IsConsistent plan m) (names : registry.Names) (room : RoomState) (known : Registers plan workers capacities names room m) (rising : HasRisingKeys name_cmp names) (w : ℕ) (f : MachineFlight) (cs : List Change) (stands : List (Rid × Thing)) where
+  abbrev T : TableLaws plan
   T = tabled plan is
 
   abbrev IsStill : registry.Names → Type 0
@@ -131,7 +132,7 @@ module _ (plan : Ports) (is : IsPlan plan) (workers : ℕ) (capacities : List �
       only u (inr h) = elim h [ ]
 
   -- the only thing of what is shared is taken away
-  gone_shared : (n : Name) (moves : Moves m w f (Take n) cs stands) (o : Owner) (t : Thing) → IsShared o → IsOwnedBy plan n o → shared_things o ≡ t ∷ [] → name_of t ≡ n → IsStill (gone_from names (name_for o))
+  gone_shared : (n : ThingName) (moves : Moves m w f (Take n) cs stands) (o : Owner) (t : Thing) → IsShared o → IsOwnedBy plan n o → shared_things o ≡ t ∷ [] → name_of t ≡ n → IsStill (gone_from names (name_for o))
   gone_shared n moves o t shared of one named =
       let retires = goes (runs (Take n) moves).0.goes in
       gone_moved plan m w f (Take n) cs stands moves workers capacities names room known is sound o shared of
@@ -159,7 +160,7 @@ module _ (plan : Ports) (is : IsPlan plan) (workers : ℕ) (capacities : List �
   made_answered (thing.GroupMember hops hop) moves made group last = absurd (group (hops, refl))
   made_answered (thing.Route prefix goal) moves made group last = of_row (Make (thing.Route prefix goal)) moves (λ o shared h. some_row plan (key.Route prefix) o shared h)
 
-  taken_answered : (n : Name) (moves : Moves m w f (Take n) cs stands) (made : Option Vid) → (IsOfGroup plan (Take n) → ⊥) → IsStill (names_after names f.key (Take n) made)
+  taken_answered : (n : ThingName) (moves : Moves m w f (Take n) cs stands) (made : Option Vid) → (IsOfGroup plan (Take n) → ⊥) → IsStill (names_after names f.key (Take n) made)
   taken_answered (thing_name.Port lane) moves made group = of_row (Take (thing_name.Port lane)) moves (λ o shared h. mapped_row plan key.Port (port_named plan lane) o shared h)
   taken_answered (thing_name.Vlan v) moves made group = of_row (Take (thing_name.Vlan v)) moves (λ o shared h. some_row plan (key.Vlan v) o shared h)
   taken_answered (thing_name.BridgePort lane) moves made group = gone_shared (thing_name.BridgePort lane) moves (owner.Bridge lane) (thing.BridgePort lane) tt refl refl refl

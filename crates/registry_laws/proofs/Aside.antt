@@ -13,7 +13,7 @@ use Rattle.row_layout.specs.Rows as owner
 use Rattle.row_layout.specs.Rows.{Owner}
 use Rattle.switch_machine.specs.Changes.{changed_name}
 use Rattle.switch_machine.specs.Consistent.{IsConsistent}
-use Rattle.switch_machine.specs.Flights.{Concerns, Fits, Flight, HasChangeOf, IsOwnedBy, Machine, StandsIn, own_of, put}
+use Rattle.switch_machine.specs.Flights.{Concerns, Fits, MachineFlight, HasChangeOf, IsOwnedBy, Machine, StandsIn, own_of, put}
 use Rattle.switch_machine.specs.Steps.{Moves, finished, left, moved, parted, started}
 use Rattle.switch_machine.proofs.Moving.{its}
 use Rattle.switch_machine.proofs.Running.{one_flight, one_owner, row_keys, shared_row, stays}
@@ -32,7 +32,7 @@ use Rattle.registry_laws.specs.Flying.{IsBetween, IsFlown, IsGroupFlown, IsRestF
 use Rattle.registry_laws.specs.Known.{SharedStands}
 use Rattle.registry_laws.specs.Registers.{HaveDue, Registers}
 use Rattle.registry_laws.proofs.Fine.{AreFine, placed_of, there_of}
-use Rattle.registry_laws.proofs.Listing.{no_some, not_some}
+use Rattle.registry_laws.proofs.Listing.{never_none, not_some}
 use Rattle.registry_laws.proofs.Telling.{touched-one}
 
 -- ---- the group that is built
@@ -72,7 +72,7 @@ built_same names names' w None into back = refl
 built_same names names' w (Some hops) into back = by (built_in names w (Some hops)) refl
   where
     by : (x : Option (List Hop)) → built_in names w (Some hops) ≡ x → built_in names w (Some hops) ≡ built_in names' w (Some hops)
-    by None e = e ∙ sym (built_none names' w hops (λ h. no_some hops (sym (built_some names w hops (back hops h)) ∙ e)))
+    by None e = e ∙ sym (built_none names' w hops (λ h. never_none hops (sym (built_some names w hops (back hops h)) ∙ e)))
     by (Some other) e =
         let b = built_state names w (Some hops) other e in
         let same : other ≡ hops = cc in
@@ -80,19 +80,19 @@ built_same names names' w (Some hops) into back = by (built_in names w (Some hop
 
 -- what a worker's operation builds is its name's
 module _ (plan : Ports) (is : IsPlan plan) (m : Machine) (sound : IsConsistent plan m) where
-  pub building_is : (o : Owner) (v : ℕ) (g : Flight) (st : NameState) → SharedStands plan m o st → m.board.flights v ≡ Some g → HasChangeOf plan (m.due v) o → (g.retires ≡ Some o → ⊥) → st ≡ state.Building v
+  pub building_is : (o : Owner) (v : ℕ) (g : MachineFlight) (st : NameState) → SharedStands plan m o st → m.board.flights v ≡ Some g → HasChangeOf plan (m.due v) o → (g.retires ≡ Some o → ⊥) → st ≡ state.Building v
   building_is o v g state.Absent s at t other = absurd (s.1 v g at t)
   building_is o v g (state.Building u) s at t other = ap state.Building (touched-one plan is m sound u v s.0 g o s.1 at s.2 t)
   building_is o v g state.Live s at t other = absurd (s.1 v g at t)
   building_is o v g (state.Retiring u) s at t other =
       let same = touched-one plan is m sound u v s.0 g o s.1 at s.2 t in
-      absurd (other (subst (λ (z : Flight). z.retires ≡ Some o) (one_flight s.0 g (sym s.1 ∙ ap m.board.flights same ∙ at)) s.3))
+      absurd (other (subst (λ (z : MachineFlight). z.retires ≡ Some o) (one_flight s.0 g (sym s.1 ∙ ap m.board.flights same ∙ at)) s.3))
 
-  pub retiring_is : (o : Owner) (v : ℕ) (g : Flight) (st : NameState) → SharedStands plan m o st → m.board.flights v ≡ Some g → HasChangeOf plan (m.due v) o → g.retires ≡ Some o → st ≡ state.Retiring v
+  pub retiring_is : (o : Owner) (v : ℕ) (g : MachineFlight) (st : NameState) → SharedStands plan m o st → m.board.flights v ≡ Some g → HasChangeOf plan (m.due v) o → g.retires ≡ Some o → st ≡ state.Retiring v
   retiring_is o v g state.Absent s at t mine = absurd (s.1 v g at t)
   retiring_is o v g (state.Building u) s at t mine =
       let same = touched-one plan is m sound u v s.0 g o s.1 at s.2 t in
-      absurd (s.3 (subst (λ (z : Flight). z.retires ≡ Some o) (one_flight g s.0 (sym at ∙ ap m.board.flights (sym same) ∙ s.1)) mine))
+      absurd (s.3 (subst (λ (z : MachineFlight). z.retires ≡ Some o) (one_flight g s.0 (sym at ∙ ap m.board.flights (sym same) ∙ s.1)) mine))
   retiring_is o v g state.Live s at t mine = absurd (s.1 v g at t)
   retiring_is o v g (state.Retiring u) s at t mine = ap state.Retiring (touched-one plan is m sound u v s.0 g o s.1 at s.2 t)
 
@@ -102,8 +102,8 @@ module _ (plan : Ports) (is : IsPlan plan) (m : Machine) (sound : IsConsistent p
 pub record IsAside (plan : Ports) (w : ℕ) (m t : Machine) : Type 0 where
   pub flights : (v : ℕ) → (v ≡ w → ⊥) → t.board.flights v ≡ m.board.flights v
   pub due : (v : ℕ) → (v ≡ w → ⊥) → t.due v ≡ m.due v
-  pub applied : (v : ℕ) (g : Flight) → (v ≡ w → ⊥) → m.board.flights v ≡ Some g → t.board.applied g.key ≡ m.board.applied g.key
-  pub stands : (v : ℕ) (g : Flight) (u : Thing) → (v ≡ w → ⊥) → m.board.flights v ≡ Some g → IsOwnedBy plan (name_of u) (owner.OfRow g.key) → StandsIn m u → StandsIn t u
+  pub applied : (v : ℕ) (g : MachineFlight) → (v ≡ w → ⊥) → m.board.flights v ≡ Some g → t.board.applied g.key ≡ m.board.applied g.key
+  pub stands : (v : ℕ) (g : MachineFlight) (u : Thing) → (v ≡ w → ⊥) → m.board.flights v ≡ Some g → IsOwnedBy plan (name_of u) (owner.OfRow g.key) → StandsIn m u → StandsIn t u
 
 pub aside_then : (plan : Ports) (w : ℕ) (m t s : Machine) → IsAside plan w m t → IsAside plan w t s → IsAside plan w m s
 aside_then plan w m t s x y = record {
@@ -113,7 +113,7 @@ aside_then plan w m t s x y = record {
   stands = λ v g u apart at its h. y.stands v g u apart (x.flights v apart ∙ at) its (x.stands v g u apart at its h);
 }
 
-pub aside_started : (plan : Ports) (w : ℕ) (m : Machine) (f : Flight) (due : List Change) → IsAside plan w m (started m w f due)
+pub aside_started : (plan : Ports) (w : ℕ) (m : Machine) (f : MachineFlight) (due : List Change) → IsAside plan w m (started m w f due)
 aside_started plan w m f due = record {
   flights = λ v apart. put_off w v (Some f) m.board.flights apart;
   due = λ v apart. put_off w v due m.due apart;
@@ -121,7 +121,7 @@ aside_started plan w m f due = record {
   stands = λ v g u apart at its h. h;
 }
 
-pub aside_left : (plan : Ports) (w : ℕ) (m : Machine) (f : Flight) (retires : Option Owner) (due : List Change) → IsAside plan w m (left m w f retires due)
+pub aside_left : (plan : Ports) (w : ℕ) (m : Machine) (f : MachineFlight) (retires : Option Owner) (due : List Change) → IsAside plan w m (left m w f retires due)
 aside_left plan w m f retires due = record {
   flights = λ v apart. put_off w v (Some (parted f retires)) m.board.flights apart;
   due = λ v apart. put_off w v due m.due apart;
@@ -129,8 +129,8 @@ aside_left plan w m f retires due = record {
   stands = λ v g u apart at its h. h;
 }
 
-module _ (plan : Ports) (is : IsPlan plan) (m : Machine) (sound : IsConsistent plan m) (w : ℕ) (f : Flight) where
-  other_key : (v : ℕ) (g : Flight) → (v ≡ w → ⊥) → m.board.flights v ≡ Some g → m.board.flights w ≡ Some f → f.key ≡ g.key → ⊥
+module _ (plan : Ports) (is : IsPlan plan) (m : Machine) (sound : IsConsistent plan m) (w : ℕ) (f : MachineFlight) where
+  other_key : (v : ℕ) (g : MachineFlight) → (v ≡ w → ⊥) → m.board.flights v ≡ Some g → m.board.flights w ≡ Some f → f.key ≡ g.key → ⊥
   other_key v g apart at there e = apart (sound.board.one v w g f at there (sym e))
 
   pub aside_finished : m.board.flights w ≡ Some f → IsAside plan w m (finished m w f)
@@ -152,12 +152,12 @@ module _ (plan : Ports) (is : IsPlan plan) (m : Machine) (sound : IsConsistent p
       mine : (o : Owner) × IsOwnedBy plan (changed_name c) o × Concerns plan f o
       mine = its plan (tabled plan is) m sound w f c cs stands moves
 
-      not_row : (v : ℕ) (g : Flight) → (v ≡ w → ⊥) → m.board.flights v ≡ Some g → (o : Owner) → Concerns plan f o → o ≡ owner.OfRow g.key → ⊥
+      not_row : (v : ℕ) (g : MachineFlight) → (v ≡ w → ⊥) → m.board.flights v ≡ Some g → (o : Owner) → Concerns plan f o → o ≡ owner.OfRow g.key → ⊥
       not_row v g apart at o (inl e) same = other_key v g apart at moves.flying (row_keys f.key g.key (sym e ∙ same))
       not_row v g apart at o (inr (inl h)) same = let r = use_row_in plan f.key f.new o h in shared_row o g.key (are_shared_by plan is f.key r.0 o r.2) same
       not_row v g apart at o (inr (inr h)) same = let was = sound.board.left w f o moves.flying h in shared_row o g.key (are_shared_by plan is f.key was.row o was.used) same
 
-      other : (v : ℕ) (g : Flight) (u : Thing) → (v ≡ w → ⊥) → m.board.flights v ≡ Some g → IsOwnedBy plan (name_of u) (owner.OfRow g.key) → name_of u ≡ changed_name c → ⊥
+      other : (v : ℕ) (g : MachineFlight) (u : Thing) → (v ≡ w → ⊥) → m.board.flights v ≡ Some g → IsOwnedBy plan (name_of u) (owner.OfRow g.key) → name_of u ≡ changed_name c → ⊥
       other v g u apart at own e = not_row v g apart at mine.0 mine.2 (one_owner plan (changed_name c) mine.0 (owner.OfRow g.key) mine.1 (subst (λ n. IsOwnedBy plan n (owner.OfRow g.key)) e own))
 
 -- ---- and the others
@@ -222,7 +222,7 @@ module _ (plan : Ports) (is : IsPlan plan) (capacities : List ℕ) (names : regi
     }
       where
         none : (v : ℕ) → IsPut w v (Some x) flown None → t.board.flights v ≡ None
-        none v (New e one) = no_some x one
+        none v (New e one) = never_none x one
         none v (Old apart at) = aside.flights v apart ∙ idle v at
 
         some : (v : ℕ) (y : Flown) → IsPut w v (Some x) flown (Some y) → IsFlown plan names' t v y

@@ -12,10 +12,10 @@ use Rattle.row_layout.specs.Rows.{Owner, OfRow}
 use Rattle.row_layout.specs.Shared.{shared_things}
 use Rattle.switch_machine.specs.Changes.{after, changed_name}
 use Rattle.switch_machine.specs.Consistent.{IsConsistent}
-use Rattle.switch_machine.specs.Flights.{Board, Can, Concerns, CountsAsUser, Fits, Flight, Goes, HasChangeOf, IsFirm, IsOwnedBy, IsResting, IsShared, IsUser, Machine, Runs, StandsIn}
+use Rattle.switch_machine.specs.Flights.{MachineBoard, Can, Concerns, CountsAsUser, Fits, MachineFlight, Goes, HasChangeOf, IsFirm, IsOwnedBy, IsResting, IsShared, IsUser, Machine, Runs, StandsIn}
 use Rattle.switch_machine.specs.Operations.{MayBegin}
 use Rattle.switch_machine.specs.Steps.{Starts, started}
-use Rattle.switch_machine.specs.Tables.{Tables}
+use Rattle.switch_machine.specs.Tables.{TableLaws}
 use Rattle.switch_machine.proofs.Beginning.{starts}
 use Rattle.switch_machine.proofs.Running.{no_flight, one_flight, one_owner, shared_of, shared_row, stays}
 use Rattle.switch_machine.proofs.Splits.{IsPut, IsSplit, New, Old, key_split, put_at, put_by, put_off}
@@ -28,7 +28,7 @@ use Rattle.registry_laws.proofs.Listing.{not_some}
 use Rattle.registry_laws.proofs.Telling.{touched-concern}
 
 -- of what stands whole no change is due
-module _ (plan : Ports) (tables : Tables plan) (f : Flight) (fit : (r : Row) → f.new ≡ Some r → Fits plan f.key r) (none : f.retires ≡ None) (p : Owner) (shared : IsShared p) where
+module _ (plan : Ports) (tables : TableLaws plan) (f : MachineFlight) (fit : (r : Row) → f.new ≡ Some r → Fits plan f.key r) (none : f.retires ≡ None) (p : Owner) (shared : IsShared p) where
   not_its : (V : Thing → Type 0) (c : Change) → ((u : Thing) → IsIn u (shared_things p) → V u) → Can plan f V c → IsOwnedBy plan (changed_name c) p → ⊥
   not_its V (Make t) whole can of = can.fresh t (whole t (shared_of plan tables f fit t p of shared can.final).1) refl
   not_its V (Set t) whole can of = shared_row p f.key shared (one_owner plan (name_of t) p (OfRow f.key) of can.own)
@@ -44,29 +44,29 @@ module _ (plan : Ports) (tables : Tables plan) (f : Flight) (fit : (r : Row) →
   untouched_whole (c ∷ cs) V runs whole (d, inr h, of) =
       untouched_whole cs (λ u. after c (V u) u) runs.1 (λ u in_it. stays c (V u) u (λ e. not_its V c whole runs.0 (subst (λ n. IsOwnedBy plan n p) e (tables.shared p u in_it))) (whole u in_it)) (d, h, of)
 
-module _ (plan : Ports) (is : IsPlan plan) (m : Machine) (sound : IsConsistent plan m) (w : ℕ) (f : Flight) (due : List Change) (begins : MayBegin plan m w f due) where
-  abbrev pub T : Tables plan
+module _ (plan : Ports) (is : IsPlan plan) (m : Machine) (sound : IsConsistent plan m) (w : ℕ) (f : MachineFlight) (due : List Change) (begins : MayBegin plan m w f due) where
+  abbrev pub T : TableLaws plan
   T = tabled plan is
 
   abbrev pub later : Machine
   later = started m w f due
 
-  abbrev pub b : Board
+  abbrev pub b : MachineBoard
   b = m.board
 
-  abbrev pub b' : Board
+  abbrev pub b' : MachineBoard
   b' = later.board
 
   pub start : Starts plan m w f due
   start = starts plan is m sound w f due begins
 
-  by : (v : ℕ) (g : Flight) → b'.flights v ≡ Some g → IsPut w v (Some f) b.flights (Some g)
+  by : (v : ℕ) (g : MachineFlight) → b'.flights v ≡ Some g → IsPut w v (Some f) b.flights (Some g)
   by v g h = put_by w v (Some f) b.flights (Some g) h
 
-  pub apart : (v : ℕ) (g : Flight) → b.flights v ≡ Some g → v ≡ w → ⊥
+  pub apart : (v : ℕ) (g : MachineFlight) → b.flights v ≡ Some g → v ≡ w → ⊥
   apart v g there same = no_flight g (sym begins.idle ∙ ap b.flights (sym same) ∙ there)
 
-  pub still : (v : ℕ) (g : Flight) → b.flights v ≡ Some g → b'.flights v ≡ Some g
+  pub still : (v : ℕ) (g : MachineFlight) → b.flights v ≡ Some g → b'.flights v ≡ Some g
   still v g there = put_off w v (Some f) b.flights (apart v g there) ∙ there
 
   pub here : b'.flights w ≡ Some f
@@ -84,14 +84,14 @@ module _ (plan : Ports) (is : IsPlan plan) (m : Machine) (sound : IsConsistent p
   resting_now p other rests v g at same = of (by v g at)
     where
       of : IsPut w v (Some f) b.flights (Some g) → ⊥
-      of (New e one) = other (ap (λ (z : Flight). z.key) (one_flight f g one) ∙ same)
+      of (New e one) = other (ap (λ (z : MachineFlight). z.key) (one_flight f g one) ∙ same)
       of (Old off there) = rests v g there same
 
   firm_now : (p : Key) → IsFirm b p → (f.key ≡ p → f.new ≡ None → ⊥) → IsFirm b' p
   firm_now p firm mine = record { row = firm.row; applied = firm.applied; stays = λ v g at same none. of v g same none (by v g at) }
     where
-      of : (v : ℕ) (g : Flight) → g.key ≡ p → g.new ≡ None → IsPut w v (Some f) b.flights (Some g) → ⊥
-      of v g same none (New e one) = let x = one_flight f g one in mine (ap (λ (z : Flight). z.key) x ∙ same) (ap (λ (z : Flight). z.new) x ∙ none)
+      of : (v : ℕ) (g : MachineFlight) → g.key ≡ p → g.new ≡ None → IsPut w v (Some f) b.flights (Some g) → ⊥
+      of v g same none (New e one) = let x = one_flight f g one in mine (ap (λ (z : MachineFlight). z.key) x ∙ same) (ap (λ (z : MachineFlight). z.new) x ∙ none)
       of v g same none (Old off there) = firm.stays v g there same none
 
   pub row_stands : (p : Key) (st : NameState) → (f.key ≡ p → ⊥) → RowStands m p st → RowStands later p st
@@ -120,8 +120,8 @@ module _ (plan : Ports) (is : IsPlan plan) (m : Machine) (sound : IsConsistent p
       of : IsPut w q.worker (Some f) b.flights (Some g) → IsPinOf b p q ⊎ ((q ≡ record { worker = w; user = f.key }) × ((r : Row) × (f.new ≡ Some r) × IsIn p (names_of f.key r)))
       of (New e one) =
           let x = one_flight f g one in
-          let key = ap (λ (z : Flight). z.key) x in
-          inr (ap₂ pin e (sym (key ∙ same)), (r, ap (λ (z : Flight). z.new) x ∙ new, subst (λ z. IsIn p (names_of z r)) (sym key) h))
+          let key = ap (λ (z : MachineFlight). z.key) x in
+          inr (ap₂ pin e (sym (key ∙ same)), (r, ap (λ (z : MachineFlight). z.new) x ∙ new, subst (λ z. IsIn p (names_of z r)) (sym key) h))
       of (Old off there) = inl (g, there, same, (r, new, h))
 
   pub pin_now : (p : Key) (q : Pin) → IsPinOf b p q → IsPinOf b' p q
@@ -141,7 +141,7 @@ module _ (plan : Ports) (is : IsPlan plan) (m : Machine) (sound : IsConsistent p
       mine e (inr h) = inl (inr (λ v g at x. begins.rests v g at (x ∙ sym e), subst (λ q. IsIn o (uses_of plan q (b.applied q))) e (begins.leaves o h).0))
 
       of : IsPut w v (Some f) b.flights (Some g) → IsUser plan b k o ⊎ ((f.key ≡ k) × IsIn o (uses_of plan f.key f.new))
-      of (New e one) = let x = one_flight f g one in mine (ap (λ (z : Flight). z.key) x ∙ same) (subst (λ z. CountsAsUser plan z o) (sym x) counts)
+      of (New e one) = let x = one_flight f g one in mine (ap (λ (z : MachineFlight). z.key) x ∙ same) (subst (λ z. CountsAsUser plan z o) (sym x) counts)
       of (Old other there) = inl (inl (v, g, there, same, counts))
 
   pub user_now : (k : Key) (o : Owner) → IsUser plan b k o → IsUser plan b' k o
@@ -158,7 +158,7 @@ module _ (plan : Ports) (is : IsPlan plan) (m : Machine) (sound : IsConsistent p
   touch_now : (v : ℕ) (o : Owner) → (v ≡ w → ⊥) → HasChangeOf plan (m.due v) o → HasChangeOf plan (later.due v) o
   touch_now v o other t = subst (λ d. HasChangeOf plan d o) (sym (due_old v other)) t
 
-  untouched_now : (o : Owner) → (HasChangeOf plan due o → ⊥) → ((v : ℕ) (g : Flight) → b.flights v ≡ Some g → HasChangeOf plan (m.due v) o → ⊥) → (v : ℕ) (g : Flight) → b'.flights v ≡ Some g → HasChangeOf plan (later.due v) o → ⊥
+  untouched_now : (o : Owner) → (HasChangeOf plan due o → ⊥) → ((v : ℕ) (g : MachineFlight) → b.flights v ≡ Some g → HasChangeOf plan (m.due v) o → ⊥) → (v : ℕ) (g : MachineFlight) → b'.flights v ≡ Some g → HasChangeOf plan (later.due v) o → ⊥
   untouched_now o mine theirs v g at t = of (by v g at)
     where
       of : IsPut w v (Some f) b.flights (Some g) → ⊥
@@ -185,17 +185,17 @@ module _ (plan : Ports) (is : IsPlan plan) (m : Machine) (sound : IsConsistent p
       of (inr (inl h)) = none h
       of (inr (inr e)) = not_some o (sym begins.none ∙ e)
 
-  pub not_touched : (q : Key) (o : Owner) → IsShared o → IsUser plan b q o → ((v : ℕ) (g : Flight) → b.flights v ≡ Some g → HasChangeOf plan (m.due v) o → ⊥) → HasChangeOf plan due o → ⊥
+  pub not_touched : (q : Key) (o : Owner) → IsShared o → IsUser plan b q o → ((v : ℕ) (g : MachineFlight) → b.flights v ≡ Some g → HasChangeOf plan (m.due v) o → ⊥) → HasChangeOf plan due o → ⊥
   not_touched q o shared user untouched t = untouched_whole plan T f begins.fit begins.none o shared due (StandsIn m) start.runs (λ u h. sound.whole q o u user untouched h) t
 
-  pub retiring_now : ((v : ℕ) (g : Flight) (o : Owner) (c : Change) → b.flights v ≡ Some g → g.retires ≡ Some o → IsIn c (m.due v) → IsOwnedBy plan (changed_name c) o) → (v : ℕ) (g : Flight) (o : Owner) (c : Change) → b'.flights v ≡ Some g → g.retires ≡ Some o → IsIn c (later.due v) → IsOwnedBy plan (changed_name c) o
+  pub retiring_now : ((v : ℕ) (g : MachineFlight) (o : Owner) (c : Change) → b.flights v ≡ Some g → g.retires ≡ Some o → IsIn c (m.due v) → IsOwnedBy plan (changed_name c) o) → (v : ℕ) (g : MachineFlight) (o : Owner) (c : Change) → b'.flights v ≡ Some g → g.retires ≡ Some o → IsIn c (later.due v) → IsOwnedBy plan (changed_name c) o
   retiring_now was v g o c at retires h = of (by v g at)
     where
       of : IsPut w v (Some f) b.flights (Some g) → IsOwnedBy plan (changed_name c) o
-      of (New e one) = not_some o (sym begins.none ∙ ap (λ (z : Flight). z.retires) (one_flight f g one) ∙ retires)
+      of (New e one) = not_some o (sym begins.none ∙ ap (λ (z : MachineFlight). z.retires) (one_flight f g one) ∙ retires)
       of (Old other there) = was v g o c there retires (subst (IsIn c) (due_old v other) h)
 
-  pub below_now : (workers : ℕ → Type 0) → workers w → ((v : ℕ) (g : Flight) → b.flights v ≡ Some g → workers v) → (v : ℕ) (g : Flight) → b'.flights v ≡ Some g → workers v
+  pub below_now : (workers : ℕ → Type 0) → workers w → ((v : ℕ) (g : MachineFlight) → b.flights v ≡ Some g → workers v) → (v : ℕ) (g : MachineFlight) → b'.flights v ≡ Some g → workers v
   below_now workers own was v g at = of (by v g at)
     where
       of : IsPut w v (Some f) b.flights (Some g) → workers v

@@ -10,7 +10,7 @@ use Rattle.row_layout.specs.Operations.{Change, shared_going, take_all}
 use Rattle.row_layout.specs.Rows.{Owner}
 use Rattle.switch_machine.specs.Consistent.{IsConsistent}
 use Rattle.switch_machine.specs.Events.{Due, Ended, Follows, Left, Retires, empty_machine}
-use Rattle.switch_machine.specs.Flights.{Flight, IsUser, Machine}
+use Rattle.switch_machine.specs.Flights.{MachineFlight, IsUser, Machine}
 use Rattle.switch_machine.specs.Steps.{left, moved, parted, started}
 use Rattle.switch_machine.proofs.Splits.{IsPut, IsSplit, New, Old, nat_split, put_at, put_by, put_off}
 use Rattle.ref_counts.specs.Room.{all_free}
@@ -53,7 +53,7 @@ registers_nothing plan workers capacities few = record {
 
 -- ---- the changes of operations
 
-pub due_started : (m : Machine) (w : ℕ) (f : Flight) (due : List Change) → HaveDue m → OthersHaveDue (started m w f due) w
+pub due_started : (m : Machine) (w : ℕ) (f : MachineFlight) (due : List Change) → HaveDue m → OthersHaveDue (started m w f due) w
 due_started m w f due have v g other at none = have v g (sym (put_off w v (Some f) m.board.flights other) ∙ at) (sym (put_off w v due m.due other) ∙ none)
 
 pub due_moved : (m : Machine) (w : ℕ) (cs : List Change) (stands : List (Rid × Thing)) → HaveDue m → OthersHaveDue (moved m w cs stands) w

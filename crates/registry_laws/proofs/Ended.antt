@@ -13,7 +13,7 @@ use Rattle.row_layout.specs.Operations.{uses_of}
 use Rattle.row_layout.specs.Rows as owner
 use Rattle.row_layout.specs.Rows.{Owner}
 use Rattle.switch_machine.specs.Consistent.{IsConsistent}
-use Rattle.switch_machine.specs.Flights.{CountsAsUser, Flight, HasChangeOf, IsFirm, IsResting, IsRow, IsShared, IsUser, Machine, put}
+use Rattle.switch_machine.specs.Flights.{CountsAsUser, MachineFlight, HasChangeOf, IsFirm, IsResting, IsRow, IsShared, IsUser, Machine, put}
 use Rattle.switch_machine.specs.Places.{makes}
 use Rattle.switch_machine.specs.Steps.{Ends, finished}
 use Rattle.switch_machine.proofs.Running.{one_flight, row_keys, shared_row}
@@ -33,7 +33,7 @@ use Rattle.registry_laws.specs.Known.{IsKnownRow, IsKnownShared, IsPinOf, Names,
 use Rattle.registry_laws.specs.Registers.{Registers}
 use Rattle.registry_laws.proofs.Finding.{found_at, found_off, gone_at, gone_off}
 use Rattle.registry_laws.proofs.Listing.{but_in, in_but, none_rising, not_some}
-use Rattle.registry_laws.proofs.Passing.{IsDropped, but_other, dropped_off, dropped_rising, dropped_row, of_pins, pins_its, released_rising, with_in, with_kept, with_new, with_rising}
+use Rattle.registry_laws.proofs.Passing.{IsDropped, no_pin_left, dropped_off, dropped_rising, dropped_row, of_pins, pins_its, released_rising, with_in, with_kept, with_new, with_rising}
 
 -- what is known of a name's users and pins, however it stands
 pub record HasUsers (m : Machine) (p : Key) (x : Option Registered) : Type 0 where
@@ -63,27 +63,27 @@ own_ended_off names k (Some r) o apart = by (state_of names (name.Row k))
     by state.Live = refl
     by (state.Retiring v) = refl
 
-module _ (plan : Ports) (m : Machine) (sound : IsConsistent plan m) (w : ℕ) (f : Flight) (ends : Ends m w f) where
+module _ (plan : Ports) (m : Machine) (sound : IsConsistent plan m) (w : ℕ) (f : MachineFlight) (ends : Ends m w f) where
   abbrev pub later : Machine
   later = finished m w f
 
-  was_of : (v : ℕ) (h : Flight) → later.board.flights v ≡ Some h → (v ≡ w → ⊥) × (m.board.flights v ≡ Some h)
+  was_of : (v : ℕ) (h : MachineFlight) → later.board.flights v ≡ Some h → (v ≡ w → ⊥) × (m.board.flights v ≡ Some h)
   was_of v h at = of (put_by w v None m.board.flights (Some h) at)
     where
       of : IsPut w v None m.board.flights (Some h) → (v ≡ w → ⊥) × (m.board.flights v ≡ Some h)
       of (New same e) = not_some h e
       of (Old apart there) = (apart, there)
 
-  still : (v : ℕ) (h : Flight) → (v ≡ w → ⊥) → m.board.flights v ≡ Some h → later.board.flights v ≡ Some h
+  still : (v : ℕ) (h : MachineFlight) → (v ≡ w → ⊥) → m.board.flights v ≡ Some h → later.board.flights v ≡ Some h
   still v h apart at = put_off w v None m.board.flights apart ∙ at
 
   -- the worker's flight is this one
-  its : (v : ℕ) (h : Flight) → m.board.flights v ≡ Some h → v ≡ w → f ≡ h
+  its : (v : ℕ) (h : MachineFlight) → m.board.flights v ≡ Some h → v ≡ w → f ≡ h
   its v h at same = one_flight f h (sym ends.flying ∙ ap m.board.flights (sym same) ∙ at)
 
   -- another key's operation is another worker's
-  apart_of : (p : Key) (v : ℕ) (h : Flight) → (f.key ≡ p → ⊥) → m.board.flights v ≡ Some h → h.key ≡ p → v ≡ w → ⊥
-  apart_of p v h other at same e = other (ap (λ (z : Flight). z.key) (its v h at e) ∙ same)
+  apart_of : (p : Key) (v : ℕ) (h : MachineFlight) → (f.key ≡ p → ⊥) → m.board.flights v ≡ Some h → h.key ≡ p → v ≡ w → ⊥
+  apart_of p v h other at same e = other (ap (λ (z : MachineFlight). z.key) (its v h at e) ∙ same)
 
   applied_off : (q : Key) → (f.key ≡ q → ⊥) → later.board.applied q ≡ m.board.applied q
   applied_off q other = row_off f.key q f.new m.board.applied other
@@ -116,10 +116,10 @@ module _ (plan : Ports) (m : Machine) (sound : IsConsistent plan m) (w : ℕ) (f
     where
       mine : f ≡ h → CountsAsUser plan h p → IsUser plan later.board q p
       mine one (inl i) =
-          let key = ap (λ (z : Flight). z.key) one ∙ same in
+          let key = ap (λ (z : MachineFlight). z.key) one ∙ same in
           let i' : IsIn p (uses_of plan f.key f.new) = subst (λ z. IsIn p (uses_of plan z.key z.new)) (sym one) i in
           inr (subst (λ z. IsResting later.board z) key rest_here, subst (λ z. IsIn p (uses_of plan q z)) (sym (applied_at q key)) (subst (λ z. IsIn p (uses_of plan z f.new)) key i'))
-      mine one (inr e) = not_some p (sym ends.left ∙ ap (λ (z : Flight). z.leaves) one ∙ e)
+      mine one (inr e) = not_some p (sym ends.left ∙ ap (λ (z : MachineFlight). z.leaves) one ∙ e)
 
       by : IsSplit v w → IsUser plan later.board q p
       by (inl e) = mine (its v h at e) counts
@@ -164,8 +164,8 @@ module _ (plan : Ports) (m : Machine) (sound : IsConsistent plan m) (w : ℕ) (f
     by_pin : (q : Key) (v : Pin) → v.worker ≡ w → q ≡ v.user → IsPinOf m.board p v → Names later.board.applied q p
     by_pin q v same user (g, at, key, (r, new, i)) =
         let one = its v.worker g at same in
-        let is : f.key ≡ q = ap (λ (z : Flight). z.key) one ∙ key ∙ sym user in
-        (r, applied_at q is ∙ ap (λ (z : Flight). z.new) one ∙ new, subst (λ z. IsIn p (names_of z r)) (key ∙ sym user) i)
+        let is : f.key ≡ q = ap (λ (z : MachineFlight). z.key) one ∙ key ∙ sym user in
+        (r, applied_at q is ∙ ap (λ (z : MachineFlight). z.new) one ∙ new, subst (λ z. IsIn p (names_of z r)) (key ∙ sym user) i)
 
     into : (q : Key) → IsIn q (users_at y) ⊎ ((v : Pin) × IsIn v (pins_of w (pins_at y)) × (q ≡ v.user)) → Names later.board.applied q p
     into q (inl h) = let d = dropped.into q h in was_named q (key_split f.key q) ((known.users q).0 d.0) d.1
@@ -186,7 +186,7 @@ module _ (plan : Ports) (m : Machine) (sound : IsConsistent plan m) (w : ℕ) (f
     }
       where
         pin_now : (q : Pin) → IsIn q (pins_but w (pins_at y)) → IsPinOf later.board p q
-        pin_now q h = let g = (known.pins q).0 (subst (IsIn q) dropped.pins (but_in w q (pins_at y) h)) in (g.0, still q.worker g.0 (but_other w q (pins_at y) h) g.1, g.2, g.3)
+        pin_now q h = let g = (known.pins q).0 (subst (IsIn q) dropped.pins (but_in w q (pins_at y) h)) in (g.0, still q.worker g.0 (no_pin_left w q (pins_at y) h) g.1, g.2, g.3)
 
         pin_was : (q : Pin) → IsPinOf later.board p q → IsIn q (pins_but w (pins_at y))
         pin_was q (g, at, key, brings) = let b = was_of q.worker g at in in_but w q (pins_at y) b.0 (subst (IsIn q) (sym dropped.pins) ((known.pins q).1 (g, b.1, key, brings)))
@@ -207,7 +207,7 @@ module _ (plan : Ports) (m : Machine) (sound : IsConsistent plan m) (w : ℕ) (f
   own_going state.Absent none some (rests, _) = absurd (rests w f ends.flying refl)
   own_going (state.Building v) none some (flown, e) = absurd (some e)
   own_going state.Live none some (inl firm) = absurd (firm.stays w f ends.flying refl none)
-  own_going state.Live none some (inr made) = not_some made.row (sym none ∙ ap (λ (z : Flight). z.new) (its made.worker made.flight made.flying (sound.board.one made.worker w made.flight f made.flying ends.flying made.key)) ∙ made.new)
+  own_going state.Live none some (inr made) = not_some made.row (sym none ∙ ap (λ (z : MachineFlight). z.new) (its made.worker made.flight made.flying (sound.board.one made.worker w made.flight f made.flying ends.flying made.key)) ∙ made.new)
   own_going (state.Retiring v) none some x = ap state.Retiring (sound.board.one v w x.flight f x.flying ends.flying x.key)
 
   module _ (workers : ℕ) (capacities : List ℕ) (names : registry.Names) (room room' : RoomState) (known : Registers plan workers capacities names room m) (rising : HasRisingKeys name_cmp names) (gives : GivesBack room w room') (some : m.board.applied f.key ≡ None → f.new ≡ None → ⊥) where
@@ -269,7 +269,7 @@ module _ (plan : Ports) (m : Machine) (sound : IsConsistent plan m) (w : ℕ) (f
         by state.Live e stands = subst (IsKnownRow later f.key) (sym (ap (λ st. registered_at (made_at_last st passed f.key) (name.Row f.key)) e)) (with_stands f.key (registered_at passed (name.Row f.key)) (users_at_row f.key) (subst (RowStands later f.key) (sym e) (own_live r new)))
         by (state.Retiring v) e stands =
             let x = subst (RowStands m f.key) e stands in
-            not_some r (sym (ap (λ (z : Flight). z.new) (its v x.flight x.flying (sound.board.one v w x.flight f x.flying ends.flying x.key)) ∙ x.none) ∙ new)
+            not_some r (sym (ap (λ (z : MachineFlight). z.new) (its v x.flight x.flying (sound.board.one v w x.flight f x.flying ends.flying x.key)) ∙ x.none) ∙ new)
 
     row_known : (p : Key) → IsSplit f.key p → IsKnownRow later p (registered_at ended (name.Row p))
     row_known p (inl same) = subst (λ z. IsKnownRow later z (registered_at ended (name.Row z))) same (own_row f.new refl)

@@ -1,19 +1,17 @@
 -- what is known of an owner's name after a change of names
-use Rattle.std.proofs.Common.{◌≡◌, ◌⊎◌, ◌∷◌, ◌∙◌, inl, inr, ℕ, Bool, true, false, cond, List, [], Option, None, Some, option_map, refl, sym, ap, ap₂, subst}
+use Rattle.std.proofs.Common.{◌≡◌, ◌⊎◌, ◌∷◌, ◌∙◌, inl, inr, ℕ, Bool, true, false, cond, List, [], Option, None, Some, option_map, refl, sym, ap, subst}
 use Rattle.std.specs.BTreeMap.{insert_entry, is_at}
-use Rattle.std.specs.Cmp.Lexicographic.{slice_cmp}
 use Rattle.std.specs.Ordering.{is_eq}
 use Rattle.std.specs.declared.cmp.Ordering.{Ordering}
 use Rattle.std.specs.declared.cmp.Ordering.TheVariants.{Less, Equal, Greater}
 use Rattle.std.proofs.lemmas.Cmp.{tied_itself}
-use Rattle.std.proofs.lemmas.Map.Lookups.{CmpEqualImpliesEq, exact_unsigned}
+use Rattle.std.proofs.lemmas.Map.Lookups.{exact_unsigned}
+use Rattle.std.proofs.lemmas.Option.{same_Some}
 use Rattle.table_schema.specs.declared.key.Key.{Key}
-use Rattle.table_schema.proofs.Keys.{ip_exact, key_exact, then_first, then_last}
+use Rattle.table_schema.proofs.Keys.{key_exact}
 use Rattle.table_schema.proofs.Places.{out_step, put_step}
 use Rattle.sai_types.specs.Alike.{IsIn}
-use Rattle.sai_types.specs.Named.{hop_cmp}
-use Rattle.sai_types.proofs.Rising.{hop_exact}
-use Rattle.switch_model.proofs.Tied.{tied}
+use Rattle.sai_types.proofs.Rising.{hops_exact}
 use Rattle.row_layout.specs.Rows as owner
 use Rattle.row_layout.specs.Rows.{Owner}
 use Rattle.switch_machine.proofs.Running.{row_keys}
@@ -26,6 +24,7 @@ use Rattle.ref_counts.specs.Registry.{Names, changed, gone_from, is_retiring, na
 use Rattle.ref_counts.specs.declared.name.NameState.TheVariants as state
 use Rattle.std.specs.List.{AllByRecursion}
 use Rattle.std.specs.Map.{remove_entry}
+use Rattle.swss_types.proofs.Tied.{then_first, then_last, tied}
 use Rattle.table_schema.specs.Fields.{HasRisingKeys}
 use Rattle.ref_counts.proofs.Changing.{name_total}
 use Rattle.ref_counts.proofs.Found.{apart_from, found-changed, found-other, found-put}
@@ -33,16 +32,11 @@ use Rattle.orch_flight.specs.Needing.{name_for}
 use Rattle.orch_flight.specs.Starting.{ids_for, ids_for_row, used_by, with_building, with_own, with_pins}
 use Rattle.table_schema.specs.Names.{names_of}
 use Rattle.table_schema.specs.declared.row.Row.{Row}
+use Rattle.swss_types.proofs.AddressOrders.{ip_exact}
 use Rattle.registry_laws.specs.Known.{pins_at}
-use Rattle.registry_laws.proofs.Listing.{in_left, in_right, no_some, not_some, same_some}
+use Rattle.registry_laws.proofs.Listing.{in_left, in_right, never_none, not_some}
 
 -- ---- owners have names of their own
-
-hops_exact : CmpEqualImpliesEq (slice_cmp hop_cmp)
-hops_exact [] [] h = refl
-hops_exact (x ∷ xs) (y ∷ ys) h = ap₂ (λ z zs. z ∷ zs) (hop_exact x y (then_first _ _ h)) (hops_exact xs ys (then_last _ _ h))
-hops_exact [] (y ∷ ys) h = cc
-hops_exact (x ∷ xs) [] h = cc
 
 names_exact : (o p : Owner) → name_cmp (name_for o) (name_for p) ≡ Equal → o ≡ p
 names_exact (owner.OfRow k) (owner.OfRow q) h = ap owner.OfRow (key_exact k q h)
@@ -142,7 +136,7 @@ module _ (w : ℕ) (k : Key) where
     where
       back : (o : Option Registered) → option_map (with_pin w k) o ≡ None → o ≡ None
       back None h = refl
-      back (Some r) h = no_some (with_pin w k r) h
+      back (Some r) h = never_none (with_pin w k r) h
   first_pin names q p (inr apart) =
       let off = found_off names (owner.OfRow q) (owner.OfRow p) (with_pin w k) (λ e. apart (row_keys q p e)) in
       (subst (IsPinned w k (p ≡ q) (registered_at names (name.Row p))) (sym off) (not_pinned w k (p ≡ q) (registered_at names (name.Row p)) (λ e. apart (sym e))), λ some none. some (sym off ∙ none))
@@ -203,7 +197,7 @@ module _ (w : ℕ) (k : Key) where
 
   pub pins_row : (names : Names) (x : Option Row) (p : Key) → IsPinned w k (NamesNew x p) (registered_at names (name.Row p)) (registered_at (with_pins names w k x) (name.Row p))
   pins_row names None p = not_pinned w k (NamesNew None p) (registered_at names (name.Row p)) (λ h. not_some h.0 h.1)
-  pins_row names (Some r) p = pinned-as w k (IsIn p (names_of k r)) (NamesNew (Some r) p) (registered_at names (name.Row p)) (registered_at (pinned names w k (names_of k r)) (name.Row p)) (λ h. (r, refl, h)) (λ h. subst (λ z. IsIn p (names_of k z)) (sym (same_some r h.0 h.1)) h.2) (pinned_row w k names (names_of k r) p)
+  pins_row names (Some r) p = pinned-as w k (IsIn p (names_of k r)) (NamesNew (Some r) p) (registered_at names (name.Row p)) (registered_at (pinned names w k (names_of k r)) (name.Row p)) (λ h. (r, refl, h)) (λ h. subst (λ z. IsIn p (names_of k z)) (sym (same_Some r h.0 h.1)) h.2) (pinned_row w k names (names_of k r) p)
 
 -- ---- a name that is gone
 

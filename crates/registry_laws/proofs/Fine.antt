@@ -175,7 +175,7 @@ made_fine names k (thing.Group hops) made are = are
 made_fine names k (thing.GroupMember hops hop) made are = are
 made_fine names k (thing.Route prefix goal) made are = are
 
-taken_fine : (names : Names) (n : thing_name.Name) → AreFine names → AreFine (taken_names names n)
+taken_fine : (names : Names) (n : thing_name.ThingName) → AreFine names → AreFine (taken_names names n)
 taken_fine names (thing_name.BridgePort lane) are = gone_fine (owner.Bridge lane) names are
 taken_fine names (thing_name.Own ip) are = gone_fine (owner.Own ip) names are
 taken_fine names (thing_name.Port lane) are = are

@@ -1,6 +1,7 @@
 -- what workers have under way stands for the machine when a change of a group has taken effect
 use Rattle.std.proofs.Common.{arith, ◌≡◌, ◌⊎◌, ◌∷◌, ◌++◌, ◌∙◌, inl, inr, ℕ, suc, Bool, true, false, List, [], length, Option, None, Some, is_some, if◌then◌else◌, refl, sym, ap, subst}
 use Rattle.std.proofs.lemmas.List.{append_assoc, length-append}
+use Rattle.std.proofs.lemmas.Option.{same_Some}
 use Rattle.table_schema.specs.Plan.{IsPlan, Ports}
 use Rattle.sai_types.specs.declared.hop.Hop.{Hop}
 use Rattle.sai_types.specs.declared.ids.Rid.{Rid}
@@ -14,7 +15,7 @@ use Rattle.row_layout.specs.Shared.{shared_things}
 use Rattle.switch_machine.specs.Changes.{changed_name}
 use Rattle.switch_machine.specs.Consistent.{IsConsistent}
 use Rattle.switch_machine.specs.Events.{Due, Ended, Follows}
-use Rattle.switch_machine.specs.Flights.{Flight, HasChangeOf, IsOwnedBy, IsShared, Machine, StandsIn, put}
+use Rattle.switch_machine.specs.Flights.{MachineFlight, HasChangeOf, IsOwnedBy, IsShared, Machine, StandsIn, put}
 use Rattle.switch_machine.specs.Steps.{Ends, Moves, finished, moved}
 use Rattle.switch_machine.proofs.Ending.{sound-ended}
 use Rattle.switch_machine.proofs.Moving.{sound-moved}
@@ -38,7 +39,7 @@ use Rattle.registry_laws.proofs.Between.{due_follows, due_moved}
 use Rattle.registry_laws.proofs.Ended.{registers_ended}
 use Rattle.registry_laws.proofs.Fine.{AreFine, ended_fine, fine_of, group_fine}
 use Rattle.registry_laws.proofs.Grouped.{taken_group}
-use Rattle.registry_laws.proofs.Listing.{in_left, in_right, no_some, not_some, same_some}
+use Rattle.registry_laws.proofs.Listing.{in_left, in_right, never_none, not_some}
 use Rattle.registry_laws.proofs.Moved.{gone_moved, same_moved, shared_moved}
 use Rattle.registry_laws.proofs.Parting.{removals_of}
 use Rattle.registry_laws.proofs.Replied.{same_first, same_rest}
@@ -63,7 +64,7 @@ module _ (plan : Ports) (is : IsPlan plan) (capacities : List ℕ) (m : Machine)
   abbrev w : ℕ
   w = x.operation.worker
 
-  abbrev g : Flight
+  abbrev g : MachineFlight
   g = flight_of x.operation
 
   abbrev o : Owner
@@ -181,7 +182,7 @@ module _ (plan : Ports) (is : IsPlan plan) (capacities : List ℕ) (m : Machine)
       between = y.between;
       standing = standing;
       later = y.later;
-      group = λ v e. subst (IsGroupFlown plan names p) (same_some next_part v e) now_part;
+      group = λ v e. subst (IsGroupFlown plan names p) (same_Some next_part v e) now_part;
     }
 
     group_goes_on : On (Some part') names'
@@ -216,7 +217,7 @@ module _ (plan : Ports) (is : IsPlan plan) (capacities : List ℕ) (m : Machine)
       stays_there retires =
           let st = (built_state names p.worker (group_in (uses_of plan p.key p.new)) part.hops to_be_built).1 in
           let s = subst (SharedStands plan m o) st (board.registers.names_known.shared o tt).stands in
-          s.3 (subst (λ (v : Flight). v.retires ≡ Some o) (one_flight g s.0 (sym moves.flying ∙ s.1)) retires)
+          s.3 (subst (λ (v : MachineFlight). v.retires ≡ Some o) (one_flight g s.0 (sym moves.flying ∙ s.1)) retires)
 
       known_built : Registers plan 4 capacities names' room later
       known_built = subst (λ ns. Registers plan 4 capacities ns room later) (sym (names_by true builds)) (shared_moved plan m w g c cs stands moves 4 capacities names room board.registers is sound o tt own none_left stays_there (with_made part made))
@@ -241,7 +242,7 @@ module _ (plan : Ports) (is : IsPlan plan) (capacities : List ℕ) (m : Machine)
         rest = y.rest;
         between = y.between;
         standing = standing;
-        later = λ hops h. no_some hops (sym h ∙ built_now);
+        later = λ hops h. never_none hops (sym h ∙ built_now);
         group = λ v e. not_some v e;
       }
 

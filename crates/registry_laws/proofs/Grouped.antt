@@ -1,5 +1,7 @@
 -- before the first event, and when the operation of a group begins
 use Rattle.std.proofs.Common.{◌≡◌, ◌⊎◌, ◌∷◌, ◌++◌, ◌≤◌, ◌∙◌, inl, inr, ℕ, suc, Bool, true, false, List, [], map, length, Option, None, Some, option_map, refl, sym, ap, subst, arith}
+use Rattle.std.proofs.lemmas.Option.{same_Some}
+use Rattle.swss_types.proofs.Proper.{mapped}
 use Rattle.table_schema.specs.Plan.{IsPlan, Ports}
 use Rattle.table_schema.specs.declared.key.Key.{Key}
 use Rattle.table_schema.specs.declared.key.Key.TheVariants as key
@@ -33,7 +35,7 @@ use Rattle.registry_laws.specs.Flown.{Flown, group_in, group_to_build, group_to_
 use Rattle.registry_laws.specs.Flying.{IsFlown, IsGroupFlown, KnowsBoard, flown_as}
 use Rattle.registry_laws.proofs.Aside.{built_state}
 use Rattle.registry_laws.proofs.Between.{registers_nothing}
-use Rattle.registry_laws.proofs.Listing.{mapped, no_some, not_some, same_some}
+use Rattle.registry_laws.proofs.Listing.{never_none, not_some}
 
 pub board_nothing : (plan : Ports) (capacities : List ℕ) → KnowsBoard plan capacities [] (all_free capacities) (λ w. None) empty_machine
 board_nothing plan capacities = record {
@@ -56,7 +58,7 @@ group_is_in [] hops h = not_some hops h
 group_is_in (owner.OfRow k ∷ os) hops h = inr (group_is_in os hops h)
 group_is_in (owner.Bridge lane ∷ os) hops h = inr (group_is_in os hops h)
 group_is_in (owner.Own ip ∷ os) hops h = inr (group_is_in os hops h)
-group_is_in (owner.Group other ∷ os) hops h = inl (ap owner.Group (sym (same_some other hops h)))
+group_is_in (owner.Group other ∷ os) hops h = inl (ap owner.Group (sym (same_Some other hops h)))
 
 pub built_use : (plan : Ports) (names : Names) (f : Operation) (hops : List Hop) → group_to_build plan names f ≡ Some hops → IsIn (owner.Group hops) (uses_of plan f.key f.new)
 built_use plan names f hops h = group_is_in (uses_of plan f.key f.new) hops (built_state names f.worker (group_in (uses_of plan f.key f.new)) hops h).0
@@ -99,13 +101,13 @@ module _ (plan : Ports) (is : IsPlan plan) where
 
 -- ---- the operation of a group begins
 
-take_some : {X : Type 0} (ts : List Thing) (t : Thing) → take_all (ts ++ t ∷ []) [] ≡ [] → X
-take_some [] t h = absurd cc
-take_some (x ∷ ts) t h = absurd cc
+takes_something : {X : Type 0} (ts : List Thing) (t : Thing) → take_all (ts ++ t ∷ []) [] ≡ [] → X
+takes_something [] t h = absurd cc
+takes_something (x ∷ ts) t h = absurd cc
 
 pub first_some : (hops : List Hop) (b : Bool) → first_group_due hops b ≡ [] → ⊥
 first_some hops true h = cc
-first_some hops false h = take_some (members_of hops hops) (thing.Group hops) h
+first_some hops false h = takes_something (members_of hops hops) (thing.Group hops) h
 
 module _ (plan : Ports) (names : Names) (f : Operation) (w : ℕ) (worker : f.worker ≡ w) (hops : List Hop) where
   first_flown : (b : Bool) → ((b ≡ true) × (group_to_build plan names f ≡ Some hops)) ⊎ ((b ≡ false) × (group_to_take f ≡ Some hops)) → IsGroupOver plan (first_group plan w hops b) → IsGroupFlown plan names f (first_group plan w hops b)
@@ -147,15 +149,15 @@ module _ (plan : Ports) (capacities : List ℕ) (names : Names) (room : RoomStat
         between = was.between;
         standing = was.standing;
         later = was.later;
-        group = λ h e. subst (IsGroupFlown plan names x.operation) (same_some g h e) grouped;
+        group = λ h e. subst (IsGroupFlown plan names x.operation) (same_Some g h e) grouped;
       }
 
       idle : (v : ℕ) → IsPut w v (Some y) flown None → m.board.flights v ≡ None
-      idle v (New e one) = no_some y one
+      idle v (New e one) = never_none y one
       idle v (Old apart there) = board.idle v there
 
       flying : (v : ℕ) (z : Flown) → IsPut w v (Some y) flown (Some z) → IsFlown plan names m v z
-      flying v z (New e one) = subst (IsFlown plan names m v) (same_some y z one) (subst (λ u. IsFlown plan names m u y) (sym e) now)
+      flying v z (New e one) = subst (IsFlown plan names m v) (same_Some y z one) (subst (λ u. IsFlown plan names m u y) (sym e) now)
       flying v z (Old apart there) = board.flying v z there
 
   pub builds_begun : (hops : List Hop) → x.group ≡ None → group_to_build plan names x.operation ≡ Some hops → KnowsBoard plan capacities names room (put w (Some (flown_as x.operation (Some (first_group plan w hops true)))) flown) m

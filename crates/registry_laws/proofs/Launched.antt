@@ -22,7 +22,7 @@ use Rattle.row_layout.specs.Rows.{Owner, from, goal_by, goal_of, own_things}
 use Rattle.row_layout.specs.Shared.{group_by, route_uses, uses}
 use Rattle.row_layout.proofs.Members.{from_in, only}
 use Rattle.switch_machine.specs.Consistent.{IsConsistent}
-use Rattle.switch_machine.specs.Flights.{Fits, Flight, HasChangeOf, Machine, Runs, StandsIn}
+use Rattle.switch_machine.specs.Flights.{Fits, MachineFlight, HasChangeOf, Machine, Runs, StandsIn}
 use Rattle.switch_machine.specs.Operations.{MayBegin}
 use Rattle.switch_machine.specs.Steps.{started}
 use Rattle.switch_machine.proofs.Beginning.{sound-begun}
@@ -45,7 +45,7 @@ use Rattle.registry_laws.specs.Known.{SharedStands}
 use Rattle.registry_laws.specs.Registers.{Registers, beginning, due_first, group_built}
 use Rattle.registry_laws.proofs.Apart.{built_apart}
 use Rattle.registry_laws.proofs.Aside.{building_is, built_some}
-use Rattle.registry_laws.proofs.Listing.{no_some, not_some}
+use Rattle.registry_laws.proofs.Listing.{never_none, not_some}
 use Rattle.registry_laws.proofs.Nexts.{next_later, next_now, runs_later, sets_by}
 use Rattle.registry_laws.proofs.Rests.{AreInOrder, none_of_group, rest_order}
 use Rattle.registry_laws.proofs.Settled.{not_built, settled_by, settled_names_by, some_of_due}
@@ -107,7 +107,7 @@ module _ (plan : Ports) (is : IsPlan plan) (capacities : List ℕ) (m : Machine)
   abbrev old : Option Row
   old = m.board.applied k
 
-  abbrev f : Flight
+  abbrev f : MachineFlight
   f = beginning plan k old new
 
   abbrev pub due : List Change
@@ -192,7 +192,7 @@ module _ (plan : Ports) (is : IsPlan plan) (capacities : List ℕ) (m : Machine)
   has_own hops h none = by builds refl
     where
       nothing : group_built builds ≡ [] → ⊥
-      nothing e = no_some hops (sym h ∙ builds_none e)
+      nothing e = never_none hops (sym h ∙ builds_none e)
 
       by_row : (group : List Hop) → builds ≡ Some (owner.Group group) → (x : Option Row) → new ≡ x → ⊥
       by_row group e None is_new = not_some (owner.Group group) (sym (ap (to_build plan names k) is_new) ∙ e)
@@ -221,7 +221,7 @@ module _ (plan : Ports) (is : IsPlan plan) (capacities : List ℕ) (m : Machine)
       by : (x : Option Row) → new ≡ x → IsChangeFor plan first own
       by (Some r) e =
           let runs = runs_later plan f (group_built builds) own (StandsIn later) now_runs in
-          next_later plan is later sound' w first here old_fits (inl refl) runs.0 own in_order (λ none. no_some r (sym e ∙ none)) refl runs.1
+          next_later plan is later sound' w first here old_fits (inl refl) runs.0 own in_order (λ none. never_none r (sym e ∙ none)) refl runs.1
       by None e =
           let nothing : builds ≡ None = ap (to_build plan names k) e in
           next_now plan is later sound' w first here old_fits (inl refl) own in_order (subst (λ b. Runs plan f (StandsIn later) (group_built b ++ own)) nothing now_runs)

@@ -10,7 +10,7 @@ use Rattle.row_layout.specs.Rows as owner
 use Rattle.row_layout.specs.Rows.{Owner}
 use Rattle.switch_machine.specs.Changes.{changed_name}
 use Rattle.switch_machine.specs.Consistent.{IsConsistent}
-use Rattle.switch_machine.specs.Flights.{Flight, HasChangeOf, IsOwnedBy, IsShared, IsUser, Machine}
+use Rattle.switch_machine.specs.Flights.{MachineFlight, HasChangeOf, IsOwnedBy, IsShared, IsUser, Machine}
 use Rattle.switch_machine.specs.Operations.{IsLast}
 use Rattle.switch_machine.specs.Steps.{Leaves, LeavesOthers, left, parted}
 use Rattle.switch_machine.proofs.Running.{one_flight, one_owner, shared_row, some_owner}
@@ -26,7 +26,7 @@ use Rattle.orch_flight.specs.Starting.{gone_by, left_names, parted_by, retired_b
 use Rattle.registry_laws.specs.Known.{IsKnownRow, IsKnownShared}
 use Rattle.registry_laws.specs.Registers.{Registers}
 use Rattle.registry_laws.proofs.Finding.{found_at, found_off}
-use Rattle.registry_laws.proofs.Listing.{but_in, first_in, first_none, no_some, not_some}
+use Rattle.registry_laws.proofs.Listing.{but_in, first_listed_in, first_none, never_none, not_some}
 use Rattle.registry_laws.proofs.Parting as parting
 use Rattle.registry_laws.proofs.Users.{but_rising, but_users, users_kept}
 
@@ -46,14 +46,14 @@ none_pins (p ∷ ps) h = absurd (h p (inl refl))
 
 held_none : (a : Option Key) (b : Option ℕ) → held_or a b ≡ None → a ≡ None
 held_none None b h = refl
-held_none (Some k) b h = no_some (wait.Held k) h
+held_none (Some k) b h = never_none (wait.Held k) h
 
 held_some : (a : Option Key) (b : Option ℕ) (answer : Wait) → b ≡ None → held_or a b ≡ Some answer → (k : Key) × (a ≡ Some k)
 held_some (Some k) b answer none h = (k, refl)
 held_some None None answer none h = not_some answer h
-held_some None (Some v) answer none h = no_some v none
+held_some None (Some v) answer none h = never_none v none
 
-module _ (plan : Ports) (is : IsPlan plan) (m : Machine) (sound : IsConsistent plan m) (w : ℕ) (f : Flight) (o : Owner) (leaving : Leaves m w f o) where
+module _ (plan : Ports) (is : IsPlan plan) (m : Machine) (sound : IsConsistent plan m) (w : ℕ) (f : MachineFlight) (o : Owner) (leaving : Leaves m w f o) where
   abbrev Refusal : Option Registered → Option Wait
   Refusal x = option_and_then (retire_refusal w) (option_map (without_user f.key) x)
 
@@ -62,7 +62,7 @@ module _ (plan : Ports) (is : IsPlan plan) (m : Machine) (sound : IsConsistent p
 
   registered : (x : Option Registered) → IsKnownShared plan m o x → x ≡ None → ⊥
   registered None known e = (known.users f.key).1 (parting.its_user plan is m sound w f o leaving)
-  registered (Some r) known e = no_some r e
+  registered (Some r) known e = never_none r e
 
   only_user : (x : Option Registered) → IsKnownShared plan m o x → Refusal x ≡ None → (q : Key) → IsUser plan m.board q o → q ≡ f.key
   only_user None known h q user = elim ((known.users q).1 user) [ ]
@@ -76,7 +76,7 @@ module _ (plan : Ports) (is : IsPlan plan) (m : Machine) (sound : IsConsistent p
   other_user None answer known h = not_some answer h
   other_user (Some r) answer known h =
       let x = held_some (first_of (users_but f.key r.users)) (least_worker (pins_but w r.pins)) answer (no_pins r known) h in
-      let u = but_users f.key x.0 r.users (first_in (users_but f.key r.users) x.0 x.1) in
+      let u = but_users f.key x.0 r.users (first_listed_in (users_but f.key r.users) x.0 x.1) in
       (x.0, λ e. u.1 (sym e), (known.users x.0).0 u.0)
 
   is_last : ((q : Key) → IsUser plan m.board q o → q ≡ f.key) → IsLast plan m w f o
@@ -154,8 +154,8 @@ module _ (plan : Ports) (is : IsPlan plan) (m : Machine) (sound : IsConsistent p
           by p h (inl e) = subst (λ z. IsKnownShared plan now z (registered_at names' (name_for z))) e it
           by p h (inr apart) = subst (IsKnownShared plan now p) (sym (same p apart)) (parting.other_known plan is m sound w f o leaving retires due about p (registered_at names (name_for p)) apart (known.names_known.shared p h))
 
-          of : (v : ℕ) (h : Flight) (p : Owner) (c : Change) → h.retires ≡ Some p → IsIn c (now.due v) → IsPut w v (Some (parted f retires)) m.board.flights (Some h) → IsOwnedBy plan (changed_name c) p
-          of v h p c r i (New e one) = going_of p c (ap (λ (z : Flight). z.retires) (one_flight (parted f retires) h one) ∙ r) (subst (IsIn c) (put_at w v due m.due e) i)
+          of : (v : ℕ) (h : MachineFlight) (p : Owner) (c : Change) → h.retires ≡ Some p → IsIn c (now.due v) → IsPut w v (Some (parted f retires)) m.board.flights (Some h) → IsOwnedBy plan (changed_name c) p
+          of v h p c r i (New e one) = going_of p c (ap (λ (z : MachineFlight). z.retires) (one_flight (parted f retires) h one) ∙ r) (subst (IsIn c) (put_at w v due m.due e) i)
           of v h p c r i (Old apart there) = known.retiring v h p c there r (subst (IsIn c) (put_off w v due m.due apart) i)
 
     abbrev pub Parts : Type 0

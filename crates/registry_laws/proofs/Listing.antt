@@ -2,6 +2,7 @@
 use Rattle.std.proofs.Common.{◌≡◌, ◌⊎◌, ◌∷◌, ◌++◌, ◌<◌, ◌≤◌, ◌∙◌, inl, inr, ℕ, ◌==◌, min, Bool, true, false, not, cond, List, [], map, Option, None, Some, option_map, refl, sym, ap, subst, arith, is_le}
 use Rattle.std.proofs.lemmas.Bool.{cases_order, eqb-true}
 use Rattle.std.proofs.lemmas.Cmp.{tied_itself}
+use Rattle.std.proofs.lemmas.Option.{same_Some}
 use Rattle.std.specs.List.{AllByRecursion}
 use Rattle.std.specs.List.Sorted.{IsStrictlySortedBy}
 use Rattle.std.specs.declared.cmp.Ordering.TheVariants.{Less, Equal}
@@ -19,19 +20,12 @@ use Rattle.orch_flight.specs.Needing.{least_of, or_else}
 pub not_some : {X Y : Type 0} (x : X) → None ≡ Some x → Y
 not_some x h = absurd cc
 
-pub no_some : {X Y : Type 0} (x : X) → Some x ≡ None → Y
-no_some x h = absurd cc
-
-pub same_some : {X : Type 0} (x y : X) → Some x ≡ Some y → x ≡ y
-same_some x y h = cc
-
-pub mapped : {X Y : Type 0} (f : X → Y) (o : Option X) (y : Y) → option_map f o ≡ Some y → (x : X) × (o ≡ Some x) × (f x ≡ y)
-mapped f None y h = not_some y h
-mapped f (Some x) y h = (x, refl, same_some (f x) y h)
+pub never_none : {X Y : Type 0} (x : X) → Some x ≡ None → Y
+never_none x h = absurd cc
 
 pub mapped_none : {X Y : Type 0} (f : X → Y) (o : Option X) → option_map f o ≡ None → o ≡ None
 mapped_none f None h = refl
-mapped_none f (Some x) h = no_some (f x) h
+mapped_none f (Some x) h = never_none (f x) h
 
 pub else_some : (a b : Option Wait) (w : Wait) → or_else a b ≡ Some w → (a ≡ Some w) ⊎ ((a ≡ None) × (b ≡ Some w))
 else_some None b w h = inr (refl, h)
@@ -39,14 +33,9 @@ else_some (Some v) b w h = inl h
 
 pub else_none : (a b : Option Wait) → or_else a b ≡ None → (a ≡ None) × (b ≡ None)
 else_none None b h = (refl, h)
-else_none (Some v) b h = no_some v h
+else_none (Some v) b h = never_none v h
 
 -- ---- lists
-
-pub in_map : {X Y : Type 0} (f : X → Y) (x : X) (xs : List X) → IsIn x xs → IsIn (f x) (map f xs)
-in_map f x [] h = elim h [ ]
-in_map f x (y ∷ ys) (inl e) = inl (ap f e)
-in_map f x (y ∷ ys) (inr h) = inr (in_map f x ys h)
 
 pub map_in : {X Y : Type 0} (f : X → Y) (y : Y) (xs : List X) → IsIn y (map f xs) → (x : X) × IsIn x xs × (y ≡ f x)
 map_in f y [] h = elim h [ ]
@@ -64,13 +53,13 @@ in_right x (y ∷ xs) ys h = inr (in_right x xs ys h)
 
 -- ---- the first
 
-pub first_in : {X : Type 0} (xs : List X) (x : X) → first_of xs ≡ Some x → IsIn x xs
-first_in [] x h = not_some x h
-first_in (y ∷ ys) x h = inl (same_some x y (sym h))
+pub first_listed_in : {X : Type 0} (xs : List X) (x : X) → first_of xs ≡ Some x → IsIn x xs
+first_listed_in [] x h = not_some x h
+first_listed_in (y ∷ ys) x h = inl (same_Some x y (sym h))
 
 pub first_none : {X : Type 0} (xs : List X) (x : X) → first_of xs ≡ None → IsIn x xs → ⊥
 first_none [] x h g = g
-first_none (y ∷ ys) x h g = no_some y h
+first_none (y ∷ ys) x h g = never_none y h
 
 all_at : (P : Key → Type 0) (ks : List Key) (k : Key) → AllByRecursion P ks → IsIn k ks → P k
 all_at P [] k h g = elim g [ ]
@@ -81,23 +70,23 @@ all_at P (q ∷ ks) k h (inr g) = all_at P ks k h.1 g
 pub first_least : (ks : List Key) (x k : Key) → IsStrictlySortedBy key_cmp ks → first_of ks ≡ Some x → IsIn k ks → is_le (key_cmp x k) ≡ true
 unfolding IsStrictlySortedBy
 first_least [] x k rising h g = elim g [ ]
-first_least (y ∷ ys) x k rising h (inl e) = ap is_le (subst (λ z. key_cmp z k ≡ Equal) (e ∙ same_some y x h) (tied_itself key_total k))
-first_least (y ∷ ys) x k rising h (inr g) = ap is_le (subst (λ z. key_cmp z k ≡ Less) (same_some y x h) (all_at (λ q. key_cmp y q ≡ Less) ys k rising.0 g))
+first_least (y ∷ ys) x k rising h (inl e) = ap is_le (subst (λ z. key_cmp z k ≡ Equal) (e ∙ same_Some y x h) (tied_itself key_total k))
+first_least (y ∷ ys) x k rising h (inr g) = ap is_le (subst (λ z. key_cmp z k ≡ Less) (same_Some y x h) (all_at (λ q. key_cmp y q ≡ Less) ys k rising.0 g))
 
 -- ---- the least
 
 lesser_is : (n : ℕ) (o : Option ℕ) (v : ℕ) → Some (lesser n o) ≡ Some v → (v ≡ n × ((m : ℕ) → o ≡ Some m → n ≤ m)) ⊎ (o ≡ Some v × v ≤ n)
-lesser_is n None v h = inl (sym (same_some n v h), λ m e. not_some m e)
-lesser_is n (Some m) v h = by (same_some (min n m) v h) (cases_order n m)
+lesser_is n None v h = inl (sym (same_Some n v h), λ m e. not_some m e)
+lesser_is n (Some m) v h = by (same_Some (min n m) v h) (cases_order n m)
   where
     by : min n m ≡ v → (n ≡ m) ⊎ ((n < m) ⊎ (m < n)) → (v ≡ n × ((k : ℕ) → Some m ≡ Some k → n ≤ k)) ⊎ (Some m ≡ Some v × v ≤ n)
-    by e (inl same) = inl (omega (arith, e, same), λ k g. let x = same_some m k g in omega (arith, same, x))
-    by e (inr (inl less)) = inl (omega (arith, e, less), λ k g. let x = same_some m k g in omega (arith, less, x))
+    by e (inl same) = inl (omega (arith, e, same), λ k g. let x = same_Some m k g in omega (arith, same, x))
+    by e (inr (inl less)) = inl (omega (arith, e, less), λ k g. let x = same_Some m k g in omega (arith, less, x))
     by e (inr (inr more)) = let x : m ≡ v = omega (arith, e, more) in inr (ap Some x, omega (arith, x, more))
 
 pub least_none : (ns : List ℕ) (u : ℕ) → least_of ns ≡ None → IsIn u ns → ⊥
 least_none [] u h g = g
-least_none (n ∷ ns) u h g = no_some (lesser n (least_of ns)) h
+least_none (n ∷ ns) u h g = never_none (lesser n (least_of ns)) h
 
 pub least_in : (ns : List ℕ) (v : ℕ) → least_of ns ≡ Some v → IsIn v ns
 least_in [] v h = not_some v h

@@ -13,7 +13,7 @@ use Rattle.row_layout.specs.Rows as owner
 use Rattle.row_layout.specs.Rows.{Owner}
 use Rattle.switch_machine.specs.Changes.{changed_name}
 use Rattle.switch_machine.specs.Consistent.{IsConsistent}
-use Rattle.switch_machine.specs.Flights.{Concerns, Flight, HasChangeOf, IsOwnedBy, IsShared, IsUser, Machine, StandsIn}
+use Rattle.switch_machine.specs.Flights.{Concerns, MachineFlight, HasChangeOf, IsOwnedBy, IsShared, IsUser, Machine, StandsIn}
 use Rattle.switch_machine.specs.Steps.{Moves, moved}
 use Rattle.switch_machine.proofs.Moving.{fit_of}
 use Rattle.switch_machine.proofs.Running.{one_flight, one_owner, row_keys, shared_row}
@@ -31,13 +31,13 @@ use Rattle.registry_laws.specs.Known.{IsKnownRow, IsKnownShared, RowStands, Shar
 use Rattle.registry_laws.specs.Registers.{KnowsNames, Registers, made_live_at}
 use Rattle.registry_laws.proofs.Finding.{found_at, found_off, gone_at, gone_off}
 use Rattle.registry_laws.proofs.Listing.{none_rising}
-use Rattle.registry_laws.proofs.Listing.{no_some}
+use Rattle.registry_laws.proofs.Listing.{never_none}
 use Rattle.registry_laws.proofs.Telling.{touched-concern, touched-one}
 
 some_change : {X : Type 0} (c : Change) (cs : List Change) → c ∷ cs ≡ [] → X
 some_change c cs h = absurd cc
 
-module _ (plan : Ports) (m : Machine) (w : ℕ) (f : Flight) (c : Change) (cs : List Change) (stands : List (Rid × Thing)) (moves : Moves m w f c cs stands) where
+module _ (plan : Ports) (m : Machine) (w : ℕ) (f : MachineFlight) (c : Change) (cs : List Change) (stands : List (Rid × Thing)) (moves : Moves m w f c cs stands) where
   abbrev pub later : Machine
   later = moved m w cs stands
 
@@ -120,15 +120,15 @@ module _ (plan : Ports) (m : Machine) (w : ℕ) (f : Flight) (c : Change) (cs : 
       was : IsKnownShared plan m o (registered_at names (name_for o))
       was = known.names_known.shared o shared
 
-      only : (v : ℕ) (g : Flight) → m.board.flights v ≡ Some g → HasChangeOf plan (m.due v) o → v ≡ w
+      only : (v : ℕ) (g : MachineFlight) → m.board.flights v ≡ Some g → HasChangeOf plan (m.due v) o → v ≡ w
       only v g at t = touched-one plan is m sound v w g f o at moves.flying t touched
 
-      untouched : (v : ℕ) (g : Flight) → m.board.flights v ≡ Some g → HasChangeOf plan (later.due v) o → ⊥
+      untouched : (v : ℕ) (g : MachineFlight) → m.board.flights v ≡ Some g → HasChangeOf plan (later.due v) o → ⊥
       untouched v g at t = none (subst (λ d. HasChangeOf plan d o) (due_new v (only v g at (touch_was v o t))) t)
 
       registered : (x : Option Registered) → SharedStands plan m o (state_in x) → x ≡ None → ⊥
       registered None stands e = stands.1 w f moves.flying touched
-      registered (Some r) stands e = no_some r e
+      registered (Some r) stands e = never_none r e
 
       pub shared_moved : (f.retires ≡ Some o → ⊥) → (ids : List Vid) → IsStill (made_live_at names (name_for o) ids)
       shared_moved other ids = one_changed (made_live_at names (name_for o) ids) o (λ p apart. found_off names o p (made_live ids) apart) shared of (subst (IsKnownShared plan later o) (sym (found_at names o (made_live ids))) (by (registered_at names (name_for o)) was))
@@ -164,7 +164,7 @@ module _ (plan : Ports) (m : Machine) (w : ℕ) (f : Flight) (c : Change) (cs : 
           going state.Live (_, still) = absurd (still w f moves.flying touched)
           going (state.Retiring v) (g, at, t, r) = ap state.Retiring (only v g at t)
 
-module _ (plan : Ports) (m : Machine) (w : ℕ) (f : Flight) (c : Change) (stands : List (Rid × Thing)) (moves : Moves m w f c [] stands) (workers : ℕ) (capacities : List ℕ) (names : registry.Names) (room : RoomState) (known : Registers plan workers capacities names room m) where
+module _ (plan : Ports) (m : Machine) (w : ℕ) (f : MachineFlight) (c : Change) (stands : List (Rid × Thing)) (moves : Moves m w f c [] stands) (workers : ℕ) (capacities : List ℕ) (names : registry.Names) (room : RoomState) (known : Registers plan workers capacities names room m) where
   -- all of the key's row is made
   pub row_moved : IsOwnedBy plan (changed_name c) (owner.OfRow f.key) → (r : Row) → f.new ≡ Some r → (ids : List Vid) → Registers plan workers capacities (made_live_at names (name.Row f.key) ids) room (moved m w [] stands)
   row_moved of r new ids = with_names plan m w f c [] stands moves workers capacities names room known (made_live_at names (name.Row f.key) ids) (record {

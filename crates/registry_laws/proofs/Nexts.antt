@@ -1,5 +1,6 @@
 -- what the change that is due next is about
 use Rattle.std.proofs.Common.{◌≡◌, ◌⊎◌, ◌∷◌, ◌++◌, ◌∙◌, inl, inr, ℕ, List, [], Option, None, Some, refl, sym, ap, subst}
+use Rattle.std.proofs.lemmas.Option.{same_Some}
 use Rattle.table_schema.specs.Plan.{IsPlan, Ports}
 use Rattle.table_schema.specs.declared.key.Key.{Key}
 use Rattle.table_schema.specs.declared.key.Key.TheVariants as key
@@ -19,7 +20,7 @@ use Rattle.row_layout.specs.Rows as owner
 use Rattle.row_layout.specs.Rows.{Owner, from, goal_of, own_things}
 use Rattle.switch_machine.specs.Changes.{IsSamePort, Resembles, after}
 use Rattle.switch_machine.specs.Consistent.{IsConsistent}
-use Rattle.switch_machine.specs.Flights.{CanSet, CanTake, Fits, Flight, Goes, IsOwnedBy, IsRow, Machine, Runs, StandsIn, own_of}
+use Rattle.switch_machine.specs.Flights.{CanSet, CanTake, Fits, MachineFlight, Goes, IsOwnedBy, IsRow, Machine, Runs, StandsIn, own_of}
 use Rattle.switch_machine.proofs.Running.{one_flight}
 use Rattle.switch_machine.proofs.Splits.{own_row_in}
 use Rattle.switch_machine.proofs.Tabled.{are_shared_by}
@@ -28,7 +29,7 @@ use Rattle.orch_flight.specs.Operation.{Operation}
 use Rattle.orch_flight.specs.Starting.{taken_here}
 use Rattle.registry_laws.specs.Flown.{flight_of}
 use Rattle.registry_laws.specs.Flying.{IsBetween}
-use Rattle.registry_laws.proofs.Listing.{in_left, in_right, not_some, same_some}
+use Rattle.registry_laws.proofs.Listing.{in_left, in_right, not_some}
 use Rattle.registry_laws.proofs.Rests.{AreInOrder}
 
 pub resembles_name : (u t : Thing) → Resembles u t → name_of u ≡ name_of t
@@ -55,7 +56,7 @@ one_named (Some x) f g t (inr h) same = elim h [ ]
 pub same_names : (plan : Ports) (k : Key) (r n : Row) (t : Thing) → Fits plan k r → Fits plan k n → IsIn t (own_things plan k r) → HasNamed (own_things plan k n) t
 same_names plan (key.Port p) (row.Port r) (row.Port n) t fr fn h =
     one_named (lane_of plan p) (λ lane. thing.Port (record { lanes = r.lanes; speed = r.speed; mtu = r.mtu; up = r.up })) (λ lane. thing.Port (record { lanes = n.lanes; speed = n.speed; mtu = n.mtu; up = n.up })) t h
-    (λ lane e. ap (λ l. thing_name.Port (first_lane l)) (same_some n.lanes r.lanes (sym fn ∙ fr)))
+    (λ lane e. ap (λ l. thing_name.Port (first_lane l)) (same_Some n.lanes r.lanes (sym fn ∙ fr)))
 same_names plan (key.Port p) (row.Port r) n t fr fn h = elim fn [ ]
 same_names plan (key.Port p) r n t fr fn h = elim fr [ ]
 same_names plan (key.Vlan v) row.Vlan row.Vlan t fr fn h = (t, h, refl)
@@ -90,12 +91,12 @@ same_names plan (key.Route prefix) r n t fr fn h = elim fr [ ]
 same_names plan (key.Other text) r n t fr fn h = elim fr [ ]
 
 -- what is due after other changes can be made then
-pub runs_later : (plan : Ports) (f : Flight) (first due : List Change) (V : Thing → Type 0) → Runs plan f V (first ++ due) → (W : Thing → Type 0) × Runs plan f W due
+pub runs_later : (plan : Ports) (f : MachineFlight) (first due : List Change) (V : Thing → Type 0) → Runs plan f V (first ++ due) → (W : Thing → Type 0) × Runs plan f W due
 runs_later plan f [] due V runs = (V, runs)
 runs_later plan f (c ∷ first) due V runs = runs_later plan f first due (λ u. after c (V u) u) runs.1
 
 module _ (plan : Ports) (is : IsPlan plan) (m : Machine) (sound : IsConsistent plan m) (w : ℕ) (p : Operation) (flying : m.board.flights w ≡ Some (flight_of p)) (now_fits : (r : Row) → p.now ≡ Some r → Fits plan p.key r) (between : IsBetween (m.board.applied p.key) p.new p.now) where
-  abbrev f : Flight
+  abbrev f : MachineFlight
   f = flight_of p
 
   new_fits : (r : Row) → p.new ≡ Some r → Fits plan p.key r
@@ -130,7 +131,7 @@ module _ (plan : Ports) (is : IsPlan plan) (m : Machine) (sound : IsConsistent p
         (old.0, subst (λ z. IsIn old.0 (own_of plan p.key z)) (sym n.1) old.1, old.2 ∙ sym (resembles_name u can.like can.resembles))
 
     -- where a row is to be and nothing is taken away that was shared, nothing of the row is taken away
-    none_gone : (n : thing_name.Name) → (p.new ≡ None → ⊥) → p.retires ≡ None → Goes plan f n → ⊥
+    none_gone : (n : thing_name.ThingName) → (p.new ≡ None → ⊥) → p.retires ≡ None → Goes plan f n → ⊥
     none_gone n some none (inl own) = some own.1
     none_gone n some none (inr x) = not_some x.0 (sym none ∙ x.2)
 
@@ -145,9 +146,9 @@ module _ (plan : Ports) (is : IsPlan plan) (m : Machine) (sound : IsConsistent p
   its_row r (inr (v, g, at, same, new)) none =
       let worker = sound.board.one v w g f at flying same in
       let one = one_flight g f (sym at ∙ ap m.board.flights worker ∙ flying) in
-      not_some r (sym none ∙ ap (λ (z : Flight). z.new) (sym one) ∙ new)
+      not_some r (sym none ∙ ap (λ (z : MachineFlight). z.new) (sym one) ∙ new)
 
-  take_for : (n : thing_name.Name) (cs : List Change) → CanTake plan f (StandsIn m) n → IsChangeFor plan p (Take n ∷ cs)
+  take_for : (n : thing_name.ThingName) (cs : List Change) → CanTake plan f (StandsIn m) n → IsChangeFor plan p (Take n ∷ cs)
   take_for n cs can = by can.goes
     where
       there : (u : Thing) × StandsIn m u × (name_of u ≡ n)

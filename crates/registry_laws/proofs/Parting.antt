@@ -10,7 +10,7 @@ use Rattle.row_layout.specs.Operations.{Change, Take, shared_going, take_all, us
 use Rattle.row_layout.specs.Rows.{Owner}
 use Rattle.switch_machine.specs.Changes.{changed_name}
 use Rattle.switch_machine.specs.Consistent.{IsConsistent, WasUsed}
-use Rattle.switch_machine.specs.Flights.{CountsAsUser, Flight, HasChangeOf, IsFirm, IsOwnedBy, IsResting, IsShared, IsUser, Machine}
+use Rattle.switch_machine.specs.Flights.{CountsAsUser, MachineFlight, HasChangeOf, IsFirm, IsOwnedBy, IsResting, IsShared, IsUser, Machine}
 use Rattle.switch_machine.specs.Steps.{Leaves, left, parted}
 use Rattle.switch_machine.proofs.Ordered.{ordered}
 use Rattle.switch_machine.proofs.Running.{one_flight, some_owner}
@@ -47,7 +47,7 @@ module _ (plan : Ports) (is : IsPlan plan) where
       let x = first-shared o shared in
       (Take (name_of x.0), in_taken (shared_going o) x.0 (((ordered plan is).shared_going_same o).back x.0 x.1), (tabled plan is).shared o x.0 x.1)
 
-module _ (plan : Ports) (is : IsPlan plan) (m : Machine) (sound : IsConsistent plan m) (w : ℕ) (f : Flight) (o : Owner) (leaving : Leaves m w f o) where
+module _ (plan : Ports) (is : IsPlan plan) (m : Machine) (sound : IsConsistent plan m) (w : ℕ) (f : MachineFlight) (o : Owner) (leaving : Leaves m w f o) where
   pub shared : IsShared o
   shared = let was = (sound.board.leaves w f o leaving.flying leaving.leaves).0 in are_shared_by plan is f.key was.row o was.used
 
@@ -65,16 +65,16 @@ module _ (plan : Ports) (is : IsPlan plan) (m : Machine) (sound : IsConsistent p
     abbrev pub later : Machine
     later = left m w f retires due
 
-    abbrev pub g : Flight
+    abbrev pub g : MachineFlight
     g = parted f retires
 
-    by : (v : ℕ) (h : Flight) → later.board.flights v ≡ Some h → IsPut w v (Some g) m.board.flights (Some h)
+    by : (v : ℕ) (h : MachineFlight) → later.board.flights v ≡ Some h → IsPut w v (Some g) m.board.flights (Some h)
     by v h at = put_by w v (Some g) m.board.flights (Some h) at
 
     pub here : later.board.flights w ≡ Some g
     here = put_at w w (Some g) m.board.flights refl
 
-    old_at : (v : ℕ) (h : Flight) → (v ≡ w → ⊥) → m.board.flights v ≡ Some h → later.board.flights v ≡ Some h
+    old_at : (v : ℕ) (h : MachineFlight) → (v ≡ w → ⊥) → m.board.flights v ≡ Some h → later.board.flights v ≡ Some h
     old_at v h apart at = put_off w v (Some g) m.board.flights apart ∙ at
 
     due_new : later.due w ≡ due
@@ -84,18 +84,18 @@ module _ (plan : Ports) (is : IsPlan plan) (m : Machine) (sound : IsConsistent p
     due_old v apart = put_off w v due m.due apart
 
     -- the operation with the same key and row
-    pub now_of : (v : ℕ) (h : Flight) → m.board.flights v ≡ Some h → (x : Flight) × (later.board.flights v ≡ Some x) × (x.key ≡ h.key) × (x.new ≡ h.new)
+    pub now_of : (v : ℕ) (h : MachineFlight) → m.board.flights v ≡ Some h → (x : MachineFlight) × (later.board.flights v ≡ Some x) × (x.key ≡ h.key) × (x.new ≡ h.new)
     now_of v h at = of (nat_split v w)
       where
-        of : IsSplit v w → (x : Flight) × (later.board.flights v ≡ Some x) × (x.key ≡ h.key) × (x.new ≡ h.new)
-        of (inl same) = let one = one_flight f h (sym leaving.flying ∙ ap m.board.flights (sym same) ∙ at) in (g, put_at w v (Some g) m.board.flights same, ap (λ (z : Flight). z.key) one, ap (λ (z : Flight). z.new) one)
+        of : IsSplit v w → (x : MachineFlight) × (later.board.flights v ≡ Some x) × (x.key ≡ h.key) × (x.new ≡ h.new)
+        of (inl same) = let one = one_flight f h (sym leaving.flying ∙ ap m.board.flights (sym same) ∙ at) in (g, put_at w v (Some g) m.board.flights same, ap (λ (z : MachineFlight). z.key) one, ap (λ (z : MachineFlight). z.new) one)
         of (inr apart) = (h, old_at v h apart at, refl, refl)
 
-    pub was_of : (v : ℕ) (h : Flight) → later.board.flights v ≡ Some h → (x : Flight) × (m.board.flights v ≡ Some x) × (x.key ≡ h.key) × (x.new ≡ h.new)
+    pub was_of : (v : ℕ) (h : MachineFlight) → later.board.flights v ≡ Some h → (x : MachineFlight) × (m.board.flights v ≡ Some x) × (x.key ≡ h.key) × (x.new ≡ h.new)
     was_of v h at = of (by v h at)
       where
-        of : IsPut w v (Some g) m.board.flights (Some h) → (x : Flight) × (m.board.flights v ≡ Some x) × (x.key ≡ h.key) × (x.new ≡ h.new)
-        of (New same e) = let one = one_flight g h e in (f, ap m.board.flights same ∙ leaving.flying, ap (λ (z : Flight). z.key) one, ap (λ (z : Flight). z.new) one)
+        of : IsPut w v (Some g) m.board.flights (Some h) → (x : MachineFlight) × (m.board.flights v ≡ Some x) × (x.key ≡ h.key) × (x.new ≡ h.new)
+        of (New same e) = let one = one_flight g h e in (f, ap m.board.flights same ∙ leaving.flying, ap (λ (z : MachineFlight). z.key) one, ap (λ (z : MachineFlight). z.new) one)
         of (Old apart there) = (h, there, refl, refl)
 
     -- ---- rows
@@ -120,14 +120,14 @@ module _ (plan : Ports) (is : IsPlan plan) (m : Machine) (sound : IsConsistent p
         one = one_flight f made.flight (sym leaving.flying ∙ ap m.board.flights (sym same) ∙ made.flying)
 
         key : f.key ≡ p
-        key = ap (λ (z : Flight). z.key) one ∙ made.key
+        key = ap (λ (z : MachineFlight). z.key) one ∙ made.key
 
-        stays : (v : ℕ) (h : Flight) → later.board.flights v ≡ Some h → h.key ≡ p → h.new ≡ None → ⊥
+        stays : (v : ℕ) (h : MachineFlight) → later.board.flights v ≡ Some h → h.key ≡ p → h.new ≡ None → ⊥
         stays v h at e none =
             let x = was_of v h at in
             let worker = sound.board.one v w x.0 f x.1 leaving.flying (x.2 ∙ e ∙ sym key) in
             let that = one_flight f x.0 (sym leaving.flying ∙ ap m.board.flights (sym worker) ∙ x.1) in
-            not_some made.row (sym (x.3 ∙ none) ∙ ap (λ (z : Flight). z.new) (sym that ∙ one) ∙ made.new)
+            not_some made.row (sym (x.3 ∙ none) ∙ ap (λ (z : MachineFlight). z.new) (sym that ∙ one) ∙ made.new)
 
     row_stands : (p : Key) (st : NameState) → RowStands m p st → RowStands later p st
     row_stands p state.Absent (rests, none) = (resting_now p rests, none)
@@ -161,16 +161,16 @@ module _ (plan : Ports) (is : IsPlan plan) (m : Machine) (sound : IsConsistent p
         mine (inr e) key = not_some p e
 
         of : IsPut w v (Some g) m.board.flights (Some h) → IsUser plan m.board q p × (f.key ≡ q → p ≡ o → ⊥)
-        of (New e one) = let x = one_flight g h one in mine (subst (λ z. CountsAsUser plan z p) (sym x) counts) (ap (λ (z : Flight). z.key) x ∙ same)
+        of (New e one) = let x = one_flight g h one in mine (subst (λ z. CountsAsUser plan z p) (sym x) counts) (ap (λ (z : MachineFlight). z.key) x ∙ same)
         of (Old apart there) = (inl (v, h, there, same, counts), λ key _. apart (sound.board.one v w h f there leaving.flying (same ∙ sym key)))
 
     pub user_now : (q : Key) (p : Owner) → (f.key ≡ q → p ≡ o → ⊥) → IsUser plan m.board q p → IsUser plan later.board q p
     user_now q p other (inr (rests, h)) = inr (resting_now q rests, h)
     user_now q p other (inl (v, h, at, same, counts)) = of (nat_split v w)
       where
-        mine : (x : Flight) → f ≡ x → x.key ≡ q → CountsAsUser plan x p → IsUser plan later.board q p
-        mine x one key (inl i) = inl (w, g, here, ap (λ (z : Flight). z.key) one ∙ key, inl (subst (λ z. IsIn p (uses_of plan z.key z.new)) (sym one) i))
-        mine x one key (inr e) = absurd (other (ap (λ (z : Flight). z.key) one ∙ key) (sym (some_owner o p (sym leaving.leaves ∙ ap (λ (z : Flight). z.leaves) one ∙ e))))
+        mine : (x : MachineFlight) → f ≡ x → x.key ≡ q → CountsAsUser plan x p → IsUser plan later.board q p
+        mine x one key (inl i) = inl (w, g, here, ap (λ (z : MachineFlight). z.key) one ∙ key, inl (subst (λ z. IsIn p (uses_of plan z.key z.new)) (sym one) i))
+        mine x one key (inr e) = absurd (other (ap (λ (z : MachineFlight). z.key) one ∙ key) (sym (some_owner o p (sym leaving.leaves ∙ ap (λ (z : MachineFlight). z.leaves) one ∙ e))))
 
         of : IsSplit v w → IsUser plan later.board q p
         of (inl e) = mine h (one_flight f h (sym leaving.flying ∙ ap m.board.flights (sym e) ∙ at)) same counts
@@ -178,14 +178,14 @@ module _ (plan : Ports) (is : IsPlan plan) (m : Machine) (sound : IsConsistent p
 
     module _ (about : (p : Owner) → HasChangeOf plan due p → p ≡ o) where
       -- where changes of it are due, they are of others' operations
-      touch_now : (p : Owner) (v : ℕ) (h : Flight) → m.board.flights v ≡ Some h → HasChangeOf plan (m.due v) p → (later.board.flights v ≡ Some h) × HasChangeOf plan (later.due v) p
+      touch_now : (p : Owner) (v : ℕ) (h : MachineFlight) → m.board.flights v ≡ Some h → HasChangeOf plan (m.due v) p → (later.board.flights v ≡ Some h) × HasChangeOf plan (later.due v) p
       touch_now p v h at t = of (nat_split v w)
         where
           of : IsSplit v w → (later.board.flights v ≡ Some h) × HasChangeOf plan (later.due v) p
           of (inl e) = absurd (none_due p (subst (λ z. HasChangeOf plan (m.due z) p) e t))
           of (inr apart) = (old_at v h apart at, subst (λ d. HasChangeOf plan d p) (sym (due_old v apart)) t)
 
-      untouched_now : (p : Owner) → (HasChangeOf plan due p → ⊥) → ((v : ℕ) (h : Flight) → m.board.flights v ≡ Some h → HasChangeOf plan (m.due v) p → ⊥) → (v : ℕ) (h : Flight) → later.board.flights v ≡ Some h → HasChangeOf plan (later.due v) p → ⊥
+      untouched_now : (p : Owner) → (HasChangeOf plan due p → ⊥) → ((v : ℕ) (h : MachineFlight) → m.board.flights v ≡ Some h → HasChangeOf plan (m.due v) p → ⊥) → (v : ℕ) (h : MachineFlight) → later.board.flights v ≡ Some h → HasChangeOf plan (later.due v) p → ⊥
       untouched_now p mine was v h at t = of (by v h at)
         where
           of : IsPut w v (Some g) m.board.flights (Some h) → ⊥

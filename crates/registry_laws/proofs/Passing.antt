@@ -48,9 +48,9 @@ pins_its w p (q ∷ qs) same h = by (λ g. pins_its w p qs same g) (q.worker == 
     by rest false e (inl is) = absurd (false≢true (sym e ∙ eq-eqb q.worker w (ap (λ (z : Pin). z.worker) (sym is) ∙ same)))
     by rest false e (inr g) = rest g
 
-pub but_other : (w : ℕ) (p : Pin) (ps : List Pin) → IsIn p (pins_but w ps) → p.worker ≡ w → ⊥
-but_other w p [] h same = h
-but_other w p (q ∷ qs) h same = by (λ g. but_other w p qs g same) (q.worker == w) refl h
+pub no_pin_left : (w : ℕ) (p : Pin) (ps : List Pin) → IsIn p (pins_but w ps) → p.worker ≡ w → ⊥
+no_pin_left w p [] h same = h
+no_pin_left w p (q ∷ qs) h same = by (λ g. no_pin_left w p qs g same) (q.worker == w) refl h
   where
     by : (IsIn p (pins_but w qs) → ⊥) → (b : Bool) → (q.worker == w) ≡ b → IsIn p (cond (not b) (q ∷ pins_but w qs) (pins_but w qs)) → ⊥
     by rest true e g = rest g

@@ -1,6 +1,8 @@
 -- what workers have under way stands for the machine when a change of a row's operation has taken effect
 use Rattle.std.proofs.Common.{◌≡◌, ◌⊎◌, ◌∷◌, ◌++◌, ◌∙◌, inl, inr, ℕ, List, [], Option, None, Some, refl, sym, ap, subst}
 use Rattle.std.proofs.lemmas.List.{append_assoc}
+use Rattle.std.proofs.lemmas.Option.{same_Some}
+use Rattle.swss_types.proofs.Proper.{mapped}
 use Rattle.table_schema.specs.Plan.{IsPlan, Ports, port_named}
 use Rattle.table_schema.specs.declared.key.Key.{Key}
 use Rattle.table_schema.specs.declared.key.Key.TheVariants as key
@@ -21,7 +23,7 @@ use Rattle.row_layout.proofs.Members.{from_in, only}
 use Rattle.switch_machine.specs.Changes.{IsSamePort, Resembles, after, changed_name}
 use Rattle.switch_machine.specs.Consistent.{IsConsistent}
 use Rattle.switch_machine.specs.Events.{Follows}
-use Rattle.switch_machine.specs.Flights.{Can, CanSet, Fits, Flight, Machine, Runs, StandsIn, own_of, put}
+use Rattle.switch_machine.specs.Flights.{Can, CanSet, Fits, MachineFlight, Machine, Runs, StandsIn, own_of, put}
 use Rattle.switch_machine.specs.Operations.{built_first}
 use Rattle.switch_machine.specs.Steps.{Moves, moved}
 use Rattle.switch_machine.proofs.Moving.{fit_of, sound-moved}
@@ -44,7 +46,7 @@ use Rattle.registry_laws.proofs.Aside.{IsAside, aside_moved, aside_then, board_w
 use Rattle.registry_laws.proofs.Between.{due_moved}
 use Rattle.registry_laws.proofs.Fine.{AreFine, after_fine, fine_of}
 use Rattle.registry_laws.proofs.Lasting.{lasting}
-use Rattle.registry_laws.proofs.Listing.{in_right, mapped, no_some, not_some, same_some}
+use Rattle.registry_laws.proofs.Listing.{in_right, never_none, not_some}
 use Rattle.registry_laws.proofs.Nexts.{next_now, sets_by}
 use Rattle.registry_laws.proofs.Rests.{AreInOrder, IsPort, none_of_group, rest_order}
 use Rattle.registry_laws.proofs.Settled.{Both, IsLater, both, not_built, settled, settled_by, settled_names, settled_names_by}
@@ -111,7 +113,7 @@ port_fits plan i (row.Port b) u like q is fits h resembles = fits ∙ ap Some (s
 port_fits plan i r u like q is fits h resembles = elim fits [ ]
 
 module _ (plan : Ports) (is : IsPlan plan) (m : Machine) (sound : IsConsistent plan m) (p : Operation) (old : Option Row) (new_fits : (r : Row) → p.new ≡ Some r → Fits plan p.key r) (now_fits : (r : Row) → p.now ≡ Some r → Fits plan p.key r) (between : IsBetween old p.new p.now) where
-  abbrev f : Flight
+  abbrev f : MachineFlight
   f = flight_of p
 
   abbrev k : Key
@@ -126,7 +128,7 @@ module _ (plan : Ports) (is : IsPlan plan) (m : Machine) (sound : IsConsistent p
       let same : key.Port i.0 ≡ k = row_keys (key.Port i.0) k i.2 in
       let at : Fits plan (key.Port i.0) (row.Port (record { lanes = q.lanes; speed = q.speed; mtu = q.mtu; up = q.up })) =
       port_fits plan i.0 its.0 (thing.Port q) can.like (record { lanes = q.lanes; speed = q.speed; mtu = q.mtu; up = q.up }) refl (subst (λ z. Fits plan z its.0) (sym same) (new_fits its.0 its.1)) (subst (λ z. IsIn can.like (own_things plan z its.0)) (sym same) its.2) can.resembles in
-      subst (Fits plan k) (same_some (row.Port (record { lanes = q.lanes; speed = q.speed; mtu = q.mtu; up = q.up })) r e) (subst (λ z. Fits plan z (row.Port (record { lanes = q.lanes; speed = q.speed; mtu = q.mtu; up = q.up }))) same at)
+      subst (Fits plan k) (same_Some (row.Port (record { lanes = q.lanes; speed = q.speed; mtu = q.mtu; up = q.up })) r e) (subst (λ z. Fits plan z (row.Port (record { lanes = q.lanes; speed = q.speed; mtu = q.mtu; up = q.up }))) same at)
   set_fits _ can r e = new_fits r e
 
   set_between : (u : Thing) → (old ≡ None → ⊥) → CanSet plan f (StandsIn m) u → IsBetween old p.new (row_set u p.new)
@@ -171,7 +173,7 @@ module _ (plan : Ports) (is : IsPlan plan) (capacities : List ℕ) (m : Machine)
   abbrev w : ℕ
   w = x.operation.worker
 
-  abbrev g : Flight
+  abbrev g : MachineFlight
   g = flight_of x.operation
 
   y : IsFlown plan names m w x
@@ -248,7 +250,7 @@ module _ (plan : Ports) (is : IsPlan plan) (capacities : List ℕ) (m : Machine)
     rest = rest;
     between = between;
     standing = standing;
-    later = λ hops h. no_some hops (sym h ∙ not_now);
+    later = λ hops h. never_none hops (sym h ∙ not_now);
     group = λ h e. not_some h e;
   }
 

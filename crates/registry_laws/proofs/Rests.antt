@@ -29,7 +29,7 @@ use Rattle.orch_flight.specs.Operation.{Operation}
 use Rattle.orch_flight.specs.Starting.{built_here, taken_here}
 use Rattle.registry_laws.specs.Answering.{IsOfGroup}
 use Rattle.registry_laws.specs.Flying.{IsRestFrom}
-use Rattle.registry_laws.proofs.Listing.{no_some}
+use Rattle.registry_laws.proofs.Listing.{never_none}
 use Rattle.registry_laws.proofs.Parting.{taken_in}
 
 -- one thing at most
@@ -115,18 +115,18 @@ module _ (plan : Ports) (is : IsPlan plan) where
   sets_order : (k : Key) (a r : Row) → Fits plan k a → Fits plan k r → AreInOrder plan k (Some a) (own_sets plan k a r)
   sets_order (key.Port p) (row.Port a) (row.Port r) fa fr =
       let one = λ (s m : ℕ) (u : Bool). ap (option_map (λ q. owner.OfRow (key.Port q))) (port_by plan is p (first_lane a.lanes) (ap (option_map first_lane) fa)) in
-      set_order plan (key.Port p) (Some (row.Port a)) (no_some (row.Port a)) (port_with a.lanes a.speed a.mtu a.up) (port_with a.lanes r.speed a.mtu a.up) (set_to (port_with a.lanes r.speed a.mtu a.up) (port_with a.lanes r.speed r.mtu a.up) (set_to (port_with a.lanes r.speed r.mtu a.up) (port_with a.lanes r.speed r.mtu r.up) [])) (one r.speed a.mtu a.up) (inl tt)
-      (set_order plan (key.Port p) (Some (row.Port a)) (no_some (row.Port a)) (port_with a.lanes r.speed a.mtu a.up) (port_with a.lanes r.speed r.mtu a.up) (set_to (port_with a.lanes r.speed r.mtu a.up) (port_with a.lanes r.speed r.mtu r.up) []) (one r.speed r.mtu a.up) (inl tt)
-      (set_order plan (key.Port p) (Some (row.Port a)) (no_some (row.Port a)) (port_with a.lanes r.speed r.mtu a.up) (port_with a.lanes r.speed r.mtu r.up) [] (one r.speed r.mtu r.up) (inl tt) tt))
+      set_order plan (key.Port p) (Some (row.Port a)) (never_none (row.Port a)) (port_with a.lanes a.speed a.mtu a.up) (port_with a.lanes r.speed a.mtu a.up) (set_to (port_with a.lanes r.speed a.mtu a.up) (port_with a.lanes r.speed r.mtu a.up) (set_to (port_with a.lanes r.speed r.mtu a.up) (port_with a.lanes r.speed r.mtu r.up) [])) (one r.speed a.mtu a.up) (inl tt)
+      (set_order plan (key.Port p) (Some (row.Port a)) (never_none (row.Port a)) (port_with a.lanes r.speed a.mtu a.up) (port_with a.lanes r.speed r.mtu a.up) (set_to (port_with a.lanes r.speed r.mtu a.up) (port_with a.lanes r.speed r.mtu r.up) []) (one r.speed r.mtu a.up) (inl tt)
+      (set_order plan (key.Port p) (Some (row.Port a)) (never_none (row.Port a)) (port_with a.lanes r.speed r.mtu a.up) (port_with a.lanes r.speed r.mtu r.up) [] (one r.speed r.mtu r.up) (inl tt) tt))
   sets_order (key.Port p) (row.Port a) r fa fr = elim fr [ ]
   sets_order (key.Port p) a r fa fr = elim fa [ ]
-  sets_order (key.Vlan v) a row.Vlan fa fr = small_order plan (key.Vlan v) (Some a) (no_some a) (own_things plan (key.Vlan v) a) (thing.Vlan v ∷ []) (owned (key.Vlan v) row.Vlan fr) (inr (thing.Vlan v, refl))
+  sets_order (key.Vlan v) a row.Vlan fa fr = small_order plan (key.Vlan v) (Some a) (never_none a) (own_things plan (key.Vlan v) a) (thing.Vlan v ∷ []) (owned (key.Vlan v) row.Vlan fr) (inr (thing.Vlan v, refl))
   sets_order (key.Vlan v) a r fa fr = elim fr [ ]
-  sets_order (key.Member v p) a (row.Member x) fa fr = small_order plan (key.Member v p) (Some a) (no_some a) (own_things plan (key.Member v p) a) (own_things plan (key.Member v p) (row.Member x)) (owned (key.Member v p) (row.Member x) fr) (from_small (lane_of plan p) (λ lane. thing.VlanMember v lane x))
+  sets_order (key.Member v p) a (row.Member x) fa fr = small_order plan (key.Member v p) (Some a) (never_none a) (own_things plan (key.Member v p) a) (own_things plan (key.Member v p) (row.Member x)) (owned (key.Member v p) (row.Member x) fr) (from_small (lane_of plan p) (λ lane. thing.VlanMember v lane x))
   sets_order (key.Member v p) a r fa fr = elim fr [ ]
-  sets_order (key.Intf n) a row.Intf fa fr = small_order plan (key.Intf n) (Some a) (no_some a) (own_things plan (key.Intf n) a) (own_things plan (key.Intf n) row.Intf) (owned (key.Intf n) row.Intf fr) (from_small (base_of plan n) thing.Rif)
+  sets_order (key.Intf n) a row.Intf fa fr = small_order plan (key.Intf n) (Some a) (never_none a) (own_things plan (key.Intf n) a) (own_things plan (key.Intf n) row.Intf) (owned (key.Intf n) row.Intf fr) (from_small (base_of plan n) thing.Rif)
   sets_order (key.Intf n) a r fa fr = elim fr [ ]
-  sets_order (key.Addr n ip len) a row.Addr fa fr = small_order plan (key.Addr n ip len) (Some a) (no_some a) (own_things plan (key.Addr n ip len) a) [] (owned (key.Addr n ip len) row.Addr fr) (inl refl)
+  sets_order (key.Addr n ip len) a row.Addr fa fr = small_order plan (key.Addr n ip len) (Some a) (never_none a) (own_things plan (key.Addr n ip len) a) [] (owned (key.Addr n ip len) row.Addr fr) (inl refl)
   sets_order (key.Addr n ip len) a r fa fr = elim fr [ ]
   sets_order (key.Neigh n ip) (row.Neigh x) (row.Neigh y) fa fr = by (base_of plan n) (owned (key.Neigh n ip) (row.Neigh y) fr)
     where
@@ -135,10 +135,10 @@ module _ (plan : Ports) (is : IsPlan plan) where
       by (Some b) own =
           let hop : Hop = record { on = b; ip = ip } in
           let same = set_same (thing.NextHop hop ∷ []) in
-          set_order plan (key.Neigh n ip) (Some (row.Neigh x)) (no_some (row.Neigh x)) (thing.Neighbor hop x) (thing.Neighbor hop y) (set_all (thing.NextHop hop ∷ []) (thing.NextHop hop ∷ [])) (own (thing.Neighbor hop y) (inl refl)) (inr same) (subst (AreInOrder plan (key.Neigh n ip) (Some (row.Neigh x))) (sym same) tt)
+          set_order plan (key.Neigh n ip) (Some (row.Neigh x)) (never_none (row.Neigh x)) (thing.Neighbor hop x) (thing.Neighbor hop y) (set_all (thing.NextHop hop ∷ []) (thing.NextHop hop ∷ [])) (own (thing.Neighbor hop y) (inl refl)) (inr same) (subst (AreInOrder plan (key.Neigh n ip) (Some (row.Neigh x))) (sym same) tt)
   sets_order (key.Neigh n ip) (row.Neigh x) r fa fr = elim fr [ ]
   sets_order (key.Neigh n ip) a r fa fr = elim fa [ ]
-  sets_order (key.Route prefix) a (row.Route r) fa fr = small_order plan (key.Route prefix) (Some a) (no_some a) (own_things plan (key.Route prefix) a) (own_things plan (key.Route prefix) (row.Route r)) (owned (key.Route prefix) (row.Route r) fr) (from_small (goal_of plan r) (thing.Route prefix))
+  sets_order (key.Route prefix) a (row.Route r) fa fr = small_order plan (key.Route prefix) (Some a) (never_none a) (own_things plan (key.Route prefix) a) (own_things plan (key.Route prefix) (row.Route r)) (owned (key.Route prefix) (row.Route r) fr) (from_small (goal_of plan r) (thing.Route prefix))
   sets_order (key.Route prefix) a r fa fr = elim fr [ ]
   sets_order (key.Other text) a r fa fr = elim fr [ ]
 

@@ -1,18 +1,19 @@
 -- the kind that lacks room, and the places of all workers
 use Rattle.std.proofs.Common.{◌≡◌, ◌∷◌, ◌+◌, ◌-◌, ◌<◌, ◌≤◌, ◌∙◌, inl, inr, ℕ, zero, suc, nat_lt, ◌&&◌, Bool, true, false, List, [], Option, None, Some, refl, sym, ap, arith, if◌then◌else◌}
 use Rattle.std.proofs.lemmas.Bool.Decides.{nat_tests}
+use Rattle.std.proofs.lemmas.Option.{same_Some}
 use Rattle.sai_types.specs.declared.kind.Kind.{Kind}
 use Rattle.sai_types.specs.declared.kind.Kind.TheVariants as kind
 use Rattle.sai_types.specs.Alike.{IsIn}
 use Rattle.sai_types.specs.Objects.{Objects, level, used}
 use Rattle.sai_types.specs.Refusal.{capacity_of}
 use Rattle.row_layout.specs.Operations.{Change}
-use Rattle.switch_machine.specs.Flights.{Flight, Machine}
+use Rattle.switch_machine.specs.Flights.{MachineFlight, Machine}
 use Rattle.switch_machine.specs.Places.{AreCovered, makes, places_kept, sum_below}
 use Rattle.ref_counts.specs.Room.{RoomState, first_lacking, kinds, lacking, lacks, number_of, places_in_all}
 use Rattle.orch_flight.specs.Needing.{places_for}
 use Rattle.registry_laws.specs.Registers.{AreUsed, KnowsRoom}
-use Rattle.registry_laws.proofs.Listing.{not_some, no_some, same_some}
+use Rattle.registry_laws.proofs.Listing.{not_some, never_none}
 
 in_kinds : (k : Kind) → IsIn k kinds
 in_kinds kind.Port = inl refl
@@ -35,10 +36,10 @@ CountUp n (k ∷ ks) = (level k ≡ n) × CountUp (suc n) ks
 kinds_count : CountUp 0 kinds
 kinds_count = (refl, (refl, (refl, (refl, (refl, (refl, (refl, (refl, (refl, (refl, (refl, tt)))))))))))
 
-above : (n : ℕ) (ks : List Kind) (k : Kind) → CountUp n ks → IsIn k ks → n ≤ level k
-above n [] k up h = elim h [ ]
-above n (q ∷ ks) k up (inl e) = let a = up.0 in let b = ap level e in omega (arith, a, b)
-above n (q ∷ ks) k up (inr h) = let a = above (suc n) ks k up.1 h in omega (arith, a)
+level_counted_up : (n : ℕ) (ks : List Kind) (k : Kind) → CountUp n ks → IsIn k ks → n ≤ level k
+level_counted_up n [] k up h = elim h [ ]
+level_counted_up n (q ∷ ks) k up (inl e) = let a = up.0 in let b = ap level e in omega (arith, a, b)
+level_counted_up n (q ∷ ks) k up (inr h) = let a = level_counted_up (suc n) ks k up.1 h in omega (arith, a)
 
 pub number_for : (due : List Change) (k : Kind) → number_of (places_for due) k ≡ makes k due
 number_for due kind.Port = refl
@@ -62,7 +63,7 @@ module _ (room : RoomState) (need numbers : List ℕ) where
   none_lack (q ∷ ks) k h g = by (λ e i. none_lack ks k e i) (Lacks q) refl h g
     where
       by : (first_lacking room need numbers ks ≡ None → IsIn k ks → Lacks k ≡ false) → (b : Bool) → Lacks q ≡ b → (if b then Some q else first_lacking room need numbers ks) ≡ None → IsIn k (q ∷ ks) → Lacks k ≡ false
-      by rest true e none i = no_some q none
+      by rest true e none i = never_none q none
       by rest false e none (inl same) = ap Lacks same ∙ e
       by rest false e none (inr i) = rest none i
 
@@ -72,8 +73,8 @@ module _ (room : RoomState) (need numbers : List ℕ) where
     where
       by : (first_lacking room need numbers ks ≡ Some k → (Lacks k ≡ true) × ((low : Kind) → IsIn low ks → level low < level k → Lacks low ≡ false)) → (b : Bool) → Lacks q ≡ b → (if b then Some q else first_lacking room need numbers ks) ≡ Some k → (Lacks k ≡ true) × ((low : Kind) → IsIn low (q ∷ ks) → level low < level k → Lacks low ≡ false)
       by rest true e some =
-          let same : q ≡ k = same_some q k some in
-          let at : (low : Kind) → IsIn low (q ∷ ks) → level low < level k → Lacks low ≡ false = λ low i less. let a = above n (q ∷ ks) low up i in let b = up.0 in let d = ap level same in absurd (omega (arith, a, b, d, less)) in
+          let same : q ≡ k = same_Some q k some in
+          let at : (low : Kind) → IsIn low (q ∷ ks) → level low < level k → Lacks low ≡ false = λ low i less. let a = level_counted_up n (q ∷ ks) low up i in let b = up.0 in let d = ap level same in absurd (omega (arith, a, b, d, less)) in
           (ap Lacks (sym same) ∙ e, at)
       by rest false e some =
           let x = rest some in
@@ -99,13 +100,6 @@ is_roomy n c u h less = grind (arith, nat_tests)
 
 -- ---- the places of all workers
 
-sum_same : (n : ℕ) (f g : ℕ → ℕ) → ((v : ℕ) → v < n → f v ≡ g v) → sum_below n f ≡ sum_below n g
-sum_same zero f g same = refl
-sum_same (suc n) f g same =
-    let rest = sum_same n f g (λ v h. same v (omega (arith, h))) in
-    let last = same n (omega arith) in
-    omega (arith, rest, last)
-
 -- workers beyond add nothing
 sum_more : (n d : ℕ) (f : ℕ → ℕ) → ((v : ℕ) → n ≤ v → f v ≡ 0) → sum_below (d + n) f ≡ sum_below n f
 sum_more n zero f none = let count : 0 + n ≡ n = omega arith in ap (λ z. sum_below z f) count
@@ -117,14 +111,14 @@ sum_more n (suc d) f none =
     let same : sum_below (suc d + n) f ≡ sum_below (suc (d + n)) f = ap (λ z. sum_below z f) count in
     omega (arith, rest, last, step, same)
 
-module _ (workers : ℕ) (capacities : List ℕ) (room : RoomState) (m : Machine) (few : workers ≤ 4) (below : (w : ℕ) (f : Flight) → m.board.flights w ≡ Some f → w < workers) (covered : AreCovered m) (known : KnowsRoom capacities room m) where
+module _ (workers : ℕ) (capacities : List ℕ) (room : RoomState) (m : Machine) (few : workers ≤ 4) (below : (w : ℕ) (f : MachineFlight) → m.board.flights w ≡ Some f → w < workers) (covered : AreCovered m) (known : KnowsRoom capacities room m) where
   abbrev by_worker : Kind → ℕ → ℕ
   by_worker k w = makes k (m.reserved w)
 
   beyond : (k : Kind) (w : ℕ) → workers ≤ w → by_worker k w ≡ 0
   beyond k w h = by (m.board.flights w) refl
     where
-      by : (o : Option Flight) → m.board.flights w ≡ o → by_worker k w ≡ 0
+      by : (o : Option MachineFlight) → m.board.flights w ≡ o → by_worker k w ≡ 0
       by None e = ap (makes k) (covered.idle w e)
       by (Some f) e = let less = below w f e in absurd (omega (arith, h, less))
 

@@ -11,7 +11,7 @@ use Rattle.row_layout.specs.Rows.{Owner, owner_of}
 use Rattle.switch_machine.specs.Changes.{changed_name}
 use Rattle.switch_machine.specs.Consistent.{IsConsistent}
 use Rattle.switch_machine.specs.Events.{Due, Ended, Follows, Left, Retires}
-use Rattle.switch_machine.specs.Flights.{Flight, HasChangeOf, IsOwnedBy, IsShared, Machine, own_of}
+use Rattle.switch_machine.specs.Flights.{MachineFlight, HasChangeOf, IsOwnedBy, IsShared, Machine, own_of}
 use Rattle.switch_machine.specs.Operations.{IsLast}
 use Rattle.switch_machine.specs.Steps.{Ends, Leaves, LeavesOthers, finished, left, parted}
 use Rattle.switch_machine.proofs.Beginning.{sound-retired}
@@ -40,7 +40,7 @@ use Rattle.registry_laws.proofs.Between.{due_follows}
 use Rattle.registry_laws.proofs.Ended.{registers_ended}
 use Rattle.registry_laws.proofs.Fine.{AreFine, ended_fine, left_fine}
 use Rattle.registry_laws.proofs.Left.{parts}
-use Rattle.registry_laws.proofs.Listing.{in_right, no_some, not_some}
+use Rattle.registry_laws.proofs.Listing.{in_right, never_none, not_some}
 use Rattle.registry_laws.proofs.Parting as parting
 use Rattle.registry_laws.proofs.Taking.{row_due}
 
@@ -102,18 +102,18 @@ group_of (owner.Own ip) = refl
 group_of (owner.Group hops) = refl
 
 -- no group is built where no change of one is due
-pub not_built : (plan : Ports) (names : registry.Names) (m : Machine) (p : Operation) → ((hops : List Hop) → SharedStands plan m (owner.Group hops) (state_of names (name.Group hops))) → ((hops : List Hop) → HasChangeOf plan (m.due p.worker) (owner.Group hops) → ((f : Flight) → m.board.flights p.worker ≡ Some f → f.retires ≡ Some (owner.Group hops) → ⊥) → ⊥) → group_to_build plan names p ≡ None
+pub not_built : (plan : Ports) (names : registry.Names) (m : Machine) (p : Operation) → ((hops : List Hop) → SharedStands plan m (owner.Group hops) (state_of names (name.Group hops))) → ((hops : List Hop) → HasChangeOf plan (m.due p.worker) (owner.Group hops) → ((f : MachineFlight) → m.board.flights p.worker ≡ Some f → f.retires ≡ Some (owner.Group hops) → ⊥) → ⊥) → group_to_build plan names p ≡ None
 not_built plan names m p stands none = by (group_in (uses_of plan p.key p.new))
   where
     by : (x : Option (List Hop)) → built_in names p.worker x ≡ None
     by None = refl
-    by (Some hops) = built_none names p.worker hops (λ h. let s = subst (SharedStands plan m (owner.Group hops)) h (stands hops) in none hops s.2 (λ f at e. s.3 (subst (λ (z : Flight). z.retires ≡ Some (owner.Group hops)) (one_flight f s.0 (sym at ∙ s.1)) e)))
+    by (Some hops) = built_none names p.worker hops (λ h. let s = subst (SharedStands plan m (owner.Group hops)) h (stands hops) in none hops s.2 (λ f at e. s.3 (subst (λ (z : MachineFlight). z.retires ≡ Some (owner.Group hops)) (one_flight f s.0 (sym at ∙ s.1)) e)))
 
 module _ (plan : Ports) (is : IsPlan plan) (capacities : List ℕ) (m : Machine) (sound : IsConsistent plan m) (names : registry.Names) (room : RoomState) (known : Registers plan 4 capacities names room m) (fine : AreFine names) (p : Operation) (busy : OthersHaveDue m p.worker) (y : IsFlown plan names m p.worker (flown_as p None)) where
   abbrev w : ℕ
   w = p.worker
 
-  abbrev f : Flight
+  abbrev f : MachineFlight
   f = flight_of p
 
   abbrev pub On : Operation → registry.Names → Type 0
@@ -214,7 +214,7 @@ module _ (plan : Ports) (is : IsPlan plan) (capacities : List ℕ) (m : Machine)
       rest = inr ([], refl);
       between = y.between;
       standing = λ t c i j e. absurd (shared_row o p.key was.1 (one_owner plan (name_of t) o (owner.OfRow p.key) (subst (λ n. IsOwnedBy plan n o) e (taken_own plan o c j)) (now_owned plan is p y.over.now t i)));
-      later = λ hops h. no_some hops (sym h ∙ not_now);
+      later = λ hops h. never_none hops (sym h ∙ not_now);
       group = λ g h. not_some g h;
     }
       where

@@ -1,7 +1,9 @@
 -- what an operation leaves, and what it builds
 use Rattle.std.proofs.Common.{◌≡◌, ◌⊎◌, ◌∷◌, ◌∙◌, inl, inr, ◌||◌, Bool, true, false, List, [], Option, None, Some, refl, sym, ap, subst, if◌then◌else◌}
 use Rattle.std.proofs.lemmas.Bool.{eqb-true, false≢true}
+use Rattle.std.proofs.lemmas.Option.{same_Some}
 use Rattle.std.specs.List.{list_any}
+use Rattle.swss_types.proofs.Tied.{tied}
 use Rattle.table_schema.specs.Plan.{Ports}
 use Rattle.table_schema.specs.declared.key.Key.{Key}
 use Rattle.table_schema.specs.declared.row.Row.{Row}
@@ -10,7 +12,6 @@ use Rattle.table_schema.proofs.Keys.{key_exact}
 use Rattle.sai_types.specs.Alike.{IsIn}
 use Rattle.sai_types.specs.declared.thing.Thing.TheVariants as thing
 use Rattle.sai_types.proofs.Exact.{ip-exact}
-use Rattle.switch_model.proofs.Tied.{tied}
 use Rattle.row_layout.specs.Operations.{same_owner, uses_of}
 use Rattle.row_layout.specs.Rows as owner
 use Rattle.row_layout.specs.Rows.{Owner}
@@ -25,7 +26,7 @@ use Rattle.ref_counts.specs.declared.name.NameState.TheVariants as state
 use Rattle.ref_counts.specs.Registry.{Names, state_of}
 use Rattle.orch_flight.specs.Needing.{absent_or, first_absent, name_for}
 use Rattle.orch_flight.specs.Starting.{first_left, leaving}
-use Rattle.registry_laws.proofs.Listing.{no_some, not_some, same_some}
+use Rattle.registry_laws.proofs.Listing.{never_none, not_some}
 
 pub owner-exact : (o p : Owner) → same_owner o p ≡ true → o ≡ p
 owner-exact (owner.OfRow k) (owner.OfRow q) h = ap owner.OfRow (key_exact k q (tied (key_cmp k q) h))
@@ -50,7 +51,7 @@ left_apart news (p ∷ os) o h = by (λ e. left_apart news os o e) (list_any (sa
   where
     by : (first_left news os ≡ Some o → IsIn o os × (IsIn o news → ⊥)) → (b : Bool) → list_any (same_owner p) news ≡ b → (if b then first_left news os else Some p) ≡ Some o → IsIn o (p ∷ os) × (IsIn o news → ⊥)
     by rest true e g = let x = rest g in (inr x.0, x.1)
-    by rest false e g = let same : p ≡ o = same_some p o g in (inl (sym same), λ i. false≢true (sym e ∙ among p news (subst (λ z. IsIn z news) (sym same) i)))
+    by rest false e g = let same : p ≡ o = same_Some p o g in (inl (sym same), λ i. false≢true (sym e ∙ among p news (subst (λ z. IsIn z news) (sym same) i)))
 
 left_one : (news : List Owner) (p : Owner) → IsIn p news ⊎ (first_left news (p ∷ []) ≡ Some p)
 left_one news p = by (list_any (same_owner p) news) refl
@@ -81,7 +82,7 @@ leaving_covers plan k old new o h = by (uses_short plan k old)
 -- ---- what it builds
 
 is_absent : (st : NameState) (o p : Owner) (other : Option Owner) → absent_or o st other ≡ Some p → ((st ≡ state.Absent) × (o ≡ p)) ⊎ (other ≡ Some p)
-is_absent state.Absent o p other h = inl (refl, same_some o p h)
+is_absent state.Absent o p other h = inl (refl, same_Some o p h)
 is_absent (state.Building w) o p other h = inr h
 is_absent state.Live o p other h = inr h
 is_absent (state.Retiring w) o p other h = inr h
@@ -95,7 +96,7 @@ absent_first names (p ∷ os) o h = by (λ e. absent_first names os o e) (is_abs
     by rest (inr e) = let x = rest e in (inr x.0, x.1)
 
 not_absent : (st : NameState) (o : Owner) (other : Option Owner) → absent_or o st other ≡ None → (st ≡ state.Absent → ⊥) × (other ≡ None)
-not_absent state.Absent o other h = no_some o h
+not_absent state.Absent o other h = never_none o h
 not_absent (state.Building w) o other h = (λ e. cc, h)
 not_absent state.Live o other h = (λ e. cc, h)
 not_absent (state.Retiring w) o other h = (λ e. cc, h)

@@ -17,7 +17,7 @@ use Rattle.row_layout.specs.Rows as owner
 use Rattle.row_layout.specs.Rows.{Owner}
 use Rattle.row_layout.specs.Shared.{shared_things, uses}
 use Rattle.switch_machine.specs.Consistent.{IsConsistent}
-use Rattle.switch_machine.specs.Flights.{Flight, HasChangeOf, IsShared, IsUser, Machine, put}
+use Rattle.switch_machine.specs.Flights.{MachineFlight, HasChangeOf, IsShared, IsUser, Machine, put}
 use Rattle.switch_machine.specs.Operations.{MayBegin, built_first}
 use Rattle.switch_machine.specs.Places.{AreCovered, makes}
 use Rattle.switch_machine.specs.Steps.{started}
@@ -40,7 +40,7 @@ use Rattle.registry_laws.specs.Known.{IsKnownRow, IsKnownShared, IsPinOf, RowSta
 use Rattle.registry_laws.specs.Registers.{KnowsNames, KnowsRoom, Registers, beginning, due_first}
 use Rattle.registry_laws.proofs.Begun as begun_facts
 use Rattle.registry_laws.proofs.Finding.{IsPinned, NamesNew, building_at, building_off, found_at, own_off, pins_off, pins_row, put_at_name, used_off, used_one}
-use Rattle.registry_laws.proofs.Listing.{no_some, none_rising, not_some}
+use Rattle.registry_laws.proofs.Listing.{never_none, none_rising, not_some}
 use Rattle.registry_laws.proofs.Rooming.{number_for}
 use Rattle.registry_laws.proofs.Sharing.{absent_first, absent_none, first-shared}
 
@@ -53,7 +53,7 @@ module _ (plan : Ports) (is : IsPlan plan) (m : Machine) (sound : IsConsistent p
   abbrev pub old : Option Row
   old = m.board.applied k
 
-  abbrev pub f : Flight
+  abbrev pub f : MachineFlight
   f = beginning plan k old n
 
   abbrev pub due : List Change
@@ -108,7 +108,7 @@ module _ (plan : Ports) (is : IsPlan plan) (m : Machine) (sound : IsConsistent p
   -- what is named is applied, so it is registered
   is_registered : (p : Key) (o : Option Registered) → RowStands m p (state_in o) → (r : Row) → m.board.applied p ≡ Some r → o ≡ None → ⊥
   is_registered p None stands r at e = not_some r (sym stands.1 ∙ at)
-  is_registered p (Some x) stands r at e = no_some x e
+  is_registered p (Some x) stands r at e = never_none x e
 
   other_row : (p : Key) (a c : Option Registered) → (k ≡ p → ⊥) → IsKnownRow m p a → IsPinned w k (NamesNew w k n p) a c → IsKnownRow later p c
   other_row p a c other was pinned = record {
@@ -300,7 +300,7 @@ module _ (plan : Ports) (is : IsPlan plan) (m : Machine) (sound : IsConsistent p
 
 -- ---- the room
 
-pub room_now : (capacities : List ℕ) (m : Machine) (w : ℕ) (f : Flight) (due : List Change) (room room' : RoomState) → AreCovered m → m.board.flights w ≡ None → KnowsRoom capacities room m → Reserves room w (places_for due) room' → KnowsRoom capacities room' (started m w f due)
+pub room_now : (capacities : List ℕ) (m : Machine) (w : ℕ) (f : MachineFlight) (due : List Change) (room room' : RoomState) → AreCovered m → m.board.flights w ≡ None → KnowsRoom capacities room m → Reserves room w (places_for due) room' → KnowsRoom capacities room' (started m w f due)
 room_now capacities m w f due room room' covered idle known reserves = record {
   capacities_are = reserves.capacities ∙ known.capacities_are;
   places = λ v kind less. by v kind less (nat_split v w);

@@ -1,11 +1,13 @@
 -- when the answer of a call may be taken, and what the call is made of
 use Rattle.std.proofs.Common.{◌≡◌, ◌⊎◌, ◌∷◌, ◌++◌, ◌≤◌, ◌∙◌, inl, inr, ℕ, suc, Bool, true, false, List, [], length, Option, None, Some, is_some, option_map, refl, sym, ap, subst, arith}
+use Rattle.std.proofs.lemmas.Option.{same_Some}
 use Rattle.table_schema.specs.Plan.{IsPlan, Ports, port_named}
 use Rattle.table_schema.specs.declared.key.Key.{Key}
 use Rattle.table_schema.specs.declared.key.Key.TheVariants as key
 use Rattle.table_schema.specs.declared.row.Row.{Row}
 use Rattle.swss_types.specs.declared.interface.IfName.{IfName}
 use Rattle.swss_types.specs.declared.interface.IfName.TheVariants as on
+use Rattle.swss_types.proofs.Proper.{mapped}
 use Rattle.sai_types.specs.declared.hop.Base.{Base}
 use Rattle.sai_types.specs.declared.hop.Base.TheVariants as base
 use Rattle.sai_types.specs.declared.ids.Vid.{Vid}
@@ -21,7 +23,7 @@ use Rattle.row_layout.specs.Rows.{Owner, interface_on, owner_of}
 use Rattle.row_layout.specs.Shared.{shared_things}
 use Rattle.switch_machine.specs.Changes.{Disturbs, changed_name}
 use Rattle.switch_machine.specs.Consistent.{IsConsistent}
-use Rattle.switch_machine.specs.Flights.{CanMake, Concerns, Fits, Flight, HasChangeOf, IsFinal, IsOwnedBy, IsShared, IsUser, Machine, Runs, StandsIn, own_of}
+use Rattle.switch_machine.specs.Flights.{CanMake, Concerns, Fits, MachineFlight, HasChangeOf, IsFinal, IsOwnedBy, IsShared, IsUser, Machine, Runs, StandsIn, own_of}
 use Rattle.switch_machine.specs.Tables.{AreNamedApart}
 use Rattle.switch_machine.proofs.Moving.{fit_of, used_shared}
 use Rattle.switch_machine.proofs.Ordered.{ordered}
@@ -47,7 +49,7 @@ use Rattle.registry_laws.specs.Known.{RowStands, SharedStands}
 use Rattle.registry_laws.proofs.Answered.{IsRowName, mapped_row, some_row}
 use Rattle.registry_laws.proofs.Aside.{building_is, built_state, retiring_is}
 use Rattle.registry_laws.proofs.Grouped.{taken_group}
-use Rattle.registry_laws.proofs.Listing.{in_left, in_right, mapped, not_some, same_some}
+use Rattle.registry_laws.proofs.Listing.{in_left, in_right, not_some}
 use Rattle.registry_laws.proofs.Rests.{AreInOrder, rest_order}
 use Rattle.registry_laws.proofs.Telling.{touched-concern}
 
@@ -76,7 +78,7 @@ made_in [] c h = elim h [ ]
 made_in (t ∷ ts) c (inl e) = (t, inl refl, e)
 made_in (t ∷ ts) c (inr h) = let x = made_in ts c h in (x.0, inr x.1, x.2)
 
-disturbed_name : (c : Change) (n : thing_name.Name) → Disturbs c n → changed_name c ≡ n
+disturbed_name : (c : Change) (n : thing_name.ThingName) → Disturbs c n → changed_name c ≡ n
 disturbed_name (Make t) n h = elim h [ ]
 disturbed_name (Set u) n h = h
 disturbed_name (Take m) n h = h
@@ -98,11 +100,11 @@ module _ (plan : Ports) (k : Key) where
   one_intf (base.Port lane) n h =
       let m = mapped on.Ethernet (port_named plan lane) n h in
       ap (λ z. ids_for_row (key.Intf z)) (sym m.2)
-  one_intf (base.Vlan v) n h = ap (λ z. ids_for_row (key.Intf z)) (sym (same_some (on.Vlan v) n h))
+  one_intf (base.Vlan v) n h = ap (λ z. ids_for_row (key.Intf z)) (sym (same_Some (on.Vlan v) n h))
 
   one_id : (t : Thing) → owner_of plan (name_of t) ≡ Some (owner.OfRow k) → built_name k t ≡ Some (name.Row k) → ids_for_row k ≡ 1
   one_id (thing.Port p) own b = one_by key.Port (port_named plan _) (λ y e. refl) own
-  one_id (thing.Vlan v) own b = ap ids_for_row (sym (row_keys (key.Vlan v) k (same_some (owner.OfRow (key.Vlan v)) (owner.OfRow k) own)))
+  one_id (thing.Vlan v) own b = ap ids_for_row (sym (row_keys (key.Vlan v) k (same_Some (owner.OfRow (key.Vlan v)) (owner.OfRow k) own)))
   one_id (thing.BridgePort lane) own b = absurd cc
   one_id (thing.VlanMember v lane x) own b = one_by (key.Member v) (port_named plan lane) (λ y e. refl) own
   one_id (thing.Rif b) own h = one_by key.Intf (interface_on plan b) (λ y e. one_intf b y e) own
@@ -122,7 +124,7 @@ module _ (plan : Ports) (is : IsPlan plan) (capacities : List ℕ) (names : regi
   abbrev f : Operation
   f = x.operation
 
-  abbrev g : Flight
+  abbrev g : MachineFlight
   g = flight_of x.operation
 
   abbrev k : Key
@@ -221,14 +223,14 @@ module _ (plan : Ports) (is : IsPlan plan) (capacities : List ℕ) (names : regi
           (its_worker (state_of names (name.Row k)) st, places made (owner.OfRow k) st e (λ _. omega (arith, one)))
 
     builds_by : (t : Thing) (rest : List Change) (due : f.due ≡ Make t ∷ rest) (made : Option Vid) → is_some made ≡ has_number t → (n : Name) → built_name k t ≡ Some n → (state_of names n ≡ state.Building f.worker) × (length (to_list made) ≤ places_of names n)
-    builds_by (thing.Port p) rest due made e n h = subst (λ z. (state_of names z ≡ state.Building f.worker) × (length (to_list made) ≤ places_of names z)) (same_some (name.Row k) n h) (row_builds (thing.Port p) rest due made (λ o shared i. mapped_row plan key.Port (port_named plan _) o shared i) e refl)
-    builds_by (thing.Vlan v) rest due made e n h = subst (λ z. (state_of names z ≡ state.Building f.worker) × (length (to_list made) ≤ places_of names z)) (same_some (name.Row k) n h) (row_builds (thing.Vlan v) rest due made (λ o shared i. some_row plan (key.Vlan v) o shared i) e refl)
-    builds_by (thing.BridgePort lane) rest due made e n h = subst (λ z. (state_of names z ≡ state.Building f.worker) × (length (to_list made) ≤ places_of names z)) (same_some (name.BridgePort lane) n h) (shared_builds (thing.BridgePort lane) rest due made (owner.Bridge lane) tt refl e (λ _. omega arith))
-    builds_by (thing.VlanMember v lane z) rest due made e n h = subst (λ z. (state_of names z ≡ state.Building f.worker) × (length (to_list made) ≤ places_of names z)) (same_some (name.Row k) n h) (row_builds (thing.VlanMember v lane z) rest due made (λ o shared i. mapped_row plan (key.Member v) (port_named plan lane) o shared i) e refl)
-    builds_by (thing.Rif b) rest due made e n h = subst (λ z. (state_of names z ≡ state.Building f.worker) × (length (to_list made) ≤ places_of names z)) (same_some (name.Row k) n h) (row_builds (thing.Rif b) rest due made (λ o shared i. mapped_row plan key.Intf (interface_on plan b) o shared i) e refl)
-    builds_by (thing.Own ip) rest due made e n h = subst (λ z. (state_of names z ≡ state.Building f.worker) × (length (to_list made) ≤ places_of names z)) (same_some (name.Own ip) n h) (shared_builds (thing.Own ip) rest due made (owner.Own ip) tt refl e (λ no. absurd cc))
+    builds_by (thing.Port p) rest due made e n h = subst (λ z. (state_of names z ≡ state.Building f.worker) × (length (to_list made) ≤ places_of names z)) (same_Some (name.Row k) n h) (row_builds (thing.Port p) rest due made (λ o shared i. mapped_row plan key.Port (port_named plan _) o shared i) e refl)
+    builds_by (thing.Vlan v) rest due made e n h = subst (λ z. (state_of names z ≡ state.Building f.worker) × (length (to_list made) ≤ places_of names z)) (same_Some (name.Row k) n h) (row_builds (thing.Vlan v) rest due made (λ o shared i. some_row plan (key.Vlan v) o shared i) e refl)
+    builds_by (thing.BridgePort lane) rest due made e n h = subst (λ z. (state_of names z ≡ state.Building f.worker) × (length (to_list made) ≤ places_of names z)) (same_Some (name.BridgePort lane) n h) (shared_builds (thing.BridgePort lane) rest due made (owner.Bridge lane) tt refl e (λ _. omega arith))
+    builds_by (thing.VlanMember v lane z) rest due made e n h = subst (λ z. (state_of names z ≡ state.Building f.worker) × (length (to_list made) ≤ places_of names z)) (same_Some (name.Row k) n h) (row_builds (thing.VlanMember v lane z) rest due made (λ o shared i. mapped_row plan (key.Member v) (port_named plan lane) o shared i) e refl)
+    builds_by (thing.Rif b) rest due made e n h = subst (λ z. (state_of names z ≡ state.Building f.worker) × (length (to_list made) ≤ places_of names z)) (same_Some (name.Row k) n h) (row_builds (thing.Rif b) rest due made (λ o shared i. mapped_row plan key.Intf (interface_on plan b) o shared i) e refl)
+    builds_by (thing.Own ip) rest due made e n h = subst (λ z. (state_of names z ≡ state.Building f.worker) × (length (to_list made) ≤ places_of names z)) (same_Some (name.Own ip) n h) (shared_builds (thing.Own ip) rest due made (owner.Own ip) tt refl e (λ no. absurd cc))
     builds_by (thing.Neighbor hop mac) rest due made e n h = not_some n h
-    builds_by (thing.NextHop hop) rest due made e n h = subst (λ z. (state_of names z ≡ state.Building f.worker) × (length (to_list made) ≤ places_of names z)) (same_some (name.Row k) n h) (row_builds (thing.NextHop hop) rest due made (λ o shared i. mapped_row plan (λ n. key.Neigh n hop.ip) (interface_on plan hop.on) o shared i) e refl)
+    builds_by (thing.NextHop hop) rest due made e n h = subst (λ z. (state_of names z ≡ state.Building f.worker) × (length (to_list made) ≤ places_of names z)) (same_Some (name.Row k) n h) (row_builds (thing.NextHop hop) rest due made (λ o shared i. mapped_row plan (λ n. key.Neigh n hop.ip) (interface_on plan hop.on) o shared i) e refl)
     builds_by (thing.Group hops) rest due made e n h = not_some n h
     builds_by (thing.GroupMember hops hop) rest due made e n h = not_some n h
     builds_by (thing.Route prefix goal) rest due made e n h = not_some n h

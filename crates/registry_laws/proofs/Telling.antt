@@ -14,11 +14,12 @@ use Rattle.switch_model.specs.Marks.{first_missing}
 use Rattle.row_layout.specs.Operations.{Change, Make, Set, Take}
 use Rattle.row_layout.specs.Rows.{Owner, OfRow}
 use Rattle.row_layout.specs.Shared.{uses}
+use Rattle.row_layout.proofs.Members.{in_map}
 use Rattle.switch_machine.specs.Changes.{after, changed_name}
 use Rattle.switch_machine.specs.Consistent.{IsConsistent}
-use Rattle.switch_machine.specs.Flights.{Can, Concerns, Fits, Flight, Goes, HasChangeOf, IsConcern, IsOwnedBy, IsShared, Machine, Runs, StandsIn}
+use Rattle.switch_machine.specs.Flights.{Can, Concerns, Fits, MachineFlight, Goes, HasChangeOf, IsConcern, IsOwnedBy, IsShared, Machine, Runs, StandsIn}
 use Rattle.switch_machine.specs.Reasons.{IsInTheWay}
-use Rattle.switch_machine.specs.Tables.{Tables}
+use Rattle.switch_machine.specs.Tables.{TableLaws}
 use Rattle.switch_machine.proofs.Moving.{apart, fit_of}
 use Rattle.switch_machine.proofs.Running.{final-concern, one_owner}
 use Rattle.switch_machine.proofs.Splits.{IsSplit, in_both, nat_split}
@@ -35,7 +36,7 @@ use Rattle.ref_counts.specs.Room.{RoomState}
 use Rattle.orch_flight.specs.Needing.{first_unapplied, name_for, names_needed, pinning, unapplied_or, workers_on}
 use Rattle.registry_laws.specs.Known.{RowStands, SharedStands, pins_at}
 use Rattle.registry_laws.specs.Registers.{HaveDue, Registers}
-use Rattle.registry_laws.proofs.Listing.{but_in, in_but, in_left, in_map, in_right, least_below, least_in, least_none, least_worker_is, map_in, no_some, not_some}
+use Rattle.registry_laws.proofs.Listing.{but_in, in_but, in_left, in_right, least_below, least_in, least_none, least_worker_is, map_in, never_none, not_some}
 
 -- ---- rows
 
@@ -45,7 +46,7 @@ have-of_missing rows (k ∷ ks) h = by (λ e. have-of_missing rows ks e) (is_som
   where
     by : (first_missing rows ks ≡ None → have_rows rows ks ≡ true) → (b : Bool) → is_some (rows k) ≡ b → (if b then first_missing rows ks else Some k) ≡ None → have_rows rows (k ∷ ks) ≡ true
     by rest true e g = ap (λ b. b && have_rows rows ks) e ∙ rest g
-    by rest false e g = no_some k g
+    by rest false e g = never_none k g
 
 pub have_at : (rows : TypedRows) (ks : List Key) (k : Key) → have_rows rows ks ≡ true → IsIn k ks → rows k ≡ None → ⊥
 have_at rows [] k h g e = g
@@ -54,17 +55,17 @@ have_at rows (q ∷ ks) k h (inr g) e = have_at rows ks k (and_parts (is_some (r
 
 -- ---- states
 
-owner_split : (st : NameState) (v : ℕ) → owner_in st ≡ Some v → (st ≡ state.Building v) ⊎ (st ≡ state.Retiring v)
-owner_split state.Absent v h = not_some v h
-owner_split (state.Building w) v h = inl cc
-owner_split state.Live v h = not_some v h
-owner_split (state.Retiring w) v h = inr cc
+builds_or_retires : (st : NameState) (v : ℕ) → owner_in st ≡ Some v → (st ≡ state.Building v) ⊎ (st ≡ state.Retiring v)
+builds_or_retires state.Absent v h = not_some v h
+builds_or_retires (state.Building w) v h = inl cc
+builds_or_retires state.Live v h = not_some v h
+builds_or_retires (state.Retiring w) v h = inr cc
 
 pub owner_none : (st : NameState) → owner_in st ≡ None → (st ≡ state.Absent) ⊎ (st ≡ state.Live)
 owner_none state.Absent h = inl refl
-owner_none (state.Building w) h = no_some w h
+owner_none (state.Building w) h = never_none w h
 owner_none state.Live h = inr refl
-owner_none (state.Retiring w) h = no_some w h
+owner_none (state.Retiring w) h = never_none w h
 
 -- ---- pins
 
@@ -98,7 +99,7 @@ module _ (names : registry.Names) where
 
 -- ---- the changes of an operation concern it
 
-module _ (plan : Ports) (tables : Tables plan) (f : Flight) (fit : (r : Row) → f.new ≡ Some r → Fits plan f.key r) where
+module _ (plan : Ports) (tables : TableLaws plan) (f : MachineFlight) (fit : (r : Row) → f.new ≡ Some r → Fits plan f.key r) where
   can_concern : (V : Thing → Type 0) (c : Change) → Can plan f V c → IsConcern plan f (changed_name c)
   can_concern V (Make t) can = final-concern plan tables f fit t can.final
   can_concern V (Set t) can = (OfRow f.key, can.own, inl refl)
@@ -117,10 +118,10 @@ module _ (plan : Ports) (tables : Tables plan) (f : Flight) (fit : (r : Row) →
 
 -- two operations change nothing of one owner
 module _ (plan : Ports) (is : IsPlan plan) (m : Machine) (sound : IsConsistent plan m) where
-  concern_of : (v : ℕ) (f : Flight) (o : Owner) → m.board.flights v ≡ Some f → HasChangeOf plan (m.due v) o → Concerns plan f o
+  concern_of : (v : ℕ) (f : MachineFlight) (o : Owner) → m.board.flights v ≡ Some f → HasChangeOf plan (m.due v) o → Concerns plan f o
   concern_of v f o at t = touched-concern plan (tabled plan is) f (fit_of plan (tabled plan is) m sound v f at) (m.due v) (StandsIn m) o (sound.runs v f at) t
 
-  pub touched-one : (v u : ℕ) (f g : Flight) (o : Owner) → m.board.flights v ≡ Some f → m.board.flights u ≡ Some g → HasChangeOf plan (m.due v) o → HasChangeOf plan (m.due u) o → v ≡ u
+  pub touched-one : (v u : ℕ) (f g : MachineFlight) (o : Owner) → m.board.flights v ≡ Some f → m.board.flights u ≡ Some g → HasChangeOf plan (m.due v) o → HasChangeOf plan (m.due u) o → v ≡ u
   touched-one v u f g o at there t x = by (nat_split v u)
     where
       by : IsSplit v u → v ≡ u
@@ -147,7 +148,7 @@ module _ (plan : Ports) (is : IsPlan plan) (workers : ℕ) (capacities : List �
   unapplied_is [] = refl
   unapplied_is (k ∷ ks) = applied_by k (state_of names (name.Row k)) (first_unapplied names ks) (row_at k) ∙ ap (λ o. if is_some (m.board.applied k) then o else Some k) (unapplied_is ks)
 
-  pub retires_touched : (v : ℕ) (g : Flight) (o : Owner) → m.board.flights v ≡ Some g → g.retires ≡ Some o → HasChangeOf plan (m.due v) o
+  pub retires_touched : (v : ℕ) (g : MachineFlight) (o : Owner) → m.board.flights v ≡ Some g → g.retires ≡ Some o → HasChangeOf plan (m.due v) o
   retires_touched v g o at retires = by (m.due v) refl
     where
       by : (cs : List Change) → m.due v ≡ cs → HasChangeOf plan (m.due v) o
@@ -177,10 +178,10 @@ module _ (plan : Ports) (is : IsPlan plan) (workers : ℕ) (capacities : List �
         by : (n : Name) → owner_in (state_of names n) ≡ Some v → IsIn n (map name.Row (names_of k r)) ⊎ IsIn n (map name_for (uses plan k r)) → IsInTheWay plan m k (Some r) v
         by n e (inl i) =
             let x = map_in name.Row n (names_of k r) i in
-            by_row x.0 x.1 (state_of names (name.Row x.0)) (row_at x.0) (owner_split (state_of names (name.Row x.0)) v (subst (λ z. owner_in (state_of names z) ≡ Some v) x.2 e))
+            by_row x.0 x.1 (state_of names (name.Row x.0)) (row_at x.0) (builds_or_retires (state_of names (name.Row x.0)) v (subst (λ z. owner_in (state_of names z) ≡ Some v) x.2 e))
         by n e (inr i) =
             let x = map_in name_for n (uses plan k r) i in
-            by_shared x.0 x.1 (state_of names (name_for x.0)) (shared_at x.0 (is_shared x.0 x.1)) (owner_split (state_of names (name_for x.0)) v (subst (λ z. owner_in (state_of names z) ≡ Some v) x.2 e))
+            by_shared x.0 x.1 (state_of names (name_for x.0)) (shared_at x.0 (is_shared x.0 x.1)) (builds_or_retires (state_of names (name_for x.0)) v (subst (λ z. owner_in (state_of names z) ≡ Some v) x.2 e))
 
     pub on_row : (p : Key) (v : ℕ) → IsIn p (names_of k r) → owner_in (state_of names (name.Row p)) ≡ Some v → IsIn v (workers_on names Needed)
     on_row p v i e = in_on names Needed (name.Row p) v (in_left (name.Row p) (map name.Row (names_of k r)) (map name_for (uses plan k r)) (in_map name.Row p (names_of k r) i)) e
@@ -189,13 +190,13 @@ module _ (plan : Ports) (is : IsPlan plan) (workers : ℕ) (capacities : List �
     on_shared o v i e = in_on names Needed (name_for o) v (in_right (name_for o) (map name.Row (names_of k r)) (map name_for (uses plan k r)) (in_map name_for o (uses plan k r) i)) e
 
     -- whose operation has a change of it to make owns its name
-    touched_owner : (o : Owner) (v : ℕ) (g : Flight) (st : NameState) → SharedStands plan m o st → m.board.flights v ≡ Some g → HasChangeOf plan (m.due v) o → owner_in st ≡ Some v
+    touched_owner : (o : Owner) (v : ℕ) (g : MachineFlight) (st : NameState) → SharedStands plan m o st → m.board.flights v ≡ Some g → HasChangeOf plan (m.due v) o → owner_in st ≡ Some v
     touched_owner o v g state.Absent (none, still) at t = absurd (still v g at t)
     touched_owner o v g (state.Building u) (f, there, x, other) at t = ap Some (touched-one plan is m sound u v f g o there at x t)
     touched_owner o v g state.Live (some, still) at t = absurd (still v g at t)
     touched_owner o v g (state.Retiring u) (f, there, x, retires) at t = ap Some (touched-one plan is m sound u v f g o there at x t)
 
-    going_owner : (p : Key) (v : ℕ) (g : Flight) (st : NameState) → IsIn p (names_of k r) → RowStands m p st → m.board.flights v ≡ Some g → g.key ≡ p → g.new ≡ None → owner_in st ≡ Some v
+    going_owner : (p : Key) (v : ℕ) (g : MachineFlight) (st : NameState) → IsIn p (names_of k r) → RowStands m p st → m.board.flights v ≡ Some g → g.key ≡ p → g.new ≡ None → owner_in st ≡ Some v
     going_owner p v g state.Absent i (rests, none) at same gone = absurd (rests v g at same)
     going_owner p v g (state.Building u) i (flown, none) at same gone = absurd (have_at m.board.applied (names_of k r) p have i none)
     going_owner p v g state.Live i (inl firm) at same gone = absurd (firm.stays v g at same gone)

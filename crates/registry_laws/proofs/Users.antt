@@ -8,13 +8,9 @@ use Rattle.std.specs.List.Sorted.{IsStrictlySortedBy}
 use Rattle.std.specs.declared.cmp.Ordering.TheVariants.{Less}
 use Rattle.table_schema.specs.Key.{key_cmp}
 use Rattle.table_schema.specs.declared.key.Key.{Key}
-use Rattle.table_schema.proofs.Keys.{key_exact, key_total}
+use Rattle.table_schema.proofs.Keys.{key_total, tied_keys_same}
 use Rattle.sai_types.specs.Alike.{IsIn}
-use Rattle.switch_model.proofs.Tied.{tied}
 use Rattle.ref_counts.specs.Registered.{users_but}
-
-same_key : (k q : Key) → is_at (key_cmp k) q ≡ true → k ≡ q
-same_key k q h = key_exact k q (tied (key_cmp k q) h)
 
 its_key : (k q : Key) → k ≡ q → is_at (key_cmp k) q ≡ true
 its_key k q h = subst (λ z. is_at (key_cmp k) z ≡ true) h ((eq_by_cmp_equiv key_total).refl k)
@@ -33,7 +29,7 @@ users_kept k q [] other h = elim h [ ]
 users_kept k q (u ∷ us) other h = by (λ i. users_kept k q us other i) (is_at (key_cmp k) u) refl h
   where
     by : (IsIn q us → IsIn q (users_but k us)) → (b : Bool) → is_at (key_cmp k) u ≡ b → IsIn q (u ∷ us) → IsIn q (cond (not b) (u ∷ users_but k us) (users_but k us))
-    by rest true e (inl same) = absurd (other (same_key k u e ∙ sym same))
+    by rest true e (inl same) = absurd (other (tied_keys_same k u e ∙ sym same))
     by rest true e (inr i) = rest i
     by rest false e (inl same) = inl same
     by rest false e (inr i) = inr (rest i)

@@ -1,5 +1,7 @@
 -- the reason that the registry and the room answer is true, and where they answer none the operation may begin
 use Rattle.std.proofs.Common.{◌≡◌, ◌⊎◌, ◌+◌, ◌<◌, ◌≤◌, ◌∙◌, inl, inr, ℕ, true, false, List, Option, None, Some, refl, sym, ap, subst, arith}
+use Rattle.std.proofs.lemmas.Option.{same_Some}
+use Rattle.swss_types.proofs.Proper.{mapped}
 use Rattle.table_schema.specs.Names.{names_of}
 use Rattle.table_schema.specs.Plan.{IsPlan, Ports}
 use Rattle.table_schema.specs.declared.key.Key.{Key}
@@ -13,7 +15,7 @@ use Rattle.row_layout.specs.Operations.{Change, going, own_changes, uses_of}
 use Rattle.row_layout.specs.Rows.{Owner}
 use Rattle.row_layout.specs.Shared.{uses}
 use Rattle.switch_machine.specs.Events.{IsSafe, SwitchState}
-use Rattle.switch_machine.specs.Flights.{Fits, Flight, HasChangeOf, IsFirm, IsResting, IsRow, IsUser, Machine}
+use Rattle.switch_machine.specs.Flights.{Fits, MachineFlight, HasChangeOf, IsFirm, IsResting, IsRow, IsUser, Machine}
 use Rattle.switch_machine.specs.Operations.{MayBegin}
 use Rattle.sai_types.specs.Objects.{level, used}
 use Rattle.sai_types.specs.Refusal.{capacity_of}
@@ -33,7 +35,7 @@ use Rattle.ref_counts.specs.declared.pin.Pin.{Pin}
 use Rattle.orch_flight.specs.Needing.{busy_for, crowded_for, first_unapplied, holder_of, least_of, missing_for, name_for, or_else, pinning, places_for, to_build, wait_of, workers_on}
 use Rattle.registry_laws.specs.Known.{RowStands, SharedStands, pins_at}
 use Rattle.registry_laws.specs.Registers.{AreUsed, HaveDue, Registers, beginning, due_first}
-use Rattle.registry_laws.proofs.Listing.{else_none, else_some, first_in, first_least, first_none, least_below, least_in, least_none, mapped, mapped_none, no_some, not_some, same_some}
+use Rattle.registry_laws.proofs.Listing.{else_none, else_some, first_listed_in, first_least, first_none, least_below, least_in, least_none, mapped_none, never_none, not_some}
 use Rattle.registry_laws.proofs.Rooming.{lacking_first, lacking_none, lacks_false, lacks_true}
 use Rattle.registry_laws.proofs.Sharing.{absent_first, absent_none, leaving_covers, left_apart}
 use Rattle.registry_laws.proofs.Telling.{Needed, have-of_missing, have_at, in_way, on_row, owner_none, pin_way, pinning_in, pinning_least, pinning_none, row_at, shared_at, unapplied_is, way_in, way_pin}
@@ -50,18 +52,18 @@ module _ (plan : Ports) (is : IsPlan plan) (workers : ℕ) (capacities : List �
   have_by : (n : Option Row) → missing_for names k n ≡ None → (r : Row) → n ≡ Some r → have_rows m.board.applied (names_of k r) ≡ true
   have_by None h r e = not_some r e
   have_by (Some x) h r e =
-      have-of_missing m.board.applied (names_of k r) (sym (unapplied_is plan is workers capacities m kept.sound names room known busy (names_of k r)) ∙ subst (λ z. first_unapplied names (names_of k z) ≡ None) (same_some x r e) (mapped_none wait.Missing (first_unapplied names (names_of k x)) h))
+      have-of_missing m.board.applied (names_of k r) (sym (unapplied_is plan is workers capacities m kept.sound names room known busy (names_of k r)) ∙ subst (λ z. first_unapplied names (names_of k z) ≡ None) (same_Some x r e) (mapped_none wait.Missing (first_unapplied names (names_of k x)) h))
 
   -- ---- nothing holds
 
   unheld_by : (n : Option Row) → holder_of names k n ≡ None → n ≡ None → (q : Key) (r : Row) → m.board.applied q ≡ Some r → IsIn k (names_of q r) → ⊥
-  unheld_by (Some x) h e q r at i = no_some x e
+  unheld_by (Some x) h e q r at i = never_none x e
   unheld_by None h e q r at i = first_none (users_of names (name.Row k)) q (mapped_none wait.Held (first_of (users_of names (name.Row k))) h) (((known.names_known.rows k).users q).1 (r, at, i))
 
   -- ---- nobody is in the way
 
-  idle_not : (v : ℕ) (g : Flight) → m.board.flights v ≡ Some g → v ≡ w → ⊥
-  idle_not v g at e = no_some g (sym at ∙ ap m.board.flights e ∙ idle)
+  idle_not : (v : ℕ) (g : MachineFlight) → m.board.flights v ≡ Some g → v ≡ w → ⊥
+  idle_not v g at e = never_none g (sym at ∙ ap m.board.flights e ∙ idle)
 
   clear_by : (n : Option Row) → missing_for names k n ≡ None → busy_for plan names w k n ≡ None → (v : ℕ) → IsInTheWay plan m k n v → ⊥
   clear_by None miss h v way =
@@ -98,7 +100,7 @@ module _ (plan : Ports) (is : IsPlan plan) (workers : ℕ) (capacities : List �
   -- ---- it may begin
 
   module _ (n : Option Row) (good : good_of plan s.written k ≡ n) (miss : missing_for names k n ≡ None) (hold : holder_of names k n ≡ None) (none : busy_for plan names w k n ≡ None) where
-    abbrev flight : Flight
+    abbrev flight : MachineFlight
     flight = beginning plan k old n
 
     abbrev due : List Change
@@ -112,7 +114,7 @@ module _ (plan : Ports) (is : IsPlan plan) (workers : ℕ) (capacities : List �
         have = have_by (Some y) miss y refl
 
         there : IsIn p (names_of k y)
-        there = subst (λ z. IsIn p (names_of k z)) (sym (same_some y r h)) i
+        there = subst (λ z. IsIn p (names_of k z)) (sym (same_Some y r h)) i
 
         of : (st : NameState) → RowStands m p st → (st ≡ state.Absent) ⊎ (st ≡ state.Live) → IsFirm m.board p
         of st stands (inl a) = absurd (have_at m.board.applied (names_of k y) p have there (subst (RowStands m p) a stands).1)
@@ -136,7 +138,7 @@ module _ (plan : Ports) (is : IsPlan plan) (workers : ℕ) (capacities : List �
     unnamed e q r (inl at) i = unheld_by n hold e q r at i
     unnamed e q r (inr (v, g, at, same, brings)) i = clear v (subst (λ z. IsInTheWay plan m k z v) (sym e) (g, at, (r, brings, subst (λ z. IsIn k (names_of z r)) (sym same) i)))
 
-    free_by : (o : Owner) (x : Option Row) → n ≡ x → IsIn o (uses_of plan k x) → (v : ℕ) (g : Flight) → m.board.flights v ≡ Some g → (HasChangeOf plan (m.due v) o → ⊥) × (g.retires ≡ Some o → ⊥)
+    free_by : (o : Owner) (x : Option Row) → n ≡ x → IsIn o (uses_of plan k x) → (v : ℕ) (g : MachineFlight) → m.board.flights v ≡ Some g → (HasChangeOf plan (m.due v) o → ⊥) × (g.retires ≡ Some o → ⊥)
     free_by o None e i v g at = elim i [ ]
     free_by o (Some r) e i v g at = (
       λ t. clear v (subst (λ z. IsInTheWay plan m k z v) (sym e) (g, at, inr (o, i, inl t))),
@@ -180,7 +182,7 @@ module _ (plan : Ports) (is : IsPlan plan) (workers : ℕ) (capacities : List �
 
     -- a row that goes needs no room
     none_made : (kind : Kind) (x : Option Row) → x ≡ None → makes kind (due_first plan names k old x) ≡ 0
-    none_made kind (Some r) e = no_some r e
+    none_made kind (Some r) e = never_none r e
     none_made kind None e = by old
       where
         by : (o : Option Row) → makes kind (own_changes plan k o None) ≡ 0
@@ -228,7 +230,7 @@ module _ (plan : Ports) (is : IsPlan plan) (workers : ℕ) (capacities : List �
     held_by (Some r) answer e h = not_some answer h
     held_by None answer e h =
         let x = mapped wait.Held (first_of (users_of names (name.Row k))) answer h in
-        let user = ((known.names_known.rows k).users x.0).0 (first_in (users_of names (name.Row k)) x.0 x.1) in
+        let user = ((known.names_known.rows k).users x.0).0 (first_listed_in (users_of names (name.Row k)) x.0 x.1) in
         let firm = kept.sound.board.named x.0 k user.0 (inl user.1) user.2 in
         subst (IsReason plan workers capacities s k) x.2 (
           rests,

@@ -4,7 +4,7 @@ use Rattle.table_schema.specs.Plan.{Ports}
 use Rattle.sai_types.specs.declared.hop.Hop.{Hop}
 use Rattle.row_layout.specs.Operations.{Change, uses_of}
 use Rattle.row_layout.specs.Rows.{Group, Owner}
-use Rattle.switch_machine.specs.Flights.{Flight}
+use Rattle.switch_machine.specs.Flights.{MachineFlight}
 use Rattle.ref_counts.specs.declared.name.Name.TheVariants as name
 use Rattle.ref_counts.specs.declared.name.NameState.{NameState}
 use Rattle.ref_counts.specs.declared.name.NameState.TheVariants as state
@@ -19,7 +19,7 @@ pub record Flown : Type 0 where
   pub group : Option GroupOperation
 
 -- an operation, as the machine has it
-abbrev pub flight_of : Operation → Flight
+abbrev pub flight_of : Operation → MachineFlight
 flight_of f = record { key = f.key; new = f.new; leaves = f.leaves; retires = f.retires }
 
 -- the group among what is shared

@@ -9,7 +9,7 @@ use Rattle.table_schema.specs.declared.row.Row.{Row}
 use Rattle.sai_types.specs.Alike.{IsIn}
 use Rattle.switch_model.specs.Good.{TypedRows}
 use Rattle.row_layout.specs.Rows.{Owner}
-use Rattle.switch_machine.specs.Flights.{Board, Flight, HasChangeOf, IsFirm, IsResting, IsUser, Machine}
+use Rattle.switch_machine.specs.Flights.{MachineBoard, MachineFlight, HasChangeOf, IsFirm, IsResting, IsUser, Machine}
 use Rattle.switch_machine.specs.Reasons.{IsFlownBy}
 use Rattle.ref_counts.specs.declared.name.NameState.{NameState}
 use Rattle.ref_counts.specs.declared.name.NameState.TheVariants as state
@@ -26,7 +26,7 @@ pins_at (Some r) = r.pins
 -- all that an operation makes of the key's row is made
 pub record IsAllMade (m : Machine) (k : Key) : Type 0 where
   pub worker : ℕ
-  pub flight : Flight
+  pub flight : MachineFlight
   pub flying : m.board.flights worker ≡ Some flight
   pub key : flight.key ≡ k
   pub row : Row
@@ -35,7 +35,7 @@ pub record IsAllMade (m : Machine) (k : Key) : Type 0 where
 
 -- this worker's operation takes the row away
 pub record IsTakenAway (m : Machine) (k : Key) (worker : ℕ) : Type 0 where
-  pub flight : Flight
+  pub flight : MachineFlight
   pub flying : m.board.flights worker ≡ Some flight
   pub key : flight.key ≡ k
   pub none : flight.new ≡ None
@@ -54,8 +54,8 @@ abbrev pub Names : TypedRows → Key → Key → Type 0
 Names applied user k = (r : Row) × (applied user ≡ Some r) × IsIn k (names_of user r)
 
 -- a worker's operation brings its key a row that names this one
-abbrev pub IsPinOf : Board → Key → Pin → Type 0
-IsPinOf b k p = (f : Flight) × (b.flights p.worker ≡ Some f) × (f.key ≡ p.user) × ((r : Row) × (f.new ≡ Some r) × IsIn k (names_of f.key r))
+abbrev pub IsPinOf : MachineBoard → Key → Pin → Type 0
+IsPinOf b k p = (f : MachineFlight) × (b.flights p.worker ≡ Some f) × (f.key ≡ p.user) × ((r : Row) × (f.new ≡ Some r) × IsIn k (names_of f.key r))
 
 -- the users of a row's name are the keys whose applied rows name it, and its pins those of the operations that bring such a row
 pub record IsKnownRow (m : Machine) (k : Key) (known : Option Registered) : Type 0 where
@@ -68,11 +68,11 @@ pub record IsKnownRow (m : Machine) (k : Key) (known : Option Registered) : Type
 
 -- no change of it is due
 abbrev pub IsUntouched : Ports → Machine → Owner → Type 0
-IsUntouched plan m o = (w : ℕ) (f : Flight) → m.board.flights w ≡ Some f → HasChangeOf plan (m.due w) o → ⊥
+IsUntouched plan m o = (w : ℕ) (f : MachineFlight) → m.board.flights w ≡ Some f → HasChangeOf plan (m.due w) o → ⊥
 
 -- the operation of a worker has a change of it to make, and retires it or not
-abbrev pub IsTouchedBy : Ports → Machine → Owner → ℕ → (Flight → Type 0) → Type 0
-IsTouchedBy plan m o worker Is = (f : Flight) × (m.board.flights worker ≡ Some f) × HasChangeOf plan (m.due worker) o × Is f
+abbrev pub IsTouchedBy : Ports → Machine → Owner → ℕ → (MachineFlight → Type 0) → Type 0
+IsTouchedBy plan m o worker Is = (f : MachineFlight) × (m.board.flights worker ≡ Some f) × HasChangeOf plan (m.due worker) o × Is f
 
 -- the name of what is shared is absent while nobody uses it, live while somebody does, and no change of it is due; else the worker's whose operation builds it, or retires it
 abbrev pub SharedStands : Ports → Machine → Owner → NameState → Type 0

@@ -10,7 +10,7 @@ use Rattle.row_layout.specs.Operations.{Change, make_all, own_changes, shared_go
 use Rattle.row_layout.specs.Rows.{Group, Owner}
 use Rattle.row_layout.specs.Shared.{shared_things}
 use Rattle.switch_machine.specs.Changes.{changed_name}
-use Rattle.switch_machine.specs.Flights.{Flight, IsOwnedBy, IsShared, Machine}
+use Rattle.switch_machine.specs.Flights.{MachineFlight, IsOwnedBy, IsShared, Machine}
 use Rattle.switch_machine.specs.Operations.{built_first}
 use Rattle.switch_machine.specs.Places.{makes}
 use Rattle.sai_types.specs.declared.ids.Vid.{Vid}
@@ -39,24 +39,24 @@ pub record Registers (plan : Ports) (workers : ℕ) (capacities : List ℕ) (nam
   pub room_known : KnowsRoom capacities room m
   -- at most four workers have operations
   pub few : workers ≤ 4
-  pub below : (w : ℕ) (f : Flight) → m.board.flights w ≡ Some f → w < workers
+  pub below : (w : ℕ) (f : MachineFlight) → m.board.flights w ≡ Some f → w < workers
   -- an operation that retires something has only changes of it to make
-  pub retiring : (w : ℕ) (f : Flight) (o : Owner) (c : Change) → m.board.flights w ≡ Some f → f.retires ≡ Some o → IsIn c (m.due w) → IsOwnedBy plan (changed_name c) o
+  pub retiring : (w : ℕ) (f : MachineFlight) (o : Owner) (c : Change) → m.board.flights w ≡ Some f → f.retires ≡ Some o → IsIn c (m.due w) → IsOwnedBy plan (changed_name c) o
 
 -- each operation has a change to make: so it is between events
 abbrev pub HaveDue : Machine → Type 0
-HaveDue m = (w : ℕ) (f : Flight) → m.board.flights w ≡ Some f → m.due w ≡ [] → ⊥
+HaveDue m = (w : ℕ) (f : MachineFlight) → m.board.flights w ≡ Some f → m.due w ≡ [] → ⊥
 
 -- each operation but this worker's has
 abbrev pub OthersHaveDue : Machine → ℕ → Type 0
-OthersHaveDue m worker = (w : ℕ) (f : Flight) → (w ≡ worker → ⊥) → m.board.flights w ≡ Some f → m.due w ≡ [] → ⊥
+OthersHaveDue m worker = (w : ℕ) (f : MachineFlight) → (w ≡ worker → ⊥) → m.board.flights w ≡ Some f → m.due w ≡ [] → ⊥
 
 -- how many objects of each kind there are
 abbrev pub AreUsed : Objects → List ℕ → Type 0
 AreUsed objects numbers = (kind : Kind) → number_of numbers kind ≡ used objects kind
 
 -- the operation that begins, and what is due for it
-abbrev pub beginning : Ports → Key → Option Row → Option Row → Flight
+abbrev pub beginning : Ports → Key → Option Row → Option Row → MachineFlight
 beginning plan k old new = record { key = k; new = new; leaves = leaving plan k old new; retires = None }
 
 abbrev pub due_first : Ports → registry.Names → Key → Option Row → Option Row → List Change

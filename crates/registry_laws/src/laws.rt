@@ -15,7 +15,7 @@ ghost use Rattle.row_layout.specs.Operations.{Change, own_changes, shared_going,
 ghost use Rattle.row_layout.specs.Rows.{OfRow, Owner};
 ghost use Rattle.switch_machine.specs.Changes.{changed_name};
 ghost use Rattle.switch_machine.specs.Consistent.{IsConsistent};
-ghost use Rattle.switch_machine.specs.Flights.{Fits, Flight, HasChangeOf, IsOwnedBy, IsResting, IsShared, Machine};
+ghost use Rattle.switch_machine.specs.Flights.{Fits, MachineFlight, HasChangeOf, IsOwnedBy, IsResting, IsShared, Machine};
 ghost use Rattle.switch_machine.specs.Operations.{IsLast, MayBegin, built_first};
 ghost use Rattle.switch_machine.specs.Places.{AreCovered, HasRoomFor};
 ghost use Rattle.switch_machine.specs.Steps.{Ends, Leaves, LeavesOthers, Moves, finished, left, moved, started};
@@ -48,22 +48,22 @@ pub fn starts_are_registered()
 /// of a row, or more changes of what is shared are due; with the name live of what is shared whole from then on, or of a row of
 /// which all is made; and with no name of what is taken away whole.
 pub fn moves_are_registered()
-    ensures same { (plan : Ports) (workers : ℕ) (capacities : List ℕ) (m : Machine) (names : Names) (room : RoomState) (w : ℕ) (f : Flight) (c : Change) (cs : List Change) (stands : List (Rid × Thing)) → Registers plan workers capacities names room m → Moves m w f c cs stands → ((o : Owner) → IsShared o → IsOwnedBy plan (changed_name c) o → HasChangeOf plan cs o) → Registers plan workers capacities names room (moved m w cs stands) }
-    ensures shared { (plan : Ports) (workers : ℕ) (capacities : List ℕ) (m : Machine) (names : Names) (room : RoomState) (w : ℕ) (f : Flight) (c : Change) (cs : List Change) (stands : List (Rid × Thing)) (o : Owner) (ids : List Vid) → IsPlan plan → IsConsistent plan m → Registers plan workers capacities names room m → Moves m w f c cs stands → IsShared o → IsOwnedBy plan (changed_name c) o → (f.retires ≡ Some o → ⊥) → (HasChangeOf plan cs o → ⊥) → Registers plan workers capacities (made_live_at names (name_for o) ids) room (moved m w cs stands) }
-    ensures row { (plan : Ports) (workers : ℕ) (capacities : List ℕ) (m : Machine) (names : Names) (room : RoomState) (w : ℕ) (f : Flight) (c : Change) (stands : List (Rid × Thing)) (r : Row) (ids : List Vid) → Registers plan workers capacities names room m → Moves m w f c [] stands → IsOwnedBy plan (changed_name c) (OfRow f.key) → f.new ≡ Some r → Registers plan workers capacities (made_live_at names (name.Row f.key) ids) room (moved m w [] stands) }
-    ensures gone { (plan : Ports) (workers : ℕ) (capacities : List ℕ) (m : Machine) (names : Names) (room : RoomState) (w : ℕ) (f : Flight) (c : Change) (cs : List Change) (stands : List (Rid × Thing)) (o : Owner) → IsPlan plan → IsConsistent plan m → HasRisingKeys name_cmp names → Registers plan workers capacities names room m → Moves m w f c cs stands → IsShared o → IsOwnedBy plan (changed_name c) o → f.retires ≡ Some o → (HasChangeOf plan cs o → ⊥) → Registers plan workers capacities (gone_from names (name_for o)) room (moved m w cs stands) }
+    ensures same { (plan : Ports) (workers : ℕ) (capacities : List ℕ) (m : Machine) (names : Names) (room : RoomState) (w : ℕ) (f : MachineFlight) (c : Change) (cs : List Change) (stands : List (Rid × Thing)) → Registers plan workers capacities names room m → Moves m w f c cs stands → ((o : Owner) → IsShared o → IsOwnedBy plan (changed_name c) o → HasChangeOf plan cs o) → Registers plan workers capacities names room (moved m w cs stands) }
+    ensures shared { (plan : Ports) (workers : ℕ) (capacities : List ℕ) (m : Machine) (names : Names) (room : RoomState) (w : ℕ) (f : MachineFlight) (c : Change) (cs : List Change) (stands : List (Rid × Thing)) (o : Owner) (ids : List Vid) → IsPlan plan → IsConsistent plan m → Registers plan workers capacities names room m → Moves m w f c cs stands → IsShared o → IsOwnedBy plan (changed_name c) o → (f.retires ≡ Some o → ⊥) → (HasChangeOf plan cs o → ⊥) → Registers plan workers capacities (made_live_at names (name_for o) ids) room (moved m w cs stands) }
+    ensures row { (plan : Ports) (workers : ℕ) (capacities : List ℕ) (m : Machine) (names : Names) (room : RoomState) (w : ℕ) (f : MachineFlight) (c : Change) (stands : List (Rid × Thing)) (r : Row) (ids : List Vid) → Registers plan workers capacities names room m → Moves m w f c [] stands → IsOwnedBy plan (changed_name c) (OfRow f.key) → f.new ≡ Some r → Registers plan workers capacities (made_live_at names (name.Row f.key) ids) room (moved m w [] stands) }
+    ensures gone { (plan : Ports) (workers : ℕ) (capacities : List ℕ) (m : Machine) (names : Names) (room : RoomState) (w : ℕ) (f : MachineFlight) (c : Change) (cs : List Change) (stands : List (Rid × Thing)) (o : Owner) → IsPlan plan → IsConsistent plan m → HasRisingKeys name_cmp names → Registers plan workers capacities names room m → Moves m w f c cs stands → IsShared o → IsOwnedBy plan (changed_name c) o → f.retires ≡ Some o → (HasChangeOf plan cs o → ⊥) → Registers plan workers capacities (gone_from names (name_for o)) room (moved m w cs stands) }
 {}
 
 /// Where all that was due is made, the registry tells whether the key was the last user of what it leaves; with the names left
 /// it stands for the machine again, whose operation retires what it left last, or has nothing more to make.
 pub fn leaves_are_registered()
-    ensures { (plan : Ports) (workers : ℕ) (capacities : List ℕ) (m : Machine) (names : Names) (room : RoomState) (w : ℕ) (f : Flight) (o : Owner) → IsPlan plan → IsConsistent plan m → Registers plan workers capacities names room m → Leaves m w f o → ((retired_by names w f.key o ≡ Some o) × IsLast plan m w f o × Registers plan workers capacities (left_names names w f.key o) room (left m w f (Some o) (take_all (shared_going o) []))) ⊎ ((retired_by names w f.key o ≡ None) × LeavesOthers plan m w f o × Registers plan workers capacities (left_names names w f.key o) room (left m w f f.retires [])) }
+    ensures { (plan : Ports) (workers : ℕ) (capacities : List ℕ) (m : Machine) (names : Names) (room : RoomState) (w : ℕ) (f : MachineFlight) (o : Owner) → IsPlan plan → IsConsistent plan m → Registers plan workers capacities names room m → Leaves m w f o → ((retired_by names w f.key o ≡ Some o) × IsLast plan m w f o × Registers plan workers capacities (left_names names w f.key o) room (left m w f (Some o) (take_all (shared_going o) []))) ⊎ ((retired_by names w f.key o ≡ None) × LeavesOthers plan m w f o × Registers plan workers capacities (left_names names w f.key o) room (left m w f f.retires [])) }
 {}
 
 /// The registry and the room stand for the machine again when an operation has ended, with the users of its old row's names
 /// dropped, its pins made users, its own name gone or live, and its places given back; a key without a row was to have one.
 pub fn ends_are_registered()
-    ensures { (plan : Ports) (workers : ℕ) (capacities : List ℕ) (m : Machine) (names : Names) (room : RoomState) (room' : RoomState) (w : ℕ) (f : Flight) → IsConsistent plan m → HasRisingKeys name_cmp names → Registers plan workers capacities names room m → Ends m w f → GivesBack room w room' → (m.board.applied f.key ≡ None → f.new ≡ None → ⊥) → Registers plan workers capacities (ended_names names w f.key (m.board.applied f.key) f.new) room' (finished m w f) }
+    ensures { (plan : Ports) (workers : ℕ) (capacities : List ℕ) (m : Machine) (names : Names) (room : RoomState) (room' : RoomState) (w : ℕ) (f : MachineFlight) → IsConsistent plan m → HasRisingKeys name_cmp names → Registers plan workers capacities names room m → Ends m w f → GivesBack room w room' → (m.board.applied f.key ≡ None → f.new ≡ None → ⊥) → Registers plan workers capacities (ended_names names w f.key (m.board.applied f.key) f.new) room' (finished m w f) }
 {}
 
 /// With no name and all places free the registry stands for the empty machine.
@@ -74,7 +74,7 @@ pub fn nothing_is_registered()
 /// Between events each operation has a change to make: an operation that starts or goes on leaves the others', and what follows
 /// in its event leaves it one, or it is over.
 pub fn operations_have_changes()
-    ensures started { (m : Machine) (w : ℕ) (f : Flight) (due : List Change) → HaveDue m → OthersHaveDue (started m w f due) w }
+    ensures started { (m : Machine) (w : ℕ) (f : MachineFlight) (due : List Change) → HaveDue m → OthersHaveDue (started m w f due) w }
     ensures moved { (m : Machine) (w : ℕ) (cs : List Change) (stands : List (Rid × Thing)) → HaveDue m → OthersHaveDue (moved m w cs stands) w }
     ensures follows { (plan : Ports) (m : Machine) (w : ℕ) (t : Machine) → IsPlan plan → IsConsistent plan m → OthersHaveDue m w → Follows plan w m t → HaveDue t }
 {}
@@ -89,7 +89,7 @@ pub fn groups_are_apart()
 /// The registry stands for the machine again when a change that is not of a group has taken effect, with the names after it: a thing
 /// of a row that makes its name live is the last that is due for a row that is to be.
 pub fn answers_are_registered()
-    ensures { (plan : Ports) (workers : ℕ) (capacities : List ℕ) (m : Machine) (names : Names) (room : RoomState) (w : ℕ) (f : Flight) (c : Change) (cs : List Change) (stands : List (Rid × Thing)) (made : Option Vid) → IsPlan plan → IsConsistent plan m → HasRisingKeys name_cmp names → Registers plan workers capacities names room m → Moves m w f c cs stands → (IsOfGroup plan c → ⊥) → (MakesRowLive c → (cs ≡ []) × (r : Row) × (f.new ≡ Some r)) → Registers plan workers capacities (names_after names f.key c made) room (moved m w cs stands) }
+    ensures { (plan : Ports) (workers : ℕ) (capacities : List ℕ) (m : Machine) (names : Names) (room : RoomState) (w : ℕ) (f : MachineFlight) (c : Change) (cs : List Change) (stands : List (Rid × Thing)) (made : Option Vid) → IsPlan plan → IsConsistent plan m → HasRisingKeys name_cmp names → Registers plan workers capacities names room m → Moves m w f c cs stands → (IsOfGroup plan c → ⊥) → (MakesRowLive c → (cs ≡ []) × (r : Row) × (f.new ≡ Some r)) → Registers plan workers capacities (names_after names f.key c made) room (moved m w cs stands) }
 {}
 
 /// Among the changes of a row's operation the one that makes its name live is the last, and the row is to be.

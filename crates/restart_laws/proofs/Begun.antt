@@ -2,6 +2,7 @@
 use Rattle.std.proofs.Common.{◌≡◌, ◌⊎◌, ◌∷◌, ◌∙◌, inl, inr, ℕ, Bool, true, false, List, [], None, Some, if◌then◌else◌, refl, sym, ap}
 use Rattle.std.specs.Prelude.{take}
 use Rattle.std.specs.BTreeMap.{is_at}
+use Rattle.std.proofs.lemmas.Bool.{false≢true}
 use Rattle.table_schema.specs.Key.{key_cmp}
 use Rattle.table_schema.specs.Names.{names_of}
 use Rattle.table_schema.specs.Plan.{Ports, IsPlan}
@@ -9,13 +10,13 @@ use Rattle.table_schema.specs.Rows.{fields_at, rows_of}
 use Rattle.table_schema.specs.declared.key.Key.{Key}
 use Rattle.table_schema.specs.declared.row.Row.TheVariants as row
 use Rattle.table_schema.specs.declared.write.Sent.{Sent}
+use Rattle.table_schema.proofs.Keys.{tied_keys_same}
 use Rattle.sai_types.specs.Alike.{IsIn}
 use Rattle.switch_model.specs.Good.{TypedRows, good_row}
 use Rattle.switch_model.specs.Marks.{IsTrueReason, ListsNoRow, ReasonsAreTrue, applied_rows, sent_writes}
 use Rattle.switch_model.specs.Promises.{IsBegun, applied_at, good_rows_at}
 use Rattle.switch_model.specs.declared.mark.Mark.{Mark}
 use Rattle.switch_model.specs.declared.wait.Wait.{Wait}
-use Rattle.switch_model.proofs.Worked.{same_key}
 use Rattle.switch_machine.specs.Events.{SwitchState, fresh_view}
 use Rattle.switch_machine.specs.Written.{HasWrittenRows, IsTold, Written, good_of}
 use Rattle.switch_machine.proofs.Splits.{row_at}
@@ -32,9 +33,6 @@ is_there q k false e same = absurd (no_row (sym (ap (λ z. if z then None else S
     no_row : Some row.Vlan ≡ None → ⊥
     no_row h = cc
 
-not_true : false ≡ true → ⊥
-not_true h = cc
-
 -- what the mark lists gives the rows that are applied
 rows_at : (ws : List (Key × Wait)) (good rows : TypedRows) (q : Key) → ((w : Wait) → IsIn (q, w) ws → rows q ≡ None) → ((w : Wait) × IsIn (q, w) ws) ⊎ (rows q ≡ good q) → applied_rows (waiting_of ws) good q ≡ rows q
 rows_at [] good rows q absent (inl h) = elim h.1 [ ]
@@ -42,12 +40,12 @@ rows_at [] good rows q absent (inr e) = sym e
 rows_at ((k, w) ∷ ws) good rows q absent or = by (is_at (key_cmp q) k) refl (λ other. rows_at ws good rows q (λ v h. absent v (inr h)) other)
   where
     smaller : is_at (key_cmp q) k ≡ false → ((v : Wait) × IsIn (q, v) ((k, w) ∷ ws)) ⊎ (rows q ≡ good q) → ((v : Wait) × IsIn (q, v) ws) ⊎ (rows q ≡ good q)
-    smaller e (inl (v, inl h)) = absurd (not_true (sym e ∙ is_there q k (is_at (key_cmp q) k) refl (ap (λ (z : Key × Wait). z.0) h)))
+    smaller e (inl (v, inl h)) = absurd (false≢true (sym e ∙ is_there q k (is_at (key_cmp q) k) refl (ap (λ (z : Key × Wait). z.0) h)))
     smaller e (inl (v, inr h)) = inl (v, h)
     smaller e (inr h) = inr h
 
     by : (b : Bool) → is_at (key_cmp q) k ≡ b → (((v : Wait) × IsIn (q, v) ws) ⊎ (rows q ≡ good q) → applied_rows (waiting_of ws) good q ≡ rows q) → (if b then None else applied_rows (waiting_of ws) good q) ≡ rows q
-    by true e again = sym (absent w (inl (ap (λ (z : Key). (z, w)) (same_key q k e))))
+    by true e again = sym (absent w (inl (ap (λ (z : Key). (z, w)) (tied_keys_same q k e))))
     by false e again = again (smaller e or)
 
 no_rows : (ws : List (Key × Wait)) → ListsNoRow (waiting_of ws)

@@ -23,7 +23,7 @@ use Rattle.row_layout.specs.Operations.{Change, Make, Set, Take}
 use Rattle.switch_machine.specs.Changes.{IsCall}
 use Rattle.switch_machine.specs.Events.{SwitchState, IsDueCall, IsSafe}
 use Rattle.switch_machine.specs.Flights.{Can, Fits, IsFinal, StandsIn}
-use Rattle.switch_machine.specs.Tables.{Tables}
+use Rattle.switch_machine.specs.Tables.{TableLaws}
 use Rattle.switch_machine.proofs.Calling.{IsPlannedPort, port_planned, shared_no_port}
 use Rattle.switch_machine.proofs.Kept.{it_can}
 use Rattle.switch_machine.proofs.Moving.{fit_of}
@@ -81,7 +81,7 @@ route_owner prefix g (owner.Bridge lane) e h = absurd cc
 route_owner prefix g (owner.Own ip) e h = absurd cc
 route_owner prefix g (owner.Group hops) e h = absurd cc
 
-module _ (plan : Ports) (tables : Tables plan) where
+module _ (plan : Ports) (tables : TableLaws plan) where
   pub own-planned : (k : Key) (r : Row) (t : Thing) → Fits plan k r → IsIn t (own_things plan k r) → IsPlannedThing plan t
   own-planned k r (thing.Port p) fit h = port_planned plan k r p fit h
   own-planned k r (thing.Route prefix g) fit h = route_fits plan prefix r (subst (λ z. Fits plan z r) (sym (route_key prefix k (tables.own k r (thing.Route prefix g) fit h))) fit)

@@ -31,16 +31,16 @@ use Rattle.restart_laws.proofs.Restoring.{restored-written}
 
 -- ---- counting by marks
 
-none_from : (e : MarkEvent) (n : ℕ) → n ≡ 0 → unless_begun e n ≡ 0
-none_from (event.ApplyBegan mode waits) n h = refl
-none_from (event.Settled waits turns) n h = h
-none_from (event.Faulted a b) n h = h
-none_from event.Restarted n h = h
-none_from event.ApplyEnded n h = h
+unless_begun_zero : (e : MarkEvent) (n : ℕ) → n ≡ 0 → unless_begun e n ≡ 0
+unless_begun_zero (event.ApplyBegan mode waits) n h = refl
+unless_begun_zero (event.Settled waits turns) n h = h
+unless_begun_zero (event.Faulted a b) n h = h
+unless_begun_zero event.Restarted n h = h
+unless_begun_zero event.ApplyEnded n h = h
 
 -- a mark that counts all effects changes no count
 outside_mark : (before : Option Mark) (marks : List Mark) (mark : Mark) → effects_outside before (marks ++ mark ∷ []) mark.effects ≡ effects_outside before marks mark.effects
-outside_mark before [] mark = let none = none_from mark.event (mark.effects - mark.effects) (omega arith) in omega (arith, none)
+outside_mark before [] mark = let none = unless_begun_zero mark.event (mark.effects - mark.effects) (omega arith) in omega (arith, none)
 outside_mark before (m ∷ marks) mark = ap (λ n. outside_from before m.effects + n) (outside_mark (Some m) marks mark)
 
 listed_mark : (marks : List Mark) (mark : Mark) → listed_at_applies (marks ++ mark ∷ []) ≡ listed_at_applies marks + keys_begun mark.event
@@ -67,17 +67,17 @@ counts_last : (o : Option Mark) (to : ℕ) → IsWarmAfter o Reconciled → ((ma
 counts_last None to h within = refl
 counts_last (Some mark) to h within = let less = within mark refl in counts_by mark.event (to - mark.effects) (to + 1 - mark.effects) h (omega (arith, less))
 
-none_by : (e : MarkEvent) (n m : ℕ) → IsLeftIn e Applying → unless_begun e m ≡ unless_begun e n
-none_by (event.Settled waits turns) n m h = absurd cc
-none_by (event.Faulted a b) n m h = absurd cc
-none_by event.Restarted n m (inl h) = absurd cc
-none_by event.Restarted n m (inr h) = absurd cc
-none_by (event.ApplyBegan mode waits) n m h = refl
-none_by event.ApplyEnded n m h = absurd cc
+unless_begun_same : (e : MarkEvent) (n m : ℕ) → IsLeftIn e Applying → unless_begun e m ≡ unless_begun e n
+unless_begun_same (event.Settled waits turns) n m h = absurd cc
+unless_begun_same (event.Faulted a b) n m h = absurd cc
+unless_begun_same event.Restarted n m (inl h) = absurd cc
+unless_begun_same event.Restarted n m (inr h) = absurd cc
+unless_begun_same (event.ApplyBegan mode waits) n m h = refl
+unless_begun_same event.ApplyEnded n m h = absurd cc
 
 none_last : (o : Option Mark) (from to : ℕ) → IsWarmAfter o Applying → outside_from o to ≡ outside_from o from
 none_last None from to h = absurd cc
-none_last (Some mark) from to h = none_by mark.event (from - mark.effects) (to - mark.effects) h
+none_last (Some mark) from to h = unless_begun_same mark.event (from - mark.effects) (to - mark.effects) h
 
 within_last : (t e : ℕ) (before : Option Mark) (marks : List Mark) → ((mark : Mark) → before ≡ Some mark → mark.effects ≤ e) → AreWithin t e marks → (mark : Mark) → last_mark before marks ≡ Some mark → mark.effects ≤ e
 within_last t e before [] first within mark last = first mark last

@@ -26,13 +26,13 @@ use Rattle.sai_types.proofs.Whole.{whole-after_call, whole-empty}
 use Rattle.switch_machine.proofs.Roomy.{used-made, used-set, used-taken}
 use Rattle.restart_laws.specs.Chips.{IsPlannedChip, IsPlannedBody, IsPlannedCall}
 
-found_put : (t : Bool) (b d : Body Rid) (rest : Option (Body Rid)) → cond t (Some b) rest ≡ Some d → (d ≡ b) ⊎ (rest ≡ Some d)
-found_put true b d rest h = inl cc
-found_put false b d rest h = inr h
+put_or_found : (t : Bool) (b d : Body Rid) (rest : Option (Body Rid)) → cond t (Some b) rest ≡ Some d → (d ≡ b) ⊎ (rest ≡ Some d)
+put_or_found true b d rest h = inl cc
+put_or_found false b d rest h = inr h
 
-left_by : (t : Bool) (d : Body Rid) (rest : Option (Body Rid)) → cond t None rest ≡ Some d → rest ≡ Some d
-left_by true d rest h = cc
-left_by false d rest h = h
+was_before_removal : (t : Bool) (d : Body Rid) (rest : Option (Body Rid)) → cond t None rest ≡ Some d → rest ≡ Some d
+was_before_removal true d rest h = cc
+was_before_removal false d rest h = h
 
 -- setting an attribute leaves what is planned
 with_planned : (plan : Ports) (b : Body Rid) (a : Attr Rid) → IsPlannedBody plan b → IsPlannedBody plan (with_attr b a)
@@ -68,7 +68,7 @@ module _ (plan : Ports) (capacities : List ℕ) (made : ℕ) (objects : Objects)
   sorted = chip.whole.sorted
 
   planned_put : (e q : Entry Rid) (b d : Body Rid) → IsPlannedBody plan b → body_at (insert_entry entry_cmp objects e b) q ≡ Some d → IsPlannedBody plan d
-  planned_put e q b d new h = by (found_put (same_entry q e) b d (body_at objects q) (sym (body_at-insert objects e b q) ∙ h))
+  planned_put e q b d new h = by (put_or_found (same_entry q e) b d (body_at objects q) (sym (body_at-insert objects e b q) ∙ h))
     where
       by : (d ≡ b) ⊎ (body_at objects q ≡ Some d) → IsPlannedBody plan d
       by (inl same) = subst (IsPlannedBody plan) (sym same) new
@@ -81,7 +81,7 @@ module _ (plan : Ports) (capacities : List ℕ) (made : ℕ) (objects : Objects)
   planned_by : (c : Call Rid) → IsPlannedCall plan c → (q : Entry Rid) (d : Body Rid) → body_at (after_call (made + 1) objects c) q ≡ Some d → IsPlannedBody plan d
   planned_by (call.Create b) new q d h = planned_put (entry_of (made + 1) b) q b d new h
   planned_by (call.Set e a) new q d h = planned_set e q a d (body_at objects e) refl h
-  planned_by (call.Remove e) new q d h = chip.planned q d (left_by (same_entry e q) d (body_at objects q) (sym (body_at-remove objects e q sorted) ∙ h))
+  planned_by (call.Remove e) new q d h = chip.planned q d (was_before_removal (same_entry e q) d (body_at objects q) (sym (body_at-remove objects e q sorted) ∙ h))
 
   fits_by : (c : Call Rid) → IsLegal capacities objects c → (kind : Kind) → used (after_call (made + 1) objects c) kind ≤ capacity_of capacities kind
   fits_by (call.Create b) legal kind =

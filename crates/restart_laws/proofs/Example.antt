@@ -5,7 +5,7 @@ use Rattle.std.specs.List.Sorted.{IsStrictlySortedBy}
 use Rattle.sai_types.specs.declared.kind.Kind.{Kind}
 use Rattle.table_schema.specs.declared.key.Key.TheVariants as key
 use Rattle.chip_layout.specs.Layout.{listed}
-use Rattle.sai_types.specs.Names.{Name}
+use Rattle.sai_types.specs.Names.{ThingName}
 use Rattle.sai_types.specs.declared.plan.Mode.TheVariants as mode
 use Rattle.restart_laws.specs.Planned.{PlansHitless}
 use Rattle.chip_layout.proofs.Shapes.{laid-none}
@@ -21,8 +21,8 @@ use Rattle.restart_laws.specs.Bounded.{effects_outside, listed_at_applies}
 use Rattle.restart_laws.specs.Service.{AreServiceEvents, OfFinish, OfList, OfRestart, OfRestore, Service, new_service}
 use Rattle.restart_laws.specs.Restored.{IsRestored}
 
-abbrev first : Service
-first = record { warm = Initialized; core = empty_switch; seen = []; left = [] }
+abbrev first_service : Service
+first_service = record { warm = Initialized; core = empty_switch; seen = []; left = [] }
 
 abbrev second : Service
 second = record { warm = Restored; core = empty_switch; seen = []; left = [] }
@@ -33,7 +33,7 @@ third = record { warm = Applying; core = empty_switch; seen = []; left = [] }
 abbrev last : Service
 last = record { warm = Reconciled; core = empty_switch; seen = []; left = [] }
 
-none_lacking : (kind : Kind) (names : List Name) → AreLacking [] [] kind names → length names ≡ 0
+none_lacking : (kind : Kind) (names : List ThingName) → AreLacking [] [] kind names → length names ≡ 0
 none_lacking kind [] x = refl
 none_lacking kind (n ∷ ns) x = elim (x.each n (inl refl)).2 [ ]
 
@@ -45,9 +45,9 @@ nothing_planned capacities = record {
   run = refl;
 }
 
-restored : (plan : Ports) (workers : ℕ) (capacities : List ℕ) → IsRestored plan workers capacities empty_switch.written empty_switch
+example_restored : (plan : Ports) (workers : ℕ) (capacities : List ℕ) → IsRestored plan workers capacities empty_switch.written empty_switch
 unfolding IsStrictlySortedBy
-restored plan workers capacities = record {
+example_restored plan workers capacities = record {
   written = empty_switch.written;
   keys = [];
   popped = record { taken = refl; keys = λ k. inl (record { row = refl; waiting = λ o. refl }) };
@@ -58,14 +58,14 @@ restored plan workers capacities = record {
   pass = (refl, refl);
 }
 
-pub restarted : (plan : Ports) (workers : ℕ) (capacities : List ℕ) → AreServiceEvents plan workers capacities new_service ((None, first) ∷ (None, second) ∷ (None, third) ∷ (None, last) ∷ [])
-unfolding restored
+pub restarted : (plan : Ports) (workers : ℕ) (capacities : List ℕ) → AreServiceEvents plan workers capacities new_service ((None, first_service) ∷ (None, second) ∷ (None, third) ∷ (None, last) ∷ [])
+unfolding example_restored
 restarted plan workers capacities = (
-  OfRestart first (record { warm = refl; core = refl }),
+  OfRestart first_service (record { warm = refl; core = refl }),
   (
     OfList second (record { before = refl; warm = refl; core = refl; seen = refl }),
     (
-      OfRestore third (record { before = refl; warm = refl; view = empty_switch; restored = restored plan workers capacities; machine = refl; written = refl; to_sync = refl; made = refl; objects = refl; mode = mode.Hitless; planned = nothing_planned capacities }),
+      OfRestore third (record { before = refl; warm = refl; view = empty_switch; restored = example_restored plan workers capacities; machine = refl; written = refl; to_sync = refl; made = refl; objects = refl; mode = mode.Hitless; planned = nothing_planned capacities }),
       (
         OfFinish last (record { before = refl; warm = refl; none = refl; stands = []; into = λ u h. elim h.1 [ ]; back = λ u i h. elim h [ ]; laid = laid-none (listed []) (λ i t h. h); machine = refl; written = refl; to_sync = refl; made = refl; objects = refl }),
         tt,

@@ -11,7 +11,7 @@ use Rattle.sai_types.specs.Made.{AreLegal, made_after}
 use Rattle.sai_types.specs.Objects.{Objects}
 use Rattle.sai_types.specs.Refusal.{IsLegal, capacity_of}
 use Rattle.switch_machine.specs.Events.{SwitchState, IsEvent, IsSafe, IsQuiet}
-use Rattle.switch_machine.specs.Flights.{Flight, Machine, StandsIn}
+use Rattle.switch_machine.specs.Flights.{MachineFlight, Machine, StandsIn}
 use Rattle.switch_machine.specs.Written.{HasWrittenRows, IsTold, Written}
 use Rattle.switch_machine.proofs.Dated.{dated-taken}
 use Rattle.switch_machine.proofs.Kept.{legal-call}
@@ -102,7 +102,7 @@ module _ (plan : Ports) (is : IsPlan plan) (workers : ℕ) (capacities : List �
     objects = h.objects;
     view = kept-run plan is workers capacities (with_chip s.core h.made h.objects) ((None, with_chip t.core h.made h.objects) ∷ []) h.view
         (inl (record { write = x.core.write; taken = x.core.taken; machine = x.core.machine; to_sync = x.core.to_sync; made = refl; objects = refl }), tt);
-    quiet = subst (λ (z : Machine). (w : ℕ) (f : Flight) → z.board.flights w ≡ Some f → ⊥) (sym x.core.machine) h.quiet;
+    quiet = subst (λ (z : Machine). (w : ℕ) (f : MachineFlight) → z.board.flights w ≡ Some f → ⊥) (sym x.core.machine) h.quiet;
     leads =
         subst (λ z. Leads plan capacities t.core.made t.core.objects (StandsIn t.core.machine) z) (sym x.left)
         (subst (λ z. Leads plan capacities z t.core.objects (StandsIn t.core.machine) s.left) (sym x.core.made)
@@ -188,7 +188,7 @@ module _ (plan : Ports) (is : IsPlan plan) (workers : ℕ) (capacities : List �
         made = x.view.made;
         objects = x.view.objects;
         view = subst (IsSafe plan workers capacities) (core_same (core_of x.view.machine x.view.written (keys_waiting x.restored.waits) x.view.made x.view.objects) (with_chip t.core x.view.made x.view.objects) (sym x.machine) (sym x.written) (sym x.to_sync) refl refl) (restored-kept plan is workers capacities s.core.written x.view h.safe.told h.safe.dated x.restored);
-        quiet = subst (λ (z : Machine). (w : ℕ) (f : Flight) → z.board.flights w ≡ Some f → ⊥) (sym x.machine) v.1;
+        quiet = subst (λ (z : Machine). (w : ℕ) (f : MachineFlight) → z.board.flights w ≡ Some f → ⊥) (sym x.machine) v.1;
         leads =
             subst (λ z. Leads plan capacities z t.core.objects (StandsIn t.core.machine) t.left) (sym x.made)
             (subst (λ z. Leads plan capacities s.core.made z (StandsIn t.core.machine) t.left) (sym x.objects)
@@ -208,7 +208,7 @@ module _ (plan : Ports) (is : IsPlan plan) (workers : ℕ) (capacities : List �
         made = a.made;
         objects = a.objects;
         view = subst (IsSafe plan workers capacities) (core_same (with_chip s.core a.made a.objects) (with_chip t.core a.made a.objects) (sym x.machine) (sym x.written) (sym x.to_sync) refl refl) a.view;
-        quiet = subst (λ (z : Machine). (w : ℕ) (f : Flight) → z.board.flights w ≡ Some f → ⊥) (sym x.machine) a.quiet;
+        quiet = subst (λ (z : Machine). (w : ℕ) (f : MachineFlight) → z.board.flights w ≡ Some f → ⊥) (sym x.machine) a.quiet;
         leads =
             subst (λ z. Leads plan capacities z t.core.objects (StandsIn t.core.machine) t.left) (sym x.made)
             (subst (λ z. Leads plan capacities (made_after s.core.made call) z (StandsIn t.core.machine) t.left) (sym x.objects)

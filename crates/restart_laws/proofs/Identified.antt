@@ -32,7 +32,7 @@ use Rattle.restart_laws.specs.Identified.{IsIdOf, as_vids, renamed_by}
 use Rattle.restart_laws.specs.Restored.{only_things}
 use Rattle.restart_laws.proofs.Ended.{apart, applying-run}
 use Rattle.restart_laws.proofs.Passing.{restored-keeps}
-use Rattle.restart_laws.proofs.Resolved.{end-renamed, in_renamed, renamed_in}
+use Rattle.restart_laws.proofs.Resolved.{end-renamed, from_renamed, renamed_in}
 use Rattle.restart_laws.proofs.Viewing.{in-things, thing-planned, things-in, view-is}
 
 -- the chip that the calls that are left lead to
@@ -42,22 +42,22 @@ goal_of s = after_calls s.core.made s.core.objects s.left
 same_goal : (made made' : ℕ) (objects objects' : Objects) (left left' : List (Call Rid)) → made' ≡ made → objects' ≡ objects → left' ≡ left → after_calls made' objects' left' ≡ after_calls made objects left
 same_goal made made' objects objects' left left' m o l = ap (λ z. after_calls z objects' left') m ∙ ap (λ z. after_calls made z left') o ∙ ap (after_calls made objects) l
 
-goal_kept : (plan : Ports) (workers : ℕ) (capacities : List ℕ) (s t : Service) (c : Option (Call Rid)) → s.warm ≡ Applying → t.warm ≡ Applying → IsServiceEvent plan workers capacities s c t → goal_of t ≡ goal_of s
-goal_kept plan workers capacities s t _ at later (OfTake _ x) = same_goal s.core.made t.core.made s.core.objects t.core.objects s.left t.left x.core.made x.core.objects x.left
-goal_kept plan workers capacities s t _ at later (OfWork c _ x) = apart Applying Reconciled (sym at ∙ x.before) (λ e. cc)
-goal_kept plan workers capacities s t _ at later (OfFault c _ x) = apart Applying Suspect (sym later ∙ x.warm) (λ e. cc)
-goal_kept plan workers capacities s t _ at later (OfListFault _ x) = apart Applying Suspect (sym later ∙ x.warm) (λ e. cc)
-goal_kept plan workers capacities s t _ at later (OfRestart _ x) = apart Applying Initialized (sym later ∙ x.warm) (λ e. cc)
-goal_kept plan workers capacities s t _ at later (OfList _ x) = apart Applying Initialized (sym at ∙ x.before) (λ e. cc)
-goal_kept plan workers capacities s t _ at later (OfRestore _ x) = apart Applying Restored (sym at ∙ x.before) (λ e. cc)
-goal_kept plan workers capacities s t _ at later (OfApply call _ x) =
+service_goal_kept : (plan : Ports) (workers : ℕ) (capacities : List ℕ) (s t : Service) (c : Option (Call Rid)) → s.warm ≡ Applying → t.warm ≡ Applying → IsServiceEvent plan workers capacities s c t → goal_of t ≡ goal_of s
+service_goal_kept plan workers capacities s t _ at later (OfTake _ x) = same_goal s.core.made t.core.made s.core.objects t.core.objects s.left t.left x.core.made x.core.objects x.left
+service_goal_kept plan workers capacities s t _ at later (OfWork c _ x) = apart Applying Reconciled (sym at ∙ x.before) (λ e. cc)
+service_goal_kept plan workers capacities s t _ at later (OfFault c _ x) = apart Applying Suspect (sym later ∙ x.warm) (λ e. cc)
+service_goal_kept plan workers capacities s t _ at later (OfListFault _ x) = apart Applying Suspect (sym later ∙ x.warm) (λ e. cc)
+service_goal_kept plan workers capacities s t _ at later (OfRestart _ x) = apart Applying Initialized (sym later ∙ x.warm) (λ e. cc)
+service_goal_kept plan workers capacities s t _ at later (OfList _ x) = apart Applying Initialized (sym at ∙ x.before) (λ e. cc)
+service_goal_kept plan workers capacities s t _ at later (OfRestore _ x) = apart Applying Restored (sym at ∙ x.before) (λ e. cc)
+service_goal_kept plan workers capacities s t _ at later (OfApply call _ x) =
     same_goal (made_after s.core.made call) t.core.made (after_call (s.core.made + 1) s.core.objects call) t.core.objects t.left t.left x.made x.objects refl
     ∙ ap (after_calls s.core.made s.core.objects) (sym x.next)
-goal_kept plan workers capacities s t _ at later (OfFinish _ x) = apart Applying Reconciled (sym later ∙ x.warm) (λ e. cc)
+service_goal_kept plan workers capacities s t _ at later (OfFinish _ x) = apart Applying Reconciled (sym later ∙ x.warm) (λ e. cc)
 
 pub goal-run : (plan : Ports) (workers : ℕ) (capacities : List ℕ) (s : Service) (es : List (Option (Call Rid) × Service)) → s.warm ≡ Applying → AreApplying es → AreServiceEvents plan workers capacities s es → goal_of (service_after s es) ≡ goal_of s
 goal-run plan workers capacities s [] at all run = refl
-goal-run plan workers capacities s (e ∷ es) at all run = goal-run plan workers capacities e.1 es all.0 all.1 run.1 ∙ goal_kept plan workers capacities s e.1 e.0 at all.0 run.0
+goal-run plan workers capacities s (e ∷ es) at all run = goal-run plan workers capacities e.1 es all.0 all.1 run.1 ∙ service_goal_kept plan workers capacities s e.1 e.0 at all.0 run.0
 
 last_applying : (s : Service) (es : List (Option (Call Rid) × Service)) → s.warm ≡ Applying → AreApplying es → (service_after s es).warm ≡ Applying
 last_applying s [] at all = at
@@ -107,7 +107,7 @@ module _ (plan : Ports) (is : IsPlan plan) (workers : ℕ) (capacities : List �
           none = none;
           stands = renamed_by final view;
           into = λ u i. let y = subst (λ (z : Machine). StandsIn z u) machine i in (final (record { 0 = y.0.0 }), renamed_in final view (record { 0 = y.0.0 }) u (vids_in x.view.machine.stands y.0 u y.1));
-          back = λ u i j. let y = in_renamed final view i u j in subst (λ (z : Machine). StandsIn z u) (sym machine) (record { 0 = y.0.0 }, in_vids x.view.machine.stands y.0 u y.1);
+          back = λ u i j. let y = from_renamed final view i u j in subst (λ (z : Machine). StandsIn z u) (sym machine) (record { 0 = y.0.0 }, in_vids x.view.machine.stands y.0 u y.1);
           laid = subst (IsLaidOut (listed (renamed_by final view))) (sym objects) laid;
           machine = refl;
           written = refl;

@@ -18,10 +18,10 @@ use Rattle.table_schema.proofs.Keys.{key_total}
 use Rattle.swss_types.specs.declared.address.Prefix.{Prefix}
 use Rattle.sai_types.specs.Alike.{IsIn}
 
-hops_below : (prefix : Prefix) (p : Key) (hops : List RowHop) → IsIn p (map (λ (h : RowHop). key.Neigh h.on h.ip) hops) → key_cmp p (key.Route prefix) ≡ Less
-hops_below prefix p [] h = elim h [ ]
-hops_below prefix p (x ∷ xs) (inl e) = ap (λ z. key_cmp z (key.Route prefix)) e
-hops_below prefix p (x ∷ xs) (inr h) = hops_below prefix p xs h
+hop_key_below : (prefix : Prefix) (p : Key) (hops : List RowHop) → IsIn p (map (λ (h : RowHop). key.Neigh h.on h.ip) hops) → key_cmp p (key.Route prefix) ≡ Less
+hop_key_below prefix p [] h = elim h [ ]
+hop_key_below prefix p (x ∷ xs) (inl e) = ap (λ z. key_cmp z (key.Route prefix)) e
+hop_key_below prefix p (x ∷ xs) (inr h) = hop_key_below prefix p xs h
 
 base_below : (on : IfName) (p : Key) → IsIn p (base_names on) → key_cmp p (key.Intf on) ≡ Less
 base_below (ifname.Ethernet port) p (inl e) = ap (λ z. key_cmp z (key.Intf (ifname.Ethernet port))) e
@@ -44,22 +44,22 @@ names-below (key.Neigh on ip) p r (inr h) = elim h [ ]
 names-below (key.Route prefix) p (row.Route route.Drop) h = elim h [ ]
 names-below (key.Route prefix) p (row.Route (route.Direct on)) (inl e) = ap (λ z. key_cmp z (key.Route prefix)) e
 names-below (key.Route prefix) p (row.Route (route.Direct on)) (inr h) = elim h [ ]
-names-below (key.Route prefix) p (row.Route (route.Hops hops)) h = hops_below prefix p hops h
+names-below (key.Route prefix) p (row.Route (route.Hops hops)) h = hop_key_below prefix p hops h
 names-below (key.Route prefix) p _ h = elim h [ ]
 names-below (key.Other text) p r h = elim h [ ]
 
-above_in : (k q : Key) (ks : List Key) → AllByRecursion (λ y. key_cmp k y ≡ Less) ks → IsIn q ks → key_cmp k q ≡ Less
-above_in k q [] all h = elim h [ ]
-above_in k q (x ∷ xs) all (inl e) = ap (key_cmp k) e ∙ all.0
-above_in k q (x ∷ xs) all (inr h) = above_in k q xs all.1 h
+key_less_than_rest : (k q : Key) (ks : List Key) → AllByRecursion (λ y. key_cmp k y ≡ Less) ks → IsIn q ks → key_cmp k q ≡ Less
+key_less_than_rest k q [] all h = elim h [ ]
+key_less_than_rest k q (x ∷ xs) all (inl e) = ap (key_cmp k) e ∙ all.0
+key_less_than_rest k q (x ∷ xs) all (inr h) = key_less_than_rest k q xs all.1 h
 
 pub above : (k q : Key) (ks : List Key) → IsStrictlySortedBy key_cmp (k ∷ ks) → IsIn q ks → key_cmp k q ≡ Less
 unfolding IsStrictlySortedBy
-above k q ks sorted h = above_in k q ks sorted.0 h
+above k q ks sorted h = key_less_than_rest k q ks sorted.0 h
 
-pub behind : (k : Key) (ks : List Key) → IsStrictlySortedBy key_cmp (k ∷ ks) → IsStrictlySortedBy key_cmp ks
+pub rest_in_order : (k : Key) (ks : List Key) → IsStrictlySortedBy key_cmp (k ∷ ks) → IsStrictlySortedBy key_cmp ks
 unfolding IsStrictlySortedBy
-behind k ks sorted = sorted.1
+rest_in_order k ks sorted = sorted.1
 
 reversed : (a b : Ordering) → a ≡ ordering_reverse b → a ≡ Less → b ≡ Less → ⊥
 reversed a Less e x y = let apart : Less ≡ Greater = sym x ∙ e in cc

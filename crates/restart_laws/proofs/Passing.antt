@@ -6,7 +6,7 @@ use Rattle.sai_types.specs.declared.ids.Rid.{Rid}
 use Rattle.sai_types.specs.declared.body.Call.{Call}
 use Rattle.switch_model.specs.declared.wait.Wait.{Wait}
 use Rattle.switch_machine.specs.Events.{AreAnswers, SwitchState, IsDrop, IsSafe, IsQuiet, after_answers, fresh_view}
-use Rattle.switch_machine.specs.Flights.{Flight, Machine}
+use Rattle.switch_machine.specs.Flights.{MachineFlight, Machine}
 use Rattle.switch_machine.specs.Written.{HasWrittenRows, IsTold, Written}
 use Rattle.switch_machine.proofs.Dated.{dated-popped}
 use Rattle.switch_machine.proofs.Kept.{kept-answers}
@@ -28,7 +28,7 @@ module _ (plan : Ports) (is : IsPlan plan) (workers : ℕ) (capacities : List �
   drops-keep s t kept x = kept-run plan is workers capacities s ((None, t) ∷ []) kept (inr (inr (inl x)), tt)
 
   pub drops-quiet : (s t : SwitchState) → IsQuiet s → IsDrop plan s t → IsQuiet t
-  drops-quiet s t quiet x = subst (λ (z : Machine). (w : ℕ) (f : Flight) → z.board.flights w ≡ Some f → ⊥) (sym x.machine) quiet
+  drops-quiet s t quiet x = subst (λ (z : Machine). (w : ℕ) (f : MachineFlight) → z.board.flights w ≡ Some f → ⊥) (sym x.machine) quiet
 
   pub pass-keeps : (s t : SwitchState) (ks : List Key) (waits : List (Key × Wait)) → IsSafe plan workers capacities s → IsQuiet s → IsPass plan workers capacities s ks waits t → IsSafe plan workers capacities t × IsQuiet t
   pass-keeps s t [] waits kept quiet x = (subst (IsSafe plan workers capacities) (sym x.1) kept, subst IsQuiet (sym x.1) quiet)

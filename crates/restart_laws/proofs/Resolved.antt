@@ -12,7 +12,7 @@ use Rattle.sai_types.specs.Made.{same_entry}
 use Rattle.sai_types.specs.Objects.{Objects, body_at}
 use Rattle.chip_layout.specs.Bodies.{IsAt, IsBody, first_name, is_numbered, second_name}
 use Rattle.chip_layout.specs.Layout.{Has, IsLaidOut, Layout, has_number, listed}
-use Rattle.sai_types.specs.Names.{Name, name_kind, name_of}
+use Rattle.sai_types.specs.Names.{ThingName, name_kind, name_of}
 use Rattle.chip_layout.specs.Renamed.{call_renamed}
 use Rattle.chip_layout.proofs.Bodies.{entry-same, first-numbered, second-numbered}
 use Rattle.plan_laws.specs.Calls.{PlansChanges, resolve, viewed}
@@ -30,12 +30,12 @@ renamed_in final [] v t h = elim h [ ]
 renamed_in final (x ∷ xs) v t (inl e) = inl (ap (λ (z : Vid × Thing). (final z.0, z.1)) e)
 renamed_in final (x ∷ xs) v t (inr h) = inr (renamed_in final xs v t h)
 
-pub in_renamed : (final : Vid → Rid) (view : List (Vid × Thing)) (i : Rid) (t : Thing) → IsIn (i, t) (renamed_by final view) → (v : Vid) × IsIn (v, t) view × (i ≡ final v)
-in_renamed final [] i t h = elim h [ ]
-in_renamed final (x ∷ xs) i t (inl e) =
+pub from_renamed : (final : Vid → Rid) (view : List (Vid × Thing)) (i : Rid) (t : Thing) → IsIn (i, t) (renamed_by final view) → (v : Vid) × IsIn (v, t) view × (i ≡ final v)
+from_renamed final [] i t h = elim h [ ]
+from_renamed final (x ∷ xs) i t (inl e) =
     let same : t ≡ x.1 = ap (λ (z : Rid × Thing). z.1) e in
     (x.0, inl (ap (λ (z : Thing). (x.0, z)) same), ap (λ (z : Rid × Thing). z.0) e)
-in_renamed final (x ∷ xs) i t (inr h) = let y = in_renamed final xs i t h in (y.0, inr y.1, y.2)
+from_renamed final (x ∷ xs) i t (inr h) = let y = from_renamed final xs i t h in (y.0, inr y.1, y.2)
 
 -- a layout by other identifiers, where those of what has one are the same
 module _ (L : Layout Rid) (objects : Objects) (laid : IsLaidOut L objects) (view : List (Vid × Thing)) (view_one : (v w : Vid) (t u : Thing) → IsIn (v, t) view → IsIn (w, u) view → name_of t ≡ name_of u → (v ≡ w) × (t ≡ u)) (final : Vid → Rid) (stands : (v : Vid) (t : Thing) → IsIn (v, t) view → (i : Rid) × L i t) (only : (i : Rid) (t : Thing) → L i t → (v : Vid) × IsIn (v, t) view) (numbered : (v : Vid) (t : Thing) → IsIn (v, t) view → has_number t ≡ true → L (final v) t) where
@@ -45,15 +45,15 @@ module _ (L : Layout Rid) (objects : Objects) (laid : IsLaidOut L objects) (view
   to_id : (i : Rid) (t : Thing) (v : Vid) → L i t → IsIn (v, t) view → has_number t ≡ true → i ≡ final v
   to_id i t v h in_view number = (laid.one i (final v) t t h (numbered v t in_view number) refl).0
 
-  has_number_of : (t : Thing) (k : Name) → name_of t ≡ k → is_numbered (name_kind k) ≡ true → has_number t ≡ true
+  has_number_of : (t : Thing) (k : ThingName) → name_of t ≡ k → is_numbered (name_kind k) ≡ true → has_number t ≡ true
   has_number_of t k e h = ap (λ z. is_numbered (name_kind z)) e ∙ h
 
-  has_by : (k : Name) (i : Rid) → is_numbered (name_kind k) ≡ true → Has L k i → Has R k i
+  has_by : (k : ThingName) (i : Rid) → is_numbered (name_kind k) ≡ true → Has L k i → Has R k i
   has_by k i number (t, h, e) =
       let v = only i t h in
       (t, subst (λ z. R z t) (sym (to_id i t v.0 h v.1 (has_number_of t k e number))) (renamed_in final view v.0 t v.1), e)
 
-  at_by : (o : Option Name) (i : Rid) → ((k : Name) → o ≡ Some k → is_numbered (name_kind k) ≡ true) → IsAt (Has L) o i → IsAt (Has R) o i
+  at_by : (o : Option ThingName) (i : Rid) → ((k : ThingName) → o ≡ Some k → is_numbered (name_kind k) ≡ true) → IsAt (Has L) o i → IsAt (Has R) o i
   at_by None i number h = tt
   at_by (Some k) i number h = has_by k i (number k refl) h
 
@@ -69,7 +69,7 @@ module _ (L : Layout Rid) (objects : Objects) (laid : IsLaidOut L objects) (view
   pub laid-renamed : IsLaidOut R objects
   laid-renamed = record {
     stand = λ i t h.
-        let v = in_renamed final view i t h in
+        let v = from_renamed final view i t h in
         let j = stands v.0 t v.1 in
         let x = laid.stand j.0 t j.1 in
         (x.0, body_by t x.0 x.1, ap (body_at objects) (entry-same (Has L) i.0 j.0.0 t x.0 x.1 (λ number. ap (λ (z : Rid). z.0) (v.2 ∙ sym (to_id j.0 t v.0 j.1 v.1 number)))) ∙ x.2);
@@ -78,13 +78,13 @@ module _ (L : Layout Rid) (objects : Objects) (laid : IsLaidOut L objects) (view
         let v = only x.0 x.1 x.2 in
         (final v.0, x.1, renamed_in final view v.0 x.1 v.1, body_by x.1 b x.3, ap (same_entry e) (entry-same (Has L) (final v.0).0 x.0.0 x.1 b x.3 (λ number. ap (λ (z : Rid). z.0) (sym (to_id x.0 x.1 v.0 x.2 v.1 number)))) ∙ x.4);
     one = λ i j t u h g e.
-        let v = in_renamed final view i t h in
-        let w = in_renamed final view j u g in
+        let v = from_renamed final view i t h in
+        let w = from_renamed final view j u g in
         let same = view_one v.0 w.0 t u v.1 w.1 e in
         (v.2 ∙ ap final same.0 ∙ sym w.2, same.1);
     ids = λ i t u h g a b.
-        let v = in_renamed final view i t h in
-        let w = in_renamed final view i u g in
+        let v = from_renamed final view i t h in
+        let w = from_renamed final view i u g in
         laid.ids i t u (subst (λ z. L z t) (sym v.2) (numbered v.0 t v.1 a)) (subst (λ z. L z u) (sym w.2) (numbered w.0 u w.1 b)) a b;
   }
 

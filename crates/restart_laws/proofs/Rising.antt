@@ -12,15 +12,15 @@ use Rattle.switch_model.specs.Marks.{AreInOrder}
 use Rattle.switch_model.specs.declared.wait.Wait.{Wait}
 use Rattle.switch_machine.specs.Events.{SwitchState}
 use Rattle.restart_laws.specs.Restored.{IsPass, waiting_of}
-use Rattle.restart_laws.proofs.Order.{above, behind}
+use Rattle.restart_laws.proofs.Order.{above, rest_in_order}
 
 all_above : (k : Key) (ws : List (Key × Wait)) → ((q : Key) (w : Wait) → IsIn (q, w) ws → key_cmp k q ≡ Less) → AllByRecursion (λ y. key_cmp k y ≡ Less) (map (λ (w : Key × Wait × Option Row). w.0) (waiting_of ws))
 all_above k [] h = tt
 all_above k (x ∷ xs) h = (h x.0 x.1 (inl refl), all_above k xs (λ q w i. h q w (inr i)))
 
-one_more : (k : Key) (w : Wait) (ws : List (Key × Wait)) → ((q : Key) (v : Wait) → IsIn (q, v) ws → key_cmp k q ≡ Less) → AreInOrder (waiting_of ws) → AreInOrder (waiting_of ((k, w) ∷ ws))
+one_wait_more : (k : Key) (w : Wait) (ws : List (Key × Wait)) → ((q : Key) (v : Wait) → IsIn (q, v) ws → key_cmp k q ≡ Less) → AreInOrder (waiting_of ws) → AreInOrder (waiting_of ((k, w) ∷ ws))
 unfolding IsStrictlySortedBy
-one_more k w ws less order = (all_above k ws less, order)
+one_wait_more k w ws less order = (all_above k ws less, order)
 
 none_listed : AreInOrder []
 unfolding IsStrictlySortedBy
@@ -41,5 +41,5 @@ module _ (plan : Ports) (workers : ℕ) (capacities : List ℕ) where
   pass-rising s t [] waits sorted x = subst (λ z. AreInOrder (waiting_of z)) (sym x.0) none_listed
   pass-rising s t (k ∷ ks) waits sorted (inl x) =
       subst (λ z. AreInOrder (waiting_of z)) (sym x.0.is)
-      (one_more k x.0.wait x.0.rest (λ q w i. above k q ks sorted (listed_in s t ks x.0.rest x.1 q w i)) (pass-rising s t ks x.0.rest (behind k ks sorted) x.1))
-  pass-rising s t (k ∷ ks) waits sorted (inr (mid, x, rest)) = pass-rising mid t ks waits (behind k ks sorted) rest
+      (one_wait_more k x.0.wait x.0.rest (λ q w i. above k q ks sorted (listed_in s t ks x.0.rest x.1 q w i)) (pass-rising s t ks x.0.rest (rest_in_order k ks sorted) x.1))
+  pass-rising s t (k ∷ ks) waits sorted (inr (mid, x, rest)) = pass-rising mid t ks waits (rest_in_order k ks sorted) rest

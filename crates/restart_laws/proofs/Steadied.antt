@@ -18,7 +18,7 @@ use Rattle.sai_types.specs.Alike.{IsIn}
 use Rattle.sai_types.specs.Forwarding.{decide, forward}
 use Rattle.sai_types.specs.Made.{made_after_all}
 use Rattle.sai_types.specs.Named.{named}
-use Rattle.sai_types.specs.Names.{Name, name_kind, name_of}
+use Rattle.sai_types.specs.Names.{ThingName, name_kind, name_of}
 use Rattle.sai_types.specs.Objects.{Objects, level, used}
 use Rattle.sai_types.specs.Refusal.{capacity_of}
 use Rattle.chip_layout.specs.Counted.{AreDistinct}
@@ -67,11 +67,11 @@ cut_list (suc n) (x ∷ xs) le =
     let e = r.3 in
     (x ∷ r.0, r.1, ap (λ z. x ∷ z) r.2, omega (arith, e))
 
-distinct_to : (ks : List Name) → AreDistinct ks → marks.AreDistinct ks
+distinct_to : (ks : List ThingName) → AreDistinct ks → marks.AreDistinct ks
 distinct_to [] h = tt
 distinct_to (k ∷ ks) h = (h.0, distinct_to ks h.1)
 
-distinct_from : (ks : List Name) → marks.AreDistinct ks → AreDistinct ks
+distinct_from : (ks : List ThingName) → marks.AreDistinct ks → AreDistinct ks
 distinct_from [] h = tt
 distinct_from (k ∷ ks) h = (h.0, distinct_from ks h.1)
 
@@ -117,7 +117,7 @@ module _ (plan : Ports) (is : IsPlan plan) (workers : ℕ) (capacities : List �
     hitless_when : FitsTogether capacities objects (IsThingOf plan rows) → x.mode ≡ mode.Hitless
     hitless_when fits = by x.mode (planned-from plan is workers capacities s t h x)
       where
-        lacking : (kind : Kind) (names : List Name) → AreLacking (chip_things objects) new kind names → used objects kind + length names ≤ capacity_of capacities kind
+        lacking : (kind : Kind) (names : List ThingName) → AreLacking (chip_things objects) new kind names → used objects kind + length names ≤ capacity_of capacities kind
         lacking kind names l = fits kind names (record {
           distinct = distinct_to names l.distinct;
           things = λ k i. let y = l.each k i in (y.1, y.3, ap (λ z. level (name_kind z)) y.3 ∙ y.0, (back y.1 y.2, λ o. y.4 o.0 (in_those o.0 (named objects) o.1) (o.2 ∙ y.3)));
@@ -134,7 +134,7 @@ module _ (plan : Ports) (is : IsPlan plan) (workers : ℕ) (capacities : List �
     its_applies : (hitless : x.mode ≡ mode.Hitless) → Applies hitless
     its_applies hitless = hitless-applies plan is workers capacities s h t x hitless
 
-    made_few : (hitless : x.mode ≡ mode.Hitless) (kind : Kind) → (names : List Name) × AreLacking (chip_things objects) new kind names × (count_by (makes_kind kind) t.left ≡ length names)
+    made_few : (hitless : x.mode ≡ mode.Hitless) (kind : Kind) → (names : List ThingName) × AreLacking (chip_things objects) new kind names × (count_by (makes_kind kind) t.left ≡ length names)
     made_few hitless kind =
         let a = its_applies hitless in
         let steps = (hitless-planned plan is workers capacities s h t x hitless).steps in
@@ -145,12 +145,12 @@ module _ (plan : Ports) (is : IsPlan plan) (workers : ℕ) (capacities : List �
 
     -- how long it is
     record IsShort : Type 0 where
-      names : List Name
+      names : List ThingName
       distinct : AreDistinct names
-      of : (k : Name) → IsIn k names → (u : Thing) × IsThingOf plan rows u × (name_of u ≡ k)
+      of : (k : ThingName) → IsIn k names → (u : Thing) × IsThingOf plan rows u × (name_of u ≡ k)
       short : length t.left ≤ length objects + 3 * length names
 
-    named_by : (names : List Name) → ((k : Name) → IsIn k names → IsIn k (map name_of new)) → (k : Name) → IsIn k names → (u : Thing) × IsThingOf plan rows u × (name_of u ≡ k)
+    named_by : (names : List ThingName) → ((k : ThingName) → IsIn k names → IsIn k (map name_of new)) → (k : ThingName) → IsIn k names → (u : Thing) × IsThingOf plan rows u × (name_of u ≡ k)
     named_by names in_it k i = let y = map-in name_of new k (in_it k i) in (y.0, back y.0 y.1, sym y.2)
 
     is_short : IsShort
@@ -201,8 +201,8 @@ module _ (plan : Ports) (is : IsPlan plan) (workers : ℕ) (capacities : List �
   chip_by : (k : ℕ) (xs ys : List (Call Rid)) → u.done ≡ xs ++ ys → k ≡ length u.before + length xs → chip_after s.effects k ≡ after_calls first.core.made first.core.objects xs
   chip_by k xs ys parts e = ap (chip_after s.effects) e ∙ chip-at plan is workers capacities s u xs ys parts
 
-  left_by : (xs ys : List (Call Rid)) → u.done ≡ xs ++ ys → u.began.left ≡ xs ++ (ys ++ s.service.left)
-  left_by xs ys parts = u.all ∙ ap (λ z. z ++ s.service.left) parts ∙ append_assoc xs ys s.service.left
+  left_of_all_calls : (xs ys : List (Call Rid)) → u.done ≡ xs ++ ys → u.began.left ≡ xs ++ (ys ++ s.service.left)
+  left_of_all_calls xs ys parts = u.all ∙ ap (λ z. z ++ s.service.left) parts ∙ append_assoc xs ys s.service.left
 
   total : to ≡ length u.before + length u.done
   total = ap length u.effects ∙ length-append u.before u.done
@@ -214,7 +214,7 @@ module _ (plan : Ports) (is : IsPlan plan) (workers : ℕ) (capacities : List �
       let r = cut_list (k - length u.before) u.done (omega (arith, least, most, number, sum)) in
       let e = r.3 in
       let place : k ≡ length u.before + length r.0 = omega (arith, least, number, e) in
-      record { xs = r.0; ys = r.1; parts = r.2; number = place; chip = chip_by k r.0 r.1 r.2 place; left = left_by r.0 r.1 r.2 }
+      record { xs = r.0; ys = r.1; parts = r.2; number = place; chip = chip_by k r.0 r.1 r.2 place; left = left_of_all_calls r.0 r.1 r.2 }
 
   start : chip_after s.effects from ≡ first.core.objects
   start = chip_by from [] u.done refl (let number = u.number in omega (arith, number))
@@ -252,7 +252,7 @@ module _ (plan : Ports) (is : IsPlan plan) (workers : ℕ) (capacities : List �
             let longer = length-append m.xs r.0 in
             let split : u.done ≡ (m.xs ++ r.0) ++ r.1 = m.parts ∙ ap (λ z. m.xs ++ z) r.2 ∙ sym (append_assoc m.xs r.0 r.1) in
             subst (λ o. decide (chip_things o) a ≡ decide V a) (sym (chip_by l (m.xs ++ r.0) r.1 split (omega (arith, less, number, e, longer))))
-            (hitless-kept applies m.xs r.0 (r.1 ++ s.service.left) (left_by (m.xs ++ r.0) r.1 split ∙ append_assoc m.xs r.0 (r.1 ++ s.service.left)) a (subst (λ o. decide (chip_things o) a ≡ decide V a) m.chip now))
+            (hitless-kept applies m.xs r.0 (r.1 ++ s.service.left) (left_of_all_calls (m.xs ++ r.0) r.1 split ∙ append_assoc m.xs r.0 (r.1 ++ s.service.left)) a (subst (λ o. decide (chip_things o) a ≡ decide V a) m.chip now))
 
   -- an apply that is under way
   pub under-steady : IsSteadyApply plan capacities rows s.effects x.mode from to
@@ -285,7 +285,7 @@ module _ (plan : Ports) (is : IsPlan plan) (workers : ℕ) (capacities : List �
         short = omega (arith, most, left, sum, number, size);
       }
     where
-      made : (hitless : x.mode ≡ mode.Hitless) (kind : Kind) → (lacking : List Name) × AreLacking (things_after s.effects from) (new plan is workers capacities u.first u.began u.holds x) kind lacking × (count_by (makes_kind kind) u.done ≤ length lacking)
+      made : (hitless : x.mode ≡ mode.Hitless) (kind : Kind) → (lacking : List ThingName) × AreLacking (things_after s.effects from) (new plan is workers capacities u.first u.began u.holds x) kind lacking × (count_by (makes_kind kind) u.done ≤ length lacking)
       made hitless kind =
           let y = made_few plan is workers capacities u.first u.began u.holds x rows same hitless kind in
           let all = y.2 in

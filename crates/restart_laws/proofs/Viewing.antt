@@ -7,12 +7,12 @@ use Rattle.sai_types.specs.declared.ids.Rid.{Rid}
 use Rattle.sai_types.specs.declared.thing.Thing.{Thing}
 use Rattle.sai_types.specs.declared.thing.Thing.TheVariants as thing
 use Rattle.sai_types.specs.Alike.{IsIn}
-use Rattle.sai_types.specs.Names.{Name, Refers, name_of}
+use Rattle.sai_types.specs.Names.{ThingName, Refers, name_of}
 use Rattle.row_layout.specs.Rows.{Owner, OfRow, own_things}
 use Rattle.row_layout.specs.Shared.{shared_things, uses}
 use Rattle.switch_machine.specs.Events.{SwitchState, IsSafe, IsQuiet}
 use Rattle.switch_machine.specs.Flights.{Fits, HasName, IsOwnedBy, IsShared, StandsIn, own_of}
-use Rattle.switch_machine.specs.Tables.{ComesBefore, Orders, IsNamed, Tables}
+use Rattle.switch_machine.specs.Tables.{ComesBefore, Orders, IsNamed, TableLaws}
 use Rattle.switch_machine.specs.Consistent.{IsConsistent}
 use Rattle.switch_machine.proofs.Calling.{sort_of}
 use Rattle.switch_machine.proofs.Ordered.{ordered}
@@ -33,13 +33,13 @@ things-in [] t h = elim h [ ]
 things-in (x ∷ xs) t (inl e) = (x.0, inl (ap (λ (z : Thing). (x.0, z)) e))
 things-in (x ∷ xs) t (inr h) = let y = things-in xs t h in (y.0, inr y.1)
 
-before_there : (n : Name) (t : Thing) (ts : List Thing) → ComesBefore n t ts → (u : Thing) × IsIn u ts × (name_of u ≡ n)
+before_there : (n : ThingName) (t : Thing) (ts : List Thing) → ComesBefore n t ts → (u : Thing) × IsIn u ts × (name_of u ≡ n)
 before_there n t [] h = elim h [ ]
 before_there n t (x ∷ xs) (inl h) = (x, inl refl, h.0)
 before_there n t (x ∷ xs) (inr h) = let y = before_there n t xs h in (y.0, inr y.1, y.2)
 
 module _ (plan : Ports) (is : IsPlan plan) (workers : ℕ) (capacities : List ℕ) (s : SwitchState) (kept : IsSafe plan workers capacities s) (quiet : IsQuiet s) where
-  abbrev T : Tables plan
+  abbrev T : TableLaws plan
   T = tabled plan is
 
   abbrev O : Orders plan
@@ -74,10 +74,10 @@ module _ (plan : Ports) (is : IsPlan plan) (workers : ℕ) (capacities : List �
       by o of (inl shared) = shared-planned plan T o t (sound.held o t h of shared).0
       by o of (inr (k, same)) = let r = own_row k t h (of ∙ ap Some same) in own-planned plan T k r.0 t (fit k r.0 r.1) r.2
 
-  named_by : (k : Key) (r : Row) (n : Name) → s.machine.board.applied k ≡ Some r → IsNamed plan k r n → HasName (StandsIn s.machine) n
+  named_by : (k : Key) (r : Row) (n : ThingName) → s.machine.board.applied k ≡ Some r → IsNamed plan k r n → HasName (StandsIn s.machine) n
   named_by k r n at x = sound.present x.by n (sound.board.named k x.by r (inl at) x.named) x.own
 
-  refers_by : (t : Thing) (n : Name) → StandsIn s.machine t → Refers t n → HasName (StandsIn s.machine) n
+  refers_by : (t : Thing) (n : ThingName) → StandsIn s.machine t → Refers t n → HasName (StandsIn s.machine) n
   refers_by t n h refers = by (sound.owned t h).0 (sound.owned t h).1 (sort_of (sound.owned t h).0)
     where
       own : (k : Key) (r : Row) → s.machine.board.applied k ≡ Some r → IsIn t (own_things plan k r) → IsNamed plan k r n ⊎ (IsOwnedBy plan n (OfRow k) ⊎ ((o : Owner) × IsOwnedBy plan n o × IsIn o (uses plan k r))) → HasName (StandsIn s.machine) n

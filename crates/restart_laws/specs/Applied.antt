@@ -12,7 +12,7 @@ use Rattle.sai_types.specs.declared.plan.Mode.TheVariants.{Hitless}
 use Rattle.sai_types.specs.declared.thing.Thing.{Thing}
 use Rattle.sai_types.specs.After.{chip_after}
 use Rattle.sai_types.specs.Alike.{IsIn}
-use Rattle.sai_types.specs.Names.{Name, name_of}
+use Rattle.sai_types.specs.Names.{ThingName, name_of}
 use Rattle.switch_model.specs.Desired.{IsThingOf}
 use Rattle.switch_model.specs.Good.{TypedRows}
 use Rattle.switch_model.specs.Promises.{applied_at}
@@ -40,11 +40,11 @@ pub record IsSteadyApply (plan : Ports) (capacities : List ℕ) (rows : TypedRow
   pub parts : effects ≡ front ++ (during ++ behind)
   pub at : length front ≡ from
   pub long : from + length during ≡ to
-  pub made : mode ≡ Hitless → (kind : Kind) → (lacking : List Name) × AreLacking (things_after effects from) view kind lacking × (count_by (makes_kind kind) during ≤ length lacking)
+  pub made : mode ≡ Hitless → (kind : Kind) → (lacking : List ThingName) × AreLacking (things_after effects from) view kind lacking × (count_by (makes_kind kind) during ≤ length lacking)
   pub kept : mode ≡ Hitless → (e : Entry Rid) → IsIn (call.Remove e) during → IsUnwanted (chip_after effects from) view e
-  pub names : List Name
+  pub names : List ThingName
   pub distinct : AreDistinct names
-  pub of : (k : Name) → IsIn k names → (t : Thing) × IsThingOf plan rows t × (name_of t ≡ k)
+  pub of : (k : ThingName) → IsIn k names → (t : Thing) × IsThingOf plan rows t × (name_of t ≡ k)
   pub short : to ≤ from + (length (chip_after effects from) + 3 * length names)
 
 -- up to the next mark, or to the end

@@ -1,11 +1,10 @@
 -- the order of events
-use Rattle.std.proofs.Common.{◌≡◌, true, refl, sym, ap, ◌∙◌, Ordering}
+use Rattle.std.proofs.Common.{◌≡◌, true, refl, sym, ap, ◌∙◌}
 use Rattle.std.specs.BTreeMap.{is_at}
 use Rattle.std.specs.Cmp.{IsTotalOrder}
-use Rattle.std.specs.Ordering.{is_eq}
-use Rattle.std.specs.declared.cmp.Ordering.TheVariants.{Less, Equal, Greater}
 use Rattle.std.proofs.lemmas.Cmp.{eq_by_cmp_equiv}
 use Rattle.std.proofs.lemmas.Map.Lookups.{CmpEqualImpliesEq, exact_unsigned}
+use Rattle.swss_types.proofs.Tied.{tied}
 use Rattle.table_schema.proofs.Keys.{key_exact}
 use Rattle.sai_types.specs.declared.kind.Kind.{Kind}
 use Rattle.sai_types.specs.declared.kind.Kind.TheVariants as kind
@@ -39,11 +38,6 @@ event_exact x y h = cc
 
 pub event_total : IsTotalOrder event_cmp
 event_total = event_laws.total-law
-
-tied : (r : Ordering) → is_eq r ≡ true → r ≡ Equal
-tied Less h = cc
-tied Equal h = refl
-tied Greater h = cc
 
 pub same_event : (e f : Event) → is_at (event_cmp e) f ≡ true → e ≡ f
 same_event e f h = event_exact e f (tied (event_cmp e f) h)

@@ -37,14 +37,14 @@ under es e = lookup (is_at (event_cmp e)) es
 at_event : (es : Filed) (event e : Event) (o : Option (BTreeSet Key)) → under es event ≡ o → is_at (event_cmp event) e ≡ true → under es e ≡ o
 at_event es event e o at here = ap (under es) (sym (same_event event e here)) ∙ at
 
-changed : (b c v : Bool) (old new : Option (BTreeSet Key)) (keys : BTreeSet Key) (q : Key) (was : Bool) → new ≡ cond b (Some keys) old → list_any (is_at (key_cmp q)) keys.keys ≡ cond c v was → (b ≡ true → has old q ≡ was) → has new q ≡ cond (b && c) v (has old q)
-changed true c v old new keys q was set is there = ap (λ o. has o q) set ∙ is ∙ ap (λ x. cond c v x) (sym (there refl))
-changed false c v old new keys q was set is there = ap (λ o. has o q) set
+has_after_set : (b c v : Bool) (old new : Option (BTreeSet Key)) (keys : BTreeSet Key) (q : Key) (was : Bool) → new ≡ cond b (Some keys) old → list_any (is_at (key_cmp q)) keys.keys ≡ cond c v was → (b ≡ true → has old q ≡ was) → has new q ≡ cond (b && c) v (has old q)
+has_after_set true c v old new keys q was set is there = ap (λ o. has o q) set ∙ is ∙ ap (λ x. cond c v x) (sym (there refl))
+has_after_set false c v old new keys q was set is there = ap (λ o. has o q) set
 
 -- an event's keys have one more, or one less
 pub has-changed : (es : Filed) (new : Option (BTreeSet Key)) (event e : Event) (q : Key) (c v : Bool) (keys : BTreeSet Key) (o : Option (BTreeSet Key)) → under es event ≡ o → new ≡ cond (is_at (event_cmp event) e) (Some keys) (under es e) → list_any (is_at (key_cmp q)) keys.keys ≡ cond c v (has o q) → has new q ≡ cond (is_at (event_cmp event) e && c) v (has (under es e) q)
 has-changed es new event e q c v keys o at set is =
-    changed (is_at (event_cmp event) e) c v (under es e) new keys q (has o q) set is (λ here. ap (λ o. has o q) (at_event es event e o at here))
+    has_after_set (is_at (event_cmp event) e) c v (under es e) new keys q (has o q) set is (λ here. ap (λ o. has o q) (at_event es event e o at here))
 
 -- an event's keys are as they were
 unchanged : (b : Bool) (old new : Option (BTreeSet Key)) (keys : BTreeSet Key) (q : Key) → new ≡ cond b (Some keys) old → (b ≡ true → list_any (is_at (key_cmp q)) keys.keys ≡ has old q) → has new q ≡ has old q

@@ -3,7 +3,7 @@ use Rattle.std.proofs.Common.{◌≡◌, Bool, true, false, cond, ◌&&◌, not,
 use Rattle.std.specs.BTreeMap.{is_at}
 use Rattle.table_schema.specs.Key.{key_cmp}
 use Rattle.table_schema.specs.declared.key.Key.{Key}
-use Rattle.table_schema.proofs.Keys.{key_total}
+use Rattle.table_schema.proofs.Keys.{key_total, tied_keys_same}
 use Rattle.switch_model.specs.declared.wait.Wait.{Wait}
 use Rattle.sai_types.proofs.Maps.{lookup-insert_entry}
 use Rattle.retry_list.specs.declared.event.Event.{Event}
@@ -12,7 +12,7 @@ use Rattle.retry_list.specs.Event.{event_cmp}
 use Rattle.retry_list.specs.Index.{IsFiledAs, IsFiledUnless, IsIndexed, IsSameIndex, is_filed}
 use Rattle.retry_list.specs.Reasons.{Reasons, event_of, is_about, is_woken, reason_at, with_reason}
 use Rattle.retry_list.proofs.Events.{event-turned, same_event}
-use Rattle.retry_list.proofs.Keyed.{key-turned, same_key}
+use Rattle.retry_list.proofs.Keyed.{key-turned}
 
 woken-cond : (c : Bool) (e : Event) (w : Wait) (o : Option Wait) → is_woken e (cond c (Some w) o) ≡ cond c (is_about e w) (is_woken e o)
 woken-cond true e w o = refl
@@ -26,7 +26,7 @@ woken-put r k w e q =
 
 -- what was woken of a key with this reason
 was_of : (r : Reasons) (k q : Key) (e : Event) (o : Option Wait) → reason_at r k ≡ o → is_at (key_cmp k) q ≡ true → is_woken e (reason_at r q) ≡ is_woken e o
-was_of r k q e o at here = ap (λ x. is_woken e (reason_at r x)) (sym (same_key k q here)) ∙ ap (is_woken e) at
+was_of r k q e o at here = ap (λ x. is_woken e (reason_at r x)) (sym (tied_keys_same k q here)) ∙ ap (is_woken e) at
 
 filed_new : (b c was : Bool) → (c ≡ true → was ≡ false) → cond (b && c) true was ≡ cond c b was
 filed_new true true was h = refl
@@ -56,9 +56,9 @@ moved_here false true false was h f g = refl
 moved_here false false true was h f g = h
 moved_here false false false was h f g = h
 
-moved : (b c d x was : Bool) → (c ≡ true → was ≡ d) → (b ≡ true → d ≡ true → x ≡ true) → (x ≡ true → d ≡ true → b ≡ true) → cond (not x && (d && c)) false (cond (b && c) true was) ≡ cond c b was
-moved b true d x was h f g = moved_here b d x was (h refl) f g
-moved b false d x was h f g = ap₂ (λ (y z : Bool). cond y false (cond z true was)) (ap (λ y. not x && y) (and_false d) ∙ and_false (not x)) (and_false b)
+moved_anywhere : (b c d x was : Bool) → (c ≡ true → was ≡ d) → (b ≡ true → d ≡ true → x ≡ true) → (x ≡ true → d ≡ true → b ≡ true) → cond (not x && (d && c)) false (cond (b && c) true was) ≡ cond c b was
+moved_anywhere b true d x was h f g = moved_here b d x was (h refl) f g
+moved_anywhere b false d x was h f g = ap₂ (λ (y z : Bool). cond y false (cond z true was)) (ap (λ y. not x && y) (and_false d) ∙ and_false (not x)) (and_false b)
 
 -- a key that had another reason, or the same
 pub IsIndexed-moved : (r : Reasons) (old mid new : Index) (k : Key) (w before : Wait) → IsIndexed r old → IsFiledAs true old mid (event_of w) k → IsFiledUnless mid new (event_of before) (event_of w) k → reason_at r k ≡ Some before → IsIndexed (with_reason r k w) new
@@ -69,13 +69,13 @@ IsIndexed-moved r old mid new k w before indexed filed unfiled there e q =
     let back : is_at (event_cmp from) to ≡ true → is_at (event_cmp from) e ≡ true → is_at (event_cmp to) e ≡ true = λ a b. ap (λ f. is_at (event_cmp f) e) (sym (same_event from to a)) ∙ b in
     unfiled e q
     ∙ ap (λ x. cond (not (is_at (event_cmp from) to) && (is_at (event_cmp from) e && is_at (key_cmp k) q)) false x) (filed e q ∙ ap (λ x. cond (is_at (event_cmp to) e && is_at (key_cmp k) q) true x) (indexed e q))
-    ∙ moved (is_at (event_cmp to) e) (is_at (key_cmp k) q) (is_at (event_cmp from) e) (is_at (event_cmp from) to) (is_woken e (reason_at r q)) (λ here. was_of r k q e (Some before) there here ∙ event-turned e from) same back
+    ∙ moved_anywhere (is_at (event_cmp to) e) (is_at (key_cmp k) q) (is_at (event_cmp from) e) (is_at (event_cmp from) to) (is_woken e (reason_at r q)) (λ here. was_of r k q e (Some before) there here ∙ event-turned e from) same back
     ∙ sym (woken-put r k w e q)
 
-restored : (b c was : Bool) → (c ≡ true → was ≡ false) → cond (b && c) false (cond (b && c) true was) ≡ was
-restored true true was h = sym (h refl)
-restored true false was h = refl
-restored false c was h = refl
+filed_and_back : (b c was : Bool) → (c ≡ true → was ≡ false) → cond (b && c) false (cond (b && c) true was) ≡ was
+filed_and_back true true was h = sym (h refl)
+filed_and_back true false was h = refl
+filed_and_back false c was h = refl
 
 -- a key that got no reason, since memory was refused
 pub IsIndexed-restored : (r after : Reasons) (old mid new : Index) (event : Event) (k : Key) → IsIndexed r old → IsFiledAs true old mid event k → IsFiledAs false mid new event k → reason_at r k ≡ None → after ≡ r → IsIndexed after new
@@ -83,7 +83,7 @@ IsIndexed-restored r after old mid new event k indexed filed unfiled none same =
     subst (λ r. IsIndexed r new) (sym same) (λ e q.
     unfiled e q
     ∙ ap (λ x. cond (is_at (event_cmp event) e && is_at (key_cmp k) q) false x) (filed e q ∙ ap (λ x. cond (is_at (event_cmp event) e && is_at (key_cmp k) q) true x) (indexed e q))
-    ∙ restored (is_at (event_cmp event) e) (is_at (key_cmp k) q) (is_woken e (reason_at r q)) (was_of r k q e None none))
+    ∙ filed_and_back (is_at (event_cmp event) e) (is_at (key_cmp k) q) (is_woken e (reason_at r q)) (was_of r k q e None none))
 
 -- nothing changed
 pub IsIndexed-same : (r after : Reasons) (old new : Index) → IsIndexed r old → IsSameIndex old new → after ≡ r → IsIndexed after new

@@ -1,6 +1,6 @@
 -- keys that compare equal, and entries above a key
-use Rattle.std.proofs.Common.{◌≡◌, true, false, cond, List, [], ◌∷◌, Option, None, Some, Ordering, refl, ap, ◌∙◌}
-use Rattle.std.specs.declared.cmp.Ordering.TheVariants.{Less, Equal, Greater}
+use Rattle.std.proofs.Common.{◌≡◌, true, false, cond, List, [], ◌∷◌, Option, None, Some, refl, ap, ◌∙◌}
+use Rattle.std.specs.declared.cmp.Ordering.TheVariants.{Less}
 use Rattle.std.specs.Ordering.{is_eq}
 use Rattle.std.specs.BTreeMap.{is_at}
 use Rattle.std.specs.List.{AllByRecursion}
@@ -10,15 +10,7 @@ use Rattle.std.proofs.lemmas.Cmp.{eq_by_cmp_equiv}
 use Rattle.table_schema.specs.Fields.{HasRisingKeys}
 use Rattle.table_schema.specs.Key.{key_cmp}
 use Rattle.table_schema.specs.declared.key.Key.{Key}
-use Rattle.table_schema.proofs.Keys.{key_exact, key_total}
-
-tied : (r : Ordering) → is_eq r ≡ true → r ≡ Equal
-tied Less h = cc
-tied Equal h = refl
-tied Greater h = cc
-
-pub same_key : (k q : Key) → is_at (key_cmp k) q ≡ true → k ≡ q
-same_key k q h = key_exact k q (tied (key_cmp k q) h)
+use Rattle.table_schema.proofs.Keys.{key_total}
 
 pub key-turned : (k q : Key) → is_at (key_cmp k) q ≡ is_at (key_cmp q) k
 key-turned k q = (eq_by_cmp_equiv key_total).symm k q

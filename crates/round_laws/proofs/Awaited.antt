@@ -43,16 +43,10 @@ use Rattle.round_laws.specs.Named.{keys_named}
 use Rattle.round_laws.specs.Sessions.{HasComeAbout, InSession}
 use Rattle.round_laws.proofs.Named.{few-among, named-sorted, rising-sorted}
 use Rattle.round_laws.proofs.Sessions.{told}
-use Rattle.round_laws.proofs.ToSync.{came-synced, keys-named}
+use Rattle.round_laws.proofs.ToSync.{came-synced, keys-named, not_suspect}
 
 recorded : (c : CoreState) (chip : ChipState) (x : InSession c chip) → HasRecorded c.board.plan c.sync.capacities c.log chip.effects x.session
 recorded c chip x = record { came = x.came; log_is = x.stands.log; effects_are = x.stands.effects }
-
-not_suspect : (s : LoggedService) → s.service.warm ≡ warm.Reconciled → s.service.warm ≡ warm.Suspect → ⊥
-not_suspect s a b = two (sym a ∙ b)
-  where
-    two : warm.Reconciled ≡ warm.Suspect → ⊥
-    two e = cc
 
 -- ---- a call
 
@@ -154,7 +148,7 @@ keys-awaited c chip x at none rest order must =
 pub awaited-few : (plan : Ports) (capacities : List ℕ) (log : History) (effects : List (Call Rid)) (waits : Waiting) → IsPlan plan → AwaitsMark plan capacities log effects waits → length waits ≤ length (keys_named log.taken)
 awaited-few plan capacities log effects waits is x =
     let few = few-among (map (λ w. w.0) waits) (keys_named log.taken) x.in_order (named-sorted log.taken)
-    (λ k i. subst (λ (z : History). IsIn k (keys_named z.taken)) x.recorded.log_is (came-synced plan is capacities x.session x.recorded.came (not_suspect x.session x.warm) k (x.only k (lists-in waits k i)))) in
+    (λ k i. subst (λ (z : History). IsIn k (keys_named z.taken)) x.recorded.log_is (came-synced plan is capacities x.session x.recorded.came (not_suspect x.session.service.warm x.warm) k (x.only k (lists-in waits k i)))) in
     let long = length-map waits (λ w. w.0) in
     omega (arith, few, long)
 

@@ -1,6 +1,7 @@
 -- a settling ends between rounds, and a round begins there
-use Rattle.std.proofs.Common.{◌≡◌, ◌⊎◌, ◌∷◌, ◌++◌, ◌∙◌, inl, inr, true, ℕ, zero, suc, List, [], length, None, Some, refl, sym, ap, subst}
+use Rattle.std.proofs.Common.{◌≡◌, ◌⊎◌, ◌∷◌, ◌++◌, ◌∙◌, inl, inr, true, ℕ, List, [], length, None, Some, refl, sym, ap, subst}
 use Rattle.std.proofs.lemmas.List.{append-nil, append_assoc}
+use Rattle.std.proofs.lemmas.Option.{same_Some}
 use Rattle.table_schema.specs.Plan.{IsPlan, Ports}
 use Rattle.table_schema.specs.Rows.{rows_of}
 use Rattle.table_schema.specs.declared.key.Key.{Key}
@@ -27,10 +28,10 @@ use Rattle.restart_laws.proofs.Marking.{last-more}
 use Rattle.sync_tables.specs.Tables.{with_write as waiting_write, written_in}
 use Rattle.sync_tables.proofs.Waits.{takes_write}
 use Rattle.flight_board.specs.Applied.{row_at}
-use Rattle.flight_board.specs.Board.{flown_at, new_board}
 use Rattle.session_laws.specs.Core.{CoreState, new_core, with_taken}
 use Rattle.session_laws.proofs.Seeing.{keys_same, same_keys}
 use Rattle.session_laws.proofs.Writing.{write_step}
+use Rattle.session_laws.proofs.Beginning.{none_flown}
 use Rattle.settling_laws.specs.Leading.{SettlesTo}
 use Rattle.round_laws.specs.Between.{IsBetweenRounds, IsInRound, mark_of}
 use Rattle.round_laws.specs.Ended.{LeavesSettled, applied_since, waits_since}
@@ -42,13 +43,6 @@ use Rattle.round_laws.proofs.Sessions.{begins-session, in_later, one-on}
 use Rattle.round_laws.proofs.Writes.{beside-write, write-beside, write-waits}
 
 -- ---- the first round
-
-none_flown : (plan : Ports) (capacities : List ℕ) (w : ℕ) → flown_at (new_board plan capacities) w ≡ None
-none_flown plan capacities zero = refl
-none_flown plan capacities (suc zero) = refl
-none_flown plan capacities (suc (suc zero)) = refl
-none_flown plan capacities (suc (suc (suc zero))) = refl
-none_flown plan capacities (suc (suc (suc (suc w)))) = refl
 
 no_mark : (mark : Mark) → None ≡ Some mark → ⊥
 no_mark mark e = cc
@@ -132,9 +126,6 @@ module _ (old c : CoreState) (chip : ChipState) (sent : List Sent) (next : Sent)
 
 -- ---- a settling ends between rounds
 
-some_is : (a b : Mark) → Some a ≡ Some b → a ≡ b
-some_is a b e = cc
-
 module _ (c c' : CoreState) (chip chip' : ChipState) (x : InSession c chip) (y : SettlesTo c x.session c' chip') where
   abbrev pub later-in : InSession c' chip'
   later-in = in_later c c' chip chip' x y.later y.leads.steps y.leads.are y.leads.is y.leads.stands y.leads.plan y.leads.capacities
@@ -158,7 +149,7 @@ module _ (c c' : CoreState) (chip chip' : ChipState) (x : InSession c chip) (y :
   counts = ap (λ (h : History). length h.taken) x.stands.log ∙ ap length (sym same_taken)
 
   by_last : (P : Mark → Type 0) → P its-mark → (mark : Mark) → mark_of c' ≡ Some mark → P mark
-  by_last P h mark e = subst P (some_is its-mark mark (sym last ∙ e)) h
+  by_last P h mark e = subst P (same_Some its-mark mark (sym last ∙ e)) h
 
   pub its-listed : AreListed c'.board.plan 4 c'.sync.capacities t y.settling.waits
   its-listed = subst (λ p. AreListed p 4 c'.sync.capacities t y.settling.waits) (sym y.leads.plan) (subst (λ l. AreListed c.board.plan 4 l t y.settling.waits) (sym y.leads.capacities) y.settling.listed)

@@ -18,16 +18,16 @@ all_counted (event.Faulted before after) n none = refl
 all_counted event.Restarted n none = refl
 all_counted event.ApplyEnded n none = refl
 
-none_listed : (e : MarkEvent) → BeginsNoApply e → keys_begun e ≡ 0
-none_listed (event.ApplyBegan mode waits) none = absurd none
-none_listed (event.Settled waits turns) none = refl
-none_listed (event.Faulted before after) none = refl
-none_listed event.Restarted none = refl
-none_listed event.ApplyEnded none = refl
+no_keys_begun : (e : MarkEvent) → BeginsNoApply e → keys_begun e ≡ 0
+no_keys_begun (event.ApplyBegan mode waits) none = absurd none
+no_keys_begun (event.Settled waits turns) none = refl
+no_keys_begun (event.Faulted before after) none = refl
+no_keys_begun event.Restarted none = refl
+no_keys_begun event.ApplyEnded none = refl
 
 listed_none : (marks : List Mark) → BeginNoApply marks → listed_at_applies marks ≡ 0
 listed_none [] none = refl
-listed_none (m ∷ marks) none = let first = none_listed m.event none.0 in let rest = listed_none marks none.1 in omega (arith, first, rest)
+listed_none (m ∷ marks) none = let first = no_keys_begun m.event none.0 in let rest = listed_none marks none.1 in omega (arith, first, rest)
 
 -- the effects from a mark on
 outside_from_mark : (m : Mark) (marks : List Mark) (taken to : ℕ) → BeginsNoApply m.event → BeginNoApply marks → AreWithin taken to (m ∷ marks) → effects_outside (Some m) marks to + m.effects ≡ to

@@ -35,7 +35,7 @@ use Rattle.machine_laws.proofs.Draining.{drains, nothing-waits}
 use Rattle.machine_laws.proofs.Four.{four}
 use Rattle.machine_laws.proofs.Logging.{settling-good}
 use Rattle.machine_laws.proofs.Rows.{AreSameRows, have_same, thing_same}
-use Rattle.machine_laws.proofs.Sharing.{key_in}
+use Rattle.machine_laws.proofs.Sharing.{key_listed_decided}
 use Rattle.machine_laws.proofs.Turning.{turns-rows}
 use Rattle.restart_laws.specs.Logged.{switch_of}
 use Rattle.warm_state.specs.declared.warm.Warm.TheVariants as warm
@@ -97,7 +97,7 @@ module _ (plan : Ports) (capacities : List ℕ) (r : EndedRound) (x : IsMadeByTu
       ∙ sym (x.wanted k)
 
   synced : AreSynced x.good x.start.applied x.keys
-  synced k = by (key_in k x.keys)
+  synced k = by (key_listed_decided k x.keys)
     where
       by : IsDecided (IsIn k x.keys) → (x.start.applied k ≡ x.good k) ⊎ IsIn k x.keys
       by (inl i) = inr i

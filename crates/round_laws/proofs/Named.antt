@@ -8,6 +8,7 @@ use Rattle.std.specs.Map.{keys_of}
 use Rattle.std.specs.Ordering.{match_ordering, ordering_reverse}
 use Rattle.std.specs.declared.cmp.Ordering.{Ordering}
 use Rattle.std.specs.declared.cmp.Ordering.TheVariants.{Less, Equal, Greater}
+use Rattle.swss_types.proofs.Tied.{tied}
 use Rattle.table_schema.specs.Fields.{HasRisingKeys}
 use Rattle.table_schema.specs.Key.{key_cmp}
 use Rattle.table_schema.specs.declared.key.Key.{Key}
@@ -15,7 +16,6 @@ use Rattle.table_schema.specs.declared.write.Sent.{Sent}
 use Rattle.table_schema.proofs.Keys.{key_exact, key_total}
 use Rattle.sai_types.specs.Alike.{IsIn}
 use Rattle.switch_model.specs.Marks.{sent_writes, written_key}
-use Rattle.switch_model.proofs.Tied.{tied}
 use Rattle.round_laws.specs.Named.{keys_named}
 
 -- a key that was put is the new one or was there
@@ -49,8 +49,8 @@ all-map : (P Q : Key → Type 0) (ks : List Key) → ((k : Key) → P k → Q k)
 all-map P Q [] f all = tt
 all-map P Q (x ∷ xs) f (one, all) = (f x one, all-map P Q xs f all)
 
-greater : (x y : Key) → key_cmp x y ≡ Greater → key_cmp y x ≡ Less
-greater x y is = key_total.antisymm y x ∙ ap ordering_reverse is
+greater_turned_less : (x y : Key) → key_cmp x y ≡ Greater → key_cmp y x ≡ Less
+greater_turned_less x y is = key_total.antisymm y x ∙ ap ordering_reverse is
 
 -- keys stay in order where one is put
 sorted-put : (ks : List Key) (k : Key) → IsStrictlySortedBy key_cmp ks → IsStrictlySortedBy key_cmp (insert_key key_cmp ks k)
@@ -61,7 +61,7 @@ sorted-put (x ∷ xs) k (all, sorted) = by (key_cmp k x) refl (sorted-put xs k s
     by : (o : Ordering) → key_cmp k x ≡ o → IsStrictlySortedBy key_cmp (insert_key key_cmp xs k) → IsStrictlySortedBy key_cmp (match_ordering o (k ∷ x ∷ xs) (x ∷ xs) (x ∷ insert_key key_cmp xs k))
     by Less is ih = ((is, all-map (λ y. key_cmp x y ≡ Less) (λ y. key_cmp k y ≡ Less) xs (λ y less. key_total.trans k x y is less) all), (all, sorted))
     by Equal is ih = (all, sorted)
-    by Greater is ih = (all-put (λ y. key_cmp x y ≡ Less) xs k all (greater k x is), ih)
+    by Greater is ih = (all-put (λ y. key_cmp x y ≡ Less) xs k all (greater_turned_less k x is), ih)
 
 pub named-sorted : (sent : List Sent) → IsStrictlySortedBy key_cmp (keys_named sent)
 unfolding IsStrictlySortedBy

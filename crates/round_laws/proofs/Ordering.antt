@@ -40,8 +40,8 @@ sorted-order [] h = tt
 sorted-order (k ∷ ks) h = ((λ q i. all_in (λ z. key_cmp k z ≡ Less) ks q h.0 i), sorted-order ks h.1)
 
 -- the keys behind the first
-behind : (x y : Key) (xs ys : List Key) → ((q : Key) → IsIn q xs → key_cmp x q ≡ Less) → x ≡ y → ((k : Key) → IsIn k (x ∷ xs) → IsIn k (y ∷ ys)) → (k : Key) → IsIn k xs → IsIn k ys
-behind x y xs ys least same among k i = by (among k (inr i))
+in_rest_too : (x y : Key) (xs ys : List Key) → ((q : Key) → IsIn q xs → key_cmp x q ≡ Less) → x ≡ y → ((k : Key) → IsIn k (x ∷ xs) → IsIn k (y ∷ ys)) → (k : Key) → IsIn k xs → IsIn k ys
+in_rest_too x y xs ys least same among k i = by (among k (inr i))
   where
     by : (k ≡ y) ⊎ IsIn k ys → IsIn k ys
     by (inl is) = absurd (less_not-same x k (least k i) (is ∙ sym same))
@@ -53,7 +53,7 @@ same-order [] [] xs_rise ys_rise into back = refl
 same-order [] (y ∷ ys) xs_rise ys_rise into back = absurd (back y (inl refl))
 same-order (x ∷ xs) [] xs_rise ys_rise into back = absurd (into x (inl refl))
 same-order (x ∷ xs) (y ∷ ys) xs_rise ys_rise into back =
-    ap₂ (λ k ks. k ∷ ks) first (same-order xs ys xs_rise.1 ys_rise.1 (behind x y xs ys xs_rise.0 first into) (behind y x ys xs ys_rise.0 (sym first) back))
+    ap₂ (λ k ks. k ∷ ks) first (same-order xs ys xs_rise.1 ys_rise.1 (in_rest_too x y xs ys xs_rise.0 first into) (in_rest_too y x ys xs ys_rise.0 (sym first) back))
   where
     by : (x ≡ y) ⊎ IsIn x ys → (y ≡ x) ⊎ IsIn y xs → x ≡ y
     by (inl same) there = same

@@ -1,6 +1,5 @@
 -- a round leaves quiet rows alone
-use Rattle.std.proofs.Common.{◌≡◌, ◌∷◌, ◌++◌, ◌∙◌, inl, inr, ℕ, List, [], length, Option, None, Some, refl, sym, ap, subst, arith}
-use Rattle.std.proofs.lemmas.List.{length-append}
+use Rattle.std.proofs.Common.{◌≡◌, ◌∷◌, ◌∙◌, inl, inr, ℕ, List, [], length, Option, None, Some, refl, sym, ap, subst}
 use Rattle.table_schema.specs.Plan.{IsPlan, Ports}
 use Rattle.table_schema.specs.declared.key.Key.{Key}
 use Rattle.table_schema.specs.declared.row.Row.{Row}
@@ -23,9 +22,9 @@ use Rattle.switch_machine.specs.Written.{HasNoWrite}
 use Rattle.switch_machine.proofs.Resting.{grouped}
 use Rattle.switch_machine.proofs.Tabled.{tabled}
 use Rattle.machine_laws.specs.Logged.{ArePops, after_pops}
-use Rattle.machine_laws.specs.Quiet.{NamesNot, StandsFor, TakesNoWriteOf}
+use Rattle.machine_laws.specs.Quiet.{NamesNot, EntryStandsFor, TakesNoWriteOf}
 use Rattle.machine_laws.proofs.Turning.{Leads, TakeNothing, both, turns-lead}
-use Rattle.machine_laws.proofs.Unnamed.{unnamed-rows}
+use Rattle.machine_laws.proofs.Unnamed.{one_more_differs, unnamed-rows}
 use Rattle.session_laws.specs.Core.{CoreState}
 use Rattle.settling_laws.specs.Leading.{SettlesTo}
 use Rattle.round_laws.specs.Between.{IsInRound}
@@ -41,12 +40,9 @@ pops-lead plan capacities s (t ∷ ts) run =
     let y = pops-lead plan capacities t ts run.1 in
     record { events = (None, t) ∷ y.events; are = (inr (inl run.0), y.are); last = y.last; takeless = (run.0.taken, y.takeless); calls_are = y.calls_are }
 
-one_more : {A : Type 0} (xs : List A) (x : A) → xs ++ x ∷ [] ≡ xs → ⊥
-one_more xs x h = absurd (omega (arith, ap length h, length-append xs (x ∷ [])))
-
 module _ (plan : Ports) (capacities : List ℕ) (k : Key) where
   takes_none : (s t : SwitchState) (c : Option (Call Rid)) (x : IsEvent plan 4 capacities s c t) → t.written.taken ≡ s.written.taken → TakesNoWriteOf plan 4 capacities k s c t x
-  takes_none s t None (inl x) same = λ e. one_more s.written.taken x.write (sym x.taken.taken ∙ same)
+  takes_none s t None (inl x) same = λ e. one_more_differs s.written.taken x.write (sym x.taken.taken ∙ same)
   takes_none s t None (inr x) same = tt
   takes_none s t (Some call) x same = tt
 
@@ -60,7 +56,7 @@ module _ (plan : Ports) (is : IsPlan plan) (capacities : List ℕ) (s : SwitchSt
   same_thing : (a b : Thing) → Some a ≡ Some b → a ≡ b
   same_thing a b e = cc
 
-  pub stands-for : (objects : Objects) (k : Key) (row : Row) (e : Entry Rid) → s.objects ≡ objects → s.machine.board.applied k ≡ Some row → StandsForRow plan objects k row e → StandsFor plan k e s.machine
+  pub stands-for : (objects : Objects) (k : Key) (row : Row) (e : Entry Rid) → s.objects ≡ objects → s.machine.board.applied k ≡ Some row → StandsForRow plan objects k row e → EntryStandsFor plan k e s.machine
   stands-for objects k row e same at x =
       let laid = safe.laid in
       let owner = laid.tied e x.body (subst (λ o. body_at o e ≡ Some x.body) (sym same) x.there) in

@@ -29,7 +29,7 @@ use Rattle.machine_laws.specs.Logged.{AreListed, ListsKey}
 use Rattle.machine_laws.specs.Settling.{situation}
 use Rattle.machine_laws.proofs.Deciding.{IsDecided}
 use Rattle.machine_laws.proofs.Dropping.{same-no_reason}
-use Rattle.machine_laws.proofs.Sharing.{key_in}
+use Rattle.machine_laws.proofs.Sharing.{key_listed_decided}
 use Rattle.core_laws.proofs.Resting.{none_flies}
 use Rattle.flight_board.specs.Board.{flown_at}
 use Rattle.warm_state.specs.declared.warm.Warm.TheVariants as warm
@@ -70,7 +70,7 @@ module _ (plan : Ports) (capacities : List ℕ) (s : SwitchState) where
 module _ (plan : Ports) (is : IsPlan plan) (capacities : List ℕ) (s : SwitchState) (safe : IsSafe plan 4 capacities s) (quiet : IsQuiet s) where
   -- a key with a reason to wait is to sync
   pub waits-synced : (k : Key) (w : Wait) → IsReason plan 4 capacities s k w → IsIn k s.to_sync
-  waits-synced k w reason = by (key_in k s.to_sync)
+  waits-synced k w reason = by (key_listed_decided k s.to_sync)
     where
       by : IsDecided (IsIn k s.to_sync) → IsIn k s.to_sync
       by (inl at) = at

@@ -27,18 +27,11 @@ use Rattle.session_laws.specs.Core.{CoreState, new_core, size_beside}
 use Rattle.session_laws.specs.Events.{MakesOne, MakesSome}
 use Rattle.session_laws.specs.Standing.{IsSessionOf}
 use Rattle.session_laws.proofs.Beginning.{new_stands}
+use Rattle.session_laws.proofs.Joining.{after_both, are_both}
 use Rattle.settling_laws.specs.Leading.{LeadsTo}
 use Rattle.round_laws.specs.Sessions.{HasComeAbout, InSession}
 
 -- ---- steps
-
-after_both : (s : LoggedService) (xs ys : List LoggedService) → session_after s (xs ++ ys) ≡ session_after (session_after s xs) ys
-after_both s [] ys = refl
-after_both s (x ∷ xs) ys = after_both x xs ys
-
-are_both : (plan : Ports) (capacities : List ℕ) (s : LoggedService) (xs ys : List LoggedService) → AreLoggedSteps plan 4 capacities s xs → AreLoggedSteps plan 4 capacities (session_after s xs) ys → AreLoggedSteps plan 4 capacities s (xs ++ ys)
-are_both plan capacities s [] ys a b = b
-are_both plan capacities s (x ∷ xs) ys a b = (a.0, are_both plan capacities x xs ys a.1 b)
 
 pub came-more : (plan : Ports) (capacities : List ℕ) (s : LoggedService) (ts : List LoggedService) → HasComeAbout plan capacities s → AreLoggedSteps plan 4 capacities s ts → HasComeAbout plan capacities (session_after s ts)
 came-more plan capacities s ts x run = record {

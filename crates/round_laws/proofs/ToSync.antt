@@ -1,6 +1,5 @@
 -- the keys to sync of a session were named by writes
-use Rattle.std.proofs.Common.{◌≡◌, ◌∷◌, ◌++◌, ◌∙◌, inl, inr, ℕ, List, [], length, map, Option, None, Some, refl, sym, ap, subst, arith}
-use Rattle.std.proofs.lemmas.List.{length-append}
+use Rattle.std.proofs.Common.{◌≡◌, ◌∷◌, ◌++◌, ◌∙◌, inl, inr, ℕ, List, [], map, Option, None, Some, refl, sym, ap, subst}
 use Rattle.table_schema.specs.Plan.{IsPlan, Ports}
 use Rattle.table_schema.specs.declared.key.Key.{Key}
 use Rattle.table_schema.specs.declared.row.Row.{Row}
@@ -19,6 +18,7 @@ use Rattle.switch_machine.specs.Written.{HasNoWrite, HasWrittenRows, Written, go
 use Rattle.switch_machine.proofs.Splits.{IsSplit, key_split}
 use Rattle.machine_laws.specs.Logged.{IsLoggedEvent}
 use Rattle.machine_laws.proofs.Sharing.{fields_beside, written-once}
+use Rattle.machine_laws.proofs.Unnamed.{one_more_differs}
 use Rattle.restart_laws.specs.Logged.{AddsFault, AreLoggedSteps, IsLoggedStep, LoggedService, OfMachine, OfService, Records, new_session, session_after, switch_of}
 use Rattle.restart_laws.specs.Restored.{keys_waiting}
 use Rattle.restart_laws.specs.Service.{IsServiceEvent, OfApply, OfFault, OfFinish, OfList, OfListFault, OfRestart, OfRestore, OfTake, OfWork, Restores}
@@ -71,12 +71,15 @@ named_less known s t taken written fewer h = record {
   waiting = λ k some. h.waiting k (λ none. some (subst (λ z. HasNoWrite z k) (sym written) none));
 }
 
-one_more : {A : Type 0} (xs : List A) (x : A) → xs ++ x ∷ [] ≡ xs → ⊥
-one_more xs x h = absurd (omega (arith, ap length h, length-append xs (x ∷ [])))
+pub not_suspect : (w : Warm) → w ≡ warm.Reconciled → w ≡ warm.Suspect → ⊥
+not_suspect w a b = two (sym a ∙ b)
+  where
+    two : warm.Reconciled ≡ warm.Suspect → ⊥
+    two e = cc
 
 module _ (plan : Ports) (capacities : List ℕ) where
   named_event : (s t : SwitchState) (taken : List Sent) (c : Option (Call Rid)) → IsEvent plan 4 capacities s c t → t.written.taken ≡ s.written.taken → AreNamed (Unit {0}) s taken → AreNamed (Unit {0}) t taken
-  named_event s t taken None (inl x) same h = absurd (one_more s.written.taken x.write (sym x.taken.taken ∙ same))
+  named_event s t taken None (inl x) same h = absurd (one_more_differs s.written.taken x.write (sym x.taken.taken ∙ same))
   named_event s t taken None (inr (inl x)) same h = named_pop s t taken x h
   named_event s t taken None (inr (inr (inl x))) same h = named_less (Unit {0}) s t taken x.written x.to_sync.only h
   named_event s t taken None (inr (inr (inr x))) same h = named_less (Unit {0}) s t taken x.written x.to_sync.only h
@@ -93,12 +96,6 @@ module _ (plan : Ports) (capacities : List ℕ) where
 
   by_log : (known : Type 0) (s : SwitchState) (log log' : History) → log' ≡ log → AreNamed known s log.taken → AreNamed known s log'.taken
   by_log known s log log' same h = subst (λ z. AreNamed known s z.taken) (sym same) h
-
-  not_suspect : (w : Warm) → w ≡ warm.Reconciled → w ≡ warm.Suspect → ⊥
-  not_suspect w a b = two (sym a ∙ b)
-    where
-      two : warm.Reconciled ≡ warm.Suspect → ⊥
-      two e = cc
 
   named_machine : (s t : LoggedService) → s.service.warm ≡ warm.Reconciled → t.service.warm ≡ warm.Reconciled → IsLoggedEvent plan 4 capacities (switch_of s) (switch_of t) → AreNamedIn s → AreNamedIn t
   named_machine s t before after e h = weaker (Unit {0}) (IsKnown t) t.service.core t.log.taken (λ v. tt) (by e)

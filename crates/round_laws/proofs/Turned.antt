@@ -25,7 +25,7 @@ use Rattle.machine_laws.specs.Settling.{IsSituationOf, situation}
 use Rattle.machine_laws.proofs.Deciding.{IsDecided}
 use Rattle.machine_laws.proofs.Logging.{settling-calls, settling-good, settling-keys}
 use Rattle.machine_laws.proofs.Rows.{thing_same}
-use Rattle.machine_laws.proofs.Sharing.{key_in}
+use Rattle.machine_laws.proofs.Sharing.{key_listed_decided}
 use Rattle.restart_laws.specs.Logged.{switch_of}
 use Rattle.sync_tables.specs.Tables.{IsToSync}
 use Rattle.flight_board.specs.Applied.{row_at}
@@ -152,7 +152,7 @@ module _ (old c c' : CoreState) (chip chip' : ChipState) (sent : List Sent) (x :
   keys k = settling-keys plan 4 room s (switch_of y.later) y.settling k
 
   tried : (k : Key) → IsIn k y.settling.keys → IsToTry the-round k
-  tried k i = by (key_in k (keys_named sent))
+  tried k i = by (key_listed_decided k (keys_named sent))
     where
       by : IsDecided (IsIn k (keys_named sent)) → IsToTry the-round k
       by (inl named) = inr named

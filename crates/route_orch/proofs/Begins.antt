@@ -47,13 +47,13 @@ route_places n = 0 ∷ 0 ∷ 0 ∷ 0 ∷ 0 ∷ 0 ∷ 0 ∷ 0 ∷ 0 ∷ 0 ∷ n �
 abbrev group_places : List Hop → ℕ → List ℕ
 group_places hops n = 0 ∷ 0 ∷ 0 ∷ 0 ∷ 0 ∷ 0 ∷ 0 ∷ 0 ∷ 1 ∷ length hops ∷ n ∷ []
 
-counted : (hops : List Hop) (n : ℕ) → 0 ∷ 0 ∷ 0 ∷ 0 ∷ 0 ∷ 0 ∷ 0 ∷ 0 ∷ 1 ∷ (0 + (length hops + 0)) ∷ n ∷ [] ≡ group_places hops n
-counted hops n = ap (λ m. 0 ∷ 0 ∷ 0 ∷ 0 ∷ 0 ∷ 0 ∷ 0 ∷ 0 ∷ 1 ∷ m ∷ n ∷ []) (omega arith)
+group_counted : (hops : List Hop) (n : ℕ) → 0 ∷ 0 ∷ 0 ∷ 0 ∷ 0 ∷ 0 ∷ 0 ∷ 0 ∷ 1 ∷ (0 + (length hops + 0)) ∷ n ∷ [] ≡ group_places hops n
+group_counted hops n = ap (λ m. 0 ∷ 0 ∷ 0 ∷ 0 ∷ 0 ∷ 0 ∷ 0 ∷ 0 ∷ 1 ∷ m ∷ n ∷ []) (omega arith)
 
 set_group : (hops : List Hop) (t u : Thing) → places_for (make_all (shared_things (Group hops)) (set_to t u [])) ≡ group_places hops 0
 set_group hops t u =
     places-built hops (set_to t u [])
-    ∙ (elim (same_thing t u) as (λ b. map (λ k. cond (level kind.Group == level k) 1 0 + (cond (level kind.GroupMember == level k) (length hops) 0 + makes k (if b then [] else Set u ∷ []))) kinds ≡ group_places hops 0) [ true ↦ counted hops 0 | false ↦ counted hops 0 ])
+    ∙ (elim (same_thing t u) as (λ b. map (λ k. cond (level kind.Group == level k) 1 0 + (cond (level kind.GroupMember == level k) (length hops) 0 + makes k (if b then [] else Set u ∷ []))) kinds ≡ group_places hops 0) [ true ↦ group_counted hops 0 | false ↦ group_counted hops 0 ])
 
 by_state : (s : NameState) (hops : List Hop) (applied : Bool) (own : List Change) → places_for own ≡ route_places (if applied then 0 else 1) → places_for (make_all (shared_things (Group hops)) own) ≡ group_places hops (if applied then 0 else 1) → places_for (built_first (absent_or (Group hops) s None) own) ≡ places_needed (is_absent s) (Some (name.Group hops)) applied
 by_state state.Absent hops applied own plain built = built
@@ -75,7 +75,7 @@ module _ (plan : Ports) (names : Names) (group : Option Name) (groups : AreGroup
   places (key.Route p) None (row.Route r) is of_old fits shares =
       ap (λ us. places_for (built_first (first_absent names us) (own_changes plan (key.Route p) None (Some (row.Route r))))) shares
       ∙ ap (λ o. places_for (built_first (first_absent names (owners_of group)) (make_all (from o (λ g. thing.Route p g ∷ [])) []))) fits.1.1
-      ∙ by_group names group false (Make (thing.Route p fits.1.0) ∷ []) groups refl (λ hops. places-built hops (Make (thing.Route p fits.1.0) ∷ []) ∙ counted hops 1)
+      ∙ by_group names group false (Make (thing.Route p fits.1.0) ∷ []) groups refl (λ hops. places-built hops (Make (thing.Route p fits.1.0) ∷ []) ∙ group_counted hops 1)
   places (key.Route p) (Some (row.Route a)) (row.Route r) is of_old fits shares =
       let was = (of_old (row.Route a) refl).1 in
       ap (λ us. places_for (built_first (first_absent names us) (own_changes plan (key.Route p) (Some (row.Route a)) (Some (row.Route r))))) shares

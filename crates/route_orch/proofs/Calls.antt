@@ -37,16 +37,16 @@ use Rattle.orch_flight.specs.Operation.{Operation}
 use Rattle.orch_flight.specs.Sharing.{owner_for}
 use Rattle.route_orch.specs.Targets.{PointsTo, goal_at, goal_with}
 use Rattle.route_orch.specs.Routes.{Matches, group_hops, group_owners, route_operation}
-use Rattle.route_orch.specs.declared.flight.Step.{Step}
-use Rattle.route_orch.specs.declared.flight.Step.TheVariants as step
+use Rattle.route_orch.specs.declared.flight.RouteStep.{RouteStep}
+use Rattle.route_orch.specs.declared.flight.RouteStep.TheVariants as step
 use Rattle.route_orch.specs.declared.target.Target.{Target}
 use Rattle.route_orch.specs.declared.target.Way.{Way}
 use Rattle.route_orch.specs.declared.target.Way.TheVariants as way
 use Rattle.route_orch.proofs.Goals.{goal-same, goal_uses, to-at, uses-goal}
 
 -- a route's operation, from what its fields are known to be
-pub told : (f : Operation) (w : ℕ) (p : Prefix) (applied wanted wanted' : Option RouteRow) (t : Target) (s s' : Step) (leaves retires : Option Name) → route_operation w p applied wanted t s leaves retires ≡ f → s ≡ s' → wanted ≡ wanted' → f ≡ route_operation w p applied wanted' t s' leaves retires
-told f w p applied wanted wanted' t s s' leaves retires is at has =
+pub route_operation_told : (f : Operation) (w : ℕ) (p : Prefix) (applied wanted wanted' : Option RouteRow) (t : Target) (s s' : RouteStep) (leaves retires : Option Name) → route_operation w p applied wanted t s leaves retires ≡ f → s ≡ s' → wanted ≡ wanted' → f ≡ route_operation w p applied wanted' t s' leaves retires
+route_operation_told f w p applied wanted wanted' t s s' leaves retires is at has =
     sym is ∙ ap (λ z. route_operation w p applied wanted t z leaves retires) at ∙ ap (λ z. route_operation w p applied z t s' leaves retires) has
 
 in-first : {X : Type 0} (x : X) (xs ys : List X) → IsIn x xs → IsIn x (xs ++ ys)
@@ -68,13 +68,13 @@ is_route (thing.NextHop hop) p is = absurd cc
 is_route (thing.Group hops) p is = absurd cc
 is_route (thing.GroupMember hops hop) p is = absurd cc
 
-no_second : (at : thing_name.Name → Vid → Type 0) (g : Goal) (v : Vid) → IsAt at (second_of (goal_names g)) v
+no_second : (at : thing_name.ThingName → Vid → Type 0) (g : Goal) (v : Vid) → IsAt at (second_of (goal_names g)) v
 no_second at goal.Drop v = tt
 no_second at (goal.Direct b) v = tt
 no_second at (goal.Via hop) v = tt
 no_second at (goal.Group hops) v = tt
 
-any_first : (p : Prefix) (at : thing_name.Name → Vid → Type 0) (g : Goal) (v : Vid) → IsBody (λ n w. IsEnteredBy (thing.Route p g) → at n w) (thing.Route p g) (body.Route p (to_with g v))
+any_first : (p : Prefix) (at : thing_name.ThingName → Vid → Type 0) (g : Goal) (v : Vid) → IsBody (λ n w. IsEnteredBy (thing.Route p g) → at n w) (thing.Route p g) (body.Route p (to_with g v))
 any_first p at g v = record { first = v; second = v; first_at = by g; second_at = no_second (λ n w. IsEnteredBy (thing.Route p g) → at n w) g v; body_is = refl }
   where
     by : (h : Goal) → IsAt (λ n w. IsEnteredBy (thing.Route p g) → at n w) (first_of (goal_names h)) v
@@ -84,7 +84,7 @@ any_first p at g v = record { first = v; second = v; first_at = by g; second_at 
     by (goal.Group hops) = λ e. elim e [ ]
 
 -- the entry of a route is its prefix
-route_entry : (p : Prefix) (at : thing_name.Name → Vid → Type 0) (t : Thing) → name_of t ≡ thing_name.Route p → IsEntryOf at t (entry.Route p)
+route_entry : (p : Prefix) (at : thing_name.ThingName → Vid → Type 0) (t : Thing) → name_of t ≡ thing_name.Route p → IsEntryOf at t (entry.Route p)
 route_entry p at t is =
     let (g, same) = is_route t p is in
     subst (λ z. IsEntryOf at z (entry.Route p)) (sym same) (record { body = body.Route p (to_with g (record { 0 = 0 })); of = any_first p at g (record { 0 = 0 }); id = record { 0 = 0 }; numbered = λ h. absurd (false≢true h); is = refl })
@@ -102,7 +102,7 @@ module _ (plan : Ports) (p : Prefix) where
       subst (λ o. IsIn (thing.Route p g) (shared_things o)) (sym same) h
 
   module _ (w : ℕ) (applied : Option RouteRow) (t : Target) (leaves retires : Option Name) where
-    abbrev Stage : Step → Option RouteRow → Operation
+    abbrev Stage : RouteStep → Option RouteRow → Operation
     Stage s wanted = route_operation w p applied wanted t s leaves retires
 
     made_goal : (wanted : Option RouteRow) → IsOver plan (Stage step.Make wanted) → (r : RouteRow) × (wanted ≡ Some r) × (goal_of plan r ≡ Some (goal_at t))
@@ -146,7 +146,7 @@ module _ (plan : Ports) (p : Prefix) where
     goal_group : (wanted : Option RouteRow) → (r : RouteRow) × (wanted ≡ Some r) × (goal_of plan r ≡ Some (goal_at t)) → uses_of plan (key.Route p) (option_map row.Route wanted) ≡ group_owners (group_hops t.group)
     goal_group wanted (r, has, at) = ap (λ o. uses_of plan (key.Route p) (option_map row.Route o)) has ∙ uses-goal plan r (goal_at t) at ∙ group_known t.group t.way
 
-    by_step : (s : Step) (wanted : Option RouteRow) → Matches s wanted t.group → IsOver plan (Stage s wanted) → ((Stage s wanted).due ≡ [] → ⊥) → uses_of plan (key.Route p) (option_map row.Route wanted) ≡ group_owners (group_hops t.group)
+    by_step : (s : RouteStep) (wanted : Option RouteRow) → Matches s wanted t.group → IsOver plan (Stage s wanted) → ((Stage s wanted).due ≡ [] → ⊥) → uses_of plan (key.Route p) (option_map row.Route wanted) ≡ group_owners (group_hops t.group)
     by_step step.Make wanted matches over some = goal_group wanted (made_goal wanted over)
     by_step step.Set wanted matches over some = goal_group wanted (set_goal wanted over)
     by_step step.Take wanted (none, apart) over some = ap (λ o. uses_of plan (key.Route p) (option_map row.Route o)) none ∙ ap (λ o. group_owners (group_hops o)) (sym apart)
@@ -154,7 +154,7 @@ module _ (plan : Ports) (p : Prefix) where
     by_step step.Ended wanted matches over some = absurd (some refl)
 
     -- the group that the new row has
-    pub group-over : (s : Step) (wanted : Option RouteRow) (f : Operation) → Stage s wanted ≡ f → Matches s wanted t.group → IsOver plan f → (f.due ≡ [] → ⊥) → uses_of plan f.key f.new ≡ group_owners (group_hops t.group)
+    pub group-over : (s : RouteStep) (wanted : Option RouteRow) (f : Operation) → Stage s wanted ≡ f → Matches s wanted t.group → IsOver plan f → (f.due ≡ [] → ⊥) → uses_of plan f.key f.new ≡ group_owners (group_hops t.group)
     group-over s wanted f is matches = subst (λ z. IsOver plan z → (z.due ≡ [] → ⊥) → uses_of plan z.key z.new ≡ group_owners (group_hops t.group)) is (by_step s wanted matches)
 
     module _ (names : Names) (r : RouteRow) (x : To Vid) (to : PointsTo names r (goal_at t) x) where

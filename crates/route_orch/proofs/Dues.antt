@@ -26,7 +26,7 @@ use Rattle.orch_flight.specs.Sharing.{owners_of}
 use Rattle.orch_flight.specs.Starting.{built_here, first_left, leaving}
 use Rattle.route_orch.specs.Targets.{AreGroups, IsTargetOf, goal_at}
 use Rattle.route_orch.specs.Routes.{first_step, route_due}
-use Rattle.route_orch.specs.declared.flight.Step.TheVariants as step
+use Rattle.route_orch.specs.declared.flight.RouteStep.TheVariants as step
 use Rattle.route_orch.specs.declared.target.Target.{Target}
 use Rattle.route_orch.proofs.Goals.{goal-same, goal_uses, target-goal, uses-goal}
 
@@ -42,9 +42,9 @@ fit-goal plan p (Some r) fits = (fits (row.Route r) refl).1
 same_route : (p : Prefix) (a b : Goal) → same_thing (thing.Route p a) (thing.Route p b) ≡ goal_eq.ghosts.eq a b
 same_route p a b = ap (λ x. x && goal_eq.ghosts.eq a b) (and_parts (prefix_eq.ghosts.eq p p) (goal_eq.ghosts.eq a a) (equal_thing.laws-law.refl (thing.Route p a))).0
 
-set_by : (p : Prefix) (g : Goal) (b : Bool) → (if b then [] else Set (thing.Route p g) ∷ []) ≡ route_due (if b then step.Ended else step.Set) p g
-set_by p g true = refl
-set_by p g false = refl
+due_by_set : (p : Prefix) (g : Goal) (b : Bool) → (if b then [] else Set (thing.Route p g) ∷ []) ≡ route_due (if b then step.Ended else step.Set) p g
+due_by_set p g true = refl
+due_by_set p g false = refl
 
 module _ (plan : Ports) (p : Prefix) where
   -- the changes of the route itself
@@ -56,7 +56,7 @@ module _ (plan : Ports) (p : Prefix) where
   own-due (Some a) (Some r) was target (g, is) (h, to) of_was of_target =
       ap₂ (λ x y. set_all (from x (λ g. thing.Route p g ∷ [])) (from y (λ g. thing.Route p g ∷ []))) is to
       ∙ ap (λ b. if b then [] else Set (thing.Route p h) ∷ []) (same_route p g h)
-      ∙ set_by p h (goal_eq.ghosts.eq g h)
+      ∙ due_by_set p h (goal_eq.ghosts.eq g h)
       ∙ ap₂ (λ g h. route_due (if goal_eq.ghosts.eq g h then step.Ended else step.Set) p h) (sym (target-goal plan p a was g of_was is)) (sym (target-goal plan p r target h of_target to))
 
   left_none : (g : Goal) → first_left (goal_uses g) (goal_uses g) ≡ None

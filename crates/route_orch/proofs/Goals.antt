@@ -3,6 +3,7 @@ use Rattle.std.proofs.Common.{◌≡◌, inl, inr, List, [], ◌∷◌, Option, 
 use Rattle.std.specs.BTreeSet.{insert_key}
 use Rattle.std.proofs.lemmas.Option.{none-some, same_Some}
 use Rattle.swss_types.specs.declared.address.Prefix.{Prefix}
+use Rattle.swss_types.proofs.Proper.{mapped}
 use Rattle.table_schema.specs.Plan.{IsPlan, Ports}
 use Rattle.table_schema.specs.declared.key.Key.TheVariants as key
 use Rattle.table_schema.specs.declared.row.Row.TheVariants as row
@@ -17,7 +18,6 @@ use Rattle.sai_types.specs.declared.body.To.{To}
 use Rattle.sai_types.specs.declared.thing.Goal.{Goal}
 use Rattle.sai_types.specs.declared.thing.Goal.TheVariants as goal
 use Rattle.sai_types.specs.declared.thing.Thing.TheVariants as thing
-use Rattle.sai_types.proofs.Keys.{mapped}
 use Rattle.sai_types.proofs.Rising.{hop_exact, hop_total, in-insert}
 use Rattle.chip_layout.specs.Bodies.{IsAt, goal_name, to_with}
 use Rattle.switch_model.specs.Things.{base_of, hop_of, hops_of}
@@ -47,10 +47,10 @@ single l x hop is h = by (subst (IsIn x) (same_Some l (hop ∷ []) is) h)
     by (inr h) = elim h [ ]
 
 -- where the hops of a row are one hop, the first is that
-first_by : (o : Option (List Hop)) (p : Option Hop) (hop : Hop) → both (insert_key hop_cmp) o p ≡ Some (hop ∷ []) → p ≡ Some hop
-first_by None p hop h = absurd (none-some (hop ∷ []) h)
-first_by (Some l) None hop h = absurd (none-some (hop ∷ []) h)
-first_by (Some l) (Some x) hop h = ap Some (single (insert_key hop_cmp l x) x hop h (in-insert hop_cmp hop_total hop_exact l x))
+first_hop_by : (o : Option (List Hop)) (p : Option Hop) (hop : Hop) → both (insert_key hop_cmp) o p ≡ Some (hop ∷ []) → p ≡ Some hop
+first_hop_by None p hop h = absurd (none-some (hop ∷ []) h)
+first_hop_by (Some l) None hop h = absurd (none-some (hop ∷ []) h)
+first_hop_by (Some l) (Some x) hop h = ap Some (single (insert_key hop_cmp l x) x hop h (in-insert hop_cmp hop_total hop_exact l x))
 
 hops_use : (o : Option (List Hop)) (g : Goal) → goal_by o ≡ Some g → group_by o ≡ goal_uses g
 hops_use None g e = absurd (none-some g e)
@@ -78,7 +78,7 @@ way_by : (plan : Ports) (h : RowHop) (hs : List RowHop) (o : Option (List Hop)) 
 way_by plan h hs None g at e none = absurd (none-some g e)
 way_by plan h hs (Some []) g at e none = absurd (none-some g e)
 way_by plan h hs (Some (hop ∷ [])) g at e none =
-    let m = mapped (λ b. record { on = b; ip = h.ip }) (base_of plan h.on) hop (first_by (hops_of plan hs) (hop_of plan h) hop at) in
+    let m = mapped (λ b. record { on = b; ip = h.ip }) (base_of plan h.on) hop (first_hop_by (hops_of plan hs) (hop_of plan h) hop at) in
     ap (λ o. way_goal (way_on (λ b. way.Via (record { on = b; ip = h.ip })) o)) m.1 ∙ ap goal.Via m.2 ∙ same_Some (goal.Via hop) g e
 way_by plan h hs (Some (hop ∷ more ∷ hops)) g at e none = cc
 
@@ -107,7 +107,7 @@ module _ (plan : Ports) (names : Names) (x : To Vid) (is : IsPlan plan) where
   first_at : (hops : List RowHop) (hop : Hop) → hops_of plan hops ≡ Some (hop ∷ []) → IsToFirst names hops x → IsTarget (goal.Via hop)
   first_at [] hop at p = absurd cc
   first_at (h ∷ hs) hop at (v, known, same) =
-      let m = mapped (λ b. record { on = b; ip = h.ip }) (base_of plan h.on) hop (first_by (hops_of plan hs) (hop_of plan h) hop at) in
+      let m = mapped (λ b. record { on = b; ip = h.ip }) (base_of plan h.on) hop (first_hop_by (hops_of plan hs) (hop_of plan h) hop at) in
       (v, subst (λ (z : Hop). row_vid names (option_map (λ on. key.Neigh on z.ip) (interface_on plan z.on)) ≡ Some v) m.2 (ap (λ o. row_vid names (option_map (λ on. key.Neigh on h.ip) o)) (interface_by plan is h.on m.0 m.1) ∙ known), same)
 
   hops_at : (hops : List RowHop) (o : Option (List Hop)) (g : Goal) → hops_of plan hops ≡ o → goal_by o ≡ Some g → PointsTo names (route.Hops hops) g x → IsTarget g

@@ -18,8 +18,8 @@ use Rattle.orch_flight.specs.Operation.{Operation}
 use Rattle.orch_flight.specs.Sharing.{owner_for, owners_of}
 use Rattle.orch_flight.specs.Starting.{first_left}
 use Rattle.route_orch.specs.Targets.{AreGroups, goal_at}
-use Rattle.route_orch.specs.declared.flight.Step.{Step}
-use Rattle.route_orch.specs.declared.flight.Step.TheVariants as step
+use Rattle.route_orch.specs.declared.flight.RouteStep.{RouteStep}
+use Rattle.route_orch.specs.declared.flight.RouteStep.TheVariants as step
 use Rattle.route_orch.specs.declared.target.Target.{Target}
 
 -- the places for a group that is built, and for a route where none is applied
@@ -28,7 +28,7 @@ places_needed true (Some (name.Group hops)) applied = 0 ∷ 0 ∷ 0 ∷ 0 ∷ 0 
 places_needed builds group applied = 0 ∷ 0 ∷ 0 ∷ 0 ∷ 0 ∷ 0 ∷ 0 ∷ 0 ∷ 0 ∷ 0 ∷ (if applied then 0 else 1) ∷ []
 
 -- the change that a step is
-abbrev pub route_due : Step → Prefix → Goal → List Change
+abbrev pub route_due : RouteStep → Prefix → Goal → List Change
 route_due step.Make prefix g = Make (thing.Route prefix g) ∷ []
 route_due step.Set prefix g = Set (thing.Route prefix g) ∷ []
 route_due step.Take prefix g = Take (thing_name.Route prefix) ∷ []
@@ -36,15 +36,15 @@ route_due step.Changed prefix g = []
 route_due step.Ended prefix g = []
 
 -- the row for which the route stands
-abbrev pub stands_for : Step → Option RouteRow → Option RouteRow → Option RouteRow
+abbrev pub stands_for : RouteStep → Option RouteRow → Option RouteRow → Option RouteRow
 stands_for step.Changed old new = new
 stands_for _ old new = old
 
-abbrev pub route_operation : ℕ → Prefix → Option RouteRow → Option RouteRow → Target → Step → Option Name → Option Name → Operation
+abbrev pub route_operation : ℕ → Prefix → Option RouteRow → Option RouteRow → Target → RouteStep → Option Name → Option Name → Operation
 route_operation worker prefix old new target s leaves retires = record { worker = worker; key = key.Route prefix; now = option_map row.Route (stands_for s old new); new = option_map row.Route new; due = route_due s prefix (goal_at target); leaves = option_map owner_for leaves; retires = option_map owner_for retires }
 
 -- the first step: a route whose target stays needs none
-abbrev pub first_step : Option RouteRow → Option RouteRow → Target → Target → Step
+abbrev pub first_step : Option RouteRow → Option RouteRow → Target → Target → RouteStep
 first_step None None was target = step.Ended
 first_step None (Some r) was target = step.Make
 first_step (Some a) None was target = step.Take
@@ -55,17 +55,17 @@ abbrev pub first_operation : ℕ → Prefix → Option RouteRow → Option Route
 first_operation worker prefix old new was target = record { worker = worker; key = key.Route prefix; now = option_map row.Route old; new = option_map row.Route new; due = route_due (first_step old new was target) prefix (goal_at target); leaves = first_left (owners_of target.group) (owners_of was.group); retires = None }
 
 -- the step after one
-abbrev pub later_step : Step → Step
+abbrev pub later_step : RouteStep → RouteStep
 later_step step.Set = step.Changed
 later_step _ = step.Ended
 
 -- where the route is to go there is no new row, and no group
-abbrev pub Matches : Step → Option RouteRow → Option Name → Type 0
+abbrev pub Matches : RouteStep → Option RouteRow → Option Name → Type 0
 Matches step.Take new group = (new ≡ None) × (group ≡ None)
 Matches s new group = Unit {0}
 
 -- what the route is part of are groups
-pub record IsRouteKept (s : Step) (new : Option RouteRow) (group left going : Option Name) : Type 0 where
+pub record IsRouteKept (s : RouteStep) (new : Option RouteRow) (group left going : Option Name) : Type 0 where
   pub has : AreGroups group
   pub leaves : AreGroups left
   pub retires : AreGroups going

@@ -25,7 +25,7 @@ use table_schema::{Key, PortPlan, RouteRow, Row};
 
 /// How far a route's operation is.
 #[derive(Clone, Copy, Debug, PartialEq, Eq)]
-enum Step {
+enum RouteStep {
     /// The route is to be made.
     Make,
     /// Its target is to be set.
@@ -48,7 +48,7 @@ pub struct RouteFlight {
     applied: Option<RouteRow>,
     wanted: Option<RouteRow>,
     target: Target,
-    step: Step,
+    step: RouteStep,
     // the group that it has still to leave, and the one that it takes away since it left it last
     leaves: Option<Name>,
     retires: Option<Name>,
@@ -152,17 +152,17 @@ impl RouteFlight {
         ensures { IfOk result (λ next. (plan : Ports) → IsOver plan self.now → IsNextOf plan reg.now self.now next) }
     {
         match (self.step, &self.wanted) {
-            (Step::Make, Some(row)) => Ok(Next::Call(Call::Create(Body::Route {
+            (RouteStep::Make, Some(row)) => Ok(Next::Call(Call::Create(Body::Route {
                 prefix: self.prefix,
                 to: self.target.to(reg, row),
             }))),
-            (Step::Set, Some(row)) => {
+            (RouteStep::Set, Some(row)) => {
                 let to = self.target.to(reg, row);
                 Ok(Next::Call(Call::Set(Entry::Route(self.prefix), Attr::To(to))))
             }
-            (Step::Take, _) => Ok(Next::Call(Call::Remove(Entry::Route(self.prefix)))),
-            (Step::Make | Step::Set, None) => Ok(Next::End),
-            (Step::Changed | Step::Ended, _) => Ok(Next::End),
+            (RouteStep::Take, _) => Ok(Next::Call(Call::Remove(Entry::Route(self.prefix)))),
+            (RouteStep::Make | RouteStep::Set, None) => Ok(Next::End),
+            (RouteStep::Changed | RouteStep::Ended, _) => Ok(Next::End),
         }
     }
 
@@ -183,8 +183,8 @@ impl RouteFlight {
         ensures { IsTrue result ↔ (self.now.due ≡ []) }
     {
         match self.step {
-            Step::Make | Step::Set | Step::Take => false,
-            Step::Changed | Step::Ended => true,
+            RouteStep::Make | RouteStep::Set | RouteStep::Take => false,
+            RouteStep::Changed | RouteStep::Ended => true,
         }
     }
 
@@ -212,32 +212,32 @@ fn first_step(
     wanted: &Option<RouteRow>,
     was: &Target,
     target: &Target,
-) -> Step
+) -> RouteStep
     requires was { AreGroups was.now.group }
     requires target { AreGroups target.now.group }
     ensures { result ≡ first_step applied.now wanted.now was.now target.now }
 {
     match (applied, wanted) {
-        (None, None) => Step::Ended,
-        (None, Some(_)) => Step::Make,
-        (Some(_), None) => Step::Take,
+        (None, None) => RouteStep::Ended,
+        (None, Some(_)) => RouteStep::Make,
+        (Some(_), None) => RouteStep::Take,
         (Some(_), Some(_)) => {
             if was.is(target) {
-                Step::Ended
+                RouteStep::Ended
             } else {
-                Step::Set
+                RouteStep::Set
             }
         }
     }
 }
 
 /// The step after one.
-fn later_step(step: Step) -> Step
+fn later_step(step: RouteStep) -> RouteStep
     ensures { result ≡ later_step step }
 {
     match step {
-        Step::Set => Step::Changed,
-        _ => Step::Ended,
+        RouteStep::Set => RouteStep::Changed,
+        _ => RouteStep::Ended,
     }
 }
 

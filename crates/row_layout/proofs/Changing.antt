@@ -1,8 +1,8 @@
 -- equal rows make no change
-use Rattle.std.proofs.Common.{◌≡◌, inl, inr, Bool, true, false, ◌||◌, List, [], ◌∷◌, ◌++◌, Some, if◌then◌else◌, refl, sym, ap, ◌∙◌}
+use Rattle.std.proofs.Common.{◌≡◌, inl, inr, Bool, true, ◌||◌, List, [], ◌∷◌, ◌++◌, Some, if◌then◌else◌, refl, sym, ap, ◌∙◌}
 use Rattle.std.specs.Cmp.{eq_by_cmp_equiv}
 use Rattle.std.specs.List.{list_any}
-use Rattle.std.proofs.lemmas.Bool.{eq-eqb}
+use Rattle.std.proofs.lemmas.Bool.{eq-eqb, or_right}
 use Rattle.swss_types.specs.contracts.address.IpEq.TheImpl.Laws as equal_ip
 use Rattle.table_schema.specs.Plan.{Ports}
 use Rattle.table_schema.specs.declared.key.Key.{Key}
@@ -37,19 +37,15 @@ owner_same (Bridge lane) = eq-eqb lane lane refl
 owner_same (Own ip) = equal_ip.laws-law.refl ip
 owner_same (Group hops) = equal_thing.laws-law.refl (thing.Group hops)
 
-or_true : (a b : Bool) → b ≡ true → (a || b) ≡ true
-or_true true b h = refl
-or_true false b h = h
-
 pub among : (o : Owner) (os : List Owner) → IsIn o os → list_any (same_owner o) os ≡ true
 among o [] h = elim h [ ]
 among o (p ∷ os) (inl is) = ap (λ b. b || list_any (same_owner o) os) (ap (same_owner o) (sym is) ∙ owner_same o)
-among o (p ∷ os) (inr h) = or_true (same_owner o p) (list_any (same_owner o) os) (among o os h)
+among o (p ∷ os) (inr h) = or_right (same_owner o p) (list_any (same_owner o) os) (among o os h)
 
 none_left : (used : Owner → Bool) (others os : List Owner) → ((o : Owner) → IsIn o os → list_any (same_owner o) others ≡ true) → unshared used others os ≡ []
 none_left used others [] f = refl
 none_left used others (o ∷ os) f =
-    ap (λ b. if b then unshared used others os else o ∷ unshared used others os) (or_true (used o) (list_any (same_owner o) others) (f o (inl refl)))
+    ap (λ b. if b then unshared used others os else o ∷ unshared used others os) (or_right (used o) (list_any (same_owner o) others) (f o (inl refl)))
     ∙ none_left used others os (λ p h. f p (inr h))
 
 pub changes-same : (plan : Ports) (k : Key) (r : Row) (used : Owner → Bool) → changes_of plan k (Some r) (Some r) used ≡ []

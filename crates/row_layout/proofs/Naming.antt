@@ -8,6 +8,7 @@ use Rattle.swss_types.specs.declared.address.Prefix.{Prefix}
 use Rattle.swss_types.specs.declared.tagging.Tagging.{Tagging}
 use Rattle.swss_types.specs.declared.interface.IfName.{IfName}
 use Rattle.swss_types.specs.declared.interface.IfName.TheVariants as on
+use Rattle.swss_types.proofs.Proper.{mapped}
 use Rattle.table_schema.specs.Names.{names_of}
 use Rattle.table_schema.specs.Plan.{Ports, IsPlan}
 use Rattle.table_schema.specs.declared.key.Key.{Key}
@@ -26,10 +27,9 @@ use Rattle.sai_types.specs.declared.thing.Thing.{Thing}
 use Rattle.sai_types.specs.declared.thing.Thing.TheVariants as thing
 use Rattle.sai_types.specs.Alike.{IsIn}
 use Rattle.sai_types.specs.Named.{hop_cmp}
-use Rattle.sai_types.proofs.Keys.{mapped}
 use Rattle.switch_model.specs.Things.{base_of, hop_of, hops_of, lane_of}
 use Rattle.sai_types.specs.Names as name
-use Rattle.sai_types.specs.Names.{Name, Refers, base_name, goal_names}
+use Rattle.sai_types.specs.Names.{ThingName, Refers, base_name, goal_names}
 use Rattle.sai_types.proofs.Rising.{hop_exact, hop_total, in-back}
 use Rattle.sai_types.proofs.Things.{both_mapped}
 use Rattle.row_layout.specs.Rows as owner
@@ -53,13 +53,13 @@ hop_from plan (x ∷ xs) group hop e h =
 
 module _ (plan : Ports) (is : IsPlan plan) where
   -- the owner of a name is not a row, or a row that is named, or the row itself
-  abbrev IsNamed : Key → Row → Name → Type 0
+  abbrev IsNamed : Key → Row → ThingName → Type 0
   IsNamed q r k = (p : Key) → owner_of plan k ≡ Some (owner.OfRow p) → IsIn p (names_of q r) ⊎ (p ≡ q)
 
   abbrev AreNamed : Key → Row → Thing → Type 0
-  AreNamed q r t = (k : Name) → Refers t k → IsNamed q r k
+  AreNamed q r t = (k : ThingName) → Refers t k → IsNamed q r k
 
-  by_owner : (q : Key) (r : Row) (k : Name) (p : Key) → owner_of plan k ≡ Some (owner.OfRow p) → IsIn p (names_of q r) → IsNamed q r k
+  by_owner : (q : Key) (r : Row) (k : ThingName) (p : Key) → owner_of plan k ≡ Some (owner.OfRow p) → IsIn p (names_of q r) → IsNamed q r k
   by_owner q r k p owns h other e = inl (subst (λ z. IsIn z (names_of q r)) (owners p other (sym owns ∙ e)) h)
 
   base_owner : (n : IfName) (b : Base) (r : Row) → base_of plan n ≡ Some b → IsNamed (key.Intf n) r (base_name b)
@@ -91,7 +91,7 @@ module _ (plan : Ports) (is : IsPlan plan) where
 
   -- what a goal refers to
   abbrev GoalIsNamed : Prefix → RouteRow → Goal → Type 0
-  GoalIsNamed prefix r g = (k : Name) → IsIn k (goal_names g) → IsNamed (key.Route prefix) (row.Route r) k
+  GoalIsNamed prefix r g = (k : ThingName) → IsIn k (goal_names g) → IsNamed (key.Route prefix) (row.Route r) k
 
   via_by : (prefix : Prefix) (hops : List RowHop) (o : Option (List Hop)) (g : Goal) → hops_of plan hops ≡ o → goal_by o ≡ Some g → GoalIsNamed prefix (route.Hops hops) g
   via_by prefix hops None g at e = λ k h. absurd cc

@@ -8,6 +8,7 @@ use Rattle.std.proofs.lemmas.Option.{same_Some}
 use Rattle.swss_types.specs.Lanes.{IsLaneList}
 use Rattle.swss_types.specs.declared.interface.IfName.{IfName}
 use Rattle.swss_types.specs.declared.interface.IfName.TheVariants as on
+use Rattle.swss_types.proofs.Proper.{mapped}
 use Rattle.table_schema.specs.Plan.{Ports, IsPlan, AreApart, has, has_lane, lanes_in_plan, port_named}
 use Rattle.table_schema.specs.declared.key.Key.{Key}
 use Rattle.table_schema.specs.declared.key.Key.TheVariants as key
@@ -20,7 +21,6 @@ use Rattle.sai_types.specs.declared.thing.Thing.{Thing}
 use Rattle.sai_types.specs.declared.thing.Thing.TheVariants as thing
 use Rattle.sai_types.specs.Alike.{IsIn}
 use Rattle.sai_types.specs.Named.{first_lane}
-use Rattle.sai_types.proofs.Keys.{mapped}
 use Rattle.switch_model.specs.Things.{base_of, lane_of, members_of}
 use Rattle.sai_types.specs.Names.{name_of}
 use Rattle.row_layout.specs.Rows as owner
@@ -44,15 +44,12 @@ named_by (q ∷ qs) p xs lists apart list h =
     (named_by qs p xs lists.1 apart.1 list)
     (λ g. planned_lane qs p xs (slice_index xs 0) g (has-first xs list)) h
 
-lane_list : (plan : Ports) (p : ℕ) (xs : List ℕ) → IsPlan plan → lanes_in_plan plan p ≡ Some xs → IsLaneList xs
-lane_list plan p xs is h = lanes-planned plan p xs is h
-
 module _ (plan : Ports) (is : IsPlan plan) where
   -- a port's first lane tells the port
   pub port_by : (p lane : ℕ) → lane_of plan p ≡ Some lane → port_named plan lane ≡ Some p
   port_by p lane h =
       let m = mapped first_lane (lanes_in_plan plan p) lane h in
-      ap (port_named plan) (sym m.2) ∙ named_by plan p m.0 is.lanes is.apart (lane_list plan p m.0 is m.1) m.1
+      ap (port_named plan) (sym m.2) ∙ named_by plan p m.0 is.lanes is.apart (lanes-planned plan p m.0 is m.1) m.1
 
   pub interface_by : (n : IfName) (b : Base) → base_of plan n ≡ Some b → interface_on plan b ≡ Some n
   interface_by (on.Ethernet p) b h =

@@ -95,11 +95,11 @@ group_split prefix group = with_one (thing.Route prefix (goal.Group group) ∷ [
     mine x (inl is) = inl is
     mine x (inr h) = elim h [ ]
 
-hops_split : (prefix : Prefix) (o : Option (List Hop)) → Splits (from_hops prefix o) (from (goal_by o) (λ g. thing.Route prefix g ∷ [])) (group_by o)
-hops_split prefix None = all_own []
-hops_split prefix (Some []) = all_own []
-hops_split prefix (Some (hop ∷ [])) = all_own (thing.Route prefix (goal.Via hop) ∷ [])
-hops_split prefix (Some (hop ∷ next ∷ more)) = group_split prefix (hop ∷ next ∷ more)
+from_hops_split : (prefix : Prefix) (o : Option (List Hop)) → Splits (from_hops prefix o) (from (goal_by o) (λ g. thing.Route prefix g ∷ [])) (group_by o)
+from_hops_split prefix None = all_own []
+from_hops_split prefix (Some []) = all_own []
+from_hops_split prefix (Some (hop ∷ [])) = all_own (thing.Route prefix (goal.Via hop) ∷ [])
+from_hops_split prefix (Some (hop ∷ next ∷ more)) = group_split prefix (hop ∷ next ∷ more)
 
 -- what a row stands for on the chip is its own, and what it uses
 pub things-split : (plan : Ports) (k : Key) (r : Row) → Splits (things_of plan k r) (own_things plan k r) (uses plan k r)
@@ -115,5 +115,5 @@ things-split plan (key.Route prefix) (row.Route (route.Direct n)) = direct (base
     direct : (o : Option Base) → Splits (from_base (λ b. thing.Route prefix (goal.Direct b) ∷ []) o) (from (option_map goal.Direct o) (λ g. thing.Route prefix g ∷ [])) []
     direct None = all_own []
     direct (Some b) = all_own (thing.Route prefix (goal.Direct b) ∷ [])
-things-split plan (key.Route prefix) (row.Route (route.Hops hops)) = hops_split prefix (hops_of plan hops)
+things-split plan (key.Route prefix) (row.Route (route.Hops hops)) = from_hops_split prefix (hops_of plan hops)
 things-split plan _ _ = all_own []

@@ -3,6 +3,7 @@ use Rattle.std.proofs.Common.{◌≡◌, Bool, true, false, cond, [], ◌∷◌,
 use Rattle.std.specs.BTreeMap.{is_at}
 use Rattle.swss_types.specs.declared.address.Family.TheVariants.{V4}
 use Rattle.swss_types.specs.declared.interface.IfName.TheVariants as on
+use Rattle.swss_types.proofs.Tied.{tied}
 use Rattle.table_schema.specs.Key.{key_cmp}
 use Rattle.table_schema.specs.Names.{names_of}
 use Rattle.table_schema.specs.Plan.{Ports}
@@ -16,7 +17,6 @@ use Rattle.sai_types.specs.Names as name
 use Rattle.switch_model.specs.Good.{TypedRows}
 use Rattle.switch_model.specs.Turns.{HasReason}
 use Rattle.switch_model.specs.declared.wait.Wait.TheVariants as wait
-use Rattle.switch_model.proofs.Tied.{tied}
 use Rattle.row_layout.specs.Due.{IsUsedBeside, OwesChange}
 use Rattle.row_layout.specs.Operations.{Take, changes_of}
 use Rattle.row_layout.specs.Rows.{Owner}

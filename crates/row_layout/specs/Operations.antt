@@ -11,7 +11,7 @@ use Rattle.table_schema.specs.declared.row.Row.TheVariants as row
 use Rattle.sai_types.specs.contracts.thing.ThingPartialEq.TheImpl as thing_eq
 use Rattle.sai_types.specs.declared.thing.Thing.{Thing}
 use Rattle.sai_types.specs.declared.thing.Thing.TheVariants as thing
-use Rattle.sai_types.specs.Names.{Name, name_of}
+use Rattle.sai_types.specs.Names.{ThingName, name_of}
 use Rattle.sai_types.specs.Refusal.{same_ip}
 use Rattle.switch_model.specs.Things.{base_of, members_of}
 use Rattle.row_layout.specs.Rows.{Owner, OfRow, Bridge, Own, Group, from, own_things}
@@ -21,7 +21,7 @@ use Rattle.row_layout.specs.Shared.{shared_things, uses}
 pub data Change : Type 0 where
   Make : Thing → Change
   Set : Thing → Change
-  Take : Name → Change
+  Take : ThingName → Change
 
 abbrev pub same_thing : Thing → Thing → Bool
 same_thing = thing_eq.ghosts.eq

@@ -18,7 +18,7 @@ use Rattle.sai_types.specs.declared.thing.Goal.TheVariants as goal
 use Rattle.sai_types.specs.declared.thing.Thing.{Thing}
 use Rattle.sai_types.specs.declared.thing.Thing.TheVariants as thing
 use Rattle.switch_model.specs.Things.{base_of, hops_of, lane_of}
-use Rattle.sai_types.specs.Names.{Name}
+use Rattle.sai_types.specs.Names.{ThingName}
 use Rattle.sai_types.specs.Names as name
 
 -- to whom an object belongs: a row, or a bridge port, an own address or a group that rows share
@@ -34,7 +34,7 @@ interface_on plan (base.Port lane) = option_map on.Ethernet (port_named plan lan
 interface_on plan (base.Vlan vlan) = Some (on.Vlan vlan)
 
 -- the owner of what has this name
-abbrev pub owner_of : Ports → Name → Option Owner
+abbrev pub owner_of : Ports → ThingName → Option Owner
 owner_of plan (name.Port lane) = option_map (λ p. OfRow (key.Port p)) (port_named plan lane)
 owner_of plan (name.Vlan vlan) = Some (OfRow (key.Vlan vlan))
 owner_of plan (name.BridgePort lane) = Some (Bridge lane)

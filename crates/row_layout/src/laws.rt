@@ -6,7 +6,7 @@ ghost use Rattle.table_schema.specs.declared.key.Key.{Key};
 ghost use Rattle.table_schema.specs.declared.row.Row.{Row};
 ghost use Rattle.sai_types.specs.declared.thing.Thing.{Thing};
 ghost use Rattle.sai_types.specs.Alike.{IsIn};
-ghost use Rattle.sai_types.specs.Names.{Name, Refers, name_of};
+ghost use Rattle.sai_types.specs.Names.{ThingName, Refers, name_of};
 ghost use Rattle.switch_model.specs.Things.{things_of};
 ghost use Rattle.row_layout.specs.Operations.{changes_of};
 ghost use Rattle.row_layout.specs.Rows.{Owner, OfRow, own_things, owner_of};
@@ -26,7 +26,7 @@ pub fn rows_have_their_things()
 
 /// What a row's own thing refers to belongs to a row that the row names, or to the row itself, or to what rows share.
 pub fn rows_name()
-    ensures { (plan : Ports) (k p : Key) (r : Row) (t : Thing) (n : Name) → IsPlan plan → IsIn t (own_things plan k r) → Refers t n → owner_of plan n ≡ Some (OfRow p) → IsIn p (names_of k r) ⊎ (p ≡ k) }
+    ensures { (plan : Ports) (k p : Key) (r : Row) (t : Thing) (n : ThingName) → IsPlan plan → IsIn t (own_things plan k r) → Refers t n → owner_of plan n ≡ Some (OfRow p) → IsIn p (names_of k r) ⊎ (p ≡ k) }
 {}
 
 /// A row that is equal to the applied row makes no change.

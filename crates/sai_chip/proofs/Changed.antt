@@ -19,6 +19,8 @@ use Rattle.swss_types.specs.declared.address.Ip.{Ip}
 use Rattle.swss_types.specs.declared.address.Mac.{Mac}
 use Rattle.swss_types.specs.declared.address.Prefix.{Prefix}
 use Rattle.swss_types.specs.contracts.address.IpOrd.TheImpl as ip_ord
+use Rattle.swss_types.proofs.AddressOrders.{ip_exact, prefix_exact}
+use Rattle.swss_types.proofs.Tied.{then_first, then_last}
 use Rattle.sai_types.specs.declared.ids.Rid.{Rid}
 use Rattle.sai_types.specs.declared.body.Attr.{Attr}
 use Rattle.sai_types.specs.declared.body.Attr.TheVariants as attr
@@ -31,10 +33,9 @@ use Rattle.sai_types.specs.declared.body.Call.{Call}
 use Rattle.sai_types.specs.After.{after_call, after_set, entry_of, has_id, with_attr}
 use Rattle.sai_types.specs.Made.{AreSorted}
 use Rattle.sai_types.specs.Objects.{Objects, body_at, entry_cmp}
+use Rattle.sai_types.proofs.Entries.{entry_total}
 use Rattle.sai_chip.specs.Tally.{neighbor_cmp, rid_cmp}
 use Rattle.sai_chip.specs.Bodies.{HaveIds, IsHeld, id_found, ids_set, macs_set, numbered, owned, reached, routed, objects_in, prefix_cmp, target_of, targets_set, value_found}
-use Rattle.sai_chip.proofs.Entries.{entry_total}
-use Rattle.sai_chip.proofs.HopSets.{ip_exact, then_first, then_last}
 use Rattle.sai_chip.proofs.Parts.{lookup-past, lookup-last, remove-past, remove-last, insert-past, set-past, lookup-in, insert-in, remove-in, set-in, key-lookup, key-insert, key-remove}
 
 rid_exact : CmpEqualImpliesEq rid_cmp
@@ -42,9 +43,6 @@ rid_exact x y h = let made : ℕ → Rid = λ n. record { 0 = n } in ap made (ex
 
 pub neighbor_exact : CmpEqualImpliesEq neighbor_cmp
 neighbor_exact x y h = let made : Rid → Ip → Rid × Ip = λ r ip. (r, ip) in ap₂ made (rid_exact x.0 y.0 (then_first _ _ h)) (ip_exact x.1 y.1 (then_last _ _ h))
-
-prefix_exact : CmpEqualImpliesEq prefix_cmp
-prefix_exact x y h = let made : Ip → ℕ → Prefix = λ i l. record { ip = i; len = l } in ap₂ made (ip_exact x.ip y.ip (then_first _ _ h)) (exact_unsigned x.len y.len (then_last _ _ h))
 
 -- a key that is there takes a value in its place
 found_by : {K X : Type 0} (cmp : K → K → Ordering) (total : IsTotalOrder cmp) (k : K) (v w : X) (e : K × X) (es : List (K × X)) → IsStrictlySortedBy cmp (keys_of (e ∷ es)) → lookup (is_at (cmp k)) (e ∷ es) ≡ Some w → (r : Ordering) → cmp k e.0 ≡ r → (lookup (is_at (cmp k)) es ≡ Some w → insert_entry cmp es k v ≡ set_value (is_at (cmp k)) es v) → match_ordering r ((k, v) ∷ e ∷ es) ((e.0, v) ∷ es) (e ∷ insert_entry cmp es k v) ≡ cond (is_eq r) ((e.0, v) ∷ es) (e ∷ set_value (is_at (cmp k)) es v)

@@ -9,6 +9,7 @@ use Rattle.swss_types.specs.declared.tagging.Tagging.{Tagging}
 use Rattle.swss_types.specs.declared.address.Prefix.{Prefix}
 use Rattle.swss_types.specs.contracts.address.IpEq.TheImpl.Laws as equal_ip
 use Rattle.swss_types.specs.contracts.address.IpOrd.TheImpl.Laws as ordered_ip
+use Rattle.swss_types.proofs.Truths.{or_regrouped}
 use Rattle.sai_types.specs.declared.ids.Rid.{Rid}
 use Rattle.sai_types.specs.declared.body.RifOn.{RifOn}
 use Rattle.sai_types.specs.declared.body.RifOn.TheVariants as on
@@ -21,8 +22,8 @@ use Rattle.sai_types.specs.declared.body.Body.TheVariants as body
 use Rattle.sai_types.specs.References.{refers_to}
 use Rattle.sai_types.specs.Refusal.{clash, same_ip, same_id, same_base}
 use Rattle.sai_types.specs.Objects.{Objects}
-use Rattle.sai_chip.specs.declared.mark.Mark.{Mark}
-use Rattle.sai_chip.specs.declared.mark.Mark.TheVariants as mark
+use Rattle.sai_chip.specs.declared.mark.TakenMark.{TakenMark}
+use Rattle.sai_chip.specs.declared.mark.TakenMark.TheVariants as mark
 use Rattle.sai_chip.specs.Tally.{is_mark}
 use Rattle.sai_chip.specs.Marks.{lane_marks, base_marks, target_marks, has_mark, stands}
 use Rattle.sai_chip.proofs.Standing.{any-same}
@@ -58,15 +59,15 @@ or_none : (b : Bool) → (b || false) ≡ b
 or_none true = refl
 or_none false = refl
 
-no_lane : (m : Mark) (lanes : List ℕ) → ((l : ℕ) → is_mark (mark.Lane l) m ≡ false) → list_any (λ k. is_mark k m) (lane_marks lanes) ≡ false
+no_lane : (m : TakenMark) (lanes : List ℕ) → ((l : ℕ) → is_mark (mark.Lane l) m ≡ false) → list_any (λ k. is_mark k m) (lane_marks lanes) ≡ false
 no_lane m [] none = refl
 no_lane m (lane ∷ lanes) none = rw (none lane) (no_lane m lanes none)
 
-no_base : (m : Mark) (on : RifOn Rid) → ((r : Rid) → is_mark (mark.RefersTo r) m ≡ false) → list_any (λ k. is_mark k m) (base_marks on) ≡ false
+no_base : (m : TakenMark) (on : RifOn Rid) → ((r : Rid) → is_mark (mark.RefersTo r) m ≡ false) → list_any (λ k. is_mark k m) (base_marks on) ≡ false
 no_base m (on.Port p) none = rw (none p) refl
 no_base m (on.Vlan v) none = rw (none v) refl
 
-no_target : (m : Mark) (to : To Rid) → ((r : Rid) → is_mark (mark.RefersTo r) m ≡ false) → list_any (λ k. is_mark k m) (target_marks to) ≡ false
+no_target : (m : TakenMark) (to : To Rid) → ((r : Rid) → is_mark (mark.RefersTo r) m ≡ false) → list_any (λ k. is_mark k m) (target_marks to) ≡ false
 no_target m to.Drop none = refl
 no_target m (to.Rif r) none = rw (none r) refl
 no_target m (to.NextHop r) none = rw (none r) refl
@@ -120,28 +121,22 @@ lane_among : (l : ℕ) (lanes : List ℕ) → list_any (λ k. is_mark k (mark.La
 lane_among l [] = refl
 lane_among l (lane ∷ lanes) = let one = mark_of_lane lane l in let others = lane_among l lanes in cc
 
-any_never : {X : Type 0} (p : X → Bool) → ((x : X) → p x ≡ false) → (xs : List X) → list_any p xs ≡ false
-any_never p none [] = refl
-any_never p none (x ∷ xs) = rw (none x) (any_never p none xs)
+any_where_none : {X : Type 0} (p : X → Bool) → ((x : X) → p x ≡ false) → (xs : List X) → list_any p xs ≡ false
+any_where_none p none [] = refl
+any_where_none p none (x ∷ xs) = rw (none x) (any_where_none p none xs)
 
 clash-port : (lanes : List ℕ) (speed mtu : ℕ) (up : Bool) (o : Body Rid) → clash (body.Port lanes speed mtu up) o ≡ list_any (λ lane. has_mark (mark.Lane lane) o) lanes
 clash-port lanes speed mtu up (body.Port others s m u) = any-same _ _ (λ l. sym (lane_among l others)) lanes
-clash-port lanes speed mtu up (body.Rif on) = sym (any_never _ (λ l. no_base (mark.Lane l) on (λ r. refl)) lanes)
-clash-port lanes speed mtu up (body.Route prefix to) = sym (any_never _ (λ l. no_target (mark.Lane l) to (λ r. refl)) lanes)
-clash-port lanes speed mtu up _ = sym (any_never _ (λ l. refl) lanes)
-
-or_parts : (a b c d : Bool) → ((a || b) || (c || d)) ≡ ((a || c) || (b || d))
-or_parts true b c d = refl
-or_parts false true true d = refl
-or_parts false true false d = refl
-or_parts false false c d = refl
+clash-port lanes speed mtu up (body.Rif on) = sym (any_where_none _ (λ l. no_base (mark.Lane l) on (λ r. refl)) lanes)
+clash-port lanes speed mtu up (body.Route prefix to) = sym (any_where_none _ (λ l. no_target (mark.Lane l) to (λ r. refl)) lanes)
+clash-port lanes speed mtu up _ = sym (any_where_none _ (λ l. refl) lanes)
 
 any-or : {X : Type 0} (p q : X → Bool) (xs : List X) → list_any (λ x. p x || q x) xs ≡ (list_any p xs || list_any q xs)
 any-or p q [] = refl
-any-or p q (x ∷ xs) = ap (λ b. (p x || q x) || b) (any-or p q xs) ∙ or_parts (p x) (q x) (list_any p xs) (list_any q xs)
+any-or p q (x ∷ xs) = ap (λ b. (p x || q x) || b) (any-or p q xs) ∙ or_regrouped (p x) (q x) (list_any p xs) (list_any q xs)
 
 any-any : {X Y : Type 0} (p : X → Y → Bool) (xs : List X) (ys : List Y) → list_any (λ x. list_any (p x) ys) xs ≡ list_any (λ y. list_any (λ x. p x y) xs) ys
-any-any p [] ys = sym (any_never _ (λ y. refl) ys)
+any-any p [] ys = sym (any_where_none _ (λ y. refl) ys)
 any-any p (x ∷ xs) ys = ap (λ b. list_any (p x) ys || b) (any-any p xs ys) ∙ sym (any-or (p x) (λ y. list_any (λ x'. p x' y) xs) ys)
 
 -- a port clashes where one of its lanes stands
@@ -201,12 +196,12 @@ refers-route p _ = refl
 pub refers-never : (e : Entry Rid) → ((r : Rid) → e ≡ entry.Oid r → ⊥) → ((r : Rid) (ip : Ip) → e ≡ entry.Neigh r ip → ⊥) → (objects : Objects) → false ≡ list_any (λ o. refers_to o.1 e) objects
 refers-never (entry.Oid r) id neighbor objects = absurd (id r refl)
 refers-never (entry.Neigh r ip) id neighbor objects = absurd (neighbor r ip refl)
-refers-never (entry.Own ip) id neighbor objects = sym (any_never _ (λ o. refers-own ip o.1) objects)
-refers-never (entry.Route p) id neighbor objects = sym (any_never _ (λ o. refers-route p o.1) objects)
+refers-never (entry.Own ip) id neighbor objects = sym (any_where_none _ (λ o. refers-own ip o.1) objects)
+refers-never (entry.Route p) id neighbor objects = sym (any_where_none _ (λ o. refers-route p o.1) objects)
 
 -- a body that a mark stands for clashes where the mark stands
-pub clashes-by : (b d : Body Rid) (m : Mark) (objects : Objects) (r : Bool) → b ≡ d → ((o : Body Rid) → clash d o ≡ has_mark m o) → r ≡ stands m objects → r ≡ list_any (λ o. clash b o.1) objects
+pub clashes-by : (b d : Body Rid) (m : TakenMark) (objects : Objects) (r : Bool) → b ≡ d → ((o : Body Rid) → clash d o ≡ has_mark m o) → r ≡ stands m objects → r ≡ list_any (λ o. clash b o.1) objects
 clashes-by b d m objects r e same h = h ∙ sym (any-same _ _ (λ o. ap (λ x. clash x o.1) e ∙ same o.1) objects)
 
 pub clashes-never : (b : Body Rid) (objects : Objects) → b ≡ body.Group → false ≡ list_any (λ o. clash b o.1) objects
-clashes-never b objects e = sym (any_never _ (λ o. ap (λ x. clash x o.1) e ∙ clash-group o.1) objects)
+clashes-never b objects e = sym (any_where_none _ (λ o. ap (λ x. clash x o.1) e ∙ clash-group o.1) objects)

@@ -7,7 +7,7 @@ use Rattle.sai_types.specs.declared.body.Call.{Call}
 use Rattle.sai_types.specs.declared.fail.Fail.{Fail}
 use Rattle.sai_types.specs.Objects.{Objects}
 use Rattle.sai_chip.specs.Failing.{fail_at}
-use Rattle.sai_chip.specs.SimChip.{IsInOrder, failing_by}
+use Rattle.sai_chip.specs.SimChip.{IsChipInOrder, failing_by}
 
 -- one call further at least as many of them do
 pub failing-more : (fails : List Fail) (calls : ℕ) → failing_by calls fails ≤ failing_by (calls + 1) fails
@@ -25,15 +25,15 @@ failing-one (f ∷ fs) calls some =
     grind (arith, common_steps)
 
 -- what holds of the counts holds after one call more
-pub counted-order : (objects : Objects) (effects : List (Call Rid)) (fails : List Fail) (made faults calls next more : ℕ) (failed : Bool) → IsInOrder objects effects fails made faults calls → calls < 2 ^ 64 → more ≡ (if failed then 1 else 0) → next ≡ min (calls + 1) (2 ^ 64 - 1)
-    → (failed ≡ true → IsSome (if nat_lt calls 18446744073709551615 then fail_at fails (calls + 1) else None)) → IsInOrder objects effects fails made (faults + more) next
+pub counted-order : (objects : Objects) (effects : List (Call Rid)) (fails : List Fail) (made faults calls next more : ℕ) (failed : Bool) → IsChipInOrder objects effects fails made faults calls → calls < 2 ^ 64 → more ≡ (if failed then 1 else 0) → next ≡ min (calls + 1) (2 ^ 64 - 1)
+    → (failed ≡ true → IsSome (if nat_lt calls 18446744073709551615 then fail_at fails (calls + 1) else None)) → IsChipInOrder objects effects fails made (faults + more) next
 counted-order objects effects fails made faults calls next more failed order small is at some = by (nat_lt calls 18446744073709551615) failed refl is some
   where
     -- one call further
     further : nat_lt calls 18446744073709551615 ≡ true → next ≡ calls + 1
     further below = omega (arith, at, ltb-true calls 18446744073709551615 below)
 
-    by : (b failed : Bool) → nat_lt calls 18446744073709551615 ≡ b → more ≡ (if failed then 1 else 0) → (failed ≡ true → IsSome (if b then fail_at fails (calls + 1) else None)) → IsInOrder objects effects fails made (faults + more) next
+    by : (b failed : Bool) → nat_lt calls 18446744073709551615 ≡ b → more ≡ (if failed then 1 else 0) → (failed ≡ true → IsSome (if b then fail_at fails (calls + 1) else None)) → IsChipInOrder objects effects fails made (faults + more) next
     by true true below is some = record {
       identifiers = order.identifiers;
       whole = order.whole;

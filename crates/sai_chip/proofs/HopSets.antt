@@ -1,56 +1,23 @@
 -- hops put in their places: what the list holds, in whatever order they came
-use Rattle.std.proofs.Common.{◌≡◌, ℕ, ◌-◌, ◌<◌, ◌≤◌, Bool, true, false, ◌||◌, List, [], ◌∷◌, drop, get_or, length, Option, None, Some, Ordering, refl, sym, ap, ap₂, ◌∙◌}
+use Rattle.std.proofs.Common.{◌≡◌, ℕ, ◌-◌, ◌<◌, ◌≤◌, Bool, true, false, ◌||◌, List, [], ◌∷◌, drop, get_or, length, Option, None, Some, Ordering, refl, sym, ap, ◌∙◌}
 use Rattle.std.specs.declared.cmp.Ordering.TheVariants.{Less, Equal, Greater}
-use Rattle.std.specs.Ordering.{is_eq, match_ordering, ordering_reverse, ordering_then}
+use Rattle.std.specs.Ordering.{is_eq, match_ordering, ordering_reverse}
 use Rattle.std.specs.BTreeMap.{is_at}
 use Rattle.std.specs.BTreeSet.{BTreeSet, insert_key}
 use Rattle.std.specs.Cmp.{IsTotalOrder, eq_by_cmp_equiv}
 use Rattle.std.specs.List.{AllByRecursion, list_any}
 use Rattle.std.specs.List.Sorted.{IsStrictlySortedBy}
 use Rattle.std.proofs.lemmas.Bool.{false≢true}
-use Rattle.std.proofs.lemmas.Map.Lookups.{CmpEqualImpliesEq, btree_set_from_contains, exact_unsigned}
-use Rattle.swss_types.specs.declared.address.Family.{Family}
-use Rattle.swss_types.specs.declared.address.Family.TheVariants.{V4, V6}
-use Rattle.swss_types.specs.declared.address.Ip.{Ip}
-use Rattle.swss_types.specs.contracts.address.FamilyOrd.TheImpl as family_ord
-use Rattle.swss_types.specs.contracts.address.IpOrd.TheImpl as ip_ord
+use Rattle.std.proofs.lemmas.Map.Lookups.{btree_set_from_contains}
+use Rattle.swss_types.proofs.Truths.{or_swap}
 use Rattle.sai_types.specs.declared.ids.Rid.{Rid}
-use Rattle.sai_types.specs.declared.hop.Base.{Base}
-use Rattle.sai_types.specs.declared.hop.Base.TheVariants as base
 use Rattle.sai_types.specs.declared.hop.Hop.{Hop}
-use Rattle.sai_types.specs.contracts.hop.BaseOrd.TheImpl as base_ord
 use Rattle.sai_types.specs.contracts.hop.HopOrd.TheImpl.Laws as ordered_hop
 use Rattle.sai_types.specs.Objects.{Objects}
 use Rattle.sai_types.specs.Named.{both, hop_cmp, next_hop_at}
+use Rattle.sai_types.proofs.Rising.{hop_exact}
 use Rattle.sai_chip.specs.Members.{hops_by}
 use Rattle.sai_chip.proofs.SameNames.{drop-before}
-
-pub then_first : (a b : Ordering) → ordering_then a b ≡ Equal → a ≡ Equal
-then_first Less b h = h
-then_first Equal b h = refl
-then_first Greater b h = h
-
-pub then_last : (a b : Ordering) → ordering_then a b ≡ Equal → b ≡ Equal
-then_last Less b h = cc
-then_last Equal b h = h
-then_last Greater b h = cc
-
-family_exact : CmpEqualImpliesEq family_ord.ghosts.cmp
-family_exact V4 V4 h = refl
-family_exact V6 V6 h = refl
-family_exact x y h = cc
-
-pub ip_exact : CmpEqualImpliesEq ip_ord.ghosts.cmp
-ip_exact x y h = let made : Family → ℕ → Ip = λ f b. record { family = f; bits = b } in ap₂ made (family_exact x.family y.family (then_first _ _ h)) (exact_unsigned x.bits y.bits (then_last _ _ h))
-
-base_exact : CmpEqualImpliesEq base_ord.ghosts.cmp
-base_exact (base.Port m) (base.Port n) h = ap base.Port (exact_unsigned m n h)
-base_exact (base.Vlan m) (base.Vlan n) h = ap base.Vlan (exact_unsigned m n h)
-base_exact x y h = cc
-
--- hops that compare equal are equal
-pub hop_exact : CmpEqualImpliesEq hop_cmp
-hop_exact x y h = let made : Base → Ip → Hop = λ on ip. record { on = on; ip = ip } in ap₂ made (base_exact x.on y.on (then_first _ _ h)) (ip_exact x.ip y.ip (then_last _ _ h))
 
 -- either is true where one is
 pub or_true : (b : Bool) → (b || true) ≡ true
@@ -63,11 +30,6 @@ or_again false false r e = refl
 or_again true false r e = absurd cc
 or_again false true r e = absurd cc
 
-or_swap : (a b r : Bool) → (b || (a || r)) ≡ (a || (b || r))
-or_swap true true r = refl
-or_swap true false r = refl
-or_swap false b r = refl
-
 module _ {K : Type 0} (R : K → K → Ordering) (o : IsTotalOrder R) where
   alike : (q k x : K) → is_eq (R k x) ≡ true → is_at (R q) x ≡ is_at (R q) k
   alike q k x same = (eq_by_cmp_equiv o).symm q x ∙ sym ((eq_by_cmp_equiv o).congr k x q same) ∙ (eq_by_cmp_equiv o).symm k q
@@ -77,7 +39,7 @@ module _ {K : Type 0} (R : K → K → Ordering) (o : IsTotalOrder R) where
       → list_any (is_at (R q)) (match_ordering r (k ∷ x ∷ xs) (x ∷ xs) (x ∷ insert_key R xs k)) ≡ (is_at (R q) k || (is_at (R q) x || list_any (is_at (R q)) xs))
   any_step q k x xs Less e h = refl
   any_step q k x xs Equal e h = or_again (is_at (R q) k) (is_at (R q) x) (list_any (is_at (R q)) xs) (alike q k x (ap is_eq e))
-  any_step q k x xs Greater e h = ap (λ b. is_at (R q) x || b) h ∙ or_swap (is_at (R q) k) (is_at (R q) x) (list_any (is_at (R q)) xs)
+  any_step q k x xs Greater e h = ap (λ b. is_at (R q) x || b) h ∙ or_swap (is_at (R q) x) (is_at (R q) k) (list_any (is_at (R q)) xs)
 
   -- what a set holds where a key was put
   any-insert_key : (q k : K) (xs : List K) → list_any (is_at (R q)) (insert_key R xs k) ≡ (is_at (R q) k || list_any (is_at (R q)) xs)

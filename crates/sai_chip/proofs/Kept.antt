@@ -16,19 +16,19 @@ use Rattle.sai_types.specs.declared.body.To.{To}
 use Rattle.sai_types.specs.After.{after_set, with_attr}
 use Rattle.sai_types.specs.Objects.{Objects, entry_cmp, body_at}
 use Rattle.sai_types.specs.declared.kind.Kind.TheVariants as kind
-use Rattle.sai_chip.specs.declared.mark.Mark.{Mark}
-use Rattle.sai_chip.specs.declared.mark.Mark.TheVariants as mark
+use Rattle.sai_types.proofs.Entries.{entry_total}
+use Rattle.sai_chip.specs.declared.mark.TakenMark.{TakenMark}
+use Rattle.sai_chip.specs.declared.mark.TakenMark.TheVariants as mark
 use Rattle.sai_chip.specs.Tally.{Tally, claims, count_at, is_mark}
 use Rattle.sai_chip.specs.Bodies.{target_of}
 use Rattle.sai_chip.specs.Marks.{IsCounted, marks_of, marks_if, marks_at, standing, target_marks}
 use Rattle.sai_chip.proofs.Changed.{set-lacking}
-use Rattle.sai_chip.proofs.Entries.{entry_total}
 
-claims_if : (m : Mark) (o : Option (Body Rid)) → claims m (marks_if o) ≡ unwrap_or (option_map (λ b. claims m (marks_of b)) o) 0
+claims_if : (m : TakenMark) (o : Option (Body Rid)) → claims m (marks_if o) ≡ unwrap_or (option_map (λ b. claims m (marks_of b)) o) 0
 claims_if m None = refl
 claims_if m (Some b) = refl
 
-pub counted-put : (objects : Objects) (e : Entry Rid) (b : Body Rid) (before mid after : Tally) → IsStrictlySortedBy entry_cmp (keys_of objects) → IsCounted objects before → ((m : Mark) → count_at mid m ≡ count_at before m + claims m (marks_of b)) → ((m : Mark) → count_at after m ≡ count_at mid m - claims m (marks_at objects e)) → IsCounted (insert_entry entry_cmp objects e b) after
+pub counted-put : (objects : Objects) (e : Entry Rid) (b : Body Rid) (before mid after : Tally) → IsStrictlySortedBy entry_cmp (keys_of objects) → IsCounted objects before → ((m : TakenMark) → count_at mid m ≡ count_at before m + claims m (marks_of b)) → ((m : TakenMark) → count_at after m ≡ count_at mid m - claims m (marks_at objects e)) → IsCounted (insert_entry entry_cmp objects e b) after
 counted-put objects e b before mid after sorted counted added taken = record {
   each = λ m.
       let was = counted.each m in
@@ -39,7 +39,7 @@ counted-put objects e b before mid after sorted counted added taken = record {
       omega (arith, was, more, less, old, change);
 }
 
-pub counted-remove : (objects : Objects) (e : Entry Rid) (before after : Tally) → IsCounted objects before → ((m : Mark) → count_at after m ≡ count_at before m - claims m (marks_at objects e)) → IsCounted (remove_entry (is_at (entry_cmp e)) objects) after
+pub counted-remove : (objects : Objects) (e : Entry Rid) (before after : Tally) → IsCounted objects before → ((m : TakenMark) → count_at after m ≡ count_at before m - claims m (marks_at objects e)) → IsCounted (remove_entry (is_at (entry_cmp e)) objects) after
 counted-remove objects e before after counted taken = record {
   each = λ m.
       let was = counted.each m in
@@ -50,7 +50,7 @@ counted-remove objects e before after counted taken = record {
 }
 
 -- the counts where an attribute is set
-counted_set : (objects : Objects) (e : Entry Rid) (a : Attr Rid) (o : Option (Body Rid)) (before after : Tally) → IsStrictlySortedBy entry_cmp (keys_of objects) → IsCounted objects before → body_at objects e ≡ o → ((m : Mark) (n : ℕ) → n + claims m (marks_if o) ≡ count_at before m + claims m (marks_if (option_map (λ b. with_attr b a) o)) → count_at after m ≡ n) → IsCounted (after_set objects e a o) after
+counted_set : (objects : Objects) (e : Entry Rid) (a : Attr Rid) (o : Option (Body Rid)) (before after : Tally) → IsStrictlySortedBy entry_cmp (keys_of objects) → IsCounted objects before → body_at objects e ≡ o → ((m : TakenMark) (n : ℕ) → n + claims m (marks_if o) ≡ count_at before m + claims m (marks_if (option_map (λ b. with_attr b a) o)) → count_at after m ≡ n) → IsCounted (after_set objects e a o) after
 counted_set objects e a None before after sorted counted found moved = record { each = λ m. moved m (standing m objects) (ap (λ n. n + claims m []) (sym (counted.each m))) }
 counted_set objects e a (Some b) before after sorted counted found moved = record {
   each = λ m.
@@ -88,10 +88,10 @@ counted-value objects e a counts sorted counted value =
     counted_set objects e a (body_at objects e) counts counts sorted counted refl
     (λ m n h. let same = ap (claims m) (same_if (body_at objects e) a value) in omega (arith, h, same))
 
-claims-cons : (m k : Mark) (ks : List Mark) → claims m (k ∷ ks) ≡ cond (is_mark k m) 1 0 + claims m ks
+claims-cons : (m k : TakenMark) (ks : List TakenMark) → claims m (k ∷ ks) ≡ cond (is_mark k m) 1 0 + claims m ks
 claims-cons m k ks = sum_by-cons (λ j. cond (is_mark j m) 1 0) k ks
 
-pointed : (o : Option (Body Rid)) (from to : To Rid) → target_of o ≡ Some from → (m : Mark) → claims m (marks_if o) + claims m (target_marks to) ≡ claims m (marks_if (option_map (λ b. with_attr b (attr.To to)) o)) + claims m (target_marks from)
+pointed : (o : Option (Body Rid)) (from to : To Rid) → target_of o ≡ Some from → (m : TakenMark) → claims m (marks_if o) + claims m (target_marks to) ≡ claims m (marks_if (option_map (λ b. with_attr b (attr.To to)) o)) + claims m (target_marks from)
 pointed (Some (body.Route prefix t)) from to h m =
     let same : t ≡ from = cc in
     let one = claims-cons m (mark.Of kind.Route) (target_marks t) in
@@ -101,7 +101,7 @@ pointed (Some (body.Route prefix t)) from to h m =
 pointed o from to h m = absurd cc
 
 -- a route that points elsewhere moves one reference
-pub counted-pointed : (objects : Objects) (e : Entry Rid) (from to : To Rid) (before mid after : Tally) → IsStrictlySortedBy entry_cmp (keys_of objects) → IsCounted objects before → target_of (body_at objects e) ≡ Some from → ((m : Mark) → count_at mid m ≡ count_at before m + claims m (target_marks to)) → ((m : Mark) → count_at after m ≡ count_at mid m - claims m (target_marks from)) → IsCounted (after_set objects e (attr.To to) (body_at objects e)) after
+pub counted-pointed : (objects : Objects) (e : Entry Rid) (from to : To Rid) (before mid after : Tally) → IsStrictlySortedBy entry_cmp (keys_of objects) → IsCounted objects before → target_of (body_at objects e) ≡ Some from → ((m : TakenMark) → count_at mid m ≡ count_at before m + claims m (target_marks to)) → ((m : TakenMark) → count_at after m ≡ count_at mid m - claims m (target_marks from)) → IsCounted (after_set objects e (attr.To to) (body_at objects e)) after
 counted-pointed objects e from to before mid after sorted counted at more less =
     counted_set objects e (attr.To to) (body_at objects e) before after sorted counted refl
     (λ m n h. let moved = pointed (body_at objects e) from to at m in let one = more m in let two = less m in omega (arith, h, moved, one, two))

@@ -2,7 +2,6 @@ mod Answered
 mod Changed
 mod Clashes
 mod Counting
-mod Entries
 mod Failed
 mod GroupNames
 mod HopSets

@@ -71,25 +71,25 @@ least_by k Less h = refl
 least_by k Equal h = refl
 least_by k Greater h = absurd (omega (arith, h))
 
-least : (k : ℕ) → is_le (nat_cmp 0 k) ≡ true
-least k = least_by k (nat_cmp 0 k) (ranked 0 k (nat_cmp 0 k) refl)
+zero_is_least : (k : ℕ) → is_le (nat_cmp 0 k) ≡ true
+zero_is_least k = least_by k (nat_cmp 0 k) (ranked 0 k (nat_cmp 0 k) refl)
 
 pub group_tied : (g : Rid) → rid_cmp g g ≡ Equal
 group_tied g = tied_itself ordered_rid.total-law g
 
 first_below : (g m : Rid) → is_le (pair_cmp (first_pair g) (g, m)) ≡ true
-first_below g m = ap (λ r. is_le (ordering_then r (rid_cmp (record { 0 = 0 }) m))) (group_tied g) ∙ least m.0
+first_below g m = ap (λ r. is_le (ordering_then r (rid_cmp (record { 0 = 0 }) m))) (group_tied g) ∙ zero_is_least m.0
 
 pair_tied : (g n m : Rid) → is_eq (pair_cmp (g, n) (g, m)) ≡ same_id n m
 pair_tied g n m = ap (λ r. is_eq (ordering_then r (rid_cmp n m))) (group_tied g) ∙ sym (rid_tied n m) ∙ same_id-symm m n
 
-found_same : (n m : Rid) (ns : List Rid) (b : Bool) → same_id n m ≡ true → list_any (same_id n) ns ≡ false → list_any (same_id n) (cond b (m ∷ ns) ns) ≡ b
-found_same n m ns true same none = ap (λ b. b || list_any (same_id n) ns) same
-found_same n m ns false same none = none
+marked_same : (n m : Rid) (ns : List Rid) (b : Bool) → same_id n m ≡ true → list_any (same_id n) ns ≡ false → list_any (same_id n) (cond b (m ∷ ns) ns) ≡ b
+marked_same n m ns true same none = ap (λ b. b || list_any (same_id n) ns) same
+marked_same n m ns false same none = none
 
-found_other : (n m : Rid) (ns : List Rid) (b : Bool) → same_id n m ≡ false → list_any (same_id n) (cond b (m ∷ ns) ns) ≡ list_any (same_id n) ns
-found_other n m ns true other = ap (λ b. b || list_any (same_id n) ns) other
-found_other n m ns false other = refl
+marked_other : (n m : Rid) (ns : List Rid) (b : Bool) → same_id n m ≡ false → list_any (same_id n) (cond b (m ∷ ns) ns) ≡ list_any (same_id n) ns
+marked_other n m ns true other = ap (λ b. b || list_any (same_id n) ns) other
+marked_other n m ns false other = refl
 
 module _ (g n : Rid) where
   abbrev in_range : Rid × Rid → Bool
@@ -107,10 +107,10 @@ module _ (g n : Rid) where
   found_one : (b : Bool) (e : (Rid × Rid) × ℕ) (es : Members) → IsStrictlySortedBy pair_cmp (keys_of (e ∷ es)) → same_id n e.0.1 ≡ b → is_eq (pair_cmp (g, n) e.0) ≡ b → has (front g (from es)) ≡ nat_lt 0 (count_in pair_cmp es (g, n)) → has (with_front true e.0.1 e.1 (front g (from es))) ≡ nat_lt 0 (count_in pair_cmp (e ∷ es) (g, n))
   found_one true e es sorted same at found =
       let past = lookup-none (is_at (pair_cmp (g, n))) es (none_past_head (eq_by_cmp_equiv pair_total) (g, n) e es (IsDistinct-from_sorted pair_cmp (keys_of (e ∷ es)) sorted) at) in
-      found_same n e.0.1 (front g (from es)) (nat_lt 0 e.1) same (found ∙ ap counted past)
+      marked_same n e.0.1 (front g (from es)) (nat_lt 0 e.1) same (found ∙ ap counted past)
       ∙ sym (ap (λ b. counted (cond b (Some e.1) (lookup (is_at (pair_cmp (g, n))) es))) at)
   found_one false e es sorted other at found =
-      found_other n e.0.1 (front g (from es)) (nat_lt 0 e.1) other
+      marked_other n e.0.1 (front g (from es)) (nat_lt 0 e.1) other
       ∙ found
       ∙ sym (ap (λ b. counted (cond b (Some e.1) (lookup (is_at (pair_cmp (g, n))) es))) at)
 

@@ -9,7 +9,7 @@ use Rattle.sai_types.specs.declared.body.Body.TheVariants as body
 use Rattle.sai_types.specs.Objects.{Objects}
 use Rattle.sai_types.specs.Refusal.{clash, same_id}
 use Rattle.sai_types.specs.Named.{both, hop_cmp, hops_among, hops_at, next_hop_at, with_member}
-use Rattle.sai_chip.specs.declared.mark.Mark.TheVariants as mark
+use Rattle.sai_chip.specs.declared.mark.TakenMark.TheVariants as mark
 use Rattle.sai_chip.specs.Tally.{Tally, count_at}
 use Rattle.sai_chip.specs.Marks.{IsCounted, has_mark, stands}
 use Rattle.sai_chip.specs.Members.{hops_by}
@@ -43,16 +43,16 @@ carried_step : (p : Rid → Bool) (n x : Rid) (xs : List Rid) (b : Bool) → sam
 carried_step p n x xs true e passes f h = ap (λ b. b || list_any p xs) (ap p (sym (id-exact n x e)) ∙ passes)
 carried_step p n x xs false e passes f h = ap (λ b. p x || b) (f h) ∙ or_true (p x)
 
-carried : (p : Rid → Bool) (n : Rid) (xs : List Rid) → p n ≡ true → list_any (same_id n) xs ≡ true → list_any p xs ≡ true
-carried p n [] passes h = absurd (false≢true h)
-carried p n (x ∷ xs) passes h = carried_step p n x xs (same_id n x) refl passes (carried p n xs passes) h
+any_passing : (p : Rid → Bool) (n : Rid) (xs : List Rid) → p n ≡ true → list_any (same_id n) xs ≡ true → list_any p xs ≡ true
+any_passing p n [] passes h = absurd (false≢true h)
+any_passing p n (x ∷ xs) passes h = carried_step p n x xs (same_id n x) refl passes (any_passing p n xs passes) h
 
 -- lists with the same identifiers pass the same tests
 pub same-any : (xs ys : List Rid) → ((n : Rid) → list_any (same_id n) xs ≡ list_any (same_id n) ys) → (p : Rid → Bool) → list_any p xs ≡ list_any p ys
 same-any xs ys same p =
     both_ways (list_any p xs) (list_any p ys)
-    (λ h. let one = witness p xs h in carried p one.0 ys one.1 (sym (same one.0) ∙ one.2))
-    (λ h. let one = witness p ys h in carried p one.0 xs one.1 (same one.0 ∙ one.2))
+    (λ h. let one = witness p xs h in any_passing p one.0 ys one.1 (sym (same one.0) ∙ one.2))
+    (λ h. let one = witness p ys h in any_passing p one.0 xs one.1 (same one.0 ∙ one.2))
 
 abbrev with_id : Rid → Body Rid → List Rid → List Rid
 with_id g (body.GroupMember group next_hop) ns = if same_id group g then next_hop ∷ ns else ns

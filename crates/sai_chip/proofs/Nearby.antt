@@ -30,10 +30,11 @@ use Rattle.sai_types.specs.Forwarding.{mac_of, same_hop}
 use Rattle.sai_types.specs.Made.{HaveOneEach}
 use Rattle.sai_types.specs.Named.{goal_by, hop_cmp, hop_on, hops_at, named, thing_of, those}
 use Rattle.sai_types.specs.Objects.{Objects}
+use Rattle.sai_types.proofs.Rising.{hop_exact}
 use Rattle.sai_chip.specs.Tally.{neighbor_cmp}
 use Rattle.sai_chip.specs.Bodies.{HaveIds, owned, reached, routed, objects_in}
 use Rattle.sai_chip.proofs.Changed.{at-neighbor, neighbor_exact}
-use Rattle.sai_chip.proofs.HopSets.{hop_exact, or_true}
+use Rattle.sai_chip.proofs.HopSets.{or_true}
 use Rattle.sai_chip.proofs.Looked.{mac_other, passes-map, past, past-ids, past-last}
 use Rattle.sai_chip.proofs.Members.{both_ways}
 use Rattle.sai_chip.proofs.SameNames.{map-things_among}
@@ -63,8 +64,8 @@ module _ (ids : List (Rid × Body Rid)) (ips : List Ip) (ns : List ((Rid × Ip) 
   held = objects_in ids ips ns rs
 
   -- a neighbour of the same hop has the same key
-  same_key : (x : Rid × Ip) (h : Hop) → is_some (lookup (is_at (neighbor_cmp x)) ns) ≡ true → hop_on held x.0 x.1 ≡ Some h → same_hop h hop ≡ true → x ≡ (rif, ip)
-  same_key x h found named same =
+  one_neighbor_key : (x : Rid × Ip) (h : Hop) → is_some (lookup (is_at (neighbor_cmp x)) ns) ≡ true → hop_on held x.0 x.1 ≡ Some h → same_hop h hop ≡ true → x ≡ (rif, ip)
+  one_neighbor_key x h found named same =
       let alike : h ≡ hop = hop_exact h hop (equal_by (hop_cmp h hop) (sym (ordered_hop.matches_eq-law h hop) ∙ same)) in
       let m = some_by (lookup (is_at (neighbor_cmp x)) ns) found in
       let n = some_by (lookup (is_at (neighbor_cmp (rif, ip))) ns) there in
@@ -80,7 +81,7 @@ module _ (ids : List (Rid × Body Rid)) (ips : List Ip) (ns : List ((Rid × Ip) 
   tied_key : (x : Rid × Ip) (h : Hop) → is_some (lookup (is_at (neighbor_cmp x)) ns) ≡ true → hop_on held x.0 x.1 ≡ Some h → same_hop h hop ≡ is_at (neighbor_cmp (rif, ip)) x
   tied_key x h found named =
       both_ways (same_hop h hop) (is_at (neighbor_cmp (rif, ip)) x)
-      (λ same. let key = same_key x h found named same in ap (is_at (neighbor_cmp (rif, ip))) key ∙ ap is_eq (tied_itself neighbor_total (rif, ip)))
+      (λ same. let key = one_neighbor_key x h found named same in ap (is_at (neighbor_cmp (rif, ip))) key ∙ ap is_eq (tied_itself neighbor_total (rif, ip)))
       (λ tied. let key = neighbor_exact (rif, ip) x (equal_by (neighbor_cmp (rif, ip) x) tied) in
       let known : hop_on held x.0 x.1 ≡ Some hop = subst (λ y. hop_on held y.0 y.1 ≡ Some hop) key is in
       let alike : h ≡ hop = cc in

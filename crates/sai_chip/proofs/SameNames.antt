@@ -22,9 +22,9 @@ use Rattle.sai_types.specs.Objects.{Objects, body_at, entry_cmp}
 use Rattle.sai_types.specs.ChipState.{objects_of}
 use Rattle.sai_types.specs.Refusal.{same_id}
 use Rattle.sai_types.specs.Named.{both, hop_cmp, port_of, vlan_of, port_at, vlan_at, bridge_port_of, bridge_port_at, base_on, rif_of, rif_at, hop_on, next_hop_of, next_hop_at, with_member, hops_among, hops_at, goal_by, thing_by, thing_of, things_among, named}
+use Rattle.sai_types.proofs.Entries.{entry_total}
 use Rattle.sai_chip.specs.Members.{hops_by}
 use Rattle.sai_chip.specs.Naming.{AreBodies, AreHops, GroupHops, entries_of, hops_in}
-use Rattle.sai_chip.proofs.Entries.{entry_total}
 
 module _ (xs ys : Objects) (found : AreBodies ys xs) where
   port_at-same : (r : Rid) → port_at xs r ≡ port_at ys r

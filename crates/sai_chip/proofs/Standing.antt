@@ -13,8 +13,8 @@ use Rattle.sai_types.specs.declared.body.To.TheVariants as to
 use Rattle.sai_types.specs.declared.body.Body.{Body}
 use Rattle.sai_types.specs.declared.body.Body.TheVariants as body
 use Rattle.sai_types.specs.Objects.{Objects, level, is_of, kind_of, used}
-use Rattle.sai_chip.specs.declared.mark.Mark.{Mark}
-use Rattle.sai_chip.specs.declared.mark.Mark.TheVariants as mark
+use Rattle.sai_chip.specs.declared.mark.TakenMark.{TakenMark}
+use Rattle.sai_chip.specs.declared.mark.TakenMark.TheVariants as mark
 use Rattle.sai_chip.specs.Tally.{is_mark, claims}
 use Rattle.sai_chip.specs.Marks.{lane_marks, base_marks, target_marks, key_marks, marks_of, has_mark, stands, standing}
 
@@ -42,7 +42,7 @@ any-values_of p [] = refl
 any-values_of p (e ∷ es) = ap (λ b. p e.1 || b) (any-values_of p es)
 
 -- a mark stands where its count is not 0
-pub positive-standing : (m : Mark) (objects : Objects) → nat_lt 0 (standing m objects) ≡ stands m objects
+pub positive-standing : (m : TakenMark) (objects : Objects) → nat_lt 0 (standing m objects) ≡ stands m objects
 positive-standing m objects =
     positive-sum_by (λ b. claims m (marks_of b)) (values_of objects)
     ∙ any-same _ _ (λ b. positive-count_by (λ k. is_mark k m) (marks_of b)) (values_of objects)

@@ -40,13 +40,13 @@ any-in : {X : Type 0} (f : X → Entry Rid × Body Rid) (p : Body Rid → Bool) 
 any-in f p q same rest none [] = none
 any-in f p q same rest none (x ∷ xs) = let one = same x in let others = any-in f p q same rest none xs in cc
 
-key_step : {X : Type 0} (t : Bool) (v : X) (o : Option X) (b : Bool) → b ≡ is_some o → (t || b) ≡ is_some (cond t (Some v) o)
-key_step true v o b h = refl
-key_step false v o b h = h
+is_some_step : {X : Type 0} (t : Bool) (v : X) (o : Option X) (b : Bool) → b ≡ is_some o → (t || b) ≡ is_some (cond t (Some v) o)
+is_some_step true v o b h = refl
+is_some_step false v o b h = h
 
 any-keys : {K X : Type 0} (p : K → Bool) (es : List (K × X)) → list_any (λ e. p e.0) es ≡ is_some (lookup p es)
 any-keys p [] = refl
-any-keys p (e ∷ es) = key_step (p e.0) e.1 (lookup p es) (list_any (λ e. p e.0) es) (any-keys p es)
+any-keys p (e ∷ es) = is_some_step (p e.0) e.1 (lookup p es) (list_any (λ e. p e.0) es) (any-keys p es)
 
 -- the last part
 any-last : {X : Type 0} (f : X → Entry Rid × Body Rid) (p : Body Rid → Bool) (q : X → Bool) → ((x : X) → p (f x).1 ≡ q x) → (xs : List X) → list_any (λ o. p o.1) (map f xs) ≡ list_any q xs

@@ -6,8 +6,8 @@ use Rattle.swss_types.specs.declared.address.Ip.{Ip}
 use Rattle.sai_types.specs.declared.ids.Rid.{Rid}
 use Rattle.sai_types.specs.declared.kind.Kind.{Kind}
 use Rattle.sai_types.specs.declared.body.RifOn.{RifOn}
-use Rattle.sai_chip.specs.declared.mark.Mark.{Mark}
-use Rattle.sai_chip.specs.declared.mark.Mark.TheVariants as mark
+use Rattle.sai_chip.specs.declared.mark.TakenMark.{TakenMark}
+use Rattle.sai_chip.specs.declared.mark.TakenMark.TheVariants as mark
 use Rattle.sai_chip.specs.Tally.{Tally, count_in, count_at, is_mark, kind_cmp, rid_cmp, rif_on_cmp, pair_cmp, neighbor_cmp}
 
 -- one more, or one less, where a test passes
@@ -24,39 +24,39 @@ pub less_none : (n : ℕ) → less n false ≡ n
 less_none n = omega arith
 
 module _ (f : ℕ → Bool → ℕ) (none : (n : ℕ) → f n false ≡ n) (t : Tally) where
-  pub with_kinds : (k : Kind) (new : List (Kind × ℕ)) → ((x : Kind) → count_in kind_cmp new x ≡ f (count_in kind_cmp t.kinds x) (is_at (kind_cmp k) x)) → (m : Mark) → count_at (record t { kinds = new }) m ≡ f (count_at t m) (is_mark (mark.Of k) m)
+  pub with_kinds : (k : Kind) (new : List (Kind × ℕ)) → ((x : Kind) → count_in kind_cmp new x ≡ f (count_in kind_cmp t.kinds x) (is_at (kind_cmp k) x)) → (m : TakenMark) → count_at (record t { kinds = new }) m ≡ f (count_at t m) (is_mark (mark.Of k) m)
   with_kinds k new h (mark.Of x) = h x
   with_kinds k new h m = sym (none (count_at t m))
 
-  pub with_references : (r : Rid) (new : List (Rid × ℕ)) → ((x : Rid) → count_in rid_cmp new x ≡ f (count_in rid_cmp t.references x) (is_at (rid_cmp r) x)) → (m : Mark) → count_at (record t { references = new }) m ≡ f (count_at t m) (is_mark (mark.RefersTo r) m)
+  pub with_references : (r : Rid) (new : List (Rid × ℕ)) → ((x : Rid) → count_in rid_cmp new x ≡ f (count_in rid_cmp t.references x) (is_at (rid_cmp r) x)) → (m : TakenMark) → count_at (record t { references = new }) m ≡ f (count_at t m) (is_mark (mark.RefersTo r) m)
   with_references r new h (mark.RefersTo x) = h x
   with_references r new h m = sym (none (count_at t m))
 
-  pub with_lanes : (l : ℕ) (new : List (ℕ × ℕ)) → ((x : ℕ) → count_in nat_cmp new x ≡ f (count_in nat_cmp t.lanes x) (is_at (nat_cmp l) x)) → (m : Mark) → count_at (record t { lanes = new }) m ≡ f (count_at t m) (is_mark (mark.Lane l) m)
+  pub with_lanes : (l : ℕ) (new : List (ℕ × ℕ)) → ((x : ℕ) → count_in nat_cmp new x ≡ f (count_in nat_cmp t.lanes x) (is_at (nat_cmp l) x)) → (m : TakenMark) → count_at (record t { lanes = new }) m ≡ f (count_at t m) (is_mark (mark.Lane l) m)
   with_lanes l new h (mark.Lane x) = h x
   with_lanes l new h m = sym (none (count_at t m))
 
-  pub with_vlans : (v : ℕ) (new : List (ℕ × ℕ)) → ((x : ℕ) → count_in nat_cmp new x ≡ f (count_in nat_cmp t.vlans x) (is_at (nat_cmp v) x)) → (m : Mark) → count_at (record t { vlans = new }) m ≡ f (count_at t m) (is_mark (mark.Vlan v) m)
+  pub with_vlans : (v : ℕ) (new : List (ℕ × ℕ)) → ((x : ℕ) → count_in nat_cmp new x ≡ f (count_in nat_cmp t.vlans x) (is_at (nat_cmp v) x)) → (m : TakenMark) → count_at (record t { vlans = new }) m ≡ f (count_at t m) (is_mark (mark.Vlan v) m)
   with_vlans v new h (mark.Vlan x) = h x
   with_vlans v new h m = sym (none (count_at t m))
 
-  pub with_bridge_ports : (p : Rid) (new : List (Rid × ℕ)) → ((x : Rid) → count_in rid_cmp new x ≡ f (count_in rid_cmp t.bridge_ports x) (is_at (rid_cmp p) x)) → (m : Mark) → count_at (record t { bridge_ports = new }) m ≡ f (count_at t m) (is_mark (mark.BridgePort p) m)
+  pub with_bridge_ports : (p : Rid) (new : List (Rid × ℕ)) → ((x : Rid) → count_in rid_cmp new x ≡ f (count_in rid_cmp t.bridge_ports x) (is_at (rid_cmp p) x)) → (m : TakenMark) → count_at (record t { bridge_ports = new }) m ≡ f (count_at t m) (is_mark (mark.BridgePort p) m)
   with_bridge_ports p new h (mark.BridgePort x) = h x
   with_bridge_ports p new h m = sym (none (count_at t m))
 
-  pub with_vlan_members : (v p : Rid) (new : List ((Rid × Rid) × ℕ)) → ((x : Rid × Rid) → count_in pair_cmp new x ≡ f (count_in pair_cmp t.vlan_members x) (is_at (pair_cmp (v, p)) x)) → (m : Mark) → count_at (record t { vlan_members = new }) m ≡ f (count_at t m) (is_mark (mark.VlanMember v p) m)
+  pub with_vlan_members : (v p : Rid) (new : List ((Rid × Rid) × ℕ)) → ((x : Rid × Rid) → count_in pair_cmp new x ≡ f (count_in pair_cmp t.vlan_members x) (is_at (pair_cmp (v, p)) x)) → (m : TakenMark) → count_at (record t { vlan_members = new }) m ≡ f (count_at t m) (is_mark (mark.VlanMember v p) m)
   with_vlan_members v p new h (mark.VlanMember x y) = h (x, y)
   with_vlan_members v p new h m = sym (none (count_at t m))
 
-  pub with_rifs : (on : RifOn Rid) (new : List (RifOn Rid × ℕ)) → ((x : RifOn Rid) → count_in rif_on_cmp new x ≡ f (count_in rif_on_cmp t.rifs x) (is_at (rif_on_cmp on) x)) → (m : Mark) → count_at (record t { rifs = new }) m ≡ f (count_at t m) (is_mark (mark.Rif on) m)
+  pub with_rifs : (on : RifOn Rid) (new : List (RifOn Rid × ℕ)) → ((x : RifOn Rid) → count_in rif_on_cmp new x ≡ f (count_in rif_on_cmp t.rifs x) (is_at (rif_on_cmp on) x)) → (m : TakenMark) → count_at (record t { rifs = new }) m ≡ f (count_at t m) (is_mark (mark.Rif on) m)
   with_rifs on new h (mark.Rif x) = h x
   with_rifs on new h m = sym (none (count_at t m))
 
-  pub with_next_hops : (r : Rid) (ip : Ip) (new : List ((Rid × Ip) × ℕ)) → ((x : Rid × Ip) → count_in neighbor_cmp new x ≡ f (count_in neighbor_cmp t.next_hops x) (is_at (neighbor_cmp (r, ip)) x)) → (m : Mark) → count_at (record t { next_hops = new }) m ≡ f (count_at t m) (is_mark (mark.NextHop r ip) m)
+  pub with_next_hops : (r : Rid) (ip : Ip) (new : List ((Rid × Ip) × ℕ)) → ((x : Rid × Ip) → count_in neighbor_cmp new x ≡ f (count_in neighbor_cmp t.next_hops x) (is_at (neighbor_cmp (r, ip)) x)) → (m : TakenMark) → count_at (record t { next_hops = new }) m ≡ f (count_at t m) (is_mark (mark.NextHop r ip) m)
   with_next_hops r ip new h (mark.NextHop x y) = h (x, y)
   with_next_hops r ip new h m = sym (none (count_at t m))
 
-  pub with_group_members : (g n : Rid) (new : List ((Rid × Rid) × ℕ)) → ((x : Rid × Rid) → count_in pair_cmp new x ≡ f (count_in pair_cmp t.group_members x) (is_at (pair_cmp (g, n)) x)) → (m : Mark) → count_at (record t { group_members = new }) m ≡ f (count_at t m) (is_mark (mark.GroupMember g n) m)
+  pub with_group_members : (g n : Rid) (new : List ((Rid × Rid) × ℕ)) → ((x : Rid × Rid) → count_in pair_cmp new x ≡ f (count_in pair_cmp t.group_members x) (is_at (pair_cmp (g, n)) x)) → (m : TakenMark) → count_at (record t { group_members = new }) m ≡ f (count_at t m) (is_mark (mark.GroupMember g n) m)
   with_group_members g n new h (mark.GroupMember x y) = h (x, y)
   with_group_members g n new h m = sym (none (count_at t m))
 

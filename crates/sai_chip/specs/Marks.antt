@@ -11,26 +11,26 @@ use Rattle.sai_types.specs.declared.body.To.{To}
 use Rattle.sai_types.specs.declared.body.To.TheVariants as to
 use Rattle.sai_types.specs.declared.body.Entry.{Entry}
 use Rattle.sai_types.specs.Objects.{Objects, kind_of, body_at}
-use Rattle.sai_chip.specs.declared.mark.Mark.{Mark}
-use Rattle.sai_chip.specs.declared.mark.Mark.TheVariants as mark
+use Rattle.sai_chip.specs.declared.mark.TakenMark.{TakenMark}
+use Rattle.sai_chip.specs.declared.mark.TakenMark.TheVariants as mark
 use Rattle.sai_chip.specs.Tally.{Tally, is_mark, claims, count_at}
 
-abbrev pub lane_marks : List ℕ → List Mark
+abbrev pub lane_marks : List ℕ → List TakenMark
 lane_marks [] = []
 lane_marks (lane ∷ lanes) = mark.Lane lane ∷ lane_marks lanes
 
-abbrev pub base_marks : RifOn Rid → List Mark
+abbrev pub base_marks : RifOn Rid → List TakenMark
 base_marks (on.Port p) = mark.RefersTo p ∷ []
 base_marks (on.Vlan v) = mark.RefersTo v ∷ []
 
-abbrev pub target_marks : To Rid → List Mark
+abbrev pub target_marks : To Rid → List TakenMark
 target_marks to.Drop = []
 target_marks (to.Rif r) = mark.RefersTo r ∷ []
 target_marks (to.NextHop n) = mark.RefersTo n ∷ []
 target_marks (to.Group g) = mark.RefersTo g ∷ []
 
 -- the natural key, the lanes and the references of a body; one without an identifier is found by its natural key
-abbrev pub key_marks : Body Rid → List Mark
+abbrev pub key_marks : Body Rid → List TakenMark
 key_marks (body.Port lanes speed mtu up) = lane_marks lanes
 key_marks (body.Vlan vlan) = mark.Vlan vlan ∷ []
 key_marks (body.BridgePort port) = mark.BridgePort port ∷ mark.RefersTo port ∷ []
@@ -44,29 +44,29 @@ key_marks (body.GroupMember group next_hop) = mark.GroupMember group next_hop �
 key_marks (body.Route prefix to) = target_marks to
 
 -- what a body takes up
-abbrev pub marks_of : Body Rid → List Mark
+abbrev pub marks_of : Body Rid → List TakenMark
 marks_of b = mark.Of (kind_of b) ∷ key_marks b
 
 -- whether a body takes it up
-abbrev pub has_mark : Mark → Body Rid → Bool
+abbrev pub has_mark : TakenMark → Body Rid → Bool
 has_mark m b = list_any (λ k. is_mark k m) (marks_of b)
 
 -- whether one of the objects takes it up
-abbrev pub stands : Mark → Objects → Bool
+abbrev pub stands : TakenMark → Objects → Bool
 stands m objects = list_any (λ o. has_mark m o.1) objects
 
 -- how often the objects take it up
-abbrev pub standing : Mark → Objects → ℕ
+abbrev pub standing : TakenMark → Objects → ℕ
 standing m objects = sum_by (λ b. claims m (marks_of b)) (values_of objects)
 
 -- each mark is counted as often as it stands
 pub record IsCounted (objects : Objects) (counts : Tally) : Type 0 where
-  pub each : (m : Mark) → count_at counts m ≡ standing m objects
+  pub each : (m : TakenMark) → count_at counts m ≡ standing m objects
 
 -- what the body of an object takes up, where there is one
-abbrev pub marks_if : Option (Body Rid) → List Mark
+abbrev pub marks_if : Option (Body Rid) → List TakenMark
 marks_if None = []
 marks_if (Some b) = marks_of b
 
-abbrev pub marks_at : Objects → Entry Rid → List Mark
+abbrev pub marks_at : Objects → Entry Rid → List TakenMark
 marks_at objects e = marks_if (body_at objects e)

@@ -13,7 +13,7 @@ abbrev pub failing_by : ℕ → List Fail → ℕ
 failing_by calls fails = count_by (λ f. nat_lt f.at (calls + 1)) fails
 
 -- so many identifiers were made, the chip failed at no more calls than were made, nor than it was to fail at by then, and its state is one that legal calls make
-pub record IsInOrder (objects : Objects) (effects : List (Call Rid)) (fails : List Fail) (made faults calls : ℕ) : Type 0 where
+pub record IsChipInOrder (objects : Objects) (effects : List (Call Rid)) (fails : List Fail) (made faults calls : ℕ) : Type 0 where
   pub identifiers : made ≡ count_by makes_id effects
   pub whole : IsWhole made objects
   pub lanes : HaveLanes objects

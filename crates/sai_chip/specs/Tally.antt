@@ -17,8 +17,8 @@ use Rattle.sai_types.specs.contracts.ids.RidEq.TheImpl as rid_eq
 use Rattle.sai_types.specs.contracts.ids.RidPartialEq.TheImpl as rid_partial_eq
 use Rattle.sai_types.specs.contracts.ids.RidPartialOrd.TheImpl as rid_partial_ord
 use Rattle.sai_types.specs.contracts.body.RifOnOrd.TheImpl as rif_on_ord
-use Rattle.sai_chip.specs.declared.mark.Mark.{Mark}
-use Rattle.sai_chip.specs.declared.mark.Mark.TheVariants as mark
+use Rattle.sai_chip.specs.declared.mark.TakenMark.{TakenMark}
+use Rattle.sai_chip.specs.declared.mark.TakenMark.TheVariants as mark
 
 -- the orders of what is marked
 abbrev pub kind_cmp : Kind → Kind → Ordering
@@ -56,7 +56,7 @@ abbrev pub count_in : {K : Type 0} → (K → K → Ordering) → List (K × ℕ
 count_in cmp counts k = unwrap_or (lookup (is_at (cmp k)) counts) 0
 
 -- how often a mark is counted
-abbrev pub count_at : Tally → Mark → ℕ
+abbrev pub count_at : Tally → TakenMark → ℕ
 count_at t (mark.Of k) = count_in kind_cmp t.kinds k
 count_at t (mark.RefersTo r) = count_in rid_cmp t.references r
 count_at t (mark.Lane lane) = count_in nat_cmp t.lanes lane
@@ -68,7 +68,7 @@ count_at t (mark.NextHop rif ip) = count_in neighbor_cmp t.next_hops (rif, ip)
 count_at t (mark.GroupMember group next_hop) = count_in pair_cmp t.group_members (group, next_hop)
 
 -- whether two marks are the same
-abbrev pub is_mark : Mark → Mark → Bool
+abbrev pub is_mark : TakenMark → TakenMark → Bool
 is_mark (mark.Of k) (mark.Of k') = is_at (kind_cmp k) k'
 is_mark (mark.RefersTo r) (mark.RefersTo r') = is_at (rid_cmp r) r'
 is_mark (mark.Lane lane) (mark.Lane lane') = is_at (nat_cmp lane) lane'
@@ -81,5 +81,5 @@ is_mark (mark.GroupMember group next_hop) (mark.GroupMember group' next_hop') = 
 is_mark _ _ = false
 
 -- how often a mark is among marks
-abbrev pub claims : Mark → List Mark → ℕ
+abbrev pub claims : TakenMark → List TakenMark → ℕ
 claims m marks = count_by (λ k. is_mark k m) marks

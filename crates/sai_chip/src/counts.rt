@@ -5,9 +5,9 @@ ghost use Rattle.sai_types.specs.declared.ids.Rid.{Rid};
 ghost use Rattle.sai_types.specs.Refusal.{same_id};
 ghost use Rattle.sai_chip.specs.Marks.{target_marks};
 ghost use Rattle.sai_chip.specs.Tally.{count_at, count_in, empty_tally, is_mark, claims, pair_cmp};
-ghost use Rattle.sai_chip.specs.declared.mark.Mark.{Mark};
+ghost use Rattle.sai_chip.specs.declared.mark.TakenMark.{TakenMark};
 
-use crate::mark::Mark;
+use crate::mark::TakenMark;
 use crate::tally::{count, lower, raise};
 use sai_types::{Kind, Rid, RifOn, To};
 use std::alloc::Global;
@@ -66,58 +66,58 @@ impl Counts {
     }
 
     /// How often the mark stands.
-    pub fn count(&self, mark: &Mark) -> u64
+    pub fn count(&self, mark: &TakenMark) -> u64
         ensures { result ≡ count_at self.now mark.now }
     {
         match mark {
-            Mark::Of(kind) => count(&self.kinds, kind),
-            Mark::RefersTo(id) => count(&self.references, id),
-            Mark::Lane(lane) => count(&self.lanes, lane),
-            Mark::Vlan(vlan) => count(&self.vlans, vlan),
-            Mark::BridgePort(port) => count(&self.bridge_ports, port),
-            Mark::VlanMember(vlan, port) => count(&self.vlan_members, &(*vlan, *port)),
-            Mark::Rif(on) => count(&self.rifs, on),
-            Mark::NextHop(rif, ip) => count(&self.next_hops, &(*rif, *ip)),
-            Mark::GroupMember(group, next_hop) => {
+            TakenMark::Of(kind) => count(&self.kinds, kind),
+            TakenMark::RefersTo(id) => count(&self.references, id),
+            TakenMark::Lane(lane) => count(&self.lanes, lane),
+            TakenMark::Vlan(vlan) => count(&self.vlans, vlan),
+            TakenMark::BridgePort(port) => count(&self.bridge_ports, port),
+            TakenMark::VlanMember(vlan, port) => count(&self.vlan_members, &(*vlan, *port)),
+            TakenMark::Rif(on) => count(&self.rifs, on),
+            TakenMark::NextHop(rif, ip) => count(&self.next_hops, &(*rif, *ip)),
+            TakenMark::GroupMember(group, next_hop) => {
                 count(&self.group_members, &(*group, *next_hop))
             }
         }
     }
 
     /// Counts a mark once more. Want of memory comes too where the count has no next number.
-    fn raise(&mut self, mark: Mark) -> Result<(), OutOfMemory>
-        ensures ok { OnOk result ((m : Mark) → count_at self.new m ≡ count_at self.old m + (if is_mark mark m then 1 else 0)) }
+    fn raise(&mut self, mark: TakenMark) -> Result<(), OutOfMemory>
+        ensures ok { OnOk result ((m : TakenMark) → count_at self.new m ≡ count_at self.old m + (if is_mark mark m then 1 else 0)) }
         ensures err { OnErr result (self.new ≡ self.old) }
     {
         match mark {
-            Mark::Of(kind) => raise(&mut self.kinds, kind),
-            Mark::RefersTo(id) => raise(&mut self.references, id),
-            Mark::Lane(lane) => raise(&mut self.lanes, lane),
-            Mark::Vlan(vlan) => raise(&mut self.vlans, vlan),
-            Mark::BridgePort(port) => raise(&mut self.bridge_ports, port),
-            Mark::VlanMember(vlan, port) => raise(&mut self.vlan_members, (vlan, port)),
-            Mark::Rif(on) => raise(&mut self.rifs, on),
-            Mark::NextHop(rif, ip) => raise(&mut self.next_hops, (rif, ip)),
-            Mark::GroupMember(group, next_hop) => {
+            TakenMark::Of(kind) => raise(&mut self.kinds, kind),
+            TakenMark::RefersTo(id) => raise(&mut self.references, id),
+            TakenMark::Lane(lane) => raise(&mut self.lanes, lane),
+            TakenMark::Vlan(vlan) => raise(&mut self.vlans, vlan),
+            TakenMark::BridgePort(port) => raise(&mut self.bridge_ports, port),
+            TakenMark::VlanMember(vlan, port) => raise(&mut self.vlan_members, (vlan, port)),
+            TakenMark::Rif(on) => raise(&mut self.rifs, on),
+            TakenMark::NextHop(rif, ip) => raise(&mut self.next_hops, (rif, ip)),
+            TakenMark::GroupMember(group, next_hop) => {
                 raise(&mut self.group_members, (group, next_hop))
             }
         }
     }
 
     /// Counts a mark once less, where it stands.
-    fn lower(&mut self, mark: Mark)
-        ensures { (m : Mark) → count_at self.new m ≡ count_at self.old m - (if is_mark mark m then 1 else 0) }
+    fn lower(&mut self, mark: TakenMark)
+        ensures { (m : TakenMark) → count_at self.new m ≡ count_at self.old m - (if is_mark mark m then 1 else 0) }
     {
         match mark {
-            Mark::Of(kind) => lower(&mut self.kinds, kind),
-            Mark::RefersTo(id) => lower(&mut self.references, id),
-            Mark::Lane(lane) => lower(&mut self.lanes, lane),
-            Mark::Vlan(vlan) => lower(&mut self.vlans, vlan),
-            Mark::BridgePort(port) => lower(&mut self.bridge_ports, port),
-            Mark::VlanMember(vlan, port) => lower(&mut self.vlan_members, (vlan, port)),
-            Mark::Rif(on) => lower(&mut self.rifs, on),
-            Mark::NextHop(rif, ip) => lower(&mut self.next_hops, (rif, ip)),
-            Mark::GroupMember(group, next_hop) => {
+            TakenMark::Of(kind) => lower(&mut self.kinds, kind),
+            TakenMark::RefersTo(id) => lower(&mut self.references, id),
+            TakenMark::Lane(lane) => lower(&mut self.lanes, lane),
+            TakenMark::Vlan(vlan) => lower(&mut self.vlans, vlan),
+            TakenMark::BridgePort(port) => lower(&mut self.bridge_ports, port),
+            TakenMark::VlanMember(vlan, port) => lower(&mut self.vlan_members, (vlan, port)),
+            TakenMark::Rif(on) => lower(&mut self.rifs, on),
+            TakenMark::NextHop(rif, ip) => lower(&mut self.next_hops, (rif, ip)),
+            TakenMark::GroupMember(group, next_hop) => {
                 lower(&mut self.group_members, (group, next_hop));
             }
         }
@@ -125,30 +125,30 @@ impl Counts {
 
     /// Counts a route's target as referred to once more.
     pub fn refer(&mut self, to: To<Rid>) -> Result<(), OutOfMemory>
-        ensures ok { OnOk result ((m : Mark) → count_at self.new m ≡ count_at self.old m + claims m (target_marks to)) }
+        ensures ok { OnOk result ((m : TakenMark) → count_at self.new m ≡ count_at self.old m + claims m (target_marks to)) }
         ensures err { OnErr result (self.new ≡ self.old) }
     {
         match to {
             To::Drop => Ok(()),
-            To::Rif(id) | To::NextHop(id) | To::Group(id) => self.raise(Mark::RefersTo(id)),
+            To::Rif(id) | To::NextHop(id) | To::Group(id) => self.raise(TakenMark::RefersTo(id)),
         }
     }
 
     /// Counts a route's target as referred to once less.
     pub fn release(&mut self, to: To<Rid>)
-        ensures { (m : Mark) → count_at self.new m ≡ count_at self.old m - claims m (target_marks to) }
+        ensures { (m : TakenMark) → count_at self.new m ≡ count_at self.old m - claims m (target_marks to) }
     {
         match to {
             To::Drop => {}
-            To::Rif(id) | To::NextHop(id) | To::Group(id) => self.lower(Mark::RefersTo(id)),
+            To::Rif(id) | To::NextHop(id) | To::Group(id) => self.lower(TakenMark::RefersTo(id)),
         }
     }
 
     /// Counts each of the marks once more. Want of memory comes too where a count has no next number; the counts are
     /// then what they were.
-    pub fn add(&mut self, marks: &[Mark]) -> Result<(), OutOfMemory>
-        ensures ok { OnOk result ((m : Mark) → count_at self.new m ≡ count_at self.old m + claims m marks.now) }
-        ensures err { OnErr result ((m : Mark) → count_at self.new m ≡ count_at self.old m) }
+    pub fn add(&mut self, marks: &[TakenMark]) -> Result<(), OutOfMemory>
+        ensures ok { OnOk result ((m : TakenMark) → count_at self.new m ≡ count_at self.old m + claims m marks.now) }
+        ensures err { OnErr result ((m : TakenMark) → count_at self.new m ≡ count_at self.old m) }
     {
         match marks {
             [] => Ok(()),
@@ -164,8 +164,8 @@ impl Counts {
     }
 
     /// Counts each of the marks once less, where it stands.
-    pub fn take_away(&mut self, marks: &[Mark])
-        ensures { (m : Mark) → count_at self.new m ≡ count_at self.old m - claims m marks.now }
+    pub fn take_away(&mut self, marks: &[TakenMark])
+        ensures { (m : TakenMark) → count_at self.new m ≡ count_at self.old m - claims m marks.now }
     {
         for mark in marks {
             self.lower(*mark);
@@ -174,7 +174,7 @@ impl Counts {
 
     /// The next hops that are members of the group, each once.
     pub fn members(&self, alloc: Global, group: Rid) -> Result<Vec<Rid>, OutOfMemory>
-        ensures { IfOk result (λ members. (n : Rid) → list_any (same_id n) members.items ≡ nat_lt 0 (count_at self.now (Mark.GroupMember group n))) }
+        ensures { IfOk result (λ members. (n : Rid) → list_any (same_id n) members.items ≡ nat_lt 0 (count_at self.now (TakenMark.GroupMember group n))) }
     {
         members_of(alloc, &self.group_members, group)
     }

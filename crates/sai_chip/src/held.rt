@@ -15,7 +15,7 @@ ghost use Rattle.sai_chip.specs.Replay.{thing_at};
 use crate::bodies::Bodies;
 use crate::counts::Counts;
 use crate::effect::entry_of;
-use crate::mark::Mark;
+use crate::mark::TakenMark;
 use crate::marks::marks_of;
 use crate::names::{GroupHops, thing_at};
 use crate::things::hops_of;
@@ -74,7 +74,7 @@ impl Held {
     }
 
     /// Whether an object takes this up.
-    pub fn has(&self, mark: &Mark) -> bool
+    pub fn has(&self, mark: &TakenMark) -> bool
         ensures { result ≡ stands mark.now self.now }
     {
         0 < self.counts.count(mark)
@@ -84,7 +84,7 @@ impl Held {
     pub fn used(&self, kind: Kind) -> u64
         ensures { result ≡ used self.now kind }
     {
-        self.counts.count(&Mark::Of(kind))
+        self.counts.count(&TakenMark::Of(kind))
     }
 
     /// Puts an object in place of the one with the same entry, if there is one. The identifier is taken where the body
@@ -214,7 +214,7 @@ impl Held {
     }
 
     /// What the object with this entry takes up: nothing where there is none.
-    fn marks_at(&self, entry: &Entry<Rid>) -> Result<Vec<Mark>, OutOfMemory>
+    fn marks_at(&self, entry: &Entry<Rid>) -> Result<Vec<TakenMark>, OutOfMemory>
         ensures { IfOk result (λ marks. marks.items ≡ marks_at self.now entry.now) }
     {
         if let Entry::Oid(id) = entry {
@@ -225,7 +225,7 @@ impl Held {
 }
 
 /// What a body takes up: nothing where there is none.
-fn marks_if(alloc: Global, body: Option<&Body<Rid>>) -> Result<Vec<Mark>, OutOfMemory>
+fn marks_if(alloc: Global, body: Option<&Body<Rid>>) -> Result<Vec<TakenMark>, OutOfMemory>
     ensures { IfOk result (λ marks. marks.items ≡ marks_if (option_copied body.entry)) }
 {
     match body {

@@ -5,7 +5,7 @@ use swss_types::Ip;
 /// What an object takes up: a place among its kind, a reference to another object, its natural key, a lane. An object
 /// without an identifier is found by its entry, so its natural key needs no mark.
 #[derive(Clone, Copy, Debug, PartialEq, Eq)]
-pub enum Mark {
+pub enum TakenMark {
     /// One of this kind stands.
     Of(Kind),
     /// The object with this identifier is referred to.

@@ -48,13 +48,13 @@ pub struct SimChip {
 
 impl Model for SimChip {
     ghost use Rattle.sai_chip.specs.Sim.{Sim};
-    ghost use Rattle.sai_chip.specs.SimChip.{IsInOrder};
+    ghost use Rattle.sai_chip.specs.SimChip.{IsChipInOrder};
 
     ghost Value = { Sim };
 
     ghost view = { λ s. record { chip = record { objects = s.held; effects = s.effects.items; capacities = s.caps.0; fails = s.fails; clean = s.clean; faults = s.faults; before_fault = s.before_fault }; calls = s.calls } };
 
-    ghost invariant = { λ s. IsInOrder s.held s.effects.items s.fails s.made s.faults s.calls };
+    ghost invariant = { λ s. IsChipInOrder s.held s.effects.items s.fails s.made s.faults s.calls };
 }
 
 impl SimChip {

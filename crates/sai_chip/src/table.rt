@@ -4,10 +4,10 @@ ghost use Rattle.std.specs.List.{list_any};
 ghost use Rattle.sai_types.specs.Objects.{body_at, is_there, is_kind_of, level};
 ghost use Rattle.sai_types.specs.Refusal.{attr_refers_well, clash, create_refusal, first_of, has_attr, is_base, is_target, refers_to, refers_well, refusal_of, remove_refusal, set_refusal};
 ghost use Rattle.sai_chip.specs.Marks.{stands};
-ghost use Rattle.sai_chip.specs.declared.mark.Mark.TheVariants as mark;
+ghost use Rattle.sai_chip.specs.declared.mark.TakenMark.TheVariants as mark;
 
 use crate::held::Held;
-use crate::mark::Mark;
+use crate::mark::TakenMark;
 use crate::marks::kind_of;
 use sai_types::{Attr, Body, Call, Caps, ChipAnswer, Entry, Kind, Rid, RifOn, To};
 
@@ -107,8 +107,8 @@ fn is_referred(held: &Held, entry: &Entry<Rid>) -> bool
     ensures { result ≡ list_any (λ o. refers_to o.1 entry.now) held.now }
 {
     match *entry {
-        Entry::Oid(id) => held.has(&Mark::RefersTo(id)),
-        Entry::Neigh(rif, ip) => held.has(&Mark::NextHop(rif, ip)),
+        Entry::Oid(id) => held.has(&TakenMark::RefersTo(id)),
+        Entry::Neigh(rif, ip) => held.has(&TakenMark::NextHop(rif, ip)),
         _ => false,
     }
 }
@@ -175,20 +175,22 @@ fn clashes(held: &Held, body: &Body<Rid>) -> bool
 {
     match body {
         Body::Port { lanes, .. } => has_lane(held, lanes.items()),
-        Body::Vlan { vlan } => held.has(&Mark::Vlan(*vlan)),
-        Body::BridgePort { port } => held.has(&Mark::BridgePort(*port)),
+        Body::Vlan { vlan } => held.has(&TakenMark::Vlan(*vlan)),
+        Body::BridgePort { port } => held.has(&TakenMark::BridgePort(*port)),
         Body::VlanMember {
             vlan,
             bridge_port,
             ..
-        } => held.has(&Mark::VlanMember(*vlan, *bridge_port)),
-        Body::Rif { on } => held.has(&Mark::Rif(*on)),
+        } => held.has(&TakenMark::VlanMember(*vlan, *bridge_port)),
+        Body::Rif { on } => held.has(&TakenMark::Rif(*on)),
         Body::OwnAddress { .. } | Body::Neighbor { .. } | Body::Route { .. } => {
             held.bodies().takes(body)
         }
-        Body::NextHop { rif, ip } => held.has(&Mark::NextHop(*rif, *ip)),
+        Body::NextHop { rif, ip } => held.has(&TakenMark::NextHop(*rif, *ip)),
         Body::Group => false,
-        Body::GroupMember { group, next_hop } => held.has(&Mark::GroupMember(*group, *next_hop)),
+        Body::GroupMember { group, next_hop } => held.has(&TakenMark::GroupMember(
+            *group, *next_hop,
+        )),
     }
 }
 
@@ -197,7 +199,7 @@ fn has_lane(held: &Held, lanes: &[u16]) -> bool
     ensures { result ≡ list_any (λ lane. stands (mark.Lane lane) held.now) lanes.now }
 {
     for lane in lanes {
-        if held.has(&Mark::Lane(*lane)) {
+        if held.has(&TakenMark::Lane(*lane)) {
             return true;
         }
     }

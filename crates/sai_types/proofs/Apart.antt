@@ -1,9 +1,10 @@
 -- bodies that clash, before and after a set
-use Rattle.std.proofs.Common.{◌≡◌, ℕ, ◌==◌, Bool, true, false, ◌||◌, ◌&&◌, List, [], ◌∷◌, refl, sym, ap, ◌∙◌}
+use Rattle.std.proofs.Common.{◌≡◌, ℕ, ◌==◌, Bool, false, ◌||◌, ◌&&◌, List, [], ◌∷◌, refl, sym, ap, ◌∙◌}
 use Rattle.std.specs.Cmp.{nat_eq_equiv}
 use Rattle.std.specs.List.{list_any}
 use Rattle.swss_types.specs.contracts.address.IpEq.TheImpl.Laws as equal_ip
 use Rattle.swss_types.specs.contracts.address.PrefixEq.TheImpl.Laws as equal_prefix
+use Rattle.swss_types.proofs.Truths.{or_regrouped}
 use Rattle.sai_types.specs.declared.ids.Rid.{Rid}
 use Rattle.sai_types.specs.declared.body.RifOn.{RifOn}
 use Rattle.sai_types.specs.declared.body.RifOn.TheVariants as on
@@ -23,15 +24,9 @@ any_never : {X : Type 0} (xs : List X) → list_any (λ x. false) xs ≡ false
 any_never [] = refl
 any_never (x ∷ xs) = any_never xs
 
-or_parts : (a b c d : Bool) → ((a || b) || (c || d)) ≡ ((a || c) || (b || d))
-or_parts true b c d = refl
-or_parts false true true d = refl
-or_parts false true false d = refl
-or_parts false false c d = refl
-
 any_or : {X : Type 0} (p q : X → Bool) (xs : List X) → list_any (λ x. p x || q x) xs ≡ (list_any p xs || list_any q xs)
 any_or p q [] = refl
-any_or p q (x ∷ xs) = ap (λ b. (p x || q x) || b) (any_or p q xs) ∙ or_parts (p x) (q x) (list_any p xs) (list_any q xs)
+any_or p q (x ∷ xs) = ap (λ b. (p x || q x) || b) (any_or p q xs) ∙ or_regrouped (p x) (q x) (list_any p xs) (list_any q xs)
 
 any_any : {X Y : Type 0} (p : X → Y → Bool) (xs : List X) (ys : List Y) → list_any (λ x. list_any (p x) ys) xs ≡ list_any (λ y. list_any (λ x. p x y) xs) ys
 any_any p [] ys = sym (any_never ys)

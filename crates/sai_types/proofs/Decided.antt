@@ -1,6 +1,6 @@
 -- what an address's packets are decided by
 use Rattle.std.proofs.Common.{◌≡◌, ◌⊎◌, inl, inr, ℕ, ◌+◌, ◌-◌, ◌*◌, ◌/◌, ◌%◌, ◌^◌, ◌≤◌, ◌==◌, nat_lt, Bool, true, false, ◌||◌, List, [], ◌∷◌, Option, None, Some, if◌then◌else◌, refl, sym, ap, ◌∙◌, subst, arith}
-use Rattle.std.proofs.lemmas.Bool.{and_parts, eqb-true, false≢true}
+use Rattle.std.proofs.lemmas.Bool.{and_parts, eqb-true, false≢true, or_right}
 use Rattle.std.proofs.lemmas.Bool.Decides.{nat_tests}
 use Rattle.std.proofs.lemmas.Nat.{div-add-mod'}
 use Rattle.std.specs.Cmp.{both_ways}
@@ -53,13 +53,13 @@ le_from_not_lt m n h = grind (arith, nat_tests)
 le_from_lt : (m n : ℕ) → nat_lt m n ≡ true → m ≤ n
 le_from_lt m n h = grind (arith, nat_tests)
 
-chosen : (b : Bool) (p : Prefix) (g : Goal) (ts : List Thing) (a : Ip) (r : Prefix × Goal) → nat_lt p.len r.0.len ≡ b → covers p a ≡ true → IsBest ts a r.0 r.1 → IsAnswer (thing.Route p g ∷ ts) a (if b then Some r else Some (p, g))
-chosen true p g ts a r lt cov best = record {
+chosen_is_answer : (b : Bool) (p : Prefix) (g : Goal) (ts : List Thing) (a : Ip) (r : Prefix × Goal) → nat_lt p.len r.0.len ≡ b → covers p a ≡ true → IsBest ts a r.0 r.1 → IsAnswer (thing.Route p g ∷ ts) a (if b then Some r else Some (p, g))
+chosen_is_answer true p g ts a r lt cov best = record {
   here = inr best.here;
   covering = best.covering;
   longest = λ q h c i. in_tail (thing.Route q h) (thing.Route p g) ts (q.len ≤ r.0.len) (λ e. let one = len_of p q (route_prefix q p h g e) in let two = le_from_lt p.len r.0.len lt in omega arith) (best.longest q h c) i;
 }
-chosen false p g ts a r lt cov best = record {
+chosen_is_answer false p g ts a r lt cov best = record {
   here = inl refl;
   covering = cov;
   longest = λ q h c i. in_tail (thing.Route q h) (thing.Route p g) ts (q.len ≤ p.len) (λ e. len_of p q (route_prefix q p h g e)) (λ j. let one = best.longest q h c j in let two = le_from_not_lt p.len r.0.len lt in omega arith) i;
@@ -71,29 +71,29 @@ longer_is p g ts a None cov answer = record {
   covering = cov;
   longest = λ q h c i. in_tail (thing.Route q h) (thing.Route p g) ts (q.len ≤ p.len) (λ e. len_of p q (route_prefix q p h g e)) (λ j. absurd (answer q h c j)) i;
 }
-longer_is p g ts a (Some r) cov answer = chosen (nat_lt p.len r.0.len) p g ts a r refl cov answer
+longer_is p g ts a (Some r) cov answer = chosen_is_answer (nat_lt p.len r.0.len) p g ts a r refl cov answer
 
 route_is : (b : Bool) (p : Prefix) (g : Goal) (ts : List Thing) (a : Ip) (o : Option (Prefix × Goal)) → covers p a ≡ b → IsAnswer ts a o → IsAnswer (thing.Route p g ∷ ts) a (if b then longer p g o else o)
 route_is true p g ts a o cov answer = longer_is p g ts a o cov answer
 route_is false p g ts a o cov answer = aside (thing.Route p g) ts a o (λ q h c e. false≢true (sym cov ∙ ap (λ x. covers x a) (sym (route_prefix q p h g e)) ∙ c)) answer
 
-step : (t : Thing) (ts : List Thing) (a : Ip) (o : Option (Prefix × Goal)) → IsAnswer ts a o → IsAnswer (t ∷ ts) a (with_route a t o)
-step (thing.Route p g) ts a o answer = route_is (covers p a) p g ts a o refl answer
-step (thing.Port x) ts a o answer = aside (thing.Port x) ts a o (λ q h c e. cc) answer
-step (thing.Vlan x) ts a o answer = aside (thing.Vlan x) ts a o (λ q h c e. cc) answer
-step (thing.BridgePort x) ts a o answer = aside (thing.BridgePort x) ts a o (λ q h c e. cc) answer
-step (thing.VlanMember x y z) ts a o answer = aside (thing.VlanMember x y z) ts a o (λ q h c e. cc) answer
-step (thing.Rif x) ts a o answer = aside (thing.Rif x) ts a o (λ q h c e. cc) answer
-step (thing.Own x) ts a o answer = aside (thing.Own x) ts a o (λ q h c e. cc) answer
-step (thing.Neighbor x y) ts a o answer = aside (thing.Neighbor x y) ts a o (λ q h c e. cc) answer
-step (thing.NextHop x) ts a o answer = aside (thing.NextHop x) ts a o (λ q h c e. cc) answer
-step (thing.Group x) ts a o answer = aside (thing.Group x) ts a o (λ q h c e. cc) answer
-step (thing.GroupMember x y) ts a o answer = aside (thing.GroupMember x y) ts a o (λ q h c e. cc) answer
+answer_with_thing : (t : Thing) (ts : List Thing) (a : Ip) (o : Option (Prefix × Goal)) → IsAnswer ts a o → IsAnswer (t ∷ ts) a (with_route a t o)
+answer_with_thing (thing.Route p g) ts a o answer = route_is (covers p a) p g ts a o refl answer
+answer_with_thing (thing.Port x) ts a o answer = aside (thing.Port x) ts a o (λ q h c e. cc) answer
+answer_with_thing (thing.Vlan x) ts a o answer = aside (thing.Vlan x) ts a o (λ q h c e. cc) answer
+answer_with_thing (thing.BridgePort x) ts a o answer = aside (thing.BridgePort x) ts a o (λ q h c e. cc) answer
+answer_with_thing (thing.VlanMember x y z) ts a o answer = aside (thing.VlanMember x y z) ts a o (λ q h c e. cc) answer
+answer_with_thing (thing.Rif x) ts a o answer = aside (thing.Rif x) ts a o (λ q h c e. cc) answer
+answer_with_thing (thing.Own x) ts a o answer = aside (thing.Own x) ts a o (λ q h c e. cc) answer
+answer_with_thing (thing.Neighbor x y) ts a o answer = aside (thing.Neighbor x y) ts a o (λ q h c e. cc) answer
+answer_with_thing (thing.NextHop x) ts a o answer = aside (thing.NextHop x) ts a o (λ q h c e. cc) answer
+answer_with_thing (thing.Group x) ts a o answer = aside (thing.Group x) ts a o (λ q h c e. cc) answer
+answer_with_thing (thing.GroupMember x y) ts a o answer = aside (thing.GroupMember x y) ts a o (λ q h c e. cc) answer
 
 -- the best route is one of the longest prefix that covers the address
 pub answer_is : (ts : List Thing) (a : Ip) → IsAnswer ts a (best_route ts a)
 answer_is [] a = λ q h c i. i
-answer_is (t ∷ ts) a = step t ts a (best_route ts a) (answer_is ts a)
+answer_is (t ∷ ts) a = answer_with_thing t ts a (best_route ts a) (answer_is ts a)
 
 family_same : (f g : Family) → same_family f g ≡ true → f ≡ g
 family_same V4 V4 h = refl
@@ -146,14 +146,10 @@ pub has_own-in : (ts : List Thing) (a : Ip) → has_own ts a ≡ true → IsIn (
 has_own-in [] a h = absurd (false≢true h)
 has_own-in (t ∷ ts) a h = own_by (is_own a t) (has_own ts a) (thing.Own a ≡ t) (IsIn (thing.Own a) ts) (own_is a t) (has_own-in ts a) h
 
-or_true : (b c : Bool) → c ≡ true → (b || c) ≡ true
-or_true true c h = refl
-or_true false c h = h
-
 pub in-has_own : (ts : List Thing) (a : Ip) → IsIn (thing.Own a) ts → has_own ts a ≡ true
 in-has_own [] a i = absurd i
 in-has_own (t ∷ ts) a (inl e) = let here : is_own a t ≡ true = ap (is_own a) (sym e) ∙ equal_ip.laws-law.refl a in ap (λ b. b || has_own ts a) here
-in-has_own (t ∷ ts) a (inr i) = or_true (is_own a t) (has_own ts a) (in-has_own ts a i)
+in-has_own (t ∷ ts) a (inr i) = or_right (is_own a t) (has_own ts a) (in-has_own ts a i)
 
 alike_by : (ts us : List Thing) (a : Ip) (o p : Option (Prefix × Goal)) → AreRoutes us → DecideAlike ts us a → IsAnswer ts a o → IsAnswer us a p → o ≡ p
 alike_by ts us a None None routes alike x y = refl

@@ -21,17 +21,17 @@ id-exact a b h = let made : ℕ → Rid = λ n. record { 0 = n } in ap made (eqb
 pub ids-tied : (a b : Rid) → same_entry (entry.Oid a) (entry.Oid b) ≡ same_id a b
 ids-tied a b = search rules
 
-family_exact : (x y : Family) → same_family.ghosts.eq x y ≡ true → x ≡ y
-family_exact V4 V4 h = refl
-family_exact V6 V6 h = refl
-family_exact V4 V6 h = absurd (false≢true h)
-family_exact V6 V4 h = absurd (false≢true h)
+family_eq_exact : (x y : Family) → same_family.ghosts.eq x y ≡ true → x ≡ y
+family_eq_exact V4 V4 h = refl
+family_eq_exact V6 V6 h = refl
+family_eq_exact V4 V6 h = absurd (false≢true h)
+family_eq_exact V6 V4 h = absurd (false≢true h)
 
 pub ip-exact : (a b : Ip) → same_ip a b ≡ true → a ≡ b
 ip-exact a b h =
     let made : Family → ℕ → Ip = λ f n. record { family = f; bits = n } in
     let parts = and_parts (same_family.ghosts.eq a.family b.family) _ h in
-    ap₂ made (family_exact a.family b.family parts.0) (eqb-true a.bits b.bits parts.1)
+    ap₂ made (family_eq_exact a.family b.family parts.0) (eqb-true a.bits b.bits parts.1)
 
 pub prefix-exact : (a b : Prefix) → same_prefix a b ≡ true → a ≡ b
 prefix-exact a b h =

@@ -1,11 +1,12 @@
 -- what is found after a call
-use Rattle.std.proofs.Common.{◌≡◌, ℕ, Bool, true, false, cond, ◌||◌, [], ◌∷◌, Option, None, Some, option_map, refl, sym, ap, ◌∙◌}
+use Rattle.std.proofs.Common.{◌≡◌, ℕ, Bool, true, false, cond, [], ◌∷◌, Option, None, Some, option_map, refl, sym, ap, ◌∙◌}
 use Rattle.std.specs.BTreeMap.{insert_entry, is_at}
 use Rattle.std.specs.Cmp.{eq_by_cmp_equiv}
 use Rattle.std.specs.List.{list_any}
 use Rattle.std.specs.Map.{remove_entry}
 use Rattle.std.specs.HashMap.Eq.{lookup_congr}
 use Rattle.std.specs.Ordering.{eq_by_cmp}
+use Rattle.std.proofs.lemmas.Bool.{or_parts}
 use Rattle.sai_types.specs.declared.ids.Rid.{Rid}
 use Rattle.sai_types.specs.declared.body.Attr.{Attr}
 use Rattle.sai_types.specs.declared.body.Body.{Body}
@@ -36,11 +37,11 @@ body_at-insert objects e b q = lookup-insert_entry entry_cmp entry_total objects
 pub body_at-remove : (objects : Objects) (e q : Entry Rid) → AreSorted objects → body_at (remove_entry (is_at (entry_cmp e)) objects) q ≡ cond (same_entry e q) None (body_at objects q)
 body_at-remove objects e q sorted = lookup-removed entry_cmp entry_total objects e q sorted
 
-found_same : (b : Bool) (x rest : Option (Body Rid)) → b ≡ true → cond b x rest ≡ x
+pub found_same : (b : Bool) (x rest : Option (Body Rid)) → b ≡ true → cond b x rest ≡ x
 found_same true x rest e = refl
 found_same false x rest e = absurd cc
 
-found_other : (b : Bool) (x rest : Option (Body Rid)) → b ≡ false → cond b x rest ≡ rest
+pub found_other : (b : Bool) (x rest : Option (Body Rid)) → b ≡ false → cond b x rest ≡ rest
 found_other false x rest e = refl
 found_other true x rest e = absurd cc
 
@@ -84,10 +85,6 @@ none_by : (b : Bool) (x : Option (Body Rid)) (d : Body Rid) → (b ≡ true → 
 none_by false x d f h = refl
 none_by true x d f h = let n = f refl in cc
 
-or_false : (a b : Bool) → (a || b) ≡ false → (a ≡ false) × (b ≡ false)
-or_false false b h = (refl, h)
-or_false true b h = absurd cc
-
 any_step : (p : Body Rid → Bool) (t : Bool) (x d : Body Rid) (rest : Option (Body Rid)) → p x ≡ false → (rest ≡ Some d → p d ≡ false) → cond t (Some x) rest ≡ Some d → p d ≡ false
 any_step p true x d rest never f h = let same : x ≡ d = cc in ap p (sym same) ∙ never
 any_step p false x d rest never f h = f h
@@ -96,5 +93,5 @@ any_step p false x d rest never f h = f h
 pub any-found : (p : Body Rid → Bool) (objects : Objects) (e : Entry Rid) (d : Body Rid) → list_any (λ o. p o.1) objects ≡ false → body_at objects e ≡ Some d → p d ≡ false
 any-found p [] e d none h = absurd cc
 any-found p (o ∷ os) e d none h =
-    let parts = or_false (p o.1) (list_any (λ x. p x.1) os) none in
+    let parts = or_parts (p o.1) (list_any (λ x. p x.1) os) none in
     any_step p (same_entry e o.0) o.1 d (body_at os e) parts.0 (any-found p os e d parts.1) h

@@ -1,9 +1,10 @@
 -- objects with one name are one object
-use Rattle.std.proofs.Common.{◌≡◌, ℕ, ◌==◌, Bool, true, false, ◌||◌, ◌&&◌, List, [], ◌∷◌, slice_index, Option, None, Some, option_map, refl, sym, ap, ◌∙◌}
+use Rattle.std.proofs.Common.{◌≡◌, ℕ, ◌==◌, Bool, true, false, ◌||◌, ◌&&◌, List, [], ◌∷◌, slice_index, Option, None, Some, refl, sym, ap, ◌∙◌}
 use Rattle.std.specs.List.{list_any}
 use Rattle.std.proofs.lemmas.Bool.{eqb-true, eq-eqb}
 use Rattle.swss_types.specs.declared.address.Ip.{Ip}
 use Rattle.swss_types.specs.contracts.address.IpEq.TheImpl.Laws as equal_ip
+use Rattle.swss_types.proofs.Proper.{mapped}
 use Rattle.sai_types.specs.declared.ids.Rid.{Rid}
 use Rattle.sai_types.specs.declared.hop.Base.{Base}
 use Rattle.sai_types.specs.declared.hop.Base.TheVariants as base
@@ -18,10 +19,6 @@ use Rattle.sai_types.specs.Refusal.{clash, same_id, same_ip, same_base, share_la
 use Rattle.sai_types.specs.Named.{port_of, vlan_of, port_at, vlan_at, bridge_port_of, bridge_port_at, base_on, rif_of, rif_at, hop_on, next_hop_of, next_hop_at, first_lane}
 use Rattle.sai_types.specs.Made.{IsWhole, HaveLanes}
 use Rattle.sai_types.proofs.Exact.{ids-tied}
-
-pub mapped : {X Y : Type 0} (f : X → Y) (o : Option X) (y : Y) → option_map f o ≡ Some y → (x : X) × (o ≡ Some x) × (f x ≡ y)
-mapped f None y h = absurd cc
-mapped f (Some x) y h = (x, refl, cc)
 
 implies_by : (a b c d : Bool) → (a ≡ true → b ≡ true) → (c ≡ true → d ≡ true) → (a || c) ≡ true → (b || d) ≡ true
 implies_by true b c d f g h = ap (λ x. x || d) (f refl)

@@ -1,5 +1,5 @@
 -- entries of a map in order: what is found after a change, and that they stay in order
-use Rattle.std.proofs.Common.{◌≡◌, Bool, true, false, cond, List, [], ◌∷◌, Option, None, Some, Ordering, refl, sym, ap, ◌∙◌}
+use Rattle.std.proofs.Common.{◌≡◌, Bool, true, false, cond, List, [], ◌∷◌, None, Some, Ordering, refl, sym, ap, ◌∙◌}
 use Rattle.std.specs.declared.cmp.Ordering.TheVariants.{Less, Equal, Greater}
 use Rattle.std.specs.Ordering.{is_eq, ordering_reverse, match_ordering}
 use Rattle.std.specs.BTreeMap.{insert_entry, is_at}
@@ -9,17 +9,7 @@ use Rattle.std.specs.List.Sorted.{IsStrictlySortedBy}
 use Rattle.std.specs.Map.{keys_of, lookup, remove_entry}
 use Rattle.std.proofs.lemmas.Map.{lookup-remove_entry}
 use Rattle.std.proofs.lemmas.Map.Keys.{IsDistinct-from_sorted}
-
-by_greater : {X : Type 0} (b c : Bool) (v w : X) (rest : Option X) → (b ≡ true → c ≡ true → ⊥) → cond c (Some w) (cond b (Some v) rest) ≡ cond b (Some v) (cond c (Some w) rest)
-by_greater true true v w rest f = absurd (f refl refl)
-by_greater true false v w rest f = refl
-by_greater false c v w rest f = refl
-
-by_equal : {X : Type 0} (b c : Bool) (v w : X) (rest : Option X) → c ≡ b → cond c (Some v) rest ≡ cond b (Some v) (cond c (Some w) rest)
-by_equal true true v w rest e = refl
-by_equal false false v w rest e = refl
-by_equal true false v w rest e = absurd cc
-by_equal false true v w rest e = absurd cc
+use Rattle.swss_types.proofs.Choices.{by_equal, by_greater}
 
 module _ {K : Type 0} (R : K → K → Ordering) (o : IsTotalOrder R) where
   -- what is equal to two keys makes them equal

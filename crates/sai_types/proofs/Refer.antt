@@ -12,9 +12,7 @@ use Rattle.sai_types.specs.After.{with_attr}
 use Rattle.sai_types.specs.Made.{same_entry}
 use Rattle.sai_types.specs.Objects.{Objects}
 use Rattle.sai_types.specs.References.{Reference, attr_refers_well, references, refers_to, refers_well, stands}
-
-both_true : (a b : Bool) → a ≡ true → b ≡ true → (a && b) ≡ true
-both_true a b e f = cc
+use Rattle.sai_types.proofs.Keys.{both_true}
 
 -- what passes one test passes another
 pub all-kept : {X : Type 0} (p q : X → Bool) → ((x : X) → p x ≡ true → q x ≡ true) → (xs : List X) → list_all p xs ≡ true → list_all q xs ≡ true

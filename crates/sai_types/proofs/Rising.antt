@@ -6,9 +6,11 @@ use Rattle.std.specs.List.{AllByRecursion}
 use Rattle.std.specs.List.Sorted.{IsStrictlySortedBy}
 use Rattle.std.specs.Ordering.{is_eq, match_ordering, ordering_reverse}
 use Rattle.std.specs.declared.cmp.Ordering.TheVariants.{Less, Equal, Greater}
+use Rattle.std.specs.Cmp.Lexicographic.{slice_cmp}
 use Rattle.std.proofs.lemmas.Bool.{and_parts, eqb-true, false≢true}
 use Rattle.std.proofs.lemmas.Map.Lookups.{CmpEqualImpliesEq}
 use Rattle.swss_types.specs.declared.address.Ip.{Ip}
+use Rattle.swss_types.proofs.Tied.{then_first, then_last}
 use Rattle.sai_types.specs.declared.hop.Base.{Base}
 use Rattle.sai_types.specs.declared.hop.Base.TheVariants as base
 use Rattle.sai_types.specs.declared.hop.Hop.{Hop}
@@ -37,6 +39,12 @@ hop-same a b h =
 
 pub hop_exact : CmpEqualImpliesEq hop_cmp
 hop_exact a b h = hop-same a b (ordered_hop.matches_eq-law a b ∙ ap is_eq h)
+
+pub hops_exact : CmpEqualImpliesEq (slice_cmp hop_cmp)
+hops_exact [] [] h = refl
+hops_exact [] (y ∷ ys) h = absurd cc
+hops_exact (x ∷ xs) [] h = absurd cc
+hops_exact (x ∷ xs) (y ∷ ys) h = ap₂ (λ a b. a ∷ b) (hop_exact x y (then_first _ _ h)) (hops_exact xs ys (then_last _ _ h))
 
 module _ {K : Type 0} (R : K → K → Ordering) (o : IsTotalOrder R) (exact : CmpEqualImpliesEq R) where
   here_step : (x k : K) (xs : List K) (r : Ordering) → R k x ≡ r → IsIn k (insert_key R xs k) → IsIn k (match_ordering r (k ∷ x ∷ xs) (x ∷ xs) (x ∷ insert_key R xs k))

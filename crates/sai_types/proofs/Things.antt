@@ -6,6 +6,7 @@ use Rattle.swss_types.specs.declared.address.Ip.{Ip}
 use Rattle.swss_types.specs.declared.address.Prefix.{Prefix}
 use Rattle.swss_types.specs.contracts.address.IpEq.TheImpl.Laws as equal_ip
 use Rattle.swss_types.specs.contracts.address.PrefixEq.TheImpl.Laws as equal_prefix
+use Rattle.swss_types.proofs.Proper.{mapped}
 use Rattle.sai_types.specs.declared.ids.Rid.{Rid}
 use Rattle.sai_types.specs.declared.hop.Base.{Base}
 use Rattle.sai_types.specs.declared.hop.Hop.{Hop}
@@ -19,10 +20,10 @@ use Rattle.sai_types.specs.Objects.{Objects, body_at, kind_of, level}
 use Rattle.sai_types.specs.Refusal.{clash, same_id, same_ip, same_prefix}
 use Rattle.sai_types.specs.Named.{both, first_lane, thing_by, port_at, vlan_at, bridge_port_at, base_on, hop_on, hops_at, next_hop_at, goal_by}
 use Rattle.sai_types.specs.Names as name
-use Rattle.sai_types.specs.Names.{Name, name_kind, name_of}
+use Rattle.sai_types.specs.Names.{ThingName, name_kind, name_of}
 use Rattle.sai_types.specs.Made.{IsWhole, HaveLanes, has_first, HaveOneEach, is_one, same_entry}
 use Rattle.sai_types.proofs.Exact.{ids-tied}
-use Rattle.sai_types.proofs.Keys.{both_true, mapped, share-first, one_port, one_vlan, one_bridge_port, one_base, one_hop, one_next_hop}
+use Rattle.sai_types.proofs.Keys.{both_true, share-first, one_port, one_vlan, one_bridge_port, one_base, one_hop, one_next_hop}
 
 pub both_mapped : {A B C : Type 0} (f : A → B → C) (o : Option A) (p : Option B) (y : C) → both f o p ≡ Some y → (a : A) × (b : B) × (o ≡ Some a) × (p ≡ Some b) × (f a b ≡ y)
 both_mapped f None p y h = absurd cc
@@ -59,12 +60,12 @@ groups a b h = cc
 pub group_members : (a b : List Hop) (x y : Hop) → name.GroupMember a x ≡ name.GroupMember b y → (a ≡ b) × (x ≡ y)
 group_members a b x y h = (cc, cc)
 
-pub routes : (a b : Prefix) → name.Route a ≡ name.Route b → a ≡ b
-routes a b h = cc
+pub same_route_prefix : (a b : Prefix) → name.Route a ≡ name.Route b → a ≡ b
+same_route_prefix a b h = cc
 
 module _ (hops : Rid → Option (List Hop)) (objects : Objects) where
   -- the name of an object's thing, by its entry and body
-  abbrev IsNamed : Entry Rid → Body Rid → Name → Type 0
+  abbrev IsNamed : Entry Rid → Body Rid → ThingName → Type 0
   IsNamed e (body.Port lanes speed mtu up) k = k ≡ name.Port (first_lane lanes)
   IsNamed e (body.Vlan vlan) k = k ≡ name.Vlan vlan
   IsNamed e (body.BridgePort port) k = (n : ℕ) × (port_at objects port ≡ Some n) × (k ≡ name.BridgePort n)
@@ -99,7 +100,7 @@ module _ (hops : Rid → Option (List Hop)) (objects : Objects) where
   named e (body.GroupMember group next_hop) x h = let m = both_mapped thing.GroupMember (hops group) (next_hop_at objects next_hop) x h in (m.0, m.1, m.2, m.3, ap name_of (sym m.4))
   named e (body.Route prefix to) x h = let m = mapped (thing.Route prefix) (goal_by hops objects to) x h in ap name_of (sym m.2)
 
-  level_named : (e : Entry Rid) (b : Body Rid) (k : Name) → IsNamed e b k → level (name_kind k) ≡ level (kind_of b)
+  level_named : (e : Entry Rid) (b : Body Rid) (k : ThingName) → IsNamed e b k → level (name_kind k) ≡ level (kind_of b)
   level_named e (body.BridgePort port) k h = ap (λ n. level (name_kind n)) h.2
   level_named e (body.VlanMember vlan bridge_port tagging) k h = ap (λ n. level (name_kind n)) h.4
   level_named e (body.Rif on) k h = ap (λ n. level (name_kind n)) h.2
@@ -116,12 +117,12 @@ module _ (hops : Rid → Option (List Hop)) (objects : Objects) where
   abbrev AreOneGroup : Type 0
   AreOneGroup = (g h : Rid) (hs : List Hop) → hops g ≡ Some hs → hops h ≡ Some hs → same_id g h ≡ true
 
-  one_group : (k : Name) → (is_one k ≡ true) ⊎ AreOneGroup → is_one k ≡ false → AreOneGroup
+  one_group : (k : ThingName) → (is_one k ≡ true) ⊎ AreOneGroup → is_one k ≡ false → AreOneGroup
   one_group k (inl one) many = absurd (false≢true (sym many ∙ one))
   one_group k (inr one) many = one
 
   module _ (made : ℕ) (whole : IsWhole made objects) (have : HaveLanes objects) where
-    same_by : (e f : Entry Rid) (b d : Body Rid) (k : Name) → IsNamed e b k → IsNamed f d k → has_first b ≡ true → has_first d ≡ true → level (kind_of b) ≡ level (kind_of d) → (is_one k ≡ true) ⊎ AreOneGroup → (clash b d ≡ true) ⊎ (same_entry e f ≡ true)
+    same_by : (e f : Entry Rid) (b d : Body Rid) (k : ThingName) → IsNamed e b k → IsNamed f d k → has_first b ≡ true → has_first d ≡ true → level (kind_of b) ≡ level (kind_of d) → (is_one k ≡ true) ⊎ AreOneGroup → (clash b d ≡ true) ⊎ (same_entry e f ≡ true)
     same_by e f (body.Port xs s m u) (body.Port ys s' m' u') k i j x y same one = inl (share-first xs ys (ports (first_lane xs) (first_lane ys) (sym i ∙ j)) x y)
     same_by e f (body.Vlan v) (body.Vlan w) k i j x y same one = inl (eq-eqb v w (vlans v w (sym i ∙ j)))
     same_by e f (body.BridgePort p) (body.BridgePort q) k i j x y same one = inl (one_port made objects whole have p q i.0 i.1 (j.1 ∙ ap Some (sym (bridge_ports i.0 j.0 (sym i.2 ∙ j.2)))))
@@ -138,7 +139,7 @@ module _ (hops : Rid → Option (List Hop)) (objects : Objects) where
     same_by e f (body.GroupMember g n) (body.GroupMember h m) k i j x y same one =
         let keys = group_members i.0 j.0 i.1 j.1 (sym i.4 ∙ j.4) in
         inl (both_true _ _ (one_group k one (ap is_one i.4) g h i.0 i.2 (j.2 ∙ ap Some (sym keys.0))) (one_next_hop made objects whole have n m i.1 i.3 (j.3 ∙ ap Some (sym keys.1))))
-    same_by e f (body.Route prefix to) (body.Route other to') k i j x y same one = inl (ap (same_prefix prefix) (sym (routes prefix other (sym i ∙ j))) ∙ equal_prefix.laws-law.refl prefix)
+    same_by e f (body.Route prefix to) (body.Route other to') k i j x y same one = inl (ap (same_prefix prefix) (sym (same_route_prefix prefix other (sym i ∙ j))) ∙ equal_prefix.laws-law.refl prefix)
     same_by e f _ _ k i j x y same one = absurd (omega arith)
 
     one_by : (e f : Entry Rid) (b d : Body Rid) → body_at objects e ≡ Some b → body_at objects f ≡ Some d → (clash b d ≡ true) ⊎ (same_entry e f ≡ true) → same_entry e f ≡ true

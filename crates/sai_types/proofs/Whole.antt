@@ -32,7 +32,7 @@ found_put : (t : Bool) (b d : Body Rid) (rest : Option (Body Rid)) → cond t (S
 found_put true b d rest h = inl (refl, cc)
 found_put false b d rest h = inr h
 
-kept_put : (t : Bool) (b d : Body Rid) (rest : Option (Body Rid)) → (t ≡ true → ⊥) → rest ≡ Some d → cond t (Some b) rest ≡ Some d
+pub kept_put : (t : Bool) (b d : Body Rid) (rest : Option (Body Rid)) → (t ≡ true → ⊥) → rest ≡ Some d → cond t (Some b) rest ≡ Some d
 kept_put true b d rest f h = absurd (f refl)
 kept_put false b d rest f h = h
 

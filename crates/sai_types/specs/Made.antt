@@ -12,7 +12,7 @@ use Rattle.sai_types.specs.declared.body.Call.{Call}
 use Rattle.sai_types.specs.declared.body.Call.TheVariants as call
 use Rattle.sai_types.specs.declared.thing.Thing.{Thing}
 use Rattle.sai_types.specs.Named.{thing_of}
-use Rattle.sai_types.specs.Names.{Name, name_of}
+use Rattle.sai_types.specs.Names.{ThingName, name_of}
 use Rattle.sai_types.specs.Names as name
 use Rattle.sai_types.specs.Objects.{Objects, body_at, entry_cmp}
 use Rattle.sai_types.specs.References.{refers_well}
@@ -74,7 +74,7 @@ pub record HaveLanes (objects : Objects) : Type 0 where
   pub each : (e : Entry Rid) (b : Body Rid) → body_at objects e ≡ Some b → has_first b ≡ true
 
 -- whether no two things have this name: groups and their members may have the hops of others
-abbrev pub is_one : Name → Bool
+abbrev pub is_one : ThingName → Bool
 is_one (name.Group hops) = false
 is_one (name.GroupMember hops hop) = false
 is_one _ = true

@@ -16,20 +16,20 @@ use Rattle.sai_types.specs.Named.{first_lane}
 use Rattle.sai_types.specs.Refusal.{share_lane}
 
 -- by what two things of a kind are the same thing: what can be set on an object has no part in it
-pub data Name : Type 0 where
-  Port : ℕ → Name
-  Vlan : ℕ → Name
-  BridgePort : ℕ → Name
-  VlanMember : ℕ → ℕ → Name
-  Rif : Base → Name
-  Own : Ip → Name
-  Neighbor : Hop → Name
-  NextHop : Hop → Name
-  Group : List Hop → Name
-  GroupMember : List Hop → Hop → Name
-  Route : Prefix → Name
+pub data ThingName : Type 0 where
+  Port : ℕ → ThingName
+  Vlan : ℕ → ThingName
+  BridgePort : ℕ → ThingName
+  VlanMember : ℕ → ℕ → ThingName
+  Rif : Base → ThingName
+  Own : Ip → ThingName
+  Neighbor : Hop → ThingName
+  NextHop : Hop → ThingName
+  Group : List Hop → ThingName
+  GroupMember : List Hop → Hop → ThingName
+  Route : Prefix → ThingName
 
-abbrev pub name_of : Thing → Name
+abbrev pub name_of : Thing → ThingName
 name_of (thing.Port p) = Port (first_lane p.lanes)
 name_of (thing.Vlan vlan) = Vlan vlan
 name_of (thing.BridgePort lane) = BridgePort lane
@@ -43,7 +43,7 @@ name_of (thing.GroupMember hops hop) = GroupMember hops hop
 name_of (thing.Route prefix goal) = Route prefix
 
 -- the kind of object that a name is for
-abbrev pub name_kind : Name → Kind
+abbrev pub name_kind : ThingName → Kind
 name_kind (Port lane) = kind.Port
 name_kind (Vlan vlan) = kind.Vlan
 name_kind (BridgePort lane) = kind.BridgePort
@@ -60,18 +60,18 @@ name_kind (Route prefix) = kind.Route
 abbrev pub thing_kind : Thing → Kind
 thing_kind t = name_kind (name_of t)
 
-abbrev pub base_name : Base → Name
+abbrev pub base_name : Base → ThingName
 base_name (base.Port lane) = Port lane
 base_name (base.Vlan vlan) = Vlan vlan
 
-abbrev pub goal_names : Goal → List Name
+abbrev pub goal_names : Goal → List ThingName
 goal_names goal.Drop = []
 goal_names (goal.Direct on) = Rif on ∷ []
 goal_names (goal.Via hop) = NextHop hop ∷ []
 goal_names (goal.Group hops) = Group hops ∷ []
 
 -- the names that a thing refers to
-abbrev pub thing_references : Thing → List Name
+abbrev pub thing_references : Thing → List ThingName
 thing_references (thing.BridgePort lane) = Port lane ∷ []
 thing_references (thing.VlanMember vlan lane tagging) = Vlan vlan ∷ BridgePort lane ∷ []
 thing_references (thing.Rif on) = base_name on ∷ []
@@ -82,7 +82,7 @@ thing_references (thing.Route prefix goal) = goal_names goal
 thing_references _ = []
 
 -- a thing refers to what has this name
-abbrev pub Refers : Thing → Name → Type 0
+abbrev pub Refers : Thing → ThingName → Type 0
 Refers t k = IsIn k (thing_references t)
 
 -- two ports have a lane in common

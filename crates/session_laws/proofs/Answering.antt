@@ -34,7 +34,7 @@ use Rattle.tie_laws.specs.Ties.{AreTied}
 use Rattle.tie_laws.proofs.Calls.{tied-made, ties-after}
 use Rattle.restart_laws.specs.Logged.{LoggedService}
 use Rattle.flight_board.specs.Applied.{row_at}
-use Rattle.flight_board.specs.Board.{BoardState, FlightState, Follows, IsTakenFor, flown_at}
+use Rattle.flight_board.specs.Board.{BoardState, FlightState, BoardFollows, IsTakenFor, flown_at}
 use Rattle.warm_state.specs.declared.warm.Warm.TheVariants as warm
 use Rattle.session_laws.specs.Core.{CoreState}
 use Rattle.session_laws.specs.Events.{IsMachineStep, MakesOne, made_by, session_with}
@@ -43,7 +43,7 @@ use Rattle.session_laws.proofs.Called.{answered, capacities_then, clean_then, ef
 use Rattle.session_laws.proofs.Following.{key_kept, rows_by, rows_ended, rows_kept}
 use Rattle.session_laws.proofs.Making.{machine_step}
 use Rattle.session_laws.proofs.Preparing.{flown_alike, stands_on, ties_alike}
-use Rattle.session_laws.proofs.Tying.{IsWell, follow, makes_renamed, well}
+use Rattle.session_laws.proofs.Tying.{IsWell, follow, makes_on_chip, well}
 
 pub nothing_not : (e : Change) (es : List Change) → e ∷ es ≡ [] → ⊥
 nothing_not e es h = cc
@@ -77,7 +77,7 @@ module _ (c : CoreState) (chip : ChipState) (s : LoggedService) (is : IsSessionO
   done = well c.sync.view view' chip chip' a went call d m.answer (answered c chip s is at w x there begun call told a view' chip' m).answer m.follows
 
   number : is_some (made_by a) ≡ makes_id call
-  number = done.number ∙ makes_renamed (tie_by rid) call
+  number = done.number ∙ makes_on_chip (tie_by rid) call
 
   ties : TiesFollow rid (rid_at view') call (made_by a) (layout.next_id core.made)
   ties =
@@ -91,7 +91,7 @@ module _ (c : CoreState) (chip : ChipState) (s : LoggedService) (is : IsSessionO
   pub may : MayTakeFor x.operation x.group (made_by a) c.board.names
   may = may_take_next c.board.plan is.plan c.sync.capacities c.board.names c.board.room (flown_at c.board) rid core its.stands w x there call (made_by a) number begun told
 
-  module _ (b : BoardState) (x' : Flown) (names' : Names) (took : TookFor x.operation x.group (made_by a) c.board.names x' names') (follows : Follows w x' names' c.board.room c.board b) where
+  module _ (b : BoardState) (x' : Flown) (names' : Names) (took : TookFor x.operation x.group (made_by a) c.board.names x' names') (follows : BoardFollows w x' names' c.board.room c.board b) where
     abbrev c' : CoreState
     c' = record c { board = b; sync = with_view c.sync view' }
 

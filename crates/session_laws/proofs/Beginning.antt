@@ -15,7 +15,7 @@ use Rattle.flight_board.specs.Board.{flown_at, new_board}
 use Rattle.session_laws.specs.Core.{new_core}
 use Rattle.session_laws.specs.Standing.{IsSessionOf}
 
-none_flown : (plan : Ports) (capacities : List ℕ) (w : ℕ) → flown_at (new_board plan capacities) w ≡ None
+pub none_flown : (plan : Ports) (capacities : List ℕ) (w : ℕ) → flown_at (new_board plan capacities) w ≡ None
 none_flown plan capacities zero = refl
 none_flown plan capacities (suc zero) = refl
 none_flown plan capacities (suc (suc zero)) = refl

@@ -9,7 +9,7 @@ use Rattle.table_schema.specs.Names.{names_of}
 use Rattle.table_schema.specs.Plan.{IsPlan}
 use Rattle.table_schema.specs.declared.key.Key.{Key}
 use Rattle.table_schema.specs.declared.row.Row.{Row}
-use Rattle.table_schema.proofs.Keys.{key_total}
+use Rattle.table_schema.proofs.Keys.{key_total, tied_keys_same}
 use Rattle.sai_types.specs.Alike.{IsIn}
 use Rattle.sai_types.specs.ChipState.{ChipState}
 use Rattle.switch_model.specs.Desired.{have_rows}
@@ -17,12 +17,11 @@ use Rattle.switch_model.specs.Good.{good_row}
 use Rattle.switch_model.specs.declared.wait.Wait.{Wait}
 use Rattle.switch_model.specs.declared.wait.Wait.TheVariants as wait
 use Rattle.producer_table.proofs.Found.{lookup-removed}
-use Rattle.producer_table.proofs.RowWrites.{same_key}
 use Rattle.consumer_table.specs.Ops.{AreOpsInOrder, Ops, op_at, without_op}
 use Rattle.row_layout.specs.Operations.{Change}
 use Rattle.row_layout.specs.Rows.{Owner}
 use Rattle.switch_machine.specs.Events.{Follows as Event, HasLeft, IsBegin, IsDrop, SwitchState}
-use Rattle.switch_machine.specs.Flights.{Fits, Flight, IsResting, Machine, put}
+use Rattle.switch_machine.specs.Flights.{Fits, MachineFlight, IsResting, Machine, put}
 use Rattle.switch_machine.specs.Reasons.{IsReason}
 use Rattle.switch_machine.specs.Steps.{started}
 use Rattle.switch_machine.specs.Written.{Written, good_of}
@@ -51,7 +50,7 @@ use Rattle.sync_tables.specs.Tables.{IsToSync}
 use Rattle.sync_tables.proofs.Membership.{at_itself, found-in, in-found}
 use Rattle.restart_laws.specs.Logged.{LoggedService}
 use Rattle.flight_board.specs.Applied.{row_at}
-use Rattle.flight_board.specs.Board.{BoardState, FlightState, Follows, IsBegunFor, IsFlownAt, IsSameBoard, IsUnflown, flight_on, flown_at}
+use Rattle.flight_board.specs.Board.{BoardState, FlightState, BoardFollows, IsBegunFor, IsFlownAt, IsSameBoard, IsUnflown, flight_on, flown_at}
 use Rattle.warm_state.specs.declared.warm.Warm.TheVariants as warm
 use Rattle.session_laws.specs.Core.{CoreState, good_in}
 use Rattle.session_laws.specs.Events.{IsMachineStep, MakesOne, session_with}
@@ -79,7 +78,7 @@ module _ (ops : Ops) (k : Key) (order : AreOpsInOrder ops) where
   }
     where
       others : (q : Key) (b : Bool) → is_at (key_cmp q) k ≡ b → IsIn q (keys_of ops) → (q ≡ k) ⊎ IsIn q (keys_of (without_op ops k))
-      others q true e j = inl (same_key q k e)
+      others q true e j = inl (tied_keys_same q k e)
       others q false e j = inr (found-in q (without_op ops k) (found_at q false e ∙ in-found q ops j))
 
       only : (q : Key) (b : Bool) → is_at (key_cmp q) k ≡ b → IsIn q (keys_of (without_op ops k)) → IsIn q (keys_of ops)
@@ -220,7 +219,7 @@ module _ (c : CoreState) (chip : ChipState) (s : LoggedService) (is : IsSessionO
         waits_on r b h = (same_board b h.0, reason r h.1)
 
         -- it begins
-        module _ (order : AreOpsInOrder c.tables.ops) (un : IsUnflown c.board k) (f : Operation) (names' : Names) (room' : RoomState) (starts : IsStartedBy c.board.plan c.board.names c.board.room used w k (row_at c.board.applied k) (good_in c k) (Ok f) names' room') (b : BoardState) (follows : Follows w (record { operation = f; group = None }) names' room' c.board b) where
+        module _ (order : AreOpsInOrder c.tables.ops) (un : IsUnflown c.board k) (f : Operation) (names' : Names) (room' : RoomState) (starts : IsStartedBy c.board.plan c.board.names c.board.room used w k (row_at c.board.applied k) (good_in c k) (Ok f) names' room') (b : BoardState) (follows : BoardFollows w (record { operation = f; group = None }) names' room' c.board b) where
           abbrev with : Machine → SwitchState
           with t = with_machine core t later
 
@@ -283,7 +282,7 @@ module _ (c : CoreState) (chip : ChipState) (s : LoggedService) (is : IsSessionO
               let ends = follows.over empty in
               let y = opened.ends c.board.plan is.plan c.sync.capacities c.board.names c.board.room (flown_at c.board) (rid_at c.sync.view) core its.stands room' used are w less none k (rests un) (differs_then (differs un)) (fits i) later (leaves order i) f names' starts_there b.room empty ends.room_is in
               let gone = y.2.board.idle w (put_at w w None (flown_at c.board) refl) in
-              let flight : Flight = y.1.0.flight in
+              let flight : MachineFlight = y.1.0.flight in
               let same : flight.key ≡ f.key = y.1.2 ∙ sym is_of.0 in
               step y.0 y.1
               (stands_on c.sync.capacities (rid_at c.sync.view) (with y.0) b c.board.plan (ended_names names' w k (core.machine.board.applied k) (good_of c.board.plan core.written k)) b.room (put w None (flown_at c.board)) follows.others.plan

@@ -25,13 +25,13 @@ use Rattle.session_laws.specs.Core.{CoreState}
 use Rattle.session_laws.specs.Standing.{IsSessionOf}
 use Rattle.session_laws.proofs.Preparing.{legal, ties_alike}
 
-counted : (b : Bool) (k n : ℕ) → k + 1 ≡ n + 1 → (k + (0 + cond b 1 0)) + 1 ≡ (if b then n + 1 else n) + 1
-counted true k n h = omega (arith, h)
-counted false k n h = omega (arith, h)
+made_one_more : (b : Bool) (k n : ℕ) → k + 1 ≡ n + 1 → (k + (0 + cond b 1 0)) + 1 ≡ (if b then n + 1 else n) + 1
+made_one_more true k n h = omega (arith, h)
+made_one_more false k n h = omega (arith, h)
 
 -- how many identifiers were made after one call more
 pub next_made : (es : List (Call Rid)) (d : Call Rid) (n : ℕ) → next_id es ≡ n + 1 → next_id (es ++ d ∷ []) ≡ made_after n d + 1
-next_made es d n h = ap (λ k. k + 1) (sum_by-append (λ x. cond (makes_id x) 1 0) es (d ∷ [])) ∙ counted (makes_id d) (count_by makes_id es) n h
+next_made es d n h = ap (λ k. k + 1) (sum_by-append (λ x. cond (makes_id x) 1 0) es (d ∷ [])) ∙ made_one_more (makes_id d) (count_by makes_id es) n h
 
 module _ (c : CoreState) (chip : ChipState) (s : LoggedService) (is : IsSessionOf c chip s) where
   -- the chip's objects and identifiers after a call with effect are those of the session

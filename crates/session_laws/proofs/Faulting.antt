@@ -19,13 +19,14 @@ use Rattle.switch_model.specs.declared.mark.MarkEvent.{MarkEvent}
 use Rattle.switch_model.specs.declared.mark.MarkEvent.TheVariants as event
 use Rattle.switch_machine.specs.Events.{SwitchState, with_made_call}
 use Rattle.switch_machine.specs.Written.{HasNoWrite}
+use Rattle.switch_machine.proofs.Needing.{listed_more}
 use Rattle.machine_laws.specs.Reading.{IsOnSwitch}
 use Rattle.registry_laws.specs.Flown.{Flown}
 use Rattle.registry_laws.specs.Making.{IsNextCall}
 use Rattle.identifier_laws.specs.Identified.{tie_by}
 use Rattle.core_laws.specs.Standing.{HasBegun}
 use Rattle.asic_view.specs.View.{ViewObjects, rid_at}
-use Rattle.syncd_core.specs.Synced.{Calls, Follows, IsMade, SyncState, with_view}
+use Rattle.syncd_core.specs.Synced.{Calls, AnswerFollows, IsMade, SyncState, with_view}
 use Rattle.restart_laws.specs.Logged.{LoggedService, OfService, mark_now}
 use Rattle.restart_laws.specs.Service.{HasFailed, OfFault, OfFlight}
 use Rattle.sync_tables.specs.Tables.{written_in}
@@ -36,11 +37,6 @@ use Rattle.session_laws.specs.Events.{MakesOne}
 use Rattle.session_laws.specs.Standing.{IsSessionOf}
 use Rattle.session_laws.proofs.Called.{answered, capacities_then, clean_then, effects_then, made_then, objects_then}
 use Rattle.session_laws.proofs.Preparing.{due_call}
-
--- how many keys are listed after one mark more
-pub listed_more : (marks : List Mark) (mark : Mark) → listed_by (marks ++ mark ∷ []) ≡ listed_by marks + keys_listed mark.event
-listed_more [] mark = omega arith
-listed_more (m ∷ marks) mark = let rest = listed_more marks mark in omega (arith, rest)
 
 listed_same : (marks : List Mark) (mark : Mark) (n : ℕ) → keys_listed mark.event ≡ 0 → n ≡ listed_by marks → n ≡ listed_by (marks ++ mark ∷ [])
 listed_same marks mark n none h = let more = listed_more marks mark in omega (arith, none, h, more)
@@ -55,7 +51,7 @@ failed_not_done : sync.Failed ≡ sync.Done → ⊥
 failed_not_done h = cc
 
 -- the chip said so where the call failed
-pub said_failed : (view view' : ViewObjects) (c : Call Vid) (said : ChipAnswer) → Follows view c said sync.Failed view' → said ≡ answer.Failed
+pub said_failed : (view view' : ViewObjects) (c : Call Vid) (said : ChipAnswer) → AnswerFollows view c said sync.Failed view' → said ≡ answer.Failed
 said_failed view view' (call.Create b) (answer.Made r) f = absurd (failed_not_made f.0 f.3)
 said_failed view view' (call.Create b) answer.Done f = absurd (failed_not_done f.3)
 said_failed view view' (call.Set e x) answer.Done f = absurd (failed_not_done f.1)

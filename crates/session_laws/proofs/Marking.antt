@@ -11,6 +11,7 @@ use Rattle.switch_model.specs.declared.mark.MarkEvent.TheVariants as event
 use Rattle.producer_table.specs.Pending.{pending_at, row_with_pending}
 use Rattle.switch_machine.specs.Events.{SwitchState}
 use Rattle.switch_machine.specs.Written.{IsPopped}
+use Rattle.switch_machine.proofs.Needing.{listed_more}
 use Rattle.machine_laws.specs.Logged.{AreListed, ListsKey, LogsMark}
 use Rattle.core_laws.proofs.Resting.{none_flies}
 use Rattle.sync_tables.specs.Tables.{IsToSync}
@@ -20,7 +21,6 @@ use Rattle.warm_state.specs.declared.warm.Warm.TheVariants as warm
 use Rattle.session_laws.specs.Core.{CoreState, mark_at}
 use Rattle.session_laws.specs.Events.{HaveReasons, MakesOne}
 use Rattle.session_laws.specs.Standing.{IsSessionOf, IsWorking}
-use Rattle.session_laws.proofs.Faulting.{listed_more}
 
 listed_now : (marks : List Mark) (mark : Mark) (n m : ℕ) → n ≡ listed_by marks → keys_listed mark.event ≡ m → n + m ≡ listed_by (marks ++ mark ∷ [])
 listed_now marks mark n m h k = let more = listed_more marks mark in omega (arith, h, k, more)

@@ -1,6 +1,7 @@
 -- a group that begins changes nothing of the session, and the next call can be made
 use Rattle.std.proofs.Common.{◌≡◌, ◌∙◌, inl, inr, ℕ, List, Option, None, Some, option_map, refl, sym, ap, subst}
 use Rattle.std.proofs.Math.Path.{fun_ext}
+use Rattle.std.proofs.lemmas.Option.{same_Some}
 use Rattle.table_schema.specs.Plan.{IsPlan, Ports}
 use Rattle.sai_types.specs.declared.body.Call.{Call}
 use Rattle.sai_types.specs.declared.ids.Rid.{Rid}
@@ -17,7 +18,6 @@ use Rattle.ref_counts.specs.Registry.{Names}
 use Rattle.ref_counts.specs.Room.{RoomState}
 use Rattle.registry_laws.specs.Flown.{Flown}
 use Rattle.registry_laws.specs.Making.{IsNextCall, with_group_begun}
-use Rattle.registry_laws.proofs.Listing.{same_some}
 use Rattle.identifier_laws.specs.Identified.{rid_or_zero, tie_by}
 use Rattle.core_laws.specs.Standing.{HasBegun, StandsFor}
 use Rattle.core_laws.proofs.Begun.{begun_once, stands_begun}
@@ -30,7 +30,7 @@ use Rattle.syncd_core.specs.Tied.{rid_or_none, tie_of}
 use Rattle.tie_laws.proofs.Calls.{can-call}
 use Rattle.restart_laws.specs.Logged.{LoggedService}
 use Rattle.flight_board.specs.Applied.{row_at}
-use Rattle.flight_board.specs.Board.{BoardState, FlightState, IsPrepared, IsReady, flight_at, flown_at}
+use Rattle.flight_board.specs.Board.{BoardState, FlightState, IsPrepared, IsCallReady, flight_at, flown_at}
 use Rattle.warm_state.specs.declared.warm.Warm.TheVariants as warm
 use Rattle.session_laws.specs.Core.{CoreState}
 use Rattle.session_laws.specs.Standing.{IsSessionOf, IsWorking}
@@ -102,13 +102,13 @@ module _ (c : CoreState) (chip : ChipState) (s : LoggedService) (is : IsSessionO
   has_begun y at =
       subst (λ p. HasBegun p b.names y) (sym prepared.plan)
       (subst (λ n. HasBegun c.board.plan n y) (sym prepared.names)
-      (subst (HasBegun c.board.plan c.board.names) (same_some begun y (sym begun_there ∙ at)) (begun_once c.board.plan c.board.names x)))
+      (subst (HasBegun c.board.plan c.board.names) (same_Some begun y (sym begun_there ∙ at)) (begun_once c.board.plan c.board.names x)))
 
 module _ (c : CoreState) (chip : ChipState) (s : LoggedService) (is : IsSessionOf c chip s) (at : c.warm ≡ warm.Reconciled) (w : ℕ) (x : Flown) (there : flown_at c.board w ≡ Some x) where
   abbrev its : IsWorking c chip s.service.core
   its = is.working at
 
-  pub ready : HasBegun c.board.plan c.board.names x → IsReady c.board.plan c.board.names x
+  pub ready : HasBegun c.board.plan c.board.names x → IsCallReady c.board.plan c.board.names x
   ready begun = record {
     plans = is.plan;
     over = (its.stands.board.flying w x there).over;

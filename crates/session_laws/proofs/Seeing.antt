@@ -20,8 +20,8 @@ module _ (c : CoreState) (chip : ChipState) (s : LoggedService) (is : IsSessionO
   keys_same k i = subst (IsIn k) (sym is.to_sync) i
 
   module _ (at : c.warm ≡ warm.Reconciled) (w : ℕ) (none : flown_at c.board w ≡ None) where
-    pub no_flight : s.service.core.machine.board.flights w ≡ None
-    no_flight = (is.working at).stands.board.idle w none
+    pub free_worker_rests : s.service.core.machine.board.flights w ≡ None
+    free_worker_rests = (is.working at).stands.board.idle w none
 
     pub is_idle : c.tables.waiting ≡ [] → ((k : Key) → IsToSync c.tables k → MustWait c.board.plan 4 c.sync.capacities s.service.core k) → IsIdle c.board.plan 4 c.sync.capacities w s.service.core
-    is_idle empty waits = record { none = no_flight; popped = popped c chip s is at empty; hindered = λ k i. waits k (same_keys k i) }
+    is_idle empty waits = record { none = free_worker_rests; popped = popped c chip s is at empty; hindered = λ k i. waits k (same_keys k i) }

@@ -1,44 +1,31 @@
 -- what a call that was made did on the chip and in the view
 use Rattle.std.proofs.Common.{◌≡◌, ◌+◌, ◌∙◌, ℕ, None, Some, is_some, refl, sym, ap}
+use Rattle.std.proofs.lemmas.Option.{same_Some}
 use Rattle.sai_types.specs.declared.answer.ChipAnswer.{ChipAnswer}
 use Rattle.sai_types.specs.declared.answer.ChipAnswer.TheVariants as answer
 use Rattle.sai_types.specs.declared.answer.SyncAnswer.{SyncAnswer}
 use Rattle.sai_types.specs.declared.answer.SyncAnswer.TheVariants as sync
-use Rattle.sai_types.specs.declared.body.Body.{Body}
-use Rattle.sai_types.specs.declared.body.Body.TheVariants as body
 use Rattle.sai_types.specs.declared.body.Call.{Call}
 use Rattle.sai_types.specs.declared.body.Call.TheVariants as call
 use Rattle.sai_types.specs.declared.body.Entry.TheVariants as entry
 use Rattle.sai_types.specs.declared.ids.Rid.{Rid}
 use Rattle.sai_types.specs.declared.ids.Vid.{Vid}
-use Rattle.sai_types.specs.After.{has_id, makes_id, next_id}
+use Rattle.sai_types.specs.After.{makes_id, next_id}
 use Rattle.sai_types.specs.ChipState.{Answers, ChipState, TakesEffect}
 use Rattle.chip_layout.specs.Layout as layout
-use Rattle.chip_layout.specs.Renamed.{body_renamed, call_renamed}
+use Rattle.chip_layout.specs.Renamed.{call_renamed}
+use Rattle.chip_layout.proofs.Renaming.{has_renamed}
 use Rattle.asic_view.specs.View.{ViewObjects, rid_at}
-use Rattle.syncd_core.specs.Synced.{Follows}
+use Rattle.syncd_core.specs.Synced.{AnswerFollows}
 use Rattle.core_laws.specs.Calls.{TiesFollow}
-use Rattle.registry_laws.proofs.Listing.{not_some, same_some}
+use Rattle.registry_laws.proofs.Listing.{not_some}
 use Rattle.tie_laws.specs.Following as tied
 use Rattle.session_laws.specs.Events.{made_by}
 
-has_renamed : (f : Vid → Rid) (b : Body Vid) → has_id (body_renamed f b) ≡ has_id b
-has_renamed f (body.Port lanes speed mtu up) = refl
-has_renamed f (body.Vlan vlan) = refl
-has_renamed f (body.BridgePort v) = refl
-has_renamed f (body.VlanMember v u tagging) = refl
-has_renamed f (body.Rif on) = refl
-has_renamed f (body.OwnAddress ip) = refl
-has_renamed f (body.Neighbor v ip mac) = refl
-has_renamed f (body.NextHop v ip) = refl
-has_renamed f body.Group = refl
-has_renamed f (body.GroupMember v u) = refl
-has_renamed f (body.Route prefix to) = refl
-
-pub makes_renamed : (f : Vid → Rid) (c : Call Vid) → makes_id (call_renamed f c) ≡ makes_id c
-makes_renamed f (call.Create b) = has_renamed f b
-makes_renamed f (call.Set e a) = refl
-makes_renamed f (call.Remove e) = refl
+pub makes_on_chip : (f : Vid → Rid) (c : Call Vid) → makes_id (call_renamed f c) ≡ makes_id c
+makes_on_chip f (call.Create b) = has_renamed f b
+makes_on_chip f (call.Set e a) = refl
+makes_on_chip f (call.Remove e) = refl
 
 -- a call that did not fail took effect, and its answer has an identifier exactly where it makes one
 pub record IsWell (chip : ChipState) (c : Call Vid) (d : Call Rid) (a : SyncAnswer) (chip' : ChipState) : Type 0 where
@@ -46,7 +33,7 @@ pub record IsWell (chip : ChipState) (c : Call Vid) (d : Call Rid) (a : SyncAnsw
   pub number : is_some (made_by a) ≡ makes_id d
 
 module _ (view view' : ViewObjects) (chip chip' : ChipState) (a : SyncAnswer) (went : a ≡ sync.Failed → ⊥) where
-  pub well : (c : Call Vid) (d : Call Rid) (said : ChipAnswer) → Answers chip d said chip' → Follows view c said a view' → IsWell chip c d a chip'
+  pub well : (c : Call Vid) (d : Call Rid) (said : ChipAnswer) → Answers chip d said chip' → AnswerFollows view c said a view' → IsWell chip c d a chip'
   well (call.Create b) d (answer.Made r) h f = record { effect = h.0; number = ap (λ z. is_some (made_by z)) f.3 ∙ sym h.1 }
   well (call.Create b) d answer.Done h f = record { effect = h.0; number = ap (λ z. is_some (made_by z)) f.3 ∙ sym h.1 }
   well (call.Set e x) d answer.Done h f = record { effect = h.0; number = ap (λ z. is_some (made_by z)) f.1 ∙ sym h.1 }
@@ -64,7 +51,7 @@ module _ (view view' : ViewObjects) (made : ℕ) where
 
   gained : (c : Call Vid) (v : Vid) (r : Rid) (a : SyncAnswer) → a ≡ sync.Made v → r ≡ layout.next_id made → tied.GainsTie view v r view' → TiesFollow (rid_at view) (rid_at view') c (made_by a) (layout.next_id made)
   gained c v r a is number gains = record {
-    new = λ u h. ap (rid_at view') (sym (same_some v u (sym (ap made_by is) ∙ h))) ∙ gains.tied ∙ ap Some number;
+    new = λ u h. ap (rid_at view') (sym (same_Some v u (sym (ap made_by is) ∙ h))) ∙ gains.tied ∙ ap Some number;
     kept = λ u j apart h. gains.others u (λ same. not_some j (sym gains.none ∙ ap (rid_at view) (sym same) ∙ h)) ∙ h;
   }
 
@@ -79,7 +66,7 @@ module _ (view view' : ViewObjects) (made : ℕ) where
     rid_is r h = let as_rid : ℕ → Rid = λ n. record { 0 = n } in ap as_rid (h ∙ next)
 
     -- what is made is tied to the chip's next identifier, and the others as they were
-    pub follow : (c : Call Vid) (d : Call Rid) (said : ChipAnswer) → Answers chip d said chip' → Follows view c said a view' → tied.TiesFollow view c said a view' → TiesFollow (rid_at view) (rid_at view') c (made_by a) (layout.next_id made)
+    pub follow : (c : Call Vid) (d : Call Rid) (said : ChipAnswer) → Answers chip d said chip' → AnswerFollows view c said a view' → tied.TiesFollow view c said a view' → TiesFollow (rid_at view) (rid_at view') c (made_by a) (layout.next_id made)
     follow (call.Create b) d (answer.Made r) h f ties = gained (call.Create b) ties.0 r a ties.1 (rid_is r h.2) ties.2
     follow (call.Create b) d answer.Done h f ties = nothing_made a (call.Create b) (ap made_by f.3) ties
     follow (call.Set e x) d answer.Done h f ties = nothing_made a (call.Set e x) (ap made_by f.1) ties

@@ -8,6 +8,7 @@ use Rattle.table_schema.specs.declared.key.Key.{Key}
 use Rattle.table_schema.specs.declared.write.Sent.{Sent}
 use Rattle.table_schema.specs.declared.write.Write.{Write}
 use Rattle.table_schema.specs.declared.write.Write.TheVariants.{Set, Del}
+use Rattle.table_schema.proofs.Keys.{tied_keys_same}
 use Rattle.sai_types.specs.ChipState.{ChipState}
 use Rattle.switch_model.specs.History.{with_write}
 use Rattle.switch_model.specs.Marks.{sent_writes, written_key}
@@ -16,7 +17,6 @@ use Rattle.switch_machine.specs.Written.{HasNoWrite, TakesWrite, Written, fields
 use Rattle.machine_laws.specs.Reading.{IsOnSwitch}
 use Rattle.machine_laws.proofs.Staying.{map-more}
 use Rattle.producer_table.specs.Pending.{AreInOrder}
-use Rattle.producer_table.proofs.RowWrites.{same_key}
 use Rattle.restart_laws.specs.Logged.{LoggedService, OfService}
 use Rattle.restart_laws.specs.Service.{OfTake}
 use Rattle.asic_view.specs.View.{rid_at}
@@ -60,7 +60,7 @@ module _ (c : CoreState) (chip : ChipState) (s : LoggedService) (sent : Sent) (i
   reads k some = by (is_at (key_cmp k) (written_key sent.write)) refl
     where
       by : (b : Bool) → is_at (key_cmp k) (written_key sent.write) ≡ b → IsOnSwitch k
-      by true here = subst IsOnSwitch (sym (same_key k (written_key sent.write) here)) on
+      by true here = subst IsOnSwitch (sym (tied_keys_same k (written_key sent.write) here)) on
       by false apart = is.waiting_read k (λ none. some (λ o. taken.waiting k o ∙ other_key sent.write k (s.service.core.written.waiting k o) apart ∙ none o))
 
   pub write_step : MakesOne c s (with_taken c sent) chip

@@ -37,7 +37,7 @@ ghost use Rattle.sync_tables.specs.Tables.{IsToSync, PopsKeys, PopsSome, TablesS
 ghost use Rattle.syncd_core.specs.Synced.{CanCall, Calls, SyncState, current};
 ghost use Rattle.restart_laws.specs.Logged.{LoggedService, new_session, session_after, switch_of};
 ghost use Rattle.flight_board.specs.Applied.{row_at};
-ghost use Rattle.flight_board.specs.Board.{BoardState, IsBegunFor, IsFlownAt, IsPrepared, IsReady, IsTakenFor, IsUnflown, flown_at};
+ghost use Rattle.flight_board.specs.Board.{BoardState, IsBegunFor, IsFlownAt, IsPrepared, IsCallReady, IsTakenFor, IsUnflown, flown_at};
 ghost use Rattle.warm_state.specs.declared.warm.Warm.TheVariants as warm;
 ghost use Rattle.session_laws.specs.Core.{CoreState, good_in, mark_at, new_core, size_beside, with_taken};
 ghost use Rattle.session_laws.specs.Events.{HaveReasons, IsMachineStep, MakesOne, MakesSome, made_by};
@@ -62,7 +62,7 @@ pub fn pops_are_steps()
 pub fn prepared_boards_stand()
     ensures stands { (c : CoreState) (chip : ChipState) (s : LoggedService) (w : ℕ) (b : BoardState) (x : Flown) → IsSessionOf c chip s → IsPrepared c.board w b → flown_at c.board w ≡ Some x → IsSessionOf (record c { board = b }) chip s }
     ensures begun { (c : CoreState) (chip : ChipState) (s : LoggedService) (w : ℕ) (b : BoardState) (x y : Flown) → IsSessionOf c chip s → IsPrepared c.board w b → flown_at c.board w ≡ Some x → flown_at b w ≡ Some y → HasBegun b.plan b.names y }
-    ensures ready { (c : CoreState) (chip : ChipState) (s : LoggedService) (w : ℕ) (b : BoardState) (x y : Flown) → IsSessionOf c chip s → c.warm ≡ warm.Reconciled → IsPrepared c.board w b → flown_at c.board w ≡ Some x → flown_at b w ≡ Some y → IsReady b.plan b.names y }
+    ensures ready { (c : CoreState) (chip : ChipState) (s : LoggedService) (w : ℕ) (b : BoardState) (x y : Flown) → IsSessionOf c chip s → c.warm ≡ warm.Reconciled → IsPrepared c.board w b → flown_at c.board w ≡ Some x → flown_at b w ≡ Some y → IsCallReady b.plan b.names y }
 {}
 
 /// The next call of what a worker has under way can be made.

@@ -7,19 +7,12 @@ use Rattle.restart_laws.specs.Logged.{AreLoggedSteps, LoggedService, session_aft
 use Rattle.session_laws.specs.Core.{CoreState}
 use Rattle.session_laws.specs.Events.{MakesOne, MakesSome}
 use Rattle.session_laws.specs.Standing.{IsSessionOf}
+use Rattle.session_laws.proofs.Joining.{after_both, are_both}
 use Rattle.settling_laws.specs.Leading.{LeadsTo}
 
-after_both : (s : LoggedService) (xs ys : List LoggedService) → session_after s (xs ++ ys) ≡ session_after (session_after s xs) ys
-after_both s [] ys = refl
-after_both s (x ∷ xs) ys = after_both x xs ys
-
-are_both : (plan : Ports) (capacities : List ℕ) (s : LoggedService) (xs ys : List LoggedService) → AreLoggedSteps plan 4 capacities s xs → AreLoggedSteps plan 4 capacities (session_after s xs) ys → AreLoggedSteps plan 4 capacities s (xs ++ ys)
-are_both plan capacities s [] ys a b = b
-are_both plan capacities s (x ∷ xs) ys a b = (a.0, are_both plan capacities x xs ys a.1 b)
-
 -- what is so of the later port plan and capacities is so of the first ones, and the other way round
-pub back : {c c' : CoreState} {s t : LoggedService} {chip' : ChipState} (P : Ports → List ℕ → Type 0) → LeadsTo c s t c' chip' → P c'.board.plan c'.sync.capacities → P c.board.plan c.sync.capacities
-back {c} {c'} P x h = subst (λ p. P p c.sync.capacities) x.plan (subst (P c'.board.plan) x.capacities h)
+pub plan_led_back : {c c' : CoreState} {s t : LoggedService} {chip' : ChipState} (P : Ports → List ℕ → Type 0) → LeadsTo c s t c' chip' → P c'.board.plan c'.sync.capacities → P c.board.plan c.sync.capacities
+plan_led_back {c} {c'} P x h = subst (λ p. P p c.sync.capacities) x.plan (subst (P c'.board.plan) x.capacities h)
 
 pub ahead : {c c' : CoreState} {s t : LoggedService} {chip' : ChipState} (P : Ports → List ℕ → Type 0) → LeadsTo c s t c' chip' → P c.board.plan c.sync.capacities → P c'.board.plan c'.sync.capacities
 ahead {c} {c'} P x h = subst (λ p. P p c'.sync.capacities) (sym x.plan) (subst (P c.board.plan) (sym x.capacities) h)
@@ -42,7 +35,7 @@ pub leads_more : (c c' c'' : CoreState) (chip' chip'' : ChipState) (s t u : Logg
 leads_more c c' c'' chip' chip'' s t u x y = record {
   steps = x.steps ++ y.steps;
   are = are_both c.board.plan c.sync.capacities s x.steps y.steps x.are
-      (subst (λ z. AreLoggedSteps c.board.plan 4 c.sync.capacities z y.steps) (sym x.is) (back (λ p l. AreLoggedSteps p 4 l t y.steps) x y.are));
+      (subst (λ z. AreLoggedSteps c.board.plan 4 c.sync.capacities z y.steps) (sym x.is) (plan_led_back (λ p l. AreLoggedSteps p 4 l t y.steps) x y.are));
   is = after_both s x.steps y.steps ∙ ap (λ z. session_after z y.steps) x.is ∙ y.is;
   stands = y.stands;
   plan = y.plan ∙ x.plan;

@@ -33,28 +33,28 @@ use Rattle.settling_laws.proofs.Walking.{above, greater}
 -- ---- entries whose keys rise
 
 -- each is found by its key
-key_in : (es : Reasons) (e : Key × Wait) → IsIn e es → IsIn e.0 (keys_of es)
-key_in [] e i = absurd i
-key_in (d ∷ es) e (inl is) = inl (ap (λ (z : Key × Wait). z.0) is)
-key_in (d ∷ es) e (inr i) = inr (key_in es e i)
+reason_key_in : (es : Reasons) (e : Key × Wait) → IsIn e es → IsIn e.0 (keys_of es)
+reason_key_in [] e i = absurd i
+reason_key_in (d ∷ es) e (inl is) = inl (ap (λ (z : Key × Wait). z.0) is)
+reason_key_in (d ∷ es) e (inr i) = inr (reason_key_in es e i)
 
-found_by : (d : Key × Wait) (es : Reasons) (k : Key) (b : Bool) → is_at (key_cmp k) d.0 ≡ b → reason_at (d ∷ es) k ≡ cond b (Some d.1) (reason_at es k)
-found_by d es k b h = ap (λ z. cond z (Some d.1) (reason_at es k)) h
+reason_by_head : (d : Key × Wait) (es : Reasons) (k : Key) (b : Bool) → is_at (key_cmp k) d.0 ≡ b → reason_at (d ∷ es) k ≡ cond b (Some d.1) (reason_at es k)
+reason_by_head d es k b h = ap (λ z. cond z (Some d.1) (reason_at es k)) h
 
 found_own : (es : Reasons) (e : Key × Wait) → HasRisingKeys key_cmp es → IsIn e es → reason_at es e.0 ≡ Some e.1
 found_own [] e h i = absurd i
-found_own (d ∷ es) e h (inl is) = found_by d es e.0 true (at_itself e.0 d.0 (ap (λ (z : Key × Wait). z.0) is)) ∙ ap (λ (z : Key × Wait). Some z.1) (sym is)
-found_own (d ∷ es) e h (inr i) = found_by d es e.0 false (ap is_eq (greater d.0 e.0 (above d.0 es h.0 e.0 (key_in es e i)))) ∙ found_own es e h.1 i
+found_own (d ∷ es) e h (inl is) = reason_by_head d es e.0 true (at_itself e.0 d.0 (ap (λ (z : Key × Wait). z.0) is)) ∙ ap (λ (z : Key × Wait). Some z.1) (sym is)
+found_own (d ∷ es) e h (inr i) = reason_by_head d es e.0 false (ap is_eq (greater d.0 e.0 (above d.0 es h.0 e.0 (reason_key_in es e i)))) ∙ found_own es e h.1 i
 
 -- those with the same keys are equally many
-both_true : (a b : Bool) → (a ≡ true → b ≡ true) → (b ≡ true → a ≡ true) → a ≡ b
-both_true true b into from = sym (into refl)
-both_true false true into from = from refl
-both_true false false into from = refl
+same_truth : (a b : Bool) → (a ≡ true → b ≡ true) → (b ≡ true → a ≡ true) → a ≡ b
+same_truth true b into from = sym (into refl)
+same_truth false true into from = from refl
+same_truth false false into from = refl
 
 module _ {X Y : Type 0} (es : List (Key × X)) (fs : List (Key × Y)) (into : (k : Key) → IsIn k (keys_of es) → IsIn k (keys_of fs)) (from : (k : Key) → IsIn k (keys_of fs) → IsIn k (keys_of es)) where
   found_alike : (k : Key) → is_some (lookup (is_at (key_cmp k)) es) ≡ is_some (lookup (is_at (key_cmp k)) fs)
-  found_alike k = both_true (is_some (lookup (is_at (key_cmp k)) es)) (is_some (lookup (is_at (key_cmp k)) fs)) (λ h. in-found k fs (into k (found-in k es h))) (λ h. in-found k es (from k (found-in k fs h)))
+  found_alike k = same_truth (is_some (lookup (is_at (key_cmp k)) es)) (is_some (lookup (is_at (key_cmp k)) fs)) (λ h. in-found k fs (into k (found-in k es h))) (λ h. in-found k es (from k (found-in k fs h)))
 
   same_keys : HasRisingKeys key_cmp es → HasRisingKeys key_cmp fs → keys_of es ≡ keys_of fs
   same_keys h g =
@@ -111,5 +111,5 @@ module _ (n : ℕ) (c c' : CoreState) (chip' : ChipState) (s : LoggedService) (x
       where
         reason : (e : Key × Wait) → IsIn e c'.waiting → IsReason c'.board.plan 4 c'.sync.capacities x.later.service.core e.0 e.1
         reason e i =
-            let one = x.lists e.0 (only e.0 (key_in c'.waiting e i)) in
+            let one = x.lists e.0 (only e.0 (reason_key_in c'.waiting e i)) in
             subst (IsReason c'.board.plan 4 c'.sync.capacities x.later.service.core e.0) (same_Some one.0 e.1 (sym one.1 ∙ found_own c'.waiting e rise i)) one.2

@@ -10,7 +10,7 @@ use Rattle.switch_model.specs.declared.mark.MarkEvent.{MarkEvent}
 use Rattle.switch_model.specs.declared.mark.MarkEvent.TheVariants as event
 use Rattle.consumer_table.specs.Ops.{AreOpsInOrder}
 use Rattle.switch_machine.specs.Events.{IsQuiet, SwitchState, after_answers}
-use Rattle.switch_machine.specs.Flights.{Flight, Machine}
+use Rattle.switch_machine.specs.Flights.{MachineFlight, Machine}
 use Rattle.switch_machine.specs.Written.{IsPopped}
 use Rattle.machine_laws.specs.Logged.{AreListed, ArePops, IsWholeSettling, ListsKey, LogsMark, after_pops}
 use Rattle.machine_laws.specs.Settling.{AreMachineTurns}
@@ -20,7 +20,7 @@ use Rattle.session_laws.specs.Events.{HaveReasons, MakesOne}
 use Rattle.session_laws.proofs.Marking.{marks_told, popped}
 use Rattle.settling_laws.specs.Leading.{LeadsTo, PopsTo, RunsTo, SettlesTo, switch_answered}
 use Rattle.settling_laws.specs.Turning.{IsAtRest, TurnsTo}
-use Rattle.settling_laws.proofs.Leading.{back, leads_more, leads_one}
+use Rattle.settling_laws.proofs.Leading.{plan_led_back, leads_more, leads_one}
 use Rattle.settling_laws.proofs.Popping.{machine_stays}
 use Rattle.settling_laws.proofs.Turning.{quiet}
 use Rattle.settling_laws.proofs.Walking.{in_key_order}
@@ -44,7 +44,7 @@ module _ (n : ℕ) (c c1 c2 c3 : CoreState) (chip1 chip2 chip3 : ChipState) (s :
   quiet_answered : IsAtRest c2 → IsQuiet answered
   quiet_answered rest =
       let same = ap (λ (t : SwitchState). t.machine) y.core ∙ machine_stays x.later.service.core y.pops y.are ∙ ap (λ (t : SwitchState). t.machine) x.core in
-      subst (λ (m : Machine). (w : ℕ) (f : Flight) → m.board.flights w ≡ Some f → ⊥) same (quiet c2 chip2 y.later y.leads.stands rest)
+      subst (λ (m : Machine). (w : ℕ) (f : MachineFlight) → m.board.flights w ≡ Some f → ⊥) same (quiet c2 chip2 y.later y.leads.stands rest)
 
   log_same : c3.log ≡ s.log
   log_same = sym z.leads.stands.log ∙ z.log ∙ y.log ∙ x.log
@@ -96,9 +96,9 @@ module _ (n : ℕ) (c c1 c2 c3 : CoreState) (chip1 chip2 chip3 : ChipState) (s :
       turns_are =
           subst (λ t. AreMachineTurns c.board.plan 4 c.sync.capacities n t (keys_of c2.tables.ops) later.service.core (keys_of c3.tables.ops) z.calls) after
           (subst (λ t. AreMachineTurns c.board.plan 4 c.sync.capacities n y.later.service.core (keys_of c2.tables.ops) t (keys_of c3.tables.ops) z.calls) core_same
-          (back (λ p l. AreMachineTurns p 4 l n y.later.service.core (keys_of c2.tables.ops) z.later.service.core (keys_of c3.tables.ops) z.calls) popped_from z.turns));
+          (plan_led_back (λ p l. AreMachineTurns p 4 l n y.later.service.core (keys_of c2.tables.ops) z.later.service.core (keys_of c3.tables.ops) z.calls) popped_from z.turns));
       waits = waits;
-      listed = subst (λ t. AreListed c.board.plan 4 c.sync.capacities t waits) core_same (back (λ p l. AreListed p 4 l z.later.service.core waits) turned_from (are_listed waits reasons));
+      listed = subst (λ t. AreListed c.board.plan 4 c.sync.capacities t waits) core_same (plan_led_back (λ p l. AreListed p 4 l z.later.service.core waits) turned_from (are_listed waits reasons));
       lists = all;
       lists_only = only;
       in_order = rise;

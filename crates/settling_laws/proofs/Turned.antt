@@ -15,7 +15,7 @@ use Rattle.session_laws.specs.Core.{CoreState}
 use Rattle.session_laws.specs.Standing.{IsSessionOf}
 use Rattle.settling_laws.specs.Leading.{LeadsTo}
 use Rattle.settling_laws.specs.Turning.{HaveListed, IsAtRest, IsTurned, IsTurning, TurnsTo}
-use Rattle.settling_laws.proofs.Leading.{ahead, back, grown, leads_more, leads_none}
+use Rattle.settling_laws.proofs.Leading.{ahead, plan_led_back, grown, leads_more, leads_none}
 
 -- turns of a core's session
 abbrev AreTurns : CoreState → ℕ → SwitchState → List Key → SwitchState → List Key → List (Call Rid) → Type 0
@@ -47,7 +47,7 @@ module _ (n : ℕ) (c c' : CoreState) (chip' : ChipState) (s : LoggedService) (x
     over = keys_of c''.tables.ops
 
     turn : IsMachineTurn c.board.plan 4 c.sync.capacities x.later.service.core keys y.later.service.core over y.calls
-    turn = back (λ p l. IsMachineTurn p 4 l x.later.service.core keys y.later.service.core over y.calls) x.leads
+    turn = plan_led_back (λ p l. IsMachineTurn p 4 l x.later.service.core keys y.later.service.core over y.calls) x.leads
         (subst (λ ks. IsMachineTurn c'.board.plan 4 c'.sync.capacities x.later.service.core keys y.later.service.core ks y.calls) (sym y.ops)
         (subst (IsMachineTurn c'.board.plan 4 c'.sync.capacities x.later.service.core keys y.later.service.core (left ++ [])) (append-nil y.calls)
         (y.turn y.later.service.core [] [] (refl, refl, refl))))

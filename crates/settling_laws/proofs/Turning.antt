@@ -6,14 +6,13 @@ use Rattle.std.proofs.lemmas.Bool.{false≢true}
 use Rattle.std.proofs.lemmas.List.{append-nil, append_assoc, length-append}
 use Rattle.table_schema.specs.Key.{key_cmp}
 use Rattle.table_schema.specs.declared.key.Key.{Key}
-use Rattle.table_schema.proofs.Keys.{key_total}
+use Rattle.table_schema.proofs.Keys.{key_total, tied_keys_same}
 use Rattle.sai_types.specs.Alike.{IsIn}
 use Rattle.sai_types.specs.ChipState.{ChipState}
 use Rattle.sai_types.specs.declared.body.Call.{Call}
 use Rattle.sai_types.specs.declared.ids.Rid.{Rid}
 use Rattle.switch_model.specs.declared.wait.Wait.{Wait}
 use Rattle.producer_table.proofs.Found.{lookup-put}
-use Rattle.producer_table.proofs.RowWrites.{same_key}
 use Rattle.retry_list.specs.Reasons.{Reasons, reason_at, with_reason}
 use Rattle.switch_machine.specs.Events.{AreAnswers, IsBegin, IsDrop, IsQuiet, SwitchState}
 use Rattle.switch_machine.specs.Reasons.{IsReason}
@@ -28,7 +27,7 @@ use Rattle.session_laws.specs.Events.{IsMachineStep, MakesOne}
 use Rattle.session_laws.specs.Standing.{IsSessionOf}
 use Rattle.settling_laws.specs.Leading.{LeadsTo, RunsTo, calls_in}
 use Rattle.settling_laws.specs.Turning.{HaveListed, IsAtRest, IsTurning}
-use Rattle.settling_laws.proofs.Leading.{back, grown, leads_more, leads_none, leads_one, leads_still}
+use Rattle.settling_laws.proofs.Leading.{plan_led_back, grown, leads_more, leads_none, leads_one, leads_still}
 
 pub turn_begins : (c : CoreState) (chip : ChipState) (s : LoggedService) → IsSessionOf c chip s → IsAtRest c → IsTurning (keys_of c.tables.ops) c s [] (keys_of c.tables.ops) c chip
 turn_begins c chip s is rest = record {
@@ -69,7 +68,7 @@ module _ (keys left rest : List Key) (k : Key) (c c' : CoreState) (chip' : ChipS
     calls = x.calls ++ own;
     turn = λ t left' calls' h.
         subst (IsMachineTurn c.board.plan 4 c.sync.capacities s.service.core keys t (left ++ left')) (sym (append_assoc x.calls own calls'))
-        (x.turn t left' (own ++ calls') (inr (later.service.core, own, calls', back (λ p l. DropsKey p k core later.service.core own ⊎ RunsAlone p 4 l k core later.service.core own) x.leads brings, refl, h)));
+        (x.turn t left' (own ++ calls') (inr (later.service.core, own, calls', plan_led_back (λ p l. DropsKey p k core later.service.core own ⊎ RunsAlone p 4 l k core later.service.core own) x.leads brings, refl, h)));
     effects = grown s.effects x.later.effects later.effects x.calls own x.effects effects;
     log = log ∙ x.log;
     ops = ops;
@@ -104,11 +103,11 @@ module _ (keys left rest : List Key) (k : Key) (c c' : CoreState) (chip' : ChipS
 
   module _ (r : Wait) (reason : IsReason c'.board.plan 4 c'.sync.capacities core k r) where
     true_reason : IsReason c.board.plan 4 c.sync.capacities core k r
-    true_reason = back (λ p l. IsReason p 4 l core k r) x.leads reason
+    true_reason = plan_led_back (λ p l. IsReason p 4 l core k r) x.leads reason
 
     -- with its reason on the list each key that was left has one there
     one_listed : HaveListed c core c'.waiting left → (q : Key) (b : Bool) → is_at (key_cmp q) k ≡ b → IsIn q left ⊎ IsIn q (k ∷ []) → (w : Wait) × (cond b (Some r) (reason_at c'.waiting q) ≡ Some w) × IsReason c.board.plan 4 c.sync.capacities core q w
-    one_listed have q true e i = (r, refl, subst (λ z. IsReason c.board.plan 4 c.sync.capacities core z r) (sym (same_key q k e)) true_reason)
+    one_listed have q true e i = (r, refl, subst (λ z. IsReason c.board.plan 4 c.sync.capacities core z r) (sym (tied_keys_same q k e)) true_reason)
     one_listed have q false e (inl i) = have q i
     one_listed have q false e (inr (inl is)) = absurd (false≢true (sym e ∙ at_itself q k is))
     one_listed have q false e (inr (inr i)) = absurd i

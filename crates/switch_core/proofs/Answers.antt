@@ -22,7 +22,7 @@ use Rattle.restart_laws.specs.Logged.{IsLoggedStep, LoggedService}
 use Rattle.asic_view.specs.View.{ViewObjects}
 use Rattle.syncd_core.specs.Synced.{CanCall, Calls, IsMade, SyncState}
 use Rattle.syncd_core.specs.Tied.{tie_of}
-use Rattle.flight_board.specs.Board.{BoardState, FlightState, IsPrepared, IsReady, IsTakenFor, flown_at}
+use Rattle.flight_board.specs.Board.{BoardState, FlightState, IsPrepared, IsCallReady, IsTakenFor, flown_at}
 use Rattle.warm_state.specs.declared.warm.Warm.TheVariants as warm
 use Rattle.session_laws.specs.Core.{CoreState, IsFullFor, mark_at}
 use Rattle.session_laws.specs.Events.{MakesOne, made_by}
@@ -213,8 +213,8 @@ module _ (s : LoggedService) (w : ℕ) (c : CoreState) (b : BoardState) (chip : 
     pub stands_now : IsSessionOf d chip s
     stands_now = subst (λ z. IsSessionOf z chip s) (sym is_with) (prepared_stands c chip s is w b ready x there)
 
-    pub ready_now : c.warm ≡ warm.Reconciled → (z : Flown) × (flown_at d.board w ≡ Some z) × IsReady d.board.plan d.board.names z
-    ready_now at = subst (λ (k : CoreState). (z : Flown) × (flown_at k.board w ≡ Some z) × IsReady k.board.plan k.board.names z) (sym is_with)
+    pub ready_now : c.warm ≡ warm.Reconciled → (z : Flown) × (flown_at d.board w ≡ Some z) × IsCallReady d.board.plan d.board.names z
+    ready_now at = subst (λ (k : CoreState). (z : Flown) × (flown_at k.board w ≡ Some z) × IsCallReady k.board.plan k.board.names z) (sym is_with)
         (begun_now, there_now, ready_of with chip s (prepared_stands c chip s is w b ready x there) at w begun_now there_now (has_begun c chip s is w b ready x there begun_now there_now))
 
     pub next_now : (call : Call Vid) → ((z : Flown) → flown_at d.board w ≡ Some z → IsNextCall d.board.plan d.board.names z.operation z.group call) → (z : Flown) × (flown_at d.board w ≡ Some z) × HasBegun d.board.plan d.board.names z × IsNextCall d.board.plan d.board.names z.operation z.group call

@@ -17,22 +17,22 @@ keeps_same chip chip' same = subst (KeepsChip chip) (sym same) (keeps_itself chi
 pub keeps_on : (a b c : ChipState) → KeepsChip a b → KeepsChip b c → KeepsChip a c
 keeps_on a b c x y = let first = x.faults in let next = y.faults in record { fails = y.fails ∙ x.fails; faults = omega (arith, first, next) }
 
-as_many : (a b : ℕ) → b ≡ a → a ≤ b
-as_many a b h = omega (arith, h)
+same_at_most : (a b : ℕ) → b ≡ a → a ≤ b
+same_at_most a b h = omega (arith, h)
 
-fewer : (a b : ℕ) → a < b → a ≤ b
-fewer a b h = omega (arith, h)
+less_at_most : (a b : ℕ) → a < b → a ≤ b
+less_at_most a b h = omega (arith, h)
 
 no_less : (old new : ChipState) (c : Call Rid) (a : ChipAnswer) → Answers old c a new → old.faults ≤ new.faults
-no_less old new c (answer.Made id) h = as_many old.faults new.faults h.3
-no_less old new c answer.Done h = as_many old.faults new.faults h.2
-no_less old new c answer.Exists h = as_many old.faults new.faults h.2
-no_less old new c answer.BadReference h = as_many old.faults new.faults h.2
-no_less old new c answer.NotFound h = as_many old.faults new.faults h.2
-no_less old new c answer.InUse h = as_many old.faults new.faults h.2
-no_less old new c answer.Full h = as_many old.faults new.faults h.2
-no_less old new c answer.Failed h = fewer old.faults new.faults h.1
-no_less old new c answer.NoMemory h = as_many old.faults new.faults h.1
+no_less old new c (answer.Made id) h = same_at_most old.faults new.faults h.3
+no_less old new c answer.Done h = same_at_most old.faults new.faults h.2
+no_less old new c answer.Exists h = same_at_most old.faults new.faults h.2
+no_less old new c answer.BadReference h = same_at_most old.faults new.faults h.2
+no_less old new c answer.NotFound h = same_at_most old.faults new.faults h.2
+no_less old new c answer.InUse h = same_at_most old.faults new.faults h.2
+no_less old new c answer.Full h = same_at_most old.faults new.faults h.2
+no_less old new c answer.Failed h = less_at_most old.faults new.faults h.1
+no_less old new c answer.NoMemory h = same_at_most old.faults new.faults h.1
 
 pub keeps_answered : (old new : ChipState) (c : Call Rid) (a : ChipAnswer) → IsAnswered old c a new → KeepsChip old new
 keeps_answered old new c a h = record { fails = h.fails; faults = no_less old new c a h.answer }

@@ -61,8 +61,8 @@ module _ (c : CoreState) where
   listed_order ops ws order h = subst (IsStrictlySortedBy key_cmp) (sym (listed_keys (keys_of ops) ws h)) (sorted_from_rising key_cmp ops order.keys)
 
 -- one more
-pub listed_more : (c : CoreState) (ks : List Key) (ws : Waiting) (k : Key) (w : Key × Wait × Option Row) → AreListedFrom c ks ws → IsListedAs c k w → AreListedFrom c (ks ++ k ∷ []) (ws ++ w ∷ [])
-listed_more c [] [] k w h one = (one, tt)
-listed_more c (p ∷ ks) (v ∷ ws) k w h one = (h.0, listed_more c ks ws k w h.1 one)
-listed_more c [] (v ∷ ws) k w h one = absurd h
-listed_more c (p ∷ ks) [] k w h one = absurd h
+pub listed_one_more : (c : CoreState) (ks : List Key) (ws : Waiting) (k : Key) (w : Key × Wait × Option Row) → AreListedFrom c ks ws → IsListedAs c k w → AreListedFrom c (ks ++ k ∷ []) (ws ++ w ∷ [])
+listed_one_more c [] [] k w h one = (one, tt)
+listed_one_more c (p ∷ ks) (v ∷ ws) k w h one = (h.0, listed_one_more c ks ws k w h.1 one)
+listed_one_more c [] (v ∷ ws) k w h one = absurd h
+listed_one_more c (p ∷ ks) [] k w h one = absurd h

@@ -6,14 +6,10 @@ use Rattle.std.specs.Bool.{Decides}
 use Rattle.std.specs.Cmp.{booleans_Decides}
 use Rattle.std.specs.Cmp.Lexicographic.{pointwise}
 use Rattle.swss_types.specs.declared.address.Ip.{Ip}
-use Rattle.swss_types.specs.declared.address.Mac.{Mac}
 use Rattle.swss_types.specs.declared.interface.IfName.{IfName}
 use Rattle.swss_types.specs.declared.interface.IfName.TheVariants as name
-use Rattle.swss_types.specs.declared.tagging.Tagging.{Tagging}
-use Rattle.swss_types.specs.declared.tagging.Tagging.TheVariants.{Untagged, Tagged, PriorityTagged}
-use Rattle.swss_types.specs.contracts.address.MacPartialEq.TheImpl as mac_eq
 use Rattle.swss_types.specs.contracts.interface.IfNamePartialEq.TheImpl as name_eq
-use Rattle.swss_types.specs.contracts.tagging.TaggingPartialEq.TheImpl as tagging_eq
+use Rattle.swss_types.proofs.SameValues.{mac_exact, tagging_exact}
 use Rattle.table_schema.specs.declared.row.PortRow.{PortRow}
 use Rattle.table_schema.specs.declared.row.Row.{Row}
 use Rattle.table_schema.specs.declared.row.Row.TheVariants as row
@@ -28,44 +24,35 @@ use Rattle.table_schema.specs.contracts.row_hop.RowHopPartialEq.TheImpl as hop_e
 use Rattle.table_schema.specs.contracts.row_hop.RowHopEq.TheImpl.Laws as equal_hop
 use Rattle.sai_types.proofs.Exact.{ip-exact}
 
-name_exact : (a b : IfName) → name_eq.ghosts.eq a b ≡ true → a ≡ b
-name_exact (name.Ethernet m) (name.Ethernet n) h = ap name.Ethernet (eqb-true m n h)
-name_exact (name.Vlan m) (name.Vlan n) h = ap name.Vlan (eqb-true m n h)
-name_exact (name.Loopback m) (name.Loopback n) h = ap name.Loopback (eqb-true m n h)
-name_exact _ _ h = absurd (false≢true h)
-
-tagging_exact : (a b : Tagging) → tagging_eq.ghosts.eq a b ≡ true → a ≡ b
-tagging_exact Untagged Untagged h = refl
-tagging_exact Tagged Tagged h = refl
-tagging_exact PriorityTagged PriorityTagged h = refl
-tagging_exact _ _ h = absurd (false≢true h)
+if_name_exact : (a b : IfName) → name_eq.ghosts.eq a b ≡ true → a ≡ b
+if_name_exact (name.Ethernet m) (name.Ethernet n) h = ap name.Ethernet (eqb-true m n h)
+if_name_exact (name.Vlan m) (name.Vlan n) h = ap name.Vlan (eqb-true m n h)
+if_name_exact (name.Loopback m) (name.Loopback n) h = ap name.Loopback (eqb-true m n h)
+if_name_exact _ _ h = absurd (false≢true h)
 
 numbers_exact : (xs ys : List ℕ) → pointwise ◌==◌ xs ys ≡ true → xs ≡ ys
 numbers_exact xs ys h = (slice_eq-Decides (λ a b. (eqb-true a b, eq-eqb a b)) xs ys (pointwise ◌==◌ xs ys) refl).0 h
 
-mac_exact : (a b : Mac) → mac_eq.ghosts.eq a b ≡ true → a ≡ b
-mac_exact a b h = let made : List ℕ → Mac = λ xs. record { 0 = xs } in ap made (numbers_exact a.0 b.0 h)
-
-hop_exact : (a b : RowHop) → hop_eq.ghosts.eq a b ≡ true → a ≡ b
-hop_exact a b h =
+row_hop_eq_exact : (a b : RowHop) → hop_eq.ghosts.eq a b ≡ true → a ≡ b
+row_hop_eq_exact a b h =
     let parts = and_parts _ _ h in
     let made : IfName → Ip → RowHop = λ on ip. record { on = on; ip = ip } in
-    ap₂ made (name_exact a.on b.on parts.0) (ip-exact a.ip b.ip parts.1)
+    ap₂ made (if_name_exact a.on b.on parts.0) (ip-exact a.ip b.ip parts.1)
 
-hop_decides : (a b : RowHop) → Decides (hop_eq.ghosts.eq a b) (a ≡ b)
-hop_decides a b = (hop_exact a b, λ e. subst (λ z. hop_eq.ghosts.eq a z ≡ true) e (equal_hop.laws-law.refl a))
+row_hop_decides : (a b : RowHop) → Decides (hop_eq.ghosts.eq a b) (a ≡ b)
+row_hop_decides a b = (row_hop_eq_exact a b, λ e. subst (λ z. hop_eq.ghosts.eq a z ≡ true) e (equal_hop.laws-law.refl a))
 
-hops_exact : (xs ys : List RowHop) → pointwise hop_eq.ghosts.eq xs ys ≡ true → xs ≡ ys
-hops_exact xs ys h = (slice_eq-Decides hop_decides xs ys (pointwise hop_eq.ghosts.eq xs ys) refl).0 h
+row_hops_exact : (xs ys : List RowHop) → pointwise hop_eq.ghosts.eq xs ys ≡ true → xs ≡ ys
+row_hops_exact xs ys h = (slice_eq-Decides row_hop_decides xs ys (pointwise hop_eq.ghosts.eq xs ys) refl).0 h
 
 route_exact : (a b : RouteRow) → route_eq.ghosts.eq a b ≡ true → a ≡ b
 route_exact route.Drop route.Drop h = refl
-route_exact (route.Direct x) (route.Direct y) h = ap route.Direct (name_exact x y h)
-route_exact (route.Hops xs) (route.Hops ys) h = ap route.Hops (hops_exact xs ys h)
+route_exact (route.Direct x) (route.Direct y) h = ap route.Direct (if_name_exact x y h)
+route_exact (route.Hops xs) (route.Hops ys) h = ap route.Hops (row_hops_exact xs ys h)
 route_exact _ _ h = absurd (false≢true h)
 
-port_exact : (p q : PortRow) → port_eq.ghosts.eq p q ≡ true → p ≡ q
-port_exact p q h =
+port_row_exact : (p q : PortRow) → port_eq.ghosts.eq p q ≡ true → p ≡ q
+port_row_exact p q h =
     let a = and_parts _ _ h in
     let b = and_parts _ _ a.1 in
     let c = and_parts _ _ b.1 in
@@ -73,7 +60,7 @@ port_exact p q h =
     ap₂ (λ l s. made l s p.mtu p.up) (numbers_exact p.lanes q.lanes a.0) (eqb-true p.speed q.speed b.0) ∙ ap₂ (λ m u. made q.lanes q.speed m u) (eqb-true p.mtu q.mtu c.0) ((booleans_Decides p.up q.up).0 c.1)
 
 pub row_exact : (a b : Row) → row_eq.ghosts.eq a b ≡ true → a ≡ b
-row_exact (row.Port p) (row.Port q) h = ap row.Port (port_exact p q h)
+row_exact (row.Port p) (row.Port q) h = ap row.Port (port_row_exact p q h)
 row_exact row.Vlan row.Vlan h = refl
 row_exact (row.Member a) (row.Member b) h = ap row.Member (tagging_exact a b h)
 row_exact row.Intf row.Intf h = refl

@@ -52,8 +52,8 @@ pub turn_first : (c : CoreState) (chip : ChipState) → IsAtRest c → IsTurnAt 
 turn_first c chip rest s is = ([], keys_of c.tables.ops, refl, turn_begins c chip s is rest, keeps_itself chip)
 
 -- the next key, and those behind it
-pub next_key : (rest : List Key) (after : Option Key) (keys : List Key) (k : Key) → keys_behind after keys ≡ rest → first_in (keys_behind after keys) ≡ Some k → (more : List Key) × (rest ≡ k ∷ more)
-next_key rest after keys k behind first = first_next rest k (ap first_in (sym behind) ∙ first)
+pub leads_with_key : (rest : List Key) (after : Option Key) (keys : List Key) (k : Key) → keys_behind after keys ≡ rest → first_in (keys_behind after keys) ≡ Some k → (more : List Key) × (rest ≡ k ∷ more)
+leads_with_key rest after keys k behind first = first_next rest k (ap first_in (sym behind) ∙ first)
 
 one_longer : (k : Key) (ks : List Key) → length (k ∷ ks) ≡ length ks + 1
 one_longer k ks = omega arith
@@ -67,7 +67,7 @@ behind_first keys = ([], keys, refl, refl)
 
 module _ (ops : Ops) (after : Option Key) (k : Key) (order : AreOpsInOrder ops) (are : AreBehind after (keys_of ops)) (first : first_in (keys_behind after (keys_of ops)) ≡ Some k) where
   pub more_of : (more : List Key) × (are.1 ≡ k ∷ more)
-  more_of = next_key are.1 after (keys_of ops) k are.3 first
+  more_of = leads_with_key are.1 after (keys_of ops) k are.3 first
 
   pub split_of : keys_of ops ≡ are.0 ++ (k ∷ more_of.0)
   split_of = are.2 ∙ ap (λ l. are.0 ++ l) more_of.1
@@ -146,7 +146,7 @@ brings_keeps s k c d chip chip' (Waits mid r same alike is reason on) = keeps_sa
 module _ (c : CoreState) (first : ChipState) (s : LoggedService) (after : Option Key) (k : Key) (d : CoreState) (chip : ChipState) (order : AreOpsInOrder d.tables.ops) (there : first_in (keys_behind after (keys_of d.tables.ops)) ≡ Some k) (left rest : List Key) (behind : keys_behind after (keys_of d.tables.ops) ≡ rest) (e : CoreState) (chip' : ChipState) where
   pub turn_next : (x : IsTurning (keys_of c.tables.ops) c s left rest d chip) → KeepsChip first chip → BringsKey x.later k d e chip chip' → ((l : List Key) × (m : List Key) × (keys_behind (Some k) (keys_of e.tables.ops) ≡ m) × IsTurning (keys_of c.tables.ops) c s l m e chip' × KeepsChip first chip') × (length (keys_behind (Some k) (keys_of e.tables.ops)) < length (keys_behind after (keys_of d.tables.ops)))
   turn_next turning keeps b =
-      let n = next_key rest after (keys_of d.tables.ops) k behind there in
+      let n = leads_with_key rest after (keys_of d.tables.ops) k behind there in
       let on : (r : List Key) → r ≡ k ∷ n.0 → (x : IsTurning (keys_of c.tables.ops) c s left r d chip) → BringsKey x.later k d e chip chip' → (l : List Key) × (keys_behind (Some k) (keys_of e.tables.ops) ≡ n.0) × IsTurning (keys_of c.tables.ops) c s l n.0 e chip' =
       λ r same. subst (λ l. (x : IsTurning (keys_of c.tables.ops) c s left l d chip) → BringsKey x.later k d e chip chip' → (l : List Key) × (keys_behind (Some k) (keys_of e.tables.ops) ≡ n.0) × IsTurning (keys_of c.tables.ops) c s l n.0 e chip') (sym same) (λ x h. turn_on (keys_of c.tables.ops) left n.0 k c d chip s x order e chip' h) in
       let z = on rest n.1 turning b in
@@ -223,6 +223,6 @@ turn_fewer keys left c s d chip' y apart =
       | inr same ↦ absurd (apart (long ∙ same.0))
     ]
 
-pub none_left : (ks : List Key) → length ks ≡ 0 → ks ≡ []
-none_left [] h = refl
-none_left (k ∷ ks) h = absurd (omega (arith, h))
+pub empty_of_length : (ks : List Key) → length ks ≡ 0 → ks ≡ []
+empty_of_length [] h = refl
+empty_of_length (k ∷ ks) h = absurd (omega (arith, h))

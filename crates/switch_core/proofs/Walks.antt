@@ -25,7 +25,7 @@ use Rattle.session_laws.specs.Standing.{IsSessionOf}
 use Rattle.session_laws.proofs.Joining.{one_step}
 use Rattle.session_laws.proofs.Marking.{popped}
 use Rattle.session_laws.proofs.Popping.{pop_told}
-use Rattle.session_laws.proofs.Seeing.{is_idle, no_flight, same_keys}
+use Rattle.session_laws.proofs.Seeing.{free_worker_rests, is_idle, same_keys}
 use Rattle.switch_core.specs.Outcomes.{Answered, Begins, BeginsTo, DropsTo, IsInSession, IsSameCore, StepsTo}
 use Rattle.switch_core.specs.declared.answer.Step.{Step}
 use Rattle.switch_core.specs.declared.answer.Step.TheVariants as step
@@ -43,12 +43,12 @@ behind_split None q = inl tt
 behind_split (Some k) q = behind_by k q (key_cmp k q) refl
 
 -- no two keys stand before each other
-not_both : (q k : Key) → key_cmp q k ≡ Less → key_cmp k q ≡ Less → ⊥
-not_both q k less back = false≢true (ap is_lt (ap ordering_reverse (sym back) ∙ sym (key_total.antisymm q k) ∙ less))
+never_both_less : (q k : Key) → key_cmp q k ≡ Less → key_cmp k q ≡ Less → ⊥
+never_both_less q k less back = false≢true (ap is_lt (ap ordering_reverse (sym back) ∙ sym (key_total.antisymm q k) ∙ less))
 
 -- no key stands before itself
 not_itself : (q k : Key) → key_cmp q k ≡ Less → q ≡ k → ⊥
-not_itself q k less same = not_both q k less (subst (λ x. key_cmp k x ≡ Less) (sym same) (subst (λ x. key_cmp x k ≡ Less) same less))
+not_itself q k less same = never_both_less q k less (subst (λ x. key_cmp k x ≡ Less) (sym same) (subst (λ x. key_cmp x k ≡ Less) same less))
 
 -- ---- the same core
 
@@ -116,14 +116,14 @@ module _ (c c' : CoreState) (after : Option Key) (walked : IsWalkedTo c after c'
 
   -- each key before this one has a reason to wait
   hindered : (s : LoggedService) (chip : ChipState) → IsSessionOf c chip s → AreHindered c.board.plan 4 c.sync.capacities s.service.core k
-  hindered s chip is q i less = let j = same_keys c chip s is q i in (walked.1 s chip is).1 q j (λ behind. elim (first q j behind) [ inl same ↦ not_itself q k less same | inr back ↦ not_both q k less back ])
+  hindered s chip is q i less = let j = same_keys c chip s is q i in (walked.1 s chip is).1 q j (λ behind. elim (first q j behind) [ inl same ↦ not_itself q k less same | inr back ↦ never_both_less q k less back ])
 
   module _ (w : ℕ) (at : c.warm ≡ warm.Reconciled) (none : flown_at c.board w ≡ None) (empty : c.tables.waiting ≡ []) (s : LoggedService) (chip : ChipState) (is : IsSessionOf c chip s) (d : CoreState) where
     pub walk_drops : DropsTo s k c' d chip → StepsTo s w c chip (Ok step.Did) d chip
     walk_drops x =
         let makes = makes_same c c' d chip s walked.0 x.makes in
         let z : (z : IsDrop c.board.plan s.service.core makes.later.service.core) × (z.key ≡ k) = of_same (λ y. (z : IsDrop y.board.plan s.service.core x.makes.later.service.core) × (z.key ≡ k)) c c' (λ b e h. subst (λ p. (z : IsDrop p s.service.core x.makes.later.service.core) × (z.key ≡ k)) e h) walked.0 (x.drop, x.key) in
-        (makes, None, Dropping makes.later.service.core z.0 (no_flight c chip s is at w none) (popped c chip s is at empty) (subst (AreHindered c.board.plan 4 c.sync.capacities s.service.core) (sym z.1) (hindered s chip is)), x.moves, keeps_itself chip)
+        (makes, None, Dropping makes.later.service.core z.0 (free_worker_rests c chip s is at w none) (popped c chip s is at empty) (subst (AreHindered c.board.plan 4 c.sync.capacities s.service.core) (sym z.1) (hindered s chip is)), x.moves, keeps_itself chip)
 
     pub walk_begins : BeginsTo s w k c' d chip → StepsTo s w c chip (Ok step.Did) d chip
     walk_begins x =
@@ -177,4 +177,4 @@ module _ (s : LoggedService) (w : ℕ) (c : CoreState) (chip : ChipState) (is : 
   popping_steps none some (inr popped) =
       let told = pop_told c chip s t is at keys in
       let one = told.3 (subst (λ (z : CoreState). PopsSome c.tables z.tables) same popped) in
-      subst (λ z. StepsTo s w c chip (Ok step.Did) z chip) (sym same) (told.0, None, Popping told.0.later.service.core one.0 (no_flight c chip s is at w none) told.1 one.1 one.2, told.2, keeps_itself chip)
+      subst (λ z. StepsTo s w c chip (Ok step.Did) z chip) (sym same) (told.0, None, Popping told.0.later.service.core one.0 (free_worker_rests c chip s is at w none) told.1 one.1 one.2, told.2, keeps_itself chip)

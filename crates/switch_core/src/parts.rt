@@ -10,7 +10,7 @@ ghost use Rattle.registry_laws.specs.Making.{IsNextCall, MayTakeFor};
 ghost use Rattle.sync_tables.specs.Tables.{PopsKeys, PopsSome, TablesState};
 ghost use Rattle.syncd_core.specs.Synced.{CanCall, Calls, SyncState};
 ghost use Rattle.flight_board.specs.Applied.{row_at};
-ghost use Rattle.flight_board.specs.Board.{BoardState, IsBegunFor, IsPrepared, IsReady, IsSameBoard, IsTakenFor, IsUnflown, flown_at};
+ghost use Rattle.flight_board.specs.Board.{BoardState, IsBegunFor, IsPrepared, IsCallReady, IsSameBoard, IsTakenFor, IsUnflown, flown_at};
 ghost use Rattle.session_laws.specs.Core.{good_in};
 ghost use Rattle.switch_core.specs.Outcomes.{left_by};
 
@@ -41,7 +41,7 @@ impl Core {
     /// The call that is due for a worker.
     pub(crate) fn due_call(&self, worker: u32) -> Result<Call<Vid>, OutOfMemory>
         requires worker { worker < 4 }
-        requires flying { (x : Flown) × (flown_at self.now.board worker ≡ Some x) × IsReady self.now.board.plan self.now.board.names x }
+        requires flying { (x : Flown) × (flown_at self.now.board worker ≡ Some x) × IsCallReady self.now.board.plan self.now.board.names x }
         ensures { IfOk result (λ call. (x : Flown) → flown_at self.now.board worker ≡ Some x → IsNextCall self.now.board.plan self.now.board.names x.operation x.group call) }
     {
         self.board.next(worker)

@@ -5,14 +5,14 @@ use Rattle.table_schema.specs.declared.key.Key.{Key}
 use Rattle.table_schema.specs.declared.row.Row.{Row}
 use Rattle.sai_types.specs.declared.thing.Thing.{Thing}
 use Rattle.sai_types.specs.Alike.{IsIn}
-use Rattle.sai_types.specs.Names.{Name, Refers, name_of}
+use Rattle.sai_types.specs.Names.{ThingName, Refers, name_of}
 use Rattle.row_layout.specs.Rows.{Owner, OfRow, own_things}
 use Rattle.row_layout.specs.Shared.{shared_things, uses}
 use Rattle.row_layout.specs.Operations.{Change, Make, Set, Take, make_all, own_changes, own_sets, shared_going, take_all, uses_of}
 use Rattle.switch_machine.specs.Changes.{after, changed_name}
-use Rattle.switch_machine.specs.Flights.{Can, Concerns, Fits, Flight, Goes, IsConcern, IsFinal, IsOwnedBy, IsShared, HasChangeOf, IsUser, Machine, Runs, StandsIn, own_of}
+use Rattle.switch_machine.specs.Flights.{Can, Concerns, Fits, MachineFlight, Goes, IsConcern, IsFinal, IsOwnedBy, IsShared, HasChangeOf, IsUser, Machine, Runs, StandsIn, own_of}
 use Rattle.switch_machine.specs.Operations.{MayBegin, IsLast, built_first}
-use Rattle.switch_machine.specs.Tables.{Orders, IsNamed, Tables}
+use Rattle.switch_machine.specs.Tables.{Orders, IsNamed, TableLaws}
 use Rattle.switch_machine.specs.Steps.{LeavesLast, Starts, left, parted, started}
 use Rattle.switch_machine.specs.Consistent.{IsUsedOrRetired, IsConsistent, WasUsed}
 use Rattle.switch_machine.proofs.Running.{final-concern, one_owner, own_row, shared_of, shared_row, stays}
@@ -30,7 +30,7 @@ no_retire r o h g = absurd cc
 
 -- ---- changes of what stands whole
 
-module _ (plan : Ports) (tables : Tables plan) (f : Flight) (fit : (r : Row) → f.new ≡ Some r → Fits plan f.key r) (none : f.retires ≡ None) (p : Owner) (usage : IsIn p (uses_of plan f.key f.new)) where
+module _ (plan : Ports) (tables : TableLaws plan) (f : MachineFlight) (fit : (r : Row) → f.new ≡ Some r → Fits plan f.key r) (none : f.retires ≡ None) (p : Owner) (usage : IsIn p (uses_of plan f.key f.new)) where
   shared : IsShared p
   shared = let r = use_row_in plan f.key f.new p usage in tables.are_shared f.key r.0 p r.2
 
@@ -65,7 +65,7 @@ take_in (t ∷ ts) c (inl e) = (t, inl refl, e)
 take_in (t ∷ ts) c (inr h) = let x = take_in ts c h in (x.0, inr x.1, x.2)
 
 -- the concern of each change that is due
-module _ (plan : Ports) (tables : Tables plan) (f : Flight) (fit : (r : Row) → f.new ≡ Some r → Fits plan f.key r) where
+module _ (plan : Ports) (tables : TableLaws plan) (f : MachineFlight) (fit : (r : Row) → f.new ≡ Some r → Fits plan f.key r) where
   can_concern : (V : Thing → Type 0) (c : Change) → Can plan f V c → IsConcern plan f (changed_name c)
   can_concern V (Make t) can = final-concern plan tables f fit t can.final
   can_concern V (Set t) can = (OfRow f.key, can.own, inl refl)
@@ -83,14 +83,14 @@ module _ (plan : Ports) (tables : Tables plan) (f : Flight) (fit : (r : Row) →
   touched_concern (c ∷ cs) V p runs (d, inr h, of) = touched_concern cs (λ u. after c (V u) u) p runs.1 (d, h, of)
 
 module _ (plan : Ports) (is : IsPlan plan) (m : Machine) (sound : IsConsistent plan m) where
-  abbrev T : Tables plan
+  abbrev T : TableLaws plan
   T = tabled plan is
 
   abbrev O : Orders plan
   O = ordered plan is
 
   -- ---- an operation begins
-  module _ (w : ℕ) (f : Flight) (due : List Change) (begins : MayBegin plan m w f due) where
+  module _ (w : ℕ) (f : MachineFlight) (due : List Change) (begins : MayBegin plan m w f due) where
     abbrev IsReady : List Thing → (Thing → Type 0) → Type 0
     IsReady ts V = Ready plan T f begins.fit ts V
 
@@ -110,8 +110,8 @@ module _ (plan : Ports) (is : IsPlan plan) (m : Machine) (sound : IsConsistent p
               shared = λ o u usage of. ready.shared o u (subst (λ z. IsIn o (uses_of plan f.key z)) (sym g) usage) of;
             }))
           where
-            written : (f : Flight) (n : Option Row) (x : Option Owner) → f.new ≡ n → f.retires ≡ x → record { key = f.key; new = n; leaves = f.leaves; retires = x } ≡ f
-            written f n x h k = let made : Option Row → Option Owner → Flight = λ n x. record { key = f.key; new = n; leaves = f.leaves; retires = x } in ap₂ made (sym h) (sym k)
+            written : (f : MachineFlight) (n : Option Row) (x : Option Owner) → f.new ≡ n → f.retires ≡ x → record { key = f.key; new = n; leaves = f.leaves; retires = x } ≡ f
+            written f n x h k = let made : Option Row → Option Owner → MachineFlight = λ n x. record { key = f.key; new = n; leaves = f.leaves; retires = x } in ap₂ made (sym h) (sym k)
 
     own_view : (u : Thing) → IsOwnedBy plan (name_of u) (OfRow f.key) → (StandsIn m u → IsIn u (own_of plan f.key (m.board.applied f.key))) × (IsIn u (own_of plan f.key (m.board.applied f.key)) → StandsIn m u)
     own_view u of = sound.rest f.key u begins.rests of
@@ -178,8 +178,8 @@ module _ (plan : Ports) (is : IsPlan plan) (m : Machine) (sound : IsConsistent p
     sound-begun = sound-started plan T m sound w f due starts
 
   -- ---- what is left by its last user is retired
-  module _ (w : ℕ) (f : Flight) (o : Owner) (x : IsLast plan m w f o) where
-    abbrev g' : Flight
+  module _ (w : ℕ) (f : MachineFlight) (o : Owner) (x : IsLast plan m w f o) where
+    abbrev g' : MachineFlight
     g' = parted f (Some o)
 
     fits : (r : Row) → f.new ≡ Some r → Fits plan f.key r
@@ -191,7 +191,7 @@ module _ (plan : Ports) (is : IsPlan plan) (m : Machine) (sound : IsConsistent p
     o_shared : IsShared o
     o_shared = T.are_shared f.key known.0.row o known.0.used
 
-    still : (v : ℕ) (g : Flight) → m.board.flights v ≡ Some g → HasChangeOf plan (m.due v) o → ⊥
+    still : (v : ℕ) (g : MachineFlight) → m.board.flights v ≡ Some g → HasChangeOf plan (m.due v) o → ⊥
     still v g there t =
         let same = sound.board.one w v f g x.leaving.flying there (sound.quiet v g f.key o there t (leaver plan T m sound w f o x.leaving)) in
         no_change t.0 (m.due v) t.1 (ap m.due (sym same) ∙ x.leaving.done)
@@ -203,7 +203,7 @@ module _ (plan : Ports) (is : IsPlan plan) (m : Machine) (sound : IsConsistent p
     of_going t h = (O.shared_going_same o).into t h
 
     -- what belongs to no row is not of a row that is named
-    not_named : (k : Key) (r : Row) (n : Name) → IsNamed plan k r n → IsOwnedBy plan n o → ⊥
+    not_named : (k : Key) (r : Row) (n : ThingName) → IsNamed plan k r n → IsOwnedBy plan n o → ⊥
     not_named k r n named of = shared_row o named.by o_shared (one_owner plan n o (OfRow named.by) of (T.names_own named.by n named.own))
 
     before_by : (t u : Thing) → IsIn t (shared_going o) → StandsIn m u → Refers u (name_of t) → (p : Owner) → IsOwnedBy plan (name_of u) p → Concerns plan g' p → IsIn u (shared_things o) ⊎ ⊥

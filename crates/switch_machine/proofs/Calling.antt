@@ -25,7 +25,7 @@ use Rattle.switch_model.specs.Things.{base_of, lane_of, members_of}
 use Rattle.chip_layout.specs.Bodies.{IsAt, IsChange, to_with, goal_name}
 use Rattle.chip_layout.specs.Layout.{Has, HasRoom, IsFree, IsLaidOut, IsUnused, Layout, has_number, listed, next_id, with_changed, with_thing, without}
 use Rattle.sai_types.specs.Names as name
-use Rattle.sai_types.specs.Names.{Meet, Name, Refers, ShareLane, name_of}
+use Rattle.sai_types.specs.Names.{Meet, ThingName, Refers, ShareLane, name_of}
 use Rattle.chip_layout.proofs.Bodies.{first-refers}
 use Rattle.chip_layout.proofs.Making.{make-laid, make-legal}
 use Rattle.chip_layout.proofs.Removing.{remove-laid, remove-legal}
@@ -37,10 +37,10 @@ use Rattle.row_layout.specs.Shared.{shared_things, uses}
 use Rattle.row_layout.proofs.Members.{from_in}
 use Rattle.switch_model.proofs.Planned.{one-planned}
 use Rattle.switch_machine.specs.Changes.{IsMakeCall, IsSamePort, IsSetCall, IsSettable, IsTakeCall}
-use Rattle.switch_machine.specs.Flights.{CanMake, CanSet, CanTake, Fits, Flight, Goes, HasName, IsConcern, IsFinal, IsOwnedBy, IsShared, IsUser, IsRow, Machine, StandsIn}
+use Rattle.switch_machine.specs.Flights.{CanMake, CanSet, CanTake, Fits, MachineFlight, Goes, HasName, IsConcern, IsFinal, IsOwnedBy, IsShared, IsUser, IsRow, Machine, StandsIn}
 use Rattle.row_layout.specs.Operations.{uses_of}
 use Rattle.switch_machine.specs.Consistent.{IsUsedOrRetired, IsLike, IsConsistent}
-use Rattle.switch_machine.specs.Tables.{IsNamed, Tables}
+use Rattle.switch_machine.specs.Tables.{IsNamed, TableLaws}
 use Rattle.switch_machine.proofs.Running.{one_owner, row_keys, shared_row}
 use Rattle.switch_machine.proofs.Moving.{fit_of}
 use Rattle.switch_machine.proofs.Splits.{own_row_in, use_row_in}
@@ -57,9 +57,9 @@ port_in : (p q : PortThing) → IsIn (thing.Port p) (thing.Port q ∷ []) → p.
 port_in p q (inl h) = let same : p ≡ q = cc in ap (λ (z : PortThing). z.lanes) same
 port_in p q (inr h) = elim h [ ]
 
-no_port : {X : Type 0} (p : PortThing) (u : Thing) → IsIn (thing.Port p) (u ∷ []) → (thing.Port p ≡ u → ⊥) → X
-no_port p u (inl h) other = absurd (other h)
-no_port p u (inr h) other = elim h [ ]
+not_this_port : {X : Type 0} (p : PortThing) (u : Thing) → IsIn (thing.Port p) (u ∷ []) → (thing.Port p ≡ u → ⊥) → X
+not_this_port p u (inl h) other = absurd (other h)
+not_this_port p u (inr h) other = elim h [ ]
 
 no_member : (all hops : List Hop) (p : PortThing) → IsIn (thing.Port p) (members_of all hops) → ⊥
 no_member all [] p h = elim h [ ]
@@ -68,8 +68,8 @@ no_member all (hop ∷ hops) p (inr h) = no_member all hops p h
 
 pub shared_no_port : (o : Owner) (p : PortThing) → IsIn (thing.Port p) (shared_things o) → ⊥
 shared_no_port (owner.OfRow k) p h = elim h [ ]
-shared_no_port (owner.Bridge lane) p h = no_port p (thing.BridgePort lane) h (λ e. cc)
-shared_no_port (owner.Own ip) p h = no_port p (thing.Own ip) h (λ e. cc)
+shared_no_port (owner.Bridge lane) p h = not_this_port p (thing.BridgePort lane) h (λ e. cc)
+shared_no_port (owner.Own ip) p h = not_this_port p (thing.Own ip) h (λ e. cc)
 shared_no_port (owner.Group hops) p (inl h) = cc
 shared_no_port (owner.Group hops) p (inr h) = no_member hops hops p h
 
@@ -83,15 +83,15 @@ none_from (Some x) f y each h = each x h
 
 pub port_planned : (plan : Ports) (k : Key) (r : Row) (p : PortThing) → Fits plan k r → IsIn (thing.Port p) (own_things plan k r) → IsPlannedPort plan p.lanes
 port_planned plan (key.Port q) (row.Port r) p fit h = (q, fit ∙ ap Some (sym (port_in p (record { lanes = r.lanes; speed = r.speed; mtu = r.mtu; up = r.up }) (from_in (lane_of plan q) _ (thing.Port p) h).2)))
-port_planned plan (key.Vlan v) row.Vlan p fit h = no_port p (thing.Vlan v) h (λ e. cc)
-port_planned plan (key.Member v q) (row.Member t) p fit h = absurd (none_from (lane_of plan q) (λ lane. thing.VlanMember v lane t ∷ []) (thing.Port p) (λ lane x. no_port p (thing.VlanMember v lane t) x (λ e. cc)) h)
-port_planned plan (key.Intf n) row.Intf p fit h = absurd (none_from (base_of plan n) (λ b. thing.Rif b ∷ []) (thing.Port p) (λ b x. no_port p (thing.Rif b) x (λ e. cc)) h)
+port_planned plan (key.Vlan v) row.Vlan p fit h = not_this_port p (thing.Vlan v) h (λ e. cc)
+port_planned plan (key.Member v q) (row.Member t) p fit h = absurd (none_from (lane_of plan q) (λ lane. thing.VlanMember v lane t ∷ []) (thing.Port p) (λ lane x. not_this_port p (thing.VlanMember v lane t) x (λ e. cc)) h)
+port_planned plan (key.Intf n) row.Intf p fit h = absurd (none_from (base_of plan n) (λ b. thing.Rif b ∷ []) (thing.Port p) (λ b x. not_this_port p (thing.Rif b) x (λ e. cc)) h)
 port_planned plan (key.Neigh n ip) (row.Neigh mac) p fit h = absurd (none_from (base_of plan n) (λ b. thing.Neighbor (record { on = b; ip = ip }) mac ∷ thing.NextHop (record { on = b; ip = ip }) ∷ []) (thing.Port p) (λ b x. neither (record { on = b; ip = ip }) mac x) h)
   where
     neither : (hop : Hop) (mac : Mac) → IsIn (thing.Port p) (thing.Neighbor hop mac ∷ thing.NextHop hop ∷ []) → ⊥
     neither hop mac (inl h) = cc
-    neither hop mac (inr h) = no_port p (thing.NextHop hop) h (λ e. cc)
-port_planned plan (key.Route prefix) (row.Route r) p fit h = absurd (none_from (goal_of plan r) (λ g. thing.Route prefix g ∷ []) (thing.Port p) (λ g x. no_port p (thing.Route prefix g) x (λ e. cc)) h)
+    neither hop mac (inr h) = not_this_port p (thing.NextHop hop) h (λ e. cc)
+port_planned plan (key.Route prefix) (row.Route r) p fit h = absurd (none_from (goal_of plan r) (λ g. thing.Route prefix g ∷ []) (thing.Port p) (λ g x. not_this_port p (thing.Route prefix g) x (λ e. cc)) h)
 port_planned plan _ _ p fit h = elim h [ ]
 
 pub port_like : (plan : Ports) (k : Key) (r : Row) (t : Thing) (q : PortThing) → Fits plan k r → IsIn t (own_things plan k r) → (thing.Port q ≡ t) ⊎ IsSamePort (thing.Port q) t → IsPlannedPort plan q.lanes
@@ -105,26 +105,26 @@ lanes_name plan is xs ys x y one =
     let both : Some xs ≡ Some ys = sym x.1 ∙ ap (lanes_in_plan plan) same ∙ y.1 in
     cc
 
-at_goal : (layout : Layout Rid) (o : Option Name) → ((n : Name) → o ≡ Some n → (i : Rid) × Has layout n i) → (i : Rid) × IsAt (Has layout) o i
+at_goal : (layout : Layout Rid) (o : Option ThingName) → ((n : ThingName) → o ≡ Some n → (i : Rid) × Has layout n i) → (i : Rid) × IsAt (Has layout) o i
 at_goal layout None f = (record { 0 = 0 }, tt)
 at_goal layout (Some n) f = f n refl
 
-module _ (plan : Ports) (is : IsPlan plan) (tables : Tables plan) (m : Machine) (sound : IsConsistent plan m) (w : ℕ) (f : Flight) (flying : m.board.flights w ≡ Some f) (made : ℕ) (objects : Objects) (whole : IsWhole made objects) (laid : IsLaidOut (listed m.stands) objects) where
+module _ (plan : Ports) (is : IsPlan plan) (tables : TableLaws plan) (m : Machine) (sound : IsConsistent plan m) (w : ℕ) (f : MachineFlight) (flying : m.board.flights w ≡ Some f) (made : ℕ) (objects : Objects) (whole : IsWhole made objects) (laid : IsLaidOut (listed m.stands) objects) where
   abbrev L : Layout Rid
   L = listed m.stands
 
   fits : (r : Row) → f.new ≡ Some r → Fits plan f.key r
   fits = fit_of plan tables m sound w f flying
 
-  has_id : (n : Name) → HasName (StandsIn m) n → (i : Rid) × Has L n i
+  has_id : (n : ThingName) → HasName (StandsIn m) n → (i : Rid) × Has L n i
   has_id n (u, (i, h), e) = (i, (u, h, e))
 
   -- what a row names stands
-  named_stands : (k : Key) (r : Row) (n : Name) → IsRow m.board k r → IsNamed plan k r n → (i : Rid) × Has L n i
+  named_stands : (k : Key) (r : Row) (n : ThingName) → IsRow m.board k r → IsNamed plan k r n → (i : Rid) × Has L n i
   named_stands k r n is named = has_id n (sound.present named.by n (sound.board.named k named.by r is named.named) named.own)
 
   -- what a thing of the new row refers to stands
-  reaches : (t : Thing) → IsFinal plan f t → ((n : Name) → Refers t n → IsConcern plan f n → HasName (StandsIn m) n) → (n : Name) → Refers t n → (i : Rid) × Has L n i
+  reaches : (t : Thing) → IsFinal plan f t → ((n : ThingName) → Refers t n → IsConcern plan f n → HasName (StandsIn m) n) → (n : ThingName) → Refers t n → (i : Rid) × Has L n i
   reaches t (inl h) near n refers = by (own_row_in plan f.key f.new t h)
     where
       leads : (r : Row) → f.new ≡ Some r → IsNamed plan f.key r n ⊎ (IsOwnedBy plan n (OfRow f.key) ⊎ ((o : Owner) × IsOwnedBy plan n o × IsIn o (uses plan f.key r))) → (i : Rid) × Has L n i
@@ -189,7 +189,7 @@ module _ (plan : Ports) (is : IsPlan plan) (tables : Tables plan) (m : Machine) 
   pub set-is_laid : (u : Thing) (c : Call Rid) (x : IsSetCall L u c) → IsLaidOut (with_changed L x.id u) (after_call (made + 1) objects c)
   set-is_laid u c x = subst (λ z. IsLaidOut (with_changed L x.id u) (after_call (made + 1) objects z)) (sym x.is) (set-laid L made objects laid x.id x.old u x.body x.attr x.stands x.of x.change)
 
-  has_attr : (t u : Thing) → IsSettable t u → ((n : Name) → Refers u n → (i : Rid) × Has L n i) → (a : Attr Rid) × IsChange (Has L) t a u
+  has_attr : (t u : Thing) → IsSettable t u → ((n : ThingName) → Refers u n → (i : Rid) × Has L n i) → (a : Attr Rid) × IsChange (Has L) t a u
   has_attr (thing.Port p) u (inl h) f = (attr.Speed h.0, h.1)
   has_attr (thing.Port p) u (inr (inl h)) f = (attr.Mtu h.0, h.1)
   has_attr (thing.Port p) u (inr (inr h)) f = (attr.Up h.0, h.1)
@@ -206,7 +206,7 @@ module _ (plan : Ports) (is : IsPlan plan) (tables : Tables plan) (m : Machine) 
       let a = has_attr can.old u can.settable (reaches_like u can) in
       (call.Set (entry_of can.stands.0.0 b.0) a.0, record { id = can.stands.0; old = can.old; stands = can.stands.1; body = b.0; of = b.1; attr = a.0; change = a.1; is = refl })
     where
-      reaches_like : (u : Thing) (can : CanSet plan f (StandsIn m) u) (n : Name) → Refers u n → (i : Rid) × Has L n i
+      reaches_like : (u : Thing) (can : CanSet plan f (StandsIn m) u) (n : ThingName) → Refers u n → (i : Rid) × Has L n i
       reaches_like u can n refers = by (own_row_in plan f.key f.new can.like can.final)
         where
           leads : (r : Row) → f.new ≡ Some r → IsNamed plan f.key r n ⊎ (IsOwnedBy plan n (OfRow f.key) ⊎ ((o : Owner) × IsOwnedBy plan n o × IsIn o (uses plan f.key r))) → (i : Rid) × Has L n i
@@ -220,7 +220,7 @@ module _ (plan : Ports) (is : IsPlan plan) (tables : Tables plan) (m : Machine) 
   -- ---- a thing is taken away
 
   -- what a firm row gives does not go
-  no_firm : (n : Name) (k : Key) (r : Row) → Goes plan f n → IsRow m.board k r → IsNamed plan k r n → ⊥
+  no_firm : (n : ThingName) (k : Key) (r : Row) → Goes plan f n → IsRow m.board k r → IsNamed plan k r n → ⊥
   no_firm n k r (inl (own, none)) row named =
       let same = row_keys f.key named.by (one_owner plan n (OfRow f.key) (OfRow named.by) own (tables.names_own named.by n named.own)) in
       (sound.board.named k named.by r row named.named).stays w f flying same none
@@ -238,7 +238,7 @@ module _ (plan : Ports) (is : IsPlan plan) (tables : Tables plan) (m : Machine) 
   held_row o (inl (k, user)) = let x = user_row k o user in (k, x.0, x.1, x.2)
   held_row o (inr (v, g, at, retires)) = let was = sound.board.left v g o at retires in (g.key, was.row, inl was.was, was.used)
 
-  unused_by : (n : Name) (u : Thing) → CanTake plan f (StandsIn m) n → StandsIn m u → Refers u n → (o : Owner) → IsOwnedBy plan (name_of u) o → IsShared o ⊎ ((k : Key) × (o ≡ OfRow k)) → ⊥
+  unused_by : (n : ThingName) (u : Thing) → CanTake plan f (StandsIn m) n → StandsIn m u → Refers u n → (o : Owner) → IsOwnedBy plan (name_of u) o → IsShared o ⊎ ((k : Key) × (o ≡ OfRow k)) → ⊥
   unused_by n u can h refers o of (inl shared) =
       let x = sound.held o u h of shared in
       let r = held_row o x.1 in
@@ -274,18 +274,18 @@ module _ (plan : Ports) (is : IsPlan plan) (tables : Tables plan) (m : Machine) 
       by goes x (inr (inl own)) = at_own goes own
       by goes x (inr (inr y)) = at_shared goes y.0 y.1 (tables.are_shared k x.row y.0 y.2)
 
-  unused : (n : Name) → CanTake plan f (StandsIn m) n → IsUnused L n
+  unused : (n : ThingName) → CanTake plan f (StandsIn m) n → IsUnused L n
   unused n can i u h refers = let o = sound.owned u (i, h) in unused_by n u can (i, h) refers o.0 o.1 (sort_of o.0)
 
-  pub take-is_legal : (n : Name) (c : Call Rid) (capacities : List ℕ) → CanTake plan f (StandsIn m) n → IsTakeCall L n c → IsLegal capacities objects c
+  pub take-is_legal : (n : ThingName) (c : Call Rid) (capacities : List ℕ) → CanTake plan f (StandsIn m) n → IsTakeCall L n c → IsLegal capacities objects c
   take-is_legal n c capacities can x = subst (IsLegal capacities objects) (sym x.is) (remove-legal L made objects whole laid x.id x.old x.body x.stands x.of (subst (IsUnused L) (sym x.named) (unused n can)) capacities)
 
-  pub take-is_laid : (n : Name) (c : Call Rid) → CanTake plan f (StandsIn m) n → IsTakeCall L n c → IsLaidOut (without L n) (after_call (made + 1) objects c)
+  pub take-is_laid : (n : ThingName) (c : Call Rid) → CanTake plan f (StandsIn m) n → IsTakeCall L n c → IsLaidOut (without L n) (after_call (made + 1) objects c)
   take-is_laid n c can x =
       subst (λ z. IsLaidOut (without L n) (after_call (made + 1) objects z)) (sym x.is)
       (subst (λ k. IsLaidOut (without L k) (after_call (made + 1) objects (call.Remove (entry_of x.id.0 x.body)))) x.named (remove-laid L made objects whole laid x.id x.old x.body x.stands x.of (subst (IsUnused L) (sym x.named) (unused n can))))
 
-  pub take-has_call : (n : Name) → CanTake plan f (StandsIn m) n → (c : Call Rid) × IsTakeCall L n c
+  pub take-has_call : (n : ThingName) → CanTake plan f (StandsIn m) n → (c : Call Rid) × IsTakeCall L n c
   take-has_call n can =
       let t = can.there in
       let b = laid.stand t.1.0 t.0 t.1.1 in

@@ -12,29 +12,29 @@ use Rattle.sai_types.specs.declared.thing.Thing.TheVariants as thing
 use Rattle.sai_types.specs.Alike.{IsIn}
 use Rattle.sai_types.specs.Named.{first_lane}
 use Rattle.switch_model.specs.Things.{lane_of}
-use Rattle.sai_types.specs.Names.{Name, Refers, name_of}
+use Rattle.sai_types.specs.Names.{ThingName, Refers, name_of}
 use Rattle.row_layout.specs.Rows.{Owner, OfRow, from, own_things}
 use Rattle.row_layout.specs.Operations.{Change, own_sets, port_with, set_all, set_to}
 use Rattle.row_layout.proofs.Changing.{set_same}
 use Rattle.switch_machine.specs.Changes.{IsSettable}
-use Rattle.switch_machine.specs.Flights.{Fits, Flight, HasName, IsOwnedBy, Runs}
+use Rattle.switch_machine.specs.Flights.{Fits, MachineFlight, HasName, IsOwnedBy, Runs}
 use Rattle.switch_machine.specs.Tables.{AreNamedApart, ComesBefore}
 use Rattle.switch_machine.proofs.Running.{resembles_self}
 use Rattle.switch_machine.proofs.Operating.{Ready, finish, near_own, not_first, step}
 use Rattle.switch_machine.proofs.Ordered.{ordered}
 use Rattle.switch_machine.proofs.Tabled.{tabled}
 
-port_refers_none : {X : Type 0} (p : PortThing) (n : Name) → Refers (thing.Port p) n → X
+port_refers_none : {X : Type 0} (p : PortThing) (n : ThingName) → Refers (thing.Port p) n → X
 port_refers_none p n h = elim h [ ]
 
-abbrev pub changes : Key → Row → Option Owner → Flight
+abbrev pub changes : Key → Row → Option Owner → MachineFlight
 changes k r leaves = record { key = k; new = Some r; leaves = leaves; retires = None }
 
 pub one_row : (plan : Ports) (k : Key) (r x : Row) → Fits plan k r → Some r ≡ Some x → Fits plan k x
 one_row plan k r x fit h = let same : r ≡ x = cc in subst (Fits plan k) same fit
 
 module _ (plan : Ports) (is : IsPlan plan) (k : Key) (a r : Row) (leaves : Option Owner) (fit : Fits plan k r) where
-  abbrev f : Flight
+  abbrev f : MachineFlight
   f = changes k r leaves
 
   abbrev fits : (x : Row) → f.new ≡ Some x → Fits plan k x
@@ -58,7 +58,7 @@ module _ (plan : Ports) (is : IsPlan plan) (k : Key) (a r : Row) (leaves : Optio
       apart : AreNamedApart (u ∷ ts)
       apart = subst AreNamedApart er ((ordered plan is).own_apart k r fit)
 
-      near : (W : Thing → Type 0) (n : Name) → HasName W n ⊎ ComesBefore n u (own_things plan k r) → HasName W n
+      near : (W : Thing → Type 0) (n : ThingName) → HasName W n ⊎ ComesBefore n u (own_things plan k r) → HasName W n
       near W n (inl h) = h
       near W n (inr h) = absurd (not_first n u ts apart (subst (ComesBefore n u) er h))
 
@@ -67,7 +67,7 @@ none_set : (plan : Ports) (is : IsPlan plan) (k : Key) (r : Row) (leaves : Optio
 none_set plan is k r leaves fit V ready = subst (Runs plan (changes k r leaves) V) (sym (set_same (own_things plan k r))) (finish plan (tabled plan is) (changes k r leaves) (λ x h. one_row plan k r x fit h) (ordered plan is) refl V ready)
 
 module _ (plan : Ports) (is : IsPlan plan) (p : ℕ) (a r : PortRow) (leaves : Option Owner) (fita : Fits plan (key.Port p) (row.Port a)) (fit : Fits plan (key.Port p) (row.Port r)) where
-  abbrev port_f : Flight
+  abbrev port_f : MachineFlight
   port_f = changes (key.Port p) (row.Port r) leaves
 
   abbrev port_fits : (x : Row) → port_f.new ≡ Some x → Fits plan (key.Port p) x

@@ -12,7 +12,7 @@ use Rattle.switch_model.specs.Good.{good_row, good_rows}
 use Rattle.row_layout.specs.Operations.{Change, shared_going, take_all}
 use Rattle.row_layout.specs.Rows.{Owner}
 use Rattle.switch_machine.specs.Events.{Due, Ended, Follows, Left, Retires}
-use Rattle.switch_machine.specs.Flights.{Flight, IsRow, Machine}
+use Rattle.switch_machine.specs.Flights.{MachineFlight, IsRow, Machine}
 use Rattle.switch_machine.specs.Steps.{finished, left, parted, started}
 use Rattle.switch_machine.specs.Written.{ArePopped, HasWrittenRows, IsAsBefore, IsGoodOnce, IsPoppedKey, IsTold, TakesWrite, Written, good_of}
 use Rattle.switch_machine.proofs.Running.{one_flight, no_flight}
@@ -20,7 +20,7 @@ use Rattle.switch_machine.proofs.Splits.{IsPut, IsSplit, New, Old, key_split, pu
 
 -- ---- a row of the board was one before
 
-finished_row : (m : Machine) (w : ℕ) (f : Flight) (k : Key) (r : Row) → m.board.flights w ≡ Some f → IsRow (finished m w f).board k r → IsRow m.board k r
+finished_row : (m : Machine) (w : ℕ) (f : MachineFlight) (k : Key) (r : Row) → m.board.flights w ≡ Some f → IsRow (finished m w f).board k r → IsRow m.board k r
 finished_row m w f k r at (inl h) = by (key_split f.key k)
   where
     by : IsSplit f.key k → IsRow m.board k r
@@ -32,12 +32,12 @@ finished_row m w f k r at (inr (v, g, there, is, new)) = by (put_by w v None m.b
     by (New same e) = no_flight g e
     by (Old other old) = inr (v, g, old, is, new)
 
-left_row : (m : Machine) (w : ℕ) (f : Flight) (retires : Option Owner) (due : List Change) (k : Key) (r : Row) → m.board.flights w ≡ Some f → IsRow (left m w f retires due).board k r → IsRow m.board k r
+left_row : (m : Machine) (w : ℕ) (f : MachineFlight) (retires : Option Owner) (due : List Change) (k : Key) (r : Row) → m.board.flights w ≡ Some f → IsRow (left m w f retires due).board k r → IsRow m.board k r
 left_row m w f retires due k r at (inl h) = inl h
 left_row m w f retires due k r at (inr (v, g, there, is, new)) = by (put_by w v (Some (parted f retires)) m.board.flights (Some g) there)
   where
     by : IsPut w v (Some (parted f retires)) m.board.flights (Some g) → IsRow m.board k r
-    by (New same e) = let one = one_flight (parted f retires) g e in inr (w, f, at, ap (λ (z : Flight). z.key) one ∙ is, ap (λ (z : Flight). z.new) one ∙ new)
+    by (New same e) = let one = one_flight (parted f retires) g e in inr (w, f, at, ap (λ (z : MachineFlight). z.key) one ∙ is, ap (λ (z : MachineFlight). z.new) one ∙ new)
     by (Old other old) = inr (v, g, old, is, new)
 
 pub follows-row : (plan : Ports) (w : ℕ) (m later : Machine) (k : Key) (r : Row) → Follows plan w m later → IsRow later.board k r → IsRow m.board k r
@@ -46,12 +46,12 @@ follows-row plan w m _ k r (Ended f ends) h = finished_row m w f k r ends.flying
 follows-row plan w m _ k r (Left f o x) h = left_row m w f f.retires [] k r x.leaving.flying (finished_row (left m w f f.retires []) w (parted f f.retires) k r (put_at w w (Some (parted f f.retires)) m.board.flights refl) h)
 follows-row plan w m _ k r (Retires f o x) h = left_row m w f (Some o) (take_all (shared_going o) []) k r x.leaving.flying h
 
-pub started-row : (m : Machine) (w : ℕ) (f : Flight) (due : List Change) (k : Key) (r : Row) → IsRow (started m w f due).board k r → IsRow m.board k r ⊎ ((f.key ≡ k) × (f.new ≡ Some r))
+pub started-row : (m : Machine) (w : ℕ) (f : MachineFlight) (due : List Change) (k : Key) (r : Row) → IsRow (started m w f due).board k r → IsRow m.board k r ⊎ ((f.key ≡ k) × (f.new ≡ Some r))
 started-row m w f due k r (inl h) = inl (inl h)
 started-row m w f due k r (inr (v, g, there, is, new)) = by (put_by w v (Some f) m.board.flights (Some g) there)
   where
     by : IsPut w v (Some f) m.board.flights (Some g) → IsRow m.board k r ⊎ ((f.key ≡ k) × (f.new ≡ Some r))
-    by (New same e) = let one = one_flight f g e in inr (ap (λ (z : Flight). z.key) one ∙ is, ap (λ (z : Flight). z.new) one ∙ new)
+    by (New same e) = let one = one_flight f g e in inr (ap (λ (z : MachineFlight). z.key) one ∙ is, ap (λ (z : MachineFlight). z.new) one ∙ new)
     by (Old other old) = inl (inr (v, g, old, is, new))
 
 -- ---- what was written

@@ -5,30 +5,30 @@ use Rattle.table_schema.specs.declared.key.Key.{Key}
 use Rattle.table_schema.specs.declared.row.Row.{Row}
 use Rattle.sai_types.specs.declared.thing.Thing.{Thing}
 use Rattle.sai_types.specs.Alike.{IsIn}
-use Rattle.sai_types.specs.Names.{Name, name_of}
+use Rattle.sai_types.specs.Names.{ThingName, name_of}
 use Rattle.row_layout.specs.Rows.{Owner, OfRow, own_things}
-use Rattle.switch_machine.specs.Flights.{Board, CountsAsUser, Fits, Flight, HasName, IsFinal, IsFirm, IsOwnedBy, IsResting, IsRow, IsShared, HasChangeOf, IsUser, Machine, Runs, StandsIn, own_names, own_of}
+use Rattle.switch_machine.specs.Flights.{MachineBoard, CountsAsUser, Fits, MachineFlight, HasName, IsFinal, IsFirm, IsOwnedBy, IsResting, IsRow, IsShared, HasChangeOf, IsUser, Machine, Runs, StandsIn, own_names, own_of}
 use Rattle.row_layout.specs.Operations.{uses_of}
 use Rattle.switch_machine.specs.Steps.{Ends, finished}
 use Rattle.switch_model.specs.Good.{TypedRows}
 use Rattle.switch_machine.specs.Consistent.{IsCurrent, IsUsedOrRetired, IsLike, IsOrderly, IsConsistent, WasUsed}
-use Rattle.switch_machine.specs.Tables.{Tables}
+use Rattle.switch_machine.specs.Tables.{TableLaws}
 use Rattle.switch_machine.proofs.Running.{one_flight, own_row, resembles_self, shared_of, no_flight}
 use Rattle.switch_machine.proofs.Moving.{fit_of}
 use Rattle.switch_machine.proofs.Leaving.{no_change}
 use Rattle.switch_machine.proofs.Splits.{IsPut, IsSplit, New, Old, key_split, nat_split, put_by, put_off, row_at, row_off}
 
-no_owner : (o : Option Owner) (p : Owner) → o ≡ None → o ≡ Some p → ⊥
-no_owner o p h g = absurd cc
+never_owned : (o : Option Owner) (p : Owner) → o ≡ None → o ≡ Some p → ⊥
+never_owned o p h g = absurd cc
 
-module _ (plan : Ports) (tables : Tables plan) (m : Machine) (sound : IsConsistent plan m) (w : ℕ) (f : Flight) (ends : Ends m w f) where
-  abbrev b : Board
+module _ (plan : Ports) (tables : TableLaws plan) (m : Machine) (sound : IsConsistent plan m) (w : ℕ) (f : MachineFlight) (ends : Ends m w f) where
+  abbrev b : MachineBoard
   b = m.board
 
   abbrev later : Machine
   later = finished m w f
 
-  abbrev b' : Board
+  abbrev b' : MachineBoard
   b' = later.board
 
   fits : (r : Row) → f.new ≡ Some r → Fits plan f.key r
@@ -44,28 +44,28 @@ module _ (plan : Ports) (tables : Tables plan) (m : Machine) (sound : IsConsiste
   applied_old k other = row_off f.key k f.new b.applied other
 
   -- an operation that is left was there
-  data Flew (v : ℕ) (g : Flight) : Type 0 where
+  data Flew (v : ℕ) (g : MachineFlight) : Type 0 where
     Flown : (v ≡ w → ⊥) → b.flights v ≡ Some g → Flew v g
 
-  flew : (v : ℕ) (g : Flight) → b'.flights v ≡ Some g → Flew v g
+  flew : (v : ℕ) (g : MachineFlight) → b'.flights v ≡ Some g → Flew v g
   flew v g h = of (put_by w v None b.flights (Some g) h)
     where
       of : IsPut w v None b.flights (Some g) → Flew v g
       of (New same e) = absurd (no_flight g e)
       of (Old other there) = Flown other there
 
-  there_by : (v : ℕ) (g : Flight) → b'.flights v ≡ Some g → b.flights v ≡ Some g
+  there_by : (v : ℕ) (g : MachineFlight) → b'.flights v ≡ Some g → b.flights v ≡ Some g
   there_by v g h = of (flew v g h)
     where
       of : Flew v g → b.flights v ≡ Some g
       of (Flown other there) = there
 
   -- one that was there has ended, or is left
-  data Goes (v : ℕ) (g : Flight) : Type 0 where
+  data Goes (v : ℕ) (g : MachineFlight) : Type 0 where
     Ended : v ≡ w → f ≡ g → Goes v g
     Stays : (v ≡ w → ⊥) → b'.flights v ≡ Some g → Goes v g
 
-  goes : (v : ℕ) (g : Flight) → b.flights v ≡ Some g → Goes v g
+  goes : (v : ℕ) (g : MachineFlight) → b.flights v ≡ Some g → Goes v g
   goes v g h = of (nat_split v w)
     where
       of : IsSplit v w → Goes v g
@@ -73,7 +73,7 @@ module _ (plan : Ports) (tables : Tables plan) (m : Machine) (sound : IsConsiste
       of (inr other) = Stays other (put_off w v None b.flights other ∙ h)
 
   -- no other operation has the key
-  other_key : (v : ℕ) (g : Flight) → b'.flights v ≡ Some g → f.key ≡ g.key → ⊥
+  other_key : (v : ℕ) (g : MachineFlight) → b'.flights v ≡ Some g → f.key ≡ g.key → ⊥
   other_key v g h same = of (flew v g h)
     where
       of : Flew v g → ⊥
@@ -95,7 +95,7 @@ module _ (plan : Ports) (tables : Tables plan) (m : Machine) (sound : IsConsiste
   row_now k r other (inr (v, g, at, is, new)) = of (goes v g at)
     where
       of : Goes v g → IsRow b' k r
-      of (Ended same e) = absurd (other (ap (λ (z : Flight). z.key) e ∙ is))
+      of (Ended same e) = absurd (other (ap (λ (z : MachineFlight). z.key) e ∙ is))
       of (Stays apart there) = inr (v, g, there, is, new)
 
   some_new : (o : Option Row) → (o ≡ None → ⊥) → (r : Row) × (o ≡ Some r)
@@ -114,15 +114,15 @@ module _ (plan : Ports) (tables : Tables plan) (m : Machine) (sound : IsConsiste
   firm_was : (p : Key) → (f.key ≡ p → ⊥) → IsFirm b' p → IsFirm b p
   firm_was p other firm = record { row = firm.row; applied = sym (applied_old p other) ∙ firm.applied; stays = λ v g at is none. of v g is none (goes v g at) }
     where
-      of : (v : ℕ) (g : Flight) → g.key ≡ p → g.new ≡ None → Goes v g → ⊥
-      of v g is none (Ended same e) = other (ap (λ (z : Flight). z.key) e ∙ is)
+      of : (v : ℕ) (g : MachineFlight) → g.key ≡ p → g.new ≡ None → Goes v g → ⊥
+      of v g is none (Ended same e) = other (ap (λ (z : MachineFlight). z.key) e ∙ is)
       of v g is none (Stays apart there) = firm.stays v g there is none
 
   rest_was : (k : Key) → (f.key ≡ k → ⊥) → IsResting b' k → IsResting b k
   rest_was k other rests v g at is = of (goes v g at)
     where
       of : Goes v g → ⊥
-      of (Ended same e) = other (ap (λ (z : Flight). z.key) e ∙ is)
+      of (Ended same e) = other (ap (λ (z : MachineFlight). z.key) e ∙ is)
       of (Stays apart there) = rests v g there is
 
   rest_now : (k : Key) → IsResting b k → IsResting b' k
@@ -148,16 +148,16 @@ module _ (plan : Ports) (tables : Tables plan) (m : Machine) (sound : IsConsiste
     where
       mine : f.key ≡ k → CountsAsUser plan f o → IsUser plan b' k o
       mine same (inl h) = user_new k o same h
-      mine same (inr h) = absurd (no_owner f.leaves o ends.left h)
+      mine same (inr h) = absurd (never_owned f.leaves o ends.left h)
 
       of : Goes v g → IsUser plan b' k o
-      of (Ended same e) = mine (ap (λ (z : Flight). z.key) e ∙ is) (subst (λ z. CountsAsUser plan z o) (sym e) counts)
+      of (Ended same e) = mine (ap (λ (z : MachineFlight). z.key) e ∙ is) (subst (λ z. CountsAsUser plan z o) (sym e) counts)
       of (Stays other there) = inl (v, g, there, is, counts)
 
-  was_used : (v : ℕ) (g : Flight) (o : Owner) → b'.flights v ≡ Some g → WasUsed plan b.applied g.key o → WasUsed plan b'.applied g.key o
+  was_used : (v : ℕ) (g : MachineFlight) (o : Owner) → b'.flights v ≡ Some g → WasUsed plan b.applied g.key o → WasUsed plan b'.applied g.key o
   was_used v g o at was = record { row = was.row; was = applied_old g.key (other_key v g at) ∙ was.was; used = was.used }
 
-  one_by : (u v : ℕ) (g h : Flight) → b'.flights u ≡ Some g → b'.flights v ≡ Some h → g.key ≡ h.key → u ≡ v
+  one_by : (u v : ℕ) (g h : MachineFlight) → b'.flights u ≡ Some g → b'.flights v ≡ Some h → g.key ≡ h.key → u ≡ v
   one_by u v g h at there same = sound.board.one u v g h (there_by u g at) (there_by v h there) same
 
   orderly : IsOrderly plan b'
@@ -185,7 +185,7 @@ module _ (plan : Ports) (tables : Tables plan) (m : Machine) (sound : IsConsiste
       back : IsIn u (own_of plan k f.new) → StandsIn m u
       back h = (runs_done u (OfRow k, is, inl (ap OfRow (sym same)))).1 (inl (subst (λ q. IsIn u (own_of plan q f.new)) (sym same) h))
 
-  present_by : (k : Key) (n : Name) → IsFirm b' k → IsIn n (own_names plan k) → IsSplit f.key k → HasName (StandsIn m) n
+  present_by : (k : Key) (n : ThingName) → IsFirm b' k → IsIn n (own_names plan k) → IsSplit f.key k → HasName (StandsIn m) n
   present_by k n firm h (inr other) = sound.present k n (firm_was k other firm) h
   present_by k n firm h (inl same) =
       let new : f.new ≡ Some firm.row = sym (applied_new k same) ∙ firm.applied in
@@ -207,11 +207,11 @@ module _ (plan : Ports) (tables : Tables plan) (m : Machine) (sound : IsConsiste
       of : Goes v g → IsUsedOrRetired plan b' o
       of (Stays other there) = inr (v, g, there, retires)
       of (Ended same e) =
-          let mine : f.retires ≡ Some o = ap (λ (z : Flight). z.retires) e ∙ retires in
+          let mine : f.retires ≡ Some o = ap (λ (z : MachineFlight). z.retires) e ∙ retires in
           let final = (runs_done u (o, is, inr (inr mine))).0 h in
           inl (f.key, user_new f.key o refl (shared_of plan tables f fits u o is shared final).0)
 
-  still_quiet : (o : Owner) → ((v : ℕ) (g : Flight) → b'.flights v ≡ Some g → HasChangeOf plan (later.due v) o → ⊥) → (v : ℕ) (g : Flight) → HasChangeOf plan (m.due v) o → Goes v g → ⊥
+  still_quiet : (o : Owner) → ((v : ℕ) (g : MachineFlight) → b'.flights v ≡ Some g → HasChangeOf plan (later.due v) o → ⊥) → (v : ℕ) (g : MachineFlight) → HasChangeOf plan (m.due v) o → Goes v g → ⊥
   still_quiet o quiet v g t (Ended same e) = no_change t.0 (m.due v) t.1 (ap m.due same ∙ ends.done)
   still_quiet o quiet v g t (Stays other there) = quiet v g there t
 
@@ -221,8 +221,8 @@ module _ (plan : Ports) (tables : Tables plan) (m : Machine) (sound : IsConsiste
     where
       of : Goes v g → IsCurrent b' good k
       of (Ended same e) =
-          let here : f.key ≡ k = ap (λ (z : Flight). z.key) e ∙ is in
-          inl (subst (IsResting b') here rest_mine, applied_new k here ∙ ap (λ (z : Flight). z.new) e ∙ that)
+          let here : f.key ≡ k = ap (λ (z : MachineFlight). z.key) e ∙ is in
+          inl (subst (IsResting b') here rest_mine, applied_new k here ∙ ap (λ (z : MachineFlight). z.new) e ∙ that)
       of (Stays other there) = inr (v, g, there, is, that)
 
   pub sound-ended : IsConsistent plan later

@@ -5,38 +5,20 @@ use Rattle.std.specs.Bool.{Decides}
 use Rattle.std.specs.Cmp.{booleans_Decides}
 use Rattle.std.specs.Cmp.Lexicographic.{pointwise}
 use Rattle.std.proofs.lemmas.Slice.Eq.{slice_eq-Decides}
-use Rattle.swss_types.specs.declared.address.Mac.{Mac}
-use Rattle.swss_types.specs.declared.tagging.Tagging.{Tagging}
-use Rattle.swss_types.specs.declared.tagging.Tagging.TheVariants.{Untagged, Tagged, PriorityTagged}
-use Rattle.sai_types.specs.declared.hop.Base.{Base}
-use Rattle.sai_types.specs.declared.hop.Base.TheVariants as base
 use Rattle.sai_types.specs.declared.hop.Hop.{Hop}
 use Rattle.sai_types.specs.declared.thing.Goal.{Goal}
 use Rattle.sai_types.specs.declared.thing.Goal.TheVariants as goal
 use Rattle.sai_types.specs.declared.thing.PortThing.{PortThing}
 use Rattle.sai_types.specs.declared.thing.Thing.{Thing}
 use Rattle.sai_types.specs.declared.thing.Thing.TheVariants as thing
-use Rattle.sai_types.specs.contracts.hop.BasePartialEq.TheImpl as base_eq
 use Rattle.sai_types.specs.contracts.hop.HopPartialEq.TheImpl as hop_eq
 use Rattle.sai_types.specs.contracts.thing.GoalPartialEq.TheImpl as goal_eq
 use Rattle.sai_types.specs.contracts.thing.PortThingPartialEq.TheImpl as port_eq
 use Rattle.sai_types.proofs.Exact.{ip-exact, prefix-exact}
 use Rattle.sai_types.specs.contracts.hop.HopEq.TheImpl.Laws as equal_hop
-use Rattle.swss_types.specs.contracts.address.MacPartialEq.TheImpl as mac_eq
-use Rattle.swss_types.specs.contracts.tagging.TaggingPartialEq.TheImpl as tagging_eq
-use Rattle.sai_types.proofs.Rising.{hop-same}
+use Rattle.swss_types.proofs.SameValues.{mac_exact, tagging_exact}
+use Rattle.sai_types.proofs.Rising.{hop-same, base-exact}
 use Rattle.row_layout.specs.Operations.{same_thing}
-
-base_exact : (a b : Base) → base_eq.ghosts.eq a b ≡ true → a ≡ b
-base_exact (base.Port m) (base.Port n) h = ap base.Port (eqb-true m n h)
-base_exact (base.Vlan m) (base.Vlan n) h = ap base.Vlan (eqb-true m n h)
-base_exact _ _ h = absurd (false≢true h)
-
-tagging_exact : (a b : Tagging) → tagging_eq.ghosts.eq a b ≡ true → a ≡ b
-tagging_exact Untagged Untagged h = refl
-tagging_exact Tagged Tagged h = refl
-tagging_exact PriorityTagged PriorityTagged h = refl
-tagging_exact _ _ h = absurd (false≢true h)
 
 number_decides : (a b : ℕ) → Decides (a == b) (a ≡ b)
 number_decides a b = (eqb-true a b, eq-eqb a b)
@@ -47,17 +29,14 @@ hop_decides a b = (hop-same a b, λ e. subst (λ z. hop_eq.ghosts.eq a z ≡ tru
 lanes_exact : (xs ys : List ℕ) → pointwise ◌==◌ xs ys ≡ true → xs ≡ ys
 lanes_exact xs ys h = (slice_eq-Decides number_decides xs ys (pointwise ◌==◌ xs ys) refl).0 h
 
-hops_exact : (xs ys : List Hop) → pointwise hop_eq.ghosts.eq xs ys ≡ true → xs ≡ ys
-hops_exact xs ys h = (slice_eq-Decides hop_decides xs ys (pointwise hop_eq.ghosts.eq xs ys) refl).0 h
-
-mac_exact : (a b : Mac) → mac_eq.ghosts.eq a b ≡ true → a ≡ b
-mac_exact a b h = let made : List ℕ → Mac = λ xs. record { 0 = xs } in ap made (lanes_exact a.0 b.0 h)
+hops_eq_exact : (xs ys : List Hop) → pointwise hop_eq.ghosts.eq xs ys ≡ true → xs ≡ ys
+hops_eq_exact xs ys h = (slice_eq-Decides hop_decides xs ys (pointwise hop_eq.ghosts.eq xs ys) refl).0 h
 
 goal_exact : (a b : Goal) → goal_eq.ghosts.eq a b ≡ true → a ≡ b
 goal_exact goal.Drop goal.Drop h = refl
-goal_exact (goal.Direct x) (goal.Direct y) h = ap goal.Direct (base_exact x y h)
+goal_exact (goal.Direct x) (goal.Direct y) h = ap goal.Direct (base-exact x y h)
 goal_exact (goal.Via x) (goal.Via y) h = ap goal.Via (hop-same x y h)
-goal_exact (goal.Group xs) (goal.Group ys) h = ap goal.Group (hops_exact xs ys h)
+goal_exact (goal.Group xs) (goal.Group ys) h = ap goal.Group (hops_eq_exact xs ys h)
 goal_exact _ _ h = absurd (false≢true h)
 
 port_exact : (p q : PortThing) → port_eq.ghosts.eq p q ≡ true → p ≡ q
@@ -75,12 +54,12 @@ thing-exact (thing.VlanMember v l a) (thing.VlanMember w n b) h =
     let x = and_parts _ _ h in
     let y = and_parts _ _ x.1 in
     ap₂ (λ z s. thing.VlanMember z l s) (eqb-true v w x.0) (tagging_exact a b y.1) ∙ ap (λ z. thing.VlanMember w z b) (eqb-true l n y.0)
-thing-exact (thing.Rif x) (thing.Rif y) h = ap thing.Rif (base_exact x y h)
+thing-exact (thing.Rif x) (thing.Rif y) h = ap thing.Rif (base-exact x y h)
 thing-exact (thing.Own x) (thing.Own y) h = ap thing.Own (ip-exact x y h)
 thing-exact (thing.Neighbor x a) (thing.Neighbor y b) h = let parts = and_parts _ _ h in ap₂ thing.Neighbor (hop-same x y parts.0) (mac_exact a b parts.1)
 thing-exact (thing.NextHop x) (thing.NextHop y) h = ap thing.NextHop (hop-same x y h)
-thing-exact (thing.Group x) (thing.Group y) h = ap thing.Group (hops_exact x y h)
-thing-exact (thing.GroupMember x a) (thing.GroupMember y b) h = let parts = and_parts _ _ h in ap₂ thing.GroupMember (hops_exact x y parts.0) (hop-same a b parts.1)
+thing-exact (thing.Group x) (thing.Group y) h = ap thing.Group (hops_eq_exact x y h)
+thing-exact (thing.GroupMember x a) (thing.GroupMember y b) h = let parts = and_parts _ _ h in ap₂ thing.GroupMember (hops_eq_exact x y parts.0) (hop-same a b parts.1)
 thing-exact (thing.Route p g) (thing.Route q k) h = let parts = and_parts _ _ h in ap₂ thing.Route (prefix-exact p q parts.0) (goal_exact g k parts.1)
 thing-exact (thing.Port p) (thing.Port q) h = ap thing.Port (port_exact p q h)
 thing-exact _ _ h = absurd (false≢true h)

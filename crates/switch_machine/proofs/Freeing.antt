@@ -22,10 +22,10 @@ use Rattle.row_layout.specs.Rows.{Owner}
 use Rattle.row_layout.specs.Shared.{shared_things}
 use Rattle.switch_machine.specs.Consistent.{IsUsedOrRetired}
 use Rattle.switch_machine.specs.Events.{IsSafe, SwitchState}
-use Rattle.switch_machine.specs.Flights.{Fits, Flight, HasChangeOf, IsFirm, IsRow, IsShared, IsUser, StandsIn}
+use Rattle.switch_machine.specs.Flights.{Fits, MachineFlight, HasChangeOf, IsFirm, IsRow, IsShared, IsUser, StandsIn}
 use Rattle.switch_machine.specs.Operations.{MayBegin, built_first}
 use Rattle.switch_machine.specs.Places.{HasRoomFor, makes, places_kept}
-use Rattle.switch_machine.specs.Reasons.{IsInTheWay, IsPrepared, LacksRoom}
+use Rattle.switch_machine.specs.Reasons.{IsInTheWay, IsRowPrepared, LacksRoom}
 use Rattle.switch_machine.specs.Written.{good_of}
 use Rattle.switch_machine.proofs.Equal.{thing-exact}
 use Rattle.switch_machine.proofs.Kept.{no_makes}
@@ -96,7 +96,7 @@ all_have rows (k ∷ ks) p h (inl e) = by (rows k) refl (and_parts (is_some (row
 none_owner : {X : Type 0} (o : Owner) → None ≡ Some o → X
 none_owner o h = absurd cc
 
-module _ (plan : Ports) (is : IsPlan plan) (workers : ℕ) (capacities : List ℕ) (s : SwitchState) (kept : IsSafe plan workers capacities s) (w : ℕ) (idle : s.machine.board.flights w ≡ None) (k : Key) (prepared : IsPrepared plan s k) (clear : (v : ℕ) → IsInTheWay plan s.machine k (good_of plan s.written k) v → ⊥) (fits : (r : Row) → good_of plan s.written k ≡ Some r → Fits plan k r) where
+module _ (plan : Ports) (is : IsPlan plan) (workers : ℕ) (capacities : List ℕ) (s : SwitchState) (kept : IsSafe plan workers capacities s) (w : ℕ) (idle : s.machine.board.flights w ≡ None) (k : Key) (prepared : IsRowPrepared plan s k) (clear : (v : ℕ) → IsInTheWay plan s.machine k (good_of plan s.written k) v → ⊥) (fits : (r : Row) → good_of plan s.written k ≡ Some r → Fits plan k r) where
   abbrev pub new : Option Row
   new = good_of plan s.written k
 
@@ -135,14 +135,14 @@ module _ (plan : Ports) (is : IsPlan plan) (workers : ℕ) (capacities : List �
           }
 
   -- nobody builds or retires what the new row shares
-  free_by : (o : Owner) (n : Option Row) → new ≡ n → IsIn o (uses_of plan k n) → (v : ℕ) (g : Flight) → s.machine.board.flights v ≡ Some g → (HasChangeOf plan (s.machine.due v) o → ⊥) × (g.retires ≡ Some o → ⊥)
+  free_by : (o : Owner) (n : Option Row) → new ≡ n → IsIn o (uses_of plan k n) → (v : ℕ) (g : MachineFlight) → s.machine.board.flights v ≡ Some g → (HasChangeOf plan (s.machine.due v) o → ⊥) × (g.retires ≡ Some o → ⊥)
   free_by o None e h v g at = elim h [ ]
   free_by o (Some r) e h v g at = (
     λ touched. clear v (subst (λ z. IsInTheWay plan s.machine k z v) (sym e) (g, at, inr (o, h, inl touched))),
     λ retires. clear v (subst (λ z. IsInTheWay plan s.machine k z v) (sym e) (g, at, inr (o, h, inr retires))),
   )
 
-  free : (o : Owner) → IsIn o now → (v : ℕ) (g : Flight) → s.machine.board.flights v ≡ Some g → (HasChangeOf plan (s.machine.due v) o → ⊥) × (g.retires ≡ Some o → ⊥)
+  free : (o : Owner) → IsIn o now → (v : ℕ) (g : MachineFlight) → s.machine.board.flights v ≡ Some g → (HasChangeOf plan (s.machine.due v) o → ⊥) × (g.retires ≡ Some o → ⊥)
   free o h = free_by o new refl h
 
   -- what it has to build
@@ -190,7 +190,7 @@ module _ (plan : Ports) (is : IsPlan plan) (workers : ℕ) (capacities : List �
               some_not : (o : Owner) → Some o ≡ None → ⊥
               some_not o h = cc
 
-  abbrev pub flight : Flight
+  abbrev pub flight : MachineFlight
   flight = record { key = k; new = new; leaves = leaving.leaves; retires = None }
 
   abbrev pub due : List Change

@@ -14,7 +14,7 @@ use Rattle.row_layout.specs.Operations.{Change, own_changes, uses_of}
 use Rattle.row_layout.specs.Rows.{Owner}
 use Rattle.row_layout.proofs.Changing.{own_same}
 use Rattle.switch_machine.specs.Events.{IsBegin, IsDrop, IsSafe, SwitchState}
-use Rattle.switch_machine.specs.Flights.{Flight, Machine}
+use Rattle.switch_machine.specs.Flights.{MachineFlight, Machine}
 use Rattle.switch_machine.specs.Operations.{IsOperation, MayBegin, built_first}
 use Rattle.switch_machine.specs.Places.{makes}
 use Rattle.switch_machine.specs.Reasons.{IsInTheWay, IsReason, LacksRoom}
@@ -36,7 +36,7 @@ missing_in rows (k ∷ ks) n h = by (rows k) refl (λ g. missing_in rows ks n g)
     by None e rest g = let same : k ≡ n = cc in (inl (sym same), ap rows (sym same) ∙ e)
 
 -- an operation has one list of changes
-module _ (plan : Ports) (orders : Orders plan) (m : Machine) (f g : Flight) (keys : f.key ≡ g.key) (news : f.new ≡ g.new) where
+module _ (plan : Ports) (orders : Orders plan) (m : Machine) (f g : MachineFlight) (keys : f.key ≡ g.key) (news : f.new ≡ g.new) where
   to_other : (o : Owner) → IsIn o (uses_of plan f.key f.new) → IsIn o (uses_of plan g.key g.new)
   to_other o h = subst (λ z. IsIn o (uses_of plan g.key z)) news (subst (λ k. IsIn o (uses_of plan k f.new)) keys h)
 
@@ -58,7 +58,7 @@ module _ (plan : Ports) (orders : Orders plan) (m : Machine) (f g : Flight) (key
 
 module _ (plan : Ports) (is : IsPlan plan) (workers : ℕ) (capacities : List ℕ) (s : SwitchState) where
   -- where an operation may begin, nothing is missing, nothing holds, and nothing is in the way
-  module _ (w : ℕ) (f : Flight) (due : List Change) (begins : MayBegin plan s.machine w f due) (new : f.new ≡ good_of plan s.written f.key) where
+  module _ (w : ℕ) (f : MachineFlight) (due : List Change) (begins : MayBegin plan s.machine w f due) (new : f.new ≡ good_of plan s.written f.key) where
     pub not_missing : (n : Key) → IsReason plan workers capacities s f.key (wait.Missing n) → ⊥
     not_missing n (rests, (row, good, missing)) =
         let m = missing_in s.machine.board.applied (names_of f.key row) n missing in

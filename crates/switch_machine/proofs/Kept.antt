@@ -22,11 +22,11 @@ use Rattle.chip_layout.proofs.Shapes.{laid-same}
 use Rattle.row_layout.specs.Rows.{Owner}
 use Rattle.row_layout.specs.Operations.{Change, Make, Set, Take, shared_going, take_all}
 use Rattle.switch_machine.specs.Changes.{IsCall, after, changed_by}
-use Rattle.switch_machine.specs.Flights.{Board, Can, Flight, IsRow, Machine, Runs, StandsIn}
+use Rattle.switch_machine.specs.Flights.{MachineBoard, Can, MachineFlight, IsRow, Machine, Runs, StandsIn}
 use Rattle.switch_machine.specs.Steps.{Ends, LeavesOthers, Moves, left, moved, parted, started}
 use Rattle.switch_machine.specs.Places.{AreCovered, HasPlaces, makes, missing}
 use Rattle.switch_machine.specs.Consistent.{IsCurrent, IsConsistent}
-use Rattle.switch_machine.specs.Tables.{Tables}
+use Rattle.switch_machine.specs.Tables.{TableLaws}
 use Rattle.switch_machine.specs.Events.{IsAnswer, SwitchState, IsDrop, Due, Ended, Follows, IsDueCall, IsEvent, IsGiven, IsSafe, Left, IsPop, Retires, IsBegin, IsTake, Popped, PopsKey, Stays}
 use Rattle.switch_machine.proofs.Beginning.{sound-begun, sound-retired, starts}
 use Rattle.switch_machine.proofs.Calling.{make-is_laid, make-is_legal, set-is_laid, set-is_legal, take-is_laid, take-is_legal}
@@ -61,7 +61,7 @@ no_makes kind [] = refl
 no_makes kind (t ∷ ts) = no_makes kind ts
 
 module _ (plan : Ports) (is : IsPlan plan) (workers : ℕ) (capacities : List ℕ) where
-  abbrev T : Tables plan
+  abbrev T : TableLaws plan
   T = tabled plan is
 
   -- ---- what follows in an event
@@ -71,7 +71,7 @@ module _ (plan : Ports) (is : IsPlan plan) (workers : ℕ) (capacities : List �
   sound-follows w m _ sound (Ended f ends) = sound-ended plan T m sound w f ends
   sound-follows w m _ sound (Left f o x) = sound-ended plan T (left m w f f.retires []) (sound-left plan T m sound w f o x) w (parted f f.retires) (left_ends w m f o x)
     where
-      left_ends : (w : ℕ) (m : Machine) (f : Flight) (o : Owner) → LeavesOthers plan m w f o → Ends (left m w f f.retires []) w (parted f f.retires)
+      left_ends : (w : ℕ) (m : Machine) (f : MachineFlight) (o : Owner) → LeavesOthers plan m w f o → Ends (left m w f f.retires []) w (parted f f.retires)
       left_ends w m f o x = record { flying = put_at w w (Some (parted f f.retires)) m.board.flights refl; done = put_at w w [] m.due refl; left = refl }
   sound-follows w m _ sound (Retires f o x) = sound-retired plan is m sound w f o x
 
@@ -195,7 +195,7 @@ module _ (plan : Ports) (is : IsPlan plan) (workers : ℕ) (capacities : List �
       popped = record { taken = x.taken; keys = λ k. keys k (x.keys k) }
 
       -- the good row of the key is as it was
-      same_good : (b : Board) (old new : TypedRows) (k : Key) → new k ≡ old k → IsCurrent b old k → IsCurrent b new k
+      same_good : (b : MachineBoard) (old new : TypedRows) (k : Key) → new k ≡ old k → IsCurrent b old k → IsCurrent b new k
       same_good b old new k e (inl h) = inl (h.0, h.1 ∙ sym e)
       same_good b old new k e (inr (w, f, at, is, that)) = inr (w, f, at, is, that ∙ sym e)
 

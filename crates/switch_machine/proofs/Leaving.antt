@@ -5,15 +5,15 @@ use Rattle.table_schema.specs.declared.key.Key.{Key}
 use Rattle.table_schema.specs.declared.row.Row.{Row}
 use Rattle.sai_types.specs.declared.thing.Thing.{Thing}
 use Rattle.sai_types.specs.Alike.{IsIn}
-use Rattle.sai_types.specs.Names.{Name, Refers, name_of}
+use Rattle.sai_types.specs.Names.{ThingName, Refers, name_of}
 use Rattle.row_layout.specs.Rows.{Owner, OfRow}
 use Rattle.row_layout.specs.Shared.{uses}
 use Rattle.row_layout.specs.Operations.{Change, uses_of}
-use Rattle.switch_machine.specs.Flights.{Board, CountsAsUser, Fits, Flight, IsFirm, IsOwnedBy, IsResting, IsRow, IsShared, HasChangeOf, IsUser, Machine, Runs, StandsIn}
+use Rattle.switch_machine.specs.Flights.{MachineBoard, CountsAsUser, Fits, MachineFlight, IsFirm, IsOwnedBy, IsResting, IsRow, IsShared, HasChangeOf, IsUser, Machine, Runs, StandsIn}
 use Rattle.switch_machine.specs.Steps.{Leaves, LeavesLast, LeavesOthers, left, parted}
 use Rattle.switch_model.specs.Good.{TypedRows}
 use Rattle.switch_machine.specs.Consistent.{IsCurrent, IsUsedOrRetired, IsOrderly, IsConsistent, WasUsed}
-use Rattle.switch_machine.specs.Tables.{IsNamed, Tables}
+use Rattle.switch_machine.specs.Tables.{IsNamed, TableLaws}
 use Rattle.switch_machine.proofs.Running.{one_flight, one_owner, own_row, shared_row, some_owner}
 use Rattle.switch_machine.proofs.Moving.{fit_of}
 use Rattle.switch_machine.proofs.Splits.{IsPut, IsSplit, New, Old, nat_split, put_at, put_by, put_off}
@@ -25,8 +25,8 @@ pub no_change : {X : Type 0} (c : Change) (cs : List Change) → IsIn c cs → c
 no_change c [] h e = elim h [ ]
 no_change c (d ∷ ds) h e = absurd cc
 
-module _ (plan : Ports) (tables : Tables plan) (m : Machine) (sound : IsConsistent plan m) (w : ℕ) (f : Flight) (o : Owner) (leaving : Leaves m w f o) where
-  abbrev b : Board
+module _ (plan : Ports) (tables : TableLaws plan) (m : Machine) (sound : IsConsistent plan m) (w : ℕ) (f : MachineFlight) (o : Owner) (leaving : Leaves m w f o) where
+  abbrev b : MachineBoard
   b = m.board
 
   untouched_now : (p : Owner) → HasChangeOf plan (m.due w) p → ⊥
@@ -42,38 +42,38 @@ module _ (plan : Ports) (tables : Tables plan) (m : Machine) (sound : IsConsiste
   runs_done = subst (Runs plan f (StandsIn m)) leaving.done (sound.runs w f leaving.flying)
 
   module _ (retires : Option Owner) (due : List Change) where
-    abbrev g' : Flight
+    abbrev g' : MachineFlight
     g' = parted f retires
 
     abbrev later : Machine
     later = left m w f retires due
 
-    abbrev b' : Board
+    abbrev b' : MachineBoard
     b' = later.board
 
-    by : (v : ℕ) (g : Flight) → b'.flights v ≡ Some g → IsPut w v (Some g') b.flights (Some g)
+    by : (v : ℕ) (g : MachineFlight) → b'.flights v ≡ Some g → IsPut w v (Some g') b.flights (Some g)
     by v g h = put_by w v (Some g') b.flights (Some g) h
 
     pub here : b'.flights w ≡ Some g'
     here = put_at w w (Some g') b.flights refl
 
     -- an operation of the board as it is later, and as it was
-    data Flies (v : ℕ) (g : Flight) : Type 0 where
+    data Flies (v : ℕ) (g : MachineFlight) : Type 0 where
       Its : v ≡ w → g' ≡ g → Flies v g
       Another : (v ≡ w → ⊥) → b.flights v ≡ Some g → Flies v g
 
-    flies : (v : ℕ) (g : Flight) → b'.flights v ≡ Some g → Flies v g
+    flies : (v : ℕ) (g : MachineFlight) → b'.flights v ≡ Some g → Flies v g
     flies v g h = of (by v g h)
       where
         of : IsPut w v (Some g') b.flights (Some g) → Flies v g
         of (New same e) = Its same (one_flight g' g e)
         of (Old other there) = Another other there
 
-    data Flew (v : ℕ) (g : Flight) : Type 0 where
+    data Flew (v : ℕ) (g : MachineFlight) : Type 0 where
       It : v ≡ w → f ≡ g → Flew v g
       Same : (v ≡ w → ⊥) → b'.flights v ≡ Some g → Flew v g
 
-    flew : (v : ℕ) (g : Flight) → b.flights v ≡ Some g → Flew v g
+    flew : (v : ℕ) (g : MachineFlight) → b.flights v ≡ Some g → Flew v g
     flew v g h = of (nat_split v w)
       where
         of : IsSplit v w → Flew v g
@@ -85,7 +85,7 @@ module _ (plan : Ports) (tables : Tables plan) (m : Machine) (sound : IsConsiste
     row_was k r (inr (v, g, at, is, new)) = of (flies v g at)
       where
         of : Flies v g → IsRow b k r
-        of (Its same e) = inr (w, f, leaving.flying, ap (λ (z : Flight). z.key) e ∙ is, ap (λ (z : Flight). z.new) e ∙ new)
+        of (Its same e) = inr (w, f, leaving.flying, ap (λ (z : MachineFlight). z.key) e ∙ is, ap (λ (z : MachineFlight). z.new) e ∙ new)
         of (Another other there) = inr (v, g, there, is, new)
 
     row_now : (k : Key) (r : Row) → IsRow b k r → IsRow b' k r
@@ -93,35 +93,35 @@ module _ (plan : Ports) (tables : Tables plan) (m : Machine) (sound : IsConsiste
     row_now k r (inr (v, g, at, is, new)) = of (flew v g at)
       where
         of : Flew v g → IsRow b' k r
-        of (It same e) = inr (w, g', here, ap (λ (z : Flight). z.key) e ∙ is, ap (λ (z : Flight). z.new) e ∙ new)
+        of (It same e) = inr (w, g', here, ap (λ (z : MachineFlight). z.key) e ∙ is, ap (λ (z : MachineFlight). z.new) e ∙ new)
         of (Same other there) = inr (v, g, there, is, new)
 
     firm_now : (p : Key) → IsFirm b p → IsFirm b' p
     firm_now p firm = record { row = firm.row; applied = firm.applied; stays = λ v g at is none. of v g is none (flies v g at) }
       where
-        of : (v : ℕ) (g : Flight) → g.key ≡ p → g.new ≡ None → Flies v g → ⊥
-        of v g is none (Its same e) = firm.stays w f leaving.flying (ap (λ (z : Flight). z.key) e ∙ is) (ap (λ (z : Flight). z.new) e ∙ none)
+        of : (v : ℕ) (g : MachineFlight) → g.key ≡ p → g.new ≡ None → Flies v g → ⊥
+        of v g is none (Its same e) = firm.stays w f leaving.flying (ap (λ (z : MachineFlight). z.key) e ∙ is) (ap (λ (z : MachineFlight). z.new) e ∙ none)
         of v g is none (Another other there) = firm.stays v g there is none
 
     firm_was : (p : Key) → IsFirm b' p → IsFirm b p
     firm_was p firm = record { row = firm.row; applied = firm.applied; stays = λ v g at is none. of v g is none (flew v g at) }
       where
-        of : (v : ℕ) (g : Flight) → g.key ≡ p → g.new ≡ None → Flew v g → ⊥
-        of v g is none (It same e) = firm.stays w g' here (ap (λ (z : Flight). z.key) e ∙ is) (ap (λ (z : Flight). z.new) e ∙ none)
+        of : (v : ℕ) (g : MachineFlight) → g.key ≡ p → g.new ≡ None → Flew v g → ⊥
+        of v g is none (It same e) = firm.stays w g' here (ap (λ (z : MachineFlight). z.key) e ∙ is) (ap (λ (z : MachineFlight). z.new) e ∙ none)
         of v g is none (Same other there) = firm.stays v g there is none
 
     rest_was : (k : Key) → IsResting b' k → IsResting b k
     rest_was k rests v g at is = of (flew v g at)
       where
         of : Flew v g → ⊥
-        of (It same e) = rests w g' here (ap (λ (z : Flight). z.key) e ∙ is)
+        of (It same e) = rests w g' here (ap (λ (z : MachineFlight). z.key) e ∙ is)
         of (Same other there) = rests v g there is
 
     rest_now : (k : Key) → IsResting b k → IsResting b' k
     rest_now k rests v g at is = of (flies v g at)
       where
         of : Flies v g → ⊥
-        of (Its same e) = rests w f leaving.flying (ap (λ (z : Flight). z.key) e ∙ is)
+        of (Its same e) = rests w f leaving.flying (ap (λ (z : MachineFlight). z.key) e ∙ is)
         of (Another other there) = rests v g there is
 
     user_was : (k : Key) (p : Owner) → IsUser plan b' k p → IsUser plan b k p
@@ -133,7 +133,7 @@ module _ (plan : Ports) (tables : Tables plan) (m : Machine) (sound : IsConsiste
         mine same (inr h) = absurd (none_some p h)
 
         of : Flies v g → IsUser plan b k p
-        of (Its same e) = mine (ap (λ (z : Flight). z.key) e ∙ is) (subst (λ z. CountsAsUser plan z p) (sym e) counts)
+        of (Its same e) = mine (ap (λ (z : MachineFlight). z.key) e ∙ is) (subst (λ z. CountsAsUser plan z p) (sym e) counts)
         of (Another other there) = inl (v, g, there, is, counts)
 
     user_now : (k : Key) (p : Owner) → IsUser plan b k p → IsUser plan b' k p ⊎ ((k ≡ f.key) × (p ≡ o))
@@ -145,7 +145,7 @@ module _ (plan : Ports) (tables : Tables plan) (m : Machine) (sound : IsConsiste
         mine same (inr h) = inr (sym same, some_owner p o (sym h ∙ leaving.leaves))
 
         of : Flew v g → IsUser plan b' k p ⊎ ((k ≡ f.key) × (p ≡ o))
-        of (It same e) = mine (ap (λ (z : Flight). z.key) e ∙ is) (subst (λ z. CountsAsUser plan z p) (sym e) counts)
+        of (It same e) = mine (ap (λ (z : MachineFlight). z.key) e ∙ is) (subst (λ z. CountsAsUser plan z p) (sym e) counts)
         of (Same other there) = inl (inl (v, g, there, is, counts))
 
     pub current-left : (good : TypedRows) (k : Key) → IsCurrent b good k → IsCurrent b' good k
@@ -153,7 +153,7 @@ module _ (plan : Ports) (tables : Tables plan) (m : Machine) (sound : IsConsiste
     current-left good k (inr (v, g, at, is, that)) = of (flew v g at)
       where
         of : Flew v g → IsCurrent b' good k
-        of (It same e) = inr (w, g', here, ap (λ (z : Flight). z.key) e ∙ is, ap (λ (z : Flight). z.new) e ∙ that)
+        of (It same e) = inr (w, g', here, ap (λ (z : MachineFlight). z.key) e ∙ is, ap (λ (z : MachineFlight). z.new) e ∙ that)
         of (Same other there) = inr (v, g, there, is, that)
 
     -- the key itself uses only what its new row shares
@@ -169,29 +169,29 @@ module _ (plan : Ports) (tables : Tables plan) (m : Machine) (sound : IsConsiste
         of (Its same e) = mine (subst (λ z. CountsAsUser plan z p) (sym e) counts)
         of (Another other there) = absurd (other (sound.board.one v w g f there leaving.flying is))
 
-    module _ (h_left : (p : Owner) → retires ≡ Some p → WasUsed plan b.applied f.key p) (h_unused : (k : Key) (p : Owner) → retires ≡ Some p → IsUser plan b' k p → ⊥) (h_once : (v : ℕ) (g : Flight) (p : Owner) → b.flights v ≡ Some g → (v ≡ w → ⊥) → retires ≡ Some p → g.retires ≡ Some p → ⊥) (h_held : IsUsedOrRetired plan b' o) (h_kept : (p : Owner) → f.retires ≡ Some p → retires ≡ Some p) (h_runs : Runs plan g' (StandsIn m) due) (h_quiet : (k : Key) (p : Owner) → HasChangeOf plan due p → IsUser plan b' k p → k ≡ f.key) where
-      one_by : (u v : ℕ) (g h : Flight) → g.key ≡ h.key → Flies u g → Flies v h → u ≡ v
+    module _ (h_left : (p : Owner) → retires ≡ Some p → WasUsed plan b.applied f.key p) (h_unused : (k : Key) (p : Owner) → retires ≡ Some p → IsUser plan b' k p → ⊥) (h_once : (v : ℕ) (g : MachineFlight) (p : Owner) → b.flights v ≡ Some g → (v ≡ w → ⊥) → retires ≡ Some p → g.retires ≡ Some p → ⊥) (h_held : IsUsedOrRetired plan b' o) (h_kept : (p : Owner) → f.retires ≡ Some p → retires ≡ Some p) (h_runs : Runs plan g' (StandsIn m) due) (h_quiet : (k : Key) (p : Owner) → HasChangeOf plan due p → IsUser plan b' k p → k ≡ f.key) where
+      one_by : (u v : ℕ) (g h : MachineFlight) → g.key ≡ h.key → Flies u g → Flies v h → u ≡ v
       one_by u v g h same (Its x _) (Its y _) = x ∙ sym y
-      one_by u v g h same (Its x e) (Another y there) = x ∙ sound.board.one w v f h leaving.flying there (ap (λ (z : Flight). z.key) e ∙ same)
-      one_by u v g h same (Another x there) (Its y e) = sound.board.one u w g f there leaving.flying (same ∙ sym (ap (λ (z : Flight). z.key) e)) ∙ sym y
+      one_by u v g h same (Its x e) (Another y there) = x ∙ sound.board.one w v f h leaving.flying there (ap (λ (z : MachineFlight). z.key) e ∙ same)
+      one_by u v g h same (Another x there) (Its y e) = sound.board.one u w g f there leaving.flying (same ∙ sym (ap (λ (z : MachineFlight). z.key) e)) ∙ sym y
       one_by u v g h same (Another x there) (Another y at) = sound.board.one u v g h there at same
 
-      leaves_by : (v : ℕ) (g : Flight) (p : Owner) → g.leaves ≡ Some p → Flies v g → WasUsed plan b.applied g.key p × (IsIn p (uses_of plan g.key g.new) → ⊥) × (g.retires ≡ None)
-      leaves_by v g p h (Its same e) = absurd (none_some p (ap (λ (z : Flight). z.leaves) e ∙ h))
+      leaves_by : (v : ℕ) (g : MachineFlight) (p : Owner) → g.leaves ≡ Some p → Flies v g → WasUsed plan b.applied g.key p × (IsIn p (uses_of plan g.key g.new) → ⊥) × (g.retires ≡ None)
+      leaves_by v g p h (Its same e) = absurd (none_some p (ap (λ (z : MachineFlight). z.leaves) e ∙ h))
       leaves_by v g p h (Another other there) = sound.board.leaves v g p there h
 
-      left_by : (v : ℕ) (g : Flight) (p : Owner) → g.retires ≡ Some p → Flies v g → WasUsed plan b.applied g.key p
-      left_by v g p h (Its same e) = subst (λ (z : Flight). WasUsed plan b.applied z.key p) e (h_left p (ap (λ (z : Flight). z.retires) e ∙ h))
+      left_by : (v : ℕ) (g : MachineFlight) (p : Owner) → g.retires ≡ Some p → Flies v g → WasUsed plan b.applied g.key p
+      left_by v g p h (Its same e) = subst (λ (z : MachineFlight). WasUsed plan b.applied z.key p) e (h_left p (ap (λ (z : MachineFlight). z.retires) e ∙ h))
       left_by v g p h (Another other there) = sound.board.left v g p there h
 
-      unused_by : (v : ℕ) (g : Flight) (k : Key) (p : Owner) → g.retires ≡ Some p → IsUser plan b' k p → Flies v g → ⊥
-      unused_by v g k p h user (Its same e) = h_unused k p (ap (λ (z : Flight). z.retires) e ∙ h) user
+      unused_by : (v : ℕ) (g : MachineFlight) (k : Key) (p : Owner) → g.retires ≡ Some p → IsUser plan b' k p → Flies v g → ⊥
+      unused_by v g k p h user (Its same e) = h_unused k p (ap (λ (z : MachineFlight). z.retires) e ∙ h) user
       unused_by v g k p h user (Another other there) = sound.board.unused v g k p there h (user_was k p user)
 
-      once_by : (u v : ℕ) (g h : Flight) (p : Owner) → g.retires ≡ Some p → h.retires ≡ Some p → Flies u g → Flies v h → u ≡ v
+      once_by : (u v : ℕ) (g h : MachineFlight) (p : Owner) → g.retires ≡ Some p → h.retires ≡ Some p → Flies u g → Flies v h → u ≡ v
       once_by u v g h p x y (Its s _) (Its t _) = s ∙ sym t
-      once_by u v g h p x y (Its s e) (Another t there) = absurd (h_once v h p there t (ap (λ (z : Flight). z.retires) e ∙ x) y)
-      once_by u v g h p x y (Another s there) (Its t e) = absurd (h_once u g p there s (ap (λ (z : Flight). z.retires) e ∙ y) x)
+      once_by u v g h p x y (Its s e) (Another t there) = absurd (h_once v h p there t (ap (λ (z : MachineFlight). z.retires) e ∙ x) y)
+      once_by u v g h p x y (Another s there) (Its t e) = absurd (h_once u g p there s (ap (λ (z : MachineFlight). z.retires) e ∙ y) x)
       once_by u v g h p x y (Another s there) (Another t at) = sound.board.once u v g h p there at x y
 
       orderly : IsOrderly plan b'
@@ -211,7 +211,7 @@ module _ (plan : Ports) (tables : Tables plan) (m : Machine) (sound : IsConsiste
       due_new : (v : ℕ) → v ≡ w → later.due v ≡ due
       due_new v same = put_at w v due m.due same
 
-      runs_by : (v : ℕ) (g : Flight) → Flies v g → Runs plan g (StandsIn m) (later.due v)
+      runs_by : (v : ℕ) (g : MachineFlight) → Flies v g → Runs plan g (StandsIn m) (later.due v)
       runs_by v g (Its same e) = subst (Runs plan g (StandsIn m)) (sym (due_new v same)) (subst (λ h. Runs plan h (StandsIn m) due) e h_runs)
       runs_by v g (Another other there) = subst (Runs plan g (StandsIn m)) (sym (due_old v other)) (sound.runs v g there)
 
@@ -224,11 +224,11 @@ module _ (plan : Ports) (tables : Tables plan) (m : Machine) (sound : IsConsiste
       held_now p (inr (v, g, at, h)) = of (flew v g at)
         where
           of : Flew v g → IsUsedOrRetired plan b' p
-          of (It same e) = inr (w, g', here, h_kept p (ap (λ (z : Flight). z.retires) e ∙ h))
+          of (It same e) = inr (w, g', here, h_kept p (ap (λ (z : MachineFlight). z.retires) e ∙ h))
           of (Same other there) = inr (v, g, there, h)
 
       -- the key's own things are those of its new row by now
-      used_by : (k : Key) (p : Owner) (u : Thing) (n : Name) → StandsIn m u → IsOwnedBy plan (name_of u) (OfRow k) → Refers u n → IsOwnedBy plan n p → IsShared p → IsUser plan b' k p ⊎ ((k ≡ f.key) × (p ≡ o)) → IsUser plan b' k p
+      used_by : (k : Key) (p : Owner) (u : Thing) (n : ThingName) → StandsIn m u → IsOwnedBy plan (name_of u) (OfRow k) → Refers u n → IsOwnedBy plan n p → IsShared p → IsUser plan b' k p ⊎ ((k ≡ f.key) × (p ≡ o)) → IsUser plan b' k p
       used_by k p u n h is refers of shared (inl user) = user
       used_by k p u n h is refers of shared (inr (same, that)) =
           let final = (runs_done u (OfRow k, is, inl (ap OfRow same))).0 h in
@@ -243,12 +243,12 @@ module _ (plan : Ports) (tables : Tables plan) (m : Machine) (sound : IsConsiste
               let at : IsIn p (uses_of plan f.key f.new) = subst (λ z. IsIn p (uses_of plan f.key z)) (sym new) (subst (λ q. IsIn p (uses plan q r)) (sym is) (subst (λ z. IsIn z (uses plan k r)) q x.2)) in
               inl (w, g', here, is, inl at)
 
-      still_quiet : (p : Owner) → ((v : ℕ) (g : Flight) → b'.flights v ≡ Some g → HasChangeOf plan (later.due v) p → ⊥) → (v : ℕ) (g : Flight) → HasChangeOf plan (m.due v) p → Flew v g → ⊥
+      still_quiet : (p : Owner) → ((v : ℕ) (g : MachineFlight) → b'.flights v ≡ Some g → HasChangeOf plan (later.due v) p → ⊥) → (v : ℕ) (g : MachineFlight) → HasChangeOf plan (m.due v) p → Flew v g → ⊥
       still_quiet p quiet v g t (It same e) = untouched_now p (subst (λ z. HasChangeOf plan (m.due z) p) same t)
       still_quiet p quiet v g t (Same other there) = quiet v g there (subst (λ d. HasChangeOf plan d p) (sym (due_old v other)) t)
 
-      quiet_by : (v : ℕ) (g : Flight) (k : Key) (p : Owner) → HasChangeOf plan (later.due v) p → IsUser plan b' k p → Flies v g → k ≡ g.key
-      quiet_by v g k p t user (Its same e) = h_quiet k p (subst (λ d. HasChangeOf plan d p) (due_new v same) t) user ∙ ap (λ (z : Flight). z.key) e
+      quiet_by : (v : ℕ) (g : MachineFlight) (k : Key) (p : Owner) → HasChangeOf plan (later.due v) p → IsUser plan b' k p → Flies v g → k ≡ g.key
+      quiet_by v g k p t user (Its same e) = h_quiet k p (subst (λ d. HasChangeOf plan d p) (due_new v same) t) user ∙ ap (λ (z : MachineFlight). z.key) e
       quiet_by v g k p t user (Another other there) = sound.quiet v g k p there (subst (λ d. HasChangeOf plan d p) (due_old v other) t) (user_was k p user)
 
       sound-parted : IsConsistent plan later
@@ -267,11 +267,11 @@ module _ (plan : Ports) (tables : Tables plan) (m : Machine) (sound : IsConsiste
       }
 
 -- others use it
-module _ (plan : Ports) (tables : Tables plan) (m : Machine) (sound : IsConsistent plan m) (w : ℕ) (f : Flight) (o : Owner) (x : LeavesOthers plan m w f o) where
+module _ (plan : Ports) (tables : TableLaws plan) (m : Machine) (sound : IsConsistent plan m) (w : ℕ) (f : MachineFlight) (o : Owner) (x : LeavesOthers plan m w f o) where
   abbrev leaving : Leaves m w f o
   leaving = x.leaving
 
-  abbrev after : Board
+  abbrev after : MachineBoard
   after = (left m w f f.retires []).board
 
   held : IsUser plan after x.other o ⊎ ((x.other ≡ f.key) × (o ≡ o)) → IsUsedOrRetired plan after o
@@ -290,11 +290,11 @@ module _ (plan : Ports) (tables : Tables plan) (m : Machine) (sound : IsConsiste
       (λ k p t user. elim t.1 [ ])
 
 -- the key was the last user
-module _ (plan : Ports) (tables : Tables plan) (m : Machine) (sound : IsConsistent plan m) (w : ℕ) (f : Flight) (o : Owner) (due : List Change) (x : LeavesLast plan m w f o due) where
+module _ (plan : Ports) (tables : TableLaws plan) (m : Machine) (sound : IsConsistent plan m) (w : ℕ) (f : MachineFlight) (o : Owner) (due : List Change) (x : LeavesLast plan m w f o due) where
   abbrev leaving_last : Leaves m w f o
   leaving_last = x.leaving
 
-  abbrev after_last : Board
+  abbrev after_last : MachineBoard
   after_last = (left m w f (Some o) due).board
 
   known : WasUsed plan m.board.applied f.key o × (IsIn o (uses_of plan f.key f.new) → ⊥) × (f.retires ≡ None)

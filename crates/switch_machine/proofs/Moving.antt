@@ -6,20 +6,20 @@ use Rattle.table_schema.specs.declared.row.Row.{Row}
 use Rattle.sai_types.specs.declared.ids.Rid.{Rid}
 use Rattle.sai_types.specs.declared.thing.Thing.{Thing}
 use Rattle.sai_types.specs.Alike.{IsIn}
-use Rattle.sai_types.specs.Names.{Name, Refers, name_of}
+use Rattle.sai_types.specs.Names.{ThingName, Refers, name_of}
 use Rattle.row_layout.specs.Rows.{Owner, OfRow, own_things}
 use Rattle.row_layout.specs.Shared.{shared_things, uses}
 use Rattle.row_layout.specs.Operations.{Change, Make, Set, Take, uses_of}
 use Rattle.switch_machine.specs.Changes.{after, changed_name}
-use Rattle.switch_machine.specs.Flights.{Can, CanMake, CanSet, Concerns, Fits, Flight, Goes, HasName, IsConcern, IsFirm, IsOwnedBy, IsResting, IsShared, HasChangeOf, IsUser, Machine, Runs, StandsIn, own_of}
+use Rattle.switch_machine.specs.Flights.{Can, CanMake, CanSet, Concerns, Fits, MachineFlight, Goes, HasName, IsConcern, IsFirm, IsOwnedBy, IsResting, IsShared, HasChangeOf, IsUser, Machine, Runs, StandsIn, own_of}
 use Rattle.switch_machine.specs.Steps.{Moves, moved}
 use Rattle.switch_machine.specs.Consistent.{IsUsedOrRetired, IsLike, IsConsistent}
-use Rattle.switch_machine.specs.Tables.{IsNamed, Tables}
+use Rattle.switch_machine.specs.Tables.{IsNamed, TableLaws}
 use Rattle.switch_machine.proofs.Running.{Agree, final-concern, one_flight, one_owner, own_row, resembles_self, row_keys, runs-same, shared_of, shared_row, stays, stood, untouched}
 use Rattle.switch_machine.proofs.Splits.{IsSplit, name_split, nat_split, owner_split, put_at, put_off, own_row_in, use_row_in}
 
-module _ (plan : Ports) (tables : Tables plan) (m : Machine) (sound : IsConsistent plan m) where
-  pub fit_of : (w : ℕ) (f : Flight) → m.board.flights w ≡ Some f → (r : Row) → f.new ≡ Some r → Fits plan f.key r
+module _ (plan : Ports) (tables : TableLaws plan) (m : Machine) (sound : IsConsistent plan m) where
+  pub fit_of : (w : ℕ) (f : MachineFlight) → m.board.flights w ≡ Some f → (r : Row) → f.new ≡ Some r → Fits plan f.key r
   fit_of w f at r is = sound.board.fit f.key r (inr (w, f, at, refl, is))
 
   pub used_shared : (k : Key) (o : Owner) → IsUser plan m.board k o → IsShared o
@@ -28,7 +28,7 @@ module _ (plan : Ports) (tables : Tables plan) (m : Machine) (sound : IsConsiste
   used_shared k o (inr (rests, h)) = let r = use_row_in plan k (m.board.applied k) o h in tables.are_shared k r.0 o r.2
 
   -- what one operation changes is no concern of another
-  pub apart : (w v : ℕ) (f g : Flight) → m.board.flights w ≡ Some f → m.board.flights v ≡ Some g → (v ≡ w → ⊥) → (o : Owner) → HasChangeOf plan (m.due w) o → Concerns plan f o → Concerns plan g o → ⊥
+  pub apart : (w v : ℕ) (f g : MachineFlight) → m.board.flights w ≡ Some f → m.board.flights v ≡ Some g → (v ≡ w → ⊥) → (o : Owner) → HasChangeOf plan (m.due w) o → Concerns plan f o → Concerns plan g o → ⊥
   apart w v f g at there other o touched mine (inr (inl h)) = other (sym (sound.board.one w v f g at there (sym (sound.quiet w f g.key o at touched (inl (v, g, there, refl, inl h))))))
   apart w v f g at there other o touched (inl is) (inl h) = other (sym (sound.board.one w v f g at there (row_keys f.key g.key (sym is ∙ h))))
   apart w v f g at there other o touched (inr (inl mine)) (inl h) = shared_row o g.key (used_shared f.key o (inl (w, f, at, refl, inl mine))) h
@@ -37,7 +37,7 @@ module _ (plan : Ports) (tables : Tables plan) (m : Machine) (sound : IsConsiste
   apart w v f g at there other o touched (inr (inl mine)) (inr (inr h)) = sound.board.unused v g f.key o there h (inl (w, f, at, refl, inl mine))
   apart w v f g at there other o touched (inr (inr mine)) (inr (inr h)) = other (sym (sound.board.once w v f g o at there mine h))
 
-  module _ (w : ℕ) (f : Flight) (c : Change) (cs : List Change) (stands : List (Rid × Thing)) (moves : Moves m w f c cs stands) where
+  module _ (w : ℕ) (f : MachineFlight) (c : Change) (cs : List Change) (stands : List (Rid × Thing)) (moves : Moves m w f c cs stands) where
     abbrev later : Machine
     later = moved m w cs stands
 
@@ -47,7 +47,7 @@ module _ (plan : Ports) (tables : Tables plan) (m : Machine) (sound : IsConsiste
     pub runs_now : Runs plan f (StandsIn m) (c ∷ cs)
     runs_now = subst (Runs plan f (StandsIn m)) moves.due (sound.runs w f moves.flying)
 
-    goes_owner : (n : Name) → Goes plan f n → (o : Owner) × IsOwnedBy plan n o × Concerns plan f o
+    goes_owner : (n : ThingName) → Goes plan f n → (o : Owner) × IsOwnedBy plan n o × Concerns plan f o
     goes_owner n (inl h) = (OfRow f.key, h.0, inl refl)
     goes_owner n (inr h) = (h.0, h.1, inr (inr h.2))
 
@@ -107,7 +107,7 @@ module _ (plan : Ports) (tables : Tables plan) (m : Machine) (sound : IsConsiste
     agree_self : Agree (λ u. after c (StandsIn m u) u) (StandsIn later) (λ u. IsConcern plan f (name_of u))
     agree_self = record { into = λ u concern h. moves.back u h; back = λ u concern h. moves.into u h.0 h.1 }
 
-    agree_other : (v : ℕ) (g : Flight) → m.board.flights v ≡ Some g → (v ≡ w → ⊥) → Agree (StandsIn m) (StandsIn later) (λ u. IsConcern plan g (name_of u))
+    agree_other : (v : ℕ) (g : MachineFlight) → m.board.flights v ≡ Some g → (v ≡ w → ⊥) → Agree (StandsIn m) (StandsIn later) (λ u. IsConcern plan g (name_of u))
     agree_other v g there other = record {
       into = λ u concern h. kept u concern.0 concern.1 (λ e. not_mine concern.0 concern.2 e) h;
       back = λ u concern h. before u concern.0 concern.1 (λ e. not_mine concern.0 concern.2 e) h;
@@ -116,7 +116,7 @@ module _ (plan : Ports) (tables : Tables plan) (m : Machine) (sound : IsConsiste
         not_mine : (o : Owner) → Concerns plan g o → o ≡ its.0 → ⊥
         not_mine o h e = apart w v f g moves.flying there other its.0 touches its.2 (subst (Concerns plan g) e h)
 
-    runs_by : (v : ℕ) (g : Flight) → m.board.flights v ≡ Some g → IsSplit v w → Runs plan g (StandsIn later) (later.due v)
+    runs_by : (v : ℕ) (g : MachineFlight) → m.board.flights v ≡ Some g → IsSplit v w → Runs plan g (StandsIn later) (later.due v)
     runs_by v g there (inl same) =
         let is : f ≡ g = one_flight f g (sym moves.flying ∙ ap m.board.flights (sym same) ∙ there) in
         let now = runs-same plan tables f fits (λ u. after c (StandsIn m u) u) (StandsIn later) cs agree_self runs_now.1 in
@@ -126,11 +126,11 @@ module _ (plan : Ports) (tables : Tables plan) (m : Machine) (sound : IsConsiste
         (runs-same plan tables g (fit_of v g there) (StandsIn m) (StandsIn later) (m.due v) (agree_other v g there other) (sound.runs v g there))
 
     -- what is firm is not taken
-    firm_stays : (k : Key) (n : Name) → IsFirm m.board k → IsOwnedBy plan n (OfRow k) → Goes plan f n → ⊥
+    firm_stays : (k : Key) (n : ThingName) → IsFirm m.board k → IsOwnedBy plan n (OfRow k) → Goes plan f n → ⊥
     firm_stays k n firm is (inl h) = firm.stays w f moves.flying (row_keys f.key k (one_owner plan n (OfRow f.key) (OfRow k) h.0 is)) h.1
     firm_stays k n firm is (inr h) = let was = sound.board.left w f h.0 moves.flying h.2 in shared_row h.0 k (tables.are_shared f.key was.row h.0 was.used) (one_owner plan n h.0 (OfRow k) h.1 is)
 
-    present_by : (c : Change) → Can plan f (StandsIn m) c → ((u : Thing) → after c (StandsIn m u) u → StandsIn later u) → (k : Key) (n : Name) → IsFirm m.board k → IsOwnedBy plan n (OfRow k) → IsSplit n (changed_name c) → HasName (StandsIn m) n → HasName (StandsIn later) n
+    present_by : (c : Change) → Can plan f (StandsIn m) c → ((u : Thing) → after c (StandsIn m u) u → StandsIn later u) → (k : Key) (n : ThingName) → IsFirm m.board k → IsOwnedBy plan n (OfRow k) → IsSplit n (changed_name c) → HasName (StandsIn m) n → HasName (StandsIn later) n
     present_by (Make t) can back k n firm is split x = (x.0, back x.0 (inl x.1), x.2)
     present_by (Set t) can back k n firm is (inl same) x = (t, back t (inr refl), sym same)
     present_by (Set t) can back k n firm is (inr other) x = (x.0, back x.0 (inl (x.1, λ e. other (sym x.2 ∙ e))), x.2)
@@ -155,7 +155,7 @@ module _ (plan : Ports) (tables : Tables plan) (m : Machine) (sound : IsConsiste
     held_by o u (Was can) is shared = absurd (shared_row o f.key shared (one_owner plan (name_of u) o (OfRow f.key) is can.own))
 
     -- a thing like one of the new row that refers to what is shared
-    used_new : (k : Key) (o : Owner) (t : Thing) (n : Name) (r : Row) → f.new ≡ Some r → f.key ≡ k → IsIn t (own_things plan k r) → Refers t n → IsOwnedBy plan n o → IsShared o → IsUser plan m.board k o
+    used_new : (k : Key) (o : Owner) (t : Thing) (n : ThingName) (r : Row) → f.new ≡ Some r → f.key ≡ k → IsIn t (own_things plan k r) → Refers t n → IsOwnedBy plan n o → IsShared o → IsUser plan m.board k o
     used_new k o t n r is same h refers of shared = by (tables.own_refers k r t n (subst (λ q. Fits plan q r) same (fits r is)) h refers)
       where
         by : IsNamed plan k r n ⊎ (IsOwnedBy plan n (OfRow k) ⊎ ((p : Owner) × IsOwnedBy plan n p × IsIn p (uses plan k r))) → IsUser plan m.board k o
@@ -166,7 +166,7 @@ module _ (plan : Ports) (tables : Tables plan) (m : Machine) (sound : IsConsiste
             let at : IsIn o (uses_of plan f.key f.new) = subst (λ z. IsIn o (uses_of plan f.key z)) (sym is) (subst (λ q. IsIn o (uses plan q r)) (sym same) (subst (λ z. IsIn z (uses plan k r)) p x.2)) in
             inl (w, f, moves.flying, same, inl at)
 
-    used_by : (k : Key) (o : Owner) (u : Thing) (n : Name) → Came u → IsOwnedBy plan (name_of u) (OfRow k) → Refers u n → IsOwnedBy plan n o → IsShared o → IsUser plan m.board k o
+    used_by : (k : Key) (o : Owner) (u : Thing) (n : ThingName) → Came u → IsOwnedBy plan (name_of u) (OfRow k) → Refers u n → IsOwnedBy plan n o → IsShared o → IsUser plan m.board k o
     used_by k o u n (Stood h) is refers of shared = sound.used k o u n h is refers of shared
     used_by k o u n (Made can) is refers of shared =
         let r = own_row plan tables f fits u k is can.final in used_new k o u n r.0 r.1 r.2 r.3 refers of shared
@@ -189,7 +189,7 @@ module _ (plan : Ports) (tables : Tables plan) (m : Machine) (sound : IsConsiste
     steady_now k o x user h v = stays_used c runs_now.0 moves.back k o x user h v
 
     -- what a row's thing refers to of what it shares is of its new row
-    used_mine : (t : Thing) (n : Name) (o : Owner) (r : Row) → f.new ≡ Some r → IsIn t (own_things plan f.key r) → Refers t n → IsOwnedBy plan n o → IsShared o → IsIn o (uses_of plan f.key f.new)
+    used_mine : (t : Thing) (n : ThingName) (o : Owner) (r : Row) → f.new ≡ Some r → IsIn t (own_things plan f.key r) → Refers t n → IsOwnedBy plan n o → IsShared o → IsIn o (uses_of plan f.key f.new)
     used_mine t n o r is h refers of shared = by (tables.own_refers f.key r t n (fits r is) h refers)
       where
         by : IsNamed plan f.key r n ⊎ (IsOwnedBy plan n (OfRow f.key) ⊎ ((p : Owner) × IsOwnedBy plan n p × IsIn p (uses plan f.key r))) → IsIn o (uses_of plan f.key f.new)
@@ -197,7 +197,7 @@ module _ (plan : Ports) (tables : Tables plan) (m : Machine) (sound : IsConsiste
         by (inr (inl own)) = absurd (shared_row o f.key shared (one_owner plan n o (OfRow f.key) of own))
         by (inr (inr y)) = subst (λ z. IsIn o (uses_of plan f.key z)) (sym is) (subst (λ z. IsIn z (uses plan f.key r)) (one_owner plan n y.0 o y.1 of) y.2)
 
-    steady_by : (k : Key) (o : Owner) (u x : Thing) (n : Name) → Came u → IsOwnedBy plan (name_of u) (OfRow k) → Refers u n → IsOwnedBy plan n o → IsShared o → IsIn x (shared_things o) → IsUser plan m.board k o → StandsIn later x
+    steady_by : (k : Key) (o : Owner) (u x : Thing) (n : ThingName) → Came u → IsOwnedBy plan (name_of u) (OfRow k) → Refers u n → IsOwnedBy plan n o → IsShared o → IsIn x (shared_things o) → IsUser plan m.board k o → StandsIn later x
     steady_by k o u x n (Stood h) is refers of shared in_it user = steady_now k o x user in_it (sound.steady k o u x n h is refers of shared in_it)
     steady_by k o u x n (Made can) is refers of shared in_it user =
         let r = own_row plan tables f fits u k is can.final in
@@ -223,7 +223,7 @@ module _ (plan : Ports) (tables : Tables plan) (m : Machine) (sound : IsConsiste
         let was : HasChangeOf plan cs o = subst (λ d. HasChangeOf plan d o) (put_at w v cs m.due same) t in
         subst (λ d. HasChangeOf plan d o) (sym (ap m.due same ∙ moves.due)) (was.0, inr was.1, was.2)
 
-    whole_by : (k : Key) (o : Owner) (u : Thing) → IsUser plan m.board k o → ((v : ℕ) (g : Flight) → m.board.flights v ≡ Some g → HasChangeOf plan (later.due v) o → ⊥) → IsIn u (shared_things o) → IsSplit o its.0 → StandsIn later u
+    whole_by : (k : Key) (o : Owner) (u : Thing) → IsUser plan m.board k o → ((v : ℕ) (g : MachineFlight) → m.board.flights v ≡ Some g → HasChangeOf plan (later.due v) o → ⊥) → IsIn u (shared_things o) → IsSplit o its.0 → StandsIn later u
     whole_by k o u user still h (inr other) =
         kept u o (tables.shared o u h) other (sound.whole k o u user (λ v g there t. still v g there (touched_off v o other (nat_split v w) t)) h)
     whole_by k o u user still h (inl same) = by (subst (Concerns plan f) (sym same) its.2)

@@ -30,17 +30,17 @@ use Rattle.row_layout.specs.Operations.{Change, Make}
 use Rattle.row_layout.specs.Rows as owner
 use Rattle.switch_machine.specs.Consistent.{IsConsistent, IsCurrent, IsOrderly}
 use Rattle.switch_machine.specs.Events.{empty_machine}
-use Rattle.switch_machine.specs.Flights.{Board, Flight, Machine, StandsIn, put}
+use Rattle.switch_machine.specs.Flights.{MachineBoard, MachineFlight, Machine, StandsIn, put}
 use Rattle.switch_machine.specs.Places.{makes, missing}
 use Rattle.switch_machine.specs.Written.{Written, fields_after, good_of}
 use Rattle.switch_machine.proofs.Splits.{IsPut, New, Old, put_by}
 
-abbrev flight_of : Key → Option Row → Flight
+abbrev flight_of : Key → Option Row → MachineFlight
 flight_of k new = record { key = k; new = new; leaves = None; retires = None }
 
 -- ---- a row goes although a row that is to come names it: VLAN 5, and a member of it
 
-abbrev going_vlan : Board
+abbrev going_vlan : MachineBoard
 going_vlan = record { applied = λ k. None; flights = put 1 (Some (flight_of (key.Vlan 5) None)) (put 0 (Some (flight_of (key.Member 5 0) (Some (row.Member Tagged)))) (λ w. None)) }
 
 named-row_stays : (plan : Ports) → IsOrderly plan going_vlan → ⊥
@@ -55,10 +55,10 @@ abbrev shared_address : Key → Option Row
 shared_address (key.Addr (on.Vlan v) ip len) = Some row.Addr
 shared_address _ = None
 
-abbrev retiring_address : Board
+abbrev retiring_address : MachineBoard
 retiring_address = record { applied = shared_address; flights = put 0 (Some (record { key = key.Addr (on.Vlan 5) one_ip 24; new = None; leaves = None; retires = Some (owner.Own one_ip) })) (λ w. None) }
 
-other_rests : (w : ℕ) (f : Flight) → IsPut 0 w (Some (record { key = key.Addr (on.Vlan 5) one_ip 24; new = None; leaves = None; retires = Some (owner.Own one_ip) })) (λ v. None) (Some f) → f.key ≡ key.Addr (on.Vlan 6) one_ip 24 → ⊥
+other_rests : (w : ℕ) (f : MachineFlight) → IsPut 0 w (Some (record { key = key.Addr (on.Vlan 5) one_ip 24; new = None; leaves = None; retires = Some (owner.Own one_ip) })) (λ v. None) (Some f) → f.key ≡ key.Addr (on.Vlan 6) one_ip 24 → ⊥
 other_rests w f (New same e) is = absurd (let one : key.Addr (on.Vlan 5) one_ip 24 ≡ f.key = cc in let two = one ∙ is in cc)
 other_rests w f (Old other e) is = absurd cc
 
@@ -67,7 +67,7 @@ used-address_stays plan x = x.unused 0 (record { key = key.Addr (on.Vlan 5) one_
 
 -- ---- two operations have one key
 
-abbrev two_flights : Board
+abbrev two_flights : MachineBoard
 two_flights = record { applied = λ k. None; flights = put 1 (Some (flight_of (key.Vlan 5) (Some row.Vlan))) (put 0 (Some (flight_of (key.Vlan 5) (Some row.Vlan))) (λ w. None)) }
 
 one-flight_a_key : (plan : Ports) → IsOrderly plan two_flights → ⊥

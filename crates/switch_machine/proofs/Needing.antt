@@ -6,7 +6,7 @@ use Rattle.switch_model.specs.History.{History, keys_listed, listed_by, log_size
 use Rattle.switch_model.specs.declared.mark.Mark.{Mark}
 use Rattle.switch_machine.specs.Needs.{OfCall, OfList, OfMark, OfWrite, need_of}
 
-listed_more : (marks : List Mark) (mark : Mark) → listed_by (marks ++ mark ∷ []) ≡ listed_by marks + keys_listed mark.event
+pub listed_more : (marks : List Mark) (mark : Mark) → listed_by (marks ++ mark ∷ []) ≡ listed_by marks + keys_listed mark.event
 listed_more [] mark = omega arith
 listed_more (m ∷ marks) mark = let rest = listed_more marks mark in omega (arith, rest)
 

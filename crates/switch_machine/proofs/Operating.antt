@@ -4,24 +4,24 @@ use Rattle.table_schema.specs.Plan.{Ports}
 use Rattle.table_schema.specs.declared.row.Row.{Row}
 use Rattle.sai_types.specs.declared.thing.Thing.{Thing}
 use Rattle.sai_types.specs.Alike.{IsIn}
-use Rattle.sai_types.specs.Names.{Name, Refers, name_of}
+use Rattle.sai_types.specs.Names.{ThingName, Refers, name_of}
 use Rattle.row_layout.specs.Rows.{Owner, OfRow, own_things}
 use Rattle.row_layout.specs.Shared.{shared_things, uses}
 use Rattle.row_layout.specs.Operations.{Change, Set, going, make_all, same_thing, set_to, take_all, uses_of}
 use Rattle.switch_machine.specs.Changes.{IsSettable, Resembles}
-use Rattle.switch_machine.specs.Flights.{Concerns, Fits, Flight, Goes, HasName, HasShared, IsConcern, IsFinal, IsOwnedBy, IsShared, Runs, own_of}
-use Rattle.switch_machine.specs.Tables.{AreNamedApart, ComesBefore, Orders, IsNamed, Tables}
+use Rattle.switch_machine.specs.Flights.{Concerns, Fits, MachineFlight, Goes, HasName, HasShared, IsConcern, IsFinal, IsOwnedBy, IsShared, Runs, own_of}
+use Rattle.switch_machine.specs.Tables.{AreNamedApart, ComesBefore, Orders, IsNamed, TableLaws}
 use Rattle.switch_machine.proofs.Equal.{thing-exact}
 use Rattle.switch_machine.proofs.Running.{one_owner, own_row, row_keys, runs-same, settable_name, shared_of, shared_row}
 use Rattle.switch_machine.proofs.Splits.{own_row_in, use_row_in}
 
-before_in : (n : Name) (t : Thing) (ts : List Thing) → ComesBefore n t ts → IsIn t ts
+before_in : (n : ThingName) (t : Thing) (ts : List Thing) → ComesBefore n t ts → IsIn t ts
 before_in n t [] h = elim h [ ]
 before_in n t (x ∷ xs) (inl h) = inr h.1
 before_in n t (x ∷ xs) (inr h) = inr (before_in n t xs h)
 
 -- a thing is not behind the first one, where that is it
-pub not_first : (n : Name) (x : Thing) (xs : List Thing) → AreNamedApart (x ∷ xs) → ComesBefore n x (x ∷ xs) → ⊥
+pub not_first : (n : ThingName) (x : Thing) (xs : List Thing) → AreNamedApart (x ∷ xs) → ComesBefore n x (x ∷ xs) → ⊥
 not_first n x xs apart (inl h) = apart.0 x h.1 refl
 not_first n x xs apart (inr h) = apart.0 x (before_in n x xs h) refl
 
@@ -31,9 +31,9 @@ plus V ts u = V u ⊎ IsIn u ts
 abbrev pub minus : (Thing → Type 0) → List Thing → Thing → Type 0
 minus V ts u = V u × ((t : Thing) → IsIn t ts → name_of u ≡ name_of t → ⊥)
 
-module _ (plan : Ports) (tables : Tables plan) (f : Flight) (fit : (r : Row) → f.new ≡ Some r → Fits plan f.key r) where
+module _ (plan : Ports) (tables : TableLaws plan) (f : MachineFlight) (fit : (r : Row) → f.new ≡ Some r → Fits plan f.key r) where
   -- things are made
-  pub make_runs : (ts : List Thing) (V : Thing → Type 0) (rest : List Change) → ((t : Thing) → IsIn t ts → IsFinal plan f t) → ((t u : Thing) → IsIn t ts → V u → name_of u ≡ name_of t → ⊥) → AreNamedApart ts → ((t : Thing) (n : Name) → IsIn t ts → Refers t n → IsConcern plan f n → HasName V n ⊎ ComesBefore n t ts) → ((t : Thing) → IsIn t ts → IsIn t (own_of plan f.key f.new) → HasShared plan f V) → Runs plan f (plus V ts) rest → Runs plan f V (make_all ts rest)
+  pub make_runs : (ts : List Thing) (V : Thing → Type 0) (rest : List Change) → ((t : Thing) → IsIn t ts → IsFinal plan f t) → ((t u : Thing) → IsIn t ts → V u → name_of u ≡ name_of t → ⊥) → AreNamedApart ts → ((t : Thing) (n : ThingName) → IsIn t ts → Refers t n → IsConcern plan f n → HasName V n ⊎ ComesBefore n t ts) → ((t : Thing) → IsIn t ts → IsIn t (own_of plan f.key f.new) → HasShared plan f V) → Runs plan f (plus V ts) rest → Runs plan f V (make_all ts rest)
   make_runs [] V rest final fresh apart near whole runs = runs-same plan tables f fit (plus V []) V rest (record { into = λ u c h. out u h; back = λ u c h. inl h }) runs
     where
       out : (u : Thing) → plus V [] u → V u
@@ -58,7 +58,7 @@ module _ (plan : Ports) (tables : Tables plan) (f : Flight) (fit : (r : Row) →
       later : Thing → Type 0
       later u = V u ⊎ (u ≡ x)
 
-      there : (n : Name) → HasName V n ⊎ ComesBefore n x (x ∷ xs) → HasName V n
+      there : (n : ThingName) → HasName V n ⊎ ComesBefore n x (x ∷ xs) → HasName V n
       there n (inl h) = h
       there n (inr h) = absurd (not_first n x xs apart h)
 
@@ -66,7 +66,7 @@ module _ (plan : Ports) (tables : Tables plan) (f : Flight) (fit : (r : Row) →
       still t u h (inl v) e = fresh t u (inr h) v e
       still t u h (inr is) e = apart.0 t h (sym e ∙ ap name_of is)
 
-      nearer : (t : Thing) (n : Name) → IsIn t xs → HasName V n ⊎ ComesBefore n t (x ∷ xs) → HasName (λ u. V u ⊎ (u ≡ x)) n ⊎ ComesBefore n t xs
+      nearer : (t : Thing) (n : ThingName) → IsIn t xs → HasName V n ⊎ ComesBefore n t (x ∷ xs) → HasName (λ u. V u ⊎ (u ≡ x)) n ⊎ ComesBefore n t xs
       nearer t n h (inl y) = inl (y.0, inl y.1, y.2)
       nearer t n h (inr (inl y)) = inl (x, inr refl, y.0)
       nearer t n h (inr (inr y)) = inr y
@@ -132,7 +132,7 @@ module _ (plan : Ports) (tables : Tables plan) (f : Flight) (fit : (r : Row) →
     finish V ready u (o, of, inr (inr retires)) = absurd (no_retire f.retires o none retires)
 
     -- what a thing of the new row refers to is there, or comes before it
-    pub near_own : (r : Row) → f.new ≡ Some r → (V : Thing → Type 0) → ((o : Owner) (u : Thing) → IsIn o (uses_of plan f.key f.new) → IsIn u (shared_things o) → V u) → (t : Thing) (n : Name) → IsIn t (own_things plan f.key r) → Refers t n → IsConcern plan f n → HasName V n ⊎ ComesBefore n t (own_things plan f.key r)
+    pub near_own : (r : Row) → f.new ≡ Some r → (V : Thing → Type 0) → ((o : Owner) (u : Thing) → IsIn o (uses_of plan f.key f.new) → IsIn u (shared_things o) → V u) → (t : Thing) (n : ThingName) → IsIn t (own_things plan f.key r) → Refers t n → IsConcern plan f n → HasName V n ⊎ ComesBefore n t (own_things plan f.key r)
     near_own r new V shared t n h refers (o, of, inl is) = inr (orders.own_before f.key r t n (fit r new) h refers (of ∙ ap Some is))
     near_own r new V shared t n h refers (o, of, inr (inr retires)) = absurd (no_retire f.retires o none retires)
     near_own r new V shared t n h refers (o, of, inr (inl usage)) =
@@ -190,7 +190,7 @@ module _ (plan : Ports) (tables : Tables plan) (f : Flight) (fit : (r : Row) →
         mine u v (o, of, inr (inl usage)) = absurd (no_use o gone usage)
         mine u v (o, of, inr (inr retires)) = absurd (no_retire f.retires o none retires)
 
-    step_by : (b : Bool) (t u : Thing) (ts : List Thing) (rest : List Change) (V : Thing → Type 0) → same_thing t u ≡ b → Ready (t ∷ ts) V → IsOwnedBy plan (name_of u) (OfRow f.key) → IsSettable t u → ((x : Thing) → IsIn x ts → name_of x ≡ name_of u → ⊥) → (like : Thing) → IsIn like (own_of plan f.key f.new) → Resembles u like → ((W : Thing → Type 0) → ((o : Owner) (x : Thing) → IsIn o (uses_of plan f.key f.new) → IsIn x (shared_things o) → W x) → (n : Name) → Refers u n → IsConcern plan f n → HasName W n) → ((W : Thing → Type 0) → Ready (u ∷ ts) W → Runs plan f W rest) → Runs plan f V (if b then rest else Set u ∷ rest)
+    step_by : (b : Bool) (t u : Thing) (ts : List Thing) (rest : List Change) (V : Thing → Type 0) → same_thing t u ≡ b → Ready (t ∷ ts) V → IsOwnedBy plan (name_of u) (OfRow f.key) → IsSettable t u → ((x : Thing) → IsIn x ts → name_of x ≡ name_of u → ⊥) → (like : Thing) → IsIn like (own_of plan f.key f.new) → Resembles u like → ((W : Thing → Type 0) → ((o : Owner) (x : Thing) → IsIn o (uses_of plan f.key f.new) → IsIn x (shared_things o) → W x) → (n : ThingName) → Refers u n → IsConcern plan f n → HasName W n) → ((W : Thing → Type 0) → Ready (u ∷ ts) W → Runs plan f W rest) → Runs plan f V (if b then rest else Set u ∷ rest)
     step_by true t u ts rest V x ready of settable apart like final resembles near next =
         next V (subst (λ z. Ready (z ∷ ts) V) (thing-exact t u x) ready)
     step_by false t u ts rest V x ready of settable apart like final resembles near next = (
@@ -234,7 +234,7 @@ module _ (plan : Ports) (tables : Tables plan) (f : Flight) (fit : (r : Row) →
         theirs o x usage is (inr e) = absurd (shared_row o f.key (use_shared o usage) (one_owner plan (name_of x) o (OfRow f.key) is (subst (λ z. IsOwnedBy plan (name_of z) (OfRow f.key)) (sym e) of)))
 
     -- one value is set, where it differs
-    pub step : (t u : Thing) (ts : List Thing) (rest : List Change) (V : Thing → Type 0) → Ready (t ∷ ts) V → IsOwnedBy plan (name_of u) (OfRow f.key) → IsSettable t u → ((x : Thing) → IsIn x ts → name_of x ≡ name_of u → ⊥) → (like : Thing) → IsIn like (own_of plan f.key f.new) → Resembles u like → ((W : Thing → Type 0) → ((o : Owner) (x : Thing) → IsIn o (uses_of plan f.key f.new) → IsIn x (shared_things o) → W x) → (n : Name) → Refers u n → IsConcern plan f n → HasName W n) → ((W : Thing → Type 0) → Ready (u ∷ ts) W → Runs plan f W rest) → Runs plan f V (set_to t u rest)
+    pub step : (t u : Thing) (ts : List Thing) (rest : List Change) (V : Thing → Type 0) → Ready (t ∷ ts) V → IsOwnedBy plan (name_of u) (OfRow f.key) → IsSettable t u → ((x : Thing) → IsIn x ts → name_of x ≡ name_of u → ⊥) → (like : Thing) → IsIn like (own_of plan f.key f.new) → Resembles u like → ((W : Thing → Type 0) → ((o : Owner) (x : Thing) → IsIn o (uses_of plan f.key f.new) → IsIn x (shared_things o) → W x) → (n : ThingName) → Refers u n → IsConcern plan f n → HasName W n) → ((W : Thing → Type 0) → Ready (u ∷ ts) W → Runs plan f W rest) → Runs plan f V (set_to t u rest)
     step t u ts rest V ready of settable apart like final resembles near next = step_by (same_thing t u) t u ts rest V refl ready of settable apart like final resembles near next
 
     -- ---- what is shared is built first
@@ -258,7 +258,7 @@ module _ (plan : Ports) (tables : Tables plan) (f : Flight) (fit : (r : Row) →
             let r = own_row_in plan f.key f.new t own in
             shared_row o f.key (use_shared o usage) (one_owner plan (name_of t) o (OfRow f.key) (tables.shared o t h) (tables.own f.key r.0 t (fit r.0 r.1) r.2))
 
-        near : (r : Row) → f.new ≡ Some r → IsIn o (uses plan f.key r) → (t : Thing) (n : Name) → IsIn t (shared_things o) → Refers t n → IsConcern plan f n → HasName V n ⊎ ComesBefore n t (shared_things o)
+        near : (r : Row) → f.new ≡ Some r → IsIn o (uses plan f.key r) → (t : Thing) (n : ThingName) → IsIn t (shared_things o) → Refers t n → IsConcern plan f n → HasName V n ⊎ ComesBefore n t (shared_things o)
         near r new at t n h refers (p, of, c) = by (tables.shared_refers f.key r o t n (fit r new) at h refers) c
           where
             by : IsNamed plan f.key r n ⊎ IsOwnedBy plan n o → Concerns plan f p → HasName V n ⊎ ComesBefore n t (shared_things o)

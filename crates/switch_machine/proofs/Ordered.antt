@@ -9,6 +9,7 @@ use Rattle.swss_types.specs.declared.address.Ip.{Ip}
 use Rattle.swss_types.specs.declared.address.Prefix.{Prefix}
 use Rattle.swss_types.specs.declared.address.Mac.{Mac}
 use Rattle.swss_types.specs.declared.interface.IfName.TheVariants as on
+use Rattle.swss_types.proofs.Tied.{tied}
 use Rattle.table_schema.specs.Names.{names_of}
 use Rattle.table_schema.specs.Plan.{Ports, IsPlan}
 use Rattle.table_schema.specs.declared.key.Key.{Key}
@@ -25,16 +26,15 @@ use Rattle.sai_types.specs.Alike.{IsIn}
 use Rattle.sai_types.specs.Named.{hop_cmp}
 use Rattle.switch_model.specs.Things.{base_of, hop_of, hops_of, lane_of, members_of}
 use Rattle.sai_types.specs.Names as name
-use Rattle.sai_types.specs.Names.{Name, Refers, name_of}
+use Rattle.sai_types.specs.Names.{ThingName, Refers, name_of}
 use Rattle.sai_types.proofs.Things.{both_mapped}
 use Rattle.sai_types.proofs.Rising.{hop_exact, hop_total, rising-insert}
 use Rattle.row_layout.specs.Rows as owner
 use Rattle.row_layout.specs.Rows.{Owner, from, goal_of, own_things}
 use Rattle.row_layout.specs.Shared.{shared_things, uses}
 use Rattle.row_layout.proofs.Members.{from_in, only, two}
-use Rattle.switch_model.proofs.Tied.{tied}
 use Rattle.switch_machine.specs.Flights.{IsOwnedBy}
-use Rattle.switch_machine.specs.Tables.{AreNamedApart, ComesBefore, Orders, IsNamed, Tables}
+use Rattle.switch_machine.specs.Tables.{AreNamedApart, ComesBefore, Orders, IsNamed, TableLaws}
 use Rattle.chip_layout.specs.Answered.{AreSame}
 use Rattle.row_layout.specs.Operations.{going, shared_going}
 use Rattle.switch_machine.proofs.Running.{one_owner, row_keys, shared_row}
@@ -109,9 +109,9 @@ one_use_by plan _ _ o p h g = elim h [ ]
 
 -- ---- names that are apart
 
-apart_from : {X : Type 0} (o : Option X) (f : X → List Thing) → ((x : X) → AreNamedApart (f x)) → AreNamedApart (from o f)
-apart_from None f each = tt
-apart_from (Some x) f each = each x
+things_apart_from : {X : Type 0} (o : Option X) (f : X → List Thing) → ((x : X) → AreNamedApart (f x)) → AreNamedApart (from o f)
+things_apart_from None f each = tt
+things_apart_from (Some x) f each = each x
 
 one_apart : (t : Thing) → AreNamedApart (t ∷ [])
 one_apart t = (λ y h e. elim h [ ], tt)
@@ -120,16 +120,16 @@ two_apart : (t u : Thing) → (name_of u ≡ name_of t → ⊥) → AreNamedApar
 two_apart t u other = (λ y h e. only (λ y. name_of y ≡ name_of t → ⊥) y u other h e, one_apart u)
 
 own_apart_by : (plan : Ports) (k : Key) (r : Row) → AreNamedApart (own_things plan k r)
-own_apart_by plan (key.Port p) (row.Port r) = apart_from (lane_of plan p) _ (λ lane. one_apart (thing.Port (record { lanes = r.lanes; speed = r.speed; mtu = r.mtu; up = r.up })))
+own_apart_by plan (key.Port p) (row.Port r) = things_apart_from (lane_of plan p) _ (λ lane. one_apart (thing.Port (record { lanes = r.lanes; speed = r.speed; mtu = r.mtu; up = r.up })))
 own_apart_by plan (key.Vlan v) row.Vlan = one_apart (thing.Vlan v)
-own_apart_by plan (key.Member v p) (row.Member t) = apart_from (lane_of plan p) _ (λ lane. one_apart (thing.VlanMember v lane t))
-own_apart_by plan (key.Intf n) row.Intf = apart_from (base_of plan n) _ (λ b. one_apart (thing.Rif b))
-own_apart_by plan (key.Neigh n ip) (row.Neigh mac) = apart_from (base_of plan n) _ (λ b. two_apart (thing.Neighbor (record { on = b; ip = ip }) mac) (thing.NextHop (record { on = b; ip = ip })) (λ e. cc))
-own_apart_by plan (key.Route prefix) (row.Route r) = apart_from (goal_of plan r) _ (λ g. one_apart (thing.Route prefix g))
+own_apart_by plan (key.Member v p) (row.Member t) = things_apart_from (lane_of plan p) _ (λ lane. one_apart (thing.VlanMember v lane t))
+own_apart_by plan (key.Intf n) row.Intf = things_apart_from (base_of plan n) _ (λ b. one_apart (thing.Rif b))
+own_apart_by plan (key.Neigh n ip) (row.Neigh mac) = things_apart_from (base_of plan n) _ (λ b. two_apart (thing.Neighbor (record { on = b; ip = ip }) mac) (thing.NextHop (record { on = b; ip = ip })) (λ e. cc))
+own_apart_by plan (key.Route prefix) (row.Route r) = things_apart_from (goal_of plan r) _ (λ g. one_apart (thing.Route prefix g))
 own_apart_by plan _ _ = tt
 
 going_apart_by : (plan : Ports) (k : Key) (r : Row) → AreNamedApart (going plan k r)
-going_apart_by plan (key.Neigh n ip) (row.Neigh mac) = apart_from (base_of plan n) _ (λ b. two_apart (thing.NextHop (record { on = b; ip = ip })) (thing.Neighbor (record { on = b; ip = ip }) mac) (λ e. cc))
+going_apart_by plan (key.Neigh n ip) (row.Neigh mac) = things_apart_from (base_of plan n) _ (λ b. two_apart (thing.NextHop (record { on = b; ip = ip })) (thing.Neighbor (record { on = b; ip = ip }) mac) (λ e. cc))
 going_apart_by plan (key.Port p) (row.Port r) = own_apart_by plan (key.Port p) (row.Port r)
 going_apart_by plan (key.Vlan v) row.Vlan = one_apart (thing.Vlan v)
 going_apart_by plan (key.Member v p) (row.Member t) = own_apart_by plan (key.Member v p) (row.Member t)
@@ -158,12 +158,12 @@ going_same_by plan k r = all_same (own_things plan k r)
 
 -- ---- the order in which a row's things go
 
-none_before : (o : Option Thing) (n : Name) (u : Thing) → ComesBefore n u (from o (λ t. t ∷ [])) → ⊥
+none_before : (o : Option Thing) (n : ThingName) (u : Thing) → ComesBefore n u (from o (λ t. t ∷ [])) → ⊥
 none_before None n u h = elim h [ ]
 none_before (Some t) n u (inl h) = elim h.1 [ ]
 none_before (Some t) n u (inr h) = elim h [ ]
 
-one_from : {X : Type 0} (o : Option X) (g : X → Thing) (n : Name) (u t : Thing) → ComesBefore n u (from o (λ x. g x ∷ [])) → ⊥
+one_from : {X : Type 0} (o : Option X) (g : X → Thing) (n : ThingName) (u t : Thing) → ComesBefore n u (from o (λ x. g x ∷ [])) → ⊥
 one_from None g n u t h = elim h [ ]
 one_from (Some x) g n u t (inl h) = elim h.1 [ ]
 one_from (Some x) g n u t (inr h) = elim h [ ]
@@ -189,10 +189,10 @@ going_by plan _ _ u t h g before = elim h [ ]
 
 -- ---- groups
 
-above : (x y : Hop) (xs : List Hop) → AllByRecursion (λ z. hop_cmp x z ≡ Less) xs → IsIn y xs → hop_cmp x y ≡ Less
-above x y [] a h = elim h [ ]
-above x y (z ∷ zs) a (inl e) = subst (λ w. hop_cmp x w ≡ Less) (sym e) a.0
-above x y (z ∷ zs) a (inr h) = above x y zs a.1 h
+hop_less_than_rest : (x y : Hop) (xs : List Hop) → AllByRecursion (λ z. hop_cmp x z ≡ Less) xs → IsIn y xs → hop_cmp x y ≡ Less
+hop_less_than_rest x y [] a h = elim h [ ]
+hop_less_than_rest x y (z ∷ zs) a (inl e) = subst (λ w. hop_cmp x w ≡ Less) (sym e) a.0
+hop_less_than_rest x y (z ∷ zs) a (inr h) = hop_less_than_rest x y zs a.1 h
 
 less_equal : Less ≡ Equal → ⊥
 less_equal h = cc
@@ -206,7 +206,7 @@ members_apart all (x ∷ xs) rising = (λ y h e. other y (member_of all xs y h) 
     other y (hop, h, is) e =
         let z : name.GroupMember all hop ≡ name.GroupMember all x = sym (ap name_of is) ∙ e in
         let same : hop ≡ x = cc in
-        less_equal (sym (subst (λ w. hop_cmp x w ≡ Less) same (above x hop xs rising.0 h)) ∙ tied (hop_cmp x x) ((eq_by_cmp_equiv hop_total).refl x))
+        less_equal (sym (subst (λ w. hop_cmp x w ≡ Less) same (hop_less_than_rest x hop xs rising.0 h)) ∙ tied (hop_cmp x x) ((eq_by_cmp_equiv hop_total).refl x))
 
 group_apart : (hops : List Hop) (y : Thing) → IsIn y (members_of hops hops) → name_of y ≡ name.Group hops → ⊥
 group_apart hops y h e =
@@ -275,10 +275,10 @@ shared_same_by (owner.Own ip) = all_same (thing.Own ip ∷ [])
 bridge_refers : (lane : ℕ) → Refers (thing.BridgePort lane) (name.BridgePort lane) → ⊥
 bridge_refers lane h = only (λ n. n ≡ name.BridgePort lane → ⊥) (name.BridgePort lane) (name.Port lane) (λ e. cc) h refl
 
-own_refers_none : (ip : Ip) (n : Name) → Refers (thing.Own ip) n → ⊥
+own_refers_none : (ip : Ip) (n : ThingName) → Refers (thing.Own ip) n → ⊥
 own_refers_none ip n h = elim h [ ]
 
-group_refers_none : (hops : List Hop) (n : Name) → Refers (thing.Group hops) n → ⊥
+group_refers_none : (hops : List Hop) (n : ThingName) → Refers (thing.Group hops) n → ⊥
 group_refers_none hops n h = elim h [ ]
 
 member_refers_member : (hops : List Hop) (x y : Hop) → Refers (thing.GroupMember hops x) (name.GroupMember hops y) → ⊥
@@ -301,23 +301,23 @@ shared_before_by (owner.Group hops) u t (inr h) (inr g) refers =
 -- ---- all of it
 
 module _ (plan : Ports) (is : IsPlan plan) where
-  abbrev T : Tables plan
+  abbrev T : TableLaws plan
   T = tabled plan is
 
-  row_named : (k : Key) (r : Row) (n : Name) (o : Owner) → IsNamed plan k r n → IsOwnedBy plan n o → (p : Key) × IsIn p (names_of k r) × (o ≡ owner.OfRow p)
+  row_named : (k : Key) (r : Row) (n : ThingName) (o : Owner) → IsNamed plan k r n → IsOwnedBy plan n o → (p : Key) × IsIn p (names_of k r) × (o ≡ owner.OfRow p)
   row_named k r n o named of = (named.by, named.named, one_owner plan n o (owner.OfRow named.by) of (T.names_own named.by n named.own))
 
-  own_before_by : (k : Key) (r : Row) (t : Thing) (n : Name) → Leads plan is k r t n → IsOwnedBy plan n (owner.OfRow k) → ComesBefore n t (own_things plan k r)
+  own_before_by : (k : Key) (r : Row) (t : Thing) (n : ThingName) → Leads plan is k r t n → IsOwnedBy plan n (owner.OfRow k) → ComesBefore n t (own_things plan k r)
   own_before_by k r t n (inl named) of = let x = row_named k r n (owner.OfRow k) named of in absurd (no_self_by k x.0 r x.1 (row_keys x.0 k (sym x.2)))
   own_before_by k r t n (inr (inl x)) of = x.1
   own_before_by k r t n (inr (inr x)) of = absurd (shared_row x.0 k (T.are_shared k r x.0 x.2) (one_owner plan n x.0 (owner.OfRow k) x.1 of))
 
-  shared_has_by : (k : Key) (r : Row) (t : Thing) (n : Name) (o : Owner) → Leads plan is k r t n → IsIn o (uses plan k r) → IsOwnedBy plan n o → (u : Thing) × IsIn u (shared_things o) × (name_of u ≡ n)
+  shared_has_by : (k : Key) (r : Row) (t : Thing) (n : ThingName) (o : Owner) → Leads plan is k r t n → IsIn o (uses plan k r) → IsOwnedBy plan n o → (u : Thing) × IsIn u (shared_things o) × (name_of u ≡ n)
   shared_has_by k r t n o (inl named) h of = let x = row_named k r n o named of in absurd (shared_row o x.0 (T.are_shared k r o h) x.2)
   shared_has_by k r t n o (inr (inl x)) h of = absurd (shared_row o k (T.are_shared k r o h) (one_owner plan n o (owner.OfRow k) of x.0))
   shared_has_by k r t n o (inr (inr x)) h of = subst (λ p. (u : Thing) × IsIn u (shared_things p) × (name_of u ≡ n)) (one_owner plan n x.0 o x.1 of) x.3
 
-  shared_in_by : (k : Key) (r : Row) (o : Owner) (u : Thing) (n : Name) → IsNamed plan k r n ⊎ (IsOwnedBy plan n o × ComesBefore n u (shared_things o)) → IsIn o (uses plan k r) → IsOwnedBy plan n o → ComesBefore n u (shared_things o)
+  shared_in_by : (k : Key) (r : Row) (o : Owner) (u : Thing) (n : ThingName) → IsNamed plan k r n ⊎ (IsOwnedBy plan n o × ComesBefore n u (shared_things o)) → IsIn o (uses plan k r) → IsOwnedBy plan n o → ComesBefore n u (shared_things o)
   shared_in_by k r o u n (inl named) h of = let x = row_named k r n o named of in absurd (shared_row o x.0 (T.are_shared k r o h) x.2)
   shared_in_by k r o u n (inr x) h of = x.1
 

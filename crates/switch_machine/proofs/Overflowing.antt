@@ -15,18 +15,18 @@ use Rattle.switch_model.specs.Marks.{Overflows}
 use Rattle.switch_model.specs.Things.{things_of}
 use Rattle.chip_layout.specs.Counted.{AreAll, AreDistinct}
 use Rattle.chip_layout.specs.Layout.{IsLaidOut, listed}
-use Rattle.sai_types.specs.Names.{Name, name_kind, name_of}
+use Rattle.sai_types.specs.Names.{ThingName, name_kind, name_of}
 use Rattle.chip_layout.proofs.Counting.{counted, no-longer}
 use Rattle.row_layout.specs.Rows.{Owner, own_things}
 use Rattle.row_layout.specs.Shared.{IsOf, uses}
 use Rattle.row_layout.proofs.Split.{things-split}
 use Rattle.row_layout.specs.Operations.{Change, Make, Set, Take, uses_of}
 use Rattle.switch_machine.specs.Changes.{after}
-use Rattle.switch_machine.specs.Flights.{CanMake, CanSet, Flight, Goes, HasName, IsConcern, IsFinal, Machine, Runs, StandsIn, own_of}
+use Rattle.switch_machine.specs.Flights.{CanMake, CanSet, MachineFlight, Goes, HasName, IsConcern, IsFinal, Machine, Runs, StandsIn, own_of}
 use Rattle.switch_machine.specs.Operations.{MayBegin}
 use Rattle.switch_machine.specs.Places.{makes}
 use Rattle.switch_machine.specs.Consistent.{IsConsistent}
-use Rattle.switch_machine.specs.Tables.{Tables}
+use Rattle.switch_machine.specs.Tables.{TableLaws}
 use Rattle.switch_machine.proofs.Beginning.{starts}
 use Rattle.switch_machine.proofs.Calling.{sort_of}
 use Rattle.switch_machine.proofs.Resting.{back_by, into_by}
@@ -39,14 +39,14 @@ after_all [] V = V
 after_all (c ∷ cs) V = after_all cs (λ u. after c (V u) u)
 
 -- the names of a kind that changes make
-record MadeNames (plan : Ports) (f : Flight) (kind : Kind) (V : Thing → Type 0) (due : List Change) : Type 0 where
-  names : List Name
+record MadeNames (plan : Ports) (f : MachineFlight) (kind : Kind) (V : Thing → Type 0) (due : List Change) : Type 0 where
+  names : List ThingName
   distinct : AreDistinct names
   count : length names ≡ makes kind due
-  fresh : (n : Name) → IsIn n names → HasName V n → ⊥
-  final : (n : Name) → IsIn n names → (t : Thing) × IsFinal plan f t × (name_of t ≡ n)
-  kinds : (n : Name) → IsIn n names → level (name_kind n) ≡ level kind
-  all : (n : Name) → level (name_kind n) ≡ level kind → HasName (after_all due V) n → HasName V n ⊎ IsIn n names
+  fresh : (n : ThingName) → IsIn n names → HasName V n → ⊥
+  final : (n : ThingName) → IsIn n names → (t : Thing) × IsFinal plan f t × (name_of t ≡ n)
+  kinds : (n : ThingName) → IsIn n names → level (name_kind n) ≡ level kind
+  all : (n : ThingName) → level (name_kind n) ≡ level kind → HasName (after_all due V) n → HasName V n ⊎ IsIn n names
 
 some_none : (r : Row) → Some r ≡ None → ⊥
 some_none r h = cc
@@ -54,7 +54,7 @@ some_none r h = cc
 none_owner : (o : Owner) → None ≡ Some o → ⊥
 none_owner o h = cc
 
-module _ (plan : Ports) (f : Flight) (r : Row) (new : f.new ≡ Some r) (none : f.retires ≡ None) (kind : Kind) where
+module _ (plan : Ports) (f : MachineFlight) (r : Row) (new : f.new ≡ Some r) (none : f.retires ≡ None) (kind : Kind) where
   make_step : (t : Thing) (cs : List Change) (V : Thing → Type 0) (b : Bool) → (level (name_kind (name_of t)) == level kind) ≡ b → CanMake plan f V t → MadeNames plan f kind (λ u. V u ⊎ (u ≡ t)) cs → MadeNames plan f kind V (Make t ∷ cs)
   make_step t cs V true e can rest = record {
     names = name_of t ∷ rest.names;
@@ -72,19 +72,19 @@ module _ (plan : Ports) (f : Flight) (r : Row) (new : f.new ≡ Some r) (none : 
           let more = rest.count in
           omega (arith, one, more)
 
-      fresh : (n : Name) → IsIn n (name_of t ∷ rest.names) → HasName V n → ⊥
+      fresh : (n : ThingName) → IsIn n (name_of t ∷ rest.names) → HasName V n → ⊥
       fresh n (inl same) h = can.fresh h.0 h.1 (h.2 ∙ same)
       fresh n (inr in_it) h = rest.fresh n in_it (h.0, inl h.1, h.2)
 
-      final : (n : Name) → IsIn n (name_of t ∷ rest.names) → (x : Thing) × IsFinal plan f x × (name_of x ≡ n)
+      final : (n : ThingName) → IsIn n (name_of t ∷ rest.names) → (x : Thing) × IsFinal plan f x × (name_of x ≡ n)
       final n (inl same) = (t, can.final, sym same)
       final n (inr in_it) = rest.final n in_it
 
-      kinds : (n : Name) → IsIn n (name_of t ∷ rest.names) → level (name_kind n) ≡ level kind
+      kinds : (n : ThingName) → IsIn n (name_of t ∷ rest.names) → level (name_kind n) ≡ level kind
       kinds n (inl same) = ap (λ z. level (name_kind z)) same ∙ eqb-true (level (name_kind (name_of t))) (level kind) e
       kinds n (inr in_it) = rest.kinds n in_it
 
-      widen : (n : Name) → HasName (λ u. V u ⊎ (u ≡ t)) n ⊎ IsIn n rest.names → HasName V n ⊎ IsIn n (name_of t ∷ rest.names)
+      widen : (n : ThingName) → HasName (λ u. V u ⊎ (u ≡ t)) n ⊎ IsIn n rest.names → HasName V n ⊎ IsIn n (name_of t ∷ rest.names)
       widen n (inr h) = inr (inr h)
       widen n (inl (u, inl v, is)) = inl (u, v, is)
       widen n (inl (u, inr same, is)) = inr (inl (sym is ∙ ap name_of same))
@@ -104,12 +104,12 @@ module _ (plan : Ports) (f : Flight) (r : Row) (new : f.new ≡ Some r) (none : 
           let more = rest.count in
           omega (arith, one, more)
 
-      narrow : (n : Name) → level (name_kind n) ≡ level kind → HasName (λ u. V u ⊎ (u ≡ t)) n ⊎ IsIn n rest.names → HasName V n ⊎ IsIn n rest.names
+      narrow : (n : ThingName) → level (name_kind n) ≡ level kind → HasName (λ u. V u ⊎ (u ≡ t)) n ⊎ IsIn n rest.names → HasName V n ⊎ IsIn n rest.names
       narrow n at (inr h) = inr h
       narrow n at (inl (u, inl v, is)) = inl (u, v, is)
       narrow n at (inl (u, inr same, is)) = absurd (false≢true (sym e ∙ eq-eqb (level (name_kind (name_of t))) (level kind) (ap (λ z. level (name_kind z)) (sym (ap name_of same) ∙ is) ∙ at)))
 
-  set_name : (t : Thing) (V : Thing → Type 0) (n : Name) → IsSplit n (name_of t) → HasName V n → HasName (λ u. (V u × (name_of u ≡ name_of t → ⊥)) ⊎ (u ≡ t)) n
+  set_name : (t : Thing) (V : Thing → Type 0) (n : ThingName) → IsSplit n (name_of t) → HasName V n → HasName (λ u. (V u × (name_of u ≡ name_of t → ⊥)) ⊎ (u ≡ t)) n
   set_name t V n (inl same) h = (t, inr refl, sym same)
   set_name t V n (inr other) h = (h.0, inl (h.1, λ e. other (sym h.2 ∙ e)), h.2)
 
@@ -124,12 +124,12 @@ module _ (plan : Ports) (f : Flight) (r : Row) (new : f.new ≡ Some r) (none : 
     all = λ n at h. back n (rest.all n at h);
   }
     where
-      back : (n : Name) → HasName (λ u. (V u × (name_of u ≡ name_of t → ⊥)) ⊎ (u ≡ t)) n ⊎ IsIn n rest.names → HasName V n ⊎ IsIn n rest.names
+      back : (n : ThingName) → HasName (λ u. (V u × (name_of u ≡ name_of t → ⊥)) ⊎ (u ≡ t)) n ⊎ IsIn n rest.names → HasName V n ⊎ IsIn n rest.names
       back n (inr h) = inr h
       back n (inl (u, inl v, is)) = inl (u, v.0, is)
       back n (inl (u, inr same, is)) = inl (can.old, can.stands, sym (settable_name can.old t can.settable) ∙ sym (ap name_of same) ∙ is)
 
-  no_take : {X : Type 0} (n : Name) → Goes plan f n → X
+  no_take : {X : Type 0} (n : ThingName) → Goes plan f n → X
   no_take n (inl h) = absurd (some_none r (sym new ∙ h.1))
   no_take n (inr h) = absurd (none_owner h.0 (sym none ∙ h.2))
 
@@ -145,16 +145,16 @@ module _ (plan : Ports) (f : Flight) (r : Row) (new : f.new ≡ Some r) (none : 
 
 -- ---- lists of names
 
-append_left : (xs ys : List Name) (n : Name) → IsIn n xs → IsIn n (xs ++ ys)
+append_left : (xs ys : List ThingName) (n : ThingName) → IsIn n xs → IsIn n (xs ++ ys)
 append_left (x ∷ xs) ys n (inl e) = inl e
 append_left (x ∷ xs) ys n (inr h) = inr (append_left xs ys n h)
 append_left [] ys n h = elim h [ ]
 
-append_right : (xs ys : List Name) (n : Name) → IsIn n ys → IsIn n (xs ++ ys)
+append_right : (xs ys : List ThingName) (n : ThingName) → IsIn n ys → IsIn n (xs ++ ys)
 append_right [] ys n h = h
 append_right (x ∷ xs) ys n h = inr (append_right xs ys n h)
 
-distinct_append : (xs ys : List Name) → AreDistinct xs → AreDistinct ys → ((n : Name) → IsIn n xs → IsIn n ys → ⊥) → AreDistinct (xs ++ ys)
+distinct_append : (xs ys : List ThingName) → AreDistinct xs → AreDistinct ys → ((n : ThingName) → IsIn n xs → IsIn n ys → ⊥) → AreDistinct (xs ++ ys)
 distinct_append [] ys dx dy apart = dy
 distinct_append (x ∷ xs) ys dx dy apart = (λ h. by (in_both x xs ys h), distinct_append xs ys dx.1 dy (λ n h g. apart n (inr h) g))
   where
@@ -162,23 +162,23 @@ distinct_append (x ∷ xs) ys dx dy apart = (λ h. by (in_both x xs ys h), disti
     by (inl h) = dx.0 h
     by (inr h) = apart x (inl refl) h
 
-length_append : (xs ys : List Name) → length (xs ++ ys) ≡ length xs + length ys
+length_append : (xs ys : List ThingName) → length (xs ++ ys) ≡ length xs + length ys
 length_append [] ys = omega arith
 length_append (x ∷ xs) ys = let rest = length_append xs ys in omega (arith, rest)
 
 -- the two words for names of which no two are equal
-counted_distinct : (ns : List Name) → marks.AreDistinct ns → AreDistinct ns
+counted_distinct : (ns : List ThingName) → marks.AreDistinct ns → AreDistinct ns
 counted_distinct [] d = tt
 counted_distinct (n ∷ ns) d = (d.0, counted_distinct ns d.1)
 
-marked_distinct : (ns : List Name) → AreDistinct ns → marks.AreDistinct ns
+marked_distinct : (ns : List ThingName) → AreDistinct ns → marks.AreDistinct ns
 marked_distinct [] d = tt
 marked_distinct (n ∷ ns) d = (d.0, marked_distinct ns d.1)
 
 -- ---- the kinds for which there is no room
 
-module _ (plan : Ports) (is : IsPlan plan) (capacities : List ℕ) (m : Machine) (sound : IsConsistent plan m) (quiet : (w : ℕ) (f : Flight) → m.board.flights w ≡ Some f → ⊥) (made : ℕ) (objects : Objects) (whole : IsWhole made objects) (laid : IsLaidOut (listed m.stands) objects) (w : ℕ) (f : Flight) (due : List Change) (begins : MayBegin plan m w f due) (r : Row) (new : f.new ≡ Some r) (kind : Kind) where
-  T : Tables plan
+module _ (plan : Ports) (is : IsPlan plan) (capacities : List ℕ) (m : Machine) (sound : IsConsistent plan m) (quiet : (w : ℕ) (f : MachineFlight) → m.board.flights w ≡ Some f → ⊥) (made : ℕ) (objects : Objects) (whole : IsWhole made objects) (laid : IsLaidOut (listed m.stands) objects) (w : ℕ) (f : MachineFlight) (due : List Change) (begins : MayBegin plan m w f due) (r : Row) (new : f.new ≡ Some r) (kind : Kind) where
+  T : TableLaws plan
   T = tabled plan is
 
   runs : Runs plan f (StandsIn m) due
@@ -187,7 +187,7 @@ module _ (plan : Ports) (is : IsPlan plan) (capacities : List ℕ) (m : Machine)
   makes_names : MadeNames plan f kind (StandsIn m) due
   makes_names = made_names plan f r new begins.none kind due (StandsIn m) runs
 
-  standing : (names : List Name) × AreAll (listed m.stands) kind names × (length names ≡ used objects kind)
+  standing : (names : List ThingName) × AreAll (listed m.stands) kind names × (length names ≡ used objects kind)
   standing = counted (listed m.stands) objects laid kind made whole
 
   abbrev IsOne : Thing → Type 0
@@ -213,7 +213,7 @@ module _ (plan : Ports) (is : IsPlan plan) (capacities : List ℕ) (m : Machine)
   pub overflows : capacity_of capacities kind < used objects kind + makes kind due → Overflows plan capacities m.board.applied f.key r kind
   overflows many = with_names standing makes_names
     where
-      with_names : ((names : List Name) × AreAll (listed m.stands) kind names × (length names ≡ used objects kind)) → MadeNames plan f kind (StandsIn m) due → Overflows plan capacities m.board.applied f.key r kind
+      with_names : ((names : List ThingName) × AreAll (listed m.stands) kind names × (length names ≡ used objects kind)) → MadeNames plan f kind (StandsIn m) due → Overflows plan capacities m.board.applied f.key r kind
       with_names (names, all, count) x = record {
         keys = names ++ x.names;
         distinct = marked_distinct (names ++ x.names) (distinct_append names x.names all.distinct x.distinct (λ n h g. x.fresh n g (stood n h)));
@@ -221,14 +221,14 @@ module _ (plan : Ports) (is : IsPlan plan) (capacities : List ℕ) (m : Machine)
         many = enough;
       }
         where
-          stood : (n : Name) → IsIn n names → HasName (StandsIn m) n
+          stood : (n : ThingName) → IsIn n names → HasName (StandsIn m) n
           stood n h = let y = (all.sound n h).1 in let z = (all.sound n h).2 in (z.0, (y, z.1), z.2)
 
-          source_by : (n : Name) → IsIn n names ⊎ IsIn n x.names → (t : Thing) × IsOne t × (name_of t ≡ n)
+          source_by : (n : ThingName) → IsIn n names ⊎ IsIn n x.names → (t : Thing) × IsOne t × (name_of t ≡ n)
           source_by n (inl h) = let y = stood n h in (y.0, inl (stands_of y.0 y.1), y.2)
           source_by n (inr h) = let y = x.final n h in (y.0, inr (final_of y.0 y.1), y.2)
 
-          level_by : (n : Name) → IsIn n names ⊎ IsIn n x.names → level (name_kind n) ≡ level kind
+          level_by : (n : ThingName) → IsIn n names ⊎ IsIn n x.names → level (name_kind n) ≡ level kind
           level_by n (inl h) = (all.sound n h).0
           level_by n (inr h) = x.kinds n h
 
@@ -241,7 +241,7 @@ module _ (plan : Ports) (is : IsPlan plan) (capacities : List ℕ) (m : Machine)
   pub no-overflow : used objects kind + makes kind due ≤ capacity_of capacities kind → Overflows plan capacities m.board.applied f.key r kind → ⊥
   no-overflow fits x = by standing makes_names
     where
-      by : ((names : List Name) × AreAll (listed m.stands) kind names × (length names ≡ used objects kind)) → MadeNames plan f kind (StandsIn m) due → ⊥
+      by : ((names : List ThingName) × AreAll (listed m.stands) kind names × (length names ≡ used objects kind)) → MadeNames plan f kind (StandsIn m) due → ⊥
       by (names, all, count) y =
           let one = no-longer x.keys (names ++ y.names) (counted_distinct x.keys x.distinct) within in
           let three = length_append names y.names in
@@ -249,7 +249,7 @@ module _ (plan : Ports) (is : IsPlan plan) (capacities : List ℕ) (m : Machine)
           let five = x.many in
           absurd (omega (arith, one, three, four, five, count, fits))
         where
-          found : (n : Name) → level (name_kind n) ≡ level kind → HasName (StandsIn m) n ⊎ IsIn n y.names → IsIn n (names ++ y.names)
+          found : (n : ThingName) → level (name_kind n) ≡ level kind → HasName (StandsIn m) n ⊎ IsIn n y.names → IsIn n (names ++ y.names)
           found n at (inl h) = append_left names y.names n (all.all n (at, h.1.0, (h.0, h.1.1, h.2)))
           found n at (inr h) = append_right names y.names n h
 
@@ -259,5 +259,5 @@ module _ (plan : Ports) (is : IsPlan plan) (capacities : List ℕ) (m : Machine)
               let final = of_final t h in
               found (name_of t) at (y.all (name_of t) at (t, runs_end plan f r new begins.none kind due (StandsIn m) runs t (final-concern plan (tabled plan is) f begins.fit t final) final, refl))
 
-          within : (n : Name) → IsIn n x.keys → IsIn n (names ++ y.names)
+          within : (n : ThingName) → IsIn n x.keys → IsIn n (names ++ y.names)
           within n h = let t = x.things n h in subst (λ z. IsIn z (names ++ y.names)) t.1 (of_thing t.0 t.2 t.3)

@@ -27,7 +27,7 @@ use Rattle.sai_types.specs.declared.body.Call.{Call}
 use Rattle.row_layout.specs.Rows.{own_things}
 use Rattle.row_layout.specs.Operations.{Change, Make, Set, Take}
 use Rattle.switch_machine.specs.Events.{SwitchState, IsDueCall, IsSafe, IsQuiet}
-use Rattle.switch_machine.specs.Flights.{Can, Flight, IsRow, Machine, Runs, StandsIn}
+use Rattle.switch_machine.specs.Flights.{Can, MachineFlight, IsRow, Machine, Runs, StandsIn}
 use Rattle.switch_machine.specs.Places.{makes, places_kept, sum_below}
 use Rattle.switch_machine.specs.Reasons.{IsInTheWay, IsReason, LacksRoom}
 use Rattle.switch_machine.specs.Changes.{IsSamePort}
@@ -78,7 +78,7 @@ module _ (plan : Ports) (is : IsPlan plan) (workers : ℕ) (capacities : List �
   route-row prefix g h = row-of_route plan s.machine kept.sound prefix g h
 
   -- what is due has a call
-  pub has-call : (w : ℕ) (f : Flight) (c : Change) (cs : List Change) → w < workers → s.machine.board.flights w ≡ Some f → s.machine.due w ≡ c ∷ cs → (call : Call Rid) × IsDueCall workers call s
+  pub has-call : (w : ℕ) (f : MachineFlight) (c : Change) (cs : List Change) → w < workers → s.machine.board.flights w ≡ Some f → s.machine.due w ≡ c ∷ cs → (call : Call Rid) × IsDueCall workers call s
   has-call w f c cs below flying due = by c due (subst (Runs plan f (StandsIn s.machine)) due (kept.sound.runs w f flying)).0
     where
       by : (c : Change) → s.machine.due w ≡ c ∷ cs → Can plan f (StandsIn s.machine) c → (call : Call Rid) × IsDueCall workers call s
@@ -87,13 +87,13 @@ module _ (plan : Ports) (is : IsPlan plan) (workers : ℕ) (capacities : List �
       by (Take n) due can = let x = take-has_call plan is (tabled plan is) s.machine kept.sound w f flying s.made s.objects kept.whole kept.laid n can in (x.0, record { worker = w; below = below; flight = f; change = Take n; rest = cs; flying = flying; due = due; of = x.1 })
 
   module _ (quiet : IsQuiet s) where
-    no_flight : (w : ℕ) (o : Option Flight) → s.machine.board.flights w ≡ o → s.machine.board.flights w ≡ None
-    no_flight w None e = e
-    no_flight w (Some f) e = absurd (quiet w f e)
+    quiet_worker : (w : ℕ) (o : Option MachineFlight) → s.machine.board.flights w ≡ o → s.machine.board.flights w ≡ None
+    quiet_worker w None e = e
+    quiet_worker w (Some f) e = absurd (quiet w f e)
 
     -- without operations no places are kept
     pub none-kept : (kind : Kind) → places_kept workers s.machine kind ≡ 0
-    none-kept kind = sum_none workers (λ w. makes kind (s.machine.reserved w)) (λ w. ap (makes kind) (kept.covered.idle w (no_flight w (s.machine.board.flights w) refl)))
+    none-kept kind = sum_none workers (λ w. makes kind (s.machine.reserved w)) (λ w. ap (makes kind) (kept.covered.idle w (quiet_worker w (s.machine.board.flights w) refl)))
 
     pub has-names : (k : Key) (kind : Kind) (x : LacksRoom plan workers capacities s k kind) → have_rows s.machine.board.applied (names_of k x.row) ≡ true
     has-names k kind x = all_rows s.machine.board.applied (names_of k x.row) (λ p h. ap is_some (x.begins.named p x.row x.new (subst (λ q. IsIn p (names_of q x.row)) (sym x.is) h)).applied)

@@ -8,12 +8,12 @@ use Rattle.sai_types.specs.Made.{IsWhole}
 use Rattle.sai_types.specs.Objects.{Objects, used}
 use Rattle.chip_layout.specs.Counted.{AreAll, IsOfKind}
 use Rattle.chip_layout.specs.Layout.{IsLaidOut, listed}
-use Rattle.sai_types.specs.Names.{Name}
+use Rattle.sai_types.specs.Names.{ThingName}
 use Rattle.chip_layout.proofs.Counting.{at-most-used, counted}
 use Rattle.switch_machine.specs.Events.{SwitchState, IsSafe}
 use Rattle.switch_machine.specs.Flights.{Machine, StandsIn}
 use Rattle.switch_machine.specs.Consistent.{IsConsistent}
-use Rattle.switch_machine.specs.Tables.{Tables}
+use Rattle.switch_machine.specs.Tables.{TableLaws}
 use Rattle.switch_machine.proofs.Moving.{fit_of}
 use Rattle.switch_machine.proofs.Running.{Agree, runs-same}
 use Rattle.switch_machine.proofs.Tabled.{tabled}
@@ -26,7 +26,7 @@ abbrev pub on_chip : SwitchState → List (Rid × Thing) → ℕ → Objects →
 on_chip s stands made objects = record { machine = with_stands s.machine stands; written = s.written; to_sync = s.to_sync; made = made; objects = objects }
 
 module _ (plan : Ports) (is : IsPlan plan) (m : Machine) (sound : IsConsistent plan m) (stands : List (Rid × Thing)) (same : Agree (StandsIn m) (StandsIn (with_stands m stands)) (λ u. Unit {0})) where
-  T : Tables plan
+  T : TableLaws plan
   T = tabled plan is
 
   -- soundness is of things alone
@@ -49,12 +49,12 @@ module _ (plan : Ports) (is : IsPlan plan) (workers : ℕ) (capacities : List �
   fewer : (kind : Kind) → used objects kind ≤ used s.objects kind
   fewer kind = by (counted (listed stands) objects laid kind made whole)
     where
-      by : ((names : List Name) × AreAll (listed stands) kind names × (length names ≡ used objects kind)) → used objects kind ≤ used s.objects kind
+      by : ((names : List ThingName) × AreAll (listed stands) kind names × (length names ≡ used objects kind)) → used objects kind ≤ used s.objects kind
       by (names, all, count) =
           let most = at-most-used (listed s.machine.stands) s.objects kept.laid kind s.made kept.whole names all.distinct (λ n h. back n (all.sound n h)) in
           omega (arith, most, count)
         where
-          back : (n : Name) → IsOfKind (listed stands) kind n → IsOfKind (listed s.machine.stands) kind n
+          back : (n : ThingName) → IsOfKind (listed stands) kind n → IsOfKind (listed s.machine.stands) kind n
           back n x = let y = same.back x.2.0 tt (x.1, x.2.1) in (x.0, y.0, (x.2.0, y.1, x.2.2))
 
   pub kept-renamed : IsSafe plan workers capacities (on_chip s stands made objects)

@@ -19,15 +19,15 @@ use Rattle.row_layout.specs.Rows.{Owner, OfRow, from, own_things}
 use Rattle.row_layout.specs.Shared.{IsOf, shared_things, uses}
 use Rattle.row_layout.proofs.Split.{things-split}
 use Rattle.row_layout.specs.Operations.{uses_of}
-use Rattle.switch_machine.specs.Flights.{Flight, IsResting, IsShared, IsUser, Machine, StandsIn, own_of}
+use Rattle.switch_machine.specs.Flights.{MachineFlight, IsResting, IsShared, IsUser, Machine, StandsIn, own_of}
 use Rattle.switch_machine.specs.Consistent.{IsUsedOrRetired, IsConsistent}
-use Rattle.switch_machine.specs.Tables.{Tables}
+use Rattle.switch_machine.specs.Tables.{TableLaws}
 use Rattle.switch_machine.proofs.Splits.{own_row_in, use_row_in}
 use Rattle.switch_machine.proofs.Tabled.{in_members, member_hop}
 use Rattle.switch_machine.proofs.Ordered.{group_rising}
 use Rattle.switch_machine.proofs.Calling.{sort_of}
 
-module _ (plan : Ports) (tables : Tables plan) (m : Machine) (sound : IsConsistent plan m) (quiet : (w : ℕ) (f : Flight) → m.board.flights w ≡ Some f → ⊥) where
+module _ (plan : Ports) (tables : TableLaws plan) (m : Machine) (sound : IsConsistent plan m) (quiet : (w : ℕ) (f : MachineFlight) → m.board.flights w ≡ Some f → ⊥) where
   pub rests : (k : Key) → IsResting m.board k
   rests k w f at is = quiet w f at
 

@@ -26,7 +26,7 @@ use Rattle.sai_types.specs.Names.{name_kind, name_of}
 use Rattle.chip_layout.proofs.Bodies.{kind-body}
 use Rattle.row_layout.specs.Operations.{Change, Make, Set, Take}
 use Rattle.switch_machine.specs.Changes.{IsCall}
-use Rattle.switch_machine.specs.Flights.{Flight, Machine, put}
+use Rattle.switch_machine.specs.Flights.{MachineFlight, Machine, put}
 use Rattle.switch_machine.specs.Steps.{finished, left, moved, parted, started}
 use Rattle.row_layout.specs.Rows.{Owner}
 use Rattle.switch_machine.specs.Places.{AreCovered, HasPlaces, HasRoomFor, makes, missing, sum_below}
@@ -34,7 +34,7 @@ use Rattle.switch_machine.proofs.Splits.{IsSplit, nat_split, put_at, put_off}
 
 -- ---- sums over workers
 
-sum_same : (n : ℕ) (f g : ℕ → ℕ) → ((v : ℕ) → v < n → f v ≡ g v) → sum_below n f ≡ sum_below n g
+pub sum_same : (n : ℕ) (f g : ℕ → ℕ) → ((v : ℕ) → v < n → f v ≡ g v) → sum_below n f ≡ sum_below n g
 sum_same zero f g same = refl
 sum_same (suc n) f g same =
     let rest = sum_same n f g (λ v h. same v (omega (arith, h))) in
@@ -103,7 +103,7 @@ covered-moved m w c cs stands due covered = record { due = λ v kind. by v kind 
         let now = ap (makes kind) (put_at w v cs m.due same) in
         omega (arith, was, that, less, now)
 
-pub covered-started : (m : Machine) (w : ℕ) (f : Flight) (due : List Change) → AreCovered m → AreCovered (started m w f due)
+pub covered-started : (m : Machine) (w : ℕ) (f : MachineFlight) (due : List Change) → AreCovered m → AreCovered (started m w f due)
 covered-started m w f due covered = record { due = λ v kind. by v kind (nat_split v w); idle = λ v none. idle v none (nat_split v w) }
   where
     by : (v : ℕ) (kind : Kind) → IsSplit v w → makes kind (put w due m.due v) ≤ makes kind (put w due m.reserved v)
@@ -121,7 +121,7 @@ covered-started m w f due covered = record { due = λ v kind. by v kind (nat_spl
     idle v none (inl same) = let two = sym (put_at w v (Some f) m.board.flights same) ∙ none in absurd cc
     idle v none (inr other) = put_off w v due m.reserved other ∙ covered.idle v (sym (put_off w v (Some f) m.board.flights other) ∙ none)
 
-pub covered-left : (m : Machine) (w : ℕ) (f : Flight) (retires : Option Owner) (due : List Change) → ((kind : Kind) → makes kind due ≡ 0) → AreCovered m → AreCovered (left m w f retires due)
+pub covered-left : (m : Machine) (w : ℕ) (f : MachineFlight) (retires : Option Owner) (due : List Change) → ((kind : Kind) → makes kind due ≡ 0) → AreCovered m → AreCovered (left m w f retires due)
 covered-left m w f retires due none covered = record { due = λ v kind. by v kind (nat_split v w); idle = λ v absent. idle v absent (nat_split v w) }
   where
     by : (v : ℕ) (kind : Kind) → IsSplit v w → makes kind (put w due m.due v) ≤ makes kind (m.reserved v)
@@ -135,7 +135,7 @@ covered-left m w f retires due none covered = record { due = λ v kind. by v kin
     idle v absent (inl same) = let two = sym (put_at w v (Some (parted f retires)) m.board.flights same) ∙ absent in absurd cc
     idle v absent (inr other) = covered.idle v (sym (put_off w v (Some (parted f retires)) m.board.flights other) ∙ absent)
 
-pub covered-ended : (m : Machine) (w : ℕ) (f : Flight) → m.due w ≡ [] → AreCovered m → AreCovered (finished m w f)
+pub covered-ended : (m : Machine) (w : ℕ) (f : MachineFlight) → m.due w ≡ [] → AreCovered m → AreCovered (finished m w f)
 covered-ended m w f done covered = record { due = λ v kind. by v kind (nat_split v w); idle = λ v none. idle v none (nat_split v w) }
   where
     by : (v : ℕ) (kind : Kind) → IsSplit v w → makes kind (m.due v) ≤ makes kind (put w [] m.reserved v)

@@ -6,25 +6,25 @@ use Rattle.table_schema.specs.declared.row.Row.{Row}
 use Rattle.sai_types.specs.declared.thing.Thing.{Thing}
 use Rattle.sai_types.specs.declared.thing.Thing.TheVariants as thing
 use Rattle.sai_types.specs.Alike.{IsIn}
-use Rattle.sai_types.specs.Names.{Name, name_of}
+use Rattle.sai_types.specs.Names.{ThingName, name_of}
 use Rattle.row_layout.specs.Rows.{Owner, OfRow, own_things}
 use Rattle.row_layout.specs.Shared.{shared_things}
 use Rattle.row_layout.specs.Operations.{Change, Make, Set, Take, uses_of}
 use Rattle.switch_machine.specs.Changes.{IsSettable, Resembles, after, changed_name}
-use Rattle.switch_machine.specs.Flights.{Can, Concerns, Fits, Flight, Goes, IsConcern, IsFinal, IsOwnedBy, IsShared, HasChangeOf, Runs}
-use Rattle.switch_machine.specs.Tables.{Tables}
+use Rattle.switch_machine.specs.Flights.{Can, Concerns, Fits, MachineFlight, Goes, IsConcern, IsFinal, IsOwnedBy, IsShared, HasChangeOf, Runs}
+use Rattle.switch_machine.specs.Tables.{TableLaws}
 use Rattle.switch_machine.proofs.Splits.{own_row_in, use_row_in}
 
 pub some_owner : (o p : Owner) → Some o ≡ Some p → o ≡ p
 some_owner o p h = cc
 
-pub one_owner : (plan : Ports) (n : Name) (o p : Owner) → IsOwnedBy plan n o → IsOwnedBy plan n p → o ≡ p
+pub one_owner : (plan : Ports) (n : ThingName) (o p : Owner) → IsOwnedBy plan n o → IsOwnedBy plan n p → o ≡ p
 one_owner plan n o p x y = some_owner o p (sym x ∙ y)
 
-pub no_flight : {X : Type 0} (f : Flight) → None ≡ Some f → X
+pub no_flight : {X : Type 0} (f : MachineFlight) → None ≡ Some f → X
 no_flight f h = absurd cc
 
-pub one_flight : (f g : Flight) → Some f ≡ Some g → f ≡ g
+pub one_flight : (f g : MachineFlight) → Some f ≡ Some g → f ≡ g
 one_flight f g h = cc
 
 pub shared_row : (o : Owner) (k : Key) → IsShared o → o ≡ OfRow k → ⊥
@@ -75,7 +75,7 @@ pub record Agree (V W : Thing → Type 0) (P : Thing → Type 0) : Type 0 where
   pub into : (u : Thing) → P u → V u → W u
   pub back : (u : Thing) → P u → W u → V u
 
-module _ (plan : Ports) (tables : Tables plan) (f : Flight) (fit : (r : Row) → f.new ≡ Some r → Fits plan f.key r) where
+module _ (plan : Ports) (tables : TableLaws plan) (f : MachineFlight) (fit : (r : Row) → f.new ≡ Some r → Fits plan f.key r) where
   pub final-concern : (u : Thing) → IsFinal plan f u → IsConcern plan f (name_of u)
   final-concern u (inl h) =
       let r = own_row_in plan f.key f.new u h in
@@ -102,7 +102,7 @@ module _ (plan : Ports) (tables : Tables plan) (f : Flight) (fit : (r : Row) →
   abbrev IsMine : Thing → Type 0
   IsMine u = IsConcern plan f (name_of u)
 
-  concern_by : (m n : Name) → m ≡ n → IsConcern plan f n → IsConcern plan f m
+  concern_by : (m n : ThingName) → m ≡ n → IsConcern plan f n → IsConcern plan f m
   concern_by m n e h = subst (IsConcern plan f) (sym e) h
 
   can_stay : (V W : Thing → Type 0) (c : Change) → Agree V W IsMine → Can plan f V c → Can plan f W c
@@ -129,7 +129,7 @@ module _ (plan : Ports) (tables : Tables plan) (f : Flight) (fit : (r : Row) →
     unused = λ u concern h refers. can.unused u concern (same.back u concern h) refers;
   }
     where
-      goes_concern : (n : Name) → Goes plan f n → IsConcern plan f n
+      goes_concern : (n : ThingName) → Goes plan f n → IsConcern plan f n
       goes_concern n (inl h) = (OfRow f.key, h.0, inl refl)
       goes_concern n (inr h) = (h.0, h.1, inr (inr h.2))
 

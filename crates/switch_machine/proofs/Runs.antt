@@ -19,14 +19,14 @@ use Rattle.row_layout.specs.Rows.{Owner}
 use Rattle.switch_machine.specs.Flights.{IsRow, IsUser}
 use Rattle.switch_machine.specs.Places.{sum_below}
 use Rattle.switch_machine.specs.Consistent.{IsCurrent}
-use Rattle.switch_machine.specs.Tables.{Tables}
+use Rattle.switch_machine.specs.Tables.{TableLaws}
 use Rattle.switch_machine.specs.Events.{SwitchState, IsEvent, IsSafe, IsQuiet, AreEvents, with_made_call, calls_of, empty_machine, empty_switch, fresh_view, no_writes, after_events}
 use Rattle.switch_machine.proofs.Resting.{alike-rest}
 use Rattle.switch_machine.proofs.Kept.{kept-event, legal-call}
 use Rattle.switch_machine.proofs.Tabled.{tabled}
 
 module _ (plan : Ports) (is : IsPlan plan) (workers : ℕ) (capacities : List ℕ) where
-  abbrev T : Tables plan
+  abbrev T : TableLaws plan
   T = tabled plan is
 
   -- ---- runs

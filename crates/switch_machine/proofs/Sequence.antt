@@ -1,8 +1,9 @@
 -- an operation that runs alone makes its changes in the order of its table
 use Rattle.std.proofs.Common.{◌≡◌, ◌⊎◌, ◌||◌, ◌∷◌, ◌++◌, ◌∙◌, inl, inr, ℕ, Bool, true, false, List, [], Option, None, Some, if◌then◌else◌, refl, sym, ap, subst}
-use Rattle.std.proofs.lemmas.Bool.{eqb-true, false≢true}
+use Rattle.std.proofs.lemmas.Bool.{eqb-true, false≢true, or_cases}
 use Rattle.std.specs.List.{list_any}
 use Rattle.swss_types.specs.declared.interface.IfName.TheVariants as on
+use Rattle.swss_types.proofs.Tied.{tied}
 use Rattle.table_schema.specs.Key.{key_cmp}
 use Rattle.table_schema.specs.Plan.{Ports}
 use Rattle.table_schema.specs.declared.key.Key.{Key}
@@ -25,9 +26,8 @@ use Rattle.row_layout.specs.Rows as owner
 use Rattle.row_layout.specs.Rows.{Owner, from}
 use Rattle.row_layout.specs.Shared.{group_by, shared_things, uses}
 use Rattle.row_layout.proofs.Changing.{among}
-use Rattle.switch_model.proofs.Tied.{tied}
 use Rattle.switch_machine.specs.Events.{AreAnswers, Due, Ended, Follows, IsAnswer, IsBegin, IsQuiet, Left, Retires, SwitchState, after_answers, changes_made}
-use Rattle.switch_machine.specs.Flights.{CountsAsUser, Flight, IsResting, IsUser, Machine}
+use Rattle.switch_machine.specs.Flights.{CountsAsUser, MachineFlight, IsResting, IsUser, Machine}
 use Rattle.switch_machine.specs.Operations.{IsUsedByOthers, built_first}
 use Rattle.switch_machine.specs.Steps.{finished, left, moved, parted, started}
 use Rattle.switch_machine.proofs.Equal.{thing-exact}
@@ -43,13 +43,9 @@ owner_exact (owner.Own a) (owner.Own b) h = ap owner.Own (ip-exact a b h)
 owner_exact (owner.Group a) (owner.Group b) h = let same = thing-exact (thing.Group a) (thing.Group b) h in let that : a ≡ b = cc in ap owner.Group that
 owner_exact _ _ h = absurd (false≢true h)
 
-or_split : (a b : Bool) → (a || b) ≡ true → (a ≡ true) ⊎ (b ≡ true)
-or_split true b h = inl refl
-or_split false b h = inr h
-
-any_in : (o : Owner) (os : List Owner) → list_any (same_owner o) os ≡ true → IsIn o os
-any_in o [] h = absurd (false≢true h)
-any_in o (p ∷ os) h = by (λ e. any_in o os e) (or_split (same_owner o p) (list_any (same_owner o) os) h)
+any_owner_in : (o : Owner) (os : List Owner) → list_any (same_owner o) os ≡ true → IsIn o os
+any_owner_in o [] h = absurd (false≢true h)
+any_owner_in o (p ∷ os) h = by (λ e. any_owner_in o os e) (or_cases (same_owner o p) (list_any (same_owner o) os) h)
   where
     by : (list_any (same_owner o) os ≡ true → IsIn o os) → (same_owner o p ≡ true) ⊎ (list_any (same_owner o) os ≡ true) → IsIn o (p ∷ os)
     by rest (inl e) = inl (owner_exact o p e)
@@ -97,7 +93,7 @@ unshared_none used others o h = ap (λ b. if b then [] else o ∷ []) (by h)
     by (inr h) = or_last (used o) (list_any (same_owner o) others) (among o others h)
 
 unshared_it : (used : Owner → Bool) (others : List Owner) (o : Owner) → used o ≡ false → (IsIn o others → ⊥) → unshared used others (o ∷ []) ≡ o ∷ []
-unshared_it used others o e none = ap (λ b. if b then [] else o ∷ []) (ap (λ b. b || list_any (same_owner o) others) e ∙ never (list_any (same_owner o) others) (λ h. none (any_in o others h)))
+unshared_it used others o e none = ap (λ b. if b then [] else o ∷ []) (ap (λ b. b || list_any (same_owner o) others) e ∙ never (list_any (same_owner o) others) (λ h. none (any_owner_in o others h)))
   where
     never : (b : Bool) → (b ≡ true → ⊥) → b ≡ false
     never true h = absurd (h refl)
@@ -124,7 +120,7 @@ pub make_append : (ts : List Thing) (own rest : List Change) → make_all ts own
 make_append [] own rest = refl
 make_append (t ∷ ts) own rest = ap (λ z. Make t ∷ z) (make_append ts own rest)
 
-module _ (plan : Ports) (workers w : ℕ) (f : Flight) (rows : TypedRows) (used : Owner → Bool) (by_others : IsUsedByOthers plan rows f.key used) (leaves : (o : Owner) → f.leaves ≡ Some o → IsIn o (uses_of plan f.key (rows f.key)) × (IsIn o (uses_of plan f.key f.new) → ⊥)) (covers : (o : Owner) → IsIn o (uses_of plan f.key (rows f.key)) → CountsAsUser plan f o) where
+module _ (plan : Ports) (workers w : ℕ) (f : MachineFlight) (rows : TypedRows) (used : Owner → Bool) (by_others : IsUsedByOthers plan rows f.key used) (leaves : (o : Owner) → f.leaves ≡ Some o → IsIn o (uses_of plan f.key (rows f.key)) × (IsIn o (uses_of plan f.key f.new) → ⊥)) (covers : (o : Owner) → IsIn o (uses_of plan f.key (rows f.key)) → CountsAsUser plan f o) where
   abbrev was : List Owner
   was = uses_of plan f.key (rows f.key)
 
@@ -182,30 +178,30 @@ module _ (plan : Ports) (workers w : ℕ) (f : Flight) (rows : TypedRows) (used 
   record First (m : Machine) (due : List Change) : Type 0 where
     there : m.board.flights w ≡ Some f
     is_due : m.due w ≡ due
-    only : (v : ℕ) (g : Flight) → m.board.flights v ≡ Some g → (v ≡ w) × (f ≡ g)
+    only : (v : ℕ) (g : MachineFlight) → m.board.flights v ≡ Some g → (v ≡ w) × (f ≡ g)
     applied : (q : Key) → m.board.applied q ≡ rows q
 
   record Last (m : Machine) (due : List Change) : Type 0 where
-    flight : Flight
+    flight : MachineFlight
     there : m.board.flights w ≡ Some flight
     parted : flight.leaves ≡ None
     is_due : m.due w ≡ due
-    only : (v : ℕ) (g : Flight) → m.board.flights v ≡ Some g → v ≡ w
+    only : (v : ℕ) (g : MachineFlight) → m.board.flights v ≡ Some g → v ≡ w
 
   -- the changes that are still to be made
   data Phase (m : Machine) : List Change → Type 0 where
     AtFirst : (due : List Change) → First m due → Phase m (due ++ tail)
     AtLast : (due : List Change) → Last m due → Phase m due
-    AtEnd : ((v : ℕ) (g : Flight) → m.board.flights v ≡ Some g → ⊥) → Phase m []
+    AtEnd : ((v : ℕ) (g : MachineFlight) → m.board.flights v ≡ Some g → ⊥) → Phase m []
 
-  gone : (m : Machine) (g : Flight) → ((v : ℕ) (h : Flight) → m.board.flights v ≡ Some h → v ≡ w) → (v : ℕ) (h : Flight) → (finished m w g).board.flights v ≡ Some h → ⊥
+  gone : (m : Machine) (g : MachineFlight) → ((v : ℕ) (h : MachineFlight) → m.board.flights v ≡ Some h → v ≡ w) → (v : ℕ) (h : MachineFlight) → (finished m w g).board.flights v ≡ Some h → ⊥
   gone m g only v h at = of (put_by w v None m.board.flights (Some h) at)
     where
       of : IsPut w v None m.board.flights (Some h) → ⊥
       of (New same e) = no_flight h e
       of (Old other there) = other (only v h there)
 
-  left_only : (m : Machine) (g : Flight) (retires : Option Owner) (due : List Change) → ((v : ℕ) (h : Flight) → m.board.flights v ≡ Some h → v ≡ w) → (v : ℕ) (h : Flight) → (left m w g retires due).board.flights v ≡ Some h → v ≡ w
+  left_only : (m : Machine) (g : MachineFlight) (retires : Option Owner) (due : List Change) → ((v : ℕ) (h : MachineFlight) → m.board.flights v ≡ Some h → v ≡ w) → (v : ℕ) (h : MachineFlight) → (left m w g retires due).board.flights v ≡ Some h → v ≡ w
   left_only m g retires due only v h at = of (put_by w v (Some (parted g retires)) m.board.flights (Some h) at)
     where
       of : IsPut w v (Some (parted g retires)) m.board.flights (Some h) → v ≡ w
@@ -214,11 +210,11 @@ module _ (plan : Ports) (workers w : ℕ) (f : Flight) (rows : TypedRows) (used 
 
   -- another key that is a user has it by its applied row
   other_of : (m : Machine) (due : List Change) → First m due → (q : Key) (o : Owner) → (q ≡ f.key → ⊥) → IsUser plan m.board q o → IsOther o
-  other_of m due x q o apart (inl (v, g, at, is, counts)) = absurd (apart (sym (ap (λ (z : Flight). z.key) (x.only v g at).1 ∙ is)))
+  other_of m due x q o apart (inl (v, g, at, is, counts)) = absurd (apart (sym (ap (λ (z : MachineFlight). z.key) (x.only v g at).1 ∙ is)))
   other_of m due x q o apart (inr (rests, h)) = let r = use_row_in plan q (m.board.applied q) o h in (q, r.0, apart, sym (x.applied q) ∙ r.1, r.2)
 
   user_of : (m : Machine) (due : List Change) → First m due → (o : Owner) (other : IsOther o) → IsUser plan m.board other.0 o
-  user_of m due x o (q, r, apart, at, h) = inr ((λ v g there is. apart (sym (ap (λ (z : Flight). z.key) (x.only v g there).1 ∙ is))), subst (λ z. IsIn o (uses_of plan q z)) (sym (x.applied q ∙ at)) h)
+  user_of m due x o (q, r, apart, at, h) = inr ((λ v g there is. apart (sym (ap (λ (z : MachineFlight). z.key) (x.only v g there).1 ∙ is))), subst (λ z. IsIn o (uses_of plan q z)) (sym (x.applied q ∙ at)) h)
 
   phase_follows : (m later : Machine) (rest : List Change) → Phase m rest → Follows plan w m later → Phase later rest
   phase_follows m _ _ x (Due c cs at) = x
@@ -226,20 +222,20 @@ module _ (plan : Ports) (workers w : ℕ) (f : Flight) (rows : TypedRows) (used 
   phase_follows m _ _ (AtEnd none) (Left g o x) = absurd (none w g x.leaving.flying)
   phase_follows m _ _ (AtEnd none) (Retires g o x) = absurd (none w g x.leaving.flying)
   phase_follows m _ _ (AtLast due x) (Ended g ends) = subst (Phase (finished m w g)) (sym ends.done ∙ x.is_due) (AtEnd (gone m g x.only))
-  phase_follows m _ _ (AtLast due x) (Left g o y) = let same = one_flight x.flight g (sym x.there ∙ y.leaving.flying) in some_leaves o x.flight.leaves (ap (λ (z : Flight). z.leaves) same ∙ y.leaving.leaves) x.parted
-  phase_follows m _ _ (AtLast due x) (Retires g o y) = let same = one_flight x.flight g (sym x.there ∙ y.leaving.flying) in some_leaves o x.flight.leaves (ap (λ (z : Flight). z.leaves) same ∙ y.leaving.leaves) x.parted
+  phase_follows m _ _ (AtLast due x) (Left g o y) = let same = one_flight x.flight g (sym x.there ∙ y.leaving.flying) in some_leaves o x.flight.leaves (ap (λ (z : MachineFlight). z.leaves) same ∙ y.leaving.leaves) x.parted
+  phase_follows m _ _ (AtLast due x) (Retires g o y) = let same = one_flight x.flight g (sym x.there ∙ y.leaving.flying) in some_leaves o x.flight.leaves (ap (λ (z : MachineFlight). z.leaves) same ∙ y.leaving.leaves) x.parted
   phase_follows m _ _ (AtFirst due x) (Ended g ends) =
       let same = (x.only w g ends.flying).1 in
-      let none = tail_stays (ap (λ (z : Flight). z.leaves) same ∙ ends.left) in
+      let none = tail_stays (ap (λ (z : MachineFlight). z.leaves) same ∙ ends.left) in
       subst (λ z. Phase (finished m w g) (z ++ tail)) (sym ends.done ∙ x.is_due) (subst (Phase (finished m w g)) (sym none) (AtEnd (gone m g (λ v h at. (x.only v h at).0))))
   phase_follows m _ _ (AtFirst due x) (Left g o y) =
       let same = (x.only w g y.leaving.flying).1 in
-      let none = tail_others o (ap (λ (z : Flight). z.leaves) same ∙ y.leaving.leaves) (other_of m due x y.other o (λ e. y.apart (e ∙ ap (λ (z : Flight). z.key) same)) y.user) in
+      let none = tail_others o (ap (λ (z : MachineFlight). z.leaves) same ∙ y.leaving.leaves) (other_of m due x y.other o (λ e. y.apart (e ∙ ap (λ (z : MachineFlight). z.key) same)) y.user) in
       let later = finished (left m w g g.retires []) w (parted g g.retires) in
       subst (λ z. Phase later (z ++ tail)) (sym y.leaving.done ∙ x.is_due) (subst (Phase later) (sym none) (AtEnd (gone (left m w g g.retires []) (parted g g.retires) (left_only m g g.retires [] (λ v h at. (x.only v h at).0)))))
   phase_follows m _ _ (AtFirst due x) (Retires g o y) =
       let same = (x.only w g y.leaving.flying).1 in
-      let last = tail_last o (ap (λ (z : Flight). z.leaves) same ∙ y.leaving.leaves) (λ other. other.2 (y.last other.0 (user_of m due x o other) ∙ sym (ap (λ (z : Flight). z.key) same))) in
+      let last = tail_last o (ap (λ (z : MachineFlight). z.leaves) same ∙ y.leaving.leaves) (λ other. other.2 (y.last other.0 (user_of m due x o other) ∙ sym (ap (λ (z : MachineFlight). z.key) same))) in
       let going = take_all (shared_going o) [] in
       let later = left m w g (Some o) going in
       subst (λ z. Phase later (z ++ tail)) (sym y.leaving.done ∙ x.is_due) (subst (Phase later) (sym last) (AtLast going (record {
@@ -263,7 +259,7 @@ module _ (plan : Ports) (workers w : ℕ) (f : Flight) (rows : TypedRows) (used 
       let is : due ≡ x.next.change ∷ x.next.rest = sym p.is_due ∙ ap s.machine.due (sym at) ∙ x.next.due in
       (x.next.rest ++ tail, ap (λ z. z ++ tail) is, phase_follows m t.machine (x.next.rest ++ tail) (AtFirst x.next.rest (record { there = p.there; is_due = put_at x.next.worker w x.next.rest s.machine.due (sym at); only = p.only; applied = p.applied })) (subst (λ v. Follows plan v m t.machine) at x.follows))
 
-  phase_quiet : (m : Machine) (rest : List Change) → ((v : ℕ) (g : Flight) → m.board.flights v ≡ Some g → ⊥) → Phase m rest → rest ≡ []
+  phase_quiet : (m : Machine) (rest : List Change) → ((v : ℕ) (g : MachineFlight) → m.board.flights v ≡ Some g → ⊥) → Phase m rest → rest ≡ []
   phase_quiet m _ quiet (AtEnd none) = refl
   phase_quiet m _ quiet (AtLast due p) = absurd (quiet w p.flight p.there)
   phase_quiet m _ quiet (AtFirst due p) = absurd (quiet w f p.there)
@@ -326,7 +322,7 @@ sequence plan workers capacities s t x es run used quiet end by_others =
       applied = λ q. refl;
     })
       where
-        of : (v : ℕ) (g : Flight) → IsPut x.worker v (Some x.flight) s.machine.board.flights (Some g) → (v ≡ x.worker) × (x.flight ≡ g)
+        of : (v : ℕ) (g : MachineFlight) → IsPut x.worker v (Some x.flight) s.machine.board.flights (Some g) → (v ≡ x.worker) × (x.flight ≡ g)
         of v g (New same e) = (same, one_flight x.flight g e)
         of v g (Old other there) = absurd (quiet v g there)
 

@@ -1,6 +1,7 @@
 -- a key has one reason to wait
 use Rattle.std.proofs.Common.{zero, suc, ◌≡◌, ◌⊎◌, ◌<◌, ◌≤◌, ◌∷◌, ◌∙◌, inl, inr, ℕ, true, List, [], Option, None, Some, Ordering, get_or, is_some, if◌then◌else◌, refl, sym, ap, subst, arith}
 use Rattle.std.proofs.lemmas.Bool.{and_parts, cases_order, false≢true}
+use Rattle.std.proofs.lemmas.Option.{same_Some}
 use Rattle.std.specs.Ordering.{is_le, ordering_reverse}
 use Rattle.std.specs.declared.cmp.Ordering.TheVariants.{Less, Equal, Greater}
 use Rattle.table_schema.specs.Key.{key_cmp}
@@ -18,28 +19,25 @@ use Rattle.switch_model.specs.Marks.{first_missing}
 use Rattle.switch_model.specs.declared.wait.Wait.{Wait}
 use Rattle.switch_model.specs.declared.wait.Wait.TheVariants as wait
 use Rattle.switch_machine.specs.Events.{IsSafe, SwitchState}
-use Rattle.switch_machine.specs.Flights.{Flight}
+use Rattle.switch_machine.specs.Flights.{MachineFlight}
 use Rattle.switch_machine.specs.Places.{makes}
-use Rattle.switch_machine.specs.Reasons.{IsFirstInTheWay, IsFlownBy, IsPrepared, IsReason, LacksRoom}
+use Rattle.switch_machine.specs.Reasons.{IsFirstInTheWay, IsFlownBy, IsRowPrepared, IsReason, LacksRoom}
 use Rattle.switch_machine.specs.Written.{good_of}
 use Rattle.switch_machine.proofs.Hindered.{not-busy, not_held, not_missing, operation-one}
 use Rattle.switch_machine.proofs.Ordered.{ordered}
 
-no_row : {X Y : Type 0} (x : X) (o : Option X) → o ≡ Some x → o ≡ None → Y
-no_row x o h g = absurd cc
-
-one_key : (m n : Key) → Some m ≡ Some n → m ≡ n
-one_key m n h = cc
+some_or_none : {X Y : Type 0} (x : X) (o : Option X) → o ≡ Some x → o ≡ None → Y
+some_or_none x o h g = absurd cc
 
 one_row : (o : Option Row) (r x : Row) → o ≡ Some r → o ≡ Some x → r ≡ x
 one_row o r x h g = cc
 
 -- where all names have rows, none is missing
-none_missing : (rows : TypedRows) (ks : List Key) (n : Key) → have_rows rows ks ≡ true → first_missing rows ks ≡ Some n → ⊥
-none_missing rows [] n h g = absurd cc
-none_missing rows (k ∷ ks) n h g =
+have_all_rows : (rows : TypedRows) (ks : List Key) (n : Key) → have_rows rows ks ≡ true → first_missing rows ks ≡ Some n → ⊥
+have_all_rows rows [] n h g = absurd cc
+have_all_rows rows (k ∷ ks) n h g =
     let parts = and_parts (is_some (rows k)) (have_rows rows ks) h in
-    none_missing rows ks n parts.1 (sym (ap (λ b. if b then first_missing rows ks else Some k) parts.0) ∙ g)
+    have_all_rows rows ks n parts.1 (sym (ap (λ b. if b then first_missing rows ks else Some k) parts.0) ∙ g)
 
 ties : (o : Ordering) → is_le o ≡ true → is_le (ordering_reverse o) ≡ true → o ≡ Equal
 ties Equal h g = refl
@@ -50,8 +48,8 @@ ties Greater h g = absurd (false≢true h)
 both_least : (a b : Key) → is_le (key_cmp a b) ≡ true → is_le (key_cmp b a) ≡ true → a ≡ b
 both_least a b h g = key_exact a b (ties (key_cmp a b) h (sym (ap is_le (key_total.antisymm b a)) ∙ g))
 
-numbers : (v u : ℕ) → v ≤ u → u ≤ v → v ≡ u
-numbers v u h g = omega (arith, h, g)
+equal_from_both : (v u : ℕ) → v ≤ u → u ≤ v → v ≡ u
+equal_from_both v u h g = omega (arith, h, g)
 
 -- a kind is told by its place
 pub kinds : List Kind
@@ -135,30 +133,30 @@ module _ (plan : Ports) (is : IsPlan plan) (workers : ℕ) (capacities : List �
       by (inr (inl less)) = absurd (not_lower a b x y less)
       by (inr (inr more)) = absurd (not_lower b a y x more)
 
-  no_flown : (v : ℕ) → ((w : ℕ) (f : Flight) → s.machine.board.flights w ≡ Some f → f.key ≡ k → ⊥) → IsFlownBy s.machine.board k v → ⊥
+  no_flown : (v : ℕ) → ((w : ℕ) (f : MachineFlight) → s.machine.board.flights w ≡ Some f → f.key ≡ k → ⊥) → IsFlownBy s.machine.board k v → ⊥
   no_flown v rests (f, at, same) = rests v f at same
 
   abbrev IsSecond : ℕ → Type 0
-  IsSecond v = IsPrepared plan s k × IsFirstInTheWay plan s.machine k (good_of plan s.written k) v
+  IsSecond v = IsRowPrepared plan s k × IsFirstInTheWay plan s.machine k (good_of plan s.written k) v
 
   one_busy : (v u : ℕ) → IsFlownBy s.machine.board k v ⊎ IsSecond v → IsFlownBy s.machine.board k u ⊎ IsSecond u → v ≡ u
   one_busy v u (inl (f, at, same)) (inl (g, there, that)) = kept.sound.board.one v u f g at there (same ∙ sym that)
   one_busy v u (inl x) (inr (prepared, first)) = absurd (no_flown v prepared.rests x)
   one_busy v u (inr (prepared, first)) (inl x) = absurd (no_flown u prepared.rests x)
-  one_busy v u (inr (p, first)) (inr (q, other)) = numbers v u (first.least u other.way) (other.least v first.way)
+  one_busy v u (inr (p, first)) (inr (q, other)) = equal_from_both v u (first.least u other.way) (other.least v first.way)
 
   missing_busy : (n : Key) (v : ℕ) → Is (wait.Missing n) → IsFlownBy s.machine.board k v ⊎ IsSecond v → ⊥
   missing_busy n v (rests, _) (inl x) = no_flown v rests x
-  missing_busy n v (rests, (row, at, missing)) (inr (prepared, first)) = none_missing s.machine.board.applied (names_of k row) n (prepared.named row at) missing
+  missing_busy n v (rests, (row, at, missing)) (inr (prepared, first)) = have_all_rows s.machine.board.applied (names_of k row) n (prepared.named row at) missing
 
   held_busy : (h : Key) (v : ℕ) → Is (wait.Held h) → IsFlownBy s.machine.board k v ⊎ IsSecond v → ⊥
   held_busy h v (rests, none, _) (inl x) = no_flown v rests x
   held_busy h v (rests, none, (row, at, by)) (inr (prepared, first)) = prepared.unheld none h by.row by.applied_row by.names
 
   pub reason-one : (a b : Wait) → Is a → Is b → a ≡ b
-  reason-one (wait.Missing m) (wait.Missing n) (_, (row, at, missing)) (_, (other, there, that)) = ap wait.Missing (one_key m n (sym missing ∙ ap (λ r. first_missing s.machine.board.applied (names_of k r)) (one_row good row other at there) ∙ that))
-  reason-one (wait.Missing m) (wait.Held h) (_, (row, at, _)) (_, none, _) = no_row row good at none
-  reason-one (wait.Held h) (wait.Missing m) (_, none, _) (_, (row, at, _)) = no_row row good at none
+  reason-one (wait.Missing m) (wait.Missing n) (_, (row, at, missing)) (_, (other, there, that)) = ap wait.Missing (same_Some m n (sym missing ∙ ap (λ r. first_missing s.machine.board.applied (names_of k r)) (one_row good row other at there) ∙ that))
+  reason-one (wait.Missing m) (wait.Held h) (_, (row, at, _)) (_, none, _) = some_or_none row good at none
+  reason-one (wait.Held h) (wait.Missing m) (_, none, _) (_, (row, at, _)) = some_or_none row good at none
   reason-one (wait.Missing m) (wait.Busy v) x y = absurd (missing_busy m v x y)
   reason-one (wait.Busy v) (wait.Missing m) y x = absurd (missing_busy m v x y)
   reason-one (wait.Missing m) (wait.NoRoom kind) x l = absurd (no_missing kind l m x)

@@ -12,7 +12,7 @@ use Rattle.row_layout.specs.Rows.{Owner}
 use Rattle.row_layout.specs.Operations.{Change}
 use Rattle.switch_machine.specs.Events.{IsAnswer, AreAnswers, SwitchState, Due, Ended, Follows, IsQuiet, Left, Retires, IsBegin, after_answers}
 use Rattle.switch_machine.specs.Steps.{finished, left, moved, parted, started, with_row}
-use Rattle.switch_machine.specs.Flights.{Flight, Machine}
+use Rattle.switch_machine.specs.Flights.{MachineFlight, Machine}
 use Rattle.switch_machine.specs.Written.{good_of}
 use Rattle.switch_machine.proofs.Running.{one_flight, no_flight}
 use Rattle.switch_machine.proofs.Splits.{IsPut, New, Old, put_at, put_by}
@@ -22,37 +22,37 @@ row_same k o p rows old q e h = ap (λ z. if is_at (key_cmp k) q then o else z) 
 
 module _ (plan : Ports) (workers w : ℕ) (k : Key) (new : Option Row) (old : TypedRows) where
   record Flying (m : Machine) : Type 0 where
-    there : (f : Flight) × (m.board.flights w ≡ Some f)
-    only : (v : ℕ) (g : Flight) → m.board.flights v ≡ Some g → (v ≡ w) × (g.key ≡ k) × (g.new ≡ new)
+    there : (f : MachineFlight) × (m.board.flights w ≡ Some f)
+    only : (v : ℕ) (g : MachineFlight) → m.board.flights v ≡ Some g → (v ≡ w) × (g.key ≡ k) × (g.new ≡ new)
     rows : (q : Key) → m.board.applied q ≡ old q
 
   record Done (m : Machine) : Type 0 where
-    quiet : (v : ℕ) (g : Flight) → m.board.flights v ≡ Some g → ⊥
+    quiet : (v : ℕ) (g : MachineFlight) → m.board.flights v ≡ Some g → ⊥
     rows : (q : Key) → m.board.applied q ≡ with_row k new old q
 
   data Solo (m : Machine) : Type 0 where
     Flies : Flying m → Solo m
     Ends : Done m → Solo m
 
-  ended_done : (m : Machine) (f : Flight) → f.key ≡ k → f.new ≡ new → Flying m → Done (finished m w f)
+  ended_done : (m : Machine) (f : MachineFlight) → f.key ≡ k → f.new ≡ new → Flying m → Done (finished m w f)
   ended_done m f is that x = record {
     quiet = λ v g at. gone v g (put_by w v None m.board.flights (Some g) at);
     rows = λ q. subst (λ z. with_row z f.new m.board.applied q ≡ with_row k new old q) (sym is) (row_same k f.new new m.board.applied old q that (x.rows q));
   }
     where
-      gone : (v : ℕ) (g : Flight) → IsPut w v None m.board.flights (Some g) → ⊥
+      gone : (v : ℕ) (g : MachineFlight) → IsPut w v None m.board.flights (Some g) → ⊥
       gone v g (New same e) = no_flight g e
       gone v g (Old other there) = other (x.only v g there).0
 
-  left_flying : (m : Machine) (f : Flight) (retires : Option Owner) (due : List Change) → f.key ≡ k → f.new ≡ new → Flying m → Flying (left m w f retires due)
+  left_flying : (m : Machine) (f : MachineFlight) (retires : Option Owner) (due : List Change) → f.key ≡ k → f.new ≡ new → Flying m → Flying (left m w f retires due)
   left_flying m f retires due is that x = record {
     there = (parted f retires, put_at w w (Some (parted f retires)) m.board.flights refl);
     only = λ v g at. of v g (put_by w v (Some (parted f retires)) m.board.flights (Some g) at);
     rows = x.rows;
   }
     where
-      of : (v : ℕ) (g : Flight) → IsPut w v (Some (parted f retires)) m.board.flights (Some g) → (v ≡ w) × (g.key ≡ k) × (g.new ≡ new)
-      of v g (New same e) = let one = one_flight (parted f retires) g e in (same, sym (ap (λ (z : Flight). z.key) one) ∙ is, sym (ap (λ (z : Flight). z.new) one) ∙ that)
+      of : (v : ℕ) (g : MachineFlight) → IsPut w v (Some (parted f retires)) m.board.flights (Some g) → (v ≡ w) × (g.key ≡ k) × (g.new ≡ new)
+      of v g (New same e) = let one = one_flight (parted f retires) g e in (same, sym (ap (λ (z : MachineFlight). z.key) one) ∙ is, sym (ap (λ (z : MachineFlight). z.new) one) ∙ that)
       of v g (Old other there) = x.only v g there
 
   solo_follows : (m later : Machine) → Flying m → Follows plan w m later → Solo later
@@ -83,8 +83,8 @@ solo-key plan workers capacities s t x es quiet run end q = by (solo_answers pla
       rows = λ q. refl;
     }) x.follows
       where
-        of : (v : ℕ) (g : Flight) → IsPut x.worker v (Some x.flight) s.machine.board.flights (Some g) → (v ≡ x.worker) × (g.key ≡ x.flight.key) × (g.new ≡ good_of plan s.written x.flight.key)
-        of v g (New same e) = let one = one_flight x.flight g e in (same, sym (ap (λ (z : Flight). z.key) one), sym (ap (λ (z : Flight). z.new) one) ∙ x.new)
+        of : (v : ℕ) (g : MachineFlight) → IsPut x.worker v (Some x.flight) s.machine.board.flights (Some g) → (v ≡ x.worker) × (g.key ≡ x.flight.key) × (g.new ≡ good_of plan s.written x.flight.key)
+        of v g (New same e) = let one = one_flight x.flight g e in (same, sym (ap (λ (z : MachineFlight). z.key) one), sym (ap (λ (z : MachineFlight). z.new) one) ∙ x.new)
         of v g (Old other there) = absurd (quiet v g there)
 
     by : Solo plan workers x.worker x.flight.key (good_of plan s.written x.flight.key) s.machine.board.applied (after_answers t es).machine → (after_answers t es).machine.board.applied q ≡ with_row x.flight.key (good_of plan s.written x.flight.key) s.machine.board.applied q

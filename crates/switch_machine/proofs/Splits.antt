@@ -5,6 +5,7 @@ use Rattle.std.specs.BTreeMap.{is_at}
 use Rattle.std.specs.Cmp.{eq_by_cmp_equiv}
 use Rattle.swss_types.specs.declared.address.Ip.{Ip}
 use Rattle.swss_types.specs.declared.address.Prefix.{Prefix}
+use Rattle.swss_types.proofs.Tied.{tied}
 use Rattle.table_schema.specs.Key.{key_cmp}
 use Rattle.table_schema.specs.Plan.{Ports}
 use Rattle.table_schema.specs.declared.key.Key.{Key}
@@ -19,10 +20,9 @@ use Rattle.sai_types.specs.Alike.{IsIn}
 use Rattle.switch_model.specs.Good.{TypedRows}
 use Rattle.sai_types.proofs.Rising.{hop_exact, hop_total}
 use Rattle.sai_types.specs.Names as name
-use Rattle.sai_types.specs.Names.{Name}
+use Rattle.sai_types.specs.Names.{ThingName}
 use Rattle.row_layout.specs.Rows as owner
 use Rattle.row_layout.specs.Rows.{Owner, own_things}
-use Rattle.switch_model.proofs.Tied.{tied}
 use Rattle.row_layout.specs.Operations.{uses_of}
 use Rattle.row_layout.specs.Shared.{uses}
 use Rattle.switch_machine.specs.Flights.{own_of, put}
@@ -93,7 +93,7 @@ prefix_split x y = parts (ip_split x.ip y.ip) (nat_split x.len y.len)
     parts (inr h) _ = inr (λ e. h (ap (λ (z : Prefix). z.ip) e))
     parts (inl h) (inr g) = inr (λ e. g (ap (λ (z : Prefix). z.len) e))
 
-pub name_split : (m n : Name) → IsSplit m n
+pub name_split : (m n : ThingName) → IsSplit m n
 name_split (name.Port x) (name.Port y) = carried name.Port x y (λ h. cc) (nat_split x y)
 name_split (name.Vlan x) (name.Vlan y) = carried name.Vlan x y (λ h. cc) (nat_split x y)
 name_split (name.BridgePort x) (name.BridgePort y) = carried name.BridgePort x y (λ h. cc) (nat_split x y)

@@ -6,6 +6,7 @@ use Rattle.swss_types.specs.Address.{IsProperPrefix, covers}
 use Rattle.swss_types.specs.declared.address.Ip.{Ip}
 use Rattle.swss_types.specs.declared.address.Mac.{Mac}
 use Rattle.swss_types.specs.declared.address.Prefix.{Prefix}
+use Rattle.swss_types.proofs.Proper.{mapped}
 use Rattle.table_schema.specs.Plan.{IsPlan, Ports}
 use Rattle.table_schema.specs.declared.key.Key.TheVariants as key
 use Rattle.table_schema.specs.declared.row.Row.{Row}
@@ -21,9 +22,8 @@ use Rattle.sai_types.specs.Decided.{AreRoutes}
 use Rattle.sai_types.specs.Forwarding.{Decision, decide, forward, forwarding_of, mac_of}
 use Rattle.sai_types.specs.Forwarding as decision
 use Rattle.sai_types.specs.Names as name
-use Rattle.sai_types.specs.Names.{Name, name_of}
+use Rattle.sai_types.specs.Names.{ThingName, name_of}
 use Rattle.sai_types.proofs.Decided.{decide-alike}
-use Rattle.sai_types.proofs.Keys.{mapped}
 use Rattle.chip_layout.proofs.Answering.{IsFront, front, mac_in}
 use Rattle.row_layout.specs.Operations.{Change, Make, Set, Take, changes_of, uses_of}
 use Rattle.row_layout.specs.Rows as owner
@@ -35,7 +35,7 @@ use Rattle.switch_machine.specs.Events.{AreAnswers, IsAnswer, IsBegin, IsDueCall
 use Rattle.switch_machine.specs.Flights.{Can, Fits, Goes, IsFinal, IsOwnedBy, Machine, StandsIn}
 use Rattle.switch_machine.specs.Operations.{IsUsedByOthers}
 use Rattle.switch_machine.specs.Steps.{started}
-use Rattle.switch_machine.specs.Tables.{Tables}
+use Rattle.switch_machine.specs.Tables.{TableLaws}
 use Rattle.switch_machine.proofs.Bearing.{bears-once, route_groups}
 use Rattle.switch_machine.proofs.Kept.{it_can, kept-answers, kept-event, moves_back, moves_by, same_stands}
 use Rattle.switch_machine.proofs.Reasoned.{route-row}
@@ -110,14 +110,14 @@ from_list (x ∷ xs) u (inr h) = let y = from_list xs u h in (y.0, inr y.1)
 from_standing : (m : Machine) (u : Thing) → IsIn u (standing_things m) → StandsIn m u
 from_standing m u h = from_list m.stands u h
 
-bears_on : (a : Ip) (n : Name) → BearsOn a n → Bears n
+bears_on : (a : Ip) (n : ThingName) → BearsOn a n → Bears n
 bears_on a (name.Route p) h = tt
 bears_on a (name.Own ip) h = tt
 bears_on a (name.Neighbor hop) h = tt
 bears_on a _ h = elim h [ ]
 
 module _ (plan : Ports) (is : IsPlan plan) (workers : ℕ) (capacities : List ℕ) where
-  abbrev T : Tables plan
+  abbrev T : TableLaws plan
   T = tabled plan is
 
   proper_by : (p : Prefix) (r : Row) → Fits plan (key.Route p) r → IsProperPrefix p
@@ -161,13 +161,13 @@ module _ (plan : Ports) (is : IsPlan plan) (workers : ℕ) (capacities : List �
 
   -- ---- the changes of a route's operation
 
-  bears_route : (prefix : Prefix) (n : Name) → IsOwnedBy plan n (OfRow (key.Route prefix)) → Bears n → n ≡ name.Route prefix
+  bears_route : (prefix : Prefix) (n : ThingName) → IsOwnedBy plan n (OfRow (key.Route prefix)) → Bears n → n ≡ name.Route prefix
   bears_route prefix (name.Route p) of b = cc
   bears_route prefix (name.Own ip) of b = absurd cc
   bears_route prefix (name.Neighbor hop) of b = let m = mapped (λ n. OfRow (key.Neigh n hop.ip)) _ (OfRow (key.Route prefix)) of in let e = m.2 in absurd cc
   bears_route prefix _ of b = elim b [ ]
 
-  bears_group : (hops : List Hop) (n : Name) → IsOwnedBy plan n (owner.Group hops) → Bears n → ⊥
+  bears_group : (hops : List Hop) (n : ThingName) → IsOwnedBy plan n (owner.Group hops) → Bears n → ⊥
   bears_group hops (name.Route p) of b = cc
   bears_group hops (name.Own ip) of b = cc
   bears_group hops (name.Neighbor hop) of b = let m = mapped (λ n. OfRow (key.Neigh n hop.ip)) _ (owner.Group hops) of in let e = m.2 in cc
@@ -176,17 +176,17 @@ module _ (plan : Ports) (is : IsPlan plan) (workers : ℕ) (capacities : List �
   route_change : (s : SwitchState) (call : Call Rid) (x : IsDueCall workers call s) (prefix : Prefix) → IsSafe plan workers capacities s → x.flight.key ≡ key.Route prefix → Bears (changed_name x.change) → changed_name x.change ≡ name.Route prefix
   route_change s call x prefix kept route bears = by x.change (it_can plan is workers capacities s kept call x) bears
     where
-      of_row : (n : Name) → IsOwnedBy plan n (OfRow x.flight.key) → Bears n → n ≡ name.Route prefix
+      of_row : (n : ThingName) → IsOwnedBy plan n (OfRow x.flight.key) → Bears n → n ≡ name.Route prefix
       of_row n of b = bears_route prefix n (of ∙ ap (λ k. Some (OfRow k)) route) b
 
-      of_used : (n : Name) (o : Owner) (r : Option Row) → IsOwnedBy plan n o → IsIn o (uses_of plan x.flight.key r) → Bears n → n ≡ name.Route prefix
+      of_used : (n : ThingName) (o : Owner) (r : Option Row) → IsOwnedBy plan n o → IsIn o (uses_of plan x.flight.key r) → Bears n → n ≡ name.Route prefix
       of_used n o r of used b = let g = route_groups plan prefix r o (subst (λ k. IsIn o (uses_of plan k r)) route used) in absurd (bears_group g.0 n (of ∙ ap Some g.1) b)
 
       final : (t : Thing) → IsFinal plan x.flight t → Bears (name_of t) → name_of t ≡ name.Route prefix
       final t (inl own) b = let r = own_row_in plan x.flight.key x.flight.new t own in of_row (name_of t) (T.own x.flight.key r.0 t (kept.sound.board.fit x.flight.key r.0 (inr (x.worker, x.flight, x.flying, refl, r.1))) r.2) b
       final t (inr (o, used, h)) b = of_used (name_of t) o x.flight.new (T.shared o t h) used b
 
-      goes : (n : Name) → Goes plan x.flight n → Bears n → n ≡ name.Route prefix
+      goes : (n : ThingName) → Goes plan x.flight n → Bears n → n ≡ name.Route prefix
       goes n (inl own) b = of_row n own.0 b
       goes n (inr (o, of, retires)) b = let was = kept.sound.board.left x.worker x.flight o x.flying retires in of_used n o (Some was.row) of was.used b
 

@@ -4,6 +4,7 @@ use Rattle.swss_types.specs.declared.address.Ip.{Ip}
 use Rattle.swss_types.specs.declared.address.Prefix.{Prefix}
 use Rattle.swss_types.specs.declared.interface.IfName.{IfName}
 use Rattle.swss_types.specs.declared.interface.IfName.TheVariants as on
+use Rattle.swss_types.proofs.Proper.{mapped}
 use Rattle.table_schema.specs.Names.{names_of}
 use Rattle.table_schema.specs.Plan.{Ports, IsPlan}
 use Rattle.table_schema.specs.declared.key.Key.{Key}
@@ -23,8 +24,7 @@ use Rattle.sai_types.specs.declared.thing.Thing.TheVariants as thing
 use Rattle.sai_types.specs.Alike.{IsIn}
 use Rattle.sai_types.specs.Named.{first_lane}
 use Rattle.sai_types.specs.Names as name
-use Rattle.sai_types.specs.Names.{Name, Refers, base_name, name_of}
-use Rattle.sai_types.proofs.Keys.{mapped}
+use Rattle.sai_types.specs.Names.{ThingName, Refers, base_name, name_of}
 use Rattle.switch_model.specs.Things.{base_of, hops_of, lane_of, members_of}
 use Rattle.row_layout.specs.Rows as owner
 use Rattle.row_layout.specs.Rows.{IsPlanned, Owner, from, goal_by, goal_of, own_things}
@@ -33,9 +33,9 @@ use Rattle.row_layout.proofs.Members.{from_in, in_map, only, two}
 use Rattle.row_layout.proofs.Naming.{hop_from}
 use Rattle.row_layout.proofs.Owners.{interface_by, own, port_by, shared-own}
 use Rattle.switch_machine.specs.Flights.{Fits, IsOwnedBy, IsShared, own_names}
-use Rattle.switch_machine.specs.Tables.{ComesBefore, IsNamed, Tables}
+use Rattle.switch_machine.specs.Tables.{ComesBefore, IsNamed, TableLaws}
 
-in_from : {X Y : Type 0} (o : Option X) (f : X → List Y) (x : X) (y : Y) → o ≡ Some x → IsIn y (f x) → IsIn y (from o f)
+pub in_from : {X Y : Type 0} (o : Option X) (f : X → List Y) (x : X) (y : Y) → o ≡ Some x → IsIn y (f x) → IsIn y (from o f)
 in_from o f x y e h = subst (λ z. IsIn y (from z f)) (sym e) h
 
 fit_planned : (plan : Ports) (k : Key) (r : Row) → Fits plan k r → IsPlanned plan k r
@@ -43,14 +43,14 @@ fit_planned plan (key.Port p) (row.Port r) h = h
 fit_planned plan _ _ h = tt
 
 -- a thing of this name
-abbrev Gives : List Thing → Name → Type 0
+abbrev Gives : List Thing → ThingName → Type 0
 Gives ts n = (t : Thing) × IsIn t ts × (name_of t ≡ n)
 
-gives_from : {X : Type 0} (o : Option X) (f : X → List Name) (g : X → List Thing) (n : Name) → ((x : X) → IsIn n (f x) → Gives (g x) n) → IsIn n (from o f) → Gives (from o g) n
+gives_from : {X : Type 0} (o : Option X) (f : X → List ThingName) (g : X → List Thing) (n : ThingName) → ((x : X) → IsIn n (f x) → Gives (g x) n) → IsIn n (from o f) → Gives (from o g) n
 gives_from None f g n each h = elim h [ ]
 gives_from (Some x) f g n each h = each x h
 
-neigh_gives : (n : Name) (a b : Thing) → IsIn n (name_of a ∷ name_of b ∷ []) → Gives (a ∷ b ∷ []) n
+neigh_gives : (n : ThingName) (a b : Thing) → IsIn n (name_of a ∷ name_of b ∷ []) → Gives (a ∷ b ∷ []) n
 neigh_gives n a b (inl is) = (a, inl refl, sym is)
 neigh_gives n a b (inr (inl is)) = (b, inr (inl refl), sym is)
 neigh_gives n a b (inr (inr h)) = elim h [ ]
@@ -82,7 +82,7 @@ address_use plan (on.Vlan v) ip o h = only (λ o. o ≡ owner.Own ip) o (owner.O
 address_use plan (on.Loopback n) ip o h = only (λ o. o ≡ owner.Own ip) o (owner.Own ip) refl h
 
 module _ (plan : Ports) (is : IsPlan plan) where
-  names_by : (k : Key) (r : Row) (n : Name) → Fits plan k r → IsIn n (own_names plan k) → Gives (own_things plan k r) n
+  names_by : (k : Key) (r : Row) (n : ThingName) → Fits plan k r → IsIn n (own_names plan k) → Gives (own_things plan k r) n
   names_by (key.Port p) (row.Port r) n fit h =
       let t : Thing = thing.Port (record { lanes = r.lanes; speed = r.speed; mtu = r.mtu; up = r.up }) in
       let at : lane_of plan p ≡ Some (first_lane r.lanes) = ap (option_map first_lane) fit in
@@ -107,7 +107,7 @@ module _ (plan : Ports) (is : IsPlan plan) where
   names_by (key.Neigh i ip) _ n fit h = elim fit [ ]
   names_by _ r n fit h = elim h [ ]
 
-  names_own_by : (k : Key) (n : Name) → IsIn n (own_names plan k) → IsOwnedBy plan n (owner.OfRow k)
+  names_own_by : (k : Key) (n : ThingName) → IsIn n (own_names plan k) → IsOwnedBy plan n (owner.OfRow k)
   names_own_by (key.Port p) n h =
       let m = from_in (lane_of plan p) _ n h in
       only (λ x. IsOwnedBy plan x (owner.OfRow (key.Port p))) n (name.Port m.0) (ap (option_map (λ q. owner.OfRow (key.Port q))) (port_by plan is p m.0 m.1)) m.2
@@ -130,11 +130,11 @@ module _ (plan : Ports) (is : IsPlan plan) where
   are_shared_by k r o h = elim h [ ]
 
   -- where a reference of a row's things leads
-  abbrev pub Leads : Key → Row → Thing → Name → Type 0
+  abbrev pub Leads : Key → Row → Thing → ThingName → Type 0
   Leads k r t n = IsNamed plan k r n ⊎ ((IsOwnedBy plan n (owner.OfRow k) × ComesBefore n t (own_things plan k r)) ⊎ ((o : Owner) × IsOwnedBy plan n o × IsIn o (uses plan k r) × ((u : Thing) × IsIn u (shared_things o) × (name_of u ≡ n))))
 
   abbrev pub LeadAll : Key → Row → Thing → Type 0
-  LeadAll k r t = (n : Name) → Refers t n → Leads k r t n
+  LeadAll k r t = (n : ThingName) → Refers t n → Leads k r t n
 
   port_named_by : (k : Key) (r : Row) (p lane : ℕ) → lane_of plan p ≡ Some lane → IsIn (key.Port p) (names_of k r) → IsNamed plan k r (name.Port lane)
   port_named_by k r p lane at h = record { by = key.Port p; named = h; own = in_from (lane_of plan p) (λ l. name.Port l ∷ []) lane (name.Port lane) at (inl refl) }
@@ -216,11 +216,11 @@ module _ (plan : Ports) (is : IsPlan plan) where
   own_refers_by k r t fit h = elim h [ ]
 
   -- and of what a row shares
-  abbrev pub SharedLeads : Key → Row → Owner → Thing → Name → Type 0
+  abbrev pub SharedLeads : Key → Row → Owner → Thing → ThingName → Type 0
   SharedLeads k r o u n = IsNamed plan k r n ⊎ (IsOwnedBy plan n o × ComesBefore n u (shared_things o))
 
   abbrev pub SharedLeadAll : Key → Row → Owner → Thing → Type 0
-  SharedLeadAll k r o u = (n : Name) → Refers u n → SharedLeads k r o u n
+  SharedLeadAll k r o u = (n : ThingName) → Refers u n → SharedLeads k r o u n
 
   pub shared_refers_by : (k : Key) (r : Row) (o : Owner) (u : Thing) → Fits plan k r → IsIn o (uses plan k r) → IsIn u (shared_things o) → SharedLeadAll k r o u
   shared_refers_by (key.Member v p) (row.Member t) o u fit h in_it =
@@ -249,7 +249,7 @@ module _ (plan : Ports) (is : IsPlan plan) where
   shared_refers_by (key.Route prefix) (row.Route (route.Direct i)) o u fit h in_it = elim h [ ]
   shared_refers_by k r o u fit h in_it = elim h [ ]
 
-  pub tabled : Tables plan
+  pub tabled : TableLaws plan
   tabled = record {
     names = names_by;
     names_own = names_own_by;
@@ -260,11 +260,11 @@ module _ (plan : Ports) (is : IsPlan plan) where
     shared_refers = λ k r o u n fit h in_it refers. weaker_shared k r o u n (shared_refers_by k r o u fit h in_it n refers);
   }
     where
-      weaker : (k : Key) (r : Row) (t : Thing) (n : Name) → Leads k r t n → IsNamed plan k r n ⊎ (IsOwnedBy plan n (owner.OfRow k) ⊎ ((o : Owner) × IsOwnedBy plan n o × IsIn o (uses plan k r)))
+      weaker : (k : Key) (r : Row) (t : Thing) (n : ThingName) → Leads k r t n → IsNamed plan k r n ⊎ (IsOwnedBy plan n (owner.OfRow k) ⊎ ((o : Owner) × IsOwnedBy plan n o × IsIn o (uses plan k r)))
       weaker k r t n (inl named) = inl named
       weaker k r t n (inr (inl own)) = inr (inl own.0)
       weaker k r t n (inr (inr x)) = inr (inr (x.0, x.1, x.2))
 
-      weaker_shared : (k : Key) (r : Row) (o : Owner) (u : Thing) (n : Name) → SharedLeads k r o u n → IsNamed plan k r n ⊎ IsOwnedBy plan n o
+      weaker_shared : (k : Key) (r : Row) (o : Owner) (u : Thing) (n : ThingName) → SharedLeads k r o u n → IsNamed plan k r n ⊎ IsOwnedBy plan n o
       weaker_shared k r o u n (inl named) = inl named
       weaker_shared k r o u n (inr x) = inr x.0

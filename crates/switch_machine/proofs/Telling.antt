@@ -6,6 +6,7 @@ use Rattle.std.specs.declared.cmp.Ordering.TheVariants.{Less}
 use Rattle.std.specs.List.{AllByRecursion}
 use Rattle.std.specs.List.Sorted.{IsStrictlySortedBy}
 use Rattle.std.specs.Map.{keys_of}
+use Rattle.swss_types.proofs.Tied.{tied}
 use Rattle.table_schema.specs.Fields.{Pairs, merged}
 use Rattle.table_schema.specs.Key.{key_cmp}
 use Rattle.table_schema.specs.Rows.{HasRisingRows, Rows, after_write, fields_at, rows_of}
@@ -15,17 +16,16 @@ use Rattle.table_schema.specs.declared.write.Write.TheVariants as write
 use Rattle.table_schema.proofs.Keys.{key_exact, key_total}
 use Rattle.table_schema.proofs.RowLists.{HasRisingRows-rows_of, after_writes-more}
 use Rattle.sai_types.proofs.Maps.{lookup-insert_entry, lookup-removed}
-use Rattle.switch_model.proofs.Tied.{tied}
 use Rattle.switch_machine.specs.Written.{ArePopped, IsAsBefore, IsPoppedKey, IsTold, TakesWrite, Written, fields_after}
 
-all_keys : (k : Key) (es : Rows) → AllByRecursion (λ (y : Key × Pairs). key_cmp k y.0 ≡ Less) es → AllByRecursion (λ y. key_cmp k y ≡ Less) (keys_of es)
-all_keys k [] h = tt
-all_keys k (e ∷ es) h = (h.0, all_keys k es h.1)
+keys_all_greater : (k : Key) (es : Rows) → AllByRecursion (λ (y : Key × Pairs). key_cmp k y.0 ≡ Less) es → AllByRecursion (λ y. key_cmp k y ≡ Less) (keys_of es)
+keys_all_greater k [] h = tt
+keys_all_greater k (e ∷ es) h = (h.0, keys_all_greater k es h.1)
 
 sorted_keys : (es : Rows) → HasRisingRows es → IsStrictlySortedBy key_cmp (keys_of es)
 unfolding IsStrictlySortedBy
 sorted_keys [] h = tt
-sorted_keys (e ∷ es) h = (all_keys e.0 es h.0, sorted_keys es h.1)
+sorted_keys (e ∷ es) h = (keys_all_greater e.0 es h.0, sorted_keys es h.1)
 
 set_by : (rows : Rows) (key k : Key) (fields : Pairs) (b : Bool) → is_at (key_cmp k) key ≡ b → cond b (Some (merged (unwrap_or (fields_at rows key) []) fields)) (fields_at rows k) ≡ (if b then Some (merged (unwrap_or (fields_at rows k) []) fields) else fields_at rows k)
 set_by rows key k fields true e = ap (λ z. Some (merged (unwrap_or (fields_at rows z) []) fields)) (sym (key_exact k key (tied (key_cmp k key) e)))

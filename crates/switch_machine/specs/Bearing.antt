@@ -6,20 +6,20 @@ use Rattle.sai_types.specs.declared.ids.Rid.{Rid}
 use Rattle.sai_types.specs.declared.thing.Thing.{Thing}
 use Rattle.sai_types.specs.Alike.{IsIn}
 use Rattle.sai_types.specs.Names as name
-use Rattle.sai_types.specs.Names.{Name}
+use Rattle.sai_types.specs.Names.{ThingName}
 use Rattle.row_layout.specs.Operations.{Change}
 use Rattle.switch_machine.specs.Changes.{changed_name}
 use Rattle.switch_machine.specs.Flights.{Machine}
 
 -- what has this name bears on where packets go
-abbrev pub Bears : Name → Type 0
+abbrev pub Bears : ThingName → Type 0
 Bears (name.Route prefix) = Unit {0}
 Bears (name.Own ip) = Unit {0}
 Bears (name.Neighbor hop) = Unit {0}
 Bears _ = ⊥
 
 -- and on where those of this address go
-abbrev pub BearsOn : Ip → Name → Type 0
+abbrev pub BearsOn : Ip → ThingName → Type 0
 BearsOn a (name.Route prefix) = covers prefix a ≡ true
 BearsOn a (name.Own ip) = Unit {0}
 BearsOn a (name.Neighbor hop) = Unit {0}
@@ -29,7 +29,7 @@ abbrev pub NoneBears : List Change → Type 0
 NoneBears cs = (c : Change) → IsIn c cs → Bears (changed_name c) → ⊥
 
 -- one change at most bears, and it is about what has this name
-pub record BearsOnce (n : Name) (cs : List Change) : Type 0 where
+pub record BearsOnce (n : ThingName) (cs : List Change) : Type 0 where
   pub before : List Change
   pub middle : List Change
   pub after : List Change

@@ -13,17 +13,17 @@ use Rattle.sai_types.specs.declared.thing.Thing.TheVariants as thing
 use Rattle.sai_types.specs.After.{entry_of}
 use Rattle.chip_layout.specs.Bodies.{IsBody, IsChange}
 use Rattle.chip_layout.specs.Layout.{Has, Layout, with_changed, with_thing, without}
-use Rattle.sai_types.specs.Names.{Name, Refers, name_of}
+use Rattle.sai_types.specs.Names.{ThingName, Refers, name_of}
 use Rattle.row_layout.specs.Operations.{Change, Make, Set, Take}
 
 -- the name that a change is about
-abbrev pub changed_name : Change → Name
+abbrev pub changed_name : Change → ThingName
 changed_name (Make t) = name_of t
 changed_name (Set t) = name_of t
 changed_name (Take n) = n
 
 -- a change sets or takes away what has this name
-abbrev pub Disturbs : Change → Name → Type 0
+abbrev pub Disturbs : Change → ThingName → Type 0
 Disturbs (Make t) n = ⊥
 Disturbs (Set t) n = name_of t ≡ n
 Disturbs (Take m) n = m ≡ n
@@ -50,7 +50,7 @@ IsSamePort _ _ = ⊥
 -- a thing is another one, but for values of a port that are set one after the other; and it refers to no more
 pub record Resembles (u t : Thing) : Type 0 where
   pub same : (u ≡ t) ⊎ IsSamePort u t
-  pub refers : (n : Name) → Refers u n → Refers t n
+  pub refers : (n : ThingName) → Refers u n → Refers t n
 
 -- the call of a change
 pub record IsMakeCall (layout : Layout Rid) (t : Thing) (c : Call Rid) : Type 0 where
@@ -68,7 +68,7 @@ pub record IsSetCall (layout : Layout Rid) (u : Thing) (c : Call Rid) : Type 0 w
   pub change : IsChange (Has layout) old attr u
   pub is : c ≡ call.Set (entry_of id.0 body) attr
 
-pub record IsTakeCall (layout : Layout Rid) (n : Name) (c : Call Rid) : Type 0 where
+pub record IsTakeCall (layout : Layout Rid) (n : ThingName) (c : Call Rid) : Type 0 where
   pub id : Rid
   pub old : Thing
   pub stands : layout id old

@@ -16,7 +16,7 @@ use Rattle.chip_layout.specs.Layout.{IsLaidOut, Layout, has_number, listed, next
 use Rattle.row_layout.specs.Rows.{Owner}
 use Rattle.row_layout.specs.Operations.{Change, Make, Set, Take, shared_going, take_all}
 use Rattle.switch_machine.specs.Changes.{IsCall, changed_by}
-use Rattle.switch_machine.specs.Flights.{Flight, IsResting, IsRow, Machine}
+use Rattle.switch_machine.specs.Flights.{MachineFlight, IsResting, IsRow, Machine}
 use Rattle.switch_machine.specs.Steps.{Ends, LeavesOthers, finished, left, moved, parted, started}
 use Rattle.switch_machine.specs.Operations.{MayBegin, IsLast}
 use Rattle.switch_machine.specs.Places.{AreCovered, HasPlaces, HasRoomFor}
@@ -76,15 +76,15 @@ pub record IsDrop (plan : Ports) (s t : SwitchState) : Type 0 where
 -- what follows in the same event: nothing, where a change is due; the end; or the key leaves what it shared
 pub data Follows (plan : Ports) (w : ℕ) (m : Machine) : Machine → Type 0 where
   Due : (c : Change) (cs : List Change) → m.due w ≡ c ∷ cs → Follows plan w m m
-  Ended : (f : Flight) → Ends m w f → Follows plan w m (finished m w f)
-  Left : (f : Flight) (o : Owner) → LeavesOthers plan m w f o → Follows plan w m (finished (left m w f f.retires []) w (parted f f.retires))
-  Retires : (f : Flight) (o : Owner) → IsLast plan m w f o → Follows plan w m (left m w f (Some o) (take_all (shared_going o) []))
+  Ended : (f : MachineFlight) → Ends m w f → Follows plan w m (finished m w f)
+  Left : (f : MachineFlight) (o : Owner) → LeavesOthers plan m w f o → Follows plan w m (finished (left m w f f.retires []) w (parted f f.retires))
+  Retires : (f : MachineFlight) (o : Owner) → IsLast plan m w f o → Follows plan w m (left m w f (Some o) (take_all (shared_going o) []))
 
 -- an operation begins
 pub record IsBegin (plan : Ports) (workers : ℕ) (capacities : List ℕ) (s t : SwitchState) : Type 0 where
   pub worker : ℕ
   pub below : worker < workers
-  pub flight : Flight
+  pub flight : MachineFlight
   pub due : List Change
   pub new : flight.new ≡ good_of plan s.written flight.key
   pub begins : MayBegin plan s.machine worker flight due
@@ -105,7 +105,7 @@ IsGiven layout made (Take n) call x i = Unit {0}
 pub record IsDueCall (workers : ℕ) (call : Call Rid) (s : SwitchState) : Type 0 where
   pub worker : ℕ
   pub below : worker < workers
-  pub flight : Flight
+  pub flight : MachineFlight
   pub change : Change
   pub rest : List Change
   pub flying : s.machine.board.flights worker ≡ Some flight
@@ -180,7 +180,7 @@ pub record IsSafe (plan : Ports) (workers : ℕ) (capacities : List ℕ) (s : Sw
 
 -- no operation is under way
 abbrev pub IsQuiet : SwitchState → Type 0
-IsQuiet s = (w : ℕ) (f : Flight) → s.machine.board.flights w ≡ Some f → ⊥
+IsQuiet s = (w : ℕ) (f : MachineFlight) → s.machine.board.flights w ≡ Some f → ⊥
 
 abbrev pub empty_machine : Machine
 empty_machine = record { board = record { applied = λ k. None; flights = λ w. None }; due = λ w. []; reserved = λ w. []; stands = [] }

@@ -9,7 +9,7 @@ use Rattle.row_layout.specs.Operations.{Change, make_all, own_changes, uses_of}
 use Rattle.row_layout.specs.Rows.{Owner}
 use Rattle.row_layout.specs.Shared.{shared_things, uses}
 use Rattle.switch_model.specs.Good.{TypedRows}
-use Rattle.switch_machine.specs.Flights.{CountsAsUser, Fits, Flight, HasChangeOf, IsFirm, IsResting, IsRow, IsUser, Machine}
+use Rattle.switch_machine.specs.Flights.{CountsAsUser, Fits, MachineFlight, HasChangeOf, IsFirm, IsResting, IsRow, IsUser, Machine}
 use Rattle.switch_machine.specs.Steps.{Leaves}
 
 -- first what is shared is built, where it is absent
@@ -18,13 +18,13 @@ built_first None own = own
 built_first (Some o) own = make_all (shared_things o) own
 
 -- the changes of an operation: it builds what its new row shares, where that has no user
-pub record IsOperation (plan : Ports) (m : Machine) (f : Flight) (due : List Change) : Type 0 where
+pub record IsOperation (plan : Ports) (m : Machine) (f : MachineFlight) (due : List Change) : Type 0 where
   pub builds : Option Owner
   pub is : due ≡ built_first builds (own_changes plan f.key (m.board.applied f.key) f.new)
   pub built : (o : Owner) → builds ≡ Some o → IsIn o (uses_of plan f.key f.new) × ((k : Key) → IsUser plan m.board k o → ⊥)
   pub found : builds ≡ None → (o : Owner) → IsIn o (uses_of plan f.key f.new) → (k : Key) × IsUser plan m.board k o
 
-pub record MayBegin (plan : Ports) (m : Machine) (w : ℕ) (f : Flight) (due : List Change) : Type 0 where
+pub record MayBegin (plan : Ports) (m : Machine) (w : ℕ) (f : MachineFlight) (due : List Change) : Type 0 where
   pub idle : m.board.flights w ≡ None
   pub rests : IsResting m.board f.key
   pub fit : (r : Row) → f.new ≡ Some r → Fits plan f.key r
@@ -33,7 +33,7 @@ pub record MayBegin (plan : Ports) (m : Machine) (w : ℕ) (f : Flight) (due : L
   -- nothing holds a row that is to go
   pub unnamed : f.new ≡ None → (k : Key) (r : Row) → IsRow m.board k r → IsIn f.key (names_of k r) → ⊥
   -- nobody builds or retires what the new row shares
-  pub free : (o : Owner) → IsIn o (uses_of plan f.key f.new) → (v : ℕ) (g : Flight) → m.board.flights v ≡ Some g → (HasChangeOf plan (m.due v) o → ⊥) × (g.retires ≡ Some o → ⊥)
+  pub free : (o : Owner) → IsIn o (uses_of plan f.key f.new) → (v : ℕ) (g : MachineFlight) → m.board.flights v ≡ Some g → (HasChangeOf plan (m.due v) o → ⊥) × (g.retires ≡ Some o → ⊥)
   pub none : f.retires ≡ None
   -- it has to leave what its applied row shares and its new one does not
   pub leaves : (o : Owner) → f.leaves ≡ Some o → IsIn o (uses_of plan f.key (m.board.applied f.key)) × (IsIn o (uses_of plan f.key f.new) → ⊥)
@@ -46,6 +46,6 @@ pub record IsUsedByOthers (plan : Ports) (rows : TypedRows) (k : Key) (used : Ow
   pub no : (o : Owner) → used o ≡ false → (q : Key) (r : Row) → (q ≡ k → ⊥) → rows q ≡ Some r → IsIn o (uses plan q r) → ⊥
 
 -- it was the last user of what it leaves
-pub record IsLast (plan : Ports) (m : Machine) (w : ℕ) (f : Flight) (o : Owner) : Type 0 where
+pub record IsLast (plan : Ports) (m : Machine) (w : ℕ) (f : MachineFlight) (o : Owner) : Type 0 where
   pub leaving : Leaves m w f o
   pub last : (k : Key) → IsUser plan m.board k o → k ≡ f.key

@@ -16,19 +16,19 @@ use Rattle.row_layout.specs.Operations.{Change}
 use Rattle.row_layout.specs.Rows.{Owner}
 use Rattle.row_layout.specs.Shared.{uses}
 use Rattle.switch_machine.specs.Events.{SwitchState}
-use Rattle.switch_machine.specs.Flights.{Board, Flight, HasChangeOf, IsResting, Machine}
+use Rattle.switch_machine.specs.Flights.{MachineBoard, MachineFlight, HasChangeOf, IsResting, Machine}
 use Rattle.switch_machine.specs.Operations.{MayBegin}
 use Rattle.switch_machine.specs.Places.{makes, places_kept}
 use Rattle.switch_machine.specs.Written.{good_of}
 
 -- the operation of this worker has the key
-abbrev pub IsFlownBy : Board → Key → ℕ → Type 0
-IsFlownBy b k v = (f : Flight) × (b.flights v ≡ Some f) × (f.key ≡ k)
+abbrev pub IsFlownBy : MachineBoard → Key → ℕ → Type 0
+IsFlownBy b k v = (f : MachineFlight) × (b.flights v ≡ Some f) × (f.key ≡ k)
 
 -- the operation of this worker takes away a row that the key's new row names, or builds or retires what that row shares; or, where the key has no new row, it brings a row that names the key
 abbrev pub IsInTheWay : Ports → Machine → Key → Option Row → ℕ → Type 0
-IsInTheWay plan m k None v = (g : Flight) × (m.board.flights v ≡ Some g) × ((r : Row) × (g.new ≡ Some r) × IsIn k (names_of g.key r))
-IsInTheWay plan m k (Some row) v = (g : Flight) × (m.board.flights v ≡ Some g) × (((g.new ≡ None) × IsIn g.key (names_of k row)) ⊎ ((o : Owner) × IsIn o (uses plan k row) × (HasChangeOf plan (m.due v) o ⊎ (g.retires ≡ Some o))))
+IsInTheWay plan m k None v = (g : MachineFlight) × (m.board.flights v ≡ Some g) × ((r : Row) × (g.new ≡ Some r) × IsIn k (names_of g.key r))
+IsInTheWay plan m k (Some row) v = (g : MachineFlight) × (m.board.flights v ≡ Some g) × (((g.new ≡ None) × IsIn g.key (names_of k row)) ⊎ ((o : Owner) × IsIn o (uses plan k row) × (HasChangeOf plan (m.due v) o ⊎ (g.retires ≡ Some o))))
 
 -- it is the least such worker
 pub record IsFirstInTheWay (plan : Ports) (m : Machine) (k : Key) (new : Option Row) (v : ℕ) : Type 0 where
@@ -36,7 +36,7 @@ pub record IsFirstInTheWay (plan : Ports) (m : Machine) (k : Key) (new : Option 
   pub least : (u : ℕ) → IsInTheWay plan m k new u → v ≤ u
 
 -- no operation has the key, its good row is another than its applied one, all that the good row names is applied, and where there is none no applied row names the key
-pub record IsPrepared (plan : Ports) (s : SwitchState) (k : Key) : Type 0 where
+pub record IsRowPrepared (plan : Ports) (s : SwitchState) (k : Key) : Type 0 where
   pub rests : IsResting s.machine.board k
   pub differs : s.machine.board.applied k ≡ good_of plan s.written k → ⊥
   pub named : (r : Row) → good_of plan s.written k ≡ Some r → have_rows s.machine.board.applied (names_of k r) ≡ true
@@ -45,7 +45,7 @@ pub record IsPrepared (plan : Ports) (s : SwitchState) (k : Key) : Type 0 where
 -- an operation may begin, but for a kind of which it makes objects there is no room beside the places that workers keep, and there is for each lower kind
 pub record LacksRoom (plan : Ports) (workers : ℕ) (capacities : List ℕ) (s : SwitchState) (k : Key) (kind : Kind) : Type 0 where
   pub worker : ℕ
-  pub flight : Flight
+  pub flight : MachineFlight
   pub due : List Change
   pub begins : MayBegin plan s.machine worker flight due
   pub is : flight.key ≡ k
@@ -58,7 +58,7 @@ pub record LacksRoom (plan : Ports) (workers : ℕ) (capacities : List ℕ) (s :
 
 -- the first that holds: an operation has the key; a name is missing; a row holds it; an operation is in the way; there is no room
 abbrev pub IsReason : Ports → ℕ → List ℕ → SwitchState → Key → Wait → Type 0
-IsReason plan workers capacities s k (wait.Busy worker) = IsFlownBy s.machine.board k worker ⊎ (IsPrepared plan s k × IsFirstInTheWay plan s.machine k (good_of plan s.written k) worker)
+IsReason plan workers capacities s k (wait.Busy worker) = IsFlownBy s.machine.board k worker ⊎ (IsRowPrepared plan s k × IsFirstInTheWay plan s.machine k (good_of plan s.written k) worker)
 IsReason plan workers capacities s k (wait.Missing name) = IsResting s.machine.board k × ((row : Row) × (good_of plan s.written k ≡ Some row) × (first_missing s.machine.board.applied (names_of k row) ≡ Some name))
 IsReason plan workers capacities s k (wait.Held holder) = IsResting s.machine.board k × (good_of plan s.written k ≡ None) × ((row : Row) × (s.machine.board.applied k ≡ Some row) × IsHeldBy s.machine.board.applied k holder)
 IsReason plan workers capacities s k (wait.NoRoom kind) = LacksRoom plan workers capacities s k kind

@@ -32,13 +32,13 @@ ghost use Rattle.row_layout.specs.Operations.{Change, changes_of};
 ghost use Rattle.row_layout.specs.Rows.{Owner, own_things};
 ghost use Rattle.switch_machine.specs.Changes.{Disturbs};
 ghost use Rattle.switch_machine.specs.Events.{AreAnswers, AreEvents, IsAnswer, IsBegin, IsDrop, IsDueCall, IsEvent, IsQuiet, IsSafe, SwitchState, after_answers, after_events, calls_of, changes_made, empty_switch, fresh_view};
-ghost use Rattle.switch_machine.specs.Flights.{Fits, Flight, IsResting, IsRow, StandsIn};
+ghost use Rattle.switch_machine.specs.Flights.{Fits, MachineFlight, IsResting, IsRow, StandsIn};
 ghost use Rattle.switch_machine.specs.Bearing.{BearsOnce, SwitchesOnce, standing_things};
 ghost use Rattle.switch_machine.specs.Needs.{OfCall, OfList, OfMark, OfWrite, need_of};
 ghost use Rattle.switch_machine.specs.Next.{MustWait, IsIdle, IsNextEvent};
 ghost use Rattle.switch_machine.specs.Operations.{IsUsedByOthers, MayBegin};
 ghost use Rattle.switch_machine.specs.Places.{HasRoomFor};
-ghost use Rattle.switch_machine.specs.Reasons.{IsInTheWay, IsPrepared, IsReason, LacksRoom};
+ghost use Rattle.switch_machine.specs.Reasons.{IsInTheWay, IsRowPrepared, IsReason, LacksRoom};
 ghost use Rattle.switch_machine.specs.Steps.{with_row};
 ghost use Rattle.switch_machine.specs.Written.{HasWrittenRows, IsGoodOnce, IsTold, Written, good_of};
 
@@ -55,7 +55,7 @@ pub fn runs_are_safe()
 pub fn calls_are_legal()
     ensures legal { (plan : Ports) (workers : ℕ) (capacities : List ℕ) (s : SwitchState) (es : List (Option (Call Rid) × SwitchState)) → IsPlan plan → IsSafe plan workers capacities s → AreEvents plan workers capacities s es → AreLegal capacities s.made s.objects (calls_of es) }
     ensures due { (plan : Ports) (workers : ℕ) (capacities : List ℕ) (s : SwitchState) (call : Call Rid) → IsPlan plan → IsSafe plan workers capacities s → IsDueCall workers call s → IsLegal capacities s.objects call }
-    ensures there { (plan : Ports) (workers : ℕ) (capacities : List ℕ) (s : SwitchState) (w : ℕ) (f : Flight) (c : Change) (cs : List Change) → IsPlan plan → IsSafe plan workers capacities s → w < workers → s.machine.board.flights w ≡ Some f → s.machine.due w ≡ c ∷ cs → (call : Call Rid) × IsDueCall workers call s }
+    ensures there { (plan : Ports) (workers : ℕ) (capacities : List ℕ) (s : SwitchState) (w : ℕ) (f : MachineFlight) (c : Change) (cs : List Change) → IsPlan plan → IsSafe plan workers capacities s → w < workers → s.machine.board.flights w ≡ Some f → s.machine.due w ≡ c ∷ cs → (call : Call Rid) × IsDueCall workers call s }
 {}
 
 /// While no operation is under way the chip is alike to the things of the applied rows, and each key that is not to sync has
@@ -125,7 +125,7 @@ pub fn needs_suffice()
 /// A key whose good row fits its table, and that no operation, no missing name, no holder and nothing in the way hinders, may
 /// begin for a worker without an operation; and there is room for what it makes, or a first kind lacks it.
 pub fn free_keys_begin()
-    ensures { (plan : Ports) (workers : ℕ) (capacities : List ℕ) (s : SwitchState) (w : ℕ) (k : Key) → IsPlan plan → IsSafe plan workers capacities s → s.machine.board.flights w ≡ None → IsPrepared plan s k → ((v : ℕ) → IsInTheWay plan s.machine k (good_of plan s.written k) v → ⊥) → ((r : Row) → good_of plan s.written k ≡ Some r → Fits plan k r) → (f : Flight) × (due : List Change) × (f.key ≡ k) × (f.new ≡ good_of plan s.written k) × MayBegin plan s.machine w f due × (HasRoomFor workers capacities s.objects s.machine due ⊎ ((kind : Kind) × LacksRoom plan workers capacities s k kind)) }
+    ensures { (plan : Ports) (workers : ℕ) (capacities : List ℕ) (s : SwitchState) (w : ℕ) (k : Key) → IsPlan plan → IsSafe plan workers capacities s → s.machine.board.flights w ≡ None → IsRowPrepared plan s k → ((v : ℕ) → IsInTheWay plan s.machine k (good_of plan s.written k) v → ⊥) → ((r : Row) → good_of plan s.written k ≡ Some r → Fits plan k r) → (f : MachineFlight) × (due : List Change) × (f.key ≡ k) × (f.new ≡ good_of plan s.written k) × MayBegin plan s.machine w f due × (HasRoomFor workers capacities s.objects s.machine due ⊎ ((kind : Kind) × LacksRoom plan workers capacities s k kind)) }
 {}
 
 /// What a worker does next is an event, or nothing. Where it is idle no event of any worker applies but the call that is due

@@ -1,7 +1,6 @@
 pub mod Ready
 pub mod ReadRows
 pub mod References
-pub mod Tied
 pub mod Planned
 pub mod Worked
 pub mod WorkedWaits

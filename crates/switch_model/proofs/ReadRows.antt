@@ -5,7 +5,7 @@ use Rattle.std.specs.Str.{bytes_eq}
 use Rattle.swss_types.specs.Lanes.{lanes_of}
 use Rattle.swss_types.specs.Mac.{mac_of}
 use Rattle.swss_types.specs.declared.address.Mac.{Mac}
-use Rattle.table_schema.specs.Broken.{bad, and_then}
+use Rattle.table_schema.specs.Broken.{bad}
 use Rattle.table_schema.specs.Fields.{Pairs, value_of}
 use Rattle.table_schema.specs.Plan.{Ports, lanes_in_plan}
 use Rattle.table_schema.specs.Rows.{Rows, fields_at}
@@ -17,27 +17,24 @@ use Rattle.table_schema.specs.declared.row.BadWhy.TheVariants.{LanesDiffer}
 use Rattle.table_schema.specs.declared.row.PortRow.{PortRow}
 use Rattle.table_schema.specs.declared.row.Row.{Row}
 use Rattle.table_schema.specs.declared.row.Row.TheVariants as row
+use Rattle.table_schema.proofs.ProperNames.{both_hold}
 use Rattle.switch_model.specs.Good.{good_row, good_rows, row_read}
 
 -- the row reads from some fields
 abbrev pub IsRead : Ports → Key → Row → Type 0
 IsRead plan k r = (fields : Pairs) × (row_of plan k fields ≡ Ok r)
 
-read_by : (o : Result Row BadRow) (r : Row) → row_read o ≡ Some r → o ≡ Ok r
-read_by (Err bad) r h = cc
-read_by (Ok x) r h = cc
+row_read_ok : (o : Result Row BadRow) (r : Row) → row_read o ≡ Some r → o ≡ Ok r
+row_read_ok (Err bad) r h = cc
+row_read_ok (Ok x) r h = cc
 
 good_by : (plan : Ports) (k : Key) (o : Option Pairs) (r : Row) → good_row plan k o ≡ Some r → IsRead plan k r
 good_by plan k None r h = cc
-good_by plan k (Some fields) r h = (fields, read_by (row_of plan k fields) r h)
+good_by plan k (Some fields) r h = (fields, row_read_ok (row_of plan k fields) r h)
 
 -- a good row reads
 pub IsRead-good : (plan : Ports) (rows : Rows) (k : Key) (r : Row) → good_rows plan rows k ≡ Some r → IsRead plan k r
 IsRead-good plan rows k r h = good_by plan k (fields_at rows k) r h
-
-both_hold : {T U : Type 0} (r : Result T BadRow) (f : T → Result U BadRow) (y : U) → and_then r f ≡ Ok y → (x : T) × (r ≡ Ok x) × (f x ≡ Ok y)
-both_hold (Err e) f y h = cc
-both_hold (Ok x) f y h = (x, refl, h)
 
 -- the lanes that a port's row has are those of the plan
 same_lanes : (there lanes taken : List ℕ) (t : Bool) → bytes_eq there lanes ≡ t → cond t (Ok lanes) (bad LanesDiffer 1) ≡ Ok taken → there ≡ taken

@@ -1,8 +1,10 @@
 -- ready rows, level by level
-use Rattle.std.proofs.Common.{◌≡◌, ℕ, zero, suc, ◌<◌, ◌≤◌, Bool, true, false, ◌&&◌, cond, List, [], ◌∷◌, map, Option, None, Some, refl, ap, ◌∙◌, subst, arith}
+use Rattle.std.proofs.Common.{◌≡◌, ℕ, zero, suc, ◌<◌, ◌≤◌, Bool, true, false, ◌&&◌, List, [], ◌∷◌, map, Option, None, Some, refl, ap, ◌∙◌, subst, arith}
+use Rattle.std.proofs.lemmas.Bool.{and_parts}
 use Rattle.std.specs.Option.{is_some}
 use Rattle.swss_types.specs.declared.interface.IfName.{IfName}
 use Rattle.swss_types.specs.declared.interface.IfName.TheVariants as name
+use Rattle.swss_types.proofs.Choices.{chosen}
 use Rattle.table_schema.specs.Names.{names_of, base_names, route_names, names_of_route}
 use Rattle.table_schema.specs.declared.key.Key.{Key}
 use Rattle.table_schema.specs.declared.key.Key.TheVariants as key
@@ -15,19 +17,10 @@ use Rattle.switch_model.specs.Desired.{IsClosed, have_rows, where_named, ready_b
 use Rattle.switch_model.specs.Good.{TypedRows}
 use Rattle.switch_model.specs.Levels.{level_of}
 
-pub both_true : (a b : Bool) → (a && b) ≡ true → (a ≡ true) × (b ≡ true)
-both_true true true h = (refl, refl)
-both_true true false h = cc
-both_true false b h = cc
-
 and_true : (a b : Bool) → a ≡ true → b ≡ true → (a && b) ≡ true
 and_true true true h k = refl
 and_true true false h k = cc
 and_true false b h k = cc
-
-chosen : (b : Bool) (r s : Row) → cond b (Some r) None ≡ Some s → (b ≡ true) × (r ≡ s)
-chosen true r s h = (refl, cc)
-chosen false r s h = cc
 
 some_up : (o p : Option Row) → ((r : Row) → o ≡ Some r → p ≡ Some r) → is_some o ≡ true → is_some p ≡ true
 some_up None p up h = cc
@@ -37,7 +30,7 @@ some_up (Some r) p up h = rw (up r refl) refl
 have_rows-more : (f g : TypedRows) → ((k : Key) (r : Row) → f k ≡ Some r → g k ≡ Some r) → (keys : List Key) → have_rows f keys ≡ true → have_rows g keys ≡ true
 have_rows-more f g up [] h = refl
 have_rows-more f g up (k ∷ ks) h =
-    let parts = both_true (is_some (f k)) (have_rows f ks) h in
+    let parts = and_parts (is_some (f k)) (have_rows f ks) h in
     and_true (is_some (g k)) (have_rows g ks) (some_up (f k) (g k) (up k) parts.0) (have_rows-more f g up ks parts.1)
 
 where_named-more : (f g : TypedRows) (k : Key) (o : Option Row) (r : Row) → ((k : Key) (r : Row) → f k ≡ Some r → g k ≡ Some r) → where_named f k o ≡ Some r → where_named g k o ≡ Some r
@@ -51,23 +44,23 @@ ready_below-more : (n : ℕ) (rows : TypedRows) (k : Key) (r : Row) → ready_be
 ready_below-more zero rows k r h = cc
 ready_below-more (suc n) rows k r h = where_named-more (ready_below n rows) (ready_below (suc n) rows) k (rows k) r (ready_below-more n rows) h
 
-named : (f : TypedRows) (k : Key) (o : Option Row) (r : Row) → where_named f k o ≡ Some r → have_rows f (names_of k r) ≡ true
-named f k None r h = cc
-named f k (Some s) r h =
+names_have_rows : (f : TypedRows) (k : Key) (o : Option Row) (r : Row) → where_named f k o ≡ Some r → have_rows f (names_of k r) ≡ true
+names_have_rows f k None r h = cc
+names_have_rows f k (Some s) r h =
     let c = chosen (have_rows f (names_of k s)) s r h in
     subst (λ x. have_rows f (names_of k x) ≡ true) c.1 c.0
 
 -- what a ready row names is ready
 pub IsClosed-ready : (rows : TypedRows) → IsClosed (ready_rows rows)
-IsClosed-ready rows k r h = have_rows-more (ready_below 3 rows) (ready_below 4 rows) (ready_below-more 3 rows) (names_of k r) (named (ready_below 3 rows) k (rows k) r h)
+IsClosed-ready rows k r h = have_rows-more (ready_below 3 rows) (ready_below 4 rows) (ready_below-more 3 rows) (names_of k r) (names_have_rows (ready_below 3 rows) k (rows k) r h)
 
-there : (f : TypedRows) (k : Key) (o : Option Row) (r : Row) → where_named f k o ≡ Some r → o ≡ Some r
-there f k None r h = cc
-there f k (Some s) r h = ap Some ((chosen (have_rows f (names_of k s)) s r h).1)
+where_named_there : (f : TypedRows) (k : Key) (o : Option Row) (r : Row) → where_named f k o ≡ Some r → o ≡ Some r
+where_named_there f k None r h = cc
+where_named_there f k (Some s) r h = ap Some ((chosen (have_rows f (names_of k s)) s r h).1)
 
 -- a ready row is there
 pub ready-there : (rows : TypedRows) (k : Key) (r : Row) → ready_rows rows k ≡ Some r → rows k ≡ Some r
-ready-there rows k r h = there (ready_below 3 rows) k (rows k) r h
+ready-there rows k r h = where_named_there (ready_below 3 rows) k (rows k) r h
 
 -- each key of a list is of a lower level than this
 abbrev pub AreBelow : ℕ → List Key → Type 0
@@ -111,18 +104,18 @@ names_below (key.Other text) r = tt
 have_rows-same : (f g : TypedRows) (n m : ℕ) → n ≤ m → ((k : Key) → level_of k < m → f k ≡ g k) → (keys : List Key) → AreBelow n keys → have_rows g keys ≡ true → have_rows f keys ≡ true
 have_rows-same f g n m le same [] below h = refl
 have_rows-same f g n m le same (k ∷ ks) below h =
-    let parts = both_true (is_some (g k)) (have_rows g ks) h in
+    let parts = and_parts (is_some (g k)) (have_rows g ks) h in
     and_true (is_some (f k)) (have_rows f ks) (ap is_some (same k (omega (arith, below.0, le))) ∙ parts.0) (have_rows-same f g n m le same ks below.1 parts.1)
 
-stays : (f rows : TypedRows) (m : ℕ) (k : Key) (o : Option Row) → IsClosed rows → level_of k ≤ m → ((q : Key) → level_of q < m → f q ≡ rows q) → rows k ≡ o → where_named f k o ≡ o
-stays f rows m k None closed le same is = refl
-stays f rows m k (Some r) closed le same is = rw (have_rows-same f rows (level_of k) m le same (names_of k r) (names_below k r) (closed k r is)) refl
+where_named_stays : (f rows : TypedRows) (m : ℕ) (k : Key) (o : Option Row) → IsClosed rows → level_of k ≤ m → ((q : Key) → level_of q < m → f q ≡ rows q) → rows k ≡ o → where_named f k o ≡ o
+where_named_stays f rows m k None closed le same is = refl
+where_named_stays f rows m k (Some r) closed le same is = rw (have_rows-same f rows (level_of k) m le same (names_of k r) (names_below k r) (closed k r is)) refl
 
 ready_below-closed : (n : ℕ) (rows : TypedRows) → IsClosed rows → (k : Key) → level_of k < n → ready_below n rows k ≡ rows k
 ready_below-closed zero rows closed k low = absurd (omega (arith, low))
-ready_below-closed (suc n) rows closed k low = stays (ready_below n rows) rows n k (rows k) closed (omega (arith, low)) (ready_below-closed n rows closed) refl
+ready_below-closed (suc n) rows closed k low = where_named_stays (ready_below n rows) rows n k (rows k) closed (omega (arith, low)) (ready_below-closed n rows closed) refl
 
-low : (k : Key) → level_of k < 4
+pub low : (k : Key) → level_of k < 4
 low (key.Port port) = omega arith
 low (key.Vlan vlan) = omega arith
 low (key.Member vlan port) = omega arith

@@ -1,5 +1,6 @@
 -- whatever a thing of closed rows that read refers to is a thing of them
 use Rattle.std.proofs.Common.{◌≡◌, inl, inr, ℕ, true, List, [], ◌∷◌, map, Option, None, Some, refl, sym, ap, ◌∙◌, subst}
+use Rattle.std.proofs.lemmas.Bool.{and_parts}
 use Rattle.std.specs.BTreeSet.{insert_key}
 use Rattle.std.specs.Option.{is_some}
 use Rattle.std.specs.Ordering.{match_ordering}
@@ -12,6 +13,7 @@ use Rattle.swss_types.specs.declared.address.Prefix.{Prefix}
 use Rattle.swss_types.specs.declared.interface.IfName.{IfName}
 use Rattle.swss_types.specs.declared.interface.IfName.TheVariants as name
 use Rattle.swss_types.specs.declared.tagging.Tagging.{Tagging}
+use Rattle.swss_types.proofs.Proper.{mapped}
 use Rattle.table_schema.specs.Names.{names_of, base_names, route_names}
 use Rattle.table_schema.specs.Plan.{Ports}
 use Rattle.table_schema.specs.Rows.{Rows}
@@ -29,15 +31,16 @@ use Rattle.sai_types.specs.declared.thing.Goal.TheVariants as goal
 use Rattle.sai_types.specs.declared.thing.Thing.{Thing}
 use Rattle.sai_types.specs.declared.thing.Thing.TheVariants as thing
 use Rattle.sai_types.specs.Alike.{IsIn}
-use Rattle.sai_types.specs.Named.{both, first_lane, hop_cmp}
+use Rattle.sai_types.specs.Named.{first_lane, hop_cmp}
 use Rattle.sai_types.specs.Names as thing_name
-use Rattle.sai_types.specs.Names.{Name, base_name, name_of, thing_references}
+use Rattle.sai_types.specs.Names.{ThingName, base_name, name_of, thing_references}
+use Rattle.sai_types.proofs.Things.{both_mapped}
 use Rattle.switch_model.specs.Desired.{IsClosed, IsThingOf, desired_view, have_rows, ready_rows}
 use Rattle.switch_model.specs.Good.{TypedRows, good_rows}
 use Rattle.switch_model.specs.References.{IsSelfContained}
 use Rattle.switch_model.specs.Things.{address_things, base_of, from_base, from_hops, from_lane, hop_of, hops_of, lane_of, members_of, route_things, route_to, things_of}
 use Rattle.switch_model.proofs.ReadRows.{IsRead, IsRead-good, intf_read, neigh_read, port_read, vlan_read}
-use Rattle.switch_model.proofs.Ready.{IsClosed-ready, both_true, ready-there}
+use Rattle.switch_model.proofs.Ready.{IsClosed-ready, ready-there}
 
 row_there : (o : Option Row) → is_some o ≡ true → (r : Row) × (o ≡ Some r)
 row_there None h = cc
@@ -45,24 +48,15 @@ row_there (Some r) h = (r, refl)
 
 -- the rows of one name and of two
 one_there : (rows : TypedRows) (k : Key) → have_rows rows (k ∷ []) ≡ true → (r : Row) × (rows k ≡ Some r)
-one_there rows k h = row_there (rows k) ((both_true (is_some (rows k)) true h).0)
+one_there rows k h = row_there (rows k) ((and_parts (is_some (rows k)) true h).0)
 
 two_there : (rows : TypedRows) (k q : Key) → have_rows rows (k ∷ q ∷ []) ≡ true → ((r : Row) × (rows k ≡ Some r)) × ((r : Row) × (rows q ≡ Some r))
 two_there rows k q h =
-    let parts = both_true (is_some (rows k)) (have_rows rows (q ∷ [])) h in
+    let parts = and_parts (is_some (rows k)) (have_rows rows (q ∷ [])) h in
     (row_there (rows k) parts.0, one_there rows q parts.1)
 
 some_is : (n m : ℕ) (o : Option ℕ) → o ≡ Some n → o ≡ Some m → n ≡ m
 some_is n m o h k = cc
-
-mapped : {X Y : Type 0} (f : X → Y) (o : Option X) (y : Y) → option_map f o ≡ Some y → (x : X) × (o ≡ Some x) × (f x ≡ y)
-mapped f None y h = cc
-mapped f (Some x) y h = (x, refl, cc)
-
-both_mapped : {A B C : Type 0} (f : A → B → C) (o : Option A) (p : Option B) (y : C) → both f o p ≡ Some y → (a : A) × (b : B) × (o ≡ Some a) × (p ≡ Some b) × (f a b ≡ y)
-both_mapped f None p y h = absurd cc
-both_mapped f (Some a) None y h = absurd cc
-both_mapped f (Some a) (Some b) y h = (a, b, refl, refl, cc)
 
 abbrev AllIn : {X : Type 0} → (X → Type 0) → List X → Type 0
 AllIn P [] = Unit {0}
@@ -84,7 +78,7 @@ AllIn-insert P cmp (y ∷ ys) x h all = by (cmp x y) (AllIn-insert P cmp ys x h 
 
 module _ (plan : Ports) (rows : TypedRows) (closed : IsClosed rows) (read : (k : Key) (r : Row) → rows k ≡ Some r → IsRead plan k r) where
   -- some thing of the rows has the name
-  abbrev IsMet : Name → Type 0
+  abbrev IsMet : ThingName → Type 0
   IsMet k = (y : Thing) × IsThingOf plan rows y × (name_of y ≡ k)
 
   abbrev AreMet : Thing → Type 0
@@ -137,7 +131,7 @@ module _ (plan : Ports) (rows : TypedRows) (closed : IsClosed rows) (read : (k :
   hops_met : (hops : List RowHop) (group : List Hop) → have_rows rows (map (λ h. key.Neigh h.on h.ip) hops) ≡ true → hops_of plan hops ≡ Some group → AllIn IsHopMet group
   hops_met [] group named h = let is : [] ≡ group = cc in subst (AllIn IsHopMet) is tt
   hops_met (hop ∷ hops) group named h =
-      let first = both_true (is_some (rows (key.Neigh hop.on hop.ip))) (have_rows rows (map (λ h. key.Neigh h.on h.ip) hops)) named in
+      let first = and_parts (is_some (rows (key.Neigh hop.on hop.ip))) (have_rows rows (map (λ h. key.Neigh h.on h.ip) hops)) named in
       let there = row_there (rows (key.Neigh hop.on hop.ip)) first.0 in
       let parts = both_mapped (insert_key hop_cmp) (hops_of plan hops) (hop_of plan hop) group h in
       let on = mapped (λ b. through b hop.ip) (base_of plan hop.on) parts.1 parts.3 in

@@ -2,9 +2,6 @@
 use Rattle.std.proofs.Common.{◌≡◌, ◌⊎◌, inl, inr, ℕ, suc, Bool, true, false, cond, List, [], ◌∷◌, ◌++◌, Option, None, Some, Ok, Err, codes, refl, sym, ap, ◌∙◌, subst}
 use Rattle.std.specs.BTreeMap.{is_at}
 use Rattle.std.specs.Map.{keys_of}
-use Rattle.std.specs.Ordering.{is_eq}
-use Rattle.std.specs.declared.cmp.Ordering.{Ordering}
-use Rattle.std.specs.declared.cmp.Ordering.TheVariants.{Less, Equal, Greater}
 use Rattle.std.specs.List.Sorted.{IsStrictlySortedBy}
 use Rattle.swss_types.specs.declared.address.Family.TheVariants.{V4}
 use Rattle.swss_types.specs.declared.address.Prefix.{Prefix}
@@ -23,7 +20,7 @@ use Rattle.table_schema.specs.declared.row.Row.{Row}
 use Rattle.table_schema.specs.declared.write.Sent.{Sent}
 use Rattle.table_schema.specs.declared.write.Write.{Write}
 use Rattle.table_schema.specs.declared.write.Write.TheVariants as write
-use Rattle.table_schema.proofs.Keys.{key_exact}
+use Rattle.table_schema.proofs.Keys.{tied_keys_same}
 use Rattle.sai_types.specs.declared.ids.Rid.{Rid}
 use Rattle.sai_types.specs.declared.body.Body.TheVariants as body
 use Rattle.sai_types.specs.declared.body.Call.{Call}
@@ -45,21 +42,13 @@ use Rattle.switch_model.specs.declared.mark.Mark.{Mark}
 use Rattle.switch_model.specs.declared.mark.MarkEvent.TheVariants as event
 use Rattle.switch_model.proofs.Ready.{ready-there}
 
-tied : (o : Ordering) → is_eq o ≡ true → o ≡ Equal
-tied Less h = cc
-tied Equal h = refl
-tied Greater h = cc
-
-pub same_key : (k q : Key) → is_at (key_cmp k) q ≡ true → k ≡ q
-same_key k q h = key_exact k q (tied (key_cmp k q) h)
-
 -- a key that has a row is one of the keys of the rows
 fields_in : (k : Key) (rows : Rows) (fields : Pairs) → fields_at rows k ≡ Some fields → IsIn k (keys_of rows)
 fields_in k [] fields h = cc
 fields_in k (e ∷ es) fields h = by (is_at (key_cmp k) e.0) refl h (fields_in k es fields)
   where
     by : (t : Bool) → is_at (key_cmp k) e.0 ≡ t → cond t (Some e.1) (fields_at es k) ≡ Some fields → (fields_at es k ≡ Some fields → IsIn k (keys_of es)) → IsIn k (keys_of (e ∷ es))
-    by true at h behind = inl (same_key k e.0 at)
+    by true at h behind = inl (tied_keys_same k e.0 at)
     by false at h behind = inr (behind h)
 
 pub good_in : (plan : Ports) (k : Key) (rows : Rows) (r : Row) → good_rows plan rows k ≡ Some r → IsIn k (keys_of rows)
@@ -181,14 +170,14 @@ first_mark = record { taken = 2; effects = 2; event = event.Settled [] 1 }
 abbrev first_applied : TypedRows
 first_applied = applied_at wide_plan first_sent first_mark []
 
-first_in : (k : Key) (r : Row) → first_applied k ≡ Some r → IsIn k (key.Port 0 ∷ key.Intf (name.Ethernet 0) ∷ [])
-first_in k r h = good_in wide_plan k (rows_of first_writes) r h
+first_applied_in : (k : Key) (r : Row) → first_applied k ≡ Some r → IsIn k (key.Port 0 ∷ key.Intf (name.Ethernet 0) ∷ [])
+first_applied_in k r h = good_in wide_plan k (rows_of first_writes) r h
 
 first_things : IsExactly (IsThingOf wide_plan first_applied) (first_port ∷ first_interface ∷ [])
-first_things = things_are wide_plan first_applied (key.Port 0 ∷ key.Intf (name.Ethernet 0) ∷ []) first_in
+first_things = things_are wide_plan first_applied (key.Port 0 ∷ key.Intf (name.Ethernet 0) ∷ []) first_applied_in
 
 first_is_closed : IsClosed first_applied
-first_is_closed k r h = by (first_in k r h)
+first_is_closed k r h = by (first_applied_in k r h)
   where
     by : IsIn k (key.Port 0 ∷ key.Intf (name.Ethernet 0) ∷ []) → have_rows first_applied (names_of k r) ≡ true
     by (inl e) = subst (λ q. have_rows first_applied (names_of q r) ≡ true) (sym e) refl

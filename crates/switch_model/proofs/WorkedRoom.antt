@@ -20,7 +20,7 @@ use Rattle.sai_types.specs.declared.thing.Thing.{Thing}
 use Rattle.sai_types.specs.declared.thing.Thing.TheVariants as thing
 use Rattle.sai_types.specs.After.{chip_after}
 use Rattle.sai_types.specs.Alike.{IsIn}
-use Rattle.sai_types.specs.Names.{Name, name_of, thing_kind}
+use Rattle.sai_types.specs.Names.{ThingName, name_of, thing_kind}
 use Rattle.sai_types.specs.Forwarding.{decide, forward}
 use Rattle.sai_types.specs.Objects.{level, used}
 use Rattle.sai_types.specs.Refusal.{capacity_of}
@@ -53,19 +53,19 @@ without {X} x (y ∷ ys) (inr h) =
         other (inr h) = inr (inr h)
 
 -- no more distinct names than there are in a list that has them all
-few-distinct : (ks all : List Name) → AreDistinct ks → ((k : Name) → IsIn k ks → IsIn k all) → length ks ≤ length all
+few-distinct : (ks all : List ThingName) → AreDistinct ks → ((k : ThingName) → IsIn k ks → IsIn k all) → length ks ≤ length all
 few-distinct [] all apart within = omega arith
 few-distinct (k ∷ ks) all (new, apart) within =
     let less = without k all (within k (inl refl)) in
     let behind = few-distinct ks less.0 apart (λ q there. other q there less.0 (less.2 q (within q (inr there)))) in
     omega (arith, less.1, behind)
   where
-    other : (q : Name) → IsIn q ks → (rest : List Name) → (q ≡ k) ⊎ IsIn q rest → IsIn q rest
+    other : (q : ThingName) → IsIn q ks → (rest : List ThingName) → (q ≡ k) ⊎ IsIn q rest → IsIn q rest
     other q there rest (inl e) = absurd (new (subst (λ x. IsIn x ks) e there))
     other q there rest (inr h) = h
 
 -- of things that are among two at most two are of a kind
-two-at_most : (view : Thing → Type 0) (x y : Thing) → ((t : Thing) → view t → IsIn t (x ∷ y ∷ [])) → (kind : Kind) (keys : List Name) → AreKeysOf view kind keys → length keys ≤ 2
+two-at_most : (view : Thing → Type 0) (x y : Thing) → ((t : Thing) → view t → IsIn t (x ∷ y ∷ [])) → (kind : Kind) (keys : List ThingName) → AreKeysOf view kind keys → length keys ≤ 2
 two-at_most view x y within kind keys are = few-distinct keys (name_of x ∷ name_of y ∷ []) are.distinct (λ k there. let t = are.things k there in subst (λ q. IsIn q (name_of x ∷ name_of y ∷ [])) t.1 (named_by t.0 (within t.0 t.3)))
   where
     named_by : (t : Thing) → IsIn t (x ∷ y ∷ []) → IsIn (name_of t) (name_of x ∷ name_of y ∷ [])
@@ -110,7 +110,7 @@ first_lacks_room fits =
     let one : length (name_of first_port ∷ []) ≤ 0 = fits kind.Port (name_of first_port ∷ []) (record { distinct = (λ h. h, tt); things = λ k there. found k there }) in
     absurd (omega (arith, one))
   where
-    found : (k : Name) → IsIn k (name_of first_port ∷ []) → (t : Thing) × (name_of t ≡ k) × (level (thing_kind t) ≡ level kind.Port) × desired_view wide_plan (rows_of first_writes) t
+    found : (k : ThingName) → IsIn k (name_of first_port ∷ []) → (t : Thing) × (name_of t ≡ k) × (level (thing_kind t) ≡ level kind.Port) × desired_view wide_plan (rows_of first_writes) t
     found k (inl e) = (first_port, sym e, refl, (first_view first_port).1 (inl refl))
     found k (inr h) = absurd h
 
@@ -126,7 +126,7 @@ nothing-lacks t (there, none) = by ((first_view t).0 there)
     by (inr (inl e)) = none (first_interface, inr (inl refl), ap name_of (sym e))
     by (inr (inr h)) = h
 
-no-keys : (kind : Kind) (keys : List Name) → AreKeysOf (IsLacking (chip_after first_calls 2) (desired_view wide_plan (rows_of first_writes))) kind keys → length keys ≡ 0
+no-keys : (kind : Kind) (keys : List ThingName) → AreKeysOf (IsLacking (chip_after first_calls 2) (desired_view wide_plan (rows_of first_writes))) kind keys → length keys ≡ 0
 no-keys kind [] are = refl
 no-keys kind (k ∷ ks) are = let t = are.things k (inl refl) in absurd (nothing-lacks t.0 t.3)
 

@@ -19,6 +19,7 @@ use Rattle.table_schema.specs.declared.row.RouteRow.TheVariants as route
 use Rattle.table_schema.specs.declared.write.Sent.{Sent}
 use Rattle.table_schema.specs.declared.write.Write.{Write}
 use Rattle.table_schema.specs.declared.write.Write.TheVariants as write
+use Rattle.table_schema.proofs.Keys.{tied_keys_same}
 use Rattle.sai_types.specs.Alike.{IsIn}
 use Rattle.switch_model.specs.Desired.{IsClosed, desired_view, have_rows}
 use Rattle.switch_model.specs.Good.{TypedRows}
@@ -28,7 +29,7 @@ use Rattle.switch_model.specs.declared.mark.Mark.{Mark}
 use Rattle.switch_model.specs.declared.mark.MarkEvent.TheVariants as event
 use Rattle.switch_model.specs.declared.wait.Wait.{Wait}
 use Rattle.switch_model.specs.declared.wait.Wait.TheVariants as wait
-use Rattle.switch_model.proofs.Worked.{IsExactly, good_in, room, same_key, sent_from, set, view_is}
+use Rattle.switch_model.proofs.Worked.{IsExactly, good_in, room, sent_from, set, view_is}
 
 abbrev plan : Ports
 plan = (0, 0 ∷ []) ∷ (4, 4 ∷ []) ∷ []
@@ -163,7 +164,7 @@ applied_in : (k : Key) (r : Row) → all_applied k ≡ Some r → IsIn k applied
 applied_in k r h = by (is_at (key_cmp k) held) refl h
   where
     by : (t : Bool) → is_at (key_cmp k) held ≡ t → cond t (Some row.Intf) (held_good k) ≡ Some r → IsIn k applied_keys
-    by true at h = inl (same_key k held at)
+    by true at h = inl (tied_keys_same k held at)
     by false at h = inr (good_in plan k (rows_of (sent_writes held_sent)) r h)
 
 -- the interface, its port and its neighbour are applied, and all the others
@@ -182,9 +183,9 @@ held_is_closed k r h = by (applied_in k r h)
     by (inr (inr (inr (inr (inr (inl e)))))) = at far_neighbour e refl
     by (inr (inr (inr (inr (inr (inr h)))))) = absurd h
 
-no_port : IsIn held (key.Port 0 ∷ []) → ⊥
-no_port (inl e) = cc
-no_port (inr h) = h
+held_is_no_port : IsIn held (key.Port 0 ∷ []) → ⊥
+held_is_no_port (inl e) = cc
+held_is_no_port (inr h) = h
 
 no_far_port : IsIn held (key.Port 4 ∷ []) → ⊥
 no_far_port (inl e) = cc
@@ -202,7 +203,7 @@ names_held k r h names = by (applied_in k r h) names
     unnamed q e not_named names = absurd (not_named (subst (λ q. IsIn held (names_of q r)) e names))
 
     by : IsIn k applied_keys → IsIn held (names_of k r) → k ≡ neighbour
-    by (inl e) = unnamed held e no_port
+    by (inl e) = unnamed held e held_is_no_port
     by (inr (inl e)) = unnamed (key.Port 0) e (λ h. h)
     by (inr (inr (inl e))) = unnamed (key.Port 4) e (λ h. h)
     by (inr (inr (inr (inl e)))) = unnamed far_interface e no_far_port

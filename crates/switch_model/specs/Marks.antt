@@ -15,7 +15,7 @@ use Rattle.table_schema.specs.Plan.{Ports}
 use Rattle.sai_types.specs.declared.kind.Kind.{Kind}
 use Rattle.sai_types.specs.declared.thing.Thing.{Thing}
 use Rattle.sai_types.specs.Alike.{IsIn}
-use Rattle.sai_types.specs.Names.{Name, name_of, thing_kind}
+use Rattle.sai_types.specs.Names.{ThingName, name_of, thing_kind}
 use Rattle.sai_types.specs.Objects.{level}
 use Rattle.sai_types.specs.Refusal.{capacity_of}
 use Rattle.switch_model.specs.declared.wait.Wait.{Wait}
@@ -43,15 +43,15 @@ first_missing rows [] = None
 first_missing rows (key ∷ keys) = if is_some (rows key) then first_missing rows keys else Some key
 
 -- names of which no two are equal
-abbrev pub AreDistinct : List Name → Type 0
+abbrev pub AreDistinct : List ThingName → Type 0
 AreDistinct [] = Unit {0}
 AreDistinct (k ∷ ks) = (¬ (IsIn k ks)) × AreDistinct ks
 
 -- the applied things of a kind and those of this row are more than there is room for
 pub record Overflows (plan : Ports) (capacities : List ℕ) (applied : TypedRows) (key : Key) (row : Row) (kind : Kind) : Type 0 where
-  pub keys : List Name
+  pub keys : List ThingName
   pub distinct : AreDistinct keys
-  pub things : (k : Name) → IsIn k keys → (t : Thing) × (name_of t ≡ k) × (level (thing_kind t) ≡ level kind) × (IsThingOf plan applied t ⊎ IsIn t (things_of plan key row))
+  pub things : (k : ThingName) → IsIn k keys → (t : Thing) × (name_of t ≡ k) × (level (thing_kind t) ≡ level kind) × (IsThingOf plan applied t ⊎ IsIn t (things_of plan key row))
   pub many : capacity_of capacities kind < length keys
 
 -- the row names the holder, which is applied and stands before all other holders

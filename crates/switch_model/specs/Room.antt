@@ -5,7 +5,7 @@ use Rattle.table_schema.specs.declared.write.Sent.{Sent}
 use Rattle.sai_types.specs.declared.kind.Kind.{Kind}
 use Rattle.sai_types.specs.declared.thing.Thing.{Thing}
 use Rattle.sai_types.specs.Alike.{IsIn}
-use Rattle.sai_types.specs.Names.{Name, name_of, thing_kind}
+use Rattle.sai_types.specs.Names.{ThingName, name_of, thing_kind}
 use Rattle.sai_types.specs.Named.{named}
 use Rattle.sai_types.specs.Objects.{Objects, level, used}
 use Rattle.sai_types.specs.Refusal.{capacity_of}
@@ -15,13 +15,13 @@ use Rattle.switch_model.specs.Marks.{AreDistinct}
 use Rattle.switch_model.specs.Promises.{good_rows_at}
 
 -- names of one kind, no two equal, each that of a thing of the view
-pub record AreKeysOf (view : Thing → Type 0) (kind : Kind) (keys : List Name) : Type 0 where
+pub record AreKeysOf (view : Thing → Type 0) (kind : Kind) (keys : List ThingName) : Type 0 where
   pub distinct : AreDistinct keys
-  pub things : (k : Name) → IsIn k keys → (t : Thing) × (name_of t ≡ k) × (level (thing_kind t) ≡ level kind) × view t
+  pub things : (k : ThingName) → IsIn k keys → (t : Thing) × (name_of t ≡ k) × (level (thing_kind t) ≡ level kind) × view t
 
 -- of each kind the names of the view's things number at most the capacity
 abbrev pub HasRoom : List ℕ → (Thing → Type 0) → Type 0
-HasRoom capacities view = (kind : Kind) (keys : List Name) → AreKeysOf view kind keys → length keys ≤ capacity_of capacities kind
+HasRoom capacities view = (kind : Kind) (keys : List ThingName) → AreKeysOf view kind keys → length keys ≤ capacity_of capacities kind
 
 -- the things of a round: those of the rows that were applied when it began, and those of the good rows once so many writes were taken as this range says, which with one worker is the number at the round's end alone
 abbrev pub IsRoundThing : Ports → TypedRows → List Sent → ℕ → ℕ → Thing → Type 0
@@ -33,4 +33,4 @@ IsLacking objects view thing = view thing × ¬ ((other : Thing) × IsIn (Some o
 
 -- a chip and a view fit together where of each kind the objects and the names of what the chip lacks number at most the capacity
 abbrev pub FitsTogether : List ℕ → Objects → (Thing → Type 0) → Type 0
-FitsTogether capacities objects view = (kind : Kind) (keys : List Name) → AreKeysOf (IsLacking objects view) kind keys → used objects kind + length keys ≤ capacity_of capacities kind
+FitsTogether capacities objects view = (kind : Kind) (keys : List ThingName) → AreKeysOf (IsLacking objects view) kind keys → used objects kind + length keys ≤ capacity_of capacities kind

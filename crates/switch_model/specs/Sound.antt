@@ -16,7 +16,7 @@ use Rattle.switch_model.specs.Good.{TypedRows, good_rows}
 use Rattle.table_schema.specs.Rows.{Rows, rows_of}
 
 -- what contracts see of a core: the port plan, the room for each kind, the log, the rows, the keys to sync, and for each key the applied row
-pub record CoreState : Type 0 where
+pub record SoundState : Type 0 where
   pub plan : Ports
   pub capacities : List ℕ
   pub log : History
@@ -44,7 +44,7 @@ abbrev pub AreWithin : ℕ → ℕ → List Mark → Type 0
 AreWithin taken effects [] = Unit {0}
 AreWithin taken effects (mark ∷ marks) = (mark.taken ≤ taken) × (mark.effects ≤ effects) × IsBefore mark marks × AreWithin taken effects marks
 
-pub record IsSound (core : CoreState) (chip : ChipState) : Type 0 where
+pub record IsSound (core : SoundState) (chip : ChipState) : Type 0 where
   -- every chip call so far was legal, and the chip is what its effects leave
   pub clean : chip.clean ≡ true
   pub capacities : chip.capacities ≡ core.capacities

@@ -30,20 +30,20 @@ took-more a b old mid new first next = next ∙ ap (λ c. with_all c b) first �
 -- ---- parts of a round
 
 -- the first writes of these were taken, and these are left
-pub record IsTaking (effects : ℕ) (before : List Sent) (all rest : List (ℕ × Write)) (old mid : CoreState) (counts : Counts) : Type 0 where
+pub record IsTakingWrites (effects : ℕ) (before : List Sent) (all rest : List (ℕ × Write)) (old mid : CoreState) (counts : Counts) : Type 0 where
   pub done : List (ℕ × Write)
   pub all_are : all ≡ done ++ rest
   pub took : IsTook effects before done old taken.All mid counts
 
 module _ (effects : ℕ) (before : List Sent) (old : CoreState) where
-  pub taking-none : (all : List (ℕ × Write)) (counts : Counts) → AreCounted counts before → IsTaking effects before all all old old counts
+  pub taking-none : (all : List (ℕ × Write)) (counts : Counts) → AreCounted counts before → IsTakingWrites effects before all all old old counts
   taking-none all counts counted = record {
     done = [];
     all_are = refl;
     took = ([], sym (append-nil before), refl, subst (AreCounted counts) (sym (append-nil before)) counted);
   }
 
-  module _ (all part rest : List (ℕ × Write)) (mid : CoreState) (counts : Counts) (taking : IsTaking effects before all (part ++ rest) old mid counts) (new : CoreState) (counts' : Counts) where
+  module _ (all part rest : List (ℕ × Write)) (mid : CoreState) (counts : Counts) (taking : IsTakingWrites effects before all (part ++ rest) old mid counts) (new : CoreState) (counts' : Counts) where
     abbrev sent : List Sent
     sent = taking.took.0
 
@@ -66,7 +66,7 @@ module _ (effects : ℕ) (before : List Sent) (old : CoreState) where
               ∙ append_assoc before sent (given ++ rest_gives.0),
         )
 
-    pub taking-part : IsTook effects (before ++ sent) part mid taken.All new counts' → IsTaking effects before all rest old new counts'
+    pub taking-part : IsTook effects (before ++ sent) part mid taken.All new counts' → IsTakingWrites effects before all rest old new counts'
     taking-part (given, gives, took, counted) = record {
       done = taking.done ++ part;
       all_are = taking.all_are ∙ sym (append_assoc taking.done part rest);
@@ -98,11 +98,11 @@ module _ (effects : ℕ) (before : List Sent) (old : CoreState) where
           took-more sent given old mid new taking.took.2 took,
         )
 
-  pub taking-all : (all : List (ℕ × Write)) (mid : CoreState) (counts : Counts) → IsTaking effects before all [] old mid counts → IsTook effects before all old taken.All mid counts
+  pub taking-all : (all : List (ℕ × Write)) (mid : CoreState) (counts : Counts) → IsTakingWrites effects before all [] old mid counts → IsTook effects before all old taken.All mid counts
   taking-all all mid counts taking = subst (λ l. IsTook effects before l old taken.All mid counts) (sym (taking.all_are ∙ append-nil taking.done)) taking.took
 
 -- a part after which no more is taken
-pub taking-ended : (effects : ℕ) (before : List Sent) (old : CoreState) (all part rest : List (ℕ × Write)) (mid : CoreState) (counts : Counts) (taking : IsTaking effects before all (part ++ rest) old mid counts) (new : CoreState) (counts' : Counts) (r : Taken) → (r ≡ taken.All → ⊥) → IsTook effects (before ++ taking.took.0) part mid r new counts' → IsTook effects before all old r new counts'
+pub taking-ended : (effects : ℕ) (before : List Sent) (old : CoreState) (all part rest : List (ℕ × Write)) (mid : CoreState) (counts : Counts) (taking : IsTakingWrites effects before all (part ++ rest) old mid counts) (new : CoreState) (counts' : Counts) (r : Taken) → (r ≡ taken.All → ⊥) → IsTook effects (before ++ taking.took.0) part mid r new counts' → IsTook effects before all old r new counts'
 taking-ended effects before old all part rest mid counts taking new counts' taken.All other took = absurd (other refl)
 taking-ended effects before old all part rest mid counts taking new counts' taken.LogFull other took = taking-full effects before old all part rest mid counts taking new counts' took
 taking-ended effects before old all part rest mid counts taking new counts' taken.NoMemory other took = taking-wanting effects before old all part rest mid counts taking new counts' took

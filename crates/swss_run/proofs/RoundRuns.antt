@@ -23,12 +23,11 @@ use Rattle.machine_laws.specs.Order.{IsSettledMark}
 use Rattle.flight_board.specs.Board.{BoardState, flown_at}
 use Rattle.restart_laws.specs.Logged.{LoggedService}
 use Rattle.switch_machine.specs.Next.{MustWait}
+use Rattle.switch_machine.proofs.Needing.{listed_more}
 use Rattle.syncd_core.specs.Synced.{SyncState}
-use Rattle.warm_state.specs.declared.warm.Warm.{Warm}
 use Rattle.warm_state.specs.declared.warm.Warm.TheVariants as warm
 use Rattle.session_laws.specs.Core.{CoreState, mark_at, size_beside}
 use Rattle.session_laws.specs.Events.{MakesSome}
-use Rattle.session_laws.proofs.Faulting.{listed_more}
 use Rattle.settling_laws.proofs.Leading.{leads_some}
 use Rattle.round_laws.specs.Between.{IsBetweenRounds, IsInRound, round_from}
 use Rattle.round_laws.specs.Named.{keys_named}
@@ -39,6 +38,7 @@ use Rattle.round_laws.proofs.Drained.{round-drained}
 use Rattle.round_laws.proofs.Ending.{round-ends}
 use Rattle.round_laws.proofs.Growing.{effects-grow, marks-grow}
 use Rattle.round_laws.proofs.Sessions.{known-then, leads-on, objects-left, sized, some-on}
+use Rattle.round_laws.proofs.ToSync.{not_suspect}
 use Rattle.switch_core.specs.Outcomes.{KeepsChip}
 use Rattle.switch_core.specs.Settled.{Settles, SettlesWhole, StopsAtMark, StopsFaulted, StopsFull}
 use Rattle.switch_core.specs.declared.answer.Settled.{Settled}
@@ -51,7 +51,7 @@ use Rattle.swss_report.specs.Round.{IsRoundText}
 use Rattle.swss_run.specs.Full.{IsFull}
 use Rattle.swss_run.specs.Full.IsFull.{AtWrite, AtCall, AtMark}
 use Rattle.swss_run.specs.Rounds.{Ran, is_settling}
-use Rattle.swss_run.specs.Running.{EndsRound, HasLines, IsReady, IsRoundRun, IsWritten, KeepsPlan, StopsRound, round_ended, with_round}
+use Rattle.swss_run.specs.Running.{EndsRound, HasLines, IsRunReady, IsRoundRun, IsWritten, KeepsPlan, StopsRound, round_ended, with_round}
 use Rattle.swss_run.specs.Running.IsWritten.{Whole, Failed, Wanting, Unwritten}
 use Rattle.swss_run.specs.Taking.{Counts, HaveReadKeys, IsRoundTook, with_all}
 use Rattle.swss_run.specs.Turned.{EndsTurned}
@@ -66,17 +66,11 @@ use Rattle.swss_run.proofs.Tables.{all-limit, in-round, rows-told}
 pub same-trans : (a b c : CoreState) → KeepsPlan a b → KeepsPlan b c → KeepsPlan a c
 same-trans a b c first next = record { plan = next.plan ∙ first.plan; capacities = next.capacities ∙ first.capacities; limit = next.limit ∙ first.limit }
 
-not_suspect : (w : Warm) → w ≡ warm.Reconciled → w ≡ warm.Suspect → ⊥
-not_suspect w is other = two (sym is ∙ other)
-  where
-    two : warm.Reconciled ≡ warm.Suspect → ⊥
-    two e = cc
-
 -- a core that is reconciled is not suspect
 known-warm : (c : CoreState) (chip : ChipState) → InSession c chip → c.warm ≡ warm.Reconciled → is_suspect c.log.marks ≡ false
 known-warm c chip within at = known-then c chip within (not_suspect c.warm at)
 
-pub known-ready : (core : CoreState) (sim : Sim) (replay : Replayed) → IsReady core sim replay → is_suspect core.log.marks ≡ false
+pub known-ready : (core : CoreState) (sim : Sim) (replay : Replayed) → IsRunReady core sim replay → is_suspect core.log.marks ≡ false
 known-ready core sim replay ready = known-warm core sim.chip ready.between.within ready.between.rest.warm
 
 suspect-more : (marks : List Mark) (mark : Mark) → is_suspect (marks ++ mark ∷ []) ≡ is_fault mark.event
@@ -156,7 +150,7 @@ text-as shows lines p p' n n' ms ms' t t' r r' c c' o o' e e' b b' ps ns mss ts 
 
 -- ---- a round
 
-module _ (round : Round) (old : CoreState) (sim : Sim) (replay : Replayed) (ready : IsReady old sim replay) (read : HaveReadKeys (writes_in round.sections)) (mid : CoreState) where
+module _ (round : Round) (old : CoreState) (sim : Sim) (replay : Replayed) (ready : IsRunReady old sim replay) (read : HaveReadKeys (writes_in round.sections)) (mid : CoreState) where
   -- after some of its writes
   module _ (sent rest : List Sent) (front : sent_in_round round ≡ sent ++ rest) (took : mid ≡ with_all old sent) where
     in-mid : IsInRound old sim.chip sent mid

@@ -28,8 +28,8 @@ use Rattle.swss_script.specs.declared.parts.Round.{Round}
 use Rattle.swss_report.specs.Round.{IsRoundText}
 use Rattle.swss_run.specs.Full.{IsFull}
 use Rattle.swss_run.specs.Output.{TakesFront}
-use Rattle.swss_run.specs.Rounds.{AreTaken, EndsAtMark, IsCut, IsReport, Ran, Rise, all_calls, all_marks, all_sent, ends_from, standing}
-use Rattle.swss_run.specs.Running.{EndsRound, HasLines, IsReady, IsRoundRun, KeepsPlan, StopsRound}
+use Rattle.swss_run.specs.Rounds.{AreTaken, EndsAtMark, IsCutInRounds, IsReport, Ran, Rise, all_calls, all_marks, all_sent, ends_from, standing}
+use Rattle.swss_run.specs.Running.{EndsRound, HasLines, IsRunReady, IsRoundRun, KeepsPlan, StopsRound}
 use Rattle.swss_run.specs.Session.{HasEnded, IsReported, IsSession, TookFront, TookReport, log_limit}
 use Rattle.swss_run.specs.Turned.{AreTurned, IsTurned}
 use Rattle.swss_run.specs.declared.status.Status.{Status}
@@ -63,7 +63,7 @@ front-more a b c text lines took (n, few, next) = (
 
 -- ---- one round more
 
-module _ (round : Round) (old : CoreState) (sim : Sim) (ran : Ran) (new : CoreState) (sim' : Sim) (ends : EndsRound round old sim ran new sim') (rans : List Ran) (cut : IsCut old.log sim.chip.effects rans [] []) where
+module _ (round : Round) (old : CoreState) (sim : Sim) (ran : Ran) (new : CoreState) (sim' : Sim) (ends : EndsRound round old sim ran new sim') (rans : List Ran) (cut : IsCutInRounds old.log sim.chip.effects rans [] []) where
   taken_were : old.log.taken ≡ all_sent rans
   taken_were = cut.taken ∙ append-nil (all_sent rans)
 
@@ -79,7 +79,7 @@ module _ (round : Round) (old : CoreState) (sim : Sim) (ran : Ran) (new : CoreSt
     effects = omega (arith, ends.effects, length-append sim.chip.effects ran.calls, ap length effects_were);
   }
 
-  cut-more : IsCut new.log sim'.chip.effects (rans ++ ran ∷ []) [] []
+  cut-more : IsCutInRounds new.log sim'.chip.effects (rans ++ ran ∷ []) [] []
   cut-more = record {
     marks = ap (λ (h : History). h.marks) ends.log ∙ ap (λ l. l ++ ends.mark ∷ []) cut.marks ∙ ap (λ l. all_marks rans ++ l) (sym ends.marks) ∙ sym (marks-more rans ran);
     ends = ap (λ (h : History). h.ends) ends.log ∙ ap (λ l. l ++ (length old.log.marks + 1) ∷ []) cut.ends ∙ ap (λ n. ends_from 0 rans ++ n ∷ []) (omega (arith, ap length cut.marks, ap length ends.marks)) ∙ sym (ends-more 0 rans ran);
@@ -98,11 +98,11 @@ module _ (round : Round) (old : CoreState) (sim : Sim) (ran : Ran) (new : CoreSt
 
 -- what holds between two rounds
 pub record IsRunning (rounds done : List Round) (first : CoreState) (held0 : Option (List ℕ)) (core : CoreState) (sim : Sim) (replay : Replayed) (held : Option (List ℕ)) : Type 0 where
-  pub ready : IsReady core sim replay
+  pub ready : IsRunReady core sim replay
   pub same : KeepsPlan first core
   pub limit : first.limit ≡ log_limit
   pub rans : List Ran
-  pub cut : IsCut core.log sim.chip.effects rans [] []
+  pub cut : IsCutInRounds core.log sim.chip.effects rans [] []
   pub many : length rans ≡ length done
   pub writes : AreTaken rans rounds []
   pub turned : AreTurned first.board.plan first.sync.capacities None [] [] rans
@@ -148,7 +148,7 @@ running-none rounds first sim held replay new chip plan follows at = record {
 
 -- a session, from a core and a chip within one of the service
 session-from : (rounds : List Round) (ended : Status) (first core : CoreState) (chip : ChipState) (held held' : Option (List ℕ)) (rans : List Ran) (sent : List Sent) (calls : List (Call Rid))
-    → InSession core chip → KeepsPlan first core → IsCut core.log chip.effects rans sent calls → AreTaken rans rounds sent → AreTurned first.board.plan first.sync.capacities None [] [] rans
+    → InSession core chip → KeepsPlan first core → IsCutInRounds core.log chip.effects rans sent calls → AreTaken rans rounds sent → AreTurned first.board.plan first.sync.capacities None [] [] rans
     → IsReported ended first.board.plan first.sync.capacities rounds rans sent calls core.log chip held held'
     → IsSession first.board.plan first.sync.capacities rounds ended core.log chip held held'
 session-from rounds ended first core chip held held' rans sent calls within same cut writes turned reported = record {
@@ -198,7 +198,7 @@ module _ (rounds done : List Round) (first : CoreState) (held0 : Option (List �
       longer : List Ran
       longer = rans ++ ran ∷ []
 
-      cut_now : IsCut new.log sim'.chip.effects (rans ++ ran ∷ []) [] []
+      cut_now : IsCutInRounds new.log sim'.chip.effects (rans ++ ran ∷ []) [] []
       cut_now = cut-more round core sim ran new sim' ends rans running.cut
 
       taken_now : AreTaken (rans ++ ran ∷ []) rounds []
@@ -251,7 +251,7 @@ module _ (rounds done : List Round) (first : CoreState) (held0 : Option (List �
     front_before same = record { text = running.told.text; report = running.told.report; took = whole-front held0 held' running.told.text (subst (λ h. Takes held0 running.told.text h) (sym same) running.told.took) }
 
     module _ (stops : StopsRound round core sim new sim') where
-      cut_stopped : IsCut new.log sim'.chip.effects rans stops.sent stops.calls
+      cut_stopped : IsCutInRounds new.log sim'.chip.effects rans stops.sent stops.calls
       cut_stopped = record {
         marks = ap (λ (h : History). h.marks) stops.log ∙ running.cut.marks;
         ends = ap (λ (h : History). h.ends) stops.log ∙ running.cut.ends;

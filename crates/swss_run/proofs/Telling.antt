@@ -19,6 +19,6 @@ tells-by status.ChipFault outcome left left' held held' late ran = ran
 tells-by status.LogFull outcome left left' held held' late ran = ran
 tells-by status.OutOfMemory outcome left left' held held' late ran = inr ran
 
-pub tells : (bytes : List ℕ) (script : Script) (outcome : Outcome) (left left' held held' : Option (List ℕ)) → ends_early outcome.status ≡ false → GaveAll left bytes left' → script_of bytes ≡ Ok script → IsRun script outcome held held' → TellsOfSession outcome.status outcome left left' held held'
-tells bytes script outcome left left' held held' late gave is run =
+pub tells_of_session : (bytes : List ℕ) (script : Script) (outcome : Outcome) (left left' held held' : Option (List ℕ)) → ends_early outcome.status ≡ false → GaveAll left bytes left' → script_of bytes ≡ Ok script → IsRun script outcome held held' → TellsOfSession outcome.status outcome left left' held held'
+tells_of_session bytes script outcome left left' held held' late gave is run =
     tells-by outcome.status outcome left left' held held' late (record { script = script; read = record { bytes = bytes; gave = gave; says = is }; run = run })

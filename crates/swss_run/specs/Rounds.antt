@@ -55,7 +55,7 @@ EndAtMarks sent calls [] = Unit {0}
 EndAtMarks sent calls (ran ∷ rans) = EndsAtMark sent calls ran × EndAtMarks (sent + length ran.sent) (calls + length ran.calls) rans
 
 -- the log and the chip's calls are those of the rounds that ended, and then these writes and calls
-pub record IsCut (log : History) (done : List (Call Rid)) (rans : List Ran) (sent : List Sent) (calls : List (Call Rid)) : Type 0 where
+pub record IsCutInRounds (log : History) (done : List (Call Rid)) (rans : List Ran) (sent : List Sent) (calls : List (Call Rid)) : Type 0 where
   pub marks : log.marks ≡ all_marks rans
   pub ends : log.ends ≡ ends_from 0 rans
   pub taken : log.taken ≡ all_sent rans ++ sent

@@ -29,7 +29,7 @@ use Rattle.swss_run.specs.declared.status.Status.{Status}
 use Rattle.swss_run.specs.declared.status.Status.TheVariants as status
 
 -- a session between two rounds: the core and the chip are between rounds of a session of the service, and the replay has followed the chip
-pub record IsReady (core : CoreState) (sim : Sim) (replay : Replayed) : Type 0 where
+pub record IsRunReady (core : CoreState) (sim : Sim) (replay : Replayed) : Type 0 where
   pub between : IsBetweenRounds core sim.chip
   pub follows : IsReplayOf replay sim.chip.effects
   pub at_end : replay.at ≡ length sim.chip.effects
@@ -98,7 +98,7 @@ TakesSome number round old sim ran held held' = (held' ≡ held) ⊎ ((lines : L
 -- what a round came to, by the status
 abbrev pub IsRoundRun : ℕ → Round → CoreState → Sim → Option (List ℕ) → ℕ → Status → CoreState → Sim → Replayed → Option (List ℕ) → ℕ → Type 0
 IsRoundRun number round old sim held faults status.Done new sim' replay held' faults' =
-    (ran : Ran) × (lines : List ℕ) × EndsRound round old sim ran new sim' × HasLines number round old sim ran lines × Takes held lines held' × IsReady new sim' replay
+    (ran : Ran) × (lines : List ℕ) × EndsRound round old sim ran new sim' × HasLines number round old sim ran lines × Takes held lines held' × IsRunReady new sim' replay
 IsRoundRun number round old sim held faults status.ChipFault new sim' replay held' faults' =
     (ran : Ran) × (lines : List ℕ) × EndsRound round old sim ran new sim' × HasLines number round old sim ran lines × Takes held lines held' × (is_suspect new.log.marks ≡ true) × (0 < sim'.chip.faults)
 IsRoundRun number round old sim held faults status.WriteFault new sim' replay held' faults' =

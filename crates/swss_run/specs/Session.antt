@@ -18,7 +18,7 @@ use Rattle.swss_run.specs.Full.{IsFull}
 use Rattle.swss_run.specs.Output.{TakesFront}
 use Rattle.swss_run.specs.Read.{WasRead}
 use Rattle.swss_run.specs.Run.{HasNoSession, chip_fail}
-use Rattle.swss_run.specs.Rounds.{AreTaken, IsCut, IsReport, Ran, Rise}
+use Rattle.swss_run.specs.Rounds.{AreTaken, IsCutInRounds, IsReport, Ran, Rise}
 use Rattle.swss_run.specs.Turned.{AreTurned}
 use Rattle.swss_run.specs.declared.outcome.Outcome.{Outcome}
 use Rattle.swss_run.specs.declared.run.TheConstants.{LOG_LIMIT}
@@ -80,7 +80,7 @@ pub record IsSession (plan : Ports) (capacities : List ℕ) (rounds : List Round
   pub rans : List Ran
   pub sent : List Sent
   pub calls : List (Call Rid)
-  pub cut : IsCut log chip.effects rans sent calls
+  pub cut : IsCutInRounds log chip.effects rans sent calls
   pub rise : Rise 0 log.ends
   pub writes : AreTaken rans rounds sent
   pub turned : AreTurned plan capacities None [] [] rans

@@ -9,7 +9,7 @@ ghost use Rattle.swss_run.specs.Run.{ends_early};
 ghost use Rattle.sai_chip.specs.Replay.{IsReplayOf};
 ghost use Rattle.swss_report.specs.Ended.{ended_round};
 ghost use Rattle.swss_script.specs.Sent.{writes_in};
-ghost use Rattle.swss_run.specs.Running.{IsReady, IsRoundRun, IsWritten, round_ended};
+ghost use Rattle.swss_run.specs.Running.{IsRunReady, IsRoundRun, IsWritten, round_ended};
 ghost use Rattle.swss_run.specs.Session.{IsSession, log_limit};
 ghost use Rattle.swss_run.specs.Taking.{HaveReadKeys};
 
@@ -63,7 +63,7 @@ fn run_round<K: Sink>(
     round: Round,
     sink: &mut K,
 ) -> Status
-    requires ready { IsReady core.old chip.old replay.old }
+    requires ready { IsRunReady core.old chip.old replay.old }
     requires counted { 0 < number }
     requires read { HaveReadKeys (writes_in round.sections) }
     ensures counts { K.faults sink.old ≤ K.faults sink.new }

@@ -5,38 +5,23 @@ use Rattle.std.proofs.Math.Seq.{drop-cons}
 use Rattle.std.proofs.Math.Nat.{eq-zero-or-pos}
 use Rattle.std.specs.List.{position, position_or_len, slice_split}
 use Rattle.std.specs.Str.{IsUtf8, IsCharBoundary}
-use Rattle.std.proofs.lemmas.Bool.{ltb-true, ltb-false, lt-ltb, eqb-true}
+use Rattle.std.proofs.lemmas.Bool.{ltb-true, ltb-false, lt-ltb, eqb-true, not-true, not-false}
 use Rattle.std.proofs.lemmas.List.Splits.{slice_split-cons_yes, slice_split_first, slice_split_none}
 use Rattle.std.proofs.lemmas.List.Sums.{fails_before_first, passes_at_first}
 use Rattle.std.proofs.lemmas.Str.{IsCharBoundary-before_ascii, IsCharBoundary-after_ascii}
+use Rattle.swss_types.proofs.Choices.{chosen, chosen_none}
 use Rattle.swss_script.specs.Words.{behind_word, from_blank, from_word, is_blank, words_in}
 
 abbrev in_word : ℕ → Bool
 in_word byte = not (is_blank byte)
 
-not_true : (b : Bool) → not b ≡ true → b ≡ false
-not_true true h = cc
-not_true false h = refl
-
-not_false : (b : Bool) → not b ≡ false → b ≡ true
-not_false true h = refl
-not_false false h = cc
-
-either : (a b : ℕ) (p q : Bool) → (p ≡ true → a < b) → (q ≡ true → a < b) → (p || q) ≡ true → a < b
-either a b true q f g h = f refl
-either a b false q f g h = g h
+less_either_way : (a b : ℕ) (p q : Bool) → (p ≡ true → a < b) → (q ≡ true → a < b) → (p || q) ≡ true → a < b
+less_either_way a b true q f g h = f refl
+less_either_way a b false q f g h = g h
 
 -- blanks are ASCII
 blank_is_ascii : (b : ℕ) → is_blank b ≡ true → b < 128
-blank_is_ascii b h = either b 128 (b == 32) (b == 9) (λ e. let same : b ≡ 32 = eqb-true b 32 e in omega arith) (λ e. let same : b ≡ 9 = eqb-true b 9 e in omega arith) h
-
-chosen_some : (b : Bool) (m i : ℕ) → cond b (Some m) None ≡ Some i → (b ≡ true) × (m ≡ i)
-chosen_some true m i h = (refl, cc)
-chosen_some false m i h = cc
-
-chosen_none : (b : Bool) (m : ℕ) → cond b (Some m) None ≡ None → b ≡ false
-chosen_none true m h = cc
-chosen_none false m h = refl
+blank_is_ascii b h = less_either_way b 128 (b == 32) (b == 9) (λ e. let same : b ≡ 32 = eqb-true b 32 e in omega arith) (λ e. let same : b ≡ 9 = eqb-true b 9 e in omega arith) h
 
 -- a blank at the front changes no words
 words-blank : (b : ℕ) (text : List ℕ) → is_blank b ≡ true → words_in (b ∷ text) ≡ words_in text
@@ -59,7 +44,7 @@ words-behind_blanks (b ∷ text) =
 -- the place that a search finds
 found : (p : ℕ → Bool) (text : List ℕ) (i : ℕ) → position p text ≡ Some i → (position_or_len p text ≡ i) × (i < length text)
 found p text i h =
-    let at = chosen_some (ltb (position_or_len p text) (length text)) (position_or_len p text) i h in
+    let at = chosen (ltb (position_or_len p text) (length text)) (position_or_len p text) i h in
     (at.1, subst (λ k. k < length text) at.1 (ltb-true _ _ at.0))
 
 -- a text without a word
@@ -74,7 +59,7 @@ boundary_start text start utf8 h some =
     let at = found in_word text start h in
     let within : start - 1 < length text = omega (arith, at.1) in
     let before : start - 1 < position_or_len in_word text = omega (arith, at.0) in
-    let ascii : get_or text (start - 1) 0 < 128 = blank_is_ascii _ (not_false _ (fails_before_first in_word text (start - 1) 0 before)) in
+    let ascii : get_or text (start - 1) 0 < 128 = blank_is_ascii _ (not-false _ (fails_before_first in_word text (start - 1) 0 before)) in
     let same : start - 1 + 1 ≡ start = omega arith in
     subst (IsCharBoundary text) same (IsCharBoundary-after_ascii text (start - 1) utf8 within ascii)
 
@@ -92,14 +77,14 @@ words_from text start h =
     let word : in_word (get_or text start 0) ≡ true = subst (λ i. in_word (get_or text i 0) ≡ true) at.0 (passes_at_first in_word text 0 (subst (λ i. i < length text) (sym at.0) at.1)) in (
       subst (λ i. words_in text ≡ words_in (drop i text)) at.0 (words-behind_blanks text),
       omega (arith, at.1, length-drop start text),
-      let same : start + 0 ≡ start = omega arith in ap is_blank (get_or-drop start text 0 0 ∙ ap (λ i. get_or text i 0) same) ∙ not_true _ word,
+      let same : start + 0 ≡ start = omega arith in ap is_blank (get_or-drop start text 0 0 ∙ ap (λ i. get_or text i 0) same) ∙ not-true _ word,
     )
 
-pick : (b : Bool) (x y : List (List ℕ)) → b ≡ true → cond b x y ≡ x
-pick b x y h = ap (λ c. cond c x y) h
+first_choice : (b : Bool) (x y : List (List ℕ)) → b ≡ true → cond b x y ≡ x
+first_choice b x y h = ap (λ c. cond c x y) h
 
-kept : (word : List ℕ) (parts : List (List ℕ)) → 0 < length word → filter (λ w. ltb 0 (length w)) (word ∷ parts) ≡ word ∷ filter (λ w. ltb 0 (length w)) parts
-kept word parts some = pick (ltb 0 (length word)) _ _ (lt-ltb 0 (length word) some)
+word_kept : (word : List ℕ) (parts : List (List ℕ)) → 0 < length word → filter (λ w. ltb 0 (length w)) (word ∷ parts) ≡ word ∷ filter (λ w. ltb 0 (length w)) parts
+word_kept word parts some = first_choice (ltb 0 (length word)) _ _ (lt-ltb 0 (length word) some)
 
 -- a word up to a blank
 pub words_first : (text : List ℕ) (end : ℕ) → is_blank (get_or text 0 0) ≡ false → position is_blank text ≡ Some end → (words_in text ≡ take end text ∷ words_in (drop end text)) × (0 < end) × (end < length text)
@@ -112,7 +97,7 @@ words_first text end word h =
     subst (λ i. slice_split is_blank text ≡ take i text ∷ slice_split is_blank (drop (i + 1) text)) at.0 (slice_split_first is_blank text 0 (subst (λ i. i < length text) (sym at.0) at.1)) in
     let next : suc end ≡ end + 1 = omega arith in
     let rest : words_in (drop end text) ≡ words_in (drop (end + 1) text) = ap words_in (drop-cons text end 0 at.1) ∙ words-blank (get_or text end 0) (drop (suc end) text) blank ∙ ap (λ i. words_in (drop i text)) next in (
-      ap (filter (λ w. ltb 0 (length w))) parts ∙ kept (take end text) (slice_split is_blank (drop (end + 1) text)) long ∙ ap (λ ws. take end text ∷ ws) (sym rest),
+      ap (filter (λ w. ltb 0 (length w))) parts ∙ word_kept (take end text) (slice_split is_blank (drop (end + 1) text)) long ∙ ap (λ ws. take end text ∷ ws) (sym rest),
       some,
       at.1,
     )
@@ -121,7 +106,7 @@ words_first text end word h =
 pub words_last : (text : List ℕ) → 0 < length text → position is_blank text ≡ None → words_in text ≡ text ∷ []
 words_last text some h =
     let past : length text ≤ position_or_len is_blank text = ltb-false _ _ (chosen_none (ltb (position_or_len is_blank text) (length text)) (position_or_len is_blank text) h) in
-    ap (filter (λ w. ltb 0 (length w))) (slice_split_none is_blank text (λ k d within. fails_before_first is_blank text k d (omega arith))) ∙ kept text [] some
+    ap (filter (λ w. ltb 0 (length w))) (slice_split_none is_blank text (λ k d within. fails_before_first is_blank text k d (omega arith))) ∙ word_kept text [] some
 
 -- what stands behind the first word
 behind_found : (text left rest : List ℕ) (start end : ℕ) → position in_word text ≡ Some start → left ≡ drop start text → position is_blank left ≡ Some end → rest ≡ drop end left → rest ≡ behind_word text

@@ -1,12 +1,13 @@
 -- a script without batches has no more writes than lines
-use Rattle.std.proofs.Common.{◌≡◌, ℕ, suc, ◌+◌, ◌≤◌, Bool, true, false, ◌||◌, not, zero, List, [], ◌∷◌, ◌++◌, length, map, slice_get, Some, Result, Ok, Err, refl, ap, arith, nat_lt, length-append}
+use Rattle.std.proofs.Common.{◌≡◌, ℕ, suc, ◌+◌, ◌≤◌, Bool, true, false, not, zero, List, [], ◌∷◌, ◌++◌, length, map, slice_get, Some, Result, Ok, Err, refl, ap, arith, nat_lt, length-append}
 use Rattle.std.specs.List.{list_any}
+use Rattle.std.proofs.lemmas.Bool.{or_parts}
 use Rattle.table_schema.specs.declared.write.Sent.{Sent}
 use Rattle.table_schema.specs.declared.write.Write.{Write}
 use Rattle.swss_script.specs.Line.{is_block, line_of}
 use Rattle.swss_script.specs.Lines.{is_end, line_text, lines_in}
 use Rattle.swss_script.specs.Plain.{has_batch, is_batch}
-use Rattle.swss_script.specs.Script.{begun, script_from, script_of, step}
+use Rattle.swss_script.specs.Script.{new_draft, script_from, script_of, step}
 use Rattle.swss_script.specs.Sections.{acts_of, acts_writes, line_writes, lines_writes, name_behind, name_of, round_behind, rounds_writes, sections_writes, told}
 use Rattle.swss_script.specs.Sent.{next_sent, sent_after, sent_in_round, writes_in}
 use Rattle.swss_script.specs.declared.draft.Draft.{Draft}
@@ -37,7 +38,7 @@ lines-from (Ok d) number (line ∷ lines) script few is = by (step d (number + 1
 
 pub few-lines : (bytes : List ℕ) (script : Script) → script_of bytes ≡ Ok script → length (lines_in bytes) ≤ 1000000
 few-lines bytes script is =
-    let few = lines-from (Ok begun) 0 (lines_in bytes) script (omega arith) (accepted (nat_lt 67108864 (length bytes)) _ (script_from (Ok begun) 0 (lines_in bytes)) script is) in
+    let few = lines-from (Ok new_draft) 0 (lines_in bytes) script (omega arith) (accepted (nat_lt 67108864 (length bytes)) _ (script_from (Ok new_draft) 0 (lines_in bytes)) script is) in
     omega (arith, few)
 
 -- the lines of a block are a part of one
@@ -52,10 +53,6 @@ few-told false (line ∷ lines) =
     omega (arith, more)
 
 -- ---- the writes of lines
-
-neither : (a b : Bool) → (a || b) ≡ false → (a ≡ false) × (b ≡ false)
-neither true b is = cc
-neither false b is = (refl, is)
 
 one-write : (round : ℕ) (name : List ℕ) (line : Line) → is_batch line ≡ false → length (line_writes round name line) ≤ 1
 one-write round name Blank plain = omega arith
@@ -72,7 +69,7 @@ one-write round name Other plain = omega arith
 few-by_lines : (round : ℕ) (name : List ℕ) (lines : List Line) → list_any is_batch lines ≡ false → length (lines_writes round name lines) ≤ length lines
 few-by_lines round name [] plain = omega arith
 few-by_lines round name (line ∷ lines) plain =
-    let both = neither (is_batch line) (list_any is_batch lines) plain in
+    let both = or_parts (is_batch line) (list_any is_batch lines) plain in
     let one = one-write round name line both.0 in
     let more = few-by_lines (round_behind round line) (name_behind name line) lines both.1 in
     omega (arith, one, more, length-append (line_writes round name line) (lines_writes (round_behind round line) (name_behind name line) lines))

@@ -4,7 +4,7 @@ use Rattle.swss_script.specs.Batch.{batch_of}
 use Rattle.swss_script.specs.Built.{is_built}
 use Rattle.swss_script.specs.Line.{is_block, line_of}
 use Rattle.swss_script.specs.Lines.{block_of, is_end, is_too_long, line_text, lines_in, text_of}
-use Rattle.swss_script.specs.Script.{add, begun, if_built, in_block, script_at, script_from, script_of, step, step_by, with_block, with_line, with_text}
+use Rattle.swss_script.specs.Script.{add, new_draft, if_built, in_block, script_at, script_from, script_of, step, step_by, with_block, with_line, with_text}
 use Rattle.swss_script.specs.declared.draft.Draft.{Draft}
 use Rattle.swss_script.specs.declared.line.Line.{Line}
 use Rattle.swss_script.specs.declared.line.Line.TheVariants.{Batch}
@@ -56,5 +56,5 @@ module _ (P : Draft → Type 0) (by_line : (d e : Draft) (line : Line) → is_bu
     kept-from d number (line ∷ lines) script holds h = kept-by d (number + 1) line lines script (step d (number + 1) line lines) refl holds (λ e more k. kept-from e (number + 1) lines script more k) h
 
     -- what holds of an accepted script
-    pub kept-script : (bytes : List ℕ) (script : Script) → P begun → script_of bytes ≡ Ok script → Q script
-    kept-script bytes script holds h = kept-from begun 0 (lines_in bytes) script holds (accepted (nat_lt 67108864 (length bytes)) _ _ script h)
+    pub kept-script : (bytes : List ℕ) (script : Script) → P new_draft → script_of bytes ≡ Ok script → Q script
+    kept-script bytes script holds h = kept-from new_draft 0 (lines_in bytes) script holds (accepted (nat_lt 67108864 (length bytes)) _ _ script h)

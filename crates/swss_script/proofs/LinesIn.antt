@@ -4,6 +4,7 @@ use Rattle.std.proofs.lemmas.List.{take-append-drop, take_all}
 use Rattle.std.proofs.Math.Seq.{drop-append_seam, drop-length, take-append_seam}
 use Rattle.std.proofs.lemmas.Bool.{ltb-true, ltb-false}
 use Rattle.std.specs.List.{position, position_or_len}
+use Rattle.swss_types.proofs.Choices.{chosen, chosen_none}
 use Rattle.swss_script.specs.Lines.{IsNextLine, block_of, is_end, line_text, lines_in, with_byte}
 
 abbrev is_newline : ℕ → Bool
@@ -41,18 +42,10 @@ lines_whole : (byte : ℕ) (bytes : List ℕ) → length (byte ∷ bytes) ≤ po
 lines_whole byte [] h = whole_by byte [] (byte == 10) h refl
 lines_whole byte (b ∷ bs) h = whole_by byte (b ∷ bs) (byte == 10) h (ap (with_byte byte) (lines_whole b bs (cut_past (byte == 10) (b ∷ bs) h)))
 
-chosen_some : (b : Bool) (m i : ℕ) → cond b (Some m) None ≡ Some i → (b ≡ true) × (m ≡ i)
-chosen_some true m i h = (refl, cc)
-chosen_some false m i h = cc
-
-chosen_none : (b : Bool) (m : ℕ) → cond b (Some m) None ≡ None → b ≡ false
-chosen_none true m h = cc
-chosen_none false m h = refl
-
 -- the next line ends at the first newline
 pub next_ended : (text line rest : List ℕ) (at : ℕ) → position is_newline text ≡ Some at → line ≡ take (at + 1) text → rest ≡ drop (at + 1) text → IsNextLine text (Some (line, rest))
 next_ended text line rest at found line_is rest_is =
-    let here = chosen_some (ltb (position_or_len is_newline text) (length text)) (position_or_len is_newline text) at found in
+    let here = chosen (ltb (position_or_len is_newline text) (length text)) (position_or_len is_newline text) at found in
     let within : position_or_len is_newline text < length text = ltb-true _ _ here.0 in
     let first = subst (λ n. lines_in text ≡ take (n + 1) text ∷ lines_in (drop (n + 1) text)) here.1 (lines_first text within) in (
       first ∙ ap₂ (λ l r. l ∷ lines_in r) (sym line_is) (sym rest_is),
@@ -99,9 +92,9 @@ drop-more text line rest at within split =
     let size : at + length line ≡ length (take at text ++ line) = omega (arith, length-append (take at text) line, length-take at text) in
     ap₂ drop size whole ∙ drop-append_seam (take at text ++ line) rest
 
-joined : (xs ys : List ℕ) (o : Option (List ℕ)) → option_map (λ b. xs ++ b) (option_map (λ b. ys ++ b) o) ≡ option_map (λ b. (xs ++ ys) ++ b) o
-joined xs ys None = refl
-joined xs ys (Some b) = ap Some (sym (append_assoc xs ys b))
+prefixes_joined : (xs ys : List ℕ) (o : Option (List ℕ)) → option_map (λ b. xs ++ b) (option_map (λ b. ys ++ b) o) ≡ option_map (λ b. (xs ++ ys) ++ b) o
+prefixes_joined xs ys None = refl
+prefixes_joined xs ys (Some b) = ap Some (sym (append_assoc xs ys b))
 
 -- a line more, which is no end
 pub block-more : (text left line rest : List ℕ) (at : ℕ) → at ≤ length text → left ≡ drop at text → lines_in left ≡ line ∷ lines_in rest → left ≡ line ++ rest → is_end (line_text line) ≡ false
@@ -111,6 +104,6 @@ block-more text left line rest at within left_is lines parts open_still =
       omega (arith, length-drop at text, ap length split, length-append line rest),
       sym (drop-more text line rest at within split),
       ap (λ front. option_map (λ b. front ++ b) (block_of (lines_in rest))) (take-more text line rest at within split)
-          ∙ sym (joined (take at text) line (block_of (lines_in rest)))
+          ∙ sym (prefixes_joined (take at text) line (block_of (lines_in rest)))
           ∙ ap (option_map (λ b. take at text ++ b)) (sym (ap (λ b. cond b (Some []) (option_map (λ t. line ++ t) (block_of (lines_in rest)))) open_still) ∙ ap block_of (sym lines)),
     )

@@ -8,6 +8,7 @@ use Rattle.std.proofs.lemmas.Slice.Eq.{bytes_eq-Decides}
 use Rattle.std.specs.Bool.{one_answer}
 use Rattle.std.specs.List.{AllByRecursion, position, position_or_len}
 use Rattle.table_schema.specs.declared.write.Write.{Write}
+use Rattle.swss_types.proofs.Choices.{chosen, chosen_none}
 use Rattle.swss_script.specs.Script.{ended_in, in_section, named, script_at, script_of, section_begun, settled, with_line}
 use Rattle.swss_script.specs.Sections.{Placed, placed, acts_of, acts_writes, name_of, rounds_writes, sections_by, sections_from, sections_of, sections_writes, text_writes, writes_of}
 use Rattle.swss_script.specs.Stage.{AreNumbered, IsNumber}
@@ -43,10 +44,6 @@ same_number names q p distinct q_in p_in = one_answer _ _ (bytes_eq-Decides (nam
         let places : q - 1 ≡ p - 1 = distinct (q - 1) (p - 1) (omega (arith, q_in.0, q_in.1)) (omega (arith, p_in.0, p_in.1)) h in
         let same : q ≡ p = omega (arith, places, q_in.0, p_in.0) in
         eq-eqb q p same
-
-chosen_none : (b : Bool) (m : ℕ) → cond b (Some m) None ≡ None → b ≡ false
-chosen_none true m h = cc
-chosen_none false m h = refl
 
 -- a name that is not there
 absent : (names : List (List ℕ)) (name : List ℕ) (i : ℕ) → position (bytes_eq name) names ≡ None → i < length names → name ≡ get_or names i [] → ⊥
@@ -138,10 +135,6 @@ numbered-new d name none h =
     place-more (place.Section producer) more h = more producer h
     place-more place.Settled more h = tt
 
-chosen_some : (b : Bool) (m i : ℕ) → cond b (Some m) None ≡ Some i → (b ≡ true) × (m ≡ i)
-chosen_some true m i h = (refl, cc)
-chosen_some false m i h = cc
-
 numbered-named-new : (d e : Draft) (name : List ℕ) (fits : Bool) → position (bytes_eq name) d.script.producers ≡ None → IsNumbered d → cond fits (Ok (section_begun (with_producer d name) (length d.script.producers + 1))) (Err why.TooManyProducers) ≡ Ok e → IsNumbered e
 numbered-named-new d e name true none h is =
     let count : length (d.script.producers ++ name ∷ []) ≡ length d.script.producers + 1 = length-append d.script.producers (name ∷ []) in
@@ -151,7 +144,7 @@ numbered-named-new d e name false none h is = cc
 
 numbered-named : (d e : Draft) (name : List ℕ) (at : Option ℕ) → position (bytes_eq name) d.script.producers ≡ at → IsNumbered d → named d name at ≡ Ok e → IsNumbered e
 numbered-named d e name (Some at) found h is =
-    let there = chosen_some (ltb (position_or_len (bytes_eq name) d.script.producers) (length d.script.producers)) (position_or_len (bytes_eq name) d.script.producers) at found in
+    let there = chosen (ltb (position_or_len (bytes_eq name) d.script.producers) (length d.script.producers)) (position_or_len (bytes_eq name) d.script.producers) at found in
     let within : position_or_len (bytes_eq name) d.script.producers < length d.script.producers = ltb-true _ _ there.0 in
     let here : IsNumber (length d.script.producers) (at + 1) = (omega arith, omega (arith, within, there.1)) in
     subst IsNumbered (same-ok _ _ is) (numbered-ended d.place (place.Section (at + 1)) d refl h here)

@@ -10,11 +10,12 @@ use Rattle.std.specs.Str.{is_utf8}
 use Rattle.table_schema.specs.Plan.{Ports, plan_step}
 use Rattle.table_schema.specs.declared.plan.PlanWhy.{PlanWhy}
 use Rattle.table_schema.specs.declared.write.Write.{Write}
+use Rattle.swss_types.proofs.Choices.{chosen}
 use Rattle.swss_script.specs.Batch.{batch_of}
 use Rattle.swss_script.specs.Built.{is_built}
 use Rattle.swss_script.specs.Line.{is_block, line_of}
 use Rattle.swss_script.specs.Lines.{block_of, is_end, is_too_long, line_text, lines_in, text_of}
-use Rattle.swss_script.specs.Script.{add, begun, ended_in, if_built, in_block, in_head, in_section, named, round_ended, script_at, script_from, script_of, section_begun, settled, shown_in, step, step_by, with_block, with_head, with_line, with_plan, with_text}
+use Rattle.swss_script.specs.Script.{add, new_draft, ended_in, if_built, in_block, in_head, in_section, named, round_ended, script_at, script_from, script_of, section_begun, settled, shown_in, step, step_by, with_block, with_head, with_line, with_plan, with_text}
 use Rattle.swss_script.specs.Sections.{Placed, placed, acts_writes, name_of, sections_writes, rounds_writes, script_writes, whole_line, told, line_writes, round_behind, name_behind, lines_writes, text_writes}
 use Rattle.swss_script.specs.declared.draft.Draft.{Draft}
 use Rattle.swss_script.specs.declared.draft.Place.{Place}
@@ -138,7 +139,7 @@ block-ended place.Settled d = refl
 -- ---- one line
 
 -- a line more: its writes come last
-record Moves (names : List (List ℕ)) (d : Draft) (line : Line) (e : Draft) : Type 0 where
+record DraftMoves (names : List (List ℕ)) (d : Draft) (line : Line) (e : Draft) : Type 0 where
   tidy : IsTidy e.place e.acts
   block : e.block ≡ d.block
   round : next_round e ≡ round_behind (next_round d) line
@@ -244,14 +245,10 @@ began names d producer tidy = record {
   writes = base-ended names d.place d (name_of names producer) tidy ∙ sym (nil (so_far names d));
 }
 
-chosen_some : (b : Bool) (m i : ℕ) → cond b (Some m) None ≡ Some i → (b ≡ true) × (m ≡ i)
-chosen_some true m i h = (refl, cc)
-chosen_some false m i h = cc
-
 -- the name at a place that was found
 name-found : (names more : List (List ℕ)) (name : List ℕ) (at : ℕ) → position (bytes_eq name) names ≡ Some at → name_of (names ++ more) (at + 1) ≡ name
 name-found names more name at found =
-    let here = chosen_some (ltb (position_or_len (bytes_eq name) names) (length names)) (position_or_len (bytes_eq name) names) at found in
+    let here = chosen (ltb (position_or_len (bytes_eq name) names) (length names)) (position_or_len (bytes_eq name) names) at found in
     let within : position_or_len (bytes_eq name) names < length names = ltb-true _ _ here.0 in
     let same : name ≡ get_or names (position_or_len (bytes_eq name) names) [] = (bytes_eq-Decides name _).0 (passes_at_first (bytes_eq name) names [] within) in
     let index : (at + 1) - 1 ≡ position_or_len (bytes_eq name) names = omega (arith, here.1) in
@@ -272,7 +269,7 @@ kept-names place.Head d = refl
 kept-names (place.Section producer) d = refl
 kept-names place.Settled d = refl
 
-moves-begun : (names : List (List ℕ)) (d e : Draft) (name : List ℕ) (producer : ℕ) → name_of names producer ≡ name → Began names d producer e → Moves names d (Producer name) e
+moves-begun : (names : List (List ℕ)) (d e : Draft) (name : List ℕ) (producer : ℕ) → name_of names producer ≡ name → Began names d producer e → DraftMoves names d (Producer name) e
 moves-begun names d e name producer is b = record { tidy = b.tidy; block = b.block; round = b.round; name = b.name ∙ is; writes = b.writes }
 
 -- the same draft but for the names
@@ -281,23 +278,23 @@ began-new names d name producer tidy =
     let b = began names (with_producer d name) producer tidy in
     record { tidy = b.tidy; block = b.block; round = b.round; name = b.name; writes = b.writes }
 
-moves-new : (names : List (List ℕ)) (d e : Draft) (name : List ℕ) (fits : Bool) → IsTidy d.place d.acts → BeginsWith names e → cond fits (Ok (section_begun (with_producer d name) (length d.script.producers + 1))) (Err why.TooManyProducers) ≡ Ok e → Moves names d (Producer name) e
-moves-new names d e name true tidy begins h =
+moves-new : (names : List (List ℕ)) (d e : Draft) (name : List ℕ) (fits : Bool) → IsTidy d.place d.acts → BeginsWith names e → cond fits (Ok (section_begun (with_producer d name) (length d.script.producers + 1))) (Err why.TooManyProducers) ≡ Ok e → DraftMoves names d (Producer name) e
+moves-new names d e name true tidy script_begins_with h =
     let is : section_begun (with_producer d name) (length d.script.producers + 1) ≡ e = same-ok _ _ h in
-    let all : names ≡ (d.script.producers ++ name ∷ []) ++ begins.0 = begins.1 ∙ ap (λ f. f.script.producers ++ begins.0) (sym is) ∙ ap (λ ns. ns ++ begins.0) (kept-names d.place (with_producer d name)) in
-    let last : name_of names (length d.script.producers + 1) ≡ name = ap (λ ns. name_of ns (length d.script.producers + 1)) all ∙ name-last d.script.producers begins.0 name in
+    let all : names ≡ (d.script.producers ++ name ∷ []) ++ script_begins_with.0 = script_begins_with.1 ∙ ap (λ f. f.script.producers ++ script_begins_with.0) (sym is) ∙ ap (λ ns. ns ++ script_begins_with.0) (kept-names d.place (with_producer d name)) in
+    let last : name_of names (length d.script.producers + 1) ≡ name = ap (λ ns. name_of ns (length d.script.producers + 1)) all ∙ name-last d.script.producers script_begins_with.0 name in
     moves-begun names d e name (length d.script.producers + 1) last (subst (Began names d (length d.script.producers + 1)) is (began-new names d name (length d.script.producers + 1) tidy))
-moves-new names d e name false tidy begins h = cc
+moves-new names d e name false tidy script_begins_with h = cc
 
-moves-named : (names : List (List ℕ)) (d e : Draft) (name : List ℕ) (at : Option ℕ) → position (bytes_eq name) d.script.producers ≡ at → IsTidy d.place d.acts → BeginsWith names e → named d name at ≡ Ok e → Moves names d (Producer name) e
-moves-named names d e name (Some at) found tidy begins h =
+moves-named : (names : List (List ℕ)) (d e : Draft) (name : List ℕ) (at : Option ℕ) → position (bytes_eq name) d.script.producers ≡ at → IsTidy d.place d.acts → BeginsWith names e → named d name at ≡ Ok e → DraftMoves names d (Producer name) e
+moves-named names d e name (Some at) found tidy script_begins_with h =
     let is : section_begun d (at + 1) ≡ e = same-ok _ _ h in
-    let all : names ≡ d.script.producers ++ begins.0 = begins.1 ∙ ap (λ f. f.script.producers ++ begins.0) (sym is) ∙ ap (λ ns. ns ++ begins.0) (kept-names d.place d) in
-    let here : name_of names (at + 1) ≡ name = ap (λ ns. name_of ns (at + 1)) all ∙ name-found d.script.producers begins.0 name at found in
+    let all : names ≡ d.script.producers ++ script_begins_with.0 = script_begins_with.1 ∙ ap (λ f. f.script.producers ++ script_begins_with.0) (sym is) ∙ ap (λ ns. ns ++ script_begins_with.0) (kept-names d.place d) in
+    let here : name_of names (at + 1) ≡ name = ap (λ ns. name_of ns (at + 1)) all ∙ name-found d.script.producers script_begins_with.0 name at found in
     moves-begun names d e name (at + 1) here (subst (Began names d (at + 1)) is (began names d (at + 1) tidy))
-moves-named names d e name None found tidy begins h = moves-new names d e name (nat_lt (length d.script.producers) 4) tidy begins h
+moves-named names d e name None found tidy script_begins_with h = moves-new names d e name (nat_lt (length d.script.producers) 4) tidy script_begins_with h
 
-moves-settle : (names : List (List ℕ)) (d : Draft) → IsTidy d.place d.acts → Moves names d Settle (settled d)
+moves-settle : (names : List (List ℕ)) (d : Draft) → IsTidy d.place d.acts → DraftMoves names d Settle (settled d)
 moves-settle names d tidy = record {
   tidy = acts-ended d.place d tidy;
   block = block-ended d.place d;
@@ -306,38 +303,38 @@ moves-settle names d tidy = record {
   writes = base-ended names d.place d [] tidy ∙ sym (nil (so_far names d));
 }
 
-moves-line : (names : List (List ℕ)) (d e : Draft) (line : Line) → IsTidy d.place d.acts → BeginsWith names e → with_line d line ≡ Ok e → Moves names d line e
-moves-line names d e Blank tidy begins h =
+moves-line : (names : List (List ℕ)) (d e : Draft) (line : Line) → IsTidy d.place d.acts → BeginsWith names e → with_line d line ≡ Ok e → DraftMoves names d line e
+moves-line names d e Blank tidy script_begins_with h =
     let s = still-to d d e (record { place = refl; block = refl; rounds = refl; sections = refl; acts = refl }) (same-ok _ _ h) in
     record { tidy = still-tidy d e s tidy; block = s.block; round = still-round d e s; name = ap (current names) s.place; writes = still-writes names d e s }
-moves-line names d e (Head line) tidy begins h =
+moves-line names d e (Head line) tidy script_begins_with h =
     let s = still-in_head d.place d e line h in
     record { tidy = still-tidy d e s tidy; block = s.block; round = still-round d e s; name = ap (current names) s.place; writes = still-writes names d e s }
-moves-line names d e (Producer name) tidy begins h = moves-named names d e name (position (bytes_eq name) d.script.producers) refl tidy begins h
-moves-line names d e (Put write) tidy begins h =
+moves-line names d e (Producer name) tidy script_begins_with h = moves-named names d e name (position (bytes_eq name) d.script.producers) refl tidy script_begins_with h
+moves-line names d e (Put write) tidy script_begins_with h =
     let a = acted-in names d.place d e (act.Write write ∷ []) refl h in
     record { tidy = a.tidy; block = a.block; round = a.round; name = a.name; writes = a.writes }
-moves-line names d e (Batch (Some writes)) tidy begins h =
+moves-line names d e (Batch (Some writes)) tidy script_begins_with h =
     let a = acted-in names d.place d e (map act.Write writes) refl h in
     record { tidy = a.tidy; block = a.block; round = a.round; name = a.name; writes = a.writes ∙ ap (λ ws. so_far names d ++ ws) (acts-all (next_round d) (current names d.place) writes) }
-moves-line names d e (Batch None) tidy begins h = cc
-moves-line names d e Block tidy begins h = cc
-moves-line names d e Restart tidy begins h =
+moves-line names d e (Batch None) tidy script_begins_with h = cc
+moves-line names d e Block tidy script_begins_with h = cc
+moves-line names d e Restart tidy script_begins_with h =
     let a = acted-in names d.place d e (act.Restart ∷ []) refl h in
     record { tidy = a.tidy; block = a.block; round = a.round; name = a.name; writes = a.writes }
-moves-line names d e Settle tidy begins h = subst (Moves names d Settle) (same-ok _ _ h) (moves-settle names d tidy)
-moves-line names d e (Shown what) tidy begins h =
+moves-line names d e Settle tidy script_begins_with h = subst (DraftMoves names d Settle) (same-ok _ _ h) (moves-settle names d tidy)
+moves-line names d e (Shown what) tidy script_begins_with h =
     let s = still-shown d.place d e what h in
     record { tidy = still-tidy d e s tidy; block = s.block; round = still-round d e s; name = ap (current names) s.place; writes = still-writes names d e s }
-moves-line names d e Other tidy begins h = cc
+moves-line names d e Other tidy script_begins_with h = cc
 
-moves-built : (names : List (List ℕ)) (d e : Draft) (line : Line) (built : Bool) (answer : Result Draft Why) → (answer ≡ Ok e → Moves names d line e) → if_built built answer ≡ Ok e → Moves names d line e
+moves-built : (names : List (List ℕ)) (d e : Draft) (line : Line) (built : Bool) (answer : Result Draft Why) → (answer ≡ Ok e → DraftMoves names d line e) → if_built built answer ≡ Ok e → DraftMoves names d line e
 moves-built names d e line true answer moves h = moves h
 moves-built names d e line false (Ok other) moves h = cc
 moves-built names d e line false (Err reason) moves h = cc
 
-moves-add : (names : List (List ℕ)) (d e : Draft) (line : Line) → IsTidy d.place d.acts → BeginsWith names e → add d line ≡ Ok e → Moves names d line e
-moves-add names d e line tidy begins h = moves-built names d e line (is_built line) (with_line d line) (moves-line names d e line tidy begins) h
+moves-add : (names : List (List ℕ)) (d e : Draft) (line : Line) → IsTidy d.place d.acts → BeginsWith names e → add d line ≡ Ok e → DraftMoves names d line e
+moves-add names d e line tidy script_begins_with h = moves-built names d e line (is_built line) (with_line d line) (moves-line names d e line tidy script_begins_with) h
 
 -- ---- lines one after the other
 
@@ -350,41 +347,41 @@ record Steps (names : List (List ℕ)) (d : Draft) (lines : List Line) (e : Draf
   tidy : IsTidy e.place e.acts
   same : with_lines names e rest ≡ with_lines names d lines
 
-steps-line : (names : List (List ℕ)) (d e : Draft) (line : Line) (rest : List Line) → Moves names d line e → with_lines names e rest ≡ with_lines names d (line ∷ rest)
+steps-line : (names : List (List ℕ)) (d e : Draft) (line : Line) (rest : List Line) → DraftMoves names d line e → with_lines names e rest ≡ with_lines names d (line ∷ rest)
 steps-line names d e line rest moves =
     (λ i. moves.writes i ++ lines_writes (moves.round i) (moves.name i) rest)
     ∙ append_assoc (so_far names d) (line_writes (next_round d) (current names d.place) line) (lines_writes (round_behind (next_round d) line) (name_behind (current names d.place) line) rest)
 
-steps-block : (names : List (List ℕ)) (d e : Draft) (line : Line) (rest : List (List ℕ)) (answer : Result Draft Why) → BeginsWith names e → ((f : Draft) → BeginsWith names f → answer ≡ Ok f → Moves names d line f) → in_block answer ≡ Ok e → Steps names d (line ∷ told true rest) e (told e.block rest)
-steps-block names d e line rest (Ok f) begins moves h =
+steps-block : (names : List (List ℕ)) (d e : Draft) (line : Line) (rest : List (List ℕ)) (answer : Result Draft Why) → BeginsWith names e → ((f : Draft) → BeginsWith names f → answer ≡ Ok f → DraftMoves names d line f) → in_block answer ≡ Ok e → Steps names d (line ∷ told true rest) e (told e.block rest)
+steps-block names d e line rest (Ok f) script_begins_with moves h =
     let is : record f { block = true } ≡ e = same-ok _ _ h in
-    let names_of : BeginsWith names f = subst (BeginsWith names) (sym is) begins in
+    let names_of : BeginsWith names f = subst (BeginsWith names) (sym is) script_begins_with in
     let m = moves f names_of refl in
     let here : Steps names d (line ∷ told true rest) (record f { block = true }) (told true rest) = record { tidy = m.tidy; same = steps-line names d f line (told true rest) m } in
     subst (λ g. Steps names d (line ∷ told true rest) g (told g.block rest)) is here
-steps-block names d e line rest (Err reason) begins moves h = cc
+steps-block names d e line rest (Err reason) script_begins_with moves h = cc
 
 steps-by : (names : List (List ℕ)) (d e : Draft) (line : Line) (rest : List (List ℕ)) (block : Bool) → IsTidy d.place d.acts → BeginsWith names e → d.block ≡ false
     → cond block (with_block d rest) (add d line) ≡ Ok e
     → Steps names d (cond block (Batch (option_and_then batch_of (block_of rest))) line ∷ told block rest) e (told e.block rest)
-steps-by names d e line rest true tidy begins out h = steps-block names d e (Batch (option_and_then batch_of (block_of rest))) rest (add d (Batch (option_and_then batch_of (block_of rest)))) begins (λ f begins_f is. moves-add names d f (Batch (option_and_then batch_of (block_of rest))) tidy begins_f is) h
-steps-by names d e line rest false tidy begins out h =
-    let m = moves-add names d e line tidy begins h in
+steps-by names d e line rest true tidy script_begins_with out h = steps-block names d e (Batch (option_and_then batch_of (block_of rest))) rest (add d (Batch (option_and_then batch_of (block_of rest)))) script_begins_with (λ f begins_f is. moves-add names d f (Batch (option_and_then batch_of (block_of rest))) tidy begins_f is) h
+steps-by names d e line rest false tidy script_begins_with out h =
+    let m = moves-add names d e line tidy script_begins_with h in
     record { tidy = m.tidy; same = ap (λ b. with_lines names e (told b rest)) (m.block ∙ out) ∙ steps-line names d e line (told false rest) m }
 
 steps-text : (names : List (List ℕ)) (d e : Draft) (bytes : List ℕ) (rest : List (List ℕ)) (utf8 : Bool) → IsTidy d.place d.acts → BeginsWith names e → d.block ≡ false
     → with_text d (cond utf8 (Some bytes) None) rest ≡ Ok e
     → Steps names d (whole_line (line_of bytes) rest ∷ told (is_block (line_of bytes)) rest) e (told e.block rest)
-steps-text names d e bytes rest true tidy begins out h = steps-by names d e (line_of bytes) rest (is_block (line_of bytes)) tidy begins out h
-steps-text names d e bytes rest false tidy begins out h = cc
+steps-text names d e bytes rest true tidy script_begins_with out h = steps-by names d e (line_of bytes) rest (is_block (line_of bytes)) tidy script_begins_with out h
+steps-text names d e bytes rest false tidy script_begins_with out h = cc
 
 steps-in : (names : List (List ℕ)) (d e : Draft) (bytes : List ℕ) (rest : List (List ℕ)) (block : Bool) → d.block ≡ block → IsTidy d.place d.acts → BeginsWith names e
     → cond block (Ok (record d { block = not (is_end bytes) })) (with_text d (text_of bytes) rest) ≡ Ok e
     → Steps names d (cond block (told (not (is_end bytes)) rest) (whole_line (line_of bytes) rest ∷ told (is_block (line_of bytes)) rest)) e (told e.block rest)
-steps-in names d e bytes rest true is tidy begins h =
+steps-in names d e bytes rest true is tidy script_begins_with h =
     let inside : Steps names d (told (not (is_end bytes)) rest) (record d { block = not (is_end bytes) }) (told (not (is_end bytes)) rest) = record { tidy = tidy; same = refl } in
     subst (λ g. Steps names d (told (not (is_end bytes)) rest) g (told g.block rest)) (same-ok _ _ h) inside
-steps-in names d e bytes rest false is tidy begins h = steps-text names d e bytes rest (is_utf8 bytes) tidy begins is h
+steps-in names d e bytes rest false is tidy script_begins_with h = steps-text names d e bytes rest (is_utf8 bytes) tidy script_begins_with is h
 
 pub steps-if : (wrong : Bool) (reason : Why) (answer : Result Draft Why) (e : Draft) → cond wrong (Err reason) answer ≡ Ok e → answer ≡ Ok e
 steps-if true reason answer e h = cc
@@ -392,10 +389,10 @@ steps-if false reason answer e h = h
 
 -- a step, with the lines behind it
 steps : (names : List (List ℕ)) (d e : Draft) (number : ℕ) (line : List ℕ) (rest : List (List ℕ)) → IsTidy d.place d.acts → BeginsWith names e → step d number line rest ≡ Ok e → Steps names d (told d.block (line ∷ rest)) e (told e.block rest)
-steps names d e number line rest tidy begins h =
+steps names d e number line rest tidy script_begins_with h =
     let text = steps-if (nat_lt 1000000 number) _ (step_by d (line_text line) rest) e h in
     let inside = steps-if (is_too_long (line_text line)) _ _ e text in
-    steps-in names d e (line_text line) rest d.block refl tidy begins inside
+    steps-in names d e (line_text line) rest d.block refl tidy script_begins_with inside
 
 -- ---- whole scripts
 
@@ -406,10 +403,10 @@ names-at (place.Section producer) d = kept-names (settled d).place (settled d) �
 
 -- the names of a script begin with those of the draft
 begins-stay : (names : List (List ℕ)) (d e : Draft) → e.script.producers ≡ d.script.producers → ((more : List (List ℕ)) × (d.script.producers ≡ names ++ more)) → (more : List (List ℕ)) × (e.script.producers ≡ names ++ more)
-begins-stay names d e same begins = (begins.0, same ∙ begins.1)
+begins-stay names d e same script_begins_with = (script_begins_with.0, same ∙ script_begins_with.1)
 
 begins-more : (names : List (List ℕ)) (d : Draft) (name : List ℕ) → length d.script.producers < 4 → ((more : List (List ℕ)) × (d.script.producers ≡ names ++ more)) → (more : List (List ℕ)) × ((with_producer d name).script.producers ≡ names ++ more)
-begins-more names d name fits begins = (begins.0 ++ name ∷ [], ap (λ ns. ns ++ name ∷ []) begins.1 ∙ append_assoc names begins.0 (name ∷ []))
+begins-more names d name fits script_begins_with = (script_begins_with.0 ++ name ∷ [], ap (λ ns. ns ++ name ∷ []) script_begins_with.1 ∙ append_assoc names script_begins_with.0 (name ∷ []))
 
 begins-step : (d e : Draft) (number : ℕ) (line : List ℕ) (rest : List (List ℕ)) → step d number line rest ≡ Ok e → (more : List (List ℕ)) × (e.script.producers ≡ d.script.producers ++ more)
 begins-step d e number line rest h =
@@ -427,11 +424,11 @@ begins-by d number line rest script (Ok e) is more h =
 pub same-script : (x y : Script) (r : Result Script Refused) → r ≡ Ok x → r ≡ Ok y → x ≡ y
 same-script x y r h k = cc
 
-begins : (d : Draft) (number : ℕ) (lines : List (List ℕ)) (script : Script) → script_from (Ok d) number lines ≡ Ok script → BeginsWith script.producers d
-begins d number [] script h =
+script_begins_with : (d : Draft) (number : ℕ) (lines : List (List ℕ)) (script : Script) → script_from (Ok d) number lines ≡ Ok script → BeginsWith script.producers d
+script_begins_with d number [] script h =
     let is : script_at d.place d ≡ script = same-script _ _ (script_from (Ok d) number []) refl h in
     ([], ap (λ s. s.producers) (sym is) ∙ names-at d.place d ∙ sym (nil d.script.producers))
-begins d number (line ∷ lines) script h = begins-by d (number + 1) line lines script (step d (number + 1) line lines) refl (λ e k. begins e (number + 1) lines script k) h
+script_begins_with d number (line ∷ lines) script h = begins-by d (number + 1) line lines script (step d (number + 1) line lines) refl (λ e k. script_begins_with e (number + 1) lines script k) h
 
 -- the script at its end has the writes so far
 writes-at : (names : List (List ℕ)) (p : Place) (d : Draft) → d.place ≡ p → IsTidy d.place d.acts → rounds_writes names 1 (script_at p d).rounds ≡ so_far names d
@@ -445,7 +442,7 @@ writes-by : (d : Draft) (number : ℕ) (line : List ℕ) (rest : List (List ℕ)
     → script_from answer number rest ≡ Ok script → script_writes script ≡ with_lines script.producers d (told d.block (line ∷ rest))
 writes-by d number line rest script (Err reason) is tidy more h = cc
 writes-by d number line rest script (Ok e) is tidy more h =
-    let s = steps script.producers d e number line rest tidy (begins e number rest script h) is in
+    let s = steps script.producers d e number line rest tidy (script_begins_with e number rest script h) is in
     more e s.tidy h ∙ s.same
 
 writes-from : (d : Draft) (number : ℕ) (lines : List (List ℕ)) (script : Script) → IsTidy d.place d.acts → script_from (Ok d) number lines ≡ Ok script → script_writes script ≡ with_lines script.producers d (told d.block lines)
@@ -460,4 +457,4 @@ accepted false refused answer script h = h
 
 -- an accepted script has the writes of its lines
 pub writes-by_lines : (bytes : List ℕ) (script : Script) → script_of bytes ≡ Ok script → script_writes script ≡ text_writes bytes
-writes-by_lines bytes script h = writes-from begun 0 (lines_in bytes) script refl (accepted (nat_lt 67108864 (length bytes)) _ _ script h)
+writes-by_lines bytes script h = writes-from new_draft 0 (lines_in bytes) script refl (accepted (nat_lt 67108864 (length bytes)) _ _ script h)

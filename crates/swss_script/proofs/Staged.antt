@@ -10,7 +10,7 @@ use Rattle.table_schema.proofs.Plans.{IsPlan-none, IsPlan-plan_step}
 use Rattle.sai_types.specs.Objects.{level}
 use Rattle.sai_types.specs.declared.kind.Kind.{Kind}
 use Rattle.swss_script.specs.Built.{is_built, is_built_show}
-use Rattle.swss_script.specs.Script.{begun, ended_in, in_head, in_section, named, round_ended, script_at, script_of, section_begun, settled, shown_in, with_capacity, with_line, with_plan}
+use Rattle.swss_script.specs.Script.{new_draft, ended_in, in_head, in_section, named, round_ended, script_at, script_of, section_begun, settled, shown_in, with_capacity, with_line, with_plan}
 use Rattle.swss_script.specs.Stage.{IsOfStage, is_built_act, is_built_round, is_built_section}
 use Rattle.swss_script.specs.declared.draft.Draft.{Draft}
 use Rattle.swss_script.specs.declared.draft.Place.{Place}
@@ -162,7 +162,7 @@ done-at (place.Section producer) d is h = done-round (settled d) (staged-ended d
 
 done-script : (bytes : List ℕ) (script : Script) → script_of bytes ≡ Ok script → IsDone script
 done-script bytes script h =
-    let empty : IsBuiltScript begun.script = record { fails = refl; image = refl; plan = IsPlan-none; producers = omega arith; rounds = refl } in
+    let empty : IsBuiltScript new_draft.script = record { fails = refl; image = refl; plan = IsPlan-none; producers = omega arith; rounds = refl } in
     kept-script IsStaged staged-line (λ d block s. record { script = s.script; sections = s.sections; acts = s.acts; shows = s.shows }) IsDone (λ d s. done-at d.place d refl s) bytes script (record { script = empty; sections = refl; acts = refl; shows = refl }) h
 
 -- what an accepted script of this stage has

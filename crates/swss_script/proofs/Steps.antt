@@ -145,10 +145,10 @@ few-step d d' number line lines few h =
     let adds : (d : Draft) (name : List ℕ) → length d.script.producers < 4 → HasFew d → HasFew (with_producer d name) = λ d name fits few. omega (arith, fits, length-append d.script.producers (name ∷ [])) in
     holds-step HasFew stays adds d d' number line lines few h
 
-within : (more : Bool) (number : ℕ) (reason : Why) (answer : Result Draft Why) (d' : Draft) → nat_lt 1000000 number ≡ more → cond more (Err reason) answer ≡ Ok d' → number ≤ 1000000
-within true number reason answer d' is h = cc
-within false number reason answer d' is h = ltb-false 1000000 number is
+line_within : (more : Bool) (number : ℕ) (reason : Why) (answer : Result Draft Why) (d' : Draft) → nat_lt 1000000 number ≡ more → cond more (Err reason) answer ≡ Ok d' → number ≤ 1000000
+line_within true number reason answer d' is h = cc
+line_within false number reason answer d' is h = ltb-false 1000000 number is
 
 -- and is made for the lines of the limit alone
 pub within-step : (d d' : Draft) (number : ℕ) (line : List ℕ) (lines : List (List ℕ)) → step d number line lines ≡ Ok d' → number ≤ 1000000
-within-step d d' number line lines h = within (nat_lt 1000000 number) number _ _ d' refl h
+within-step d d' number line lines h = line_within (nat_lt 1000000 number) number _ _ d' refl h

@@ -165,8 +165,8 @@ script_from (Ok d) number [] = Ok (script_at d.place d)
 script_from (Ok d) number (line ∷ lines) = script_from (step d (number + 1) line lines) (number + 1) lines
 
 -- before the first line
-abbrev pub begun : Draft
-begun = record {
+abbrev pub new_draft : Draft
+new_draft = record {
   script = record { plan = []; caps = default_caps; fails = []; image = []; producers = []; rounds = [] };
   kinds = false ∷ false ∷ false ∷ false ∷ false ∷ false ∷ false ∷ false ∷ false ∷ false ∷ false ∷ [];
   place = place.Head;
@@ -178,7 +178,7 @@ begun = record {
 
 -- the script that the bytes are, or their refusal
 abbrev pub script_of : List ℕ → Result Script Refused
-script_of bytes = if nat_lt MOST_BYTES (length bytes) then Err (record { line = 0; why = why.TooLong }) else script_from (Ok begun) 0 (lines_in bytes)
+script_of bytes = if nat_lt MOST_BYTES (length bytes) then Err (record { line = 0; why = why.TooLong }) else script_from (Ok new_draft) 0 (lines_in bytes)
 
 -- a draft that was to come to a value, or to be refused
 abbrev pub Becomes : Result Draft Why → Result (Unit {0}) Why → Draft → Type 0

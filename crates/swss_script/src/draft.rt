@@ -2,7 +2,7 @@
 ghost use Rattle.std.specs.Prelude.{◌≡◌, ◌≤◌, [], ◌∷◌, IfOk, OnOk, bytes_eq, length, map};
 ghost use Rattle.std.specs.List.{position};
 ghost use Rattle.sai_types.specs.Objects.{level};
-ghost use Rattle.swss_script.specs.Script.{Becomes, add, begun, ended, in_head, in_section, named, round_ended, script_at, section_begun, section_ended, settled, shown_in, with_capacity, with_fail, with_head, with_line};
+ghost use Rattle.swss_script.specs.Script.{Becomes, add, new_draft, ended, in_head, in_section, named, round_ended, script_at, section_begun, section_ended, settled, shown_in, with_capacity, with_fail, with_head, with_line};
 ghost use Rattle.swss_script.specs.declared.line.HeadLine.TheVariants as head;
 ghost use Rattle.swss_script.specs.declared.parts.Act.TheVariants as act;
 
@@ -60,7 +60,7 @@ pub struct Draft {
 impl Draft {
     /// Before the first line.
     pub fn new(alloc: Global) -> Result<Draft, OutOfMemory>
-        ensures { IfOk result (λ draft. draft ≡ begun) }
+        ensures { IfOk result (λ draft. draft ≡ new_draft) }
     {
         Ok(Draft {
             script: Script {

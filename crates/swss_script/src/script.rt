@@ -1,7 +1,7 @@
 // Scripts, and how they are read.
 ghost use Rattle.std.specs.Prelude.{◌≡◌, ◌≤◌, IfOk, Ok, length};
 ghost use Rattle.swss_script.specs.Lines.{lines_in, text_of};
-ghost use Rattle.swss_script.specs.Script.{Becomes, begun, script_from, script_of, step, with_block, with_text};
+ghost use Rattle.swss_script.specs.Script.{Becomes, new_draft, script_from, script_of, step, with_block, with_text};
 
 use crate::batch::read_batch;
 use crate::draft::Draft;
@@ -54,7 +54,7 @@ impl Script {
 
 /// The script of the lines of a text.
 fn read_lines(alloc: Global, bytes: &[u8]) -> Result<Result<Script, Refused>, OutOfMemory>
-    ensures { IfOk result (λ answer. answer ≡ script_from (Ok begun) 0 (lines_in bytes.now)) }
+    ensures { IfOk result (λ answer. answer ≡ script_from (Ok new_draft) 0 (lines_in bytes.now)) }
 {
     let mut draft = Draft::new(alloc)?;
     let mut number = 0;

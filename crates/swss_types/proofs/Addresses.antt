@@ -4,6 +4,7 @@ use Rattle.std.proofs.Math.Nat.{mod-eq_of_lt, pow-le-pow_right, pow-zero, pow-su
 use Rattle.std.proofs.lemmas.Bool.{cases_lt, lt-leb, le-leb}
 use Rattle.std.proofs.lemmas.List.{length-replicate}
 use Rattle.std.proofs.lemmas.Nat.{pow-add}
+use Rattle.std.proofs.lemmas.Option.{same_Some}
 use Rattle.swss_types.specs.Ip.{joined, ipv6_from, filled, filled_between, side_of, groups_of}
 use Rattle.swss_types.specs.Hex.{hex_within}
 use Rattle.swss_types.proofs.Hexes.{hex_within-lt}
@@ -61,9 +62,6 @@ joined-lt b n (x ∷ xs) h =
     let scaled = mul-le-mul_right (b ^ length xs) step in
     rw (pow-suc b (length xs)) (omega arith)
 
-same_some : (p q : ℕ × ℕ) → Some p ≡ Some q → p ≡ q
-same_some p q h = cc
-
 -- values that were made are there
 pub made_some : (o : Option (List ℕ)) (n count : ℕ) → made V6 0 0 o ≡ Some (n, count) → (values : List ℕ) × (o ≡ Some values) × (n ≡ joined 65536 0 values) × (count ≡ length values) × (count ≤ 8)
 made_some None n count h = cc
@@ -72,7 +70,7 @@ made_some (Some values) n count h =
       | inl more ↦ let none = rw (lt-leb (0 + length values) 8 more) at h in cc
       | inr few ↦
           let same = rw (le-leb (0 + length values) 8 few) at h in
-          let pair = same_some _ _ same in
+          let pair = same_Some _ _ same in
           let all : 0 + length values ≡ count = ap (λ p. p.1) pair in
           (values, refl, ap (λ p. p.0) (sym pair), omega arith, omega arith)
     ]

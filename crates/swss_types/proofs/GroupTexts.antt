@@ -6,7 +6,7 @@ use Rattle.swss_types.specs.Ip.{gap_at, groups_of, side_of}
 use Rattle.swss_types.specs.Hex.{hex_within}
 use Rattle.swss_types.specs.Parts.{AllBelow}
 use Rattle.swss_types.proofs.Groups.{IsGroupText-hex}
-use Rattle.swss_types.proofs.Joins.{IsFree, behind, each_of-joined}
+use Rattle.swss_types.proofs.Joins.{IsFree, texts_behind, each_of-joined}
 
 -- groups that are written and joined read as the groups
 pub groups_of-groups_text : (g : ℕ) (gs : List ℕ) → AllBelow 65536 (g ∷ gs) → groups_of (groups_text (g ∷ gs)) ≡ Some (g ∷ gs)
@@ -21,7 +21,7 @@ pub side_of-groups_text : (gs : List ℕ) → AllBelow 65536 gs → side_of (gro
 side_of-groups_text [] h = refl
 side_of-groups_text (g ∷ gs) h =
     let first = IsGroupText-hex g h.0 in
-    let some : 0 < length (groups_text (g ∷ gs)) = omega (arith, first.some, length-append (hex g) (behind 58 hex gs)) in
+    let some : 0 < length (groups_text (g ∷ gs)) = omega (arith, first.some, length-append (hex g) (texts_behind 58 hex gs)) in
     side_of_some (groups_text (g ∷ gs)) some ∙ groups_of-groups_text g gs h
 
 -- the place of a later double colon
@@ -58,16 +58,16 @@ gap_at-colon (b ∷ bs) rest free some =
     let other : (b == 58) ≡ false = free 0 0 (omega arith) in
     gap_at-cons 58 ((b ∷ bs) ++ rest) other ∙ ap (option_map suc) (gap_at-free (b ∷ bs) rest free) ∙ later-suc (length (b ∷ bs)) (gap_at rest)
 
-gap_at-behind : (gs rest : List ℕ) → AllBelow 65536 gs → gap_at (behind 58 hex gs ++ rest) ≡ later (length (behind 58 hex gs)) (gap_at rest)
+gap_at-behind : (gs rest : List ℕ) → AllBelow 65536 gs → gap_at (texts_behind 58 hex gs ++ rest) ≡ later (length (texts_behind 58 hex gs)) (gap_at rest)
 gap_at-behind [] rest h = later-zero (gap_at rest)
 gap_at-behind (g ∷ gs) rest h =
     let first = IsGroupText-hex g h.0 in
-    let split : behind 58 hex (g ∷ gs) ++ rest ≡ 58 ∷ hex g ++ (behind 58 hex gs ++ rest) = append_assoc (58 ∷ hex g) (behind 58 hex gs) rest in
-    let len : suc (length (hex g)) + length (behind 58 hex gs) ≡ length (behind 58 hex (g ∷ gs)) = omega (arith, length-append (hex g) (behind 58 hex gs)) in
+    let split : texts_behind 58 hex (g ∷ gs) ++ rest ≡ 58 ∷ hex g ++ (texts_behind 58 hex gs ++ rest) = append_assoc (58 ∷ hex g) (texts_behind 58 hex gs) rest in
+    let len : suc (length (hex g)) + length (texts_behind 58 hex gs) ≡ length (texts_behind 58 hex (g ∷ gs)) = omega (arith, length-append (hex g) (texts_behind 58 hex gs)) in
     ap gap_at split
-    ∙ gap_at-colon (hex g) (behind 58 hex gs ++ rest) first.no_colon first.some
+    ∙ gap_at-colon (hex g) (texts_behind 58 hex gs ++ rest) first.no_colon first.some
     ∙ ap (later (suc (length (hex g)))) (gap_at-behind gs rest h.1)
-    ∙ later-later (suc (length (hex g))) (length (behind 58 hex gs)) (gap_at rest)
+    ∙ later-later (suc (length (hex g))) (length (texts_behind 58 hex gs)) (gap_at rest)
     ∙ ap (λ n. later n (gap_at rest)) len
 
 -- no double colon begins in the text of groups
@@ -75,9 +75,9 @@ pub gap_at-groups_text : (gs rest : List ℕ) → AllBelow 65536 gs → gap_at (
 gap_at-groups_text [] rest h = later-zero (gap_at rest)
 gap_at-groups_text (g ∷ gs) rest h =
     let first = IsGroupText-hex g h.0 in
-    let len : length (hex g) + length (behind 58 hex gs) ≡ length (groups_text (g ∷ gs)) = sym (length-append (hex g) (behind 58 hex gs)) in
-    ap gap_at (append_assoc (hex g) (behind 58 hex gs) rest)
-    ∙ gap_at-free (hex g) (behind 58 hex gs ++ rest) first.no_colon
+    let len : length (hex g) + length (texts_behind 58 hex gs) ≡ length (groups_text (g ∷ gs)) = sym (length-append (hex g) (texts_behind 58 hex gs)) in
+    ap gap_at (append_assoc (hex g) (texts_behind 58 hex gs) rest)
+    ∙ gap_at-free (hex g) (texts_behind 58 hex gs ++ rest) first.no_colon
     ∙ ap (later (length (hex g))) (gap_at-behind gs rest h.1)
-    ∙ later-later (length (hex g)) (length (behind 58 hex gs)) (gap_at rest)
+    ∙ later-later (length (hex g)) (length (texts_behind 58 hex gs)) (gap_at rest)
     ∙ ap (λ n. later n (gap_at rest)) len

@@ -19,13 +19,13 @@ use Rattle.swss_types.specs.declared.address.Ip.{Ip}
 use Rattle.swss_types.proofs.Decimals.{IsFree-decimal, number_within-decimal}
 use Rattle.swss_types.proofs.Gaps.{hex_groups_text_whole, hex_groups_text_long}
 use Rattle.swss_types.proofs.GroupTexts.{gap_at-groups_text, groups_of-groups_text, side_of-groups_text}
-use Rattle.swss_types.proofs.Joins.{IsFree, behind, each_of-joined}
+use Rattle.swss_types.proofs.Joins.{IsFree, texts_behind, each_of-joined}
 
 -- four bytes
 joined-bytes : (bits : ℕ) → bits < 2 ^ 32 → joined 256 0 (bits / 2 ^ 24 % 256 ∷ bits / 2 ^ 16 % 256 ∷ bits / 2 ^ 8 % 256 ∷ bits % 256 ∷ []) ≡ bits
 joined-bytes bits small = let e : 256 * (256 * (256 * (256 * 0 + bits / 2 ^ 24 % 256) + bits / 2 ^ 16 % 256) + bits / 2 ^ 8 % 256) + bits % 256 ≡ bits = omega arith in e
 
-dotted_text-joined : (a b c d : ℕ) → dotted_text a b c d ≡ decimal a ++ behind 46 decimal (b ∷ c ∷ d ∷ [])
+dotted_text-joined : (a b c d : ℕ) → dotted_text a b c d ≡ decimal a ++ texts_behind 46 decimal (b ∷ c ∷ d ∷ [])
 dotted_text-joined a b c d = simp (append_assoc, append-nil)
 
 ipv4_of-bytes : (a b c d : ℕ) → a < 256 → b < 256 → c < 256 → d < 256 → ipv4_of (dotted_text a b c d) ≡ Some (record { family = V4; bits = joined 256 0 (a ∷ b ∷ c ∷ d ∷ []) })

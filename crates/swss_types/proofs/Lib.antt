@@ -3,7 +3,9 @@ pub mod PrefixTexts
 pub mod Prefixes
 pub mod Proper
 pub mod WrittenOnce
+pub mod AddressOrders
 pub mod Addresses
+pub mod Choices
 pub mod Cuts
 pub mod Decimals
 pub mod Each
@@ -20,3 +22,6 @@ pub mod Macs
 pub mod Names
 pub mod Orders
 pub mod Risings
+pub mod SameValues
+pub mod Tied
+pub mod Truths

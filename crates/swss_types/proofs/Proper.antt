@@ -1,5 +1,5 @@
 -- what reads is proper
-use Rattle.std.proofs.Common.{◌≡◌, ℕ, ◌+◌, ◌-◌, ◌≤◌, ◌==◌, ◌&&◌, Bool, true, false, cond, nat_lt, leb, take, drop, List, [], ◌∷◌, ◌++◌, length, replicate, Option, None, Some, option_map, IfSome, codes, refl, ◌∙◌, subst, arith, lit≤}
+use Rattle.std.proofs.Common.{◌≡◌, ℕ, ◌+◌, ◌-◌, ◌≤◌, ◌==◌, ◌&&◌, nat_lt, leb, take, drop, List, [], ◌∷◌, ◌++◌, length, replicate, Option, None, Some, option_map, IfSome, codes, refl, ◌∙◌, subst, arith, lit≤}
 use Rattle.std.proofs.lemmas.Bool.{eqb-true, leb-true, ltb-true, and_parts}
 use Rattle.swss_types.specs.Address.{width, IsProperIp, IsProperPrefix}
 use Rattle.swss_types.specs.Hex.{hex_within}
@@ -21,13 +21,9 @@ use Rattle.swss_types.proofs.Decimals.{number_within-le}
 use Rattle.swss_types.proofs.Each.{AllBelow-each_of}
 use Rattle.swss_types.proofs.Hexes.{hex_within-lt}
 use Rattle.swss_types.proofs.Lists.{IsLaneList-rising}
+use Rattle.swss_types.proofs.Choices.{chosen}
 
--- a choice that is a value was made for it
-chosen : {A : Type 0} (b : Bool) (x y : A) → cond b (Some x) None ≡ Some y → (b ≡ true) × (x ≡ y)
-chosen true x y h = (refl, cc)
-chosen false x y h = cc
-
-mapped : {A B : Type 0} (f : A → B) (o : Option A) (y : B) → option_map f o ≡ Some y → (x : A) × (o ≡ Some x) × (f x ≡ y)
+pub mapped : {A B : Type 0} (f : A → B) (o : Option A) (y : B) → option_map f o ≡ Some y → (x : A) × (o ≡ Some x) × (f x ≡ y)
 mapped f None y h = cc
 mapped f (Some x) y h = (x, refl, cc)
 

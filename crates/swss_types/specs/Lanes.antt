@@ -5,7 +5,7 @@ use Rattle.std.specs.Ordering.{nat_cmp}
 use Rattle.std.specs.Fmt.{decimal}
 use Rattle.swss_types.specs.Number.{number_within}
 use Rattle.swss_types.specs.Parts.{parts_at}
-use Rattle.swss_types.specs.declared.lanes.TheConstants.{LANES, MOST_LANES}
+use Rattle.swss_types.specs.declared.lanes.TheConstants.{LANE_BOUND, MOST_LANES}
 
 -- numbers in rising order, each once
 abbrev pub rising : List ℕ → List ℕ → List ℕ
@@ -21,7 +21,7 @@ with_lane (Some lane) (Some others) = Some (lane ∷ others)
 -- the numbers that the parts write, each that of a lane of the switch
 abbrev pub lanes_in : List (List ℕ) → Option (List ℕ)
 lanes_in [] = Some []
-lanes_in (part ∷ parts) = with_lane (number_within (LANES - 1) part) (lanes_in parts)
+lanes_in (part ∷ parts) = with_lane (number_within (LANE_BOUND - 1) part) (lanes_in parts)
 
 -- 1 to 8 numbers, no two of them equal, in rising order
 abbrev pub in_order : Option (List ℕ) → Option (List ℕ)
@@ -40,7 +40,7 @@ lanes_text (lane ∷ lanes) = decimal lane ++ flat_map (λ l. 44 ∷ decimal l) 
 -- lanes that rise from this one on
 abbrev pub AreRising : ℕ → List ℕ → Type 0
 AreRising low [] = Unit {0}
-AreRising low (lane ∷ lanes) = (low ≤ lane) × (lane < LANES) × AreRising (lane + 1) lanes
+AreRising low (lane ∷ lanes) = (low ≤ lane) × (lane < LANE_BOUND) × AreRising (lane + 1) lanes
 
 -- 1 to 8 rising lanes
 pub record IsLaneList (lanes : List ℕ) : Type 0 where

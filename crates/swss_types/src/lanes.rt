@@ -17,12 +17,12 @@ use std::cmp::Ordering;
 use std::marker::Model;
 
 /// How many lanes a switch has: the number of each is below it.
-pub const LANES: u32 = 512;
+pub const LANE_BOUND: u32 = 512;
 
 /// How many lanes a port has at most.
 const MOST_LANES: usize = 8;
 
-/// The serial lanes of a port: 1 to `MOST_LANES` rising numbers below `LANES`.
+/// The serial lanes of a port: 1 to `MOST_LANES` rising numbers below `LANE_BOUND`.
 #[derive(Debug, Drop)]
 pub struct Lanes {
     count: u8,
@@ -146,7 +146,7 @@ impl Ord for Lanes {
     }
 }
 
-/// The numbers below `LANES` that the text lists between commas, or None where a part is no such number.
+/// The numbers below `LANE_BOUND` that the text lists between commas, or None where a part is no such number.
 fn read_numbers(alloc: Global, text: &[u8]) -> Result<Option<SmallVec<u16, 8>>, OutOfMemory>
     ensures { IfOk result (λ numbers. option_map (λ n. n.items) numbers ≡ lanes_in (parts_at 44 text.now)) }
 {
@@ -154,7 +154,7 @@ fn read_numbers(alloc: Global, text: &[u8]) -> Result<Option<SmallVec<u16, 8>>, 
     let mut left = Some(text);
     while let Some(list) = left {
         let (part, behind) = cut_at(list, b',');
-        let Some(number) = read_number(part, LANES - 1) else {
+        let Some(number) = read_number(part, LANE_BOUND - 1) else {
             return Ok(None);
         };
         numbers.push(number as u16)?;

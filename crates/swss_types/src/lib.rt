@@ -22,7 +22,7 @@ mod text;
 pub use address::{Family, Ip, Mac, Prefix, V4_BITS, V6_BITS};
 pub use bits::Bits;
 pub use interface::{IfName, MOST_PORT, MOST_VLAN};
-pub use lanes::{LANES, Lanes};
+pub use lanes::{LANE_BOUND, Lanes};
 pub use laws::{
     addresses_read_back, interface_addresses_read_back, interface_names_read_back, lanes_read_back,
     macs_read_back, names_and_addresses_are_ordered, numbers_read_back, prefixes_read_back,

@@ -39,7 +39,7 @@ use Rattle.syncd_core.specs.Begun.{objects_in, tied_entries, tied_in, tied_objec
 use Rattle.syncd_core.specs.Run.{made_by, tied_after, view_by}
 use Rattle.syncd_core.specs.Synced.{tied_by}
 use Rattle.syncd_core.specs.Tied.{rid_or_none, tie_of}
-use Rattle.syncd_core.proofs.Ties.{kept}
+use Rattle.syncd_core.proofs.Ties.{tie_kept_through}
 use Rattle.order_laws.specs.Apply.{AreNumbered, IsPlanned, calls_by, plan_calls}
 use Rattle.order_laws.specs.Viewed.{things_in}
 use Rattle.order_laws.proofs.Applying.{applies-cold, cold-all, cold-making, cold_back, cold_front, cold_makes, hitless-calls, hitless_changes, is-cold, is-hitless}
@@ -180,7 +180,7 @@ module _ {capacities : List ℕ} {made : ℕ} {old : List (Object Rid)} (objects
       let pairs = pairs_of old (objects_in objects) in
       let first = pairs-tied old objects v r pairs objects (there-first old objects x.chip x.view v u i number) (λ p s k b. one-named old x.chip x.view v u s r (record { one = b.0; other = b.1; i = p.0; j = p.1; among = k; one_at = b.2; other_at = b.3; one_is = b.4; other_is = b.5 }) y i number) (inr ((y.i, y.j), y.among, (y.one, y.other, y.one_at, y.other_at, y.one_is, y.other_is))) in
       let begun = subst (λ m. rid_at (tied_in m objects old (objects_in objects) pairs) v ≡ Some r) (sym e) first in
-      ap rid_or_none (kept made (tied_in plan.mode objects old (objects_in objects) pairs) plan.calls v r (plan-in_time objects x free) begun)
+      ap rid_or_none (tie_kept_through made (tied_in plan.mode objects old (objects_in objects) pairs) plan.calls v r (plan-in_time objects x free) begun)
 
   hitless_tied : plan.mode ≡ mode.Hitless → (L : Layout Rid) → Resolves (old_layout (entries_of old) (things_in things)) (viewed things) (tie_of (last_ties objects x free)) L → ((t : Thing) → IsIn t (things_in things) → (j : Rid) × L j t) → (v : Vid) (u : Thing) → IsIn (v, u) things → has_number u ≡ true → Has L (name_of u) (tie_of (last_ties objects x free) v)
   hitless_tied e L res all v u i number = by (lookup (is_at (nat_cmp v.0)) (names_from [] old (objects_in objects) (pairs_of old (objects_in objects)))) refl

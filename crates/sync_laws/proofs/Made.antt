@@ -23,9 +23,9 @@ abbrev Item : Type 0
 Item = Entry Rid × Body Rid
 
 -- an object with an entry of its own is put among others
-put : (os : Objects) (e : Entry Rid) (b : Body Rid) → ((o : Item) → IsIn o os → e ≡ o.0 → ⊥) → IsPermutation ((e, b) ∷ os) (insert_entry entry_cmp os e b)
-put [] e b fresh = IsPermutation-refl ((e, b) ∷ [])
-put (o ∷ os) e b fresh = by (entry_cmp e o.0) refl (put os e b (λ p i. fresh p (inr i)))
+put_among_others : (os : Objects) (e : Entry Rid) (b : Body Rid) → ((o : Item) → IsIn o os → e ≡ o.0 → ⊥) → IsPermutation ((e, b) ∷ os) (insert_entry entry_cmp os e b)
+put_among_others [] e b fresh = IsPermutation-refl ((e, b) ∷ [])
+put_among_others (o ∷ os) e b fresh = by (entry_cmp e o.0) refl (put_among_others os e b (λ p i. fresh p (inr i)))
   where
     by : (r : Ordering) → entry_cmp e o.0 ≡ r → IsPermutation ((e, b) ∷ os) (insert_entry entry_cmp os e b) → IsPermutation ((e, b) ∷ o ∷ os) (match_ordering r ((e, b) ∷ o ∷ os) ((o.0, b) ∷ os) (o ∷ insert_entry entry_cmp os e b))
     by Less h rest = IsPermutation-refl ((e, b) ∷ o ∷ os)
@@ -42,4 +42,4 @@ as-listed [] apart = IsPermutation-refl []
 as-listed (x ∷ xs) apart =
     let rest = as-listed xs apart.1 in
     IsPermutation-trans _ _ _ (IsPermutation-cons (shown_entry as_rid x, shown_body as_rid x) _ _ rest)
-    (put (as_chip xs) (shown_entry as_rid x) (shown_body as_rid x) (λ o i same. apart.0 (subst (λ e. IsIn e (entries_in xs)) (sym same) (entry_among xs o (in-shuffled _ _ rest o i)))))
+    (put_among_others (as_chip xs) (shown_entry as_rid x) (shown_body as_rid x) (λ o i same. apart.0 (subst (λ e. IsIn e (entries_in xs)) (sym same) (entry_among xs o (in-shuffled _ _ rest o i)))))

@@ -20,7 +20,7 @@ use Rattle.sai_types.specs.declared.thing.Goal.{Goal}
 use Rattle.sai_types.specs.declared.thing.Goal.TheVariants as goal
 use Rattle.sai_types.specs.declared.thing.Thing.{Thing}
 use Rattle.sai_types.specs.declared.thing.Thing.TheVariants as thing
-use Rattle.sai_types.specs.Names.{Name}
+use Rattle.sai_types.specs.Names.{ThingName}
 use Rattle.chip_layout.specs.Bodies.{body_with, first_name, goal_name, second_name, to_with}
 use Rattle.chip_layout.specs.Renamed.{attr_renamed, body_renamed, entry_renamed, to_renamed}
 use Rattle.chip_layout.proofs.Shapes.{renamed_with}
@@ -33,7 +33,7 @@ use Rattle.apply_order.specs.Naming.{Names, new_id}
 use Rattle.order_laws.proofs.Sets.{to_by}
 
 -- the body of a thing depends on what it refers to alone
-with_same : {I : Type 0} (t : Thing) (i j p q : I) → ((k : Name) → first_name t ≡ Some k → i ≡ p) → ((k : Name) → second_name t ≡ Some k → j ≡ q) → body_with t i j ≡ body_with t p q
+with_same : {I : Type 0} (t : Thing) (i j p q : I) → ((k : ThingName) → first_name t ≡ Some k → i ≡ p) → ((k : ThingName) → second_name t ≡ Some k → j ≡ q) → body_with t i j ≡ body_with t p q
 with_same (thing.Port x) i j p q a b = refl
 with_same (thing.Vlan v) i j p q a b = refl
 with_same (thing.BridgePort n) i j p q a b = ap body.BridgePort (a _ refl)
@@ -50,7 +50,7 @@ with_same (thing.Route x (goal.Direct on)) i j p q a b = ap (λ z. body_with (th
 with_same (thing.Route x (goal.Via hop)) i j p q a b = ap (λ z. body_with (thing.Route x (goal.Via hop)) z z) (a _ refl)
 with_same (thing.Route x (goal.Group hs)) i j p q a b = ap (λ z. body_with (thing.Route x (goal.Group hs)) z z) (a _ refl)
 
-to_same : {I : Type 0} (g : Goal) (i p : I) → ((k : Name) → goal_name g ≡ Some k → i ≡ p) → to_with g i ≡ to_with g p
+to_same : {I : Type 0} (g : Goal) (i p : I) → ((k : ThingName) → goal_name g ≡ Some k → i ≡ p) → to_with g i ≡ to_with g p
 to_same goal.Drop i p a = refl
 to_same (goal.Direct on) i p a = ap (to_with (goal.Direct on)) (a _ refl)
 to_same (goal.Via hop) i p a = ap (to_with (goal.Via hop)) (a _ refl)
@@ -61,7 +61,7 @@ module _ (view : ViewObjects) where
   abbrev pub Agrees : (PlanId → Rid) → Type 0
   Agrees f = (i : PlanId) → HasCome view i → f i ≡ plan_tie view i
 
-  pub body-tied : (t : Thing) (p q : PlanId) (b : Body PlanId) → b ≡ body_with t p q → ((k : Name) → first_name t ≡ Some k → HasCome view p) → ((k : Name) → second_name t ≡ Some k → HasCome view q) → NamesTied view (call.Create b)
+  pub body-tied : (t : Thing) (p q : PlanId) (b : Body PlanId) → b ≡ body_with t p q → ((k : ThingName) → first_name t ≡ Some k → HasCome view p) → ((k : ThingName) → second_name t ≡ Some k → HasCome view q) → NamesTied view (call.Create b)
   body-tied t p q b is first second f agree =
       let h = plan_tie view in
       let same = with_same t (f p) (f q) (h p) (h q) (λ k e. agree p (first k e)) (λ k e. agree q (second k e)) in
@@ -92,12 +92,12 @@ module _ (view : ViewObjects) where
   joined_tied [] ys x y = y
   joined_tied (a ∷ xs) ys x y = (x.0, joined_tied xs ys x.1 y)
 
-  pub to-tied : (g : Goal) (p : PlanId) → ((k : Name) → goal_name g ≡ Some k → HasCome view p) → IsAttrTied (attr.To (to_with g p))
+  pub to-tied : (g : Goal) (p : PlanId) → ((k : ThingName) → goal_name g ≡ Some k → HasCome view p) → IsAttrTied (attr.To (to_with g p))
   to-tied g p come f agree =
       let h = plan_tie view in
       ap attr.To (to_by f g p ∙ to_same g (f p) (h p) (λ k e. agree p (come k e)) ∙ sym (to_by h g p))
 
-  pub differing-tied : (names : Names) (b : Body Rid) (t : Thing) (k l : Vid) → ((g : Goal) → (n : Name) → ((p : _) → t ≡ thing.Route p g → goal_name g ≡ Some n → HasCome view (new_id names k))) → AreAttrsTied (differing names b (body_with t k l))
+  pub differing-tied : (names : Names) (b : Body Rid) (t : Thing) (k l : Vid) → ((g : Goal) → (n : ThingName) → ((p : _) → t ≡ thing.Route p g → goal_name g ≡ Some n → HasCome view (new_id names k))) → AreAttrsTied (differing names b (body_with t k l))
   differing-tied names (body.Port lanes speed mtu up) (thing.Port p) k l come =
       let first = unless (speed == p.speed) (attr.Speed p.speed) in
       let second = unless (mtu == p.mtu) (attr.Mtu p.mtu) in

@@ -31,7 +31,7 @@ use Rattle.syncd_core.specs.Begun.{objects_in, tied_in}
 use Rattle.syncd_core.specs.Run.{AreInTime, made_by, tied_after, tied_calls, view_by}
 use Rattle.syncd_core.specs.Synced.{tied_by}
 use Rattle.syncd_core.specs.Tied.{rid_or_none, tie_of}
-use Rattle.syncd_core.proofs.Ties.{kept, ties-hold}
+use Rattle.syncd_core.proofs.Ties.{tie_kept_through, ties-hold}
 use Rattle.order_laws.specs.Apply.{AreNumbered, IsApply, IsPlanned, calls_by}
 use Rattle.order_laws.specs.Viewed.{IsViewOf}
 use Rattle.order_laws.proofs.Changes.{IsDueStep, due-of, due-pair, place_old}
@@ -66,14 +66,14 @@ numbered-by (c ∷ cs) V made times known = (
       let next : Rid = record { 0 = made + 1 } in
       let here : view_by made V c ≡ with_tie V v next = ap (λ b. cond b (tied_by V c.makes next) V) k.0 ∙ ap (λ o. tied_by V o next) is in
       let tied : rid_at (view_by made V c) v ≡ Some next = ap (λ V'. rid_at V' v) here ∙ tied-same V v next k.1 in
-      ap rid_or_none (kept (made_by made c) (view_by made V c) cs v next times.2 tied),
+      ap rid_or_none (tie_kept_through (made_by made c) (view_by made V c) cs v next times.2 tied),
   numbered-by cs (view_by made V c) (made_by made c) times.2 (λ d i v is. let k = known d (inr i) v is in (k.0, there_after V made c v k.1)),
 )
 
 -- ---- what the calls of steps make
 
-oids : (v w : Vid) → entry.Oid v ≡ entry.Oid w → v ≡ w
-oids v w e = cc
+one_vid_entry : (v w : Vid) → entry.Oid v ≡ entry.Oid w → v ≡ w
+one_vid_entry v w e = cc
 
 -- a numbered thing with this identifier, and a call that makes one
 abbrev IsMaker : List (Vid × Thing) → PlanCall → Vid → Type 0
@@ -87,7 +87,7 @@ module _ {made : ℕ} (old : List (Object Rid)) {new : List (Object Vid)} {thing
       let same : c ≡ made_call = only c made_call (subst (IsIn c) call_is i) in
       let f = made-id d.n.entry v (ap (λ (z : PlanCall). z.makes) (sym same) ∙ is) in
       let number = numbered d.x.1 d.n.entry (has_number d.x.1) refl d.entry.none v f in
-      let mine : d.x.0 ≡ v = oids d.x.0 v (sym (d.entry.some number) ∙ f) in
+      let mine : d.x.0 ≡ v = one_vid_entry d.x.0 v (sym (d.entry.some number) ∙ f) in
       let makes : makes_id made_call.call ≡ true = ap (λ b. has_id (body_renamed (new_id names) b)) d.of.body_is ∙ ap has_id (renamed_with (new_id names) d.x.1 d.of.first d.of.second) ∙ has_number_with d.x.1 (new_id names d.of.first) (new_id names d.of.second) ∙ number in
       (d.x.1, subst (λ z. IsIn (z, d.x.1) things) mine (place-in things d.j d.x d.there), number, ap (λ (z : PlanCall). makes_id z.call) same ∙ makes)
     where

@@ -12,7 +12,7 @@ use Rattle.sai_types.specs.declared.thing.Thing.{Thing}
 use Rattle.sai_types.specs.After.{entry_of}
 use Rattle.sai_types.specs.Alike.{IsIn}
 use Rattle.sai_types.specs.Made.{IsWhole, same_entry}
-use Rattle.sai_types.specs.Names.{Name, name_kind, name_of}
+use Rattle.sai_types.specs.Names.{ThingName, name_kind, name_of}
 use Rattle.sai_types.specs.Objects.{Objects, body_at}
 use Rattle.sai_types.proofs.Exact.{entry-exact}
 use Rattle.sai_types.proofs.Found.{body_at-insert, same-refl}
@@ -74,7 +74,7 @@ module _ (f : Vid → Rid) where
   -- ---- where the ties are the identifiers of the things
 
   module _ {made : ℕ} (old : List (Object Rid)) (objects : ViewObjects) {things : List (Vid × Thing)} (chip : IsListedChip made (entries_of old)) (view : IsViewOf things (objects_in objects)) (L : Layout Rid) (S : Objects) (laid : IsLaidOut L S) {n : ℕ} (whole : IsWhole n S) (only : (i : Rid) (t : Thing) → L i t → IsIn t (things_in things)) (all : (t : Thing) → IsIn t (things_in things) → (i : Rid) × L i t) (tied : (v : Vid) (u : Thing) → IsIn (v, u) things → has_number u ≡ true → Has L (name_of u) (f v)) where
-    at-tied : (o : Option Name) (v : Vid) → ((k : Name) → o ≡ Some k → is_numbered (name_kind k) ≡ true) → IsAt (Has (viewed things)) o v → IsAt (Has L) o (f v)
+    at-tied : (o : Option ThingName) (v : Vid) → ((k : ThingName) → o ≡ Some k → is_numbered (name_kind k) ≡ true) → IsAt (Has (viewed things)) o v → IsAt (Has L) o (f v)
     at-tied None v number h = tt
     at-tied (Some k) v number h = subst (λ z. Has L z (f v)) h.2 (tied v h.0 h.1 (ap (λ z. is_numbered (name_kind z)) h.2 ∙ number k refl))
 

@@ -20,7 +20,7 @@ use Rattle.sai_types.specs.declared.thing.Thing.{Thing}
 use Rattle.sai_types.specs.declared.thing.Thing.TheVariants as thing
 use Rattle.sai_types.specs.After.{has_id, makes_id}
 use Rattle.sai_types.specs.Alike.{IsIn}
-use Rattle.sai_types.specs.Names.{Name, name_kind, name_of}
+use Rattle.sai_types.specs.Names.{ThingName, name_kind, name_of}
 use Rattle.sai_chip.specs.Naming.{entries_of}
 use Rattle.chip_layout.specs.Bodies.{IsAt, body_with, first_name, is_numbered, second_name}
 use Rattle.chip_layout.specs.Layout.{Has, Layout, has_number}
@@ -65,7 +65,7 @@ made-id (entry.Route p) v e = absurd cc
 apart_set : (t u : Thing) → Set t ≡ Make u → ⊥
 apart_set t u e = cc
 
-apart_remove : (k : Name) (u : Thing) → Remove k ≡ Make u → ⊥
+apart_remove : (k : ThingName) (u : Thing) → Remove k ≡ Make u → ⊥
 apart_remove k u e = cc
 
 one_made : (t u : Thing) → Make t ≡ Make u → t ≡ u
@@ -96,7 +96,7 @@ module _ (olds : List Thing) {made' : ℕ} (old : List (Object Rid)) {new : List
       changes_cut = ap (map change) cut ∙ map-append change front back
 
       -- what stands by then has come
-      come : (V : ViewObjects) → AreTied front V → (k : Name) (i : Vid) → Has (viewed things) k i → is_numbered (name_kind k) ≡ true → HasNamed (stands_after_all (map change front) (λ u. IsIn u olds)) k → HasCome V (new_id names i)
+      come : (V : ViewObjects) → AreTied front V → (k : ThingName) (i : Vid) → Has (viewed things) k i → is_numbered (name_kind k) ≡ true → HasNamed (stands_after_all (map change front) (λ u. IsIn u olds)) k → HasCome V (new_id names i)
       come V tied k i has number standing = by (lookup (is_at (nat_cmp i.0)) names) refl
         where
           u : Thing
@@ -130,7 +130,7 @@ module _ (olds : List Thing) {made' : ℕ} (old : List (Object Rid)) {new : List
                 | inr c ↦ by_change c.0 c.1 standing.0 c.2 standing.2 fact
               ]
 
-      come_at : (V : ViewObjects) → AreTied front V → (o : Option Name) (i : Vid) → IsAt (Has (viewed things)) o i → ((k : Name) → o ≡ Some k → is_numbered (name_kind k) ≡ true) → ((k : Name) → o ≡ Some k → HasNamed (stands_after_all (map change front) (λ u. IsIn u olds)) k) → (k : Name) → o ≡ Some k → HasCome V (new_id names i)
+      come_at : (V : ViewObjects) → AreTied front V → (o : Option ThingName) (i : Vid) → IsAt (Has (viewed things)) o i → ((k : ThingName) → o ≡ Some k → is_numbered (name_kind k) ≡ true) → ((k : ThingName) → o ≡ Some k → HasNamed (stands_after_all (map change front) (λ u. IsIn u olds)) k) → (k : ThingName) → o ≡ Some k → HasCome V (new_id names i)
       come_at V tied None i at number standing k e = absurd cc
       come_at V tied (Some l) i at number standing k e = come V tied l i at (number l refl) (standing l refl)
 

@@ -33,7 +33,7 @@ use Rattle.apply_order.specs.Room.{Fits, lacking_from}
 use Rattle.apply_order.specs.declared.ranks.Timed.{Timed}
 use Rattle.asic_view.specs.View.{ViewObjects, as_chip, rid_at, rid_in, vid_cmp}
 use Rattle.syncd_core.specs.Begun.{objects_in}
-use Rattle.sync_laws.specs.Begun.{IsBegun, IsReady, IsReadyView, calls_from}
+use Rattle.sync_laws.specs.Begun.{IsApplyBegun, IsApplyReady, IsReadyView, calls_from}
 use Rattle.sync_laws.proofs.Ready.{made-view, ready-begun}
 use Rattle.order_laws.proofs.Viewing.{laid_things}
 
@@ -103,15 +103,15 @@ view_chip = record {
   prefixes = record { each = λ e b h. subst HasPrefix (sym (view_vlan e b h).1) tt };
 }
 
-numbers : (r s : Rid) → entry.Oid r ≡ entry.Oid s → r.0 ≡ s.0
-numbers r s e = let same : r ≡ s = cc in ap (λ (z : Rid). z.0) same
+rid_numbers : (r s : Rid) → entry.Oid r ≡ entry.Oid s → r.0 ≡ s.0
+rid_numbers r s e = let same : r ≡ s = cc in ap (λ (z : Rid). z.0) same
 
 -- ---- the apply
 
 ready_view : IsReadyView 2 view
 ready_view = record {
   chip = view_chip;
-  apart = (λ i. elim i [ inl same ↦ let n = numbers (rid 1) (rid 2) same in absurd (omega (arith, n)) | inr none ↦ elim none [ ] ], (λ i. elim i [ ], tt));
+  apart = (λ i. elim i [ inl same ↦ let n = rid_numbers (rid 1) (rid 2) same in absurd (omega (arith, n)) | inr none ↦ elim none [ ] ], (λ i. elim i [ ], tt));
   distinct = (λ i. elim i [ inl same ↦ absurd cc | inr none ↦ elim none [ ] ], (λ i. elim i [ ], tt));
   free = λ v. untied v;
 }
@@ -124,16 +124,16 @@ ready_view = record {
         by false true = refl
         by false false = refl
 
-no_port : (p : PortThing) → IsIn (thing.Port p) (chip_things (as_chip view)) → ⊥
-no_port p (inl is) = cc
-no_port p (inr (inl is)) = cc
-no_port p (inr (inr none)) = elim none [ ]
+view_has_no_port : (p : PortThing) → IsIn (thing.Port p) (chip_things (as_chip view)) → ⊥
+view_has_no_port p (inl is) = cc
+view_has_no_port p (inr (inl is)) = cc
+view_has_no_port p (inr (inr none)) = elim none [ ]
 
-ready : IsReady roomy 1 old 2 view
-ready = record {
+example_ready : IsApplyReady roomy 1 old 2 view
+example_ready = record {
   chip = old_chip;
   ready = ready_view;
-  lanes = record { same = λ p q i j meet. absurd (no_port p i) };
+  lanes = record { same = λ p q i j meet. absurd (view_has_no_port p i) };
   held = held;
   fits = fits;
 }
@@ -160,8 +160,8 @@ fits_all kind.Port = omega arith
 fits_all kind.Vlan = omega arith
 fits_all _ = omega arith
 
-planned : IsPlanOf old new (pairs_of old new) roomy plan
-planned = record {
+example_planned : IsPlanOf old new (pairs_of old new) roomy plan
+example_planned = record {
   mode = (λ e. fits_all, λ f. refl);
   steps = swap due 0 1;
   due = record { moves = (0, 1) ∷ []; below = (omega arith, omega arith, tt); is = refl };
@@ -173,8 +173,8 @@ planned = record {
     sorted zero d low high = refl
     sorted (suc k) d low high = absurd (omega (arith, high))
 
-begun : IsBegun roomy 1 old view (laid_things (made-view ready_view)) plan
-begun = ready-begun ready plan planned
+worked_apply_begun : IsApplyBegun roomy 1 old view (laid_things (made-view ready_view)) plan
+worked_apply_begun = ready-begun example_ready plan example_planned
 
 -- one call comes to the chip
 one_call : calls_from 1 old view plan ≡ call.Create (vlan 20) ∷ []

@@ -24,7 +24,7 @@ use Rattle.order_laws.specs.Apply.{IsPlanned}
 use Rattle.order_laws.specs.Viewed.{HaveOneLanes}
 
 -- the plan to a new view, of which nothing is tied yet
-pub record IsBegun (capacities : List ℕ) (made : ℕ) (old : List (Object Rid)) (view : ViewObjects) (things : List (Vid × Thing)) (plan : Plan) : Type 0 where
+pub record IsApplyBegun (capacities : List ℕ) (made : ℕ) (old : List (Object Rid)) (view : ViewObjects) (things : List (Vid × Thing)) (plan : Plan) : Type 0 where
   pub planned : IsPlanned capacities made old (objects_in view) things plan
   pub free : (v : Vid) → rid_at view v ≡ None
 
@@ -40,7 +40,7 @@ pub record IsReadyView (made : ℕ) (view : ViewObjects) : Type 0 where
   pub free : (v : Vid) → rid_at view v ≡ None
 
 -- the chip and the view that an apply begins with: the chip is the list as legal calls left it, and has room for what stands and for the new objects; an old port and a new one that can't stand together have the same lanes
-pub record IsReady (capacities : List ℕ) (made : ℕ) (old : List (Object Rid)) (calls : ℕ) (view : ViewObjects) : Type 0 where
+pub record IsApplyReady (capacities : List ℕ) (made : ℕ) (old : List (Object Rid)) (calls : ℕ) (view : ViewObjects) : Type 0 where
   pub chip : IsListedChip made (entries_of old)
   pub ready : IsReadyView calls view
   pub lanes : HaveOneLanes (entries_of old) (chip_things (as_chip view))

@@ -5,6 +5,6 @@
 mod laws;
 
 pub use laws::{
-    begun_applies_are_ready, hitless_applies_are_steady, next_calls_are_legal, plans_are_in_time,
+    begun_applies_are_ready, hitless_calls_are_steady, next_calls_are_legal, plans_are_in_time,
     ties_apply, ties_stand_for_the_chip,
 };

@@ -6,9 +6,8 @@ use Rattle.std.proofs.lemmas.Bool.{false≢true}
 use Rattle.sai_types.specs.Alike.{IsIn}
 use Rattle.table_schema.specs.Key.{key_cmp}
 use Rattle.table_schema.specs.declared.key.Key.{Key}
-use Rattle.table_schema.proofs.Keys.{key_total}
+use Rattle.table_schema.proofs.Keys.{key_total, tied_keys_same}
 use Rattle.producer_table.proofs.Found.{lookup-removed}
-use Rattle.producer_table.proofs.RowWrites.{same_key}
 use Rattle.consumer_table.specs.Ops.{Ops, AreOpsInOrder, op_at, without_op}
 use Rattle.switch_machine.specs.Events.{HasLeft}
 use Rattle.sync_tables.proofs.Membership.{at_itself, found-in, in-found}
@@ -22,7 +21,7 @@ module _ (ops : Ops) (k : Key) (order : AreOpsInOrder ops) where
   gone q at i = false≢true (sym (found-later q true at) ∙ in-found q (without_op ops k) i)
 
   other : (q : Key) (b : Bool) → is_at (key_cmp q) k ≡ b → IsIn q (keys_of ops) → (q ≡ k) ⊎ IsIn q (keys_of (without_op ops k))
-  other q true at i = inl (same_key q k at)
+  other q true at i = inl (tied_keys_same q k at)
   other q false at i = inr (found-in q (without_op ops k) (found-later q false at ∙ in-found q ops i))
 
   only : (q : Key) (b : Bool) → is_at (key_cmp q) k ≡ b → IsIn q (keys_of (without_op ops k)) → IsIn q (keys_of ops)

@@ -37,9 +37,9 @@ pub fewer-wait : (old new : TablesState) (n : ℕ) → 0 < n → PopsSome old ne
 fewer-wait old new n more some left = rw left (shorter old.waiting n (some-waits old new some) more)
 
 -- a key of which a write waits still is not popped
-stays : (old new : TablesState) (taken : List Write) (k : Key) → IsPoppedIn old new k → (HasNoWrite (written_in taken new) k → ⊥) → IsAsBefore (written_in taken old) (written_in taken new) k
-stays old new taken k (Stays same only) waits = same taken
-stays old new taken k (Popped some popped there) waits = absurd (waits (popped taken).none)
+key_as_before : (old new : TablesState) (taken : List Write) (k : Key) → IsPoppedIn old new k → (HasNoWrite (written_in taken new) k → ⊥) → IsAsBefore (written_in taken old) (written_in taken new) k
+key_as_before old new taken k (Stays same only) waits = same taken
+key_as_before old new taken k (Popped some popped there) waits = absurd (waits (popped taken).none)
 
 pub as_before : (old new : TablesState) (taken : List Write) (k : Key) → PopsKeys old new → (HasNoWrite (written_in taken new) k → ⊥) → IsAsBefore (written_in taken old) (written_in taken new) k
-as_before old new taken k h = stays old new taken k (h.keys k)
+as_before old new taken k h = key_as_before old new taken k (h.keys k)

@@ -10,11 +10,10 @@ use Rattle.table_schema.specs.Key.{key_cmp}
 use Rattle.table_schema.specs.Rows.{fields_at}
 use Rattle.table_schema.specs.declared.key.Key.{Key}
 use Rattle.table_schema.specs.declared.write.Write.{Write}
-use Rattle.table_schema.proofs.Keys.{key_total}
+use Rattle.table_schema.proofs.Keys.{key_total, tied_keys_same}
 use Rattle.producer_table.specs.Pending.{PendingKeys, AreInOrder, nothing_pending, pending_at, row_with_fields, row_with_pending}
 use Rattle.producer_table.specs.declared.waiting.Pending.{Pending}
 use Rattle.producer_table.proofs.Found.{lookup-above}
-use Rattle.producer_table.proofs.RowWrites.{same_key}
 use Rattle.switch_machine.specs.Events.{IsPop, PopsKey, SwitchState, Popped as KeyPopped, Stays as KeyStays}
 use Rattle.switch_machine.specs.Written.{HasNoWrite, IsAsBefore, IsPoppedKey, Written}
 use Rattle.sync_tables.specs.Tables.{AllMatter, IsPoppedIn, IsToSync, Matters, Popped, PopsFirst, PopsKeys, PopsNone, PopsSome, Stays, TablesState, written_in}
@@ -70,7 +69,7 @@ module _ (old new : TablesState) (h : PopsFirst old new) (order : AreInOrder old
   PopsKeys-first = record {
     keys = λ k.
         let popped : is_at (key_cmp k) h.first.0 ≡ true → IsPoppedIn old new k =
-        λ here. Popped (λ taken none. waited k taken here none) (λ taken. emptied k taken here) ((h.added k).1 (inr (ap Some (same_key k h.first.0 here)))) in
+        λ here. Popped (λ taken none. waited k taken here none) (λ taken. emptied k taken here) ((h.added k).1 (inr (ap Some (tied_keys_same k h.first.0 here)))) in
         let stays = others_stay k in
         let by : (b : Bool) → is_at (key_cmp k) h.first.0 ≡ b → IsPoppedIn old new k = λ b. elim b as (λ b. is_at (key_cmp k) h.first.0 ≡ b → IsPoppedIn old new k) [ true ↦ popped | false ↦ stays ] in
         by (is_at (key_cmp k) h.first.0) refl;

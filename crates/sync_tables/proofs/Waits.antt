@@ -74,6 +74,6 @@ first-gone waiting rest e (Some op) is some none =
 first-gone waiting rest e None is some none = absurd (none-some e (ap (λ w. slice_get w 0) (sym none) ∙ is))
 
 -- a key that is set or deleted
-pub kept : {T E : Type 0} (r : Result T E) (old new : PendingKeys) (w : Write) → OnOk r (new ≡ pending_after old w) → OnErr r (new ≡ old) → AllMatter old → AllMatter new
-kept (Ok x) old new w ok err h = subst AllMatter (sym ok) (AllMatter-after old w h)
-kept (Err x) old new w ok err h = subst AllMatter (sym err) h
+pub all_matter_kept : {T E : Type 0} (r : Result T E) (old new : PendingKeys) (w : Write) → OnOk r (new ≡ pending_after old w) → OnErr r (new ≡ old) → AllMatter old → AllMatter new
+all_matter_kept (Ok x) old new w ok err h = subst AllMatter (sym ok) (AllMatter-after old w h)
+all_matter_kept (Err x) old new w ok err h = subst AllMatter (sym err) h

@@ -1,5 +1,5 @@
 -- ties hold while others are made
-use Rattle.std.proofs.Common.{◌≡◌, ℕ, ◌+◌, Bool, true, false, ◌==◌, cond, List, [], ◌∷◌, map, Option, None, Some, refl, sym, ap, ap₂, ◌∙◌, rules}
+use Rattle.std.proofs.Common.{◌≡◌, ℕ, ◌+◌, Bool, true, false, cond, List, [], ◌∷◌, map, Option, None, Some, refl, sym, ap, ap₂, ◌∙◌}
 use Rattle.std.specs.BTreeMap.{is_at}
 use Rattle.std.specs.Map.{lookup}
 use Rattle.std.proofs.lemmas.Bool.{eqb-true}
@@ -13,12 +13,10 @@ use Rattle.sai_types.specs.After.{makes_id}
 use Rattle.chip_layout.specs.Renamed.{call_renamed}
 use Rattle.asic_view.specs.declared.object.ViewObject.{ViewObject}
 use Rattle.asic_view.specs.View.{ViewObjects, changed_at, rid_at, rid_in, vid_cmp}
+use Rattle.asic_view.proofs.Keeping.{vid_tied}
 use Rattle.syncd_core.specs.Run.{AreInTime, HasCome, IsUntied, made_by, tied_after, tied_calls, view_by}
 use Rattle.syncd_core.specs.Synced.{tied_by}
 use Rattle.syncd_core.specs.Tied.{plan_tie, rid_or_none}
-
-vid_tied : (v w : Vid) → is_at (vid_cmp v) w ≡ (v.0 == w.0)
-vid_tied v w = search rules
 
 pub vid-exact : (v w : Vid) → is_at (vid_cmp v) w ≡ true → v ≡ w
 vid-exact v w h = let made : ℕ → Vid = λ n. record { 0 = n } in ap made (eqb-true v.0 w.0 (sym (vid_tied v w) ∙ h))
@@ -43,13 +41,13 @@ step_kept made view c v r free tied = by (makes_id c.call)
     by true = tie_kept view v r c.makes (record { 0 = made + 1 }) tied free
     by false = tied
 
-pub kept : (made : ℕ) (view : ViewObjects) (calls : List PlanCall) (v : Vid) (r : Rid) → AreInTime made view calls → rid_at view v ≡ Some r → rid_at (tied_after made view calls) v ≡ Some r
-kept made view [] v r times tied = tied
-kept made view (c ∷ cs) v r times tied = kept (made_by made c) (view_by made view c) cs v r times.2 (step_kept made view c v r times.1 tied)
+pub tie_kept_through : (made : ℕ) (view : ViewObjects) (calls : List PlanCall) (v : Vid) (r : Rid) → AreInTime made view calls → rid_at view v ≡ Some r → rid_at (tied_after made view calls) v ≡ Some r
+tie_kept_through made view [] v r times tied = tied
+tie_kept_through made view (c ∷ cs) v r times tied = tie_kept_through (made_by made c) (view_by made view c) cs v r times.2 (step_kept made view c v r times.1 tied)
 
 come_kept : (made : ℕ) (view : ViewObjects) (calls : List PlanCall) → AreInTime made view calls → (i : PlanId) → HasCome view i → plan_tie (tied_after made view calls) i ≡ plan_tie view i
 come_kept made view calls times (plan_id.Old r) h = refl
-come_kept made view calls times (plan_id.New v) (r, tied) = ap rid_or_none (kept made view calls v r times tied ∙ sym tied)
+come_kept made view calls times (plan_id.New v) (r, tied) = ap rid_or_none (tie_kept_through made view calls v r times tied ∙ sym tied)
 
 pub ties-hold : (made : ℕ) (view : ViewObjects) (calls : List PlanCall) → AreInTime made view calls → tied_calls made view calls ≡ map (λ c. call_renamed (plan_tie (tied_after made view calls)) c.call) calls
 ties-hold made view [] times = refl

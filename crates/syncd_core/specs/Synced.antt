@@ -77,19 +77,19 @@ Changes old (call.Set e x) a new = (new ≡ after_set old e x) × (a ≡ sync.Do
 Changes old (call.Remove e) a new = (new ≡ after_remove old e) × (a ≡ sync.Done)
 
 -- the view after a call that the chip answered so; an object that it made is tied to the one that the chip made
-abbrev pub Follows : ViewObjects → Call Vid → ChipAnswer → SyncAnswer → ViewObjects → Type 0
-Follows old c answer.Failed a new = (new ≡ old) × (a ≡ sync.Failed)
-Follows old (call.Create b) (answer.Made r) a new = (v : Vid) × IsNew v old × (new ≡ with_tie (after_create old v b) v r) × (a ≡ sync.Made v)
-Follows old (call.Create b) answer.Done a new = (v : Vid) × IsNew v old × (new ≡ after_create old v b) × (a ≡ sync.Done)
-Follows old (call.Set e x) answer.Done a new = (new ≡ after_set old e x) × (a ≡ sync.Done)
-Follows old (call.Remove e) answer.Done a new = (new ≡ after_remove old e) × (a ≡ sync.Done)
-Follows old c _ a new = ⊥
+abbrev pub AnswerFollows : ViewObjects → Call Vid → ChipAnswer → SyncAnswer → ViewObjects → Type 0
+AnswerFollows old c answer.Failed a new = (new ≡ old) × (a ≡ sync.Failed)
+AnswerFollows old (call.Create b) (answer.Made r) a new = (v : Vid) × IsNew v old × (new ≡ with_tie (after_create old v b) v r) × (a ≡ sync.Made v)
+AnswerFollows old (call.Create b) answer.Done a new = (v : Vid) × IsNew v old × (new ≡ after_create old v b) × (a ≡ sync.Done)
+AnswerFollows old (call.Set e x) answer.Done a new = (new ≡ after_set old e x) × (a ≡ sync.Done)
+AnswerFollows old (call.Remove e) answer.Done a new = (new ≡ after_remove old e) × (a ≡ sync.Done)
+AnswerFollows old c _ a new = ⊥
 
 -- a call made exactly one call on the chip, the one with its identifiers replaced by their ties, and the view follows its answer
 pub record IsMade (old : ViewObjects) (chip : ChipState) (c : Call Vid) (a : SyncAnswer) (new : ViewObjects) (chip' : ChipState) : Type 0 where
   pub answer : ChipAnswer
   pub answered : IsAnswered chip (call_renamed (tie_of old) c) answer chip'
-  pub follows : Follows old c answer a new
+  pub follows : AnswerFollows old c answer a new
 
 -- what a call did: in a temporary view it made none on the chip
 abbrev pub Calls : SyncState → Option ViewObjects → ChipState → Call Vid → SyncAnswer → SyncState → ChipState → Type 0

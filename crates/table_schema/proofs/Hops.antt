@@ -10,21 +10,23 @@ use Rattle.std.proofs.lemmas.Cmp.{tied_itself}
 use Rattle.std.proofs.lemmas.Map.Lookups.{CmpEqualImpliesEq}
 use Rattle.swss_types.specs.declared.address.Ip.{Ip}
 use Rattle.swss_types.specs.declared.interface.IfName.{IfName}
+use Rattle.swss_types.proofs.AddressOrders.{ip_exact}
+use Rattle.swss_types.proofs.Tied.{then_first, then_last}
 use Rattle.table_schema.specs.contracts.row_hop.RowHopOrd.TheImpl.Laws as hop_laws
 use Rattle.table_schema.specs.Hop.{hop_cmp, AreRisingHops}
 use Rattle.table_schema.specs.declared.row_hop.RowHop.{RowHop}
-use Rattle.table_schema.proofs.Keys.{then_first, then_last, name_exact, ip_exact}
+use Rattle.table_schema.proofs.Keys.{name_exact}
 
-pub hop_total : IsTotalOrder hop_cmp
-hop_total = hop_laws.total-law
+pub row_hop_total : IsTotalOrder hop_cmp
+row_hop_total = hop_laws.total-law
 
 -- hops that compare equal are equal
-pub hop_exact : CmpEqualImpliesEq hop_cmp
-hop_exact x y h = let made : IfName → Ip → RowHop = λ on ip. record { on = on; ip = ip } in ap₂ made (name_exact x.on y.on (then_first _ _ h)) (ip_exact x.ip y.ip (then_last _ _ h))
+pub row_hop_exact : CmpEqualImpliesEq hop_cmp
+row_hop_exact x y h = let made : IfName → Ip → RowHop = λ on ip. record { on = on; ip = ip } in ap₂ made (name_exact x.on y.on (then_first _ _ h)) (ip_exact x.ip y.ip (then_last _ _ h))
 
 above_more : (a b : RowHop) (hops : List RowHop) → hop_cmp a b ≡ Less → AllByRecursion (λ h. hop_cmp b h ≡ Less) hops → AllByRecursion (λ h. hop_cmp a h ≡ Less) hops
 above_more a b [] less h = tt
-above_more a b (x ∷ hops) less h = (hop_total.trans a b x less h.0, above_more a b hops less h.1)
+above_more a b (x ∷ hops) less h = (row_hop_total.trans a b x less h.0, above_more a b hops less h.1)
 
 -- what holds of hops and of one more holds of all
 pub AllByRecursion-insert_key : (P : RowHop → Type 0) (hops : List RowHop) (hop : RowHop) → P hop → AllByRecursion P hops → AllByRecursion P (insert_key hop_cmp hops hop)
@@ -42,7 +44,7 @@ AreRisingHops-insert_key (x ∷ hops) hop h =
     λ r. elim r as (λ r. hop_cmp hop x ≡ r → AreRisingHops (match_ordering r (hop ∷ x ∷ hops) (x ∷ hops) (x ∷ insert_key hop_cmp hops hop))) [
       | Less ↦ λ is. ((is, above_more hop x hops is h.0), h)
       | Equal ↦ λ is. h
-      | Greater ↦ λ is. (AllByRecursion-insert_key (λ g. hop_cmp x g ≡ Less) hops hop (hop_total.antisymm x hop ∙ ap ordering_reverse is) h.0, rest)
+      | Greater ↦ λ is. (AllByRecursion-insert_key (λ g. hop_cmp x g ≡ Less) hops hop (row_hop_total.antisymm x hop ∙ ap ordering_reverse is) h.0, rest)
     ] in
     by (hop_cmp hop x) refl
 
@@ -59,11 +61,11 @@ less_at x (y ∷ hops) (suc k) d lt h = less_at x hops k d (omega arith) h.1
 stays_at : (hops : List RowHop) (hop : RowHop) (k : ℕ) → AreRisingHops hops → k < length hops → get_or hops k hop ≡ hop → insert_key hop_cmp hops hop ≡ hops
 stays_at [] hop k h lt is = absurd (omega arith)
 stays_at (x ∷ hops) hop zero h lt is =
-    let same : hop_cmp hop x ≡ Equal = ap (hop_cmp hop) is ∙ tied_itself hop_total hop in
+    let same : hop_cmp hop x ≡ Equal = ap (hop_cmp hop) is ∙ tied_itself row_hop_total hop in
     ap (λ r. match_ordering r (hop ∷ x ∷ hops) (x ∷ hops) (x ∷ insert_key hop_cmp hops hop)) same
 stays_at (x ∷ hops) hop (suc k) h lt is =
     let less : hop_cmp x hop ≡ Less = ap (hop_cmp x) (sym is) ∙ less_at x hops k hop (omega arith) h.0 in
-    let more : hop_cmp hop x ≡ Greater = hop_total.antisymm hop x ∙ ap ordering_reverse less in
+    let more : hop_cmp hop x ≡ Greater = row_hop_total.antisymm hop x ∙ ap ordering_reverse less in
     ap (λ r. match_ordering r (hop ∷ x ∷ hops) (x ∷ hops) (x ∷ insert_key hop_cmp hops hop)) more ∙ ap (λ l. x ∷ l) (stays_at hops hop k h.1 (omega arith) is)
 
 -- a hop that is there changes nothing

@@ -1,50 +1,24 @@
 -- the laws of the order of keys, and that keys that compare equal are equal
-use Rattle.std.proofs.Common.{◌≡◌, ℕ, refl, ap, ap₂, Ordering}
+use Rattle.std.proofs.Common.{◌≡◌, ℕ, true, ap, ap₂}
 use Rattle.std.specs.Cmp.{IsTotalOrder}
-use Rattle.std.specs.Ordering.{ordering_then}
-use Rattle.std.specs.declared.cmp.Ordering.TheVariants.{Less, Equal, Greater}
 use Rattle.std.proofs.lemmas.Map.Lookups.{CmpEqualImpliesEq, exact_bytes, exact_unsigned}
-use Rattle.swss_types.specs.declared.address.Family.{Family}
-use Rattle.swss_types.specs.declared.address.Family.TheVariants.{V4, V6}
+use Rattle.std.specs.BTreeMap.{is_at}
 use Rattle.swss_types.specs.declared.address.Ip.{Ip}
-use Rattle.swss_types.specs.declared.address.Prefix.{Prefix}
 use Rattle.swss_types.specs.declared.interface.IfName.{IfName}
 use Rattle.swss_types.specs.declared.interface.IfName.TheVariants as name
-use Rattle.swss_types.specs.contracts.address.FamilyOrd.TheImpl as family_ord
-use Rattle.swss_types.specs.contracts.address.IpOrd.TheImpl as ip_ord
-use Rattle.swss_types.specs.contracts.address.PrefixOrd.TheImpl as prefix_ord
 use Rattle.swss_types.specs.contracts.interface.IfNameOrd.TheImpl as name_ord
+use Rattle.swss_types.proofs.AddressOrders.{ip_exact, prefix_exact}
+use Rattle.swss_types.proofs.Tied.{then_first, then_last, tied}
 use Rattle.table_schema.specs.declared.key.Key.{Key}
 use Rattle.table_schema.specs.declared.key.Key.TheVariants.{Port, Vlan, Member, Intf, Addr, Neigh, Route, Other}
 use Rattle.table_schema.specs.contracts.key.KeyOrd.TheImpl.Laws as key_laws
 use Rattle.table_schema.specs.Key.{key_cmp}
-
-pub then_first : (a b : Ordering) → ordering_then a b ≡ Equal → a ≡ Equal
-then_first Less b h = h
-then_first Equal b h = refl
-then_first Greater b h = h
-
-pub then_last : (a b : Ordering) → ordering_then a b ≡ Equal → b ≡ Equal
-then_last Less b h = cc
-then_last Equal b h = h
-then_last Greater b h = cc
-
-family_exact : CmpEqualImpliesEq family_ord.ghosts.cmp
-family_exact V4 V4 h = refl
-family_exact V6 V6 h = refl
-family_exact x y h = cc
-
-pub ip_exact : CmpEqualImpliesEq ip_ord.ghosts.cmp
-ip_exact x y h = let made : Family → ℕ → Ip = λ f b. record { family = f; bits = b } in ap₂ made (family_exact x.family y.family (then_first _ _ h)) (exact_unsigned x.bits y.bits (then_last _ _ h))
 
 pub name_exact : CmpEqualImpliesEq name_ord.ghosts.cmp
 name_exact (name.Ethernet m) (name.Ethernet n) h = ap name.Ethernet (exact_unsigned m n h)
 name_exact (name.Vlan m) (name.Vlan n) h = ap name.Vlan (exact_unsigned m n h)
 name_exact (name.Loopback m) (name.Loopback n) h = ap name.Loopback (exact_unsigned m n h)
 name_exact x y h = cc
-
-pub prefix_exact : CmpEqualImpliesEq prefix_ord.ghosts.cmp
-prefix_exact x y h = let made : Ip → ℕ → Prefix = λ i l. record { ip = i; len = l } in ap₂ made (ip_exact x.ip y.ip (then_first _ _ h)) (exact_unsigned x.len y.len (then_last _ _ h))
 
 -- public, so that crates above can cite it
 pub key_exact : CmpEqualImpliesEq key_cmp
@@ -60,6 +34,9 @@ key_exact (Neigh i a) (Neigh j b) h = ap₂ Neigh (name_exact i j (then_first _ 
 key_exact (Route p) (Route q) h = ap Route (prefix_exact p q h)
 key_exact (Other s) (Other t) h = ap Other (exact_bytes s t h)
 key_exact x y h = cc
+
+pub tied_keys_same : (k q : Key) → is_at (key_cmp k) q ≡ true → k ≡ q
+tied_keys_same k q h = key_exact k q (tied (key_cmp k q) h)
 
 pub key_total : IsTotalOrder key_cmp
 key_total = key_laws.total-law

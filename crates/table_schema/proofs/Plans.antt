@@ -5,10 +5,11 @@ use Rattle.std.specs.List.{AllByRecursion, All, find}
 use Rattle.std.specs.Ordering.{match_ordering, is_eq, nat_cmp}
 use Rattle.std.specs.declared.cmp.Ordering.{Ordering}
 use Rattle.std.specs.declared.cmp.Ordering.TheVariants.{Less, Equal, Greater}
-use Rattle.std.proofs.lemmas.Bool.{cases_eq, eqb-false, eqb-true, ltb-true, ne_eqb}
+use Rattle.std.proofs.lemmas.Bool.{cases_eq, eqb-false, eqb-true, ltb-true, ne_eqb, or_parts}
 use Rattle.std.proofs.lemmas.Cmp.{nat_cmp_total}
 use Rattle.swss_types.specs.Interface.{if_name_of}
 use Rattle.swss_types.proofs.Proper.{IsLaneList-lanes_of}
+use Rattle.swss_types.proofs.Truths.{or_swap}
 use Rattle.swss_types.specs.Lanes.{lanes_of, IsLaneList, AreRising}
 use Rattle.table_schema.specs.Split.{split_once}
 use Rattle.table_schema.specs.declared.plan.PlanWhy.{PlanWhy}
@@ -51,16 +52,6 @@ port_named-past (p ∷ ps) lane h past =
 
 -- ---- what holds where a port can be added
 
-or_swap : (a b c : Bool) → (a || (b || c)) ≡ (b || (a || c))
-or_swap true true c = refl
-or_swap true false c = refl
-or_swap false true c = refl
-or_swap false false c = refl
-
-not_or : (a b : Bool) → (a || b) ≡ false → (a ≡ false) × (b ≡ false)
-not_or true b h = cc
-not_or false b h = (refl, h)
-
 absent_step : (b : Bool) (v : List ℕ) (o : Option (List ℕ)) → is_some (cond b (Some v) o) ≡ false → (b ≡ false) × (is_some o ≡ false)
 absent_step true v o h = cc
 absent_step false v o h = (refl, h)
@@ -95,7 +86,7 @@ free_behind : (p : ℕ × List ℕ) (ps : Ports) (lanes : List ℕ) → first_ta
 free_behind p ps [] none = refl
 free_behind p ps (l ∷ ls) none =
     let parts = none_taken_head (has_lane (p ∷ ps) l) l (first_taken (p ∷ ps) ls) none in
-    ap (λ b. cond b (Some l) (first_taken ps ls)) (not_or (has p.1 l) (has_lane ps l) parts.0).1 ∙ free_behind p ps ls parts.1
+    ap (λ b. cond b (Some l) (first_taken ps ls)) (or_parts (has p.1 l) (has_lane ps l) parts.0).1 ∙ free_behind p ps ls parts.1
 
 module _ (port : ℕ) (lanes : List ℕ) where
   -- the ports with one more, of which no other has a lane
@@ -131,7 +122,7 @@ module _ (port : ℕ) (lanes : List ℕ) where
   port_named-with_port [] lane absent h free = refl
   port_named-with_port (p ∷ ps) lane absent h free =
       let parts = absent_step (is_eq (nat_cmp port p.0)) p.1 (lanes_in_plan ps port) absent in
-      let frees = not_or (has p.1 (slice_index lanes 0)) (has_lane ps (slice_index lanes 0)) free in
+      let frees = or_parts (has p.1 (slice_index lanes 0)) (has_lane ps (slice_index lanes 0)) free in
       let rest = port_named-with_port ps lane parts.1 h.1 frees.1 in
       by_place (λ q. port_named q lane ≡ cond (eqb (slice_index lanes 0) lane) (Some port) (port_named (p ∷ ps) lane)) p ps (nat_cmp port p.0) parts.0 refl
       (ap (λ o. cond (eqb (slice_index p.1 0) lane) (Some p.0) o) rest
@@ -150,7 +141,7 @@ module _ (port : ℕ) (lanes : List ℕ) where
       let parts = absent_step (is_eq (nat_cmp port p.0)) p.1 (lanes_in_plan ps port) absent in
       by_place AreApart p ps (nat_cmp port p.0) parts.0
       ((λ lane in_it. free_lane (p ∷ ps) lanes lane free in_it), h) (
-        (λ lane in_it. has_lane-with_port ps lane parts.1 ∙ both_false (has lanes lane) (has_lane ps lane) (λ e. let gone : has p.1 lane ≡ false = (not_or (has p.1 lane) (has_lane ps lane) (free_lane (p ∷ ps) lanes lane free e)).0 in cc) (h.0 lane in_it)),
+        (λ lane in_it. has_lane-with_port ps lane parts.1 ∙ both_false (has lanes lane) (has_lane ps lane) (λ e. let gone : has p.1 lane ≡ false = (or_parts (has p.1 lane) (has_lane ps lane) (free_lane (p ∷ ps) lanes lane free e)).0 in cc) (h.0 lane in_it)),
         apart-with_port ps parts.1 (free_behind p ps lanes free) h.1,
       )
     where

@@ -33,7 +33,7 @@ use Rattle.table_schema.proofs.KeyTexts.{IsTyped, IsProperKey-typed}
 use Rattle.table_schema.proofs.ProperKeys.{proper_on_switch}
 
 -- a rule that holds, and what stands behind it
-both_hold : {T U : Type 0} (r : Result T BadRow) (f : T → Result U BadRow) (y : U) → and_then r f ≡ Ok y → (x : T) × (r ≡ Ok x) × (f x ≡ Ok y)
+pub both_hold : {T U : Type 0} (r : Result T BadRow) (f : T → Result U BadRow) (y : U) → and_then r f ≡ Ok y → (x : T) × (r ≡ Ok x) × (f x ≡ Ok y)
 both_hold (Err e) f y h = cc
 both_hold (Ok x) f y h = (x, refl, h)
 

@@ -1,22 +1,18 @@
 -- texts that are split at a byte, and texts of ASCII
-use Rattle.std.proofs.Common.{◌≡◌, ℕ, zero, suc, ◌+◌, ◌==◌, Bool, true, false, cond, ◌||◌, ltb, not, List, [], ◌∷◌, ◌++◌, length, None, Some, refl, ap, ◌∙◌, arith, length-append}
+use Rattle.std.proofs.Common.{◌≡◌, ℕ, zero, suc, ◌+◌, ◌==◌, Bool, true, false, cond, ltb, not, List, [], ◌∷◌, ◌++◌, length, None, Some, refl, ap, ◌∙◌, arith, length-append}
 use Rattle.std.specs.List.{Contains, list_any, position_or_len}
 use Rattle.std.specs.Str.{IsAscii}
 use Rattle.std.proofs.Math.Seq.{take-append_seam, drop-append-add}
-use Rattle.std.proofs.lemmas.Bool.{eq-eqb, lt-ltb, le-ltb, ltb-true}
+use Rattle.std.proofs.lemmas.Bool.{eq-eqb, lt-ltb, le-ltb, ltb-true, or_parts}
 use Rattle.swss_types.proofs.Joins.{IsFree}
 use Rattle.table_schema.specs.Split.{split_once}
 
 -- ---- texts without a byte
 
-not_or : (a b : Bool) → (a || b) ≡ false → (a ≡ false) × (b ≡ false)
-not_or true b h = cc
-not_or false b h = (refl, h)
-
 pub IsFree-tested : (byte : ℕ) (text : List ℕ) → list_any (λ b. b == byte) text ≡ false → IsFree byte text
 IsFree-tested byte [] h k d lt = absurd (omega arith)
-IsFree-tested byte (b ∷ bs) h zero d lt = (not_or (b == byte) (list_any (λ c. c == byte) bs) h).0
-IsFree-tested byte (b ∷ bs) h (suc k) d lt = IsFree-tested byte bs (not_or (b == byte) (list_any (λ c. c == byte) bs) h).1 k d (omega arith)
+IsFree-tested byte (b ∷ bs) h zero d lt = (or_parts (b == byte) (list_any (λ c. c == byte) bs) h).0
+IsFree-tested byte (b ∷ bs) h (suc k) d lt = IsFree-tested byte bs (or_parts (b == byte) (list_any (λ c. c == byte) bs) h).1 k d (omega arith)
 
 pub IsFree-append : (byte : ℕ) (a b : List ℕ) → IsFree byte a → IsFree byte b → IsFree byte (a ++ b)
 IsFree-append byte [] b ha hb k d lt = hb k d lt

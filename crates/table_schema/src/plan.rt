@@ -9,7 +9,7 @@ use crate::split::split_once;
 use std::alloc::Global;
 use std::collections::BTreeMap;
 use std::marker::Model;
-use swss_types::{IfName, LANES, Lanes, OutOfMemory, Text};
+use swss_types::{IfName, LANE_BOUND, Lanes, OutOfMemory, Text};
 
 /// How many ports a switch has at most.
 pub const MOST_PORTS: usize = 256;
@@ -57,8 +57,8 @@ impl PortPlan {
     {
         Ok(PortPlan {
             ports: BTreeMap::new(alloc),
-            taken: vec![in alloc; false; LANES as usize]?,
-            names: vec![in alloc; None; LANES as usize]?,
+            taken: vec![in alloc; false; LANE_BOUND as usize]?,
+            names: vec![in alloc; None; LANE_BOUND as usize]?,
         })
     }
 
@@ -182,8 +182,8 @@ fn read_line(alloc: Global, line: &[u8]) -> Result<Result<(u32, Lanes), PlanWhy>
 
 /// The first of the lanes that is taken.
 fn find_taken(taken: &[bool], lanes: &[u16]) -> Option<u16>
-    requires count { length taken.now ≡ LANES }
-    requires lanes { All (λ lane. lane < LANES) lanes.now }
+    requires count { length taken.now ≡ LANE_BOUND }
+    requires lanes { All (λ lane. lane < LANE_BOUND) lanes.now }
     ensures { result ≡ find (λ lane. slice_index_or taken.now lane false) lanes.now }
 {
     lanes.iter().copied().find(|lane| taken[usize::from(*lane)])
@@ -191,8 +191,8 @@ fn find_taken(taken: &[bool], lanes: &[u16]) -> Option<u16>
 
 /// Takes the lanes.
 fn mark(taken: &mut Vec<bool>, lanes: &[u16])
-    requires count { length taken.old.items ≡ LANES }
-    requires lanes { All (λ lane. lane < LANES) lanes.now }
+    requires count { length taken.old.items ≡ LANE_BOUND }
+    requires lanes { All (λ lane. lane < LANE_BOUND) lanes.now }
     ensures { taken.new.items ≡ marked taken.old.items lanes.now }
 {
     for lane in lanes {

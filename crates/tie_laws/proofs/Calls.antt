@@ -21,7 +21,7 @@ use Rattle.sai_types.specs.Refusal.{IsLegal}
 use Rattle.chip_layout.specs.Renamed.{body_renamed, call_renamed}
 use Rattle.asic_view.specs.declared.object.ViewObject.{ViewObject}
 use Rattle.asic_view.specs.View.{IsLegalOn, IsLegalWith, IsNew, ViewObjects, after_create, rid_at, shown_by, untied, used_of, with_tie}
-use Rattle.syncd_core.specs.Synced.{CanCall, Follows, IsMade, SyncState, current, view_in}
+use Rattle.syncd_core.specs.Synced.{CanCall, AnswerFollows, IsMade, SyncState, current, view_in}
 use Rattle.syncd_core.specs.Tied.{tie_of}
 use Rattle.tie_laws.specs.Following.{IsDone, LosesTie, TiesFollow}
 use Rattle.tie_laws.specs.Named.{InCall}
@@ -67,7 +67,7 @@ module _ (view view' : ViewObjects) (made : ℕ) (capacities : List ℕ) (tied :
       subst (λ l. AreTied l (made_after made (call.Create (body_renamed t b))) (after_call (made + 1) (chip_of view) (call.Create (body_renamed t b)))) (sym is)
       (subst (λ id. AreTied (view ++ (v, record { body = b; rid = o }) ∷ []) (if id then made + 1 else made) (after_call (made + 1) (chip_of view) (call.Create (body_renamed t b)))) (sym (id_renamed t b)) after)
 
-  following : (c : Call Vid) (chip : ChipAnswer) → IsLegal capacities (chip_of view) (call_renamed (tie_of view) c) → IsDone made (call_renamed (tie_of view) c) chip → Follows view c chip a view' → IsKept (call_renamed (tie_of view) c)
+  following : (c : Call Vid) (chip : ChipAnswer) → IsLegal capacities (chip_of view) (call_renamed (tie_of view) c) → IsDone made (call_renamed (tie_of view) c) chip → AnswerFollows view c chip a view' → IsKept (call_renamed (tie_of view) c)
   following (call.Create b) (answer.Made r) legal done (v, new, is, said) =
       made_kept b v (Some r) new (tied_last view v b r view' new is)
       (after-made view made tied whole capacities b legal v new (Some r) (λ id. done.1) (tie_made made r (has_id b) (sym (id_renamed t b) ∙ done.0) done.1))
@@ -80,7 +80,7 @@ module _ (view view' : ViewObjects) (made : ℕ) (capacities : List ℕ) (tied :
   following (call.Remove e) (answer.Made r) legal done f = absurd f
   following c _ legal done f = absurd done
 
-  staying : (c : Call Vid) (chip : ChipAnswer) → IsLegal capacities (chip_of view) (call_renamed (tie_of view) c) → Follows view c chip a view' → TiesFollow view c chip a view'
+  staying : (c : Call Vid) (chip : ChipAnswer) → IsLegal capacities (chip_of view) (call_renamed (tie_of view) c) → AnswerFollows view c chip a view' → TiesFollow view c chip a view'
   staying (call.Create b) (answer.Made r) legal (v, new, is, said) =
       let last = tied_last view v b r view' new is in
       let x : ViewObject = record { body = b; rid = Some r } in
@@ -126,7 +126,7 @@ module _ (view : ViewObjects) (made : ℕ) (objects : Objects) (tied : AreTied v
       pub legal-on : IsLegalOn view c
       legal-on = record { capacities = capacities; legal = legal-here }
 
-      module _ (view' : ViewObjects) (chip : ChipAnswer) (a : SyncAnswer) (f : Follows view c chip a view') where
+      module _ (view' : ViewObjects) (chip : ChipAnswer) (a : SyncAnswer) (f : AnswerFollows view c chip a view') where
         pub tied-after : IsDone made (call_renamed (tie_of view) c) chip → AreTied view' (made_after made (call_renamed (tie_of view) c)) (after_call (made + 1) objects (call_renamed (tie_of view) c))
         tied-after done = subst (λ o. AreTied view' (made_after made (call_renamed (tie_of view) c)) (after_call (made + 1) o (call_renamed (tie_of view) c))) tied.shown (following view view' made capacities own own_whole a c chip own_legal done f)
 
@@ -147,7 +147,7 @@ record IsGood (made : ℕ) (chip : ChipState) (c : Call Rid) (a : ChipAnswer) (c
   pub objects : chip'.objects ≡ after_call (made + 1) chip.objects c
 
 module _ (view view' : ViewObjects) (made : ℕ) (chip chip' : ChipState) (a : SyncAnswer) (next : next_id chip.effects ≡ made + 1) (went : a ≡ sync.Failed → ⊥) where
-  good : (c : Call Vid) (d : Call Rid) (said : ChipAnswer) → Answers chip d said chip' → Follows view c said a view' → IsGood made chip d said chip'
+  good : (c : Call Vid) (d : Call Rid) (said : ChipAnswer) → Answers chip d said chip' → AnswerFollows view c said a view' → IsGood made chip d said chip'
   good c d (answer.Made r) h f = record { done = (h.1, h.2 ∙ next); legal = h.0.legal; objects = h.0.objects ∙ ap (λ n. after_call n chip.objects d) next }
   good c d answer.Done h f = record { done = h.1; legal = h.0.legal; objects = h.0.objects ∙ ap (λ n. after_call n chip.objects d) next }
   good (call.Create b) d answer.Failed h f = absurd (went f.1)

@@ -6,6 +6,7 @@ use Rattle.std.specs.List.{AllByRecursion}
 use Rattle.std.specs.List.Sorted.{IsStrictlySortedBy}
 use Rattle.std.specs.Map.{keys_of, lookup}
 use Rattle.std.proofs.lemmas.Option.{none-some}
+use Rattle.std.proofs.lemmas.Bool.{false_from_ne_true}
 use Rattle.sai_types.specs.declared.ids.Rid.{Rid}
 use Rattle.sai_types.specs.declared.ids.Vid.{Vid}
 use Rattle.sai_types.specs.declared.body.Body.{Body}
@@ -63,10 +64,6 @@ tie_later made later true (Some r) more h = (h.0, let most = h.1 in omega (arith
 tie_later made later true None more h = absurd h
 tie_later made later false (Some r) more h = absurd h
 tie_later made later false None more h = tt
-
-not_true : (c : Bool) → (c ≡ true → ⊥) → c ≡ false
-not_true true h = absurd (h refl)
-not_true false h = refl
 
 module _ (view : ViewObjects) (v : Vid) (new : IsNew v view) where
   pub none-yet : rid_at view v ≡ None
@@ -150,7 +147,7 @@ module _ (view : ViewObjects) (made : ℕ) (tied : AreTied view made (shown_by (
     rising = subst (λ l. IsStrictlySortedBy vid_cmp (keys_of l)) (later_is view v new x) (sorted-insert_entry vid_cmp vid_total view v x tied.rising);
     ties = all-in (HasTie (if has_id b then made + 1 else made)) after (λ y h. ties_by y (in-push view (v, x) y h));
     once = distinct-push (shown_entry s) view (v, x) (distinct-by (shown_entry t) (shown_entry s) view (λ y z h g same. sym (old_entry y h) ∙ same ∙ old_entry z g) tied.once) apart;
-    shown = shown-made s view (v, x) (all-in (λ y. same_entry (shown_entry s (v, x)) (shown_entry s y) ≡ false) view (λ y h. not_true _ (λ same. apart y h (sym (entry-exact (shown_entry s (v, x)) (shown_entry s y) same)))))
+    shown = shown-made s view (v, x) (all-in (λ y. same_entry (shown_entry s (v, x)) (shown_entry s y) ≡ false) view (λ y h. false_from_ne_true _ (λ same. apart y h (sym (entry-exact (shown_entry s (v, x)) (shown_entry s y) same)))))
         ∙ ap (λ os. insert_entry entry_cmp os (shown_entry s (v, x)) (body_renamed s b)) (same-shown s t view (λ y h. (old_entry y h, old_body y h)))
         ∙ ap₂ (λ e d. insert_entry entry_cmp (shown_by t view) e d) new_entry new_body;
   }

@@ -1,7 +1,6 @@
 -- the chip's objects are those of the view by number, with each identifier renamed: so what is legal on the one is legal on the other
 use Rattle.std.proofs.Common.{◌≡◌, ℕ, ◌+◌, List, map, Option, None, Some, refl, sym, ap, ap₂, ◌∙◌, arith}
 use Rattle.std.specs.Cmp.{both_ways}
-use Rattle.swss_types.specs.declared.address.Ip.{Ip}
 use Rattle.sai_types.specs.declared.ids.Rid.{Rid}
 use Rattle.sai_types.specs.declared.ids.Vid.{Vid}
 use Rattle.sai_types.specs.declared.body.Attr.{Attr}
@@ -25,7 +24,7 @@ use Rattle.sai_types.proofs.Found.{same-refl}
 use Rattle.sai_types.proofs.Legal.{legal-create, legal-set}
 use Rattle.chip_layout.specs.Counted.{AreDistinct}
 use Rattle.chip_layout.specs.Renamed.{AreRenamed, attr_renamed, body_renamed, call_renamed, entry_renamed, on_renamed, to_renamed}
-use Rattle.chip_layout.proofs.Legality.{refusal-renamed}
+use Rattle.chip_layout.proofs.Legality.{neighs, oids, refusal-renamed}
 use Rattle.asic_view.specs.View.{IsLegalWith, ViewObjects, as_chip, as_rid, as_vid, entry_at, is_named, rid_at, same_key, shown_by}
 use Rattle.asic_view.proofs.Keeping.{all-in, key-refl}
 use Rattle.asic_view.proofs.Naming.{key-exact}
@@ -70,21 +69,15 @@ module _ (h : Vid → Rid) (g : Rid → Rid) where
   attr_twice (attr.Tagging x) = refl
   attr_twice (attr.Mac m) = refl
 
-oids : (r s : Rid) → entry.Oid r ≡ entry.Oid s → r ≡ s
-oids r s h = cc
-
-neighs : (r s : Rid) (a b : Ip) → entry.Neigh r a ≡ entry.Neigh s b → (r ≡ s) × (a ≡ b)
-neighs r s a b h = (cc, cc)
-
 -- ---- a number for each identifier, also for those that are not tied: they get numbers beyond all ties
 
 abbrev by_tie : ℕ → Rid → Option Rid → Rid
 by_tie made i None = record { 0 = made + 1 + i.0 }
 by_tie made i (Some r) = r
 
-remove_found : (view : ViewObjects) (e : Entry Rid) (o : Option (Body Rid)) → remove_refusal (shown_by (tie_of view) view) e o ≡ None → (d : Body Rid) × (o ≡ Some d)
-remove_found view e None h = absurd cc
-remove_found view e (Some d) h = (d, refl)
+removed_was_there : (view : ViewObjects) (e : Entry Rid) (o : Option (Body Rid)) → remove_refusal (shown_by (tie_of view) view) e o ≡ None → (d : Body Rid) × (o ≡ Some d)
+removed_was_there view e None h = absurd cc
+removed_was_there view e (Some d) h = (d, refl)
 
 module _ (view : ViewObjects) (made : ℕ) (tied : AreTied view made (shown_by (tie_of view) view)) (whole : IsWhole made (shown_by (tie_of view) view)) where
   abbrev t : Vid → Rid
@@ -184,7 +177,7 @@ module _ (view : ViewObjects) (made : ℕ) (tied : AreTied view made (shown_by (
 
     pub removed-tied : (e : Entry Vid) → IsLegal capacities (shown_by (tie_of view) view) (call.Remove (entry_renamed (tie_of view) e)) → InEntry (IsTied view) e
     removed-tied e legal =
-        let found = remove_found view (entry_renamed t e) (body_at (shown_by t view) (entry_renamed t e)) legal in
+        let found = removed_was_there view (entry_renamed t e) (body_at (shown_by t view) (entry_renamed t e)) legal in
         found-tied view made tied whole e found.0 found.1
 
     pub call-tied : (c : Call Vid) → IsLegal capacities (shown_by (tie_of view) view) (call_renamed (tie_of view) c) → InCall (IsTied view) c

@@ -26,9 +26,9 @@ use Rattle.tie_laws.specs.Ties.{AreTied, HasTie, IsTie}
 use Rattle.tie_laws.proofs.Renamed.{set-tied, tells-tied}
 use Rattle.tie_laws.proofs.Shown.{Item}
 
-put : (x y : ViewObject) (s : Bool) (o p : Option ViewObject) → x.rid ≡ y.rid → rid_in o ≡ rid_in p → rid_in (cond s (Some x) o) ≡ rid_in (cond s (Some y) p)
-put x y true o p same rest = same
-put x y false o p same rest = rest
+set_keeps_rid : (x y : ViewObject) (s : Bool) (o p : Option ViewObject) → x.rid ≡ y.rid → rid_in o ≡ rid_in p → rid_in (cond s (Some x) o) ≡ rid_in (cond s (Some y) p)
+set_keeps_rid x y true o p same rest = same
+set_keeps_rid x y false o p same rest = rest
 
 id_set : (b : Body Vid) (a : Attr Vid) → has_id (body_set b a) ≡ has_id b
 id_set (body.Port lanes speed mtu up) (attr.Speed s) = refl
@@ -48,8 +48,8 @@ module _ (e : Entry Vid) (a : Attr Vid) where
   rid-set (y ∷ ys) w = by (is_named e y) (rid-set ys w)
     where
       by : (c : Bool) → rid_at (after_set ys e a) w ≡ rid_at ys w → rid_at (set c y ∷ after_set ys e a) w ≡ rid_at (y ∷ ys) w
-      by true rest = put (object_set y.1 a) y.1 (is_at (vid_cmp w) y.0) (lookup (is_at (vid_cmp w)) (after_set ys e a)) (lookup (is_at (vid_cmp w)) ys) refl rest
-      by false rest = put y.1 y.1 (is_at (vid_cmp w) y.0) (lookup (is_at (vid_cmp w)) (after_set ys e a)) (lookup (is_at (vid_cmp w)) ys) refl rest
+      by true rest = set_keeps_rid (object_set y.1 a) y.1 (is_at (vid_cmp w) y.0) (lookup (is_at (vid_cmp w)) (after_set ys e a)) (lookup (is_at (vid_cmp w)) ys) refl rest
+      by false rest = set_keeps_rid y.1 y.1 (is_at (vid_cmp w) y.0) (lookup (is_at (vid_cmp w)) (after_set ys e a)) (lookup (is_at (vid_cmp w)) ys) refl rest
 
   keys_set : (os : ViewObjects) → keys_of (after_set os e a) ≡ keys_of os
   keys_set [] = refl

@@ -90,9 +90,9 @@ abbrev vid_of : ViewObjects → Rid → Option Vid
 vid_of [] r = None
 vid_of (x ∷ xs) r = cond (is_rid r x.1.rid) (Some x.0) (vid_of xs r)
 
-rid_exact : (r : Rid) (o : Option Rid) → is_rid r o ≡ true → o ≡ Some r
-rid_exact r None h = absurd (false≢true h)
-rid_exact r (Some s) h = ap Some (id-exact s r h)
+is_rid_exact : (r : Rid) (o : Option Rid) → is_rid r o ≡ true → o ≡ Some r
+is_rid_exact r None h = absurd (false≢true h)
+is_rid_exact r (Some s) h = ap Some (id-exact s r h)
 
 exact_rid : (r : Rid) (o : Option Rid) → o ≡ Some r → is_rid r o ≡ true
 exact_rid r o h = ap (is_rid r) h ∙ eq-eqb r.0 r.0 refl
@@ -102,7 +102,7 @@ vid_from [] r v h = absurd (none-some v h)
 vid_from (y ∷ ys) r v h = by (is_rid r y.1.rid) refl h (vid_from ys r v)
   where
     by : (c : Bool) → is_rid r y.1.rid ≡ c → cond c (Some y.0) (vid_of ys r) ≡ Some v → (vid_of ys r ≡ Some v → (x : Item) × IsIn x ys × (x.0 ≡ v) × (x.1.rid ≡ Some r)) → (x : Item) × IsIn x (y ∷ ys) × (x.0 ≡ v) × (x.1.rid ≡ Some r)
-    by true at g behind = (y, inl refl, cc g, rid_exact r y.1.rid at)
+    by true at g behind = (y, inl refl, cc g, is_rid_exact r y.1.rid at)
     by false at g behind = let rest = behind g in (rest.0, inr rest.1, rest.2, rest.3)
 
 vid_found : (os : ViewObjects) (r : Rid) (x : Item) → IsIn x os → x.1.rid ≡ Some r → (v : Vid) × (vid_of os r ≡ Some v)
@@ -128,10 +128,10 @@ abbrev by_vid : ℕ → Rid → Option Vid → Rid
 by_vid n r None = record { 0 = n + 1 + r.0 }
 by_vid n r (Some v) = as_rid v
 
-numbered : (b : Body Rid) → is_numbered (kind_of b) ≡ has_id b
-numbered (body.Port lanes speed mtu up) = refl
-numbered (body.Vlan vlan) = refl
-numbered _ = refl
+numbered_has_id : (b : Body Rid) → is_numbered (kind_of b) ≡ has_id b
+numbered_has_id (body.Port lanes speed mtu up) = refl
+numbered_has_id (body.Vlan vlan) = refl
+numbered_has_id _ = refl
 
 own_id : (i : Rid) (b : Body Rid) → has_id b ≡ true → entry_of i.0 b ≡ entry.Oid i
 own_id i (body.OwnAddress ip) h = absurd (false≢true h)
@@ -260,7 +260,7 @@ module _ (view : ViewObjects) (made : ℕ) (tied : AreTied view made (shown_by (
     is_tied : (i : Rid) (u : Thing) → IsIn (i, u) stands → has_number u ≡ true → rid_at view (as_vid (back i)) ≡ Some i
     is_tied i u h number =
         let on_chip = laid.stand i u h in
-        let id : has_id on_chip.0 ≡ true = sym (numbered on_chip.0) ∙ ap is_numbered (kind-body (Has (chip.listed stands)) u on_chip.0 on_chip.1) ∙ number in
+        let id : has_id on_chip.0 ≡ true = sym (numbered_has_id on_chip.0) ∙ ap is_numbered (kind-body (Has (chip.listed stands)) u on_chip.0 on_chip.1) ∙ number in
         let from = shown-from t view (entry_of i.0 on_chip.0) on_chip.0 on_chip.2 in
         let of = oid-of t view i from.0.0 from.0.1.body (sym (own_id i on_chip.0 id) ∙ from.2) in
         let own = own-tie view made tied from.0 from.1 of.0 in

@@ -15,10 +15,10 @@ use Rattle.view_match.specs.declared.key.NaturalKey.{NaturalKey}
 use Rattle.view_match.specs.contracts.key.NaturalKeyOrd.TheImpl.Laws as ordered_key
 use Rattle.view_match.specs.Keys.{key_cmp}
 use Rattle.view_match.specs.Pairs.{best_from, group_number, group_of, replaces, with_object}
-use Rattle.view_match.proofs.Exact.{key_exact}
+use Rattle.view_match.proofs.Exact.{natural_key_exact}
 
-key_self : (k : NaturalKey) → is_at (key_cmp k) k ≡ true
-key_self k = (eq_by_cmp_equiv ordered_key.total-law).refl k
+natural_key_self : (k : NaturalKey) → is_at (key_cmp k) k ≡ true
+natural_key_self k = (eq_by_cmp_equiv ordered_key.total-law).refl k
 
 module _ (k : NaturalKey) where
   -- ---- one object more
@@ -44,8 +44,8 @@ module _ (k : NaturalKey) where
   replaced (Some g) p false e = inr (refl, record { stays = λ is. let no_less : g.group ≤ p.group = grind (arith, nat_tests) in (g, refl, no_less) })
 
   at_key : (found : Option Partner) (key : NaturalKey) (p : Partner) (b : Bool) → is_at (key_cmp key) k ≡ b → Steps found (Some key) p (cond b (cond (replaces found p) (Some p) found) found)
-  at_key found key p true e = subst (λ x. Steps found (Some x) p (cond (replaces found p) (Some p) found)) (sym (tells_apart key_exact key k e)) (replaced found p (replaces found p) refl)
-  at_key found key p false e = inr (refl, record { stays = λ is. let same : key ≡ k = cc in absurd (false≢true (sym e ∙ ap (λ x. is_at (key_cmp x) k) same ∙ key_self k)) })
+  at_key found key p true e = subst (λ x. Steps found (Some x) p (cond (replaces found p) (Some p) found)) (sym (tells_apart natural_key_exact key k e)) (replaced found p (replaces found p) refl)
+  at_key found key p false e = inr (refl, record { stays = λ is. let same : key ≡ k = cc in absurd (false≢true (sym e ∙ ap (λ x. is_at (key_cmp x) k) same ∙ natural_key_self k)) })
 
   steps : (found : Option Partner) (key : Option NaturalKey) (p : Partner) → Steps found key p (with_object found key p k)
   steps found None p = inr (refl, record { stays = λ is. absurd cc })
@@ -78,8 +78,8 @@ module _ (k : NaturalKey) where
     behind n (inl less) = inl less
     behind n (inr same) = let late = same.1 in inr (same.0, omega (arith, late))
 
-    put : (found : Option Partner) → IsPut found key here → IsBest (Some here) keys os (place + 1) q → IsBest found (key ∷ keys) (o ∷ os) place q
-    put found p b = record {
+    best_after_put : (found : Option Partner) → IsPut found key here → IsBest (Some here) keys os (place + 1) q → IsBest found (key ∷ keys) (o ∷ os) place q
+    best_after_put found p b = record {
       origin = elim b.origin [
         | inl is ↦ inr (0, let same = some_partner here q is in ap (λ (x : Partner). x.place) (sym same) ∙ plus_none place, ap Some p.is, ap (λ (x : Partner). x.group) (sym (some_partner here q is)))
         | inr x ↦ inr (suc x.0, further x.0 x.1, x.2, x.3)
@@ -134,7 +134,7 @@ module _ (k : NaturalKey) where
       let p : Partner = record { group = group_number o; place = place } in
       let same : length keys ≡ length os = cc in
       elim (steps found key p) [
-        | inl x ↦ put key keys o os place q found x.1 (best (Some p) keys os (place + 1) q same (λ f h. subst (λ (y : Partner). y.place < place + 1) (some_partner p f h) (omega arith)) (ap (λ later. best_from later keys os k (place + 1)) (sym x.0) ∙ e))
+        | inl x ↦ best_after_put key keys o os place q found x.1 (best (Some p) keys os (place + 1) q same (λ f h. subst (λ (y : Partner). y.place < place + 1) (some_partner p f h) (omega arith)) (ap (λ later. best_from later keys os k (place + 1)) (sym x.0) ∙ e))
         | inr x ↦ left key keys o os place q found early x.1 (best found keys os (place + 1) q same (λ f h. let soon = early f h in omega (arith, soon)) (ap (λ later. best_from later keys os k (place + 1)) (sym x.0) ∙ e))
       ]
 

@@ -1,7 +1,8 @@
 -- no place stands in two pairs
-use Rattle.std.proofs.Common.{◌≡◌, ◌≢◌, ◌⊎◌, inl, inr, ℕ, ◌+◌, ◌<◌, ◌≤◌, Bool, true, false, cond, List, [], ◌∷◌, ◌++◌, length, drop, drop-cons, get_or, suc, Option, None, Some, option_map, refl, sym, ap, ◌∙◌, subst, arith}
+use Rattle.std.proofs.Common.{◌≡◌, ◌≢◌, ◌⊎◌, inl, inr, ℕ, ◌+◌, ◌<◌, ◌≤◌, Bool, true, false, cond, List, [], ◌∷◌, ◌++◌, length, drop, drop-cons, get_or, suc, Option, None, Some, refl, sym, ap, ◌∙◌, subst, arith}
 use Rattle.std.specs.BTreeMap.{is_at}
 use Rattle.std.proofs.lemmas.Map.Views.{tells_apart}
+use Rattle.swss_types.proofs.Proper.{mapped}
 use Rattle.sai_types.specs.Alike.{IsIn}
 use Rattle.sai_types.specs.Named.{those}
 use Rattle.sai_types.specs.Objects.{Objects}
@@ -11,7 +12,7 @@ use Rattle.view_match.specs.declared.indexed.Partner.{Partner}
 use Rattle.view_match.specs.declared.key.NaturalKey.{NaturalKey}
 use Rattle.view_match.specs.Keys.{key_cmp, keys_of_objects}
 use Rattle.view_match.specs.Pairs.{best_from, group_number, pairs_from, partner_of, replaces, with_object, with_pair}
-use Rattle.view_match.proofs.Exact.{key_exact}
+use Rattle.view_match.proofs.Exact.{natural_key_exact}
 
 -- ---- the partner of a key has that key
 
@@ -33,17 +34,17 @@ one_key (key ∷ keys) first place k l (inl h) (inr i) = let is = h.0 in let res
 one_key (key ∷ keys) first place k l (inr h) (inl i) = let is = i.0 in let rest = at_least keys (first + 1) place k h in absurd (omega (arith, is, rest))
 one_key (key ∷ keys) first place k l (inr h) (inr i) = one_key keys (first + 1) place k l h i
 
-chosen : (b : Bool) (found : Option Partner) (p q : Partner) → cond b (Some p) found ≡ Some q → (found ≡ Some q) ⊎ (p ≡ q)
-chosen true found p q h = inr cc
-chosen false found p q h = inl h
+partner_chosen : (b : Bool) (found : Option Partner) (p q : Partner) → cond b (Some p) found ≡ Some q → (found ≡ Some q) ⊎ (p ≡ q)
+partner_chosen true found p q h = inr cc
+partner_chosen false found p q h = inl h
 
 matched : (b : Bool) (key k : NaturalKey) (found : Option Partner) (p q : Partner) → is_at (key_cmp key) k ≡ b → cond b (cond (replaces found p) (Some p) found) found ≡ Some q → (found ≡ Some q) ⊎ ((key ≡ k) × (p ≡ q))
-matched true key k found p q e h = elim (chosen (replaces found p) found p q h) [ inl x ↦ inl x | inr y ↦ inr (tells_apart key_exact key k e, y) ]
+matched true key k found p q e h = elim (partner_chosen (replaces found p) found p q h) [ inl x ↦ inl x | inr y ↦ inr (tells_apart natural_key_exact key k e, y) ]
 matched false key k found p q e h = inl h
 
-put : (found : Option Partner) (key : Option NaturalKey) (p q : Partner) (k : NaturalKey) → with_object found key p k ≡ Some q → (found ≡ Some q) ⊎ ((key ≡ Some k) × (p ≡ q))
-put found None p q k h = inl h
-put found (Some key) p q k h = elim (matched (is_at (key_cmp key) k) key k found p q refl h) [ inl x ↦ inl x | inr y ↦ inr (ap Some y.0, y.1) ]
+put_or_found : (found : Option Partner) (key : Option NaturalKey) (p q : Partner) (k : NaturalKey) → with_object found key p k ≡ Some q → (found ≡ Some q) ⊎ ((key ≡ Some k) × (p ≡ q))
+put_or_found found None p q k h = inl h
+put_or_found found (Some key) p q k h = elim (matched (is_at (key_cmp key) k) key k found p q refl h) [ inl x ↦ inl x | inr y ↦ inr (ap Some y.0, y.1) ]
 
 best_at : (found : Option Partner) (keys : List (Option NaturalKey)) (os : Objects) (k : NaturalKey) (place : ℕ) (q : Partner) → best_from found keys os k place ≡ Some q → (found ≡ Some q) ⊎ IsAt keys place q.place k
 best_at found [] os k place q h = inl h
@@ -52,19 +53,15 @@ best_at found (key ∷ keys) (o ∷ os) k place q h =
     let p : Partner = record { group = group_number o; place = place } in
     elim (best_at (with_object found key p k) keys os k (place + 1) q h) [
       | inr later ↦ inr (inr later)
-      | inl now ↦ elim (put found key p q k now) [
+      | inl now ↦ elim (put_or_found found key p q k now) [
         | inl before ↦ inl before
         | inr here ↦ inr (inl (sym (ap (λ (r : Partner). r.place) here.1), here.0))
       ]
     ]
 
-mapped : (o : Option Partner) (i : ℕ) → option_map (λ (p : Partner). p.place) o ≡ Some i → (q : Partner) × (o ≡ Some q) × (q.place ≡ i)
-mapped None i h = absurd cc
-mapped (Some q) i h = (q, refl, cc)
-
 partner_at : (objects : Objects) (k : NaturalKey) (i : ℕ) → partner_of objects (Some k) ≡ Some i → IsAt (keys_of_objects objects) 0 i k
 partner_at objects k i h =
-    let m = mapped (best_from None (keys_of_objects objects) objects k 0) i h in
+    let m = mapped (λ (p : Partner). p.place) (best_from None (keys_of_objects objects) objects k 0) i h in
     elim (best_at None (keys_of_objects objects) objects k 0 m.0 m.1) [
       | inl none ↦ absurd cc
       | inr at ↦ subst (λ j. IsAt (keys_of_objects objects) 0 j k) m.2 at
@@ -102,9 +99,9 @@ abbrev pub AreFree : List (ℕ × ℕ) → Type 0
 AreFree [] = Unit {0}
 AreFree (p ∷ ps) = ((q : ℕ × ℕ) → IsIn q ps → (p.0 ≢ q.0) × (p.1 ≢ q.1)) × AreFree ps
 
-behind : (k : Option NaturalKey) (keys : List (Option NaturalKey)) → AreDistinct (those (k ∷ keys)) → AreDistinct (those keys)
-behind None keys h = h
-behind (Some k) keys h = h.1
+pub rest_distinct : (k : Option NaturalKey) (keys : List (Option NaturalKey)) → AreDistinct (those (k ∷ keys)) → AreDistinct (those keys)
+rest_distinct None keys h = h
+rest_distinct (Some k) keys h = h.1
 
 free_by : (objects : Objects) (key : Option NaturalKey) (keys : List (Option NaturalKey)) (place : ℕ) (o : Option ℕ) → partner_of objects key ≡ o → AreDistinct (those (key ∷ keys)) → AreFree (pairs_from objects keys (place + 1)) → AreFree (with_pair o place (pairs_from objects keys (place + 1)))
 free_by objects key keys place None e apart rest = rest
@@ -119,7 +116,7 @@ free_by objects (Some k) keys place (Some i) e apart rest = (
 
 pub pairs-free : (objects : Objects) (keys : List (Option NaturalKey)) (place : ℕ) → AreDistinct (those keys) → AreFree (pairs_from objects keys place)
 pairs-free objects [] place apart = tt
-pairs-free objects (key ∷ keys) place apart = free_by objects key keys place (partner_of objects key) refl apart (pairs-free objects keys (place + 1) (behind key keys apart))
+pairs-free objects (key ∷ keys) place apart = free_by objects key keys place (partner_of objects key) refl apart (pairs-free objects keys (place + 1) (rest_distinct key keys apart))
 
 -- so a pair has no place of those before it
 pub free-before : (front rest : List (ℕ × ℕ)) (p : ℕ × ℕ) → AreFree (front ++ p ∷ rest) → IsFree front p

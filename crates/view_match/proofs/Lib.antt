@@ -1,6 +1,6 @@
 pub mod Best
 mod Exact
-mod Free
+pub mod Free
 mod Orders
 pub mod Paired
 mod Put

@@ -1,6 +1,7 @@
 -- pairs are of one natural key, and the old one is that of the least group
 use Rattle.std.proofs.Common.{◌≡◌, ◌⊎◌, inl, inr, ℕ, zero, suc, ◌+◌, ◌<◌, ◌≤◌, List, [], ◌∷◌, length, map, Option, None, Some, option_map, refl, sym, ap, ◌∙◌, subst, arith}
 use Rattle.std.specs.List.{slice_get}
+use Rattle.swss_types.proofs.Proper.{mapped}
 use Rattle.sai_types.specs.declared.ids.Rid.{Rid}
 use Rattle.sai_types.specs.declared.ids.Vid.{Vid}
 use Rattle.sai_types.specs.declared.body.Object.{Object}
@@ -16,7 +17,7 @@ use Rattle.view_match.specs.Paired.{ArePaired, ComesFirst, HasKey}
 use Rattle.view_match.specs.Pairs.{best_from, group_of, pairs_from, pairs_of, partner_of, with_pair}
 use Rattle.view_match.proofs.Best.{best, found-none}
 
-length_keys : (objects os : Objects) → length (map (option_map key_of) (things_among objects os)) ≡ length os
+pub length_keys : (objects os : Objects) → length (map (option_map key_of) (things_among objects os)) ≡ length os
 length_keys objects [] = refl
 length_keys objects (o ∷ os) = ap suc (length_keys objects os)
 
@@ -52,12 +53,8 @@ module _ (objects : Objects) (k : NaturalKey) where
             }
       ]
 
-  mapped : (o : Option Partner) (i : ℕ) → option_map (λ (p : Partner). p.place) o ≡ Some i → (q : Partner) × (o ≡ Some q) × (q.place ≡ i)
-  mapped None i h = absurd cc
-  mapped (Some q) i h = (q, refl, cc)
-
   pub partner-first : (i : ℕ) → partner_of objects (Some k) ≡ Some i → IsFirst i
-  partner-first i h = let m = mapped found i h in subst IsFirst m.2 (first_of m.0 m.1)
+  partner-first i h = let m = mapped (λ (p : Partner). p.place) found i h in subst IsFirst m.2 (first_of m.0 m.1)
 
   one_first : (i j : ℕ) → IsFirst i → IsFirst j → i ≡ j
   one_first i j x y = by (x.first j y.has) (y.first i x.has)
@@ -115,7 +112,7 @@ module _ (objects : Objects) where
       let at : place + 1 + n ≡ place + suc n = omega arith in
       behind (partner_of objects key) place (pairs_from objects keys (place + 1)) (i, place + suc n) (subst (λ m. IsIn (i, m) (pairs_from objects keys (place + 1))) at (pairs_in keys (place + 1) n k i h e))
 
-from_none : (n : ℕ) → 0 + n ≡ n
+pub from_none : (n : ℕ) → 0 + n ≡ n
 from_none n = omega arith
 
 pub pairs-paired : (old : List (Object Rid)) (new : List (Object Vid)) (i j : ℕ) → IsIn (i, j) (pairs_of old new) → ArePaired (entries_of old) (entries_of (objects_as new)) i j

@@ -7,7 +7,7 @@ use Rattle.view_match.specs.declared.indexed.Partner.{Partner}
 use Rattle.view_match.specs.declared.key.NaturalKey.{NaturalKey}
 use Rattle.view_match.specs.Keys.{key_cmp}
 use Rattle.view_match.specs.Pairs.{replaces, with_object}
-use Rattle.view_match.proofs.Exact.{key_exact}
+use Rattle.view_match.proofs.Exact.{natural_key_exact}
 
 abbrev at : List (NaturalKey × Partner) → NaturalKey → Option Partner
 at index k = lookup (is_at (key_cmp k)) index
@@ -15,7 +15,7 @@ at index k = lookup (is_at (key_cmp k)) index
 module _ (key : NaturalKey) (p : Partner) (old : List (NaturalKey × Partner)) where
   -- whether the object takes a place is known at each key that is its own
   at_own : (k : NaturalKey) (b : Bool) → replaces (at old key) p ≡ b → is_at (key_cmp key) k ≡ true → replaces (at old k) p ≡ b
-  at_own k b e same = subst (λ x. replaces (at old x) p ≡ b) (tells_apart key_exact key k same) e
+  at_own k b e same = subst (λ x. replaces (at old x) p ≡ b) (tells_apart natural_key_exact key k same) e
 
   pub put-found : (new : List (NaturalKey × Partner)) → replaces (at old key) p ≡ true → ((k : NaturalKey) → at new k ≡ cond (is_at (key_cmp key) k) (Some p) (at old k)) → (k : NaturalKey) → at new k ≡ with_object (at old k) (Some key) p k
   put-found new e put k = put k ∙ by (is_at (key_cmp key) k) refl

@@ -16,7 +16,7 @@ ghost use Rattle.view_match.specs.declared.key.NaturalKey.{NaturalKey};
 
 /// Natural keys are ordered as things are: by their kinds, as the chip's table has them, and then part by part. Keys that
 /// compare equal are equal.
-pub fn keys_are_ordered()
+pub fn natural_keys_are_ordered()
     ensures order { (t u : Thing) → key_cmp (key_of t) (key_of u) ≡ thing_order t u }
     ensures exact { (k l : NaturalKey) → key_cmp k l ≡ Equal → k ≡ l }
 {}

@@ -8,6 +8,6 @@ mod listed;
 mod pairing;
 
 pub use key::{NaturalKey, natural_keys};
-pub use laws::{keys_are_ordered, pairs_are_of_one_key};
+pub use laws::{natural_keys_are_ordered, pairs_are_of_one_key};
 pub use listed::as_listed;
 pub use pairing::pair;

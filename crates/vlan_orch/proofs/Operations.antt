@@ -29,7 +29,7 @@ use Rattle.vlan_orch.specs.Vlans.{IsFirst, IsFirstMember, IsMemberRow, first_vla
 use Rattle.vlan_orch.specs.declared.steps.Membership.{Membership}
 use Rattle.vlan_orch.specs.declared.steps.MemberStep.{MemberStep}
 use Rattle.vlan_orch.specs.declared.steps.MemberStep.TheVariants as member
-use Rattle.vlan_orch.specs.declared.steps.Subject.{Subject}
+use Rattle.vlan_orch.specs.declared.steps.VlanSubject.{VlanSubject}
 
 -- ---- rows that fit
 
@@ -158,7 +158,7 @@ module _ (plan : Ports) (names : Names) (worker : ℕ) where
   operation-vlan v (Some r) new some fits_old fits_new = elim (fits_old r refl) [ ]
 
   -- what starts is the operation from one row to the other
-  pub first-operation : (k : Key) (old new : Option Row) (builds : Bool) (s : Subject) → (old ≡ None → new ≡ None → ⊥) → FitsAll plan k old → FitsAll plan k new → builds ≡ is_some (to_build plan names k new) → AreLive plan names k old → IsFirst plan k old new builds s
+  pub first-operation : (k : Key) (old new : Option Row) (builds : Bool) (s : VlanSubject) → (old ≡ None → new ≡ None → ⊥) → FitsAll plan k old → FitsAll plan k new → builds ≡ is_some (to_build plan names k new) → AreLive plan names k old → IsFirst plan k old new builds s
       → operation_of worker s ≡ started_operation plan names worker k old new
   first-operation (key.Vlan v) old new builds s some fits_old fits_new is live h = ap (operation_of worker) h ∙ operation-vlan v old new some fits_old fits_new
   first-operation (key.Member v p) old new builds s some fits_old fits_new is live (lane, a, b, step, lane_is, old_is, new_is, first, subject_is) =

@@ -31,7 +31,7 @@ use Rattle.orch_flight.proofs.Begins.{begun-removal, names-plain, no_places, non
 use Rattle.orch_flight.proofs.Rows.{built_of, row-begins, row-builds, same-name}
 use Rattle.vlan_orch.specs.Vlans.{IsFirst, IsOfVlan, IsVlanKey, operation_of, places_of_member, places_of_vlan}
 use Rattle.vlan_orch.proofs.Operations.{AreLive, FitsAll, bridge-live, bridges, first-operation, keeps-bridge, members}
-use Rattle.vlan_orch.specs.declared.steps.Subject.{Subject}
+use Rattle.vlan_orch.specs.declared.steps.VlanSubject.{VlanSubject}
 
 -- the rows behind references
 abbrev pub rows : Option (Bor Row) → Option Row
@@ -170,7 +170,7 @@ module _ (plan : Ports) (names : Names) (room : RoomState) (used : List ℕ) (wo
   -- ---- the operation
 
   -- what began, with the operation
-  pub started-as : (k : Key) (old new : Option Row) (builds : Bool) (s : Subject) (names' : Names) (room' : RoomState) (begun : Result (Unit {0}) Wait) (x : Unit {0}) → begun ≡ Ok x → MayStart plan names worker k old new → builds ≡ is_some (to_build plan names k new) → IsFirst plan k old new builds s
+  pub started-as : (k : Key) (old new : Option Row) (builds : Bool) (s : VlanSubject) (names' : Names) (room' : RoomState) (begun : Result (Unit {0}) Wait) (x : Unit {0}) → begun ≡ Ok x → MayStart plan names worker k old new → builds ≡ is_some (to_build plan names k new) → IsFirst plan k old new builds s
       → IsBegunBy plan names room used worker k old new begun names' room' → IsStartedBy plan names room used worker k old new (Ok (operation_of worker s)) names' room'
   started-as k old new builds s names' room' begun x is may lacks first told =
       let (none, names_are, places) = subst (λ a. IsBegunBy plan names room used worker k old new a names' room') is told in

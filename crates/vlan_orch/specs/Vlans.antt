@@ -16,8 +16,8 @@ use Rattle.orch_flight.specs.Operation.{Operation}
 use Rattle.vlan_orch.specs.declared.steps.Membership.{Membership}
 use Rattle.vlan_orch.specs.declared.steps.MemberStep.{MemberStep}
 use Rattle.vlan_orch.specs.declared.steps.MemberStep.TheVariants as member
-use Rattle.vlan_orch.specs.declared.steps.Subject.{Subject}
-use Rattle.vlan_orch.specs.declared.steps.Subject.TheVariants as subject
+use Rattle.vlan_orch.specs.declared.steps.VlanSubject.{VlanSubject}
+use Rattle.vlan_orch.specs.declared.steps.VlanSubject.TheVariants as subject
 use Rattle.vlan_orch.specs.declared.steps.VlanStep.{VlanStep}
 use Rattle.vlan_orch.specs.declared.steps.VlanStep.TheVariants as vlan_step
 
@@ -101,7 +101,7 @@ left_by tagging false = member.Removed tagging
 
 -- ---- either
 
-abbrev pub operation_of : ℕ → Subject → Operation
+abbrev pub operation_of : ℕ → VlanSubject → Operation
 operation_of worker (subject.Vlan vlan step) = vlan_operation worker vlan step
 operation_of worker (subject.Member at step) = member_operation worker at step
 
@@ -138,7 +138,7 @@ IsFirstMember (Some old) (Some new) builds step = step ≡ (if tagging_eq.ghosts
 IsFirstMember (Some old) None builds step = step ≡ member.Remove old
 
 -- what starts as the operation from one row to another: it builds the bridge port or finds it
-abbrev pub IsFirst : Ports → Key → Option Row → Option Row → Bool → Subject → Type 0
+abbrev pub IsFirst : Ports → Key → Option Row → Option Row → Bool → VlanSubject → Type 0
 IsFirst plan (key.Vlan vlan) old new builds s = s ≡ subject.Vlan vlan (first_vlan old new)
 IsFirst plan (key.Member vlan port) old new builds s =
     (lane : ℕ) × (a : Option Tagging) × (b : Option Tagging) × (step : MemberStep) × (lane_of plan port ≡ Some lane) × (option_map row.Member a ≡ old) × (option_map row.Member b ≡ new) × IsFirstMember a b builds step

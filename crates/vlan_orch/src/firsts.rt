@@ -5,7 +5,7 @@ ghost use Rattle.switch_model.specs.Things.{lane_of};
 ghost use Rattle.table_schema.specs.declared.row.Row.{Row};
 ghost use Rattle.vlan_orch.specs.Vlans.{IsFirst, IsFirstMember, IsMemberRow, IsVlanKey, first_vlan};
 
-use crate::steps::{MemberStep, Membership, Subject, VlanStep};
+use crate::steps::{MemberStep, Membership, VlanStep, VlanSubject};
 use orch_flight::lane_of;
 use swss_types::Tagging;
 use table_schema::{Key, PortPlan, Row};
@@ -17,7 +17,7 @@ pub fn first(
     old: Option<&Row>,
     new: Option<&Row>,
     builds: bool,
-) -> Subject
+) -> VlanSubject
     requires vlan { IsVlanKey key.now }
     requires some { option_map (λ r. r.now) old ≡ None → option_map (λ r. r.now) new ≡ None → ⊥ }
     requires old { (r : Row) → option_map (λ r. r.now) old ≡ Some r → Fits plan.now key.now r }
@@ -25,14 +25,14 @@ pub fn first(
     ensures { IsFirst plan.now key.now (option_map (λ r. r.now) old.entry) (option_map (λ r. r.now) new.entry) builds result }
 {
     match key {
-        Key::Vlan(vlan) => Subject::Vlan(*vlan, first_vlan(old, new)),
+        Key::Vlan(vlan) => VlanSubject::Vlan(*vlan, first_vlan(old, new)),
         Key::Member(vlan, port) => {
             let at = Membership {
                 vlan: *vlan,
                 port: *port,
                 lane: lane(plan, *port),
             };
-            Subject::Member(at, first_member(tagging_of(old), tagging_of(new), builds))
+            VlanSubject::Member(at, first_member(tagging_of(old), tagging_of(new), builds))
         }
         _ => unreachable!(),
     }

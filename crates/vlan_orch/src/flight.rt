@@ -10,7 +10,7 @@ ghost use Rattle.vlan_orch.specs.Vlans.{IsVlanKey};
 use crate::calls::{member_next, vlan_next};
 use crate::firsts::first;
 use crate::starting::{begin, builds_bridge};
-use crate::steps::{MemberStep, Subject, VlanStep};
+use crate::steps::{MemberStep, VlanStep, VlanSubject};
 use crate::taking::took;
 use ref_counts::{Next, Registry, Room};
 use sai_types::Vid;
@@ -24,7 +24,7 @@ use table_schema::{Key, PortPlan, Row};
 #[derive(Debug, Drop)]
 pub struct VlanFlight {
     worker: u32,
-    subject: Subject,
+    subject: VlanSubject,
 }
 
 impl Model for VlanFlight {
@@ -71,8 +71,8 @@ impl VlanFlight {
         ensures { IfOk result (λ next. (plan : Ports) → IsOver plan self.now → IsNextOf plan reg.now self.now next) }
     {
         match self.subject {
-            Subject::Vlan(vlan, step) => Ok(vlan_next(vlan, step, reg)),
-            Subject::Member(at, step) => Ok(member_next(at, step, reg)),
+            VlanSubject::Vlan(vlan, step) => Ok(vlan_next(vlan, step, reg)),
+            VlanSubject::Member(at, step) => Ok(member_next(at, step, reg)),
         }
     }
 
@@ -89,11 +89,11 @@ impl VlanFlight {
         ensures { IsTrue result ↔ (self.now.due ≡ []) }
     {
         match self.subject {
-            Subject::Vlan(_, step) => match step {
+            VlanSubject::Vlan(_, step) => match step {
                 VlanStep::Add | VlanStep::Remove => false,
                 VlanStep::Added | VlanStep::Removed | VlanStep::Keep => true,
             },
-            Subject::Member(_, step) => match step {
+            VlanSubject::Member(_, step) => match step {
                 MemberStep::AddBridge(_) | MemberStep::Add(_) => false,
                 MemberStep::Set(..) | MemberStep::Remove(_) | MemberStep::RemoveBridge(_) => false,
                 MemberStep::Added(_) | MemberStep::Keep(_) => true,

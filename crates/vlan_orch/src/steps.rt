@@ -52,7 +52,7 @@ pub struct Membership {
 
 /// What an operation is about, and how far it is.
 #[derive(Clone, Copy, Debug)]
-pub enum Subject {
+pub enum VlanSubject {
     /// A VLAN.
     Vlan(u16, VlanStep),
     /// A member of a VLAN.

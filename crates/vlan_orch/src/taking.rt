@@ -7,7 +7,7 @@ ghost use Rattle.ref_counts.specs.Registry.{changed, places_of, state_of};
 ghost use Rattle.row_layout.specs.Rows.{Bridge};
 ghost use Rattle.vlan_orch.specs.Vlans.{left_by, member_operation, operation_of, vlan_operation};
 
-use crate::steps::{MemberStep, Membership, Subject, VlanStep};
+use crate::steps::{MemberStep, Membership, VlanStep, VlanSubject};
 use orch_flight::leave;
 use ref_counts::{Name, NameState, Registry};
 use sai_types::Vid;
@@ -15,13 +15,19 @@ use swss_types::Tagging;
 use table_schema::Key;
 
 /// The call that was due has taken effect.
-pub fn took(worker: u32, subject: Subject, made: Option<Vid>, reg: &mut Registry) -> Subject
+pub fn took(worker: u32, subject: VlanSubject, made: Option<Vid>, reg: &mut Registry) -> VlanSubject
     requires { MayTake (operation_of worker subject) made reg.old }
     ensures { IsTook (operation_of worker subject) made reg.old (operation_of worker result) reg.new }
 {
     match subject {
-        Subject::Vlan(vlan, step) => Subject::Vlan(vlan, vlan_took(worker, vlan, step, made, reg)),
-        Subject::Member(at, step) => Subject::Member(at, member_took(worker, at, step, made, reg)),
+        VlanSubject::Vlan(vlan, step) => VlanSubject::Vlan(
+            vlan,
+            vlan_took(worker, vlan, step, made, reg),
+        ),
+        VlanSubject::Member(at, step) => VlanSubject::Member(
+            at,
+            member_took(worker, at, step, made, reg),
+        ),
     }
 }
 

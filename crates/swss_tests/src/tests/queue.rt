@@ -1,6 +1,6 @@
 // What no clause says: a queue with room takes a write, one that holds writes gives one, and a full one refuses.
 ghost use Rattle.std.specs.Prelude.{◌≡◌, ℕ, ◌+◌, ◌<◌, ◌≤◌, length, slice_index_or};
-ghost use Rattle.intake_queue.specs.Values.{Sender, AreAll, AreNew};
+ghost use Rattle.intake_queue.specs.Values.{Sender, AreAllPasses, AreNew};
 
 use intake_queue::{Full, Intake, Made, Pass, Taker, close};
 use std::alloc::Global;
@@ -18,9 +18,9 @@ fn send_by<R: Wait>(
     number: u32,
 ) -> Result<(), Full>
     requires at { at < length passes.old.items }
-    requires all { AreAll intake.now passes.old.items }
+    requires all { AreAllPasses intake.now passes.old.items }
     requires few { (i : ℕ) (d : Sender) → i < length passes.old.items → length (slice_index_or passes.old.items i d).sent ≤ number }
-    ensures all { AreAll intake.now passes.new.items }
+    ensures all { AreAllPasses intake.now passes.new.items }
     ensures few { (i : ℕ) (d : Sender) → i < length passes.new.items → length (slice_index_or passes.new.items i d).sent ≤ number + 1 }
 {
     passes[at].send(rt, intake, Write::Del(Key::Port(number)))
@@ -30,7 +30,7 @@ fn send_by<R: Wait>(
 fn fill(rt: &(impl Wait + Abort), intake: &Intake, passes: &mut Vec<Pass>, producers: u32)
     requires producers { (0 < producers) × (intake.now.producers ≡ producers) }
     requires new { AreNew intake.now passes.old.items }
-    ensures all { AreAll intake.now passes.new.items }
+    ensures all { AreAllPasses intake.now passes.new.items }
     ensures few { (i : ℕ) (d : Sender) → i < length passes.new.items → length (slice_index_or passes.new.items i d).sent ≤ 1024 }
 {
     for number in 0..1024u32 {
@@ -43,9 +43,9 @@ fn fill(rt: &(impl Wait + Abort), intake: &Intake, passes: &mut Vec<Pass>, produ
 /// Each producer finds the queue full, and has its write back.
 fn find_full(rt: &(impl Wait + Abort), intake: &Intake, passes: &mut Vec<Pass>, producers: u32)
     requires producers { (producers ≤ 4) × (intake.now.producers ≡ producers) }
-    requires all { AreAll intake.now passes.old.items }
+    requires all { AreAllPasses intake.now passes.old.items }
     requires few { (i : ℕ) (d : Sender) → i < length passes.old.items → length (slice_index_or passes.old.items i d).sent ≤ 1024 }
-    ensures { AreAll intake.now passes.new.items }
+    ensures { AreAllPasses intake.now passes.new.items }
 {
     for at in 0..producers {
         match send_by(rt, intake, passes, at as usize, 1024 + at) {

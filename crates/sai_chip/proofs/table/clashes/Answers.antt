@@ -1,6 +1,6 @@
 use Rattle.std.proofs.Common.{◌∙◌, ap, sym}
 use Rattle.std.specs.List.{list_any}
-use Rattle.sai_chip.specs.declared.mark.Mark.TheVariants as mark
+use Rattle.sai_chip.specs.declared.mark.TakenMark.TheVariants as mark
 use Rattle.sai_chip.specs.Marks.{stands}
 use Rattle.sai_chip.proofs.Clashes.{clashes-by, clashes-never, clashes-port, clash-vlan, clash-bridge_port, clash-vlan_member, clash-rif, clash-next_hop, clash-group_member}
 use Rattle.sai_chip.proofs.table.clashes.Goals as goal

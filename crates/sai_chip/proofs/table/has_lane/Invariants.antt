@@ -1,7 +1,7 @@
 use Rattle.std.proofs.Common.{◌≡◌, drop}
 use Rattle.std.specs.List.{list_any}
 use Rattle.sai_chip.specs.Marks.{stands}
-use Rattle.sai_chip.specs.declared.mark.Mark.TheVariants.{Lane}
+use Rattle.sai_chip.specs.declared.mark.TakenMark.TheVariants.{Lane}
 use Rattle.sai_chip.proofs.table.has_lane.Given as goal
 
 -- none of the lanes so far stands

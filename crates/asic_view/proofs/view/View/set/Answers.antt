@@ -1,7 +1,7 @@
 use Rattle.std.proofs.Common.{sym, ap, ◌∙◌, subst}
 use Rattle.std.proofs.lemmas.Option.{none-some}
 use Rattle.sai_types.specs.declared.body.Call.TheVariants as call
-use Rattle.asic_view.specs.Kept.{IsKept}
+use Rattle.asic_view.specs.Kept.{IsViewKept}
 use Rattle.asic_view.specs.View.{IsLegalOn, after_set, changed_at, object_set}
 use Rattle.asic_view.proofs.Keeping.{IsThere, kept-changed, kind-set, set-is, set-there, vid-found, vid-is}
 use Rattle.asic_view.proofs.Shown.{entry-set}
@@ -16,7 +16,7 @@ unreachable-requires c =
 pub invariant_of-self : goal.invariant_of-self
 invariant_of-self c =
     let s = c.self.inside in
-    subst (λ l. IsKept s.made l s.keyed.entries s.counts) (sym c.set.ensures)
+    subst (λ l. IsViewKept s.made l s.keyed.entries s.counts) (sym c.set.ensures)
     (kept-changed s.made s.objects.entries s.keyed.entries s.counts c.self.invariant c.in-Some.vid (λ x. object_set x c.args.attr) (λ w x. entry-set w x.body c.args.attr) (λ x. kind-set x.body c.args.attr))
 
 pub returns : goal.returns

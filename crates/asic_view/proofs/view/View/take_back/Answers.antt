@@ -1,9 +1,9 @@
 use Rattle.std.proofs.Common.{◌≡◌, ◌+◌, ◌<◌, ◌==◌, cond, slice_index, Some, None, option_map, sym, ap, ◌∙◌, subst}
 use Rattle.std.specs.BTreeMap.{is_at}
 use Rattle.std.specs.Map.{lookup}
+use Rattle.swss_types.proofs.Proper.{mapped}
 use Rattle.sai_types.specs.Objects.{kind_of, level}
-use Rattle.sai_types.proofs.Keys.{mapped}
-use Rattle.asic_view.specs.Kept.{IsKept, unfiled}
+use Rattle.asic_view.specs.Kept.{IsViewKept, unfiled}
 use Rattle.asic_view.specs.View.{after_remove, entry_at, vid_cmp, without_object}
 use Rattle.asic_view.specs.declared.object.ViewObject.{ViewObject}
 use Rattle.asic_view.proofs.Keeping.{in-key, kept-left, key-refl, none_mapped, removed-absent, removed-is, some-counted}
@@ -30,8 +30,8 @@ invariant_of-self c =
     let kind : c.in-Some-take.kind ≡ kind_of m.0.body = cc kinds in
     let gone = c.take.ensures.taken ∙ removed-is s.made s.objects.entries s.keyed.entries s.counts c.self.invariant e (v, m.0) among (key-refl e) in
     let out = c.unfile.ensures ∙ ap (unfiled s.keyed.entries) (sym m.2) in
-    subst (λ l. IsKept s.made l c.unfile.new.keyed.entries c.lower.new.counts) (sym gone)
-    (subst (λ k. IsKept s.made (after_remove s.objects.entries e) k c.lower.new.counts) (sym out)
+    subst (λ l. IsViewKept s.made l c.unfile.new.keyed.entries c.lower.new.counts) (sym gone)
+    (subst (λ k. IsViewKept s.made (after_remove s.objects.entries e) k c.lower.new.counts) (sym out)
     (kept-left s.made s.objects.entries s.keyed.entries s.counts c.self.invariant e (v, m.0) among (key-refl e) c.lower.new.counts
     (λ k. ap (λ m. slice_index c.lower.new.counts (level k) + cond (level m == level k) 1 0) (sym kind) ∙ c.lower.ensures k)))
 

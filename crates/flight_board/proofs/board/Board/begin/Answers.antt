@@ -1,8 +1,8 @@
 use Rattle.std.proofs.Common.{◌≡◌, ◌<◌, ℕ, Ok, Err, IfOk, None, refl, sym, subst, ◌∙◌}
 use Rattle.orch_flight.specs.Sharing.{MayStart}
 use Rattle.flight_board.specs.Applied.{row_at}
-use Rattle.flight_board.specs.Board.{BoardState, HasKeyAt, IsBegun, IsBegunFor, IsUnflown, flight_on, flown_at}
-use Rattle.flight_board.proofs.Events.{begun-err, begun-ok, operation-is, told}
+use Rattle.flight_board.specs.Board.{BoardState, HasKeyAt, IsFlightBegun, IsBegunFor, IsUnflown, flight_on, flown_at}
+use Rattle.flight_board.proofs.Events.{begun-err, begun-ok, operation-is, started_operation_told}
 use Rattle.flight_board.proofs.Kept.{kept-begun, kept-moved}
 use Rattle.flight_board.proofs.Places.{none-flown}
 use Rattle.flight_board.proofs.board.Board.begin.Goals as goal
@@ -24,7 +24,7 @@ go_on-requires-clause-worker c =
     let i = c.self.inside in
     let k = c.args.key.now in
     let f = c.in-Ok-Ok.flight in
-    let h = told i.plan i.registry i.room c.args.used.now c.args.worker k c.args.new c.start.new.reg c.start.new.room _ (row_at i.applied k) c.in-Ok-Ok.field-0 (Ok f) (c.row.ensures ∙ c.in_ok-keep_place.ensures.rows k) c.in-Ok-Ok.field-0-is c.in-Ok-Ok.ensures.started in
+    let h = started_operation_told i.plan i.registry i.room c.args.used.now c.args.worker k c.args.new c.start.new.reg c.start.new.room _ (row_at i.applied k) c.in-Ok-Ok.field-0 (Ok f) (c.row.ensures ∙ c.in_ok-keep_place.ensures.rows k) c.in-Ok-Ok.field-0-is c.in-Ok-Ok.ensures.started in
     let is = operation-is i.plan i.registry i.room c.args.used.now c.args.worker k c.args.new c.start.new.reg c.start.new.room (row_at i.applied k) f.flown.operation h in
     subst (λ n. n < 4) (sym is.worker) c.requires.worker
 
@@ -33,9 +33,9 @@ go_on-requires-clause-kept c =
     let i = c.self.inside in
     let k = c.args.key.now in
     let f = c.in-Ok-Ok.flight in
-    let h = told i.plan i.registry i.room c.args.used.now c.args.worker k c.args.new c.start.new.reg c.start.new.room _ (row_at i.applied k) c.in-Ok-Ok.field-0 (Ok f) (c.row.ensures ∙ c.in_ok-keep_place.ensures.rows k) c.in-Ok-Ok.field-0-is c.in-Ok-Ok.ensures.started in
+    let h = started_operation_told i.plan i.registry i.room c.args.used.now c.args.worker k c.args.new c.start.new.reg c.start.new.room _ (row_at i.applied k) c.in-Ok-Ok.field-0 (Ok f) (c.row.ensures ∙ c.in_ok-keep_place.ensures.rows k) c.in-Ok-Ok.field-0-is c.in-Ok-Ok.ensures.started in
     let is = operation-is i.plan i.registry i.room c.args.used.now c.args.worker k c.args.new c.start.new.reg c.start.new.room (row_at i.applied k) f.flown.operation h in
-    let begun = subst (λ a. IfOk a (IsBegun i.plan k (row_at c.keep_place.new.self k) c.args.new)) c.in-Ok-Ok.field-0-is (subst (λ o. IfOk c.in-Ok-Ok.field-0 (IsBegun i.plan k o c.args.new)) c.row.ensures c.in-Ok-Ok.ensures.begun) in
+    let begun = subst (λ a. IfOk a (IsFlightBegun i.plan k (row_at c.keep_place.new.self k) c.args.new)) c.in-Ok-Ok.field-0-is (subst (λ o. IfOk c.in-Ok-Ok.field-0 (IsFlightBegun i.plan k o c.args.new)) c.row.ensures c.in-Ok-Ok.ensures.begun) in
     kept-begun i.plan c.keep_place.new.self f.flown.operation.worker k c.args.new f (record { worker = refl; key = is.key; row = is.row }) begun c.in_ok-keep_place.ensures.place
 
 pub go_on-requires-clause-none : goal.go_on-requires-clause-none
@@ -43,7 +43,7 @@ go_on-requires-clause-none c =
     let i = c.self.inside in
     let k = c.args.key.now in
     let f = c.in-Ok-Ok.flight in
-    let h = told i.plan i.registry i.room c.args.used.now c.args.worker k c.args.new c.start.new.reg c.start.new.room _ (row_at i.applied k) c.in-Ok-Ok.field-0 (Ok f) (c.row.ensures ∙ c.in_ok-keep_place.ensures.rows k) c.in-Ok-Ok.field-0-is c.in-Ok-Ok.ensures.started in
+    let h = started_operation_told i.plan i.registry i.room c.args.used.now c.args.worker k c.args.new c.start.new.reg c.start.new.room _ (row_at i.applied k) c.in-Ok-Ok.field-0 (Ok f) (c.row.ensures ∙ c.in_ok-keep_place.ensures.rows k) c.in-Ok-Ok.field-0-is c.in-Ok-Ok.ensures.started in
     let is = operation-is i.plan i.registry i.room c.args.used.now c.args.worker k c.args.new c.start.new.reg c.start.new.room (row_at i.applied k) f.flown.operation h in
     let none = none-flown (flight_on i.workers c.args.worker) (subst (λ z. flown_at z c.args.worker ≡ None) (sym c.self.view_is) c.requires.none) in
     subst (λ n. flight_on i.workers n ≡ None) (sym is.worker) none
@@ -53,7 +53,7 @@ go_on-requires-clause-unflown c =
     let i = c.self.inside in
     let k = c.args.key.now in
     let f = c.in-Ok-Ok.flight in
-    let h = told i.plan i.registry i.room c.args.used.now c.args.worker k c.args.new c.start.new.reg c.start.new.room _ (row_at i.applied k) c.in-Ok-Ok.field-0 (Ok f) (c.row.ensures ∙ c.in_ok-keep_place.ensures.rows k) c.in-Ok-Ok.field-0-is c.in-Ok-Ok.ensures.started in
+    let h = started_operation_told i.plan i.registry i.room c.args.used.now c.args.worker k c.args.new c.start.new.reg c.start.new.room _ (row_at i.applied k) c.in-Ok-Ok.field-0 (Ok f) (c.row.ensures ∙ c.in_ok-keep_place.ensures.rows k) c.in-Ok-Ok.field-0-is c.in-Ok-Ok.ensures.started in
     let is = operation-is i.plan i.registry i.room c.args.used.now c.args.worker k c.args.new c.start.new.reg c.start.new.room (row_at i.applied k) f.flown.operation h in
     subst (λ q. (v : ℕ) → HasKeyAt i.workers q v → ⊥) (sym is.key) c.in_default.ensures.none
 
@@ -74,9 +74,9 @@ returns-in-Ok-Ok-clause-begun c =
     let i = c.self.inside in
     let k = c.args.key.now in
     let f = c.in-Ok-Ok.flight in
-    let h = told i.plan i.registry i.room c.args.used.now c.args.worker k c.args.new c.start.new.reg c.start.new.room _ (row_at i.applied k) c.in-Ok-Ok.field-0 (Ok f) (c.row.ensures ∙ c.in_ok-keep_place.ensures.rows k) c.in-Ok-Ok.field-0-is c.in-Ok-Ok.ensures.started in
+    let h = started_operation_told i.plan i.registry i.room c.args.used.now c.args.worker k c.args.new c.start.new.reg c.start.new.room _ (row_at i.applied k) c.in-Ok-Ok.field-0 (Ok f) (c.row.ensures ∙ c.in_ok-keep_place.ensures.rows k) c.in-Ok-Ok.field-0-is c.in-Ok-Ok.ensures.started in
     let is = operation-is i.plan i.registry i.room c.args.used.now c.args.worker k c.args.new c.start.new.reg c.start.new.room (row_at i.applied k) f.flown.operation h in
-    let begun = subst (λ a. IfOk a (IsBegun i.plan k (row_at c.keep_place.new.self k) c.args.new)) c.in-Ok-Ok.field-0-is (subst (λ o. IfOk c.in-Ok-Ok.field-0 (IsBegun i.plan k o c.args.new)) c.row.ensures c.in-Ok-Ok.ensures.begun) in
+    let begun = subst (λ a. IfOk a (IsFlightBegun i.plan k (row_at c.keep_place.new.self k) c.args.new)) c.in-Ok-Ok.field-0-is (subst (λ o. IfOk c.in-Ok-Ok.field-0 (IsFlightBegun i.plan k o c.args.new)) c.row.ensures c.in-Ok-Ok.ensures.begun) in
     let old : BoardState = record { plan = i.plan; names = i.registry; room = i.room; applied = i.applied; flights = i.workers } in
     let mid : BoardState = record { plan = i.plan; names = c.start.new.reg; room = c.start.new.room; applied = c.keep_place.new.self; flights = i.workers } in
     subst (λ z. IsBegunFor z c.args.used.now c.args.worker k c.args.new (Ok tt) c.go_on.new.self) c.self.view_is
@@ -86,7 +86,7 @@ pub returns-in-Ok-Err-clause-begun : goal.returns-in-Ok-Err-clause-begun
 returns-in-Ok-Err-clause-begun c =
     let i = c.self.inside in
     let k = c.args.key.now in
-    let h = told i.plan i.registry i.room c.args.used.now c.args.worker k c.args.new c.start.new.reg c.start.new.room _ (row_at i.applied k) c.in-Ok-Err.field-0 (Err c.in-Ok-Err.wait) (c.row.ensures ∙ c.in_ok-keep_place.ensures.rows k) c.in-Ok-Err.field-0-is c.in-Ok-Err.ensures.started in
+    let h = started_operation_told i.plan i.registry i.room c.args.used.now c.args.worker k c.args.new c.start.new.reg c.start.new.room _ (row_at i.applied k) c.in-Ok-Err.field-0 (Err c.in-Ok-Err.wait) (c.row.ensures ∙ c.in_ok-keep_place.ensures.rows k) c.in-Ok-Err.field-0-is c.in-Ok-Err.ensures.started in
     let old : BoardState = record { plan = i.plan; names = i.registry; room = i.room; applied = i.applied; flights = i.workers } in
     let new : BoardState = record { plan = i.plan; names = c.start.new.reg; room = c.start.new.room; applied = c.forget_place.new.self; flights = i.workers } in
     subst (λ z. IsBegunFor z c.args.used.now c.args.worker k c.args.new (Err c.in-Ok-Err.wait) new) c.self.view_is

@@ -1,6 +1,6 @@
 use Rattle.std.proofs.Common.{◌≡◌, ◌<◌, None, refl, sym, ap, subst, ◌∙◌, slice_set}
 use Rattle.flight_board.specs.Board.{AreKept, BoardState, HasKeyAt, IsKeptFlight, IsTakenFor, flight_on}
-use Rattle.flight_board.proofs.Events.{taken}
+use Rattle.flight_board.proofs.Events.{took_event}
 use Rattle.flight_board.proofs.Kept.{free-without, kept-alike, kept-without, took-alike, within}
 use Rattle.flight_board.proofs.Places.{on-same}
 use Rattle.flight_board.proofs.board.Board.took.Goals as goal
@@ -55,4 +55,4 @@ returns-in-Some c =
     let old : BoardState = record { plan = i.plan; names = i.registry; room = i.room; applied = i.applied; flights = i.workers } in
     let mid : BoardState = record { plan = i.plan; names = c.took.new.reg; room = i.room; applied = i.applied; flights = c.take.new.self } in
     subst (λ z. IsTakenFor z c.args.worker c.args.made c.go_on.new.self) c.self.view_is
-    (taken old mid c.go_on.new.self c.args.worker c.args.made f g (sym c.in-Some.ensures.value) (same.worker ∙ kept.worker) c.took.ensures.took refl refl refl c.take.ensures.rest c.go_on.ensures)
+    (took_event old mid c.go_on.new.self c.args.worker c.args.made f g (sym c.in-Some.ensures.value) (same.worker ∙ kept.worker) c.took.ensures.took refl refl refl c.take.ensures.rest c.go_on.ensures)

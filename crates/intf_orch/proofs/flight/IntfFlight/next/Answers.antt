@@ -1,15 +1,15 @@
 use Rattle.intf_orch.specs.declared.stage.Subject.TheVariants as subject
-use Rattle.intf_orch.proofs.Calls.{next-own, next-rif, told}
+use Rattle.intf_orch.proofs.Calls.{intf_operation_told, next-own, next-rif}
 use Rattle.intf_orch.proofs.flight.IntfFlight.next.Goals as goal
 
 pub returns-in-Intf : goal.returns-in-Intf
 returns-in-Intf c = λ plan.
     let i = c.self.inside in
     let w = c.in-Intf in
-    next-rif c.args.reg.now i.worker i.applied i.wanted c.args.self.now w.on w.stage (told c.args.self.now i.worker i.applied i.wanted i.subject (subject.Intf w.on w.stage) c.self.view_is w.is) plan c.next_rif.result c.next_rif.ensures
+    next-rif c.args.reg.now i.worker i.applied i.wanted c.args.self.now w.on w.stage (intf_operation_told c.args.self.now i.worker i.applied i.wanted i.subject (subject.Intf w.on w.stage) c.self.view_is w.is) plan c.next_rif.result c.next_rif.ensures
 
 pub returns-in-Addr : goal.returns-in-Addr
 returns-in-Addr c = λ plan over.
     let i = c.self.inside in
     let w = c.in-Addr in
-    next-own c.args.reg.now i.worker i.applied i.wanted c.args.self.now w.field-0 w.ip w.field-2 w.stage (told c.args.self.now i.worker i.applied i.wanted i.subject (subject.Addr w.field-0 w.ip w.field-2 w.stage) c.self.view_is w.is) plan c.next_own.result c.next_own.ensures
+    next-own c.args.reg.now i.worker i.applied i.wanted c.args.self.now w.field-0 w.ip w.field-2 w.stage (intf_operation_told c.args.self.now i.worker i.applied i.wanted i.subject (subject.Addr w.field-0 w.ip w.field-2 w.stage) c.self.view_is w.is) plan c.next_own.result c.next_own.ensures

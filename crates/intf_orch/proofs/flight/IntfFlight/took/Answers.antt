@@ -1,5 +1,5 @@
 use Rattle.intf_orch.specs.declared.stage.Subject.TheVariants as subject
-use Rattle.intf_orch.proofs.Calls.{told}
+use Rattle.intf_orch.proofs.Calls.{intf_operation_told}
 use Rattle.intf_orch.proofs.Takes.{may-rif}
 use Rattle.intf_orch.proofs.flight.IntfFlight.took.Goals as goal
 
@@ -8,4 +8,4 @@ took_rif-requires c =
     let i = c.self.inside in
     let w = c.in-Intf in
     may-rif c.args.reg.now i.worker i.applied i.wanted c.args.made c.args.self.now c.requires w.on w.stage
-    (told c.args.self.now i.worker i.applied i.wanted i.subject (subject.Intf w.on w.stage) c.self.view_is w.is)
+    (intf_operation_told c.args.self.now i.worker i.applied i.wanted i.subject (subject.Intf w.on w.stage) c.self.view_is w.is)

@@ -6,7 +6,7 @@ use Rattle.ref_counts.specs.Registered.{made_live}
 use Rattle.ref_counts.specs.Registry.{changed}
 use Rattle.orch_flight.specs.Taking.{IsTook}
 use Rattle.port_orch.specs.Ports.{port_operation}
-use Rattle.port_orch.proofs.Calls.{told}
+use Rattle.port_orch.proofs.Calls.{port_operation_told}
 use Rattle.port_orch.proofs.Takes.{builds, never-unmade, took-made, took-removed, took-set}
 use Rattle.port_orch.proofs.flight.PortFlight.took.Goals.{in-Some+in-Row+in-Other+in-Long-1, in-Some+in-Row+in-Other+in-Short-1, in-Some+in-Row+in-Port-1, in-Some+in-Group-1, in-Some+in-BridgePort-1, in_default-made, in_default-via-in-Some+in_default, in_default-via-in-None+in_default}
 use Rattle.port_orch.proofs.flight.PortFlight.took.Goals as goal
@@ -16,21 +16,21 @@ built-requires-clause-builds c =
     let i = c.self.inside in
     let r = c.in-None-Some.field-0-1 in
     (builds c.args.reg.now i.worker i.port c.args.made c.in-Some.vid i.done r c.args.self.now
-    (told c.args.self.now i.worker i.port i.done i.done i.current None i.target (Some r) c.self.view_is refl c.in-None-Some.is-0 c.in-None-Some.is-1) c.in-Some.is c.requires).0
+    (port_operation_told c.args.self.now i.worker i.port i.done i.done i.current None i.target (Some r) c.self.view_is refl c.in-None-Some.is-0 c.in-None-Some.is-1) c.in-Some.is c.requires).0
 
 pub built-requires-clause-places : goal.built-requires-clause-places
 built-requires-clause-places c =
     let i = c.self.inside in
     let r = c.in-None-Some.field-0-1 in
     (builds c.args.reg.now i.worker i.port c.args.made c.in-Some.vid i.done r c.args.self.now
-    (told c.args.self.now i.worker i.port i.done i.done i.current None i.target (Some r) c.self.view_is refl c.in-None-Some.is-0 c.in-None-Some.is-1) c.in-Some.is c.requires).1
+    (port_operation_told c.args.self.now i.worker i.port i.done i.done i.current None i.target (Some r) c.self.view_is refl c.in-None-Some.is-0 c.in-None-Some.is-1) c.in-Some.is c.requires).1
 
 pub returns-in-Some-Some : goal.returns-in-Some-Some
 returns-in-Some-Some c =
     let i = c.self.inside in
     let a = c.in-Some-Some.now in
     let r = c.in-Some-Some.new in
-    let is = told c.args.self.now i.worker i.port i.done i.done i.current (Some a) i.target (Some r) c.self.view_is refl c.in-Some-Some.is-0 c.in-Some-Some.is-1 in
+    let is = port_operation_told c.args.self.now i.worker i.port i.done i.done i.current (Some a) i.target (Some r) c.self.view_is refl c.in-Some-Some.is-0 c.in-Some-Some.is-1 in
     subst (λ t. IsTook c.args.self.now c.args.made c.args.reg.now (port_operation i.worker i.port i.done (Some c.step.new.now) t) c.args.reg.now) (sym c.in-Some-Some.is-1)
     (took-set c.args.reg.now i.worker i.port c.args.made i.done a r c.step.new.now c.args.self.now is c.step.ensures c.requires)
 
@@ -38,7 +38,7 @@ pub returns-after-made : goal.returns-after-made
 returns-after-made c =
     let i = c.self.inside in
     let r = c.in-None-Some.field-0-1 in
-    let is = told c.args.self.now i.worker i.port i.done i.done i.current None i.target (Some r) c.self.view_is refl c.in-None-Some.is-0 c.in-None-Some.is-1 in
+    let is = port_operation_told c.args.self.now i.worker i.port i.done i.done i.current None i.target (Some r) c.self.view_is refl c.in-None-Some.is-0 c.in-None-Some.is-1 in
     subst (λ o. IsTook c.args.self.now c.args.made c.args.reg.now (port_operation i.worker i.port true o i.target) c.match-made.reg) (sym c.in-None-Some.is-0)
     (subst (λ t. IsTook c.args.self.now c.args.made c.args.reg.now (port_operation i.worker i.port true None t) c.match-made.reg) (sym c.in-None-Some.is-1)
     (let made : (v : Vid) → c.args.made ≡ Some v → c.match-made.reg ≡ changed c.args.reg.now (name.Row (key.Port i.port)) (made_live (v ∷ [])) → IsTook c.args.self.now c.args.made c.args.reg.now (port_operation i.worker i.port true None (Some r)) c.match-made.reg =

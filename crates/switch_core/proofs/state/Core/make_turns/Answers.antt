@@ -3,7 +3,7 @@ use Rattle.std.specs.Map.{keys_of}
 use Rattle.settling_laws.proofs.Turned.{turned_empty, turned_more, turned_none, turned_still}
 use Rattle.switch_core.specs.Settled.{MakesTurn}
 use Rattle.switch_core.proofs.Chips.{keeps_itself, keeps_on}
-use Rattle.switch_core.proofs.Turns.{none_left, turn_fewer, turns_err, turns_faulted, turns_full, turns_short}
+use Rattle.switch_core.proofs.Turns.{empty_of_length, turn_fewer, turns_err, turns_faulted, turns_full, turns_short}
 use Rattle.switch_core.proofs.state.Core.make_turns.Goals as goal
 
 pub loop-left-init : goal.loop-left-init
@@ -59,4 +59,4 @@ pub returns : goal.returns
 returns g c = λ s is.
     let x = c.loop-left.invariant.0 s is in
     let left = c.loop-left.invariant.1 in
-    (c.count-left.ensures.order, turned_empty c.loop-left.turns c.args.self.now c.loop-left.self (g.C.Chip.state c.loop-left.chip) s x (none_left (keys_of c.loop-left.self.tables.ops) (omega (arith, c.loop-left-test.false, left))), c.loop-left.invariant.4)
+    (c.count-left.ensures.order, turned_empty c.loop-left.turns c.args.self.now c.loop-left.self (g.C.Chip.state c.loop-left.chip) s x (empty_of_length (keys_of c.loop-left.self.tables.ops) (omega (arith, c.loop-left-test.false, left))), c.loop-left.invariant.4)

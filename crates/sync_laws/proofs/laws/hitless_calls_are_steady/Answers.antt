@@ -1,7 +1,7 @@
 use Rattle.std.proofs.Common.{sym, ◌∙◌}
 use Rattle.order_laws.proofs.Ends.{steady-decided, steady-forwarded, steady-stays}
 use Rattle.sync_laws.proofs.Numbered.{apply-by_ties, tied-are}
-use Rattle.sync_laws.proofs.laws.hitless_applies_are_steady.Goals as goal
+use Rattle.sync_laws.proofs.laws.hitless_calls_are_steady.Goals as goal
 
 pub returns-clause-decided : goal.returns-clause-decided
 returns-clause-decided c = λ capacities made old view things plan front rest x e cut. steady-decided (apply-by_ties view x.planned x.free) front rest e (sym (tied-are view x.planned x.free) ∙ cut)

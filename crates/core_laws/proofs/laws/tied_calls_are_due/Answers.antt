@@ -2,7 +2,7 @@ use Rattle.chip_layout.specs.Renamed.{call_renamed}
 use Rattle.switch_machine.proofs.Kept.{legal-call}
 use Rattle.identifier_laws.specs.Identified.{tie_by}
 use Rattle.core_laws.proofs.Due.{names_tied, next_due}
-use Rattle.core_laws.proofs.laws.next_calls_are_due.Goals as goal
+use Rattle.core_laws.proofs.laws.tied_calls_are_due.Goals as goal
 
 pub returns-clause-due : goal.returns-clause-due
 returns-clause-due c = λ plan capacities names room flown rid s w x d is stands at begun told. next_due plan is capacities names room flown rid s stands w x at d begun told

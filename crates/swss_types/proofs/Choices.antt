@@ -1,0 +1,24 @@
+-- what is chosen by a test
+use Rattle.std.proofs.Common.{◌≡◌, Bool, true, false, cond, Option, None, Some, refl}
+
+-- what was chosen passes the test
+pub chosen : {A : Type 0} (b : Bool) (x y : A) → cond b (Some x) None ≡ Some y → (b ≡ true) × (x ≡ y)
+chosen true x y h = (refl, cc)
+chosen false x y h = cc
+
+pub chosen_none : {A : Type 0} (b : Bool) (x : A) → cond b (Some x) None ≡ None → b ≡ false
+chosen_none true x h = cc
+chosen_none false x h = refl
+
+-- two choices of which one hides the other
+pub by_equal : {X : Type 0} (b c : Bool) (v w : X) (rest : Option X) → c ≡ b → cond c (Some v) rest ≡ cond b (Some v) (cond c (Some w) rest)
+by_equal true true v w rest e = refl
+by_equal false false v w rest e = refl
+by_equal true false v w rest e = absurd cc
+by_equal false true v w rest e = absurd cc
+
+-- two choices that are not made at once
+pub by_greater : {X : Type 0} (b c : Bool) (v w : X) (rest : Option X) → (b ≡ true → c ≡ true → ⊥) → cond c (Some w) (cond b (Some v) rest) ≡ cond b (Some v) (cond c (Some w) rest)
+by_greater true true v w rest f = absurd (f refl refl)
+by_greater true false v w rest f = refl
+by_greater false c v w rest f = refl
