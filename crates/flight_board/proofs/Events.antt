@@ -1,5 +1,5 @@
 -- what follows in an event
-use Rattle.std.proofs.Common.{◌≡◌, inr, ℕ, ◌<◌, List, [], length, Option, None, Some, option_map, Result, Ok, Err, OnOk, OnErr, refl, sym, ap, subst, ◌∙◌}
+use Rattle.std.proofs.Common.{◌≡◌, inl, inr, ℕ, ◌<◌, List, [], length, Option, None, Some, option_map, Result, Ok, Err, OnOk, OnErr, refl, sym, ap, subst, ◌∙◌}
 use Rattle.std.specs.Prelude.{set}
 use Rattle.std.proofs.lemmas.List.{set-set}
 use Rattle.table_schema.specs.declared.key.Key.{Key}
@@ -7,6 +7,7 @@ use Rattle.table_schema.specs.Plan.{Ports}
 use Rattle.table_schema.specs.declared.row.Row.{Row}
 use Rattle.sai_types.specs.declared.ids.Vid.{Vid}
 use Rattle.switch_model.specs.declared.wait.Wait.{Wait}
+use Rattle.orch_flight.specs.Needing.{busy_for, crowded_for, holder_of, or_else}
 use Rattle.orch_flight.specs.Operation.{Operation}
 use Rattle.orch_flight.specs.Starting.{IsStartedBy, answered, begun_names, first_due, leaving}
 use Rattle.ref_counts.specs.Registry.{Names}
@@ -15,7 +16,7 @@ use Rattle.registry_laws.specs.Ending.{ended_names}
 use Rattle.registry_laws.specs.Flown.{Flown, due_for}
 use Rattle.registry_laws.specs.Making.{TookFor, with_group_begun}
 use Rattle.flight_board.specs.Applied.{Entries, HasSameRows, KeepsOthers, row_at}
-use Rattle.flight_board.specs.Board.{BoardState, FlightState, BoardFollows, IsBegunFor, IsPrepared, IsTakenFor, IsUnflown, flight_at, flight_on, operation_in}
+use Rattle.flight_board.specs.Board.{BoardState, FlightState, BoardFollows, IsBegunFor, IsHeldUp, IsPrepared, IsSameBoard, IsTakenFor, IsUnflown, flight_at, flight_on, operation_in}
 use Rattle.flight_board.proofs.Kept.{IsOperationOf, starts-as}
 use Rattle.flight_board.proofs.Places.{Under, on-other, on-same, set-same}
 
@@ -117,6 +118,15 @@ module _ (old mid new : BoardState) (used : List ℕ) (w : ℕ) (k : Key) (row :
 
   pub begun-err : (wait : Wait) → IsStartedBy old.plan old.names old.room used w k (row_at old.applied k) row (Err wait) new.names new.room → new.plan ≡ old.plan → HasSameRows old.applied new.applied → new.flights ≡ old.flights → IsBegunFor old used w k row (Err wait) new
   begun-err wait h plan rows flights = (record { plan = plan; names = h.1; room = h.2; flights = flights; rows = rows }, inr (free, h.0))
+
+-- a key that is held up waits, and nothing changes
+pub held-up : (b : BoardState) (used : List ℕ) (w : ℕ) (k : Key) (row : Option Row) (reason : Wait) → IsHeldUp b k row reason → IsBegunFor b used w k row (Err reason) b
+held-up b used w k row reason h =
+    let same : IsSameBoard b b = record { plan = refl; names = refl; room = refl; flights = refl; rows = λ q. refl } in
+    elim h [
+      | inl other ↦ (same, inl other)
+      | inr missing ↦ (same, inr (missing.0, ap (λ o. or_else o (or_else (holder_of b.names k row) (or_else (busy_for b.plan b.names w k row) (crowded_for b.plan b.names b.room used k (row_at b.applied k) row)))) missing.1))
+    ]
 
 -- ---- an answer
 

@@ -13,7 +13,7 @@ use Rattle.ref_counts.specs.Registry.{Names}
 use Rattle.ref_counts.specs.Room.{GivesBack, RoomState, all_free}
 use Rattle.orch_flight.specs.Calling.{IsOver}
 use Rattle.orch_flight.specs.Grouping.{GroupOperation, IsGroupOver}
-use Rattle.orch_flight.specs.Needing.{wait_of}
+use Rattle.orch_flight.specs.Needing.{missing_for, wait_of}
 use Rattle.orch_flight.specs.Operation.{Operation}
 use Rattle.orch_flight.specs.Sharing.{owners_of}
 use Rattle.orch_flight.specs.Starting.{IsStartedBy}
@@ -126,6 +126,10 @@ pub record IsSameBoard (old new : BoardState) : Type 0 where
   pub room : new.room ≡ old.room
   pub flights : new.flights ≡ old.flights
   pub rows : (q : Key) → row_at new.applied q ≡ row_at old.applied q
+
+-- a key has to wait: for the worker whose operation has it, or for a key that its new row names and that is not applied
+abbrev pub IsHeldUp : BoardState → Key → Option Row → Wait → Type 0
+IsHeldUp b k row reason = ((v : ℕ) × IsFlownAt b k v × (reason ≡ wait.Busy v)) ⊎ (IsUnflown b k × (missing_for b.names k row ≡ Some reason))
 
 -- the operation of a key begins, or the key waits and nothing changes: for the worker whose operation has it, or for the first reason that the registry and the room tell
 abbrev pub IsBegunFor : BoardState → List ℕ → ℕ → Key → Option Row → Result (Unit {0}) Wait → BoardState → Type 0

@@ -1,21 +1,23 @@
 // The board.
 ghost use Rattle.std.specs.Prelude.{◌≡◌, ◌<◌, ◌↔◌, Some, None, IsSome, IsTrue, option_map, IfOk, IfSome, IfNone, OnOk, OnErr};
+ghost use Rattle.orch_flight.specs.Needing.{first_unapplied};
 ghost use Rattle.orch_flight.specs.Sharing.{MayStart};
 ghost use Rattle.registry_laws.specs.Flown.{Flown};
 ghost use Rattle.registry_laws.specs.Making.{IsNextCall, MayTakeFor};
 ghost use Rattle.flight_board.specs.Applied.{row_at};
-ghost use Rattle.flight_board.specs.Board.{BoardFollows, IsBegunFor, IsFlownAt, IsKeptFlight, IsPrepared, IsCallReady, IsSameBoard, IsTakenFor, IsUnflown, flight_at, flown_at, new_board};
+ghost use Rattle.flight_board.specs.Board.{BoardFollows, IsBegunFor, IsFlownAt, IsHeldUp, IsKeptFlight, IsPrepared, IsCallReady, IsSameBoard, IsTakenFor, IsUnflown, flight_at, flown_at, new_board};
 
 use crate::applied::AppliedRows;
 use crate::flight::Flight;
 use crate::workers::Workers;
+use orch_flight::unapplied;
 use ref_counts::{Registry, Room};
 use sai_types::{Call, Caps, Vid};
 use std::alloc::Global;
 use std::marker::Model;
 use switch_model::Wait;
 use swss_types::OutOfMemory;
-use table_schema::{Key, PortPlan, Row};
+use table_schema::{Key, PortPlan, Row, names};
 
 /// The rows that are applied, and the operations of up to four workers, which know names, users, pins and places, and no chip.
 #[derive(Drop)]
@@ -99,8 +101,8 @@ impl Board {
         ensures begun { IfOk result (λ answer. IsBegunFor self.old used.now worker key.now new answer self.new) }
         ensures err { OnErr result (IsSameBoard self.old self.new) }
     {
-        if let Some(other) = self.workers.worker_of(key) {
-            return Ok(Err(Wait::Busy(other)));
+        if let Some(wait) = self.first_wait(key, &new)? {
+            return Ok(Err(wait));
         }
         self.applied.keep_place(key)?;
         match Flight::start(
@@ -126,6 +128,34 @@ impl Board {
                 self.applied.forget_place(key);
                 Err(error)
             }
+        }
+    }
+
+    /// Why a key has to wait, as far as that is found before anything is kept for it: for the worker whose operation has the
+    /// key, or for the first key that its new row names, where that is not applied.
+    fn first_wait(&self, key: &Key, new: &Option<Row>) -> Result<Option<Wait>, OutOfMemory>
+        ensures some { IfOk result (λ wait. IfSome wait (λ wait. IsHeldUp self.now key.now new.now wait)) }
+        ensures none { IfOk result (λ wait. IfNone wait (IsUnflown self.now key.now)) }
+    {
+        if let Some(other) = self.workers.worker_of(key) {
+            return Ok(Some(Wait::Busy(other)));
+        }
+        let Some(row) = new else {
+            return Ok(None);
+        };
+        match self.first_unapplied(names(self.alloc, key, row)?.as_slice())? {
+            Some(missing) => Ok(Some(Wait::Missing(missing))),
+            None => Ok(None),
+        }
+    }
+
+    /// The first of some keys, where it is not applied.
+    fn first_unapplied(&self, keys: &[Key]) -> Result<Option<Key>, OutOfMemory>
+        ensures { IfOk result (λ key. IfSome key (λ key. first_unapplied self.now.names keys.now ≡ Some key)) }
+    {
+        match keys {
+            [] => Ok(None),
+            [first, ..] => unapplied(&self.registry, first),
         }
     }
 

@@ -28,10 +28,7 @@ pub fn begin(
     ensures ok { OnOk result (reg.new ≡ begun_by reg.old worker key.now keys.now applied shared.now (lacks_shared reg.old shared.now)) }
     ensures err { OnErr result (reg.new ≡ reg.old) }
 {
-    match reg.pin(worker, key, keys)? {
-        Ok(()) => {}
-        Err(_) => unreachable!(),
-    }
+    reg.pin_live(worker, key, keys)?;
     if let Err(error) = begin_row(reg, worker, key, applied, shared) {
         reg.release(worker, false);
         return Err(error);

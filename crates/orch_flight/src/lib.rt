@@ -9,5 +9,6 @@ mod starting;
 mod undoing;
 
 pub use leaving::{leave, try_remove, vid};
+pub use reasons::unapplied;
 pub use sharing::{base_of, bridge_of, lane_of, own_of, shared};
 pub use starting::{lacks, start_row};

@@ -1,5 +1,5 @@
 // Why a row has to wait.
-ghost use Rattle.std.specs.Prelude.{◌≡◌, ◌++◌, map, IfOk};
+ghost use Rattle.std.specs.Prelude.{◌≡◌, [], ◌∷◌, ◌++◌, map, None, Some, IfOk, IfErr, OnOk};
 ghost use Rattle.ref_counts.specs.Registered.{lesser};
 ghost use Rattle.ref_counts.specs.Registry.{owner_in, state_of};
 ghost use Rattle.orch_flight.specs.Needing.{first_unapplied, least_of, row_reason, workers_on};
@@ -22,47 +22,50 @@ pub fn reason(
 ) -> Result<Option<Wait>, OutOfMemory>
     ensures { IfOk result (λ wait. wait ≡ row_reason reg.now room.now used.now keys.now (to_list shared.now) need.now) }
 {
-    if let Some(key) = first_unapplied(reg, keys)? {
-        return Ok(Some(Wait::Missing(key)));
-    }
-    if let Some(worker) = least_on(reg, keys, shared)? {
-        return Ok(Some(Wait::Busy(worker)));
-    }
-    match room.lacking(need, used) {
-        Some(kind) => Ok(Some(Wait::NoRoom(kind))),
-        None => Ok(None),
-    }
-}
-
-/// The first of some keys that is not applied.
-fn first_unapplied(reg: &Registry, keys: &[Key]) -> Result<Option<Key>, OutOfMemory>
-    ensures { IfOk result (λ key. key ≡ first_unapplied reg.now keys.now) }
-{
-    match keys {
-        [] => Ok(None),
-        [key, others @ ..] => match reg.state(&Name::Row(key.copy()?)) {
-            NameState::Live | NameState::Retiring(_) => first_unapplied(reg, others),
-            NameState::Absent | NameState::Building(_) => Ok(Some(key.copy()?)),
+    match least_on(reg, keys, shared)? {
+        Err(key) => Ok(Some(Wait::Missing(key))),
+        Ok(Some(worker)) => Ok(Some(Wait::Busy(worker))),
+        Ok(None) => match room.lacking(need, used) {
+            Some(kind) => Ok(Some(Wait::NoRoom(kind))),
+            None => Ok(None),
         },
     }
 }
 
-/// The least worker whose operation builds the rows of some keys and what is shared, or takes them away.
-fn least_on(reg: &Registry, keys: &[Key], shared: &Option<Name>) -> Result<Option<u32>, OutOfMemory>
-    ensures { IfOk result (λ worker. worker ≡ least_of (workers_on reg.now (map Name.Row keys.now ++ to_list shared.now))) }
+/// A key, where it is not applied.
+pub fn unapplied(reg: &Registry, key: &Key) -> Result<Option<Key>, OutOfMemory>
+    ensures { IfOk result (λ found. found ≡ first_unapplied reg.now (key.now ∷ [])) }
+{
+    match reg.state(&Name::Row(key.copy()?)) {
+        NameState::Live | NameState::Retiring(_) => Ok(None),
+        NameState::Absent | NameState::Building(_) => Ok(Some(key.copy()?)),
+    }
+}
+
+/// The least worker whose operation builds the rows of some keys and what is shared, or takes them away. Err is the first of
+/// the keys that is not applied. Each name is looked up once.
+fn least_on(
+    reg: &Registry,
+    keys: &[Key],
+    shared: &Option<Name>,
+) -> Result<Result<Option<u32>, Key>, OutOfMemory>
+    ensures applied { IfOk result (λ found. OnOk found (first_unapplied reg.now keys.now ≡ None)) }
+    ensures least { IfOk result (λ found. IfOk found (λ worker. worker ≡ least_of (workers_on reg.now (map Name.Row keys.now ++ to_list shared.now)))) }
+    ensures unapplied { IfOk result (λ found. IfErr found (λ key. first_unapplied reg.now keys.now ≡ Some key)) }
 {
     match keys {
         [] => match shared {
-            Some(name) => Ok(worker_on(reg, name)),
-            None => Ok(None),
+            Some(name) => Ok(Ok(worker_on(reg, name))),
+            None => Ok(Ok(None)),
         },
-        [key, others @ ..] => {
-            let least = least_on(reg, others, shared)?;
-            match worker_on(reg, &Name::Row(key.copy()?)) {
-                Some(worker) => Ok(Some(lesser(worker, least))),
-                None => Ok(least),
-            }
-        }
+        [key, others @ ..] => match reg.state(&Name::Row(key.copy()?)) {
+            NameState::Live => least_on(reg, others, shared),
+            NameState::Retiring(worker) => match least_on(reg, others, shared)? {
+                Ok(least) => Ok(Ok(Some(lesser(worker, least)))),
+                Err(key) => Ok(Err(key)),
+            },
+            NameState::Absent | NameState::Building(_) => Ok(Err(key.copy()?)),
+        },
     }
 }
 

@@ -18,10 +18,7 @@ pub fn begin_build(
     ensures ok { OnOk result (reg.new ≡ insert_entry name_cmp reg.old name (begun worker vids)) }
     ensures err { OnErr result (reg.new ≡ reg.old) }
 {
-    match reg.start_build(worker, name, vids)? {
-        Ok(()) => Ok(()),
-        Err(_) => unreachable!(),
-    }
+    reg.start_absent(worker, name, vids)
 }
 
 /// Takes back that the building of a name began which was absent.

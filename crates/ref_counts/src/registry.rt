@@ -87,6 +87,17 @@ impl Registry {
         if let Some(key) = self.first_missing(names)? {
             return Ok(Err(Missing(key)));
         }
+        self.pin_live(worker, user, names)?;
+        Ok(Ok(()))
+    }
+
+    /// Pins the rows of some keys that are all live, as `pin` does once it has found none that is not.
+    pub fn pin_live(&mut self, worker: u32, user: &Key, names: &[Key]) -> Result<(), OutOfMemory>
+        requires readable { IsReadable user.now }
+        requires live { first_missing self.old names.now ≡ None }
+        ensures ok { OnOk result (self.new ≡ pinned self.old worker user.now names.now) }
+        ensures err { OnErr result (self.new ≡ self.old) }
+    {
         pin_all(
             self.alloc,
             &mut self.names,
@@ -94,8 +105,7 @@ impl Registry {
             worker,
             user,
             names,
-        )?;
-        Ok(Ok(()))
+        )
     }
 
     /// Gives up all pins of a worker. Where they are used, the key that each was made for then uses its name.
@@ -127,9 +137,19 @@ impl Registry {
             NameState::Live => unreachable!(),
             NameState::Absent => {}
         }
+        self.start_absent(worker, name, vids)?;
+        Ok(Ok(()))
+    }
+
+    /// Begins the building of a name that is absent, as `start_build` does once it has found that it is.
+    pub fn start_absent(&mut self, worker: u32, name: Name, vids: u64) -> Result<(), OutOfMemory>
+        requires { state_of self.old name ≡ NameState.Absent }
+        ensures ok { OnOk result (self.new ≡ insert_entry name_cmp self.old name (begun worker vids)) }
+        ensures err { OnErr result (self.new ≡ self.old) }
+    {
         let registration = Registration::begun(self.alloc, worker, vids)?;
         self.names.insert(name, registration)?;
-        Ok(Ok(()))
+        Ok(())
     }
 
     /// Makes a name live that the worker builds, with its identifiers: of a group first its own, and then those of its

@@ -1,14 +1,23 @@
--- the order of events
+-- the order of events, and that reasons that compare equal are equal
 use Rattle.std.proofs.Common.{◌≡◌, true, refl, sym, ap, ◌∙◌}
 use Rattle.std.specs.BTreeMap.{is_at}
 use Rattle.std.specs.Cmp.{IsTotalOrder}
+use Rattle.std.proofs.lemmas.Bool.{eqb-true, false≢true}
 use Rattle.std.proofs.lemmas.Cmp.{eq_by_cmp_equiv}
 use Rattle.std.proofs.lemmas.Map.Lookups.{CmpEqualImpliesEq, exact_unsigned}
 use Rattle.swss_types.proofs.Tied.{tied}
+use Rattle.table_schema.specs.Key.{key_cmp}
+use Rattle.table_schema.specs.declared.key.Key.{Key}
+use Rattle.table_schema.specs.contracts.key.KeyPartialEq.TheImpl as key_eq
+use Rattle.table_schema.specs.contracts.key.KeyOrd.TheImpl.Laws as key_laws
 use Rattle.table_schema.proofs.Keys.{key_exact}
+use Rattle.switch_model.specs.declared.wait.Wait.{Wait}
+use Rattle.switch_model.specs.declared.wait.Wait.TheVariants as wait
+use Rattle.switch_model.specs.contracts.wait.WaitPartialEq.TheImpl as wait_eq
 use Rattle.sai_types.specs.declared.kind.Kind.{Kind}
 use Rattle.sai_types.specs.declared.kind.Kind.TheVariants as kind
 use Rattle.sai_types.specs.contracts.kind.KindOrd.TheImpl as kind_ord
+use Rattle.sai_types.specs.contracts.kind.KindOrd.TheImpl.Laws as kind_laws
 use Rattle.retry_list.specs.declared.event.Event.{Event}
 use Rattle.retry_list.specs.declared.event.Event.TheVariants.{Applied, Gone, Freed, Ended}
 use Rattle.retry_list.specs.contracts.event.EventOrd.TheImpl.Laws as event_laws
@@ -47,3 +56,14 @@ event-itself e = (eq_by_cmp_equiv event_total).refl e
 
 pub event-turned : (e f : Event) → is_at (event_cmp e) f ≡ is_at (event_cmp f) e
 event-turned e f = (eq_by_cmp_equiv event_total).symm e f
+
+same-key : (k j : Key) → key_eq.ghosts.eq k j ≡ true → k ≡ j
+same-key k j h = key_exact k j (tied (key_cmp k j) (sym (key_laws.matches_eq-law k j) ∙ h))
+
+-- reasons that compare equal are equal
+pub wait_exact : (w v : Wait) → wait_eq.ghosts.eq w v ≡ true → w ≡ v
+wait_exact (wait.Missing k) (wait.Missing j) h = ap wait.Missing (same-key k j h)
+wait_exact (wait.Held k) (wait.Held j) h = ap wait.Held (same-key k j h)
+wait_exact (wait.NoRoom a) (wait.NoRoom b) h = ap wait.NoRoom (kind_exact a b (tied (kind_ord.ghosts.cmp a b) (sym (kind_laws.matches_eq-law a b) ∙ h)))
+wait_exact (wait.Busy m) (wait.Busy n) h = ap wait.Busy (eqb-true m n h)
+wait_exact _ _ h = absurd (false≢true h)

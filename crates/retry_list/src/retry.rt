@@ -1,5 +1,5 @@
 // The list of the rows that wait.
-ghost use Rattle.std.specs.Prelude.{◌≡◌, ◌≤◌, [], length, IfOk, IsOkAnd, OnOk, OnErr, option_map, vec_capacity};
+ghost use Rattle.std.specs.Prelude.{◌≡◌, ◌≤◌, [], length, IfOk, IsOkAnd, IsTrue, OnOk, OnErr, option_map, vec_capacity};
 ghost use Rattle.std.specs.List.Sorted.{IsStrictlySortedBy};
 ghost use Rattle.table_schema.specs.Fields.{HasRisingKeys};
 ghost use Rattle.table_schema.specs.Key.{key_cmp};
@@ -106,6 +106,9 @@ fn put(
     ensures err { OnErr result (reasons.new.entries ≡ reasons.old.entries) }
     ensures indexed { IsIndexed reasons.new.entries index.new }
 {
+    if has(reasons, &key, &wait) {
+        return Ok(());
+    }
     let event = Event::of(wait.copy()?);
     let name = key.copy()?;
     index.file(event.copy()?, name.copy()?)?;
@@ -119,6 +122,18 @@ fn put(
             index.unfile(&event, &name);
             Err(OutOfMemory)
         }
+    }
+}
+
+/// Whether a key has this reason already. To put it once more changes nothing.
+fn has(reasons: &BTreeMap<Key, Wait>, key: &Key, wait: &Wait) -> bool
+    ensures { IsTrue result → with_reason reasons.now.entries key.now wait.now ≡ reasons.now.entries }
+{
+    // It says that the keys rise.
+    let _rising = reasons.len();
+    match reasons.get(key) {
+        Some(own) => own == wait,
+        None => false,
     }
 }
 

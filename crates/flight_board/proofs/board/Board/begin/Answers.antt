@@ -1,4 +1,4 @@
-use Rattle.std.proofs.Common.{◌≡◌, ◌<◌, ℕ, Ok, Err, IfOk, None, refl, sym, subst, ◌∙◌}
+use Rattle.std.proofs.Common.{◌≡◌, ◌<◌, ℕ, Ok, Err, IfOk, IfNone, None, refl, sym, subst, ◌∙◌}
 use Rattle.orch_flight.specs.Sharing.{MayStart}
 use Rattle.flight_board.specs.Applied.{row_at}
 use Rattle.flight_board.specs.Board.{BoardState, HasKeyAt, IsFlightBegun, IsBegunFor, IsUnflown, flight_on, flown_at}
@@ -10,14 +10,16 @@ use Rattle.flight_board.proofs.board.Board.begin.Goals as goal
 pub start-requires : goal.start-requires
 start-requires c =
     let i = c.self.inside in
+    let free = subst (λ z. IsUnflown z c.args.key.now) (sym c.self.view_is) (subst (λ o. IfNone o (IsUnflown c.args.self.now c.args.key.now)) c.in_default.is c.in_ok-wait.ensures.none) in
     let k = c.args.key.now in
-    let may = subst (λ z. IsUnflown z k → MayStart z.plan z.names c.args.worker k (row_at z.applied k) c.args.new) (sym c.self.view_is) c.requires.may c.in_default.ensures.none in
+    let may = subst (λ z. IsUnflown z k → MayStart z.plan z.names c.args.worker k (row_at z.applied k) c.args.new) (sym c.self.view_is) c.requires.may free in
     record { may = subst (λ o. MayStart i.plan i.registry c.args.worker k o c.args.new) (sym (c.row.ensures ∙ c.in_ok-keep_place.ensures.rows k)) may }
 
 pub invariant_of-self-in-Ok-Ok : goal.invariant_of-self-in-Ok-Ok
 invariant_of-self-in-Ok-Ok c =
     let i = c.self.inside in
-    kept-moved i.plan i.applied c.keep_place.new.self i.workers c.args.key.now c.in_ok-keep_place.ensures.others c.in_default.ensures.none c.self.invariant
+    let free = subst (λ z. IsUnflown z c.args.key.now) (sym c.self.view_is) (subst (λ o. IfNone o (IsUnflown c.args.self.now c.args.key.now)) c.in_default.is c.in_ok-wait.ensures.none) in
+    kept-moved i.plan i.applied c.keep_place.new.self i.workers c.args.key.now c.in_ok-keep_place.ensures.others free c.self.invariant
 
 pub go_on-requires-clause-worker : goal.go_on-requires-clause-worker
 go_on-requires-clause-worker c =
@@ -51,27 +53,29 @@ go_on-requires-clause-none c =
 pub go_on-requires-clause-unflown : goal.go_on-requires-clause-unflown
 go_on-requires-clause-unflown c =
     let i = c.self.inside in
+    let free = subst (λ z. IsUnflown z c.args.key.now) (sym c.self.view_is) (subst (λ o. IfNone o (IsUnflown c.args.self.now c.args.key.now)) c.in_default.is c.in_ok-wait.ensures.none) in
     let k = c.args.key.now in
     let f = c.in-Ok-Ok.flight in
     let h = started_operation_told i.plan i.registry i.room c.args.used.now c.args.worker k c.args.new c.start.new.reg c.start.new.room _ (row_at i.applied k) c.in-Ok-Ok.field-0 (Ok f) (c.row.ensures ∙ c.in_ok-keep_place.ensures.rows k) c.in-Ok-Ok.field-0-is c.in-Ok-Ok.ensures.started in
     let is = operation-is i.plan i.registry i.room c.args.used.now c.args.worker k c.args.new c.start.new.reg c.start.new.room (row_at i.applied k) f.flown.operation h in
-    subst (λ q. (v : ℕ) → HasKeyAt i.workers q v → ⊥) (sym is.key) c.in_default.ensures.none
+    subst (λ q. (v : ℕ) → HasKeyAt i.workers q v → ⊥) (sym is.key) free
 
 pub invariant_of-self-in-Ok-Err : goal.invariant_of-self-in-Ok-Err
 invariant_of-self-in-Ok-Err c =
     let i = c.self.inside in
-    let free = c.in_default.ensures.none in
+    let free = subst (λ z. IsUnflown z c.args.key.now) (sym c.self.view_is) (subst (λ o. IfNone o (IsUnflown c.args.self.now c.args.key.now)) c.in_default.is c.in_ok-wait.ensures.none) in
     kept-moved i.plan c.keep_place.new.self c.forget_place.new.self i.workers c.args.key.now c.forget_place.ensures.others free (kept-moved i.plan i.applied c.keep_place.new.self i.workers c.args.key.now c.in_ok-keep_place.ensures.others free c.self.invariant)
 
 pub invariant_of-self-in-Err : goal.invariant_of-self-in-Err
 invariant_of-self-in-Err c =
     let i = c.self.inside in
-    let free = c.in_default.ensures.none in
+    let free = subst (λ z. IsUnflown z c.args.key.now) (sym c.self.view_is) (subst (λ o. IfNone o (IsUnflown c.args.self.now c.args.key.now)) c.in_default.is c.in_ok-wait.ensures.none) in
     kept-moved i.plan c.keep_place.new.self c.forget_place-in-Err.new.self i.workers c.args.key.now c.forget_place-in-Err.ensures.others free (kept-moved i.plan i.applied c.keep_place.new.self i.workers c.args.key.now c.in_ok-keep_place.ensures.others free c.self.invariant)
 
 pub returns-in-Ok-Ok-clause-begun : goal.returns-in-Ok-Ok-clause-begun
 returns-in-Ok-Ok-clause-begun c =
     let i = c.self.inside in
+    let free = subst (λ z. IsUnflown z c.args.key.now) (sym c.self.view_is) (subst (λ o. IfNone o (IsUnflown c.args.self.now c.args.key.now)) c.in_default.is c.in_ok-wait.ensures.none) in
     let k = c.args.key.now in
     let f = c.in-Ok-Ok.flight in
     let h = started_operation_told i.plan i.registry i.room c.args.used.now c.args.worker k c.args.new c.start.new.reg c.start.new.room _ (row_at i.applied k) c.in-Ok-Ok.field-0 (Ok f) (c.row.ensures ∙ c.in_ok-keep_place.ensures.rows k) c.in-Ok-Ok.field-0-is c.in-Ok-Ok.ensures.started in
@@ -80,14 +84,15 @@ returns-in-Ok-Ok-clause-begun c =
     let old : BoardState = record { plan = i.plan; names = i.registry; room = i.room; applied = i.applied; flights = i.workers } in
     let mid : BoardState = record { plan = i.plan; names = c.start.new.reg; room = c.start.new.room; applied = c.keep_place.new.self; flights = i.workers } in
     subst (λ z. IsBegunFor z c.args.used.now c.args.worker k c.args.new (Ok tt) c.go_on.new.self) c.self.view_is
-    (begun-ok old mid c.go_on.new.self c.args.used.now c.args.worker k c.args.new c.in_default.ensures.none f h begun.group is.worker refl c.in_ok-keep_place.ensures.rows refl c.go_on.ensures)
+    (begun-ok old mid c.go_on.new.self c.args.used.now c.args.worker k c.args.new free f h begun.group is.worker refl c.in_ok-keep_place.ensures.rows refl c.go_on.ensures)
 
 pub returns-in-Ok-Err-clause-begun : goal.returns-in-Ok-Err-clause-begun
 returns-in-Ok-Err-clause-begun c =
     let i = c.self.inside in
+    let free = subst (λ z. IsUnflown z c.args.key.now) (sym c.self.view_is) (subst (λ o. IfNone o (IsUnflown c.args.self.now c.args.key.now)) c.in_default.is c.in_ok-wait.ensures.none) in
     let k = c.args.key.now in
     let h = started_operation_told i.plan i.registry i.room c.args.used.now c.args.worker k c.args.new c.start.new.reg c.start.new.room _ (row_at i.applied k) c.in-Ok-Err.field-0 (Err c.in-Ok-Err.wait) (c.row.ensures ∙ c.in_ok-keep_place.ensures.rows k) c.in-Ok-Err.field-0-is c.in-Ok-Err.ensures.started in
     let old : BoardState = record { plan = i.plan; names = i.registry; room = i.room; applied = i.applied; flights = i.workers } in
     let new : BoardState = record { plan = i.plan; names = c.start.new.reg; room = c.start.new.room; applied = c.forget_place.new.self; flights = i.workers } in
     subst (λ z. IsBegunFor z c.args.used.now c.args.worker k c.args.new (Err c.in-Ok-Err.wait) new) c.self.view_is
-    (begun-err old new new c.args.used.now c.args.worker k c.args.new c.in_default.ensures.none c.in-Ok-Err.wait h refl (λ q. c.forget_place.ensures.rows q ∙ c.in_ok-keep_place.ensures.rows q) refl)
+    (begun-err old new new c.args.used.now c.args.worker k c.args.new free c.in-Ok-Err.wait h refl (λ q. c.forget_place.ensures.rows q ∙ c.in_ok-keep_place.ensures.rows q) refl)

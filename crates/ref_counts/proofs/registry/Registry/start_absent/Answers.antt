@@ -2,7 +2,7 @@ use Rattle.std.proofs.Common.{◌≡◌, ap, rules}
 use Rattle.std.specs.BTreeMap.{insert_entry}
 use Rattle.ref_counts.specs.Registry.{name_cmp}
 use Rattle.ref_counts.proofs.Noting.{noted-put}
-use Rattle.ref_counts.proofs.registry.Registry.start_build.Goals as goal
+use Rattle.ref_counts.proofs.registry.Registry.start_absent.Goals as goal
 
 pub invariant_of-self-2 : goal.invariant_of-self-2
 invariant_of-self-2 c =
