@@ -4,4 +4,3 @@ pub mod Naming
 pub mod Owners
 pub mod Split
 pub mod Worked
-pub mod WorkedDue

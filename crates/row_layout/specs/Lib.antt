@@ -1,4 +1,3 @@
-pub mod Due
 pub mod Operations
 pub mod Rows
 pub mod Shared

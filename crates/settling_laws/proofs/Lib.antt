@@ -4,5 +4,4 @@ pub mod Popping
 pub mod Walking
 pub mod Turning
 pub mod Turned
-pub mod Listing
 pub mod Settling

@@ -1,8 +1,6 @@
 // The parts of a settling, one step more each time. Each function is a law: it does nothing, and its contract is proved.
-ghost use Rattle.std.specs.Prelude.{◌≡◌, ◌+◌, ◌<◌, ◌++◌, ℕ, List, [], ◌∷◌, length, map, None, Some};
+ghost use Rattle.std.specs.Prelude.{◌≡◌, ◌+◌, ◌<◌, ◌++◌, ℕ, List, [], ◌∷◌, length, None, Some};
 ghost use Rattle.std.specs.Map.{keys_of};
-ghost use Rattle.table_schema.specs.Fields.{HasRisingKeys};
-ghost use Rattle.table_schema.specs.Key.{key_cmp};
 ghost use Rattle.table_schema.specs.declared.key.Key.{Key};
 ghost use Rattle.sai_types.specs.declared.body.Call.{Call};
 ghost use Rattle.sai_types.specs.declared.ids.Rid.{Rid};
@@ -19,7 +17,6 @@ ghost use Rattle.switch_machine.specs.Events.{IsAnswer, IsBegin, IsDrop, IsPop};
 ghost use Rattle.switch_machine.specs.Reasons.{IsReason};
 ghost use Rattle.machine_laws.specs.Logged.{ListsKey};
 ghost use Rattle.restart_laws.specs.Logged.{LoggedService};
-ghost use Rattle.flight_board.specs.Applied.{row_at};
 ghost use Rattle.session_laws.specs.Core.{CoreState, mark_at};
 ghost use Rattle.session_laws.specs.Events.{HaveReasons, IsMachineStep, MakesOne, MakesSome};
 ghost use Rattle.session_laws.specs.Standing.{IsSessionOf};
@@ -71,15 +68,6 @@ pub fn turns_follow()
     ensures more { (n : ℕ) (left : List Key) (c c' c'' : CoreState) (chip' chip'' : ChipState) (s : LoggedService) (x : IsTurned n c s c' chip') (y : IsTurning (keys_of c'.tables.ops) c' x.later left [] c'' chip'') → length (keys_of c''.tables.ops) < length (keys_of c'.tables.ops) → IsTurned (n + 1) c s c'' chip'' }
     ensures still { (n : ℕ) (left : List Key) (c c' c'' : CoreState) (chip' chip'' : ChipState) (s : LoggedService) (x : IsTurned n c s c' chip') (y : IsTurning (keys_of c'.tables.ops) c' x.later left [] c'' chip'') → 0 < length (keys_of c'.tables.ops) → length (keys_of c''.tables.ops) ≡ length (keys_of c'.tables.ops) → TurnsTo (n + 1) c s c'' chip'' }
     ensures empty { (n : ℕ) (c c' : CoreState) (chip' : ChipState) (s : LoggedService) → IsTurned n c s c' chip' → keys_of c'.tables.ops ≡ [] → TurnsTo n c s c' chip' }
-{}
-
-/// The list of those that wait, with their applied rows, can be marked: it has each key to sync with a true reason, and no other.
-pub fn marks_list_what_waits()
-    ensures reasons { (n : ℕ) (c c' : CoreState) (chip' : ChipState) (s : LoggedService) (x : TurnsTo n c s c' chip') (waits : Waiting) → HasRisingKeys key_cmp c'.waiting → ((k : Key) → IsIn k (keys_of c'.waiting) → IsIn k (keys_of c'.tables.ops)) → waits ≡ map (λ (e : Key × Wait). (e.0, e.1, row_at c'.board.applied e.0)) c'.waiting → HaveReasons c' x.later.service.core waits }
-    ensures all { (n : ℕ) (c c' : CoreState) (chip' : ChipState) (s : LoggedService) (x : TurnsTo n c s c' chip') (waits : Waiting) (k : Key) → waits ≡ map (λ (e : Key × Wait). (e.0, e.1, row_at c'.board.applied e.0)) c'.waiting → IsIn k (keys_of c'.tables.ops) → ListsKey k waits }
-    ensures only { (c' : CoreState) (waits : Waiting) (k : Key) → waits ≡ map (λ (e : Key × Wait). (e.0, e.1, row_at c'.board.applied e.0)) c'.waiting → ListsKey k waits → IsIn k (keys_of c'.waiting) }
-    ensures order { (c' : CoreState) (waits : Waiting) → HasRisingKeys key_cmp c'.waiting → waits ≡ map (λ (e : Key × Wait). (e.0, e.1, row_at c'.board.applied e.0)) c'.waiting → marks.AreInOrder waits }
-    ensures as_many { (n : ℕ) (c c' : CoreState) (chip' : ChipState) (s : LoggedService) (x : TurnsTo n c s c' chip') → HasRisingKeys key_cmp c'.waiting → AreOpsInOrder c'.tables.ops → ((k : Key) → IsIn k (keys_of c'.waiting) → IsIn k (keys_of c'.tables.ops)) → length c'.waiting ≡ length c'.tables.ops }
 {}
 
 /// A settling ends at its mark: answers until no worker has anything under way, pops until no write waits, turns until no more are made,

@@ -5,6 +5,5 @@
 mod laws;
 
 pub use laws::{
-    leads_are_steps, marks_list_what_waits, pops_go_on, runs_go_on, settlings_end, turns_follow,
-    turns_go_on, walks_go_on,
+    leads_are_steps, pops_go_on, runs_go_on, settlings_end, turns_follow, turns_go_on, walks_go_on,
 };

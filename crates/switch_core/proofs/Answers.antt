@@ -10,7 +10,7 @@ use Rattle.sai_types.specs.declared.ids.Rid.{Rid}
 use Rattle.sai_types.specs.declared.ids.Vid.{Vid}
 use Rattle.sai_types.specs.ChipState.{ChipState}
 use Rattle.swss_types.specs.declared.out_of_memory.OutOfMemory.{OutOfMemory}
-use Rattle.switch_model.specs.History.{History}
+use Rattle.switch_model.specs.History.{History, no_history}
 use Rattle.switch_model.specs.declared.mark.Mark.{Mark}
 use Rattle.switch_model.specs.declared.mark.MarkEvent.TheVariants as event
 use Rattle.chip_layout.specs.Renamed.{call_renamed}
@@ -41,13 +41,13 @@ use Rattle.switch_core.proofs.Chips.{keeps_answered, one_more_effect}
 pub kept_flights : (w : ℕ) (x : Flown) (made : Option Vid) (b b' : BoardState) → flown_at b w ≡ Some x → IsTakenFor b w made b' → KeepsFlights w b b'
 kept_flights w x made b b' there taken v apart = let y = taken x there in ap (option_map (λ (f : FlightState). f.flown)) (y.3.others.flights v apart)
 
-module _ (s : LoggedService) (w : ℕ) (c : CoreState) (chip : ChipState) (is : IsSessionOf c chip s) (at : c.warm ≡ warm.Reconciled) (x : Flown) (there : flown_at c.board w ≡ Some x) (begun : HasBegun c.board.plan c.board.names x) (call : Call Vid) (told : IsNextCall c.board.plan c.board.names x.operation x.group call) (room : IsFullFor c (length chip.effects) 2 → ⊥) (y : SyncState) (chip' : ChipState) (m : Mark) where
-  -- with the place for a mark
-  abbrev beside : Bool → CoreState
-  beside ends = record c { log = with_fault ends c.log m; sync = y }
+module _ (s : LoggedService) (w : ℕ) (c : CoreState) (chip : ChipState) (is : IsSessionOf c chip s) (at : c.warm ≡ warm.Reconciled) (x : Flown) (there : flown_at c.board w ≡ Some x) (begun : HasBegun c.board.plan c.board.names x) (call : Call Vid) (told : IsNextCall c.board.plan c.board.names x.operation x.group call) (room : IsFullFor c (length chip.effects) 2 → ⊥) (y : SyncState) (chip' : ChipState) where
+  -- without its log
+  abbrev beside : CoreState
+  beside = record c { log = no_history; sync = y }
 
-  abbrev fault : Bool → Mark
-  fault ends = mark_at (beside ends) (length chip'.effects) (event.Faulted chip.faults chip'.faults)
+  abbrev fault : Mark
+  fault = mark_at c (length chip'.effects) (event.Faulted chip.faults chip'.faults)
 
   -- syncd made the call on the chip
   abbrev d : Call Rid
@@ -74,15 +74,11 @@ module _ (s : LoggedService) (w : ℕ) (c : CoreState) (chip : ChipState) (is : 
         keeps = keeps a calls;
       }
 
-  failed : (ends : Bool) → Calls c.sync c.sync.temporary chip call sync.Failed y chip' → MakesOne c s (record c { sync = y; log = with_fault ends c.log (fault ends); warm = warm.Suspect }) chip'
-  failed true calls = faults_step c chip s w x call y chip' (with_fault true c.log (fault true)) is at there begun told calls Ended
-  failed false calls = faults_step c chip s w x call y chip' (with_fault false c.log (fault false)) is at there begun told calls Marked
+  failed : (ends : Bool) → Calls c.sync c.sync.temporary chip call sync.Failed y chip' → MakesOne c s (record c { sync = y; log = with_fault ends c.log fault; warm = warm.Suspect }) chip'
+  failed true calls = faults_step c chip s w x call y chip' (with_fault true c.log fault) is at there begun told calls Ended
+  failed false calls = faults_step c chip s w x call y chip' (with_fault false c.log fault) is at there begun told calls Marked
 
-  taken_same : (ends : Bool) → length (with_fault ends c.log m).taken ≡ length c.log.taken
-  taken_same true = refl
-  taken_same false = refl
-
-  faulted : (ends : Bool) → Calls c.sync c.sync.temporary chip call sync.Failed y chip' → FaultsCall ends s c chip (record c { sync = y; log = with_fault ends c.log (fault ends); warm = warm.Suspect }) chip'
+  faulted : (ends : Bool) → Calls c.sync c.sync.temporary chip call sync.Failed y chip' → FaultsCall ends s c chip (record c { sync = y; log = with_fault ends c.log fault; warm = warm.Suspect }) chip'
   faulted ends calls =
       let z = is_made sync.Failed calls in
       let one = one_more_effect chip chip' d z.1.answer (said_failed c.sync.view z.0 call z.1.answer z.1.follows) z.1.answered in
@@ -95,7 +91,7 @@ module _ (s : LoggedService) (w : ℕ) (c : CoreState) (chip : ChipState) (is : 
           before = chip.faults;
           risen = omega arith;
           more = one.2;
-          log = ap (λ n. with_fault ends c.log (record { taken = n; effects = length chip'.effects; event = event.Faulted chip.faults chip'.faults })) (taken_same ends);
+          log = refl;
           warm = refl;
           places = omega (arith, behind, room);
           few = one.0;
@@ -107,35 +103,39 @@ module _ (s : LoggedService) (w : ℕ) (c : CoreState) (chip : ChipState) (is : 
       subst (λ q. Answered ends s w c chip (Ok q) c' chip') (sym did)
       (subst (λ d. AnswersCall s w c chip d chip') (sym same) (effect a went calls b taken))
 
-  pub heeded : (ends : Bool) (a : SyncAnswer) (r : Step) (c' : CoreState) → Calls c.sync c.sync.temporary chip call a y chip' → Heeds w a (fault ends) ends (beside ends) r c' → Answered ends s w c chip (Ok r) c' chip'
+  pub heeded : (ends : Bool) (a : SyncAnswer) (r : Step) (c' : CoreState) → Calls c.sync c.sync.temporary chip call a y chip' → Heeds w a c.log fault ends beside r c' → Answered ends s w c chip (Ok r) c' chip'
   heeded ends sync.Failed r c' calls h =
       subst (λ q. Answered ends s w c chip (Ok q) c' chip') (sym h.0)
-      (subst (λ z. FaultsCall ends s c chip z chip') (sym (h.1 c.log m refl)) (faulted ends calls))
-  heeded ends (sync.Made v) r c' calls h = let f = h.1 c.log m refl in as_did ends (sync.Made v) (λ e. cc) calls r c' h.0 f.0 f.1 f.2
-  heeded ends sync.Done r c' calls h = let f = h.1 c.log m refl in as_did ends sync.Done (λ e. cc) calls r c' h.0 f.0 f.1 f.2
+      (subst (λ z. FaultsCall ends s c chip z chip') (sym h.1) (faulted ends calls))
+  heeded ends (sync.Made v) r c' calls h = as_did ends (sync.Made v) (λ e. cc) calls r c' h.0 h.1 h.2 h.3
+  heeded ends sync.Done r c' calls h = as_did ends sync.Done (λ e. cc) calls r c' h.0 h.1 h.2 h.3
 
-  -- a core with the place, and what syncd made of the call
-  pub may_heed : (ends : Bool) (d : CoreState) → d ≡ beside ends → (a : SyncAnswer) → Calls c.sync c.sync.temporary chip call a y chip' → (a ≡ sync.Failed → ⊥) → (z : Flown) × (flown_at d.board w ≡ Some z) × MayTakeFor z.operation z.group (made_by a) d.board.names
-  may_heed ends d is_with a calls went = subst (λ (k : CoreState). (z : Flown) × (flown_at k.board w ≡ Some z) × MayTakeFor z.operation z.group (made_by a) k.board.names) (sym is_with) (x, there, may_take c chip s is at w x there begun call told a went y chip' calls)
+  -- a core without its log, and what syncd made of the call
+  pub may_heed : (d : CoreState) → d ≡ beside → (a : SyncAnswer) → Calls c.sync c.sync.temporary chip call a y chip' → (a ≡ sync.Failed → ⊥) → (z : Flown) × (flown_at d.board w ≡ Some z) × MayTakeFor z.operation z.group (made_by a) d.board.names
+  may_heed d is_without a calls went = subst (λ (k : CoreState). (z : Flown) × (flown_at k.board w ≡ Some z) × MayTakeFor z.operation z.group (made_by a) k.board.names) (sym is_without) (x, there, may_take c chip s is at w x there begun call told a went y chip' calls)
 
-  fault_is : (ends : Bool) (d : CoreState) → d ≡ beside ends → (n before after : ℕ) → n ≡ length chip'.effects → before ≡ chip.faults → after ≡ chip'.faults → mark_at d n (event.Faulted before after) ≡ fault ends
-  fault_is ends d is_with n before after many first last =
-      ap (λ z. mark_at z n (event.Faulted before after)) is_with ∙ ap (λ k. mark_at (beside ends) k (event.Faulted before after)) many
-      ∙ ap (λ k. mark_at (beside ends) (length chip'.effects) (event.Faulted k after)) first ∙ ap (λ k. mark_at (beside ends) (length chip'.effects) (event.Faulted chip.faults k)) last
+  fault_is : (h : History) → h ≡ c.log → (n before after : ℕ) → n ≡ length chip'.effects → before ≡ chip.faults → after ≡ chip'.faults → (f : Mark) → f ≡ record { taken = length h.taken; effects = n; event = event.Faulted before after } → f ≡ fault
+  fault_is h same n before after many first last f is_mark =
+      let made : ℕ → ℕ → ℕ → ℕ → Mark = λ t n i j. record { taken = t; effects = n; event = event.Faulted i j } in
+      is_mark ∙ ap (λ (l : History). made (length l.taken) n before after) same ∙ ap (λ k. made (length c.log.taken) k before after) many
+      ∙ ap (λ k. made (length c.log.taken) (length chip'.effects) k after) first ∙ ap (λ k. made (length c.log.taken) (length chip'.effects) chip.faults k) last
 
-  pub made : (ends : Bool) (d : CoreState) → d ≡ beside ends → (a : SyncAnswer) → Calls c.sync c.sync.temporary chip call a y chip' → (n before after : ℕ) → n ≡ length chip'.effects → before ≡ chip.faults → after ≡ chip'.faults → (f : Mark) → f ≡ mark_at d n (event.Faulted before after) → (r : Step) (c' : CoreState) → Heeds w a f ends d r c' → Answered ends s w c chip (Ok r) c' chip'
-  made ends d is_with a calls n before after many first last f marked r c' h =
-      heeded ends a r c' calls (subst (λ g. Heeds w a g ends (beside ends) r c') (marked ∙ fault_is ends d is_with n before after many first last) (subst (λ z. Heeds w a f ends z r c') is_with h))
+  pub made : (ends : Bool) (d : CoreState) → d ≡ beside → (h : History) → h ≡ c.log → (a : SyncAnswer) → Calls c.sync c.sync.temporary chip call a y chip' → (n before after : ℕ) → n ≡ length chip'.effects → before ≡ chip.faults → after ≡ chip'.faults → (f : Mark) → f ≡ record { taken = length h.taken; effects = n; event = event.Faulted before after } → (r : Step) (c' : CoreState) → Heeds w a h f ends d r c' → Answered ends s w c chip (Ok r) c' chip'
+  made ends d is_without h same a calls n before after many first last f is_mark r c' heeds =
+      heeded ends a r c' calls
+      (subst (λ l. Heeds w a l fault ends beside r c') same
+      (subst (λ g. Heeds w a h g ends beside r c') (fault_is h same n before after many first last f is_mark)
+      (subst (λ z. Heeds w a h f ends z r c') is_without heeds)))
 
--- with the place for a mark the call can be made still
-pub can_kept : (c d : CoreState) (chip : ChipState) (call : Call Vid) (h : History) → d ≡ record c { log = h } → CanCall c.sync c.sync.temporary chip call → CanCall d.sync d.sync.temporary chip call
-can_kept c d chip call h is_with can = subst (λ (z : CoreState). CanCall z.sync z.sync.temporary chip call) (sym is_with) can
+-- without its log the call can be made still
+pub can_kept : (c d : CoreState) (chip : ChipState) (call : Call Vid) → d ≡ record c { log = no_history } → CanCall c.sync c.sync.temporary chip call → CanCall d.sync d.sync.temporary chip call
+can_kept c d chip call is_without can = subst (λ (z : CoreState). CanCall z.sync z.sync.temporary chip call) (sym is_without) can
 
-pub calls_kept : (c d : CoreState) (chip chip' : ChipState) (call : Call Vid) (h : History) (a : SyncAnswer) (y : SyncState) → d ≡ record c { log = h } → Calls d.sync d.sync.temporary chip call a y chip' → Calls c.sync c.sync.temporary chip call a y chip'
-calls_kept c d chip chip' call h a y is_with calls = subst (λ (z : CoreState). Calls z.sync z.sync.temporary chip call a y chip') is_with calls
+pub calls_kept : (c d : CoreState) (chip chip' : ChipState) (call : Call Vid) (a : SyncAnswer) (y : SyncState) → d ≡ record c { log = no_history } → Calls d.sync d.sync.temporary chip call a y chip' → Calls c.sync c.sync.temporary chip call a y chip'
+calls_kept c d chip chip' call a y is_without calls = subst (λ (z : CoreState). Calls z.sync z.sync.temporary chip call a y chip') is_without calls
 
-pub with_sync : (c d e : CoreState) (h : History) (y : SyncState) → d ≡ record c { log = h } → e ≡ record d { sync = y } → e ≡ record c { log = h; sync = y }
-with_sync c d e h y first next = next ∙ ap (λ (z : CoreState). record z { sync = y }) first
+pub with_sync : (c d e : CoreState) (y : SyncState) → d ≡ record c { log = no_history } → e ≡ record d { sync = y } → e ≡ record c { log = no_history; sync = y }
+with_sync c d e y first next = next ∙ ap (λ (z : CoreState). record z { sync = y }) first
 
 -- ---- small facts
 

@@ -1,5 +1,5 @@
 -- the end of a settling
-use Rattle.std.proofs.Common.{◌≡◌, ◌+◌, ◌≤◌, ◌∷◌, ◌∙◌, inl, inr, ℕ, [], length, Result, Ok, Err, sym, ap, subst, arith}
+use Rattle.std.proofs.Common.{◌≡◌, ◌+◌, ◌≤◌, ◌∷◌, ◌∙◌, inl, inr, ℕ, [], length, Result, Ok, Err, refl, sym, ap, subst, arith}
 use Rattle.std.specs.Map.{keys_of}
 use Rattle.std.proofs.lemmas.List.{length-append}
 use Rattle.std.proofs.lemmas.Map.Entries.{length-keys_of}
@@ -9,6 +9,7 @@ use Rattle.sai_types.specs.ChipState.{ChipState}
 use Rattle.consumer_table.specs.Ops.{AreOpsInOrder}
 use Rattle.switch_model.specs.History.{with_end, with_mark}
 use Rattle.switch_model.specs.Marks.{Waiting}
+use Rattle.switch_model.specs.declared.mark.Mark.{Mark}
 use Rattle.switch_model.specs.declared.mark.MarkEvent.TheVariants as event
 use Rattle.switch_machine.specs.Next.{MustWait}
 use Rattle.restart_laws.specs.Logged.{LoggedService}
@@ -19,12 +20,12 @@ use Rattle.settling_laws.specs.Leading.{LeadsTo, PopsTo, RunsTo, SettlesTo}
 use Rattle.settling_laws.specs.Turning.{IsAtRest, TurnsTo}
 use Rattle.settling_laws.proofs.Leading.{leads_more, leads_some}
 use Rattle.settling_laws.proofs.Settling.{settling_ends}
-use Rattle.switch_core.specs.Marked.{AreListedFrom, Marks, with_settled}
+use Rattle.switch_core.specs.Marked.{AreListedFrom, ListsWhatWaits, Marks, with_settled}
 use Rattle.switch_core.specs.Outcomes.{KeepsChip}
 use Rattle.switch_core.specs.Settled.{MarksTurns, Settles, SettlesKeys, SettlesWhole, StopsAtMark, StopsShort}
 use Rattle.switch_core.specs.declared.answer.Settled.{Settled}
 use Rattle.switch_core.specs.declared.answer.Settled.TheVariants as settled
-use Rattle.switch_core.proofs.Listings.{listed_all, listed_length, listed_only, listed_order, listed_reasons}
+use Rattle.switch_core.proofs.Listings.{listed_all, listed_length, listed_only, listed_order, listed_reasons, listed_same}
 use Rattle.switch_core.proofs.Chips.{keeps_on}
 use Rattle.switch_core.proofs.Runs.{faulted_more, full_more, log_same, short_more}
 
@@ -87,8 +88,24 @@ module _ (s : LoggedService) (c : CoreState) (first : ChipState) (is : IsSession
     fits : size_beside c' (length chip'.effects) ≤ c'.limit
     fits = subst (λ (z : CoreState). size_beside z (length chip'.effects) ≤ z.limit) (sym m.marks.3) fits_marked
 
+    lists_marked : ListsWhatWaits (with_settled m.mid (length chip'.effects) waits m.turns (length m.mid.tables.ops))
+    lists_marked =
+        let mark : Mark = mark_at m.mid (length chip'.effects) (event.Settled waits m.turns) in
+        record {
+          before = m.mid.log;
+          mark = mark;
+          waits = waits;
+          turns = m.turns;
+          log = refl;
+          settled = refl;
+          listed = listed_same m.mid (with_end (with_mark m.mid.log mark)) (m.mid.listed + length m.mid.tables.ops) (keys_of m.mid.tables.ops) waits listed;
+        }
+
+    lists : ListsWhatWaits c'
+    lists = subst ListsWhatWaits (sym m.marks.3) lists_marked
+
     whole : SettlesWhole s c first c' chip'
-    whole = record { settles = ended; places = fits; keeps = keeps_on first chip1 chip' keeps m.keeps }
+    whole = record { settles = ended; places = fits; lists = lists; keeps = keeps_on first chip1 chip' keeps m.keeps }
 
   pub settles_all : (r : Result Settled OutOfMemory) (c' : CoreState) (chip' : ChipState) → SettlesKeys y.later c2 chip1 r c' chip' → Settles s c first r c' chip'
   settles_all (Ok settled.Settled) c' chip' m = whole c' chip' m

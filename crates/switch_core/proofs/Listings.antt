@@ -1,14 +1,15 @@
 -- what a mark lists, from the keys to sync
-use Rattle.std.proofs.Common.{◌≡◌, ◌∷◌, ◌++◌, ◌∙◌, inl, inr, suc, List, [], length, map, Option, refl, sym, ap, ap₂, subst}
+use Rattle.std.proofs.Common.{◌≡◌, ◌∷◌, ◌++◌, ◌∙◌, inl, inr, ℕ, suc, List, [], length, map, None, Option, refl, sym, ap, ap₂, subst}
 use Rattle.std.specs.List.Sorted.{IsStrictlySortedBy}
 use Rattle.std.specs.Map.{keys_of}
-use Rattle.std.proofs.lemmas.Option.{same_Some}
+use Rattle.std.proofs.lemmas.Option.{none-some, same_Some}
 use Rattle.table_schema.specs.Key.{key_cmp}
 use Rattle.table_schema.specs.declared.key.Key.{Key}
 use Rattle.table_schema.specs.declared.row.Row.{Row}
 use Rattle.sai_types.specs.Alike.{IsIn}
 use Rattle.producer_table.proofs.Found.{sorted_from_rising}
-use Rattle.consumer_table.specs.Ops.{AreOpsInOrder, Ops}
+use Rattle.consumer_table.specs.Ops.{AreOpsInOrder, Ops, first_in}
+use Rattle.switch_model.specs.History.{History}
 use Rattle.switch_model.specs.Marks.{AreInOrder, Waiting}
 use Rattle.switch_model.specs.declared.wait.Wait.{Wait}
 use Rattle.switch_machine.specs.Events.{SwitchState}
@@ -61,8 +62,28 @@ module _ (c : CoreState) where
   listed_order ops ws order h = subst (IsStrictlySortedBy key_cmp) (sym (listed_keys (keys_of ops) ws h)) (sorted_from_rising key_cmp ops order.keys)
 
 -- one more
-pub listed_one_more : (c : CoreState) (ks : List Key) (ws : Waiting) (k : Key) (w : Key × Wait × Option Row) → AreListedFrom c ks ws → IsListedAs c k w → AreListedFrom c (ks ++ k ∷ []) (ws ++ w ∷ [])
-listed_one_more c [] [] k w h one = (one, tt)
-listed_one_more c (p ∷ ks) (v ∷ ws) k w h one = (h.0, listed_one_more c ks ws k w h.1 one)
-listed_one_more c [] (v ∷ ws) k w h one = absurd h
-listed_one_more c (p ∷ ks) [] k w h one = absurd h
+listed_with_one : (c : CoreState) (ks : List Key) (ws : Waiting) (k : Key) (w : Key × Wait × Option Row) → AreListedFrom c ks ws → IsListedAs c k w → AreListedFrom c (ks ++ k ∷ []) (ws ++ w ∷ [])
+listed_with_one c [] [] k w h one = (one, tt)
+listed_with_one c (p ∷ ks) (v ∷ ws) k w h one = (h.0, listed_with_one c ks ws k w h.1 one)
+listed_with_one c [] (v ∷ ws) k w h one = absurd h
+listed_with_one c (p ∷ ks) [] k w h one = absurd h
+
+pub listed_one_more : (c : CoreState) (ks : List Key) (ws later : Waiting) (k : Key) (w : Key × Wait × Option Row) → later ≡ ws ++ w ∷ [] → AreListedFrom c ks ws → IsListedAs c k w → AreListedFrom c (ks ++ k ∷ []) later
+listed_one_more c ks ws later k w are h one = subst (AreListedFrom c (ks ++ k ∷ [])) (sym are) (listed_with_one c ks ws k w h one)
+
+-- with the first of both
+pub listed_first : (c : CoreState) (ks more : List Key) (k : Key) (ws rest : Waiting) (w : Key × Wait × Option Row) → ks ≡ k ∷ more → ws ≡ w ∷ rest → IsListedAs c k w → AreListedFrom c more rest → AreListedFrom c ks ws
+listed_first c ks more k ws rest w keys are one others = subst (λ l. AreListedFrom c l ws) (sym keys) (subst (AreListedFrom c (k ∷ more)) (sym are) (one, others))
+
+-- of no key nothing is listed
+pub listed_none : (c : CoreState) (ks : List Key) (ws : Waiting) → first_in ks ≡ None → length ws ≡ 0 → AreListedFrom c ks ws
+listed_none c [] [] none empty = tt
+listed_none c [] (w ∷ ws) none empty = cc
+listed_none c (k ∷ ks) ws none empty = absurd (none-some k (sym none))
+
+-- with another log the same is listed
+pub listed_same : (c : CoreState) (log : History) (count : ℕ) (ks : List Key) (ws : Waiting) → AreListedFrom c ks ws → AreListedFrom (record c { log = log; listed = count }) ks ws
+listed_same c log count [] [] h = tt
+listed_same c log count (k ∷ ks) (w ∷ ws) h = (h.0, listed_same c log count ks ws h.1)
+listed_same c log count [] (w ∷ ws) h = absurd h
+listed_same c log count (k ∷ ks) [] h = absurd h

@@ -6,8 +6,9 @@ use Rattle.table_schema.specs.declared.key.Key.{Key}
 use Rattle.table_schema.specs.declared.row.Row.{Row}
 use Rattle.consumer_table.specs.Ops.{AreOpsInOrder}
 use Rattle.retry_list.specs.Reasons.{reason_at}
-use Rattle.switch_model.specs.History.{with_end, with_mark}
+use Rattle.switch_model.specs.History.{History, with_end, with_mark}
 use Rattle.switch_model.specs.Marks.{Waiting}
+use Rattle.switch_model.specs.declared.mark.Mark.{Mark}
 use Rattle.switch_model.specs.declared.mark.MarkEvent.TheVariants as event
 use Rattle.switch_model.specs.declared.wait.Wait.{Wait}
 use Rattle.flight_board.specs.Applied.{row_at}
@@ -24,6 +25,16 @@ abbrev pub AreListedFrom : CoreState → List Key → Waiting → Type 0
 AreListedFrom c [] [] = Unit {0}
 AreListedFrom c (k ∷ ks) (w ∷ ws) = IsListedAs c k w × AreListedFrom c ks ws
 AreListedFrom c _ _ = ⊥
+
+-- the last mark of the log is that of a settling at which the last round ended, and lists the keys that are to sync
+pub record ListsWhatWaits (c : CoreState) : Type 0 where
+  pub before : History
+  pub mark : Mark
+  pub waits : Waiting
+  pub turns : ℕ
+  pub log : c.log ≡ with_end (with_mark before mark)
+  pub settled : mark.event ≡ event.Settled waits turns
+  pub listed : AreListedFrom c (keys_of c.tables.ops) waits
 
 -- the core with the mark at the end of a settling
 abbrev pub with_settled : CoreState → ℕ → Waiting → ℕ → ℕ → CoreState

@@ -1,5 +1,5 @@
 -- What the core's events come to, by their answers. Own.
-use Rattle.std.specs.Prelude.{◌≡◌, ◌+◌, ◌<◌, ◌≤◌, ◌⊎◌, ℕ, Bool, true, false, List, length, Option, Some, None, Result, Ok, Err}
+use Rattle.std.specs.Prelude.{◌≡◌, ◌+◌, ◌<◌, ◌≤◌, ◌⊎◌, ℕ, Bool, true, false, List, length, Option, Some, None, IsSome, Result, Ok, Err}
 use Rattle.swss_types.specs.declared.out_of_memory.OutOfMemory.{OutOfMemory}
 use Rattle.table_schema.specs.declared.key.Key.{Key}
 use Rattle.table_schema.specs.declared.row.Row.{Row}
@@ -36,23 +36,12 @@ use Rattle.switch_core.specs.declared.answer.Tried.TheVariants as tried
 abbrev pub IsInSession : CoreState → ChipState → Type 0
 IsInSession c chip = (s : LoggedService) × IsSessionOf c chip s
 
--- ---- places in the log
+-- ---- the mark of a fault
 
 -- a log with a mark, at which a round ends or not
 abbrev pub with_fault : Bool → History → Mark → History
 with_fault true h m = with_end (with_mark h m)
 with_fault false h m = with_mark h m
-
--- there is a place for a mark
-abbrev pub KeepsPlace : Bool → CoreState → Type 0
-KeepsPlace ends c = (h : History) × (m : Mark) × (c.log ≡ with_fault ends h m)
-
--- the place is given up, or filled in with another mark
-abbrev pub GivesPlaceUp : Bool → CoreState → CoreState → Type 0
-GivesPlaceUp ends c c' = (h : History) (m : Mark) → c.log ≡ with_fault ends h m → c' ≡ record c { log = h }
-
-abbrev pub FillsPlace : Bool → CoreState → Mark → CoreState → Type 0
-FillsPlace ends c mark c' = (h : History) (m : Mark) → c.log ≡ with_fault ends h m → c' ≡ record c { log = with_fault ends h mark }
 
 -- ---- what stays
 
@@ -79,10 +68,10 @@ left_by c k = record c { tables = record c.tables { ops = without_op c.tables.op
 
 -- ---- the call that is due for a worker
 
--- what the core makes of its answer, beside a place for a mark: it takes what the call made, and gives the place up; or marks the fault
-abbrev pub Heeds : ℕ → SyncAnswer → Mark → Bool → CoreState → Step → CoreState → Type 0
-Heeds w sync.Failed fault ends c r c' = (r ≡ step.Faulted) × ((h : History) (m : Mark) → c.log ≡ with_fault ends h m → c' ≡ record c { log = with_fault ends h fault; warm = warm.Suspect })
-Heeds w a fault ends c r c' = (r ≡ step.Did) × ((h : History) (m : Mark) → c.log ≡ with_fault ends h m → (b : BoardState) × IsTakenFor c.board w (made_by a) b × (c' ≡ record c { log = h; board = b }))
+-- what the core makes of its answer, and of its log, which it gets back: it takes what the call made; or the fault is marked
+abbrev pub Heeds : ℕ → SyncAnswer → History → Mark → Bool → CoreState → Step → CoreState → Type 0
+Heeds w sync.Failed log fault ends c r c' = (r ≡ step.Faulted) × (c' ≡ record c { log = with_fault ends log fault; warm = warm.Suspect })
+Heeds w a log fault ends c r c' = (r ≡ step.Did) × (b : BoardState) × IsTakenFor c.board w (made_by a) b × (c' ≡ record c { log = log; board = b })
 
 -- the chip has the failing calls that it was made with, and failed no less often than before
 pub record KeepsChip (old new : ChipState) : Type 0 where
@@ -182,9 +171,9 @@ Begins s w k c chip (Err e) c' = IsSameCore c c' × IsSessionOf c' chip s
 
 -- ---- a step
 
--- a step of a worker is the first event that applies to it, and Idle where none does; Faulted where its call failed, which is marked; LogFull where its call has no places; and after want of memory perhaps a part of a pop was made
+-- a step of a worker is the first event that applies to it, whose call, where it makes one, had two places in the log; Idle where none does; Faulted where its call failed, which is marked; LogFull where its call has no places; and after want of memory perhaps a part of a pop was made
 abbrev pub StepsTo : LoggedService → ℕ → CoreState → ChipState → Result Step OutOfMemory → CoreState → ChipState → Type 0
-StepsTo s w c chip (Ok step.Did) c' chip' = (y : MakesOne c s c' chip') × (call : Option (Call Rid)) × IsNextEvent c.board.plan 4 c.sync.capacities w s.service.core call y.later.service.core × IsMachineStep s call y.later × KeepsChip chip chip'
+StepsTo s w c chip (Ok step.Did) c' chip' = (y : MakesOne c s c' chip') × (call : Option (Call Rid)) × IsNextEvent c.board.plan 4 c.sync.capacities w s.service.core call y.later.service.core × IsMachineStep s call y.later × KeepsChip chip chip' × (IsSome call → IsFullFor c (length chip.effects) 2 → ⊥)
 StepsTo s w c chip (Ok step.Idle) c' chip' = (chip' ≡ chip) × IsSameCore c c' × IsSessionOf c' chip s × IsIdle c.board.plan 4 c.sync.capacities w s.service.core
 StepsTo s w c chip (Ok step.Suspect) c' chip' = (c' ≡ c) × (chip' ≡ chip) × (c.warm ≡ warm.Suspect)
 StepsTo s w c chip (Ok step.Faulted) c' chip' = FaultsCall false s c chip c' chip'

@@ -19,7 +19,7 @@ use Rattle.session_laws.specs.Standing.{IsSessionOf}
 use Rattle.settling_laws.specs.Leading.{LeadsTo, PopsTo, RunsTo, SettlesTo}
 use Rattle.settling_laws.specs.Turning.{IsAtRest, IsTurning, TurnsTo}
 use Rattle.switch_core.specs.Outcomes.{KeepsChip, MarksFault, BeginsTo, DropsTo, IsSameBeside, IsSameCore, KeepsFlights}
-use Rattle.switch_core.specs.Marked.{Marks}
+use Rattle.switch_core.specs.Marked.{ListsWhatWaits, Marks}
 use Rattle.switch_core.specs.declared.answer.Ran.{Ran}
 use Rattle.switch_core.specs.declared.answer.Ran.TheVariants as ran
 use Rattle.switch_core.specs.declared.answer.Settled.{Settled}
@@ -122,10 +122,11 @@ pub record StopsAtMark (s : LoggedService) (c : CoreState) (chip : ChipState) (c
   pub full : IsFullFor c' (length chip'.effects) (1 + length c'.tables.ops)
   pub keeps : KeepsChip chip chip'
 
--- a whole settling, and its mark had its places
+-- a whole settling; its mark had its places, and lists each key that is still to sync with the reason that the core has for it
 pub record SettlesWhole (s : LoggedService) (c : CoreState) (chip : ChipState) (c' : CoreState) (chip' : ChipState) : Type 0 where
   pub settles : SettlesTo c s c' chip'
   pub places : size_beside c' (length chip'.effects) ≤ c'.limit
+  pub lists : ListsWhatWaits c'
   pub keeps : KeepsChip chip chip'
 
 -- a settling ends at its mark; a call fails, and its mark ends it, and where no worker had anything under way no write waits any more; the log has no place for the call that is due or for the mark; or memory is refused, and then whole events were made

@@ -10,11 +10,12 @@ ghost use Rattle.warm_state.specs.declared.warm.Warm.TheVariants as warm;
 ghost use Rattle.session_laws.specs.Core.{IsFullFor};
 ghost use Rattle.session_laws.specs.Events.{made_by};
 ghost use Rattle.session_laws.specs.Standing.{IsSessionOf};
-ghost use Rattle.switch_core.specs.Outcomes.{Answered, Heeds, IsInSession, KeepsPlace};
+ghost use Rattle.switch_core.specs.Outcomes.{Answered, Heeds, IsInSession};
 
+use crate::logging::{entered, mark_in};
 use crate::{Core, Step};
 use sai_types::{Call, Chip, SyncAnswer, Vid};
-use switch_model::{Mark, MarkEvent};
+use switch_model::{Mark, MarkEvent, PlacedLog};
 use swss_types::OutOfMemory;
 use warm_state::Warm;
 
@@ -57,40 +58,46 @@ impl Core {
         ensures { (s : LoggedService) → IsSessionOf self.old (C.state chip.old) s → Answered ends s worker self.old (C.state chip.old) result self.new (C.state chip.new) }
     {
         let before = chip.faults();
-        self.keep_place(chip.effects(), ends)?;
+        let log = self.keep_place()?;
         match self.call_chip(chip, call) {
             Ok(answer) => {
                 let after = chip.faults();
-                let fault = self.mark_of(chip.effects(), MarkEvent::Faulted { before, after });
-                Ok(self.heed(worker, answer, fault, ends))
+                let fault = mark_in(&log, chip.effects(), MarkEvent::Faulted { before, after });
+                Ok(self.heed(worker, answer, log, fault, ends))
             }
             Err(error) => {
-                self.give_place_up(ends);
+                self.put_back(log.give_up());
                 Err(error)
             }
         }
     }
 
-    /// Takes what a call made, or marks that it failed, beside a place for the mark.
-    fn heed(&mut self, worker: u32, answer: SyncAnswer, fault: Mark, ends: bool) -> Step
+    /// Takes what a call made, or enters the mark that it failed, and gives the core its log back.
+    fn heed(
+        &mut self,
+        worker: u32,
+        answer: SyncAnswer,
+        log: PlacedLog,
+        fault: Mark,
+        ends: bool,
+    ) -> Step
         requires worker { worker < 4 }
-        requires place { KeepsPlace ends self.old }
         requires may { (answer ≡ sync.Failed → ⊥) → (x : Flown) × (flown_at self.old.board worker ≡ Some x) × MayTakeFor x.operation x.group (made_by answer) self.old.board.names }
-        ensures { Heeds worker answer fault ends self.old result self.new }
+        ensures { Heeds worker answer log fault ends self.old result self.new }
     {
         match answer {
             SyncAnswer::Made(vid) => {
-                self.give_place_up(ends);
+                self.put_back(log.give_up());
                 self.took(worker, Some(vid));
                 Step::Did
             }
             SyncAnswer::Done => {
-                self.give_place_up(ends);
+                self.put_back(log.give_up());
                 self.took(worker, None);
                 Step::Did
             }
             SyncAnswer::Failed => {
-                self.fill_place(fault, ends);
+                self.put_back(entered(log, fault, ends));
                 self.suspect();
                 Step::Faulted
             }

@@ -3,6 +3,7 @@
 
 mod answer;
 mod answering;
+mod listing;
 mod logging;
 mod marking;
 mod parts;

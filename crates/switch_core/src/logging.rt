@@ -1,12 +1,13 @@
 // Places in the log, and marks.
-ghost use Rattle.std.specs.Prelude.{◌≡◌, ◌↔◌, ◌<◌, ◌+◌, ◌^◌, IsTrue, OnOk, OnErr};
-ghost use Rattle.switch_model.specs.declared.mark.Mark.{Mark};
+ghost use Rattle.std.specs.Prelude.{◌≡◌, ◌↔◌, ◌<◌, ◌+◌, ◌^◌, length, IsTrue, IfOk, OnOk, OnErr};
+ghost use Rattle.switch_model.specs.History.{no_history};
 ghost use Rattle.session_laws.specs.Core.{IsFullFor, mark_at};
 ghost use Rattle.switch_core.specs.Marked.{with_settled};
-ghost use Rattle.switch_core.specs.Outcomes.{FillsPlace, GivesPlaceUp, with_fault};
+ghost use Rattle.switch_core.specs.Outcomes.{with_fault};
 
 use crate::Core;
-use switch_model::{Mark, MarkEvent, Waits};
+use std::mem::replace;
+use switch_model::{Log, Mark, MarkEvent, PlacedLog, Waits};
 use swss_types::OutOfMemory;
 
 impl Core {
@@ -24,7 +25,7 @@ impl Core {
     }
 
     /// A mark of this moment.
-    pub(crate) fn mark_of(&self, effects: u64, event: MarkEvent) -> Mark
+    fn mark_of(&self, effects: u64, event: MarkEvent) -> Mark
         ensures { result ≡ mark_at self.now effects event }
     {
         Mark {
@@ -34,39 +35,25 @@ impl Core {
         }
     }
 
-    /// Makes the place for the mark of a fault, before the call: `ends` tells whether the round ends at it.
-    pub(crate) fn keep_place(&mut self, effects: u64, ends: bool) -> Result<(), OutOfMemory>
-        ensures ok { OnOk result ((m : Mark) × (self.new ≡ record self.old { log = with_fault ends self.old.log m })) }
+    /// Takes the log out, with a place for a mark. The core has an empty one until it gets it back.
+    pub(crate) fn keep_place(&mut self) -> Result<PlacedLog, OutOfMemory>
+        ensures ok { IfOk result (λ log. (log ≡ self.old.log) × (self.new ≡ record self.old { log = no_history })) }
         ensures err { OnErr result (self.new ≡ self.old) }
     {
-        let mark = self.mark_of(effects, MarkEvent::Restarted);
-        if ends {
-            self.log.mark_end(mark)
-        } else {
-            self.log.mark(mark)
+        match replace(&mut self.log, Log::new(self.alloc)).with_place() {
+            Ok(log) => Ok(log),
+            Err(log) => {
+                self.log = log;
+                Err(OutOfMemory)
+            }
         }
     }
 
-    /// Gives the place up again.
-    pub(crate) fn give_place_up(&mut self, ends: bool)
-        ensures { GivesPlaceUp ends self.old self.new }
+    /// Gives the core its log back.
+    pub(crate) fn put_back(&mut self, log: Log)
+        ensures { self.new ≡ record self.old { log = log } }
     {
-        if ends {
-            self.log.unmark()
-        } else {
-            self.log.mark_back()
-        }
-    }
-
-    /// Fills the place in.
-    pub(crate) fn fill_place(&mut self, mark: Mark, ends: bool)
-        ensures { FillsPlace ends self.old mark self.new }
-    {
-        if ends {
-            self.log.replace_last(mark)
-        } else {
-            self.log.replace_mark(mark)
-        }
+        self.log = log;
     }
 
     /// Marks the end of a settling: `count` keys are listed.
@@ -85,5 +72,27 @@ impl Core {
         self.log.mark_end(mark)?;
         self.listed += count;
         Ok(())
+    }
+}
+
+/// A mark of this moment, of a log with a place for it.
+pub(crate) fn mark_in(log: &PlacedLog, effects: u64, event: MarkEvent) -> Mark
+    ensures { result ≡ record { taken = length log.now.taken; effects = effects; event = event } }
+{
+    Mark {
+        taken: log.taken().len() as u64,
+        effects,
+        event,
+    }
+}
+
+/// Enters a mark in its place: `ends` tells whether the round ends at it.
+pub(crate) fn entered(log: PlacedLog, mark: Mark, ends: bool) -> Log
+    ensures { result ≡ with_fault ends log mark }
+{
+    if ends {
+        log.mark_end(mark)
+    } else {
+        log.mark(mark)
     }
 }

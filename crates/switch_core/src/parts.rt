@@ -118,12 +118,27 @@ impl Core {
         self.waiting.put(key.copy()?, wait)
     }
 
+    /// The applied row of a key.
+    pub(crate) fn row(&self, key: &Key) -> Option<&Row>
+        ensures { option_map (λ row. row.now) result ≡ row_at self.now.board.applied key.now }
+    {
+        self.board.row(key)
+    }
+
+    /// The first key to sync behind this one. The keys are in order.
+    pub(crate) fn next_key(&self, after: Option<&Key>) -> Option<&Key>
+        ensures next { option_map (λ key. key.now) result ≡ first_in (keys_behind (option_map (λ key. key.now) after.entry) (keys_of self.now.tables.ops)) }
+        ensures order { AreOpsInOrder self.now.tables.ops }
+    {
+        self.tables.next_key(after)
+    }
+
     /// A copy of the first key to sync behind this one. The keys are in order.
     pub(crate) fn key_behind(&self, after: Option<&Key>) -> Result<Option<Key>, OutOfMemory>
         ensures next { IfOk result (λ next. next ≡ first_in (keys_behind (option_map (λ key. key.now) after.entry) (keys_of self.now.tables.ops))) }
         ensures order { AreOpsInOrder self.now.tables.ops }
     {
-        match self.tables.next_key(after) {
+        match self.next_key(after) {
             Some(key) => Ok(Some(key.copy()?)),
             None => Ok(None),
         }
@@ -158,7 +173,7 @@ impl Core {
 }
 
 /// Whether two rows, or none, are the same.
-fn is_same(one: Option<&Row>, other: Option<&Row>) -> bool
+pub(crate) fn is_same(one: Option<&Row>, other: Option<&Row>) -> bool
     ensures { IsTrue result ↔ (option_map (λ row. row.now) one.entry ≡ option_map (λ row. row.now) other.entry) }
 {
     match (one, other) {

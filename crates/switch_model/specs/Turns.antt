@@ -1,5 +1,5 @@
 -- What turns over the keys to sync come to. Own.
-use Rattle.std.specs.Prelude.{◌≡◌, ◌⊎◌, ℕ, zero, suc, ◌<◌, List, [], ◌∷◌, ◌++◌, length, if◌then◌else◌}
+use Rattle.std.specs.Prelude.{◌≡◌, ◌⊎◌, ℕ, zero, suc, ◌<◌, List, [], ◌∷◌, length, if◌then◌else◌}
 use Rattle.std.specs.BTreeMap.{is_at}
 use Rattle.table_schema.specs.Key.{key_cmp}
 use Rattle.table_schema.specs.Plan.{Ports}
@@ -29,21 +29,3 @@ TakeTurns plan capacities good zero applied keys applied' left = (keys ≡ []) �
 TakeTurns plan capacities good (suc n) applied keys applied' left =
     (0 < length keys) × (mid : TypedRows) × (rest : List Key) × IsTurn plan capacities good applied keys mid rest
     × (((length rest ≡ length keys) × (n ≡ 0) × (applied' ≡ mid) × (left ≡ rest)) ⊎ ((length rest < length keys) × TakeTurns plan capacities good n mid rest applied' left))
-
--- so many turns, each of which took a key away: more may follow
-abbrev pub PassTurns : Ports → List ℕ → TypedRows → ℕ → TypedRows → List Key → TypedRows → List Key → Type 0
-PassTurns plan capacities good zero applied keys applied' left = (applied' ≡ applied) × (left ≡ keys)
-PassTurns plan capacities good (suc n) applied keys applied' left =
-    (mid : TypedRows) × (rest : List Key) × IsTurn plan capacities good applied keys mid rest × (length rest < length keys) × PassTurns plan capacities good n mid rest applied' left
-
--- turns over these keys come to a key: some turns passed, and the turn after them has tried the keys before this one
-pub record ComeTo (plan : Ports) (capacities : List ℕ) (good applied : TypedRows) (keys : List Key) (applied' : TypedRows) (key : Key) : Type 0 where
-  pub turns : ℕ
-  pub mid : TypedRows
-  pub left : List Key
-  pub passed : PassTurns plan capacities good turns applied keys mid left
-  pub tried : List Key
-  pub behind : List Key
-  pub next : left ≡ tried ++ key ∷ behind
-  pub waiting : List Key
-  pub turn : IsTurn plan capacities good mid tried applied' waiting

@@ -4,6 +4,7 @@
 mod laws;
 mod log;
 mod mark;
+mod placed_log;
 mod wait;
 mod waits;
 
@@ -13,5 +14,6 @@ pub use laws::{
 };
 pub use log::Log;
 pub use mark::{Mark, MarkEvent};
+pub use placed_log::PlacedLog;
 pub use wait::Wait;
 pub use waits::Waits;

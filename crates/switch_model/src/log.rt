@@ -1,7 +1,7 @@
 // The log of a session.
-ghost use Rattle.std.specs.Prelude.{◌≡◌, [], ◌∷◌, ◌++◌, length, IfOk, OnOk, OnErr};
+ghost use Rattle.std.specs.Prelude.{◌≡◌, [], ◌∷◌, ◌++◌, length, IfOk, IfErr, OnOk, OnErr};
 
-use crate::Mark;
+use crate::{Mark, PlacedLog};
 use std::alloc::Global;
 use std::marker::Model;
 use swss_types::OutOfMemory;
@@ -11,9 +11,9 @@ use table_schema::Sent;
 /// number of marks at it.
 #[derive(Debug, Drop)]
 pub struct Log {
-    taken: Vec<Sent>,
-    marks: Vec<Mark>,
-    ends: Vec<u64>,
+    pub(crate) taken: Vec<Sent>,
+    pub(crate) marks: Vec<Mark>,
+    pub(crate) ends: Vec<u64>,
 }
 
 impl Model for Log {
@@ -107,36 +107,19 @@ impl Log {
         Ok(())
     }
 
-    /// Takes the last mark out again, at which no round ends.
-    pub fn mark_back(&mut self)
-        ensures { (h : History) (mark : Mark) → self.old ≡ with_mark h mark → self.new ≡ h }
+    /// The same log with a place for a mark; or the log itself, where memory is refused.
+    pub fn with_place(self) -> Result<PlacedLog, Log>
+        ensures ok { IfOk result (λ log. log ≡ self) }
+        ensures err { IfErr result (λ log. log ≡ self) }
     {
-        self.marks.pop();
-    }
-
-    /// Records another mark in place of the last, at which no round ends.
-    pub fn replace_mark(&mut self, mark: Mark)
-        ensures { (h : History) (last : Mark) → self.old ≡ with_mark h last → self.new ≡ with_mark h mark }
-    {
-        // The place of the last mark is free then, so this asks for no memory.
-        self.marks.pop();
-        let _ = self.marks.push(mark);
-    }
-
-    /// Takes the last mark out again, with the end of a round at it.
-    pub fn unmark(&mut self)
-        ensures { (h : History) (mark : Mark) → self.old ≡ with_end (with_mark h mark) → self.new ≡ h }
-    {
-        self.marks.pop();
-        self.ends.pop();
-    }
-
-    /// Records another mark in place of the last, at which a round ends.
-    pub fn replace_last(&mut self, mark: Mark)
-        ensures { (h : History) (last : Mark) → self.old ≡ with_end (with_mark h last) → self.new ≡ with_end (with_mark h mark) }
-    {
-        // The place of the last mark is free then, so this asks for no memory.
-        self.marks.pop();
-        let _ = self.marks.push(mark);
+        let Log {
+            taken,
+            mut marks,
+            mut ends,
+        } = self;
+        if marks.reserve(1).is_err() || ends.reserve(1).is_err() {
+            return Err(Log { taken, marks, ends });
+        }
+        Ok(PlacedLog { taken, marks, ends })
     }
 }

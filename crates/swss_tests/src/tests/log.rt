@@ -4,9 +4,9 @@ use std::alloc::Global;
 use std::sync::Wait as Waiting;
 use std::test::Fail;
 use std::thread::Threads;
-use switch_model::{Log, Mark, MarkEvent, Wait, Waits};
+use switch_model::{Log, Mark, MarkEvent, PlacedLog, Wait, Waits};
 use swss_run::swss_main;
-use swss_types::{IfName, MemSink, MemSource, Open, Tagging};
+use swss_types::{IfName, MemSink, MemSource, Open, OutOfMemory, Tagging};
 use table_schema::{Key, Row, Sent, Write};
 
 /// A port whose row is deleted under an interface.
@@ -79,6 +79,14 @@ fn mark(effects: u64, event: MarkEvent) -> Mark {
     }
 }
 
+/// The log with a place for a mark.
+fn with_place(log: Log) -> Result<PlacedLog, OutOfMemory> {
+    match log.with_place() {
+        Ok(placed) => Ok(placed),
+        Err(_) => Err(OutOfMemory),
+    }
+}
+
 #[test]
 fn a_log_has_its_writes_marks_and_ends(rt: HostRuntime) -> Result<(), Fail> {
     let alloc = rt.alloc();
@@ -94,9 +102,10 @@ fn a_log_has_its_writes_marks_and_ends(rt: HostRuntime) -> Result<(), Fail> {
     log.mark(mark(4, MarkEvent::Restarted))?;
     let (mode, waits) = (Mode::Hitless, again);
     log.mark(mark(4, MarkEvent::ApplyBegan { mode, waits }))?;
-    log.mark(mark(6, MarkEvent::ApplyEnded))?;
+    let log = with_place(log)?.mark(mark(6, MarkEvent::ApplyEnded));
+    let log = with_place(log)?.give_up();
     let (before, after) = (0, 1);
-    log.mark_end(mark(7, MarkEvent::Faulted { before, after }))?;
+    let log = with_place(log)?.mark_end(mark(7, MarkEvent::Faulted { before, after }));
     let numbers = log.taken().iter().map(|sent| sent.number);
     assert!(rt; numbers.eq([10, 20]), "the writes taken");
     let effects = log.marks().iter().map(|mark| mark.effects);
