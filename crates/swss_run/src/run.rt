@@ -126,8 +126,6 @@ fn run_script<K: Sink>(alloc: Global, script: Script, sink: &mut K) -> Outcome
         rounds,
         ..
     } = script;
-    // A plan has at most 256 ports, so the chip has room for all of them.
-    let _ports = plan.len();
     let Ok(fails) = chip_fails(alloc, &fails) else {
         return at_once(alloc, Status::OutOfMemory);
     };
