@@ -111,6 +111,32 @@ impl ToSync {
         }
     }
 
+    /// No key, beside what is held.
+    pub fn none(&self) -> ToSync
+        ensures { result ≡ [] }
+    {
+        ToSync::new(self.alloc)
+    }
+
+    /// Takes all keys off.
+    pub fn forget_all(&mut self)
+        ensures { self.new ≡ [] }
+    {
+        *self = ToSync::new(self.alloc);
+    }
+
+    /// Adds a Set of no field: it makes a key one to sync, and leaves the operation that a key has.
+    pub fn add_key(&mut self, key: Key) -> Result<(), OutOfMemory>
+        ensures ok { OnOk result (self.new ≡ ops_after self.old (write.Set key [])) }
+        ensures err { OnErr result (self.new ≡ self.old) }
+    {
+        self.add(KeyOp {
+            key,
+            dropped: false,
+            fields: Some(Fields::new(self.alloc)),
+        })
+    }
+
     /// Adds what was popped of a key: with a deletion mark a DEL, which takes the place of the operation that is there, and
     /// with fields a SET behind it, which is merged into a Set or a Replace and turns a Del into a Replace.
     pub fn add(&mut self, op: KeyOp) -> Result<(), OutOfMemory>

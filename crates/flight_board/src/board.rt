@@ -55,6 +55,17 @@ impl Board {
         }
     }
 
+    /// Forgets the names, the applied rows and what is under way: no row is applied, all places of these capacities are free,
+    /// and the plan stays.
+    pub fn forget(&mut self, caps: Caps)
+        ensures { self.new ≡ new_board self.old.plan caps.0 }
+    {
+        self.registry = Registry::new(self.alloc);
+        self.room = Room::new(caps);
+        self.applied = AppliedRows::new(self.alloc);
+        self.workers = Workers::new();
+    }
+
     /// The port plan.
     pub fn plan(&self) -> &PortPlan
         ensures { result.now ≡ self.now.plan }

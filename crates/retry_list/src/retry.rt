@@ -63,6 +63,13 @@ impl Retry {
         forget(&mut self.reasons, &mut self.index, key);
     }
 
+    /// Takes all keys off the list.
+    pub fn forget_all(&mut self)
+        ensures { self.new ≡ [] }
+    {
+        *self = Retry::new(self.alloc);
+    }
+
     /// Takes the keys off the list whose reasons are about an event, and gives them in key order. It takes a logarithm of the
     /// keys on the list for each of them, and one more.
     pub fn woken(&mut self, event: &Event) -> Result<Vec<Key>, OutOfMemory>

@@ -5,3 +5,4 @@ pub mod Popped
 pub mod Walks
 pub mod LeftWaiting
 pub mod KeysLeave
+mod RowKeys

@@ -4,6 +4,7 @@
 
 mod laws;
 mod merging;
+mod rows;
 mod tables;
 
 pub use laws::{

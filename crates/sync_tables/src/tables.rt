@@ -1,16 +1,18 @@
 // The tables.
-ghost use Rattle.std.specs.Prelude.{◌≡◌, ◌⊎◌, ◌↔◌, ◌<◌, ◌^◌, [], drop, length, IsTrue, IfOk, OnOk, OnErr, option_map};
+ghost use Rattle.std.specs.Prelude.{◌≡◌, ◌⊎◌, ◌↔◌, ◌<◌, ◌^◌, [], drop, length, IsSome, IsTrue, IfOk, OnOk, OnErr, option_map};
 ghost use Rattle.std.specs.Bool.{OnTrue, OnFalse};
 ghost use Rattle.std.specs.Map.{keys_of};
 ghost use Rattle.table_schema.specs.Rows.{fields_at};
+ghost use Rattle.table_schema.specs.declared.key.Key.{Key};
 ghost use Rattle.table_schema.specs.declared.write.Write.TheVariants as write;
 ghost use Rattle.switch_model.specs.Good.{good_row};
 ghost use Rattle.producer_table.specs.Pending.{AreInOrder};
 ghost use Rattle.consumer_table.specs.Ops.{AreOpsInOrder, first_in, keys_behind, without_op};
-ghost use Rattle.sync_tables.specs.Tables.{PopsKeys, PopsSome, TakesAtMost, no_tables, with_write};
+ghost use Rattle.sync_tables.specs.Tables.{IsToSync, PopsKeys, PopsSome, TakesAtMost, no_tables, with_write};
 ghost use Rattle.sync_tables.specs.declared.tables.TheConstants.{BATCH};
 
 use crate::merging::take_in;
+use crate::rows::keys_of_rows;
 use consumer_table::ToSync;
 use producer_table::Waiting;
 use row_store::Rows;
@@ -162,6 +164,26 @@ impl Tables {
         ensures { self.new ≡ record self.old { ops = without_op self.old.ops key.now } }
     {
         self.to_sync.done(key);
+    }
+
+    /// Makes each key that has a row one to sync, and no other. After want of memory the keys to sync are as they were.
+    pub fn sync_rows(&mut self) -> Result<(), OutOfMemory>
+        ensures kept { self.new ≡ record self.old { ops = self.new.ops } }
+        ensures keys { OnOk result ((key : Key) → IsToSync self.new key ↔ IsSome (fields_at self.new.rows key)) }
+        ensures order { OnOk result (AreOpsInOrder self.new.ops) }
+        ensures err { OnErr result (self.new ≡ self.old) }
+    {
+        let to_sync = keys_of_rows(&self.rows, self.to_sync.none())?;
+        let _order = to_sync.len();
+        self.to_sync = to_sync;
+        Ok(())
+    }
+
+    /// Takes all keys from those to sync.
+    pub fn forget_ops(&mut self)
+        ensures { self.new ≡ record self.old { ops = [] } }
+    {
+        self.to_sync.forget_all();
     }
 
     /// The rows.

@@ -1,5 +1,5 @@
 // Syncd.
-ghost use Rattle.std.specs.Prelude.{◌≡◌, [], length, IfOk, OnErr};
+ghost use Rattle.std.specs.Prelude.{◌≡◌, [], length, None, IfOk, OnErr};
 ghost use Rattle.sai_types.specs.ChipState.{IsAnswered};
 ghost use Rattle.sai_types.specs.Refusal.{IsLegal};
 ghost use Rattle.chip_layout.specs.Renamed.{call_renamed};
@@ -86,6 +86,22 @@ impl Syncd {
         ensures { self.new ≡ with_temporary self.old [] }
     {
         self.temporary = Some(View::new(self.alloc));
+    }
+
+    /// Gives up the temporary view, where one is built, and the plan, where there is one.
+    pub fn drop_view(&mut self)
+        ensures { self.new ≡ record self.old { temporary = None; left = [] } }
+    {
+        self.temporary = None;
+        self.plan = PlanCalls::new(self.alloc);
+        self.made = 0;
+    }
+
+    /// Forgets both views with their ties, the list and the plan: it is as it began, with the same capacities.
+    pub fn forget(&mut self)
+        ensures { self.new ≡ new_state self.old.capacities }
+    {
+        *self = Syncd::new(self.alloc, self.caps);
     }
 
     /// How many objects of the kind there are in the temporary view, where one is built, and otherwise in the view that
