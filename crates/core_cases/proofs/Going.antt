@@ -13,11 +13,11 @@ use Rattle.session_laws.specs.Core.{CoreState, new_core}
 use Rattle.session_laws.specs.Events.{MakesSome}
 use Rattle.session_laws.specs.Standing.{IsSessionOf}
 use Rattle.session_laws.proofs.Beginning.{new_stands}
-use Rattle.switch_core.specs.Outcomes.{StepsTo}
-use Rattle.switch_core.specs.Taking.{Takes, TakesStep}
-use Rattle.switch_core.specs.declared.answer.Step.{Step}
-use Rattle.switch_core.specs.declared.answer.Step.TheVariants as step
-use Rattle.switch_core.specs.declared.answer.TakeFault.{TakeFault}
+use Rattle.orch_core.specs.Outcomes.{StepsTo}
+use Rattle.orch_core.specs.Taking.{Takes, TakesStep}
+use Rattle.orch_core.specs.declared.answer.Step.{Step}
+use Rattle.orch_core.specs.declared.answer.Step.TheVariants as step
+use Rattle.orch_core.specs.declared.answer.TakeFault.{TakeFault}
 use Rattle.core_cases.specs.Running.{IsRunning}
 
 new_core_runs : (plan : Ports) (capacities : List ℕ) (limit : ℕ) (fails : List Fail) → IsPlan plan → IsRunning (new_core plan capacities limit) (new_chip capacities fails)

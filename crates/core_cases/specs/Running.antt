@@ -3,7 +3,7 @@ use Rattle.std.specs.Prelude.{◌≡◌, ◌⊎◌}
 use Rattle.sai_types.specs.ChipState.{ChipState}
 use Rattle.warm_state.specs.declared.warm.Warm.TheVariants as warm
 use Rattle.session_laws.specs.Core.{CoreState}
-use Rattle.switch_core.specs.Outcomes.{IsInSession}
+use Rattle.orch_core.specs.Outcomes.{IsInSession}
 
 -- a core and its chip stand for a session, and no restart is under way
 abbrev pub IsRunning : CoreState → ChipState → Type 0

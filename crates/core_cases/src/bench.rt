@@ -3,11 +3,11 @@ ghost use Rattle.std.specs.Prelude.{◌<◌};
 ghost use Rattle.switch_model.specs.Marks.{written_key};
 ghost use Rattle.machine_laws.specs.Reading.{IsOnSwitch};
 
+use orch_core::{Core, Settled, Step, TakeFault};
 use sai_chip::SimChip;
 use sai_types::{Caps, Chip, Object, Rid};
 use std::alloc::Global;
 use std::marker::Model;
-use switch_core::{Core, Settled, Step, TakeFault};
 use switch_model::MarkEvent;
 use swss_types::OutOfMemory;
 use table_schema::{PortPlan, Sent, Write};

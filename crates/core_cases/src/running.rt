@@ -7,10 +7,10 @@ use crate::draw::Draw;
 use crate::words::read_write;
 use crate::workers::{CaseWorkers, Order};
 use anyhow::{Context, Result, bail, ensure};
+use orch_core::{Settled, Step};
 use sai_chip::named;
 use sai_types::Thing;
 use std::alloc::Global;
-use switch_core::{Settled, Step};
 use table_schema::PortPlan;
 
 /// Runs a case without workers, and then by each of its workers. It fails where something is found that is not wanted.

@@ -39,10 +39,10 @@ use Rattle.round_laws.proofs.Ending.{round-ends}
 use Rattle.round_laws.proofs.Growing.{effects-grow, marks-grow}
 use Rattle.round_laws.proofs.Sessions.{known-then, leads-on, objects-left, sized, some-on}
 use Rattle.round_laws.proofs.ToSync.{not_suspect}
-use Rattle.switch_core.specs.Outcomes.{KeepsChip}
-use Rattle.switch_core.specs.Settled.{Settles, SettlesWhole, StopsAtMark, StopsFaulted, StopsFull}
-use Rattle.switch_core.specs.declared.answer.Settled.{Settled}
-use Rattle.switch_core.specs.declared.answer.Settled.TheVariants as settled
+use Rattle.orch_core.specs.Outcomes.{KeepsChip}
+use Rattle.orch_core.specs.Settled.{Settles, SettlesWhole, StopsAtMark, StopsFaulted, StopsFull}
+use Rattle.orch_core.specs.declared.answer.Settled.{Settled}
+use Rattle.orch_core.specs.declared.answer.Settled.TheVariants as settled
 use Rattle.swss_script.specs.Sent.{sent_after, sent_in_round, writes_in}
 use Rattle.swss_script.specs.declared.parts.Round.{Round}
 use Rattle.swss_script.specs.declared.parts.Show.{Show}

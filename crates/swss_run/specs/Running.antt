@@ -14,8 +14,8 @@ use Rattle.session_laws.specs.Core.{CoreState}
 use Rattle.round_laws.specs.Between.{IsBetweenRounds, mark_of}
 use Rattle.round_laws.specs.Named.{keys_named}
 use Rattle.round_laws.specs.Sessions.{InSession}
-use Rattle.switch_core.specs.declared.answer.Settled.{Settled}
-use Rattle.switch_core.specs.declared.answer.Settled.TheVariants as settled
+use Rattle.orch_core.specs.declared.answer.Settled.{Settled}
+use Rattle.orch_core.specs.declared.answer.Settled.TheVariants as settled
 use Rattle.swss_script.specs.Sent.{sent_in_round}
 use Rattle.swss_script.specs.declared.parts.Round.{Round}
 use Rattle.swss_script.specs.declared.parts.Show.{Show}

@@ -4,9 +4,9 @@ ghost use Rattle.table_schema.specs.declared.write.Sent.{Sent};
 ghost use Rattle.swss_script.specs.Sent.{writes_in};
 ghost use Rattle.swss_run.specs.Taking.{AreCounted, IsNumber, IsRoundTook, IsTook, writes_by};
 
+use orch_core::Core;
 use std::alloc::Global;
 use std::collections::BTreeMap;
-use switch_core::Core;
 use swss_script::{Act, Acts, Sections};
 use swss_types::OutOfMemory;
 use table_schema::{Sent, Write};

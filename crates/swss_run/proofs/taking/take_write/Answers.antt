@@ -2,9 +2,9 @@ use Rattle.std.proofs.Common.{◌≡◌, ℕ, List, [], ◌∷◌, ◌++◌, ◌
 use Rattle.swss_types.specs.declared.out_of_memory.OutOfMemory.{OutOfMemory}
 use Rattle.table_schema.specs.declared.write.Sent.{Sent}
 use Rattle.session_laws.specs.Core.{CoreState, IsFullFor}
-use Rattle.switch_core.specs.Taking.{Takes}
-use Rattle.switch_core.specs.declared.answer.TakeFault.{TakeFault}
-use Rattle.switch_core.specs.declared.answer.TakeFault.TheVariants as fault
+use Rattle.orch_core.specs.Taking.{Takes}
+use Rattle.orch_core.specs.declared.answer.TakeFault.{TakeFault}
+use Rattle.orch_core.specs.declared.answer.TakeFault.TheVariants as fault
 use Rattle.swss_run.specs.Taking.{Counts, IsNumber, with_all}
 use Rattle.swss_run.proofs.taking.take_write.Goals as goal
 

@@ -1,0 +1,124 @@
+-- the end of a settling
+use Rattle.std.proofs.Common.{◌≡◌, ◌+◌, ◌≤◌, ◌∷◌, ◌∙◌, inl, inr, ℕ, [], length, Result, Ok, Err, refl, sym, ap, subst, arith}
+use Rattle.std.specs.Map.{keys_of}
+use Rattle.std.proofs.lemmas.List.{length-append}
+use Rattle.std.proofs.lemmas.Map.Entries.{length-keys_of}
+use Rattle.swss_types.specs.declared.out_of_memory.OutOfMemory.{OutOfMemory}
+use Rattle.table_schema.specs.declared.key.Key.{Key}
+use Rattle.sai_types.specs.ChipState.{ChipState}
+use Rattle.consumer_table.specs.Ops.{AreOpsInOrder}
+use Rattle.switch_model.specs.History.{with_end, with_mark}
+use Rattle.switch_model.specs.Marks.{Waiting}
+use Rattle.switch_model.specs.declared.mark.Mark.{Mark}
+use Rattle.switch_model.specs.declared.mark.MarkEvent.TheVariants as event
+use Rattle.switch_machine.specs.Next.{MustWait}
+use Rattle.restart_laws.specs.Logged.{LoggedService}
+use Rattle.sync_tables.specs.Tables.{IsToSync}
+use Rattle.session_laws.specs.Core.{CoreState, IsFullFor, mark_at, size_beside}
+use Rattle.session_laws.specs.Standing.{IsSessionOf}
+use Rattle.settling_laws.specs.Leading.{LeadsTo, PopsTo, RunsTo, SettlesTo}
+use Rattle.settling_laws.specs.Turning.{IsAtRest, TurnsTo}
+use Rattle.settling_laws.proofs.Leading.{leads_more, leads_some}
+use Rattle.settling_laws.proofs.Settling.{settling_ends}
+use Rattle.orch_core.specs.Marked.{AreListedFrom, ListsWhatWaits, Marks, with_settled}
+use Rattle.orch_core.specs.Outcomes.{KeepsChip}
+use Rattle.orch_core.specs.Settled.{MarksTurns, Settles, SettlesKeys, SettlesWhole, StopsAtMark, StopsShort}
+use Rattle.orch_core.specs.declared.answer.Settled.{Settled}
+use Rattle.orch_core.specs.declared.answer.Settled.TheVariants as settled
+use Rattle.orch_core.proofs.Listings.{listed_all, listed_length, listed_only, listed_order, listed_reasons, listed_same}
+use Rattle.orch_core.proofs.Chips.{keeps_on}
+use Rattle.orch_core.proofs.Runs.{faulted_more, full_more, log_same, short_more}
+
+-- ---- turns and their mark
+
+-- why each key to sync waits is told
+waits_told : (n : ℕ) (s : LoggedService) (c mid : CoreState) (chip' : ChipState) (x : TurnsTo n c s mid chip') (k : Key) → IsToSync mid.tables k → MustWait mid.board.plan 4 mid.sync.capacities x.later.service.core k
+waits_told n s c mid chip' x k i = let one = x.lists k i in (one.0, one.2)
+
+module _ (s : LoggedService) (c : CoreState) (first : ChipState) (is : IsSessionOf c first s) (n : ℕ) (mid : CoreState) (chip' : ChipState) (order : AreOpsInOrder c.tables.ops) (x : TurnsTo n c s mid chip') (keeps : KeepsChip first chip') (effects : ℕ) (same : effects ≡ length chip'.effects) where
+  kept : mid.log ≡ c.log
+  kept = log_same c mid first chip' s x.later is x.leads.stands x.log
+
+  full : IsFullFor mid effects (1 + length mid.tables.ops) → AreOpsInOrder mid.tables.ops → StopsAtMark s c first mid chip'
+  full h rise = record { later = x.later; leads = x.leads; at_rest = x.at_rest; log = kept; order = rise; waits = waits_told n s c mid chip' x; full = subst (λ e. IsFullFor mid e (1 + length mid.tables.ops)) same h; keeps = keeps }
+
+  short : StopsShort s c first mid chip'
+  short = record { steps = leads_some c mid chip' s x.later x.leads; warm = x.at_rest.warm; log = kept; keeps = keeps }
+
+  pub keys_end : (r : Result Settled OutOfMemory) (c' : CoreState) → Marks effects n mid r c' → SettlesKeys s c first r c' chip'
+  keys_end (Ok settled.Settled) c' h = record { turns = n; mid = mid; order = order; turned = x; marks = subst (λ e. Marks e n mid (Ok settled.Settled) c') same h; keeps = keeps }
+  keys_end (Ok settled.LogFull) c' h = inr (subst (λ z. StopsAtMark s c first z chip') (sym h.0) (full h.1 h.2))
+  keys_end (Ok settled.Faulted) c' h = absurd h
+  keys_end (Err e) c' h = subst (λ z. StopsShort s c first z chip') (sym h) short
+
+-- ---- the whole
+
+module _ (s : LoggedService) (c : CoreState) (first : ChipState) (is : IsSessionOf c first s) (c1 c2 : CoreState) (chip1 : ChipState) (keeps : KeepsChip first chip1) (x : RunsTo c s c1 chip1) (y : PopsTo c1 x.later c2 chip1) (rest : IsAtRest c2) where
+  leads : LeadsTo c s y.later c2 chip1
+  leads = leads_more c c1 c2 chip1 chip1 s x.later y.later x.leads y.leads
+
+  kept_log : c2.log ≡ c.log
+  kept_log = log_same c c2 first chip1 s y.later is y.leads.stands (y.log ∙ x.log)
+
+  module _ (c' : CoreState) (chip' : ChipState) (m : MarksTurns y.later c2 chip1 c' chip') where
+    abbrev waits : Waiting
+    waits = m.marks.1
+
+    listed : AreListedFrom m.mid (keys_of m.mid.tables.ops) waits
+    listed = m.marks.2
+
+    many : length waits ≡ length m.mid.tables.ops
+    many = listed_length m.mid (keys_of m.mid.tables.ops) waits listed ∙ length-keys_of m.mid.tables.ops
+
+    ended : SettlesTo c s c' chip'
+    ended =
+        subst (λ z. SettlesTo c s z chip') (sym (m.marks.3 ∙ ap (λ n. record m.mid { log = with_end (with_mark m.mid.log (mark_at m.mid (length chip'.effects) (event.Settled waits m.turns))); listed = m.mid.listed + n }) (sym many)))
+        (settling_ends m.turns c c1 c2 m.mid chip1 chip1 chip' s x y m.turned waits rest m.order
+        (listed_reasons m.mid m.turned.later.service.core (keys_of m.mid.tables.ops) waits m.turned.lists listed)
+        (λ k i. listed_all m.mid (keys_of m.mid.tables.ops) waits listed k i)
+        (λ k i. listed_only m.mid (keys_of m.mid.tables.ops) waits listed k i)
+        (listed_order m.mid m.mid.tables.ops waits m.marks.0 listed))
+
+    fits_marked : size_beside (with_settled m.mid (length chip'.effects) waits m.turns (length m.mid.tables.ops)) (length chip'.effects) ≤ m.mid.limit
+    fits_marked =
+        let longer = length-append m.mid.log.marks (mark_at m.mid (length chip'.effects) (event.Settled waits m.turns) ∷ []) in
+        let room = m.marks.4 in
+        omega (arith, longer, room)
+
+    fits : size_beside c' (length chip'.effects) ≤ c'.limit
+    fits = subst (λ (z : CoreState). size_beside z (length chip'.effects) ≤ z.limit) (sym m.marks.3) fits_marked
+
+    lists_marked : ListsWhatWaits (with_settled m.mid (length chip'.effects) waits m.turns (length m.mid.tables.ops))
+    lists_marked =
+        let mark : Mark = mark_at m.mid (length chip'.effects) (event.Settled waits m.turns) in
+        record {
+          before = m.mid.log;
+          mark = mark;
+          waits = waits;
+          turns = m.turns;
+          log = refl;
+          settled = refl;
+          listed = listed_same m.mid (with_end (with_mark m.mid.log mark)) (m.mid.listed + length m.mid.tables.ops) (keys_of m.mid.tables.ops) waits listed;
+        }
+
+    lists : ListsWhatWaits c'
+    lists = subst ListsWhatWaits (sym m.marks.3) lists_marked
+
+    whole : SettlesWhole s c first c' chip'
+    whole = record { settles = ended; places = fits; lists = lists; keeps = keeps_on first chip1 chip' keeps m.keeps }
+
+  pub settles_all : (r : Result Settled OutOfMemory) (c' : CoreState) (chip' : ChipState) → SettlesKeys y.later c2 chip1 r c' chip' → Settles s c first r c' chip'
+  settles_all (Ok settled.Settled) c' chip' m = whole c' chip' m
+  settles_all (Ok settled.Faulted) c' chip' h = (faulted_more s y.later c c2 chip1 leads first is kept_log keeps (λ none. rest.popped) c' chip' h, λ free. h.popped rest.popped)
+  settles_all (Ok settled.LogFull) c' chip' (inl h) = inl (full_more s y.later c c2 chip1 leads first is kept_log keeps c' chip' h)
+  settles_all (Ok settled.LogFull) c' chip' (inr h) = inr (record {
+    later = h.later;
+    leads = leads_more c c2 c' chip1 chip' s y.later h.later leads h.leads;
+    at_rest = h.at_rest;
+    log = h.log ∙ kept_log;
+    order = h.order;
+    waits = h.waits;
+    full = h.full;
+    keeps = keeps_on first chip1 chip' keeps h.keeps;
+  })
+  settles_all (Err e) c' chip' h = short_more s y.later c c2 chip1 leads first is kept_log keeps c' chip' h

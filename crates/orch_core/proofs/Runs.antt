@@ -1,0 +1,219 @@
+-- answers and pops, one after the other
+use Rattle.std.proofs.Common.{◌≡◌, ◌+◌, ◌<◌, ◌≤◌, ◌==◌, ◌∷◌, ◌++◌, ◌∙◌, ◌⊎◌, inl, inr, ℕ, Bool, true, false, List, [], length, Option, None, Some, Result, Ok, Err, refl, sym, ap, subst, arith}
+use Rattle.std.proofs.lemmas.List.{length-append}
+use Rattle.std.specs.Option.{IsSome}
+use Rattle.std.specs.Result.{IsErr}
+use Rattle.std.proofs.lemmas.Bool.{eq-eqb, eqb-true, false≢true}
+use Rattle.swss_types.specs.declared.out_of_memory.OutOfMemory.{OutOfMemory}
+use Rattle.sai_types.specs.declared.body.Call.{Call}
+use Rattle.sai_types.specs.declared.ids.Rid.{Rid}
+use Rattle.sai_types.specs.ChipState.{ChipState}
+use Rattle.switch_model.specs.History.{History, listed_by}
+use Rattle.switch_model.specs.declared.mark.MarkEvent.TheVariants as event
+use Rattle.restart_laws.specs.Logged.{LoggedService}
+use Rattle.sync_tables.specs.Tables.{PopsKeys, TablesState}
+use Rattle.flight_board.specs.Board.{BoardState, flown_at}
+use Rattle.warm_state.specs.declared.warm.Warm.TheVariants as warm
+use Rattle.session_laws.specs.Core.{CoreState, size_beside}
+use Rattle.session_laws.specs.Events.{MakesSome}
+use Rattle.session_laws.specs.Standing.{IsSessionOf}
+use Rattle.session_laws.proofs.Joining.{no_step, one_step}
+use Rattle.session_laws.proofs.Popping.{pop_told}
+use Rattle.settling_laws.specs.Leading.{LeadsTo, PopsTo, RunsTo}
+use Rattle.settling_laws.proofs.Leading.{leads_more, leads_some}
+use Rattle.settling_laws.proofs.Popping.{pops_more, pops_none}
+use Rattle.settling_laws.proofs.Running.{runs_more, runs_none}
+use Rattle.orch_core.specs.Outcomes.{Answered, AnswersCall, IsSameBeside, KeepsChip, KeepsFlights, MarksFault, with_fault}
+use Rattle.settling_laws.specs.Turning.{IsAtRest}
+use Rattle.orch_core.specs.Settled.{Pops, PopsAlone, RunsAll, RunsOut, Settles, RunsWhole, StopsFaulted, StopsFull, StopsShort}
+use Rattle.orch_core.specs.declared.answer.Ran.{Ran}
+use Rattle.orch_core.specs.declared.answer.Ran.TheVariants as ran
+use Rattle.orch_core.specs.declared.answer.Settled.{Settled}
+use Rattle.orch_core.specs.declared.answer.Step.{Step}
+use Rattle.orch_core.specs.declared.answer.Step.TheVariants as step
+use Rattle.orch_core.proofs.Chips.{keeps_itself, keeps_on}
+
+pub beside_itself : (c : CoreState) → IsSameBeside c c
+beside_itself c = record { tables = refl; waiting = refl; log = refl; listed = refl; limit = refl; warm = refl }
+
+pub beside_on : (c d e : CoreState) → IsSameBeside c d → IsSameBeside d e → IsSameBeside c e
+beside_on c d e x y = record { tables = y.tables ∙ x.tables; waiting = y.waiting ∙ x.waiting; log = y.log ∙ x.log; listed = y.listed ∙ x.listed; limit = y.limit ∙ x.limit; warm = y.warm ∙ x.warm }
+
+-- ---- where steps stop
+
+module _ (s t : LoggedService) (c d : CoreState) (chip : ChipState) (leads : LeadsTo c s t d chip) where
+  -- steps of the later core are steps of the first
+  pub all_more : (e : CoreState) (chip' : ChipState) → MakesSome d t e chip' → MakesSome c s e chip'
+  all_more e chip' y = leads_some c e chip' s _ (leads_more c d e chip chip' s t _ leads (record { steps = y.steps; are = y.are; is = refl; stands = y.stands; plan = y.plan; capacities = y.capacities; limit = y.limit }))
+
+  -- where nothing was logged on the way, what stops the later core stops the first
+  module _ (first : ChipState) (is : IsSessionOf c first s) (same : d.log ≡ c.log) (keeps : KeepsChip first chip) where
+    size_same : (n : ℕ) → size_beside d n ≡ size_beside c n
+    size_same n =
+        let listed : d.listed ≡ c.listed = leads.stands.listed ∙ ap (λ (h : History). listed_by h.marks) same ∙ sym is.listed in
+        let taken : length d.log.taken ≡ length c.log.taken = ap (λ (h : History). length h.taken) same in
+        let marks : length d.log.marks ≡ length c.log.marks = ap (λ (h : History). length h.marks) same in
+        omega (arith, listed, taken, marks)
+
+    marks_more : (e : CoreState) (chip' : ChipState) → MarksFault true d chip e chip' → MarksFault true c first e chip'
+    marks_more e chip' y =
+        let faults = keeps.faults in
+        let risen = y.risen in
+        let size = size_same chip'.before_fault in
+        let places = y.places in
+        let limit = leads.limit in
+        record {
+          before = y.before;
+          risen = omega (arith, faults, risen);
+          more = y.more;
+          log = y.log ∙ ap (λ (h : History). with_fault true h (record { taken = length h.taken; effects = length chip'.effects; event = event.Faulted y.before chip'.faults })) same;
+          warm = y.warm;
+          places = omega (arith, size, places, limit);
+          few = y.few;
+        }
+
+    pub faulted_more : (c.tables.waiting ≡ [] → d.tables.waiting ≡ []) → (e : CoreState) (chip' : ChipState) → StopsFaulted t d chip e chip' → StopsFaulted s c first e chip'
+    faulted_more popped e chip' y = record { steps = all_more e chip' y.steps; marks = marks_more e chip' y.marks; popped = λ none. y.popped (popped none); keeps = keeps_on first chip chip' keeps y.keeps }
+
+    pub full_more : (e : CoreState) (chip' : ChipState) → StopsFull t d chip e chip' → StopsFull s c first e chip'
+    full_more e chip' y = record { steps = all_more e chip' y.steps; warm = y.warm; log = y.log ∙ same; flying = y.flying; full = y.full; keeps = keeps_on first chip chip' keeps y.keeps }
+
+    pub short_more : (e : CoreState) (chip' : ChipState) → StopsShort t d chip e chip' → StopsShort s c first e chip'
+    short_more e chip' y = record { steps = all_more e chip' y.steps; warm = y.warm; log = y.log ∙ same; keeps = keeps_on first chip chip' keeps y.keeps }
+
+-- nothing was logged in a session: the cores' logs are the same
+pub log_same : (c d : CoreState) (first chip : ChipState) (s t : LoggedService) → IsSessionOf c first s → IsSessionOf d chip t → t.log ≡ s.log → d.log ≡ c.log
+log_same c d first chip s t is there same = sym there.log ∙ same ∙ is.log
+
+-- the answer of a call that stops
+module _ (s : LoggedService) (w : ℕ) (c : CoreState) (chip : ChipState) (at : c.warm ≡ warm.Reconciled) (d : CoreState) (chip' : ChipState) where
+  pub stop_faulted : Answered true s w c chip (Ok step.Faulted) d chip' → StopsFaulted s c chip d chip'
+  stop_faulted y = record { steps = one_step c d chip' s y.makes; marks = y.marks; popped = λ none. ap (λ t. t.waiting) y.tables ∙ none; keeps = y.keeps }
+
+  pub stop_full : IsSessionOf c chip s → w < 4 → IsSome (flown_at c.board w) → Answered true s w c chip (Ok step.LogFull) d chip' → StopsFull s c chip d chip'
+  stop_full is less flying y =
+      subst (λ z. StopsFull s c chip z chip') (sym y.0)
+      (subst (λ z. StopsFull s c chip c z) (sym y.1) (record { steps = no_step c chip s is; warm = at; log = refl; flying = (w, less, flying); full = y.2; keeps = keeps_itself chip }))
+
+  pub stop_short : (e : OutOfMemory) → Answered true s w c chip (Err e) d chip' → StopsShort s c chip d chip'
+  stop_short e y =
+      subst (λ z. StopsShort s c chip d z) (sym y.0)
+      (record { steps = record { steps = []; are = tt; stands = y.1.stands; plan = y.1.plan; capacities = y.1.capacities; limit = y.1.limit }; warm = y.1.warm ∙ at; log = y.1.log; keeps = keeps_itself chip })
+
+-- ---- answers
+
+module _ (s : LoggedService) (w : ℕ) (c : CoreState) (first : ChipState) where
+  pub runs_first : IsSessionOf c first s → RunsWhole s w c first c first
+  runs_first is = record { runs = runs_none c first s is; beside = beside_itself c; others = λ v apart. refl; keeps = keeps_itself first }
+
+  module _ (d : CoreState) (chip : ChipState) (x : RunsWhole s w c first d chip) where
+    pub runs_on : (e : CoreState) (chip' : ChipState) → AnswersCall x.runs.later w d chip e chip' → RunsWhole s w c first e chip'
+    runs_on e chip' y = record { runs = runs_more c d e chip chip' s x.runs y.makes y.call y.answer y.moves; beside = beside_on c d e x.beside y.beside; others = λ v apart. y.others v apart ∙ x.others v apart; keeps = keeps_on first chip chip' x.keeps y.keeps }
+
+-- ---- the log fills up with answers
+
+longer : (es fs : List (Call Rid)) (e : Call Rid) → fs ≡ es ++ e ∷ [] → length fs ≡ length es + 1
+longer es fs e h = ap length h ∙ length-append es (e ∷ [])
+
+pub fuller : (w : ℕ) (c : CoreState) (chip : ChipState) (s : LoggedService) (d : CoreState) (chip' : ChipState) → IsSessionOf c chip s → (y : AnswersCall s w c chip d chip') → size_beside d (length chip'.effects) ≡ size_beside c (length chip.effects) + 1
+fuller w c chip s d chip' is y =
+    let more : length chip'.effects ≡ length chip.effects + 1 = longer chip.effects chip'.effects y.call (sym y.makes.stands.effects ∙ ap (λ (t : LoggedService). t.effects) y.moves ∙ ap (λ l. l ++ y.call ∷ []) is.effects) in
+    let taken : length d.log.taken ≡ length c.log.taken = ap (λ (h : History). length h.taken) y.beside.log in
+    let marks : length d.log.marks ≡ length c.log.marks = ap (λ (h : History). length h.marks) y.beside.log in
+    let listed : d.listed ≡ c.listed = y.beside.listed in
+    omega (arith, more, taken, marks, listed)
+
+-- ---- pops
+
+pub pops_first : (c : CoreState) → PopsAlone c c
+pops_first c = (c.tables, refl, λ chip s is. pops_none c chip s is)
+
+pub pops_on : (c d : CoreState) → c.warm ≡ warm.Reconciled → PopsAlone c d → (e : CoreState) (t : TablesState) → PopsKeys d.tables t → e ≡ record d { tables = t } → PopsAlone c e
+pops_on c d at (u, is_with, pops) e t keys same = (t, same ∙ ap (λ (z : CoreState). record z { tables = t }) is_with, λ chip s is. by chip s is (pops chip s is))
+  where
+    at_then : d.warm ≡ warm.Reconciled
+    at_then = ap (λ (z : CoreState). z.warm) is_with ∙ at
+
+    by : (chip : ChipState) (s : LoggedService) → IsSessionOf c chip s → PopsTo c s d chip → PopsTo c s e chip
+    by chip s is x = let y = pop_told d chip x.later t x.leads.stands at_then keys in subst (λ z. PopsTo c s z chip) (sym same) (pops_more c d (record d { tables = t }) chip chip s x y.0 y.1 y.2)
+
+pub pops_err : (c d : CoreState) (r : Result (Unit {0}) OutOfMemory) → IsErr r → PopsAlone c d → Pops c r d
+pops_err c d (Err e) h x = x
+pops_err c d (Ok u) h x = absurd (false≢true h)
+
+-- ---- by the answer
+
+pub did_by : (s : LoggedService) (w : ℕ) (c : CoreState) (chip : ChipState) (r : Step) (d : CoreState) (chip' : ChipState) → (r ≡ step.Faulted → ⊥) → (r ≡ step.LogFull → ⊥) → Answered true s w c chip (Ok r) d chip' → AnswersCall s w c chip d chip'
+did_by s w c chip step.Did d chip' not_faulted not_full h = h
+did_by s w c chip step.Faulted d chip' not_faulted not_full h = absurd (not_faulted refl)
+did_by s w c chip step.LogFull d chip' not_faulted not_full h = absurd (not_full refl)
+did_by s w c chip step.Idle d chip' not_faulted not_full h = absurd h
+did_by s w c chip step.Suspect d chip' not_faulted not_full h = absurd h
+
+module _ (s : LoggedService) (c : CoreState) (chip : ChipState) (d : CoreState) (chip' : ChipState) where
+  pub out_err : (w : ℕ) (r : Result Ran OutOfMemory) → IsErr r → StopsShort s c chip d chip' → RunsOut s w c chip r d chip'
+  out_err w (Err e) h x = x
+  out_err w (Ok b) h x = absurd (false≢true h)
+
+  pub all_err : (r : Result Ran OutOfMemory) → IsErr r → StopsShort s c chip d chip' → RunsAll s c chip r d chip'
+  all_err (Err e) h x = x
+  all_err (Ok b) h x = absurd (false≢true h)
+
+  pub settles_err : (r : Result Settled OutOfMemory) → IsErr r → StopsShort s c chip d chip' → Settles s c chip r d chip'
+  settles_err (Err e) h x = x
+  settles_err (Ok b) h x = absurd (false≢true h)
+
+-- one worker more, or a stop
+module _ (s : LoggedService) (c : CoreState) (first : ChipState) (is : IsSessionOf c first s) (d : CoreState) (chip : ChipState) (x : RunsTo c s d chip) (keeps : KeepsChip first chip) (w : ℕ) where
+  same : d.log ≡ c.log
+  same = log_same c d first chip s x.later is x.leads.stands x.log
+
+  pub all_stops : (r : Ran) → (r ≡ ran.Whole → ⊥) → IsSameBeside c d → w < 4 → flown_at d.board w ≡ flown_at c.board w → (e : CoreState) (chip' : ChipState) → RunsOut x.later w d chip (Ok r) e chip' → RunsAll s c first (Ok r) e chip'
+  all_stops ran.Whole not beside less still e chip' h = absurd (not refl)
+  all_stops ran.Faulted not beside less still e chip' h = (
+    faulted_more s x.later c d chip x.leads first is same keeps (λ none. ap (λ t. t.waiting) beside.tables ∙ none) e chip' h.0,
+    (w, less, subst (λ o. IsSome o) still h.1),
+  )
+  all_stops ran.LogFull not beside less still e chip' h = full_more s x.later c d chip x.leads first is same keeps e chip' h
+
+  pub all_short : (e : CoreState) (chip' : ChipState) → StopsShort x.later d chip e chip' → StopsShort s c first e chip'
+  all_short e chip' h = short_more s x.later c d chip x.leads first is same keeps e chip' h
+
+pub free_on : (w : ℕ) (b b' : BoardState) → ((v : ℕ) → v < w → flown_at b v ≡ None) → KeepsFlights w b b' → flown_at b' w ≡ None → (v : ℕ) → v < w + 1 → flown_at b' v ≡ None
+free_on w b b' free others own v less = by (v == w) refl
+  where
+    by : (same : Bool) → (v == w) ≡ same → flown_at b' v ≡ None
+    by true h = ap (flown_at b') (eqb-true v w h) ∙ own
+    by false h = let apart : v ≡ w → ⊥ = λ e. false≢true (sym h ∙ eq-eqb v w e) in others v apart ∙ free v (omega (arith, less, apart))
+
+-- a worker that has something under way had it from the first, or at once
+pub flew : (w : ℕ) (c d : CoreState) → (d ≡ c) ⊎ IsSome (flown_at c.board w) → IsSome (flown_at d.board w) → IsSome (flown_at c.board w)
+flew w c d (inl same) h = subst (λ (z : CoreState). IsSome (flown_at z.board w)) same h
+flew w c d (inr had) h = had
+
+pub still_on : (w : ℕ) (b0 b b' : BoardState) → ((v : ℕ) → w ≤ v → flown_at b v ≡ flown_at b0 v) → KeepsFlights w b b' → (v : ℕ) → w + 1 ≤ v → flown_at b' v ≡ flown_at b0 v
+still_on w b0 b b' still others v more = others v (λ e. absurd (omega (arith, more, e))) ∙ still v (omega (arith, more))
+
+-- nothing under way, and something
+pub none_and_some : {X : Type 0} (o : Option X) → o ≡ None → IsSome o → ⊥
+none_and_some None e h = false≢true h
+none_and_some (Some x) e h = cc
+
+-- ---- after all pops
+
+pub rest_popped : (c d e : CoreState) → c.warm ≡ warm.Reconciled → IsSameBeside c d → ((v : ℕ) → v < 4 → flown_at d.board v ≡ None) → PopsAlone d e → e.tables.waiting ≡ [] → IsAtRest e
+rest_popped c d e at beside free pops none = record {
+  free = λ v less. ap (λ (z : CoreState). flown_at z.board v) pops.1 ∙ free v less;
+  popped = none;
+  warm = ap (λ (z : CoreState). z.warm) pops.1 ∙ beside.warm ∙ at;
+}
+
+pub short_popped : (s : LoggedService) (c : CoreState) (first : ChipState) (d e : CoreState) (chip : ChipState) → c.warm ≡ warm.Reconciled → IsSameBeside c d → RunsTo c s d chip → KeepsChip first chip → PopsAlone d e → StopsShort s c first e chip
+short_popped s c first d e chip at beside x keeps pops =
+    let y = pops.2 chip x.later x.leads.stands in
+    record {
+      steps = leads_some c e chip s y.later (leads_more c d e chip chip s x.later y.later x.leads y.leads);
+      warm = ap (λ (z : CoreState). z.warm) pops.1 ∙ beside.warm ∙ at;
+      log = ap (λ (z : CoreState). z.log) pops.1 ∙ beside.log;
+      keeps = keeps;
+    }

@@ -1,0 +1,231 @@
+-- turns, key by key
+use Rattle.std.proofs.Common.{◌≡◌, ◌+◌, ◌<◌, ◌∷◌, ◌++◌, ◌∙◌, inl, inr, ℕ, List, [], length, Option, None, Some, option_map, zero, suc, Result, Ok, Err, refl, sym, ap, subst, arith}
+use Rattle.std.specs.Map.{keys_of}
+use Rattle.std.specs.Result.{IsErr}
+use Rattle.std.proofs.lemmas.Bool.{false≢true}
+use Rattle.std.proofs.lemmas.List.{append_assoc}
+use Rattle.swss_types.specs.declared.out_of_memory.OutOfMemory.{OutOfMemory}
+use Rattle.table_schema.specs.declared.key.Key.{Key}
+use Rattle.sai_types.specs.ChipState.{ChipState}
+use Rattle.consumer_table.specs.Ops.{AreOpsInOrder, Ops, first_in, keys_behind}
+use Rattle.retry_list.specs.Reasons.{with_reason}
+use Rattle.switch_model.specs.declared.wait.Wait.{Wait}
+use Rattle.switch_machine.specs.Reasons.{IsReason}
+use Rattle.restart_laws.specs.Logged.{LoggedService}
+use Rattle.flight_board.specs.Board.{FlightState, flight_on, flown_at}
+use Rattle.warm_state.specs.declared.warm.Warm.TheVariants as warm
+use Rattle.session_laws.specs.Core.{CoreState}
+use Rattle.session_laws.specs.Standing.{IsSessionOf}
+use Rattle.session_laws.proofs.Beside.{stands_with}
+use Rattle.settling_laws.specs.Leading.{LeadsTo}
+use Rattle.settling_laws.specs.Turning.{IsAtRest, IsTurned, IsTurning}
+use Rattle.settling_laws.proofs.Leading.{leads_one}
+use Rattle.settling_laws.proofs.Turning.{turn_begins, turn_drops, turn_runs, turn_waits}
+use Rattle.settling_laws.proofs.Walking.{first_next, walk_goes, walk_stays}
+use Rattle.orch_core.specs.Outcomes.{KeepsChip, BeginsTo, DropsTo, IsSameCore, left_by}
+use Rattle.orch_core.specs.Settled.{Begun, Brings, BringsKey, Dropped, MakesTurn, MakesTurns, RunsOut, RunsWhole, StopsShort, Waits, StopsFaulted, StopsFull}
+use Rattle.orch_core.specs.declared.answer.Ran.{Ran}
+use Rattle.orch_core.specs.declared.answer.Ran.TheVariants as ran
+use Rattle.orch_core.specs.declared.answer.Turned.{Turned}
+use Rattle.orch_core.proofs.Chips.{keeps_itself, keeps_on, keeps_same}
+use Rattle.orch_core.proofs.Runs.{faulted_more, full_more, log_same, short_more}
+use Rattle.orch_core.proofs.Walks.{some_same, warm_same}
+
+-- ---- at rest
+
+-- a core with the same board, tables but for keys to sync, and warm state
+pub rest_left : (c : CoreState) (k : Key) → IsAtRest c → IsAtRest (left_by c k)
+rest_left c k rest = record { free = rest.free; popped = rest.popped; warm = rest.warm }
+
+pub rest_same : (c d : CoreState) → IsSameCore c d → IsAtRest c → IsAtRest d
+rest_same c d (b, x, e) rest = subst IsAtRest (sym e) (record { free = λ v less. flown_same v ∙ rest.free v less; popped = rest.popped; warm = rest.warm })
+  where
+    flown_same : (v : ℕ) → flown_at b v ≡ flown_at c.board v
+    flown_same v = ap (λ l. option_map (λ (f : FlightState). f.flown) (flight_on l v)) x.flights
+
+-- ---- a turn so far: the keys before this one were tried
+
+abbrev pub IsTurnAt : CoreState → ChipState → Option Key → CoreState → ChipState → Type 0
+IsTurnAt c chip after d chip' = (s : LoggedService) → IsSessionOf c chip s → (left : List Key) × (rest : List Key) × (keys_behind after (keys_of d.tables.ops) ≡ rest) × IsTurning (keys_of c.tables.ops) c s left rest d chip' × KeepsChip chip chip'
+
+pub turn_first : (c : CoreState) (chip : ChipState) → IsAtRest c → IsTurnAt c chip None c chip
+turn_first c chip rest s is = ([], keys_of c.tables.ops, refl, turn_begins c chip s is rest, keeps_itself chip)
+
+-- the next key, and those behind it
+pub leads_with_key : (rest : List Key) (after : Option Key) (keys : List Key) (k : Key) → keys_behind after keys ≡ rest → first_in (keys_behind after keys) ≡ Some k → (more : List Key) × (rest ≡ k ∷ more)
+leads_with_key rest after keys k behind first = first_next rest k (ap first_in (sym behind) ∙ first)
+
+one_longer : (k : Key) (ks : List Key) → length (k ∷ ks) ≡ length ks + 1
+one_longer k ks = omega arith
+
+-- the keys behind this one are the last of all
+abbrev pub AreBehind : Option Key → List Key → Type 0
+AreBehind after keys = (front : List Key) × (rest : List Key) × (keys ≡ front ++ rest) × (keys_behind after keys ≡ rest)
+
+abbrev pub behind_first : (keys : List Key) → AreBehind None keys
+behind_first keys = ([], keys, refl, refl)
+
+module _ (ops : Ops) (after : Option Key) (k : Key) (order : AreOpsInOrder ops) (are : AreBehind after (keys_of ops)) (first : first_in (keys_behind after (keys_of ops)) ≡ Some k) where
+  pub more_of : (more : List Key) × (are.1 ≡ k ∷ more)
+  more_of = leads_with_key are.1 after (keys_of ops) k are.3 first
+
+  pub split_of : keys_of ops ≡ are.0 ++ (k ∷ more_of.0)
+  split_of = are.2 ∙ ap (λ l. are.0 ++ l) more_of.1
+
+  abbrev pub behind_on : AreBehind (Some k) (keys_of ops)
+  behind_on = (are.0 ++ k ∷ [], more_of.0, split_of ∙ sym (append_assoc are.0 (k ∷ []) more_of.0), walk_stays ops are.0 more_of.0 k order split_of)
+
+  pub behind_next : keys_behind after (keys_of ops) ≡ k ∷ keys_behind (Some k) (keys_of ops)
+  behind_next = are.3 ∙ more_of.1 ∙ ap (λ l. k ∷ l) (sym (walk_stays ops are.0 more_of.0 k order split_of))
+
+  pub behind_fewer : length (keys_behind (Some k) (keys_of ops)) < length (keys_behind after (keys_of ops))
+  behind_fewer =
+      let now : length (keys_behind (Some k) (keys_of ops)) ≡ length more_of.0 = ap length (walk_stays ops are.0 more_of.0 k order split_of) in
+      let before : length (keys_behind after (keys_of ops)) ≡ length more_of.0 + 1 = ap length (are.3 ∙ more_of.1) ∙ one_longer k more_of.0 in
+      omega (arith, now, before)
+
+module _ (keys left more : List Key) (k : Key) (c d : CoreState) (chip : ChipState) (s : LoggedService) (x : IsTurning keys c s left (k ∷ more) d chip) (order : AreOpsInOrder d.tables.ops) where
+  abbrev IsNext : CoreState → ChipState → Type 0
+  IsNext e chip' = (l : List Key) × (keys_behind (Some k) (keys_of e.tables.ops) ≡ more) × IsTurning keys c s l more e chip'
+
+  goes : (keys_of (left_by d k).tables.ops ≡ left ++ more) × (keys_behind (Some k) (keys_of (left_by d k).tables.ops) ≡ more)
+  goes = walk_goes d.tables.ops left more k order x.ops
+
+  dropped : (e : CoreState) (chip' : ChipState) → chip' ≡ chip → DropsTo x.later k d e chip → IsNext e chip'
+  dropped e chip' same y =
+      let rest : IsAtRest e = subst IsAtRest (sym y.is) (rest_left d k x.at_rest) in
+      subst (IsNext e) (sym same) (
+        left,
+        ap (λ (z : CoreState). keys_behind (Some k) (keys_of z.tables.ops)) y.is ∙ goes.1,
+        turn_drops keys left more k c d chip s x e y.makes y.drop y.key y.moves rest (ap (λ (z : CoreState). keys_of z.tables.ops) y.is ∙ goes.0),
+      )
+
+  begun : (mid : CoreState) (y : BeginsTo x.later 0 k d mid chip) (e : CoreState) (chip' : ChipState) → RunsWhole y.makes.later 0 mid chip e chip' → flown_at e.board 0 ≡ None → IsNext e chip'
+  begun mid y e chip' r none =
+      let rest : IsAtRest e = record {
+        free = free;
+        popped = ap (λ t. t.waiting) r.beside.tables ∙ ap (λ (z : CoreState). z.tables.waiting) y.is ∙ x.at_rest.popped;
+        warm = r.beside.warm ∙ ap (λ (z : CoreState). z.warm) y.is ∙ x.at_rest.warm;
+      } in
+      let ops : e.tables ≡ (left_by d k).tables = r.beside.tables ∙ ap (λ (z : CoreState). z.tables) y.is in (
+        left,
+        ap (λ t. keys_behind (Some k) (keys_of t.ops)) ops ∙ goes.1,
+        turn_runs keys left more k c d chip s x mid e chip' y.makes y.begin y.key y.moves r.runs rest (ap (λ t. keys_of t.ops) ops ∙ goes.0),
+      )
+    where
+      free : (v : ℕ) → v < 4 → flown_at e.board v ≡ None
+      free zero less = none
+      free (suc v) less = r.others (suc v) (λ h. cc) ∙ ap (λ (z : CoreState). flown_at z.board (suc v)) y.is ∙ y.others (suc v) (λ h. cc) ∙ x.at_rest.free (suc v) less
+
+  waited : (mid : CoreState) (r : Wait) → IsSameCore d mid → IsSessionOf mid chip x.later → IsReason d.board.plan 4 d.sync.capacities x.later.service.core k r → (e : CoreState) (chip' : ChipState) → chip' ≡ chip → e ≡ record mid { waiting = with_reason mid.waiting k r } → IsNext e chip'
+  waited mid r same is reason e chip' alike on =
+      let is_same : mid ≡ record d { board = same.0 } = same.2 in
+      let rest : IsAtRest mid = rest_same d mid same x.at_rest in
+      let is_with : IsSessionOf e chip x.later = subst (λ z. IsSessionOf z chip x.later) (sym on) (stands_with mid chip x.later (with_reason mid.waiting k r) is) in
+      let rest_with : IsAtRest e = subst IsAtRest (sym on) (record { free = rest.free; popped = rest.popped; warm = rest.warm }) in
+      let ops : e.tables.ops ≡ d.tables.ops = ap (λ (z : CoreState). z.tables.ops) on ∙ ap (λ (z : CoreState). z.tables.ops) is_same in
+      let plan : e.board.plan ≡ d.board.plan = ap (λ (z : CoreState). z.board.plan) on ∙ ap (λ (z : CoreState). z.board.plan) is_same ∙ same.1.plan in
+      let limit : e.limit ≡ d.limit = ap (λ (z : CoreState). z.limit) on ∙ ap (λ (z : CoreState). z.limit) is_same in
+      let capacities : e.sync.capacities ≡ d.sync.capacities = ap (λ (z : CoreState). z.sync.capacities) on ∙ ap (λ (z : CoreState). z.sync.capacities) is_same in
+      let waiting : e.waiting ≡ with_reason d.waiting k r = ap (λ (z : CoreState). z.waiting) on ∙ ap (λ (z : CoreState). with_reason z.waiting k r) is_same in
+      subst (IsNext e) (sym alike) (
+        left ++ k ∷ [],
+        ap (λ l. keys_behind (Some k) (keys_of l)) ops ∙ walk_stays d.tables.ops left more k order x.ops,
+        turn_waits keys left more k c d chip s x r reason e is_with plan capacities limit rest_with ops waiting,
+      )
+
+  pub turn_on : (e : CoreState) (chip' : ChipState) → BringsKey x.later k d e chip chip' → IsNext e chip'
+  turn_on e chip' (Dropped same y) = dropped e chip' same y
+  turn_on e chip' (Begun mid y runs none) = begun mid y e chip' runs none
+  turn_on e chip' (Waits mid r alike same is reason on) = waited mid r same is reason e chip' alike on
+
+-- what stays of the chip where a key is brought
+brings_keeps : (s : LoggedService) (k : Key) (c d : CoreState) (chip chip' : ChipState) → BringsKey s k c d chip chip' → KeepsChip chip chip'
+brings_keeps s k c d chip chip' (Dropped same y) = keeps_same chip chip' same
+brings_keeps s k c d chip chip' (Begun mid y runs none) = runs.keeps
+brings_keeps s k c d chip chip' (Waits mid r same alike is reason on) = keeps_same chip chip' same
+
+-- the next key, and that fewer are behind it
+module _ (c : CoreState) (first : ChipState) (s : LoggedService) (after : Option Key) (k : Key) (d : CoreState) (chip : ChipState) (order : AreOpsInOrder d.tables.ops) (there : first_in (keys_behind after (keys_of d.tables.ops)) ≡ Some k) (left rest : List Key) (behind : keys_behind after (keys_of d.tables.ops) ≡ rest) (e : CoreState) (chip' : ChipState) where
+  pub turn_next : (x : IsTurning (keys_of c.tables.ops) c s left rest d chip) → KeepsChip first chip → BringsKey x.later k d e chip chip' → ((l : List Key) × (m : List Key) × (keys_behind (Some k) (keys_of e.tables.ops) ≡ m) × IsTurning (keys_of c.tables.ops) c s l m e chip' × KeepsChip first chip') × (length (keys_behind (Some k) (keys_of e.tables.ops)) < length (keys_behind after (keys_of d.tables.ops)))
+  turn_next turning keeps b =
+      let n = leads_with_key rest after (keys_of d.tables.ops) k behind there in
+      let on : (r : List Key) → r ≡ k ∷ n.0 → (x : IsTurning (keys_of c.tables.ops) c s left r d chip) → BringsKey x.later k d e chip chip' → (l : List Key) × (keys_behind (Some k) (keys_of e.tables.ops) ≡ n.0) × IsTurning (keys_of c.tables.ops) c s l n.0 e chip' =
+      λ r same. subst (λ l. (x : IsTurning (keys_of c.tables.ops) c s left l d chip) → BringsKey x.later k d e chip chip' → (l : List Key) × (keys_behind (Some k) (keys_of e.tables.ops) ≡ n.0) × IsTurning (keys_of c.tables.ops) c s l n.0 e chip') (sym same) (λ x h. turn_on (keys_of c.tables.ops) left n.0 k c d chip s x order e chip' h) in
+      let z = on rest n.1 turning b in
+      let now : length (keys_behind (Some k) (keys_of e.tables.ops)) ≡ length n.0 = ap length z.1 in
+      let before : length (keys_behind after (keys_of d.tables.ops)) ≡ length n.0 + 1 = ap length (behind ∙ n.1) ∙ one_longer k n.0 in
+      ((z.0, n.0, z.1, z.2, keeps_on first chip chip' keeps (brings_keeps turning.later k d e chip chip' b)), omega (arith, now, before))
+
+-- ---- by the answer
+
+module _ (s : LoggedService) (c : CoreState) (chip : ChipState) (d : CoreState) (chip' : ChipState) where
+  pub turn_err : (r : Result Ran OutOfMemory) → IsErr r → StopsShort s c chip d chip' → MakesTurn s c chip r d chip'
+  turn_err (Err e) h x = x
+  turn_err (Ok b) h x = absurd (false≢true h)
+
+  pub turns_err : (r : Result Turned OutOfMemory) → IsErr r → StopsShort s c chip d chip' → MakesTurns s c chip r d chip'
+  turns_err (Err e) h x = x
+  turns_err (Ok b) h x = absurd (false≢true h)
+
+-- a key that stops the turn
+module _ (s : LoggedService) (c : CoreState) (first : ChipState) (is : IsSessionOf c first s) (keys left rest : List Key) (d : CoreState) (chip : ChipState) (x : IsTurning keys c s left rest d chip) (keeps : KeepsChip first chip) where
+  same : d.log ≡ c.log
+  same = log_same c d first chip s x.later is x.leads.stands x.log
+
+  pub turn_stops : (k : Key) (r : Ran) → (r ≡ ran.Whole → ⊥) → (e : CoreState) (chip' : ChipState) → Brings x.later k d chip (Ok r) e chip' → MakesTurn s c first (Ok r) e chip'
+  turn_stops k ran.Whole not e chip' h = absurd (not refl)
+  turn_stops k ran.Faulted not e chip' h = faulted_more s x.later c d chip x.leads first is same keeps (λ none. x.at_rest.popped) e chip' h
+  turn_stops k ran.LogFull not e chip' h = full_more s x.later c d chip x.leads first is same keeps e chip' h
+
+  pub turn_short : (e : CoreState) (chip' : ChipState) → StopsShort x.later d chip e chip' → StopsShort s c first e chip'
+  turn_short e chip' h = short_more s x.later c d chip x.leads first is same keeps e chip' h
+
+-- a turn that stops the turns
+module _ (n : ℕ) (s : LoggedService) (c : CoreState) (first : ChipState) (is : IsSessionOf c first s) (d : CoreState) (chip : ChipState) (x : IsTurned n c s d chip) (keeps : KeepsChip first chip) (e : CoreState) (chip' : ChipState) where
+  same_log : d.log ≡ c.log
+  same_log = log_same c d first chip s x.later is x.leads.stands x.log
+
+  pub turns_faulted : StopsFaulted x.later d chip e chip' → StopsFaulted s c first e chip'
+  turns_faulted h = faulted_more s x.later c d chip x.leads first is same_log keeps (λ none. x.at_rest.popped) e chip' h
+
+  pub turns_full : StopsFull x.later d chip e chip' → StopsFull s c first e chip'
+  turns_full h = full_more s x.later c d chip x.leads first is same_log keeps e chip' h
+
+  pub turns_short : StopsShort x.later d chip e chip' → StopsShort s c first e chip'
+  turns_short h = short_more s x.later c d chip x.leads first is same_log keeps e chip' h
+
+-- an operation that begins is run to its end
+module _ (s : LoggedService) (k : Key) (c : CoreState) (chip : ChipState) (is : IsSessionOf c chip s) (mid : CoreState) (x : BeginsTo s 0 k c mid chip) (d : CoreState) (chip' : ChipState) where
+  leads : LeadsTo c s x.makes.later mid chip
+  leads = leads_one c mid chip s x.makes
+
+  log_kept : mid.log ≡ c.log
+  log_kept = ap (λ (z : CoreState). z.log) x.is
+
+  pub begun_runs : (r : Result Ran OutOfMemory) → RunsOut x.makes.later 0 mid chip r d chip' → Brings s k c chip r d chip'
+  begun_runs (Ok ran.Whole) h = Begun mid x h.0 h.1
+  begun_runs (Ok ran.Faulted) h = faulted_more s x.makes.later c mid chip leads chip is log_kept (keeps_itself chip) (λ none. ap (λ (z : CoreState). z.tables.waiting) x.is ∙ none) d chip' h.0
+  begun_runs (Ok ran.LogFull) h = full_more s x.makes.later c mid chip leads chip is log_kept (keeps_itself chip) d chip' h
+  begun_runs (Err e) h = short_more s x.makes.later c mid chip leads chip is log_kept (keeps_itself chip) d chip' h
+
+pub brings_err : (s : LoggedService) (k : Key) (c : CoreState) (chip : ChipState) (r : Result Ran OutOfMemory) (d : CoreState) (chip' : ChipState) → IsErr r → StopsShort s c chip d chip' → Brings s k c chip r d chip'
+brings_err s k c chip (Err e) d chip' h x = x
+brings_err s k c chip (Ok b) d chip' h x = absurd (false≢true h)
+
+-- the same core stops where memory was refused
+pub short_same : (s : LoggedService) (c d : CoreState) (chip : ChipState) → c.warm ≡ warm.Reconciled → IsSameCore c d → IsSessionOf d chip s → StopsShort s c chip d chip
+short_same s c d chip at same is = record { steps = some_same c d s chip same is; warm = warm_same c d same ∙ at; log = ap (λ (z : CoreState). z.log) same.2; keeps = keeps_itself chip }
+
+-- a turn that took a key away, or did not
+pub turn_fewer : (keys left : List Key) (c : CoreState) (s : LoggedService) (d : CoreState) (chip' : ChipState) (y : IsTurning keys c s left [] d chip') → (length (keys_of d.tables.ops) ≡ length keys → ⊥) → length (keys_of d.tables.ops) < length keys
+turn_fewer keys left c s d chip' y apart =
+    let long : length (keys_of d.tables.ops) ≡ length (left ++ []) = ap length y.ops in
+    elim y.lists [
+      | inl less ↦ omega (arith, long, less)
+      | inr same ↦ absurd (apart (long ∙ same.0))
+    ]
+
+pub empty_of_length : (ks : List Key) → length ks ≡ 0 → ks ≡ []
+empty_of_length [] h = refl
+empty_of_length (k ∷ ks) h = absurd (omega (arith, h))

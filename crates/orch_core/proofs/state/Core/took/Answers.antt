@@ -1,0 +1,8 @@
+use Rattle.std.proofs.Common.{◌≡◌, refl, subst}
+use Rattle.flight_board.specs.Board.{BoardState, IsTakenFor}
+use Rattle.session_laws.specs.Core.{CoreState}
+use Rattle.orch_core.specs.contracts.state.Core.{the_view}
+use Rattle.orch_core.proofs.state.Core.took.Goals as goal
+
+pub returns : goal.returns
+returns c = subst (λ (z : CoreState). (b : BoardState) × IsTakenFor z.board c.args.worker c.args.made b × (record (the_view c.self.inside) { board = c.took.new.self } ≡ record z { board = b })) c.self.view_is (c.took.new.self, c.took.ensures, refl)

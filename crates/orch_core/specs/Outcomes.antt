@@ -1,0 +1,181 @@
+-- What the core's events come to, by their answers. Own.
+use Rattle.std.specs.Prelude.{◌≡◌, ◌+◌, ◌<◌, ◌≤◌, ◌⊎◌, ℕ, Bool, true, false, List, length, Option, Some, None, IsSome, Result, Ok, Err}
+use Rattle.swss_types.specs.declared.out_of_memory.OutOfMemory.{OutOfMemory}
+use Rattle.table_schema.specs.declared.key.Key.{Key}
+use Rattle.table_schema.specs.declared.row.Row.{Row}
+use Rattle.sai_types.specs.declared.answer.SyncAnswer.{SyncAnswer}
+use Rattle.sai_types.specs.declared.answer.SyncAnswer.TheVariants as sync
+use Rattle.sai_types.specs.declared.body.Call.{Call}
+use Rattle.sai_types.specs.declared.ids.Rid.{Rid}
+use Rattle.sai_types.specs.declared.kind.Kind.{Kind}
+use Rattle.sai_types.specs.ChipState.{ChipState}
+use Rattle.switch_model.specs.History.{History, with_end, with_mark}
+use Rattle.switch_model.specs.declared.mark.Mark.{Mark}
+use Rattle.switch_model.specs.declared.mark.MarkEvent.TheVariants as event
+use Rattle.switch_model.specs.declared.wait.Wait.{Wait}
+use Rattle.consumer_table.specs.Ops.{without_op}
+use Rattle.retry_list.specs.Reasons.{without_reason}
+use Rattle.switch_machine.specs.Events.{IsAnswer, IsBegin, IsDrop}
+use Rattle.switch_machine.specs.Next.{IsIdle, IsNextEvent}
+use Rattle.switch_machine.specs.Reasons.{IsReason}
+use Rattle.restart_laws.specs.Logged.{LoggedService}
+use Rattle.asic_view.specs.View.{used_of}
+use Rattle.ref_counts.specs.Room.{number_of}
+use Rattle.syncd_core.specs.Synced.{SyncState, current}
+use Rattle.flight_board.specs.Board.{BoardState, IsBegunFor, IsSameBoard, IsTakenFor, flown_at}
+use Rattle.warm_state.specs.declared.warm.Warm.TheVariants as warm
+use Rattle.session_laws.specs.Core.{CoreState, IsFullFor, mark_at, size_beside}
+use Rattle.session_laws.specs.Events.{IsMachineStep, MakesOne, MakesSome, made_by}
+use Rattle.session_laws.specs.Standing.{IsSessionOf}
+use Rattle.orch_core.specs.declared.answer.Step.{Step}
+use Rattle.orch_core.specs.declared.answer.Step.TheVariants as step
+use Rattle.orch_core.specs.declared.answer.Tried.{Tried}
+use Rattle.orch_core.specs.declared.answer.Tried.TheVariants as tried
+
+-- a core and its chip stand for a session
+abbrev pub IsInSession : CoreState → ChipState → Type 0
+IsInSession c chip = (s : LoggedService) × IsSessionOf c chip s
+
+-- ---- the mark of a fault
+
+-- a log with a mark, at which a round ends or not
+abbrev pub with_fault : Bool → History → Mark → History
+with_fault true h m = with_end (with_mark h m)
+with_fault false h m = with_mark h m
+
+-- ---- what stays
+
+-- beside the board and syncd all is as it was
+pub record IsSameBeside (c c' : CoreState) : Type 0 where
+  pub tables : c'.tables ≡ c.tables
+  pub waiting : c'.waiting ≡ c.waiting
+  pub log : c'.log ≡ c.log
+  pub listed : c'.listed ≡ c.listed
+  pub limit : c'.limit ≡ c.limit
+  pub warm : c'.warm ≡ c.warm
+
+-- what the other workers have under way is as it was
+abbrev pub KeepsFlights : ℕ → BoardState → BoardState → Type 0
+KeepsFlights w b b' = (v : ℕ) → (v ≡ w → ⊥) → flown_at b' v ≡ flown_at b v
+
+-- the same core, but for places that the board keeps for nothing
+abbrev pub IsSameCore : CoreState → CoreState → Type 0
+IsSameCore c c' = (b : BoardState) × IsSameBoard c.board b × (c' ≡ record c { board = b })
+
+-- a key is no longer to sync, nor on the list of those that wait
+abbrev pub left_by : CoreState → Key → CoreState
+left_by c k = record c { tables = record c.tables { ops = without_op c.tables.ops k }; waiting = without_reason c.waiting k }
+
+-- ---- the call that is due for a worker
+
+-- what the core makes of its answer, and of its log, which it gets back: it takes what the call made; or the fault is marked
+abbrev pub Heeds : ℕ → SyncAnswer → History → Mark → Bool → CoreState → Step → CoreState → Type 0
+Heeds w sync.Failed log fault ends c r c' = (r ≡ step.Faulted) × (c' ≡ record c { log = with_fault ends log fault; warm = warm.Suspect })
+Heeds w a log fault ends c r c' = (r ≡ step.Did) × (b : BoardState) × IsTakenFor c.board w (made_by a) b × (c' ≡ record c { log = log; board = b })
+
+-- the chip has the failing calls that it was made with, and failed no less often than before
+pub record KeepsChip (old new : ChipState) : Type 0 where
+  pub fails : new.fails ≡ old.fails
+  pub faults : old.faults ≤ new.faults
+
+-- a call failed, and its mark says so, with the chip's counts of faults; the call had two places in the log, and at most its own effect came behind those before it
+pub record MarksFault (ends : Bool) (c : CoreState) (chip : ChipState) (c' : CoreState) (chip' : ChipState) : Type 0 where
+  pub before : ℕ
+  pub risen : chip.faults ≤ before
+  pub more : before < chip'.faults
+  pub log : c'.log ≡ with_fault ends c.log (mark_at c (length chip'.effects) (event.Faulted before chip'.faults))
+  pub warm : c'.warm ≡ warm.Suspect
+  pub places : size_beside c chip'.before_fault + 2 ≤ c.limit
+  pub few : length chip'.effects ≤ chip'.before_fault + 1
+
+-- the core stands for the same session still, and its log is the same
+pub record StaysInSession (s : LoggedService) (c : CoreState) (c' : CoreState) (chip : ChipState) : Type 0 where
+  pub stands : IsSessionOf c' chip s
+  pub plan : c'.board.plan ≡ c.board.plan
+  pub capacities : c'.sync.capacities ≡ c.sync.capacities
+  pub limit : c'.limit ≡ c.limit
+  pub warm : c'.warm ≡ c.warm
+  pub log : c'.log ≡ c.log
+
+-- the answer of the call that was due for a worker is one step of the session, an Answer of the machine
+pub record AnswersCall (s : LoggedService) (w : ℕ) (c : CoreState) (chip : ChipState) (c' : CoreState) (chip' : ChipState) : Type 0 where
+  pub makes : MakesOne c s c' chip'
+  pub call : Call Rid
+  pub answer : IsAnswer c.board.plan 4 call s.service.core makes.later.service.core
+  pub worker : answer.next.worker ≡ w
+  pub moves : IsMachineStep s (Some call) makes.later
+  pub beside : IsSameBeside c c'
+  pub others : KeepsFlights w c.board c'.board
+  pub room : IsFullFor c (length chip.effects) 2 → ⊥
+  pub keeps : KeepsChip chip chip'
+
+-- a fault of the call is one step too, and leaves the tables as they were
+pub record FaultsCall (ends : Bool) (s : LoggedService) (c : CoreState) (chip : ChipState) (c' : CoreState) (chip' : ChipState) : Type 0 where
+  pub makes : MakesOne c s c' chip'
+  pub marks : MarksFault ends c chip c' chip'
+  pub tables : c'.tables ≡ c.tables
+  pub keeps : KeepsChip chip chip'
+
+-- what the call came to: one step; a fault, which is marked; no places in the log, and then nothing was done; or no call, after want of memory
+abbrev pub Answered : Bool → LoggedService → ℕ → CoreState → ChipState → Result Step OutOfMemory → CoreState → ChipState → Type 0
+Answered ends s w c chip (Ok step.Did) c' chip' = AnswersCall s w c chip c' chip'
+Answered ends s w c chip (Ok step.Faulted) c' chip' = FaultsCall ends s c chip c' chip'
+Answered ends s w c chip (Ok step.LogFull) c' chip' = (c' ≡ c) × (chip' ≡ chip) × IsFullFor c (length chip.effects) 2
+Answered ends s w c chip (Ok _) c' chip' = ⊥
+Answered ends s w c chip (Err e) c' chip' = (chip' ≡ chip) × StaysInSession s c c' chip
+
+-- ---- a key to sync
+
+-- the numbers of objects of each kind are those that syncd counts
+abbrev pub AreCounted : SyncState → (Kind → ℕ) → Type 0
+AreCounted y used = (kind : Kind) → used kind ≡ used_of (current y) kind
+
+-- what the board made of a key: its operation began; or it waits
+abbrev pub Begun : ℕ → Key → Option Row → CoreState → Result Tried OutOfMemory → CoreState → Type 0
+Begun w k new c (Ok tried.Begun) c' = (used : List ℕ) × AreCounted c.sync (number_of used) × (b : BoardState) × IsBegunFor c.board used w k new (Ok tt) b × (c' ≡ record (left_by c k) { board = b })
+Begun w k new c (Ok (tried.Waits r)) c' = (used : List ℕ) × AreCounted c.sync (number_of used) × (b : BoardState) × IsBegunFor c.board used w k new (Err r) b × (c' ≡ record c { board = b })
+Begun w k new c (Ok tried.Dropped) c' = ⊥
+Begun w k new c (Err e) c' = IsSameCore c c'
+
+-- a key that has its good row leaves those to sync in one step of the session, a Drop of the machine
+pub record DropsTo (s : LoggedService) (k : Key) (c c' : CoreState) (chip : ChipState) : Type 0 where
+  pub makes : MakesOne c s c' chip
+  pub drop : IsDrop c.board.plan s.service.core makes.later.service.core
+  pub key : drop.key ≡ k
+  pub moves : IsMachineStep s None makes.later
+  pub is : c' ≡ left_by c k
+
+-- its operation begins for a worker in one step, a Begin of the machine
+pub record BeginsTo (s : LoggedService) (w : ℕ) (k : Key) (c c' : CoreState) (chip : ChipState) : Type 0 where
+  pub makes : MakesOne c s c' chip
+  pub begin : IsBegin c.board.plan 4 c.sync.capacities s.service.core makes.later.service.core
+  pub worker : begin.worker ≡ w
+  pub key : begin.flight.key ≡ k
+  pub moves : IsMachineStep s None makes.later
+  pub board : BoardState
+  pub is : c' ≡ record (left_by c k) { board = board }
+  pub others : KeepsFlights w c.board board
+
+-- what became of a key to sync
+abbrev pub Tries : LoggedService → ℕ → Key → CoreState → ChipState → Result Tried OutOfMemory → CoreState → Type 0
+Tries s w k c chip (Ok tried.Dropped) c' = DropsTo s k c c' chip
+Tries s w k c chip (Ok tried.Begun) c' = BeginsTo s w k c c' chip
+Tries s w k c chip (Ok (tried.Waits r)) c' = IsSameCore c c' × IsSessionOf c' chip s × IsReason c.board.plan 4 c.sync.capacities s.service.core k r
+Tries s w k c chip (Err e) c' = IsSameCore c c' × IsSessionOf c' chip s
+
+-- whether it is no longer to sync
+abbrev pub Begins : LoggedService → ℕ → Key → CoreState → ChipState → Result Bool OutOfMemory → CoreState → Type 0
+Begins s w k c chip (Ok true) c' = DropsTo s k c c' chip ⊎ BeginsTo s w k c c' chip
+Begins s w k c chip (Ok false) c' = IsSameCore c c' × IsSessionOf c' chip s × ((r : Wait) × IsReason c.board.plan 4 c.sync.capacities s.service.core k r)
+Begins s w k c chip (Err e) c' = IsSameCore c c' × IsSessionOf c' chip s
+
+-- ---- a step
+
+-- a step of a worker is the first event that applies to it, whose call, where it makes one, had two places in the log; Idle where none does; Faulted where its call failed, which is marked; LogFull where its call has no places; and after want of memory perhaps a part of a pop was made
+abbrev pub StepsTo : LoggedService → ℕ → CoreState → ChipState → Result Step OutOfMemory → CoreState → ChipState → Type 0
+StepsTo s w c chip (Ok step.Did) c' chip' = (y : MakesOne c s c' chip') × (call : Option (Call Rid)) × IsNextEvent c.board.plan 4 c.sync.capacities w s.service.core call y.later.service.core × IsMachineStep s call y.later × KeepsChip chip chip' × (IsSome call → IsFullFor c (length chip.effects) 2 → ⊥)
+StepsTo s w c chip (Ok step.Idle) c' chip' = (chip' ≡ chip) × IsSameCore c c' × IsSessionOf c' chip s × IsIdle c.board.plan 4 c.sync.capacities w s.service.core
+StepsTo s w c chip (Ok step.Suspect) c' chip' = (c' ≡ c) × (chip' ≡ chip) × (c.warm ≡ warm.Suspect)
+StepsTo s w c chip (Ok step.Faulted) c' chip' = FaultsCall false s c chip c' chip'
+StepsTo s w c chip (Ok step.LogFull) c' chip' = (c' ≡ c) × (chip' ≡ chip) × IsFullFor c (length chip.effects) 2
+StepsTo s w c chip (Err e) c' chip' = (chip' ≡ chip) × MakesSome c s c' chip' × (c'.warm ≡ c.warm) × (c'.log ≡ c.log)

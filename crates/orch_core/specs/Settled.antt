@@ -1,0 +1,152 @@
+-- What running, popping, turns and settling come to, by their answers. Own.
+use Rattle.std.specs.Prelude.{◌≡◌, ◌+◌, ◌<◌, ◌≤◌, ◌⊎◌, ℕ, true, List, [], length, None, IsSome, Result, Ok, Err}
+use Rattle.std.specs.Map.{keys_of}
+use Rattle.swss_types.specs.declared.out_of_memory.OutOfMemory.{OutOfMemory}
+use Rattle.table_schema.specs.declared.key.Key.{Key}
+use Rattle.sai_types.specs.ChipState.{ChipState}
+use Rattle.consumer_table.specs.Ops.{AreOpsInOrder}
+use Rattle.retry_list.specs.Reasons.{with_reason}
+use Rattle.switch_model.specs.declared.wait.Wait.{Wait}
+use Rattle.switch_machine.specs.Next.{MustWait}
+use Rattle.switch_machine.specs.Reasons.{IsReason}
+use Rattle.restart_laws.specs.Logged.{LoggedService}
+use Rattle.sync_tables.specs.Tables.{IsToSync, TablesState}
+use Rattle.flight_board.specs.Board.{flown_at}
+use Rattle.warm_state.specs.declared.warm.Warm.TheVariants as warm
+use Rattle.session_laws.specs.Core.{CoreState, IsFullFor, size_beside}
+use Rattle.session_laws.specs.Events.{MakesSome}
+use Rattle.session_laws.specs.Standing.{IsSessionOf}
+use Rattle.settling_laws.specs.Leading.{LeadsTo, PopsTo, RunsTo, SettlesTo}
+use Rattle.settling_laws.specs.Turning.{IsAtRest, IsTurning, TurnsTo}
+use Rattle.orch_core.specs.Outcomes.{KeepsChip, MarksFault, BeginsTo, DropsTo, IsSameBeside, IsSameCore, KeepsFlights}
+use Rattle.orch_core.specs.Marked.{ListsWhatWaits, Marks}
+use Rattle.orch_core.specs.declared.answer.Ran.{Ran}
+use Rattle.orch_core.specs.declared.answer.Ran.TheVariants as ran
+use Rattle.orch_core.specs.declared.answer.Settled.{Settled}
+use Rattle.orch_core.specs.declared.answer.Settled.TheVariants as settled
+use Rattle.orch_core.specs.declared.answer.Turned.{Turned}
+use Rattle.orch_core.specs.declared.answer.Turned.TheVariants as turned
+
+-- ---- where it stops
+
+-- steps were made, and then a call failed, which is marked, and the round ends at the mark; where no write waited before, none waits then
+pub record StopsFaulted (s : LoggedService) (c : CoreState) (chip : ChipState) (c' : CoreState) (chip' : ChipState) : Type 0 where
+  pub steps : MakesSome c s c' chip'
+  pub marks : MarksFault true c chip c' chip'
+  pub popped : c.tables.waiting ≡ [] → c'.tables.waiting ≡ []
+  pub keeps : KeepsChip chip chip'
+
+-- steps were made, and then the call that was due for a worker had no places in the log
+pub record StopsFull (s : LoggedService) (c : CoreState) (chip : ChipState) (c' : CoreState) (chip' : ChipState) : Type 0 where
+  pub steps : MakesSome c s c' chip'
+  pub warm : c'.warm ≡ warm.Reconciled
+  pub log : c'.log ≡ c.log
+  pub flying : (v : ℕ) × (v < 4) × IsSome (flown_at c'.board v)
+  pub full : IsFullFor c' (length chip'.effects) 2
+  pub keeps : KeepsChip chip chip'
+
+-- steps were made, and then memory was refused
+pub record StopsShort (s : LoggedService) (c : CoreState) (chip : ChipState) (c' : CoreState) (chip' : ChipState) : Type 0 where
+  pub steps : MakesSome c s c' chip'
+  pub warm : c'.warm ≡ warm.Reconciled
+  pub log : c'.log ≡ c.log
+  pub keeps : KeepsChip chip chip'
+
+-- ---- what is under way
+
+-- what a worker has under way was run to its end: answers alone; nothing else changed
+pub record RunsWhole (s : LoggedService) (w : ℕ) (c : CoreState) (chip : ChipState) (c' : CoreState) (chip' : ChipState) : Type 0 where
+  pub runs : RunsTo c s c' chip'
+  pub beside : IsSameBeside c c'
+  pub others : KeepsFlights w c.board c'.board
+  pub keeps : KeepsChip chip chip'
+
+abbrev pub RunsOut : LoggedService → ℕ → CoreState → ChipState → Result Ran OutOfMemory → CoreState → ChipState → Type 0
+RunsOut s w c chip (Ok ran.Whole) c' chip' = RunsWhole s w c chip c' chip' × (flown_at c'.board w ≡ None)
+RunsOut s w c chip (Ok ran.Faulted) c' chip' = StopsFaulted s c chip c' chip' × IsSome (flown_at c.board w)
+RunsOut s w c chip (Ok ran.LogFull) c' chip' = StopsFull s c chip c' chip'
+RunsOut s w c chip (Err e) c' chip' = StopsShort s c chip c' chip'
+
+abbrev pub RunsAll : LoggedService → CoreState → ChipState → Result Ran OutOfMemory → CoreState → ChipState → Type 0
+RunsAll s c chip (Ok ran.Whole) c' chip' = RunsTo c s c' chip' × IsSameBeside c c' × ((v : ℕ) → v < 4 → flown_at c'.board v ≡ None) × KeepsChip chip chip'
+RunsAll s c chip (Ok ran.Faulted) c' chip' = StopsFaulted s c chip c' chip' × ((v : ℕ) × (v < 4) × IsSome (flown_at c.board v))
+RunsAll s c chip (Ok ran.LogFull) c' chip' = StopsFull s c chip c' chip'
+RunsAll s c chip (Err e) c' chip' = StopsShort s c chip c' chip'
+
+-- ---- pops
+
+-- keys were popped, and nothing but the tables changed
+abbrev pub PopsAlone : CoreState → CoreState → Type 0
+PopsAlone c c' = (t : TablesState) × (c' ≡ record c { tables = t }) × ((chip : ChipState) (s : LoggedService) → IsSessionOf c chip s → PopsTo c s c' chip)
+
+abbrev pub Pops : CoreState → Result (Unit {0}) OutOfMemory → CoreState → Type 0
+Pops c (Ok _) c' = PopsAlone c c' × (c'.tables.waiting ≡ [])
+Pops c (Err e) c' = PopsAlone c c'
+
+-- ---- turns
+
+-- a key was brought to the chip: it had its good row; its operation began and was run to its end; or it waits, which the list says
+pub data BringsKey (s : LoggedService) (k : Key) (c c' : CoreState) (chip chip' : ChipState) : Type 0 where
+  Dropped : chip' ≡ chip → DropsTo s k c c' chip → BringsKey s k c c' chip chip'
+  Begun : (mid : CoreState) (x : BeginsTo s 0 k c mid chip) → RunsWhole x.makes.later 0 mid chip c' chip' → flown_at c'.board 0 ≡ None → BringsKey s k c c' chip chip'
+  Waits : (mid : CoreState) (r : Wait) → chip' ≡ chip → IsSameCore c mid → IsSessionOf mid chip s → IsReason c.board.plan 4 c.sync.capacities s.service.core k r → c' ≡ record mid { waiting = with_reason mid.waiting k r } → BringsKey s k c c' chip chip'
+
+abbrev pub Brings : LoggedService → Key → CoreState → ChipState → Result Ran OutOfMemory → CoreState → ChipState → Type 0
+Brings s k c chip (Ok ran.Whole) c' chip' = BringsKey s k c c' chip chip'
+Brings s k c chip (Ok ran.Faulted) c' chip' = StopsFaulted s c chip c' chip'
+Brings s k c chip (Ok ran.LogFull) c' chip' = StopsFull s c chip c' chip'
+Brings s k c chip (Err e) c' chip' = StopsShort s c chip c' chip'
+
+abbrev pub MakesTurn : LoggedService → CoreState → ChipState → Result Ran OutOfMemory → CoreState → ChipState → Type 0
+MakesTurn s c chip (Ok ran.Whole) c' chip' = (left : List Key) × IsTurning (keys_of c.tables.ops) c s left [] c' chip' × KeepsChip chip chip'
+MakesTurn s c chip (Ok ran.Faulted) c' chip' = StopsFaulted s c chip c' chip'
+MakesTurn s c chip (Ok ran.LogFull) c' chip' = StopsFull s c chip c' chip'
+MakesTurn s c chip (Err e) c' chip' = StopsShort s c chip c' chip'
+
+abbrev pub MakesTurns : LoggedService → CoreState → ChipState → Result Turned OutOfMemory → CoreState → ChipState → Type 0
+MakesTurns s c chip (Ok (turned.Whole n)) c' chip' = AreOpsInOrder c.tables.ops × TurnsTo n c s c' chip' × KeepsChip chip chip'
+MakesTurns s c chip (Ok turned.Faulted) c' chip' = StopsFaulted s c chip c' chip'
+MakesTurns s c chip (Ok turned.LogFull) c' chip' = StopsFull s c chip c' chip'
+MakesTurns s c chip (Err e) c' chip' = StopsShort s c chip c' chip'
+
+-- ---- a settling
+
+-- the mark at the end has no place in the log: nothing is under way, nothing waits in the tables, and each key to sync has to wait
+pub record StopsAtMark (s : LoggedService) (c : CoreState) (chip : ChipState) (c' : CoreState) (chip' : ChipState) : Type 0 where
+  pub later : LoggedService
+  pub leads : LeadsTo c s later c' chip'
+  pub at_rest : IsAtRest c'
+  pub log : c'.log ≡ c.log
+  pub order : AreOpsInOrder c'.tables.ops
+  pub waits : (k : Key) → IsToSync c'.tables k → MustWait c'.board.plan 4 c'.sync.capacities later.service.core k
+  pub full : IsFullFor c' (length chip'.effects) (1 + length c'.tables.ops)
+  pub keeps : KeepsChip chip chip'
+
+-- a whole settling; its mark had its places, and lists each key that is still to sync with the reason that the core has for it
+pub record SettlesWhole (s : LoggedService) (c : CoreState) (chip : ChipState) (c' : CoreState) (chip' : ChipState) : Type 0 where
+  pub settles : SettlesTo c s c' chip'
+  pub places : size_beside c' (length chip'.effects) ≤ c'.limit
+  pub lists : ListsWhatWaits c'
+  pub keeps : KeepsChip chip chip'
+
+-- a settling ends at its mark; a call fails, and its mark ends it, and where no worker had anything under way no write waits any more; the log has no place for the call that is due or for the mark; or memory is refused, and then whole events were made
+abbrev pub Settles : LoggedService → CoreState → ChipState → Result Settled OutOfMemory → CoreState → ChipState → Type 0
+Settles s c chip (Ok settled.Settled) c' chip' = SettlesWhole s c chip c' chip'
+Settles s c chip (Ok settled.Faulted) c' chip' = StopsFaulted s c chip c' chip' × (((v : ℕ) → v < 4 → flown_at c.board v ≡ None) → c'.tables.waiting ≡ [])
+Settles s c chip (Ok settled.LogFull) c' chip' = StopsFull s c chip c' chip' ⊎ StopsAtMark s c chip c' chip'
+Settles s c chip (Err e) c' chip' = StopsShort s c chip c' chip'
+
+-- the turns of a settling, and its mark
+pub record MarksTurns (s : LoggedService) (c : CoreState) (chip : ChipState) (c' : CoreState) (chip' : ChipState) : Type 0 where
+  pub turns : ℕ
+  pub mid : CoreState
+  pub order : AreOpsInOrder c.tables.ops
+  pub turned : TurnsTo turns c s mid chip'
+  pub marks : Marks (length chip'.effects) turns mid (Ok settled.Settled) c'
+  pub keeps : KeepsChip chip chip'
+
+abbrev pub SettlesKeys : LoggedService → CoreState → ChipState → Result Settled OutOfMemory → CoreState → ChipState → Type 0
+SettlesKeys s c chip (Ok settled.Settled) c' chip' = MarksTurns s c chip c' chip'
+SettlesKeys s c chip (Ok settled.Faulted) c' chip' = StopsFaulted s c chip c' chip'
+SettlesKeys s c chip (Ok settled.LogFull) c' chip' = StopsFull s c chip c' chip' ⊎ StopsAtMark s c chip c' chip'
+SettlesKeys s c chip (Err e) c' chip' = StopsShort s c chip c' chip'

@@ -1,0 +1,103 @@
+// What a mark lists: the keys that are still to sync. Marks in a row that list the same share their list.
+ghost use Rattle.std.specs.Prelude.{◌≡◌, Some, IsSome, IsTrue, IfOk};
+ghost use Rattle.std.specs.Map.{keys_of};
+ghost use Rattle.table_schema.specs.declared.key.Key.{Key};
+ghost use Rattle.sai_types.specs.Alike.{IsIn};
+ghost use Rattle.retry_list.specs.Reasons.{reason_at};
+ghost use Rattle.orch_core.specs.Marked.{AreListedFrom, IsListedAs};
+
+use crate::Core;
+use crate::parts::is_same;
+use switch_model::{MarkEvent, Wait, Waits};
+use swss_types::OutOfMemory;
+use table_schema::{Key, Row};
+
+impl Core {
+    /// The keys to sync, each with its reason and its applied row: the list of the last mark, where it is the same.
+    pub(crate) fn waits(&self) -> Result<Waits, OutOfMemory>
+        requires listed { (k : Key) → IsIn k (keys_of self.now.tables.ops) → IsSome (reason_at self.now.waiting k) }
+        ensures { IfOk result (λ waits. AreListedFrom self.now (keys_of self.now.tables.ops) waits) }
+    {
+        match self.last_list() {
+            Some(list) if self.is_list(list.items()) => list.share(),
+            _ => self.new_list(),
+        }
+    }
+
+    /// What the last mark lists, where it is that of a settling.
+    fn last_list(&self) -> Option<&Waits> {
+        match &self.log().marks().last()?.event {
+            MarkEvent::Settled { waits, .. } => Some(waits),
+            _ => None,
+        }
+    }
+
+    /// Whether a list is that of the keys to sync. A list of another length is not looked at.
+    fn is_list(&self, list: &[(Key, Wait, Option<Row>)]) -> bool
+        ensures { IsTrue result → AreListedFrom self.now (keys_of self.now.tables.ops) list.now }
+    {
+        if list.len() != self.count() {
+            return false;
+        }
+        let mut left = list;
+        let mut after: Option<&Key> = None;
+        while let Some(key) = self.next_key(after) {
+            let Some((listed, rest)) = left.split_first() else {
+                return false;
+            };
+            if !self.is_listed(key, listed) {
+                return false;
+            }
+            after = Some(key);
+            left = rest;
+        }
+        left.is_empty()
+    }
+
+    /// Whether this is listed for a key.
+    fn is_listed(&self, key: &Key, listed: &(Key, Wait, Option<Row>)) -> bool
+        ensures { IsTrue result → IsListedAs self.now key.now listed.now }
+    {
+        let (listed_key, wait, row) = listed;
+        listed_key == key && self.has_reason(key, wait) && is_same(row.as_ref(), self.row(key))
+    }
+
+    /// Whether a key waits for this reason.
+    fn has_reason(&self, key: &Key, wait: &Wait) -> bool
+        ensures { IsTrue result → reason_at self.now.waiting key.now ≡ Some wait.now }
+    {
+        match self.waiting.reason(key) {
+            Some(reason) => reason == wait,
+            None => false,
+        }
+    }
+
+    /// The keys to sync, each with its reason and its applied row, in a list of its own.
+    fn new_list(&self) -> Result<Waits, OutOfMemory>
+        requires listed { (k : Key) → IsIn k (keys_of self.now.tables.ops) → IsSome (reason_at self.now.waiting k) }
+        ensures { IfOk result (λ waits. AreListedFrom self.now (keys_of self.now.tables.ops) waits) }
+    {
+        let mut waits = Vec::with_capacity(self.alloc, self.count())?;
+        let mut after: Option<&Key> = None;
+        while let Some(key) = self.next_key(after) {
+            waits.push(self.listing(key)?)?;
+            after = Some(key);
+        }
+        Waits::from_vec(waits)
+    }
+
+    /// A key that waits, with its reason and its applied row.
+    fn listing(&self, key: &Key) -> Result<(Key, Wait, Option<Row>), OutOfMemory>
+        requires listed { IsSome (reason_at self.now.waiting key.now) }
+        ensures { IfOk result (λ listed. IsListedAs self.now key.now listed) }
+    {
+        let Some(wait) = self.waiting.reason(key) else {
+            unreachable!()
+        };
+        let row = match self.row(key) {
+            Some(row) => Some(row.copy()?),
+            None => None,
+        };
+        Ok((key.copy()?, wait.copy()?, row))
+    }
+}

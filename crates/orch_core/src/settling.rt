@@ -1,0 +1,44 @@
+// Settling.
+ghost use Rattle.std.specs.Prelude.{◌≡◌};
+ghost use Rattle.restart_laws.specs.Logged.{LoggedService};
+ghost use Rattle.warm_state.specs.declared.warm.Warm.TheVariants as warm;
+ghost use Rattle.session_laws.specs.Standing.{IsSessionOf};
+ghost use Rattle.settling_laws.specs.Turning.{IsAtRest};
+ghost use Rattle.orch_core.specs.Outcomes.{IsInSession};
+ghost use Rattle.orch_core.specs.Settled.{Settles, SettlesKeys};
+
+use crate::answer::{Ran, Turned};
+use crate::{Core, Settled};
+use sai_types::Chip;
+use swss_types::OutOfMemory;
+
+impl Core {
+    /// Runs what workers left, pops all that waits, makes turns until no key is left to sync or a turn took none away, and marks
+    /// that with the keys that wait. The core is not suspect.
+    pub fn settle<C: Chip>(&mut self, chip: &mut C) -> Result<Settled, OutOfMemory>
+        requires session { IsInSession self.old (C.state chip.old) }
+        requires warm { self.old.warm ≡ warm.Reconciled }
+        ensures { (s : LoggedService) → IsSessionOf self.old (C.state chip.old) s → Settles s self.old (C.state chip.old) result self.new (C.state chip.new) }
+    {
+        match self.run_all(chip)? {
+            Ran::Whole => {}
+            Ran::Faulted => return Ok(Settled::Faulted),
+            Ran::LogFull => return Ok(Settled::LogFull),
+        }
+        self.pop_all()?;
+        self.settle_keys(chip)
+    }
+
+    /// Makes turns, and marks their end.
+    fn settle_keys<C: Chip>(&mut self, chip: &mut C) -> Result<Settled, OutOfMemory>
+        requires session { IsInSession self.old (C.state chip.old) }
+        requires rest { IsAtRest self.old }
+        ensures { (s : LoggedService) → IsSessionOf self.old (C.state chip.old) s → SettlesKeys s self.old (C.state chip.old) result self.new (C.state chip.new) }
+    {
+        match self.make_turns(chip)? {
+            Turned::Whole(turns) => self.mark_settled(chip.effects(), turns),
+            Turned::Faulted => Ok(Settled::Faulted),
+            Turned::LogFull => Ok(Settled::LogFull),
+        }
+    }
+}

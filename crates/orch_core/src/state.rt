@@ -1,0 +1,121 @@
+// The core.
+ghost use Rattle.std.specs.Prelude.{◌≡◌};
+ghost use Rattle.sai_types.specs.declared.kind.Kind.{Kind};
+ghost use Rattle.ref_counts.specs.Room.{number_of};
+ghost use Rattle.session_laws.specs.Core.{new_core};
+ghost use Rattle.orch_core.specs.Outcomes.{AreCounted};
+
+use flight_board::Board;
+use retry_list::Retry;
+use row_store::Rows;
+use sai_types::{Caps, Kind};
+use std::alloc::Global;
+use std::marker::Model;
+use switch_model::Log;
+use sync_tables::Tables;
+use syncd_core::Syncd;
+use table_schema::PortPlan;
+use warm_state::Warm;
+
+/// The core: the tables, the board of operations, syncd, the keys that wait, and the log.
+#[derive(Drop)]
+pub struct Core {
+    pub(crate) alloc: Global,
+    pub(crate) tables: Tables,
+    pub(crate) board: Board,
+    pub(crate) syncd: Syncd,
+    pub(crate) waiting: Retry,
+    pub(crate) log: Log,
+    // how many keys the marks list, and how many places the log has
+    pub(crate) listed: u64,
+    pub(crate) limit: u64,
+    pub(crate) state: Warm,
+}
+
+impl Model for Core {
+    ghost use Rattle.session_laws.specs.Core.{CoreState};
+
+    ghost Value = { CoreState };
+
+    ghost view = { λ c. record { tables = c.tables; board = c.board; sync = c.syncd; waiting = c.waiting; log = c.log; listed = c.listed; limit = c.limit; warm = c.state } };
+}
+
+impl Core {
+    /// A core over an empty chip with these capacities, whose log has so many places.
+    pub fn new(alloc: Global, plan: PortPlan, caps: Caps, log_limit: u64) -> Core
+        ensures { result ≡ new_core plan caps.0 log_limit }
+    {
+        Core {
+            alloc,
+            tables: Tables::new(alloc),
+            board: Board::new(alloc, plan, caps),
+            syncd: Syncd::new(alloc, caps),
+            waiting: Retry::new(alloc),
+            log: Log::new(alloc),
+            listed: 0,
+            limit: log_limit,
+            state: Warm::Reconciled,
+        }
+    }
+
+    /// The warm state.
+    pub fn state(&self) -> Warm
+        ensures { result ≡ self.now.warm }
+    {
+        self.state
+    }
+
+    /// The rows of the tables, as far as they were popped.
+    pub fn rows(&self) -> &Rows
+        ensures { result.now ≡ self.now.tables.rows }
+    {
+        self.tables.rows()
+    }
+
+    /// The log.
+    pub fn log(&self) -> &Log
+        ensures { result.now ≡ self.now.log }
+    {
+        &self.log
+    }
+
+    /// Hands the log over.
+    pub fn into_log(self) -> Log
+        ensures { result ≡ self.log }
+    {
+        self.log
+    }
+
+    /// The keys that wait, each with the reason that the last turn found.
+    pub fn waiting(&self) -> &Retry
+        ensures { result.now ≡ self.now.waiting }
+    {
+        &self.waiting
+    }
+
+    /// The port plan.
+    pub fn plan(&self) -> &PortPlan
+        ensures { result.now ≡ self.now.board.plan }
+    {
+        self.board.plan()
+    }
+
+    /// How many objects of each kind stand.
+    pub(crate) fn used(&self) -> [u64; 11]
+        ensures { AreCounted self.now.sync (number_of result) }
+    {
+        [
+            self.syncd.used(Kind::Port),
+            self.syncd.used(Kind::Vlan),
+            self.syncd.used(Kind::BridgePort),
+            self.syncd.used(Kind::VlanMember),
+            self.syncd.used(Kind::Rif),
+            self.syncd.used(Kind::OwnAddress),
+            self.syncd.used(Kind::Neighbor),
+            self.syncd.used(Kind::NextHop),
+            self.syncd.used(Kind::Group),
+            self.syncd.used(Kind::GroupMember),
+            self.syncd.used(Kind::Route),
+        ]
+    }
+}

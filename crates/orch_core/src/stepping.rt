@@ -1,0 +1,57 @@
+// One event.
+ghost use Rattle.std.specs.Prelude.{◌≡◌, ◌<◌, ◌⊎◌, [], None};
+ghost use Rattle.restart_laws.specs.Logged.{LoggedService};
+ghost use Rattle.flight_board.specs.Board.{flown_at};
+ghost use Rattle.warm_state.specs.declared.warm.Warm.TheVariants as warm;
+ghost use Rattle.session_laws.specs.Standing.{IsSessionOf};
+ghost use Rattle.sai_types.specs.ChipState.{ChipState};
+ghost use Rattle.orch_core.specs.Outcomes.{IsInSession, StepsTo};
+
+use crate::{Core, Step};
+use sai_types::Chip;
+use std::mem::{drop, replace};
+use swss_types::OutOfMemory;
+use table_schema::Key;
+use warm_state::Warm;
+
+impl Core {
+    /// Makes the first event that applies to the worker: the call that is due for it; a pop, where a write waits; or the beginning
+    /// of the first key to sync that has no reason to wait.
+    pub fn step<C: Chip>(&mut self, chip: &mut C, worker: u32) -> Result<Step, OutOfMemory>
+        requires worker { worker < 4 }
+        requires session { IsInSession self.old (C.state chip.old) }
+        requires warm { (self.old.warm ≡ warm.Reconciled) ⊎ (self.old.warm ≡ warm.Suspect) }
+        ensures { (s : LoggedService) → IsSessionOf self.old (C.state chip.old) s → StepsTo s worker self.old (C.state chip.old) result self.new (C.state chip.new) }
+    {
+        if self.state() == Warm::Suspect {
+            return Ok(Step::Suspect);
+        }
+        if self.is_flying(worker) {
+            return self.answer(chip, worker, false);
+        }
+        if !self.is_popped() {
+            self.pop()?;
+            return Ok(Step::Did);
+        }
+        self.begin_first(worker)
+    }
+
+    /// Begins the operation of the first key that can start.
+    fn begin_first(&mut self, worker: u32) -> Result<Step, OutOfMemory>
+        requires worker { worker < 4 }
+        requires session { (chip : ChipState) × IsInSession self.old chip }
+        requires warm { self.old.warm ≡ warm.Reconciled }
+        requires none { flown_at self.old.board worker ≡ None }
+        requires popped { self.old.tables.waiting ≡ [] }
+        ensures { (s : LoggedService) (chip : ChipState) → IsSessionOf self.old chip s → StepsTo s worker self.old chip result self.new chip }
+    {
+        let mut after: Option<Key> = None;
+        while let Some(key) = self.key_behind(after.as_ref())? {
+            if self.begins(worker, &key)? {
+                return Ok(Step::Did);
+            }
+            drop(replace(&mut after, Some(key)));
+        }
+        Ok(Step::Idle)
+    }
+}

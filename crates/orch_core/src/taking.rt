@@ -1,0 +1,52 @@
+// Taking writes.
+ghost use Rattle.std.specs.Prelude.{◌≡◌, Ok, Err, IfOk, OnOk, OnErr};
+ghost use Rattle.table_schema.specs.declared.write.Sent.{Sent};
+ghost use Rattle.switch_model.specs.History.{History, with_write as with_taken_write};
+ghost use Rattle.sync_tables.specs.Tables.{with_write};
+ghost use Rattle.session_laws.specs.Core.{with_taken};
+ghost use Rattle.sai_types.specs.ChipState.{ChipState};
+ghost use Rattle.switch_model.specs.Marks.{written_key};
+ghost use Rattle.machine_laws.specs.Reading.{IsOnSwitch};
+ghost use Rattle.restart_laws.specs.Logged.{LoggedService};
+ghost use Rattle.session_laws.specs.Standing.{IsSessionOf};
+ghost use Rattle.orch_core.specs.Taking.{Takes, TakesStep};
+
+use crate::{Core, TakeFault};
+use swss_types::OutOfMemory;
+use table_schema::{Sent, Write};
+
+impl Core {
+    /// Takes a write; `effects` is the number of the chip's effects. LogFull gives the write back exactly where the log has no
+    /// place for it; after it and after want of memory nothing has changed.
+    pub fn take(&mut self, sent: Sent, effects: u64) -> Result<Result<(), TakeFault>, OutOfMemory>
+        ensures ok { IfOk result (λ taken. Takes self.old sent effects taken self.new) }
+        ensures err { OnErr result (self.new ≡ self.old) }
+        ensures steps { (chip : ChipState) (s : LoggedService) → IsSessionOf self.old chip s → IsOnSwitch (written_key sent.write) → TakesStep s self.old chip result self.new }
+    {
+        if self.is_full(effects, 1) {
+            return Ok(Err(TakeFault::LogFull(sent)));
+        }
+        // It says that what waits is in order.
+        let _order = self.is_popped();
+        self.log.take(sent)?;
+        if let Err(error) = self.let_wait() {
+            self.log.take_back();
+            return Err(error);
+        }
+        Ok(Ok(()))
+    }
+
+    /// Lets the write that was taken last wait in its table.
+    fn let_wait(&mut self) -> Result<(), OutOfMemory>
+        ensures ok { OnOk result ((h : History) (sent : Sent) → self.old.log ≡ with_taken_write h sent → self.new ≡ record self.old { tables = with_write self.old.tables sent.write }) }
+        ensures err { OnErr result (self.new ≡ self.old) }
+    {
+        match self.log.taken().last() {
+            Some(sent) => match &sent.write {
+                Write::Set(key, fields) => self.tables.set(key.copy()?, fields.copy()?),
+                Write::Del(key) => self.tables.del(key.copy()?),
+            },
+            None => Ok(()),
+        }
+    }
+}
