@@ -125,7 +125,7 @@ impl ToSync {
         *self = ToSync::new(self.alloc);
     }
 
-    /// Adds a Set of no field: it makes a key one to sync, and leaves the operation that a key has.
+    /// Adds a Set of no field: it makes a key one to sync, leaves a Set or a Replace as it is, and turns a Del into a Replace.
     pub fn add_key(&mut self, key: Key) -> Result<(), OutOfMemory>
         ensures ok { OnOk result (self.new ≡ ops_after self.old (write.Set key [])) }
         ensures err { OnErr result (self.new ≡ self.old) }
