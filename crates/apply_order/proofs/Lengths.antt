@@ -7,18 +7,14 @@ use Rattle.sai_chip.specs.Naming.{entries_of}
 use Rattle.view_match.specs.Keys.{keys_of_objects}
 use Rattle.view_match.specs.Listed.{objects_as}
 use Rattle.view_match.specs.declared.key.NaturalKey.{NaturalKey}
-use Rattle.view_match.proofs.Paired.{length_keys}
-
-length_entries : (objects : List (Object Rid)) → length (entries_of objects) ≡ length objects
-length_entries [] = refl
-length_entries (o ∷ os) = ap suc (length_entries os)
+use Rattle.view_match.proofs.Paired.{length-entries, length_keys}
 
 length_as : (objects : List (Object Vid)) → length (objects_as objects) ≡ length objects
 length_as [] = refl
 length_as (o ∷ os) = ap suc (length_as os)
 
 pub length-old : (keys : List (Option NaturalKey)) (old : List (Object Rid)) → keys ≡ keys_of_objects (entries_of old) → length keys ≡ length old
-length-old keys old e = ap length e ∙ length_keys (entries_of old) (entries_of old) ∙ length_entries old
+length-old keys old e = ap length e ∙ length_keys (entries_of old) (entries_of old) ∙ length-entries old
 
 pub length-new : (keys : List (Option NaturalKey)) (listed : List (Object Rid)) (new : List (Object Vid)) → keys ≡ keys_of_objects (entries_of listed) → listed ≡ objects_as new → length keys ≡ length new
 length-new keys listed new e same = length-old keys listed e ∙ ap length same ∙ length_as new

@@ -3,6 +3,7 @@ use Rattle.std.proofs.Common.{◌≡◌, ◌↔◌, ℕ, ◌+◌, ◌≤◌, Boo
 use Rattle.std.specs.Bool.{nat_le}
 use Rattle.std.specs.List.{list_all}
 use Rattle.std.proofs.lemmas.Bool.Decides.{nat_tests}
+use Rattle.swss_types.proofs.Most.{most_by_test}
 use Rattle.sai_types.specs.declared.ids.Rid.{Rid}
 use Rattle.sai_types.specs.declared.ids.Vid.{Vid}
 use Rattle.sai_types.specs.declared.body.Object.{Object}
@@ -13,15 +14,12 @@ use Rattle.apply_order.specs.Room.{Fits, all_kinds, has_room, lacking_from, old_
 use Rattle.sai_types.specs.Refusal.{capacity_of}
 use Rattle.apply_order.proofs.EachKind.{each-kind, kinds-each}
 
-no_more : (m n : ℕ) → nat_le m n ≡ true → m ≤ n
-no_more m n h = grind (arith, nat_tests)
-
 is_no_more : (m n : ℕ) → m ≤ n → nat_le m n ≡ true
 is_no_more m n h = grind (arith, nat_tests)
 
 pub mode-fits : (m : Mode) (fits : Bool) (capacities : List ℕ) (old : List (Object Rid)) (new : List (Object Vid)) (pairs : List (ℕ × ℕ)) (paired : Places) → (m ≡ mode.Hitless) ↔ (fits ≡ true) → fits ≡ list_all (λ k. has_room capacities old new paired k) all_kinds → paired ≡ by_new pairs → (m ≡ mode.Hitless) ↔ Fits capacities old new pairs
 mode-fits m fits capacities old new pairs paired is all same =
     let by = ap (λ p. list_all (λ k. has_room capacities old new p k) all_kinds) same in (
-      λ h k. no_more (old_count k old + lacking_from k (by_new pairs) new 0) (capacity_of capacities k) (each-kind (λ k. has_room capacities old new (by_new pairs) k) (sym by ∙ sym all ∙ is.0 h) k),
+      λ h k. most_by_test (old_count k old + lacking_from k (by_new pairs) new 0) (capacity_of capacities k) (each-kind (λ k. has_room capacities old new (by_new pairs) k) (sym by ∙ sym all ∙ is.0 h) k),
       λ f. is.1 (all ∙ by ∙ kinds-each (λ k. has_room capacities old new (by_new pairs) k) (λ k. is_no_more (old_count k old + lacking_from k (by_new pairs) new 0) (capacity_of capacities k) (f k))),
     )

@@ -14,6 +14,7 @@ use Rattle.std.proofs.lemmas.Map.{NonePasses, lookup-none, none_passes_from_look
 use Rattle.std.proofs.lemmas.Map.Entries.{none_past_head, sum_by-remove_entry}
 use Rattle.std.proofs.lemmas.Map.Keys.{IsDistinct-from_sorted, sorted_tail}
 use Rattle.std.proofs.lemmas.Option.{none-some}
+use Rattle.swss_types.proofs.Maps.{lookup-insert_entry}
 use Rattle.sai_types.specs.declared.ids.Rid.{Rid}
 use Rattle.sai_types.specs.declared.ids.Vid.{Vid}
 use Rattle.sai_types.specs.declared.kind.Kind.{Kind}
@@ -28,7 +29,8 @@ use Rattle.sai_types.specs.Alike.{IsIn}
 use Rattle.sai_types.specs.Objects.{Objects, body_at, is_of, kind_of, level}
 use Rattle.sai_types.specs.Refusal.{remove_refusal}
 use Rattle.sai_types.proofs.Legal.{legal-set}
-use Rattle.sai_types.proofs.Maps.{lookup-insert_entry, lookup-removed, sorted-insert_entry, sorted-remove_entry}
+use Rattle.sai_types.proofs.Maps.{lookup-removed, sorted-insert_entry, sorted-remove_entry}
+use Rattle.sai_types.proofs.Membership.{all-in}
 use Rattle.chip_layout.specs.Renamed.{attr_renamed, entry_renamed}
 use Rattle.asic_view.specs.declared.object.ViewObject.{ViewObject}
 use Rattle.asic_view.specs.View.{IsLegalOn, IsNew, ViewObjects, after_create, after_remove, after_set, as_chip, as_rid, body_set, changed_at, entry_at, is_named, key_cmp, object_set, same_key, untied, used_of, vid_cmp}
@@ -39,10 +41,6 @@ abbrev Item : Type 0
 Item = Vid × ViewObject
 
 -- ---- each of a list
-
-pub all-in : {X : Type 0} (P : X → Type 0) (xs : List X) → ((x : X) → IsIn x xs → P x) → AllByRecursion P xs
-all-in P [] h = tt
-all-in P (x ∷ xs) h = (h x (inl refl), all-in P xs (λ y i. h y (inr i)))
 
 pub in-all : {X : Type 0} (P : X → Type 0) (xs : List X) (x : X) → AllByRecursion P xs → IsIn x xs → P x
 in-all P [] x h i = absurd i
@@ -158,10 +156,6 @@ in-key (y ∷ ys) v x found = by (is_at (vid_cmp v) y.0) refl found (in-key ys v
         let pair : Vid → ViewObject → Item = λ a b. (a, b) in
         inl (ap₂ pair (vid-exact v y.0 at) same)
     by false at h behind = inr (behind h)
-
-pub none_mapped : {X Y : Type 0} (f : X → Y) (o : Option X) → option_map f o ≡ None → o ≡ None
-none_mapped f None h = refl
-none_mapped f (Some x) h = absurd cc
 
 left_alone : (v : Vid) (os : ViewObjects) → NonePasses (is_at (vid_cmp v)) os → remove_entry (is_at (vid_cmp v)) os ≡ os
 left_alone v [] none = refl

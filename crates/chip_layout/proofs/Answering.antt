@@ -35,6 +35,7 @@ use Rattle.sai_types.proofs.Decided.{IsAnswer, IsBest, answer_is, decide-alike}
 use Rattle.sai_types.proofs.Keys.{next_hop_found}
 use Rattle.sai_types.proofs.Things.{both_mapped, one-each}
 use Rattle.chip_layout.specs.Answered.{AreSame, HasOneMac, HasPrefix, HavePrefixes, HopsAreReached}
+use Rattle.chip_layout.proofs.Legality.{neighs}
 use Rattle.sai_types.proofs.Exact.{entry-exact}
 use Rattle.sai_types.proofs.Listed.{found-in, in-found, object-of_thing}
 use Rattle.sai_types.proofs.Rising.{hop-same, hop_exact, hop_total, in-back}
@@ -86,9 +87,6 @@ route_object objects (entry.Own ip) body.Group p g h = absurd cc
 route_object objects (entry.Neigh r ip) body.Group p g h = absurd cc
 route_object objects (entry.Route q) body.Group p g h = absurd cc
 route_object objects e (body.GroupMember r n) p g h = let is = (both_mapped thing.GroupMember (hops_at objects r) (next_hop_at objects n) _ h).4 in absurd cc
-
-neigh_parts : (r s : Rid) (a b : Ip) → entry.Neigh r a ≡ entry.Neigh s b → (r ≡ s) × (a ≡ b)
-neigh_parts r s a b e = (cc, cc)
 
 -- ---- the Ethernet address of a hop
 
@@ -190,7 +188,7 @@ module _ (made : ℕ) (objects : Objects) (whole : IsWhole made objects) (have :
       of : (d : Body Rid) → body_at objects (entry.Neigh r ip) ≡ Some d → (n : ℕ) × (n ≤ made) × (same_entry (entry.Neigh r ip) (entry_of n d) ≡ true) → (mac : Mac) × IsObject (thing.Neighbor hop mac)
       of (body.Neighbor s other mac) found (n, le, same) =
           let is = entry-exact (entry.Neigh r ip) (entry.Neigh s other) same in
-          let parts = neigh_parts r s ip other is in
+          let parts = neighs r s ip other is in
           (mac, (entry.Neigh r ip, body.Neighbor s other mac, found, ap (option_map (λ z. thing.Neighbor z mac)) (ap₂ (hop_on objects) (sym parts.0) (sym parts.1) ∙ at)))
       of (body.Port lanes speed mtu up) found (n, le, same) = absurd (false≢true same)
       of (body.OwnAddress x) found (n, le, same) = absurd (false≢true same)

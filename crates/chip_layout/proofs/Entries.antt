@@ -1,7 +1,7 @@
 -- the entries of names, and what refers to them
 use Rattle.std.proofs.Common.{◌≡◌, ◌⊎◌, inl, inr, Bool, true, false, List, [], ◌∷◌, Some, refl, sym, ap, ap₂, ◌∙◌, subst}
 use Rattle.std.specs.List.{list_all, list_any}
-use Rattle.std.proofs.lemmas.Bool.{eq-eqb, false≢true, or_cases}
+use Rattle.std.proofs.lemmas.Bool.{and_from, eq-eqb, false≢true, or_cases}
 use Rattle.sai_types.specs.declared.ids.Rid.{Rid}
 use Rattle.sai_types.specs.declared.hop.Base.{Base}
 use Rattle.sai_types.specs.declared.hop.Base.TheVariants as base
@@ -24,7 +24,6 @@ use Rattle.chip_layout.specs.Bodies.{IsBody, IsAt, body_with, first_name, goal_n
 use Rattle.chip_layout.specs.Layout.{Has, IsLaidOut, Layout, RefersWell, has_number}
 use Rattle.chip_layout.proofs.Bodies.{kind-body}
 use Rattle.sai_types.proofs.Exact.{entry-exact}
-use Rattle.sai_types.proofs.Keys.{both_true}
 use Rattle.sai_types.proofs.Things.{neighbors, rifs}
 
 -- an entry that is a name's, where names have identifiers
@@ -156,7 +155,7 @@ module _ (layout : Layout Rid) (objects : Objects) (laid : IsLaidOut layout obje
   all_stand [] [] to f = refl
   all_stand (k ∷ ks) (r ∷ rs) to f =
       let has = f k (inl refl) in
-      both_true (stands objects r) (list_all (stands objects) rs) (ref_stands k r has.0 to.0.0 to.0.1 has.1) (all_stand ks rs to.1 (λ l h. f l (inr h)))
+      and_from (stands objects r) (list_all (stands objects) rs) (ref_stands k r has.0 to.0.0 to.0.1 has.1) (all_stand ks rs to.1 (λ l h. f l (inr h)))
   all_stand [] (r ∷ rs) to f = elim to [ ]
   all_stand (k ∷ ks) [] to f = elim to [ ]
 

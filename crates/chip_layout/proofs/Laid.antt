@@ -69,21 +69,18 @@ module _ (layout : Layout Rid) (objects : Objects) (laid : IsLaidOut layout obje
 
   -- ---- a thing has one body
 
-  one : (k : ThingName) (i j : Rid) → Has layout k i → Has layout k j → i ≡ j
-  one k i j x y = one-id layout objects laid k i j x y
-
   body_one : (t : Thing) (i j k l : Rid) → IsAt (Has layout) (first_name t) i → IsAt (Has layout) (second_name t) j → IsAt (Has layout) (first_name t) k → IsAt (Has layout) (second_name t) l → body_with t i j ≡ body_with t k l
-  body_one (thing.BridgePort lane) i j k l a b c d = ap body.BridgePort (one _ i k a c)
-  body_one (thing.VlanMember v lane tagging) i j k l a b c d = ap₂ (λ x y. body.VlanMember x y tagging) (one _ i k a c) (one _ j l b d)
-  body_one (thing.Rif (base.Port lane)) i j k l a b c d = ap (λ x. body_with (thing.Rif (base.Port lane)) x x) (one _ i k a c)
-  body_one (thing.Rif (base.Vlan v)) i j k l a b c d = ap (λ x. body_with (thing.Rif (base.Vlan v)) x x) (one _ i k a c)
-  body_one (thing.Neighbor hop mac) i j k l a b c d = ap (λ x. body.Neighbor x hop.ip mac) (one _ i k a c)
-  body_one (thing.NextHop hop) i j k l a b c d = ap (λ x. body.NextHop x hop.ip) (one _ i k a c)
-  body_one (thing.GroupMember hops hop) i j k l a b c d = ap₂ body.GroupMember (one _ i k a c) (one _ j l b d)
+  body_one (thing.BridgePort lane) i j k l a b c d = ap body.BridgePort (one-id layout objects laid _ i k a c)
+  body_one (thing.VlanMember v lane tagging) i j k l a b c d = ap₂ (λ x y. body.VlanMember x y tagging) (one-id layout objects laid _ i k a c) (one-id layout objects laid _ j l b d)
+  body_one (thing.Rif (base.Port lane)) i j k l a b c d = ap (λ x. body_with (thing.Rif (base.Port lane)) x x) (one-id layout objects laid _ i k a c)
+  body_one (thing.Rif (base.Vlan v)) i j k l a b c d = ap (λ x. body_with (thing.Rif (base.Vlan v)) x x) (one-id layout objects laid _ i k a c)
+  body_one (thing.Neighbor hop mac) i j k l a b c d = ap (λ x. body.Neighbor x hop.ip mac) (one-id layout objects laid _ i k a c)
+  body_one (thing.NextHop hop) i j k l a b c d = ap (λ x. body.NextHop x hop.ip) (one-id layout objects laid _ i k a c)
+  body_one (thing.GroupMember hops hop) i j k l a b c d = ap₂ body.GroupMember (one-id layout objects laid _ i k a c) (one-id layout objects laid _ j l b d)
   body_one (thing.Route prefix goal.Drop) i j k l a b c d = refl
-  body_one (thing.Route prefix (goal.Direct on)) i j k l a b c d = ap (λ x. body_with (thing.Route prefix (goal.Direct on)) x x) (one _ i k a c)
-  body_one (thing.Route prefix (goal.Via hop)) i j k l a b c d = ap (λ x. body_with (thing.Route prefix (goal.Via hop)) x x) (one _ i k a c)
-  body_one (thing.Route prefix (goal.Group hops)) i j k l a b c d = ap (λ x. body_with (thing.Route prefix (goal.Group hops)) x x) (one _ i k a c)
+  body_one (thing.Route prefix (goal.Direct on)) i j k l a b c d = ap (λ x. body_with (thing.Route prefix (goal.Direct on)) x x) (one-id layout objects laid _ i k a c)
+  body_one (thing.Route prefix (goal.Via hop)) i j k l a b c d = ap (λ x. body_with (thing.Route prefix (goal.Via hop)) x x) (one-id layout objects laid _ i k a c)
+  body_one (thing.Route prefix (goal.Group hops)) i j k l a b c d = ap (λ x. body_with (thing.Route prefix (goal.Group hops)) x x) (one-id layout objects laid _ i k a c)
   body_one _ i j k l a b c d = refl
 
   pub body-one : (t : Thing) (b d : Body Rid) → IsBody (Has layout) t b → IsBody (Has layout) t d → b ≡ d

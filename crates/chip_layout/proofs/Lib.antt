@@ -13,3 +13,4 @@ pub mod Seeing
 pub mod Setting
 pub mod Shapes
 pub mod Worked
+pub mod Distinct

@@ -1,5 +1,5 @@
 -- making the object of a thing
-use Rattle.std.proofs.Common.{◌≡◌, ◌⊎◌, inl, inr, ℕ, ◌+◌, Bool, true, false, List, cond, Option, None, Some, refl, sym, ap, ◌∙◌, subst}
+use Rattle.std.proofs.Common.{◌≡◌, ◌⊎◌, inl, inr, ℕ, ◌+◌, true, false, List, None, Some, refl, sym, ap, ◌∙◌, subst}
 use Rattle.std.specs.Bool.{nat_le}
 use Rattle.std.specs.List.{list_any}
 use Rattle.std.proofs.lemmas.Bool.{false_from_ne_true}
@@ -21,14 +21,10 @@ use Rattle.chip_layout.proofs.Bodies.{body-kept, entry-body, entry-same, kind-bo
 use Rattle.chip_layout.proofs.Entries.{refers-body}
 use Rattle.chip_layout.proofs.Laid.{clash-meet}
 use Rattle.sai_types.proofs.Listed.{any-none, found-in}
-use Rattle.sai_types.proofs.Whole.{kept_put}
+use Rattle.sai_types.proofs.Whole.{found_put, kept_put}
 
 legal_from : (capacities : List ℕ) (objects : Objects) (b : Body Rid) → refers_well objects b ≡ true → list_any (λ o. clash b o.1) objects ≡ false → nat_le (capacity_of capacities (kind_of b)) (used objects (kind_of b)) ≡ false → create_refusal capacities objects b ≡ None
 legal_from capacities objects b well free room = rw (well, free, room) refl
-
-put_or_old : (t : Bool) (x y : Body Rid) (rest : Option (Body Rid)) → cond t (Some x) rest ≡ Some y → ((t ≡ true) × (y ≡ x)) ⊎ (rest ≡ Some y)
-put_or_old true x y rest h = inl (refl, cc)
-put_or_old false x y rest h = inr h
 
 module _ (layout : Layout Rid) (made : ℕ) (objects : Objects) (whole : IsWhole made objects) (laid : IsLaidOut layout objects) (t : Thing) (b : Body Rid) (of : IsBody (Has layout) t b) (free : IsFree layout t) where
   no_clash : list_any (λ o. clash b o.1) objects ≡ false
@@ -64,7 +60,7 @@ module _ (layout : Layout Rid) (made : ℕ) (objects : Objects) (whole : IsWhole
     none_there = fresh made objects b whole.entered no_clash
 
     object_in : (e : Entry Rid) (d : Body Rid) → body_at objects' e ≡ Some d → ((same_entry e new_entry ≡ true) × (d ≡ b)) ⊎ (body_at objects e ≡ Some d)
-    object_in e d h = put_or_old (same_entry e new_entry) b d (body_at objects e) (sym (body_at-insert objects new_entry b e) ∙ h)
+    object_in e d h = found_put (same_entry e new_entry) b d (body_at objects e) (sym (body_at-insert objects new_entry b e) ∙ h)
 
     object_kept : (e : Entry Rid) (d : Body Rid) → body_at objects e ≡ Some d → body_at objects' e ≡ Some d
     object_kept e d found =

@@ -3,6 +3,7 @@ use Rattle.std.proofs.Common.{◌≡◌, ◌⊎◌, inl, inr, ℕ, Bool, true, f
 use Rattle.std.specs.BTreeSet.{insert_key}
 use Rattle.std.specs.List.Sorted.{IsStrictlySortedBy}
 use Rattle.std.proofs.lemmas.Bool.{false≢true}
+use Rattle.std.proofs.lemmas.Option.{same_Some}
 use Rattle.sai_types.specs.declared.ids.Rid.{Rid}
 use Rattle.sai_types.specs.declared.hop.Base.{Base}
 use Rattle.sai_types.specs.declared.hop.Base.TheVariants as base
@@ -228,9 +229,6 @@ module _ (layout : Layout Rid) (objects : Objects) (laid : IsLaidOut layout obje
         let owner = laid.tied object.0 object.1 (found-in objects object.0 object.1 whole.sorted object.2) in
         (owner.1, object.3 ∙ thing-laid owner.0 owner.1 object.0 object.1 owner.2 owner.3 owner.4, (owner.0, owner.2))
 
-    somes : (x y : Thing) → Some x ≡ Some y → x ≡ y
-    somes x y h = cc
-
     once_thing : (x : Thing) → view_of layout x → IsOnceIn (Some x) (named objects)
     once_thing x (i, h) =
         let has = laid.stand i x h in
@@ -238,7 +236,7 @@ module _ (layout : Layout Rid) (objects : Objects) (laid : IsLaidOut layout obje
         let at : same_entry object.0 (entry_of i.0 has.0) ≡ true = same-symm object.0 (entry_of i.0 has.0) ∙ object.1 in
         once-in objects objects (Some x) object.0 has.0 whole.sorted object.2 (thing-laid i x object.0 has.0 h has.1 at) (λ f d in_it its.
         let owner = laid.tied f d (found-in objects f d whole.sorted in_it) in
-        let same : owner.1 ≡ x = somes owner.1 x (sym (thing-laid owner.0 owner.1 f d owner.2 owner.3 owner.4) ∙ its) in
+        let same : owner.1 ≡ x = same_Some owner.1 x (sym (thing-laid owner.0 owner.1 f d owner.2 owner.3 owner.4) ∙ its) in
         let entries = same-entry layout objects laid owner.0 i owner.1 x d has.0 owner.2 h owner.3 has.1 (ap name_of same) in
         same-trans f (entry_of i.0 has.0) object.0 (ap (same_entry f) (sym entries) ∙ owner.4) object.1)
 

@@ -1,5 +1,6 @@
 -- things by their owners
 use Rattle.std.proofs.Common.{◌≡◌, ◌⊎◌, inl, inr, Option, Some, sym, ap, ◌∙◌, subst}
+use Rattle.std.proofs.lemmas.Option.{same_Some}
 use Rattle.sai_types.specs.declared.ids.Rid.{Rid}
 use Rattle.sai_types.specs.declared.thing.Thing.{Thing}
 use Rattle.sai_types.specs.Alike.{IsIn}
@@ -12,18 +13,15 @@ use Rattle.chip_layout.proofs.Shapes.{laid-same}
 abbrev pair : Rid → Thing → Rid × Thing
 pair x y = (x, y)
 
-some_owners : {O : Type 0} (p o : O) → Some p ≡ Some o → p ≡ o
-some_owners p o h = cc
-
 module _ {O : Type 0} (owner_of : ThingName → Option O) (holds : Holdings O) (owned : AreOwned owner_of holds) where
   -- things of one name have one owner
   pub one-owner : (o p : O) (i j : Rid) (t u : Thing) → IsIn (i, t) (holds o) → IsIn (j, u) (holds p) → name_of t ≡ name_of u → o ≡ p
-  one-owner o p i j t u h g same = some_owners o p (sym (owned o i t h) ∙ ap owner_of same ∙ owned p j u g)
+  one-owner o p i j t u h g same = same_Some o p (sym (owned o i t h) ∙ ap owner_of same ∙ owned p j u g)
 
   -- a thing is free where its owner has none of its name, and it shares no lane
   pub free-owned : (o : O) (t : Thing) → owner_of (name_of t) ≡ Some o → ((i : Rid) (u : Thing) → IsIn (i, u) (holds o) → name_of t ≡ name_of u → ⊥) → ((p : O) (i : Rid) (u : Thing) → IsIn (i, u) (holds p) → ShareLane t u → ⊥) → IsFree (laid_by holds) t
   free-owned o t is none lanes i u (p, h) (inl same) =
-      let owners : p ≡ o = some_owners p o (sym (owned p i u h) ∙ ap owner_of (sym same) ∙ is) in
+      let owners : p ≡ o = same_Some p o (sym (owned p i u h) ∙ ap owner_of (sym same) ∙ is) in
       none i u (subst (λ z. IsIn (i, u) (holds z)) owners h) same
   free-owned o t is none lanes i u (p, h) (inr share) = lanes p i u h share
 

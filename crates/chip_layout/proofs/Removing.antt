@@ -1,7 +1,7 @@
 -- removing the object of a thing
 use Rattle.std.proofs.Common.{◌≡◌, ℕ, ◌+◌, Bool, true, false, List, cond, Option, None, Some, refl, sym, ap, ◌∙◌, subst}
 use Rattle.std.specs.List.{list_any}
-use Rattle.std.proofs.lemmas.Bool.{false_from_ne_true, false≢true}
+use Rattle.std.proofs.lemmas.Bool.{cond-false, false_from_ne_true, false≢true}
 use Rattle.sai_types.specs.declared.ids.Rid.{Rid}
 use Rattle.sai_types.specs.declared.body.Body.{Body}
 use Rattle.sai_types.specs.declared.body.Call.TheVariants as call
@@ -27,10 +27,6 @@ left_by : (t : Bool) (y : Body Rid) (rest : Option (Body Rid)) → cond t None r
 left_by true y rest h = absurd cc
 left_by false y rest h = (refl, h)
 
-stays_by : (t : Bool) (rest : Option (Body Rid)) → t ≡ false → cond t None rest ≡ rest
-stays_by true rest h = cc
-stays_by false rest h = refl
-
 module _ (layout : Layout Rid) (made : ℕ) (objects : Objects) (whole : IsWhole made objects) (laid : IsLaidOut layout objects) (i : Rid) (t : Thing) (b : Body Rid) (there : layout i t) (of : IsBody (Has layout) t b) (unused : IsUnused layout (name_of t)) where
   abbrev at : Entry Rid
   at = entry_of i.0 b
@@ -52,7 +48,7 @@ module _ (layout : Layout Rid) (made : ℕ) (objects : Objects) (whole : IsWhole
   is_kept j u d h x = body-kept (Has layout) (Has later) u d (λ k r refers has. (has.0, (has.1, λ same. unused j u h (subst (Refers u) (sym has.2 ∙ same) refers)), has.2)) x
 
   stays : (e : Entry Rid) → same_entry at e ≡ false → body_at objects' e ≡ body_at objects e
-  stays e apart = body_at-remove objects at e whole.sorted ∙ stays_by (same_entry at e) (body_at objects e) apart
+  stays e apart = body_at-remove objects at e whole.sorted ∙ cond-false (same_entry at e) None (body_at objects e) apart
 
   stand_by : (j : Rid) (u : Thing) → later j u → (d : Body Rid) × IsBody (Has later) u d × (body_at objects' (entry_of j.0 d) ≡ Some d)
   stand_by j u h =

@@ -1,6 +1,6 @@
 -- setting an attribute of the object of a thing
 use Rattle.std.proofs.Common.{◌≡◌, ◌⊎◌, inl, inr, ℕ, ◌+◌, Bool, true, false, List, cond, Option, None, Some, refl, sym, ap, ◌∙◌, subst}
-use Rattle.std.proofs.lemmas.Bool.{false_from_ne_true, false≢true}
+use Rattle.std.proofs.lemmas.Bool.{cond-false, cond-true, false_from_ne_true, false≢true}
 use Rattle.sai_types.specs.declared.ids.Rid.{Rid}
 use Rattle.sai_types.specs.declared.body.Attr.{Attr}
 use Rattle.sai_types.specs.declared.body.Body.{Body}
@@ -12,7 +12,7 @@ use Rattle.sai_types.specs.Made.{same_entry}
 use Rattle.sai_types.specs.Objects.{Objects, body_at}
 use Rattle.sai_types.specs.Refusal.{IsLegal, attr_refers_well, has_attr, set_refusal}
 use Rattle.sai_types.proofs.Apart.{entry_of-with_attr}
-use Rattle.sai_types.proofs.Found.{body_at-insert, same-refl, found_other, found_same}
+use Rattle.sai_types.proofs.Found.{body_at-insert, same-refl}
 use Rattle.sai_types.specs.Names.{ThingName, name_kind, name_of}
 use Rattle.chip_layout.specs.Bodies.{is_numbered}
 use Rattle.chip_layout.specs.Bodies.{IsBody, IsChange}
@@ -64,11 +64,11 @@ module _ (layout : Layout Rid) (made : ℕ) (objects : Objects) (laid : IsLaidOu
   stand_by j v (inl h) =
       let old = laid.stand j v h.0 in
       let apart = false_from_ne_true (same_entry (entry_of j.0 old.0) at) (λ same. h.1 (one-entry layout objects laid j i v t old.0 b h.0 there old.1 of same ∙ sym is.same)) in
-      (old.0, is_kept v old.0 old.1, after_is (entry_of j.0 old.0) ∙ found_other (same_entry (entry_of j.0 old.0) at) (Some (with_attr b a)) (body_at objects (entry_of j.0 old.0)) apart ∙ old.2)
+      (old.0, is_kept v old.0 old.1, after_is (entry_of j.0 old.0) ∙ cond-false (same_entry (entry_of j.0 old.0) at) (Some (with_attr b a)) (body_at objects (entry_of j.0 old.0)) apart ∙ old.2)
   stand_by j v (inr (same, thing)) = (
     with_attr b a,
     subst (λ z. IsBody (Has later) z (with_attr b a)) (sym thing) (is_kept u (with_attr b a) is.later),
-    ap (λ (r : Rid). body_at objects' (entry_of r.0 (with_attr b a))) same ∙ ap (body_at objects') (entry_of-with_attr i.0 b a) ∙ after_is at ∙ found_same (same_entry at at) (Some (with_attr b a)) (body_at objects at) (same-refl at),
+    ap (λ (r : Rid). body_at objects' (entry_of r.0 (with_attr b a))) same ∙ ap (body_at objects') (entry_of-with_attr i.0 b a) ∙ after_is at ∙ cond-true (same_entry at at) (Some (with_attr b a)) (body_at objects at) (same-refl at),
   )
 
   tied_by : (e : Entry Rid) (d : Body Rid) → ((same_entry e at ≡ true) × (d ≡ with_attr b a)) ⊎ ((same_entry e at ≡ false) × (body_at objects e ≡ Some d)) → (j : Rid) × (v : Thing) × later j v × IsBody (Has later) v d × (same_entry e (entry_of j.0 d) ≡ true)

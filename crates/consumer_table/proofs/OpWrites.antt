@@ -4,6 +4,7 @@ use Rattle.std.specs.BTreeMap.{insert_entry, is_at}
 use Rattle.std.specs.List.{AllByRecursion}
 use Rattle.std.specs.Map.{lookup, remove_entry}
 use Rattle.std.proofs.lemmas.Cmp.{eq_by_cmp_equiv}
+use Rattle.swss_types.proofs.Maps.{lookup-insert_entry}
 use Rattle.table_schema.specs.Fields.{Pairs, HasRisingKeys, HasRisingNames, merged}
 use Rattle.table_schema.specs.Key.{key_cmp}
 use Rattle.table_schema.specs.declared.key.Key.{Key}
@@ -15,7 +16,7 @@ use Rattle.table_schema.proofs.Places.{HasRisingKeys-insert_entry}
 use Rattle.table_schema.proofs.RowLists.{HasRisingKeys-remove_entry}
 use Rattle.producer_table.specs.declared.key_op.KeyOp.{KeyOp}
 use Rattle.producer_table.specs.Pending.{set_of}
-use Rattle.producer_table.proofs.Found.{each-found, each-put, lookup-put}
+use Rattle.producer_table.proofs.Found.{each-found, each-put}
 use Rattle.producer_table.proofs.Merging.{merged-merged, put-twice}
 use Rattle.producer_table.proofs.RowWrites.{row_after}
 use Rattle.consumer_table.specs.declared.op.Op.{Op}
@@ -33,8 +34,8 @@ operation_at_key true q k ops fields same = ap (λ x. Some (op_with_set (op_at o
 operation_at_key false q k ops fields same = refl
 
 pub op_at-after : (ops : Ops) (w : Write) (q : Key) → op_at (ops_after ops w) q ≡ op_after q w (op_at ops q)
-op_at-after ops (Set k fields) q = lookup-put key_cmp key_total ops k (op_with_set (op_at ops k) fields) q ∙ operation_at_key (is_at (key_cmp q) k) q k ops fields (tied_keys_same q k)
-op_at-after ops (Del k) q = lookup-put key_cmp key_total ops k op.Del q
+op_at-after ops (Set k fields) q = lookup-insert_entry key_cmp key_total ops k (op_with_set (op_at ops k) fields) q ∙ operation_at_key (is_at (key_cmp q) k) q k ops fields (tied_keys_same q k)
+op_at-after ops (Del k) q = lookup-insert_entry key_cmp key_total ops k op.Del q
 
 -- the names of an operation's fields rise
 abbrev pub HasNames : Option Op → Type 0
@@ -90,7 +91,7 @@ HaveOpNames-after_all ops (w ∷ ws) h = HaveOpNames-after_all (ops_after ops w)
 ops_after-both : (ops : Ops) (k : Key) (fields : Pairs) → insert_entry key_cmp ops k (op.Replace (merged [] fields)) ≡ ops_after (ops_after ops (Del k)) (Set k fields)
 ops_after-both ops k fields =
     let deleted = insert_entry key_cmp ops k op.Del in
-    let there : op_at deleted k ≡ Some op.Del = lookup-put key_cmp key_total ops k op.Del k ∙ ap (λ b. cond b (Some op.Del) (op_at ops k)) ((eq_by_cmp_equiv key_total).refl k) in
+    let there : op_at deleted k ≡ Some op.Del = lookup-insert_entry key_cmp key_total ops k op.Del k ∙ ap (λ b. cond b (Some op.Del) (op_at ops k)) ((eq_by_cmp_equiv key_total).refl k) in
     sym (put-twice key_cmp key_total ops k op.Del (op.Replace (merged [] fields))) ∙ ap (λ o. insert_entry key_cmp deleted k (op_with_set o fields)) (sym there)
 
 -- what was popped with both mark and fields

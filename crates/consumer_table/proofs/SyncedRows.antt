@@ -7,11 +7,11 @@ use Rattle.table_schema.specs.Rows.{Rows, HasRisingRows, after_write, after_writ
 use Rattle.table_schema.specs.declared.key.Key.{Key}
 use Rattle.table_schema.specs.declared.write.Write.{Write}
 use Rattle.table_schema.proofs.Keys.{key_total}
-use Rattle.table_schema.proofs.RowLists.{HasRisingRows-after_write}
+use Rattle.table_schema.proofs.RowLists.{HasRisingRows-after_write, HasRisingRows-after_writes}
 use Rattle.producer_table.specs.declared.key_op.KeyOp.{KeyOp}
 use Rattle.producer_table.specs.Pending.{with_ops, writes_of_op, writes_of_ops}
 use Rattle.producer_table.proofs.Found.{lookup-removed}
-use Rattle.producer_table.proofs.RowWrites.{HasRisingRows-after_writes, after_writes-append, fields_at-after_write, row_after}
+use Rattle.producer_table.proofs.RowWrites.{after_writes-append, fields_at-after_write, row_after}
 use Rattle.consumer_table.specs.declared.op.Op.{Op}
 use Rattle.consumer_table.specs.Ops.{Ops, AreOpsInOrder, op_at, ops_after, ops_after_all, ops_with, without_op}
 use Rattle.consumer_table.specs.Synced.{AreRowsNow, Added, Finished, SyncStep, Synced, after_step, after_steps, all_done, row_with_op, with_added, with_finished}

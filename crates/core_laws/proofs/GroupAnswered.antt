@@ -1,5 +1,6 @@
 -- all stands for the state when the call of a group's operation has taken effect
 use Rattle.std.proofs.Common.{◌≡◌, ◌∷◌, ◌++◌, ◌∙◌, inl, ℕ, Bool, true, false, cond, List, [], Option, None, Some, is_some, refl, sym, ap, subst}
+use Rattle.std.proofs.lemmas.List.{append-nil}
 use Rattle.table_schema.specs.Plan.{IsPlan, Ports}
 use Rattle.sai_types.specs.declared.body.Call.{Call}
 use Rattle.sai_types.specs.declared.ids.Rid.{Rid}
@@ -28,11 +29,11 @@ use Rattle.registry_laws.specs.Flown.{Flown, group_to_build, group_to_take, whol
 use Rattle.registry_laws.specs.Flying.{flown_as}
 use Rattle.registry_laws.specs.Making.{IsNextCall, left_of_group_by}
 use Rattle.registry_laws.proofs.Fine.{AreFine, fine_of, group_fine}
-use Rattle.registry_laws.proofs.Listing.{nothing_after}
 use Rattle.registry_laws.proofs.Replied.{same_first}
 use Rattle.registry_laws.proofs.Replies.{group_goes_on, group_is_built, group_is_gone}
-use Rattle.registry_laws.proofs.Settled.{nothing_behind, some_of_due}
+use Rattle.registry_laws.proofs.Settled.{nothing_behind}
 use Rattle.registry_laws.proofs.Taking.{group_due}
+use Rattle.registry_laws.proofs.Listing.{some_of_due}
 use Rattle.identifier_laws.specs.Identified.{FliesOn, HasWholeGroups, Identified, IsPartlyBuilt, IsUnderWay, KeepsBuilds, TiesAfter, tie_by}
 use Rattle.identifier_laws.proofs.GroupTook.{built_took, taken_took}
 use Rattle.identifier_laws.proofs.Known.{group_goes, one_way}
@@ -152,7 +153,7 @@ module _ (plan : Ports) (is : IsPlan plan) (capacities : List ℕ) (names : Name
 
   module _ (goes : g.builds ≡ false) where
     all_due : m.due w ≡ g.due
-    all_due = group_due_is plan is capacities names room flown rid s stands w x at g has ∙ ap (λ l. g.due ++ l) (goes_alone plan is capacities names room flown rid s stands w x at g has goes) ∙ nothing_after g.due
+    all_due = group_due_is plan is capacities names room flown rid s stands w x at g has ∙ ap (λ l. g.due ++ l) (goes_alone plan is capacities names room flown rid s stands w x at g has goes) ∙ append-nil g.due
 
     kept_builds : (z : Option Flown) → KeepsBuilds flown (put w z flown)
     kept_builds z = puts_kept flown w z (λ h there b. no_build h there b)

@@ -7,6 +7,7 @@ use Rattle.sai_types.specs.declared.ids.Vid.{Vid}
 use Rattle.sai_types.specs.declared.thing.Thing.{Thing}
 use Rattle.sai_types.specs.Alike.{IsIn}
 use Rattle.sai_types.specs.Names.{ThingName}
+use Rattle.sai_types.proofs.Membership.{in-right}
 use Rattle.row_layout.specs.Operations.{Change, Make, Take}
 use Rattle.row_layout.specs.Rows as owner
 use Rattle.row_layout.specs.Shared.{shared_things}
@@ -15,6 +16,7 @@ use Rattle.switch_machine.specs.Consistent.{IsConsistent}
 use Rattle.switch_machine.specs.Events.{SwitchState}
 use Rattle.switch_machine.specs.Flights.{IsOwnedBy, Machine}
 use Rattle.switch_machine.proofs.Tabled.{tabled}
+use Rattle.switch_machine.proofs.Beginning.{take_in}
 use Rattle.ref_counts.specs.declared.name.Name.TheVariants as name
 use Rattle.ref_counts.specs.declared.name.NameState.TheVariants as state
 use Rattle.ref_counts.specs.Registry.{Names, state_of}
@@ -28,8 +30,8 @@ use Rattle.registry_laws.specs.Flown.{Flown, flight_of, group_to_build, group_to
 use Rattle.registry_laws.specs.Flying.{IsFlown, IsGroupFlown, IsRestFrom}
 use Rattle.registry_laws.specs.Making.{KnowsNext, group_begun, group_or}
 use Rattle.registry_laws.proofs.Grouped.{built_use}
-use Rattle.registry_laws.proofs.Listing.{in_right, not_some}
-use Rattle.registry_laws.proofs.Parting.{removals_of, taken_in}
+use Rattle.registry_laws.proofs.Listing.{not_some}
+use Rattle.registry_laws.proofs.Parting.{removals_of}
 use Rattle.registry_laws.proofs.Rests.{none_of_group, rest_order}
 use Rattle.registry_laws.proofs.Settled.{nothing_behind}
 use Rattle.registry_laws.proofs.Taking.{group_due, made_in, may_take_group, row_due}
@@ -108,13 +110,13 @@ module _ (plan : Ports) (is : IsPlan plan) (capacities : List ℕ) (names : Name
 
     -- what is due is of those that build it, or of those that take it away
     pub in_first : (b : Bool) → g.builds ≡ b → (c : Change) → IsIn c g.due → IsIn c (first_group_due g.hops b)
-    in_first b e c i = subst (λ z. IsIn c (first_group_due g.hops z)) e (subst (IsIn c) (sym grouped.rest.1) (in_right c grouped.rest.0 g.due i))
+    in_first b e c i = subst (λ z. IsIn c (first_group_due g.hops z)) e (subst (IsIn c) (sym grouped.rest.1) (in-right c grouped.rest.0 g.due i))
 
     pub makes_next : g.builds ≡ true → (c : Change) → IsIn c g.due → (t : Thing) × IsIn t (shared_things (owner.Group g.hops)) × (c ≡ Make t)
     makes_next b c i = made_in (shared_things (owner.Group g.hops)) c (in_first true b c i)
 
     pub takes_next : g.builds ≡ false → (c : Change) → IsIn c g.due → (n : ThingName) × (c ≡ Take n)
-    takes_next goes c i = let z = taken_in _ c (in_first false goes c i) in (_, z.2)
+    takes_next goes c i = let z = take_in _ c (in_first false goes c i) in (_, z.2)
 
     pub own_next : (c : Change) → IsIn c g.due → IsOwnedBy plan (changed_name c) (owner.Group g.hops)
     own_next c i = by g.builds refl

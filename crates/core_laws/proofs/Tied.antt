@@ -1,5 +1,5 @@
 -- the identifiers that a call names are tied to those of objects that stand
-use Rattle.std.proofs.Common.{◌≡◌, ◌⊎◌, ◌∷◌, ◌++◌, ◌∙◌, inl, inr, true, List, [], Option, None, Some, refl, sym, ap, subst}
+use Rattle.std.proofs.Common.{◌≡◌, ◌⊎◌, ◌∷◌, ◌∙◌, inl, inr, true, List, [], Option, None, Some, refl, sym, ap, subst}
 use Rattle.std.proofs.lemmas.Option.{same_Some}
 use Rattle.sai_types.specs.declared.body.Attr.{Attr}
 use Rattle.sai_types.specs.declared.body.Attr.TheVariants as attr
@@ -19,6 +19,7 @@ use Rattle.sai_types.specs.Alike.{IsIn}
 use Rattle.sai_types.specs.Names as name
 use Rattle.sai_types.specs.Names.{ThingName, name_kind, name_of}
 use Rattle.sai_types.specs.Objects.{Objects}
+use Rattle.sai_types.proofs.Membership.{in-either}
 use Rattle.chip_layout.specs.Bodies.{IsAt, IsBody, IsChange, body_with, first_name, goal_name, is_numbered, second_name, to_with}
 use Rattle.chip_layout.specs.Layout.{Has, IsLaidOut, Layout, has_number}
 use Rattle.chip_layout.proofs.Bodies.{first-numbered, second-numbered}
@@ -29,15 +30,6 @@ use Rattle.orch_flight.specs.Calling.{IsCallOf, IsEnteredBy, IsEntryOf, entry_by
 use Rattle.registry_laws.proofs.Listing.{not_some}
 use Rattle.identifier_laws.proofs.Telling.{neighbor_entered, neighbor_first}
 use Rattle.core_laws.specs.Calls.{IsTied, ids_of_attr, ids_of_body, ids_of_call, ids_of_entry, ids_of_target}
-
-in_parts : {X : Type 0} (x : X) (xs ys : List X) → IsIn x (xs ++ ys) → IsIn x xs ⊎ IsIn x ys
-in_parts x [] ys h = inr h
-in_parts x (y ∷ xs) ys (inl e) = inl (inl e)
-in_parts x (y ∷ xs) ys (inr h) = by (in_parts x xs ys h)
-  where
-    by : IsIn x xs ⊎ IsIn x ys → IsIn x (y ∷ xs) ⊎ IsIn x ys
-    by (inl g) = inl (inr g)
-    by (inr g) = inr g
 
 module _ (rid : Vid → Option Rid) where
   -- where it is that of a name
@@ -119,7 +111,7 @@ module _ (rid : Vid → Option Rid) where
         (tied_at (second_name t) x.of.second y.of.second (second-numbered t) y.of.second_at x.of.second_at)
         z (subst (λ l. IsIn z (ids_of_call l)) (x.is ∙ ap call.Create x.of.body_is) h)
     call_tied things (Take n) c d x y z h = standing_tied x.old x.entry y.id y.old y.body x.of y.stands (y.named ∙ sym x.same) y.of z (subst (λ l. IsIn z (ids_of_call l)) x.is h)
-    call_tied things (Set u) c d x y z h = by (in_parts z (ids_of_entry x.entry) (ids_of_attr x.attr) (subst (λ l. IsIn z (ids_of_call l)) x.is h))
+    call_tied things (Set u) c d x y z h = by (in-either z (ids_of_entry x.entry) (ids_of_attr x.attr) (subst (λ l. IsIn z (ids_of_call l)) x.is h))
       where
         same : name_of x.old ≡ name_of y.old
         same = x.same ∙ (changed L objects laid y.old u y.body y.attr y.of y.change).same

@@ -1,5 +1,6 @@
 -- whether anything is due once an answer of a group's operation was taken
 use Rattle.std.proofs.Common.{◌≡◌, ◌∷◌, ◌++◌, ◌∙◌, ℕ, true, false, cond, List, [], Option, None, Some, refl, sym, ap, subst}
+use Rattle.std.proofs.lemmas.List.{append-nil}
 use Rattle.table_schema.specs.Plan.{IsPlan, Ports}
 use Rattle.sai_types.specs.declared.ids.Rid.{Rid}
 use Rattle.sai_types.specs.declared.ids.Vid.{Vid}
@@ -12,9 +13,9 @@ use Rattle.orch_flight.specs.Operation.{Operation}
 use Rattle.registry_laws.specs.Flown.{Flown, due_for, group_to_build, group_to_take, whole_group}
 use Rattle.registry_laws.specs.Flying.{flown_as}
 use Rattle.registry_laws.specs.Making.{left_of_group_by}
-use Rattle.registry_laws.proofs.Listing.{nothing_after}
-use Rattle.registry_laws.proofs.Settled.{nothing_behind, some_of_due}
+use Rattle.registry_laws.proofs.Settled.{nothing_behind}
 use Rattle.registry_laws.proofs.Taking.{group_due}
+use Rattle.registry_laws.proofs.Listing.{some_of_due}
 use Rattle.core_laws.specs.Standing.{StandsFor}
 use Rattle.core_laws.proofs.Nexts.{goes_alone, own_later}
 
@@ -37,7 +38,7 @@ module _ (plan : Ports) (is : IsPlan plan) (capacities : List ℕ) (names : Name
 
   -- a group that goes has the only changes
   pub goes_as : g.builds ≡ false → due_for plan names' (flown_as f (left_of_group_by g' g'.due)) ≡ g'.due
-  goes_as goes = group_due plan names' (flown_as f (left_of_group_by g' g'.due)) g' (by g'.due) ∙ ap (λ l. g'.due ++ l) (goes_alone plan is capacities names room flown rid s stands w x at g has goes) ∙ nothing_after g'.due
+  goes_as goes = group_due plan names' (flown_as f (left_of_group_by g' g'.due)) g' (by g'.due) ∙ ap (λ l. g'.due ++ l) (goes_alone plan is capacities names room flown rid s stands w x at g has goes) ∙ append-nil g'.due
     where
       by : (l : List Change) → left_of_group_by g' l ≡ Some g'
       by [] = ap (λ v. cond v None (Some g')) (same_builds ∙ goes)

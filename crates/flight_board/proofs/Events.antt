@@ -1,5 +1,5 @@
 -- what follows in an event
-use Rattle.std.proofs.Common.{◌≡◌, inl, inr, ℕ, ◌<◌, List, [], length, Option, None, Some, option_map, Result, Ok, Err, OnOk, OnErr, refl, sym, ap, subst, ◌∙◌}
+use Rattle.std.proofs.Common.{◌≡◌, inl, inr, ℕ, ◌<◌, List, [], length, Option, None, Some, option_map, Result, Ok, Err, refl, sym, ap, subst, ◌∙◌}
 use Rattle.std.specs.Prelude.{set}
 use Rattle.std.proofs.lemmas.List.{set-set}
 use Rattle.table_schema.specs.declared.key.Key.{Key}
@@ -19,15 +19,6 @@ use Rattle.flight_board.specs.Applied.{Entries, HasSameRows, KeepsOthers, row_at
 use Rattle.flight_board.specs.Board.{BoardState, FlightState, BoardFollows, IsBegunFor, IsHeldUp, IsPrepared, IsSameBoard, IsTakenFor, IsUnflown, flight_at, flight_on, operation_in}
 use Rattle.flight_board.proofs.Kept.{IsOperationOf, starts-as}
 use Rattle.flight_board.proofs.Places.{Under, on-other, on-same, set-same}
-
--- what follows from a clause on an answer
-pub on-ok : {T E : Type 0} (r : Result T E) {P Q : Type 0} → (P → Q) → OnOk r P → OnOk r Q
-on-ok (Ok _) f h = f h
-on-ok (Err _) f h = h
-
-pub on-err : {T E : Type 0} (r : Result T E) {P Q : Type 0} → (P → Q) → OnErr r P → OnErr r Q
-on-err (Ok _) f h = h
-on-err (Err _) f h = f h
 
 -- ---- a group's operation begins
 

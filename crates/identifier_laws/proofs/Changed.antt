@@ -25,7 +25,7 @@ use Rattle.switch_machine.specs.Consistent.{IsConsistent}
 use Rattle.switch_machine.specs.Flights.{CanMake, CanTake, MachineFlight, IsFinal, IsOwnedBy, IsShared, Machine, StandsIn}
 use Rattle.switch_machine.specs.Tables.{TableLaws}
 use Rattle.switch_machine.proofs.Moving.{fit_of}
-use Rattle.switch_machine.proofs.Running.{shared_row, some_owner}
+use Rattle.switch_machine.proofs.Running.{shared_row}
 use Rattle.switch_machine.proofs.Splits.{own_row_in, use_row_in}
 use Rattle.switch_machine.proofs.Tabled.{tabled}
 use Rattle.ref_counts.specs.declared.name.Name as registry_name
@@ -72,7 +72,7 @@ made_off names k _ made o other = ids_off names (owner.OfRow k) (made_live (to_l
 
 -- and its own has the one that was made
 live_at : (names : Names) (p o : Owner) (w : ℕ) (ids : List Vid) → Some p ≡ Some o → state_of names (name_for o) ≡ state.Building w → ids_of (changed names (name_for p) (made_live ids)) (name_for o) ≡ ids
-live_at names p o w ids e h = subst (λ z. ids_of (changed names (name_for z) (made_live ids)) (name_for o) ≡ ids) (sym (some_owner p o e)) (ids_live names o w ids h)
+live_at names p o w ids e h = subst (λ z. ids_of (changed names (name_for z) (made_live ids)) (name_for o) ≡ ids) (sym (same_Some p o e)) (ids_live names o w ids h)
 
 made_at : (names : Names) (k : Key) (t : Thing) (made : Option Vid) (o : Owner) (w : ℕ) → made_owner k t ≡ Some o → state_of names (name_for o) ≡ state.Building w → has_number t ≡ true → ids_of (made_names names k t made) (name_for o) ≡ to_list made
 made_at names k (thing.BridgePort lane) made o w e h numbered = live_at names (owner.Bridge lane) o w (to_list made) e h
@@ -84,7 +84,7 @@ made_at names k (thing.GroupMember hops hop) made o w e h numbered = not_some o 
 made_at names k _ made o w e h numbered = live_at names (owner.OfRow k) o w (to_list made) e h
 
 made_numbered : (k : Key) (t : Thing) (o : Owner) → made_owner k t ≡ Some o → (has_number t ≡ true) ⊎ ((ip : Ip) × (o ≡ owner.Own ip))
-made_numbered k (thing.Own ip) o e = inr (ip, sym (some_owner (owner.Own ip) o e))
+made_numbered k (thing.Own ip) o e = inr (ip, sym (same_Some (owner.Own ip) o e))
 made_numbered k (thing.Neighbor hop mac) o e = not_some o e
 made_numbered k (thing.Route prefix goal) o e = not_some o e
 made_numbered k _ o e = inl refl
@@ -153,7 +153,7 @@ module _ (plan : Ports) (is : IsPlan plan) (m : Machine) (sound : IsConsistent p
     off j u h numbered o of e = by (made_numbered f.key t o e)
       where
         same : (has_number t ≡ true) → its_owner.0 ≡ o
-        same number = some_owner its_owner.0 o (sym (made_some plan f.key t its_owner.0 its_owner.1 its_owner.2 number alone) ∙ e)
+        same number = same_Some its_owner.0 o (sym (made_some plan f.key t its_owner.0 its_owner.1 its_owner.2 number alone) ∙ e)
 
         by : (has_number t ≡ true) ⊎ ((ip : Ip) × (o ≡ owner.Own ip)) → ⊥
         by (inr (ip, own)) = no_own plan is (name_of u) o ip own numbered of

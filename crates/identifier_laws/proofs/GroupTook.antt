@@ -10,6 +10,7 @@ use Rattle.sai_types.specs.declared.thing.Thing.{Thing}
 use Rattle.sai_types.specs.Alike.{IsIn}
 use Rattle.sai_types.specs.Named.{hop_cmp}
 use Rattle.sai_types.specs.Names.{ThingName, name_of}
+use Rattle.sai_types.proofs.Membership.{in-right}
 use Rattle.chip_layout.specs.Layout.{Layout, has_number, listed, with_thing, without}
 use Rattle.row_layout.specs.Operations.{Change, Make, Take, make_all}
 use Rattle.row_layout.specs.Rows as owner
@@ -32,7 +33,6 @@ use Rattle.orch_flight.specs.Needing.{name_for}
 use Rattle.orch_flight.specs.Taking.{to_list}
 use Rattle.registry_laws.specs.Flown.{Flown}
 use Rattle.registry_laws.proofs.Finding.{gone_off}
-use Rattle.registry_laws.proofs.Listing.{in_right}
 use Rattle.identifier_laws.specs.Identified.{BuildsGroups, FliesOn, Identified, IsPartlyBuilt, IsUnderWay, IsVidOf, TiesAfter}
 use Rattle.identifier_laws.proofs.Changed.{other_vid, tied_kept}
 use Rattle.identifier_laws.proofs.Grouped.{grown, new_vid, old_vid}
@@ -83,7 +83,7 @@ module _ (plan : Ports) (is : IsPlan plan) (workers : ℕ) (capacities : List �
     things = part.things ∙ ap (λ l. part.before ++ l) next_thing.2
 
     of : IsOwnedBy plan (name_of z) (owner.Group g.hops)
-    of = T.shared (owner.Group g.hops) z (subst (IsIn z) (sym things) (in_right z part.before (z ∷ us) (inl refl)))
+    of = T.shared (owner.Group g.hops) z (subst (IsIn z) (sym things) (in-right z part.before (z ∷ us) (inl refl)))
 
     can : CanMake plan F (StandsIn s.machine) z
     can = subst (Can plan F (StandsIn s.machine)) next_thing.3 runs.0

@@ -75,7 +75,7 @@ pub ids_absent : (names : Names) (o : Owner) → registered_at names (name_for o
 ids_absent names o e = ap ids_in e
 
 -- and what is built has none
-building_in : (x : Option Registered) (w : ℕ) → state_in x ≡ state.Building w → ids_in x ≡ []
+pub building_in : (x : Option Registered) (w : ℕ) → state_in x ≡ state.Building w → ids_in x ≡ []
 building_in None w h = refl
 building_in (Some r) w h = ap (λ z. ids_by z r.ids) h
 

@@ -1,5 +1,6 @@
 -- the registry has the identifiers that the change which is due next needs
 use Rattle.std.proofs.Common.{◌≡◌, ◌⊎◌, ◌∷◌, ◌∙◌, inl, inr, ℕ, true, List, [], Option, Some, is_some, option_map, refl, sym, ap, subst}
+use Rattle.std.proofs.lemmas.Option.{same_Some}
 use Rattle.table_schema.specs.Plan.{IsPlan, Ports, port_named}
 use Rattle.table_schema.specs.declared.key.Key.{Key}
 use Rattle.table_schema.specs.declared.key.Key.TheVariants as key
@@ -29,7 +30,7 @@ use Rattle.switch_machine.specs.Flights.{Can, CanMake, MachineFlight, Goes, HasN
 use Rattle.switch_machine.specs.Consistent.{IsConsistent}
 use Rattle.switch_machine.specs.Tables.{TableLaws}
 use Rattle.switch_machine.proofs.Moving.{fit_of}
-use Rattle.switch_machine.proofs.Running.{row_keys, settable_name, shared_row, some_owner}
+use Rattle.switch_machine.proofs.Running.{row_keys, settable_name, shared_row}
 use Rattle.switch_machine.proofs.Splits.{own_row_in, use_row_in}
 use Rattle.switch_machine.proofs.Tabled.{tabled}
 use Rattle.ref_counts.specs.declared.name.Name.TheVariants as name
@@ -49,7 +50,7 @@ use Rattle.identifier_laws.proofs.Telling.{neighbor_first}
 
 -- an identifier of what is of no group that is built is the registry's
 free_built : (plan : Ports) (names : Names) (g : GroupOperation) (n : ThingName) (v : Vid) (o : Owner) → IsFirst n → IsOwnedBy plan n o → (o ≡ owner.Group g.hops → ⊥) → HasGroupVid plan names g n v → HasVid plan names n v
-free_built plan names g (thing_name.Group hops) v o first of free x = absurd (free (sym (some_owner (owner.Group hops) o of) ∙ ap owner.Group x.0))
+free_built plan names g (thing_name.Group hops) v o first of free x = absurd (free (sym (same_Some (owner.Group hops) o of) ∙ ap owner.Group x.0))
 free_built plan names g (thing_name.GroupMember hops hop) v o first of free x = elim first [ ]
 free_built plan names g _ v o first of free x = x
 
@@ -121,13 +122,13 @@ module _ (plan : Ports) (is : IsPlan plan) (m : Machine) (sound : IsConsistent p
           by i at e (inl same) = subst (λ z. HaveIds names (entered z (thing_name.Neighbor hop))) (row_keys (key.Neigh i hop.ip) k (e ∙ same)) (stands_known (thing_name.Rif hop.on) (owner.OfRow (key.Intf i)) refl tt (ap (option_map (λ j. owner.OfRow (key.Intf j))) at) (row_built_by_none (key.Intf i)) (rif hop refl), tt)
           by i at e (inr shared) = absurd (shared_row o (key.Neigh i hop.ip) shared (sym e))
       entered_known k (thing_name.Port lane) o of whose alone there rif = as_is k (thing_name.Port lane) (λ hop e. cc) (row_entered k (thing_name.Port lane) o refl tt of (of_row o (port_named plan lane) key.Port of) whose there)
-      entered_known k (thing_name.Vlan vlan) o of whose alone there rif = as_is k (thing_name.Vlan vlan) (λ hop e. cc) (row_entered k (thing_name.Vlan vlan) o refl tt of (key.Vlan vlan, some_owner _ o of) whose there)
+      entered_known k (thing_name.Vlan vlan) o of whose alone there rif = as_is k (thing_name.Vlan vlan) (λ hop e. cc) (row_entered k (thing_name.Vlan vlan) o refl tt of (key.Vlan vlan, same_Some _ o of) whose there)
       entered_known k (thing_name.BridgePort lane) o of whose alone there rif = as_is k (thing_name.BridgePort lane) (λ hop e. cc) (stands_known (thing_name.BridgePort lane) (owner.Bridge lane) refl tt refl (λ v g at builds e. cc) there, tt)
       entered_known k (thing_name.VlanMember vlan lane) o of whose alone there rif = as_is k (thing_name.VlanMember vlan lane) (λ hop e. cc) (row_entered k (thing_name.VlanMember vlan lane) o refl tt of (of_row o (port_named plan lane) (key.Member vlan) of) whose there)
       entered_known k (thing_name.Rif b) o of whose alone there rif = as_is k (thing_name.Rif b) (λ hop e. cc) (row_entered k (thing_name.Rif b) o refl tt of (of_row o (interface_on plan b) key.Intf of) whose there)
       entered_known k (thing_name.NextHop hop) o of whose alone there rif = as_is k (thing_name.NextHop hop) (λ hop e. cc) (row_entered k (thing_name.NextHop hop) o refl tt of (of_row o (interface_on plan hop.on) (λ i. key.Neigh i hop.ip) of) whose there)
-      entered_known k (thing_name.Group hops) o of whose alone there rif = absurd (alone hops (sym (some_owner (owner.Group hops) o of)))
-      entered_known k (thing_name.GroupMember hops hop) o of whose alone there rif = absurd (alone hops (sym (some_owner (owner.Group hops) o of)))
+      entered_known k (thing_name.Group hops) o of whose alone there rif = absurd (alone hops (sym (same_Some (owner.Group hops) o of)))
+      entered_known k (thing_name.GroupMember hops hop) o of whose alone there rif = absurd (alone hops (sym (same_Some (owner.Group hops) o of)))
       entered_known k (thing_name.Own ip) o of whose alone there rif = as_is k (thing_name.Own ip) (λ hop e. cc) tt
       entered_known k (thing_name.Route prefix) o of whose alone there rif = as_is k (thing_name.Route prefix) (λ hop e. cc) tt
 

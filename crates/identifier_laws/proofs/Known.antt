@@ -1,5 +1,5 @@
 -- what has a name has one identifier
-use Rattle.std.proofs.Common.{◌≡◌, ◌∙◌, inl, inr, ℕ, Bool, true, false, cond, List, [], ◌∷◌, Option, None, Some, refl, sym, ap, subst}
+use Rattle.std.proofs.Common.{◌≡◌, ◌∙◌, inl, inr, ℕ, Bool, true, false, cond, List, [], ◌∷◌, Option, None, refl, sym, ap, subst}
 use Rattle.std.proofs.lemmas.Option.{same_Some}
 use Rattle.table_schema.specs.Plan.{Ports}
 use Rattle.sai_types.specs.declared.hop.Hop.{Hop}
@@ -7,22 +7,19 @@ use Rattle.sai_types.specs.declared.ids.Vid.{Vid}
 use Rattle.sai_types.specs.Names as thing_name
 use Rattle.ref_counts.specs.declared.name.Name.TheVariants as name
 use Rattle.ref_counts.specs.declared.name.NameState.TheVariants as state
-use Rattle.ref_counts.specs.Registered.{Registered, first_of}
-use Rattle.ref_counts.specs.Registry.{Names, ids_by, ids_in, ids_of, registered_at, state_in, state_of}
+use Rattle.ref_counts.specs.Registered.{first_of}
+use Rattle.ref_counts.specs.Registry.{Names, ids_of, registered_at, state_of}
 use Rattle.orch_flight.specs.Calling.{HasVid, member_vid, members_ids}
 use Rattle.orch_flight.specs.Grouping.{GroupOperation, HasGroupVid, group_ids}
 use Rattle.registry_laws.specs.Flown.{Flown}
 use Rattle.registry_laws.proofs.Listing.{not_some}
 use Rattle.identifier_laws.specs.Identified.{BuildsGroups, IsUnderWay, IsVidOf}
+use Rattle.identifier_laws.proofs.Ids.{building_in}
 
 -- ---- a name that is built has no identifier yet
 
-ids_building : (o : Option Registered) (w : ℕ) → state_in o ≡ state.Building w → ids_in o ≡ []
-ids_building None w h = refl
-ids_building (Some r) w h = ap (λ z. ids_by z r.ids) h
-
 pub no_ids : (names : Names) (hops : List Hop) (w : ℕ) → state_of names (name.Group hops) ≡ state.Building w → ids_of names (name.Group hops) ≡ []
-no_ids names hops w h = ids_building (registered_at names (name.Group hops)) w h
+no_ids names hops w h = building_in (registered_at names (name.Group hops)) w h
 
 pub no_member_vid : (hops : List Hop) (hop : Hop) → member_vid hops hop [] ≡ None
 no_member_vid [] hop = refl

@@ -1,7 +1,6 @@
 -- which identifiers a change needs: those of rows that are named, of what is shared, and of its own name
 use Rattle.std.proofs.Common.{◌≡◌, ◌∷◌, ◌++◌, ◌∙◌, inl, inr, true, List, [], map, Option, None, Some, refl, sym, ap, subst}
 use Rattle.std.specs.BTreeSet.{insert_key}
-use Rattle.std.specs.List.{AllByRecursion}
 use Rattle.std.specs.Prelude.{IsSome}
 use Rattle.swss_types.specs.declared.address.Prefix as key_prefix
 use Rattle.swss_types.specs.declared.interface.IfName.{IfName}
@@ -28,11 +27,12 @@ use Rattle.sai_types.specs.Named.{hop_cmp}
 use Rattle.sai_types.specs.Names as thing_name
 use Rattle.sai_types.specs.Names.{ThingName, name_kind, name_of}
 use Rattle.sai_types.proofs.Things.{both_mapped}
+use Rattle.sai_types.proofs.Membership.{all-in}
 use Rattle.switch_model.specs.Things.{base_of, hop_of, hops_of, lane_of}
 use Rattle.chip_layout.specs.Bodies.{is_numbered}
 use Rattle.row_layout.specs.Rows as owner
 use Rattle.row_layout.specs.Rows.{Owner, goal_by, goal_of, own_things}
-use Rattle.row_layout.specs.Shared.{group_by, shared_things, uses}
+use Rattle.row_layout.specs.Shared.{shared_things, uses}
 use Rattle.row_layout.proofs.Members.{from_in, in_map, only, two}
 use Rattle.switch_machine.specs.Flights.{Fits, own_names}
 use Rattle.switch_machine.proofs.Tabled.{group_use, member_of, in_from}
@@ -43,6 +43,7 @@ use Rattle.ref_counts.specs.Registry.{Names, ids_of}
 use Rattle.orch_flight.specs.Calling.{HaveIds, entered, pointed, referred}
 use Rattle.orch_flight.specs.Needing.{name_for}
 use Rattle.registry_laws.proofs.Listing.{map_in, not_some}
+use Rattle.registry_laws.proofs.Launched.{use_is}
 use Rattle.identifier_laws.proofs.Owning.{IsFirst}
 
 -- each hop of a route's row is on an interface of the plan
@@ -64,19 +65,9 @@ some_hops : (o : Option (List Hop)) (g : Goal) → goal_by o ≡ Some g → (gro
 some_hops None g h = not_some g h
 some_hops (Some hops) g h = (hops, refl)
 
-group_used : (o : Option (List Hop)) (group : List Hop) → goal_by o ≡ Some (goal.Group group) → IsIn (owner.Group group) (group_by o)
-group_used None group h = absurd cc
-group_used (Some []) group h = absurd cc
-group_used (Some (hop ∷ [])) group h = absurd cc
-group_used (Some (hop ∷ next ∷ hops)) group h = let same : hop ∷ next ∷ hops ≡ group = cc in inl (ap owner.Group (sym same))
-
 -- the registry has an identifier of a name
 abbrev pub IsKnown : Names → registry_name.Name → Type 0
 IsKnown names n = IsSome (first_of (ids_of names n))
-
-pub all_from_each : {X : Type 0} (P : X → Type 0) (xs : List X) → ((x : X) → IsIn x xs → P x) → AllByRecursion P xs
-all_from_each P [] each = tt
-all_from_each P (x ∷ xs) each = (each x (inl refl), all_from_each P xs (λ y h. each y (inr h)))
 
 pub both_known : (names : Names) (ns ms : List registry_name.Name) → HaveIds names ns → HaveIds names ms → HaveIds names (ns ++ ms)
 both_known names [] ms x y = y
@@ -102,7 +93,7 @@ module _ (plan : Ports) (names : Names) where
   rif_known k r i b at h rows = (rows (key.Intf i) (thing_name.Rif b) h (in_from (base_of plan i) (λ c. thing_name.Rif c ∷ []) b (thing_name.Rif b) at (inl refl)) refl tt, tt)
 
   hops_known : (prefix : key_prefix.Prefix) (hops : List RowHop) (g : Goal) → goal_by (hops_of plan hops) ≡ Some g → RowsKnown plan names (key.Route prefix) (row.Route (route.Hops hops)) → HaveIds names (map (λ h. name.Row (key.Neigh h.on h.ip)) hops)
-  hops_known prefix hops g at rows = all_from_each (IsKnown names) (map (λ (h : RowHop). name.Row (key.Neigh h.on h.ip)) hops) (λ n i. by n (map_in (λ (h : RowHop). name.Row (key.Neigh h.on h.ip)) n hops i))
+  hops_known prefix hops g at rows = all-in (IsKnown names) (map (λ (h : RowHop). name.Row (key.Neigh h.on h.ip)) hops) (λ n i. by n (map_in (λ (h : RowHop). name.Row (key.Neigh h.on h.ip)) n hops i))
     where
       group : (group : List Hop) × (hops_of plan hops ≡ Some group)
       group = some_hops (hops_of plan hops) g at
@@ -119,7 +110,7 @@ module _ (plan : Ports) (names : Names) where
   pointed_known prefix (route.Direct i) g at rows shared =
       let m = mapped goal.Direct (base_of plan i) g at in
       rif_known (key.Route prefix) (row.Route (route.Direct i)) i m.0 m.1 (inl refl) rows
-  pointed_known prefix (route.Hops hops) (goal.Group group) at rows shared = (shared (owner.Group group) (thing.Group group) (group_used (hops_of plan hops) group at) (inl refl) refl tt, tt)
+  pointed_known prefix (route.Hops hops) (goal.Group group) at rows shared = (shared (owner.Group group) (thing.Group group) (use_is (hops_of plan hops) group at) (inl refl) refl tt, tt)
   pointed_known prefix (route.Hops hops) g at rows shared = hops_known prefix hops g at rows
 
   -- what a thing of the row refers to

@@ -14,6 +14,7 @@ use Rattle.sai_types.specs.declared.thing.Thing.TheVariants as thing
 use Rattle.sai_types.specs.Alike.{IsIn}
 use Rattle.sai_types.specs.Names as thing_name
 use Rattle.sai_types.specs.Names.{ThingName, name_kind, name_of}
+use Rattle.sai_types.proofs.Membership.{all-in}
 use Rattle.chip_layout.specs.Bodies.{is_numbered}
 use Rattle.chip_layout.proofs.Answering.{those_in}
 use Rattle.row_layout.specs.Operations.{Change, Take, uses_of}
@@ -36,7 +37,7 @@ use Rattle.registry_laws.proofs.Listing.{map_in}
 use Rattle.identifier_laws.specs.Identified.{BuildsGroups, HasWholeGroups, Identified, IsVidOf}
 use Rattle.identifier_laws.proofs.Knowing.{row_built_by_none, standing_vid}
 use Rattle.identifier_laws.proofs.Owning.{built_hops, group_numbered, no_group_vid}
-use Rattle.identifier_laws.proofs.Needing.{IsKnown, all_from_each}
+use Rattle.identifier_laws.proofs.Needing.{IsKnown}
 
 module _ (plan : Ports) (is : IsPlan plan) (m : Machine) (sound : IsConsistent plan m) (names : Names) (rid : Vid → Option Rid) (flown : ℕ → Option Flown) (known : Identified plan names rid flown m.stands) where
   T : TableLaws plan
@@ -61,7 +62,7 @@ module _ (plan : Ports) (is : IsPlan plan) (m : Machine) (sound : IsConsistent p
 
     pub building_known : (g : GroupOperation) → g.builds ≡ true → IsGroupOver plan g → IsIn (owner.Group g.hops) (uses_of plan f.key f.new) → KnowsGroupIds names g
     building_known g builds over used = record {
-      neighbours = λ b. subst (AllByRecursion (λ k. IsKnown names (name.Row k))) (sym (over b).0) (all_from_each (λ k. IsKnown names (name.Row k)) (neighbour_keys plan g.hops) each);
+      neighbours = λ b. subst (AllByRecursion (λ k. IsKnown names (name.Row k))) (sym (over b).0) (all-in (λ k. IsKnown names (name.Row k)) (neighbour_keys plan g.hops) each);
       group = λ b. true_not_false g.builds builds b;
     }
       where

@@ -17,6 +17,7 @@ use Rattle.sai_types.specs.Alike.{IsIn}
 use Rattle.sai_types.specs.Named.{first_lane}
 use Rattle.sai_types.specs.Names as thing_name
 use Rattle.sai_types.specs.Names.{ThingName, name_of}
+use Rattle.sai_types.proofs.Membership.{in-either}
 use Rattle.switch_model.specs.Things.{lane_of}
 use Rattle.chip_layout.specs.Layout.{listed}
 use Rattle.row_layout.specs.Operations.{Change, Make, Set, Take}
@@ -33,7 +34,7 @@ use Rattle.switch_machine.proofs.Calling.{shared_no_port}
 use Rattle.switch_machine.proofs.Kept.{same_stands}
 use Rattle.switch_machine.proofs.Moving.{fit_of}
 use Rattle.switch_machine.proofs.Running.{one_owner, shared_row}
-use Rattle.switch_machine.proofs.Splits.{in_both, own_row_in, use_row_in}
+use Rattle.switch_machine.proofs.Splits.{own_row_in, use_row_in}
 use Rattle.switch_machine.proofs.Tabled.{tabled}
 use Rattle.ref_counts.specs.Registry.{Names}
 use Rattle.orch_flight.specs.Calling.{IsOver, things_held, things_retired}
@@ -219,7 +220,7 @@ no_retired (Some o) p h = shared_no_port o p h
 pub holds_stand : (plan : Ports) (m : Machine) (f : Operation) (c : Change) → Can plan (flight_of f) (StandsIn m) c → HoldsPort plan m f → PortsStand m (things_held plan f) c
 holds_stand plan m f (Make t) able holds = tt
 holds_stand plan m f (Take n) able holds = tt
-holds_stand plan m f (Set u) able holds = λ p h same. by p (in_both (thing.Port p) (own_of plan f.key f.now) (things_retired f.retires) h)
+holds_stand plan m f (Set u) able holds = λ p h same. by p (in-either (thing.Port p) (own_of plan f.key f.now) (things_retired f.retires) h)
   where
     some : f.new ≡ None → ⊥
     some none = elim (subst (λ z. IsIn able.like (own_of plan f.key z)) none able.final) [ ]

@@ -27,7 +27,6 @@ use Rattle.chip_layout.specs.Bodies.{is_numbered}
 use Rattle.row_layout.specs.Rows as owner
 use Rattle.row_layout.specs.Rows.{Owner, interface_on}
 use Rattle.switch_machine.specs.Flights.{IsOwnedBy}
-use Rattle.switch_machine.proofs.Running.{some_owner}
 use Rattle.registry_laws.proofs.Listing.{not_some}
 
 -- ---- the port whose first lane it is has it as its first lane
@@ -77,8 +76,8 @@ module _ (plan : Ports) (is : IsPlan plan) where
   named_by (thing_name.Port lane) o numbered alone h =
       let m = mapped (λ p. owner.OfRow (key.Port p)) (port_named plan lane) o h in
       ap (owner_name plan) (sym m.2) ∙ ap (option_map thing_name.Port) (lane_named plan is.rising lane m.0 m.1)
-  named_by (thing_name.Vlan vlan) o numbered alone h = ap (owner_name plan) (sym (some_owner (owner.OfRow (key.Vlan vlan)) o h))
-  named_by (thing_name.BridgePort lane) o numbered alone h = ap (owner_name plan) (sym (some_owner (owner.Bridge lane) o h))
+  named_by (thing_name.Vlan vlan) o numbered alone h = ap (owner_name plan) (sym (same_Some (owner.OfRow (key.Vlan vlan)) o h))
+  named_by (thing_name.BridgePort lane) o numbered alone h = ap (owner_name plan) (sym (same_Some (owner.Bridge lane) o h))
   named_by (thing_name.VlanMember vlan lane) o numbered alone h =
       let m = mapped (λ p. owner.OfRow (key.Member vlan p)) (port_named plan lane) o h in
       ap (owner_name plan) (sym m.2) ∙ ap (option_map (thing_name.VlanMember vlan)) (lane_named plan is.rising lane m.0 m.1)
@@ -88,8 +87,8 @@ module _ (plan : Ports) (is : IsPlan plan) where
   named_by (thing_name.NextHop hop) o numbered alone h =
       let m = mapped (λ i. owner.OfRow (key.Neigh i hop.ip)) (interface_on plan hop.on) o h in
       ap (owner_name plan) (sym m.2) ∙ ap (option_map (λ b. thing_name.NextHop (record { on = b; ip = hop.ip }))) (base_on hop.on m.0 m.1)
-  named_by (thing_name.Group hops) o numbered alone h = absurd (alone hops (sym (some_owner (owner.Group hops) o h)))
-  named_by (thing_name.GroupMember hops hop) o numbered alone h = absurd (alone hops (sym (some_owner (owner.Group hops) o h)))
+  named_by (thing_name.Group hops) o numbered alone h = absurd (alone hops (sym (same_Some (owner.Group hops) o h)))
+  named_by (thing_name.GroupMember hops hop) o numbered alone h = absurd (alone hops (sym (same_Some (owner.Group hops) o h)))
   named_by _ o numbered alone h = absurd (false≢true numbered)
 
   pub one_name : (n m : ThingName) (o : Owner) → is_numbered (name_kind n) ≡ true → is_numbered (name_kind m) ≡ true → ((hops : List Hop) → o ≡ owner.Group hops → ⊥) → IsOwnedBy plan n o → IsOwnedBy plan m o → n ≡ m

@@ -2,6 +2,7 @@
 use Rattle.std.proofs.Common.{◌≡◌, ◌⊎◌, ◌∷◌, ◌++◌, ◌∙◌, inl, inr, ℕ, suc, true, false, cond, List, [], length, Option, None, Some, refl, sym, ap, subst}
 use Rattle.std.specs.BTreeMap.{is_at}
 use Rattle.std.specs.Map.{remove_entry}
+use Rattle.std.proofs.lemmas.List.{append-nil}
 use Rattle.table_schema.specs.Fields.{HasRisingKeys}
 use Rattle.table_schema.specs.declared.key.Key.{Key}
 use Rattle.table_schema.specs.declared.row.Row.{Row}
@@ -10,7 +11,7 @@ use Rattle.sai_types.specs.declared.ids.Vid.{Vid}
 use Rattle.sai_types.specs.declared.thing.Thing.{Thing}
 use Rattle.sai_types.specs.declared.thing.Thing.TheVariants as thing
 use Rattle.sai_types.specs.Names as thing_name
-use Rattle.switch_model.specs.Things.{members_of}
+use Rattle.switch_model.proofs.Members.{members_count}
 use Rattle.row_layout.specs.Operations.{Change, Make, Set, Take, make_all}
 use Rattle.row_layout.specs.Rows as owner
 use Rattle.row_layout.specs.Rows.{Owner}
@@ -26,7 +27,6 @@ use Rattle.orch_flight.specs.Operation.{Operation}
 use Rattle.orch_flight.specs.Taking.{IsTook, MayTake, names_after, names_by}
 use Rattle.registry_laws.specs.Ending.{ended_names}
 use Rattle.registry_laws.proofs.Finding.{gone_at, gone_off}
-use Rattle.registry_laws.proofs.Listing.{nothing_after}
 use Rattle.identifier_laws.specs.Identified.{HasWholeGroups, HaveSameIds, IsPartlyBuilt}
 use Rattle.identifier_laws.proofs.Changed.{made_off, made_owner}
 use Rattle.identifier_laws.proofs.Ids.{ids_live, ids_off}
@@ -77,10 +77,6 @@ whole_took names names' f f' made may took whole = subst HasWholeGroups (sym too
 
 -- ---- a group's operation
 
-members_count : (all hops : List Hop) → length (members_of all hops) ≡ length hops
-members_count all [] = refl
-members_count all (hop ∷ hops) = ap suc (members_count all hops)
-
 none_due : (ts : List Thing) → make_all ts [] ≡ [] → ts ≡ []
 none_due [] e = refl
 none_due (t ∷ ts) e = absurd cc
@@ -89,7 +85,7 @@ none_due (t ∷ ts) e = absurd cc
 whole_made : (g : GroupOperation) → IsPartlyBuilt g → g.due ≡ [] → length g.made ≡ suc (length g.hops)
 whole_made g part none =
     let after = none_due part.after (sym part.due ∙ none) in
-    let all : shared_things (owner.Group g.hops) ≡ part.before = part.things ∙ ap (λ l. part.before ++ l) after ∙ nothing_after part.before in
+    let all : shared_things (owner.Group g.hops) ≡ part.before = part.things ∙ ap (λ l. part.before ++ l) after ∙ append-nil part.before in
     part.made ∙ ap length (sym all) ∙ ap suc (members_count g.hops g.hops)
 
 module _ (names : Names) (g : GroupOperation) (made : Option Vid) (whole : HasWholeGroups names) where

@@ -1,6 +1,5 @@
 -- the start of the operation of an interface's address
 use Rattle.std.proofs.Common.{◌≡◌, ◌⊎◌, inl, inr, ◌||◌, ℕ, Bool, true, false, List, [], ◌∷◌, Option, Some, None, is_some, Result, Ok, Err, OnOk, OnErr, IfErr, if◌then◌else◌, refl, sym, ap, subst, ◌∙◌}
-use Rattle.std.specs.BTreeMap.{is_at}
 use Rattle.std.specs.Result.{result_and}
 use Rattle.swss_types.specs.contracts.address.IpEq.TheImpl.Laws as equal_ip
 use Rattle.swss_types.specs.declared.address.Ip.{Ip}
@@ -21,17 +20,18 @@ use Rattle.ref_counts.specs.declared.name.Name.{Name}
 use Rattle.ref_counts.specs.declared.name.Name.TheVariants as name
 use Rattle.ref_counts.specs.declared.name.NameState.TheVariants as state
 use Rattle.ref_counts.specs.Registered.{going}
-use Rattle.ref_counts.specs.Registry.{Names, changed, name_cmp, refusal_at, state_in, state_of}
+use Rattle.ref_counts.specs.Registry.{Names, changed, refusal_at, state_in, state_of}
 use Rattle.ref_counts.specs.Room.{Reserves, RoomState}
 use Rattle.ref_counts.proofs.Found.{apart_from, found-other}
 use Rattle.switch_machine.specs.Flights.{Fits}
 use Rattle.switch_machine.specs.Operations.{built_first}
 use Rattle.orch_flight.specs.Needing.{name_for, places_for, row_reason, to_build}
-use Rattle.orch_flight.specs.Sharing.{AreOfShared, IsOfShared, MayShare, MayStart, begun_by, is_absent, lacks_shared, owner_for, owners_of}
+use Rattle.orch_flight.specs.Sharing.{AreOfShared, MayShare, MayStart, begun_by, is_absent, lacks_shared, owner_for, owners_of}
 use Rattle.orch_flight.specs.Starting.{built_here, first_left, leaving, retired_by, started_by, started_names, started_names_by, started_operation, taken_here}
 use Rattle.orch_flight.specs.Taking.{to_list}
 use Rattle.orch_flight.proofs.Begins.{no_places, reserves-none, wait-removal}
 use Rattle.orch_flight.proofs.Rows.{built_of, row-begins, row-builds, row-starts, same-name}
+use Rattle.orch_flight.proofs.Stages.{row_apart}
 use Rattle.intf_orch.specs.Interfaces.{IsLive, IsRetired, intf_operation, left_shared, own_due, own_stage, retired, row_where}
 use Rattle.intf_orch.specs.declared.stage.OwnStage.{OwnStage}
 use Rattle.intf_orch.specs.declared.stage.OwnStage.TheVariants as own
@@ -242,13 +242,6 @@ module _ (plan : Ports) (n : IfName) (ip : Ip) (len : ℕ) where
       pub address-held : (a : Row) (w : Wait) (names' : Names) → MayStart plan names worker k (Some a) None → refusal_at names worker (name.Row k) ≡ Some w → names' ≡ names → Starts plan names room used worker (Err w) names' room k (Some a) None
       address-held a w names' may waits same = (wait-removal plan names room used worker k (Some a) (ap places_for (none-removed a (may.old_fits a refl))) ∙ waits, same, refl)
 
--- the name of a row is no other
-row-apart : (k : Key) (n : Name) → IsOfShared n → is_at (name_cmp (name.Row k)) n ≡ false
-row-apart k (name.Row q) h = elim h [ ]
-row-apart k (name.BridgePort lane) h = refl
-row-apart k (name.Own ip) h = refl
-row-apart k (name.Group hops) h = refl
-
 pub stays-live : (names : Names) (worker : ℕ) (k : Key) (shared : Option Name) → AreOfShared shared → IsLive names shared → IsLive (changed names (name.Row k) (going worker)) shared
 stays-live names worker k None of live = tt
-stays-live names worker k (Some m) of live = ap state_in (found-other names (name.Row k) m (going worker) (λ q is. apart_from (name.Row k) m q (row-apart k m of) is)) ∙ live
+stays-live names worker k (Some m) of live = ap state_in (found-other names (name.Row k) m (going worker) (λ q is. apart_from (name.Row k) m q (row_apart k m of) is)) ∙ live

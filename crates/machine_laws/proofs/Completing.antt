@@ -1,5 +1,6 @@
 -- an operation that runs alone can be run to its end
 use Rattle.std.proofs.Common.{◌≡◌, ◌⊎◌, ◌+◌, ◌<◌, ◌∷◌, ◌++◌, ◌∙◌, inl, inr, ℕ, zero, suc, Bool, true, false, List, [], length, Option, None, Some, refl, sym, ap, ap₂, subst, arith}
+use Rattle.std.proofs.lemmas.Option.{same_Some}
 use Rattle.table_schema.specs.Plan.{IsPlan, Ports}
 use Rattle.table_schema.specs.declared.key.Key.{Key}
 use Rattle.table_schema.specs.declared.row.Row.{Row}
@@ -22,7 +23,7 @@ use Rattle.switch_machine.specs.Flights.{MachineFlight, IsShared, IsUser, Machin
 use Rattle.switch_machine.specs.Steps.{finished, left, moved, parted, started}
 use Rattle.switch_machine.proofs.Kept.{kept-answers, kept-event}
 use Rattle.switch_machine.proofs.Reasoned.{has-call}
-use Rattle.switch_machine.proofs.Running.{no_flight, one_flight}
+use Rattle.switch_machine.proofs.Running.{no_flight}
 use Rattle.switch_machine.proofs.Splits.{IsPut, IsSplit, New, Old, key_split, name_split, put_at, put_by, use_row_in}
 use Rattle.switch_machine.proofs.Tabled.{tabled}
 use Rattle.machine_laws.proofs.Sharing.{others-use, used-by}
@@ -125,7 +126,7 @@ module _ (plan : Ports) (is : IsPlan plan) (workers : ℕ) (capacities : List �
 
   module _ (m : Machine) (w : ℕ) (f : MachineFlight) (below : w < workers) (there : m.board.flights w ≡ Some f) (only : (v : ℕ) (g : MachineFlight) → m.board.flights v ≡ Some g → v ≡ w) where
     one : (v : ℕ) (g : MachineFlight) → m.board.flights v ≡ Some g → g.key ≡ f.key
-    one v g at = ap (λ (z : MachineFlight). z.key) (one_flight g f (sym at ∙ ap m.board.flights (only v g at) ∙ there))
+    one v g at = ap (λ (z : MachineFlight). z.key) (same_Some g f (sym at ∙ ap m.board.flights (only v g at) ∙ there))
 
     ended : (v : ℕ) (g : MachineFlight) → IsPut w v None m.board.flights (Some g) → ⊥
     ended v g (New same h) = no_flight g h
@@ -148,7 +149,7 @@ module _ (plan : Ports) (is : IsPlan plan) (workers : ℕ) (capacities : List �
     goes-on shared _ (Ended g x) = inl (λ v h at. ended v h (put_by w v None m.board.flights (Some h) at))
     goes-on shared _ (Left g o x) = inl (λ v h at. left_ended g g.retires [] v h (put_by w v None (left m w g g.retires []).board.flights (Some h) at))
     goes-on shared _ (Retires g o x) =
-        let same : f.leaves ≡ Some o = ap (λ (z : MachineFlight). z.leaves) (one_flight f g (sym there ∙ x.leaving.flying)) ∙ x.leaving.leaves in
+        let same : f.leaves ≡ Some o = ap (λ (z : MachineFlight). z.leaves) (same_Some f g (sym there ∙ x.leaving.flying)) ∙ x.leaving.leaves in
         inr (record {
           worker = w;
           below = below;
@@ -209,7 +210,7 @@ module _ (plan : Ports) (is : IsPlan plan) (workers : ℕ) (capacities : List �
           let z = change_made s.machine.stands s.made y.change call y.of in
           let at : y.worker ≡ x.worker = x.only y.worker y.flight y.flying in
           let m : Machine = moved s.machine y.worker y.rest z.later in
-          let flight : y.flight ≡ x.flight = one_flight y.flight x.flight (sym y.flying ∙ ap s.machine.board.flights at ∙ x.there) in
+          let flight : y.flight ≡ x.flight = same_Some y.flight x.flight (sym y.flying ∙ ap s.machine.board.flights at ∙ x.there) in
           let due : s.machine.due x.worker ≡ y.change ∷ y.rest = ap s.machine.due (sym at) ∙ y.due in
           let size : length y.rest + going_length y.flight.leaves ≡ n = omega (arith, subst (λ v. length (y.change ∷ y.rest) + going_length v.leaves ≡ suc n) (sym flight) (subst (λ v. length v + going_length x.flight.leaves ≡ suc n) due x.size)) in
           let only : (v : ℕ) (g : MachineFlight) → m.board.flights v ≡ Some g → v ≡ y.worker = λ v g there. x.only v g there ∙ sym at in

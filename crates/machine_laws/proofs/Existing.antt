@@ -22,7 +22,7 @@ use Rattle.machine_laws.proofs.Progress.{waits-or-begins}
 use Rattle.machine_laws.proofs.Settling.{ran}
 use Rattle.machine_laws.proofs.Waiting.{answers_sync}
 
-less_apart : (k q : Key) → key_cmp k q ≡ Less → q ≡ k → ⊥
+pub less_apart : (k q : Key) → key_cmp k q ≡ Less → q ≡ k → ⊥
 less_apart k q less same = two (key_cmp k k) (subst (λ z. key_cmp k z ≡ Less) same less) (tied (key_cmp k k) ((eq_by_cmp_equiv key_total).refl k))
   where
     two : (o : Ordering) → o ≡ Less → o ≡ Equal → ⊥

@@ -23,6 +23,7 @@ use Rattle.sai_types.specs.Named.{hop_cmp}
 use Rattle.sai_types.proofs.Things.{both_mapped}
 use Rattle.switch_model.specs.Good.{good_row}
 use Rattle.switch_model.specs.Things.{base_of, hop_of, hops_of, lane_of, members_of}
+use Rattle.switch_model.proofs.Members.{members_count}
 use Rattle.row_layout.specs.Operations.{Change, Set, going, make_all, own_changes, own_sets, port_with, same_thing, set_all, set_to, shared_going, take_all, uses_of}
 use Rattle.row_layout.specs.Rows as owner
 use Rattle.row_layout.specs.Rows.{Owner, from, goal_of, own_things}
@@ -121,10 +122,6 @@ hops_length plan (x ∷ xs) out h =
     let same = ap length m.4 in
     omega (arith, rest, one, same)
 
-members_length : (group hops : List Hop) → length (members_of group hops) ≡ length hops
-members_length group [] = refl
-members_length group (hop ∷ hops) = let rest = members_length group hops in omega (arith, rest)
-
 group_few : (n : ℕ) (o : Option (List Hop)) (p : Owner) → ((out : List Hop) → o ≡ Some out → length out ≤ n) → IsIn p (group_by o) → length (shared_things p) ≤ n + 1
 group_few n None p few h = elim h [ ]
 group_few n (Some []) p few h = elim h [ ]
@@ -133,7 +130,7 @@ group_few n (Some (x ∷ y ∷ zs)) p few h = only (λ z. length (shared_things 
   where
     bound : length (shared_things (owner.Group (x ∷ y ∷ zs))) ≤ n + 1
     bound =
-        let number = members_length (x ∷ y ∷ zs) (x ∷ y ∷ zs) in
+        let number = members_count (x ∷ y ∷ zs) (x ∷ y ∷ zs) in
         let most = few (x ∷ y ∷ zs) refl in
         omega (arith, number, most)
 

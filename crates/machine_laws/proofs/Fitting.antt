@@ -1,25 +1,22 @@
 -- a good row all of whose names are applied is one of its table
-use Rattle.std.proofs.Common.{◌≡◌, ◌+◌, ◌<◌, ◌≤◌, ◌==◌, ◌&&◌, ◌∷◌, ◌∙◌, ℕ, nat_le, nat_lt, Bool, true, false, cond, List, [], map, length, Option, None, Some, option_map, is_some, Ordering, Result, Ok, Err, codes, bytes_eq, refl, sym, ap, subst, arith}
+use Rattle.std.proofs.Common.{◌≡◌, ◌+◌, ◌<◌, ◌≤◌, ◌==◌, ◌&&◌, ◌∷◌, ◌∙◌, ℕ, nat_le, nat_lt, Bool, true, false, cond, List, [], map, length, Option, None, Some, option_map, is_some, Ordering, Result, Ok, Err, codes, refl, sym, ap, subst, arith}
 use Rattle.std.proofs.lemmas.Bool.{eqb-true, and_parts}
-use Rattle.std.proofs.lemmas.Bool.Decides.{nat_tests}
 use Rattle.std.proofs.lemmas.List.Splits.{length-slice_split}
-use Rattle.std.proofs.lemmas.Slice.Eq.{bytes_eq-Decides}
 use Rattle.std.specs.BTreeSet.{insert_key}
 use Rattle.std.specs.List.{AllByRecursion}
 use Rattle.std.specs.Ordering.{match_ordering}
 use Rattle.std.specs.declared.cmp.Ordering.TheVariants.{Less, Equal, Greater}
 use Rattle.swss_types.specs.Interface.{if_name_of}
 use Rattle.swss_types.specs.Ip.{ip_of}
-use Rattle.swss_types.specs.Lanes.{lanes_of}
-use Rattle.swss_types.specs.Mac.{mac_of}
 use Rattle.swss_types.specs.Parts.{parts_at}
 use Rattle.swss_types.specs.Tagging.{tagging_of}
 use Rattle.swss_types.specs.declared.address.Ip.{Ip}
-use Rattle.swss_types.specs.declared.address.Mac.{Mac}
 use Rattle.swss_types.specs.declared.address.Prefix.{Prefix}
 use Rattle.swss_types.specs.declared.tagging.Tagging.{Tagging}
 use Rattle.swss_types.specs.declared.interface.IfName.{IfName}
 use Rattle.swss_types.specs.declared.interface.IfName.TheVariants as name
+use Rattle.swss_types.proofs.Most.{most_by_test}
+use Rattle.swss_types.proofs.Choices.{some_by as there}
 use Rattle.table_schema.specs.Broken.{and_then, bad}
 use Rattle.table_schema.specs.Fields.{Pairs, value_of}
 use Rattle.table_schema.specs.Hop.{hop_cmp}
@@ -27,12 +24,12 @@ use Rattle.table_schema.specs.KeyText.{on_switch}
 use Rattle.table_schema.specs.Names.{base_names, names_of, route_names}
 use Rattle.table_schema.specs.Plan.{Ports, lanes_in_plan}
 use Rattle.table_schema.specs.RouteRules.{drops_of, filled, forwarding_of, hop_at, hop_of, hop_on, hops_of, hops_with, is_zero, route_row_of, route_target, target_of}
-use Rattle.table_schema.specs.Rules.{in_router, lladdr_row, mac_row, number_or, other_row, planned, port_lanes, port_row_of, port_row_with, row_of, tagged_row, tagging_row, up_of}
+use Rattle.table_schema.specs.Rules.{number_or, other_row, port_lanes, port_row_of, port_row_with, row_of, tagged_row, tagging_row, up_of}
 use Rattle.table_schema.specs.Split.{split_once}
 use Rattle.table_schema.specs.declared.key.Key.{Key}
 use Rattle.table_schema.specs.declared.key.Key.TheVariants as key
 use Rattle.table_schema.specs.declared.row.BadRow.{BadRow}
-use Rattle.table_schema.specs.declared.row.BadWhy.TheVariants.{BadValue, CountsDiffer, LanesDiffer, TooManyHops}
+use Rattle.table_schema.specs.declared.row.BadWhy.TheVariants.{BadValue, CountsDiffer, TooManyHops}
 use Rattle.table_schema.specs.declared.row.PortRow.{PortRow}
 use Rattle.table_schema.specs.declared.row.Row.{Row}
 use Rattle.table_schema.specs.declared.row.Row.TheVariants as row
@@ -41,6 +38,7 @@ use Rattle.table_schema.specs.declared.row.RouteRow.TheVariants as route
 use Rattle.table_schema.specs.declared.row_hop.RowHop.{RowHop}
 use Rattle.table_schema.proofs.Hops.{AllByRecursion-insert_key}
 use Rattle.table_schema.proofs.ProperKeys.{on_switch_stays}
+use Rattle.table_schema.proofs.ProperNames.{both_hold}
 use Rattle.sai_types.specs.declared.hop.Base.{Base}
 use Rattle.sai_types.specs.declared.hop.Base.TheVariants as base
 use Rattle.sai_types.specs.declared.hop.Hop.{Hop}
@@ -49,21 +47,13 @@ use Rattle.sai_types.specs.declared.thing.Goal.TheVariants as goal
 use Rattle.sai_types.specs.Named.{both, first_lane}
 use Rattle.sai_types.specs.Named as named
 use Rattle.switch_model.specs.Desired.{IsClosed, have_rows}
-use Rattle.switch_model.specs.Good.{TypedRows, good_row, row_read}
+use Rattle.switch_model.specs.Good.{TypedRows, good_row}
 use Rattle.switch_model.specs.Things.{base_of, lane_of}
 use Rattle.switch_model.specs.Things as things
+use Rattle.switch_model.proofs.ReadRows.{in_router-is, lladdr_row-is, port_lanes-is, row_read_ok}
 use Rattle.row_layout.specs.Rows.{goal_by, goal_of}
 use Rattle.switch_machine.specs.Flights.{Fits}
 use Rattle.machine_laws.specs.Reading.{IsOnSwitch}
-use Rattle.machine_laws.proofs.Rows.{there}
-
-then_ok : {A B : Type 0} (x : Result A BadRow) (f : A → Result B BadRow) (y : B) → and_then x f ≡ Ok y → (v : A) × (x ≡ Ok v) × (f v ≡ Ok y)
-then_ok (Ok v) f y h = (v, refl, h)
-then_ok (Err e) f y h = absurd cc
-
-read_ok : (x : Result Row BadRow) (r : Row) → row_read x ≡ Some r → x ≡ Ok r
-read_ok (Ok v) r h = cc
-read_ok (Err e) r h = absurd cc
 
 abbrev okay : {A : Type 0} → A → Result A BadRow
 okay x = Ok x
@@ -73,38 +63,20 @@ same_okay x y h = cc
 
 -- ---- ports
 
-planned_if : (t : Bool) (there lanes ls : List ℕ) → bytes_eq there lanes ≡ t → cond t (Ok lanes) (bad LanesDiffer 1) ≡ Ok ls → Some there ≡ Some ls
-planned_if true there lanes ls same h = ap Some (((bytes_eq-Decides there lanes).0 same)) ∙ cc
-planned_if false there lanes ls same h = absurd cc
-
-planned_ok : (there lanes : Option (List ℕ)) (ls : List ℕ) → planned there lanes ≡ Ok ls → there ≡ Some ls
-planned_ok there None ls h = absurd cc
-planned_ok None (Some lanes) ls h = absurd cc
-planned_ok (Some there) (Some lanes) ls h = planned_if (bytes_eq there lanes) there lanes ls refl h
-
-lanes_ok : (there text : Option (List ℕ)) (ls : List ℕ) → port_lanes there text ≡ Ok ls → there ≡ Some ls
-lanes_ok there None ls h = absurd cc
-lanes_ok there (Some text) ls h = planned_ok there (lanes_of text) ls h
-
 with_ok : (lanes : List ℕ) (fields : Pairs) (r : Row) → port_row_with lanes fields ≡ Ok r → (p : PortRow) × (r ≡ row.Port p) × (p.lanes ≡ lanes)
 with_ok lanes fields r h =
-    let speed = then_ok (number_or 2 1 1600000 100000 (value_of (codes "speed") fields)) _ r h in
-    let mtu = then_ok (number_or 3 68 9216 9100 (value_of (codes "mtu") fields)) _ r speed.2 in
-    let up = then_ok (up_of (value_of (codes "admin_status") fields)) _ r mtu.2 in
+    let speed = both_hold (number_or 2 1 1600000 100000 (value_of (codes "speed") fields)) _ r h in
+    let mtu = both_hold (number_or 3 68 9216 9100 (value_of (codes "mtu") fields)) _ r speed.2 in
+    let up = both_hold (up_of (value_of (codes "admin_status") fields)) _ r mtu.2 in
     (record { lanes = lanes; speed = speed.0; mtu = mtu.0; up = up.0 }, cc, refl)
 
 port_ok : (plan : Ports) (p : ℕ) (fields : Pairs) (r : Row) → port_row_of plan p fields ≡ Ok r → (f : PortRow) × (r ≡ row.Port f) × (lanes_in_plan plan p ≡ Some f.lanes)
 port_ok plan p fields r h =
-    let lanes = then_ok (port_lanes (lanes_in_plan plan p) (value_of (codes "lanes") fields)) (λ l. port_row_with l fields) r h in
+    let lanes = both_hold (port_lanes (lanes_in_plan plan p) (value_of (codes "lanes") fields)) (λ l. port_row_with l fields) r h in
     let rest = with_ok lanes.0 fields r lanes.2 in
-    (rest.0, rest.1, lanes_ok (lanes_in_plan plan p) (value_of (codes "lanes") fields) lanes.0 lanes.1 ∙ ap Some (sym rest.2))
+    (rest.0, rest.1, port_lanes-is (lanes_in_plan plan p) (value_of (codes "lanes") fields) lanes.0 lanes.1 ∙ ap Some (sym rest.2))
 
 -- ---- other tables
-
-router_ok : (text : Option (List ℕ)) (r : Row) → in_router text ≡ Ok r → r ≡ row.Intf
-router_ok None r h = cc
-router_ok (Some []) r h = cc
-router_ok (Some (b ∷ bs)) r h = absurd cc
 
 tagged_ok : (t : Option Tagging) (r : Row) → tagged_row t ≡ Ok r → (x : Tagging) × (r ≡ row.Member x)
 tagged_ok None r h = absurd cc
@@ -113,14 +85,6 @@ tagged_ok (Some x) r h = (x, cc)
 tagging_ok : (text : Option (List ℕ)) (r : Row) → tagging_row text ≡ Ok r → (x : Tagging) × (r ≡ row.Member x)
 tagging_ok None r h = (_, sym (same_okay _ r h))
 tagging_ok (Some text) r h = tagged_ok (tagging_of text) r h
-
-mac_ok : (m : Option Mac) (r : Row) → mac_row m ≡ Ok r → (x : Mac) × (r ≡ row.Neigh x)
-mac_ok None r h = absurd cc
-mac_ok (Some x) r h = (x, cc)
-
-lladdr_ok : (text : Option (List ℕ)) (r : Row) → lladdr_row text ≡ Ok r → (x : Mac) × (r ≡ row.Neigh x)
-lladdr_ok None r h = absurd cc
-lladdr_ok (Some text) r h = mac_ok (mac_of text) r h
 
 other_if : {X : Type 0} (t : Bool) (r : Row) (a b : BadRow) → cond t (Err a) (Err b) ≡ Ok r → X
 other_if true r a b h = absurd cc
@@ -151,7 +115,7 @@ hops_with_ok : (several : Bool) (hops : List RowHop) (ips names : List (List ℕ
 hops_with_ok several hops [] names out all h = subst (AllByRecursion IsSwitched) (same_okay hops out h) all
 hops_with_ok several hops (ip ∷ ips) [] out all h = subst (AllByRecursion IsSwitched) (same_okay hops out h) all
 hops_with_ok several hops (ip ∷ ips) (on ∷ names) out all h =
-    let x = then_ok (hop_of several ip on) (λ hop. hops_with several (insert_key hop_cmp hops hop) ips names) out h in
+    let x = both_hold (hop_of several ip on) (λ hop. hops_with several (insert_key hop_cmp hops hop) ips names) out h in
     hops_with_ok several (insert_key hop_cmp hops x.0) ips names out (AllByRecursion-insert_key IsSwitched hops x.0 (hop_on_ok several on (on_switch (if_name_of on)) (ip_of ip) x.0 refl x.1) all) x.2
 
 some_hop : {A : Type 0} (cmp : A → A → Ordering) (hops : List A) (hop : A) → 0 < length (insert_key cmp hops hop)
@@ -169,7 +133,7 @@ hops_with_few : (several : Bool) (hops : List RowHop) (ips names : List (List �
 hops_with_few several hops [] names out h = let same = ap length (same_okay hops out h) in omega (arith, same)
 hops_with_few several hops (ip ∷ ips) [] out h = let same = ap length (same_okay hops out h) in omega (arith, same)
 hops_with_few several hops (ip ∷ ips) (on ∷ names) out h =
-    let x = then_ok (hop_of several ip on) (λ hop. hops_with several (insert_key hop_cmp hops hop) ips names) out h in
+    let x = both_hold (hop_of several ip on) (λ hop. hops_with several (insert_key hop_cmp hops hop) ips names) out h in
     let rest = hops_with_few several (insert_key hop_cmp hops x.0) ips names out x.2 in
     let one = insert-few hop_cmp hops x.0 in
     omega (arith, rest, one)
@@ -178,14 +142,14 @@ stay_some : (several : Bool) (hops : List RowHop) (ips names : List (List ℕ)) 
 stay_some several hops [] names out some h = subst (λ z. 0 < length z) (same_okay hops out h) some
 stay_some several hops (ip ∷ ips) [] out some h = subst (λ z. 0 < length z) (same_okay hops out h) some
 stay_some several hops (ip ∷ ips) (on ∷ names) out some h =
-    let x = then_ok (hop_of several ip on) (λ hop. hops_with several (insert_key hop_cmp hops hop) ips names) out h in
+    let x = both_hold (hop_of several ip on) (λ hop. hops_with several (insert_key hop_cmp hops hop) ips names) out h in
     stay_some several (insert_key hop_cmp hops x.0) ips names out (some_hop hop_cmp hops x.0) x.2
 
 read_hops_some : (several : Bool) (ips names : List (List ℕ)) (out : List RowHop) → 0 < length ips → length ips ≡ length names → hops_with several [] ips names ≡ Ok out → 0 < length out
 read_hops_some several [] names out some same h = absurd (omega (arith, some))
 read_hops_some several (ip ∷ ips) [] out some same h = absurd (omega (arith, same))
 read_hops_some several (ip ∷ ips) (on ∷ names) out some same h =
-    let x = then_ok (hop_of several ip on) (λ hop. hops_with several (insert_key hop_cmp [] hop) ips names) out h in
+    let x = both_hold (hop_of several ip on) (λ hop. hops_with several (insert_key hop_cmp [] hop) ips names) out h in
     stay_some several (insert_key hop_cmp [] x.0) ips names out (some_hop hop_cmp [] x.0) x.2
 
 record AreSwitchedHops (out : List RowHop) : Type 0 where
@@ -193,15 +157,12 @@ record AreSwitchedHops (out : List RowHop) : Type 0 where
   some : 0 < length out
   few : length out ≤ 128
 
-at_most_by_test : (n m : ℕ) → nat_le n m ≡ true → n ≤ m
-at_most_by_test n m h = grind (arith, nat_tests)
-
 hops_ok : (ips names : List (List ℕ)) (out : List RowHop) → 0 < length ips → hops_of ips names ≡ Ok out → AreSwitchedHops out
 hops_ok ips names out some h = counted (length ips == length names) refl h
   where
     few : (b : Bool) → nat_le (length ips) 128 ≡ b → length ips ≡ length names → cond b (hops_with (nat_lt 1 (length ips)) [] ips names) (bad TooManyHops 7) ≡ Ok out → AreSwitchedHops out
     few true most same h =
-        let bound = at_most_by_test (length ips) 128 most in
+        let bound = most_by_test (length ips) 128 most in
         let number = hops_with_few (nat_lt 1 (length ips)) [] ips names out h in
         record { all = hops_with_ok (nat_lt 1 (length ips)) [] ips names out tt h; some = read_hops_some (nat_lt 1 (length ips)) ips names out some same h; few = omega (arith, bound, number) }
     few false most same h = absurd cc
@@ -216,9 +177,9 @@ data IsTarget (t : RouteRow) : Type 0 where
 
 forwarding_ok : (fields : Pairs) (t : RouteRow) → forwarding_of fields ≡ Ok t → IsTarget t
 forwarding_ok fields t h =
-    let ips = then_ok (filled 7 (value_of (codes "nexthop") fields)) _ t h in
-    let names = then_ok (filled 8 (value_of (codes "ifname") fields)) _ t ips.2 in
-    let out = then_ok (hops_of (parts_at 44 ips.0) (parts_at 44 names.0)) (λ hops. Ok (target_of hops)) t names.2 in
+    let ips = both_hold (filled 7 (value_of (codes "nexthop") fields)) _ t h in
+    let names = both_hold (filled 8 (value_of (codes "ifname") fields)) _ t ips.2 in
+    let out = both_hold (hops_of (parts_at 44 ips.0) (parts_at 44 names.0)) (λ hops. Ok (target_of hops)) t names.2 in
     let many = length-slice_split (λ b. b == 44) ips.0 in
     Goes out.0 (hops_ok (parts_at 44 ips.0) (parts_at 44 names.0) out.0 (omega (arith, many)) out.1) (sym (same_okay (target_of out.0) t out.2))
 
@@ -228,8 +189,8 @@ target_ok false fields t h = forwarding_ok fields t h
 
 route_ok : (fields : Pairs) (r : Row) → and_then (route_row_of fields) (λ target. Ok (row.Route target)) ≡ Ok r → (t : RouteRow) × (r ≡ row.Route t) × IsTarget t
 route_ok fields r h =
-    let t = then_ok (route_row_of fields) (λ target. Ok (row.Route target)) r h in
-    let d = then_ok (drops_of fields) (λ drops. route_target drops fields) t.0 t.1 in
+    let t = both_hold (route_row_of fields) (λ target. Ok (row.Route target)) r h in
+    let d = both_hold (drops_of fields) (λ drops. route_target drops fields) t.0 t.1 in
     (t.0, sym (same_okay (row.Route t.0) r t.2), target_ok d.0 fields t.0 d.2)
 
 -- ---- how many hops a row has
@@ -253,7 +214,7 @@ row_target t u h = cc
 -- a route that reads has at most as many hops as a route may have
 pub hops-few : (plan : Ports) (prefix : Prefix) (o : Option Pairs) (t : RouteRow) → good_row plan (key.Route prefix) o ≡ Some (row.Route t) → hop_count t ≤ 128
 hops-few plan prefix None t h = absurd cc
-hops-few plan prefix (Some fields) t h = let x = route_ok fields (row.Route t) (read_ok (row_of plan (key.Route prefix) fields) (row.Route t) h) in by x.0 (row_target t x.0 x.1) x.2
+hops-few plan prefix (Some fields) t h = let x = route_ok fields (row.Route t) (row_read_ok (row_of plan (key.Route prefix) fields) (row.Route t) h) in by x.0 (row_target t x.0 x.1) x.2
   where
     by : (u : RouteRow) → t ≡ u → IsTarget u → hop_count t ≤ 128
     by u same (IsDrop is) = let none = ap hop_count (same ∙ is) in omega (arith, none)
@@ -332,10 +293,10 @@ module _ (plan : Ports) (applied : TypedRows) (fit : (q : Key) (x : Row) → app
       let one = and_parts (is_some (applied (key.Vlan vlan))) (is_some (applied (key.Port port)) && true) names in
       let two = and_parts (is_some (applied (key.Port port))) true one.1 in
       subst (Fits plan (key.Member vlan port)) (sym x.1) (lane_there port two.0)
-  fits_by (key.Intf n) fields r on h names = subst (Fits plan (key.Intf n)) (sym (router_ok (value_of (codes "vrf_name") fields) r h)) tt
+  fits_by (key.Intf n) fields r on h names = subst (Fits plan (key.Intf n)) (sym (in_router-is (value_of (codes "vrf_name") fields) r h)) tt
   fits_by (key.Addr n ip len) fields r on h names = subst (Fits plan (key.Addr n ip len)) (same_okay row.Addr r h) tt
   fits_by (key.Neigh n ip) fields r on h names =
-      let x = lladdr_ok (value_of (codes "neigh") fields) r h in
+      let x = lladdr_row-is (value_of (codes "neigh") fields) r h in
       subst (Fits plan (key.Neigh n ip)) (sym x.1) (base_there n on (and_parts (is_some (applied (key.Intf n))) true names).0)
   fits_by (key.Route prefix) fields r on h names =
       let x = route_ok fields r h in
@@ -343,4 +304,4 @@ module _ (plan : Ports) (applied : TypedRows) (fit : (q : Key) (x : Row) → app
   fits_by (key.Other text) fields r on h names = other_bad (split_once 58 text) r h
 
   pub fits-good : (k : Key) (fields : Pairs) (r : Row) → IsOnSwitch k → good_row plan k (Some fields) ≡ Some r → have_rows applied (names_of k r) ≡ true → Fits plan k r
-  fits-good k fields r on h names = fits_by k fields r on (read_ok (row_of plan k fields) r h) names
+  fits-good k fields r on h names = fits_by k fields r on (row_read_ok (row_of plan k fields) r h) names

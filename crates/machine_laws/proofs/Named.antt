@@ -1,6 +1,7 @@
 -- a route that the chip shows is one that stands
 use Rattle.std.proofs.Common.{◌≡◌, ◌∙◌, inl, inr, ℕ, List, Option, None, Some, option_map, refl, sym, ap, subst}
 use Rattle.std.specs.List.Sorted.{IsStrictlySortedBy}
+use Rattle.std.proofs.lemmas.Option.{same_Some}
 use Rattle.swss_types.specs.declared.address.Prefix.{Prefix}
 use Rattle.table_schema.specs.Plan.{Ports}
 use Rattle.table_schema.specs.declared.key.Key.{Key}
@@ -46,9 +47,6 @@ no_both f None p u never h = absurd cc
 no_both f (Some a) None u never h = absurd cc
 no_both f (Some a) (Some b) u never h = absurd (never a b cc)
 
-one_thing : (t u : Thing) → Some t ≡ Some u → t ≡ u
-one_thing t u h = cc
-
 module _ (plan : Ports) (m : Machine) (sound : IsConsistent plan m) (made : ℕ) (objects : Objects) (whole : IsWhole made objects) (laid : IsLaidOut (listed m.stands) objects) where
   user_row : (k : Key) (o : Owner) → IsUser plan m.board k o → (q : Key) × (r : Row) × IsIn o (uses plan q r)
   user_row k o (inl (w, f, at, is, inl h)) = let r = use_row_in plan f.key f.new o h in (f.key, r.0, r.2)
@@ -92,7 +90,7 @@ module _ (plan : Ports) (m : Machine) (sound : IsConsistent plan m) (made : ℕ)
     no_group (entry.Route p) h = absurd cc
 
     by_thing : (t : Thing) (i : Rid) (e : Entry Rid) (a c : Rid) → listed m.stands i t → IsAt (Has (listed m.stands)) (first_name t) a → Some It ≡ thing_of objects (e, body_with t a c) → StandsIn m It
-    by_thing (thing.Route p g) i e a c at x h = (i, subst (λ z. listed m.stands i z) (sym (one_thing It (thing.Route p g) (h ∙ route_named i p g e a at x))) at)
+    by_thing (thing.Route p g) i e a c at x h = (i, subst (λ z. listed m.stands i z) (sym (same_Some It (thing.Route p g) (h ∙ route_named i p g e a at x))) at)
     by_thing (thing.Port p) i e a c at x h = absurd cc
     by_thing (thing.Vlan v) i e a c at x h = absurd cc
     by_thing (thing.BridgePort lane) i e a c at x h = no_map thing.BridgePort _ It (λ a e. cc) h

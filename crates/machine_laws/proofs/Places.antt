@@ -1,5 +1,6 @@
 -- there is room for what an operation makes, or a first kind lacks it
 use Rattle.std.proofs.Common.{◌≡◌, ◌⊎◌, ◌+◌, ◌<◌, ◌≤◌, ◌∙◌, inl, inr, ℕ, zero, suc, List, Option, None, Some, refl, sym, ap, subst, arith}
+use Rattle.swss_types.proofs.Most.{most_or_more}
 use Rattle.table_schema.specs.Plan.{Ports}
 use Rattle.table_schema.specs.declared.key.Key.{Key}
 use Rattle.table_schema.specs.declared.row.Row.{Row}
@@ -8,6 +9,7 @@ use Rattle.sai_types.specs.declared.kind.Kind.TheVariants as kind
 use Rattle.sai_types.specs.Alike.{IsIn}
 use Rattle.sai_types.specs.Objects.{level, used}
 use Rattle.sai_types.specs.Refusal.{capacity_of}
+use Rattle.sai_types.proofs.Levels.{level_within}
 use Rattle.row_layout.specs.Rows.{Owner}
 use Rattle.row_layout.specs.Operations.{Change, going, own_changes, uses_of}
 use Rattle.switch_machine.specs.Events.{SwitchState}
@@ -59,28 +61,6 @@ level_low (suc (suc (suc (suc (suc (suc (suc (suc zero)))))))) = omega arith
 level_low (suc (suc (suc (suc (suc (suc (suc (suc (suc zero))))))))) = omega arith
 level_low (suc (suc (suc (suc (suc (suc (suc (suc (suc (suc n)))))))))) = omega arith
 
-level_below_eleven : (k : Kind) → level k < 11
-level_below_eleven kind.Port = omega arith
-level_below_eleven kind.Vlan = omega arith
-level_below_eleven kind.BridgePort = omega arith
-level_below_eleven kind.VlanMember = omega arith
-level_below_eleven kind.Rif = omega arith
-level_below_eleven kind.OwnAddress = omega arith
-level_below_eleven kind.Neighbor = omega arith
-level_below_eleven kind.NextHop = omega arith
-level_below_eleven kind.Group = omega arith
-level_below_eleven kind.GroupMember = omega arith
-level_below_eleven kind.Route = omega arith
-
-le_or : (a b : ℕ) → (a ≤ b) ⊎ (b < a)
-le_or zero b = inl (omega arith)
-le_or (suc a) zero = inr (omega arith)
-le_or (suc a) (suc b) = up (le_or a b)
-  where
-    up : (a ≤ b) ⊎ (b < a) → (suc a ≤ suc b) ⊎ (suc b < suc a)
-    up (inl h) = inl (omega (arith, h))
-    up (inr h) = inr (omega (arith, h))
-
 module _ (plan : Ports) (workers : ℕ) (capacities : List ℕ) (s : SwitchState) where
   module _ (due : List Change) where
     abbrev need : Kind → ℕ
@@ -96,7 +76,7 @@ module _ (plan : Ports) (workers : ℕ) (capacities : List ℕ) (s : SwitchState
       lower : (low : Kind) → level low < level which → Fit low
 
     fit_or : (kind : Kind) → Fit kind ⊎ ((0 < makes kind due) × (capacity_of capacities kind < need kind))
-    fit_or kind = by (le_or (makes kind due) 0) (le_or (need kind) (capacity_of capacities kind))
+    fit_or kind = by (most_or_more (makes kind due) 0) (most_or_more (need kind) (capacity_of capacities kind))
       where
         by : (makes kind due ≤ 0) ⊎ (0 < makes kind due) → (need kind ≤ capacity_of capacities kind) ⊎ (capacity_of capacities kind < need kind) → Fit kind ⊎ ((0 < makes kind due) × (capacity_of capacities kind < need kind))
         by (inl none) _ = inl (λ some. absurd (omega (arith, none, some)))
@@ -110,7 +90,7 @@ module _ (plan : Ports) (workers : ℕ) (capacities : List ℕ) (s : SwitchState
         by : ((low : Kind) → level low < n → Fit low) ⊎ Lacks → Fit (of_level n) ⊎ ((0 < makes (of_level n) due) × (capacity_of capacities (of_level n) < need (of_level n))) → ((low : Kind) → level low < suc n → Fit low) ⊎ Lacks
         by (inr x) _ = inr x
         by (inl f) (inr (some, many)) = inr (record { which = of_level n; some = some; many = many; lower = λ low h. f low (let l = level_low n in omega (arith, h, l)) })
-        by (inl f) (inl fit) = inl (λ low h. one low (le_or (suc (level low)) n) h)
+        by (inl f) (inl fit) = inl (λ low h. one low (most_or_more (suc (level low)) n) h)
           where
             one : (low : Kind) → (suc (level low) ≤ n) ⊎ (n < suc (level low)) → level low < suc n → Fit low
             one low (inl less) h = f low (omega (arith, less))
@@ -121,7 +101,7 @@ module _ (plan : Ports) (workers : ℕ) (capacities : List ℕ) (s : SwitchState
   room-or w f due begins row new good = by (scan due 11)
     where
       by : ((low : Kind) → level low < 11 → Fit due low) ⊎ Lacks due → HasRoomFor workers capacities s.objects s.machine due ⊎ ((kind : Kind) × LacksRoom plan workers capacities s f.key kind)
-      by (inl fit) = inl (λ kind. fit kind (level_below_eleven kind))
+      by (inl fit) = inl (λ kind. fit kind (level_within kind))
       by (inr x) = inr (x.which, record { worker = w; flight = f; due = due; begins = begins; is = refl; row = row; new = new; good = good; some = x.some; many = x.many; lower = x.lower })
 
   no_builds : (b : Option Owner) → ((o : Owner) → b ≡ Some o → ⊥) → b ≡ None

@@ -1,5 +1,7 @@
 -- at rest a key waits with a reason, or can begin
 use Rattle.std.proofs.Common.{◌≡◌, ◌⊎◌, ◌∷◌, ◌∙◌, inl, inr, ℕ, true, List, [], Option, None, Some, is_some, refl, sym, ap, subst}
+use Rattle.std.proofs.lemmas.Option.{same_Some}
+use Rattle.swss_types.proofs.Choices.{some_by as there}
 use Rattle.table_schema.specs.Fields.{Pairs}
 use Rattle.table_schema.specs.Names.{names_of}
 use Rattle.table_schema.specs.Plan.{IsPlan, Ports}
@@ -29,7 +31,7 @@ use Rattle.switch_machine.proofs.Tabled.{tabled}
 use Rattle.machine_laws.specs.Reading.{IsOnSwitch}
 use Rattle.machine_laws.proofs.Deciding.{IsDecided, any_decided, in_split}
 use Rattle.machine_laws.proofs.Fitting.{fits-good}
-use Rattle.machine_laws.proofs.Rows.{has_row, there}
+use Rattle.machine_laws.proofs.Rows.{has_row}
 
 module _ (plan : Ports) (is : IsPlan plan) (m : Machine) (sound : IsConsistent plan m) (quiet : (w : ℕ) (f : MachineFlight) → m.board.flights w ≡ Some f → ⊥) where
   T : TableLaws plan
@@ -62,9 +64,6 @@ module _ (plan : Ports) (is : IsPlan plan) (m : Machine) (sound : IsConsistent p
   no_owner : {X : Type 0} (o : Owner) → None ≡ Some o → X
   no_owner o h = absurd cc
 
-  some_owner : (x o : Owner) → Some x ≡ Some o → x ≡ o
-  some_owner x o h = cc
-
   -- what it has to leave
   record Leaving (xs ys : List Owner) : Type 0 where
     leaves : Option Owner
@@ -77,7 +76,7 @@ module _ (plan : Ports) (is : IsPlan plan) (m : Machine) (sound : IsConsistent p
     where
       by : IsDecided (IsIn x ys) → Leaving (x ∷ xs) ys
       by (inl h) = record { leaves = None; of = λ o e. no_owner o e; covers = λ o at. inl (subst (λ z. IsIn z ys) (one x o (inl refl) at) h) }
-      by (inr out) = record { leaves = Some x; of = λ o e. (inl (sym (some_owner x o e)), λ h. out (subst (λ z. IsIn z ys) (sym (some_owner x o e)) h)); covers = λ o at. inr (ap Some (one x o (inl refl) at)) }
+      by (inr out) = record { leaves = Some x; of = λ o e. (inl (sym (same_Some x o e)), λ h. out (subst (λ z. IsIn z ys) (sym (same_Some x o e)) h)); covers = λ o at. inr (ap Some (one x o (inl refl) at)) }
 
   -- what it has to build
   record Building (ys : List Owner) : Type 0 where
@@ -91,7 +90,7 @@ module _ (plan : Ports) (is : IsPlan plan) (m : Machine) (sound : IsConsistent p
     where
       by : ((k : Key) × IsUser plan m.board k y) ⊎ ((k : Key) → IsUser plan m.board k y → ⊥) → Building (y ∷ ys)
       by (inl (k, user)) = record { builds = None; built = λ o e. no_owner o e; found = λ e o at. (k, subst (IsUser plan m.board k) (one y o (inl refl) at) user) }
-      by (inr out) = record { builds = Some y; built = λ o e. (inl (sym (some_owner y o e)), λ k user. out k (subst (IsUser plan m.board k) (sym (some_owner y o e)) user)); found = λ e. no_owner y (sym e) }
+      by (inr out) = record { builds = Some y; built = λ o e. (inl (sym (same_Some y o e)), λ k user. out k (subst (IsUser plan m.board k) (sym (same_Some y o e)) user)); found = λ e. no_owner y (sym e) }
 
   flies_never : (o : Option MachineFlight) → ((f : MachineFlight) → o ≡ Some f → ⊥) → o ≡ None
   flies_never None never = refl

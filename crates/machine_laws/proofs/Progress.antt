@@ -1,5 +1,6 @@
 -- at rest a key to sync has a reason to wait, or an operation of it begins
-use Rattle.std.proofs.Common.{◌≡◌, ◌⊎◌, ◌<◌, ◌∷◌, ◌∙◌, inl, inr, ℕ, true, List, [], Option, None, Some, is_some, if◌then◌else◌, ◌&&◌, refl, sym, ap, subst}
+use Rattle.std.proofs.Common.{◌≡◌, ◌⊎◌, ◌<◌, ◌∷◌, ◌∙◌, inl, inr, ℕ, true, List, [], Option, None, Some, is_some, refl, sym, ap, subst}
+use Rattle.std.proofs.lemmas.Option.{same_Some}
 use Rattle.table_schema.specs.Names.{names_of}
 use Rattle.table_schema.specs.Plan.{IsPlan, Ports}
 use Rattle.table_schema.specs.declared.key.Key.{Key}
@@ -10,6 +11,7 @@ use Rattle.switch_model.specs.Desired.{have_rows}
 use Rattle.switch_model.specs.Good.{TypedRows}
 use Rattle.switch_model.specs.Marks.{IsHeldBy, first_missing}
 use Rattle.switch_model.specs.declared.wait.Wait.TheVariants as wait
+use Rattle.switch_model.proofs.Ready.{have_rows-from_missing}
 use Rattle.row_layout.specs.Operations.{Change}
 use Rattle.switch_machine.specs.Events.{HasLeft, IsBegin, IsQuiet, IsSafe, SwitchState}
 use Rattle.switch_machine.specs.Flights.{MachineFlight, Machine}
@@ -67,14 +69,6 @@ in_without k q (x ∷ xs) h = by (key_split x k) (λ g. in_without k q xs g) h
 has_left : (k : Key) (xs : List Key) → IsIn k xs → HasLeft k xs (without_key k xs)
 has_left k xs there = record { there = there; gone = λ h. (without_in k k xs h).1 refl; others = λ q h. in_without k q xs h; only = λ q h. (without_in k q xs h).0 }
 
-none_missing_all : (rows : TypedRows) (ks : List Key) → first_missing rows ks ≡ None → have_rows rows ks ≡ true
-none_missing_all rows [] h = refl
-none_missing_all rows (k ∷ ks) h = by (rows k) refl (λ g. none_missing_all rows ks g) h
-  where
-    by : (o : Option Row) → rows k ≡ o → (first_missing rows ks ≡ None → have_rows rows ks ≡ true) → (if is_some o then first_missing rows ks else Some k) ≡ None → (is_some (rows k) && have_rows rows ks) ≡ true
-    by (Some r) e rest g = rw e (rest g)
-    by None e rest g = absurd cc
-
 module _ (plan : Ports) (is : IsPlan plan) (workers : ℕ) (capacities : List ℕ) (s : SwitchState) (kept : IsSafe plan workers capacities s) (quiet : IsQuiet s) (w : ℕ) (below : w < workers) where
   abbrev rows : TypedRows
   rows = s.machine.board.applied
@@ -117,9 +111,6 @@ module _ (plan : Ports) (is : IsPlan plan) (workers : ℕ) (capacities : List �
     no_row None e h = absurd cc
     no_row (Some r) e h = absurd cc
 
-    one_row : (r z : Row) → Some r ≡ Some z → r ≡ z
-    one_row r z e = cc
-
     from_free : IsFree → MustWait plan workers capacities s k ⊎ Starts
     from_free free =
         let x = begin-free plan is workers capacities s w k kept quiet on free.0 free.1 in
@@ -142,7 +133,7 @@ module _ (plan : Ports) (is : IsPlan plan) (workers : ℕ) (capacities : List �
       where
         named : (r : Row) → good_of plan s.written k ≡ Some r → (o : Option Key) → first_missing rows (names_of k r) ≡ o → MustWait plan workers capacities s k ⊎ Starts
         named r e (Some n) missing = inl (wait.Missing n, (rests, (r, e, missing)))
-        named r e None missing = from_free ((λ z at. subst (λ v. have_rows rows (names_of k v) ≡ true) (one_row r z (sym e ∙ at)) (none_missing_all rows (names_of k r) missing)), λ none. no_some (good_of plan s.written k) r none e)
+        named r e None missing = from_free ((λ z at. subst (λ v. have_rows rows (names_of k v) ≡ true) (same_Some r z (sym e ∙ at)) (have_rows-from_missing rows (names_of k r) missing)), λ none. no_some (good_of plan s.written k) r none e)
 
         gone : good_of plan s.written k ≡ None → (o : Option Row) → rows k ≡ o → ((holder : Key) × IsHeldBy rows k holder) ⊎ ((q : Key) (r : Row) → rows q ≡ Some r → IsIn k (names_of q r) → ⊥) → MustWait plan workers capacities s k ⊎ Starts
         gone e o at (inr none) = from_free ((λ r good. no_some (good_of plan s.written k) r e good), λ same. none)

@@ -1,5 +1,6 @@
 -- what stands for a row whose key is neither begun nor to sync is neither set nor removed
 use Rattle.std.proofs.Common.{◌≡◌, ◌⊎◌, ◌∷◌, ◌∙◌, inl, inr, ℕ, true, List, [], Option, None, Some, refl, sym, ap, subst}
+use Rattle.std.proofs.lemmas.Option.{same_Some}
 use Rattle.table_schema.specs.Plan.{Ports, IsPlan}
 use Rattle.table_schema.specs.declared.key.Key.{Key}
 use Rattle.sai_types.specs.declared.ids.Rid.{Rid}
@@ -29,16 +30,13 @@ use Rattle.switch_machine.specs.Flights.{Can, MachineFlight, Goes, IsResting, Is
 use Rattle.switch_machine.specs.Consistent.{IsConsistent}
 use Rattle.switch_machine.specs.Tables.{TableLaws}
 use Rattle.switch_machine.proofs.Runs.{kept-run}
-use Rattle.switch_machine.proofs.Running.{no_flight, one_flight}
+use Rattle.switch_machine.proofs.Running.{no_flight, row_keys}
 use Rattle.switch_machine.proofs.Splits.{IsPut, IsSplit, New, Old, name_split, put_by, row_off}
 use Rattle.switch_machine.proofs.Tabled.{tabled}
 use Rattle.machine_laws.specs.Quiet.{LeavesAlone, EntryStandsFor, ChangesEntry}
 
 some_owner_once : (o p : Owner) (x : Option Owner) → x ≡ Some o → x ≡ Some p → o ≡ p
 some_owner_once o p x a b = cc
-
-own_key : (k q : Key) → OfRow k ≡ OfRow q → k ≡ q
-own_key k q h = cc
 
 -- ---- rest and rows, through what follows
 
@@ -51,7 +49,7 @@ module _ (plan : Ports) (k : Key) where
   rests_put w f flights apart rests v g at is = by (put_by w v (Some f) flights (Some g) at)
     where
       by : IsPut w v (Some f) flights (Some g) → ⊥
-      by (New same e) = apart (ap (λ (z : MachineFlight). z.key) (one_flight f g e) ∙ is)
+      by (New same e) = apart (ap (λ (z : MachineFlight). z.key) (same_Some f g e) ∙ is)
       by (Old other there) = rests v g there is
 
   rests_none : (w : ℕ) (flights : ℕ → Option MachineFlight) → ((v : ℕ) (g : MachineFlight) → flights v ≡ Some g → g.key ≡ k → ⊥) → (v : ℕ) (g : MachineFlight) → put w None flights v ≡ Some g → g.key ≡ k → ⊥
@@ -111,11 +109,11 @@ module _ (plan : Ports) (is : IsPlan plan) (workers : ℕ) (capacities : List �
       -- it is of the key's row
       mine : (c : Change) → Can plan f (StandsIn m) c → name_of x.stood.thing ≡ change.changed_name c → owner.owner_of plan (name_of x.stood.thing) ≡ Some (OfRow k) → ⊥
       mine (Make t) can same of = can.fresh x.stood.thing (x.stood.id, x.stood.stands) same
-      mine (Set t) can same of = x.rests w f flying (sym (own_key k f.key (some_owner_once (OfRow k) (OfRow f.key) (owner.owner_of plan (name_of x.stood.thing)) of (ap (owner.owner_of plan) same ∙ can.own))))
+      mine (Set t) can same of = x.rests w f flying (sym (row_keys k f.key (some_owner_once (OfRow k) (OfRow f.key) (owner.owner_of plan (name_of x.stood.thing)) of (ap (owner.owner_of plan) same ∙ can.own))))
       mine (Take n) can same of = goes can.goes
         where
           goes : Goes plan f n → ⊥
-          goes (inl (own, none)) = x.rests w f flying (sym (own_key k f.key (some_owner_once (OfRow k) (OfRow f.key) (owner.owner_of plan (name_of x.stood.thing)) of (ap (owner.owner_of plan) same ∙ own))))
+          goes (inl (own, none)) = x.rests w f flying (sym (row_keys k f.key (some_owner_once (OfRow k) (OfRow f.key) (owner.owner_of plan (name_of x.stood.thing)) of (ap (owner.owner_of plan) same ∙ own))))
           goes (inr (o, at, retires)) =
               let was = sound.board.left w f o flying retires in
               subst IsShared (sym (some_owner_once (OfRow k) o (owner.owner_of plan (name_of x.stood.thing)) of (ap (owner.owner_of plan) same ∙ at))) (T.are_shared f.key was.row o was.used)

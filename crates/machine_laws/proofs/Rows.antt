@@ -27,10 +27,6 @@ none_missing rows (k ∷ ks) f = rw (f k (inl refl)) (none_missing rows ks (λ p
 pub no_some : {A X : Type 0} (o : Option A) (x : A) → o ≡ None → o ≡ Some x → X
 no_some o x a b = absurd cc
 
-pub there : {A : Type 0} (o : Option A) → is_some o ≡ true → (r : A) × (o ≡ Some r)
-there None h = absurd cc
-there (Some r) h = (r, refl)
-
 -- ---- the same rows, key by key
 
 abbrev pub AreSameRows : TypedRows → TypedRows → Type 0

@@ -2,7 +2,6 @@
 use Rattle.std.proofs.Common.{◌≡◌, ℕ, Bool, true, cond, [], ◌∷◌, Some, None, refl, sym, ap, ap₂, ◌∙◌}
 use Rattle.std.specs.BTreeMap.{insert_entry, is_at}
 use Rattle.std.specs.Map.{remove_entry}
-use Rattle.std.specs.Ordering.{is_eq}
 use Rattle.std.specs.declared.cmp.Ordering.{Ordering}
 use Rattle.std.specs.declared.cmp.Ordering.TheVariants.{Less, Equal, Greater}
 use Rattle.std.proofs.lemmas.Cmp.{tied_itself}
@@ -11,12 +10,9 @@ use Rattle.table_schema.proofs.Places.{find_step, out_step, put_step}
 use Rattle.ref_counts.specs.declared.name.Name.{Name}
 use Rattle.ref_counts.specs.declared.name.NameState.TheVariants as state
 use Rattle.ref_counts.specs.Registered.{Registered, begun, going, made_live}
-use Rattle.ref_counts.specs.Registry.{Names, changed, changed_at, gone_from, is_retiring, name_cmp, registered_at, state_in, state_of}
-use Rattle.ref_counts.proofs.Changing.{changed-absent, name_total}
+use Rattle.ref_counts.specs.Registry.{Names, changed, gone_from, is_retiring, name_cmp, registered_at, state_in, state_of}
+use Rattle.ref_counts.proofs.Changing.{changed-absent, changed_step, name_total}
 use Rattle.ref_counts.proofs.Found.{found-put}
-
-changed_step : (n : Name) (f : Registered → Registered) (e : Name × Registered) (r : Ordering) → name_cmp n e.0 ≡ r → changed_at n f e ≡ cond (is_eq r) (e.0, f e.1) e
-changed_step n f e r h = ap (λ o. cond (is_eq o) (e.0, f e.1) e) h
 
 module _ (n : Name) where
   here : (r : Registered) (es : Names) → name_cmp n n ≡ Equal → remove_entry (is_at (name_cmp n)) ((n, r) ∷ es) ≡ es

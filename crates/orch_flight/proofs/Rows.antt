@@ -1,5 +1,5 @@
 -- the start of a row's operation, by the name of what the row shares
-use Rattle.std.proofs.Common.{◌≡◌, ℕ, Bool, true, false, List, [], ◌∷◌, ◌++◌, map, Option, Some, None, option_map, is_some, Result, Ok, Err, OnOk, OnErr, IfOk, IfErr, refl, sym, ap, ap₂, ◌∙◌}
+use Rattle.std.proofs.Common.{◌≡◌, inl, ℕ, Bool, true, false, List, [], ◌∷◌, ◌++◌, map, Option, Some, None, option_map, is_some, Result, Ok, Err, OnOk, OnErr, IfOk, IfErr, refl, sym, ap, ap₂, ◌∙◌, subst}
 use Rattle.std.specs.Result.{result_and}
 use Rattle.std.specs.BTreeMap.{insert_entry}
 use Rattle.swss_types.specs.declared.out_of_memory.OutOfMemory.{OutOfMemory}
@@ -7,6 +7,7 @@ use Rattle.table_schema.specs.Names.{names_of}
 use Rattle.table_schema.specs.Plan.{Ports}
 use Rattle.table_schema.specs.declared.key.Key.{Key}
 use Rattle.table_schema.specs.declared.row.Row.{Row}
+use Rattle.sai_types.specs.Alike.{IsIn}
 use Rattle.switch_model.specs.declared.wait.Wait.{Wait}
 use Rattle.switch_model.specs.declared.wait.Wait.TheVariants as wait
 use Rattle.row_layout.specs.Operations.{own_changes}
@@ -22,7 +23,7 @@ use Rattle.ref_counts.specs.Room.{Reserves, RoomState, lacking}
 use Rattle.switch_machine.specs.Operations.{built_first}
 use Rattle.orch_flight.specs.Needing.{absent_or, crowded_for, first_absent, first_unapplied, holder_of, busy_for, least_of, name_for, or_else, places_for, row_reason, to_build, wait_of, workers_on}
 use Rattle.orch_flight.specs.Operation.{Operation}
-use Rattle.orch_flight.specs.Sharing.{begun_by, is_absent, lacks_shared, owner_for, owners_of, with_row_begun, with_shared}
+use Rattle.orch_flight.specs.Sharing.{MayShare, begun_by, is_absent, lacks_shared, owner_for, owners_of, with_row_begun, with_shared}
 use Rattle.orch_flight.specs.Starting.{IsBegunBy, IsStartedBy, answered, begun_names, first_due, ids_for, leaving, started_names, started_names_by, started_operation, used_by, with_building, with_own}
 use Rattle.orch_flight.specs.Taking.{to_list}
 use Rattle.orch_flight.proofs.Begins.{begun-row-when, names-plain, none-missing}
@@ -32,6 +33,11 @@ same-name (name.Row k) = refl
 same-name (name.BridgePort lane) = refl
 same-name (name.Own ip) = refl
 same-name (name.Group hops) = refl
+
+-- what a row shares may be shared
+pub may-share : (names : Names) (us : List Owner) (shared : Option Name) → us ≡ owners_of shared → ((o : Owner) → IsIn o us → MayShare names (Some (name_for o))) → MayShare names shared
+may-share names us None is may = tt
+may-share names us (Some n) is may = subst (λ m. MayShare names (Some m)) (same-name n) (may (owner_for n) (subst (IsIn (owner_for n)) (sym is) (inl refl)))
 
 names-shared : (shared : Option Name) → map name_for (owners_of shared) ≡ to_list shared
 names-shared None = refl

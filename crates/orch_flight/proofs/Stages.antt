@@ -102,7 +102,7 @@ pins-undone worker user ks names h = all-pinned worker user ks names ∙ none-re
 
 -- ---- what is shared, while names of rows are pinned and begin to be built
 
-row_apart : (k : Key) (n : Name) → IsOfShared n → is_at (name_cmp (name.Row k)) n ≡ false
+pub row_apart : (k : Key) (n : Name) → IsOfShared n → is_at (name_cmp (name.Row k)) n ≡ false
 row_apart k (name.Row q) h = elim h [ ]
 row_apart k (name.BridgePort lane) h = refl
 row_apart k (name.Own ip) h = refl

@@ -53,7 +53,7 @@ abbrev pub made_all : ℕ → List PlanCall → ℕ
 made_all made [] = made
 made_all made (c ∷ cs) = made_all (made_by made c) cs
 
-makes_renamed : {I J : Type 0} (f : I → J) (c : Call I) → makes_id (call_renamed f c) ≡ makes_id c
+pub makes_renamed : {I J : Type 0} (f : I → J) (c : Call I) → makes_id (call_renamed f c) ≡ makes_id c
 makes_renamed f (call.Create b) = has_renamed f b
 makes_renamed f (call.Set e a) = refl
 makes_renamed f (call.Remove e) = refl

@@ -18,6 +18,7 @@ use Rattle.sai_types.specs.Named.{thing_by}
 use Rattle.sai_types.specs.Names as name
 use Rattle.sai_types.specs.Names.{ThingName, name_of}
 use Rattle.sai_types.specs.Objects.{Objects}
+use Rattle.sai_types.proofs.Membership.{in-either, in-left, in-map, in-right, map-in}
 use Rattle.sai_chip.specs.Naming.{entries_of}
 use Rattle.chip_layout.specs.Bodies.{IsBody}
 use Rattle.chip_layout.specs.Counted.{AreDistinct}
@@ -27,7 +28,6 @@ use Rattle.plan_laws.specs.Applied.{IsListedChip}
 use Rattle.plan_laws.specs.Calls.{viewed}
 use Rattle.plan_laws.specs.Old.{tag_of}
 use Rattle.plan_laws.specs.Plans.{PlanChange, Make, Remove, Set, AreRanked, subject}
-use Rattle.plan_laws.proofs.Lists.{in-either, in-left, in-map, in-right, map-in}
 use Rattle.view_match.specs.Keys.{key_of, keys_of_objects}
 use Rattle.view_match.specs.Pairs.{new_keys, pairs_of}
 use Rattle.view_match.specs.declared.key.NaturalKey.{NaturalKey}

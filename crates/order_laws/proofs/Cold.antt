@@ -9,15 +9,16 @@ use Rattle.sai_types.specs.declared.thing.Thing.{Thing}
 use Rattle.sai_types.specs.Alike.{IsIn}
 use Rattle.sai_types.specs.Names.{ThingName, name_kind, name_of}
 use Rattle.sai_types.specs.Objects.{Objects, level}
+use Rattle.sai_types.proofs.Membership.{in-either, in-left, in-map, map-in}
 use Rattle.sai_chip.specs.Naming.{entries_of}
 use Rattle.chip_layout.specs.Counted.{AreDistinct}
 use Rattle.chip_layout.specs.Layout.{Has}
 use Rattle.chip_layout.proofs.Bodies.{kind-body}
+use Rattle.chip_layout.proofs.Distinct.{distinct-by}
 use Rattle.plan_laws.specs.Applied.{IsListedChip}
 use Rattle.plan_laws.specs.Calls.{viewed}
 use Rattle.plan_laws.specs.Old.{old_layout, old_things, tag_of}
 use Rattle.plan_laws.specs.Plans.{IsViewPlan, PlanChange, Make, Remove, Set, cold_rank, subject}
-use Rattle.plan_laws.proofs.Lists.{in-either, in-left, in-map, map-in}
 use Rattle.plan_laws.proofs.Starting.{old-seen, seen-old}
 use Rattle.view_match.specs.Keys.{keys_of_objects}
 use Rattle.view_match.specs.Pairs.{new_keys, pairs_of}
@@ -87,14 +88,6 @@ cut {X} P Q n apart (x ∷ xs) each rising =
         last = rest.last;
       }
     ]
-
--- items of places of their own have names of their own, where one name is of one place
-pub renamed_apart : {X K L : Type 0} (f : X → K) (g : X → L) (xs : List X) → ((x y : X) → IsIn x xs → IsIn y xs → g x ≡ g y → f x ≡ f y) → AreDistinct (map f xs) → AreDistinct (map g xs)
-renamed_apart f g [] one d = tt
-renamed_apart f g (x ∷ xs) one d = (
-  λ i. let y = map-in g xs (g x) i in d.0 (subst (λ k. IsIn k (map f xs)) (sym (one x y.0 (inl refl) (inr y.1) y.2)) (in-map f xs y.0 y.1)),
-  renamed_apart f g xs (λ a b i j. one a b (inr i) (inr j)) d.1,
-)
 
 -- a number for each step of a cold plan
 abbrev step_code : PlanStep → ℕ
@@ -242,14 +235,14 @@ module _ {made : ℕ} (old : List (Object Rid)) {new : List (Object Vid)} {thing
     halves = subst AreDistinct (ap (map code) cold-cut.all ∙ map-append code front back) places
 
     front-apart : AreDistinct (map (λ t. subject (change t)) front)
-    front-apart = renamed_apart code (λ t. subject (change t)) front (λ s t i j e.
+    front-apart = distinct-by code (λ t. subject (change t)) front (λ s t i j e.
         let a = cold-cut.first s i in
         let b = cold-cut.first t j in
         let same_place = old-one old chip view a.i b.i a.o.entry b.o.entry a.o.body b.o.body a.was b.was (ap subject (sym (gone_is s a)) ∙ e ∙ ap subject (gone_is t b)) in
         ap step_code a.step ∙ ap (λ n. step_code (step.Remove n)) same_place ∙ sym (ap step_code b.step)) (distinct-left (map code front) (map code back) halves)
 
     back-apart : AreDistinct (map (λ t. subject (change t)) back)
-    back-apart = renamed_apart code (λ t. subject (change t)) back (λ s t i j e.
+    back-apart = distinct-by code (λ t. subject (change t)) back (λ s t i j e.
         let a = cold-cut.last s i in
         let b = cold-cut.last t j in
         let same_place = new-place old chip view a.j b.j a.x b.x a.there b.there (ap subject (sym (made_is s a)) ∙ e ∙ ap subject (made_is t b)) in

@@ -6,8 +6,8 @@ use Rattle.sai_types.specs.declared.ids.Vid.{Vid}
 use Rattle.sai_types.specs.declared.body.Object.{Object}
 use Rattle.sai_types.specs.declared.plan.Mode.{Mode}
 use Rattle.sai_types.specs.Alike.{IsIn}
+use Rattle.sai_types.proofs.Membership.{in-either, in-left, in-right, map-in}
 use Rattle.chip_layout.specs.Counted.{AreDistinct}
-use Rattle.plan_laws.proofs.Lists.{in-either, in-left, in-right, map-in}
 use Rattle.view_match.specs.declared.key.NaturalKey.{NaturalKey}
 use Rattle.apply_order.specs.Due.{entry_number, new_step, new_steps, old_step, old_steps}
 use Rattle.apply_order.specs.Places.{Places, partner_at}

@@ -19,8 +19,8 @@ use Rattle.plan_laws.specs.Calls.{viewed}
 use Rattle.plan_laws.specs.Old.{old_layout, old_things, tag_of}
 use Rattle.plan_laws.specs.Plans.{AreRanked, IsViewPlan, PlanChange, Make, Remove, Set, hitless_rank, subject}
 use Rattle.sai_types.specs.Named.{thing_by}
+use Rattle.sai_types.proofs.Membership.{in-map, map-in}
 use Rattle.chip_layout.specs.Seen.{tagged}
-use Rattle.plan_laws.proofs.Lists.{in-map, map-in}
 use Rattle.plan_laws.proofs.Named.{same-or}
 use Rattle.plan_laws.proofs.Starting.{old-named, old-seen, seen-old}
 use Rattle.view_match.specs.Pairs.{pairs_of}

@@ -1,6 +1,6 @@
 -- the objects of a new view that legal calls made are laid out by their things
 use Rattle.std.proofs.Common.{◌≡◌, inl, inr, ℕ, Bool, true, false, cond, ◌&&◌, not, nat_lt, List, [], ◌∷◌, map, Option, None, Some, option_map, refl, sym, ap, ◌∙◌, subst, arith}
-use Rattle.std.proofs.lemmas.Bool.{and_parts, eq-eqb, false≢true, ltb-true}
+use Rattle.std.proofs.lemmas.Bool.{and_from, and_parts, eq-eqb, false≢true, ltb-true}
 use Rattle.std.proofs.lemmas.Option.{same_Some}
 use Rattle.sai_types.specs.declared.ids.Rid.{Rid}
 use Rattle.sai_types.specs.declared.ids.Vid.{Vid}
@@ -21,8 +21,8 @@ use Rattle.sai_types.specs.Named.{both, hops_at, named, next_hop_at, thing_by, t
 use Rattle.sai_types.specs.Objects.{Objects, body_at}
 use Rattle.sai_types.specs.Refusal.{same_id}
 use Rattle.sai_types.proofs.Exact.{entry-exact}
-use Rattle.sai_types.proofs.Keys.{both_true}
 use Rattle.sai_types.proofs.Listed.{found-in, in-found}
+use Rattle.sai_types.proofs.Membership.{in-map, map-in}
 use Rattle.sai_chip.specs.Naming.{entries_of}
 use Rattle.chip_layout.specs.Bodies.{body_with}
 use Rattle.chip_layout.specs.Counted.{AreDistinct}
@@ -33,7 +33,7 @@ use Rattle.chip_layout.proofs.Answering.{in_those, thing_in, those_in}
 use Rattle.plan_laws.specs.Applied.{chip_things}
 use Rattle.plan_laws.specs.Old.{chip_group, chip_groups, filler, group_stays, is_double, is_group_of, old_layout, same_hops, shown_hops, tag_of}
 use Rattle.plan_laws.proofs.Doubles.{is_grouped}
-use Rattle.plan_laws.proofs.Lists.{any-in, in-any, in-map, map-in}
+use Rattle.plan_laws.proofs.Lists.{any-in, in-any}
 use Rattle.plan_laws.proofs.Named.{same_hops_exact, hops_refl}
 use Rattle.plan_laws.proofs.Starting.{hops-there}
 use Rattle.plan_laws.proofs.Tagging.{all-groups}
@@ -164,7 +164,7 @@ module _ {made : ℕ} {S : Objects} {new : List (Object Vid)} (m : IsMadeView ma
   tag-hops g found =
       let wanted = in-any (is_group_of (hops g)) N (thing.Group (hops g)) (group_in g found) (hops_refl (hops g)) in
       let there = in-any (same_id g) (chip_groups S) g (all-groups S g found) (eq-eqb g.0 g.0 refl) in
-      let stays : group_stays S N g ≡ true = both_true _ _ there (both_true _ _ wanted (ap not (single g found))) in
+      let stays : group_stays S N g ≡ true = and_from _ _ there (and_from _ _ wanted (ap not (single g found))) in
       ap (λ b. cond b (hops g) (filler g.0)) stays
 
   real : (g : Rid) → body_at S (entry.Oid g) ≡ Some body.Group → hops_at S g ≡ Some (tag g)

@@ -1,7 +1,7 @@
 -- a new thing and an old one of its name are those of paired objects, and back
 use Rattle.std.proofs.Common.{zero, suc, ◌≡◌, inl, inr, ℕ, ◌<◌, ◌≤◌, Bool, true, false, ◌&&◌, nat_lt, List, [], ◌∷◌, map, Option, None, Some, option_map, refl, sym, ap, ap₂, ◌∙◌, subst, arith}
 use Rattle.std.specs.List.{slice_get}
-use Rattle.std.proofs.lemmas.Bool.{and_parts, false≢true, ltb-true}
+use Rattle.std.proofs.lemmas.Bool.{and_from, and_parts, false≢true, ltb-true}
 use Rattle.std.proofs.lemmas.Option.{same_Some}
 use Rattle.std.proofs.lemmas.Bool.Decides.{nat_tests}
 use Rattle.swss_types.proofs.Proper.{mapped}
@@ -16,7 +16,6 @@ use Rattle.sai_types.specs.declared.thing.Thing.TheVariants as thing
 use Rattle.sai_types.specs.Alike.{IsIn}
 use Rattle.sai_types.specs.Named.{both, first_lane, hops_at, next_hop_at, thing_by, thing_of, things_among}
 use Rattle.sai_types.proofs.Found.{same-refl}
-use Rattle.sai_types.proofs.Keys.{both_true}
 use Rattle.sai_types.proofs.Things.{both_mapped}
 use Rattle.chip_layout.proofs.Answering.{those_in}
 use Rattle.plan_laws.proofs.Targets.{is-group, is-member}
@@ -25,11 +24,12 @@ use Rattle.sai_types.specs.Names.{ThingName, name_of}
 use Rattle.sai_types.specs.Objects.{Objects, body_at}
 use Rattle.sai_types.proofs.Exact.{entry-exact}
 use Rattle.sai_types.proofs.Listed.{found-in, in-found}
+use Rattle.sai_types.proofs.Membership.{map-in}
 use Rattle.chip_layout.specs.Seen.{tagged}
 use Rattle.plan_laws.specs.Applied.{IsListedChip, IsView}
 use Rattle.plan_laws.specs.Old.{chip_groups, group_stays, is_double, old_layout, same_hops, shown_hops, tag_of}
 use Rattle.plan_laws.proofs.Doubles.{group_found, least, member_group, member_old, names, new_group, stays_if, tag_is}
-use Rattle.plan_laws.proofs.Lists.{any-in, in-any, map-in}
+use Rattle.plan_laws.proofs.Lists.{any-in, in-any}
 use Rattle.plan_laws.proofs.Named.{same_hops_exact, hops_refl}
 use Rattle.plan_laws.proofs.Starting.{hops-there, rises}
 use Rattle.plan_laws.proofs.Tagging.{all-groups, stays-apart, tags-apart}
@@ -212,7 +212,7 @@ module _ {made : ℕ} {objects : Objects} (chip : IsListedChip made objects) (ne
       no_lesser m n h = grind (arith, nat_tests)
 
       by : (b : Bool) → nat_lt other.0 g.0 ≡ b → g.0 ≤ other.0
-      by true e = absurd (false≢true (sym single ∙ in-any (λ h. nat_lt h.0 g.0 && same_hops (hops h) (hops g)) (chip_groups objects) other i (both_true _ _ e (ap (λ hs. same_hops hs (hops g)) same ∙ hops_refl (hops g)))))
+      by true e = absurd (false≢true (sym single ∙ in-any (λ h. nat_lt h.0 g.0 && same_hops (hops h) (hops g)) (chip_groups objects) other i (and_from _ _ e (ap (λ hs. same_hops hs (hops g)) same ∙ hops_refl (hops g)))))
       by false e = no_lesser other.0 g.0 e
 
   member_shows : (e : Entry Rid) (b : Body Rid) (g n : Rid) (hop : Hop) → IsIn g (chip_groups objects) → b ≡ body.GroupMember g n → next_hop_at objects n ≡ Some hop → thing_of objects (e, b) ≡ Some (thing.GroupMember (hops g) hop)

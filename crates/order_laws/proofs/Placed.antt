@@ -20,6 +20,7 @@ use Rattle.sai_types.specs.Names.{name_of}
 use Rattle.sai_types.specs.Objects.{Objects, body_at}
 use Rattle.sai_types.proofs.Found.{same-refl}
 use Rattle.sai_types.proofs.Listed.{apart-behind, found-in, sorted-behind}
+use Rattle.sai_types.proofs.Membership.{in-map, map-in}
 use Rattle.sai_chip.specs.Naming.{entries_of}
 use Rattle.chip_layout.specs.Bodies.{IsBody}
 use Rattle.chip_layout.specs.Counted.{AreDistinct}
@@ -31,7 +32,6 @@ use Rattle.plan_laws.specs.Applied.{IsListedChip, chip_things}
 use Rattle.plan_laws.specs.Calls.{viewed}
 use Rattle.plan_laws.specs.Old.{old_layout, tag_of}
 use Rattle.plan_laws.proofs.Doubles.{shown_as}
-use Rattle.plan_laws.proofs.Lists.{in-map, map-in}
 use Rattle.plan_laws.proofs.Starting.{old-laid}
 use Rattle.view_match.specs.declared.key.NaturalKey.{NaturalKey}
 use Rattle.view_match.specs.declared.key.NaturalKey.TheVariants as key

@@ -8,13 +8,13 @@ use Rattle.std.proofs.lemmas.Cmp.{nat_cmp_total}
 use Rattle.std.proofs.lemmas.Map.Lookups.{exact_unsigned}
 use Rattle.std.proofs.lemmas.Map.Views.{tells_apart}
 use Rattle.std.proofs.lemmas.Option.{same_Some}
+use Rattle.swss_types.proofs.Maps.{lookup-insert_entry}
 use Rattle.sai_types.specs.declared.ids.Rid.{Rid}
 use Rattle.sai_types.specs.declared.ids.Vid.{Vid}
 use Rattle.sai_types.specs.declared.body.Entry.{Entry}
 use Rattle.sai_types.specs.declared.body.Entry.TheVariants as entry
 use Rattle.sai_types.specs.declared.body.Object.{Object}
 use Rattle.sai_types.specs.Alike.{IsIn}
-use Rattle.sai_types.proofs.Maps.{lookup-insert_entry}
 use Rattle.std.specs.List.{slice_get}
 use Rattle.apply_order.specs.Naming.{Names, names_from, with_entries, with_objects}
 use Rattle.apply_order.specs.Places.{Places, by_new, by_old, partner_at, with_new, with_old}

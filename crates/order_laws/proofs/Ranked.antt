@@ -5,6 +5,7 @@ use Rattle.std.specs.Cmp.{nat_cmp_is}
 use Rattle.std.specs.List.{slice_index_or}
 use Rattle.std.specs.Ordering.{is_lt, ordering_then}
 use Rattle.std.proofs.lemmas.Bool.{false≢true}
+use Rattle.std.proofs.lemmas.Map.Keys.{ge_from_not_lt}
 use Rattle.sai_types.specs.declared.kind.Kind.{Kind}
 use Rattle.sai_types.specs.declared.kind.Kind.TheVariants as kind
 use Rattle.sai_types.specs.Alike.{IsIn}
@@ -33,16 +34,6 @@ in_phases m n o h = by (compare m n)
     by (inl less) = absurd (false≢true (sym h ∙ ap (λ r. is_lt (ordering_then r o)) (sym (nat_cmp_is m n Less less))))
     by (inr (inl same)) = inr (same, ap (λ r. is_lt (ordering_then r o)) (nat_cmp_is m n Equal same) ∙ h)
     by (inr (inr more)) = inl more
-
-not_less : (m n : ℕ) → is_lt (nat_cmp m n) ≡ false → n ≤ m
-not_less m n h = by (compare m n)
-  where
-    compare : (m n : ℕ) → (m < n) ⊎ (n ≤ m)
-    compare m n = grind arith
-
-    by : (m < n) ⊎ (n ≤ m) → n ≤ m
-    by (inl less) = absurd (false≢true (sym h ∙ ap is_lt (sym (nat_cmp_is m n Less less))))
-    by (inr more) = more
 
 pub level_most : (k : Kind) → level k ≤ 10
 level_most kind.Port = omega arith
@@ -105,12 +96,12 @@ by_phase r s x y h =
     omega (arith, low, high, h)
 
 in_phase : (r s : Rank) → IsHitlessRank r → IsHitlessRank s → phase r ≡ phase s → is_lt (phase_order r s) ≡ false → hitless_value s ≤ hitless_value r
-in_phase (rank.Make k) (rank.Make l) x y e h = not_less (level k) (level l) h
-in_phase (rank.Set k) (rank.Set l) x y e h = let less = not_less (level k) (level l) h in omega (arith, less)
-in_phase (rank.MakeRoute m) (rank.MakeRoute n) x y e h = let less = not_less n.0 m.0 h in omega (arith, less)
+in_phase (rank.Make k) (rank.Make l) x y e h = ge_from_not_lt (level k) (level l) h
+in_phase (rank.Set k) (rank.Set l) x y e h = let less = ge_from_not_lt (level k) (level l) h in omega (arith, less)
+in_phase (rank.MakeRoute m) (rank.MakeRoute n) x y e h = let less = ge_from_not_lt n.0 m.0 h in omega (arith, less)
 in_phase rank.SetRoute rank.SetRoute x y e h = omega arith
-in_phase (rank.RemoveRoute m) (rank.RemoveRoute n) x y e h = let less = not_less m n h in omega (arith, less)
-in_phase (rank.Remove k) (rank.Remove l) x y e h = let less = not_less (level l.0) (level k.0) h in omega (arith, less)
+in_phase (rank.RemoveRoute m) (rank.RemoveRoute n) x y e h = let less = ge_from_not_lt m n h in omega (arith, less)
+in_phase (rank.Remove k) (rank.Remove l) x y e h = let less = ge_from_not_lt (level l.0) (level k.0) h in omega (arith, less)
 in_phase (rank.Clear k) s x y e h = absurd x
 in_phase (rank.Build k) s x y e h = absurd x
 in_phase r (rank.Clear k) x y e h = absurd y
@@ -141,9 +132,9 @@ IsColdRank _ = ⊥
 
 cold_by : (r s : Rank) → IsColdRank r → IsColdRank s → (phase s < phase r) ⊎ ((phase r ≡ phase s) × (is_lt (phase_order r s) ≡ false)) → cold_value s ≤ cold_value r
 cold_by (rank.Clear k) (rank.Clear l) x y (inl h) = absurd (omega (arith, h))
-cold_by (rank.Clear k) (rank.Clear l) x y (inr h) = let less = not_less (level l.0) (level k.0) h.1 in omega (arith, less)
+cold_by (rank.Clear k) (rank.Clear l) x y (inr h) = let less = ge_from_not_lt (level l.0) (level k.0) h.1 in omega (arith, less)
 cold_by (rank.Build k) (rank.Build l) x y (inl h) = absurd (omega (arith, h))
-cold_by (rank.Build k) (rank.Build l) x y (inr h) = let less = not_less (level k) (level l) h.1 in omega (arith, less)
+cold_by (rank.Build k) (rank.Build l) x y (inr h) = let less = ge_from_not_lt (level k) (level l) h.1 in omega (arith, less)
 cold_by (rank.Clear k) (rank.Build l) x y (inl h) = absurd (omega (arith, h))
 cold_by (rank.Clear k) (rank.Build l) x y (inr h) = absurd cc
 cold_by (rank.Build k) (rank.Clear l) x y h = omega arith

@@ -29,6 +29,7 @@ use Rattle.chip_layout.specs.Bodies.{IsAt, body_with, first_name, goal_name, is_
 use Rattle.chip_layout.specs.Layout.{Has, Layout, has_number}
 use Rattle.chip_layout.specs.Renamed.{to_renamed}
 use Rattle.plan_laws.specs.Calls.{PlansSets, old_entry, plan_layout}
+use Rattle.plan_laws.proofs.Calling.{to_resolved}
 use Rattle.apply_order.specs.Attributes.{differing, is_old, is_target, set_call, unless}
 use Rattle.apply_order.specs.Naming.{Names, new_id}
 
@@ -76,12 +77,6 @@ module _ (by : Layout PlanId) (e : Entry Rid) where
   mac_set : (h : Hop) (m m' : Mac) (b : Bool) → mac_eq.ghosts.eq m m' ≡ b → Sets 0 (unless b (attr.Mac m')) (thing.Neighbor h m) (thing.Neighbor h m')
   mac_set h m m' true is = ap (thing.Neighbor h) (mac_exact m m' is)
   mac_set h m m' false is = (attr.Mac m', thing.Neighbor h m', refl, refl, omega arith, refl)
-
-pub to_by : {I J : Type 0} (f : I → J) (g : Goal) (i : I) → to_renamed f (to_with g i) ≡ to_with g (f i)
-to_by f goal.Drop i = refl
-to_by f (goal.Direct on) i = refl
-to_by f (goal.Via hop) i = refl
-to_by f (goal.Group hops) i = refl
 
 old_id : (r : Rid) (p : PlanId) → is_old r p ≡ true → p ≡ plan_id.Old r
 old_id r (plan_id.Old s) h = ap plan_id.Old (sym (id-exact r s h))
@@ -134,7 +129,7 @@ module _ (start : Layout Rid) (ids : (i : Rid) (t u : Thing) → start i t → s
   sets-lead (thing.Route p g) (thing.Route p' g') same lanes e i j k l a b =
       let is : p ≡ p' = cc in
       let x = to_renamed (new_id names) (to_with g' k) in
-      subst (λ z. PlansSets by (old_entry e) 0 (attr_calls e (unless (is_target (to_with g i) x) (attr.To x))) (thing.Route p g) (thing.Route z g')) is (route_set e p g g' i (new_id names k) x (to_by (new_id names) g' k) a b (is_target (to_with g i) x) refl)
+      subst (λ z. PlansSets by (old_entry e) 0 (attr_calls e (unless (is_target (to_with g i) x) (attr.To x))) (thing.Route p g) (thing.Route z g')) is (route_set e p g g' i (new_id names k) x (to_resolved (new_id names) g' k) a b (is_target (to_with g i) x) refl)
   sets-lead (thing.Vlan v) (thing.Vlan v') same lanes e i j k l a b = let is : v ≡ v' = cc in ap thing.Vlan is
   sets-lead (thing.BridgePort n) (thing.BridgePort n') same lanes e i j k l a b = let is : n ≡ n' = cc in ap thing.BridgePort is
   sets-lead (thing.Rif x) (thing.Rif y) same lanes e i j k l a b = let is : x ≡ y = cc in ap thing.Rif is

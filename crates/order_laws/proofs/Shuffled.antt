@@ -6,13 +6,10 @@ use Rattle.std.proofs.lemmas.List.Sorted.{All-permutation, IsPermutation-sym, su
 use Rattle.std.proofs.lemmas.List.Sums.{sum_by-cons}
 use Rattle.sai_types.specs.Alike.{IsIn}
 use Rattle.sai_types.specs.Named.{those}
+use Rattle.sai_types.proofs.Membership.{all-in}
 use Rattle.chip_layout.specs.Counted.{AreDistinct}
 
 -- ---- items
-
-pub all-in : {X : Type 0} (P : X → Type 0) (xs : List X) → ((x : X) → IsIn x xs → P x) → AllByRecursion P xs
-all-in P [] h = tt
-all-in P (x ∷ xs) h = (h x (inl refl), all-in P xs (λ y i. h y (inr i)))
 
 pub in-all : {X : Type 0} (P : X → Type 0) (xs : List X) → AllByRecursion P xs → (x : X) → IsIn x xs → P x
 in-all P [] h x i = elim i [ ]

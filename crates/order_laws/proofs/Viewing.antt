@@ -27,6 +27,7 @@ use Rattle.sai_types.specs.References.{refers_well}
 use Rattle.sai_types.specs.Refusal.{clash}
 use Rattle.sai_types.proofs.Exact.{entry-exact}
 use Rattle.sai_types.proofs.Listed.{found-in, in-found, object-of_thing}
+use Rattle.sai_types.proofs.Membership.{in-map, map-in}
 use Rattle.sai_chip.specs.Naming.{entries_of}
 use Rattle.chip_layout.specs.Bodies.{IsAt, IsBody, body_with, first_name, is_numbered, second_name}
 use Rattle.chip_layout.specs.Counted.{AreDistinct}
@@ -36,16 +37,15 @@ use Rattle.chip_layout.specs.Seen.{tagged}
 use Rattle.chip_layout.proofs.Answering.{in_those, thing_in, those_in}
 use Rattle.chip_layout.proofs.Bodies.{entry-body, first-numbered, second-numbered}
 use Rattle.chip_layout.proofs.Shapes.{renamed_with}
+use Rattle.chip_layout.proofs.Distinct.{distinct-by}
 use Rattle.plan_laws.specs.Applied.{IsView, chip_things}
 use Rattle.plan_laws.specs.Calls.{viewed}
 use Rattle.plan_laws.specs.Old.{old_layout, old_things, tag_of}
-use Rattle.plan_laws.proofs.Lists.{in-map, map-in}
 use Rattle.plan_laws.proofs.Starting.{group-seen, group-there, hops-rise, hops-same, old-laid, old-named, old-seen, old-tagged, seen-old}
 use Rattle.view_match.specs.Keys.{key_of}
 use Rattle.view_match.specs.Listed.{object_as, objects_as, rid_of}
 use Rattle.view_match.specs.Pairs.{new_keys}
 use Rattle.order_laws.specs.Viewed.{AreObjects, IsEntry, IsMadeView, IsViewOf, things_in}
-use Rattle.order_laws.proofs.Cold.{renamed_apart}
 use Rattle.order_laws.proofs.Laying.{back, in_groups, no_oid, oid_back, same-thing, tag-hops, vid_by, vid_of}
 use Rattle.order_laws.proofs.Raw.{found-raw, raw-found, thing-raw}
 use Rattle.order_laws.proofs.Standing.{IsStood, stood}
@@ -307,7 +307,7 @@ module _ {made : ℕ} {S : Objects} {new : List (Object Vid)} (m : IsMadeView ma
   keys-apart = subst AreDistinct (ap those keys-are ∙ those_some (λ (x : Vid × Thing). key_of x.1) laid_things) m.distinct
 
   names-apart : AreDistinct (map (λ x. name_of x.1) laid_things)
-  names-apart = renamed_apart (λ (x : Vid × Thing). key_of x.1) (λ (x : Vid × Thing). name_of x.1) laid_things (λ x y i j e. ap key_of (is-view.named.one x.1 y.1 (in-map (λ (z : Vid × Thing). z.1) laid_things x i) (in-map (λ (z : Vid × Thing). z.1) laid_things y j) e)) keys-apart
+  names-apart = distinct-by (λ (x : Vid × Thing). key_of x.1) (λ (x : Vid × Thing). name_of x.1) laid_things (λ x y i j e. ap key_of (is-view.named.one x.1 y.1 (in-map (λ (z : Vid × Thing). z.1) laid_things x i) (in-map (λ (z : Vid × Thing). z.1) laid_things y j) e)) keys-apart
 
   one-id : (v : Vid) (t u : Thing) → IsIn (v, t) laid_things → IsIn (v, u) laid_things → has_number t ≡ true → has_number u ≡ true → t ≡ u
   one-id v t u i j x y =

@@ -15,6 +15,7 @@ use Rattle.plan_laws.specs.Plans.{AreRanked, PlanChange, IsViewPlan, Make, Remov
 use Rattle.plan_laws.specs.Views.{HaveOwnNames, LanesApart, ReferWithin}
 use Rattle.plan_laws.proofs.Following.{HasNamed, before, done-in, due-in, ranked-right, new-stands, now-new, old-stands, origin, outcome-named, outcome-new}
 use Rattle.plan_laws.proofs.Deciders.{IsGood, good-names, len_within}
+use Rattle.plan_laws.proofs.Moving.{set-most}
 
 -- ---- what refers is of a higher kind
 
@@ -61,10 +62,6 @@ set_high : (k : ThingName) (n : ℕ) → n < 10 → n < set_rank k
 set_high (name.Route p) n small = omega (arith, small)
 set_high _ n small = omega (arith, small)
 
-set_most : (k : ThingName) → set_rank k ≤ 800
-set_most (name.Route p) = omega arith
-set_most _ = omega arith
-
 remove_less : (k : ThingName) (n : ℕ) → IsGood k → n < height k → n < 10 → remove_rank k < 1400 - n
 remove_less (name.Route p) n good less small = let len = len_within p good in omega (arith, len, small)
 remove_less _ n good less small = omega (arith, less)
@@ -81,7 +78,7 @@ hitless-safe = record {
   make_after = λ t w good less small. let turns = make_low (name_of w) small in let high = make_high (name_of t) (height (name_of w)) good less small in omega (arith, turns, high);
   set_after = λ t w small. let turns = make_low (name_of w) small in let high = set_high (name_of t) (height (name_of w)) small in omega (arith, turns, high);
   remove_before = λ k m good less small. let turns = remove_low k small in let low = remove_less m (height k) good less small in omega (arith, turns, low);
-  set_before = λ t k small. let turns = remove_low k small in let most = set_most (name_of t) in omega (arith, turns, most, small);
+  set_before = λ t k small. let turns = remove_low k small in let most = set-most (name_of t) in omega (arith, turns, most, small);
 }
 
 pub cold-safe : IsSafeOrder cold_rank

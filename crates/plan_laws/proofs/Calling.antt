@@ -100,7 +100,7 @@ entry_back ids (entry.Own ip) = refl
 entry_back ids (entry.Neigh r ip) = refl
 entry_back ids (entry.Route p) = refl
 
-to_resolved : {I J : Type 0} (f : I → J) (g : Goal) (i : I) → to_renamed f (to_with g i) ≡ to_with g (f i)
+pub to_resolved : {I J : Type 0} (f : I → J) (g : Goal) (i : I) → to_renamed f (to_with g i) ≡ to_with g (f i)
 to_resolved f goal.Drop i = refl
 to_resolved f (goal.Direct on) i = refl
 to_resolved f (goal.Via hop) i = refl

@@ -15,13 +15,13 @@ use Rattle.sai_types.specs.Forwarding.{decide, forward}
 use Rattle.sai_types.specs.Names as name
 use Rattle.sai_types.specs.Names.{ThingName, name_of}
 use Rattle.sai_types.specs.Objects.{Objects}
+use Rattle.sai_types.proofs.Membership.{in-map, map-in}
 use Rattle.chip_layout.specs.Layout.{Layout}
 use Rattle.plan_laws.specs.Applied.{chip_things}
 use Rattle.plan_laws.specs.Plans.{PlanChange, IsViewPlan, Remove, stands_after_all, hitless_rank, outcome}
 use Rattle.plan_laws.specs.Steady.{ForwardsAfter, IsForwarding, IsHitless, IsOldOrNew, StaysNew}
 use Rattle.plan_laws.specs.Views.{HaveOwnNames}
 use Rattle.plan_laws.proofs.Following.{IsUntouched, done-in, done-stands, origin, outcome-new, still}
-use Rattle.plan_laws.proofs.Lists.{in-map, map-in}
 use Rattle.plan_laws.proofs.Macs.{either, hitless, kept}
 use Rattle.plan_laws.proofs.Shown.{AreTargets, real_goal, real_route, shown-all, shown-sound}
 use Rattle.plan_laws.proofs.Stepping.{IsMidMoment, IsPortName}

@@ -16,6 +16,7 @@ use Rattle.sai_types.specs.Made.{made_after_all}
 use Rattle.sai_types.specs.Named.{thing_by, those}
 use Rattle.sai_types.specs.Names.{ThingName, name_kind, name_of}
 use Rattle.sai_types.specs.Objects.{Objects, level}
+use Rattle.sai_types.proofs.Membership.{in-map}
 use Rattle.chip_layout.specs.Counted.{AreDistinct}
 use Rattle.chip_layout.specs.Layout.{Has, Layout, with_changed}
 use Rattle.chip_layout.specs.Seen.{tagged}
@@ -27,7 +28,6 @@ use Rattle.plan_laws.specs.Old.{old_things, tag_of}
 use Rattle.plan_laws.specs.Plans.{AreRanked, IsViewPlan, Make, PlanChange, Remove, Set, subject}
 use Rattle.plan_laws.specs.Views.{made_name, made_names}
 use Rattle.plan_laws.proofs.Following.{done-in, ranked-left}
-use Rattle.plan_laws.proofs.Lists.{in-map}
 use Rattle.plan_laws.proofs.Picked.{in-picked, picked-distinct, picked-length}
 
 -- ---- all calls

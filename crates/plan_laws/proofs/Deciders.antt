@@ -1,11 +1,10 @@
 -- which of some things decides an address: the own address, else the covering route of the longest prefix
 use Rattle.std.proofs.Common.{◌≡◌, inl, inr, ◌⊎◌, ℕ, ◌≤◌, Bool, true, false, cond, List, Option, None, Some, refl, sym, ap, ◌∙◌, subst, arith}
 use Rattle.std.proofs.lemmas.Bool.{false≢true}
-use Rattle.swss_types.specs.Address.{IsProperPrefix, covers, width}
-use Rattle.swss_types.specs.declared.address.Family.{Family}
-use Rattle.swss_types.specs.declared.address.Family.TheVariants.{V4, V6}
+use Rattle.swss_types.specs.Address.{IsProperPrefix, covers}
 use Rattle.swss_types.specs.declared.address.Ip.{Ip}
 use Rattle.swss_types.specs.declared.address.Prefix.{Prefix}
+use Rattle.swss_types.proofs.PrefixTexts.{width-le}
 use Rattle.sai_types.specs.declared.thing.Goal.{Goal}
 use Rattle.sai_types.specs.declared.thing.Thing.{Thing}
 use Rattle.sai_types.specs.declared.thing.Thing.TheVariants as thing
@@ -22,12 +21,8 @@ abbrev pub IsGood : ThingName → Type 0
 IsGood (name.Route p) = IsProperPrefix p
 IsGood _ = Unit {0}
 
-width_within : (f : Family) → width f ≤ 128
-width_within V4 = omega arith
-width_within V6 = omega arith
-
 pub len_within : (p : Prefix) → IsProperPrefix p → p.len ≤ 128
-len_within p proper = let one = proper.1 in let two = width_within p.ip.family in omega (arith, one, two)
+len_within p proper = let one = proper.1 in let two = width-le p.ip.family in omega (arith, one, two)
 
 pub good-names : (ts : List Thing) → HaveOwnNames ts → (t : Thing) → IsIn t ts → IsGood (name_of t)
 good-names ts named (thing.Route p g) i = named.proper p g i

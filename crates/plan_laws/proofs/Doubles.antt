@@ -1,6 +1,6 @@
 -- an object's name among the old things is the one that it shows, but of groups that do not stay and their members
 use Rattle.std.proofs.Common.{◌≡◌, inl, inr, ◌⊎◌, ℕ, zero, suc, ◌<◌, Bool, true, false, cond, ◌&&◌, not, nat_lt, List, map, Some, option_map, refl, sym, ap, ap₂, ◌∙◌, subst, arith}
-use Rattle.std.proofs.lemmas.Bool.{and_parts, eq-eqb, false≢true, ltb-true}
+use Rattle.std.proofs.lemmas.Bool.{and_from, and_parts, eq-eqb, false≢true, ltb-true}
 use Rattle.std.proofs.lemmas.Option.{same_Some}
 use Rattle.sai_types.specs.declared.ids.Rid.{Rid}
 use Rattle.sai_types.specs.declared.hop.Hop.{Hop}
@@ -23,11 +23,11 @@ use Rattle.sai_types.specs.Names as name
 use Rattle.sai_types.specs.Names.{ThingName, name_of}
 use Rattle.sai_types.specs.Objects.{Objects, body_at}
 use Rattle.sai_types.specs.Refusal.{same_id}
-use Rattle.sai_types.proofs.Keys.{both_true}
 use Rattle.sai_types.proofs.Exact.{entry-exact}
 use Rattle.sai_types.proofs.Found.{same-refl}
 use Rattle.sai_types.proofs.Listed.{found-in, in-found, object-of_thing}
 use Rattle.sai_types.proofs.Things.{both_mapped}
+use Rattle.sai_types.proofs.Membership.{map-in}
 use Rattle.chip_layout.specs.Layout.{Has}
 use Rattle.chip_layout.specs.Seen.{tagged}
 use Rattle.chip_layout.proofs.Answering.{in_those, thing_in, those_in}
@@ -36,7 +36,7 @@ use Rattle.plan_laws.specs.Applied.{IsListedChip, IsView, chip_things}
 use Rattle.plan_laws.specs.Bounds.{IsDouble}
 use Rattle.plan_laws.specs.Old.{filler, chip_group, group_stays, chip_groups, hops_or_none, is_double, is_group_of, old_layout, old_things, same_hops, shown_hops, tag_of}
 use Rattle.plan_laws.specs.Views.{AreLacking, FitsHitless}
-use Rattle.plan_laws.proofs.Lists.{any-in, in-any, map-in}
+use Rattle.plan_laws.proofs.Lists.{any-in, in-any}
 use Rattle.plan_laws.proofs.Named.{same_hops_exact, hops_refl}
 use Rattle.plan_laws.proofs.Starting.{group-seen, group-there, hops-same, hops-there, object-seen, old-seen, old-tagged, rises}
 use Rattle.plan_laws.proofs.Tagging.{all-groups, hops-of_tag}
@@ -98,8 +98,8 @@ module _ {made : ℕ} {objects : Objects} (chip : IsListedChip made objects) (ne
 
   pub stays_if : (g : Rid) → IsIn g (chip_groups objects) → IsIn (thing.Group (hops g)) new → is_double objects g ≡ false → group_stays objects new g ≡ true
   stays_if g i wanted single =
-      both_true _ _ (in-any (same_id g) (chip_groups objects) g i (eq-eqb g.0 g.0 refl))
-      (both_true _ _ (in-any (is_group_of (hops g)) new (thing.Group (hops g)) wanted (hops_refl (hops g))) (ap not single))
+      and_from _ _ (in-any (same_id g) (chip_groups objects) g i (eq-eqb g.0 g.0 refl))
+      (and_from _ _ (in-any (is_group_of (hops g)) new (thing.Group (hops g)) wanted (hops_refl (hops g))) (ap not single))
 
   pub tag_is : (g : Rid) → group_stays objects new g ≡ true → tag g ≡ hops g
   tag_is g h = ap (λ b. cond b (hops g) (filler g.0)) h

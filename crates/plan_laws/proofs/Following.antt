@@ -3,9 +3,9 @@ use Rattle.std.proofs.Common.{◌≡◌, inl, inr, ◌⊎◌, ℕ, ◌≤◌, �
 use Rattle.sai_types.specs.declared.thing.Thing.{Thing}
 use Rattle.sai_types.specs.Alike.{IsIn}
 use Rattle.sai_types.specs.Names.{ThingName, name_of}
+use Rattle.sai_types.proofs.Membership.{in-either, in-left, in-right}
 use Rattle.plan_laws.specs.Plans.{AreRanked, PlanChange, IsViewPlan, Make, Remove, Set, stands_after_all, stands_after, outcome, subject}
 use Rattle.plan_laws.specs.Views.{HaveOwnNames}
-use Rattle.plan_laws.proofs.Lists.{in-either, in-left, in-right}
 use Rattle.plan_laws.proofs.Named.{same-or}
 
 pub outcome-named : (c : PlanChange) (t : Thing) → outcome c ≡ Some t → name_of t ≡ subject c

@@ -13,6 +13,7 @@ use Rattle.sai_types.specs.Names.{name_of}
 use Rattle.sai_types.specs.Named.{thing_by}
 use Rattle.sai_types.specs.Objects.{Objects, body_at}
 use Rattle.sai_types.proofs.Exact.{entry-exact}
+use Rattle.sai_types.proofs.Membership.{in-either}
 use Rattle.chip_layout.specs.Bodies.{IsBody}
 use Rattle.chip_layout.specs.Layout.{Has, Layout, with_changed}
 use Rattle.chip_layout.specs.Seen.{tagged}
@@ -30,7 +31,6 @@ use Rattle.plan_laws.proofs.Applied.{plan-safe}
 use Rattle.plan_laws.proofs.Calling.{none-before, resolves-first, resolves-next, still, still-body}
 use Rattle.plan_laws.proofs.Doubles.{unwanted}
 use Rattle.plan_laws.proofs.Following.{due-in}
-use Rattle.plan_laws.proofs.Lists.{in-either}
 use Rattle.plan_laws.proofs.Running.{one_then_rest, plan-step}
 use Rattle.plan_laws.proofs.Starting.{first-moment, old-laid}
 

@@ -1,32 +1,8 @@
 -- what is in lists that are joined, and two cuts of one list
-use Rattle.std.proofs.Common.{◌≡◌, inl, inr, ◌⊎◌, Bool, true, false, ◌||◌, ◌++◌, List, [], ◌∷◌, map, refl, sym, ap, ap₂, ◌∙◌}
+use Rattle.std.proofs.Common.{◌≡◌, inl, inr, ◌⊎◌, Bool, true, false, ◌||◌, ◌++◌, List, [], ◌∷◌, refl, sym, ap, ap₂, ◌∙◌}
 use Rattle.std.specs.List.{list_any}
 use Rattle.std.proofs.lemmas.Bool.{false≢true, or_right}
 use Rattle.sai_types.specs.Alike.{IsIn}
-
-pub in-left : {X : Type 0} (x : X) (xs ys : List X) → IsIn x xs → IsIn x (xs ++ ys)
-in-left x [] ys h = elim h [ ]
-in-left x (y ∷ xs) ys (inl is) = inl is
-in-left x (y ∷ xs) ys (inr h) = inr (in-left x xs ys h)
-
-pub in-right : {X : Type 0} (x : X) (xs ys : List X) → IsIn x ys → IsIn x (xs ++ ys)
-in-right x [] ys h = h
-in-right x (y ∷ xs) ys h = inr (in-right x xs ys h)
-
-pub in-either : {X : Type 0} (x : X) (xs ys : List X) → IsIn x (xs ++ ys) → IsIn x xs ⊎ IsIn x ys
-in-either x [] ys h = inr h
-in-either x (y ∷ xs) ys (inl is) = inl (inl is)
-in-either x (y ∷ xs) ys (inr h) = elim (in-either x xs ys h) [ inl i ↦ inl (inr i) | inr i ↦ inr i ]
-
-pub in-map : {X Y : Type 0} (f : X → Y) (xs : List X) (x : X) → IsIn x xs → IsIn (f x) (map f xs)
-in-map f [] x i = elim i [ ]
-in-map f (y ∷ xs) x (inl is) = inl (ap f is)
-in-map f (y ∷ xs) x (inr i) = inr (in-map f xs x i)
-
-pub map-in : {X Y : Type 0} (f : X → Y) (xs : List X) (y : Y) → IsIn y (map f xs) → (x : X) × IsIn x xs × (y ≡ f x)
-map-in f [] y i = elim i [ ]
-map-in f (x ∷ xs) y (inl is) = (x, inl refl, is)
-map-in f (x ∷ xs) y (inr i) = let rest = map-in f xs y i in (rest.0, inr rest.1, rest.2)
 
 -- one of a list passes a test
 pub in-any : {X : Type 0} (p : X → Bool) (xs : List X) (x : X) → IsIn x xs → p x ≡ true → list_any p xs ≡ true

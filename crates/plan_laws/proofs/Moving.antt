@@ -1,18 +1,19 @@
 -- a hitless plan moves an address at most once, from the old decision to the new one
-use Rattle.std.proofs.Common.{◌≡◌, inl, inr, ◌⊎◌, ℕ, ◌<◌, ◌≤◌, ◌++◌, List, Some, refl, sym, ap, ◌∙◌, subst, arith}
+use Rattle.std.proofs.Common.{◌≡◌, inl, inr, ◌⊎◌, ◌<◌, ◌≤◌, ◌++◌, List, Some, refl, sym, ap, ◌∙◌, subst, arith}
 use Rattle.std.proofs.lemmas.List.{append_assoc}
 use Rattle.swss_types.specs.declared.address.Ip.{Ip}
+use Rattle.swss_types.proofs.Most.{most_or_more}
 use Rattle.sai_types.specs.declared.thing.Thing.{Thing}
 use Rattle.sai_types.specs.Alike.{IsIn}
 use Rattle.sai_types.specs.Forwarding.{decide}
 use Rattle.sai_types.specs.Names as name
 use Rattle.sai_types.specs.Names.{ThingName, name_of}
+use Rattle.sai_types.proofs.Membership.{in-left}
 use Rattle.plan_laws.specs.Plans.{PlanChange, IsViewPlan, Make, Remove, Set, stands_after_all, hitless_rank, make_rank, outcome, remove_rank, set_rank}
 use Rattle.plan_laws.specs.Steady.{ForwardsAfter, IsForwarding}
 use Rattle.plan_laws.specs.Views.{HaveOwnNames}
 use Rattle.plan_laws.proofs.Deciders.{Decides, IsGood, IsStrongest, NoneDecides, decided, decision, good-names, none-decides, strength, strength-most, strongest-decides}
 use Rattle.plan_laws.proofs.Following.{IsUntouched, before, done-in, done-stands, new-stands, old-new, old-stands, origin, outcome-named, outcome-new, still}
-use Rattle.plan_laws.proofs.Lists.{in-left}
 
 decides_forwarding : (a : Ip) (k : ThingName) → Decides a k → IsForwarding k
 decides_forwarding a (name.Own ip) h = tt
@@ -55,9 +56,6 @@ set-most _ = omega arith
 remove_least : (k : ThingName) → 1000 ≤ remove_rank k
 remove_least (name.Route p) = omega arith
 remove_least _ = omega arith
-
-less_or : (m n : ℕ) → (m ≤ n) ⊎ (n < m)
-less_or m n = grind arith
 
 module _ (a : Ip) {old new : List Thing} (old_named : HaveOwnNames old) (new_named : HaveOwnNames new) {plan : List PlanChange} (is_plan : IsViewPlan hitless_rank old new plan) where
   abbrev stood : Thing → Type 0
@@ -150,14 +148,14 @@ module _ (a : Ip) {old new : List Thing} (old_named : HaveOwnNames old) (new_nam
 
     by_change : (t : Thing) → IsStrongest a these t → (c : PlanChange) → IsIn c done → outcome c ≡ Some t → decide now a ≡ decide new a
     by_change t s c i o =
-        as_new t s (comes c t i o) (λ v make j d. elim (less_or (strength (name_of v)) (strength (name_of t))) [
+        as_new t s (comes c t i o) (λ v make j d. elim (most_or_more (strength (name_of v)) (strength (name_of t))) [
           | inl le ↦ le
           | inr less ↦ let order = (before is_plan done due cut c (Make v) i make).0 in let late = late_change t v c o j s.decides d less in absurd (omega (arith, order, late))
         ])
 
     by_old : (t : Thing) → IsStrongest a these t → IsIn t old → IsUntouched done (name_of t) → (u : Thing) → IsStrongest a stood u → (decide now a ≡ decide new a) ⊎ AsBefore
     by_old t s i free u most =
-        elim (less_or (strength (name_of u)) (strength (name_of t))) [
+        elim (most_or_more (strength (name_of u)) (strength (name_of t))) [
           | inl le ↦ inr (inl (t, record { there = i; decides = s.decides; most = λ v j d. let one = most.most v j d in omega (arith, one, le) }, free, s))
           | inr less ↦
               let gone = is_gone u most.there most.decides (λ w j d e. let below = s.most w j d in let same : strength (name_of w) ≡ strength (name_of u) = ap strength e in absurd (omega (arith, below, same, less))) in

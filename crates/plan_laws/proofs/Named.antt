@@ -1,6 +1,6 @@
 -- whether two names are one, is told
 use Rattle.std.proofs.Common.{◌≡◌, inl, inr, ◌⊎◌, ℕ, ◌==◌, Bool, true, false, List, [], ◌∷◌, refl, sym, ap, ap₂, ◌∙◌}
-use Rattle.std.proofs.lemmas.Bool.{and_parts, eq-eqb, eqb-true, false≢true}
+use Rattle.std.proofs.lemmas.Bool.{and_from, and_parts, eq-eqb, eqb-true, false≢true}
 use Rattle.swss_types.specs.contracts.address.IpEq.TheImpl.Laws as equal_ip
 use Rattle.swss_types.specs.contracts.address.PrefixEq.TheImpl.Laws as equal_prefix
 use Rattle.sai_types.specs.declared.hop.Hop.{Hop}
@@ -12,7 +12,6 @@ use Rattle.sai_types.specs.Names as name
 use Rattle.sai_types.specs.Names.{ThingName}
 use Rattle.sai_types.specs.Refusal.{same_ip, same_prefix}
 use Rattle.sai_types.proofs.Exact.{ip-exact, prefix-exact}
-use Rattle.sai_types.proofs.Keys.{both_true}
 use Rattle.sai_types.proofs.Rising.{base-exact, hop-same}
 use Rattle.sai_types.proofs.Things.{bridge_ports, group_members, groups, neighbors, next_hops, owns, ports, rifs, same_route_prefix, vlan_members, vlans}
 use Rattle.plan_laws.specs.Old.{same_hops}
@@ -25,7 +24,7 @@ same_hops_exact (x ∷ xs) [] h = absurd (false≢true h)
 
 pub hops_refl : (xs : List Hop) → same_hops xs xs ≡ true
 hops_refl [] = refl
-hops_refl (x ∷ xs) = both_true (same_hop x x) (same_hops xs xs) (equal_hop.laws-law.refl x) (hops_refl xs)
+hops_refl (x ∷ xs) = and_from (same_hop x x) (same_hops xs xs) (equal_hop.laws-law.refl x) (hops_refl xs)
 
 abbrev IsToldApart : {X : Type 0} → X → X → Type 0
 IsToldApart x y = (x ≡ y) ⊎ (x ≡ y → ⊥)

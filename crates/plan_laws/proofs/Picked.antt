@@ -4,10 +4,10 @@ use Rattle.std.proofs.lemmas.List.{length-append, map-append}
 use Rattle.sai_types.specs.Alike.{IsIn}
 use Rattle.sai_types.specs.Named.{those}
 use Rattle.sai_types.specs.Names.{ThingName}
+use Rattle.sai_types.proofs.Membership.{in-map, map-in}
 use Rattle.chip_layout.specs.Counted.{AreDistinct}
 use Rattle.chip_layout.proofs.Answering.{in_those, those_in}
 use Rattle.plan_laws.specs.Plans.{AreRanked, PlanChange, subject}
-use Rattle.plan_laws.proofs.Lists.{in-map, map-in}
 
 pub those_append : {X : Type 0} (xs ys : List (Option X)) → those (xs ++ ys) ≡ those xs ++ those ys
 those_append [] ys = refl

@@ -1,8 +1,8 @@
 -- there is room for what a plan makes, where the new things fit
-use Rattle.std.proofs.Common.{◌≡◌, inl, inr, ℕ, ◌+◌, ◌≤◌, ◌==◌, Bool, true, false, cond, ◌++◌, List, [], ◌∷◌, length, map, None, Some, refl, sym, ap, ◌∙◌, subst, arith}
+use Rattle.std.proofs.Common.{◌≡◌, inl, inr, ℕ, ◌+◌, ◌≤◌, ◌==◌, cond, ◌++◌, List, [], ◌∷◌, length, map, None, Some, refl, sym, ap, ◌∙◌, subst, arith}
 use Rattle.std.proofs.lemmas.Bool.{eq-eqb, eqb-true, lt-leb}
 use Rattle.std.proofs.lemmas.List.{append-nil, length-append}
-use Rattle.std.proofs.lemmas.Option.{same_Some}
+use Rattle.std.proofs.lemmas.Option.{cond_some}
 use Rattle.sai_types.specs.declared.ids.Rid.{Rid}
 use Rattle.sai_types.specs.declared.kind.Kind.{Kind}
 use Rattle.sai_types.specs.declared.thing.Thing.{Thing}
@@ -11,6 +11,7 @@ use Rattle.sai_types.specs.Named.{those}
 use Rattle.sai_types.specs.Names.{ThingName, name_kind, name_of}
 use Rattle.sai_types.specs.Objects.{Objects, level, used}
 use Rattle.sai_types.specs.Refusal.{capacity_of}
+use Rattle.sai_types.proofs.Membership.{in-left, in-right}
 use Rattle.chip_layout.specs.Counted.{IsOfKind}
 use Rattle.chip_layout.specs.Layout.{HasRoom, Layout}
 use Rattle.chip_layout.proofs.Counting.{counted, used-at-most}
@@ -18,19 +19,14 @@ use Rattle.plan_laws.specs.Moments.{IsMoment}
 use Rattle.plan_laws.specs.Plans.{AreRanked, PlanChange, IsViewPlan, Make, Remove, Set, outcome, subject}
 use Rattle.plan_laws.specs.Views.{AreLacking, FitsHitless, HasRoomForPlan, made_name, made_names}
 use Rattle.plan_laws.proofs.Following.{done-in, ranked-left, origin}
-use Rattle.plan_laws.proofs.Lists.{in-left, in-right}
 use Rattle.plan_laws.proofs.Picked.{in-picked, picked-distinct, picked-in, picked-length}
-
-by_kind : (b : Bool) (k m : ThingName) → cond b (Some k) None ≡ Some m → (b ≡ true) × (k ≡ m)
-by_kind true k m e = (refl, same_Some k m e)
-by_kind false k m e = absurd cc
 
 of_kind : (kind : Kind) (t : Thing) → level (name_kind (name_of t)) ≡ level kind → made_name kind (Make t) ≡ Some (name_of t)
 of_kind kind t of = ap (λ b. cond b (Some (name_of t)) None) (eq-eqb _ _ of)
 
 -- a name that changes make is that of a thing that they make
 is_made : (kind : Kind) (c : PlanChange) (k : ThingName) → made_name kind c ≡ Some k → (t : Thing) × (c ≡ Make t) × (name_of t ≡ k) × (level (name_kind k) ≡ level kind)
-is_made kind (Make t) k e = let x = by_kind (level (name_kind (name_of t)) == level kind) (name_of t) k e in (t, refl, x.1, ap (λ z. level (name_kind z)) (sym x.1) ∙ eqb-true _ _ x.0)
+is_made kind (Make t) k e = let x = cond_some (level (name_kind (name_of t)) == level kind) (name_of t) k e in (t, refl, x.1, ap (λ z. level (name_kind z)) (sym x.1) ∙ eqb-true _ _ x.0)
 is_made kind (Set t) k e = absurd cc
 is_made kind (Remove m) k e = absurd cc
 

@@ -25,6 +25,7 @@ use Rattle.sai_types.proofs.Found.{same-symm}
 use Rattle.sai_types.proofs.Listed.{found-in, in-found}
 use Rattle.sai_types.proofs.Rising.{hop_exact, hop_total, rising-insert}
 use Rattle.sai_types.proofs.Things.{both_mapped}
+use Rattle.sai_types.proofs.Membership.{in-map, map-in}
 use Rattle.chip_layout.specs.Answered.{HasPrefix}
 use Rattle.chip_layout.specs.Bodies.{IsBody}
 use Rattle.chip_layout.specs.Layout.{Has, IsLaidOut, has_number}
@@ -37,7 +38,6 @@ use Rattle.plan_laws.specs.Applied.{IsListedChip}
 use Rattle.plan_laws.specs.Moments.{IsMoment}
 use Rattle.plan_laws.specs.Old.{group_stays, chip_groups, hops_or_none, old_layout, old_things, seen_things, shown_hops, tag_of}
 use Rattle.plan_laws.specs.Views.{HaveOwnNames}
-use Rattle.plan_laws.proofs.Lists.{in-map, map-in}
 use Rattle.plan_laws.proofs.Tagging.{all-groups, hops-of_tag, hops-rising, hops_for, stays-apart, tags-apart}
 use Rattle.plan_laws.proofs.Targets.{AreTagged, is-group}
 

@@ -3,7 +3,7 @@ use Rattle.std.proofs.Common.{◌≡◌, inl, inr, ◌⊎◌, ℕ, zero, suc, �
 use Rattle.std.specs.List.{list_any}
 use Rattle.std.specs.List.Sorted.{IsStrictlySortedBy}
 use Rattle.std.specs.declared.cmp.Ordering.TheVariants.{Less}
-use Rattle.std.proofs.lemmas.Bool.{and_parts, false≢true, not-true}
+use Rattle.std.proofs.lemmas.Bool.{and_from, and_parts, false≢true, not-true}
 use Rattle.std.proofs.lemmas.Bool.Decides.{nat_tests}
 use Rattle.sai_types.specs.declared.ids.Rid.{Rid}
 use Rattle.sai_types.specs.declared.body.Body.TheVariants as body
@@ -15,11 +15,11 @@ use Rattle.sai_types.specs.Named.{hop_cmp}
 use Rattle.sai_types.specs.Objects.{Objects, body_at}
 use Rattle.sai_types.specs.Refusal.{same_id}
 use Rattle.sai_types.proofs.Exact.{entry-exact, id-exact}
-use Rattle.sai_types.proofs.Keys.{both_true}
 use Rattle.sai_types.proofs.Listed.{in-found}
+use Rattle.sai_types.proofs.Membership.{in-map}
 use Rattle.chip_layout.proofs.Answering.{in_those}
 use Rattle.plan_laws.specs.Old.{filler, chip_group, group_stays, chip_groups, is_double, is_group_of, no_hop, same_hops, shown_hops, tag_for}
-use Rattle.plan_laws.proofs.Lists.{any-in, in-any, in-map}
+use Rattle.plan_laws.proofs.Lists.{any-in, in-any}
 use Rattle.plan_laws.proofs.Named.{same_hops_exact, hops_refl}
 
 -- ---- fillers
@@ -107,7 +107,7 @@ module _ (objects : Objects) (new : List Thing) where
   not_less : (g h : Rid) → IsStaying g → IsStaying h → shown_hops objects g ≡ shown_hops objects h → nat_lt g.0 h.0 ≡ true → ⊥
   not_less g h x y same less =
       let hops : same_hops (shown_hops objects g) (shown_hops objects h) ≡ true = ap (λ z. same_hops (shown_hops objects g) z) (sym same) ∙ hops_refl (shown_hops objects g) in
-      false≢true (sym y.least ∙ in-any (λ k. nat_lt k.0 h.0 && same_hops (shown_hops objects k) (shown_hops objects h)) (chip_groups objects) g x.there (both_true (nat_lt g.0 h.0) _ less hops))
+      false≢true (sym y.least ∙ in-any (λ k. nat_lt k.0 h.0 && same_hops (shown_hops objects k) (shown_hops objects h)) (chip_groups objects) g x.there (and_from (nat_lt g.0 h.0) _ less hops))
 
   pub stays-apart : (g h : Rid) → group_stays objects new g ≡ true → group_stays objects new h ≡ true → shown_hops objects g ≡ shown_hops objects h → g ≡ h
   stays-apart g h x y same =

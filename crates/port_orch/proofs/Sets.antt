@@ -2,7 +2,6 @@
 use Rattle.std.proofs.Common.{◌≡◌, ◌==◌, ℕ, Bool, true, false, List, [], ◌∷◌, Option, Some, None, if◌then◌else◌, refl, sym, ap, subst, ◌∙◌}
 use Rattle.std.proofs.lemmas.Bool.{eqb-false, eqb-true, false≢true}
 use Rattle.table_schema.specs.declared.row.PortRow.{PortRow}
-use Rattle.sai_types.specs.contracts.thing.ThingEq.TheImpl.Laws as equal_thing
 use Rattle.sai_types.specs.declared.ids.Vid.{Vid}
 use Rattle.sai_types.specs.declared.body.Attr.{Attr}
 use Rattle.sai_types.specs.declared.body.Attr.TheVariants as attr
@@ -11,11 +10,9 @@ use Rattle.sai_types.specs.declared.thing.Thing.TheVariants as thing
 use Rattle.sai_types.specs.Names.{ThingName}
 use Rattle.chip_layout.specs.Bodies.{IsChange}
 use Rattle.row_layout.specs.Operations.{Change, Set, port_with, same_thing, set_to}
+use Rattle.row_layout.proofs.Changing.{set_none}
 use Rattle.switch_machine.proofs.Equal.{thing-exact}
 use Rattle.port_orch.specs.Ports.{are_alike, first_attr, port_sets, port_thing, stepped}
-
-set-none : (t : Thing) (rest : List Change) → set_to t t rest ≡ rest
-set-none t rest = ap (λ b. if b then rest else Set t ∷ rest) (equal_thing.laws-law.refl t)
 
 set-new : (t u : Thing) (rest : List Change) → (t ≡ u → ⊥) → set_to t u rest ≡ Set u ∷ rest
 set-new t u rest apart = by (same_thing t u) refl
@@ -57,23 +54,23 @@ module _ (l : List ℕ) where
   speed-first s m s' m' u u' h =
       let t = port_with l s' m u in
       let rest = set_to t (port_with l s' m' u) (set_to (port_with l s' m' u) (port_with l s' m' u') []) in
-      set-new (port_with l s m u) t rest (λ e. eqb-false s s' h (ap speed_of e)) ∙ ap (λ cs. Set t ∷ cs) (sym (set-none t rest))
+      set-new (port_with l s m u) t rest (λ e. eqb-false s s' h (ap speed_of e)) ∙ ap (λ cs. Set t ∷ cs) (sym (set_none t rest))
 
   mtu-first : (s m m' : ℕ) (u u' : Bool) → (m == m') ≡ false → sets s m u s m' u' ≡ Set (port_with l s m' u) ∷ sets s m' u s m' u'
   mtu-first s m m' u u' h =
       let t = port_with l s m' u in
       let rest = set_to t (port_with l s m' u') [] in
-      set-none (port_with l s m u) (set_to (port_with l s m u) t rest) ∙ set-new (port_with l s m u) t rest (λ e. eqb-false m m' h (ap mtu_of e))
-      ∙ ap (λ cs. Set t ∷ cs) (sym (set-none t (set_to t t rest) ∙ set-none t rest))
+      set_none (port_with l s m u) (set_to (port_with l s m u) t rest) ∙ set-new (port_with l s m u) t rest (λ e. eqb-false m m' h (ap mtu_of e))
+      ∙ ap (λ cs. Set t ∷ cs) (sym (set_none t (set_to t t rest) ∙ set_none t rest))
 
   nothing-due : (s m : ℕ) (u : Bool) → sets s m u s m u ≡ []
-  nothing-due s m u = let t = port_with l s m u in set-none t (set_to t t (set_to t t [])) ∙ set-none t (set_to t t []) ∙ set-none t []
+  nothing-due s m u = let t = port_with l s m u in set_none t (set_to t t (set_to t t [])) ∙ set_none t (set_to t t []) ∙ set_none t []
 
   up-first : (s m : ℕ) (u u' : Bool) → are_alike u u' ≡ false → sets s m u s m u' ≡ Set (port_with l s m u') ∷ sets s m u' s m u'
   up-first s m u u' h =
       let t = port_with l s m u in
       let v = port_with l s m u' in
-      set-none t (set_to t t (set_to t v [])) ∙ set-none t (set_to t v []) ∙ set-new t v [] (λ e. alike-apart u u' h (ap up_of e))
+      set_none t (set_to t t (set_to t v [])) ∙ set_none t (set_to t v []) ∙ set-new t v [] (λ e. alike-apart u u' h (ap up_of e))
       ∙ ap (λ cs. Set v ∷ cs) (sym (nothing-due s m u'))
 
 -- where a value differs it is set first, by which the port stands as for the row with it

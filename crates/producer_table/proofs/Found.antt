@@ -14,7 +14,6 @@ use Rattle.std.proofs.lemmas.Map.Lookups.{CmpEqualImpliesEq}
 use Rattle.std.proofs.lemmas.Option.{none-some, same_Some}
 use Rattle.table_schema.specs.Fields.{HasRisingKeys}
 use Rattle.table_schema.proofs.Places.{above_more}
-use Rattle.swss_types.proofs.Choices.{by_equal, by_greater}
 
 module _ {K X : Type 0} (cmp : K → K → Ordering) where
   keys_above : (k : K) (es : List (K × X)) → AllByRecursion (λ e. cmp k e.0 ≡ Less) es → AllByRecursion (λ y. cmp k y ≡ Less) (keys_of es)
@@ -28,24 +27,6 @@ module _ {K X : Type 0} (cmp : K → K → Ordering) where
   sorted_from_rising (e ∷ es) h = (keys_above e.0 es h.0, sorted_from_rising es h.1)
 
 module _ {K X : Type 0} (cmp : K → K → Ordering) (o : IsTotalOrder cmp) where
-  insert_step : (p : K × X) (es : List (K × X)) (k : K) (v : X) (q : K) (r : Ordering) → cmp k p.0 ≡ r
-      → lookup (is_at (cmp q)) (insert_entry cmp es k v) ≡ cond (is_at (cmp q) k) (Some v) (lookup (is_at (cmp q)) es)
-      → lookup (is_at (cmp q)) (match_ordering r ((k, v) ∷ p ∷ es) ((p.0, v) ∷ es) (p ∷ insert_entry cmp es k v)) ≡ cond (is_at (cmp q) k) (Some v) (lookup (is_at (cmp q)) (p ∷ es))
-  insert_step p es k v q Less e h = refl
-  insert_step p es k v q Equal e h =
-      let alike : is_at (cmp q) p.0 ≡ is_at (cmp q) k = (eq_by_cmp_equiv o).symm q p.0 ∙ sym ((eq_by_cmp_equiv o).congr k p.0 q (ap is_eq e)) ∙ (eq_by_cmp_equiv o).symm k q in
-      by_equal (is_at (cmp q) k) (is_at (cmp q) p.0) v p.1 (lookup (is_at (cmp q)) es) alike
-  insert_step p es k v q Greater e h =
-      let apart : is_at (cmp q) k ≡ true → is_at (cmp q) p.0 ≡ true → ⊥ = λ a b.
-      let same : is_eq (cmp k p.0) ≡ true = sym ((eq_by_cmp_equiv o).congr q k p.0 a) ∙ b in
-      let not = ap is_eq e in cc in
-      ap (λ x. cond (is_at (cmp q) p.0) (Some p.1) x) h ∙ by_greater (is_at (cmp q) k) (is_at (cmp q) p.0) v p.1 (lookup (is_at (cmp q)) es) apart
-
-  -- what is found after an entry was put
-  pub lookup-put : (es : List (K × X)) (k : K) (v : X) (q : K) → lookup (is_at (cmp q)) (insert_entry cmp es k v) ≡ cond (is_at (cmp q) k) (Some v) (lookup (is_at (cmp q)) es)
-  lookup-put [] k v q = refl
-  lookup-put (p ∷ es) k v q = insert_step p es k v q (cmp k p.0) refl (lookup-put es k v q)
-
   -- what is found after an entry was removed
   pub lookup-removed : (es : List (K × X)) (k q : K) → HasRisingKeys cmp es → lookup (is_at (cmp q)) (remove_entry (is_at (cmp k)) es) ≡ cond (is_at (cmp q) k) None (lookup (is_at (cmp q)) es)
   lookup-removed es k q h =

@@ -5,6 +5,8 @@ use Rattle.std.specs.List.{AllByRecursion}
 use Rattle.std.specs.Map.{lookup}
 use Rattle.std.specs.declared.cmp.Ordering.{Ordering}
 use Rattle.std.specs.declared.cmp.Ordering.TheVariants.{Less}
+use Rattle.swss_types.proofs.Truths.{or_none}
+use Rattle.swss_types.proofs.Maps.{lookup-insert_entry}
 use Rattle.table_schema.specs.Fields.{Pairs, HasRisingKeys, HasRisingNames, merged}
 use Rattle.table_schema.specs.Key.{key_cmp}
 use Rattle.table_schema.specs.Rows.{Rows, HasRisingRows, after_write, after_writes, fields_at}
@@ -14,13 +16,13 @@ use Rattle.table_schema.specs.declared.write.Write.TheVariants.{Set, Del}
 use Rattle.table_schema.proofs.Keys.{key_exact, key_total, tied_keys_same}
 use Rattle.table_schema.proofs.LastValues.{HasRisingNames-merged}
 use Rattle.table_schema.proofs.Places.{HasRisingKeys-insert_entry}
-use Rattle.table_schema.proofs.RowLists.{HasRisingRows-after_write}
+use Rattle.table_schema.proofs.RowLists.{HasRisingRows-after_write, HasRisingRows-after_writes}
 use Rattle.producer_table.specs.declared.key_op.KeyOp.{KeyOp}
 use Rattle.producer_table.specs.declared.waiting.Pending.{Pending}
 use Rattle.producer_table.specs.Pending.{PendingKeys, AreInOrder, HaveRisingNames, has_write, is_write_of, laid_over, nothing_pending, op_of, ops_of, pending_after, pending_after_all, pending_at, pending_fields, pending_of, row_with_fields, row_with_pending, set_of, with_ops, with_pending, writes_of_op, writes_of_ops}
-use Rattle.producer_table.proofs.Found.{each-found, each-put, lookup-above, lookup-put, same_entries}
+use Rattle.producer_table.proofs.Found.{each-found, each-put, lookup-above, same_entries}
 use Rattle.producer_table.proofs.Merging.{merged-merged}
-use Rattle.producer_table.proofs.RowWrites.{HasRisingRows-after_writes, after_writes-append, fields_at-after_write, row_after}
+use Rattle.producer_table.proofs.RowWrites.{after_writes-append, fields_at-after_write, row_after}
 
 -- what a write makes of what waits of a key
 abbrev more : Key → Write → Pending → Pending
@@ -36,7 +38,7 @@ pending_at_key true q k pending fields same = ap (λ x. laid_over (pending_at pe
 pending_at_key false q k pending fields same = refl
 
 pending_put_at : (pending : PendingKeys) (k q : Key) (p : Pending) → pending_at (insert_entry key_cmp pending k p) q ≡ cond (is_at (key_cmp q) k) p (pending_at pending q)
-pending_put_at pending k q p = ap (λ o. unwrap_or o nothing_pending) (lookup-put key_cmp key_total pending k p q) ∙ or_nothing (is_at (key_cmp q) k) p (lookup (is_at (key_cmp q)) pending)
+pending_put_at pending k q p = ap (λ o. unwrap_or o nothing_pending) (lookup-insert_entry key_cmp key_total pending k p q) ∙ or_nothing (is_at (key_cmp q) k) p (lookup (is_at (key_cmp q)) pending)
 
 pending_at-after : (pending : PendingKeys) (w : Write) (q : Key) → pending_at (pending_after pending w) q ≡ more q w (pending_at pending q)
 pending_at-after pending (Set k fields) q = pending_put_at pending k q (laid_over (pending_at pending k) fields) ∙ pending_at_key (is_at (key_cmp q) k) q k pending fields (tied_keys_same q k)
@@ -162,12 +164,8 @@ put_or false v rest = refl
 
 -- a key waits exactly where one of the writes is of it
 found-after : (pending : PendingKeys) (w : Write) (q : Key) → is_some (lookup (is_at (key_cmp q)) (pending_after pending w)) ≡ (is_write_of q w || is_some (lookup (is_at (key_cmp q)) pending))
-found-after pending (Set k fields) q = ap is_some (lookup-put key_cmp key_total pending k (laid_over (pending_at pending k) fields) q) ∙ put_or (is_at (key_cmp q) k) (laid_over (pending_at pending k) fields) (lookup (is_at (key_cmp q)) pending)
-found-after pending (Del k) q = ap is_some (lookup-put key_cmp key_total pending k (record { dropped = true; fields = None }) q) ∙ put_or (is_at (key_cmp q) k) (record { dropped = true; fields = None }) (lookup (is_at (key_cmp q)) pending)
-
-or_false : (b : Bool) → (b || false) ≡ b
-or_false true = refl
-or_false false = refl
+found-after pending (Set k fields) q = ap is_some (lookup-insert_entry key_cmp key_total pending k (laid_over (pending_at pending k) fields) q) ∙ put_or (is_at (key_cmp q) k) (laid_over (pending_at pending k) fields) (lookup (is_at (key_cmp q)) pending)
+found-after pending (Del k) q = ap is_some (lookup-insert_entry key_cmp key_total pending k (record { dropped = true; fields = None }) q) ∙ put_or (is_at (key_cmp q) k) (record { dropped = true; fields = None }) (lookup (is_at (key_cmp q)) pending)
 
 or_rotated : (a b c : Bool) → ((b || a) || c) ≡ (a || (b || c))
 or_rotated true true c = refl
@@ -176,7 +174,7 @@ or_rotated false true c = refl
 or_rotated false false c = refl
 
 found-after_all : (pending : PendingKeys) (ws : List Write) (q : Key) → is_some (lookup (is_at (key_cmp q)) (pending_after_all pending ws)) ≡ (is_some (lookup (is_at (key_cmp q)) pending) || has_write q ws)
-found-after_all pending [] q = sym (or_false (is_some (lookup (is_at (key_cmp q)) pending)))
+found-after_all pending [] q = sym (or_none (is_some (lookup (is_at (key_cmp q)) pending)))
 found-after_all pending (w ∷ ws) q =
     found-after_all (pending_after pending w) ws q ∙ ap (λ b. b || has_write q ws) (found-after pending w q) ∙ or_rotated (is_some (lookup (is_at (key_cmp q)) pending)) (is_write_of q w) (has_write q ws)
 

@@ -23,7 +23,7 @@ pub name_total : IsTotalOrder name_cmp
 name_total = name_laws.total-law
 
 module _ (n : Name) (f : Registered → Registered) where
-  changed_step : (e : Name × Registered) (r : Ordering) → name_cmp n e.0 ≡ r → changed_at n f e ≡ cond (is_eq r) (e.0, f e.1) e
+  pub changed_step : (e : Name × Registered) (r : Ordering) → name_cmp n e.0 ≡ r → changed_at n f e ≡ cond (is_eq r) (e.0, f e.1) e
   changed_step e r h = ap (λ o. cond (is_eq o) (e.0, f e.1) e) h
 
   changed-above : (m : Name) → name_cmp n m ≡ Equal → (names : Names) → AllByRecursion (λ e. name_cmp m e.0 ≡ Less) names → changed names n f ≡ names

@@ -7,6 +7,8 @@ use Rattle.std.specs.Ordering.{is_eq, ordering_reverse}
 use Rattle.std.specs.declared.cmp.Ordering.{Ordering}
 use Rattle.std.specs.declared.cmp.Ordering.TheVariants.{Less, Equal, Greater}
 use Rattle.std.proofs.lemmas.Cmp.{tied_itself}
+use Rattle.std.proofs.lemmas.Bool.{cond-false}
+use Rattle.swss_types.proofs.Tied.{tied}
 use Rattle.table_schema.proofs.Places.{find_step, put_step}
 use Rattle.table_schema.specs.declared.key.Key.{Key}
 use Rattle.sai_types.proofs.Maps.{lookup-removed}
@@ -60,11 +62,6 @@ found-released (e ∷ es) worker used n =
       | false ↦ rest
     ]
 
-eq_equal : (o : Ordering) → is_eq o ≡ true → o ≡ Equal
-eq_equal Less h = cc
-eq_equal Equal h = refl
-eq_equal Greater h = cc
-
 eq_back : (o : Ordering) → is_eq (ordering_reverse o) ≡ is_eq o
 eq_back Less = refl
 eq_back Equal = refl
@@ -72,7 +69,7 @@ eq_back Greater = refl
 
 -- a name that is one name is no other
 pub apart_from : (n m k : Name) → is_at (name_cmp n) m ≡ false → is_at (name_cmp n) k ≡ true → is_at (name_cmp m) k ≡ false
-apart_from n m k other is = ap is_eq (name_total.antisymm m k) ∙ eq_back (name_cmp k m) ∙ ap is_eq (sym (name_total.congr n k m (eq_equal (name_cmp n k) is))) ∙ other
+apart_from n m k other is = ap is_eq (name_total.antisymm m k) ∙ eq_back (name_cmp k m) ∙ ap is_eq (sym (name_total.congr n k m (tied (name_cmp n k) is))) ∙ other
 
 -- what a change leaves of what is known of a name, it leaves of each name
 module _ {X : Type 0} (h : Option Registered → X) (f : Registered → Registered) (same : (r : Registered) → h (Some (f r)) ≡ h (Some r)) where
@@ -104,11 +101,7 @@ gone-absent names n sorted retiring =
     ∙ ap state_in (removed-found names n n sorted)
     ∙ removed-state (is_at (name_cmp n) n) (registered_at names n) (ap is_eq (tied_itself name_total n))
 
-removed-others : (b : Bool) (o : Option Registered) → b ≡ false → cond b None o ≡ o
-removed-others true o is = cc
-removed-others false o is = refl
-
 pub gone-others : (names : Names) (n m : Name) → IsStrictlySortedBy name_cmp (keys_of names) → is_at (name_cmp n) m ≡ false → registered_at (gone_from names n) m ≡ registered_at names m
 gone-others names n m sorted other =
-    let removed = removed-found names n m sorted ∙ removed-others (is_at (name_cmp n) m) (registered_at names m) other in
+    let removed = removed-found names n m sorted ∙ cond-false (is_at (name_cmp n) m) None (registered_at names m) other in
     elim (is_retiring (state_of names n)) as (λ b. registered_at (cond b (remove_entry (is_at (name_cmp n)) names) names) m ≡ registered_at names m) [ true ↦ removed | false ↦ refl ]

@@ -6,7 +6,7 @@ use Rattle.std.specs.Map.{lookup, remove_entry}
 use Rattle.std.specs.declared.alloc.Global.{Global}
 use Rattle.std.specs.Ordering.{is_eq, match_ordering, nat_cmp}
 use Rattle.std.specs.declared.cmp.Ordering.TheVariants.{Less, Equal, Greater}
-use Rattle.std.proofs.lemmas.Bool.{eqb-true, false≢true, or_right}
+use Rattle.std.proofs.lemmas.Bool.{eqb-true, false≢true, or_left, or_right}
 use Rattle.std.proofs.lemmas.Cmp.{nat_cmp_total, nat_eq_equiv, tied_itself}
 use Rattle.std.specs.Cmp.{unsigned_tied}
 use Rattle.table_schema.specs.declared.key.Key.{Key}
@@ -15,10 +15,6 @@ use Rattle.ref_counts.specs.declared.name.Name.TheVariants as name
 use Rattle.ref_counts.specs.declared.pin.Pin.{Pin}
 use Rattle.ref_counts.specs.Registered.{Registered, with_pin}
 use Rattle.ref_counts.specs.Registry.{AreNoted, IsNoted, Names, Noted, changed, changed_at, gone_from, is_among, is_retiring, items_in, name_cmp, noted_by, pinned, state_of}
-
-pub or_left : (a b : Bool) → a ≡ true → (a || b) ≡ true
-or_left true b h = refl
-or_left false b h = absurd (false≢true h)
 
 pub or_more : (a b d : Bool) → (b ≡ true → d ≡ true) → (a || b) ≡ true → (a || d) ≡ true
 or_more true b d f h = refl

@@ -8,20 +8,8 @@ use Rattle.sai_types.specs.declared.kind.Kind.{Kind}
 use Rattle.sai_types.specs.declared.kind.Kind.TheVariants as kind
 use Rattle.sai_types.specs.Objects.{level}
 use Rattle.sai_types.specs.Refusal.{capacity_of}
+use Rattle.sai_types.proofs.Levels.{level_within}
 use Rattle.ref_counts.specs.Room.{IsWithin, RoomState, first_lacking, kinds, lacking, lacks, number_of, places_by, places_in_all}
-
-pub level_within : (k : Kind) → level k < 11
-level_within kind.Port = omega arith
-level_within kind.Vlan = omega arith
-level_within kind.BridgePort = omega arith
-level_within kind.VlanMember = omega arith
-level_within kind.Rif = omega arith
-level_within kind.OwnAddress = omega arith
-level_within kind.Neighbor = omega arith
-level_within kind.NextHop = omega arith
-level_within kind.Group = omega arith
-level_within kind.GroupMember = omega arith
-level_within kind.Route = omega arith
 
 -- what holds of each kind of the list holds of each kind
 each_kind : (P : Kind → Type 0) → AllByRecursion P kinds → (k : Kind) → P k

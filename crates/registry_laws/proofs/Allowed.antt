@@ -14,6 +14,7 @@ use Rattle.table_schema.specs.declared.row.Row.{Row}
 use Rattle.table_schema.proofs.Places.{find_step}
 use Rattle.sai_types.specs.Alike.{IsIn}
 use Rattle.switch_model.specs.Desired.{have_rows}
+use Rattle.switch_model.proofs.Ready.{have_rows-from_missing}
 use Rattle.row_layout.specs.Operations.{uses_of}
 use Rattle.row_layout.specs.Rows as owner
 use Rattle.row_layout.specs.Rows.{Owner}
@@ -38,7 +39,7 @@ use Rattle.registry_laws.specs.Flying.{KnowsBoard}
 use Rattle.registry_laws.specs.Known.{IsPinOf, RowStands, SharedStands, pins_at}
 use Rattle.registry_laws.proofs.Finding.{none_below}
 use Rattle.registry_laws.proofs.Listing.{not_some}
-use Rattle.registry_laws.proofs.Telling.{have-of_missing, row_at, shared_at, unapplied_is}
+use Rattle.registry_laws.proofs.Telling.{row_at, shared_at, unapplied_is}
 
 -- ---- each entry is found under its name
 
@@ -135,7 +136,7 @@ module _ (plan : Ports) (is : IsPlan plan) (capacities : List ℕ) (s : SwitchSt
     applied = live;
     some = λ old new. differs (old ∙ sym new);
     old_fits = λ r at. kept.sound.board.fit k r (inl at);
-    new_fits = λ r good h. fits r good (have-of_missing m.board.applied (names_of k r) (sym (unapplied_is plan is 4 capacities m kept.sound names room board.registers board.busy (names_of k r)) ∙ h));
+    new_fits = λ r good h. fits r good (have_rows-from_missing m.board.applied (names_of k r) (sym (unapplied_is plan is 4 capacities m kept.sound names room board.registers board.busy (names_of k r)) ∙ h));
     shares = λ o h. let r = use_row_in plan k (good_of plan s.written k) o h in shares o (are_shared_by plan is k r.0 o r.2);
     shared = shared_live;
   }

@@ -1,6 +1,7 @@
 -- what other workers have under way stays as it was
 use Rattle.std.proofs.Common.{◌≡◌, ◌⊎◌, ◌++◌, ◌∙◌, inl, inr, ℕ, ◌==◌, Bool, true, false, List, Option, None, Some, if◌then◌else◌, refl, sym, ap, subst}
 use Rattle.std.proofs.lemmas.Bool.{eq-eqb, eqb-true}
+use Rattle.std.proofs.lemmas.Option.{same_Some}
 use Rattle.table_schema.specs.Plan.{IsPlan, Ports}
 use Rattle.table_schema.specs.declared.row.Row.{Row}
 use Rattle.sai_types.specs.declared.hop.Hop.{Hop}
@@ -16,7 +17,7 @@ use Rattle.switch_machine.specs.Consistent.{IsConsistent}
 use Rattle.switch_machine.specs.Flights.{Concerns, Fits, MachineFlight, HasChangeOf, IsOwnedBy, Machine, StandsIn, own_of, put}
 use Rattle.switch_machine.specs.Steps.{Moves, finished, left, moved, parted, started}
 use Rattle.switch_machine.proofs.Moving.{its}
-use Rattle.switch_machine.proofs.Running.{one_flight, one_owner, row_keys, shared_row, stays}
+use Rattle.switch_machine.proofs.Running.{one_owner, row_keys, shared_row, stays}
 use Rattle.switch_machine.proofs.Splits.{IsPut, New, Old, own_row_in, put_by, put_off, row_off, use_row_in}
 use Rattle.switch_machine.proofs.Tabled.{are_shared_by, tabled}
 use Rattle.ref_counts.specs.declared.name.Name.TheVariants as name
@@ -86,13 +87,13 @@ module _ (plan : Ports) (is : IsPlan plan) (m : Machine) (sound : IsConsistent p
   building_is o v g state.Live s at t other = absurd (s.1 v g at t)
   building_is o v g (state.Retiring u) s at t other =
       let same = touched-one plan is m sound u v s.0 g o s.1 at s.2 t in
-      absurd (other (subst (λ (z : MachineFlight). z.retires ≡ Some o) (one_flight s.0 g (sym s.1 ∙ ap m.board.flights same ∙ at)) s.3))
+      absurd (other (subst (λ (z : MachineFlight). z.retires ≡ Some o) (same_Some s.0 g (sym s.1 ∙ ap m.board.flights same ∙ at)) s.3))
 
   pub retiring_is : (o : Owner) (v : ℕ) (g : MachineFlight) (st : NameState) → SharedStands plan m o st → m.board.flights v ≡ Some g → HasChangeOf plan (m.due v) o → g.retires ≡ Some o → st ≡ state.Retiring v
   retiring_is o v g state.Absent s at t mine = absurd (s.1 v g at t)
   retiring_is o v g (state.Building u) s at t mine =
       let same = touched-one plan is m sound u v s.0 g o s.1 at s.2 t in
-      absurd (s.3 (subst (λ (z : MachineFlight). z.retires ≡ Some o) (one_flight g s.0 (sym at ∙ ap m.board.flights (sym same) ∙ s.1)) mine))
+      absurd (s.3 (subst (λ (z : MachineFlight). z.retires ≡ Some o) (same_Some g s.0 (sym at ∙ ap m.board.flights (sym same) ∙ s.1)) mine))
   retiring_is o v g state.Live s at t mine = absurd (s.1 v g at t)
   retiring_is o v g (state.Retiring u) s at t mine = ap state.Retiring (touched-one plan is m sound u v s.0 g o s.1 at s.2 t)
 

@@ -1,5 +1,6 @@
 -- the machine when an operation has started
 use Rattle.std.proofs.Common.{◌≡◌, ◌⊎◌, ◌∷◌, ◌∙◌, inl, inr, ℕ, List, [], None, Some, refl, sym, ap, ap₂, subst}
+use Rattle.std.proofs.lemmas.Option.{same_Some}
 use Rattle.table_schema.specs.Names.{names_of}
 use Rattle.table_schema.specs.Plan.{IsPlan, Ports}
 use Rattle.table_schema.specs.declared.key.Key.{Key}
@@ -16,8 +17,8 @@ use Rattle.switch_machine.specs.Flights.{MachineBoard, Can, Concerns, CountsAsUs
 use Rattle.switch_machine.specs.Operations.{MayBegin}
 use Rattle.switch_machine.specs.Steps.{Starts, started}
 use Rattle.switch_machine.specs.Tables.{TableLaws}
-use Rattle.switch_machine.proofs.Beginning.{starts}
-use Rattle.switch_machine.proofs.Running.{no_flight, one_flight, one_owner, shared_of, shared_row, stays}
+use Rattle.switch_machine.proofs.Beginning.{starts, touched_concern}
+use Rattle.switch_machine.proofs.Running.{no_flight, one_owner, shared_of, shared_row, stays}
 use Rattle.switch_machine.proofs.Splits.{IsPut, IsSplit, New, Old, key_split, put_at, put_by, put_off}
 use Rattle.switch_machine.proofs.Tabled.{tabled}
 use Rattle.ref_counts.specs.declared.name.NameState.{NameState}
@@ -25,7 +26,6 @@ use Rattle.ref_counts.specs.declared.name.NameState.TheVariants as state
 use Rattle.ref_counts.specs.declared.pin.Pin.{Pin}
 use Rattle.registry_laws.specs.Known.{IsPinOf, RowStands, SharedStands}
 use Rattle.registry_laws.proofs.Listing.{not_some}
-use Rattle.registry_laws.proofs.Telling.{touched-concern}
 
 -- of what stands whole no change is due
 module _ (plan : Ports) (tables : TableLaws plan) (f : MachineFlight) (fit : (r : Row) → f.new ≡ Some r → Fits plan f.key r) (none : f.retires ≡ None) (p : Owner) (shared : IsShared p) where
@@ -84,14 +84,14 @@ module _ (plan : Ports) (is : IsPlan plan) (m : Machine) (sound : IsConsistent p
   resting_now p other rests v g at same = of (by v g at)
     where
       of : IsPut w v (Some f) b.flights (Some g) → ⊥
-      of (New e one) = other (ap (λ (z : MachineFlight). z.key) (one_flight f g one) ∙ same)
+      of (New e one) = other (ap (λ (z : MachineFlight). z.key) (same_Some f g one) ∙ same)
       of (Old off there) = rests v g there same
 
   firm_now : (p : Key) → IsFirm b p → (f.key ≡ p → f.new ≡ None → ⊥) → IsFirm b' p
   firm_now p firm mine = record { row = firm.row; applied = firm.applied; stays = λ v g at same none. of v g same none (by v g at) }
     where
       of : (v : ℕ) (g : MachineFlight) → g.key ≡ p → g.new ≡ None → IsPut w v (Some f) b.flights (Some g) → ⊥
-      of v g same none (New e one) = let x = one_flight f g one in mine (ap (λ (z : MachineFlight). z.key) x ∙ same) (ap (λ (z : MachineFlight). z.new) x ∙ none)
+      of v g same none (New e one) = let x = same_Some f g one in mine (ap (λ (z : MachineFlight). z.key) x ∙ same) (ap (λ (z : MachineFlight). z.new) x ∙ none)
       of v g same none (Old off there) = firm.stays v g there same none
 
   pub row_stands : (p : Key) (st : NameState) → (f.key ≡ p → ⊥) → RowStands m p st → RowStands later p st
@@ -119,7 +119,7 @@ module _ (plan : Ports) (is : IsPlan plan) (m : Machine) (sound : IsConsistent p
 
       of : IsPut w q.worker (Some f) b.flights (Some g) → IsPinOf b p q ⊎ ((q ≡ record { worker = w; user = f.key }) × ((r : Row) × (f.new ≡ Some r) × IsIn p (names_of f.key r)))
       of (New e one) =
-          let x = one_flight f g one in
+          let x = same_Some f g one in
           let key = ap (λ (z : MachineFlight). z.key) x in
           inr (ap₂ pin e (sym (key ∙ same)), (r, ap (λ (z : MachineFlight). z.new) x ∙ new, subst (λ z. IsIn p (names_of z r)) (sym key) h))
       of (Old off there) = inl (g, there, same, (r, new, h))
@@ -141,7 +141,7 @@ module _ (plan : Ports) (is : IsPlan plan) (m : Machine) (sound : IsConsistent p
       mine e (inr h) = inl (inr (λ v g at x. begins.rests v g at (x ∙ sym e), subst (λ q. IsIn o (uses_of plan q (b.applied q))) e (begins.leaves o h).0))
 
       of : IsPut w v (Some f) b.flights (Some g) → IsUser plan b k o ⊎ ((f.key ≡ k) × IsIn o (uses_of plan f.key f.new))
-      of (New e one) = let x = one_flight f g one in mine (ap (λ (z : MachineFlight). z.key) x ∙ same) (subst (λ z. CountsAsUser plan z o) (sym x) counts)
+      of (New e one) = let x = same_Some f g one in mine (ap (λ (z : MachineFlight). z.key) x ∙ same) (subst (λ z. CountsAsUser plan z o) (sym x) counts)
       of (Old other there) = inl (inl (v, g, there, same, counts))
 
   pub user_now : (k : Key) (o : Owner) → IsUser plan b k o → IsUser plan b' k o
@@ -178,7 +178,7 @@ module _ (plan : Ports) (is : IsPlan plan) (m : Machine) (sound : IsConsistent p
 
   -- the operation changes nothing of what neither its new row shares nor anybody builds
   pub not_concerned : (o : Owner) → IsShared o → (IsIn o (uses_of plan f.key f.new) → ⊥) → HasChangeOf plan due o → ⊥
-  not_concerned o shared none t = of (touched-concern plan T f begins.fit due (StandsIn m) o start.runs t)
+  not_concerned o shared none t = of (touched_concern plan T f begins.fit due (StandsIn m) o start.runs t)
     where
       of : Concerns plan f o → ⊥
       of (inl e) = shared_row o f.key shared e
@@ -192,7 +192,7 @@ module _ (plan : Ports) (is : IsPlan plan) (m : Machine) (sound : IsConsistent p
   retiring_now was v g o c at retires h = of (by v g at)
     where
       of : IsPut w v (Some f) b.flights (Some g) → IsOwnedBy plan (changed_name c) o
-      of (New e one) = not_some o (sym begins.none ∙ ap (λ (z : MachineFlight). z.retires) (one_flight f g one) ∙ retires)
+      of (New e one) = not_some o (sym begins.none ∙ ap (λ (z : MachineFlight). z.retires) (same_Some f g one) ∙ retires)
       of (Old other there) = was v g o c there retires (subst (IsIn c) (due_old v other) h)
 
   pub below_now : (workers : ℕ → Type 0) → workers w → ((v : ℕ) (g : MachineFlight) → b.flights v ≡ Some g → workers v) → (v : ℕ) (g : MachineFlight) → b'.flights v ≡ Some g → workers v

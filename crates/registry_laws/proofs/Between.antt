@@ -1,5 +1,5 @@
 -- before the first event, and between events
-use Rattle.std.proofs.Common.{◌≡◌, ◌∷◌, ◌+◌, ◌*◌, ◌≤◌, ◌∙◌, inl, inr, ℕ, zero, suc, List, [], replicate, slice_index, None, Some, refl, sym, ap, subst}
+use Rattle.std.proofs.Common.{◌≡◌, ◌+◌, ◌*◌, ◌≤◌, ◌∙◌, inl, inr, ℕ, zero, suc, List, [], replicate, slice_index, None, Some, refl, sym, ap, subst}
 use Rattle.table_schema.specs.Plan.{IsPlan, Ports}
 use Rattle.table_schema.specs.declared.key.Key.{Key}
 use Rattle.sai_types.specs.declared.ids.Rid.{Rid}
@@ -15,7 +15,7 @@ use Rattle.switch_machine.specs.Steps.{left, moved, parted, started}
 use Rattle.switch_machine.proofs.Splits.{IsPut, IsSplit, New, Old, nat_split, put_at, put_by, put_off}
 use Rattle.ref_counts.specs.Room.{all_free}
 use Rattle.registry_laws.specs.Registers.{HaveDue, OthersHaveDue, Registers}
-use Rattle.registry_laws.proofs.Listing.{none_rising, not_some}
+use Rattle.registry_laws.proofs.Listing.{none_rising, not_some, some_of_due}
 use Rattle.registry_laws.proofs.Parting as parting
 
 -- ---- nothing
@@ -59,14 +59,11 @@ due_started m w f due have v g other at none = have v g (sym (put_off w v (Some 
 pub due_moved : (m : Machine) (w : ℕ) (cs : List Change) (stands : List (Rid × Thing)) → HaveDue m → OthersHaveDue (moved m w cs stands) w
 due_moved m w cs stands have v g other at none = have v g at (sym (put_off w v cs m.due other) ∙ none)
 
-some_due : {X : Type 0} (c : Change) (cs : List Change) → c ∷ cs ≡ [] → X
-some_due c cs h = absurd cc
-
 pub due_follows : (plan : Ports) (m : Machine) (w : ℕ) (t : Machine) → IsPlan plan → IsConsistent plan m → OthersHaveDue m w → Follows plan w m t → HaveDue t
 due_follows plan m w _ is sound have (Due c cs at) v g flying none = by (nat_split v w)
   where
     by : IsSplit v w → ⊥
-    by (inl same) = some_due c cs (sym at ∙ ap m.due (sym same) ∙ none)
+    by (inl same) = some_of_due c cs (sym at ∙ ap m.due (sym same) ∙ none)
     by (inr apart) = have v g apart flying none
 due_follows plan m w _ is sound have (Ended f ends) v g flying none = by (put_by w v None m.board.flights (Some g) flying)
   where

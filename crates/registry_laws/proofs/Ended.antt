@@ -1,6 +1,7 @@
 -- the registry stands for the machine when an operation has ended
 use Rattle.std.proofs.Common.{◌≡◌, ◌⊎◌, ◌<◌, ◌∙◌, inl, inr, ℕ, true, List, [], Option, None, Some, option_map, refl, sym, ap, subst}
 use Rattle.std.specs.List.Sorted.{IsStrictlySortedBy}
+use Rattle.std.proofs.lemmas.Option.{same_Some}
 use Rattle.table_schema.specs.Fields.{HasRisingKeys}
 use Rattle.table_schema.specs.Key.{key_cmp}
 use Rattle.table_schema.specs.Names.{names_of}
@@ -16,7 +17,7 @@ use Rattle.switch_machine.specs.Consistent.{IsConsistent}
 use Rattle.switch_machine.specs.Flights.{CountsAsUser, MachineFlight, HasChangeOf, IsFirm, IsResting, IsRow, IsShared, IsUser, Machine, put}
 use Rattle.switch_machine.specs.Places.{makes}
 use Rattle.switch_machine.specs.Steps.{Ends, finished}
-use Rattle.switch_machine.proofs.Running.{one_flight, row_keys, shared_row}
+use Rattle.switch_machine.proofs.Running.{row_keys, shared_row}
 use Rattle.switch_machine.proofs.Splits.{IsPut, IsSplit, New, Old, key_split, nat_split, put_at, put_by, put_off, row_at, row_off}
 use Rattle.ref_counts.specs.declared.name.Name.TheVariants as name
 use Rattle.ref_counts.specs.declared.name.NameState.{NameState}
@@ -79,7 +80,7 @@ module _ (plan : Ports) (m : Machine) (sound : IsConsistent plan m) (w : ℕ) (f
 
   -- the worker's flight is this one
   its : (v : ℕ) (h : MachineFlight) → m.board.flights v ≡ Some h → v ≡ w → f ≡ h
-  its v h at same = one_flight f h (sym ends.flying ∙ ap m.board.flights (sym same) ∙ at)
+  its v h at same = same_Some f h (sym ends.flying ∙ ap m.board.flights (sym same) ∙ at)
 
   -- another key's operation is another worker's
   apart_of : (p : Key) (v : ℕ) (h : MachineFlight) → (f.key ≡ p → ⊥) → m.board.flights v ≡ Some h → h.key ≡ p → v ≡ w → ⊥

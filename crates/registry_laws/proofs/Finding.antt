@@ -12,10 +12,11 @@ use Rattle.table_schema.proofs.Keys.{key_exact}
 use Rattle.table_schema.proofs.Places.{out_step, put_step}
 use Rattle.sai_types.specs.Alike.{IsIn}
 use Rattle.sai_types.proofs.Rising.{hops_exact}
+use Rattle.sai_types.proofs.Membership.{in-either as in_both, in-left as in_left, in-right as in_right}
 use Rattle.row_layout.specs.Rows as owner
 use Rattle.row_layout.specs.Rows.{Owner}
 use Rattle.switch_machine.proofs.Running.{row_keys}
-use Rattle.switch_machine.proofs.Splits.{IsSplit, in_both, key_split}
+use Rattle.switch_machine.proofs.Splits.{IsSplit, key_split}
 use Rattle.ref_counts.specs.declared.name.Name.{Name}
 use Rattle.ref_counts.specs.declared.name.Name.TheVariants as name
 use Rattle.ref_counts.specs.declared.pin.Pin.{Pin}
@@ -34,7 +35,7 @@ use Rattle.table_schema.specs.Names.{names_of}
 use Rattle.table_schema.specs.declared.row.Row.{Row}
 use Rattle.swss_types.proofs.AddressOrders.{ip_exact}
 use Rattle.registry_laws.specs.Known.{pins_at}
-use Rattle.registry_laws.proofs.Listing.{in_left, in_right, never_none, not_some}
+use Rattle.registry_laws.proofs.Listing.{never_none, not_some}
 
 -- ---- owners have names of their own
 

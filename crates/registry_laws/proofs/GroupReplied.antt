@@ -8,6 +8,7 @@ use Rattle.sai_types.specs.declared.ids.Rid.{Rid}
 use Rattle.sai_types.specs.declared.ids.Vid.{Vid}
 use Rattle.sai_types.specs.declared.thing.Thing.{Thing}
 use Rattle.sai_types.specs.Alike.{IsIn}
+use Rattle.sai_types.proofs.Membership.{in-left, in-right}
 use Rattle.row_layout.specs.Operations.{Change, uses_of}
 use Rattle.row_layout.specs.Rows as owner
 use Rattle.row_layout.specs.Rows.{Owner}
@@ -19,7 +20,7 @@ use Rattle.switch_machine.specs.Flights.{MachineFlight, HasChangeOf, IsOwnedBy, 
 use Rattle.switch_machine.specs.Steps.{Ends, Moves, finished, moved}
 use Rattle.switch_machine.proofs.Ending.{sound-ended}
 use Rattle.switch_machine.proofs.Moving.{sound-moved}
-use Rattle.switch_machine.proofs.Running.{one_flight, one_owner, shared_row, stays}
+use Rattle.switch_machine.proofs.Running.{one_owner, shared_row, stays}
 use Rattle.switch_machine.proofs.Splits.{put_at}
 use Rattle.switch_machine.proofs.Tabled.{tabled}
 use Rattle.ref_counts.specs.declared.name.Name.TheVariants as name
@@ -39,12 +40,12 @@ use Rattle.registry_laws.proofs.Between.{due_follows, due_moved}
 use Rattle.registry_laws.proofs.Ended.{registers_ended}
 use Rattle.registry_laws.proofs.Fine.{AreFine, ended_fine, fine_of, group_fine}
 use Rattle.registry_laws.proofs.Grouped.{taken_group}
-use Rattle.registry_laws.proofs.Listing.{in_left, in_right, never_none, not_some}
+use Rattle.registry_laws.proofs.Listing.{never_none, not_some, some_of_due}
 use Rattle.registry_laws.proofs.Moved.{gone_moved, same_moved, shared_moved}
 use Rattle.registry_laws.proofs.Parting.{removals_of}
 use Rattle.registry_laws.proofs.Replied.{same_first, same_rest}
 use Rattle.registry_laws.proofs.Rests.{none_of_group, rest_order}
-use Rattle.registry_laws.proofs.Settled.{not_built, some_of_due}
+use Rattle.registry_laws.proofs.Settled.{not_built}
 use Rattle.registry_laws.proofs.Taking.{group_due, made_in, row_due}
 
 length_one : {X : Type 0} (xs : List X) (x : X) → length (xs ++ x ∷ []) ≡ suc (length xs)
@@ -86,7 +87,7 @@ module _ (plan : Ports) (is : IsPlan plan) (capacities : List ℕ) (m : Machine)
   rest_is = same_rest c took.change cs (took.rest ++ p.due) due
 
   part_own : (d : Change) → IsIn d part.due → IsOwnedBy plan (changed_name d) o
-  part_own d h = group_own plan is part.hops part.builds d (subst (IsIn d) (sym z.rest.1) (in_right d z.rest.0 part.due h))
+  part_own d h = group_own plan is part.hops part.builds d (subst (IsIn d) (sym z.rest.1) (in-right d z.rest.0 part.due h))
 
   own : IsOwnedBy plan (changed_name c) o
   own = subst (λ d. IsOwnedBy plan (changed_name d) o) same_change (part_own took.change (subst (IsIn took.change) (sym took.due) (inl refl)))
@@ -146,7 +147,7 @@ module _ (plan : Ports) (is : IsPlan plan) (capacities : List ℕ) (m : Machine)
         next : (q : Owner) → IsShared q → IsOwnedBy plan (changed_name c) q → HasChangeOf plan cs q
         next q shared of =
             let same = one_owner plan (changed_name c) o q own of in
-            (d, subst (IsIn d) (sym rest_is) (in_left d took.rest p.due i), subst (IsOwnedBy plan (changed_name d)) same (part_own d (subst (IsIn d) (sym took.due) (inr i))))
+            (d, subst (IsIn d) (sym rest_is) (in-left d took.rest p.due i), subst (IsOwnedBy plan (changed_name d)) same (part_own d (subst (IsIn d) (sym took.due) (inr i))))
 
     -- with another identifier where the group is built
     counted : part.builds ≡ true → length (z.rest.0 ++ took.change ∷ []) ≡ length (with_made part made)
@@ -217,7 +218,7 @@ module _ (plan : Ports) (is : IsPlan plan) (capacities : List ℕ) (m : Machine)
       stays_there retires =
           let st = (built_state names p.worker (group_in (uses_of plan p.key p.new)) part.hops to_be_built).1 in
           let s = subst (SharedStands plan m o) st (board.registers.names_known.shared o tt).stands in
-          s.3 (subst (λ (v : MachineFlight). v.retires ≡ Some o) (one_flight g s.0 (sym moves.flying ∙ s.1)) retires)
+          s.3 (subst (λ (v : MachineFlight). v.retires ≡ Some o) (same_Some g s.0 (sym moves.flying ∙ s.1)) retires)
 
       known_built : Registers plan 4 capacities names' room later
       known_built = subst (λ ns. Registers plan 4 capacities ns room later) (sym (names_by true builds)) (shared_moved plan m w g c cs stands moves 4 capacities names room board.registers is sound o tt own none_left stays_there (with_made part made))

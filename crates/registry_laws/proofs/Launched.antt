@@ -45,10 +45,10 @@ use Rattle.registry_laws.specs.Known.{SharedStands}
 use Rattle.registry_laws.specs.Registers.{Registers, beginning, due_first, group_built}
 use Rattle.registry_laws.proofs.Apart.{built_apart}
 use Rattle.registry_laws.proofs.Aside.{building_is, built_some}
-use Rattle.registry_laws.proofs.Listing.{never_none, not_some}
+use Rattle.registry_laws.proofs.Listing.{never_none, not_some, some_of_due}
 use Rattle.registry_laws.proofs.Nexts.{next_later, next_now, runs_later, sets_by}
 use Rattle.registry_laws.proofs.Rests.{AreInOrder, none_of_group, rest_order}
-use Rattle.registry_laws.proofs.Settled.{not_built, settled_by, settled_names_by, some_of_due}
+use Rattle.registry_laws.proofs.Settled.{not_built, settled_by, settled_names_by}
 use Rattle.registry_laws.proofs.Sharing.{absent_first}
 
 -- ---- a route that comes to a group has a change of its own
@@ -60,7 +60,7 @@ goal_is (Some (a ∷ [])) hops h = elim h [ ]
 goal_is (Some (a ∷ b ∷ rest)) hops (inl e) = let same : hops ≡ a ∷ b ∷ rest = cc in ap (λ z. Some (goal.Group z)) (sym same)
 goal_is (Some (a ∷ b ∷ rest)) hops (inr h) = elim h [ ]
 
-use_is : (x : Option (List Hop)) (hops : List Hop) → goal_by x ≡ Some (goal.Group hops) → IsIn (owner.Group hops) (group_by x)
+pub use_is : (x : Option (List Hop)) (hops : List Hop) → goal_by x ≡ Some (goal.Group hops) → IsIn (owner.Group hops) (group_by x)
 use_is None hops h = not_some (goal.Group hops) h
 use_is (Some []) hops h = not_some (goal.Group hops) h
 use_is (Some (a ∷ [])) hops h = absurd cc

@@ -1,5 +1,6 @@
 -- whether a key was the last user of what it leaves, and what becomes of names
 use Rattle.std.proofs.Common.{◌≡◌, ◌⊎◌, ◌∷◌, ◌∙◌, inl, inr, ℕ, List, [], Option, None, Some, option_map, option_and_then, refl, sym, ap, subst}
+use Rattle.std.proofs.lemmas.Option.{same_Some}
 use Rattle.table_schema.specs.Plan.{IsPlan, Ports}
 use Rattle.table_schema.specs.declared.key.Key.{Key}
 use Rattle.sai_types.specs.Alike.{IsIn}
@@ -13,7 +14,7 @@ use Rattle.switch_machine.specs.Consistent.{IsConsistent}
 use Rattle.switch_machine.specs.Flights.{MachineFlight, HasChangeOf, IsOwnedBy, IsShared, IsUser, Machine}
 use Rattle.switch_machine.specs.Operations.{IsLast}
 use Rattle.switch_machine.specs.Steps.{Leaves, LeavesOthers, left, parted}
-use Rattle.switch_machine.proofs.Running.{one_flight, one_owner, shared_row, some_owner}
+use Rattle.switch_machine.proofs.Running.{one_owner, shared_row}
 use Rattle.switch_machine.proofs.Splits.{IsPut, IsSplit, New, Old, key_split, owner_split, put_at, put_by, put_off}
 use Rattle.ref_counts.specs.declared.name.Name.TheVariants as name
 use Rattle.ref_counts.specs.declared.pin.Pin.{Pin}
@@ -155,7 +156,7 @@ module _ (plan : Ports) (is : IsPlan plan) (m : Machine) (sound : IsConsistent p
           by p h (inr apart) = subst (IsKnownShared plan now p) (sym (same p apart)) (parting.other_known plan is m sound w f o leaving retires due about p (registered_at names (name_for p)) apart (known.names_known.shared p h))
 
           of : (v : ℕ) (h : MachineFlight) (p : Owner) (c : Change) → h.retires ≡ Some p → IsIn c (now.due v) → IsPut w v (Some (parted f retires)) m.board.flights (Some h) → IsOwnedBy plan (changed_name c) p
-          of v h p c r i (New e one) = going_of p c (ap (λ (z : MachineFlight). z.retires) (one_flight (parted f retires) h one) ∙ r) (subst (IsIn c) (put_at w v due m.due e) i)
+          of v h p c r i (New e one) = going_of p c (ap (λ (z : MachineFlight). z.retires) (same_Some (parted f retires) h one) ∙ r) (subst (IsIn c) (put_at w v due m.due e) i)
           of v h p c r i (Old apart there) = known.retiring v h p c there r (subst (IsIn c) (put_off w v due m.due apart) i)
 
     abbrev pub Parts : Type 0
@@ -173,7 +174,7 @@ module _ (plan : Ports) (is : IsPlan plan) (m : Machine) (sound : IsConsistent p
             inl (
               ap (λ z. gone_by z o) e,
               is_last only,
-              subst (λ z. Registers plan workers capacities z room gone_later) (sym is_left) (all_known (Some o) gone_due about_gone (λ p c r i. subst (IsOwnedBy plan (changed_name c)) (some_owner o p r) (parting.removals_of plan is o c i)) (registry.changed without (name_for o) (going w)) (λ p apart. found_off without o p (going w) apart ∙ found_off names o p (without_user f.key) apart) (subst (IsKnownShared plan gone_later o) (sym found) (gone_known (registered_at names (name_for o)) its only))),
+              subst (λ z. Registers plan workers capacities z room gone_later) (sym is_left) (all_known (Some o) gone_due about_gone (λ p c r i. subst (IsOwnedBy plan (changed_name c)) (same_Some o p r) (parting.removals_of plan is o c i)) (registry.changed without (name_for o) (going w)) (λ p apart. found_off without o p (going w) apart ∙ found_off names o p (without_user f.key) apart) (subst (IsKnownShared plan gone_later o) (sym found) (gone_known (registered_at names (name_for o)) its only))),
             )
         by (Some answer) e =
             let other = other_user (registered_at names (name_for o)) answer its (sym refusal_is ∙ e) in

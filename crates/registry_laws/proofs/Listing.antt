@@ -1,5 +1,5 @@
 -- lists: what is first of them, least, or listed
-use Rattle.std.proofs.Common.{◌≡◌, ◌⊎◌, ◌∷◌, ◌++◌, ◌<◌, ◌≤◌, ◌∙◌, inl, inr, ℕ, ◌==◌, min, Bool, true, false, not, cond, List, [], map, Option, None, Some, option_map, refl, sym, ap, subst, arith, is_le}
+use Rattle.std.proofs.Common.{◌≡◌, ◌⊎◌, ◌∷◌, ◌<◌, ◌≤◌, ◌∙◌, inl, inr, ℕ, ◌==◌, min, Bool, true, false, not, cond, List, [], map, Option, None, Some, refl, sym, ap, subst, arith, is_le}
 use Rattle.std.proofs.lemmas.Bool.{cases_order, eqb-true}
 use Rattle.std.proofs.lemmas.Cmp.{tied_itself}
 use Rattle.std.proofs.lemmas.Option.{same_Some}
@@ -13,6 +13,7 @@ use Rattle.sai_types.specs.Alike.{IsIn}
 use Rattle.switch_model.specs.declared.wait.Wait.{Wait}
 use Rattle.ref_counts.specs.declared.pin.Pin.{Pin}
 use Rattle.ref_counts.specs.Registered.{first_of, least_worker, lesser, pins_but}
+use Rattle.row_layout.specs.Operations.{Change}
 use Rattle.orch_flight.specs.Needing.{least_of, or_else}
 
 -- ---- options
@@ -22,10 +23,6 @@ not_some x h = absurd cc
 
 pub never_none : {X Y : Type 0} (x : X) → Some x ≡ None → Y
 never_none x h = absurd cc
-
-pub mapped_none : {X Y : Type 0} (f : X → Y) (o : Option X) → option_map f o ≡ None → o ≡ None
-mapped_none f None h = refl
-mapped_none f (Some x) h = never_none (f x) h
 
 pub else_some : (a b : Option Wait) (w : Wait) → or_else a b ≡ Some w → (a ≡ Some w) ⊎ ((a ≡ None) × (b ≡ Some w))
 else_some None b w h = inr (refl, h)
@@ -42,15 +39,6 @@ map_in f y [] h = elim h [ ]
 map_in f y (x ∷ xs) (inl e) = (x, inl refl, e)
 map_in f y (x ∷ xs) (inr h) = let m = map_in f y xs h in (m.0, inr m.1, m.2)
 
-pub in_left : {X : Type 0} (x : X) (xs ys : List X) → IsIn x xs → IsIn x (xs ++ ys)
-in_left x [] ys h = elim h [ ]
-in_left x (y ∷ xs) ys (inl e) = inl e
-in_left x (y ∷ xs) ys (inr h) = inr (in_left x xs ys h)
-
-pub in_right : {X : Type 0} (x : X) (xs ys : List X) → IsIn x ys → IsIn x (xs ++ ys)
-in_right x [] ys h = h
-in_right x (y ∷ xs) ys h = inr (in_right x xs ys h)
-
 -- ---- the first
 
 pub first_listed_in : {X : Type 0} (xs : List X) (x : X) → first_of xs ≡ Some x → IsIn x xs
@@ -61,7 +49,7 @@ pub first_none : {X : Type 0} (xs : List X) (x : X) → first_of xs ≡ None →
 first_none [] x h g = g
 first_none (y ∷ ys) x h g = never_none y h
 
-all_at : (P : Key → Type 0) (ks : List Key) (k : Key) → AllByRecursion P ks → IsIn k ks → P k
+pub all_at : (P : Key → Type 0) (ks : List Key) (k : Key) → AllByRecursion P ks → IsIn k ks → P k
 all_at P [] k h g = elim g [ ]
 all_at P (q ∷ ks) k h (inl e) = subst P (sym e) h.0
 all_at P (q ∷ ks) k h (inr g) = all_at P ks k h.1 g
@@ -138,6 +126,5 @@ pub none_rising : IsStrictlySortedBy key_cmp []
 unfolding IsStrictlySortedBy
 none_rising = tt
 
-pub nothing_after : {X : Type 0} (xs : List X) → xs ++ [] ≡ xs
-nothing_after [] = refl
-nothing_after (x ∷ xs) = ap (λ l. x ∷ l) (nothing_after xs)
+pub some_of_due : {X : Type 0} (c : Change) (cs : List Change) → c ∷ cs ≡ [] → X
+some_of_due c cs h = absurd cc

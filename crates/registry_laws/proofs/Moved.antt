@@ -1,5 +1,6 @@
 -- the registry stands for the machine when a change has taken effect
 use Rattle.std.proofs.Common.{◌≡◌, ◌∷◌, ◌∙◌, inl, inr, ℕ, List, [], Option, None, Some, option_map, refl, sym, ap, subst}
+use Rattle.std.proofs.lemmas.Option.{same_Some}
 use Rattle.table_schema.specs.Fields.{HasRisingKeys}
 use Rattle.table_schema.specs.Plan.{IsPlan, Ports}
 use Rattle.table_schema.specs.declared.key.Key.{Key}
@@ -16,9 +17,10 @@ use Rattle.switch_machine.specs.Consistent.{IsConsistent}
 use Rattle.switch_machine.specs.Flights.{Concerns, MachineFlight, HasChangeOf, IsOwnedBy, IsShared, IsUser, Machine, StandsIn}
 use Rattle.switch_machine.specs.Steps.{Moves, moved}
 use Rattle.switch_machine.proofs.Moving.{fit_of}
-use Rattle.switch_machine.proofs.Running.{one_flight, one_owner, row_keys, shared_row}
+use Rattle.switch_machine.proofs.Running.{one_owner, row_keys, shared_row}
 use Rattle.switch_machine.proofs.Splits.{IsSplit, key_split, nat_split, owner_split, put_at, put_off}
 use Rattle.switch_machine.proofs.Tabled.{tabled}
+use Rattle.switch_machine.proofs.Beginning.{touched_concern}
 use Rattle.ref_counts.specs.declared.name.Name.TheVariants as name
 use Rattle.ref_counts.specs.declared.name.NameState.{NameState}
 use Rattle.ref_counts.specs.declared.name.NameState.TheVariants as state
@@ -30,12 +32,9 @@ use Rattle.orch_flight.specs.Needing.{name_for}
 use Rattle.registry_laws.specs.Known.{IsKnownRow, IsKnownShared, RowStands, SharedStands}
 use Rattle.registry_laws.specs.Registers.{KnowsNames, Registers, made_live_at}
 use Rattle.registry_laws.proofs.Finding.{found_at, found_off, gone_at, gone_off}
-use Rattle.registry_laws.proofs.Listing.{none_rising}
+use Rattle.registry_laws.proofs.Listing.{none_rising, some_of_due}
 use Rattle.registry_laws.proofs.Listing.{never_none}
-use Rattle.registry_laws.proofs.Telling.{touched-concern, touched-one}
-
-some_change : {X : Type 0} (c : Change) (cs : List Change) → c ∷ cs ≡ [] → X
-some_change c cs h = absurd cc
+use Rattle.registry_laws.proofs.Telling.{touched-one}
 
 module _ (plan : Ports) (m : Machine) (w : ℕ) (f : MachineFlight) (c : Change) (cs : List Change) (stands : List (Rid × Thing)) (moves : Moves m w f c cs stands) where
   abbrev pub later : Machine
@@ -67,7 +66,7 @@ module _ (plan : Ports) (m : Machine) (w : ℕ) (f : MachineFlight) (c : Change)
   row_stands p state.Absent h = h
   row_stands p (state.Building v) h = h
   row_stands p state.Live (inl firm) = inl (record { row = firm.row; applied = firm.applied; stays = firm.stays })
-  row_stands p state.Live (inr made) = inr (record { worker = made.worker; flight = made.flight; flying = made.flying; key = made.key; row = made.row; new = made.new; done = due_old made.worker (λ e. some_change c cs (sym moves.due ∙ ap m.due (sym e) ∙ made.done)) ∙ made.done })
+  row_stands p state.Live (inr made) = inr (record { worker = made.worker; flight = made.flight; flying = made.flying; key = made.key; row = made.row; new = made.new; done = due_old made.worker (λ e. some_of_due c cs (sym moves.due ∙ ap m.due (sym e) ∙ made.done)) ∙ made.done })
   row_stands p (state.Retiring v) x = record { flight = x.flight; flying = x.flying; key = x.key; none = x.none; row = x.row; applied = x.applied }
 
   pub shared_stands : (o : Owner) (st : NameState) → (IsOwnedBy plan (changed_name c) o → HasChangeOf plan cs o) → SharedStands plan m o st → SharedStands plan later o st
@@ -141,7 +140,7 @@ module _ (plan : Ports) (m : Machine) (w : ℕ) (f : MachineFlight) (c : Change)
           by : (x : Option Registered) → IsKnownShared plan m o x → IsKnownShared plan later o (option_map (made_live ids) x)
           by None x = absurd (registered None x.stands refl)
           by (Some r) x = record {
-            stands = ((f.key, user (touched-concern plan (tabled plan is) f (fit_of plan (tabled plan is) m sound w f moves.flying) (m.due w) (StandsIn m) o (sound.runs w f moves.flying) touched)), untouched);
+            stands = ((f.key, user (touched_concern plan (tabled plan is) f (fit_of plan (tabled plan is) m sound w f moves.flying) (m.due w) (StandsIn m) o (sound.runs w f moves.flying) touched)), untouched);
             users = x.users;
             pins = x.pins;
             rising = x.rising;
@@ -160,7 +159,7 @@ module _ (plan : Ports) (m : Machine) (w : ℕ) (f : MachineFlight) (c : Change)
 
           going : (st : NameState) → SharedStands plan m o st → st ≡ state.Retiring w
           going state.Absent (_, still) = absurd (still w f moves.flying touched)
-          going (state.Building v) (g, at, t, other) = absurd (other (subst (λ z. z.retires ≡ Some o) (one_flight f g (sym moves.flying ∙ ap m.board.flights (sym (only v g at t)) ∙ at)) retires))
+          going (state.Building v) (g, at, t, other) = absurd (other (subst (λ z. z.retires ≡ Some o) (same_Some f g (sym moves.flying ∙ ap m.board.flights (sym (only v g at t)) ∙ at)) retires))
           going state.Live (_, still) = absurd (still w f moves.flying touched)
           going (state.Retiring v) (g, at, t, r) = ap state.Retiring (only v g at t)
 

@@ -14,6 +14,7 @@ use Rattle.sai_types.specs.Alike.{IsIn}
 use Rattle.sai_types.specs.Named.{first_lane}
 use Rattle.sai_types.specs.Names as thing_name
 use Rattle.sai_types.specs.Names.{name_of}
+use Rattle.sai_types.proofs.Membership.{in-left, in-right}
 use Rattle.switch_model.specs.Things.{base_of, lane_of}
 use Rattle.row_layout.specs.Operations.{Change, Make, Set, Take}
 use Rattle.row_layout.specs.Rows as owner
@@ -21,7 +22,6 @@ use Rattle.row_layout.specs.Rows.{Owner, from, goal_of, own_things}
 use Rattle.switch_machine.specs.Changes.{IsSamePort, Resembles, after}
 use Rattle.switch_machine.specs.Consistent.{IsConsistent}
 use Rattle.switch_machine.specs.Flights.{CanSet, CanTake, Fits, MachineFlight, Goes, IsOwnedBy, IsRow, Machine, Runs, StandsIn, own_of}
-use Rattle.switch_machine.proofs.Running.{one_flight}
 use Rattle.switch_machine.proofs.Splits.{own_row_in}
 use Rattle.switch_machine.proofs.Tabled.{are_shared_by}
 use Rattle.orch_flight.specs.Calling.{IsChangeFor, SetsTo, things_held, things_retired}
@@ -29,7 +29,7 @@ use Rattle.orch_flight.specs.Operation.{Operation}
 use Rattle.orch_flight.specs.Starting.{taken_here}
 use Rattle.registry_laws.specs.Flown.{flight_of}
 use Rattle.registry_laws.specs.Flying.{IsBetween}
-use Rattle.registry_laws.proofs.Listing.{in_left, in_right, not_some}
+use Rattle.registry_laws.proofs.Listing.{not_some}
 use Rattle.registry_laws.proofs.Rests.{AreInOrder}
 
 pub resembles_name : (u t : Thing) → Resembles u t → name_of u ≡ name_of t
@@ -145,7 +145,7 @@ module _ (plan : Ports) (is : IsPlan plan) (m : Machine) (sound : IsConsistent p
   its_row r (inl at) none = at
   its_row r (inr (v, g, at, same, new)) none =
       let worker = sound.board.one v w g f at flying same in
-      let one = one_flight g f (sym at ∙ ap m.board.flights worker ∙ flying) in
+      let one = same_Some g f (sym at ∙ ap m.board.flights worker ∙ flying) in
       not_some r (sym none ∙ ap (λ (z : MachineFlight). z.new) (sym one) ∙ new)
 
   take_for : (n : thing_name.ThingName) (cs : List Change) → CanTake plan f (StandsIn m) n → IsChangeFor plan p (Take n ∷ cs)
@@ -158,11 +158,11 @@ module _ (plan : Ports) (is : IsPlan plan) (m : Machine) (sound : IsConsistent p
       by (inl own) =
           let like = sound.like p.key there.0 there.1 (subst (λ z. IsOwnedBy plan z (owner.OfRow p.key)) (sym there.2) own.0) in
           let now = now_applied own.1 ∙ its_row like.row like.is own.1 in
-          (like.thing, in_left like.thing (own_of plan p.key p.now) (things_retired p.retires) (subst (λ z. IsIn like.thing (own_of plan p.key z)) (sym now) like.of), sym (resembles_name there.0 like.thing like.resembles) ∙ there.2)
+          (like.thing, in-left like.thing (own_of plan p.key p.now) (things_retired p.retires) (subst (λ z. IsIn like.thing (own_of plan p.key z)) (sym now) like.of), sym (resembles_name there.0 like.thing like.resembles) ∙ there.2)
       by (inr (o, own, retires)) =
           let was = sound.board.left w f o flying retires in
           let held = sound.held o there.0 there.1 (subst (λ z. IsOwnedBy plan z o) (sym there.2) own) (are_shared_by plan is p.key was.row o was.used) in
-          (there.0, in_right there.0 (own_of plan p.key p.now) (things_retired p.retires) (subst (λ z. IsIn there.0 (things_retired z)) (sym retires) held.0), there.2)
+          (there.0, in-right there.0 (own_of plan p.key p.now) (things_retired p.retires) (subst (λ z. IsIn there.0 (things_retired z)) (sym retires) held.0), there.2)
 
   pub next_now : (due : List Change) → AreInOrder plan p.key (m.board.applied p.key) due → Runs plan f (StandsIn m) due → IsChangeFor plan p due
   next_now [] order runs = tt

@@ -1,5 +1,6 @@
 -- the registry stands for the machine when a key has left what it shared
 use Rattle.std.proofs.Common.{◌≡◌, ◌∷◌, ◌∙◌, inl, inr, ℕ, List, [], Option, None, Some, refl, sym, ap, subst}
+use Rattle.std.proofs.lemmas.Option.{same_Some}
 use Rattle.table_schema.specs.Names.{names_of}
 use Rattle.table_schema.specs.Plan.{IsPlan, Ports}
 use Rattle.table_schema.specs.declared.key.Key.{Key}
@@ -13,9 +14,10 @@ use Rattle.switch_machine.specs.Consistent.{IsConsistent, WasUsed}
 use Rattle.switch_machine.specs.Flights.{CountsAsUser, MachineFlight, HasChangeOf, IsFirm, IsOwnedBy, IsResting, IsShared, IsUser, Machine}
 use Rattle.switch_machine.specs.Steps.{Leaves, left, parted}
 use Rattle.switch_machine.proofs.Ordered.{ordered}
-use Rattle.switch_machine.proofs.Running.{one_flight, some_owner}
 use Rattle.switch_machine.proofs.Splits.{IsPut, IsSplit, New, Old, nat_split, put_at, put_by, put_off}
 use Rattle.switch_machine.proofs.Tabled.{are_shared_by, tabled}
+use Rattle.switch_machine.proofs.Freeing.{first_shared}
+use Rattle.switch_machine.proofs.Beginning.{take_in}
 use Rattle.ref_counts.specs.declared.name.NameState.{NameState}
 use Rattle.ref_counts.specs.declared.name.NameState.TheVariants as state
 use Rattle.ref_counts.specs.declared.pin.Pin.{Pin}
@@ -23,12 +25,6 @@ use Rattle.ref_counts.specs.Registered.{Registered}
 use Rattle.ref_counts.specs.Registry.{state_in}
 use Rattle.registry_laws.specs.Known.{IsAllMade, IsKnownRow, IsKnownShared, IsPinOf, RowStands, SharedStands}
 use Rattle.registry_laws.proofs.Listing.{not_some}
-use Rattle.registry_laws.proofs.Sharing.{first-shared}
-
-pub taken_in : (ts : List Thing) (c : Change) → IsIn c (take_all ts []) → (t : Thing) × IsIn t ts × (c ≡ Take (name_of t))
-taken_in [] c h = elim h [ ]
-taken_in (t ∷ ts) c (inl e) = (t, inl refl, e)
-taken_in (t ∷ ts) c (inr h) = let x = taken_in ts c h in (x.0, inr x.1, x.2)
 
 in_taken : (ts : List Thing) (t : Thing) → IsIn t ts → IsIn (Take (name_of t)) (take_all ts [])
 in_taken [] t h = elim h [ ]
@@ -39,12 +35,12 @@ module _ (plan : Ports) (is : IsPlan plan) where
   -- the removals of what is shared are of it, and there is one
   pub removals_of : (o : Owner) (c : Change) → IsIn c (take_all (shared_going o) []) → IsOwnedBy plan (changed_name c) o
   removals_of o c h =
-      let x = taken_in (shared_going o) c h in
+      let x = take_in (shared_going o) c h in
       subst (λ z. IsOwnedBy plan (changed_name z) o) (sym x.2) ((tabled plan is).shared o x.0 (((ordered plan is).shared_going_same o).into x.0 x.1))
 
   pub some_removal : (o : Owner) → IsShared o → HasChangeOf plan (take_all (shared_going o) []) o
   some_removal o shared =
-      let x = first-shared o shared in
+      let x = first_shared o shared in
       (Take (name_of x.0), in_taken (shared_going o) x.0 (((ordered plan is).shared_going_same o).back x.0 x.1), (tabled plan is).shared o x.0 x.1)
 
 module _ (plan : Ports) (is : IsPlan plan) (m : Machine) (sound : IsConsistent plan m) (w : ℕ) (f : MachineFlight) (o : Owner) (leaving : Leaves m w f o) where
@@ -88,14 +84,14 @@ module _ (plan : Ports) (is : IsPlan plan) (m : Machine) (sound : IsConsistent p
     now_of v h at = of (nat_split v w)
       where
         of : IsSplit v w → (x : MachineFlight) × (later.board.flights v ≡ Some x) × (x.key ≡ h.key) × (x.new ≡ h.new)
-        of (inl same) = let one = one_flight f h (sym leaving.flying ∙ ap m.board.flights (sym same) ∙ at) in (g, put_at w v (Some g) m.board.flights same, ap (λ (z : MachineFlight). z.key) one, ap (λ (z : MachineFlight). z.new) one)
+        of (inl same) = let one = same_Some f h (sym leaving.flying ∙ ap m.board.flights (sym same) ∙ at) in (g, put_at w v (Some g) m.board.flights same, ap (λ (z : MachineFlight). z.key) one, ap (λ (z : MachineFlight). z.new) one)
         of (inr apart) = (h, old_at v h apart at, refl, refl)
 
     pub was_of : (v : ℕ) (h : MachineFlight) → later.board.flights v ≡ Some h → (x : MachineFlight) × (m.board.flights v ≡ Some x) × (x.key ≡ h.key) × (x.new ≡ h.new)
     was_of v h at = of (by v h at)
       where
         of : IsPut w v (Some g) m.board.flights (Some h) → (x : MachineFlight) × (m.board.flights v ≡ Some x) × (x.key ≡ h.key) × (x.new ≡ h.new)
-        of (New same e) = let one = one_flight g h e in (f, ap m.board.flights same ∙ leaving.flying, ap (λ (z : MachineFlight). z.key) one, ap (λ (z : MachineFlight). z.new) one)
+        of (New same e) = let one = same_Some g h e in (f, ap m.board.flights same ∙ leaving.flying, ap (λ (z : MachineFlight). z.key) one, ap (λ (z : MachineFlight). z.new) one)
         of (Old apart there) = (h, there, refl, refl)
 
     -- ---- rows
@@ -117,7 +113,7 @@ module _ (plan : Ports) (is : IsPlan plan) (m : Machine) (sound : IsConsistent p
         was = (sound.board.leaves w f o leaving.flying leaving.leaves).0
 
         one : f ≡ made.flight
-        one = one_flight f made.flight (sym leaving.flying ∙ ap m.board.flights (sym same) ∙ made.flying)
+        one = same_Some f made.flight (sym leaving.flying ∙ ap m.board.flights (sym same) ∙ made.flying)
 
         key : f.key ≡ p
         key = ap (λ (z : MachineFlight). z.key) one ∙ made.key
@@ -126,7 +122,7 @@ module _ (plan : Ports) (is : IsPlan plan) (m : Machine) (sound : IsConsistent p
         stays v h at e none =
             let x = was_of v h at in
             let worker = sound.board.one v w x.0 f x.1 leaving.flying (x.2 ∙ e ∙ sym key) in
-            let that = one_flight f x.0 (sym leaving.flying ∙ ap m.board.flights (sym worker) ∙ x.1) in
+            let that = same_Some f x.0 (sym leaving.flying ∙ ap m.board.flights (sym worker) ∙ x.1) in
             not_some made.row (sym (x.3 ∙ none) ∙ ap (λ (z : MachineFlight). z.new) (sym that ∙ one) ∙ made.new)
 
     row_stands : (p : Key) (st : NameState) → RowStands m p st → RowStands later p st
@@ -161,7 +157,7 @@ module _ (plan : Ports) (is : IsPlan plan) (m : Machine) (sound : IsConsistent p
         mine (inr e) key = not_some p e
 
         of : IsPut w v (Some g) m.board.flights (Some h) → IsUser plan m.board q p × (f.key ≡ q → p ≡ o → ⊥)
-        of (New e one) = let x = one_flight g h one in mine (subst (λ z. CountsAsUser plan z p) (sym x) counts) (ap (λ (z : MachineFlight). z.key) x ∙ same)
+        of (New e one) = let x = same_Some g h one in mine (subst (λ z. CountsAsUser plan z p) (sym x) counts) (ap (λ (z : MachineFlight). z.key) x ∙ same)
         of (Old apart there) = (inl (v, h, there, same, counts), λ key _. apart (sound.board.one v w h f there leaving.flying (same ∙ sym key)))
 
     pub user_now : (q : Key) (p : Owner) → (f.key ≡ q → p ≡ o → ⊥) → IsUser plan m.board q p → IsUser plan later.board q p
@@ -170,10 +166,10 @@ module _ (plan : Ports) (is : IsPlan plan) (m : Machine) (sound : IsConsistent p
       where
         mine : (x : MachineFlight) → f ≡ x → x.key ≡ q → CountsAsUser plan x p → IsUser plan later.board q p
         mine x one key (inl i) = inl (w, g, here, ap (λ (z : MachineFlight). z.key) one ∙ key, inl (subst (λ z. IsIn p (uses_of plan z.key z.new)) (sym one) i))
-        mine x one key (inr e) = absurd (other (ap (λ (z : MachineFlight). z.key) one ∙ key) (sym (some_owner o p (sym leaving.leaves ∙ ap (λ (z : MachineFlight). z.leaves) one ∙ e))))
+        mine x one key (inr e) = absurd (other (ap (λ (z : MachineFlight). z.key) one ∙ key) (sym (same_Some o p (sym leaving.leaves ∙ ap (λ (z : MachineFlight). z.leaves) one ∙ e))))
 
         of : IsSplit v w → IsUser plan later.board q p
-        of (inl e) = mine h (one_flight f h (sym leaving.flying ∙ ap m.board.flights (sym e) ∙ at)) same counts
+        of (inl e) = mine h (same_Some f h (sym leaving.flying ∙ ap m.board.flights (sym e) ∙ at)) same counts
         of (inr apart) = inl (v, h, old_at v h apart at, same, counts)
 
     module _ (about : (p : Owner) → HasChangeOf plan due p → p ≡ o) where

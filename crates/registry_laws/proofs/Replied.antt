@@ -15,6 +15,7 @@ use Rattle.sai_types.specs.declared.thing.Thing.{Thing}
 use Rattle.sai_types.specs.declared.thing.Thing.TheVariants as thing
 use Rattle.sai_types.specs.Alike.{IsIn}
 use Rattle.sai_types.specs.Names.{name_of}
+use Rattle.sai_types.proofs.Membership.{in-right}
 use Rattle.switch_model.specs.Things.{lane_of}
 use Rattle.row_layout.specs.Operations.{Change, Make, Set, Take, own_changes}
 use Rattle.row_layout.specs.Rows as owner
@@ -46,7 +47,7 @@ use Rattle.registry_laws.proofs.Aside.{IsAside, aside_moved, aside_then, board_w
 use Rattle.registry_laws.proofs.Between.{due_moved}
 use Rattle.registry_laws.proofs.Fine.{AreFine, after_fine, fine_of}
 use Rattle.registry_laws.proofs.Lasting.{lasting}
-use Rattle.registry_laws.proofs.Listing.{in_right, never_none, not_some}
+use Rattle.registry_laws.proofs.Listing.{never_none, not_some}
 use Rattle.registry_laws.proofs.Nexts.{next_now, sets_by}
 use Rattle.registry_laws.proofs.Rests.{AreInOrder, IsPort, none_of_group, rest_order}
 use Rattle.registry_laws.proofs.Settled.{Both, IsLater, both, not_built, settled, settled_by, settled_names, settled_names_by}
@@ -85,7 +86,7 @@ live_last : (plan : Ports) (old : Option Row) (f : Operation) (c : Change) (cs :
 live_last plan old f c cs due (inl (none, (builds, (before, e)))) live =
     let z = here_first builds (own_changes plan f.key old f.new) in
     lasting f.new plan f.key old z.0 before c cs (sym z.1 ∙ e ∙ ap (λ l. before ++ l) due) live
-live_last plan old f c cs due (inr (before, e)) live = absurd (not_live f.retires c (subst (IsIn c) (sym (e ∙ ap (λ l. before ++ l) due)) (in_right c before (c ∷ cs) (inl refl))) live)
+live_last plan old f c cs due (inr (before, e)) live = absurd (not_live f.retires c (subst (IsIn c) (sym (e ∙ ap (λ l. before ++ l) due)) (in-right c before (c ∷ cs) (inl refl))) live)
 
 -- ---- a port's values are set
 

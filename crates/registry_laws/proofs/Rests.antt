@@ -25,12 +25,12 @@ use Rattle.switch_machine.specs.Tables.{AreNamedApart}
 use Rattle.switch_machine.proofs.Ordered.{ordered}
 use Rattle.switch_machine.proofs.Running.{one_owner, shared_row}
 use Rattle.switch_machine.proofs.Tabled.{tabled}
+use Rattle.switch_machine.proofs.Beginning.{take_in}
 use Rattle.orch_flight.specs.Operation.{Operation}
 use Rattle.orch_flight.specs.Starting.{built_here, taken_here}
 use Rattle.registry_laws.specs.Answering.{IsOfGroup}
 use Rattle.registry_laws.specs.Flying.{IsRestFrom}
 use Rattle.registry_laws.proofs.Listing.{never_none}
-use Rattle.registry_laws.proofs.Parting.{taken_in}
 
 -- one thing at most
 abbrev IsSmall : List Thing → Type 0
@@ -88,7 +88,7 @@ module _ (plan : Ports) (k : Key) (old : Option Row) where
   take_order [] apart other = tt
   take_order (t ∷ ts) apart other = (
     other t (inl refl),
-    (λ d h e. let x = taken_in ts d h in apart.0 x.0 x.1 (sym (ap changed_name x.2) ∙ e)),
+    (λ d h e. let x = take_in ts d h in apart.0 x.0 x.1 (sym (ap changed_name x.2) ∙ e)),
     take_order ts apart.1 (λ u h. other u (inr h)),
   )
 

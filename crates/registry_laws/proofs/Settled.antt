@@ -1,10 +1,12 @@
 -- what follows in an event: a change is due, the operation leaves what it shared, or it ends
 use Rattle.std.proofs.Common.{◌≡◌, ◌⊎◌, ◌∷◌, ◌++◌, ◌∙◌, inl, inr, ℕ, List, [], Option, None, Some, refl, sym, ap, subst}
+use Rattle.std.proofs.lemmas.Option.{same_Some}
 use Rattle.table_schema.specs.Plan.{IsPlan, Ports}
 use Rattle.sai_types.specs.declared.hop.Hop.{Hop}
 use Rattle.sai_types.specs.declared.thing.Thing.TheVariants as thing
 use Rattle.sai_types.specs.Alike.{IsIn}
 use Rattle.sai_types.specs.Names.{name_of}
+use Rattle.sai_types.proofs.Membership.{in-right}
 use Rattle.row_layout.specs.Operations.{Change, shared_going, take_all, uses_of}
 use Rattle.row_layout.specs.Rows as owner
 use Rattle.row_layout.specs.Rows.{Owner, owner_of}
@@ -17,7 +19,7 @@ use Rattle.switch_machine.specs.Steps.{Ends, Leaves, LeavesOthers, finished, lef
 use Rattle.switch_machine.proofs.Beginning.{sound-retired}
 use Rattle.switch_machine.proofs.Ending.{sound-ended}
 use Rattle.switch_machine.proofs.Leaving.{sound-left}
-use Rattle.switch_machine.proofs.Running.{one_flight, one_owner, shared_row}
+use Rattle.switch_machine.proofs.Running.{one_owner, shared_row}
 use Rattle.switch_machine.proofs.Splits.{put_at}
 use Rattle.switch_machine.proofs.Tabled.{are_shared_by, tabled}
 use Rattle.ref_counts.specs.declared.name.Name.TheVariants as name
@@ -40,7 +42,7 @@ use Rattle.registry_laws.proofs.Between.{due_follows}
 use Rattle.registry_laws.proofs.Ended.{registers_ended}
 use Rattle.registry_laws.proofs.Fine.{AreFine, ended_fine, left_fine}
 use Rattle.registry_laws.proofs.Left.{parts}
-use Rattle.registry_laws.proofs.Listing.{in_right, never_none, not_some}
+use Rattle.registry_laws.proofs.Listing.{never_none, not_some, some_of_due}
 use Rattle.registry_laws.proofs.Parting as parting
 use Rattle.registry_laws.proofs.Taking.{row_due}
 
@@ -75,15 +77,12 @@ pub nothing_behind : {X : Type 0} (xs ys : List X) → xs ++ ys ≡ [] → ys �
 nothing_behind [] ys e = e
 nothing_behind (x ∷ xs) ys e = absurd cc
 
-pub some_of_due : {X : Type 0} (c : Change) (cs : List Change) → c ∷ cs ≡ [] → X
-some_of_due c cs h = absurd cc
-
 -- what is taken away is a thing that the operation holds
 taken_for : (plan : Ports) (p : Operation) (x : Option Owner) → p.retires ≡ x → IsChangeFor plan p (taken_here x)
 taken_for plan p None e = tt
 taken_for plan p (Some (owner.OfRow k)) e = tt
-taken_for plan p (Some (owner.Bridge lane)) e = (thing.BridgePort lane, in_right (thing.BridgePort lane) (own_of plan p.key p.now) (things_retired p.retires) (subst (λ z. IsIn (thing.BridgePort lane) (things_retired z)) (sym e) (inl refl)), refl)
-taken_for plan p (Some (owner.Own ip)) e = (thing.Own ip, in_right (thing.Own ip) (own_of plan p.key p.now) (things_retired p.retires) (subst (λ z. IsIn (thing.Own ip) (things_retired z)) (sym e) (inl refl)), refl)
+taken_for plan p (Some (owner.Bridge lane)) e = (thing.BridgePort lane, in-right (thing.BridgePort lane) (own_of plan p.key p.now) (things_retired p.retires) (subst (λ z. IsIn (thing.BridgePort lane) (things_retired z)) (sym e) (inl refl)), refl)
+taken_for plan p (Some (owner.Own ip)) e = (thing.Own ip, in-right (thing.Own ip) (own_of plan p.key p.now) (things_retired p.retires) (subst (λ z. IsIn (thing.Own ip) (things_retired z)) (sym e) (inl refl)), refl)
 taken_for plan p (Some (owner.Group hops)) e = tt
 
 -- and it is of what it retires
@@ -107,7 +106,7 @@ not_built plan names m p stands none = by (group_in (uses_of plan p.key p.new))
   where
     by : (x : Option (List Hop)) → built_in names p.worker x ≡ None
     by None = refl
-    by (Some hops) = built_none names p.worker hops (λ h. let s = subst (SharedStands plan m (owner.Group hops)) h (stands hops) in none hops s.2 (λ f at e. s.3 (subst (λ (z : MachineFlight). z.retires ≡ Some (owner.Group hops)) (one_flight f s.0 (sym at ∙ s.1)) e)))
+    by (Some hops) = built_none names p.worker hops (λ h. let s = subst (SharedStands plan m (owner.Group hops)) h (stands hops) in none hops s.2 (λ f at e. s.3 (subst (λ (z : MachineFlight). z.retires ≡ Some (owner.Group hops)) (same_Some f s.0 (sym at ∙ s.1)) e)))
 
 module _ (plan : Ports) (is : IsPlan plan) (capacities : List ℕ) (m : Machine) (sound : IsConsistent plan m) (names : registry.Names) (room : RoomState) (known : Registers plan 4 capacities names room m) (fine : AreFine names) (p : Operation) (busy : OthersHaveDue m p.worker) (y : IsFlown plan names m p.worker (flown_as p None)) where
   abbrev w : ℕ

@@ -1,47 +1,22 @@
 -- what an operation leaves, and what it builds
-use Rattle.std.proofs.Common.{◌≡◌, ◌⊎◌, ◌∷◌, ◌∙◌, inl, inr, ◌||◌, Bool, true, false, List, [], Option, None, Some, refl, sym, ap, subst, if◌then◌else◌}
-use Rattle.std.proofs.lemmas.Bool.{eqb-true, false≢true}
+use Rattle.std.proofs.Common.{◌≡◌, ◌⊎◌, ◌∷◌, ◌∙◌, inl, inr, Bool, true, false, List, [], Option, None, Some, refl, sym, ap, subst, if◌then◌else◌}
+use Rattle.std.proofs.lemmas.Bool.{false≢true}
 use Rattle.std.proofs.lemmas.Option.{same_Some}
 use Rattle.std.specs.List.{list_any}
-use Rattle.swss_types.proofs.Tied.{tied}
 use Rattle.table_schema.specs.Plan.{Ports}
 use Rattle.table_schema.specs.declared.key.Key.{Key}
 use Rattle.table_schema.specs.declared.row.Row.{Row}
-use Rattle.table_schema.specs.Key.{key_cmp}
-use Rattle.table_schema.proofs.Keys.{key_exact}
 use Rattle.sai_types.specs.Alike.{IsIn}
-use Rattle.sai_types.specs.declared.thing.Thing.TheVariants as thing
-use Rattle.sai_types.proofs.Exact.{ip-exact}
 use Rattle.row_layout.specs.Operations.{same_owner, uses_of}
-use Rattle.row_layout.specs.Rows as owner
 use Rattle.row_layout.specs.Rows.{Owner}
 use Rattle.row_layout.proofs.Changing.{among}
-use Rattle.row_layout.specs.Shared.{shared_things}
-use Rattle.sai_types.specs.declared.thing.Thing.{Thing}
-use Rattle.switch_machine.specs.Flights.{IsShared}
-use Rattle.switch_machine.proofs.Equal.{thing-exact}
-use Rattle.switch_machine.proofs.Sequence.{IsShort, uses_short}
+use Rattle.switch_machine.proofs.Sequence.{IsShort, any_owner_in, uses_short}
 use Rattle.ref_counts.specs.declared.name.NameState.{NameState}
 use Rattle.ref_counts.specs.declared.name.NameState.TheVariants as state
 use Rattle.ref_counts.specs.Registry.{Names, state_of}
 use Rattle.orch_flight.specs.Needing.{absent_or, first_absent, name_for}
 use Rattle.orch_flight.specs.Starting.{first_left, leaving}
 use Rattle.registry_laws.proofs.Listing.{never_none, not_some}
-
-pub owner-exact : (o p : Owner) → same_owner o p ≡ true → o ≡ p
-owner-exact (owner.OfRow k) (owner.OfRow q) h = ap owner.OfRow (key_exact k q (tied (key_cmp k q) h))
-owner-exact (owner.Bridge a) (owner.Bridge b) h = ap owner.Bridge (eqb-true a b h)
-owner-exact (owner.Own a) (owner.Own b) h = ap owner.Own (ip-exact a b h)
-owner-exact (owner.Group a) (owner.Group b) h = let same = thing-exact (thing.Group a) (thing.Group b) h in let that : a ≡ b = cc in ap owner.Group that
-owner-exact _ _ h = absurd (false≢true h)
-
-any-in : (o : Owner) (os : List Owner) → list_any (same_owner o) os ≡ true → IsIn o os
-any-in o [] h = absurd (false≢true h)
-any-in o (p ∷ os) h = by (λ e. any-in o os e) (same_owner o p) refl h
-  where
-    by : (list_any (same_owner o) os ≡ true → IsIn o os) → (b : Bool) → same_owner o p ≡ b → (b || list_any (same_owner o) os) ≡ true → IsIn o (p ∷ os)
-    by rest true e g = inl (owner-exact o p e)
-    by rest false e g = inr (rest g)
 
 -- ---- what an operation leaves
 
@@ -57,7 +32,7 @@ left_one : (news : List Owner) (p : Owner) → IsIn p news ⊎ (first_left news 
 left_one news p = by (list_any (same_owner p) news) refl
   where
     by : (b : Bool) → list_any (same_owner p) news ≡ b → IsIn p news ⊎ ((if list_any (same_owner p) news then None else Some p) ≡ Some p)
-    by true e = inl (any-in p news e)
+    by true e = inl (any_owner_in p news e)
     by false e = inr (ap (λ b. if b then None else Some p) e)
 
 -- all that the old row shared its new row shares too, or it is what is left
@@ -105,10 +80,3 @@ pub absent_none : (names : Names) (os : List Owner) (o : Owner) → first_absent
 absent_none names [] o h g e = g
 absent_none names (p ∷ os) o h (inl same) e = (not_absent (state_of names (name_for p)) p (first_absent names os) h).0 (subst (λ z. state_of names (name_for z) ≡ state.Absent) same e)
 absent_none names (p ∷ os) o h (inr g) e = absent_none names os o (not_absent (state_of names (name_for p)) p (first_absent names os) h).1 g e
-
--- what is shared has a thing
-pub first-shared : (o : Owner) → IsShared o → (u : Thing) × IsIn u (shared_things o)
-first-shared (owner.OfRow k) h = elim h [ ]
-first-shared (owner.Bridge lane) h = (thing.BridgePort lane, inl refl)
-first-shared (owner.Own ip) h = (thing.Own ip, inl refl)
-first-shared (owner.Group hops) h = (thing.Group hops, inl refl)

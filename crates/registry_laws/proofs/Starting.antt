@@ -26,6 +26,7 @@ use Rattle.switch_machine.proofs.Running.{row_keys, shared_row}
 use Rattle.switch_machine.proofs.Sequence.{IsShort, uses_short}
 use Rattle.switch_machine.proofs.Splits.{IsSplit, key_split, nat_split, owner_split, put_at, put_off, use_row_in}
 use Rattle.switch_machine.proofs.Tabled.{are_shared_by, tabled}
+use Rattle.switch_machine.proofs.Freeing.{first_shared}
 use Rattle.ref_counts.specs.declared.name.Name.TheVariants as name
 use Rattle.ref_counts.specs.declared.name.NameState.{NameState}
 use Rattle.ref_counts.specs.declared.name.NameState.TheVariants as state
@@ -42,7 +43,7 @@ use Rattle.registry_laws.proofs.Begun as begun_facts
 use Rattle.registry_laws.proofs.Finding.{IsPinned, NamesNew, building_at, building_off, found_at, own_off, pins_off, pins_row, put_at_name, used_off, used_one}
 use Rattle.registry_laws.proofs.Listing.{never_none, none_rising, not_some}
 use Rattle.registry_laws.proofs.Rooming.{number_for}
-use Rattle.registry_laws.proofs.Sharing.{absent_first, absent_none, first-shared}
+use Rattle.registry_laws.proofs.Sharing.{absent_first, absent_none}
 
 in_made : (ts : List Thing) (own : List Change) (t : Thing) → IsIn t ts → IsIn (Make t) (make_all ts own)
 in_made [] own t h = elim h [ ]
@@ -250,7 +251,7 @@ module _ (plan : Ports) (is : IsPlan plan) (m : Machine) (sound : IsConsistent p
 
           touched : HasChangeOf plan (later.due w) o
           touched =
-              let x = first-shared o shared in
+              let x = first_shared o shared in
               let first : IsIn (Make x.0) due = subst (λ z. IsIn (Make x.0) (built_first z (own_changes plan k old n))) (sym e) (in_made (shared_things o) (own_changes plan k old n) x.0 x.1) in
               subst (λ d. HasChangeOf plan d o) (sym (begun_facts.due_new plan is m sound w f due begins)) (Make x.0, first, (tabled plan is).shared o x.0 x.1)
 

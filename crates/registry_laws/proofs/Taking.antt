@@ -16,6 +16,7 @@ use Rattle.sai_types.specs.declared.thing.Thing.TheVariants as thing
 use Rattle.sai_types.specs.Alike.{IsIn}
 use Rattle.sai_types.specs.Names as thing_name
 use Rattle.sai_types.specs.Names.{name_of}
+use Rattle.sai_types.proofs.Membership.{in-either, in-left, in-right}
 use Rattle.chip_layout.specs.Layout.{has_number}
 use Rattle.row_layout.specs.Operations.{Change, Make, Set, Take, make_all, uses_of}
 use Rattle.row_layout.specs.Rows as owner
@@ -28,8 +29,9 @@ use Rattle.switch_machine.specs.Tables.{AreNamedApart}
 use Rattle.switch_machine.proofs.Moving.{fit_of, used_shared}
 use Rattle.switch_machine.proofs.Ordered.{ordered}
 use Rattle.switch_machine.proofs.Running.{one_owner, row_keys, shared_of, shared_row}
-use Rattle.switch_machine.proofs.Splits.{in_both, own_row_in, use_row_in}
+use Rattle.switch_machine.proofs.Splits.{own_row_in, use_row_in}
 use Rattle.switch_machine.proofs.Tabled.{are_shared_by, tabled}
+use Rattle.switch_machine.proofs.Beginning.{touched_concern}
 use Rattle.ref_counts.specs.declared.name.Name.{Name}
 use Rattle.ref_counts.specs.declared.name.Name.TheVariants as name
 use Rattle.ref_counts.specs.declared.name.NameState.{NameState}
@@ -49,9 +51,8 @@ use Rattle.registry_laws.specs.Known.{RowStands, SharedStands}
 use Rattle.registry_laws.proofs.Answered.{IsRowName, mapped_row, some_row}
 use Rattle.registry_laws.proofs.Aside.{building_is, built_state, retiring_is}
 use Rattle.registry_laws.proofs.Grouped.{taken_group}
-use Rattle.registry_laws.proofs.Listing.{in_left, in_right, not_some}
+use Rattle.registry_laws.proofs.Listing.{not_some}
 use Rattle.registry_laws.proofs.Rests.{AreInOrder, rest_order}
-use Rattle.registry_laws.proofs.Telling.{touched-concern}
 
 -- ---- what is due for a worker
 
@@ -158,7 +159,7 @@ module _ (plan : Ports) (is : IsPlan plan) (capacities : List ℕ) (names : regi
       unconcerned (inr (inr e)) = not_some o (sym (sound.board.leaves w g o y.flying h).2 ∙ e)
 
       not_due : HasChangeOf plan (m.due w) o → ⊥
-      not_due t = unconcerned (touched-concern plan (tabled plan is) g fits (m.due w) (StandsIn m) o (sound.runs w g y.flying) t)
+      not_due t = unconcerned (touched_concern plan (tabled plan is) g fits (m.due w) (StandsIn m) o (sound.runs w g y.flying) t)
 
       by : (st : NameState) → SharedStands plan m o st → st ≡ state.Live
       by state.Absent s = absurd (s.0 k user)
@@ -260,7 +261,7 @@ module _ (plan : Ports) (is : IsPlan plan) (capacities : List ℕ) (names : regi
       subst (StandsIn m) one there.1
 
   pub held_stands : (c : Change) (rest : List Change) → x.group ≡ None → group_to_build plan names x.operation ≡ None → group_to_take x.operation ≡ None → f.due ≡ c ∷ rest → (t : Thing) → IsIn t (things_held plan f) → Disturbs c (name_of t) → StandsIn m t
-  held_stands c rest none builds takes due t i h = by (in_both t (own_of plan k f.now) (things_retired f.retires) i)
+  held_stands c rest none builds takes due t i h = by (in-either t (own_of plan k f.now) (things_retired f.retires) i)
     where
       retired : (o : Option Owner) → f.retires ≡ o → IsIn t (things_retired o) → StandsIn m t
       retired None e j = elim j [ ]
@@ -303,7 +304,7 @@ module _ (plan : Ports) (is : IsPlan plan) (capacities : List ℕ) (names : regi
     going_touched : part.builds ≡ false → HasChangeOf plan (m.due w) (owner.Group part.hops)
     going_touched goes =
         let c = first_change in
-        let i : IsIn c.0 (m.due w) = subst (IsIn c.0) (sym part_due) (in_left c.0 part.due f.due (subst (IsIn c.0) (sym c.2) (inl refl))) in
+        let i : IsIn c.0 (m.due w) = subst (IsIn c.0) (sym part_due) (in-left c.0 part.due f.due (subst (IsIn c.0) (sym c.2) (inl refl))) in
         (c.0, i, board.registers.retiring w g (owner.Group part.hops) c.0 y.flying (going goes) i)
 
     pub may_take_group : (made : Option Vid) → is_some made ≡ part.builds → MayTakeGroup part made names
@@ -326,5 +327,5 @@ module _ (plan : Ports) (is : IsPlan plan) (capacities : List ℕ) (names : regi
         by (inr goes) = taken_stands (owner.Group part.hops) c (rest ++ f.due) (going goes.0) (part_due ∙ ap (λ l. l ++ f.due) due) t i h
         by (inl builds) =
             let all : first_group_due part.hops true ≡ z.rest.0 ++ c ∷ rest = ap (first_group_due part.hops) (sym builds.0) ∙ z.rest.1 ∙ ap (λ l. z.rest.0 ++ l) due in
-            let made = made_in (shared_things (owner.Group part.hops)) c (subst (IsIn c) (sym all) (in_right c z.rest.0 (c ∷ rest) (inl refl))) in
+            let made = made_in (shared_things (owner.Group part.hops)) c (subst (IsIn c) (sym all) (in-right c z.rest.0 (c ∷ rest) (inl refl))) in
             absurd (subst (λ d. Disturbs d (name_of t)) made.2 h)

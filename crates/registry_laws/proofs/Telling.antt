@@ -1,29 +1,27 @@
 -- what the registry's answers say of the machine
-use Rattle.std.proofs.Common.{◌≡◌, ◌⊎◌, ◌∷◌, ◌≤◌, ◌&&◌, ◌∙◌, inl, inr, ℕ, Bool, true, false, List, [], map, Option, None, Some, is_some, refl, sym, ap, subst, if◌then◌else◌}
+use Rattle.std.proofs.Common.{◌≡◌, ◌⊎◌, ◌∷◌, ◌≤◌, ◌∙◌, inl, inr, ℕ, true, List, [], map, Option, None, Some, is_some, refl, sym, ap, subst, if◌then◌else◌}
 use Rattle.std.proofs.lemmas.Bool.{and_parts, false≢true}
 use Rattle.table_schema.specs.Names.{names_of}
 use Rattle.table_schema.specs.Plan.{IsPlan, Ports}
 use Rattle.table_schema.specs.declared.key.Key.{Key}
 use Rattle.table_schema.specs.declared.row.Row.{Row}
-use Rattle.sai_types.specs.declared.thing.Thing.{Thing}
 use Rattle.sai_types.specs.Alike.{IsIn}
+use Rattle.sai_types.proofs.Membership.{in-either, in-left, in-right}
 use Rattle.chip_layout.proofs.Answering.{in_those, those_in}
 use Rattle.switch_model.specs.Desired.{have_rows}
 use Rattle.switch_model.specs.Good.{TypedRows}
 use Rattle.switch_model.specs.Marks.{first_missing}
-use Rattle.row_layout.specs.Operations.{Change, Make, Set, Take}
-use Rattle.row_layout.specs.Rows.{Owner, OfRow}
+use Rattle.row_layout.specs.Operations.{Change}
+use Rattle.row_layout.specs.Rows.{Owner}
 use Rattle.row_layout.specs.Shared.{uses}
 use Rattle.row_layout.proofs.Members.{in_map}
-use Rattle.switch_machine.specs.Changes.{after, changed_name}
 use Rattle.switch_machine.specs.Consistent.{IsConsistent}
-use Rattle.switch_machine.specs.Flights.{Can, Concerns, Fits, MachineFlight, Goes, HasChangeOf, IsConcern, IsOwnedBy, IsShared, Machine, Runs, StandsIn}
+use Rattle.switch_machine.specs.Flights.{Concerns, MachineFlight, HasChangeOf, IsShared, Machine, StandsIn}
 use Rattle.switch_machine.specs.Reasons.{IsInTheWay}
-use Rattle.switch_machine.specs.Tables.{TableLaws}
 use Rattle.switch_machine.proofs.Moving.{apart, fit_of}
-use Rattle.switch_machine.proofs.Running.{final-concern, one_owner}
-use Rattle.switch_machine.proofs.Splits.{IsSplit, in_both, nat_split}
+use Rattle.switch_machine.proofs.Splits.{IsSplit, nat_split}
 use Rattle.switch_machine.proofs.Tabled.{are_shared_by, tabled}
+use Rattle.switch_machine.proofs.Beginning.{touched_concern}
 use Rattle.ref_counts.specs.declared.name.Name.{Name}
 use Rattle.ref_counts.specs.declared.name.Name.TheVariants as name
 use Rattle.ref_counts.specs.declared.name.NameState.{NameState}
@@ -36,17 +34,9 @@ use Rattle.ref_counts.specs.Room.{RoomState}
 use Rattle.orch_flight.specs.Needing.{first_unapplied, name_for, names_needed, pinning, unapplied_or, workers_on}
 use Rattle.registry_laws.specs.Known.{RowStands, SharedStands, pins_at}
 use Rattle.registry_laws.specs.Registers.{HaveDue, Registers}
-use Rattle.registry_laws.proofs.Listing.{but_in, in_but, in_left, in_right, least_below, least_in, least_none, least_worker_is, map_in, never_none, not_some}
+use Rattle.registry_laws.proofs.Listing.{but_in, in_but, least_below, least_in, least_none, least_worker_is, map_in, never_none, not_some}
 
 -- ---- rows
-
-pub have-of_missing : (rows : TypedRows) (ks : List Key) → first_missing rows ks ≡ None → have_rows rows ks ≡ true
-have-of_missing rows [] h = refl
-have-of_missing rows (k ∷ ks) h = by (λ e. have-of_missing rows ks e) (is_some (rows k)) refl h
-  where
-    by : (first_missing rows ks ≡ None → have_rows rows ks ≡ true) → (b : Bool) → is_some (rows k) ≡ b → (if b then first_missing rows ks else Some k) ≡ None → have_rows rows (k ∷ ks) ≡ true
-    by rest true e g = ap (λ b. b && have_rows rows ks) e ∙ rest g
-    by rest false e g = never_none k g
 
 pub have_at : (rows : TypedRows) (ks : List Key) (k : Key) → have_rows rows ks ≡ true → IsIn k ks → rows k ≡ None → ⊥
 have_at rows [] k h g e = g
@@ -97,29 +87,10 @@ module _ (names : registry.Names) where
   in_on : (ns : List Name) (n : Name) (v : ℕ) → IsIn n ns → owner_in (state_of names n) ≡ Some v → IsIn v (workers_on names ns)
   in_on ns n v h e = in_those v (map (λ n. owner_in (state_of names n)) ns) (subst (λ z. IsIn z (map (λ n. owner_in (state_of names n)) ns)) e (in_map (λ n. owner_in (state_of names n)) n ns h))
 
--- ---- the changes of an operation concern it
-
-module _ (plan : Ports) (tables : TableLaws plan) (f : MachineFlight) (fit : (r : Row) → f.new ≡ Some r → Fits plan f.key r) where
-  can_concern : (V : Thing → Type 0) (c : Change) → Can plan f V c → IsConcern plan f (changed_name c)
-  can_concern V (Make t) can = final-concern plan tables f fit t can.final
-  can_concern V (Set t) can = (OfRow f.key, can.own, inl refl)
-  can_concern V (Take n) can = by can.goes
-    where
-      by : Goes plan f n → IsConcern plan f n
-      by (inl own) = (OfRow f.key, own.0, inl refl)
-      by (inr x) = (x.0, x.1, inr (inr x.2))
-
-  pub touched-concern : (due : List Change) (V : Thing → Type 0) (p : Owner) → Runs plan f V due → HasChangeOf plan due p → Concerns plan f p
-  touched-concern [] V p runs t = elim t.1 [ ]
-  touched-concern (c ∷ cs) V p runs (d, inl is, of) =
-      let x = can_concern V c runs.0 in
-      subst (Concerns plan f) (one_owner plan (changed_name c) x.0 p x.1 (subst (λ z. IsOwnedBy plan (changed_name z) p) is of)) x.2
-  touched-concern (c ∷ cs) V p runs (d, inr h, of) = touched-concern cs (λ u. after c (V u) u) p runs.1 (d, h, of)
-
 -- two operations change nothing of one owner
 module _ (plan : Ports) (is : IsPlan plan) (m : Machine) (sound : IsConsistent plan m) where
   concern_of : (v : ℕ) (f : MachineFlight) (o : Owner) → m.board.flights v ≡ Some f → HasChangeOf plan (m.due v) o → Concerns plan f o
-  concern_of v f o at t = touched-concern plan (tabled plan is) f (fit_of plan (tabled plan is) m sound v f at) (m.due v) (StandsIn m) o (sound.runs v f at) t
+  concern_of v f o at t = touched_concern plan (tabled plan is) f (fit_of plan (tabled plan is) m sound v f at) (m.due v) (StandsIn m) o (sound.runs v f at) t
 
   pub touched-one : (v u : ℕ) (f g : MachineFlight) (o : Owner) → m.board.flights v ≡ Some f → m.board.flights u ≡ Some g → HasChangeOf plan (m.due v) o → HasChangeOf plan (m.due u) o → v ≡ u
   touched-one v u f g o at there t x = by (nat_split v u)
@@ -165,7 +136,7 @@ module _ (plan : Ports) (is : IsPlan plan) (workers : ℕ) (capacities : List �
     is_shared o h = are_shared_by plan is k r o h
 
     pub in_way : (v : ℕ) → IsIn v (workers_on names Needed) → IsInTheWay plan m k (Some r) v
-    in_way v h = let x = on_in names Needed v h in by x.0 x.2 (in_both x.0 (map name.Row (names_of k r)) (map name_for (uses plan k r)) x.1)
+    in_way v h = let x = on_in names Needed v h in by x.0 x.2 (in-either x.0 (map name.Row (names_of k r)) (map name_for (uses plan k r)) x.1)
       where
         by_row : (p : Key) → IsIn p (names_of k r) → (st : NameState) → RowStands m p st → (st ≡ state.Building v) ⊎ (st ≡ state.Retiring v) → IsInTheWay plan m k (Some r) v
         by_row p i st stands (inl e) = let x = subst (RowStands m p) e stands in absurd (have_at m.board.applied (names_of k r) p have i x.1)
@@ -184,10 +155,10 @@ module _ (plan : Ports) (is : IsPlan plan) (workers : ℕ) (capacities : List �
             by_shared x.0 x.1 (state_of names (name_for x.0)) (shared_at x.0 (is_shared x.0 x.1)) (builds_or_retires (state_of names (name_for x.0)) v (subst (λ z. owner_in (state_of names z) ≡ Some v) x.2 e))
 
     pub on_row : (p : Key) (v : ℕ) → IsIn p (names_of k r) → owner_in (state_of names (name.Row p)) ≡ Some v → IsIn v (workers_on names Needed)
-    on_row p v i e = in_on names Needed (name.Row p) v (in_left (name.Row p) (map name.Row (names_of k r)) (map name_for (uses plan k r)) (in_map name.Row p (names_of k r) i)) e
+    on_row p v i e = in_on names Needed (name.Row p) v (in-left (name.Row p) (map name.Row (names_of k r)) (map name_for (uses plan k r)) (in_map name.Row p (names_of k r) i)) e
 
     on_shared : (o : Owner) (v : ℕ) → IsIn o (uses plan k r) → owner_in (state_of names (name_for o)) ≡ Some v → IsIn v (workers_on names Needed)
-    on_shared o v i e = in_on names Needed (name_for o) v (in_right (name_for o) (map name.Row (names_of k r)) (map name_for (uses plan k r)) (in_map name_for o (uses plan k r) i)) e
+    on_shared o v i e = in_on names Needed (name_for o) v (in-right (name_for o) (map name.Row (names_of k r)) (map name_for (uses plan k r)) (in_map name_for o (uses plan k r) i)) e
 
     -- whose operation has a change of it to make owns its name
     touched_owner : (o : Owner) (v : ℕ) (g : MachineFlight) (st : NameState) → SharedStands plan m o st → m.board.flights v ≡ Some g → HasChangeOf plan (m.due v) o → owner_in st ≡ Some v

@@ -1,19 +1,15 @@
 -- the users of a name without one of them
-use Rattle.std.proofs.Common.{◌≡◌, ◌∷◌, ◌∙◌, inl, inr, Bool, true, false, not, cond, List, [], refl, sym, subst}
+use Rattle.std.proofs.Common.{◌≡◌, ◌∷◌, ◌∙◌, inl, inr, Bool, true, false, not, cond, List, [], refl, sym}
 use Rattle.std.proofs.lemmas.Bool.{false≢true}
 use Rattle.std.specs.BTreeMap.{is_at}
-use Rattle.std.specs.Cmp.{eq_by_cmp_equiv}
 use Rattle.std.specs.List.{AllByRecursion}
 use Rattle.std.specs.List.Sorted.{IsStrictlySortedBy}
 use Rattle.std.specs.declared.cmp.Ordering.TheVariants.{Less}
 use Rattle.table_schema.specs.Key.{key_cmp}
 use Rattle.table_schema.specs.declared.key.Key.{Key}
-use Rattle.table_schema.proofs.Keys.{key_total, tied_keys_same}
+use Rattle.table_schema.proofs.Keys.{at_itself, tied_keys_same}
 use Rattle.sai_types.specs.Alike.{IsIn}
 use Rattle.ref_counts.specs.Registered.{users_but}
-
-its_key : (k q : Key) → k ≡ q → is_at (key_cmp k) q ≡ true
-its_key k q h = subst (λ z. is_at (key_cmp k) z ≡ true) h ((eq_by_cmp_equiv key_total).refl k)
 
 pub but_users : (k q : Key) (us : List Key) → IsIn q (users_but k us) → IsIn q us × (k ≡ q → ⊥)
 but_users k q [] h = elim h [ ]
@@ -21,7 +17,7 @@ but_users k q (u ∷ us) h = by (λ i. but_users k q us i) (is_at (key_cmp k) u)
   where
     by : (IsIn q (users_but k us) → IsIn q us × (k ≡ q → ⊥)) → (b : Bool) → is_at (key_cmp k) u ≡ b → IsIn q (cond (not b) (u ∷ users_but k us) (users_but k us)) → IsIn q (u ∷ us) × (k ≡ q → ⊥)
     by rest true e i = let x = rest i in (inr x.0, x.1)
-    by rest false e (inl same) = (inl same, λ is. false≢true (sym e ∙ its_key k u (is ∙ same)))
+    by rest false e (inl same) = (inl same, λ is. false≢true (sym e ∙ at_itself k u (is ∙ same)))
     by rest false e (inr i) = let x = rest i in (inr x.0, x.1)
 
 pub users_kept : (k q : Key) (us : List Key) → (k ≡ q → ⊥) → IsIn q us → IsIn q (users_but k us)

@@ -2,6 +2,7 @@
 use Rattle.std.proofs.Common.{◌≡◌, ◌⊎◌, ◌+◌, ◌<◌, ◌≤◌, ◌∙◌, inl, inr, ℕ, true, false, List, Option, None, Some, refl, sym, ap, subst, arith}
 use Rattle.std.proofs.lemmas.Option.{same_Some}
 use Rattle.swss_types.proofs.Proper.{mapped}
+use Rattle.swss_types.proofs.Choices.{none_mapped}
 use Rattle.table_schema.specs.Names.{names_of}
 use Rattle.table_schema.specs.Plan.{IsPlan, Ports}
 use Rattle.table_schema.specs.declared.key.Key.{Key}
@@ -11,6 +12,7 @@ use Rattle.sai_types.specs.Alike.{IsIn}
 use Rattle.switch_model.specs.Desired.{have_rows}
 use Rattle.switch_model.specs.declared.wait.Wait.{Wait}
 use Rattle.switch_model.specs.declared.wait.Wait.TheVariants as wait
+use Rattle.switch_model.proofs.Ready.{have_rows-from_missing}
 use Rattle.row_layout.specs.Operations.{Change, going, own_changes, uses_of}
 use Rattle.row_layout.specs.Rows.{Owner}
 use Rattle.row_layout.specs.Shared.{uses}
@@ -35,10 +37,10 @@ use Rattle.ref_counts.specs.declared.pin.Pin.{Pin}
 use Rattle.orch_flight.specs.Needing.{busy_for, crowded_for, first_unapplied, holder_of, least_of, missing_for, name_for, or_else, pinning, places_for, to_build, wait_of, workers_on}
 use Rattle.registry_laws.specs.Known.{RowStands, SharedStands, pins_at}
 use Rattle.registry_laws.specs.Registers.{AreUsed, HaveDue, Registers, beginning, due_first}
-use Rattle.registry_laws.proofs.Listing.{else_none, else_some, first_listed_in, first_least, first_none, least_below, least_in, least_none, mapped_none, never_none, not_some}
+use Rattle.registry_laws.proofs.Listing.{else_none, else_some, first_listed_in, first_least, first_none, least_below, least_in, least_none, never_none, not_some}
 use Rattle.registry_laws.proofs.Rooming.{lacking_first, lacking_none, lacks_false, lacks_true}
 use Rattle.registry_laws.proofs.Sharing.{absent_first, absent_none, leaving_covers, left_apart}
-use Rattle.registry_laws.proofs.Telling.{Needed, have-of_missing, have_at, in_way, on_row, owner_none, pin_way, pinning_in, pinning_least, pinning_none, row_at, shared_at, unapplied_is, way_in, way_pin}
+use Rattle.registry_laws.proofs.Telling.{Needed, have_at, in_way, on_row, owner_none, pin_way, pinning_in, pinning_least, pinning_none, row_at, shared_at, unapplied_is, way_in, way_pin}
 
 module _ (plan : Ports) (is : IsPlan plan) (workers : ℕ) (capacities : List ℕ) (s : SwitchState) (kept : IsSafe plan workers capacities s) (names : registry.Names) (room : RoomState) (known : Registers plan workers capacities names room s.machine) (busy : HaveDue s.machine) (numbers : List ℕ) (are : AreUsed s.objects numbers) (w : ℕ) (idle : s.machine.board.flights w ≡ None) (k : Key) (rests : IsResting s.machine.board k) (fits : (r : Row) → good_of plan s.written k ≡ Some r → have_rows s.machine.board.applied (names_of k r) ≡ true → Fits plan k r) where
   abbrev m : Machine
@@ -52,13 +54,13 @@ module _ (plan : Ports) (is : IsPlan plan) (workers : ℕ) (capacities : List �
   have_by : (n : Option Row) → missing_for names k n ≡ None → (r : Row) → n ≡ Some r → have_rows m.board.applied (names_of k r) ≡ true
   have_by None h r e = not_some r e
   have_by (Some x) h r e =
-      have-of_missing m.board.applied (names_of k r) (sym (unapplied_is plan is workers capacities m kept.sound names room known busy (names_of k r)) ∙ subst (λ z. first_unapplied names (names_of k z) ≡ None) (same_Some x r e) (mapped_none wait.Missing (first_unapplied names (names_of k x)) h))
+      have_rows-from_missing m.board.applied (names_of k r) (sym (unapplied_is plan is workers capacities m kept.sound names room known busy (names_of k r)) ∙ subst (λ z. first_unapplied names (names_of k z) ≡ None) (same_Some x r e) (none_mapped wait.Missing (first_unapplied names (names_of k x)) h))
 
   -- ---- nothing holds
 
   unheld_by : (n : Option Row) → holder_of names k n ≡ None → n ≡ None → (q : Key) (r : Row) → m.board.applied q ≡ Some r → IsIn k (names_of q r) → ⊥
   unheld_by (Some x) h e q r at i = never_none x e
-  unheld_by None h e q r at i = first_none (users_of names (name.Row k)) q (mapped_none wait.Held (first_of (users_of names (name.Row k))) h) (((known.names_known.rows k).users q).1 (r, at, i))
+  unheld_by None h e q r at i = first_none (users_of names (name.Row k)) q (none_mapped wait.Held (first_of (users_of names (name.Row k))) h) (((known.names_known.rows k).users q).1 (r, at, i))
 
   -- ---- nobody is in the way
 
@@ -68,10 +70,10 @@ module _ (plan : Ports) (is : IsPlan plan) (workers : ℕ) (capacities : List �
   clear_by : (n : Option Row) → missing_for names k n ≡ None → busy_for plan names w k n ≡ None → (v : ℕ) → IsInTheWay plan m k n v → ⊥
   clear_by None miss h v way =
       let p = way_pin plan is workers capacities m kept.sound names room known busy k v way in
-      pinning_none w (registered_at names (name.Row k)) p.0 (mapped_none wait.Busy (pinning w (registered_at names (name.Row k))) h) p.1 (λ e. idle_not v way.0 way.1 (sym p.2 ∙ e))
+      pinning_none w (registered_at names (name.Row k)) p.0 (none_mapped wait.Busy (pinning w (registered_at names (name.Row k))) h) p.1 (λ e. idle_not v way.0 way.1 (sym p.2 ∙ e))
   clear_by (Some r) miss h v way =
       least_none (workers_on names (Needed plan is workers capacities m kept.sound names room known busy k r (have_by (Some r) miss r refl))) v
-      (mapped_none wait.Busy (least_of (workers_on names (Needed plan is workers capacities m kept.sound names room known busy k r (have_by (Some r) miss r refl)))) h)
+      (none_mapped wait.Busy (least_of (workers_on names (Needed plan is workers capacities m kept.sound names room known busy k r (have_by (Some r) miss r refl)))) h)
       (way_in plan is workers capacities m kept.sound names room known busy k r (have_by (Some r) miss r refl) v way)
 
   -- the least of those in the way
@@ -128,7 +130,7 @@ module _ (plan : Ports) (is : IsPlan plan) (workers : ℕ) (capacities : List �
         by None a = of (state_of names (name.Row p)) (row_at plan is workers capacities m kept.sound names room known busy p) (owner_none (state_of names (name.Row p)) a)
         by (Some v) a =
             absurd (least_none (workers_on names (Needed plan is workers capacities m kept.sound names room known busy k y have)) v
-            (mapped_none wait.Busy (least_of (workers_on names (Needed plan is workers capacities m kept.sound names room known busy k y have))) none)
+            (none_mapped wait.Busy (least_of (workers_on names (Needed plan is workers capacities m kept.sound names room known busy k y have))) none)
             (on_row plan is workers capacities m kept.sound names room known busy k y have p v there a))
 
     clear : (v : ℕ) → IsInTheWay plan m k n v → ⊥
@@ -178,7 +180,7 @@ module _ (plan : Ports) (is : IsPlan plan) (workers : ℕ) (capacities : List �
     pub has_room : crowded_for plan names room numbers k old n ≡ None → HasRoomFor workers capacities s.objects m due
     has_room h kind some =
         lacks_false workers capacities room m known.few known.below kept.covered known.room_known s.objects numbers are due kind
-        (lacking_none room (places_for due) numbers (mapped_none wait.NoRoom (lacking room (places_for due) numbers) h) kind) some
+        (lacking_none room (places_for due) numbers (none_mapped wait.NoRoom (lacking room (places_for due) numbers) h) kind) some
 
     -- a row that goes needs no room
     none_made : (kind : Kind) (x : Option Row) → x ≡ None → makes kind (due_first plan names k old x) ≡ 0

@@ -7,7 +7,6 @@ use Rattle.std.specs.Map.{remove_entry}
 use Rattle.std.proofs.lemmas.Bool.{eqb-true, leb-false}
 use Rattle.table_schema.specs.Plan.{Ports}
 use Rattle.sai_types.specs.declared.ids.Rid.{Rid}
-use Rattle.sai_types.specs.declared.answer.ChipAnswer.{ChipAnswer}
 use Rattle.sai_types.specs.declared.answer.ChipAnswer.TheVariants.{BadReference, Exists, Full}
 use Rattle.sai_types.specs.declared.kind.Kind.{Kind}
 use Rattle.sai_types.specs.declared.body.Attr.{Attr}
@@ -23,6 +22,7 @@ use Rattle.sai_types.specs.Objects.{Objects, body_at, entry_cmp, kind_of, level,
 use Rattle.sai_types.specs.Refusal.{IsLegal, capacity_of, clash, create_refusal, first_of, refers_well}
 use Rattle.sai_types.proofs.Found.{body_at-insert, body_at-remove}
 use Rattle.sai_types.proofs.Whole.{whole-after_call, whole-empty}
+use Rattle.sai_types.proofs.Legal.{first_of-none}
 use Rattle.switch_machine.proofs.Roomy.{used-made, used-set, used-taken}
 use Rattle.restart_laws.specs.Chips.{IsPlannedChip, IsPlannedBody, IsPlannedCall}
 
@@ -44,16 +44,12 @@ with_planned plan (body.Neighbor rif ip mac) (attr.Mac m) h = h
 with_planned plan (body.Route prefix to) (attr.To t) h = h
 with_planned plan b _ h = h
 
-not_refused : (b : Bool) (a : ChipAnswer) (rest : Option ChipAnswer) → first_of b a rest ≡ None → (b ≡ false) × (rest ≡ None)
-not_refused true a rest h = absurd cc
-not_refused false a rest h = (refl, h)
-
 -- where a create is legal there is room
 room_of : (capacities : List ℕ) (objects : Objects) (b : Body Rid) → create_refusal capacities objects b ≡ None → used objects (kind_of b) < capacity_of capacities (kind_of b)
 room_of capacities objects b h =
-    let one = not_refused (not (refers_well objects b)) BadReference (first_of (list_any (λ o. clash b o.1) objects) Exists (first_of (nat_le (capacity_of capacities (kind_of b)) (used objects (kind_of b))) Full None)) h in
-    let two = not_refused (list_any (λ o. clash b o.1) objects) Exists (first_of (nat_le (capacity_of capacities (kind_of b)) (used objects (kind_of b))) Full None) one.1 in
-    leb-false _ _ (not_refused (nat_le (capacity_of capacities (kind_of b)) (used objects (kind_of b))) Full None two.1).0
+    let one = first_of-none (not (refers_well objects b)) BadReference (first_of (list_any (λ o. clash b o.1) objects) Exists (first_of (nat_le (capacity_of capacities (kind_of b)) (used objects (kind_of b))) Full None)) h in
+    let two = first_of-none (list_any (λ o. clash b o.1) objects) Exists (first_of (nat_le (capacity_of capacities (kind_of b)) (used objects (kind_of b))) Full None) one.1 in
+    leb-false _ _ (first_of-none (nat_le (capacity_of capacities (kind_of b)) (used objects (kind_of b))) Full None two.1).0
 
 fits_made : (capacities : List ℕ) (objects : Objects) (b : Body Rid) (kind : Kind) (x : Bool) → (level (kind_of b) == level kind) ≡ x → used objects kind ≤ capacity_of capacities kind → used objects (kind_of b) < capacity_of capacities (kind_of b) → used objects kind + cond x 1 0 ≤ capacity_of capacities kind
 fits_made capacities objects b kind false e fits room = omega (arith, fits)

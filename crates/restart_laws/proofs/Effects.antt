@@ -1,16 +1,16 @@
 -- each effect of a session is legal
-use Rattle.std.proofs.Common.{◌≡◌, ◌+◌, ◌∷◌, inl, inr, ℕ, List, [], Option, None, Some, sym, ap, subst}
+use Rattle.std.proofs.Common.{◌≡◌, ◌+◌, ◌∷◌, ℕ, List, [], Option, None, Some, sym, ap, subst}
 use Rattle.table_schema.specs.Plan.{Ports, IsPlan}
 use Rattle.sai_types.specs.declared.ids.Rid.{Rid}
 use Rattle.sai_types.specs.declared.body.Call.{Call}
 use Rattle.sai_types.specs.After.{after_call}
 use Rattle.sai_types.specs.Made.{AreLegal, made_after}
 use Rattle.sai_types.specs.Refusal.{IsLegal}
-use Rattle.switch_machine.specs.Events.{SwitchState, IsEvent, IsSafe, with_made_call}
+use Rattle.switch_machine.specs.Events.{SwitchState, with_made_call}
 use Rattle.restart_laws.specs.Invariant.{Holds}
 use Rattle.restart_laws.specs.Service.{AreServiceEvents, HasFailed, OfPlan, IsServiceEvent, Service, OfTake, OfWork, OfFault, OfListFault, OfRestart, OfList, OfRestore, OfApply, OfFinish, effects_of, forgotten}
 use Rattle.warm_state.specs.declared.warm.Warm.TheVariants.{Reconciled}
-use Rattle.switch_machine.proofs.Kept.{legal-call}
+use Rattle.switch_machine.proofs.Runs.{legal_event}
 use Rattle.restart_laws.proofs.Holding.{due-legal, holds-step, in_state}
 
 module _ (plan : Ports) (is : IsPlan plan) (workers : ℕ) (capacities : List ℕ) where
@@ -22,13 +22,6 @@ module _ (plan : Ports) (is : IsPlan plan) (workers : ℕ) (capacities : List �
 
   called_legal : (s t : SwitchState) (call : Call Rid) (calls : List (Call Rid)) → IsLegal capacities s.objects call → t.made ≡ made_after s.made call → t.objects ≡ after_call (s.made + 1) s.objects call → AreLegal capacities t.made t.objects calls → AreLegal capacities s.made s.objects (call ∷ calls)
   called_legal s t call calls legal made objects h = (legal, subst (λ z. AreLegal capacities z (after_call (s.made + 1) s.objects call) calls) made (subst (λ z. AreLegal capacities t.made z calls) objects h))
-
-  event_legal : (s t : SwitchState) (c : Option (Call Rid)) (calls : List (Call Rid)) → IsSafe plan workers capacities s → IsEvent plan workers capacities s c t → AreLegal capacities t.made t.objects calls → AreLegal capacities s.made s.objects (with_made_call c calls)
-  event_legal s t None calls kept (inl x) h = same_legal s t calls x.made x.objects h
-  event_legal s t None calls kept (inr (inl x)) h = same_legal s t calls x.made x.objects h
-  event_legal s t None calls kept (inr (inr (inl x))) h = same_legal s t calls x.made x.objects h
-  event_legal s t None calls kept (inr (inr (inr x))) h = same_legal s t calls x.made x.objects h
-  event_legal s t (Some call) calls kept x h = called_legal s t call calls (legal-call plan is workers capacities s kept call x.next) x.made x.objects h
 
   failed_legal : (s t : SwitchState) (call : Call Rid) (c : Option (Call Rid)) (calls : List (Call Rid)) → IsLegal capacities s.objects call → HasFailed call s c t → AreLegal capacities t.made t.objects calls → AreLegal capacities s.made s.objects (with_made_call c calls)
   failed_legal s t call None calls legal x h = same_legal s t calls x.0 x.1 h
@@ -42,7 +35,7 @@ module _ (plan : Ports) (is : IsPlan plan) (workers : ℕ) (capacities : List �
 
   legal_step : (s t : Service) (c : Option (Call Rid)) (calls : List (Call Rid)) → H s → IsServiceEvent plan workers capacities s c t → AreLegal capacities t.core.made t.core.objects calls → AreLegal capacities s.core.made s.core.objects (with_made_call c calls)
   legal_step s t _ calls h (OfTake _ x) l = same_legal s.core t.core calls x.core.made x.core.objects l
-  legal_step s t _ calls h (OfWork c _ x) l = event_legal s.core t.core c calls (in_state plan is workers capacities s Reconciled h x.before) x.event l
+  legal_step s t _ calls h (OfWork c _ x) l = legal_event plan is workers capacities s.core t.core c calls (in_state plan is workers capacities s Reconciled h x.before) x.event l
   legal_step s t _ calls h (OfFault c _ x) l = failed_legal s.core t.core x.call c calls (due-legal plan is workers capacities s x.call h x.due).0 x.chip l
   legal_step s t _ calls h (OfListFault _ x) l = same_legal s.core t.core calls (made_same s.core t.core x.core) (objects_same s.core t.core x.core) l
   legal_step s t _ calls h (OfRestart _ x) l = same_legal s.core t.core calls (made_same (forgotten s.core) t.core x.core) (objects_same (forgotten s.core) t.core x.core) l

@@ -1,6 +1,7 @@
 -- over a whole log: each apply is steady and short, and no call takes effect behind a fault or a restart
 use Rattle.std.proofs.Common.{◌≡◌, ◌⊎◌, ◌≤◌, ◌∷◌, ◌++◌, ◌∙◌, inl, inr, ℕ, List, [], length, Option, None, Some, refl, sym, ap, subst, arith}
 use Rattle.std.proofs.lemmas.List.{append-nil, append_assoc}
+use Rattle.std.proofs.lemmas.Option.{same_Some}
 use Rattle.table_schema.specs.Plan.{IsPlan, Ports}
 use Rattle.table_schema.specs.declared.write.Sent.{Sent}
 use Rattle.sai_types.specs.declared.ids.Rid.{Rid}
@@ -116,9 +117,6 @@ module _ (plan : Ports) (is : IsPlan plan) (workers : ℕ) (capacities : List �
   abbrev Last : List Sent → List (Call Rid) → List Mark → ℕ → Type 0
   Last taken es ms to = (m : Mark) → last_mark None ms ≡ Some m → IsFollowed plan capacities taken es m m.event to
 
-  last_of : (a b : Mark) → Some a ≡ Some b → a ≡ b
-  last_of a b h = cc
-
   closed_mark : (taken : List Sent) (es : List (Call Rid)) (ms : List Mark) (mark : Mark) → AreClosed taken es ms → Last taken es ms mark.effects → AreClosed taken es (ms ++ mark ∷ [])
   closed_mark taken es [] mark x last = tt
   closed_mark taken es (m ∷ []) mark x last = (last m refl, tt)
@@ -140,7 +138,7 @@ module _ (plan : Ports) (is : IsPlan plan) (workers : ℕ) (capacities : List �
 
   apply_last : (s : LoggedService) → Under s → Last s.log.taken s.effects s.log.marks (length s.effects)
   apply_last s u m e =
-      let same = last_of u.mark m (sym u.last ∙ e) in
+      let same = same_Some u.mark m (sym u.last ∙ e) in
       subst (λ (z : Mark). IsFollowed plan capacities s.log.taken s.effects z z.event (length s.effects)) same
       (subst (λ z. IsFollowed plan capacities s.log.taken s.effects u.mark z (length s.effects)) (sym u.event_is) (under-steady plan is workers capacities s u))
 
@@ -233,7 +231,7 @@ module _ (plan : Ports) (is : IsPlan plan) (workers : ℕ) (capacities : List �
     where
       taken_last : (n : ℕ) (o : Option Mark) (ms : List Mark) → ((m : Mark) → o ≡ Some m → m.taken ≤ length s.log.taken) → AreWithin (length s.log.taken) n ms → (m : Mark) → last_mark o ms ≡ Some m → m.taken ≤ length s.log.taken
       taken_last n o [] first within m e = first m e
-      taken_last n o (k ∷ ms) first within m e = taken_last n (Some k) ms (λ j h. subst (λ z. z ≤ length s.log.taken) (ap (λ (z : Mark). z.taken) (last_of k j h)) within.0) within.3 m e
+      taken_last n o (k ∷ ms) first within m e = taken_last n (Some k) ms (λ j h. subst (λ z. z ≤ length s.log.taken) (ap (λ (z : Mark). z.taken) (same_Some k j h)) within.0) within.3 m e
 
   -- one is added
   marked : (s t : LoggedService) (e : MarkEvent) → Told t → (t.service.warm ≡ Applying → Under t) → t.log.taken ≡ s.log.taken → t.log.marks ≡ s.log.marks ++ mark_now s.log t.effects e ∷ [] → Carries s t.effects → IsFollowed plan capacities t.log.taken t.effects (mark_now s.log t.effects e) e (length t.effects) → IsFollowing t
@@ -241,7 +239,7 @@ module _ (plan : Ports) (is : IsPlan plan) (workers : ℕ) (capacities : List �
     told = told;
     under = under;
     closed = subst (λ z. AreClosed z t.effects t.log.marks) (sym taken) (subst (AreClosed s.log.taken t.effects) (sym marks) (closed_mark s.log.taken t.effects s.log.marks (mark_now s.log t.effects e) c.closed c.last));
-    last = λ m h. subst (λ (z : Mark). IsFollowed plan capacities t.log.taken t.effects z z.event (length t.effects)) (last_of (mark_now s.log t.effects e) m (sym (ap (last_mark None) marks ∙ last-more None s.log.marks (mark_now s.log t.effects e)) ∙ h)) now;
+    last = λ m h. subst (λ (z : Mark). IsFollowed plan capacities t.log.taken t.effects z z.event (length t.effects)) (same_Some (mark_now s.log t.effects e) m (sym (ap (last_mark None) marks ∙ last-more None s.log.marks (mark_now s.log t.effects e)) ∙ h)) now;
   }
 
   fault_log : (s t : LoggedService) → AddsFault s t → (a : ℕ) × (b : ℕ) × (t.log.taken ≡ s.log.taken) × (t.log.marks ≡ s.log.marks ++ mark_now s.log t.effects (event.Faulted a b) ∷ [])

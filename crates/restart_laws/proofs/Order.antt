@@ -57,10 +57,6 @@ pub above : (k q : Key) (ks : List Key) → IsStrictlySortedBy key_cmp (k ∷ ks
 unfolding IsStrictlySortedBy
 above k q ks sorted h = key_less_than_rest k q ks sorted.0 h
 
-pub rest_in_order : (k : Key) (ks : List Key) → IsStrictlySortedBy key_cmp (k ∷ ks) → IsStrictlySortedBy key_cmp ks
-unfolding IsStrictlySortedBy
-rest_in_order k ks sorted = sorted.1
-
 reversed : (a b : Ordering) → a ≡ ordering_reverse b → a ≡ Less → b ≡ Less → ⊥
 reversed a Less e x y = let apart : Less ≡ Greater = sym x ∙ e in cc
 reversed a Equal e x y = cc

@@ -9,7 +9,7 @@ use Rattle.switch_machine.specs.Events.{AreAnswers, SwitchState, IsDrop, IsSafe,
 use Rattle.switch_machine.specs.Flights.{MachineFlight, Machine}
 use Rattle.switch_machine.specs.Written.{HasWrittenRows, IsTold, Written}
 use Rattle.switch_machine.proofs.Dated.{dated-popped}
-use Rattle.switch_machine.proofs.Kept.{kept-answers}
+use Rattle.switch_machine.proofs.Kept.{kept-answers, kept_drops}
 use Rattle.switch_machine.proofs.Runs.{kept-run, safe-fresh}
 use Rattle.switch_machine.proofs.Telling.{told-popped}
 use Rattle.restart_laws.specs.Restored.{IsAlone, IsPass, IsRestored}
@@ -24,16 +24,13 @@ module _ (plan : Ports) (is : IsPlan plan) (workers : ℕ) (capacities : List �
       subst (IsSafe plan workers capacities) (sym x.ends)
       (answers_keep x.first x.answers (kept-run plan is workers capacities s ((None, x.first) ∷ []) kept (inr (inr (inr x.starting)), tt)) x.run)
 
-  pub drops-keep : (s t : SwitchState) → IsSafe plan workers capacities s → IsDrop plan s t → IsSafe plan workers capacities t
-  drops-keep s t kept x = kept-run plan is workers capacities s ((None, t) ∷ []) kept (inr (inr (inl x)), tt)
-
   pub drops-quiet : (s t : SwitchState) → IsQuiet s → IsDrop plan s t → IsQuiet t
   drops-quiet s t quiet x = subst (λ (z : Machine). (w : ℕ) (f : MachineFlight) → z.board.flights w ≡ Some f → ⊥) (sym x.machine) quiet
 
   pub pass-keeps : (s t : SwitchState) (ks : List Key) (waits : List (Key × Wait)) → IsSafe plan workers capacities s → IsQuiet s → IsPass plan workers capacities s ks waits t → IsSafe plan workers capacities t × IsQuiet t
   pass-keeps s t [] waits kept quiet x = (subst (IsSafe plan workers capacities) (sym x.1) kept, subst IsQuiet (sym x.1) quiet)
   pass-keeps s t (k ∷ ks) waits kept quiet (inl x) = pass-keeps s t ks x.0.rest kept quiet x.1
-  pass-keeps s t (k ∷ ks) waits kept quiet (inr (mid, inl x, rest)) = pass-keeps mid t ks waits (drops-keep s mid kept x.0) (drops-quiet s mid quiet x.0) rest
+  pass-keeps s t (k ∷ ks) waits kept quiet (inr (mid, inl x, rest)) = pass-keeps mid t ks waits (kept_drops plan is workers capacities s mid kept x.0) (drops-quiet s mid quiet x.0) rest
   pass-keeps s t (k ∷ ks) waits kept quiet (inr (mid, inr x, rest)) = pass-keeps mid t ks waits (alone-keeps s mid k kept x) x.quiet rest
 
   -- the rows are restored from a safe beginning

@@ -2,6 +2,7 @@
 use Rattle.std.proofs.Common.{◌≡◌, ◌⊎◌, ◌∷◌, ◌∙◌, inl, inr, ℕ, List, [], None, Some, refl, sym, ap, subst}
 use Rattle.std.specs.List.Sorted.{IsStrictlySortedBy}
 use Rattle.std.specs.declared.cmp.Ordering.TheVariants.{Less}
+use Rattle.std.proofs.lemmas.Map.Keys.{sorted_tail}
 use Rattle.table_schema.specs.Key.{key_cmp}
 use Rattle.table_schema.specs.Names.{names_of}
 use Rattle.table_schema.specs.Plan.{Ports, IsPlan}
@@ -22,11 +23,12 @@ use Rattle.switch_machine.proofs.Reasoned.{closed, reason-true}
 use Rattle.switch_machine.proofs.Solo.{solo-key}
 use Rattle.switch_machine.proofs.Splits.{IsSplit, key_split, row_at, row_off}
 use Rattle.restart_laws.specs.Restored.{IsAlone, IsBrought, IsPass, IsRestored, keys_waiting}
-use Rattle.restart_laws.proofs.Passing.{alone-keeps, drops-keep, drops-quiet, restored-fresh, restored-keeps}
-use Rattle.restart_laws.proofs.Order.{above, rest_in_order, names-below, not-both, not-self}
+use Rattle.restart_laws.proofs.Passing.{alone-keeps, drops-quiet, restored-fresh, restored-keeps}
+use Rattle.restart_laws.proofs.Order.{above, names-below, not-both, not-self}
 use Rattle.restart_laws.proofs.Reasons.{reason-stays}
 use Rattle.switch_machine.specs.Flights.{Machine}
 use Rattle.switch_machine.specs.Written.{HasWrittenRows, IsTold}
+use Rattle.switch_machine.proofs.Kept.{kept_drops}
 
 module _ (plan : Ports) (is : IsPlan plan) (workers : ℕ) (capacities : List ℕ) where
   answers_written : (s : SwitchState) (es : List (Call Rid × SwitchState)) → AreAnswers plan workers s es → (after_answers s es).written ≡ s.written
@@ -47,7 +49,7 @@ module _ (plan : Ports) (is : IsPlan plan) (workers : ℕ) (capacities : List �
   applied s = s.machine.board.applied
 
   brings_kept : (s mid : SwitchState) (k : Key) → IsSafe plan workers capacities s → IsQuiet s → IsBrought plan workers capacities s k mid → IsSafe plan workers capacities mid × IsQuiet mid
-  brings_kept s mid k kept quiet (inl x) = (drops-keep plan is workers capacities s mid kept x.0, drops-quiet plan is workers capacities s mid quiet x.0)
+  brings_kept s mid k kept quiet (inl x) = (kept_drops plan is workers capacities s mid kept x.0, drops-quiet plan is workers capacities s mid quiet x.0)
   brings_kept s mid k kept quiet (inr x) = (alone-keeps plan is workers capacities s mid k kept x, x.quiet)
 
   brings_written : (s mid : SwitchState) (k : Key) → IsBrought plan workers capacities s k mid → mid.written ≡ s.written
@@ -98,9 +100,9 @@ module _ (plan : Ports) (is : IsPlan plan) (workers : ℕ) (capacities : List �
   waits_by s t [] waits sorted kept quiet none x q w h = elim (subst (IsIn (q, w)) x.0 h) [ ]
   waits_by s t (k ∷ ks) waits sorted kept quiet none (inr (mid, x, rest)) q w h =
       let y = brings_kept s mid k kept quiet x in
-      let z = waits_by mid t ks waits (rest_in_order k ks sorted) y.0 y.1 (absent_next s mid k ks sorted quiet x none) rest q w h in
+      let z = waits_by mid t ks waits (sorted_tail key_cmp k ks sorted) y.0 y.1 (absent_next s mid k ks sorted quiet x none) rest q w h in
       record { key = inr z.key; absent = z.absent; reason = z.reason }
-  waits_by s t (k ∷ ks) waits sorted kept quiet none (inl x) q w h = by (λ i. waits_by s t ks x.0.rest (rest_in_order k ks sorted) kept quiet (λ q i. none q (inr i)) x.1 q w i) (subst (IsIn (q, w)) x.0.is h)
+  waits_by s t (k ∷ ks) waits sorted kept quiet none (inl x) q w h = by (λ i. waits_by s t ks x.0.rest (sorted_tail key_cmp k ks sorted) kept quiet (λ q i. none q (inr i)) x.1 q w i) (subst (IsIn (q, w)) x.0.is h)
     where
       apart : (p : Key) → key_cmp p k ≡ Less → IsIn p ks → ⊥
       apart p less i = not-both k p (above k p ks sorted i) less
@@ -129,7 +131,7 @@ module _ (plan : Ports) (is : IsPlan plan) (workers : ℕ) (capacities : List �
   goods_by : (s t : SwitchState) (ks : List Key) (waits : List (Key × Wait)) → IsStrictlySortedBy key_cmp ks → IsSafe plan workers capacities s → IsQuiet s → IsPass plan workers capacities s ks waits t → (q : Key) → IsIn q ks → ((w : Wait) × IsIn (q, w) waits) ⊎ (applied t q ≡ good_of plan s.written q)
   goods_by s t [] waits sorted kept quiet x q h = elim h [ ]
   goods_by s t (k ∷ ks) waits sorted kept quiet (inl x) q (inl e) = inl (x.0.wait, subst (IsIn (q, x.0.wait)) (sym x.0.is) (inl (ap (λ (z : Key). (z, x.0.wait)) e)))
-  goods_by s t (k ∷ ks) waits sorted kept quiet (inl x) q (inr h) = by (goods_by s t ks x.0.rest (rest_in_order k ks sorted) kept quiet x.1 q h)
+  goods_by s t (k ∷ ks) waits sorted kept quiet (inl x) q (inr h) = by (goods_by s t ks x.0.rest (sorted_tail key_cmp k ks sorted) kept quiet x.1 q h)
     where
       by : ((w : Wait) × IsIn (q, w) x.0.rest) ⊎ (applied t q ≡ good_of plan s.written q) → ((w : Wait) × IsIn (q, w) waits) ⊎ (applied t q ≡ good_of plan s.written q)
       by (inl y) = inl (y.0, subst (IsIn (q, y.0)) (sym x.0.is) (inr y.1))
@@ -137,7 +139,7 @@ module _ (plan : Ports) (is : IsPlan plan) (workers : ℕ) (capacities : List �
   goods_by s t (k ∷ ks) waits sorted kept quiet (inr (mid, x, rest)) q (inl e) =
       let y = brings_kept s mid k kept quiet x in
       inr (pass_other mid t ks waits q y.0 y.1 rest (λ h. not-self k q (above k q ks sorted h) (sym e)) ∙ subst (λ z. applied mid z ≡ good_of plan s.written z) (sym e) (brings_good s mid k quiet x))
-  goods_by s t (k ∷ ks) waits sorted kept quiet (inr (mid, x, rest)) q (inr h) = by (goods_by mid t ks waits (rest_in_order k ks sorted) y.0 y.1 rest q h)
+  goods_by s t (k ∷ ks) waits sorted kept quiet (inr (mid, x, rest)) q (inr h) = by (goods_by mid t ks waits (sorted_tail key_cmp k ks sorted) y.0 y.1 rest q h)
     where
       y : IsSafe plan workers capacities mid × IsQuiet mid
       y = brings_kept s mid k kept quiet x

@@ -3,6 +3,7 @@ use Rattle.std.proofs.Common.{◌≡◌, ◌∷◌, inl, inr, ℕ, List, [], map
 use Rattle.std.specs.List.{AllByRecursion}
 use Rattle.std.specs.List.Sorted.{IsStrictlySortedBy}
 use Rattle.std.specs.declared.cmp.Ordering.TheVariants.{Less}
+use Rattle.std.proofs.lemmas.Map.Keys.{sorted_tail}
 use Rattle.table_schema.specs.Key.{key_cmp}
 use Rattle.table_schema.specs.Plan.{Ports}
 use Rattle.table_schema.specs.declared.key.Key.{Key}
@@ -12,7 +13,7 @@ use Rattle.switch_model.specs.Marks.{AreInOrder}
 use Rattle.switch_model.specs.declared.wait.Wait.{Wait}
 use Rattle.switch_machine.specs.Events.{SwitchState}
 use Rattle.restart_laws.specs.Restored.{IsPass, waiting_of}
-use Rattle.restart_laws.proofs.Order.{above, rest_in_order}
+use Rattle.restart_laws.proofs.Order.{above}
 
 all_above : (k : Key) (ws : List (Key × Wait)) → ((q : Key) (w : Wait) → IsIn (q, w) ws → key_cmp k q ≡ Less) → AllByRecursion (λ y. key_cmp k y ≡ Less) (map (λ (w : Key × Wait × Option Row). w.0) (waiting_of ws))
 all_above k [] h = tt
@@ -41,5 +42,5 @@ module _ (plan : Ports) (workers : ℕ) (capacities : List ℕ) where
   pass-rising s t [] waits sorted x = subst (λ z. AreInOrder (waiting_of z)) (sym x.0) none_listed
   pass-rising s t (k ∷ ks) waits sorted (inl x) =
       subst (λ z. AreInOrder (waiting_of z)) (sym x.0.is)
-      (one_wait_more k x.0.wait x.0.rest (λ q w i. above k q ks sorted (listed_in s t ks x.0.rest x.1 q w i)) (pass-rising s t ks x.0.rest (rest_in_order k ks sorted) x.1))
-  pass-rising s t (k ∷ ks) waits sorted (inr (mid, x, rest)) = pass-rising mid t ks waits (rest_in_order k ks sorted) rest
+      (one_wait_more k x.0.wait x.0.rest (λ q w i. above k q ks sorted (listed_in s t ks x.0.rest x.1 q w i)) (pass-rising s t ks x.0.rest (sorted_tail key_cmp k ks sorted) x.1))
+  pass-rising s t (k ∷ ks) waits sorted (inr (mid, x, rest)) = pass-rising mid t ks waits (sorted_tail key_cmp k ks sorted) rest

@@ -21,12 +21,12 @@ use Rattle.sai_types.specs.Named.{named}
 use Rattle.sai_types.specs.Names.{ThingName, name_kind, name_of}
 use Rattle.sai_types.specs.Objects.{Objects, level, used}
 use Rattle.sai_types.specs.Refusal.{capacity_of}
+use Rattle.sai_types.proofs.Membership.{in-left, map-in}
 use Rattle.chip_layout.specs.Counted.{AreDistinct}
 use Rattle.chip_layout.proofs.Answering.{in_those, those_in}
 use Rattle.row_layout.proofs.Split.{things-split}
 use Rattle.switch_model.specs.Desired.{IsThingOf}
 use Rattle.switch_model.specs.Good.{TypedRows}
-use Rattle.switch_model.specs.Marks as marks
 use Rattle.switch_model.specs.Promises.{applied_at}
 use Rattle.switch_model.specs.Room.{FitsTogether}
 use Rattle.switch_model.specs.Steady.{IsSteady, things_after}
@@ -35,6 +35,7 @@ use Rattle.switch_machine.specs.Flights.{StandsIn}
 use Rattle.switch_machine.proofs.Calling.{sort_of}
 use Rattle.switch_machine.proofs.Resting.{back_by, into_by}
 use Rattle.switch_machine.proofs.Tabled.{tabled}
+use Rattle.switch_machine.proofs.Overflowing.{counted_distinct, marked_distinct}
 use Rattle.plan_laws.specs.Applied.{AppliesHitless, IsListedChip, IsView, chip_things, nothing}
 use Rattle.plan_laws.specs.Old.{old_layout}
 use Rattle.plan_laws.specs.Bounds.{IsUnwanted, makes_kind}
@@ -43,7 +44,6 @@ use Rattle.plan_laws.proofs.Applied.{hitless-kept, hitless-steady}
 use Rattle.plan_laws.proofs.Counts.{calls-few, calls-named, old-few, run-makes}
 use Rattle.plan_laws.proofs.Doubles.{fits-shown, lacking-shown, shown-lacking}
 use Rattle.plan_laws.proofs.Keeping.{hitless-removes}
-use Rattle.plan_laws.proofs.Lists.{in-left, map-in}
 use Rattle.plan_laws.proofs.Rooms.{made-lacking}
 use Rattle.restart_laws.specs.Applied.{IsSteadyApply}
 use Rattle.restart_laws.specs.Invariant.{Holds}
@@ -66,14 +66,6 @@ cut_list (suc n) (x ∷ xs) le =
     let r = cut_list n xs (omega (arith, le)) in
     let e = r.3 in
     (x ∷ r.0, r.1, ap (λ z. x ∷ z) r.2, omega (arith, e))
-
-distinct_to : (ks : List ThingName) → AreDistinct ks → marks.AreDistinct ks
-distinct_to [] h = tt
-distinct_to (k ∷ ks) h = (h.0, distinct_to ks h.1)
-
-distinct_from : (ks : List ThingName) → marks.AreDistinct ks → AreDistinct ks
-distinct_from [] h = tt
-distinct_from (k ∷ ks) h = (h.0, distinct_from ks h.1)
 
 module _ (plan : Ports) (is : IsPlan plan) (workers : ℕ) (capacities : List ℕ) (s t : Service) (h : Holds plan workers capacities s) (x : Restores plan workers capacities s t) where
   abbrev new : List Thing
@@ -110,7 +102,7 @@ module _ (plan : Ports) (is : IsPlan plan) (workers : ℕ) (capacities : List �
       where
         lacking : AreLacking (chip_things objects) new kind keys
         lacking = record {
-          distinct = distinct_from keys a.distinct;
+          distinct = counted_distinct keys a.distinct;
           each = λ k i. let y = a.things k i in (ap (λ z. level (name_kind z)) (sym y.1) ∙ y.2, y.0, into y.0 y.3.0, y.1, λ u j e. y.3.1 (u, those_in u (named objects) j, e ∙ sym y.1));
         }
 
@@ -119,7 +111,7 @@ module _ (plan : Ports) (is : IsPlan plan) (workers : ℕ) (capacities : List �
       where
         lacking : (kind : Kind) (names : List ThingName) → AreLacking (chip_things objects) new kind names → used objects kind + length names ≤ capacity_of capacities kind
         lacking kind names l = fits kind names (record {
-          distinct = distinct_to names l.distinct;
+          distinct = marked_distinct names l.distinct;
           things = λ k i. let y = l.each k i in (y.1, y.3, ap (λ z. level (name_kind z)) y.3 ∙ y.0, (back y.1 y.2, λ o. y.4 o.0 (in_those o.0 (named objects) o.1) (o.2 ∙ y.3)));
         })
 

@@ -24,12 +24,12 @@ use Rattle.syncd_core.specs.Run.{tied_calls, view_by}
 use Rattle.syncd_core.specs.Synced.{CanApply, applied}
 use Rattle.session_laws.specs.Core.{CoreState, mark_at}
 use Rattle.session_laws.proofs.Called.{next_made}
-use Rattle.session_laws.proofs.Faulting.{IsFaultLog}
+use Rattle.session_laws.proofs.Faulting.{IsFaultLog, listed_same}
 use Rattle.restart_session_laws.specs.Events.{MakesNext}
 use Rattle.restart_session_laws.specs.Standing.{IsApplyingCore, IsServiceOf}
 use Rattle.restart_session_laws.proofs.Calls.{call_by, left-next, underway-next}
 use Rattle.restart_session_laws.proofs.Holding.{step-holds}
-use Rattle.restart_session_laws.proofs.Marking.{fault-adds, fault-marks, fault-read, fault-taken, listed-none, mark-same}
+use Rattle.restart_session_laws.proofs.Marking.{fault-adds, fault-marks, fault-read, fault-taken, mark-same}
 use Rattle.restart_session_laws.proofs.Numbers.{step-numbers}
 use Rattle.restart_session_laws.proofs.States.{applying-initialized, applying-reconciled, applying-restored, not-in, suspect-applying, suspect-initialized, suspect-reconciled, suspect-restored}
 
@@ -173,7 +173,7 @@ module _ (c : CoreState) (chip : ChipState) (s : LoggedService) (is : IsServiceO
               made = made;
               log = refl;
               effects = effects;
-              listed = listed-none c.log.marks mark c.listed refl is.always.listed ∙ ap listed_by (sym (fault-marks c.log mark log form));
+              listed = listed_same c.log.marks mark c.listed refl is.always.listed ∙ ap listed_by (sym (fault-marks c.log mark log form));
               read = record { taken = fault-read c.log mark log form is.always.read.taken; to_sync = is.always.read.to_sync; waiting = is.always.read.waiting };
             };
             working = λ h. absurd (suspect-reconciled h);

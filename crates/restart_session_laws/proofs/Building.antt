@@ -1,14 +1,14 @@
 -- a building begins, goes on by the same operations as ever, and comes to its end
-use Rattle.std.proofs.Common.{◌≡◌, ◌⊎◌, ◌<◌, ◌++◌, ◌∷◌, ◌∙◌, inl, inr, ℕ, zero, suc, cond, List, [], None, Some, option_map, Ok, Err, refl, sym, ap, subst, arith}
+use Rattle.std.proofs.Common.{◌≡◌, ◌⊎◌, ◌<◌, ◌++◌, ◌∷◌, ◌∙◌, inl, inr, ℕ, cond, List, [], None, Some, option_map, Ok, Err, refl, sym, ap, subst, arith}
 use Rattle.std.specs.Map.{keys_of}
 use Rattle.std.specs.Ordering.{is_eq}
 use Rattle.std.specs.declared.cmp.Ordering.TheVariants.{Less}
 use Rattle.std.proofs.lemmas.List.{append_assoc}
+use Rattle.swss_types.proofs.Maps.{lookup-insert_entry}
 use Rattle.table_schema.specs.Key.{key_cmp}
-use Rattle.table_schema.specs.Plan.{Ports}
 use Rattle.table_schema.specs.Rows.{fields_at}
 use Rattle.table_schema.specs.declared.key.Key.{Key}
-use Rattle.table_schema.proofs.Keys.{key_total}
+use Rattle.table_schema.proofs.Keys.{at_itself, key_total}
 use Rattle.sai_types.specs.declared.answer.SyncAnswer.{SyncAnswer}
 use Rattle.sai_types.specs.declared.body.Call.{Call}
 use Rattle.sai_types.specs.declared.ids.Rid.{Rid}
@@ -20,7 +20,6 @@ use Rattle.chip_layout.specs.Renamed.{call_renamed}
 use Rattle.switch_model.specs.declared.wait.Wait.{Wait}
 use Rattle.retry_list.specs.Reasons.{Reasons, reason_at, with_reason}
 use Rattle.retry_list.proofs.Keyed.{sorted_from_rising}
-use Rattle.producer_table.proofs.Found.{lookup-put}
 use Rattle.consumer_table.specs.Ops.{AreOpsInOrder, Ops, without_op}
 use Rattle.switch_machine.specs.Events.{IsAnswer, IsBegin, IsDrop, SwitchState, after_answers, fresh_view}
 use Rattle.switch_machine.specs.Reasons.{IsReason}
@@ -45,7 +44,6 @@ use Rattle.asic_view.specs.View.{ViewObjects, rid_at, used_of}
 use Rattle.syncd_core.specs.Synced.{CanCall, Calls, Changes, SyncState, current, view_in, with_temporary}
 use Rattle.syncd_core.specs.Tied.{tie_of}
 use Rattle.sync_tables.specs.Tables.{IsToSync}
-use Rattle.sync_tables.proofs.Membership.{at_itself}
 use Rattle.flight_board.specs.Applied.{row_at}
 use Rattle.flight_board.specs.Board.{BoardState, FlightState, IsBegunFor, IsPrepared, IsCallReady, IsTakenFor, IsUnflown, flight_on, flown_at, new_board}
 use Rattle.warm_state.specs.declared.warm.Warm.TheVariants as warm
@@ -57,19 +55,13 @@ use Rattle.session_laws.proofs.Beginnings.{begins, drops, may as may_begin, wait
 use Rattle.session_laws.proofs.Beside.{stands_with}
 use Rattle.session_laws.proofs.Counting.{counts}
 use Rattle.session_laws.proofs.Preparing.{can, has_begun, prepared_stands, ready}
+use Rattle.session_laws.proofs.Beginning.{none_flown}
 use Rattle.settling_laws.proofs.Walking.{in_key_order, walk_goes}
 use Rattle.restart_session_laws.specs.Built.{AreReasons, IsBringing, IsBuilt, IsViewOver, building, over_view, untied_view}
 use Rattle.restart_session_laws.specs.Standing.{IsServiceOf, written_of}
 use Rattle.restart_session_laws.proofs.Popped.{popped-all}
 use Rattle.restart_session_laws.proofs.Reading.{rows-read}
 use Rattle.restart_session_laws.proofs.Viewing.{IsMadeOver, chip_then, made-over, untied-legal, untied-used}
-
-none_flown : (plan : Ports) (capacities : List ℕ) (w : ℕ) → flown_at (new_board plan capacities) w ≡ None
-none_flown plan capacities zero = refl
-none_flown plan capacities (suc zero) = refl
-none_flown plan capacities (suc (suc zero)) = refl
-none_flown plan capacities (suc (suc (suc zero))) = refl
-none_flown plan capacities (suc (suc (suc (suc w)))) = refl
 
 none_less : 0 < 4
 none_less = omega arith
@@ -90,9 +82,9 @@ waiting_more [] k r rest = refl
 waiting_more (w ∷ ws) k r rest = ap (λ l. w.0 ∷ l) (waiting_more ws k r rest)
 
 reasons_more : (reasons : Reasons) (k : Key) (r : Wait) (ws : List (Key × Wait)) → ((q : Key) → IsIn q (keys_waiting ws) → key_cmp q k ≡ Less) → AreReasons reasons ws → AreReasons (with_reason reasons k r) (ws ++ (k, r) ∷ [])
-reasons_more reasons k r [] below have = (lookup-put key_cmp key_total reasons k r k ∙ ap (λ b. cond b (Some r) (reason_at reasons k)) (at_itself k k refl), tt)
+reasons_more reasons k r [] below have = (lookup-insert_entry key_cmp key_total reasons k r k ∙ ap (λ b. cond b (Some r) (reason_at reasons k)) (at_itself k k refl), tt)
 reasons_more reasons k r (w ∷ ws) below have = (
-  lookup-put key_cmp key_total reasons k r w.0 ∙ ap (λ o. cond (is_eq o) (Some r) (reason_at reasons w.0)) (below w.0 (inl refl)) ∙ have.0,
+  lookup-insert_entry key_cmp key_total reasons k r w.0 ∙ ap (λ o. cond (is_eq o) (Some r) (reason_at reasons w.0)) (below w.0 (inl refl)) ∙ have.0,
   reasons_more reasons k r ws (λ q i. below q (inr i)) have.1,
 )
 

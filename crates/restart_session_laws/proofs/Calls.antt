@@ -1,52 +1,32 @@
 -- one call of a plan more
 use Rattle.std.proofs.Common.{◌≡◌, ◌+◌, ◌++◌, ◌∷◌, ◌∙◌, ℕ, cond, List, [], refl, sym, ap}
 use Rattle.std.proofs.lemmas.List.{append_assoc}
-use Rattle.sai_types.specs.declared.body.Body.{Body}
-use Rattle.sai_types.specs.declared.body.Body.TheVariants as body
 use Rattle.sai_types.specs.declared.body.Call.{Call}
-use Rattle.sai_types.specs.declared.body.Call.TheVariants as call
 use Rattle.sai_types.specs.declared.ids.Rid.{Rid}
 use Rattle.sai_types.specs.declared.ids.Vid.{Vid}
 use Rattle.sai_types.specs.declared.plan.PlanCall.{PlanCall}
 use Rattle.sai_types.specs.declared.thing.Thing.{Thing}
-use Rattle.sai_types.specs.After.{after_call, after_calls, has_id, makes_id}
+use Rattle.sai_types.specs.After.{after_call, after_calls}
 use Rattle.sai_types.specs.Made.{made_after, made_after_all}
 use Rattle.sai_types.specs.Objects.{Objects}
 use Rattle.sai_chip.specs.Naming.{entries_of}
-use Rattle.chip_layout.specs.Renamed.{body_renamed, call_renamed}
+use Rattle.chip_layout.specs.Renamed.{call_renamed}
 use Rattle.plan_laws.proofs.Running.{after-append}
 use Rattle.machine_laws.proofs.Staying.{made-one}
 use Rattle.asic_view.specs.View.{ViewObjects}
 use Rattle.syncd_core.specs.Run.{made_by, tied_after, tied_calls, view_by}
 use Rattle.syncd_core.specs.Synced.{SyncState, applied}
 use Rattle.syncd_core.specs.Tied.{plan_tie}
+use Rattle.order_laws.proofs.Called.{makes_renamed}
 use Rattle.sync_laws.specs.Begun.{first_ties}
 use Rattle.restart_session_laws.specs.Standing.{IsUnderway}
-
-has-renamed : {I J : Type 0} (f : I → J) (b : Body I) → has_id (body_renamed f b) ≡ has_id b
-has-renamed f (body.Port lanes speed mtu up) = refl
-has-renamed f (body.Vlan vlan) = refl
-has-renamed f (body.BridgePort v) = refl
-has-renamed f (body.VlanMember v u tagging) = refl
-has-renamed f (body.Rif on) = refl
-has-renamed f (body.OwnAddress ip) = refl
-has-renamed f (body.Neighbor v ip mac) = refl
-has-renamed f (body.NextHop v ip) = refl
-has-renamed f body.Group = refl
-has-renamed f (body.GroupMember v u) = refl
-has-renamed f (body.Route prefix to) = refl
-
-pub makes-renamed : {I J : Type 0} (f : I → J) (c : Call I) → makes_id (call_renamed f c) ≡ makes_id c
-makes-renamed f (call.Create b) = has-renamed f b
-makes-renamed f (call.Set e a) = refl
-makes-renamed f (call.Remove e) = refl
 
 -- a call of a plan as it comes to the chip by these ties
 abbrev pub call_by : ViewObjects → PlanCall → Call Rid
 call_by view c = call_renamed (plan_tie view) c.call
 
 pub made-same : (made : ℕ) (view : ViewObjects) (c : PlanCall) → made_after made (call_by view c) ≡ made_by made c
-made-same made view c = ap (λ b. cond b (made + 1) made) (makes-renamed (plan_tie view) c.call)
+made-same made view c = ap (λ b. cond b (made + 1) made) (makes_renamed (plan_tie view) c.call)
 
 after-one : (made : ℕ) (view : ViewObjects) (xs : List PlanCall) (c : PlanCall) → tied_after made view (xs ++ c ∷ []) ≡ view_by (made_after_all made (tied_calls made view xs)) (tied_after made view xs) c
 after-one made view [] c = refl

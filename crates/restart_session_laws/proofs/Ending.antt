@@ -4,7 +4,6 @@ use Rattle.std.specs.BTreeMap.{is_at}
 use Rattle.std.specs.List.{slice_get}
 use Rattle.std.specs.List.Sorted.{IsStrictlySortedBy}
 use Rattle.std.specs.Map.{keys_of, lookup}
-use Rattle.std.specs.Ordering.{nat_cmp}
 use Rattle.std.proofs.lemmas.Bool.{false≢true}
 use Rattle.std.proofs.lemmas.List.{append-nil}
 use Rattle.std.proofs.lemmas.Option.{same_Some, slice_get-map}
@@ -19,7 +18,6 @@ use Rattle.sai_types.specs.declared.plan.Mode.{Mode}
 use Rattle.sai_types.specs.declared.plan.Mode.TheVariants as mode
 use Rattle.sai_types.specs.declared.plan.Plan.{Plan}
 use Rattle.sai_types.specs.declared.plan.PlanCall.{PlanCall}
-use Rattle.sai_types.specs.declared.plan.PlanId.TheVariants as plan_id
 use Rattle.sai_types.specs.declared.thing.Thing.{Thing}
 use Rattle.sai_types.specs.After.{after_calls, entry_of, has_id, makes_id}
 use Rattle.sai_types.specs.Alike.{IsIn}
@@ -28,49 +26,46 @@ use Rattle.sai_types.specs.Names.{name_of}
 use Rattle.sai_types.specs.Objects.{Objects, body_at, kind_of}
 use Rattle.sai_types.proofs.Exact.{entry-exact}
 use Rattle.sai_types.proofs.Found.{same-refl}
+use Rattle.sai_types.proofs.Membership.{all-in, in-map, map-in}
 use Rattle.sai_chip.specs.Naming.{entries_of}
 use Rattle.chip_layout.specs.Bodies.{IsBody, is_numbered}
 use Rattle.chip_layout.specs.Counted.{AreDistinct}
 use Rattle.chip_layout.specs.Layout.{Has, IsLaidOut, Layout, has_number, listed}
-use Rattle.chip_layout.specs.Renamed.{body_renamed, call_renamed, entry_renamed}
+use Rattle.chip_layout.specs.Renamed.{body_renamed, call_renamed}
 use Rattle.chip_layout.proofs.Bodies.{entry-same, kind-body}
 use Rattle.chip_layout.proofs.Entries.{one-entry}
 use Rattle.chip_layout.proofs.Shapes.{body-renamed, body-within, renamed}
+use Rattle.chip_layout.proofs.Distinct.{one-of}
 use Rattle.plan_laws.specs.Applied.{nothing}
-use Rattle.plan_laws.specs.Calls.{Resolves, plan_layout, resolve, viewed}
-use Rattle.plan_laws.specs.Old.{old_layout}
+use Rattle.plan_laws.specs.Calls.{resolve, viewed}
 use Rattle.plan_laws.proofs.Applied.{plan-comes, plan-safe}
 use Rattle.plan_laws.proofs.Calling.{plan-called}
 use Rattle.plan_laws.proofs.Cold.{half-room, halfway, makes-safe}
-use Rattle.plan_laws.proofs.Lists.{in-map, map-in}
 use Rattle.plan_laws.proofs.Running.{after-append, new-stand, stands-new}
 use Rattle.view_match.specs.Pairs.{pairs_of}
-use Rattle.apply_order.specs.Naming.{id_by, names_from}
 use Rattle.asic_view.specs.declared.object.ViewObject.{ViewObject}
 use Rattle.asic_view.specs.View.{ViewObjects, entry_at, object_of, rid_at, rid_in, vid_cmp, with_tie}
-use Rattle.asic_view.proofs.Keeping.{all-in, found-key}
+use Rattle.asic_view.proofs.Keeping.{found-key}
 use Rattle.syncd_core.specs.Begun.{objects_in, tied_entries, tied_in, tied_objects, tied_pairs}
 use Rattle.syncd_core.specs.Run.{made_by, tied_after, view_by}
 use Rattle.syncd_core.specs.Synced.{tied_by}
 use Rattle.syncd_core.specs.Tied.{rid_or_none, tie_of}
-use Rattle.syncd_core.proofs.Ties.{tie_kept_through}
-use Rattle.order_laws.specs.Apply.{AreNumbered, IsPlanned, calls_by, plan_calls}
+use Rattle.order_laws.specs.Apply.{IsPlanned, calls_by, plan_calls}
 use Rattle.order_laws.specs.Viewed.{IsEntry, things_in}
 use Rattle.order_laws.proofs.Applying.{applies-cold, cold-all, cold-making, cold_back, cold_front, cold_makes, hitless-calls, hitless_changes, is-cold, is-hitless}
 use Rattle.order_laws.proofs.Changes.{due-of}
-use Rattle.order_laws.proofs.Ids.{hitless-named, named-has, one-named}
 use Rattle.order_laws.proofs.Partners.{in-place, place-in}
 use Rattle.order_laws.proofs.Placed.{object-at, thing-at}
-use Rattle.order_laws.proofs.Puts.{IsNamed, names-from}
 use Rattle.order_laws.proofs.Shuffled.{in-shuffled}
 use Rattle.apply_order.specs.Naming.{names_in}
 use Rattle.tie_laws.specs.Ties.{AreTied, HasTie, IsTie, entry_tied}
-use Rattle.restart_session_laws.proofs.Lists.{one-of}
-use Rattle.sync_laws.proofs.Ended.{pairs-tied, view-stands}
-use Rattle.sync_laws.proofs.InTime.{plan-in_time}
+use Rattle.tie_laws.proofs.Standing.{own_id}
+use Rattle.sync_laws.proofs.Ended.{hitless_tied, in_view, view-stands}
 use Rattle.sync_laws.proofs.Numbered.{apply-by_ties, last_ties, made-by}
-use Rattle.sync_laws.proofs.Started.{id_of, map_place, pairs-free, there-first}
+use Rattle.sync_laws.proofs.Started.{id_of, map_place, pairs-free}
 use Rattle.sync_laws.proofs.Ties.{tied-apart}
+use Rattle.sync_laws.proofs.Worked.{rid_numbers}
+use Rattle.sync_laws.proofs.Standing.{entry-by}
 use Rattle.restart_laws.specs.Identified.{renamed_by}
 use Rattle.restart_laws.proofs.Resolved.{laid-renamed, renamed_in}
 use Rattle.restart_session_laws.specs.Standing.{HaveNumbers}
@@ -165,31 +160,17 @@ same_place (z ∷ zs) d (suc i) (suc j) x y a b same = ap suc (same_place zs d.1
 
 -- ---- entries and identifiers
 
-entry_by : (f : Vid → Rid) (v : Vid) (b : Body Vid) → entry_renamed f (entry_at v b) ≡ entry_of (f v).0 (body_renamed f b)
-entry_by f v (body.OwnAddress ip) = refl
-entry_by f v (body.Neighbor r ip m) = refl
-entry_by f v (body.Route p t) = refl
-entry_by f v (body.Port l s m u) = refl
-entry_by f v _ = refl
-
 numbered : {I : Type 0} (b : Body I) → is_numbered (kind_of b) ≡ has_id b
 numbered (body.Port lanes speed mtu up) = refl
 numbered (body.Vlan vlan) = refl
 numbered _ = refl
 
-own_id : {I : Type 0} (i : I) (b : Body I) → has_id b ≡ true → entry_at i b ≡ entry.Oid i
-own_id i (body.OwnAddress ip) h = absurd (false≢true h)
-own_id i (body.Neighbor rif ip mac) h = absurd (false≢true h)
-own_id i (body.Route prefix to) h = absurd (false≢true h)
-own_id i (body.Port l s m u) h = refl
-own_id i _ h = refl
-
-own_entry : (i : Rid) (b : Body Rid) → has_id b ≡ true → entry_of i.0 b ≡ entry.Oid i
-own_entry i (body.OwnAddress ip) h = absurd (false≢true h)
-own_entry i (body.Neighbor rif ip mac) h = absurd (false≢true h)
-own_entry i (body.Route prefix to) h = absurd (false≢true h)
-own_entry i (body.Port l s m u) h = refl
-own_entry i _ h = refl
+entry_at_id : {I : Type 0} (i : I) (b : Body I) → has_id b ≡ true → entry_at i b ≡ entry.Oid i
+entry_at_id i (body.OwnAddress ip) h = absurd (false≢true h)
+entry_at_id i (body.Neighbor rif ip mac) h = absurd (false≢true h)
+entry_at_id i (body.Route prefix to) h = absurd (false≢true h)
+entry_at_id i (body.Port l s m u) h = refl
+entry_at_id i _ h = refl
 
 id_there : (v w : Vid) (b : Body Vid) → entry_at v b ≡ entry.Oid w → has_id b ≡ true
 id_there v w (body.OwnAddress ip) e = absurd cc
@@ -198,15 +179,12 @@ id_there v w (body.Route p t) e = absurd cc
 id_there v w (body.Port l s m u) e = refl
 id_there v w _ e = refl
 
-oids : (r s : Rid) → entry.Oid r ≡ entry.Oid s → r.0 ≡ s.0
-oids r s h = let is : r ≡ s = cc in ap (λ (z : Rid). z.0) is
-
 -- an identifier that an object has was made so far
 made_so_far : (n : ℕ) (objects : Objects) → IsWhole n objects → (r : Rid) (b : Body Rid) → has_id b ≡ true → body_at objects (entry.Oid r) ≡ Some b → r.0 ≤ n
 made_so_far n objects whole r b id found =
     let entered = whole.entered.each (entry.Oid r) b found in
     let own : Rid = record { 0 = entered.0 } in
-    let is : r.0 ≡ entered.0 = oids r own (entry-exact (entry.Oid r) (entry_of entered.0 b) entered.2 ∙ own_entry own b id) in
+    let is : r.0 ≡ entered.0 = rid_numbers r own (entry-exact (entry.Oid r) (entry_of entered.0 b) entered.2 ∙ own_id own b id) in
     let most = entered.1 in
     omega (arith, is, most)
 
@@ -223,35 +201,6 @@ module _ {capacities : List ℕ} {made : ℕ} {old : List (Object Rid)} (objects
   abbrev pub end_chip : Objects
   end_chip = after_calls made (entries_of old) (calls_by (tie_of (last_ties objects x free)) plan)
 
-  by_number : AreNumbered (tie_of (last_ties objects x free)) made plan.calls
-  by_number = (apply-by_ties objects x free).numbered
-
-  in_view : (v : Vid) (u : Thing) → IsIn (v, u) things → IsIn u (things_in things)
-  in_view v u i = in-map (λ (z : Vid × Thing). z.1) things (v, u) i
-
-  -- a paired object is tied to its partner to the end
-  partner_tied : plan.mode ≡ mode.Hitless → (v : Vid) (u : Thing) (r : Rid) → IsIn (v, u) things → has_number u ≡ true → IsNamed old (objects_in objects) (pairs_of old (objects_in objects)) v r → tie_of (last_ties objects x free) v ≡ r
-  partner_tied e v u r i number y =
-      let pairs = pairs_of old (objects_in objects) in
-      let first = pairs-tied old objects v r pairs objects (there-first old objects x.chip x.view v u i number) (λ p s k b. one-named old x.chip x.view v u s r (record { one = b.0; other = b.1; i = p.0; j = p.1; among = k; one_at = b.2; other_at = b.3; one_is = b.4; other_is = b.5 }) y i number) (inr ((y.i, y.j), y.among, (y.one, y.other, y.one_at, y.other_at, y.one_is, y.other_is))) in
-      let begun = subst (λ m. rid_at (tied_in m objects old (objects_in objects) pairs) v ≡ Some r) (sym e) first in
-      ap rid_or_none (tie_kept_through made (tied_in plan.mode objects old (objects_in objects) pairs) plan.calls v r (plan-in_time objects x free) begun)
-
-  hitless_tied : plan.mode ≡ mode.Hitless → (L : Layout Rid) → Resolves (old_layout (entries_of old) (things_in things)) (viewed things) (tie_of (last_ties objects x free)) L → ((t : Thing) → IsIn t (things_in things) → (j : Rid) × L j t) → (v : Vid) (u : Thing) → IsIn (v, u) things → has_number u ≡ true → Has L (name_of u) (tie_of (last_ties objects x free) v)
-  hitless_tied e L res all v u i number = by (lookup (is_at (nat_cmp v.0)) (names_from [] old (objects_in objects) (pairs_of old (objects_in objects)))) refl
-    where
-      by : (o : Option Rid) → lookup (is_at (nat_cmp v.0)) (names_from [] old (objects_in objects) (pairs_of old (objects_in objects))) ≡ o → Has L (name_of u) (tie_of (last_ties objects x free) v)
-      by (Some r) h =
-          let y = names-from old (objects_in objects) (pairs_of old (objects_in objects)) v r h in
-          let has = named-has old x.chip x.view v u r y i number in
-          let j = all u (in_view v u i) in
-          subst (Has L (name_of u)) (sym (partner_tied e v u r i number y)) (res.old (name_of u) r has j.0 (u, j.1, refl))
-      by None h =
-          let named = hitless-named old x.chip x.view x.lanes v u i number in
-          let fact : plan_layout (old_layout (entries_of old) (things_in things)) (viewed things) (plan_id.New v) u = subst (λ o. plan_layout (old_layout (entries_of old) (things_in things)) (viewed things) (id_by o v) u) h named in
-          let j = all u (in_view v u i) in
-          res.new v u i number fact.1 j.0 (u, j.1, refl)
-
   -- ---- the chip is laid out by the things, each with the identifier to which it is tied
 
   one_in_view : (v w : Vid) (t u : Thing) → IsIn (v, t) things → IsIn (w, u) things → name_of t ≡ name_of u → (v ≡ w) × (t ≡ u)
@@ -264,15 +213,15 @@ module _ {capacities : List ℕ} {made : ℕ} {old : List (Object Rid)} (objects
 
   laid_by : (L : Layout Rid) (S : Objects) → IsLaidOut L S → ((i : Rid) (t : Thing) → L i t → IsIn t (things_in things)) → ((t : Thing) → IsIn t (things_in things) → (i : Rid) × L i t) → ((v : Vid) (u : Thing) → IsIn (v, u) things → has_number u ≡ true → Has L (name_of u) (tie_of (last_ties objects x free) v)) → IsLaidOut (listed (renamed_by (tie_of (last_ties objects x free)) things)) S
   laid_by L S laid only all tied =
-      laid-renamed L S laid things one_in_view (tie_of (last_ties objects x free)) (λ v t h. all t (in_view v t h)) (λ i t h. thing_there t (only i t h))
-      (λ v t h number. let has = tied v t h number in let j = all t (in_view v t h) in subst (λ z. L (tie_of (last_ties objects x free) v) z) (laid.one (tie_of (last_ties objects x free) v) j.0 has.0 t has.1 j.1 has.2).1 has.1)
+      laid-renamed L S laid things one_in_view (tie_of (last_ties objects x free)) (λ v t h. all t (in_view objects x free v t h)) (λ i t h. thing_there t (only i t h))
+      (λ v t h number. let has = tied v t h number in let j = all t (in_view objects x free v t h) in subst (λ z. L (tie_of (last_ties objects x free) v) z) (laid.one (tie_of (last_ties objects x free) v) j.0 has.0 t has.1 j.1 has.2).1 has.1)
 
   hitless_laid : plan.mode ≡ mode.Hitless → IsLaidOut (listed (renamed_by (tie_of (last_ties objects x free)) things)) end_chip
   hitless_laid e =
       let planned = is-hitless x e in
-      let c = plan-comes planned (hitless_changes x e) [] (sym (append-nil (hitless_changes x e))) things (tie_of (last_ties objects x free)) (plan_calls plan) (hitless-calls x e (tie_of (last_ties objects x free)) by_number) in
+      let c = plan-comes planned (hitless_changes x e) [] (sym (append-nil (hitless_changes x e))) things (tie_of (last_ties objects x free)) (plan_calls plan) (hitless-calls x e (tie_of (last_ties objects x free)) (apply-by_ties objects x free).numbered) in
       let all = new-stand (plan-safe planned) c.end.at in
-      laid_by c.end.layout end_chip c.end.at.laid (stands-new (plan-safe planned) c.end.at) all (hitless_tied e c.end.layout c.resolves all)
+      laid_by c.end.layout end_chip c.end.at.laid (stands-new (plan-safe planned) c.end.at) all (hitless_tied objects x free e c.end.layout c.resolves all)
 
   cold_laid : plan.mode ≡ mode.Cold → IsLaidOut (listed (renamed_by (tie_of (last_ties objects x free)) things)) end_chip
   cold_laid e =
@@ -280,11 +229,11 @@ module _ {capacities : List ℕ} {made : ℕ} {old : List (Object Rid)} (objects
       let planned = is-cold x e in
       let front = map (call_renamed (resolve ids')) (map (λ (c : PlanCall). c.call) (cold_front x e)) in
       let back = map (call_renamed (resolve ids')) (map (λ (c : PlanCall). c.call) (cold_back x e)) in
-      let a = applies-cold x e ids' by_number in
-      let c = plan-called nothing (viewed things) ids' (makes-safe planned) (halfway planned front a.removing) capacities (half-room planned front a.removing) (cold_makes x e) [] (sym (append-nil (cold_makes x e))) (map (λ (c : PlanCall). c.call) (cold_back x e)) (cold-making x e ids' by_number) in
+      let a = applies-cold x e ids' (apply-by_ties objects x free).numbered in
+      let c = plan-called nothing (viewed things) ids' (makes-safe planned) (halfway planned front a.removing) capacities (half-room planned front a.removing) (cold_makes x e) [] (sym (append-nil (cold_makes x e))) (map (λ (c : PlanCall). c.call) (cold_back x e)) (cold-making x e ids' (apply-by_ties objects x free).numbered) in
       let all = new-stand (makes-safe planned) c.end.at in
-      subst (IsLaidOut (listed (renamed_by ids' things))) (sym (after-append made (entries_of old) front back) ∙ ap (after_calls made (entries_of old)) (sym (cold-all x e ids' by_number)))
-      (laid_by c.end.layout (after_calls (made_after_all made front) (after_calls made (entries_of old) front) back) c.end.at.laid (stands-new (makes-safe planned) c.end.at) all (λ v u i number. let j = all u (in_view v u i) in c.resolves.new v u i number (λ r h. h.1) j.0 (u, j.1, refl)))
+      subst (IsLaidOut (listed (renamed_by ids' things))) (sym (after-append made (entries_of old) front back) ∙ ap (after_calls made (entries_of old)) (sym (cold-all x e ids' (apply-by_ties objects x free).numbered)))
+      (laid_by c.end.layout (after_calls (made_after_all made front) (after_calls made (entries_of old) front) back) c.end.at.laid (stands-new (makes-safe planned) c.end.at) all (λ v u i number. let j = all u (in_view objects x free v u i) in c.resolves.new v u i number (λ r h. h.1) j.0 (u, j.1, refl)))
 
   pub laid-end : IsLaidOut (listed (renamed_by (tie_of (last_ties objects x free)) things)) end_chip
   laid-end = by plan.mode refl
@@ -336,7 +285,7 @@ module _ {capacities : List ℕ} {made : ℕ} {old : List (Object Rid)} (objects
   entry_then : (y : Item) (k : ℕ) (o : IsOf y k) → entry_tied V y ≡ entry_of (tie_of (last_ties objects x free) o.thing.0).0 (body_renamed (tie_of (last_ties objects x free)) y.1.body)
   entry_then y k o =
       let f = tie_of (last_ties objects x free) in
-      entry_by f y.0 y.1.body ∙ entry-same (Has R) (f y.0).0 (f o.thing.0).0 o.thing.1 (body_renamed f y.1.body) (body_then y k o) (λ number. ap (λ v. (f v).0) (own_vid y k o number))
+      entry-by f y.0 y.1.body ∙ entry-same (Has R) (f y.0).0 (f o.thing.0).0 o.thing.1 (body_renamed f y.1.body) (body_then y k o) (λ number. ap (λ v. (f v).0) (own_vid y k o number))
 
   stands_then : (y : Item) (k : ℕ) (o : IsOf y k) → R (tie_of (last_ties objects x free) o.thing.0) o.thing.1
   stands_then y k o = renamed_in (tie_of (last_ties objects x free)) things o.thing.0 o.thing.1 (place-in things k o.thing o.at)
@@ -401,7 +350,7 @@ module _ {capacities : List ℕ} {made : ℕ} {old : List (Object Rid)} (objects
         let f = tie_of (last_ties objects x free) in
         let on_chip = laid-end.stand (f v) u (renamed_in f things v u h) in
         let id : has_id on_chip.0 ≡ true = sym (numbered on_chip.0) ∙ ap is_numbered (kind-body (Has R) u on_chip.0 on_chip.1) ∙ number in
-        let found : body_at end_chip (entry.Oid (f v)) ≡ Some on_chip.0 = ap (body_at end_chip) (sym (own_entry (f v) on_chip.0 id)) ∙ on_chip.2 in
+        let found : body_at end_chip (entry.Oid (f v)) ≡ Some on_chip.0 = ap (body_at end_chip) (sym (own_id (f v) on_chip.0 id)) ∙ on_chip.2 in
         let some = numbers (f v) on_chip.0 found in
         (rid_some (rid_at V v) some, some, made_so_far n end_chip whole (f v) on_chip.0 id found)
 

@@ -9,9 +9,10 @@ use Rattle.sai_types.specs.Alike.{IsIn}
 use Rattle.sai_types.specs.ChipState.{ChipState}
 use Rattle.sai_types.specs.Made.{IsWhole}
 use Rattle.sai_types.specs.Names.{name_of}
+use Rattle.sai_types.proofs.Membership.{in-map, map-in}
 use Rattle.sai_chip.specs.Naming.{entries_of}
 use Rattle.chip_layout.specs.Layout.{IsLaidOut, has_number, listed}
-use Rattle.plan_laws.proofs.Lists.{in-map, map-in}
+use Rattle.chip_layout.proofs.Distinct.{one-of}
 use Rattle.switch_model.specs.History.{with_mark}
 use Rattle.switch_model.specs.declared.mark.MarkEvent.TheVariants as event
 use Rattle.switch_machine.specs.Events.{SwitchState}
@@ -32,14 +33,14 @@ use Rattle.order_laws.specs.Viewed.{things_in}
 use Rattle.sync_laws.specs.Begun.{first_ties}
 use Rattle.sync_laws.proofs.Numbered.{last_ties, tied-are}
 use Rattle.tie_laws.specs.Ties.{AreTied}
-use Rattle.restart_session_laws.proofs.Lists.{one-of}
 use Rattle.flight_board.specs.Board.{flown_at}
 use Rattle.session_laws.specs.Core.{CoreState, mark_at}
+use Rattle.session_laws.proofs.Faulting.{listed_same}
 use Rattle.restart_session_laws.specs.Events.{MakesNext}
 use Rattle.restart_session_laws.specs.Standing.{HaveNumbers, IsApplyingCore, IsServiceOf, IsUnderway}
 use Rattle.restart_session_laws.proofs.Ending.{are-tied, laid-end, tied-end}
 use Rattle.restart_session_laws.proofs.Holding.{step-holds}
-use Rattle.restart_session_laws.proofs.Marking.{listed-none, mark-same}
+use Rattle.restart_session_laws.proofs.Marking.{mark-same}
 use Rattle.restart_session_laws.proofs.States.{reconciled-applying, reconciled-initialized, reconciled-restored}
 
 module _ (c : CoreState) (chip : ChipState) (s : LoggedService) (is : IsServiceOf c chip s) (at : c.warm ≡ warm.Applying) (none : c.sync.left ≡ []) where
@@ -153,7 +154,7 @@ module _ (c : CoreState) (chip : ChipState) (s : LoggedService) (is : IsServiceO
         made = is.always.made;
         log = sym (mark-same c s is.always.log event.ApplyEnded s.effects (length chip.effects) (ap length (sym is.always.effects)));
         effects = is.always.effects;
-        listed = listed-none c.log.marks (mark_at c (length chip.effects) event.ApplyEnded) c.listed refl is.always.listed;
+        listed = listed_same c.log.marks (mark_at c (length chip.effects) event.ApplyEnded) c.listed refl is.always.listed;
         read = record { taken = is.always.read.taken; to_sync = is.always.read.to_sync; waiting = is.always.read.waiting };
       };
       working = λ _. (

@@ -1,20 +1,12 @@
 -- steps one after the other, and the size of the log
-use Rattle.std.proofs.Common.{◌≡◌, ◌∷◌, ◌++◌, ◌∙◌, ℕ, List, [], length, refl, sym, ap, ap₂, subst}
-use Rattle.table_schema.specs.Plan.{Ports}
+use Rattle.std.proofs.Common.{◌≡◌, ◌∷◌, ◌++◌, ◌∙◌, [], length, refl, sym, ap, ap₂, subst}
 use Rattle.sai_types.specs.ChipState.{ChipState}
 use Rattle.switch_model.specs.History.{log_size, size_listing}
 use Rattle.restart_laws.specs.Logged.{AreLoggedSteps, LoggedService, session_after}
 use Rattle.session_laws.specs.Core.{CoreState, size_beside}
+use Rattle.session_laws.proofs.Joining.{after_both, are_both}
 use Rattle.restart_session_laws.specs.Events.{MakesMore, MakesNext}
 use Rattle.restart_session_laws.specs.Standing.{IsServiceOf}
-
-after_both : (s : LoggedService) (xs ys : List LoggedService) → session_after s (xs ++ ys) ≡ session_after (session_after s xs) ys
-after_both s [] ys = refl
-after_both s (x ∷ xs) ys = after_both x xs ys
-
-are_both : (plan : Ports) (capacities : List ℕ) (s : LoggedService) (xs ys : List LoggedService) → AreLoggedSteps plan 4 capacities s xs → AreLoggedSteps plan 4 capacities (session_after s xs) ys → AreLoggedSteps plan 4 capacities s (xs ++ ys)
-are_both plan capacities s [] ys a b = b
-are_both plan capacities s (x ∷ xs) ys a b = (a.0, are_both plan capacities x xs ys a.1 b)
 
 pub none-more : (c : CoreState) (chip : ChipState) (s : LoggedService) → IsServiceOf c chip s → MakesMore c s c chip
 none-more c chip s is = record { steps = []; are = tt; stands = is; plan = refl; capacities = refl; limit = refl }

@@ -9,7 +9,6 @@ pub mod Taking
 pub mod Restarting
 pub mod Listing
 pub mod Popping
-pub mod Lists
 pub mod Calls
 pub mod Applying
 pub mod Ending

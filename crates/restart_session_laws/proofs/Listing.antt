@@ -15,11 +15,11 @@ use Rattle.restart_laws.specs.Service.{OfList, OfListFault}
 use Rattle.syncd_core.specs.Synced.{SyncState, TakesList, with_listed}
 use Rattle.syncd_core.specs.declared.answer.Listed.TheVariants as listed
 use Rattle.session_laws.specs.Core.{CoreState, mark_at}
-use Rattle.session_laws.proofs.Faulting.{IsFaultLog}
+use Rattle.session_laws.proofs.Faulting.{IsFaultLog, listed_same}
 use Rattle.restart_session_laws.specs.Events.{MakesNext}
 use Rattle.restart_session_laws.specs.Standing.{IsServiceOf}
 use Rattle.restart_session_laws.proofs.Holding.{step-holds}
-use Rattle.restart_session_laws.proofs.Marking.{fault-adds, fault-marks, fault-read, fault-taken, listed-none, mark-same}
+use Rattle.restart_session_laws.proofs.Marking.{fault-adds, fault-marks, fault-read, fault-taken, mark-same}
 use Rattle.restart_session_laws.proofs.Numbers.{step-numbers}
 use Rattle.restart_session_laws.proofs.States.{restored-applying, restored-initialized, restored-reconciled, suspect-applying, suspect-initialized, suspect-reconciled, suspect-restored}
 
@@ -106,7 +106,7 @@ module _ (c : CoreState) (chip : ChipState) (s : LoggedService) (is : IsServiceO
             made = ap next_id failed.1.same.effects ∙ is.always.made;
             log = refl;
             effects = is.always.effects ∙ sym failed.1.same.effects;
-            listed = listed-none c.log.marks mark c.listed refl is.always.listed ∙ ap listed_by (sym (fault-marks c.log mark log form));
+            listed = listed_same c.log.marks mark c.listed refl is.always.listed ∙ ap listed_by (sym (fault-marks c.log mark log form));
             read = record {
               to_sync = is.always.read.to_sync;
               taken = fault-read c.log mark log form is.always.read.taken;

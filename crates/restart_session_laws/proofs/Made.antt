@@ -19,10 +19,11 @@ use Rattle.syncd_core.specs.declared.answer.ApplyStep.{ApplyStep}
 use Rattle.syncd_core.specs.declared.answer.ApplyStep.TheVariants as step
 use Rattle.session_laws.specs.Core.{CoreState, mark_at}
 use Rattle.session_laws.proofs.Faulting.{IsFaultLog}
+use Rattle.order_laws.proofs.Called.{makes_renamed}
 use Rattle.restart_session_laws.specs.Events.{MakesMore, MakesNext}
 use Rattle.restart_session_laws.specs.Standing.{IsServiceOf}
 use Rattle.restart_session_laws.proofs.Applying.{applied-next, apply-fails, can-apply}
-use Rattle.restart_session_laws.proofs.Calls.{call_by, makes-renamed}
+use Rattle.restart_session_laws.proofs.Calls.{call_by}
 use Rattle.restart_session_laws.proofs.Finishing.{finish-next}
 
 -- ---- what the chip's answer says
@@ -54,10 +55,10 @@ module _ (chip chip' : ChipState) (view view' : ViewObjects) (made : ℕ) (next 
   view_made r makes number ties =
       let rid : ℕ → Rid = λ n. record { 0 = n } in
       ties ∙ ap (tied_by view c.makes) (ap rid (number ∙ next))
-      ∙ ap (λ b. cond b (tied_by view c.makes (record { 0 = made + 1 })) view) (sym makes ∙ makes-renamed (plan_tie view) c.call)
+      ∙ ap (λ b. cond b (tied_by view c.makes (record { 0 = made + 1 })) view) (sym makes ∙ makes_renamed (plan_tie view) c.call)
 
   view_done : makes_id d ≡ false → view' ≡ view → view' ≡ view_by made view c
-  view_done makes ties = ties ∙ ap (λ b. cond b (tied_by view c.makes (record { 0 = made + 1 })) view) (sym makes ∙ makes-renamed (plan_tie view) c.call)
+  view_done makes ties = ties ∙ ap (λ b. cond b (tied_by view c.makes (record { 0 = made + 1 })) view) (sym makes ∙ makes_renamed (plan_tie view) c.call)
 
   -- it did not fail
   went : (said : ChipAnswer) → Answers chip d said chip' → Ties view c said view' → (step_by said cs ≡ step.Failed → ⊥) → WentWell chip d chip' view view' made c

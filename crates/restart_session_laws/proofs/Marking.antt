@@ -14,10 +14,6 @@ use Rattle.switch_machine.proofs.Needing.{listed_more}
 use Rattle.session_laws.specs.Core.{CoreState, mark_at}
 use Rattle.session_laws.proofs.Faulting.{Ended, IsFaultLog, Marked}
 
--- a mark that lists none
-pub listed-none : (marks : List Mark) (mark : Mark) (n : ℕ) → keys_listed mark.event ≡ 0 → n ≡ listed_by marks → n ≡ listed_by (marks ++ mark ∷ [])
-listed-none marks mark n none h = let more = listed_more marks mark in omega (arith, none, h, more)
-
 -- and one that lists so many
 pub listed-so : (marks : List Mark) (mark : Mark) (n m : ℕ) → keys_listed mark.event ≡ m → n ≡ listed_by marks → n + m ≡ listed_by (marks ++ mark ∷ [])
 listed-so marks mark n m some h = let more = listed_more marks mark in omega (arith, some, h, more)

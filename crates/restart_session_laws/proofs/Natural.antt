@@ -12,6 +12,7 @@ use Rattle.sai_types.specs.Names.{name_of}
 use Rattle.sai_types.specs.Objects.{Objects, body_at}
 use Rattle.sai_types.proofs.Exact.{entry-exact}
 use Rattle.sai_types.proofs.Listed.{object-of_thing}
+use Rattle.sai_types.proofs.Membership.{in-map, map-in}
 use Rattle.chip_layout.specs.Bodies.{IsBody}
 use Rattle.chip_layout.specs.Counted.{AreDistinct}
 use Rattle.chip_layout.specs.Grouped.{AreGrouped}
@@ -20,7 +21,6 @@ use Rattle.chip_layout.proofs.Answering.{those_in}
 use Rattle.chip_layout.proofs.Entries.{same-entry}
 use Rattle.chip_layout.proofs.Naming.{thing-laid}
 use Rattle.plan_laws.specs.Applied.{IsListedChip}
-use Rattle.plan_laws.proofs.Lists.{in-map, map-in}
 use Rattle.view_match.specs.Keys.{key_of, keys_of_objects}
 use Rattle.order_laws.proofs.Partners.{key-name}
 use Rattle.order_laws.proofs.Raw.{found-raw, thing-raw}

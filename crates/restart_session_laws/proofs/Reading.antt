@@ -7,20 +7,10 @@ use Rattle.table_schema.specs.declared.key.Key.{Key}
 use Rattle.table_schema.specs.declared.write.Write.{Write}
 use Rattle.sai_types.specs.Alike.{IsIn}
 use Rattle.switch_model.specs.Marks.{written_key}
-use Rattle.switch_machine.specs.Written.{HasWrittenRows, Written, fields_after}
+use Rattle.switch_machine.specs.Written.{HasWrittenRows, Written}
 use Rattle.switch_machine.proofs.Splits.{IsSplit, key_split}
-use Rattle.switch_machine.proofs.Telling.{told-taken}
 use Rattle.machine_laws.specs.Reading.{IsOnSwitch}
-use Rattle.machine_laws.proofs.Sharing.{fields_beside}
-
-fields_more : (ws : List Write) (w : Write) (k : Key) → fields_at (rows_of (ws ++ w ∷ [])) k ≡ fields_after w k (fields_at (rows_of ws) k)
-fields_more ws w k = told-taken w old new (record { taken = refl; rows = λ q. refl; waiting = λ q o. refl }) (λ q. refl) k
-  where
-    old : Written
-    old = record { taken = ws; rows = λ q. None; waiting = λ q o. fields_at (rows_of ws) q }
-
-    new : Written
-    new = record { taken = ws ++ w ∷ []; rows = λ q. None; waiting = λ q o. fields_after w q (fields_at (rows_of ws) q) }
+use Rattle.machine_laws.proofs.Sharing.{fields_beside, fields_more}
 
 in_taken : (n : ℕ) (ws : List Write) (w : Write) → IsIn w (take n ws) → IsIn w ws
 in_taken zero ws w i = elim i [ ]

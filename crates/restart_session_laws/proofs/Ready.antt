@@ -30,6 +30,7 @@ use Rattle.swss_types.proofs.Proper.{mapped}
 use Rattle.sai_types.proofs.Keys.{share-first}
 use Rattle.sai_types.proofs.Listed.{found-in, object-of_thing}
 use Rattle.sai_types.proofs.Things.{both_mapped}
+use Rattle.sai_types.proofs.Membership.{map-in}
 use Rattle.sai_chip.specs.Naming.{entries_of}
 use Rattle.chip_layout.specs.Counted.{AreDistinct}
 use Rattle.chip_layout.specs.Grouped.{AreGrouped}
@@ -39,13 +40,13 @@ use Rattle.chip_layout.specs.Renamed.{body_renamed, entry_renamed}
 use Rattle.chip_layout.proofs.Answering.{in_those, those_in}
 use Rattle.chip_layout.proofs.Bodies.{entry-body}
 use Rattle.chip_layout.proofs.Naming.{alike-laid, thing-laid}
+use Rattle.chip_layout.proofs.Distinct.{distinct-by}
 use Rattle.switch_model.proofs.Planned.{has-first, lanes-planned, one-planned}
 use Rattle.switch_machine.specs.Events.{IsQuiet, IsSafe, SwitchState}
 use Rattle.switch_machine.proofs.Calling.{lanes_name}
 use Rattle.switch_machine.proofs.Resting.{grouped as machine_grouped}
 use Rattle.switch_machine.proofs.Tabled.{tabled}
 use Rattle.plan_laws.specs.Applied.{IsListedChip, chip_things}
-use Rattle.plan_laws.proofs.Lists.{map-in}
 use Rattle.view_match.specs.Listed.{objects_as, rid_of}
 use Rattle.view_match.specs.Pairs.{new_keys, pairs_of}
 use Rattle.apply_order.specs.Planned.{IsPlanOf}
@@ -66,7 +67,6 @@ use Rattle.tie_laws.specs.Standing.{AreThingsOf}
 use Rattle.tie_laws.specs.Ties.{AreTied, entry_tied}
 use Rattle.tie_laws.proofs.Alike.{stand-for, tie-once}
 use Rattle.tie_laws.proofs.Calls.{used-alike}
-use Rattle.restart_session_laws.proofs.Lists.{distinct-by}
 use Rattle.restart_laws.specs.Chips.{IsPlannedBody, IsPlannedChip}
 use Rattle.restart_laws.proofs.Bodies.{IsPlannedThing, of-body}
 use Rattle.restart_laws.proofs.Leading.{chip-listed}

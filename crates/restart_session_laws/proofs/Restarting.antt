@@ -8,10 +8,11 @@ use Rattle.warm_state.specs.declared.warm.Warm.TheVariants as warm
 use Rattle.restart_laws.specs.Logged.{IsLoggedStep, LoggedService, OfService, mark_now}
 use Rattle.restart_laws.specs.Service.{OfRestart, forgotten}
 use Rattle.session_laws.specs.Core.{CoreState, mark_at}
+use Rattle.session_laws.proofs.Faulting.{listed_same}
 use Rattle.restart_session_laws.specs.Events.{MakesNext, restarted}
 use Rattle.restart_session_laws.specs.Standing.{IsServiceOf}
 use Rattle.restart_session_laws.proofs.Holding.{step-holds}
-use Rattle.restart_session_laws.proofs.Marking.{listed-none, mark-same}
+use Rattle.restart_session_laws.proofs.Marking.{mark-same}
 use Rattle.restart_session_laws.proofs.Numbers.{step-numbers}
 use Rattle.restart_session_laws.proofs.States.{initialized-applying, initialized-reconciled, initialized-restored}
 
@@ -42,7 +43,7 @@ module _ (c : CoreState) (chip : ChipState) (s : LoggedService) (is : IsServiceO
         made = is.always.made;
         log = sym (mark-same c s is.always.log event.Restarted s.effects (length chip.effects) (ap length (sym is.always.effects)));
         effects = is.always.effects;
-        listed = listed-none c.log.marks (mark_at c (length chip.effects) event.Restarted) c.listed refl is.always.listed;
+        listed = listed_same c.log.marks (mark_at c (length chip.effects) event.Restarted) c.listed refl is.always.listed;
         read = record { taken = is.always.read.taken; to_sync = λ k i. elim i [ ]; waiting = is.always.read.waiting };
       };
       working = λ at. absurd (initialized-reconciled at);

@@ -3,6 +3,7 @@ use Rattle.std.proofs.Common.{◌≡◌, ◌+◌, ◌∷◌, ◌∙◌, suc, Lis
 use Rattle.std.specs.List.Sorted.{IsStrictlySortedBy}
 use Rattle.std.specs.Map.{keys_of}
 use Rattle.std.proofs.lemmas.List.{append-nil}
+use Rattle.std.proofs.lemmas.Option.{same_Some}
 use Rattle.table_schema.specs.Plan.{IsPlan}
 use Rattle.table_schema.specs.declared.key.Key.{Key}
 use Rattle.table_schema.specs.declared.row.Row.{Row}
@@ -14,8 +15,8 @@ use Rattle.sai_types.specs.declared.plan.Mode.{Mode}
 use Rattle.sai_types.specs.declared.thing.Thing.{Thing}
 use Rattle.sai_types.specs.Alike.{IsIn}
 use Rattle.sai_types.specs.ChipState.{ChipState, objects_of}
-use Rattle.sai_types.specs.Objects.{Objects}
 use Rattle.sai_chip.specs.Naming.{entries_of}
+use Rattle.sai_chip.proofs.SameNames.{entries_of-objects_of}
 use Rattle.switch_model.specs.History.{History, listed_by, with_mark}
 use Rattle.switch_model.specs.Marks.{Waiting, sent_writes, written_key}
 use Rattle.switch_model.specs.declared.mark.Mark.{Mark}
@@ -63,11 +64,6 @@ use Rattle.restart_session_laws.proofs.Ready.{begun-built, built-stands, natural
 use Rattle.restart_session_laws.proofs.Sessions.{exactly-ahead}
 use Rattle.restart_session_laws.proofs.States.{applying-initialized, applying-reconciled, applying-restored}
 
--- the list of a chip gives its objects
-listed_objects : (os : Objects) → entries_of (objects_of os) ≡ os
-listed_objects [] = refl
-listed_objects (o ∷ os) = ap (λ l. o ∷ l) (listed_objects os)
-
 keys_untied : (os : ViewObjects) → keys_of (untied_view os) ≡ keys_of os
 keys_untied [] = refl
 keys_untied (x ∷ xs) = ap (λ l. x.0 ∷ l) (keys_untied xs)
@@ -75,9 +71,6 @@ keys_untied (x ∷ xs) = ap (λ l. x.0 ∷ l) (keys_untied xs)
 waiting_long : (ws : List (Key × Wait)) → length (waiting_of ws) ≡ length ws
 waiting_long [] = refl
 waiting_long (w ∷ ws) = ap suc (waiting_long ws)
-
-same_some : {X : Type 0} (a b : X) → Some a ≡ Some b → a ≡ b
-same_some a b h = cc
 
 module _ (first : CoreState) (chip : ChipState) (s : LoggedService) (is : IsServiceOf first chip s) (at : first.warm ≡ warm.Restored) (popped : first.tables.waiting ≡ []) (c : CoreState) (x : IsBuilt first c []) where
   abbrev core : SwitchState
@@ -145,17 +138,17 @@ module _ (first : CoreState) (chip : ChipState) (s : LoggedService) (is : IsServ
     bare = untied_view x.over.view
 
     old_is : begins.old ≡ old
-    old_is = same_some begins.old old (sym begins.listed ∙ listed)
+    old_is = same_Some begins.old old (sym begins.listed ∙ listed)
 
     new_is : begins.new ≡ bare
-    new_is = same_some begins.new bare (sym begins.temporary ∙ x.over.temporary)
+    new_is = same_Some begins.new bare (sym begins.temporary ∙ x.over.temporary)
 
     abbrev things : List (Vid × Thing)
     things = things_built first.board.plan is.always.plan first.sync.capacities view safe.0 safe.1 x.over.view tied
 
     begun : IsApplyBegun first.sync.capacities core.made old bare things begins.plan
     begun =
-        begun-built first.board.plan is.always.plan first.sync.capacities view safe.0 safe.1 x.over.view tied core.made core.objects is.always.holds.safe.chip old (listed_objects chip.objects ∙ sym is.always.objects) begins.plan
+        begun-built first.board.plan is.always.plan first.sync.capacities view safe.0 safe.1 x.over.view tied core.made core.objects is.always.holds.safe.chip old (entries_of-objects_of chip.objects ∙ sym is.always.objects) begins.plan
         (subst (λ l. IsPlanOf old (objects_in bare) (pairs_of old (objects_in bare)) l begins.plan) x.beside.capacities
         (subst (λ v. IsPlanOf old (objects_in v) (pairs_of old (objects_in v)) c.sync.capacities begins.plan) new_is
         (subst (λ o. IsPlanOf o (objects_in begins.new) (pairs_of o (objects_in begins.new)) c.sync.capacities begins.plan) old_is begins.planned)))
@@ -191,7 +184,7 @@ module _ (first : CoreState) (chip : ChipState) (s : LoggedService) (is : IsServ
 
     planned : IsPlannedAs m first.sync.capacities core.made s.service.seen (only_things view.machine.stands) left
     planned =
-        subst (λ o. IsPlannedAs m first.sync.capacities core.made o (only_things view.machine.stands) left) (listed_objects chip.objects ∙ sym is.always.objects ∙ sym seen_is)
+        subst (λ o. IsPlannedAs m first.sync.capacities core.made o (only_things view.machine.stands) left) (entries_of-objects_of chip.objects ∙ sym is.always.objects ∙ sym seen_is)
         (subst (IsPlannedAs m first.sync.capacities core.made (entries_of old) (only_things view.machine.stands)) (sym (tied-are bare begun.planned begun.free))
         (subst (λ n. IsPlannedAs n first.sync.capacities core.made (entries_of old) (only_things view.machine.stands) (calls_by (tie_of (last_ties bare begun.planned begun.free)) begins.plan)) (sym begins.mode)
         (planned-alike (things_in things) (only_things view.machine.stands)
@@ -241,7 +234,7 @@ module _ (first : CoreState) (chip : ChipState) (s : LoggedService) (is : IsServ
       cut = refl;
       made_is = refl;
       ties = refl;
-      objects_are = is.always.objects ∙ sym (listed_objects chip.objects);
+      objects_are = is.always.objects ∙ sym (entries_of-objects_of chip.objects);
       left_are = refl;
     }
 
@@ -324,7 +317,7 @@ listed_from reasons (w ∷ ws) (k ∷ ks) [] have are list = absurd list
 listed_from reasons (w ∷ ws) (k ∷ ks) (l ∷ ls) have are list =
     let key : k ≡ w.0 = cc in
     let rest : ks ≡ keys_waiting ws = cc in
-    let reason : l.1 ≡ w.1 = same_some l.1 w.1 (sym list.1 ∙ ap (reason_at reasons) key ∙ have.0) in
+    let reason : l.1 ≡ w.1 = same_Some l.1 w.1 (sym list.1 ∙ ap (reason_at reasons) key ∙ have.0) in
     ap (λ z. z ∷ ls) (same_listing l w (list.0 ∙ key) reason list.2) ∙ ap (λ z. (w.0, w.1, None) ∷ z) (listed_from reasons ws ks ls have.1 rest list.3)
 
 pub listed-waits : (first c : CoreState) (x : IsBuilt first c []) (listing : Waiting) → AreBareWaits c.waiting (keys_of c.tables.ops) listing → listing ≡ waiting_of x.waits

@@ -1,15 +1,14 @@
 -- a write that is taken is a step, in any warm state
-use Rattle.std.proofs.Common.{◌≡◌, ◌⊎◌, ◌++◌, ◌∷◌, ◌∙◌, inl, inr, Bool, true, false, cond, [], Option, None, Some, unwrap_or, refl, sym, ap, subst}
+use Rattle.std.proofs.Common.{◌≡◌, ◌⊎◌, ◌++◌, ◌∷◌, ◌∙◌, inl, inr, Bool, true, false, [], None, refl, sym, ap, subst}
 use Rattle.std.proofs.lemmas.List.{append-nil}
 use Rattle.std.specs.BTreeMap.{is_at}
-use Rattle.table_schema.specs.Fields.{Pairs, merged}
 use Rattle.table_schema.specs.Key.{key_cmp}
 use Rattle.table_schema.specs.declared.key.Key.{Key}
 use Rattle.table_schema.specs.declared.write.Sent.{Sent}
 use Rattle.table_schema.specs.declared.write.Write.{Write}
-use Rattle.table_schema.specs.declared.write.Write.TheVariants.{Set, Del}
 use Rattle.sai_types.specs.Alike.{IsIn}
 use Rattle.sai_types.specs.ChipState.{ChipState}
+use Rattle.sai_types.proofs.Membership.{in-push}
 use Rattle.switch_model.specs.History.{with_write}
 use Rattle.switch_model.specs.Marks.{sent_writes, written_key}
 use Rattle.switch_machine.specs.Events.{IsTake, SwitchState}
@@ -29,18 +28,13 @@ use Rattle.flight_board.specs.Board.{flown_at}
 use Rattle.warm_state.specs.declared.warm.Warm.{Warm}
 use Rattle.warm_state.specs.declared.warm.Warm.TheVariants as warm
 use Rattle.session_laws.specs.Core.{CoreState, with_taken}
+use Rattle.session_laws.proofs.Writing.{other_key}
 use Rattle.restart_session_laws.specs.Events.{MakesNext}
 use Rattle.restart_session_laws.specs.Standing.{IsAhead, IsExact, IsServiceOf, written_of}
 use Rattle.restart_session_laws.proofs.Holding.{step-holds}
 use Rattle.restart_session_laws.proofs.Sessions.{exactly-ahead}
-use Rattle.restart_session_laws.proofs.Lists.{in-push}
 use Rattle.restart_session_laws.proofs.Numbers.{step-numbers}
 use Rattle.restart_session_laws.proofs.States.{initialized-applying, initialized-reconciled, restored-applying, restored-reconciled, suspect-applying, suspect-reconciled}
-
--- a write leaves each other key
-other_key : (w : Write) (k : Key) (o : Option Pairs) → is_at (key_cmp k) (written_key w) ≡ false → fields_after w k o ≡ o
-other_key (Set key fields) k o apart = ap (λ b. cond b (Some (merged (unwrap_or o []) fields)) o) apart
-other_key (Del key) k o apart = ap (λ b. cond b None o) apart
 
 module _ (c : CoreState) (chip : ChipState) (s : LoggedService) (sent : Sent) (is : IsServiceOf c chip s) (on : IsOnSwitch (written_key sent.write)) (order : AreInOrder c.tables.waiting) where
   abbrev core : SwitchState

@@ -26,8 +26,8 @@ use Rattle.asic_view.specs.declared.object.ViewObject.{ViewObject}
 use Rattle.asic_view.specs.View.{IsLegalOn, IsNew, ViewObjects, after_create, after_remove, after_set, as_rid, body_set, entry_at, is_named, set_in, shown_by, untied, used_of, with_tie}
 use Rattle.syncd_core.specs.Synced.{Changes, IsMade, answer_made}
 use Rattle.syncd_core.specs.Tied.{tie_of}
+use Rattle.order_laws.proofs.Called.{makes_renamed}
 use Rattle.restart_session_laws.specs.Built.{untied_view}
-use Rattle.restart_session_laws.proofs.Calls.{makes-renamed}
 use Rattle.restart_session_laws.proofs.Ending.{tie-alike}
 
 abbrev Item : Type 0
@@ -126,7 +126,7 @@ module _ (view : ViewObjects) (chip : ChipState) where
           let made : a ≡ sync.Made v = said ∙ ap (λ t. cond t (sync.Made v) sync.Done) id in
           record {
             view' = with_tie (after_create view v b) v r;
-            made = record { answer = answer.Made r; answered = answered_then chip (call_renamed (tie_of view) (call.Create b)) legal true (makes-renamed (tie_of view) (call.Create b) ∙ id); follows = (v, fresh, refl, made) };
+            made = record { answer = answer.Made r; answered = answered_then chip (call_renamed (tie_of view) (call.Create b)) legal true (makes_renamed (tie_of view) (call.Create b) ∙ id); follows = (v, fresh, refl, made) };
             same = is ∙ sym (untied_created view v b) ∙ sym (untied_tie (after_create view v b) v r);
             went = λ h. made_failed v (sym made ∙ h);
           }
@@ -134,7 +134,7 @@ module _ (view : ViewObjects) (chip : ChipState) where
           let done : a ≡ sync.Done = said ∙ ap (λ t. cond t (sync.Made v) sync.Done) id in
           record {
             view' = after_create view v b;
-            made = record { answer = answer.Done; answered = answered_then chip (call_renamed (tie_of view) (call.Create b)) legal false (makes-renamed (tie_of view) (call.Create b) ∙ id); follows = (v, fresh, refl, done) };
+            made = record { answer = answer.Done; answered = answered_then chip (call_renamed (tie_of view) (call.Create b)) legal false (makes_renamed (tie_of view) (call.Create b) ∙ id); follows = (v, fresh, refl, done) };
             same = is ∙ sym (untied_created view v b);
             went = λ h. done_failed (sym done ∙ h);
           }

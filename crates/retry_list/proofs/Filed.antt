@@ -1,5 +1,5 @@
 -- what is filed under events, after a change of one event's keys
-use Rattle.std.proofs.Common.{◌≡◌, Bool, true, false, cond, ◌&&◌, not, List, [], Option, None, Some, Result, Ok, Err, IfOk, IsOkAnd, OnOk, OnErr, refl, sym, ap, ◌∙◌}
+use Rattle.std.proofs.Common.{◌≡◌, Bool, true, false, cond, ◌&&◌, not, List, [], Option, None, Some, Result, Ok, Err, IfOk, IsOkAnd, OnOk, refl, sym, ap, ◌∙◌}
 use Rattle.std.specs.BTreeMap.{is_at}
 use Rattle.std.specs.BTreeSet.{BTreeSet}
 use Rattle.std.specs.List.{list_any}
@@ -13,11 +13,6 @@ use Rattle.retry_list.proofs.Events.{same_event}
 
 abbrev pub has : Option (BTreeSet Key) → Key → Bool
 has o q = list_any (is_at (key_cmp q)) (keys_in o)
-
--- what holds holds after a refusal
-pub anyway : {T E P : Type 0} (r : Result T E) → P → OnErr r P
-anyway (Ok x) p = tt
-anyway (Err x) p = p
 
 pub anyway_ok : {T E P : Type 0} (r : Result T E) → P → OnOk r P
 anyway_ok (Ok x) p = p

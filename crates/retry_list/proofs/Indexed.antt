@@ -1,11 +1,11 @@
 -- that keys stay filed under the events that their reasons are about
 use Rattle.std.proofs.Common.{◌≡◌, Bool, true, false, cond, ◌&&◌, not, Option, None, Some, refl, sym, ap, ap₂, subst, ◌∙◌}
 use Rattle.std.specs.BTreeMap.{is_at}
+use Rattle.swss_types.proofs.Maps.{lookup-insert_entry}
 use Rattle.table_schema.specs.Key.{key_cmp}
 use Rattle.table_schema.specs.declared.key.Key.{Key}
 use Rattle.table_schema.proofs.Keys.{key_total, tied_keys_same}
 use Rattle.switch_model.specs.declared.wait.Wait.{Wait}
-use Rattle.sai_types.proofs.Maps.{lookup-insert_entry}
 use Rattle.retry_list.specs.declared.event.Event.{Event}
 use Rattle.retry_list.specs.declared.index.Index.{Index}
 use Rattle.retry_list.specs.Event.{event_cmp}

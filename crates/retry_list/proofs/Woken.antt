@@ -11,6 +11,7 @@ use Rattle.std.proofs.lemmas.Cmp.{eq_by_cmp_equiv, tied_itself}
 use Rattle.std.proofs.lemmas.Map.Entries.{lookup-filter-values, option_filter}
 use Rattle.std.proofs.lemmas.Map.Keys.{IsDistinct-from_sorted}
 use Rattle.std.proofs.lemmas.Map.Lookups.{btree_set_from_contains}
+use Rattle.swss_types.proofs.Maps.{lookup-insert_entry}
 use Rattle.table_schema.specs.Fields.{HasRisingKeys}
 use Rattle.table_schema.specs.Key.{key_cmp}
 use Rattle.table_schema.specs.declared.key.Key.{Key}
@@ -18,7 +19,7 @@ use Rattle.table_schema.proofs.Keys.{key_exact, key_total}
 use Rattle.table_schema.proofs.Places.{HasRisingKeys-insert_entry, out_step}
 use Rattle.table_schema.proofs.RowLists.{HasRisingKeys-remove_entry}
 use Rattle.switch_model.specs.declared.wait.Wait.{Wait}
-use Rattle.sai_types.proofs.Maps.{lookup-insert_entry, lookup-removed}
+use Rattle.sai_types.proofs.Maps.{lookup-removed}
 use Rattle.retry_list.specs.declared.event.Event.{Event}
 use Rattle.retry_list.specs.declared.index.Index.{Index}
 use Rattle.retry_list.specs.Event.{event_cmp}
@@ -127,13 +128,10 @@ IsIndexed-woken r after old new event h indexed cleared left e q =
     ∙ ap (λ r. is_woken e (reason_at r q)) (sym left)
 
 -- the list after a step, by key
-HasRisingKeys-after : (r : Reasons) (step : RetryStep) → HasRisingKeys key_cmp r → HasRisingKeys key_cmp (reasons_after r step)
-HasRisingKeys-after r (Put k w) h = HasRisingKeys-insert_entry key_cmp key_total r k w h
-HasRisingKeys-after r (Forgot k) h = HasRisingKeys-remove_entry key_cmp (is_at (key_cmp k)) r h
-HasRisingKeys-after r (Woke e) h = HasRisingKeys-filtered (λ w. not (is_about e w)) r h
-
 pub reasons_after-rise : (r : Reasons) (step : RetryStep) → HasRisingKeys key_cmp r → HasRisingKeys key_cmp (reasons_after r step)
-reasons_after-rise = HasRisingKeys-after
+reasons_after-rise r (Put k w) h = HasRisingKeys-insert_entry key_cmp key_total r k w h
+reasons_after-rise r (Forgot k) h = HasRisingKeys-remove_entry key_cmp (is_at (key_cmp k)) r h
+reasons_after-rise r (Woke e) h = HasRisingKeys-filtered (λ w. not (is_about e w)) r h
 
 reason_at-after : (r : Reasons) (step : RetryStep) (q : Key) → HasRisingKeys key_cmp r → reason_at (reasons_after r step) q ≡ reason_after q (reason_at r q) step
 reason_at-after r (Put k w) q h = lookup-insert_entry key_cmp key_total r k w q
@@ -142,7 +140,7 @@ reason_at-after r (Woke e) q h = reason_at-left_asleep e r q h
 
 reason_at-after_all : (r : Reasons) (steps : List RetryStep) (q : Key) → HasRisingKeys key_cmp r → reason_at (reasons_after_all r steps) q ≡ last_reason q (reason_at r q) steps
 reason_at-after_all r [] q h = refl
-reason_at-after_all r (step ∷ steps) q h = reason_at-after_all (reasons_after r step) steps q (HasRisingKeys-after r step h) ∙ ap (λ o. last_reason q o steps) (reason_at-after r step q h)
+reason_at-after_all r (step ∷ steps) q h = reason_at-after_all (reasons_after r step) steps q (reasons_after-rise r step h) ∙ ap (λ o. last_reason q o steps) (reason_at-after r step q h)
 
 pub reason_at-last : (steps : List RetryStep) (q : Key) → reason_at (reasons_after_all [] steps) q ≡ last_reason q None steps
 reason_at-last steps q = reason_at-after_all [] steps q tt

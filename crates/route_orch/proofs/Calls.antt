@@ -1,5 +1,5 @@
 -- the call that is due of a route's operation, and the group that its new row has
-use Rattle.std.proofs.Common.{◌≡◌, ◌⊎◌, inl, inr, ℕ, List, [], ◌∷◌, ◌++◌, Option, Some, None, option_map, refl, sym, ap, subst, ◌∙◌}
+use Rattle.std.proofs.Common.{◌≡◌, ◌⊎◌, inl, inr, ℕ, [], ◌∷◌, Option, Some, None, option_map, refl, sym, ap, subst, ◌∙◌}
 use Rattle.std.proofs.lemmas.Bool.{false≢true}
 use Rattle.std.proofs.lemmas.Option.{same_Some}
 use Rattle.swss_types.specs.declared.address.Prefix.{Prefix}
@@ -20,6 +20,7 @@ use Rattle.sai_types.specs.declared.thing.Goal.{Goal}
 use Rattle.sai_types.specs.declared.thing.Goal.TheVariants as goal
 use Rattle.sai_types.specs.declared.thing.Thing.{Thing}
 use Rattle.sai_types.specs.declared.thing.Thing.TheVariants as thing
+use Rattle.sai_types.proofs.Membership.{in-left}
 use Rattle.chip_layout.specs.Bodies.{IsAt, IsBody, IsChange, first_of, second_of, to_with}
 use Rattle.row_layout.specs.Operations.{Make, Set, Take, uses_of}
 use Rattle.row_layout.specs.Rows.{Owner, OfRow, goal_of}
@@ -48,11 +49,6 @@ use Rattle.route_orch.proofs.Goals.{goal-same, goal_uses, to-at, uses-goal}
 pub route_operation_told : (f : Operation) (w : ℕ) (p : Prefix) (applied wanted wanted' : Option RouteRow) (t : Target) (s s' : RouteStep) (leaves retires : Option Name) → route_operation w p applied wanted t s leaves retires ≡ f → s ≡ s' → wanted ≡ wanted' → f ≡ route_operation w p applied wanted' t s' leaves retires
 route_operation_told f w p applied wanted wanted' t s s' leaves retires is at has =
     sym is ∙ ap (λ z. route_operation w p applied wanted t z leaves retires) at ∙ ap (λ z. route_operation w p applied z t s' leaves retires) has
-
-in-first : {X : Type 0} (x : X) (xs ys : List X) → IsIn x xs → IsIn x (xs ++ ys)
-in-first x [] ys h = elim h [ ]
-in-first x (z ∷ xs) ys (inl is) = inl is
-in-first x (z ∷ xs) ys (inr h) = inr (in-first x xs ys h)
 
 -- what has the name of a route is a route
 is_route : (t : Thing) (p : Prefix) → name_of t ≡ thing_name.Route p → (g : Goal) × (t ≡ thing.Route p g)
@@ -189,7 +185,7 @@ module _ (plan : Ports) (p : Prefix) where
                 refl,
                 record {
                   old = old;
-                  there = in-first old (own_of plan (key.Route p) (option_map row.Route applied)) (things_retired (option_map owner_for retires)) held;
+                  there = in-left old (own_of plan (key.Route p) (option_map row.Route applied)) (things_retired (option_map owner_for retires)) held;
                   same = named;
                   entry = entry.Route p;
                   of = route_entry p (HasVid plan names) old named;

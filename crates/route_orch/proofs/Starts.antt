@@ -1,21 +1,11 @@
 -- the start of a route's operation
-use Rattle.std.proofs.Common.{◌≡◌, inl, ℕ, List, [], ◌∷◌, Option, Some, None, refl, sym, ap, subst, ◌∙◌}
+use Rattle.std.proofs.Common.{◌≡◌, ℕ, List, [], ◌∷◌, Option, None, refl, sym, ap, ◌∙◌}
 use Rattle.table_schema.specs.declared.key.Key.{Key}
 use Rattle.table_schema.specs.declared.row.Row.{Row}
-use Rattle.sai_types.specs.Alike.{IsIn}
 use Rattle.row_layout.specs.Operations.{Change}
 use Rattle.row_layout.specs.Rows.{Owner}
-use Rattle.ref_counts.specs.declared.name.Name.{Name}
 use Rattle.ref_counts.specs.Registry.{Names}
-use Rattle.orch_flight.specs.Needing.{name_for}
-use Rattle.orch_flight.specs.Sharing.{MayShare, owner_for, owners_of}
 use Rattle.orch_flight.specs.Starting.{started_by, started_names_by}
-use Rattle.orch_flight.proofs.Rows.{same-name}
-
--- what is shared may be
-pub may-share : (names : Names) (us : List Owner) (shared : Option Name) → us ≡ owners_of shared → ((o : Owner) → IsIn o us → MayShare names (Some (name_for o))) → MayShare names shared
-may-share names us None is may = tt
-may-share names us (Some n) is may = subst (λ m. MayShare names (Some m)) (same-name n) (may (owner_for n) (subst (IsIn (owner_for n)) (sym is) (inl refl)))
 
 -- an operation with nothing due has nothing to leave
 pub names-due : (names : Names) (worker : ℕ) (k : Key) (due : List Change) (leaves : Option Owner) → (due ≡ [] → leaves ≡ None) → started_names_by names worker k due leaves ≡ names

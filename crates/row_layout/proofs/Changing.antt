@@ -18,7 +18,7 @@ use Rattle.row_layout.specs.Operations.{Change, Set, changes_of, own_sets, build
 use Rattle.row_layout.specs.Rows.{Owner, OfRow, Bridge, Own, Group, own_things}
 use Rattle.row_layout.specs.Shared.{uses}
 
-set_none : (t : Thing) (rest : List Change) → set_to t t rest ≡ rest
+pub set_none : (t : Thing) (rest : List Change) → set_to t t rest ≡ rest
 set_none t rest = ap (λ b. if b then rest else Set t ∷ rest) (equal_thing.laws-law.refl t)
 
 pub set_same : (ts : List Thing) → set_all ts ts ≡ []

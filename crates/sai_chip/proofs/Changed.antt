@@ -15,6 +15,7 @@ use Rattle.std.proofs.lemmas.Map.Entries.{none_below_head}
 use Rattle.std.proofs.lemmas.Map.Keys.{sorted_tail}
 use Rattle.std.proofs.lemmas.Map.Lookups.{CmpEqualImpliesEq, exact_unsigned}
 use Rattle.std.proofs.lemmas.Map.Steps.{set_value_same}
+use Rattle.std.proofs.lemmas.Iterator.Adapters.{option_map_id}
 use Rattle.swss_types.specs.declared.address.Ip.{Ip}
 use Rattle.swss_types.specs.declared.address.Mac.{Mac}
 use Rattle.swss_types.specs.declared.address.Prefix.{Prefix}
@@ -79,16 +80,12 @@ set-lacking objects e a (Some b) sorted found lacks =
     ∙ insert-found entry_cmp entry_total e b b objects sorted found
     ∙ set_value_same (is_at (entry_cmp e)) objects b found
 
-mapped_same : {X : Type 0} (o : Option X) → option_map (λ x. x) o ≡ o
-mapped_same None = refl
-mapped_same (Some x) = refl
-
 -- bodies with identifiers alone
 pub at-numbered : (ids : List (Rid × Body Rid)) (r : Rid) → body_at (numbered ids) (entry.Oid r) ≡ lookup (is_at (rid_cmp r)) ids
 at-numbered ids r =
     ap (λ l. body_at l (entry.Oid r)) (sym (append-nil (numbered ids)))
     ∙ lookup-in rid_cmp entry.Oid (λ r b. b) (λ x y. refl) rid_exact r [] refl ids
-    ∙ mapped_same (lookup (is_at (rid_cmp r)) ids)
+    ∙ option_map_id (lookup (is_at (rid_cmp r)) ids)
 
 pub not_oid : (e : Entry Rid) → ((r : Rid) → e ≡ entry.Oid r → ⊥) → (r : Rid) → is_at (entry_cmp e) (entry.Oid r) ≡ false
 not_oid (entry.Oid s) not r = absurd (not s refl)
@@ -123,7 +120,7 @@ module _ (ids : List (Rid × Body Rid)) (ips : List Ip) (ns : List ((Rid × Ip) 
       lookup-in rid_cmp entry.Oid (λ r b. b) (λ x y. refl) rid_exact r after_ids
       (lookup-past _ (is_at (entry_cmp (entry.Oid r))) (λ x. refl) ips after_ips ∙ lookup-past _ (is_at (entry_cmp (entry.Oid r))) (λ x. refl) ns (routed rs) ∙ lookup-last _ (is_at (entry_cmp (entry.Oid r))) (λ x. refl) rs)
       ids
-      ∙ mapped_same (lookup (is_at (rid_cmp r)) ids)
+      ∙ option_map_id (lookup (is_at (rid_cmp r)) ids)
 
   pub at-own : (ip : Ip) → body_at (objects_in ids ips ns rs) (entry.Own ip) ≡ cond (list_any (is_at (ip_ord.ghosts.cmp ip)) ips) (Some (body.OwnAddress ip)) None
   at-own ip =

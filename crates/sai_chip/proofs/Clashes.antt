@@ -1,5 +1,5 @@
 -- what clashes with a body, and what refers to an entry, by marks
-use Rattle.std.proofs.Common.{◌≡◌, ℕ, ◌==◌, Bool, true, false, ◌||◌, ◌&&◌, List, [], ◌∷◌, refl, sym, ap, ◌∙◌, rules}
+use Rattle.std.proofs.Common.{◌≡◌, ℕ, ◌==◌, Bool, false, ◌||◌, ◌&&◌, List, [], ◌∷◌, refl, sym, ap, ◌∙◌, rules}
 use Rattle.std.specs.List.{list_any}
 use Rattle.std.specs.BTreeMap.{is_at}
 use Rattle.std.specs.Cmp.{both_tied}
@@ -9,7 +9,7 @@ use Rattle.swss_types.specs.declared.tagging.Tagging.{Tagging}
 use Rattle.swss_types.specs.declared.address.Prefix.{Prefix}
 use Rattle.swss_types.specs.contracts.address.IpEq.TheImpl.Laws as equal_ip
 use Rattle.swss_types.specs.contracts.address.IpOrd.TheImpl.Laws as ordered_ip
-use Rattle.swss_types.proofs.Truths.{or_regrouped}
+use Rattle.swss_types.proofs.Truths.{or_none}
 use Rattle.sai_types.specs.declared.ids.Rid.{Rid}
 use Rattle.sai_types.specs.declared.body.RifOn.{RifOn}
 use Rattle.sai_types.specs.declared.body.RifOn.TheVariants as on
@@ -22,11 +22,11 @@ use Rattle.sai_types.specs.declared.body.Body.TheVariants as body
 use Rattle.sai_types.specs.References.{refers_to}
 use Rattle.sai_types.specs.Refusal.{clash, same_ip, same_id, same_base}
 use Rattle.sai_types.specs.Objects.{Objects}
+use Rattle.sai_types.proofs.Apart.{any_any, any_same}
 use Rattle.sai_chip.specs.declared.mark.TakenMark.{TakenMark}
 use Rattle.sai_chip.specs.declared.mark.TakenMark.TheVariants as mark
 use Rattle.sai_chip.specs.Tally.{is_mark}
 use Rattle.sai_chip.specs.Marks.{lane_marks, base_marks, target_marks, has_mark, stands}
-use Rattle.sai_chip.proofs.Standing.{any-same}
 
 mark_of_port : (a b : Rid) → is_mark (mark.BridgePort a) (mark.BridgePort b) ≡ same_id b a
 mark_of_port a b = search rules
@@ -54,10 +54,6 @@ mark_of_next_hop a b x y = sym (both_tied (same_id b a) (same_ip y x) _ _ (sym (
 
 mark_of_lane : (a b : ℕ) → is_mark (mark.Lane a) (mark.Lane b) ≡ (b == a)
 mark_of_lane a b = search rules
-
-or_none : (b : Bool) → (b || false) ≡ b
-or_none true = refl
-or_none false = refl
 
 no_lane : (m : TakenMark) (lanes : List ℕ) → ((l : ℕ) → is_mark (mark.Lane l) m ≡ false) → list_any (λ k. is_mark k m) (lane_marks lanes) ≡ false
 no_lane m [] none = refl
@@ -126,24 +122,16 @@ any_where_none p none [] = refl
 any_where_none p none (x ∷ xs) = rw (none x) (any_where_none p none xs)
 
 clash-port : (lanes : List ℕ) (speed mtu : ℕ) (up : Bool) (o : Body Rid) → clash (body.Port lanes speed mtu up) o ≡ list_any (λ lane. has_mark (mark.Lane lane) o) lanes
-clash-port lanes speed mtu up (body.Port others s m u) = any-same _ _ (λ l. sym (lane_among l others)) lanes
+clash-port lanes speed mtu up (body.Port others s m u) = any_same _ _ (λ l. sym (lane_among l others)) lanes
 clash-port lanes speed mtu up (body.Rif on) = sym (any_where_none _ (λ l. no_base (mark.Lane l) on (λ r. refl)) lanes)
 clash-port lanes speed mtu up (body.Route prefix to) = sym (any_where_none _ (λ l. no_target (mark.Lane l) to (λ r. refl)) lanes)
 clash-port lanes speed mtu up _ = sym (any_where_none _ (λ l. refl) lanes)
 
-any-or : {X : Type 0} (p q : X → Bool) (xs : List X) → list_any (λ x. p x || q x) xs ≡ (list_any p xs || list_any q xs)
-any-or p q [] = refl
-any-or p q (x ∷ xs) = ap (λ b. (p x || q x) || b) (any-or p q xs) ∙ or_regrouped (p x) (q x) (list_any p xs) (list_any q xs)
-
-any-any : {X Y : Type 0} (p : X → Y → Bool) (xs : List X) (ys : List Y) → list_any (λ x. list_any (p x) ys) xs ≡ list_any (λ y. list_any (λ x. p x y) xs) ys
-any-any p [] ys = sym (any_where_none _ (λ y. refl) ys)
-any-any p (x ∷ xs) ys = ap (λ b. list_any (p x) ys || b) (any-any p xs ys) ∙ sym (any-or (p x) (λ y. list_any (λ x'. p x' y) xs) ys)
-
 -- a port clashes where one of its lanes stands
 pub clashes-port : (lanes : List ℕ) (speed mtu : ℕ) (up : Bool) (objects : Objects) → list_any (λ o. clash (body.Port lanes speed mtu up) o.1) objects ≡ list_any (λ lane. stands (mark.Lane lane) objects) lanes
 clashes-port lanes speed mtu up objects =
-    any-same _ _ (λ o. clash-port lanes speed mtu up o.1) objects
-    ∙ sym (any-any (λ lane o. has_mark (mark.Lane lane) o.1) lanes objects)
+    any_same _ _ (λ o. clash-port lanes speed mtu up o.1) objects
+    ∙ sym (any_any (λ lane o. has_mark (mark.Lane lane) o.1) lanes objects)
 
 -- a body refers to an identifier where one of its marks says so
 refers-id : (r : Rid) (b : Body Rid) → refers_to b (entry.Oid r) ≡ has_mark (mark.RefersTo r) b
@@ -158,7 +146,7 @@ refers-id r _ = refl
 
 -- an identifier is referred to where its mark stands
 pub refers-stands : (r : Rid) (objects : Objects) → list_any (λ o. refers_to o.1 (entry.Oid r)) objects ≡ stands (mark.RefersTo r) objects
-refers-stands r objects = any-same _ _ (λ o. refers-id r o.1) objects
+refers-stands r objects = any_same _ _ (λ o. refers-id r o.1) objects
 
 goes-mark : (r : Rid) (ip : Ip) (b : Body Rid) → refers_to b (entry.Neigh r ip) ≡ has_mark (mark.NextHop r ip) b
 goes-mark r ip (body.Port lanes speed mtu up) = sym (no_lane (mark.NextHop r ip) lanes (λ l. refl))
@@ -172,7 +160,7 @@ goes-mark r ip _ = refl
 
 -- a neighbour is referred to where a next hop goes through it
 pub goes-stands : (r : Rid) (ip : Ip) (objects : Objects) → list_any (λ o. refers_to o.1 (entry.Neigh r ip)) objects ≡ stands (mark.NextHop r ip) objects
-goes-stands r ip objects = any-same _ _ (λ o. goes-mark r ip o.1) objects
+goes-stands r ip objects = any_same _ _ (λ o. goes-mark r ip o.1) objects
 
 -- nothing refers to an own address, or to a route
 refers-own : (ip : Ip) (b : Body Rid) → refers_to b (entry.Own ip) ≡ false
@@ -201,7 +189,7 @@ refers-never (entry.Route p) id neighbor objects = sym (any_where_none _ (λ o. 
 
 -- a body that a mark stands for clashes where the mark stands
 pub clashes-by : (b d : Body Rid) (m : TakenMark) (objects : Objects) (r : Bool) → b ≡ d → ((o : Body Rid) → clash d o ≡ has_mark m o) → r ≡ stands m objects → r ≡ list_any (λ o. clash b o.1) objects
-clashes-by b d m objects r e same h = h ∙ sym (any-same _ _ (λ o. ap (λ x. clash x o.1) e ∙ same o.1) objects)
+clashes-by b d m objects r e same h = h ∙ sym (any_same _ _ (λ o. ap (λ x. clash x o.1) e ∙ same o.1) objects)
 
 pub clashes-never : (b : Body Rid) (objects : Objects) → b ≡ body.Group → false ≡ list_any (λ o. clash b o.1) objects
 clashes-never b objects e = sym (any_where_none _ (λ o. ap (λ x. clash x o.1) e ∙ clash-group o.1) objects)

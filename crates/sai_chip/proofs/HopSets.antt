@@ -1,15 +1,17 @@
 -- hops put in their places: what the list holds, in whatever order they came
 use Rattle.std.proofs.Common.{◌≡◌, ℕ, ◌-◌, ◌<◌, ◌≤◌, Bool, true, false, ◌||◌, List, [], ◌∷◌, drop, get_or, length, Option, None, Some, Ordering, refl, sym, ap, ◌∙◌}
 use Rattle.std.specs.declared.cmp.Ordering.TheVariants.{Less, Equal, Greater}
-use Rattle.std.specs.Ordering.{is_eq, match_ordering, ordering_reverse}
+use Rattle.std.specs.Ordering.{is_eq, match_ordering}
 use Rattle.std.specs.BTreeMap.{is_at}
 use Rattle.std.specs.BTreeSet.{BTreeSet, insert_key}
-use Rattle.std.specs.Cmp.{IsTotalOrder, eq_by_cmp_equiv}
-use Rattle.std.specs.List.{AllByRecursion, list_any}
+use Rattle.std.specs.Cmp.{IsTotalOrder}
+use Rattle.std.specs.List.{list_any}
 use Rattle.std.specs.List.Sorted.{IsStrictlySortedBy}
 use Rattle.std.proofs.lemmas.Bool.{false≢true}
 use Rattle.std.proofs.lemmas.Map.Lookups.{btree_set_from_contains}
 use Rattle.swss_types.proofs.Truths.{or_swap}
+use Rattle.swss_types.proofs.Maps.{alike}
+use Rattle.swss_types.proofs.Risings.{sorted-insert_key, sorted-none}
 use Rattle.sai_types.specs.declared.ids.Rid.{Rid}
 use Rattle.sai_types.specs.declared.hop.Hop.{Hop}
 use Rattle.sai_types.specs.contracts.hop.HopOrd.TheImpl.Laws as ordered_hop
@@ -31,49 +33,17 @@ or_again true false r e = absurd cc
 or_again false true r e = absurd cc
 
 module _ {K : Type 0} (R : K → K → Ordering) (o : IsTotalOrder R) where
-  alike : (q k x : K) → is_eq (R k x) ≡ true → is_at (R q) x ≡ is_at (R q) k
-  alike q k x same = (eq_by_cmp_equiv o).symm q x ∙ sym ((eq_by_cmp_equiv o).congr k x q same) ∙ (eq_by_cmp_equiv o).symm k q
-
   any_step : (q k x : K) (xs : List K) (r : Ordering) → R k x ≡ r
       → list_any (is_at (R q)) (insert_key R xs k) ≡ (is_at (R q) k || list_any (is_at (R q)) xs)
       → list_any (is_at (R q)) (match_ordering r (k ∷ x ∷ xs) (x ∷ xs) (x ∷ insert_key R xs k)) ≡ (is_at (R q) k || (is_at (R q) x || list_any (is_at (R q)) xs))
   any_step q k x xs Less e h = refl
-  any_step q k x xs Equal e h = or_again (is_at (R q) k) (is_at (R q) x) (list_any (is_at (R q)) xs) (alike q k x (ap is_eq e))
+  any_step q k x xs Equal e h = or_again (is_at (R q) k) (is_at (R q) x) (list_any (is_at (R q)) xs) (alike R o q k x (ap is_eq e))
   any_step q k x xs Greater e h = ap (λ b. is_at (R q) x || b) h ∙ or_swap (is_at (R q) x) (is_at (R q) k) (list_any (is_at (R q)) xs)
 
   -- what a set holds where a key was put
   any-insert_key : (q k : K) (xs : List K) → list_any (is_at (R q)) (insert_key R xs k) ≡ (is_at (R q) k || list_any (is_at (R q)) xs)
   any-insert_key q k [] = refl
   any-insert_key q k (x ∷ xs) = any_step q k x xs (R k x) refl (any-insert_key q k xs)
-
-  all_above : (k x : K) (xs : List K) → R k x ≡ Less → AllByRecursion (λ y. R x y ≡ Less) xs → AllByRecursion (λ y. R k y ≡ Less) xs
-  all_above k x [] less h = tt
-  all_above k x (y ∷ ys) less h = (o.trans k x y less h.0, all_above k x ys less h.1)
-
-  all_step : (P : K → Type 0) (k x : K) (xs : List K) (r : Ordering) → P k → AllByRecursion P (x ∷ xs) → AllByRecursion P (insert_key R xs k) → AllByRecursion P (match_ordering r (k ∷ x ∷ xs) (x ∷ xs) (x ∷ insert_key R xs k))
-  all_step P k x xs Less here h others = (here, h)
-  all_step P k x xs Equal here h others = h
-  all_step P k x xs Greater here h others = (h.0, others)
-
-  all-insert_key : (P : K → Type 0) (k : K) (xs : List K) → P k → AllByRecursion P xs → AllByRecursion P (insert_key R xs k)
-  all-insert_key P k [] here h = (here, tt)
-  all-insert_key P k (x ∷ xs) here h = all_step P k x xs (R k x) here h (all-insert_key P k xs here h.1)
-
-  sorted_step : (k x : K) (xs : List K) (r : Ordering) → R k x ≡ r → IsStrictlySortedBy R (x ∷ xs) → IsStrictlySortedBy R (insert_key R xs k) → IsStrictlySortedBy R (match_ordering r (k ∷ x ∷ xs) (x ∷ xs) (x ∷ insert_key R xs k))
-  unfolding IsStrictlySortedBy
-  sorted_step k x xs Less e h others = ((e, all_above k x xs e h.0), h)
-  sorted_step k x xs Equal e h others = h
-  sorted_step k x xs Greater e h others = (all-insert_key (λ y. R x y ≡ Less) k xs (o.antisymm x k ∙ ap ordering_reverse e) h.0, others)
-
-  -- keys stay in order where one is put
-  sorted-insert_key : (k : K) (xs : List K) → IsStrictlySortedBy R xs → IsStrictlySortedBy R (insert_key R xs k)
-  unfolding IsStrictlySortedBy
-  sorted-insert_key k [] h = (tt, tt)
-  sorted-insert_key k (x ∷ xs) h = sorted_step k x xs (R k x) refl h (sorted-insert_key k xs h.1)
-
-  no_key_sorted : IsStrictlySortedBy R []
-  unfolding IsStrictlySortedBy
-  no_key_sorted = tt
 
 abbrev is_absent : Option Hop → Bool
 is_absent None = true
@@ -102,7 +72,7 @@ module _ (objects : Objects) where
   )
 
   described : (ns : List Rid) → Describes ns (hops_by objects ns)
-  described [] = (refl, no_key_sorted hop_cmp ordered_hop.total-law, λ q. refl)
+  described [] = (refl, sorted-none hop_cmp ordered_hop.total-law, λ q. refl)
   described (n ∷ ns) = described_step n ns (hops_by objects ns) (next_hop_at objects n) refl (described ns)
 
   same_described : (ns ms : List Rid) (a b : Option (List Hop)) → ((p : Rid → Bool) → list_any p ns ≡ list_any p ms) → Describes ns a → Describes ms b → a ≡ b

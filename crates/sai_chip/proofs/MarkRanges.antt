@@ -18,8 +18,9 @@ use Rattle.std.proofs.lemmas.Map.Keys.{IsDistinct-from_sorted, sorted_tail}
 use Rattle.sai_types.specs.declared.ids.Rid.{Rid}
 use Rattle.sai_types.specs.contracts.ids.RidOrd.TheImpl.Laws as ordered_rid
 use Rattle.sai_types.specs.Refusal.{same_id}
+use Rattle.sai_types.proofs.Apart.{same_id-symm}
+use Rattle.sai_types.proofs.Exact.{id-exact}
 use Rattle.sai_chip.specs.Tally.{count_in, pair_cmp, rid_cmp}
-use Rattle.sai_chip.proofs.Members.{id-exact, same_id-symm}
 
 abbrev Members : Type 0
 Members = List ((Rid × Rid) × ℕ)

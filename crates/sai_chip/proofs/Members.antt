@@ -1,14 +1,16 @@
 -- the members of a group: by the objects, and by the marks that stand
-use Rattle.std.proofs.Common.{◌≡◌, ℕ, nat_lt, Bool, true, false, cond, ◌||◌, ◌&&◌, List, [], ◌∷◌, if◌then◌else◌, refl, sym, ap, ◌∙◌}
+use Rattle.std.proofs.Common.{◌≡◌, nat_lt, Bool, true, false, cond, ◌||◌, ◌&&◌, List, [], ◌∷◌, if◌then◌else◌, refl, sym, ap, ◌∙◌}
 use Rattle.std.specs.BTreeSet.{insert_key}
 use Rattle.std.specs.List.{list_any}
-use Rattle.std.proofs.lemmas.Bool.{false≢true, eqb-true, eq-eqb}
+use Rattle.std.proofs.lemmas.Bool.{false≢true, eq-eqb}
 use Rattle.sai_types.specs.declared.ids.Rid.{Rid}
 use Rattle.sai_types.specs.declared.body.Body.{Body}
 use Rattle.sai_types.specs.declared.body.Body.TheVariants as body
 use Rattle.sai_types.specs.Objects.{Objects}
 use Rattle.sai_types.specs.Refusal.{clash, same_id}
 use Rattle.sai_types.specs.Named.{both, hop_cmp, hops_among, hops_at, next_hop_at, with_member}
+use Rattle.sai_types.proofs.Apart.{same_id-symm}
+use Rattle.sai_types.proofs.Exact.{id-exact}
 use Rattle.sai_chip.specs.declared.mark.TakenMark.TheVariants as mark
 use Rattle.sai_chip.specs.Tally.{Tally, count_at}
 use Rattle.sai_chip.specs.Marks.{IsCounted, has_mark, stands}
@@ -16,10 +18,6 @@ use Rattle.sai_chip.specs.Members.{hops_by}
 use Rattle.sai_chip.proofs.Clashes.{clash-group_member}
 use Rattle.sai_chip.proofs.HopSets.{hops_by-same, or_true}
 use Rattle.sai_chip.proofs.Standing.{positive-standing}
-
--- identifiers with one number are one
-pub id-exact : (a b : Rid) → same_id a b ≡ true → a ≡ b
-id-exact a b h = let made : ℕ → Rid = λ n. record { 0 = n } in ap made (eqb-true a.0 b.0 h)
 
 pub same_id-refl : (a : Rid) → same_id a a ≡ true
 same_id-refl a = eq-eqb a.0 a.0 refl
@@ -78,9 +76,6 @@ hops_among-by objects g (o ∷ os) = ap (with_member objects g o.1) (hops_among-
 any_if : (n m : Rid) (ns : List Rid) (b : Bool) → ((b && same_id n m) || list_any (same_id n) ns) ≡ list_any (same_id n) (cond b (m ∷ ns) ns)
 any_if n m ns true = refl
 any_if n m ns false = refl
-
-pub same_id-symm : (a b : Rid) → same_id a b ≡ same_id b a
-same_id-symm a b = both_ways (same_id a b) (same_id b a) (λ h. eq-eqb b.0 a.0 (sym (eqb-true a.0 b.0 h))) (λ h. eq-eqb a.0 b.0 (sym (eqb-true b.0 a.0 h)))
 
 clash_step : (g n : Rid) (b : Body Rid) (ns : List Rid) → (clash (body.GroupMember g n) b || list_any (same_id n) ns) ≡ list_any (same_id n) (with_id g b ns)
 clash_step g n (body.GroupMember h m) ns = ap (λ t. (t && same_id n m) || list_any (same_id n) ns) (same_id-symm g h) ∙ any_if n m ns (same_id h g)

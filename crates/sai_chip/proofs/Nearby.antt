@@ -1,19 +1,20 @@
 -- the Ethernet address of a hop is that of its neighbour, by its key
-use Rattle.std.proofs.Common.{◌≡◌, Bool, true, false, cond, ◌||◌, List, [], ◌∷◌, ◌++◌, map, Option, None, Some, option_map, Ordering, refl, sym, ap, ◌∙◌, subst}
-use Rattle.std.specs.declared.cmp.Ordering.TheVariants.{Less, Equal, Greater}
+use Rattle.std.proofs.Common.{◌≡◌, Bool, true, false, cond, ◌||◌, List, [], ◌∷◌, ◌++◌, map, Option, None, Some, option_map, refl, sym, ap, ◌∙◌, subst}
 use Rattle.std.specs.BTreeMap.{is_at}
 use Rattle.std.specs.Cmp.{IsTotalOrder}
 use Rattle.std.specs.List.{list_any}
 use Rattle.std.specs.Map.{keys_of, lookup}
 use Rattle.std.specs.Option.{is_some}
 use Rattle.std.specs.Ordering.{is_eq}
-use Rattle.std.proofs.lemmas.Bool.{false≢true}
 use Rattle.std.proofs.lemmas.Cmp.{on_total, then_total, tied_itself}
 use Rattle.std.proofs.lemmas.Map.Made.{is_some-lookup}
+use Rattle.std.proofs.lemmas.Bool.{false_from_ne_true}
 use Rattle.swss_types.specs.declared.address.Ip.{Ip}
 use Rattle.swss_types.specs.declared.address.Mac.{Mac}
 use Rattle.swss_types.specs.declared.address.Prefix.{Prefix}
 use Rattle.swss_types.specs.contracts.address.IpOrd.TheImpl.Laws as ordered_ip
+use Rattle.swss_types.proofs.Tied.{tied as equal_by}
+use Rattle.swss_types.proofs.Choices.{some_by}
 use Rattle.sai_types.specs.declared.ids.Rid.{Rid}
 use Rattle.sai_types.specs.declared.hop.Hop.{Hop}
 use Rattle.sai_types.specs.declared.thing.Thing.{Thing}
@@ -41,19 +42,6 @@ use Rattle.sai_chip.proofs.SameNames.{map-things_among}
 
 neighbor_total : IsTotalOrder neighbor_cmp
 neighbor_total = then_total (on_total (λ (p : Rid × Ip). p.0) ordered_rid.total-law) (on_total (λ (p : Rid × Ip). p.1) ordered_ip.total-law)
-
-equal_by : (r : Ordering) → is_eq r ≡ true → r ≡ Equal
-equal_by Less h = absurd (false≢true h)
-equal_by Equal h = refl
-equal_by Greater h = absurd (false≢true h)
-
-some_by : {X : Type 0} (o : Option X) → is_some o ≡ true → (x : X) × (o ≡ Some x)
-some_by None h = absurd (false≢true h)
-some_by (Some x) h = (x, refl)
-
-none_false : (b : Bool) → (b ≡ true → ⊥) → b ≡ false
-none_false true f = absurd (f refl)
-none_false false f = refl
 
 pub mapped_some : {X Y : Type 0} (f : X → Y) (o : Option X) → is_some (option_map f o) ≡ is_some o
 mapped_some f None = refl
@@ -89,7 +77,7 @@ module _ (ids : List (Rid × Body Rid)) (ips : List Ip) (ns : List ((Rid × Ip) 
 
   mac_step : (x : (Rid × Ip) × Mac) (xs : List ((Rid × Ip) × Mac)) (o : Option Hop) → hop_on held x.0.0 x.0.1 ≡ o → is_some (lookup (is_at (neighbor_cmp x.0)) ns) ≡ true → (ts : List (Option Thing)) → mac_of (those ts) hop ≡ lookup (is_at (neighbor_cmp (rif, ip))) xs → mac_of (those (option_map (λ h. thing.Neighbor h x.1) o ∷ ts)) hop ≡ cond (is_at (neighbor_cmp (rif, ip)) x.0) (Some x.1) (lookup (is_at (neighbor_cmp (rif, ip))) xs)
   mac_step x xs None named found ts h =
-      let apart : is_at (neighbor_cmp (rif, ip)) x.0 ≡ false = none_false _ (λ tied. let key = neighbor_exact (rif, ip) x.0 (equal_by (neighbor_cmp (rif, ip) x.0) tied) in let known : hop_on held x.0.0 x.0.1 ≡ Some hop = subst (λ y. hop_on held y.0 y.1 ≡ Some hop) key is in absurd cc) in
+      let apart : is_at (neighbor_cmp (rif, ip)) x.0 ≡ false = false_from_ne_true _ (λ tied. let key = neighbor_exact (rif, ip) x.0 (equal_by (neighbor_cmp (rif, ip) x.0) tied) in let known : hop_on held x.0.0 x.0.1 ≡ Some hop = subst (λ y. hop_on held y.0 y.1 ≡ Some hop) key is in absurd cc) in
       h ∙ sym (ap (λ b. cond b (Some x.1) (lookup (is_at (neighbor_cmp (rif, ip))) xs)) apart)
   mac_step x xs (Some g) named found ts h = let tied = tied_key x.0 g found named in cc
 

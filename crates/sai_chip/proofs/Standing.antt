@@ -13,15 +13,11 @@ use Rattle.sai_types.specs.declared.body.To.TheVariants as to
 use Rattle.sai_types.specs.declared.body.Body.{Body}
 use Rattle.sai_types.specs.declared.body.Body.TheVariants as body
 use Rattle.sai_types.specs.Objects.{Objects, level, is_of, kind_of, used}
+use Rattle.sai_types.proofs.Apart.{any_same}
 use Rattle.sai_chip.specs.declared.mark.TakenMark.{TakenMark}
 use Rattle.sai_chip.specs.declared.mark.TakenMark.TheVariants as mark
 use Rattle.sai_chip.specs.Tally.{is_mark, claims}
 use Rattle.sai_chip.specs.Marks.{lane_marks, base_marks, target_marks, key_marks, marks_of, has_mark, stands, standing}
-
--- tests that agree everywhere find alike
-pub any-same : {X : Type 0} (p q : X → Bool) → ((x : X) → p x ≡ q x) → (xs : List X) → list_any p xs ≡ list_any q xs
-any-same p q e [] = refl
-any-same p q e (x ∷ xs) = let one = e x in let others = any-same p q e xs in cc
 
 positive-add : (m n : ℕ) → nat_lt 0 (m + n) ≡ (nat_lt 0 m || nat_lt 0 n)
 positive-add m n = grind (arith, common_steps)
@@ -35,7 +31,7 @@ positive-cond true = refl
 positive-cond false = refl
 
 pub positive-count_by : {X : Type 0} (p : X → Bool) (xs : List X) → nat_lt 0 (count_by p xs) ≡ list_any p xs
-positive-count_by p xs = positive-sum_by (λ x. cond (p x) 1 0) xs ∙ any-same _ p (λ x. positive-cond (p x)) xs
+positive-count_by p xs = positive-sum_by (λ x. cond (p x) 1 0) xs ∙ any_same _ p (λ x. positive-cond (p x)) xs
 
 any-values_of : {K X : Type 0} (p : X → Bool) (es : List (K × X)) → list_any p (values_of es) ≡ list_any (λ e. p e.1) es
 any-values_of p [] = refl
@@ -45,7 +41,7 @@ any-values_of p (e ∷ es) = ap (λ b. p e.1 || b) (any-values_of p es)
 pub positive-standing : (m : TakenMark) (objects : Objects) → nat_lt 0 (standing m objects) ≡ stands m objects
 positive-standing m objects =
     positive-sum_by (λ b. claims m (marks_of b)) (values_of objects)
-    ∙ any-same _ _ (λ b. positive-count_by (λ k. is_mark k m) (marks_of b)) (values_of objects)
+    ∙ any_same _ _ (λ b. positive-count_by (λ k. is_mark k m) (marks_of b)) (values_of objects)
     ∙ any-values_of (has_mark m) objects
 
 is_kind : (a b : Kind) → is_mark (mark.Of a) (mark.Of b) ≡ (level a == level b)

@@ -1,5 +1,5 @@
 -- the counts of all marks where those of one kind of mark change
-use Rattle.std.proofs.Common.{◌≡◌, ℕ, ◌+◌, ◌-◌, Bool, false, cond, List, Result, Ok, Err, OnOk, sym, arith}
+use Rattle.std.proofs.Common.{◌≡◌, ℕ, ◌+◌, ◌-◌, Bool, false, cond, List, sym, arith}
 use Rattle.std.specs.Ordering.{nat_cmp}
 use Rattle.std.specs.BTreeMap.{is_at}
 use Rattle.swss_types.specs.declared.address.Ip.{Ip}
@@ -59,8 +59,3 @@ module _ (f : ℕ → Bool → ℕ) (none : (n : ℕ) → f n false ≡ n) (t : 
   pub with_group_members : (g n : Rid) (new : List ((Rid × Rid) × ℕ)) → ((x : Rid × Rid) → count_in pair_cmp new x ≡ f (count_in pair_cmp t.group_members x) (is_at (pair_cmp (g, n)) x)) → (m : TakenMark) → count_at (record t { group_members = new }) m ≡ f (count_at t m) (is_mark (mark.GroupMember g n) m)
   with_group_members g n new h (mark.GroupMember x y) = h (x, y)
   with_group_members g n new h m = sym (none (count_at t m))
-
--- what holds of an Ok, where a fact gives another
-pub on_ok : {A E P Q : Type 0} (r : Result A E) → (P → Q) → OnOk r P → OnOk r Q
-on_ok (Ok a) f p = f p
-on_ok (Err e) f p = tt

@@ -16,7 +16,7 @@ use Rattle.sai_types.specs.Objects.{kind_of}
 use Rattle.sai_types.specs.Refusal.{clash, same_id, same_base, share_lane}
 use Rattle.sai_types.specs.After.{entry_of, with_attr}
 
-any_same : {X : Type 0} (p q : X → Bool) → ((x : X) → p x ≡ q x) → (xs : List X) → list_any p xs ≡ list_any q xs
+pub any_same : {X : Type 0} (p q : X → Bool) → ((x : X) → p x ≡ q x) → (xs : List X) → list_any p xs ≡ list_any q xs
 any_same p q e [] = refl
 any_same p q e (x ∷ xs) = let one = e x in let others = any_same p q e xs in cc
 
@@ -24,18 +24,18 @@ any_never : {X : Type 0} (xs : List X) → list_any (λ x. false) xs ≡ false
 any_never [] = refl
 any_never (x ∷ xs) = any_never xs
 
-any_or : {X : Type 0} (p q : X → Bool) (xs : List X) → list_any (λ x. p x || q x) xs ≡ (list_any p xs || list_any q xs)
+pub any_or : {X : Type 0} (p q : X → Bool) (xs : List X) → list_any (λ x. p x || q x) xs ≡ (list_any p xs || list_any q xs)
 any_or p q [] = refl
 any_or p q (x ∷ xs) = ap (λ b. (p x || q x) || b) (any_or p q xs) ∙ or_regrouped (p x) (q x) (list_any p xs) (list_any q xs)
 
-any_any : {X Y : Type 0} (p : X → Y → Bool) (xs : List X) (ys : List Y) → list_any (λ x. list_any (p x) ys) xs ≡ list_any (λ y. list_any (λ x. p x y) xs) ys
+pub any_any : {X Y : Type 0} (p : X → Y → Bool) (xs : List X) (ys : List Y) → list_any (λ x. list_any (p x) ys) xs ≡ list_any (λ y. list_any (λ x. p x y) xs) ys
 any_any p [] ys = sym (any_never ys)
 any_any p (x ∷ xs) ys = ap (λ b. list_any (p x) ys || b) (any_any p xs ys) ∙ sym (any_or (p x) (λ y. list_any (λ x'. p x' y) xs) ys)
 
 share_lane-symm : (xs ys : List ℕ) → share_lane xs ys ≡ share_lane ys xs
 share_lane-symm xs ys = any_any (λ x y. x == y) xs ys ∙ any_same _ _ (λ y. any_same _ _ (λ x. nat_eq_equiv.symm x y) xs) ys
 
-same_id-symm : (a b : Rid) → same_id a b ≡ same_id b a
+pub same_id-symm : (a b : Rid) → same_id a b ≡ same_id b a
 same_id-symm a b = nat_eq_equiv.symm a.0 b.0
 
 same_base-symm : (a b : RifOn Rid) → same_base a b ≡ same_base b a

@@ -6,7 +6,8 @@ use Rattle.std.specs.List.{list_any}
 use Rattle.std.specs.Map.{remove_entry}
 use Rattle.std.specs.HashMap.Eq.{lookup_congr}
 use Rattle.std.specs.Ordering.{eq_by_cmp}
-use Rattle.std.proofs.lemmas.Bool.{or_parts}
+use Rattle.std.proofs.lemmas.Bool.{cond-false, cond-true, or_parts}
+use Rattle.swss_types.proofs.Maps.{lookup-insert_entry}
 use Rattle.sai_types.specs.declared.ids.Rid.{Rid}
 use Rattle.sai_types.specs.declared.body.Attr.{Attr}
 use Rattle.sai_types.specs.declared.body.Body.{Body}
@@ -17,7 +18,7 @@ use Rattle.sai_types.specs.Objects.{Objects, body_at, entry_cmp}
 use Rattle.sai_types.specs.After.{after_call, after_set, entry_of, with_attr}
 use Rattle.sai_types.specs.Made.{same_entry, entry_named, AreSorted}
 use Rattle.sai_types.proofs.Entries.{entry_total}
-use Rattle.sai_types.proofs.Maps.{lookup-insert_entry, lookup-removed, sorted-insert_entry, sorted-remove_entry}
+use Rattle.sai_types.proofs.Maps.{lookup-removed, sorted-insert_entry, sorted-remove_entry}
 
 pub same-refl : (e : Entry Rid) → same_entry e e ≡ true
 same-refl e = (eq_by_cmp_equiv entry_total).refl e
@@ -37,21 +38,13 @@ body_at-insert objects e b q = lookup-insert_entry entry_cmp entry_total objects
 pub body_at-remove : (objects : Objects) (e q : Entry Rid) → AreSorted objects → body_at (remove_entry (is_at (entry_cmp e)) objects) q ≡ cond (same_entry e q) None (body_at objects q)
 body_at-remove objects e q sorted = lookup-removed entry_cmp entry_total objects e q sorted
 
-pub found_same : (b : Bool) (x rest : Option (Body Rid)) → b ≡ true → cond b x rest ≡ x
-found_same true x rest e = refl
-found_same false x rest e = absurd cc
-
-pub found_other : (b : Bool) (x rest : Option (Body Rid)) → b ≡ false → cond b x rest ≡ rest
-found_other false x rest e = refl
-found_other true x rest e = absurd cc
-
 -- an object that was made is found
 pub found-created : (n : ℕ) (objects : Objects) (b : Body Rid) → body_at (after_call n objects (call.Create b)) (entry_of n b) ≡ Some b
-found-created n objects b = body_at-insert objects (entry_of n b) b (entry_of n b) ∙ found_same (same_entry (entry_of n b) (entry_of n b)) (Some b) (body_at objects (entry_of n b)) (same-refl (entry_of n b))
+found-created n objects b = body_at-insert objects (entry_of n b) b (entry_of n b) ∙ cond-true (same_entry (entry_of n b) (entry_of n b)) (Some b) (body_at objects (entry_of n b)) (same-refl (entry_of n b))
 
 found_set : (objects : Objects) (e : Entry Rid) (a : Attr Rid) (o : Option (Body Rid)) → body_at objects e ≡ o → body_at (after_set objects e a o) e ≡ option_map (λ b. with_attr b a) o
 found_set objects e a None h = h
-found_set objects e a (Some b) h = body_at-insert objects e (with_attr b a) e ∙ found_same (same_entry e e) (Some (with_attr b a)) (body_at objects e) (same-refl e)
+found_set objects e a (Some b) h = body_at-insert objects e (with_attr b a) e ∙ cond-true (same_entry e e) (Some (with_attr b a)) (body_at objects e) (same-refl e)
 
 -- with what was last set on it
 pub found-set : (n : ℕ) (objects : Objects) (e : Entry Rid) (a : Attr Rid) → body_at (after_call n objects (call.Set e a)) e ≡ option_map (λ b. with_attr b a) (body_at objects e)
@@ -59,17 +52,17 @@ found-set n objects e a = found_set objects e a (body_at objects e) refl
 
 other_set : (objects : Objects) (e q : Entry Rid) (a : Attr Rid) (o : Option (Body Rid)) → same_entry q e ≡ false → body_at (after_set objects e a o) q ≡ body_at objects q
 other_set objects e q a None apart = refl
-other_set objects e q a (Some b) apart = body_at-insert objects e (with_attr b a) q ∙ found_other (same_entry q e) (Some (with_attr b a)) (body_at objects q) apart
+other_set objects e q a (Some b) apart = body_at-insert objects e (with_attr b a) q ∙ cond-false (same_entry q e) (Some (with_attr b a)) (body_at objects q) apart
 
 -- a call leaves what it does not name
 pub found-other : (n : ℕ) (objects : Objects) (c : Call Rid) (q : Entry Rid) → AreSorted objects → same_entry q (entry_named n c) ≡ false → body_at (after_call n objects c) q ≡ body_at objects q
-found-other n objects (call.Create b) q sorted apart = body_at-insert objects (entry_of n b) b q ∙ found_other (same_entry q (entry_of n b)) (Some b) (body_at objects q) apart
+found-other n objects (call.Create b) q sorted apart = body_at-insert objects (entry_of n b) b q ∙ cond-false (same_entry q (entry_of n b)) (Some b) (body_at objects q) apart
 found-other n objects (call.Set e a) q sorted apart = other_set objects e q a (body_at objects e) apart
-found-other n objects (call.Remove e) q sorted apart = body_at-remove objects e q sorted ∙ found_other (same_entry e q) None (body_at objects q) (same-symm e q ∙ apart)
+found-other n objects (call.Remove e) q sorted apart = body_at-remove objects e q sorted ∙ cond-false (same_entry e q) None (body_at objects q) (same-symm e q ∙ apart)
 
 -- after a removal nothing is found
 pub found-removed : (n : ℕ) (objects : Objects) (e : Entry Rid) → AreSorted objects → body_at (after_call n objects (call.Remove e)) e ≡ None
-found-removed n objects e sorted = body_at-remove objects e e sorted ∙ found_same (same_entry e e) None (body_at objects e) (same-refl e)
+found-removed n objects e sorted = body_at-remove objects e e sorted ∙ cond-true (same_entry e e) None (body_at objects e) (same-refl e)
 
 sorted_set : (objects : Objects) (e : Entry Rid) (a : Attr Rid) (o : Option (Body Rid)) → AreSorted objects → AreSorted (after_set objects e a o)
 sorted_set objects e a None sorted = sorted

@@ -1,7 +1,7 @@
 -- objects with one name are one object
 use Rattle.std.proofs.Common.{◌≡◌, ℕ, ◌==◌, Bool, true, false, ◌||◌, ◌&&◌, List, [], ◌∷◌, slice_index, Option, None, Some, refl, sym, ap, ◌∙◌}
 use Rattle.std.specs.List.{list_any}
-use Rattle.std.proofs.lemmas.Bool.{eqb-true, eq-eqb}
+use Rattle.std.proofs.lemmas.Bool.{and_from, eqb-true, eq-eqb}
 use Rattle.swss_types.specs.declared.address.Ip.{Ip}
 use Rattle.swss_types.specs.contracts.address.IpEq.TheImpl.Laws as equal_ip
 use Rattle.swss_types.proofs.Proper.{mapped}
@@ -24,9 +24,6 @@ implies_by : (a b c d : Bool) → (a ≡ true → b ≡ true) → (c ≡ true �
 implies_by true b c d f g h = ap (λ x. x || d) (f refl)
 implies_by false true c d f g h = refl
 implies_by false false c d f g h = g h
-
-pub both_true : (a b : Bool) → a ≡ true → b ≡ true → (a && b) ≡ true
-both_true a b e f = cc
 
 port_bases : (a b : ℕ) → base.Port a ≡ base.Port b → a ≡ b
 port_bases a b h = cc
@@ -130,7 +127,7 @@ module _ (made : ℕ) (objects : Objects) (whole : IsWhole made objects) (have :
       let ips : ip ≡ other = ap (λ h. h.ip) (i.2 ∙ sym j.2) in
       let one = one_rif r s i.0 i.1 (j.1 ∙ ap Some bases) in
       let two : same_ip ip other ≡ true = ap (same_ip ip) (sym ips) ∙ equal_ip.laws-law.refl ip in
-      both_true (same_id r s) (same_ip ip other) one two
+      and_from (same_id r s) (same_ip ip other) one two
 
   pub one_next_hop : (r s : Rid) (hop : Hop) → next_hop_at objects r ≡ Some hop → next_hop_at objects s ≡ Some hop → same_id r s ≡ true
   one_next_hop r s hop x y =

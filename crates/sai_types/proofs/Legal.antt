@@ -19,7 +19,7 @@ use Rattle.sai_types.specs.References.{attr_refers_well, refers_to, refers_well}
 use Rattle.sai_types.specs.Made.{same_entry, AreEntered}
 use Rattle.sai_types.proofs.Found.{any-found}
 
-first_of-none : (b : Bool) (a : ChipAnswer) (rest : Option ChipAnswer) → first_of b a rest ≡ None → (b ≡ false) × (rest ≡ None)
+pub first_of-none : (b : Bool) (a : ChipAnswer) (rest : Option ChipAnswer) → first_of b a rest ≡ None → (b ≡ false) × (rest ≡ None)
 first_of-none false a rest h = (refl, h)
 first_of-none true a rest h = absurd cc
 

@@ -11,4 +11,6 @@ pub mod Refer
 pub mod Rising
 pub mod Things
 pub mod Whole
-mod Orders
+pub mod Orders
+pub mod Membership
+pub mod Levels

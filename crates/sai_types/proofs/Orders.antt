@@ -15,7 +15,7 @@ use Rattle.sai_types.specs.declared.thing.Thing.TheVariants as thing
 use Rattle.sai_types.specs.Hop.{hop_cmp}
 use Rattle.sai_types.specs.Order.{base_order, hop_order, thing_order}
 
-bases-by_parts : (a b : Base) → base_ord.ghosts.cmp a b ≡ base_order a b
+pub bases-by_parts : (a b : Base) → base_ord.ghosts.cmp a b ≡ base_order a b
 bases-by_parts (base.Port m) (base.Port n) = refl
 bases-by_parts (base.Port m) (base.Vlan n) = refl
 bases-by_parts (base.Vlan m) (base.Port n) = refl
@@ -24,7 +24,7 @@ bases-by_parts (base.Vlan m) (base.Vlan n) = refl
 pub hops-by_parts : (a b : Hop) → hop_cmp a b ≡ hop_order a b
 hops-by_parts a b = ap₂ ordering_then (bases-by_parts a.on b.on) (ips-by_parts a.ip b.ip)
 
-lists-by_parts : (gs hs : List Hop) → slice_cmp hop_cmp gs hs ≡ slice_cmp hop_order gs hs
+pub lists-by_parts : (gs hs : List Hop) → slice_cmp hop_cmp gs hs ≡ slice_cmp hop_order gs hs
 lists-by_parts [] [] = refl
 lists-by_parts [] (h ∷ hs) = refl
 lists-by_parts (g ∷ gs) [] = refl

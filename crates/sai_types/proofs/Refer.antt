@@ -1,7 +1,7 @@
 -- references that stand, after a call
 use Rattle.std.proofs.Common.{◌≡◌, Bool, true, false, ◌&&◌, List, [], ◌∷◌, refl}
 use Rattle.std.specs.List.{list_all, list_any}
-use Rattle.std.proofs.lemmas.Bool.{and_parts, or_parts}
+use Rattle.std.proofs.lemmas.Bool.{and_from, and_parts, or_parts}
 use Rattle.sai_types.specs.declared.ids.Rid.{Rid}
 use Rattle.sai_types.specs.declared.body.Attr.{Attr}
 use Rattle.sai_types.specs.declared.body.Attr.TheVariants as attr
@@ -12,12 +12,11 @@ use Rattle.sai_types.specs.After.{with_attr}
 use Rattle.sai_types.specs.Made.{same_entry}
 use Rattle.sai_types.specs.Objects.{Objects}
 use Rattle.sai_types.specs.References.{Reference, attr_refers_well, references, refers_to, refers_well, stands}
-use Rattle.sai_types.proofs.Keys.{both_true}
 
 -- what passes one test passes another
 pub all-kept : {X : Type 0} (p q : X → Bool) → ((x : X) → p x ≡ true → q x ≡ true) → (xs : List X) → list_all p xs ≡ true → list_all q xs ≡ true
 all-kept p q kept [] h = refl
-all-kept p q kept (x ∷ xs) h = let parts = and_parts (p x) (list_all p xs) h in both_true (q x) (list_all q xs) (kept x parts.0) (all-kept p q kept xs parts.1)
+all-kept p q kept (x ∷ xs) h = let parts = and_parts (p x) (list_all p xs) h in and_from (q x) (list_all q xs) (kept x parts.0) (all-kept p q kept xs parts.1)
 
 -- what a removal or another call leaves: what stands but the object with entry e
 module _ (xs ys : Objects) (e : Entry Rid) (left : (r : Reference Rid) → same_entry r.1 e ≡ false → stands xs r ≡ true → stands ys r ≡ true) where
@@ -26,7 +25,7 @@ module _ (xs ys : Objects) (e : Entry Rid) (left : (r : Reference Rid) → same_
   all_left (r ∷ rs) apart well =
       let others = or_parts (same_entry r.1 e) (list_any (λ q. same_entry q.1 e) rs) apart in
       let stood = and_parts (stands xs r) (list_all (stands xs) rs) well in
-      both_true (stands ys r) (list_all (stands ys) rs) (left r others.0 stood.0) (all_left rs others.1 stood.1)
+      and_from (stands ys r) (list_all (stands ys) rs) (left r others.0 stood.0) (all_left rs others.1 stood.1)
 
   -- what refers well and not to e refers well where e is gone
   pub refers_well-left : (b : Body Rid) → refers_to b e ≡ false → refers_well xs b ≡ true → refers_well ys b ≡ true

@@ -1,6 +1,6 @@
 -- two objects that stand for things of one name are one object
 use Rattle.std.proofs.Common.{◌≡◌, ◌⊎◌, inl, inr, ℕ, true, false, List, Option, None, Some, refl, sym, ap, ◌∙◌, subst, arith}
-use Rattle.std.proofs.lemmas.Bool.{eq-eqb, false≢true}
+use Rattle.std.proofs.lemmas.Bool.{and_from, eq-eqb, false≢true}
 use Rattle.std.proofs.lemmas.Option.{same_Some}
 use Rattle.swss_types.specs.declared.address.Ip.{Ip}
 use Rattle.swss_types.specs.declared.address.Prefix.{Prefix}
@@ -23,7 +23,7 @@ use Rattle.sai_types.specs.Names as name
 use Rattle.sai_types.specs.Names.{ThingName, name_kind, name_of}
 use Rattle.sai_types.specs.Made.{IsWhole, HaveLanes, has_first, HaveOneEach, is_one, same_entry}
 use Rattle.sai_types.proofs.Exact.{ids-tied}
-use Rattle.sai_types.proofs.Keys.{both_true, share-first, one_port, one_vlan, one_bridge_port, one_base, one_hop, one_next_hop}
+use Rattle.sai_types.proofs.Keys.{share-first, one_port, one_vlan, one_bridge_port, one_base, one_hop, one_next_hop}
 
 pub both_mapped : {A B C : Type 0} (f : A → B → C) (o : Option A) (p : Option B) (y : C) → both f o p ≡ Some y → (a : A) × (b : B) × (o ≡ Some a) × (p ≡ Some b) × (f a b ≡ y)
 both_mapped f None p y h = absurd cc
@@ -128,7 +128,7 @@ module _ (hops : Rid → Option (List Hop)) (objects : Objects) where
     same_by e f (body.BridgePort p) (body.BridgePort q) k i j x y same one = inl (one_port made objects whole have p q i.0 i.1 (j.1 ∙ ap Some (sym (bridge_ports i.0 j.0 (sym i.2 ∙ j.2)))))
     same_by e f (body.VlanMember v p t) (body.VlanMember w q t') k i j x y same one =
         let keys = vlan_members i.0 i.1 j.0 j.1 (sym i.4 ∙ j.4) in
-        inl (both_true _ _ (one_vlan made objects whole have v w i.0 i.2 (j.2 ∙ ap Some (sym keys.0))) (one_bridge_port made objects whole have p q i.1 i.3 (j.3 ∙ ap Some (sym keys.1))))
+        inl (and_from _ _ (one_vlan made objects whole have v w i.0 i.2 (j.2 ∙ ap Some (sym keys.0))) (one_bridge_port made objects whole have p q i.1 i.3 (j.3 ∙ ap Some (sym keys.1))))
     same_by e f (body.Rif on) (body.Rif on') k i j x y same one = inl (one_base made objects whole have on on' i.0 i.1 (j.1 ∙ ap Some (sym (rifs i.0 j.0 (sym i.2 ∙ j.2)))))
     same_by e f (body.OwnAddress ip) (body.OwnAddress other) k i j x y same one = inl (ap (same_ip ip) (sym (owns ip other (sym i ∙ j))) ∙ equal_ip.laws-law.refl ip)
     same_by e f (body.Neighbor r ip mac) (body.Neighbor s other mac') k i j x y same one = inl (one_hop made objects whole have r s ip other i.0 i.1 (j.1 ∙ ap Some (sym (neighbors i.0 j.0 (sym i.2 ∙ j.2)))))
@@ -138,7 +138,7 @@ module _ (hops : Rid → Option (List Hop)) (objects : Objects) where
         inr (ap (λ z. same_entry z f) i.2 ∙ ap (same_entry (entry.Oid i.0)) j.2 ∙ ids-tied i.0 j.0 ∙ ids)
     same_by e f (body.GroupMember g n) (body.GroupMember h m) k i j x y same one =
         let keys = group_members i.0 j.0 i.1 j.1 (sym i.4 ∙ j.4) in
-        inl (both_true _ _ (one_group k one (ap is_one i.4) g h i.0 i.2 (j.2 ∙ ap Some (sym keys.0))) (one_next_hop made objects whole have n m i.1 i.3 (j.3 ∙ ap Some (sym keys.1))))
+        inl (and_from _ _ (one_group k one (ap is_one i.4) g h i.0 i.2 (j.2 ∙ ap Some (sym keys.0))) (one_next_hop made objects whole have n m i.1 i.3 (j.3 ∙ ap Some (sym keys.1))))
     same_by e f (body.Route prefix to) (body.Route other to') k i j x y same one = inl (ap (same_prefix prefix) (sym (same_route_prefix prefix other (sym i ∙ j))) ∙ equal_prefix.laws-law.refl prefix)
     same_by e f _ _ k i j x y same one = absurd (omega arith)
 

@@ -5,7 +5,7 @@ use Rattle.std.specs.List.{list_any}
 use Rattle.std.specs.List.Sorted.{IsStrictlySortedBy}
 use Rattle.std.specs.Map.{remove_entry}
 use Rattle.std.specs.Option.{is_some}
-use Rattle.std.proofs.lemmas.Bool.{false≢true}
+use Rattle.std.proofs.lemmas.Bool.{cond-false, false≢true}
 use Rattle.sai_types.specs.declared.ids.Rid.{Rid}
 use Rattle.sai_types.specs.declared.kind.Kind.{Kind}
 use Rattle.sai_types.specs.declared.body.Attr.{Attr}
@@ -28,7 +28,7 @@ use Rattle.sai_types.proofs.Maps.{sorted-insert_entry}
 use Rattle.sai_types.proofs.Refer.{all-kept, refers_well-left, refers_well-with_attr}
 
 -- an object that is found where one was put: the one that was put, or one that was there
-found_put : (t : Bool) (b d : Body Rid) (rest : Option (Body Rid)) → cond t (Some b) rest ≡ Some d → ((t ≡ true) × (d ≡ b)) ⊎ (rest ≡ Some d)
+pub found_put : (t : Bool) (b d : Body Rid) (rest : Option (Body Rid)) → cond t (Some b) rest ≡ Some d → ((t ≡ true) × (d ≡ b)) ⊎ (rest ≡ Some d)
 found_put true b d rest h = inl (refl, cc)
 found_put false b d rest h = inr h
 
@@ -171,15 +171,11 @@ module _ (made : ℕ) (objects : Objects) (whole : IsWhole made objects) (e : En
   left_by true d rest h = cc
   left_by false d rest h = h
 
-  stays_by : (t : Bool) (rest : Option (Body Rid)) → t ≡ false → cond t None rest ≡ rest
-  stays_by true rest h = cc
-  stays_by false rest h = refl
-
   was_left : (q : Entry Rid) (d : Body Rid) → body_at without q ≡ Some d → body_at objects q ≡ Some d
   was_left q d h = left_by (same_entry e q) d (body_at objects q) (sym (body_at-remove objects e q whole.sorted) ∙ h)
 
   stays : (q : Entry Rid) → same_entry e q ≡ false → body_at without q ≡ body_at objects q
-  stays q apart = body_at-remove objects e q whole.sorted ∙ stays_by (same_entry e q) (body_at objects q) apart
+  stays q apart = body_at-remove objects e q whole.sorted ∙ cond-false (same_entry e q) None (body_at objects q) apart
 
   whole-remove : IsWhole made without
   whole-remove = record {

@@ -1,23 +1,17 @@
 -- a key to sync begins or waits
-use Rattle.std.proofs.Common.{◌≡◌, ◌⊎◌, ◌<◌, ◌∷◌, ◌∙◌, inl, inr, ℕ, Bool, true, false, cond, List, [], Option, None, Some, option_map, is_some, Ok, Err, refl, sym, ap, subst}
-use Rattle.std.specs.BTreeMap.{is_at}
+use Rattle.std.proofs.Common.{◌≡◌, ◌⊎◌, ◌<◌, ◌∷◌, ◌∙◌, inl, inr, ℕ, true, List, [], Option, None, Some, option_map, Ok, Err, refl, sym, ap, subst}
 use Rattle.std.specs.Map.{keys_of}
-use Rattle.std.proofs.lemmas.Bool.{false≢true}
 use Rattle.table_schema.specs.Fields.{Pairs}
-use Rattle.table_schema.specs.Key.{key_cmp}
 use Rattle.table_schema.specs.Names.{names_of}
 use Rattle.table_schema.specs.Plan.{IsPlan}
 use Rattle.table_schema.specs.declared.key.Key.{Key}
 use Rattle.table_schema.specs.declared.row.Row.{Row}
-use Rattle.table_schema.proofs.Keys.{key_total, tied_keys_same}
-use Rattle.sai_types.specs.Alike.{IsIn}
 use Rattle.sai_types.specs.ChipState.{ChipState}
 use Rattle.switch_model.specs.Desired.{have_rows}
 use Rattle.switch_model.specs.Good.{good_row}
 use Rattle.switch_model.specs.declared.wait.Wait.{Wait}
 use Rattle.switch_model.specs.declared.wait.Wait.TheVariants as wait
-use Rattle.producer_table.proofs.Found.{lookup-removed}
-use Rattle.consumer_table.specs.Ops.{AreOpsInOrder, Ops, op_at, without_op}
+use Rattle.consumer_table.specs.Ops.{AreOpsInOrder, without_op}
 use Rattle.row_layout.specs.Operations.{Change}
 use Rattle.row_layout.specs.Rows.{Owner}
 use Rattle.switch_machine.specs.Events.{Follows as Event, HasLeft, IsBegin, IsDrop, SwitchState}
@@ -47,7 +41,7 @@ use Rattle.core_laws.proofs.Opened as opened
 use Rattle.core_laws.proofs.Resting.{differing_reads, flown_busy, free_rests}
 use Rattle.asic_view.specs.View.{rid_at}
 use Rattle.sync_tables.specs.Tables.{IsToSync}
-use Rattle.sync_tables.proofs.Membership.{at_itself, found-in, in-found}
+use Rattle.sync_tables.proofs.KeysLeave.{has_left}
 use Rattle.restart_laws.specs.Logged.{LoggedService}
 use Rattle.flight_board.specs.Applied.{row_at}
 use Rattle.flight_board.specs.Board.{BoardState, FlightState, BoardFollows, IsBegunFor, IsFlownAt, IsSameBoard, IsUnflown, flight_on, flown_at}
@@ -59,31 +53,6 @@ use Rattle.session_laws.proofs.Answering.{nothing_not, rows_all}
 use Rattle.session_laws.proofs.Following.{rows_by, rows_ended, rows_kept}
 use Rattle.session_laws.proofs.Making.{machine_step, without_call}
 use Rattle.session_laws.proofs.Preparing.{flown_alike, stands_on, with_board}
-
--- ---- keys that leave those to sync
-
-module _ (ops : Ops) (k : Key) (order : AreOpsInOrder ops) where
-  found : (q : Key) → is_some (op_at (without_op ops k) q) ≡ is_some (cond (is_at (key_cmp q) k) None (op_at ops q))
-  found q = ap is_some (lookup-removed key_cmp key_total ops k q order.keys)
-
-  found_at : (q : Key) (b : Bool) → is_at (key_cmp q) k ≡ b → is_some (op_at (without_op ops k) q) ≡ is_some (cond b None (op_at ops q))
-  found_at q b e = found q ∙ ap (λ z. is_some (cond z None (op_at ops q))) e
-
-  pub without_left : IsIn k (keys_of ops) → HasLeft k (keys_of ops) (keys_of (without_op ops k))
-  without_left i = record {
-    there = i;
-    gone = λ j. false≢true (sym (found_at k true (at_itself k k refl)) ∙ in-found k (without_op ops k) j);
-    others = λ q. others q (is_at (key_cmp q) k) refl;
-    only = λ q. only q (is_at (key_cmp q) k) refl;
-  }
-    where
-      others : (q : Key) (b : Bool) → is_at (key_cmp q) k ≡ b → IsIn q (keys_of ops) → (q ≡ k) ⊎ IsIn q (keys_of (without_op ops k))
-      others q true e j = inl (tied_keys_same q k e)
-      others q false e j = inr (found-in q (without_op ops k) (found_at q false e ∙ in-found q ops j))
-
-      only : (q : Key) (b : Bool) → is_at (key_cmp q) k ≡ b → IsIn q (keys_of (without_op ops k)) → IsIn q (keys_of ops)
-      only q true e j = absurd (false≢true (sym (found_at q true e) ∙ in-found q (without_op ops k) j))
-      only q false e j = found-in q ops (sym (found_at q false e) ∙ in-found q (without_op ops k) j)
 
 -- ---- what an operation that starts is
 
@@ -122,7 +91,7 @@ module _ (c : CoreState) (chip : ChipState) (s : LoggedService) (is : IsSessionO
   rests un = free_rests c.board.plan c.sync.capacities c.board.names c.board.room (flown_at c.board) core its.stands.board k (not_flown un)
 
   leaves : AreOpsInOrder c.tables.ops → IsToSync c.tables k → HasLeft k core.to_sync later
-  leaves order i = subst (λ l. HasLeft k l later) (sym is.to_sync) (without_left c.tables.ops k order i)
+  leaves order i = subst (λ l. HasLeft k l later) (sym is.to_sync) (has_left c.tables.ops k order i)
 
   -- what it names fits, where all of it is applied
   fits_by : IsOnSwitch k → (o : Option Pairs) (r : Row) → good_row c.board.plan k o ≡ Some r → have_rows core.machine.board.applied (names_of k r) ≡ true → Fits c.board.plan k r
@@ -181,7 +150,7 @@ module _ (c : CoreState) (chip : ChipState) (s : LoggedService) (is : IsSessionO
           log = is.log;
           effects = without_call s ∙ is.effects;
           listed = is.listed;
-          to_sync_read = λ q j. is.to_sync_read q ((without_left c.tables.ops k order i).only q j);
+          to_sync_read = λ q j. is.to_sync_read q ((has_left c.tables.ops k order i).only q j);
           waiting_read = is.waiting_read;
           working = λ _. record {
             stands = stands_dropped c.board.plan is.plan c.sync.capacities c.board.names c.board.room (flown_at c.board) (rid_at c.sync.view) core dropped its.stands drop;
@@ -257,7 +226,7 @@ module _ (c : CoreState) (chip : ChipState) (s : LoggedService) (is : IsSessionO
                 log = is.log;
                 effects = without_call s ∙ is.effects;
                 listed = is.listed;
-                to_sync_read = λ q j. is.to_sync_read q ((without_left c.tables.ops k order i).only q j);
+                to_sync_read = λ q j. is.to_sync_read q ((has_left c.tables.ops k order i).only q j);
                 waiting_read = is.waiting_read;
                 working = λ _. record { stands = stands; rows = rows; tied = its.tied; no_view = its.no_view; no_plan = its.no_plan };
               };

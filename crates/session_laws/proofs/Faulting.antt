@@ -38,7 +38,7 @@ use Rattle.session_laws.specs.Standing.{IsSessionOf}
 use Rattle.session_laws.proofs.Called.{answered, capacities_then, clean_then, effects_then, made_then, objects_then}
 use Rattle.session_laws.proofs.Preparing.{due_call}
 
-listed_same : (marks : List Mark) (mark : Mark) (n : ℕ) → keys_listed mark.event ≡ 0 → n ≡ listed_by marks → n ≡ listed_by (marks ++ mark ∷ [])
+pub listed_same : (marks : List Mark) (mark : Mark) (n : ℕ) → keys_listed mark.event ≡ 0 → n ≡ listed_by marks → n ≡ listed_by (marks ++ mark ∷ [])
 listed_same marks mark n none h = let more = listed_more marks mark in omega (arith, none, h, more)
 
 suspect_not : warm.Suspect ≡ warm.Reconciled → ⊥

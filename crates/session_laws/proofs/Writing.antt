@@ -29,7 +29,7 @@ use Rattle.session_laws.specs.Events.{MakesOne}
 use Rattle.session_laws.specs.Standing.{IsSessionOf}
 
 -- a write leaves each other key
-other_key : (w : Write) (k : Key) (o : Option Pairs) → is_at (key_cmp k) (written_key w) ≡ false → fields_after w k o ≡ o
+pub other_key : (w : Write) (k : Key) (o : Option Pairs) → is_at (key_cmp k) (written_key w) ≡ false → fields_after w k o ≡ o
 other_key (Set key fields) k o apart = ap (λ b. cond b (Some (merged (unwrap_or o []) fields)) o) apart
 other_key (Del key) k o apart = ap (λ b. cond b None o) apart
 

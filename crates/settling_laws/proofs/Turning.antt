@@ -4,23 +4,22 @@ use Rattle.std.specs.BTreeMap.{is_at}
 use Rattle.std.specs.Map.{keys_of}
 use Rattle.std.proofs.lemmas.Bool.{false≢true}
 use Rattle.std.proofs.lemmas.List.{append-nil, append_assoc, length-append}
+use Rattle.swss_types.proofs.Maps.{lookup-insert_entry}
 use Rattle.table_schema.specs.Key.{key_cmp}
 use Rattle.table_schema.specs.declared.key.Key.{Key}
-use Rattle.table_schema.proofs.Keys.{key_total, tied_keys_same}
+use Rattle.table_schema.proofs.Keys.{at_itself, key_total, tied_keys_same}
 use Rattle.sai_types.specs.Alike.{IsIn}
 use Rattle.sai_types.specs.ChipState.{ChipState}
 use Rattle.sai_types.specs.declared.body.Call.{Call}
 use Rattle.sai_types.specs.declared.ids.Rid.{Rid}
+use Rattle.sai_types.proofs.Membership.{in-either}
 use Rattle.switch_model.specs.declared.wait.Wait.{Wait}
-use Rattle.producer_table.proofs.Found.{lookup-put}
 use Rattle.retry_list.specs.Reasons.{Reasons, reason_at, with_reason}
 use Rattle.switch_machine.specs.Events.{AreAnswers, IsBegin, IsDrop, IsQuiet, SwitchState}
 use Rattle.switch_machine.specs.Reasons.{IsReason}
-use Rattle.switch_machine.proofs.Splits.{in_both}
 use Rattle.machine_laws.specs.Settling.{DropsKey, IsMachineTurn, RunsAlone}
 use Rattle.restart_laws.specs.Logged.{LoggedService}
 use Rattle.core_laws.proofs.Resting.{none_flies}
-use Rattle.sync_tables.proofs.Membership.{at_itself}
 use Rattle.flight_board.specs.Board.{flown_at}
 use Rattle.session_laws.specs.Core.{CoreState}
 use Rattle.session_laws.specs.Events.{IsMachineStep, MakesOne}
@@ -114,8 +113,8 @@ module _ (keys left rest : List Key) (k : Key) (c c' : CoreState) (chip' : ChipS
 
     all_listed : (waiting : Reasons) → waiting ≡ with_reason c'.waiting k r → HaveListed c core c'.waiting left → HaveListed c core waiting (left ++ k ∷ [])
     all_listed waiting is have = λ q i.
-        let one = one_listed have q (is_at (key_cmp q) k) refl (in_both q left (k ∷ []) i) in
-        (one.0, ap (λ l. reason_at l q) is ∙ lookup-put key_cmp key_total c'.waiting k r q ∙ one.1, one.2)
+        let one = one_listed have q (is_at (key_cmp q) k) refl (in-either q left (k ∷ []) i) in
+        (one.0, ap (λ l. reason_at l q) is ∙ lookup-insert_entry key_cmp key_total c'.waiting k r q ∙ one.1, one.2)
 
     pub turn_waits : (c'' : CoreState) → IsSessionOf c'' chip' x.later → c''.board.plan ≡ c'.board.plan → c''.sync.capacities ≡ c'.sync.capacities → c''.limit ≡ c'.limit → IsAtRest c'' → c''.tables.ops ≡ c'.tables.ops → c''.waiting ≡ with_reason c'.waiting k r → IsTurning keys c s (left ++ k ∷ []) rest c'' chip'
     turn_waits c'' is plan capacities limit rests ops waiting =

@@ -13,6 +13,7 @@ use Rattle.sai_types.specs.declared.thing.Thing.TheVariants as thing
 use Rattle.sai_types.specs.Alike.{IsIn}
 use Rattle.sai_types.specs.Names as name
 use Rattle.sai_types.specs.Names.{name_of}
+use Rattle.sai_types.proofs.Membership.{in-either}
 use Rattle.switch_model.specs.Things.{hops_of, members_of}
 use Rattle.row_layout.specs.Operations.{Change, Make, Set, Take, build_all, changes_of, make_all, own_changes, retire_all, same_thing, set_all, shared_going, take_all, unshared, uses_of}
 use Rattle.row_layout.specs.Rows as owner
@@ -22,7 +23,6 @@ use Rattle.switch_machine.specs.Bearing.{BearsOnce, Bears, NoneBears}
 use Rattle.switch_machine.specs.Changes.{changed_name}
 use Rattle.switch_machine.proofs.Tabled.{group_use}
 use Rattle.switch_machine.proofs.Sequence.{make_append}
-use Rattle.switch_machine.proofs.Splits.{in_both}
 
 -- groups and their members
 abbrev IsOfGroup : Thing → Type 0
@@ -42,7 +42,7 @@ things_group hops t (inl e) = (hops, inl e)
 things_group hops t (inr h) = member_group hops hops t h
 
 going_group : (hops : List Hop) (t : Thing) → IsIn t (shared_going (owner.Group hops)) → IsOfGroup t
-going_group hops t h = by (in_both t (members_of hops hops) (thing.Group hops ∷ []) h)
+going_group hops t h = by (in-either t (members_of hops hops) (thing.Group hops ∷ []) h)
   where
     by : IsIn t (members_of hops hops) ⊎ IsIn t (thing.Group hops ∷ []) → IsOfGroup t
     by (inl g) = member_group hops hops t g

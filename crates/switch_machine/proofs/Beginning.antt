@@ -15,7 +15,7 @@ use Rattle.switch_machine.specs.Operations.{MayBegin, IsLast, built_first}
 use Rattle.switch_machine.specs.Tables.{Orders, IsNamed, TableLaws}
 use Rattle.switch_machine.specs.Steps.{LeavesLast, Starts, left, parted, started}
 use Rattle.switch_machine.specs.Consistent.{IsUsedOrRetired, IsConsistent, WasUsed}
-use Rattle.switch_machine.proofs.Running.{final-concern, one_owner, own_row, shared_of, shared_row, stays}
+use Rattle.switch_machine.proofs.Running.{final-concern, no_retire, one_owner, own_row, shared_of, shared_row, stays}
 use Rattle.switch_machine.proofs.Moving.{fit_of, used_shared}
 use Rattle.switch_machine.proofs.Leaving.{leaver, no_change, runs_done, sound-retiring}
 use Rattle.switch_machine.proofs.Starting.{sound-started}
@@ -24,9 +24,6 @@ use Rattle.switch_machine.proofs.Changing.{changed-runs, changes, one_row}
 use Rattle.switch_machine.proofs.Ordered.{ordered}
 use Rattle.switch_machine.proofs.Tabled.{tabled}
 use Rattle.switch_machine.proofs.Splits.{use_row_in}
-
-no_retire : (r : Option Owner) (o : Owner) → r ≡ None → r ≡ Some o → ⊥
-no_retire r o h g = absurd cc
 
 -- ---- changes of what stands whole
 
@@ -59,7 +56,7 @@ make_in (t ∷ ts) own c (inr h) = by (make_in ts own c h)
     by (inl x) = inl (x.0, inr x.1, x.2)
     by (inr h) = inr h
 
-take_in : (ts : List Thing) (c : Change) → IsIn c (take_all ts []) → (t : Thing) × IsIn t ts × (c ≡ Take (name_of t))
+pub take_in : (ts : List Thing) (c : Change) → IsIn c (take_all ts []) → (t : Thing) × IsIn t ts × (c ≡ Take (name_of t))
 take_in [] c h = elim h [ ]
 take_in (t ∷ ts) c (inl e) = (t, inl refl, e)
 take_in (t ∷ ts) c (inr h) = let x = take_in ts c h in (x.0, inr x.1, x.2)
@@ -75,7 +72,7 @@ module _ (plan : Ports) (tables : TableLaws plan) (f : MachineFlight) (fit : (r 
       by (inl own) = (OfRow f.key, own.0, inl refl)
       by (inr x) = (x.0, x.1, inr (inr x.2))
 
-  touched_concern : (due : List Change) (V : Thing → Type 0) (p : Owner) → Runs plan f V due → HasChangeOf plan due p → Concerns plan f p
+  pub touched_concern : (due : List Change) (V : Thing → Type 0) (p : Owner) → Runs plan f V due → HasChangeOf plan due p → Concerns plan f p
   touched_concern [] V p runs t = elim t.1 [ ]
   touched_concern (c ∷ cs) V p runs (d, inl is, of) =
       let x = can_concern V c runs.0 in

@@ -2,6 +2,7 @@
 use Rattle.std.proofs.Common.{◌≡◌, ◌⊎◌, ◌≤◌, ◌∷◌, ◌++◌, ◌∙◌, inl, inr, ℕ, List, [], length, take, Option, None, Some, refl, sym, ap, subst, arith}
 use Rattle.std.proofs.Math.Seq.{take-length}
 use Rattle.std.proofs.lemmas.List.{length-append, take-append-le}
+use Rattle.std.proofs.lemmas.Option.{same_Some}
 use Rattle.table_schema.specs.Fields.{Pairs}
 use Rattle.table_schema.specs.Plan.{Ports}
 use Rattle.table_schema.specs.Rows.{fields_at, rows_of}
@@ -15,7 +16,7 @@ use Rattle.switch_machine.specs.Events.{Due, Ended, Follows, Left, Retires}
 use Rattle.switch_machine.specs.Flights.{MachineFlight, IsRow, Machine}
 use Rattle.switch_machine.specs.Steps.{finished, left, parted, started}
 use Rattle.switch_machine.specs.Written.{ArePopped, HasWrittenRows, IsAsBefore, IsGoodOnce, IsPoppedKey, IsTold, TakesWrite, Written, good_of}
-use Rattle.switch_machine.proofs.Running.{one_flight, no_flight}
+use Rattle.switch_machine.proofs.Running.{no_flight}
 use Rattle.switch_machine.proofs.Splits.{IsPut, IsSplit, New, Old, key_split, put_at, put_by, row_at, row_off}
 
 -- ---- a row of the board was one before
@@ -37,7 +38,7 @@ left_row m w f retires due k r at (inl h) = inl h
 left_row m w f retires due k r at (inr (v, g, there, is, new)) = by (put_by w v (Some (parted f retires)) m.board.flights (Some g) there)
   where
     by : IsPut w v (Some (parted f retires)) m.board.flights (Some g) → IsRow m.board k r
-    by (New same e) = let one = one_flight (parted f retires) g e in inr (w, f, at, ap (λ (z : MachineFlight). z.key) one ∙ is, ap (λ (z : MachineFlight). z.new) one ∙ new)
+    by (New same e) = let one = same_Some (parted f retires) g e in inr (w, f, at, ap (λ (z : MachineFlight). z.key) one ∙ is, ap (λ (z : MachineFlight). z.new) one ∙ new)
     by (Old other old) = inr (v, g, old, is, new)
 
 pub follows-row : (plan : Ports) (w : ℕ) (m later : Machine) (k : Key) (r : Row) → Follows plan w m later → IsRow later.board k r → IsRow m.board k r
@@ -51,7 +52,7 @@ started-row m w f due k r (inl h) = inl (inl h)
 started-row m w f due k r (inr (v, g, there, is, new)) = by (put_by w v (Some f) m.board.flights (Some g) there)
   where
     by : IsPut w v (Some f) m.board.flights (Some g) → IsRow m.board k r ⊎ ((f.key ≡ k) × (f.new ≡ Some r))
-    by (New same e) = let one = one_flight f g e in inr (ap (λ (z : MachineFlight). z.key) one ∙ is, ap (λ (z : MachineFlight). z.new) one ∙ new)
+    by (New same e) = let one = same_Some f g e in inr (ap (λ (z : MachineFlight). z.key) one ∙ is, ap (λ (z : MachineFlight). z.new) one ∙ new)
     by (Old other old) = inl (inr (v, g, old, is, new))
 
 -- ---- what was written

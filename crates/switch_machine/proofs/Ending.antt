@@ -1,5 +1,6 @@
 -- the machine stays sound where an operation ends
 use Rattle.std.proofs.Common.{◌≡◌, ◌∙◌, inl, inr, ℕ, [], Option, None, Some, refl, sym, ap, subst}
+use Rattle.std.proofs.lemmas.Option.{same_Some}
 use Rattle.table_schema.specs.Plan.{Ports}
 use Rattle.table_schema.specs.declared.key.Key.{Key}
 use Rattle.table_schema.specs.declared.row.Row.{Row}
@@ -13,13 +14,10 @@ use Rattle.switch_machine.specs.Steps.{Ends, finished}
 use Rattle.switch_model.specs.Good.{TypedRows}
 use Rattle.switch_machine.specs.Consistent.{IsCurrent, IsUsedOrRetired, IsLike, IsOrderly, IsConsistent, WasUsed}
 use Rattle.switch_machine.specs.Tables.{TableLaws}
-use Rattle.switch_machine.proofs.Running.{one_flight, own_row, resembles_self, shared_of, no_flight}
+use Rattle.switch_machine.proofs.Running.{no_retire, own_row, resembles_self, shared_of, no_flight}
 use Rattle.switch_machine.proofs.Moving.{fit_of}
 use Rattle.switch_machine.proofs.Leaving.{no_change}
 use Rattle.switch_machine.proofs.Splits.{IsPut, IsSplit, New, Old, key_split, nat_split, put_by, put_off, row_at, row_off}
-
-never_owned : (o : Option Owner) (p : Owner) → o ≡ None → o ≡ Some p → ⊥
-never_owned o p h g = absurd cc
 
 module _ (plan : Ports) (tables : TableLaws plan) (m : Machine) (sound : IsConsistent plan m) (w : ℕ) (f : MachineFlight) (ends : Ends m w f) where
   abbrev b : MachineBoard
@@ -69,7 +67,7 @@ module _ (plan : Ports) (tables : TableLaws plan) (m : Machine) (sound : IsConsi
   goes v g h = of (nat_split v w)
     where
       of : IsSplit v w → Goes v g
-      of (inl same) = Ended same (one_flight f g (sym ends.flying ∙ ap b.flights (sym same) ∙ h))
+      of (inl same) = Ended same (same_Some f g (sym ends.flying ∙ ap b.flights (sym same) ∙ h))
       of (inr other) = Stays other (put_off w v None b.flights other ∙ h)
 
   -- no other operation has the key
@@ -148,7 +146,7 @@ module _ (plan : Ports) (tables : TableLaws plan) (m : Machine) (sound : IsConsi
     where
       mine : f.key ≡ k → CountsAsUser plan f o → IsUser plan b' k o
       mine same (inl h) = user_new k o same h
-      mine same (inr h) = absurd (never_owned f.leaves o ends.left h)
+      mine same (inr h) = absurd (no_retire f.leaves o ends.left h)
 
       of : Goes v g → IsUser plan b' k o
       of (Ended same e) = mine (ap (λ (z : MachineFlight). z.key) e ∙ is) (subst (λ z. CountsAsUser plan z o) (sym e) counts)

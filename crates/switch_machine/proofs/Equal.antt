@@ -1,10 +1,11 @@
 -- things that compare equal are equal
 use Rattle.std.proofs.Common.{◌≡◌, ◌==◌, ℕ, Bool, true, List, refl, ap, ap₂, ◌∙◌, subst}
-use Rattle.std.proofs.lemmas.Bool.{and_parts, eq-eqb, eqb-true, false≢true}
+use Rattle.std.proofs.lemmas.Bool.{and_parts, eqb-true, false≢true}
 use Rattle.std.specs.Bool.{Decides}
 use Rattle.std.specs.Cmp.{booleans_Decides}
 use Rattle.std.specs.Cmp.Lexicographic.{pointwise}
 use Rattle.std.proofs.lemmas.Slice.Eq.{slice_eq-Decides}
+use Rattle.std.proofs.lemmas.Bool.Decides.{Decides-eqb}
 use Rattle.sai_types.specs.declared.hop.Hop.{Hop}
 use Rattle.sai_types.specs.declared.thing.Goal.{Goal}
 use Rattle.sai_types.specs.declared.thing.Goal.TheVariants as goal
@@ -20,14 +21,11 @@ use Rattle.swss_types.proofs.SameValues.{mac_exact, tagging_exact}
 use Rattle.sai_types.proofs.Rising.{hop-same, base-exact}
 use Rattle.row_layout.specs.Operations.{same_thing}
 
-number_decides : (a b : ℕ) → Decides (a == b) (a ≡ b)
-number_decides a b = (eqb-true a b, eq-eqb a b)
-
 hop_decides : (a b : Hop) → Decides (hop_eq.ghosts.eq a b) (a ≡ b)
 hop_decides a b = (hop-same a b, λ e. subst (λ z. hop_eq.ghosts.eq a z ≡ true) e (equal_hop.laws-law.refl a))
 
-lanes_exact : (xs ys : List ℕ) → pointwise ◌==◌ xs ys ≡ true → xs ≡ ys
-lanes_exact xs ys h = (slice_eq-Decides number_decides xs ys (pointwise ◌==◌ xs ys) refl).0 h
+pub lanes_exact : (xs ys : List ℕ) → pointwise ◌==◌ xs ys ≡ true → xs ≡ ys
+lanes_exact xs ys h = (slice_eq-Decides Decides-eqb xs ys (pointwise ◌==◌ xs ys) refl).0 h
 
 hops_eq_exact : (xs ys : List Hop) → pointwise hop_eq.ghosts.eq xs ys ≡ true → xs ≡ ys
 hops_eq_exact xs ys h = (slice_eq-Decides hop_decides xs ys (pointwise hop_eq.ghosts.eq xs ys) refl).0 h

@@ -1,6 +1,7 @@
 -- a key that nothing hinders may begin, and there is room for it or a first kind lacks it
 use Rattle.std.proofs.Common.{◌≡◌, ◌⊎◌, ◌+◌, ◌<◌, ◌≤◌, ◌∷◌, ◌∙◌, inl, inr, ℕ, zero, suc, Bool, true, false, List, [], Option, None, Some, get_or, is_some, refl, sym, ap, ap₂, subst, arith}
 use Rattle.std.proofs.lemmas.Bool.{and_parts, cases_order}
+use Rattle.std.proofs.lemmas.Option.{same_Some}
 use Rattle.table_schema.specs.Names.{names_of}
 use Rattle.table_schema.specs.Plan.{IsPlan, Ports}
 use Rattle.table_schema.specs.declared.key.Key.{Key}
@@ -33,7 +34,6 @@ use Rattle.switch_machine.proofs.Sequence.{IsShort, uses_short}
 use Rattle.switch_machine.proofs.Single.{kind_at, kind_low, kinds}
 use Rattle.switch_machine.proofs.Splits.{IsSplit, owner_split, use_row_in}
 use Rattle.switch_machine.proofs.Tabled.{are_shared_by, tabled}
-use Rattle.switch_machine.proofs.Running.{some_owner}
 
 abbrev IsOr : Type 0 → Type 0
 IsOr X = X ⊎ (X → ⊥)
@@ -66,7 +66,7 @@ listed_split (x ∷ xs) u = by (thing_split x.1 u) (listed_split xs u)
         neither i (inr h) = out (i, h)
 
 -- what is shared has a thing
-first_shared : (o : Owner) → IsShared o → (u : Thing) × IsIn u (shared_things o)
+pub first_shared : (o : Owner) → IsShared o → (u : Thing) × IsIn u (shared_things o)
 first_shared (owner.OfRow k) h = elim h [ ]
 first_shared (owner.Bridge lane) h = (thing.BridgePort lane, inl refl)
 first_shared (owner.Own ip) h = (thing.Own ip, inl refl)
@@ -130,7 +130,7 @@ module _ (plan : Ports) (is : IsPlan plan) (workers : ℕ) (capacities : List �
           of (inl shares) = record { leaves = None; apart = λ o h. none_owner o h; covers = λ o h. inl (subst (λ z. IsIn z now) (sym (one o h)) shares) }
           of (inr leaves) = record {
             leaves = Some p;
-            apart = λ o h. let same = some_owner p o h in (subst (λ z. IsIn z was) same (subst (IsIn p) (sym e) (inl refl)), λ g. leaves (subst (λ z. IsIn z now) (sym same) g));
+            apart = λ o h. let same = same_Some p o h in (subst (λ z. IsIn z was) same (subst (IsIn p) (sym e) (inl refl)), λ g. leaves (subst (λ z. IsIn z now) (sym same) g));
             covers = λ o h. inr (ap Some (sym (one o h)));
           }
 
@@ -183,7 +183,7 @@ module _ (plan : Ports) (is : IsPlan plan) (workers : ℕ) (capacities : List �
               only o (inr none) = elim none [ ]
           of (inr absent) = record {
             builds = Some p;
-            built = λ o h. subst (λ z. IsIn z now × ((q : Key) → IsUser plan s.machine.board q z → ⊥)) (some_owner p o h) (there, λ q u. absent (kept.sound.whole q p first.0 u (λ v g at touched. (free p there v g at).0 touched) first.1));
+            built = λ o h. subst (λ z. IsIn z now × ((q : Key) → IsUser plan s.machine.board q z → ⊥)) (same_Some p o h) (there, λ q u. absent (kept.sound.whole q p first.0 u (λ v g at touched. (free p there v g at).0 touched) first.1));
             found = λ h. absurd (some_not p h);
           }
             where

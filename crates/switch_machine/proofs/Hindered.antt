@@ -23,7 +23,7 @@ use Rattle.switch_machine.specs.Written.{good_of}
 use Rattle.switch_machine.proofs.Ordered.{ordered}
 use Rattle.switch_machine.proofs.Splits.{use_row_in}
 
-some_none : {X Y : Type 0} (x : X) (o : Option X) → o ≡ Some x → o ≡ None → Y
+pub some_none : {X Y : Type 0} (x : X) (o : Option X) → o ≡ Some x → o ≡ None → Y
 some_none x o h g = absurd cc
 
 -- the first missing name is one of the names, and has no row

@@ -204,7 +204,7 @@ module _ (plan : Ports) (is : IsPlan plan) (workers : ℕ) (capacities : List �
       synced k (inr h) (Popped had popped at) = inl at
       synced k (inr h) (Stays same none) = inr (subst (λ z. IsCurrent z.board (good_of plan t.written) k) (sym x.machine) (same_good s.machine.board (good_of plan s.written) (good_of plan t.written) k (ap (good_row plan k) same.row) h))
 
-  kept_drops : (s t : SwitchState) → IsSafe plan workers capacities s → IsDrop plan s t → IsSafe plan workers capacities t
+  pub kept_drops : (s t : SwitchState) → IsSafe plan workers capacities s → IsDrop plan s t → IsSafe plan workers capacities t
   kept_drops s t kept x = record {
     sound = subst (IsConsistent plan) (sym x.machine) kept.sound;
     whole = subst (λ z. IsWhole z t.objects) (sym x.made) (subst (IsWhole s.made) (sym x.objects) kept.whole);

@@ -1,5 +1,6 @@
 -- the machine stays sound where a key leaves what it shared
 use Rattle.std.proofs.Common.{◌≡◌, ◌⊎◌, ◌∷◌, ◌∙◌, inl, inr, ℕ, List, [], Option, None, Some, refl, sym, ap, subst}
+use Rattle.std.proofs.lemmas.Option.{none-some, same_Some}
 use Rattle.table_schema.specs.Plan.{Ports}
 use Rattle.table_schema.specs.declared.key.Key.{Key}
 use Rattle.table_schema.specs.declared.row.Row.{Row}
@@ -14,12 +15,9 @@ use Rattle.switch_machine.specs.Steps.{Leaves, LeavesLast, LeavesOthers, left, p
 use Rattle.switch_model.specs.Good.{TypedRows}
 use Rattle.switch_machine.specs.Consistent.{IsCurrent, IsUsedOrRetired, IsOrderly, IsConsistent, WasUsed}
 use Rattle.switch_machine.specs.Tables.{IsNamed, TableLaws}
-use Rattle.switch_machine.proofs.Running.{one_flight, one_owner, own_row, shared_row, some_owner}
+use Rattle.switch_machine.proofs.Running.{one_owner, own_row, shared_row}
 use Rattle.switch_machine.proofs.Moving.{fit_of}
 use Rattle.switch_machine.proofs.Splits.{IsPut, IsSplit, New, Old, nat_split, put_at, put_by, put_off}
-
-none_some : (o : Owner) → None ≡ Some o → ⊥
-none_some o h = cc
 
 pub no_change : {X : Type 0} (c : Change) (cs : List Change) → IsIn c cs → cs ≡ [] → X
 no_change c [] h e = elim h [ ]
@@ -66,7 +64,7 @@ module _ (plan : Ports) (tables : TableLaws plan) (m : Machine) (sound : IsConsi
     flies v g h = of (by v g h)
       where
         of : IsPut w v (Some g') b.flights (Some g) → Flies v g
-        of (New same e) = Its same (one_flight g' g e)
+        of (New same e) = Its same (same_Some g' g e)
         of (Old other there) = Another other there
 
     data Flew (v : ℕ) (g : MachineFlight) : Type 0 where
@@ -77,7 +75,7 @@ module _ (plan : Ports) (tables : TableLaws plan) (m : Machine) (sound : IsConsi
     flew v g h = of (nat_split v w)
       where
         of : IsSplit v w → Flew v g
-        of (inl same) = It same (one_flight f g (sym leaving.flying ∙ ap b.flights (sym same) ∙ h))
+        of (inl same) = It same (same_Some f g (sym leaving.flying ∙ ap b.flights (sym same) ∙ h))
         of (inr other) = Same other (put_off w v (Some g') b.flights other ∙ h)
 
     row_was : (k : Key) (r : Row) → IsRow b' k r → IsRow b k r
@@ -130,7 +128,7 @@ module _ (plan : Ports) (tables : TableLaws plan) (m : Machine) (sound : IsConsi
       where
         mine : f.key ≡ k → CountsAsUser plan g' p → IsUser plan b k p
         mine same (inl h) = inl (w, f, leaving.flying, same, inl h)
-        mine same (inr h) = absurd (none_some p h)
+        mine same (inr h) = absurd (none-some p h)
 
         of : Flies v g → IsUser plan b k p
         of (Its same e) = mine (ap (λ (z : MachineFlight). z.key) e ∙ is) (subst (λ z. CountsAsUser plan z p) (sym e) counts)
@@ -142,7 +140,7 @@ module _ (plan : Ports) (tables : TableLaws plan) (m : Machine) (sound : IsConsi
       where
         mine : f.key ≡ k → CountsAsUser plan f p → IsUser plan b' k p ⊎ ((k ≡ f.key) × (p ≡ o))
         mine same (inl h) = inl (inl (w, g', here, same, inl h))
-        mine same (inr h) = inr (sym same, some_owner p o (sym h ∙ leaving.leaves))
+        mine same (inr h) = inr (sym same, same_Some p o (sym h ∙ leaving.leaves))
 
         of : Flew v g → IsUser plan b' k p ⊎ ((k ≡ f.key) × (p ≡ o))
         of (It same e) = mine (ap (λ (z : MachineFlight). z.key) e ∙ is) (subst (λ z. CountsAsUser plan z p) (sym e) counts)
@@ -163,7 +161,7 @@ module _ (plan : Ports) (tables : TableLaws plan) (m : Machine) (sound : IsConsi
       where
         mine : CountsAsUser plan g' p → IsIn p (uses_of plan f.key f.new)
         mine (inl h) = h
-        mine (inr h) = absurd (none_some p h)
+        mine (inr h) = absurd (none-some p h)
 
         of : Flies v g → IsIn p (uses_of plan f.key f.new)
         of (Its same e) = mine (subst (λ z. CountsAsUser plan z p) (sym e) counts)
@@ -177,7 +175,7 @@ module _ (plan : Ports) (tables : TableLaws plan) (m : Machine) (sound : IsConsi
       one_by u v g h same (Another x there) (Another y at) = sound.board.one u v g h there at same
 
       leaves_by : (v : ℕ) (g : MachineFlight) (p : Owner) → g.leaves ≡ Some p → Flies v g → WasUsed plan b.applied g.key p × (IsIn p (uses_of plan g.key g.new) → ⊥) × (g.retires ≡ None)
-      leaves_by v g p h (Its same e) = absurd (none_some p (ap (λ (z : MachineFlight). z.leaves) e ∙ h))
+      leaves_by v g p h (Its same e) = absurd (none-some p (ap (λ (z : MachineFlight). z.leaves) e ∙ h))
       leaves_by v g p h (Another other there) = sound.board.leaves v g p there h
 
       left_by : (v : ℕ) (g : MachineFlight) (p : Owner) → g.retires ≡ Some p → Flies v g → WasUsed plan b.applied g.key p
@@ -308,10 +306,10 @@ module _ (plan : Ports) (tables : TableLaws plan) (m : Machine) (sound : IsConsi
   pub sound-retiring : IsConsistent plan (left m w f (Some o) due)
   sound-retiring =
       sound-parted plan tables m sound w f o leaving_last (Some o) due
-      (λ p h. subst (WasUsed plan m.board.applied f.key) (some_owner o p h) known.0)
-      (λ k p h user. unused k (subst (IsUser plan after_last k) (sym (some_owner o p h)) user))
+      (λ p h. subst (WasUsed plan m.board.applied f.key) (same_Some o p h) known.0)
+      (λ k p h user. unused k (subst (IsUser plan after_last k) (sym (same_Some o p h)) user))
       (λ v g p there other h e. sound.board.unused v g f.key o there (e ∙ sym h) (leaver plan tables m sound w f o leaving_last))
       (inr (w, parted f (Some o), here plan tables m sound w f o leaving_last (Some o) due, refl))
-      (λ p h. absurd (none_some p (sym known.2 ∙ h)))
+      (λ p h. absurd (none-some p (sym known.2 ∙ h)))
       x.runs
       (λ k p t user. x.last k (user_was plan tables m sound w f o leaving_last (Some o) due k o (subst (IsUser plan after_last k) (x.about p t) user)))

@@ -1,5 +1,6 @@
 -- the machine stays sound where a change that is due takes effect
 use Rattle.std.proofs.Common.{◌≡◌, ◌⊎◌, ◌∷◌, ◌∙◌, inl, inr, ℕ, List, Some, refl, sym, ap, subst}
+use Rattle.std.proofs.lemmas.Option.{same_Some}
 use Rattle.table_schema.specs.Plan.{Ports}
 use Rattle.table_schema.specs.declared.key.Key.{Key}
 use Rattle.table_schema.specs.declared.row.Row.{Row}
@@ -15,7 +16,7 @@ use Rattle.switch_machine.specs.Flights.{Can, CanMake, CanSet, Concerns, Fits, M
 use Rattle.switch_machine.specs.Steps.{Moves, moved}
 use Rattle.switch_machine.specs.Consistent.{IsUsedOrRetired, IsLike, IsConsistent}
 use Rattle.switch_machine.specs.Tables.{IsNamed, TableLaws}
-use Rattle.switch_machine.proofs.Running.{Agree, final-concern, one_flight, one_owner, own_row, resembles_self, row_keys, runs-same, shared_of, shared_row, stays, stood, untouched}
+use Rattle.switch_machine.proofs.Running.{Agree, final-concern, one_owner, own_row, resembles_self, row_keys, runs-same, shared_of, shared_row, stays, stood, untouched}
 use Rattle.switch_machine.proofs.Splits.{IsSplit, name_split, nat_split, owner_split, put_at, put_off, own_row_in, use_row_in}
 
 module _ (plan : Ports) (tables : TableLaws plan) (m : Machine) (sound : IsConsistent plan m) where
@@ -118,7 +119,7 @@ module _ (plan : Ports) (tables : TableLaws plan) (m : Machine) (sound : IsConsi
 
     runs_by : (v : ℕ) (g : MachineFlight) → m.board.flights v ≡ Some g → IsSplit v w → Runs plan g (StandsIn later) (later.due v)
     runs_by v g there (inl same) =
-        let is : f ≡ g = one_flight f g (sym moves.flying ∙ ap m.board.flights (sym same) ∙ there) in
+        let is : f ≡ g = same_Some f g (sym moves.flying ∙ ap m.board.flights (sym same) ∙ there) in
         let now = runs-same plan tables f fits (λ u. after c (StandsIn m u) u) (StandsIn later) cs agree_self runs_now.1 in
         subst (Runs plan g (StandsIn later)) (sym (put_at w v cs m.due same)) (subst (λ h. Runs plan h (StandsIn later) cs) is now)
     runs_by v g there (inr other) =

@@ -1,5 +1,5 @@
 -- the changes of an operation can be made one after the other
-use Rattle.std.proofs.Common.{Bool, true, false, if◌then◌else◌, ◌≡◌, ◌⊎◌, ◌∷◌, ◌∙◌, inl, inr, List, [], Option, None, Some, refl, sym, ap, subst}
+use Rattle.std.proofs.Common.{Bool, true, false, if◌then◌else◌, ◌≡◌, ◌⊎◌, ◌∷◌, ◌∙◌, inl, inr, List, [], None, Some, refl, sym, ap, subst}
 use Rattle.table_schema.specs.Plan.{Ports}
 use Rattle.table_schema.specs.declared.row.Row.{Row}
 use Rattle.sai_types.specs.declared.thing.Thing.{Thing}
@@ -12,7 +12,7 @@ use Rattle.switch_machine.specs.Changes.{IsSettable, Resembles}
 use Rattle.switch_machine.specs.Flights.{Concerns, Fits, MachineFlight, Goes, HasName, HasShared, IsConcern, IsFinal, IsOwnedBy, IsShared, Runs, own_of}
 use Rattle.switch_machine.specs.Tables.{AreNamedApart, ComesBefore, Orders, IsNamed, TableLaws}
 use Rattle.switch_machine.proofs.Equal.{thing-exact}
-use Rattle.switch_machine.proofs.Running.{one_owner, own_row, row_keys, runs-same, settable_name, shared_of, shared_row}
+use Rattle.switch_machine.proofs.Running.{no_retire, one_owner, own_row, row_keys, runs-same, settable_name, shared_of, shared_row}
 use Rattle.switch_machine.proofs.Splits.{own_row_in, use_row_in}
 
 before_in : (n : ThingName) (t : Thing) (ts : List Thing) → ComesBefore n t ts → IsIn t ts
@@ -115,9 +115,6 @@ module _ (plan : Ports) (tables : TableLaws plan) (f : MachineFlight) (fit : (r 
     pub shared : (o : Owner) (u : Thing) → IsIn o (uses_of plan f.key f.new) → IsOwnedBy plan (name_of u) o → (V u → IsIn u (shared_things o)) × (IsIn u (shared_things o) → V u)
 
   module _ (orders : Orders plan) (none : f.retires ≡ None) where
-    no_retire : (r : Option Owner) (o : Owner) → r ≡ None → r ≡ Some o → ⊥
-    no_retire r o h g = absurd cc
-
     use_shared : (o : Owner) → IsIn o (uses_of plan f.key f.new) → IsShared o
     use_shared o h = let r = use_row_in plan f.key f.new o h in tables.are_shared f.key r.0 o r.2
 

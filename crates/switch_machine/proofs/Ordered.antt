@@ -5,6 +5,7 @@ use Rattle.std.specs.List.{AllByRecursion}
 use Rattle.std.specs.List.Sorted.{IsStrictlySortedBy}
 use Rattle.std.specs.Cmp.{eq_by_cmp_equiv}
 use Rattle.std.specs.declared.cmp.Ordering.TheVariants.{Less, Equal}
+use Rattle.std.proofs.lemmas.Option.{same_Some}
 use Rattle.swss_types.specs.declared.address.Ip.{Ip}
 use Rattle.swss_types.specs.declared.address.Prefix.{Prefix}
 use Rattle.swss_types.specs.declared.address.Mac.{Mac}
@@ -93,16 +94,13 @@ from_one (Some x) g o p (inl h) (inl k) = h ∙ sym k
 from_one (Some x) g o p (inr h) k = elim h [ ]
 from_one (Some x) g o p (inl h) (inr k) = elim k [ ]
 
-some_lists : (x y : List Hop) → Some x ≡ Some y → x ≡ y
-some_lists x y h = cc
-
 one_use_by : (plan : Ports) (k : Key) (r : Row) (o p : Owner) → IsIn o (uses plan k r) → IsIn p (uses plan k r) → o ≡ p
 one_use_by plan (key.Member v q) (row.Member t) o p h g = from_one (lane_of plan q) owner.Bridge o p h g
 one_use_by plan (key.Addr n ip len) row.Addr o p h g = address_use plan n ip o h ∙ sym (address_use plan n ip p g)
 one_use_by plan (key.Route prefix) (row.Route (route.Hops hops)) o p h g =
     let x = group_use o (hops_of plan hops) h in
     let y = group_use p (hops_of plan hops) g in
-    x.2 ∙ ap owner.Group (some_lists x.0 y.0 (sym x.1 ∙ y.1)) ∙ sym y.2
+    x.2 ∙ ap owner.Group (same_Some x.0 y.0 (sym x.1 ∙ y.1)) ∙ sym y.2
 one_use_by plan (key.Route prefix) (row.Route route.Drop) o p h g = elim h [ ]
 one_use_by plan (key.Route prefix) (row.Route (route.Direct n)) o p h g = elim h [ ]
 one_use_by plan _ _ o p h g = elim h [ ]

@@ -1,6 +1,7 @@
 -- without operations a kind has no room for a row exactly where the applied things and the row's are too many
 use Rattle.std.proofs.Common.{◌≡◌, ◌==◌, ◌⊎◌, ◌+◌, ◌<◌, ◌≤◌, ◌∷◌, ◌++◌, ◌∙◌, inl, inr, ℕ, suc, Bool, true, false, cond, List, [], length, None, Some, refl, sym, ap, subst, arith}
 use Rattle.std.proofs.lemmas.Bool.{eq-eqb, eqb-true, false≢true}
+use Rattle.std.proofs.lemmas.Option.{none-some}
 use Rattle.table_schema.specs.Plan.{Ports, IsPlan}
 use Rattle.table_schema.specs.declared.row.Row.{Row}
 use Rattle.sai_types.specs.declared.kind.Kind.{Kind}
@@ -16,8 +17,9 @@ use Rattle.switch_model.specs.Things.{things_of}
 use Rattle.chip_layout.specs.Counted.{AreAll, AreDistinct}
 use Rattle.chip_layout.specs.Layout.{IsLaidOut, listed}
 use Rattle.sai_types.specs.Names.{ThingName, name_kind, name_of}
+use Rattle.sai_types.proofs.Membership.{in-either}
 use Rattle.chip_layout.proofs.Counting.{counted, no-longer}
-use Rattle.row_layout.specs.Rows.{Owner, own_things}
+use Rattle.row_layout.specs.Rows.{own_things}
 use Rattle.row_layout.specs.Shared.{IsOf, uses}
 use Rattle.row_layout.proofs.Split.{things-split}
 use Rattle.row_layout.specs.Operations.{Change, Make, Set, Take, uses_of}
@@ -31,7 +33,7 @@ use Rattle.switch_machine.proofs.Beginning.{starts}
 use Rattle.switch_machine.proofs.Calling.{sort_of}
 use Rattle.switch_machine.proofs.Resting.{back_by, into_by}
 use Rattle.switch_machine.proofs.Running.{final-concern, settable_name}
-use Rattle.switch_machine.proofs.Splits.{IsSplit, name_split, in_both}
+use Rattle.switch_machine.proofs.Splits.{IsSplit, name_split}
 use Rattle.switch_machine.proofs.Tabled.{tabled}
 
 abbrev after_all : List Change → (Thing → Type 0) → Thing → Type 0
@@ -50,9 +52,6 @@ record MadeNames (plan : Ports) (f : MachineFlight) (kind : Kind) (V : Thing →
 
 some_none : (r : Row) → Some r ≡ None → ⊥
 some_none r h = cc
-
-none_owner : (o : Owner) → None ≡ Some o → ⊥
-none_owner o h = cc
 
 module _ (plan : Ports) (f : MachineFlight) (r : Row) (new : f.new ≡ Some r) (none : f.retires ≡ None) (kind : Kind) where
   make_step : (t : Thing) (cs : List Change) (V : Thing → Type 0) (b : Bool) → (level (name_kind (name_of t)) == level kind) ≡ b → CanMake plan f V t → MadeNames plan f kind (λ u. V u ⊎ (u ≡ t)) cs → MadeNames plan f kind V (Make t ∷ cs)
@@ -131,7 +130,7 @@ module _ (plan : Ports) (f : MachineFlight) (r : Row) (new : f.new ≡ Some r) (
 
   no_take : {X : Type 0} (n : ThingName) → Goes plan f n → X
   no_take n (inl h) = absurd (some_none r (sym new ∙ h.1))
-  no_take n (inr h) = absurd (none_owner h.0 (sym none ∙ h.2))
+  no_take n (inr h) = absurd (none-some h.0 (sym none ∙ h.2))
 
   made_names : (due : List Change) (V : Thing → Type 0) → Runs plan f V due → MadeNames plan f kind V due
   made_names [] V runs = record { names = []; distinct = tt; count = refl; fresh = λ n h. elim h [ ]; final = λ n h. elim h [ ]; kinds = λ n h. elim h [ ]; all = λ n at h. inl h }
@@ -156,7 +155,7 @@ append_right (x ∷ xs) ys n h = inr (append_right xs ys n h)
 
 distinct_append : (xs ys : List ThingName) → AreDistinct xs → AreDistinct ys → ((n : ThingName) → IsIn n xs → IsIn n ys → ⊥) → AreDistinct (xs ++ ys)
 distinct_append [] ys dx dy apart = dy
-distinct_append (x ∷ xs) ys dx dy apart = (λ h. by (in_both x xs ys h), distinct_append xs ys dx.1 dy (λ n h g. apart n (inr h) g))
+distinct_append (x ∷ xs) ys dx dy apart = (λ h. by (in-either x xs ys h), distinct_append xs ys dx.1 dy (λ n h g. apart n (inr h) g))
   where
     by : IsIn x xs ⊎ IsIn x ys → ⊥
     by (inl h) = dx.0 h
@@ -167,11 +166,11 @@ length_append [] ys = omega arith
 length_append (x ∷ xs) ys = let rest = length_append xs ys in omega (arith, rest)
 
 -- the two words for names of which no two are equal
-counted_distinct : (ns : List ThingName) → marks.AreDistinct ns → AreDistinct ns
+pub counted_distinct : (ns : List ThingName) → marks.AreDistinct ns → AreDistinct ns
 counted_distinct [] d = tt
 counted_distinct (n ∷ ns) d = (d.0, counted_distinct ns d.1)
 
-marked_distinct : (ns : List ThingName) → AreDistinct ns → marks.AreDistinct ns
+pub marked_distinct : (ns : List ThingName) → AreDistinct ns → marks.AreDistinct ns
 marked_distinct [] d = tt
 marked_distinct (n ∷ ns) d = (d.0, marked_distinct ns d.1)
 
@@ -217,7 +216,7 @@ module _ (plan : Ports) (is : IsPlan plan) (capacities : List ℕ) (m : Machine)
       with_names (names, all, count) x = record {
         keys = names ++ x.names;
         distinct = marked_distinct (names ++ x.names) (distinct_append names x.names all.distinct x.distinct (λ n h g. x.fresh n g (stood n h)));
-        things = λ n h. let t = source_by n (in_both n names x.names h) in (t.0, t.2, ap (λ z. level (name_kind z)) t.2 ∙ level_by n (in_both n names x.names h), t.1);
+        things = λ n h. let t = source_by n (in-either n names x.names h) in (t.0, t.2, ap (λ z. level (name_kind z)) t.2 ∙ level_by n (in-either n names x.names h), t.1);
         many = enough;
       }
         where

@@ -1,6 +1,7 @@
 -- the reasons of keys that wait are true, the applied rows are closed, and what a route points at is whole
 use Rattle.std.proofs.Common.{◌+◌, ◌≤◌, zero, suc, Option, None, arith, ◌≡◌, ◌⊎◌, ◌<◌, ◌&&◌, ◌∷◌, ◌∙◌, ℕ, Bool, true, List, [], Some, is_some, inl, inr, refl, sym, ap, subst}
 use Rattle.std.proofs.lemmas.Bool.{cases_order}
+use Rattle.std.proofs.lemmas.Option.{same_Some}
 use Rattle.table_schema.specs.Plan.{Ports, IsPlan}
 use Rattle.table_schema.specs.Names.{names_of}
 use Rattle.table_schema.specs.declared.key.Key.{Key}
@@ -50,9 +51,6 @@ sum_none (suc n) f none =
     let rest = sum_none n f none in
     let last = none n in
     omega (arith, rest, last)
-
-one_row : (r x : Row) → Some r ≡ Some x → r ≡ x
-one_row r x h = cc
 
 -- a route that stands is that of a row of its key, applied or to be applied
 pub row-of_route : (plan : Ports) (m : Machine) → IsConsistent plan m → (prefix : Prefix) (g : Goal) → StandsIn m (thing.Route prefix g) → (r : Row) × IsRow m.board (key.Route prefix) r × IsIn (thing.Route prefix g) (own_things plan (key.Route prefix) r)
@@ -128,6 +126,6 @@ module _ (plan : Ports) (is : IsPlan plan) (workers : ℕ) (capacities : List �
     reason-first k (wait.Held h) x = tt
     reason-first k (wait.Busy worker) x = tt
     reason-first k (wait.NoRoom kind) x = λ row low good less over.
-        let same : row ≡ x.row = one_row row x.row (sym good ∙ x.good) in
+        let same : row ≡ x.row = same_Some row x.row (sym good ∙ x.good) in
         let that = subst (λ k. Overflows plan capacities s.machine.board.applied k x.row low) (sym x.is) (subst (λ r. Overflows plan capacities s.machine.board.applied k r low) same over) in
         no-overflow plan is capacities s.machine kept.sound quiet s.made s.objects kept.whole kept.laid x.worker x.flight x.due x.begins x.row x.new low (fits k kind low x less) that

@@ -1,5 +1,6 @@
 -- changes that can be made one after the other
-use Rattle.std.proofs.Common.{None, ◌≡◌, ◌⊎◌, ◌∷◌, ◌∙◌, inl, inr, List, [], Some, refl, sym, ap, subst}
+use Rattle.std.proofs.Common.{None, ◌≡◌, ◌⊎◌, ◌∷◌, ◌∙◌, inl, inr, List, Option, [], Some, refl, sym, ap, subst}
+use Rattle.std.proofs.lemmas.Option.{same_Some}
 use Rattle.table_schema.specs.Plan.{Ports}
 use Rattle.table_schema.specs.declared.key.Key.{Key}
 use Rattle.table_schema.specs.declared.row.Row.{Row}
@@ -15,17 +16,11 @@ use Rattle.switch_machine.specs.Flights.{Can, Concerns, Fits, MachineFlight, Goe
 use Rattle.switch_machine.specs.Tables.{TableLaws}
 use Rattle.switch_machine.proofs.Splits.{own_row_in, use_row_in}
 
-pub some_owner : (o p : Owner) → Some o ≡ Some p → o ≡ p
-some_owner o p h = cc
-
 pub one_owner : (plan : Ports) (n : ThingName) (o p : Owner) → IsOwnedBy plan n o → IsOwnedBy plan n p → o ≡ p
-one_owner plan n o p x y = some_owner o p (sym x ∙ y)
+one_owner plan n o p x y = same_Some o p (sym x ∙ y)
 
 pub no_flight : {X : Type 0} (f : MachineFlight) → None ≡ Some f → X
 no_flight f h = absurd cc
-
-pub one_flight : (f g : MachineFlight) → Some f ≡ Some g → f ≡ g
-one_flight f g h = cc
 
 pub shared_row : (o : Owner) (k : Key) → IsShared o → o ≡ OfRow k → ⊥
 shared_row o k h e = subst IsShared e h
@@ -150,3 +145,6 @@ module _ (plan : Ports) (tables : TableLaws plan) (f : MachineFlight) (fit : (r 
       let other : name_of u ≡ changed_name c → ⊥ = λ e. apart (c, inl refl, subst (λ n. IsOwnedBy plan n o) e is) in
       let rest = untouched (λ x. after c (V x) x) cs o concern (λ t. apart (t.0, inr t.1, t.2)) runs.1 u is in
       (λ h. rest.0 (stays c (V u) u other h), λ h. stood c (V u) u other (rest.1 h))
+
+pub no_retire : (r : Option Owner) (o : Owner) → r ≡ None → r ≡ Some o → ⊥
+no_retire r o h g = absurd cc

@@ -35,7 +35,7 @@ module _ (plan : Ports) (is : IsPlan plan) (workers : ℕ) (capacities : List �
   kept-run s [] kept run = kept
   kept-run s (e ∷ es) kept run = kept-run e.1 es (kept-event plan is workers capacities s e.1 e.0 kept run.0) run.1
 
-  legal_event : (s t : SwitchState) (c : Option (Call Rid)) (calls : List (Call Rid)) → IsSafe plan workers capacities s → IsEvent plan workers capacities s c t → AreLegal capacities t.made t.objects calls → AreLegal capacities s.made s.objects (with_made_call c calls)
+  pub legal_event : (s t : SwitchState) (c : Option (Call Rid)) (calls : List (Call Rid)) → IsSafe plan workers capacities s → IsEvent plan workers capacities s c t → AreLegal capacities t.made t.objects calls → AreLegal capacities s.made s.objects (with_made_call c calls)
   legal_event s t None calls kept (inl x) h = subst (λ z. AreLegal capacities z s.objects calls) x.made (subst (λ z. AreLegal capacities t.made z calls) x.objects h)
   legal_event s t None calls kept (inr (inl x)) h = subst (λ z. AreLegal capacities z s.objects calls) x.made (subst (λ z. AreLegal capacities t.made z calls) x.objects h)
   legal_event s t None calls kept (inr (inr (inl x))) h = subst (λ z. AreLegal capacities z s.objects calls) x.made (subst (λ z. AreLegal capacities t.made z calls) x.objects h)

@@ -1,7 +1,8 @@
 -- an operation that runs alone makes its changes in the order of its table
 use Rattle.std.proofs.Common.{◌≡◌, ◌⊎◌, ◌||◌, ◌∷◌, ◌++◌, ◌∙◌, inl, inr, ℕ, Bool, true, false, List, [], Option, None, Some, if◌then◌else◌, refl, sym, ap, subst}
-use Rattle.std.proofs.lemmas.Bool.{eqb-true, false≢true, or_cases}
+use Rattle.std.proofs.lemmas.Bool.{cases_Bool, eqb-true, false≢true, or_cases}
 use Rattle.std.specs.List.{list_any}
+use Rattle.std.proofs.lemmas.Option.{same_Some}
 use Rattle.swss_types.specs.declared.interface.IfName.TheVariants as on
 use Rattle.swss_types.proofs.Tied.{tied}
 use Rattle.table_schema.specs.Key.{key_cmp}
@@ -31,19 +32,19 @@ use Rattle.switch_machine.specs.Flights.{CountsAsUser, MachineFlight, IsResting,
 use Rattle.switch_machine.specs.Operations.{IsUsedByOthers, built_first}
 use Rattle.switch_machine.specs.Steps.{finished, left, moved, parted, started}
 use Rattle.switch_machine.proofs.Equal.{thing-exact}
-use Rattle.switch_machine.proofs.Running.{one_flight, no_flight}
+use Rattle.switch_machine.proofs.Running.{no_flight}
 use Rattle.switch_machine.proofs.Splits.{IsPut, IsSplit, New, Old, key_split, put_at, put_by, use_row_in}
 
 -- ---- what a row shares
 
-owner_exact : (o p : Owner) → same_owner o p ≡ true → o ≡ p
+pub owner_exact : (o p : Owner) → same_owner o p ≡ true → o ≡ p
 owner_exact (owner.OfRow k) (owner.OfRow q) h = ap owner.OfRow (key_exact k q (tied (key_cmp k q) h))
 owner_exact (owner.Bridge a) (owner.Bridge b) h = ap owner.Bridge (eqb-true a b h)
 owner_exact (owner.Own a) (owner.Own b) h = ap owner.Own (ip-exact a b h)
 owner_exact (owner.Group a) (owner.Group b) h = let same = thing-exact (thing.Group a) (thing.Group b) h in let that : a ≡ b = cc in ap owner.Group that
 owner_exact _ _ h = absurd (false≢true h)
 
-any_owner_in : (o : Owner) (os : List Owner) → list_any (same_owner o) os ≡ true → IsIn o os
+pub any_owner_in : (o : Owner) (os : List Owner) → list_any (same_owner o) os ≡ true → IsIn o os
 any_owner_in o [] h = absurd (false≢true h)
 any_owner_in o (p ∷ os) h = by (λ e. any_owner_in o os e) (or_cases (same_owner o p) (list_any (same_owner o) os) h)
   where
@@ -99,10 +100,6 @@ unshared_it used others o e none = ap (λ b. if b then [] else o ∷ []) (ap (λ
     never true h = absurd (h refl)
     never false h = refl
 
-true_or_false : (b : Bool) → (b ≡ true) ⊎ (b ≡ false)
-true_or_false true = inl refl
-true_or_false false = inr refl
-
 no_one : {X : Type 0} (o : Owner) (os : List Owner) → os ≡ [] → IsIn o os → X
 no_one o os e h = elim (subst (IsIn o) e h) [ ]
 
@@ -153,7 +150,7 @@ module _ (plan : Ports) (workers w : ℕ) (f : MachineFlight) (rows : TypedRows)
     where
       by : IsShort was → tail ≡ []
       by (inl e) = tail_by [] e
-      by (inr (p, e)) = tail_by (p ∷ []) e ∙ ap retire_all (unshared_none used now p (inl (subst (λ z. used z ≡ true) (the_one o p was e (leaves o h).0) (yes (true_or_false (used o))))))
+      by (inr (p, e)) = tail_by (p ∷ []) e ∙ ap retire_all (unshared_none used now p (inl (subst (λ z. used z ≡ true) (the_one o p was e (leaves o h).0) (yes (cases_Bool (used o))))))
         where
           yes : (used o ≡ true) ⊎ (used o ≡ false) → used o ≡ true
           yes (inl t) = t
@@ -171,7 +168,7 @@ module _ (plan : Ports) (workers w : ℕ) (f : MachineFlight) (rows : TypedRows)
       by (inr (p, e)) =
           let same = the_one o p was e (leaves o h).0 in
           tail_by (p ∷ []) e ∙ ap (λ z. retire_all (unshared used now (z ∷ []))) (sym same)
-          ∙ ap retire_all (unshared_it used now o (no (true_or_false (used o))) (leaves o h).1)
+          ∙ ap retire_all (unshared_it used now o (no (cases_Bool (used o))) (leaves o h).1)
 
   -- ---- the run
 
@@ -222,8 +219,8 @@ module _ (plan : Ports) (workers w : ℕ) (f : MachineFlight) (rows : TypedRows)
   phase_follows m _ _ (AtEnd none) (Left g o x) = absurd (none w g x.leaving.flying)
   phase_follows m _ _ (AtEnd none) (Retires g o x) = absurd (none w g x.leaving.flying)
   phase_follows m _ _ (AtLast due x) (Ended g ends) = subst (Phase (finished m w g)) (sym ends.done ∙ x.is_due) (AtEnd (gone m g x.only))
-  phase_follows m _ _ (AtLast due x) (Left g o y) = let same = one_flight x.flight g (sym x.there ∙ y.leaving.flying) in some_leaves o x.flight.leaves (ap (λ (z : MachineFlight). z.leaves) same ∙ y.leaving.leaves) x.parted
-  phase_follows m _ _ (AtLast due x) (Retires g o y) = let same = one_flight x.flight g (sym x.there ∙ y.leaving.flying) in some_leaves o x.flight.leaves (ap (λ (z : MachineFlight). z.leaves) same ∙ y.leaving.leaves) x.parted
+  phase_follows m _ _ (AtLast due x) (Left g o y) = let same = same_Some x.flight g (sym x.there ∙ y.leaving.flying) in some_leaves o x.flight.leaves (ap (λ (z : MachineFlight). z.leaves) same ∙ y.leaving.leaves) x.parted
+  phase_follows m _ _ (AtLast due x) (Retires g o y) = let same = same_Some x.flight g (sym x.there ∙ y.leaving.flying) in some_leaves o x.flight.leaves (ap (λ (z : MachineFlight). z.leaves) same ∙ y.leaving.leaves) x.parted
   phase_follows m _ _ (AtFirst due x) (Ended g ends) =
       let same = (x.only w g ends.flying).1 in
       let none = tail_stays (ap (λ (z : MachineFlight). z.leaves) same ∙ ends.left) in
@@ -292,13 +289,13 @@ module _ (plan : Ports) (workers w : ℕ) (f : MachineFlight) (rows : TypedRows)
 
       by : (b : Option Owner) → builds ≡ b → IsShort now → built_first b own ++ tail ≡ build_all (unshared used was now) (own ++ tail)
       by None e (inl none) = sym (shares [] none)
-      by None e (inr (p, one)) = sym (shares (p ∷ []) one ∙ ap (λ z. build_all z (own ++ tail)) (unshared_none used was p (yes p (found e p (subst (IsIn p) (sym one) (inl refl))) (true_or_false (used p)))))
+      by None e (inr (p, one)) = sym (shares (p ∷ []) one ∙ ap (λ z. build_all z (own ++ tail)) (unshared_none used was p (yes p (found e p (subst (IsIn p) (sym one) (inl refl))) (cases_Bool (used p)))))
       by (Some o) e (inl none) = no_one o now none (built o e).0
       by (Some o) e (inr (p, one)) =
           let same = the_one o p now one (built o e).0 in
           let b = built o e in
           make_append (shared_things o) own tail
-          ∙ sym (shares (p ∷ []) one ∙ ap (λ z. build_all (unshared used was (z ∷ [])) (own ++ tail)) (sym same) ∙ ap (λ z. build_all z (own ++ tail)) (unshared_it used was o (no o b.1 (true_or_false (used o))) b.2))
+          ∙ sym (shares (p ∷ []) one ∙ ap (λ z. build_all (unshared used was (z ∷ [])) (own ++ tail)) (sym same) ∙ ap (λ z. build_all z (own ++ tail)) (unshared_it used was o (no o b.1 (cases_Bool (used o))) b.2))
 
 -- alone, an operation makes the changes of its table in their order
 pub sequence : (plan : Ports) (workers : ℕ) (capacities : List ℕ) (s t : SwitchState) (x : IsBegin plan workers capacities s t) (es : List (Call Rid × SwitchState)) (run : AreAnswers plan workers t es) (used : Owner → Bool) → IsQuiet s → IsQuiet (after_answers t es) → IsUsedByOthers plan s.machine.board.applied x.flight.key used → changes_made plan workers t es run ≡ changes_of plan x.flight.key (s.machine.board.applied x.flight.key) x.flight.new used
@@ -323,7 +320,7 @@ sequence plan workers capacities s t x es run used quiet end by_others =
     })
       where
         of : (v : ℕ) (g : MachineFlight) → IsPut x.worker v (Some x.flight) s.machine.board.flights (Some g) → (v ≡ x.worker) × (x.flight ≡ g)
-        of v g (New same e) = (same, one_flight x.flight g e)
+        of v g (New same e) = (same, same_Some x.flight g e)
         of v g (Old other there) = absurd (quiet v g there)
 
     built : (o : Owner) → x.begins.operation.builds ≡ Some o → IsIn o (uses_of plan x.flight.key x.flight.new) × (((q : Key) × (r : Row) × (q ≡ x.flight.key → ⊥) × (s.machine.board.applied q ≡ Some r) × IsIn o (uses plan q r)) → ⊥) × (IsIn o (uses_of plan x.flight.key (s.machine.board.applied x.flight.key)) → ⊥)

@@ -1,5 +1,5 @@
 -- a key has one reason to wait
-use Rattle.std.proofs.Common.{zero, suc, ◌≡◌, ◌⊎◌, ◌<◌, ◌≤◌, ◌∷◌, ◌∙◌, inl, inr, ℕ, true, List, [], Option, None, Some, Ordering, get_or, is_some, if◌then◌else◌, refl, sym, ap, subst, arith}
+use Rattle.std.proofs.Common.{zero, suc, ◌≡◌, ◌⊎◌, ◌<◌, ◌≤◌, ◌∷◌, ◌∙◌, inl, inr, ℕ, true, List, [], Option, Some, Ordering, get_or, is_some, if◌then◌else◌, refl, sym, ap, subst, arith}
 use Rattle.std.proofs.lemmas.Bool.{and_parts, cases_order, false≢true}
 use Rattle.std.proofs.lemmas.Option.{same_Some}
 use Rattle.std.specs.Ordering.{is_le, ordering_reverse}
@@ -23,11 +23,8 @@ use Rattle.switch_machine.specs.Flights.{MachineFlight}
 use Rattle.switch_machine.specs.Places.{makes}
 use Rattle.switch_machine.specs.Reasons.{IsFirstInTheWay, IsFlownBy, IsRowPrepared, IsReason, LacksRoom}
 use Rattle.switch_machine.specs.Written.{good_of}
-use Rattle.switch_machine.proofs.Hindered.{not-busy, not_held, not_missing, operation-one}
+use Rattle.switch_machine.proofs.Hindered.{not-busy, not_held, not_missing, operation-one, some_none}
 use Rattle.switch_machine.proofs.Ordered.{ordered}
-
-some_or_none : {X Y : Type 0} (x : X) (o : Option X) → o ≡ Some x → o ≡ None → Y
-some_or_none x o h g = absurd cc
 
 one_row : (o : Option Row) (r x : Row) → o ≡ Some r → o ≡ Some x → r ≡ x
 one_row o r x h g = cc
@@ -155,8 +152,8 @@ module _ (plan : Ports) (is : IsPlan plan) (workers : ℕ) (capacities : List �
 
   pub reason-one : (a b : Wait) → Is a → Is b → a ≡ b
   reason-one (wait.Missing m) (wait.Missing n) (_, (row, at, missing)) (_, (other, there, that)) = ap wait.Missing (same_Some m n (sym missing ∙ ap (λ r. first_missing s.machine.board.applied (names_of k r)) (one_row good row other at there) ∙ that))
-  reason-one (wait.Missing m) (wait.Held h) (_, (row, at, _)) (_, none, _) = some_or_none row good at none
-  reason-one (wait.Held h) (wait.Missing m) (_, none, _) (_, (row, at, _)) = some_or_none row good at none
+  reason-one (wait.Missing m) (wait.Held h) (_, (row, at, _)) (_, none, _) = some_none row good at none
+  reason-one (wait.Held h) (wait.Missing m) (_, none, _) (_, (row, at, _)) = some_none row good at none
   reason-one (wait.Missing m) (wait.Busy v) x y = absurd (missing_busy m v x y)
   reason-one (wait.Busy v) (wait.Missing m) y x = absurd (missing_busy m v x y)
   reason-one (wait.Missing m) (wait.NoRoom kind) x l = absurd (no_missing kind l m x)

@@ -1,6 +1,7 @@
 -- one operation from its beginning to its end, alone: the key has its good row, and all other rows are as they were
 use Rattle.std.proofs.Common.{◌≡◌, ◌∷◌, ◌∙◌, ℕ, List, [], Option, None, Some, if◌then◌else◌, refl, sym, ap, subst}
 use Rattle.std.specs.BTreeMap.{is_at}
+use Rattle.std.proofs.lemmas.Option.{same_Some}
 use Rattle.table_schema.specs.Key.{key_cmp}
 use Rattle.table_schema.specs.Plan.{Ports}
 use Rattle.table_schema.specs.declared.key.Key.{Key}
@@ -14,7 +15,7 @@ use Rattle.switch_machine.specs.Events.{IsAnswer, AreAnswers, SwitchState, Due, 
 use Rattle.switch_machine.specs.Steps.{finished, left, moved, parted, started, with_row}
 use Rattle.switch_machine.specs.Flights.{MachineFlight, Machine}
 use Rattle.switch_machine.specs.Written.{good_of}
-use Rattle.switch_machine.proofs.Running.{one_flight, no_flight}
+use Rattle.switch_machine.proofs.Running.{no_flight}
 use Rattle.switch_machine.proofs.Splits.{IsPut, New, Old, put_at, put_by}
 
 row_same : (k : Key) (o p : Option Row) (rows old : TypedRows) (q : Key) → o ≡ p → rows q ≡ old q → with_row k o rows q ≡ with_row k p old q
@@ -52,7 +53,7 @@ module _ (plan : Ports) (workers w : ℕ) (k : Key) (new : Option Row) (old : Ty
   }
     where
       of : (v : ℕ) (g : MachineFlight) → IsPut w v (Some (parted f retires)) m.board.flights (Some g) → (v ≡ w) × (g.key ≡ k) × (g.new ≡ new)
-      of v g (New same e) = let one = one_flight (parted f retires) g e in (same, sym (ap (λ (z : MachineFlight). z.key) one) ∙ is, sym (ap (λ (z : MachineFlight). z.new) one) ∙ that)
+      of v g (New same e) = let one = same_Some (parted f retires) g e in (same, sym (ap (λ (z : MachineFlight). z.key) one) ∙ is, sym (ap (λ (z : MachineFlight). z.new) one) ∙ that)
       of v g (Old other there) = x.only v g there
 
   solo_follows : (m later : Machine) → Flying m → Follows plan w m later → Solo later
@@ -84,7 +85,7 @@ solo-key plan workers capacities s t x es quiet run end q = by (solo_answers pla
     }) x.follows
       where
         of : (v : ℕ) (g : MachineFlight) → IsPut x.worker v (Some x.flight) s.machine.board.flights (Some g) → (v ≡ x.worker) × (g.key ≡ x.flight.key) × (g.new ≡ good_of plan s.written x.flight.key)
-        of v g (New same e) = let one = one_flight x.flight g e in (same, sym (ap (λ (z : MachineFlight). z.key) one), sym (ap (λ (z : MachineFlight). z.new) one) ∙ x.new)
+        of v g (New same e) = let one = same_Some x.flight g e in (same, sym (ap (λ (z : MachineFlight). z.key) one), sym (ap (λ (z : MachineFlight). z.new) one) ∙ x.new)
         of v g (Old other there) = absurd (quiet v g there)
 
     by : Solo plan workers x.worker x.flight.key (good_of plan s.written x.flight.key) s.machine.board.applied (after_answers t es).machine → (after_answers t es).machine.board.applied q ≡ with_row x.flight.key (good_of plan s.written x.flight.key) s.machine.board.applied q

@@ -1,5 +1,5 @@
 -- whether two workers, keys, owners or names are one
-use Rattle.std.proofs.Common.{◌++◌, ◌≡◌, ◌==◌, ◌⊎◌, ◌∷◌, ◌∙◌, inl, inr, ℕ, Bool, true, false, List, [], if◌then◌else◌, Option, None, Some, refl, sym, ap, ap₂, subst}
+use Rattle.std.proofs.Common.{◌≡◌, ◌==◌, ◌⊎◌, ◌∷◌, ◌∙◌, inl, inr, ℕ, Bool, true, false, List, [], if◌then◌else◌, Option, None, Some, refl, sym, ap, ap₂, subst}
 use Rattle.std.proofs.lemmas.Bool.{eqb-true, eq-eqb, false≢true}
 use Rattle.std.specs.BTreeMap.{is_at}
 use Rattle.std.specs.Cmp.{eq_by_cmp_equiv}
@@ -140,16 +140,6 @@ off_key k q false exact apart = refl
 
 pub row_off : (k q : Key) (o : Option Row) (rows : TypedRows) → (k ≡ q → ⊥) → with_row k o rows q ≡ rows q
 row_off k q o rows h = ap (λ b. if b then o else rows q) (off_key k q (is_at (key_cmp k) q) (λ e. key_exact k q (tied (key_cmp k q) e)) h)
-
--- what is in two lists together is in one of them
-pub in_both : {X : Type 0} (x : X) (xs ys : List X) → IsIn x (xs ++ ys) → IsIn x xs ⊎ IsIn x ys
-in_both x [] ys h = inr h
-in_both x (z ∷ xs) ys (inl e) = inl (inl e)
-in_both x (z ∷ xs) ys (inr h) = wider (in_both x xs ys h)
-  where
-    wider : IsIn x xs ⊎ IsIn x ys → IsIn x (z ∷ xs) ⊎ IsIn x ys
-    wider (inl g) = inl (inr g)
-    wider (inr g) = inr g
 
 -- what belongs to a key's row belongs to a row
 pub own_row_in : (plan : Ports) (k : Key) (o : Option Row) (t : Thing) → IsIn t (own_of plan k o) → (r : Row) × (o ≡ Some r) × IsIn t (own_things plan k r)

@@ -1,5 +1,6 @@
 -- the machine stays sound where an operation starts
 use Rattle.std.proofs.Common.{◌≡◌, ◌⊎◌, ◌∙◌, inl, inr, ℕ, List, Option, None, Some, refl, sym, ap, subst}
+use Rattle.std.proofs.lemmas.Option.{same_Some}
 use Rattle.table_schema.specs.Plan.{Ports}
 use Rattle.table_schema.specs.Names.{names_of}
 use Rattle.table_schema.specs.declared.key.Key.{Key}
@@ -14,14 +15,11 @@ use Rattle.switch_machine.specs.Steps.{Starts, started}
 use Rattle.switch_model.specs.Good.{TypedRows}
 use Rattle.switch_machine.specs.Consistent.{IsCurrent, IsUsedOrRetired, IsOrderly, IsConsistent, WasUsed}
 use Rattle.switch_machine.specs.Tables.{TableLaws}
-use Rattle.switch_machine.proofs.Running.{one_flight, untouched, no_flight}
+use Rattle.switch_machine.proofs.Running.{no_retire, untouched, no_flight}
 use Rattle.switch_machine.proofs.Splits.{IsPut, IsSplit, New, Old, key_split, put_at, put_by, put_off, use_row_in}
 
 row_or_none : (o : Option Row) (r : Row) → o ≡ Some r → o ≡ None → ⊥
 row_or_none o r h g = absurd cc
-
-no_retire : (o : Option Owner) (p : Owner) → o ≡ None → o ≡ Some p → ⊥
-no_retire o p h g = absurd cc
 
 module _ (plan : Ports) (tables : TableLaws plan) (m : Machine) (sound : IsConsistent plan m) (w : ℕ) (f : MachineFlight) (due : List Change) (starts : Starts plan m w f due) where
   abbrev later : Machine
@@ -50,7 +48,7 @@ module _ (plan : Ports) (tables : TableLaws plan) (m : Machine) (sound : IsConsi
   row_was k r (inr (v, g, at, is, new)) = of (by v g at)
     where
       of : IsPut w v (Some f) b.flights (Some g) → IsRow b k r ⊎ ((f.key ≡ k) × (f.new ≡ Some r))
-      of (New same e) = let one = one_flight f g e in inr (ap (λ (z : MachineFlight). z.key) one ∙ is, ap (λ (z : MachineFlight). z.new) one ∙ new)
+      of (New same e) = let one = same_Some f g e in inr (ap (λ (z : MachineFlight). z.key) one ∙ is, ap (λ (z : MachineFlight). z.new) one ∙ new)
       of (Old other there) = inl (inr (v, g, there, is, new))
 
   row_now : (k : Key) (r : Row) → IsRow b k r → IsRow b' k r
@@ -65,7 +63,7 @@ module _ (plan : Ports) (tables : TableLaws plan) (m : Machine) (sound : IsConsi
   }
     where
       of : (v : ℕ) (g : MachineFlight) → g.key ≡ p → g.new ≡ None → IsPut w v (Some f) b.flights (Some g) → ⊥
-      of v g is none (New same e) = let one = one_flight f g e in mine (ap (λ (z : MachineFlight). z.key) one ∙ is) (ap (λ (z : MachineFlight). z.new) one ∙ none)
+      of v g is none (New same e) = let one = same_Some f g e in mine (ap (λ (z : MachineFlight). z.key) one ∙ is) (ap (λ (z : MachineFlight). z.new) one ∙ none)
       of v g is none (Old other there) = firm.stays v g there is none
 
   firm_was : (p : Key) → IsFirm b' p → IsFirm b p
@@ -83,7 +81,7 @@ module _ (plan : Ports) (tables : TableLaws plan) (m : Machine) (sound : IsConsi
       mine same (inr h) = inl (inr (λ v g at e. starts.rests v g at (e ∙ sym same), subst (λ q. IsIn o (uses_of plan q (b.applied q))) same (starts.leaves o h).0))
 
       of : IsPut w v (Some f) b.flights (Some g) → IsUser plan b k o ⊎ ((f.key ≡ k) × IsIn o (uses_of plan f.key f.new))
-      of (New same e) = let one = one_flight f g e in mine (ap (λ (z : MachineFlight). z.key) one ∙ is) (subst (λ z. CountsAsUser plan z o) (sym one) counts)
+      of (New same e) = let one = same_Some f g e in mine (ap (λ (z : MachineFlight). z.key) one ∙ is) (subst (λ z. CountsAsUser plan z o) (sym one) counts)
       of (Old other there) = inl (inl (v, g, there, is, counts))
 
   user_now : (k : Key) (o : Owner) → IsUser plan b k o → IsUser plan b' k o
@@ -95,13 +93,13 @@ module _ (plan : Ports) (tables : TableLaws plan) (m : Machine) (sound : IsConsi
       of (inr other) = inr (λ v g at is. rest v g is (by v g at), h)
         where
           rest : (v : ℕ) (g : MachineFlight) → g.key ≡ k → IsPut w v (Some f) b.flights (Some g) → ⊥
-          rest v g is (New same e) = other (ap (λ (z : MachineFlight). z.key) (one_flight f g e) ∙ is)
+          rest v g is (New same e) = other (ap (λ (z : MachineFlight). z.key) (same_Some f g e) ∙ is)
           rest v g is (Old off there) = rests v g there is
 
   one_by : (u v : ℕ) (g h : MachineFlight) → g.key ≡ h.key → IsPut w u (Some f) b.flights (Some g) → IsPut w v (Some f) b.flights (Some h) → u ≡ v
   one_by u v g h same (New x _) (New y _) = x ∙ sym y
-  one_by u v g h same (New x e) (Old y there) = absurd (starts.rests v h there (sym same ∙ sym (ap (λ (z : MachineFlight). z.key) (one_flight f g e))))
-  one_by u v g h same (Old x there) (New y e) = absurd (starts.rests u g there (same ∙ sym (ap (λ (z : MachineFlight). z.key) (one_flight f h e))))
+  one_by u v g h same (New x e) (Old y there) = absurd (starts.rests v h there (sym same ∙ sym (ap (λ (z : MachineFlight). z.key) (same_Some f g e))))
+  one_by u v g h same (Old x there) (New y e) = absurd (starts.rests u g there (same ∙ sym (ap (λ (z : MachineFlight). z.key) (same_Some f h e))))
   one_by u v g h same (Old x there) (Old y at) = sound.board.one u v g h there at same
 
   named_by : (k p : Key) (r : Row) → IsIn p (names_of k r) → IsRow b k r ⊎ ((f.key ≡ k) × (f.new ≡ Some r)) → IsFirm b' p
@@ -110,12 +108,12 @@ module _ (plan : Ports) (tables : TableLaws plan) (m : Machine) (sound : IsConsi
 
   -- a retiring operation was there before
   retired_was : (v : ℕ) (g : MachineFlight) (o : Owner) → g.retires ≡ Some o → IsPut w v (Some f) b.flights (Some g) → b.flights v ≡ Some g
-  retired_was v g o h (New same e) = absurd (no_retire f.retires o starts.none (ap (λ (z : MachineFlight). z.retires) (one_flight f g e) ∙ h))
+  retired_was v g o h (New same e) = absurd (no_retire f.retires o starts.none (ap (λ (z : MachineFlight). z.retires) (same_Some f g e) ∙ h))
   retired_was v g o h (Old other there) = there
 
   leaves_by : (v : ℕ) (g : MachineFlight) (o : Owner) → g.leaves ≡ Some o → IsPut w v (Some f) b.flights (Some g) → WasUsed plan b.applied g.key o × (IsIn o (uses_of plan g.key g.new) → ⊥) × (g.retires ≡ None)
   leaves_by v g o h (Old other there) = sound.board.leaves v g o there h
-  leaves_by v g o h (New same e) = subst (λ (z : MachineFlight). WasUsed plan b.applied z.key o × (IsIn o (uses_of plan z.key z.new) → ⊥) × (z.retires ≡ None)) (one_flight f g e) (mine (starts.leaves o (ap (λ (z : MachineFlight). z.leaves) (one_flight f g e) ∙ h)))
+  leaves_by v g o h (New same e) = subst (λ (z : MachineFlight). WasUsed plan b.applied z.key o × (IsIn o (uses_of plan z.key z.new) → ⊥) × (z.retires ≡ None)) (same_Some f g e) (mine (starts.leaves o (ap (λ (z : MachineFlight). z.leaves) (same_Some f g e) ∙ h)))
     where
       mine : IsIn o (uses_of plan f.key (b.applied f.key)) × (IsIn o (uses_of plan f.key f.new) → ⊥) → WasUsed plan b.applied f.key o × (IsIn o (uses_of plan f.key f.new) → ⊥) × (f.retires ≡ None)
       mine x = let r = use_row_in plan f.key (b.applied f.key) o x.0 in (record { row = r.0; was = r.1; used = r.2 }, x.1, starts.none)
@@ -146,7 +144,7 @@ module _ (plan : Ports) (tables : TableLaws plan) (m : Machine) (sound : IsConsi
   due_new v same = put_at w v due m.due same
 
   runs_by : (v : ℕ) (g : MachineFlight) → IsPut w v (Some f) b.flights (Some g) → Runs plan g (StandsIn m) (later.due v)
-  runs_by v g (New same e) = subst (Runs plan g (StandsIn m)) (sym (due_new v same)) (subst (λ h. Runs plan h (StandsIn m) due) (one_flight f g e) starts.runs)
+  runs_by v g (New same e) = subst (Runs plan g (StandsIn m)) (sym (due_new v same)) (subst (λ h. Runs plan h (StandsIn m) due) (same_Some f g e) starts.runs)
   runs_by v g (Old other there) = subst (Runs plan g (StandsIn m)) (sym (due_old v other)) (sound.runs v g there)
 
   held_now : (o : Owner) → IsUsedOrRetired plan b o → IsUsedOrRetired plan b' o
@@ -159,8 +157,8 @@ module _ (plan : Ports) (tables : TableLaws plan) (m : Machine) (sound : IsConsi
       (untouched plan tables f starts.fit (StandsIn m) due o (inr (inl mine)) (λ t. quiet w f here (subst (λ d. HasChangeOf plan d o) (sym (due_new w refl)) t)) starts.runs u (tables.shared o u h)).1 (inr (o, mine, h))
 
   quiet_by : (v : ℕ) (g : MachineFlight) (k : Key) (o : Owner) → HasChangeOf plan (later.due v) o → IsPut w v (Some f) b.flights (Some g) → IsUser plan b k o ⊎ ((f.key ≡ k) × IsIn o (uses_of plan f.key f.new)) → k ≡ g.key
-  quiet_by v g k o t (New same e) (inl user) = starts.alone k o (subst (λ d. HasChangeOf plan d o) (due_new v same) t) user ∙ ap (λ (z : MachineFlight). z.key) (one_flight f g e)
-  quiet_by v g k o t (New same e) (inr (is, mine)) = sym is ∙ ap (λ (z : MachineFlight). z.key) (one_flight f g e)
+  quiet_by v g k o t (New same e) (inl user) = starts.alone k o (subst (λ d. HasChangeOf plan d o) (due_new v same) t) user ∙ ap (λ (z : MachineFlight). z.key) (same_Some f g e)
+  quiet_by v g k o t (New same e) (inr (is, mine)) = sym is ∙ ap (λ (z : MachineFlight). z.key) (same_Some f g e)
   quiet_by v g k o t (Old other there) (inl user) = sound.quiet v g k o there (subst (λ d. HasChangeOf plan d o) (due_old v other) t) user
   quiet_by v g k o t (Old other there) (inr (is, mine)) = absurd ((starts.free o mine v g there).0 (subst (λ d. HasChangeOf plan d o) (due_old v other) t))
 
@@ -175,7 +173,7 @@ module _ (plan : Ports) (tables : TableLaws plan) (m : Machine) (sound : IsConsi
       of (inr other) = inl ((λ v g at is. rest v g is (by v g at)), that)
         where
           rest : (v : ℕ) (g : MachineFlight) → g.key ≡ k → IsPut w v (Some f) b.flights (Some g) → ⊥
-          rest v g is (New same e) = other (ap (λ (z : MachineFlight). z.key) (one_flight f g e) ∙ is)
+          rest v g is (New same e) = other (ap (λ (z : MachineFlight). z.key) (same_Some f g e) ∙ is)
           rest v g is (Old off there) = rests v g there is
 
   pub sound-started : IsConsistent plan later

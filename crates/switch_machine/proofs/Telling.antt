@@ -7,6 +7,7 @@ use Rattle.std.specs.List.{AllByRecursion}
 use Rattle.std.specs.List.Sorted.{IsStrictlySortedBy}
 use Rattle.std.specs.Map.{keys_of}
 use Rattle.swss_types.proofs.Tied.{tied}
+use Rattle.swss_types.proofs.Maps.{lookup-insert_entry}
 use Rattle.table_schema.specs.Fields.{Pairs, merged}
 use Rattle.table_schema.specs.Key.{key_cmp}
 use Rattle.table_schema.specs.Rows.{HasRisingRows, Rows, after_write, fields_at, rows_of}
@@ -15,7 +16,7 @@ use Rattle.table_schema.specs.declared.write.Write.{Write}
 use Rattle.table_schema.specs.declared.write.Write.TheVariants as write
 use Rattle.table_schema.proofs.Keys.{key_exact, key_total}
 use Rattle.table_schema.proofs.RowLists.{HasRisingRows-rows_of, after_writes-more}
-use Rattle.sai_types.proofs.Maps.{lookup-insert_entry, lookup-removed}
+use Rattle.sai_types.proofs.Maps.{lookup-removed}
 use Rattle.switch_machine.specs.Written.{ArePopped, IsAsBefore, IsPoppedKey, IsTold, TakesWrite, Written, fields_after}
 
 keys_all_greater : (k : Key) (es : Rows) → AllByRecursion (λ (y : Key × Pairs). key_cmp k y.0 ≡ Less) es → AllByRecursion (λ y. key_cmp k y ≡ Less) (keys_of es)

@@ -5,3 +5,4 @@ pub mod Planned
 pub mod Worked
 pub mod WorkedWaits
 pub mod WorkedRoom
+pub mod Members

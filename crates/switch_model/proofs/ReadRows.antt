@@ -24,7 +24,7 @@ use Rattle.switch_model.specs.Good.{good_row, good_rows, row_read}
 abbrev pub IsRead : Ports → Key → Row → Type 0
 IsRead plan k r = (fields : Pairs) × (row_of plan k fields ≡ Ok r)
 
-row_read_ok : (o : Result Row BadRow) (r : Row) → row_read o ≡ Some r → o ≡ Ok r
+pub row_read_ok : (o : Result Row BadRow) (r : Row) → row_read o ≡ Some r → o ≡ Ok r
 row_read_ok (Err bad) r h = cc
 row_read_ok (Ok x) r h = cc
 
@@ -41,12 +41,12 @@ same_lanes : (there lanes taken : List ℕ) (t : Bool) → bytes_eq there lanes 
 same_lanes there lanes taken true e h = let is : lanes ≡ taken = cc in (bytes_eq-Decides there lanes).0 e ∙ is
 same_lanes there lanes taken false e h = cc
 
-planned-is : (there lanes : Option (List ℕ)) (taken : List ℕ) → planned there lanes ≡ Ok taken → there ≡ Some taken
+pub planned-is : (there lanes : Option (List ℕ)) (taken : List ℕ) → planned there lanes ≡ Ok taken → there ≡ Some taken
 planned-is there None taken h = cc
 planned-is None (Some lanes) taken h = cc
 planned-is (Some there) (Some lanes) taken h = ap Some (same_lanes there lanes taken (bytes_eq there lanes) refl h)
 
-port_lanes-is : (there text : Option (List ℕ)) (taken : List ℕ) → port_lanes there text ≡ Ok taken → there ≡ Some taken
+pub port_lanes-is : (there text : Option (List ℕ)) (taken : List ℕ) → port_lanes there text ≡ Ok taken → there ≡ Some taken
 port_lanes-is there None taken h = cc
 port_lanes-is there (Some text) taken h = planned-is there (lanes_of text) taken h
 
@@ -71,7 +71,7 @@ port_read plan port r (fields, h) =
 pub vlan_read : (plan : Ports) (vlan : ℕ) (r : Row) → IsRead plan (key.Vlan vlan) r → r ≡ row.Vlan
 vlan_read plan vlan r (fields, h) = cc
 
-in_router-is : (o : Option (List ℕ)) (r : Row) → in_router o ≡ Ok r → r ≡ row.Intf
+pub in_router-is : (o : Option (List ℕ)) (r : Row) → in_router o ≡ Ok r → r ≡ row.Intf
 in_router-is None r h = cc
 in_router-is (Some []) r h = cc
 in_router-is (Some (b ∷ bs)) r h = cc
@@ -79,11 +79,11 @@ in_router-is (Some (b ∷ bs)) r h = cc
 pub intf_read : (plan : Ports) (on : _) (r : Row) → IsRead plan (key.Intf on) r → r ≡ row.Intf
 intf_read plan on r (fields, h) = in_router-is (value_of (codes "vrf_name") fields) r h
 
-mac_row-is : (o : Option Mac) (r : Row) → mac_row o ≡ Ok r → (mac : Mac) × (r ≡ row.Neigh mac)
+pub mac_row-is : (o : Option Mac) (r : Row) → mac_row o ≡ Ok r → (mac : Mac) × (r ≡ row.Neigh mac)
 mac_row-is None r h = cc
 mac_row-is (Some mac) r h = (mac, cc)
 
-lladdr_row-is : (o : Option (List ℕ)) (r : Row) → lladdr_row o ≡ Ok r → (mac : Mac) × (r ≡ row.Neigh mac)
+pub lladdr_row-is : (o : Option (List ℕ)) (r : Row) → lladdr_row o ≡ Ok r → (mac : Mac) × (r ≡ row.Neigh mac)
 lladdr_row-is None r h = cc
 lladdr_row-is (Some text) r h = mac_row-is (mac_of text) r h
 

@@ -1,6 +1,6 @@
 -- ready rows, level by level
-use Rattle.std.proofs.Common.{◌≡◌, ℕ, zero, suc, ◌<◌, ◌≤◌, Bool, true, false, ◌&&◌, List, [], ◌∷◌, map, Option, None, Some, refl, ap, ◌∙◌, subst, arith}
-use Rattle.std.proofs.lemmas.Bool.{and_parts}
+use Rattle.std.proofs.Common.{◌≡◌, ℕ, zero, suc, ◌<◌, ◌≤◌, true, ◌&&◌, if◌then◌else◌, List, [], ◌∷◌, map, Option, None, Some, refl, ap, ◌∙◌, subst, arith}
+use Rattle.std.proofs.lemmas.Bool.{and_from, and_parts}
 use Rattle.std.specs.Option.{is_some}
 use Rattle.swss_types.specs.declared.interface.IfName.{IfName}
 use Rattle.swss_types.specs.declared.interface.IfName.TheVariants as name
@@ -16,11 +16,7 @@ use Rattle.table_schema.specs.declared.row_hop.RowHop.{RowHop}
 use Rattle.switch_model.specs.Desired.{IsClosed, have_rows, where_named, ready_below, ready_rows}
 use Rattle.switch_model.specs.Good.{TypedRows}
 use Rattle.switch_model.specs.Levels.{level_of}
-
-and_true : (a b : Bool) → a ≡ true → b ≡ true → (a && b) ≡ true
-and_true true true h k = refl
-and_true true false h k = cc
-and_true false b h k = cc
+use Rattle.switch_model.specs.Marks.{first_missing}
 
 some_up : (o p : Option Row) → ((r : Row) → o ≡ Some r → p ≡ Some r) → is_some o ≡ true → is_some p ≡ true
 some_up None p up h = cc
@@ -31,7 +27,7 @@ have_rows-more : (f g : TypedRows) → ((k : Key) (r : Row) → f k ≡ Some r �
 have_rows-more f g up [] h = refl
 have_rows-more f g up (k ∷ ks) h =
     let parts = and_parts (is_some (f k)) (have_rows f ks) h in
-    and_true (is_some (g k)) (have_rows g ks) (some_up (f k) (g k) (up k) parts.0) (have_rows-more f g up ks parts.1)
+    and_from (is_some (g k)) (have_rows g ks) (some_up (f k) (g k) (up k) parts.0) (have_rows-more f g up ks parts.1)
 
 where_named-more : (f g : TypedRows) (k : Key) (o : Option Row) (r : Row) → ((k : Key) (r : Row) → f k ≡ Some r → g k ≡ Some r) → where_named f k o ≡ Some r → where_named g k o ≡ Some r
 where_named-more f g k None r up h = cc
@@ -105,7 +101,7 @@ have_rows-same : (f g : TypedRows) (n m : ℕ) → n ≤ m → ((k : Key) → le
 have_rows-same f g n m le same [] below h = refl
 have_rows-same f g n m le same (k ∷ ks) below h =
     let parts = and_parts (is_some (g k)) (have_rows g ks) h in
-    and_true (is_some (f k)) (have_rows f ks) (ap is_some (same k (omega (arith, below.0, le))) ∙ parts.0) (have_rows-same f g n m le same ks below.1 parts.1)
+    and_from (is_some (f k)) (have_rows f ks) (ap is_some (same k (omega (arith, below.0, le))) ∙ parts.0) (have_rows-same f g n m le same ks below.1 parts.1)
 
 where_named_stays : (f rows : TypedRows) (m : ℕ) (k : Key) (o : Option Row) → IsClosed rows → level_of k ≤ m → ((q : Key) → level_of q < m → f q ≡ rows q) → rows k ≡ o → where_named f k o ≡ o
 where_named_stays f rows m k None closed le same is = refl
@@ -128,3 +124,12 @@ low (key.Other text) = omega arith
 -- closed rows are all ready
 pub ready_rows-closed : (rows : TypedRows) → IsClosed rows → (k : Key) → ready_rows rows k ≡ rows k
 ready_rows-closed rows closed k = ready_below-closed 4 rows closed k (low k)
+
+-- rows of which none is missing are there
+pub have_rows-from_missing : (rows : TypedRows) (ks : List Key) → first_missing rows ks ≡ None → have_rows rows ks ≡ true
+have_rows-from_missing rows [] h = refl
+have_rows-from_missing rows (k ∷ ks) h = by (rows k) refl (λ g. have_rows-from_missing rows ks g) h
+  where
+    by : (o : Option Row) → rows k ≡ o → (first_missing rows ks ≡ None → have_rows rows ks ≡ true) → (if is_some o then first_missing rows ks else Some k) ≡ None → (is_some (rows k) && have_rows rows ks) ≡ true
+    by (Some r) e rest g = rw e (rest g)
+    by None e rest g = absurd cc

@@ -34,6 +34,7 @@ use Rattle.sai_types.specs.After.{chip_after}
 use Rattle.sai_types.specs.Alike.{IsIn, IsOnceIn}
 use Rattle.sai_types.specs.Made.{AreLegal}
 use Rattle.sai_types.specs.Named.{named}
+use Rattle.sai_types.proofs.Membership.{in-either, in-left, in-right}
 use Rattle.switch_model.specs.Desired.{IsClosed, IsThingOf, desired_view, have_rows, ready_rows}
 use Rattle.switch_model.specs.Good.{TypedRows, good_row, good_rows}
 use Rattle.switch_model.specs.Promises.{IsSettled, applied_at}
@@ -57,24 +58,6 @@ good_in plan k rows r h = by (fields_at rows k) refl h
     by : (o : Option Pairs) → fields_at rows k ≡ o → good_row plan k o ≡ Some r → IsIn k (keys_of rows)
     by None at h = cc
     by (Some fields) at h = fields_in k rows fields at
-
-in-left : {X : Type 0} (x : X) (xs ys : List X) → IsIn x xs → IsIn x (xs ++ ys)
-in-left x [] ys h = absurd h
-in-left x (y ∷ xs) ys (inl e) = inl e
-in-left x (y ∷ xs) ys (inr h) = inr (in-left x xs ys h)
-
-in-right : {X : Type 0} (x : X) (xs ys : List X) → IsIn x ys → IsIn x (xs ++ ys)
-in-right x [] ys h = h
-in-right x (y ∷ xs) ys h = inr (in-right x xs ys h)
-
-in-split : {X : Type 0} (x : X) (xs ys : List X) → IsIn x (xs ++ ys) → IsIn x xs ⊎ IsIn x ys
-in-split x [] ys h = inr h
-in-split x (y ∷ xs) ys (inl e) = inl (inl e)
-in-split x (y ∷ xs) ys (inr h) = by (in-split x xs ys h)
-  where
-    by : IsIn x xs ⊎ IsIn x ys → IsIn x (y ∷ xs) ⊎ IsIn x ys
-    by (inl h) = inl (inr h)
-    by (inr h) = inr h
 
 -- a set of things has these and no others
 abbrev pub IsExactly : (Thing → Type 0) → List Thing → Type 0
@@ -103,7 +86,7 @@ module _ (plan : Ports) (rows : TypedRows) where
 
   is_thing : (ks : List Key) (x : Thing) → IsIn x (things_at plan rows ks) → IsThingOf plan rows x
   is_thing [] x h = absurd h
-  is_thing (k ∷ ks) x h = by (in-split x (row_things plan k (rows k)) (things_at plan rows ks) h) (is_thing ks x)
+  is_thing (k ∷ ks) x h = by (in-either x (row_things plan k (rows k)) (things_at plan rows ks) h) (is_thing ks x)
     where
       by : IsIn x (row_things plan k (rows k)) ⊎ IsIn x (things_at plan rows ks) → (IsIn x (things_at plan rows ks) → IsThingOf plan rows x) → IsThingOf plan rows x
       by (inl h) behind = one_thing k x (rows k) refl h

@@ -11,6 +11,7 @@ use Rattle.std.specs.Str.{all_ascii_digits}
 use Rattle.swss_types.proofs.Joins.{IsFree}
 use Rattle.swss_types.proofs.Lists.{at_most-le}
 use Rattle.swss_types.specs.Number.{value_behind, is_misspelt, number_of, number_within}
+use Rattle.swss_types.proofs.Choices.{behind_test}
 
 abbrev fold_digits : ℕ → List ℕ → ℕ
 fold_digits n [] = n
@@ -25,14 +26,10 @@ value_of_digits n (b ∷ bs) h =
     let (digit, later) = and_parts (is_ascii_digit b) (all_ascii_digits bs) h in
     rw digit (value_of_digits (10 * n + (b - 48)) bs later)
 
-chosen_digit : (b : Bool) (o : Option ℕ) (m : ℕ) → cond b o None ≡ Some m → (b ≡ true) × (o ≡ Some m)
-chosen_digit true o m h = (refl, h)
-chosen_digit false o m h = cc
-
 digits_of_value : (n m : ℕ) (bs : List ℕ) → value_behind n bs ≡ Some m → (all_ascii_digits bs ≡ true) × (fold_digits n bs ≡ m)
 digits_of_value n m [] h = (refl, cc)
 digits_of_value n m (b ∷ bs) h =
-    let (digit, rest) = chosen_digit (is_ascii_digit b) (value_behind (10 * n + (b - 48)) bs) m h in
+    let (digit, rest) = behind_test (is_ascii_digit b) (value_behind (10 * n + (b - 48)) bs) m h in
     let later = digits_of_value (10 * n + (b - 48)) m bs rest in
     (rw digit later.0, later.1)
 

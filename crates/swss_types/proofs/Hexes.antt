@@ -1,10 +1,11 @@
 -- reading hexadecimal digits one at a time
-use Rattle.std.proofs.Common.{◌≡◌, ℕ, ◌+◌, ◌*◌, ◌<◌, ◌≤◌, ◌^◌, ◌&&◌, Bool, true, false, cond, leb, suc, List, [], ◌∷◌, length, drop, get_or, Option, None, Some, IfSome, refl, add-one, arith, lit≤}
+use Rattle.std.proofs.Common.{◌≡◌, ℕ, ◌+◌, ◌*◌, ◌<◌, ◌≤◌, ◌^◌, ◌&&◌, true, false, leb, suc, List, [], ◌∷◌, length, drop, get_or, Option, None, Some, IfSome, refl, add-one, arith, lit≤}
 use Rattle.std.proofs.Math.Seq.{drop-cons}
 use Rattle.std.proofs.Math.Nat.{pow-le-pow_right, pow-suc}
 use Rattle.std.proofs.lemmas.Bool.{ltb-true, leb-true, and_parts}
 use Rattle.std.specs.Char.{is_digit, digit_value}
 use Rattle.swss_types.specs.Hex.{hex_behind, hex_within}
+use Rattle.swss_types.proofs.Choices.{behind_test}
 
 -- the next digit
 pub hex_behind_more : (n i : ℕ) (bs : List ℕ) → i < length bs → is_digit (get_or bs i 0) 16 ≡ true → hex_behind n (drop i bs) ≡ hex_behind (16 * n + digit_value (get_or bs i 0)) (drop (i + 1) bs)
@@ -27,14 +28,10 @@ pub small_for_more : (o : Option ℕ) (few many : ℕ) → few ≤ many → IfSo
 small_for_more None few many le h = h
 small_for_more (Some n) few many le h = let more : 16 ^ few ≤ 16 ^ many = pow-le-pow_right (lit≤ tt) le in omega arith
 
-hex_behind_cond : (b : Bool) (o : Option ℕ) (m : ℕ) → cond b o None ≡ Some m → (b ≡ true) × (o ≡ Some m)
-hex_behind_cond true o m h = (refl, h)
-hex_behind_cond false o m h = cc
-
 hex_behind-lt : (k n m : ℕ) (bs : List ℕ) → n < 16 ^ k → hex_behind n bs ≡ Some m → m < 16 ^ (k + length bs)
 hex_behind-lt k n m [] small h = let same : n ≡ m = cc in rw (← same) (let e : k + 0 ≡ k = omega arith in rw e small)
 hex_behind-lt k n m (b ∷ bs) small h =
-    let (digit, later) = hex_behind_cond (is_digit b 16) (hex_behind (16 * n + digit_value b) bs) m h in
+    let (digit, later) = behind_test (is_digit b 16) (hex_behind (16 * n + digit_value b) bs) m h in
     let low : digit_value b < 16 = ltb-true _ _ digit in
     let more : 16 * n + digit_value b < 16 ^ suc k = rw (pow-suc 16 k) (omega arith) in
     let rest = hex_behind-lt (suc k) (16 * n + digit_value b) m bs more later in
@@ -44,7 +41,7 @@ hex_behind-lt k n m (b ∷ bs) small h =
 -- a number of at most so many digits
 pub hex_within-lt : (least most : ℕ) (text : List ℕ) (m : ℕ) → hex_within least most text ≡ Some m → m < 16 ^ most
 hex_within-lt least most text m h =
-    let (fits, value) = hex_behind_cond (leb least (length text) && leb (length text) most) (hex_behind 0 text) m h in
+    let (fits, value) = behind_test (leb least (length text) && leb (length text) most) (hex_behind 0 text) m h in
     let few : length text ≤ most = leb-true (length text) most ((and_parts (leb least (length text)) (leb (length text) most) fits).1) in
     let small = hex_behind-lt 0 0 m text (lit≤ tt) value in
     let more : 16 ^ length text ≤ 16 ^ most = pow-le-pow_right (lit≤ tt) few in

@@ -25,3 +25,5 @@ pub mod Risings
 pub mod SameValues
 pub mod Tied
 pub mod Truths
+pub mod Maps
+pub mod Most

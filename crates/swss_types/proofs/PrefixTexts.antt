@@ -35,7 +35,7 @@ no_slash : (family : Family) (bits : ℕ) → IsFree 47 (text_in family bits)
 no_slash V4 bits = λ k d within. dotted_no_slash _ (All-ipv4_text (bits / 2 ^ 24 % 256 ∷ bits / 2 ^ 16 % 256 ∷ bits / 2 ^ 8 % 256 ∷ bits % 256 ∷ []) (λ j. bytes_fit _ _ _ _ j (omega arith) (omega arith) (omega arith) (omega arith)) k d within)
 no_slash V6 bits = λ k d within. hex_no_slash _ (All-hex_groups_text (groups_in bits) (AllSegments-below (groups_in bits) (AllBelow-groups_in bits)) k d within)
 
-width-le : (family : Family) → width family ≤ 128
+pub width-le : (family : Family) → width family ≤ 128
 width-le V4 = lit≤ tt
 width-le V6 = lit≤ tt
 

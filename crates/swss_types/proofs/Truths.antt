@@ -16,3 +16,7 @@ or_regrouped true b c d = refl
 or_regrouped false true true d = refl
 or_regrouped false true false d = refl
 or_regrouped false false c d = refl
+
+pub or_none : (b : Bool) → (b || false) ≡ b
+or_none true = refl
+or_none false = refl

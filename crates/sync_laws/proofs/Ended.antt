@@ -21,6 +21,7 @@ use Rattle.sai_types.specs.Alike.{IsIn}
 use Rattle.sai_types.specs.Made.{made_after_all}
 use Rattle.sai_types.specs.Names.{name_of}
 use Rattle.sai_types.specs.Objects.{entry_cmp}
+use Rattle.sai_types.proofs.Membership.{in-map}
 use Rattle.sai_chip.specs.Naming.{entries_of}
 use Rattle.chip_layout.specs.Layout.{Has, Layout, has_number}
 use Rattle.chip_layout.specs.Renamed.{body_renamed, call_renamed, entry_renamed}
@@ -30,7 +31,6 @@ use Rattle.plan_laws.specs.Old.{old_layout}
 use Rattle.plan_laws.proofs.Applied.{plan-comes, plan-safe}
 use Rattle.plan_laws.proofs.Calling.{plan-called}
 use Rattle.plan_laws.proofs.Cold.{half-room, halfway, makes-safe}
-use Rattle.plan_laws.proofs.Lists.{in-map}
 use Rattle.plan_laws.proofs.Running.{after-append, new-stand, stands-new}
 use Rattle.view_match.specs.Pairs.{pairs_of}
 use Rattle.apply_order.specs.Naming.{id_by, names_from}
@@ -171,7 +171,7 @@ module _ {capacities : List ℕ} {made : ℕ} {old : List (Object Rid)} (objects
   numbered : AreNumbered (tie_of (last_ties objects x free)) made plan.calls
   numbered = (apply-by_ties objects x free).numbered
 
-  in_view : (v : Vid) (u : Thing) → IsIn (v, u) things → IsIn u (things_in things)
+  pub in_view : (v : Vid) (u : Thing) → IsIn (v, u) things → IsIn u (things_in things)
   in_view v u i = in-map (λ (z : Vid × Thing). z.1) things (v, u) i
 
   -- a paired object is tied to its partner to the end
@@ -182,7 +182,7 @@ module _ {capacities : List ℕ} {made : ℕ} {old : List (Object Rid)} (objects
       let begun = subst (λ m. rid_at (tied_in m objects old (objects_in objects) pairs) v ≡ Some r) (sym e) first in
       ap rid_or_none (tie_kept_through made (tied_in plan.mode objects old (objects_in objects) pairs) plan.calls v r (plan-in_time objects x free) begun)
 
-  hitless_tied : plan.mode ≡ mode.Hitless → (L : Layout Rid) → Resolves (old_layout (entries_of old) (things_in things)) (viewed things) (tie_of (last_ties objects x free)) L → ((t : Thing) → IsIn t (things_in things) → (j : Rid) × L j t) → (v : Vid) (u : Thing) → IsIn (v, u) things → has_number u ≡ true → Has L (name_of u) (tie_of (last_ties objects x free) v)
+  pub hitless_tied : plan.mode ≡ mode.Hitless → (L : Layout Rid) → Resolves (old_layout (entries_of old) (things_in things)) (viewed things) (tie_of (last_ties objects x free)) L → ((t : Thing) → IsIn t (things_in things) → (j : Rid) × L j t) → (v : Vid) (u : Thing) → IsIn (v, u) things → has_number u ≡ true → Has L (name_of u) (tie_of (last_ties objects x free) v)
   hitless_tied e L res all v u i number = by (lookup (is_at (nat_cmp v.0)) (names_from [] old (objects_in objects) (pairs_of old (objects_in objects)))) refl
     where
       by : (o : Option Rid) → lookup (is_at (nat_cmp v.0)) (names_from [] old (objects_in objects) (pairs_of old (objects_in objects))) ≡ o → Has L (name_of u) (tie_of (last_ties objects x free) v)

@@ -25,12 +25,12 @@ use Rattle.chip_layout.specs.Bodies.{body_with, first_name, goal_name, second_na
 use Rattle.chip_layout.specs.Renamed.{attr_renamed, body_renamed, entry_renamed, to_renamed}
 use Rattle.chip_layout.proofs.Shapes.{renamed_with}
 use Rattle.plan_laws.specs.Calls.{old_entry}
+use Rattle.plan_laws.proofs.Calling.{to_resolved}
 use Rattle.asic_view.specs.View.{ViewObjects}
 use Rattle.syncd_core.specs.Run.{AreInTime, HasCome, NamesTied}
 use Rattle.syncd_core.specs.Tied.{plan_tie}
 use Rattle.apply_order.specs.Attributes.{differing, is_target, set_call, unless}
 use Rattle.apply_order.specs.Naming.{Names, new_id}
-use Rattle.order_laws.proofs.Sets.{to_by}
 
 -- the body of a thing depends on what it refers to alone
 with_same : {I : Type 0} (t : Thing) (i j p q : I) → ((k : ThingName) → first_name t ≡ Some k → i ≡ p) → ((k : ThingName) → second_name t ≡ Some k → j ≡ q) → body_with t i j ≡ body_with t p q
@@ -95,7 +95,7 @@ module _ (view : ViewObjects) where
   pub to-tied : (g : Goal) (p : PlanId) → ((k : ThingName) → goal_name g ≡ Some k → HasCome view p) → IsAttrTied (attr.To (to_with g p))
   to-tied g p come f agree =
       let h = plan_tie view in
-      ap attr.To (to_by f g p ∙ to_same g (f p) (h p) (λ k e. agree p (come k e)) ∙ sym (to_by h g p))
+      ap attr.To (to_resolved f g p ∙ to_same g (f p) (h p) (λ k e. agree p (come k e)) ∙ sym (to_resolved h g p))
 
   pub differing-tied : (names : Names) (b : Body Rid) (t : Thing) (k l : Vid) → ((g : Goal) → (n : ThingName) → ((p : _) → t ≡ thing.Route p g → goal_name g ≡ Some n → HasCome view (new_id names k))) → AreAttrsTied (differing names b (body_with t k l))
   differing-tied names (body.Port lanes speed mtu up) (thing.Port p) k l come =
@@ -107,7 +107,7 @@ module _ (view : ViewObjects) where
   differing-tied names (body.Neighbor r ip m) (thing.Neighbor h m') k l come = unless_tied (mac_eq.ghosts.eq m m') (attr.Mac m') (λ f agree. refl)
   differing-tied names (body.Route p x) (thing.Route p' g) k l come =
       let x' = to_renamed (new_id names) (to_with g k) in
-      unless_tied (is_target x x') (attr.To x') (subst (λ z. IsAttrTied (attr.To z)) (sym (to_by (new_id names) g k)) (to-tied g (new_id names k) (λ n e. come g n p' refl e)))
+      unless_tied (is_target x x') (attr.To x') (subst (λ z. IsAttrTied (attr.To z)) (sym (to_resolved (new_id names) g k)) (to-tied g (new_id names k) (λ n e. come g n p' refl e)))
   differing-tied names _ _ k l come = tt
 
   -- the calls that set attributes, and then others

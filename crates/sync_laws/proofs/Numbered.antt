@@ -14,13 +14,13 @@ use Rattle.sai_types.specs.declared.plan.PlanCall.{PlanCall}
 use Rattle.sai_types.specs.declared.thing.Thing.{Thing}
 use Rattle.sai_types.specs.After.{has_id, makes_id}
 use Rattle.sai_types.specs.Alike.{IsIn}
+use Rattle.sai_types.proofs.Membership.{in-either, map-in}
 use Rattle.sai_chip.specs.Naming.{entries_of}
 use Rattle.chip_layout.specs.Layout.{has_number}
 use Rattle.chip_layout.specs.Renamed.{body_renamed, call_renamed}
 use Rattle.chip_layout.proofs.Shapes.{renamed_with}
 use Rattle.plan_laws.specs.Applied.{IsListedChip}
 use Rattle.plan_laws.specs.Calls.{old_entry, resolve}
-use Rattle.plan_laws.proofs.Lists.{in-either, map-in}
 use Rattle.view_match.specs.Pairs.{pairs_of}
 use Rattle.apply_order.specs.Attributes.{differing, set_call}
 use Rattle.apply_order.specs.Calls.{both_calls, make_calls, made_id, remove_calls, step_calls, steps_calls}

@@ -64,7 +64,7 @@ module _ (f : Vid → Rid) where
       by true n rest = absurd cc
       by false n rest = rest n
 
-  entry-by : (v : Vid) (b : Body Vid) → entry_renamed f (entry_at v b) ≡ entry_of (f v).0 (body_renamed f b)
+  pub entry-by : (v : Vid) (b : Body Vid) → entry_renamed f (entry_at v b) ≡ entry_of (f v).0 (body_renamed f b)
   entry-by v (body.OwnAddress ip) = refl
   entry-by v (body.Neighbor r ip m) = refl
   entry-by v (body.Route p t) = refl

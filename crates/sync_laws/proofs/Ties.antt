@@ -11,8 +11,9 @@ use Rattle.sai_types.specs.declared.body.Entry.TheVariants as entry
 use Rattle.sai_types.specs.declared.body.Object.{Object}
 use Rattle.asic_view.specs.declared.object.ViewObject.{ViewObject}
 use Rattle.asic_view.specs.View.{ViewObjects, changed_at, rid_at, rid_in, vid_cmp, with_tie}
+use Rattle.asic_view.proofs.Keeping.{vid-exact}
 use Rattle.syncd_core.specs.Begun.{tied_entries, tied_objects}
-use Rattle.syncd_core.proofs.Ties.{apart_found, vid-exact}
+use Rattle.syncd_core.proofs.Ties.{apart_found}
 
 abbrev pub Found : ViewObjects → Vid → Option ViewObject
 Found os v = lookup (is_at (vid_cmp v)) os

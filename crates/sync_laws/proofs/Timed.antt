@@ -21,6 +21,7 @@ use Rattle.sai_types.specs.declared.thing.Thing.TheVariants as thing
 use Rattle.sai_types.specs.After.{has_id, makes_id}
 use Rattle.sai_types.specs.Alike.{IsIn}
 use Rattle.sai_types.specs.Names.{ThingName, name_kind, name_of}
+use Rattle.sai_types.proofs.Membership.{in-either, in-left, in-right}
 use Rattle.sai_chip.specs.Naming.{entries_of}
 use Rattle.chip_layout.specs.Bodies.{IsAt, body_with, first_name, is_numbered, second_name}
 use Rattle.chip_layout.specs.Layout.{Has, Layout, has_number}
@@ -33,7 +34,6 @@ use Rattle.plan_laws.specs.Old.{tag_of}
 use Rattle.plan_laws.specs.Plans.{PlanChange, Make, Remove, Set, outcome, stands_after_all}
 use Rattle.plan_laws.proofs.Allowed.{IsSafePlan, make-refers, set-refers}
 use Rattle.plan_laws.proofs.Following.{HasNamed, before, done-in, due-in, origin}
-use Rattle.plan_laws.proofs.Lists.{in-either, in-left, in-right}
 use Rattle.asic_view.specs.View.{ViewObjects, rid_at, with_tie}
 use Rattle.syncd_core.specs.Run.{AreInTime, HasCome, IsUntied, NamesTied, made_by, view_by}
 use Rattle.syncd_core.specs.Synced.{tied_by}

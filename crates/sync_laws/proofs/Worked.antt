@@ -103,7 +103,7 @@ view_chip = record {
   prefixes = record { each = λ e b h. subst HasPrefix (sym (view_vlan e b h).1) tt };
 }
 
-rid_numbers : (r s : Rid) → entry.Oid r ≡ entry.Oid s → r.0 ≡ s.0
+pub rid_numbers : (r s : Rid) → entry.Oid r ≡ entry.Oid s → r.0 ≡ s.0
 rid_numbers r s e = let same : r ≡ s = cc in ap (λ (z : Rid). z.0) same
 
 -- ---- the apply

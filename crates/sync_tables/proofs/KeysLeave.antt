@@ -6,11 +6,11 @@ use Rattle.std.proofs.lemmas.Bool.{false≢true}
 use Rattle.sai_types.specs.Alike.{IsIn}
 use Rattle.table_schema.specs.Key.{key_cmp}
 use Rattle.table_schema.specs.declared.key.Key.{Key}
-use Rattle.table_schema.proofs.Keys.{key_total, tied_keys_same}
+use Rattle.table_schema.proofs.Keys.{at_itself, key_total, tied_keys_same}
 use Rattle.producer_table.proofs.Found.{lookup-removed}
 use Rattle.consumer_table.specs.Ops.{Ops, AreOpsInOrder, op_at, without_op}
 use Rattle.switch_machine.specs.Events.{HasLeft}
-use Rattle.sync_tables.proofs.Membership.{at_itself, found-in, in-found}
+use Rattle.sync_tables.proofs.Membership.{found-in, in-found}
 
 module _ (ops : Ops) (k : Key) (order : AreOpsInOrder ops) where
   -- it is found no more, and any other is found as before

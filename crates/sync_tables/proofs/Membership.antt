@@ -3,7 +3,6 @@ use Rattle.std.proofs.Common.{◌≡◌, ◌⊎◌, inl, inr, Bool, true, false,
 use Rattle.std.specs.BTreeMap.{is_at}
 use Rattle.std.specs.Map.{keys_of, lookup}
 use Rattle.std.proofs.lemmas.Bool.{false≢true, or_right}
-use Rattle.std.proofs.lemmas.Cmp.{eq_by_cmp_equiv}
 use Rattle.std.proofs.lemmas.Option.{none-some, same_Some}
 use Rattle.sai_types.specs.Alike.{IsIn}
 use Rattle.table_schema.specs.Fields.{Pairs}
@@ -11,7 +10,7 @@ use Rattle.table_schema.specs.Key.{key_cmp}
 use Rattle.table_schema.specs.declared.key.Key.{Key}
 use Rattle.table_schema.specs.declared.write.Write.{Write}
 use Rattle.table_schema.specs.declared.write.Write.TheVariants.{Set, Del}
-use Rattle.table_schema.proofs.Keys.{key_total, tied_keys_same}
+use Rattle.table_schema.proofs.Keys.{at_itself, key_total, tied_keys_same}
 use Rattle.producer_table.specs.Pending.{is_write_of, op_of, set_of}
 use Rattle.producer_table.specs.declared.waiting.Pending.{Pending}
 use Rattle.producer_table.proofs.Found.{lookup-removed}
@@ -20,10 +19,6 @@ use Rattle.consumer_table.specs.declared.op.Op.{Op}
 use Rattle.consumer_table.specs.declared.op.Op.TheVariants as op
 use Rattle.consumer_table.proofs.OpWrites.{op_at-after}
 use Rattle.sync_tables.specs.Tables.{IsAdded, Matters}
-
--- a key is at itself
-pub at_itself : (k q : Key) → k ≡ q → is_at (key_cmp k) q ≡ true
-at_itself k q is = ap (is_at (key_cmp k)) (sym is) ∙ (eq_by_cmp_equiv key_total).refl k
 
 module _ {X : Type 0} where
   -- a key that is among the keys is found, and one that is found is among them

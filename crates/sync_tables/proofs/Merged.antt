@@ -2,6 +2,7 @@
 use Rattle.std.proofs.Common.{◌≡◌, Bool, true, false, cond, Option, Some, None, Result, Ok, Err, OnOk, sym, ap, ap₂, ◌∙◌}
 use Rattle.std.specs.BTreeMap.{insert_entry, is_at}
 use Rattle.std.specs.Map.{remove_entry}
+use Rattle.swss_types.proofs.Maps.{lookup-insert_entry}
 use Rattle.table_schema.specs.Fields.{Pairs, HasRisingNames}
 use Rattle.table_schema.specs.Key.{key_cmp}
 use Rattle.table_schema.specs.Rows.{Rows, HasRisingRows, fields_at, with_fields}
@@ -11,7 +12,7 @@ use Rattle.table_schema.proofs.Keys.{key_total}
 use Rattle.table_schema.proofs.Merges.{merged-nil}
 use Rattle.producer_table.specs.Pending.{row_with_fields, row_with_pending}
 use Rattle.producer_table.specs.declared.waiting.Pending.{Pending}
-use Rattle.producer_table.proofs.Found.{lookup-put, lookup-removed}
+use Rattle.producer_table.proofs.Found.{lookup-removed}
 use Rattle.producer_table.proofs.RowWrites.{fields_at-after_write}
 use Rattle.sync_tables.specs.Tables.{IsMerged}
 
@@ -22,7 +23,7 @@ module _ (rows : Rows) (key : Key) (p : Pending) where
   -- the fields behind a deletion are the row
   pub merged-replaced : (fields : Pairs) → p.dropped ≡ true → p.fields ≡ Some fields → HasRisingNames fields → IsMerged rows key p (insert_entry key_cmp rows key fields)
   merged-replaced fields dropped is names = λ q.
-      lookup-put key_cmp key_total rows key fields q
+      lookup-insert_entry key_cmp key_total rows key fields q
       ∙ ap (λ r. cond (is_at (key_cmp q) key) r (fields_at rows q)) (ap Some (sym (merged-nil fields names)) ∙ laid p true (Some fields) (fields_at rows q) dropped is)
 
   -- a deletion takes the row away

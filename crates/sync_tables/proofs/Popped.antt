@@ -10,14 +10,13 @@ use Rattle.table_schema.specs.Key.{key_cmp}
 use Rattle.table_schema.specs.Rows.{fields_at}
 use Rattle.table_schema.specs.declared.key.Key.{Key}
 use Rattle.table_schema.specs.declared.write.Write.{Write}
-use Rattle.table_schema.proofs.Keys.{key_total, tied_keys_same}
+use Rattle.table_schema.proofs.Keys.{at_itself, key_total, tied_keys_same}
 use Rattle.producer_table.specs.Pending.{PendingKeys, AreInOrder, nothing_pending, pending_at, row_with_fields, row_with_pending}
 use Rattle.producer_table.specs.declared.waiting.Pending.{Pending}
 use Rattle.producer_table.proofs.Found.{lookup-above}
 use Rattle.switch_machine.specs.Events.{IsPop, PopsKey, SwitchState, Popped as KeyPopped, Stays as KeyStays}
 use Rattle.switch_machine.specs.Written.{HasNoWrite, IsAsBefore, IsPoppedKey, Written}
 use Rattle.sync_tables.specs.Tables.{AllMatter, IsPoppedIn, IsToSync, Matters, Popped, PopsFirst, PopsKeys, PopsNone, PopsSome, Stays, TablesState, written_in}
-use Rattle.sync_tables.proofs.Membership.{at_itself}
 
 -- what waits of a key changes some row
 by_fields : (d : Bool) (o : Option Pairs) → (d ≡ true) ⊎ (is_some o ≡ true) → ((row : Option Pairs) → row_with_fields (cond d None row) o ≡ row) → ⊥

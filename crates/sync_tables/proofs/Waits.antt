@@ -7,15 +7,16 @@ use Rattle.table_schema.specs.Rows.{Rows, HasRisingRows, fields_at}
 use Rattle.table_schema.specs.declared.key.Key.{Key}
 use Rattle.table_schema.specs.declared.write.Write.{Write}
 use Rattle.table_schema.specs.declared.write.Write.TheVariants.{Set, Del}
+use Rattle.table_schema.proofs.RowLists.{HasRisingRows-after_writes}
+use Rattle.table_schema.proofs.Keys.{at_itself}
 use Rattle.producer_table.specs.Pending.{PendingKeys, AreInOrder, laid_over, pending_after, pending_at, op_of, ops_of, row_with_pending, with_pending, writes_of_ops}
 use Rattle.producer_table.specs.declared.key_op.KeyOp.{KeyOp}
 use Rattle.producer_table.specs.declared.waiting.Pending.{Pending}
 use Rattle.producer_table.proofs.Found.{each-put}
 use Rattle.producer_table.proofs.PendingWrites.{AreInOrder-after, fields_at-with_pending, with_pending-after}
-use Rattle.producer_table.proofs.RowWrites.{HasRisingRows-after_writes, fields_at-after_write, row_after}
+use Rattle.producer_table.proofs.RowWrites.{fields_at-after_write, row_after}
 use Rattle.switch_machine.specs.Written.{TakesWrite, fields_after}
 use Rattle.sync_tables.specs.Tables.{AllMatter, Matters, TablesState, with_write, written_in}
-use Rattle.sync_tables.proofs.Membership.{at_itself}
 
 -- one row, or none
 abbrev one_row : Key → Option Pairs → Rows

@@ -2,7 +2,6 @@
 use Rattle.std.proofs.Common.{◌≡◌, ℕ, ◌+◌, Bool, true, false, cond, List, [], ◌∷◌, map, Option, None, Some, refl, sym, ap, ap₂, ◌∙◌}
 use Rattle.std.specs.BTreeMap.{is_at}
 use Rattle.std.specs.Map.{lookup}
-use Rattle.std.proofs.lemmas.Bool.{eqb-true}
 use Rattle.std.proofs.lemmas.Option.{none-some}
 use Rattle.sai_types.specs.declared.ids.Rid.{Rid}
 use Rattle.sai_types.specs.declared.ids.Vid.{Vid}
@@ -13,13 +12,10 @@ use Rattle.sai_types.specs.After.{makes_id}
 use Rattle.chip_layout.specs.Renamed.{call_renamed}
 use Rattle.asic_view.specs.declared.object.ViewObject.{ViewObject}
 use Rattle.asic_view.specs.View.{ViewObjects, changed_at, rid_at, rid_in, vid_cmp}
-use Rattle.asic_view.proofs.Keeping.{vid_tied}
+use Rattle.asic_view.proofs.Keeping.{vid-exact}
 use Rattle.syncd_core.specs.Run.{AreInTime, HasCome, IsUntied, made_by, tied_after, tied_calls, view_by}
 use Rattle.syncd_core.specs.Synced.{tied_by}
 use Rattle.syncd_core.specs.Tied.{plan_tie, rid_or_none}
-
-pub vid-exact : (v w : Vid) → is_at (vid_cmp v) w ≡ true → v ≡ w
-vid-exact v w h = let made : ℕ → Vid = λ n. record { 0 = n } in ap made (eqb-true v.0 w.0 (sym (vid_tied v w) ∙ h))
 
 pub apart_found : (v w : Vid) (g : ViewObject → ViewObject) → (v ≡ w → ⊥) → (os : ViewObjects) → lookup (is_at (vid_cmp v)) (changed_at os w g) ≡ lookup (is_at (vid_cmp v)) os
 apart_found v w g apart [] = refl

@@ -5,7 +5,7 @@ use Rattle.std.specs.Net.Text.{hex_groups_text}
 use Rattle.std.specs.Str.{IsAscii}
 use Rattle.std.proofs.NetLemmas.Alphabet.{IsHexOrColon, All-hex_groups_text}
 use Rattle.std.proofs.lemmas.Fmt.{IsAscii-decimal}
-use Rattle.std.proofs.lemmas.Str.{IsUtf8-from_ascii}
+use Rattle.std.proofs.lemmas.Str.{IsAscii-append, IsUtf8-from_ascii}
 use Rattle.std.proofs.lemmas.Str.Ascii.{IsAscii-from_all}
 use Rattle.swss_types.specs.Address.{width}
 use Rattle.swss_types.specs.Interface.{if_name_text, IsProperIfName}
@@ -25,7 +25,7 @@ use Rattle.table_schema.specs.KeyText.{key_of, key_text, key_at, known_key, tabl
 use Rattle.table_schema.specs.ProperKey.{HasProperParts, IsProperKey}
 use Rattle.table_schema.specs.declared.key.Key.{Key}
 use Rattle.table_schema.specs.declared.key.Key.TheVariants.{Port, Vlan, Member, Intf, Addr, Neigh, Route, Other}
-use Rattle.table_schema.proofs.Texts.{IsFree-tested, IsFree-append, split_once-first, split_once-none, Contains-middle, is_ascii, IsAscii-tested, IsAscii-append}
+use Rattle.table_schema.proofs.Texts.{IsFree-tested, IsFree-append, split_once-first, split_once-none, Contains-middle, is_ascii, IsAscii-tested}
 
 -- ---- names
 

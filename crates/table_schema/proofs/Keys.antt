@@ -1,6 +1,6 @@
 -- the laws of the order of keys, and that keys that compare equal are equal
-use Rattle.std.proofs.Common.{◌≡◌, ℕ, true, ap, ap₂}
-use Rattle.std.specs.Cmp.{IsTotalOrder}
+use Rattle.std.proofs.Common.{◌≡◌, ◌∙◌, ℕ, true, sym, ap, ap₂}
+use Rattle.std.specs.Cmp.{IsTotalOrder, eq_by_cmp_equiv}
 use Rattle.std.proofs.lemmas.Map.Lookups.{CmpEqualImpliesEq, exact_bytes, exact_unsigned}
 use Rattle.std.specs.BTreeMap.{is_at}
 use Rattle.swss_types.specs.declared.address.Ip.{Ip}
@@ -40,3 +40,7 @@ tied_keys_same k q h = key_exact k q (tied (key_cmp k q) h)
 
 pub key_total : IsTotalOrder key_cmp
 key_total = key_laws.total-law
+
+-- a key is at itself
+pub at_itself : (k q : Key) → k ≡ q → is_at (key_cmp k) q ≡ true
+at_itself k q is = ap (is_at (key_cmp k)) (sym is) ∙ (eq_by_cmp_equiv key_total).refl k

@@ -8,7 +8,7 @@ use Rattle.std.specs.declared.cmp.Ordering.TheVariants.{Less, Greater}
 use Rattle.std.proofs.lemmas.Cmp.{nat_list_cmp_total}
 use Rattle.table_schema.specs.Fields.{Pairs, by_bytes, HasRisingNames, with_pair, merged}
 
-order : IsTotalOrder by_bytes
+pub order : IsTotalOrder by_bytes
 order = nat_list_cmp_total
 
 -- one put, by the order of the two names

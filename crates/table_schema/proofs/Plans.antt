@@ -7,6 +7,7 @@ use Rattle.std.specs.declared.cmp.Ordering.{Ordering}
 use Rattle.std.specs.declared.cmp.Ordering.TheVariants.{Less, Equal, Greater}
 use Rattle.std.proofs.lemmas.Bool.{cases_eq, eqb-false, eqb-true, ltb-true, ne_eqb, or_parts}
 use Rattle.std.proofs.lemmas.Cmp.{nat_cmp_total}
+use Rattle.std.proofs.lemmas.List.Elements.{All-tail}
 use Rattle.swss_types.specs.Interface.{if_name_of}
 use Rattle.swss_types.proofs.Proper.{IsLaneList-lanes_of}
 use Rattle.swss_types.proofs.Truths.{or_swap}
@@ -29,15 +30,12 @@ below_512 low (lane ∷ lanes) (suc k) d h lt = below_512 (lane + 1) lanes k d h
 pub All-lanes : (lanes : List ℕ) → IsLaneList lanes → All (λ lane. lane < 512) lanes
 All-lanes lanes h k d lt = below_512 0 lanes k d h.rising lt
 
-all_tail : (lane : ℕ) (lanes : List ℕ) → All (λ l. l < 512) (lane ∷ lanes) → All (λ l. l < 512) lanes
-all_tail lane lanes h k d lt = h (suc k) d (omega arith)
-
 -- the table's first lane that is taken is the plan's
 pub first_taken_is : (ports : Ports) (taken : List Bool) (lanes : List ℕ) → ((lane : ℕ) → lane < 512 → get_or taken lane false ≡ has_lane ports lane) → All (λ l. l < 512) lanes → find (λ lane. get_or taken lane false) lanes ≡ first_taken ports lanes
 first_taken_is ports taken [] takes h = refl
 first_taken_is ports taken (lane ∷ lanes) takes h =
     ap (λ b. cond b (Some lane) (find (λ l. get_or taken l false) lanes)) (takes lane (h zero lane (omega arith)))
-    ∙ ap (λ o. cond (has_lane ports lane) (Some lane) o) (first_taken_is ports taken lanes takes (all_tail lane lanes h))
+    ∙ ap (λ o. cond (has_lane ports lane) (Some lane) o) (first_taken_is ports taken lanes takes (All-tail (λ l. l < 512) lane lanes h))
 
 first_has : (lanes : List ℕ) → 0 < length lanes → has lanes (slice_index lanes 0) ≡ true
 first_has [] some = absurd (omega arith)
@@ -160,7 +158,7 @@ marked_at : (taken : List Bool) (lanes : List ℕ) (lane : ℕ) → length taken
 marked_at taken [] lane count h = refl
 marked_at taken (l ∷ ls) lane count h =
     let small : l < length taken = omega (arith, h zero l (omega arith)) in
-    let rest = marked_at (set taken l true) ls lane (length-set taken l true ∙ count) (all_tail l ls h) in
+    let rest = marked_at (set taken l true) ls lane (length-set taken l true ∙ count) (All-tail (λ l. l < 512) l ls h) in
     elim (cases_eq l lane) [
       | inl same ↦ rest ∙ ap (λ b. has ls lane || b) (subst (λ k. get_or (set taken l true) k false ≡ true) same (get_or-set_same taken l true false small)) ∙ or_true (has ls lane) ∙ ap (λ b. (b || has ls lane) || get_or taken lane false) (sym (eq-eqb l lane same))
       | inr other ↦ rest ∙ ap (λ b. has ls lane || b) (get_or-set_other taken l lane true false (λ e. other (sym e))) ∙ ap (λ b. (b || has ls lane) || get_or taken lane false) (sym (ne_eqb l lane other))

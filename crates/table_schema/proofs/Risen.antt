@@ -1,13 +1,9 @@
 -- names that rise pair by pair rise
 use Rattle.std.proofs.Common.{◌≡◌, ℕ, zero, suc, ◌<◌, List, [], ◌∷◌, length, drop, get_or, arith}
 use Rattle.std.specs.List.{AllByRecursion}
-use Rattle.std.specs.Cmp.{IsTotalOrder}
 use Rattle.std.specs.declared.cmp.Ordering.TheVariants.{Less}
-use Rattle.std.proofs.lemmas.Cmp.{nat_list_cmp_total}
 use Rattle.table_schema.specs.Fields.{Pairs, by_bytes, HasRisingNames}
-
-order : IsTotalOrder by_bytes
-order = nat_list_cmp_total
+use Rattle.table_schema.proofs.Merges.{order}
 
 -- what is below a name is below all above it
 below : (a b : List ℕ) (ys : Pairs) → by_bytes a b ≡ Less → AllByRecursion (λ y. by_bytes b y.0 ≡ Less) ys → AllByRecursion (λ y. by_bytes a y.0 ≡ Less) ys

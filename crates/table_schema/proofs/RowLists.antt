@@ -33,7 +33,7 @@ pub HasRisingRows-after_write : (rows : Rows) (write : Write) → HasRisingRows 
 HasRisingRows-after_write rows (Set key fields) h = HasRisingKeys-insert_entry key_cmp key_total rows key (merged (unwrap_or (fields_at rows key) []) fields) h
 HasRisingRows-after_write rows (Del key) h = HasRisingKeys-remove_entry key_cmp (is_at (key_cmp key)) rows h
 
-HasRisingRows-after_writes : (rows : Rows) (writes : List Write) → HasRisingRows rows → HasRisingRows (after_writes rows writes)
+pub HasRisingRows-after_writes : (rows : Rows) (writes : List Write) → HasRisingRows rows → HasRisingRows (after_writes rows writes)
 HasRisingRows-after_writes rows [] h = h
 HasRisingRows-after_writes rows (write ∷ writes) h = HasRisingRows-after_writes (after_write rows write) writes (HasRisingRows-after_write rows write h)
 

@@ -65,8 +65,3 @@ pub IsAscii-tested : (text : List ℕ) → is_ascii text ≡ true → IsAscii te
 IsAscii-tested [] h i = omega arith
 IsAscii-tested (b ∷ bs) h zero = ltb-true b 128 (passed (ltb b 128) (is_ascii bs) h).0
 IsAscii-tested (b ∷ bs) h (suc i) = IsAscii-tested bs (passed (ltb b 128) (is_ascii bs) h).1 i
-
-pub IsAscii-append : (a b : List ℕ) → IsAscii a → IsAscii b → IsAscii (a ++ b)
-IsAscii-append [] b ha hb i = hb i
-IsAscii-append (x ∷ a) b ha hb zero = ha zero
-IsAscii-append (x ∷ a) b ha hb (suc i) = IsAscii-append a b (λ j. ha (suc j)) hb i

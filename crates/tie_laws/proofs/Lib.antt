@@ -7,5 +7,5 @@ mod Removing
 mod Renamed
 mod Setting
 mod Shown
-mod Standing
+pub mod Standing
 mod Tied

@@ -7,6 +7,7 @@ use Rattle.std.specs.List.Sorted.{IsStrictlySortedBy}
 use Rattle.std.specs.Map.{keys_of, lookup}
 use Rattle.std.proofs.lemmas.Option.{none-some}
 use Rattle.std.proofs.lemmas.Bool.{false_from_ne_true}
+use Rattle.swss_types.proofs.Maps.{lookup-insert_entry}
 use Rattle.sai_types.specs.declared.ids.Rid.{Rid}
 use Rattle.sai_types.specs.declared.ids.Vid.{Vid}
 use Rattle.sai_types.specs.declared.body.Body.{Body}
@@ -20,16 +21,18 @@ use Rattle.sai_types.specs.Objects.{body_at, entry_cmp}
 use Rattle.sai_types.specs.Refusal.{IsLegal}
 use Rattle.sai_types.proofs.Exact.{entry-exact}
 use Rattle.sai_types.proofs.Legal.{fresh, legal-create}
-use Rattle.sai_types.proofs.Maps.{lookup-insert_entry, sorted-insert_entry}
+use Rattle.sai_types.proofs.Maps.{sorted-insert_entry}
+use Rattle.sai_types.proofs.Membership.{all-in, in-push}
 use Rattle.chip_layout.specs.Renamed.{body_renamed, entry_renamed}
+use Rattle.chip_layout.proofs.Distinct.{distinct-by}
 use Rattle.asic_view.specs.declared.object.ViewObject.{ViewObject}
 use Rattle.asic_view.specs.View.{IsNew, ViewObjects, changed_at, entry_at, rid_at, rid_in, shown_by, vid_cmp}
-use Rattle.asic_view.proofs.Keeping.{all-in, in-all, in-key, pushed, vid-exact}
+use Rattle.asic_view.proofs.Keeping.{in-all, in-key, pushed, vid-exact}
 use Rattle.asic_view.proofs.Naming.{vid_total}
 use Rattle.asic_view.proofs.Shown.{shown-made, shown_body, shown_entry}
 use Rattle.syncd_core.specs.Tied.{rid_or_none, tie_of}
 use Rattle.tie_laws.specs.Ties.{AreTied, HasTie, IsTie, IsTied}
-use Rattle.tie_laws.proofs.Lists.{distinct-by, distinct-push, in-push}
+use Rattle.tie_laws.proofs.Lists.{distinct-push}
 use Rattle.tie_laws.proofs.Renamed.{created-tied}
 use Rattle.tie_laws.proofs.Shown.{IsSame, Item, more-body, more-entry, same-body, same-entry, same-shown, shown-there}
 use Rattle.tie_laws.proofs.Tied.{body-tied, entry-tied}

@@ -20,18 +20,20 @@ use Rattle.sai_types.specs.Objects.{Objects}
 use Rattle.sai_types.specs.Refusal.{IsLegal}
 use Rattle.sai_types.proofs.Maps.{lookup-removed, sorted-remove_entry}
 use Rattle.sai_types.proofs.Whole.{whole-after_call}
+use Rattle.sai_types.proofs.Membership.{all-in}
 use Rattle.chip_layout.specs.Counted.{AreDistinct}
 use Rattle.chip_layout.specs.Renamed.{entry_renamed}
+use Rattle.chip_layout.proofs.Distinct.{distinct-by, one-of}
 use Rattle.asic_view.specs.declared.object.ViewObject.{ViewObject}
 use Rattle.asic_view.specs.View.{ViewObjects, after_remove, entry_at, is_named, rid_at, rid_in, shown_by, vid_cmp}
-use Rattle.asic_view.proofs.Keeping.{IsThere, all-in, found-key, in-all, remove-there, removed_by, vid-exact}
+use Rattle.asic_view.proofs.Keeping.{IsThere, found-key, in-all, remove-there, removed_by, vid-exact}
 use Rattle.asic_view.proofs.Naming.{key-exact, vid_total}
 use Rattle.asic_view.proofs.Shown.{shown-left, shown_body, shown_entry}
 use Rattle.syncd_core.specs.Tied.{rid_or_none, tie_of}
 use Rattle.tie_laws.specs.Following.{AreTiedAlike, LosesTie}
 use Rattle.tie_laws.specs.Named.{InBody}
 use Rattle.tie_laws.specs.Ties.{AreTied, HasTie}
-use Rattle.tie_laws.proofs.Lists.{distinct-by, distinct-filter, in-filter, one-of}
+use Rattle.tie_laws.proofs.Lists.{distinct-filter, in-filter}
 use Rattle.tie_laws.proofs.Renamed.{legal-with, removed-tied, tells-tied}
 use Rattle.tie_laws.proofs.Shown.{IsSame, IsShown, Item, body-shown, in-entry, more-body, same-body, same-entry, same-shown, shown-there}
 use Rattle.tie_laws.proofs.Tied.{no-tie, own-tie, shown-tied, tied-once}

@@ -22,17 +22,18 @@ use Rattle.sai_types.specs.Refusal.{IsLegal, refusal_of, remove_refusal}
 use Rattle.sai_types.proofs.Exact.{entry-exact}
 use Rattle.sai_types.proofs.Found.{same-refl}
 use Rattle.sai_types.proofs.Legal.{legal-create, legal-set}
+use Rattle.sai_types.proofs.Membership.{all-in}
 use Rattle.chip_layout.specs.Counted.{AreDistinct}
 use Rattle.chip_layout.specs.Renamed.{AreRenamed, attr_renamed, body_renamed, call_renamed, entry_renamed, on_renamed, to_renamed}
 use Rattle.chip_layout.proofs.Legality.{neighs, oids, refusal-renamed}
+use Rattle.chip_layout.proofs.Distinct.{distinct-by}
 use Rattle.asic_view.specs.View.{IsLegalWith, ViewObjects, as_chip, as_rid, as_vid, entry_at, is_named, rid_at, same_key, shown_by}
-use Rattle.asic_view.proofs.Keeping.{all-in, key-refl}
+use Rattle.asic_view.proofs.Keeping.{key-refl}
 use Rattle.asic_view.proofs.Naming.{key-exact}
 use Rattle.asic_view.proofs.Shown.{Tells, shown_body, shown_entry, sorted-shown}
 use Rattle.syncd_core.specs.Tied.{rid_or_none, tie_of}
 use Rattle.tie_laws.specs.Named.{InAttr, InBody, InCall, InEntry}
 use Rattle.tie_laws.specs.Ties.{AreTied, IsTied}
-use Rattle.tie_laws.proofs.Lists.{distinct-by}
 use Rattle.tie_laws.proofs.Shown.{IsSame, IsShown, Item, attr-shown, body-shown, more-attr, more-body, more-entry, same-attr, same-body, same-entry, shown-from, shown-there}
 use Rattle.tie_laws.proofs.Tied.{body-tied, entry-tied, found-tied, is-own, shown-tied, tied-once}
 

@@ -24,6 +24,7 @@ use Rattle.sai_types.specs.References.{refers_well}
 use Rattle.sai_types.specs.Refusal.{capacity_of, clash, first_of, same_base, same_id, same_ip}
 use Rattle.sai_types.proofs.Exact.{entry-exact, id-exact}
 use Rattle.sai_types.proofs.Found.{same-refl}
+use Rattle.sai_types.proofs.Membership.{all-in, in-map, map-in}
 use Rattle.chip_layout.specs.Bodies.{is_numbered}
 use Rattle.chip_layout.specs.Layout.{Has, IsLaidOut, has_number}
 use Rattle.chip_layout.specs.Layout as chip
@@ -32,15 +33,14 @@ use Rattle.chip_layout.proofs.Bodies.{kind-body}
 use Rattle.chip_layout.proofs.Legality.{refusal-renamed}
 use Rattle.chip_layout.proofs.Renaming.{renamed-laid}
 use Rattle.chip_layout.proofs.Shapes.{laid-same}
+use Rattle.chip_layout.proofs.Distinct.{one-of}
 use Rattle.asic_view.specs.Things.{StandFor, by_number, listed}
 use Rattle.asic_view.specs.View.{ViewObjects, as_chip, as_rid, as_vid, entry_at, rid_at, shown_by}
-use Rattle.asic_view.proofs.Keeping.{all-in}
 use Rattle.asic_view.proofs.Naming.{entered-below}
 use Rattle.asic_view.proofs.Shown.{shown_body, shown_entry, sorted-shown}
 use Rattle.syncd_core.specs.Tied.{rid_or_none, tie_of}
 use Rattle.tie_laws.specs.Standing.{AreThingsOf}
 use Rattle.tie_laws.specs.Ties.{AreTied, IsTied}
-use Rattle.tie_laws.proofs.Lists.{in-mapped, mapped-in, one-of}
 use Rattle.tie_laws.proofs.Renamed.{body-twice, entry-twice, once-number}
 use Rattle.tie_laws.proofs.Shown.{IsSame, Item, more-body, more-entry, oid-of, same-body, same-entry, shown-from, shown-there}
 use Rattle.tie_laws.proofs.Tied.{body-tied, entry-tied, is-own, own-tie, rid-is, tied-once}
@@ -133,7 +133,7 @@ numbered_has_id (body.Port lanes speed mtu up) = refl
 numbered_has_id (body.Vlan vlan) = refl
 numbered_has_id _ = refl
 
-own_id : (i : Rid) (b : Body Rid) → has_id b ≡ true → entry_of i.0 b ≡ entry.Oid i
+pub own_id : (i : Rid) (b : Body Rid) → has_id b ≡ true → entry_of i.0 b ≡ entry.Oid i
 own_id i (body.OwnAddress ip) h = absurd (false≢true h)
 own_id i (body.Neighbor rif ip mac) h = absurd (false≢true h)
 own_id i (body.Route prefix to) h = absurd (false≢true h)
@@ -277,11 +277,11 @@ module _ (view : ViewObjects) (made : ℕ) (tied : AreTied view made (shown_by (
       },
       record {
         into = λ v u h.
-            let m = mapped-in untied_thing stands (v, u) h in
+            let m = map-in untied_thing stands (v, u) h in
             let thing : u ≡ m.0.1 = ap (λ (z : Vid × Thing). z.1) m.2 in
             let pair : Thing → Rid × Thing = λ z. (m.0.0, z) in
             let there : IsIn (m.0.0, u) stands = subst (λ z. IsIn z stands) (sym (ap pair thing)) m.1 in
             (m.0.0, there, λ number. ap (rid_at view) (ap (λ (z : Vid × Thing). z.0) m.2) ∙ is_tied m.0.0 u there number);
-        back = λ i u h. (as_vid (back i), in-mapped untied_thing stands (i, u) h, is_tied i u h);
+        back = λ i u h. (as_vid (back i), in-map untied_thing stands (i, u) h, is_tied i u h);
       },
     )

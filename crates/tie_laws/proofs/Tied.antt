@@ -15,6 +15,7 @@ use Rattle.sai_types.specs.Alike.{IsIn}
 use Rattle.sai_types.specs.Made.{IsWhole}
 use Rattle.sai_types.specs.Objects.{body_at}
 use Rattle.chip_layout.specs.Renamed.{entry_renamed}
+use Rattle.chip_layout.proofs.Distinct.{one-of}
 use Rattle.asic_view.specs.declared.object.ViewObject.{ViewObject}
 use Rattle.asic_view.specs.View.{ViewObjects, entry_at, rid_at, rid_in, shown_by, vid_cmp}
 use Rattle.asic_view.proofs.Keeping.{found-key, in-all, in-key}
@@ -22,7 +23,6 @@ use Rattle.asic_view.proofs.Shown.{shown_body, shown_entry}
 use Rattle.syncd_core.specs.Tied.{rid_or_none, tie_of}
 use Rattle.tie_laws.specs.Named.{InBody, InEntry}
 use Rattle.tie_laws.specs.Ties.{AreTied, HasTie, IsTie, IsTied}
-use Rattle.tie_laws.proofs.Lists.{one-of}
 use Rattle.tie_laws.proofs.Shown.{IsShown, Item, body-shown, entry-id, found-shown, in-entry, more-body, shown-from, shown-there}
 
 tie_by : (made : ℕ) (id : Bool) (o : Option Rid) → IsTie made id o → id ≡ true → (r : Rid) × (o ≡ Some r) × (0 < r.0) × (r.0 ≤ made)

@@ -6,6 +6,7 @@ use Rattle.std.specs.List.{slice_get}
 use Rattle.std.proofs.lemmas.Bool.{false≢true}
 use Rattle.std.proofs.lemmas.Bool.Decides.{nat_tests}
 use Rattle.std.proofs.lemmas.Map.Views.{tells_apart}
+use Rattle.std.proofs.lemmas.Option.{same_Some}
 use Rattle.sai_types.specs.declared.ids.Rid.{Rid}
 use Rattle.sai_types.specs.declared.body.Body.{Body}
 use Rattle.sai_types.specs.declared.body.Entry.{Entry}
@@ -34,13 +35,10 @@ module _ (k : NaturalKey) where
   abbrev Steps : Option Partner → Option NaturalKey → Partner → Option Partner → Type 0
   Steps found key p later = ((later ≡ Some p) × IsPut found key p) ⊎ ((later ≡ found) × IsLeft found key p)
 
-  some_partner : (f g : Partner) → Some f ≡ Some g → f ≡ g
-  some_partner f g e = cc
-
   replaced : (found : Option Partner) (p : Partner) (b : Bool) → replaces found p ≡ b → Steps found (Some k) p (cond b (Some p) found)
   replaced None p true e = inl (refl, record { is = refl; lesser = λ f h. absurd cc })
   replaced None p false e = absurd cc
-  replaced (Some g) p true e = inl (refl, record { is = refl; lesser = λ f h. let same = some_partner g f h in let less : p.group < g.group = grind (arith, nat_tests) in subst (λ (x : Partner). p.group < x.group) same less })
+  replaced (Some g) p true e = inl (refl, record { is = refl; lesser = λ f h. let same = same_Some g f h in let less : p.group < g.group = grind (arith, nat_tests) in subst (λ (x : Partner). p.group < x.group) same less })
   replaced (Some g) p false e = inr (refl, record { stays = λ is. let no_less : g.group ≤ p.group = grind (arith, nat_tests) in (g, refl, no_less) })
 
   at_key : (found : Option Partner) (key : NaturalKey) (p : Partner) (b : Bool) → is_at (key_cmp key) k ≡ b → Steps found (Some key) p (cond b (cond (replaces found p) (Some p) found) found)
@@ -81,7 +79,7 @@ module _ (k : NaturalKey) where
     best_after_put : (found : Option Partner) → IsPut found key here → IsBest (Some here) keys os (place + 1) q → IsBest found (key ∷ keys) (o ∷ os) place q
     best_after_put found p b = record {
       origin = elim b.origin [
-        | inl is ↦ inr (0, let same = some_partner here q is in ap (λ (x : Partner). x.place) (sym same) ∙ plus_none place, ap Some p.is, ap (λ (x : Partner). x.group) (sym (some_partner here q is)))
+        | inl is ↦ inr (0, let same = same_Some here q is in ap (λ (x : Partner). x.place) (sym same) ∙ plus_none place, ap Some p.is, ap (λ (x : Partner). x.group) (sym (same_Some here q is)))
         | inr x ↦ inr (suc x.0, further x.0 x.1, x.2, x.3)
       ];
       before = λ f e. let less = p.lesser f e in elim (b.before here refl) [
@@ -125,7 +123,7 @@ module _ (k : NaturalKey) where
         at_or (suc n) h = behind n (b.below n h)
 
   pub best : (found : Option Partner) (keys : List (Option NaturalKey)) (os : Objects) (place : ℕ) (q : Partner) → length keys ≡ length os → ((f : Partner) → found ≡ Some f → f.place < place) → best_from found keys os k place ≡ Some q → IsBest found keys os place q
-  best found [] os place q long early e = record { origin = inl e; before = λ f h. inl (some_partner q f (sym e ∙ h)); below = λ n h. absurd (none_at n h) }
+  best found [] os place q long early e = record { origin = inl e; before = λ f h. inl (same_Some q f (sym e ∙ h)); below = λ n h. absurd (none_at n h) }
     where
       none_at : (n : ℕ) → At [] n → ⊥
       none_at n h = cc
@@ -134,7 +132,7 @@ module _ (k : NaturalKey) where
       let p : Partner = record { group = group_number o; place = place } in
       let same : length keys ≡ length os = cc in
       elim (steps found key p) [
-        | inl x ↦ best_after_put key keys o os place q found x.1 (best (Some p) keys os (place + 1) q same (λ f h. subst (λ (y : Partner). y.place < place + 1) (some_partner p f h) (omega arith)) (ap (λ later. best_from later keys os k (place + 1)) (sym x.0) ∙ e))
+        | inl x ↦ best_after_put key keys o os place q found x.1 (best (Some p) keys os (place + 1) q same (λ f h. subst (λ (y : Partner). y.place < place + 1) (same_Some p f h) (omega arith)) (ap (λ later. best_from later keys os k (place + 1)) (sym x.0) ∙ e))
         | inr x ↦ left key keys o os place q found early x.1 (best found keys os (place + 1) q same (λ f h. let soon = early f h in omega (arith, soon)) (ap (λ later. best_from later keys os k (place + 1)) (sym x.0) ∙ e))
       ]
 

@@ -3,19 +3,19 @@ use Rattle.std.proofs.Common.{◌≡◌, inl, ℕ, Bool, true, false, ◌&&◌, 
 use Rattle.std.proofs.lemmas.Bool.{eq-eqb, false≢true}
 use Rattle.swss_types.specs.contracts.tagging.TaggingPartialEq.TheImpl as tagging_eq
 use Rattle.swss_types.specs.declared.tagging.Tagging.{Tagging}
-use Rattle.swss_types.specs.declared.tagging.Tagging.TheVariants.{Untagged, Tagged, PriorityTagged}
+use Rattle.swss_types.proofs.SameValues.{tagging_exact}
 use Rattle.table_schema.specs.Plan.{Ports}
 use Rattle.table_schema.specs.declared.key.Key.{Key}
 use Rattle.table_schema.specs.declared.key.Key.TheVariants as key
 use Rattle.table_schema.specs.declared.row.Row.{Row}
 use Rattle.table_schema.specs.declared.row.Row.TheVariants as row
 use Rattle.sai_types.specs.Alike.{IsIn}
-use Rattle.sai_types.specs.contracts.thing.ThingEq.TheImpl.Laws as equal_thing
 use Rattle.sai_types.specs.declared.thing.Thing.{Thing}
 use Rattle.sai_types.specs.declared.thing.Thing.TheVariants as thing
 use Rattle.switch_model.specs.Things.{lane_of}
 use Rattle.row_layout.specs.Operations.{Change, Make, Set, make_all, same_thing, set_all, set_to, take_all, uses_of}
 use Rattle.row_layout.specs.Rows.{Owner, Bridge, from}
+use Rattle.row_layout.proofs.Changing.{set_none}
 use Rattle.switch_machine.specs.Flights.{Fits}
 use Rattle.ref_counts.specs.declared.name.Name.TheVariants as name
 use Rattle.ref_counts.specs.declared.name.NameState.{NameState}
@@ -58,15 +58,6 @@ pub member-row : (plan : Ports) (k : Key) (v p : ℕ) (o : Option Row) → k ≡
 member-row plan k v p o is = subst (λ k. FitsAll plan k o → IsMemberRow o) (sym is) (member-row-at plan v p o)
 
 -- ---- what is set
-
-pub set-same : (t : Thing) (rest : List Change) → set_to t t rest ≡ rest
-set-same t rest = ap (λ b. if b then rest else Set t ∷ rest) (equal_thing.laws-law.refl t)
-
-tagging-exact : (a b : Tagging) → tagging_eq.ghosts.eq a b ≡ true → a ≡ b
-tagging-exact Untagged Untagged h = refl
-tagging-exact Tagged Tagged h = refl
-tagging-exact PriorityTagged PriorityTagged h = refl
-tagging-exact _ _ h = absurd (false≢true h)
 
 module _ (at : Membership) where
   abbrev thing_with : Tagging → Thing
@@ -122,7 +113,7 @@ module _ (plan : Ports) (names : Names) (worker : ℕ) where
     sets a b due = record { worker = worker; key = own_key; now = Some (row.Member a); new = Some (row.Member b); due = due; leaves = None; retires = None }
 
     set-operation : (a b : Tagging) (s : Bool) → tagging_eq.ghosts.eq a b ≡ s → member_operation worker at (if s then member.Keep b else member.Set a b) ≡ sets a b (set_to (thing_with at a) (thing_with at b) [])
-    set-operation a b true is = ap₂ (λ x due. sets x b due) (sym (tagging-exact a b is)) (sym (set-by at a b true is))
+    set-operation a b true is = ap₂ (λ x due. sets x b due) (sym (tagging_exact a b is)) (sym (set-by at a b true is))
     set-operation a b false is = ap (sets a b) (sym (set-by at a b false is))
 
     operation-member : (a b : Option Tagging) (builds : Bool) (step : MemberStep) → builds ≡ is_some (to_build plan names own_key (option_map row.Member b)) → AreLive plan names own_key (option_map row.Member a) → IsFirstMember a b builds step
@@ -153,7 +144,7 @@ module _ (plan : Ports) (names : Names) (worker : ℕ) where
   operation-vlan v (Some row.Vlan) None some fits_old fits_new = refl
   operation-vlan v (Some row.Vlan) (Some row.Vlan) some fits_old fits_new =
       let later = begun_names plan names worker (key.Vlan v) (Some row.Vlan) (Some row.Vlan) in
-      sym (ap (λ due. started_by later worker (key.Vlan v) (Some row.Vlan) (Some row.Vlan) due None) (set-same (thing.Vlan v) []))
+      sym (ap (λ due. started_by later worker (key.Vlan v) (Some row.Vlan) (Some row.Vlan) due None) (set_none (thing.Vlan v) []))
   operation-vlan v (Some row.Vlan) (Some r) some fits_old fits_new = elim (fits_new r refl) [ ]
   operation-vlan v (Some r) new some fits_old fits_new = elim (fits_old r refl) [ ]
 

@@ -1,5 +1,5 @@
 -- the start of the operation of a VLAN, or of a member of one
-use Rattle.std.proofs.Common.{◌≡◌, inl, ℕ, Bool, true, false, List, [], ◌∷◌, Option, Some, None, is_some, option_map, Result, Ok, IfOk, IfErr, OnOk, OnErr, refl, sym, ap, subst, ◌∙◌, Bor}
+use Rattle.std.proofs.Common.{◌≡◌, ℕ, Bool, true, false, List, [], ◌∷◌, Option, Some, None, is_some, option_map, Result, Ok, IfOk, IfErr, OnOk, OnErr, refl, sym, ap, subst, ◌∙◌, Bor}
 use Rattle.swss_types.specs.declared.out_of_memory.OutOfMemory.{OutOfMemory}
 use Rattle.swss_types.specs.declared.tagging.Tagging.{Tagging}
 use Rattle.table_schema.specs.Names.{names_of}
@@ -8,12 +8,11 @@ use Rattle.table_schema.specs.declared.key.Key.{Key}
 use Rattle.table_schema.specs.declared.key.Key.TheVariants as key
 use Rattle.table_schema.specs.declared.row.Row.{Row}
 use Rattle.table_schema.specs.declared.row.Row.TheVariants as row
-use Rattle.sai_types.specs.Alike.{IsIn}
 use Rattle.sai_types.specs.declared.thing.Thing.TheVariants as thing
 use Rattle.switch_model.specs.Things.{lane_of}
 use Rattle.switch_model.specs.declared.wait.Wait.{Wait}
 use Rattle.row_layout.specs.Operations.{Make, going, make_all, own_changes, set_all, set_to, take_all}
-use Rattle.row_layout.specs.Rows.{Owner, Bridge}
+use Rattle.row_layout.specs.Rows.{Bridge}
 use Rattle.row_layout.specs.Shared.{uses}
 use Rattle.switch_machine.specs.Flights.{Fits}
 use Rattle.switch_machine.specs.Operations.{built_first}
@@ -23,12 +22,12 @@ use Rattle.ref_counts.specs.declared.name.NameState.TheVariants as state
 use Rattle.ref_counts.specs.Registered as registered
 use Rattle.ref_counts.specs.Registry.{Names, changed, refusal_at, state_of}
 use Rattle.ref_counts.specs.Room.{Reserves, RoomState}
-use Rattle.orch_flight.specs.Needing.{absent_or, first_absent, first_unapplied, name_for, places_for, row_reason, to_build, wait_of}
-use Rattle.orch_flight.specs.Sharing.{MayShare, MayStart, begun_by, lacks_shared, owner_for, owners_of}
+use Rattle.orch_flight.specs.Needing.{absent_or, first_absent, first_unapplied, places_for, row_reason, to_build, wait_of}
+use Rattle.orch_flight.specs.Sharing.{MayStart, begun_by, lacks_shared, owners_of}
 use Rattle.orch_flight.specs.Starting.{IsBegunBy, IsStartedBy, first_due, first_left, leaving, started_names, started_names_by}
 use Rattle.orch_flight.specs.Taking.{to_list}
 use Rattle.orch_flight.proofs.Begins.{begun-removal, names-plain, no_places, none-missing, places-set, places-taken}
-use Rattle.orch_flight.proofs.Rows.{built_of, row-begins, row-builds, same-name}
+use Rattle.orch_flight.proofs.Rows.{built_of, row-begins, row-builds}
 use Rattle.vlan_orch.specs.Vlans.{IsFirst, IsOfVlan, IsVlanKey, operation_of, places_of_member, places_of_vlan}
 use Rattle.vlan_orch.proofs.Operations.{AreLive, FitsAll, bridge-live, bridges, first-operation, keeps-bridge, members}
 use Rattle.vlan_orch.specs.declared.steps.VlanSubject.{VlanSubject}
@@ -40,11 +39,6 @@ rows o = option_map (λ r. r.now) o
 pub some-rows : (applied : Bool) (o : Option (Bor Row)) → applied ≡ is_some o → applied ≡ is_some (rows o)
 some-rows applied None is = is
 some-rows applied (Some r) is = is
-
--- what a row shares may be shared
-pub may-share : (names : Names) (os : List Owner) (shared : Option Name) → os ≡ owners_of shared → ((o : Owner) → IsIn o os → MayShare names (Some (name_for o))) → MayShare names shared
-may-share names os None is may = tt
-may-share names os (Some n) is may = subst (λ m. MayShare names (Some m)) (same-name n) (may (owner_for n) (subst (IsIn (owner_for n)) (sym is) (inl refl)))
 
 -- what a row shares is built where nothing of it is there
 built-some : (names : Names) (shared : Option Name) → is_some (built_of shared (lacks_shared names shared)) ≡ lacks_shared names shared

@@ -1,9 +1,9 @@
 use Rattle.std.proofs.Common.{Some, refl, ap, ◌∙◌}
 use Rattle.row_layout.specs.Operations.{uses_of}
+use Rattle.orch_flight.proofs.Rows.{may-share}
 use Rattle.route_orch.specs.Routes.{places_needed}
 use Rattle.route_orch.proofs.Begins.{brought, some-row}
 use Rattle.route_orch.proofs.Operations.{rows}
-use Rattle.route_orch.proofs.Starts.{may-share}
 use Rattle.route_orch.proofs.starting.bring.Goals as goal
 
 pub start_row-requires-clause-shared : goal.start_row-requires-clause-shared

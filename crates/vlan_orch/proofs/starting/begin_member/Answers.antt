@@ -1,7 +1,8 @@
 use Rattle.std.proofs.Common.{refl, ap, ◌∙◌}
 use Rattle.row_layout.specs.Shared.{uses}
+use Rattle.orch_flight.proofs.Rows.{may-share}
 use Rattle.vlan_orch.specs.Vlans.{places_of_member}
-use Rattle.vlan_orch.proofs.Starts.{may-share, member-start, rows, some-rows}
+use Rattle.vlan_orch.proofs.Starts.{member-start, rows, some-rows}
 use Rattle.vlan_orch.proofs.starting.begin_member.Goals as goal
 
 pub start_row-requires-clause-shared : goal.start_row-requires-clause-shared

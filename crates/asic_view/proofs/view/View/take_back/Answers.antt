@@ -2,11 +2,12 @@ use Rattle.std.proofs.Common.{◌≡◌, ◌+◌, ◌<◌, ◌==◌, cond, slice
 use Rattle.std.specs.BTreeMap.{is_at}
 use Rattle.std.specs.Map.{lookup}
 use Rattle.swss_types.proofs.Proper.{mapped}
+use Rattle.swss_types.proofs.Choices.{none_mapped}
 use Rattle.sai_types.specs.Objects.{kind_of, level}
 use Rattle.asic_view.specs.Kept.{IsViewKept, unfiled}
 use Rattle.asic_view.specs.View.{after_remove, entry_at, vid_cmp, without_object}
 use Rattle.asic_view.specs.declared.object.ViewObject.{ViewObject}
-use Rattle.asic_view.proofs.Keeping.{in-key, kept-left, key-refl, none_mapped, removed-absent, removed-is, some-counted}
+use Rattle.asic_view.proofs.Keeping.{in-key, kept-left, key-refl, removed-absent, removed-is, some-counted}
 use Rattle.asic_view.proofs.view.View.take_back.Goals as goal
 
 pub lower-requires : goal.lower-requires

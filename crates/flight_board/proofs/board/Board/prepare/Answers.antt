@@ -1,6 +1,7 @@
 use Rattle.std.proofs.Common.{Some, slice_set, sym, ap, subst, ◌∙◌}
+use Rattle.std.proofs.lemmas.Result.{on_err_weaker, on_ok_weaker}
 use Rattle.flight_board.specs.Board.{AreKept, BoardState, IsPrepared}
-use Rattle.flight_board.proofs.Events.{on-err, on-ok, prepared-none, prepared-some, put-back}
+use Rattle.flight_board.proofs.Events.{prepared-none, prepared-some, put-back}
 use Rattle.flight_board.proofs.Kept.{kept-back, kept-without, prepared-alike, within}
 use Rattle.flight_board.proofs.Places.{Under}
 use Rattle.flight_board.proofs.board.Board.prepare.Goals as goal
@@ -34,7 +35,7 @@ returns-clause-ok c =
     let old : BoardState = record { plan = i.plan; names = i.registry; room = i.room; applied = i.applied; flights = i.workers } in
     let new : BoardState = record { plan = i.plan; names = i.registry; room = i.room; applied = i.applied; flights = c.put.new.self } in
     let below = within i.plan i.applied i.workers c.args.worker c.requires c.self.invariant in
-    on-ok c.prepare-prepared.result (λ is. subst (λ z. IsPrepared z c.args.worker new) c.self.view_is (prepared-some old c.args.worker below c.in-Some.flight c.prepare-prepared.new.self c.take.new.self c.put.new.self c.in-Some.ensures.value is c.take.ensures.rest c.put.ensures)) c.prepare-prepared.ensures.ok
+    on_ok_weaker c.prepare-prepared.result (λ is. subst (λ z. IsPrepared z c.args.worker new) c.self.view_is (prepared-some old c.args.worker below c.in-Some.flight c.prepare-prepared.new.self c.take.new.self c.put.new.self c.in-Some.ensures.value is c.take.ensures.rest c.put.ensures)) c.prepare-prepared.ensures.ok
 
 pub returns-clause-err : goal.returns-clause-err
 returns-clause-err c =
@@ -42,4 +43,4 @@ returns-clause-err c =
     let old : BoardState = record { plan = i.plan; names = i.registry; room = i.room; applied = i.applied; flights = i.workers } in
     let below = within i.plan i.applied i.workers c.args.worker c.requires c.self.invariant in
     let with : Under → BoardState = λ l. record { plan = i.plan; names = i.registry; room = i.room; applied = i.applied; flights = l } in
-    on-err c.prepare-prepared.result (λ is. ap with (put-back old c.args.worker below c.in-Some.flight c.prepare-prepared.new.self c.take.new.self c.put.new.self c.in-Some.ensures.value is c.take.ensures.rest c.put.ensures) ∙ c.self.view_is) c.prepare-prepared.ensures.err
+    on_err_weaker c.prepare-prepared.result (λ is. ap with (put-back old c.args.worker below c.in-Some.flight c.prepare-prepared.new.self c.take.new.self c.put.new.self c.in-Some.ensures.value is c.take.ensures.rest c.put.ensures) ∙ c.self.view_is) c.prepare-prepared.ensures.err

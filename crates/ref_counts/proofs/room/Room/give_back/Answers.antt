@@ -1,6 +1,7 @@
 use Rattle.std.proofs.Common.{◌+◌, ◌*◌, refl, arith}
 use Rattle.sai_types.specs.Objects.{level}
-use Rattle.ref_counts.proofs.Rooms.{all_less, elsewhere, level_within}
+use Rattle.sai_types.proofs.Levels.{level_within}
+use Rattle.ref_counts.proofs.Rooms.{all_less, elsewhere}
 use Rattle.ref_counts.proofs.room.Room.give_back.Goals as goal
 
 pub returns : goal.returns

@@ -1,7 +1,8 @@
 use Rattle.std.proofs.Common.{◌≡◌, ◌+◌, ◌*◌, ◌≤◌, None, slice_index, refl, rules, arith}
 use Rattle.sai_types.specs.Objects.{level}
+use Rattle.sai_types.proofs.Levels.{level_within}
 use Rattle.ref_counts.specs.Room.{RoomState, lacking, number_of}
-use Rattle.ref_counts.proofs.Rooms.{all_fits, all_more, each_place, elsewhere, level_within, some_of_all}
+use Rattle.ref_counts.proofs.Rooms.{all_fits, all_more, each_place, elsewhere, some_of_all}
 use Rattle.ref_counts.proofs.room.Room.reserve.Goals as goal
 
 pub add-requires : goal.add-requires

@@ -1,9 +1,10 @@
 use Rattle.std.proofs.Common.{◌≡◌, true, cond, None, Some, is_some, rules, ap, ◌∙◌}
 use Rattle.std.specs.BTreeMap.{is_at}
 use Rattle.std.specs.List.{list_any}
+use Rattle.swss_types.proofs.Fronts.{on_err}
 use Rattle.table_schema.specs.Key.{key_cmp}
 use Rattle.retry_list.specs.Event.{event_cmp}
-use Rattle.retry_list.proofs.Filed.{anyway, has-changed, has-unchanged, under}
+use Rattle.retry_list.proofs.Filed.{has-changed, has-unchanged, under}
 use Rattle.retry_list.proofs.index.Index.file.Goals as goal
 
 pub returns-in_err-insert-in-Some-clause-err : goal.returns-in_err-insert-in-Some-clause-err
@@ -11,7 +12,7 @@ returns-in_err-insert-in-Some-clause-err c =
     let es = c.args.self.now.keys.entries in
     let keys = c.insert.new.self in
     let there : under es c.args.event ≡ Some c.in-Some.keys.now = search rules in
-    anyway c.from_residual.result (λ e q. has-unchanged es (under (c.get_mut.follows.lender keys).entries e) c.args.event e q keys c.in-Some.keys.now there (((c.get_mut.follows.holds keys).3 (ap is_some there)).0 e) c.in_err-insert-in-Some.ensures.err)
+    on_err c.from_residual.result (λ e q. has-unchanged es (under (c.get_mut.follows.lender keys).entries e) c.args.event e q keys c.in-Some.keys.now there (((c.get_mut.follows.holds keys).3 (ap is_some there)).0 e) c.in_err-insert-in-Some.ensures.err)
 
 pub returns-in_ok-insert-in-Some-clause-ok : goal.returns-in_ok-insert-in-Some-clause-ok
 returns-in_ok-insert-in-Some-clause-ok c =

@@ -1,8 +1,8 @@
 -- lists without doubles
-use Rattle.std.proofs.Common.{◌≡◌, ◌⊎◌, ◌++◌, inl, inr, List, [], ◌∷◌, map, refl, sym, ap, ◌∙◌, subst}
+use Rattle.std.proofs.Common.{◌≡◌, inl, inr, List, [], ◌∷◌, map, sym, ap, ◌∙◌, subst, refl}
 use Rattle.sai_types.specs.Alike.{IsIn}
+use Rattle.sai_types.proofs.Membership.{in-map, map-in}
 use Rattle.chip_layout.specs.Counted.{AreDistinct}
-use Rattle.plan_laws.proofs.Lists.{in-map, map-in}
 
 -- two items with one image are one
 pub one-of : {X Y : Type 0} (f : X → Y) (xs : List X) (x y : X) → AreDistinct (map f xs) → IsIn x xs → IsIn y xs → f x ≡ f y → x ≡ y
@@ -19,13 +19,3 @@ distinct-by f h (x ∷ xs) same d = (
   λ i. let m = map-in h xs (h x) i in d.0 (subst (λ w. IsIn w (map f xs)) (sym (same x m.0 (inl refl) (inr m.1) m.2)) (in-map f xs m.0 m.1)),
   distinct-by f h xs (λ y z i j. same y z (inr i) (inr j)) d.1,
 )
-
-pub in-push : {X : Type 0} (xs : List X) (x y : X) → IsIn y (xs ++ x ∷ []) → IsIn y xs ⊎ (y ≡ x)
-in-push [] x y (inl is) = inr is
-in-push [] x y (inr h) = absurd h
-in-push (z ∷ zs) x y (inl is) = inl (inl is)
-in-push (z ∷ zs) x y (inr h) = by (in-push zs x y h)
-  where
-    by : IsIn y zs ⊎ (y ≡ x) → IsIn y (z ∷ zs) ⊎ (y ≡ x)
-    by (inl g) = inl (inr g)
-    by (inr is) = inr is
