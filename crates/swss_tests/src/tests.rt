@@ -1,13 +1,5 @@
 // Each file tests one subject; refused memory is tried by `rt try --test --fail-alloc N`, which refuses the Nth allocation.
 mod bodies;
-mod common;
-mod fields;
 mod log;
-mod names;
 mod outside;
-mod pending;
-mod queue;
-mod retry;
-mod rows;
-mod to_sync;
 mod values;
