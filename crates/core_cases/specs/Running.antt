@@ -1,10 +1,8 @@
 -- When the calls of a core may be made. Own.
-use Rattle.std.specs.Prelude.{◌≡◌, ◌⊎◌}
 use Rattle.sai_types.specs.ChipState.{ChipState}
-use Rattle.warm_state.specs.declared.warm.Warm.TheVariants as warm
 use Rattle.session_laws.specs.Core.{CoreState}
-use Rattle.orch_core.specs.Outcomes.{IsInSession}
+use Rattle.orch_core.specs.Restarting.{IsInService}
 
--- a core and its chip stand for a session, and no restart is under way
+-- a core and its chip stand for a session of the service
 abbrev pub IsRunning : CoreState → ChipState → Type 0
-IsRunning c chip = IsInSession c chip × ((c.warm ≡ warm.Reconciled) ⊎ (c.warm ≡ warm.Suspect))
+IsRunning c chip = IsInService c chip

@@ -3,7 +3,7 @@ ghost use Rattle.std.specs.Prelude.{◌<◌};
 ghost use Rattle.switch_model.specs.Marks.{written_key};
 ghost use Rattle.machine_laws.specs.Reading.{IsOnSwitch};
 
-use orch_core::{Core, Settled, Step, TakeFault};
+use orch_core::{Core, LogFull, Settled, Step, TakeFault};
 use sai_chip::SimChip;
 use sai_types::{Caps, Chip, Object, Rid};
 use std::alloc::Global;
@@ -11,7 +11,6 @@ use std::marker::Model;
 use switch_model::MarkEvent;
 use swss_types::OutOfMemory;
 use table_schema::{PortPlan, Sent, Write};
-use warm_state::Warm;
 
 /// How many objects of each kind the chip has room for.
 const ROOM: Caps = Caps([
@@ -21,7 +20,7 @@ const ROOM: Caps = Caps([
 /// How many places the log has.
 const PLACES: u64 = 4_194_304;
 
-/// A core and its chip, which stand for a session of the service at each moment.
+/// A core and its chip, which stand for a session of the service at each moment, over restarts too.
 #[derive(Drop)]
 pub struct Bench {
     core: Core,
@@ -70,12 +69,14 @@ impl Bench {
         self.core.step(&mut self.chip, worker)
     }
 
-    /// Settles. None where the core is suspect.
-    pub fn settle(&mut self) -> Result<Option<Settled>, OutOfMemory> {
-        match self.core.state() {
-            Warm::Reconciled => Ok(Some(self.core.settle(&mut self.chip)?)),
-            _ => Ok(None),
-        }
+    /// Settles.
+    pub fn settle(&mut self) -> Result<Settled, OutOfMemory> {
+        self.core.settle(&mut self.chip)
+    }
+
+    /// Restarts.
+    pub fn restart(&mut self) -> Result<Result<(), LogFull>, OutOfMemory> {
+        self.core.restart(self.chip.effects())
     }
 
     /// How many keys wait by the last mark. None where that is not a mark of a settling.

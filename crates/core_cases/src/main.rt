@@ -11,6 +11,7 @@
 //! settle                           the round ends here, and what follows is the next; the last one ends with the case
 //! workers N turn STEPS             N workers, one to four, step one after the other, STEPS steps in each round
 //! workers N turn STEPS idle        the same, and in the end each of them is idle before the settling
+//! workers N turn STEPS restart     the same, and in the end the core restarts before the settling
 //! workers N drawn SEED STEPS       STEPS draws in each round, each of which is the next write or the step of a worker
 //! ```
 //!

@@ -57,6 +57,13 @@ fn run_round(
 ) -> Result<()> {
     match workers.order {
         Order::Turn(idle) => step_in_turn(alloc, bench, round, workers, idle),
+        Order::Restarts => {
+            step_in_turn(alloc, bench, round, workers, false)?;
+            if bench.restart()?.is_err() {
+                bail!("the log is full");
+            }
+            Ok(())
+        }
         Order::Drawn(_) => step_as_drawn(alloc, bench, round, workers, draw),
     }
 }
@@ -151,7 +158,7 @@ fn step(bench: &mut Bench, worker: u32) -> Result<Step>
 /// Settles, and looks at how many keys wait and how many objects stand. It tells what stands.
 fn settle(alloc: Global, bench: &mut Bench, round: &CaseRound) -> Result<Vec<Thing>> {
     let settled = bench.settle()?;
-    ensure!(settled == Some(Settled::Settled), "{settled:?}");
+    ensure!(settled == Settled::Settled, "{settled:?}");
     let waits = bench.waits().context("a mark of a settling")? as u64;
     ensure!(
         waits == round.waits,

@@ -10,6 +10,8 @@ use std::alloc::Global;
 pub enum Order {
     /// One after the other, once all writes are taken; in the end each is to be idle where this is true.
     Turn(bool),
+    /// One after the other, once all writes are taken; then the core restarts.
+    Restarts,
     /// As this seed draws, and writes are taken in between.
     Drawn(u64),
 }
@@ -48,6 +50,7 @@ impl CaseWorkers {
         let (order, steps) = match order {
             ["turn", steps] => (Order::Turn(false), number(steps)?),
             ["turn", steps, "idle"] => (Order::Turn(true), number(steps)?),
+            ["turn", steps, "restart"] => (Order::Restarts, number(steps)?),
             ["drawn", seed, steps] => (Order::Drawn(number(seed)?), number(steps)?),
             _ => bail!("an order of steps"),
         };
@@ -72,7 +75,7 @@ impl CaseWorkers {
     /// The seed by which they step.
     pub fn seed(&self) -> u64 {
         match self.order {
-            Order::Turn(_) => 0,
+            Order::Turn(_) | Order::Restarts => 0,
             Order::Drawn(seed) => seed,
         }
     }

@@ -7,3 +7,9 @@ pub mod Turns
 pub mod Listings
 pub mod Ends
 pub mod SameRows
+pub mod OnView
+pub mod OnWay
+pub mod GoingOver
+pub mod Restores
+pub mod Coming
+pub mod Serving

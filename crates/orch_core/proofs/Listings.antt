@@ -19,7 +19,9 @@ use Rattle.flight_board.specs.Applied.{row_at}
 use Rattle.session_laws.specs.Core.{CoreState}
 use Rattle.session_laws.specs.Events.{HaveReasons}
 use Rattle.settling_laws.specs.Turning.{HaveListed}
-use Rattle.orch_core.specs.Marked.{AreListedFrom, IsListedAs}
+use Rattle.retry_list.specs.Reasons.{Reasons}
+use Rattle.restart_session_laws.specs.Built.{AreBareWaits}
+use Rattle.orch_core.specs.Marked.{AreListedFrom, IsBareWait, IsListedAs}
 
 module _ (c : CoreState) where
   pub listed_keys : (ks : List Key) (ws : Waiting) → AreListedFrom c ks ws → map (λ w. w.0) ws ≡ ks
@@ -87,3 +89,20 @@ listed_same c log count [] [] h = tt
 listed_same c log count (k ∷ ks) (w ∷ ws) h = (h.0, listed_same c log count ks ws h.1)
 listed_same c log count [] (w ∷ ws) h = absurd h
 listed_same c log count (k ∷ ks) [] h = absurd h
+
+-- ---- without rows
+
+bare_with_one : (reasons : Reasons) (ks : List Key) (ws : Waiting) (k : Key) (w : Key × Wait × Option Row) → AreBareWaits reasons ks ws → IsBareWait reasons k w → AreBareWaits reasons (ks ++ k ∷ []) (ws ++ w ∷ [])
+bare_with_one reasons [] [] k w h one = (one.0, one.1, one.2, tt)
+bare_with_one reasons (p ∷ ks) (v ∷ ws) k w h one = (h.0, h.1, h.2, bare_with_one reasons ks ws k w h.3 one)
+bare_with_one reasons [] (v ∷ ws) k w h one = absurd h
+bare_with_one reasons (p ∷ ks) [] k w h one = absurd h
+
+pub bare_one_more : (reasons : Reasons) (ks : List Key) (ws later : Waiting) (k : Key) (w : Key × Wait × Option Row) → later ≡ ws ++ w ∷ [] → AreBareWaits reasons ks ws → IsBareWait reasons k w → AreBareWaits reasons (ks ++ k ∷ []) later
+bare_one_more reasons ks ws later k w are h one = subst (AreBareWaits reasons (ks ++ k ∷ [])) (sym are) (bare_with_one reasons ks ws k w h one)
+
+pub bare_length : (reasons : Reasons) (ks : List Key) (ws : Waiting) → AreBareWaits reasons ks ws → length ws ≡ length ks
+bare_length reasons [] [] h = refl
+bare_length reasons (k ∷ ks) (w ∷ ws) h = ap (λ n. suc n) (bare_length reasons ks ws h.3)
+bare_length reasons [] (w ∷ ws) h = absurd h
+bare_length reasons (k ∷ ks) [] h = absurd h

@@ -1,6 +1,6 @@
 -- rows that compare equal are equal
 use Rattle.std.proofs.Common.{◌≡◌, ◌==◌, ◌∙◌, ℕ, Bool, true, List, refl, ap, ap₂, subst}
-use Rattle.std.proofs.lemmas.Bool.{and_parts, eq-eqb, eqb-true, false≢true}
+use Rattle.std.proofs.lemmas.Bool.{and_parts, eqb-true, false≢true}
 use Rattle.std.proofs.lemmas.Slice.Eq.{slice_eq-Decides}
 use Rattle.std.specs.Bool.{Decides}
 use Rattle.std.specs.Cmp.{booleans_Decides}
@@ -23,15 +23,13 @@ use Rattle.table_schema.specs.contracts.row.RowEq.TheImpl.Laws as equal_row
 use Rattle.table_schema.specs.contracts.row_hop.RowHopPartialEq.TheImpl as hop_eq
 use Rattle.table_schema.specs.contracts.row_hop.RowHopEq.TheImpl.Laws as equal_hop
 use Rattle.sai_types.proofs.Exact.{ip-exact}
+use Rattle.switch_machine.proofs.Equal.{lanes_exact}
 
 if_name_exact : (a b : IfName) → name_eq.ghosts.eq a b ≡ true → a ≡ b
 if_name_exact (name.Ethernet m) (name.Ethernet n) h = ap name.Ethernet (eqb-true m n h)
 if_name_exact (name.Vlan m) (name.Vlan n) h = ap name.Vlan (eqb-true m n h)
 if_name_exact (name.Loopback m) (name.Loopback n) h = ap name.Loopback (eqb-true m n h)
 if_name_exact _ _ h = absurd (false≢true h)
-
-numbers_exact : (xs ys : List ℕ) → pointwise ◌==◌ xs ys ≡ true → xs ≡ ys
-numbers_exact xs ys h = (slice_eq-Decides (λ a b. (eqb-true a b, eq-eqb a b)) xs ys (pointwise ◌==◌ xs ys) refl).0 h
 
 row_hop_eq_exact : (a b : RowHop) → hop_eq.ghosts.eq a b ≡ true → a ≡ b
 row_hop_eq_exact a b h =
@@ -57,7 +55,7 @@ port_row_exact p q h =
     let b = and_parts _ _ a.1 in
     let c = and_parts _ _ b.1 in
     let made : List ℕ → ℕ → ℕ → Bool → PortRow = λ l s m u. record { lanes = l; speed = s; mtu = m; up = u } in
-    ap₂ (λ l s. made l s p.mtu p.up) (numbers_exact p.lanes q.lanes a.0) (eqb-true p.speed q.speed b.0) ∙ ap₂ (λ m u. made q.lanes q.speed m u) (eqb-true p.mtu q.mtu c.0) ((booleans_Decides p.up q.up).0 c.1)
+    ap₂ (λ l s. made l s p.mtu p.up) (lanes_exact p.lanes q.lanes a.0) (eqb-true p.speed q.speed b.0) ∙ ap₂ (λ m u. made q.lanes q.speed m u) (eqb-true p.mtu q.mtu c.0) ((booleans_Decides p.up q.up).0 c.1)
 
 pub row_exact : (a b : Row) → row_eq.ghosts.eq a b ≡ true → a ≡ b
 row_exact (row.Port p) (row.Port q) h = ap row.Port (port_row_exact p q h)

@@ -225,7 +225,3 @@ turn_fewer keys left c s d chip' y apart =
       | inl less ↦ omega (arith, long, less)
       | inr same ↦ absurd (apart (long ∙ same.0))
     ]
-
-pub empty_of_length : (ks : List Key) → length ks ≡ 0 → ks ≡ []
-empty_of_length [] h = refl
-empty_of_length (k ∷ ks) h = absurd (omega (arith, h))

@@ -1,14 +1,13 @@
 -- the walk of a worker over the keys to sync, up to the first that can begin
 use Rattle.std.proofs.Common.{◌≡◌, ◌⊎◌, ◌∙◌, inl, inr, ℕ, true, false, [], Option, Some, None, Result, Ok, Err, Ordering, refl, sym, ap, subst}
 use Rattle.std.specs.Map.{keys_of}
-use Rattle.std.specs.Ordering.{is_lt, ordering_reverse}
+use Rattle.std.specs.Ordering.{is_lt}
 use Rattle.std.specs.Result.{IsErr}
 use Rattle.std.specs.declared.cmp.Ordering.TheVariants.{Less, Equal, Greater}
 use Rattle.std.proofs.lemmas.Bool.{false≢true}
 use Rattle.swss_types.specs.declared.out_of_memory.OutOfMemory.{OutOfMemory}
 use Rattle.table_schema.specs.Key.{key_cmp}
 use Rattle.table_schema.specs.declared.key.Key.{Key}
-use Rattle.table_schema.proofs.Keys.{key_total}
 use Rattle.sai_types.specs.Alike.{IsIn}
 use Rattle.sai_types.specs.ChipState.{ChipState}
 use Rattle.switch_model.specs.declared.wait.Wait.{Wait}
@@ -16,6 +15,7 @@ use Rattle.switch_machine.specs.Events.{IsBegin, IsDrop}
 use Rattle.switch_machine.specs.Next.{AreHindered, Answering, Beginning, Dropping, MustWait, Popping}
 use Rattle.switch_machine.specs.Reasons.{IsReason}
 use Rattle.restart_laws.specs.Logged.{IsLoggedStep, LoggedService}
+use Rattle.restart_laws.proofs.Order.{not-both, not-self}
 use Rattle.sync_tables.specs.Tables.{IsBehind, IsNextKey, IsToSync, PopsKeys, PopsSome, TablesState}
 use Rattle.flight_board.specs.Board.{BoardState, IsSameBoard, flown_at}
 use Rattle.warm_state.specs.declared.warm.Warm.TheVariants as warm
@@ -41,14 +41,6 @@ behind_by k q Greater e = inr (λ h. false≢true (ap is_lt (sym e ∙ h)))
 pub behind_split : (after : Option Key) (q : Key) → IsBehind after q ⊎ (IsBehind after q → ⊥)
 behind_split None q = inl tt
 behind_split (Some k) q = behind_by k q (key_cmp k q) refl
-
--- no two keys stand before each other
-never_both_less : (q k : Key) → key_cmp q k ≡ Less → key_cmp k q ≡ Less → ⊥
-never_both_less q k less back = false≢true (ap is_lt (ap ordering_reverse (sym back) ∙ sym (key_total.antisymm q k) ∙ less))
-
--- no key stands before itself
-not_itself : (q k : Key) → key_cmp q k ≡ Less → q ≡ k → ⊥
-not_itself q k less same = never_both_less q k less (subst (λ x. key_cmp k x ≡ Less) (sym same) (subst (λ x. key_cmp x k ≡ Less) same less))
 
 -- ---- the same core
 
@@ -116,7 +108,7 @@ module _ (c c' : CoreState) (after : Option Key) (walked : IsWalkedTo c after c'
 
   -- each key before this one has a reason to wait
   hindered : (s : LoggedService) (chip : ChipState) → IsSessionOf c chip s → AreHindered c.board.plan 4 c.sync.capacities s.service.core k
-  hindered s chip is q i less = let j = same_keys c chip s is q i in (walked.1 s chip is).1 q j (λ behind. elim (first q j behind) [ inl same ↦ not_itself q k less same | inr back ↦ never_both_less q k less back ])
+  hindered s chip is q i less = let j = same_keys c chip s is q i in (walked.1 s chip is).1 q j (λ behind. elim (first q j behind) [ inl same ↦ not-self q k less same | inr back ↦ not-both q k less back ])
 
   module _ (w : ℕ) (at : c.warm ≡ warm.Reconciled) (none : flown_at c.board w ≡ None) (empty : c.tables.waiting ≡ []) (s : LoggedService) (chip : ChipState) (is : IsSessionOf c chip s) (d : CoreState) where
     pub walk_drops : DropsTo s k c' d chip → StepsTo s w c chip (Ok step.Did) d chip

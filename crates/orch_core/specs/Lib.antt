@@ -2,3 +2,5 @@ pub mod Outcomes
 pub mod Taking
 pub mod Marked
 pub mod Settled
+pub mod Restarting
+pub mod ComingBack

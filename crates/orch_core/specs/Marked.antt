@@ -1,11 +1,11 @@
 -- The mark at the end of a settling, and what it lists. Own.
-use Rattle.std.specs.Prelude.{◌≡◌, ◌+◌, ℕ, List, [], ◌∷◌, length, Option, Some, Result, Ok, Err}
+use Rattle.std.specs.Prelude.{◌≡◌, ◌+◌, ℕ, List, [], ◌∷◌, length, Option, None, Some, Result, Ok, Err}
 use Rattle.std.specs.Map.{keys_of}
 use Rattle.swss_types.specs.declared.out_of_memory.OutOfMemory.{OutOfMemory}
 use Rattle.table_schema.specs.declared.key.Key.{Key}
 use Rattle.table_schema.specs.declared.row.Row.{Row}
 use Rattle.consumer_table.specs.Ops.{AreOpsInOrder}
-use Rattle.retry_list.specs.Reasons.{reason_at}
+use Rattle.retry_list.specs.Reasons.{Reasons, reason_at}
 use Rattle.switch_model.specs.History.{History, with_end, with_mark}
 use Rattle.switch_model.specs.Marks.{Waiting}
 use Rattle.switch_model.specs.declared.mark.Mark.{Mark}
@@ -25,6 +25,10 @@ abbrev pub AreListedFrom : CoreState → List Key → Waiting → Type 0
 AreListedFrom c [] [] = Unit {0}
 AreListedFrom c (k ∷ ks) (w ∷ ws) = IsListedAs c k w × AreListedFrom c ks ws
 AreListedFrom c _ _ = ⊥
+
+-- a key is listed with its reason and no row
+abbrev pub IsBareWait : Reasons → Key → Key × Wait × Option Row → Type 0
+IsBareWait reasons k w = (w.0 ≡ k) × (reason_at reasons k ≡ Some w.1) × (w.2 ≡ None)
 
 -- the last mark of the log is that of a settling at which the last round ended, and lists the keys that are to sync
 pub record ListsWhatWaits (c : CoreState) : Type 0 where

@@ -6,6 +6,7 @@ use Rattle.sai_types.specs.ChipState.{ChipState}
 use Rattle.restart_laws.specs.Logged.{LoggedService}
 use Rattle.session_laws.specs.Core.{CoreState, IsFullFor, with_taken}
 use Rattle.session_laws.specs.Events.{MakesOne}
+use Rattle.restart_session_laws.specs.Events.{MakesNext}
 use Rattle.orch_core.specs.declared.answer.TakeFault.{TakeFault}
 use Rattle.orch_core.specs.declared.answer.TakeFault.TheVariants as fault
 
@@ -18,3 +19,8 @@ Takes c sent effects (Err (fault.LogFull back)) c' = (c' ≡ c) × (back ≡ sen
 abbrev pub TakesStep : LoggedService → CoreState → ChipState → Result (Result (Unit {0}) TakeFault) OutOfMemory → CoreState → Type 0
 TakesStep s c chip (Ok (Ok _)) c' = MakesOne c s c' chip
 TakesStep s c chip _ c' = c' ≡ c
+
+-- and one of the service's, in any warm state
+abbrev pub TakesNext : LoggedService → CoreState → ChipState → Result (Result (Unit {0}) TakeFault) OutOfMemory → CoreState → Type 0
+TakesNext s c chip (Ok (Ok _)) c' = MakesNext c s c' chip
+TakesNext s c chip _ c' = c' ≡ c

@@ -34,6 +34,10 @@ pub enum TakeFault {
     LogFull(Sent),
 }
 
+/// The log has no place for the mark of a restart.
+#[derive(Clone, Copy, Debug, PartialEq, Eq)]
+pub struct LogFull;
+
 /// How far what is under way, a key or a turn was run.
 #[derive(Clone, Copy, Debug, PartialEq, Eq)]
 pub(crate) enum Ran {

@@ -105,7 +105,7 @@ impl Core {
     }
 
     /// Nothing is done from now on, until a restart.
-    fn suspect(&mut self)
+    pub(crate) fn suspect(&mut self)
         ensures { self.new ≡ record self.old { warm = warm.Suspect } }
     {
         self.state = Warm::Suspect;

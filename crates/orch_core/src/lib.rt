@@ -3,10 +3,17 @@
 
 mod answer;
 mod answering;
+mod applying;
+mod coming_back;
+mod going_over;
 mod listing;
+mod listing_the_chip;
 mod logging;
 mod marking;
 mod parts;
+mod restart_parts;
+mod restarting;
+mod restoring;
 mod running;
 mod settling;
 mod state;
@@ -15,5 +22,5 @@ mod taking;
 mod trying;
 mod turning;
 
-pub use answer::{Settled, Step, TakeFault};
+pub use answer::{LogFull, Settled, Step, TakeFault};
 pub use state::Core;

@@ -4,7 +4,8 @@ ghost use Rattle.std.specs.Map.{keys_of};
 ghost use Rattle.table_schema.specs.declared.key.Key.{Key};
 ghost use Rattle.sai_types.specs.Alike.{IsIn};
 ghost use Rattle.retry_list.specs.Reasons.{reason_at};
-ghost use Rattle.orch_core.specs.Marked.{AreListedFrom, IsListedAs};
+ghost use Rattle.restart_session_laws.specs.Built.{AreBareWaits};
+ghost use Rattle.orch_core.specs.Marked.{AreListedFrom, IsBareWait, IsListedAs};
 
 use crate::Core;
 use crate::parts::is_same;
@@ -84,6 +85,31 @@ impl Core {
             after = Some(key);
         }
         Waits::from_vec(waits)
+    }
+
+    /// The keys to sync, each with its reason and no row: what the mark of a restore lists.
+    pub(crate) fn bare_list(&self) -> Result<Waits, OutOfMemory>
+        requires listed { (k : Key) → IsIn k (keys_of self.now.tables.ops) → IsSome (reason_at self.now.waiting k) }
+        ensures { IfOk result (λ waits. AreBareWaits self.now.waiting (keys_of self.now.tables.ops) waits) }
+    {
+        let mut waits = Vec::with_capacity(self.alloc, self.count())?;
+        let mut after: Option<&Key> = None;
+        while let Some(key) = self.next_key(after) {
+            waits.push(self.bare_listing(key)?)?;
+            after = Some(key);
+        }
+        Waits::from_vec(waits)
+    }
+
+    /// A key that waits, with its reason and no row.
+    fn bare_listing(&self, key: &Key) -> Result<(Key, Wait, Option<Row>), OutOfMemory>
+        requires listed { IsSome (reason_at self.now.waiting key.now) }
+        ensures { IfOk result (λ listed. IsBareWait self.now.waiting key.now listed) }
+    {
+        let Some(wait) = self.waiting.reason(key) else {
+            unreachable!()
+        };
+        Ok((key.copy()?, wait.copy()?, None))
     }
 
     /// A key that waits, with its reason and its applied row.

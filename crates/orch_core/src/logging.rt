@@ -1,6 +1,6 @@
 // Places in the log, and marks.
 ghost use Rattle.std.specs.Prelude.{◌≡◌, ◌↔◌, ◌<◌, ◌+◌, ◌^◌, length, IsTrue, IfOk, OnOk, OnErr};
-ghost use Rattle.switch_model.specs.History.{no_history};
+ghost use Rattle.switch_model.specs.History.{no_history, with_mark};
 ghost use Rattle.session_laws.specs.Core.{IsFullFor, mark_at};
 ghost use Rattle.orch_core.specs.Marked.{with_settled};
 ghost use Rattle.orch_core.specs.Outcomes.{with_fault};
@@ -54,6 +54,15 @@ impl Core {
         ensures { self.new ≡ record self.old { log = log } }
     {
         self.log = log;
+    }
+
+    /// Marks what happened, where the mark lists no key.
+    pub(crate) fn mark(&mut self, effects: u64, event: MarkEvent) -> Result<(), OutOfMemory>
+        ensures ok { OnOk result (self.new ≡ record self.old { log = with_mark self.old.log (mark_at self.old effects event) }) }
+        ensures err { OnErr result (self.new ≡ self.old) }
+    {
+        let mark = self.mark_of(effects, event);
+        self.log.mark(mark)
     }
 
     /// Marks the end of a settling: `count` keys are listed.

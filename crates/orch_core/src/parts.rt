@@ -145,7 +145,7 @@ impl Core {
     }
 
     /// Whether no write waits in the tables. Those that wait are in order.
-    pub(crate) fn is_popped(&self) -> bool
+    pub fn is_popped(&self) -> bool
         ensures popped { IsTrue result ↔ (self.now.tables.waiting ≡ []) }
         ensures order { AreInOrder self.now.tables.waiting }
     {

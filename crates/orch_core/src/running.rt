@@ -4,6 +4,7 @@ ghost use Rattle.restart_laws.specs.Logged.{LoggedService};
 ghost use Rattle.warm_state.specs.declared.warm.Warm.TheVariants as warm;
 ghost use Rattle.session_laws.specs.Standing.{IsSessionOf};
 ghost use Rattle.orch_core.specs.Outcomes.{IsInSession};
+ghost use Rattle.orch_core.specs.Restarting.{PopsBare};
 ghost use Rattle.orch_core.specs.Settled.{Pops, RunsAll, RunsOut};
 
 use crate::answer::Ran;
@@ -46,8 +47,8 @@ impl Core {
 
     /// Pops all that waits in the tables.
     pub(crate) fn pop_all(&mut self) -> Result<(), OutOfMemory>
-        requires warm { self.old.warm ≡ warm.Reconciled }
-        ensures { Pops self.old result self.new }
+        ensures pops { self.old.warm ≡ warm.Reconciled → Pops self.old result self.new }
+        ensures restored { self.old.warm ≡ warm.Restored → PopsBare self.old result self.new }
     {
         while !self.is_popped() {
             self.pop()?;

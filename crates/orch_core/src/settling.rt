@@ -4,7 +4,10 @@ ghost use Rattle.restart_laws.specs.Logged.{LoggedService};
 ghost use Rattle.warm_state.specs.declared.warm.Warm.TheVariants as warm;
 ghost use Rattle.session_laws.specs.Standing.{IsSessionOf};
 ghost use Rattle.settling_laws.specs.Turning.{IsAtRest};
+ghost use Rattle.restart_session_laws.specs.Standing.{IsServiceOf};
+ghost use Rattle.orch_core.specs.ComingBack.{SettlesFrom};
 ghost use Rattle.orch_core.specs.Outcomes.{IsInSession};
+ghost use Rattle.orch_core.specs.Restarting.{IsInService};
 ghost use Rattle.orch_core.specs.Settled.{Settles, SettlesKeys};
 
 use crate::answer::{Ran, Turned};
@@ -13,9 +16,22 @@ use sai_types::Chip;
 use swss_types::OutOfMemory;
 
 impl Core {
-    /// Runs what workers left, pops all that waits, makes turns until no key is left to sync or a turn took none away, and marks
-    /// that with the keys that wait. The core is not suspect.
+    /// Restarts where the core is suspect, and lists, restores and applies where a restart is unfinished; then runs what workers left,
+    /// pops all that waits, makes turns until no key is left to sync or a turn took none away, and marks that with the keys that
+    /// wait.
     pub fn settle<C: Chip>(&mut self, chip: &mut C) -> Result<Settled, OutOfMemory>
+        requires service { IsInService self.old (C.state chip.old) }
+        ensures { (s : LoggedService) → IsServiceOf self.old (C.state chip.old) s → SettlesFrom s self.old (C.state chip.old) result self.new (C.state chip.new) }
+    {
+        match self.come_back(chip)? {
+            Ran::Whole => self.settle_reconciled(chip),
+            Ran::Faulted => Ok(Settled::Faulted),
+            Ran::LogFull => Ok(Settled::LogFull),
+        }
+    }
+
+    /// Settles a core that is reconciled.
+    fn settle_reconciled<C: Chip>(&mut self, chip: &mut C) -> Result<Settled, OutOfMemory>
         requires session { IsInSession self.old (C.state chip.old) }
         requires warm { self.old.warm ≡ warm.Reconciled }
         ensures { (s : LoggedService) → IsSessionOf self.old (C.state chip.old) s → Settles s self.old (C.state chip.old) result self.new (C.state chip.new) }

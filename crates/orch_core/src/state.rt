@@ -21,6 +21,8 @@ use warm_state::Warm;
 #[derive(Drop)]
 pub struct Core {
     pub(crate) alloc: Global,
+    // how many objects of each kind the chip has room for, which a restart has to know again
+    pub(crate) caps: Caps,
     pub(crate) tables: Tables,
     pub(crate) board: Board,
     pub(crate) syncd: Syncd,
@@ -33,11 +35,14 @@ pub struct Core {
 }
 
 impl Model for Core {
+    ghost use Rattle.std.specs.Prelude.{◌≡◌};
     ghost use Rattle.session_laws.specs.Core.{CoreState};
 
     ghost Value = { CoreState };
 
     ghost view = { λ c. record { tables = c.tables; board = c.board; sync = c.syncd; waiting = c.waiting; log = c.log; listed = c.listed; limit = c.limit; warm = c.state } };
+
+    ghost invariant = { λ c. c.caps.0 ≡ c.syncd.capacities };
 }
 
 impl Core {
@@ -47,6 +52,7 @@ impl Core {
     {
         Core {
             alloc,
+            caps,
             tables: Tables::new(alloc),
             board: Board::new(alloc, plan, caps),
             syncd: Syncd::new(alloc, caps),

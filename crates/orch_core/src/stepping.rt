@@ -1,11 +1,13 @@
 // One event.
-ghost use Rattle.std.specs.Prelude.{◌≡◌, ◌<◌, ◌⊎◌, [], None};
+ghost use Rattle.std.specs.Prelude.{◌≡◌, ◌<◌, [], None};
 ghost use Rattle.restart_laws.specs.Logged.{LoggedService};
 ghost use Rattle.flight_board.specs.Board.{flown_at};
 ghost use Rattle.warm_state.specs.declared.warm.Warm.TheVariants as warm;
 ghost use Rattle.session_laws.specs.Standing.{IsSessionOf};
 ghost use Rattle.sai_types.specs.ChipState.{ChipState};
+ghost use Rattle.restart_session_laws.specs.Standing.{IsServiceOf};
 ghost use Rattle.orch_core.specs.Outcomes.{IsInSession, StepsTo};
+ghost use Rattle.orch_core.specs.Restarting.{IsInService, StepsFrom};
 
 use crate::{Core, Step};
 use sai_types::Chip;
@@ -15,17 +17,30 @@ use table_schema::Key;
 use warm_state::Warm;
 
 impl Core {
-    /// Makes the first event that applies to the worker: the call that is due for it; a pop, where a write waits; or the beginning
-    /// of the first key to sync that has no reason to wait.
+    /// Makes the first event that applies to the worker: where a restart is unfinished the list of the chip, the restore, or the next
+    /// call of the apply; else the call that is due for it; a pop, where a write waits; or the beginning of the first key to sync
+    /// that has no reason to wait. While the core is suspect no event is made.
     pub fn step<C: Chip>(&mut self, chip: &mut C, worker: u32) -> Result<Step, OutOfMemory>
         requires worker { worker < 4 }
+        requires service { IsInService self.old (C.state chip.old) }
+        ensures { (s : LoggedService) → IsServiceOf self.old (C.state chip.old) s → StepsFrom self.old.warm worker s self.old (C.state chip.old) result self.new (C.state chip.new) }
+    {
+        match self.state() {
+            Warm::Initialized => self.list(chip, false),
+            Warm::Restored => self.restore(chip),
+            Warm::Applying => self.apply(chip, false),
+            Warm::Reconciled => self.work(chip, worker),
+            Warm::Suspect => Ok(Step::Suspect),
+        }
+    }
+
+    /// Makes the first event that applies to the worker of a core that is reconciled.
+    fn work<C: Chip>(&mut self, chip: &mut C, worker: u32) -> Result<Step, OutOfMemory>
+        requires worker { worker < 4 }
         requires session { IsInSession self.old (C.state chip.old) }
-        requires warm { (self.old.warm ≡ warm.Reconciled) ⊎ (self.old.warm ≡ warm.Suspect) }
+        requires warm { self.old.warm ≡ warm.Reconciled }
         ensures { (s : LoggedService) → IsSessionOf self.old (C.state chip.old) s → StepsTo s worker self.old (C.state chip.old) result self.new (C.state chip.new) }
     {
-        if self.state() == Warm::Suspect {
-            return Ok(Step::Suspect);
-        }
         if self.is_flying(worker) {
             return self.answer(chip, worker, false);
         }

@@ -9,7 +9,8 @@ ghost use Rattle.switch_model.specs.Marks.{written_key};
 ghost use Rattle.machine_laws.specs.Reading.{IsOnSwitch};
 ghost use Rattle.restart_laws.specs.Logged.{LoggedService};
 ghost use Rattle.session_laws.specs.Standing.{IsSessionOf};
-ghost use Rattle.orch_core.specs.Taking.{Takes, TakesStep};
+ghost use Rattle.restart_session_laws.specs.Standing.{IsServiceOf};
+ghost use Rattle.orch_core.specs.Taking.{Takes, TakesNext, TakesStep};
 
 use crate::{Core, TakeFault};
 use swss_types::OutOfMemory;
@@ -22,6 +23,7 @@ impl Core {
         ensures ok { IfOk result (λ taken. Takes self.old sent effects taken self.new) }
         ensures err { OnErr result (self.new ≡ self.old) }
         ensures steps { (chip : ChipState) (s : LoggedService) → IsSessionOf self.old chip s → IsOnSwitch (written_key sent.write) → TakesStep s self.old chip result self.new }
+        ensures serves { (chip : ChipState) (s : LoggedService) → IsServiceOf self.old chip s → IsOnSwitch (written_key sent.write) → TakesNext s self.old chip result self.new }
     {
         if self.is_full(effects, 1) {
             return Ok(Err(TakeFault::LogFull(sent)));

@@ -1,5 +1,5 @@
 -- what is due in a session, and what its mark would say
-use Rattle.std.proofs.Common.{◌≡◌, ◌<◌, ◌≤◌, ◌∷◌, ◌++◌, ◌∙◌, inl, inr, ℕ, List, [], length, map, Option, None, Some, IsSome, refl, sym, ap, subst, arith}
+use Rattle.std.proofs.Common.{◌≡◌, ◌⊎◌, ◌<◌, ◌≤◌, ◌∷◌, ◌++◌, ◌∙◌, inl, inr, ℕ, List, [], length, map, Option, None, Some, IsSome, refl, sym, ap, subst, arith}
 use Rattle.std.specs.List.Sorted.{IsStrictlySortedBy}
 use Rattle.std.specs.Map.{keys_of}
 use Rattle.std.proofs.lemmas.List.{length-map}
@@ -8,6 +8,7 @@ use Rattle.table_schema.specs.Plan.{IsPlan, Ports}
 use Rattle.table_schema.specs.declared.key.Key.{Key}
 use Rattle.sai_types.specs.declared.ids.Rid.{Rid}
 use Rattle.sai_types.specs.declared.body.Call.{Call}
+use Rattle.sai_types.specs.declared.plan.PlanCall.{PlanCall}
 use Rattle.sai_types.specs.After.{chip_after}
 use Rattle.sai_types.specs.Alike.{IsIn}
 use Rattle.sai_types.specs.ChipState.{ChipState}
@@ -26,27 +27,31 @@ use Rattle.machine_laws.specs.Logged.{AreListed, ListsKey, LogsMark}
 use Rattle.machine_laws.proofs.Staying.{chip_after-all}
 use Rattle.core_laws.proofs.Resting.{none_flies}
 use Rattle.registry_laws.specs.Flown.{Flown, flight_of}
+use Rattle.syncd_core.specs.Run.{tied_calls}
 use Rattle.restart_laws.specs.Logged.{LoggedService, OfMachine, last_mark, mark_now, switch_of}
-use Rattle.restart_laws.specs.Service.{OfFlight}
+use Rattle.restart_laws.specs.Service.{OfFlight, OfPlan}
 use Rattle.restart_laws.proofs.Holding.{due-legal}
 use Rattle.restart_laws.proofs.Logged.{told-step}
 use Rattle.sync_tables.specs.Tables.{IsToSync}
 use Rattle.flight_board.specs.Board.{flown_at}
 use Rattle.warm_state.specs.declared.warm.Warm.TheVariants as warm
+use Rattle.retry_list.proofs.Keyed.{sorted_from_rising}
 use Rattle.session_laws.specs.Core.{CoreState}
 use Rattle.session_laws.specs.Events.{HaveReasons}
-use Rattle.session_laws.specs.Standing.{IsWorking}
+use Rattle.session_laws.specs.Standing.{IsSessionOf, IsWorking}
 use Rattle.session_laws.proofs.Marking.{popped}
 use Rattle.session_laws.proofs.Seeing.{keys_same, same_keys}
+use Rattle.restart_session_laws.specs.Standing.{IsApplyingCore}
+use Rattle.restart_session_laws.proofs.Sessions.{session-of}
 use Rattle.round_laws.specs.Awaited.{AwaitsCall, AwaitsMark, HasRecorded}
 use Rattle.round_laws.specs.Named.{keys_named}
 use Rattle.round_laws.specs.Sessions.{HasComeAbout, InSession}
-use Rattle.round_laws.proofs.Named.{few-among, named-sorted, rising-sorted}
+use Rattle.round_laws.proofs.Named.{few-among, named-sorted}
 use Rattle.round_laws.proofs.Sessions.{told}
 use Rattle.round_laws.proofs.ToSync.{came-synced, keys-named, not_suspect}
 
 recorded : (c : CoreState) (chip : ChipState) (x : InSession c chip) → HasRecorded c.board.plan c.sync.capacities c.log chip.effects x.session
-recorded c chip x = record { came = x.came; log_is = x.stands.log; effects_are = x.stands.effects }
+recorded c chip x = record { came = x.came; log_is = x.stands.always.log; effects_are = x.stands.always.effects }
 
 -- ---- a call
 
@@ -55,7 +60,7 @@ module _ (c : CoreState) (chip : ChipState) (x : InSession c chip) (at : c.warm 
   core = x.session.service.core
 
   abbrev its : IsWorking c chip core
-  its = x.stands.working at
+  its = (x.stands.working at).1
 
   -- a worker that has something under way has a call that is due
   due_for : (w : ℕ) (f : Flown) → w < 4 → flown_at c.board w ≡ Some f → (call : Call Rid) × IsDueCall 4 call core
@@ -66,14 +71,27 @@ module _ (c : CoreState) (chip : ChipState) (x : InSession c chip) (at : c.warm 
 
       by : (due : List Change) → core.machine.due w ≡ due → (call : Call Rid) × IsDueCall 4 call core
       by [] e = absurd (its.stands.board.busy w (flight_of f.operation) flying e)
-      by (d ∷ ds) e = has-call c.board.plan x.stands.plan 4 c.sync.capacities core its.stands.safe w (flight_of f.operation) d ds below flying e
+      by (d ∷ ds) e = has-call c.board.plan x.stands.always.plan 4 c.sync.capacities core its.stands.safe w (flight_of f.operation) d ds below flying e
 
   pub call-awaited : (w : ℕ) → w < 4 → IsSome (flown_at c.board w) → AwaitsCall c.board.plan c.sync.capacities c.log chip.effects
   call-awaited w below some = by (flown_at c.board w) refl some
     where
       by : (o : Option Flown) → flown_at c.board w ≡ o → IsSome o → AwaitsCall c.board.plan c.sync.capacities c.log chip.effects
       by None e h = absurd cc
-      by (Some f) e h = let y = due_for w f below e in record { session = x.session; recorded = recorded c chip x; call = y.0; due = OfFlight (x.stands.warm_is ∙ at) y.1 }
+      by (Some f) e h = let y = due_for w f below e in record { session = x.session; recorded = recorded c chip x; call = y.0; due = OfFlight (x.stands.always.warm_is ∙ at) y.1 }
+
+-- the next call of a plan is due
+module _ (c : CoreState) (chip : ChipState) (x : InSession c chip) (at : c.warm ≡ warm.Applying) where
+  applies : IsApplyingCore c x.session.service
+  applies = (x.stands.applying at).1
+
+  pub apply-awaited : (next : PlanCall) (rest : List PlanCall) → c.sync.left ≡ next ∷ rest → AwaitsCall c.board.plan c.sync.capacities c.log chip.effects
+  apply-awaited next rest left = record {
+    session = x.session;
+    recorded = recorded c chip x;
+    call = _;
+    due = OfPlan _ (x.stands.always.warm_is ∙ at) (applies.underway.left_are ∙ ap (tied_calls x.session.service.core.made c.sync.view) left);
+  }
 
 pub awaited-legal : (plan : Ports) (capacities : List ℕ) (log : History) (effects : List (Call Rid)) → IsPlan plan → (x : AwaitsCall plan capacities log effects) → IsLegal capacities (chip_after effects (length effects)) x.call
 awaited-legal plan capacities log effects is x =
@@ -85,7 +103,10 @@ awaited-legal plan capacities log effects is x =
 
 module _ (c : CoreState) (chip : ChipState) (x : InSession c chip) (at : c.warm ≡ warm.Reconciled) (none : c.tables.waiting ≡ []) (rest : (v : ℕ) → v < 4 → flown_at c.board v ≡ None) where
   its_rows : IsWorking c chip x.session.service.core
-  its_rows = x.stands.working at
+  its_rows = (x.stands.working at).1
+
+  its_session : IsSessionOf c chip x.session
+  its_session = session-of c chip x.session x.stands at
 
   listing : (waits : Waiting) → HaveReasons c x.session.service.core waits → AreListed c.board.plan 4 c.sync.capacities x.session.service.core waits
   listing [] h = tt
@@ -95,12 +116,12 @@ module _ (c : CoreState) (chip : ChipState) (x : InSession c chip) (at : c.warm 
   awaits waits listed all only order = record {
     session = x.session;
     recorded = recorded c chip x;
-    warm = x.stands.warm_is ∙ at;
+    warm = x.stands.always.warm_is ∙ at;
     quiet = none_flies c.board.plan c.sync.capacities c.board.names c.board.room (flown_at c.board) x.session.service.core its_rows.stands.board rest;
-    popped = popped c chip x.session x.stands at none;
+    popped = popped c chip x.session its_session at none;
     listed = listed;
-    all = λ k i. all k (same_keys c chip x.session x.stands k i);
-    only = λ k i. keys_same c chip x.session x.stands k (only k i);
+    all = λ k i. all k (same_keys c chip x.session its_session k i);
+    only = λ k i. keys_same c chip x.session its_session k (only k i);
     in_order = order;
   }
 
@@ -141,7 +162,7 @@ keys-awaited c chip x at none rest order must =
     let y = list_of c chip x at none rest must keys (λ k i. i) in (
       y.waits,
       sym (length-map y.waits (λ w. w.0)) ∙ ap length y.keys_are ∙ length-map c.tables.ops (λ e. e.0),
-      awaits c chip x at none rest y.waits y.listed (λ k i. lists-in y.waits k (subst (IsIn k) (sym y.keys_are) i)) (λ k i. subst (IsIn k) y.keys_are (listed-in y.waits k i)) (subst (IsStrictlySortedBy key_cmp) (sym y.keys_are) (rising-sorted c.tables.ops order.keys)),
+      awaits c chip x at none rest y.waits y.listed (λ k i. lists-in y.waits k (subst (IsIn k) (sym y.keys_are) i)) (λ k i. subst (IsIn k) y.keys_are (listed-in y.waits k i)) (subst (IsStrictlySortedBy key_cmp) (sym y.keys_are) (sorted_from_rising c.tables.ops order.keys)),
     )
 
 -- the keys that such a mark lists were named
@@ -152,9 +173,9 @@ awaited-few plan capacities log effects waits is x =
     let long = length-map waits (λ w. w.0) in
     omega (arith, few, long)
 
-pub ops-few : (c : CoreState) (chip : ChipState) → InSession c chip → (c.warm ≡ warm.Suspect → ⊥) → AreOpsInOrder c.tables.ops → length c.tables.ops ≤ length (keys_named c.log.taken)
+pub ops-few : (c : CoreState) (chip : ChipState) → InSession c chip → (c.warm ≡ warm.Reconciled) ⊎ (c.warm ≡ warm.Applying) → AreOpsInOrder c.tables.ops → length c.tables.ops ≤ length (keys_named c.log.taken)
 ops-few c chip x known order =
-    let few = few-among (keys_of c.tables.ops) (keys_named c.log.taken) (rising-sorted c.tables.ops order.keys) (named-sorted c.log.taken) (keys-named c chip x known) in
+    let few = few-among (keys_of c.tables.ops) (keys_named c.log.taken) (sorted_from_rising c.tables.ops order.keys) (named-sorted c.log.taken) (keys-named c chip x known) in
     let long = length-map c.tables.ops (λ e. e.0) in
     omega (arith, few, long)
 

@@ -1,7 +1,7 @@
 -- a settling ends between rounds, and a round begins there
 use Rattle.std.proofs.Common.{◌≡◌, ◌⊎◌, ◌∷◌, ◌++◌, ◌∙◌, inl, inr, true, ℕ, List, [], length, None, Some, refl, sym, ap, subst}
 use Rattle.std.proofs.lemmas.List.{append-nil, append_assoc}
-use Rattle.std.proofs.lemmas.Option.{same_Some}
+use Rattle.std.proofs.lemmas.Option.{none-some, same_Some}
 use Rattle.table_schema.specs.Plan.{IsPlan, Ports}
 use Rattle.table_schema.specs.Rows.{rows_of}
 use Rattle.table_schema.specs.declared.key.Key.{Key}
@@ -30,22 +30,19 @@ use Rattle.sync_tables.proofs.Waits.{takes_write}
 use Rattle.flight_board.specs.Applied.{row_at}
 use Rattle.session_laws.specs.Core.{CoreState, new_core, with_taken}
 use Rattle.session_laws.proofs.Seeing.{keys_same, same_keys}
-use Rattle.session_laws.proofs.Writing.{write_step}
 use Rattle.session_laws.proofs.Beginning.{none_flown}
 use Rattle.settling_laws.specs.Leading.{SettlesTo}
+use Rattle.restart_session_laws.proofs.Taking.{taken-next}
 use Rattle.round_laws.specs.Between.{IsBetweenRounds, IsInRound, mark_of}
 use Rattle.round_laws.specs.Ended.{LeavesSettled, applied_since, waits_since}
 use Rattle.round_laws.specs.Named.{keys_named}
 use Rattle.round_laws.specs.Sessions.{InSession}
 use Rattle.round_laws.proofs.Named.{in_put-or_there, named-back, named-front, named-last}
-use Rattle.round_laws.proofs.Resting.{all-good, core-good, core-popped, core-quiet, core-safe, listed-reason, listed-rows, waits-synced}
-use Rattle.round_laws.proofs.Sessions.{begins-session, in_later, one-on}
+use Rattle.round_laws.proofs.Resting.{all-good, core-good, core-popped, core-quiet, core-safe, core-written, listed-reason, listed-rows, waits-synced}
+use Rattle.round_laws.proofs.Sessions.{begins-session, in_later, leads-stand, one-on}
 use Rattle.round_laws.proofs.Writes.{beside-write, write-beside, write-waits}
 
 -- ---- the first round
-
-no_mark : (mark : Mark) → None ≡ Some mark → ⊥
-no_mark mark e = cc
 
 pub between-first : (plan : Ports) (capacities : List ℕ) (limit : ℕ) (chip : ChipState) → IsPlan plan → chip.objects ≡ [] → chip.effects ≡ [] → chip.clean ≡ true → chip.capacities ≡ capacities → IsBetweenRounds (new_core plan capacities limit) chip
 between-first plan capacities limit chip is objects effects clean room = record {
@@ -53,8 +50,8 @@ between-first plan capacities limit chip is objects effects clean room = record 
   rest = record { free = λ v below. none_flown plan capacities v; popped = refl; warm = refl };
   settled = tt;
   first = λ e. (refl, effects);
-  taken = λ mark e. absurd (no_mark mark e);
-  effects = λ mark e. absurd (no_mark mark e);
+  taken = λ mark e. absurd (none-some mark e);
+  effects = λ mark e. absurd (none-some mark e);
   applied = λ k. refl;
   to_sync = λ k i. absurd i;
   listed = λ k i. absurd i;
@@ -73,7 +70,7 @@ round-begins c chip x = record {
   ops = refl;
   order = subst AreInOrder (sym x.rest.popped) (record { keys = tt; names = tt });
   named = λ k i. absurd i;
-  unnamed = λ k none o. subst (λ w. HasNoWrite w k) x.within.stands.written (λ o. no_write k o) o;
+  unnamed = λ k none o. subst (λ w. HasNoWrite w k) (core-written c chip x.within x.rest.warm x.rest.free) (λ o. no_write k o) o;
 }
   where
     no_write : (k : Key) → HasNoWrite x.within.session.service.core.written k
@@ -113,7 +110,7 @@ module _ (old c : CoreState) (chip : ChipState) (sent : List Sent) (next : Sent)
   pub round-takes : IsInRound old chip (sent ++ next ∷ []) (with_taken c next)
   round-takes = record {
     began = x.began;
-    within = (one-on c (with_taken c next) chip chip x.within (write_step c chip x.within.session next x.within.stands on x.order)).0;
+    within = (one-on c (with_taken c next) chip chip x.within (taken-next c chip x.within.session next x.within.stands on x.order)).0;
     log = ap (λ h. with_write h next) x.log ∙ ap (λ ts. record { taken = ts; marks = old.log.marks; ends = old.log.ends }) (append_assoc old.log.taken sent (next ∷ []));
     board = x.board;
     sync = x.sync;
@@ -127,9 +124,6 @@ module _ (old c : CoreState) (chip : ChipState) (sent : List Sent) (next : Sent)
 -- ---- a settling ends between rounds
 
 module _ (c c' : CoreState) (chip chip' : ChipState) (x : InSession c chip) (y : SettlesTo c x.session c' chip') where
-  abbrev pub later-in : InSession c' chip'
-  later-in = in_later c c' chip chip' x y.later y.leads.steps y.leads.are y.leads.is y.leads.stands y.leads.plan y.leads.capacities
-
   abbrev t : SwitchState
   t = y.later.service.core
 
@@ -137,16 +131,19 @@ module _ (c c' : CoreState) (chip chip' : ChipState) (x : InSession c chip) (y :
   its-mark = record { taken = length x.session.log.taken; effects = length y.later.effects; event = event.Settled y.settling.waits y.settling.turns }
 
   pub its-log : c'.log ≡ with_end (with_mark c.log its-mark)
-  its-log = sym y.leads.stands.log ∙ y.settling.log ∙ ap (λ h. with_end (with_mark h its-mark)) x.stands.log
+  its-log = sym y.leads.stands.log ∙ y.settling.log ∙ ap (λ h. with_end (with_mark h its-mark)) x.stands.always.log
 
   last : mark_of c' ≡ Some its-mark
   last = ap (λ (h : History). last_mark None h.marks) its-log ∙ last-more None c.log.marks its-mark
 
-  same_taken : c'.log.taken ≡ c.log.taken
+  pub same_taken : c'.log.taken ≡ c.log.taken
   same_taken = ap (λ (h : History). h.taken) its-log
 
+  abbrev pub later-in : InSession c' chip'
+  later-in = in_later c c' chip chip' x y.later y.leads.steps y.leads.are y.leads.is (leads-stand c c' chip chip' x same_taken (inl y.warm) y.later y.leads) y.leads.plan y.leads.capacities
+
   counts : its-mark.taken ≡ length c'.log.taken
-  counts = ap (λ (h : History). length h.taken) x.stands.log ∙ ap length (sym same_taken)
+  counts = ap (λ (h : History). length h.taken) x.stands.always.log ∙ ap length (sym same_taken)
 
   by_last : (P : Mark → Type 0) → P its-mark → (mark : Mark) → mark_of c' ≡ Some mark → P mark
   by_last P h mark e = subst P (same_Some its-mark mark (sym last ∙ e)) h
@@ -165,7 +162,7 @@ module _ (c c' : CoreState) (chip chip' : ChipState) (x : InSession c chip) (y :
 
   pub its-rows : (k : Key) → applied_rows y.settling.waits its_good k ≡ t.machine.board.applied k
   its-rows k = listed-rows c'.board.plan c'.sync.capacities t its_good y.settling.waits k its-listed (λ none.
-      good-quiet c'.board.plan later-in.stands.plan 4 c'.sync.capacities t (core-safe c' chip' later-in y.warm y.free) (core-quiet c' chip' later-in y.warm y.free) k (λ i. none (synced_listed k i))
+      good-quiet c'.board.plan later-in.stands.always.plan 4 c'.sync.capacities t (core-safe c' chip' later-in y.warm y.free) (core-quiet c' chip' later-in y.warm y.free) k (λ i. none (synced_listed k i))
       ∙ core-good c' chip' later-in y.warm y.free y.popped k
       ∙ good_is k)
 
@@ -174,12 +171,12 @@ module _ (c c' : CoreState) (chip chip' : ChipState) (x : InSession c chip) (y :
     within = later-in;
     rest = record { free = y.free; popped = y.popped; warm = y.warm };
     settled = subst LeavesSettled (sym last) tt;
-    first = λ e. absurd (no_mark its-mark (sym e ∙ last));
+    first = λ e. absurd (none-some its-mark (sym e ∙ last));
     taken = by_last (λ m. m.taken ≡ length c'.log.taken) counts;
     effects = by_last (λ m. m.effects ≡ length chip'.effects) (ap length y.leads.stands.effects);
     applied = λ k. subst (λ o. row_at c'.board.applied k ≡ applied_since c'.board.plan c'.log.taken o k) (sym last) (sym ((y.leads.stands.working y.warm).rows k) ∙ sym (its-rows k));
     to_sync = λ k i. subst (λ o. ListsKey k (waits_since o)) (sym last) (synced_listed k (keys_same c' chip' y.later y.leads.stands k i));
     listed = λ k i.
         let r = listed-reason c'.board.plan c'.sync.capacities t y.settling.waits k its-listed (subst (λ o. ListsKey k (waits_since o)) last i) in
-        same_keys c' chip' y.later y.leads.stands k (waits-synced c'.board.plan later-in.stands.plan c'.sync.capacities t (core-safe c' chip' later-in y.warm y.free) (core-quiet c' chip' later-in y.warm y.free) k r.0 r.1);
+        same_keys c' chip' y.later y.leads.stands k (waits-synced c'.board.plan later-in.stands.always.plan c'.sync.capacities t (core-safe c' chip' later-in y.warm y.free) (core-quiet c' chip' later-in y.warm y.free) k r.0 r.1);
   }

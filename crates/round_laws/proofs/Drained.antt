@@ -141,15 +141,15 @@ module _ (c c' : CoreState) (chip chip' : ChipState) (x : InSession c chip) (y :
   popped = after_pops from y.settling.pops
 
   from_safe : IsSafe c.board.plan 4 c.sync.capacities from
-  from_safe = answers_safe c.board.plan x.stands.plan c.sync.capacities x.session.service.core y.answers (x.stands.working at).stands.safe y.are
+  from_safe = answers_safe c.board.plan x.stands.always.plan c.sync.capacities x.session.service.core y.answers (x.stands.working at).1.stands.safe y.are
 
   popped_safe : IsSafe c.board.plan 4 c.sync.capacities popped
   popped_safe =
       let lead = pops-lead c.board.plan c.sync.capacities from y.settling.pops y.settling.are_pops in
-      subst (IsSafe c.board.plan 4 c.sync.capacities) lead.last (kept-run c.board.plan x.stands.plan 4 c.sync.capacities from lead.events from_safe lead.are)
+      subst (IsSafe c.board.plan 4 c.sync.capacities) lead.last (kept-run c.board.plan x.stands.always.plan 4 c.sync.capacities from lead.events from_safe lead.are)
 
   same_machine : popped.machine ≡ from.machine
-  same_machine = pops_machine c.board.plan x.stands.plan c.sync.capacities from y.settling.pops y.settling.are_pops
+  same_machine = pops_machine c.board.plan x.stands.always.plan c.sync.capacities from y.settling.pops y.settling.are_pops
 
   popped_quiet : IsQuiet popped
   popped_quiet w f flying = y.quiet w f (ap (λ (m : Machine). m.board.flights w) (sym same_machine) ∙ flying)
@@ -161,12 +161,12 @@ module _ (c c' : CoreState) (chip chip' : ChipState) (x : InSession c chip) (y :
   good_is : AreSameRows (good_of c.board.plan popped.written) (good_rows c.board.plan (rows_of (sent_writes c.log.taken)))
   good_is k =
       settling-good c.board.plan 4 c.sync.capacities (switch_answered x.session y.answers) (switch_of y.later) y.settling from_safe k
-      ∙ ap (λ ts. good_rows c.board.plan (rows_of ts) k) (answers_taken x.session.service.core y.answers y.are ∙ ap (λ w. w.taken) x.stands.written)
+      ∙ ap (λ ts. good_rows c.board.plan (rows_of ts) k) (answers_taken x.session.service.core y.answers y.are ∙ ap (λ w. w.taken) (x.stands.working at).0.written)
 
   pub settling-drains : (before : TypedRows) (from to : ℕ) → ((k : Key) (row : Row) → (after_answers x.session.service.core y.answers).machine.board.applied k ≡ Some row → (before k ≡ Some row) ⊎ ((n : ℕ) × (from ≤ n) × (n ≤ to) × (good_rows_at c.board.plan c.log.taken n k ≡ Some row))) → IsClosed (good_rows c.board.plan (rows_of (sent_writes c.log.taken))) → from ≤ length c.log.taken → length c.log.taken ≤ to → HasRoom c.sync.capacities (IsRoundThing c.board.plan before c.log.taken from to) → (y.settling.waits ≡ []) × (y.settling.turns ≤ 4)
   settling-drains before low high rows closed least most room =
       let good = good_of c.board.plan popped.written in
       let good_closed = closed_same (good_rows c.board.plan (rows_of (sent_writes c.log.taken))) good (λ k. sym (good_is k)) closed in
       let together = room_together c.board.plan c.sync.capacities before popped.machine.board.applied good c.log.taken low high (λ k row h. rows k row (ap (λ (m : Machine). m.board.applied k) (sym same_machine) ∙ h)) good_is least most room in
-      let d = drains c.board.plan x.stands.plan 4 c.sync.capacities y.settling.turns popped y.later.service.core y.settling.keys y.settling.left y.settling.calls popped_safe popped_quiet good_closed together y.settling.all y.settling.order y.settling.turns_are in
-      (nothing-waits c.board.plan x.stands.plan 4 c.sync.capacities y.settling.turns popped y.later.service.core y.settling.keys y.settling.left y.settling.calls popped_safe popped_quiet good_closed together y.settling.all y.settling.order y.settling.turns_are y.settling.waits y.settling.listed, d.1)
+      let d = drains c.board.plan x.stands.always.plan 4 c.sync.capacities y.settling.turns popped y.later.service.core y.settling.keys y.settling.left y.settling.calls popped_safe popped_quiet good_closed together y.settling.all y.settling.order y.settling.turns_are in
+      (nothing-waits c.board.plan x.stands.always.plan 4 c.sync.capacities y.settling.turns popped y.later.service.core y.settling.keys y.settling.left y.settling.calls popped_safe popped_quiet good_closed together y.settling.all y.settling.order y.settling.turns_are y.settling.waits y.settling.listed, d.1)

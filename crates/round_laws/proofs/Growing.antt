@@ -13,7 +13,7 @@ use Rattle.machine_laws.specs.Logged.{IsLoggedEvent}
 use Rattle.restart_laws.specs.Logged.{AddsFault, AreLoggedSteps, IsLoggedStep, LoggedService, OfMachine, OfService, Records, session_after, switch_of}
 use Rattle.restart_laws.specs.Service.{IsServiceEvent, OfApply, OfFault, OfFinish, OfList, OfListFault, OfRestart, OfRestore, OfTake, OfWork}
 use Rattle.session_laws.specs.Core.{CoreState}
-use Rattle.session_laws.specs.Events.{MakesSome}
+use Rattle.restart_session_laws.specs.Events.{MakesMore}
 use Rattle.round_laws.specs.Sessions.{InSession}
 
 record LogGrows (g h : History) : Type 0 where
@@ -116,18 +116,18 @@ module _ (plan : Ports) (capacities : List ℕ) where
         };
       }
 
-module _ (c c' : CoreState) (chip chip' : ChipState) (x : InSession c chip) (y : MakesSome c x.session c' chip') where
+module _ (c c' : CoreState) (chip chip' : ChipState) (x : InSession c chip) (y : MakesMore c x.session c' chip') where
   grown : Grows x.session (session_after x.session y.steps)
   grown = steps_grow c.board.plan c.sync.capacities x.session y.steps y.are
 
   pub effects-grow : (calls : List (Call Rid)) × (chip'.effects ≡ chip.effects ++ calls)
-  effects-grow = (grown.calls, sym y.stands.effects ∙ grown.effects ∙ ap (λ es. es ++ grown.calls) x.stands.effects)
+  effects-grow = (grown.calls, sym y.stands.always.effects ∙ grown.effects ∙ ap (λ es. es ++ grown.calls) x.stands.always.effects)
 
   pub taken-grow : (sent : List Sent) × (c'.log.taken ≡ c.log.taken ++ sent)
-  taken-grow = (grown.log.sent, ap (λ (h : History). h.taken) (sym y.stands.log) ∙ grown.log.taken ∙ ap (λ (h : History). h.taken ++ grown.log.sent) x.stands.log)
+  taken-grow = (grown.log.sent, ap (λ (h : History). h.taken) (sym y.stands.always.log) ∙ grown.log.taken ∙ ap (λ (h : History). h.taken ++ grown.log.sent) x.stands.always.log)
 
   pub marks-grow : (more : List Mark) × (c'.log.marks ≡ c.log.marks ++ more)
-  marks-grow = (grown.log.more, ap (λ (h : History). h.marks) (sym y.stands.log) ∙ grown.log.marks ∙ ap (λ (h : History). h.marks ++ grown.log.more) x.stands.log)
+  marks-grow = (grown.log.more, ap (λ (h : History). h.marks) (sym y.stands.always.log) ∙ grown.log.marks ∙ ap (λ (h : History). h.marks ++ grown.log.more) x.stands.always.log)
 
   pub ends-grow : (more : List ℕ) × (c'.log.ends ≡ c.log.ends ++ more)
-  ends-grow = (grown.log.later, ap (λ (h : History). h.ends) (sym y.stands.log) ∙ grown.log.ends ∙ ap (λ (h : History). h.ends ++ grown.log.later) x.stands.log)
+  ends-grow = (grown.log.later, ap (λ (h : History). h.ends) (sym y.stands.always.log) ∙ grown.log.ends ∙ ap (λ (h : History). h.ends ++ grown.log.later) x.stands.always.log)

@@ -12,3 +12,5 @@ pub mod Drained
 pub mod Ending
 pub mod Bounded
 pub mod Growing
+pub mod Listed
+pub mod Ready

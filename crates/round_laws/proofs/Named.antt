@@ -4,18 +4,18 @@ use Rattle.std.specs.BTreeSet.{insert_key}
 use Rattle.std.specs.Cmp.{eq_by_cmp_equiv}
 use Rattle.std.specs.List.{AllByRecursion}
 use Rattle.std.specs.List.Sorted.{IsStrictlySortedBy}
-use Rattle.std.specs.Map.{keys_of}
 use Rattle.std.specs.Ordering.{match_ordering, ordering_reverse}
 use Rattle.std.specs.declared.cmp.Ordering.{Ordering}
 use Rattle.std.specs.declared.cmp.Ordering.TheVariants.{Less, Equal, Greater}
 use Rattle.swss_types.proofs.Tied.{tied}
-use Rattle.table_schema.specs.Fields.{HasRisingKeys}
 use Rattle.table_schema.specs.Key.{key_cmp}
 use Rattle.table_schema.specs.declared.key.Key.{Key}
 use Rattle.table_schema.specs.declared.write.Sent.{Sent}
 use Rattle.table_schema.proofs.Keys.{key_exact, key_total}
 use Rattle.sai_types.specs.Alike.{IsIn}
 use Rattle.switch_model.specs.Marks.{sent_writes, written_key}
+use Rattle.registry_laws.proofs.Listing.{all_at}
+use Rattle.machine_laws.proofs.Existing.{less_apart}
 use Rattle.round_laws.specs.Named.{keys_named}
 
 -- a key that was put is the new one or was there
@@ -30,11 +30,6 @@ in_put-or_there (x ∷ xs) k q there = by (key_cmp k x) (in_put-or_there xs k q)
     by Greater ih (inr there) = ⊎_elim (λ is. inl is) (λ more. inr (inr more)) (ih there)
 
 -- ---- lists of keys in order
-
-pub all_in : (P : Key → Type 0) (ks : List Key) (k : Key) → AllByRecursion P ks → IsIn k ks → P k
-all_in P [] k all there = absurd there
-all_in P (x ∷ xs) k (one, all) (inl is) = subst P (sym is) one
-all_in P (x ∷ xs) k (one, all) (inr there) = all_in P xs k all there
 
 all-put : (P : Key → Type 0) (ks : List Key) (k : Key) → AllByRecursion P ks → P k → AllByRecursion P (insert_key key_cmp ks k)
 all-put P [] k all one = (one, tt)
@@ -68,36 +63,20 @@ unfolding IsStrictlySortedBy
 named-sorted [] = tt
 named-sorted (s ∷ more) = sorted-put (keys_named more) (written_key s.write) (named-sorted more)
 
--- keys of entries whose keys rise
-pub rising-sorted : {X : Type 0} (es : List (Key × X)) → HasRisingKeys key_cmp es → IsStrictlySortedBy key_cmp (keys_of es)
-unfolding IsStrictlySortedBy
-rising-sorted [] h = tt
-rising-sorted {X} (e ∷ es) h = (all es h.0, rising-sorted es h.1)
-  where
-    all : (ys : List (Key × X)) → AllByRecursion (λ y. key_cmp e.0 y.0 ≡ Less) ys → AllByRecursion (λ k. key_cmp e.0 k ≡ Less) (keys_of ys)
-    all [] h = tt
-    all (y ∷ ys) h = (h.0, all ys h.1)
-
 pub key_self : (k : Key) → key_cmp k k ≡ Equal
 key_self k = tied (key_cmp k k) ((eq_by_cmp_equiv key_total).refl k)
-
-pub less_not-same : (x y : Key) → key_cmp x y ≡ Less → y ≡ x → ⊥
-less_not-same x y less is = not-both (sym less ∙ ap (λ k. key_cmp x k) is ∙ key_self x)
-  where
-    not-both : Less ≡ Equal → ⊥
-    not-both h = cc
 
 module _ (x y : Key) (xs ys : List Key) (x_least : AllByRecursion (λ q. key_cmp x q ≡ Less) xs) (y_least : AllByRecursion (λ q. key_cmp y q ≡ Less) ys) (among : (k : Key) → IsIn k (x ∷ xs) → IsIn k (y ∷ ys)) where
   -- where the first keys are the same, the others are among the others
   pub behind-same : x ≡ y → (k : Key) → IsIn k xs → IsIn k ys
-  behind-same is k there = ⊎_elim (λ same. absurd (less_not-same x k (all_in (λ q. key_cmp x q ≡ Less) xs k x_least there) (same ∙ sym is))) (λ more. more) (among k (inr there))
+  behind-same is k there = ⊎_elim (λ same. absurd (less_apart x k (all_at (λ q. key_cmp x q ≡ Less) xs k x_least there) (same ∙ sym is))) (λ more. more) (among k (inr there))
 
   -- where the first key is behind, all are among the others
   behind-less : IsIn x ys → (k : Key) → IsIn k (x ∷ xs) → IsIn k ys
   behind-less x_there k (inl is) = subst (λ q. IsIn q ys) (sym is) x_there
   behind-less x_there k (inr there) =
       ⊎_elim
-      (λ same. absurd (less_not-same y k (key_total.trans y x k (all_in (λ q. key_cmp y q ≡ Less) ys x y_least x_there) (all_in (λ q. key_cmp x q ≡ Less) xs k x_least there)) same))
+      (λ same. absurd (less_apart y k (key_total.trans y x k (all_at (λ q. key_cmp y q ≡ Less) ys x y_least x_there) (all_at (λ q. key_cmp x q ≡ Less) xs k x_least there)) same))
       (λ more. more)
       (among k (inr there))
 

@@ -12,7 +12,8 @@ use Rattle.sai_types.specs.Alike.{IsIn}
 use Rattle.switch_model.specs.Good.{TypedRows}
 use Rattle.machine_laws.specs.Calls.{AreTurnsWith, IsTurnWith, Situation}
 use Rattle.machine_laws.specs.ToSync.{AreInKeyOrder}
-use Rattle.round_laws.proofs.Named.{all_in, less_not-same}
+use Rattle.machine_laws.proofs.Existing.{less_apart}
+use Rattle.registry_laws.proofs.Listing.{all_at}
 
 module _ (plan : Ports) (capacities : List ℕ) (good : TypedRows) where
   turn_within : (ks : List Key) (s t : Situation) (left : List Key) (calls : List (Call Rid)) → IsTurnWith plan capacities good s ks t left calls → (q : Key) → IsIn q left → IsIn q ks
@@ -37,14 +38,14 @@ module _ (plan : Ports) (capacities : List ℕ) (good : TypedRows) where
 pub sorted-order : (ks : List Key) → IsStrictlySortedBy key_cmp ks → AreInKeyOrder ks
 unfolding IsStrictlySortedBy
 sorted-order [] h = tt
-sorted-order (k ∷ ks) h = ((λ q i. all_in (λ z. key_cmp k z ≡ Less) ks q h.0 i), sorted-order ks h.1)
+sorted-order (k ∷ ks) h = ((λ q i. all_at (λ z. key_cmp k z ≡ Less) ks q h.0 i), sorted-order ks h.1)
 
 -- the keys behind the first
 in_rest_too : (x y : Key) (xs ys : List Key) → ((q : Key) → IsIn q xs → key_cmp x q ≡ Less) → x ≡ y → ((k : Key) → IsIn k (x ∷ xs) → IsIn k (y ∷ ys)) → (k : Key) → IsIn k xs → IsIn k ys
 in_rest_too x y xs ys least same among k i = by (among k (inr i))
   where
     by : (k ≡ y) ⊎ IsIn k ys → IsIn k ys
-    by (inl is) = absurd (less_not-same x k (least k i) (is ∙ sym same))
+    by (inl is) = absurd (less_apart x k (least k i) (is ∙ sym same))
     by (inr at) = at
 
 -- two lists in key order of the same keys are one
@@ -58,7 +59,7 @@ same-order (x ∷ xs) (y ∷ ys) xs_rise ys_rise into back =
     by : (x ≡ y) ⊎ IsIn x ys → (y ≡ x) ⊎ IsIn y xs → x ≡ y
     by (inl same) there = same
     by (inr i) (inl same) = sym same
-    by (inr i) (inr j) = absurd (less_not-same x x (key_total.trans x y x (xs_rise.0 y j) (ys_rise.0 x i)) refl)
+    by (inr i) (inr j) = absurd (less_apart x x (key_total.trans x y x (xs_rise.0 y j) (ys_rise.0 x i)) refl)
 
     first : x ≡ y
     first = by (into x (inl refl)) (back y (inl refl))

@@ -1,5 +1,6 @@
 -- a round leaves quiet rows alone
 use Rattle.std.proofs.Common.{◌≡◌, ◌∷◌, ◌∙◌, inl, inr, ℕ, List, [], length, Option, None, Some, refl, sym, ap, subst}
+use Rattle.std.proofs.lemmas.Option.{same_Some}
 use Rattle.table_schema.specs.Plan.{IsPlan, Ports}
 use Rattle.table_schema.specs.declared.key.Key.{Key}
 use Rattle.table_schema.specs.declared.row.Row.{Row}
@@ -7,7 +8,6 @@ use Rattle.table_schema.specs.declared.write.Sent.{Sent}
 use Rattle.sai_types.specs.declared.ids.Rid.{Rid}
 use Rattle.sai_types.specs.declared.body.Call.{Call}
 use Rattle.sai_types.specs.declared.body.Entry.{Entry}
-use Rattle.sai_types.specs.declared.thing.Thing.{Thing}
 use Rattle.sai_types.specs.After.{chip_after, entry_of}
 use Rattle.sai_types.specs.Alike.{IsIn}
 use Rattle.sai_types.specs.ChipState.{ChipState}
@@ -53,15 +53,12 @@ module _ (plan : Ports) (capacities : List ℕ) (k : Key) where
 -- ---- what stands for a row on the chip stands for it in the machine
 
 module _ (plan : Ports) (is : IsPlan plan) (capacities : List ℕ) (s : SwitchState) (safe : IsSafe plan 4 capacities s) (quiet : IsQuiet s) where
-  same_thing : (a b : Thing) → Some a ≡ Some b → a ≡ b
-  same_thing a b e = cc
-
   pub stands-for : (objects : Objects) (k : Key) (row : Row) (e : Entry Rid) → s.objects ≡ objects → s.machine.board.applied k ≡ Some row → StandsForRow plan objects k row e → EntryStandsFor plan k e s.machine
   stands-for objects k row e same at x =
       let laid = safe.laid in
       let owner = laid.tied e x.body (subst (λ o. body_at o e ≡ Some x.body) (sym same) x.there) in
       let named = thing-laid (listed s.machine.stands) s.objects laid s.made safe.whole (grouped plan (tabled plan is) s.machine safe.sound quiet) owner.0 owner.1 e x.body owner.2 owner.3 owner.4 in
-      let one : x.thing ≡ owner.1 = same_thing x.thing owner.1 (sym x.is ∙ ap (λ o. thing_of o (e, x.body)) (sym same) ∙ named) in
+      let one : x.thing ≡ owner.1 = same_Some x.thing owner.1 (sym x.is ∙ ap (λ o. thing_of o (e, x.body)) (sym same) ∙ named) in
       record {
         row = row;
         applied = at;
@@ -95,14 +92,14 @@ module _ (old c c' : CoreState) (chip chip' : ChipState) (sent : List Sent) (x :
   same = same-switch old c c' chip chip' sent x y
 
   objects : from.objects ≡ chip_after chip.effects (length chip.effects)
-  objects = ap (λ (z : SwitchState). z.objects) same ∙ x.within.stands.objects ∙ objects-left c chip x.within
+  objects = ap (λ (z : SwitchState). z.objects) same ∙ x.within.stands.always.objects ∙ objects-left c chip x.within
 
   pub quiet-left : LeavesQuietRows c.board.plan (the-round old c c' chip chip' sent x y)
   quiet-left k row e at other stood call called =
       let safe = settling-safe old c c' chip chip' sent x y in
       let rows = ap (λ (z : SwitchState). z.machine.board.applied k) same ∙ round-rows old c chip sent x k ∙ at in
-      let there = stands-for plan x.within.stands.plan room from safe (settling-quiet old c c' chip chip' sent x y) (chip_after chip.effects (length chip.effects)) k row e objects rows stood in
-      (unnamed-rows plan x.within.stands.plan 4 room k from events.events e safe events.are (names_not plan room k from events.events events.are events.takeless)
+      let there = stands-for plan x.within.stands.always.plan room from safe (settling-quiet old c c' chip chip' sent x y) (chip_after chip.effects (length chip.effects)) k row e objects rows stood in
+      (unnamed-rows plan x.within.stands.always.plan 4 room k from events.events e safe events.are (names_not plan room k from events.events events.are events.takeless)
       (subst (λ (z : SwitchState). HasNoWrite z.written k) (sym same) (round-unnamed old c chip sent x k (λ i. other (inr i))))
       (λ w f flying is. settling-quiet old c c' chip chip' sent x y w f flying)
       (λ i. other (inl (x.began.to_sync k (round-synced old c chip sent x k (subst (λ (z : SwitchState). IsIn k z.to_sync) same i)))))

@@ -34,8 +34,10 @@ use Rattle.core_laws.proofs.Resting.{none_flies}
 use Rattle.flight_board.specs.Board.{flown_at}
 use Rattle.warm_state.specs.declared.warm.Warm.TheVariants as warm
 use Rattle.session_laws.specs.Core.{CoreState}
-use Rattle.session_laws.specs.Standing.{IsWorking}
+use Rattle.session_laws.specs.Standing.{IsSessionOf, IsWorking}
 use Rattle.session_laws.proofs.Marking.{popped}
+use Rattle.restart_session_laws.specs.Standing.{written_of}
+use Rattle.restart_session_laws.proofs.Sessions.{session-of}
 use Rattle.round_laws.specs.Sessions.{InSession}
 use Rattle.round_laws.specs.Turns.{StandsOnChip}
 use Rattle.round_laws.proofs.Sessions.{objects-left}
@@ -90,7 +92,7 @@ module _ (c : CoreState) (chip : ChipState) (x : InSession c chip) (at : c.warm 
   core = x.session.service.core
 
   abbrev pub its : IsWorking c chip core
-  its = x.stands.working at
+  its = (x.stands.working at).1
 
   pub core-safe : IsSafe c.board.plan 4 c.sync.capacities core
   core-safe = its.stands.safe
@@ -98,21 +100,29 @@ module _ (c : CoreState) (chip : ChipState) (x : InSession c chip) (at : c.warm 
   pub core-quiet : IsQuiet core
   core-quiet = none_flies c.board.plan c.sync.capacities c.board.names c.board.room (flown_at c.board) core its.stands.board free
 
+  -- the tables and the log tell what was written
+  pub core-written : core.written ≡ written_of c
+  core-written = (x.stands.working at).0.written
+
+  -- while the core is reconciled its session is one over the tables, the board and syncd
+  pub core-session : IsSessionOf c chip x.session
+  core-session = session-of c chip x.session x.stands at
+
   pub core-taken : core.written.taken ≡ sent_writes c.log.taken
-  core-taken = ap (λ (z : Written). z.taken) x.stands.written
+  core-taken = ap (λ (z : Written). z.taken) core-written
 
   -- what the chip shows
   pub core-stands : StandsOnChip c.board.plan chip.effects (situation core)
   core-stands = record {
-    things = λ t i h. stands-thing c.board.plan x.stands.plan c.sync.capacities core core-safe core-quiet t i h;
-    stand = λ t h. thing-stands c.board.plan x.stands.plan c.sync.capacities core core-safe core-quiet t h;
-    laid = subst (IsLaidOut (listed core.machine.stands)) (x.stands.objects ∙ objects-left c chip x) core-safe.laid;
-    made = x.stands.made;
+    things = λ t i h. stands-thing c.board.plan x.stands.always.plan c.sync.capacities core core-safe core-quiet t i h;
+    stand = λ t h. thing-stands c.board.plan x.stands.always.plan c.sync.capacities core core-safe core-quiet t h;
+    laid = subst (IsLaidOut (listed core.machine.stands)) (x.stands.always.objects ∙ objects-left c chip x) core-safe.laid;
+    made = x.stands.always.made;
   }
 
   module _ (none : c.tables.waiting ≡ []) where
     pub core-popped : IsPopped core.written
-    core-popped = popped c chip x.session x.stands at none
+    core-popped = popped c chip x.session core-session at none
 
     -- where no write waits the good rows are those of all writes taken
     pub core-good : (k : Key) → good_of c.board.plan core.written k ≡ good_rows c.board.plan (rows_of (sent_writes c.log.taken)) k

@@ -1,5 +1,5 @@
 -- what holds of a core and its chip within a session
-use Rattle.std.proofs.Common.{◌≡◌, ◌+◌, ◌*◌, ◌≤◌, ◌∷◌, ◌++◌, ◌∙◌, Bool, true, false, ℕ, List, [], length, Option, None, Some, refl, sym, ap, subst}
+use Rattle.std.proofs.Common.{◌≡◌, ◌⊎◌, ◌+◌, ◌*◌, ◌≤◌, ◌∷◌, ◌++◌, ◌∙◌, Bool, true, false, ℕ, List, [], length, Option, None, Some, refl, sym, ap, subst}
 use Rattle.table_schema.specs.Plan.{IsPlan, Ports}
 use Rattle.sai_types.specs.declared.body.Call.{Call}
 use Rattle.sai_types.specs.declared.ids.Rid.{Rid}
@@ -26,9 +26,11 @@ use Rattle.warm_state.specs.declared.warm.Warm.TheVariants as warm
 use Rattle.session_laws.specs.Core.{CoreState, new_core, size_beside}
 use Rattle.session_laws.specs.Events.{MakesOne, MakesSome}
 use Rattle.session_laws.specs.Standing.{IsSessionOf}
-use Rattle.session_laws.proofs.Beginning.{new_stands}
 use Rattle.session_laws.proofs.Joining.{after_both, are_both}
 use Rattle.settling_laws.specs.Leading.{LeadsTo}
+use Rattle.restart_session_laws.specs.Events.{MakesMore, MakesNext}
+use Rattle.restart_session_laws.specs.Standing.{IsServiceOf}
+use Rattle.restart_session_laws.proofs.Sessions.{first-service, step-next, steps-more, steps-stand}
 use Rattle.round_laws.specs.Sessions.{HasComeAbout, InSession}
 
 -- ---- steps
@@ -48,12 +50,12 @@ pub begins-session : (plan : Ports) (capacities : List ℕ) (limit : ℕ) (chip 
 begins-session plan capacities limit chip is objects effects clean room = record {
   session = new_session;
   came = record { steps = []; are = tt; is = refl };
-  stands = new_stands plan capacities limit chip is objects effects clean room;
+  stands = first-service plan capacities limit chip is objects effects clean room;
 }
 
 module _ (c c' : CoreState) (chip chip' : ChipState) (x : InSession c chip) where
   -- the core that stands for a later session
-  abbrev pub in_later : (later : LoggedService) (ts : List LoggedService) → AreLoggedSteps c.board.plan 4 c.sync.capacities x.session ts → session_after x.session ts ≡ later → IsSessionOf c' chip' later → c'.board.plan ≡ c.board.plan → c'.sync.capacities ≡ c.sync.capacities → InSession c' chip'
+  abbrev pub in_later : (later : LoggedService) (ts : List LoggedService) → AreLoggedSteps c.board.plan 4 c.sync.capacities x.session ts → session_after x.session ts ≡ later → IsServiceOf c' chip' later → c'.board.plan ≡ c.board.plan → c'.sync.capacities ≡ c.sync.capacities → InSession c' chip'
   in_later later ts run same stands plan capacities = record {
     session = later;
     came = subst (HasComeAbout c'.board.plan c'.sync.capacities) same
@@ -61,17 +63,32 @@ module _ (c c' : CoreState) (chip chip' : ChipState) (x : InSession c chip) wher
     stands = stands;
   }
 
-  pub one-on : (y : MakesOne c x.session c' chip') → (z : InSession c' chip') × (z.session ≡ y.later)
-  one-on y = (in_later y.later (y.later ∷ []) (y.makes, tt) refl y.stands y.plan y.capacities, refl)
+  pub steps-on : (later : LoggedService) (ts : List LoggedService) → AreLoggedSteps c.board.plan 4 c.sync.capacities x.session ts → session_after x.session ts ≡ later → IsServiceOf c' chip' later → c'.board.plan ≡ c.board.plan → c'.sync.capacities ≡ c.sync.capacities → (z : InSession c' chip') × (z.session ≡ later)
+  steps-on later ts run same stands plan capacities = (in_later later ts run same stands plan capacities, refl)
 
-  pub some-on : (y : MakesSome c x.session c' chip') → (z : InSession c' chip') × (z.session ≡ session_after x.session y.steps)
-  some-on y = (in_later (session_after x.session y.steps) y.steps y.are refl y.stands y.plan y.capacities, refl)
+  pub one-on : (y : MakesNext c x.session c' chip') → (z : InSession c' chip') × (z.session ≡ y.later)
+  one-on y = steps-on y.later (y.later ∷ []) (y.makes, tt) refl y.stands y.plan y.capacities
 
-  pub leads-on : (later : LoggedService) → LeadsTo c x.session later c' chip' → (z : InSession c' chip') × (z.session ≡ later)
-  leads-on later y = (in_later later y.steps y.are y.is y.stands y.plan y.capacities, refl)
+  pub some-on : (y : MakesMore c x.session c' chip') → (z : InSession c' chip') × (z.session ≡ session_after x.session y.steps)
+  some-on y = steps-on (session_after x.session y.steps) y.steps y.are refl y.stands y.plan y.capacities
 
-  pub same-on : IsSessionOf c' chip' x.session → c'.board.plan ≡ c.board.plan → c'.sync.capacities ≡ c.sync.capacities → InSession c' chip'
+  pub same-on : IsServiceOf c' chip' x.session → c'.board.plan ≡ c.board.plan → c'.sync.capacities ≡ c.sync.capacities → InSession c' chip'
   same-on stands plan capacities = in_later x.session [] tt refl stands plan capacities
+
+  -- steps that take no write, to a core that is reconciled or suspect
+  module _ (taken : c'.log.taken ≡ c.log.taken) (at : (c'.warm ≡ warm.Reconciled) ⊎ (c'.warm ≡ warm.Suspect)) where
+    pub works-one : (y : MakesOne c x.session c' chip') → (z : InSession c' chip') × (z.session ≡ y.later)
+    works-one y = let n = step-next c c' chip chip' x.session x.stands taken at y in let z = one-on n.0 in (z.0, z.1 ∙ n.1)
+
+    pub works-some : (y : MakesSome c x.session c' chip') → (z : InSession c' chip') × (z.session ≡ session_after x.session y.steps)
+    works-some y = let n = steps-more c c' chip chip' x.session x.stands taken at y in let z = some-on n.0 in (z.0, z.1 ∙ ap (session_after x.session) n.1)
+
+    -- the core that they lead to stands for the later session of the service
+    pub leads-stand : (later : LoggedService) → LeadsTo c x.session later c' chip' → IsServiceOf c' chip' later
+    leads-stand later y = subst (IsServiceOf c' chip') y.is (steps-stand c c' chip chip' x.session x.stands taken at y.steps y.are (subst (IsSessionOf c' chip') (sym y.is) y.stands) y.plan y.capacities)
+
+    pub leads-on : (later : LoggedService) → LeadsTo c x.session later c' chip' → (z : InSession c' chip') × (z.session ≡ later)
+    leads-on later y = steps-on later y.steps y.are y.is (leads-stand later y) y.plan y.capacities
 
 -- ---- what holds of a session that has come about
 
@@ -138,13 +155,13 @@ module _ (c : CoreState) (chip : ChipState) (x : InSession c chip) where
   room = c.sync.capacities
 
   abbrev pub its_plan : IsPlan c.board.plan
-  its_plan = x.stands.plan
+  its_plan = x.stands.always.plan
 
   abbrev pub told_of : IsToldLog c.board.plan its_plan 4 c.sync.capacities x.session
   told_of = told plan its_plan room x.session x.came
 
   carried : (P : History → List (Call Rid) → Type 0) → P x.session.log x.session.effects → P c.log chip.effects
-  carried P h = subst (λ z. P z chip.effects) x.stands.log (subst (P x.session.log) x.stands.effects h)
+  carried P h = subst (λ z. P z chip.effects) x.stands.always.log (subst (P x.session.log) x.stands.always.effects h)
 
   pub effects-legal : EffectsAreLegal c.board.plan c.sync.capacities c.log.taken chip.effects
   effects-legal = carried (λ h es. EffectsAreLegal plan room h.taken es) (legality plan its_plan room x.session x.came)
@@ -156,10 +173,10 @@ module _ (c : CoreState) (chip : ChipState) (x : InSession c chip) where
   counts-within = carried (λ h es. AreWithin (length h.taken) (length es) h.marks) told_of.tells.within
 
   pub log-ordered : IsOrdered c.log
-  log-ordered = subst IsOrdered x.stands.log told_of.ordered
+  log-ordered = subst IsOrdered x.stands.always.log told_of.ordered
 
   pub warm-after : IsWarmAfter (last_mark None c.log.marks) c.warm
-  warm-after = subst (λ (z : History). IsWarmAfter (last_mark None z.marks) c.warm) x.stands.log (subst (IsWarmAfter (last_mark None x.session.log.marks)) x.stands.warm_is told_of.warm)
+  warm-after = subst (λ (z : History). IsWarmAfter (last_mark None z.marks) c.warm) x.stands.always.log (subst (IsWarmAfter (last_mark None x.session.log.marks)) x.stands.always.warm_is told_of.warm)
 
   pub suspect-then : is_suspect c.log.marks ≡ true → c.warm ≡ warm.Suspect
   suspect-then h = suspect_warm (last_mark None c.log.marks) c.warm warm-after (sym (suspect_is c.log.marks) ∙ h)
@@ -168,13 +185,13 @@ module _ (c : CoreState) (chip : ChipState) (x : InSession c chip) where
   known-then not = suspect_is c.log.marks ∙ known_warm (last_mark None c.log.marks) c.warm warm-after not
 
   pub objects-left : chip.objects ≡ chip_after chip.effects (length chip.effects)
-  objects-left = sym x.stands.objects ∙ told_of.tells.objects ∙ sym (chip_after-all x.session.effects) ∙ again
+  objects-left = sym x.stands.always.objects ∙ told_of.tells.objects ∙ sym (chip_after-all x.session.effects) ∙ again
     where
       again : chip_after x.session.effects (length x.session.effects) ≡ chip_after chip.effects (length chip.effects)
-      again = ap (λ (es : List (Call Rid)). chip_after es (length es)) x.stands.effects
+      again = ap (λ (es : List (Call Rid)). chip_after es (length es)) x.stands.always.effects
 
   pub sized : size_beside c (length chip.effects) ≡ log_size c.log (length chip.effects)
-  sized = ap (λ n. size_listing n c.log (length chip.effects)) x.stands.listed
+  sized = ap (λ n. size_listing n c.log (length chip.effects)) x.stands.always.listed
 
   pub outside-few-of : effects_outside None c.log.marks (length chip.effects) ≤ most_calls * (length c.log.taken + listed_at_applies c.log.marks)
   outside-few-of = carried (λ h es. effects_outside None h.marks (length es) ≤ most_calls * (length h.taken + listed_at_applies h.marks)) (few plan its_plan room x.session x.came)

@@ -1,5 +1,5 @@
 -- the keys to sync of a session were named by writes
-use Rattle.std.proofs.Common.{◌≡◌, ◌∷◌, ◌++◌, ◌∙◌, inl, inr, ℕ, List, [], map, Option, None, Some, refl, sym, ap, subst}
+use Rattle.std.proofs.Common.{◌≡◌, ◌⊎◌, ◌∷◌, ◌++◌, ◌∙◌, inl, inr, ℕ, List, [], map, Option, None, Some, refl, sym, ap, subst}
 use Rattle.table_schema.specs.Plan.{IsPlan, Ports}
 use Rattle.table_schema.specs.declared.key.Key.{Key}
 use Rattle.table_schema.specs.declared.row.Row.{Row}
@@ -28,6 +28,7 @@ use Rattle.sync_tables.specs.Tables.{IsToSync}
 use Rattle.warm_state.specs.declared.warm.Warm.{Warm}
 use Rattle.warm_state.specs.declared.warm.Warm.TheVariants as warm
 use Rattle.session_laws.specs.Core.{CoreState}
+use Rattle.restart_session_laws.specs.Standing.{IsExact}
 use Rattle.round_laws.specs.Named.{keys_named}
 use Rattle.round_laws.specs.Sessions.{HasComeAbout, InSession}
 use Rattle.round_laws.proofs.Named.{named-front, named-last, of-named}
@@ -125,7 +126,7 @@ waiting_in ((q, w) ∷ ws) k (inl is) = (w, inl (ap (λ (z : Key). (z, w)) is))
 waiting_in ((q, w) ∷ ws) k (inr at) = let x = waiting_in ws k at in (x.0, inr x.1)
 
 -- a key with a good row was named
-good_named : (plan : Ports) (written : Written) (taken : List Sent) (k : Key) (row : Row) → HasWrittenRows written → written.taken ≡ sent_writes taken → good_of plan written k ≡ Some row → IsIn k (keys_named taken)
+pub good_named : (plan : Ports) (written : Written) (taken : List Sent) (k : Key) (row : Row) → HasWrittenRows written → written.taken ≡ sent_writes taken → good_of plan written k ≡ Some row → IsIn k (keys_named taken)
 good_named plan written taken k row dated same good =
     let x = dated k in
     of-named taken k (subst (λ z. IsIn k (map written_key z)) same (written-once plan written.taken k row (x.0, x.1, ap (good_row plan k) (sym x.2) ∙ good)))
@@ -206,8 +207,19 @@ module _ (plan : Ports) (is : IsPlan plan) (capacities : List ℕ) where
 
 -- ---- of the core
 
-module _ (c : CoreState) (chip : ChipState) (x : InSession c chip) (known : c.warm ≡ warm.Suspect → ⊥) where
+known_not_suspect : (w : Warm) → (w ≡ warm.Reconciled) ⊎ (w ≡ warm.Applying) → w ≡ warm.Suspect → ⊥
+known_not_suspect w (inl at) e = not_suspect w at e
+known_not_suspect w (inr at) e = two (sym at ∙ e)
+  where
+    two : warm.Applying ≡ warm.Suspect → ⊥
+    two e = cc
+
+module _ (c : CoreState) (chip : ChipState) (x : InSession c chip) (known : (c.warm ≡ warm.Reconciled) ⊎ (c.warm ≡ warm.Applying)) where
+  its_exact : (c.warm ≡ warm.Reconciled) ⊎ (c.warm ≡ warm.Applying) → IsExact c x.session.service.core
+  its_exact (inl at) = (x.stands.working at).0
+  its_exact (inr at) = (x.stands.applying at).0
+
   pub keys-named : (k : Key) → IsToSync c.tables k → IsIn k (keys_named c.log.taken)
   keys-named k at =
-      subst (λ (z : History). IsIn k (keys_named z.taken)) x.stands.log
-      (came-synced c.board.plan x.stands.plan c.sync.capacities x.session x.came (λ e. known (sym x.stands.warm_is ∙ e)) k (subst (IsIn k) (sym x.stands.to_sync) at))
+      subst (λ (z : History). IsIn k (keys_named z.taken)) x.stands.always.log
+      (came-synced c.board.plan x.stands.always.plan c.sync.capacities x.session x.came (λ e. known_not_suspect c.warm known (sym x.stands.always.warm_is ∙ e)) k (subst (IsIn k) (sym (its_exact known).to_sync) at))

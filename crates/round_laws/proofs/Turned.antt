@@ -41,7 +41,7 @@ use Rattle.round_laws.specs.Turns.{IsMadeByTurns, StandsOnChip}
 use Rattle.round_laws.proofs.Awaited.{listed-in, lists-in}
 use Rattle.round_laws.proofs.Between.{its-log, its-mark, its-rows, later-in}
 use Rattle.round_laws.proofs.Ordering.{same-order, sorted-order, turns-order}
-use Rattle.round_laws.proofs.Resting.{core-quiet, core-safe, core-stands, core-taken}
+use Rattle.round_laws.proofs.Resting.{core-quiet, core-safe, core-session, core-stands, core-taken, core-written}
 
 -- what stands in a situation that is that of a state
 stands_as : (plan : Ports) (effects : List (Call Rid)) (t : SwitchState) (z : Situation) → IsSituationOf z t → StandsOnChip plan effects (situation t) → StandsOnChip plan effects z
@@ -73,7 +73,7 @@ module _ (old c : CoreState) (chip : ChipState) (sent : List Sent) (x : IsInRoun
   -- the applied rows
   pub round-rows : (k : Key) → before.machine.board.applied k ≡ applied_since c.board.plan old.log.taken (mark_of old) k
   round-rows k =
-      (x.within.stands.working round-warm).rows k
+      (x.within.stands.working round-warm).1.rows k
       ∙ ap (λ b. row_at b.applied k) x.board
       ∙ x.began.applied k
       ∙ ap (λ b. applied_since b.plan old.log.taken (mark_of old) k) (sym x.board)
@@ -83,16 +83,16 @@ module _ (old c : CoreState) (chip : ChipState) (sent : List Sent) (x : IsInRoun
 
   -- a key that the round does not try has no write that waits, and is not to sync
   pub round-unnamed : (k : Key) → (IsIn k (keys_named sent) → ⊥) → HasNoWrite before.written k
-  round-unnamed k none = subst (λ w. HasNoWrite w k) (sym x.within.stands.written) (x.unnamed k none)
+  round-unnamed k none = subst (λ w. HasNoWrite w k) (sym (core-written c chip x.within round-warm round-free)) (x.unnamed k none)
 
   pub round-named : (k : Key) → IsIn k (keys_named sent) → HasNoWrite before.written k → ⊥
-  round-named k i none = x.named k i (subst (λ w. HasNoWrite w k) x.within.stands.written none)
+  round-named k i none = x.named k i (subst (λ w. HasNoWrite w k) (core-written c chip x.within round-warm round-free) none)
 
   pub round-synced : (k : Key) → IsIn k before.to_sync → IsToSync old.tables k
-  round-synced k i = subst (λ o. IsIn k (keys_of o)) x.ops (same_keys c chip x.within.session x.within.stands k i)
+  round-synced k i = subst (λ o. IsIn k (keys_of o)) x.ops (same_keys c chip x.within.session (core-session c chip x.within round-warm round-free) k i)
 
   pub synced-round : (k : Key) → IsToSync old.tables k → IsIn k before.to_sync
-  synced-round k i = keys_same c chip x.within.session x.within.stands k (subst (λ o. IsIn k (keys_of o)) (sym x.ops) i)
+  synced-round k i = keys_same c chip x.within.session (core-session c chip x.within round-warm round-free) k (subst (λ o. IsIn k (keys_of o)) (sym x.ops) i)
 
 module _ (old c c' : CoreState) (chip chip' : ChipState) (sent : List Sent) (x : IsInRound old chip sent c) (y : SettlesTo c x.within.session c' chip') where
   no_answers : (answers : List (Call Rid × SwitchState)) → AreAnswers c.board.plan 4 (before old c chip sent x) answers → answers ≡ []
@@ -106,7 +106,7 @@ module _ (old c c' : CoreState) (chip chip' : ChipState) (sent : List Sent) (x :
   same-switch = ap (after_answers (before old c chip sent x)) (no_answers y.answers y.are)
 
   pub same-effects : s.effects ≡ chip.effects
-  same-effects = ap (λ answers. x.within.session.effects ++ calls_in answers) (no_answers y.answers y.are) ∙ append-nil x.within.session.effects ∙ x.within.stands.effects
+  same-effects = ap (λ answers. x.within.session.effects ++ calls_in answers) (no_answers y.answers y.are) ∙ append-nil x.within.session.effects ∙ x.within.stands.always.effects
 
   pub settling-safe : IsSafe c.board.plan 4 c.sync.capacities s.switch
   settling-safe = subst (IsSafe c.board.plan 4 c.sync.capacities) (sym same-switch) (round-safe old c chip sent x)
@@ -134,7 +134,7 @@ module _ (old c c' : CoreState) (chip chip' : ChipState) (sent : List Sent) (x :
     first = x.began.first;
     taken_before = x.began.taken;
     effects_before = x.began.effects;
-    taken = ap (λ (h : History). length h.taken) x.within.stands.log ∙ ap length (round-taken old c chip sent x);
+    taken = ap (λ (h : History). length h.taken) x.within.stands.always.log ∙ ap length (round-taken old c chip sent x);
     effects = ap length (y.leads.stands.effects ∙ more-effects);
   }
 
@@ -165,7 +165,7 @@ module _ (old c c' : CoreState) (chip chip' : ChipState) (sent : List Sent) (x :
   all k (inr named) = (keys k).1 (λ none. round-named old c chip sent x k named (subst (λ (z : SwitchState). HasNoWrite z.written k) same-switch none))
 
   comes : (z : Situation) × AreTurnsWith plan room (good_of plan (after_pops s.switch y.settling.pops).written) y.settling.turns (situation s.switch) y.settling.keys z y.settling.left y.settling.calls × IsSituationOf z y.later.service.core
-  comes = settling-calls plan 4 room x.within.stands.plan s (switch_of y.later) y.settling settling-safe settling-quiet
+  comes = settling-calls plan 4 room x.within.stands.always.plan s (switch_of y.later) y.settling settling-safe settling-quiet
 
   ends : StandsOnChip plan (chip.effects ++ y.settling.calls) comes.0
   ends =

@@ -13,8 +13,8 @@ use Rattle.table_schema.specs.declared.write.Write.TheVariants.{Set, Del}
 use Rattle.table_schema.proofs.Keys.{key_total}
 use Rattle.sai_types.specs.Alike.{IsIn}
 use Rattle.switch_model.specs.Marks.{sent_writes, written_key}
-use Rattle.switch_machine.specs.Written.{HasNoWrite, TakesWrite, Written, fields_after}
-use Rattle.machine_laws.proofs.Sharing.{fields_beside, fields_more, unwritten}
+use Rattle.switch_machine.specs.Written.{HasNoWrite, TakesWrite, Written}
+use Rattle.machine_laws.proofs.Sharing.{fields_beside, unwritten}
 use Rattle.round_laws.specs.Named.{keys_named}
 use Rattle.round_laws.proofs.Named.{of-named}
 

@@ -1,5 +1,5 @@
 -- A core between two rounds, and in a round. Own.
-use Rattle.std.specs.Prelude.{◌≡◌, ◌++◌, List, [], length, Option, Some, None}
+use Rattle.std.specs.Prelude.{◌≡◌, ◌⊎◌, ◌++◌, List, [], length, Option, Some, None}
 use Rattle.table_schema.specs.declared.key.Key.{Key}
 use Rattle.table_schema.specs.declared.write.Sent.{Sent}
 use Rattle.sai_types.specs.declared.body.Call.{Call}
@@ -15,6 +15,7 @@ use Rattle.machine_laws.specs.Logged.{ListsKey}
 use Rattle.restart_laws.specs.Logged.{last_mark}
 use Rattle.sync_tables.specs.Tables.{IsToSync, written_in}
 use Rattle.flight_board.specs.Applied.{row_at}
+use Rattle.warm_state.specs.declared.warm.Warm.TheVariants as warm
 use Rattle.session_laws.specs.Core.{CoreState}
 use Rattle.settling_laws.specs.Turning.{IsAtRest}
 use Rattle.round_laws.specs.Ended.{EndedRound, LeavesSettled, applied_since, waits_since}
@@ -38,6 +39,13 @@ pub record IsBetweenRounds (c : CoreState) (chip : ChipState) : Type 0 where
   pub applied : (k : Key) → row_at c.board.applied k ≡ applied_since c.board.plan c.log.taken (mark_of c) k
   pub to_sync : (k : Key) → IsToSync c.tables k → ListsKey k (waits_since (mark_of c))
   pub listed : (k : Key) → ListsKey k (waits_since (mark_of c)) → IsToSync c.tables k
+
+-- a core in a session that a round may begin with: its writes wait in order; and it is between two rounds, or suspect since a fault
+pub record IsReadyForRound (c : CoreState) (chip : ChipState) : Type 0 where
+  pub within : InSession c chip
+  pub order : AreInOrder c.tables.waiting
+  pub between : c.warm ≡ warm.Reconciled → IsBetweenRounds c chip
+  pub warm : (c.warm ≡ warm.Reconciled) ⊎ (c.warm ≡ warm.Suspect)
 
 -- in a round that began with the old core these writes were taken, and nothing else was done: they wait
 pub record IsInRound (old : CoreState) (chip : ChipState) (sent : List Sent) (c : CoreState) : Type 0 where

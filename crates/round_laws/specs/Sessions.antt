@@ -7,7 +7,7 @@ use Rattle.switch_model.specs.declared.mark.MarkEvent.{MarkEvent}
 use Rattle.switch_model.specs.declared.mark.MarkEvent.TheVariants as event
 use Rattle.restart_laws.specs.Logged.{AreLoggedSteps, LoggedService, new_session, session_after}
 use Rattle.session_laws.specs.Core.{CoreState}
-use Rattle.session_laws.specs.Standing.{IsSessionOf}
+use Rattle.restart_session_laws.specs.Standing.{IsServiceOf}
 
 -- steps of the service lead from its beginning to this session
 pub record HasComeAbout (plan : Ports) (capacities : List ℕ) (s : LoggedService) : Type 0 where
@@ -15,11 +15,11 @@ pub record HasComeAbout (plan : Ports) (capacities : List ℕ) (s : LoggedServic
   pub are : AreLoggedSteps plan 4 capacities new_session steps
   pub is : session_after new_session steps ≡ s
 
--- a core and its chip stand for a session that has come about
+-- a core and its chip stand for a session that has come about, in any warm state
 pub record InSession (c : CoreState) (chip : ChipState) : Type 0 where
   pub session : LoggedService
   pub came : HasComeAbout c.board.plan c.sync.capacities session
-  pub stands : IsSessionOf c chip session
+  pub stands : IsServiceOf c chip session
 
 -- none of these marks is that of the beginning of an apply
 abbrev pub BeginsNoApply : MarkEvent → Type 0

@@ -1,10 +1,11 @@
 // What holds of a core and its chip within a session, and of what the session awaits. Each function is a law: it does nothing, and its contract is proved.
-ghost use Rattle.std.specs.Prelude.{◌≡◌, ◌++◌, ℕ, ◌*◌, ◌+◌, ◌≤◌, ◌<◌, true, false, List, [], length, None, IsSome};
+ghost use Rattle.std.specs.Prelude.{◌≡◌, ◌⊎◌, ◌++◌, ◌∷◌, ℕ, ◌*◌, ◌+◌, ◌≤◌, ◌<◌, true, false, List, [], length, None, IsSome};
 ghost use Rattle.table_schema.specs.Plan.{IsPlan, Ports};
 ghost use Rattle.table_schema.specs.declared.key.Key.{Key};
 ghost use Rattle.table_schema.specs.declared.write.Sent.{Sent};
 ghost use Rattle.sai_types.specs.declared.body.Call.{Call};
 ghost use Rattle.sai_types.specs.declared.ids.Rid.{Rid};
+ghost use Rattle.sai_types.specs.declared.plan.PlanCall.{PlanCall};
 ghost use Rattle.sai_types.specs.After.{chip_after};
 ghost use Rattle.sai_types.specs.Alike.{IsIn};
 ghost use Rattle.sai_types.specs.ChipState.{ChipState};
@@ -23,14 +24,17 @@ ghost use Rattle.machine_laws.specs.Logged.{ListsKey};
 ghost use Rattle.machine_laws.specs.Order.{IsOrdered};
 ghost use Rattle.restart_laws.specs.Applied.{AreFollowed};
 ghost use Rattle.restart_laws.specs.Bounded.{effects_outside, listed_at_applies};
-ghost use Rattle.restart_laws.specs.Logged.{IsWarmAfter, LoggedService, last_mark, mark_now, session_after};
+ghost use Rattle.restart_laws.specs.Restored.{keys_waiting};
+ghost use Rattle.restart_laws.specs.Logged.{AreLoggedSteps, IsWarmAfter, LoggedService, last_mark, mark_now, session_after};
 ghost use Rattle.sync_tables.specs.Tables.{IsToSync};
 ghost use Rattle.flight_board.specs.Board.{flown_at};
 ghost use Rattle.warm_state.specs.declared.warm.Warm.TheVariants as warm;
 ghost use Rattle.session_laws.specs.Core.{CoreState, new_core, size_beside};
 ghost use Rattle.session_laws.specs.Events.{HaveReasons, MakesOne, MakesSome};
-ghost use Rattle.session_laws.specs.Standing.{IsSessionOf};
 ghost use Rattle.settling_laws.specs.Leading.{LeadsTo};
+ghost use Rattle.restart_session_laws.specs.Built.{IsBuilt};
+ghost use Rattle.restart_session_laws.specs.Events.{MakesMore, MakesNext};
+ghost use Rattle.restart_session_laws.specs.Standing.{IsServiceOf};
 ghost use Rattle.round_laws.specs.Awaited.{AwaitsCall, AwaitsMark};
 ghost use Rattle.round_laws.specs.Named.{keys_named};
 ghost use Rattle.round_laws.specs.Sessions.{BeginNoApply, InSession};
@@ -40,21 +44,25 @@ pub fn sessions_begin()
     ensures { (plan : Ports) (capacities : List ℕ) (limit : ℕ) (chip : ChipState) → IsPlan plan → chip.objects ≡ [] → chip.effects ≡ [] → chip.clean ≡ true → chip.capacities ≡ capacities → InSession (new_core plan capacities limit) chip }
 {}
 
-/// Where a core in a session makes a step, some steps, or steps that lead to a later session, the later core is in a session; and so is
-/// another core that stands for the same session.
+/// Where a core in a session makes a step of the service, some steps, or steps that lead to a later session, in any warm state, the later
+/// core is in a session; and so is another core that stands for the same session. So it is for steps of a core whose tables, board and
+/// syncd stand for the session then, where they take no write and leave the core reconciled or suspect.
 pub fn sessions_go_on()
-    ensures one { (c c' : CoreState) (chip chip' : ChipState) (x : InSession c chip) (y : MakesOne c x.session c' chip') → (z : InSession c' chip') × (z.session ≡ y.later) }
-    ensures some { (c c' : CoreState) (chip chip' : ChipState) (x : InSession c chip) (y : MakesSome c x.session c' chip') → (z : InSession c' chip') × (z.session ≡ session_after x.session y.steps) }
-    ensures leads { (c c' : CoreState) (chip chip' : ChipState) (later : LoggedService) (x : InSession c chip) → LeadsTo c x.session later c' chip' → (z : InSession c' chip') × (z.session ≡ later) }
-    ensures same { (c c' : CoreState) (chip chip' : ChipState) (x : InSession c chip) → IsSessionOf c' chip' x.session → c'.board.plan ≡ c.board.plan → c'.sync.capacities ≡ c.sync.capacities → InSession c' chip' }
+    ensures one { (c c' : CoreState) (chip chip' : ChipState) (x : InSession c chip) (y : MakesNext c x.session c' chip') → (z : InSession c' chip') × (z.session ≡ y.later) }
+    ensures some { (c c' : CoreState) (chip chip' : ChipState) (x : InSession c chip) (y : MakesMore c x.session c' chip') → (z : InSession c' chip') × (z.session ≡ session_after x.session y.steps) }
+    ensures leads { (c c' : CoreState) (chip chip' : ChipState) (later : LoggedService) (steps : List LoggedService) (x : InSession c chip) → AreLoggedSteps c.board.plan 4 c.sync.capacities x.session steps → session_after x.session steps ≡ later → IsServiceOf c' chip' later → c'.board.plan ≡ c.board.plan → c'.sync.capacities ≡ c.sync.capacities → (z : InSession c' chip') × (z.session ≡ later) }
+    ensures same { (c c' : CoreState) (chip chip' : ChipState) (x : InSession c chip) → IsServiceOf c' chip' x.session → c'.board.plan ≡ c.board.plan → c'.sync.capacities ≡ c.sync.capacities → InSession c' chip' }
+    ensures works_one { (c c' : CoreState) (chip chip' : ChipState) (x : InSession c chip) → c'.log.taken ≡ c.log.taken → (c'.warm ≡ warm.Reconciled) ⊎ (c'.warm ≡ warm.Suspect) → (y : MakesOne c x.session c' chip') → (z : InSession c' chip') × (z.session ≡ y.later) }
+    ensures works_some { (c c' : CoreState) (chip chip' : ChipState) (x : InSession c chip) → c'.log.taken ≡ c.log.taken → (c'.warm ≡ warm.Reconciled) ⊎ (c'.warm ≡ warm.Suspect) → (y : MakesSome c x.session c' chip') → (z : InSession c' chip') × (z.session ≡ session_after x.session y.steps) }
+    ensures works_on { (c c' : CoreState) (chip chip' : ChipState) (later : LoggedService) (x : InSession c chip) → c'.log.taken ≡ c.log.taken → (c'.warm ≡ warm.Reconciled) ⊎ (c'.warm ≡ warm.Suspect) → LeadsTo c x.session later c' chip' → (z : InSession c' chip') × (z.session ≡ later) }
 {}
 
 /// Steps only add to a log and to the effects.
 pub fn sessions_grow()
-    ensures effects { (c c' : CoreState) (chip chip' : ChipState) (x : InSession c chip) → MakesSome c x.session c' chip' → (calls : List (Call Rid)) × (chip'.effects ≡ chip.effects ++ calls) }
-    ensures taken { (c c' : CoreState) (chip chip' : ChipState) (x : InSession c chip) → MakesSome c x.session c' chip' → (sent : List Sent) × (c'.log.taken ≡ c.log.taken ++ sent) }
-    ensures marks { (c c' : CoreState) (chip chip' : ChipState) (x : InSession c chip) → MakesSome c x.session c' chip' → (more : List Mark) × (c'.log.marks ≡ c.log.marks ++ more) }
-    ensures ends { (c c' : CoreState) (chip chip' : ChipState) (x : InSession c chip) → MakesSome c x.session c' chip' → (more : List ℕ) × (c'.log.ends ≡ c.log.ends ++ more) }
+    ensures effects { (c c' : CoreState) (chip chip' : ChipState) (x : InSession c chip) → MakesMore c x.session c' chip' → (calls : List (Call Rid)) × (chip'.effects ≡ chip.effects ++ calls) }
+    ensures taken { (c c' : CoreState) (chip chip' : ChipState) (x : InSession c chip) → MakesMore c x.session c' chip' → (sent : List Sent) × (c'.log.taken ≡ c.log.taken ++ sent) }
+    ensures marks { (c c' : CoreState) (chip chip' : ChipState) (x : InSession c chip) → MakesMore c x.session c' chip' → (more : List Mark) × (c'.log.marks ≡ c.log.marks ++ more) }
+    ensures ends { (c c' : CoreState) (chip chip' : ChipState) (x : InSession c chip) → MakesMore c x.session c' chip' → (more : List ℕ) × (c'.log.ends ≡ c.log.ends ++ more) }
 {}
 
 /// Within a session each call that took effect was legal, and no route ever pointed where no row sent it; each mark is true; the marks
@@ -78,18 +86,26 @@ pub fn sessions_are_true()
     ensures applies { (c : CoreState) (chip : ChipState) → InSession c chip → AreFollowed c.board.plan c.sync.capacities c.log.taken chip.effects c.log.marks }
 {}
 
-/// Unless the core is suspect, each key to sync was named by a write taken, and so they are no more than the keys named. So it is of the
-/// keys that a mark is to list.
+/// While a core is reconciled, or applies a plan, each key to sync was named by a write taken, and so they are no more than the keys named.
+/// So it is of the keys that a mark is to list.
 pub fn keys_to_sync_were_named()
-    ensures named { (c : CoreState) (chip : ChipState) (k : Key) → InSession c chip → (c.warm ≡ warm.Suspect → ⊥) → IsToSync c.tables k → IsIn k (keys_named c.log.taken) }
-    ensures few { (c : CoreState) (chip : ChipState) → InSession c chip → (c.warm ≡ warm.Suspect → ⊥) → AreOpsInOrder c.tables.ops → length c.tables.ops ≤ length (keys_named c.log.taken) }
+    ensures named { (c : CoreState) (chip : ChipState) (k : Key) → InSession c chip → (c.warm ≡ warm.Reconciled) ⊎ (c.warm ≡ warm.Applying) → IsToSync c.tables k → IsIn k (keys_named c.log.taken) }
+    ensures few { (c : CoreState) (chip : ChipState) → InSession c chip → (c.warm ≡ warm.Reconciled) ⊎ (c.warm ≡ warm.Applying) → AreOpsInOrder c.tables.ops → length c.tables.ops ≤ length (keys_named c.log.taken) }
     ensures listed { (plan : Ports) (capacities : List ℕ) (log : History) (effects : List (Call Rid)) (waits : Waiting) → IsPlan plan → AwaitsMark plan capacities log effects waits → length waits ≤ length (keys_named log.taken) }
 {}
 
-/// Where a worker has something under way, a call is awaited, and it is legal on the chip. Where no worker has anything under way, no
+/// Once all rows were gone over, the keys that a restore is to list were named by writes taken, and so they are no more than the keys
+/// named.
+pub fn listed_keys_were_named()
+    ensures named { (first built : CoreState) (x : IsBuilt first built []) (k : Key) → IsIn k (keys_waiting x.waits) → IsIn k (keys_named first.log.taken) }
+    ensures few { (first built : CoreState) (x : IsBuilt first built []) → length x.waits ≤ length (keys_named first.log.taken) }
+{}
+
+/// Where a worker has something under way, or calls of a plan are left, a call is awaited, and it is legal on the chip. Where no worker has anything under way, no
 /// write waits, and each key to sync has a reason to wait, a mark is awaited that lists as many keys, and what it would say is true.
 pub fn what_is_due_is_awaited()
     ensures call { (c : CoreState) (chip : ChipState) (w : ℕ) → InSession c chip → c.warm ≡ warm.Reconciled → w < 4 → IsSome (flown_at c.board w) → AwaitsCall c.board.plan c.sync.capacities c.log chip.effects }
+    ensures apply { (c : CoreState) (chip : ChipState) (next : PlanCall) (rest : List PlanCall) → InSession c chip → c.warm ≡ warm.Applying → c.sync.left ≡ next ∷ rest → AwaitsCall c.board.plan c.sync.capacities c.log chip.effects }
     ensures legal { (plan : Ports) (capacities : List ℕ) (log : History) (effects : List (Call Rid)) → IsPlan plan → (x : AwaitsCall plan capacities log effects) → IsLegal capacities (chip_after effects (length effects)) x.call }
     ensures mark { (c : CoreState) (chip : ChipState) (waits : Waiting) (x : InSession c chip) → c.warm ≡ warm.Reconciled → c.tables.waiting ≡ [] → ((v : ℕ) → v < 4 → flown_at c.board v ≡ None) → HaveReasons c x.session.service.core waits → ((k : Key) → IsToSync c.tables k → ListsKey k waits) → ((k : Key) → ListsKey k waits → IsToSync c.tables k) → marks.AreInOrder waits → AwaitsMark c.board.plan c.sync.capacities c.log chip.effects waits }
     ensures keys { (c : CoreState) (chip : ChipState) (x : InSession c chip) → c.warm ≡ warm.Reconciled → c.tables.waiting ≡ [] → ((v : ℕ) → v < 4 → flown_at c.board v ≡ None) → AreOpsInOrder c.tables.ops → ((k : Key) → IsToSync c.tables k → MustWait c.board.plan 4 c.sync.capacities x.session.service.core k) → (waits : Waiting) × (length waits ≡ length c.tables.ops) × AwaitsMark c.board.plan c.sync.capacities c.log chip.effects waits }

@@ -12,11 +12,12 @@ ghost use Rattle.switch_model.specs.Marks.{sent_writes, written_key};
 ghost use Rattle.switch_model.specs.Promises.{good_rows_at};
 ghost use Rattle.switch_model.specs.Room.{HasRoom, IsRoundThing};
 ghost use Rattle.switch_machine.specs.Events.{after_answers};
+ghost use Rattle.producer_table.specs.Pending.{AreInOrder};
 ghost use Rattle.machine_laws.specs.Reading.{IsOnSwitch};
 ghost use Rattle.warm_state.specs.declared.warm.Warm.TheVariants as warm;
 ghost use Rattle.session_laws.specs.Core.{CoreState, new_core, with_taken};
 ghost use Rattle.settling_laws.specs.Leading.{SettlesTo};
-ghost use Rattle.round_laws.specs.Between.{IsBetweenRounds, IsInRound, RoundEnds};
+ghost use Rattle.round_laws.specs.Between.{IsBetweenRounds, IsInRound, IsReadyForRound, RoundEnds};
 ghost use Rattle.round_laws.specs.Drained.{Drains};
 ghost use Rattle.round_laws.specs.Ended.{EndedRound, taken_then};
 ghost use Rattle.round_laws.specs.Sessions.{InSession};
@@ -28,6 +29,15 @@ pub fn rounds_begin()
     ensures first { (plan : Ports) (capacities : List ℕ) (limit : ℕ) (chip : ChipState) → IsPlan plan → chip.objects ≡ [] → chip.effects ≡ [] → chip.clean ≡ true → chip.capacities ≡ capacities → IsBetweenRounds (new_core plan capacities limit) chip }
     ensures begins { (c : CoreState) (chip : ChipState) → IsBetweenRounds c chip → IsInRound c chip [] c }
     ensures takes { (old c : CoreState) (chip : ChipState) (sent : List Sent) (next : Sent) → IsInRound old chip sent c → IsOnSwitch (written_key next.write) → IsInRound old chip (sent ++ next ∷ []) (with_taken c next) }
+{}
+
+/// A round may begin with a new core over a chip on which nothing stands, with one that is between rounds, so with one whose round ended,
+/// and with one in a session that is suspect while its writes wait in order.
+pub fn rounds_may_begin()
+    ensures first { (plan : Ports) (capacities : List ℕ) (limit : ℕ) (chip : ChipState) → IsPlan plan → chip.objects ≡ [] → chip.effects ≡ [] → chip.clean ≡ true → chip.capacities ≡ capacities → IsReadyForRound (new_core plan capacities limit) chip }
+    ensures between { (c : CoreState) (chip : ChipState) → IsBetweenRounds c chip → IsReadyForRound c chip }
+    ensures ended { (old c : CoreState) (chip chip' : ChipState) (sent : List Sent) → RoundEnds old chip sent c chip' → IsReadyForRound c chip' }
+    ensures suspect { (c : CoreState) (chip : ChipState) → InSession c chip → AreInOrder c.tables.waiting → c.warm ≡ warm.Suspect → IsReadyForRound c chip }
 {}
 
 /// A settling that ends at its mark ends between rounds, whatever came before it. Where it ends a round in which writes were taken and

@@ -27,8 +27,7 @@ use Rattle.switch_machine.proofs.Needing.{listed_more}
 use Rattle.syncd_core.specs.Synced.{SyncState}
 use Rattle.warm_state.specs.declared.warm.Warm.TheVariants as warm
 use Rattle.session_laws.specs.Core.{CoreState, mark_at, size_beside}
-use Rattle.session_laws.specs.Events.{MakesSome}
-use Rattle.settling_laws.proofs.Leading.{leads_some}
+use Rattle.restart_session_laws.specs.Events.{MakesMore}
 use Rattle.round_laws.specs.Between.{IsBetweenRounds, IsInRound, round_from}
 use Rattle.round_laws.specs.Named.{keys_named}
 use Rattle.round_laws.specs.Sessions.{InSession}
@@ -41,6 +40,7 @@ use Rattle.round_laws.proofs.Sessions.{known-then, leads-on, objects-left, sized
 use Rattle.round_laws.proofs.ToSync.{not_suspect}
 use Rattle.orch_core.specs.Outcomes.{KeepsChip}
 use Rattle.orch_core.specs.Settled.{Settles, SettlesWhole, StopsAtMark, StopsFaulted, StopsFull}
+use Rattle.orch_core.proofs.Serving.{settling_serves}
 use Rattle.orch_core.specs.declared.answer.Settled.{Settled}
 use Rattle.orch_core.specs.declared.answer.Settled.TheVariants as settled
 use Rattle.swss_script.specs.Sent.{sent_after, sent_in_round, writes_in}
@@ -80,17 +80,9 @@ suspect-more (m ∷ n ∷ marks) mark = suspect-more (n ∷ marks) mark
 
 -- the size that a core counts is that of its log
 sized-at : (c : CoreState) (chip : ChipState) → InSession c chip → (n : ℕ) → size_beside c n ≡ log_size c.log n
-sized-at c chip within n = ap (λ k. size_listing k c.log n) within.stands.listed
+sized-at c chip within n = ap (λ k. size_listing k c.log n) within.stands.always.listed
 
--- whatever a settling came to, steps of the session led there
-pub settled-some : (mid : CoreState) (chip : ChipState) (s : LoggedService) (r : Result Settled OutOfMemory) (new : CoreState) (chip' : ChipState) → Settles s mid chip r new chip' → MakesSome mid s new chip'
-settled-some mid chip s (Ok settled.Settled) new chip' e = leads_some mid new chip' s e.settles.later e.settles.leads
-settled-some mid chip s (Ok settled.Faulted) new chip' e = e.0.steps
-settled-some mid chip s (Ok settled.LogFull) new chip' (inl e) = e.steps
-settled-some mid chip s (Ok settled.LogFull) new chip' (inr e) = leads_some mid new chip' s e.later e.leads
-settled-some mid chip s (Err wanting) new chip' e = e.steps
-
--- and the chip has the failing calls that it was made with
+-- whatever a settling came to, the chip has the failing calls that it was made with
 pub settled-keeps : (mid : CoreState) (chip : ChipState) (s : LoggedService) (r : Result Settled OutOfMemory) (new : CoreState) (chip' : ChipState) → Settles s mid chip r new chip' → KeepsChip chip chip'
 settled-keeps mid chip s (Ok settled.Settled) new chip' e = e.keeps
 settled-keeps mid chip s (Ok settled.Faulted) new chip' e = e.0.keeps
@@ -203,15 +195,15 @@ module _ (round : Round) (old : CoreState) (sim : Sim) (replay : Replayed) (read
       abbrev pub ended_now : ℕ → Ended
       ended_now number = record { plan = new.board.plan; number = number; marks = drop (length old.log.marks) new.log.marks; taken = length new.log.taken; rows = new.tables.rows; capacities = sim'.chip.capacities; objects = sim'.chip.objects; effects = sim'.chip.effects }
 
-      pub follows-new : MakesSome mid in-all.within.session new sim'.chip → IsReplayOf replay sim'.chip.effects
-      follows-new some =
-          let grown = effects-grow mid new sim.chip sim'.chip in-all.within some in
+      pub follows-new : MakesMore mid in-all.within.session new sim'.chip → IsReplayOf replay sim'.chip.effects
+      follows-new more =
+          let grown = effects-grow mid new sim.chip sim'.chip in-all.within more in
           subst (IsReplayOf replay) (sym grown.1) (IsReplayOf-append replay sim.chip.effects grown.0 ready.follows)
 
       -- no mark is lost
-      pub marks-longer : MakesSome mid in-all.within.session new sim'.chip → length old.log.marks ≤ length new.log.marks
-      marks-longer some =
-          let more = marks-grow mid new sim.chip sim'.chip in-all.within some in
+      pub marks-longer : MakesMore mid in-all.within.session new sim'.chip → length old.log.marks ≤ length new.log.marks
+      marks-longer steps =
+          let more = marks-grow mid new sim.chip sim'.chip in-all.within steps in
           let same = ap (λ (h : History). length h.marks) in-all.log in
           let longer = length-append mid.log.marks more.0 in
           omega (arith, ap length more.1, same, longer)
@@ -272,7 +264,7 @@ module _ (round : Round) (old : CoreState) (sim : Sim) (replay : Replayed) (read
                   (ap (λ (h : History). drop (length old.log.marks) h.marks) log ∙ drop-append_seam old.log.marks (mark ∷ []))
                   (ap (λ (h : History). length h.taken) log)
                   (rows-told new sim'.chip within popped rising ∙ ap (λ (h : History). rows_of (sent_writes h.taken)) log)
-                  (within.stands.capacities ∙ plan-new.capacities)
+                  (within.stands.always.capacities ∙ plan-new.capacities)
                   (objects-left new sim'.chip within ∙ ap (λ l. chip_after l (length l)) grown)
                   grown
                   ready.at_end
@@ -302,8 +294,12 @@ module _ (round : Round) (old : CoreState) (sim : Sim) (replay : Replayed) (read
 
       -- ---- how the settling ended
 
-      some-same : MakesSome mid in-all.within.session new sim'.chip → KeepsPlan mid new
-      some-same some = record { plan = some.plan; capacities = some.capacities; limit = some.limit }
+      some-same : MakesMore mid in-all.within.session new sim'.chip → KeepsPlan mid new
+      some-same more = record { plan = more.plan; capacities = more.capacities; limit = more.limit }
+
+      -- whatever the settling came to, steps of the service led there
+      more-of : (r : Result Settled OutOfMemory) → Settles in-all.within.session mid sim.chip r new sim'.chip → MakesMore mid in-all.within.session new sim'.chip
+      more-of r e = settling_serves in-all.within.session mid sim.chip in-all.within.stands r new sim'.chip e
 
       -- the log behind its mark
       with-round : (mark : Mark) → with_end (with_mark (record old.log { taken = old.log.taken ++ sent }) mark) ≡ with_round old.log sent mark
@@ -330,10 +326,11 @@ module _ (round : Round) (old : CoreState) (sim : Sim) (replay : Replayed) (read
         run-faulted : Settles in-all.within.session mid sim.chip (Ok settled.Faulted) new sim'.chip → IsWritten (ended_now number) replay.at round.shows status.ChipFault held faults result replay' held' faults' → IsRoundRun number round old sim held faults result new sim' replay' held' faults'
         run-faulted e written =
             let stops = e.0 in
-            let grown = effects-grow mid new sim.chip sim'.chip in-all.within stops.steps in
+            let more = more-of (Ok settled.Faulted) e in
+            let grown = effects-grow mid new sim.chip sim'.chip in-all.within more in
             let mark = mark_at mid (length sim'.chip.effects) (event.Faulted stops.marks.before sim'.chip.faults) in
             let rose = stops.marks.more in
-            run-failed (some-on mid new sim.chip sim'.chip in-all.within stops.steps).0 (some-same stops.steps) grown.0 grown.1
+            run-failed (some-on mid new sim.chip sim'.chip in-all.within more).0 (some-same more) grown.0 grown.1
             mark refl (ap (λ (h : History). length h.taken) in-all.log) (ap length grown.1)
             (stops.marks.log ∙ ap (λ (h : History). with_end (with_mark h mark)) in-all.log ∙ with-round mark)
             (λ settled. absurd settled)
@@ -359,11 +356,12 @@ module _ (round : Round) (old : CoreState) (sim : Sim) (replay : Replayed) (read
 
         full-call : StopsFull in-all.within.session mid sim.chip new sim'.chip → IsFullHere
         full-call e =
-            let grown = effects-grow mid new sim.chip sim'.chip in-all.within e.steps in
-            let within = (some-on mid new sim.chip sim'.chip in-all.within e.steps).0 in
+            let more = more-of (Ok settled.LogFull) (inl e) in
+            let grown = effects-grow mid new sim.chip sim'.chip in-all.within more in
+            let within = (some-on mid new sim.chip sim'.chip in-all.within more).0 in
             let size = sized new sim'.chip within in
             let full = e.full in (
-              stops-new within (some-same e.steps) grown.0 grown.1 e.log,
+              stops-new within (some-same more) grown.0 grown.1 e.log,
               AtCall (sym gives) (call-awaited new sim'.chip within e.warm e.flying.0 e.flying.1 e.flying.2) (omega (arith, full, size)),
               omega (arith, full, size),
               refl,
@@ -371,16 +369,16 @@ module _ (round : Round) (old : CoreState) (sim : Sim) (replay : Replayed) (read
 
         full-mark : StopsAtMark in-all.within.session mid sim.chip new sim'.chip → IsFullHere
         full-mark e =
-            let some = leads_some mid new sim'.chip in-all.within.session e.later e.leads in
-            let grown = effects-grow mid new sim.chip sim'.chip in-all.within some in
-            let there = leads-on mid new sim.chip sim'.chip in-all.within e.later e.leads in
+            let more = more-of (Ok settled.LogFull) (inr e) in
+            let grown = effects-grow mid new sim.chip sim'.chip in-all.within more in
+            let there = leads-on mid new sim.chip sim'.chip in-all.within (ap (λ (h : History). h.taken) e.log) (inl e.at_rest.warm) e.later e.leads in
             let within = there.0 in
             let awaited = keys-awaited new sim'.chip within e.at_rest.warm e.at_rest.popped e.at_rest.free e.order (λ k to_sync. subst (λ (s : LoggedService). MustWait new.board.plan 4 new.sync.capacities s.service.core k) (sym there.1) (e.waits k to_sync)) in
             let size = sized new sim'.chip within in
             let full = e.full in
             let many = awaited.1 in
-            let few = ops-few new sim'.chip within (not_suspect new.warm e.at_rest.warm) e.order in (
-              stops-new within (some-same some) grown.0 grown.1 e.log,
+            let few = ops-few new sim'.chip within (inl e.at_rest.warm) e.order in (
+              stops-new within (some-same more) grown.0 grown.1 e.log,
               AtMark awaited.0 (sym gives) awaited.2 (omega (arith, full, size, many)),
               omega (arith, full, size, few),
               refl,
@@ -388,8 +386,9 @@ module _ (round : Round) (old : CoreState) (sim : Sim) (replay : Replayed) (read
 
       stops-short : (e : OutOfMemory) → Settles in-all.within.session mid sim.chip (Err e) new sim'.chip → StopsRound round old sim new sim'
       stops-short wanting e =
-          let grown = effects-grow mid new sim.chip sim'.chip in-all.within e.steps in
-          stops-new (some-on mid new sim.chip sim'.chip in-all.within e.steps).0 (some-same e.steps) grown.0 grown.1 e.log
+          let more = more-of (Err wanting) e in
+          let grown = effects-grow mid new sim.chip sim'.chip in-all.within more in
+          stops-new (some-on mid new sim.chip sim'.chip in-all.within more).0 (some-same more) grown.0 grown.1 e.log
 
       pub run-stopped : (r : Result Settled OutOfMemory) (ended : Status) → round_ended r ≡ Err ended → Settles in-all.within.session mid sim.chip r new sim'.chip → (number : ℕ) (held : Option (List ℕ)) (faults : ℕ) (replay' : Replayed) → IsRoundRun number round old sim held faults ended new sim' replay' held faults
       run-stopped (Ok settled.Settled) ended is e number held faults replay' = cc

@@ -152,8 +152,8 @@ session-from : (rounds : List Round) (ended : Status) (first core : CoreState) (
     → IsReported ended first.board.plan first.sync.capacities rounds rans sent calls core.log chip held held'
     → IsSession first.board.plan first.sync.capacities rounds ended core.log chip held held'
 session-from rounds ended first core chip held held' rans sent calls within same cut writes turned reported = record {
-  room = within.stands.capacities ∙ same.capacities;
-  clean = within.stands.clean;
+  room = within.stands.always.capacities ∙ same.capacities;
+  clean = within.stands.always.clean;
   legality = subst (λ p. EffectsAreLegal p first.sync.capacities core.log.taken chip.effects) same.plan (subst (λ c. EffectsAreLegal core.board.plan c core.log.taken chip.effects) same.capacities (effects-legal core chip within));
   few = all-few core chip within (begin-none core.log.marks rans cut.marks 0 0 cut.at_marks);
   marks = subst (λ p. MarksAreTrue p first.sync.capacities core.log chip.effects) same.plan (subst (λ c. MarksAreTrue core.board.plan c core.log chip.effects) same.capacities (marks-true core chip within));

@@ -5,13 +5,13 @@ use Rattle.table_schema.specs.Key.{key_cmp}
 use Rattle.table_schema.specs.Rows.{HasRisingRows, fields_at, rows_of}
 use Rattle.table_schema.specs.declared.key.Key.{Key}
 use Rattle.table_schema.specs.declared.write.Sent.{Sent}
+use Rattle.table_schema.specs.declared.write.Write.{Write}
 use Rattle.table_schema.proofs.Keys.{key_exact, key_total}
 use Rattle.table_schema.proofs.RowLists.{HasRisingRows-rows_of}
 use Rattle.sai_types.specs.ChipState.{ChipState}
 use Rattle.switch_model.specs.Marks.{sent_writes}
 use Rattle.producer_table.specs.Pending.{pending_at, row_with_pending}
 use Rattle.producer_table.proofs.Found.{same_entries}
-use Rattle.switch_machine.specs.Written.{IsTold}
 use Rattle.session_laws.specs.Core.{CoreState, with_taken}
 use Rattle.round_laws.specs.Between.{IsInRound}
 use Rattle.round_laws.specs.Sessions.{InSession}
@@ -45,4 +45,4 @@ rows-told c chip x none rising =
     (λ k. sym (told k ∙ ap (λ w. row_with_pending (fields_at c.tables.rows k) (pending_at w k)) none))
   where
     told : (k : Key) → fields_at (rows_of (sent_writes c.log.taken)) k ≡ row_with_pending (fields_at c.tables.rows k) (pending_at c.tables.waiting k)
-    told = subst IsTold x.stands.written (told_of c chip x).holds.safe.told
+    told k = ap (λ (ts : List Write). fields_at (rows_of ts) k) x.stands.always.ahead.taken ∙ (told_of c chip x).holds.safe.told k ∙ sym (x.stands.always.ahead.whole k)

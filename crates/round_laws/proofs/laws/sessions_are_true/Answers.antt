@@ -27,10 +27,10 @@ pub returns-clause-objects : goal.returns-clause-objects
 returns-clause-objects c = λ core chip x. objects-left core chip x
 
 pub returns-clause-clean : goal.returns-clause-clean
-returns-clause-clean c = λ core chip x. x.stands.clean
+returns-clause-clean c = λ core chip x. x.stands.always.clean
 
 pub returns-clause-capacities : goal.returns-clause-capacities
-returns-clause-capacities c = λ core chip x. x.stands.capacities
+returns-clause-capacities c = λ core chip x. x.stands.always.capacities
 
 pub returns-clause-size : goal.returns-clause-size
 returns-clause-size c = λ core chip x. sized core chip x

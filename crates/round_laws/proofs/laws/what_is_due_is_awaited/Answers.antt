@@ -1,8 +1,11 @@
-use Rattle.round_laws.proofs.Awaited.{awaited-legal, awaited-true, call-awaited, keys-awaited, mark-awaited}
+use Rattle.round_laws.proofs.Awaited.{apply-awaited, awaited-legal, awaited-true, call-awaited, keys-awaited, mark-awaited}
 use Rattle.round_laws.proofs.laws.what_is_due_is_awaited.Goals as goal
 
 pub returns-clause-call : goal.returns-clause-call
 returns-clause-call c = λ core chip w x at below some. call-awaited core chip x at w below some
+
+pub returns-clause-apply : goal.returns-clause-apply
+returns-clause-apply c = λ core chip next rest x at left. apply-awaited core chip x at next rest left
 
 pub returns-clause-legal : goal.returns-clause-legal
 returns-clause-legal c = awaited-legal

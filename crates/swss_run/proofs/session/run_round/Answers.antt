@@ -12,10 +12,12 @@ use Rattle.swss_script.specs.declared.parts.Show.{Show}
 use Rattle.swss_run.specs.Running.{IsWritten}
 use Rattle.swss_run.specs.declared.status.Status.{Status}
 use Rattle.session_laws.specs.Core.{CoreState}
+use Rattle.orch_core.proofs.Coming.{settles_as_ever}
+use Rattle.orch_core.proofs.Serving.{settle_serves}
 use Rattle.swss_script.specs.Sent.{writes_in}
 use Rattle.swss_run.specs.Taking.{IsRoundTook}
 use Rattle.swss_run.specs.declared.taking.Taken.{Taken}
-use Rattle.swss_run.proofs.RoundRuns.{follows-new, full-taking, in-all, marks-longer, run-marked, run-stopped, settled-keeps, settled-some, stops-wanting, warm-all}
+use Rattle.swss_run.proofs.RoundRuns.{follows-new, full-taking, in-all, marks-longer, run-marked, run-stopped, settled-keeps, stops-wanting, warm-all}
 use Rattle.swss_run.proofs.session.run_round.Goals as goal
 
 took_as : (n m : ℕ) (writes : List (ℕ × Write)) (old mid : CoreState) {r t : Taken} → n ≡ m → r ≡ t → IsRoundTook n writes old r mid → IsRoundTook m writes old t mid
@@ -34,22 +36,17 @@ returns-in-NoMemory-clause-run g c =
       refl,
     )
 
-pub settle-settled-requires-clause-session : goal.settle-settled-requires-clause-session
-settle-settled-requires-clause-session g c =
+pub settle-settled-requires : goal.settle-settled-requires
+settle-settled-requires g c =
     let t = took_as c.effects.result (length c.args.chip.now.chip.effects) (writes_in c.args.round.sections) c.args.core.now c.take_round.new.core c.effects.ensures c.in-All.is c.take_round.ensures in
     let x = (in-all c.args.round c.args.core.now c.args.chip.now c.args.replay.now c.requires.ready c.requires.read c.take_round.new.core t.0 t.1.0 t.1.1 t.1.2).within in
-    (x.session, x.stands)
-
-pub settle-settled-requires-clause-warm : goal.settle-settled-requires-clause-warm
-settle-settled-requires-clause-warm g c =
-    let t = took_as c.effects.result (length c.args.chip.now.chip.effects) (writes_in c.args.round.sections) c.args.core.now c.take_round.new.core c.effects.ensures c.in-All.is c.take_round.ensures in
-    warm-all c.args.round c.args.core.now c.args.chip.now c.args.replay.now c.requires.ready c.requires.read c.take_round.new.core t.0 t.1.0 t.1.1 t.1.2
+    record { service = (x.session, x.stands) }
 
 pub slice_bounds-end-count : goal.slice_bounds-end-count
 slice_bounds-end-count g c =
     let t = took_as c.effects.result (length c.args.chip.now.chip.effects) (writes_in c.args.round.sections) c.args.core.now c.take_round.new.core c.effects.ensures c.in-All.is c.take_round.ensures in
     let x = (in-all c.args.round c.args.core.now c.args.chip.now c.args.replay.now c.requires.ready c.requires.read c.take_round.new.core t.0 t.1.0 t.1.1 t.1.2).within in
-    let longer = marks-longer c.args.round c.args.core.now c.args.chip.now c.args.replay.now c.requires.ready c.requires.read c.take_round.new.core t.0 t.1.0 t.1.1 t.1.2 c.settle-settled.new.self c.settle-settled.new.chip (settled-some c.take_round.new.core c.args.chip.now.chip x.session c.settle-settled.result c.settle-settled.new.self c.settle-settled.new.chip.chip (c.settle-settled.ensures x.session x.stands)) in
+    let longer = marks-longer c.args.round c.args.core.now c.args.chip.now c.args.replay.now c.requires.ready c.requires.read c.take_round.new.core t.0 t.1.0 t.1.1 t.1.2 c.settle-settled.new.self c.settle-settled.new.chip (settle_serves x.session c.take_round.new.core c.args.chip.now.chip c.settle-settled.result c.settle-settled.new.self c.settle-settled.new.chip.chip (c.settle-settled.ensures x.session x.stands)) in
     let before : c.marks-before.result.now ≡ c.args.core.now.log.marks = search rules in
     let now : c.marks.result.now ≡ c.settle-settled.new.self.log.marks = search rules in
     omega (arith, longer, ap length before, ap length now)
@@ -58,7 +55,7 @@ pub slice_bounds-end-start : goal.slice_bounds-end-start
 slice_bounds-end-start g c =
     let t = took_as c.effects.result (length c.args.chip.now.chip.effects) (writes_in c.args.round.sections) c.args.core.now c.take_round.new.core c.effects.ensures c.in-All.is c.take_round.ensures in
     let x = (in-all c.args.round c.args.core.now c.args.chip.now c.args.replay.now c.requires.ready c.requires.read c.take_round.new.core t.0 t.1.0 t.1.1 t.1.2).within in
-    let longer = marks-longer c.args.round c.args.core.now c.args.chip.now c.args.replay.now c.requires.ready c.requires.read c.take_round.new.core t.0 t.1.0 t.1.1 t.1.2 c.settle-settled.new.self c.settle-settled.new.chip (settled-some c.take_round.new.core c.args.chip.now.chip x.session c.settle-settled.result c.settle-settled.new.self c.settle-settled.new.chip.chip (c.settle-settled.ensures x.session x.stands)) in
+    let longer = marks-longer c.args.round c.args.core.now c.args.chip.now c.args.replay.now c.requires.ready c.requires.read c.take_round.new.core t.0 t.1.0 t.1.1 t.1.2 c.settle-settled.new.self c.settle-settled.new.chip (settle_serves x.session c.take_round.new.core c.args.chip.now.chip c.settle-settled.result c.settle-settled.new.self c.settle-settled.new.chip.chip (c.settle-settled.ensures x.session x.stands)) in
     let before : c.marks-before.result.now ≡ c.args.core.now.log.marks = search rules in
     let now : c.marks.result.now ≡ c.settle-settled.new.self.log.marks = search rules in
     omega (arith, longer, ap length before, ap length now)
@@ -67,25 +64,31 @@ pub returns-in-Ok-clause-fails : goal.returns-in-Ok-clause-fails
 returns-in-Ok-clause-fails g c =
     let t = took_as c.effects.result (length c.args.chip.now.chip.effects) (writes_in c.args.round.sections) c.args.core.now c.take_round.new.core c.effects.ensures c.in-All.is c.take_round.ensures in
     let x = (in-all c.args.round c.args.core.now c.args.chip.now c.args.replay.now c.requires.ready c.requires.read c.take_round.new.core t.0 t.1.0 t.1.1 t.1.2).within in
-    (settled-keeps c.take_round.new.core c.args.chip.now.chip x.session c.settle-settled.result c.settle-settled.new.self c.settle-settled.new.chip.chip (c.settle-settled.ensures x.session x.stands)).fails
+    let at = warm-all c.args.round c.args.core.now c.args.chip.now c.args.replay.now c.requires.ready c.requires.read c.take_round.new.core t.0 t.1.0 t.1.1 t.1.2 in
+    let settles = settles_as_ever x.session c.take_round.new.core c.args.chip.now.chip c.settle-settled.new.self c.settle-settled.new.chip.chip c.settle-settled.result at (c.settle-settled.ensures x.session x.stands) in
+    (settled-keeps c.take_round.new.core c.args.chip.now.chip x.session c.settle-settled.result c.settle-settled.new.self c.settle-settled.new.chip.chip settles).fails
 
 pub returns-clause-fails : goal.returns-clause-fails
 returns-clause-fails g c =
     let t = took_as c.effects.result (length c.args.chip.now.chip.effects) (writes_in c.args.round.sections) c.args.core.now c.take_round.new.core c.effects.ensures c.in-All.is c.take_round.ensures in
     let x = (in-all c.args.round c.args.core.now c.args.chip.now c.args.replay.now c.requires.ready c.requires.read c.take_round.new.core t.0 t.1.0 t.1.1 t.1.2).within in
-    (settled-keeps c.take_round.new.core c.args.chip.now.chip x.session c.settle-settled.result c.settle-settled.new.self c.settle-settled.new.chip.chip (c.settle-settled.ensures x.session x.stands)).fails
+    let at = warm-all c.args.round c.args.core.now c.args.chip.now c.args.replay.now c.requires.ready c.requires.read c.take_round.new.core t.0 t.1.0 t.1.1 t.1.2 in
+    let settles = settles_as_ever x.session c.take_round.new.core c.args.chip.now.chip c.settle-settled.new.self c.settle-settled.new.chip.chip c.settle-settled.result at (c.settle-settled.ensures x.session x.stands) in
+    (settled-keeps c.take_round.new.core c.args.chip.now.chip x.session c.settle-settled.result c.settle-settled.new.self c.settle-settled.new.chip.chip settles).fails
 
 pub write_lines-requires : goal.write_lines-requires
 write_lines-requires g c =
     let t = took_as c.effects.result (length c.args.chip.now.chip.effects) (writes_in c.args.round.sections) c.args.core.now c.take_round.new.core c.effects.ensures c.in-All.is c.take_round.ensures in
     let x = (in-all c.args.round c.args.core.now c.args.chip.now c.args.replay.now c.requires.ready c.requires.read c.take_round.new.core t.0 t.1.0 t.1.1 t.1.2).within in
-    record { follows = follows-new c.args.round c.args.core.now c.args.chip.now c.args.replay.now c.requires.ready c.requires.read c.take_round.new.core t.0 t.1.0 t.1.1 t.1.2 c.settle-settled.new.self c.settle-settled.new.chip (settled-some c.take_round.new.core c.args.chip.now.chip x.session c.settle-settled.result c.settle-settled.new.self c.settle-settled.new.chip.chip (c.settle-settled.ensures x.session x.stands)) }
+    record { follows = follows-new c.args.round c.args.core.now c.args.chip.now c.args.replay.now c.requires.ready c.requires.read c.take_round.new.core t.0 t.1.0 t.1.1 t.1.2 c.settle-settled.new.self c.settle-settled.new.chip (settle_serves x.session c.take_round.new.core c.args.chip.now.chip c.settle-settled.result c.settle-settled.new.self c.settle-settled.new.chip.chip (c.settle-settled.ensures x.session x.stands)) }
 
 pub returns-clause-run : goal.returns-clause-run
 returns-clause-run g c =
     let t = took_as c.effects.result (length c.args.chip.now.chip.effects) (writes_in c.args.round.sections) c.args.core.now c.take_round.new.core c.effects.ensures c.in-All.is c.take_round.ensures in
     let x = (in-all c.args.round c.args.core.now c.args.chip.now c.args.replay.now c.requires.ready c.requires.read c.take_round.new.core t.0 t.1.0 t.1.1 t.1.2).within in
-    run-stopped c.args.round c.args.core.now c.args.chip.now c.args.replay.now c.requires.ready c.requires.read c.take_round.new.core t.0 t.1.0 t.1.1 t.1.2 c.settle-settled.new.self c.settle-settled.new.chip c.settle-settled.result c.in-Err.status (sym c.round_ended.ensures ∙ c.in-Err.is) (c.settle-settled.ensures x.session x.stands) c.args.number (g.K.Sink.holds c.args.sink.now) (g.K.Sink.faults c.args.sink.now) c.args.replay.now
+    let at = warm-all c.args.round c.args.core.now c.args.chip.now c.args.replay.now c.requires.ready c.requires.read c.take_round.new.core t.0 t.1.0 t.1.1 t.1.2 in
+    let settles = settles_as_ever x.session c.take_round.new.core c.args.chip.now.chip c.settle-settled.new.self c.settle-settled.new.chip.chip c.settle-settled.result at (c.settle-settled.ensures x.session x.stands) in
+    run-stopped c.args.round c.args.core.now c.args.chip.now c.args.replay.now c.requires.ready c.requires.read c.take_round.new.core t.0 t.1.0 t.1.1 t.1.2 c.settle-settled.new.self c.settle-settled.new.chip c.settle-settled.result c.in-Err.status (sym c.round_ended.ensures ∙ c.in-Err.is) settles c.args.number (g.K.Sink.holds c.args.sink.now) (g.K.Sink.faults c.args.sink.now) c.args.replay.now
 
 -- the lines that were asked for, said in other words
 written_as : (p p' : Ports) (n : ℕ) (ms ms' : List Mark) (t t' : ℕ) (r r' : Rows) (c : List ℕ) (o : Objects) (e : List (Call Rid)) (b : ℕ) (shows shows' : List Show) (ended : Status) (held : Option (List ℕ)) (faults : ℕ) (result : Status) (replay : Replayed) (held' : Option (List ℕ)) (faults' : ℕ)
@@ -109,7 +112,9 @@ returns-in-Ok-clause-run g c =
     let t = took_as c.effects.result (length c.args.chip.now.chip.effects) (writes_in c.args.round.sections) c.args.core.now c.take_round.new.core c.effects.ensures c.in-All.is c.take_round.ensures in
     let x = (in-all c.args.round c.args.core.now c.args.chip.now c.args.replay.now c.requires.ready c.requires.read c.take_round.new.core t.0 t.1.0 t.1.1 t.1.2).within in
     let marks : c.marks-before.result.now ≡ c.args.core.now.log.marks = search rules in
-    run-marked c.args.round c.args.core.now c.args.chip.now c.args.replay.now c.requires.ready c.requires.read c.take_round.new.core t.0 t.1.0 t.1.1 t.1.2 c.settle-settled.new.self c.settle-settled.new.chip c.args.number (g.K.Sink.holds c.args.sink.now) (g.K.Sink.holds c.write_lines.new.sink) (g.K.Sink.faults c.args.sink.now) (g.K.Sink.faults c.write_lines.new.sink) c.write_lines.result c.write_lines.new.replay c.requires.counted (search rules) c.settle-settled.result c.in-Ok.ended (sym c.round_ended.ensures ∙ c.in-Ok.is) (c.settle-settled.ensures x.session x.stands)
+    let at = warm-all c.args.round c.args.core.now c.args.chip.now c.args.replay.now c.requires.ready c.requires.read c.take_round.new.core t.0 t.1.0 t.1.1 t.1.2 in
+    let settles = settles_as_ever x.session c.take_round.new.core c.args.chip.now.chip c.settle-settled.new.self c.settle-settled.new.chip.chip c.settle-settled.result at (c.settle-settled.ensures x.session x.stands) in
+    run-marked c.args.round c.args.core.now c.args.chip.now c.args.replay.now c.requires.ready c.requires.read c.take_round.new.core t.0 t.1.0 t.1.1 t.1.2 c.settle-settled.new.self c.settle-settled.new.chip c.args.number (g.K.Sink.holds c.args.sink.now) (g.K.Sink.holds c.write_lines.new.sink) (g.K.Sink.faults c.args.sink.now) (g.K.Sink.faults c.write_lines.new.sink) c.write_lines.result c.write_lines.new.replay c.requires.counted (search rules) c.settle-settled.result c.in-Ok.ended (sym c.round_ended.ensures ∙ c.in-Ok.is) settles
     (written_as c.plan.result.now c.settle-settled.new.self.board.plan c.args.number (take (length c.marks.result.now - length c.marks-before.result.now) (drop (length c.marks-before.result.now) c.marks.result.now)) (drop (length c.args.core.now.log.marks) c.settle-settled.new.self.log.marks) (length c.taken.result.now) (length c.settle-settled.new.self.log.taken) c.rows-in-Ok.result.now c.settle-settled.new.self.tables.rows c.settle-settled.new.chip.chip.capacities c.settle-settled.new.chip.chip.objects c.settle-settled.new.chip.chip.effects c.args.replay.now.at c.items.result.now c.args.round.shows c.in-Ok.ended (g.K.Sink.holds c.args.sink.now) (g.K.Sink.faults c.args.sink.now) c.write_lines.result c.write_lines.new.replay (g.K.Sink.holds c.write_lines.new.sink) (g.K.Sink.faults c.write_lines.new.sink)
     (search rules)
     (marks_behind c.marks-before.result.now c.args.core.now.log.marks (length c.marks-before.result.now) c.marks.result.now c.settle-settled.new.self.log.marks refl marks (search rules))

@@ -1,9 +1,10 @@
 use Rattle.std.proofs.Common.{◌≡◌, ◌∙◌, Ok, ap, length, subst, sym, arith}
 use Rattle.std.specs.Map.{keys_of}
+use Rattle.std.proofs.lemmas.List.{nil_from_length}
 use Rattle.settling_laws.proofs.Turned.{turned_empty, turned_more, turned_none, turned_still}
 use Rattle.orch_core.specs.Settled.{MakesTurn}
 use Rattle.orch_core.proofs.Chips.{keeps_itself, keeps_on}
-use Rattle.orch_core.proofs.Turns.{empty_of_length, turn_fewer, turns_err, turns_faulted, turns_full, turns_short}
+use Rattle.orch_core.proofs.Turns.{turn_fewer, turns_err, turns_faulted, turns_full, turns_short}
 use Rattle.orch_core.proofs.state.Core.make_turns.Goals as goal
 
 pub loop-left-init : goal.loop-left-init
@@ -59,4 +60,4 @@ pub returns : goal.returns
 returns g c = λ s is.
     let x = c.loop-left.invariant.0 s is in
     let left = c.loop-left.invariant.1 in
-    (c.count-left.ensures.order, turned_empty c.loop-left.turns c.args.self.now c.loop-left.self (g.C.Chip.state c.loop-left.chip) s x (empty_of_length (keys_of c.loop-left.self.tables.ops) (omega (arith, c.loop-left-test.false, left))), c.loop-left.invariant.4)
+    (c.count-left.ensures.order, turned_empty c.loop-left.turns c.args.self.now c.loop-left.self (g.C.Chip.state c.loop-left.chip) s x (nil_from_length (keys_of c.loop-left.self.tables.ops) (omega (arith, c.loop-left-test.false, left))), c.loop-left.invariant.4)

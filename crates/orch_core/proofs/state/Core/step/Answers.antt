@@ -1,22 +1,21 @@
-use Rattle.std.proofs.Common.{rules, ◌≡◌, None, []}
-use Rattle.flight_board.specs.Board.{flown_at}
-use Rattle.warm_state.specs.declared.warm.Warm.TheVariants as warm
-use Rattle.orch_core.proofs.Walks.{answering_steps, popping_part, popping_steps, steps_err}
+use Rattle.std.proofs.Common.{◌∙◌, subst, sym}
+use Rattle.restart_session_laws.proofs.Sessions.{session-of}
+use Rattle.orch_core.specs.Restarting.{StepsFrom}
 use Rattle.orch_core.proofs.state.Core.step.Goals as goal
 
-pub returns-then-is_flying : goal.returns-then-is_flying
-returns-then-is_flying g c = λ s is. answering_steps s c.args.worker c.args.self.now (g.C.Chip.state c.args.chip.now) c.answer.result c.answer.new.self (g.C.Chip.state c.answer.new.chip) (c.answer.ensures s is)
+pub work-requires-clause-session : goal.work-requires-clause-session
+work-requires-clause-session g c = let s = c.requires.service in (s.0, session-of c.args.self.now (g.C.Chip.state c.args.chip.now) s.0 s.1 (sym c.state.ensures ∙ c.in-Reconciled.is))
 
-pub returns-in_err-pop : goal.returns-in_err-pop
-returns-in_err-pop g c = λ s is.
-    let at : c.args.self.now.warm ≡ warm.Reconciled = search rules in
-    let t = c.pop.ensures.keys in
-    steps_err s c.args.worker c.args.self.now (g.C.Chip.state c.args.chip.now) c.from_residual.result c.pop.new.self c.from_residual.ensures.0 (popping_part s c.args.worker c.args.self.now (g.C.Chip.state c.args.chip.now) is at t.0 t.1 c.pop.new.self t.2)
+pub returns-in-Initialized : goal.returns-in-Initialized
+returns-in-Initialized g c = λ s is. subst (λ w. StepsFrom w c.args.worker s c.args.self.now (g.C.Chip.state c.args.chip.now) c.list.result c.list.new.self (g.C.Chip.state c.list.new.chip)) (sym (sym c.state.ensures ∙ c.in-Initialized.is)) (c.list.ensures s is)
 
-pub returns-then-not-is_popped : goal.returns-then-not-is_popped
-returns-then-not-is_popped g c = λ s is.
-    let at : c.args.self.now.warm ≡ warm.Reconciled = search rules in
-    let none : flown_at c.args.self.now.board c.args.worker ≡ None = search rules in
-    let some : c.args.self.now.tables.waiting ≡ [] → ⊥ = search rules in
-    let t = c.pop.ensures.keys in
-    popping_steps s c.args.worker c.args.self.now (g.C.Chip.state c.args.chip.now) is at t.0 t.1 c.pop.new.self t.2 none some c.in_ok-pop.ensures.some
+pub returns-in-Restored : goal.returns-in-Restored
+returns-in-Restored g c = λ s is. subst (λ w. StepsFrom w c.args.worker s c.args.self.now (g.C.Chip.state c.args.chip.now) c.restore.result c.restore.new.self (g.C.Chip.state c.restore.new.chip)) (sym (sym c.state.ensures ∙ c.in-Restored.is)) (c.restore.ensures s is)
+
+pub returns-in-Applying : goal.returns-in-Applying
+returns-in-Applying g c = λ s is. subst (λ w. StepsFrom w c.args.worker s c.args.self.now (g.C.Chip.state c.args.chip.now) c.apply.result c.apply.new.self (g.C.Chip.state c.apply.new.chip)) (sym (sym c.state.ensures ∙ c.in-Applying.is)) (c.apply.ensures s is)
+
+pub returns-in-Reconciled : goal.returns-in-Reconciled
+returns-in-Reconciled g c = λ s is.
+    let at = sym c.state.ensures ∙ c.in-Reconciled.is in
+    subst (λ w. StepsFrom w c.args.worker s c.args.self.now (g.C.Chip.state c.args.chip.now) c.work.result c.work.new.self (g.C.Chip.state c.work.new.chip)) (sym at) (c.work.ensures s (session-of c.args.self.now (g.C.Chip.state c.args.chip.now) s is at))
