@@ -6,7 +6,7 @@ use Rattle.sai_types.specs.contracts.kind.KindOrd.TheImpl as kind_ord
 use Rattle.sai_types.specs.declared.kind.Kind.{Kind}
 use Rattle.sai_types.specs.declared.kind.Kind.TheVariants as kind
 use Rattle.sai_types.specs.Objects.{level}
-use Rattle.view_match.specs.Keys.{key_cmp}
+use Rattle.view_match.specs.Keys.{natural_key_cmp}
 use Rattle.apply_order.specs.Ranks.{timed_cmp}
 use Rattle.apply_order.specs.Turns.{rank_order}
 use Rattle.apply_order.specs.contracts.ranks.RankOrd.TheImpl as rank_ord
@@ -40,5 +40,5 @@ ranks-by_phase (rank.RemoveRoute m) (rank.RemoveRoute n) = refl
 ranks-by_phase (rank.Remove k) (rank.Remove l) = kinds-by_level l.0 k.0
 ranks-by_phase r s = refl
 
-pub turns-by_parts : (t u : Timed) → (rest : Ordering) × (timed_cmp t u ≡ ordering_then (rank_order t.rank u.rank) (ordering_then (option_cmp key_cmp t.key u.key) (ordering_then (nat_cmp t.id u.id) rest)))
-turns-by_parts t u = (step_ord.ghosts.cmp t.step u.step, ap (λ o. ordering_then o (ordering_then (option_cmp key_cmp t.key u.key) (ordering_then (nat_cmp t.id u.id) (step_ord.ghosts.cmp t.step u.step)))) (ranks-by_phase t.rank u.rank))
+pub turns-by_parts : (t u : Timed) → (rest : Ordering) × (timed_cmp t u ≡ ordering_then (rank_order t.rank u.rank) (ordering_then (option_cmp natural_key_cmp t.key u.key) (ordering_then (nat_cmp t.id u.id) rest)))
+turns-by_parts t u = (step_ord.ghosts.cmp t.step u.step, ap (λ o. ordering_then o (ordering_then (option_cmp natural_key_cmp t.key u.key) (ordering_then (nat_cmp t.id u.id) (step_ord.ghosts.cmp t.step u.step)))) (ranks-by_phase t.rank u.rank))

@@ -20,7 +20,7 @@ use Rattle.sai_types.specs.declared.plan.PlanId.TheVariants as plan_id
 use Rattle.sai_types.specs.Refusal.{same_id}
 use Rattle.chip_layout.specs.Renamed.{to_renamed}
 use Rattle.plan_laws.specs.Calls.{old_entry}
-use Rattle.apply_order.specs.Naming.{Names, new_id}
+use Rattle.apply_order.specs.Naming.{OldIds, new_id}
 
 -- a name is that of an old object
 abbrev pub is_old : Rid → PlanId → Bool
@@ -28,29 +28,29 @@ is_old r (plan_id.Old s) = same_id r s
 is_old r (plan_id.New v) = false
 
 -- whether an old target is the one that a plan names
-abbrev pub is_target : To Rid → To PlanId → Bool
-is_target to.Drop to.Drop = true
-is_target (to.Rif r) (to.Rif i) = is_old r i
-is_target (to.NextHop r) (to.NextHop i) = is_old r i
-is_target (to.Group r) (to.Group i) = is_old r i
-is_target t u = false
+abbrev pub is_same_target : To Rid → To PlanId → Bool
+is_same_target to.Drop to.Drop = true
+is_same_target (to.Rif r) (to.Rif i) = is_old r i
+is_same_target (to.NextHop r) (to.NextHop i) = is_old r i
+is_same_target (to.Group r) (to.Group i) = is_old r i
+is_same_target t u = false
 
 -- an attribute, where it differs
-abbrev pub unless : Bool → Attr PlanId → List (Attr PlanId)
-unless same a = if same then [] else a ∷ []
+abbrev pub where_differs : Bool → Attr PlanId → List (Attr PlanId)
+where_differs same a = if same then [] else a ∷ []
 
 -- the attributes of an old object that differ from those of the new one, in their order
-abbrev pub differing : Names → Body Rid → Body Vid → List (Attr PlanId)
+abbrev pub differing : OldIds → Body Rid → Body Vid → List (Attr PlanId)
 differing names (body.Port lanes speed mtu up) (body.Port others speed' mtu' up') =
-    unless (speed == speed') (attr.Speed speed') ++ unless (mtu == mtu') (attr.Mtu mtu') ++ unless (beq up up') (attr.Up up')
-differing names (body.VlanMember vlan bridge_port tagging) (body.VlanMember vlan' bridge_port' tagging') = unless (tagging_eq.ghosts.eq tagging tagging') (attr.Tagging tagging')
-differing names (body.Neighbor rif ip mac) (body.Neighbor rif' ip' mac') = unless (mac_eq.ghosts.eq mac mac') (attr.Mac mac')
-differing names (body.Route prefix t) (body.Route prefix' t') = unless (is_target t (to_renamed (new_id names) t')) (attr.To (to_renamed (new_id names) t'))
+    where_differs (speed == speed') (attr.Speed speed') ++ where_differs (mtu == mtu') (attr.Mtu mtu') ++ where_differs (beq up up') (attr.Up up')
+differing names (body.VlanMember vlan bridge_port tagging) (body.VlanMember vlan' bridge_port' tagging') = where_differs (tagging_eq.ghosts.eq tagging tagging') (attr.Tagging tagging')
+differing names (body.Neighbor rif ip mac) (body.Neighbor rif' ip' mac') = where_differs (mac_eq.ghosts.eq mac mac') (attr.Mac mac')
+differing names (body.Route prefix t) (body.Route prefix' t') = where_differs (is_same_target t (to_renamed (new_id names) t')) (attr.To (to_renamed (new_id names) t'))
 differing names b c = []
 
 -- the calls that set them
 abbrev pub set_call : Entry Rid → Attr PlanId → PlanCall
 set_call e a = record { call = call.Set (old_entry e) a; makes = None }
 
-abbrev pub set_calls : Names → Object Rid → Object Vid → List PlanCall
+abbrev pub set_calls : OldIds → Object Rid → Object Vid → List PlanCall
 set_calls names o n = map (set_call o.entry) (differing names o.body n.body)

@@ -10,7 +10,7 @@ use Rattle.sai_types.specs.declared.plan.PlanCall.{PlanCall}
 use Rattle.chip_layout.specs.Renamed.{body_renamed}
 use Rattle.plan_laws.specs.Calls.{old_entry}
 use Rattle.apply_order.specs.Attributes.{set_calls}
-use Rattle.apply_order.specs.Naming.{Names, new_id}
+use Rattle.apply_order.specs.Naming.{OldIds, new_id}
 use Rattle.apply_order.specs.declared.ranks.PlanStep.{PlanStep}
 use Rattle.apply_order.specs.declared.ranks.PlanStep.TheVariants as step
 use Rattle.apply_order.specs.declared.ranks.Timed.{Timed}
@@ -20,7 +20,7 @@ abbrev pub made_id : Entry Vid → Option Vid
 made_id (entry.Oid v) = Some v
 made_id e = None
 
-abbrev pub make_calls : Names → Option (Object Vid) → List PlanCall
+abbrev pub make_calls : OldIds → Option (Object Vid) → List PlanCall
 make_calls names None = []
 make_calls names (Some n) = record { call = call.Create (body_renamed (new_id names) n.body); makes = made_id n.entry } ∷ []
 
@@ -28,17 +28,17 @@ abbrev pub remove_calls : Option (Object Rid) → List PlanCall
 remove_calls None = []
 remove_calls (Some o) = record { call = call.Remove (old_entry o.entry); makes = None } ∷ []
 
-abbrev pub both_calls : Names → Option (Object Rid) → Option (Object Vid) → List PlanCall
+abbrev pub both_calls : OldIds → Option (Object Rid) → Option (Object Vid) → List PlanCall
 both_calls names (Some o) (Some n) = set_calls names o n
 both_calls names _ _ = []
 
 -- the calls of a step
-abbrev pub step_calls : Names → List (Object Rid) → List (Object Vid) → PlanStep → List PlanCall
+abbrev pub step_calls : OldIds → List (Object Rid) → List (Object Vid) → PlanStep → List PlanCall
 step_calls names old new (step.Make j) = make_calls names (slice_get new j)
 step_calls names old new (step.Set i j) = both_calls names (slice_get old i) (slice_get new j)
 step_calls names old new (step.Remove i) = remove_calls (slice_get old i)
 
 -- the calls of steps, in their order
-abbrev pub steps_calls : Names → List (Object Rid) → List (Object Vid) → List Timed → List PlanCall
+abbrev pub steps_calls : OldIds → List (Object Rid) → List (Object Vid) → List Timed → List PlanCall
 steps_calls names old new [] = []
 steps_calls names old new (t ∷ ts) = step_calls names old new t.step ++ steps_calls names old new ts

@@ -14,23 +14,23 @@ use Rattle.sai_types.specs.declared.plan.PlanId.{PlanId}
 use Rattle.sai_types.specs.declared.plan.PlanId.TheVariants as plan_id
 
 -- by the number of a new identifier the old one
-abbrev pub Names : Type 0
-Names = List (ℕ × Rid)
+abbrev pub OldIds : Type 0
+OldIds = List (ℕ × Rid)
 
-abbrev pub with_entries : Names → Entry Rid → Entry Vid → Names
+abbrev pub with_entries : OldIds → Entry Rid → Entry Vid → OldIds
 with_entries names (entry.Oid r) (entry.Oid v) = insert_entry nat_cmp names v.0 r
 with_entries names e f = names
 
-abbrev pub with_objects : Names → Option (Object Rid) → Option (Object Vid) → Names
+abbrev pub with_objects : OldIds → Option (Object Rid) → Option (Object Vid) → OldIds
 with_objects names (Some o) (Some n) = with_entries names o.entry n.entry
 with_objects names _ _ = names
 
-abbrev pub names_from : Names → List (Object Rid) → List (Object Vid) → List (ℕ × ℕ) → Names
+abbrev pub names_from : OldIds → List (Object Rid) → List (Object Vid) → List (ℕ × ℕ) → OldIds
 names_from names old new [] = names
 names_from names old new (p ∷ ps) = names_from (with_objects names (slice_get old p.0) (slice_get new p.1)) old new ps
 
 -- a hitless plan names a paired object by its old identifier, a cold one none
-abbrev pub names_in : Mode → List (Object Rid) → List (Object Vid) → List (ℕ × ℕ) → Names
+abbrev pub names_in : Mode → List (Object Rid) → List (Object Vid) → List (ℕ × ℕ) → OldIds
 names_in mode.Hitless old new pairs = names_from [] old new pairs
 names_in mode.Cold old new pairs = []
 
@@ -38,5 +38,5 @@ abbrev pub id_by : Option Rid → Vid → PlanId
 id_by (Some r) v = plan_id.Old r
 id_by None v = plan_id.New v
 
-abbrev pub new_id : Names → Vid → PlanId
+abbrev pub new_id : OldIds → Vid → PlanId
 new_id names v = id_by (lookup (is_at (nat_cmp v.0)) names) v

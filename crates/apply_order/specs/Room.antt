@@ -24,8 +24,8 @@ lacking_from kind paired [] place = 0
 lacking_from kind paired (n ∷ ns) place = (if is_lacking kind n (partner_at paired place) then 1 else 0) + lacking_from kind paired ns (place + 1)
 
 -- of each kind the old objects and the new ones that are not paired number at most the capacity
-abbrev pub Fits : List ℕ → List (Object Rid) → List (Object Vid) → List (ℕ × ℕ) → Type 0
-Fits capacities old new pairs = (kind : Kind) → old_count kind old + lacking_from kind (by_new pairs) new 0 ≤ capacity_of capacities kind
+abbrev pub FitTogether : List ℕ → List (Object Rid) → List (Object Vid) → List (ℕ × ℕ) → Type 0
+FitTogether capacities old new pairs = (kind : Kind) → old_count kind old + lacking_from kind (by_new pairs) new 0 ≤ capacity_of capacities kind
 
 -- the same as a test, kind by kind
 abbrev pub has_room : List ℕ → List (Object Rid) → List (Object Vid) → Places → Kind → Bool

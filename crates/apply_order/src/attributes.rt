@@ -1,6 +1,6 @@
 // What a plan sets on a paired object.
 ghost use Rattle.std.specs.Prelude.{◌≡◌, ◌++◌, map, OnOk};
-ghost use Rattle.apply_order.specs.Attributes.{differing, is_old, is_target, set_call, set_calls, unless};
+ghost use Rattle.apply_order.specs.Attributes.{differing, is_old, is_same_target, set_call, set_calls, where_differs};
 
 use crate::naming::{Names, new_to, old_entry};
 use sai_types::{Attr, Body, Call, Entry, Object, PlanCall, PlanCalls, PlanId, Rid, To, Vid};
@@ -71,7 +71,7 @@ fn push_unless(
     same: bool,
     attr: Attr<PlanId>,
 ) -> Result<(), OutOfMemory>
-    ensures { OnOk result (calls.new ≡ calls.old ++ map (set_call entry.now) (unless same attr)) }
+    ensures { OnOk result (calls.new ≡ calls.old ++ map (set_call entry.now) (where_differs same attr)) }
 {
     if same {
         return Ok(());
@@ -84,7 +84,7 @@ fn push_unless(
 
 /// Whether an old target is the one that a plan names.
 fn is_target(old: To<Rid>, new: To<PlanId>) -> bool
-    ensures { result ≡ is_target old new }
+    ensures { result ≡ is_same_target old new }
 {
     match (old, new) {
         (To::Drop, To::Drop) => true,

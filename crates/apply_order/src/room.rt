@@ -2,7 +2,7 @@
 ghost use Rattle.std.specs.Prelude.{◌≡◌, ◌↔◌, ◌≤◌, true, IfOk};
 ghost use Rattle.std.specs.List.{list_all};
 ghost use Rattle.sai_types.specs.Objects.{is_of, level};
-ghost use Rattle.apply_order.specs.Room.{Fits, all_kinds, has_room, is_lacking, lacking_from, old_count};
+ghost use Rattle.apply_order.specs.Room.{FitTogether, all_kinds, has_room, is_lacking, lacking_from, old_count};
 
 use crate::places::{Places, by_new, partner};
 use crate::ranks::kind_of;
@@ -18,7 +18,7 @@ pub(crate) fn mode_of(
     pairs: &[(u64, u64)],
     caps: &Caps,
 ) -> Result<Mode, OutOfMemory>
-    ensures { IfOk result (λ mode. (mode ≡ Mode.Hitless) ↔ Fits caps.now.0 old.now new.now pairs.now) }
+    ensures { IfOk result (λ mode. (mode ≡ Mode.Hitless) ↔ FitTogether caps.now.0 old.now new.now pairs.now) }
 {
     let paired = by_new(alloc, pairs)?;
     Ok(mode_if(fits(&paired, old, new, caps)))

@@ -14,6 +14,7 @@ use Rattle.std.proofs.lemmas.Map.{NonePasses, lookup-none, none_passes_from_look
 use Rattle.std.proofs.lemmas.Map.Entries.{none_past_head, sum_by-remove_entry}
 use Rattle.std.proofs.lemmas.Map.Keys.{IsDistinct-from_sorted, sorted_tail}
 use Rattle.std.proofs.lemmas.Option.{none-some}
+use Rattle.swss_types.proofs.AllElements.{all-push}
 use Rattle.swss_types.proofs.Maps.{lookup-insert_entry}
 use Rattle.sai_types.specs.declared.ids.Rid.{Rid}
 use Rattle.sai_types.specs.declared.ids.Vid.{Vid}
@@ -33,7 +34,7 @@ use Rattle.sai_types.proofs.Maps.{lookup-removed, sorted-insert_entry, sorted-re
 use Rattle.sai_types.proofs.Membership.{all-in}
 use Rattle.chip_layout.specs.Renamed.{attr_renamed, entry_renamed}
 use Rattle.asic_view.specs.declared.object.ViewObject.{ViewObject}
-use Rattle.asic_view.specs.View.{IsLegalOn, IsNew, ViewObjects, after_create, after_remove, after_set, as_chip, as_rid, body_set, changed_at, entry_at, is_named, key_cmp, object_set, same_key, untied, used_of, vid_cmp}
+use Rattle.asic_view.specs.View.{IsLegalOn, IsNew, ViewObjects, after_create, after_remove, view_after_set, as_chip, as_rid, body_set, view_changed_at, entry_at, is_named, view_entry_cmp, object_set, same_key, untied, used_of, vid_cmp}
 use Rattle.asic_view.specs.Kept.{AreFiled, IsViewKept, Keyed, filed, unfiled, vid_by}
 use Rattle.asic_view.proofs.Naming.{key-exact, vid_entry_total, named-there, vid_total}
 
@@ -54,10 +55,6 @@ all-filter P p (x ∷ xs) h = by (p x) (all-filter P p xs h.1)
     by : (t : Bool) → AllByRecursion P (filter p xs) → AllByRecursion P (cond t (x ∷ filter p xs) (filter p xs))
     by true rest = (h.0, rest)
     by false rest = rest
-
-all-push : {X : Type 0} (P : X → Type 0) (xs : List X) (x : X) → AllByRecursion P xs → P x → AllByRecursion P (xs ++ x ∷ [])
-all-push P [] x h here = (here, tt)
-all-push P (y ∷ ys) x h here = (h.0, all-push P ys x h.1 here)
 
 all-map : {X : Type 0} (P Q : X → Type 0) (g : X → X) (xs : List X) → ((x : X) → P x → Q (g x)) → AllByRecursion P xs → AllByRecursion Q (map g xs)
 all-map P Q g [] f h = tt
@@ -98,15 +95,15 @@ key-refl e = (eq_by_cmp_equiv vid_entry_total).refl e
 filed-other : (keyed : Keyed) (e d : Entry Vid) (v : Vid) → same_key e d ≡ false → vid_by (filed keyed e v) d ≡ vid_by keyed d
 filed-other keyed (entry.Oid w) d v h = refl
 filed-other keyed e (entry.Oid w) v h = refl
-filed-other keyed e d v h = lookup-insert_entry key_cmp vid_entry_total keyed e v d ∙ ap (λ b. cond b (Some v) (lookup (is_at (key_cmp d)) keyed)) ((eq_by_cmp_equiv vid_entry_total).symm d e ∙ h)
+filed-other keyed e d v h = lookup-insert_entry view_entry_cmp vid_entry_total keyed e v d ∙ ap (λ b. cond b (Some v) (lookup (is_at (view_entry_cmp d)) keyed)) ((eq_by_cmp_equiv vid_entry_total).symm d e ∙ h)
 
-unfiled-other : (keyed : Keyed) (e d : Entry Vid) → IsStrictlySortedBy key_cmp (keys_of keyed) → same_key e d ≡ false → vid_by (unfiled keyed e) d ≡ vid_by keyed d
+unfiled-other : (keyed : Keyed) (e d : Entry Vid) → IsStrictlySortedBy view_entry_cmp (keys_of keyed) → same_key e d ≡ false → vid_by (unfiled keyed e) d ≡ vid_by keyed d
 unfiled-other keyed (entry.Oid w) d sorted h = refl
 unfiled-other keyed e (entry.Oid w) sorted h = refl
-unfiled-other keyed e d sorted h = lookup-removed key_cmp vid_entry_total keyed e d sorted ∙ ap (λ b. cond b None (lookup (is_at (key_cmp d)) keyed)) h
+unfiled-other keyed e d sorted h = lookup-removed view_entry_cmp vid_entry_total keyed e d sorted ∙ ap (λ b. cond b None (lookup (is_at (view_entry_cmp d)) keyed)) h
 
-filed_key : (keyed : Keyed) (e : Entry Vid) (v : Vid) → lookup (is_at (key_cmp e)) (insert_entry key_cmp keyed e v) ≡ Some v
-filed_key keyed e v = lookup-insert_entry key_cmp vid_entry_total keyed e v e ∙ ap (λ b. cond b (Some v) (lookup (is_at (key_cmp e)) keyed)) ((eq_by_cmp_equiv vid_entry_total).refl e)
+filed_key : (keyed : Keyed) (e : Entry Vid) (v : Vid) → lookup (is_at (view_entry_cmp e)) (insert_entry view_entry_cmp keyed e v) ≡ Some v
+filed_key keyed e v = lookup-insert_entry view_entry_cmp vid_entry_total keyed e v e ∙ ap (λ b. cond b (Some v) (lookup (is_at (view_entry_cmp e)) keyed)) ((eq_by_cmp_equiv vid_entry_total).refl e)
 
 filed-own : (keyed : Keyed) (v : Vid) (b : Body Vid) → vid_by (filed keyed (entry_at v b) v) (entry_at v b) ≡ Some v
 filed-own keyed v (body.OwnAddress ip) = filed_key keyed (entry.Own ip) v
@@ -114,19 +111,19 @@ filed-own keyed v (body.Neighbor rif ip mac) = filed_key keyed (entry.Neigh rif 
 filed-own keyed v (body.Route prefix to) = filed_key keyed (entry.Route prefix) v
 filed-own keyed v _ = refl
 
-filed-rise : (keyed : Keyed) (e : Entry Vid) (v : Vid) → IsStrictlySortedBy key_cmp (keys_of keyed) → IsStrictlySortedBy key_cmp (keys_of (filed keyed e v))
+filed-rise : (keyed : Keyed) (e : Entry Vid) (v : Vid) → IsStrictlySortedBy view_entry_cmp (keys_of keyed) → IsStrictlySortedBy view_entry_cmp (keys_of (filed keyed e v))
 filed-rise keyed (entry.Oid w) v sorted = sorted
-filed-rise keyed e v sorted = sorted-insert_entry key_cmp vid_entry_total keyed e v sorted
+filed-rise keyed e v sorted = sorted-insert_entry view_entry_cmp vid_entry_total keyed e v sorted
 
-unfiled-rise : (keyed : Keyed) (e : Entry Vid) → IsStrictlySortedBy key_cmp (keys_of keyed) → IsStrictlySortedBy key_cmp (keys_of (unfiled keyed e))
+unfiled-rise : (keyed : Keyed) (e : Entry Vid) → IsStrictlySortedBy view_entry_cmp (keys_of keyed) → IsStrictlySortedBy view_entry_cmp (keys_of (unfiled keyed e))
 unfiled-rise keyed (entry.Oid w) sorted = sorted
-unfiled-rise keyed e sorted = sorted-remove_entry key_cmp vid_entry_total (is_at (key_cmp e)) keyed sorted
+unfiled-rise keyed e sorted = sorted-remove_entry view_entry_cmp vid_entry_total (is_at (view_entry_cmp e)) keyed sorted
 
 filed-kept : (keyed : Keyed) (e : Entry Vid) (v : Vid) (os : ViewObjects) → AllByRecursion (λ y. is_named e y ≡ false) os → AreFiled keyed os → AreFiled (filed keyed e v) os
 filed-kept keyed e v [] apart h = tt
 filed-kept keyed e v (y ∷ ys) apart h = (filed-other keyed e (entry_at y.0 y.1.body) v apart.0 ∙ h.0, filed-kept keyed e v ys apart.1 h.1)
 
-unfiled-kept : (keyed : Keyed) (e : Entry Vid) (os : ViewObjects) → IsStrictlySortedBy key_cmp (keys_of keyed) → AllByRecursion (λ y. is_named e y ≡ false) os → AreFiled keyed os → AreFiled (unfiled keyed e) os
+unfiled-kept : (keyed : Keyed) (e : Entry Vid) (os : ViewObjects) → IsStrictlySortedBy view_entry_cmp (keys_of keyed) → AllByRecursion (λ y. is_named e y ≡ false) os → AreFiled keyed os → AreFiled (unfiled keyed e) os
 unfiled-kept keyed e [] sorted apart h = tt
 unfiled-kept keyed e (y ∷ ys) sorted apart h = (unfiled-other keyed e (entry_at y.0 y.1.body) sorted apart.0 ∙ h.0, unfiled-kept keyed e ys sorted apart.1 h.1)
 
@@ -181,24 +178,24 @@ removed_by v p (y ∷ ys) sorted only = by (is_at (vid_cmp v) y.0) refl (removed
     by true at rest = sym (stay-all p ys (none_pass v p ys (none_past_head (eq_by_cmp_equiv vid_total) v y ys (IsDistinct-from_sorted vid_cmp (keys_of (y ∷ ys)) sorted) at) only.1))
     by false at rest = ap (λ l. y ∷ l) rest
 
-changed_by : (v : Vid) (p : Item → Bool) (g : ViewObject → ViewObject) (os : ViewObjects) → AllByRecursion (λ y. p y ≡ is_at (vid_cmp v) y.0) os → changed_at os v g ≡ map (λ y. cond (p y) (y.0, g y.1) y) os
+changed_by : (v : Vid) (p : Item → Bool) (g : ViewObject → ViewObject) (os : ViewObjects) → AllByRecursion (λ y. p y ≡ is_at (vid_cmp v) y.0) os → view_changed_at os v g ≡ map (λ y. cond (p y) (y.0, g y.1) y) os
 changed_by v p g [] only = refl
 changed_by v p g (y ∷ ys) only = ap₂ (λ b l. cond b (y.0, g y.1) y ∷ l) (sym only.0) (changed_by v p g ys only.1)
 
-changed_above : (v : Vid) (g : ViewObject → ViewObject) (os : ViewObjects) → NonePasses (is_at (vid_cmp v)) os → changed_at os v g ≡ os
+changed_above : (v : Vid) (g : ViewObject → ViewObject) (os : ViewObjects) → NonePasses (is_at (vid_cmp v)) os → view_changed_at os v g ≡ os
 changed_above v g [] none = refl
 changed_above v g (y ∷ ys) none = ap₂ (λ b l. cond b (y.0, g y.1) y ∷ l) none.0 (changed_above v g ys none.1)
 
 -- an absent object does not change
-pub changed-absent : (v : Vid) (g : ViewObject → ViewObject) (os : ViewObjects) → lookup (is_at (vid_cmp v)) os ≡ None → os ≡ changed_at os v g
+pub changed-absent : (v : Vid) (g : ViewObject → ViewObject) (os : ViewObjects) → lookup (is_at (vid_cmp v)) os ≡ None → os ≡ view_changed_at os v g
 changed-absent v g os none = sym (changed_above v g os (none_passes_from_lookup (is_at (vid_cmp v)) os none))
 
 -- what was found is changed in its place
-pub changed-there : (v : Vid) (g : ViewObject → ViewObject) (os : ViewObjects) (x : ViewObject) → IsStrictlySortedBy vid_cmp (keys_of os) → lookup (is_at (vid_cmp v)) os ≡ Some x → set_value (is_at (vid_cmp v)) os (g x) ≡ changed_at os v g
+pub changed-there : (v : Vid) (g : ViewObject → ViewObject) (os : ViewObjects) (x : ViewObject) → IsStrictlySortedBy vid_cmp (keys_of os) → lookup (is_at (vid_cmp v)) os ≡ Some x → set_value (is_at (vid_cmp v)) os (g x) ≡ view_changed_at os v g
 changed-there v g [] x sorted there = absurd (none-some x there)
 changed-there v g (y ∷ ys) x sorted there = by (is_at (vid_cmp v) y.0) refl there (changed-there v g ys x (sorted_tail vid_cmp y.0 (keys_of ys) sorted))
   where
-    by : (t : Bool) → is_at (vid_cmp v) y.0 ≡ t → cond t (Some y.1) (lookup (is_at (vid_cmp v)) ys) ≡ Some x → (lookup (is_at (vid_cmp v)) ys ≡ Some x → set_value (is_at (vid_cmp v)) ys (g x) ≡ changed_at ys v g) → cond t ((y.0, g x) ∷ ys) (y ∷ set_value (is_at (vid_cmp v)) ys (g x)) ≡ cond t (y.0, g y.1) y ∷ changed_at ys v g
+    by : (t : Bool) → is_at (vid_cmp v) y.0 ≡ t → cond t (Some y.1) (lookup (is_at (vid_cmp v)) ys) ≡ Some x → (lookup (is_at (vid_cmp v)) ys ≡ Some x → set_value (is_at (vid_cmp v)) ys (g x) ≡ view_changed_at ys v g) → cond t ((y.0, g x) ∷ ys) (y ∷ set_value (is_at (vid_cmp v)) ys (g x)) ≡ cond t (y.0, g y.1) y ∷ view_changed_at ys v g
     by true at found rest =
         let same : x ≡ y.1 = cc in
         let pair : ViewObject → Item = λ z. (y.0, g z) in
@@ -272,11 +269,11 @@ module _ (made : ℕ) (os : ViewObjects) (keyed : Keyed) (counts : List ℕ) (ke
     abbrev change : Item → Item
     change y = cond (is_at (vid_cmp v) y.0) (y.0, g y.1) y
 
-    keys_stay : (ys : ViewObjects) → keys_of (changed_at ys v g) ≡ keys_of ys
+    keys_stay : (ys : ViewObjects) → keys_of (view_changed_at ys v g) ≡ keys_of ys
     keys_stay [] = refl
     keys_stay (y ∷ ys) = by (is_at (vid_cmp v) y.0) (keys_stay ys)
       where
-        by : (t : Bool) → keys_of (changed_at ys v g) ≡ keys_of ys → keys_of (cond t (y.0, g y.1) y ∷ changed_at ys v g) ≡ keys_of (y ∷ ys)
+        by : (t : Bool) → keys_of (view_changed_at ys v g) ≡ keys_of ys → keys_of (cond t (y.0, g y.1) y ∷ view_changed_at ys v g) ≡ keys_of (y ∷ ys)
         by true rest = ap (λ l. y.0 ∷ l) rest
         by false rest = ap (λ l. y.0 ∷ l) rest
 
@@ -294,15 +291,15 @@ module _ (made : ℕ) (os : ViewObjects) (keyed : Keyed) (counts : List ℕ) (ke
         by true = ap (vid_by keyed) (same y.0 y.1) ∙ h
         by false = h
 
-    count_stays : (ys : ViewObjects) (k : Kind) → used_of (changed_at ys v g) k ≡ used_of ys k
+    count_stays : (ys : ViewObjects) (k : Kind) → used_of (view_changed_at ys v g) k ≡ used_of ys k
     count_stays [] k = refl
     count_stays (y ∷ ys) k = by (is_at (vid_cmp v) y.0) (count_stays ys k)
       where
-        by : (t : Bool) → used_of (changed_at ys v g) k ≡ used_of ys k → used_of (cond t (y.0, g y.1) y ∷ changed_at ys v g) k ≡ used_of (y ∷ ys) k
-        by true rest = sum_by-cons (one_if k) (g y.1) (values_of (changed_at ys v g)) ∙ ap₂ (λ m n. cond (level m == level k) 1 0 + n) (alike y.1) rest ∙ sym (sum_by-cons (one_if k) y.1 (values_of ys))
-        by false rest = sum_by-cons (one_if k) y.1 (values_of (changed_at ys v g)) ∙ ap (λ n. one_if k y.1 + n) rest ∙ sym (sum_by-cons (one_if k) y.1 (values_of ys))
+        by : (t : Bool) → used_of (view_changed_at ys v g) k ≡ used_of ys k → used_of (cond t (y.0, g y.1) y ∷ view_changed_at ys v g) k ≡ used_of (y ∷ ys) k
+        by true rest = sum_by-cons (one_if k) (g y.1) (values_of (view_changed_at ys v g)) ∙ ap₂ (λ m n. cond (level m == level k) 1 0 + n) (alike y.1) rest ∙ sym (sum_by-cons (one_if k) y.1 (values_of ys))
+        by false rest = sum_by-cons (one_if k) y.1 (values_of (view_changed_at ys v g)) ∙ ap (λ n. one_if k y.1 + n) rest ∙ sym (sum_by-cons (one_if k) y.1 (values_of ys))
 
-    pub kept-changed : IsViewKept made (changed_at os v g) keyed counts
+    pub kept-changed : IsViewKept made (view_changed_at os v g) keyed counts
     kept-changed = record {
       rising = subst (IsStrictlySortedBy vid_cmp) (sym (keys_stay os)) kept.rising;
       below = all-map (λ y. y.0.0 ≤ made) (λ y. y.0.0 ≤ made) change os (λ y h. subst (λ (w : Vid). w.0 ≤ made) (sym (key_stays y)) h) kept.below;
@@ -342,7 +339,7 @@ module _ (made : ℕ) (os : ViewObjects) (keyed : Keyed) (counts : List ℕ) (ke
     pub removed-is : remove_entry (is_at (vid_cmp x.0)) os ≡ after_remove os e
     removed-is = removed_by x.0 (is_named e) os kept.rising only
 
-    pub set-is : (a : Attr Vid) → changed_at os x.0 (λ z. object_set z a) ≡ after_set os e a
+    pub set-is : (a : Attr Vid) → view_changed_at os x.0 (λ z. object_set z a) ≡ view_after_set os e a
     set-is a = changed_by x.0 (is_named e) (λ z. object_set z a) os only
 
     count_left : (k : Kind) → used_of (after_remove os e) k + one_if k x.1 ≡ used_of os k

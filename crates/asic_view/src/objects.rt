@@ -3,7 +3,7 @@ ghost use Rattle.std.specs.Prelude.{◌≡◌, None, option_map, OnOk, OnErr};
 ghost use Rattle.std.specs.BTreeMap.{insert_entry, is_at};
 ghost use Rattle.std.specs.Map.{lookup, remove_entry};
 ghost use Rattle.sai_types.specs.Objects.{kind_of};
-ghost use Rattle.asic_view.specs.View.{changed_at, entry_at, object_set, untied, vid_cmp, with_tie};
+ghost use Rattle.asic_view.specs.View.{view_changed_at, entry_at, object_set, untied, vid_cmp, with_tie};
 
 use crate::ViewObject;
 use crate::body::{entry_of, kind_of, set_attr};
@@ -44,7 +44,7 @@ pub fn take(objects: &mut Objects, vid: Vid) -> Option<Kind>
 
 /// Sets an attribute of the object with this identifier, if there is one.
 pub fn set(objects: &mut Objects, vid: Vid, attr: Attr<Vid>)
-    ensures { objects.new.entries ≡ changed_at objects.old.entries vid (λ x. object_set x attr) }
+    ensures { objects.new.entries ≡ view_changed_at objects.old.entries vid (λ x. object_set x attr) }
 {
     if let Some(object) = objects.get_mut(&vid) {
         set_attr(&mut object.body, attr);

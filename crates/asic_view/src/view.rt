@@ -1,6 +1,6 @@
 // A view.
 ghost use Rattle.std.specs.Prelude.{◌≡◌, [], map, IfOk, OnErr};
-ghost use Rattle.asic_view.specs.View.{IsLegalOn, IsNew, after_create, after_remove, after_set, object_of, rid_at, used_of, with_tie, without_object};
+ghost use Rattle.asic_view.specs.View.{IsLegalOn, IsNew, after_create, after_remove, view_after_set, object_of, rid_at, used_of, with_tie, without_object};
 
 use crate::body::{entry_of, kind_of, level};
 use crate::counts::{lower, raise};
@@ -75,7 +75,7 @@ impl View {
     /// Sets an attribute of an object.
     pub fn set(&mut self, entry: &Entry<Vid>, attr: Attr<Vid>)
         requires { IsLegalOn self.old (Call.Set entry.now attr) }
-        ensures { self.new ≡ after_set self.old entry.now attr }
+        ensures { self.new ≡ view_after_set self.old entry.now attr }
     {
         let Some(vid) = vid_by(&self.keyed, entry) else {
             unreachable!()

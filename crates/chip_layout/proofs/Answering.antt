@@ -24,7 +24,7 @@ use Rattle.sai_types.specs.declared.thing.Thing.TheVariants as thing
 use Rattle.sai_types.specs.After.{entry_of}
 use Rattle.sai_types.specs.Alike.{IsIn}
 use Rattle.sai_types.specs.Decided.{AreRoutes, DecideAlike}
-use Rattle.sai_types.specs.Forwarding.{Decision, best_route, decide, decide_route, decision_of, forward, forwarding_of, has_own, mac_of, same_hop}
+use Rattle.sai_types.specs.Forwarding.{Decision, best_route, decide, decide_route, decision_of, forward, forwarding_of, has_own, hop_mac, same_hop}
 use Rattle.sai_types.specs.Forwarding as decision
 use Rattle.sai_types.specs.Made.{HaveLanes, IsWhole, is_one, same_entry}
 use Rattle.sai_types.specs.Named.{base_on, both, bridge_port_at, goal_by, hop_cmp, hop_on, hops_among, hops_at, named, next_hop_at, port_at, rif_at, those, thing_of, things_among, vlan_at, with_member}
@@ -95,13 +95,13 @@ neighbor_parts h k m n e = (cc, cc)
 
 -- a thing in front is the hop's neighbour, or has no part in its Ethernet address
 abbrev pub IsFront : Thing → List Thing → Hop → Type 0
-IsFront t ts hop = ((m : Mac) × (t ≡ thing.Neighbor hop m) × (mac_of (t ∷ ts) hop ≡ Some m)) ⊎ ((mac_of (t ∷ ts) hop ≡ mac_of ts hop) × ((m : Mac) → thing.Neighbor hop m ≡ t → ⊥))
+IsFront t ts hop = ((m : Mac) × (t ≡ thing.Neighbor hop m) × (hop_mac (t ∷ ts) hop ≡ Some m)) ⊎ ((hop_mac (t ∷ ts) hop ≡ hop_mac ts hop) × ((m : Mac) → thing.Neighbor hop m ≡ t → ⊥))
 
 front_by : (b : Bool) (h : Hop) (m : Mac) (ts : List Thing) (hop : Hop) → same_hop h hop ≡ b → IsFront (thing.Neighbor h m) ts hop
-front_by true h m ts hop e = inl (m, ap (λ z. thing.Neighbor z m) (hop-same h hop e), ap (λ c. if c then Some m else mac_of ts hop) e)
+front_by true h m ts hop e = inl (m, ap (λ z. thing.Neighbor z m) (hop-same h hop e), ap (λ c. if c then Some m else hop_mac ts hop) e)
 front_by false h m ts hop e =
     inr (
-      ap (λ c. if c then Some m else mac_of ts hop) e,
+      ap (λ c. if c then Some m else hop_mac ts hop) e,
       λ n is. false≢true (sym e ∙ ap (λ z. same_hop z hop) (sym (neighbor_parts hop h n m is).0) ∙ equal_hop.laws-law.refl hop),
     )
 
@@ -110,11 +110,11 @@ front (thing.Neighbor h m) ts hop = front_by (same_hop h hop) h m ts hop refl
 front (thing.Port x) ts hop = inr (refl, λ m is. cc)
 front _ ts hop = inr (refl, λ m is. cc)
 
-pub mac_in : (ts : List Thing) (hop : Hop) (m : Mac) → IsIn (thing.Neighbor hop m) ts → ((n : Mac) → IsIn (thing.Neighbor hop n) ts → n ≡ m) → mac_of ts hop ≡ Some m
+pub mac_in : (ts : List Thing) (hop : Hop) (m : Mac) → IsIn (thing.Neighbor hop m) ts → ((n : Mac) → IsIn (thing.Neighbor hop n) ts → n ≡ m) → hop_mac ts hop ≡ Some m
 mac_in [] hop m h one = elim h [ ]
 mac_in (t ∷ ts) hop m h one = by (front t ts hop) h (λ g. mac_in ts hop m g (λ n i. one n (inr i)))
   where
-    by : IsFront t ts hop → IsIn (thing.Neighbor hop m) (t ∷ ts) → (IsIn (thing.Neighbor hop m) ts → mac_of ts hop ≡ Some m) → mac_of (t ∷ ts) hop ≡ Some m
+    by : IsFront t ts hop → IsIn (thing.Neighbor hop m) (t ∷ ts) → (IsIn (thing.Neighbor hop m) ts → hop_mac ts hop ≡ Some m) → hop_mac (t ∷ ts) hop ≡ Some m
     by (inl (n, is, found)) h behind = found ∙ ap Some (one n (inl (sym is)))
     by (inr (same, apart)) (inl is) behind = absurd (apart m is)
     by (inr (same, apart)) (inr g) behind = same ∙ behind g
@@ -268,7 +268,7 @@ module _ (made : ℕ) (objects : Objects) (whole : IsWhole made objects) (have :
       with_mac : Hop → Option Mac → List (Hop × Option Mac) → List (Hop × Option Mac)
       with_mac hop m ms = (hop, m) ∷ ms
 
-      macs : (hops : List Hop) → ((hop : Hop) → IsIn hop hops → HasOneMac others hop) → ((hop : Hop) → IsIn hop hops → HasOneMac stand hop) → map {B = Hop × Option Mac} (λ h. (h, mac_of others h)) hops ≡ map {B = Hop × Option Mac} (λ h. (h, mac_of stand h)) hops
+      macs : (hops : List Hop) → ((hop : Hop) → IsIn hop hops → HasOneMac others hop) → ((hop : Hop) → IsIn hop hops → HasOneMac stand hop) → map {B = Hop × Option Mac} (λ h. (h, hop_mac others h)) hops ≡ map {B = Hop × Option Mac} (λ h. (h, hop_mac stand h)) hops
       unfolding with_mac
       macs [] f g = refl
       macs (hop ∷ hops) f g =

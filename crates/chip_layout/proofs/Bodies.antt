@@ -15,7 +15,7 @@ use Rattle.sai_types.specs.Alike.{IsIn}
 use Rattle.sai_types.specs.Objects.{kind_of}
 use Rattle.sai_types.specs.After.{entry_of}
 use Rattle.sai_types.specs.Names.{ThingName, name_of, name_kind, Refers, base_name, goal_names, thing_references}
-use Rattle.chip_layout.specs.Bodies.{IsBody, IsAt, body_with, first_name, first_of, is_numbered, second_name, second_of}
+use Rattle.chip_layout.specs.Bodies.{IsBody, IsAt, body_with, first_name, first_thing_name, is_numbered, second_name, second_of}
 use Rattle.chip_layout.specs.Layout.{has_number}
 
 pub kind-body_with : {I : Type 0} (t : Thing) (i j : I) → kind_of (body_with t i j) ≡ name_kind (name_of t)
@@ -42,7 +42,7 @@ at_kept at later None i kept h = tt
 at_kept at later (Some k) i kept h = kept k refl h
 
 -- what an identifier of a thing's object names is a name that the thing refers to
-first_name_in : (ks : List ThingName) (k : ThingName) → first_of ks ≡ Some k → IsIn k ks
+first_name_in : (ks : List ThingName) (k : ThingName) → first_thing_name ks ≡ Some k → IsIn k ks
 first_name_in [] k h = absurd cc
 first_name_in (l ∷ ks) k h = inl (sym (same_Some l k h))
 

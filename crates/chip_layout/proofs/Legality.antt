@@ -26,7 +26,7 @@ use Rattle.sai_types.specs.Alike.{IsIn}
 use Rattle.sai_types.specs.Made.{AreSorted, same_entry}
 use Rattle.sai_types.specs.Objects.{Objects, body_at, is_of, kind_of, level, used}
 use Rattle.sai_types.specs.References.{Reference, attr_references, attr_refers_well, is_meant, references, refers_to, refers_well, stands, target_references}
-use Rattle.sai_types.specs.Refusal.{capacity_of, clash, first_of, has_attr, refusal_of, remove_refusal, same_base, same_id, same_ip, set_refusal}
+use Rattle.sai_types.specs.Refusal.{capacity_of, clash, first_refusal, has_attr, refusal_of, remove_refusal, same_base, same_id, same_ip, set_refusal}
 use Rattle.sai_types.proofs.Exact.{entry-exact, id-exact}
 use Rattle.sai_types.proofs.Found.{same-refl}
 use Rattle.sai_types.proofs.Listed.{apart-behind, found-in, in-found, sorted-behind}
@@ -276,17 +276,17 @@ module _ (f : Rid → Rid) where
 
       set_by : (capacities : List ℕ) (o : Option (Body Rid)) (a : Attr Rid) → set_refusal others (option_map (body_renamed f) o) (attr_renamed f a) ≡ set_refusal objects o a
       set_by capacities None a = refl
-      set_by capacities (Some b) a = ap₂ (λ x y. first_of (not x) NotFound (first_of (not y) BadReference None)) (has_attr-renamed f b a) (attr_same a)
+      set_by capacities (Some b) a = ap₂ (λ x y. first_refusal (not x) NotFound (first_refusal (not y) BadReference None)) (has_attr-renamed f b a) (attr_same a)
 
       remove_by : (e : Entry Rid) (o : Option (Body Rid)) → remove_refusal others (entry_renamed f e) (option_map (body_renamed f) o) ≡ remove_refusal objects e o
       remove_by e None = refl
-      remove_by e (Some b) = ap (λ x. first_of x InUse None) (any_same (λ d. refers_to d (entry_renamed f e)) (λ d. refers_to d e) (refers_same e))
+      remove_by e (Some b) = ap (λ x. first_refusal x InUse None) (any_same (λ d. refers_to d (entry_renamed f e)) (λ d. refers_to d e) (refers_same e))
 
       -- a call is refused for the reason for which it was refused before, or is legal as before
       pub refusal-renamed : (capacities : List ℕ) (c : Call Rid) → refusal_of capacities others (call_renamed f c) ≡ refusal_of capacities objects c
       refusal-renamed capacities (call.Create b) =
           let room : nat_le (capacity_of capacities (kind_of (body_renamed f b))) (used others (kind_of (body_renamed f b))) ≡ nat_le (capacity_of capacities (kind_of b)) (used objects (kind_of b)) = ap (λ k. nat_le (capacity_of capacities k) (used others k)) (kind-renamed f b) ∙ ap (nat_le (capacity_of capacities (kind_of b))) (used_same (kind_of b)) in
-          ap₂ (λ x y. first_of (not x) BadReference (first_of y Exists (first_of (nat_le (capacity_of capacities (kind_of (body_renamed f b))) (used others (kind_of (body_renamed f b)))) Full None))) (well_same b) (any_same (clash (body_renamed f b)) (clash b) (clash_same b))
-          ∙ ap (λ z. first_of (not (refers_well objects b)) BadReference (first_of (list_any (λ o. clash b o.1) objects) Exists (first_of z Full None))) room
+          ap₂ (λ x y. first_refusal (not x) BadReference (first_refusal y Exists (first_refusal (nat_le (capacity_of capacities (kind_of (body_renamed f b))) (used others (kind_of (body_renamed f b)))) Full None))) (well_same b) (any_same (clash (body_renamed f b)) (clash b) (clash_same b))
+          ∙ ap (λ z. first_refusal (not (refers_well objects b)) BadReference (first_refusal (list_any (λ o. clash b o.1) objects) Exists (first_refusal z Full None))) room
       refusal-renamed capacities (call.Set e a) = ap (λ o. set_refusal others o (attr_renamed f a)) (found e) ∙ set_by capacities (body_at objects e) a
       refusal-renamed capacities (call.Remove e) = ap (remove_refusal others (entry_renamed f e)) (found e) ∙ remove_by e (body_at objects e)

@@ -16,7 +16,7 @@ use Rattle.sai_types.proofs.Found.{body_at-insert, body_at-same, found-created}
 use Rattle.sai_types.proofs.Legal.{fresh}
 use Rattle.sai_types.specs.Names.{ThingName, name_of}
 use Rattle.chip_layout.specs.Bodies.{IsBody}
-use Rattle.chip_layout.specs.Layout.{Has, HasRoom, IsFree, IsLaidOut, Layout, RefersWell, has_number, next_id, with_thing}
+use Rattle.chip_layout.specs.Layout.{Has, HasRoom, IsFree, IsLaidOut, Layout, RefersWell, has_number, next_rid, with_thing}
 use Rattle.chip_layout.proofs.Bodies.{body-kept, entry-body, entry-same, kind-body}
 use Rattle.chip_layout.proofs.Entries.{refers-body}
 use Rattle.chip_layout.proofs.Laid.{clash-meet}
@@ -37,7 +37,7 @@ module _ (layout : Layout Rid) (made : ℕ) (objects : Objects) (whole : IsWhole
       legal_from capacities objects b (refers-body layout objects laid t b of near) no_clash
       (ap (λ k. nat_le (capacity_of capacities k) (used objects k)) (kind-body (Has layout) t b of) ∙ room)
 
-  module _ (i : Rid) (number : has_number t ≡ true → i ≡ next_id made) where
+  module _ (i : Rid) (number : has_number t ≡ true → i ≡ next_rid made) where
     abbrev later : Layout Rid
     later = with_thing layout i t
 

@@ -19,7 +19,7 @@ use Rattle.sai_types.specs.After.{entry_of}
 use Rattle.sai_types.specs.Alike.{IsAlike, IsIn, IsOnceIn}
 use Rattle.sai_types.specs.Made.{IsWhole, same_entry}
 use Rattle.sai_types.specs.Objects.{Objects, body_at}
-use Rattle.sai_types.specs.Named.{both, bridge_port_at, bridge_port_of, first_lane, hop_cmp, hop_on, hops_among, hops_at, named, next_hop_at, next_hop_of, port_at, port_of, rif_at, rif_of, thing_of, vlan_at, vlan_of, with_member}
+use Rattle.sai_types.specs.Named.{both, bridge_port_at, bridge_port_of, first_lane, hop_cmp, hop_on, hops_among, hops_at, named, next_hop_at, next_hop_of, port_at, body_port, rif_at, rif_of, thing_of, vlan_at, body_vlan, with_member}
 use Rattle.sai_types.specs.Refusal.{same_id}
 use Rattle.sai_types.proofs.Found.{same-refl, same-symm, same-trans}
 use Rattle.sai_types.specs.Names as name
@@ -55,14 +55,14 @@ module _ (layout : Layout Rid) (objects : Objects) (laid : IsLaidOut layout obje
       }
 
   port_by : (t : Thing) (i : Rid) (lane : ℕ) → layout i t → name_of t ≡ name.Port lane → port_at objects i ≡ Some lane
-  port_by (thing.Port p) i lane h e = ap port_of (found_at i (thing.Port p) h refl).found ∙ ap Some (ports (first_lane p.lanes) lane e)
+  port_by (thing.Port p) i lane h e = ap body_port (found_at i (thing.Port p) h refl).found ∙ ap Some (ports (first_lane p.lanes) lane e)
   port_by _ i lane h e = absurd cc
 
   port_named : (lane : ℕ) (i : Rid) → Has layout (name.Port lane) i → port_at objects i ≡ Some lane
   port_named lane i x = port_by x.0 i lane x.1 x.2
 
   vlan_by : (t : Thing) (i : Rid) (v : ℕ) → layout i t → name_of t ≡ name.Vlan v → vlan_at objects i ≡ Some v
-  vlan_by (thing.Vlan w) i v h e = ap vlan_of (found_at i (thing.Vlan w) h refl).found ∙ ap Some (vlans w v e)
+  vlan_by (thing.Vlan w) i v h e = ap body_vlan (found_at i (thing.Vlan w) h refl).found ∙ ap Some (vlans w v e)
   vlan_by _ i v h e = absurd cc
 
   vlan_named : (v : ℕ) (i : Rid) → Has layout (name.Vlan v) i → vlan_at objects i ≡ Some v

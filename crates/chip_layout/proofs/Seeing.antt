@@ -20,7 +20,7 @@ use Rattle.sai_types.specs.declared.thing.Thing.{Thing}
 use Rattle.sai_types.specs.declared.thing.Thing.TheVariants as thing
 use Rattle.sai_types.specs.After.{entry_of}
 use Rattle.sai_types.specs.Made.{HaveLanes, IsWhole, same_entry}
-use Rattle.sai_types.specs.Named.{both, bridge_port_at, bridge_port_of, first_lane, next_hop_at, next_hop_of, port_at, port_of, rif_at, rif_of, thing_by, vlan_at, vlan_of}
+use Rattle.sai_types.specs.Named.{both, bridge_port_at, bridge_port_of, first_lane, next_hop_at, next_hop_of, port_at, body_port, rif_at, rif_of, thing_by, vlan_at, body_vlan}
 use Rattle.sai_types.specs.Names as name
 use Rattle.sai_types.specs.Names.{name_of}
 use Rattle.sai_types.specs.Objects.{Objects, body_at, is_kind_of, is_there}
@@ -50,7 +50,7 @@ module _ (tag : Rid → List Hop) (made : ℕ) (objects : Objects) (whole : IsWh
   see r b t found at is numbered = record { entry = entry.Oid r; body = b; found = found; at = at; thing = is; none = true_not_false (has_number t) numbered }
 
   -- what stands under an identifier has a name, by which it is seen
-  port_by : (r : Rid) (o : Option (Body Rid)) → body_at objects (entry.Oid r) ≡ o → is_kind_of kind.Port o ≡ true → (n : ℕ) × (port_of o ≡ Some n) × Has L (name.Port n) r
+  port_by : (r : Rid) (o : Option (Body Rid)) → body_at objects (entry.Oid r) ≡ o → is_kind_of kind.Port o ≡ true → (n : ℕ) × (body_port o ≡ Some n) × Has L (name.Port n) r
   port_by r (Some (body.Port lanes speed mtu up)) e h = (first_lane lanes, refl, (thing.Port (record { lanes = lanes; speed = speed; mtu = mtu; up = up }), see r _ _ e (same-refl (entry.Oid r)) refl refl, refl))
   port_by r (Some _) e h = absurd (false≢true h)
   port_by r None e h = absurd (false≢true h)
@@ -58,7 +58,7 @@ module _ (tag : Rid → List Hop) (made : ℕ) (objects : Objects) (whole : IsWh
   port : (r : Rid) → is_there objects kind.Port r ≡ true → (n : ℕ) × (port_at objects r ≡ Some n) × Has L (name.Port n) r
   port r h = port_by r (body_at objects (entry.Oid r)) refl h
 
-  vlan_by : (r : Rid) (o : Option (Body Rid)) → body_at objects (entry.Oid r) ≡ o → is_kind_of kind.Vlan o ≡ true → (n : ℕ) × (vlan_of o ≡ Some n) × Has L (name.Vlan n) r
+  vlan_by : (r : Rid) (o : Option (Body Rid)) → body_at objects (entry.Oid r) ≡ o → is_kind_of kind.Vlan o ≡ true → (n : ℕ) × (body_vlan o ≡ Some n) × Has L (name.Vlan n) r
   vlan_by r (Some (body.Vlan v)) e h = (v, refl, (thing.Vlan v, see r _ _ e (same-refl (entry.Oid r)) refl refl, refl))
   vlan_by r (Some (body.Port lanes speed mtu up)) e h = absurd (false≢true h)
   vlan_by r (Some _) e h = absurd (false≢true h)

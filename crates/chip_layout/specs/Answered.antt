@@ -10,7 +10,7 @@ use Rattle.sai_types.specs.declared.body.Entry.{Entry}
 use Rattle.sai_types.specs.declared.thing.Thing.{Thing}
 use Rattle.sai_types.specs.declared.thing.Thing.TheVariants as thing
 use Rattle.sai_types.specs.Alike.{IsIn}
-use Rattle.sai_types.specs.Forwarding.{Decision, mac_of}
+use Rattle.sai_types.specs.Forwarding.{Decision, hop_mac}
 use Rattle.sai_types.specs.Forwarding as decision
 use Rattle.sai_types.specs.Objects.{Objects, body_at}
 
@@ -32,7 +32,7 @@ pub record HasOneMac (things : List Thing) (hop : Hop) : Type 0 where
   pub mac : Mac
   pub stands : IsIn (thing.Neighbor hop mac) things
   pub one : (other : Mac) → IsIn (thing.Neighbor hop other) things → other ≡ mac
-  pub found : mac_of things hop ≡ Some mac
+  pub found : hop_mac things hop ≡ Some mac
 
 -- each hop that packets go through has one
 abbrev pub HopsAreReached : List Thing → Decision → Type 0

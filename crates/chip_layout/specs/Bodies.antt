@@ -25,9 +25,9 @@ is_numbered kind.Neighbor = false
 is_numbered kind.Route = false
 is_numbered _ = true
 
-abbrev pub first_of : List ThingName → Option ThingName
-first_of [] = None
-first_of (k ∷ ks) = Some k
+abbrev pub first_thing_name : List ThingName → Option ThingName
+first_thing_name [] = None
+first_thing_name (k ∷ ks) = Some k
 
 -- the second of some names, where its object has an identifier
 abbrev pub second_of : List ThingName → Option ThingName
@@ -36,13 +36,13 @@ second_of _ = None
 
 -- what the first identifier in a thing's object names, and the second: a next hop's neighbour is named by the identifier of its interface
 abbrev pub first_name : Thing → Option ThingName
-first_name t = first_of (thing_references t)
+first_name t = first_thing_name (thing_references t)
 
 abbrev pub second_name : Thing → Option ThingName
 second_name t = second_of (thing_references t)
 
 abbrev pub goal_name : Goal → Option ThingName
-goal_name goal = first_of (goal_names goal)
+goal_name goal = first_thing_name (goal_names goal)
 
 abbrev pub on_with : {I : Type 0} → Base → I → RifOn I
 on_with (base.Port lane) i = on.Port i

@@ -52,8 +52,8 @@ abbrev pub without : Layout Rid → ThingName → Layout Rid
 without layout k j u = layout j u × (name_of u ≡ k → ⊥)
 
 -- the identifier of the next thing to be made
-abbrev pub next_id : ℕ → Rid
-next_id made = record { 0 = made + 1 }
+abbrev pub next_rid : ℕ → Rid
+next_rid made = record { 0 = made + 1 }
 
 -- the things that stand, as a view
 abbrev pub view_of : {I : Type 0} → Layout I → Thing → Type 0

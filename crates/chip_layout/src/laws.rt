@@ -18,7 +18,7 @@ ghost use Rattle.sai_types.specs.Refusal.{IsLegal, refusal_of};
 ghost use Rattle.chip_layout.specs.Answered.{AreSame, HavePrefixes, HopsAreReached};
 ghost use Rattle.chip_layout.specs.Bodies.{IsBody, IsChange};
 ghost use Rattle.chip_layout.specs.Grouped.{AreGrouped};
-ghost use Rattle.chip_layout.specs.Layout.{Has, HasRoom, IsFree, IsLaidOut, IsUnused, RefersWell, has_number, listed, next_id, view_of, with_changed, without};
+ghost use Rattle.chip_layout.specs.Layout.{Has, HasRoom, IsFree, IsLaidOut, IsUnused, RefersWell, has_number, listed, next_rid, view_of, with_changed, without};
 ghost use Rattle.chip_layout.specs.Renamed.{AreRenamed, call_renamed, things_renamed};
 ghost use Rattle.chip_layout.specs.Seen.{seen};
 ghost use Rattle.sai_types.specs.Names.{name_of};
@@ -26,7 +26,7 @@ ghost use Rattle.sai_types.specs.Names.{name_of};
 /// A thing that is free, whose references stand, and for which there is room can be made, and then it stands too.
 pub fn made_stands()
     ensures legal { (things : List (Rid × Thing)) (made : ℕ) (objects : Objects) (t : Thing) (b : Body Rid) (capacities : List ℕ) → IsWhole made objects → IsLaidOut (listed things) objects → IsBody (Has (listed things)) t b → IsFree (listed things) t → RefersWell (listed things) t → HasRoom capacities objects t → IsLegal capacities objects (call.Create b) }
-    ensures stands { (things : List (Rid × Thing)) (made : ℕ) (objects : Objects) (i : Rid) (t : Thing) (b : Body Rid) → IsWhole made objects → IsLaidOut (listed things) objects → IsBody (Has (listed things)) t b → IsFree (listed things) t → (has_number t ≡ true → i ≡ next_id made) → IsLaidOut (listed ((i, t) ∷ things)) (after_call (made + 1) objects (call.Create b)) }
+    ensures stands { (things : List (Rid × Thing)) (made : ℕ) (objects : Objects) (i : Rid) (t : Thing) (b : Body Rid) → IsWhole made objects → IsLaidOut (listed things) objects → IsBody (Has (listed things)) t b → IsFree (listed things) t → (has_number t ≡ true → i ≡ next_rid made) → IsLaidOut (listed ((i, t) ∷ things)) (after_call (made + 1) objects (call.Create b)) }
 {}
 
 /// A thing to which nothing refers can be removed, and then the others stand.

@@ -5,20 +5,20 @@ use Rattle.sai_types.specs.declared.body.Call.{Call}
 use Rattle.sai_types.specs.declared.ids.Rid.{Rid}
 use Rattle.sai_types.specs.declared.ids.Vid.{Vid}
 use Rattle.sai_types.specs.After.{makes_id}
-use Rattle.chip_layout.specs.Layout.{next_id}
+use Rattle.chip_layout.specs.Layout.{next_rid}
 use Rattle.switch_machine.specs.Events.{SwitchState}
 use Rattle.ref_counts.specs.Registry.{Names}
 use Rattle.ref_counts.specs.Room.{RoomState}
 use Rattle.orch_flight.specs.Grouping.{GroupOperation}
 use Rattle.registry_laws.specs.Flown.{Flown}
 use Rattle.registry_laws.specs.Making.{IsNextCall, TookFor}
-use Rattle.core_laws.specs.Calls.{TiesFollow}
+use Rattle.core_laws.specs.Calls.{TiesFollowCall}
 use Rattle.core_laws.specs.Standing.{HasBegun, StandsFor}
 use Rattle.core_laws.proofs.GroupAnswered.{group_answered}
 use Rattle.core_laws.proofs.Making.{Both}
 use Rattle.core_laws.proofs.RowAnswered.{row_answered}
 
-module _ (plan : Ports) (is : IsPlan plan) (capacities : List ℕ) (names : Names) (room : RoomState) (flown : ℕ → Option Flown) (rid : Vid → Option Rid) (s : SwitchState) (stands : StandsFor plan capacities names room flown rid s) (w : ℕ) (x : Flown) (at : flown w ≡ Some x) (c : Call Vid) (made : Option Vid) (rid' : Vid → Option Rid) (number : is_some made ≡ makes_id c) (ties : TiesFollow rid rid' c made (next_id s.made)) (begun : HasBegun plan names x) (told : IsNextCall plan names x.operation x.group c) (x' : Flown) (names' : Names) (took : TookFor x.operation x.group made names x' names') where
+module _ (plan : Ports) (is : IsPlan plan) (capacities : List ℕ) (names : Names) (room : RoomState) (flown : ℕ → Option Flown) (rid : Vid → Option Rid) (s : SwitchState) (stands : StandsFor plan capacities names room flown rid s) (w : ℕ) (x : Flown) (at : flown w ≡ Some x) (c : Call Vid) (made : Option Vid) (rid' : Vid → Option Rid) (number : is_some made ≡ makes_id c) (ties : TiesFollowCall rid rid' c made (next_rid s.made)) (begun : HasBegun plan names x) (told : IsNextCall plan names x.operation x.group c) (x' : Flown) (names' : Names) (took : TookFor x.operation x.group made names x' names') where
   pub answered : Both plan capacities rid rid' flown room s w c names' x'
   answered = by x.group refl
     where

@@ -19,7 +19,7 @@ use Rattle.switch_machine.specs.Events.{IsDueCall, SwitchState}
 use Rattle.switch_machine.specs.Flights.{Machine}
 use Rattle.ref_counts.specs.Registry.{Names}
 use Rattle.ref_counts.specs.Room.{RoomState}
-use Rattle.orch_flight.specs.Calling.{HasVid, IsCallOf, things_held}
+use Rattle.orch_flight.specs.Calling.{HasVid, IsCallFor, things_held}
 use Rattle.orch_flight.specs.Grouping.{GroupOperation, HasGroupVid}
 use Rattle.orch_flight.specs.Operation.{Operation}
 use Rattle.registry_laws.specs.Flown.{Flown, flight_of}
@@ -28,7 +28,7 @@ use Rattle.registry_laws.proofs.Taking.{held_stands}
 use Rattle.identifier_laws.specs.Identified.{IsVidOf, PortsStand, tie_by}
 use Rattle.identifier_laws.proofs.Due.{group_ports, is_due}
 use Rattle.identifier_laws.proofs.Known.{group_vid_one, vid_one}
-use Rattle.core_laws.specs.Calls.{IsTied, ids_of_call}
+use Rattle.core_laws.specs.Calls.{IsTiedBy, ids_of_call}
 use Rattle.core_laws.specs.Standing.{HasBegun, StandsFor}
 use Rattle.core_laws.proofs.Nexts.{below, builds, group_due_is, its, no_group, row_due_is}
 use Rattle.core_laws.proofs.Tied.{call_tied}
@@ -44,7 +44,7 @@ module _ (plan : Ports) (is : IsPlan plan) (capacities : List ℕ) (names : Name
   call = call_renamed (tie_by rid) c
 
   -- what stands has one identifier, which is tied
-  tied_by : (has : ThingName → Vid → Type 0) → ((n : ThingName) (v u : Vid) → has n v → IsVidOf plan names flown n u → v ≡ u) → (n : ThingName) (v : Vid) (i : Rid) → is_numbered (name_kind n) ≡ true → Has (listed m.stands) n i → has n v → IsTied rid v
+  tied_by : (has : ThingName → Vid → Type 0) → ((n : ThingName) (v u : Vid) → has n v → IsVidOf plan names flown n u → v ≡ u) → (n : ThingName) (v : Vid) (i : Rid) → is_numbered (name_kind n) ≡ true → Has (listed m.stands) n i → has n v → IsTiedBy rid v
   tied_by has one n v i numbered (t, there, same) told =
       let y = stands.identified.each i t there (ap (λ z. is_numbered (name_kind z)) same ∙ numbered) in
       (i, ap rid (one n v y.0 told (subst (λ z. IsVidOf plan names flown z y.0) same y.1)) ∙ y.2)
@@ -54,16 +54,16 @@ module _ (plan : Ports) (is : IsPlan plan) (capacities : List ℕ) (names : Name
     pub change : Change
     pub rest : List Change
     pub due : m.due w ≡ change ∷ rest
-    pub told : IsCallOf has things change c
+    pub told : IsCallFor has things change c
     pub of : IsCall (listed m.stands) change call
 
-  module _ (has : ThingName → Vid → Type 0) (one : (n : ThingName) (v u : Vid) → has n v → IsVidOf plan names flown n u → v ≡ u) (things : List Thing) (change : Change) (rest : List Change) (due : m.due w ≡ change ∷ rest) (ports : PortsStand m things change) (told : IsCallOf has things change c) where
+  module _ (has : ThingName → Vid → Type 0) (one : (n : ThingName) (v u : Vid) → has n v → IsVidOf plan names flown n u → v ≡ u) (things : List Thing) (change : Change) (rest : List Change) (due : m.due w ≡ change ∷ rest) (ports : PortsStand m things change) (told : IsCallFor has things change c) where
     next : IsNext has things
     next =
         let y = is_due plan is 4 capacities s stands.safe names rid flown stands.identified w (flight_of f) (its plan is capacities names room flown rid s stands w x at).flying change rest due has one things ports c (below plan is capacities names room flown rid s stands w x at) told in
         record { change = change; rest = rest; due = due; told = told; of = subst (λ d. IsCall (listed m.stands) d call) y.2 y.0.of }
 
-    next_tied : (v : Vid) → IsIn v (ids_of_call c) → IsTied rid v
+    next_tied : (v : Vid) → IsIn v (ids_of_call c) → IsTiedBy rid v
     next_tied v h = call_tied rid (listed m.stands) s.objects stands.safe.laid has (tied_by has one) things next.change c call next.told next.of v h
 
   -- ---- of a row
@@ -80,7 +80,7 @@ module _ (plan : Ports) (is : IsPlan plan) (capacities : List ℕ) (names : Name
     pub row_next : IsNext (HasVid plan names) (things_held plan f)
     row_next = next (HasVid plan names) (vid_one plan names flown (builds plan is capacities names room flown rid s stands w x at)) (things_held plan f) told.0 told.1 due_row (ports told.0 told.2) told.3
 
-    pub row_tied : (v : Vid) → IsIn v (ids_of_call c) → IsTied rid v
+    pub row_tied : (v : Vid) → IsIn v (ids_of_call c) → IsTiedBy rid v
     row_tied = next_tied (HasVid plan names) (vid_one plan names flown (builds plan is capacities names room flown rid s stands w x at)) (things_held plan f) told.0 told.1 due_row (ports told.0 told.2) told.3
 
   -- ---- of a group
@@ -95,7 +95,7 @@ module _ (plan : Ports) (is : IsPlan plan) (capacities : List ℕ) (names : Name
     pub group_next : IsNext (HasGroupVid plan names g) (shared_things (owner.Group g.hops))
     group_next = next (HasGroupVid plan names g) one_vid (shared_things (owner.Group g.hops)) told.0 (told.1 ++ f.due) due_group (group_ports m g.hops told.0) told.3
 
-    pub group_tied : (v : Vid) → IsIn v (ids_of_call c) → IsTied rid v
+    pub group_tied : (v : Vid) → IsIn v (ids_of_call c) → IsTiedBy rid v
     group_tied = next_tied (HasGroupVid plan names g) one_vid (shared_things (owner.Group g.hops)) told.0 (told.1 ++ f.due) due_group (group_ports m g.hops told.0) told.3
 
   -- ---- both
@@ -111,9 +111,9 @@ module _ (plan : Ports) (is : IsPlan plan) (capacities : List ℕ) (names : Name
         by None e = due_of (HasVid plan names) (things_held plan f) (row_next begun e (subst (λ g. IsNextCall plan names f g c) e told))
         by (Some g) e = due_of (HasGroupVid plan names g) (shared_things (owner.Group g.hops)) (group_next g e (subst (λ g. IsNextCall plan names f g c) e told))
 
-    pub names_tied : (v : Vid) → IsIn v (ids_of_call c) → IsTied rid v
+    pub names_tied : (v : Vid) → IsIn v (ids_of_call c) → IsTiedBy rid v
     names_tied = by x.group refl
       where
-        by : (g : Option GroupOperation) → x.group ≡ g → (v : Vid) → IsIn v (ids_of_call c) → IsTied rid v
+        by : (g : Option GroupOperation) → x.group ≡ g → (v : Vid) → IsIn v (ids_of_call c) → IsTiedBy rid v
         by None e = row_tied begun e (subst (λ g. IsNextCall plan names f g c) e told)
         by (Some g) e = group_tied g e (subst (λ g. IsNextCall plan names f g c) e told)

@@ -16,7 +16,7 @@ use Rattle.switch_machine.specs.Flights.{IsOwnedBy, Machine, own_of}
 use Rattle.ref_counts.specs.declared.name.Name.TheVariants as name
 use Rattle.ref_counts.specs.declared.name.NameState.{NameState}
 use Rattle.ref_counts.specs.declared.name.NameState.TheVariants as state
-use Rattle.ref_counts.specs.Registry.{Names, ids_of, is_retiring, name_cmp, registered_at, state_in, state_of}
+use Rattle.ref_counts.specs.Registry.{Names, ids_of, is_retiring, registered_name_cmp, registered_at, state_in, state_of}
 use Rattle.orch_flight.specs.Needing.{name_for}
 use Rattle.registry_laws.specs.Ending.{ended_names, named_by, users_dropped, users_passed}
 use Rattle.registry_laws.specs.Flown.{Flown}
@@ -45,9 +45,9 @@ module _ (plan : Ports) (t : Machine) (sound : IsConsistent plan t) (names : Nam
   -- the key's name is gone with its row, or was not to go
   absent_or : (st : NameState) → state_of passed (name.Row k) ≡ st → (registered_at gone (name.Row k) ≡ None) ⊎ HaveSameIds names gone
   absent_or (state.Retiring v) e = inl (gone_at passed (owner.OfRow k) v passed_fine.rising e)
-  absent_or state.Absent e = inr (λ o. ap (λ st. ids_of (cond (is_retiring st) (remove_entry (is_at (name_cmp (name.Row k))) passed) passed) (name_for o)) e ∙ ids_passed names w k old o)
-  absent_or state.Live e = inr (λ o. ap (λ st. ids_of (cond (is_retiring st) (remove_entry (is_at (name_cmp (name.Row k))) passed) passed) (name_for o)) e ∙ ids_passed names w k old o)
-  absent_or (state.Building v) e = inr (λ o. ap (λ st. ids_of (cond (is_retiring st) (remove_entry (is_at (name_cmp (name.Row k))) passed) passed) (name_for o)) e ∙ ids_passed names w k old o)
+  absent_or state.Absent e = inr (λ o. ap (λ st. ids_of (cond (is_retiring st) (remove_entry (is_at (registered_name_cmp (name.Row k))) passed) passed) (name_for o)) e ∙ ids_passed names w k old o)
+  absent_or state.Live e = inr (λ o. ap (λ st. ids_of (cond (is_retiring st) (remove_entry (is_at (registered_name_cmp (name.Row k))) passed) passed) (name_for o)) e ∙ ids_passed names w k old o)
+  absent_or (state.Building v) e = inr (λ o. ap (λ st. ids_of (cond (is_retiring st) (remove_entry (is_at (registered_name_cmp (name.Row k))) passed) passed) (name_for o)) e ∙ ids_passed names w k old o)
 
   module _ (rid : Vid → Option Rid) (flown : ℕ → Option Flown) (known : Identified plan names rid flown t.stands) where
     gone_identified : KnowsNames plan gone t → (registered_at gone (name.Row k) ≡ None) ⊎ HaveSameIds names gone → Identified plan gone rid flown t.stands

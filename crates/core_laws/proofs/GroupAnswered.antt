@@ -9,7 +9,7 @@ use Rattle.sai_types.specs.declared.thing.Thing.{Thing}
 use Rattle.sai_types.specs.After.{makes_id}
 use Rattle.sai_types.specs.Alike.{IsIn}
 use Rattle.sai_types.specs.Names.{ThingName}
-use Rattle.chip_layout.specs.Layout.{next_id}
+use Rattle.chip_layout.specs.Layout.{next_rid}
 use Rattle.chip_layout.specs.Renamed.{call_renamed}
 use Rattle.row_layout.specs.Operations.{Change, Make, Take}
 use Rattle.row_layout.specs.Rows as owner
@@ -23,7 +23,7 @@ use Rattle.switch_machine.proofs.Splits.{put_at, put_off}
 use Rattle.ref_counts.specs.Registry.{Names}
 use Rattle.ref_counts.specs.Room.{RoomState}
 use Rattle.orch_flight.specs.Calling.{HasVid}
-use Rattle.orch_flight.specs.Grouping.{GroupOperation, HasGroupVid, IsGroupTook, with_made}
+use Rattle.orch_flight.specs.Grouping.{GroupOperation, HasGroupVid, IsGroupTook, members_with_made}
 use Rattle.orch_flight.specs.Operation.{Operation}
 use Rattle.registry_laws.specs.Flown.{Flown, group_to_build, group_to_take, whole_group}
 use Rattle.registry_laws.specs.Flying.{flown_as}
@@ -39,7 +39,7 @@ use Rattle.identifier_laws.proofs.GroupTook.{built_took, taken_took}
 use Rattle.identifier_laws.proofs.Known.{group_goes, one_way}
 use Rattle.identifier_laws.proofs.Staying.{flown_identified, puts_kept}
 use Rattle.identifier_laws.proofs.Whole.{whole_built, whole_taken}
-use Rattle.core_laws.specs.Calls.{TiesFollow}
+use Rattle.core_laws.specs.Calls.{TiesFollowCall}
 use Rattle.core_laws.specs.Standing.{StandsFor, with_answer}
 use Rattle.core_laws.proofs.Due.{IsNext, group_next}
 use Rattle.core_laws.proofs.Making.{Answers, Both, On, Over, answer, later, moves, stands_on, stands_over, then, tied}
@@ -47,7 +47,7 @@ use Rattle.core_laws.proofs.Nexts.{builds, goes_alone, group_due_is, grouped, ma
 use Rattle.core_laws.proofs.Parts.{built_part}
 use Rattle.core_laws.proofs.Taken.{group_number}
 
-module _ (plan : Ports) (is : IsPlan plan) (capacities : List ℕ) (names : Names) (room : RoomState) (flown : ℕ → Option Flown) (rid : Vid → Option Rid) (s : SwitchState) (stands : StandsFor plan capacities names room flown rid s) (w : ℕ) (x : Flown) (at : flown w ≡ Some x) (c : Call Vid) (made : Option Vid) (rid' : Vid → Option Rid) (number : is_some made ≡ makes_id c) (ties : TiesFollow rid rid' c made (next_id s.made)) (g : GroupOperation) (has : x.group ≡ Some g) (told : IsNextCall plan names x.operation (Some g) c) (g' : GroupOperation) (names' : Names) (took : IsGroupTook g made names g' names') where
+module _ (plan : Ports) (is : IsPlan plan) (capacities : List ℕ) (names : Names) (room : RoomState) (flown : ℕ → Option Flown) (rid : Vid → Option Rid) (s : SwitchState) (stands : StandsFor plan capacities names room flown rid s) (w : ℕ) (x : Flown) (at : flown w ≡ Some x) (c : Call Vid) (made : Option Vid) (rid' : Vid → Option Rid) (number : is_some made ≡ makes_id c) (ties : TiesFollowCall rid rid' c made (next_rid s.made)) (g : GroupOperation) (has : x.group ≡ Some g) (told : IsNextCall plan names x.operation (Some g) c) (g' : GroupOperation) (names' : Names) (took : IsGroupTook g made names g' names') where
   abbrev f : Operation
   f = x.operation
 
@@ -79,7 +79,7 @@ module _ (plan : Ports) (is : IsPlan plan) (capacities : List ℕ) (names : Name
   same_builds = ap (λ (z : GroupOperation). z.builds) took.operation
 
   fine : AreFine names'
-  fine = subst AreFine (sym took.names_are) (group_fine names g (with_made g made) took.rest (fine_of names stands.board.rising stands.board.placed stands.board.there))
+  fine = subst AreFine (sym took.names_are) (group_fine names g (members_with_made g made) took.rest (fine_of names stands.board.rising stands.board.placed stands.board.there))
 
   abbrev stands' : List (Rid × Thing)
   stands' = later plan is capacities names room flown rid s stands w x at c (HasGroupVid plan names g) (shared_things (owner.Group g.hops)) y

@@ -14,7 +14,7 @@ use Rattle.sai_types.specs.declared.ids.Vid.{Vid}
 use Rattle.sai_types.specs.declared.thing.Thing.{Thing}
 use Rattle.sai_types.specs.After.{makes_id}
 use Rattle.sai_types.specs.Names.{ThingName}
-use Rattle.chip_layout.specs.Layout.{Layout, has_number, listed, next_id}
+use Rattle.chip_layout.specs.Layout.{Layout, has_number, listed, next_rid}
 use Rattle.chip_layout.specs.Renamed.{call_renamed}
 use Rattle.row_layout.specs.Operations.{Change, Make, Set, Take}
 use Rattle.switch_machine.specs.Changes.{IsCall}
@@ -25,7 +25,7 @@ use Rattle.switch_machine.proofs.Kept.{kept-answers, moves_back, moves_by}
 use Rattle.machine_laws.proofs.Completing.{Changed, change_made}
 use Rattle.ref_counts.specs.Registry.{Names}
 use Rattle.ref_counts.specs.Room.{GivesBack, RoomState}
-use Rattle.orch_flight.specs.Calling.{HasVid, IsCallOf}
+use Rattle.orch_flight.specs.Calling.{HasVid, IsCallFor}
 use Rattle.registry_laws.specs.Ending.{ended_names}
 use Rattle.registry_laws.specs.Flown.{Flown, due_for, flight_of}
 use Rattle.registry_laws.specs.Flying.{KnowsBoard}
@@ -33,7 +33,7 @@ use Rattle.registry_laws.proofs.Fine.{AreFine}
 use Rattle.identifier_laws.specs.Identified.{HasWholeGroups, Identified, TiesAfter, tie_by}
 use Rattle.identifier_laws.proofs.Entering.{taken_entry}
 use Rattle.identifier_laws.proofs.Whole.{whole_ended}
-use Rattle.core_laws.specs.Calls.{TiesFollow}
+use Rattle.core_laws.specs.Calls.{TiesFollowCall}
 use Rattle.core_laws.specs.Standing.{StandsFor, with_answer}
 use Rattle.core_laws.proofs.Due.{IsNext}
 use Rattle.core_laws.proofs.Ended.{ended_identified}
@@ -46,12 +46,12 @@ some_of : (made : Option Vid) → is_some made ≡ true → (v : Vid) × (made �
 some_of None h = absurd cc
 some_of (Some v) h = (v, refl)
 
-given_by : (L : Layout Rid) (made : ℕ) (call : Call Rid) (d : Change) (of : IsCall L d call) (i : Rid) → IsGiven L made d call of i → (t : Thing) → d ≡ Make t → has_number t ≡ true → i ≡ next_id made
+given_by : (L : Layout Rid) (made : ℕ) (call : Call Rid) (d : Change) (of : IsCall L d call) (i : Rid) → IsGiven L made d call of i → (t : Thing) → d ≡ Make t → has_number t ≡ true → i ≡ next_rid made
 given_by L made call (Make u) of i given t e h = let same : u ≡ t = cc in given (ap has_number same ∙ h)
 given_by L made call (Set u) of i given t e h = absurd cc
 given_by L made call (Take n) of i given t e h = absurd cc
 
-ties_by : (plan : Ports) (names : Names) (rid rid' : Vid → Option Rid) (c : Call Vid) (made : Option Vid) (number : is_some made ≡ makes_id c) (next : Rid) (ties : TiesFollow rid rid' c made next) (has : ThingName → Vid → Type 0) (things : List Thing) (d : Change) → IsCallOf has things d c → (i : Rid) → ((t : Thing) → d ≡ Make t → has_number t ≡ true → i ≡ next) → ((n : ThingName) → d ≡ Take n → (v : Vid) → has n v → HasVid plan names n v) → TiesAfter plan names rid rid' d made i
+ties_by : (plan : Ports) (names : Names) (rid rid' : Vid → Option Rid) (c : Call Vid) (made : Option Vid) (number : is_some made ≡ makes_id c) (next : Rid) (ties : TiesFollowCall rid rid' c made next) (has : ThingName → Vid → Type 0) (things : List Thing) (d : Change) → IsCallFor has things d c → (i : Rid) → ((t : Thing) → d ≡ Make t → has_number t ≡ true → i ≡ next) → ((n : ThingName) → d ≡ Take n → (v : Vid) → has n v → HasVid plan names n v) → TiesAfter plan names rid rid' d made i
 ties_by plan names rid rid' c made number next ties has things (Make t) told i given take = (
   (λ v j e. ties.kept v j (λ r. no_create told.body v (sym told.is ∙ r)) e),
   (λ h. let v = some_of made (number ∙ making_number has t c told ∙ h) in (v.0, v.1, ties.new v.0 v.1 ∙ ap Some (sym (given t refl h)))),
@@ -95,9 +95,9 @@ module _ (plan : Ports) (is : IsPlan plan) (capacities : List ℕ) (names : Name
   abbrev pub answer : (t : Machine) → Follows plan w (moved m w y.rest later) t → IsAnswer plan 4 call s (with_answer s t call)
   answer t follows = record { next = next; id = then.id; given = then.given; stands = later; into = then.into; back = then.back; follows = follows; written = refl; to_sync = refl; made = refl; objects = refl }
 
-  module _ (made : Option Vid) (rid' : Vid → Option Rid) (number : is_some made ≡ makes_id c) (ties : TiesFollow rid rid' c made (next_id s.made)) where
+  module _ (made : Option Vid) (rid' : Vid → Option Rid) (number : is_some made ≡ makes_id c) (ties : TiesFollowCall rid rid' c made (next_rid s.made)) where
     pub tied : ((n : ThingName) → y.change ≡ Take n → (v : Vid) → has n v → HasVid plan names n v) → TiesAfter plan names rid rid' y.change made then.id
-    tied take = ties_by plan names rid rid' c made number (next_id s.made) ties has things y.change y.told then.id (given_by (listed m.stands) s.made call y.change y.of then.id then.given) take
+    tied take = ties_by plan names rid rid' c made number (next_rid s.made) ties has things y.change y.told then.id (given_by (listed m.stands) s.made call y.change y.of then.id then.given) take
 
 -- ---- what stands for the state then
 

@@ -8,7 +8,7 @@ use Rattle.sai_types.specs.declared.ids.Vid.{Vid}
 use Rattle.sai_types.specs.declared.thing.Thing.{Thing}
 use Rattle.sai_types.specs.After.{makes_id}
 use Rattle.sai_types.specs.Alike.{IsIn}
-use Rattle.chip_layout.specs.Layout.{next_id}
+use Rattle.chip_layout.specs.Layout.{next_rid}
 use Rattle.chip_layout.specs.Renamed.{call_renamed}
 use Rattle.row_layout.specs.Operations.{Change}
 use Rattle.row_layout.specs.Rows.{Owner}
@@ -31,7 +31,7 @@ use Rattle.identifier_laws.specs.Identified.{HasWholeGroups, Identified, KeepsBu
 use Rattle.identifier_laws.proofs.Staying.{flown_identified, puts_kept}
 use Rattle.identifier_laws.proofs.Took.{took_identified}
 use Rattle.identifier_laws.proofs.Whole.{whole_took}
-use Rattle.core_laws.specs.Calls.{TiesFollow}
+use Rattle.core_laws.specs.Calls.{TiesFollowCall}
 use Rattle.core_laws.specs.Standing.{HasBegun, StandsFor, with_answer}
 use Rattle.core_laws.proofs.Due.{IsNext, row_next}
 use Rattle.core_laws.proofs.Making.{Answers, Both, On, Over, answer, later, moves, stands_on, stands_over, then, tied}
@@ -52,7 +52,7 @@ took_fine names names' f f' made fine took = subst AreFine (sym took.names_are) 
     by [] None = now_fine
     by (d ∷ ds) leaves = now_fine
 
-module _ (plan : Ports) (is : IsPlan plan) (capacities : List ℕ) (names : Names) (room : RoomState) (flown : ℕ → Option Flown) (rid : Vid → Option Rid) (s : SwitchState) (stands : StandsFor plan capacities names room flown rid s) (w : ℕ) (x : Flown) (at : flown w ≡ Some x) (c : Call Vid) (made : Option Vid) (rid' : Vid → Option Rid) (number : is_some made ≡ makes_id c) (ties : TiesFollow rid rid' c made (next_id s.made)) (begun : HasBegun plan names x) (none : x.group ≡ None) (told : IsNextCall plan names x.operation None c) (f' : Operation) (names' : Names) (took : IsTook x.operation made names f' names') where
+module _ (plan : Ports) (is : IsPlan plan) (capacities : List ℕ) (names : Names) (room : RoomState) (flown : ℕ → Option Flown) (rid : Vid → Option Rid) (s : SwitchState) (stands : StandsFor plan capacities names room flown rid s) (w : ℕ) (x : Flown) (at : flown w ≡ Some x) (c : Call Vid) (made : Option Vid) (rid' : Vid → Option Rid) (number : is_some made ≡ makes_id c) (ties : TiesFollowCall rid rid' c made (next_rid s.made)) (begun : HasBegun plan names x) (none : x.group ≡ None) (told : IsNextCall plan names x.operation None c) (f' : Operation) (names' : Names) (took : IsTook x.operation made names f' names') where
   abbrev f : Operation
   f = x.operation
 

@@ -16,7 +16,7 @@ use Rattle.switch_machine.specs.Events.{SwitchState}
 use Rattle.switch_machine.proofs.Tabled.{tabled}
 use Rattle.ref_counts.specs.Registry.{Names}
 use Rattle.ref_counts.specs.Room.{RoomState}
-use Rattle.orch_flight.specs.Calling.{IsCallOf, IsMaking}
+use Rattle.orch_flight.specs.Calling.{IsCallFor, IsMaking}
 use Rattle.orch_flight.specs.Grouping.{GroupOperation, HasGroupVid, MayTakeGroup}
 use Rattle.orch_flight.specs.Operation.{Operation}
 use Rattle.orch_flight.specs.Taking.{MayTake}
@@ -33,7 +33,7 @@ use Rattle.core_laws.proofs.Nexts.{makes_next, no_group, takes_next}
 pub making_number : (has : ThingName → Vid → Type 0) (t : Thing) (c : Call Vid) → IsMaking has t c → makes_id c ≡ has_number t
 making_number has t c x = ap makes_id x.is ∙ made_number has t c x.body x x.is
 
-pub taking_number : (has : ThingName → Vid → Type 0) (things : List Thing) (n : ThingName) (c : Call Vid) → IsCallOf has things (Take n) c → makes_id c ≡ false
+pub taking_number : (has : ThingName → Vid → Type 0) (things : List Thing) (n : ThingName) (c : Call Vid) → IsCallFor has things (Take n) c → makes_id c ≡ false
 taking_number has things n c x = ap makes_id x.is
 
 module _ (plan : Ports) (is : IsPlan plan) (capacities : List ℕ) (names : Names) (room : RoomState) (flown : ℕ → Option Flown) (rid : Vid → Option Rid) (s : SwitchState) (stands : StandsFor plan capacities names room flown rid s) (w : ℕ) (x : Flown) (at : flown w ≡ Some x) (c : Call Vid) (made : Option Vid) (number : is_some made ≡ makes_id c) where
@@ -44,7 +44,7 @@ module _ (plan : Ports) (is : IsPlan plan) (capacities : List ℕ) (names : Name
   may_take_row begun none told =
       let no = no_group plan is capacities names room flown rid s stands w x at begun none in
       may_take plan is capacities names room flown s.machine stands.safe.sound stands.board w x at none no.0 no.1 made
-      (λ t rest due. number ∙ making_number _ t c (subst (λ d. IsCallOf _ _ d c) (same_first told.0 (Make t) told.1 rest (sym told.2 ∙ due)) told.3))
+      (λ t rest due. number ∙ making_number _ t c (subst (λ d. IsCallFor _ _ d c) (same_first told.0 (Make t) told.1 rest (sym told.2 ∙ due)) told.3))
 
   module _ (g : GroupOperation) (has : x.group ≡ Some g) (told : IsNextCall plan names f (Some g) c) where
     first_due : IsIn told.0 g.due
@@ -57,10 +57,10 @@ module _ (plan : Ports) (is : IsPlan plan) (capacities : List ℕ) (names : Name
         by true e =
             let z = makes_next plan is capacities names room flown rid s stands w x at g has e told.0 first_due in
             let numbered : has_number z.0 ≡ true = group_numbered plan (name_of z.0) g.hops ((tabled plan is).shared (owner.Group g.hops) z.0 z.1) in
-            number ∙ making_number (HasGroupVid plan names g) z.0 c (subst (λ d. IsCallOf (HasGroupVid plan names g) (shared_things (owner.Group g.hops)) d c) z.2 told.3) ∙ numbered ∙ sym e
+            number ∙ making_number (HasGroupVid plan names g) z.0 c (subst (λ d. IsCallFor (HasGroupVid plan names g) (shared_things (owner.Group g.hops)) d c) z.2 told.3) ∙ numbered ∙ sym e
         by false e =
             let z = takes_next plan is capacities names room flown rid s stands w x at g has e told.0 first_due in
-            number ∙ taking_number (HasGroupVid plan names g) (shared_things (owner.Group g.hops)) z.0 c (subst (λ d. IsCallOf (HasGroupVid plan names g) (shared_things (owner.Group g.hops)) d c) z.1 told.3) ∙ sym e
+            number ∙ taking_number (HasGroupVid plan names g) (shared_things (owner.Group g.hops)) z.0 c (subst (λ d. IsCallFor (HasGroupVid plan names g) (shared_things (owner.Group g.hops)) d c) z.1 told.3) ∙ sym e
 
     pub may_take_part : MayTakeGroup g made names
     may_take_part = may_take_group plan is capacities names room flown s.machine stands.safe.sound stands.board w x at g has made group_number

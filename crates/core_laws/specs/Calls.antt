@@ -56,12 +56,12 @@ ids_of_call (call.Set e a) = ids_of_entry e ++ ids_of_attr a
 ids_of_call (call.Remove e) = ids_of_entry e
 
 -- an identifier is tied to one of the chip
-abbrev pub IsTied : (Vid → Option Rid) → Vid → Type 0
-IsTied rid v = (i : Rid) × (rid v ≡ Some i)
+abbrev pub IsTiedBy : (Vid → Option Rid) → Vid → Type 0
+IsTiedBy rid v = (i : Rid) × (rid v ≡ Some i)
 
 -- ---- and how they are tied then
 
 -- one that was made is tied to this one of the chip, and each other as it was, but that by which something was removed
-pub record TiesFollow (rid rid' : Vid → Option Rid) (c : Call Vid) (made : Option Vid) (i : Rid) : Type 0 where
+pub record TiesFollowCall (rid rid' : Vid → Option Rid) (c : Call Vid) (made : Option Vid) (i : Rid) : Type 0 where
   pub new : (v : Vid) → made ≡ Some v → rid' v ≡ Some i
   pub kept : (v : Vid) (j : Rid) → (c ≡ call.Remove (entry.Oid v) → ⊥) → rid v ≡ Some j → rid' v ≡ Some j

@@ -11,7 +11,7 @@ ghost use Rattle.sai_types.specs.Alike.{IsIn};
 ghost use Rattle.sai_types.specs.Made.{IsWhole};
 ghost use Rattle.sai_types.specs.Objects.{Objects};
 ghost use Rattle.sai_types.specs.Refusal.{IsLegal};
-ghost use Rattle.chip_layout.specs.Layout.{IsLaidOut, listed, next_id};
+ghost use Rattle.chip_layout.specs.Layout.{IsLaidOut, listed, next_rid};
 ghost use Rattle.chip_layout.specs.Renamed.{call_renamed};
 ghost use Rattle.switch_machine.specs.Events.{HasLeft, IsAnswer, IsBegin, IsDrop, IsDueCall, IsPop, IsQuiet, IsTake, SwitchState, empty_switch, fresh_view};
 ghost use Rattle.switch_machine.specs.Flights.{Fits, IsResting, Machine, put};
@@ -36,7 +36,7 @@ ghost use Rattle.registry_laws.specs.Flown.{Flown, due_for, flight_of};
 ghost use Rattle.registry_laws.specs.Flying.{flown_as, with_machine};
 ghost use Rattle.registry_laws.specs.Making.{IsNextCall, KnowsNext, MayTakeFor, TookFor, left_of_group_by, with_group_begun};
 ghost use Rattle.identifier_laws.specs.Identified.{KeepsTies, tie_by};
-ghost use Rattle.core_laws.specs.Calls.{IsTied, TiesFollow, ids_of_call};
+ghost use Rattle.core_laws.specs.Calls.{IsTiedBy, TiesFollowCall, ids_of_call};
 ghost use Rattle.core_laws.specs.Standing.{AreRetied, HasBegun, IsNotFlown, StandsFor, over_chip, with_answer};
 
 /// Without names, all places free and nothing under way, all stands for the empty switch; and for an empty view, where each key with a
@@ -87,7 +87,7 @@ pub fn next_calls_are_known()
 pub fn tied_calls_are_due()
     ensures due { (plan : Ports) (capacities : List ℕ) (names : Names) (room : RoomState) (flown : ℕ → Option Flown) (rid : Vid → Option Rid) (s : SwitchState) (w : ℕ) (x : Flown) (c : Call Vid) → IsPlan plan → StandsFor plan capacities names room flown rid s → flown w ≡ Some x → HasBegun plan names x → IsNextCall plan names x.operation x.group c → (y : IsDueCall 4 (call_renamed (tie_by rid) c) s) × (y.worker ≡ w) }
     ensures legal { (plan : Ports) (capacities : List ℕ) (names : Names) (room : RoomState) (flown : ℕ → Option Flown) (rid : Vid → Option Rid) (s : SwitchState) (w : ℕ) (x : Flown) (c : Call Vid) → IsPlan plan → StandsFor plan capacities names room flown rid s → flown w ≡ Some x → HasBegun plan names x → IsNextCall plan names x.operation x.group c → IsLegal capacities s.objects (call_renamed (tie_by rid) c) }
-    ensures tied { (plan : Ports) (capacities : List ℕ) (names : Names) (room : RoomState) (flown : ℕ → Option Flown) (rid : Vid → Option Rid) (s : SwitchState) (w : ℕ) (x : Flown) (c : Call Vid) (v : Vid) → IsPlan plan → StandsFor plan capacities names room flown rid s → flown w ≡ Some x → HasBegun plan names x → IsNextCall plan names x.operation x.group c → IsIn v (ids_of_call c) → IsTied rid v }
+    ensures tied { (plan : Ports) (capacities : List ℕ) (names : Names) (room : RoomState) (flown : ℕ → Option Flown) (rid : Vid → Option Rid) (s : SwitchState) (w : ℕ) (x : Flown) (c : Call Vid) (v : Vid) → IsPlan plan → StandsFor plan capacities names room flown rid s → flown w ≡ Some x → HasBegun plan names x → IsNextCall plan names x.operation x.group c → IsIn v (ids_of_call c) → IsTiedBy rid v }
 {}
 
 /// The answer of the next call may be taken, with an identifier where the call makes one.
@@ -105,8 +105,8 @@ pub fn beginnings_are_events()
 /// The next call has taken effect, and its answer was taken: that is an Answer of the machine. Where something is due for what the worker
 /// has then it goes on; where nothing is it has ended in the same event, and its places are given back.
 pub fn answers_are_events()
-    ensures goes_on { (plan : Ports) (capacities : List ℕ) (names names' : Names) (room : RoomState) (flown : ℕ → Option Flown) (rid rid' : Vid → Option Rid) (s : SwitchState) (w : ℕ) (x x' : Flown) (c : Call Vid) (made : Option Vid) → IsPlan plan → StandsFor plan capacities names room flown rid s → flown w ≡ Some x → HasBegun plan names x → IsNextCall plan names x.operation x.group c → is_some made ≡ makes_id c → TiesFollow rid rid' c made (next_id s.made) → TookFor x.operation x.group made names x' names' → (due_for plan names' x' ≡ [] → ⊥) → (t : Machine) × ((z : IsAnswer plan 4 (call_renamed (tie_by rid) c) s (with_answer s t (call_renamed (tie_by rid) c))) × (z.next.worker ≡ w)) × StandsFor plan capacities names' room (put w (Some x') flown) rid' (with_answer s t (call_renamed (tie_by rid) c)) }
-    ensures ends { (plan : Ports) (capacities : List ℕ) (names names' : Names) (room : RoomState) (flown : ℕ → Option Flown) (rid rid' : Vid → Option Rid) (s : SwitchState) (w : ℕ) (x x' : Flown) (c : Call Vid) (made : Option Vid) → IsPlan plan → StandsFor plan capacities names room flown rid s → flown w ≡ Some x → HasBegun plan names x → IsNextCall plan names x.operation x.group c → is_some made ≡ makes_id c → TiesFollow rid rid' c made (next_id s.made) → TookFor x.operation x.group made names x' names' → (given : RoomState) → due_for plan names' x' ≡ [] → GivesBack room w given → (t : Machine) × ((z : IsAnswer plan 4 (call_renamed (tie_by rid) c) s (with_answer s t (call_renamed (tie_by rid) c))) × (z.next.worker ≡ w)) × StandsFor plan capacities (ended_names names' w x'.operation.key (s.machine.board.applied x'.operation.key) x'.operation.new) given (put w None flown) rid' (with_answer s t (call_renamed (tie_by rid) c)) }
+    ensures goes_on { (plan : Ports) (capacities : List ℕ) (names names' : Names) (room : RoomState) (flown : ℕ → Option Flown) (rid rid' : Vid → Option Rid) (s : SwitchState) (w : ℕ) (x x' : Flown) (c : Call Vid) (made : Option Vid) → IsPlan plan → StandsFor plan capacities names room flown rid s → flown w ≡ Some x → HasBegun plan names x → IsNextCall plan names x.operation x.group c → is_some made ≡ makes_id c → TiesFollowCall rid rid' c made (next_rid s.made) → TookFor x.operation x.group made names x' names' → (due_for plan names' x' ≡ [] → ⊥) → (t : Machine) × ((z : IsAnswer plan 4 (call_renamed (tie_by rid) c) s (with_answer s t (call_renamed (tie_by rid) c))) × (z.next.worker ≡ w)) × StandsFor plan capacities names' room (put w (Some x') flown) rid' (with_answer s t (call_renamed (tie_by rid) c)) }
+    ensures ends { (plan : Ports) (capacities : List ℕ) (names names' : Names) (room : RoomState) (flown : ℕ → Option Flown) (rid rid' : Vid → Option Rid) (s : SwitchState) (w : ℕ) (x x' : Flown) (c : Call Vid) (made : Option Vid) → IsPlan plan → StandsFor plan capacities names room flown rid s → flown w ≡ Some x → HasBegun plan names x → IsNextCall plan names x.operation x.group c → is_some made ≡ makes_id c → TiesFollowCall rid rid' c made (next_rid s.made) → TookFor x.operation x.group made names x' names' → (given : RoomState) → due_for plan names' x' ≡ [] → GivesBack room w given → (t : Machine) × ((z : IsAnswer plan 4 (call_renamed (tie_by rid) c) s (with_answer s t (call_renamed (tie_by rid) c))) × (z.next.worker ≡ w)) × StandsFor plan capacities (ended_names names' w x'.operation.key (s.machine.board.applied x'.operation.key) x'.operation.new) given (put w None flown) rid' (with_answer s t (call_renamed (tie_by rid) c)) }
 {}
 
 /// Once the same things stand on a chip by its identifiers, to which those of the service are tied, all stands for the state over the chip.

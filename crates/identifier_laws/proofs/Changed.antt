@@ -34,7 +34,7 @@ use Rattle.ref_counts.specs.Registered.{first_of, made_live}
 use Rattle.ref_counts.specs.Registry.{Names, changed, ids_in, ids_of, state_of}
 use Rattle.orch_flight.specs.Calling.{HasVid}
 use Rattle.orch_flight.specs.Needing.{name_for}
-use Rattle.orch_flight.specs.Taking.{built_name, made_names, taken_names, to_list}
+use Rattle.orch_flight.specs.Taking.{built_name, names_after_made, taken_names, to_list}
 use Rattle.registry_laws.specs.Flown.{Flown}
 use Rattle.registry_laws.proofs.Finding.{gone_off}
 use Rattle.registry_laws.proofs.Listing.{not_some}
@@ -61,7 +61,7 @@ built_is k (thing.BridgePort lane) = refl
 built_is k _ = refl
 
 -- the other names have the identifiers that they had
-pub made_off : (names : Names) (k : Key) (t : Thing) (made : Option Vid) (o : Owner) → (made_owner k t ≡ Some o → ⊥) → ids_of (made_names names k t made) (name_for o) ≡ ids_of names (name_for o)
+pub made_off : (names : Names) (k : Key) (t : Thing) (made : Option Vid) (o : Owner) → (made_owner k t ≡ Some o → ⊥) → ids_of (names_after_made names k t made) (name_for o) ≡ ids_of names (name_for o)
 made_off names k (thing.BridgePort lane) made o other = ids_off names (owner.Bridge lane) (made_live (to_list made)) o (λ e. other (ap Some e))
 made_off names k (thing.Own ip) made o other = ids_off names (owner.Own ip) (made_live []) o (λ e. other (ap Some e))
 made_off names k (thing.Neighbor hop mac) made o other = refl
@@ -74,7 +74,7 @@ made_off names k _ made o other = ids_off names (owner.OfRow k) (made_live (to_l
 live_at : (names : Names) (p o : Owner) (w : ℕ) (ids : List Vid) → Some p ≡ Some o → state_of names (name_for o) ≡ state.Building w → ids_of (changed names (name_for p) (made_live ids)) (name_for o) ≡ ids
 live_at names p o w ids e h = subst (λ z. ids_of (changed names (name_for z) (made_live ids)) (name_for o) ≡ ids) (sym (same_Some p o e)) (ids_live names o w ids h)
 
-made_at : (names : Names) (k : Key) (t : Thing) (made : Option Vid) (o : Owner) (w : ℕ) → made_owner k t ≡ Some o → state_of names (name_for o) ≡ state.Building w → has_number t ≡ true → ids_of (made_names names k t made) (name_for o) ≡ to_list made
+made_at : (names : Names) (k : Key) (t : Thing) (made : Option Vid) (o : Owner) (w : ℕ) → made_owner k t ≡ Some o → state_of names (name_for o) ≡ state.Building w → has_number t ≡ true → ids_of (names_after_made names k t made) (name_for o) ≡ to_list made
 made_at names k (thing.BridgePort lane) made o w e h numbered = live_at names (owner.Bridge lane) o w (to_list made) e h
 made_at names k (thing.Own ip) made o w e h numbered = absurd (false≢true numbered)
 made_at names k (thing.Neighbor hop mac) made o w e h numbered = not_some o e
@@ -139,7 +139,7 @@ module _ (plan : Ports) (is : IsPlan plan) (m : Machine) (sound : IsConsistent p
 
   module _ (w : ℕ) (f : MachineFlight) (flying : m.board.flights w ≡ Some f) (t : Thing) (can : CanMake plan f (StandsIn m) t) (made : Option Vid) (i : Rid) (alone : IsAlone plan (name_of t)) (builds : (n : registry_name.Name) → built_name f.key t ≡ Some n → (v : ℕ) × (state_of names n ≡ state.Building v)) (ties : TiesAfter plan names rid rid' (Make t) made i) where
     abbrev later : Names
-    later = made_names names f.key t made
+    later = names_after_made names f.key t made
 
     its_owner : (o : Owner) × IsOwnedBy plan (name_of t) o × ((o ≡ owner.OfRow f.key) ⊎ IsShared o)
     its_owner = by can.final

@@ -19,7 +19,7 @@ use Rattle.switch_machine.specs.Flights.{Can, MachineFlight, Machine, Runs, Stan
 use Rattle.switch_machine.proofs.Calling.{make-has_call, set-has_call, shared_no_port, take-has_call}
 use Rattle.switch_machine.proofs.Tabled.{tabled}
 use Rattle.ref_counts.specs.Registry.{Names}
-use Rattle.orch_flight.specs.Calling.{IsCallOf}
+use Rattle.orch_flight.specs.Calling.{IsCallFor}
 use Rattle.registry_laws.specs.Flown.{Flown}
 use Rattle.identifier_laws.specs.Identified.{Identified, IsVidOf, PortsStand, rid_or_zero, tie_by}
 use Rattle.identifier_laws.proofs.Telling.{making_told, setting_told, taking_told}
@@ -44,7 +44,7 @@ module _ (plan : Ports) (is : IsPlan plan) (workers : ℕ) (capacities : List �
     can : Can plan f (StandsIn s.machine) change
     can = (subst (Runs plan f (StandsIn s.machine)) due (kept.sound.runs w f flying)).0
 
-    call_told : (at : ThingName → Vid → Type 0) → ((n : ThingName) (v u : Vid) → at n v → IsVidOf plan names flown n u → v ≡ u) → (things : List Thing) (d : Change) → Can plan f (StandsIn s.machine) d → PortsStand s.machine things d → (c : Call Vid) → IsCallOf at things d c → IsCall L d (call_renamed (tie_by rid) c)
+    call_told : (at : ThingName → Vid → Type 0) → ((n : ThingName) (v u : Vid) → at n v → IsVidOf plan names flown n u → v ≡ u) → (things : List Thing) (d : Change) → Can plan f (StandsIn s.machine) d → PortsStand s.machine things d → (c : Call Vid) → IsCallFor at things d c → IsCall L d (call_renamed (tie_by rid) c)
     call_told at one things (Make t) h ports c x =
         let d = make-has_call plan is (tabled plan is) s.machine kept.sound w f flying s.made s.objects kept.whole kept.laid t h in
         making_told L s.objects kept.laid at (tie_by rid) (tied_to at one) t c d.0 x d.1
@@ -55,5 +55,5 @@ module _ (plan : Ports) (is : IsPlan plan) (workers : ℕ) (capacities : List �
         let d = take-has_call plan is (tabled plan is) s.machine kept.sound w f flying s.made s.objects kept.whole kept.laid n h in
         taking_told L s.objects kept.laid at (tie_by rid) (tied_to at one) things n c d.0 x d.1
 
-    pub is_due : (at : ThingName → Vid → Type 0) → ((n : ThingName) (v u : Vid) → at n v → IsVidOf plan names flown n u → v ≡ u) → (things : List Thing) → PortsStand s.machine things change → (c : Call Vid) → w < workers → IsCallOf at things change c → (x : IsDueCall workers (call_renamed (tie_by rid) c) s) × (x.worker ≡ w) × (x.change ≡ change)
+    pub is_due : (at : ThingName → Vid → Type 0) → ((n : ThingName) (v u : Vid) → at n v → IsVidOf plan names flown n u → v ≡ u) → (things : List Thing) → PortsStand s.machine things change → (c : Call Vid) → w < workers → IsCallFor at things change c → (x : IsDueCall workers (call_renamed (tie_by rid) c) s) × (x.worker ≡ w) × (x.change ≡ change)
     is_due at one things ports c less x = (record { worker = w; below = less; flight = f; change = change; rest = rest; flying = flying; due = due; of = call_told at one things change can ports c x }, refl, refl)

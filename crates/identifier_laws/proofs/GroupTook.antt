@@ -28,7 +28,7 @@ use Rattle.switch_machine.proofs.Tabled.{tabled}
 use Rattle.ref_counts.specs.declared.name.Name.TheVariants as name
 use Rattle.ref_counts.specs.Registered.{made_live}
 use Rattle.ref_counts.specs.Registry.{Names, changed, gone_from, ids_in, ids_of}
-use Rattle.orch_flight.specs.Grouping.{GroupOperation, IsGroupTook, group_names_by, with_made}
+use Rattle.orch_flight.specs.Grouping.{GroupOperation, IsGroupTook, group_names_by, members_with_made}
 use Rattle.orch_flight.specs.Needing.{name_for}
 use Rattle.orch_flight.specs.Taking.{to_list}
 use Rattle.registry_laws.specs.Flown.{Flown}
@@ -51,14 +51,14 @@ module _ (plan : Ports) (is : IsPlan plan) (workers : ℕ) (capacities : List �
   F = x.next.flight
 
   abbrev later : Names
-  later = group_names_by names g (with_made g made) rest
+  later = group_names_by names g (members_with_made g made) rest
 
   runs : Runs plan F (StandsIn s.machine) (x.next.change ∷ x.next.rest)
   runs = subst (Runs plan F (StandsIn s.machine)) x.next.due (kept.sound.runs x.next.worker F x.next.flying)
 
   -- ---- the group is built
 
-  module _ (flown' : ℕ → Option Flown) (at : IsUnderWay flown x.next.worker g) (b : g.builds ≡ true) (part : IsPartlyBuilt g) (on : FliesOn flown flown' x.next.worker (grown g (with_made g made) rest)) where
+  module _ (flown' : ℕ → Option Flown) (at : IsUnderWay flown x.next.worker g) (b : g.builds ≡ true) (part : IsPartlyBuilt g) (on : FliesOn flown flown' x.next.worker (grown g (members_with_made g made) rest)) where
     next_part : (after : List Thing) → g.due ≡ make_all after [] → (z : Thing) × (us : List Thing) × (after ≡ z ∷ us) × (x.next.change ≡ Make z) × (rest ≡ make_all us [])
     next_part [] e = absurd (none (sym due ∙ e))
       where
@@ -111,10 +111,10 @@ module _ (plan : Ports) (is : IsPlan plan) (workers : ℕ) (capacities : List �
     built_identified : Identified plan later rid' flown' t.machine.stands
     built_identified = subst (Identified plan later rid' flown') (stands_then plan is workers capacities s t call x kept names rid rid' flown known builds) (record { each = λ j u h numbered. each j u (subst (λ c. changed_by L c x.id j u) next_thing.3 (x.back j u h)) numbered })
 
-    made_now : with_made g made ≡ g.made ++ (made_is.0 ∷ [])
+    made_now : members_with_made g made ≡ g.made ++ (made_is.0 ∷ [])
     made_now = ap (λ y. cond y (g.made ++ to_list made) g.made) b ∙ ap (λ y. g.made ++ to_list y) made_is.1
 
-    still_part : IsPartlyBuilt (grown g (with_made g made) rest)
+    still_part : IsPartlyBuilt (grown g (members_with_made g made) rest)
     still_part = record {
       before = part.before ++ (z ∷ []);
       after = us;
@@ -145,11 +145,11 @@ module _ (plan : Ports) (is : IsPlan plan) (workers : ℕ) (capacities : List �
     later_off : (j : Rid) (u : Thing) → L j u → (name_of u ≡ n → ⊥) → (o : Owner) → IsOwnedBy plan (name_of u) o → ids_of later (name_for o) ≡ ids_of names (name_for o)
     later_off j u h other o its = by rest refl
       where
-        either : (y : Bool) → (owner.Group g.hops ≡ o → ⊥) → ids_of (cond y (changed names (name.Group g.hops) (made_live (with_made g made))) (gone_from names (name.Group g.hops))) (name_for o) ≡ ids_of names (name_for o)
-        either true apart = ids_off names (owner.Group g.hops) (made_live (with_made g made)) o apart
+        either : (y : Bool) → (owner.Group g.hops ≡ o → ⊥) → ids_of (cond y (changed names (name.Group g.hops) (made_live (members_with_made g made))) (gone_from names (name.Group g.hops))) (name_for o) ≡ ids_of names (name_for o)
+        either true apart = ids_off names (owner.Group g.hops) (made_live (members_with_made g made)) o apart
         either false apart = ap ids_in (gone_off names (owner.Group g.hops) o apart)
 
-        by : (cs : List Change) → rest ≡ cs → ids_of (group_names_by names g (with_made g made) cs) (name_for o) ≡ ids_of names (name_for o)
+        by : (cs : List Change) → rest ≡ cs → ids_of (group_names_by names g (members_with_made g made) cs) (name_for o) ≡ ids_of names (name_for o)
         by [] e = either g.builds (λ same. none_stands e j u h other (its ∙ ap Some (sym same)))
         by (c ∷ cs) e = refl
 

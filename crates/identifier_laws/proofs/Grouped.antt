@@ -19,7 +19,7 @@ use Rattle.ref_counts.specs.declared.name.Name.TheVariants as name
 use Rattle.ref_counts.specs.Registered.{first_of, made_live}
 use Rattle.ref_counts.specs.Registry.{Names, changed, gone_from, ids_in, ids_of, state_of}
 use Rattle.orch_flight.specs.Calling.{HasVid, member_vid, members_ids, vid_at}
-use Rattle.orch_flight.specs.Grouping.{GroupOperation, HasGroupVid, group_ids, group_names_by, with_made}
+use Rattle.orch_flight.specs.Grouping.{GroupOperation, HasGroupVid, group_ids, group_names_by, members_with_made}
 use Rattle.orch_flight.specs.Needing.{name_for}
 use Rattle.orch_flight.specs.Taking.{to_list}
 use Rattle.registry_laws.specs.Flown.{Flown}
@@ -66,28 +66,28 @@ module _ (plan : Ports) where
           let y = subst (λ z. HasGroupVid plan names g z v) e x in
           subst (λ z. HasGroupVid plan names' h z v) (sym e) (sym hops, ap (λ z. member_vid g.hops hop (members_ids z)) ids ∙ member_more g.hops hop (group_ids names g) more v y.1)
 
-module _ (plan : Ports) (names : Names) (flown flown' : ℕ → Option Flown) (builds : BuildsGroups names flown) (w : ℕ) (g : GroupOperation) (at : IsUnderWay flown w g) (b : g.builds ≡ true) (made : Option Vid) (rest : List Change) (on : FliesOn flown flown' w (grown g (with_made g made) rest)) where
+module _ (plan : Ports) (names : Names) (flown flown' : ℕ → Option Flown) (builds : BuildsGroups names flown) (w : ℕ) (g : GroupOperation) (at : IsUnderWay flown w g) (b : g.builds ≡ true) (made : Option Vid) (rest : List Change) (on : FliesOn flown flown' w (grown g (members_with_made g made) rest)) where
   abbrev next : GroupOperation
-  next = grown g (with_made g made) rest
+  next = grown g (members_with_made g made) rest
 
   abbrev later : Names
-  later = group_names_by names g (with_made g made) rest
+  later = group_names_by names g (members_with_made g made) rest
 
   no_ids_yet : ids_of names (name.Group g.hops) ≡ []
   no_ids_yet = ids_building names (owner.Group g.hops) w (builds.building w g at b)
 
-  made_now : with_made g made ≡ g.made ++ to_list made
+  made_now : members_with_made g made ≡ g.made ++ to_list made
   made_now = ap (λ z. cond z (g.made ++ to_list made) g.made) b
 
   -- the other names have the identifiers that they had
   later_off : (o : Owner) → (owner.Group g.hops ≡ o → ⊥) → ids_of later (name_for o) ≡ ids_of names (name_for o)
   later_off o apart = by rest
     where
-      either : (z : Bool) → ids_of (cond z (changed names (name.Group g.hops) (made_live (with_made g made))) (gone_from names (name.Group g.hops))) (name_for o) ≡ ids_of names (name_for o)
-      either true = ids_off names (owner.Group g.hops) (made_live (with_made g made)) o apart
+      either : (z : Bool) → ids_of (cond z (changed names (name.Group g.hops) (made_live (members_with_made g made))) (gone_from names (name.Group g.hops))) (name_for o) ≡ ids_of names (name_for o)
+      either true = ids_off names (owner.Group g.hops) (made_live (members_with_made g made)) o apart
       either false = ap ids_in (gone_off names (owner.Group g.hops) o apart)
 
-      by : (cs : List Change) → ids_of (group_names_by names g (with_made g made) cs) (name_for o) ≡ ids_of names (name_for o)
+      by : (cs : List Change) → ids_of (group_names_by names g (members_with_made g made) cs) (name_for o) ≡ ids_of names (name_for o)
       by [] = either g.builds
       by (c ∷ cs) = refl
 
@@ -95,13 +95,13 @@ module _ (plan : Ports) (names : Names) (flown flown' : ℕ → Option Flown) (b
   own_vid : (n : ThingName) (v : Vid) → IsOwnedBy plan n (owner.Group g.hops) → HasGroupVid plan later next n v → IsVidOf plan later flown' n v
   own_vid n v of x = by rest refl
     where
-      end : (z : Bool) → g.builds ≡ z → z ≡ true → ids_of (cond z (changed names (name.Group g.hops) (made_live (with_made g made))) (gone_from names (name.Group g.hops))) (name.Group g.hops) ≡ with_made g made
-      end true e h = ids_live names (owner.Group g.hops) w (with_made g made) (builds.building w g at b)
+      end : (z : Bool) → g.builds ≡ z → z ≡ true → ids_of (cond z (changed names (name.Group g.hops) (made_live (members_with_made g made))) (gone_from names (name.Group g.hops))) (name.Group g.hops) ≡ members_with_made g made
+      end true e h = ids_live names (owner.Group g.hops) w (members_with_made g made) (builds.building w g at b)
       end false e h = absurd cc
 
       by : (cs : List Change) → rest ≡ cs → IsVidOf plan later flown' n v
       by [] e =
-          let names_then : later ≡ group_names_by names g (with_made g made) [] = ap (group_names_by names g (with_made g made)) e in
+          let names_then : later ≡ group_names_by names g (members_with_made g made) [] = ap (group_names_by names g (members_with_made g made)) e in
           inl (group_vid_as plan later later next n v (group_made later next b ∙ sym (ap (λ z. ids_of z (name.Group g.hops)) names_then ∙ end g.builds refl b)) of x)
       by (c ∷ cs) e = inr (record { worker = w; group = next; under_way = on.own (λ h. none (sym e ∙ h)); builds = b; of = x })
         where

@@ -7,8 +7,8 @@ use Rattle.row_layout.specs.Rows.{Owner}
 use Rattle.switch_machine.proofs.Splits.{IsSplit, owner_split}
 use Rattle.ref_counts.specs.declared.name.NameState.{NameState}
 use Rattle.ref_counts.specs.declared.name.NameState.TheVariants as state
-use Rattle.ref_counts.specs.Registered.{Registered, going, made_live, released, with_user, without_user}
-use Rattle.ref_counts.specs.Registry.{Names, all_released, changed, ids_by, ids_in, ids_of, name_cmp, pinned, registered_at, state_in, state_of}
+use Rattle.ref_counts.specs.Registered.{Registered, begun_to_go, made_live, released, with_user, without_user}
+use Rattle.ref_counts.specs.Registry.{Names, all_released, changed, ids_by, ids_in, ids_of, registered_name_cmp, pinned, registered_at, state_in, state_of}
 use Rattle.ref_counts.proofs.Found.{found-released, pinned-kept}
 use Rattle.orch_flight.specs.Needing.{name_for}
 use Rattle.registry_laws.proofs.Finding.{found_at, found_off, put_at_name, put_off_name}
@@ -36,11 +36,11 @@ module _ (names : Names) (o : Owner) (f : Registered → Registered) where
   ids_off p apart = ap ids_in (found_off names o p f apart)
 
 -- so does a name that is put without identifiers where there were none
-pub ids_put : (names : Names) (o : Owner) (r : Registered) → ids_of names (name_for o) ≡ [] → ids_by r.state r.ids ≡ [] → HaveSameIds names (insert_entry name_cmp names (name_for o) r)
+pub ids_put : (names : Names) (o : Owner) (r : Registered) → ids_of names (name_for o) ≡ [] → ids_by r.state r.ids ≡ [] → HaveSameIds names (insert_entry registered_name_cmp names (name_for o) r)
 ids_put names o r none new p = by (owner_split o p)
   where
-    by : IsSplit o p → ids_of (insert_entry name_cmp names (name_for o) r) (name_for p) ≡ ids_of names (name_for p)
-    by (inl e) = subst (λ z. ids_of (insert_entry name_cmp names (name_for o) r) (name_for z) ≡ ids_of names (name_for z)) e (ap ids_in (put_at_name names o r) ∙ new ∙ sym none)
+    by : IsSplit o p → ids_of (insert_entry registered_name_cmp names (name_for o) r) (name_for p) ≡ ids_of names (name_for p)
+    by (inl e) = subst (λ z. ids_of (insert_entry registered_name_cmp names (name_for o) r) (name_for z) ≡ ids_of names (name_for z)) e (ap ids_in (put_at_name names o r) ∙ new ∙ sym none)
     by (inr apart) = ap ids_in (put_off_name names o p r apart)
 
 pub ids_then : (a b c : Names) → HaveSameIds a b → HaveSameIds b c → HaveSameIds a c
@@ -67,8 +67,8 @@ unbuilt_ids : (st : NameState) (ids : List Vid) → ((w : ℕ) → st ≡ state.
 unbuilt_ids (state.Building w) ids h = absurd (h w refl)
 unbuilt_ids _ ids h = refl
 
-pub ids_going : (names : Names) (o : Owner) (w : ℕ) → IsUnbuilt names o → HaveSameIds names (changed names (name_for o) (going w))
-ids_going names o w unbuilt = ids_changed names o (going w) (λ r e. unbuilt_ids r.state r.ids (λ v h. unbuilt v (ap state_in e ∙ h)))
+pub ids_going : (names : Names) (o : Owner) (w : ℕ) → IsUnbuilt names o → HaveSameIds names (changed names (name_for o) (begun_to_go w))
+ids_going names o w unbuilt = ids_changed names o (begun_to_go w) (λ r e. unbuilt_ids r.state r.ids (λ v h. unbuilt v (ap state_in e ∙ h)))
 
 -- what has no state has no identifiers
 pub ids_absent : (names : Names) (o : Owner) → registered_at names (name_for o) ≡ None → ids_of names (name_for o) ≡ []

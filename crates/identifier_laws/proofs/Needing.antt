@@ -31,7 +31,7 @@ use Rattle.sai_types.proofs.Membership.{all-in}
 use Rattle.switch_model.specs.Things.{base_of, hop_of, hops_of, lane_of}
 use Rattle.chip_layout.specs.Bodies.{is_numbered}
 use Rattle.row_layout.specs.Rows as owner
-use Rattle.row_layout.specs.Rows.{Owner, goal_by, goal_of, own_things}
+use Rattle.row_layout.specs.Rows.{Owner, goal_to, goal_of, own_things}
 use Rattle.row_layout.specs.Shared.{shared_things, uses}
 use Rattle.row_layout.proofs.Members.{from_in, in_map, only, two}
 use Rattle.switch_machine.specs.Flights.{Fits, own_names}
@@ -61,7 +61,7 @@ hops_based plan (x ∷ xs) group h e (inr more) =
     let parts = both_mapped (insert_key hop_cmp) (hops_of plan xs) (hop_of plan x) group e in
     hops_based plan xs parts.0 h parts.2 more
 
-some_hops : (o : Option (List Hop)) (g : Goal) → goal_by o ≡ Some g → (group : List Hop) × (o ≡ Some group)
+some_hops : (o : Option (List Hop)) (g : Goal) → goal_to o ≡ Some g → (group : List Hop) × (o ≡ Some group)
 some_hops None g h = not_some g h
 some_hops (Some hops) g h = (hops, refl)
 
@@ -92,7 +92,7 @@ module _ (plan : Ports) (names : Names) where
   rif_known : (k : Key) (r : Row) (i : IfName) (b : Base) → base_of plan i ≡ Some b → IsIn (key.Intf i) (names_of k r) → RowsKnown plan names k r → HaveIds names (name.Row (key.Intf i) ∷ [])
   rif_known k r i b at h rows = (rows (key.Intf i) (thing_name.Rif b) h (in_from (base_of plan i) (λ c. thing_name.Rif c ∷ []) b (thing_name.Rif b) at (inl refl)) refl tt, tt)
 
-  hops_known : (prefix : key_prefix.Prefix) (hops : List RowHop) (g : Goal) → goal_by (hops_of plan hops) ≡ Some g → RowsKnown plan names (key.Route prefix) (row.Route (route.Hops hops)) → HaveIds names (map (λ h. name.Row (key.Neigh h.on h.ip)) hops)
+  hops_known : (prefix : key_prefix.Prefix) (hops : List RowHop) (g : Goal) → goal_to (hops_of plan hops) ≡ Some g → RowsKnown plan names (key.Route prefix) (row.Route (route.Hops hops)) → HaveIds names (map (λ h. name.Row (key.Neigh h.on h.ip)) hops)
   hops_known prefix hops g at rows = all-in (IsKnown names) (map (λ (h : RowHop). name.Row (key.Neigh h.on h.ip)) hops) (λ n i. by n (map_in (λ (h : RowHop). name.Row (key.Neigh h.on h.ip)) n hops i))
     where
       group : (group : List Hop) × (hops_of plan hops ≡ Some group)

@@ -17,7 +17,7 @@ use Rattle.ref_counts.specs.declared.name.Name.TheVariants as name
 use Rattle.ref_counts.specs.declared.name.NameState.{NameState}
 use Rattle.ref_counts.specs.declared.name.NameState.TheVariants as state
 use Rattle.ref_counts.specs.Registered.{Registered, begun, made_live, with_user, without_user}
-use Rattle.ref_counts.specs.Registry.{Names, changed, ids_by, ids_in, ids_of, refusal_at, registered_at, state_in, state_of}
+use Rattle.ref_counts.specs.Registry.{Names, changed, ids_by, ids_in, ids_of, retire_refusal_at, registered_at, state_in, state_of}
 use Rattle.ref_counts.proofs.Found.{pinned-kept}
 use Rattle.orch_flight.specs.Needing.{name_for, to_build}
 use Rattle.orch_flight.specs.Sharing.{MayStart}
@@ -56,7 +56,7 @@ module _ (names : Names) (w : ℕ) (k : Key) (o : Owner) where
   without = changed names (name_for o) (without_user k)
 
   pub ids_left : IsUnbuilt names o → HaveSameIds names (left_names names w k o)
-  ids_left unbuilt = ids_then names without (left_names names w k o) (ids_no_user names o k) (by (refusal_at without w (name_for o)))
+  ids_left unbuilt = ids_then names without (left_names names w k o) (ids_no_user names o k) (by (retire_refusal_at without w (name_for o)))
     where
       by : (answer : Option Wait) → HaveSameIds without (parted_by answer without w o)
       by None = ids_going without o w (λ v h. unbuilt v (sym (state_kept names o o (without_user k) (λ r. refl)) ∙ h))

@@ -25,7 +25,7 @@ use Rattle.switch_machine.proofs.Splits.{IsSplit, owner_split}
 use Rattle.ref_counts.specs.declared.name.NameState.TheVariants as state
 use Rattle.ref_counts.specs.Registered.{Registered, made_live}
 use Rattle.ref_counts.specs.Registry as registry
-use Rattle.ref_counts.specs.Registry.{Names, gone_from, is_retiring, name_cmp, registered_at, state_in, state_of}
+use Rattle.ref_counts.specs.Registry.{Names, gone_from, is_retiring, registered_name_cmp, registered_at, state_in, state_of}
 use Rattle.orch_flight.specs.Needing.{name_for}
 use Rattle.orch_flight.specs.Operation.{Operation}
 use Rattle.orch_flight.specs.Taking.{IsTook, MayTake, names_after, names_by, to_list}
@@ -62,7 +62,7 @@ live_gone names p o live w h = by (owner_split p o)
   where
     by : IsSplit p o → ⊥
     by (inl same) =
-        let stays : gone_from names (name_for o) ≡ names = ap (λ st. cond (is_retiring st) (remove_entry (is_at (name_cmp (name_for o))) names) names) live in
+        let stays : gone_from names (name_for o) ≡ names = ap (λ st. cond (is_retiring st) (remove_entry (is_at (registered_name_cmp (name_for o))) names) names) live in
         no_live w (sym live ∙ sym (ap (λ z. state_of z (name_for o)) stays) ∙ subst (λ z. state_of (gone_from names (name_for z)) (name_for o) ≡ state.Building w) same h)
     by (inr apart) = no_live w (sym live ∙ sym (ap state_in (gone_off names p o apart)) ∙ h)
 

@@ -21,8 +21,8 @@ use Rattle.ref_counts.specs.declared.name.Name.TheVariants as name
 use Rattle.ref_counts.specs.declared.name.NameState.{NameState}
 use Rattle.ref_counts.specs.declared.name.NameState.TheVariants as state
 use Rattle.ref_counts.specs.Registered.{made_live}
-use Rattle.ref_counts.specs.Registry.{Names, changed, gone_from, ids_in, ids_of, is_retiring, name_cmp, state_of}
-use Rattle.orch_flight.specs.Grouping.{GroupOperation, IsGroupTook, group_names_by, with_made}
+use Rattle.ref_counts.specs.Registry.{Names, changed, gone_from, ids_in, ids_of, is_retiring, registered_name_cmp, state_of}
+use Rattle.orch_flight.specs.Grouping.{GroupOperation, IsGroupTook, group_names_by, members_with_made}
 use Rattle.orch_flight.specs.Operation.{Operation}
 use Rattle.orch_flight.specs.Taking.{IsTook, MayTake, names_after, names_by}
 use Rattle.registry_laws.specs.Ending.{ended_names}
@@ -97,25 +97,25 @@ module _ (names : Names) (g : GroupOperation) (made : Option Vid) (whole : HasWh
       by hops (inl e) = let same : g.hops ≡ hops = cc in subst (λ z. IsWholeWith z (ids_of names' (name.Group z))) same own
       by hops (inr apart) = subst (IsWholeWith hops) (sym (off hops apart)) (whole.each hops)
 
-  built_by : (w : ℕ) → state_of names (name.Group g.hops) ≡ state.Building w → length (with_made g made) ≡ suc (length g.hops) → HasWholeGroups (changed names (name.Group g.hops) (made_live (with_made g made)))
-  built_by w state count = group_by_own (changed names (name.Group g.hops) (made_live (with_made g made))) (λ hops apart. ids_off names (owner.Group g.hops) (made_live (with_made g made)) (owner.Group hops) apart) (inr (ap length (ids_live names (owner.Group g.hops) w (with_made g made) state) ∙ count))
+  built_by : (w : ℕ) → state_of names (name.Group g.hops) ≡ state.Building w → length (members_with_made g made) ≡ suc (length g.hops) → HasWholeGroups (changed names (name.Group g.hops) (made_live (members_with_made g made)))
+  built_by w state count = group_by_own (changed names (name.Group g.hops) (made_live (members_with_made g made))) (λ hops apart. ids_off names (owner.Group g.hops) (made_live (members_with_made g made)) (owner.Group hops) apart) (inr (ap length (ids_live names (owner.Group g.hops) w (members_with_made g made) state) ∙ count))
 
   pub whole_built : (names' : Names) (w : ℕ) (g' : GroupOperation) → g.builds ≡ true → state_of names (name.Group g.hops) ≡ state.Building w → IsPartlyBuilt g' → IsGroupTook g made names g' names' → HasWholeGroups names'
   whole_built names' w g' b state part took = subst HasWholeGroups (sym took.names_are) (by took.rest refl)
     where
-      by : (rest : List Change) → took.rest ≡ rest → HasWholeGroups (group_names_by names g (with_made g made) rest)
+      by : (rest : List Change) → took.rest ≡ rest → HasWholeGroups (group_names_by names g (members_with_made g made) rest)
       by [] e =
           let count = whole_made g' part (ap (λ (z : GroupOperation). z.due) took.operation ∙ e) in
           let same = ap (λ (z : GroupOperation). z.made) took.operation in
           let hops = ap (λ (z : GroupOperation). z.hops) took.operation in
-          subst HasWholeGroups (sym (ap (λ z. cond z (changed names (name.Group g.hops) (made_live (with_made g made))) (gone_from names (name.Group g.hops))) b)) (built_by w state (sym (ap length same) ∙ count ∙ ap (λ z. suc (length z)) hops))
+          subst HasWholeGroups (sym (ap (λ z. cond z (changed names (name.Group g.hops) (made_live (members_with_made g made))) (gone_from names (name.Group g.hops))) b)) (built_by w state (sym (ap length same) ∙ count ∙ ap (λ z. suc (length z)) hops))
       by (c ∷ cs) e = whole
 
-  gone_own : HasRisingKeys name_cmp names → IsWholeWith g.hops (ids_of (gone_from names (name.Group g.hops)) (name.Group g.hops))
+  gone_own : HasRisingKeys registered_name_cmp names → IsWholeWith g.hops (ids_of (gone_from names (name.Group g.hops)) (name.Group g.hops))
   gone_own rising = by (state_of names (name.Group g.hops)) refl
     where
       stays : (st : NameState) → state_of names (name.Group g.hops) ≡ st → is_retiring st ≡ false → IsWholeWith g.hops (ids_of (gone_from names (name.Group g.hops)) (name.Group g.hops))
-      stays st e other = subst (λ z. IsWholeWith g.hops (ids_of z (name.Group g.hops))) (sym (ap (λ z. cond z (remove_entry (is_at (name_cmp (name.Group g.hops))) names) names) (ap is_retiring e ∙ other))) (whole.each g.hops)
+      stays st e other = subst (λ z. IsWholeWith g.hops (ids_of z (name.Group g.hops))) (sym (ap (λ z. cond z (remove_entry (is_at (registered_name_cmp (name.Group g.hops))) names) names) (ap is_retiring e ∙ other))) (whole.each g.hops)
 
       by : (st : NameState) → state_of names (name.Group g.hops) ≡ st → IsWholeWith g.hops (ids_of (gone_from names (name.Group g.hops)) (name.Group g.hops))
       by (state.Retiring v) e = inl (ap ids_in (gone_at names (owner.Group g.hops) v rising e))
@@ -123,9 +123,9 @@ module _ (names : Names) (g : GroupOperation) (made : Option Vid) (whole : HasWh
       by state.Live e = stays state.Live e refl
       by (state.Building v) e = stays (state.Building v) e refl
 
-  pub whole_taken : (names' : Names) (g' : GroupOperation) → HasRisingKeys name_cmp names → g.builds ≡ false → IsGroupTook g made names g' names' → HasWholeGroups names'
+  pub whole_taken : (names' : Names) (g' : GroupOperation) → HasRisingKeys registered_name_cmp names → g.builds ≡ false → IsGroupTook g made names g' names' → HasWholeGroups names'
   whole_taken names' g' rising b took = subst HasWholeGroups (sym took.names_are) (by took.rest)
     where
-      by : (rest : List Change) → HasWholeGroups (group_names_by names g (with_made g made) rest)
-      by [] = subst HasWholeGroups (sym (ap (λ z. cond z (changed names (name.Group g.hops) (made_live (with_made g made))) (gone_from names (name.Group g.hops))) b)) (group_by_own (gone_from names (name.Group g.hops)) (λ hops apart. ap ids_in (gone_off names (owner.Group g.hops) (owner.Group hops) apart)) (gone_own rising))
+      by : (rest : List Change) → HasWholeGroups (group_names_by names g (members_with_made g made) rest)
+      by [] = subst HasWholeGroups (sym (ap (λ z. cond z (changed names (name.Group g.hops) (made_live (members_with_made g made))) (gone_from names (name.Group g.hops))) b)) (group_by_own (gone_from names (name.Group g.hops)) (λ hops apart. ap ids_in (gone_off names (owner.Group g.hops) (owner.Group hops) apart)) (gone_own rising))
       by (c ∷ cs) = whole

@@ -27,8 +27,8 @@ ghost use Rattle.switch_machine.specs.Steps.{Ends};
 ghost use Rattle.ref_counts.specs.declared.name.Name.TheVariants as name;
 ghost use Rattle.ref_counts.specs.declared.name.NameState.TheVariants as state;
 ghost use Rattle.ref_counts.specs.declared.next.Next.TheVariants as next;
-ghost use Rattle.ref_counts.specs.Registry.{Names, name_cmp, state_of};
-ghost use Rattle.orch_flight.specs.Calling.{HasVid, IsCallOf, IsNextOf, IsOver, KnowsIds, things_held};
+ghost use Rattle.ref_counts.specs.Registry.{Names, registered_name_cmp, state_of};
+ghost use Rattle.orch_flight.specs.Calling.{HasVid, IsCallFor, IsNextOf, IsOver, KnowsIds, things_held};
 ghost use Rattle.orch_flight.specs.Grouping.{GroupOperation, HasGroupVid, IsGroupNextOf, IsGroupOver, IsGroupTook, KnowsGroupIds, first_group};
 ghost use Rattle.orch_flight.specs.Needing.{name_for};
 ghost use Rattle.orch_flight.specs.Operation.{Operation};
@@ -50,8 +50,8 @@ pub fn nothing_is_identified()
 /// identifier is replaced by that of the chip to which it is tied: of a row's operation, where a port that is set stands with the
 /// values that the operation has noted; and of the operation of a group.
 pub fn calls_are_due()
-    ensures row { (plan : Ports) (workers : ℕ) (capacities : List ℕ) (s : SwitchState) (names : Names) (rid : Vid → Option Rid) (flown : ℕ → Option Flown) (w : ℕ) (f : Operation) (change : Change) (rest : List Change) (c : Call Vid) → IsPlan plan → IsSafe plan workers capacities s → Identified plan names rid flown s.machine.stands → BuildsGroups names flown → w < workers → s.machine.board.flights w ≡ Some (flight_of f) → s.machine.due w ≡ change ∷ rest → PortsStand s.machine (things_held plan f) change → IsCallOf (HasVid plan names) (things_held plan f) change c → (x : IsDueCall workers (call_renamed (tie_by rid) c) s) × (x.worker ≡ w) × (x.change ≡ change) }
-    ensures group { (plan : Ports) (workers : ℕ) (capacities : List ℕ) (s : SwitchState) (names : Names) (rid : Vid → Option Rid) (flown : ℕ → Option Flown) (w : ℕ) (f : MachineFlight) (g : GroupOperation) (change : Change) (rest : List Change) (c : Call Vid) → IsPlan plan → IsSafe plan workers capacities s → Identified plan names rid flown s.machine.stands → BuildsGroups names flown → IsUnderWay flown w g → w < workers → s.machine.board.flights w ≡ Some f → s.machine.due w ≡ change ∷ rest → IsCallOf (HasGroupVid plan names g) (shared_things (Group g.hops)) change c → (x : IsDueCall workers (call_renamed (tie_by rid) c) s) × (x.worker ≡ w) × (x.change ≡ change) }
+    ensures row { (plan : Ports) (workers : ℕ) (capacities : List ℕ) (s : SwitchState) (names : Names) (rid : Vid → Option Rid) (flown : ℕ → Option Flown) (w : ℕ) (f : Operation) (change : Change) (rest : List Change) (c : Call Vid) → IsPlan plan → IsSafe plan workers capacities s → Identified plan names rid flown s.machine.stands → BuildsGroups names flown → w < workers → s.machine.board.flights w ≡ Some (flight_of f) → s.machine.due w ≡ change ∷ rest → PortsStand s.machine (things_held plan f) change → IsCallFor (HasVid plan names) (things_held plan f) change c → (x : IsDueCall workers (call_renamed (tie_by rid) c) s) × (x.worker ≡ w) × (x.change ≡ change) }
+    ensures group { (plan : Ports) (workers : ℕ) (capacities : List ℕ) (s : SwitchState) (names : Names) (rid : Vid → Option Rid) (flown : ℕ → Option Flown) (w : ℕ) (f : MachineFlight) (g : GroupOperation) (change : Change) (rest : List Change) (c : Call Vid) → IsPlan plan → IsSafe plan workers capacities s → Identified plan names rid flown s.machine.stands → BuildsGroups names flown → IsUnderWay flown w g → w < workers → s.machine.board.flights w ≡ Some f → s.machine.due w ≡ change ∷ rest → IsCallFor (HasGroupVid plan names g) (shared_things (Group g.hops)) change c → (x : IsDueCall workers (call_renamed (tie_by rid) c) s) × (x.worker ≡ w) × (x.change ≡ change) }
 {}
 
 /// So the call that the operation of a row tells next, or that of a group, is the due call of the machine, where the changes that
@@ -64,10 +64,10 @@ pub fn next_calls_are_due()
 /// What the call of a change makes has an identifier where its thing has one; and what it removes by an identifier is what the change
 /// takes away.
 pub fn calls_are_of_their_things()
-    ensures made { (plan : Ports) (names : Names) (things : List Thing) (t : Thing) (c : Call Vid) (b : Body Vid) → IsCallOf (HasVid plan names) things (Make t) c → c ≡ call.Create b → has_id b ≡ has_number t }
-    ensures made_of_group { (plan : Ports) (names : Names) (g : GroupOperation) (things : List Thing) (t : Thing) (c : Call Vid) (b : Body Vid) → IsCallOf (HasGroupVid plan names g) things (Make t) c → c ≡ call.Create b → has_id b ≡ has_number t }
-    ensures removed { (plan : Ports) (names : Names) (things : List Thing) (n : ThingName) (c : Call Vid) (v : Vid) → IsCallOf (HasVid plan names) things (Take n) c → c ≡ call.Remove (entry.Oid v) → HasVid plan names n v }
-    ensures removed_of_group { (plan : Ports) (names : Names) (g : GroupOperation) (things : List Thing) (n : ThingName) (c : Call Vid) (v : Vid) → g.builds ≡ false → IsCallOf (HasGroupVid plan names g) things (Take n) c → c ≡ call.Remove (entry.Oid v) → HasVid plan names n v }
+    ensures made { (plan : Ports) (names : Names) (things : List Thing) (t : Thing) (c : Call Vid) (b : Body Vid) → IsCallFor (HasVid plan names) things (Make t) c → c ≡ call.Create b → has_id b ≡ has_number t }
+    ensures made_of_group { (plan : Ports) (names : Names) (g : GroupOperation) (things : List Thing) (t : Thing) (c : Call Vid) (b : Body Vid) → IsCallFor (HasGroupVid plan names g) things (Make t) c → c ≡ call.Create b → has_id b ≡ has_number t }
+    ensures removed { (plan : Ports) (names : Names) (things : List Thing) (n : ThingName) (c : Call Vid) (v : Vid) → IsCallFor (HasVid plan names) things (Take n) c → c ≡ call.Remove (entry.Oid v) → HasVid plan names n v }
+    ensures removed_of_group { (plan : Ports) (names : Names) (g : GroupOperation) (things : List Thing) (n : ThingName) (c : Call Vid) (v : Vid) → g.builds ≡ false → IsCallFor (HasGroupVid plan names g) things (Take n) c → c ≡ call.Remove (entry.Oid v) → HasVid plan names n v }
 {}
 
 /// In a safe state, where each object that stands has its identifier, the registry has those that the change needs which is due
@@ -97,7 +97,7 @@ pub fn groups_stay_whole()
     ensures ended { (names : Names) (w : ℕ) (k : Key) (old : Option Row) (new : Option Row) → HasWholeGroups names → HasWholeGroups (ended_names names w k old new) }
     ensures took { (names : Names) (names' : Names) (f : Operation) (f' : Operation) (made : Option Vid) → MayTake f made names → IsTook f made names f' names' → HasWholeGroups names → HasWholeGroups names' }
     ensures built { (names : Names) (names' : Names) (w : ℕ) (g : GroupOperation) (g' : GroupOperation) (made : Option Vid) → g.builds ≡ true → state_of names (name.Group g.hops) ≡ state.Building w → IsPartlyBuilt g' → IsGroupTook g made names g' names' → HasWholeGroups names → HasWholeGroups names' }
-    ensures taken { (names : Names) (names' : Names) (g : GroupOperation) (g' : GroupOperation) (made : Option Vid) → HasRisingKeys name_cmp names → g.builds ≡ false → IsGroupTook g made names g' names' → HasWholeGroups names → HasWholeGroups names' }
+    ensures taken { (names : Names) (names' : Names) (g : GroupOperation) (g' : GroupOperation) (made : Option Vid) → HasRisingKeys registered_name_cmp names → g.builds ≡ false → IsGroupTook g made names g' names' → HasWholeGroups names → HasWholeGroups names' }
 {}
 
 /// Each object that stands keeps its identifier when the names of an operation have started; when an operation leaves what it

@@ -8,7 +8,7 @@ use Rattle.table_schema.specs.declared.write.Sent.{Sent}
 use Rattle.intake_queue.specs.declared.known.Known.{Known}
 use Rattle.table_schema.specs.SentBy.{sent_of}
 use Rattle.intake_queue.specs.Writes.{IsNumbered, IsOther}
-use Rattle.intake_queue.specs.Rule.{IsInOrder, FitsProducer, FitsTaker, producer, taker, nobody, without_part, only_part, with_part, one_more, after_send, after_receipt, IsReceived, IsHalfway, IsWhole, IsNumberedOn, HasNoOthers}
+use Rattle.intake_queue.specs.Rule.{IsInOrder, FitsProducer, FitsTaker, producer, taker, nobody, without_part, only_part, with_part, one_more, after_send, after_receipt, IsReceived, IsHalfway, IsWholePass, IsNumberedOn, HasNoOthers}
 use Rattle.intake_queue.specs.Values.{IsFront}
 use Rattle.intake_queue.proofs.Writes.{sent_of-append, sent_of-around, sent_of-grown, sent_of-few, grown, grown-own, grown-other, numbered-at, numbered-grown, not_empty, empty_front}
 use Rattle.intake_queue.proofs.Views.{All, all_none, all_set, all_snoc, moved, moved-here, moved-else, moved-stays, moved-free}
@@ -73,7 +73,7 @@ halfway pass v may queued views h at = (h.received, h.balance v.from ∙ sym (h.
 pub numbered_on : (pass : ℕ) (v : Known) → v.takes ≡ true → Learns IsInOrder pass v (IsNumberedOn v)
 numbered_on pass v may queued views h at p = subst (IsNumbered 0) (sym (h.balance p) ∙ ap (λ l. sent_of p (l ++ queued)) (sym (h.takers pass v at may).1)) (h.numbered p)
 
-pub whole : (pass : ℕ) (v : Known) → v.takes ≡ true → v.sends ≡ true → Learns IsInOrder pass v (IsWhole v)
+pub whole : (pass : ℕ) (v : Known) → v.takes ≡ true → v.sends ≡ true → Learns IsInOrder pass v (IsWholePass v)
 whole pass v takes sends queued views h at = (ap (λ l. sent_of v.from (l ++ queued)) (h.takers pass v at takes).1 ∙ h.balance v.from ∙ sym (h.producers pass v at sends).1, h.room)
 
 pub no_others : (pass : ℕ) (v : Known) → v.takes ≡ true → Learns IsInOrder pass v (HasNoOthers v)
@@ -81,7 +81,7 @@ no_others pass v may queued views h at p o = let mine = h.takers pass v at may i
     ap (sent_of p) mine.1 ∙ empty_front (sent_of p h.received) (sent_of p queued) (sym (sent_of-append p h.received queued) ∙ h.balance p ∙ (mine.2 p o).1)
 
 -- what this says of what was received
-pub front_of_whole : (v : Known) (queued : List Sent) (from : ℕ) (received sent : List Sent) → IsWhole v queued → v.from ≡ from → v.received ≡ received → v.sent ≡ sent → IsFront (sent_of from received) sent
+pub front_of_whole : (v : Known) (queued : List Sent) (from : ℕ) (received sent : List Sent) → IsWholePass v queued → v.from ≡ from → v.received ≡ received → v.sent ≡ sent → IsFront (sent_of from received) sent
 front_of_whole v queued from received sent h a b c = let few = sent_of-few from queued in let room = h.1 in record {
   queued = sent_of from queued;
   whole = sym (sent_of-append from received queued) ∙ (λ i. sent_of (sym a i) (sym b i ++ queued)) ∙ h.0 ∙ c;

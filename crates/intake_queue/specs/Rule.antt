@@ -51,8 +51,8 @@ abbrev pub IsHalfway : Known → List Sent → Type 0
 IsHalfway v queued = (received : List Sent) × (sent_of v.from (received ++ queued) ≡ v.sent)
 
 -- the same, by one who knows what was received
-abbrev pub IsWhole : Known → List Sent → Type 0
-IsWhole v queued = (sent_of v.from (v.received ++ queued) ≡ v.sent) × (length queued ≤ PLACES)
+abbrev pub IsWholePass : Known → List Sent → Type 0
+IsWholePass v queued = (sent_of v.from (v.received ++ queued) ≡ v.sent) × (length queued ≤ PLACES)
 
 -- of each sender, what was received and then what is queued is numbered from 0
 abbrev pub IsNumberedOn : Known → List Sent → Type 0

@@ -19,8 +19,8 @@ use Rattle.row_layout.specs.Shared.{address_uses, uses}
 use Rattle.ref_counts.specs.declared.name.Name.{Name}
 use Rattle.ref_counts.specs.declared.name.Name.TheVariants as name
 use Rattle.ref_counts.specs.declared.name.NameState.TheVariants as state
-use Rattle.ref_counts.specs.Registered.{going}
-use Rattle.ref_counts.specs.Registry.{Names, changed, refusal_at, state_in, state_of}
+use Rattle.ref_counts.specs.Registered.{begun_to_go}
+use Rattle.ref_counts.specs.Registry.{Names, changed, retire_refusal_at, state_in, state_of}
 use Rattle.ref_counts.specs.Room.{Reserves, RoomState}
 use Rattle.ref_counts.proofs.Found.{apart_from, found-other}
 use Rattle.switch_machine.specs.Flights.{Fits}
@@ -203,7 +203,7 @@ module _ (plan : Ports) (n : IfName) (ip : Ip) (len : ℕ) where
 
       -- the names while its row begins to go
       abbrev later : Names
-      later = changed names (name.Row k) (going worker)
+      later = changed names (name.Row k) (begun_to_go worker)
 
       pub live-later : (a : Row) (shared : Option Name) → uses plan k a ≡ owners_of shared → MayStart plan names worker k (Some a) None → IsLive names shared
       live-later a shared shares may = is-live plan names k a shared shares may.shared
@@ -229,7 +229,7 @@ module _ (plan : Ports) (n : IfName) (ip : Ip) (len : ℕ) where
       pub address-removed : (a : Row) (shared : Option Name) (stage : OwnStage) (names' : Names)
           → uses plan k a ≡ owners_of shared
           → MayStart plan names worker k (Some a) None
-          → refusal_at names worker (name.Row k) ≡ None
+          → retire_refusal_at names worker (name.Row k) ≡ None
           → names' ≡ left_shared later worker k shared
           → IsRetired later worker k shared stage
           → Starts plan names room used worker (Ok (subject.Addr n ip len stage)) names' room k (Some a) None
@@ -239,9 +239,9 @@ module _ (plan : Ports) (n : IfName) (ip : Ip) (len : ℕ) where
           let none : places_for (own_changes plan k (Some a) None) ≡ no_places = ap places_for (none-removed a fits) in
           (wait-removal plan names room used worker k (Some a) none ∙ free, is.0, begins ∙ is.1, reserves-none room worker (places_for (own_changes plan k (Some a) None)) none)
 
-      pub address-held : (a : Row) (w : Wait) (names' : Names) → MayStart plan names worker k (Some a) None → refusal_at names worker (name.Row k) ≡ Some w → names' ≡ names → Starts plan names room used worker (Err w) names' room k (Some a) None
+      pub address-held : (a : Row) (w : Wait) (names' : Names) → MayStart plan names worker k (Some a) None → retire_refusal_at names worker (name.Row k) ≡ Some w → names' ≡ names → Starts plan names room used worker (Err w) names' room k (Some a) None
       address-held a w names' may waits same = (wait-removal plan names room used worker k (Some a) (ap places_for (none-removed a (may.old_fits a refl))) ∙ waits, same, refl)
 
-pub stays-live : (names : Names) (worker : ℕ) (k : Key) (shared : Option Name) → AreOfShared shared → IsLive names shared → IsLive (changed names (name.Row k) (going worker)) shared
+pub stays-live : (names : Names) (worker : ℕ) (k : Key) (shared : Option Name) → AreOfShared shared → IsLive names shared → IsLive (changed names (name.Row k) (begun_to_go worker)) shared
 stays-live names worker k None of live = tt
-stays-live names worker k (Some m) of live = ap state_in (found-other names (name.Row k) m (going worker) (λ q is. apart_from (name.Row k) m q (row_apart k m of) is)) ∙ live
+stays-live names worker k (Some m) of live = ap state_in (found-other names (name.Row k) m (begun_to_go worker) (λ q is. apart_from (name.Row k) m q (row_apart k m of) is)) ∙ live

@@ -16,7 +16,7 @@ use Rattle.row_layout.specs.Operations.{Set, make_all, own_changes, set_all, tak
 use Rattle.row_layout.specs.Rows.{from}
 use Rattle.ref_counts.specs.declared.name.Name.TheVariants as name
 use Rattle.ref_counts.specs.Registered as registered
-use Rattle.ref_counts.specs.Registry.{Names, changed, refusal_at}
+use Rattle.ref_counts.specs.Registry.{Names, changed, retire_refusal_at}
 use Rattle.ref_counts.specs.Room.{Reserves, RoomState}
 use Rattle.switch_machine.specs.Flights.{Fits}
 use Rattle.orch_flight.specs.Needing.{places_for, row_reason}
@@ -24,7 +24,7 @@ use Rattle.orch_flight.specs.Sharing.{MayStart, begun_by}
 use Rattle.orch_flight.specs.Starting.{first_due, leaving}
 use Rattle.orch_flight.proofs.Begins.{begun-removal, names-plain, no_places}
 use Rattle.orch_flight.proofs.Rows.{removal-starts, row-begins, row-starts}
-use Rattle.intf_orch.specs.Interfaces.{coming, going, intf_operation, rif_due, row_where}
+use Rattle.intf_orch.specs.Interfaces.{coming, rif_going, intf_operation, rif_due, row_where}
 use Rattle.intf_orch.specs.declared.stage.RifStage.{RifStage}
 use Rattle.intf_orch.specs.declared.stage.RifStage.TheVariants as rif
 use Rattle.intf_orch.specs.declared.stage.Subject.{Subject}
@@ -35,7 +35,7 @@ due-comes : (o : Option Base) → make_all (from o (λ b. thing.Rif b ∷ [])) [
 due-comes None = refl
 due-comes (Some b) = refl
 
-due-goes : (o : Option Base) → take_all (from o (λ b. thing.Rif b ∷ [])) [] ≡ rif_due (going o)
+due-goes : (o : Option Base) → take_all (from o (λ b. thing.Rif b ∷ [])) [] ≡ rif_due (rif_going o)
 due-goes None = refl
 due-goes (Some b) = refl
 
@@ -64,11 +64,11 @@ module _ (plan : Ports) (n : IfName) where
   changed-due row.Intf _ old fits = elim fits [ ]
   changed-due _ r old fits = elim old [ ]
 
-  removed-due : (a : Row) → Fits plan (key.Intf n) a → own_changes plan (key.Intf n) (Some a) None ≡ rif_due (going (base_of plan n))
+  removed-due : (a : Row) → Fits plan (key.Intf n) a → own_changes plan (key.Intf n) (Some a) None ≡ rif_due (rif_going (base_of plan n))
   removed-due row.Intf fits = due-goes (base_of plan n)
   removed-due _ fits = elim fits [ ]
 
-  removed-places : (o : Option Base) → places_for (rif_due (going o)) ≡ no_places
+  removed-places : (o : Option Base) → places_for (rif_due (rif_going o)) ≡ no_places
   removed-places None = refl
   removed-places (Some b) = refl
 
@@ -123,18 +123,18 @@ module _ (plan : Ports) (n : IfName) where
 
     pub interface-removed : (a : Row) (base : Option Base) (stage : RifStage) (names' : Names) (begun : Result (Unit {0}) Wait) (answer : Result Subject Wait)
         → base ≡ base_of plan n
-        → stage ≡ going base
+        → stage ≡ rif_going base
         → answer ≡ result_and begun (Ok (subject.Intf n stage))
         → MayStart plan names worker (key.Intf n) (Some a) None
-        → OnOk begun (refusal_at names worker (name.Row (key.Intf n)) ≡ None)
-        → OnOk begun (names' ≡ changed names (name.Row (key.Intf n)) (registered.going worker))
-        → IfErr begun (λ w. refusal_at names worker (name.Row (key.Intf n)) ≡ Some w)
+        → OnOk begun (retire_refusal_at names worker (name.Row (key.Intf n)) ≡ None)
+        → OnOk begun (names' ≡ changed names (name.Row (key.Intf n)) (registered.begun_to_go worker))
+        → IfErr begun (λ w. retire_refusal_at names worker (name.Row (key.Intf n)) ≡ Some w)
         → OnErr begun (names' ≡ names)
         → Starts plan names room used worker answer names' room (key.Intf n) (Some a) None
     interface-removed a base stage names' begun answer on goes is may free begins waits same =
         let fits = may.old_fits a refl in
-        let due = removed-due a fits ∙ ap (λ o. rif_due (going o)) (sym on) in
+        let due = removed-due a fits ∙ ap (λ o. rif_due (rif_going o)) (sym on) in
         removal-starts plan names room used worker (key.Intf n) (Some a) (intf_operation worker true false) (subject.Intf n stage) names' room begun answer is
         (operation-plain plan names worker (subject.Intf n stage) (Some a) None (row-is a fits) refl (ap rif_due goes ∙ sym due) refl refl)
         (begun-removal plan names room used worker (key.Intf n) (Some a) names' (Ok begun) (ap places_for due ∙ removed-places base)
-        (names-plain (changed names (name.Row (key.Intf n)) (registered.going worker)) worker (key.Intf n) (first_due plan names (key.Intf n) (Some a) None)) free begins waits same)
+        (names-plain (changed names (name.Row (key.Intf n)) (registered.begun_to_go worker)) worker (key.Intf n) (first_due plan names (key.Intf n) (Some a) None)) free begins waits same)

@@ -44,14 +44,14 @@ IsIntfKey _ = ⊥
 
 -- ---- the operation
 
-abbrev pub key_of : Subject → Key
-key_of (subject.Intf n stage) = key.Intf n
-key_of (subject.Addr n ip len stage) = key.Addr n ip len
+abbrev pub subject_key : Subject → Key
+subject_key (subject.Intf n stage) = key.Intf n
+subject_key (subject.Addr n ip len stage) = key.Addr n ip len
 
 -- the one row that such a key can have
-abbrev pub row_of : Subject → Row
-row_of (subject.Intf n stage) = row.Intf
-row_of (subject.Addr n ip len stage) = row.Addr
+abbrev pub subject_row : Subject → Row
+subject_row (subject.Intf n stage) = row.Intf
+subject_row (subject.Addr n ip len stage) = row.Addr
 
 abbrev pub row_where : Bool → Row → Option Row
 row_where true r = Some r
@@ -84,7 +84,7 @@ retires_of (subject.Intf n stage) = None
 retires_of (subject.Addr n ip len stage) = retired ip stage
 
 abbrev pub intf_operation : ℕ → Bool → Bool → Subject → Operation
-intf_operation worker old new s = record { worker = worker; key = key_of s; now = row_where old (row_of s); new = row_where new (row_of s); due = due_of s; leaves = None; retires = retires_of s }
+intf_operation worker old new s = record { worker = worker; key = subject_key s; now = row_where old (subject_row s); new = row_where new (subject_row s); due = due_of s; leaves = None; retires = retires_of s }
 
 -- ---- how it starts
 
@@ -93,9 +93,9 @@ abbrev pub coming : Option Base → RifStage
 coming None = rif.Stays
 coming (Some b) = rif.Comes b
 
-abbrev pub going : Option Base → RifStage
-going None = rif.Stays
-going (Some b) = rif.Goes b
+abbrev pub rif_going : Option Base → RifStage
+rif_going None = rif.Stays
+rif_going (Some b) = rif.Goes b
 
 -- an own address is made where nothing of it is there
 abbrev pub own_stage : Bool → OwnStage
@@ -167,9 +167,9 @@ abbrev pub MayBuildOwn : Names → ℕ → Ip → OwnStage → Type 0
 MayBuildOwn names worker ip own.Comes = state_of names (name.Own ip) ≡ state.Building worker
 MayBuildOwn names worker ip _ = Unit {0}
 
-abbrev pub own_names : Names → Ip → OwnStage → Names
-own_names names ip own.Comes = changed names (name.Own ip) (made_live [])
-own_names names ip _ = gone_from names (name.Own ip)
+abbrev pub names_after_own : Names → Ip → OwnStage → Names
+names_after_own names ip own.Comes = changed names (name.Own ip) (made_live [])
+names_after_own names ip _ = gone_from names (name.Own ip)
 
 abbrev pub own_after : OwnStage → OwnStage
 own_after own.Comes = own.Stays

@@ -1,8 +1,8 @@
 // How the operation of an interface's address starts.
 ghost use Rattle.std.specs.Prelude.{◌≡◌, ◌∷◌, ◌<◌, [], true, false, is_some, None, Some, option_map, IfOk, IfErr, OnOk, OnErr, if◌then◌else◌};
 ghost use Rattle.ref_counts.specs.declared.name.NameState.TheVariants.{Live};
-ghost use Rattle.ref_counts.specs.Registered.{going};
-ghost use Rattle.ref_counts.specs.Registry.{changed, refusal_at, registered_at, state_of};
+ghost use Rattle.ref_counts.specs.Registered.{begun_to_go};
+ghost use Rattle.ref_counts.specs.Registry.{changed, retire_refusal_at, registered_at, state_of};
 ghost use Rattle.ref_counts.specs.Room.{Reserves};
 ghost use Rattle.row_layout.specs.Shared.{uses};
 ghost use Rattle.orch_flight.specs.Needing.{row_reason};
@@ -141,10 +141,10 @@ fn try_leave(
     requires row { state_of reg.old (Name.Row key.now) ≡ Live }
     requires live { IsLive reg.old shared.now }
     requires kind { AreOfShared shared.now }
-    ensures free { IfOk result (λ answer. OnOk answer (refusal_at reg.old worker (Name.Row key.now) ≡ None)) }
-    ensures names { IfOk result (λ answer. OnOk answer (reg.new ≡ left_shared (changed reg.old (Name.Row key.now) (going worker)) worker key.now shared.now)) }
-    ensures stage { IfOk result (λ answer. IfOk answer (λ stage. IsRetired (changed reg.old (Name.Row key.now) (going worker)) worker key.now shared.now stage)) }
-    ensures wait { IfOk result (λ answer. IfErr answer (λ wait. refusal_at reg.old worker (Name.Row key.now) ≡ Some wait)) }
+    ensures free { IfOk result (λ answer. OnOk answer (retire_refusal_at reg.old worker (Name.Row key.now) ≡ None)) }
+    ensures names { IfOk result (λ answer. OnOk answer (reg.new ≡ left_shared (changed reg.old (Name.Row key.now) (begun_to_go worker)) worker key.now shared.now)) }
+    ensures stage { IfOk result (λ answer. IfOk answer (λ stage. IsRetired (changed reg.old (Name.Row key.now) (begun_to_go worker)) worker key.now shared.now stage)) }
+    ensures wait { IfOk result (λ answer. IfErr answer (λ wait. retire_refusal_at reg.old worker (Name.Row key.now) ≡ Some wait)) }
     ensures none { IfOk result (λ answer. OnErr answer (reg.new ≡ reg.old)) }
     ensures err { OnErr result (reg.new ≡ reg.old) }
 {

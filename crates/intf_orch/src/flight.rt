@@ -8,7 +8,7 @@ ghost use Rattle.orch_flight.specs.Calling.{HaveIds, IsNextOf, IsOver, KnowsIds}
 ghost use Rattle.orch_flight.specs.Sharing.{MayStart};
 ghost use Rattle.orch_flight.specs.Starting.{IsStartedBy, answered};
 ghost use Rattle.orch_flight.specs.Taking.{IsTook, MayTake, to_list};
-ghost use Rattle.intf_orch.specs.Interfaces.{IsIntfKey, IsMadeOn, IsRifNext, KnowsRif, MayBuildOwn, MayBuildRif, base_keys, intf_operation, own_after, own_names, own_next, rif_names};
+ghost use Rattle.intf_orch.specs.Interfaces.{IsIntfKey, IsMadeOn, IsRifNext, KnowsRif, MayBuildOwn, MayBuildRif, base_keys, intf_operation, own_after, names_after_own, own_next, rif_names};
 
 use crate::stage::{OwnStage, RifStage, Subject};
 use crate::starting::{start_address, start_interface};
@@ -181,7 +181,7 @@ fn took_rif(worker: u32, on: IfName, stage: RifStage, made: Option<Vid>, reg: &m
 /// Makes an own address live once it is made, and absent once it is removed.
 fn took_own(worker: u32, ip: &Ip, stage: OwnStage, reg: &mut Registry) -> OwnStage
     requires { MayBuildOwn reg.old worker ip.now stage }
-    ensures names { reg.new ≡ own_names reg.old ip.now stage }
+    ensures names { reg.new ≡ names_after_own reg.old ip.now stage }
     ensures stage { result ≡ own_after stage }
 {
     match stage {

@@ -1,7 +1,7 @@
 // What an operation of INTF_TABLE is about, and how far it is.
 ghost use Rattle.std.specs.Prelude.{◌≡◌};
 ghost use Rattle.orch_flight.specs.Needing.{places_for};
-ghost use Rattle.intf_orch.specs.Interfaces.{coming, going, own_due, own_stage, rif_due};
+ghost use Rattle.intf_orch.specs.Interfaces.{coming, rif_going, own_due, own_stage, rif_due};
 
 use sai_types::Base;
 use swss_types::{IfName, Ip};
@@ -51,7 +51,7 @@ pub fn coming(base: Option<Base>) -> RifStage
 
 /// What becomes of the router interface of an interface that is removed.
 pub fn going(base: Option<Base>) -> RifStage
-    ensures { result ≡ going base }
+    ensures { result ≡ rif_going base }
 {
     match base {
         Some(base) => RifStage::Goes(base),

@@ -12,7 +12,7 @@ use Rattle.sai_types.specs.After.{after_call}
 use Rattle.sai_types.specs.Alike.{IsIn}
 use Rattle.sai_types.specs.Made.{made_after}
 use Rattle.sai_types.specs.Names.{ThingName, name_of}
-use Rattle.chip_layout.specs.Layout.{listed, next_id}
+use Rattle.chip_layout.specs.Layout.{listed, next_rid}
 use Rattle.switch_model.specs.Things.{members_of}
 use Rattle.row_layout.specs.Operations.{Change, Make, Set, Take, shared_going, take_all, uses_of}
 use Rattle.row_layout.specs.Rows as owner
@@ -74,13 +74,13 @@ one_pair : (i j : Rid) (t u : Thing) → i ≡ j → t ≡ u → pair i t ≡ pa
 one_pair i j t u e h = ap₂ pair e h
 
 pub change_made : (stands : List (Rid × Thing)) (made : ℕ) (c : Change) (call : Call Rid) (of : IsCall (listed stands) c call) → Changed stands made c call of
-change_made stands made (Make t) call of = record { id = next_id made; given = λ h. refl; later = (next_id made, t) ∷ stands; into = into; back = back }
+change_made stands made (Make t) call of = record { id = next_rid made; given = λ h. refl; later = (next_rid made, t) ∷ stands; into = into; back = back }
   where
-    into : (i : Rid) (u : Thing) → IsIn (i, u) stands ⊎ ((i ≡ next_id made) × (u ≡ t)) → IsIn (i, u) ((next_id made, t) ∷ stands)
+    into : (i : Rid) (u : Thing) → IsIn (i, u) stands ⊎ ((i ≡ next_rid made) × (u ≡ t)) → IsIn (i, u) ((next_rid made, t) ∷ stands)
     into i u (inl h) = inr h
-    into i u (inr (e, same)) = inl (one_pair i (next_id made) u t e same)
+    into i u (inr (e, same)) = inl (one_pair i (next_rid made) u t e same)
 
-    back : (i : Rid) (u : Thing) → IsIn (i, u) ((next_id made, t) ∷ stands) → IsIn (i, u) stands ⊎ ((i ≡ next_id made) × (u ≡ t))
+    back : (i : Rid) (u : Thing) → IsIn (i, u) ((next_rid made, t) ∷ stands) → IsIn (i, u) stands ⊎ ((i ≡ next_rid made) × (u ≡ t))
     back i u (inl e) = inr (ap (λ (z : Rid × Thing). z.0) e, ap (λ (z : Rid × Thing). z.1) e)
     back i u (inr h) = inl h
 change_made stands made (Set t) call of = record { id = of.id; given = refl; later = (of.id, t) ∷ without_name (name_of t) stands; into = into; back = back }
@@ -92,7 +92,7 @@ change_made stands made (Set t) call of = record { id = of.id; given = refl; lat
     back : (i : Rid) (u : Thing) → IsIn (i, u) ((of.id, t) ∷ without_name (name_of t) stands) → (IsIn (i, u) stands × (name_of u ≡ name_of t → ⊥)) ⊎ ((i ≡ of.id) × (u ≡ t))
     back i u (inl e) = inr (ap (λ (z : Rid × Thing). z.0) e, ap (λ (z : Rid × Thing). z.1) e)
     back i u (inr h) = inl (kept_in (name_of t) (i, u) stands h)
-change_made stands made (Take n) call of = record { id = next_id made; given = tt; later = without_name n stands; into = λ i u h. in_kept n (i, u) stands h.0 h.1; back = λ i u h. kept_in n (i, u) stands h }
+change_made stands made (Take n) call of = record { id = next_rid made; given = tt; later = without_name n stands; into = λ i u h. in_kept n (i, u) stands h.0 h.1; back = λ i u h. kept_in n (i, u) stands h }
 
 -- ---- what follows, and what is left to do
 

@@ -24,7 +24,7 @@ use Rattle.sai_types.proofs.Things.{both_mapped}
 use Rattle.switch_model.specs.Good.{good_row}
 use Rattle.switch_model.specs.Things.{base_of, hop_of, hops_of, lane_of, members_of}
 use Rattle.switch_model.proofs.Members.{members_count}
-use Rattle.row_layout.specs.Operations.{Change, Set, going, make_all, own_changes, own_sets, port_with, same_thing, set_all, set_to, shared_going, take_all, uses_of}
+use Rattle.row_layout.specs.Operations.{Change, Set, going, make_all, own_changes, own_sets, thing_of_port, same_thing, set_all, set_to, shared_going, take_all, uses_of}
 use Rattle.row_layout.specs.Rows as owner
 use Rattle.row_layout.specs.Rows.{Owner, from, goal_of, own_things}
 use Rattle.row_layout.specs.Shared.{address_uses, group_by, route_uses, shared_things, uses}
@@ -85,11 +85,11 @@ going_few plan k r = own_few plan k r
 
 own_sets_few : (plan : Ports) (k : Key) (a r : Row) → length (own_sets plan k a r) ≤ most_own k
 own_sets_few plan (key.Port port) (row.Port a) (row.Port r) =
-    let last = set_to (port_with a.lanes r.speed r.mtu a.up) (port_with a.lanes r.speed r.mtu r.up) [] in
-    let more = set_to (port_with a.lanes r.speed a.mtu a.up) (port_with a.lanes r.speed r.mtu a.up) last in
-    let one = set_few (port_with a.lanes r.speed r.mtu a.up) (port_with a.lanes r.speed r.mtu r.up) [] in
-    let two = set_few (port_with a.lanes r.speed a.mtu a.up) (port_with a.lanes r.speed r.mtu a.up) last in
-    let three = set_few (port_with a.lanes a.speed a.mtu a.up) (port_with a.lanes r.speed a.mtu a.up) more in
+    let last = set_to (thing_of_port a.lanes r.speed r.mtu a.up) (thing_of_port a.lanes r.speed r.mtu r.up) [] in
+    let more = set_to (thing_of_port a.lanes r.speed a.mtu a.up) (thing_of_port a.lanes r.speed r.mtu a.up) last in
+    let one = set_few (thing_of_port a.lanes r.speed r.mtu a.up) (thing_of_port a.lanes r.speed r.mtu r.up) [] in
+    let two = set_few (thing_of_port a.lanes r.speed a.mtu a.up) (thing_of_port a.lanes r.speed r.mtu a.up) last in
+    let three = set_few (thing_of_port a.lanes a.speed a.mtu a.up) (thing_of_port a.lanes r.speed a.mtu a.up) more in
     omega (arith, one, two, three)
 own_sets_few plan k a r =
     let sets = sets_few (own_things plan k a) (own_things plan k r) in

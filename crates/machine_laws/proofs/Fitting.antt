@@ -19,11 +19,11 @@ use Rattle.swss_types.proofs.Most.{most_by_test}
 use Rattle.swss_types.proofs.Choices.{some_by as there}
 use Rattle.table_schema.specs.Broken.{and_then, bad}
 use Rattle.table_schema.specs.Fields.{Pairs, value_of}
-use Rattle.table_schema.specs.Hop.{hop_cmp}
+use Rattle.table_schema.specs.Hop.{row_hop_cmp}
 use Rattle.table_schema.specs.KeyText.{on_switch}
 use Rattle.table_schema.specs.Names.{base_names, names_of, route_names}
 use Rattle.table_schema.specs.Plan.{Ports, lanes_in_plan}
-use Rattle.table_schema.specs.RouteRules.{drops_of, filled, forwarding_of, hop_at, hop_of, hop_on, hops_of, hops_with, is_zero, route_row_of, route_target, target_of}
+use Rattle.table_schema.specs.RouteRules.{drops_of, field_filled, route_hops_of, hop_at, hop_of_texts, hop_or_why, hops_of_texts, hops_with, is_zero, route_row_of, route_target, target_of_hops}
 use Rattle.table_schema.specs.Rules.{number_or, other_row, port_lanes, port_row_of, port_row_with, row_of, tagged_row, tagging_row, up_of}
 use Rattle.table_schema.specs.Split.{split_once}
 use Rattle.table_schema.specs.declared.key.Key.{Key}
@@ -51,7 +51,7 @@ use Rattle.switch_model.specs.Good.{TypedRows, good_row}
 use Rattle.switch_model.specs.Things.{base_of, lane_of}
 use Rattle.switch_model.specs.Things as things
 use Rattle.switch_model.proofs.ReadRows.{in_router-is, lladdr_row-is, port_lanes-is, row_read_ok}
-use Rattle.row_layout.specs.Rows.{goal_by, goal_of}
+use Rattle.row_layout.specs.Rows.{goal_to, goal_of}
 use Rattle.switch_machine.specs.Flights.{Fits}
 use Rattle.machine_laws.specs.Reading.{IsOnSwitch}
 
@@ -107,7 +107,7 @@ hop_at_ok several on (Some ip) h e = by (several && is_zero ip) e
     by true e = absurd cc
     by false e = ap (λ (z : RowHop). z.on) (sym (same_okay _ h e))
 
-hop_on_ok : (several : Bool) (text : List ℕ) (on : Option IfName) (ip : Option Ip) (h : RowHop) → on_switch (if_name_of text) ≡ on → hop_on several on ip ≡ Ok h → IsSwitched h
+hop_on_ok : (several : Bool) (text : List ℕ) (on : Option IfName) (ip : Option Ip) (h : RowHop) → on_switch (if_name_of text) ≡ on → hop_or_why several on ip ≡ Ok h → IsSwitched h
 hop_on_ok several text None ip h is e = absurd cc
 hop_on_ok several text (Some on) ip h is e = subst (λ z. on_switch (Some z) ≡ Some z) (sym (hop_at_ok several on ip h e)) (on_switch_stays (if_name_of text) on is).1
 
@@ -115,8 +115,8 @@ hops_with_ok : (several : Bool) (hops : List RowHop) (ips names : List (List ℕ
 hops_with_ok several hops [] names out all h = subst (AllByRecursion IsSwitched) (same_okay hops out h) all
 hops_with_ok several hops (ip ∷ ips) [] out all h = subst (AllByRecursion IsSwitched) (same_okay hops out h) all
 hops_with_ok several hops (ip ∷ ips) (on ∷ names) out all h =
-    let x = both_hold (hop_of several ip on) (λ hop. hops_with several (insert_key hop_cmp hops hop) ips names) out h in
-    hops_with_ok several (insert_key hop_cmp hops x.0) ips names out (AllByRecursion-insert_key IsSwitched hops x.0 (hop_on_ok several on (on_switch (if_name_of on)) (ip_of ip) x.0 refl x.1) all) x.2
+    let x = both_hold (hop_of_texts several ip on) (λ hop. hops_with several (insert_key row_hop_cmp hops hop) ips names) out h in
+    hops_with_ok several (insert_key row_hop_cmp hops x.0) ips names out (AllByRecursion-insert_key IsSwitched hops x.0 (hop_on_ok several on (on_switch (if_name_of on)) (ip_of ip) x.0 refl x.1) all) x.2
 
 some_hop : {A : Type 0} (cmp : A → A → Ordering) (hops : List A) (hop : A) → 0 < length (insert_key cmp hops hop)
 some_hop cmp [] hop = omega arith
@@ -133,31 +133,31 @@ hops_with_few : (several : Bool) (hops : List RowHop) (ips names : List (List �
 hops_with_few several hops [] names out h = let same = ap length (same_okay hops out h) in omega (arith, same)
 hops_with_few several hops (ip ∷ ips) [] out h = let same = ap length (same_okay hops out h) in omega (arith, same)
 hops_with_few several hops (ip ∷ ips) (on ∷ names) out h =
-    let x = both_hold (hop_of several ip on) (λ hop. hops_with several (insert_key hop_cmp hops hop) ips names) out h in
-    let rest = hops_with_few several (insert_key hop_cmp hops x.0) ips names out x.2 in
-    let one = insert-few hop_cmp hops x.0 in
+    let x = both_hold (hop_of_texts several ip on) (λ hop. hops_with several (insert_key row_hop_cmp hops hop) ips names) out h in
+    let rest = hops_with_few several (insert_key row_hop_cmp hops x.0) ips names out x.2 in
+    let one = insert-few row_hop_cmp hops x.0 in
     omega (arith, rest, one)
 
 stay_some : (several : Bool) (hops : List RowHop) (ips names : List (List ℕ)) (out : List RowHop) → 0 < length hops → hops_with several hops ips names ≡ Ok out → 0 < length out
 stay_some several hops [] names out some h = subst (λ z. 0 < length z) (same_okay hops out h) some
 stay_some several hops (ip ∷ ips) [] out some h = subst (λ z. 0 < length z) (same_okay hops out h) some
 stay_some several hops (ip ∷ ips) (on ∷ names) out some h =
-    let x = both_hold (hop_of several ip on) (λ hop. hops_with several (insert_key hop_cmp hops hop) ips names) out h in
-    stay_some several (insert_key hop_cmp hops x.0) ips names out (some_hop hop_cmp hops x.0) x.2
+    let x = both_hold (hop_of_texts several ip on) (λ hop. hops_with several (insert_key row_hop_cmp hops hop) ips names) out h in
+    stay_some several (insert_key row_hop_cmp hops x.0) ips names out (some_hop row_hop_cmp hops x.0) x.2
 
 read_hops_some : (several : Bool) (ips names : List (List ℕ)) (out : List RowHop) → 0 < length ips → length ips ≡ length names → hops_with several [] ips names ≡ Ok out → 0 < length out
 read_hops_some several [] names out some same h = absurd (omega (arith, some))
 read_hops_some several (ip ∷ ips) [] out some same h = absurd (omega (arith, same))
 read_hops_some several (ip ∷ ips) (on ∷ names) out some same h =
-    let x = both_hold (hop_of several ip on) (λ hop. hops_with several (insert_key hop_cmp [] hop) ips names) out h in
-    stay_some several (insert_key hop_cmp [] x.0) ips names out (some_hop hop_cmp [] x.0) x.2
+    let x = both_hold (hop_of_texts several ip on) (λ hop. hops_with several (insert_key row_hop_cmp [] hop) ips names) out h in
+    stay_some several (insert_key row_hop_cmp [] x.0) ips names out (some_hop row_hop_cmp [] x.0) x.2
 
 record AreSwitchedHops (out : List RowHop) : Type 0 where
   all : AllByRecursion IsSwitched out
   some : 0 < length out
   few : length out ≤ 128
 
-hops_ok : (ips names : List (List ℕ)) (out : List RowHop) → 0 < length ips → hops_of ips names ≡ Ok out → AreSwitchedHops out
+hops_ok : (ips names : List (List ℕ)) (out : List RowHop) → 0 < length ips → hops_of_texts ips names ≡ Ok out → AreSwitchedHops out
 hops_ok ips names out some h = counted (length ips == length names) refl h
   where
     few : (b : Bool) → nat_le (length ips) 128 ≡ b → length ips ≡ length names → cond b (hops_with (nat_lt 1 (length ips)) [] ips names) (bad TooManyHops 7) ≡ Ok out → AreSwitchedHops out
@@ -173,15 +173,15 @@ hops_ok ips names out some h = counted (length ips == length names) refl h
 
 data IsTarget (t : RouteRow) : Type 0 where
   IsDrop : t ≡ route.Drop → IsTarget t
-  Goes : (out : List RowHop) → AreSwitchedHops out → t ≡ target_of out → IsTarget t
+  Goes : (out : List RowHop) → AreSwitchedHops out → t ≡ target_of_hops out → IsTarget t
 
-forwarding_ok : (fields : Pairs) (t : RouteRow) → forwarding_of fields ≡ Ok t → IsTarget t
+forwarding_ok : (fields : Pairs) (t : RouteRow) → route_hops_of fields ≡ Ok t → IsTarget t
 forwarding_ok fields t h =
-    let ips = both_hold (filled 7 (value_of (codes "nexthop") fields)) _ t h in
-    let names = both_hold (filled 8 (value_of (codes "ifname") fields)) _ t ips.2 in
-    let out = both_hold (hops_of (parts_at 44 ips.0) (parts_at 44 names.0)) (λ hops. Ok (target_of hops)) t names.2 in
+    let ips = both_hold (field_filled 7 (value_of (codes "nexthop") fields)) _ t h in
+    let names = both_hold (field_filled 8 (value_of (codes "ifname") fields)) _ t ips.2 in
+    let out = both_hold (hops_of_texts (parts_at 44 ips.0) (parts_at 44 names.0)) (λ hops. Ok (target_of_hops hops)) t names.2 in
     let many = length-slice_split (λ b. b == 44) ips.0 in
-    Goes out.0 (hops_ok (parts_at 44 ips.0) (parts_at 44 names.0) out.0 (omega (arith, many)) out.1) (sym (same_okay (target_of out.0) t out.2))
+    Goes out.0 (hops_ok (parts_at 44 ips.0) (parts_at 44 names.0) out.0 (omega (arith, many)) out.1) (sym (same_okay (target_of_hops out.0) t out.2))
 
 target_ok : (drops : Bool) (fields : Pairs) (t : RouteRow) → route_target drops fields ≡ Ok t → IsTarget t
 target_ok true fields t h = IsDrop (sym (same_okay route.Drop t h))
@@ -199,7 +199,7 @@ abbrev pub hop_count : RouteRow → ℕ
 hop_count (route.Hops hops) = length hops
 hop_count _ = 0
 
-target_few : (out : List RowHop) → hop_count (target_of out) ≤ length out
+target_few : (out : List RowHop) → hop_count (target_of_hops out) ≤ length out
 target_few [] = omega arith
 target_few (x ∷ []) = by (is_zero x.ip)
   where
@@ -261,7 +261,7 @@ module _ (plan : Ports) (applied : TypedRows) (fit : (q : Key) (x : Row) → app
       let rest = hops_there xs parts.1 in
       (insert_key named.hop_cmp rest.0 one.0, (ap (λ z. both (insert_key named.hop_cmp) z (things.hop_of plan x)) rest.1 ∙ ap (both (insert_key named.hop_cmp) (Some rest.0)) one.1), λ some. some_hop named.hop_cmp rest.0 one.0)
 
-  goal_some : (out : List Hop) → 0 < length out → (g : Goal) × (goal_by (Some out) ≡ Some g)
+  goal_some : (out : List Hop) → 0 < length out → (g : Goal) × (goal_to (Some out) ≡ Some g)
   goal_some [] some = absurd (omega (arith, some))
   goal_some (x ∷ []) some = (goal.Via x, refl)
   goal_some (x ∷ y ∷ zs) some = (goal.Group (x ∷ y ∷ zs), refl)
@@ -270,9 +270,9 @@ module _ (plan : Ports) (applied : TypedRows) (fit : (q : Key) (x : Row) → app
   hops_goal hops some h =
       let x = hops_there hops h in
       let g = goal_some x.0 (x.2 some) in
-      (g.0, ap goal_by x.1 ∙ g.1)
+      (g.0, ap goal_to x.1 ∙ g.1)
 
-  target_goal : (out : List RowHop) → AreSwitchedHops out → have_rows applied (route_names (target_of out)) ≡ true → (g : Goal) × (goal_of plan (target_of out) ≡ Some g)
+  target_goal : (out : List RowHop) → AreSwitchedHops out → have_rows applied (route_names (target_of_hops out)) ≡ true → (g : Goal) × (goal_of plan (target_of_hops out) ≡ Some g)
   target_goal [] are h = absurd (let some = are.some in omega (arith, some))
   target_goal (x ∷ []) are h = by (is_zero x.ip) h
     where

@@ -7,7 +7,7 @@ use Rattle.table_schema.specs.declared.key.Key.{Key}
 use Rattle.sai_types.specs.Alike.{IsIn}
 use Rattle.switch_model.specs.Desired.{IsThingOf}
 use Rattle.switch_model.specs.Good.{TypedRows}
-use Rattle.switch_model.specs.Room.{HasRoom}
+use Rattle.switch_model.specs.Room.{HasRoomForView}
 
 -- keys in key order, each once
 abbrev pub AreInKeyOrder : List Key → Type 0
@@ -20,4 +20,4 @@ AreSynced good applied keys = (k : Key) → (applied k ≡ good k) ⊎ IsIn k ke
 
 -- there is room for the things of the applied rows and of the good rows together
 abbrev pub HasRoomTogether : Ports → List ℕ → TypedRows → TypedRows → Type 0
-HasRoomTogether plan capacities applied good = HasRoom capacities (λ t. IsThingOf plan applied t ⊎ IsThingOf plan good t)
+HasRoomTogether plan capacities applied good = HasRoomForView capacities (λ t. IsThingOf plan applied t ⊎ IsThingOf plan good t)

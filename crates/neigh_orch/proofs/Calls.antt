@@ -24,7 +24,7 @@ use Rattle.ref_counts.specs.declared.next.Next.{Next}
 use Rattle.ref_counts.specs.Registry.{Names}
 use Rattle.orch_flight.specs.Calling.{HasVid, IsChangeFor, IsNextOf, IsOver, row_vid, things_held}
 use Rattle.orch_flight.specs.Operation.{Operation}
-use Rattle.neigh_orch.specs.Neighbours.{IsInterface, IsMadeNext, IsSetNext, IsTakenNext, due_set, hop_at, neigh_operation, same_mac}
+use Rattle.neigh_orch.specs.Neighbours.{IsInterface, IsMadeNext, IsSetNext, IsTakenNext, due_set, neighbor_hop, neigh_operation, same_mac}
 use Rattle.neigh_orch.specs.declared.left.Left.{Left}
 use Rattle.neigh_orch.specs.declared.left.Left.TheVariants as left
 use Rattle.neigh_orch.proofs.Starts.{things_on}
@@ -40,22 +40,22 @@ base_in _ = base.Vlan 0
 
 module _ (ip : Ip) (mac : Mac) (b : Base) where
   abbrev IsNeighbour : Option Base → Thing → Type 0
-  IsNeighbour o u = (u ≡ thing.Neighbor (hop_at b ip) mac) × (o ≡ Some b)
+  IsNeighbour o u = (u ≡ thing.Neighbor (neighbor_hop b ip) mac) × (o ≡ Some b)
 
   abbrev IsHop : Option Base → Thing → Type 0
-  IsHop o u = (u ≡ thing.NextHop (hop_at b ip)) × (o ≡ Some b)
+  IsHop o u = (u ≡ thing.NextHop (neighbor_hop b ip)) × (o ≡ Some b)
 
   -- which of a neighbour's things has this name
-  is-neighbour : (o : Option Base) (u : Thing) → IsIn u (things_on ip mac o) → name_of u ≡ thing_name.Neighbor (hop_at b ip) → IsNeighbour o u
+  is-neighbour : (o : Option Base) (u : Thing) → IsIn u (things_on ip mac o) → name_of u ≡ thing_name.Neighbor (neighbor_hop b ip) → IsNeighbour o u
   is-neighbour None u h named = elim h [ ]
-  is-neighbour (Some m) u (inl e) named = let same : m ≡ b = ap base_in (sym (ap name_of e) ∙ named) in (e ∙ ap (λ z. thing.Neighbor (hop_at z ip) mac) same, ap Some same)
-  is-neighbour (Some m) u (inr (inl e)) named = let not : thing_name.NextHop (hop_at m ip) ≡ thing_name.Neighbor (hop_at b ip) = sym (ap name_of e) ∙ named in absurd cc
+  is-neighbour (Some m) u (inl e) named = let same : m ≡ b = ap base_in (sym (ap name_of e) ∙ named) in (e ∙ ap (λ z. thing.Neighbor (neighbor_hop z ip) mac) same, ap Some same)
+  is-neighbour (Some m) u (inr (inl e)) named = let not : thing_name.NextHop (neighbor_hop m ip) ≡ thing_name.Neighbor (neighbor_hop b ip) = sym (ap name_of e) ∙ named in absurd cc
   is-neighbour (Some m) u (inr (inr h)) named = elim h [ ]
 
-  is-hop : (o : Option Base) (u : Thing) → IsIn u (things_on ip mac o) → name_of u ≡ thing_name.NextHop (hop_at b ip) → IsHop o u
+  is-hop : (o : Option Base) (u : Thing) → IsIn u (things_on ip mac o) → name_of u ≡ thing_name.NextHop (neighbor_hop b ip) → IsHop o u
   is-hop None u h named = elim h [ ]
-  is-hop (Some m) u (inl e) named = let not : thing_name.Neighbor (hop_at m ip) ≡ thing_name.NextHop (hop_at b ip) = sym (ap name_of e) ∙ named in absurd cc
-  is-hop (Some m) u (inr (inl e)) named = let same : m ≡ b = ap base_in (sym (ap name_of e) ∙ named) in (e ∙ ap (λ z. thing.NextHop (hop_at z ip)) same, ap Some same)
+  is-hop (Some m) u (inl e) named = let not : thing_name.Neighbor (neighbor_hop m ip) ≡ thing_name.NextHop (neighbor_hop b ip) = sym (ap name_of e) ∙ named in absurd cc
+  is-hop (Some m) u (inr (inl e)) named = let same : m ≡ b = ap base_in (sym (ap name_of e) ∙ named) in (e ∙ ap (λ z. thing.NextHop (neighbor_hop z ip)) same, ap Some same)
   is-hop (Some m) u (inr (inr h)) named = elim h [ ]
 
 module _ (plan : Ports) (names : Names) (worker : ℕ) (n : IfName) (ip : Ip) (b : Base) where
@@ -73,13 +73,13 @@ module _ (plan : Ports) (names : Names) (worker : ℕ) (n : IfName) (ip : Ip) (b
 
   made-as : (mac : Mac) (l : Left) (x : Next) → IsMadeNext names n ip mac l x → NextFor l None (Some mac) x
   made-as mac left.Both x h over =
-      let on = made-by mac (thing.Neighbor (hop_at b ip) mac) (base_of plan n ≡ Some b) (λ i. (is-neighbour ip mac b (base_of plan n) (thing.Neighbor (hop_at b ip) mac) i refl).1) left.Both (Make (thing.NextHop (hop_at b ip)) ∷ []) over.next in
+      let on = made-by mac (thing.Neighbor (neighbor_hop b ip) mac) (base_of plan n ≡ Some b) (λ i. (is-neighbour ip mac b (base_of plan n) (thing.Neighbor (neighbor_hop b ip) mac) i refl).1) left.Both (Make (thing.NextHop (neighbor_hop b ip)) ∷ []) over.next in
       subst (IsNextOf plan names (neigh_operation worker n ip b left.Both None (Some mac))) (sym h.2)
-      (Make (thing.Neighbor (hop_at b ip) mac), Make (thing.NextHop (hop_at b ip)) ∷ [], refl, record { body = body.Neighbor h.0 ip mac; of = record { first = h.0; second = h.0; first_at = rif-at over.plans on h.0 h.1; second_at = tt; body_is = refl }; is = refl })
+      (Make (thing.Neighbor (neighbor_hop b ip) mac), Make (thing.NextHop (neighbor_hop b ip)) ∷ [], refl, record { body = body.Neighbor h.0 ip mac; of = record { first = h.0; second = h.0; first_at = rif-at over.plans on h.0 h.1; second_at = tt; body_is = refl }; is = refl })
   made-as mac left.One x h over =
-      let on = made-by mac (thing.NextHop (hop_at b ip)) (base_of plan n ≡ Some b) (λ i. (is-hop ip mac b (base_of plan n) (thing.NextHop (hop_at b ip)) i refl).1) left.One [] over.next in
+      let on = made-by mac (thing.NextHop (neighbor_hop b ip)) (base_of plan n ≡ Some b) (λ i. (is-hop ip mac b (base_of plan n) (thing.NextHop (neighbor_hop b ip)) i refl).1) left.One [] over.next in
       subst (IsNextOf plan names (neigh_operation worker n ip b left.One None (Some mac))) (sym h.2)
-      (Make (thing.NextHop (hop_at b ip)), [], refl, record { body = body.NextHop h.0 ip; of = record { first = h.0; second = h.0; first_at = rif-at over.plans on h.0 h.1; second_at = tt; body_is = refl }; is = refl })
+      (Make (thing.NextHop (neighbor_hop b ip)), [], refl, record { body = body.NextHop h.0 ip; of = record { first = h.0; second = h.0; first_at = rif-at over.plans on h.0 h.1; second_at = tt; body_is = refl }; is = refl })
   made-as mac left.Neither x h over = rw h refl
 
   -- of a row's things, and nothing that was shared
@@ -90,17 +90,17 @@ module _ (plan : Ports) (names : Names) (worker : ℕ) (n : IfName) (ip : Ip) (b
   set-as l now mac x h over = by (same_mac now mac) refl h
     where
       by : (same : Bool) → same_mac now mac ≡ same → IsSetNext names n ip mac same x → IsNextOf plan names (neigh_operation worker n ip b l (Some now) (Some mac)) x
-      by true is h = rw h (ap (due_set (hop_at b ip) mac) is)
+      by true is h = rw h (ap (due_set (neighbor_hop b ip) mac) is)
       by false is h =
-          let due = ap (due_set (hop_at b ip) mac) is in
+          let due = ap (due_set (neighbor_hop b ip) mac) is in
           let old = subst (IsChangeFor plan (neigh_operation worker n ip b l (Some now) (Some mac))) due over.next in
           let of = is-neighbour ip now b (base_of plan n) old.0 old.1 old.2 in
           subst (IsNextOf plan names (neigh_operation worker n ip b l (Some now) (Some mac))) (sym h.2) (
-            Set (thing.Neighbor (hop_at b ip) mac),
+            Set (thing.Neighbor (neighbor_hop b ip) mac),
             [],
             due,
             record {
-              old = thing.Neighbor (hop_at b ip) now;
+              old = thing.Neighbor (neighbor_hop b ip) now;
               there = subst (λ z. IsIn z (things_held plan (neigh_operation worker n ip b l (Some now) (Some mac)))) of.0 (subst (IsIn old.0) (sym (append-nil (things_on ip now (base_of plan n)))) old.1);
               same = refl;
               entry = entry.Neigh h.0 ip;
@@ -122,11 +122,11 @@ module _ (plan : Ports) (names : Names) (worker : ℕ) (n : IfName) (ip : Ip) (b
       let old = over.next in
       let of = is-hop ip now b (base_of plan n) old.0 (held now old.0 old.1) old.2 in
       subst (IsNextOf plan names (neigh_operation worker n ip b left.Both (Some now) None)) (sym h.2) (
-        Take (thing_name.NextHop (hop_at b ip)),
-        Take (thing_name.Neighbor (hop_at b ip)) ∷ [],
+        Take (thing_name.NextHop (neighbor_hop b ip)),
+        Take (thing_name.Neighbor (neighbor_hop b ip)) ∷ [],
         refl,
         record {
-          old = thing.NextHop (hop_at b ip);
+          old = thing.NextHop (neighbor_hop b ip);
           there = subst (λ z. IsIn z (things_held plan (neigh_operation worker n ip b left.Both (Some now) None))) of.0 old.1;
           same = refl;
           entry = entry.Oid h.0;
@@ -144,11 +144,11 @@ module _ (plan : Ports) (names : Names) (worker : ℕ) (n : IfName) (ip : Ip) (b
       let old = over.next in
       let of = is-neighbour ip now b (base_of plan n) old.0 (held now old.0 old.1) old.2 in
       subst (IsNextOf plan names (neigh_operation worker n ip b left.One (Some now) None)) (sym h.2) (
-        Take (thing_name.Neighbor (hop_at b ip)),
+        Take (thing_name.Neighbor (neighbor_hop b ip)),
         [],
         refl,
         record {
-          old = thing.Neighbor (hop_at b ip) now;
+          old = thing.Neighbor (neighbor_hop b ip) now;
           there = subst (λ z. IsIn z (things_held plan (neigh_operation worker n ip b left.One (Some now) None))) of.0 old.1;
           same = refl;
           entry = entry.Neigh h.0 ip;

@@ -11,7 +11,7 @@ use Rattle.ref_counts.specs.declared.name.Name.TheVariants as name
 use Rattle.ref_counts.specs.Registry.{Names}
 use Rattle.orch_flight.specs.Operation.{Operation}
 use Rattle.orch_flight.specs.Taking.{MayTake}
-use Rattle.neigh_orch.specs.Neighbours.{MayBuild, hop_at, neigh_operation}
+use Rattle.neigh_orch.specs.Neighbours.{MayBuild, neighbor_hop, neigh_operation}
 use Rattle.neigh_orch.specs.declared.left.Left.{Left}
 use Rattle.neigh_orch.specs.declared.left.Left.TheVariants as left
 
@@ -21,5 +21,5 @@ may-build names worker n ip b l mac made f is may = by l (subst (λ z. MayTake z
   where
     by : (l : Left) → MayTake (neigh_operation worker n ip b l None (Some mac)) made names → MayBuild names worker n ip l made
     by left.Both m = tt
-    by left.One m = let builds = m.builds (thing.NextHop (hop_at b ip)) [] (name.Row (key.Neigh n ip)) refl refl in (m.numbered (thing.NextHop (hop_at b ip)) [] refl, builds.0, builds.1)
+    by left.One m = let builds = m.builds (thing.NextHop (neighbor_hop b ip)) [] (name.Row (key.Neigh n ip)) refl refl in (m.numbered (thing.NextHop (neighbor_hop b ip)) [] refl, builds.0, builds.1)
     by left.Neither m = tt

@@ -42,8 +42,8 @@ IsNeighKey _ = ⊥
 abbrev pub same_mac : Mac → Mac → Bool
 same_mac = mac_eq.ghosts.eq
 
-abbrev pub hop_at : Base → Ip → Hop
-hop_at b ip = record { on = b; ip = ip }
+abbrev pub neighbor_hop : Base → Ip → Hop
+neighbor_hop b ip = record { on = b; ip = ip }
 
 -- the neighbour is made, and then its next hop
 abbrev pub due_made : Left → Hop → Mac → List Change
@@ -69,13 +69,13 @@ neigh_due l h (Some now) (Some mac) = due_set h mac (same_mac now mac)
 neigh_due l h (Some now) None = due_taken l h
 
 abbrev pub neigh_operation : ℕ → IfName → Ip → Base → Left → Option Mac → Option Mac → Operation
-neigh_operation worker n ip b l now new = record { worker = worker; key = key.Neigh n ip; now = option_map row.Neigh now; new = option_map row.Neigh new; due = neigh_due l (hop_at b ip) now new; leaves = None; retires = None }
+neigh_operation worker n ip b l now new = record { worker = worker; key = key.Neigh n ip; now = option_map row.Neigh now; new = option_map row.Neigh new; due = neigh_due l (neighbor_hop b ip) now new; leaves = None; retires = None }
 
 -- ---- how it starts
 
-abbrev pub mac_of : Option Row → Option Mac
-mac_of (Some (row.Neigh mac)) = Some mac
-mac_of _ = None
+abbrev pub row_mac : Option Row → Option Mac
+row_mac (Some (row.Neigh mac)) = Some mac
+row_mac _ = None
 
 -- the rows are a neighbour's on an interface of the plan, and one of them is there
 pub record HaveFit (plan : Ports) (n : IfName) (ip : Ip) (old new : Option Row) : Type 0 where
@@ -84,14 +84,14 @@ pub record HaveFit (plan : Ports) (n : IfName) (ip : Ip) (old new : Option Row) 
   pub some : old ≡ None → new ≡ None → ⊥
 
 -- an operation of which nothing is made
-abbrev pub IsFirst : Ports → ℕ → IfName → Ip → Option Row → Option Row → Operation → Type 0
-IsFirst plan worker n ip old new operation = (b : Base) × (base_of plan n ≡ Some b) × (operation ≡ neigh_operation worker n ip b left.Both (mac_of old) (mac_of new))
+abbrev pub IsNeighborStart : Ports → ℕ → IfName → Ip → Option Row → Option Row → Operation → Type 0
+IsNeighborStart plan worker n ip old new operation = (b : Base) × (base_of plan n ≡ Some b) × (operation ≡ neigh_operation worker n ip b left.Both (row_mac old) (row_mac new))
 
 -- it for an answer
-abbrev pub IsFlown : Ports → ℕ → IfName → Ip → Option Row → Option Row → Result (Unit {0}) Wait → Result Operation Wait → Type 0
-IsFlown plan worker n ip old new (Ok _) (Ok operation) = HaveFit plan n ip old new × IsFirst plan worker n ip old new operation
-IsFlown plan worker n ip old new (Err wait) (Err other) = other ≡ wait
-IsFlown plan worker n ip old new _ _ = ⊥
+abbrev pub IsNeighborFlown : Ports → ℕ → IfName → Ip → Option Row → Option Row → Result (Unit {0}) Wait → Result Operation Wait → Type 0
+IsNeighborFlown plan worker n ip old new (Ok _) (Ok operation) = HaveFit plan n ip old new × IsNeighborStart plan worker n ip old new operation
+IsNeighborFlown plan worker n ip old new (Err wait) (Err other) = other ≡ wait
+IsNeighborFlown plan worker n ip old new _ _ = ⊥
 
 -- ---- calls
 

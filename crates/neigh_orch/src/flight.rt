@@ -7,7 +7,7 @@ ghost use Rattle.orch_flight.specs.Calling.{IsNextOf, IsOver, KnowsIds};
 ghost use Rattle.orch_flight.specs.Sharing.{MayStart};
 ghost use Rattle.orch_flight.specs.Starting.{IsStartedBy};
 ghost use Rattle.orch_flight.specs.Taking.{IsTook, MayTake};
-ghost use Rattle.neigh_orch.specs.Neighbours.{HaveFit, IsFirst, IsFlown, IsMadeNext, IsNeighKey, IsSetNext, IsTakenNext, KnowsInterface, KnowsMade, KnowsTaken, MayBuild, fewer, mac_of, names_made, same_mac};
+ghost use Rattle.neigh_orch.specs.Neighbours.{HaveFit, IsNeighborStart, IsNeighborFlown, IsMadeNext, IsNeighKey, IsSetNext, IsTakenNext, KnowsInterface, KnowsMade, KnowsTaken, MayBuild, fewer, row_mac, names_made, same_mac};
 
 use crate::left::Left;
 use crate::starting::{add, change, remove};
@@ -115,7 +115,7 @@ impl NeighFlight {
         begun: Result<(), Wait>,
     ) -> Result<NeighFlight, Wait>
         requires { OnOk begun (HaveFit plan.now on ip.now (option_map (λ r. r.now) old) (option_map (λ r. r.now) new)) }
-        ensures { IsFlown plan.now worker on ip.now (option_map (λ r. r.now) old.entry) (option_map (λ r. r.now) new.entry) begun result }
+        ensures { IsNeighborFlown plan.now worker on ip.now (option_map (λ r. r.now) old.entry) (option_map (λ r. r.now) new.entry) begun result }
     {
         match begun {
             Ok(()) => Ok(NeighFlight::first(plan, worker, on, ip, old, new)),
@@ -133,7 +133,7 @@ impl NeighFlight {
         new: Option<&Row>,
     ) -> NeighFlight
         requires { HaveFit plan.now on ip.now (option_map (λ r. r.now) old) (option_map (λ r. r.now) new) }
-        ensures { IsFirst plan.now worker on ip.now (option_map (λ r. r.now) old.entry) (option_map (λ r. r.now) new.entry) result }
+        ensures { IsNeighborStart plan.now worker on ip.now (option_map (λ r. r.now) old.entry) (option_map (λ r. r.now) new.entry) result }
     {
         match base_of(plan, on) {
             Some(base) => NeighFlight {
@@ -192,7 +192,7 @@ impl NeighFlight {
 
 /// The Ethernet address of a neighbour's row, where there is one.
 fn mac_of(row: Option<&Row>) -> Option<Mac>
-    ensures { result ≡ mac_of (option_map (λ r. r.now) row.entry) }
+    ensures { result ≡ row_mac (option_map (λ r. r.now) row.entry) }
 {
     match row {
         Some(Row::Neigh(mac)) => Some(*mac),

@@ -20,7 +20,7 @@ use Rattle.ref_counts.specs.Registered.{first_of}
 use Rattle.ref_counts.specs.Registry.{Names, ids_of}
 use Rattle.orch_flight.specs.Calling.{members_ids, row_vid}
 use Rattle.orch_flight.specs.Grouping.{GroupOperation, IsGroupNextOf, IsGroupOver, KnowsGroupIds}
-use Rattle.nexthop_orch.specs.Groups.{group_operation, hops_in}
+use Rattle.nexthop_orch.specs.Groups.{group_operation, hops_named}
 use Rattle.nexthop_orch.proofs.Dues.{due-over, last-taken, member-made, member-taken}
 use Rattle.nexthop_orch.proofs.Members.{all-at, member-at, member-in, neighbour-at}
 
@@ -54,8 +54,8 @@ module _ (names : Names) (w : ℕ) (n : Name) (keys : List Key) (made : List Vid
   module _ (plan : Ports) where
     pub next-group : (f : GroupOperation) → f ≡ group_operation w n true keys made 0 → IsGroupNextOf plan names f (next.Call (call.Create body.Group))
     next-group f is = subst (λ z. IsGroupNextOf plan names z (next.Call (call.Create body.Group))) (sym is) (
-      Make (thing.Group (hops_in n)),
-      make_all (members_of (hops_in n) (hops_in n)) [],
+      Make (thing.Group (hops_named n)),
+      make_all (members_of (hops_named n) (hops_named n)) [],
       refl,
       record {
         body = body.Group;
@@ -69,7 +69,7 @@ module _ (names : Names) (w : ℕ) (n : Name) (keys : List Key) (made : List Vid
       where
         by : IsGroupOver plan (group_operation w n true keys made (suc i)) → IsGroupNextOf plan names (group_operation w n true keys made (suc i)) (next.Call (call.Create (body.GroupMember v u)))
         by over =
-            let hops = hops_in n in
+            let hops = hops_named n in
             let (keys_are, same) = over refl in
             let (hop, there, named) = neighbour-at plan hops i k (ap length (sym keys_are) ∙ same) (ap (λ l. slice_get l i) (sym keys_are) ∙ at) in (
               Make (thing.GroupMember hops hop),
@@ -83,22 +83,22 @@ module _ (names : Names) (w : ℕ) (n : Name) (keys : List Key) (made : List Vid
             )
 
     pub next-built : (i : ℕ) (f : GroupOperation) → f ≡ group_operation w n true keys made (suc i) → slice_get keys i ≡ None → IsGroupOver plan f → f.due ≡ []
-    next-built i f is none = subst (λ z. IsGroupOver plan z → z.due ≡ []) (sym is) (λ over. due-over (hops_in n) true (suc i) (subst (λ m. m < suc i) (over refl).1 (past-none keys i none)))
+    next-built i f is none = subst (λ z. IsGroupOver plan z → z.due ≡ []) (sym is) (λ over. due-over (hops_named n) true (suc i) (subst (λ m. m < suc i) (over refl).1 (past-none keys i none)))
 
     abbrev IsNextFor : Next → GroupOperation → Type 0
     IsNextFor x f = KnowsGroupIds names f → IsGroupNextOf plan names f x
 
-    found : (ids : List Vid) (at i : ℕ) (d : Vid) → n ≡ name.Group (hops_in n) → ids ≡ ids_of names n → at ≡ i → i < length (ids_of names (name.Group (hops_in n))) → slice_get (ids_of names (name.Group (hops_in n))) i ≡ Some (get_or ids at d)
+    found : (ids : List Vid) (at i : ℕ) (d : Vid) → n ≡ name.Group (hops_named n) → ids ≡ ids_of names n → at ≡ i → i < length (ids_of names (name.Group (hops_named n))) → slice_get (ids_of names (name.Group (hops_named n))) i ≡ Some (get_or ids at d)
     found ids at i d group are same within =
-        slice_get-get_or (ids_of names (name.Group (hops_in n))) i d within ∙ ap Some (ap (λ m. get_or (ids_of names m) i d) (sym group) ∙ ap (λ l. get_or l i d) (sym are) ∙ ap (λ m. get_or ids m d) (sym same))
+        slice_get-get_or (ids_of names (name.Group (hops_named n))) i d within ∙ ap Some (ap (λ m. get_or (ids_of names m) i d) (sym group) ∙ ap (λ l. get_or l i d) (sym are) ∙ ap (λ m. get_or ids m d) (sym same))
 
-    pub next-removal : (i : ℕ) (ids : List Vid) (d : Vid) (f : GroupOperation) → f ≡ group_operation w n false keys made i → n ≡ name.Group (hops_in n) → AreRisingHops (hops_in n) → i < length (hops_in n) → ids ≡ ids_of names n → IsNextFor (next.Call (call.Remove (entry.Oid (get_or ids (i + 1) d)))) f
+    pub next-removal : (i : ℕ) (ids : List Vid) (d : Vid) (f : GroupOperation) → f ≡ group_operation w n false keys made i → n ≡ name.Group (hops_named n) → AreRisingHops (hops_named n) → i < length (hops_named n) → ids ≡ ids_of names n → IsNextFor (next.Call (call.Remove (entry.Oid (get_or ids (i + 1) d)))) f
     next-removal i given d f is group rising within are = let v = get_or given (i + 1) d in subst (IsNextFor (next.Call (call.Remove (entry.Oid v)))) (sym is) by
       where
         by : IsNextFor (next.Call (call.Remove (entry.Oid (get_or given (i + 1) d)))) (group_operation w n false keys made i)
         by known =
             let v = get_or given (i + 1) d in
-            let hops = hops_in n in
+            let hops = hops_named n in
             let ids = ids_of names (name.Group hops) in
             let count = known.group refl in
             let (hop, there) = item-at hops i within in (
@@ -121,13 +121,13 @@ module _ (names : Names) (w : ℕ) (n : Name) (keys : List Key) (made : List Vid
               },
             )
 
-    pub next-last : (ids : List Vid) (d : Vid) (f : GroupOperation) → f ≡ group_operation w n false keys made (length (hops_in n)) → n ≡ name.Group (hops_in n) → ids ≡ ids_of names n → IsNextFor (next.Call (call.Remove (entry.Oid (get_or ids 0 d)))) f
+    pub next-last : (ids : List Vid) (d : Vid) (f : GroupOperation) → f ≡ group_operation w n false keys made (length (hops_named n)) → n ≡ name.Group (hops_named n) → ids ≡ ids_of names n → IsNextFor (next.Call (call.Remove (entry.Oid (get_or ids 0 d)))) f
     next-last given d f is group are = let v = get_or given 0 d in subst (IsNextFor (next.Call (call.Remove (entry.Oid v)))) (sym is) by
       where
-        by : IsNextFor (next.Call (call.Remove (entry.Oid (get_or given 0 d)))) (group_operation w n false keys made (length (hops_in n)))
+        by : IsNextFor (next.Call (call.Remove (entry.Oid (get_or given 0 d)))) (group_operation w n false keys made (length (hops_named n)))
         by known =
             let v = get_or given 0 d in
-            let hops = hops_in n in
+            let hops = hops_named n in
             let ids = ids_of names (name.Group hops) in
             let count = known.group refl in (
               Take (thing_name.Group hops),
@@ -149,5 +149,5 @@ module _ (names : Names) (w : ℕ) (n : Name) (keys : List Key) (made : List Vid
               },
             )
 
-    pub next-gone : (f : GroupOperation) (d : ℕ) → f ≡ group_operation w n false keys made d → length (hops_in n) < d → f.due ≡ []
-    next-gone f d is past = ap (λ z. z.due) is ∙ due-over (hops_in n) false d past
+    pub next-gone : (f : GroupOperation) (d : ℕ) → f ≡ group_operation w n false keys made d → length (hops_named n) < d → f.due ≡ []
+    next-gone f d is past = ap (λ z. z.due) is ∙ due-over (hops_named n) false d past

@@ -8,18 +8,18 @@ use Rattle.ref_counts.specs.declared.name.Name.TheVariants as name
 use Rattle.orch_flight.specs.Grouping.{GroupOperation, first_group_due}
 
 -- the hops of a group's name
-abbrev pub hops_in : Name → List Hop
-hops_in (name.Group hops) = hops
-hops_in _ = []
+abbrev pub hops_named : Name → List Hop
+hops_named (name.Group hops) = hops
+hops_named _ = []
 
 -- the operation of which so many calls have taken effect
 abbrev pub group_operation : ℕ → Name → Bool → List Key → List Vid → ℕ → GroupOperation
-group_operation worker n builds neighbours made done = record { worker = worker; hops = hops_in n; builds = builds; neighbours = neighbours; made = made; due = drop done (first_group_due (hops_in n) builds) }
+group_operation worker n builds neighbours made done = record { worker = worker; hops = hops_named n; builds = builds; neighbours = neighbours; made = made; due = drop done (first_group_due (hops_named n) builds) }
 
 -- it is the name of a group; where the group is built, each call made an identifier, and all identifiers have their places
 pub record IsGroupKept (n : Name) (builds : Bool) (made : List Vid) (capacity done : ℕ) : Type 0 where
-  pub group : n ≡ name.Group (hops_in n)
-  pub within : done ≤ suc (length (hops_in n))
+  pub group : n ≡ name.Group (hops_named n)
+  pub within : done ≤ suc (length (hops_named n))
   pub numbered : builds ≡ true → length made ≡ done
   pub fit : length made ≤ capacity
-  pub room : builds ≡ true → suc (length (hops_in n)) ≤ capacity
+  pub room : builds ≡ true → suc (length (hops_named n)) ≤ capacity

@@ -20,12 +20,12 @@ use Rattle.registry_laws.specs.Making.{IsNextCall, MayTakeFor, with_group_begun}
 use Rattle.core_laws.specs.Standing.{HasBegun}
 use Rattle.restart_laws.specs.Logged.{IsLoggedStep, LoggedService}
 use Rattle.asic_view.specs.View.{ViewObjects}
-use Rattle.syncd_core.specs.Synced.{CanCall, Calls, IsMade, SyncState}
+use Rattle.syncd_core.specs.Synced.{CanCall, Calls, IsMadeOnChip, SyncState}
 use Rattle.syncd_core.specs.Tied.{tie_of}
 use Rattle.flight_board.specs.Board.{BoardState, FlightState, IsPrepared, IsCallReady, IsTakenFor, flown_at}
 use Rattle.warm_state.specs.declared.warm.Warm.TheVariants as warm
 use Rattle.session_laws.specs.Core.{CoreState, IsFullFor, mark_at}
-use Rattle.session_laws.specs.Events.{MakesOne, made_by}
+use Rattle.session_laws.specs.Events.{MakesOne, vid_made_by}
 use Rattle.session_laws.specs.Standing.{IsSessionOf}
 use Rattle.session_laws.proofs.Answering.{answers_step, may_take}
 use Rattle.session_laws.proofs.Faulting.{Ended, Marked, faults_step, said_failed}
@@ -53,13 +53,13 @@ module _ (s : LoggedService) (w : ℕ) (c : CoreState) (chip : ChipState) (is : 
   abbrev d : Call Rid
   d = call_renamed (tie_of c.sync.view) call
 
-  is_made : (a : SyncAnswer) → Calls c.sync c.sync.temporary chip call a y chip' → (view : ViewObjects) × IsMade c.sync.view chip call a view chip'
+  is_made : (a : SyncAnswer) → Calls c.sync c.sync.temporary chip call a y chip' → (view : ViewObjects) × IsMadeOnChip c.sync.view chip call a view chip'
   is_made a calls = let z = subst (λ o. Calls c.sync o chip call a y chip') (is.working at).no_view calls in (z.0, z.2)
 
   keeps : (a : SyncAnswer) → Calls c.sync c.sync.temporary chip call a y chip' → KeepsChip chip chip'
   keeps a calls = let z = is_made a calls in keeps_answered chip chip' d z.1.answer z.1.answered
 
-  effect : (a : SyncAnswer) → (a ≡ sync.Failed → ⊥) → Calls c.sync c.sync.temporary chip call a y chip' → (b : BoardState) → IsTakenFor c.board w (made_by a) b → AnswersCall s w c chip (record c { sync = y; board = b }) chip'
+  effect : (a : SyncAnswer) → (a ≡ sync.Failed → ⊥) → Calls c.sync c.sync.temporary chip call a y chip' → (b : BoardState) → IsTakenFor c.board w (vid_made_by a) b → AnswersCall s w c chip (record c { sync = y; board = b }) chip'
   effect a went calls b taken =
       let z = answers_step c chip s is at w x there begun call told a went y chip' calls b taken in
       record {
@@ -69,7 +69,7 @@ module _ (s : LoggedService) (w : ℕ) (c : CoreState) (chip : ChipState) (is : 
         worker = z.3;
         moves = z.4;
         beside = record { tables = refl; waiting = refl; log = refl; listed = refl; limit = refl; warm = refl };
-        others = kept_flights w x (made_by a) c.board b there taken;
+        others = kept_flights w x (vid_made_by a) c.board b there taken;
         room = room;
         keeps = keeps a calls;
       }
@@ -98,7 +98,7 @@ module _ (s : LoggedService) (w : ℕ) (c : CoreState) (chip : ChipState) (is : 
         };
       }
 
-  as_did : (ends : Bool) (a : SyncAnswer) → (a ≡ sync.Failed → ⊥) → Calls c.sync c.sync.temporary chip call a y chip' → (r : Step) (c' : CoreState) → r ≡ step.Did → (b : BoardState) → IsTakenFor c.board w (made_by a) b → c' ≡ record c { sync = y; board = b } → Answered ends s w c chip (Ok r) c' chip'
+  as_did : (ends : Bool) (a : SyncAnswer) → (a ≡ sync.Failed → ⊥) → Calls c.sync c.sync.temporary chip call a y chip' → (r : Step) (c' : CoreState) → r ≡ step.Did → (b : BoardState) → IsTakenFor c.board w (vid_made_by a) b → c' ≡ record c { sync = y; board = b } → Answered ends s w c chip (Ok r) c' chip'
   as_did ends a went calls r c' did b taken same =
       subst (λ q. Answered ends s w c chip (Ok q) c' chip') (sym did)
       (subst (λ d. AnswersCall s w c chip d chip') (sym same) (effect a went calls b taken))
@@ -111,8 +111,8 @@ module _ (s : LoggedService) (w : ℕ) (c : CoreState) (chip : ChipState) (is : 
   heeded ends sync.Done r c' calls h = as_did ends sync.Done (λ e. cc) calls r c' h.0 h.1 h.2 h.3
 
   -- a core without its log, and what syncd made of the call
-  pub may_heed : (d : CoreState) → d ≡ beside → (a : SyncAnswer) → Calls c.sync c.sync.temporary chip call a y chip' → (a ≡ sync.Failed → ⊥) → (z : Flown) × (flown_at d.board w ≡ Some z) × MayTakeFor z.operation z.group (made_by a) d.board.names
-  may_heed d is_without a calls went = subst (λ (k : CoreState). (z : Flown) × (flown_at k.board w ≡ Some z) × MayTakeFor z.operation z.group (made_by a) k.board.names) (sym is_without) (x, there, may_take c chip s is at w x there begun call told a went y chip' calls)
+  pub may_heed : (d : CoreState) → d ≡ beside → (a : SyncAnswer) → Calls c.sync c.sync.temporary chip call a y chip' → (a ≡ sync.Failed → ⊥) → (z : Flown) × (flown_at d.board w ≡ Some z) × MayTakeFor z.operation z.group (vid_made_by a) d.board.names
+  may_heed d is_without a calls went = subst (λ (k : CoreState). (z : Flown) × (flown_at k.board w ≡ Some z) × MayTakeFor z.operation z.group (vid_made_by a) k.board.names) (sym is_without) (x, there, may_take c chip s is at w x there begun call told a went y chip' calls)
 
   fault_is : (h : History) → h ≡ c.log → (n before after : ℕ) → n ≡ length chip'.effects → before ≡ chip.faults → after ≡ chip'.faults → (f : Mark) → f ≡ record { taken = length h.taken; effects = n; event = event.Faulted before after } → f ≡ fault
   fault_is h same n before after many first last f is_mark =

@@ -20,16 +20,16 @@ use Rattle.registry_laws.specs.Making.{IsNextCall, MayTakeFor, with_group_begun}
 use Rattle.core_laws.specs.Standing.{HasBegun}
 use Rattle.sync_tables.specs.Tables.{TablesState}
 use Rattle.syncd_core.specs.Synced.{CanCall, Calls, SyncState}
-use Rattle.ref_counts.specs.Room.{number_of}
+use Rattle.ref_counts.specs.Room.{number_of_kind}
 use Rattle.flight_board.specs.Applied.{row_at}
 use Rattle.flight_board.specs.Board.{BoardState, IsBegunFor, IsCallReady, IsPrepared, IsSameBoard, IsTakenFor, IsUnflown, flown_at}
 use Rattle.session_laws.specs.Core.{CoreState, good_in}
-use Rattle.session_laws.specs.Events.{made_by}
+use Rattle.session_laws.specs.Events.{vid_made_by}
 use Rattle.settling_laws.proofs.Walking.{walk_goes, walk_stays}
 use Rattle.restart_laws.specs.Restored.{keys_waiting}
 use Rattle.restart_session_laws.specs.Built.{AreReasons, IsBeside, IsBringing, IsBuilt}
 use Rattle.restart_session_laws.proofs.Building.{begun-prepared, bringing-called, bringing-ends, bringing-first, bringing-prepared, built-wait, can-bring, may-take-called, ready-prepared, same-chip}
-use Rattle.orch_core.specs.Outcomes.{AreCounted}
+use Rattle.orch_core.specs.Outcomes.{AreKindsCounted}
 use Rattle.orch_core.specs.Restarting.{CallsView, GoesOver, calls_left}
 use Rattle.orch_core.proofs.OnView.{fewer_called, fewer_prepared, longer}
 use Rattle.orch_core.proofs.Turns.{leads_with_key}
@@ -70,20 +70,20 @@ module _ (first c : CoreState) (rest : List Key) (x : IsBringing first c rest) (
     can_now chip = can-bring first d rest bringing_now f_now there_d begun_d call (told f_now there_d) chip
 
     module _ (chip : ChipState) (a : SyncAnswer) (y : SyncState) (chip' : ChipState) (calls : Calls d.sync d.sync.temporary chip call a y chip') (e : CoreState) (is_called : e ≡ record d { sync = y }) where
-      pub may_now : (g : Flown) × (flown_at e.board 0 ≡ Some g) × MayTakeFor g.operation g.group (made_by a) e.board.names
-      may_now = subst (λ (z : CoreState). (g : Flown) × (flown_at z.board 0 ≡ Some g) × MayTakeFor g.operation g.group (made_by a) z.board.names) (sym is_called)
+      pub may_now : (g : Flown) × (flown_at e.board 0 ≡ Some g) × MayTakeFor g.operation g.group (vid_made_by a) e.board.names
+      may_now = subst (λ (z : CoreState). (g : Flown) × (flown_at z.board 0 ≡ Some g) × MayTakeFor g.operation g.group (vid_made_by a) z.board.names) (sym is_called)
           (f_now, there_d, may-take-called first d rest bringing_now f_now there_d begun_d call (told f_now there_d) chip a y chip' calls)
 
-      called : (b' : BoardState) → IsTakenFor d.board 0 (made_by a) b' → CallsView first rest c chip (Ok tt) (record d { board = b'; sync = y }) chip'
+      called : (b' : BoardState) → IsTakenFor d.board 0 (vid_made_by a) b' → CallsView first rest c chip (Ok tt) (record d { board = b'; sync = y }) chip'
       called b' taken =
           let same : calls_left d.board ≡ calls_left c.board = ap (λ (z : CoreState). calls_left z.board) is_with ∙ fewer_prepared first c rest x b prepared f there in
           let fewer = fewer_called first d rest bringing_now f_now there_d begun_d call (told f_now there_d) a chip y chip' calls b' taken in
           (bringing-called first d rest bringing_now f_now there_d begun_d call (told f_now there_d) chip a y chip' calls b' taken, same-chip first d rest bringing_now f_now there_d begun_d call (told f_now there_d) chip a y chip' calls, omega (arith, same, fewer))
 
-      pub called_now : (b' : BoardState) → IsTakenFor e.board 0 (made_by a) b' → (h : CoreState) → h ≡ record e { board = b' } → CallsView first rest c chip (Ok tt) h chip'
+      pub called_now : (b' : BoardState) → IsTakenFor e.board 0 (vid_made_by a) b' → (h : CoreState) → h ≡ record e { board = b' } → CallsView first rest c chip (Ok tt) h chip'
       called_now b' taken h is_taken =
           subst (λ z. CallsView first rest c chip (Ok tt) z chip') (sym (is_taken ∙ ap (λ (z : CoreState). record z { board = b' }) is_called))
-          (called b' (subst (λ (z : CoreState). IsTakenFor z.board 0 (made_by a) b') is_called taken))
+          (called b' (subst (λ (z : CoreState). IsTakenFor z.board 0 (vid_made_by a) b') is_called taken))
 
 -- where nothing is under way, the operation has ended
 none_of : (o : Option Flown) → (IsSome o → ⊥) → o ≡ None
@@ -95,7 +95,7 @@ ends_over first c rest x b off h = bringing-ends first c rest x (none_of (flown_
 
 -- ---- a key
 
-module _ (first c : CoreState) (k : Key) (rest : List Key) (x : IsBuilt first c (k ∷ rest)) (order : AreOpsInOrder c.tables.ops) (differs : IsUnflown c.board k → row_at c.board.applied k ≡ good_in c k → ⊥) (numbers : List ℕ) (are : AreCounted c.sync (number_of numbers)) where
+module _ (first c : CoreState) (k : Key) (rest : List Key) (x : IsBuilt first c (k ∷ rest)) (order : AreOpsInOrder c.tables.ops) (differs : IsUnflown c.board k → row_at c.board.applied k ≡ good_in c k → ⊥) (numbers : List ℕ) (are : AreKindsCounted c.sync (number_of_kind numbers)) where
   -- its operation has begun
   pub key_begun : {new : Option Row} (b : BoardState) → IsBegunFor c.board numbers 0 k new (Ok tt) b → new ≡ good_in c k → (d : CoreState) → d ≡ record c { board = b } → (e : CoreState) → e ≡ record d { tables = record d.tables { ops = without_op d.tables.ops k } } → IsBringing first e rest
   key_begun b begun good d is_with e is_left =

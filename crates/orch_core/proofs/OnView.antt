@@ -28,7 +28,7 @@ use Rattle.syncd_core.specs.Synced.{Calls, Changes, CanCall, SyncState}
 use Rattle.syncd_core.specs.Tied.{tie_of}
 use Rattle.flight_board.specs.Board.{BoardState, IsPrepared, IsTakenFor, flown_at}
 use Rattle.session_laws.specs.Core.{CoreState}
-use Rattle.session_laws.specs.Events.{made_by}
+use Rattle.session_laws.specs.Events.{vid_made_by}
 use Rattle.session_laws.specs.Standing.{IsSessionOf}
 use Rattle.session_laws.proofs.Answering.{answer_step}
 use Rattle.session_laws.proofs.Preparing.{can, prepared_stands}
@@ -106,7 +106,7 @@ module _ (first c : CoreState) (rest : List Key) (x : IsBringing first c rest) w
 
   -- fewer are left when one was made
   module _ (f : Flown) (there : flown_at c.board 0 ≡ Some f) (begun : HasBegun c.board.plan c.board.names f) (call : Call Vid) (told : IsNextCall c.board.plan c.board.names f.operation f.group call) (a : SyncAnswer) where
-    fewer_next : (later : ViewObjects) → Changes (untied_view x.over.view) call a later → (b : BoardState) → IsTakenFor c.board 0 (made_by a) b → calls_left b < calls_left c.board
+    fewer_next : (later : ViewObjects) → Changes (untied_view x.over.view) call a later → (b : BoardState) → IsTakenFor c.board 0 (vid_made_by a) b → calls_left b < calls_left c.board
     fewer_next later changes b taken =
         let both : CanCall seen.sync None x.own_chip call = can seen x.own_chip x.own x.over.session refl 0 f there begun call told in
         let made : IsMadeOver x.over.view x.own_chip call a later = made-over x.over.view x.own_chip call a later both.1 changes in
@@ -117,5 +117,5 @@ module _ (first c : CoreState) (rest : List Key) (x : IsBringing first c rest) w
         let after = calls_same (record c { board = b }) (chip_then x.own_chip (call_renamed (tie_of x.over.view) call)) y.0.later made.view' y.0.stands in
         omega (arith, at, before, after)
 
-    pub fewer_called : (chip : ChipState) (y : SyncState) (chip' : ChipState) → Calls c.sync c.sync.temporary chip call a y chip' → (b : BoardState) → IsTakenFor c.board 0 (made_by a) b → calls_left b < calls_left c.board
+    pub fewer_called : (chip : ChipState) (y : SyncState) (chip' : ChipState) → Calls c.sync c.sync.temporary chip call a y chip' → (b : BoardState) → IsTakenFor c.board 0 (vid_made_by a) b → calls_left b < calls_left c.board
     fewer_called chip y chip' calls b taken = let z = subst (λ o. Calls c.sync o chip call a y chip') x.over.temporary calls in fewer_next z.0 z.2 b taken

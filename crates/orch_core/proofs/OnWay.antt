@@ -25,7 +25,7 @@ use Rattle.restart_session_laws.specs.Standing.{IsServiceOf}
 use Rattle.restart_session_laws.proofs.Listing.{list-fails, list-next}
 use Rattle.restart_session_laws.proofs.Made.{ended-next, failed-next, more-next}
 use Rattle.orch_core.specs.Outcomes.{KeepsChip, with_fault}
-use Rattle.orch_core.specs.Restarting.{AppliesOne, AppliesOut, EndsApply, FaultsOnWay, HeedsApply, HeedsList, ListsChip, ListsOut, places_left}
+use Rattle.orch_core.specs.Restarting.{AppliesOne, AppliesOut, AppliesLast, FaultsOnWay, HeedsApply, HeedsList, ListsOnWay, ListsOut, places_left}
 use Rattle.orch_core.specs.declared.answer.Step.{Step}
 use Rattle.orch_core.proofs.Chips.{keeps_answered, keeps_same, one_more_effect}
 
@@ -85,7 +85,7 @@ module _ (s : LoggedService) (c : CoreState) (chip : ChipState) (is : IsServiceO
   -- ---- a list
 
   module _ (at : c.warm ≡ warm.Initialized) (room : IsFullFor c (length chip.effects) 1 → ⊥) where
-    listed_core : TakesList c.sync chip listed.Done y chip' → ListsChip s c chip (record c { sync = y; warm = warm.Restored }) chip'
+    listed_core : TakesList c.sync chip listed.Done y chip' → ListsOnWay s c chip (record c { sync = y; warm = warm.Restored }) chip'
     listed_core x = record { makes = list-next c chip s is at y chip' x; is = ap (λ z. record c { sync = z; warm = warm.Restored }) x.0; chip_is = x.1; room = room }
 
     unlisted : (ends : Bool) → TakesList c.sync chip listed.Failed y chip' → MakesNext c s (record c { sync = y; log = with_fault ends c.log fault; warm = warm.Suspect }) chip'
@@ -109,7 +109,7 @@ module _ (s : LoggedService) (c : CoreState) (chip : ChipState) (is : IsServiceO
         }
 
     list_heeded : (ends : Bool) (l : Listed) (r : Step) (c' : CoreState) → TakesList c.sync chip l y chip' → HeedsList l c.log fault ends beside r c' → ListsOut ends s c chip (Ok r) c' chip'
-    list_heeded ends listed.Done r c' x h = subst (λ q. ListsOut ends s c chip (Ok q) c' chip') (sym h.0) (subst (λ z. ListsChip s c chip z chip') (sym h.1) (listed_core x))
+    list_heeded ends listed.Done r c' x h = subst (λ q. ListsOut ends s c chip (Ok q) c' chip') (sym h.0) (subst (λ z. ListsOnWay s c chip z chip') (sym h.1) (listed_core x))
     list_heeded ends listed.Failed r c' x h = subst (λ q. ListsOut ends s c chip (Ok q) c' chip') (sym h.0) (subst (λ z. FaultsOnWay 1 ends s c chip z chip') (sym h.1) (unlisted_core ends x))
 
   -- ---- a call of the plan
@@ -129,7 +129,7 @@ module _ (s : LoggedService) (c : CoreState) (chip : ChipState) (is : IsServiceO
           keeps = applies_keep c.sync y chip chip' c.sync.left apply_step.More x;
         }
 
-    applied_last : Applies c.sync.left c.sync chip apply_step.Ended y chip' → EndsApply s c chip (record c { sync = y; log = with_mark c.log end; warm = warm.Reconciled }) chip'
+    applied_last : Applies c.sync.left c.sync chip apply_step.Ended y chip' → AppliesLast s c chip (record c { sync = y; log = with_mark c.log end; warm = warm.Reconciled }) chip'
     applied_last x = record { makes = ended-next c chip s is at y chip' x; warm = refl; log = refl; tables = refl; board = refl; room = room; keeps = applies_keep c.sync y chip chip' c.sync.left apply_step.Ended x }
 
     unapplied : (ends : Bool) → Applies c.sync.left c.sync chip apply_step.Failed y chip' → MakesNext c s (record c { sync = y; log = with_fault ends c.log fault; warm = warm.Suspect }) chip'
@@ -155,7 +155,7 @@ module _ (s : LoggedService) (c : CoreState) (chip : ChipState) (is : IsServiceO
 
     apply_heeded : (ends : Bool) (a : ApplyStep) (r : Step) (c' : CoreState) → Applies c.sync.left c.sync chip a y chip' → HeedsApply a c.log fault end ends beside r c' → AppliesOut ends s c chip (Ok r) c' chip'
     apply_heeded ends apply_step.More r c' x h = subst (λ q. AppliesOut ends s c chip (Ok q) c' chip') (sym h.0) (inl (subst (λ z. AppliesOne s c chip z chip') (sym h.1) (applied_one x)))
-    apply_heeded ends apply_step.Ended r c' x h = subst (λ q. AppliesOut ends s c chip (Ok q) c' chip') (sym h.0) (inr (subst (λ z. EndsApply s c chip z chip') (sym h.1) (applied_last x)))
+    apply_heeded ends apply_step.Ended r c' x h = subst (λ q. AppliesOut ends s c chip (Ok q) c' chip') (sym h.0) (inr (subst (λ z. AppliesLast s c chip z chip') (sym h.1) (applied_last x)))
     apply_heeded ends apply_step.Failed r c' x h = subst (λ q. AppliesOut ends s c chip (Ok q) c' chip') (sym h.0) (subst (λ z. FaultsOnWay 2 ends s c chip z chip') (sym h.1) (unapplied_core ends x))
 
   -- ---- in the code's words: without its log, which is the same still, and with marks of this moment

@@ -9,7 +9,7 @@ use Rattle.consumer_table.specs.Ops.{AreOpsInOrder, without_op}
 use Rattle.retry_list.specs.Reasons.{without_reason}
 use Rattle.switch_model.specs.declared.wait.Wait.{Wait}
 use Rattle.switch_machine.specs.Events.{IsBegin, IsDrop}
-use Rattle.ref_counts.specs.Room.{number_of}
+use Rattle.ref_counts.specs.Room.{number_of_kind}
 use Rattle.restart_laws.specs.Logged.{LoggedService}
 use Rattle.sync_tables.specs.Tables.{IsToSync}
 use Rattle.flight_board.specs.Applied.{row_at}
@@ -21,13 +21,13 @@ use Rattle.session_laws.specs.Standing.{IsSessionOf}
 use Rattle.session_laws.proofs.Beginnings.{begins, drops, same_board, waits_on}
 use Rattle.session_laws.proofs.Beside.{makes_with}
 use Rattle.session_laws.proofs.Counting.{counts}
-use Rattle.orch_core.specs.Outcomes.{AreCounted, Begins, BeginsTo, Begun, DropsTo, IsSameCore, KeepsFlights, Tries, left_by}
+use Rattle.orch_core.specs.Outcomes.{AreKindsCounted, BeginsOrDrops, BeginsTo, Begun, DropsTo, IsSameCore, KeepsFlights, Tries, key_left}
 use Rattle.orch_core.specs.declared.answer.Tried.{Tried}
 use Rattle.orch_core.specs.declared.answer.Tried.TheVariants as tried
 
 module _ (s : LoggedService) (k : Key) (c : CoreState) (chip : ChipState) (is : IsSessionOf c chip s) (at : c.warm ≡ warm.Reconciled) (order : AreOpsInOrder c.tables.ops) (i : IsToSync c.tables k) where
   -- it has its good row
-  pub dropped : IsUnflown c.board k → row_at c.board.applied k ≡ good_in c k → (c' : CoreState) → c' ≡ left_by c k → DropsTo s k c c' chip
+  pub dropped : IsUnflown c.board k → row_at c.board.applied k ≡ good_in c k → (c' : CoreState) → c' ≡ key_left c k → DropsTo s k c c' chip
   dropped un same c' left =
       let z = drops c chip s is at k i order un same in
       let y = makes_with c (record c { tables = record c.tables { ops = without_op c.tables.ops k } }) chip s (without_reason c.waiting k) z.0 in
@@ -38,7 +38,7 @@ module _ (s : LoggedService) (k : Key) (c : CoreState) (chip : ChipState) (is : 
     others_kept : (used : List ℕ) (b : BoardState) → IsBegunFor c.board used w k (good_in c k) (Ok tt) b → KeepsFlights w c.board b
     others_kept used b h v apart = ap (option_map (λ (f : FlightState). f.flown)) (h.5.others.flights v apart)
 
-    begun : (used : List ℕ) → AreCounted c.sync (number_of used) → (b : BoardState) → IsBegunFor c.board used w k (good_in c k) (Ok tt) b → BeginsTo s w k c (record (left_by c k) { board = b }) chip
+    begun : (used : List ℕ) → AreKindsCounted c.sync (number_of_kind used) → (b : BoardState) → IsBegunFor c.board used w k (good_in c k) (Ok tt) b → BeginsTo s w k c (record (key_left c k) { board = b }) chip
     begun used are b h =
         let z = begins c chip s is at k i w less none differs used (counts c chip s used is at are) order tt b h in
         let y = makes_with c (record c { board = b; tables = record c.tables { ops = without_op c.tables.ops k } }) chip s (without_reason c.waiting k) z.0 in
@@ -56,11 +56,11 @@ module _ (s : LoggedService) (k : Key) (c : CoreState) (chip : ChipState) (is : 
 -- ---- by the answer
 
 module _ (s : LoggedService) (w : ℕ) (k : Key) (c : CoreState) (chip : ChipState) (d : CoreState) where
-  pub begun_err : (r : Result Bool OutOfMemory) → IsErr r → IsSameCore c d × IsSessionOf d chip s → Begins s w k c chip r d
+  pub begun_err : (r : Result Bool OutOfMemory) → IsErr r → IsSameCore c d × IsSessionOf d chip s → BeginsOrDrops s w k c chip r d
   begun_err (Err e) h x = x
   begun_err (Ok b) h x = absurd (false≢true h)
 
-  pub begun_by : (t : Tried) → ((r : Wait) → t ≡ tried.Waits r → ⊥) → Tries s w k c chip (Ok t) d → Begins s w k c chip (Ok true) d
+  pub begun_by : (t : Tried) → ((r : Wait) → t ≡ tried.Waits r → ⊥) → Tries s w k c chip (Ok t) d → BeginsOrDrops s w k c chip (Ok true) d
   begun_by tried.Dropped not x = inl x
   begun_by tried.Begun not x = inr x
   begun_by (tried.Waits r) not x = absurd (not r refl)

@@ -22,7 +22,7 @@ use Rattle.settling_laws.specs.Turning.{IsAtRest, IsTurned, IsTurning}
 use Rattle.settling_laws.proofs.Leading.{leads_one}
 use Rattle.settling_laws.proofs.Turning.{turn_begins, turn_drops, turn_runs, turn_waits}
 use Rattle.settling_laws.proofs.Walking.{first_next, walk_goes, walk_stays}
-use Rattle.orch_core.specs.Outcomes.{KeepsChip, BeginsTo, DropsTo, IsSameCore, left_by}
+use Rattle.orch_core.specs.Outcomes.{KeepsChip, BeginsTo, DropsTo, IsSameCore, key_left}
 use Rattle.orch_core.specs.Settled.{Begun, Brings, BringsKey, Dropped, MakesTurn, MakesTurns, RunsOut, RunsWhole, StopsShort, Waits, StopsFaulted, StopsFull}
 use Rattle.orch_core.specs.declared.answer.Ran.{Ran}
 use Rattle.orch_core.specs.declared.answer.Ran.TheVariants as ran
@@ -34,7 +34,7 @@ use Rattle.orch_core.proofs.Walks.{some_same, warm_same}
 -- ---- at rest
 
 -- a core with the same board, tables but for keys to sync, and warm state
-pub rest_left : (c : CoreState) (k : Key) → IsAtRest c → IsAtRest (left_by c k)
+pub rest_left : (c : CoreState) (k : Key) → IsAtRest c → IsAtRest (key_left c k)
 rest_left c k rest = record { free = rest.free; popped = rest.popped; warm = rest.warm }
 
 pub rest_same : (c d : CoreState) → IsSameCore c d → IsAtRest c → IsAtRest d
@@ -88,7 +88,7 @@ module _ (keys left more : List Key) (k : Key) (c d : CoreState) (chip : ChipSta
   abbrev IsNext : CoreState → ChipState → Type 0
   IsNext e chip' = (l : List Key) × (keys_behind (Some k) (keys_of e.tables.ops) ≡ more) × IsTurning keys c s l more e chip'
 
-  goes : (keys_of (left_by d k).tables.ops ≡ left ++ more) × (keys_behind (Some k) (keys_of (left_by d k).tables.ops) ≡ more)
+  goes : (keys_of (key_left d k).tables.ops ≡ left ++ more) × (keys_behind (Some k) (keys_of (key_left d k).tables.ops) ≡ more)
   goes = walk_goes d.tables.ops left more k order x.ops
 
   dropped : (e : CoreState) (chip' : ChipState) → chip' ≡ chip → DropsTo x.later k d e chip → IsNext e chip'
@@ -107,7 +107,7 @@ module _ (keys left more : List Key) (k : Key) (c d : CoreState) (chip : ChipSta
         popped = ap (λ t. t.waiting) r.beside.tables ∙ ap (λ (z : CoreState). z.tables.waiting) y.is ∙ x.at_rest.popped;
         warm = r.beside.warm ∙ ap (λ (z : CoreState). z.warm) y.is ∙ x.at_rest.warm;
       } in
-      let ops : e.tables ≡ (left_by d k).tables = r.beside.tables ∙ ap (λ (z : CoreState). z.tables) y.is in (
+      let ops : e.tables ≡ (key_left d k).tables = r.beside.tables ∙ ap (λ (z : CoreState). z.tables) y.is in (
         left,
         ap (λ t. keys_behind (Some k) (keys_of t.ops)) ops ∙ goes.1,
         turn_runs keys left more k c d chip s x mid e chip' y.makes y.begin y.key y.moves r.runs rest (ap (λ t. keys_of t.ops) ops ∙ goes.0),

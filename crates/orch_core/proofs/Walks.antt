@@ -26,7 +26,7 @@ use Rattle.session_laws.proofs.Joining.{one_step}
 use Rattle.session_laws.proofs.Marking.{popped}
 use Rattle.session_laws.proofs.Popping.{pop_told}
 use Rattle.session_laws.proofs.Seeing.{free_worker_rests, is_idle, same_keys}
-use Rattle.orch_core.specs.Outcomes.{Answered, Begins, BeginsTo, DropsTo, IsInSession, IsSameCore, StepsTo}
+use Rattle.orch_core.specs.Outcomes.{Answered, BeginsOrDrops, BeginsTo, DropsTo, IsInSession, IsSameCore, StepsTo}
 use Rattle.orch_core.specs.declared.answer.Step.{Step}
 use Rattle.orch_core.specs.declared.answer.Step.TheVariants as step
 use Rattle.orch_core.proofs.Chips.{keeps_itself}
@@ -142,7 +142,7 @@ walk_err c c' d after e walked same w s chip is = (refl, some_same c d s chip (s
 -- ---- by the answer
 
 module _ (c c' : CoreState) (after : Option Key) (walked : IsWalkedTo c after c') (k : Key) (next : IsNextKey after (keys_of c'.tables.ops) k) (w : ℕ) (at : c.warm ≡ warm.Reconciled) (none : flown_at c.board w ≡ None) (empty : c.tables.waiting ≡ []) (s : LoggedService) (chip : ChipState) (is : IsSessionOf c chip s) (d : CoreState) where
-  pub walk_done : Begins s w k c' chip (Ok true) d → StepsTo s w c chip (Ok step.Did) d chip
+  pub walk_done : BeginsOrDrops s w k c' chip (Ok true) d → StepsTo s w c chip (Ok step.Did) d chip
   walk_done (inl x) = walk_drops c c' after walked k next w at none empty s chip is d x
   walk_done (inr x) = walk_begins c c' after walked k next w at none empty s chip is d x
 

@@ -20,12 +20,12 @@ use Rattle.switch_machine.specs.Next.{IsIdle, IsNextEvent}
 use Rattle.switch_machine.specs.Reasons.{IsReason}
 use Rattle.restart_laws.specs.Logged.{LoggedService}
 use Rattle.asic_view.specs.View.{used_of}
-use Rattle.ref_counts.specs.Room.{number_of}
+use Rattle.ref_counts.specs.Room.{number_of_kind}
 use Rattle.syncd_core.specs.Synced.{SyncState, current}
 use Rattle.flight_board.specs.Board.{BoardState, IsBegunFor, IsSameBoard, IsTakenFor, flown_at}
 use Rattle.warm_state.specs.declared.warm.Warm.TheVariants as warm
 use Rattle.session_laws.specs.Core.{CoreState, IsFullFor, mark_at, size_beside}
-use Rattle.session_laws.specs.Events.{IsMachineStep, MakesOne, MakesSome, made_by}
+use Rattle.session_laws.specs.Events.{IsMachineStep, MakesOne, MakesSome, vid_made_by}
 use Rattle.session_laws.specs.Standing.{IsSessionOf}
 use Rattle.orch_core.specs.declared.answer.Step.{Step}
 use Rattle.orch_core.specs.declared.answer.Step.TheVariants as step
@@ -63,15 +63,15 @@ abbrev pub IsSameCore : CoreState → CoreState → Type 0
 IsSameCore c c' = (b : BoardState) × IsSameBoard c.board b × (c' ≡ record c { board = b })
 
 -- a key is no longer to sync, nor on the list of those that wait
-abbrev pub left_by : CoreState → Key → CoreState
-left_by c k = record c { tables = record c.tables { ops = without_op c.tables.ops k }; waiting = without_reason c.waiting k }
+abbrev pub key_left : CoreState → Key → CoreState
+key_left c k = record c { tables = record c.tables { ops = without_op c.tables.ops k }; waiting = without_reason c.waiting k }
 
 -- ---- the call that is due for a worker
 
 -- what the core makes of its answer, and of its log, which it gets back: it takes what the call made; or the fault is marked
 abbrev pub Heeds : ℕ → SyncAnswer → History → Mark → Bool → CoreState → Step → CoreState → Type 0
 Heeds w sync.Failed log fault ends c r c' = (r ≡ step.Faulted) × (c' ≡ record c { log = with_fault ends log fault; warm = warm.Suspect })
-Heeds w a log fault ends c r c' = (r ≡ step.Did) × (b : BoardState) × IsTakenFor c.board w (made_by a) b × (c' ≡ record c { log = log; board = b })
+Heeds w a log fault ends c r c' = (r ≡ step.Did) × (b : BoardState) × IsTakenFor c.board w (vid_made_by a) b × (c' ≡ record c { log = log; board = b })
 
 -- the chip has the failing calls that it was made with, and failed no less often than before
 pub record KeepsChip (old new : ChipState) : Type 0 where
@@ -127,13 +127,13 @@ Answered ends s w c chip (Err e) c' chip' = (chip' ≡ chip) × StaysInSession s
 -- ---- a key to sync
 
 -- the numbers of objects of each kind are those that syncd counts
-abbrev pub AreCounted : SyncState → (Kind → ℕ) → Type 0
-AreCounted y used = (kind : Kind) → used kind ≡ used_of (current y) kind
+abbrev pub AreKindsCounted : SyncState → (Kind → ℕ) → Type 0
+AreKindsCounted y used = (kind : Kind) → used kind ≡ used_of (current y) kind
 
 -- what the board made of a key: its operation began; or it waits
 abbrev pub Begun : ℕ → Key → Option Row → CoreState → Result Tried OutOfMemory → CoreState → Type 0
-Begun w k new c (Ok tried.Begun) c' = (used : List ℕ) × AreCounted c.sync (number_of used) × (b : BoardState) × IsBegunFor c.board used w k new (Ok tt) b × (c' ≡ record (left_by c k) { board = b })
-Begun w k new c (Ok (tried.Waits r)) c' = (used : List ℕ) × AreCounted c.sync (number_of used) × (b : BoardState) × IsBegunFor c.board used w k new (Err r) b × (c' ≡ record c { board = b })
+Begun w k new c (Ok tried.Begun) c' = (used : List ℕ) × AreKindsCounted c.sync (number_of_kind used) × (b : BoardState) × IsBegunFor c.board used w k new (Ok tt) b × (c' ≡ record (key_left c k) { board = b })
+Begun w k new c (Ok (tried.Waits r)) c' = (used : List ℕ) × AreKindsCounted c.sync (number_of_kind used) × (b : BoardState) × IsBegunFor c.board used w k new (Err r) b × (c' ≡ record c { board = b })
 Begun w k new c (Ok tried.Dropped) c' = ⊥
 Begun w k new c (Err e) c' = IsSameCore c c'
 
@@ -143,7 +143,7 @@ pub record DropsTo (s : LoggedService) (k : Key) (c c' : CoreState) (chip : Chip
   pub drop : IsDrop c.board.plan s.service.core makes.later.service.core
   pub key : drop.key ≡ k
   pub moves : IsMachineStep s None makes.later
-  pub is : c' ≡ left_by c k
+  pub is : c' ≡ key_left c k
 
 -- its operation begins for a worker in one step, a Begin of the machine
 pub record BeginsTo (s : LoggedService) (w : ℕ) (k : Key) (c c' : CoreState) (chip : ChipState) : Type 0 where
@@ -153,7 +153,7 @@ pub record BeginsTo (s : LoggedService) (w : ℕ) (k : Key) (c c' : CoreState) (
   pub key : begin.flight.key ≡ k
   pub moves : IsMachineStep s None makes.later
   pub board : BoardState
-  pub is : c' ≡ record (left_by c k) { board = board }
+  pub is : c' ≡ record (key_left c k) { board = board }
   pub others : KeepsFlights w c.board board
 
 -- what became of a key to sync
@@ -164,10 +164,10 @@ Tries s w k c chip (Ok (tried.Waits r)) c' = IsSameCore c c' × IsSessionOf c' c
 Tries s w k c chip (Err e) c' = IsSameCore c c' × IsSessionOf c' chip s
 
 -- whether it is no longer to sync
-abbrev pub Begins : LoggedService → ℕ → Key → CoreState → ChipState → Result Bool OutOfMemory → CoreState → Type 0
-Begins s w k c chip (Ok true) c' = DropsTo s k c c' chip ⊎ BeginsTo s w k c c' chip
-Begins s w k c chip (Ok false) c' = IsSameCore c c' × IsSessionOf c' chip s × ((r : Wait) × IsReason c.board.plan 4 c.sync.capacities s.service.core k r)
-Begins s w k c chip (Err e) c' = IsSameCore c c' × IsSessionOf c' chip s
+abbrev pub BeginsOrDrops : LoggedService → ℕ → Key → CoreState → ChipState → Result Bool OutOfMemory → CoreState → Type 0
+BeginsOrDrops s w k c chip (Ok true) c' = DropsTo s k c c' chip ⊎ BeginsTo s w k c c' chip
+BeginsOrDrops s w k c chip (Ok false) c' = IsSameCore c c' × IsSessionOf c' chip s × ((r : Wait) × IsReason c.board.plan 4 c.sync.capacities s.service.core k r)
+BeginsOrDrops s w k c chip (Err e) c' = IsSameCore c c' × IsSessionOf c' chip s
 
 -- ---- a step
 

@@ -49,8 +49,8 @@ pub record StaysInService (s : LoggedService) (c : CoreState) (c' : CoreState) (
 -- ---- a restart
 
 -- the core without all but its rows, what waits to be popped and its log
-abbrev pub forgotten : CoreState → CoreState
-forgotten c = record {
+abbrev pub forgotten_core : CoreState → CoreState
+forgotten_core c = record {
   tables = record c.tables { ops = [] };
   board = new_board c.board.plan c.sync.capacities;
   sync = new_state c.sync.capacities;
@@ -92,7 +92,7 @@ HeedsList listed.Done log fault ends c r c' = (r ≡ step.Did) × (c' ≡ record
 HeedsList listed.Failed log fault ends c r c' = (r ≡ step.Faulted) × (c' ≡ record c { log = with_fault ends log fault; warm = warm.Suspect })
 
 -- the chip was listed in one step of the session, which had its place in the log
-pub record ListsChip (s : LoggedService) (c : CoreState) (chip : ChipState) (c' : CoreState) (chip' : ChipState) : Type 0 where
+pub record ListsOnWay (s : LoggedService) (c : CoreState) (chip : ChipState) (c' : CoreState) (chip' : ChipState) : Type 0 where
   pub makes : MakesNext c s c' chip'
   pub is : c' ≡ record c { sync = with_listed c.sync (objects_of chip.objects); warm = warm.Restored }
   pub chip_is : chip' ≡ chip
@@ -100,7 +100,7 @@ pub record ListsChip (s : LoggedService) (c : CoreState) (chip : ChipState) (c' 
 
 -- the chip was listed; the list failed, which is marked; the log has no place for the list; or memory was refused
 abbrev pub ListsOut : Bool → LoggedService → CoreState → ChipState → Result Step OutOfMemory → CoreState → ChipState → Type 0
-ListsOut ends s c chip (Ok step.Did) c' chip' = ListsChip s c chip c' chip'
+ListsOut ends s c chip (Ok step.Did) c' chip' = ListsOnWay s c chip c' chip'
 ListsOut ends s c chip (Ok step.Faulted) c' chip' = FaultsOnWay 1 ends s c chip c' chip'
 ListsOut ends s c chip (Ok step.LogFull) c' chip' = (c' ≡ c) × (chip' ≡ chip) × IsFullFor c (length chip.effects) 1
 ListsOut ends s c chip (Ok _) c' chip' = ⊥
@@ -203,7 +203,7 @@ pub record AppliesOne (s : LoggedService) (c : CoreState) (chip : ChipState) (c'
   pub keeps : KeepsChip chip chip'
 
 -- the last call was made, where one was left, and the end is marked: the core is reconciled
-pub record EndsApply (s : LoggedService) (c : CoreState) (chip : ChipState) (c' : CoreState) (chip' : ChipState) : Type 0 where
+pub record AppliesLast (s : LoggedService) (c : CoreState) (chip : ChipState) (c' : CoreState) (chip' : ChipState) : Type 0 where
   pub makes : MakesMore c s c' chip'
   pub warm : c'.warm ≡ warm.Reconciled
   pub log : c'.log ≡ with_mark c.log (mark_at c (length chip'.effects) event.ApplyEnded)
@@ -214,7 +214,7 @@ pub record EndsApply (s : LoggedService) (c : CoreState) (chip : ChipState) (c' 
 
 -- a call was made, or the end is marked; the call failed, which is marked; the log has no places; or memory was refused
 abbrev pub AppliesOut : Bool → LoggedService → CoreState → ChipState → Result Step OutOfMemory → CoreState → ChipState → Type 0
-AppliesOut ends s c chip (Ok step.Did) c' chip' = AppliesOne s c chip c' chip' ⊎ EndsApply s c chip c' chip'
+AppliesOut ends s c chip (Ok step.Did) c' chip' = AppliesOne s c chip c' chip' ⊎ AppliesLast s c chip c' chip'
 AppliesOut ends s c chip (Ok step.Faulted) c' chip' = FaultsOnWay 2 ends s c chip c' chip'
 AppliesOut ends s c chip (Ok step.LogFull) c' chip' = (c' ≡ c) × (chip' ≡ chip) × IsFullFor c (length chip.effects) (places_left c.sync.left)
 AppliesOut ends s c chip (Ok _) c' chip' = ⊥

@@ -11,9 +11,9 @@ use Rattle.orch_core.specs.declared.answer.TakeFault.{TakeFault}
 use Rattle.orch_core.specs.declared.answer.TakeFault.TheVariants as fault
 
 -- it is taken; or the log has no place for it, and it comes back
-abbrev pub Takes : CoreState → Sent → ℕ → Result (Unit {0}) TakeFault → CoreState → Type 0
-Takes c sent effects (Ok _) c' = (c' ≡ with_taken c sent) × (IsFullFor c effects 1 → ⊥)
-Takes c sent effects (Err (fault.LogFull back)) c' = (c' ≡ c) × (back ≡ sent) × IsFullFor c effects 1
+abbrev pub TakesSent : CoreState → Sent → ℕ → Result (Unit {0}) TakeFault → CoreState → Type 0
+TakesSent c sent effects (Ok _) c' = (c' ≡ with_taken c sent) × (IsFullFor c effects 1 → ⊥)
+TakesSent c sent effects (Err (fault.LogFull back)) c' = (c' ≡ c) × (back ≡ sent) × IsFullFor c effects 1
 
 -- a write that is taken is one step of the session, a Take of the machine with its place in the log
 abbrev pub TakesStep : LoggedService → CoreState → ChipState → Result (Result (Unit {0}) TakeFault) OutOfMemory → CoreState → Type 0

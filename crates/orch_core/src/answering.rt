@@ -8,7 +8,7 @@ ghost use Rattle.restart_laws.specs.Logged.{LoggedService};
 ghost use Rattle.flight_board.specs.Board.{flown_at};
 ghost use Rattle.warm_state.specs.declared.warm.Warm.TheVariants as warm;
 ghost use Rattle.session_laws.specs.Core.{IsFullFor};
-ghost use Rattle.session_laws.specs.Events.{made_by};
+ghost use Rattle.session_laws.specs.Events.{vid_made_by};
 ghost use Rattle.session_laws.specs.Standing.{IsSessionOf};
 ghost use Rattle.orch_core.specs.Outcomes.{Answered, Heeds, IsInSession};
 
@@ -82,7 +82,7 @@ impl Core {
         ends: bool,
     ) -> Step
         requires worker { worker < 4 }
-        requires may { (answer ≡ sync.Failed → ⊥) → (x : Flown) × (flown_at self.old.board worker ≡ Some x) × MayTakeFor x.operation x.group (made_by answer) self.old.board.names }
+        requires may { (answer ≡ sync.Failed → ⊥) → (x : Flown) × (flown_at self.old.board worker ≡ Some x) × MayTakeFor x.operation x.group (vid_made_by answer) self.old.board.names }
         ensures { Heeds worker answer log fault ends self.old result self.new }
     {
         match answer {

@@ -5,7 +5,7 @@ ghost use Rattle.table_schema.specs.declared.key.Key.{Key};
 ghost use Rattle.consumer_table.specs.Ops.{AreOpsInOrder, without_op};
 ghost use Rattle.flight_board.specs.Board.{flown_at};
 ghost use Rattle.session_laws.specs.Core.{CoreState};
-ghost use Rattle.session_laws.specs.Events.{made_by};
+ghost use Rattle.session_laws.specs.Events.{vid_made_by};
 ghost use Rattle.restart_session_laws.specs.Built.{IsBringing, IsBuilt};
 ghost use Rattle.orch_core.specs.Restarting.{CallsView, GoesOver};
 
@@ -80,7 +80,7 @@ impl Core {
 
 /// The identifier of what a call made.
 fn made(answer: SyncAnswer) -> Option<Vid>
-    ensures { result ≡ made_by answer }
+    ensures { result ≡ vid_made_by answer }
 {
     match answer {
         SyncAnswer::Made(vid) => Some(vid),

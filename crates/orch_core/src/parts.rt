@@ -1,7 +1,7 @@
 // What the core has its parts do: each call is one of the board, of syncd or of the tables, and the rest of the core stays.
 ghost use Rattle.std.specs.Prelude.{◌≡◌, ◌<◌, ◌^◌, ◌↔◌, ◌⊎◌, [], length, None, Some, IsSome, IsTrue, IfOk, OnOk, OnErr, option_map};
 ghost use Rattle.std.specs.Map.{keys_of};
-ghost use Rattle.producer_table.specs.Pending.{AreInOrder};
+ghost use Rattle.producer_table.specs.Pending.{ArePendingInOrder};
 ghost use Rattle.consumer_table.specs.Ops.{AreOpsInOrder, first_in, keys_behind};
 ghost use Rattle.retry_list.specs.Reasons.{reason_at, with_reason};
 ghost use Rattle.orch_flight.specs.Sharing.{MayStart};
@@ -12,7 +12,7 @@ ghost use Rattle.syncd_core.specs.Synced.{CanCall, Calls, SyncState};
 ghost use Rattle.flight_board.specs.Applied.{row_at};
 ghost use Rattle.flight_board.specs.Board.{BoardState, IsBegunFor, IsPrepared, IsCallReady, IsSameBoard, IsTakenFor, IsUnflown, flown_at};
 ghost use Rattle.session_laws.specs.Core.{good_in};
-ghost use Rattle.orch_core.specs.Outcomes.{left_by};
+ghost use Rattle.orch_core.specs.Outcomes.{key_left};
 
 use crate::Core;
 use sai_types::{Call, Chip, SyncAnswer, Vid};
@@ -104,7 +104,7 @@ impl Core {
 
     /// Takes a key from those to sync, and from the list of those that wait.
     pub(crate) fn leave(&mut self, key: &Key)
-        ensures { self.new ≡ left_by self.old key.now }
+        ensures { self.new ≡ key_left self.old key.now }
     {
         self.tables.done(key);
         self.waiting.forget(key);
@@ -147,7 +147,7 @@ impl Core {
     /// Whether no write waits in the tables. Those that wait are in order.
     pub fn is_popped(&self) -> bool
         ensures popped { IsTrue result ↔ (self.now.tables.waiting ≡ []) }
-        ensures order { AreInOrder self.now.tables.waiting }
+        ensures order { ArePendingInOrder self.now.tables.waiting }
     {
         self.tables.is_popped()
     }

@@ -8,7 +8,7 @@ ghost use Rattle.consumer_table.specs.Ops.{AreOpsInOrder, Ops, without_op};
 ghost use Rattle.syncd_core.specs.Begun.{Begins, CanBegin};
 ghost use Rattle.syncd_core.specs.Synced.{Applies, CanApply, SyncState, TakesList};
 ghost use Rattle.restart_session_laws.specs.Built.{building, given_up};
-ghost use Rattle.orch_core.specs.Restarting.{forgotten, places_left};
+ghost use Rattle.orch_core.specs.Restarting.{forgotten_core, places_left};
 
 use crate::Core;
 use sai_types::{Chip, Mode};
@@ -27,7 +27,7 @@ impl Core {
 
     /// Forgets all but the rows, the writes that wait to be popped, and the log.
     pub(crate) fn forget(&mut self)
-        ensures { self.new ≡ forgotten self.old }
+        ensures { self.new ≡ forgotten_core self.old }
     {
         self.tables.forget_ops();
         self.board.forget(self.caps);

@@ -1,9 +1,9 @@
 // The core.
 ghost use Rattle.std.specs.Prelude.{◌≡◌};
 ghost use Rattle.sai_types.specs.declared.kind.Kind.{Kind};
-ghost use Rattle.ref_counts.specs.Room.{number_of};
+ghost use Rattle.ref_counts.specs.Room.{number_of_kind};
 ghost use Rattle.session_laws.specs.Core.{new_core};
-ghost use Rattle.orch_core.specs.Outcomes.{AreCounted};
+ghost use Rattle.orch_core.specs.Outcomes.{AreKindsCounted};
 
 use flight_board::Board;
 use retry_list::Retry;
@@ -108,7 +108,7 @@ impl Core {
 
     /// How many objects of each kind stand.
     pub(crate) fn used(&self) -> [u64; 11]
-        ensures { AreCounted self.now.sync (number_of result) }
+        ensures { AreKindsCounted self.now.sync (number_of_kind result) }
     {
         [
             self.syncd.used(Kind::Port),

@@ -2,7 +2,7 @@
 ghost use Rattle.std.specs.Prelude.{◌≡◌, Ok, Err, IfOk, OnOk, OnErr};
 ghost use Rattle.table_schema.specs.declared.write.Sent.{Sent};
 ghost use Rattle.switch_model.specs.History.{History, with_write as with_taken_write};
-ghost use Rattle.sync_tables.specs.Tables.{with_write};
+ghost use Rattle.sync_tables.specs.Tables.{tables_with_write};
 ghost use Rattle.session_laws.specs.Core.{with_taken};
 ghost use Rattle.sai_types.specs.ChipState.{ChipState};
 ghost use Rattle.switch_model.specs.Marks.{written_key};
@@ -10,7 +10,7 @@ ghost use Rattle.machine_laws.specs.Reading.{IsOnSwitch};
 ghost use Rattle.restart_laws.specs.Logged.{LoggedService};
 ghost use Rattle.session_laws.specs.Standing.{IsSessionOf};
 ghost use Rattle.restart_session_laws.specs.Standing.{IsServiceOf};
-ghost use Rattle.orch_core.specs.Taking.{Takes, TakesNext, TakesStep};
+ghost use Rattle.orch_core.specs.Taking.{TakesSent, TakesNext, TakesStep};
 
 use crate::{Core, TakeFault};
 use swss_types::OutOfMemory;
@@ -20,7 +20,7 @@ impl Core {
     /// Takes a write; `effects` is the number of the chip's effects. LogFull gives the write back exactly where the log has no
     /// place for it; after it and after want of memory nothing has changed.
     pub fn take(&mut self, sent: Sent, effects: u64) -> Result<Result<(), TakeFault>, OutOfMemory>
-        ensures ok { IfOk result (λ taken. Takes self.old sent effects taken self.new) }
+        ensures ok { IfOk result (λ taken. TakesSent self.old sent effects taken self.new) }
         ensures err { OnErr result (self.new ≡ self.old) }
         ensures steps { (chip : ChipState) (s : LoggedService) → IsSessionOf self.old chip s → IsOnSwitch (written_key sent.write) → TakesStep s self.old chip result self.new }
         ensures serves { (chip : ChipState) (s : LoggedService) → IsServiceOf self.old chip s → IsOnSwitch (written_key sent.write) → TakesNext s self.old chip result self.new }
@@ -40,7 +40,7 @@ impl Core {
 
     /// Lets the write that was taken last wait in its table.
     fn let_wait(&mut self) -> Result<(), OutOfMemory>
-        ensures ok { OnOk result ((h : History) (sent : Sent) → self.old.log ≡ with_taken_write h sent → self.new ≡ record self.old { tables = with_write self.old.tables sent.write }) }
+        ensures ok { OnOk result ((h : History) (sent : Sent) → self.old.log ≡ with_taken_write h sent → self.new ≡ record self.old { tables = tables_with_write self.old.tables sent.write }) }
         ensures err { OnErr result (self.new ≡ self.old) }
     {
         match self.log.taken().last() {

@@ -9,7 +9,7 @@ ghost use Rattle.flight_board.specs.Applied.{row_at};
 ghost use Rattle.flight_board.specs.Board.{IsUnflown, flown_at};
 ghost use Rattle.warm_state.specs.declared.warm.Warm.TheVariants as warm;
 ghost use Rattle.session_laws.specs.Standing.{IsSessionOf};
-ghost use Rattle.orch_core.specs.Outcomes.{Begins, Begun, IsInSession, Tries};
+ghost use Rattle.orch_core.specs.Outcomes.{BeginsOrDrops, Begun, IsInSession, Tries};
 
 use crate::Core;
 use crate::answer::Tried;
@@ -44,7 +44,7 @@ impl Core {
         requires none { flown_at self.old.board worker ≡ None }
         requires order { AreOpsInOrder self.old.tables.ops }
         requires key { IsToSync self.old.tables key.now }
-        ensures { (s : LoggedService) (chip : ChipState) → IsSessionOf self.old chip s → Begins s worker key.now self.old chip result self.new }
+        ensures { (s : LoggedService) (chip : ChipState) → IsSessionOf self.old chip s → BeginsOrDrops s worker key.now self.old chip result self.new }
     {
         match self.try_key(worker, key)? {
             Tried::Waits(_) => Ok(false),

@@ -13,9 +13,9 @@ use Rattle.switch_model.specs.declared.wait.Wait.TheVariants as wait
 use Rattle.row_layout.specs.Operations.{Change, Set, own_changes, same_thing, set_to, take_all}
 use Rattle.ref_counts.specs.declared.name.Name.{Name}
 use Rattle.ref_counts.specs.declared.name.Name.TheVariants as name
-use Rattle.ref_counts.specs.Registered.{Registered, first_of, going, held_or, least_worker, pins_but, retire_refusal}
-use Rattle.ref_counts.specs.Registry.{Names, changed, refusal_at, registered_at, users_at}
-use Rattle.ref_counts.specs.Room.{Reserves, RoomState, lacking, number_of}
+use Rattle.ref_counts.specs.Registered.{Registered, first_of, begun_to_go, held_or, least_worker, pins_but, retire_refusal}
+use Rattle.ref_counts.specs.Registry.{Names, changed, retire_refusal_at, registered_at, users_at}
+use Rattle.ref_counts.specs.Room.{Reserves, RoomState, lacking, number_of_kind}
 use Rattle.switch_machine.specs.Operations.{built_first}
 use Rattle.orch_flight.specs.Needing.{busy_for, crowded_for, first_unapplied, holder_of, least_of, or_else, pinning, places_for, row_reason, to_build, wait_of, workers_on}
 use Rattle.orch_flight.specs.Sharing.{begun_by, lacks_shared}
@@ -34,7 +34,7 @@ pub places-taken : (ts : List Thing) → places_for (take_all ts []) ≡ no_plac
 places-taken [] = refl
 places-taken (t ∷ ts) = places-taken ts
 
-number-none : (k : Kind) → number_of no_places k ≡ 0
+number-none : (k : Kind) → number_of_kind no_places k ≡ 0
 number-none kind.Port = refl
 number-none kind.Vlan = refl
 number-none kind.BridgePort = refl
@@ -50,7 +50,7 @@ number-none kind.Route = refl
 pub reserves-none : (room : RoomState) (worker : ℕ) (need : List ℕ) → need ≡ no_places → Reserves room worker need room
 reserves-none room worker need is = record {
   capacities = refl;
-  more = λ k. let none : number_of need k ≡ 0 = ap (λ l. number_of l k) is ∙ number-none k in omega (arith, none);
+  more = λ k. let none : number_of_kind need k ≡ 0 = ap (λ l. number_of_kind l k) is ∙ number-none k in omega (arith, none);
   others = λ other k apart. refl;
 }
 
@@ -77,7 +77,7 @@ or_else-then None (Some w) c h = refl
 or_else-then (Some w) b c h = refl
 
 -- why a row that is to go has to wait
-pub wait-removal : (plan : Ports) (names : Names) (room : RoomState) (used : List ℕ) (worker : ℕ) (k : Key) (old : Option Row) → places_for (own_changes plan k old None) ≡ no_places → wait_of plan names room used worker k old None ≡ refusal_at names worker (name.Row k)
+pub wait-removal : (plan : Ports) (names : Names) (room : RoomState) (used : List ℕ) (worker : ℕ) (k : Key) (old : Option Row) → places_for (own_changes plan k old None) ≡ no_places → wait_of plan names room used worker k old None ≡ retire_refusal_at names worker (name.Row k)
 wait-removal plan names room used worker k old none =
     or_else-then (holder_of names k None) (busy_for plan names worker k None) (crowded_for plan names room used k old None)
     (ap (option_map wait.NoRoom) (lacking-no_need room (places_for (own_changes plan k old None)) used none))
@@ -159,10 +159,10 @@ module _ (plan : Ports) (names : Names) (room : RoomState) (used : List ℕ) (wo
   -- and of one that is to go
   pub begun-removal : (names' : Names) (res : Result (Result (Unit {0}) Wait) OutOfMemory)
       → places_for (own_changes plan k old None) ≡ no_places
-      → started_names plan names worker k old None ≡ changed names (name.Row k) (going worker)
-      → IfOk res (λ a. OnOk a (refusal_at names worker (name.Row k) ≡ None))
-      → IfOk res (λ a. OnOk a (names' ≡ changed names (name.Row k) (going worker)))
-      → IfOk res (λ a. IfErr a (λ wait. refusal_at names worker (name.Row k) ≡ Some wait))
+      → started_names plan names worker k old None ≡ changed names (name.Row k) (begun_to_go worker)
+      → IfOk res (λ a. OnOk a (retire_refusal_at names worker (name.Row k) ≡ None))
+      → IfOk res (λ a. OnOk a (names' ≡ changed names (name.Row k) (begun_to_go worker)))
+      → IfOk res (λ a. IfErr a (λ wait. retire_refusal_at names worker (name.Row k) ≡ Some wait))
       → IfOk res (λ a. OnErr a (names' ≡ names))
       → IfOk res (λ a. IsBegunBy plan names room used worker k old None a names' room)
   begun-removal names' (Ok (Ok x)) places begun free is wait same =

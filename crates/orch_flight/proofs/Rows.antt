@@ -17,8 +17,8 @@ use Rattle.ref_counts.specs.declared.name.Name.{Name}
 use Rattle.ref_counts.specs.declared.name.Name.TheVariants as name
 use Rattle.ref_counts.specs.declared.name.NameState.{NameState}
 use Rattle.ref_counts.specs.declared.name.NameState.TheVariants as state
-use Rattle.ref_counts.specs.Registered.{begun, going, with_user}
-use Rattle.ref_counts.specs.Registry.{Names, changed, name_cmp, pinned, state_of}
+use Rattle.ref_counts.specs.Registered.{begun, begun_to_go, with_user}
+use Rattle.ref_counts.specs.Registry.{Names, changed, registered_name_cmp, pinned, state_of}
 use Rattle.ref_counts.specs.Room.{Reserves, RoomState, lacking}
 use Rattle.switch_machine.specs.Operations.{built_first}
 use Rattle.orch_flight.specs.Needing.{absent_or, crowded_for, first_absent, first_unapplied, holder_of, busy_for, least_of, name_for, or_else, places_for, row_reason, to_build, wait_of, workers_on}
@@ -61,7 +61,7 @@ absent-shared names (Some n) = ap (λ m. absent_or (owner_for n) (state_of names
 
 shared-begun : (names : Names) (worker : ℕ) (k : Key) (shared : Option Name) (builds : Bool) → used_by (with_building names worker (built_of shared builds)) k (owners_of shared) ≡ with_shared names worker k shared builds
 shared-begun names worker k None builds = refl
-shared-begun names worker k (Some n) true = ap (λ m. changed (insert_entry name_cmp names m (begun worker (ids_for (owner_for n)))) m (with_user k)) (same-name n)
+shared-begun names worker k (Some n) true = ap (λ m. changed (insert_entry registered_name_cmp names m (begun worker (ids_for (owner_for n)))) m (with_user k)) (same-name n)
 shared-begun names worker k (Some n) false = ap (λ m. changed names m (with_user k)) (same-name n)
 
 own-begun : (names : Names) (worker : ℕ) (k : Key) (old : Option Row) (r : Row) → with_own names worker k old (Some r) ≡ with_row_begun names worker k (is_some old)

@@ -12,29 +12,29 @@ use Rattle.ref_counts.specs.declared.name.Name.TheVariants as name
 use Rattle.ref_counts.specs.declared.name.NameState.TheVariants as state
 use Rattle.ref_counts.specs.declared.pin.Pin.{Pin}
 use Rattle.ref_counts.specs.Registered.{Registered, begun, pins_but, released, with_pin}
-use Rattle.ref_counts.specs.Registry.{Names, all_released, changed, changed_at, name_cmp, pinned, registered_at, state_in, state_of}
+use Rattle.ref_counts.specs.Registry.{Names, all_released, changed, changed_at, registered_name_cmp, pinned, registered_at, state_in, state_of}
 use Rattle.ref_counts.proofs.Found.{apart_from}
 use Rattle.orch_flight.specs.Starting.{ids_for_row}
-use Rattle.orch_flight.specs.Sharing.{HasNoPins, IsOfShared, IsNameReady, IsSettled, is_absent, lacks_shared, stage_of, with_row_begun, with_shared}
+use Rattle.orch_flight.specs.Sharing.{HasNoPins, IsOfShared, IsNameReady, IsLiveOrAbsent, is_absent, lacks_shared, stage_of, with_row_begun, with_shared}
 
-stage_step : (e : Name × Registered) (es : Names) (n : Name) (b : Bool) → is_at (name_cmp n) e.0 ≡ b → stage_of (e ∷ es) n ≡ cond b (Some e.1.state) (stage_of es n)
+stage_step : (e : Name × Registered) (es : Names) (n : Name) (b : Bool) → is_at (registered_name_cmp n) e.0 ≡ b → stage_of (e ∷ es) n ≡ cond b (Some e.1.state) (stage_of es n)
 stage_step e es n true h = ap (λ b. option_map (λ r. r.state) (cond b (Some e.1) (registered_at es n))) h
 stage_step e es n false h = ap (λ b. option_map (λ r. r.state) (cond b (Some e.1) (registered_at es n))) h
 
 module _ (m : Name) (f : Registered → Registered) (keeps : (r : Registered) → (f r).state ≡ r.state) where
   at-state : (e : Name × Registered) → (changed_at m f e).1.state ≡ e.1.state
-  at-state e = elim (is_at (name_cmp m) e.0) as (λ b. (cond b (e.0, f e.1) e).1.state ≡ e.1.state) [ true ↦ keeps e.1 | false ↦ refl ]
+  at-state e = elim (is_at (registered_name_cmp m) e.0) as (λ b. (cond b (e.0, f e.1) e).1.state ≡ e.1.state) [ true ↦ keeps e.1 | false ↦ refl ]
 
   at-name : (e : Name × Registered) → (changed_at m f e).0 ≡ e.0
-  at-name e = elim (is_at (name_cmp m) e.0) as (λ b. (cond b (e.0, f e.1) e).0 ≡ e.0) [ true ↦ refl | false ↦ refl ]
+  at-name e = elim (is_at (registered_name_cmp m) e.0) as (λ b. (cond b (e.0, f e.1) e).0 ≡ e.0) [ true ↦ refl | false ↦ refl ]
 
   pub stage-changed : (names : Names) (n : Name) → stage_of (changed names m f) n ≡ stage_of names n
   stage-changed [] n = refl
   stage-changed (e ∷ es) n =
       let rest = stage-changed es n in
-      let by : (b : Bool) → is_at (name_cmp n) e.0 ≡ b → stage_of (changed (e ∷ es) m f) n ≡ stage_of (e ∷ es) n =
-      λ b. λ is. stage_step (changed_at m f e) (changed es m f) n b (ap (is_at (name_cmp n)) (at-name e) ∙ is) ∙ ap₂ (λ s o. cond b (Some s) o) (at-state e) rest ∙ sym (stage_step e es n b is) in
-      by (is_at (name_cmp n) e.0) refl
+      let by : (b : Bool) → is_at (registered_name_cmp n) e.0 ≡ b → stage_of (changed (e ∷ es) m f) n ≡ stage_of (e ∷ es) n =
+      λ b. λ is. stage_step (changed_at m f e) (changed es m f) n b (ap (is_at (registered_name_cmp n)) (at-name e) ∙ is) ∙ ap₂ (λ s o. cond b (Some s) o) (at-state e) rest ∙ sym (stage_step e es n b is) in
+      by (is_at (registered_name_cmp n) e.0) refl
 
 pub stage-pinned : (names : Names) (worker : ℕ) (user : Key) (ks : List Key) (n : Name) → stage_of (pinned names worker user ks) n ≡ stage_of names n
 stage-pinned names worker user [] n = refl
@@ -42,19 +42,19 @@ stage-pinned names worker user (k ∷ ks) n =
     stage-pinned (changed names (name.Row k) (with_pin worker user)) worker user ks n ∙ stage-changed (name.Row k) (with_pin worker user) (λ r. refl) names n
 
 -- a name that is put is no other
-pub stage-put : (names : Names) (m : Name) (r : Registered) (n : Name) → is_at (name_cmp m) n ≡ false → is_at (name_cmp n) m ≡ false → stage_of (insert_entry name_cmp names m r) n ≡ stage_of names n
+pub stage-put : (names : Names) (m : Name) (r : Registered) (n : Name) → is_at (registered_name_cmp m) n ≡ false → is_at (registered_name_cmp n) m ≡ false → stage_of (insert_entry registered_name_cmp names m r) n ≡ stage_of names n
 stage-put [] m r n apart back = stage_step (m, r) [] n false back
 stage-put (e ∷ es) m r n apart back =
     let rest = stage-put es m r n apart back in
-    let tail : (b : Bool) → is_at (name_cmp n) e.0 ≡ b → stage_of (e ∷ insert_entry name_cmp es m r) n ≡ stage_of (e ∷ es) n =
-    λ b is. stage_step e (insert_entry name_cmp es m r) n b is ∙ ap (λ o. cond b (Some e.1.state) o) rest ∙ sym (stage_step e es n b is) in
-    let by : (o : Ordering) → name_cmp m e.0 ≡ o → stage_of (insert_entry name_cmp (e ∷ es) m r) n ≡ stage_of (e ∷ es) n =
-    λ o. elim o as (λ o. name_cmp m e.0 ≡ o → stage_of (insert_entry name_cmp (e ∷ es) m r) n ≡ stage_of (e ∷ es) n) [
-      | Less ↦ λ is. ap (λ l. stage_of l n) (put_step name_cmp e es m r Less is) ∙ stage_step (m, r) (e ∷ es) n false back
-      | Equal ↦ λ is. let other : is_at (name_cmp n) e.0 ≡ false = apart_from m n e.0 apart (ap is_eq is) in ap (λ l. stage_of l n) (put_step name_cmp e es m r Equal is) ∙ stage_step (e.0, r) es n false other ∙ sym (stage_step e es n false other)
-      | Greater ↦ λ is. ap (λ l. stage_of l n) (put_step name_cmp e es m r Greater is) ∙ (tail (is_at (name_cmp n) e.0) refl)
+    let tail : (b : Bool) → is_at (registered_name_cmp n) e.0 ≡ b → stage_of (e ∷ insert_entry registered_name_cmp es m r) n ≡ stage_of (e ∷ es) n =
+    λ b is. stage_step e (insert_entry registered_name_cmp es m r) n b is ∙ ap (λ o. cond b (Some e.1.state) o) rest ∙ sym (stage_step e es n b is) in
+    let by : (o : Ordering) → registered_name_cmp m e.0 ≡ o → stage_of (insert_entry registered_name_cmp (e ∷ es) m r) n ≡ stage_of (e ∷ es) n =
+    λ o. elim o as (λ o. registered_name_cmp m e.0 ≡ o → stage_of (insert_entry registered_name_cmp (e ∷ es) m r) n ≡ stage_of (e ∷ es) n) [
+      | Less ↦ λ is. ap (λ l. stage_of l n) (put_step registered_name_cmp e es m r Less is) ∙ stage_step (m, r) (e ∷ es) n false back
+      | Equal ↦ λ is. let other : is_at (registered_name_cmp n) e.0 ≡ false = apart_from m n e.0 apart (ap is_eq is) in ap (λ l. stage_of l n) (put_step registered_name_cmp e es m r Equal is) ∙ stage_step (e.0, r) es n false other ∙ sym (stage_step e es n false other)
+      | Greater ↦ λ is. ap (λ l. stage_of l n) (put_step registered_name_cmp e es m r Greater is) ∙ (tail (is_at (registered_name_cmp n) e.0) refl)
     ] in
-    by (name_cmp m e.0) refl
+    by (registered_name_cmp m e.0) refl
 
 -- a state by what is registered
 pub state-stage : (names : Names) (n : Name) → state_of names n ≡ unwrap_or (stage_of names n) state.Absent
@@ -83,7 +83,7 @@ all-pin worker user m [] = refl
 all-pin worker user m (e ∷ es) =
     let again : Name × Registered → Name × Registered = λ e. (e.0, released worker false e.1) in
     let first : again (changed_at m (with_pin worker user) e) ≡ again e =
-    elim (is_at (name_cmp m) e.0) as (λ b. again (cond b (e.0, with_pin worker user e.1) e) ≡ again e) [ true ↦ ap (λ r. (e.0, r)) (released-pin worker user e.1) | false ↦ refl ] in
+    elim (is_at (registered_name_cmp m) e.0) as (λ b. again (cond b (e.0, with_pin worker user e.1) e) ≡ again e) [ true ↦ ap (λ r. (e.0, r)) (released-pin worker user e.1) | false ↦ refl ] in
     ap₂ (λ x xs. x ∷ xs) first (all-pin worker user m es)
 
 all-pinned : (worker : ℕ) (user : Key) (ks : List Key) (names : Names) → all_released worker false (pinned names worker user ks) ≡ all_released worker false names
@@ -102,13 +102,13 @@ pins-undone worker user ks names h = all-pinned worker user ks names ∙ none-re
 
 -- ---- what is shared, while names of rows are pinned and begin to be built
 
-pub row_apart : (k : Key) (n : Name) → IsOfShared n → is_at (name_cmp (name.Row k)) n ≡ false
+pub row_apart : (k : Key) (n : Name) → IsOfShared n → is_at (registered_name_cmp (name.Row k)) n ≡ false
 row_apart k (name.Row q) h = elim h [ ]
 row_apart k (name.BridgePort lane) h = refl
 row_apart k (name.Own ip) h = refl
 row_apart k (name.Group hops) h = refl
 
-apart_row : (k : Key) (n : Name) → IsOfShared n → is_at (name_cmp n) (name.Row k) ≡ false
+apart_row : (k : Key) (n : Name) → IsOfShared n → is_at (registered_name_cmp n) (name.Row k) ≡ false
 apart_row k (name.Row q) h = elim h [ ]
 apart_row k (name.BridgePort lane) h = refl
 apart_row k (name.Own ip) h = refl
@@ -120,20 +120,20 @@ AreAlike new names = (n : Name) → IsOfShared n → stage_of new n ≡ stage_of
 
 pub alike-ready : (new names : Names) (shared : Option Name) → AreAlike new names → IsNameReady names shared → IsNameReady new shared
 alike-ready new names None same h = tt
-alike-ready new names (Some n) same h = (h.0, subst IsSettled (sym (same n h.0)) h.1)
+alike-ready new names (Some n) same h = (h.0, subst IsLiveOrAbsent (sym (same n h.0)) h.1)
 
 pub alike-lacks : (new names : Names) (shared : Option Name) → AreAlike new names → IsNameReady names shared → lacks_shared new shared ≡ lacks_shared names shared
 alike-lacks new names None same h = refl
 alike-lacks new names (Some n) same h = ap is_absent (state-stage new n ∙ ap (λ o. unwrap_or o state.Absent) (same n h.0) ∙ sym (state-stage names n))
 
-pub alike-begun : (new names : Names) (k : Key) (m : Name) (worker vids : ℕ) → m ≡ name.Row k → new ≡ insert_entry name_cmp names m (begun worker vids) → AreAlike new names
+pub alike-begun : (new names : Names) (k : Key) (m : Name) (worker vids : ℕ) → m ≡ name.Row k → new ≡ insert_entry registered_name_cmp names m (begun worker vids) → AreAlike new names
 alike-begun new names k m worker vids same is n h =
-    ap (λ l. stage_of l n) is ∙ ap (λ m. stage_of (insert_entry name_cmp names m (begun worker vids)) n) same ∙ stage-put names (name.Row k) (begun worker vids) n (row_apart k n h) (apart_row k n h)
+    ap (λ l. stage_of l n) is ∙ ap (λ m. stage_of (insert_entry registered_name_cmp names m (begun worker vids)) n) same ∙ stage-put names (name.Row k) (begun worker vids) n (row_apart k n h) (apart_row k n h)
 
 -- a row's name begins to be built, and then what it shares
-pub row-shared-begun : (later new names : Names) (k : Key) (m : Name) (worker vids : ℕ) (applied : Bool) (shared : Option Name) → m ≡ name.Row k → vids ≡ ids_for_row k → applied ≡ false → new ≡ insert_entry name_cmp names m (begun worker vids) → IsNameReady names shared → later ≡ with_shared new worker k shared (lacks_shared new shared) → later ≡ with_shared (with_row_begun names worker k applied) worker k shared (lacks_shared names shared)
+pub row-shared-begun : (later new names : Names) (k : Key) (m : Name) (worker vids : ℕ) (applied : Bool) (shared : Option Name) → m ≡ name.Row k → vids ≡ ids_for_row k → applied ≡ false → new ≡ insert_entry registered_name_cmp names m (begun worker vids) → IsNameReady names shared → later ≡ with_shared new worker k shared (lacks_shared new shared) → later ≡ with_shared (with_row_begun names worker k applied) worker k shared (lacks_shared names shared)
 row-shared-begun later new names k m worker vids applied shared same ids not is ready then =
-    let row : new ≡ with_row_begun names worker k applied = is ∙ ap₂ (λ m v. insert_entry name_cmp names m (begun worker v)) same ids ∙ sym (ap (with_row_begun names worker k) not) in
+    let row : new ≡ with_row_begun names worker k applied = is ∙ ap₂ (λ m v. insert_entry registered_name_cmp names m (begun worker v)) same ids ∙ sym (ap (with_row_begun names worker k) not) in
     then ∙ ap₂ (λ l b. with_shared l worker k shared b) row (alike-lacks new names shared (alike-begun new names k m worker vids same is) ready)
 
 -- pinning leaves the states

@@ -9,10 +9,10 @@ use Rattle.ref_counts.specs.declared.name.Name.TheVariants as name
 use Rattle.ref_counts.specs.declared.name.NameState.{NameState}
 use Rattle.ref_counts.specs.declared.name.NameState.TheVariants as state
 use Rattle.ref_counts.specs.Registered.{Registered}
-use Rattle.ref_counts.specs.Registry.{Names, first_missing, is_live, owner_in, registered_at, state_in, state_of}
+use Rattle.ref_counts.specs.Registry.{Names, first_not_live, is_live, owner_in, registered_at, state_in, state_of}
 use Rattle.ref_counts.specs.Room.{RoomState, lacking}
 use Rattle.orch_flight.specs.Needing.{first_unapplied, least_of, or_else, row_reason, unapplied_or, workers_on}
-use Rattle.orch_flight.specs.Sharing.{IsNameReady, IsSettled, MayShare}
+use Rattle.orch_flight.specs.Sharing.{IsNameReady, IsLiveOrAbsent, MayShare}
 use Rattle.orch_flight.specs.Taking.{to_list}
 
 or_else_none : (a b : Option Wait) → or_else a b ≡ None → a ≡ None
@@ -61,10 +61,10 @@ live_step state.Live k a b free h next = next h
 live_step (state.Building w) k a b free h next = cc
 live_step (state.Retiring w) k a b free h next = cc
 
-applied_so_there : (names : Names) (ks : List Key) (ns : List Name) → AreFree names (map name.Row ks ++ ns) → first_unapplied names ks ≡ None → first_missing names ks ≡ None
+applied_so_there : (names : Names) (ks : List Key) (ns : List Name) → AreFree names (map name.Row ks ++ ns) → first_unapplied names ks ≡ None → first_not_live names ks ≡ None
 applied_so_there names [] ns free h = refl
 applied_so_there names (k ∷ ks) ns free h =
-    live_step (state_of names (name.Row k)) k (first_unapplied names ks) (first_missing names ks) free.0 h (applied_so_there names ks ns free.1)
+    live_step (state_of names (name.Row k)) k (first_unapplied names ks) (first_not_live names ks) free.0 h (applied_so_there names ks ns free.1)
 
 module _ (names : Names) (room : RoomState) (used : List ℕ) (ks : List Key) (ns : List Name) (need : List ℕ) (none : row_reason names room used ks ns need ≡ None) where
   busy_none : or_else (option_map wait.Busy (least_of (workers_on names (map name.Row ks ++ ns)))) (option_map wait.NoRoom (lacking room need used)) ≡ None
@@ -74,7 +74,7 @@ module _ (names : Names) (room : RoomState) (used : List ℕ) (ks : List Key) (n
   free = are_free names (map name.Row ks ++ ns) (no_least _ (unmapped wait.Busy _ (or_else_none _ (option_map wait.NoRoom (lacking room need used)) busy_none)))
 
   -- the keys that are named are live
-  pub reason-named : first_missing names ks ≡ None
+  pub reason-named : first_not_live names ks ≡ None
   reason-named = applied_so_there names ks ns free (unmapped wait.Missing (first_unapplied names ks) (or_else_none _ _ none))
 
   -- there is room
@@ -84,7 +84,7 @@ module _ (names : Names) (room : RoomState) (used : List ℕ) (ks : List Key) (n
   pub reason-free : AreFree names ns
   reason-free = free_tail names ks ns free
 
-settled : (o : Option Registered) → owner_in (state_in o) ≡ None → (option_map (λ r. r.state) o ≡ Some state.Absent → ⊥) → IsSettled (option_map (λ r. r.state) o)
+settled : (o : Option Registered) → owner_in (state_in o) ≡ None → (option_map (λ r. r.state) o ≡ Some state.Absent → ⊥) → IsLiveOrAbsent (option_map (λ r. r.state) o)
 settled None free not = tt
 settled (Some r) free not = by r.state free (λ e. not (ap Some e))
   where

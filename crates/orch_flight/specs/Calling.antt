@@ -118,10 +118,10 @@ pub record IsTaking (at : thing_name.ThingName → Vid → Type 0) (things : Lis
   pub of : IsEntryOf at old entry
   pub is : c ≡ call.Remove entry
 
-abbrev pub IsCallOf : (thing_name.ThingName → Vid → Type 0) → List Thing → Change → Call Vid → Type 0
-IsCallOf at things (Make t) c = IsMaking at t c
-IsCallOf at things (Set u) c = IsSetting at things u c
-IsCallOf at things (Take n) c = IsTaking at things n c
+abbrev pub IsCallFor : (thing_name.ThingName → Vid → Type 0) → List Thing → Change → Call Vid → Type 0
+IsCallFor at things (Make t) c = IsMaking at t c
+IsCallFor at things (Set u) c = IsSetting at things u c
+IsCallFor at things (Take n) c = IsTaking at things n c
 
 abbrev pub things_retired : Option Owner → List Thing
 things_retired None = []
@@ -134,7 +134,7 @@ things_held plan operation = own_of plan operation.key operation.now ++ things_r
 -- the call of the change that is due next, and the end where none is
 abbrev pub IsNextOf : Ports → Names → Operation → Next → Type 0
 IsNextOf plan names operation next.End = operation.due ≡ []
-IsNextOf plan names operation (next.Call c) = (change : Change) × (rest : List Change) × (operation.due ≡ change ∷ rest) × IsCallOf (HasVid plan names) (things_held plan operation) change c
+IsNextOf plan names operation (next.Call c) = (change : Change) × (rest : List Change) × (operation.due ≡ change ∷ rest) × IsCallFor (HasVid plan names) (things_held plan operation) change c
 
 -- ---- when the call can be told
 

@@ -17,7 +17,7 @@ use Rattle.ref_counts.specs.declared.next.Next.{Next}
 use Rattle.ref_counts.specs.declared.next.Next.TheVariants as next
 use Rattle.ref_counts.specs.Registered.{first_of, made_live}
 use Rattle.ref_counts.specs.Registry.{Names, changed, gone_from, ids_of, places_of, state_of}
-use Rattle.orch_flight.specs.Calling.{HasVid, IsCallOf, member_vid, members_ids}
+use Rattle.orch_flight.specs.Calling.{HasVid, IsCallFor, member_vid, members_ids}
 use Rattle.orch_flight.specs.Taking.{to_list}
 
 -- the worker and the hops; whether the group is built or taken away; where it is built, the neighbours' keys, hop by hop, and the identifiers made so far, the group's own first; and the changes that are due
@@ -57,7 +57,7 @@ HasGroupVid plan names g n v = HasVid plan names n v
 -- the call of the change that is due next, and the end where none is
 abbrev pub IsGroupNextOf : Ports → Names → GroupOperation → Next → Type 0
 IsGroupNextOf plan names g next.End = g.due ≡ []
-IsGroupNextOf plan names g (next.Call c) = (change : Change) × (rest : List Change) × (g.due ≡ change ∷ rest) × IsCallOf (HasGroupVid plan names g) (shared_things (Group g.hops)) change c
+IsGroupNextOf plan names g (next.Call c) = (change : Change) × (rest : List Change) × (g.due ≡ change ∷ rest) × IsCallFor (HasGroupVid plan names g) (shared_things (Group g.hops)) change c
 
 -- each hop of a group that is built is on an interface of the plan
 abbrev pub IsGroupOver : Ports → GroupOperation → Type 0
@@ -75,16 +75,16 @@ abbrev pub group_names_by : Names → GroupOperation → List Vid → List Chang
 group_names_by names g made [] = if g.builds then changed names (name.Group g.hops) (made_live made) else gone_from names (name.Group g.hops)
 group_names_by names g made (c ∷ cs) = names
 
-abbrev pub with_made : GroupOperation → Option Vid → List Vid
-with_made g made = if g.builds then g.made ++ to_list made else g.made
+abbrev pub members_with_made : GroupOperation → Option Vid → List Vid
+members_with_made g made = if g.builds then g.made ++ to_list made else g.made
 
 -- the change that was due next is made
 pub record IsGroupTook (old : GroupOperation) (made : Option Vid) (names : Names) (new : GroupOperation) (names' : Names) : Type 0 where
   pub change : Change
   pub rest : List Change
   pub due : old.due ≡ change ∷ rest
-  pub operation : new ≡ record { worker = old.worker; hops = old.hops; builds = old.builds; neighbours = old.neighbours; made = with_made old made; due = rest }
-  pub names_are : names' ≡ group_names_by names old (with_made old made) rest
+  pub operation : new ≡ record { worker = old.worker; hops = old.hops; builds = old.builds; neighbours = old.neighbours; made = members_with_made old made; due = rest }
+  pub names_are : names' ≡ group_names_by names old (members_with_made old made) rest
 
 -- a change is due; an identifier came exactly where the group is built; the worker builds the group, with places for its identifiers, or takes it away
 pub record MayTakeGroup (g : GroupOperation) (made : Option Vid) (names : Names) : Type 0 where

@@ -15,7 +15,7 @@ use Rattle.ref_counts.specs.declared.name.Name.TheVariants as name
 use Rattle.ref_counts.specs.declared.name.NameState.{NameState}
 use Rattle.ref_counts.specs.declared.name.NameState.TheVariants as state
 use Rattle.ref_counts.specs.Registered.{IsReadable, begun, pins_but, with_user}
-use Rattle.ref_counts.specs.Registry.{Names, changed, name_cmp, pinned, registered_at, state_of}
+use Rattle.ref_counts.specs.Registry.{Names, changed, registered_name_cmp, pinned, registered_at, state_of}
 use Rattle.orch_flight.specs.Needing.{first_unapplied, name_for}
 use Rattle.orch_flight.specs.Starting.{ids_for, ids_for_row}
 
@@ -42,10 +42,10 @@ lacks_shared names (Some n) = is_absent (state_of names n)
 -- the name of a key begins to be built, unless its row is applied
 abbrev pub with_row_begun : Names → ℕ → Key → Bool → Names
 with_row_begun names worker k true = names
-with_row_begun names worker k false = insert_entry name_cmp names (name.Row k) (begun worker (ids_for_row k))
+with_row_begun names worker k false = insert_entry registered_name_cmp names (name.Row k) (begun worker (ids_for_row k))
 
 abbrev pub with_shared_begun : Names → ℕ → Name → Bool → Names
-with_shared_begun names worker n true = insert_entry name_cmp names n (begun worker (ids_for (owner_for n)))
+with_shared_begun names worker n true = insert_entry registered_name_cmp names n (begun worker (ids_for (owner_for n)))
 with_shared_begun names worker n false = names
 
 -- what is shared begins to be built where it is to be, and the key uses it
@@ -71,13 +71,13 @@ abbrev pub stage_of : Names → Name → Option NameState
 stage_of names n = option_map (λ r. r.state) (registered_at names n)
 
 -- it is live, or not registered: no operation builds it or takes it away
-abbrev pub IsSettled : Option NameState → Type 0
-IsSettled None = Unit {0}
-IsSettled (Some stage) = stage ≡ state.Live
+abbrev pub IsLiveOrAbsent : Option NameState → Type 0
+IsLiveOrAbsent None = Unit {0}
+IsLiveOrAbsent (Some stage) = stage ≡ state.Live
 
 abbrev pub IsNameReady : Names → Option Name → Type 0
 IsNameReady names None = Unit {0}
-IsNameReady names (Some n) = IsOfShared n × IsSettled (stage_of names n)
+IsNameReady names (Some n) = IsOfShared n × IsLiveOrAbsent (stage_of names n)
 
 -- it may be absent, but is not registered as that
 abbrev pub MayShare : Names → Option Name → Type 0

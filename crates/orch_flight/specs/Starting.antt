@@ -13,8 +13,8 @@ use Rattle.row_layout.specs.Operations.{Change, own_changes, same_owner, shared_
 use Rattle.row_layout.specs.Rows.{Owner, OfRow, Bridge, Own, Group}
 use Rattle.switch_machine.specs.Operations.{built_first}
 use Rattle.ref_counts.specs.declared.name.Name.TheVariants as name
-use Rattle.ref_counts.specs.Registered.{begun, going, with_user, without_user}
-use Rattle.ref_counts.specs.Registry.{Names, changed, name_cmp, pinned, refusal_at}
+use Rattle.ref_counts.specs.Registered.{begun, begun_to_go, with_user, without_user}
+use Rattle.ref_counts.specs.Registry.{Names, changed, registered_name_cmp, pinned, retire_refusal_at}
 use Rattle.ref_counts.specs.Room.{Reserves, RoomState}
 use Rattle.orch_flight.specs.Needing.{name_for, places_for, to_build, wait_of}
 use Rattle.orch_flight.specs.Operation.{Operation}
@@ -42,14 +42,14 @@ with_pins names worker k (Some r) = pinned names worker k (names_of k r)
 
 -- the key's own name: it begins to be built where no row was applied, and to go where none is to be
 abbrev pub with_own : Names → ℕ → Key → Option Row → Option Row → Names
-with_own names worker k None new = insert_entry name_cmp names (name.Row k) (begun worker (ids_for_row k))
-with_own names worker k (Some old) None = changed names (name.Row k) (going worker)
+with_own names worker k None new = insert_entry registered_name_cmp names (name.Row k) (begun worker (ids_for_row k))
+with_own names worker k (Some old) None = changed names (name.Row k) (begun_to_go worker)
 with_own names worker k (Some old) (Some new) = names
 
 -- what is to be built begins to be
 abbrev pub with_building : Names → ℕ → Option Owner → Names
 with_building names worker None = names
-with_building names worker (Some o) = insert_entry name_cmp names (name_for o) (begun worker (ids_for o))
+with_building names worker (Some o) = insert_entry registered_name_cmp names (name_for o) (begun worker (ids_for o))
 
 -- the key uses what its new row shares
 abbrev pub used_by : Names → Key → List Owner → Names
@@ -58,13 +58,13 @@ used_by names k (o ∷ os) = used_by (changed names (name_for o) (with_user k)) 
 
 -- a key leaves what it shared: it uses it no more, and where nobody does any more it begins to go
 abbrev pub parted_by : Option Wait → Names → ℕ → Owner → Names
-parted_by None names worker o = changed names (name_for o) (going worker)
+parted_by None names worker o = changed names (name_for o) (begun_to_go worker)
 parted_by (Some wait) names worker o = names
 
 abbrev pub left_names : Names → ℕ → Key → Owner → Names
 left_names names worker k o =
     let later = changed names (name_for o) (without_user k) in
-    parted_by (refusal_at later worker (name_for o)) later worker o
+    parted_by (retire_refusal_at later worker (name_for o)) later worker o
 
 -- what it takes away then
 abbrev pub gone_by : Option Wait → Owner → Option Owner
@@ -72,7 +72,7 @@ gone_by None o = Some o
 gone_by (Some wait) o = None
 
 abbrev pub retired_by : Names → ℕ → Key → Owner → Option Owner
-retired_by names worker k o = gone_by (refusal_at (changed names (name_for o) (without_user k)) worker (name_for o)) o
+retired_by names worker k o = gone_by (retire_refusal_at (changed names (name_for o) (without_user k)) worker (name_for o)) o
 
 -- ---- the start
 

@@ -24,14 +24,14 @@ to_list None = []
 to_list (Some x) = x ∷ []
 
 -- what is made makes its name live, with its identifier where it has one; of a neighbour's row the next hop does; a row whose objects have none is made live at the operation's end
-abbrev pub made_names : Names → Key → Thing → Option Vid → Names
-made_names names k (thing.BridgePort lane) made = changed names (name.BridgePort lane) (made_live (to_list made))
-made_names names k (thing.Own ip) made = changed names (name.Own ip) (made_live [])
-made_names names k (thing.Neighbor hop mac) made = names
-made_names names k (thing.Route prefix goal) made = names
-made_names names k (thing.Group hops) made = names
-made_names names k (thing.GroupMember hops hop) made = names
-made_names names k t made = changed names (name.Row k) (made_live (to_list made))
+abbrev pub names_after_made : Names → Key → Thing → Option Vid → Names
+names_after_made names k (thing.BridgePort lane) made = changed names (name.BridgePort lane) (made_live (to_list made))
+names_after_made names k (thing.Own ip) made = changed names (name.Own ip) (made_live [])
+names_after_made names k (thing.Neighbor hop mac) made = names
+names_after_made names k (thing.Route prefix goal) made = names
+names_after_made names k (thing.Group hops) made = names
+names_after_made names k (thing.GroupMember hops hop) made = names
+names_after_made names k t made = changed names (name.Row k) (made_live (to_list made))
 
 -- and what was shared and is taken away is absent
 abbrev pub taken_names : Names → thing_name.ThingName → Names
@@ -40,7 +40,7 @@ taken_names names (thing_name.Own ip) = gone_from names (name.Own ip)
 taken_names names n = names
 
 abbrev pub names_after : Names → Key → Change → Option Vid → Names
-names_after names k (Make t) made = made_names names k t made
+names_after names k (Make t) made = names_after_made names k t made
 names_after names k (Set u) made = names
 names_after names k (Take n) made = taken_names names n
 

@@ -1,7 +1,7 @@
 // What becomes of names when the operation of a row begins.
 ghost use Rattle.std.specs.Prelude.{◌≡◌, true, false, None, OnOk, OnErr};
 ghost use Rattle.ref_counts.specs.Registered.{IsReadable, with_user};
-ghost use Rattle.ref_counts.specs.Registry.{changed, first_missing, registered_at};
+ghost use Rattle.ref_counts.specs.Registry.{changed, first_not_live, registered_at};
 ghost use Rattle.orch_flight.specs.Starting.{ids_for, ids_for_row};
 ghost use Rattle.orch_flight.specs.Sharing.{HasNoPins, IsNameReady, begun_by, lacks_shared, owner_for, with_row_begun, with_shared, with_shared_begun};
 
@@ -22,7 +22,7 @@ pub fn begin(
 ) -> Result<(), OutOfMemory>
     requires readable { IsReadable key.now }
     requires unpinned { HasNoPins reg.old worker }
-    requires named { first_missing reg.old keys.now ≡ None }
+    requires named { first_not_live reg.old keys.now ≡ None }
     requires own { applied ≡ false → registered_at reg.old (Name.Row key.now) ≡ None }
     requires shared { IsNameReady reg.old shared.now }
     ensures ok { OnOk result (reg.new ≡ begun_by reg.old worker key.now keys.now applied shared.now (lacks_shared reg.old shared.now)) }

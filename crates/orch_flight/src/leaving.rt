@@ -1,8 +1,8 @@
 // What an operation takes away or leaves, and what it finds.
 ghost use Rattle.std.specs.Prelude.{◌≡◌, ◌↔◌, None, Some, IsSome, IsTrue, OnOk, OnErr, IfOk, IfErr, if◌then◌else◌};
 ghost use Rattle.ref_counts.specs.declared.name.NameState.TheVariants.{Live};
-ghost use Rattle.ref_counts.specs.Registered.{first_of, going};
-ghost use Rattle.ref_counts.specs.Registry.{changed, ids_of, refusal_at, state_of};
+ghost use Rattle.ref_counts.specs.Registered.{first_of, begun_to_go};
+ghost use Rattle.ref_counts.specs.Registry.{changed, ids_of, retire_refusal_at, state_of};
 ghost use Rattle.orch_flight.specs.Starting.{left_names, retired_by};
 ghost use Rattle.orch_flight.specs.Sharing.{owner_for};
 
@@ -20,9 +20,9 @@ pub fn try_remove(
     key: &Key,
 ) -> Result<Result<(), Wait>, OutOfMemory>
     requires { state_of reg.old (Name.Row key.now) ≡ Live }
-    ensures free { IfOk result (λ answer. OnOk answer (refusal_at reg.old worker (Name.Row key.now) ≡ None)) }
-    ensures ok { IfOk result (λ answer. OnOk answer (reg.new ≡ changed reg.old (Name.Row key.now) (going worker))) }
-    ensures wait { IfOk result (λ answer. IfErr answer (λ wait. refusal_at reg.old worker (Name.Row key.now) ≡ Some wait)) }
+    ensures free { IfOk result (λ answer. OnOk answer (retire_refusal_at reg.old worker (Name.Row key.now) ≡ None)) }
+    ensures ok { IfOk result (λ answer. OnOk answer (reg.new ≡ changed reg.old (Name.Row key.now) (begun_to_go worker))) }
+    ensures wait { IfOk result (λ answer. IfErr answer (λ wait. retire_refusal_at reg.old worker (Name.Row key.now) ≡ Some wait)) }
     ensures none { IfOk result (λ answer. OnErr answer (reg.new ≡ reg.old)) }
     ensures err { OnErr result (reg.new ≡ reg.old) }
 {

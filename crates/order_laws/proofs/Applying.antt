@@ -37,9 +37,9 @@ use Rattle.plan_laws.proofs.Picked.{those_append}
 use Rattle.view_match.specs.Pairs.{pairs_of}
 use Rattle.apply_order.specs.Calls.{step_calls, steps_calls}
 use Rattle.apply_order.specs.Due.{due_steps}
-use Rattle.apply_order.specs.Naming.{Names, names_from, names_in}
+use Rattle.apply_order.specs.Naming.{OldIds, names_from, names_in}
 use Rattle.apply_order.specs.declared.ranks.Timed.{Timed}
-use Rattle.order_laws.specs.Apply.{AreNumbered, IsPlanned, calls_by, plan_calls}
+use Rattle.order_laws.specs.Apply.{ComeToNextIds, IsPlannedFrom, calls_by, plan_calls}
 use Rattle.order_laws.specs.Viewed.{things_in}
 use Rattle.order_laws.proofs.Called.{HasPlan, calls-all, gone-plan, made-plan, made-same, made_all, numbered-append, plans-all, set-plan}
 use Rattle.order_laws.proofs.Changes.{change_of, due-of, new_thing, old_name}
@@ -51,7 +51,7 @@ use Rattle.order_laws.proofs.Placed.{old-place}
 use Rattle.order_laws.proofs.Roomy.{made-count, used-count}
 use Rattle.order_laws.proofs.Shuffled.{in-shuffled}
 
-steps_append : (names : Names) (old : List (Object Rid)) (new : List (Object Vid)) (xs ys : List Timed) → steps_calls names old new (xs ++ ys) ≡ steps_calls names old new xs ++ steps_calls names old new ys
+steps_append : (names : OldIds) (old : List (Object Rid)) (new : List (Object Vid)) (xs ys : List Timed) → steps_calls names old new (xs ++ ys) ≡ steps_calls names old new xs ++ steps_calls names old new ys
 steps_append names old new [] ys = refl
 steps_append names old new (x ∷ xs) ys =
     ap (λ l. step_calls names old new x.step ++ l) (steps_append names old new xs ys)
@@ -60,7 +60,7 @@ steps_append names old new (x ∷ xs) ys =
 abbrev these : List PlanCall → List (Call PlanId)
 these cs = map (λ c. c.call) cs
 
-module _ {capacities : List ℕ} {made : ℕ} {old : List (Object Rid)} {new : List (Object Vid)} {things : List (Vid × Thing)} {plan : Plan} (x : IsPlanned capacities made old new things plan) where
+module _ {capacities : List ℕ} {made : ℕ} {old : List (Object Rid)} {new : List (Object Vid)} {things : List (Vid × Thing)} {plan : Plan} (x : IsPlannedFrom capacities made old new things plan) where
   abbrev O : Objects
   O = entries_of old
 
@@ -119,14 +119,14 @@ module _ {capacities : List ℕ} {made : ℕ} {old : List (Object Rid)} {new : L
           | inr r ↦ elim r [ inl d ↦ set-plan old x.chip x.view mode.Hitless names named t d | inr d ↦ gone-plan old x.chip x.view mode.Hitless names t d ]
         ]
 
-    module _ (ids : Vid → Rid) (numbered : AreNumbered ids made plan.calls) where
+    module _ (ids : Vid → Rid) (numbered : ComeToNextIds ids made plan.calls) where
       pub hitless-calls : PlansChanges (old_layout O N) (viewed things) ids made hitless_changes (plan_calls plan)
       hitless-calls =
           let names = names_from [] old new (pairs_of old new) in
           let all = calls-all names old new (old_layout O N) (viewed things) change steps in
           let same = calls-in mode.Hitless e ∙ sym all in
           subst (λ cs. PlansChanges (old_layout O N) (viewed things) ids made hitless_changes (these cs)) (sym same)
-          (plans-all (old_layout O N) (viewed things) change (λ (t : Timed). step_calls names old new t.step) ids steps made has_plan (subst (AreNumbered ids made) same numbered))
+          (plans-all (old_layout O N) (viewed things) change (λ (t : Timed). step_calls names old new t.step) ids steps made has_plan (subst (ComeToNextIds ids made) same numbered))
 
       pub applies-hitless : AppliesHitless capacities made O N hitless_changes [] (calls_by ids plan)
       applies-hitless =
@@ -177,22 +177,22 @@ module _ {capacities : List ℕ} {made : ℕ} {old : List (Object Rid)} {new : L
     pub cold-split : plan_calls plan ≡ these cold_front ++ these cold_back
     cold-split = ap these calls_are ∙ map-append (λ (c : PlanCall). c.call) cold_front cold_back
 
-    module _ (ids : Vid → Rid) (numbered : AreNumbered ids made plan.calls) where
-      cold_parts_numbered : AreNumbered ids made cold_front × AreNumbered ids (made_all made cold_front) cold_back
-      cold_parts_numbered = numbered-append ids cold_front cold_back made (subst (AreNumbered ids made) calls_are numbered)
+    module _ (ids : Vid → Rid) (numbered : ComeToNextIds ids made plan.calls) where
+      cold_parts_numbered : ComeToNextIds ids made cold_front × ComeToNextIds ids (made_all made cold_front) cold_back
+      cold_parts_numbered = numbered-append ids cold_front cold_back made (subst (ComeToNextIds ids made) calls_are numbered)
 
       pub cold-removing : PlansChanges (old_layout O N) (viewed things) ids made cold_removes (these cold_front)
       cold-removing =
           let all = calls-all [] old new (old_layout O N) (viewed things) change cut.front in
           subst (λ cs. PlansChanges (old_layout O N) (viewed things) ids made cold_removes (these cs)) all
-          (plans-all (old_layout O N) (viewed things) change (λ (t : Timed). step_calls [] old new t.step) ids cut.front made (λ t i. gone-plan old x.chip x.view mode.Cold [] t (cut.first t i)) (subst (AreNumbered ids made) (sym all) cold_parts_numbered.0))
+          (plans-all (old_layout O N) (viewed things) change (λ (t : Timed). step_calls [] old new t.step) ids cut.front made (λ t i. gone-plan old x.chip x.view mode.Cold [] t (cut.first t i)) (subst (ComeToNextIds ids made) (sym all) cold_parts_numbered.0))
 
       pub cold-making : PlansChanges nothing (viewed things) ids (made_after_all made (map (call_renamed (resolve ids)) (these cold_front))) cold_makes (these cold_back)
       cold-making =
           let all = calls-all [] old new nothing (viewed things) change cut.back in
           subst (λ n. PlansChanges nothing (viewed things) ids n cold_makes (these cold_back)) (sym (made-same (resolve ids) cold_front made))
           (subst (λ cs. PlansChanges nothing (viewed things) ids (made_all made cold_front) cold_makes (these cs)) all
-          (plans-all nothing (viewed things) change (λ (t : Timed). step_calls [] old new t.step) ids cut.back (made_all made cold_front) (λ t i. made-plan old x.chip x.view mode.Cold [] nothing (cold-named things) t (cut.last t i)) (subst (AreNumbered ids (made_all made cold_front)) (sym all) cold_parts_numbered.1)))
+          (plans-all nothing (viewed things) change (λ (t : Timed). step_calls [] old new t.step) ids cut.back (made_all made cold_front) (λ t i. made-plan old x.chip x.view mode.Cold [] nothing (cold-named things) t (cut.last t i)) (subst (ComeToNextIds ids (made_all made cold_front)) (sym all) cold_parts_numbered.1)))
 
       pub applies-cold : AppliesCold capacities made O N cold_removes cold_makes (map (call_renamed (resolve ids)) (these cold_front)) (map (call_renamed (resolve ids)) (these cold_back))
       applies-cold = cold-comes is-cold things ids (these cold_front) (these cold_back) cold-removing cold-making

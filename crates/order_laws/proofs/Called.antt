@@ -34,13 +34,13 @@ use Rattle.plan_laws.specs.Old.{old_layout, tag_of}
 use Rattle.plan_laws.specs.Plans.{PlanChange, Make, Remove, Set}
 use Rattle.plan_laws.proofs.Starting.{old-laid}
 use Rattle.view_match.specs.declared.key.NaturalKey.TheVariants as key
-use Rattle.view_match.specs.Keys.{key_of}
+use Rattle.view_match.specs.Keys.{natural_key_of}
 use Rattle.apply_order.specs.Attributes.{differing, set_call}
 use Rattle.apply_order.specs.Calls.{both_calls, make_calls, made_id, remove_calls, step_calls, steps_calls}
-use Rattle.apply_order.specs.Naming.{Names, new_id}
+use Rattle.apply_order.specs.Naming.{OldIds, new_id}
 use Rattle.apply_order.specs.declared.ranks.PlanStep.{PlanStep}
 use Rattle.apply_order.specs.declared.ranks.Timed.{Timed}
-use Rattle.order_laws.specs.Apply.{AreNumbered, made_by}
+use Rattle.order_laws.specs.Apply.{ComeToNextIds, made_by}
 use Rattle.order_laws.specs.Viewed.{IsViewOf, things_in}
 use Rattle.order_laws.proofs.Changes.{IsGoneDue, IsMadeDue, IsSetDue, change_of, due-pair, name-is, new_thing, old_name, place_old, thing-is}
 use Rattle.order_laws.proofs.Partners.{in-place}
@@ -64,7 +64,7 @@ made-same f (c ∷ cs) made =
     ap (λ b. made_after_all (cond b (made + 1) made) (map (call_renamed f) (map (λ (d : PlanCall). d.call) cs))) (makes_renamed f c.call)
     ∙ made-same f cs (made_by made c)
 
-pub numbered-append : (ids : Vid → Rid) (xs ys : List PlanCall) (made : ℕ) → AreNumbered ids made (xs ++ ys) → AreNumbered ids made xs × AreNumbered ids (made_all made xs) ys
+pub numbered-append : (ids : Vid → Rid) (xs ys : List PlanCall) (made : ℕ) → ComeToNextIds ids made (xs ++ ys) → ComeToNextIds ids made xs × ComeToNextIds ids (made_all made xs) ys
 numbered-append ids [] ys made h = (tt, h)
 numbered-append ids (x ∷ xs) ys made h = let rest = numbered-append ids xs ys (made_by made x) h.1 in ((h.0, rest.0), rest.1)
 
@@ -79,7 +79,7 @@ module _ (start : Layout Rid) (view : Layout Vid) (change : Timed → PlanChange
   all_calls [] = []
   all_calls (t ∷ ts) = calls t ++ all_calls ts
 
-  pub plans-all : (ids : Vid → Rid) (ts : List Timed) (made : ℕ) → ((t : Timed) → IsIn t ts → HasPlan t) → AreNumbered ids made (all_calls ts) → PlansChanges start view ids made (map change ts) (map (λ c. c.call) (all_calls ts))
+  pub plans-all : (ids : Vid → Rid) (ts : List Timed) (made : ℕ) → ((t : Timed) → IsIn t ts → HasPlan t) → ComeToNextIds ids made (all_calls ts) → PlansChanges start view ids made (map change ts) (map (λ c. c.call) (all_calls ts))
   plans-all ids [] made have numbered = refl
   plans-all ids (t ∷ ts) made have numbered =
       let parts = numbered-append ids (calls t) (all_calls ts) made numbered in
@@ -91,18 +91,18 @@ module _ (start : Layout Rid) (view : Layout Vid) (change : Timed → PlanChange
         here.plans,
         λ u is v w there same number.
             let c = here.makes u is v w there same number in
-            let first = subst (λ cs. AreNumbered ids made cs) c.1 parts.0 in
+            let first = subst (λ cs. ComeToNextIds ids made cs) c.1 parts.0 in
             first.0 v c.2,
         subst (λ n. PlansChanges start view ids n (map change ts) (map (λ (c : PlanCall). c.call) (all_calls ts))) (sym (made-same (resolve ids) (calls t) made)) rest,
       )
 
-pub calls-all : (names : Names) (old : List (Object Rid)) (new : List (Object Vid)) (start : Layout Rid) (view : Layout Vid) (change : Timed → PlanChange) (ts : List Timed) → all_calls start view change (λ t. step_calls names old new t.step) ts ≡ steps_calls names old new ts
+pub calls-all : (names : OldIds) (old : List (Object Rid)) (new : List (Object Vid)) (start : Layout Rid) (view : Layout Vid) (change : Timed → PlanChange) (ts : List Timed) → all_calls start view change (λ t. step_calls names old new t.step) ts ≡ steps_calls names old new ts
 calls-all names old new start view change [] = refl
 calls-all names old new start view change (t ∷ ts) = ap (λ cs. step_calls names old new t.step ++ cs) (calls-all names old new start view change ts)
 
 -- ---- the bodies of new objects, as a plan names them
 
-module _ (start : Layout Rid) (view : Layout Vid) (names : Names) (named : (v : Vid) (u : Thing) → view v u → has_number u ≡ true → plan_layout start view (new_id names v) u) where
+module _ (start : Layout Rid) (view : Layout Vid) (names : OldIds) (named : (v : Vid) (u : Thing) → view v u → has_number u ≡ true → plan_layout start view (new_id names v) u) where
   pub at-new : (o : Option ThingName) (v : Vid) → ((k : ThingName) → o ≡ Some k → is_numbered (name_kind k) ≡ true) → IsAt (Has view) o v → IsAt (Has (plan_layout start view)) o (new_id names v)
   at-new None v number h = tt
   at-new (Some k) v number h = (h.0, named v h.0 h.1 (ap (λ z. is_numbered (name_kind z)) h.2 ∙ number k refl), h.2)
@@ -118,7 +118,7 @@ module _ (start : Layout Rid) (view : Layout Vid) (names : Names) (named : (v : 
 
 -- ---- each step
 
-module _ {made : ℕ} (old : List (Object Rid)) {new : List (Object Vid)} {things : List (Vid × Thing)} (chip : IsListedChip made (entries_of old)) (view : IsViewOf things new) (m : Mode) (names : Names) where
+module _ {made : ℕ} (old : List (Object Rid)) {new : List (Object Vid)} {things : List (Vid × Thing)} (chip : IsListedChip made (entries_of old)) (view : IsViewOf things new) (m : Mode) (names : OldIds) where
   abbrev O : Objects
   O = entries_of old
 
@@ -175,7 +175,7 @@ module _ {made : ℕ} (old : List (Object Rid)) {new : List (Object Vid)} {thing
       let of = subst (λ w. IsBody (Has (old_layout O N)) w p.body) a p.was.of in
       let shown : thing_of O (p.entry, p.body) ≡ Some (thing.Port q) = ap (λ z. thing_of O (p.entry, z)) of.body_is in
       let is : p.shown ≡ thing.Port q = same_Some p.shown (thing.Port q) (sym p.shows ∙ shown) in
-      let keys : key.Port q.lanes ≡ key.Port r.lanes = ap key_of (sym is) ∙ p.key ∙ ap key_of b in
+      let keys : key.Port q.lanes ≡ key.Port r.lanes = ap natural_key_of (sym is) ∙ p.key ∙ ap natural_key_of b in
       lanes_of q.lanes r.lanes keys
     where
       lanes_of : (xs ys : List ℕ) → key.Port xs ≡ key.Port ys → xs ≡ ys

@@ -28,7 +28,7 @@ use Rattle.plan_laws.specs.Applied.{IsListedChip}
 use Rattle.plan_laws.specs.Calls.{viewed}
 use Rattle.plan_laws.specs.Old.{tag_of}
 use Rattle.plan_laws.specs.Plans.{PlanChange, Make, Remove, Set, AreRanked, subject}
-use Rattle.view_match.specs.Keys.{key_of, keys_of_objects}
+use Rattle.view_match.specs.Keys.{natural_key_of, keys_of_objects}
 use Rattle.view_match.specs.Pairs.{new_keys, pairs_of}
 use Rattle.view_match.specs.declared.key.NaturalKey.{NaturalKey}
 use Rattle.view_match.proofs.Paired.{from_none}
@@ -208,17 +208,17 @@ module _ {made : ℕ} (old : List (Object Rid)) {new : List (Object Vid)} {thing
   abbrev HasStep : PlanStep → Type 0
   HasStep s = (t : Timed) × IsIn t due × (t.step ≡ s)
 
-  new_in : (j : ℕ) (x : Vid × Thing) → slice_get things j ≡ Some x → (n : Object Vid) × IsIn (new_step m (Some (key_of x.1)) n j (partner_at (by_new ps) j)) due
+  new_in : (j : ℕ) (x : Vid × Thing) → slice_get things j ≡ Some x → (n : Object Vid) × IsIn (new_step m (Some (natural_key_of x.1)) n j (partner_at (by_new ps) j)) due
   new_in j x there =
       let n = thing-at old chip view j x there in
-      let step = due-new m (by_new ps) (new_keys new) new 0 j (Some (key_of x.1)) n.0 (key_new old chip view j x there) n.1 in
-      (n.0, in-left _ (new_steps m (by_new ps) (new_keys new) new 0) _ (subst (λ p. IsIn (new_step m (Some (key_of x.1)) n.0 p (partner_at (by_new ps) p)) (new_steps m (by_new ps) (new_keys new) new 0)) (from_none j) step))
+      let step = due-new m (by_new ps) (new_keys new) new 0 j (Some (natural_key_of x.1)) n.0 (key_new old chip view j x there) n.1 in
+      (n.0, in-left _ (new_steps m (by_new ps) (new_keys new) new 0) _ (subst (λ p. IsIn (new_step m (Some (natural_key_of x.1)) n.0 p (partner_at (by_new ps) p)) (new_steps m (by_new ps) (new_keys new) new 0)) (from_none j) step))
 
   pub made-due : (j : ℕ) (x : Vid × Thing) → slice_get things j ≡ Some x → partner_at (by_new ps) j ≡ None → HasStep (step.Make j)
-  made-due j x there free = let s = new_in j x there in (new_step m (Some (key_of x.1)) s.0 j (partner_at (by_new ps) j), s.1, ap (λ p. (new_step m (Some (key_of x.1)) s.0 j p).step) free)
+  made-due j x there free = let s = new_in j x there in (new_step m (Some (natural_key_of x.1)) s.0 j (partner_at (by_new ps) j), s.1, ap (λ p. (new_step m (Some (natural_key_of x.1)) s.0 j p).step) free)
 
   pub set-due : (i j : ℕ) (x : Vid × Thing) → slice_get things j ≡ Some x → partner_at (by_new ps) j ≡ Some i → HasStep (step.Set i j)
-  set-due i j x there with = let s = new_in j x there in (new_step m (Some (key_of x.1)) s.0 j (partner_at (by_new ps) j), s.1, ap (λ p. (new_step m (Some (key_of x.1)) s.0 j p).step) with)
+  set-due i j x there with = let s = new_in j x there in (new_step m (Some (natural_key_of x.1)) s.0 j (partner_at (by_new ps) j), s.1, ap (λ p. (new_step m (Some (natural_key_of x.1)) s.0 j p).step) with)
 
   pub gone-due : (i : ℕ) (e : Entry Rid) (b : Body Rid) → IsOldAt old chip view i e b → partner_at (by_old ps) i ≡ None → HasStep (step.Remove i)
   gone-due i e b w free =

@@ -39,7 +39,7 @@ use Rattle.plan_laws.proofs.Starting.{hops-there}
 use Rattle.plan_laws.proofs.Tagging.{all-groups}
 use Rattle.view_match.specs.declared.key.NaturalKey.{NaturalKey}
 use Rattle.view_match.specs.declared.key.NaturalKey.TheVariants as key
-use Rattle.view_match.specs.Keys.{key_of}
+use Rattle.view_match.specs.Keys.{natural_key_of}
 use Rattle.view_match.specs.Listed.{objects_as, rid_of}
 use Rattle.view_match.proofs.Free.{rest_distinct}
 use Rattle.order_laws.specs.Viewed.{IsMadeView}
@@ -55,17 +55,17 @@ head_apart None xs d k e i = absurd cc
 head_apart (Some l) xs d k e i = d.0 (subst (λ z. IsIn z (those xs)) (sym (same_Some l k e)) (in_those k xs i))
 
 abbrev keys_among : Objects → Objects → List (Option NaturalKey)
-keys_among objects os = map (option_map key_of) (things_among objects os)
+keys_among objects os = map (option_map natural_key_of) (things_among objects os)
 
-natural_key_among : (objects os : Objects) (o : Item) (t : Thing) → IsIn o os → thing_of objects o ≡ Some t → IsIn (Some (key_of t)) (keys_among objects os)
-natural_key_among objects os o t i is = subst (λ z. IsIn z (keys_among objects os)) (ap (option_map key_of) is) (in-map (option_map key_of) (things_among objects os) (thing_of objects o) (thing_in objects os o.0 o.1 i))
+natural_key_among : (objects os : Objects) (o : Item) (t : Thing) → IsIn o os → thing_of objects o ≡ Some t → IsIn (Some (natural_key_of t)) (keys_among objects os)
+natural_key_among objects os o t i is = subst (λ z. IsIn z (keys_among objects os)) (ap (option_map natural_key_of) is) (in-map (option_map natural_key_of) (things_among objects os) (thing_of objects o) (thing_in objects os o.0 o.1 i))
 
-keys_apart : (objects os : Objects) → AreDistinct (those (keys_among objects os)) → (o p : Item) (t u : Thing) → IsIn o os → IsIn p os → thing_of objects o ≡ Some t → thing_of objects p ≡ Some u → key_of t ≡ key_of u → o ≡ p
+keys_apart : (objects os : Objects) → AreDistinct (those (keys_among objects os)) → (o p : Item) (t u : Thing) → IsIn o os → IsIn p os → thing_of objects o ≡ Some t → thing_of objects p ≡ Some u → natural_key_of t ≡ natural_key_of u → o ≡ p
 keys_apart objects [] d o p t u i j x y same = elim i [ ]
 keys_apart objects (q ∷ os) d o p t u (inl a) (inl b) x y same = a ∙ sym b
-keys_apart objects (q ∷ os) d o p t u (inl a) (inr j) x y same = absurd (head_apart (option_map key_of (thing_of objects q)) (keys_among objects os) d (key_of u) (ap (λ z. option_map key_of (thing_of objects z)) (sym a) ∙ ap (option_map key_of) x ∙ ap Some same) (natural_key_among objects os p u j y))
-keys_apart objects (q ∷ os) d o p t u (inr i) (inl b) x y same = absurd (head_apart (option_map key_of (thing_of objects q)) (keys_among objects os) d (key_of t) (ap (λ z. option_map key_of (thing_of objects z)) (sym b) ∙ ap (option_map key_of) y ∙ ap Some (sym same)) (natural_key_among objects os o t i x))
-keys_apart objects (q ∷ os) d o p t u (inr i) (inr j) x y same = keys_apart objects os (rest_distinct (option_map key_of (thing_of objects q)) (keys_among objects os) d) o p t u i j x y same
+keys_apart objects (q ∷ os) d o p t u (inl a) (inr j) x y same = absurd (head_apart (option_map natural_key_of (thing_of objects q)) (keys_among objects os) d (natural_key_of u) (ap (λ z. option_map natural_key_of (thing_of objects z)) (sym a) ∙ ap (option_map natural_key_of) x ∙ ap Some same) (natural_key_among objects os p u j y))
+keys_apart objects (q ∷ os) d o p t u (inr i) (inl b) x y same = absurd (head_apart (option_map natural_key_of (thing_of objects q)) (keys_among objects os) d (natural_key_of t) (ap (λ z. option_map natural_key_of (thing_of objects z)) (sym b) ∙ ap (option_map natural_key_of) y ∙ ap Some (sym same)) (natural_key_among objects os o t i x))
+keys_apart objects (q ∷ os) d o p t u (inr i) (inr j) x y same = keys_apart objects os (rest_distinct (option_map natural_key_of (thing_of objects q)) (keys_among objects os) d) o p t u i j x y same
 
 -- ---- identifiers
 
@@ -122,7 +122,7 @@ module _ {made : ℕ} {S : Objects} {new : List (Object Vid)} (m : IsMadeView ma
   abbrev L : Layout Rid
   L = old_layout S N
 
-  one-key : (e f : Entry Rid) (b c : Body Rid) (t u : Thing) → body_at S e ≡ Some b → body_at S f ≡ Some c → thing_of S (e, b) ≡ Some t → thing_of S (f, c) ≡ Some u → key_of t ≡ key_of u → ◌≡◌ {A = Item} (e, b) (f, c)
+  one-key : (e f : Entry Rid) (b c : Body Rid) (t u : Thing) → body_at S e ≡ Some b → body_at S f ≡ Some c → thing_of S (e, b) ≡ Some t → thing_of S (f, c) ≡ Some u → natural_key_of t ≡ natural_key_of u → ◌≡◌ {A = Item} (e, b) (f, c)
   one-key e f b c t u x y p q same =
       keys_apart R R m.distinct (e, b) (f, c) t u (raw-found m.chip R m.same N e b x) (raw-found m.chip R m.same N f c y) (thing-raw m.chip R m.same N e b ∙ p) (thing-raw m.chip R m.same N f c ∙ q) same
 

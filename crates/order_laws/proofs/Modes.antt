@@ -22,7 +22,7 @@ use Rattle.plan_laws.proofs.Picked.{picked-in}
 use Rattle.plan_laws.proofs.Rooms.{makes-lacking}
 use Rattle.view_match.specs.Pairs.{pairs_of}
 use Rattle.apply_order.specs.Due.{due_steps}
-use Rattle.apply_order.specs.Room.{Fits}
+use Rattle.apply_order.specs.Room.{FitTogether}
 use Rattle.apply_order.specs.declared.ranks.Timed.{Timed}
 use Rattle.order_laws.specs.Viewed.{HaveOneLanes, IsViewOf, things_in}
 use Rattle.order_laws.proofs.Changes.{change_of, new_thing, old_name}
@@ -45,7 +45,7 @@ module _ {made : ℕ} (old : List (Object Rid)) {new : List (Object Vid)} {thing
   plan : IsViewPlan (λ c. 0) (old_things O N) N changes
   plan = plain-plan old chip view lanes due (IsPermutation-refl due)
 
-  pub told-fits : FitsHitless capacities O (chip_things O) N → Fits capacities old new (pairs_of old new)
+  pub told-fits : FitsHitless capacities O (chip_things O) N → FitTogether capacities old new (pairs_of old new)
   told-fits fits kind =
       let olds = used-count kind old in
       let news = made-count old chip view mode.Hitless (old_name (tag_of O N) O) kind due (IsPermutation-refl due) in
@@ -67,7 +67,7 @@ module _ {made : ℕ} (old : List (Object Rid)) {new : List (Object Vid)} {thing
         ]
       ]
 
-  pub fits-told : Fits capacities old new (pairs_of old new) → FitsHitless capacities O (chip_things O) N
+  pub fits-told : FitTogether capacities old new (pairs_of old new) → FitsHitless capacities O (chip_things O) N
   fits-told fits kind names lack =
       let olds = used-count kind old in
       let news = made-count old chip view mode.Hitless (old_name (tag_of O N) O) kind due (IsPermutation-refl due) in

@@ -35,7 +35,7 @@ use Rattle.plan_laws.proofs.Starting.{hops-there, rises}
 use Rattle.plan_laws.proofs.Tagging.{all-groups, stays-apart, tags-apart}
 use Rattle.view_match.specs.declared.key.NaturalKey.{NaturalKey}
 use Rattle.view_match.specs.declared.key.NaturalKey.TheVariants as key
-use Rattle.view_match.specs.Keys.{key_of, keys_of_objects}
+use Rattle.view_match.specs.Keys.{natural_key_of, keys_of_objects}
 use Rattle.view_match.specs.Paired.{ComesFirst, HasKey}
 use Rattle.view_match.specs.Pairs.{group_number, group_of}
 
@@ -54,16 +54,16 @@ place-in [] n x h = absurd cc
 place-in (y ∷ xs) zero x h = let same : y ≡ x = cc in inl (sym same)
 place-in (y ∷ xs) (suc n) x h = inr (place-in xs n x h)
 
-pub key_at : (objects os : Objects) (n : ℕ) (e : Entry Rid) (b : Body Rid) → slice_get os n ≡ Some (e, b) → slice_get (map (option_map key_of) (things_among objects os)) n ≡ Some (option_map key_of (thing_of objects (e, b)))
+pub key_at : (objects os : Objects) (n : ℕ) (e : Entry Rid) (b : Body Rid) → slice_get os n ≡ Some (e, b) → slice_get (map (option_map natural_key_of) (things_among objects os)) n ≡ Some (option_map natural_key_of (thing_of objects (e, b)))
 key_at objects [] n e b h = absurd cc
-key_at objects (o ∷ os) zero e b h = let same : o ≡ (e, b) = cc in ap (λ x. Some (option_map key_of (thing_of objects x))) same
+key_at objects (o ∷ os) zero e b h = let same : o ≡ (e, b) = cc in ap (λ x. Some (option_map natural_key_of (thing_of objects x))) same
 key_at objects (o ∷ os) (suc n) e b h = key_at objects os n e b h
 
-pub at_key : (objects os : Objects) (n : ℕ) (k : NaturalKey) → slice_get (map (option_map key_of) (things_among objects os)) n ≡ Some (Some k) → (o : Object) × (x : Thing) × (slice_get os n ≡ Some o) × (thing_of objects o ≡ Some x) × (key_of x ≡ k)
+pub at_key : (objects os : Objects) (n : ℕ) (k : NaturalKey) → slice_get (map (option_map natural_key_of) (things_among objects os)) n ≡ Some (Some k) → (o : Object) × (x : Thing) × (slice_get os n ≡ Some o) × (thing_of objects o ≡ Some x) × (natural_key_of x ≡ k)
 at_key objects [] n k h = absurd cc
 at_key objects (o ∷ os) zero k h = by (thing_of objects o) refl h
   where
-    by : (t : Option Thing) → thing_of objects o ≡ t → Some (option_map key_of t) ≡ Some (Some k) → (p : Object) × (x : Thing) × (Some o ≡ Some p) × (thing_of objects p ≡ Some x) × (key_of x ≡ k)
+    by : (t : Option Thing) → thing_of objects o ≡ t → Some (option_map natural_key_of t) ≡ Some (Some k) → (p : Object) × (x : Thing) × (Some o ≡ Some p) × (thing_of objects p ≡ Some x) × (natural_key_of x ≡ k)
     by None e same = absurd cc
     by (Some x) e same = (o, x, refl, e, cc)
 at_key objects (o ∷ os) (suc n) k h = at_key objects os n k h
@@ -83,7 +83,7 @@ key_name (key.Group hops) = name.Group hops
 key_name (key.GroupMember hops hop) = name.GroupMember hops hop
 key_name (key.Route prefix) = name.Route prefix
 
-name_by_key : (t : Thing) → key_name (key_of t) ≡ name_of t
+name_by_key : (t : Thing) → key_name (natural_key_of t) ≡ name_of t
 name_by_key (thing.Port p) = refl
 name_by_key (thing.Vlan v) = refl
 name_by_key (thing.BridgePort n) = refl
@@ -96,7 +96,7 @@ name_by_key (thing.Group hs) = refl
 name_by_key (thing.GroupMember hs h) = refl
 name_by_key (thing.Route p g) = refl
 
-pub key-name : (t u : Thing) → key_of t ≡ key_of u → name_of t ≡ name_of u
+pub key-name : (t u : Thing) → natural_key_of t ≡ natural_key_of u → name_of t ≡ name_of u
 key-name t u e = sym (name_by_key t) ∙ ap key_name e ∙ name_by_key u
 
 -- ---- the thing that an object shows, and its tagged one
@@ -125,10 +125,10 @@ module _ {made : ℕ} {objects : Objects} (chip : IsListedChip made objects) (ne
     at : slice_get objects place ≡ Some (e, b)
     key : HasKey objects place k
 
-  placed : (e : Entry Rid) (b : Body Rid) (x : Thing) → IsIn (e, b) objects → thing_of objects (e, b) ≡ Some x → IsPlaced e b (key_of x)
+  placed : (e : Entry Rid) (b : Body Rid) (x : Thing) → IsIn (e, b) objects → thing_of objects (e, b) ≡ Some x → IsPlaced e b (natural_key_of x)
   placed e b x i is =
       let n = in-place objects (e, b) i in
-      record { place = n.0; at = n.1; key = key_at objects objects n.0 e b n.1 ∙ ap (λ o. Some (option_map key_of o)) is }
+      record { place = n.0; at = n.1; key = key_at objects objects n.0 e b n.1 ∙ ap (λ o. Some (option_map natural_key_of o)) is }
 
   pub among : (e : Entry Rid) (b : Body Rid) → body_at objects e ≡ Some b → IsIn (e, b) objects
   among e b found =
@@ -247,7 +247,7 @@ module _ {made : ℕ} {objects : Objects} (chip : IsListedChip made objects) (ne
       omega (arith, low, mine, group_no, no_less, less))
 
   -- where an old object comes first of those of its key, and a new thing has that key, its tagged thing has the new one's name
-  pub paired-name : (e : Entry Rid) (b : Body Rid) (x w t : Thing) (i : ℕ) → slice_get objects i ≡ Some (e, b) → thing_of objects (e, b) ≡ Some x → thing_by (tagged tag) objects (e, b) ≡ Some w → IsIn t new → key_of x ≡ key_of t → ((n : ℕ) → HasKey objects n (key_of x) → ComesFirst objects i n) → name_of w ≡ name_of t
+  pub paired-name : (e : Entry Rid) (b : Body Rid) (x w t : Thing) (i : ℕ) → slice_get objects i ≡ Some (e, b) → thing_of objects (e, b) ≡ Some x → thing_by (tagged tag) objects (e, b) ≡ Some w → IsIn t new → natural_key_of x ≡ natural_key_of t → ((n : ℕ) → HasKey objects n (natural_key_of x) → ComesFirst objects i n) → name_of w ≡ name_of t
   paired-name e b x w t i at shows is wanted keys first =
       let found = found-in objects e b chip.whole.sorted (place-in objects i (e, b) at) in
       let same = key-name x t keys in
@@ -258,7 +258,7 @@ module _ {made : ℕ} {objects : Objects} (chip : IsListedChip made objects) (ne
               let g = y.0 in
               let t_is : t ≡ thing.Group (hops g) = is-group t (hops g) (sym same ∙ ap name_of y.3) in
               let there = all-groups objects g (ap (body_at objects) (sym y.1) ∙ found ∙ ap Some y.2) in
-              let single = first_group g i (at ∙ ap Some (ap₂ object y.1 y.2)) (λ n k. first n (k ∙ ap (λ u. Some (Some (key_of u))) (sym y.3))) in
+              let single = first_group g i (at ∙ ap Some (ap₂ object y.1 y.2)) (λ n k. first n (k ∙ ap (λ u. Some (Some (natural_key_of u))) (sym y.3))) in
               let stays = tag_is chip new view g (stays_if chip new view g there (subst (λ z. IsIn z new) t_is wanted) single) in
               ap name_of y.4 ∙ ap name.Group stays ∙ sym (ap name_of t_is)
           | inr y ↦
@@ -266,7 +266,7 @@ module _ {made : ℕ} {objects : Objects} (chip : IsListedChip made objects) (ne
               let t_is : t ≡ thing.GroupMember (hops g) y.2 = is-member t (hops g) y.2 (sym same ∙ ap name_of y.4) in
               let member : IsIn (thing.GroupMember (hops g) y.2) new = subst (λ z. IsIn z new) t_is wanted in
               let there = member_group chip new view e g y.1 y.2 (found ∙ ap Some y.3) (ap (λ z. thing_by (tagged tag) objects (e, z)) (sym y.3) ∙ is ∙ ap Some y.5) in
-              let single = first_member g y.1 y.2 e i (at ∙ ap Some (ap (object e) y.3)) there member (λ n k. first n (k ∙ ap (λ u. Some (Some (key_of u))) (sym y.4))) in
+              let single = first_member g y.1 y.2 e i (at ∙ ap Some (ap (object e) y.3)) there member (λ n k. first n (k ∙ ap (λ u. Some (Some (natural_key_of u))) (sym y.4))) in
               let stays = tag_is chip new view g (stays_if chip new view g there (new_group chip new view g y.2 member) single) in
               ap name_of y.5 ∙ ap (λ hs. name.GroupMember hs y.2) stays ∙ sym (ap name_of t_is)
         ]

@@ -35,7 +35,7 @@ use Rattle.plan_laws.proofs.Doubles.{shown_as}
 use Rattle.plan_laws.proofs.Starting.{old-laid}
 use Rattle.view_match.specs.declared.key.NaturalKey.{NaturalKey}
 use Rattle.view_match.specs.declared.key.NaturalKey.TheVariants as key
-use Rattle.view_match.specs.Keys.{key_of, keys_of_objects}
+use Rattle.view_match.specs.Keys.{natural_key_of, keys_of_objects}
 use Rattle.view_match.specs.Listed.{objects_as}
 use Rattle.view_match.specs.Paired.{HasKey}
 use Rattle.view_match.specs.Pairs.{best_from, pairs_of, partner_of}
@@ -91,7 +91,7 @@ one_place (o ∷ os) sorted (suc i) (suc j) e b c x y = ap suc (one_place os (so
 
 -- ---- names and keys
 
-by_name : (v t : Thing) → name_of v ≡ name_of t → ((p q : PortThing) → t ≡ thing.Port p → v ≡ thing.Port q → p.lanes ≡ q.lanes) → key_of v ≡ key_of t
+by_name : (v t : Thing) → name_of v ≡ name_of t → ((p q : PortThing) → t ≡ thing.Port p → v ≡ thing.Port q → p.lanes ≡ q.lanes) → natural_key_of v ≡ natural_key_of t
 by_name (thing.Port q) (thing.Port p) e f = ap key.Port (sym (f p q refl refl))
 by_name (thing.Vlan a) (thing.Vlan b) e f = let same : a ≡ b = cc in ap key.Vlan same
 by_name (thing.BridgePort a) (thing.BridgePort b) e f = let same : a ≡ b = cc in ap key.BridgePort same
@@ -141,13 +141,13 @@ module _ {made : ℕ} (old : List (Object Rid)) {new : List (Object Vid)} {thing
   pub new-place : (i j : ℕ) (x y : Vid × Thing) → slice_get things i ≡ Some x → slice_get things j ≡ Some y → name_of x.1 ≡ name_of y.1 → i ≡ j
   new-place = same_place things view.once
 
-  pub key_new : (j : ℕ) (x : Vid × Thing) → slice_get things j ≡ Some x → HasKey (entries_of (objects_as new)) j (key_of x.1)
-  key_new j x e = ap (λ ks. slice_get ks j) view.keys ∙ slice_get-map (λ (y : Vid × Thing). Some (key_of y.1)) things j ∙ ap (option_map (λ (y : Vid × Thing). Some (key_of y.1))) e
+  pub key_new : (j : ℕ) (x : Vid × Thing) → slice_get things j ≡ Some x → HasKey (entries_of (objects_as new)) j (natural_key_of x.1)
+  key_new j x e = ap (λ ks. slice_get ks j) view.keys ∙ slice_get-map (λ (y : Vid × Thing). Some (natural_key_of y.1)) things j ∙ ap (option_map (λ (y : Vid × Thing). Some (natural_key_of y.1))) e
 
-  new_key : (j : ℕ) (k : NaturalKey) → HasKey (entries_of (objects_as new)) j k → (x : Vid × Thing) × (slice_get things j ≡ Some x) × (key_of x.1 ≡ k)
-  new_key j k h = by (slice_get things j) refl (sym (slice_get-map (λ (y : Vid × Thing). Some (key_of y.1)) things j) ∙ sym (ap (λ ks. slice_get ks j) view.keys) ∙ h)
+  new_key : (j : ℕ) (k : NaturalKey) → HasKey (entries_of (objects_as new)) j k → (x : Vid × Thing) × (slice_get things j ≡ Some x) × (natural_key_of x.1 ≡ k)
+  new_key j k h = by (slice_get things j) refl (sym (slice_get-map (λ (y : Vid × Thing). Some (natural_key_of y.1)) things j) ∙ sym (ap (λ ks. slice_get ks j) view.keys) ∙ h)
     where
-      by : (o : Option (Vid × Thing)) → slice_get things j ≡ o → option_map (λ (y : Vid × Thing). Some (key_of y.1)) o ≡ Some (Some k) → (x : Vid × Thing) × (slice_get things j ≡ Some x) × (key_of x.1 ≡ k)
+      by : (o : Option (Vid × Thing)) → slice_get things j ≡ o → option_map (λ (y : Vid × Thing). Some (natural_key_of y.1)) o ≡ Some (Some k) → (x : Vid × Thing) × (slice_get things j ≡ Some x) × (natural_key_of x.1 ≡ k)
       by None e is = absurd cc
       by (Some x) e is = (x, e, cc)
 
@@ -204,7 +204,7 @@ module _ {made : ℕ} (old : List (Object Rid)) {new : List (Object Vid)} {thing
     pub same : name_of was.thing ≡ name_of now.1
     pub shown : Thing
     pub shows : thing_of O (entry, body) ≡ Some shown
-    pub key : key_of shown ≡ key_of now.1
+    pub key : natural_key_of shown ≡ natural_key_of now.1
 
   pub pair-at : (i j : ℕ) → IsIn (i, j) pairs → IsPair i j
   pair-at i j h =
@@ -237,7 +237,7 @@ module _ {made : ℕ} (old : List (Object Rid)) {new : List (Object Vid)} {thing
       let y = pair-at i k b in
       let objects : (x.entry, x.body) ≡ (y.entry, y.body) = same_Some (x.entry, x.body) (y.entry, y.body) (sym x.was.at ∙ y.was.at) in
       let shown : x.shown ≡ y.shown = same_Some x.shown y.shown (sym x.shows ∙ ap (thing_of O) objects ∙ y.shows) in
-      new-place j k x.now y.now x.there y.there (key-name x.now.1 y.now.1 (sym x.key ∙ ap key_of shown ∙ y.key))
+      new-place j k x.now y.now x.there y.there (key-name x.now.1 y.now.1 (sym x.key ∙ ap natural_key_of shown ∙ y.key))
 
   -- an old object and a new one of one name are paired
   module _ (lanes : HaveOneLanes O N) where
@@ -256,11 +256,11 @@ module _ {made : ℕ} (old : List (Object Rid)) {new : List (Object Vid)} {thing
     matched i j e b x n there same =
         let s = shown_as chip N view.view e b x.thing n.1 x.found x.is (new-in j n there) same in
         let seen : IsIn s.0 (chip_things O) = in_those s.0 (named O) (subst (λ z. IsIn z (named O)) s.1 (thing_in O O e b (place-in O i (e, b) x.at))) in
-        let keys : key_of s.0 ≡ key_of n.1 = by_name s.0 n.1 s.2 (λ p q t_is v_is.
+        let keys : natural_key_of s.0 ≡ natural_key_of n.1 = by_name s.0 n.1 s.2 (λ p q t_is v_is.
         lanes.same p q (subst (λ z. IsIn z N) t_is (new-in j n there)) (subst (λ z. IsIn z (chip_things O)) v_is seen) (inl (ap name_of (sym t_is) ∙ sym s.2 ∙ ap name_of v_is))) in
-        let has : HasKey O i (key_of n.1) = key_at O O i e b x.at ∙ ap (λ o. Some (option_map key_of o)) s.1 ∙ ap (λ k. Some (Some k)) keys in
-        let first = first_with (key_of n.1) i has in
-        let pair = paired-pairs old new first.0 j (record { key = key_of n.1; old_key = first.1.has; new_key = key_new j n there; least = first.1.first }) in
+        let has : HasKey O i (natural_key_of n.1) = key_at O O i e b x.at ∙ ap (λ o. Some (option_map natural_key_of o)) s.1 ∙ ap (λ k. Some (Some k)) keys in
+        let first = first_with (natural_key_of n.1) i has in
+        let pair = paired-pairs old new first.0 j (record { key = natural_key_of n.1; old_key = first.1.has; new_key = key_new j n there; least = first.1.first }) in
         let p = pair-at first.0 j pair in
         let news : p.now ≡ n = same_Some p.now n (sym p.there ∙ there) in
         let at : first.0 ≡ i = old-one first.0 i p.entry e p.body b p.was x (p.same ∙ ap (λ (z : Vid × Thing). name_of z.1) news ∙ sym same) in

@@ -16,7 +16,7 @@ use Rattle.sai_types.specs.declared.body.Entry.TheVariants as entry
 use Rattle.sai_types.specs.declared.body.Object.{Object}
 use Rattle.sai_types.specs.Alike.{IsIn}
 use Rattle.std.specs.List.{slice_get}
-use Rattle.apply_order.specs.Naming.{Names, names_from, with_entries, with_objects}
+use Rattle.apply_order.specs.Naming.{OldIds, names_from, with_entries, with_objects}
 use Rattle.apply_order.specs.Places.{Places, by_new, by_old, partner_at, with_new, with_old}
 
 -- ---- entries put for items
@@ -160,7 +160,7 @@ module _ (old : List (Object Rid)) (new : List (Object Vid)) where
   abbrev pub name_pair : ℕ × ℕ → Option (ℕ × Rid)
   name_pair p = object_pair (slice_get old p.0) (slice_get new p.1)
 
-  entries_put : (names : Names) (e : Entry Rid) (f : Entry Vid) → with_entries names e f ≡ put_one name_pair names (entry_pair e f)
+  entries_put : (names : OldIds) (e : Entry Rid) (f : Entry Vid) → with_entries names e f ≡ put_one name_pair names (entry_pair e f)
   entries_put names (entry.Oid r) (entry.Oid v) = refl
   entries_put names (entry.Oid r) (entry.Own ip) = refl
   entries_put names (entry.Oid r) (entry.Neigh w ip) = refl
@@ -169,12 +169,12 @@ module _ (old : List (Object Rid)) (new : List (Object Vid)) where
   entries_put names (entry.Neigh w ip) f = refl
   entries_put names (entry.Route p) f = refl
 
-  objects_put : (names : Names) (o : Option (Object Rid)) (n : Option (Object Vid)) → with_objects names o n ≡ put_one name_pair names (object_pair o n)
+  objects_put : (names : OldIds) (o : Option (Object Rid)) (n : Option (Object Vid)) → with_objects names o n ≡ put_one name_pair names (object_pair o n)
   objects_put names (Some o) (Some n) = entries_put names o.entry n.entry
   objects_put names (Some o) None = refl
   objects_put names None n = refl
 
-  names_put : (names : Names) (ps : List (ℕ × ℕ)) → names_from names old new ps ≡ puts name_pair names ps
+  names_put : (names : OldIds) (ps : List (ℕ × ℕ)) → names_from names old new ps ≡ puts name_pair names ps
   names_put names [] = refl
   names_put names (p ∷ ps) =
       ap (λ es. names_from es old new ps) (objects_put names (slice_get old p.0) (slice_get new p.1))

@@ -30,8 +30,8 @@ use Rattle.chip_layout.specs.Layout.{Has, Layout, has_number}
 use Rattle.chip_layout.specs.Renamed.{to_renamed}
 use Rattle.plan_laws.specs.Calls.{PlansSets, old_entry, plan_layout}
 use Rattle.plan_laws.proofs.Calling.{to_resolved}
-use Rattle.apply_order.specs.Attributes.{differing, is_old, is_target, set_call, unless}
-use Rattle.apply_order.specs.Naming.{Names, new_id}
+use Rattle.apply_order.specs.Attributes.{differing, is_old, is_same_target, set_call, where_differs}
+use Rattle.apply_order.specs.Naming.{OldIds, new_id}
 
 -- ---- what tests tell
 
@@ -54,27 +54,27 @@ module _ (by : Layout PlanId) (e : Entry Rid) where
   abbrev Sets : ℕ → List (Attr PlanId) → Thing → Thing → Type 0
   Sets place attrs u t = PlansSets by (old_entry e) place (attr_calls e attrs) u t
 
-  up_set : (lanes : List ℕ) (speed mtu : ℕ) (up up' : Bool) (b : Bool) (place : ℕ) → place ≤ 2 → beq up up' ≡ b → Sets place (unless b (attr.Up up')) (port lanes speed mtu up) (port lanes speed mtu up')
+  up_set : (lanes : List ℕ) (speed mtu : ℕ) (up up' : Bool) (b : Bool) (place : ℕ) → place ≤ 2 → beq up up' ≡ b → Sets place (where_differs b (attr.Up up')) (port lanes speed mtu up) (port lanes speed mtu up')
   up_set lanes speed mtu up up' true place low h = ap (port lanes speed mtu) (bool_exact up up' h)
   up_set lanes speed mtu up up' false place low h = (attr.Up up', port lanes speed mtu up', refl, refl, low, refl)
 
-  mtu_set : (lanes : List ℕ) (speed mtu mtu' : ℕ) (up up' : Bool) (b : Bool) (place : ℕ) → place ≤ 1 → (mtu == mtu') ≡ b → Sets place (unless b (attr.Mtu mtu') ++ unless (beq up up') (attr.Up up')) (port lanes speed mtu up) (port lanes speed mtu' up')
+  mtu_set : (lanes : List ℕ) (speed mtu mtu' : ℕ) (up up' : Bool) (b : Bool) (place : ℕ) → place ≤ 1 → (mtu == mtu') ≡ b → Sets place (where_differs b (attr.Mtu mtu') ++ where_differs (beq up up') (attr.Up up')) (port lanes speed mtu up) (port lanes speed mtu' up')
   mtu_set lanes speed mtu mtu' up up' true place low h =
       let same : mtu ≡ mtu' = eqb-true mtu mtu' h in
-      subst (λ m. Sets place (unless (beq up up') (attr.Up up')) (port lanes speed m up) (port lanes speed mtu' up')) (sym same) (up_set lanes speed mtu' up up' (beq up up') place (omega (arith, low)) refl)
+      subst (λ m. Sets place (where_differs (beq up up') (attr.Up up')) (port lanes speed m up) (port lanes speed mtu' up')) (sym same) (up_set lanes speed mtu' up up' (beq up up') place (omega (arith, low)) refl)
   mtu_set lanes speed mtu mtu' up up' false place low h = (attr.Mtu mtu', port lanes speed mtu' up, refl, refl, low, up_set lanes speed mtu' up up' (beq up up') 2 (omega arith) refl)
 
-  speed_set : (lanes : List ℕ) (speed speed' mtu mtu' : ℕ) (up up' : Bool) (b : Bool) → (speed == speed') ≡ b → Sets 0 (unless b (attr.Speed speed') ++ unless (mtu == mtu') (attr.Mtu mtu') ++ unless (beq up up') (attr.Up up')) (port lanes speed mtu up) (port lanes speed' mtu' up')
+  speed_set : (lanes : List ℕ) (speed speed' mtu mtu' : ℕ) (up up' : Bool) (b : Bool) → (speed == speed') ≡ b → Sets 0 (where_differs b (attr.Speed speed') ++ where_differs (mtu == mtu') (attr.Mtu mtu') ++ where_differs (beq up up') (attr.Up up')) (port lanes speed mtu up) (port lanes speed' mtu' up')
   speed_set lanes speed speed' mtu mtu' up up' true h =
       let same : speed ≡ speed' = eqb-true speed speed' h in
-      subst (λ m. Sets 0 (unless (mtu == mtu') (attr.Mtu mtu') ++ unless (beq up up') (attr.Up up')) (port lanes m mtu up) (port lanes speed' mtu' up')) (sym same) (mtu_set lanes speed' mtu mtu' up up' (mtu == mtu') 0 (omega arith) refl)
+      subst (λ m. Sets 0 (where_differs (mtu == mtu') (attr.Mtu mtu') ++ where_differs (beq up up') (attr.Up up')) (port lanes m mtu up) (port lanes speed' mtu' up')) (sym same) (mtu_set lanes speed' mtu mtu' up up' (mtu == mtu') 0 (omega arith) refl)
   speed_set lanes speed speed' mtu mtu' up up' false h = (attr.Speed speed', port lanes speed' mtu up, refl, refl, omega arith, mtu_set lanes speed' mtu mtu' up up' (mtu == mtu') 1 (omega arith) refl)
 
-  tagging_set : (v n : ℕ) (g g' : Tagging) (b : Bool) → tagging_eq.ghosts.eq g g' ≡ b → Sets 0 (unless b (attr.Tagging g')) (thing.VlanMember v n g) (thing.VlanMember v n g')
+  tagging_set : (v n : ℕ) (g g' : Tagging) (b : Bool) → tagging_eq.ghosts.eq g g' ≡ b → Sets 0 (where_differs b (attr.Tagging g')) (thing.VlanMember v n g) (thing.VlanMember v n g')
   tagging_set v n g g' true h = ap (thing.VlanMember v n) (tagging_exact g g' h)
   tagging_set v n g g' false h = (attr.Tagging g', thing.VlanMember v n g', refl, refl, omega arith, refl)
 
-  mac_set : (h : Hop) (m m' : Mac) (b : Bool) → mac_eq.ghosts.eq m m' ≡ b → Sets 0 (unless b (attr.Mac m')) (thing.Neighbor h m) (thing.Neighbor h m')
+  mac_set : (h : Hop) (m m' : Mac) (b : Bool) → mac_eq.ghosts.eq m m' ≡ b → Sets 0 (where_differs b (attr.Mac m')) (thing.Neighbor h m) (thing.Neighbor h m')
   mac_set h m m' true is = ap (thing.Neighbor h) (mac_exact m m' is)
   mac_set h m m' false is = (attr.Mac m', thing.Neighbor h m', refl, refl, omega arith, refl)
 
@@ -82,7 +82,7 @@ old_id : (r : Rid) (p : PlanId) → is_old r p ≡ true → p ≡ plan_id.Old r
 old_id r (plan_id.Old s) h = ap plan_id.Old (sym (id-exact r s h))
 old_id r (plan_id.New v) h = absurd (false≢true h)
 
-module _ (start : Layout Rid) (ids : (i : Rid) (t u : Thing) → start i t → start i u → has_number t ≡ true → has_number u ≡ true → t ≡ u) (view : Layout Vid) (names : Names) where
+module _ (start : Layout Rid) (ids : (i : Rid) (t u : Thing) → start i t → start i u → has_number t ≡ true → has_number u ≡ true → t ≡ u) (view : Layout Vid) (names : OldIds) where
   abbrev by : Layout PlanId
   by = plan_layout start view
 
@@ -99,15 +99,15 @@ module _ (start : Layout Rid) (ids : (i : Rid) (t u : Thing) → start i t → s
       one_name k l r x y a (subst (λ z. Has start z r) at.2 at.1.1)
 
   -- a route's old target is the new one where a plan names it so
-  target : (p : Prefix) (g g' : Goal) (i : Rid) (q : PlanId) → IsAt (Has start) (goal_name g) i → IsAt (Has by) (goal_name g') q → is_target (to_with g i) (to_with g' q) ≡ true → g ≡ g'
+  target : (p : Prefix) (g g' : Goal) (i : Rid) (q : PlanId) → IsAt (Has start) (goal_name g) i → IsAt (Has by) (goal_name g') q → is_same_target (to_with g i) (to_with g' q) ≡ true → g ≡ g'
   target p goal.Drop goal.Drop i q a b h = refl
   target p (goal.Direct x) (goal.Direct y) i q a b h = let same = at_old (name.Rif x) (name.Rif y) i q refl refl a b h in let is : x ≡ y = cc in ap goal.Direct is
   target p (goal.Via x) (goal.Via y) i q a b h = let same = at_old (name.NextHop x) (name.NextHop y) i q refl refl a b h in let is : x ≡ y = cc in ap goal.Via is
   target p (goal.Group x) (goal.Group y) i q a b h = let same = at_old (name.Group x) (name.Group y) i q refl refl a b h in let is : x ≡ y = cc in ap goal.Group is
   target p _ _ i q a b h = absurd (false≢true h)
 
-  route_set : (e : Entry Rid) (p : Prefix) (g g' : Goal) (i : Rid) (q : PlanId) (x : _) → x ≡ to_with g' q → IsAt (Has start) (goal_name g) i → IsAt (Has by) (goal_name g') q → (b : Bool) → is_target (to_with g i) x ≡ b → PlansSets by (old_entry e) 0 (attr_calls e (unless b (attr.To x))) (thing.Route p g) (thing.Route p g')
-  route_set e p g g' i q x is a b true h = ap (thing.Route p) (target p g g' i q a b (ap (is_target (to_with g i)) (sym is) ∙ h))
+  route_set : (e : Entry Rid) (p : Prefix) (g g' : Goal) (i : Rid) (q : PlanId) (x : _) → x ≡ to_with g' q → IsAt (Has start) (goal_name g) i → IsAt (Has by) (goal_name g') q → (b : Bool) → is_same_target (to_with g i) x ≡ b → PlansSets by (old_entry e) 0 (attr_calls e (where_differs b (attr.To x))) (thing.Route p g) (thing.Route p g')
+  route_set e p g g' i q x is a b true h = ap (thing.Route p) (target p g g' i q a b (ap (is_same_target (to_with g i)) (sym is) ∙ h))
   route_set e p g g' i q x is a b false h = (attr.To x, thing.Route p g', (g', q, b, is, refl), refl, omega arith, refl)
 
   -- ---- all kinds
@@ -122,14 +122,14 @@ module _ (start : Layout Rid) (ids : (i : Rid) (t u : Thing) → start i t → s
   sets-lead (thing.VlanMember v n g) (thing.VlanMember v' n' g') same lanes e i j k l a b =
       let one : v ≡ v' = cc in
       let two : n ≡ n' = cc in
-      subst (λ x. PlansSets by (old_entry e) 0 (attr_calls e (unless (tagging_eq.ghosts.eq g g') (attr.Tagging g'))) (thing.VlanMember v n g) (thing.VlanMember x n' g')) one (subst (λ x. PlansSets by (old_entry e) 0 (attr_calls e (unless (tagging_eq.ghosts.eq g g') (attr.Tagging g'))) (thing.VlanMember v n g) (thing.VlanMember v x g')) two (tagging_set by e v n g g' (tagging_eq.ghosts.eq g g') refl))
+      subst (λ x. PlansSets by (old_entry e) 0 (attr_calls e (where_differs (tagging_eq.ghosts.eq g g') (attr.Tagging g'))) (thing.VlanMember v n g) (thing.VlanMember x n' g')) one (subst (λ x. PlansSets by (old_entry e) 0 (attr_calls e (where_differs (tagging_eq.ghosts.eq g g') (attr.Tagging g'))) (thing.VlanMember v n g) (thing.VlanMember v x g')) two (tagging_set by e v n g g' (tagging_eq.ghosts.eq g g') refl))
   sets-lead (thing.Neighbor h m) (thing.Neighbor h' m') same lanes e i j k l a b =
       let is : h ≡ h' = cc in
-      subst (λ x. PlansSets by (old_entry e) 0 (attr_calls e (unless (mac_eq.ghosts.eq m m') (attr.Mac m'))) (thing.Neighbor h m) (thing.Neighbor x m')) is (mac_set by e h m m' (mac_eq.ghosts.eq m m') refl)
+      subst (λ x. PlansSets by (old_entry e) 0 (attr_calls e (where_differs (mac_eq.ghosts.eq m m') (attr.Mac m'))) (thing.Neighbor h m) (thing.Neighbor x m')) is (mac_set by e h m m' (mac_eq.ghosts.eq m m') refl)
   sets-lead (thing.Route p g) (thing.Route p' g') same lanes e i j k l a b =
       let is : p ≡ p' = cc in
       let x = to_renamed (new_id names) (to_with g' k) in
-      subst (λ z. PlansSets by (old_entry e) 0 (attr_calls e (unless (is_target (to_with g i) x) (attr.To x))) (thing.Route p g) (thing.Route z g')) is (route_set e p g g' i (new_id names k) x (to_resolved (new_id names) g' k) a b (is_target (to_with g i) x) refl)
+      subst (λ z. PlansSets by (old_entry e) 0 (attr_calls e (where_differs (is_same_target (to_with g i) x) (attr.To x))) (thing.Route p g) (thing.Route z g')) is (route_set e p g g' i (new_id names k) x (to_resolved (new_id names) g' k) a b (is_same_target (to_with g i) x) refl)
   sets-lead (thing.Vlan v) (thing.Vlan v') same lanes e i j k l a b = let is : v ≡ v' = cc in ap thing.Vlan is
   sets-lead (thing.BridgePort n) (thing.BridgePort n') same lanes e i j k l a b = let is : n ≡ n' = cc in ap thing.BridgePort is
   sets-lead (thing.Rif x) (thing.Rif y) same lanes e i j k l a b = let is : x ≡ y = cc in ap thing.Rif is

@@ -42,7 +42,7 @@ use Rattle.plan_laws.specs.Applied.{IsView, chip_things}
 use Rattle.plan_laws.specs.Calls.{viewed}
 use Rattle.plan_laws.specs.Old.{old_layout, old_things, tag_of}
 use Rattle.plan_laws.proofs.Starting.{group-seen, group-there, hops-rise, hops-same, old-laid, old-named, old-seen, old-tagged, seen-old}
-use Rattle.view_match.specs.Keys.{key_of}
+use Rattle.view_match.specs.Keys.{natural_key_of}
 use Rattle.view_match.specs.Listed.{object_as, objects_as, rid_of}
 use Rattle.view_match.specs.Pairs.{new_keys}
 use Rattle.order_laws.specs.Viewed.{AreObjects, IsEntry, IsMadeView, IsViewOf, things_in}
@@ -167,14 +167,14 @@ module _ {made : ℕ} {S : Objects} {new : List (Object Vid)} (m : IsMadeView ma
       let i = all o (inl refl) in
       subst (λ z. AreObjects (viewed laid_things) (those (z ∷ map thing_at os)) (o ∷ os)) (sym (at-is o i)) (body-new o i, entry-new o i, objects-new os (λ p j. all p (inr j)))
 
-  key-is : (o : Object Vid) → (i : IsIn o new) → option_map key_of (thing_of R (item_of o)) ≡ Some (key_of (each o i).thing)
-  key-is o i = ap (option_map key_of) (thing-raw m.chip R m.same N (object_as o).entry (object_as o).body ∙ same-thing m (object_as o).entry (object_as o).body (found o i) ∙ (each o i).is)
+  key-is : (o : Object Vid) → (i : IsIn o new) → option_map natural_key_of (thing_of R (item_of o)) ≡ Some (natural_key_of (each o i).thing)
+  key-is o i = ap (option_map natural_key_of) (thing-raw m.chip R m.same N (object_as o).entry (object_as o).body ∙ same-thing m (object_as o).entry (object_as o).body (found o i) ∙ (each o i).is)
 
-  keys-new : (os : List (Object Vid)) → ((o : Object Vid) → IsIn o os → IsIn o new) → map (option_map key_of) (things_among R (entries_of (objects_as os))) ≡ map (λ x. Some (key_of x.1)) (those (map thing_at os))
+  keys-new : (os : List (Object Vid)) → ((o : Object Vid) → IsIn o os → IsIn o new) → map (option_map natural_key_of) (things_among R (entries_of (objects_as os))) ≡ map (λ x. Some (natural_key_of x.1)) (those (map thing_at os))
   keys-new [] all = refl
   keys-new (o ∷ os) all =
       let i = all o (inl refl) in
-      ap₂ (λ x xs. x ∷ xs) (key-is o i) (keys-new os (λ p j. all p (inr j))) ∙ ap (λ z. map (λ (x : Vid × Thing). Some (key_of x.1)) (those (z ∷ map thing_at os))) (sym (at-is o i))
+      ap₂ (λ x xs. x ∷ xs) (key-is o i) (keys-new os (λ p j. all p (inr j))) ∙ ap (λ z. map (λ (x : Vid × Thing). Some (natural_key_of x.1)) (those (z ∷ map thing_at os))) (sym (at-is o i))
 
   -- ---- the things of the view
 
@@ -300,14 +300,14 @@ module _ {made : ℕ} {S : Objects} {new : List (Object Vid)} (m : IsMadeView ma
   those_some f [] = refl
   those_some f (x ∷ xs) = ap (λ l. f x ∷ l) (those_some f xs)
 
-  keys-are : new_keys new ≡ map (λ x. Some (key_of x.1)) laid_things
+  keys-are : new_keys new ≡ map (λ x. Some (natural_key_of x.1)) laid_things
   keys-are = keys-new new (λ o i. i)
 
-  keys-apart : AreDistinct (map (λ x. key_of x.1) laid_things)
-  keys-apart = subst AreDistinct (ap those keys-are ∙ those_some (λ (x : Vid × Thing). key_of x.1) laid_things) m.distinct
+  keys-apart : AreDistinct (map (λ x. natural_key_of x.1) laid_things)
+  keys-apart = subst AreDistinct (ap those keys-are ∙ those_some (λ (x : Vid × Thing). natural_key_of x.1) laid_things) m.distinct
 
   names-apart : AreDistinct (map (λ x. name_of x.1) laid_things)
-  names-apart = distinct-by (λ (x : Vid × Thing). key_of x.1) (λ (x : Vid × Thing). name_of x.1) laid_things (λ x y i j e. ap key_of (is-view.named.one x.1 y.1 (in-map (λ (z : Vid × Thing). z.1) laid_things x i) (in-map (λ (z : Vid × Thing). z.1) laid_things y j) e)) keys-apart
+  names-apart = distinct-by (λ (x : Vid × Thing). natural_key_of x.1) (λ (x : Vid × Thing). name_of x.1) laid_things (λ x y i j e. ap natural_key_of (is-view.named.one x.1 y.1 (in-map (λ (z : Vid × Thing). z.1) laid_things x i) (in-map (λ (z : Vid × Thing). z.1) laid_things y j) e)) keys-apart
 
   one-id : (v : Vid) (t u : Thing) → IsIn (v, t) laid_things → IsIn (v, u) laid_things → has_number t ≡ true → has_number u ≡ true → t ≡ u
   one-id v t u i j x y =

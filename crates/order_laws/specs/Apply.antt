@@ -13,7 +13,7 @@ use Rattle.sai_types.specs.After.{makes_id}
 use Rattle.sai_types.specs.Objects.{used}
 use Rattle.sai_types.specs.Refusal.{capacity_of}
 use Rattle.sai_chip.specs.Naming.{entries_of}
-use Rattle.chip_layout.specs.Layout.{next_id}
+use Rattle.chip_layout.specs.Layout.{next_rid}
 use Rattle.chip_layout.specs.Renamed.{call_renamed}
 use Rattle.plan_laws.specs.Applied.{IsListedChip}
 use Rattle.plan_laws.specs.Calls.{resolve}
@@ -27,9 +27,9 @@ abbrev pub made_by : ℕ → PlanCall → ℕ
 made_by made c = if makes_id c.call then made + 1 else made
 
 -- what a call of the plan makes comes to the chip's next identifier
-abbrev pub AreNumbered : (Vid → Rid) → ℕ → List PlanCall → Type 0
-AreNumbered ids made [] = Unit {0}
-AreNumbered ids made (c ∷ cs) = ((v : Vid) → c.makes ≡ Some v → ids v ≡ next_id made) × AreNumbered ids (made_by made c) cs
+abbrev pub ComeToNextIds : (Vid → Rid) → ℕ → List PlanCall → Type 0
+ComeToNextIds ids made [] = Unit {0}
+ComeToNextIds ids made (c ∷ cs) = ((v : Vid) → c.makes ≡ Some v → ids v ≡ next_rid made) × ComeToNextIds ids (made_by made c) cs
 
 -- the calls of a plan, as it names objects
 abbrev pub plan_calls : Plan → List (Call PlanId)
@@ -40,7 +40,7 @@ abbrev pub calls_by : (Vid → Rid) → Plan → List (Call Rid)
 calls_by ids plan = map (call_renamed (resolve ids)) (plan_calls plan)
 
 -- the plan from the objects of a chip that legal calls made to a new view, where the chip has room for the old objects, and for the new ones
-pub record IsPlanned (capacities : List ℕ) (made : ℕ) (old : List (Object Rid)) (new : List (Object Vid)) (things : List (Vid × Thing)) (plan : Plan) : Type 0 where
+pub record IsPlannedFrom (capacities : List ℕ) (made : ℕ) (old : List (Object Rid)) (new : List (Object Vid)) (things : List (Vid × Thing)) (plan : Plan) : Type 0 where
   pub chip : IsListedChip made (entries_of old)
   pub view : IsViewOf things new
   pub lanes : HaveOneLanes (entries_of old) (things_in things)
@@ -50,5 +50,5 @@ pub record IsPlanned (capacities : List ℕ) (made : ℕ) (old : List (Object Ri
 
 -- its calls, where what they make comes to these identifiers
 pub record IsApply (capacities : List ℕ) (made : ℕ) (old : List (Object Rid)) (new : List (Object Vid)) (things : List (Vid × Thing)) (plan : Plan) (ids : Vid → Rid) : Type 0 where
-  pub of : IsPlanned capacities made old new things plan
-  pub numbered : AreNumbered ids made plan.calls
+  pub of : IsPlannedFrom capacities made old new things plan
+  pub numbered : ComeToNextIds ids made plan.calls

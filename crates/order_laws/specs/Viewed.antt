@@ -19,7 +19,7 @@ use Rattle.chip_layout.specs.Layout.{Has, Layout, has_number}
 use Rattle.plan_laws.specs.Applied.{IsListedChip, IsView, chip_things}
 use Rattle.plan_laws.specs.Calls.{viewed}
 use Rattle.plan_laws.specs.Views.{LanesApart}
-use Rattle.view_match.specs.Keys.{key_of}
+use Rattle.view_match.specs.Keys.{natural_key_of}
 use Rattle.view_match.specs.Listed.{objects_as}
 use Rattle.view_match.specs.Pairs.{new_keys}
 
@@ -42,7 +42,7 @@ AreObjects view _ _ = ⊥
 pub record IsViewOf (things : List (Vid × Thing)) (new : List (Object Vid)) : Type 0 where
   pub view : IsView (things_in things)
   pub objects : AreObjects (viewed things) things new
-  pub keys : new_keys new ≡ map (λ x. Some (key_of x.1)) things
+  pub keys : new_keys new ≡ map (λ x. Some (natural_key_of x.1)) things
   pub once : AreDistinct (map (λ x. name_of x.1) things)
   pub ids : (v : Vid) (t u : Thing) → IsIn (v, t) things → IsIn (v, u) things → has_number t ≡ true → has_number u ≡ true → t ≡ u
   pub lanes : LanesApart [] (things_in things)

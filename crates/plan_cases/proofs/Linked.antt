@@ -28,13 +28,13 @@ use Rattle.asic_view.specs.View.{IsLegalOn, IsNew, ViewObjects, after_create, as
 use Rattle.asic_view.proofs.Same.{same-objects}
 use Rattle.chip_layout.specs.Counted.{AreDistinct}
 use Rattle.view_match.specs.Pairs.{new_keys}
-use Rattle.syncd_core.specs.Begun.{CanBegin, objects_in}
+use Rattle.syncd_core.specs.Begun.{CanBegin, objects_listed}
 use Rattle.syncd_core.specs.Synced.{Calls, CanCall, SyncState, TakesList, with_temporary}
 use Rattle.syncd_core.specs.declared.answer.Listed.TheVariants as listed
-use Rattle.plan_cases.specs.Tested.{AreLinked, IsWholeChip, answer_of}
+use Rattle.plan_cases.specs.Tested.{AreLinked, IsWholeChip, tested_answer}
 
 -- a call that was answered so took effect
-takes_answered_effect : (a a' : ChipState) (c : Call Rid) (m : Option Rid) → IsAnswered a c (answer_of m) a' → TakesEffect a c a'
+takes_answered_effect : (a a' : ChipState) (c : Call Rid) (m : Option Rid) → IsAnswered a c (tested_answer m) a' → TakesEffect a c a'
 takes_answered_effect a a' c None h = h.answer.0
 takes_answered_effect a a' c (Some r) h = h.answer.0
 
@@ -46,7 +46,7 @@ made-grown : (cs : List (Call Rid)) (c : Call Rid) → count_by makes_id (cs ++ 
 made-grown cs c = sum_by-append (λ x. cond (makes_id x) 1 0) cs (c ∷ []) ∙ count-one (makes_id c) (count_by makes_id cs)
 
 -- a call leaves whole what legal calls made
-pub whole-follows : (a a' : ChipState) (c : Call Rid) (m : Option Rid) → IsWholeChip a → IsAnswered a c (answer_of m) a' → IsWholeChip a'
+pub whole-follows : (a a' : ChipState) (c : Call Rid) (m : Option Rid) → IsWholeChip a → IsAnswered a c (tested_answer m) a' → IsWholeChip a'
 whole-follows a a' c m whole h =
     let x = takes_answered_effect a a' c m h in
     subst (λ es. IsWhole (count_by makes_id es) a'.objects) (sym x.effects)
@@ -55,7 +55,7 @@ whole-follows a a' c m whole h =
     (whole-after_call a.capacities (count_by makes_id a.effects) a.objects c whole x.legal)))
 
 -- a VLAN that is made and removed again leaves the objects as they were
-pub used-up : (a b c : ChipState) (vlan : ℕ) (r : Rid) (m : Option Rid) → IsWholeChip a → IsAnswered a (call.Create (body.Vlan vlan)) (answer_of (Some r)) b → IsAnswered b (call.Remove (entry.Oid r)) (answer_of m) c → c.objects ≡ a.objects
+pub used-up : (a b c : ChipState) (vlan : ℕ) (r : Rid) (m : Option Rid) → IsWholeChip a → IsAnswered a (call.Create (body.Vlan vlan)) (tested_answer (Some r)) b → IsAnswered b (call.Remove (entry.Oid r)) (tested_answer m) c → c.objects ≡ a.objects
 used-up a b c vlan r m whole made gone = same-objects c.objects a.objects (whole-follows b c _ m middle gone).sorted whole.sorted found
   where
     middle : IsWholeChip b
@@ -98,23 +98,23 @@ linked-empty s chip temporary objects effects = record {
   whole = subst (λ es. IsWhole (count_by makes_id es) chip.objects) (sym effects) (subst (IsWhole 0) (sym objects) whole-empty);
 }
 
-linked-legal : (s : SyncState) (objects : List (Object Vid)) (chip chip' : ChipState) (b : Body Vid) (m : Option Rid) (linked : AreLinked s objects chip) → IsAnswered chip (call_renamed as_rid (call.Create b)) (answer_of m) chip' → IsLegalOn linked.view (call.Create b)
+linked-legal : (s : SyncState) (objects : List (Object Vid)) (chip chip' : ChipState) (b : Body Vid) (m : Option Rid) (linked : AreLinked s objects chip) → IsAnswered chip (call_renamed as_rid (call.Create b)) (tested_answer m) chip' → IsLegalOn linked.view (call.Create b)
 linked-legal s objects chip chip' b m linked h = record {
   capacities = chip.capacities;
   legal = subst (λ os. IsLegal chip.capacities os (call_renamed as_rid (call.Create b))) linked.same (takes_answered_effect chip chip' _ m h).legal;
 }
 
 -- what the chip made can be made in the view
-pub can-call : (s : SyncState) (objects : List (Object Vid)) (chip chip' : ChipState) (b : Body Vid) (m : Option Rid) → AreLinked s objects chip → IsAnswered chip (call_renamed as_rid (call.Create b)) (answer_of m) chip' → CanCall s s.temporary chip' (call.Create b)
+pub can-call : (s : SyncState) (objects : List (Object Vid)) (chip chip' : ChipState) (b : Body Vid) (m : Option Rid) → AreLinked s objects chip → IsAnswered chip (call_renamed as_rid (call.Create b)) (tested_answer m) chip' → CanCall s s.temporary chip' (call.Create b)
 can-call s objects chip chip' b m linked h = subst (λ t. CanCall s t chip' (call.Create b)) (sym linked.temporary) (linked-legal s objects chip chip' b m linked h)
 
 called : (s s' : SyncState) (objects : List (Object Vid)) (chip z z' : ChipState) (c : Call Vid) (a : SyncAnswer) (linked : AreLinked s objects chip) → Calls s s.temporary z c a s' z' → Calls s (Some linked.view) z c a s' z'
 called s s' objects chip z z' c a linked calls = subst (λ t. Calls s t z c a s' z') linked.temporary calls
 
-pub linked-whole : (s s' : SyncState) (objects : List (Object Vid)) (chip chip' chip'' : ChipState) (b : Body Vid) (m : Option Rid) (a : SyncAnswer) → AreLinked s objects chip → IsAnswered chip (call_renamed as_rid (call.Create b)) (answer_of m) chip' → Calls s s.temporary chip' (call.Create b) a s' chip'' → IsWholeChip chip''
+pub linked-whole : (s s' : SyncState) (objects : List (Object Vid)) (chip chip' chip'' : ChipState) (b : Body Vid) (m : Option Rid) (a : SyncAnswer) → AreLinked s objects chip → IsAnswered chip (call_renamed as_rid (call.Create b)) (tested_answer m) chip' → Calls s s.temporary chip' (call.Create b) a s' chip'' → IsWholeChip chip''
 linked-whole s s' objects chip chip' chip'' b m a linked h calls = subst IsWholeChip (sym (called s s' objects chip chip' chip'' _ a linked calls).3) (whole-follows chip chip' _ m linked.whole h)
 
-linked-more : (s s' : SyncState) (view later : ViewObjects) (objects : List (Object Vid)) (chip : ChipState) (b : Body Vid) (v w : Vid) → s' ≡ with_temporary s later → later ≡ after_create view v b → objects ≡ objects_in view → chip.objects ≡ as_chip (after_create view v b) → IsWholeChip chip → entry_at w b ≡ entry_at v b → AreLinked s' (objects ++ (record { entry = entry_at w b; body = b }) ∷ []) chip
+linked-more : (s s' : SyncState) (view later : ViewObjects) (objects : List (Object Vid)) (chip : ChipState) (b : Body Vid) (v w : Vid) → s' ≡ with_temporary s later → later ≡ after_create view v b → objects ≡ objects_listed view → chip.objects ≡ as_chip (after_create view v b) → IsWholeChip chip → entry_at w b ≡ entry_at v b → AreLinked s' (objects ++ (record { entry = entry_at w b; body = b }) ∷ []) chip
 linked-more s s' view later objects chip b v w next is listed same whole named = record {
   view = after_create view v b;
   temporary = ap (λ z. z.temporary) next ∙ ap Some is;
@@ -132,7 +132,7 @@ no_vid true v h = absurd cc
 no_vid false v h = refl
 
 -- an object that has an identifier, the same on the chip and in the view
-pub linked-numbered : ViewsGrow → (s s' : SyncState) (objects : List (Object Vid)) (chip chip' chip'' : ChipState) (b : Body Vid) (w : Vid) (r : Rid) → AreLinked s objects chip → IsAnswered chip (call_renamed as_rid (call.Create b)) (answer_of (Some r)) chip' → Calls s s.temporary chip' (call.Create b) (sync.Made w) s' chip'' → w.0 ≡ r.0 → AreLinked s' (objects ++ (record { entry = entry_at w b; body = b }) ∷ []) chip''
+pub linked-numbered : ViewsGrow → (s s' : SyncState) (objects : List (Object Vid)) (chip chip' chip'' : ChipState) (b : Body Vid) (w : Vid) (r : Rid) → AreLinked s objects chip → IsAnswered chip (call_renamed as_rid (call.Create b)) (tested_answer (Some r)) chip' → Calls s s.temporary chip' (call.Create b) (sync.Made w) s' chip'' → w.0 ≡ r.0 → AreLinked s' (objects ++ (record { entry = entry_at w b; body = b }) ∷ []) chip''
 linked-numbered grow s s' objects chip chip' chip'' b w r linked h calls number =
     let did = called s s' objects chip chip' chip'' _ _ linked calls in
     let change = did.2 in
@@ -170,7 +170,7 @@ keyed_alike body.Group n m h = absurd cc
 keyed_alike (body.GroupMember group next_hop) n m h = absurd cc
 
 -- an object that is known by its key, behind which the chip used up an identifier
-pub linked-keyed : ViewsGrow → (s s' : SyncState) (objects : List (Object Vid)) (chip chip' chip'' last : ChipState) (b : Body Vid) (w : Vid) → AreLinked s objects chip → IsAnswered chip (call_renamed as_rid (call.Create b)) (answer_of None) chip' → Calls s s.temporary chip' (call.Create b) sync.Done s' chip'' → last.objects ≡ chip''.objects → IsWholeChip last → AreLinked s' (objects ++ (record { entry = entry_at w b; body = b }) ∷ []) last
+pub linked-keyed : ViewsGrow → (s s' : SyncState) (objects : List (Object Vid)) (chip chip' chip'' last : ChipState) (b : Body Vid) (w : Vid) → AreLinked s objects chip → IsAnswered chip (call_renamed as_rid (call.Create b)) (tested_answer None) chip' → Calls s s.temporary chip' (call.Create b) sync.Done s' chip'' → last.objects ≡ chip''.objects → IsWholeChip last → AreLinked s' (objects ++ (record { entry = entry_at w b; body = b }) ∷ []) last
 linked-keyed grow s s' objects chip chip' chip'' last b w linked h calls same whole =
     let did = called s s' objects chip chip' chip'' _ _ linked calls in
     let change = did.2 in

@@ -9,13 +9,13 @@ use Rattle.sai_types.specs.After.{makes_id}
 use Rattle.sai_types.specs.ChipState.{ChipState}
 use Rattle.sai_types.specs.Made.{IsWhole}
 use Rattle.asic_view.specs.View.{ViewObjects, as_chip}
-use Rattle.syncd_core.specs.Begun.{objects_in}
+use Rattle.syncd_core.specs.Begun.{objects_listed}
 use Rattle.syncd_core.specs.Synced.{SyncState}
 
 -- what the chip answered to a call that took effect
-abbrev pub answer_of : Option Rid → ChipAnswer
-answer_of None = answer.Done
-answer_of (Some r) = answer.Made r
+abbrev pub tested_answer : Option Rid → ChipAnswer
+tested_answer None = answer.Done
+tested_answer (Some r) = answer.Made r
 
 -- two chips answer each call alike
 pub record AreTwins (chip twin : ChipState) : Type 0 where
@@ -31,6 +31,6 @@ IsWholeChip chip = IsWhole (count_by makes_id chip.effects) chip.objects
 pub record AreLinked (s : SyncState) (objects : List (Object Vid)) (chip : ChipState) : Type 0 where
   pub view : ViewObjects
   pub temporary : s.temporary ≡ Some view
-  pub listed : objects ≡ objects_in view
+  pub listed : objects ≡ objects_listed view
   pub same : chip.objects ≡ as_chip view
   pub whole : IsWholeChip chip

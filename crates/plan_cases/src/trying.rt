@@ -3,7 +3,7 @@ ghost use Rattle.std.specs.Prelude.{◌≡◌, IfOk};
 ghost use Rattle.sai_types.specs.ChipState.{IsAnswered};
 ghost use Rattle.asic_view.specs.View.{as_rid, entry_at};
 ghost use Rattle.chip_layout.specs.Renamed.{call_renamed};
-ghost use Rattle.plan_cases.specs.Tested.{AreLinked, AreTwins, IsWholeChip, answer_of};
+ghost use Rattle.plan_cases.specs.Tested.{AreLinked, AreTwins, IsWholeChip, tested_answer};
 ghost use Rattle.sai_types.specs.declared.body.Call.TheVariants as call;
 
 use anyhow::{Context, Result, bail};
@@ -19,7 +19,7 @@ const SPARE: u16 = 4094;
 
 /// Makes a call, which is to take effect. It tells the identifier that the call makes, where it makes one.
 pub fn make(chip: &mut SimChip, call: &Call<Rid>) -> Result<Option<Rid>>
-    ensures { IfOk result (λ made. IsAnswered chip.old.chip call.now (answer_of made) chip.new.chip) }
+    ensures { IfOk result (λ made. IsAnswered chip.old.chip call.now (tested_answer made) chip.new.chip) }
 {
     match chip.call(call) {
         ChipAnswer::Made(id) => Ok(Some(id)),

@@ -11,7 +11,7 @@ use Rattle.sai_types.specs.Alike.{IsIn}
 use Rattle.sai_types.specs.Objects.{level}
 use Rattle.sai_types.specs.Names as name
 use Rattle.sai_types.specs.Names.{Meet, ThingName, Refers, name_kind, name_of, thing_references}
-use Rattle.plan_laws.specs.Plans.{AreRanked, PlanChange, IsViewPlan, Make, Remove, Set, stands_after_all, cold_rank, hitless_rank, make_rank, remove_rank, set_rank, subject}
+use Rattle.plan_laws.specs.Plans.{AreRanked, PlanChange, IsViewPlan, Make, Remove, Set, stands_after_all, cold_rank, hitless_rank, make_place, remove_place, set_place, subject}
 use Rattle.plan_laws.specs.Views.{HaveOwnNames, LanesApart, ReferWithin}
 use Rattle.plan_laws.proofs.Following.{HasNamed, before, done-in, due-in, ranked-right, new-stands, now-new, old-stands, origin, outcome-named, outcome-new}
 use Rattle.plan_laws.proofs.Deciders.{IsGood, good-names, len_within}
@@ -45,24 +45,24 @@ height_most _ = omega arith
 
 -- ---- turns
 
-make_low : (k : ThingName) → height k < 10 → make_rank k ≡ height k
+make_low : (k : ThingName) → height k < 10 → make_place k ≡ height k
 make_low (name.Route p) less = absurd (omega (arith, less))
 make_low _ less = refl
 
-remove_low : (k : ThingName) → height k < 10 → remove_rank k ≡ 1400 - height k
+remove_low : (k : ThingName) → height k < 10 → remove_place k ≡ 1400 - height k
 remove_low (name.Route p) less = absurd (omega (arith, less))
 remove_low _ less = refl
 
 -- what is made later than by this turn is no lower than this
-make_high : (k : ThingName) (n : ℕ) → IsGood k → n < height k → n < 10 → n < make_rank k
+make_high : (k : ThingName) (n : ℕ) → IsGood k → n < height k → n < 10 → n < make_place k
 make_high (name.Route p) n good less small = let len = len_within p good in omega (arith, len, small)
 make_high _ n good less small = less
 
-set_high : (k : ThingName) (n : ℕ) → n < 10 → n < set_rank k
+set_high : (k : ThingName) (n : ℕ) → n < 10 → n < set_place k
 set_high (name.Route p) n small = omega (arith, small)
 set_high _ n small = omega (arith, small)
 
-remove_less : (k : ThingName) (n : ℕ) → IsGood k → n < height k → n < 10 → remove_rank k < 1400 - n
+remove_less : (k : ThingName) (n : ℕ) → IsGood k → n < height k → n < 10 → remove_place k < 1400 - n
 remove_less (name.Route p) n good less small = let len = len_within p good in omega (arith, len, small)
 remove_less _ n good less small = omega (arith, less)
 

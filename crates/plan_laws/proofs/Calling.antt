@@ -23,7 +23,7 @@ use Rattle.sai_types.specs.Alike.{IsIn}
 use Rattle.sai_types.specs.Names.{ThingName, name_kind, name_of}
 use Rattle.sai_types.specs.Objects.{Objects}
 use Rattle.chip_layout.specs.Bodies.{IsAt, IsBody, IsChange, first_name, goal_name, is_numbered, second_name, to_with}
-use Rattle.chip_layout.specs.Layout.{Has, Layout, RefersWell, has_number, next_id, with_changed}
+use Rattle.chip_layout.specs.Layout.{Has, Layout, RefersWell, has_number, next_rid, with_changed}
 use Rattle.chip_layout.specs.Renamed.{attr_renamed, body_renamed, call_renamed, entry_renamed, to_renamed}
 use Rattle.chip_layout.proofs.Bodies.{entry-body, first-numbered, first-refers, second-numbered, second-refers}
 use Rattle.chip_layout.proofs.Shapes.{renamed_with}
@@ -80,7 +80,7 @@ resolves-first start view ids = record {
 }
 
 -- and after each change, where what is made has the identifier that was made for it
-pub resolves-next : {old : List Thing} {done : List PlanChange} {layout : Layout Rid} {made : ℕ} {objects : Objects} (at : IsMoment old done layout made objects) (capacities : List ℕ) (c : PlanChange) (calls : List (Call Rid)) (later : Layout Rid) → IsChangeMade at capacities c calls later → (start : Layout Rid) (view : Layout Vid) (ids : Vid → Rid) → ((t : Thing) → c ≡ Make t → ((i : Rid) → Has start (name_of t) i → ⊥) × ((v : Vid) (u : Thing) → view v u → name_of u ≡ name_of t → has_number u ≡ true → ids v ≡ next_id made)) → Resolves start view ids layout → Resolves start view ids later
+pub resolves-next : {old : List Thing} {done : List PlanChange} {layout : Layout Rid} {made : ℕ} {objects : Objects} (at : IsMoment old done layout made objects) (capacities : List ℕ) (c : PlanChange) (calls : List (Call Rid)) (later : Layout Rid) → IsChangeMade at capacities c calls later → (start : Layout Rid) (view : Layout Vid) (ids : Vid → Rid) → ((t : Thing) → c ≡ Make t → ((i : Rid) → Has start (name_of t) i → ⊥) × ((v : Vid) (u : Thing) → view v u → name_of u ≡ name_of t → has_number u ≡ true → ids v ≡ next_rid made)) → Resolves start view ids layout → Resolves start view ids later
 resolves-next at capacities c calls later is start view ids makes before = record {
   old = λ k i h j there. elim (is.fresh k j there) [
     | inl stood ↦ is.keeps k i (before.old k i h stood.0 stood.1) j there

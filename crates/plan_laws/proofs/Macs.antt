@@ -6,7 +6,7 @@ use Rattle.sai_types.specs.declared.hop.Hop.{Hop}
 use Rattle.sai_types.specs.declared.thing.Thing.{Thing}
 use Rattle.sai_types.specs.declared.thing.Thing.TheVariants as thing
 use Rattle.sai_types.specs.Alike.{IsIn}
-use Rattle.sai_types.specs.Forwarding.{Decision, decide, forward, forwarding_of, mac_of}
+use Rattle.sai_types.specs.Forwarding.{Decision, decide, forward, forwarding_of, hop_mac}
 use Rattle.sai_types.specs.Forwarding as to
 use Rattle.sai_types.specs.Names as name
 use Rattle.sai_types.specs.Names.{ThingName, name_of}
@@ -19,7 +19,7 @@ use Rattle.plan_laws.proofs.Moving.{old-or-new, stays-new}
 
 -- the neighbour of a hop is found, or there is none
 abbrev IsReached : List Thing → Hop → Type 0
-IsReached ts hop = ((m : Mac) × IsIn (thing.Neighbor hop m) ts × (mac_of ts hop ≡ Some m)) ⊎ (((m : Mac) → IsIn (thing.Neighbor hop m) ts → ⊥) × (mac_of ts hop ≡ None))
+IsReached ts hop = ((m : Mac) × IsIn (thing.Neighbor hop m) ts × (hop_mac ts hop ≡ Some m)) ⊎ (((m : Mac) → IsIn (thing.Neighbor hop m) ts → ⊥) × (hop_mac ts hop ≡ None))
 
 reached : (ts : List Thing) (hop : Hop) → IsReached ts hop
 reached [] hop = inr (λ m i. i, refl)
@@ -36,7 +36,7 @@ is_neighbor : (u : Thing) (hop : Hop) → name_of u ≡ name.Neighbor hop → (m
 is_neighbor (thing.Neighbor h m) hop e = let same : h ≡ hop = cc in (m, ap (λ z. thing.Neighbor z m) same)
 is_neighbor _ hop e = absurd cc
 
-one_mac : (ts : List Thing) → HaveOwnNames ts → (hop : Hop) (m : Mac) → IsIn (thing.Neighbor hop m) ts → mac_of ts hop ≡ Some m
+one_mac : (ts : List Thing) → HaveOwnNames ts → (hop : Hop) (m : Mac) → IsIn (thing.Neighbor hop m) ts → hop_mac ts hop ≡ Some m
 one_mac ts named hop m i =
     elim (reached ts hop) [
       | inl n ↦ n.2 ∙ ap Some (macs n.0 (named.one (thing.Neighbor hop n.0) (thing.Neighbor hop m) n.1 i refl))
@@ -49,16 +49,16 @@ one_mac ts named hop m i =
 module _ {old new : List Thing} (old_named : HaveOwnNames old) (new_named : HaveOwnNames new) {plan : List PlanChange} (is_plan : IsViewPlan hitless_rank old new plan) where
   module _ (done due : List PlanChange) (cut : plan ≡ done ++ due) (now : List Thing) (stands : ForwardsAfter old done now) where
     abbrev IsEither : Hop → Type 0
-    IsEither hop = (mac_of now hop ≡ mac_of old hop) ⊎ (mac_of now hop ≡ mac_of new hop)
+    IsEither hop = (hop_mac now hop ≡ hop_mac old hop) ⊎ (hop_mac now hop ≡ hop_mac new hop)
 
-    there : (hop : Hop) (m : Mac) → IsIn (thing.Neighbor hop m) now → mac_of now hop ≡ Some m → IsEither hop
+    there : (hop : Hop) (m : Mac) → IsIn (thing.Neighbor hop m) now → hop_mac now hop ≡ Some m → IsEither hop
     there hop m i is =
         elim (origin done (λ u. IsIn u old) (thing.Neighbor hop m) (stands.sound (thing.Neighbor hop m) tt i)) [
           | inl x ↦ inl (is ∙ sym (one_mac old old_named hop m x.0))
           | inr c ↦ inr (is ∙ sym (one_mac new new_named hop m (outcome-new is_plan c.0 (thing.Neighbor hop m) (done-in is_plan done due cut c.0 c.1) c.2)))
         ]
 
-    none_there : (hop : Hop) → ((m : Mac) → IsIn (thing.Neighbor hop m) now → ⊥) → mac_of now hop ≡ None → IsEither hop
+    none_there : (hop : Hop) → ((m : Mac) → IsIn (thing.Neighbor hop m) now → ⊥) → hop_mac now hop ≡ None → IsEither hop
     none_there hop none is =
         elim (reached old hop) [
           | inr no_old ↦ inl (is ∙ sym no_old.1)
@@ -98,7 +98,7 @@ module _ (x y n : Hop → Option Mac) (each : (h : Hop) → (n h ≡ x h) ⊎ (n
       (ap₂ (λ a b. a ∷ b) head.0 rest.0, ap₂ (λ a b. a ∷ b) (ap (made h) macs) rest.1)
 
 -- what the old and the new things forward equally is forwarded so, where it is decided as by either
-module _ (old new now : List Thing) (each : (h : Hop) → (mac_of now h ≡ mac_of old h) ⊎ (mac_of now h ≡ mac_of new h)) where
+module _ (old new now : List Thing) (each : (h : Hop) → (hop_mac now h ≡ hop_mac old h) ⊎ (hop_mac now h ≡ hop_mac new h)) where
   hops_of : (hs ks : List (Hop × Option Mac)) → to.Through hs ≡ to.Through ks → hs ≡ ks
   hops_of hs ks e = cc
 
@@ -107,7 +107,7 @@ module _ (old new now : List Thing) (each : (h : Hop) → (mac_of now h ≡ mac_
   forwarded to.Drop to.Drop h = (refl, refl)
   forwarded (to.Direct x) (to.Direct y) h = (refl, sym h)
   forwarded (to.Via hs) (to.Via ks) h =
-      let same = all_same (mac_of old) (mac_of new) (mac_of now) each hs ks (hops_of (map (λ x. (x, mac_of old x)) hs) (map (λ x. (x, mac_of new x)) ks) h) in
+      let same = all_same (hop_mac old) (hop_mac new) (hop_mac now) each hs ks (hops_of (map (λ x. (x, hop_mac old x)) hs) (map (λ x. (x, hop_mac new x)) ks) h) in
       (ap to.Through same.1, ap (λ l. forwarding_of now (to.Via l)) (sym same.0) ∙ ap to.Through same.1)
   forwarded _ _ h = absurd cc
 

@@ -9,7 +9,7 @@ use Rattle.sai_types.specs.Forwarding.{decide}
 use Rattle.sai_types.specs.Names as name
 use Rattle.sai_types.specs.Names.{ThingName, name_of}
 use Rattle.sai_types.proofs.Membership.{in-left}
-use Rattle.plan_laws.specs.Plans.{PlanChange, IsViewPlan, Make, Remove, Set, stands_after_all, hitless_rank, make_rank, outcome, remove_rank, set_rank}
+use Rattle.plan_laws.specs.Plans.{PlanChange, IsViewPlan, Make, Remove, Set, stands_after_all, hitless_rank, make_place, outcome, remove_place, set_place}
 use Rattle.plan_laws.specs.Steady.{ForwardsAfter, IsForwarding}
 use Rattle.plan_laws.specs.Views.{HaveOwnNames}
 use Rattle.plan_laws.proofs.Deciders.{Decides, IsGood, IsStrongest, NoneDecides, decided, decision, good-names, none-decides, strength, strength-most, strongest-decides}
@@ -26,34 +26,34 @@ good_if _ h = tt
 
 -- ---- of what decides an address the stronger is made first and removed last
 
-make_falls : (a : Ip) (k m : ThingName) → IsGood m → Decides a k → Decides a m → strength k < strength m → make_rank m < make_rank k
+make_falls : (a : Ip) (k m : ThingName) → IsGood m → Decides a k → Decides a m → strength k < strength m → make_place m < make_place k
 make_falls a (name.Route p) (name.Route q) good x y less = let most = strength-most (name.Route q) good in omega (arith, less, most)
 make_falls a (name.Route p) (name.Own ip) good x y less = omega (arith, less)
 make_falls a (name.Own ip) m good x y less = let most = strength-most m good in absurd (omega (arith, less, most))
 make_falls a (name.Route p) _ good x y less = elim y [ ]
 make_falls a _ _ good x y less = elim x [ ]
 
-remove_rises : (a : Ip) (k m : ThingName) → IsGood m → Decides a k → Decides a m → strength k < strength m → remove_rank k < remove_rank m
+remove_rises : (a : Ip) (k m : ThingName) → IsGood m → Decides a k → Decides a m → strength k < strength m → remove_place k < remove_place m
 remove_rises a (name.Route p) (name.Route q) good x y less = omega (arith, less)
 remove_rises a (name.Route p) (name.Own ip) good x y less = omega (arith, less)
 remove_rises a (name.Own ip) m good x y less = let most = strength-most m good in absurd (omega (arith, less, most))
 remove_rises a (name.Route p) _ good x y less = elim y [ ]
 remove_rises a _ _ good x y less = elim x [ ]
 
-route_set : (a : Ip) (k m : ThingName) → IsGood m → Decides a k → strength k < strength m → set_rank k ≡ 800
+route_set : (a : Ip) (k m : ThingName) → IsGood m → Decides a k → strength k < strength m → set_place k ≡ 800
 route_set a (name.Route p) m good x less = refl
 route_set a (name.Own ip) m good x less = let most = strength-most m good in absurd (omega (arith, less, most))
 route_set a _ m good x less = elim x [ ]
 
-make_most : (k : ThingName) → make_rank k ≤ 728
+make_most : (k : ThingName) → make_place k ≤ 728
 make_most (name.Route p) = omega arith
 make_most _ = omega arith
 
-pub set-most : (k : ThingName) → set_rank k ≤ 800
+pub set-most : (k : ThingName) → set_place k ≤ 800
 set-most (name.Route p) = omega arith
 set-most _ = omega arith
 
-remove_least : (k : ThingName) → 1000 ≤ remove_rank k
+remove_least : (k : ThingName) → 1000 ≤ remove_place k
 remove_least (name.Route p) = omega arith
 remove_least _ = omega arith
 
@@ -131,14 +131,14 @@ module _ (a : Ip) {old new : List Thing} (old_named : HaveOwnNames old) (new_nam
     no_set : (k : ThingName) (v : Thing) → IsIn (Remove k) done → IsIn (Set v) due → ⊥
     no_set k v gone set = let order = (before is_plan done due cut (Remove k) (Set v) gone set).0 in let least = remove_least k in let most = set-most (name_of v) in absurd (omega (arith, order, least, most))
 
-    late_change : (t v : Thing) (c : PlanChange) → outcome c ≡ Some t → IsIn v new → Decides a (name_of t) → Decides a (name_of v) → strength (name_of t) < strength (name_of v) → make_rank (name_of v) < hitless_rank c
+    late_change : (t v : Thing) (c : PlanChange) → outcome c ≡ Some t → IsIn v new → Decides a (name_of t) → Decides a (name_of v) → strength (name_of t) < strength (name_of v) → make_place (name_of v) < hitless_rank c
     late_change t v (Make u) o i d e less =
         let same : t ≡ u = cc in
-        subst (λ z. make_rank (name_of v) < make_rank (name_of z)) same (make_falls a (name_of t) (name_of v) (new_good v i) d e less)
+        subst (λ z. make_place (name_of v) < make_place (name_of z)) same (make_falls a (name_of t) (name_of v) (new_good v i) d e less)
     late_change t v (Set u) o i d e less =
         let same : t ≡ u = cc in
         let most = make_most (name_of v) in
-        let is : set_rank (name_of u) ≡ 800 = ap (λ z. set_rank (name_of z)) (sym same) ∙ route_set a (name_of t) (name_of v) (new_good v i) d less in
+        let is : set_place (name_of u) ≡ 800 = ap (λ z. set_place (name_of z)) (sym same) ∙ route_set a (name_of t) (name_of v) (new_good v i) d less in
         omega (arith, most, is)
     late_change t v (Remove k) o i d e less = absurd cc
 

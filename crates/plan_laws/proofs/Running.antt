@@ -10,7 +10,7 @@ use Rattle.sai_types.specs.Alike.{IsAlike, IsIn}
 use Rattle.sai_types.specs.Made.{AreLegal, made_after, made_after_all}
 use Rattle.sai_types.specs.Names.{ThingName, name_of}
 use Rattle.sai_types.specs.Objects.{Objects}
-use Rattle.chip_layout.specs.Layout.{Has, IsUnused, Layout, next_id, with_changed, with_thing, without}
+use Rattle.chip_layout.specs.Layout.{Has, IsUnused, Layout, next_rid, with_changed, with_thing, without}
 use Rattle.chip_layout.proofs.Naming.{alike-laid}
 use Rattle.plan_laws.specs.Moments.{IsMoment, MakesChange, MakesChanges, SetsThing, layout_after}
 use Rattle.plan_laws.specs.Plans.{PlanChange, Make, Remove, Set, stands_after_all}
@@ -90,7 +90,7 @@ module _ {order : PlanChange → ℕ} {old new : List Thing} {plan : List PlanCh
     pub plan-step : (done due : List PlanChange) {layout : Layout Rid} {made : ℕ} {objects : Objects} (at : IsMoment old done layout made objects) (c : PlanChange) → plan ≡ done ++ (c ∷ due) → (calls : List (Call Rid)) → MakesChange layout c calls → IsChangeMade at capacities c calls (layout_after made layout c)
     plan-step done due {layout} {made} at (Make t) cut calls is =
         let space = room-for p.is_plan done due t cut first at capacities room in
-        subst (λ cs. IsChangeMade at capacities (Make t) cs (with_thing layout (next_id made) t)) (sym is.2) (make-done at capacities t is.0 is.1 (allowed done due at (Make t) cut) space)
+        subst (λ cs. IsChangeMade at capacities (Make t) cs (with_thing layout (next_rid made) t)) (sym is.2) (make-done at capacities t is.0 is.1 (allowed done due at (Make t) cut) space)
     plan-step done due {layout} {made} at (Set t) cut calls is =
         let same = set-layout at capacities t is.1 is.0 is.2 is.3 in
         done-same at capacities (Set t) calls (with_changed layout is.0 t) (layout_after made layout (Set t)) same.0 same.1 (set-done at capacities t is.1 is.0 calls is.2 is.4)

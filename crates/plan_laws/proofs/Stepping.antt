@@ -17,7 +17,7 @@ use Rattle.sai_types.specs.Names.{ThingName, name_of}
 use Rattle.sai_types.specs.Objects.{Objects}
 use Rattle.sai_types.proofs.Whole.{whole-after_call, whole-after_calls}
 use Rattle.chip_layout.specs.Bodies.{IsBody, IsChange}
-use Rattle.chip_layout.specs.Layout.{Has, HasRoom, IsFree, IsLaidOut, IsUnused, Layout, RefersWell, next_id, with_changed, with_thing, without}
+use Rattle.chip_layout.specs.Layout.{Has, HasRoom, IsFree, IsLaidOut, IsUnused, Layout, RefersWell, next_rid, with_changed, with_thing, without}
 use Rattle.chip_layout.proofs.Entries.{one-id}
 use Rattle.chip_layout.proofs.Laid.{changed}
 use Rattle.chip_layout.proofs.Making.{make-laid, make-legal}
@@ -126,7 +126,7 @@ module _ {old : List Thing} {done : List PlanChange} {layout : Layout Rid} {made
     pub legal : AreLegal capacities made objects calls
     pub next : IsMoment old (done ++ (c ∷ [])) later (made_after_all made calls) (after_calls made objects calls)
     pub keeps : (k : ThingName) (j : Rid) → Has layout k j → (i : Rid) → Has later k i → Has later k j
-    pub fresh : (k : ThingName) (i : Rid) → Has later k i → ((j : Rid) × Has layout k j) ⊎ ((t : Thing) × (c ≡ Make t) × (name_of t ≡ k) × Has later k (next_id made))
+    pub fresh : (k : ThingName) (i : Rid) → Has later k i → ((j : Rid) × Has layout k j) ⊎ ((t : Thing) × (c ≡ Make t) × (name_of t ≡ k) × Has later k (next_rid made))
 
   has_within : (x y : Layout Rid) → IsWithin x y → (k : ThingName) (j : Rid) → Has x k j → Has y k j
   has_within x y to k j h = (h.0, to j h.0 h.1, h.2)
@@ -141,7 +141,7 @@ module _ {old : List Thing} {done : List PlanChange} {layout : Layout Rid} {made
       all = λ t h. let has = is.next.all t h in (has.0, to has.0 t has.1);
     };
     keeps = λ k j h i g. has_within later other to k j (is.keeps k j h i (has_within other later back k i g));
-    fresh = λ k i h. elim (is.fresh k i (has_within other later back k i h)) [ inl stood ↦ inl stood | inr new ↦ inr (new.0, new.1, new.2, has_within later other to k (next_id made) new.3) ];
+    fresh = λ k i h. elim (is.fresh k i (has_within other later back k i h)) [ inl stood ↦ inl stood | inr new ↦ inr (new.0, new.1, new.2, has_within later other to k (next_rid made) new.3) ];
   }
 
   pub set-layout : (t u : Thing) (i : Rid) → layout i u → name_of u ≡ name_of t → IsWithin (with_changed layout i t) (layout_after made layout (Set t)) × IsWithin (layout_after made layout (Set t)) (with_changed layout i t)
@@ -150,7 +150,7 @@ module _ {old : List Thing} {done : List PlanChange} {layout : Layout Rid} {made
     λ j w h. elim h [ inl old ↦ inl old | inr is ↦ inr (one-id layout objects at.laid (name_of t) j i is.0 (u, there, same), is.1) ],
   )
 
-  pub make-done : (t : Thing) (b : Body Rid) → IsBody (Has layout) t b → IsAllowed layout (Make t) → HasRoom capacities objects t → IsChangeMade (Make t) (call.Create b ∷ []) (with_thing layout (next_id made) t)
+  pub make-done : (t : Thing) (b : Body Rid) → IsBody (Has layout) t b → IsAllowed layout (Make t) → HasRoom capacities objects t → IsChangeMade (Make t) (call.Create b ∷ []) (with_thing layout (next_rid made) t)
   make-done t b of allowed room =
       let legal = make-legal layout made objects at.whole at.laid t b of allowed.0 capacities allowed.1 room in record {
         legal = (legal, tt);
@@ -158,9 +158,9 @@ module _ {old : List Thing} {done : List PlanChange} {layout : Layout Rid} {made
         fresh = λ k i h. elim h.1 [ inl there ↦ inl (i, (h.0, there, h.2)) | inr is ↦ let same : name_of t ≡ k = ap name_of (sym is.1) ∙ h.2 in inr (t, refl, same, (t, inr (refl, refl), same)) ];
         next = record {
           whole = whole-after_call capacities made objects (call.Create b) at.whole legal;
-          laid = make-laid layout made objects at.whole at.laid t b of allowed.0 (next_id made) (λ e. refl);
+          laid = make-laid layout made objects at.whole at.laid t b of allowed.0 (next_rid made) (λ e. refl);
           sound = λ i u h. snoc_from done (Make t) (λ x. IsIn x old) u (elim h [ inl there ↦ inl (at.sound i u there, λ same. allowed.0 i u there (inl (sym same))) | inr is ↦ inr (ap Some (sym is.1)) ]);
-          all = λ u h. elim (snoc_to done (Make t) (λ x. IsIn x old) u h) [ inl there ↦ let has = at.all u there.0 in (has.0, inl has.1) | inr is ↦ (next_id made, inr (refl, let same : u ≡ t = cc in same)) ];
+          all = λ u h. elim (snoc_to done (Make t) (λ x. IsIn x old) u h) [ inl there ↦ let has = at.all u there.0 in (has.0, inl has.1) | inr is ↦ (next_rid made, inr (refl, let same : u ≡ t = cc in same)) ];
         };
       }
 

@@ -11,7 +11,7 @@ use Rattle.sai_types.specs.Alike.{IsIn}
 use Rattle.sai_types.specs.Named.{hop_cmp}
 use Rattle.sai_types.specs.Names as name
 use Rattle.sai_types.specs.Names.{ThingName, name_of}
-use Rattle.plan_laws.specs.Plans.{PlanChange, Make, Remove, Set, stands_after_all, hitless_rank, make_rank, outcome, set_rank}
+use Rattle.plan_laws.specs.Plans.{PlanChange, Make, Remove, Set, stands_after_all, hitless_rank, make_place, outcome, set_place}
 use Rattle.plan_laws.specs.Views.{HaveWholeGroups}
 use Rattle.plan_laws.proofs.Allowed.{IsSafePlan}
 use Rattle.plan_laws.proofs.Deciders.{len_within}
@@ -41,8 +41,8 @@ is-member (thing.GroupMember hops h) tag hop e = let same : hops ≡ tag = cc in
 is-member _ tag hop e = absurd cc
 
 route_late : (c : PlanChange) (p : Prefix) (g : Goal) → p.len ≤ 128 → outcome c ≡ Some (thing.Route p g) → 600 ≤ hitless_rank c
-route_late (Make t) p g small e = let same : t ≡ thing.Route p g = cc in let rank : make_rank (name_of t) ≡ 728 - p.len = ap (λ u. make_rank (name_of u)) same in omega (arith, rank, small)
-route_late (Set t) p g small e = let same : t ≡ thing.Route p g = cc in let rank : set_rank (name_of t) ≡ 800 = ap (λ u. set_rank (name_of u)) same in omega (arith, rank)
+route_late (Make t) p g small e = let same : t ≡ thing.Route p g = cc in let rank : make_place (name_of t) ≡ 728 - p.len = ap (λ u. make_place (name_of u)) same in omega (arith, rank, small)
+route_late (Set t) p g small e = let same : t ≡ thing.Route p g = cc in let rank : set_place (name_of t) ≡ 800 = ap (λ u. set_place (name_of u)) same in omega (arith, rank)
 route_late (Remove k) p g small e = absurd cc
 
 module _ {hops_of : List Hop → List Hop} {old new : List Thing} {plan : List PlanChange} (q : IsTaggedPlan hops_of old new plan) where

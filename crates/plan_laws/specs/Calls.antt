@@ -16,7 +16,7 @@ use Rattle.sai_types.specs.Alike.{IsIn}
 use Rattle.sai_types.specs.Made.{made_after_all}
 use Rattle.sai_types.specs.Names.{ThingName, name_of}
 use Rattle.chip_layout.specs.Bodies.{IsBody, IsChange}
-use Rattle.chip_layout.specs.Layout.{Has, Layout, has_number, next_id}
+use Rattle.chip_layout.specs.Layout.{Has, Layout, has_number, next_rid}
 use Rattle.chip_layout.specs.Renamed.{call_renamed}
 use Rattle.plan_laws.specs.Moments.{attr_place}
 use Rattle.plan_laws.specs.Plans.{PlanChange, Make, Remove, Set}
@@ -61,4 +61,4 @@ PlansChange start view (Remove k) calls = (i : Rid) × (u : Thing) × (b : Body 
 -- the calls of changes, one after another; a new thing's identifier comes to the one that is made for it
 abbrev pub PlansChanges : Layout Rid → Layout Vid → (Vid → Rid) → ℕ → List PlanChange → List (Call PlanId) → Type 0
 PlansChanges start view ids made [] calls = calls ≡ []
-PlansChanges start view ids made (c ∷ cs) calls = (front : List (Call PlanId)) × (rest : List (Call PlanId)) × (calls ≡ front ++ rest) × PlansChange start view c front × ((t : Thing) → c ≡ Make t → (v : Vid) (u : Thing) → view v u → name_of u ≡ name_of t → has_number u ≡ true → ids v ≡ next_id made) × PlansChanges start view ids (made_after_all made (map (call_renamed (resolve ids)) front)) cs rest
+PlansChanges start view ids made (c ∷ cs) calls = (front : List (Call PlanId)) × (rest : List (Call PlanId)) × (calls ≡ front ++ rest) × PlansChange start view c front × ((t : Thing) → c ≡ Make t → (v : Vid) (u : Thing) → view v u → name_of u ≡ name_of t → has_number u ≡ true → ids v ≡ next_rid made) × PlansChanges start view ids (made_after_all made (map (call_renamed (resolve ids)) front)) cs rest

@@ -13,7 +13,7 @@ use Rattle.sai_types.specs.Made.{IsWhole, made_after_all}
 use Rattle.sai_types.specs.Names.{name_of}
 use Rattle.sai_types.specs.Objects.{Objects}
 use Rattle.chip_layout.specs.Bodies.{IsBody, IsChange}
-use Rattle.chip_layout.specs.Layout.{Has, IsLaidOut, Layout, next_id, with_changed, with_thing, without}
+use Rattle.chip_layout.specs.Layout.{Has, IsLaidOut, Layout, next_rid, with_changed, with_thing, without}
 use Rattle.plan_laws.specs.Plans.{PlanChange, Make, Remove, Set, stands_after_all}
 
 -- the chip is laid out, and what stands on it is what stands after these changes of the old things
@@ -42,7 +42,7 @@ MakesChange layout (Remove k) calls = (i : Rid) × (u : Thing) × (b : Body Rid)
 
 -- the layout after a change, where so many identifiers were made before
 abbrev pub layout_after : ℕ → Layout Rid → PlanChange → Layout Rid
-layout_after made layout (Make t) = with_thing layout (next_id made) t
+layout_after made layout (Make t) = with_thing layout (next_rid made) t
 layout_after made layout (Set t) = λ j u. without layout (name_of t) j u ⊎ (Has layout (name_of t) j × (u ≡ t))
 layout_after made layout (Remove k) = without layout k
 

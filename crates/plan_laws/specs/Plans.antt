@@ -48,23 +48,23 @@ pub record IsViewPlan (rank : PlanChange → ℕ) (old new : List Thing) (plan :
 
 -- ---- the two orders
 
-abbrev pub make_rank : ThingName → ℕ
-make_rank (Route p) = 728 - p.len
-make_rank k = level (name_kind k)
+abbrev pub make_place : ThingName → ℕ
+make_place (Route p) = 728 - p.len
+make_place k = level (name_kind k)
 
-abbrev pub set_rank : ThingName → ℕ
-set_rank (Route p) = 800
-set_rank k = 400 + level (name_kind k)
+abbrev pub set_place : ThingName → ℕ
+set_place (Route p) = 800
+set_place k = 400 + level (name_kind k)
 
-abbrev pub remove_rank : ThingName → ℕ
-remove_rank (Route p) = 1000 + p.len
-remove_rank k = 1400 - level (name_kind k)
+abbrev pub remove_place : ThingName → ℕ
+remove_place (Route p) = 1000 + p.len
+remove_place k = 1400 - level (name_kind k)
 
 -- a hitless plan makes all but routes, kinds rising, and sets all but routes; it makes routes, the longest prefix first, sets routes, and removes routes, the shortest first; and it removes the others, kinds falling
 abbrev pub hitless_rank : PlanChange → ℕ
-hitless_rank (Make t) = make_rank (name_of t)
-hitless_rank (Set t) = set_rank (name_of t)
-hitless_rank (Remove k) = remove_rank k
+hitless_rank (Make t) = make_place (name_of t)
+hitless_rank (Set t) = set_place (name_of t)
+hitless_rank (Remove k) = remove_place k
 
 -- a cold plan is two: one from the old things to none, kinds falling, and one from none to the new things, kinds rising
 abbrev pub cold_rank : PlanChange → ℕ

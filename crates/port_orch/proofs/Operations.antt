@@ -19,7 +19,7 @@ use Rattle.orch_flight.specs.Operation.{Operation}
 use Rattle.orch_flight.specs.Sharing.{MayStart}
 use Rattle.orch_flight.specs.Starting.{IsBegunBy, IsStartedBy, begun_names, first_due, leaving, started_by, started_operation}
 use Rattle.orch_flight.proofs.Begins.{started-plain}
-use Rattle.port_orch.specs.Ports.{IsFirst, IsPortKey, IsPortRow, flown, port_due, port_operation, port_thing}
+use Rattle.port_orch.specs.Ports.{IsPortStart, IsPortKey, IsPortRow, flown, port_due, port_operation, port_thing}
 
 -- the port's lanes are those of the plan, where there is a row
 abbrev pub IsPlannedAs : Ports → ℕ → Option PortRow → Type 0
@@ -64,7 +64,7 @@ module _ (plan : Ports) (names : Names) (room : RoomState) (used : List ℕ) (wo
   abbrev Turns : Names → RoomState → Result (Unit {0}) Wait → Key → Option Row → Option Row → Operation → Type 0
   Turns names' room' res k o n f = ((r : Row) → o ≡ Some r → Fits plan k r) → ((r : Row) → n ≡ Some r → Fits plan k r) → IsBegunBy plan names room used worker k o n res names' room' → IsStartedBy plan names room used worker k o n (flown f res) names' room'
 
-  turned : (names' : Names) (room' : RoomState) (res : Result (Unit {0}) Wait) (k : Key) (old new : Option Row) (flight : Operation) → IsFirst worker k old new flight → Turns names' room' res k old new flight
+  turned : (names' : Names) (room' : RoomState) (res : Result (Unit {0}) Wait) (k : Key) (old new : Option Row) (flight : Operation) → IsPortStart worker k old new flight → Turns names' room' res k old new flight
   turned names' room' res k old new flight (p, now, next, is_key, is_old, is_new, is) =
       subst (λ z. Turns names' room' res z old new flight) (sym is_key)
       (subst (λ z. Turns names' room' res (key.Port p) z new flight) (sym is_old)
@@ -72,12 +72,12 @@ module _ (plan : Ports) (names : Names) (room : RoomState) (used : List ℕ) (wo
       (subst (Turns names' room' res (key.Port p) (option_map row.Port now) (option_map row.Port next)) (sym is)
       (λ of_old of_new begun. started plan names room used worker p now next names' room' res (fits_as_planned plan p now of_old) (fits_as_planned plan p next of_new) begun))))
 
-  names-none : (k : Key) (old new : Option Row) (flight : Operation) → IsFirst worker k old new flight → (r : Row) → first_unapplied names (names_of k r) ≡ None
+  names-none : (k : Key) (old new : Option Row) (flight : Operation) → IsPortStart worker k old new flight → (r : Row) → first_unapplied names (names_of k r) ≡ None
   names-none k old new flight (p, now, next, is_key, is_old, is_new, is) r = ap (λ z. first_unapplied names (names_of z r)) is_key
 
   -- the same, for the rows that are given
   pub started-as : (k : Key) (old new old' new' : Option Row) (flight : Operation) (res : Result (Unit {0}) Wait) (answer : Result Operation Wait) (names' : Names) (room' : RoomState)
-      → IsFirst worker k old new flight → old ≡ old' → new ≡ new' → answer ≡ flown flight res → MayStart plan names worker k old new
+      → IsPortStart worker k old new flight → old ≡ old' → new ≡ new' → answer ≡ flown flight res → MayStart plan names worker k old new
       → IsBegunBy plan names room used worker k old' new' res names' room' → IsStartedBy plan names room used worker k old new answer names' room'
   started-as k old new old' new' flight res answer names' room' first same_old same_new gave may begun =
       subst (λ a. IsStartedBy plan names room used worker k old new a names' room') (sym gave)

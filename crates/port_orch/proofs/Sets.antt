@@ -9,7 +9,7 @@ use Rattle.sai_types.specs.declared.thing.Thing.{Thing}
 use Rattle.sai_types.specs.declared.thing.Thing.TheVariants as thing
 use Rattle.sai_types.specs.Names.{ThingName}
 use Rattle.chip_layout.specs.Bodies.{IsChange}
-use Rattle.row_layout.specs.Operations.{Change, Set, port_with, same_thing, set_to}
+use Rattle.row_layout.specs.Operations.{Change, Set, thing_of_port, same_thing, set_to}
 use Rattle.row_layout.proofs.Changing.{set_none}
 use Rattle.switch_machine.proofs.Equal.{thing-exact}
 use Rattle.port_orch.specs.Ports.{are_alike, first_attr, port_sets, port_thing, stepped}
@@ -48,28 +48,28 @@ alike-same false false h = refl
 module _ (l : List ℕ) where
   -- from these values to those
   abbrev sets : ℕ → ℕ → Bool → ℕ → ℕ → Bool → List Change
-  sets s m u s' m' u' = set_to (port_with l s m u) (port_with l s' m u) (set_to (port_with l s' m u) (port_with l s' m' u) (set_to (port_with l s' m' u) (port_with l s' m' u') []))
+  sets s m u s' m' u' = set_to (thing_of_port l s m u) (thing_of_port l s' m u) (set_to (thing_of_port l s' m u) (thing_of_port l s' m' u) (set_to (thing_of_port l s' m' u) (thing_of_port l s' m' u') []))
 
-  speed-first : (s m s' m' : ℕ) (u u' : Bool) → (s == s') ≡ false → sets s m u s' m' u' ≡ Set (port_with l s' m u) ∷ sets s' m u s' m' u'
+  speed-first : (s m s' m' : ℕ) (u u' : Bool) → (s == s') ≡ false → sets s m u s' m' u' ≡ Set (thing_of_port l s' m u) ∷ sets s' m u s' m' u'
   speed-first s m s' m' u u' h =
-      let t = port_with l s' m u in
-      let rest = set_to t (port_with l s' m' u) (set_to (port_with l s' m' u) (port_with l s' m' u') []) in
-      set-new (port_with l s m u) t rest (λ e. eqb-false s s' h (ap speed_of e)) ∙ ap (λ cs. Set t ∷ cs) (sym (set_none t rest))
+      let t = thing_of_port l s' m u in
+      let rest = set_to t (thing_of_port l s' m' u) (set_to (thing_of_port l s' m' u) (thing_of_port l s' m' u') []) in
+      set-new (thing_of_port l s m u) t rest (λ e. eqb-false s s' h (ap speed_of e)) ∙ ap (λ cs. Set t ∷ cs) (sym (set_none t rest))
 
-  mtu-first : (s m m' : ℕ) (u u' : Bool) → (m == m') ≡ false → sets s m u s m' u' ≡ Set (port_with l s m' u) ∷ sets s m' u s m' u'
+  mtu-first : (s m m' : ℕ) (u u' : Bool) → (m == m') ≡ false → sets s m u s m' u' ≡ Set (thing_of_port l s m' u) ∷ sets s m' u s m' u'
   mtu-first s m m' u u' h =
-      let t = port_with l s m' u in
-      let rest = set_to t (port_with l s m' u') [] in
-      set_none (port_with l s m u) (set_to (port_with l s m u) t rest) ∙ set-new (port_with l s m u) t rest (λ e. eqb-false m m' h (ap mtu_of e))
+      let t = thing_of_port l s m' u in
+      let rest = set_to t (thing_of_port l s m' u') [] in
+      set_none (thing_of_port l s m u) (set_to (thing_of_port l s m u) t rest) ∙ set-new (thing_of_port l s m u) t rest (λ e. eqb-false m m' h (ap mtu_of e))
       ∙ ap (λ cs. Set t ∷ cs) (sym (set_none t (set_to t t rest) ∙ set_none t rest))
 
   nothing-due : (s m : ℕ) (u : Bool) → sets s m u s m u ≡ []
-  nothing-due s m u = let t = port_with l s m u in set_none t (set_to t t (set_to t t [])) ∙ set_none t (set_to t t []) ∙ set_none t []
+  nothing-due s m u = let t = thing_of_port l s m u in set_none t (set_to t t (set_to t t [])) ∙ set_none t (set_to t t []) ∙ set_none t []
 
-  up-first : (s m : ℕ) (u u' : Bool) → are_alike u u' ≡ false → sets s m u s m u' ≡ Set (port_with l s m u') ∷ sets s m u' s m u'
+  up-first : (s m : ℕ) (u u' : Bool) → are_alike u u' ≡ false → sets s m u s m u' ≡ Set (thing_of_port l s m u') ∷ sets s m u' s m u'
   up-first s m u u' h =
-      let t = port_with l s m u in
-      let v = port_with l s m u' in
+      let t = thing_of_port l s m u in
+      let v = thing_of_port l s m u' in
       set_none t (set_to t t (set_to t v [])) ∙ set_none t (set_to t v []) ∙ set-new t v [] (λ e. alike-apart u u' h (ap up_of e))
       ∙ ap (λ cs. Set v ∷ cs) (sym (nothing-due s m u'))
 
@@ -83,10 +83,10 @@ module _ (at : ThingName → Vid → Type 0) (a r : PortRow) where
       → Leads at a r (if s then (if m then (if u then None else Some (attr.Up r.up)) else Some (attr.Mtu r.mtu)) else Some (attr.Speed r.speed)) (if s then (if m then record a { up = r.up } else record a { mtu = r.mtu }) else record a { speed = r.speed })
   leads-by false m u hs hm hu = (speed-first a.lanes a.speed a.mtu r.speed r.mtu a.up r.up hs, refl, refl)
   leads-by true false u hs hm hu =
-      (subst (λ s. sets a.lanes a.speed a.mtu a.up s r.mtu r.up ≡ Set (port_with a.lanes a.speed r.mtu a.up) ∷ sets a.lanes a.speed r.mtu a.up s r.mtu r.up) (eqb-true a.speed r.speed hs) (mtu-first a.lanes a.speed a.mtu r.mtu a.up r.up hm), refl, refl)
+      (subst (λ s. sets a.lanes a.speed a.mtu a.up s r.mtu r.up ≡ Set (thing_of_port a.lanes a.speed r.mtu a.up) ∷ sets a.lanes a.speed r.mtu a.up s r.mtu r.up) (eqb-true a.speed r.speed hs) (mtu-first a.lanes a.speed a.mtu r.mtu a.up r.up hm), refl, refl)
   leads-by true true false hs hm hu = (
-    subst (λ s. sets a.lanes a.speed a.mtu a.up s r.mtu r.up ≡ Set (port_with a.lanes a.speed a.mtu r.up) ∷ sets a.lanes a.speed a.mtu r.up s r.mtu r.up) (eqb-true a.speed r.speed hs)
-        (subst (λ m. sets a.lanes a.speed a.mtu a.up a.speed m r.up ≡ Set (port_with a.lanes a.speed a.mtu r.up) ∷ sets a.lanes a.speed a.mtu r.up a.speed m r.up) (eqb-true a.mtu r.mtu hm) (up-first a.lanes a.speed a.mtu a.up r.up hu)),
+    subst (λ s. sets a.lanes a.speed a.mtu a.up s r.mtu r.up ≡ Set (thing_of_port a.lanes a.speed a.mtu r.up) ∷ sets a.lanes a.speed a.mtu r.up s r.mtu r.up) (eqb-true a.speed r.speed hs)
+        (subst (λ m. sets a.lanes a.speed a.mtu a.up a.speed m r.up ≡ Set (thing_of_port a.lanes a.speed a.mtu r.up) ∷ sets a.lanes a.speed a.mtu r.up a.speed m r.up) (eqb-true a.mtu r.mtu hm) (up-first a.lanes a.speed a.mtu a.up r.up hu)),
     refl,
     refl,
   )

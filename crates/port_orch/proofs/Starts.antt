@@ -8,10 +8,10 @@ use Rattle.table_schema.specs.declared.row.Row.{Row}
 use Rattle.table_schema.specs.declared.row.Row.TheVariants as row
 use Rattle.sai_types.specs.Named.{first_lane}
 use Rattle.switch_model.specs.declared.wait.Wait.TheVariants as wait
-use Rattle.row_layout.specs.Operations.{make_all, own_changes, port_with, set_to}
+use Rattle.row_layout.specs.Operations.{make_all, own_changes, thing_of_port, set_to}
 use Rattle.row_layout.specs.Rows.{from}
 use Rattle.ref_counts.specs.declared.name.Name.TheVariants as name
-use Rattle.ref_counts.specs.Registered.{going}
+use Rattle.ref_counts.specs.Registered.{begun_to_go}
 use Rattle.ref_counts.specs.Registry.{Names, changed}
 use Rattle.ref_counts.specs.Room.{RoomState, lacking}
 use Rattle.switch_machine.specs.Flights.{Fits}
@@ -38,9 +38,9 @@ module _ (plan : Ports) (names : Names) where
 
   pub changed-places : (k : Key) (a r : Row) → IsPortKey k → Fits plan k a → Fits plan k r → places_for (built_first (to_build plan names k (Some r)) (own_changes plan k (Some a) (Some r))) ≡ no_places
   changed-places (key.Port p) (row.Port a) (row.Port r) is old fits =
-      places-set (port_with a.lanes a.speed a.mtu a.up) (port_with a.lanes r.speed a.mtu a.up) (set_to (port_with a.lanes r.speed a.mtu a.up) (port_with a.lanes r.speed r.mtu a.up) (set_to (port_with a.lanes r.speed r.mtu a.up) (port_with a.lanes r.speed r.mtu r.up) []))
-      ∙ places-set (port_with a.lanes r.speed a.mtu a.up) (port_with a.lanes r.speed r.mtu a.up) (set_to (port_with a.lanes r.speed r.mtu a.up) (port_with a.lanes r.speed r.mtu r.up) [])
-      ∙ places-set (port_with a.lanes r.speed r.mtu a.up) (port_with a.lanes r.speed r.mtu r.up) []
+      places-set (thing_of_port a.lanes a.speed a.mtu a.up) (thing_of_port a.lanes r.speed a.mtu a.up) (set_to (thing_of_port a.lanes r.speed a.mtu a.up) (thing_of_port a.lanes r.speed r.mtu a.up) (set_to (thing_of_port a.lanes r.speed r.mtu a.up) (thing_of_port a.lanes r.speed r.mtu r.up) []))
+      ∙ places-set (thing_of_port a.lanes r.speed a.mtu a.up) (thing_of_port a.lanes r.speed r.mtu a.up) (set_to (thing_of_port a.lanes r.speed r.mtu a.up) (thing_of_port a.lanes r.speed r.mtu r.up) [])
+      ∙ places-set (thing_of_port a.lanes r.speed r.mtu a.up) (thing_of_port a.lanes r.speed r.mtu r.up) []
   changed-places (key.Port p) (row.Port a) _ is old fits = elim fits [ ]
   changed-places (key.Port p) _ r is old fits = elim old [ ]
   changed-places _ a r is old fits = elim is [ ]
@@ -62,6 +62,6 @@ module _ (plan : Ports) (names : Names) where
   removed-places (key.Port p) _ is fits = elim fits [ ]
   removed-places _ a is fits = elim is [ ]
 
-  pub removed-names : (worker : ℕ) (k : Key) (a : Row) → IsPortKey k → started_names plan names worker k (Some a) None ≡ changed names (name.Row k) (going worker)
-  removed-names worker (key.Port p) a is = names-plain (changed names (name.Row (key.Port p)) (going worker)) worker (key.Port p) (first_due plan names (key.Port p) (Some a) None)
+  pub removed-names : (worker : ℕ) (k : Key) (a : Row) → IsPortKey k → started_names plan names worker k (Some a) None ≡ changed names (name.Row k) (begun_to_go worker)
+  removed-names worker (key.Port p) a is = names-plain (changed names (name.Row (key.Port p)) (begun_to_go worker)) worker (key.Port p) (first_due plan names (key.Port p) (Some a) None)
   removed-names worker _ a is = elim is [ ]

@@ -14,7 +14,7 @@ use Rattle.sai_types.specs.declared.thing.Thing.{Thing}
 use Rattle.sai_types.specs.Named.{first_lane}
 use Rattle.sai_types.specs.Names as name
 use Rattle.switch_model.specs.declared.wait.Wait.{Wait}
-use Rattle.row_layout.specs.Operations.{Change, Make, Take, port_with, set_to}
+use Rattle.row_layout.specs.Operations.{Change, Make, Take, thing_of_port, set_to}
 use Rattle.orch_flight.specs.Operation.{Operation}
 
 abbrev pub IsPortKey : Key → Type 0
@@ -22,7 +22,7 @@ IsPortKey (key.Port port) = Unit {0}
 IsPortKey _ = ⊥
 
 abbrev pub port_thing : PortRow → Thing
-port_thing r = port_with r.lanes r.speed r.mtu r.up
+port_thing r = thing_of_port r.lanes r.speed r.mtu r.up
 
 abbrev pub port_body : PortRow → Body Vid
 port_body r = body.Port r.lanes r.speed r.mtu r.up
@@ -30,9 +30,9 @@ port_body r = body.Port r.lanes r.speed r.mtu r.up
 -- from one row to another: the speed, the mtu and whether it is up, each where it differs
 abbrev pub port_sets : PortRow → PortRow → List Change
 port_sets a r =
-    set_to (port_with a.lanes a.speed a.mtu a.up) (port_with a.lanes r.speed a.mtu a.up)
-    (set_to (port_with a.lanes r.speed a.mtu a.up) (port_with a.lanes r.speed r.mtu a.up)
-    (set_to (port_with a.lanes r.speed r.mtu a.up) (port_with a.lanes r.speed r.mtu r.up) []))
+    set_to (thing_of_port a.lanes a.speed a.mtu a.up) (thing_of_port a.lanes r.speed a.mtu a.up)
+    (set_to (thing_of_port a.lanes r.speed a.mtu a.up) (thing_of_port a.lanes r.speed r.mtu a.up)
+    (set_to (thing_of_port a.lanes r.speed r.mtu a.up) (thing_of_port a.lanes r.speed r.mtu r.up) []))
 
 -- what is due for a port whose things stand as for the first row, and that is to have the second
 abbrev pub port_due : Bool → Option PortRow → Option PortRow → List Change
@@ -65,8 +65,8 @@ IsPortRow (Some (row.Port r)) = Unit {0}
 IsPortRow (Some _) = ⊥
 
 -- an operation of which nothing is made
-abbrev pub IsFirst : ℕ → Key → Option Row → Option Row → Operation → Type 0
-IsFirst worker k old new operation = (port : ℕ) × (now : Option PortRow) × (next : Option PortRow) × (k ≡ key.Port port) × (old ≡ option_map row.Port now) × (new ≡ option_map row.Port next) × (operation ≡ port_operation worker port false now next)
+abbrev pub IsPortStart : ℕ → Key → Option Row → Option Row → Operation → Type 0
+IsPortStart worker k old new operation = (port : ℕ) × (now : Option PortRow) × (next : Option PortRow) × (k ≡ key.Port port) × (old ≡ option_map row.Port now) × (new ≡ option_map row.Port next) × (operation ≡ port_operation worker port false now next)
 
 -- an operation for an answer
 abbrev pub flown : Operation → Result (Unit {0}) Wait → Result Operation Wait

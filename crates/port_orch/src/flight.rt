@@ -8,7 +8,7 @@ ghost use Rattle.orch_flight.specs.Taking.{IsTook, MayTake};
 ghost use Rattle.ref_counts.specs.Registered.{first_of};
 ghost use Rattle.ref_counts.specs.Registry.{ids_of};
 ghost use Rattle.sai_types.specs.declared.ids.Vid.{Vid};
-ghost use Rattle.port_orch.specs.Ports.{IsFirst, IsPortKey, IsPortRow, first_attr, flown, port_body, stepped};
+ghost use Rattle.port_orch.specs.Ports.{IsPortStart, IsPortKey, IsPortRow, first_attr, flown, port_body, stepped};
 
 use crate::starting::{add, change, remove};
 use orch_flight::vid;
@@ -83,7 +83,7 @@ impl PortFlight {
         requires port { IsPortKey key.now }
         requires old { IsPortRow (option_map (λ r. r.now) old) }
         requires new { IsPortRow (option_map (λ r. r.now) new) }
-        ensures { IfOk result (IsFirst worker key.now (option_map (λ r. r.now) old.entry) (option_map (λ r. r.now) new.entry)) }
+        ensures { IfOk result (IsPortStart worker key.now (option_map (λ r. r.now) old.entry) (option_map (λ r. r.now) new.entry)) }
     {
         let Key::Port(port) = key else {
             unreachable!();

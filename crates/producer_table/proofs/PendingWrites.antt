@@ -19,7 +19,7 @@ use Rattle.table_schema.proofs.Places.{HasRisingKeys-insert_entry}
 use Rattle.table_schema.proofs.RowLists.{HasRisingRows-after_write, HasRisingRows-after_writes}
 use Rattle.producer_table.specs.declared.key_op.KeyOp.{KeyOp}
 use Rattle.producer_table.specs.declared.waiting.Pending.{Pending}
-use Rattle.producer_table.specs.Pending.{PendingKeys, AreInOrder, HaveRisingNames, has_write, is_write_of, laid_over, nothing_pending, op_of, ops_of, pending_after, pending_after_all, pending_at, pending_fields, pending_of, row_with_fields, row_with_pending, set_of, with_ops, with_pending, writes_of_op, writes_of_ops}
+use Rattle.producer_table.specs.Pending.{PendingKeys, ArePendingInOrder, HaveRisingNames, has_write, is_write_of, laid_over, nothing_pending, op_of, ops_of, pending_after, pending_after_all, pending_at, pending_fields, pending_of, row_with_fields, row_with_pending, set_of, with_ops, with_pending, writes_of_op, writes_of_ops}
 use Rattle.producer_table.proofs.Found.{each-found, each-put, lookup-above, same_entries}
 use Rattle.producer_table.proofs.Merging.{merged-merged}
 use Rattle.producer_table.proofs.RowWrites.{after_writes-append, fields_at-after_write, row_after}
@@ -101,18 +101,18 @@ HasRisingKeys-after : (pending : PendingKeys) (w : Write) → HasRisingKeys key_
 HasRisingKeys-after pending (Set k fields) h = HasRisingKeys-insert_entry key_cmp key_total pending k (laid_over (pending_at pending k) fields) h
 HasRisingKeys-after pending (Del k) h = HasRisingKeys-insert_entry key_cmp key_total pending k (record { dropped = true; fields = None }) h
 
-pub AreInOrder-after : (pending : PendingKeys) (w : Write) → AreInOrder pending → AreInOrder (pending_after pending w)
+pub AreInOrder-after : (pending : PendingKeys) (w : Write) → ArePendingInOrder pending → ArePendingInOrder (pending_after pending w)
 AreInOrder-after pending w h = record { keys = HasRisingKeys-after pending w h.keys; names = HaveRisingNames-after pending w h.names }
 
-AreInOrder-after_all : (pending : PendingKeys) (ws : List Write) → AreInOrder pending → AreInOrder (pending_after_all pending ws)
+AreInOrder-after_all : (pending : PendingKeys) (ws : List Write) → ArePendingInOrder pending → ArePendingInOrder (pending_after_all pending ws)
 AreInOrder-after_all pending [] h = h
 AreInOrder-after_all pending (w ∷ ws) h = AreInOrder-after_all (pending_after pending w) ws (AreInOrder-after pending w h)
 
-pub AreInOrder-pending_of : (ws : List Write) → AreInOrder (pending_of ws)
+pub AreInOrder-pending_of : (ws : List Write) → ArePendingInOrder (pending_of ws)
 AreInOrder-pending_of ws = AreInOrder-after_all [] ws (record { keys = tt; names = tt })
 
 -- one write more waits
-pub with_pending-after : (rows : Rows) (pending : PendingKeys) (w : Write) → HasRisingRows rows → AreInOrder pending → with_pending rows (pending_after pending w) ≡ after_write (with_pending rows pending) w
+pub with_pending-after : (rows : Rows) (pending : PendingKeys) (w : Write) → HasRisingRows rows → ArePendingInOrder pending → with_pending rows (pending_after pending w) ≡ after_write (with_pending rows pending) w
 with_pending-after rows pending w h order =
     let next = AreInOrder-after pending w order in
     let laid = HasRisingRows-after_writes rows (writes_of_ops (ops_of pending)) h in
@@ -125,7 +125,7 @@ with_pending-after rows pending w h order =
     ∙ ap (row_after q w) (sym (fields_at-with_pending rows pending q h order.keys))
     ∙ sym (fields_at-after_write (with_pending rows pending) w q laid))
 
-with_pending-after_all : (rows : Rows) (pending : PendingKeys) (ws : List Write) → HasRisingRows rows → AreInOrder pending → with_pending rows (pending_after_all pending ws) ≡ after_writes (with_pending rows pending) ws
+with_pending-after_all : (rows : Rows) (pending : PendingKeys) (ws : List Write) → HasRisingRows rows → ArePendingInOrder pending → with_pending rows (pending_after_all pending ws) ≡ after_writes (with_pending rows pending) ws
 with_pending-after_all rows pending [] h order = refl
 with_pending-after_all rows pending (w ∷ ws) h order =
     with_pending-after_all rows (pending_after pending w) ws h (AreInOrder-after pending w order) ∙ ap (λ r. after_writes r ws) (with_pending-after rows pending w h order)
@@ -155,7 +155,7 @@ HasRisingKeys-drop (suc m) (e ∷ es) h = HasRisingKeys-drop m es h.1
 pub HaveRisingNames-drop : (m : ℕ) (pending : PendingKeys) → HaveRisingNames pending → HaveRisingNames (drop m pending)
 HaveRisingNames-drop m pending h = each-drop (λ e. HasRisingNames (pending_fields e.1)) m pending h
 
-pub AreInOrder-drop : (m : ℕ) (pending : PendingKeys) → AreInOrder pending → AreInOrder (drop m pending)
+pub AreInOrder-drop : (m : ℕ) (pending : PendingKeys) → ArePendingInOrder pending → ArePendingInOrder (drop m pending)
 AreInOrder-drop m pending h = record { keys = HasRisingKeys-drop m pending h.keys; names = HaveRisingNames-drop m pending h.names }
 
 put_or : (b : Bool) (v : Pending) (rest : Option Pending) → is_some (cond b (Some v) rest) ≡ (b || is_some rest)

@@ -93,6 +93,6 @@ abbrev pub HaveRisingNames : PendingKeys → Type 0
 HaveRisingNames pending = AllByRecursion (λ e. HasRisingNames (pending_fields e.1)) pending
 
 -- the keys rise, and of each key the names of the fields that wait
-pub record AreInOrder (pending : PendingKeys) : Type 0 where
+pub record ArePendingInOrder (pending : PendingKeys) : Type 0 where
   pub keys : HasRisingKeys key_cmp pending
   pub names : HaveRisingNames pending

@@ -4,7 +4,7 @@ ghost use Rattle.table_schema.specs.Fields.{merged};
 ghost use Rattle.table_schema.specs.declared.write.Write.TheVariants as write;
 ghost use Rattle.table_schema.specs.declared.key.Key.{Key};
 ghost use Rattle.producer_table.specs.declared.waiting.Pending.{Pending};
-ghost use Rattle.producer_table.specs.Pending.{AreInOrder, laid_over, nothing_pending, op_of, ops_of, pending_after};
+ghost use Rattle.producer_table.specs.Pending.{ArePendingInOrder, laid_over, nothing_pending, op_of, ops_of, pending_after};
 
 use crate::KeyOp;
 use std::alloc::Global;
@@ -171,10 +171,10 @@ impl Waiting {
         }
     }
 
-    /// Whether nothing waits. What waits is in order, as `AreInOrder` says.
+    /// Whether nothing waits. What waits is in order, as `ArePendingInOrder` says.
     pub fn is_empty(&self) -> bool
         ensures empty { IsTrue result ↔ (self.now ≡ []) }
-        ensures order { AreInOrder self.now }
+        ensures order { ArePendingInOrder self.now }
     {
         self.keys.len() == 0
     }

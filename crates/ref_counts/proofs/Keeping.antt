@@ -15,7 +15,7 @@ use Rattle.table_schema.specs.declared.key.Key.{Key}
 use Rattle.table_schema.proofs.Keys.{key_exact, key_total}
 use Rattle.table_schema.proofs.Places.{above_more, find_step, out_step, put_step}
 use Rattle.table_schema.proofs.Restored.{remove-none, set-put}
-use Rattle.ref_counts.specs.Kept.{AreReadable, HasPlace, Kept, users_in}
+use Rattle.ref_counts.specs.Kept.{AreReadable, HasKeptPlace, Kept, users_in}
 use Rattle.ref_counts.specs.Registered.{IsReadable, first_of, users_but}
 
 -- users that are all above a key
@@ -182,22 +182,22 @@ place_more true x o h = refl
 place_more false x o h = h
 
 -- a place that is put leaves the others
-pub place-put : (es : Kept) (k : Key) (v : Bool) (q : Key) → HasPlace es q → HasPlace (insert_entry key_cmp es k v) q
+pub place-put : (es : Kept) (k : Key) (v : Bool) (q : Key) → HasKeptPlace es q → HasKeptPlace (insert_entry key_cmp es k v) q
 place-put [] k v q h = place_more (is_at (key_cmp q) k) v None h
 place-put (e ∷ es) k v q h =
     let rest = place-put es k v q in
-    elim (key_cmp k e.0) as (λ r. HasPlace (match_ordering r ((k, v) ∷ e ∷ es) ((e.0, v) ∷ es) (e ∷ insert_entry key_cmp es k v)) q) [
+    elim (key_cmp k e.0) as (λ r. HasKeptPlace (match_ordering r ((k, v) ∷ e ∷ es) ((e.0, v) ∷ es) (e ∷ insert_entry key_cmp es k v)) q) [
       | Less ↦ place_more (is_at (key_cmp q) k) v (lookup (is_at (key_cmp q)) (e ∷ es)) h
       | Equal ↦ place_stays_there (is_at (key_cmp q) e.0) e.1 v (lookup (is_at (key_cmp q)) es) (lookup (is_at (key_cmp q)) es) (λ x. x) h
       | Greater ↦ place_stays_there (is_at (key_cmp q) e.0) e.1 e.1 (lookup (is_at (key_cmp q)) es) (lookup (is_at (key_cmp q)) (insert_entry key_cmp es k v)) rest h
     ]
 
 -- a place that is set is there, and so are the others
-pub place-set : (test : Key → Bool) (es : Kept) (v : Bool) (q : Key) → HasPlace es q → HasPlace (set_value test es v) q
+pub place-set : (test : Key → Bool) (es : Kept) (v : Bool) (q : Key) → HasKeptPlace es q → HasKeptPlace (set_value test es v) q
 place-set test [] v q h = h
 place-set test (e ∷ es) v q h =
     let rest = place-set test es v q in
-    elim (test e.0) as (λ b. HasPlace (cond b ((e.0, v) ∷ es) (e ∷ set_value test es v)) q) [
+    elim (test e.0) as (λ b. HasKeptPlace (cond b ((e.0, v) ∷ es) (e ∷ set_value test es v)) q) [
       | true ↦ place_stays_there (is_at (key_cmp q) e.0) e.1 v (lookup (is_at (key_cmp q)) es) (lookup (is_at (key_cmp q)) es) (λ x. x) h
       | false ↦ place_stays_there (is_at (key_cmp q) e.0) e.1 e.1 (lookup (is_at (key_cmp q)) es) (lookup (is_at (key_cmp q)) (set_value test es v)) rest h
     ]

@@ -14,7 +14,7 @@ use Rattle.ref_counts.specs.declared.name.Name.{Name}
 use Rattle.ref_counts.specs.declared.name.Name.TheVariants as name
 use Rattle.ref_counts.specs.declared.pin.Pin.{Pin}
 use Rattle.ref_counts.specs.Registered.{Registered, with_pin}
-use Rattle.ref_counts.specs.Registry.{AreNoted, IsNoted, Names, Noted, changed, changed_at, gone_from, is_among, is_retiring, items_in, name_cmp, noted_by, pinned, state_of}
+use Rattle.ref_counts.specs.Registry.{AreNoted, IsNoted, Names, Noted, changed, changed_at, gone_from, is_among, is_retiring, items_in, registered_name_cmp, noted_by, pinned, state_of}
 
 pub or_more : (a b d : Bool) → (b ≡ true → d ≡ true) → (a || b) ≡ true → (a || d) ≡ true
 or_more true b d f h = refl
@@ -25,16 +25,16 @@ pub noted-changed : (noted : Noted) (n : Name) (f : Registered → Registered) �
 noted-changed noted n f keeps [] h = tt
 noted-changed noted n f keeps (e ∷ es) h =
     let one = keeps e.0 e.1 h.0 in
-    let first : IsNoted noted (changed_at n f e) = elim (is_at (name_cmp n) e.0) as (λ b. IsNoted noted (cond b (e.0, f e.1) e)) [ true ↦ one | false ↦ h.0 ] in
+    let first : IsNoted noted (changed_at n f e) = elim (is_at (registered_name_cmp n) e.0) as (λ b. IsNoted noted (cond b (e.0, f e.1) e)) [ true ↦ one | false ↦ h.0 ] in
     (first, noted-changed noted n f keeps es h.1)
 
 -- a name that nobody pins
-pub noted-put : (noted : Noted) (n : Name) (r : Registered) → r.pins ≡ [] → (names : Names) → AreNoted noted names → AreNoted noted (insert_entry name_cmp names n r)
+pub noted-put : (noted : Noted) (n : Name) (r : Registered) → r.pins ≡ [] → (names : Names) → AreNoted noted names → AreNoted noted (insert_entry registered_name_cmp names n r)
 noted-put noted n r none [] h = (subst (λ ps. AllByRecursion (λ p. is_among n (noted_by noted p.worker) ≡ true) ps) (sym none) tt, tt)
 noted-put noted n r none (e ∷ es) h =
     let rest = noted-put noted n r none es h.1 in
     let new : (m : Name) → IsNoted noted (m, r) = λ m. subst (λ ps. AllByRecursion (λ p. is_among m (noted_by noted p.worker) ≡ true) ps) (sym none) tt in
-    elim (name_cmp n e.0) as (λ o. AreNoted noted (match_ordering o ((n, r) ∷ e ∷ es) ((e.0, r) ∷ es) (e ∷ insert_entry name_cmp es n r))) [ Less ↦ (new n, h) | Equal ↦ (new e.0, h.1) | Greater ↦ (h.0, rest) ]
+    elim (registered_name_cmp n e.0) as (λ o. AreNoted noted (match_ordering o ((n, r) ∷ e ∷ es) ((e.0, r) ∷ es) (e ∷ insert_entry registered_name_cmp es n r))) [ Less ↦ (new n, h) | Equal ↦ (new e.0, h.1) | Greater ↦ (h.0, rest) ]
 
 pub noted-remove : (noted : Noted) (test : Name → Bool) (names : Names) → AreNoted noted names → AreNoted noted (remove_entry test names)
 noted-remove noted test [] h = tt
@@ -61,12 +61,12 @@ pins-push noted n [] p h has = (has, tt)
 pins-push noted n (q ∷ qs) p h has = (h.0, pins-push noted n qs p h.1 has)
 
 -- the name of a key that is noted as a worker's may be pinned by it
-one-pinned : (noted : Noted) (worker : ℕ) (user : Key) (k : Key) → ((n : Name) → is_at (name_cmp (name.Row k)) n ≡ true → is_among n (noted_by noted worker) ≡ true) → (names : Names) → AreNoted noted names → AreNoted noted (changed names (name.Row k) (with_pin worker user))
+one-pinned : (noted : Noted) (worker : ℕ) (user : Key) (k : Key) → ((n : Name) → is_at (registered_name_cmp (name.Row k)) n ≡ true → is_among n (noted_by noted worker) ≡ true) → (names : Names) → AreNoted noted names → AreNoted noted (changed names (name.Row k) (with_pin worker user))
 one-pinned noted worker user k has [] h = tt
 one-pinned noted worker user k has (e ∷ es) h =
     let push = pins-push noted e.0 e.1.pins (record { worker = worker; user = user }) h.0 in
     let first : IsNoted noted (changed_at (name.Row k) (with_pin worker user) e) =
-    elim (is_at (name_cmp (name.Row k)) e.0) as (λ b. (is_at (name_cmp (name.Row k)) e.0 ≡ b) → IsNoted noted (cond b (e.0, with_pin worker user e.1) e)) [
+    elim (is_at (registered_name_cmp (name.Row k)) e.0) as (λ b. (is_at (registered_name_cmp (name.Row k)) e.0 ≡ b) → IsNoted noted (cond b (e.0, with_pin worker user e.1) e)) [
       | true ↦ λ is. push (has e.0 is)
       | false ↦ λ is. h.0
     ] refl in
@@ -75,17 +75,17 @@ one-pinned noted worker user k has (e ∷ es) h =
 all-pinned : (noted : Noted) (worker : ℕ) (user : Key) (ks : List Key) → ((n : Name) → is_among n (map name.Row ks) ≡ true → is_among n (noted_by noted worker) ≡ true) → (names : Names) → AreNoted noted names → AreNoted noted (pinned names worker user ks)
 all-pinned noted worker user [] has names h = h
 all-pinned noted worker user (k ∷ ks) has names h =
-    let tail : (n : Name) → is_among n (map name.Row ks) ≡ true → is_among n (noted_by noted worker) ≡ true = λ n more. has n (or_right (is_at (name_cmp (name.Row k)) n) _ more) in
+    let tail : (n : Name) → is_among n (map name.Row ks) ≡ true → is_among n (noted_by noted worker) ≡ true = λ n more. has n (or_right (is_at (registered_name_cmp (name.Row k)) n) _ more) in
     all-pinned noted worker user ks tail (changed names (name.Row k) (with_pin worker user))
-    (one-pinned noted worker user k (λ n is. has n (or_left (is_at (name_cmp (name.Row k)) n) _ is)) names h)
+    (one-pinned noted worker user k (λ n is. has n (or_left (is_at (registered_name_cmp (name.Row k)) n) _ is)) names h)
 
 among-left : (n : Name) (xs ys : List Name) → is_among n xs ≡ true → is_among n (xs ++ ys) ≡ true
 among-left n [] ys h = absurd (false≢true h)
-among-left n (x ∷ xs) ys h = or_more (is_at (name_cmp x) n) (is_among n xs) (is_among n (xs ++ ys)) (among-left n xs ys) h
+among-left n (x ∷ xs) ys h = or_more (is_at (registered_name_cmp x) n) (is_among n xs) (is_among n (xs ++ ys)) (among-left n xs ys) h
 
 among-right : (n : Name) (xs ys : List Name) → is_among n ys ≡ true → is_among n (xs ++ ys) ≡ true
 among-right n [] ys h = h
-among-right n (x ∷ xs) ys h = or_right (is_at (name_cmp x) n) _ (among-right n xs ys h)
+among-right n (x ∷ xs) ys h = or_right (is_at (registered_name_cmp x) n) _ (among-right n xs ys h)
 
 -- a worker pins the rows of keys, whose names are noted behind those that were
 pub noted-pinned : (old new : Noted) (worker : ℕ) (user : Key) (ks : List Key) (names : Names) → ((q : ℕ) → (q == worker) ≡ false → noted_by new q ≡ noted_by old q) → noted_by new worker ≡ noted_by old worker ++ map name.Row ks → AreNoted old names → AreNoted new (pinned names worker user ks)
@@ -101,8 +101,8 @@ noted-pinned old new worker user ks names others mine h =
 
 pub noted-gone : (noted : Noted) (n : Name) (names : Names) → AreNoted noted names → AreNoted noted (gone_from names n)
 noted-gone noted n names h =
-    let less = noted-remove noted (is_at (name_cmp n)) names h in
-    elim (is_retiring (state_of names n)) as (λ b. AreNoted noted (cond b (remove_entry (is_at (name_cmp n)) names) names)) [ true ↦ less | false ↦ h ]
+    let less = noted-remove noted (is_at (registered_name_cmp n)) names h in
+    elim (is_retiring (state_of names n)) as (λ b. AreNoted noted (cond b (remove_entry (is_at (registered_name_cmp n)) names) names)) [ true ↦ less | false ↦ h ]
 
 -- what holds before and after a change holds of what it comes to
 pub either-way : {T E : Type 0} (P : Names → Type 0) (res : Result T E) (old new after : Names) → OnOk res (new ≡ after) → OnErr res (new ≡ old) → P after → P old → P new

@@ -6,21 +6,21 @@ use Rattle.std.proofs.lemmas.Bool.{or_parts}
 use Rattle.table_schema.specs.Key.{key_cmp}
 use Rattle.table_schema.specs.declared.key.Key.{Key}
 use Rattle.ref_counts.specs.declared.pin.Pin.{Pin}
-use Rattle.ref_counts.specs.Kept.{HasPlace, HavePlaces, Kept}
+use Rattle.ref_counts.specs.Kept.{HasKeptPlace, HavePlaces, Kept}
 use Rattle.ref_counts.specs.Registered.{pins_but, pins_of, with_users}
 
-pub places-kept : (old new : Kept) → ((q : Key) → HasPlace old q → HasPlace new q) → (pins : List Pin) → HavePlaces old pins → HavePlaces new pins
+pub places-kept : (old new : Kept) → ((q : Key) → HasKeptPlace old q → HasKeptPlace new q) → (pins : List Pin) → HavePlaces old pins → HavePlaces new pins
 places-kept old new f [] h = tt
 places-kept old new f (p ∷ ps) h = (f p.user h.0, places-kept old new f ps h.1)
 
 -- the place of a key that no pin is for may go
-pub places-others : (k : Key) (old new : Kept) → ((q : Key) → is_at (key_cmp k) q ≡ false → HasPlace old q → HasPlace new q) → (pins : List Pin) → list_any (λ p. is_at (key_cmp k) p.user) pins ≡ false → HavePlaces old pins → HavePlaces new pins
+pub places-others : (k : Key) (old new : Kept) → ((q : Key) → is_at (key_cmp k) q ≡ false → HasKeptPlace old q → HasKeptPlace new q) → (pins : List Pin) → list_any (λ p. is_at (key_cmp k) p.user) pins ≡ false → HavePlaces old pins → HavePlaces new pins
 places-others k old new f [] none h = tt
 places-others k old new f (p ∷ ps) none h =
     let parts = or_parts (is_at (key_cmp k) p.user) (list_any (λ p. is_at (key_cmp k) p.user) ps) none in
     (f p.user parts.0 h.0, places-others k old new f ps parts.1 h.1)
 
-pub places-push : (kept : Kept) (pins : List Pin) (p : Pin) → HavePlaces kept pins → HasPlace kept p.user → HavePlaces kept (pins ++ p ∷ [])
+pub places-push : (kept : Kept) (pins : List Pin) (p : Pin) → HavePlaces kept pins → HasKeptPlace kept p.user → HavePlaces kept (pins ++ p ∷ [])
 places-push kept [] p h has = (has, tt)
 places-push kept (q ∷ qs) p h has = (h.0, places-push kept qs p h.1 has)
 
@@ -37,7 +37,7 @@ places-but kept worker (p ∷ ps) h =
 
 -- no other worker's pin is for the key
 -- the place of a key may go, or stays where a pin is for it
-pub places-end : (k : Key) (old new : Kept) (pins : List Pin) (b : Bool) → b ≡ list_any (λ p. is_at (key_cmp k) p.user) pins → (b ≡ true → (q : Key) → HasPlace old q → HasPlace new q) → ((q : Key) → is_at (key_cmp k) q ≡ false → HasPlace old q → HasPlace new q) → HavePlaces old pins → HavePlaces new pins
+pub places-end : (k : Key) (old new : Kept) (pins : List Pin) (b : Bool) → b ≡ list_any (λ p. is_at (key_cmp k) p.user) pins → (b ≡ true → (q : Key) → HasKeptPlace old q → HasKeptPlace new q) → ((q : Key) → is_at (key_cmp k) q ≡ false → HasKeptPlace old q → HasKeptPlace new q) → HavePlaces old pins → HavePlaces new pins
 places-end k old new pins true is stays others h = places-kept old new (stays refl) pins h
 places-end k old new pins false is stays others h = places-others k old new others pins (sym is) h
 

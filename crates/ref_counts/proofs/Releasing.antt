@@ -7,7 +7,7 @@ use Rattle.table_schema.specs.declared.key.Key.{Key}
 use Rattle.ref_counts.specs.declared.name.Name.{Name}
 use Rattle.ref_counts.specs.declared.pin.Pin.{Pin}
 use Rattle.ref_counts.specs.Registered.{Registered, pins_but, pins_of, released, with_users}
-use Rattle.ref_counts.specs.Registry.{AreNoted, Names, Noted, all_released, changed, changed_at, each_released, is_among, name_cmp, noted_by}
+use Rattle.ref_counts.specs.Registry.{AreNoted, Names, Noted, all_released, changed, changed_at, each_released, is_among, registered_name_cmp, noted_by}
 
 -- no pin is the worker's
 abbrev pub HasNone : ℕ → List Pin → Type 0
@@ -57,7 +57,7 @@ vacuous : (worker : ℕ) (X : Type 0) (ps : List Pin) → HasNone worker ps → 
 vacuous worker X [] h = tt
 vacuous worker X (p ∷ ps) h = ((λ is. absurd (false≢true (sym h.0 ∙ is))), vacuous worker X ps h.1)
 
-past_other_name : (worker : ℕ) (m n : Name) (ns : List Name) → is_at (name_cmp n) m ≡ false → (ps : List Pin) → AllByRecursion (λ p. (p.worker == worker) ≡ true → is_among m (n ∷ ns) ≡ true) ps → AllByRecursion (λ p. (p.worker == worker) ≡ true → is_among m ns ≡ true) ps
+past_other_name : (worker : ℕ) (m n : Name) (ns : List Name) → is_at (registered_name_cmp n) m ≡ false → (ps : List Pin) → AllByRecursion (λ p. (p.worker == worker) ≡ true → is_among m (n ∷ ns) ≡ true) ps → AllByRecursion (λ p. (p.worker == worker) ≡ true → is_among m ns ≡ true) ps
 past_other_name worker m n ns apart [] h = tt
 past_other_name worker m n ns apart (p ∷ ps) h = ((λ is. let found = h.0 is in rw apart at found), past_other_name worker m n ns apart ps h.1)
 
@@ -66,7 +66,7 @@ covered-changed worker used n ns [] h = tt
 covered-changed worker used n ns (e ∷ es) h =
     let rest = covered-changed worker used n ns es h.1 in
     let first : IsCovered worker ns (changed_at n (released worker used) e) =
-    elim (is_at (name_cmp n) e.0) as (λ b. is_at (name_cmp n) e.0 ≡ b → IsCovered worker ns (cond b (e.0, released worker used e.1) e)) [
+    elim (is_at (registered_name_cmp n) e.0) as (λ b. is_at (registered_name_cmp n) e.0 ≡ b → IsCovered worker ns (cond b (e.0, released worker used e.1) e)) [
       | true ↦ λ is. vacuous worker (is_among e.0 ns ≡ true) (pins_but worker e.1.pins) (has_none-but worker e.1.pins)
       | false ↦ λ is. past_other_name worker e.0 n ns is e.1.pins h.0
     ] refl in
@@ -79,7 +79,7 @@ all-changed worker used n (e ∷ es) =
     let twice = released-twice worker used e.1 in
     let again : Name × Registered → Name × Registered = λ e. (e.0, released worker used e.1) in
     let first : again (changed_at n (released worker used) e) ≡ again e =
-    elim (is_at (name_cmp n) e.0) as (λ b. again (cond b (e.0, released worker used e.1) e) ≡ again e) [
+    elim (is_at (registered_name_cmp n) e.0) as (λ b. again (cond b (e.0, released worker used e.1) e) ≡ again e) [
       | true ↦ ap (λ r. (e.0, r)) twice
       | false ↦ refl
     ] in

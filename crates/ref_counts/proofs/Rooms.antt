@@ -9,7 +9,7 @@ use Rattle.sai_types.specs.declared.kind.Kind.TheVariants as kind
 use Rattle.sai_types.specs.Objects.{level}
 use Rattle.sai_types.specs.Refusal.{capacity_of}
 use Rattle.sai_types.proofs.Levels.{level_within}
-use Rattle.ref_counts.specs.Room.{IsWithin, RoomState, first_lacking, kinds, lacking, lacks, number_of, places_by, places_in_all}
+use Rattle.ref_counts.specs.Room.{IsWithin, RoomState, first_lacking, kinds, lacking, lacks, number_of_kind, places_by, places_in_all}
 
 -- what holds of each kind of the list holds of each kind
 each_kind : (P : Kind → Type 0) → AllByRecursion P kinds → (k : Kind) → P k
@@ -53,8 +53,8 @@ within_after : (n c u a : ℕ) → (nat_lt 0 n && nat_lt c (u + a + n)) ≡ fals
 within_after n c u a h le = grind (arith, nat_tests)
 
 -- where no room is lacking, what is needed fits beside what is reserved
-pub all_fits : (room : RoomState) (need used : List ℕ) → IsWithin room → lacking room need used ≡ None → (k : Kind) → places_in_all room.reserved k + number_of need k ≤ capacity_of room.capacities k
-all_fits room need used within none k = within_after (number_of need k) (capacity_of room.capacities k) (number_of used k) (places_in_all room.reserved k) (each_kind (λ k. lacks room need used k ≡ false) (none_lacks room need used kinds none) k) (within k)
+pub all_fits : (room : RoomState) (need used : List ℕ) → IsWithin room → lacking room need used ≡ None → (k : Kind) → places_in_all room.reserved k + number_of_kind need k ≤ capacity_of room.capacities k
+all_fits room need used within none k = within_after (number_of_kind need k) (capacity_of room.capacities k) (number_of_kind used k) (places_in_all room.reserved k) (each_kind (λ k. lacks room need used k ≡ false) (none_lacks room need used kinds none) k) (within k)
 
 four : (w : ℕ) → w < 4 → (w ≡ 0) ⊎ ((w ≡ 1) ⊎ ((w ≡ 2) ⊎ (w ≡ 3)))
 four zero lt = inl refl

@@ -18,11 +18,11 @@ users_in [] = []
 users_in (e ∷ es) = if e.1 then e.0 ∷ users_in es else users_in es
 
 -- there is a place for the key
-abbrev pub HasPlace : Kept → Key → Type 0
-HasPlace kept user = is_some (lookup (is_at (key_cmp user)) kept) ≡ true
+abbrev pub HasKeptPlace : Kept → Key → Type 0
+HasKeptPlace kept user = is_some (lookup (is_at (key_cmp user)) kept) ≡ true
 
 abbrev pub HavePlaces : Kept → List Pin → Type 0
-HavePlaces kept pins = AllByRecursion (λ p. HasPlace kept p.user) pins
+HavePlaces kept pins = AllByRecursion (λ p. HasKeptPlace kept p.user) pins
 
 abbrev pub AreReadable : Kept → Type 0
 AreReadable kept = AllByRecursion (λ e. IsReadable e.0) kept

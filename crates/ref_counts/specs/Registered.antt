@@ -34,8 +34,8 @@ abbrev pub made_live : List Vid → Registered → Registered
 made_live ids r = record { state = state.Live; ids = ids; places = 0; users = r.users; pins = r.pins }
 
 -- it begins to go: nobody but this worker pins it, and this worker's pins go
-abbrev pub going : ℕ → Registered → Registered
-going worker r = record { state = state.Retiring worker; ids = r.ids; places = 0; users = r.users; pins = [] }
+abbrev pub begun_to_go : ℕ → Registered → Registered
+begun_to_go worker r = record { state = state.Retiring worker; ids = r.ids; places = 0; users = r.users; pins = [] }
 
 abbrev pub with_user : Key → Registered → Registered
 with_user user r = record { state = r.state; ids = r.ids; places = r.places; users = insert_key key_cmp r.users user; pins = r.pins }

@@ -17,15 +17,15 @@ use Rattle.ref_counts.specs.declared.name.NameState.TheVariants as state
 use Rattle.ref_counts.specs.Registered.{Registered, released, retire_refusal, with_pin}
 
 -- by what they name, rows first, and then by their parts
-abbrev pub name_cmp : Name → Name → Ordering
-name_cmp = name_ord.ghosts.cmp
+abbrev pub registered_name_cmp : Name → Name → Ordering
+registered_name_cmp = name_ord.ghosts.cmp
 
 -- the names that are not absent, in order, each once
 abbrev pub Names : Type 0
 Names = List (Name × Registered)
 
 abbrev pub registered_at : Names → Name → Option Registered
-registered_at names n = lookup (is_at (name_cmp n)) names
+registered_at names n = lookup (is_at (registered_name_cmp n)) names
 
 abbrev pub state_in : Option Registered → NameState
 state_in None = state.Absent
@@ -84,16 +84,16 @@ owner_in (state.Retiring worker) = Some worker
 owner_in _ = None
 
 abbrev pub changed_at : Name → (Registered → Registered) → Name × Registered → Name × Registered
-changed_at n f e = if is_at (name_cmp n) e.0 then (e.0, f e.1) else e
+changed_at n f e = if is_at (registered_name_cmp n) e.0 then (e.0, f e.1) else e
 
 -- a change of what is known of one name
 abbrev pub changed : Names → Name → (Registered → Registered) → Names
 changed names n f = map (changed_at n f) names
 
 -- the first of some keys whose row is not live
-abbrev pub first_missing : Names → List Key → Option Key
-first_missing names [] = None
-first_missing names (k ∷ ks) = if is_live (state_of names (name.Row k)) then first_missing names ks else Some k
+abbrev pub first_not_live : Names → List Key → Option Key
+first_not_live names [] = None
+first_not_live names (k ∷ ks) = if is_live (state_of names (name.Row k)) then first_not_live names ks else Some k
 
 -- a worker pins the rows of some keys for a user
 abbrev pub pinned : Names → ℕ → Key → List Key → Names
@@ -105,12 +105,12 @@ abbrev pub all_released : ℕ → Bool → Names → Names
 all_released worker used names = map (λ e. (e.0, released worker used e.1)) names
 
 -- why a worker may not take a name away
-abbrev pub refusal_at : Names → ℕ → Name → Option Wait
-refusal_at names worker n = option_and_then (retire_refusal worker) (registered_at names n)
+abbrev pub retire_refusal_at : Names → ℕ → Name → Option Wait
+retire_refusal_at names worker n = option_and_then (retire_refusal worker) (registered_at names n)
 
 -- a name that was retiring is absent
 abbrev pub gone_from : Names → Name → Names
-gone_from names n = if is_retiring (state_of names n) then remove_entry (is_at (name_cmp n)) names else names
+gone_from names n = if is_retiring (state_of names n) then remove_entry (is_at (registered_name_cmp n)) names else names
 
 -- the names that each worker pins, as they are noted, with names that it no longer pins among them
 abbrev pub Noted : Type 0
@@ -124,7 +124,7 @@ abbrev pub noted_by : Noted → ℕ → List Name
 noted_by noted worker = items_in (lookup (is_at (nat_cmp worker)) noted)
 
 abbrev pub is_among : Name → List Name → Bool
-is_among n names = list_any (λ other. is_at (name_cmp other) n) names
+is_among n names = list_any (λ other. is_at (registered_name_cmp other) n) names
 
 -- each pin of what is known of a name is noted under its worker
 abbrev pub IsNoted : Noted → Name × Registered → Type 0

@@ -18,8 +18,8 @@ abbrev pub all_free : List ℕ → RoomState
 all_free capacities = record { capacities = capacities; reserved = replicate 44 0 }
 
 -- how many there are of a kind
-abbrev pub number_of : List ℕ → Kind → ℕ
-number_of numbers k = slice_index numbers (level k)
+abbrev pub number_of_kind : List ℕ → Kind → ℕ
+number_of_kind numbers k = slice_index numbers (level k)
 
 -- the places of a kind that a worker has reserved
 abbrev pub places_by : List ℕ → ℕ → Kind → ℕ
@@ -31,7 +31,7 @@ places_in_all reserved k = places_by reserved 0 k + places_by reserved 1 k + pla
 
 -- a place of the kind is needed, and with those that are used and reserved that is more than there is room for
 abbrev pub lacks : RoomState → List ℕ → List ℕ → Kind → Bool
-lacks room need used k = nat_lt 0 (number_of need k) && nat_lt (capacity_of room.capacities k) (number_of used k + places_in_all room.reserved k + number_of need k)
+lacks room need used k = nat_lt 0 (number_of_kind need k) && nat_lt (capacity_of room.capacities k) (number_of_kind used k + places_in_all room.reserved k + number_of_kind need k)
 
 abbrev pub first_lacking : RoomState → List ℕ → List ℕ → List Kind → Option Kind
 first_lacking room need used [] = None
@@ -44,7 +44,7 @@ lacking room need used = first_lacking room need used kinds
 -- a worker has so many places more of each kind, and nothing else changes
 pub record Reserves (old : RoomState) (worker : ℕ) (need : List ℕ) (new : RoomState) : Type 0 where
   pub capacities : new.capacities ≡ old.capacities
-  pub more : (k : Kind) → places_by new.reserved worker k ≡ places_by old.reserved worker k + number_of need k
+  pub more : (k : Kind) → places_by new.reserved worker k ≡ places_by old.reserved worker k + number_of_kind need k
   pub others : (other : ℕ) (k : Kind) → ¬ (other ≡ worker) → places_by new.reserved other k ≡ places_by old.reserved other k
 
 -- a worker has no place any more, and nothing else changes

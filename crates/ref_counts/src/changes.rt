@@ -1,7 +1,7 @@
 // Changes of what is known of one name.
 ghost use Rattle.std.specs.Prelude.{◌≡◌, ◌≤◌, None, Some, length, IfErr, OnOk, OnErr};
-ghost use Rattle.ref_counts.specs.Registered.{IsReadable, going, made_live, released, with_pin, with_user, without_last_pin, without_user};
-ghost use Rattle.ref_counts.specs.Registry.{changed, gone_from, places_of, refusal_at, state_of};
+ghost use Rattle.ref_counts.specs.Registered.{IsReadable, begun_to_go, made_live, released, with_pin, with_user, without_last_pin, without_user};
+ghost use Rattle.ref_counts.specs.Registry.{changed, gone_from, places_of, retire_refusal_at, state_of};
 
 use crate::registration::Registration;
 use crate::{Name, NameState};
@@ -58,9 +58,9 @@ pub fn drop_user(names: &mut Registrations, name: &Name, user: &Key)
 /// A worker begins to take a name away, unless a key uses it or another worker pins it.
 pub fn retire(names: &mut Registrations, name: &Name, worker: u32) -> Result<(), Wait>
     requires { state_of names.old.entries name.now ≡ NameState.Live }
-    ensures free { OnOk result (refusal_at names.old.entries worker name.now ≡ None) }
-    ensures ok { OnOk result (names.new.entries ≡ changed names.old.entries name.now (going worker)) }
-    ensures refusal { IfErr result (λ wait. refusal_at names.old.entries worker name.now ≡ Some wait) }
+    ensures free { OnOk result (retire_refusal_at names.old.entries worker name.now ≡ None) }
+    ensures ok { OnOk result (names.new.entries ≡ changed names.old.entries name.now (begun_to_go worker)) }
+    ensures refusal { IfErr result (λ wait. retire_refusal_at names.old.entries worker name.now ≡ Some wait) }
     ensures err { OnErr result (names.new.entries ≡ names.old.entries) }
 {
     match names.get_mut(name) {

@@ -7,17 +7,17 @@ ghost use Rattle.table_schema.specs.declared.key.Key.{Key};
 ghost use Rattle.ref_counts.specs.declared.name.Name.{Name};
 ghost use Rattle.ref_counts.specs.Registered.{Registered, released};
 ghost use Rattle.ref_counts.specs.declared.name.NameState.TheVariants as state;
-ghost use Rattle.ref_counts.specs.Registry.{Names, all_released, changed, gone_from, ids_of, is_retiring, name_cmp, pinned, registered_at, state_of, users_of};
+ghost use Rattle.ref_counts.specs.Registry.{Names, all_released, changed, gone_from, ids_of, is_retiring, registered_name_cmp, pinned, registered_at, state_of, users_of};
 
 /// A name that is put is there.
 pub fn put_names_are_found()
-    ensures { (names : Names) (n : Name) (r : Registered) → registered_at (insert_entry name_cmp names n r) n ≡ Some r }
+    ensures { (names : Names) (n : Name) (r : Registered) → registered_at (insert_entry registered_name_cmp names n r) n ≡ Some r }
 {}
 
 /// A change of a name is one of what is known of it, and of no other name.
 pub fn changes_are_found()
     ensures it { (names : Names) (n : Name) (f : Registered → Registered) → registered_at (changed names n f) n ≡ option_map f (registered_at names n) }
-    ensures others { (names : Names) (n m : Name) (f : Registered → Registered) → is_at (name_cmp n) m ≡ false → registered_at (changed names n f) m ≡ registered_at names m }
+    ensures others { (names : Names) (n m : Name) (f : Registered → Registered) → is_at (registered_name_cmp n) m ≡ false → registered_at (changed names n f) m ≡ registered_at names m }
 {}
 
 /// A release is one of what is known of each name.
@@ -34,6 +34,6 @@ pub fn pins_leave_names()
 
 /// A name that was retiring and is gone is absent, and the other names stay.
 pub fn gone_names_are_absent()
-    ensures it { (names : Names) (n : Name) → IsStrictlySortedBy name_cmp (keys_of names) → is_retiring (state_of names n) ≡ true → state_of (gone_from names n) n ≡ state.Absent }
-    ensures others { (names : Names) (n m : Name) → IsStrictlySortedBy name_cmp (keys_of names) → is_at (name_cmp n) m ≡ false → registered_at (gone_from names n) m ≡ registered_at names m }
+    ensures it { (names : Names) (n : Name) → IsStrictlySortedBy registered_name_cmp (keys_of names) → is_retiring (state_of names n) ≡ true → state_of (gone_from names n) n ≡ state.Absent }
+    ensures others { (names : Names) (n m : Name) → IsStrictlySortedBy registered_name_cmp (keys_of names) → is_at (registered_name_cmp n) m ≡ false → registered_at (gone_from names n) m ≡ registered_at names m }
 {}

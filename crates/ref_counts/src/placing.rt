@@ -2,7 +2,7 @@
 ghost use Rattle.std.specs.Prelude.{◌≡◌, List, ◌∷◌, [], if◌then◌else◌};
 ghost use Rattle.table_schema.specs.declared.key.Key.{Key};
 ghost use Rattle.ref_counts.specs.declared.pin.Pin.{Pin};
-ghost use Rattle.ref_counts.specs.Kept.{AreReadable, HasPlace, HavePlaces, users_in};
+ghost use Rattle.ref_counts.specs.Kept.{AreReadable, HasKeptPlace, HavePlaces, users_in};
 ghost use Rattle.ref_counts.specs.Registered.{pins_but, pins_of, users_but, with_users};
 
 use crate::pin::Pin;
@@ -48,7 +48,7 @@ pub fn leave_places(users: &mut Places, pins: &[Pin], worker: u32, used: bool)
 fn use_places(users: &mut Places, pins: &[Pin], worker: u32)
     requires { HavePlaces users.old.entries pins.now }
     ensures users { users_in users.new.entries ≡ with_users (pins_of worker pins.now) (users_in users.old.entries) }
-    ensures others { (q : Key) → HasPlace users.old.entries q → HasPlace users.new.entries q }
+    ensures others { (q : Key) → HasKeptPlace users.old.entries q → HasKeptPlace users.new.entries q }
     ensures readable { AreReadable users.old.entries → AreReadable users.new.entries }
 {
     match pins {
@@ -62,9 +62,9 @@ fn use_places(users: &mut Places, pins: &[Pin], worker: u32)
 
 /// The key of a pin becomes a user, where it is the worker's.
 fn use_place_by(users: &mut Places, pin: &Pin, worker: u32)
-    requires { HasPlace users.old.entries pin.now.user }
+    requires { HasKeptPlace users.old.entries pin.now.user }
     ensures users { users_in users.new.entries ≡ with_users (pins_of worker (pin.now ∷ [])) (users_in users.old.entries) }
-    ensures others { (q : Key) → HasPlace users.old.entries q → HasPlace users.new.entries q }
+    ensures others { (q : Key) → HasKeptPlace users.old.entries q → HasKeptPlace users.new.entries q }
     ensures places { (ps : List Pin) → HavePlaces users.old.entries ps → HavePlaces users.new.entries ps }
     ensures readable { AreReadable users.old.entries → AreReadable users.new.entries }
 {

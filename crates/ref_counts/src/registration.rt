@@ -1,7 +1,7 @@
 // What is known of one name.
 ghost use Rattle.std.specs.Prelude.{◌≡◌, ◌≤◌, None, Some, length, option_map, IfOk, IfErr, OnOk, OnErr};
 ghost use Rattle.ref_counts.specs.Registry.{ids_by};
-ghost use Rattle.ref_counts.specs.Registered.{IsReadable, begun, first_of, going, least_worker, made_live, pins_but, released, retire_refusal, with_pin, with_user, without_last_pin, without_user};
+ghost use Rattle.ref_counts.specs.Registered.{IsReadable, begun, first_of, begun_to_go, least_worker, made_live, pins_but, released, retire_refusal, with_pin, with_user, without_last_pin, without_user};
 
 use crate::NameState;
 use crate::copied::copied;
@@ -140,7 +140,7 @@ impl Registration {
     /// A worker begins to take it away, unless a key uses it or another worker pins it.
     pub fn retire(&mut self, worker: u32) -> Result<(), Wait>
         ensures free { OnOk result (retire_refusal worker self.old ≡ None) }
-        ensures ok { OnOk result (self.new ≡ going worker self.old) }
+        ensures ok { OnOk result (self.new ≡ begun_to_go worker self.old) }
         ensures refusal { IfErr result (λ wait. retire_refusal worker self.old ≡ Some wait) }
         ensures err { OnErr result (self.new ≡ self.old) }
     {

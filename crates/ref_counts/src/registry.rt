@@ -3,8 +3,8 @@ ghost use Rattle.std.specs.Prelude.{◌≡◌, ◌≤◌, ◌↔◌, [], true, l
 ghost use Rattle.std.specs.BTreeMap.{insert_entry};
 ghost use Rattle.std.specs.List.Sorted.{IsStrictlySortedBy};
 ghost use Rattle.std.specs.Map.{keys_of};
-ghost use Rattle.ref_counts.specs.Registered.{IsReadable, begun, first_of, going, made_live, with_user, without_user};
-ghost use Rattle.ref_counts.specs.Registry.{all_released, changed, first_missing, gone_from, ids_of, is_live, name_cmp, owner_in, pinned, places_of, refusal_at, state_of, takes_users, users_of};
+ghost use Rattle.ref_counts.specs.Registered.{IsReadable, begun, first_of, begun_to_go, made_live, with_user, without_user};
+ghost use Rattle.ref_counts.specs.Registry.{all_released, changed, first_not_live, gone_from, ids_of, is_live, registered_name_cmp, owner_in, pinned, places_of, retire_refusal_at, state_of, takes_users, users_of};
 
 use crate::changes::Registrations;
 use crate::pinning::{NotedNames, pin_all, release_all};
@@ -59,7 +59,7 @@ impl Registry {
     /// Whether a name is live. What is known of names is in their order, of each once.
     pub fn live(&self, name: &Name) -> bool
         ensures live { IsTrue result ↔ (state_of self.now name.now ≡ NameState.Live) }
-        ensures order { IsStrictlySortedBy name_cmp (keys_of self.now) }
+        ensures order { IsStrictlySortedBy registered_name_cmp (keys_of self.now) }
     {
         // It says that the names rise.
         let _rising = self.names.len();
@@ -79,8 +79,8 @@ impl Registry {
     ) -> Result<Result<(), Missing>, OutOfMemory>
         requires { IsReadable user.now }
         ensures ok { IfOk result (λ answer. OnOk answer (self.new ≡ pinned self.old worker user.now names.now)) }
-        ensures live { IfOk result (λ answer. OnOk answer (first_missing self.old names.now ≡ None)) }
-        ensures missing { IfOk result (λ answer. IfErr answer (λ missing. first_missing self.old names.now ≡ Some missing.0)) }
+        ensures live { IfOk result (λ answer. OnOk answer (first_not_live self.old names.now ≡ None)) }
+        ensures missing { IfOk result (λ answer. IfErr answer (λ missing. first_not_live self.old names.now ≡ Some missing.0)) }
         ensures none { IfOk result (λ answer. OnErr answer (self.new ≡ self.old)) }
         ensures err { OnErr result (self.new ≡ self.old) }
     {
@@ -94,7 +94,7 @@ impl Registry {
     /// Pins the rows of some keys that are all live, as `pin` does once it has found none that is not.
     pub fn pin_live(&mut self, worker: u32, user: &Key, names: &[Key]) -> Result<(), OutOfMemory>
         requires readable { IsReadable user.now }
-        requires live { first_missing self.old names.now ≡ None }
+        requires live { first_not_live self.old names.now ≡ None }
         ensures ok { OnOk result (self.new ≡ pinned self.old worker user.now names.now) }
         ensures err { OnErr result (self.new ≡ self.old) }
     {
@@ -124,7 +124,7 @@ impl Registry {
         vids: u64,
     ) -> Result<Result<(), Wait>, OutOfMemory>
         requires { ¬ (state_of self.old name ≡ NameState.Live) }
-        ensures ok { IfOk result (λ answer. OnOk answer (self.new ≡ insert_entry name_cmp self.old name (begun worker vids))) }
+        ensures ok { IfOk result (λ answer. OnOk answer (self.new ≡ insert_entry registered_name_cmp self.old name (begun worker vids))) }
         ensures absent { IfOk result (λ answer. OnOk answer (state_of self.old name ≡ NameState.Absent)) }
         ensures busy { IfOk result (λ answer. IfErr answer (λ wait. option_map Wait.Busy (owner_in (state_of self.old name)) ≡ Some wait)) }
         ensures none { IfOk result (λ answer. OnErr answer (self.new ≡ self.old)) }
@@ -144,7 +144,7 @@ impl Registry {
     /// Begins the building of a name that is absent, as `start_build` does once it has found that it is.
     pub fn start_absent(&mut self, worker: u32, name: Name, vids: u64) -> Result<(), OutOfMemory>
         requires { state_of self.old name ≡ NameState.Absent }
-        ensures ok { OnOk result (self.new ≡ insert_entry name_cmp self.old name (begun worker vids)) }
+        ensures ok { OnOk result (self.new ≡ insert_entry registered_name_cmp self.old name (begun worker vids)) }
         ensures err { OnErr result (self.new ≡ self.old) }
     {
         let registration = Registration::begun(self.alloc, worker, vids)?;
@@ -210,9 +210,9 @@ impl Registry {
     /// worker that pins it. The worker's own pins of it go.
     pub fn try_retire(&mut self, worker: u32, name: &Name) -> Result<(), Wait>
         requires { state_of self.old name.now ≡ NameState.Live }
-        ensures free { OnOk result (refusal_at self.old worker name.now ≡ None) }
-        ensures ok { OnOk result (self.new ≡ changed self.old name.now (going worker)) }
-        ensures refusal { IfErr result (λ wait. refusal_at self.old worker name.now ≡ Some wait) }
+        ensures free { OnOk result (retire_refusal_at self.old worker name.now ≡ None) }
+        ensures ok { OnOk result (self.new ≡ changed self.old name.now (begun_to_go worker)) }
+        ensures refusal { IfErr result (λ wait. retire_refusal_at self.old worker name.now ≡ Some wait) }
         ensures err { OnErr result (self.new ≡ self.old) }
     {
         changes::retire(&mut self.names, name, worker)
@@ -227,7 +227,7 @@ impl Registry {
 
     /// The first of some keys whose row is not live.
     fn first_missing(&self, keys: &[Key]) -> Result<Option<Key>, OutOfMemory>
-        ensures { IfOk result (λ missing. missing ≡ first_missing self.now keys.now) }
+        ensures { IfOk result (λ missing. missing ≡ first_not_live self.now keys.now) }
     {
         for key in keys {
             let name = Name::Row(key.copy()?);

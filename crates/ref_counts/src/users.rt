@@ -7,7 +7,7 @@ ghost use Rattle.std.specs.Map.{lookup};
 ghost use Rattle.std.specs.Option.{is_some};
 ghost use Rattle.table_schema.specs.Key.{key_cmp};
 ghost use Rattle.table_schema.specs.declared.key.Key.{Key};
-ghost use Rattle.ref_counts.specs.Kept.{AreReadable, HasPlace, users_in};
+ghost use Rattle.ref_counts.specs.Kept.{AreReadable, HasKeptPlace, users_in};
 ghost use Rattle.ref_counts.specs.Registered.{IsReadable, first_of, users_but};
 
 use crate::copied::copied;
@@ -50,8 +50,8 @@ pub fn is_pinned_by_others(pins: &[Pin], worker: u32, user: &Key) -> bool
 pub fn keep_place(places: &mut Places, user: &Key) -> Result<(), OutOfMemory>
     requires { IsReadable user.now }
     ensures users { users_in places.new.entries ≡ users_in places.old.entries }
-    ensures placed { OnOk result (HasPlace places.new.entries user.now) }
-    ensures others { (q : Key) → HasPlace places.old.entries q → HasPlace places.new.entries q }
+    ensures placed { OnOk result (HasKeptPlace places.new.entries user.now) }
+    ensures others { (q : Key) → HasKeptPlace places.old.entries q → HasKeptPlace places.new.entries q }
     ensures readable { AreReadable places.old.entries → AreReadable places.new.entries }
 {
     if !places.contains_key(user) {
@@ -65,8 +65,8 @@ fn put_place(places: &mut Places, user: Key) -> Result<(), OutOfMemory>
     requires readable { IsReadable user }
     requires none { is_some (lookup (is_at (key_cmp user)) places.old.entries) ≡ false }
     ensures users { users_in places.new.entries ≡ users_in places.old.entries }
-    ensures placed { OnOk result (HasPlace places.new.entries user) }
-    ensures others { (q : Key) → HasPlace places.old.entries q → HasPlace places.new.entries q }
+    ensures placed { OnOk result (HasKeptPlace places.new.entries user) }
+    ensures others { (q : Key) → HasKeptPlace places.old.entries q → HasKeptPlace places.new.entries q }
     ensures readable { AreReadable places.old.entries → AreReadable places.new.entries }
 {
     places.insert(user, false)?;
@@ -77,7 +77,7 @@ fn put_place(places: &mut Places, user: Key) -> Result<(), OutOfMemory>
 pub fn put_user(places: &mut Places, user: Key) -> Result<(), OutOfMemory>
     requires { IsReadable user }
     ensures users { OnOk result (users_in places.new.entries ≡ insert_key key_cmp (users_in places.old.entries) user) }
-    ensures others { (q : Key) → HasPlace places.old.entries q → HasPlace places.new.entries q }
+    ensures others { (q : Key) → HasKeptPlace places.old.entries q → HasKeptPlace places.new.entries q }
     ensures readable { AreReadable places.old.entries → AreReadable places.new.entries }
     ensures err { OnErr result (users_in places.new.entries ≡ users_in places.old.entries) }
 {
@@ -87,9 +87,9 @@ pub fn put_user(places: &mut Places, user: Key) -> Result<(), OutOfMemory>
 
 /// Makes a key that has a place a user.
 pub fn use_place(places: &mut Places, user: &Key)
-    requires { HasPlace places.old.entries user.now }
+    requires { HasKeptPlace places.old.entries user.now }
     ensures users { users_in places.new.entries ≡ insert_key key_cmp (users_in places.old.entries) user.now }
-    ensures others { (q : Key) → HasPlace places.old.entries q → HasPlace places.new.entries q }
+    ensures others { (q : Key) → HasKeptPlace places.old.entries q → HasKeptPlace places.new.entries q }
     ensures readable { AreReadable places.old.entries → AreReadable places.new.entries }
 {
     if let Some(uses) = places.get_mut(user) {
@@ -110,7 +110,7 @@ fn is_unused(places: &Places, user: &Key) -> bool
 /// Takes the place of a key away, unless it is a user.
 pub fn end_place(places: &mut Places, user: &Key)
     ensures users { users_in places.new.entries ≡ users_in places.old.entries }
-    ensures others { (q : Key) → is_at (key_cmp user.now) q ≡ false → HasPlace places.old.entries q → HasPlace places.new.entries q }
+    ensures others { (q : Key) → is_at (key_cmp user.now) q ≡ false → HasKeptPlace places.old.entries q → HasKeptPlace places.new.entries q }
     ensures readable { AreReadable places.old.entries → AreReadable places.new.entries }
 {
     if is_unused(places, user) {
@@ -121,8 +121,8 @@ pub fn end_place(places: &mut Places, user: &Key)
 /// Makes a key no user: it keeps a place or does not.
 pub fn end_use(places: &mut Places, user: &Key, stays: bool)
     ensures users { users_in places.new.entries ≡ users_but user.now (users_in places.old.entries) }
-    ensures others { (q : Key) → is_at (key_cmp user.now) q ≡ false → HasPlace places.old.entries q → HasPlace places.new.entries q }
-    ensures stays { stays ≡ true → (q : Key) → HasPlace places.old.entries q → HasPlace places.new.entries q }
+    ensures others { (q : Key) → is_at (key_cmp user.now) q ≡ false → HasKeptPlace places.old.entries q → HasKeptPlace places.new.entries q }
+    ensures stays { stays ≡ true → (q : Key) → HasKeptPlace places.old.entries q → HasKeptPlace places.new.entries q }
     ensures readable { AreReadable places.old.entries → AreReadable places.new.entries }
 {
     let _count = places.len();

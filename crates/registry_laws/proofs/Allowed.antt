@@ -29,7 +29,7 @@ use Rattle.ref_counts.specs.declared.name.NameState.{NameState}
 use Rattle.ref_counts.specs.declared.name.NameState.TheVariants as state
 use Rattle.ref_counts.specs.declared.pin.Pin.{Pin}
 use Rattle.ref_counts.specs.Registered.{IsReadable, Registered, pins_but}
-use Rattle.ref_counts.specs.Registry.{Names, name_cmp, registered_at, state_in, state_of}
+use Rattle.ref_counts.specs.Registry.{Names, registered_name_cmp, registered_at, state_in, state_of}
 use Rattle.ref_counts.specs.Room.{RoomState}
 use Rattle.ref_counts.proofs.Changing.{name_total}
 use Rattle.orch_flight.specs.Needing.{name_for}
@@ -44,17 +44,17 @@ use Rattle.registry_laws.proofs.Telling.{row_at, shared_at, unapplied_is}
 -- ---- each entry is found under its name
 
 module _ (P : Registered → Type 0) where
-  all_found : (es : Names) → HasRisingKeys name_cmp es → ((n : Name) (r : Registered) → registered_at es n ≡ Some r → P r) → AllByRecursion (λ e. P e.1) es
+  all_found : (es : Names) → HasRisingKeys registered_name_cmp es → ((n : Name) (r : Registered) → registered_at es n ≡ Some r → P r) → AllByRecursion (λ e. P e.1) es
   all_found [] rising h = tt
   all_found (e ∷ es) rising h = (
-    h e.0 e.1 (find_step name_cmp e es e.0 Equal (tied_itself name_total e.0)),
-    all_found es rising.1 (λ n r at. h n r (later n r at (name_cmp n e.0) refl)),
+    h e.0 e.1 (find_step registered_name_cmp e es e.0 Equal (tied_itself name_total e.0)),
+    all_found es rising.1 (λ n r at. h n r (later n r at (registered_name_cmp n e.0) refl)),
   )
     where
-      later : (n : Name) (r : Registered) → registered_at es n ≡ Some r → (o : Ordering) → name_cmp n e.0 ≡ o → registered_at (e ∷ es) n ≡ Some r
-      later n r at Less is = find_step name_cmp e es n Less is ∙ at
+      later : (n : Name) (r : Registered) → registered_at es n ≡ Some r → (o : Ordering) → registered_name_cmp n e.0 ≡ o → registered_at (e ∷ es) n ≡ Some r
+      later n r at Less is = find_step registered_name_cmp e es n Less is ∙ at
       later n r at Equal is = not_some r (sym (none_below n e.0 es is rising.0) ∙ at)
-      later n r at Greater is = find_step name_cmp e es n Greater is ∙ at
+      later n r at Greater is = find_step registered_name_cmp e es n Greater is ∙ at
 
 all_but : (w : ℕ) (ps : List Pin) → ((p : Pin) → IsIn p ps → p.worker ≡ w → ⊥) → pins_but w ps ≡ ps
 all_but w [] h = refl

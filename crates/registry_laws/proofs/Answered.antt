@@ -28,7 +28,7 @@ use Rattle.switch_machine.proofs.Running.{final-concern, one_owner, shared_of, s
 use Rattle.switch_machine.proofs.Splits.{use_row_in}
 use Rattle.switch_machine.proofs.Tabled.{are_shared_by, tabled}
 use Rattle.ref_counts.specs.Registry as registry
-use Rattle.ref_counts.specs.Registry.{gone_from, name_cmp}
+use Rattle.ref_counts.specs.Registry.{gone_from, registered_name_cmp}
 use Rattle.ref_counts.specs.declared.name.Name.TheVariants as name
 use Rattle.orch_flight.specs.Needing.{name_for}
 use Rattle.ref_counts.specs.Room.{RoomState}
@@ -71,7 +71,7 @@ module _ (plan : Ports) where
   pub some_row : (k : Key) (o : Owner) → IsShared o → Some (owner.OfRow k) ≡ Some o → ⊥
   some_row k o shared h = shared_row o k shared (sym (same_Some (owner.OfRow k) o h))
 
-module _ (plan : Ports) (is : IsPlan plan) (workers : ℕ) (capacities : List ℕ) (m : Machine) (sound : IsConsistent plan m) (names : registry.Names) (room : RoomState) (known : Registers plan workers capacities names room m) (rising : HasRisingKeys name_cmp names) (w : ℕ) (f : MachineFlight) (cs : List Change) (stands : List (Rid × Thing)) where
+module _ (plan : Ports) (is : IsPlan plan) (workers : ℕ) (capacities : List ℕ) (m : Machine) (sound : IsConsistent plan m) (names : registry.Names) (room : RoomState) (known : Registers plan workers capacities names room m) (rising : HasRisingKeys registered_name_cmp names) (w : ℕ) (f : MachineFlight) (cs : List Change) (stands : List (Rid × Thing)) where
   abbrev T : TableLaws plan
   T = tabled plan is
 

@@ -25,12 +25,12 @@ use Rattle.ref_counts.specs.declared.name.NameState.TheVariants as state
 use Rattle.ref_counts.specs.declared.pin.Pin.{Pin}
 use Rattle.ref_counts.specs.Registered.{Registered, made_live, pins_but, pins_of, released, with_users}
 use Rattle.ref_counts.specs.Registry as registry
-use Rattle.ref_counts.specs.Registry.{name_cmp, registered_at, state_in, state_of, users_at}
+use Rattle.ref_counts.specs.Registry.{registered_name_cmp, registered_at, state_in, state_of, users_at}
 use Rattle.ref_counts.specs.Room.{GivesBack, RoomState, places_by}
 use Rattle.ref_counts.proofs.Found.{found-released}
 use Rattle.orch_flight.specs.Needing.{name_for}
 use Rattle.registry_laws.specs.Ending.{ended_names, made_at_last, named_by, users_dropped, users_passed, with_own_ended}
-use Rattle.registry_laws.specs.Known.{IsKnownRow, IsKnownShared, IsPinOf, Names, RowStands, SharedStands, pins_at}
+use Rattle.registry_laws.specs.Known.{IsKnownRow, IsKnownShared, IsPinOf, NamesKey, RowStands, SharedStands, pins_at}
 use Rattle.registry_laws.specs.Registers.{Registers}
 use Rattle.registry_laws.proofs.Finding.{found_at, found_off, gone_at, gone_off}
 use Rattle.registry_laws.proofs.Listing.{but_in, in_but, none_rising, not_some}
@@ -38,7 +38,7 @@ use Rattle.registry_laws.proofs.Passing.{IsDropped, no_pin_left, dropped_off, dr
 
 -- what is known of a name's users and pins, however it stands
 pub record HasUsers (m : Machine) (p : Key) (x : Option Registered) : Type 0 where
-  pub users : (q : Key) → (IsIn q (users_at x) → Names m.board.applied q p) × (Names m.board.applied q p → IsIn q (users_at x))
+  pub users : (q : Key) → (IsIn q (users_at x) → NamesKey m.board.applied q p) × (NamesKey m.board.applied q p → IsIn q (users_at x))
   pub pins : (q : Pin) → (IsIn q (pins_at x) → IsPinOf m.board p q) × (IsPinOf m.board p q → IsIn q (pins_at x))
   pub rising : IsStrictlySortedBy key_cmp (users_at x)
 
@@ -158,21 +158,21 @@ module _ (plan : Ports) (m : Machine) (sound : IsConsistent plan m) (w : ℕ) (f
   -- ---- the users and pins of rows
 
   module _ (p : Key) (x y : Option Registered) (known : IsKnownRow m p x) (dropped : IsDropped f.key (IsIn p (named_by f.key (m.board.applied f.key))) x y) where
-    was_named : (q : Key) → IsSplit f.key q → Names m.board.applied q p → (f.key ≡ q → IsIn p (named_by f.key (m.board.applied f.key)) → ⊥) → Names later.board.applied q p
+    was_named : (q : Key) → IsSplit f.key q → NamesKey m.board.applied q p → (f.key ≡ q → IsIn p (named_by f.key (m.board.applied f.key)) → ⊥) → NamesKey later.board.applied q p
     was_named q (inl same) (r, at, i) none = absurd (none same (subst (λ z. IsIn p (named_by f.key z)) (sym (ap m.board.applied same ∙ at)) (subst (λ z. IsIn p (names_of z r)) (sym same) i)))
     was_named q (inr apart) (r, at, i) none = (r, applied_off q apart ∙ at, i)
 
-    by_pin : (q : Key) (v : Pin) → v.worker ≡ w → q ≡ v.user → IsPinOf m.board p v → Names later.board.applied q p
+    by_pin : (q : Key) (v : Pin) → v.worker ≡ w → q ≡ v.user → IsPinOf m.board p v → NamesKey later.board.applied q p
     by_pin q v same user (g, at, key, (r, new, i)) =
         let one = its v.worker g at same in
         let is : f.key ≡ q = ap (λ (z : MachineFlight). z.key) one ∙ key ∙ sym user in
         (r, applied_at q is ∙ ap (λ (z : MachineFlight). z.new) one ∙ new, subst (λ z. IsIn p (names_of z r)) (key ∙ sym user) i)
 
-    into : (q : Key) → IsIn q (users_at y) ⊎ ((v : Pin) × IsIn v (pins_of w (pins_at y)) × (q ≡ v.user)) → Names later.board.applied q p
+    into : (q : Key) → IsIn q (users_at y) ⊎ ((v : Pin) × IsIn v (pins_of w (pins_at y)) × (q ≡ v.user)) → NamesKey later.board.applied q p
     into q (inl h) = let d = dropped.into q h in was_named q (key_split f.key q) ((known.users q).0 d.0) d.1
     into q (inr (v, i, e)) = let o = of_pins w v (pins_at y) i in by_pin q v o.1 e ((known.pins v).0 (subst (IsIn v) dropped.pins o.0))
 
-    back : (q : Key) → IsSplit f.key q → Names later.board.applied q p → IsIn q (with_users (pins_of w (pins_at y)) (users_at y))
+    back : (q : Key) → IsSplit f.key q → NamesKey later.board.applied q p → IsIn q (with_users (pins_of w (pins_at y)) (users_at y))
     back q (inl same) (r, at, i) =
         let pin : Pin = record { worker = w; user = f.key } in
         let there : IsIn pin (pins_at x) = (known.pins pin).1 (f, ends.flying, refl, (r, sym (applied_at q same) ∙ at, subst (λ z. IsIn p (names_of z r)) (sym same) i)) in
@@ -211,7 +211,7 @@ module _ (plan : Ports) (m : Machine) (sound : IsConsistent plan m) (w : ℕ) (f
   own_going state.Live none some (inr made) = not_some made.row (sym none ∙ ap (λ (z : MachineFlight). z.new) (its made.worker made.flight made.flying (sound.board.one made.worker w made.flight f made.flying ends.flying made.key)) ∙ made.new)
   own_going (state.Retiring v) none some x = ap state.Retiring (sound.board.one v w x.flight f x.flying ends.flying x.key)
 
-  module _ (workers : ℕ) (capacities : List ℕ) (names : registry.Names) (room room' : RoomState) (known : Registers plan workers capacities names room m) (rising : HasRisingKeys name_cmp names) (gives : GivesBack room w room') (some : m.board.applied f.key ≡ None → f.new ≡ None → ⊥) where
+  module _ (workers : ℕ) (capacities : List ℕ) (names : registry.Names) (room room' : RoomState) (known : Registers plan workers capacities names room m) (rising : HasRisingKeys registered_name_cmp names) (gives : GivesBack room w room') (some : m.board.applied f.key ≡ None → f.new ≡ None → ⊥) where
     abbrev old : Option Row
     old = m.board.applied f.key
 
@@ -256,7 +256,7 @@ module _ (plan : Ports) (m : Machine) (sound : IsConsistent plan m) (w : ℕ) (f
         firm_of : (q : Key) (r : Row) → IsRow m.board q r → IsIn f.key (names_of q r) → IsFirm m.board f.key
         firm_of q r row i = sound.board.named q f.key r row i
 
-        nobody : (q : Key) → IsSplit f.key q → Names later.board.applied q f.key → ⊥
+        nobody : (q : Key) → IsSplit f.key q → NamesKey later.board.applied q f.key → ⊥
         nobody q (inl same) (r, at, i) = not_some r (sym (applied_at q same ∙ new) ∙ at)
         nobody q (inr apart) (r, at, i) = (sound.board.named q f.key r (inl (sym (applied_off q apart) ∙ at)) i).stays w f ends.flying refl new
     own_row (Some r) new = by (state_of passed (name.Row f.key)) refl (subst (RowStands m f.key) (sym (state_at f.key)) (known.names_known.rows f.key).stands)

@@ -20,8 +20,8 @@ use Rattle.switch_machine.proofs.Splits.{IsSplit, key_split}
 use Rattle.ref_counts.specs.declared.name.Name.{Name}
 use Rattle.ref_counts.specs.declared.name.Name.TheVariants as name
 use Rattle.ref_counts.specs.declared.pin.Pin.{Pin}
-use Rattle.ref_counts.specs.Registered.{Registered, begun, going, with_pin, with_user}
-use Rattle.ref_counts.specs.Registry.{Names, changed, gone_from, is_retiring, name_cmp, pinned, registered_at, state_in, state_of, users_at}
+use Rattle.ref_counts.specs.Registered.{Registered, begun, begun_to_go, with_pin, with_user}
+use Rattle.ref_counts.specs.Registry.{Names, changed, gone_from, is_retiring, registered_name_cmp, pinned, registered_at, state_in, state_of, users_at}
 use Rattle.ref_counts.specs.declared.name.NameState.TheVariants as state
 use Rattle.std.specs.List.{AllByRecursion}
 use Rattle.std.specs.Map.{remove_entry}
@@ -39,18 +39,18 @@ use Rattle.registry_laws.proofs.Listing.{never_none, not_some}
 
 -- ---- owners have names of their own
 
-names_exact : (o p : Owner) → name_cmp (name_for o) (name_for p) ≡ Equal → o ≡ p
+names_exact : (o p : Owner) → registered_name_cmp (name_for o) (name_for p) ≡ Equal → o ≡ p
 names_exact (owner.OfRow k) (owner.OfRow q) h = ap owner.OfRow (key_exact k q h)
 names_exact (owner.Bridge a) (owner.Bridge b) h = ap owner.Bridge (exact_unsigned a b h)
 names_exact (owner.Own a) (owner.Own b) h = ap owner.Own (ip_exact a b h)
 names_exact (owner.Group a) (owner.Group b) h = ap owner.Group (hops_exact a b h)
 names_exact _ _ h = cc
 
-pub other_name : (o p : Owner) → (o ≡ p → ⊥) → is_at (name_cmp (name_for o)) (name_for p) ≡ false
-other_name o p apart = by (is_at (name_cmp (name_for o)) (name_for p)) refl
+pub other_name : (o p : Owner) → (o ≡ p → ⊥) → is_at (registered_name_cmp (name_for o)) (name_for p) ≡ false
+other_name o p apart = by (is_at (registered_name_cmp (name_for o)) (name_for p)) refl
   where
-    by : (b : Bool) → is_at (name_cmp (name_for o)) (name_for p) ≡ b → b ≡ false
-    by true e = absurd (apart (names_exact o p (tied (name_cmp (name_for o) (name_for p)) e)))
+    by : (b : Bool) → is_at (registered_name_cmp (name_for o)) (name_for p) ≡ b → b ≡ false
+    by true e = absurd (apart (names_exact o p (tied (registered_name_cmp (name_for o) (name_for p)) e)))
     by false e = refl
 
 -- ---- a change, and a name that is put
@@ -61,21 +61,21 @@ found_off names o p f apart = found-other names (name_for o) (name_for p) f (λ 
 pub found_at : (names : Names) (o : Owner) (f : Registered → Registered) → registered_at (changed names (name_for o) f) (name_for o) ≡ option_map f (registered_at names (name_for o))
 found_at names o f = found-changed names (name_for o) f
 
-pub put_at_name : (names : Names) (o : Owner) (r : Registered) → registered_at (insert_entry name_cmp names (name_for o) r) (name_for o) ≡ Some r
+pub put_at_name : (names : Names) (o : Owner) (r : Registered) → registered_at (insert_entry registered_name_cmp names (name_for o) r) (name_for o) ≡ Some r
 put_at_name names o r = found-put names (name_for o) r
 
-put_other : (names : Names) (n m : Name) (r : Registered) → is_at (name_cmp n) m ≡ false → registered_at (insert_entry name_cmp names n r) m ≡ registered_at names m
+put_other : (names : Names) (n m : Name) (r : Registered) → is_at (registered_name_cmp n) m ≡ false → registered_at (insert_entry registered_name_cmp names n r) m ≡ registered_at names m
 put_other [] n m r other = ap (λ b. cond b (Some r) None) (apart_from n m n other (ap is_eq (tied_itself name_total n)))
-put_other (e ∷ es) n m r other = by (put_other es n m r other) (name_cmp n e.0) refl
+put_other (e ∷ es) n m r other = by (put_other es n m r other) (registered_name_cmp n e.0) refl
   where
-    by : registered_at (insert_entry name_cmp es n r) m ≡ registered_at es m → (o : Ordering) → name_cmp n e.0 ≡ o → registered_at (insert_entry name_cmp (e ∷ es) n r) m ≡ registered_at (e ∷ es) m
-    by rest Less is = ap (λ l. registered_at l m) (put_step name_cmp e es n r Less is) ∙ ap (λ b. cond b (Some r) (registered_at (e ∷ es) m)) (apart_from n m n other (ap is_eq (tied_itself name_total n)))
+    by : registered_at (insert_entry registered_name_cmp es n r) m ≡ registered_at es m → (o : Ordering) → registered_name_cmp n e.0 ≡ o → registered_at (insert_entry registered_name_cmp (e ∷ es) n r) m ≡ registered_at (e ∷ es) m
+    by rest Less is = ap (λ l. registered_at l m) (put_step registered_name_cmp e es n r Less is) ∙ ap (λ b. cond b (Some r) (registered_at (e ∷ es) m)) (apart_from n m n other (ap is_eq (tied_itself name_total n)))
     by rest Equal is =
         let off = apart_from n m e.0 other (ap is_eq is) in
-        ap (λ l. registered_at l m) (put_step name_cmp e es n r Equal is) ∙ ap (λ b. cond b (Some r) (registered_at es m)) off ∙ sym (ap (λ b. cond b (Some e.1) (registered_at es m)) off)
-    by rest Greater is = ap (λ l. registered_at l m) (put_step name_cmp e es n r Greater is) ∙ ap (λ z. cond (is_at (name_cmp m) e.0) (Some e.1) z) rest
+        ap (λ l. registered_at l m) (put_step registered_name_cmp e es n r Equal is) ∙ ap (λ b. cond b (Some r) (registered_at es m)) off ∙ sym (ap (λ b. cond b (Some e.1) (registered_at es m)) off)
+    by rest Greater is = ap (λ l. registered_at l m) (put_step registered_name_cmp e es n r Greater is) ∙ ap (λ z. cond (is_at (registered_name_cmp m) e.0) (Some e.1) z) rest
 
-pub put_off_name : (names : Names) (o p : Owner) (r : Registered) → (o ≡ p → ⊥) → registered_at (insert_entry name_cmp names (name_for o) r) (name_for p) ≡ registered_at names (name_for p)
+pub put_off_name : (names : Names) (o p : Owner) (r : Registered) → (o ≡ p → ⊥) → registered_at (insert_entry registered_name_cmp names (name_for o) r) (name_for p) ≡ registered_at names (name_for p)
 put_off_name names o p r apart = put_other names (name_for o) (name_for p) r (other_name o p apart)
 
 -- ---- pins
@@ -185,7 +185,7 @@ module _ (w : ℕ) (k : Key) where
 
   pub own_off : (names : Names) (x y : Option Row) (o : Owner) → (owner.OfRow k ≡ o → ⊥) → registered_at (with_own names w k x y) (name_for o) ≡ registered_at names (name_for o)
   own_off names None y o apart = put_off_name names (owner.OfRow k) o (begun w (ids_for_row k)) apart
-  own_off names (Some a) None o apart = found_off names (owner.OfRow k) o (going w) apart
+  own_off names (Some a) None o apart = found_off names (owner.OfRow k) o (begun_to_go w) apart
   own_off names (Some a) (Some r) o apart = refl
 
   pub pins_off : (names : Names) (x : Option Row) (o : Owner) → ((r : Row) (q : Key) → x ≡ Some r → IsIn q (names_of k r) → owner.OfRow q ≡ o → ⊥) → registered_at (with_pins names w k x) (name_for o) ≡ registered_at names (name_for o)
@@ -202,35 +202,35 @@ module _ (w : ℕ) (k : Key) where
 
 -- ---- a name that is gone
 
-out_other : (names : Names) (n m : Name) → is_at (name_cmp n) m ≡ false → registered_at (remove_entry (is_at (name_cmp n)) names) m ≡ registered_at names m
+out_other : (names : Names) (n m : Name) → is_at (registered_name_cmp n) m ≡ false → registered_at (remove_entry (is_at (registered_name_cmp n)) names) m ≡ registered_at names m
 out_other [] n m other = refl
-out_other (e ∷ es) n m other = by (out_other es n m other) (name_cmp n e.0) refl
+out_other (e ∷ es) n m other = by (out_other es n m other) (registered_name_cmp n e.0) refl
   where
-    by : registered_at (remove_entry (is_at (name_cmp n)) es) m ≡ registered_at es m → (o : Ordering) → name_cmp n e.0 ≡ o → registered_at (remove_entry (is_at (name_cmp n)) (e ∷ es)) m ≡ registered_at (e ∷ es) m
-    by rest Less is = ap (λ l. registered_at l m) (out_step name_cmp e es n Less is) ∙ ap (λ z. cond (is_at (name_cmp m) e.0) (Some e.1) z) rest
-    by rest Equal is = ap (λ l. registered_at l m) (out_step name_cmp e es n Equal is) ∙ sym (ap (λ b. cond b (Some e.1) (registered_at es m)) (apart_from n m e.0 other (ap is_eq is)))
-    by rest Greater is = ap (λ l. registered_at l m) (out_step name_cmp e es n Greater is) ∙ ap (λ z. cond (is_at (name_cmp m) e.0) (Some e.1) z) rest
+    by : registered_at (remove_entry (is_at (registered_name_cmp n)) es) m ≡ registered_at es m → (o : Ordering) → registered_name_cmp n e.0 ≡ o → registered_at (remove_entry (is_at (registered_name_cmp n)) (e ∷ es)) m ≡ registered_at (e ∷ es) m
+    by rest Less is = ap (λ l. registered_at l m) (out_step registered_name_cmp e es n Less is) ∙ ap (λ z. cond (is_at (registered_name_cmp m) e.0) (Some e.1) z) rest
+    by rest Equal is = ap (λ l. registered_at l m) (out_step registered_name_cmp e es n Equal is) ∙ sym (ap (λ b. cond b (Some e.1) (registered_at es m)) (apart_from n m e.0 other (ap is_eq is)))
+    by rest Greater is = ap (λ l. registered_at l m) (out_step registered_name_cmp e es n Greater is) ∙ ap (λ z. cond (is_at (registered_name_cmp m) e.0) (Some e.1) z) rest
 
 -- a name below all others is not among them
-pub none_below : (n : Name) (x : Name) (es : Names) → name_cmp n x ≡ Equal → AllByRecursion (λ e. name_cmp x e.0 ≡ Less) es → registered_at es n ≡ None
+pub none_below : (n : Name) (x : Name) (es : Names) → registered_name_cmp n x ≡ Equal → AllByRecursion (λ e. registered_name_cmp x e.0 ≡ Less) es → registered_at es n ≡ None
 none_below n x [] is h = refl
 none_below n x (e ∷ es) is h = ap (λ o. cond (is_eq o) (Some e.1) (registered_at es n)) (name_total.congr n x e.0 is ∙ h.0) ∙ none_below n x es is h.1
 
-pub out_at : (names : Names) (n : Name) → HasRisingKeys name_cmp names → registered_at (remove_entry (is_at (name_cmp n)) names) n ≡ None
+pub out_at : (names : Names) (n : Name) → HasRisingKeys registered_name_cmp names → registered_at (remove_entry (is_at (registered_name_cmp n)) names) n ≡ None
 out_at [] n rising = refl
-out_at (e ∷ es) n rising = by (out_at es n rising.1) (name_cmp n e.0) refl
+out_at (e ∷ es) n rising = by (out_at es n rising.1) (registered_name_cmp n e.0) refl
   where
-    by : registered_at (remove_entry (is_at (name_cmp n)) es) n ≡ None → (o : Ordering) → name_cmp n e.0 ≡ o → registered_at (remove_entry (is_at (name_cmp n)) (e ∷ es)) n ≡ None
-    by rest Less is = ap (λ l. registered_at l n) (out_step name_cmp e es n Less is) ∙ ap (λ o. cond (is_eq o) (Some e.1) (registered_at (remove_entry (is_at (name_cmp n)) es) n)) is ∙ rest
-    by rest Equal is = ap (λ l. registered_at l n) (out_step name_cmp e es n Equal is) ∙ none_below n e.0 es is rising.0
-    by rest Greater is = ap (λ l. registered_at l n) (out_step name_cmp e es n Greater is) ∙ ap (λ o. cond (is_eq o) (Some e.1) (registered_at (remove_entry (is_at (name_cmp n)) es) n)) is ∙ rest
+    by : registered_at (remove_entry (is_at (registered_name_cmp n)) es) n ≡ None → (o : Ordering) → registered_name_cmp n e.0 ≡ o → registered_at (remove_entry (is_at (registered_name_cmp n)) (e ∷ es)) n ≡ None
+    by rest Less is = ap (λ l. registered_at l n) (out_step registered_name_cmp e es n Less is) ∙ ap (λ o. cond (is_eq o) (Some e.1) (registered_at (remove_entry (is_at (registered_name_cmp n)) es) n)) is ∙ rest
+    by rest Equal is = ap (λ l. registered_at l n) (out_step registered_name_cmp e es n Equal is) ∙ none_below n e.0 es is rising.0
+    by rest Greater is = ap (λ l. registered_at l n) (out_step registered_name_cmp e es n Greater is) ∙ ap (λ o. cond (is_eq o) (Some e.1) (registered_at (remove_entry (is_at (registered_name_cmp n)) es) n)) is ∙ rest
 
 pub gone_off : (names : Names) (o p : Owner) → (o ≡ p → ⊥) → registered_at (gone_from names (name_for o)) (name_for p) ≡ registered_at names (name_for p)
 gone_off names o p apart = by (is_retiring (state_of names (name_for o)))
   where
-    by : (b : Bool) → registered_at (cond b (remove_entry (is_at (name_cmp (name_for o))) names) names) (name_for p) ≡ registered_at names (name_for p)
+    by : (b : Bool) → registered_at (cond b (remove_entry (is_at (registered_name_cmp (name_for o))) names) names) (name_for p) ≡ registered_at names (name_for p)
     by true = out_other names (name_for o) (name_for p) (other_name o p apart)
     by false = refl
 
-pub gone_at : (names : Names) (o : Owner) (w : ℕ) → HasRisingKeys name_cmp names → state_of names (name_for o) ≡ state.Retiring w → registered_at (gone_from names (name_for o)) (name_for o) ≡ None
-gone_at names o w rising e = ap (λ st. registered_at (cond (is_retiring st) (remove_entry (is_at (name_cmp (name_for o))) names) names) (name_for o)) e ∙ out_at names (name_for o) rising
+pub gone_at : (names : Names) (o : Owner) (w : ℕ) → HasRisingKeys registered_name_cmp names → state_of names (name_for o) ≡ state.Retiring w → registered_at (gone_from names (name_for o)) (name_for o) ≡ None
+gone_at names o w rising e = ap (λ st. registered_at (cond (is_retiring st) (remove_entry (is_at (registered_name_cmp (name_for o))) names) names) (name_for o)) e ∙ out_at names (name_for o) rising

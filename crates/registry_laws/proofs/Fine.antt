@@ -22,14 +22,14 @@ use Rattle.switch_machine.proofs.Splits.{IsSplit, owner_split}
 use Rattle.ref_counts.specs.declared.name.Name.TheVariants as name
 use Rattle.ref_counts.specs.declared.name.NameState.{NameState}
 use Rattle.ref_counts.specs.declared.name.NameState.TheVariants as state
-use Rattle.ref_counts.specs.Registered.{Registered, begun, going, made_live, released, with_pin, with_user, without_user}
-use Rattle.ref_counts.specs.Registry.{Names, all_released, changed, gone_from, is_retiring, name_cmp, pinned, places_in, refusal_at, registered_at, state_in, state_of}
+use Rattle.ref_counts.specs.Registered.{Registered, begun, begun_to_go, made_live, released, with_pin, with_user, without_user}
+use Rattle.ref_counts.specs.Registry.{Names, all_released, changed, gone_from, is_retiring, registered_name_cmp, pinned, places_in, retire_refusal_at, registered_at, state_in, state_of}
 use Rattle.ref_counts.proofs.Changing.{name_total}
 use Rattle.ref_counts.proofs.Found.{found-released}
 use Rattle.orch_flight.specs.Grouping.{GroupOperation, group_names_by}
 use Rattle.orch_flight.specs.Needing.{name_for, to_build}
 use Rattle.orch_flight.specs.Starting.{begun_names, ids_for, ids_for_row, left_names, parted_by, used_by, with_building, with_own, with_pins}
-use Rattle.orch_flight.specs.Taking.{made_names, names_after, taken_names, to_list}
+use Rattle.orch_flight.specs.Taking.{names_after_made, names_after, taken_names, to_list}
 use Rattle.registry_laws.specs.Ending.{ended_names, made_at_last, named_by, users_dropped, users_passed, with_own_ended}
 use Rattle.registry_laws.specs.Flying.{ArePlaced, AreThere}
 use Rattle.registry_laws.proofs.Finding.{found_at, found_off, gone_off, out_at, put_at_name, put_off_name}
@@ -44,10 +44,10 @@ IsFine o (Some r) = IsFineAs o r
 
 -- names that are in order, have their places, and are not absent
 pub record AreFine (names : Names) : Type 0 where
-  pub rising : HasRisingKeys name_cmp names
+  pub rising : HasRisingKeys registered_name_cmp names
   pub fine : (o : Owner) → IsFine o (registered_at names (name_for o))
 
-pub fine_of : (names : Names) → HasRisingKeys name_cmp names → ArePlaced names → AreThere names → AreFine names
+pub fine_of : (names : Names) → HasRisingKeys registered_name_cmp names → ArePlaced names → AreThere names → AreFine names
 fine_of names rising placed there = record { rising = rising; fine = λ o. by o (registered_at names (name_for o)) refl }
   where
     by : (o : Owner) (x : Option Registered) → registered_at names (name_for o) ≡ x → IsFine o x
@@ -79,25 +79,25 @@ module _ (o : Owner) (f : Registered → Registered) (keeps : (r : Registered) �
       by p (inl same) = subst (λ z. IsFine z (registered_at (changed names (name_for o) f) (name_for z))) same (subst (IsFine o) (sym (found_at names o f)) (mapped_fine (registered_at names (name_for o)) (are.fine o)))
       by p (inr apart) = subst (IsFine p) (sym (found_off names o p f apart)) (are.fine p)
 
-pub put_fine : (o : Owner) (r : Registered) → IsFineAs o r → (names : Names) → AreFine names → AreFine (insert_entry name_cmp names (name_for o) r)
-put_fine o r is names are = record { rising = HasRisingKeys-insert_entry name_cmp name_total names (name_for o) r are.rising; fine = λ p. by p (owner_split o p) }
+pub put_fine : (o : Owner) (r : Registered) → IsFineAs o r → (names : Names) → AreFine names → AreFine (insert_entry registered_name_cmp names (name_for o) r)
+put_fine o r is names are = record { rising = HasRisingKeys-insert_entry registered_name_cmp name_total names (name_for o) r are.rising; fine = λ p. by p (owner_split o p) }
   where
-    by : (p : Owner) → IsSplit o p → IsFine p (registered_at (insert_entry name_cmp names (name_for o) r) (name_for p))
-    by p (inl same) = subst (λ z. IsFine z (registered_at (insert_entry name_cmp names (name_for o) r) (name_for z))) same (subst (IsFine o) (sym (put_at_name names o r)) is)
+    by : (p : Owner) → IsSplit o p → IsFine p (registered_at (insert_entry registered_name_cmp names (name_for o) r) (name_for p))
+    by p (inl same) = subst (λ z. IsFine z (registered_at (insert_entry registered_name_cmp names (name_for o) r) (name_for z))) same (subst (IsFine o) (sym (put_at_name names o r)) is)
     by p (inr apart) = subst (IsFine p) (sym (put_off_name names o p r apart)) (are.fine p)
 
 pub gone_fine : (o : Owner) (names : Names) → AreFine names → AreFine (gone_from names (name_for o))
 gone_fine o names are = of (is_retiring (state_of names (name_for o))) refl
   where
     of : (b : Bool) → is_retiring (state_of names (name_for o)) ≡ b → AreFine (gone_from names (name_for o))
-    of false e = subst AreFine (sym (ap (λ b. cond b (remove_entry (is_at (name_cmp (name_for o))) names) names) e)) are
+    of false e = subst AreFine (sym (ap (λ b. cond b (remove_entry (is_at (registered_name_cmp (name_for o))) names) names) e)) are
     of true e = record {
-      rising = subst (HasRisingKeys name_cmp) (sym is) (HasRisingKeys-remove_entry name_cmp (is_at (name_cmp (name_for o))) names are.rising);
+      rising = subst (HasRisingKeys registered_name_cmp) (sym is) (HasRisingKeys-remove_entry registered_name_cmp (is_at (registered_name_cmp (name_for o))) names are.rising);
       fine = λ p. by p (owner_split o p);
     }
       where
-        is : gone_from names (name_for o) ≡ remove_entry (is_at (name_cmp (name_for o))) names
-        is = ap (λ b. cond b (remove_entry (is_at (name_cmp (name_for o))) names) names) e
+        is : gone_from names (name_for o) ≡ remove_entry (is_at (registered_name_cmp (name_for o))) names
+        is = ap (λ b. cond b (remove_entry (is_at (registered_name_cmp (name_for o))) names) names) e
 
         by : (p : Owner) → IsSplit o p → IsFine p (registered_at (gone_from names (name_for o)) (name_for p))
         by p (inl same) = subst (λ z. IsFine z (registered_at (gone_from names (name_for o)) (name_for z))) same (subst (IsFine o) (sym (ap (λ l. registered_at l (name_for o)) is ∙ out_at names (name_for o) are.rising)) tt)
@@ -111,7 +111,7 @@ released_fine w names are = record { rising = released_rising w names are.rising
 is_begun : (o : Owner) (w : ℕ) → IsFineAs o (begun w (ids_for o))
 is_begun o w = (λ e. cc, λ v e. refl)
 
-is_going : (o : Owner) (w : ℕ) (r : Registered) → IsFineAs o r → IsFineAs o (going w r)
+is_going : (o : Owner) (w : ℕ) (r : Registered) → IsFineAs o r → IsFineAs o (begun_to_go w r)
 is_going o w r h = (λ e. cc, λ v e. absurd cc)
 
 is_live : (o : Owner) (ids : List Vid) (r : Registered) → IsFineAs o r → IsFineAs o (made_live ids r)
@@ -131,7 +131,7 @@ pins_fine w k (Some r) names are = pinned_fine w k (names_of k r) names are
 
 own_fine : (w : ℕ) (k : Key) (old new : Option Row) (names : Names) → AreFine names → AreFine (with_own names w k old new)
 own_fine w k None new names are = put_fine (owner.OfRow k) (begun w (ids_for_row k)) (is_begun (owner.OfRow k) w) names are
-own_fine w k (Some a) None names are = changed_fine (owner.OfRow k) (going w) (is_going (owner.OfRow k) w) names are
+own_fine w k (Some a) None names are = changed_fine (owner.OfRow k) (begun_to_go w) (is_going (owner.OfRow k) w) names are
 own_fine w k (Some a) (Some r) names are = are
 
 building_fine : (w : ℕ) (x : Option Owner) (names : Names) → AreFine names → AreFine (with_building names w x)
@@ -148,13 +148,13 @@ begun_fine plan names w k old new are =
 -- ---- what is left
 
 pub left_fine : (names : Names) (w : ℕ) (k : Key) (o : Owner) → AreFine names → AreFine (left_names names w k o)
-left_fine names w k o are = by (refusal_at (changed names (name_for o) (without_user k)) w (name_for o))
+left_fine names w k o are = by (retire_refusal_at (changed names (name_for o) (without_user k)) w (name_for o))
   where
     later : AreFine (changed names (name_for o) (without_user k))
     later = changed_fine o (without_user k) (λ r h. h) names are
 
     by : (x : Option Wait) → AreFine (parted_by x (changed names (name_for o) (without_user k)) w o)
-    by None = changed_fine o (going w) (is_going o w) (changed names (name_for o) (without_user k)) later
+    by None = changed_fine o (begun_to_go w) (is_going o w) (changed names (name_for o) (without_user k)) later
     by (Some wait) = later
 
 -- ---- what is made and taken
@@ -162,7 +162,7 @@ left_fine names w k o are = by (refusal_at (changed names (name_for o) (without_
 live_fine : (o : Owner) (ids : List Vid) (names : Names) → AreFine names → AreFine (changed names (name_for o) (made_live ids))
 live_fine o ids names are = changed_fine o (made_live ids) (is_live o ids) names are
 
-made_fine : (names : Names) (k : Key) (t : Thing) (made : Option Vid) → AreFine names → AreFine (made_names names k t made)
+made_fine : (names : Names) (k : Key) (t : Thing) (made : Option Vid) → AreFine names → AreFine (names_after_made names k t made)
 made_fine names k (thing.Port p) made are = live_fine (owner.OfRow k) (to_list made) names are
 made_fine names k (thing.Vlan v) made are = live_fine (owner.OfRow k) (to_list made) names are
 made_fine names k (thing.BridgePort lane) made are = live_fine (owner.Bridge lane) (to_list made) names are

@@ -28,7 +28,7 @@ use Rattle.ref_counts.specs.Registered.{made_live}
 use Rattle.ref_counts.specs.Registry as registry
 use Rattle.ref_counts.specs.Registry.{changed, gone_from, state_of}
 use Rattle.ref_counts.specs.Room.{GivesBack, RoomState}
-use Rattle.orch_flight.specs.Grouping.{GroupOperation, IsGroupTook, first_group_due, group_names_by, with_made}
+use Rattle.orch_flight.specs.Grouping.{GroupOperation, IsGroupTook, first_group_due, group_names_by, members_with_made}
 use Rattle.orch_flight.specs.Operation.{Operation}
 use Rattle.registry_laws.specs.Ending.{ended_names}
 use Rattle.registry_laws.specs.Flown.{Flown, flight_of, group_in, group_to_build, group_to_take}
@@ -112,7 +112,7 @@ module _ (plan : Ports) (is : IsPlan plan) (capacities : List ℕ) (m : Machine)
   fine = fine_of names board.rising board.placed board.there
 
   fine' : AreFine names'
-  fine' = subst AreFine (sym took.names_are) (group_fine names part (with_made part made) took.rest fine)
+  fine' = subst AreFine (sym took.names_are) (group_fine names part (members_with_made part made) took.rest fine)
 
   standing : HasStanding plan later p
   standing t d i j e =
@@ -136,7 +136,7 @@ module _ (plan : Ports) (is : IsPlan plan) (capacities : List ℕ) (m : Machine)
 
   module _ (number : is_some made ≡ part.builds) (d : Change) (ds : List Change) (more : took.rest ≡ d ∷ ds) where
     names_same : names' ≡ names
-    names_same = took.names_are ∙ ap (group_names_by names part (with_made part made)) more
+    names_same = took.names_are ∙ ap (group_names_by names part (members_with_made part made)) more
 
     known' : Registers plan 4 capacities names room later
     known' = same_moved plan m w g c cs stands moves 4 capacities names room board.registers next
@@ -150,18 +150,18 @@ module _ (plan : Ports) (is : IsPlan plan) (capacities : List ℕ) (m : Machine)
             (d, subst (IsIn d) (sym rest_is) (in-left d took.rest p.due i), subst (IsOwnedBy plan (changed_name d)) same (part_own d (subst (IsIn d) (sym took.due) (inr i))))
 
     -- with another identifier where the group is built
-    counted : part.builds ≡ true → length (z.rest.0 ++ took.change ∷ []) ≡ length (with_made part made)
+    counted : part.builds ≡ true → length (z.rest.0 ++ took.change ∷ []) ≡ length (members_with_made part made)
     counted builds = by made (number ∙ builds)
       where
         was : length z.rest.0 ≡ length part.made
         was = z.rest.2 builds
 
-        by : (v : Option Vid) → is_some v ≡ true → length (z.rest.0 ++ took.change ∷ []) ≡ length (with_made part v)
+        by : (v : Option Vid) → is_some v ≡ true → length (z.rest.0 ++ took.change ∷ []) ≡ length (members_with_made part v)
         by None h = absurd cc
         by (Some v) h = length_one z.rest.0 took.change ∙ ap suc was ∙ sym (length_one part.made v) ∙ sym (ap (λ b. length (if b then part.made ++ v ∷ [] else part.made)) builds)
 
     abbrev next_part : GroupOperation
-    next_part = record { worker = part.worker; hops = part.hops; builds = part.builds; neighbours = part.neighbours; made = with_made part made; due = took.rest }
+    next_part = record { worker = part.worker; hops = part.hops; builds = part.builds; neighbours = part.neighbours; made = members_with_made part made; due = took.rest }
 
     now_part : IsGroupFlown plan names p next_part
     now_part = record {
@@ -201,8 +201,8 @@ module _ (plan : Ports) (is : IsPlan plan) (capacities : List ℕ) (m : Machine)
     none_left : HasChangeOf plan cs o → ⊥
     none_left t = no_more (subst (λ l. HasChangeOf plan l o) rest_own t)
 
-    names_by : (b : Bool) → part.builds ≡ b → names' ≡ (if b then changed names (name.Group part.hops) (made_live (with_made part made)) else gone_from names (name.Group part.hops))
-    names_by b e = took.names_are ∙ ap (group_names_by names part (with_made part made)) end ∙ ap (λ b. if b then changed names (name.Group part.hops) (made_live (with_made part made)) else gone_from names (name.Group part.hops)) e
+    names_by : (b : Bool) → part.builds ≡ b → names' ≡ (if b then changed names (name.Group part.hops) (made_live (members_with_made part made)) else gone_from names (name.Group part.hops))
+    names_by b e = took.names_are ∙ ap (group_names_by names part (members_with_made part made)) end ∙ ap (λ b. if b then changed names (name.Group part.hops) (made_live (members_with_made part made)) else gone_from names (name.Group part.hops)) e
 
     -- ---- it is built
 
@@ -221,7 +221,7 @@ module _ (plan : Ports) (is : IsPlan plan) (capacities : List ℕ) (m : Machine)
           s.3 (subst (λ (v : MachineFlight). v.retires ≡ Some o) (same_Some g s.0 (sym moves.flying ∙ s.1)) retires)
 
       known_built : Registers plan 4 capacities names' room later
-      known_built = subst (λ ns. Registers plan 4 capacities ns room later) (sym (names_by true builds)) (shared_moved plan m w g c cs stands moves 4 capacities names room board.registers is sound o tt own none_left stays_there (with_made part made))
+      known_built = subst (λ ns. Registers plan 4 capacities ns room later) (sym (names_by true builds)) (shared_moved plan m w g c cs stands moves 4 capacities names room board.registers is sound o tt own none_left stays_there (members_with_made part made))
 
       built_now : group_to_build plan names' p ≡ None
       built_now = not_built plan names' later p (λ hops. (known_built.names_known.shared (owner.Group hops) tt).stands) (λ hops t other. none_of_group plan p.key (m.board.applied p.key) p.due t.0 (rest_order plan is (m.board.applied p.key) p (λ r e. sound.board.fit p.key r (inl e)) y.over.new y.rest) (subst (IsIn t.0) (due_now ∙ rest_own) t.1) (hops, t.2))

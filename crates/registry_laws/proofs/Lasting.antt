@@ -10,7 +10,7 @@ use Rattle.sai_types.specs.declared.hop.Hop.{Hop}
 use Rattle.sai_types.specs.declared.thing.Thing.{Thing}
 use Rattle.sai_types.specs.declared.thing.Thing.TheVariants as thing
 use Rattle.switch_model.specs.Things.{base_of, lane_of, members_of}
-use Rattle.row_layout.specs.Operations.{Change, Set, going, make_all, own_changes, own_sets, port_with, same_thing, set_all, set_to, take_all}
+use Rattle.row_layout.specs.Operations.{Change, Set, going, make_all, own_changes, own_sets, thing_of_port, same_thing, set_all, set_to, take_all}
 use Rattle.row_layout.specs.Rows as owner
 use Rattle.row_layout.specs.Rows.{Owner, from, goal_of, own_things}
 use Rattle.switch_machine.specs.Operations.{built_first}
@@ -46,9 +46,9 @@ module _ (new : Option Row) where
 
   own_sets_last : (plan : Ports) (k : Key) (a r : Row) → AreLastMade (own_sets plan k a r)
   own_sets_last plan (key.Port port) (row.Port a) (row.Port r) =
-      set_last (port_with a.lanes a.speed a.mtu a.up) (port_with a.lanes r.speed a.mtu a.up) (set_to (port_with a.lanes r.speed a.mtu a.up) (port_with a.lanes r.speed r.mtu a.up) (set_to (port_with a.lanes r.speed r.mtu a.up) (port_with a.lanes r.speed r.mtu r.up) []))
-      (set_last (port_with a.lanes r.speed a.mtu a.up) (port_with a.lanes r.speed r.mtu a.up) (set_to (port_with a.lanes r.speed r.mtu a.up) (port_with a.lanes r.speed r.mtu r.up) [])
-      (set_last (port_with a.lanes r.speed r.mtu a.up) (port_with a.lanes r.speed r.mtu r.up) [] tt))
+      set_last (thing_of_port a.lanes a.speed a.mtu a.up) (thing_of_port a.lanes r.speed a.mtu a.up) (set_to (thing_of_port a.lanes r.speed a.mtu a.up) (thing_of_port a.lanes r.speed r.mtu a.up) (set_to (thing_of_port a.lanes r.speed r.mtu a.up) (thing_of_port a.lanes r.speed r.mtu r.up) []))
+      (set_last (thing_of_port a.lanes r.speed a.mtu a.up) (thing_of_port a.lanes r.speed r.mtu a.up) (set_to (thing_of_port a.lanes r.speed r.mtu a.up) (thing_of_port a.lanes r.speed r.mtu r.up) [])
+      (set_last (thing_of_port a.lanes r.speed r.mtu a.up) (thing_of_port a.lanes r.speed r.mtu r.up) [] tt))
   own_sets_last plan k a r = sets_last (own_things plan k a) (own_things plan k r)
 
   module _ (r : Row) (is : new ≡ Some r) where

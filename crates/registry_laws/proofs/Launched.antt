@@ -18,7 +18,7 @@ use Rattle.swss_types.specs.declared.address.Prefix.{Prefix}
 use Rattle.switch_model.specs.Things.{base_of, hops_of, lane_of}
 use Rattle.row_layout.specs.Operations.{Change, Make, Set, make_all, own_changes, same_thing, set_all, set_to, uses_of}
 use Rattle.row_layout.specs.Rows as owner
-use Rattle.row_layout.specs.Rows.{Owner, from, goal_by, goal_of, own_things}
+use Rattle.row_layout.specs.Rows.{Owner, from, goal_to, goal_of, own_things}
 use Rattle.row_layout.specs.Shared.{group_by, route_uses, uses}
 use Rattle.row_layout.proofs.Members.{from_in, only}
 use Rattle.switch_machine.specs.Consistent.{IsConsistent}
@@ -53,14 +53,14 @@ use Rattle.registry_laws.proofs.Sharing.{absent_first}
 
 -- ---- a route that comes to a group has a change of its own
 
-goal_is : (x : Option (List Hop)) (hops : List Hop) → IsIn (owner.Group hops) (group_by x) → goal_by x ≡ Some (goal.Group hops)
+goal_is : (x : Option (List Hop)) (hops : List Hop) → IsIn (owner.Group hops) (group_by x) → goal_to x ≡ Some (goal.Group hops)
 goal_is None hops h = elim h [ ]
 goal_is (Some []) hops h = elim h [ ]
 goal_is (Some (a ∷ [])) hops h = elim h [ ]
 goal_is (Some (a ∷ b ∷ rest)) hops (inl e) = let same : hops ≡ a ∷ b ∷ rest = cc in ap (λ z. Some (goal.Group z)) (sym same)
 goal_is (Some (a ∷ b ∷ rest)) hops (inr h) = elim h [ ]
 
-pub use_is : (x : Option (List Hop)) (hops : List Hop) → goal_by x ≡ Some (goal.Group hops) → IsIn (owner.Group hops) (group_by x)
+pub use_is : (x : Option (List Hop)) (hops : List Hop) → goal_to x ≡ Some (goal.Group hops) → IsIn (owner.Group hops) (group_by x)
 use_is None hops h = not_some (goal.Group hops) h
 use_is (Some []) hops h = not_some (goal.Group hops) h
 use_is (Some (a ∷ [])) hops h = absurd cc
@@ -94,7 +94,7 @@ module _ (plan : Ports) (hops : List Hop) where
   route_some prefix rows is (Some a) fits unused r e h = elim (fits a refl) [ ]
 
   own_some : (k : Key) (r : Row) (old : Option Row) → IsIn (owner.Group hops) (uses plan k r) → ((a : Row) → old ≡ Some a → Fits plan k a) → (IsIn (owner.Group hops) (uses_of plan k old) → ⊥) → own_changes plan k old (Some r) ≡ [] → ⊥
-  own_some (key.Route prefix) (row.Route (route.Hops rows)) old i fits unused h = route_some prefix (goal_by (hops_of plan rows)) (goal_is (hops_of plan rows) hops i) old fits unused (route.Hops rows) refl h
+  own_some (key.Route prefix) (row.Route (route.Hops rows)) old i fits unused h = route_some prefix (goal_to (hops_of plan rows)) (goal_is (hops_of plan rows) hops i) old fits unused (route.Hops rows) refl h
   own_some (key.Route prefix) (row.Route route.Drop) old i fits unused h = i
   own_some (key.Route prefix) (row.Route (route.Direct n)) old i fits unused h = i
   own_some (key.Member v p) (row.Member t) old i fits unused h = only (λ o. owner.Group hops ≡ o → ⊥) (owner.Group hops) _ (λ z. cc) (from_in (lane_of plan p) (λ lane. owner.Bridge lane ∷ []) (owner.Group hops) i).2 refl

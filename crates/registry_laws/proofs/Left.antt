@@ -18,9 +18,9 @@ use Rattle.switch_machine.proofs.Running.{one_owner, shared_row}
 use Rattle.switch_machine.proofs.Splits.{IsPut, IsSplit, New, Old, key_split, owner_split, put_at, put_by, put_off}
 use Rattle.ref_counts.specs.declared.name.Name.TheVariants as name
 use Rattle.ref_counts.specs.declared.pin.Pin.{Pin}
-use Rattle.ref_counts.specs.Registered.{Registered, first_of, going, held_or, least_worker, pins_but, retire_refusal, users_but, without_user}
+use Rattle.ref_counts.specs.Registered.{Registered, first_of, begun_to_go, held_or, least_worker, pins_but, retire_refusal, users_but, without_user}
 use Rattle.ref_counts.specs.Registry as registry
-use Rattle.ref_counts.specs.Registry.{refusal_at, registered_at, state_in}
+use Rattle.ref_counts.specs.Registry.{retire_refusal_at, registered_at, state_in}
 use Rattle.ref_counts.specs.Room.{RoomState}
 use Rattle.orch_flight.specs.Needing.{name_for}
 use Rattle.orch_flight.specs.Starting.{gone_by, left_names, parted_by, retired_by}
@@ -99,7 +99,7 @@ module _ (plan : Ports) (is : IsPlan plan) (m : Machine) (sound : IsConsistent p
   about_left p t = elim t.1 [ ]
 
   -- the last user leaves: it begins to go
-  gone_known : (x : Option Registered) → IsKnownShared plan m o x → ((q : Key) → IsUser plan m.board q o → q ≡ f.key) → IsKnownShared plan gone_later o (option_map (going w) (option_map (without_user f.key) x))
+  gone_known : (x : Option Registered) → IsKnownShared plan m o x → ((q : Key) → IsUser plan m.board q o → q ≡ f.key) → IsKnownShared plan gone_later o (option_map (begun_to_go w) (option_map (without_user f.key) x))
   gone_known None known only = absurd (registered None known refl)
   gone_known (Some r) known only = record {
     stands = (parted f (Some o), parting.here plan is m sound w f o leaving (Some o) gone_due, subst (λ d. HasChangeOf plan d o) (sym (put_at w w gone_due m.due refl)) (parting.some_removal plan is o (parting.shared plan is m sound w f o leaving)), refl);
@@ -128,7 +128,7 @@ module _ (plan : Ports) (is : IsPlan plan) (m : Machine) (sound : IsConsistent p
     its : IsKnownShared plan m o (registered_at names (name_for o))
     its = known.names_known.shared o (parting.shared plan is m sound w f o leaving)
 
-    refusal_is : refusal_at without w (name_for o) ≡ Refusal (registered_at names (name_for o))
+    refusal_is : retire_refusal_at without w (name_for o) ≡ Refusal (registered_at names (name_for o))
     refusal_is = ap (option_and_then (retire_refusal w)) (found_at names o (without_user f.key))
 
     not_row : (p : Key) → o ≡ owner.OfRow p → ⊥
@@ -164,17 +164,17 @@ module _ (plan : Ports) (is : IsPlan plan) (m : Machine) (sound : IsConsistent p
         ⊎ ((retired_by names w f.key o ≡ None) × LeavesOthers plan m w f o × Registers plan workers capacities (left_names names w f.key o) room (left m w f f.retires []))
 
     pub parts : Parts
-    parts = by (refusal_at without w (name_for o)) refl
+    parts = by (retire_refusal_at without w (name_for o)) refl
       where
-        by : (answer : Option Wait) → refusal_at without w (name_for o) ≡ answer → Parts
+        by : (answer : Option Wait) → retire_refusal_at without w (name_for o) ≡ answer → Parts
         by None e =
             let only = only_user (registered_at names (name_for o)) its (sym refusal_is ∙ e) in
-            let is_left : left_names names w f.key o ≡ registry.changed without (name_for o) (going w) = ap (λ z. parted_by z without w o) e in
-            let found : registered_at (registry.changed without (name_for o) (going w)) (name_for o) ≡ option_map (going w) (option_map (without_user f.key) (registered_at names (name_for o))) = found_at without o (going w) ∙ ap (option_map (going w)) (found_at names o (without_user f.key)) in
+            let is_left : left_names names w f.key o ≡ registry.changed without (name_for o) (begun_to_go w) = ap (λ z. parted_by z without w o) e in
+            let found : registered_at (registry.changed without (name_for o) (begun_to_go w)) (name_for o) ≡ option_map (begun_to_go w) (option_map (without_user f.key) (registered_at names (name_for o))) = found_at without o (begun_to_go w) ∙ ap (option_map (begun_to_go w)) (found_at names o (without_user f.key)) in
             inl (
               ap (λ z. gone_by z o) e,
               is_last only,
-              subst (λ z. Registers plan workers capacities z room gone_later) (sym is_left) (all_known (Some o) gone_due about_gone (λ p c r i. subst (IsOwnedBy plan (changed_name c)) (same_Some o p r) (parting.removals_of plan is o c i)) (registry.changed without (name_for o) (going w)) (λ p apart. found_off without o p (going w) apart ∙ found_off names o p (without_user f.key) apart) (subst (IsKnownShared plan gone_later o) (sym found) (gone_known (registered_at names (name_for o)) its only))),
+              subst (λ z. Registers plan workers capacities z room gone_later) (sym is_left) (all_known (Some o) gone_due about_gone (λ p c r i. subst (IsOwnedBy plan (changed_name c)) (same_Some o p r) (parting.removals_of plan is o c i)) (registry.changed without (name_for o) (begun_to_go w)) (λ p apart. found_off without o p (begun_to_go w) apart ∙ found_off names o p (without_user f.key) apart) (subst (IsKnownShared plan gone_later o) (sym found) (gone_known (registered_at names (name_for o)) its only))),
             )
         by (Some answer) e =
             let other = other_user (registered_at names (name_for o)) answer its (sym refusal_is ∙ e) in

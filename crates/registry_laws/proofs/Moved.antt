@@ -26,7 +26,7 @@ use Rattle.ref_counts.specs.declared.name.NameState.{NameState}
 use Rattle.ref_counts.specs.declared.name.NameState.TheVariants as state
 use Rattle.ref_counts.specs.Registered.{Registered, made_live}
 use Rattle.ref_counts.specs.Registry as registry
-use Rattle.ref_counts.specs.Registry.{gone_from, name_cmp, registered_at, state_in, state_of}
+use Rattle.ref_counts.specs.Registry.{gone_from, registered_name_cmp, registered_at, state_in, state_of}
 use Rattle.ref_counts.specs.Room.{RoomState}
 use Rattle.orch_flight.specs.Needing.{name_for}
 use Rattle.registry_laws.specs.Known.{IsKnownRow, IsKnownShared, RowStands, SharedStands}
@@ -146,7 +146,7 @@ module _ (plan : Ports) (m : Machine) (w : ℕ) (f : MachineFlight) (c : Change)
             rising = x.rising;
           }
 
-      pub gone_moved : f.retires ≡ Some o → HasRisingKeys name_cmp names → IsStill (gone_from names (name_for o))
+      pub gone_moved : f.retires ≡ Some o → HasRisingKeys registered_name_cmp names → IsStill (gone_from names (name_for o))
       gone_moved retires rising = one_changed (gone_from names (name_for o)) o (λ p apart. gone_off names o p apart) shared of (subst (IsKnownShared plan later o) (sym (gone_at names o w rising (going (state_of names (name_for o)) was.stands))) (record {
         stands = (nobody, untouched);
         users = λ q. (λ h. elim h [ ], λ h. absurd (nobody q h));

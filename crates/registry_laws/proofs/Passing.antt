@@ -20,7 +20,7 @@ use Rattle.ref_counts.specs.declared.name.Name.{Name}
 use Rattle.ref_counts.specs.declared.name.Name.TheVariants as name
 use Rattle.ref_counts.specs.declared.pin.Pin.{Pin}
 use Rattle.ref_counts.specs.Registered.{Registered, pins_but, pins_of, with_users, without_user}
-use Rattle.ref_counts.specs.Registry.{Names, all_released, changed, name_cmp, registered_at, state_in, users_at}
+use Rattle.ref_counts.specs.Registry.{Names, all_released, changed, registered_name_cmp, registered_at, state_in, users_at}
 use Rattle.orch_flight.specs.Needing.{name_for}
 use Rattle.registry_laws.specs.Ending.{users_dropped}
 use Rattle.registry_laws.specs.Known.{pins_at}
@@ -140,26 +140,26 @@ module _ (k : Key) where
 
   -- ---- names stay in order
 
-  pub changed_rising : (names : Names) (n : Name) (f : Registered → Registered) → HasRisingKeys name_cmp names → HasRisingKeys name_cmp (changed names n f)
+  pub changed_rising : (names : Names) (n : Name) (f : Registered → Registered) → HasRisingKeys registered_name_cmp names → HasRisingKeys registered_name_cmp (changed names n f)
   changed_rising [] n f h = tt
-  changed_rising (e ∷ es) n f h = (first (is_at (name_cmp n) e.0), changed_rising es n f h.1)
+  changed_rising (e ∷ es) n f h = (first (is_at (registered_name_cmp n) e.0), changed_rising es n f h.1)
     where
-      above : (x : Name) (ys : Names) → AllByRecursion (λ y. name_cmp x y.0 ≡ Less) ys → AllByRecursion (λ y. name_cmp x y.0 ≡ Less) (changed ys n f)
+      above : (x : Name) (ys : Names) → AllByRecursion (λ y. registered_name_cmp x y.0 ≡ Less) ys → AllByRecursion (λ y. registered_name_cmp x y.0 ≡ Less) (changed ys n f)
       above x [] a = tt
-      above x (y ∷ ys) a = (elim (is_at (name_cmp n) y.0) as (λ b. name_cmp x (cond b (y.0, f y.1) y).0 ≡ Less) [ true ↦ a.0 | false ↦ a.0 ], above x ys a.1)
+      above x (y ∷ ys) a = (elim (is_at (registered_name_cmp n) y.0) as (λ b. registered_name_cmp x (cond b (y.0, f y.1) y).0 ≡ Less) [ true ↦ a.0 | false ↦ a.0 ], above x ys a.1)
 
-      first : (b : Bool) → AllByRecursion (λ y. name_cmp (cond b (e.0, f e.1) e).0 y.0 ≡ Less) (changed es n f)
+      first : (b : Bool) → AllByRecursion (λ y. registered_name_cmp (cond b (e.0, f e.1) e).0 y.0 ≡ Less) (changed es n f)
       first true = above e.0 es h.0
       first false = above e.0 es h.0
 
-  pub dropped_rising : (names : Names) (ks : List Key) → HasRisingKeys name_cmp names → HasRisingKeys name_cmp (users_dropped names k ks)
+  pub dropped_rising : (names : Names) (ks : List Key) → HasRisingKeys registered_name_cmp names → HasRisingKeys registered_name_cmp (users_dropped names k ks)
   dropped_rising names [] h = h
   dropped_rising names (q ∷ ks) h = dropped_rising (changed names (name.Row q) (without_user k)) ks (changed_rising names (name.Row q) (without_user k) h)
 
-released_above : (w : ℕ) (x : Name) (ys : Names) → AllByRecursion (λ y. name_cmp x y.0 ≡ Less) ys → AllByRecursion (λ y. name_cmp x y.0 ≡ Less) (all_released w true ys)
+released_above : (w : ℕ) (x : Name) (ys : Names) → AllByRecursion (λ y. registered_name_cmp x y.0 ≡ Less) ys → AllByRecursion (λ y. registered_name_cmp x y.0 ≡ Less) (all_released w true ys)
 released_above w x [] a = tt
 released_above w x (y ∷ ys) a = (a.0, released_above w x ys a.1)
 
-pub released_rising : (w : ℕ) (names : Names) → HasRisingKeys name_cmp names → HasRisingKeys name_cmp (all_released w true names)
+pub released_rising : (w : ℕ) (names : Names) → HasRisingKeys registered_name_cmp names → HasRisingKeys registered_name_cmp (all_released w true names)
 released_rising w [] h = tt
 released_rising w (e ∷ es) h = (released_above w e.0 es h.0, released_rising w es h.1)

@@ -14,7 +14,7 @@ use Rattle.sai_types.specs.Named.{first_lane}
 use Rattle.sai_types.specs.Names as thing_name
 use Rattle.sai_types.specs.Names.{name_of}
 use Rattle.switch_model.specs.Things.{base_of, lane_of}
-use Rattle.row_layout.specs.Operations.{Change, Make, Set, Take, going, make_all, own_changes, own_sets, port_with, same_thing, set_all, set_to, take_all}
+use Rattle.row_layout.specs.Operations.{Change, Make, Set, Take, going, make_all, own_changes, own_sets, thing_of_port, same_thing, set_all, set_to, take_all}
 use Rattle.row_layout.specs.Rows as owner
 use Rattle.row_layout.specs.Rows.{Owner, from, goal_of, own_things}
 use Rattle.row_layout.proofs.Changing.{set_same}
@@ -115,9 +115,9 @@ module _ (plan : Ports) (is : IsPlan plan) where
   sets_order : (k : Key) (a r : Row) → Fits plan k a → Fits plan k r → AreInOrder plan k (Some a) (own_sets plan k a r)
   sets_order (key.Port p) (row.Port a) (row.Port r) fa fr =
       let one = λ (s m : ℕ) (u : Bool). ap (option_map (λ q. owner.OfRow (key.Port q))) (port_by plan is p (first_lane a.lanes) (ap (option_map first_lane) fa)) in
-      set_order plan (key.Port p) (Some (row.Port a)) (never_none (row.Port a)) (port_with a.lanes a.speed a.mtu a.up) (port_with a.lanes r.speed a.mtu a.up) (set_to (port_with a.lanes r.speed a.mtu a.up) (port_with a.lanes r.speed r.mtu a.up) (set_to (port_with a.lanes r.speed r.mtu a.up) (port_with a.lanes r.speed r.mtu r.up) [])) (one r.speed a.mtu a.up) (inl tt)
-      (set_order plan (key.Port p) (Some (row.Port a)) (never_none (row.Port a)) (port_with a.lanes r.speed a.mtu a.up) (port_with a.lanes r.speed r.mtu a.up) (set_to (port_with a.lanes r.speed r.mtu a.up) (port_with a.lanes r.speed r.mtu r.up) []) (one r.speed r.mtu a.up) (inl tt)
-      (set_order plan (key.Port p) (Some (row.Port a)) (never_none (row.Port a)) (port_with a.lanes r.speed r.mtu a.up) (port_with a.lanes r.speed r.mtu r.up) [] (one r.speed r.mtu r.up) (inl tt) tt))
+      set_order plan (key.Port p) (Some (row.Port a)) (never_none (row.Port a)) (thing_of_port a.lanes a.speed a.mtu a.up) (thing_of_port a.lanes r.speed a.mtu a.up) (set_to (thing_of_port a.lanes r.speed a.mtu a.up) (thing_of_port a.lanes r.speed r.mtu a.up) (set_to (thing_of_port a.lanes r.speed r.mtu a.up) (thing_of_port a.lanes r.speed r.mtu r.up) [])) (one r.speed a.mtu a.up) (inl tt)
+      (set_order plan (key.Port p) (Some (row.Port a)) (never_none (row.Port a)) (thing_of_port a.lanes r.speed a.mtu a.up) (thing_of_port a.lanes r.speed r.mtu a.up) (set_to (thing_of_port a.lanes r.speed r.mtu a.up) (thing_of_port a.lanes r.speed r.mtu r.up) []) (one r.speed r.mtu a.up) (inl tt)
+      (set_order plan (key.Port p) (Some (row.Port a)) (never_none (row.Port a)) (thing_of_port a.lanes r.speed r.mtu a.up) (thing_of_port a.lanes r.speed r.mtu r.up) [] (one r.speed r.mtu r.up) (inl tt) tt))
   sets_order (key.Port p) (row.Port a) r fa fr = elim fr [ ]
   sets_order (key.Port p) a r fa fr = elim fa [ ]
   sets_order (key.Vlan v) a row.Vlan fa fr = small_order plan (key.Vlan v) (Some a) (never_none a) (own_things plan (key.Vlan v) a) (thing.Vlan v ∷ []) (owned (key.Vlan v) row.Vlan fr) (inr (thing.Vlan v, refl))

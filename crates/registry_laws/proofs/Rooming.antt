@@ -10,7 +10,7 @@ use Rattle.sai_types.specs.Refusal.{capacity_of}
 use Rattle.row_layout.specs.Operations.{Change}
 use Rattle.switch_machine.specs.Flights.{MachineFlight, Machine}
 use Rattle.switch_machine.specs.Places.{AreCovered, makes, places_kept, sum_below}
-use Rattle.ref_counts.specs.Room.{RoomState, first_lacking, kinds, lacking, lacks, number_of, places_in_all}
+use Rattle.ref_counts.specs.Room.{RoomState, first_lacking, kinds, lacking, lacks, number_of_kind, places_in_all}
 use Rattle.orch_flight.specs.Needing.{places_for}
 use Rattle.registry_laws.specs.Registers.{AreUsed, KnowsRoom}
 use Rattle.registry_laws.proofs.Listing.{not_some, never_none}
@@ -41,7 +41,7 @@ level_counted_up n [] k up h = elim h [ ]
 level_counted_up n (q ∷ ks) k up (inl e) = let a = up.0 in let b = ap level e in omega (arith, a, b)
 level_counted_up n (q ∷ ks) k up (inr h) = let a = level_counted_up (suc n) ks k up.1 h in omega (arith, a)
 
-pub number_for : (due : List Change) (k : Kind) → number_of (places_for due) k ≡ makes k due
+pub number_for : (due : List Change) (k : Kind) → number_of_kind (places_for due) k ≡ makes k due
 number_for due kind.Port = refl
 number_for due kind.Vlan = refl
 number_for due kind.BridgePort = refl
@@ -138,7 +138,7 @@ module _ (workers : ℕ) (capacities : List ℕ) (room : RoomState) (m : Machine
   module _ (objects : Objects) (numbers : List ℕ) (are : AreUsed objects numbers) (due : List Change) where
     pub lacks_true : (k : Kind) → lacks room (places_for due) numbers k ≡ true → (0 < makes k due) × (capacity_of capacities k < used objects k + places_kept workers m k + makes k due)
     lacks_true k h =
-        let x = is_lacking (number_of (places_for due) k) (capacity_of room.capacities k) (number_of numbers k + places_in_all room.reserved k + number_of (places_for due) k) h in
+        let x = is_lacking (number_of_kind (places_for due) k) (capacity_of room.capacities k) (number_of_kind numbers k + places_in_all room.reserved k + number_of_kind (places_for due) k) h in
         let p = x.0 in
         let q = x.1 in
         let a = are k in
@@ -150,7 +150,7 @@ module _ (workers : ℕ) (capacities : List ℕ) (room : RoomState) (m : Machine
     pub lacks_false : (k : Kind) → lacks room (places_for due) numbers k ≡ false → 0 < makes k due → used objects k + places_kept workers m k + makes k due ≤ capacity_of capacities k
     lacks_false k h some =
         let c = number_for due k in
-        let x = is_roomy (number_of (places_for due) k) (capacity_of room.capacities k) (number_of numbers k + places_in_all room.reserved k + number_of (places_for due) k) h (omega (arith, some, c)) in
+        let x = is_roomy (number_of_kind (places_for due) k) (capacity_of room.capacities k) (number_of_kind numbers k + places_in_all room.reserved k + number_of_kind (places_for due) k) h (omega (arith, some, c)) in
         let a = are k in
         let b = places-kept_all k in
         let d = ap (λ z. capacity_of z k) known.capacities_are in

@@ -31,7 +31,7 @@ use Rattle.ref_counts.specs.declared.name.Name.TheVariants as name
 use Rattle.ref_counts.specs.declared.name.NameState.{NameState}
 use Rattle.ref_counts.specs.declared.name.NameState.TheVariants as state
 use Rattle.ref_counts.specs.declared.pin.Pin.{Pin}
-use Rattle.ref_counts.specs.Registered.{Registered, begun, going, with_user}
+use Rattle.ref_counts.specs.Registered.{Registered, begun, begun_to_go, with_user}
 use Rattle.ref_counts.specs.Registry as registry
 use Rattle.ref_counts.specs.Registry.{registered_at, state_in, state_of, users_at}
 use Rattle.ref_counts.specs.Room.{Reserves, RoomState, places_by}
@@ -150,7 +150,7 @@ module _ (plan : Ports) (is : IsPlan plan) (m : Machine) (sound : IsConsistent p
     where
       of : (o : Option Registered) → registered_at names (name.Row k) ≡ o → IsKnownRow m k o → IsKnownRow later k (registered_at (with_own pinned_names w k (Some a) None) (name.Row k))
       of None e x = not_some a (sym x.stands.1 ∙ was)
-      of (Some r) e x = subst (IsKnownRow later k) (sym (found_at pinned_names (owner.OfRow k) (going w) ∙ ap (option_map (going w)) (pinned_own ∙ e))) (record {
+      of (Some r) e x = subst (IsKnownRow later k) (sym (found_at pinned_names (owner.OfRow k) (begun_to_go w) ∙ ap (option_map (begun_to_go w)) (pinned_own ∙ e))) (record {
         stands = record { flight = f; flying = begun_facts.here plan is m sound w f due begins; key = refl; none = new; row = a; applied = was };
         users = x.users;
         pins = λ q. (λ h. elim h [ ], λ h. no_pin q (inr new) h);

@@ -15,7 +15,7 @@ use Rattle.switch_machine.specs.Events.{SwitchState}
 use Rattle.switch_machine.specs.Flights.{Machine, StandsIn, own_of}
 use Rattle.ref_counts.specs.declared.name.NameState.TheVariants as state
 use Rattle.ref_counts.specs.Registered.{Registered}
-use Rattle.ref_counts.specs.Registry.{Names, name_cmp, places_of, registered_at, state_of}
+use Rattle.ref_counts.specs.Registry.{Names, registered_name_cmp, places_of, registered_at, state_of}
 use Rattle.ref_counts.specs.Room.{RoomState}
 use Rattle.orch_flight.specs.Calling.{IsOver}
 use Rattle.orch_flight.specs.Grouping.{GroupOperation, IsGroupOver, first_group_due}
@@ -85,7 +85,7 @@ flown_as f g = record { operation = f; group = g }
 -- the names, the room and what each worker has under way stand for the machine
 pub record KnowsBoard (plan : Ports) (capacities : List ℕ) (names : Names) (room : RoomState) (flown : ℕ → Option Flown) (m : Machine) : Type 0 where
   pub registers : Registers plan 4 capacities names room m
-  pub rising : HasRisingKeys name_cmp names
+  pub rising : HasRisingKeys registered_name_cmp names
   pub busy : HaveDue m
   pub idle : (w : ℕ) → flown w ≡ None → m.board.flights w ≡ None
   pub flying : (w : ℕ) (x : Flown) → flown w ≡ Some x → IsFlown plan names m w x

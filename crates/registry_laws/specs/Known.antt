@@ -50,8 +50,8 @@ RowStands m k state.Live = IsFirm m.board k ⊎ IsAllMade m k
 RowStands m k (state.Retiring worker) = IsTakenAway m k worker
 
 -- the applied row of one key names another
-abbrev pub Names : TypedRows → Key → Key → Type 0
-Names applied user k = (r : Row) × (applied user ≡ Some r) × IsIn k (names_of user r)
+abbrev pub NamesKey : TypedRows → Key → Key → Type 0
+NamesKey applied user k = (r : Row) × (applied user ≡ Some r) × IsIn k (names_of user r)
 
 -- a worker's operation brings its key a row that names this one
 abbrev pub IsPinOf : MachineBoard → Key → Pin → Type 0
@@ -60,7 +60,7 @@ IsPinOf b k p = (f : MachineFlight) × (b.flights p.worker ≡ Some f) × (f.key
 -- the users of a row's name are the keys whose applied rows name it, and its pins those of the operations that bring such a row
 pub record IsKnownRow (m : Machine) (k : Key) (known : Option Registered) : Type 0 where
   pub stands : RowStands m k (state_in known)
-  pub users : (q : Key) → (IsIn q (users_at known) → Names m.board.applied q k) × (Names m.board.applied q k → IsIn q (users_at known))
+  pub users : (q : Key) → (IsIn q (users_at known) → NamesKey m.board.applied q k) × (NamesKey m.board.applied q k → IsIn q (users_at known))
   pub pins : (p : Pin) → (IsIn p (pins_at known) → IsPinOf m.board k p) × (IsPinOf m.board k p → IsIn p (pins_at known))
   pub rising : IsStrictlySortedBy key_cmp (users_at known)
 

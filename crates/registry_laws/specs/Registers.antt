@@ -19,7 +19,7 @@ use Rattle.ref_counts.specs.declared.name.Name.TheVariants as name
 use Rattle.ref_counts.specs.Registered.{made_live}
 use Rattle.ref_counts.specs.Registry as registry
 use Rattle.ref_counts.specs.Registry.{registered_at}
-use Rattle.ref_counts.specs.Room.{RoomState, number_of, places_by}
+use Rattle.ref_counts.specs.Room.{RoomState, number_of_kind, places_by}
 use Rattle.orch_flight.specs.Needing.{name_for, to_build}
 use Rattle.orch_flight.specs.Starting.{leaving}
 use Rattle.registry_laws.specs.Known.{IsKnownRow, IsKnownShared}
@@ -53,7 +53,7 @@ OthersHaveDue m worker = (w : ℕ) (f : MachineFlight) → (w ≡ worker → ⊥
 
 -- how many objects of each kind there are
 abbrev pub AreUsed : Objects → List ℕ → Type 0
-AreUsed objects numbers = (kind : Kind) → number_of numbers kind ≡ used objects kind
+AreUsed objects numbers = (kind : Kind) → number_of_kind numbers kind ≡ used objects kind
 
 -- the operation that begins, and what is due for it
 abbrev pub beginning : Ports → Key → Option Row → Option Row → MachineFlight

@@ -22,7 +22,7 @@ ghost use Rattle.switch_machine.specs.Steps.{Ends, Leaves, LeavesOthers, Moves, 
 ghost use Rattle.switch_machine.specs.Reasons.{IsReason};
 ghost use Rattle.switch_machine.specs.Written.{good_of};
 ghost use Rattle.ref_counts.specs.declared.name.Name.TheVariants as name;
-ghost use Rattle.ref_counts.specs.Registry.{Names, gone_from, name_cmp};
+ghost use Rattle.ref_counts.specs.Registry.{Names, gone_from, registered_name_cmp};
 ghost use Rattle.ref_counts.specs.Room.{GivesBack, Reserves, RoomState, all_free};
 ghost use Rattle.orch_flight.specs.Needing.{name_for, places_for, to_build, wait_of};
 ghost use Rattle.orch_flight.specs.Starting.{begun_names, first_due, left_names, retired_by, taken_here};
@@ -51,7 +51,7 @@ pub fn moves_are_registered()
     ensures same { (plan : Ports) (workers : ℕ) (capacities : List ℕ) (m : Machine) (names : Names) (room : RoomState) (w : ℕ) (f : MachineFlight) (c : Change) (cs : List Change) (stands : List (Rid × Thing)) → Registers plan workers capacities names room m → Moves m w f c cs stands → ((o : Owner) → IsShared o → IsOwnedBy plan (changed_name c) o → HasChangeOf plan cs o) → Registers plan workers capacities names room (moved m w cs stands) }
     ensures shared { (plan : Ports) (workers : ℕ) (capacities : List ℕ) (m : Machine) (names : Names) (room : RoomState) (w : ℕ) (f : MachineFlight) (c : Change) (cs : List Change) (stands : List (Rid × Thing)) (o : Owner) (ids : List Vid) → IsPlan plan → IsConsistent plan m → Registers plan workers capacities names room m → Moves m w f c cs stands → IsShared o → IsOwnedBy plan (changed_name c) o → (f.retires ≡ Some o → ⊥) → (HasChangeOf plan cs o → ⊥) → Registers plan workers capacities (made_live_at names (name_for o) ids) room (moved m w cs stands) }
     ensures row { (plan : Ports) (workers : ℕ) (capacities : List ℕ) (m : Machine) (names : Names) (room : RoomState) (w : ℕ) (f : MachineFlight) (c : Change) (stands : List (Rid × Thing)) (r : Row) (ids : List Vid) → Registers plan workers capacities names room m → Moves m w f c [] stands → IsOwnedBy plan (changed_name c) (OfRow f.key) → f.new ≡ Some r → Registers plan workers capacities (made_live_at names (name.Row f.key) ids) room (moved m w [] stands) }
-    ensures gone { (plan : Ports) (workers : ℕ) (capacities : List ℕ) (m : Machine) (names : Names) (room : RoomState) (w : ℕ) (f : MachineFlight) (c : Change) (cs : List Change) (stands : List (Rid × Thing)) (o : Owner) → IsPlan plan → IsConsistent plan m → HasRisingKeys name_cmp names → Registers plan workers capacities names room m → Moves m w f c cs stands → IsShared o → IsOwnedBy plan (changed_name c) o → f.retires ≡ Some o → (HasChangeOf plan cs o → ⊥) → Registers plan workers capacities (gone_from names (name_for o)) room (moved m w cs stands) }
+    ensures gone { (plan : Ports) (workers : ℕ) (capacities : List ℕ) (m : Machine) (names : Names) (room : RoomState) (w : ℕ) (f : MachineFlight) (c : Change) (cs : List Change) (stands : List (Rid × Thing)) (o : Owner) → IsPlan plan → IsConsistent plan m → HasRisingKeys registered_name_cmp names → Registers plan workers capacities names room m → Moves m w f c cs stands → IsShared o → IsOwnedBy plan (changed_name c) o → f.retires ≡ Some o → (HasChangeOf plan cs o → ⊥) → Registers plan workers capacities (gone_from names (name_for o)) room (moved m w cs stands) }
 {}
 
 /// Where all that was due is made, the registry tells whether the key was the last user of what it leaves; with the names left
@@ -63,7 +63,7 @@ pub fn leaves_are_registered()
 /// The registry and the room stand for the machine again when an operation has ended, with the users of its old row's names
 /// dropped, its pins made users, its own name gone or live, and its places given back; a key without a row was to have one.
 pub fn ends_are_registered()
-    ensures { (plan : Ports) (workers : ℕ) (capacities : List ℕ) (m : Machine) (names : Names) (room : RoomState) (room' : RoomState) (w : ℕ) (f : MachineFlight) → IsConsistent plan m → HasRisingKeys name_cmp names → Registers plan workers capacities names room m → Ends m w f → GivesBack room w room' → (m.board.applied f.key ≡ None → f.new ≡ None → ⊥) → Registers plan workers capacities (ended_names names w f.key (m.board.applied f.key) f.new) room' (finished m w f) }
+    ensures { (plan : Ports) (workers : ℕ) (capacities : List ℕ) (m : Machine) (names : Names) (room : RoomState) (room' : RoomState) (w : ℕ) (f : MachineFlight) → IsConsistent plan m → HasRisingKeys registered_name_cmp names → Registers plan workers capacities names room m → Ends m w f → GivesBack room w room' → (m.board.applied f.key ≡ None → f.new ≡ None → ⊥) → Registers plan workers capacities (ended_names names w f.key (m.board.applied f.key) f.new) room' (finished m w f) }
 {}
 
 /// With no name and all places free the registry stands for the empty machine.
@@ -89,7 +89,7 @@ pub fn groups_are_apart()
 /// The registry stands for the machine again when a change that is not of a group has taken effect, with the names after it: a thing
 /// of a row that makes its name live is the last that is due for a row that is to be.
 pub fn answers_are_registered()
-    ensures { (plan : Ports) (workers : ℕ) (capacities : List ℕ) (m : Machine) (names : Names) (room : RoomState) (w : ℕ) (f : MachineFlight) (c : Change) (cs : List Change) (stands : List (Rid × Thing)) (made : Option Vid) → IsPlan plan → IsConsistent plan m → HasRisingKeys name_cmp names → Registers plan workers capacities names room m → Moves m w f c cs stands → (IsOfGroup plan c → ⊥) → (MakesRowLive c → (cs ≡ []) × (r : Row) × (f.new ≡ Some r)) → Registers plan workers capacities (names_after names f.key c made) room (moved m w cs stands) }
+    ensures { (plan : Ports) (workers : ℕ) (capacities : List ℕ) (m : Machine) (names : Names) (room : RoomState) (w : ℕ) (f : MachineFlight) (c : Change) (cs : List Change) (stands : List (Rid × Thing)) (made : Option Vid) → IsPlan plan → IsConsistent plan m → HasRisingKeys registered_name_cmp names → Registers plan workers capacities names room m → Moves m w f c cs stands → (IsOfGroup plan c → ⊥) → (MakesRowLive c → (cs ≡ []) × (r : Row) × (f.new ≡ Some r)) → Registers plan workers capacities (names_after names f.key c made) room (moved m w cs stands) }
 {}
 
 /// Among the changes of a row's operation the one that makes its name live is the last, and the row is to be.

@@ -19,7 +19,7 @@ use Rattle.sai_types.specs.declared.body.Entry.{Entry}
 use Rattle.sai_types.specs.After.{after_call, after_set, entry_of, with_attr}
 use Rattle.sai_types.specs.Made.{AreSorted, made_after, same_entry}
 use Rattle.sai_types.specs.Objects.{Objects, body_at, entry_cmp, kind_of, level, used}
-use Rattle.sai_types.specs.Refusal.{IsLegal, capacity_of, clash, create_refusal, first_of, refers_well}
+use Rattle.sai_types.specs.Refusal.{IsLegal, capacity_of, clash, create_refusal, first_refusal, refers_well}
 use Rattle.sai_types.proofs.Found.{body_at-insert, body_at-remove}
 use Rattle.sai_types.proofs.Whole.{whole-after_call, whole-empty}
 use Rattle.sai_types.proofs.Legal.{first_of-none}
@@ -47,8 +47,8 @@ with_planned plan b _ h = h
 -- where a create is legal there is room
 room_of : (capacities : List ℕ) (objects : Objects) (b : Body Rid) → create_refusal capacities objects b ≡ None → used objects (kind_of b) < capacity_of capacities (kind_of b)
 room_of capacities objects b h =
-    let one = first_of-none (not (refers_well objects b)) BadReference (first_of (list_any (λ o. clash b o.1) objects) Exists (first_of (nat_le (capacity_of capacities (kind_of b)) (used objects (kind_of b))) Full None)) h in
-    let two = first_of-none (list_any (λ o. clash b o.1) objects) Exists (first_of (nat_le (capacity_of capacities (kind_of b)) (used objects (kind_of b))) Full None) one.1 in
+    let one = first_of-none (not (refers_well objects b)) BadReference (first_refusal (list_any (λ o. clash b o.1) objects) Exists (first_refusal (nat_le (capacity_of capacities (kind_of b)) (used objects (kind_of b))) Full None)) h in
+    let two = first_of-none (list_any (λ o. clash b o.1) objects) Exists (first_refusal (nat_le (capacity_of capacities (kind_of b)) (used objects (kind_of b))) Full None) one.1 in
     leb-false _ _ (first_of-none (nat_le (capacity_of capacities (kind_of b)) (used objects (kind_of b))) Full None two.1).0
 
 fits_made : (capacities : List ℕ) (objects : Objects) (b : Body Rid) (kind : Kind) (x : Bool) → (level (kind_of b) == level kind) ≡ x → used objects kind ≤ capacity_of capacities kind → used objects (kind_of b) < capacity_of capacities (kind_of b) → used objects kind + cond x 1 0 ≤ capacity_of capacities kind

@@ -25,7 +25,7 @@ use Rattle.plan_laws.proofs.Doubles.{fits-shown, shown-lacking}
 use Rattle.plan_laws.proofs.Lists.{any-in, in-any}
 use Rattle.chip_layout.specs.Seen.{seen}
 use Rattle.restart_laws.specs.Planned.{IsPlannedAs, PlansCold, PlansHitless}
-use Rattle.order_laws.specs.Apply.{AreNumbered, IsPlanned, calls_by}
+use Rattle.order_laws.specs.Apply.{ComeToNextIds, IsPlannedFrom, calls_by}
 use Rattle.order_laws.specs.Viewed.{things_in}
 use Rattle.order_laws.proofs.Applying.{applies-cold, applies-hitless, cold-all, is-hitless, hitless_changes, cold_back, cold_front, cold_makes, cold_removes}
 use Rattle.order_laws.proofs.Modes.{fits-told, told-fits}
@@ -94,7 +94,7 @@ module _ (a b : List Thing) (into : (t : Thing) → IsIn t a → IsIn t b) (back
 
 -- ---- what the planner gives
 
-module _ {capacities : List ℕ} {made : ℕ} {old : List (Object Rid)} {new : List (Object Vid)} {things : List (Vid × Thing)} {plan : Plan} (x : IsPlanned capacities made old new things plan) (ids : Vid → Rid) (numbered : AreNumbered ids made plan.calls) where
+module _ {capacities : List ℕ} {made : ℕ} {old : List (Object Rid)} {new : List (Object Vid)} {things : List (Vid × Thing)} {plan : Plan} (x : IsPlannedFrom capacities made old new things plan) (ids : Vid → Rid) (numbered : ComeToNextIds ids made plan.calls) where
   hitless_planned : plan.mode ≡ mode.Hitless → PlansHitless capacities made (entries_of old) (things_in things) (calls_by ids plan)
   hitless_planned e = record {
     steps = hitless_changes x e;

@@ -28,7 +28,7 @@ use Rattle.switch_machine.proofs.Dated.{dated-popped}
 use Rattle.switch_machine.proofs.Telling.{told-popped}
 use Rattle.switch_machine.proofs.Splits.{IsSplit, nat_split}
 use Rattle.machine_laws.specs.ToSync.{AreInKeyOrder}
-use Rattle.ref_counts.specs.Room.{all_free, number_of}
+use Rattle.ref_counts.specs.Room.{all_free, number_of_kind}
 use Rattle.orch_flight.specs.Sharing.{MayStart}
 use Rattle.registry_laws.specs.Flown.{Flown}
 use Rattle.registry_laws.specs.Making.{IsNextCall, MayTakeFor}
@@ -48,7 +48,7 @@ use Rattle.flight_board.specs.Applied.{row_at}
 use Rattle.flight_board.specs.Board.{BoardState, FlightState, IsBegunFor, IsPrepared, IsCallReady, IsTakenFor, IsUnflown, flight_on, flown_at, new_board}
 use Rattle.warm_state.specs.declared.warm.Warm.TheVariants as warm
 use Rattle.session_laws.specs.Core.{CoreState, good_in}
-use Rattle.session_laws.specs.Events.{made_by}
+use Rattle.session_laws.specs.Events.{vid_made_by}
 use Rattle.session_laws.specs.Standing.{IsSessionOf}
 use Rattle.session_laws.proofs.Answering.{answer_step, may as may_answer}
 use Rattle.session_laws.proofs.Beginnings.{begins, drops, may as may_begin, waits_on}
@@ -165,7 +165,7 @@ module _ (first : CoreState) (chip : ChipState) (s : LoggedService) (is : IsServ
 -- ---- what syncd counts
 
 module _ (c : CoreState) (own_chip : ChipState) (own : LoggedService) (over : IsViewOver c own_chip own) where
-  pub counted-over : (numbers : List ℕ) → ((kind : Kind) → number_of numbers kind ≡ used_of (current c.sync) kind) → AreUsed own.service.core.objects numbers
+  pub counted-over : (numbers : List ℕ) → ((kind : Kind) → number_of_kind numbers kind ≡ used_of (current c.sync) kind) → AreUsed own.service.core.objects numbers
   counted-over numbers are =
       counts (over_view c over.view) own_chip own numbers over.session refl
       (λ kind. are kind ∙ ap (λ o. used_of (view_in c.sync.view o) kind) over.temporary ∙ untied-used over.view kind)
@@ -212,7 +212,7 @@ module _ (first c : CoreState) (k : Key) (rest : List Key) (x : IsBuilt first c 
     pub may-begin : IsUnflown c.board k → MayStart c.board.plan c.board.names 0 k (row_at c.board.applied k) (good_in c k)
     may-begin un = may_begin seen x.own_chip x.own x.over.session refl k there 0 none_less (x.free 0 none_less) differs un
 
-    module _ (numbers : List ℕ) (are : (kind : Kind) → number_of numbers kind ≡ used_of (current c.sync) kind) (b : BoardState) where
+    module _ (numbers : List ℕ) (are : (kind : Kind) → number_of_kind numbers kind ≡ used_of (current c.sync) kind) (b : BoardState) where
       used : AreUsed x.own.service.core.objects numbers
       used = counted-over c x.own_chip x.own x.over numbers are
 
@@ -305,10 +305,10 @@ module _ (first c : CoreState) (rest : List Key) (x : IsBringing first c rest) w
       over_chip : IsMadeOver x.over.view x.own_chip call a later
       over_chip = made-over x.over.view x.own_chip call a later both.1 changes
 
-      pub may-take : MayTakeFor f.operation f.group (made_by a) c.board.names
+      pub may-take : MayTakeFor f.operation f.group (vid_made_by a) c.board.names
       may-take = may_answer seen_now x.own_chip x.own x.over.session refl 0 f there begun call told a over_chip.went over_chip.view' (chip_then x.own_chip d) over_chip.made
 
-      pub bringing-next : (b : BoardState) → IsTakenFor c.board 0 (made_by a) b → IsBringing first (record c { board = b; sync = with_temporary c.sync later }) rest
+      pub bringing-next : (b : BoardState) → IsTakenFor c.board 0 (vid_made_by a) b → IsBringing first (record c { board = b; sync = with_temporary c.sync later }) rest
       bringing-next b taken =
           let y = answer_step seen_now x.own_chip x.own x.over.session refl 0 f there begun call told a over_chip.went over_chip.view' (chip_then x.own_chip d) over_chip.made b taken in
           let follows = (taken f there).3 in
@@ -336,10 +336,10 @@ module _ (first c : CoreState) (rest : List Key) (x : IsBringing first c rest) w
     pub same-chip : chip' ≡ chip
     same-chip = calls_view.3
 
-    pub may-take-called : MayTakeFor f.operation f.group (made_by a) c.board.names
+    pub may-take-called : MayTakeFor f.operation f.group (vid_made_by a) c.board.names
     may-take-called = may-take f there begun call told a calls_view.0 calls_view.2
 
-    pub bringing-called : (b : BoardState) → IsTakenFor c.board 0 (made_by a) b → IsBringing first (record c { board = b; sync = y }) rest
+    pub bringing-called : (b : BoardState) → IsTakenFor c.board 0 (vid_made_by a) b → IsBringing first (record c { board = b; sync = y }) rest
     bringing-called b taken = subst (λ z. IsBringing first (record c { board = b; sync = z }) rest) (sym calls_view.1) (bringing-next f there begun call told a calls_view.0 calls_view.2 b taken)
 
   -- where nothing is under way any more its operation has ended

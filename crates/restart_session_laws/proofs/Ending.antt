@@ -46,11 +46,11 @@ use Rattle.view_match.specs.Pairs.{pairs_of}
 use Rattle.asic_view.specs.declared.object.ViewObject.{ViewObject}
 use Rattle.asic_view.specs.View.{ViewObjects, entry_at, object_of, rid_at, rid_in, vid_cmp, with_tie}
 use Rattle.asic_view.proofs.Keeping.{found-key}
-use Rattle.syncd_core.specs.Begun.{objects_in, tied_entries, tied_in, tied_objects, tied_pairs}
+use Rattle.syncd_core.specs.Begun.{objects_listed, tied_entries, tied_in, tied_objects, tied_pairs}
 use Rattle.syncd_core.specs.Run.{made_by, tied_after, view_by}
 use Rattle.syncd_core.specs.Synced.{tied_by}
 use Rattle.syncd_core.specs.Tied.{rid_or_none, tie_of}
-use Rattle.order_laws.specs.Apply.{IsPlanned, calls_by, plan_calls}
+use Rattle.order_laws.specs.Apply.{IsPlannedFrom, calls_by, plan_calls}
 use Rattle.order_laws.specs.Viewed.{IsEntry, things_in}
 use Rattle.order_laws.proofs.Applying.{applies-cold, cold-all, cold-making, cold_back, cold_front, cold_makes, hitless-calls, hitless_changes, is-cold, is-hitless}
 use Rattle.order_laws.proofs.Changes.{due-of}
@@ -194,7 +194,7 @@ rid_some None some = absurd (omega (arith, some))
 
 -- ---- the end
 
-module _ {capacities : List ℕ} {made : ℕ} {old : List (Object Rid)} (objects : ViewObjects) {things : List (Vid × Thing)} {plan : Plan} (x : IsPlanned capacities made old (objects_in objects) things plan) (free : (v : Vid) → rid_at objects v ≡ None) where
+module _ {capacities : List ℕ} {made : ℕ} {old : List (Object Rid)} (objects : ViewObjects) {things : List (Vid × Thing)} {plan : Plan} (x : IsPlannedFrom capacities made old (objects_listed objects) things plan) (free : (v : Vid) → rid_at objects v ≡ None) where
   abbrev pub ids : Vid → Rid
   ids = tie_of (last_ties objects x free)
 
@@ -250,15 +250,15 @@ module _ {capacities : List ℕ} {made : ℕ} {old : List (Object Rid)} (objects
   abbrev R : Layout Rid
   R = listed (renamed_by (tie_of (last_ties objects x free)) things)
 
-  objects_same : objects_in V ≡ objects_in objects
+  objects_same : objects_listed V ≡ objects_listed objects
   objects_same =
-      after-alike object_of (λ v b o p. refl) made (tied_in plan.mode objects old (objects_in objects) (pairs_of old (objects_in objects))) plan.calls
-      ∙ in_alike object_of (λ v b o p. refl) plan.mode old (objects_in objects) (pairs_of old (objects_in objects)) objects
+      after-alike object_of (λ v b o p. refl) made (tied_in plan.mode objects old (objects_listed objects) (pairs_of old (objects_listed objects))) plan.calls
+      ∙ in_alike object_of (λ v b o p. refl) plan.mode old (objects_listed objects) (pairs_of old (objects_listed objects)) objects
 
   keys_same : keys_of V ≡ keys_of objects
   keys_same =
-      after-alike (λ (z : Item). z.0) (λ v b o p. refl) made (tied_in plan.mode objects old (objects_in objects) (pairs_of old (objects_in objects))) plan.calls
-      ∙ in_alike (λ (z : Item). z.0) (λ v b o p. refl) plan.mode old (objects_in objects) (pairs_of old (objects_in objects)) objects
+      after-alike (λ (z : Item). z.0) (λ v b o p. refl) made (tied_in plan.mode objects old (objects_listed objects) (pairs_of old (objects_listed objects))) plan.calls
+      ∙ in_alike (λ (z : Item). z.0) (λ v b o p. refl) plan.mode old (objects_listed objects) (pairs_of old (objects_listed objects)) objects
 
   -- an object of the view, and its thing
   record IsOf (y : Item) (k : ℕ) : Type 0 where
@@ -269,7 +269,7 @@ module _ {capacities : List ℕ} {made : ℕ} {old : List (Object Rid)} (objects
 
   is_of : (y : Item) (k : ℕ) → slice_get V k ≡ Some y → IsOf y k
   is_of y k at =
-      let there : slice_get (objects_in objects) k ≡ Some (object_of y) = ap (λ l. slice_get l k) (sym objects_same) ∙ slice_get-map object_of V k ∙ ap (option_map object_of) at in
+      let there : slice_get (objects_listed objects) k ≡ Some (object_of y) = ap (λ l. slice_get l k) (sym objects_same) ∙ slice_get-map object_of V k ∙ ap (option_map object_of) at in
       let o = object-at old x.chip x.view k (object_of y) there in
       record { thing = o.0; at = o.1; body = o.2; entry = o.3 }
 
@@ -319,13 +319,13 @@ module _ {capacities : List ℕ} {made : ℕ} {old : List (Object Rid)} (objects
   -- the identifier of no numbered thing is tied to nothing
   none_tied : (v : Vid) → ((u : Thing) → IsIn (v, u) things → has_number u ≡ true → ⊥) → rid_at V v ≡ None
   none_tied v apart =
-      let pairs = pairs_of old (objects_in objects) in
-      let names = names_in plan.mode old (objects_in objects) pairs in
-      untied_after made (tied_in plan.mode objects old (objects_in objects) pairs) plan.calls v
+      let pairs = pairs_of old (objects_listed objects) in
+      let names = names_in plan.mode old (objects_listed objects) pairs in
+      untied_after made (tied_in plan.mode objects old (objects_listed objects) pairs) plan.calls v
       (λ c i is. let k = made-by old x.chip x.view plan.mode names x.planned.steps (λ t j. due-of old x.chip x.view plan.mode t (in-shuffled _ x.planned.steps x.planned.due t j)) c (subst (IsIn c) x.planned.calls i) v is in apart k.0 k.1 k.2)
       ∙ by plan.mode
     where
-      none : (p : ℕ × ℕ) (o : Object Rid) (n : Object Vid) (r : Rid) → IsIn p (pairs_of old (objects_in objects)) → slice_get old p.0 ≡ Some o → slice_get (objects_in objects) p.1 ≡ Some n → o.entry ≡ entry.Oid r → n.entry ≡ entry.Oid v → ⊥
+      none : (p : ℕ × ℕ) (o : Object Rid) (n : Object Vid) (r : Rid) → IsIn p (pairs_of old (objects_listed objects)) → slice_get old p.0 ≡ Some o → slice_get (objects_listed objects) p.1 ≡ Some n → o.entry ≡ entry.Oid r → n.entry ≡ entry.Oid v → ⊥
       none p o n r i at there is same =
           let y = object-at old x.chip x.view p.1 n there in
           by_number (has_number y.0.1) refl
@@ -339,8 +339,8 @@ module _ {capacities : List ℕ} {made : ℕ} {old : List (Object Rid)} (objects
               let y = object-at old x.chip x.view p.1 n there in
               y.3.none number v same
 
-      by : (m : Mode) → rid_at (tied_in m objects old (objects_in objects) (pairs_of old (objects_in objects))) v ≡ None
-      by mode.Hitless = pairs-free old objects x.chip x.view v (pairs_of old (objects_in objects)) objects none (free v)
+      by : (m : Mode) → rid_at (tied_in m objects old (objects_listed objects) (pairs_of old (objects_listed objects))) v ≡ None
+      by mode.Hitless = pairs-free old objects x.chip x.view v (pairs_of old (objects_listed objects)) objects none (free v)
       by mode.Cold = free v
 
   module _ (n : ℕ) (whole : IsWhole n end_chip) (numbers : HaveNumbers end_chip) where

@@ -54,7 +54,7 @@ use Rattle.apply_order.specs.Room.{lacking_from}
 use Rattle.asic_view.specs.Things.{StandFor, by_number, listed}
 use Rattle.asic_view.specs.View.{ViewObjects, as_chip, as_rid, as_vid, entry_at, rid_at, rid_in, used_of, vid_cmp}
 use Rattle.asic_view.proofs.Naming.{entries_told_alike, key-exact}
-use Rattle.syncd_core.specs.Begun.{objects_in}
+use Rattle.syncd_core.specs.Begun.{objects_listed}
 use Rattle.syncd_core.specs.Tied.{tie_of}
 use Rattle.order_laws.specs.Viewed.{HaveOneLanes, things_in}
 use Rattle.order_laws.proofs.Laying.{oid_back, same-thing, vid_by, vid_of}
@@ -81,7 +81,7 @@ entries_same : (os : ViewObjects) → entries_in (untied_view os) ≡ map (λ x.
 entries_same [] = refl
 entries_same (x ∷ xs) = ap (λ l. entry_renamed as_rid (entry_at x.0 x.1.body) ∷ l) (entries_same xs)
 
-raw_entries : (os : ViewObjects) → map (λ (o : Entry Rid × Body Rid). o.0) (entries_of (objects_as (objects_in os))) ≡ entries_in os
+raw_entries : (os : ViewObjects) → map (λ (o : Entry Rid × Body Rid). o.0) (entries_of (objects_as (objects_listed os))) ≡ entries_in os
 raw_entries [] = refl
 raw_entries (x ∷ xs) = ap (λ l. entry_renamed as_rid (entry_at x.0 x.1.body) ∷ l) (raw_entries xs)
 
@@ -93,7 +93,7 @@ none_at (x ∷ xs) v = by (is_at (vid_cmp v) x.0) (none_at xs v)
     by true rest = refl
     by false rest = rest
 
-lacking_all : (kind : Kind) (os : ViewObjects) (place : ℕ) → lacking_from kind [] (objects_in os) place ≡ used_of os kind
+lacking_all : (kind : Kind) (os : ViewObjects) (place : ℕ) → lacking_from kind [] (objects_listed os) place ≡ used_of os kind
 lacking_all kind [] place = refl
 lacking_all kind (x ∷ xs) place = ap (λ n. cond (is_of kind x.1.body) 1 0 + n) (lacking_all kind xs (place + 1)) ∙ sym (used-more x xs kind)
 
@@ -197,8 +197,8 @@ module _ (plan : Ports) (is : IsPlan plan) (capacities : List ℕ) (s : SwitchSt
   apart : AreDistinct (entries_in bare_view)
   apart = subst AreDistinct (sym (entries_same view)) (distinct-by (entry_tied view) (λ x. entry_renamed as_rid (entry_at x.0 x.1.body)) view (λ x y i j same. ap (entry_renamed (tie_of view)) (same_entries (entry_at x.0 x.1.body) (entry_at y.0 y.1.body) same)) tied.once)
 
-  pub natural : AreDistinct (those (new_keys (objects_in bare_view)))
-  natural = natural-apart bare_chip (entries_of (objects_as (objects_in bare_view))) (as-listed bare_view apart) (subst AreDistinct (sym (raw_entries bare_view)) apart) L bare_laid grouped
+  pub natural : AreDistinct (those (new_keys (objects_listed bare_view)))
+  natural = natural-apart bare_chip (entries_of (objects_as (objects_listed bare_view))) (as-listed bare_view apart) (subst AreDistinct (sym (raw_entries bare_view)) apart) L bare_laid grouped
 
   pub ready-view : IsReadyView stand.1.made bare_view
   ready-view = record { chip = bare_chip; apart = apart; distinct = natural; free = none_at view }
@@ -237,7 +237,7 @@ module _ (plan : Ports) (is : IsPlan plan) (capacities : List ℕ) (s : SwitchSt
   -- ---- each by its identifier
 
   abbrev new : List (Object Vid)
-  new = objects_in bare_view
+  new = objects_listed bare_view
 
   in_items : (os : List (Object Vid)) (o : Object Vid) → IsIn o os → IsIn (entry_renamed rid_of o.entry, body_renamed rid_of o.body) (entries_of (objects_as os))
   in_items [] o i = elim i [ ]
@@ -298,11 +298,11 @@ module _ (plan : Ports) (is : IsPlan plan) (capacities : List ℕ) (s : SwitchSt
       lanes = subst (λ z. HaveOneLanes z (chip_things (as_chip bare_view))) (sym old_is) lanes;
       held = λ k. subst (λ z. used z k ≤ capacity_of capacities k) (sym old_is) (chip.fits k);
       fits = λ k.
-          let count : lacking_from k [] (objects_in bare_view) 0 ≡ used s.objects k = lacking_all k bare_view 0 ∙ untied-used view k ∙ used-alike view s.made s.objects tied k in
+          let count : lacking_from k [] (objects_listed bare_view) 0 ≡ used s.objects k = lacking_all k bare_view 0 ∙ untied-used view k ∙ used-alike view s.made s.objects tied k in
           let places = kept.places k in
           omega (arith, count, places);
     }
 
-    pub begun-built : (plan' : Plan) → IsPlanOf old (objects_in bare_view) (pairs_of old (objects_in bare_view)) capacities plan' → IsApplyBegun capacities made old bare_view things_built plan'
+    pub begun-built : (plan' : Plan) → IsPlanOf old (objects_listed bare_view) (pairs_of old (objects_listed bare_view)) capacities plan' → IsApplyBegun capacities made old bare_view things_built plan'
     unfolding ready-both
     begun-built plan' planned = ready-begun ready-both plan' planned

@@ -39,7 +39,7 @@ use Rattle.restart_laws.proofs.Passing.{restored-keeps}
 use Rattle.restart_laws.proofs.Viewing.{in-things, things-in}
 use Rattle.core_laws.specs.Standing.{StandsFor}
 use Rattle.asic_view.specs.View.{ViewObjects, rid_at, vid_cmp}
-use Rattle.syncd_core.specs.Begun.{Begins, CanBegin, objects_in, tied_in}
+use Rattle.syncd_core.specs.Begun.{Begins, CanBegin, objects_listed, tied_in}
 use Rattle.syncd_core.specs.Run.{tied_calls}
 use Rattle.syncd_core.specs.Synced.{SyncState}
 use Rattle.syncd_core.specs.Tied.{tie_of}
@@ -149,9 +149,9 @@ module _ (first : CoreState) (chip : ChipState) (s : LoggedService) (is : IsServ
     begun : IsApplyBegun first.sync.capacities core.made old bare things begins.plan
     begun =
         begun-built first.board.plan is.always.plan first.sync.capacities view safe.0 safe.1 x.over.view tied core.made core.objects is.always.holds.safe.chip old (entries_of-objects_of chip.objects ∙ sym is.always.objects) begins.plan
-        (subst (λ l. IsPlanOf old (objects_in bare) (pairs_of old (objects_in bare)) l begins.plan) x.beside.capacities
-        (subst (λ v. IsPlanOf old (objects_in v) (pairs_of old (objects_in v)) c.sync.capacities begins.plan) new_is
-        (subst (λ o. IsPlanOf o (objects_in begins.new) (pairs_of o (objects_in begins.new)) c.sync.capacities begins.plan) old_is begins.planned)))
+        (subst (λ l. IsPlanOf old (objects_listed bare) (pairs_of old (objects_listed bare)) l begins.plan) x.beside.capacities
+        (subst (λ v. IsPlanOf old (objects_listed v) (pairs_of old (objects_listed v)) c.sync.capacities begins.plan) new_is
+        (subst (λ o. IsPlanOf o (objects_listed begins.new) (pairs_of o (objects_listed begins.new)) c.sync.capacities begins.plan) old_is begins.planned)))
 
     abbrev first_view : ViewObjects
     first_view = first_ties old bare begins.plan
@@ -162,8 +162,8 @@ module _ (first : CoreState) (chip : ChipState) (s : LoggedService) (is : IsServ
     later_is : y ≡ after
     later_is =
         begins.later
-        ∙ ap (λ o. record { view = tied_in begins.plan.mode begins.new o (objects_in begins.new) (pairs_of o (objects_in begins.new)); temporary = None; listed = None; left = begins.plan.calls; capacities = c.sync.capacities }) old_is
-        ∙ ap (λ v. record { view = tied_in begins.plan.mode v old (objects_in v) (pairs_of old (objects_in v)); temporary = None; listed = None; left = begins.plan.calls; capacities = c.sync.capacities }) new_is
+        ∙ ap (λ o. record { view = tied_in begins.plan.mode begins.new o (objects_listed begins.new) (pairs_of o (objects_listed begins.new)); temporary = None; listed = None; left = begins.plan.calls; capacities = c.sync.capacities }) old_is
+        ∙ ap (λ v. record { view = tied_in begins.plan.mode v old (objects_listed v) (pairs_of old (objects_listed v)); temporary = None; listed = None; left = begins.plan.calls; capacities = c.sync.capacities }) new_is
 
     -- ---- the step
 

@@ -15,14 +15,14 @@ use Rattle.switch_machine.specs.Events.{IsTake, SwitchState}
 use Rattle.switch_machine.specs.Written.{HasNoWrite, TakesWrite, Written, fields_after}
 use Rattle.machine_laws.specs.Reading.{IsOnSwitch}
 use Rattle.machine_laws.proofs.Staying.{map-more}
-use Rattle.producer_table.specs.Pending.{AreInOrder}
+use Rattle.producer_table.specs.Pending.{ArePendingInOrder}
 use Rattle.table_schema.proofs.Keys.{tied_keys_same}
 use Rattle.restart_laws.specs.Invariant.{with_chip}
 use Rattle.restart_laws.specs.Logged.{IsLoggedStep, LoggedService, OfService}
 use Rattle.restart_laws.specs.Service.{OfTake}
 use Rattle.asic_view.specs.View.{rid_at}
 use Rattle.core_laws.proofs.Empty.{stands_taken}
-use Rattle.sync_tables.specs.Tables.{with_write as waiting_write, written_in}
+use Rattle.sync_tables.specs.Tables.{tables_with_write, written_in}
 use Rattle.sync_tables.proofs.Waits.{takes_write}
 use Rattle.flight_board.specs.Board.{flown_at}
 use Rattle.warm_state.specs.declared.warm.Warm.{Warm}
@@ -36,18 +36,18 @@ use Rattle.restart_session_laws.proofs.Sessions.{exactly-ahead}
 use Rattle.restart_session_laws.proofs.Numbers.{step-numbers}
 use Rattle.restart_session_laws.proofs.States.{initialized-applying, initialized-reconciled, restored-applying, restored-reconciled, suspect-applying, suspect-reconciled}
 
-module _ (c : CoreState) (chip : ChipState) (s : LoggedService) (sent : Sent) (is : IsServiceOf c chip s) (on : IsOnSwitch (written_key sent.write)) (order : AreInOrder c.tables.waiting) where
+module _ (c : CoreState) (chip : ChipState) (s : LoggedService) (sent : Sent) (is : IsServiceOf c chip s) (on : IsOnSwitch (written_key sent.write)) (order : ArePendingInOrder c.tables.waiting) where
   abbrev core : SwitchState
   core = s.service.core
 
   abbrev after : Written
-  after = written_in (sent_writes c.log.taken ++ sent.write ∷ []) (waiting_write c.tables sent.write)
+  after = written_in (sent_writes c.log.taken ++ sent.write ∷ []) (tables_with_write c.tables sent.write)
 
   now_taken : TakesWrite sent.write (written_of c) after
   now_taken = takes_write c.tables (sent_writes c.log.taken) sent.write order
 
   after_is : after ≡ written_of (with_taken c sent)
-  after_is = ap (λ l. written_in l (waiting_write c.tables sent.write)) (sym (map-more c.log.taken sent))
+  after_is = ap (λ l. written_in l (tables_with_write c.tables sent.write)) (sym (map-more c.log.taken sent))
 
   reads : (k : Key) → (HasNoWrite after k → ⊥) → IsOnSwitch k
   reads k some = by (is_at (key_cmp k) (written_key sent.write)) refl

@@ -23,8 +23,8 @@ use Rattle.sai_types.specs.Objects.{entry_cmp, is_of}
 use Rattle.sai_types.specs.Refusal.{IsLegal, is_legal}
 use Rattle.chip_layout.specs.Renamed.{body_renamed, call_renamed, entry_renamed}
 use Rattle.asic_view.specs.declared.object.ViewObject.{ViewObject}
-use Rattle.asic_view.specs.View.{IsLegalOn, IsNew, ViewObjects, after_create, after_remove, after_set, as_rid, body_set, entry_at, is_named, set_in, shown_by, untied, used_of, with_tie}
-use Rattle.syncd_core.specs.Synced.{Changes, IsMade, answer_made}
+use Rattle.asic_view.specs.View.{IsLegalOn, IsNew, ViewObjects, after_create, after_remove, view_after_set, as_rid, body_set, entry_at, is_named, set_in, shown_by, untied, used_of, with_tie}
+use Rattle.syncd_core.specs.Synced.{Changes, IsMadeOnChip, answer_made}
 use Rattle.syncd_core.specs.Tied.{tie_of}
 use Rattle.order_laws.proofs.Called.{makes_renamed}
 use Rattle.restart_session_laws.specs.Built.{untied_view}
@@ -63,7 +63,7 @@ untied_created os v b = map-append bare os ((v, untied b) ∷ [])
 untied_tie : (os : ViewObjects) (v : Vid) (r : Rid) → untied_view (with_tie os v r) ≡ untied_view os
 untied_tie os v r = tie-alike bare (λ w b o p. refl) os v r
 
-untied_set : (os : ViewObjects) (e : Entry Vid) (a : Attr Vid) → untied_view (after_set os e a) ≡ after_set (untied_view os) e a
+untied_set : (os : ViewObjects) (e : Entry Vid) (a : Attr Vid) → untied_view (view_after_set os e a) ≡ view_after_set (untied_view os) e a
 untied_set [] e a = refl
 untied_set (x ∷ xs) e a = ap₂ (λ y ys. y ∷ ys) (by (is_named e x) refl) (untied_set xs e a)
   where
@@ -103,7 +103,7 @@ answered_then chip d legal false makes = record { answer = (record { legal = leg
 -- the tied view after a call on the temporary one
 pub record IsMadeOver (view : ViewObjects) (chip : ChipState) (c : Call Vid) (a : SyncAnswer) (later : ViewObjects) : Type 0 where
   pub view' : ViewObjects
-  pub made : IsMade view chip c a view' (chip_then chip (call_renamed (tie_of view) c))
+  pub made : IsMadeOnChip view chip c a view' (chip_then chip (call_renamed (tie_of view) c))
   pub same : later ≡ untied_view view'
   pub went : a ≡ sync.Failed → ⊥
 
@@ -142,7 +142,7 @@ module _ (view : ViewObjects) (chip : ChipState) where
   pub made-over : (c : Call Vid) (a : SyncAnswer) (later : ViewObjects) → IsLegal chip.capacities chip.objects (call_renamed (tie_of view) c) → Changes (untied_view view) c a later → IsMadeOver view chip c a later
   made-over (call.Create b) a later legal x = created b x.0 a later legal x.1 x.2 x.3
   made-over (call.Set e y) a later legal x = record {
-    view' = after_set view e y;
+    view' = view_after_set view e y;
     made = record { answer = answer.Done; answered = answered_then chip (call_renamed (tie_of view) (call.Set e y)) legal false refl; follows = (refl, x.1) };
     same = x.0 ∙ sym (untied_set view e y);
     went = λ h. done_failed (sym x.1 ∙ h);

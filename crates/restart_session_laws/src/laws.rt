@@ -17,10 +17,10 @@ ghost use Rattle.switch_model.specs.Marks.{Waiting, written_key};
 ghost use Rattle.switch_model.specs.declared.mark.MarkEvent.TheVariants as event;
 ghost use Rattle.switch_model.specs.declared.wait.Wait.{Wait};
 ghost use Rattle.retry_list.specs.Reasons.{with_reason};
-ghost use Rattle.producer_table.specs.Pending.{AreInOrder};
+ghost use Rattle.producer_table.specs.Pending.{ArePendingInOrder};
 ghost use Rattle.consumer_table.specs.Ops.{AreOpsInOrder, Ops, without_op};
 ghost use Rattle.machine_laws.specs.Reading.{IsOnSwitch};
-ghost use Rattle.ref_counts.specs.Room.{number_of};
+ghost use Rattle.ref_counts.specs.Room.{number_of_kind};
 ghost use Rattle.orch_flight.specs.Sharing.{MayStart};
 ghost use Rattle.registry_laws.specs.Flown.{Flown};
 ghost use Rattle.registry_laws.specs.Making.{IsNextCall, MayTakeFor};
@@ -37,7 +37,7 @@ ghost use Rattle.restart_laws.specs.Logged.{AreLoggedSteps, LoggedService, new_s
 ghost use Rattle.restart_laws.specs.Restored.{waiting_of};
 ghost use Rattle.warm_state.specs.declared.warm.Warm.TheVariants as warm;
 ghost use Rattle.session_laws.specs.Core.{CoreState, good_in, mark_at, new_core, size_beside, with_taken};
-ghost use Rattle.session_laws.specs.Events.{MakesOne, MakesSome, made_by};
+ghost use Rattle.session_laws.specs.Events.{MakesOne, MakesSome, vid_made_by};
 ghost use Rattle.session_laws.specs.Standing.{IsSessionOf};
 ghost use Rattle.restart_session_laws.specs.Built.{AreBareWaits, IsBeside, IsBringing, IsBuilt, building, given_up};
 ghost use Rattle.restart_session_laws.specs.Events.{MakesMore, MakesNext, restarted};
@@ -64,7 +64,7 @@ pub fn steps_follow()
 
 /// A write of a key that a text is is a step when it waits in the tables and is logged, in any warm state.
 pub fn writes_are_taken()
-    ensures { (c : CoreState) (chip : ChipState) (s : LoggedService) (sent : Sent) → IsServiceOf c chip s → IsOnSwitch (written_key sent.write) → AreInOrder c.tables.waiting → MakesNext c s (with_taken c sent) chip }
+    ensures { (c : CoreState) (chip : ChipState) (s : LoggedService) (sent : Sent) → IsServiceOf c chip s → IsOnSwitch (written_key sent.write) → ArePendingInOrder c.tables.waiting → MakesNext c s (with_taken c sent) chip }
 {}
 
 /// A restart, in any warm state, is a step: the core forgets all but its rows, what waits to be popped and its log.
@@ -103,8 +103,8 @@ pub fn rows_are_gone_over()
     ensures there { (first c : CoreState) (k : Key) (rest : List Key) → IsBuilt first c (k ∷ rest) → IsToSync c.tables k }
     ensures drops { (first c : CoreState) (k : Key) (rest : List Key) → IsBuilt first c (k ∷ rest) → AreOpsInOrder c.tables.ops → IsUnflown c.board k → row_at c.board.applied k ≡ good_in c k → IsBuilt first (record c { tables = record c.tables { ops = without_op c.tables.ops k } }) rest }
     ensures may { (first c : CoreState) (k : Key) (rest : List Key) → IsBuilt first c (k ∷ rest) → AreOpsInOrder c.tables.ops → (IsUnflown c.board k → row_at c.board.applied k ≡ good_in c k → ⊥) → IsUnflown c.board k → MayStart c.board.plan c.board.names 0 k (row_at c.board.applied k) (good_in c k) }
-    ensures waits { (first c : CoreState) (k : Key) (rest : List Key) (numbers : List ℕ) (r : Wait) (b : BoardState) → IsBuilt first c (k ∷ rest) → AreOpsInOrder c.tables.ops → (IsUnflown c.board k → row_at c.board.applied k ≡ good_in c k → ⊥) → ((kind : Kind) → number_of numbers kind ≡ used_of (current c.sync) kind) → IsBegunFor c.board numbers 0 k (good_in c k) (Err r) b → IsBuilt first (record c { board = b; waiting = with_reason c.waiting k r }) rest }
-    ensures starts { (first c : CoreState) (k : Key) (rest : List Key) (numbers : List ℕ) (u : Unit {0}) (b : BoardState) → IsBuilt first c (k ∷ rest) → AreOpsInOrder c.tables.ops → (IsUnflown c.board k → row_at c.board.applied k ≡ good_in c k → ⊥) → ((kind : Kind) → number_of numbers kind ≡ used_of (current c.sync) kind) → IsBegunFor c.board numbers 0 k (good_in c k) (Ok u) b → IsBringing first (record c { board = b; tables = record c.tables { ops = without_op c.tables.ops k } }) rest }
+    ensures waits { (first c : CoreState) (k : Key) (rest : List Key) (numbers : List ℕ) (r : Wait) (b : BoardState) → IsBuilt first c (k ∷ rest) → AreOpsInOrder c.tables.ops → (IsUnflown c.board k → row_at c.board.applied k ≡ good_in c k → ⊥) → ((kind : Kind) → number_of_kind numbers kind ≡ used_of (current c.sync) kind) → IsBegunFor c.board numbers 0 k (good_in c k) (Err r) b → IsBuilt first (record c { board = b; waiting = with_reason c.waiting k r }) rest }
+    ensures starts { (first c : CoreState) (k : Key) (rest : List Key) (numbers : List ℕ) (u : Unit {0}) (b : BoardState) → IsBuilt first c (k ∷ rest) → AreOpsInOrder c.tables.ops → (IsUnflown c.board k → row_at c.board.applied k ≡ good_in c k → ⊥) → ((kind : Kind) → number_of_kind numbers kind ≡ used_of (current c.sync) kind) → IsBegunFor c.board numbers 0 k (good_in c k) (Ok u) b → IsBringing first (record c { board = b; tables = record c.tables { ops = without_op c.tables.ops k } }) rest }
     ensures given_up { (first c : CoreState) (chip : ChipState) (s : LoggedService) → IsServiceOf first chip s → first.warm ≡ warm.Restored → IsBeside first c → IsServiceOf (given_up c) chip s }
 {}
 
@@ -115,8 +115,8 @@ pub fn operations_are_run_on_the_view()
     ensures begun { (first c : CoreState) (rest : List Key) (b : BoardState) (f g : Flown) → IsBringing first c rest → IsPrepared c.board 0 b → flown_at c.board 0 ≡ Some f → flown_at b 0 ≡ Some g → HasBegun b.plan b.names g }
     ensures ready { (first c : CoreState) (rest : List Key) (b : BoardState) (f g : Flown) → IsBringing first c rest → IsPrepared c.board 0 b → flown_at c.board 0 ≡ Some f → flown_at b 0 ≡ Some g → IsCallReady b.plan b.names g }
     ensures can { (first c : CoreState) (rest : List Key) (f : Flown) (call : Call Vid) (chip : ChipState) → IsBringing first c rest → flown_at c.board 0 ≡ Some f → HasBegun c.board.plan c.board.names f → IsNextCall c.board.plan c.board.names f.operation f.group call → CanCall c.sync c.sync.temporary chip call }
-    ensures may { (first c : CoreState) (rest : List Key) (f : Flown) (call : Call Vid) (chip : ChipState) (a : SyncAnswer) (y : SyncState) (chip' : ChipState) → IsBringing first c rest → flown_at c.board 0 ≡ Some f → HasBegun c.board.plan c.board.names f → IsNextCall c.board.plan c.board.names f.operation f.group call → Calls c.sync c.sync.temporary chip call a y chip' → MayTakeFor f.operation f.group (made_by a) c.board.names }
-    ensures called { (first c : CoreState) (rest : List Key) (f : Flown) (call : Call Vid) (chip : ChipState) (a : SyncAnswer) (y : SyncState) (chip' : ChipState) (b : BoardState) → IsBringing first c rest → flown_at c.board 0 ≡ Some f → HasBegun c.board.plan c.board.names f → IsNextCall c.board.plan c.board.names f.operation f.group call → Calls c.sync c.sync.temporary chip call a y chip' → IsTakenFor c.board 0 (made_by a) b → IsBringing first (record c { board = b; sync = y }) rest × (chip' ≡ chip) }
+    ensures may { (first c : CoreState) (rest : List Key) (f : Flown) (call : Call Vid) (chip : ChipState) (a : SyncAnswer) (y : SyncState) (chip' : ChipState) → IsBringing first c rest → flown_at c.board 0 ≡ Some f → HasBegun c.board.plan c.board.names f → IsNextCall c.board.plan c.board.names f.operation f.group call → Calls c.sync c.sync.temporary chip call a y chip' → MayTakeFor f.operation f.group (vid_made_by a) c.board.names }
+    ensures called { (first c : CoreState) (rest : List Key) (f : Flown) (call : Call Vid) (chip : ChipState) (a : SyncAnswer) (y : SyncState) (chip' : ChipState) (b : BoardState) → IsBringing first c rest → flown_at c.board 0 ≡ Some f → HasBegun c.board.plan c.board.names f → IsNextCall c.board.plan c.board.names f.operation f.group call → Calls c.sync c.sync.temporary chip call a y chip' → IsTakenFor c.board 0 (vid_made_by a) b → IsBringing first (record c { board = b; sync = y }) rest × (chip' ≡ chip) }
     ensures ends { (first c : CoreState) (rest : List Key) → IsBringing first c rest → flown_at c.board 0 ≡ None → IsBuilt first c rest }
 {}
 

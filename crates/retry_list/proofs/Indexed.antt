@@ -9,7 +9,7 @@ use Rattle.switch_model.specs.declared.wait.Wait.{Wait}
 use Rattle.retry_list.specs.declared.event.Event.{Event}
 use Rattle.retry_list.specs.declared.index.Index.{Index}
 use Rattle.retry_list.specs.Event.{event_cmp}
-use Rattle.retry_list.specs.Index.{IsFiledAs, IsFiledUnless, IsIndexed, IsSameIndex, is_filed}
+use Rattle.retry_list.specs.Index.{IsFiledAs, IsFiledUnless, AreReasonsFiled, IsSameIndex, is_filed}
 use Rattle.retry_list.specs.Reasons.{Reasons, event_of, is_about, is_woken, reason_at, with_reason}
 use Rattle.retry_list.proofs.Events.{event-turned, same_event}
 use Rattle.retry_list.proofs.Keyed.{key-turned}
@@ -35,7 +35,7 @@ filed_new false true was h = h refl
 filed_new false false was h = refl
 
 -- a key that had no reason
-pub IsIndexed-new : (r : Reasons) (old new : Index) (k : Key) (w : Wait) → IsIndexed r old → IsFiledAs true old new (event_of w) k → reason_at r k ≡ None → IsIndexed (with_reason r k w) new
+pub IsIndexed-new : (r : Reasons) (old new : Index) (k : Key) (w : Wait) → AreReasonsFiled r old → IsFiledAs true old new (event_of w) k → reason_at r k ≡ None → AreReasonsFiled (with_reason r k w) new
 IsIndexed-new r old new k w indexed filed none e q =
     filed e q
     ∙ ap (λ x. cond (is_at (event_cmp (event_of w)) e && is_at (key_cmp k) q) true x) (indexed e q)
@@ -61,7 +61,7 @@ moved_anywhere b true d x was h f g = moved_here b d x was (h refl) f g
 moved_anywhere b false d x was h f g = ap₂ (λ (y z : Bool). cond y false (cond z true was)) (ap (λ y. not x && y) (and_false d) ∙ and_false (not x)) (and_false b)
 
 -- a key that had another reason, or the same
-pub IsIndexed-moved : (r : Reasons) (old mid new : Index) (k : Key) (w before : Wait) → IsIndexed r old → IsFiledAs true old mid (event_of w) k → IsFiledUnless mid new (event_of before) (event_of w) k → reason_at r k ≡ Some before → IsIndexed (with_reason r k w) new
+pub IsIndexed-moved : (r : Reasons) (old mid new : Index) (k : Key) (w before : Wait) → AreReasonsFiled r old → IsFiledAs true old mid (event_of w) k → IsFiledUnless mid new (event_of before) (event_of w) k → reason_at r k ≡ Some before → AreReasonsFiled (with_reason r k w) new
 IsIndexed-moved r old mid new k w before indexed filed unfiled there e q =
     let from = event_of before in
     let to = event_of w in
@@ -78,16 +78,16 @@ filed_and_back true false was h = refl
 filed_and_back false c was h = refl
 
 -- a key that got no reason, since memory was refused
-pub IsIndexed-restored : (r after : Reasons) (old mid new : Index) (event : Event) (k : Key) → IsIndexed r old → IsFiledAs true old mid event k → IsFiledAs false mid new event k → reason_at r k ≡ None → after ≡ r → IsIndexed after new
+pub IsIndexed-restored : (r after : Reasons) (old mid new : Index) (event : Event) (k : Key) → AreReasonsFiled r old → IsFiledAs true old mid event k → IsFiledAs false mid new event k → reason_at r k ≡ None → after ≡ r → AreReasonsFiled after new
 IsIndexed-restored r after old mid new event k indexed filed unfiled none same =
-    subst (λ r. IsIndexed r new) (sym same) (λ e q.
+    subst (λ r. AreReasonsFiled r new) (sym same) (λ e q.
     unfiled e q
     ∙ ap (λ x. cond (is_at (event_cmp event) e && is_at (key_cmp k) q) false x) (filed e q ∙ ap (λ x. cond (is_at (event_cmp event) e && is_at (key_cmp k) q) true x) (indexed e q))
     ∙ filed_and_back (is_at (event_cmp event) e) (is_at (key_cmp k) q) (is_woken e (reason_at r q)) (was_of r k q e None none))
 
 -- nothing changed
-pub IsIndexed-same : (r after : Reasons) (old new : Index) → IsIndexed r old → IsSameIndex old new → after ≡ r → IsIndexed after new
-IsIndexed-same r after old new indexed kept same = subst (λ r. IsIndexed r new) (sym same) (λ e q. kept e q ∙ indexed e q)
+pub IsIndexed-same : (r after : Reasons) (old new : Index) → AreReasonsFiled r old → IsSameIndex old new → after ≡ r → AreReasonsFiled after new
+IsIndexed-same r after old new indexed kept same = subst (λ r. AreReasonsFiled r new) (sym same) (λ e q. kept e q ∙ indexed e q)
 
 forgotten : (b c was : Bool) → (c ≡ true → was ≡ b) → cond (b && c) false was ≡ cond c false was
 forgotten true true was h = refl
@@ -100,7 +100,7 @@ woken-none true e o = refl
 woken-none false e o = refl
 
 -- a key that is forgotten
-pub IsIndexed-forgotten : (r after : Reasons) (old new : Index) (k : Key) (w : Wait) → IsIndexed r old → IsFiledAs false old new (event_of w) k → reason_at r k ≡ Some w → ((q : Key) → reason_at after q ≡ cond (is_at (key_cmp k) q) None (reason_at r q)) → IsIndexed after new
+pub IsIndexed-forgotten : (r after : Reasons) (old new : Index) (k : Key) (w : Wait) → AreReasonsFiled r old → IsFiledAs false old new (event_of w) k → reason_at r k ≡ Some w → ((q : Key) → reason_at after q ≡ cond (is_at (key_cmp k) q) None (reason_at r q)) → AreReasonsFiled after new
 IsIndexed-forgotten r after old new k w indexed unfiled there gone e q =
     unfiled e q
     ∙ ap (λ x. cond (is_at (event_cmp (event_of w)) e && is_at (key_cmp k) q) false x) (indexed e q)

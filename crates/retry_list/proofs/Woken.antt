@@ -23,7 +23,7 @@ use Rattle.sai_types.proofs.Maps.{lookup-removed}
 use Rattle.retry_list.specs.declared.event.Event.{Event}
 use Rattle.retry_list.specs.declared.index.Index.{Index}
 use Rattle.retry_list.specs.Event.{event_cmp}
-use Rattle.retry_list.specs.Index.{IsCleared, IsIndexed, is_filed, keys_about}
+use Rattle.retry_list.specs.Index.{IsCleared, AreReasonsFiled, is_filed, keys_about}
 use Rattle.retry_list.specs.Reasons.{Forgot, Put, Reasons, RetryStep, Woke, event_of, is_about, is_woken, last_reason, left_asleep, reason_after, reason_at, reasons_after, reasons_after_all, unless_about, with_reason, without_all, without_reason, woken_keys}
 use Rattle.retry_list.proofs.Events.{event-turned, same_event}
 use Rattle.retry_list.proofs.Keyed.{key-turned, lookup-above, sorted_from_rising}
@@ -58,7 +58,7 @@ any-woken_keys e q [] h = refl
 any-woken_keys e q (x ∷ xs) h = woken_step (is_about e x.1) (is_at (key_cmp q) x.0) e q x xs refl refl h.0 (any-woken_keys e q xs h.1)
 
 -- the keys that are filed under an event are those that it wakes
-keys_about-woken : (r : Reasons) (index : Index) (e : Event) → HasRisingKeys key_cmp r → IsIndexed r index → IsStrictlySortedBy key_cmp (keys_about index e) → keys_about index e ≡ woken_keys e r
+keys_about-woken : (r : Reasons) (index : Index) (e : Event) → HasRisingKeys key_cmp r → AreReasonsFiled r index → IsStrictlySortedBy key_cmp (keys_about index e) → keys_about index e ≡ woken_keys e r
 keys_about-woken r index e h indexed sorted =
     btree_set_from_contains key_total (record { keys = keys_about index e }) (record { keys = woken_keys e r }) sorted (woken_keys-rise e r h) (λ q. indexed e q ∙ sym (any-woken_keys e q r h)) key_exact
 
@@ -83,7 +83,7 @@ without_all-woken_keys e [] h = refl
 without_all-woken_keys e (x ∷ xs) h = asleep_step (is_about e x.1) e x xs h.0 (without_all-woken_keys e xs h.1)
 
 -- keys that were filed under an event, and what is left without them
-pub are_woken : (r : Reasons) (index : Index) (e : Event) (ks : List Key) → HasRisingKeys key_cmp r → IsIndexed r index → ks ≡ keys_about index e → IsStrictlySortedBy key_cmp ks → ks ≡ woken_keys e r
+pub are_woken : (r : Reasons) (index : Index) (e : Event) (ks : List Key) → HasRisingKeys key_cmp r → AreReasonsFiled r index → ks ≡ keys_about index e → IsStrictlySortedBy key_cmp ks → ks ≡ woken_keys e r
 are_woken r index e ks h indexed about sorted = about ∙ keys_about-woken r index e h indexed (subst (IsStrictlySortedBy key_cmp) about sorted)
 
 pub are_left : (r after : Reasons) (e : Event) (ks : List Key) → HasRisingKeys key_cmp r → ks ≡ woken_keys e r → after ≡ without_all r ks → after ≡ left_asleep e r
@@ -119,7 +119,7 @@ woken_unless e event (Some w) =
     by (is_about event w) (is_at (event_cmp event) e) (is_about e w) refl refl refl
 
 -- after the keys of an event were taken out, those that are left stay filed
-pub IsIndexed-woken : (r after : Reasons) (old new : Index) (event : Event) → HasRisingKeys key_cmp r → IsIndexed r old → IsCleared old new event → after ≡ left_asleep event r → IsIndexed after new
+pub IsIndexed-woken : (r after : Reasons) (old new : Index) (event : Event) → HasRisingKeys key_cmp r → AreReasonsFiled r old → IsCleared old new event → after ≡ left_asleep event r → AreReasonsFiled after new
 IsIndexed-woken r after old new event h indexed cleared left e q =
     cleared e q
     ∙ ap (λ x. cond (is_at (event_cmp event) e) false x) (indexed e q)

@@ -38,5 +38,5 @@ abbrev pub IsCleared : Index → Index → Event → Type 0
 IsCleared old new event = (e : Event) (q : Key) → is_filed new e q ≡ (if is_at (event_cmp event) e then false else is_filed old e q)
 
 -- a key is filed under an event exactly where its reason is about it
-abbrev pub IsIndexed : Reasons → Index → Type 0
-IsIndexed reasons index = (e : Event) (q : Key) → is_filed index e q ≡ is_woken e (reason_at reasons q)
+abbrev pub AreReasonsFiled : Reasons → Index → Type 0
+AreReasonsFiled reasons index = (e : Event) (q : Key) → is_filed index e q ≡ is_woken e (reason_at reasons q)

@@ -3,7 +3,7 @@ ghost use Rattle.std.specs.Prelude.{◌≡◌, ◌≤◌, [], length, IfOk, IsOk
 ghost use Rattle.std.specs.List.Sorted.{IsStrictlySortedBy};
 ghost use Rattle.table_schema.specs.Fields.{HasRisingKeys};
 ghost use Rattle.table_schema.specs.Key.{key_cmp};
-ghost use Rattle.retry_list.specs.Index.{IsIndexed};
+ghost use Rattle.retry_list.specs.Index.{AreReasonsFiled};
 ghost use Rattle.retry_list.specs.Reasons.{left_asleep, reason_at, with_reason, without_all, without_reason, woken_keys};
 
 use crate::Event;
@@ -27,13 +27,13 @@ impl Model for Retry {
     ghost use Rattle.std.specs.Prelude.{List};
     ghost use Rattle.table_schema.specs.declared.key.Key.{Key};
     ghost use Rattle.switch_model.specs.declared.wait.Wait.{Wait};
-    ghost use Rattle.retry_list.specs.Index.{IsIndexed};
+    ghost use Rattle.retry_list.specs.Index.{AreReasonsFiled};
 
     ghost Value = { List (Key × Wait) };
 
     ghost view = { λ r. r.reasons.entries };
 
-    ghost invariant = { λ r. IsIndexed r.reasons.entries r.index };
+    ghost invariant = { λ r. AreReasonsFiled r.reasons.entries r.index };
 }
 
 impl Retry {
@@ -108,10 +108,10 @@ fn put(
     key: Key,
     wait: Wait,
 ) -> Result<(), OutOfMemory>
-    requires indexed { IsIndexed reasons.old.entries index.old }
+    requires indexed { AreReasonsFiled reasons.old.entries index.old }
     ensures ok { OnOk result (reasons.new.entries ≡ with_reason reasons.old.entries key wait) }
     ensures err { OnErr result (reasons.new.entries ≡ reasons.old.entries) }
-    ensures indexed { IsIndexed reasons.new.entries index.new }
+    ensures indexed { AreReasonsFiled reasons.new.entries index.new }
 {
     if has(reasons, &key, &wait) {
         return Ok(());
@@ -146,9 +146,9 @@ fn has(reasons: &BTreeMap<Key, Wait>, key: &Key, wait: &Wait) -> bool
 
 /// Takes a key's reason, and the key out from under the event that this is about.
 fn forget(reasons: &mut BTreeMap<Key, Wait>, index: &mut Index, key: &Key)
-    requires indexed { IsIndexed reasons.old.entries index.old }
+    requires indexed { AreReasonsFiled reasons.old.entries index.old }
     ensures gone { reasons.new.entries ≡ without_reason reasons.old.entries key.now }
-    ensures indexed { IsIndexed reasons.new.entries index.new }
+    ensures indexed { AreReasonsFiled reasons.new.entries index.new }
 {
     match reasons.remove(key) {
         Some(wait) => index.unfile(&Event::of(wait), key),

@@ -14,7 +14,7 @@ use Rattle.switch_model.specs.Marks.{applied_rows, sent_writes, written_key}
 use Rattle.switch_model.specs.Promises.{good_rows_at}
 use Rattle.switch_model.specs.declared.mark.Mark.{Mark}
 use Rattle.switch_model.specs.declared.mark.MarkEvent.TheVariants as event
-use Rattle.producer_table.specs.Pending.{AreInOrder}
+use Rattle.producer_table.specs.Pending.{ArePendingInOrder}
 use Rattle.producer_table.proofs.PendingWrites.{AreInOrder-after}
 use Rattle.switch_machine.specs.Events.{SwitchState, after_answers}
 use Rattle.switch_machine.specs.Written.{HasNoWrite, TakesWrite, Written}
@@ -25,7 +25,7 @@ use Rattle.machine_laws.specs.Reading.{IsOnSwitch}
 use Rattle.machine_laws.proofs.Waiting.{sync-left}
 use Rattle.restart_laws.specs.Logged.{last_mark}
 use Rattle.restart_laws.proofs.Marking.{last-more}
-use Rattle.sync_tables.specs.Tables.{with_write as waiting_write, written_in}
+use Rattle.sync_tables.specs.Tables.{tables_with_write, written_in}
 use Rattle.sync_tables.proofs.Waits.{takes_write}
 use Rattle.flight_board.specs.Applied.{row_at}
 use Rattle.session_laws.specs.Core.{CoreState, new_core, with_taken}
@@ -68,7 +68,7 @@ round-begins c chip x = record {
   sync = refl;
   warm = refl;
   ops = refl;
-  order = subst AreInOrder (sym x.rest.popped) (record { keys = tt; names = tt });
+  order = subst ArePendingInOrder (sym x.rest.popped) (record { keys = tt; names = tt });
   named = λ k i. absurd i;
   unnamed = λ k none o. subst (λ w. HasNoWrite w k) (core-written c chip x.within x.rest.warm x.rest.free) (λ o. no_write k o) o;
 }
@@ -81,7 +81,7 @@ module _ (old c : CoreState) (chip : ChipState) (sent : List Sent) (next : Sent)
   before = written_in (sent_writes c.log.taken) c.tables
 
   abbrev then : Written
-  then = written_in (sent_writes c.log.taken ++ next.write ∷ []) (waiting_write c.tables next.write)
+  then = written_in (sent_writes c.log.taken ++ next.write ∷ []) (tables_with_write c.tables next.write)
 
   takes : TakesWrite next.write before then
   takes = takes_write c.tables (sent_writes c.log.taken) next.write x.order

@@ -15,7 +15,7 @@ use Rattle.switch_model.specs.Desired.{IsClosed, IsThingOf}
 use Rattle.switch_model.specs.Good.{TypedRows, good_row, good_rows}
 use Rattle.switch_model.specs.Marks.{Waiting, applied_rows, sent_writes}
 use Rattle.switch_model.specs.Promises.{good_rows_at}
-use Rattle.switch_model.specs.Room.{HasRoom, IsRoundThing}
+use Rattle.switch_model.specs.Room.{HasRoomForView, IsRoundThing}
 use Rattle.switch_model.specs.Things.{things_of}
 use Rattle.switch_model.specs.declared.mark.Mark.{Mark}
 use Rattle.switch_model.specs.declared.mark.MarkEvent.{MarkEvent}
@@ -55,7 +55,7 @@ closed_same : (a b : TypedRows) → AreSameRows a b → IsClosed a → IsClosed 
 closed_same a b same h k r at = sym (have_same a b same (names_of k r)) ∙ h k r (same k ∙ at)
 
 -- where each applied row was applied before the round, or was good after some of its writes, there is room for the applied rows and the good ones together
-room_together : (plan : Ports) (capacities : List ℕ) (before applied good : TypedRows) (taken : List Sent) (from to : ℕ) → ((k : Key) (row : Row) → applied k ≡ Some row → (before k ≡ Some row) ⊎ ((n : ℕ) × (from ≤ n) × (n ≤ to) × (good_rows_at plan taken n k ≡ Some row))) → AreSameRows good (good_rows plan (rows_of (sent_writes taken))) → from ≤ length taken → length taken ≤ to → HasRoom capacities (IsRoundThing plan before taken from to) → HasRoomTogether plan capacities applied good
+room_together : (plan : Ports) (capacities : List ℕ) (before applied good : TypedRows) (taken : List Sent) (from to : ℕ) → ((k : Key) (row : Row) → applied k ≡ Some row → (before k ≡ Some row) ⊎ ((n : ℕ) × (from ≤ n) × (n ≤ to) × (good_rows_at plan taken n k ≡ Some row))) → AreSameRows good (good_rows plan (rows_of (sent_writes taken))) → from ≤ length taken → length taken ≤ to → HasRoomForView capacities (IsRoundThing plan before taken from to) → HasRoomTogether plan capacities applied good
 room_together plan capacities before applied good taken from to rows same least most room kind keys x = room kind keys (record { distinct = x.distinct; things = λ n h. let y = x.things n h in (y.0, y.1, y.2, by y.0 y.3) })
   where
     applied_by_round : (t : Thing) (k : Key) (row : Row) → IsIn t (things_of plan k row) → (before k ≡ Some row) ⊎ ((n : ℕ) × (from ≤ n) × (n ≤ to) × (good_rows_at plan taken n k ≡ Some row)) → IsRoundThing plan before taken from to t
@@ -107,7 +107,7 @@ module _ (plan : Ports) (capacities : List ℕ) (r : EndedRound) (x : IsMadeByTu
   no_waits [] e = refl
   no_waits (w ∷ ws) e = absurd cc
 
-  round_drains : (from to : ℕ) → IsClosed (rows_wanted plan r) → from ≤ length (taken_then r) → length (taken_then r) ≤ to → HasRoom capacities (IsRoundThing plan (rows_before plan r) (taken_then r) from to) → (x.waits ≡ []) × (x.turns ≤ 4)
+  round_drains : (from to : ℕ) → IsClosed (rows_wanted plan r) → from ≤ length (taken_then r) → length (taken_then r) ≤ to → HasRoomForView capacities (IsRoundThing plan (rows_before plan r) (taken_then r) from to) → (x.waits ≡ []) × (x.turns ≤ 4)
   round_drains from to closed least most room =
       let together = room_together plan capacities (rows_before plan r) x.start.applied x.good (taken_then r) from to (λ k row at. inl (sym (x.applied k) ∙ at)) x.wanted least most room in
       let y = four plan capacities x.good (closed_same (rows_wanted plan r) x.good (λ k. sym (x.wanted k)) closed) x.start.applied together x.turns x.later.applied x.keys x.left synced x.order (turns-rows plan capacities x.good x.turns x.start x.later x.keys x.left r.calls x.are) in
@@ -163,7 +163,7 @@ module _ (c c' : CoreState) (chip chip' : ChipState) (x : InSession c chip) (y :
       settling-good c.board.plan 4 c.sync.capacities (switch_answered x.session y.answers) (switch_of y.later) y.settling from_safe k
       ∙ ap (λ ts. good_rows c.board.plan (rows_of ts) k) (answers_taken x.session.service.core y.answers y.are ∙ ap (λ w. w.taken) (x.stands.working at).0.written)
 
-  pub settling-drains : (before : TypedRows) (from to : ℕ) → ((k : Key) (row : Row) → (after_answers x.session.service.core y.answers).machine.board.applied k ≡ Some row → (before k ≡ Some row) ⊎ ((n : ℕ) × (from ≤ n) × (n ≤ to) × (good_rows_at c.board.plan c.log.taken n k ≡ Some row))) → IsClosed (good_rows c.board.plan (rows_of (sent_writes c.log.taken))) → from ≤ length c.log.taken → length c.log.taken ≤ to → HasRoom c.sync.capacities (IsRoundThing c.board.plan before c.log.taken from to) → (y.settling.waits ≡ []) × (y.settling.turns ≤ 4)
+  pub settling-drains : (before : TypedRows) (from to : ℕ) → ((k : Key) (row : Row) → (after_answers x.session.service.core y.answers).machine.board.applied k ≡ Some row → (before k ≡ Some row) ⊎ ((n : ℕ) × (from ≤ n) × (n ≤ to) × (good_rows_at c.board.plan c.log.taken n k ≡ Some row))) → IsClosed (good_rows c.board.plan (rows_of (sent_writes c.log.taken))) → from ≤ length c.log.taken → length c.log.taken ≤ to → HasRoomForView c.sync.capacities (IsRoundThing c.board.plan before c.log.taken from to) → (y.settling.waits ≡ []) × (y.settling.turns ≤ 4)
   settling-drains before low high rows closed least most room =
       let good = good_of c.board.plan popped.written in
       let good_closed = closed_same (good_rows c.board.plan (rows_of (sent_writes c.log.taken))) good (λ k. sym (good_is k)) closed in

@@ -3,7 +3,7 @@ use Rattle.std.proofs.Common.{◌≡◌, inl, inr, true, ℕ, List, [], sym, sub
 use Rattle.table_schema.specs.Plan.{IsPlan, Ports}
 use Rattle.table_schema.specs.declared.write.Sent.{Sent}
 use Rattle.sai_types.specs.ChipState.{ChipState}
-use Rattle.producer_table.specs.Pending.{AreInOrder}
+use Rattle.producer_table.specs.Pending.{ArePendingInOrder}
 use Rattle.warm_state.specs.declared.warm.Warm.TheVariants as warm
 use Rattle.session_laws.specs.Core.{CoreState, new_core}
 use Rattle.round_laws.specs.Between.{IsBetweenRounds, IsReadyForRound, RoundEnds}
@@ -12,7 +12,7 @@ use Rattle.round_laws.proofs.Between.{between-first}
 use Rattle.round_laws.proofs.ToSync.{not_suspect}
 
 pub between-ready : (c : CoreState) (chip : ChipState) → IsBetweenRounds c chip → IsReadyForRound c chip
-between-ready c chip x = record { within = x.within; order = subst AreInOrder (sym x.rest.popped) (record { keys = tt; names = tt }); warm = inl x.rest.warm; between = λ at. x }
+between-ready c chip x = record { within = x.within; order = subst ArePendingInOrder (sym x.rest.popped) (record { keys = tt; names = tt }); warm = inl x.rest.warm; between = λ at. x }
 
 pub ready-first : (plan : Ports) (capacities : List ℕ) (limit : ℕ) (chip : ChipState) → IsPlan plan → chip.objects ≡ [] → chip.effects ≡ [] → chip.clean ≡ true → chip.capacities ≡ capacities → IsReadyForRound (new_core plan capacities limit) chip
 ready-first plan capacities limit chip is objects effects clean room = between-ready (new_core plan capacities limit) chip (between-first plan capacities limit chip is objects effects clean room)
@@ -20,5 +20,5 @@ ready-first plan capacities limit chip is objects effects clean room = between-r
 pub ended-ready : (old c : CoreState) (chip chip' : ChipState) (sent : List Sent) → RoundEnds old chip sent c chip' → IsReadyForRound c chip'
 ended-ready old c chip chip' sent x = between-ready c chip' x.later
 
-pub suspect-ready : (c : CoreState) (chip : ChipState) → InSession c chip → AreInOrder c.tables.waiting → c.warm ≡ warm.Suspect → IsReadyForRound c chip
+pub suspect-ready : (c : CoreState) (chip : ChipState) → InSession c chip → ArePendingInOrder c.tables.waiting → c.warm ≡ warm.Suspect → IsReadyForRound c chip
 suspect-ready c chip x order at = record { within = x; order = order; warm = inr at; between = λ back. absurd (not_suspect c.warm back at) }

@@ -9,7 +9,7 @@ use Rattle.sai_types.specs.ChipState.{ChipState}
 use Rattle.switch_model.specs.History.{with_end, with_mark}
 use Rattle.switch_model.specs.Marks.{sent_writes}
 use Rattle.switch_model.specs.declared.mark.Mark.{Mark}
-use Rattle.producer_table.specs.Pending.{AreInOrder}
+use Rattle.producer_table.specs.Pending.{ArePendingInOrder}
 use Rattle.switch_machine.specs.Written.{HasNoWrite}
 use Rattle.machine_laws.specs.Logged.{ListsKey}
 use Rattle.restart_laws.specs.Logged.{last_mark}
@@ -43,7 +43,7 @@ pub record IsBetweenRounds (c : CoreState) (chip : ChipState) : Type 0 where
 -- a core in a session that a round may begin with: its writes wait in order; and it is between two rounds, or suspect since a fault
 pub record IsReadyForRound (c : CoreState) (chip : ChipState) : Type 0 where
   pub within : InSession c chip
-  pub order : AreInOrder c.tables.waiting
+  pub order : ArePendingInOrder c.tables.waiting
   pub between : c.warm ≡ warm.Reconciled → IsBetweenRounds c chip
   pub warm : (c.warm ≡ warm.Reconciled) ⊎ (c.warm ≡ warm.Suspect)
 
@@ -56,7 +56,7 @@ pub record IsInRound (old : CoreState) (chip : ChipState) (sent : List Sent) (c 
   pub sync : c.sync ≡ old.sync
   pub warm : c.warm ≡ old.warm
   pub ops : c.tables.ops ≡ old.tables.ops
-  pub order : AreInOrder c.tables.waiting
+  pub order : ArePendingInOrder c.tables.waiting
   pub named : (k : Key) → IsIn k (keys_named sent) → HasNoWrite (written_in (sent_writes c.log.taken) c.tables) k → ⊥
   pub unnamed : (k : Key) → (IsIn k (keys_named sent) → ⊥) → HasNoWrite (written_in (sent_writes c.log.taken) c.tables) k
 

@@ -10,9 +10,9 @@ ghost use Rattle.switch_model.specs.Desired.{IsClosed};
 ghost use Rattle.switch_model.specs.Good.{TypedRows, good_rows};
 ghost use Rattle.switch_model.specs.Marks.{sent_writes, written_key};
 ghost use Rattle.switch_model.specs.Promises.{good_rows_at};
-ghost use Rattle.switch_model.specs.Room.{HasRoom, IsRoundThing};
+ghost use Rattle.switch_model.specs.Room.{HasRoomForView, IsRoundThing};
 ghost use Rattle.switch_machine.specs.Events.{after_answers};
-ghost use Rattle.producer_table.specs.Pending.{AreInOrder};
+ghost use Rattle.producer_table.specs.Pending.{ArePendingInOrder};
 ghost use Rattle.machine_laws.specs.Reading.{IsOnSwitch};
 ghost use Rattle.warm_state.specs.declared.warm.Warm.TheVariants as warm;
 ghost use Rattle.session_laws.specs.Core.{CoreState, new_core, with_taken};
@@ -37,7 +37,7 @@ pub fn rounds_may_begin()
     ensures first { (plan : Ports) (capacities : List ℕ) (limit : ℕ) (chip : ChipState) → IsPlan plan → chip.objects ≡ [] → chip.effects ≡ [] → chip.clean ≡ true → chip.capacities ≡ capacities → IsReadyForRound (new_core plan capacities limit) chip }
     ensures between { (c : CoreState) (chip : ChipState) → IsBetweenRounds c chip → IsReadyForRound c chip }
     ensures ended { (old c : CoreState) (chip chip' : ChipState) (sent : List Sent) → RoundEnds old chip sent c chip' → IsReadyForRound c chip' }
-    ensures suspect { (c : CoreState) (chip : ChipState) → InSession c chip → AreInOrder c.tables.waiting → c.warm ≡ warm.Suspect → IsReadyForRound c chip }
+    ensures suspect { (c : CoreState) (chip : ChipState) → InSession c chip → ArePendingInOrder c.tables.waiting → c.warm ≡ warm.Suspect → IsReadyForRound c chip }
 {}
 
 /// A settling that ends at its mark ends between rounds, whatever came before it. Where it ends a round in which writes were taken and
@@ -53,5 +53,5 @@ pub fn rounds_end()
 /// row after one of these numbers of writes.
 pub fn rounds_drain()
     ensures round { (plan : Ports) (capacities : List ℕ) (from : ℕ) (r : EndedRound) → IsMadeByTurns plan capacities r → from ≤ length (taken_then r) → Drains plan capacities from r }
-    ensures settling { (c c' : CoreState) (chip chip' : ChipState) (before : TypedRows) (from to : ℕ) (x : InSession c chip) (y : SettlesTo c x.session c' chip') → c.warm ≡ warm.Reconciled → ((k : Key) (row : Row) → (after_answers x.session.service.core y.answers).machine.board.applied k ≡ Some row → (before k ≡ Some row) ⊎ ((n : ℕ) × (from ≤ n) × (n ≤ to) × (good_rows_at c.board.plan c.log.taken n k ≡ Some row))) → IsClosed (good_rows c.board.plan (rows_of (sent_writes c.log.taken))) → from ≤ length c.log.taken → length c.log.taken ≤ to → HasRoom c.sync.capacities (IsRoundThing c.board.plan before c.log.taken from to) → (y.settling.waits ≡ []) × (y.settling.turns ≤ 4) }
+    ensures settling { (c c' : CoreState) (chip chip' : ChipState) (before : TypedRows) (from to : ℕ) (x : InSession c chip) (y : SettlesTo c x.session c' chip') → c.warm ≡ warm.Reconciled → ((k : Key) (row : Row) → (after_answers x.session.service.core y.answers).machine.board.applied k ≡ Some row → (before k ≡ Some row) ⊎ ((n : ℕ) × (from ≤ n) × (n ≤ to) × (good_rows_at c.board.plan c.log.taken n k ≡ Some row))) → IsClosed (good_rows c.board.plan (rows_of (sent_writes c.log.taken))) → from ≤ length c.log.taken → length c.log.taken ≤ to → HasRoomForView c.sync.capacities (IsRoundThing c.board.plan before c.log.taken from to) → (y.settling.waits ≡ []) × (y.settling.turns ≤ 4) }
 {}

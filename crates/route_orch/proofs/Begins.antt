@@ -23,7 +23,7 @@ use Rattle.ref_counts.specs.declared.name.Name.{Name}
 use Rattle.ref_counts.specs.declared.name.Name.TheVariants as name
 use Rattle.ref_counts.specs.declared.name.NameState.{NameState}
 use Rattle.ref_counts.specs.declared.name.NameState.TheVariants as state
-use Rattle.ref_counts.specs.Registered.{going}
+use Rattle.ref_counts.specs.Registered.{begun_to_go}
 use Rattle.ref_counts.specs.Registry.{Names, changed, state_of}
 use Rattle.ref_counts.specs.Room.{Reserves, RoomState, kinds}
 use Rattle.orch_flight.specs.Needing.{absent_or, first_absent, first_unapplied, places_for, row_reason, to_build}
@@ -136,8 +136,8 @@ removed-places plan (key.Route p) (row.Route a) is = places-taken (from (goal_of
 removed-places plan (key.Route p) _ is = refl
 removed-places plan _ a is = elim is [ ]
 
-pub removed-names : (plan : Ports) (names : Names) (worker : ℕ) (k : Key) (a : Row) → IsRouteKey k → Fits plan k a → started_names plan names worker k (Some a) None ≡ changed names (name.Row k) (going worker)
+pub removed-names : (plan : Ports) (names : Names) (worker : ℕ) (k : Key) (a : Row) → IsRouteKey k → Fits plan k a → started_names plan names worker k (Some a) None ≡ changed names (name.Row k) (begun_to_go worker)
 removed-names plan names worker (key.Route p) (row.Route a) is fits =
-    names-due (changed names (name.Row (key.Route p)) (going worker)) worker (key.Route p) (first_due plan names (key.Route p) (Some (row.Route a)) None) (leaving plan (key.Route p) (Some (row.Route a)) None) (none-left plan p (Some a) None fits.1 tt)
+    names-due (changed names (name.Row (key.Route p)) (begun_to_go worker)) worker (key.Route p) (first_due plan names (key.Route p) (Some (row.Route a)) None) (leaving plan (key.Route p) (Some (row.Route a)) None) (none-left plan p (Some a) None fits.1 tt)
 removed-names plan names worker (key.Route p) _ is fits = elim fits [ ]
 removed-names plan names worker _ a is fits = elim is [ ]

@@ -21,7 +21,7 @@ use Rattle.sai_types.specs.declared.thing.Goal.TheVariants as goal
 use Rattle.sai_types.specs.declared.thing.Thing.{Thing}
 use Rattle.sai_types.specs.declared.thing.Thing.TheVariants as thing
 use Rattle.sai_types.proofs.Membership.{in-left}
-use Rattle.chip_layout.specs.Bodies.{IsAt, IsBody, IsChange, first_of, second_of, to_with}
+use Rattle.chip_layout.specs.Bodies.{IsAt, IsBody, IsChange, first_thing_name, second_of, to_with}
 use Rattle.row_layout.specs.Operations.{Make, Set, Take, uses_of}
 use Rattle.row_layout.specs.Rows.{Owner, OfRow, goal_of}
 use Rattle.row_layout.specs.Shared.{shared_things}
@@ -73,7 +73,7 @@ no_second at (goal.Group hops) v = tt
 any_first : (p : Prefix) (at : thing_name.ThingName → Vid → Type 0) (g : Goal) (v : Vid) → IsBody (λ n w. IsEnteredBy (thing.Route p g) → at n w) (thing.Route p g) (body.Route p (to_with g v))
 any_first p at g v = record { first = v; second = v; first_at = by g; second_at = no_second (λ n w. IsEnteredBy (thing.Route p g) → at n w) g v; body_is = refl }
   where
-    by : (h : Goal) → IsAt (λ n w. IsEnteredBy (thing.Route p g) → at n w) (first_of (goal_names h)) v
+    by : (h : Goal) → IsAt (λ n w. IsEnteredBy (thing.Route p g) → at n w) (first_thing_name (goal_names h)) v
     by goal.Drop = tt
     by (goal.Direct b) = λ e. elim e [ ]
     by (goal.Via hop) = λ e. elim e [ ]

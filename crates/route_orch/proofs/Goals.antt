@@ -21,7 +21,7 @@ use Rattle.sai_types.specs.declared.thing.Thing.TheVariants as thing
 use Rattle.sai_types.proofs.Rising.{hop_exact, hop_total, in-insert}
 use Rattle.chip_layout.specs.Bodies.{IsAt, goal_name, to_with}
 use Rattle.switch_model.specs.Things.{base_of, hop_of, hops_of}
-use Rattle.row_layout.specs.Rows.{Owner, Group, goal_by, goal_of, interface_on}
+use Rattle.row_layout.specs.Rows.{Owner, Group, goal_to, goal_of, interface_on}
 use Rattle.row_layout.specs.Shared.{group_by, route_uses}
 use Rattle.row_layout.proofs.Owners.{interface_by}
 use Rattle.ref_counts.specs.declared.name.Name.{Name}
@@ -29,7 +29,7 @@ use Rattle.ref_counts.specs.declared.name.Name.TheVariants as name
 use Rattle.ref_counts.specs.Registry.{Names}
 use Rattle.orch_flight.specs.Calling.{HasVid, row_vid}
 use Rattle.orch_flight.specs.Sharing.{owners_of}
-use Rattle.route_orch.specs.Targets.{AreGroups, IsTargetOf, IsToFirst, PointsTo, goal_at, goal_with, way_goal, way_of, way_on}
+use Rattle.route_orch.specs.Targets.{AreGroups, IsTargetOf, IsToFirst, PointsTo, goal_at, goal_with, way_goal, row_way, way_on}
 use Rattle.route_orch.specs.declared.target.Target.{Target}
 use Rattle.route_orch.specs.declared.target.Way.{Way}
 use Rattle.route_orch.specs.declared.target.Way.TheVariants as way
@@ -52,7 +52,7 @@ first_hop_by None p hop h = absurd (none-some (hop ∷ []) h)
 first_hop_by (Some l) None hop h = absurd (none-some (hop ∷ []) h)
 first_hop_by (Some l) (Some x) hop h = ap Some (single (insert_key hop_cmp l x) x hop h (in-insert hop_cmp hop_total hop_exact l x))
 
-hops_use : (o : Option (List Hop)) (g : Goal) → goal_by o ≡ Some g → group_by o ≡ goal_uses g
+hops_use : (o : Option (List Hop)) (g : Goal) → goal_to o ≡ Some g → group_by o ≡ goal_uses g
 hops_use None g e = absurd (none-some g e)
 hops_use (Some []) g e = absurd (none-some g e)
 hops_use (Some (hop ∷ [])) g e = ap goal_uses (same_Some (goal.Via hop) g e)
@@ -74,7 +74,7 @@ goal_kept (Some (name.Row k)) w g uses groups own = elim groups [ ]
 goal_kept (Some (name.BridgePort lane)) w g uses groups own = elim groups [ ]
 goal_kept (Some (name.Own ip)) w g uses groups own = elim groups [ ]
 
-way_by : (plan : Ports) (h : RowHop) (hs : List RowHop) (o : Option (List Hop)) (g : Goal) → hops_of plan (h ∷ hs) ≡ o → goal_by o ≡ Some g → group_by o ≡ [] → way_goal (way_of plan (route.Hops (h ∷ hs))) ≡ g
+way_by : (plan : Ports) (h : RowHop) (hs : List RowHop) (o : Option (List Hop)) (g : Goal) → hops_of plan (h ∷ hs) ≡ o → goal_to o ≡ Some g → group_by o ≡ [] → way_goal (row_way plan (route.Hops (h ∷ hs))) ≡ g
 way_by plan h hs None g at e none = absurd (none-some g e)
 way_by plan h hs (Some []) g at e none = absurd (none-some g e)
 way_by plan h hs (Some (hop ∷ [])) g at e none =
@@ -82,7 +82,7 @@ way_by plan h hs (Some (hop ∷ [])) g at e none =
     ap (λ o. way_goal (way_on (λ b. way.Via (record { on = b; ip = h.ip })) o)) m.1 ∙ ap goal.Via m.2 ∙ same_Some (goal.Via hop) g e
 way_by plan h hs (Some (hop ∷ more ∷ hops)) g at e none = cc
 
-way_of_goal : (plan : Ports) (r : RouteRow) (g : Goal) → goal_of plan r ≡ Some g → route_uses plan r ≡ [] → way_goal (way_of plan r) ≡ g
+way_of_goal : (plan : Ports) (r : RouteRow) (g : Goal) → goal_of plan r ≡ Some g → route_uses plan r ≡ [] → way_goal (row_way plan r) ≡ g
 way_of_goal plan route.Drop g e none = same_Some goal.Drop g e
 way_of_goal plan (route.Direct n) g e none = let m = mapped goal.Direct (base_of plan n) g e in ap (λ o. way_goal (way_on way.Direct o)) m.1 ∙ m.2
 way_of_goal plan (route.Hops []) g e none = absurd (none-some g e)
@@ -110,7 +110,7 @@ module _ (plan : Ports) (names : Names) (x : To Vid) (is : IsPlan plan) where
       let m = mapped (λ b. record { on = b; ip = h.ip }) (base_of plan h.on) hop (first_hop_by (hops_of plan hs) (hop_of plan h) hop at) in
       (v, subst (λ (z : Hop). row_vid names (option_map (λ on. key.Neigh on z.ip) (interface_on plan z.on)) ≡ Some v) m.2 (ap (λ o. row_vid names (option_map (λ on. key.Neigh on h.ip) o)) (interface_by plan is h.on m.0 m.1) ∙ known), same)
 
-  hops_at : (hops : List RowHop) (o : Option (List Hop)) (g : Goal) → hops_of plan hops ≡ o → goal_by o ≡ Some g → PointsTo names (route.Hops hops) g x → IsTarget g
+  hops_at : (hops : List RowHop) (o : Option (List Hop)) (g : Goal) → hops_of plan hops ≡ o → goal_to o ≡ Some g → PointsTo names (route.Hops hops) g x → IsTarget g
   hops_at hops None g at e = absurd (none-some g e)
   hops_at hops (Some []) g at e = absurd (none-some g e)
   hops_at hops (Some (hop ∷ [])) g at e = subst (λ g. PointsTo names (route.Hops hops) g x → IsTarget g) (same_Some (goal.Via hop) g e) (first_at hops hop at)

@@ -58,17 +58,17 @@ way_on f None = way.Drop
 way_on f (Some b) = f b
 
 -- the way of a row that has no group
-abbrev pub way_of : Ports → RouteRow → Way
-way_of plan route.Drop = way.Drop
-way_of plan (route.Direct n) = way_on way.Direct (base_of plan n)
-way_of plan (route.Hops []) = way.Drop
-way_of plan (route.Hops (hop ∷ hops)) = way_on (λ b. way.Via (record { on = b; ip = hop.ip })) (base_of plan hop.on)
+abbrev pub row_way : Ports → RouteRow → Way
+row_way plan route.Drop = way.Drop
+row_way plan (route.Direct n) = way_on way.Direct (base_of plan n)
+row_way plan (route.Hops []) = way.Drop
+row_way plan (route.Hops (hop ∷ hops)) = way_on (λ b. way.Via (record { on = b; ip = hop.ip })) (base_of plan hop.on)
 
 -- it is the target of a row: its group is what the row shares
 pub record IsTargetOf (plan : Ports) (k : Key) (o : Option Row) (t : Target) : Type 0 where
   pub shares : uses_of plan k o ≡ owners_of t.group
   pub groups : AreGroups t.group
-  pub way : (r : RouteRow) → o ≡ Some (row.Route r) → t.way ≡ way_of plan r
+  pub way : (r : RouteRow) → o ≡ Some (row.Route r) → t.way ≡ row_way plan r
 
 -- the identifier of the first of these hops
 abbrev pub IsToFirst : Names → List RowHop → To Vid → Type 0

@@ -4,7 +4,7 @@ ghost use Rattle.sai_types.specs.contracts.thing.GoalPartialEq.TheImpl as goal_e
 ghost use Rattle.orch_flight.specs.Calling.{HaveIds, pointed};
 ghost use Rattle.orch_flight.specs.Sharing.{owner_for, owners_of};
 ghost use Rattle.orch_flight.specs.Starting.{first_left};
-ghost use Rattle.route_orch.specs.Targets.{AreGroups, IsRouteKey, IsRouteRow, IsTargetOf, IsToFirst, PointsTo, goal_at, way_of};
+ghost use Rattle.route_orch.specs.Targets.{AreGroups, IsRouteKey, IsRouteRow, IsTargetOf, IsToFirst, PointsTo, goal_at, row_way};
 
 use orch_flight::{base_of, shared, vid};
 use ref_counts::{Name, Registry};
@@ -116,7 +116,7 @@ pub fn left(group: Option<Name>, other: &Option<Name>) -> Option<Name>
 
 /// Where a route's row points that has no group.
 fn own_way(plan: &PortPlan, row: &RouteRow) -> Way
-    ensures { result ≡ way_of plan.now row.now }
+    ensures { result ≡ row_way plan.now row.now }
 {
     match row {
         RouteRow::Drop => Way::Drop,
@@ -130,7 +130,7 @@ fn own_way(plan: &PortPlan, row: &RouteRow) -> Way
 
 /// The way to the first of some hops.
 fn way_to(plan: &PortPlan, hops: &[RowHop]) -> Way
-    ensures { result ≡ way_of plan.now (RouteRow.Hops hops.now) }
+    ensures { result ≡ row_way plan.now (RouteRow.Hops hops.now) }
 {
     match hops {
         [] => Way::Drop,

@@ -14,7 +14,7 @@ use Rattle.sai_types.specs.contracts.thing.ThingEq.TheImpl.Laws as equal_thing
 use Rattle.sai_types.specs.declared.thing.Thing.{Thing}
 use Rattle.sai_types.specs.declared.thing.Thing.TheVariants as thing
 use Rattle.sai_types.specs.Alike.{IsIn}
-use Rattle.row_layout.specs.Operations.{Change, Set, changes_of, own_sets, build_all, port_with, retire_all, same_owner, set_all, set_to, unshared}
+use Rattle.row_layout.specs.Operations.{Change, Set, changes_of, own_sets, build_all, thing_of_port, retire_all, same_owner, set_all, set_to, unshared}
 use Rattle.row_layout.specs.Rows.{Owner, OfRow, Bridge, Own, Group, own_things}
 use Rattle.row_layout.specs.Shared.{uses}
 
@@ -27,7 +27,7 @@ set_same (t ∷ ts) = set_none t (set_all ts ts) ∙ set_same ts
 
 pub own_same : (plan : Ports) (k : Key) (r : Row) → own_sets plan k r r ≡ []
 own_same plan (key.Port port) (row.Port r) =
-    let t = port_with r.lanes r.speed r.mtu r.up in
+    let t = thing_of_port r.lanes r.speed r.mtu r.up in
     set_none t (set_to t t (set_to t t [])) ∙ set_none t (set_to t t []) ∙ set_none t []
 own_same plan k r = set_same (own_things plan k r)
 

@@ -33,7 +33,7 @@ use Rattle.sai_types.specs.Names.{ThingName, Refers, base_name, goal_names}
 use Rattle.sai_types.proofs.Rising.{hop_exact, hop_total, in-back}
 use Rattle.sai_types.proofs.Things.{both_mapped}
 use Rattle.row_layout.specs.Rows as owner
-use Rattle.row_layout.specs.Rows.{goal_by, goal_of, own_things, owner_of}
+use Rattle.row_layout.specs.Rows.{goal_to, goal_of, own_things, owner_of}
 use Rattle.row_layout.proofs.Members.{from_in, in_map, only, two}
 use Rattle.row_layout.proofs.Owners.{interface_by, port_by}
 
@@ -93,7 +93,7 @@ module _ (plan : Ports) (is : IsPlan plan) where
   abbrev GoalIsNamed : Prefix → RouteRow → Goal → Type 0
   GoalIsNamed prefix r g = (k : ThingName) → IsIn k (goal_names g) → IsNamed (key.Route prefix) (row.Route r) k
 
-  via_by : (prefix : Prefix) (hops : List RowHop) (o : Option (List Hop)) (g : Goal) → hops_of plan hops ≡ o → goal_by o ≡ Some g → GoalIsNamed prefix (route.Hops hops) g
+  via_by : (prefix : Prefix) (hops : List RowHop) (o : Option (List Hop)) (g : Goal) → hops_of plan hops ≡ o → goal_to o ≡ Some g → GoalIsNamed prefix (route.Hops hops) g
   via_by prefix hops None g at e = λ k h. absurd cc
   via_by prefix hops (Some []) g at e = λ k h. absurd cc
   via_by prefix hops (Some (hop ∷ [])) g at e =

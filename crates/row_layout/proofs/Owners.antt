@@ -9,7 +9,7 @@ use Rattle.swss_types.specs.Lanes.{IsLaneList}
 use Rattle.swss_types.specs.declared.interface.IfName.{IfName}
 use Rattle.swss_types.specs.declared.interface.IfName.TheVariants as on
 use Rattle.swss_types.proofs.Proper.{mapped}
-use Rattle.table_schema.specs.Plan.{Ports, IsPlan, AreApart, has, has_lane, lanes_in_plan, port_named}
+use Rattle.table_schema.specs.Plan.{Ports, IsPlan, HaveOwnLanes, has, has_lane, lanes_in_plan, port_named}
 use Rattle.table_schema.specs.declared.key.Key.{Key}
 use Rattle.table_schema.specs.declared.key.Key.TheVariants as key
 use Rattle.table_schema.specs.declared.row.Row.{Row}
@@ -37,7 +37,7 @@ named_step false true p q qs xs at first list apart rest there h =
     absurd (false≢true (sym (apart (slice_index q.1 0) (has-first q.1 list)) ∙ ap (has_lane qs) lane ∙ there h))
 named_step false false p q qs xs at first list apart rest there h = rest h
 
-named_by : (plan : Ports) (p : ℕ) (xs : List ℕ) → AllByRecursion (λ q. IsLaneList q.1) plan → AreApart plan → IsLaneList xs → lanes_in_plan plan p ≡ Some xs → port_named plan (slice_index xs 0) ≡ Some p
+named_by : (plan : Ports) (p : ℕ) (xs : List ℕ) → AllByRecursion (λ q. IsLaneList q.1) plan → HaveOwnLanes plan → IsLaneList xs → lanes_in_plan plan p ≡ Some xs → port_named plan (slice_index xs 0) ≡ Some p
 named_by [] p xs lists apart list h = absurd cc
 named_by (q ∷ qs) p xs lists apart list h =
     named_step (is_at (nat_cmp p) q.0) (slice_index q.1 0 == slice_index xs 0) p q qs xs refl refl lists.0 apart.0

@@ -17,7 +17,7 @@ use Rattle.sai_types.specs.declared.thing.Thing.{Thing}
 use Rattle.sai_types.specs.declared.thing.Thing.TheVariants as thing
 use Rattle.sai_types.specs.Alike.{IsIn}
 use Rattle.switch_model.specs.Things.{address_things, base_of, from_base, from_hops, from_lane, hops_of, lane_of, members_of, things_of}
-use Rattle.row_layout.specs.Rows.{Owner, Bridge, Own, Group, from, goal_by, own_things}
+use Rattle.row_layout.specs.Rows.{Owner, Bridge, Own, Group, from, goal_to, own_things}
 use Rattle.row_layout.specs.Shared.{IsOf, address_uses, group_by, shared_things, uses}
 
 -- lists with the same items
@@ -95,7 +95,7 @@ group_split prefix group = with_one (thing.Route prefix (goal.Group group) ∷ [
     mine x (inl is) = inl is
     mine x (inr h) = elim h [ ]
 
-from_hops_split : (prefix : Prefix) (o : Option (List Hop)) → Splits (from_hops prefix o) (from (goal_by o) (λ g. thing.Route prefix g ∷ [])) (group_by o)
+from_hops_split : (prefix : Prefix) (o : Option (List Hop)) → Splits (from_hops prefix o) (from (goal_to o) (λ g. thing.Route prefix g ∷ [])) (group_by o)
 from_hops_split prefix None = all_own []
 from_hops_split prefix (Some []) = all_own []
 from_hops_split prefix (Some (hop ∷ [])) = all_own (thing.Route prefix (goal.Via hop) ∷ [])

@@ -60,15 +60,15 @@ abbrev pub shared_going : Owner → List Thing
 shared_going (Group hops) = members_of hops hops ++ (thing.Group hops ∷ [])
 shared_going o = shared_things o
 
-abbrev pub port_with : List ℕ → ℕ → ℕ → Bool → Thing
-port_with lanes speed mtu up = thing.Port (record { lanes = lanes; speed = speed; mtu = mtu; up = up })
+abbrev pub thing_of_port : List ℕ → ℕ → ℕ → Bool → Thing
+thing_of_port lanes speed mtu up = thing.Port (record { lanes = lanes; speed = speed; mtu = mtu; up = up })
 
 -- from one row to another: of a port the speed, the mtu and whether it is up, one after the other
 abbrev pub own_sets : Ports → Key → Row → Row → List Change
 own_sets plan (key.Port port) (row.Port a) (row.Port r) =
-    set_to (port_with a.lanes a.speed a.mtu a.up) (port_with a.lanes r.speed a.mtu a.up)
-    (set_to (port_with a.lanes r.speed a.mtu a.up) (port_with a.lanes r.speed r.mtu a.up)
-    (set_to (port_with a.lanes r.speed r.mtu a.up) (port_with a.lanes r.speed r.mtu r.up) []))
+    set_to (thing_of_port a.lanes a.speed a.mtu a.up) (thing_of_port a.lanes r.speed a.mtu a.up)
+    (set_to (thing_of_port a.lanes r.speed a.mtu a.up) (thing_of_port a.lanes r.speed r.mtu a.up)
+    (set_to (thing_of_port a.lanes r.speed r.mtu a.up) (thing_of_port a.lanes r.speed r.mtu r.up) []))
 own_sets plan k a r = set_all (own_things plan k a) (own_things plan k r)
 
 -- the changes of a key's own things

@@ -48,16 +48,16 @@ owner_of plan (name.GroupMember hops hop) = Some (Group hops)
 owner_of plan (name.Route prefix) = Some (OfRow (key.Route prefix))
 
 -- where a route's row points
-abbrev pub goal_by : Option (List Hop) → Option Goal
-goal_by None = None
-goal_by (Some []) = None
-goal_by (Some (hop ∷ [])) = Some (goal.Via hop)
-goal_by (Some (hop ∷ next ∷ hops)) = Some (goal.Group (hop ∷ next ∷ hops))
+abbrev pub goal_to : Option (List Hop) → Option Goal
+goal_to None = None
+goal_to (Some []) = None
+goal_to (Some (hop ∷ [])) = Some (goal.Via hop)
+goal_to (Some (hop ∷ next ∷ hops)) = Some (goal.Group (hop ∷ next ∷ hops))
 
 abbrev pub goal_of : Ports → RouteRow → Option Goal
 goal_of plan route.Drop = Some goal.Drop
 goal_of plan (route.Direct n) = option_map goal.Direct (base_of plan n)
-goal_of plan (route.Hops hops) = goal_by (hops_of plan hops)
+goal_of plan (route.Hops hops) = goal_to (hops_of plan hops)
 
 abbrev pub from : {X Y : Type 0} → Option X → (X → List Y) → List Y
 from None f = []

@@ -11,7 +11,7 @@ use Rattle.sai_types.specs.declared.answer.ChipAnswer.TheVariants as answer
 use Rattle.sai_types.specs.ChipState.{ChipState, Answers, IsAnswered, StaysSame, TakesEffect, fault_behind}
 use Rattle.sai_types.specs.Objects.{Objects, body_at}
 use Rattle.sai_types.specs.After.{makes_id, next_id}
-use Rattle.sai_types.specs.Refusal.{first_of, refusal_of, set_refusal, remove_refusal, is_legal}
+use Rattle.sai_types.specs.Refusal.{first_refusal, refusal_of, set_refusal, remove_refusal, is_legal}
 use Rattle.sai_chip.specs.Sim.{Sim, ResultsBy, counted, effect_answer, is_failed, refusal_at}
 
 abbrev is_refusal : ChipAnswer → Bool
@@ -22,7 +22,7 @@ is_refusal answer.InUse = true
 is_refusal answer.Full = true
 is_refusal _ = false
 
-refusal-first_of : (b : Bool) (a r : ChipAnswer) (rest : Option ChipAnswer) → is_refusal a ≡ true → (rest ≡ Some r → is_refusal r ≡ true) → first_of b a rest ≡ Some r → is_refusal r ≡ true
+refusal-first_of : (b : Bool) (a r : ChipAnswer) (rest : Option ChipAnswer) → is_refusal a ≡ true → (rest ≡ Some r → is_refusal r ≡ true) → first_refusal b a rest ≡ Some r → is_refusal r ≡ true
 refusal-first_of true a r rest k f e = let same : a ≡ r = cc in subst (λ x. is_refusal x ≡ true) same k
 refusal-first_of false a r rest k f e = f e
 

@@ -36,7 +36,7 @@ use Rattle.sai_types.specs.Made.{AreSorted}
 use Rattle.sai_types.specs.Objects.{Objects, body_at, entry_cmp}
 use Rattle.sai_types.proofs.Entries.{entry_total}
 use Rattle.sai_chip.specs.Tally.{neighbor_cmp, rid_cmp}
-use Rattle.sai_chip.specs.Bodies.{HaveIds, IsHeld, id_found, ids_set, macs_set, numbered, owned, reached, routed, objects_in, prefix_cmp, target_of, targets_set, value_found}
+use Rattle.sai_chip.specs.Bodies.{HaveIdKinds, IsWellHeld, id_found, ids_set, macs_set, numbered, owned, reached, routed, objects_in, prefix_cmp, target_of, targets_set, value_found}
 use Rattle.sai_chip.proofs.Parts.{lookup-past, lookup-last, remove-past, remove-last, insert-past, set-past, lookup-in, insert-in, remove-in, set-in, key-lookup, key-insert, key-remove}
 
 rid_exact : CmpEqualImpliesEq rid_cmp
@@ -56,7 +56,7 @@ insert-found cmp total k v w [] sorted there = absurd cc
 insert-found cmp total k v w (e ∷ es) sorted there = found_by cmp total k v w e es sorted there (cmp k e.0) refl (insert-found cmp total k v w es (sorted_tail cmp e.0 (keys_of es) sorted))
 
 -- objects in parts after a call
-pub keeps : (objects : Objects) (n : ℕ) (c : Call Rid) (ids : List (Rid × Body Rid)) (ips : List Ip) (ns : List ((Rid × Ip) × Mac)) (rs : List (Prefix × To Rid)) → ((n : ℕ) (objects : Objects) (c : Call Rid) → AreSorted objects → AreSorted (after_call n objects c)) → AreSorted objects → objects_in ids ips ns rs ≡ after_call n objects c → HaveIds ids → IsHeld ids ips ns rs
+pub keeps : (objects : Objects) (n : ℕ) (c : Call Rid) (ids : List (Rid × Body Rid)) (ips : List Ip) (ns : List ((Rid × Ip) × Mac)) (rs : List (Prefix × To Rid)) → ((n : ℕ) (objects : Objects) (c : Call Rid) → AreSorted objects → AreSorted (after_call n objects c)) → AreSorted objects → objects_in ids ips ns rs ≡ after_call n objects c → HaveIdKinds ids → IsWellHeld ids ips ns rs
 keeps objects n c ids ips ns rs stay sorted same all = record { sorted = subst AreSorted (sym same) (stay n objects c sorted); with_ids = all }
 
 pub entry_of-id : (n : ℕ) (b : Body Rid) → has_id b ≡ true → entry_of n b ≡ entry.Oid (record { 0 = n })
@@ -268,20 +268,20 @@ module _ (ids : List (Rid × Body Rid)) (ips : List Ip) (ns : List ((Rid × Ip) 
   set-target p (attr.Tagging t) = target_lacking p (attr.Tagging t) (λ t. refl)
   set-target p (attr.Mac m) = target_lacking p (attr.Mac m) (λ t. refl)
 
-all_step : (e : Rid × Body Rid) (es : List (Rid × Body Rid)) (r : Rid) (b : Body Rid) (o : Ordering) → has_id b ≡ true → HaveIds (e ∷ es) → HaveIds (insert_entry rid_cmp es r b) → HaveIds (match_ordering o ((r, b) ∷ e ∷ es) ((e.0, b) ∷ es) (e ∷ insert_entry rid_cmp es r b))
+all_step : (e : Rid × Body Rid) (es : List (Rid × Body Rid)) (r : Rid) (b : Body Rid) (o : Ordering) → has_id b ≡ true → HaveIdKinds (e ∷ es) → HaveIdKinds (insert_entry rid_cmp es r b) → HaveIdKinds (match_ordering o ((r, b) ∷ e ∷ es) ((e.0, b) ∷ es) (e ∷ insert_entry rid_cmp es r b))
 all_step e es r b Less here all others = (here, all)
 all_step e es r b Equal here all others = (here, all.1)
 all_step e es r b Greater here all others = (all.0, others)
 
-pub ids-put : (ids : List (Rid × Body Rid)) (r : Rid) (b : Body Rid) → has_id b ≡ true → HaveIds ids → HaveIds (insert_entry rid_cmp ids r b)
+pub ids-put : (ids : List (Rid × Body Rid)) (r : Rid) (b : Body Rid) → has_id b ≡ true → HaveIdKinds ids → HaveIdKinds (insert_entry rid_cmp ids r b)
 ids-put [] r b here all = (here, tt)
 ids-put (e ∷ es) r b here all = all_step e es r b (rid_cmp r e.0) here all (ids-put es r b here all.1)
 
-removed_step : (t : Bool) (e : Rid × Body Rid) (es ds : List (Rid × Body Rid)) → HaveIds (e ∷ es) → HaveIds ds → HaveIds (cond t es (e ∷ ds))
+removed_step : (t : Bool) (e : Rid × Body Rid) (es ds : List (Rid × Body Rid)) → HaveIdKinds (e ∷ es) → HaveIdKinds ds → HaveIdKinds (cond t es (e ∷ ds))
 removed_step true e es ds all others = all.1
 removed_step false e es ds all others = (all.0, others)
 
-pub ids-take : (ids : List (Rid × Body Rid)) (r : Rid) → HaveIds ids → HaveIds (remove_entry (is_at (rid_cmp r)) ids)
+pub ids-take : (ids : List (Rid × Body Rid)) (r : Rid) → HaveIdKinds ids → HaveIdKinds (remove_entry (is_at (rid_cmp r)) ids)
 ids-take [] r all = tt
 ids-take (e ∷ es) r all = removed_step (is_at (rid_cmp r) e.0) e es (remove_entry (is_at (rid_cmp r)) es) all (ids-take es r all.1)
 
@@ -294,11 +294,11 @@ has_id-with_attr (body.Neighbor rif ip mac) (attr.Mac m) = refl
 has_id-with_attr (body.Route prefix to) (attr.To t) = refl
 has_id-with_attr b a = refl
 
-value_step : (t : Bool) (e : Rid × Body Rid) (es ds : List (Rid × Body Rid)) (w : Body Rid) → has_id w ≡ true → HaveIds (e ∷ es) → HaveIds ds → HaveIds (cond t ((e.0, w) ∷ es) (e ∷ ds))
+value_step : (t : Bool) (e : Rid × Body Rid) (es ds : List (Rid × Body Rid)) (w : Body Rid) → has_id w ≡ true → HaveIdKinds (e ∷ es) → HaveIdKinds ds → HaveIdKinds (cond t ((e.0, w) ∷ es) (e ∷ ds))
 value_step true e es ds w here all others = (here, all.1)
 value_step false e es ds w here all others = (all.0, others)
 
-ids_value : (ids : List (Rid × Body Rid)) (r : Rid) (w : Body Rid) → has_id w ≡ true → HaveIds ids → HaveIds (set_value (is_at (rid_cmp r)) ids w)
+ids_value : (ids : List (Rid × Body Rid)) (r : Rid) (w : Body Rid) → has_id w ≡ true → HaveIdKinds ids → HaveIdKinds (set_value (is_at (rid_cmp r)) ids w)
 ids_value [] r w here all = tt
 ids_value (e ∷ es) r w here all = value_step (is_at (rid_cmp r) e.0) e es _ w here all (ids_value es r w here all.1)
 
@@ -306,15 +306,15 @@ found_id : (t : Bool) (e : Rid × Body Rid) (o : Option (Body Rid)) (b : Body Ri
 found_id true e o b here others there = let same : e.1 ≡ b = cc in ap has_id (sym same) ∙ here
 found_id false e o b here others there = others there
 
-id_of_found : (ids : List (Rid × Body Rid)) (r : Rid) (b : Body Rid) → HaveIds ids → lookup (is_at (rid_cmp r)) ids ≡ Some b → has_id b ≡ true
+id_of_found : (ids : List (Rid × Body Rid)) (r : Rid) (b : Body Rid) → HaveIdKinds ids → lookup (is_at (rid_cmp r)) ids ≡ Some b → has_id b ≡ true
 id_of_found [] r b all there = absurd cc
 id_of_found (e ∷ es) r b all there = found_id (is_at (rid_cmp r) e.0) e (lookup (is_at (rid_cmp r)) es) b all.0 (id_of_found es r b all.1) there
 
-ids_found : (ids : List (Rid × Body Rid)) (r : Rid) (a : Attr Rid) (o : Option (Body Rid)) → HaveIds ids → lookup (is_at (rid_cmp r)) ids ≡ o → HaveIds (id_found ids r a o)
+ids_found : (ids : List (Rid × Body Rid)) (r : Rid) (a : Attr Rid) (o : Option (Body Rid)) → HaveIdKinds ids → lookup (is_at (rid_cmp r)) ids ≡ o → HaveIdKinds (id_found ids r a o)
 ids_found ids r a None all there = all
 ids_found ids r a (Some b) all there = ids_value ids r (with_attr b a) (has_id-with_attr b a ∙ id_of_found ids r b all there) all
 
-pub ids-set : (ids : List (Rid × Body Rid)) (r : Rid) (a : Attr Rid) → HaveIds ids → HaveIds (ids_set ids r a)
+pub ids-set : (ids : List (Rid × Body Rid)) (r : Rid) (a : Attr Rid) → HaveIdKinds ids → HaveIdKinds (ids_set ids r a)
 ids-set ids r a all = ids_found ids r a (lookup (is_at (rid_cmp r)) ids) all refl
 
 pub target_mapped : (p : Prefix) (o : Option (To Rid)) → target_of (option_map (body.Route p) o) ≡ o
@@ -325,7 +325,7 @@ id_target : (b : Body Rid) → has_id b ≡ true → None ≡ target_of (Some b)
 id_target (body.Route p to) h = absurd cc
 id_target b h = refl
 
-ids_target : (ids : List (Rid × Body Rid)) (r : Rid) (o : Option (Body Rid)) → HaveIds ids → lookup (is_at (rid_cmp r)) ids ≡ o → None ≡ target_of o
+ids_target : (ids : List (Rid × Body Rid)) (r : Rid) (o : Option (Body Rid)) → HaveIdKinds ids → lookup (is_at (rid_cmp r)) ids ≡ o → None ≡ target_of o
 ids_target ids r None all there = refl
 ids_target ids r (Some b) all there = id_target b (id_of_found ids r b all there)
 
@@ -338,7 +338,7 @@ neighbor_target r ip None = refl
 neighbor_target r ip (Some m) = refl
 
 -- an object that is no route has no target
-pub no_target : (ids : List (Rid × Body Rid)) (ips : List Ip) (ns : List ((Rid × Ip) × Mac)) (rs : List (Prefix × To Rid)) → HaveIds ids → (e : Entry Rid) → ((p : Prefix) → e ≡ entry.Route p → ⊥) → None ≡ target_of (body_at (objects_in ids ips ns rs) e)
+pub no_target : (ids : List (Rid × Body Rid)) (ips : List Ip) (ns : List ((Rid × Ip) × Mac)) (rs : List (Prefix × To Rid)) → HaveIdKinds ids → (e : Entry Rid) → ((p : Prefix) → e ≡ entry.Route p → ⊥) → None ≡ target_of (body_at (objects_in ids ips ns rs) e)
 no_target ids ips ns rs all (entry.Oid r) other = ids_target ids r _ all refl ∙ ap target_of (sym (at-id ids ips ns rs r))
 no_target ids ips ns rs all (entry.Own ip) other = own_target ip _ ∙ ap target_of (sym (at-own ids ips ns rs ip))
 no_target ids ips ns rs all (entry.Neigh r ip) other = neighbor_target r ip _ ∙ ap target_of (sym (at-neighbor ids ips ns rs r ip))

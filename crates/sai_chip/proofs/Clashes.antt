@@ -26,7 +26,7 @@ use Rattle.sai_types.proofs.Apart.{any_any, any_same}
 use Rattle.sai_chip.specs.declared.mark.TakenMark.{TakenMark}
 use Rattle.sai_chip.specs.declared.mark.TakenMark.TheVariants as mark
 use Rattle.sai_chip.specs.Tally.{is_mark}
-use Rattle.sai_chip.specs.Marks.{lane_marks, base_marks, target_marks, has_mark, stands}
+use Rattle.sai_chip.specs.Marks.{lane_marks, base_marks, target_marks, has_mark, is_claimed}
 
 mark_of_port : (a b : Rid) → is_mark (mark.BridgePort a) (mark.BridgePort b) ≡ same_id b a
 mark_of_port a b = search rules
@@ -128,7 +128,7 @@ clash-port lanes speed mtu up (body.Route prefix to) = sym (any_where_none _ (λ
 clash-port lanes speed mtu up _ = sym (any_where_none _ (λ l. refl) lanes)
 
 -- a port clashes where one of its lanes stands
-pub clashes-port : (lanes : List ℕ) (speed mtu : ℕ) (up : Bool) (objects : Objects) → list_any (λ o. clash (body.Port lanes speed mtu up) o.1) objects ≡ list_any (λ lane. stands (mark.Lane lane) objects) lanes
+pub clashes-port : (lanes : List ℕ) (speed mtu : ℕ) (up : Bool) (objects : Objects) → list_any (λ o. clash (body.Port lanes speed mtu up) o.1) objects ≡ list_any (λ lane. is_claimed (mark.Lane lane) objects) lanes
 clashes-port lanes speed mtu up objects =
     any_same _ _ (λ o. clash-port lanes speed mtu up o.1) objects
     ∙ sym (any_any (λ lane o. has_mark (mark.Lane lane) o.1) lanes objects)
@@ -145,7 +145,7 @@ refers-id r (body.Route prefix (to.Group g)) = refl
 refers-id r _ = refl
 
 -- an identifier is referred to where its mark stands
-pub refers-stands : (r : Rid) (objects : Objects) → list_any (λ o. refers_to o.1 (entry.Oid r)) objects ≡ stands (mark.RefersTo r) objects
+pub refers-stands : (r : Rid) (objects : Objects) → list_any (λ o. refers_to o.1 (entry.Oid r)) objects ≡ is_claimed (mark.RefersTo r) objects
 refers-stands r objects = any_same _ _ (λ o. refers-id r o.1) objects
 
 goes-mark : (r : Rid) (ip : Ip) (b : Body Rid) → refers_to b (entry.Neigh r ip) ≡ has_mark (mark.NextHop r ip) b
@@ -159,7 +159,7 @@ goes-mark r ip (body.Route prefix (to.Group g)) = refl
 goes-mark r ip _ = refl
 
 -- a neighbour is referred to where a next hop goes through it
-pub goes-stands : (r : Rid) (ip : Ip) (objects : Objects) → list_any (λ o. refers_to o.1 (entry.Neigh r ip)) objects ≡ stands (mark.NextHop r ip) objects
+pub goes-stands : (r : Rid) (ip : Ip) (objects : Objects) → list_any (λ o. refers_to o.1 (entry.Neigh r ip)) objects ≡ is_claimed (mark.NextHop r ip) objects
 goes-stands r ip objects = any_same _ _ (λ o. goes-mark r ip o.1) objects
 
 -- nothing refers to an own address, or to a route
@@ -188,7 +188,7 @@ refers-never (entry.Own ip) id neighbor objects = sym (any_where_none _ (λ o. r
 refers-never (entry.Route p) id neighbor objects = sym (any_where_none _ (λ o. refers-route p o.1) objects)
 
 -- a body that a mark stands for clashes where the mark stands
-pub clashes-by : (b d : Body Rid) (m : TakenMark) (objects : Objects) (r : Bool) → b ≡ d → ((o : Body Rid) → clash d o ≡ has_mark m o) → r ≡ stands m objects → r ≡ list_any (λ o. clash b o.1) objects
+pub clashes-by : (b d : Body Rid) (m : TakenMark) (objects : Objects) (r : Bool) → b ≡ d → ((o : Body Rid) → clash d o ≡ has_mark m o) → r ≡ is_claimed m objects → r ≡ list_any (λ o. clash b o.1) objects
 clashes-by b d m objects r e same h = h ∙ sym (any_same _ _ (λ o. ap (λ x. clash x o.1) e ∙ same o.1) objects)
 
 pub clashes-never : (b : Body Rid) (objects : Objects) → b ≡ body.Group → false ≡ list_any (λ o. clash b o.1) objects

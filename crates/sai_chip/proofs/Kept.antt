@@ -21,7 +21,7 @@ use Rattle.sai_chip.specs.declared.mark.TakenMark.{TakenMark}
 use Rattle.sai_chip.specs.declared.mark.TakenMark.TheVariants as mark
 use Rattle.sai_chip.specs.Tally.{Tally, claims, count_at, is_mark}
 use Rattle.sai_chip.specs.Bodies.{target_of}
-use Rattle.sai_chip.specs.Marks.{IsCounted, marks_of, marks_if, marks_at, standing, target_marks}
+use Rattle.sai_chip.specs.Marks.{IsCounted, marks_of, marks_if, marks_at, times_claimed, target_marks}
 use Rattle.sai_chip.proofs.Changed.{set-lacking}
 
 claims_if : (m : TakenMark) (o : Option (Body Rid)) → claims m (marks_if o) ≡ unwrap_or (option_map (λ b. claims m (marks_of b)) o) 0
@@ -51,13 +51,13 @@ counted-remove objects e before after counted taken = record {
 
 -- the counts where an attribute is set
 counted_set : (objects : Objects) (e : Entry Rid) (a : Attr Rid) (o : Option (Body Rid)) (before after : Tally) → IsStrictlySortedBy entry_cmp (keys_of objects) → IsCounted objects before → body_at objects e ≡ o → ((m : TakenMark) (n : ℕ) → n + claims m (marks_if o) ≡ count_at before m + claims m (marks_if (option_map (λ b. with_attr b a) o)) → count_at after m ≡ n) → IsCounted (after_set objects e a o) after
-counted_set objects e a None before after sorted counted found moved = record { each = λ m. moved m (standing m objects) (ap (λ n. n + claims m []) (sym (counted.each m))) }
+counted_set objects e a None before after sorted counted found moved = record { each = λ m. moved m (times_claimed m objects) (ap (λ n. n + claims m []) (sym (counted.each m))) }
 counted_set objects e a (Some b) before after sorted counted found moved = record {
   each = λ m.
       let was = counted.each m in
       let old = ap (λ o. unwrap_or (option_map (λ x. claims m (marks_of x)) o) 0) found in
       let change = sum_by-insert_entry (λ x. claims m (marks_of x)) entry_total objects e (with_attr b a) sorted in
-      moved m (standing m (insert_entry entry_cmp objects e (with_attr b a))) (omega (arith, was, old, change));
+      moved m (times_claimed m (insert_entry entry_cmp objects e (with_attr b a))) (omega (arith, was, old, change));
 }
 
 -- whether an attribute is a route's target

@@ -21,10 +21,10 @@ use Rattle.sai_types.specs.declared.body.Entry.{Entry}
 use Rattle.sai_types.specs.declared.body.Entry.TheVariants as entry
 use Rattle.sai_types.specs.declared.body.To.{To}
 use Rattle.sai_types.specs.After.{has_id}
-use Rattle.sai_types.specs.Forwarding.{best_route, has_own, mac_of}
+use Rattle.sai_types.specs.Forwarding.{best_route, has_own, hop_mac}
 use Rattle.sai_types.specs.Named.{both, base_on, bridge_port_at, goal_by, hop_on, hops_at, named, next_hop_at, port_at, thing_of, those, vlan_at}
 use Rattle.sai_types.specs.Objects.{Objects}
-use Rattle.sai_chip.specs.Bodies.{HaveIds, best_of, numbered, owned, reached, routed, objects_in}
+use Rattle.sai_chip.specs.Bodies.{HaveIdKinds, best_of, numbered, owned, reached, routed, objects_in}
 use Rattle.sai_chip.proofs.SameNames.{map-things_among}
 
 -- things that are no own address, neighbour or route
@@ -78,7 +78,7 @@ module _ {R : Type 0} (F : List Thing → R) where
       passes_id r (body.GroupMember group next_hop) h = passes-both thing.GroupMember (λ x y. other _ refl) (hops_at objects group) (next_hop_at objects next_hop)
       passes_id r (body.Route prefix to) h = absurd (false≢true h)
 
-      pub past-ids : (ids : List (Rid × Body Rid)) (rest : Objects) → HaveIds ids → seen (numbered ids ++ rest) ≡ seen rest
+      pub past-ids : (ids : List (Rid × Body Rid)) (rest : Objects) → HaveIdKinds ids → seen (numbered ids ++ rest) ≡ seen rest
       past-ids [] rest all = refl
       past-ids (e ∷ es) rest all = passed (thing_of objects (entry.Oid e.0, e.1)) (map (thing_of objects) (numbered es ++ rest)) (passes_id e.0 e.1 all.0) ∙ past-ids es rest all.1
 
@@ -90,11 +90,11 @@ best_other : (a : Ip) (t : Thing) → is_other t ≡ true → (ts : List Thing) 
 best_other a (thing.Route prefix goal) h ts = absurd (false≢true h)
 best_other a t h ts = refl
 
-pub mac_other : (hop : Hop) (t : Thing) → is_other t ≡ true → (ts : List Thing) → mac_of (t ∷ ts) hop ≡ mac_of ts hop
+pub mac_other : (hop : Hop) (t : Thing) → is_other t ≡ true → (ts : List Thing) → hop_mac (t ∷ ts) hop ≡ hop_mac ts hop
 mac_other hop (thing.Neighbor h mac) e ts = absurd (false≢true e)
 mac_other hop t e ts = refl
 
-module _ (ids : List (Rid × Body Rid)) (ips : List Ip) (ns : List ((Rid × Ip) × Mac)) (rs : List (Prefix × To Rid)) (all : HaveIds ids) where
+module _ (ids : List (Rid × Body Rid)) (ips : List Ip) (ns : List ((Rid × Ip) × Mac)) (rs : List (Prefix × To Rid)) (all : HaveIdKinds ids) where
   abbrev held : Objects
   held = objects_in ids ips ns rs
 

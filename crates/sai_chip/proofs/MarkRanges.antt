@@ -135,10 +135,6 @@ module _ (g n : Rid) where
   front-counted [] sorted = refl
   front-counted (e ∷ es) sorted = found_step e es sorted (place_by g e.0.0 e.0.1 (rid_cmp g e.0.0) refl) (front-counted es (sorted_tail pair_cmp e.0 (keys_of es) sorted))
 
-pub unlike : (t b : Bool) → t ≡ not b → t ≡ true → b ≡ false
-unlike t true e h = absurd cc
-unlike t false e h = refl
-
 -- where nothing is at the front of what is left, the members so far are all
 pub front-done : (g : Rid) (ms all : List Rid) (left : Members) → front g left ≡ [] → ms ++ front g left ≡ all → ms ≡ all
 front-done g ms all left none kept = sym (append-nil ms) ∙ ap (λ ns. ms ++ ns) (sym none) ∙ kept

@@ -13,7 +13,7 @@ use Rattle.sai_types.proofs.Apart.{same_id-symm}
 use Rattle.sai_types.proofs.Exact.{id-exact}
 use Rattle.sai_chip.specs.declared.mark.TakenMark.TheVariants as mark
 use Rattle.sai_chip.specs.Tally.{Tally, count_at}
-use Rattle.sai_chip.specs.Marks.{IsCounted, has_mark, stands}
+use Rattle.sai_chip.specs.Marks.{IsCounted, has_mark, is_claimed}
 use Rattle.sai_chip.specs.Members.{hops_by}
 use Rattle.sai_chip.proofs.Clashes.{clash-group_member}
 use Rattle.sai_chip.proofs.HopSets.{hops_by-same, or_true}
@@ -82,7 +82,7 @@ clash_step g n (body.GroupMember h m) ns = ap (λ t. (t && same_id n m) || list_
 clash_step g n _ ns = refl
 
 -- the mark of a member stands where an object is that member
-stands-id : (g n : Rid) (os : Objects) → stands (mark.GroupMember g n) os ≡ list_any (same_id n) (ids_in g os)
+stands-id : (g n : Rid) (os : Objects) → is_claimed (mark.GroupMember g n) os ≡ list_any (same_id n) (ids_in g os)
 stands-id g n [] = refl
 stands-id g n (o ∷ os) =
     ap (λ b. has_mark (mark.GroupMember g n) o.1 || b) (stands-id g n os)

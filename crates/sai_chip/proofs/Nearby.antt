@@ -27,13 +27,13 @@ use Rattle.sai_types.specs.contracts.ids.RidOrd.TheImpl.Laws as ordered_rid
 use Rattle.sai_types.specs.contracts.hop.HopEq.TheImpl.Laws as equal_hop
 use Rattle.sai_types.specs.contracts.hop.HopOrd.TheImpl.Laws as ordered_hop
 use Rattle.sai_types.specs.Names as name
-use Rattle.sai_types.specs.Forwarding.{mac_of, same_hop}
+use Rattle.sai_types.specs.Forwarding.{hop_mac, same_hop}
 use Rattle.sai_types.specs.Made.{HaveOneEach}
 use Rattle.sai_types.specs.Named.{goal_by, hop_cmp, hop_on, hops_at, named, thing_of, those}
 use Rattle.sai_types.specs.Objects.{Objects}
 use Rattle.sai_types.proofs.Rising.{hop_exact}
 use Rattle.sai_chip.specs.Tally.{neighbor_cmp}
-use Rattle.sai_chip.specs.Bodies.{HaveIds, owned, reached, routed, objects_in}
+use Rattle.sai_chip.specs.Bodies.{HaveIdKinds, owned, reached, routed, objects_in}
 use Rattle.sai_chip.proofs.Changed.{at-neighbor, neighbor_exact}
 use Rattle.sai_chip.proofs.HopSets.{or_true}
 use Rattle.sai_chip.proofs.Looked.{mac_other, passes-map, past, past-ids, past-last}
@@ -47,7 +47,7 @@ pub mapped_some : {X Y : Type 0} (f : X → Y) (o : Option X) → is_some (optio
 mapped_some f None = refl
 mapped_some f (Some x) = refl
 
-module _ (ids : List (Rid × Body Rid)) (ips : List Ip) (ns : List ((Rid × Ip) × Mac)) (rs : List (Prefix × To Rid)) (all : HaveIds ids) (one : HaveOneEach (objects_in ids ips ns rs)) (rif : Rid) (ip : Ip) (hop : Hop) (is : hop_on (objects_in ids ips ns rs) rif ip ≡ Some hop) (there : is_some (lookup (is_at (neighbor_cmp (rif, ip))) ns) ≡ true) where
+module _ (ids : List (Rid × Body Rid)) (ips : List Ip) (ns : List ((Rid × Ip) × Mac)) (rs : List (Prefix × To Rid)) (all : HaveIdKinds ids) (one : HaveOneEach (objects_in ids ips ns rs)) (rif : Rid) (ip : Ip) (hop : Hop) (is : hop_on (objects_in ids ips ns rs) rif ip ≡ Some hop) (there : is_some (lookup (is_at (neighbor_cmp (rif, ip))) ns) ≡ true) where
   abbrev held : Objects
   held = objects_in ids ips ns rs
 
@@ -75,23 +75,23 @@ module _ (ids : List (Rid × Body Rid)) (ips : List Ip) (ns : List ((Rid × Ip) 
       let alike : h ≡ hop = cc in
       ap (λ g. same_hop g hop) alike ∙ equal_hop.laws-law.refl hop)
 
-  mac_step : (x : (Rid × Ip) × Mac) (xs : List ((Rid × Ip) × Mac)) (o : Option Hop) → hop_on held x.0.0 x.0.1 ≡ o → is_some (lookup (is_at (neighbor_cmp x.0)) ns) ≡ true → (ts : List (Option Thing)) → mac_of (those ts) hop ≡ lookup (is_at (neighbor_cmp (rif, ip))) xs → mac_of (those (option_map (λ h. thing.Neighbor h x.1) o ∷ ts)) hop ≡ cond (is_at (neighbor_cmp (rif, ip)) x.0) (Some x.1) (lookup (is_at (neighbor_cmp (rif, ip))) xs)
+  mac_step : (x : (Rid × Ip) × Mac) (xs : List ((Rid × Ip) × Mac)) (o : Option Hop) → hop_on held x.0.0 x.0.1 ≡ o → is_some (lookup (is_at (neighbor_cmp x.0)) ns) ≡ true → (ts : List (Option Thing)) → hop_mac (those ts) hop ≡ lookup (is_at (neighbor_cmp (rif, ip))) xs → hop_mac (those (option_map (λ h. thing.Neighbor h x.1) o ∷ ts)) hop ≡ cond (is_at (neighbor_cmp (rif, ip)) x.0) (Some x.1) (lookup (is_at (neighbor_cmp (rif, ip))) xs)
   mac_step x xs None named found ts h =
       let apart : is_at (neighbor_cmp (rif, ip)) x.0 ≡ false = false_from_ne_true _ (λ tied. let key = neighbor_exact (rif, ip) x.0 (equal_by (neighbor_cmp (rif, ip) x.0) tied) in let known : hop_on held x.0.0 x.0.1 ≡ Some hop = subst (λ y. hop_on held y.0 y.1 ≡ Some hop) key is in absurd cc) in
       h ∙ sym (ap (λ b. cond b (Some x.1) (lookup (is_at (neighbor_cmp (rif, ip))) xs)) apart)
   mac_step x xs (Some g) named found ts h = let tied = tied_key x.0 g found named in cc
 
-  mac_in : (xs : List ((Rid × Ip) × Mac)) → ((p : Rid × Ip → Bool) → list_any p (keys_of xs) ≡ true → list_any p (keys_of ns) ≡ true) → mac_of (those (map (thing_of held) (reached xs ++ routed rs))) hop ≡ lookup (is_at (neighbor_cmp (rif, ip))) xs
-  mac_in [] within = past-last (λ ts. mac_of ts hop) held _ (λ e. passes-map (λ ts. mac_of ts hop) (thing.Route e.0) (λ g ts. refl) (goal_by (hops_at held) held e.1)) rs
+  mac_in : (xs : List ((Rid × Ip) × Mac)) → ((p : Rid × Ip → Bool) → list_any p (keys_of xs) ≡ true → list_any p (keys_of ns) ≡ true) → hop_mac (those (map (thing_of held) (reached xs ++ routed rs))) hop ≡ lookup (is_at (neighbor_cmp (rif, ip))) xs
+  mac_in [] within = past-last (λ ts. hop_mac ts hop) held _ (λ e. passes-map (λ ts. hop_mac ts hop) (thing.Route e.0) (λ g ts. refl) (goal_by (hops_at held) held e.1)) rs
   mac_in (x ∷ xs) within =
       mac_step x xs (hop_on held x.0.0 x.0.1) refl
       (is_some-lookup (is_at (neighbor_cmp x.0)) ns ∙ within (is_at (neighbor_cmp x.0)) (ap (λ r. is_eq r || list_any (is_at (neighbor_cmp x.0)) (keys_of xs)) (tied_itself neighbor_total x.0)))
       (map (thing_of held) (reached xs ++ routed rs))
       (mac_in xs (λ p h. within p (ap (λ b. p x.0 || b) h ∙ or_true (p x.0))))
 
-  pub mac-held : lookup (is_at (neighbor_cmp (rif, ip))) ns ≡ mac_of (those (named held)) hop
+  pub mac-held : lookup (is_at (neighbor_cmp (rif, ip))) ns ≡ hop_mac (those (named held)) hop
   mac-held =
-      let F : List Thing → Option Mac = λ ts. mac_of ts hop in
+      let F : List Thing → Option Mac = λ ts. hop_mac ts hop in
       sym (ap (λ l. F (those l)) (sym (map-things_among held held))
       ∙ past-ids F held (mac_other hop) ids (owned ips ++ (reached ns ++ routed rs)) all
       ∙ past F held _ (λ a ts. refl) ips (reached ns ++ routed rs)

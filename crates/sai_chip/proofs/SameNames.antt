@@ -21,17 +21,17 @@ use Rattle.sai_types.specs.declared.body.To.TheVariants as to
 use Rattle.sai_types.specs.Objects.{Objects, body_at, entry_cmp}
 use Rattle.sai_types.specs.ChipState.{objects_of}
 use Rattle.sai_types.specs.Refusal.{same_id}
-use Rattle.sai_types.specs.Named.{both, hop_cmp, port_of, vlan_of, port_at, vlan_at, bridge_port_of, bridge_port_at, base_on, rif_of, rif_at, hop_on, next_hop_of, next_hop_at, with_member, hops_among, hops_at, goal_by, thing_by, thing_of, things_among, named}
+use Rattle.sai_types.specs.Named.{both, hop_cmp, body_port, body_vlan, port_at, vlan_at, bridge_port_of, bridge_port_at, base_on, rif_of, rif_at, hop_on, next_hop_of, next_hop_at, with_member, hops_among, hops_at, goal_by, thing_by, thing_of, things_among, named}
 use Rattle.sai_types.proofs.Entries.{entry_total}
 use Rattle.sai_chip.specs.Members.{hops_by}
 use Rattle.sai_chip.specs.Naming.{AreBodies, AreHops, GroupHops, entries_of, hops_in}
 
 module _ (xs ys : Objects) (found : AreBodies ys xs) where
   port_at-same : (r : Rid) → port_at xs r ≡ port_at ys r
-  port_at-same r = ap port_of (found.each r)
+  port_at-same r = ap body_port (found.each r)
 
   vlan_at-same : (r : Rid) → vlan_at xs r ≡ vlan_at ys r
-  vlan_at-same r = ap vlan_of (found.each r)
+  vlan_at-same r = ap body_vlan (found.each r)
 
   bridge_port_of-same : (o : Option (Body Rid)) → bridge_port_of xs o ≡ bridge_port_of ys o
   bridge_port_of-same None = refl

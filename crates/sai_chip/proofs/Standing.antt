@@ -17,7 +17,7 @@ use Rattle.sai_types.proofs.Apart.{any_same}
 use Rattle.sai_chip.specs.declared.mark.TakenMark.{TakenMark}
 use Rattle.sai_chip.specs.declared.mark.TakenMark.TheVariants as mark
 use Rattle.sai_chip.specs.Tally.{is_mark, claims}
-use Rattle.sai_chip.specs.Marks.{lane_marks, base_marks, target_marks, key_marks, marks_of, has_mark, stands, standing}
+use Rattle.sai_chip.specs.Marks.{lane_marks, base_marks, target_marks, key_marks, marks_of, has_mark, is_claimed, times_claimed}
 
 positive-add : (m n : ℕ) → nat_lt 0 (m + n) ≡ (nat_lt 0 m || nat_lt 0 n)
 positive-add m n = grind (arith, common_steps)
@@ -38,7 +38,7 @@ any-values_of p [] = refl
 any-values_of p (e ∷ es) = ap (λ b. p e.1 || b) (any-values_of p es)
 
 -- a mark stands where its count is not 0
-pub positive-standing : (m : TakenMark) (objects : Objects) → nat_lt 0 (standing m objects) ≡ stands m objects
+pub positive-standing : (m : TakenMark) (objects : Objects) → nat_lt 0 (times_claimed m objects) ≡ is_claimed m objects
 positive-standing m objects =
     positive-sum_by (λ b. claims m (marks_of b)) (values_of objects)
     ∙ any_same _ _ (λ b. positive-count_by (λ k. is_mark k m) (marks_of b)) (values_of objects)
@@ -82,7 +82,7 @@ kind_in-marks k b =
     omega (arith, one, none, same)
 
 -- as many objects of a kind stand as its mark is counted
-pub standing-kind : (k : Kind) (objects : Objects) → standing (mark.Of k) objects ≡ used objects k
+pub standing-kind : (k : Kind) (objects : Objects) → times_claimed (mark.Of k) objects ≡ used objects k
 standing-kind k [] = refl
 standing-kind k (o ∷ os) =
     sum_by-cons (λ b. claims (mark.Of k) (marks_of b)) o.1 (values_of os)

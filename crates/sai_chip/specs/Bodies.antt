@@ -46,13 +46,13 @@ abbrev pub objects_in : List (Rid × Body Rid) → List Ip → List ((Rid × Ip)
 objects_in ids ips neighbors routes = numbered ids ++ (owned ips ++ (reached neighbors ++ routed routes))
 
 -- bodies of kinds that have identifiers
-abbrev pub HaveIds : List (Rid × Body Rid) → Type 0
-HaveIds ids = AllByRecursion (λ e. has_id e.1 ≡ true) ids
+abbrev pub HaveIdKinds : List (Rid × Body Rid) → Type 0
+HaveIdKinds ids = AllByRecursion (λ e. has_id e.1 ≡ true) ids
 
 -- the entries rise, and bodies with identifiers are of kinds that have them
-pub record IsHeld (ids : List (Rid × Body Rid)) (ips : List Ip) (neighbors : List ((Rid × Ip) × Mac)) (routes : List (Prefix × To Rid)) : Type 0 where
+pub record IsWellHeld (ids : List (Rid × Body Rid)) (ips : List Ip) (neighbors : List ((Rid × Ip) × Mac)) (routes : List (Prefix × To Rid)) : Type 0 where
   pub sorted : AreSorted (objects_in ids ips neighbors routes)
-  pub with_ids : HaveIds ids
+  pub with_ids : HaveIdKinds ids
 
 -- the body of the object with this key, and none for an identifier
 abbrev pub keyed_at : Objects → Entry Rid → Option (Body Rid)

@@ -10,5 +10,5 @@ fail_at [] number = None
 fail_at (f ∷ fs) number = if f.at == number then Some f.after else fail_at fs number
 
 -- the first entries, by number
-abbrev pub IsIndex : List Fail → BTreeMap ℕ Bool → Type 0
-IsIndex fails by_number = (number : ℕ) → get nat_cmp by_number number ≡ fail_at fails number
+abbrev pub IsFailIndex : List Fail → BTreeMap ℕ Bool → Type 0
+IsFailIndex fails by_number = (number : ℕ) → get nat_cmp by_number number ≡ fail_at fails number

@@ -7,7 +7,7 @@ use Rattle.swss_types.specs.declared.address.Prefix.{Prefix}
 use Rattle.sai_types.specs.declared.hop.Hop.{Hop}
 use Rattle.sai_types.specs.declared.thing.Goal.{Goal}
 use Rattle.sai_types.specs.declared.thing.Thing.TheVariants as thing
-use Rattle.sai_types.specs.Forwarding.{Forwarding, decision_of, forwarding_of, mac_of, with_route}
+use Rattle.sai_types.specs.Forwarding.{Forwarding, decision_of, forwarding_of, hop_mac, with_route}
 use Rattle.sai_types.specs.Forwarding as forwarding
 use Rattle.sai_types.specs.Named.{hop_cmp, named, those}
 use Rattle.sai_types.specs.Objects.{Objects}
@@ -42,7 +42,7 @@ is_longer len (Some best) = nat_lt best.0 len
 
 -- a hop with its Ethernet address, where it has one
 abbrev pub way_of : Objects → Hop → Hop × Option Mac
-way_of objects hop = (hop, mac_of (those (named objects)) hop)
+way_of objects hop = (hop, hop_mac (those (named objects)) hop)
 
 -- the same of several, where there are some
 abbrev pub ways_by : Objects → Option (List Hop) → Option (List (Hop × Option Mac))

@@ -52,16 +52,16 @@ abbrev pub has_mark : TakenMark → Body Rid → Bool
 has_mark m b = list_any (λ k. is_mark k m) (marks_of b)
 
 -- whether one of the objects takes it up
-abbrev pub stands : TakenMark → Objects → Bool
-stands m objects = list_any (λ o. has_mark m o.1) objects
+abbrev pub is_claimed : TakenMark → Objects → Bool
+is_claimed m objects = list_any (λ o. has_mark m o.1) objects
 
 -- how often the objects take it up
-abbrev pub standing : TakenMark → Objects → ℕ
-standing m objects = sum_by (λ b. claims m (marks_of b)) (values_of objects)
+abbrev pub times_claimed : TakenMark → Objects → ℕ
+times_claimed m objects = sum_by (λ b. claims m (marks_of b)) (values_of objects)
 
 -- each mark is counted as often as it stands
 pub record IsCounted (objects : Objects) (counts : Tally) : Type 0 where
-  pub each : (m : TakenMark) → count_at counts m ≡ standing m objects
+  pub each : (m : TakenMark) → count_at counts m ≡ times_claimed m objects
 
 -- what the body of an object takes up, where there is one
 abbrev pub marks_if : Option (Body Rid) → List TakenMark

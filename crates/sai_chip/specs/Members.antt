@@ -18,12 +18,12 @@ hops_by objects [] = Some []
 hops_by objects (n ∷ ns) = both (insert_key hop_cmp) (hops_by objects ns) (next_hop_at objects n)
 
 -- the group by whose hops an object is named
-abbrev pub group_in : Entry Rid → Body Rid → Option Rid
-group_in e (body.GroupMember group next_hop) = Some group
-group_in e (body.Route prefix (to.Group g)) = Some g
-group_in (entry.Oid g) body.Group = Some g
-group_in e b = None
+abbrev pub group_named_by : Entry Rid → Body Rid → Option Rid
+group_named_by e (body.GroupMember group next_hop) = Some group
+group_named_by e (body.Route prefix (to.Group g)) = Some g
+group_named_by (entry.Oid g) body.Group = Some g
+group_named_by e b = None
 
 -- that group has these hops
 pub record HasHops (objects : Objects) (e : Entry Rid) (b : Body Rid) (groups : GroupHops) : Type 0 where
-  pub each : (g : Rid) → group_in e b ≡ Some g → hops_in groups g ≡ hops_at objects g
+  pub each : (g : Rid) → group_named_by e b ≡ Some g → hops_in groups g ≡ hops_at objects g

@@ -27,8 +27,8 @@ abbrev pub fault_of : Sim → Option Bool
 fault_of s = if nat_lt s.calls 18446744073709551615 then fail_at s.chip.fails (s.calls + 1) else None
 
 -- the number of calls after one more, which stays at 2^64 - 1
-abbrev pub called : ℕ → ℕ
-called calls = if nat_lt calls 18446744073709551615 then calls + 1 else calls
+abbrev pub calls_after : ℕ → ℕ
+calls_after calls = if nat_lt calls 18446744073709551615 then calls + 1 else calls
 
 abbrev pub refusal_at : Sim → Call Rid → Option ChipAnswer
 refusal_at s c = refusal_of s.chip.capacities s.chip.objects c
@@ -41,10 +41,10 @@ abbrev pub with_effect : Sim → Call Rid → Sim
 with_effect s c = record s { chip = record s.chip { objects = after_call (next_id s.chip.effects) s.chip.objects c; effects = s.chip.effects ++ c ∷ [] } }
 
 -- by whether the call fails, its refusal, and what it answers with effect
-abbrev pub answer_by : Option Bool → Option ChipAnswer → ChipAnswer → ChipAnswer
-answer_by (Some after) refusal effect = answer.Failed
-answer_by None (Some refusal) effect = refusal
-answer_by None None effect = effect
+abbrev pub answer_among : Option Bool → Option ChipAnswer → ChipAnswer → ChipAnswer
+answer_among (Some after) refusal effect = answer.Failed
+answer_among None (Some refusal) effect = refusal
+answer_among None None effect = effect
 
 -- whether it takes effect: a call that fails only where its entry says so and it is legal
 abbrev pub effect_by : Option Bool → Option ChipAnswer → Bool
@@ -55,7 +55,7 @@ effect_by None None = true
 -- what comes of a call, by whether it fails and by its refusal: its answer with its effect, or want of memory and no effect
 abbrev pub ResultsBy : Option Bool → Option ChipAnswer → Sim → Call Rid → ChipAnswer → Sim → Type 0
 ResultsBy fault refusal old c a new =
-    ((a ≡ answer_by fault refusal (effect_answer old c)) × (new ≡ (if effect_by fault refusal then with_effect old c else old)))
+    ((a ≡ answer_among fault refusal (effect_answer old c)) × (new ≡ (if effect_by fault refusal then with_effect old c else old)))
     ⊎ ((a ≡ answer.NoMemory) × (new ≡ old))
 
 -- a call is counted: whether it was legal, whether the chip failed at it, and how many calls had taken effect before it
@@ -63,7 +63,7 @@ abbrev pub counted : Bool → Bool → ℕ → Sim → Sim
 counted legal failed before s =
     record s {
       chip = record s.chip { clean = s.chip.clean && legal; faults = s.chip.faults + (if failed then 1 else 0); before_fault = if failed then before else s.chip.before_fault };
-      calls = called s.calls;
+      calls = calls_after s.calls;
     }
 
 abbrev pub is_failed : ChipAnswer → Bool
@@ -81,10 +81,10 @@ is_list_failed listed.Failed = true
 is_list_failed _ = false
 
 -- a list after more was appended, and before where there was no memory
-abbrev pub Appends : ListAnswer → List (Object Rid) → List (Object Rid) → List (Object Rid) → Type 0
-Appends listed.Done old more new = new ≡ old ++ more
-Appends listed.NoMemory old more new = new ≡ old
-Appends listed.Failed old more new = ⊥
+abbrev pub AppendsListed : ListAnswer → List (Object Rid) → List (Object Rid) → List (Object Rid) → Type 0
+AppendsListed listed.Done old more new = new ≡ old ++ more
+AppendsListed listed.NoMemory old more new = new ≡ old
+AppendsListed listed.Failed old more new = ⊥
 
 -- what comes of a listing, by whether it fails
 abbrev pub ListsBy : Option Bool → ListAnswer → List (Object Rid) → List (Object Rid) → List (Object Rid) → Type 0

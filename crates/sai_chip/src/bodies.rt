@@ -6,7 +6,7 @@ ghost use Rattle.std.specs.Map.{remove_entry};
 ghost use Rattle.std.specs.Option.{is_some};
 ghost use Rattle.sai_types.specs.After.{after_set, entry_of, has_id};
 ghost use Rattle.sai_types.specs.ChipState.{objects_of};
-ghost use Rattle.sai_types.specs.Forwarding.{best_route, has_own, mac_of};
+ghost use Rattle.sai_types.specs.Forwarding.{best_route, has_own, hop_mac};
 ghost use Rattle.sai_types.specs.Made.{AreSorted, HaveOneEach};
 ghost use Rattle.sai_types.specs.Named.{hop_on, named, those};
 ghost use Rattle.sai_types.specs.Objects.{body_at, entry_cmp};
@@ -46,11 +46,11 @@ impl Model for Bodies {
 
     ghost Value = { Objects };
 
-    ghost use Rattle.sai_chip.specs.Bodies.{IsHeld, objects_in};
+    ghost use Rattle.sai_chip.specs.Bodies.{IsWellHeld, objects_in};
 
     ghost view = { λ b. objects_in b.numbered.entries b.own.keys b.neighbors.entries b.routes.entries };
 
-    ghost invariant = { λ b. IsHeld b.numbered.entries b.own.keys b.neighbors.entries b.routes.entries };
+    ghost invariant = { λ b. IsWellHeld b.numbered.entries b.own.keys b.neighbors.entries b.routes.entries };
 }
 
 impl Bodies {
@@ -169,7 +169,7 @@ impl Bodies {
     pub fn mac(&self, rif: Rid, ip: Ip) -> Option<Mac>
         requires one { HaveOneEach self.now }
         requires stands { is_some (body_at self.now (Entry.Neigh rif ip)) ≡ true }
-        ensures { (hop : Hop) → hop_on self.now rif ip ≡ Some hop → result ≡ mac_of (those (named self.now)) hop }
+        ensures { (hop : Hop) → hop_on self.now rif ip ≡ Some hop → result ≡ hop_mac (those (named self.now)) hop }
     {
         self.neighbors.get(&(rif, ip)).copied()
     }

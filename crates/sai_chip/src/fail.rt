@@ -1,6 +1,6 @@
 // Calls at which a simulated chip fails.
 ghost use Rattle.std.specs.Prelude.{◌≡◌, IfOk};
-ghost use Rattle.sai_chip.specs.Failing.{IsIndex, fail_at};
+ghost use Rattle.sai_chip.specs.Failing.{IsFailIndex, fail_at};
 
 use sai_types::Fail;
 use std::alloc::Global;
@@ -24,11 +24,11 @@ impl Model for Failing {
     ghost Value = { List Fail };
 
     ghost use Rattle.std.specs.Prelude.{◌≡◌, true};
-    ghost use Rattle.sai_chip.specs.Failing.{IsIndex};
+    ghost use Rattle.sai_chip.specs.Failing.{IsFailIndex};
 
     ghost view = { λ f. f.fails.items };
 
-    ghost invariant = { λ f. f.in_order ≡ true → IsIndex f.fails.items f.by_number };
+    ghost invariant = { λ f. f.in_order ≡ true → IsFailIndex f.fails.items f.by_number };
 }
 
 impl Failing {
@@ -59,7 +59,7 @@ impl Failing {
 
 /// The entries by their numbers; of several with one number, the first.
 fn index(alloc: Global, fails: &[Fail]) -> Result<BTreeMap<u64, bool>, OutOfMemory>
-    ensures { IfOk result (IsIndex fails.now) }
+    ensures { IfOk result (IsFailIndex fails.now) }
 {
     let mut by_number = BTreeMap::new(alloc);
     let mut left = fails.len();

@@ -5,11 +5,11 @@ ghost use Rattle.std.specs.Map.{remove_entry};
 ghost use Rattle.std.specs.Option.{is_some, option_and_then};
 ghost use Rattle.sai_types.specs.After.{after_set, entry_of};
 ghost use Rattle.sai_types.specs.ChipState.{objects_of};
-ghost use Rattle.sai_chip.specs.Sim.{Appends};
+ghost use Rattle.sai_chip.specs.Sim.{AppendsListed};
 ghost use Rattle.sai_types.specs.Named.{hops_at, thing_of};
 ghost use Rattle.sai_types.specs.Objects.{body_at, entry_cmp, used};
-ghost use Rattle.sai_chip.specs.Marks.{stands, marks_at, marks_if};
-ghost use Rattle.sai_chip.specs.Members.{HasHops, group_in, hops_by};
+ghost use Rattle.sai_chip.specs.Marks.{is_claimed, marks_at, marks_if};
+ghost use Rattle.sai_chip.specs.Members.{HasHops, group_named_by, hops_by};
 ghost use Rattle.sai_chip.specs.Replay.{thing_at};
 
 use crate::bodies::Bodies;
@@ -75,7 +75,7 @@ impl Held {
 
     /// Whether an object takes this up.
     pub fn has(&self, mark: &TakenMark) -> bool
-        ensures { result ≡ stands mark.now self.now }
+        ensures { result ≡ is_claimed mark.now self.now }
     {
         0 < self.counts.count(mark)
     }
@@ -147,7 +147,7 @@ impl Held {
 
     /// Appends each object once, in the order of their entries.
     pub fn list(&self, out: &mut Vec<Object<Rid>>) -> ListAnswer
-        ensures { Appends result out.old.items (objects_of self.now) out.new.items }
+        ensures { AppendsListed result out.old.items (objects_of self.now) out.new.items }
     {
         let before = out.len();
         match self.bodies.list(out) {
@@ -236,7 +236,7 @@ fn marks_if(alloc: Global, body: Option<&Body<Rid>>) -> Result<Vec<TakenMark>, O
 
 /// The group by whose hops an object is named.
 fn group_in(entry: &Entry<Rid>, body: &Body<Rid>) -> Option<Rid>
-    ensures { result ≡ group_in entry.now body.now }
+    ensures { result ≡ group_named_by entry.now body.now }
 {
     match (entry, body) {
         (Entry::Oid(group), Body::Group) => Some(*group),

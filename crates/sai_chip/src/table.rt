@@ -2,8 +2,8 @@
 ghost use Rattle.std.specs.Prelude.{◌≡◌, option_copied};
 ghost use Rattle.std.specs.List.{list_any};
 ghost use Rattle.sai_types.specs.Objects.{body_at, is_there, is_kind_of, level};
-ghost use Rattle.sai_types.specs.Refusal.{attr_refers_well, clash, create_refusal, first_of, has_attr, is_base, is_target, refers_to, refers_well, refusal_of, remove_refusal, set_refusal};
-ghost use Rattle.sai_chip.specs.Marks.{stands};
+ghost use Rattle.sai_types.specs.Refusal.{attr_refers_well, clash, create_refusal, first_refusal, has_attr, is_base, is_target, refers_to, refers_well, refusal_of, remove_refusal, set_refusal};
+ghost use Rattle.sai_chip.specs.Marks.{is_claimed};
 ghost use Rattle.sai_chip.specs.declared.mark.TakenMark.TheVariants as mark;
 
 use crate::held::Held;
@@ -93,7 +93,7 @@ fn remove_refusal(held: &Held, entry: &Entry<Rid>) -> Option<ChipAnswer>
 
 /// The same, at an object that stands.
 fn use_refusal(held: &Held, entry: &Entry<Rid>) -> Option<ChipAnswer>
-    ensures { result ≡ first_of (list_any (λ o. refers_to o.1 entry.now) held.now) ChipAnswer.InUse None }
+    ensures { result ≡ first_refusal (list_any (λ o. refers_to o.1 entry.now) held.now) ChipAnswer.InUse None }
 {
     if is_referred(held, entry) {
         Some(ChipAnswer::InUse)
@@ -196,7 +196,7 @@ fn clashes(held: &Held, body: &Body<Rid>) -> bool
 
 /// Whether a port has one of the lanes.
 fn has_lane(held: &Held, lanes: &[u16]) -> bool
-    ensures { result ≡ list_any (λ lane. stands (mark.Lane lane) held.now) lanes.now }
+    ensures { result ≡ list_any (λ lane. is_claimed (mark.Lane lane) held.now) lanes.now }
 {
     for lane in lanes {
         if held.has(&TakenMark::Lane(*lane)) {

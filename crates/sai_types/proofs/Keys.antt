@@ -16,7 +16,7 @@ use Rattle.sai_types.specs.declared.body.Body.TheVariants as body
 use Rattle.sai_types.specs.declared.body.Entry.TheVariants as entry
 use Rattle.sai_types.specs.Objects.{Objects, body_at}
 use Rattle.sai_types.specs.Refusal.{clash, same_id, same_ip, same_base, share_lane}
-use Rattle.sai_types.specs.Named.{port_of, vlan_of, port_at, vlan_at, bridge_port_of, bridge_port_at, base_on, rif_of, rif_at, hop_on, next_hop_of, next_hop_at, first_lane}
+use Rattle.sai_types.specs.Named.{body_port, body_vlan, port_at, vlan_at, bridge_port_of, bridge_port_at, base_on, rif_of, rif_at, hop_on, next_hop_of, next_hop_at, first_lane}
 use Rattle.sai_types.specs.Made.{IsWhole, HaveLanes}
 use Rattle.sai_types.proofs.Exact.{ids-tied}
 
@@ -46,12 +46,12 @@ share-first xs ys same hx hy =
     xs hx
 
 module _ (objects : Objects) where
-  port_found : (r : Rid) (n : ℕ) (o : Option (Body Rid)) → body_at objects (entry.Oid r) ≡ o → port_of o ≡ Some n → (lanes : List ℕ) × (speed : ℕ) × (mtu : ℕ) × (up : Bool) × (body_at objects (entry.Oid r) ≡ Some (body.Port lanes speed mtu up)) × (first_lane lanes ≡ n)
+  port_found : (r : Rid) (n : ℕ) (o : Option (Body Rid)) → body_at objects (entry.Oid r) ≡ o → body_port o ≡ Some n → (lanes : List ℕ) × (speed : ℕ) × (mtu : ℕ) × (up : Bool) × (body_at objects (entry.Oid r) ≡ Some (body.Port lanes speed mtu up)) × (first_lane lanes ≡ n)
   port_found r n (Some (body.Port lanes speed mtu up)) e h = (lanes, speed, mtu, up, e, cc)
   port_found r n (Some _) e h = absurd cc
   port_found r n None e h = absurd cc
 
-  vlan_found : (r : Rid) (n : ℕ) (o : Option (Body Rid)) → body_at objects (entry.Oid r) ≡ o → vlan_of o ≡ Some n → body_at objects (entry.Oid r) ≡ Some (body.Vlan n)
+  vlan_found : (r : Rid) (n : ℕ) (o : Option (Body Rid)) → body_at objects (entry.Oid r) ≡ o → body_vlan o ≡ Some n → body_at objects (entry.Oid r) ≡ Some (body.Vlan n)
   vlan_found r n (Some (body.Vlan vlan)) e h = let same : vlan ≡ n = cc in e ∙ ap (λ v. Some (body.Vlan v)) same
   vlan_found r n (Some _) e h = absurd cc
   vlan_found r n None e h = absurd cc

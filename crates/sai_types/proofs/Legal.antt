@@ -13,13 +13,13 @@ use Rattle.sai_types.specs.declared.body.Body.TheVariants as body
 use Rattle.sai_types.specs.declared.body.Entry.{Entry}
 use Rattle.sai_types.specs.declared.body.Entry.TheVariants as entry
 use Rattle.sai_types.specs.Objects.{Objects, body_at}
-use Rattle.sai_types.specs.Refusal.{clash, first_of, create_refusal, set_refusal, remove_refusal}
+use Rattle.sai_types.specs.Refusal.{clash, first_refusal, create_refusal, set_refusal, remove_refusal}
 use Rattle.sai_types.specs.After.{entry_of}
 use Rattle.sai_types.specs.References.{attr_refers_well, refers_to, refers_well}
 use Rattle.sai_types.specs.Made.{same_entry, AreEntered}
 use Rattle.sai_types.proofs.Found.{any-found}
 
-pub first_of-none : (b : Bool) (a : ChipAnswer) (rest : Option ChipAnswer) → first_of b a rest ≡ None → (b ≡ false) × (rest ≡ None)
+pub first_of-none : (b : Bool) (a : ChipAnswer) (rest : Option ChipAnswer) → first_refusal b a rest ≡ None → (b ≡ false) × (rest ≡ None)
 first_of-none false a rest h = (refl, h)
 first_of-none true a rest h = absurd cc
 

@@ -69,16 +69,16 @@ abbrev pub same_hop : Hop → Hop → Bool
 same_hop = hop_eq.ghosts.eq
 
 -- the Ethernet address of a hop
-abbrev pub mac_of : List Thing → Hop → Option Mac
-mac_of [] hop = None
-mac_of (thing.Neighbor h mac ∷ ts) hop = if same_hop h hop then Some mac else mac_of ts hop
-mac_of (_ ∷ ts) hop = mac_of ts hop
+abbrev pub hop_mac : List Thing → Hop → Option Mac
+hop_mac [] hop = None
+hop_mac (thing.Neighbor h mac ∷ ts) hop = if same_hop h hop then Some mac else hop_mac ts hop
+hop_mac (_ ∷ ts) hop = hop_mac ts hop
 
 abbrev pub forwarding_of : List Thing → Decision → Forwarding
 forwarding_of things Cpu = ToCpu
 forwarding_of things Drop = Dropped
 forwarding_of things (Direct base) = ToAll base
-forwarding_of things (Via hops) = Through (map (λ h. (h, mac_of things h)) hops)
+forwarding_of things (Via hops) = Through (map (λ h. (h, hop_mac things h)) hops)
 
 -- the decision with each hop's Ethernet address
 abbrev pub forward : List Thing → Ip → Forwarding

@@ -32,19 +32,19 @@ both f None _ = None
 abbrev pub first_lane : List ℕ → ℕ
 first_lane lanes = slice_index lanes 0
 
-abbrev pub port_of : Option (Body Rid) → Option ℕ
-port_of (Some (body.Port lanes speed mtu up)) = Some (first_lane lanes)
-port_of _ = None
+abbrev pub body_port : Option (Body Rid) → Option ℕ
+body_port (Some (body.Port lanes speed mtu up)) = Some (first_lane lanes)
+body_port _ = None
 
-abbrev pub vlan_of : Option (Body Rid) → Option ℕ
-vlan_of (Some (body.Vlan vlan)) = Some vlan
-vlan_of _ = None
+abbrev pub body_vlan : Option (Body Rid) → Option ℕ
+body_vlan (Some (body.Vlan vlan)) = Some vlan
+body_vlan _ = None
 
 abbrev pub port_at : Objects → Rid → Option ℕ
-port_at objects r = port_of (body_at objects (entry.Oid r))
+port_at objects r = body_port (body_at objects (entry.Oid r))
 
 abbrev pub vlan_at : Objects → Rid → Option ℕ
-vlan_at objects r = vlan_of (body_at objects (entry.Oid r))
+vlan_at objects r = body_vlan (body_at objects (entry.Oid r))
 
 -- a bridge port is named by its port
 abbrev pub bridge_port_of : Objects → Option (Body Rid) → Option ℕ

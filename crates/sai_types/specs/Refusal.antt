@@ -70,23 +70,23 @@ has_attr (body.Route prefix to) (attr.To t) = true
 has_attr _ _ = false
 
 -- the first of several refusals
-abbrev pub first_of : Bool → ChipAnswer → Option ChipAnswer → Option ChipAnswer
-first_of true refusal others = Some refusal
-first_of false refusal others = others
+abbrev pub first_refusal : Bool → ChipAnswer → Option ChipAnswer → Option ChipAnswer
+first_refusal true refusal others = Some refusal
+first_refusal false refusal others = others
 
 abbrev pub create_refusal : List ℕ → Objects → Body Rid → Option ChipAnswer
 create_refusal capacities objects b =
-    first_of (not (refers_well objects b)) BadReference
-    (first_of (list_any (λ o. clash b o.1) objects) Exists
-    (first_of (nat_le (capacity_of capacities (kind_of b)) (used objects (kind_of b))) Full None))
+    first_refusal (not (refers_well objects b)) BadReference
+    (first_refusal (list_any (λ o. clash b o.1) objects) Exists
+    (first_refusal (nat_le (capacity_of capacities (kind_of b)) (used objects (kind_of b))) Full None))
 
 abbrev pub set_refusal : Objects → Option (Body Rid) → Attr Rid → Option ChipAnswer
 set_refusal objects None a = Some NotFound
-set_refusal objects (Some b) a = first_of (not (has_attr b a)) NotFound (first_of (not (attr_refers_well objects a)) BadReference None)
+set_refusal objects (Some b) a = first_refusal (not (has_attr b a)) NotFound (first_refusal (not (attr_refers_well objects a)) BadReference None)
 
 abbrev pub remove_refusal : Objects → Entry Rid → Option (Body Rid) → Option ChipAnswer
 remove_refusal objects e None = Some NotFound
-remove_refusal objects e (Some b) = first_of (list_any (λ o. refers_to o.1 e) objects) InUse None
+remove_refusal objects e (Some b) = first_refusal (list_any (λ o. refers_to o.1 e) objects) InUse None
 
 -- the first refusal of the chip's table that holds, and none where the call is legal
 abbrev pub refusal_of : List ℕ → Objects → Call Rid → Option ChipAnswer

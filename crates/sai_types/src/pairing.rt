@@ -1,6 +1,6 @@
 // Which old object is which new one.
 ghost use Rattle.std.specs.Prelude.{◌≡◌, [], ◌∷◌, ◌++◌, OnOk, OnErr};
-ghost use Rattle.sai_types.specs.Pairing.{IsFree};
+ghost use Rattle.sai_types.specs.Pairing.{IsFreePair};
 
 use std::alloc::Global;
 use std::marker::Model;
@@ -32,7 +32,7 @@ impl Pairing {
 
     /// Puts a pair last.
     pub fn push(&mut self, pair: (u64, u64)) -> Result<(), OutOfMemory>
-        requires { IsFree self.old pair }
+        requires { IsFreePair self.old pair }
         ensures ok { OnOk result (self.new ≡ self.old ++ pair ∷ []) }
         ensures err { OnErr result (self.new ≡ self.old) }
     {

@@ -24,12 +24,12 @@ use Rattle.registry_laws.specs.Ending.{ended_names}
 use Rattle.registry_laws.specs.Flown.{Flown, due_for, flight_of}
 use Rattle.registry_laws.specs.Making.{IsNextCall, MayTakeFor, TookFor}
 use Rattle.identifier_laws.specs.Identified.{tie_by}
-use Rattle.core_laws.specs.Calls.{TiesFollow}
+use Rattle.core_laws.specs.Calls.{TiesFollowCall}
 use Rattle.core_laws.specs.Standing.{HasBegun, StandsFor, with_answer}
 use Rattle.core_laws.proofs.Answered as answers
 use Rattle.core_laws.proofs.Taken.{may_take_next}
 use Rattle.asic_view.specs.View.{ViewObjects, rid_at}
-use Rattle.syncd_core.specs.Synced.{Calls, IsMade, SyncState, with_view}
+use Rattle.syncd_core.specs.Synced.{Calls, IsMadeOnChip, SyncState, with_view}
 use Rattle.tie_laws.specs.Ties.{AreTied}
 use Rattle.tie_laws.proofs.Calls.{tied-made, ties-after}
 use Rattle.restart_laws.specs.Logged.{LoggedService}
@@ -37,7 +37,7 @@ use Rattle.flight_board.specs.Applied.{row_at}
 use Rattle.flight_board.specs.Board.{BoardState, FlightState, BoardFollows, IsTakenFor, flown_at}
 use Rattle.warm_state.specs.declared.warm.Warm.TheVariants as warm
 use Rattle.session_laws.specs.Core.{CoreState}
-use Rattle.session_laws.specs.Events.{IsMachineStep, MakesOne, made_by, session_with}
+use Rattle.session_laws.specs.Events.{IsMachineStep, MakesOne, vid_made_by, session_with}
 use Rattle.session_laws.specs.Standing.{IsSessionOf, IsWorking}
 use Rattle.session_laws.proofs.Called.{answered, capacities_then, clean_then, effects_then, legal_on, made_then, objects_then, whole}
 use Rattle.session_laws.proofs.Following.{key_kept, rows_by, rows_ended, rows_kept}
@@ -60,7 +60,7 @@ rows_all k old now own others q = by (key_split q k)
     by (inl same) = ap old same ∙ sym own ∙ sym (ap now same)
     by (inr apart) = sym (others q apart)
 
-module _ (c : CoreState) (chip : ChipState) (s : LoggedService) (is : IsSessionOf c chip s) (at : c.warm ≡ warm.Reconciled) (w : ℕ) (x : Flown) (there : flown_at c.board w ≡ Some x) (begun : HasBegun c.board.plan c.board.names x) (call : Call Vid) (told : IsNextCall c.board.plan c.board.names x.operation x.group call) (a : SyncAnswer) (went : a ≡ sync.Failed → ⊥) (view' : ViewObjects) (chip' : ChipState) (m : IsMade c.sync.view chip call a view' chip') where
+module _ (c : CoreState) (chip : ChipState) (s : LoggedService) (is : IsSessionOf c chip s) (at : c.warm ≡ warm.Reconciled) (w : ℕ) (x : Flown) (there : flown_at c.board w ≡ Some x) (begun : HasBegun c.board.plan c.board.names x) (call : Call Vid) (told : IsNextCall c.board.plan c.board.names x.operation x.group call) (a : SyncAnswer) (went : a ≡ sync.Failed → ⊥) (view' : ViewObjects) (chip' : ChipState) (m : IsMadeOnChip c.sync.view chip call a view' chip') where
   abbrev rid : Vid → Option Rid
   rid = rid_at c.sync.view
 
@@ -76,10 +76,10 @@ module _ (c : CoreState) (chip : ChipState) (s : LoggedService) (is : IsSessionO
   done : IsWell chip call d a chip'
   done = well c.sync.view view' chip chip' a went call d m.answer (answered c chip s is at w x there begun call told a view' chip' m).answer m.follows
 
-  number : is_some (made_by a) ≡ makes_id call
+  number : is_some (vid_made_by a) ≡ makes_id call
   number = done.number ∙ makes_on_chip (tie_by rid) call
 
-  ties : TiesFollow rid (rid_at view') call (made_by a) (layout.next_id core.made)
+  ties : TiesFollowCall rid (rid_at view') call (vid_made_by a) (layout.next_rid core.made)
   ties =
       follow c.sync.view view' core.made chip chip' is.made a went call d m.answer (answered c chip s is at w x there begun call told a view' chip' m).answer m.follows
       (ties-after c.sync.view core.made chip.objects its.tied (whole c chip s is at w x there begun call told) chip.capacities call
@@ -88,10 +88,10 @@ module _ (c : CoreState) (chip : ChipState) (s : LoggedService) (is : IsSessionO
   tied : AreTied view' (made_after core.made d) chip'.objects
   tied = subst (λ g. AreTied view' (made_after core.made (call_renamed g call)) chip'.objects) (sym (ties_alike c.sync.view)) (tied-made c.sync.view view' core.made chip chip' a is.made went call its.tied (whole c chip s is at w x there begun call told) m)
 
-  pub may : MayTakeFor x.operation x.group (made_by a) c.board.names
-  may = may_take_next c.board.plan is.plan c.sync.capacities c.board.names c.board.room (flown_at c.board) rid core its.stands w x there call (made_by a) number begun told
+  pub may : MayTakeFor x.operation x.group (vid_made_by a) c.board.names
+  may = may_take_next c.board.plan is.plan c.sync.capacities c.board.names c.board.room (flown_at c.board) rid core its.stands w x there call (vid_made_by a) number begun told
 
-  module _ (b : BoardState) (x' : Flown) (names' : Names) (took : TookFor x.operation x.group (made_by a) c.board.names x' names') (follows : BoardFollows w x' names' c.board.room c.board b) where
+  module _ (b : BoardState) (x' : Flown) (names' : Names) (took : TookFor x.operation x.group (vid_made_by a) c.board.names x' names') (follows : BoardFollows w x' names' c.board.room c.board b) where
     abbrev c' : CoreState
     c' = record c { board = b; sync = with_view c.sync view' }
 
@@ -138,7 +138,7 @@ module _ (c : CoreState) (chip : ChipState) (s : LoggedService) (is : IsSessionO
     on : (due_for c.board.plan names' x' ≡ [] → ⊥) → AnswersFor c s w c' chip'
     on some =
         let goes = follows.more some in
-        let y = (answers.answered c.board.plan is.plan c.sync.capacities c.board.names c.board.room (flown_at c.board) rid core its.stands w x there call (made_by a) (rid_at view') number ties begun told x' names' took).0 some in
+        let y = (answers.answered c.board.plan is.plan c.sync.capacities c.board.names c.board.room (flown_at c.board) rid core its.stands w x there call (vid_made_by a) (rid_at view') number ties begun told x' names' took).0 some in
         let flying = y.2.board.flying w x' (put_at w w (Some x') (flown_at c.board) refl) in
         step y.0 y.1
         (stands_on c.sync.capacities (rid_at view') (with y.0) b c.board.plan names' c.board.room (put w (Some x') (flown_at c.board)) follows.others.plan goes.names_are goes.room_is (flown_alike c.board b w (Some x') goes.flying follows.others.flights) y.2)
@@ -147,8 +147,8 @@ module _ (c : CoreState) (chip : ChipState) (s : LoggedService) (is : IsSessionO
     over : due_for c.board.plan names' x' ≡ [] → AnswersFor c s w c' chip'
     over empty =
         let ends = follows.over empty in
-        let kept = key_kept x.operation x.group (made_by a) c.board.names x' names' took in
-        let y = (answers.answered c.board.plan is.plan c.sync.capacities c.board.names c.board.room (flown_at c.board) rid core its.stands w x there call (made_by a) (rid_at view') number ties begun told x' names' took).1 b.room empty ends.room_is in
+        let kept = key_kept x.operation x.group (vid_made_by a) c.board.names x' names' took in
+        let y = (answers.answered c.board.plan is.plan c.sync.capacities c.board.names c.board.room (flown_at c.board) rid core its.stands w x there call (vid_made_by a) (rid_at view') number ties begun told x' names' took).1 b.room empty ends.room_is in
         let none = y.2.board.idle w (put_at w w None (flown_at c.board) refl) in
         step y.0 y.1
         (stands_on c.sync.capacities (rid_at view') (with y.0) b c.board.plan (ended_names names' w x'.operation.key (core.machine.board.applied x'.operation.key) x'.operation.new) b.room (put w None (flown_at c.board)) follows.others.plan
@@ -163,7 +163,7 @@ module _ (c : CoreState) (chip : ChipState) (s : LoggedService) (is : IsSessionO
         by [] e = over e
         by (e ∷ es) h = on (λ none. nothing_not e es (sym h ∙ none))
 
-  pub answer_step : (b : BoardState) → IsTakenFor c.board w (made_by a) b → AnswersFor c s w (record c { board = b; sync = with_view c.sync view' }) chip'
+  pub answer_step : (b : BoardState) → IsTakenFor c.board w (vid_made_by a) b → AnswersFor c s w (record c { board = b; sync = with_view c.sync view' }) chip'
   answer_step b taken = let y = taken x there in either b y.0 y.1 y.2 y.3
 
 -- as syncd tells it
@@ -171,8 +171,8 @@ module _ (c : CoreState) (chip : ChipState) (s : LoggedService) (is : IsSessionO
   calls_none : Calls c.sync None chip call a sync' chip'
   calls_none = subst (λ o. Calls c.sync o chip call a sync' chip') (is.working at).no_view calls
 
-  pub may_take : MayTakeFor x.operation x.group (made_by a) c.board.names
+  pub may_take : MayTakeFor x.operation x.group (vid_made_by a) c.board.names
   may_take = may c chip s is at w x there begun call told a went calls_none.0 chip' calls_none.2
 
-  pub answers_step : (b : BoardState) → IsTakenFor c.board w (made_by a) b → AnswersFor c s w (record c { board = b; sync = sync' }) chip'
+  pub answers_step : (b : BoardState) → IsTakenFor c.board w (vid_made_by a) b → AnswersFor c s w (record c { board = b; sync = sync' }) chip'
   answers_step b taken = subst (λ z. AnswersFor c s w (record c { board = b; sync = z }) chip') (sym calls_none.1) (answer_step c chip s is at w x there begun call told a went calls_none.0 chip' calls_none.2 b taken)

@@ -17,7 +17,7 @@ use Rattle.registry_laws.specs.Making.{IsNextCall}
 use Rattle.identifier_laws.specs.Identified.{tie_by}
 use Rattle.core_laws.specs.Standing.{HasBegun}
 use Rattle.asic_view.specs.View.{ViewObjects, rid_at}
-use Rattle.syncd_core.specs.Synced.{IsMade}
+use Rattle.syncd_core.specs.Synced.{IsMadeOnChip}
 use Rattle.restart_laws.specs.Logged.{LoggedService}
 use Rattle.flight_board.specs.Board.{flown_at}
 use Rattle.warm_state.specs.declared.warm.Warm.TheVariants as warm
@@ -55,7 +55,7 @@ module _ (c : CoreState) (chip : ChipState) (s : LoggedService) (is : IsSessionO
     pub legal_on : IsLegal chip.capacities chip.objects d
     legal_on = subst (λ o. IsLegal chip.capacities o d) is.objects (subst (λ l. IsLegal l s.service.core.objects d) (sym is.capacities) (legal c chip s is at w x there begun call told))
 
-    module _ (a : SyncAnswer) (view' : ViewObjects) (chip' : ChipState) (m : IsMade c.sync.view chip call a view' chip') where
+    module _ (a : SyncAnswer) (view' : ViewObjects) (chip' : ChipState) (m : IsMadeOnChip c.sync.view chip call a view' chip') where
       pub answered : IsAnswered chip d m.answer chip'
       answered = subst (λ g. IsAnswered chip (call_renamed g call) m.answer chip') (sym (ties_alike c.sync.view)) m.answered
 

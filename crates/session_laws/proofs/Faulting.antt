@@ -26,7 +26,7 @@ use Rattle.registry_laws.specs.Making.{IsNextCall}
 use Rattle.identifier_laws.specs.Identified.{tie_by}
 use Rattle.core_laws.specs.Standing.{HasBegun}
 use Rattle.asic_view.specs.View.{ViewObjects, rid_at}
-use Rattle.syncd_core.specs.Synced.{Calls, AnswerFollows, IsMade, SyncState, with_view}
+use Rattle.syncd_core.specs.Synced.{Calls, AnswerFollows, IsMadeOnChip, SyncState, with_view}
 use Rattle.restart_laws.specs.Logged.{LoggedService, OfService, mark_now}
 use Rattle.restart_laws.specs.Service.{HasFailed, OfFault, OfFlight}
 use Rattle.sync_tables.specs.Tables.{written_in}
@@ -68,7 +68,7 @@ pub data IsFaultLog (log : History) (mark : Mark) : History → Type 0 where
   Marked : IsFaultLog log mark (with_mark log mark)
   Ended : IsFaultLog log mark (with_end (with_mark log mark))
 
-module _ (c : CoreState) (chip : ChipState) (s : LoggedService) (is : IsSessionOf c chip s) (at : c.warm ≡ warm.Reconciled) (w : ℕ) (x : Flown) (there : flown_at c.board w ≡ Some x) (begun : HasBegun c.board.plan c.board.names x) (call : Call Vid) (told : IsNextCall c.board.plan c.board.names x.operation x.group call) (view' : ViewObjects) (chip' : ChipState) (m : IsMade c.sync.view chip call sync.Failed view' chip') where
+module _ (c : CoreState) (chip : ChipState) (s : LoggedService) (is : IsSessionOf c chip s) (at : c.warm ≡ warm.Reconciled) (w : ℕ) (x : Flown) (there : flown_at c.board w ≡ Some x) (begun : HasBegun c.board.plan c.board.names x) (call : Call Vid) (told : IsNextCall c.board.plan c.board.names x.operation x.group call) (view' : ViewObjects) (chip' : ChipState) (m : IsMadeOnChip c.sync.view chip call sync.Failed view' chip') where
   abbrev d : Call Rid
   d = call_renamed (tie_by (rid_at c.sync.view)) call
 

@@ -16,12 +16,12 @@ use Rattle.switch_machine.specs.Events.{IsTake, SwitchState}
 use Rattle.switch_machine.specs.Written.{HasNoWrite, TakesWrite, Written, fields_after}
 use Rattle.machine_laws.specs.Reading.{IsOnSwitch}
 use Rattle.machine_laws.proofs.Staying.{map-more}
-use Rattle.producer_table.specs.Pending.{AreInOrder}
+use Rattle.producer_table.specs.Pending.{ArePendingInOrder}
 use Rattle.restart_laws.specs.Logged.{LoggedService, OfService}
 use Rattle.restart_laws.specs.Service.{OfTake}
 use Rattle.asic_view.specs.View.{rid_at}
 use Rattle.core_laws.proofs.Empty.{stands_taken}
-use Rattle.sync_tables.specs.Tables.{with_write as waiting_write, written_in}
+use Rattle.sync_tables.specs.Tables.{tables_with_write, written_in}
 use Rattle.sync_tables.proofs.Waits.{takes_write}
 use Rattle.flight_board.specs.Board.{flown_at}
 use Rattle.session_laws.specs.Core.{CoreState, with_taken}
@@ -33,9 +33,9 @@ pub other_key : (w : Write) (k : Key) (o : Option Pairs) → is_at (key_cmp k) (
 other_key (Set key fields) k o apart = ap (λ b. cond b (Some (merged (unwrap_or o []) fields)) o) apart
 other_key (Del key) k o apart = ap (λ b. cond b None o) apart
 
-module _ (c : CoreState) (chip : ChipState) (s : LoggedService) (sent : Sent) (is : IsSessionOf c chip s) (on : IsOnSwitch (written_key sent.write)) (order : AreInOrder c.tables.waiting) where
+module _ (c : CoreState) (chip : ChipState) (s : LoggedService) (sent : Sent) (is : IsSessionOf c chip s) (on : IsOnSwitch (written_key sent.write)) (order : ArePendingInOrder c.tables.waiting) where
   abbrev after : Written
-  after = written_in (sent_writes c.log.taken ++ sent.write ∷ []) (waiting_write c.tables sent.write)
+  after = written_in (sent_writes c.log.taken ++ sent.write ∷ []) (tables_with_write c.tables sent.write)
 
   abbrev core : SwitchState
   core = record { machine = s.service.core.machine; written = after; to_sync = s.service.core.to_sync; made = s.service.core.made; objects = s.service.core.objects }
@@ -75,7 +75,7 @@ module _ (c : CoreState) (chip : ChipState) (s : LoggedService) (sent : Sent) (i
       capacities = is.capacities;
       clean = is.clean;
       warm_is = is.warm_is;
-      written = ap (λ l. written_in l (waiting_write c.tables sent.write)) (sym (map-more c.log.taken sent));
+      written = ap (λ l. written_in l (tables_with_write c.tables sent.write)) (sym (map-more c.log.taken sent));
       to_sync = is.to_sync;
       objects = is.objects;
       made = is.made;

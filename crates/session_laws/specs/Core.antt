@@ -10,7 +10,7 @@ use Rattle.switch_model.specs.History.{History, no_history, size_listing, with_w
 use Rattle.switch_model.specs.declared.mark.Mark.{Mark}
 use Rattle.switch_model.specs.declared.mark.MarkEvent.{MarkEvent}
 use Rattle.retry_list.specs.Reasons.{Reasons}
-use Rattle.sync_tables.specs.Tables.{TablesState, no_tables, with_write as waiting_write}
+use Rattle.sync_tables.specs.Tables.{TablesState, no_tables, tables_with_write}
 use Rattle.syncd_core.specs.Synced.{SyncState, new_state}
 use Rattle.flight_board.specs.Board.{BoardState, new_board}
 use Rattle.warm_state.specs.declared.warm.Warm.{Warm}
@@ -44,7 +44,7 @@ IsFullFor c effects need = c.limit < size_beside c effects + need
 
 -- a write is taken
 abbrev pub with_taken : CoreState → Sent → CoreState
-with_taken c sent = record c { tables = waiting_write c.tables sent.write; log = with_write c.log sent }
+with_taken c sent = record c { tables = tables_with_write c.tables sent.write; log = with_write c.log sent }
 
 -- a mark of this moment
 abbrev pub mark_at : CoreState → ℕ → MarkEvent → Mark

@@ -41,9 +41,9 @@ pub record MakesSome (c : CoreState) (s : LoggedService) (c' : CoreState) (chip'
   pub limit : c'.limit ≡ c.limit
 
 -- the identifier of what a call made
-abbrev pub made_by : SyncAnswer → Option Vid
-made_by (sync.Made v) = Some v
-made_by _ = None
+abbrev pub vid_made_by : SyncAnswer → Option Vid
+vid_made_by (sync.Made v) = Some v
+vid_made_by _ = None
 
 -- each listed key has a true reason and its applied row
 abbrev pub HaveReasons : CoreState → SwitchState → Waiting → Type 0

@@ -18,12 +18,12 @@ ghost use Rattle.switch_model.specs.Marks as marks;
 ghost use Rattle.switch_model.specs.declared.wait.Wait.{Wait};
 ghost use Rattle.switch_model.specs.declared.wait.Wait.TheVariants as wait;
 ghost use Rattle.switch_model.specs.declared.mark.MarkEvent.TheVariants as event;
-ghost use Rattle.producer_table.specs.Pending.{AreInOrder};
+ghost use Rattle.producer_table.specs.Pending.{ArePendingInOrder};
 ghost use Rattle.consumer_table.specs.Ops.{AreOpsInOrder, without_op};
 ghost use Rattle.switch_machine.specs.Events.{IsAnswer, IsBegin, IsDrop, IsPop};
 ghost use Rattle.switch_machine.specs.Next.{IsIdle, MustWait};
 ghost use Rattle.switch_machine.specs.Reasons.{IsReason};
-ghost use Rattle.ref_counts.specs.Room.{number_of};
+ghost use Rattle.ref_counts.specs.Room.{number_of_kind};
 ghost use Rattle.orch_flight.specs.Sharing.{MayStart};
 ghost use Rattle.registry_laws.specs.Registers.{AreUsed};
 ghost use Rattle.asic_view.specs.View.{used_of};
@@ -40,7 +40,7 @@ ghost use Rattle.flight_board.specs.Applied.{row_at};
 ghost use Rattle.flight_board.specs.Board.{BoardState, IsBegunFor, IsFlownAt, IsPrepared, IsCallReady, IsTakenFor, IsUnflown, flown_at};
 ghost use Rattle.warm_state.specs.declared.warm.Warm.TheVariants as warm;
 ghost use Rattle.session_laws.specs.Core.{CoreState, good_in, mark_at, new_core, size_beside, with_taken};
-ghost use Rattle.session_laws.specs.Events.{HaveReasons, IsMachineStep, MakesOne, MakesSome, made_by};
+ghost use Rattle.session_laws.specs.Events.{HaveReasons, IsMachineStep, MakesOne, MakesSome, vid_made_by};
 ghost use Rattle.session_laws.specs.Standing.{IsSessionOf};
 
 /// A new core over a chip on which nothing stands begins a session.
@@ -50,7 +50,7 @@ pub fn new_cores_stand()
 
 /// A write of a key that a text is is a step when it waits in the tables and is logged, in any warm state.
 pub fn writes_are_steps()
-    ensures { (c : CoreState) (chip : ChipState) (s : LoggedService) (sent : Sent) → IsSessionOf c chip s → IsOnSwitch (written_key sent.write) → AreInOrder c.tables.waiting → MakesOne c s (with_taken c sent) chip }
+    ensures { (c : CoreState) (chip : ChipState) (s : LoggedService) (sent : Sent) → IsSessionOf c chip s → IsOnSwitch (written_key sent.write) → ArePendingInOrder c.tables.waiting → MakesOne c s (with_taken c sent) chip }
 {}
 
 /// A pop is a step; where a key is popped the step is that of a worker that has nothing under way.
@@ -72,8 +72,8 @@ pub fn calls_can_be_made()
 
 /// The answer of a call that did not fail may be taken, and then it is a step, an Answer of the machine for the worker.
 pub fn answers_are_steps()
-    ensures may { (c : CoreState) (chip : ChipState) (s : LoggedService) (w : ℕ) (x : Flown) (call : Call Vid) (a : SyncAnswer) (sync' : SyncState) (chip' : ChipState) → IsSessionOf c chip s → c.warm ≡ warm.Reconciled → flown_at c.board w ≡ Some x → HasBegun c.board.plan c.board.names x → IsNextCall c.board.plan c.board.names x.operation x.group call → (a ≡ sync.Failed → ⊥) → Calls c.sync c.sync.temporary chip call a sync' chip' → MayTakeFor x.operation x.group (made_by a) c.board.names }
-    ensures makes { (c : CoreState) (chip : ChipState) (s : LoggedService) (w : ℕ) (x : Flown) (call : Call Vid) (a : SyncAnswer) (sync' : SyncState) (chip' : ChipState) (b : BoardState) → IsSessionOf c chip s → c.warm ≡ warm.Reconciled → flown_at c.board w ≡ Some x → HasBegun c.board.plan c.board.names x → IsNextCall c.board.plan c.board.names x.operation x.group call → (a ≡ sync.Failed → ⊥) → Calls c.sync c.sync.temporary chip call a sync' chip' → IsTakenFor c.board w (made_by a) b → (y : MakesOne c s (record c { board = b; sync = sync' }) chip') × (e : Call Rid) × (z : IsAnswer c.board.plan 4 e s.service.core y.later.service.core) × (z.next.worker ≡ w) × IsMachineStep s (Some e) y.later }
+    ensures may { (c : CoreState) (chip : ChipState) (s : LoggedService) (w : ℕ) (x : Flown) (call : Call Vid) (a : SyncAnswer) (sync' : SyncState) (chip' : ChipState) → IsSessionOf c chip s → c.warm ≡ warm.Reconciled → flown_at c.board w ≡ Some x → HasBegun c.board.plan c.board.names x → IsNextCall c.board.plan c.board.names x.operation x.group call → (a ≡ sync.Failed → ⊥) → Calls c.sync c.sync.temporary chip call a sync' chip' → MayTakeFor x.operation x.group (vid_made_by a) c.board.names }
+    ensures makes { (c : CoreState) (chip : ChipState) (s : LoggedService) (w : ℕ) (x : Flown) (call : Call Vid) (a : SyncAnswer) (sync' : SyncState) (chip' : ChipState) (b : BoardState) → IsSessionOf c chip s → c.warm ≡ warm.Reconciled → flown_at c.board w ≡ Some x → HasBegun c.board.plan c.board.names x → IsNextCall c.board.plan c.board.names x.operation x.group call → (a ≡ sync.Failed → ⊥) → Calls c.sync c.sync.temporary chip call a sync' chip' → IsTakenFor c.board w (vid_made_by a) b → (y : MakesOne c s (record c { board = b; sync = sync' }) chip') × (e : Call Rid) × (z : IsAnswer c.board.plan 4 e s.service.core y.later.service.core) × (z.next.worker ≡ w) × IsMachineStep s (Some e) y.later }
 {}
 
 /// A call of a worker that failed, without effect or with it, is a fault with its mark, after which the service is suspect; in a settling
@@ -96,7 +96,7 @@ pub fn keys_are_tried()
     ensures begins { (c : CoreState) (chip : ChipState) (s : LoggedService) (w : ℕ) (k : Key) (used : List ℕ) (x : Unit {0}) (b : BoardState) → IsSessionOf c chip s → c.warm ≡ warm.Reconciled → AreOpsInOrder c.tables.ops → IsToSync c.tables k → w < 4 → flown_at c.board w ≡ None → (IsUnflown c.board k → row_at c.board.applied k ≡ good_in c k → ⊥) → AreUsed s.service.core.objects used → IsBegunFor c.board used w k (good_in c k) (Ok x) b → (x : MakesOne c s (record c { board = b; tables = record c.tables { ops = without_op c.tables.ops k } }) chip) × (y : IsBegin c.board.plan 4 c.sync.capacities s.service.core x.later.service.core) × (y.worker ≡ w) × (y.flight.key ≡ k) × IsMachineStep s None x.later }
     ensures waits { (c : CoreState) (chip : ChipState) (s : LoggedService) (w : ℕ) (k : Key) (used : List ℕ) (r : Wait) (b : BoardState) → IsSessionOf c chip s → c.warm ≡ warm.Reconciled → IsToSync c.tables k → w < 4 → flown_at c.board w ≡ None → (IsUnflown c.board k → row_at c.board.applied k ≡ good_in c k → ⊥) → AreUsed s.service.core.objects used → IsBegunFor c.board used w k (good_in c k) (Err r) b → IsSessionOf (record c { board = b }) chip s × IsReason c.board.plan 4 c.sync.capacities s.service.core k r }
     ensures busy { (c : CoreState) (chip : ChipState) (s : LoggedService) (k : Key) (v : ℕ) → IsSessionOf c chip s → c.warm ≡ warm.Reconciled → IsFlownAt c.board k v → IsReason c.board.plan 4 c.sync.capacities s.service.core k (wait.Busy v) }
-    ensures counts { (c : CoreState) (chip : ChipState) (s : LoggedService) (numbers : List ℕ) → IsSessionOf c chip s → c.warm ≡ warm.Reconciled → ((kind : Kind) → number_of numbers kind ≡ used_of (current c.sync) kind) → AreUsed s.service.core.objects numbers }
+    ensures counts { (c : CoreState) (chip : ChipState) (s : LoggedService) (numbers : List ℕ) → IsSessionOf c chip s → c.warm ≡ warm.Reconciled → ((kind : Kind) → number_of_kind numbers kind ≡ used_of (current c.sync) kind) → AreUsed s.service.core.objects numbers }
 {}
 
 /// Where nothing waits in the tables, no worker has anything under way, and each key to sync is listed with a true reason and its applied

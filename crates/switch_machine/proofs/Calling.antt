@@ -23,7 +23,7 @@ use Rattle.sai_types.specs.Objects.{Objects}
 use Rattle.sai_types.specs.Refusal.{IsLegal}
 use Rattle.switch_model.specs.Things.{base_of, lane_of, members_of}
 use Rattle.chip_layout.specs.Bodies.{IsAt, IsChange, to_with, goal_name}
-use Rattle.chip_layout.specs.Layout.{Has, HasRoom, IsFree, IsLaidOut, IsUnused, Layout, has_number, listed, next_id, with_changed, with_thing, without}
+use Rattle.chip_layout.specs.Layout.{Has, HasRoom, IsFree, IsLaidOut, IsUnused, Layout, has_number, listed, next_rid, with_changed, with_thing, without}
 use Rattle.sai_types.specs.Names as name
 use Rattle.sai_types.specs.Names.{Meet, ThingName, Refers, ShareLane, name_of}
 use Rattle.chip_layout.proofs.Bodies.{first-refers}
@@ -175,7 +175,7 @@ module _ (plan : Ports) (is : IsPlan plan) (tables : TableLaws plan) (m : Machin
   pub make-is_legal : (t : Thing) (c : Call Rid) (capacities : List ℕ) → CanMake plan f (StandsIn m) t → IsMakeCall L t c → HasRoom capacities objects t → IsLegal capacities objects c
   make-is_legal t c capacities can x room = subst (IsLegal capacities objects) (sym x.is) (make-legal L made objects whole laid t x.body x.of (free t can) capacities (reaches t can.final can.near) room)
 
-  pub make-is_laid : (t : Thing) (c : Call Rid) (i : Rid) → CanMake plan f (StandsIn m) t → IsMakeCall L t c → (has_number t ≡ true → i ≡ next_id made) → IsLaidOut (with_thing L i t) (after_call (made + 1) objects c)
+  pub make-is_laid : (t : Thing) (c : Call Rid) (i : Rid) → CanMake plan f (StandsIn m) t → IsMakeCall L t c → (has_number t ≡ true → i ≡ next_rid made) → IsLaidOut (with_thing L i t) (after_call (made + 1) objects c)
   make-is_laid t c i can x number = subst (λ z. IsLaidOut (with_thing L i t) (after_call (made + 1) objects z)) (sym x.is) (make-laid L made objects whole laid t x.body x.of (free t can) i number)
 
   pub make-has_call : (t : Thing) → CanMake plan f (StandsIn m) t → (c : Call Rid) × IsMakeCall L t c

@@ -14,7 +14,7 @@ use Rattle.sai_types.specs.Named.{first_lane}
 use Rattle.switch_model.specs.Things.{lane_of}
 use Rattle.sai_types.specs.Names.{ThingName, Refers, name_of}
 use Rattle.row_layout.specs.Rows.{Owner, OfRow, from, own_things}
-use Rattle.row_layout.specs.Operations.{Change, own_sets, port_with, set_all, set_to}
+use Rattle.row_layout.specs.Operations.{Change, own_sets, thing_of_port, set_all, set_to}
 use Rattle.row_layout.proofs.Changing.{set_same}
 use Rattle.switch_machine.specs.Changes.{IsSettable}
 use Rattle.switch_machine.specs.Flights.{Fits, MachineFlight, HasName, IsOwnedBy, Runs}
@@ -82,23 +82,23 @@ module _ (plan : Ports) (is : IsPlan plan) (p : ℕ) (a r : PortRow) (leaves : O
   same : a.lanes ≡ r.lanes
   same = let lanes : Some a.lanes ≡ Some r.lanes = sym fita ∙ fit in cc
 
-  first_own : own_things plan (key.Port p) (row.Port a) ≡ port_with a.lanes a.speed a.mtu a.up ∷ []
-  first_own = ap (λ o. from o (λ lane. port_with a.lanes a.speed a.mtu a.up ∷ [])) at
+  first_own : own_things plan (key.Port p) (row.Port a) ≡ thing_of_port a.lanes a.speed a.mtu a.up ∷ []
+  first_own = ap (λ o. from o (λ lane. thing_of_port a.lanes a.speed a.mtu a.up ∷ [])) at
 
-  last_own : own_things plan (key.Port p) (row.Port r) ≡ port_with a.lanes r.speed r.mtu r.up ∷ []
-  last_own = ap (λ o. from o (λ lane. port_with r.lanes r.speed r.mtu r.up ∷ [])) at ∙ ap (λ l. port_with l r.speed r.mtu r.up ∷ []) (sym same)
+  last_own : own_things plan (key.Port p) (row.Port r) ≡ thing_of_port a.lanes r.speed r.mtu r.up ∷ []
+  last_own = ap (λ o. from o (λ lane. thing_of_port r.lanes r.speed r.mtu r.up ∷ [])) at ∙ ap (λ l. thing_of_port l r.speed r.mtu r.up ∷ []) (sym same)
 
-  final : IsIn (port_with r.lanes r.speed r.mtu r.up) (own_things plan (key.Port p) (row.Port r))
-  final = subst (λ o. IsIn (port_with r.lanes r.speed r.mtu r.up) (from o (λ lane. port_with r.lanes r.speed r.mtu r.up ∷ []))) (sym at) (inl refl)
+  final : IsIn (thing_of_port r.lanes r.speed r.mtu r.up) (own_things plan (key.Port p) (row.Port r))
+  final = subst (λ o. IsIn (thing_of_port r.lanes r.speed r.mtu r.up) (from o (λ lane. thing_of_port r.lanes r.speed r.mtu r.up ∷ []))) (sym at) (inl refl)
 
-  of : IsOwnedBy plan (name_of (port_with a.lanes a.speed a.mtu a.up)) (OfRow (key.Port p))
-  of = (tabled plan is).own (key.Port p) (row.Port a) (port_with a.lanes a.speed a.mtu a.up) fita (subst (IsIn (port_with a.lanes a.speed a.mtu a.up)) (sym first_own) (inl refl))
+  of : IsOwnedBy plan (name_of (thing_of_port a.lanes a.speed a.mtu a.up)) (OfRow (key.Port p))
+  of = (tabled plan is).own (key.Port p) (row.Port a) (thing_of_port a.lanes a.speed a.mtu a.up) fita (subst (IsIn (thing_of_port a.lanes a.speed a.mtu a.up)) (sym first_own) (inl refl))
 
   -- one of a port's values is set
-  port_step : (s m s' m' : ℕ) (u u' : Bool) (rest : List Change) (V : Thing → Type 0) → PortIsReady (port_with a.lanes s m u ∷ []) V → IsSettable (port_with a.lanes s m u) (port_with a.lanes s' m' u') → ((W : Thing → Type 0) → PortIsReady (port_with a.lanes s' m' u' ∷ []) W → Runs plan port_f W rest) → Runs plan port_f V (set_to (port_with a.lanes s m u) (port_with a.lanes s' m' u') rest)
+  port_step : (s m s' m' : ℕ) (u u' : Bool) (rest : List Change) (V : Thing → Type 0) → PortIsReady (thing_of_port a.lanes s m u ∷ []) V → IsSettable (thing_of_port a.lanes s m u) (thing_of_port a.lanes s' m' u') → ((W : Thing → Type 0) → PortIsReady (thing_of_port a.lanes s' m' u' ∷ []) W → Runs plan port_f W rest) → Runs plan port_f V (set_to (thing_of_port a.lanes s m u) (thing_of_port a.lanes s' m' u') rest)
   port_step s m s' m' u u' rest V ready settable next =
-      step plan (tabled plan is) port_f port_fits (ordered plan is) refl (port_with a.lanes s m u) (port_with a.lanes s' m' u') [] rest V ready
-      of settable (λ y h e. elim h [ ]) (port_with r.lanes r.speed r.mtu r.up) final (record { same = inr same; refers = λ n h. elim h [ ] })
+      step plan (tabled plan is) port_f port_fits (ordered plan is) refl (thing_of_port a.lanes s m u) (thing_of_port a.lanes s' m' u') [] rest V ready
+      of settable (λ y h e. elim h [ ]) (thing_of_port r.lanes r.speed r.mtu r.up) final (record { same = inr same; refers = λ n h. elim h [ ] })
       (λ W shared n refers c. port_refers_none (record { lanes = a.lanes; speed = s'; mtu = m'; up = u' }) n refers) next
 
   port_runs : (V : Thing → Type 0) → PortIsReady (own_things plan (key.Port p) (row.Port a)) V → Runs plan port_f V (own_sets plan (key.Port p) (row.Port a) (row.Port r))

@@ -166,11 +166,11 @@ length_append [] ys = omega arith
 length_append (x ∷ xs) ys = let rest = length_append xs ys in omega (arith, rest)
 
 -- the two words for names of which no two are equal
-pub counted_distinct : (ns : List ThingName) → marks.AreDistinct ns → AreDistinct ns
+pub counted_distinct : (ns : List ThingName) → marks.AreDistinctNames ns → AreDistinct ns
 counted_distinct [] d = tt
 counted_distinct (n ∷ ns) d = (d.0, counted_distinct ns d.1)
 
-pub marked_distinct : (ns : List ThingName) → AreDistinct ns → marks.AreDistinct ns
+pub marked_distinct : (ns : List ThingName) → AreDistinct ns → marks.AreDistinctNames ns
 marked_distinct [] d = tt
 marked_distinct (n ∷ ns) d = (d.0, marked_distinct ns d.1)
 

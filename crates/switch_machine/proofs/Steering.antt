@@ -19,7 +19,7 @@ use Rattle.sai_types.specs.declared.thing.Thing.{Thing}
 use Rattle.sai_types.specs.declared.thing.Thing.TheVariants as thing
 use Rattle.sai_types.specs.Alike.{IsIn}
 use Rattle.sai_types.specs.Decided.{AreRoutes}
-use Rattle.sai_types.specs.Forwarding.{Decision, decide, forward, forwarding_of, mac_of}
+use Rattle.sai_types.specs.Forwarding.{Decision, decide, forward, forwarding_of, hop_mac}
 use Rattle.sai_types.specs.Forwarding as decision
 use Rattle.sai_types.specs.Names as name
 use Rattle.sai_types.specs.Names.{ThingName, name_of}
@@ -46,14 +46,14 @@ use Rattle.switch_machine.proofs.Tabled.{tabled}
 
 -- ---- what a decision rests on
 
-mac_from : (ts : List Thing) (hop : Hop) (m : Mac) → mac_of ts hop ≡ Some m → IsIn (thing.Neighbor hop m) ts
+mac_from : (ts : List Thing) (hop : Hop) (m : Mac) → hop_mac ts hop ≡ Some m → IsIn (thing.Neighbor hop m) ts
 mac_from [] hop m h = absurd cc
 mac_from (t ∷ ts) hop m h = by (front t ts hop) (λ g. mac_from ts hop m g)
   where
     one_mac : (x y : Mac) → Some x ≡ Some y → x ≡ y
     one_mac x y e = cc
 
-    by : IsFront t ts hop → (mac_of ts hop ≡ Some m → IsIn (thing.Neighbor hop m) ts) → IsIn (thing.Neighbor hop m) (t ∷ ts)
+    by : IsFront t ts hop → (hop_mac ts hop ≡ Some m → IsIn (thing.Neighbor hop m) ts) → IsIn (thing.Neighbor hop m) (t ∷ ts)
     by (inl (n, is, at)) rest = inl (ap (thing.Neighbor hop) (one_mac m n (sym h ∙ at)) ∙ sym is)
     by (inr (same, none)) rest = inr (rest (sym same ∙ h))
 
@@ -69,10 +69,10 @@ module _ (ts us : List Thing) (a : Ip) (routes : AreRoutes us) (macs : HaveOneMa
     routes_back = λ p g covering. same.back (thing.Route p g) covering;
   })
 
-  mac_same : (hop : Hop) → mac_of ts hop ≡ mac_of us hop
-  mac_same hop = by (mac_of ts hop) refl (mac_of us hop) refl
+  mac_same : (hop : Hop) → hop_mac ts hop ≡ hop_mac us hop
+  mac_same hop = by (hop_mac ts hop) refl (hop_mac us hop) refl
     where
-      by : (o : Option Mac) → mac_of ts hop ≡ o → (p : Option Mac) → mac_of us hop ≡ p → o ≡ p
+      by : (o : Option Mac) → hop_mac ts hop ≡ o → (p : Option Mac) → hop_mac us hop ≡ p → o ≡ p
       by None e None h = refl
       by (Some m) e p h =
           let there = same.into (thing.Neighbor hop m) tt (mac_from ts hop m e) in
@@ -82,7 +82,7 @@ module _ (ts us : List Thing) (a : Ip) (routes : AreRoutes us) (macs : HaveOneMa
           sym e ∙ mac_in ts hop n here (λ m g. macs hop m n (same.into (thing.Neighbor hop m) tt g) (mac_from us hop n h))
 
   abbrev with_mac : List Thing → Hop → Hop × Option Mac
-  with_mac xs h = (h, mac_of xs h)
+  with_mac xs h = (h, hop_mac xs h)
 
   hops_same : (hops : List Hop) → map (with_mac ts) hops ≡ map (with_mac us) hops
   hops_same [] = refl

@@ -27,7 +27,7 @@ use Rattle.sai_types.specs.Names as name
 use Rattle.sai_types.specs.Names.{ThingName, Refers, base_name, name_of}
 use Rattle.switch_model.specs.Things.{base_of, hops_of, lane_of, members_of}
 use Rattle.row_layout.specs.Rows as owner
-use Rattle.row_layout.specs.Rows.{IsPlanned, Owner, from, goal_by, goal_of, own_things}
+use Rattle.row_layout.specs.Rows.{IsPlanned, Owner, from, goal_to, goal_of, own_things}
 use Rattle.row_layout.specs.Shared.{address_uses, group_by, shared_things, uses}
 use Rattle.row_layout.proofs.Members.{from_in, in_map, only, two}
 use Rattle.row_layout.proofs.Naming.{hop_from}
@@ -161,7 +161,7 @@ module _ (plan : Ports) (is : IsPlan plan) where
   abbrev RouteLeads : Prefix → RouteRow → Goal → Type 0
   RouteLeads prefix r g = LeadAll (key.Route prefix) (row.Route r) (thing.Route prefix g)
 
-  goal_leads : (prefix : Prefix) (hops : List RowHop) (o : Option (List Hop)) (g : Goal) → hops_of plan hops ≡ o → goal_by o ≡ Some g → RouteLeads prefix (route.Hops hops) g
+  goal_leads : (prefix : Prefix) (hops : List RowHop) (o : Option (List Hop)) (g : Goal) → hops_of plan hops ≡ o → goal_to o ≡ Some g → RouteLeads prefix (route.Hops hops) g
   goal_leads prefix hops None g at e = absurd cc
   goal_leads prefix hops (Some []) g at e = absurd cc
   goal_leads prefix hops (Some (hop ∷ [])) g at e =

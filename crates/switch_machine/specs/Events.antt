@@ -12,7 +12,7 @@ use Rattle.sai_types.specs.Made.{IsWhole, made_after}
 use Rattle.sai_types.specs.Objects.{Objects}
 use Rattle.table_schema.specs.declared.write.Write.{Write}
 use Rattle.switch_machine.specs.Written.{HasNoWrite, HasWrittenRows, IsAsBefore, IsGoodOnce, IsPoppedKey, IsTold, TakesWrite, Written, good_of}
-use Rattle.chip_layout.specs.Layout.{IsLaidOut, Layout, has_number, listed, next_id}
+use Rattle.chip_layout.specs.Layout.{IsLaidOut, Layout, has_number, listed, next_rid}
 use Rattle.row_layout.specs.Rows.{Owner}
 use Rattle.row_layout.specs.Operations.{Change, Make, Set, Take, shared_going, take_all}
 use Rattle.switch_machine.specs.Changes.{IsCall, changed_by}
@@ -97,7 +97,7 @@ pub record IsBegin (plan : Ports) (workers : ℕ) (capacities : List ℕ) (s t :
 
 -- the identifier of what a call makes or sets
 abbrev pub IsGiven : (layout : Layout Rid) → ℕ → (c : Change) (call : Call Rid) → IsCall layout c call → Rid → Type 0
-IsGiven layout made (Make t) call x i = has_number t ≡ true → i ≡ next_id made
+IsGiven layout made (Make t) call x i = has_number t ≡ true → i ≡ next_rid made
 IsGiven layout made (Set t) call x i = i ≡ x.id
 IsGiven layout made (Take n) call x i = Unit {0}
 

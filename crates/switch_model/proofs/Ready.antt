@@ -2,9 +2,9 @@
 use Rattle.std.proofs.Common.{◌≡◌, ℕ, zero, suc, ◌<◌, ◌≤◌, true, ◌&&◌, if◌then◌else◌, List, [], ◌∷◌, map, Option, None, Some, refl, ap, ◌∙◌, subst, arith}
 use Rattle.std.proofs.lemmas.Bool.{and_from, and_parts}
 use Rattle.std.specs.Option.{is_some}
+use Rattle.std.proofs.lemmas.Option.{cond_some}
 use Rattle.swss_types.specs.declared.interface.IfName.{IfName}
 use Rattle.swss_types.specs.declared.interface.IfName.TheVariants as name
-use Rattle.swss_types.proofs.Choices.{chosen}
 use Rattle.table_schema.specs.Names.{names_of, base_names, route_names, names_of_route}
 use Rattle.table_schema.specs.declared.key.Key.{Key}
 use Rattle.table_schema.specs.declared.key.Key.TheVariants as key
@@ -32,7 +32,7 @@ have_rows-more f g up (k ∷ ks) h =
 where_named-more : (f g : TypedRows) (k : Key) (o : Option Row) (r : Row) → ((k : Key) (r : Row) → f k ≡ Some r → g k ≡ Some r) → where_named f k o ≡ Some r → where_named g k o ≡ Some r
 where_named-more f g k None r up h = cc
 where_named-more f g k (Some s) r up h =
-    let c = chosen (have_rows f (names_of k s)) s r h in
+    let c = cond_some (have_rows f (names_of k s)) s r h in
     rw (have_rows-more f g up (names_of k s) c.0) (ap Some c.1)
 
 -- a level more keeps what was ready
@@ -43,7 +43,7 @@ ready_below-more (suc n) rows k r h = where_named-more (ready_below n rows) (rea
 names_have_rows : (f : TypedRows) (k : Key) (o : Option Row) (r : Row) → where_named f k o ≡ Some r → have_rows f (names_of k r) ≡ true
 names_have_rows f k None r h = cc
 names_have_rows f k (Some s) r h =
-    let c = chosen (have_rows f (names_of k s)) s r h in
+    let c = cond_some (have_rows f (names_of k s)) s r h in
     subst (λ x. have_rows f (names_of k x) ≡ true) c.1 c.0
 
 -- what a ready row names is ready
@@ -52,7 +52,7 @@ IsClosed-ready rows k r h = have_rows-more (ready_below 3 rows) (ready_below 4 r
 
 where_named_there : (f : TypedRows) (k : Key) (o : Option Row) (r : Row) → where_named f k o ≡ Some r → o ≡ Some r
 where_named_there f k None r h = cc
-where_named_there f k (Some s) r h = ap Some ((chosen (have_rows f (names_of k s)) s r h).1)
+where_named_there f k (Some s) r h = ap Some ((cond_some (have_rows f (names_of k s)) s r h).1)
 
 -- a ready row is there
 pub ready-there : (rows : TypedRows) (k : Key) (r : Row) → ready_rows rows k ≡ Some r → rows k ≡ Some r

@@ -25,8 +25,8 @@ use Rattle.sai_types.specs.Forwarding.{decide, forward}
 use Rattle.sai_types.specs.Objects.{level, used}
 use Rattle.sai_types.specs.Refusal.{capacity_of}
 use Rattle.switch_model.specs.Desired.{desired_view}
-use Rattle.switch_model.specs.Marks.{AreDistinct}
-use Rattle.switch_model.specs.Room.{AreKeysOf, FitsTogether, HasRoom, IsLacking}
+use Rattle.switch_model.specs.Marks.{AreDistinctNames}
+use Rattle.switch_model.specs.Room.{AreKeysOf, FitsTogether, HasRoomForView, IsLacking}
 use Rattle.switch_model.specs.Steady.{IsSteady, things_after}
 use Rattle.switch_model.specs.Things.{things_of}
 use Rattle.table_schema.specs.Rows.{rows_of}
@@ -53,7 +53,7 @@ without {X} x (y ∷ ys) (inr h) =
         other (inr h) = inr (inr h)
 
 -- no more distinct names than there are in a list that has them all
-few-distinct : (ks all : List ThingName) → AreDistinct ks → ((k : ThingName) → IsIn k ks → IsIn k all) → length ks ≤ length all
+few-distinct : (ks all : List ThingName) → AreDistinctNames ks → ((k : ThingName) → IsIn k ks → IsIn k all) → length ks ≤ length all
 few-distinct [] all apart within = omega arith
 few-distinct (k ∷ ks) all (new, apart) within =
     let less = without k all (within k (inl refl)) in
@@ -96,7 +96,7 @@ two-fit kind.Group = two-le 510
 two-fit kind.GroupMember = two-le 16382
 two-fit kind.Route = two-le 65534
 
-first_has_room : HasRoom room (desired_view wide_plan (rows_of first_writes))
+first_has_room : HasRoomForView room (desired_view wide_plan (rows_of first_writes))
 first_has_room kind keys are =
     let few = two-at_most (desired_view wide_plan (rows_of first_writes)) first_port first_interface (λ t h. (first_view t).0 h) kind keys are in
     omega (arith, few, two-fit kind)
@@ -105,7 +105,7 @@ first_has_room kind keys are =
 abbrev no_room : List ℕ
 no_room = map (λ n. 0) room
 
-first_lacks_room : HasRoom no_room (desired_view wide_plan (rows_of first_writes)) → ⊥
+first_lacks_room : HasRoomForView no_room (desired_view wide_plan (rows_of first_writes)) → ⊥
 first_lacks_room fits =
     let one : length (name_of first_port ∷ []) ≤ 0 = fits kind.Port (name_of first_port ∷ []) (record { distinct = (λ h. h, tt); things = λ k there. found k there }) in
     absurd (omega (arith, one))

@@ -43,14 +43,14 @@ first_missing rows [] = None
 first_missing rows (key ∷ keys) = if is_some (rows key) then first_missing rows keys else Some key
 
 -- names of which no two are equal
-abbrev pub AreDistinct : List ThingName → Type 0
-AreDistinct [] = Unit {0}
-AreDistinct (k ∷ ks) = (¬ (IsIn k ks)) × AreDistinct ks
+abbrev pub AreDistinctNames : List ThingName → Type 0
+AreDistinctNames [] = Unit {0}
+AreDistinctNames (k ∷ ks) = (¬ (IsIn k ks)) × AreDistinctNames ks
 
 -- the applied things of a kind and those of this row are more than there is room for
 pub record Overflows (plan : Ports) (capacities : List ℕ) (applied : TypedRows) (key : Key) (row : Row) (kind : Kind) : Type 0 where
   pub keys : List ThingName
-  pub distinct : AreDistinct keys
+  pub distinct : AreDistinctNames keys
   pub things : (k : ThingName) → IsIn k keys → (t : Thing) × (name_of t ≡ k) × (level (thing_kind t) ≡ level kind) × (IsThingOf plan applied t ⊎ IsIn t (things_of plan key row))
   pub many : capacity_of capacities kind < length keys
 

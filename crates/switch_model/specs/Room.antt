@@ -11,17 +11,17 @@ use Rattle.sai_types.specs.Objects.{Objects, level, used}
 use Rattle.sai_types.specs.Refusal.{capacity_of}
 use Rattle.switch_model.specs.Desired.{IsThingOf}
 use Rattle.switch_model.specs.Good.{TypedRows}
-use Rattle.switch_model.specs.Marks.{AreDistinct}
+use Rattle.switch_model.specs.Marks.{AreDistinctNames}
 use Rattle.switch_model.specs.Promises.{good_rows_at}
 
 -- names of one kind, no two equal, each that of a thing of the view
 pub record AreKeysOf (view : Thing → Type 0) (kind : Kind) (keys : List ThingName) : Type 0 where
-  pub distinct : AreDistinct keys
+  pub distinct : AreDistinctNames keys
   pub things : (k : ThingName) → IsIn k keys → (t : Thing) × (name_of t ≡ k) × (level (thing_kind t) ≡ level kind) × view t
 
 -- of each kind the names of the view's things number at most the capacity
-abbrev pub HasRoom : List ℕ → (Thing → Type 0) → Type 0
-HasRoom capacities view = (kind : Kind) (keys : List ThingName) → AreKeysOf view kind keys → length keys ≤ capacity_of capacities kind
+abbrev pub HasRoomForView : List ℕ → (Thing → Type 0) → Type 0
+HasRoomForView capacities view = (kind : Kind) (keys : List ThingName) → AreKeysOf view kind keys → length keys ≤ capacity_of capacities kind
 
 -- the things of a round: those of the rows that were applied when it began, and those of the good rows once so many writes were taken as this range says, which with one worker is the number at the round's end alone
 abbrev pub IsRoundThing : Ports → TypedRows → List Sent → ℕ → ℕ → Thing → Type 0

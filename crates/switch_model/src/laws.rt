@@ -11,7 +11,7 @@ ghost use Rattle.switch_model.specs.Desired.{IsClosed, IsThingOf, desired_view, 
 ghost use Rattle.switch_model.specs.Good.{TypedRows};
 ghost use Rattle.switch_model.specs.Marks.{Overflows};
 ghost use Rattle.switch_model.specs.References.{IsSelfContained};
-ghost use Rattle.switch_model.specs.Room.{HasRoom};
+ghost use Rattle.switch_model.specs.Room.{HasRoomForView};
 ghost use Rattle.switch_model.specs.Things.{things_of};
 
 /// What a ready row names is ready.
@@ -31,5 +31,5 @@ pub fn desired_view_is_self_contained()
 
 /// Where the applied things and those of a row have room together, no kind is without room for the row.
 pub fn room_overflows_nowhere()
-    ensures { (plan : Ports) (capacities : List ℕ) (applied : TypedRows) (key : Key) (row : Row) (kind : Kind) → HasRoom capacities (λ (t : Thing). IsThingOf plan applied t ⊎ IsIn t (things_of plan key row)) → ¬ (Overflows plan capacities applied key row kind) }
+    ensures { (plan : Ports) (capacities : List ℕ) (applied : TypedRows) (key : Key) (row : Row) (kind : Kind) → HasRoomForView capacities (λ (t : Thing). IsThingOf plan applied t ⊎ IsIn t (things_of plan key row)) → ¬ (Overflows plan capacities applied key row kind) }
 {}

@@ -22,14 +22,14 @@ abbrev pub bad_rows : Ports → Rows → List (Key × BadRow)
 bad_rows plan [] = []
 bad_rows plan (row ∷ rows) = with_bad row.0 (row_of plan row.0 row.1) (bad_rows plan rows)
 
-abbrev pub why_text : BadWhy → List ℕ
-why_text why.Unsupported = codes "unsupported"
-why_text why.MissingField = codes "missing"
-why_text why.BadValue = codes "bad-value"
-why_text why.LanesDiffer = codes "lanes-differ"
-why_text why.CountsDiffer = codes "counts-differ"
-why_text why.HostBits = codes "host-bits"
-why_text why.TooManyHops = codes "too-many-hops"
+abbrev pub ignored_why : BadWhy → List ℕ
+ignored_why why.Unsupported = codes "unsupported"
+ignored_why why.MissingField = codes "missing"
+ignored_why why.BadValue = codes "bad-value"
+ignored_why why.LanesDiffer = codes "lanes-differ"
+ignored_why why.CountsDiffer = codes "counts-differ"
+ignored_why why.HostBits = codes "host-bits"
+ignored_why why.TooManyHops = codes "too-many-hops"
 
 -- the name of the field with this number
 abbrev pub field_name : ℕ → List ℕ
@@ -55,7 +55,7 @@ field_name n =
 
 -- a key, what is wrong with its row, and in which field
 abbrev pub ignored_line : (Key × BadRow) → List ℕ
-ignored_line bad = escaped (key_text bad.0) ++ 32 ∷ why_text bad.1.why ++ 32 ∷ field_name bad.1.field ++ 10 ∷ []
+ignored_line bad = escaped (key_text bad.0) ++ 32 ∷ ignored_why bad.1.why ++ 32 ∷ field_name bad.1.field ++ 10 ∷ []
 
 -- how many rows do not read, and their lines in key order
 abbrev pub ignored_text : Ports → Rows → List ℕ

@@ -1,6 +1,6 @@
 // The rows that do not read, as the report lists them.
 ghost use Rattle.std.specs.Prelude.{◌≡◌, ◌++◌, flat_map, length, IfOk, OnOk};
-ghost use Rattle.swss_report.specs.Ignored.{bad_rows, field_name, ignored_line, ignored_text, why_text};
+ghost use Rattle.swss_report.specs.Ignored.{bad_rows, field_name, ignored_line, ignored_text, ignored_why};
 
 use crate::counted::write_count;
 use crate::tables::write_key;
@@ -67,7 +67,7 @@ fn write_bad_row(
 
 /// The word for what is wrong with a row.
 fn why_text(why: BadWhy) -> &'static [u8]
-    ensures { result.now ≡ why_text why }
+    ensures { result.now ≡ ignored_why why }
 {
     match why {
         BadWhy::Unsupported => b"unsupported",

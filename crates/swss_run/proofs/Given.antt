@@ -12,7 +12,7 @@ use Rattle.machine_laws.specs.Reading.{IsOnSwitch}
 use Rattle.machine_laws.proofs.Switched.{switched-key_of}
 use Rattle.swss_script.specs.Given.{HasReadKey}
 use Rattle.swss_script.specs.Script.{script_of}
-use Rattle.swss_script.specs.Sections.{Placed, acts_of, acts_writes, name_of, rounds_writes, sections_writes}
+use Rattle.swss_script.specs.Sections.{Placed, acts_of, acts_writes, producer_name, rounds_writes, sections_writes}
 use Rattle.swss_script.specs.Sent.{next_sent, sent_after, sent_in_round, writes_in}
 use Rattle.swss_script.specs.declared.parts.Act.{Act}
 use Rattle.swss_script.specs.declared.parts.Act.TheVariants as act
@@ -47,10 +47,10 @@ read-acts round producer name (act.Restart ∷ acts) h = read-acts round produce
 read-sections : (names : List (List ℕ)) (round : ℕ) (sections : List Section) → AreRead (sections_writes names round sections) → HaveReadKeys (writes_in sections)
 read-sections names round [] h = tt
 read-sections names round (section ∷ sections) h =
-    let first = acts_writes round (name_of names section.producer) section.acts in
+    let first = acts_writes round (producer_name names section.producer) section.acts in
     let rest = sections_writes names round sections in
     read-both (map (λ w. (section.producer, w)) (acts_of section.acts)) (writes_in sections)
-    (read-acts round section.producer (name_of names section.producer) section.acts (read-front first rest h))
+    (read-acts round section.producer (producer_name names section.producer) section.acts (read-front first rest h))
     (read-sections names round sections (read-back first rest h))
 
 read-rounds : (names : List (List ℕ)) (number : ℕ) (rounds : List Round) → AreRead (rounds_writes names number rounds) → AllByRecursion (λ (r : Round). HaveReadKeys (writes_in r.sections)) rounds

@@ -15,7 +15,7 @@ use Rattle.swss_script.specs.Sent.{sent_in_round}
 use Rattle.swss_script.specs.declared.parts.Round.{Round}
 use Rattle.swss_report.specs.Round.{IsRoundText}
 use Rattle.swss_run.specs.Rounds.{AreTaken, EndAtMarks, EndsAtMark, IsReportFrom, Ran, Rise, all_calls, all_marks, all_sent, ends_from, is_settling, standing}
-use Rattle.swss_run.specs.Turned.{AreTurned, IsTurned}
+use Rattle.swss_run.specs.Turned.{AreTurned, IsRoundTurned}
 
 pub marks-more : (rans : List Ran) (ran : Ran) → all_marks (rans ++ ran ∷ []) ≡ all_marks rans ++ ran.marks
 marks-more rans ran = flat_map-append (λ (r : Ran). r.marks) rans (ran ∷ []) ∙ ap (λ l. all_marks rans ++ l) (append-nil ran.marks)
@@ -113,10 +113,10 @@ last-both before (x ∷ xs) ys = last-both (Some x) xs ys
 
 pub turned-more : (plan : Ports) (capacities : List ℕ) (before : Option Mark) (taken : List Sent) (effects : List (Call Rid)) (rans : List Ran) (ran : Ran) (b : Option Mark) (s : List Sent) (c : List (Call Rid))
     → AreTurned plan capacities before taken effects rans → b ≡ last_mark before (all_marks rans) → s ≡ taken ++ all_sent rans → c ≡ effects ++ all_calls rans
-    → IsTurned plan capacities b s c ran → AreTurned plan capacities before taken effects (rans ++ ran ∷ [])
+    → IsRoundTurned plan capacities b s c ran → AreTurned plan capacities before taken effects (rans ++ ran ∷ [])
 turned-more plan capacities before taken effects [] ran b s c turned b_is s_is c_is one = (
-  subst (λ x. IsTurned plan capacities x taken effects ran) b_is
-      (subst (λ x. IsTurned plan capacities b x effects ran) (s_is ∙ append-nil taken) (subst (λ x. IsTurned plan capacities b s x ran) (c_is ∙ append-nil effects) one)),
+  subst (λ x. IsRoundTurned plan capacities x taken effects ran) b_is
+      (subst (λ x. IsRoundTurned plan capacities b x effects ran) (s_is ∙ append-nil taken) (subst (λ x. IsRoundTurned plan capacities b s x ran) (c_is ∙ append-nil effects) one)),
   tt,
 )
 turned-more plan capacities before taken effects (r ∷ rans) ran b s c (first, turned) b_is s_is c_is one = (

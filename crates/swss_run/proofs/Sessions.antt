@@ -31,7 +31,7 @@ use Rattle.swss_run.specs.Output.{TakesFront}
 use Rattle.swss_run.specs.Rounds.{AreTaken, EndsAtMark, IsCutInRounds, IsReport, Ran, Rise, all_calls, all_marks, all_sent, ends_from, standing}
 use Rattle.swss_run.specs.Running.{EndsRound, HasLines, IsRunReady, IsRoundRun, KeepsPlan, StopsRound}
 use Rattle.swss_run.specs.Session.{HasEnded, IsReported, IsSession, TookFront, TookReport, log_limit}
-use Rattle.swss_run.specs.Turned.{AreTurned, IsTurned}
+use Rattle.swss_run.specs.Turned.{AreTurned, IsRoundTurned}
 use Rattle.swss_run.specs.declared.status.Status.{Status}
 use Rattle.swss_run.specs.declared.status.Status.TheVariants as status
 use Rattle.swss_run.proofs.Pieces.{Takes-trans}
@@ -208,8 +208,8 @@ module _ (rounds done : List Round) (first : CoreState) (held0 : Option (List �
       turned_now =
           turned-more first.board.plan first.sync.capacities None [] [] rans ran (mark_of core) core.log.taken sim.chip.effects running.turned
           (ap (λ l. last_mark None l) running.cut.marks) (running.cut.taken ∙ append-nil (all_sent rans)) (running.cut.effects ∙ append-nil (all_calls rans))
-          (subst (λ p. IsTurned p first.sync.capacities (mark_of core) core.log.taken sim.chip.effects ran) (sym plan_is)
-          (subst (λ c. IsTurned core.board.plan c (mark_of core) core.log.taken sim.chip.effects ran) (sym capacities_are) ends.turned))
+          (subst (λ p. IsRoundTurned p first.sync.capacities (mark_of core) core.log.taken sim.chip.effects ran) (sym plan_is)
+          (subst (λ c. IsRoundTurned core.board.plan c (mark_of core) core.log.taken sim.chip.effects ran) (sym capacities_are) ends.turned))
 
       same_now : KeepsPlan first new
       same_now = same-trans first core new running.same ends.same

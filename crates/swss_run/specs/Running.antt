@@ -24,7 +24,7 @@ use Rattle.swss_report.specs.Round.{IsRoundText}
 use Rattle.swss_run.specs.Full.{IsFull}
 use Rattle.swss_run.specs.Output.{TakesFront}
 use Rattle.swss_run.specs.Rounds.{Ran, is_settling, standing}
-use Rattle.swss_run.specs.Turned.{IsTurned}
+use Rattle.swss_run.specs.Turned.{IsRoundTurned}
 use Rattle.swss_run.specs.declared.status.Status.{Status}
 use Rattle.swss_run.specs.declared.status.Status.TheVariants as status
 
@@ -54,7 +54,7 @@ pub record EndsRound (round : Round) (old : CoreState) (sim : Sim) (ran : Ran) (
   pub effects : mark.effects ≡ length (sim.chip.effects ++ ran.calls)
   pub log : new.log ≡ with_round old.log ran.sent mark
   pub calls : sim'.chip.effects ≡ sim.chip.effects ++ ran.calls
-  pub turned : IsTurned old.board.plan old.sync.capacities (mark_of old) old.log.taken sim.chip.effects ran
+  pub turned : IsRoundTurned old.board.plan old.sync.capacities (mark_of old) old.log.taken sim.chip.effects ran
   pub within : InSession new sim'.chip
   pub same : KeepsPlan old new
   pub places : log_size new.log (length sim'.chip.effects) ≤ new.limit

@@ -49,6 +49,6 @@ abbrev pub IsRoundTook : ℕ → List (ℕ × Write) → CoreState → Taken →
 IsRoundTook effects writes old result new = (counts : Counts) × IsTook effects [] writes old result new counts
 
 -- the number of a producer's next write, which is counted then
-abbrev pub IsNumber : ℕ → List Sent → Result ℕ OutOfMemory → Counts → Type 0
-IsNumber producer before (Ok number) counts = (number ≡ count_by (λ s. s.from == producer) before) × ((sent : Sent) → sent.from ≡ producer → AreCounted counts (before ++ sent ∷ []))
-IsNumber producer before (Err e) counts = Unit {0}
+abbrev pub IsNextNumber : ℕ → List Sent → Result ℕ OutOfMemory → Counts → Type 0
+IsNextNumber producer before (Ok number) counts = (number ≡ count_by (λ s. s.from == producer) before) × ((sent : Sent) → sent.from ≡ producer → AreCounted counts (before ++ sent ∷ []))
+IsNextNumber producer before (Err e) counts = Unit {0}

@@ -24,10 +24,10 @@ abbrev pub round_at : Option Mark → List Sent → List (Call Rid) → Ran → 
 round_at before taken effects ran mark = record { before = before; taken = taken; effects = effects; sent = ran.sent; calls = ran.calls; mark = mark }
 
 -- so it is where the mark is that of a settling that ended
-abbrev pub IsTurned : Ports → List ℕ → Option Mark → List Sent → List (Call Rid) → Ran → Type 0
-IsTurned plan capacities before taken effects ran = (mark : Mark) → ran.marks ≡ mark ∷ [] → IsSettledMark mark.event → EndsTurned plan capacities (round_at before taken effects ran mark)
+abbrev pub IsRoundTurned : Ports → List ℕ → Option Mark → List Sent → List (Call Rid) → Ran → Type 0
+IsRoundTurned plan capacities before taken effects ran = (mark : Mark) → ran.marks ≡ mark ∷ [] → IsSettledMark mark.event → EndsTurned plan capacities (round_at before taken effects ran mark)
 
 -- and so of rounds that ended one after the other
 abbrev pub AreTurned : Ports → List ℕ → Option Mark → List Sent → List (Call Rid) → List Ran → Type 0
 AreTurned plan capacities before taken effects [] = Unit {0}
-AreTurned plan capacities before taken effects (ran ∷ rans) = IsTurned plan capacities before taken effects ran × AreTurned plan capacities (last_mark before ran.marks) (taken ++ ran.sent) (effects ++ ran.calls) rans
+AreTurned plan capacities before taken effects (ran ∷ rans) = IsRoundTurned plan capacities before taken effects ran × AreTurned plan capacities (last_mark before ran.marks) (taken ++ ran.sent) (effects ++ ran.calls) rans

@@ -2,7 +2,7 @@
 ghost use Rattle.std.specs.Prelude.{◌≡◌, List, [], ◌∷◌};
 ghost use Rattle.table_schema.specs.declared.write.Sent.{Sent};
 ghost use Rattle.swss_script.specs.Sent.{writes_in};
-ghost use Rattle.swss_run.specs.Taking.{AreCounted, IsNumber, IsRoundTook, IsTook, writes_by};
+ghost use Rattle.swss_run.specs.Taking.{AreCounted, IsNextNumber, IsRoundTook, IsTook, writes_by};
 
 use orch_core::Core;
 use std::alloc::Global;
@@ -88,7 +88,7 @@ fn take_write(
 
 /// The number of a producer's next write, which is counted then. No memory holds so many writes that the count ends.
 fn next_number(counts: &mut Counts, producer: u32) -> Result<u64, OutOfMemory>
-    ensures { (before : List Sent) → AreCounted counts.old.entries before → IsNumber producer before result counts.new.entries }
+    ensures { (before : List Sent) → AreCounted counts.old.entries before → IsNextNumber producer before result counts.new.entries }
 {
     let number = counts.get(&producer).copied().unwrap_or(0);
     let next = number.checked_add(1).ok_or(OutOfMemory)?;

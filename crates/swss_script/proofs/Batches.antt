@@ -10,12 +10,12 @@ use Rattle.serde_json.specs.declared.value.Value.{Value}
 use Rattle.serde_json.specs.declared.value.Value as value
 use Rattle.table_schema.specs.Fields.{Pairs}
 use Rattle.table_schema.specs.declared.write.Write.{Write}
-use Rattle.swss_script.specs.Batch.{batch_of, text_field, texts_in, with_write, write_in, writes_in}
+use Rattle.swss_script.specs.Batch.{batch_of, text_field, texts_in, write_before, write_in, writes_of_items}
 use Rattle.swss_script.specs.Fields.{with_field}
 use Rattle.swss_script.proofs.Joins.{option_map_push}
 
 abbrev in_data : Data → Option (List Write)
-in_data json = option_and_then writes_in (as_array json)
+in_data json = option_and_then writes_of_items (as_array json)
 
 -- what is no JSON is no batch
 pub batch-none : (text : List ℕ) → (IsUtf8 text → read text ≡ None) → batch_of text ≡ None
@@ -30,8 +30,8 @@ batch-read : (text : List ℕ) (json : Data) → IsUtf8 text → read text ≡ S
 batch-read text json utf8 h = ap (λ b. cond b (option_and_then in_data (read text)) None) (is_utf8-from_IsUtf8 text utf8) ∙ ap (option_and_then in_data) h
 
 -- a list
-pub batch-list : (text : List ℕ) (json : Data) (items : Items) → IsUtf8 text → read text ≡ Some json → Some items ≡ as_array json → writes_in items ≡ batch_of text
-batch-list text json items utf8 h some = ap (option_and_then writes_in) some ∙ sym (batch-read text json utf8 h)
+pub batch-list : (text : List ℕ) (json : Data) (items : Items) → IsUtf8 text → read text ≡ Some json → Some items ≡ as_array json → writes_of_items items ≡ batch_of text
+batch-list text json items utf8 h some = ap (option_and_then writes_of_items) some ∙ sym (batch-read text json utf8 h)
 
 -- what a result is, said of an equal value
 pub if_ok-same : {A E : Type 0} (r : Result A E) {x y : A} → x ≡ y → IfOk r (λ a. a ≡ x) → IfOk r (λ a. a ≡ y)
@@ -43,10 +43,10 @@ view-String text = search (rules, value.the_lemmas)
 
 -- one element more
 pub elements-more : (writes : List Write) (element : Value) (left : List Value) (write : Write) → Some write ≡ option_and_then write_in (as_object (view element))
-    → option_map (λ more. (writes ++ write ∷ []) ++ more) (writes_in (items_view left)) ≡ option_map (λ more. writes ++ more) (writes_in (items_view (element ∷ left)))
+    → option_map (λ more. (writes ++ write ∷ []) ++ more) (writes_of_items (items_view left)) ≡ option_map (λ more. writes ++ more) (writes_of_items (items_view (element ∷ left)))
 elements-more writes element left write read =
-    option_map_push writes write (writes_in (items_view left))
-    ∙ ap (λ w. option_map (λ more. writes ++ more) (with_write w (writes_in (items_view left)))) read
+    option_map_push writes write (writes_of_items (items_view left))
+    ∙ ap (λ w. option_map (λ more. writes ++ more) (write_before w (writes_of_items (items_view left)))) read
 
 -- one member more
 pub texts-more : (texts : Pairs) (name : List ℕ) (value : Data) (members : Members) (text : List ℕ) → Some text ≡ as_str value

@@ -5,11 +5,12 @@ use Rattle.std.proofs.Math.Seq.{drop-cons}
 use Rattle.std.proofs.Math.Nat.{eq-zero-or-pos}
 use Rattle.std.specs.List.{position, position_or_len, slice_split}
 use Rattle.std.specs.Str.{IsUtf8, IsCharBoundary}
-use Rattle.std.proofs.lemmas.Bool.{ltb-true, ltb-false, lt-ltb, eqb-true, not-true, not-false}
+use Rattle.std.proofs.lemmas.Bool.{cond-true, ltb-true, ltb-false, lt-ltb, eqb-true, not-true, not-false}
 use Rattle.std.proofs.lemmas.List.Splits.{slice_split-cons_yes, slice_split_first, slice_split_none}
 use Rattle.std.proofs.lemmas.List.Sums.{fails_before_first, passes_at_first}
 use Rattle.std.proofs.lemmas.Str.{IsCharBoundary-before_ascii, IsCharBoundary-after_ascii}
-use Rattle.swss_types.proofs.Choices.{chosen, chosen_none}
+use Rattle.std.proofs.lemmas.Option.{cond_some}
+use Rattle.swss_types.proofs.Choices.{chosen_none}
 use Rattle.swss_script.specs.Words.{behind_word, from_blank, from_word, is_blank, words_in}
 
 abbrev in_word : ℕ → Bool
@@ -44,7 +45,7 @@ words-behind_blanks (b ∷ text) =
 -- the place that a search finds
 found : (p : ℕ → Bool) (text : List ℕ) (i : ℕ) → position p text ≡ Some i → (position_or_len p text ≡ i) × (i < length text)
 found p text i h =
-    let at = chosen (ltb (position_or_len p text) (length text)) (position_or_len p text) i h in
+    let at = cond_some (ltb (position_or_len p text) (length text)) (position_or_len p text) i h in
     (at.1, subst (λ k. k < length text) at.1 (ltb-true _ _ at.0))
 
 -- a text without a word
@@ -80,11 +81,8 @@ words_from text start h =
       let same : start + 0 ≡ start = omega arith in ap is_blank (get_or-drop start text 0 0 ∙ ap (λ i. get_or text i 0) same) ∙ not-true _ word,
     )
 
-first_choice : (b : Bool) (x y : List (List ℕ)) → b ≡ true → cond b x y ≡ x
-first_choice b x y h = ap (λ c. cond c x y) h
-
 word_kept : (word : List ℕ) (parts : List (List ℕ)) → 0 < length word → filter (λ w. ltb 0 (length w)) (word ∷ parts) ≡ word ∷ filter (λ w. ltb 0 (length w)) parts
-word_kept word parts some = first_choice (ltb 0 (length word)) _ _ (lt-ltb 0 (length word) some)
+word_kept word parts some = cond-true (ltb 0 (length word)) _ _ (lt-ltb 0 (length word) some)
 
 -- a word up to a blank
 pub words_first : (text : List ℕ) (end : ℕ) → is_blank (get_or text 0 0) ≡ false → position is_blank text ≡ Some end → (words_in text ≡ take end text ∷ words_in (drop end text)) × (0 < end) × (end < length text)

@@ -10,9 +10,9 @@ use Rattle.table_schema.specs.KeyText.{key_of}
 use Rattle.table_schema.specs.declared.key.Key.{Key}
 use Rattle.table_schema.specs.declared.write.Write.{Write}
 use Rattle.table_schema.specs.declared.write.Write.TheVariants as write
-use Rattle.swss_script.specs.Batch.{batch_of, key_in_word, texts_in, with_write, write_in, write_with, writes_in}
+use Rattle.swss_script.specs.Batch.{batch_of, key_in_word, texts_in, write_before, write_in, write_with, writes_of_items}
 use Rattle.swss_script.specs.Fields.{fields_of, set_fields}
-use Rattle.swss_script.specs.Line.{alone, del_line, del_with, forward_to, is_block, is_name, json_line, line_by, line_of, line_with, producer_line, set_line, set_with, show_line, show_of, shown}
+use Rattle.swss_script.specs.Line.{alone, del_line, del_with, forward_to, is_block, is_name, json_line, line_by, script_line_of, line_with, producer_line, set_line, set_with, show_line, show_of, shown}
 use Rattle.swss_script.specs.Lines.{block_of, is_end, line_text, lines_in}
 use Rattle.swss_script.specs.Script.{script_of}
 use Rattle.swss_script.specs.Sections.{Placed, line_writes, lines_writes, name_behind, placed, round_behind, script_writes, told, whole_line}
@@ -76,20 +76,20 @@ module _ (P : Write → Type 0) (set : (text : List ℕ) (fields : Pairs) → P 
   write-in_object None = tt
   write-in_object (Some members) = write-in members
 
-  batch-with : (write : Option Write) (writes : Option (List Write)) → OfWrite write → OfBatch writes → OfBatch (with_write write writes)
+  batch-with : (write : Option Write) (writes : Option (List Write)) → OfWrite write → OfBatch writes → OfBatch (write_before write writes)
   batch-with None writes one more = tt
   batch-with (Some write) None one more = tt
   batch-with (Some write) (Some writes) one more = (one, more)
 
-  batch-in : (items : Items) → OfBatch (writes_in items)
+  batch-in : (items : Items) → OfBatch (writes_of_items items)
   batch-in no_items = tt
-  batch-in (item element elements) = batch-with (option_and_then write_in (as_object element)) (writes_in elements) (write-in_object (as_object element)) (batch-in elements)
+  batch-in (item element elements) = batch-with (option_and_then write_in (as_object element)) (writes_of_items elements) (write-in_object (as_object element)) (batch-in elements)
 
-  batch-in_array : (items : Option Items) → OfBatch (option_and_then writes_in items)
+  batch-in_array : (items : Option Items) → OfBatch (option_and_then writes_of_items items)
   batch-in_array None = tt
   batch-in_array (Some items) = batch-in items
 
-  batch-in_json : (json : Option Data) → OfBatch (option_and_then (λ j. option_and_then writes_in (as_array j)) json)
+  batch-in_json : (json : Option Data) → OfBatch (option_and_then (λ j. option_and_then writes_of_items (as_array j)) json)
   batch-in_json None = tt
   batch-in_json (Some json) = batch-in_array (as_array json)
 
@@ -175,7 +175,7 @@ module _ (P : Write → Type 0) (set : (text : List ℕ) (fields : Pairs) → P 
   line-with [] behind = tt
   line-with (first ∷ others) behind = line-by first others behind
 
-  line-of : (text : List ℕ) → OfLine (line_of text)
+  line-of : (text : List ℕ) → OfLine (script_line_of text)
   line-of text = line-with (words_in text) (behind_word text)
 
   line-whole : (line : Line) (lines : List (List ℕ)) → OfLine line → OfLine (whole_line line lines)
@@ -185,7 +185,7 @@ module _ (P : Write → Type 0) (set : (text : List ℕ) (fields : Pairs) → P 
   lines-told true [] = tt
   lines-told false [] = tt
   lines-told true (line ∷ lines) = lines-told (not (is_end (line_text line))) lines
-  lines-told false (line ∷ lines) = (line-whole (line_of (line_text line)) lines (line-of (line_text line)), lines-told (is_block (line_of (line_text line))) lines)
+  lines-told false (line ∷ lines) = (line-whole (script_line_of (line_text line)) lines (line-of (line_text line)), lines-told (is_block (script_line_of (line_text line))) lines)
 
   -- ---- the writes of lines
 

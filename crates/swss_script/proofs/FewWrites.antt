@@ -4,11 +4,11 @@ use Rattle.std.specs.List.{list_any}
 use Rattle.std.proofs.lemmas.Bool.{or_parts}
 use Rattle.table_schema.specs.declared.write.Sent.{Sent}
 use Rattle.table_schema.specs.declared.write.Write.{Write}
-use Rattle.swss_script.specs.Line.{is_block, line_of}
+use Rattle.swss_script.specs.Line.{is_block, script_line_of}
 use Rattle.swss_script.specs.Lines.{is_end, line_text, lines_in}
 use Rattle.swss_script.specs.Plain.{has_batch, is_batch}
 use Rattle.swss_script.specs.Script.{new_draft, script_from, script_of, step}
-use Rattle.swss_script.specs.Sections.{acts_of, acts_writes, line_writes, lines_writes, name_behind, name_of, round_behind, rounds_writes, sections_writes, told}
+use Rattle.swss_script.specs.Sections.{acts_of, acts_writes, line_writes, lines_writes, name_behind, producer_name, round_behind, rounds_writes, sections_writes, told}
 use Rattle.swss_script.specs.Sent.{next_sent, sent_after, sent_in_round, writes_in}
 use Rattle.swss_script.specs.declared.draft.Draft.{Draft}
 use Rattle.swss_script.specs.declared.line.Line.{Line}
@@ -49,7 +49,7 @@ few-told true (line ∷ lines) =
     let more = few-told (not (is_end (line_text line))) lines in
     omega (arith, more)
 few-told false (line ∷ lines) =
-    let more = few-told (is_block (line_of (line_text line))) lines in
+    let more = few-told (is_block (script_line_of (line_text line))) lines in
     omega (arith, more)
 
 -- ---- the writes of lines
@@ -92,10 +92,10 @@ length-sections names n [] = refl
 length-sections names n (s ∷ sections) =
     omega (
       arith,
-      length-acts n s.producer (name_of names s.producer) s.acts,
+      length-acts n s.producer (producer_name names s.producer) s.acts,
       length-sections names n sections,
       length-append {A = ℕ × Write} (map (λ (w : Write). (s.producer, w)) (acts_of s.acts)) (writes_in sections),
-      length-append (acts_writes n (name_of names s.producer) s.acts) (sections_writes names n sections),
+      length-append (acts_writes n (producer_name names s.producer) s.acts) (sections_writes names n sections),
     )
 
 few-in_round : (names : List (List ℕ)) (n : ℕ) (rounds : List Round) (at : ℕ) (round : Round) → slice_get rounds at ≡ Some round → length (writes_in round.sections) ≤ length (rounds_writes names n rounds)

@@ -19,7 +19,7 @@ use Rattle.table_schema.specs.KeyText.{key_of}
 use Rattle.table_schema.specs.declared.key.Key.{Key}
 use Rattle.swss_script.specs.Batch.{key_in_word, text_field, texts_in}
 use Rattle.swss_script.specs.Fields.{with_field}
-use Rattle.swss_script.specs.Image.{are_rows, has_field, has_rows, has_two, is_image, is_named, is_row, is_single, json_of, rows_of, version_of}
+use Rattle.swss_script.specs.Image.{are_rows, has_field, has_rows, has_two, is_image, is_key_named, is_row, is_single, json_of, rows_member, version_of}
 
 abbrev pub Entry : Type 0
 Entry = String Global × Value
@@ -67,15 +67,6 @@ row-fields row es is h = sym (has-texts_in es h) ∙ ap (λ o. has_field (option
 
 -- ---- rows
 
--- what says whether something is new, says whether it was there
-pub not-true : (new there : Bool) → new ≡ not there → new ≡ true → there ≡ false
-not-true new true h is = cc
-not-true new false h is = refl
-
-pub not-false : (new there : Bool) → new ≡ not there → new ≡ false → there ≡ true
-not-false new true h is = refl
-not-false new false h is = cc
-
 -- no name of these reads as one of the keys
 abbrev pub are_new : List Key → Members → Bool
 are_new keys no_members = true
@@ -103,11 +94,11 @@ not-either true false false named = refl
 not-either false true new named = refl
 not-either false false new named = refl
 
-new-more : (keys more : List Key) (k : Key) (rows : Members) → HasOneMore keys k more → are_new more rows ≡ are_new keys rows && not (is_named k rows)
+new-more : (keys more : List Key) (k : Key) (rows : Members) → HasOneMore keys k more → are_new more rows ≡ are_new keys rows && not (is_key_named k rows)
 new-more keys more k no_members h = refl
 new-more keys more k (member name row rows) h =
     ap₂ (λ a b. not a && b) (h (key_of name)) (new-more keys more k rows h)
-    ∙ not-either (is_at (key_cmp k) (key_of name)) (list_any (is_at (key_cmp (key_of name))) keys) (are_new keys rows) (is_named k rows)
+    ∙ not-either (is_at (key_cmp k) (key_of name)) (list_any (is_at (key_cmp (key_of name))) keys) (are_new keys rows) (is_key_named k rows)
 
 key-in_word : (word : List ℕ) (k : Key) → Some k ≡ key_in_word word → k ≡ key_of word
 key-in_word word k = by (list_any (λ byte. byte == 58) word)
@@ -126,8 +117,8 @@ pub more-put : (keys more : List Key) (k : Key) (name : List ℕ) (row : Data) (
 more-put keys more k name row rows read new good h =
     let there : list_any (is_at (key_cmp (key_of name))) keys ≡ false = ap (λ q. list_any (is_at (key_cmp q)) keys) (sym (key-in_word name k read)) ∙ new in
     ap (λ b. b && are_rows rows) (new-more keys more k rows h)
-    ∙ and-last (are_new keys rows) (not (is_named k rows)) (are_rows rows)
-    ∙ ap (λ b. are_new keys rows && (not (is_named k rows) && (b && are_rows rows))) (sym good)
+    ∙ and-last (are_new keys rows) (not (is_key_named k rows)) (are_rows rows)
+    ∙ ap (λ b. are_new keys rows && (not (is_key_named k rows) && (b && are_rows rows))) (sym good)
     ∙ ap₂ (λ a o. (not a && are_new keys rows) && (is_single o rows && (is_row row && are_rows rows))) (sym there) read
 
 -- a name that reads as a key that was there
@@ -149,7 +140,7 @@ is_version value = option_eq ◌==◌ (version_of value) (Some 1)
 
 -- more members, or fewer
 pub image-not_two : (value : Data) (es : List Entry) → Some (members_view es) ≡ as_object value → (length es ≡ 2 → ⊥) → false ≡ is_image value
-image-not_two value es is h = sym (ap (λ b. b && (is_version value && has_rows (rows_of value))) (two-members value es is ∙ ne_eqb (length es) 2 h))
+image-not_two value es is h = sym (ap (λ b. b && (is_version value && has_rows (rows_member value))) (two-members value es is ∙ ne_eqb (length es) 2 h))
 
 and-false : (a : Bool) → a && false ≡ false
 and-false true = refl
@@ -157,11 +148,11 @@ and-false false = refl
 
 -- another version, or none
 pub image-no_version : (value : Data) → is_version value ≡ false → false ≡ is_image value
-image-no_version value h = sym (ap (λ b. has_two (as_object value) && (b && has_rows (rows_of value))) h ∙ and-false (has_two (as_object value)))
+image-no_version value h = sym (ap (λ b. has_two (as_object value) && (b && has_rows (rows_member value))) h ∙ and-false (has_two (as_object value)))
 
 -- two members, and the version
-pub image-rows : (value : Data) (es : List Entry) (rows : Members) → Some (members_view es) ≡ as_object value → length es ≡ 2 → is_version value ≡ true → Some rows ≡ rows_of value → are_rows rows ≡ is_image value
+pub image-rows : (value : Data) (es : List Entry) (rows : Members) → Some (members_view es) ≡ as_object value → length es ≡ 2 → is_version value ≡ true → Some rows ≡ rows_member value → are_rows rows ≡ is_image value
 image-rows value es rows is two version some =
     ap has_rows some
-    ∙ ap (λ b. b && has_rows (rows_of value)) (sym version)
-    ∙ ap (λ b. b && (is_version value && has_rows (rows_of value))) (sym (two-members value es is ∙ eq-eqb (length es) 2 two))
+    ∙ ap (λ b. b && has_rows (rows_member value)) (sym version)
+    ∙ ap (λ b. b && (is_version value && has_rows (rows_member value))) (sym (two-members value es is ∙ eq-eqb (length es) 2 two))

@@ -2,9 +2,9 @@
 use Rattle.std.proofs.Common.{◌≡◌, ℕ, ◌+◌, nat_lt, Bool, true, false, cond, not, List, [], ◌∷◌, length, Option, Some, None, option_and_then, Result, Ok, Err, refl, ◌∙◌, subst}
 use Rattle.swss_script.specs.Batch.{batch_of}
 use Rattle.swss_script.specs.Built.{is_built}
-use Rattle.swss_script.specs.Line.{is_block, line_of}
+use Rattle.swss_script.specs.Line.{is_block, script_line_of}
 use Rattle.swss_script.specs.Lines.{block_of, is_end, is_too_long, line_text, lines_in, text_of}
-use Rattle.swss_script.specs.Script.{add, new_draft, if_built, in_block, script_at, script_from, script_of, step, step_by, with_block, with_line, with_text}
+use Rattle.swss_script.specs.Script.{add, new_draft, if_built, in_block, script_at, script_from, script_of, step, draft_step, with_block, draft_with_line, with_text}
 use Rattle.swss_script.specs.declared.draft.Draft.{Draft}
 use Rattle.swss_script.specs.declared.line.Line.{Line}
 use Rattle.swss_script.specs.declared.line.Line.TheVariants.{Batch}
@@ -13,14 +13,14 @@ use Rattle.swss_script.specs.declared.script.Script.{Script}
 use Rattle.swss_script.proofs.PlacedWrites.{accepted, same-script, steps-if}
 use Rattle.swss_script.proofs.Steps.{same-ok}
 
-module _ (P : Draft → Type 0) (by_line : (d e : Draft) (line : Line) → is_built line ≡ true → with_line d line ≡ Ok e → P d → P e) (in_lines : (d : Draft) (block : Bool) → P d → P (record d { block = block })) where
-  kept-built : (d e : Draft) (line : Line) (built : Bool) → is_built line ≡ built → (answer : Result Draft Why) → with_line d line ≡ answer → if_built built answer ≡ Ok e → P d → P e
+module _ (P : Draft → Type 0) (by_line : (d e : Draft) (line : Line) → is_built line ≡ true → draft_with_line d line ≡ Ok e → P d → P e) (in_lines : (d : Draft) (block : Bool) → P d → P (record d { block = block })) where
+  kept-built : (d e : Draft) (line : Line) (built : Bool) → is_built line ≡ built → (answer : Result Draft Why) → draft_with_line d line ≡ answer → if_built built answer ≡ Ok e → P d → P e
   kept-built d e line true built answer with h holds = by_line d e line built (with ∙ h) holds
   kept-built d e line false built (Ok other) with h holds = cc
   kept-built d e line false built (Err reason) with h holds = cc
 
   kept-add : (d e : Draft) (line : Line) → add d line ≡ Ok e → P d → P e
-  kept-add d e line h holds = kept-built d e line (is_built line) refl (with_line d line) refl h holds
+  kept-add d e line h holds = kept-built d e line (is_built line) refl (draft_with_line d line) refl h holds
 
   kept-block : (e : Draft) (answer : Result Draft Why) → ((f : Draft) → answer ≡ Ok f → P f) → in_block answer ≡ Ok e → P e
   kept-block e (Ok f) holds h = subst P (same-ok (record f { block = true }) e h) (in_lines f true (holds f refl))
@@ -32,7 +32,7 @@ module _ (P : Draft → Type 0) (by_line : (d e : Draft) (line : Line) → is_bu
 
   kept-text : (d e : Draft) (text : Option (List ℕ)) (rest : List (List ℕ)) → with_text d text rest ≡ Ok e → P d → P e
   kept-text d e None rest h holds = cc
-  kept-text d e (Some text) rest h holds = kept-with d e (line_of text) rest (is_block (line_of text)) h holds
+  kept-text d e (Some text) rest h holds = kept-with d e (script_line_of text) rest (is_block (script_line_of text)) h holds
 
   kept-inside : (d e : Draft) (bytes : List ℕ) (rest : List (List ℕ)) (block : Bool) → cond block (Ok (record d { block = not (is_end bytes) })) (with_text d (text_of bytes) rest) ≡ Ok e → P d → P e
   kept-inside d e bytes rest true h holds = subst P (same-ok (record d { block = not (is_end bytes) }) e h) (in_lines d (not (is_end bytes)) holds)
@@ -40,7 +40,7 @@ module _ (P : Draft → Type 0) (by_line : (d e : Draft) (line : Line) → is_bu
 
   kept-step : (d e : Draft) (number : ℕ) (line : List ℕ) (rest : List (List ℕ)) → step d number line rest ≡ Ok e → P d → P e
   kept-step d e number line rest h holds =
-      let text = steps-if (nat_lt 1000000 number) _ (step_by d (line_text line) rest) e h in
+      let text = steps-if (nat_lt 1000000 number) _ (draft_step d (line_text line) rest) e h in
       let inside = steps-if (is_too_long (line_text line)) _ _ e text in
       kept-inside d e (line_text line) rest d.block inside holds
 

@@ -1,10 +1,11 @@
 -- the lines of a text, one after the other
 use Rattle.std.proofs.Common.{◌≡◌, ℕ, suc, ◌+◌, ◌-◌, ◌<◌, ◌≤◌, ◌==◌, Bool, true, false, cond, not, List, [], ◌∷◌, ◌++◌, length, take, drop, Option, Some, None, option_map, refl, sym, ap, ap₂, ◌∙◌, subst, arith, ltb, length-drop, length-take, length-append, append_assoc}
-use Rattle.std.proofs.lemmas.List.{take-append-drop, take_all}
+use Rattle.std.proofs.lemmas.List.{take-append-drop, take_rest}
 use Rattle.std.proofs.Math.Seq.{drop-append_seam, drop-length, take-append_seam}
 use Rattle.std.proofs.lemmas.Bool.{ltb-true, ltb-false}
 use Rattle.std.specs.List.{position, position_or_len}
-use Rattle.swss_types.proofs.Choices.{chosen, chosen_none}
+use Rattle.std.proofs.lemmas.Option.{cond_some}
+use Rattle.swss_types.proofs.Choices.{chosen_none}
 use Rattle.swss_script.specs.Lines.{IsNextLine, block_of, is_end, line_text, lines_in, with_byte}
 
 abbrev is_newline : ℕ → Bool
@@ -45,7 +46,7 @@ lines_whole byte (b ∷ bs) h = whole_by byte (b ∷ bs) (byte == 10) h (ap (wit
 -- the next line ends at the first newline
 pub next_ended : (text line rest : List ℕ) (at : ℕ) → position is_newline text ≡ Some at → line ≡ take (at + 1) text → rest ≡ drop (at + 1) text → IsNextLine text (Some (line, rest))
 next_ended text line rest at found line_is rest_is =
-    let here = chosen (ltb (position_or_len is_newline text) (length text)) (position_or_len is_newline text) at found in
+    let here = cond_some (ltb (position_or_len is_newline text) (length text)) (position_or_len is_newline text) at found in
     let within : position_or_len is_newline text < length text = ltb-true _ _ here.0 in
     let first = subst (λ n. lines_in text ≡ take (n + 1) text ∷ lines_in (drop (n + 1) text)) here.1 (lines_first text within) in (
       first ∙ ap₂ (λ l r. l ∷ lines_in r) (sym line_is) (sym rest_is),
@@ -67,12 +68,9 @@ next_whole (byte ∷ bytes) rest none some rest_is =
       omega (arith, ap length rest_is),
     )
 
--- a slice to the end is the rest
-pub rest-whole : (text : List ℕ) (n : ℕ) → take (length text - n) (drop n text) ≡ drop n text
-rest-whole text n = take_all (length text - n) (drop n text) (omega (arith, length-drop n text))
-
+-- a slice from the end on is empty
 pub rest-none : (text : List ℕ) → take (length text - length text) (drop (length text) text) ≡ []
-rest-none text = rest-whole text (length text) ∙ drop-length text
+rest-none text = take_rest text (length text) ∙ drop-length text
 
 -- ---- blocks
 

@@ -7,11 +7,13 @@ use Rattle.std.proofs.lemmas.List.Sums.{fails_before_first}
 use Rattle.std.proofs.lemmas.Slice.Eq.{bytes_eq-Decides}
 use Rattle.std.specs.Bool.{one_answer}
 use Rattle.std.specs.List.{AllByRecursion, position, position_or_len}
+use Rattle.std.proofs.lemmas.Option.{cond_some}
 use Rattle.table_schema.specs.declared.write.Write.{Write}
-use Rattle.swss_types.proofs.Choices.{chosen, chosen_none}
-use Rattle.swss_script.specs.Script.{ended_in, in_section, named, script_at, script_of, section_begun, settled, with_line}
-use Rattle.swss_script.specs.Sections.{Placed, placed, acts_of, acts_writes, name_of, rounds_writes, sections_by, sections_from, sections_of, sections_writes, text_writes, writes_of}
-use Rattle.swss_script.specs.Stage.{AreNumbered, IsNumber}
+use Rattle.swss_types.proofs.AllElements.{all-push}
+use Rattle.swss_types.proofs.Choices.{chosen_none}
+use Rattle.swss_script.specs.Script.{ended_in, in_section, producer_named, script_at, script_of, section_begun, settled, draft_with_line}
+use Rattle.swss_script.specs.Sections.{Placed, placed, acts_of, acts_writes, producer_name, rounds_writes, sections_by, sections_from, sections_of, sections_writes, text_writes, writes_of}
+use Rattle.swss_script.specs.Stage.{AreOfProducers, IsProducerNumber}
 use Rattle.swss_script.specs.declared.draft.Draft.{Draft}
 use Rattle.swss_script.specs.declared.draft.Place.{Place}
 use Rattle.swss_script.specs.declared.draft.Place.TheVariants as place
@@ -32,14 +34,14 @@ use Rattle.swss_script.proofs.Steps.{AreKept, kept-in_head, kept-shown, same-ok,
 pub AreDistinct : List (List ℕ) → Type 0
 AreDistinct names = (i j : ℕ) → i < length names → j < length names → get_or names i [] ≡ get_or names j [] → i ≡ j
 
-same_number : (names : List (List ℕ)) (q p : ℕ) → AreDistinct names → IsNumber (length names) q → IsNumber (length names) p → bytes_eq (name_of names q) (name_of names p) ≡ (q == p)
+same_number : (names : List (List ℕ)) (q p : ℕ) → AreDistinct names → IsProducerNumber (length names) q → IsProducerNumber (length names) p → bytes_eq (producer_name names q) (producer_name names p) ≡ (q == p)
 unfolding AreDistinct
-same_number names q p distinct q_in p_in = one_answer _ _ (bytes_eq-Decides (name_of names q) (name_of names p)) (to, from)
+same_number names q p distinct q_in p_in = one_answer _ _ (bytes_eq-Decides (producer_name names q) (producer_name names p)) (to, from)
   where
-    to : (q == p) ≡ true → name_of names q ≡ name_of names p
-    to h = ap (name_of names) (eqb-true q p h)
+    to : (q == p) ≡ true → producer_name names q ≡ producer_name names p
+    to h = ap (producer_name names) (eqb-true q p h)
 
-    from : name_of names q ≡ name_of names p → (q == p) ≡ true
+    from : producer_name names q ≡ producer_name names p → (q == p) ≡ true
     from h =
         let places : q - 1 ≡ p - 1 = distinct (q - 1) (p - 1) (omega (arith, q_in.0, q_in.1)) (omega (arith, p_in.0, p_in.1)) h in
         let same : q ≡ p = omega (arith, places, q_in.0, p_in.0) in
@@ -78,18 +80,14 @@ distinct-more names name distinct none i j i_in j_in same =
 
 abbrev PlaceIn : ℕ → Place → Type 0
 PlaceIn count place.Head = Unit {0}
-PlaceIn count (place.Section producer) = IsNumber count producer
+PlaceIn count (place.Section producer) = IsProducerNumber count producer
 PlaceIn count place.Settled = Unit {0}
 
 record IsNumbered (d : Draft) : Type 0 where
   names : AreDistinct d.script.producers
   place : PlaceIn (length d.script.producers) d.place
-  sections : AreNumbered (length d.script.producers) d.sections
-  rounds : AllByRecursion (λ r. AreNumbered (length d.script.producers) r.sections) d.script.rounds
-
-all-append : {X : Type 0} (P : X → Type 0) (xs : List X) (x : X) → AllByRecursion P xs → P x → AllByRecursion P (xs ++ x ∷ [])
-all-append P [] x h here = (here, tt)
-all-append P (y ∷ xs) x h here = (h.0, all-append P xs x h.1 here)
+  sections : AreOfProducers (length d.script.producers) d.sections
+  rounds : AllByRecursion (λ r. AreOfProducers (length d.script.producers) r.sections) d.script.rounds
 
 all-map : {X : Type 0} (P Q : X → Type 0) (more : (x : X) → P x → Q x) (xs : List X) → AllByRecursion P xs → AllByRecursion Q xs
 all-map P Q more [] h = tt
@@ -101,8 +99,8 @@ numbered-still d e still kept h =
     record {
       names = subst AreDistinct (sym kept) h.names;
       place = subst (λ p. PlaceIn (length e.script.producers) p) (sym still.place) (subst (λ n. PlaceIn n d.place) count h.place);
-      sections = subst (AreNumbered (length e.script.producers)) (sym still.sections) (subst (λ n. AreNumbered n d.sections) count h.sections);
-      rounds = subst (AllByRecursion (λ r. AreNumbered (length e.script.producers) r.sections)) (sym still.rounds) (subst (λ n. AllByRecursion (λ r. AreNumbered n r.sections) d.script.rounds) count h.rounds);
+      sections = subst (AreOfProducers (length e.script.producers)) (sym still.sections) (subst (λ n. AreOfProducers n d.sections) count h.sections);
+      rounds = subst (AllByRecursion (λ r. AreOfProducers (length e.script.producers) r.sections)) (sym still.rounds) (subst (λ n. AllByRecursion (λ r. AreOfProducers n r.sections) d.script.rounds) count h.rounds);
     }
 
 numbered-acts : (p : Place) (d e : Draft) (acts : List Act) → in_section p d acts ≡ Ok e → IsNumbered d → IsNumbered e
@@ -114,15 +112,15 @@ numbered-acts place.Settled d e acts is h = cc
 numbered-ended : (p next : Place) (d : Draft) → d.place ≡ p → IsNumbered d → PlaceIn (length d.script.producers) next → IsNumbered (record (ended_in p d) { place = next })
 numbered-ended place.Head next d is h here = record { names = h.names; place = here; sections = h.sections; rounds = h.rounds }
 numbered-ended (place.Section producer) next d is h here =
-    let open_is : IsNumber (length d.script.producers) producer = subst (PlaceIn (length d.script.producers)) is h.place in
-    record { names = h.names; place = here; sections = all-append (λ s. IsNumber (length d.script.producers) s.producer) d.sections (record { producer = producer; acts = d.acts }) h.sections open_is; rounds = h.rounds }
+    let open_is : IsProducerNumber (length d.script.producers) producer = subst (PlaceIn (length d.script.producers)) is h.place in
+    record { names = h.names; place = here; sections = all-push (λ s. IsProducerNumber (length d.script.producers) s.producer) d.sections (record { producer = producer; acts = d.acts }) h.sections open_is; rounds = h.rounds }
 numbered-ended place.Settled next d is h here =
-    record { names = h.names; place = here; sections = tt; rounds = all-append (λ r. AreNumbered (length d.script.producers) r.sections) d.script.rounds (record { sections = d.sections; shows = d.shows }) h.rounds h.sections }
+    record { names = h.names; place = here; sections = tt; rounds = all-push (λ r. AreOfProducers (length d.script.producers) r.sections) d.script.rounds (record { sections = d.sections; shows = d.shows }) h.rounds h.sections }
 
 numbered-new : (d : Draft) (name : List ℕ) → position (bytes_eq name) d.script.producers ≡ None → IsNumbered d → IsNumbered (with_producer d name)
 numbered-new d name none h =
     let count : length (d.script.producers ++ name ∷ []) ≡ length d.script.producers + 1 = length-append d.script.producers (name ∷ []) in
-    let more : (n : ℕ) → IsNumber (length d.script.producers) n → IsNumber (length (d.script.producers ++ name ∷ [])) n = λ n i. (i.0, omega (arith, i.1, count)) in
+    let more : (n : ℕ) → IsProducerNumber (length d.script.producers) n → IsProducerNumber (length (d.script.producers ++ name ∷ [])) n = λ n i. (i.0, omega (arith, i.1, count)) in
     record {
       names = distinct-more d.script.producers name h.names none;
       place = place-more d.place more h.place;
@@ -130,7 +128,7 @@ numbered-new d name none h =
       rounds = all-map _ _ (λ r. all-map _ _ (λ s. more s.producer) r.sections) d.script.rounds h.rounds;
     }
   where
-    place-more : (p : Place) → ((n : ℕ) → IsNumber (length d.script.producers) n → IsNumber (length (d.script.producers ++ name ∷ [])) n) → PlaceIn (length d.script.producers) p → PlaceIn (length (d.script.producers ++ name ∷ [])) p
+    place-more : (p : Place) → ((n : ℕ) → IsProducerNumber (length d.script.producers) n → IsProducerNumber (length (d.script.producers ++ name ∷ [])) n) → PlaceIn (length d.script.producers) p → PlaceIn (length (d.script.producers ++ name ∷ [])) p
     place-more place.Head more h = tt
     place-more (place.Section producer) more h = more producer h
     place-more place.Settled more h = tt
@@ -138,19 +136,19 @@ numbered-new d name none h =
 numbered-named-new : (d e : Draft) (name : List ℕ) (fits : Bool) → position (bytes_eq name) d.script.producers ≡ None → IsNumbered d → cond fits (Ok (section_begun (with_producer d name) (length d.script.producers + 1))) (Err why.TooManyProducers) ≡ Ok e → IsNumbered e
 numbered-named-new d e name true none h is =
     let count : length (d.script.producers ++ name ∷ []) ≡ length d.script.producers + 1 = length-append d.script.producers (name ∷ []) in
-    let here : IsNumber (length (d.script.producers ++ name ∷ [])) (length d.script.producers + 1) = (omega arith, omega (arith, count)) in
+    let here : IsProducerNumber (length (d.script.producers ++ name ∷ [])) (length d.script.producers + 1) = (omega arith, omega (arith, count)) in
     subst IsNumbered (same-ok _ _ is) (numbered-ended d.place (place.Section (length d.script.producers + 1)) (with_producer d name) refl (numbered-new d name none h) here)
 numbered-named-new d e name false none h is = cc
 
-numbered-named : (d e : Draft) (name : List ℕ) (at : Option ℕ) → position (bytes_eq name) d.script.producers ≡ at → IsNumbered d → named d name at ≡ Ok e → IsNumbered e
+numbered-named : (d e : Draft) (name : List ℕ) (at : Option ℕ) → position (bytes_eq name) d.script.producers ≡ at → IsNumbered d → producer_named d name at ≡ Ok e → IsNumbered e
 numbered-named d e name (Some at) found h is =
-    let there = chosen (ltb (position_or_len (bytes_eq name) d.script.producers) (length d.script.producers)) (position_or_len (bytes_eq name) d.script.producers) at found in
+    let there = cond_some (ltb (position_or_len (bytes_eq name) d.script.producers) (length d.script.producers)) (position_or_len (bytes_eq name) d.script.producers) at found in
     let within : position_or_len (bytes_eq name) d.script.producers < length d.script.producers = ltb-true _ _ there.0 in
-    let here : IsNumber (length d.script.producers) (at + 1) = (omega arith, omega (arith, within, there.1)) in
+    let here : IsProducerNumber (length d.script.producers) (at + 1) = (omega arith, omega (arith, within, there.1)) in
     subst IsNumbered (same-ok _ _ is) (numbered-ended d.place (place.Section (at + 1)) d refl h here)
 numbered-named d e name None found h is = numbered-named-new d e name (nat_lt (length d.script.producers) 4) found h is
 
-numbered-line : (d e : Draft) (line : Line) → with_line d line ≡ Ok e → IsNumbered d → IsNumbered e
+numbered-line : (d e : Draft) (line : Line) → draft_with_line d line ≡ Ok e → IsNumbered d → IsNumbered e
 numbered-line d e Blank is h = subst IsNumbered (same-ok _ _ is) h
 numbered-line d e (Head line) is h = numbered-still d e (still-in_head d.place d e line is) (kept-in_head d.place d e line is) h
 numbered-line d e (Producer name) is h = numbered-named d e name (position (bytes_eq name) d.script.producers) refl h is
@@ -167,7 +165,7 @@ numbered-line d e Other is h = cc
 
 pub record IsNumberedScript (script : Script) : Type 0 where
   pub names : AreDistinct script.producers
-  pub rounds : AllByRecursion (λ r. AreNumbered (length script.producers) r.sections) script.rounds
+  pub rounds : AllByRecursion (λ r. AreOfProducers (length script.producers) r.sections) script.rounds
 
 numbered-close : (p : Place) (d : Draft) → d.place ≡ p → IsNumbered d → IsNumberedScript (ended_in p d).script
 numbered-close p d is h =
@@ -215,30 +213,30 @@ both : (a b : Bool) (xs ys : List Write) → cond (a && b) xs [] ++ cond a ys []
 both true b xs ys = refl
 both false b xs ys = refl
 
-writes-sections : (names : List (List ℕ)) (round producer n : ℕ) (sections : List Section) → AreDistinct names → IsNumber (length names) producer → AreNumbered (length names) sections
-    → writes_of round (name_of names producer) (sections_writes names n sections) ≡ cond (n == round) (sections_by producer sections) []
+writes-sections : (names : List (List ℕ)) (round producer n : ℕ) (sections : List Section) → AreDistinct names → IsProducerNumber (length names) producer → AreOfProducers (length names) sections
+    → writes_of round (producer_name names producer) (sections_writes names n sections) ≡ cond (n == round) (sections_by producer sections) []
 writes-sections names round producer n [] distinct here all = none (n == round)
   where
     none : (b : Bool) → [] ≡ cond b (sections_by producer []) []
     none true = refl
     none false = refl
 writes-sections names round producer n (s ∷ ss) distinct here all =
-    writes-append round (name_of names producer) (acts_writes n (name_of names s.producer) s.acts) (sections_writes names n ss)
+    writes-append round (producer_name names producer) (acts_writes n (producer_name names s.producer) s.acts) (sections_writes names n ss)
     ∙ ap₂ (λ xs ys. xs ++ ys)
-    (writes-acts round (name_of names producer) n (name_of names s.producer) s.acts ∙ ap (λ b. cond (n == round && b) (acts_of s.acts) []) (same_number names s.producer producer distinct all.0 here))
+    (writes-acts round (producer_name names producer) n (producer_name names s.producer) s.acts ∙ ap (λ b. cond (n == round && b) (acts_of s.acts) []) (same_number names s.producer producer distinct all.0 here))
     (writes-sections names round producer n ss distinct here all.1)
     ∙ both (n == round) (s.producer == producer) (acts_of s.acts) (sections_by producer ss)
 
-writes-rounds : (names : List (List ℕ)) (round producer n : ℕ) (rounds : List Round) → AreDistinct names → IsNumber (length names) producer → AllByRecursion (λ r. AreNumbered (length names) r.sections) rounds
-    → writes_of round (name_of names producer) (rounds_writes names n rounds) ≡ sections_from n round producer rounds
+writes-rounds : (names : List (List ℕ)) (round producer n : ℕ) (rounds : List Round) → AreDistinct names → IsProducerNumber (length names) producer → AllByRecursion (λ r. AreOfProducers (length names) r.sections) rounds
+    → writes_of round (producer_name names producer) (rounds_writes names n rounds) ≡ sections_from n round producer rounds
 writes-rounds names round producer n [] distinct here all = refl
 writes-rounds names round producer n (r ∷ rounds) distinct here all =
-    writes-append round (name_of names producer) (sections_writes names n r.sections) (rounds_writes names (n + 1) rounds)
+    writes-append round (producer_name names producer) (sections_writes names n r.sections) (rounds_writes names (n + 1) rounds)
     ∙ ap₂ (λ xs ys. xs ++ ys) (writes-sections names round producer n r.sections distinct here all.0) (writes-rounds names round producer (n + 1) rounds distinct here all.1)
 
 -- the writes of a producer's sections are those of their lines
 pub sections-by_lines : (bytes : List ℕ) (script : Script) (round producer : ℕ) → script_of bytes ≡ Ok script → 0 < producer → producer ≤ length script.producers
-    → sections_of script round producer ≡ writes_of round (name_of script.producers producer) (text_writes bytes)
+    → sections_of script round producer ≡ writes_of round (producer_name script.producers producer) (text_writes bytes)
 sections-by_lines bytes script round producer h some within =
     let n = numbered-script bytes script h in
-    sym (writes-rounds script.producers round producer 1 script.rounds n.names (some, within) n.rounds) ∙ ap (writes_of round (name_of script.producers producer)) (writes-by_lines bytes script h)
+    sym (writes-rounds script.producers round producer 1 script.rounds n.names (some, within) n.rounds) ∙ ap (writes_of round (producer_name script.producers producer)) (writes-by_lines bytes script h)

@@ -7,16 +7,16 @@ use Rattle.std.proofs.lemmas.List.Sums.{passes_at_first}
 use Rattle.std.proofs.lemmas.Slice.Eq.{bytes_eq-Decides}
 use Rattle.std.specs.List.{position, position_or_len}
 use Rattle.std.specs.Str.{is_utf8}
+use Rattle.std.proofs.lemmas.Option.{cond_some}
 use Rattle.table_schema.specs.Plan.{Ports, plan_step}
 use Rattle.table_schema.specs.declared.plan.PlanWhy.{PlanWhy}
 use Rattle.table_schema.specs.declared.write.Write.{Write}
-use Rattle.swss_types.proofs.Choices.{chosen}
 use Rattle.swss_script.specs.Batch.{batch_of}
 use Rattle.swss_script.specs.Built.{is_built}
-use Rattle.swss_script.specs.Line.{is_block, line_of}
+use Rattle.swss_script.specs.Line.{is_block, script_line_of}
 use Rattle.swss_script.specs.Lines.{block_of, is_end, is_too_long, line_text, lines_in, text_of}
-use Rattle.swss_script.specs.Script.{add, new_draft, ended_in, if_built, in_block, in_head, in_section, named, round_ended, script_at, script_from, script_of, section_begun, settled, shown_in, step, step_by, with_block, with_head, with_line, with_plan, with_text}
-use Rattle.swss_script.specs.Sections.{Placed, placed, acts_writes, name_of, sections_writes, rounds_writes, script_writes, whole_line, told, line_writes, round_behind, name_behind, lines_writes, text_writes}
+use Rattle.swss_script.specs.Script.{add, new_draft, ended_in, if_built, in_block, in_head, in_section, producer_named, draft_round_ended, script_at, script_from, script_of, section_begun, settled, shown_in, step, draft_step, with_block, with_head, draft_with_line, with_plan, with_text}
+use Rattle.swss_script.specs.Sections.{Placed, placed, acts_writes, producer_name, sections_writes, rounds_writes, script_writes, whole_line, told, line_writes, round_behind, name_behind, lines_writes, text_writes}
 use Rattle.swss_script.specs.declared.draft.Draft.{Draft}
 use Rattle.swss_script.specs.declared.draft.Place.{Place}
 use Rattle.swss_script.specs.declared.draft.Place.TheVariants as place
@@ -50,9 +50,9 @@ acts-all : (n : ℕ) (name : List ℕ) (ws : List Write) → acts_writes n name 
 acts-all n name [] = refl
 acts-all n name (w ∷ ws) = ap (λ ps. placed n name w ∷ ps) (acts-all n name ws)
 
-sections-more : (names : List (List ℕ)) (n : ℕ) (xs : List Section) (s : Section) → sections_writes names n (xs ++ s ∷ []) ≡ sections_writes names n xs ++ acts_writes n (name_of names s.producer) s.acts
-sections-more names n [] s = nil (acts_writes n (name_of names s.producer) s.acts)
-sections-more names n (x ∷ xs) s = ap (λ ws. acts_writes n (name_of names x.producer) x.acts ++ ws) (sections-more names n xs s) ∙ sym (append_assoc (acts_writes n (name_of names x.producer) x.acts) (sections_writes names n xs) _)
+sections-more : (names : List (List ℕ)) (n : ℕ) (xs : List Section) (s : Section) → sections_writes names n (xs ++ s ∷ []) ≡ sections_writes names n xs ++ acts_writes n (producer_name names s.producer) s.acts
+sections-more names n [] s = nil (acts_writes n (producer_name names s.producer) s.acts)
+sections-more names n (x ∷ xs) s = ap (λ ws. acts_writes n (producer_name names x.producer) x.acts ++ ws) (sections-more names n xs s) ∙ sym (append_assoc (acts_writes n (producer_name names x.producer) x.acts) (sections_writes names n xs) _)
 
 rounds-more : (names : List (List ℕ)) (n : ℕ) (xs : List Round) (r : Round) → rounds_writes names n (xs ++ r ∷ []) ≡ rounds_writes names n xs ++ sections_writes names (n + length xs) r.sections
 rounds-more names n [] r =
@@ -76,7 +76,7 @@ base names d name = rounds_writes names 1 d.script.rounds ++ (sections_writes na
 -- the name of the producer whose section is open
 abbrev current : List (List ℕ) → Place → List ℕ
 current names place.Head = []
-current names (place.Section producer) = name_of names producer
+current names (place.Section producer) = producer_name names producer
 current names place.Settled = []
 
 abbrev so_far : List (List ℕ) → Draft → List Placed
@@ -109,7 +109,7 @@ base-none names d name none =
     ∙ ap (λ ws. rounds_writes names 1 d.script.rounds ++ ws) (nil (sections_writes names (open_round d) d.sections))
 
 -- a round that ends
-rounds-ended : (names : List (List ℕ)) (d : Draft) (name : List ℕ) → d.acts ≡ [] → rounds_writes names 1 (round_ended d).script.rounds ≡ base names d name
+rounds-ended : (names : List (List ℕ)) (d : Draft) (name : List ℕ) → d.acts ≡ [] → rounds_writes names 1 (draft_round_ended d).script.rounds ≡ base names d name
 rounds-ended names d name none = rounds-more names 1 d.script.rounds (record { sections = d.sections; shows = d.shows }) ∙ sym (base-none names d name none)
 
 base-ended : (names : List (List ℕ)) (p : Place) (d : Draft) (name : List ℕ) → IsTidy p d.acts → base names (ended_in p d) name ≡ base names d (current names p)
@@ -117,8 +117,8 @@ base-ended names place.Head d name none = base-none names d name none ∙ sym (b
 base-ended names (place.Section producer) d name tidy =
     ap (λ ws. rounds_writes names 1 d.script.rounds ++ ws) (nil _ ∙ sections-more names (open_round d) d.sections (record { producer = producer; acts = d.acts }))
 base-ended names place.Settled d name none =
-    base-none names (round_ended d) name none
-    ∙ nil (rounds_writes names 1 (round_ended d).script.rounds)
+    base-none names (draft_round_ended d) name none
+    ∙ nil (rounds_writes names 1 (draft_round_ended d).script.rounds)
     ∙ rounds-ended names d [] none
 
 round-ended : (p : Place) (d : Draft) → open_round (ended_in p d) ≡ round_in p (open_round d)
@@ -233,7 +233,7 @@ record Began (names : List (List ℕ)) (d : Draft) (producer : ℕ) (e : Draft) 
   tidy : IsTidy e.place e.acts
   block : e.block ≡ d.block
   round : next_round e ≡ next_round d
-  name : current names e.place ≡ name_of names producer
+  name : current names e.place ≡ producer_name names producer
   writes : so_far names e ≡ so_far names d ++ []
 
 began : (names : List (List ℕ)) (d : Draft) (producer : ℕ) → IsTidy d.place d.acts → Began names d producer (section_begun d producer)
@@ -242,20 +242,20 @@ began names d producer tidy = record {
   block = block-ended d.place d;
   round = round-ended d.place d;
   name = refl;
-  writes = base-ended names d.place d (name_of names producer) tidy ∙ sym (nil (so_far names d));
+  writes = base-ended names d.place d (producer_name names producer) tidy ∙ sym (nil (so_far names d));
 }
 
 -- the name at a place that was found
-name-found : (names more : List (List ℕ)) (name : List ℕ) (at : ℕ) → position (bytes_eq name) names ≡ Some at → name_of (names ++ more) (at + 1) ≡ name
+name-found : (names more : List (List ℕ)) (name : List ℕ) (at : ℕ) → position (bytes_eq name) names ≡ Some at → producer_name (names ++ more) (at + 1) ≡ name
 name-found names more name at found =
-    let here = chosen (ltb (position_or_len (bytes_eq name) names) (length names)) (position_or_len (bytes_eq name) names) at found in
+    let here = cond_some (ltb (position_or_len (bytes_eq name) names) (length names)) (position_or_len (bytes_eq name) names) at found in
     let within : position_or_len (bytes_eq name) names < length names = ltb-true _ _ here.0 in
     let same : name ≡ get_or names (position_or_len (bytes_eq name) names) [] = (bytes_eq-Decides name _).0 (passes_at_first (bytes_eq name) names [] within) in
     let index : (at + 1) - 1 ≡ position_or_len (bytes_eq name) names = omega (arith, here.1) in
     ap (λ i. get_or (names ++ more) i []) index ∙ get_or_append_left names more [] (position_or_len (bytes_eq name) names) within ∙ sym same
 
 -- the name that was put last
-name-last : (names more : List (List ℕ)) (name : List ℕ) → name_of ((names ++ name ∷ []) ++ more) (length names + 1) ≡ name
+name-last : (names more : List (List ℕ)) (name : List ℕ) → producer_name ((names ++ name ∷ []) ++ more) (length names + 1) ≡ name
 name-last names more name =
     let index : (length names + 1) - 1 ≡ length names = omega arith in
     ap₂ (λ ns i. get_or ns i []) (append_assoc names (name ∷ []) more) index ∙ get_or-append_seam names name more []
@@ -269,7 +269,7 @@ kept-names place.Head d = refl
 kept-names (place.Section producer) d = refl
 kept-names place.Settled d = refl
 
-moves-begun : (names : List (List ℕ)) (d e : Draft) (name : List ℕ) (producer : ℕ) → name_of names producer ≡ name → Began names d producer e → DraftMoves names d (Producer name) e
+moves-begun : (names : List (List ℕ)) (d e : Draft) (name : List ℕ) (producer : ℕ) → producer_name names producer ≡ name → Began names d producer e → DraftMoves names d (Producer name) e
 moves-begun names d e name producer is b = record { tidy = b.tidy; block = b.block; round = b.round; name = b.name ∙ is; writes = b.writes }
 
 -- the same draft but for the names
@@ -282,15 +282,15 @@ moves-new : (names : List (List ℕ)) (d e : Draft) (name : List ℕ) (fits : Bo
 moves-new names d e name true tidy script_begins_with h =
     let is : section_begun (with_producer d name) (length d.script.producers + 1) ≡ e = same-ok _ _ h in
     let all : names ≡ (d.script.producers ++ name ∷ []) ++ script_begins_with.0 = script_begins_with.1 ∙ ap (λ f. f.script.producers ++ script_begins_with.0) (sym is) ∙ ap (λ ns. ns ++ script_begins_with.0) (kept-names d.place (with_producer d name)) in
-    let last : name_of names (length d.script.producers + 1) ≡ name = ap (λ ns. name_of ns (length d.script.producers + 1)) all ∙ name-last d.script.producers script_begins_with.0 name in
+    let last : producer_name names (length d.script.producers + 1) ≡ name = ap (λ ns. producer_name ns (length d.script.producers + 1)) all ∙ name-last d.script.producers script_begins_with.0 name in
     moves-begun names d e name (length d.script.producers + 1) last (subst (Began names d (length d.script.producers + 1)) is (began-new names d name (length d.script.producers + 1) tidy))
 moves-new names d e name false tidy script_begins_with h = cc
 
-moves-named : (names : List (List ℕ)) (d e : Draft) (name : List ℕ) (at : Option ℕ) → position (bytes_eq name) d.script.producers ≡ at → IsTidy d.place d.acts → BeginsWith names e → named d name at ≡ Ok e → DraftMoves names d (Producer name) e
+moves-named : (names : List (List ℕ)) (d e : Draft) (name : List ℕ) (at : Option ℕ) → position (bytes_eq name) d.script.producers ≡ at → IsTidy d.place d.acts → BeginsWith names e → producer_named d name at ≡ Ok e → DraftMoves names d (Producer name) e
 moves-named names d e name (Some at) found tidy script_begins_with h =
     let is : section_begun d (at + 1) ≡ e = same-ok _ _ h in
     let all : names ≡ d.script.producers ++ script_begins_with.0 = script_begins_with.1 ∙ ap (λ f. f.script.producers ++ script_begins_with.0) (sym is) ∙ ap (λ ns. ns ++ script_begins_with.0) (kept-names d.place d) in
-    let here : name_of names (at + 1) ≡ name = ap (λ ns. name_of ns (at + 1)) all ∙ name-found d.script.producers script_begins_with.0 name at found in
+    let here : producer_name names (at + 1) ≡ name = ap (λ ns. producer_name ns (at + 1)) all ∙ name-found d.script.producers script_begins_with.0 name at found in
     moves-begun names d e name (at + 1) here (subst (Began names d (at + 1)) is (began names d (at + 1) tidy))
 moves-named names d e name None found tidy script_begins_with h = moves-new names d e name (nat_lt (length d.script.producers) 4) tidy script_begins_with h
 
@@ -303,7 +303,7 @@ moves-settle names d tidy = record {
   writes = base-ended names d.place d [] tidy ∙ sym (nil (so_far names d));
 }
 
-moves-line : (names : List (List ℕ)) (d e : Draft) (line : Line) → IsTidy d.place d.acts → BeginsWith names e → with_line d line ≡ Ok e → DraftMoves names d line e
+moves-line : (names : List (List ℕ)) (d e : Draft) (line : Line) → IsTidy d.place d.acts → BeginsWith names e → draft_with_line d line ≡ Ok e → DraftMoves names d line e
 moves-line names d e Blank tidy script_begins_with h =
     let s = still-to d d e (record { place = refl; block = refl; rounds = refl; sections = refl; acts = refl }) (same-ok _ _ h) in
     record { tidy = still-tidy d e s tidy; block = s.block; round = still-round d e s; name = ap (current names) s.place; writes = still-writes names d e s }
@@ -334,7 +334,7 @@ moves-built names d e line false (Ok other) moves h = cc
 moves-built names d e line false (Err reason) moves h = cc
 
 moves-add : (names : List (List ℕ)) (d e : Draft) (line : Line) → IsTidy d.place d.acts → BeginsWith names e → add d line ≡ Ok e → DraftMoves names d line e
-moves-add names d e line tidy script_begins_with h = moves-built names d e line (is_built line) (with_line d line) (moves-line names d e line tidy script_begins_with) h
+moves-add names d e line tidy script_begins_with h = moves-built names d e line (is_built line) (draft_with_line d line) (moves-line names d e line tidy script_begins_with) h
 
 -- ---- lines one after the other
 
@@ -371,13 +371,13 @@ steps-by names d e line rest false tidy script_begins_with out h =
 
 steps-text : (names : List (List ℕ)) (d e : Draft) (bytes : List ℕ) (rest : List (List ℕ)) (utf8 : Bool) → IsTidy d.place d.acts → BeginsWith names e → d.block ≡ false
     → with_text d (cond utf8 (Some bytes) None) rest ≡ Ok e
-    → Steps names d (whole_line (line_of bytes) rest ∷ told (is_block (line_of bytes)) rest) e (told e.block rest)
-steps-text names d e bytes rest true tidy script_begins_with out h = steps-by names d e (line_of bytes) rest (is_block (line_of bytes)) tidy script_begins_with out h
+    → Steps names d (whole_line (script_line_of bytes) rest ∷ told (is_block (script_line_of bytes)) rest) e (told e.block rest)
+steps-text names d e bytes rest true tidy script_begins_with out h = steps-by names d e (script_line_of bytes) rest (is_block (script_line_of bytes)) tidy script_begins_with out h
 steps-text names d e bytes rest false tidy script_begins_with out h = cc
 
 steps-in : (names : List (List ℕ)) (d e : Draft) (bytes : List ℕ) (rest : List (List ℕ)) (block : Bool) → d.block ≡ block → IsTidy d.place d.acts → BeginsWith names e
     → cond block (Ok (record d { block = not (is_end bytes) })) (with_text d (text_of bytes) rest) ≡ Ok e
-    → Steps names d (cond block (told (not (is_end bytes)) rest) (whole_line (line_of bytes) rest ∷ told (is_block (line_of bytes)) rest)) e (told e.block rest)
+    → Steps names d (cond block (told (not (is_end bytes)) rest) (whole_line (script_line_of bytes) rest ∷ told (is_block (script_line_of bytes)) rest)) e (told e.block rest)
 steps-in names d e bytes rest true is tidy script_begins_with h =
     let inside : Steps names d (told (not (is_end bytes)) rest) (record d { block = not (is_end bytes) }) (told (not (is_end bytes)) rest) = record { tidy = tidy; same = refl } in
     subst (λ g. Steps names d (told (not (is_end bytes)) rest) g (told g.block rest)) (same-ok _ _ h) inside
@@ -390,7 +390,7 @@ steps-if false reason answer e h = h
 -- a step, with the lines behind it
 steps : (names : List (List ℕ)) (d e : Draft) (number : ℕ) (line : List ℕ) (rest : List (List ℕ)) → IsTidy d.place d.acts → BeginsWith names e → step d number line rest ≡ Ok e → Steps names d (told d.block (line ∷ rest)) e (told e.block rest)
 steps names d e number line rest tidy script_begins_with h =
-    let text = steps-if (nat_lt 1000000 number) _ (step_by d (line_text line) rest) e h in
+    let text = steps-if (nat_lt 1000000 number) _ (draft_step d (line_text line) rest) e h in
     let inside = steps-if (is_too_long (line_text line)) _ _ e text in
     steps-in names d e (line_text line) rest d.block refl tidy script_begins_with inside
 

@@ -10,7 +10,7 @@ use Rattle.table_schema.proofs.Plans.{IsPlan-none, IsPlan-plan_step}
 use Rattle.sai_types.specs.Objects.{level}
 use Rattle.sai_types.specs.declared.kind.Kind.{Kind}
 use Rattle.swss_script.specs.Built.{is_built, is_built_show}
-use Rattle.swss_script.specs.Script.{new_draft, ended_in, in_head, in_section, named, round_ended, script_at, script_of, section_begun, settled, shown_in, with_capacity, with_line, with_plan}
+use Rattle.swss_script.specs.Script.{new_draft, ended_in, in_head, in_section, producer_named, draft_round_ended, script_at, script_of, section_begun, settled, shown_in, with_capacity, draft_with_line, with_plan}
 use Rattle.swss_script.specs.Stage.{IsOfStage, is_built_act, is_built_round, is_built_section}
 use Rattle.swss_script.specs.declared.draft.Draft.{Draft}
 use Rattle.swss_script.specs.declared.draft.Place.{Place}
@@ -50,7 +50,7 @@ all-last test xs x first last = all-more test xs (x ∷ []) first (ap (λ b. b &
 
 -- ---- what ends
 
-staged-round : (d : Draft) → IsStaged d → IsBuiltScript (round_ended d).script
+staged-round : (d : Draft) → IsStaged d → IsBuiltScript (draft_round_ended d).script
 staged-round d h =
     let s = h.script in
     record {
@@ -124,7 +124,7 @@ staged-first d e name true is k h =
     subst IsStaged (same-ok _ _ k) (staged-ended d.place (place.Section (length d.script.producers + 1)) (with_producer d name) (staged-new d name (ltb-true _ _ is) h))
 staged-first d e name false is k h = cc
 
-staged-named : (d e : Draft) (name : List ℕ) (at : Option ℕ) → named d name at ≡ Ok e → IsStaged d → IsStaged e
+staged-named : (d e : Draft) (name : List ℕ) (at : Option ℕ) → producer_named d name at ≡ Ok e → IsStaged d → IsStaged e
 staged-named d e name (Some at) k h = subst IsStaged (same-ok _ _ k) (staged-ended d.place (place.Section (at + 1)) d h)
 staged-named d e name None k h = staged-first d e name (nat_lt (length d.script.producers) 4) refl k h
 
@@ -133,7 +133,7 @@ writes-built : (writes : List Write) → list_all is_built_act (map act.Write wr
 writes-built [] = refl
 writes-built (write ∷ writes) = writes-built writes
 
-staged-line : (d e : Draft) (line : Line) → is_built line ≡ true → with_line d line ≡ Ok e → IsStaged d → IsStaged e
+staged-line : (d e : Draft) (line : Line) → is_built line ≡ true → draft_with_line d line ≡ Ok e → IsStaged d → IsStaged e
 staged-line d e Blank built k h = subst IsStaged (same-ok _ _ k) h
 staged-line d e (Head line) built k h = staged-head d.place d e line built k h
 staged-line d e (Producer name) built k h = staged-named d e name (position (bytes_eq name) d.script.producers) k h
@@ -152,7 +152,7 @@ staged-line d e Other built k h = cc
 abbrev IsDone : Script → Type 0
 IsDone script = IsBuiltScript script × (0 < length script.rounds)
 
-done-round : (d : Draft) → IsStaged d → IsDone (round_ended d).script
+done-round : (d : Draft) → IsStaged d → IsDone (draft_round_ended d).script
 done-round d h = (staged-round d h, omega (arith, length-append d.script.rounds ((record { sections = d.sections; shows = d.shows }) ∷ [])))
 
 done-at : (p : Place) (d : Draft) → d.place ≡ p → IsStaged d → IsDone (script_at p d)

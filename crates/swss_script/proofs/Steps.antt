@@ -6,9 +6,9 @@ use Rattle.table_schema.specs.Plan.{Ports, plan_step}
 use Rattle.table_schema.specs.declared.plan.PlanWhy.{PlanWhy}
 use Rattle.swss_script.specs.Batch.{batch_of}
 use Rattle.swss_script.specs.Built.{is_built}
-use Rattle.swss_script.specs.Line.{is_block, line_of}
+use Rattle.swss_script.specs.Line.{is_block, script_line_of}
 use Rattle.swss_script.specs.Lines.{block_of, is_end, is_too_long, line_text, text_of}
-use Rattle.swss_script.specs.Script.{add, ended_in, if_built, in_block, in_head, in_section, named, section_begun, settled, shown_in, step, step_by, with_block, with_head, with_line, with_plan, with_text}
+use Rattle.swss_script.specs.Script.{add, ended_in, if_built, in_block, in_head, in_section, producer_named, section_begun, settled, shown_in, step, draft_step, with_block, with_head, draft_with_line, with_plan, with_text}
 use Rattle.swss_script.specs.declared.draft.Draft.{Draft}
 use Rattle.swss_script.specs.declared.draft.Place.{Place}
 use Rattle.swss_script.specs.declared.draft.Place.TheVariants as place
@@ -86,11 +86,11 @@ module _ (P : Draft → Type 0) (stays : (d d' : Draft) → AreKept d d' → P d
       stays more d' (kept-to more (section_begun more (length d.script.producers + 1)) d' (kept-ended d.place more) (same-ok _ _ h)) (adds d name (ltb-true _ _ is) holds)
   holds-new d d' name false is holds h = cc
 
-  holds-named : (d d' : Draft) (name : List ℕ) (at : Option ℕ) → P d → named d name at ≡ Ok d' → P d'
+  holds-named : (d d' : Draft) (name : List ℕ) (at : Option ℕ) → P d → producer_named d name at ≡ Ok d' → P d'
   holds-named d d' name (Some at) holds h = stays d d' (kept-to d (section_begun d (at + 1)) d' (kept-ended d.place d) (same-ok _ _ h)) holds
   holds-named d d' name None holds h = holds-new d d' name (nat_lt (length d.script.producers) 4) refl holds h
 
-  holds-line : (d d' : Draft) (line : Line) → P d → with_line d line ≡ Ok d' → P d'
+  holds-line : (d d' : Draft) (line : Line) → P d → draft_with_line d line ≡ Ok d' → P d'
   holds-line d d' Blank holds h = stays d d' (kept-to d d d' refl (same-ok _ _ h)) holds
   holds-line d d' (Head line) holds h = stays d d' (kept-in_head d.place d d' line h) holds
   holds-line d d' (Producer name) holds h = holds-named d d' name (position (bytes_eq name) d.script.producers) holds h
@@ -109,7 +109,7 @@ module _ (P : Draft → Type 0) (stays : (d d' : Draft) → AreKept d d' → P d
   holds-built d' false (Err reason) holds h = cc
 
   holds-add : (d d' : Draft) (line : Line) → P d → add d line ≡ Ok d' → P d'
-  holds-add d d' line holds h = holds-built d' (is_built line) (with_line d line) (λ e is. holds-line d e line holds is) h
+  holds-add d d' line holds h = holds-built d' (is_built line) (draft_with_line d line) (λ e is. holds-line d e line holds is) h
 
   holds-block : (d' : Draft) (answer : Result Draft Why) → ((e : Draft) → answer ≡ Ok e → P e) → in_block answer ≡ Ok d' → P d'
   holds-block d' (Ok e) holds h = stays e d' (kept-to e (record e { block = true }) d' refl (same-ok _ _ h)) (holds e refl)
@@ -121,7 +121,7 @@ module _ (P : Draft → Type 0) (stays : (d d' : Draft) → AreKept d d' → P d
 
   holds-read : (d d' : Draft) (text : Option (List ℕ)) (lines : List (List ℕ)) → P d → with_text d text lines ≡ Ok d' → P d'
   holds-read d d' None lines holds h = cc
-  holds-read d d' (Some text) lines holds h = holds-with d d' (line_of text) lines (is_block (line_of text)) holds h
+  holds-read d d' (Some text) lines holds h = holds-with d d' (script_line_of text) lines (is_block (script_line_of text)) holds h
 
   holds-if : (wrong : Bool) (reason : Why) (answer : Result Draft Why) (d' : Draft) → (answer ≡ Ok d' → P d') → cond wrong (Err reason) answer ≡ Ok d' → P d'
   holds-if true reason answer d' holds h = cc
@@ -136,7 +136,7 @@ module _ (P : Draft → Type 0) (stays : (d d' : Draft) → AreKept d d' → P d
   holds-step d d' number line lines holds h =
       let read = holds-read d d' (text_of (line_text line)) lines holds in
       let in_text = holds-text d.block d (record d { block = not (is_end (line_text line)) }) (with_text d (text_of (line_text line)) lines) d' refl holds read in
-      holds-if (nat_lt 1000000 number) _ (step_by d (line_text line) lines) d' (holds-if (is_too_long (line_text line)) _ _ d' in_text) h
+      holds-if (nat_lt 1000000 number) _ (draft_step d (line_text line) lines) d' (holds-if (is_too_long (line_text line)) _ _ d' in_text) h
 
 -- a step keeps the producers few
 pub few-step : (d d' : Draft) (number : ℕ) (line : List ℕ) (lines : List (List ℕ)) → HasFew d → step d number line lines ≡ Ok d' → HasFew d'

@@ -49,15 +49,15 @@ write_in (member name value (member other another no_members)) =
     else None
 write_in _ = None
 
-abbrev pub with_write : Option Write → Option (List Write) → Option (List Write)
-with_write None writes = None
-with_write (Some write) writes = option_map (λ more. write ∷ more) writes
+abbrev pub write_before : Option Write → Option (List Write) → Option (List Write)
+write_before None writes = None
+write_before (Some write) writes = option_map (λ more. write ∷ more) writes
 
 -- the writes of a list, where each of its elements is one
-abbrev pub writes_in : Items → Option (List Write)
-writes_in no_items = Some []
-writes_in (item element elements) = with_write (option_and_then write_in (as_object element)) (writes_in elements)
+abbrev pub writes_of_items : Items → Option (List Write)
+writes_of_items no_items = Some []
+writes_of_items (item element elements) = write_before (option_and_then write_in (as_object element)) (writes_of_items elements)
 
 -- the writes of a batch
 abbrev pub batch_of : List ℕ → Option (List Write)
-batch_of text = if is_utf8 text then option_and_then (λ json. option_and_then writes_in (as_array json)) (read text) else None
+batch_of text = if is_utf8 text then option_and_then (λ json. option_and_then writes_of_items (as_array json)) (read text) else None

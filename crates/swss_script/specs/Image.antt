@@ -27,14 +27,14 @@ abbrev pub is_row : Data → Bool
 is_row row = has_field (option_and_then texts_in (as_object row))
 
 -- whether one of these names reads as the key
-abbrev pub is_named : Key → Members → Bool
-is_named key no_members = false
-is_named key (member name row rows) = is_at (key_cmp key) (key_of name) || is_named key rows
+abbrev pub is_key_named : Key → Members → Bool
+is_key_named key no_members = false
+is_key_named key (member name row rows) = is_at (key_cmp key) (key_of name) || is_key_named key rows
 
 -- a key, and no name of these reads as the same
 abbrev pub is_single : Option Key → Members → Bool
 is_single None rows = false
-is_single (Some key) rows = not (is_named key rows)
+is_single (Some key) rows = not (is_key_named key rows)
 
 -- rows by their names: each name has a colon, no two of them read as one key, and each value is a row
 abbrev pub are_rows : Members → Bool
@@ -52,8 +52,8 @@ abbrev pub version_of : Data → Option ℕ
 version_of value = option_and_then as_u64 (option_and_then as_number (get (codes "version") value))
 
 -- the members of the member `rows`, where it is an object
-abbrev pub rows_of : Data → Option Members
-rows_of value = option_and_then as_object (get (codes "rows") value)
+abbrev pub rows_member : Data → Option Members
+rows_member value = option_and_then as_object (get (codes "rows") value)
 
 abbrev pub has_rows : Option Members → Bool
 has_rows None = false
@@ -61,7 +61,7 @@ has_rows (Some rows) = are_rows rows
 
 -- the form of an image: the two members `rows` and `version` and no other, of which `version` is 1
 abbrev pub is_image : Data → Bool
-is_image value = has_two (as_object value) && (option_eq ◌==◌ (version_of value) (Some 1) && has_rows (rows_of value))
+is_image value = has_two (as_object value) && (option_eq ◌==◌ (version_of value) (Some 1) && has_rows (rows_member value))
 
 -- ---- faults
 

@@ -22,12 +22,12 @@ use Rattle.swss_script.specs.declared.parts.Show.{Show}
 use Rattle.swss_script.specs.declared.parts.Show.TheVariants as show
 
 -- `port NAME LANES`: a name, a space and lanes, as a port plan takes them
-abbrev pub port_line : List (List ℕ) → Option HeadLine
-port_line words = option_map (λ parts. head.Port (parts.0 ++ 32 ∷ parts.1)) (two_words words)
+abbrev pub port_head : List (List ℕ) → Option HeadLine
+port_head words = option_map (λ parts. head.Port (parts.0 ++ 32 ∷ parts.1)) (two_words words)
 
 -- the kind of a word
-abbrev pub kind_of : List ℕ → Option Kind
-kind_of word =
+abbrev pub kind_of_word : List ℕ → Option Kind
+kind_of_word word =
     if bytes_eq word (codes "PORT") then Some kind.Port
     else if bytes_eq word (codes "VLAN") then Some kind.Vlan
     else if bytes_eq word (codes "BRIDGE_PORT") then Some kind.BridgePort
@@ -47,8 +47,8 @@ chip_with (Some k) None = None
 chip_with (Some k) (Some most) = Some (head.Chip k most)
 
 -- `chip KIND MAX`
-abbrev pub chip_line : List (List ℕ) → Option HeadLine
-chip_line words = option_and_then (λ parts. chip_with (kind_of parts.0) (number_within MOST_CAPACITY parts.1)) (two_words words)
+abbrev pub chip_head : List (List ℕ) → Option HeadLine
+chip_head words = option_and_then (λ parts. chip_with (kind_of_word parts.0) (number_within MOST_CAPACITY parts.1)) (two_words words)
 
 -- whether a failing call takes effect before it fails
 abbrev pub is_after : List ℕ → Option Bool
@@ -137,8 +137,8 @@ show_line words = Other
 abbrev pub line_by : List ℕ → List (List ℕ) → List ℕ → Line
 line_by first others behind =
     if starts_with ◌==◌ first (codes "#") then Blank
-    else if bytes_eq first (codes "port") then Head (port_line others)
-    else if bytes_eq first (codes "chip") then Head (chip_line others)
+    else if bytes_eq first (codes "port") then Head (port_head others)
+    else if bytes_eq first (codes "chip") then Head (chip_head others)
     else if bytes_eq first (codes "fail") then Head (fail_line others)
     else if bytes_eq first (codes "image") then Head (image_line others behind)
     else if bytes_eq first (codes "producer") then producer_line others
@@ -156,8 +156,8 @@ line_with [] behind = Blank
 line_with (first ∷ others) behind = line_by first others behind
 
 -- what a line says
-abbrev pub line_of : List ℕ → Line
-line_of text = line_with (words_in text) (behind_word text)
+abbrev pub script_line_of : List ℕ → Line
+script_line_of text = line_with (words_in text) (behind_word text)
 
 -- a block begins
 abbrev pub is_block : Line → Bool

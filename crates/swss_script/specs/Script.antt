@@ -8,7 +8,7 @@ use Rattle.table_schema.specs.Plan.{Ports, plan_step}
 use Rattle.table_schema.specs.declared.plan.PlanWhy.{PlanWhy}
 use Rattle.swss_script.specs.Batch.{batch_of}
 use Rattle.swss_script.specs.Built.{is_built}
-use Rattle.swss_script.specs.Line.{is_block, line_of}
+use Rattle.swss_script.specs.Line.{is_block, script_line_of}
 use Rattle.swss_script.specs.Lines.{block_of, is_end, is_too_long, line_text, lines_in, text_of}
 use Rattle.swss_script.specs.declared.draft.Draft.{Draft}
 use Rattle.swss_script.specs.declared.draft.Place.{Place}
@@ -39,13 +39,13 @@ abbrev pub section_ended : ℕ → Draft → Draft
 section_ended producer d = record d { sections = d.sections ++ (record { producer = producer; acts = d.acts }) ∷ []; acts = [] }
 
 -- a round ends, with its shows
-abbrev pub round_ended : Draft → Draft
-round_ended d = record d { script = record d.script { rounds = d.script.rounds ++ (record { sections = d.sections; shows = d.shows }) ∷ [] }; sections = []; shows = [] }
+abbrev pub draft_round_ended : Draft → Draft
+draft_round_ended d = record d { script = record d.script { rounds = d.script.rounds ++ (record { sections = d.sections; shows = d.shows }) ∷ [] }; sections = []; shows = [] }
 
 abbrev pub ended_in : Place → Draft → Draft
 ended_in place.Head d = d
 ended_in (place.Section producer) d = section_ended producer d
-ended_in place.Settled d = round_ended d
+ended_in place.Settled d = draft_round_ended d
 
 -- what is open ends: a section, or a round that was settled
 abbrev pub ended : Draft → Draft
@@ -94,9 +94,9 @@ in_head place.Head d (Some line) = with_head d line
 in_head _ d line = Err why.BadHead
 
 -- a producer that was named before keeps its number, and a new one has the next, while there are fewer than a script may have
-abbrev pub named : Draft → List ℕ → Option ℕ → Result Draft Why
-named d name (Some at) = Ok (section_begun d (at + 1))
-named d name None =
+abbrev pub producer_named : Draft → List ℕ → Option ℕ → Result Draft Why
+producer_named d name (Some at) = Ok (section_begun d (at + 1))
+producer_named d name None =
     if nat_lt (length d.script.producers) MOST_PRODUCERS then Ok (section_begun (record d { script = record d.script { producers = d.script.producers ++ name ∷ [] } }) (length d.script.producers + 1))
     else Err why.TooManyProducers
 
@@ -109,18 +109,18 @@ shown_in place.Settled d what = Ok (record d { shows = d.shows ++ what ∷ [] })
 shown_in _ d what = Err why.BadWord
 
 -- a line in its place
-abbrev pub with_line : Draft → Line → Result Draft Why
-with_line d Blank = Ok d
-with_line d (Head line) = in_head d.place d line
-with_line d (Producer name) = named d name (position (bytes_eq name) d.script.producers)
-with_line d (Put write) = in_section d.place d (act.Write write ∷ [])
-with_line d (Batch (Some writes)) = in_section d.place d (map act.Write writes)
-with_line d (Batch None) = Err why.BadJson
-with_line d Block = Err why.BadJson
-with_line d Restart = in_section d.place d (act.Restart ∷ [])
-with_line d Settle = Ok (settled d)
-with_line d (Shown what) = shown_in d.place d what
-with_line d Other = Err why.BadWord
+abbrev pub draft_with_line : Draft → Line → Result Draft Why
+draft_with_line d Blank = Ok d
+draft_with_line d (Head line) = in_head d.place d line
+draft_with_line d (Producer name) = producer_named d name (position (bytes_eq name) d.script.producers)
+draft_with_line d (Put write) = in_section d.place d (act.Write write ∷ [])
+draft_with_line d (Batch (Some writes)) = in_section d.place d (map act.Write writes)
+draft_with_line d (Batch None) = Err why.BadJson
+draft_with_line d Block = Err why.BadJson
+draft_with_line d Restart = in_section d.place d (act.Restart ∷ [])
+draft_with_line d Settle = Ok (settled d)
+draft_with_line d (Shown what) = shown_in d.place d what
+draft_with_line d Other = Err why.BadWord
 
 -- a form that the service does not have yet is refused as the last thing
 abbrev pub if_built : Bool → Result Draft Why → Result Draft Why
@@ -128,7 +128,7 @@ if_built false (Ok d) = Err why.NotYet
 if_built _ answer = answer
 
 abbrev pub add : Draft → Line → Result Draft Why
-add d line = if_built (is_built line) (with_line d line)
+add d line = if_built (is_built line) (draft_with_line d line)
 
 -- ---- lines one after the other
 
@@ -146,17 +146,17 @@ add_with d line lines = if is_block line then with_block d lines else add d line
 
 abbrev pub with_text : Draft → Option (List ℕ) → List (List ℕ) → Result Draft Why
 with_text d None lines = Err why.NotUtf8
-with_text d (Some text) lines = add_with d (line_of text) lines
+with_text d (Some text) lines = add_with d (script_line_of text) lines
 
-abbrev pub step_by : Draft → List ℕ → List (List ℕ) → Result Draft Why
-step_by d text lines =
+abbrev pub draft_step : Draft → List ℕ → List (List ℕ) → Result Draft Why
+draft_step d text lines =
     if is_too_long text then Err why.LineTooLong
     else if d.block then Ok (record d { block = not (is_end text) })
     else with_text d (text_of text) lines
 
 -- a numbered line with those behind it
 abbrev pub step : Draft → ℕ → List ℕ → List (List ℕ) → Result Draft Why
-step d number line lines = if nat_lt MOST_LINES number then Err why.TooManyLines else step_by d (line_text line) lines
+step d number line lines = if nat_lt MOST_LINES number then Err why.TooManyLines else draft_step d (line_text line) lines
 
 -- the script, or the line and reason of the first refusal, where so many lines were read and these follow
 abbrev pub script_from : Result Draft Why → ℕ → List (List ℕ) → Result Script Refused

@@ -2,7 +2,7 @@
 use Rattle.std.specs.Prelude.{ℕ, ◌+◌, ◌-◌, ◌==◌, Bool, false, not, ◌&&◌, List, [], ◌∷◌, ◌++◌, map, filter, slice_index_or, Some, option_and_then, bytes_eq, if◌then◌else◌}
 use Rattle.table_schema.specs.declared.write.Write.{Write}
 use Rattle.swss_script.specs.Batch.{batch_of}
-use Rattle.swss_script.specs.Line.{is_block, line_of}
+use Rattle.swss_script.specs.Line.{is_block, script_line_of}
 use Rattle.swss_script.specs.Lines.{block_of, is_end, line_text, lines_in}
 use Rattle.swss_script.specs.declared.line.Line.{Line}
 use Rattle.swss_script.specs.declared.line.Line.TheVariants.{Producer, Put, Batch, Settle}
@@ -29,12 +29,12 @@ acts_writes round name (act.Write write ∷ acts) = placed round name write ∷ 
 acts_writes round name (act.Restart ∷ acts) = acts_writes round name acts
 
 -- the name of the producer with this number
-abbrev pub name_of : List (List ℕ) → ℕ → List ℕ
-name_of names number = slice_index_or names (number - 1) []
+abbrev pub producer_name : List (List ℕ) → ℕ → List ℕ
+producer_name names number = slice_index_or names (number - 1) []
 
 abbrev pub sections_writes : List (List ℕ) → ℕ → List Section → List Placed
 sections_writes names round [] = []
-sections_writes names round (section ∷ sections) = acts_writes round (name_of names section.producer) section.acts ++ sections_writes names round sections
+sections_writes names round (section ∷ sections) = acts_writes round (producer_name names section.producer) section.acts ++ sections_writes names round sections
 
 abbrev pub rounds_writes : List (List ℕ) → ℕ → List Round → List Placed
 rounds_writes names number [] = []
@@ -55,7 +55,7 @@ abbrev pub told : Bool → List (List ℕ) → List Line
 told block [] = []
 told block (line ∷ lines) =
     if block then told (not (is_end (line_text line))) lines
-    else whole_line (line_of (line_text line)) lines ∷ told (is_block (line_of (line_text line))) lines
+    else whole_line (script_line_of (line_text line)) lines ∷ told (is_block (script_line_of (line_text line))) lines
 
 abbrev pub line_writes : ℕ → List ℕ → Line → List Placed
 line_writes round name (Put write) = placed round name write ∷ []

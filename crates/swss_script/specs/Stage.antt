@@ -24,12 +24,12 @@ abbrev pub is_built_round : Round → Bool
 is_built_round round = list_all is_built_section round.sections && list_all is_built_show round.shows
 
 -- a number of so many that are counted from 1
-abbrev pub IsNumber : ℕ → ℕ → Type 0
-IsNumber count number = (0 < number) × (number ≤ count)
+abbrev pub IsProducerNumber : ℕ → ℕ → Type 0
+IsProducerNumber count number = (0 < number) × (number ≤ count)
 
 -- the sections are of so many producers
-abbrev pub AreNumbered : ℕ → List Section → Type 0
-AreNumbered count sections = AllByRecursion (λ s. IsNumber count s.producer) sections
+abbrev pub AreOfProducers : ℕ → List Section → Type 0
+AreOfProducers count sections = AllByRecursion (λ s. IsProducerNumber count s.producer) sections
 
 -- what an accepted script of this stage has: no failing call, no image and no restart, a plan, no more producers than a
 -- script may have, and at least one round
@@ -40,4 +40,4 @@ pub record IsOfStage (script : Script) : Type 0 where
   pub producers : length script.producers ≤ MOST_PRODUCERS
   pub several : 0 < length script.rounds
   pub rounds : list_all is_built_round script.rounds ≡ true
-  pub numbers : AllByRecursion (λ r. AreNumbered (length script.producers) r.sections) script.rounds
+  pub numbers : AllByRecursion (λ r. AreOfProducers (length script.producers) r.sections) script.rounds

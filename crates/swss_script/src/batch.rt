@@ -2,7 +2,7 @@
 ghost use Rattle.std.specs.Prelude.{◌≡◌, IfOk, option_and_then, option_map};
 ghost use Rattle.serde_json.specs.Find.{as_object};
 ghost use Rattle.serde_json.specs.View.{items_view, members_view, view};
-ghost use Rattle.swss_script.specs.Batch.{batch_of, key_in_word, texts_in, write_in, write_of, writes_in};
+ghost use Rattle.swss_script.specs.Batch.{batch_of, key_in_word, texts_in, write_in, write_of, writes_of_items};
 
 use crate::Writes;
 use crate::fields::{copy_text, set_fields};
@@ -29,7 +29,7 @@ pub fn read_batch(alloc: Global, text: &[u8]) -> Result<Option<Writes>, OutOfMem
 
 /// The writes of a list, or None where one of its elements is none.
 fn read_elements(alloc: Global, elements: Vec<Value>) -> Result<Option<Writes>, OutOfMemory>
-    ensures { IfOk result (λ writes. writes ≡ writes_in (items_view elements.items)) }
+    ensures { IfOk result (λ writes. writes ≡ writes_of_items (items_view elements.items)) }
 {
     let mut writes = Writes::new(alloc);
     for element in elements {

@@ -2,7 +2,7 @@
 ghost use Rattle.std.specs.Prelude.{◌≡◌, ◌≤◌, [], ◌∷◌, IfOk, OnOk, bytes_eq, length, map};
 ghost use Rattle.std.specs.List.{position};
 ghost use Rattle.sai_types.specs.Objects.{level};
-ghost use Rattle.swss_script.specs.Script.{Becomes, add, new_draft, ended, in_head, in_section, named, round_ended, script_at, section_begun, section_ended, settled, shown_in, with_capacity, with_fail, with_head, with_line};
+ghost use Rattle.swss_script.specs.Script.{Becomes, add, new_draft, ended, in_head, in_section, producer_named, draft_round_ended, script_at, section_begun, section_ended, settled, shown_in, with_capacity, with_fail, with_head, draft_with_line};
 ghost use Rattle.swss_script.specs.declared.line.HeadLine.TheVariants as head;
 ghost use Rattle.swss_script.specs.declared.parts.Act.TheVariants as act;
 
@@ -95,7 +95,7 @@ impl Draft {
     /// Adds a line in its place, whether or not the service has its form.
     fn add_line(&mut self, alloc: Global, line: Line) -> Result<Result<(), Why>, OutOfMemory>
         requires { length self.old.script.producers ≤ 4 }
-        ensures { IfOk result (λ answer. Becomes (with_line self.old line) answer self.new) }
+        ensures { IfOk result (λ answer. Becomes (draft_with_line self.old line) answer self.new) }
     {
         match line {
             Line::Blank => Ok(Ok(())),
@@ -169,7 +169,7 @@ impl Draft {
         name: Text,
     ) -> Result<Result<(), Why>, OutOfMemory>
         requires { length self.old.script.producers ≤ 4 }
-        ensures { IfOk result (λ answer. Becomes (named self.old name (position (bytes_eq name) self.old.script.producers)) answer self.new) }
+        ensures { IfOk result (λ answer. Becomes (producer_named self.old name (position (bytes_eq name) self.old.script.producers)) answer self.new) }
     {
         if let Some(at) = place_of(self.script.producers.items(), name.bytes()) {
             self.begin_section(alloc, at as u32 + 1)?;
@@ -225,7 +225,7 @@ impl Draft {
 
     /// Ends a round with its shows.
     fn end_round(&mut self, alloc: Global) -> Result<(), OutOfMemory>
-        ensures { OnOk result (self.new ≡ round_ended self.old) }
+        ensures { OnOk result (self.new ≡ draft_round_ended self.old) }
     {
         let sections = mem::replace(&mut self.sections, Sections::new(alloc));
         let shows = mem::replace(&mut self.shows, Shows::new(alloc));

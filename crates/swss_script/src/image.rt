@@ -2,7 +2,7 @@
 ghost use Rattle.std.specs.Prelude.{◌≡◌, IfOk, is_some, option_map};
 ghost use Rattle.serde_json.specs.View.{members_view, view};
 ghost use Rattle.swss_script.specs.Batch.{texts_in};
-ghost use Rattle.swss_script.specs.Image.{are_rows, image_fault, is_image, is_row, rows_of, value_fault, version_of};
+ghost use Rattle.swss_script.specs.Image.{are_rows, image_fault, is_image, is_row, rows_member, value_fault, version_of};
 
 use crate::ImageFault;
 use crate::batch::key_in_word;
@@ -63,7 +63,7 @@ fn is_image(alloc: Global, value: &Value) -> Result<bool, OutOfMemory>
 
 /// The rows of a value, where they are an object.
 fn rows_of(value: &Value) -> Option<&Map<String, Value>>
-    ensures { option_map (λ rows. members_view rows.now.entries) result ≡ rows_of (view value.now) }
+    ensures { option_map (λ rows. members_view rows.now.entries) result ≡ rows_member (view value.now) }
 {
     value.get("rows").and_then(Value::as_object)
 }

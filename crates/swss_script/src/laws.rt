@@ -6,7 +6,7 @@ ghost use Rattle.swss_script.specs.Given.{HasField, HasReadKey};
 ghost use Rattle.swss_script.specs.Lines.{lines_in};
 ghost use Rattle.swss_script.specs.Plain.{has_batch};
 ghost use Rattle.swss_script.specs.Script.{script_of};
-ghost use Rattle.swss_script.specs.Sections.{name_of, script_writes, sections_by, sections_of, text_writes, writes_of};
+ghost use Rattle.swss_script.specs.Sections.{producer_name, script_writes, sections_by, sections_of, text_writes, writes_of};
 ghost use Rattle.swss_script.specs.Sent.{has_section, sent_by, sent_in_round};
 ghost use Rattle.swss_script.specs.Stage.{IsOfStage};
 ghost use Rattle.swss_script.specs.declared.parts.Round.{Round};
@@ -17,7 +17,7 @@ ghost use Rattle.swss_script.specs.declared.script.TheConstants.{MOST_LINES};
 /// what a producer writes in a round is what the lines of its sections in that round write.
 pub fn script_has_the_writes_of_its_lines()
     ensures all { (bytes : List ℕ) (script : Script) → script_of bytes ≡ Ok script → script_writes script ≡ text_writes bytes }
-    ensures each { (bytes : List ℕ) (script : Script) (round producer : ℕ) → script_of bytes ≡ Ok script → 0 < producer → producer ≤ length script.producers → sections_of script round producer ≡ writes_of round (name_of script.producers producer) (text_writes bytes) }
+    ensures each { (bytes : List ℕ) (script : Script) (round producer : ℕ) → script_of bytes ≡ Ok script → 0 < producer → producer ≤ length script.producers → sections_of script round producer ≡ writes_of round (producer_name script.producers producer) (text_writes bytes) }
 {}
 
 /// A script that is accepted has the forms of this stage alone: no failing call, no image and no restart, and only shows that

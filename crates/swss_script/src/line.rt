@@ -1,7 +1,7 @@
 // Lines of a script, by their words.
 ghost use Rattle.std.specs.Prelude.{◌≡◌, ◌==◌, ◌++◌, ◌∷◌, false, codes, IfOk, option_map};
 ghost use Rattle.std.specs.List.{starts_with};
-ghost use Rattle.swss_script.specs.Line.{alone, chip_line, del_line, fail_line, forward_to, image_line, is_after, is_block, is_name, json_line, kind_of, line_by, line_of, port_line, producer_line, set_line, show_line, show_of, shown};
+ghost use Rattle.swss_script.specs.Line.{alone, chip_head, del_line, fail_line, forward_to, image_line, is_after, is_block, is_name, json_line, kind_of_word, line_by, script_line_of, port_head, producer_line, set_line, show_line, show_of, shown};
 ghost use Rattle.swss_script.specs.Words.{words_in};
 
 use crate::batch::{key_in_word, read_batch};
@@ -67,7 +67,7 @@ pub fn is_block(line: &Line) -> bool
 
 /// The line that a text is.
 pub fn read_line(alloc: Global, text: &str) -> Result<Line, OutOfMemory>
-    ensures { IfOk result (λ line. line ≡ line_of text.now) }
+    ensures { IfOk result (λ line. line ≡ script_line_of text.now) }
 {
     let Some((first, behind)) = next_word(text) else {
         return Ok(Line::Blank);
@@ -101,7 +101,7 @@ fn read_words(alloc: Global, first: &str, behind: &str) -> Result<Line, OutOfMem
 
 /// The words behind `port`: a name and lanes.
 fn read_port(alloc: Global, text: &str) -> Result<Option<HeadLine>, OutOfMemory>
-    ensures { IfOk result (λ line. line ≡ port_line (words_in text.now)) }
+    ensures { IfOk result (λ line. line ≡ port_head (words_in text.now)) }
 {
     match two_words(text) {
         Some((name, lanes)) => Ok(Some(HeadLine::Port(join(alloc, name, lanes)?))),
@@ -121,7 +121,7 @@ fn join(alloc: Global, first: &str, second: &str) -> Result<Text, OutOfMemory>
 
 /// The words behind `chip`: a kind and a capacity.
 fn read_chip(text: &str) -> Option<HeadLine>
-    ensures { result ≡ chip_line (words_in text.now) }
+    ensures { result ≡ chip_head (words_in text.now) }
 {
     let (kind, most) = two_words(text)?;
     let kind = read_kind(kind)?;
@@ -131,7 +131,7 @@ fn read_chip(text: &str) -> Option<HeadLine>
 
 /// The kind of a word.
 fn read_kind(word: &str) -> Option<Kind>
-    ensures { result ≡ kind_of word.now }
+    ensures { result ≡ kind_of_word word.now }
 {
     match word {
         "PORT" => Some(Kind::Port),

@@ -1,11 +1,6 @@
 -- what is chosen by a test
 use Rattle.std.proofs.Common.{◌≡◌, Bool, true, false, cond, Option, None, Some, option_map, is_some, refl}
 
--- what was chosen passes the test
-pub chosen : {A : Type 0} (b : Bool) (x y : A) → cond b (Some x) None ≡ Some y → (b ≡ true) × (x ≡ y)
-chosen true x y h = (refl, cc)
-chosen false x y h = cc
-
 pub chosen_none : {A : Type 0} (b : Bool) (x : A) → cond b (Some x) None ≡ None → b ≡ false
 chosen_none true x h = cc
 chosen_none false x h = refl

@@ -5,12 +5,13 @@ use Rattle.std.proofs.lemmas.List.{take_rest}
 use Rattle.std.proofs.lemmas.List.Splits.{slice_split_first, slice_split_none}
 use Rattle.std.proofs.lemmas.List.Sums.{prefix_len_passes}
 use Rattle.std.specs.List.{position, position_or_len, slice_split}
-use Rattle.swss_types.proofs.Choices.{chosen, chosen_none}
+use Rattle.std.proofs.lemmas.Option.{cond_some}
+use Rattle.swss_types.proofs.Choices.{chosen_none}
 
 -- a list is cut at the place of its first element that passes
 pub cut-at_some : {X : Type 0} (p : X → Bool) (xs : List X) (i : ℕ) (d : X) → position p xs ≡ Some i → (length (take (length xs - (i + 1)) (drop (i + 1) xs)) < length xs) × (slice_split p xs ≡ take i xs ∷ slice_split p (take (length xs - (i + 1)) (drop (i + 1) xs)))
 cut-at_some p xs i d h =
-    let found = chosen (ltb (position_or_len p xs) (length xs)) (position_or_len p xs) i h in
+    let found = cond_some (ltb (position_or_len p xs) (length xs)) (position_or_len p xs) i h in
     let within : position_or_len p xs < length xs = ltb-true _ _ found.0 in
     let at : position_or_len p xs ≡ i = found.1 in (
       rw (take_rest xs (i + 1)) (omega (arith, length-drop (i + 1) xs)),

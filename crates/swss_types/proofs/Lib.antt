@@ -5,6 +5,7 @@ pub mod Proper
 pub mod WrittenOnce
 pub mod AddressOrders
 pub mod Addresses
+pub mod AllElements
 pub mod Choices
 pub mod Cuts
 pub mod Decimals

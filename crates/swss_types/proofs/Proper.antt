@@ -1,6 +1,7 @@
 -- what reads is proper
 use Rattle.std.proofs.Common.{◌≡◌, ℕ, ◌+◌, ◌-◌, ◌≤◌, ◌==◌, ◌&&◌, nat_lt, leb, take, drop, List, [], ◌∷◌, ◌++◌, length, replicate, Option, None, Some, option_map, IfSome, codes, refl, ◌∙◌, subst, arith, lit≤}
 use Rattle.std.proofs.lemmas.Bool.{eqb-true, leb-true, ltb-true, and_parts}
+use Rattle.std.proofs.lemmas.Option.{cond_some}
 use Rattle.swss_types.specs.Address.{width, IsProperIp, IsProperPrefix}
 use Rattle.swss_types.specs.Hex.{hex_within}
 use Rattle.swss_types.specs.Interface.{behind, vlan_of, loopback_of, vlan_or_other, ethernet_or_other, if_name_of, IsProperIfName}
@@ -21,7 +22,6 @@ use Rattle.swss_types.proofs.Decimals.{number_within-le}
 use Rattle.swss_types.proofs.Each.{AllBelow-each_of}
 use Rattle.swss_types.proofs.Hexes.{hex_within-lt}
 use Rattle.swss_types.proofs.Lists.{IsLaneList-rising}
-use Rattle.swss_types.proofs.Choices.{chosen}
 
 pub mapped : {A B : Type 0} (f : A → B) (o : Option A) (y : B) → option_map f o ≡ Some y → (x : A) × (o ≡ Some x) × (f x ≡ y)
 mapped f None y h = cc
@@ -37,7 +37,7 @@ IsProper-loopback o name small h = let (n, same, is) = mapped Loopback o name h 
 IsProper-vlan : (o : Option ℕ) (name : IfName) → ((n : ℕ) → o ≡ Some n → n ≤ 4094) → vlan_of o ≡ Some name → IsProperIfName name
 IsProper-vlan None name small h = cc
 IsProper-vlan (Some n) name small h =
-    let (some, is) = chosen (nat_lt 0 n) (Vlan n) name h in
+    let (some, is) = cond_some (nat_lt 0 n) (Vlan n) name h in
     subst IsProperIfName is (ltb-true 0 n some, small n refl)
 
 IsProper-loopback_of : (text : List ℕ) (o : Option (List ℕ)) (name : IfName) → loopback_of text o ≡ Some name → IsProperIfName name
@@ -59,7 +59,7 @@ IsProperIfName-if_name_of text name h = IsProper-ethernet_or_other text (behind 
 IsLaneList-in_order : (text : List ℕ) (o : Option (List ℕ)) (lanes : List ℕ) → lanes_in (parts_at 44 text) ≡ o → in_order o ≡ Some lanes → IsLaneList lanes
 IsLaneList-in_order text None lanes all h = cc
 IsLaneList-in_order text (Some ns) lanes all h =
-    let (fits, is) = chosen (length (rising [] ns) == length ns && leb (length ns) 8) (rising [] ns) lanes h in
+    let (fits, is) = cond_some (length (rising [] ns) == length ns && leb (length ns) 8) (rising [] ns) lanes h in
     let (same, few) = and_parts (length (rising [] ns) == length ns) (leb (length ns) 8) fits in
     subst IsLaneList is (IsLaneList-rising text ns all (eqb-true _ _ same) (leb-true _ _ few))
 
@@ -70,7 +70,7 @@ IsLaneList-lanes_of text lanes h = IsLaneList-in_order text (lanes_in (parts_at 
 IsProperMac-mac_from : (text : List ℕ) (o : Option (List ℕ)) (mac : Mac) → each_of (hex_within 2 2) (parts_at 58 text) ≡ o → mac_from o ≡ Some mac → IsProperMac mac
 IsProperMac-mac_from text None mac all h = cc
 IsProperMac-mac_from text (Some bytes) mac all h =
-    let (six, is) = chosen (length bytes == 6) (record { 0 = bytes }) mac h in
+    let (six, is) = cond_some (length bytes == 6) (record { 0 = bytes }) mac h in
     let below = AllBelow-each_of 256 (hex_within 2 2) (λ part n e. hex_within-lt 2 2 part n e) (parts_at 58 text) bytes all in
     subst IsProperMac is (eqb-true _ _ six, below.0)
 
@@ -81,7 +81,7 @@ IsProperMac-mac_of text mac h = IsProperMac-mac_from text (each_of (hex_within 2
 IsProper-ipv4_from : (text : List ℕ) (o : Option (List ℕ)) (ip : Ip) → each_of (number_within 255) (parts_at 46 text) ≡ o → ipv4_from o ≡ Some ip → IsProperIp ip
 IsProper-ipv4_from text None ip all h = cc
 IsProper-ipv4_from text (Some bytes) ip all h =
-    let (four, is) = chosen (length bytes == 4) (record { family = V4; bits = joined 256 0 bytes }) ip h in
+    let (four, is) = cond_some (length bytes == 4) (record { family = V4; bits = joined 256 0 bytes }) ip h in
     let below = AllBelow-each_of 256 (number_within 255) (λ part n e. let le = number_within-le 255 n part e in omega arith) (parts_at 46 text) bytes all in
     let len : length bytes ≡ 4 = eqb-true _ _ four in
     let small = rw len at (joined-lt 256 0 bytes below.0) in
@@ -90,7 +90,7 @@ IsProper-ipv4_from text (Some bytes) ip all h =
 AllBelow-filled : (front back values : List ℕ) → AllBelow 65536 front → AllBelow 65536 back → filled front back ≡ Some values → AllBelow 65536 values
 AllBelow-filled front back values hf hb h =
     let zeros = replicate (8 - (length front + length back)) 0 in
-    let (few, is) = chosen (leb (length front + length back) 7) (front ++ zeros ++ back) values h in
+    let (few, is) = cond_some (leb (length front + length back) 7) (front ++ zeros ++ back) values h in
     subst (AllBelow 65536) is (AllBelow-append 65536 (front ++ zeros) back (AllBelow-append 65536 front zeros hf (AllBelow-replicate 65536 (8 - (length front + length back)) (lit≤ tt))) hb)
 
 AllBelow-between : (front back : Option (List ℕ)) (values : List ℕ) → ((ns : List ℕ) → front ≡ Some ns → AllBelow 65536 ns) → ((ns : List ℕ) → back ≡ Some ns → AllBelow 65536 ns) → filled_between front back ≡ Some values → AllBelow 65536 values
@@ -105,7 +105,7 @@ AllBelow-eight_of text (Some at) values h = AllBelow-between (side_of (take at t
 IsProper-ipv6_from : (text : List ℕ) (o : Option (List ℕ)) (ip : Ip) → eight_of text (gap_at text) ≡ o → ipv6_from o ≡ Some ip → IsProperIp ip
 IsProper-ipv6_from text None ip all h = cc
 IsProper-ipv6_from text (Some groups) ip all h =
-    let (eight, is) = chosen (length groups == 8) (record { family = V6; bits = joined 65536 0 groups }) ip h in
+    let (eight, is) = cond_some (length groups == 8) (record { family = V6; bits = joined 65536 0 groups }) ip h in
     let len : length groups ≡ 8 = eqb-true _ _ eight in
     let small = rw len at (joined-lt 65536 0 groups (AllBelow-eight_of text (gap_at text) groups all)) in
     subst IsProperIp is (omega arith)
@@ -147,7 +147,7 @@ IsProper-interface_address_of text a h = IsProper-address_in (parts_at 47 text) 
 IsProper-prefix_from : (text : List ℕ) (o : Option (Ip × ℕ)) (p : Prefix) → interface_address_of text ≡ o → prefix_from o ≡ Some p → IsProperPrefix p
 IsProper-prefix_from text None p all h = cc
 IsProper-prefix_from text (Some a) p all h =
-    let (clean, is) = chosen (is_clean a.0 a.1) (record { ip = a.0; len = a.1 }) p h in
+    let (clean, is) = cond_some (is_clean a.0 a.1) (record { ip = a.0; len = a.1 }) p h in
     let proper = IsProper-interface_address_of text a all in
     subst IsProperPrefix is (proper.0, proper.1, eqb-true _ _ clean)
 

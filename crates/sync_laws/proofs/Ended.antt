@@ -35,12 +35,12 @@ use Rattle.plan_laws.proofs.Running.{after-append, new-stand, stands-new}
 use Rattle.view_match.specs.Pairs.{pairs_of}
 use Rattle.apply_order.specs.Naming.{id_by, names_from}
 use Rattle.asic_view.specs.View.{ViewObjects, entry_at, rid_at, shown_by, vid_cmp, with_tie}
-use Rattle.syncd_core.specs.Begun.{objects_in, tied_entries, tied_in, tied_objects, tied_pairs}
+use Rattle.syncd_core.specs.Begun.{objects_listed, tied_entries, tied_in, tied_objects, tied_pairs}
 use Rattle.syncd_core.specs.Run.{made_by, tied_after, view_by}
 use Rattle.syncd_core.specs.Synced.{tied_by}
 use Rattle.syncd_core.specs.Tied.{rid_or_none, tie_of}
 use Rattle.syncd_core.proofs.Ties.{tie_kept_through}
-use Rattle.order_laws.specs.Apply.{AreNumbered, IsPlanned, calls_by, plan_calls}
+use Rattle.order_laws.specs.Apply.{ComeToNextIds, IsPlannedFrom, calls_by, plan_calls}
 use Rattle.order_laws.specs.Viewed.{things_in}
 use Rattle.order_laws.proofs.Applying.{applies-cold, cold-all, cold-making, cold_back, cold_front, cold_makes, hitless-calls, hitless_changes, is-cold, is-hitless}
 use Rattle.order_laws.proofs.Ids.{hitless-named, named-has, one-named}
@@ -98,14 +98,14 @@ module _ (old : List (Object Rid)) (objects : ViewObjects) (v : Vid) (r : Rid) w
   objects_tied os None n there one (inr both) = let wrong = both.2 in absurd cc
 
   abbrev IsPairOf : ℕ × ℕ → Rid → Type 0
-  IsPairOf p s = AreBoth (slice_get old p.0) (slice_get (objects_in objects) p.1) s
+  IsPairOf p s = AreBoth (slice_get old p.0) (slice_get (objects_listed objects) p.1) s
 
-  pub pairs-tied : (ps : List (ℕ × ℕ)) (os : ViewObjects) → IsThere os v → ((p : ℕ × ℕ) (s : Rid) → IsIn p ps → IsPairOf p s → s ≡ r) → (rid_at os v ≡ Some r) ⊎ ((p : ℕ × ℕ) × IsIn p ps × IsPairOf p r) → rid_at (tied_pairs os old (objects_in objects) ps) v ≡ Some r
+  pub pairs-tied : (ps : List (ℕ × ℕ)) (os : ViewObjects) → IsThere os v → ((p : ℕ × ℕ) (s : Rid) → IsIn p ps → IsPairOf p s → s ≡ r) → (rid_at os v ≡ Some r) ⊎ ((p : ℕ × ℕ) × IsIn p ps × IsPairOf p r) → rid_at (tied_pairs os old (objects_listed objects) ps) v ≡ Some r
   pairs-tied [] os there one (inl tied) = tied
   pairs-tied [] os there one (inr h) = elim h.1 [ ]
   pairs-tied (p ∷ ps) os there one h =
       let o = slice_get old p.0 in
-      let n = slice_get (objects_in objects) p.1 in
+      let n = slice_get (objects_listed objects) p.1 in
       let there' = objects-there v os o n there in
       let rest = pairs-tied ps (tied_objects os o n) there' (λ q s i. one q s (inr i)) in
       let here = λ (x : (rid_at os v ≡ Some r) ⊎ AreBoth o n r). rest (inl (objects_tied os o n there (λ s. one p s (inl refl)) x)) in
@@ -164,30 +164,30 @@ module _ (f : Vid → Rid) where
 
 -- ---- the end
 
-module _ {capacities : List ℕ} {made : ℕ} {old : List (Object Rid)} (objects : ViewObjects) {things : List (Vid × Thing)} {plan : Plan} (x : IsPlanned capacities made old (objects_in objects) things plan) (free : (v : Vid) → rid_at objects v ≡ None) where
+module _ {capacities : List ℕ} {made : ℕ} {old : List (Object Rid)} (objects : ViewObjects) {things : List (Vid × Thing)} {plan : Plan} (x : IsPlannedFrom capacities made old (objects_listed objects) things plan) (free : (v : Vid) → rid_at objects v ≡ None) where
   abbrev f : Vid → Rid
   f = tie_of (last_ties objects x free)
 
-  numbered : AreNumbered (tie_of (last_ties objects x free)) made plan.calls
+  numbered : ComeToNextIds (tie_of (last_ties objects x free)) made plan.calls
   numbered = (apply-by_ties objects x free).numbered
 
   pub in_view : (v : Vid) (u : Thing) → IsIn (v, u) things → IsIn u (things_in things)
   in_view v u i = in-map (λ (z : Vid × Thing). z.1) things (v, u) i
 
   -- a paired object is tied to its partner to the end
-  partner_tied : plan.mode ≡ mode.Hitless → (v : Vid) (u : Thing) (r : Rid) → IsIn (v, u) things → has_number u ≡ true → IsNamed old (objects_in objects) (pairs_of old (objects_in objects)) v r → tie_of (last_ties objects x free) v ≡ r
+  partner_tied : plan.mode ≡ mode.Hitless → (v : Vid) (u : Thing) (r : Rid) → IsIn (v, u) things → has_number u ≡ true → IsNamed old (objects_listed objects) (pairs_of old (objects_listed objects)) v r → tie_of (last_ties objects x free) v ≡ r
   partner_tied e v u r i number y =
-      let pairs = pairs_of old (objects_in objects) in
+      let pairs = pairs_of old (objects_listed objects) in
       let first = pairs-tied old objects v r pairs objects (there-first old objects x.chip x.view v u i number) (λ p s k b. one-named old x.chip x.view v u s r (record { one = b.0; other = b.1; i = p.0; j = p.1; among = k; one_at = b.2; other_at = b.3; one_is = b.4; other_is = b.5 }) y i number) (inr ((y.i, y.j), y.among, (y.one, y.other, y.one_at, y.other_at, y.one_is, y.other_is))) in
-      let begun = subst (λ m. rid_at (tied_in m objects old (objects_in objects) pairs) v ≡ Some r) (sym e) first in
-      ap rid_or_none (tie_kept_through made (tied_in plan.mode objects old (objects_in objects) pairs) plan.calls v r (plan-in_time objects x free) begun)
+      let begun = subst (λ m. rid_at (tied_in m objects old (objects_listed objects) pairs) v ≡ Some r) (sym e) first in
+      ap rid_or_none (tie_kept_through made (tied_in plan.mode objects old (objects_listed objects) pairs) plan.calls v r (plan-in_time objects x free) begun)
 
   pub hitless_tied : plan.mode ≡ mode.Hitless → (L : Layout Rid) → Resolves (old_layout (entries_of old) (things_in things)) (viewed things) (tie_of (last_ties objects x free)) L → ((t : Thing) → IsIn t (things_in things) → (j : Rid) × L j t) → (v : Vid) (u : Thing) → IsIn (v, u) things → has_number u ≡ true → Has L (name_of u) (tie_of (last_ties objects x free) v)
-  hitless_tied e L res all v u i number = by (lookup (is_at (nat_cmp v.0)) (names_from [] old (objects_in objects) (pairs_of old (objects_in objects)))) refl
+  hitless_tied e L res all v u i number = by (lookup (is_at (nat_cmp v.0)) (names_from [] old (objects_listed objects) (pairs_of old (objects_listed objects)))) refl
     where
-      by : (o : Option Rid) → lookup (is_at (nat_cmp v.0)) (names_from [] old (objects_in objects) (pairs_of old (objects_in objects))) ≡ o → Has L (name_of u) (tie_of (last_ties objects x free) v)
+      by : (o : Option Rid) → lookup (is_at (nat_cmp v.0)) (names_from [] old (objects_listed objects) (pairs_of old (objects_listed objects))) ≡ o → Has L (name_of u) (tie_of (last_ties objects x free) v)
       by (Some r) h =
-          let y = names-from old (objects_in objects) (pairs_of old (objects_in objects)) v r h in
+          let y = names-from old (objects_listed objects) (pairs_of old (objects_listed objects)) v r h in
           let has = named-has old x.chip x.view v u r y i number in
           let j = all u (in_view v u i) in
           subst (Has L (name_of u)) (sym (partner_tied e v u r i number y)) (res.old (name_of u) r has j.0 (u, j.1, refl))
@@ -221,8 +221,8 @@ module _ {capacities : List ℕ} {made : ℕ} {old : List (Object Rid)} (objects
   pub view-stands : shown_by (tie_of (last_ties objects x free)) (last_ties objects x free) ≡ after_calls made (entries_of old) (calls_by (tie_of (last_ties objects x free)) plan)
   view-stands =
       let ids = tie_of (last_ties objects x free) in
-      let pairs = pairs_of old (objects_in objects) in
-      shown-after ids made (tied_in plan.mode objects old (objects_in objects) pairs) plan.calls ∙ shown-in ids plan.mode old (objects_in objects) pairs objects ∙ by plan.mode refl
+      let pairs = pairs_of old (objects_listed objects) in
+      shown-after ids made (tied_in plan.mode objects old (objects_listed objects) pairs) plan.calls ∙ shown-in ids plan.mode old (objects_listed objects) pairs objects ∙ by plan.mode refl
     where
       by : (m : Mode) → plan.mode ≡ m → shown_by (tie_of (last_ties objects x free)) objects ≡ after_calls made (entries_of old) (calls_by (tie_of (last_ties objects x free)) plan)
       by mode.Hitless e = hitless_end e

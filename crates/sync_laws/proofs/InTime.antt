@@ -24,9 +24,9 @@ use Rattle.apply_order.specs.Calls.{remove_calls, step_calls, steps_calls}
 use Rattle.apply_order.specs.Naming.{names_from}
 use Rattle.apply_order.specs.declared.ranks.Timed.{Timed}
 use Rattle.asic_view.specs.View.{ViewObjects, rid_at}
-use Rattle.syncd_core.specs.Begun.{objects_in, tied_in, tied_pairs}
+use Rattle.syncd_core.specs.Begun.{objects_listed, tied_in, tied_pairs}
 use Rattle.syncd_core.specs.Run.{AreInTime}
-use Rattle.order_laws.specs.Apply.{IsPlanned}
+use Rattle.order_laws.specs.Apply.{IsPlannedFrom}
 use Rattle.order_laws.specs.Viewed.{IsViewOf, things_in}
 use Rattle.order_laws.proofs.Applying.{calls-in, calls_are, cold_back, due-in, is-cold, is-hitless}
 use Rattle.order_laws.proofs.Changes.{IsGoneDue, due-of}
@@ -47,7 +47,7 @@ gone_time old {new = new} chip view V made (t ∷ ts) rest gone h =
     subst (AreInTime made V) (sym (append_assoc (step_calls [] old new t.step) (steps_calls [] old new ts) rest))
     (subst (λ cs. AreInTime made V (cs ++ (steps_calls [] old new ts ++ rest))) (sym call_is) (remove-tied V d.o.entry, tt, gone_time old chip view V made ts rest (λ s i. gone s (inr i)) h))
 
-module _ {capacities : List ℕ} {made : ℕ} {old : List (Object Rid)} (objects : ViewObjects) {things : List (Vid × Thing)} {plan : Plan} (x : IsPlanned capacities made old (objects_in objects) things plan) (free : (v : Vid) → rid_at objects v ≡ None) where
+module _ {capacities : List ℕ} {made : ℕ} {old : List (Object Rid)} (objects : ViewObjects) {things : List (Vid × Thing)} {plan : Plan} (x : IsPlannedFrom capacities made old (objects_listed objects) things plan) (free : (v : Vid) → rid_at objects v ≡ None) where
   abbrev O : Objects
   O = entries_of old
 
@@ -55,7 +55,7 @@ module _ {capacities : List ℕ} {made : ℕ} {old : List (Object Rid)} (objects
   N = things_in things
 
   abbrev new : List (Object Vid)
-  new = objects_in objects
+  new = objects_listed objects
 
   hitless_time : plan.mode ≡ mode.Hitless → AreInTime made (tied_pairs objects old new (pairs_of old new)) plan.calls
   hitless_time e =

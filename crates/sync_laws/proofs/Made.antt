@@ -15,7 +15,7 @@ use Rattle.chip_layout.specs.Counted.{AreDistinct}
 use Rattle.view_match.specs.Listed.{objects_as}
 use Rattle.asic_view.specs.View.{ViewObjects, as_chip, as_rid}
 use Rattle.asic_view.proofs.Shown.{shown_body, shown_entry}
-use Rattle.syncd_core.specs.Begun.{objects_in}
+use Rattle.syncd_core.specs.Begun.{objects_listed}
 use Rattle.order_laws.proofs.Shuffled.{in-shuffled}
 use Rattle.sync_laws.specs.Begun.{entries_in}
 
@@ -32,12 +32,12 @@ put_among_others (o ∷ os) e b fresh = by (entry_cmp e o.0) refl (put_among_oth
     by Equal h rest = absurd (fresh o (inl refl) (entry-exact e o.0 (ap is_eq h)))
     by Greater h rest = IsPermutation-trans _ _ _ (IsPermutation-sym _ _ (IsPermutation-middle (o ∷ []) (e, b) os)) (IsPermutation-cons o _ _ rest)
 
-entry_among : (os : ViewObjects) (o : Item) → IsIn o (entries_of (objects_as (objects_in os))) → IsIn o.0 (entries_in os)
+entry_among : (os : ViewObjects) (o : Item) → IsIn o (entries_of (objects_as (objects_listed os))) → IsIn o.0 (entries_in os)
 entry_among [] o i = elim i [ ]
 entry_among (x ∷ xs) o (inl is) = inl (ap (λ (z : Item). z.0) is)
 entry_among (x ∷ xs) o (inr i) = inr (entry_among xs o i)
 
-pub as-listed : (os : ViewObjects) → AreDistinct (entries_in os) → IsPermutation (entries_of (objects_as (objects_in os))) (as_chip os)
+pub as-listed : (os : ViewObjects) → AreDistinct (entries_in os) → IsPermutation (entries_of (objects_as (objects_listed os))) (as_chip os)
 as-listed [] apart = IsPermutation-refl []
 as-listed (x ∷ xs) apart =
     let rest = as-listed xs apart.1 in

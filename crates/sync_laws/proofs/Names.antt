@@ -27,10 +27,10 @@ use Rattle.chip_layout.proofs.Shapes.{renamed_with}
 use Rattle.plan_laws.specs.Calls.{old_entry}
 use Rattle.plan_laws.proofs.Calling.{to_resolved}
 use Rattle.asic_view.specs.View.{ViewObjects}
-use Rattle.syncd_core.specs.Run.{AreInTime, HasCome, NamesTied}
+use Rattle.syncd_core.specs.Run.{AreInTime, HasComeToChip, NamesTied}
 use Rattle.syncd_core.specs.Tied.{plan_tie}
-use Rattle.apply_order.specs.Attributes.{differing, is_target, set_call, unless}
-use Rattle.apply_order.specs.Naming.{Names, new_id}
+use Rattle.apply_order.specs.Attributes.{differing, is_same_target, set_call, where_differs}
+use Rattle.apply_order.specs.Naming.{OldIds, new_id}
 
 -- the body of a thing depends on what it refers to alone
 with_same : {I : Type 0} (t : Thing) (i j p q : I) → ((k : ThingName) → first_name t ≡ Some k → i ≡ p) → ((k : ThingName) → second_name t ≡ Some k → j ≡ q) → body_with t i j ≡ body_with t p q
@@ -59,9 +59,9 @@ to_same (goal.Group hs) i p a = ap (to_with (goal.Group hs)) (a _ refl)
 module _ (view : ViewObjects) where
   -- other identifiers, where those that have come are as tied
   abbrev pub Agrees : (PlanId → Rid) → Type 0
-  Agrees f = (i : PlanId) → HasCome view i → f i ≡ plan_tie view i
+  Agrees f = (i : PlanId) → HasComeToChip view i → f i ≡ plan_tie view i
 
-  pub body-tied : (t : Thing) (p q : PlanId) (b : Body PlanId) → b ≡ body_with t p q → ((k : ThingName) → first_name t ≡ Some k → HasCome view p) → ((k : ThingName) → second_name t ≡ Some k → HasCome view q) → NamesTied view (call.Create b)
+  pub body-tied : (t : Thing) (p q : PlanId) (b : Body PlanId) → b ≡ body_with t p q → ((k : ThingName) → first_name t ≡ Some k → HasComeToChip view p) → ((k : ThingName) → second_name t ≡ Some k → HasComeToChip view q) → NamesTied view (call.Create b)
   body-tied t p q b is first second f agree =
       let h = plan_tie view in
       let same = with_same t (f p) (f q) (h p) (h q) (λ k e. agree p (first k e)) (λ k e. agree q (second k e)) in
@@ -84,7 +84,7 @@ module _ (view : ViewObjects) where
   AreAttrsTied [] = Unit {0}
   AreAttrsTied (a ∷ attrs) = IsAttrTied a × AreAttrsTied attrs
 
-  unless_tied : (b : Bool) (a : Attr PlanId) → IsAttrTied a → AreAttrsTied (unless b a)
+  unless_tied : (b : Bool) (a : Attr PlanId) → IsAttrTied a → AreAttrsTied (where_differs b a)
   unless_tied true a h = tt
   unless_tied false a h = (h, tt)
 
@@ -92,22 +92,22 @@ module _ (view : ViewObjects) where
   joined_tied [] ys x y = y
   joined_tied (a ∷ xs) ys x y = (x.0, joined_tied xs ys x.1 y)
 
-  pub to-tied : (g : Goal) (p : PlanId) → ((k : ThingName) → goal_name g ≡ Some k → HasCome view p) → IsAttrTied (attr.To (to_with g p))
+  pub to-tied : (g : Goal) (p : PlanId) → ((k : ThingName) → goal_name g ≡ Some k → HasComeToChip view p) → IsAttrTied (attr.To (to_with g p))
   to-tied g p come f agree =
       let h = plan_tie view in
       ap attr.To (to_resolved f g p ∙ to_same g (f p) (h p) (λ k e. agree p (come k e)) ∙ sym (to_resolved h g p))
 
-  pub differing-tied : (names : Names) (b : Body Rid) (t : Thing) (k l : Vid) → ((g : Goal) → (n : ThingName) → ((p : _) → t ≡ thing.Route p g → goal_name g ≡ Some n → HasCome view (new_id names k))) → AreAttrsTied (differing names b (body_with t k l))
+  pub differing-tied : (names : OldIds) (b : Body Rid) (t : Thing) (k l : Vid) → ((g : Goal) → (n : ThingName) → ((p : _) → t ≡ thing.Route p g → goal_name g ≡ Some n → HasComeToChip view (new_id names k))) → AreAttrsTied (differing names b (body_with t k l))
   differing-tied names (body.Port lanes speed mtu up) (thing.Port p) k l come =
-      let first = unless (speed == p.speed) (attr.Speed p.speed) in
-      let second = unless (mtu == p.mtu) (attr.Mtu p.mtu) in
-      let third = unless (beq up p.up) (attr.Up p.up) in
+      let first = where_differs (speed == p.speed) (attr.Speed p.speed) in
+      let second = where_differs (mtu == p.mtu) (attr.Mtu p.mtu) in
+      let third = where_differs (beq up p.up) (attr.Up p.up) in
       joined_tied (first ++ second) third (joined_tied first second (unless_tied (speed == p.speed) (attr.Speed p.speed) (λ f agree. refl)) (unless_tied (mtu == p.mtu) (attr.Mtu p.mtu) (λ f agree. refl))) (unless_tied (beq up p.up) (attr.Up p.up) (λ f agree. refl))
   differing-tied names (body.VlanMember v n g) (thing.VlanMember v' n' g') k l come = unless_tied (tagging_eq.ghosts.eq g g') (attr.Tagging g') (λ f agree. refl)
   differing-tied names (body.Neighbor r ip m) (thing.Neighbor h m') k l come = unless_tied (mac_eq.ghosts.eq m m') (attr.Mac m') (λ f agree. refl)
   differing-tied names (body.Route p x) (thing.Route p' g) k l come =
       let x' = to_renamed (new_id names) (to_with g k) in
-      unless_tied (is_target x x') (attr.To x') (subst (λ z. IsAttrTied (attr.To z)) (sym (to_resolved (new_id names) g k)) (to-tied g (new_id names k) (λ n e. come g n p' refl e)))
+      unless_tied (is_same_target x x') (attr.To x') (subst (λ z. IsAttrTied (attr.To z)) (sym (to_resolved (new_id names) g k)) (to-tied g (new_id names k) (λ n e. come g n p' refl e)))
   differing-tied names _ _ k l come = tt
 
   -- the calls that set attributes, and then others

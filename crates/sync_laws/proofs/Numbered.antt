@@ -24,15 +24,15 @@ use Rattle.plan_laws.specs.Calls.{old_entry, resolve}
 use Rattle.view_match.specs.Pairs.{pairs_of}
 use Rattle.apply_order.specs.Attributes.{differing, set_call}
 use Rattle.apply_order.specs.Calls.{both_calls, make_calls, made_id, remove_calls, step_calls, steps_calls}
-use Rattle.apply_order.specs.Naming.{Names, names_in, new_id}
+use Rattle.apply_order.specs.Naming.{OldIds, names_in, new_id}
 use Rattle.apply_order.specs.declared.ranks.Timed.{Timed}
 use Rattle.asic_view.specs.View.{ViewObjects, rid_at, with_tie}
-use Rattle.syncd_core.specs.Begun.{objects_in, tied_in}
+use Rattle.syncd_core.specs.Begun.{objects_listed, tied_in}
 use Rattle.syncd_core.specs.Run.{AreInTime, made_by, tied_after, tied_calls, view_by}
 use Rattle.syncd_core.specs.Synced.{tied_by}
 use Rattle.syncd_core.specs.Tied.{rid_or_none, tie_of}
 use Rattle.syncd_core.proofs.Ties.{tie_kept_through, ties-hold}
-use Rattle.order_laws.specs.Apply.{AreNumbered, IsApply, IsPlanned, calls_by}
+use Rattle.order_laws.specs.Apply.{ComeToNextIds, IsApply, IsPlannedFrom, calls_by}
 use Rattle.order_laws.specs.Viewed.{IsViewOf}
 use Rattle.order_laws.proofs.Changes.{IsDueStep, due-of, due-pair, place_old}
 use Rattle.order_laws.proofs.Partners.{place-in}
@@ -58,7 +58,7 @@ there_after V made c v there = by (makes_id c.call) c.makes
     by true (Some w) = there-kept V v w (record { 0 = made + 1 }) there
     by false o = there
 
-numbered-by : (calls : List PlanCall) (V : ViewObjects) (made : ℕ) → AreInTime made V calls → ((c : PlanCall) → IsIn c calls → MakesThere V c) → AreNumbered (tie_of (tied_after made V calls)) made calls
+numbered-by : (calls : List PlanCall) (V : ViewObjects) (made : ℕ) → AreInTime made V calls → ((c : PlanCall) → IsIn c calls → MakesThere V c) → ComeToNextIds (tie_of (tied_after made V calls)) made calls
 numbered-by [] V made times known = tt
 numbered-by (c ∷ cs) V made times known = (
   λ v is.
@@ -79,7 +79,7 @@ one_vid_entry v w e = cc
 abbrev IsMaker : List (Vid × Thing) → PlanCall → Vid → Type 0
 IsMaker things c v = (u : Thing) × IsIn (v, u) things × (has_number u ≡ true) × (makes_id c.call ≡ true)
 
-module _ {made : ℕ} (old : List (Object Rid)) {new : List (Object Vid)} {things : List (Vid × Thing)} (chip : IsListedChip made (entries_of old)) (view : IsViewOf things new) (m : Mode) (names : Names) where
+module _ {made : ℕ} (old : List (Object Rid)) {new : List (Object Vid)} {things : List (Vid × Thing)} (chip : IsListedChip made (entries_of old)) (view : IsViewOf things new) (m : Mode) (names : OldIds) where
   made_by_step : (t : Timed) → IsDueStep old chip view m t → (c : PlanCall) → IsIn c (step_calls names old new t.step) → (v : Vid) → c.makes ≡ Some v → IsMaker things c v
   made_by_step t (inl d) c i v is =
       let made_call : PlanCall = record { call = call.Create (body_renamed (new_id names) d.n.body); makes = made_id d.n.entry } in
@@ -122,25 +122,25 @@ module _ {made : ℕ} (old : List (Object Rid)) {new : List (Object Vid)} {thing
 
 -- ---- an apply by its ties
 
-module _ {capacities : List ℕ} {made : ℕ} {old : List (Object Rid)} (objects : ViewObjects) {things : List (Vid × Thing)} {plan : Plan} (x : IsPlanned capacities made old (objects_in objects) things plan) (free : (v : Vid) → rid_at objects v ≡ None) where
+module _ {capacities : List ℕ} {made : ℕ} {old : List (Object Rid)} (objects : ViewObjects) {things : List (Vid × Thing)} {plan : Plan} (x : IsPlannedFrom capacities made old (objects_listed objects) things plan) (free : (v : Vid) → rid_at objects v ≡ None) where
   abbrev pub last_ties : ViewObjects
-  last_ties = tied_after made (tied_in plan.mode objects old (objects_in objects) (pairs_of old (objects_in objects))) plan.calls
+  last_ties = tied_after made (tied_in plan.mode objects old (objects_listed objects) (pairs_of old (objects_listed objects))) plan.calls
 
-  there_by : (m : Mode) (v : Vid) (u : Thing) → IsIn (v, u) things → has_number u ≡ true → IsThere (tied_in m objects old (objects_in objects) (pairs_of old (objects_in objects))) v
-  there_by mode.Hitless v u i number = pairs-there old objects x.chip x.view v (pairs_of old (objects_in objects)) objects (there-first old objects x.chip x.view v u i number)
+  there_by : (m : Mode) (v : Vid) (u : Thing) → IsIn (v, u) things → has_number u ≡ true → IsThere (tied_in m objects old (objects_listed objects) (pairs_of old (objects_listed objects))) v
+  there_by mode.Hitless v u i number = pairs-there old objects x.chip x.view v (pairs_of old (objects_listed objects)) objects (there-first old objects x.chip x.view v u i number)
   there_by mode.Cold v u i number = there-first old objects x.chip x.view v u i number
 
-  known : (c : PlanCall) → IsIn c plan.calls → MakesThere (tied_in plan.mode objects old (objects_in objects) (pairs_of old (objects_in objects))) c
+  known : (c : PlanCall) → IsIn c plan.calls → MakesThere (tied_in plan.mode objects old (objects_listed objects) (pairs_of old (objects_listed objects))) c
   known c i v is =
-      let names = names_in plan.mode old (objects_in objects) (pairs_of old (objects_in objects)) in
+      let names = names_in plan.mode old (objects_listed objects) (pairs_of old (objects_listed objects)) in
       let k = made-by old x.chip x.view plan.mode names x.planned.steps (λ t j. due-of old x.chip x.view plan.mode t (in-shuffled _ x.planned.steps x.planned.due t j)) c (subst (IsIn c) x.planned.calls i) v is in
       (k.3, there_by plan.mode v k.0 k.1 k.2)
 
-  pub apply-by_ties : IsApply capacities made old (objects_in objects) things plan (tie_of last_ties)
-  apply-by_ties = record { of = x; numbered = numbered-by plan.calls (tied_in plan.mode objects old (objects_in objects) (pairs_of old (objects_in objects))) made (plan-in_time objects x free) known }
+  pub apply-by_ties : IsApply capacities made old (objects_listed objects) things plan (tie_of last_ties)
+  apply-by_ties = record { of = x; numbered = numbered-by plan.calls (tied_in plan.mode objects old (objects_listed objects) (pairs_of old (objects_listed objects))) made (plan-in_time objects x free) known }
 
   -- the calls that come to the chip are those of the plan, with the identifiers that they come to
-  pub tied-are : tied_calls made (tied_in plan.mode objects old (objects_in objects) (pairs_of old (objects_in objects))) plan.calls ≡ calls_by (tie_of last_ties) plan
+  pub tied-are : tied_calls made (tied_in plan.mode objects old (objects_listed objects) (pairs_of old (objects_listed objects))) plan.calls ≡ calls_by (tie_of last_ties) plan
   tied-are =
-      ties-hold made (tied_in plan.mode objects old (objects_in objects) (pairs_of old (objects_in objects))) plan.calls (plan-in_time objects x free)
+      ties-hold made (tied_in plan.mode objects old (objects_listed objects) (pairs_of old (objects_listed objects))) plan.calls (plan-in_time objects x free)
       ∙ sym (map_map (call_renamed (resolve (tie_of last_ties))) (λ (c : PlanCall). c.call) plan.calls)

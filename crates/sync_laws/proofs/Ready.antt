@@ -6,16 +6,16 @@ use Rattle.sai_types.specs.declared.plan.Plan.{Plan}
 use Rattle.view_match.specs.Pairs.{pairs_of}
 use Rattle.apply_order.specs.Planned.{IsPlanOf}
 use Rattle.asic_view.specs.View.{ViewObjects, as_chip}
-use Rattle.syncd_core.specs.Begun.{objects_in}
+use Rattle.syncd_core.specs.Begun.{objects_listed}
 use Rattle.order_laws.specs.Viewed.{IsMadeView}
 use Rattle.order_laws.proofs.Viewing.{laid_things, shown-of, view-of}
 use Rattle.sync_laws.specs.Begun.{IsApplyBegun, IsApplyReady, IsReadyView}
 use Rattle.sync_laws.proofs.Made.{as-listed}
 
-pub made-view : {calls : ℕ} {view : ViewObjects} → IsReadyView calls view → IsMadeView calls (as_chip view) (objects_in view)
+pub made-view : {calls : ℕ} {view : ViewObjects} → IsReadyView calls view → IsMadeView calls (as_chip view) (objects_listed view)
 made-view {view = view} r = record { chip = r.chip; same = as-listed view r.apart; distinct = r.distinct }
 
-pub ready-begun : {capacities : List ℕ} {made calls : ℕ} {old : List (Object Rid)} {view : ViewObjects} → (r : IsApplyReady capacities made old calls view) → (plan : Plan) → IsPlanOf old (objects_in view) (pairs_of old (objects_in view)) capacities plan → IsApplyBegun capacities made old view (laid_things (made-view r.ready)) plan
+pub ready-begun : {capacities : List ℕ} {made calls : ℕ} {old : List (Object Rid)} {view : ViewObjects} → (r : IsApplyReady capacities made old calls view) → (plan : Plan) → IsPlanOf old (objects_listed view) (pairs_of old (objects_listed view)) capacities plan → IsApplyBegun capacities made old view (laid_things (made-view r.ready)) plan
 ready-begun r plan planned =
     let m = made-view r.ready in
     record {

@@ -29,7 +29,7 @@ use Rattle.asic_view.specs.declared.object.ViewObject.{ViewObject}
 use Rattle.asic_view.specs.View.{ViewObjects, entry_at, object_of, shown_by}
 use Rattle.asic_view.proofs.Same.{same-objects}
 use Rattle.asic_view.proofs.Shown.{shown_body, shown_entry, sorted-shown}
-use Rattle.syncd_core.specs.Begun.{objects_in}
+use Rattle.syncd_core.specs.Begun.{objects_listed}
 use Rattle.order_laws.specs.Viewed.{IsEntry, IsViewOf, things_in}
 use Rattle.order_laws.proofs.Partners.{in-place, place-in}
 use Rattle.order_laws.proofs.Placed.{in-new, new-in, object-at, thing-at}
@@ -73,7 +73,7 @@ module _ (f : Vid → Rid) where
 
   -- ---- where the ties are the identifiers of the things
 
-  module _ {made : ℕ} (old : List (Object Rid)) (objects : ViewObjects) {things : List (Vid × Thing)} (chip : IsListedChip made (entries_of old)) (view : IsViewOf things (objects_in objects)) (L : Layout Rid) (S : Objects) (laid : IsLaidOut L S) {n : ℕ} (whole : IsWhole n S) (only : (i : Rid) (t : Thing) → L i t → IsIn t (things_in things)) (all : (t : Thing) → IsIn t (things_in things) → (i : Rid) × L i t) (tied : (v : Vid) (u : Thing) → IsIn (v, u) things → has_number u ≡ true → Has L (name_of u) (f v)) where
+  module _ {made : ℕ} (old : List (Object Rid)) (objects : ViewObjects) {things : List (Vid × Thing)} (chip : IsListedChip made (entries_of old)) (view : IsViewOf things (objects_listed objects)) (L : Layout Rid) (S : Objects) (laid : IsLaidOut L S) {n : ℕ} (whole : IsWhole n S) (only : (i : Rid) (t : Thing) → L i t → IsIn t (things_in things)) (all : (t : Thing) → IsIn t (things_in things) → (i : Rid) × L i t) (tied : (v : Vid) (u : Thing) → IsIn (v, u) things → has_number u ≡ true → Has L (name_of u) (f v)) where
     at-tied : (o : Option ThingName) (v : Vid) → ((k : ThingName) → o ≡ Some k → is_numbered (name_kind k) ≡ true) → IsAt (Has (viewed things)) o v → IsAt (Has L) o (f v)
     at-tied None v number h = tt
     at-tied (Some k) v number h = subst (λ z. Has L z (f v)) h.2 (tied v h.0 h.1 (ap (λ z. is_numbered (name_kind z)) h.2 ∙ number k refl))
@@ -92,7 +92,7 @@ module _ (f : Vid → Rid) where
       entry : shown_entry f x ≡ entry_of i.0 b
       body : shown_body f x ≡ b
 
-    there-as : (x : Vid × ViewObject) (j : ℕ) → slice_get (objects_in objects) j ≡ Some (object_of x) → (y : Vid × Thing) → slice_get things j ≡ Some y → (i : Rid) → L i y.1 → (b : Body Rid) → IsBody (Has L) y.1 b → IsThereAs x i b
+    there-as : (x : Vid × ViewObject) (j : ℕ) → slice_get (objects_listed objects) j ≡ Some (object_of x) → (y : Vid × Thing) → slice_get things j ≡ Some y → (i : Rid) → L i y.1 → (b : Body Rid) → IsBody (Has L) y.1 b → IsThereAs x i b
     there-as x j at y there i h b of =
         let o = object-at old chip view j (object_of x) at in
         let same : o.0 ≡ y = same_Some o.0 y (sym o.1 ∙ there) in
@@ -113,7 +113,7 @@ module _ (f : Vid → Rid) where
     found-shown : (x : Vid × ViewObject) → IsIn x objects → body_at S (shown_entry f x) ≡ Some (shown_body f x)
     found-shown x i =
         let k = in-place objects x i in
-        let at : slice_get (objects_in objects) k.0 ≡ Some (object_of x) = slice_get-map object_of objects k.0 ∙ ap (option_map object_of) k.1 in
+        let at : slice_get (objects_listed objects) k.0 ≡ Some (object_of x) = slice_get-map object_of objects k.0 ∙ ap (option_map object_of) k.1 in
         let y = object-at old chip view k.0 (object_of x) at in
         let r = all y.0.1 (new-in old chip view k.0 y.0 y.1) in
         let s = laid.stand r.0 y.0.1 r.1 in

@@ -22,7 +22,7 @@ use Rattle.plan_laws.proofs.Starting.{seen-old}
 use Rattle.view_match.specs.Pairs.{pairs_of}
 use Rattle.asic_view.specs.declared.object.ViewObject.{ViewObject}
 use Rattle.asic_view.specs.View.{ViewObjects, entry_at, object_of, rid_at, vid_cmp}
-use Rattle.syncd_core.specs.Begun.{objects_in, tied_entries, tied_objects, tied_pairs}
+use Rattle.syncd_core.specs.Begun.{objects_listed, tied_entries, tied_objects, tied_pairs}
 use Rattle.order_laws.specs.Viewed.{IsViewOf, things_in}
 use Rattle.order_laws.proofs.Ids.{named-has}
 use Rattle.order_laws.proofs.Partners.{in-place, place-in}
@@ -55,7 +55,7 @@ map_place f xs j y h = by (slice_get xs j) refl (sym (slice_get-map f xs j) ∙ 
     by None e is = absurd cc
     by (Some x) e is = (x, place-in xs j x e, cc)
 
-module _ {made : ℕ} (old : List (Object Rid)) (objects : ViewObjects) {things : List (Vid × Thing)} (chip : IsListedChip made (entries_of old)) (view : IsViewOf things (objects_in objects)) where
+module _ {made : ℕ} (old : List (Object Rid)) (objects : ViewObjects) {things : List (Vid × Thing)} (chip : IsListedChip made (entries_of old)) (view : IsViewOf things (objects_listed objects)) where
   pub there-first : (v : Vid) (u : Thing) → IsIn (v, u) things → has_number u ≡ true → IsThere objects v
   there-first v u i number =
       let k = in-place things (v, u) i in
@@ -69,11 +69,11 @@ module _ {made : ℕ} (old : List (Object Rid)) (objects : ViewObjects) {things 
   module _ (v : Vid) where
     -- no pair's new object is this one
     abbrev NoneNamed : List (ℕ × ℕ) → Type 0
-    NoneNamed ps = (p : ℕ × ℕ) (o : Object Rid) (n : Object Vid) (r : Rid) → IsIn p ps → slice_get old p.0 ≡ Some o → slice_get (objects_in objects) p.1 ≡ Some n → o.entry ≡ entry.Oid r → n.entry ≡ entry.Oid v → ⊥
+    NoneNamed ps = (p : ℕ × ℕ) (o : Object Rid) (n : Object Vid) (r : Rid) → IsIn p ps → slice_get old p.0 ≡ Some o → slice_get (objects_listed objects) p.1 ≡ Some n → o.entry ≡ entry.Oid r → n.entry ≡ entry.Oid v → ⊥
 
-    pub pairs-there : (ps : List (ℕ × ℕ)) (os : ViewObjects) → IsThere os v → IsThere (tied_pairs os old (objects_in objects) ps) v
+    pub pairs-there : (ps : List (ℕ × ℕ)) (os : ViewObjects) → IsThere os v → IsThere (tied_pairs os old (objects_listed objects) ps) v
     pairs-there [] os h = h
-    pairs-there (p ∷ ps) os h = pairs-there ps (tied_objects os (slice_get old p.0) (slice_get (objects_in objects) p.1)) (objects-there v os (slice_get old p.0) (slice_get (objects_in objects) p.1) h)
+    pairs-there (p ∷ ps) os h = pairs-there ps (tied_objects os (slice_get old p.0) (slice_get (objects_listed objects) p.1)) (objects-there v os (slice_get old p.0) (slice_get (objects_listed objects) p.1) h)
 
     entries_free : (os : ViewObjects) (e : Entry Rid) (f : Entry Vid) → ((r : Rid) → e ≡ entry.Oid r → f ≡ entry.Oid v → ⊥) → rid_at os v ≡ None → rid_at (tied_entries os e f) v ≡ None
     entries_free os (entry.Oid r) (entry.Oid w) apart h = tied-apart os v w r (λ same. apart r refl (ap entry.Oid (sym same))) ∙ h
@@ -89,14 +89,14 @@ module _ {made : ℕ} (old : List (Object Rid)) (objects : ViewObjects) {things 
     objects_free os (Some o) None apart h = h
     objects_free os None n apart h = h
 
-    pub pairs-free : (ps : List (ℕ × ℕ)) (os : ViewObjects) → NoneNamed ps → rid_at os v ≡ None → rid_at (tied_pairs os old (objects_in objects) ps) v ≡ None
+    pub pairs-free : (ps : List (ℕ × ℕ)) (os : ViewObjects) → NoneNamed ps → rid_at os v ≡ None → rid_at (tied_pairs os old (objects_listed objects) ps) v ≡ None
     pairs-free [] os none h = h
     pairs-free (p ∷ ps) os none h =
-        pairs-free ps (tied_objects os (slice_get old p.0) (slice_get (objects_in objects) p.1)) (λ q o n r i. none q o n r (inr i)) (objects_free os (slice_get old p.0) (slice_get (objects_in objects) p.1) (λ a b r x y. none p a b r (inl refl) x y) h)
+        pairs-free ps (tied_objects os (slice_get old p.0) (slice_get (objects_listed objects) p.1)) (λ q o n r i. none q o n r (inr i)) (objects_free os (slice_get old p.0) (slice_get (objects_listed objects) p.1) (λ a b r x y. none p a b r (inl refl) x y) h)
 
   -- a new object that has the name of no old one is tied to none
-  pub none-named : (v : Vid) (u : Thing) → IsIn (v, u) things → has_number u ≡ true → ((w : Thing) → IsIn w (old_things (entries_of old) (things_in things)) → name_of w ≡ name_of u → ⊥) → NoneNamed v (pairs_of old (objects_in objects))
+  pub none-named : (v : Vid) (u : Thing) → IsIn (v, u) things → has_number u ≡ true → ((w : Thing) → IsIn w (old_things (entries_of old) (things_in things)) → name_of w ≡ name_of u → ⊥) → NoneNamed v (pairs_of old (objects_listed objects))
   none-named v u i number none p o n r h at there is same =
-      let x : IsNamed old (objects_in objects) (pairs_of old (objects_in objects)) v r = record { one = o; other = n; i = p.0; j = p.1; among = h; one_at = at; other_at = there; one_is = is; other_is = same } in
+      let x : IsNamed old (objects_listed objects) (pairs_of old (objects_listed objects)) v r = record { one = o; other = n; i = p.0; j = p.1; among = h; one_at = at; other_at = there; one_is = is; other_is = same } in
       let has = named-has old chip view v u r x i number in
       none has.0 (seen-old chip (things_in things) r has.0 has.1) has.2

@@ -10,7 +10,7 @@ use Rattle.sai_types.specs.declared.body.Entry.{Entry}
 use Rattle.sai_types.specs.declared.body.Entry.TheVariants as entry
 use Rattle.sai_types.specs.declared.body.Object.{Object}
 use Rattle.asic_view.specs.declared.object.ViewObject.{ViewObject}
-use Rattle.asic_view.specs.View.{ViewObjects, changed_at, rid_at, rid_in, vid_cmp, with_tie}
+use Rattle.asic_view.specs.View.{ViewObjects, view_changed_at, rid_at, rid_in, vid_cmp, with_tie}
 use Rattle.asic_view.proofs.Keeping.{vid-exact}
 use Rattle.syncd_core.specs.Begun.{tied_entries, tied_objects}
 use Rattle.syncd_core.proofs.Ties.{apart_found}
@@ -25,13 +25,13 @@ vid-self v = (eq_by_cmp_equiv ordered_vid.total-law).refl v
 abbrev pub IsThere : ViewObjects → Vid → Type 0
 IsThere os v = (y : ViewObject) × (Found os v ≡ Some y)
 
-same_found : (v : Vid) (g : ViewObject → ViewObject) (os : ViewObjects) → Found (changed_at os v g) v ≡ option_map g (Found os v)
+same_found : (v : Vid) (g : ViewObject → ViewObject) (os : ViewObjects) → Found (view_changed_at os v g) v ≡ option_map g (Found os v)
 same_found v g [] = refl
 same_found v g (y ∷ ys) = by (is_at (vid_cmp v) y.0) refl (same_found v g ys)
   where
-    by : (s : Bool) → is_at (vid_cmp v) y.0 ≡ s → Found (changed_at ys v g) v ≡ option_map g (Found ys v) → Found (cond s (y.0, g y.1) y ∷ changed_at ys v g) v ≡ option_map g (Found (y ∷ ys) v)
-    by true e rest = ap (λ b. cond b (Some (g y.1)) (Found (changed_at ys v g) v)) e ∙ ap (λ b. option_map g (cond b (Some y.1) (Found ys v))) (sym e)
-    by false e rest = ap (λ b. cond b (Some y.1) (Found (changed_at ys v g) v)) e ∙ rest ∙ ap (λ b. option_map g (cond b (Some y.1) (Found ys v))) (sym e)
+    by : (s : Bool) → is_at (vid_cmp v) y.0 ≡ s → Found (view_changed_at ys v g) v ≡ option_map g (Found ys v) → Found (cond s (y.0, g y.1) y ∷ view_changed_at ys v g) v ≡ option_map g (Found (y ∷ ys) v)
+    by true e rest = ap (λ b. cond b (Some (g y.1)) (Found (view_changed_at ys v g) v)) e ∙ ap (λ b. option_map g (cond b (Some y.1) (Found ys v))) (sym e)
+    by false e rest = ap (λ b. cond b (Some y.1) (Found (view_changed_at ys v g) v)) e ∙ rest ∙ ap (λ b. option_map g (cond b (Some y.1) (Found ys v))) (sym e)
 
 abbrev tie_with : Rid → ViewObject → ViewObject
 tie_with r x = record { body = x.body; rid = Some r }

@@ -35,11 +35,11 @@ use Rattle.plan_laws.specs.Plans.{PlanChange, Make, Remove, Set, outcome, stands
 use Rattle.plan_laws.proofs.Allowed.{IsSafePlan, make-refers, set-refers}
 use Rattle.plan_laws.proofs.Following.{HasNamed, before, done-in, due-in, origin}
 use Rattle.asic_view.specs.View.{ViewObjects, rid_at, with_tie}
-use Rattle.syncd_core.specs.Run.{AreInTime, HasCome, IsUntied, NamesTied, made_by, view_by}
+use Rattle.syncd_core.specs.Run.{AreInTime, HasComeToChip, IsUntied, NamesTied, made_by, view_by}
 use Rattle.syncd_core.specs.Synced.{tied_by}
 use Rattle.apply_order.specs.Attributes.{differing, set_call}
 use Rattle.apply_order.specs.Calls.{both_calls, make_calls, made_id, remove_calls, step_calls, steps_calls}
-use Rattle.apply_order.specs.Naming.{Names, id_by, new_id}
+use Rattle.apply_order.specs.Naming.{OldIds, id_by, new_id}
 use Rattle.apply_order.specs.declared.ranks.Timed.{Timed}
 use Rattle.order_laws.specs.Viewed.{IsViewOf, things_in}
 use Rattle.order_laws.proofs.Changes.{IsDueStep, IsMadeDue, IsSetDue, change_of, due-pair, name-is, new_thing, old_name, place_old, thing-is}
@@ -71,7 +71,7 @@ apart_remove k u e = cc
 one_made : (t u : Thing) → Make t ≡ Make u → t ≡ u
 one_made t u e = cc
 
-module _ (olds : List Thing) {made' : ℕ} (old : List (Object Rid)) {new : List (Object Vid)} {things : List (Vid × Thing)} (chip : IsListedChip made' (entries_of old)) (view : IsViewOf things new) (m : Mode) (names : Names) (start : Layout Rid) (named : (v : Vid) (u : Thing) → viewed things v u → has_number u ≡ true → plan_layout start (viewed things) (new_id names v) u) (stand : (u : Thing) → IsIn u olds → (r : Rid) × start r u) where
+module _ (olds : List Thing) {made' : ℕ} (old : List (Object Rid)) {new : List (Object Vid)} {things : List (Vid × Thing)} (chip : IsListedChip made' (entries_of old)) (view : IsViewOf things new) (m : Mode) (names : OldIds) (start : Layout Rid) (named : (v : Vid) (u : Thing) → viewed things v u → has_number u ≡ true → plan_layout start (viewed things) (new_id names v) u) (stand : (u : Thing) → IsIn u olds → (r : Rid) × start r u) where
   abbrev N : List Thing
   N = things_in things
 
@@ -96,7 +96,7 @@ module _ (olds : List Thing) {made' : ℕ} (old : List (Object Rid)) {new : List
       changes_cut = ap (map change) cut ∙ map-append change front back
 
       -- what stands by then has come
-      come : (V : ViewObjects) → AreTied front V → (k : ThingName) (i : Vid) → Has (viewed things) k i → is_numbered (name_kind k) ≡ true → HasNamed (stands_after_all (map change front) (λ u. IsIn u olds)) k → HasCome V (new_id names i)
+      come : (V : ViewObjects) → AreTied front V → (k : ThingName) (i : Vid) → Has (viewed things) k i → is_numbered (name_kind k) ≡ true → HasNamed (stands_after_all (map change front) (λ u. IsIn u olds)) k → HasComeToChip V (new_id names i)
       come V tied k i has number standing = by (lookup (is_at (nat_cmp i.0)) names) refl
         where
           u : Thing
@@ -121,7 +121,7 @@ module _ (olds : List Thing) {made' : ℕ} (old : List (Object Rid)) {new : List
               absurd (by_old s.1 s.2 (s.3 ∙ ap name_of (same_Some t w is) ∙ same) fact)
           by_change (Remove l) h w is same fact = absurd cc
 
-          by : (o : Option Rid) → lookup (is_at (nat_cmp i.0)) names ≡ o → HasCome V (id_by o i)
+          by : (o : Option Rid) → lookup (is_at (nat_cmp i.0)) names ≡ o → HasComeToChip V (id_by o i)
           by (Some r) e = tt
           by None e =
               let fact : plan_layout start (viewed things) (plan_id.New i) has.0 = subst (λ o. plan_layout start (viewed things) (id_by o i) has.0) e (named i has.0 has.1 numbered) in
@@ -130,7 +130,7 @@ module _ (olds : List Thing) {made' : ℕ} (old : List (Object Rid)) {new : List
                 | inr c ↦ by_change c.0 c.1 standing.0 c.2 standing.2 fact
               ]
 
-      come_at : (V : ViewObjects) → AreTied front V → (o : Option ThingName) (i : Vid) → IsAt (Has (viewed things)) o i → ((k : ThingName) → o ≡ Some k → is_numbered (name_kind k) ≡ true) → ((k : ThingName) → o ≡ Some k → HasNamed (stands_after_all (map change front) (λ u. IsIn u olds)) k) → (k : ThingName) → o ≡ Some k → HasCome V (new_id names i)
+      come_at : (V : ViewObjects) → AreTied front V → (o : Option ThingName) (i : Vid) → IsAt (Has (viewed things)) o i → ((k : ThingName) → o ≡ Some k → is_numbered (name_kind k) ≡ true) → ((k : ThingName) → o ≡ Some k → HasNamed (stands_after_all (map change front) (λ u. IsIn u olds)) k) → (k : ThingName) → o ≡ Some k → HasComeToChip V (new_id names i)
       come_at V tied None i at number standing k e = absurd cc
       come_at V tied (Some l) i at number standing k e = come V tied l i at (number l refl) (standing l refl)
 

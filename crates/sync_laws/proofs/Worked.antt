@@ -29,10 +29,10 @@ use Rattle.view_match.specs.Pairs.{pairs_of}
 use Rattle.apply_order.specs.Due.{due_steps}
 use Rattle.apply_order.specs.Planned.{IsPlanOf}
 use Rattle.apply_order.specs.Ranks.{timed_cmp}
-use Rattle.apply_order.specs.Room.{Fits, lacking_from}
+use Rattle.apply_order.specs.Room.{FitTogether, lacking_from}
 use Rattle.apply_order.specs.declared.ranks.Timed.{Timed}
 use Rattle.asic_view.specs.View.{ViewObjects, as_chip, rid_at, rid_in, vid_cmp}
-use Rattle.syncd_core.specs.Begun.{objects_in}
+use Rattle.syncd_core.specs.Begun.{objects_listed}
 use Rattle.sync_laws.specs.Begun.{IsApplyBegun, IsApplyReady, IsReadyView, calls_from}
 use Rattle.sync_laws.proofs.Ready.{made-view, ready-begun}
 use Rattle.order_laws.proofs.Viewing.{laid_things}
@@ -57,7 +57,7 @@ abbrev view : ViewObjects
 view = (vid 1, record { body = body.Vlan 10; rid = None }) ∷ (vid 2, record { body = body.Vlan 20; rid = None }) ∷ []
 
 abbrev new : List (Object Vid)
-new = objects_in view
+new = objects_listed view
 
 -- ---- what stands was made by legal calls
 
@@ -155,7 +155,7 @@ abbrev due : List Timed
 due = due_steps mode.Hitless old new (pairs_of old new)
 
 -- VLAN 20 is made first, and then what differs of VLAN 10 is set, which is nothing
-fits_all : Fits roomy old new (pairs_of old new)
+fits_all : FitTogether roomy old new (pairs_of old new)
 fits_all kind.Port = omega arith
 fits_all kind.Vlan = omega arith
 fits_all _ = omega arith

@@ -17,7 +17,7 @@ ghost use Rattle.sai_chip.specs.Naming.{entries_of};
 ghost use Rattle.plan_laws.specs.Applied.{chip_things};
 ghost use Rattle.plan_laws.specs.Steady.{IsHitless, IsOldOrNew, StaysNew};
 ghost use Rattle.asic_view.specs.View.{ViewObjects, as_chip, shown_by};
-ghost use Rattle.syncd_core.specs.Begun.{Begins, objects_in};
+ghost use Rattle.syncd_core.specs.Begun.{Begins, objects_listed};
 ghost use Rattle.syncd_core.specs.Synced.{SyncState};
 ghost use Rattle.sai_types.specs.declared.plan.Mode.{Mode};
 ghost use Rattle.syncd_core.specs.Run.{AreInTime, tied_after, tied_calls};
@@ -41,7 +41,7 @@ pub fn plans_are_in_time()
 /// identifiers that it is tied to. Each is legal on the chip as those before it left it, and after the last the chip is
 /// alike to the new view.
 pub fn ties_apply()
-    ensures applies { (capacities : List ℕ) (made : ℕ) (old : List (Object Rid)) (view : ViewObjects) (things : List (Vid × Thing)) (plan : Plan) → IsApplyBegun capacities made old view things plan → IsApply capacities made old (objects_in view) things plan (tie_of (tied_after made (first_ties old view plan) plan.calls)) }
+    ensures applies { (capacities : List ℕ) (made : ℕ) (old : List (Object Rid)) (view : ViewObjects) (things : List (Vid × Thing)) (plan : Plan) → IsApplyBegun capacities made old view things plan → IsApply capacities made old (objects_listed view) things plan (tie_of (tied_after made (first_ties old view plan) plan.calls)) }
     ensures calls { (capacities : List ℕ) (made : ℕ) (old : List (Object Rid)) (view : ViewObjects) (things : List (Vid × Thing)) (plan : Plan) → IsApplyBegun capacities made old view things plan → calls_from made old view plan ≡ calls_by (tie_of (tied_after made (first_ties old view plan) plan.calls)) plan }
     ensures legal { (capacities : List ℕ) (made : ℕ) (old : List (Object Rid)) (view : ViewObjects) (things : List (Vid × Thing)) (plan : Plan) → IsApplyBegun capacities made old view things plan → AreLegal capacities made (entries_of old) (calls_from made old view plan) }
     ensures alike { (capacities : List ℕ) (made : ℕ) (old : List (Object Rid)) (view : ViewObjects) (things : List (Vid × Thing)) (plan : Plan) → IsApplyBegun capacities made old view things plan → IsAlike (after_calls made (entries_of old) (calls_from made old view plan)) (λ t. IsIn t (things_in things)) }

@@ -11,7 +11,7 @@ use Rattle.table_schema.specs.Rows.{fields_at}
 use Rattle.table_schema.specs.declared.key.Key.{Key}
 use Rattle.table_schema.specs.declared.write.Write.{Write}
 use Rattle.table_schema.proofs.Keys.{at_itself, key_total, tied_keys_same}
-use Rattle.producer_table.specs.Pending.{PendingKeys, AreInOrder, nothing_pending, pending_at, row_with_fields, row_with_pending}
+use Rattle.producer_table.specs.Pending.{PendingKeys, ArePendingInOrder, nothing_pending, pending_at, row_with_fields, row_with_pending}
 use Rattle.producer_table.specs.declared.waiting.Pending.{Pending}
 use Rattle.producer_table.proofs.Found.{lookup-above}
 use Rattle.switch_machine.specs.Events.{IsPop, PopsKey, SwitchState, Popped as KeyPopped, Stays as KeyStays}
@@ -36,7 +36,7 @@ module _ (first : Key × Pending) (rest : PendingKeys) (k : Key) where
   past-first : is_at (key_cmp k) first.0 ≡ false → pending_at (first ∷ rest) k ≡ pending_at rest k
   past-first apart = ap (λ b. unwrap_or (cond b (Some first.1) (lookup (is_at (key_cmp k)) rest)) nothing_pending) apart
 
-module _ (old new : TablesState) (h : PopsFirst old new) (order : AreInOrder old.waiting) (all : AllMatter old.waiting) where
+module _ (old new : TablesState) (h : PopsFirst old new) (order : ArePendingInOrder old.waiting) (all : AllMatter old.waiting) where
   waits : (k : Key) → is_at (key_cmp k) h.first.0 ≡ true → pending_at old.waiting k ≡ h.first.1
   waits k here = ap (λ w. pending_at w k) h.waiting ∙ at-first h.first new.waiting k here
 

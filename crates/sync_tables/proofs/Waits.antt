@@ -9,14 +9,14 @@ use Rattle.table_schema.specs.declared.write.Write.{Write}
 use Rattle.table_schema.specs.declared.write.Write.TheVariants.{Set, Del}
 use Rattle.table_schema.proofs.RowLists.{HasRisingRows-after_writes}
 use Rattle.table_schema.proofs.Keys.{at_itself}
-use Rattle.producer_table.specs.Pending.{PendingKeys, AreInOrder, laid_over, pending_after, pending_at, op_of, ops_of, row_with_pending, with_pending, writes_of_ops}
+use Rattle.producer_table.specs.Pending.{PendingKeys, ArePendingInOrder, laid_over, pending_after, pending_at, op_of, ops_of, row_with_pending, with_pending, writes_of_ops}
 use Rattle.producer_table.specs.declared.key_op.KeyOp.{KeyOp}
 use Rattle.producer_table.specs.declared.waiting.Pending.{Pending}
 use Rattle.producer_table.proofs.Found.{each-put}
 use Rattle.producer_table.proofs.PendingWrites.{AreInOrder-after, fields_at-with_pending, with_pending-after}
 use Rattle.producer_table.proofs.RowWrites.{fields_at-after_write, row_after}
 use Rattle.switch_machine.specs.Written.{TakesWrite, fields_after}
-use Rattle.sync_tables.specs.Tables.{AllMatter, Matters, TablesState, with_write, written_in}
+use Rattle.sync_tables.specs.Tables.{AllMatter, Matters, TablesState, tables_with_write, written_in}
 
 -- one row, or none
 abbrev one_row : Key → Option Pairs → Rows
@@ -36,7 +36,7 @@ after-write (Set key fields) k o = refl
 after-write (Del key) k o = refl
 
 -- a write more waits of a key
-row-after : (waiting : PendingKeys) (w : Write) (k : Key) (o : Option Pairs) → AreInOrder waiting → row_with_pending o (pending_at (pending_after waiting w) k) ≡ fields_after w k (row_with_pending o (pending_at waiting k))
+row-after : (waiting : PendingKeys) (w : Write) (k : Key) (o : Option Pairs) → ArePendingInOrder waiting → row_with_pending o (pending_at (pending_after waiting w) k) ≡ fields_after w k (row_with_pending o (pending_at waiting k))
 row-after waiting w k o order =
     let rows = one_row k o in
     let rising = rising-one_row k o in
@@ -49,7 +49,7 @@ row-after waiting w k o order =
     ∙ ap (row_after k w) now
     ∙ after-write w k (row_with_pending o (pending_at waiting k))
 
-pub takes_write : (t : TablesState) (taken : List Write) (w : Write) → AreInOrder t.waiting → TakesWrite w (written_in taken t) (written_in (taken ++ w ∷ []) (with_write t w))
+pub takes_write : (t : TablesState) (taken : List Write) (w : Write) → ArePendingInOrder t.waiting → TakesWrite w (written_in taken t) (written_in (taken ++ w ∷ []) (tables_with_write t w))
 takes_write t taken w order = record { taken = refl; rows = λ k. refl; waiting = λ k o. row-after t.waiting w k o order }
 
 -- a write that waits is a deletion or fields

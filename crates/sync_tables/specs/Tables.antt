@@ -23,8 +23,8 @@ abbrev pub no_tables : TablesState
 no_tables = record { rows = []; waiting = []; ops = [] }
 
 -- a write waits
-abbrev pub with_write : TablesState → Write → TablesState
-with_write t w = record { rows = t.rows; waiting = pending_after t.waiting w; ops = t.ops }
+abbrev pub tables_with_write : TablesState → Write → TablesState
+tables_with_write t w = record { rows = t.rows; waiting = pending_after t.waiting w; ops = t.ops }
 
 -- what these writes came to in the tables
 abbrev pub written_in : List Write → TablesState → Written

@@ -4,15 +4,15 @@ ghost use Rattle.std.specs.Map.{keys_of};
 ghost use Rattle.table_schema.specs.declared.key.Key.{Key};
 ghost use Rattle.table_schema.specs.declared.write.Write.{Write};
 ghost use Rattle.sai_types.specs.Alike.{IsIn};
-ghost use Rattle.producer_table.specs.Pending.{AreInOrder};
+ghost use Rattle.producer_table.specs.Pending.{ArePendingInOrder};
 ghost use Rattle.consumer_table.specs.Ops.{Ops, AreOpsInOrder, first_in, keys_behind, without_op};
 ghost use Rattle.switch_machine.specs.Events.{HasLeft, IsPop, SwitchState, no_writes};
 ghost use Rattle.switch_machine.specs.Written.{HasNoWrite, IsAsBefore, IsPopped, IsTold, TakesWrite};
-ghost use Rattle.sync_tables.specs.Tables.{IsBehind, IsNextKey, PopsKeys, TablesState, no_tables, with_write, written_in};
+ghost use Rattle.sync_tables.specs.Tables.{IsBehind, IsNextKey, PopsKeys, TablesState, no_tables, tables_with_write, written_in};
 
 /// A write that waits is a write taken.
 pub fn writes_are_taken()
-    ensures { (t : TablesState) (taken : List Write) (w : Write) → AreInOrder t.waiting → TakesWrite w (written_in taken t) (written_in (taken ++ w ∷ []) (with_write t w)) }
+    ensures { (t : TablesState) (taken : List Write) (w : Write) → ArePendingInOrder t.waiting → TakesWrite w (written_in taken t) (written_in (taken ++ w ∷ []) (tables_with_write t w)) }
 {}
 
 /// Where no write waits in the tables none waits of any key.

@@ -6,9 +6,9 @@ ghost use Rattle.table_schema.specs.Rows.{fields_at};
 ghost use Rattle.table_schema.specs.declared.key.Key.{Key};
 ghost use Rattle.table_schema.specs.declared.write.Write.TheVariants as write;
 ghost use Rattle.switch_model.specs.Good.{good_row};
-ghost use Rattle.producer_table.specs.Pending.{AreInOrder};
+ghost use Rattle.producer_table.specs.Pending.{ArePendingInOrder};
 ghost use Rattle.consumer_table.specs.Ops.{AreOpsInOrder, first_in, keys_behind, without_op};
-ghost use Rattle.sync_tables.specs.Tables.{IsToSync, PopsKeys, PopsSome, TakesAtMost, no_tables, with_write};
+ghost use Rattle.sync_tables.specs.Tables.{IsToSync, PopsKeys, PopsSome, TakesAtMost, no_tables, tables_with_write};
 ghost use Rattle.sync_tables.specs.declared.tables.TheConstants.{BATCH};
 
 use crate::merging::take_in;
@@ -56,7 +56,7 @@ impl Tables {
 
     /// Lets a Set wait.
     pub fn set(&mut self, key: Key, fields: Fields) -> Result<(), OutOfMemory>
-        ensures ok { OnOk result (self.new ≡ with_write self.old (write.Set key fields)) }
+        ensures ok { OnOk result (self.new ≡ tables_with_write self.old (write.Set key fields)) }
         ensures err { OnErr result (self.new ≡ self.old) }
     {
         self.waiting.set(key, fields)
@@ -64,16 +64,16 @@ impl Tables {
 
     /// Lets a Del wait.
     pub fn del(&mut self, key: Key) -> Result<(), OutOfMemory>
-        ensures ok { OnOk result (self.new ≡ with_write self.old (write.Del key)) }
+        ensures ok { OnOk result (self.new ≡ tables_with_write self.old (write.Del key)) }
         ensures err { OnErr result (self.new ≡ self.old) }
     {
         self.waiting.del(key)
     }
 
-    /// Whether no write waits. What waits is in order, as `AreInOrder` says.
+    /// Whether no write waits. What waits is in order, as `ArePendingInOrder` says.
     pub fn is_popped(&self) -> bool
         ensures popped { IsTrue result ↔ (self.now.waiting ≡ []) }
-        ensures order { AreInOrder self.now.waiting }
+        ensures order { ArePendingInOrder self.now.waiting }
     {
         self.waiting.is_empty()
     }

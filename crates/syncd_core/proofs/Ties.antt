@@ -11,17 +11,17 @@ use Rattle.sai_types.specs.declared.plan.PlanId.TheVariants as plan_id
 use Rattle.sai_types.specs.After.{makes_id}
 use Rattle.chip_layout.specs.Renamed.{call_renamed}
 use Rattle.asic_view.specs.declared.object.ViewObject.{ViewObject}
-use Rattle.asic_view.specs.View.{ViewObjects, changed_at, rid_at, rid_in, vid_cmp}
+use Rattle.asic_view.specs.View.{ViewObjects, view_changed_at, rid_at, rid_in, vid_cmp}
 use Rattle.asic_view.proofs.Keeping.{vid-exact}
-use Rattle.syncd_core.specs.Run.{AreInTime, HasCome, IsUntied, made_by, tied_after, tied_calls, view_by}
+use Rattle.syncd_core.specs.Run.{AreInTime, HasComeToChip, IsUntied, made_by, tied_after, tied_calls, view_by}
 use Rattle.syncd_core.specs.Synced.{tied_by}
 use Rattle.syncd_core.specs.Tied.{plan_tie, rid_or_none}
 
-pub apart_found : (v w : Vid) (g : ViewObject → ViewObject) → (v ≡ w → ⊥) → (os : ViewObjects) → lookup (is_at (vid_cmp v)) (changed_at os w g) ≡ lookup (is_at (vid_cmp v)) os
+pub apart_found : (v w : Vid) (g : ViewObject → ViewObject) → (v ≡ w → ⊥) → (os : ViewObjects) → lookup (is_at (vid_cmp v)) (view_changed_at os w g) ≡ lookup (is_at (vid_cmp v)) os
 apart_found v w g apart [] = refl
 apart_found v w g apart (y ∷ ys) = by (is_at (vid_cmp w) y.0) refl (is_at (vid_cmp v) y.0) refl (apart_found v w g apart ys)
   where
-    by : (s : Bool) → is_at (vid_cmp w) y.0 ≡ s → (t : Bool) → is_at (vid_cmp v) y.0 ≡ t → lookup (is_at (vid_cmp v)) (changed_at ys w g) ≡ lookup (is_at (vid_cmp v)) ys → lookup (is_at (vid_cmp v)) (cond s (y.0, g y.1) y ∷ changed_at ys w g) ≡ lookup (is_at (vid_cmp v)) (y ∷ ys)
+    by : (s : Bool) → is_at (vid_cmp w) y.0 ≡ s → (t : Bool) → is_at (vid_cmp v) y.0 ≡ t → lookup (is_at (vid_cmp v)) (view_changed_at ys w g) ≡ lookup (is_at (vid_cmp v)) ys → lookup (is_at (vid_cmp v)) (cond s (y.0, g y.1) y ∷ view_changed_at ys w g) ≡ lookup (is_at (vid_cmp v)) (y ∷ ys)
     by true at true here rest = absurd (apart (vid-exact v y.0 here ∙ sym (vid-exact w y.0 at)))
     by true at false here rest = ap₂ (λ b o. cond b (Some (g y.1)) o) here rest ∙ ap (λ b. cond b (Some y.1) (lookup (is_at (vid_cmp v)) ys)) (sym here)
     by false at t here rest = ap (cond (is_at (vid_cmp v) y.0) (Some y.1)) rest
@@ -41,7 +41,7 @@ pub tie_kept_through : (made : ℕ) (view : ViewObjects) (calls : List PlanCall)
 tie_kept_through made view [] v r times tied = tied
 tie_kept_through made view (c ∷ cs) v r times tied = tie_kept_through (made_by made c) (view_by made view c) cs v r times.2 (step_kept made view c v r times.1 tied)
 
-come_kept : (made : ℕ) (view : ViewObjects) (calls : List PlanCall) → AreInTime made view calls → (i : PlanId) → HasCome view i → plan_tie (tied_after made view calls) i ≡ plan_tie view i
+come_kept : (made : ℕ) (view : ViewObjects) (calls : List PlanCall) → AreInTime made view calls → (i : PlanId) → HasComeToChip view i → plan_tie (tied_after made view calls) i ≡ plan_tie view i
 come_kept made view calls times (plan_id.Old r) h = refl
 come_kept made view calls times (plan_id.New v) (r, tied) = ap rid_or_none (tie_kept_through made view calls v r times tied ∙ sym tied)
 

@@ -16,8 +16,8 @@ use Rattle.asic_view.specs.View.{ViewObjects, object_of, with_tie}
 use Rattle.syncd_core.specs.Synced.{SyncState}
 
 -- the objects of a view, as a list of them gives them
-abbrev pub objects_in : ViewObjects → List (Object Vid)
-objects_in view = map object_of view
+abbrev pub objects_listed : ViewObjects → List (Object Vid)
+objects_listed view = map object_of view
 
 -- a new object that is paired is tied to the old one, where they have identifiers
 abbrev pub tied_entries : ViewObjects → Entry Rid → Entry Vid → ViewObjects
@@ -43,7 +43,7 @@ pub record CanBegin (s : SyncState) : Type 0 where
   pub new : ViewObjects
   pub listed : s.listed ≡ Some old
   pub temporary : s.temporary ≡ Some new
-  pub distinct : AreDistinct (those (new_keys (objects_in new)))
+  pub distinct : AreDistinct (those (new_keys (objects_listed new)))
 
 -- the plan from the list to the temporary view, which stands for the chip once the plan's calls are made
 pub record Begins (s : SyncState) (m : Mode) (s' : SyncState) : Type 0 where
@@ -52,6 +52,6 @@ pub record Begins (s : SyncState) (m : Mode) (s' : SyncState) : Type 0 where
   pub listed : s.listed ≡ Some old
   pub temporary : s.temporary ≡ Some new
   pub plan : Plan
-  pub planned : IsPlanOf old (objects_in new) (pairs_of old (objects_in new)) s.capacities plan
+  pub planned : IsPlanOf old (objects_listed new) (pairs_of old (objects_listed new)) s.capacities plan
   pub mode : m ≡ plan.mode
-  pub later : s' ≡ record { view = tied_in plan.mode new old (objects_in new) (pairs_of old (objects_in new)); temporary = None; listed = None; left = plan.calls; capacities = s.capacities }
+  pub later : s' ≡ record { view = tied_in plan.mode new old (objects_listed new) (pairs_of old (objects_listed new)); temporary = None; listed = None; left = plan.calls; capacities = s.capacities }

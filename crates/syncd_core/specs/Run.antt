@@ -30,13 +30,13 @@ tied_after made view [] = view
 tied_after made view (c ∷ cs) = tied_after (made_by made c) (view_by made view c) cs
 
 -- an identifier of a plan has come to one of the chip
-abbrev pub HasCome : ViewObjects → PlanId → Type 0
-HasCome view (plan_id.Old r) = Unit {0}
-HasCome view (plan_id.New v) = (r : Rid) × (rid_at view v ≡ Some r)
+abbrev pub HasComeToChip : ViewObjects → PlanId → Type 0
+HasComeToChip view (plan_id.Old r) = Unit {0}
+HasComeToChip view (plan_id.New v) = (r : Rid) × (rid_at view v ≡ Some r)
 
 -- a call names such identifiers alone: what others come to has no part in it
 abbrev pub NamesTied : ViewObjects → Call PlanId → Type 0
-NamesTied view c = (f : PlanId → Rid) → ((i : PlanId) → HasCome view i → f i ≡ plan_tie view i) → call_renamed f c ≡ call_renamed (plan_tie view) c
+NamesTied view c = (f : PlanId → Rid) → ((i : PlanId) → HasComeToChip view i → f i ≡ plan_tie view i) → call_renamed f c ≡ call_renamed (plan_tie view) c
 
 -- what a call makes is tied to nothing yet
 abbrev pub IsUntied : ViewObjects → Option Vid → Type 0

@@ -16,7 +16,7 @@ use Rattle.sai_types.specs.After.{has_id}
 use Rattle.sai_types.specs.ChipState.{ChipState, IsAnswered, IsListed, objects_of}
 use Rattle.sai_types.specs.Refusal.{IsLegal}
 use Rattle.chip_layout.specs.Renamed.{call_renamed}
-use Rattle.asic_view.specs.View.{IsLegalOn, IsNew, ViewObjects, after_create, after_remove, after_set, with_tie}
+use Rattle.asic_view.specs.View.{IsLegalOn, IsNew, ViewObjects, after_create, after_remove, view_after_set, with_tie}
 use Rattle.syncd_core.specs.Tied.{plan_tie, tie_of}
 use Rattle.syncd_core.specs.declared.answer.ApplyStep.{ApplyStep}
 use Rattle.syncd_core.specs.declared.answer.ApplyStep.TheVariants as step
@@ -73,7 +73,7 @@ answer_made b v = if has_id b then sync.Made v else sync.Done
 -- a call changed a view alone
 abbrev pub Changes : ViewObjects → Call Vid → SyncAnswer → ViewObjects → Type 0
 Changes old (call.Create b) a new = (v : Vid) × IsNew v old × (new ≡ after_create old v b) × (a ≡ answer_made b v)
-Changes old (call.Set e x) a new = (new ≡ after_set old e x) × (a ≡ sync.Done)
+Changes old (call.Set e x) a new = (new ≡ view_after_set old e x) × (a ≡ sync.Done)
 Changes old (call.Remove e) a new = (new ≡ after_remove old e) × (a ≡ sync.Done)
 
 -- the view after a call that the chip answered so; an object that it made is tied to the one that the chip made
@@ -81,12 +81,12 @@ abbrev pub AnswerFollows : ViewObjects → Call Vid → ChipAnswer → SyncAnswe
 AnswerFollows old c answer.Failed a new = (new ≡ old) × (a ≡ sync.Failed)
 AnswerFollows old (call.Create b) (answer.Made r) a new = (v : Vid) × IsNew v old × (new ≡ with_tie (after_create old v b) v r) × (a ≡ sync.Made v)
 AnswerFollows old (call.Create b) answer.Done a new = (v : Vid) × IsNew v old × (new ≡ after_create old v b) × (a ≡ sync.Done)
-AnswerFollows old (call.Set e x) answer.Done a new = (new ≡ after_set old e x) × (a ≡ sync.Done)
+AnswerFollows old (call.Set e x) answer.Done a new = (new ≡ view_after_set old e x) × (a ≡ sync.Done)
 AnswerFollows old (call.Remove e) answer.Done a new = (new ≡ after_remove old e) × (a ≡ sync.Done)
 AnswerFollows old c _ a new = ⊥
 
 -- a call made exactly one call on the chip, the one with its identifiers replaced by their ties, and the view follows its answer
-pub record IsMade (old : ViewObjects) (chip : ChipState) (c : Call Vid) (a : SyncAnswer) (new : ViewObjects) (chip' : ChipState) : Type 0 where
+pub record IsMadeOnChip (old : ViewObjects) (chip : ChipState) (c : Call Vid) (a : SyncAnswer) (new : ViewObjects) (chip' : ChipState) : Type 0 where
   pub answer : ChipAnswer
   pub answered : IsAnswered chip (call_renamed (tie_of old) c) answer chip'
   pub follows : AnswerFollows old c answer a new
@@ -94,7 +94,7 @@ pub record IsMade (old : ViewObjects) (chip : ChipState) (c : Call Vid) (a : Syn
 -- what a call did: in a temporary view it made none on the chip
 abbrev pub Calls : SyncState → Option ViewObjects → ChipState → Call Vid → SyncAnswer → SyncState → ChipState → Type 0
 Calls s (Some temporary) chip c a s' chip' = (later : ViewObjects) × (s' ≡ with_temporary s later) × Changes temporary c a later × (chip' ≡ chip)
-Calls s None chip c a s' chip' = (later : ViewObjects) × (s' ≡ with_view s later) × IsMade s.view chip c a later chip'
+Calls s None chip c a s' chip' = (later : ViewObjects) × (s' ≡ with_view s later) × IsMadeOnChip s.view chip c a later chip'
 
 -- ---- lists
 

@@ -4,7 +4,7 @@ ghost use Rattle.sai_types.specs.Named.{those};
 ghost use Rattle.chip_layout.specs.Counted.{AreDistinct};
 ghost use Rattle.view_match.specs.Pairs.{new_keys, pairs_of};
 ghost use Rattle.apply_order.specs.Planned.{IsPlanOf};
-ghost use Rattle.syncd_core.specs.Begun.{objects_in, tied_entries, tied_in, tied_objects, tied_pairs};
+ghost use Rattle.syncd_core.specs.Begun.{objects_listed, tied_entries, tied_in, tied_objects, tied_pairs};
 
 use apply_order::plan;
 use asic_view::View;
@@ -20,9 +20,9 @@ pub(crate) fn begin(
     listed: &[Object<Rid>],
     view: &mut View,
 ) -> Result<Plan, OutOfMemory>
-    requires { AreDistinct (those (new_keys (objects_in view.old))) }
-    ensures plan { IfOk result (λ plan. IsPlanOf listed.now (objects_in view.old) (pairs_of listed.now (objects_in view.old)) caps.now.0 plan) }
-    ensures ties { IfOk result (λ plan. view.new ≡ tied_in plan.mode view.old listed.now (objects_in view.old) (pairs_of listed.now (objects_in view.old))) }
+    requires { AreDistinct (those (new_keys (objects_listed view.old))) }
+    ensures plan { IfOk result (λ plan. IsPlanOf listed.now (objects_listed view.old) (pairs_of listed.now (objects_listed view.old)) caps.now.0 plan) }
+    ensures ties { IfOk result (λ plan. view.new ≡ tied_in plan.mode view.old listed.now (objects_listed view.old) (pairs_of listed.now (objects_listed view.old))) }
     ensures err { OnErr result (view.new ≡ view.old) }
 {
     let objects = view.objects()?;

@@ -3,7 +3,7 @@ ghost use Rattle.std.specs.Prelude.{◌≡◌, OnErr, IfOk};
 ghost use Rattle.sai_types.specs.Refusal.{IsLegal};
 ghost use Rattle.chip_layout.specs.Renamed.{call_renamed};
 ghost use Rattle.asic_view.specs.View.{IsLegalOn};
-ghost use Rattle.syncd_core.specs.Synced.{Changes, IsMade, answer_made};
+ghost use Rattle.syncd_core.specs.Synced.{Changes, IsMadeOnChip, answer_made};
 ghost use Rattle.syncd_core.specs.Tied.{tie_of};
 
 use crate::made::{Made, make};
@@ -53,7 +53,7 @@ pub(crate) fn call_chip<C: Chip>(
 ) -> Result<SyncAnswer, OutOfMemory>
     requires view { IsLegalOn view.old call.now }
     requires chip { IsLegal (C.state chip.old).capacities (C.state chip.old).objects (call_renamed (tie_of view.old) call.now) }
-    ensures ok { IfOk result (λ answer. IsMade view.old (C.state chip.old) call.now answer view.new (C.state chip.new)) }
+    ensures ok { IfOk result (λ answer. IsMadeOnChip view.old (C.state chip.old) call.now answer view.new (C.state chip.new)) }
     ensures err { OnErr result (view.new ≡ view.old) }
     ensures unmade { OnErr result (C.state chip.new ≡ C.state chip.old) }
 {
@@ -88,7 +88,7 @@ fn create<C: Chip>(
     requires view { IsLegalOn view.old (Call.Create body.now) }
     requires chip { IsLegal (C.state chip.old).capacities (C.state chip.old).objects tied.now }
     requires tied { tied.now ≡ call_renamed (tie_of view.old) (Call.Create body.now) }
-    ensures ok { IfOk result (λ answer. IsMade view.old (C.state chip.old) (Call.Create body.now) answer view.new (C.state chip.new)) }
+    ensures ok { IfOk result (λ answer. IsMadeOnChip view.old (C.state chip.old) (Call.Create body.now) answer view.new (C.state chip.new)) }
     ensures err { OnErr result (view.new ≡ view.old) }
     ensures unmade { OnErr result (C.state chip.new ≡ C.state chip.old) }
 {

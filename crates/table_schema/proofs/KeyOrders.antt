@@ -2,7 +2,7 @@
 use Rattle.std.proofs.Common.{◌≡◌, ap₂, refl, nat_cmp}
 use Rattle.std.specs.Ordering.{ordering_then}
 use Rattle.swss_types.proofs.Orders.{ips-by_parts, names-by_parts, prefixes-by_parts}
-use Rattle.table_schema.specs.Hop.{hop_cmp}
+use Rattle.table_schema.specs.Hop.{row_hop_cmp}
 use Rattle.table_schema.specs.Key.{key_cmp}
 use Rattle.table_schema.specs.KeyOrder.{key_order, row_hop_order}
 use Rattle.table_schema.specs.declared.key.Key.{Key}
@@ -20,5 +20,5 @@ keys-by_parts (Route p) (Route q) = prefixes-by_parts p q
 keys-by_parts (Other s) (Other t) = refl
 keys-by_parts k q = refl
 
-pub row_hops-by_parts : (a b : RowHop) → hop_cmp a b ≡ row_hop_order a b
+pub row_hops-by_parts : (a b : RowHop) → row_hop_cmp a b ≡ row_hop_order a b
 row_hops-by_parts a b = ap₂ ordering_then (names-by_parts a.on b.on) (ips-by_parts a.ip b.ip)

@@ -8,7 +8,7 @@ use Rattle.std.proofs.lemmas.Map.Lookups.{exact_bytes}
 use Rattle.std.proofs.lemmas.Map.Text.{is_eq-slice_cmp}
 use Rattle.std.proofs.lemmas.Slice.Eq.{bytes_eq-Decides}
 use Rattle.table_schema.specs.Fields.{Pairs, by_bytes, HasRisingNames, value_of, with_pair, merged}
-use Rattle.table_schema.specs.LastValue.{last_value, value_behind}
+use Rattle.table_schema.specs.LastValue.{last_value, last_value_behind}
 use Rattle.table_schema.proofs.Places.{HasRisingKeys-insert_entry}
 
 -- names that rise still rise with others
@@ -52,9 +52,9 @@ value-with_pair : (q k : List ℕ) (es : Pairs) (v : List ℕ) → value_of q (w
 value-with_pair q k [] v = ap (λ b. found b v None) (is_eq-slice_cmp q k)
 value-with_pair q k (e ∷ es) v = put-first q k e es v (by_bytes k e.0) refl (value-with_pair q k es v)
 
-value-merged : (name : List ℕ) (fields pairs : Pairs) → value_of name (merged fields pairs) ≡ value_behind (value_of name fields) name pairs
+value-merged : (name : List ℕ) (fields pairs : Pairs) → value_of name (merged fields pairs) ≡ last_value_behind (value_of name fields) name pairs
 value-merged name fields [] = refl
-value-merged name fields (pair ∷ pairs) = value-merged name (with_pair fields pair.0 pair.1) pairs ∙ ap (λ v. value_behind v name pairs) (value-with_pair name pair.0 fields pair.1)
+value-merged name fields (pair ∷ pairs) = value-merged name (with_pair fields pair.0 pair.1) pairs ∙ ap (λ v. last_value_behind v name pairs) (value-with_pair name pair.0 fields pair.1)
 
 -- the value of a name is its last
 pub value-last : (name : List ℕ) (pairs : Pairs) → value_of name (merged [] pairs) ≡ last_value name pairs

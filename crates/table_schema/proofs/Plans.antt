@@ -14,7 +14,7 @@ use Rattle.swss_types.proofs.Truths.{or_swap}
 use Rattle.swss_types.specs.Lanes.{lanes_of, IsLaneList, AreRising}
 use Rattle.table_schema.specs.Split.{split_once}
 use Rattle.table_schema.specs.declared.plan.PlanWhy.{PlanWhy}
-use Rattle.table_schema.specs.Plan.{IsPlan, line_of, line_parts, plan_from, plan_of, plan_step, port_of, port_with, unless, with_line, Ports, has, has_lane, first_taken, port_named, lanes_in_plan, AreApart, port_fault, lane_fault}
+use Rattle.table_schema.specs.Plan.{IsPlan, line_of, line_parts, plan_from, plan_of, plan_step, port_of, port_with, unless, with_line, Ports, has, has_lane, first_taken, port_named, lanes_in_plan, HaveOwnLanes, port_fault, lane_fault}
 use Rattle.table_schema.specs.PlanIndex.{marked, IsIndexed}
 use Rattle.table_schema.specs.declared.plan.PlanWhy.TheVariants.{NameTwice, TooManyPorts}
 use Rattle.table_schema.proofs.Places.{HasRisingKeys-insert_entry}
@@ -133,11 +133,11 @@ module _ (port : ℕ) (lanes : List ℕ) where
       swapped false true x y z never = refl
       swapped false false x y z never = refl
 
-  apart-with_port : (ports : Ports) → IsAbsent ports port → first_taken ports lanes ≡ None → AreApart ports → AreApart (with_port ports)
+  apart-with_port : (ports : Ports) → IsAbsent ports port → first_taken ports lanes ≡ None → HaveOwnLanes ports → HaveOwnLanes (with_port ports)
   apart-with_port [] absent free h = ((λ lane in_it. refl), tt)
   apart-with_port (p ∷ ps) absent free h =
       let parts = absent_step (is_eq (nat_cmp port p.0)) p.1 (lanes_in_plan ps port) absent in
-      by_place AreApart p ps (nat_cmp port p.0) parts.0
+      by_place HaveOwnLanes p ps (nat_cmp port p.0) parts.0
       ((λ lane in_it. free_lane (p ∷ ps) lanes lane free in_it), h) (
         (λ lane in_it. has_lane-with_port ps lane parts.1 ∙ both_false (has lanes lane) (has_lane ps lane) (λ e. let gone : has p.1 lane ≡ false = (or_parts (has p.1 lane) (has_lane ps lane) (free_lane (p ∷ ps) lanes lane free e)).0 in cc) (h.0 lane in_it)),
         apart-with_port ps parts.1 (free_behind p ps lanes free) h.1,

@@ -12,12 +12,12 @@ use Rattle.swss_types.specs.declared.interface.IfName.TheVariants as name
 use Rattle.swss_types.proofs.Proper.{IsProperIp-ip_of}
 use Rattle.table_schema.specs.Broken.{bad, and_then}
 use Rattle.table_schema.specs.Fields.{Pairs, value_of}
-use Rattle.table_schema.specs.Hop.{hop_cmp}
+use Rattle.table_schema.specs.Hop.{row_hop_cmp}
 use Rattle.table_schema.specs.KeyText.{on_switch}
 use Rattle.table_schema.specs.Names.{base_names, names_of, names_of_route, route_names}
 use Rattle.table_schema.specs.Plan.{Ports}
 use Rattle.table_schema.specs.ProperKey.{IsProperKey, AreProperKeys}
-use Rattle.table_schema.specs.RouteRules.{drops_of, filled, forwarding_of, hop_at, hop_of, hop_on, hops_of, hops_with, is_zero, route_row_of, route_target, target_of}
+use Rattle.table_schema.specs.RouteRules.{drops_of, field_filled, route_hops_of, hop_at, hop_of_texts, hop_or_why, hops_of_texts, hops_with, is_zero, route_row_of, route_target, target_of_hops}
 use Rattle.table_schema.specs.Rules.{row_of}
 use Rattle.table_schema.specs.declared.key.Key.{Key}
 use Rattle.table_schema.specs.declared.key.Key.TheVariants as key
@@ -63,21 +63,21 @@ typed_hop_at several on (Some ip) hop proper h e =
     let is : made ≡ hop = ok_is made hop (last_chosen (several && is_zero ip) (Ok made) (record { why = BadValue; field = 7 }) hop e) in
     subst IsTypedHop is ((proper.0, h ip refl), proper.1)
 
-typed_hop_on : (several : Bool) (o : Option IfName) (a : Option Ip) (hop : RowHop) → ((on : IfName) → o ≡ Some on → IsProperIfName on × (on_switch (Some on) ≡ Some on)) → ((ip : Ip) → a ≡ Some ip → IsProperIp ip) → hop_on several o a ≡ Ok hop → IsTypedHop hop
+typed_hop_on : (several : Bool) (o : Option IfName) (a : Option Ip) (hop : RowHop) → ((on : IfName) → o ≡ Some on → IsProperIfName on × (on_switch (Some on) ≡ Some on)) → ((ip : Ip) → a ≡ Some ip → IsProperIp ip) → hop_or_why several o a ≡ Ok hop → IsTypedHop hop
 typed_hop_on several None a hop proper h e = cc
 typed_hop_on several (Some on) a hop proper h e = typed_hop_at several on a hop (proper on refl) h e
 
-typed_hop : (several : Bool) (ip on : List ℕ) (hop : RowHop) → hop_of several ip on ≡ Ok hop → IsTypedHop hop
+typed_hop : (several : Bool) (ip on : List ℕ) (hop : RowHop) → hop_of_texts several ip on ≡ Ok hop → IsTypedHop hop
 typed_hop several ip on hop e = typed_hop_on several (on_switch (if_name_of on)) (ip_of ip) hop (proper_on_switch on) (IsProperIp-ip_of ip) e
 
 typed_hops : (several : Bool) (hops : List RowHop) (ips names : List (List ℕ)) (all : List RowHop) → AllByRecursion IsTypedHop hops → hops_with several hops ips names ≡ Ok all → AllByRecursion IsTypedHop all
 typed_hops several hops [] names all h e = let is : hops ≡ all = cc in subst (AllByRecursion IsTypedHop) is h
 typed_hops several hops (ip ∷ ips) [] all h e = let is : hops ≡ all = cc in subst (AllByRecursion IsTypedHop) is h
 typed_hops several hops (ip ∷ ips) (on ∷ names) all h e =
-    let parts = both_hold (hop_of several ip on) (λ hop. hops_with several (insert_key hop_cmp hops hop) ips names) all e in
-    typed_hops several (insert_key hop_cmp hops parts.0) ips names all (AllByRecursion-insert_key IsTypedHop hops parts.0 (typed_hop several ip on parts.0 parts.1) h) parts.2
+    let parts = both_hold (hop_of_texts several ip on) (λ hop. hops_with several (insert_key row_hop_cmp hops hop) ips names) all e in
+    typed_hops several (insert_key row_hop_cmp hops parts.0) ips names all (AllByRecursion-insert_key IsTypedHop hops parts.0 (typed_hop several ip on parts.0 parts.1) h) parts.2
 
-typed_hops_of : (ips names : List (List ℕ)) (all : List RowHop) → hops_of ips names ≡ Ok all → AllByRecursion IsTypedHop all
+typed_hops_of : (ips names : List (List ℕ)) (all : List RowHop) → hops_of_texts ips names ≡ Ok all → AllByRecursion IsTypedHop all
 typed_hops_of ips names all e =
     let same = first_chosen (length ips == length names) (cond (leb (length ips) 128) (hops_with (ltb 1 (length ips)) [] ips names) (bad TooManyHops 7)) (record { why = CountsDiffer; field = 8 }) all e in
     let few = first_chosen (leb (length ips) 128) (hops_with (ltb 1 (length ips)) [] ips names) (record { why = TooManyHops; field = 7 }) all same in
@@ -89,17 +89,17 @@ IsTypedTarget route.Drop = Unit {0}
 IsTypedTarget (route.Direct on) = IsProperIfName on
 IsTypedTarget (route.Hops hops) = AllByRecursion IsTypedHop hops
 
-typed_target : (hops : List RowHop) → AllByRecursion IsTypedHop hops → IsTypedTarget (target_of hops)
+typed_target : (hops : List RowHop) → AllByRecursion IsTypedHop hops → IsTypedTarget (target_of_hops hops)
 typed_target [] h = h
 typed_target (hop ∷ []) h = elim (is_zero hop.ip) as (λ b. IsTypedTarget (cond b (route.Direct hop.on) (route.Hops (hop ∷ [])))) [ true ↦ h.0.0.0 | false ↦ h ]
 typed_target (hop ∷ other ∷ others) h = h
 
-typed_forwarding : (fields : Pairs) (target : RouteRow) → forwarding_of fields ≡ Ok target → IsTypedTarget target
+typed_forwarding : (fields : Pairs) (target : RouteRow) → route_hops_of fields ≡ Ok target → IsTypedTarget target
 typed_forwarding fields target e =
-    let ips = both_hold (filled 7 (value_of (codes "nexthop") fields)) (λ ips. and_then (filled 8 (value_of (codes "ifname") fields)) (λ names. and_then (hops_of (parts_at 44 ips) (parts_at 44 names)) (λ hops. Ok (target_of hops)))) target e in
-    let names = both_hold (filled 8 (value_of (codes "ifname") fields)) (λ names. and_then (hops_of (parts_at 44 ips.0) (parts_at 44 names)) (λ hops. Ok (target_of hops))) target ips.2 in
-    let hops = both_hold (hops_of (parts_at 44 ips.0) (parts_at 44 names.0)) (λ hops. Ok (target_of hops)) target names.2 in
-    let is : target_of hops.0 ≡ target = ok_is (target_of hops.0) target hops.2 in
+    let ips = both_hold (field_filled 7 (value_of (codes "nexthop") fields)) (λ ips. and_then (field_filled 8 (value_of (codes "ifname") fields)) (λ names. and_then (hops_of_texts (parts_at 44 ips) (parts_at 44 names)) (λ hops. Ok (target_of_hops hops)))) target e in
+    let names = both_hold (field_filled 8 (value_of (codes "ifname") fields)) (λ names. and_then (hops_of_texts (parts_at 44 ips.0) (parts_at 44 names)) (λ hops. Ok (target_of_hops hops))) target ips.2 in
+    let hops = both_hold (hops_of_texts (parts_at 44 ips.0) (parts_at 44 names.0)) (λ hops. Ok (target_of_hops hops)) target names.2 in
+    let is : target_of_hops hops.0 ≡ target = ok_is (target_of_hops hops.0) target hops.2 in
     subst IsTypedTarget is (typed_target hops.0 (typed_hops_of (parts_at 44 ips.0) (parts_at 44 names.0) hops.0 hops.1))
 
 typed_route_target : (drops : Bool) (fields : Pairs) (target : RouteRow) → route_target drops fields ≡ Ok target → IsTypedTarget target

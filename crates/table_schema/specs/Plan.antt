@@ -42,16 +42,16 @@ abbrev pub lanes_in_plan : Ports → ℕ → Option (List ℕ)
 lanes_in_plan ports port = lookup (is_at (nat_cmp port)) ports
 
 -- no lane is in two ports
-abbrev pub AreApart : Ports → Type 0
-AreApart [] = Unit {0}
-AreApart (p ∷ ps) = ((lane : ℕ) → has p.1 lane ≡ true → has_lane ps lane ≡ false) × AreApart ps
+abbrev pub HaveOwnLanes : Ports → Type 0
+HaveOwnLanes [] = Unit {0}
+HaveOwnLanes (p ∷ ps) = ((lane : ℕ) → has p.1 lane ≡ true → has_lane ps lane ≡ false) × HaveOwnLanes ps
 
 -- what holds of every port plan
 pub record IsPlan (ports : Ports) : Type 0 where
   pub few : length ports ≤ MOST_PORTS
   pub rising : HasRisingKeys nat_cmp ports
   pub lanes : AllByRecursion (λ p. IsLaneList p.1) ports
-  pub apart : AreApart ports
+  pub apart : HaveOwnLanes ports
 
 -- the number of a port's name
 abbrev pub port_of : Option IfName → Option ℕ
@@ -96,12 +96,12 @@ abbrev pub plan_step : Ports → List ℕ → Result Ports PlanWhy
 plan_step ports line = with_line ports (line_of line)
 
 -- a fault with the number of its line
-abbrev pub numbered : ℕ → PlanWhy → Result Ports (ℕ × PlanWhy)
-numbered number why = Err (number, why)
+abbrev pub fault_numbered : ℕ → PlanWhy → Result Ports (ℕ × PlanWhy)
+fault_numbered number why = Err (number, why)
 
 -- the plan of the lines behind a plan, the first of them with this number
 abbrev pub plan_from : Result Ports PlanWhy → ℕ → List (List ℕ) → Result Ports (ℕ × PlanWhy)
-plan_from (Err why) number lines = numbered number why
+plan_from (Err why) number lines = fault_numbered number why
 plan_from (Ok ports) number [] = Ok ports
 plan_from (Ok ports) number (line ∷ lines) = plan_from (plan_step ports line) (number + 1) lines
 

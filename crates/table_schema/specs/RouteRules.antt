@@ -8,7 +8,7 @@ use Rattle.swss_types.specs.declared.address.Ip.{Ip}
 use Rattle.swss_types.specs.declared.interface.IfName.{IfName}
 use Rattle.table_schema.specs.Broken.{bad, and_then}
 use Rattle.table_schema.specs.Fields.{Pairs, value_of}
-use Rattle.table_schema.specs.Hop.{hop_cmp}
+use Rattle.table_schema.specs.Hop.{row_hop_cmp}
 use Rattle.table_schema.specs.KeyText.{on_switch}
 use Rattle.table_schema.specs.declared.row.BadRow.{BadRow}
 use Rattle.table_schema.specs.declared.row.BadWhy.TheVariants.{Unsupported, MissingField, BadValue, CountsDiffer, TooManyHops}
@@ -18,12 +18,12 @@ use Rattle.table_schema.specs.declared.row_hop.RowHop.{RowHop}
 use Rattle.table_schema.specs.declared.route_rules.TheConstants.{MOST_HOPS}
 
 -- an element that says nothing
-abbrev pub is_blank : List ℕ → Bool
-is_blank part = bytes_eq part [] || bytes_eq part (codes "na")
+abbrev pub is_blank_part : List ℕ → Bool
+is_blank_part part = bytes_eq part [] || bytes_eq part (codes "na")
 
 abbrev pub are_blank : List (List ℕ) → Bool
 are_blank [] = true
-are_blank (part ∷ parts) = is_blank part && are_blank parts
+are_blank (part ∷ parts) = is_blank_part part && are_blank parts
 
 -- a field of what the service does not have: all its elements say nothing
 abbrev pub unused : ℕ → Option (List ℕ) → Result (Unit {0}) BadRow
@@ -49,10 +49,10 @@ blackhole_of (Some text) =
     else bad BadValue 9
 
 -- a field that must not be absent or empty
-abbrev pub filled : ℕ → Option (List ℕ) → Result (List ℕ) BadRow
-filled field None = bad MissingField field
-filled field (Some []) = bad MissingField field
-filled field (Some (b ∷ bs)) = Ok (b ∷ bs)
+abbrev pub field_filled : ℕ → Option (List ℕ) → Result (List ℕ) BadRow
+field_filled field None = bad MissingField field
+field_filled field (Some []) = bad MissingField field
+field_filled field (Some (b ∷ bs)) = Ok (b ∷ bs)
 
 -- the address 0.0.0.0 or ::
 abbrev pub is_zero : Ip → Bool
@@ -63,44 +63,44 @@ abbrev pub hop_at : Bool → IfName → Option Ip → Result RowHop BadRow
 hop_at several on None = bad BadValue 7
 hop_at several on (Some ip) = if several && is_zero ip then bad BadValue 7 else Ok (record { on = on; ip = ip })
 
-abbrev pub hop_on : Bool → Option IfName → Option Ip → Result RowHop BadRow
-hop_on several None ip = bad Unsupported 8
-hop_on several (Some on) ip = hop_at several on ip
+abbrev pub hop_or_why : Bool → Option IfName → Option Ip → Result RowHop BadRow
+hop_or_why several None ip = bad Unsupported 8
+hop_or_why several (Some on) ip = hop_at several on ip
 
 -- the hop that an address and the name of an Ethernet or Vlan interface write
-abbrev pub hop_of : Bool → List ℕ → List ℕ → Result RowHop BadRow
-hop_of several ip on = hop_on several (on_switch (if_name_of on)) (ip_of ip)
+abbrev pub hop_of_texts : Bool → List ℕ → List ℕ → Result RowHop BadRow
+hop_of_texts several ip on = hop_or_why several (on_switch (if_name_of on)) (ip_of ip)
 
 -- hops put among others, each once and rising
 abbrev pub hops_with : Bool → List RowHop → List (List ℕ) → List (List ℕ) → Result (List RowHop) BadRow
 hops_with several hops [] names = Ok hops
 hops_with several hops (ip ∷ ips) [] = Ok hops
-hops_with several hops (ip ∷ ips) (on ∷ names) = and_then (hop_of several ip on) (λ hop. hops_with several (insert_key hop_cmp hops hop) ips names)
+hops_with several hops (ip ∷ ips) (on ∷ names) = and_then (hop_of_texts several ip on) (λ hop. hops_with several (insert_key row_hop_cmp hops hop) ips names)
 
 -- as many addresses as names, no more than a route may have, and a hop at each pair
-abbrev pub hops_of : List (List ℕ) → List (List ℕ) → Result (List RowHop) BadRow
-hops_of ips names =
+abbrev pub hops_of_texts : List (List ℕ) → List (List ℕ) → Result (List RowHop) BadRow
+hops_of_texts ips names =
     if length ips == length names
     then (if nat_le (length ips) MOST_HOPS then hops_with (nat_lt 1 (length ips)) [] ips names else bad TooManyHops 7)
     else bad CountsDiffer 8
 
 -- one hop with a zero address is the interface itself
-abbrev pub target_of : List RowHop → RouteRow
-target_of [] = route.Hops []
-target_of (hop ∷ []) = if is_zero hop.ip then route.Direct hop.on else route.Hops (hop ∷ [])
-target_of (hop ∷ other ∷ others) = route.Hops (hop ∷ other ∷ others)
+abbrev pub target_of_hops : List RowHop → RouteRow
+target_of_hops [] = route.Hops []
+target_of_hops (hop ∷ []) = if is_zero hop.ip then route.Direct hop.on else route.Hops (hop ∷ [])
+target_of_hops (hop ∷ other ∷ others) = route.Hops (hop ∷ other ∷ others)
 
 -- the hops of a route that drops nothing
-abbrev pub forwarding_of : Pairs → Result RouteRow BadRow
-forwarding_of fields =
-    and_then (filled 7 (value_of (codes "nexthop") fields)) (λ ips.
-    and_then (filled 8 (value_of (codes "ifname") fields)) (λ names.
-    and_then (hops_of (parts_at 44 ips) (parts_at 44 names)) (λ hops.
-    Ok (target_of hops))))
+abbrev pub route_hops_of : Pairs → Result RouteRow BadRow
+route_hops_of fields =
+    and_then (field_filled 7 (value_of (codes "nexthop") fields)) (λ ips.
+    and_then (field_filled 8 (value_of (codes "ifname") fields)) (λ names.
+    and_then (hops_of_texts (parts_at 44 ips) (parts_at 44 names)) (λ hops.
+    Ok (target_of_hops hops))))
 
 abbrev pub route_target : Bool → Pairs → Result RouteRow BadRow
 route_target true fields = Ok route.Drop
-route_target false fields = forwarding_of fields
+route_target false fields = route_hops_of fields
 
 -- whether a route drops its packets
 abbrev pub drops_of : Pairs → Result Bool BadRow

@@ -5,7 +5,7 @@ ghost use Rattle.std.specs.Cmp.{IsTotalOrder};
 ghost use Rattle.std.specs.Str.{IsUtf8};
 ghost use Rattle.std.proofs.lemmas.Map.Lookups.{CmpEqualImpliesEq};
 ghost use Rattle.table_schema.specs.Fields.{HasRisingKeys, HasRisingNames, Pairs, merged, value_of};
-ghost use Rattle.table_schema.specs.Hop.{AreRisingHops, hop_cmp};
+ghost use Rattle.table_schema.specs.Hop.{AreRisingRowHops, row_hop_cmp};
 ghost use Rattle.table_schema.specs.Key.{key_cmp};
 ghost use Rattle.table_schema.specs.KeyOrder.{key_order, row_hop_order};
 ghost use Rattle.table_schema.specs.KeyText.{key_of, key_text};
@@ -30,7 +30,7 @@ pub fn keys_are_ordered()
 /// do not read. Keys of one table are ordered by their parts, and the hops of rows by interface and then by address.
 pub fn keys_go_by_table()
     ensures keys { (k q : Key) → key_cmp k q ≡ key_order k q }
-    ensures hops { (a b : RowHop) → hop_cmp a b ≡ row_hop_order a b }
+    ensures hops { (a b : RowHop) → row_hop_cmp a b ≡ row_hop_order a b }
 {}
 
 /// Each key that a text is is proper: its written form reads as the key again. So no two proper keys share one. Whatever the
@@ -54,8 +54,8 @@ pub fn last_values_stay()
 
 /// A hop more keeps hops rising, and one that is there changes nothing.
 pub fn hops_collapse()
-    ensures rising { (hops : List RowHop) (hop : RowHop) → AreRisingHops hops → AreRisingHops (insert_key hop_cmp hops hop) }
-    ensures once { (hops : List RowHop) (hop : RowHop) → AreRisingHops hops → Contains hops hop → insert_key hop_cmp hops hop ≡ hops }
+    ensures rising { (hops : List RowHop) (hop : RowHop) → AreRisingRowHops hops → AreRisingRowHops (insert_key row_hop_cmp hops hop) }
+    ensures once { (hops : List RowHop) (hop : RowHop) → AreRisingRowHops hops → Contains hops hop → insert_key row_hop_cmp hops hop ≡ hops }
 {}
 
 /// The rows of writes rise by their keys, and one write more is applied to the rows of the others.

@@ -1,7 +1,7 @@
 // The rules by which a route's row reads.
 ghost use Rattle.std.specs.Prelude.{◌≡◌, [], ◌≤◌, ◌==◌, count_by, length, IfOk, option_map, MatchResult};
 ghost use Rattle.table_schema.specs.Fields.{value_of};
-ghost use Rattle.table_schema.specs.RouteRules.{are_blank, blackhole_of, drops_of, filled, forwarding_of, hop_of, hops_of, hops_with, is_blank, is_zero, route_row_of, target_of, unused, unused_fields};
+ghost use Rattle.table_schema.specs.RouteRules.{are_blank, blackhole_of, drops_of, field_filled, route_hops_of, hop_of_texts, hops_of_texts, hops_with, is_blank_part, is_zero, route_row_of, target_of_hops, unused, unused_fields};
 ghost use Rattle.swss_types.specs.Parts.{parts_at};
 
 use crate::broken::bad;
@@ -64,7 +64,7 @@ fn are_blank(text: &[u8]) -> bool
 
 /// Whether an element is empty or `na`.
 fn is_blank(part: &[u8]) -> bool
-    ensures { result ≡ is_blank part.now }
+    ensures { result ≡ is_blank_part part.now }
 {
     part.is_empty() || part == b"na".as_slice()
 }
@@ -85,7 +85,7 @@ fn read_blackhole(text: Option<&Text>) -> Result<bool, BadRow>
 
 /// The hops of a route that drops nothing.
 fn read_forwarding(alloc: Global, fields: &Fields) -> Result<Result<RouteRow, BadRow>, OutOfMemory>
-    ensures { IfOk result (λ route. route ≡ forwarding_of fields.now) }
+    ensures { IfOk result (λ route. route ≡ route_hops_of fields.now) }
 {
     let addresses = match require_filled(field::NEXTHOP, fields.get(b"nexthop")) {
         Ok(addresses) => addresses,
@@ -100,7 +100,7 @@ fn read_forwarding(alloc: Global, fields: &Fields) -> Result<Result<RouteRow, Ba
 
 /// The value of a field that must not be absent or empty.
 fn require_filled(field: u8, text: Option<&Text>) -> Result<&[u8], BadRow>
-    ensures { MatchResult result (λ bytes. filled field (option_map (λ t. t.now) text.entry) ≡ Ok bytes.now) (λ broken. filled field (option_map (λ t. t.now) text.entry) ≡ Err broken) }
+    ensures { MatchResult result (λ bytes. field_filled field (option_map (λ t. t.now) text.entry) ≡ Ok bytes.now) (λ broken. field_filled field (option_map (λ t. t.now) text.entry) ≡ Err broken) }
 {
     match text {
         Some(text) if !text.bytes().is_empty() => Ok(text.bytes()),
@@ -114,7 +114,7 @@ fn read_hops(
     addresses: &[u8],
     names: &[u8],
 ) -> Result<Result<RowHops, BadRow>, OutOfMemory>
-    ensures { IfOk result (λ hops. hops ≡ hops_of (parts_at 44 addresses.now) (parts_at 44 names.now)) }
+    ensures { IfOk result (λ hops. hops ≡ hops_of_texts (parts_at 44 addresses.now) (parts_at 44 names.now)) }
 {
     let count = count_parts(addresses);
     if count != count_parts(names) {
@@ -168,7 +168,7 @@ fn read_pairs(
 
 /// The hop that an address and the name of an Ethernet or Vlan interface write. A zero address is none of several hops.
 fn read_hop(several: bool, address: &[u8], name: &[u8]) -> Result<RowHop, BadRow>
-    ensures { result ≡ hop_of several address.now name.now }
+    ensures { result ≡ hop_of_texts several address.now name.now }
 {
     let on = read_on_switch(name).ok_or(bad(Unsupported, field::IFNAME))?;
     let ip = Ip::read(address).ok_or(bad(BadValue, field::NEXTHOP))?;
@@ -187,7 +187,7 @@ fn is_zero(ip: &Ip) -> bool
 
 /// Where a route with these hops sends its packets: one hop with a zero address is the interface itself.
 fn target_of(hops: RowHops) -> RouteRow
-    ensures { result ≡ target_of hops }
+    ensures { result ≡ target_of_hops hops }
 {
     match hops.items() {
         [hop] if is_zero(&hop.ip) => RouteRow::Direct(hop.on),

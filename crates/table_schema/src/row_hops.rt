@@ -4,7 +4,7 @@ ghost use Rattle.std.specs.BTreeSet.{insert_key};
 ghost use Rattle.std.proofs.Common.{rules};
 ghost use Rattle.std.specs.Cmp.Rules.{comparing};
 ghost use Rattle.std.specs.Cmp.Lexicographic.{pointwise};
-ghost use Rattle.table_schema.specs.Hop.{AreRisingHops};
+ghost use Rattle.table_schema.specs.Hop.{AreRisingRowHops};
 ghost use Rattle.table_schema.specs.contracts.row_hop.RowHopPartialEq.TheImpl.Laws as same_hop;
 ghost use Rattle.table_schema.specs.contracts.row_hop.RowHopEq.TheImpl.Laws as equal_hop;
 
@@ -21,14 +21,14 @@ pub struct RowHops {
 
 impl Model for RowHops {
     ghost use Rattle.std.specs.Prelude.{List};
-    ghost use Rattle.table_schema.specs.Hop.{AreRisingHops};
+    ghost use Rattle.table_schema.specs.Hop.{AreRisingRowHops};
     ghost use Rattle.table_schema.specs.declared.row_hop.RowHop.{RowHop};
 
     ghost Value = { List RowHop };
 
     ghost view = { λ h. h.hops.items };
 
-    ghost invariant = { λ h. AreRisingHops h.hops.items };
+    ghost invariant = { λ h. AreRisingRowHops h.hops.items };
 }
 
 impl RowHops {
@@ -52,7 +52,7 @@ impl RowHops {
     /// The hops, rising.
     pub fn items(&self) -> &[RowHop]
         ensures value { result.now ≡ self.now }
-        ensures rising { AreRisingHops result.now }
+        ensures rising { AreRisingRowHops result.now }
     {
         self.hops.as_slice()
     }
@@ -69,10 +69,10 @@ impl RowHops {
 
 /// Puts a hop into its place among hops that rise, unless it is there.
 fn put_hop(hops: &mut Vec<RowHop>, hop: RowHop) -> Result<(), OutOfMemory>
-    requires { AreRisingHops hops.old.items }
+    requires { AreRisingRowHops hops.old.items }
     ensures ok { OnOk result (hops.new.items ≡ insert_key ⟦<RowHop as Ord>⟧.cmp hops.old.items hop) }
     ensures err { OnErr result (hops.new.items ≡ hops.old.items) }
-    ensures rising { AreRisingHops hops.new.items }
+    ensures rising { AreRisingRowHops hops.new.items }
 {
     insert_rising(hops, hop)
 }

@@ -21,7 +21,7 @@ use Rattle.sai_types.specs.Refusal.{IsLegal}
 use Rattle.chip_layout.specs.Renamed.{body_renamed, call_renamed}
 use Rattle.asic_view.specs.declared.object.ViewObject.{ViewObject}
 use Rattle.asic_view.specs.View.{IsLegalOn, IsLegalWith, IsNew, ViewObjects, after_create, rid_at, shown_by, untied, used_of, with_tie}
-use Rattle.syncd_core.specs.Synced.{CanCall, AnswerFollows, IsMade, SyncState, current, view_in}
+use Rattle.syncd_core.specs.Synced.{CanCall, AnswerFollows, IsMadeOnChip, SyncState, current, view_in}
 use Rattle.syncd_core.specs.Tied.{tie_of}
 use Rattle.tie_laws.specs.Following.{IsDone, LosesTie, TiesFollow}
 use Rattle.tie_laws.specs.Named.{InCall}
@@ -157,7 +157,7 @@ module _ (view view' : ViewObjects) (made : ℕ) (chip chip' : ChipState) (a : S
   good (call.Set e x) d _ h f = absurd f
   good (call.Remove e) d _ h f = absurd f
 
-  pub tied-made : (c : Call Vid) → AreTied view made chip.objects → IsWhole made chip.objects → IsMade view chip c a view' chip' → AreTied view' (made_after made (call_renamed (tie_of view) c)) chip'.objects
+  pub tied-made : (c : Call Vid) → AreTied view made chip.objects → IsWhole made chip.objects → IsMadeOnChip view chip c a view' chip' → AreTied view' (made_after made (call_renamed (tie_of view) c)) chip'.objects
   tied-made c tied whole is =
       let went_well = good c (call_renamed (tie_of view) c) is.answer is.answered.answer is.follows in
       subst (AreTied view' (made_after made (call_renamed (tie_of view) c))) (sym went_well.objects) (tied-after view made chip.objects tied whole chip.capacities c went_well.legal view' is.answer a is.follows went_well.done)

@@ -26,7 +26,7 @@ use Rattle.sai_types.proofs.Membership.{all-in, in-push}
 use Rattle.chip_layout.specs.Renamed.{body_renamed, entry_renamed}
 use Rattle.chip_layout.proofs.Distinct.{distinct-by}
 use Rattle.asic_view.specs.declared.object.ViewObject.{ViewObject}
-use Rattle.asic_view.specs.View.{IsNew, ViewObjects, changed_at, entry_at, rid_at, rid_in, shown_by, vid_cmp}
+use Rattle.asic_view.specs.View.{IsNew, ViewObjects, view_changed_at, entry_at, rid_at, rid_in, shown_by, vid_cmp}
 use Rattle.asic_view.proofs.Keeping.{in-all, in-key, pushed, vid-exact}
 use Rattle.asic_view.proofs.Naming.{vid_total}
 use Rattle.asic_view.proofs.Shown.{shown-made, shown_body, shown_entry}
@@ -45,7 +45,7 @@ below_apart v w less = by (is_at (vid_cmp v) w) refl
     by true at = let number : v.0 ≡ w.0 = ap (λ (u : Vid). u.0) (vid-exact v w at) in absurd (omega (arith, less, number))
 
 -- what was made last is changed where it stands
-pub changed-last : (os : ViewObjects) (v : Vid) (x : ViewObject) (g : ViewObject → ViewObject) → AllByRecursion (λ y. y.0.0 < v.0) os → changed_at (os ++ (v, x) ∷ []) v g ≡ os ++ (v, g x) ∷ []
+pub changed-last : (os : ViewObjects) (v : Vid) (x : ViewObject) (g : ViewObject → ViewObject) → AllByRecursion (λ y. y.0.0 < v.0) os → view_changed_at (os ++ (v, x) ∷ []) v g ≡ os ++ (v, g x) ∷ []
 changed-last [] v x g h = ap (λ c. cond c (v, g x) (v, x) ∷ []) ((eq_by_cmp_equiv vid_total).refl v)
 changed-last (y ∷ ys) v x g h = ap₂ (λ c l. cond c (y.0, g y.1) y ∷ l) (below_apart v y.0 h.0) (changed-last ys v x g h.1)
 

@@ -21,7 +21,7 @@ use Rattle.sai_types.specs.Alike.{IsIn}
 use Rattle.sai_types.specs.Made.{IsWhole, same_entry}
 use Rattle.sai_types.specs.Objects.{body_at, kind_of, used}
 use Rattle.sai_types.specs.References.{refers_well}
-use Rattle.sai_types.specs.Refusal.{capacity_of, clash, first_of, same_base, same_id, same_ip}
+use Rattle.sai_types.specs.Refusal.{capacity_of, clash, first_refusal, same_base, same_id, same_ip}
 use Rattle.sai_types.proofs.Exact.{entry-exact, id-exact}
 use Rattle.sai_types.proofs.Found.{same-refl}
 use Rattle.sai_types.proofs.Membership.{all-in, in-map, map-in}
@@ -74,7 +74,7 @@ module _ (f : Rid → Rid) (one : (i j : Rid) → f i ≡ f j → i ≡ j) where
   clash_same _ _ = refl
 
 -- a body that is not refused for its references refers well
-well_by : (w x y : Bool) (rest : Option ChipAnswer) → first_of (not w) BadReference rest ≡ first_of x Exists (first_of y Full None) → w ≡ true
+well_by : (w x y : Bool) (rest : Option ChipAnswer) → first_refusal (not w) BadReference rest ≡ first_refusal x Exists (first_refusal y Full None) → w ≡ true
 well_by true x y rest h = refl
 well_by false true y rest h = absurd cc
 well_by false false true rest h = absurd cc
@@ -217,7 +217,7 @@ module _ (view : ViewObjects) (made : ℕ) (tied : AreTied view made (shown_by (
       let chip_full = nat_le (capacity_of [] (kind_of b)) (used (shown_by t view) (kind_of b)) in
       let alike = refusal-renamed back (shown_by t view) (as_chip view) are_back (sorted-shown t view) (sorted-shown as_rid view) [] (call.Create b) in
       ap (refers_well (as_chip view)) (sym (shown_back x h).1)
-      ∙ well_by (refers_well (as_chip view) (body_renamed back b)) chip_clash chip_full _ (alike ∙ ap (λ w. first_of (not w) BadReference (first_of chip_clash Exists (first_of chip_full Full None))) well)
+      ∙ well_by (refers_well (as_chip view) (body_renamed back b)) chip_clash chip_full _ (alike ∙ ap (λ w. first_refusal (not w) BadReference (first_refusal chip_clash Exists (first_refusal chip_full Full None))) well)
 
   whole_number : IsWhole (top view) (as_chip view)
   whole_number = record {

@@ -27,7 +27,7 @@ ghost use Rattle.chip_layout.specs.Renamed.{call_renamed};
 ghost use Rattle.asic_view.specs.declared.object.ViewObject.{ViewObject};
 ghost use Rattle.asic_view.specs.Things.{StandFor, listed};
 ghost use Rattle.asic_view.specs.View.{IsLegalOn, IsLegalWith, ViewObjects, rid_at, used_of, vid_cmp};
-ghost use Rattle.syncd_core.specs.Synced.{CanCall, AnswerFollows, IsMade, SyncState, current};
+ghost use Rattle.syncd_core.specs.Synced.{CanCall, AnswerFollows, IsMadeOnChip, SyncState, current};
 ghost use Rattle.syncd_core.specs.Tied.{tie_of};
 ghost use Rattle.tie_laws.specs.Following.{IsDone, TiesFollow};
 ghost use Rattle.tie_laws.specs.Named.{InCall};
@@ -65,7 +65,7 @@ pub fn legal_calls_are_legal_on_views()
 /// After a legal call that was made on both, the view's objects are tied to the chip's again.
 pub fn ties_follow()
     ensures follows { (view view' : ViewObjects) (made : ℕ) (objects : Objects) (capacities : List ℕ) (c : Call Vid) (answer : ChipAnswer) (a : SyncAnswer) → AreTied view made objects → IsWhole made objects → IsLegal capacities objects (call_renamed (tie_of view) c) → IsDone made (call_renamed (tie_of view) c) answer → AnswerFollows view c answer a view' → AreTied view' (made_after made (call_renamed (tie_of view) c)) (after_call (made + 1) objects (call_renamed (tie_of view) c)) }
-    ensures made { (view view' : ViewObjects) (made : ℕ) (chip chip' : ChipState) (c : Call Vid) (a : SyncAnswer) → AreTied view made chip.objects → IsWhole made chip.objects → next_id chip.effects ≡ made + 1 → IsMade view chip c a view' chip' → (a ≡ sync.Failed → ⊥) → AreTied view' (made_after made (call_renamed (tie_of view) c)) chip'.objects }
+    ensures made { (view view' : ViewObjects) (made : ℕ) (chip chip' : ChipState) (c : Call Vid) (a : SyncAnswer) → AreTied view made chip.objects → IsWhole made chip.objects → next_id chip.effects ≡ made + 1 → IsMadeOnChip view chip c a view' chip' → (a ≡ sync.Failed → ⊥) → AreTied view' (made_after made (call_renamed (tie_of view) c)) chip'.objects }
 {}
 
 /// An identifier that is tied stays tied to the same object of the chip, until its object is removed; what is made is tied

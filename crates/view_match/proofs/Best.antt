@@ -14,11 +14,11 @@ use Rattle.sai_types.specs.Objects.{Objects}
 use Rattle.view_match.specs.declared.indexed.Partner.{Partner}
 use Rattle.view_match.specs.declared.key.NaturalKey.{NaturalKey}
 use Rattle.view_match.specs.contracts.key.NaturalKeyOrd.TheImpl.Laws as ordered_key
-use Rattle.view_match.specs.Keys.{key_cmp}
+use Rattle.view_match.specs.Keys.{natural_key_cmp}
 use Rattle.view_match.specs.Pairs.{best_from, group_number, group_of, replaces, with_object}
 use Rattle.view_match.proofs.Exact.{natural_key_exact}
 
-natural_key_self : (k : NaturalKey) → is_at (key_cmp k) k ≡ true
+natural_key_self : (k : NaturalKey) → is_at (natural_key_cmp k) k ≡ true
 natural_key_self k = (eq_by_cmp_equiv ordered_key.total-law).refl k
 
 module _ (k : NaturalKey) where
@@ -41,13 +41,13 @@ module _ (k : NaturalKey) where
   replaced (Some g) p true e = inl (refl, record { is = refl; lesser = λ f h. let same = same_Some g f h in let less : p.group < g.group = grind (arith, nat_tests) in subst (λ (x : Partner). p.group < x.group) same less })
   replaced (Some g) p false e = inr (refl, record { stays = λ is. let no_less : g.group ≤ p.group = grind (arith, nat_tests) in (g, refl, no_less) })
 
-  at_key : (found : Option Partner) (key : NaturalKey) (p : Partner) (b : Bool) → is_at (key_cmp key) k ≡ b → Steps found (Some key) p (cond b (cond (replaces found p) (Some p) found) found)
+  at_key : (found : Option Partner) (key : NaturalKey) (p : Partner) (b : Bool) → is_at (natural_key_cmp key) k ≡ b → Steps found (Some key) p (cond b (cond (replaces found p) (Some p) found) found)
   at_key found key p true e = subst (λ x. Steps found (Some x) p (cond (replaces found p) (Some p) found)) (sym (tells_apart natural_key_exact key k e)) (replaced found p (replaces found p) refl)
-  at_key found key p false e = inr (refl, record { stays = λ is. let same : key ≡ k = cc in absurd (false≢true (sym e ∙ ap (λ x. is_at (key_cmp x) k) same ∙ natural_key_self k)) })
+  at_key found key p false e = inr (refl, record { stays = λ is. let same : key ≡ k = cc in absurd (false≢true (sym e ∙ ap (λ x. is_at (natural_key_cmp x) k) same ∙ natural_key_self k)) })
 
   steps : (found : Option Partner) (key : Option NaturalKey) (p : Partner) → Steps found key p (with_object found key p k)
   steps found None p = inr (refl, record { stays = λ is. absurd cc })
-  steps found (Some key) p = at_key found key p (is_at (key_cmp key) k) refl
+  steps found (Some key) p = at_key found key p (is_at (natural_key_cmp key) k) refl
 
   -- ---- all objects
 

@@ -8,12 +8,12 @@ use Rattle.swss_types.proofs.Tied.{then_first, then_last}
 use Rattle.swss_types.proofs.AddressOrders.{ip_exact, prefix_exact}
 use Rattle.sai_types.proofs.Rising.{base-exact, hop_exact, hops_exact}
 use Rattle.view_match.specs.declared.key.NaturalKey.TheVariants as key
-use Rattle.view_match.specs.Keys.{key_cmp}
+use Rattle.view_match.specs.Keys.{natural_key_cmp}
 
 base_exact : CmpEqualImpliesEq base_ord.ghosts.cmp
 base_exact a b h = base-exact a b (ordered_base.matches_eq-law a b ∙ ap is_eq h)
 
-pub natural_key_exact : CmpEqualImpliesEq key_cmp
+pub natural_key_exact : CmpEqualImpliesEq natural_key_cmp
 natural_key_exact (key.Port m) (key.Port n) h = ap key.Port (exact_bytes m n h)
 natural_key_exact (key.Vlan m) (key.Vlan n) h = ap key.Vlan (exact_unsigned m n h)
 natural_key_exact (key.BridgePort m) (key.BridgePort n) h = ap key.BridgePort (exact_unsigned m n h)

@@ -6,12 +6,12 @@ use Rattle.swss_types.proofs.Proper.{mapped}
 use Rattle.sai_types.specs.Alike.{IsIn}
 use Rattle.sai_types.specs.Named.{those}
 use Rattle.sai_types.specs.Objects.{Objects}
-use Rattle.sai_types.specs.Pairing.{IsFree}
+use Rattle.sai_types.specs.Pairing.{IsFreePair}
 use Rattle.chip_layout.specs.Counted.{AreDistinct}
 use Rattle.view_match.specs.declared.indexed.Partner.{Partner}
 use Rattle.view_match.specs.declared.key.NaturalKey.{NaturalKey}
-use Rattle.view_match.specs.Keys.{key_cmp, keys_of_objects}
-use Rattle.view_match.specs.Pairs.{best_from, group_number, pairs_from, partner_of, replaces, with_object, with_pair}
+use Rattle.view_match.specs.Keys.{natural_key_cmp, keys_of_objects}
+use Rattle.view_match.specs.Pairs.{best_from, group_number, pairs_from, partner_of, replaces, with_object, with_pair_at}
 use Rattle.view_match.proofs.Exact.{natural_key_exact}
 
 -- ---- the partner of a key has that key
@@ -38,13 +38,13 @@ partner_chosen : (b : Bool) (found : Option Partner) (p q : Partner) → cond b 
 partner_chosen true found p q h = inr cc
 partner_chosen false found p q h = inl h
 
-matched : (b : Bool) (key k : NaturalKey) (found : Option Partner) (p q : Partner) → is_at (key_cmp key) k ≡ b → cond b (cond (replaces found p) (Some p) found) found ≡ Some q → (found ≡ Some q) ⊎ ((key ≡ k) × (p ≡ q))
+matched : (b : Bool) (key k : NaturalKey) (found : Option Partner) (p q : Partner) → is_at (natural_key_cmp key) k ≡ b → cond b (cond (replaces found p) (Some p) found) found ≡ Some q → (found ≡ Some q) ⊎ ((key ≡ k) × (p ≡ q))
 matched true key k found p q e h = elim (partner_chosen (replaces found p) found p q h) [ inl x ↦ inl x | inr y ↦ inr (tells_apart natural_key_exact key k e, y) ]
 matched false key k found p q e h = inl h
 
 put_or_found : (found : Option Partner) (key : Option NaturalKey) (p q : Partner) (k : NaturalKey) → with_object found key p k ≡ Some q → (found ≡ Some q) ⊎ ((key ≡ Some k) × (p ≡ q))
 put_or_found found None p q k h = inl h
-put_or_found found (Some key) p q k h = elim (matched (is_at (key_cmp key) k) key k found p q refl h) [ inl x ↦ inl x | inr y ↦ inr (ap Some y.0, y.1) ]
+put_or_found found (Some key) p q k h = elim (matched (is_at (natural_key_cmp key) k) key k found p q refl h) [ inl x ↦ inl x | inr y ↦ inr (ap Some y.0, y.1) ]
 
 best_at : (found : Option Partner) (keys : List (Option NaturalKey)) (os : Objects) (k : NaturalKey) (place : ℕ) (q : Partner) → best_from found keys os k place ≡ Some q → (found ≡ Some q) ⊎ IsAt keys place q.place k
 best_at found [] os k place q h = inl h
@@ -84,7 +84,7 @@ further : (objects : Objects) (key : Option NaturalKey) (keys : List (Option Nat
 further objects None keys place p h = let l = h.later in record { later = omega (arith, l); key = h.key; among = h.among; partner = h.partner }
 further objects (Some k) keys place p h = let l = h.later in record { later = omega (arith, l); key = h.key; among = inr h.among; partner = h.partner }
 
-pair_by : (objects : Objects) (key : Option NaturalKey) (keys : List (Option NaturalKey)) (place : ℕ) (o : Option ℕ) (p : ℕ × ℕ) → partner_of objects key ≡ o → (IsIn p (pairs_from objects keys (place + 1)) → IsPairOf objects keys (place + 1) p) → IsIn p (with_pair o place (pairs_from objects keys (place + 1))) → IsPairOf objects (key ∷ keys) place p
+pair_by : (objects : Objects) (key : Option NaturalKey) (keys : List (Option NaturalKey)) (place : ℕ) (o : Option ℕ) (p : ℕ × ℕ) → partner_of objects key ≡ o → (IsIn p (pairs_from objects keys (place + 1)) → IsPairOf objects keys (place + 1) p) → IsIn p (with_pair_at o place (pairs_from objects keys (place + 1))) → IsPairOf objects (key ∷ keys) place p
 pair_by objects key keys place None p e rest h = further objects key keys place p (rest h)
 pair_by objects key keys place (Some i) p e rest (inr h) = further objects key keys place p (rest h)
 pair_by objects None keys place (Some i) p e rest (inl h) = absurd cc
@@ -103,7 +103,7 @@ pub rest_distinct : (k : Option NaturalKey) (keys : List (Option NaturalKey)) �
 rest_distinct None keys h = h
 rest_distinct (Some k) keys h = h.1
 
-free_by : (objects : Objects) (key : Option NaturalKey) (keys : List (Option NaturalKey)) (place : ℕ) (o : Option ℕ) → partner_of objects key ≡ o → AreDistinct (those (key ∷ keys)) → AreFree (pairs_from objects keys (place + 1)) → AreFree (with_pair o place (pairs_from objects keys (place + 1)))
+free_by : (objects : Objects) (key : Option NaturalKey) (keys : List (Option NaturalKey)) (place : ℕ) (o : Option ℕ) → partner_of objects key ≡ o → AreDistinct (those (key ∷ keys)) → AreFree (pairs_from objects keys (place + 1)) → AreFree (with_pair_at o place (pairs_from objects keys (place + 1)))
 free_by objects key keys place None e apart rest = rest
 free_by objects None keys place (Some i) e apart rest = absurd cc
 free_by objects (Some k) keys place (Some i) e apart rest = (
@@ -119,7 +119,7 @@ pairs-free objects [] place apart = tt
 pairs-free objects (key ∷ keys) place apart = free_by objects key keys place (partner_of objects key) refl apart (pairs-free objects keys (place + 1) (rest_distinct key keys apart))
 
 -- so a pair has no place of those before it
-pub free-before : (front rest : List (ℕ × ℕ)) (p : ℕ × ℕ) → AreFree (front ++ p ∷ rest) → IsFree front p
+pub free-before : (front rest : List (ℕ × ℕ)) (p : ℕ × ℕ) → AreFree (front ++ p ∷ rest) → IsFreePair front p
 free-before [] rest p h = tt
 free-before (q ∷ front) rest p h = let apart = h.0 p (in_middle front rest p) in (apart.0, apart.1, free-before front rest p h.1)
   where
@@ -127,9 +127,9 @@ free-before (q ∷ front) rest p h = let apart = h.0 p (in_middle front rest p) 
     in_middle [] rest p = inl refl
     in_middle (q ∷ front) rest p = inr (in_middle front rest p)
 
-pub push-free : (objects : Objects) (keys : List (Option NaturalKey)) (n place i : ℕ) (key : Option NaturalKey) (front : List (ℕ × ℕ)) → n < length keys → key ≡ get_or keys n key → partner_of objects key ≡ Some i → AreDistinct (those keys) → front ++ pairs_from objects (drop n keys) place ≡ pairs_from objects keys 0 → IsFree front (i, place)
+pub push-free : (objects : Objects) (keys : List (Option NaturalKey)) (n place i : ℕ) (key : Option NaturalKey) (front : List (ℕ × ℕ)) → n < length keys → key ≡ get_or keys n key → partner_of objects key ≡ Some i → AreDistinct (those keys) → front ++ pairs_from objects (drop n keys) place ≡ pairs_from objects keys 0 → IsFreePair front (i, place)
 push-free objects keys n place i key front within is partner apart all =
     let split : drop n keys ≡ key ∷ drop (suc n) keys = drop-cons keys n key within ∙ ap (λ k. k ∷ drop (suc n) keys) (sym is) in
     let here : pairs_from objects (drop n keys) place ≡ (i, place) ∷ pairs_from objects (drop (suc n) keys) (place + 1) =
-    ap (λ ks. pairs_from objects ks place) split ∙ ap (λ o. with_pair o place (pairs_from objects (drop (suc n) keys) (place + 1))) partner in
+    ap (λ ks. pairs_from objects ks place) split ∙ ap (λ o. with_pair_at o place (pairs_from objects (drop (suc n) keys) (place + 1))) partner in
     free-before front (pairs_from objects (drop (suc n) keys) (place + 1)) (i, place) (subst AreFree (sym all ∙ ap (λ ps. front ++ ps) here) (pairs-free objects keys 0 apart))

@@ -6,9 +6,9 @@ use Rattle.sai_types.specs.declared.thing.Thing.{Thing}
 use Rattle.sai_types.specs.declared.thing.Thing.TheVariants as thing
 use Rattle.sai_types.specs.Order.{thing_order}
 use Rattle.sai_types.proofs.Orders.{bases-by_parts, hops-by_parts, lists-by_parts}
-use Rattle.view_match.specs.Keys.{key_cmp, key_of}
+use Rattle.view_match.specs.Keys.{natural_key_cmp, natural_key_of}
 
-pub keys-by_parts : (t u : Thing) → key_cmp (key_of t) (key_of u) ≡ thing_order t u
+pub keys-by_parts : (t u : Thing) → natural_key_cmp (natural_key_of t) (natural_key_of u) ≡ thing_order t u
 keys-by_parts (thing.Port p) (thing.Port q) = refl
 keys-by_parts (thing.Vlan v) (thing.Vlan w) = refl
 keys-by_parts (thing.BridgePort p) (thing.BridgePort q) = refl

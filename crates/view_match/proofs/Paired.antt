@@ -11,13 +11,13 @@ use Rattle.sai_types.specs.Objects.{Objects}
 use Rattle.sai_chip.specs.Naming.{entries_of}
 use Rattle.view_match.specs.declared.indexed.Partner.{Partner}
 use Rattle.view_match.specs.declared.key.NaturalKey.{NaturalKey}
-use Rattle.view_match.specs.Keys.{key_of, keys_of_objects}
+use Rattle.view_match.specs.Keys.{natural_key_of, keys_of_objects}
 use Rattle.view_match.specs.Listed.{objects_as}
 use Rattle.view_match.specs.Paired.{ArePaired, ComesFirst, HasKey}
-use Rattle.view_match.specs.Pairs.{best_from, group_of, pairs_from, pairs_of, partner_of, with_pair}
+use Rattle.view_match.specs.Pairs.{best_from, group_of, pairs_from, pairs_of, partner_of, with_pair_at}
 use Rattle.view_match.proofs.Best.{best, found-none}
 
-pub length_keys : (objects os : Objects) → length (map (option_map key_of) (things_among objects os)) ≡ length os
+pub length_keys : (objects os : Objects) → length (map (option_map natural_key_of) (things_among objects os)) ≡ length os
 length_keys objects [] = refl
 length_keys objects (o ∷ os) = ap suc (length_keys objects os)
 
@@ -85,7 +85,7 @@ module _ (objects : Objects) where
   further : (key : Option NaturalKey) (keys : List (Option NaturalKey)) (place : ℕ) (p : ℕ × ℕ) → IsAmong keys (place + 1) p → IsAmong (key ∷ keys) place p
   further key keys place p x = let at = x.at in record { far = suc x.far; key = x.key; at = omega (arith, at); has = x.has; partner = x.partner }
 
-  in_by : (key : Option NaturalKey) (keys : List (Option NaturalKey)) (place : ℕ) (o : Option ℕ) (p : ℕ × ℕ) → partner_of objects key ≡ o → (IsIn p (pairs_from objects keys (place + 1)) → IsAmong keys (place + 1) p) → IsIn p (with_pair o place (pairs_from objects keys (place + 1))) → IsAmong (key ∷ keys) place p
+  in_by : (key : Option NaturalKey) (keys : List (Option NaturalKey)) (place : ℕ) (o : Option ℕ) (p : ℕ × ℕ) → partner_of objects key ≡ o → (IsIn p (pairs_from objects keys (place + 1)) → IsAmong keys (place + 1) p) → IsIn p (with_pair_at o place (pairs_from objects keys (place + 1))) → IsAmong (key ∷ keys) place p
   in_by key keys place None p e rest h = further key keys place p (rest h)
   in_by key keys place (Some i) p e rest (inr h) = further key keys place p (rest h)
   in_by None keys place (Some i) p e rest (inl h) = absurd cc
@@ -97,7 +97,7 @@ module _ (objects : Objects) where
   in_pairs [] place p h = absurd h
   in_pairs (key ∷ keys) place p h = in_by key keys place (partner_of objects key) p refl (in_pairs keys (place + 1) p) h
 
-  behind : (o : Option ℕ) (place : ℕ) (ps : List (ℕ × ℕ)) (p : ℕ × ℕ) → IsIn p ps → IsIn p (with_pair o place ps)
+  behind : (o : Option ℕ) (place : ℕ) (ps : List (ℕ × ℕ)) (p : ℕ × ℕ) → IsIn p ps → IsIn p (with_pair_at o place ps)
   behind None place ps p h = h
   behind (Some i) place ps p h = inr h
 
@@ -107,7 +107,7 @@ module _ (objects : Objects) where
       let is : key ≡ Some k = cc in
       let here : partner_of objects key ≡ Some i = ap (partner_of objects) is ∙ e in
       let at : place + 0 ≡ place = omega arith in
-      subst (λ o. IsIn (i, place + 0) (with_pair o place (pairs_from objects keys (place + 1)))) (sym here) (inl (ap (λ n. (i, n)) at))
+      subst (λ o. IsIn (i, place + 0) (with_pair_at o place (pairs_from objects keys (place + 1)))) (sym here) (inl (ap (λ n. (i, n)) at))
   pairs_in (key ∷ keys) place (suc n) k i h e =
       let at : place + 1 + n ≡ place + suc n = omega arith in
       behind (partner_of objects key) place (pairs_from objects keys (place + 1)) (i, place + suc n) (subst (λ m. IsIn (i, m) (pairs_from objects keys (place + 1))) at (pairs_in keys (place + 1) n k i h e))

@@ -10,22 +10,22 @@ use Rattle.view_match.specs.declared.key.NaturalKey.TheVariants as key
 use Rattle.view_match.specs.contracts.key.NaturalKeyOrd.TheImpl as key_ord
 
 -- the order of natural keys: by kind, lowest first, and then part by part
-abbrev pub key_cmp : NaturalKey → NaturalKey → Ordering
-key_cmp = key_ord.ghosts.cmp
+abbrev pub natural_key_cmp : NaturalKey → NaturalKey → Ordering
+natural_key_cmp = key_ord.ghosts.cmp
 
-abbrev pub key_of : Thing → NaturalKey
-key_of (thing.Port p) = key.Port p.lanes
-key_of (thing.Vlan vlan) = key.Vlan vlan
-key_of (thing.BridgePort lane) = key.BridgePort lane
-key_of (thing.VlanMember vlan lane tagging) = key.VlanMember vlan lane
-key_of (thing.Rif on) = key.Rif on
-key_of (thing.Own ip) = key.Own ip
-key_of (thing.Neighbor hop mac) = key.Neighbor hop
-key_of (thing.NextHop hop) = key.NextHop hop
-key_of (thing.Group hops) = key.Group hops
-key_of (thing.GroupMember hops hop) = key.GroupMember hops hop
-key_of (thing.Route prefix goal) = key.Route prefix
+abbrev pub natural_key_of : Thing → NaturalKey
+natural_key_of (thing.Port p) = key.Port p.lanes
+natural_key_of (thing.Vlan vlan) = key.Vlan vlan
+natural_key_of (thing.BridgePort lane) = key.BridgePort lane
+natural_key_of (thing.VlanMember vlan lane tagging) = key.VlanMember vlan lane
+natural_key_of (thing.Rif on) = key.Rif on
+natural_key_of (thing.Own ip) = key.Own ip
+natural_key_of (thing.Neighbor hop mac) = key.Neighbor hop
+natural_key_of (thing.NextHop hop) = key.NextHop hop
+natural_key_of (thing.Group hops) = key.Group hops
+natural_key_of (thing.GroupMember hops hop) = key.GroupMember hops hop
+natural_key_of (thing.Route prefix goal) = key.Route prefix
 
 -- the natural key of each object, in their order, and none for an object with an absent reference
 abbrev pub keys_of_objects : Objects → List (Option NaturalKey)
-keys_of_objects objects = map (option_map key_of) (named objects)
+keys_of_objects objects = map (option_map natural_key_of) (named objects)

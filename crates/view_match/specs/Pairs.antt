@@ -13,7 +13,7 @@ use Rattle.sai_types.specs.Objects.{Objects}
 use Rattle.sai_chip.specs.Naming.{entries_of}
 use Rattle.view_match.specs.declared.indexed.Partner.{Partner}
 use Rattle.view_match.specs.declared.key.NaturalKey.{NaturalKey}
-use Rattle.view_match.specs.Keys.{key_cmp, keys_of_objects}
+use Rattle.view_match.specs.Keys.{natural_key_cmp, keys_of_objects}
 use Rattle.view_match.specs.Listed.{objects_as}
 
 -- the number of the group that an object is or is a member of: where several groups have the same hops, it tells which of them stays
@@ -35,7 +35,7 @@ replaces (Some q) p = nat_lt p.group q.group
 -- the partner of a key so far, and one object more
 abbrev pub with_object : Option Partner → Option NaturalKey → Partner → NaturalKey → Option Partner
 with_object found None p k = found
-with_object found (Some key) p k = if is_at (key_cmp key) k then (if replaces found p then Some p else found) else found
+with_object found (Some key) p k = if is_at (natural_key_cmp key) k then (if replaces found p then Some p else found) else found
 
 -- the partner of a key so far, and the objects from this place on, with their keys
 abbrev pub best_from : Option Partner → List (Option NaturalKey) → Objects → NaturalKey → ℕ → Option Partner
@@ -49,16 +49,16 @@ partner_of objects (Some k) = option_map (λ p. p.place) (best_from None (keys_o
 
 -- a map from natural keys to the objects of them
 pub record IsIndex (objects : Objects) (index : List (NaturalKey × Partner)) : Type 0 where
-  pub each : (k : NaturalKey) → lookup (is_at (key_cmp k)) index ≡ best_from None (keys_of_objects objects) objects k 0
+  pub each : (k : NaturalKey) → lookup (is_at (natural_key_cmp k)) index ≡ best_from None (keys_of_objects objects) objects k 0
 
-abbrev pub with_pair : Option ℕ → ℕ → List (ℕ × ℕ) → List (ℕ × ℕ)
-with_pair None place pairs = pairs
-with_pair (Some i) place pairs = (i, place) ∷ pairs
+abbrev pub with_pair_at : Option ℕ → ℕ → List (ℕ × ℕ) → List (ℕ × ℕ)
+with_pair_at None place pairs = pairs
+with_pair_at (Some i) place pairs = (i, place) ∷ pairs
 
 -- the pairs of the new objects from this place on, with their keys
 abbrev pub pairs_from : Objects → List (Option NaturalKey) → ℕ → List (ℕ × ℕ)
 pairs_from objects [] place = []
-pairs_from objects (key ∷ keys) place = with_pair (partner_of objects key) place (pairs_from objects keys (place + 1))
+pairs_from objects (key ∷ keys) place = with_pair_at (partner_of objects key) place (pairs_from objects keys (place + 1))
 
 abbrev pub new_keys : List (Object Vid) → List (Option NaturalKey)
 new_keys new = keys_of_objects (entries_of (objects_as new))

@@ -3,7 +3,7 @@ ghost use Rattle.std.specs.Prelude.{◌≡◌, Some, IfOk, OnOk, option_copied};
 ghost use Rattle.std.specs.BTreeMap.{is_at};
 ghost use Rattle.std.specs.Map.{lookup};
 ghost use Rattle.sai_chip.specs.Naming.{entries_of};
-ghost use Rattle.view_match.specs.Keys.{key_cmp};
+ghost use Rattle.view_match.specs.Keys.{natural_key_cmp};
 ghost use Rattle.view_match.specs.Pairs.{IsIndex, group_number, replaces, with_object};
 ghost use Rattle.view_match.specs.declared.key.NaturalKey.{NaturalKey};
 
@@ -56,7 +56,7 @@ fn group_number(object: &Object<Rid>) -> u64
 
 /// Puts an object under its key, where it has one.
 fn put_if(index: &mut Index, key: Option<NaturalKey>, partner: Partner) -> Result<(), OutOfMemory>
-    ensures { OnOk result ((k : NaturalKey) → lookup (is_at (key_cmp k)) index.new.entries ≡ with_object (lookup (is_at (key_cmp k)) index.old.entries) key partner k) }
+    ensures { OnOk result ((k : NaturalKey) → lookup (is_at (natural_key_cmp k)) index.new.entries ≡ with_object (lookup (is_at (natural_key_cmp k)) index.old.entries) key partner k) }
 {
     match key {
         Some(key) => put(index, key, partner),
@@ -66,7 +66,7 @@ fn put_if(index: &mut Index, key: Option<NaturalKey>, partner: Partner) -> Resul
 
 /// Puts an object under its key, unless one of a group that is no greater stands there.
 fn put(index: &mut Index, key: NaturalKey, partner: Partner) -> Result<(), OutOfMemory>
-    ensures { OnOk result ((k : NaturalKey) → lookup (is_at (key_cmp k)) index.new.entries ≡ with_object (lookup (is_at (key_cmp k)) index.old.entries) (Some key) partner k) }
+    ensures { OnOk result ((k : NaturalKey) → lookup (is_at (natural_key_cmp k)) index.new.entries ≡ with_object (lookup (is_at (natural_key_cmp k)) index.old.entries) (Some key) partner k) }
 {
     if is_lesser(index.get(&key), partner) {
         index.insert(key, partner)?;

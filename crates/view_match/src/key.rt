@@ -2,7 +2,7 @@
 ghost use Rattle.std.specs.Prelude.{◌≡◌, IfOk, map, option_map};
 ghost use Rattle.sai_types.specs.Named.{named};
 ghost use Rattle.sai_chip.specs.Naming.{entries_of};
-ghost use Rattle.view_match.specs.Keys.{key_of, keys_of_objects};
+ghost use Rattle.view_match.specs.Keys.{natural_key_of, keys_of_objects};
 
 use sai_chip::each_thing;
 use sai_types::{Base, Hop, Hops, Object, Rid, Thing};
@@ -40,7 +40,7 @@ pub enum NaturalKey {
 impl NaturalKey {
     /// The natural key of a thing.
     fn of(thing: Thing) -> NaturalKey
-        ensures { result ≡ key_of thing }
+        ensures { result ≡ natural_key_of thing }
     {
         match thing {
             Thing::Port(port) => NaturalKey::Port(port.lanes),
@@ -75,7 +75,7 @@ pub fn natural_keys(
 
 /// The natural key of a thing, where there is one.
 fn key_if(thing: Option<Thing>) -> Option<NaturalKey>
-    ensures { result ≡ option_map key_of thing }
+    ensures { result ≡ option_map natural_key_of thing }
 {
     match thing {
         Some(thing) => Some(NaturalKey::of(thing)),

@@ -8,7 +8,7 @@ ghost use Rattle.sai_types.specs.declared.thing.Thing.{Thing};
 ghost use Rattle.sai_types.specs.Alike.{IsIn};
 ghost use Rattle.sai_types.specs.Order.{thing_order};
 ghost use Rattle.sai_chip.specs.Naming.{entries_of};
-ghost use Rattle.view_match.specs.Keys.{key_cmp, key_of};
+ghost use Rattle.view_match.specs.Keys.{natural_key_cmp, natural_key_of};
 ghost use Rattle.view_match.specs.Listed.{objects_as};
 ghost use Rattle.view_match.specs.Paired.{ArePaired};
 ghost use Rattle.view_match.specs.Pairs.{pairs_of};
@@ -17,8 +17,8 @@ ghost use Rattle.view_match.specs.declared.key.NaturalKey.{NaturalKey};
 /// Natural keys are ordered as things are: by their kinds, as the chip's table has them, and then part by part. Keys that
 /// compare equal are equal.
 pub fn natural_keys_are_ordered()
-    ensures order { (t u : Thing) → key_cmp (key_of t) (key_of u) ≡ thing_order t u }
-    ensures exact { (k l : NaturalKey) → key_cmp k l ≡ Equal → k ≡ l }
+    ensures order { (t u : Thing) → natural_key_cmp (natural_key_of t) (natural_key_of u) ≡ thing_order t u }
+    ensures exact { (k l : NaturalKey) → natural_key_cmp k l ≡ Equal → k ≡ l }
 {}
 
 /// An old object and a new one are paired exactly where their natural keys are equal and, of several old objects with

@@ -25,7 +25,7 @@ use Rattle.orch_flight.specs.Needing.{absent_or, first_absent, name_for, to_buil
 use Rattle.orch_flight.specs.Operation.{Operation}
 use Rattle.orch_flight.specs.Starting.{begun_names, built_here, first_left, started_by, started_operation}
 use Rattle.orch_flight.proofs.Begins.{started-plain}
-use Rattle.vlan_orch.specs.Vlans.{IsFirst, IsFirstMember, IsMemberRow, first_vlan, member_operation, operation_of, vlan_operation}
+use Rattle.vlan_orch.specs.Vlans.{IsVlanStart, IsFirstMember, IsMemberRow, first_vlan, member_operation, subject_operation, vlan_operation}
 use Rattle.vlan_orch.specs.declared.steps.Membership.{Membership}
 use Rattle.vlan_orch.specs.declared.steps.MemberStep.{MemberStep}
 use Rattle.vlan_orch.specs.declared.steps.MemberStep.TheVariants as member
@@ -149,13 +149,13 @@ module _ (plan : Ports) (names : Names) (worker : ℕ) where
   operation-vlan v (Some r) new some fits_old fits_new = elim (fits_old r refl) [ ]
 
   -- what starts is the operation from one row to the other
-  pub first-operation : (k : Key) (old new : Option Row) (builds : Bool) (s : VlanSubject) → (old ≡ None → new ≡ None → ⊥) → FitsAll plan k old → FitsAll plan k new → builds ≡ is_some (to_build plan names k new) → AreLive plan names k old → IsFirst plan k old new builds s
-      → operation_of worker s ≡ started_operation plan names worker k old new
-  first-operation (key.Vlan v) old new builds s some fits_old fits_new is live h = ap (operation_of worker) h ∙ operation-vlan v old new some fits_old fits_new
+  pub first-operation : (k : Key) (old new : Option Row) (builds : Bool) (s : VlanSubject) → (old ≡ None → new ≡ None → ⊥) → FitsAll plan k old → FitsAll plan k new → builds ≡ is_some (to_build plan names k new) → AreLive plan names k old → IsVlanStart plan k old new builds s
+      → subject_operation worker s ≡ started_operation plan names worker k old new
+  first-operation (key.Vlan v) old new builds s some fits_old fits_new is live h = ap (subject_operation worker) h ∙ operation-vlan v old new some fits_old fits_new
   first-operation (key.Member v p) old new builds s some fits_old fits_new is live (lane, a, b, step, lane_is, old_is, new_is, first, subject_is) =
       let at : Membership = record { vlan = v; port = p; lane = lane } in
       let k = key.Member v p in
-      subst (λ o. AreLive plan names k o → operation_of worker s ≡ started_operation plan names worker k o new) old_is
-      (subst (λ n. builds ≡ is_some (to_build plan names k n) → AreLive plan names k (option_map row.Member a) → operation_of worker s ≡ started_operation plan names worker k (option_map row.Member a) n) new_is
-      (λ is live. ap (operation_of worker) subject_is ∙ operation-member at lane_is a b builds step is live first) is) live
+      subst (λ o. AreLive plan names k o → subject_operation worker s ≡ started_operation plan names worker k o new) old_is
+      (subst (λ n. builds ≡ is_some (to_build plan names k n) → AreLive plan names k (option_map row.Member a) → subject_operation worker s ≡ started_operation plan names worker k (option_map row.Member a) n) new_is
+      (λ is live. ap (subject_operation worker) subject_is ∙ operation-member at lane_is a b builds step is live first) is) live
   first-operation k old new builds s some fits_old fits_new is live h = elim h [ ]

@@ -20,7 +20,7 @@ use Rattle.ref_counts.specs.declared.name.Name.{Name}
 use Rattle.ref_counts.specs.declared.name.Name.TheVariants as name
 use Rattle.ref_counts.specs.declared.name.NameState.TheVariants as state
 use Rattle.ref_counts.specs.Registered as registered
-use Rattle.ref_counts.specs.Registry.{Names, changed, refusal_at, state_of}
+use Rattle.ref_counts.specs.Registry.{Names, changed, retire_refusal_at, state_of}
 use Rattle.ref_counts.specs.Room.{Reserves, RoomState}
 use Rattle.orch_flight.specs.Needing.{absent_or, first_absent, first_unapplied, places_for, row_reason, to_build, wait_of}
 use Rattle.orch_flight.specs.Sharing.{MayStart, begun_by, lacks_shared, owners_of}
@@ -28,7 +28,7 @@ use Rattle.orch_flight.specs.Starting.{IsBegunBy, IsStartedBy, first_due, first_
 use Rattle.orch_flight.specs.Taking.{to_list}
 use Rattle.orch_flight.proofs.Begins.{begun-removal, names-plain, no_places, none-missing, places-set, places-taken}
 use Rattle.orch_flight.proofs.Rows.{built_of, row-begins, row-builds}
-use Rattle.vlan_orch.specs.Vlans.{IsFirst, IsOfVlan, IsVlanKey, operation_of, places_of_member, places_of_vlan}
+use Rattle.vlan_orch.specs.Vlans.{IsVlanStart, IsOfVlan, IsVlanKey, subject_operation, places_of_member, places_of_vlan}
 use Rattle.vlan_orch.proofs.Operations.{AreLive, FitsAll, bridge-live, bridges, first-operation, keeps-bridge, members}
 use Rattle.vlan_orch.specs.declared.steps.VlanSubject.{VlanSubject}
 
@@ -141,19 +141,19 @@ module _ (plan : Ports) (names : Names) (room : RoomState) (used : List ℕ) (wo
 
   -- ---- a row that is to go
 
-  removed-names : (k : Key) (a : Row) → IsVlanKey k → Fits plan k a → started_names plan names worker k (Some a) None ≡ changed names (name.Row k) (registered.going worker)
-  removed-names (key.Vlan v) a is fits = names-plain (changed names (name.Row (key.Vlan v)) (registered.going worker)) worker (key.Vlan v) (first_due plan names (key.Vlan v) (Some a) None)
+  removed-names : (k : Key) (a : Row) → IsVlanKey k → Fits plan k a → started_names plan names worker k (Some a) None ≡ changed names (name.Row k) (registered.begun_to_go worker)
+  removed-names (key.Vlan v) a is fits = names-plain (changed names (name.Row (key.Vlan v)) (registered.begun_to_go worker)) worker (key.Vlan v) (first_due plan names (key.Vlan v) (Some a) None)
   removed-names (key.Member v p) (row.Member a) is fits =
-      let later = changed names (name.Row (key.Member v p)) (registered.going worker) in
+      let later = changed names (name.Row (key.Member v p)) (registered.begun_to_go worker) in
       subst (λ o. started_names_by later worker (key.Member v p) (take_all (members v a o) []) (first_left [] (bridges o)) ≡ later) (sym fits.1) refl
   removed-names (key.Member v p) _ is fits = elim fits [ ]
   removed-names _ a is fits = elim is [ ]
 
   pub removal-start : (k : Key) (old new : Option Row) (names' : Names) (room' : RoomState) (res : Result (Result (Unit {0}) Wait) OutOfMemory)
       → new ≡ None → IsVlanKey k → (old ≡ None → new ≡ None → ⊥) → FitsAll plan k old
-      → IfOk res (λ a. OnOk a (refusal_at names worker (name.Row k) ≡ None))
-      → IfOk res (λ a. OnOk a (names' ≡ changed names (name.Row k) (registered.going worker)))
-      → IfOk res (λ a. IfErr a (λ w. refusal_at names worker (name.Row k) ≡ Some w))
+      → IfOk res (λ a. OnOk a (retire_refusal_at names worker (name.Row k) ≡ None))
+      → IfOk res (λ a. OnOk a (names' ≡ changed names (name.Row k) (registered.begun_to_go worker)))
+      → IfOk res (λ a. IfErr a (λ w. retire_refusal_at names worker (name.Row k) ≡ Some w))
       → IfOk res (λ a. OnErr a (names' ≡ names))
       → IfOk res (λ a. IsBegunBy plan names room used worker k old new a names' room)
   removal-start k None new names' room' res none is some fits free begun waits same = absurd (some refl none)
@@ -164,8 +164,8 @@ module _ (plan : Ports) (names : Names) (room : RoomState) (used : List ℕ) (wo
   -- ---- the operation
 
   -- what began, with the operation
-  pub started-as : (k : Key) (old new : Option Row) (builds : Bool) (s : VlanSubject) (names' : Names) (room' : RoomState) (begun : Result (Unit {0}) Wait) (x : Unit {0}) → begun ≡ Ok x → MayStart plan names worker k old new → builds ≡ is_some (to_build plan names k new) → IsFirst plan k old new builds s
-      → IsBegunBy plan names room used worker k old new begun names' room' → IsStartedBy plan names room used worker k old new (Ok (operation_of worker s)) names' room'
+  pub started-as : (k : Key) (old new : Option Row) (builds : Bool) (s : VlanSubject) (names' : Names) (room' : RoomState) (begun : Result (Unit {0}) Wait) (x : Unit {0}) → begun ≡ Ok x → MayStart plan names worker k old new → builds ≡ is_some (to_build plan names k new) → IsVlanStart plan k old new builds s
+      → IsBegunBy plan names room used worker k old new begun names' room' → IsStartedBy plan names room used worker k old new (Ok (subject_operation worker s)) names' room'
   started-as k old new builds s names' room' begun x is may lacks first told =
       let (none, names_are, places) = subst (λ a. IsBegunBy plan names room used worker k old new a names' room') is told in
       let fits : FitsAll plan k new = λ r same. may.new_fits r same (none-missing (first_unapplied names (names_of k r)) _ (subst (λ n. wait_of plan names room used worker k old n ≡ None) same none)) in

@@ -95,15 +95,15 @@ abbrev pub member_operation : ℕ → Membership → MemberStep → Operation
 member_operation worker at step = record { worker = worker; key = key.Member at.vlan at.port; now = member_now step; new = member_new step; due = member_due at step; leaves = member_leaves at step; retires = member_retires at step }
 
 -- it removes the bridge port where it was the last to use it
-abbrev pub left_by : Tagging → Bool → MemberStep
-left_by tagging true = member.RemoveBridge tagging
-left_by tagging false = member.Removed tagging
+abbrev pub member_left_by : Tagging → Bool → MemberStep
+member_left_by tagging true = member.RemoveBridge tagging
+member_left_by tagging false = member.Removed tagging
 
 -- ---- either
 
-abbrev pub operation_of : ℕ → VlanSubject → Operation
-operation_of worker (subject.Vlan vlan step) = vlan_operation worker vlan step
-operation_of worker (subject.Member at step) = member_operation worker at step
+abbrev pub subject_operation : ℕ → VlanSubject → Operation
+subject_operation worker (subject.Vlan vlan step) = vlan_operation worker vlan step
+subject_operation worker (subject.Member at step) = member_operation worker at step
 
 -- ---- the start
 
@@ -138,9 +138,9 @@ IsFirstMember (Some old) (Some new) builds step = step ≡ (if tagging_eq.ghosts
 IsFirstMember (Some old) None builds step = step ≡ member.Remove old
 
 -- what starts as the operation from one row to another: it builds the bridge port or finds it
-abbrev pub IsFirst : Ports → Key → Option Row → Option Row → Bool → VlanSubject → Type 0
-IsFirst plan (key.Vlan vlan) old new builds s = s ≡ subject.Vlan vlan (first_vlan old new)
-IsFirst plan (key.Member vlan port) old new builds s =
+abbrev pub IsVlanStart : Ports → Key → Option Row → Option Row → Bool → VlanSubject → Type 0
+IsVlanStart plan (key.Vlan vlan) old new builds s = s ≡ subject.Vlan vlan (first_vlan old new)
+IsVlanStart plan (key.Member vlan port) old new builds s =
     (lane : ℕ) × (a : Option Tagging) × (b : Option Tagging) × (step : MemberStep) × (lane_of plan port ≡ Some lane) × (option_map row.Member a ≡ old) × (option_map row.Member b ≡ new) × IsFirstMember a b builds step
     × (s ≡ subject.Member (record { vlan = vlan; port = port; lane = lane }) step)
-IsFirst plan k old new builds s = ⊥
+IsVlanStart plan k old new builds s = ⊥

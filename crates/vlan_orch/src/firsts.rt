@@ -3,7 +3,7 @@ ghost use Rattle.std.specs.Prelude.{◌≡◌, None, Some, IsSome, option_map};
 ghost use Rattle.switch_machine.specs.Flights.{Fits};
 ghost use Rattle.switch_model.specs.Things.{lane_of};
 ghost use Rattle.table_schema.specs.declared.row.Row.{Row};
-ghost use Rattle.vlan_orch.specs.Vlans.{IsFirst, IsFirstMember, IsMemberRow, IsVlanKey, first_vlan};
+ghost use Rattle.vlan_orch.specs.Vlans.{IsVlanStart, IsFirstMember, IsMemberRow, IsVlanKey, first_vlan};
 
 use crate::steps::{MemberStep, Membership, VlanStep, VlanSubject};
 use orch_flight::lane_of;
@@ -22,7 +22,7 @@ pub fn first(
     requires some { option_map (λ r. r.now) old ≡ None → option_map (λ r. r.now) new ≡ None → ⊥ }
     requires old { (r : Row) → option_map (λ r. r.now) old ≡ Some r → Fits plan.now key.now r }
     requires new { (r : Row) → option_map (λ r. r.now) new ≡ Some r → Fits plan.now key.now r }
-    ensures { IsFirst plan.now key.now (option_map (λ r. r.now) old.entry) (option_map (λ r. r.now) new.entry) builds result }
+    ensures { IsVlanStart plan.now key.now (option_map (λ r. r.now) old.entry) (option_map (λ r. r.now) new.entry) builds result }
 {
     match key {
         Key::Vlan(vlan) => VlanSubject::Vlan(*vlan, first_vlan(old, new)),

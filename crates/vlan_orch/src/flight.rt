@@ -29,11 +29,11 @@ pub struct VlanFlight {
 
 impl Model for VlanFlight {
     ghost use Rattle.orch_flight.specs.Operation.{Operation};
-    ghost use Rattle.vlan_orch.specs.Vlans.{operation_of};
+    ghost use Rattle.vlan_orch.specs.Vlans.{subject_operation};
 
     ghost Value = { Operation };
 
-    ghost view = { λ f. operation_of f.worker f.subject };
+    ghost view = { λ f. subject_operation f.worker f.subject };
 }
 
 impl VlanFlight {

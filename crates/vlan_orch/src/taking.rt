@@ -5,7 +5,7 @@ ghost use Rattle.orch_flight.specs.Taking.{IsTook, MayTake, to_list};
 ghost use Rattle.ref_counts.specs.Registered.{made_live};
 ghost use Rattle.ref_counts.specs.Registry.{changed, places_of, state_of};
 ghost use Rattle.row_layout.specs.Rows.{Bridge};
-ghost use Rattle.vlan_orch.specs.Vlans.{left_by, member_operation, operation_of, vlan_operation};
+ghost use Rattle.vlan_orch.specs.Vlans.{member_left_by, member_operation, subject_operation, vlan_operation};
 
 use crate::steps::{MemberStep, Membership, VlanStep, VlanSubject};
 use orch_flight::leave;
@@ -16,8 +16,8 @@ use table_schema::Key;
 
 /// The call that was due has taken effect.
 pub fn took(worker: u32, subject: VlanSubject, made: Option<Vid>, reg: &mut Registry) -> VlanSubject
-    requires { MayTake (operation_of worker subject) made reg.old }
-    ensures { IsTook (operation_of worker subject) made reg.old (operation_of worker result) reg.new }
+    requires { MayTake (subject_operation worker subject) made reg.old }
+    ensures { IsTook (subject_operation worker subject) made reg.old (subject_operation worker result) reg.new }
 {
     match subject {
         VlanSubject::Vlan(vlan, step) => VlanSubject::Vlan(
@@ -99,7 +99,7 @@ fn leave_bridge(worker: u32, at: Membership, reg: &mut Registry) -> bool
 
 /// How far the operation of a removed member is: its bridge port is to be removed where it was the last to use it.
 fn left_by(tagging: Tagging, last: bool) -> MemberStep
-    ensures { result ≡ left_by tagging last }
+    ensures { result ≡ member_left_by tagging last }
 {
     if last {
         MemberStep::RemoveBridge(tagging)

@@ -1,5 +1,5 @@
 use Rattle.std.proofs.Common.{◌≡◌, true, false, None, Some, rules, sym, subst, subst₂, ◌∙◌}
-use Rattle.retry_list.specs.Index.{IsFiledAs, IsFiledUnless, IsIndexed}
+use Rattle.retry_list.specs.Index.{IsFiledAs, IsFiledUnless, AreReasonsFiled}
 use Rattle.retry_list.specs.Reasons.{event_of, reason_at}
 use Rattle.retry_list.proofs.Indexed.{IsIndexed-moved, IsIndexed-new, IsIndexed-restored}
 use Rattle.retry_list.proofs.retry.put.Goals as goal
@@ -13,7 +13,7 @@ returns-in-Ok-None-clause-indexed c =
     let key : c.in_ok-copy-3.field-0 ≡ c.args.key = search rules in
     let filed = subst₂ (λ e k. IsFiledAs true old new e k) event key c.in_ok-file.ensures.ok in
     let none : reason_at reasons c.args.key ≡ None = search rules in
-    subst (λ r. IsIndexed r new) (sym c.in-Ok-None.ensures.entries) (IsIndexed-new reasons old new c.args.key c.args.wait c.requires.indexed filed none)
+    subst (λ r. AreReasonsFiled r new) (sym c.in-Ok-None.ensures.entries) (IsIndexed-new reasons old new c.args.key c.args.wait c.requires.indexed filed none)
 
 pub returns-in-Ok-Some-clause-indexed : goal.returns-in-Ok-Some-clause-indexed
 returns-in-Ok-Some-clause-indexed c =
@@ -28,7 +28,7 @@ returns-in-Ok-Some-clause-indexed c =
     let name : c.in_ok-name.name ≡ c.args.key = search rules in
     let unfiled = subst₂ (λ f k. IsFiledUnless mid new (event_of c.in-Ok-Some.old) f k) to name (subst (λ e. IsFiledUnless mid new e c.of-event.result c.in_ok-name.name) c.of.ensures c.unfile_unless.ensures) in
     let there : reason_at reasons c.args.key ≡ Some c.in-Ok-Some.old = search rules in
-    subst (λ r. IsIndexed r new) (sym c.in-Ok-Some.ensures.entries) (IsIndexed-moved reasons old mid new c.args.key c.args.wait c.in-Ok-Some.old c.requires.indexed filed unfiled there)
+    subst (λ r. AreReasonsFiled r new) (sym c.in-Ok-Some.ensures.entries) (IsIndexed-moved reasons old mid new c.args.key c.args.wait c.in-Ok-Some.old c.requires.indexed filed unfiled there)
 
 pub returns-clause-indexed : goal.returns-clause-indexed
 returns-clause-indexed c =

@@ -1,14 +1,14 @@
 use Rattle.std.proofs.Common.{◌∙◌, ap, sym}
 use Rattle.std.specs.List.{list_any}
 use Rattle.sai_chip.specs.declared.mark.TakenMark.TheVariants as mark
-use Rattle.sai_chip.specs.Marks.{stands}
+use Rattle.sai_chip.specs.Marks.{is_claimed}
 use Rattle.sai_chip.proofs.Clashes.{clashes-by, clashes-never, clashes-port, clash-vlan, clash-bridge_port, clash-vlan_member, clash-rif, clash-next_hop, clash-group_member}
 use Rattle.sai_chip.proofs.table.clashes.Goals as goal
 
 pub returns-in-Port : goal.returns-in-Port
 returns-in-Port c =
     rw c.in-Port.is (c.has_lane.ensures
-    ∙ ap (list_any (λ lane. stands (mark.Lane lane) c.args.held.now)) c.items.ensures.value
+    ∙ ap (list_any (λ lane. is_claimed (mark.Lane lane) c.args.held.now)) c.items.ensures.value
     ∙ sym (clashes-port c.in-Port.lanes c.in-Port.speed c.in-Port.mtu c.in-Port.up c.args.held.now))
 
 pub returns-in-Group : goal.returns-in-Group

@@ -2,22 +2,22 @@ use Rattle.std.proofs.Common.{◌≡◌, ℕ, List, [], ◌∷◌, ◌++◌, ◌
 use Rattle.swss_types.specs.declared.out_of_memory.OutOfMemory.{OutOfMemory}
 use Rattle.table_schema.specs.declared.write.Sent.{Sent}
 use Rattle.session_laws.specs.Core.{CoreState, IsFullFor}
-use Rattle.orch_core.specs.Taking.{Takes}
+use Rattle.orch_core.specs.Taking.{TakesSent}
 use Rattle.orch_core.specs.declared.answer.TakeFault.{TakeFault}
 use Rattle.orch_core.specs.declared.answer.TakeFault.TheVariants as fault
-use Rattle.swss_run.specs.Taking.{Counts, IsNumber, with_all}
+use Rattle.swss_run.specs.Taking.{Counts, IsNextNumber, with_all}
 use Rattle.swss_run.proofs.taking.take_write.Goals as goal
 
-number_as : (producer : ℕ) (before : List Sent) (counts : Counts) {r : Result ℕ OutOfMemory} (n : ℕ) → r ≡ Ok n → IsNumber producer before r counts → IsNumber producer before (Ok n) counts
-number_as producer before counts n e h = subst (λ x. IsNumber producer before x counts) e h
+number_as : (producer : ℕ) (before : List Sent) (counts : Counts) {r : Result ℕ OutOfMemory} (n : ℕ) → r ≡ Ok n → IsNextNumber producer before r counts → IsNextNumber producer before (Ok n) counts
+number_as producer before counts n e h = subst (λ x. IsNextNumber producer before x counts) e h
 
-takes_as : (old : CoreState) (s : Sent) (effects : ℕ) (new : CoreState) {r t : Result (Unit {0}) TakeFault} → r ≡ t → Takes old s effects r new → Takes old s effects t new
-takes_as old s effects new e h = subst (λ x. Takes old s effects x new) e h
+takes_as : (old : CoreState) (s : Sent) (effects : ℕ) (new : CoreState) {r t : Result (Unit {0}) TakeFault} → r ≡ t → TakesSent old s effects r new → TakesSent old s effects t new
+takes_as old s effects new e h = subst (λ x. TakesSent old s effects x new) e h
 
-taken_as : (old : CoreState) (s : Sent) (effects : ℕ) (u : Unit {0}) (new : CoreState) → Takes old s effects (Ok u) new → new ≡ with_all old (s ∷ [])
+taken_as : (old : CoreState) (s : Sent) (effects : ℕ) (u : Unit {0}) (new : CoreState) → TakesSent old s effects (Ok u) new → new ≡ with_all old (s ∷ [])
 taken_as old s effects u new h = h.0
 
-full_as : (old : CoreState) (s : Sent) (effects : ℕ) (f : TakeFault) (new : CoreState) → Takes old s effects (Err f) new → (new ≡ old) × IsFullFor new effects 1
+full_as : (old : CoreState) (s : Sent) (effects : ℕ) (f : TakeFault) (new : CoreState) → TakesSent old s effects (Err f) new → (new ≡ old) × IsFullFor new effects 1
 full_as old s effects (fault.LogFull back) new h = (h.0, subst (λ c. IsFullFor c effects 1) (sym h.0) h.2)
 
 pub returns-in_default : goal.returns-in_default

@@ -3,7 +3,7 @@ use Rattle.std.specs.BTreeMap.{is_at}
 use Rattle.std.specs.Map.{lookup}
 use Rattle.std.specs.Vec.Iter.{into_iter_items}
 use Rattle.sai_chip.specs.Naming.{entries_of}
-use Rattle.view_match.specs.Keys.{key_cmp, keys_of_objects}
+use Rattle.view_match.specs.Keys.{natural_key_cmp, keys_of_objects}
 use Rattle.view_match.specs.Pairs.{best_from}
 use Rattle.view_match.proofs.Paired.{length-keys, length-entries}
 use Rattle.view_match.proofs.indexed.index.Goals as goal
@@ -17,6 +17,6 @@ loop-key-init c =
     record {
       within = omega (arith, long);
       found = λ k.
-          ap (λ xs. best_from (lookup (is_at (key_cmp k)) c.new-index.result.entries) xs objects k 0) items
-          ∙ ap (λ es. best_from (lookup (is_at (key_cmp k)) es) (keys_of_objects objects) objects k 0) c.new-index.ensures.empty;
+          ap (λ xs. best_from (lookup (is_at (natural_key_cmp k)) c.new-index.result.entries) xs objects k 0) items
+          ∙ ap (λ es. best_from (lookup (is_at (natural_key_cmp k)) es) (keys_of_objects objects) objects k 0) c.new-index.ensures.empty;
     }

@@ -4,7 +4,7 @@ use Rattle.std.specs.BTreeMap.{is_at}
 use Rattle.std.specs.Map.{lookup}
 use Rattle.sai_chip.specs.Naming.{entries_of}
 use Rattle.view_match.specs.declared.key.NaturalKey.{NaturalKey}
-use Rattle.view_match.specs.Keys.{key_cmp, keys_of_objects}
+use Rattle.view_match.specs.Keys.{natural_key_cmp, keys_of_objects}
 use Rattle.view_match.specs.Pairs.{best_from}
 use Rattle.view_match.proofs.indexed.index.Given as goal
 
@@ -12,5 +12,5 @@ use Rattle.view_match.proofs.indexed.index.Given as goal
 abbrev pub invariant-loop-key : goal.invariant-loop-key
 invariant-loop-key l = record {
   within : l.place + length (into_iter_items l.key-iterator) ≡ length l.old;
-  found : (k : NaturalKey) → best_from (lookup (is_at (key_cmp k)) l.index.entries) (into_iter_items l.key-iterator) (entries_of (drop l.place l.old)) k l.place ≡ best_from None (keys_of_objects (entries_of l.old)) (entries_of l.old) k 0;
+  found : (k : NaturalKey) → best_from (lookup (is_at (natural_key_cmp k)) l.index.entries) (into_iter_items l.key-iterator) (entries_of (drop l.place l.old)) k l.place ≡ best_from None (keys_of_objects (entries_of l.old)) (entries_of l.old) k 0;
 }

@@ -2,7 +2,7 @@ use Rattle.std.proofs.Common.{sym, ap, ◌∙◌, subst}
 use Rattle.std.proofs.lemmas.Option.{none-some}
 use Rattle.sai_types.specs.declared.body.Call.TheVariants as call
 use Rattle.asic_view.specs.Kept.{IsViewKept}
-use Rattle.asic_view.specs.View.{IsLegalOn, after_set, changed_at, object_set}
+use Rattle.asic_view.specs.View.{IsLegalOn, view_after_set, view_changed_at, object_set}
 use Rattle.asic_view.proofs.Keeping.{IsThere, kept-changed, kind-set, set-is, set-there, vid-found, vid-is}
 use Rattle.asic_view.proofs.Shown.{entry-set}
 use Rattle.asic_view.proofs.view.View.set.Goals as goal
@@ -25,6 +25,6 @@ returns c =
     let e = c.args.entry.now in
     let x : IsThere s.objects.entries e = set-there s.objects.entries e c.args.attr (subst (λ l. IsLegalOn l (call.Set e c.args.attr)) (sym c.self.view_is) c.requires) in
     c.set.ensures
-    ∙ ap (λ v. changed_at s.objects.entries v (λ z. object_set z c.args.attr)) (vid-is s.made s.objects.entries s.keyed.entries s.counts c.self.invariant e x.item x.among x.named c.in-Some.vid (sym c.vid_by.ensures ∙ c.in-Some.is))
+    ∙ ap (λ v. view_changed_at s.objects.entries v (λ z. object_set z c.args.attr)) (vid-is s.made s.objects.entries s.keyed.entries s.counts c.self.invariant e x.item x.among x.named c.in-Some.vid (sym c.vid_by.ensures ∙ c.in-Some.is))
     ∙ set-is s.made s.objects.entries s.keyed.entries s.counts c.self.invariant e x.item x.among x.named c.args.attr
-    ∙ ap (λ l. after_set l e c.args.attr) c.self.view_is
+    ∙ ap (λ l. view_after_set l e c.args.attr) c.self.view_is

@@ -1,7 +1,7 @@
 use Rattle.std.proofs.Common.{◌≡◌, ◌+◌, ◌*◌, ◌≤◌, None, slice_index, refl, rules, arith}
 use Rattle.sai_types.specs.Objects.{level}
 use Rattle.sai_types.proofs.Levels.{level_within}
-use Rattle.ref_counts.specs.Room.{RoomState, lacking, number_of}
+use Rattle.ref_counts.specs.Room.{RoomState, lacking, number_of_kind}
 use Rattle.ref_counts.proofs.Rooms.{all_fits, all_more, each_place, elsewhere, some_of_all}
 use Rattle.ref_counts.proofs.room.Room.reserve.Goals as goal
 
@@ -28,5 +28,5 @@ invariant_of-self c =
     let none : lacking room c.args.need.now c.args.used.now ≡ None = search rules in
     λ k.
     let all = all_fits room c.args.need.now c.args.used.now c.self.invariant none k in
-    let more = all_more c.self.inside.reserved c.add.new.reserved c.args.worker k (number_of c.args.need.now k) (λ other ne. c.add.ensures.others (11 * other + level k) (elsewhere other c.args.worker k ne)) c.requires (c.add.ensures.sums (level k) (level_within k)) in
+    let more = all_more c.self.inside.reserved c.add.new.reserved c.args.worker k (number_of_kind c.args.need.now k) (λ other ne. c.add.ensures.others (11 * other + level k) (elsewhere other c.args.worker k ne)) c.requires (c.add.ensures.sums (level k) (level_within k)) in
     omega arith
