@@ -3,6 +3,8 @@ use Rattle.std.proofs.Common.{◌≡◌, ◌∙◌, ℕ, Bool, true, false, leng
 use Rattle.std.specs.Option.{IfNone, IfSome, IsSome}
 use Rattle.std.specs.Result.{IsErr}
 use Rattle.std.proofs.lemmas.Bool.{false≢true}
+use Rattle.sai_types.specs.declared.answer.ChipAnswer.{ChipAnswer}
+use Rattle.sai_types.specs.declared.answer.ChipAnswer.TheVariants as answer
 use Rattle.sai_types.specs.declared.answer.SyncAnswer.{SyncAnswer}
 use Rattle.sai_types.specs.declared.answer.SyncAnswer.TheVariants as sync
 use Rattle.sai_types.specs.declared.body.Call.{Call}
@@ -20,7 +22,7 @@ use Rattle.registry_laws.specs.Making.{IsNextCall, MayTakeFor, with_group_begun}
 use Rattle.core_laws.specs.Standing.{HasBegun}
 use Rattle.restart_laws.specs.Logged.{IsLoggedStep, LoggedService}
 use Rattle.asic_view.specs.View.{ViewObjects}
-use Rattle.syncd_core.specs.Synced.{CanCall, Calls, IsMadeOnChip, SyncState}
+use Rattle.syncd_core.specs.Synced.{AnswerFollows, CanCall, Calls, IsMadeOnChip, SyncState}
 use Rattle.syncd_core.specs.Tied.{tie_of}
 use Rattle.flight_board.specs.Board.{BoardState, FlightState, IsPrepared, IsCallReady, IsTakenFor, flown_at}
 use Rattle.warm_state.specs.declared.warm.Warm.TheVariants as warm
@@ -41,6 +43,10 @@ use Rattle.orch_core.proofs.Chips.{keeps_answered, one_more_effect}
 pub kept_flights : (w : ℕ) (x : Flown) (made : Option Vid) (b b' : BoardState) → flown_at b w ≡ Some x → IsTakenFor b w made b' → KeepsFlights w b b'
 kept_flights w x made b b' there taken v apart = let y = taken x there in ap (option_map (λ (f : FlightState). f.flown)) (y.3.others.flights v apart)
 
+-- where syncd's answer is no failure, the chip's is none
+went_on : (old new : ViewObjects) (c : Call Vid) (a : SyncAnswer) (said : ChipAnswer) → AnswerFollows old c said a new → (a ≡ sync.Failed → ⊥) → said ≡ answer.Failed → ⊥
+went_on old new c a said follows went failed = went (subst (λ z. AnswerFollows old c z a new) failed follows).1
+
 module _ (s : LoggedService) (w : ℕ) (c : CoreState) (chip : ChipState) (is : IsSessionOf c chip s) (at : c.warm ≡ warm.Reconciled) (x : Flown) (there : flown_at c.board w ≡ Some x) (begun : HasBegun c.board.plan c.board.names x) (call : Call Vid) (told : IsNextCall c.board.plan c.board.names x.operation x.group call) (room : IsFullFor c (length chip.effects) 2 → ⊥) (y : SyncState) (chip' : ChipState) where
   -- without its log
   abbrev beside : CoreState
@@ -56,8 +62,8 @@ module _ (s : LoggedService) (w : ℕ) (c : CoreState) (chip : ChipState) (is : 
   is_made : (a : SyncAnswer) → Calls c.sync c.sync.temporary chip call a y chip' → (view : ViewObjects) × IsMadeOnChip c.sync.view chip call a view chip'
   is_made a calls = let z = subst (λ o. Calls c.sync o chip call a y chip') (is.working at).no_view calls in (z.0, z.2)
 
-  keeps : (a : SyncAnswer) → Calls c.sync c.sync.temporary chip call a y chip' → KeepsChip chip chip'
-  keeps a calls = let z = is_made a calls in keeps_answered chip chip' d z.1.answer z.1.answered
+  keeps : (a : SyncAnswer) → (a ≡ sync.Failed → ⊥) → Calls c.sync c.sync.temporary chip call a y chip' → KeepsChip chip chip'
+  keeps a went calls = let z = is_made a calls in keeps_answered chip chip' d z.1.answer (went_on c.sync.view z.0 call a z.1.answer z.1.follows went) z.1.answered
 
   effect : (a : SyncAnswer) → (a ≡ sync.Failed → ⊥) → Calls c.sync c.sync.temporary chip call a y chip' → (b : BoardState) → IsTakenFor c.board w (vid_made_by a) b → AnswersCall s w c chip (record c { sync = y; board = b }) chip'
   effect a went calls b taken =
@@ -71,7 +77,7 @@ module _ (s : LoggedService) (w : ℕ) (c : CoreState) (chip : ChipState) (is : 
         beside = record { tables = refl; waiting = refl; log = refl; listed = refl; limit = refl; warm = refl };
         others = kept_flights w x (vid_made_by a) c.board b there taken;
         room = room;
-        keeps = keeps a calls;
+        keeps = keeps a went calls;
       }
 
   failed : (ends : Bool) → Calls c.sync c.sync.temporary chip call sync.Failed y chip' → MakesOne c s (record c { sync = y; log = with_fault ends c.log fault; warm = warm.Suspect }) chip'
@@ -86,10 +92,8 @@ module _ (s : LoggedService) (w : ℕ) (c : CoreState) (chip : ChipState) (is : 
       record {
         makes = failed ends calls;
         tables = refl;
-        keeps = keeps sync.Failed calls;
+        fails = z.1.answered.fails;
         marks = record {
-          before = chip.faults;
-          risen = omega arith;
           more = one.2;
           log = refl;
           warm = refl;
@@ -187,8 +191,8 @@ module _ (s : LoggedService) (w : ℕ) (c : CoreState) (b : BoardState) (chip : 
   fault_from ends c' chip' x = record {
     makes = makes_from c' chip' x.makes;
     tables = x.tables;
-    keeps = x.keeps;
-    marks = record { before = x.marks.before; risen = x.marks.risen; more = x.marks.more; log = x.marks.log; warm = x.marks.warm; places = x.marks.places; few = x.marks.few };
+    fails = x.fails;
+    marks = record { more = x.marks.more; log = x.marks.log; warm = x.marks.warm; places = x.marks.places; few = x.marks.few };
   }
 
   stays_from : (c' : CoreState) → StaysInSession s with c' chip → StaysInSession s c c' chip

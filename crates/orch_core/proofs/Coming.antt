@@ -8,7 +8,6 @@ use Rattle.table_schema.specs.Plan.{Ports}
 use Rattle.sai_types.specs.ChipState.{ChipState}
 use Rattle.switch_model.specs.History.{History, with_mark}
 use Rattle.switch_model.specs.declared.mark.Mark.{Mark}
-use Rattle.switch_model.specs.declared.mark.MarkEvent.{MarkEvent}
 use Rattle.switch_model.specs.declared.mark.MarkEvent.TheVariants as event
 use Rattle.machine_laws.specs.Order.{MayEndRound}
 use Rattle.restart_laws.specs.Logged.{AreLoggedSteps, LoggedService, session_after}

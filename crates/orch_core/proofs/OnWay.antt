@@ -27,13 +27,19 @@ use Rattle.restart_session_laws.proofs.Made.{ended-next, failed-next, more-next}
 use Rattle.orch_core.specs.Outcomes.{KeepsChip, with_fault}
 use Rattle.orch_core.specs.Restarting.{AppliesOne, AppliesOut, AppliesLast, FaultsOnWay, HeedsApply, HeedsList, ListsOnWay, ListsOut, places_left}
 use Rattle.orch_core.specs.declared.answer.Step.{Step}
-use Rattle.orch_core.proofs.Chips.{keeps_answered, keeps_same, one_more_effect}
+use Rattle.orch_core.proofs.Chips.{keeps_answered, keeps_same, one_effect, one_more_effect}
 
 pub if_ok : {X E : Type 0} {P Q : X → Type 0} (r : Result X E) → ((x : X) → P x → Q x) → IfOk r P → IfOk r Q
 if_ok (Ok x) on p = on x p
 if_ok (Err e) on p = tt
 
 -- ---- what a plan's call came to
+
+more_went : apply_step.More ≡ apply_step.Failed → ⊥
+more_went h = cc
+
+ended_went : apply_step.Ended ≡ apply_step.Failed → ⊥
+ended_went h = cc
 
 after_some : (cs : List PlanCall) → apply_step.Failed ≡ step_after cs → ⊥
 after_some [] h = cc
@@ -45,24 +51,50 @@ said_failed (answer.Made r) cs old new c ties h = absurd (after_some cs h)
 said_failed answer.Done cs old new c ties h = absurd (after_some cs h)
 said_failed _ cs old new c ties h = absurd ties
 
+last_left : (said : ChipAnswer) (cs : List PlanCall) → apply_step.Ended ≡ step_by said cs → cs ≡ []
+last_left said [] h = refl
+last_left answer.Failed (c ∷ cs) h = absurd cc
+last_left (answer.Made r) (c ∷ cs) h = absurd cc
+last_left _ (c ∷ cs) h = absurd cc
+
 more_left : (said : ChipAnswer) (c : PlanCall) (cs : List PlanCall) → apply_step.More ≡ step_by said cs → left_by said c cs ≡ cs
 more_left answer.Failed c cs h = absurd cc
 more_left (answer.Made r) c cs h = refl
 more_left answer.Done c cs h = refl
 more_left _ c cs h = refl
 
+more_after : (said : ChipAnswer) (cs : List PlanCall) → apply_step.More ≡ step_by said cs → 0 < length cs
+more_after said (c ∷ cs) h = omega arith
+more_after answer.Failed [] h = absurd cc
+more_after (answer.Made r) [] h = absurd cc
+more_after _ [] h = absurd cc
+
 one_fewer : (c : PlanCall) (cs left : List PlanCall) → left ≡ cs → length left < length (c ∷ cs)
 one_fewer c cs left same = let long : length left ≡ length cs = ap length same in omega (arith, long)
 
 module _ (y y' : SyncState) (chip chip' : ChipState) where
   -- the chip stays what it is made with
-  pub applies_keep : (l : List PlanCall) (a : ApplyStep) → Applies l y chip a y' chip' → KeepsChip chip chip'
-  applies_keep [] a x = keeps_same chip chip' x.1
-  applies_keep (c ∷ cs) a x = keeps_answered chip chip' (call_renamed (plan_tie y.view) c.call) x.answer x.answered
+  pub applies_keep : (l : List PlanCall) (a : ApplyStep) → (a ≡ apply_step.Failed → ⊥) → Applies l y chip a y' chip' → KeepsChip chip chip'
+  applies_keep [] a went x = keeps_same chip chip' x.1
+  applies_keep (c ∷ cs) a went x = keeps_answered chip chip' (call_renamed (plan_tie y.view) c.call) x.answer (λ failed. went (x.step ∙ ap (λ z. step_by z cs) failed)) x.answered
 
-  pub applies_fewer : (l : List PlanCall) → Applies l y chip apply_step.More y' chip' → (length y'.left < length l) × (places_left l ≡ 2)
+  pub applies_fails : (l : List PlanCall) (a : ApplyStep) → Applies l y chip a y' chip' → chip'.fails ≡ chip.fails
+  applies_fails [] a x = ap (λ (z : ChipState). z.fails) x.1
+  applies_fails (c ∷ cs) a x = x.answered.fails
+
+  -- one of the calls was made, and more are left
+  pub applies_fewer : (l : List PlanCall) → Applies l y chip apply_step.More y' chip' → (length y'.left < length l) × (places_left l ≡ 2) × (0 < length y'.left)
   applies_fewer [] x = absurd cc
-  applies_fewer (c ∷ cs) x = (one_fewer c cs y'.left (ap (λ (z : SyncState). z.left) x.later ∙ more_left x.answer c cs x.step), refl)
+  applies_fewer (c ∷ cs) x =
+      let left : y'.left ≡ cs = ap (λ (z : SyncState). z.left) x.later ∙ more_left x.answer c cs x.step in
+      (one_fewer c cs y'.left left, refl, subst (λ l. 0 < length l) (sym left) (more_after x.answer cs x.step))
+
+  -- what ended the plan was its last call, or no call
+  pub applies_last : (l : List PlanCall) → Applies l y chip apply_step.Ended y' chip' → (length l ≤ 1) × (length chip'.effects ≤ length chip.effects + length l)
+  applies_last [] x = let long : length chip'.effects ≡ length chip.effects = ap (λ (z : ChipState). length z.effects) x.1 in (omega arith, omega (arith, long))
+  applies_last (c ∷ cs) x =
+      let none : length cs ≡ 0 = ap length (last_left x.answer cs x.step) in
+      let most = one_effect chip chip' (call_renamed (plan_tie y.view) c.call) x.answer x.answered in (omega (arith, none), omega (arith, none, most))
 
   -- of a failed call at most its own effect came behind those before it
   pub applies_failed : (l : List PlanCall) → Applies l y chip apply_step.Failed y' chip' → (places_left l ≡ 2) × (length chip'.effects ≤ chip'.before_fault + 1) × (chip'.before_fault ≡ length chip.effects) × (chip.faults < chip'.faults)
@@ -105,7 +137,7 @@ module _ (s : LoggedService) (c : CoreState) (chip : ChipState) (is : IsServiceO
           places = omega (arith, behind, room);
           few = omega (arith, behind, long);
           tables = refl;
-          keeps = record { fails = x.1.fails; faults = omega (arith, more) };
+          fails = x.1.fails;
         }
 
     list_heeded : (ends : Bool) (l : Listed) (r : Step) (c' : CoreState) → TakesList c.sync chip l y chip' → HeedsList l c.log fault ends beside r c' → ListsOut ends s c chip (Ok r) c' chip'
@@ -125,12 +157,25 @@ module _ (s : LoggedService) (c : CoreState) (chip : ChipState) (is : IsServiceO
           tables = refl;
           board = refl;
           fewer = fewer.0;
+          more = fewer.2;
           room = subst (λ n. IsFullFor c (length chip.effects) n → ⊥) fewer.1 room;
-          keeps = applies_keep c.sync y chip chip' c.sync.left apply_step.More x;
+          keeps = applies_keep c.sync y chip chip' c.sync.left apply_step.More more_went x;
         }
 
     applied_last : Applies c.sync.left c.sync chip apply_step.Ended y chip' → AppliesLast s c chip (record c { sync = y; log = with_mark c.log end; warm = warm.Reconciled }) chip'
-    applied_last x = record { makes = ended-next c chip s is at y chip' x; warm = refl; log = refl; tables = refl; board = refl; room = room; keeps = applies_keep c.sync y chip chip' c.sync.left apply_step.Ended x }
+    applied_last x =
+        let last = applies_last c.sync y chip chip' c.sync.left x in
+        record {
+          makes = ended-next c chip s is at y chip' x;
+          warm = refl;
+          log = refl;
+          tables = refl;
+          board = refl;
+          one = last.0;
+          few = last.1;
+          room = room;
+          keeps = applies_keep c.sync y chip chip' c.sync.left apply_step.Ended ended_went x;
+        }
 
     unapplied : (ends : Bool) → Applies c.sync.left c.sync chip apply_step.Failed y chip' → MakesNext c s (record c { sync = y; log = with_fault ends c.log fault; warm = warm.Suspect }) chip'
     unapplied true x = failed-next c chip s is at y chip' (with_fault true c.log fault) Ended x
@@ -150,7 +195,7 @@ module _ (s : LoggedService) (c : CoreState) (chip : ChipState) (is : IsServiceO
           places = omega (arith, behind, two);
           few = omega (arith, most);
           tables = refl;
-          keeps = applies_keep c.sync y chip chip' c.sync.left apply_step.Failed x;
+          fails = applies_fails c.sync y chip chip' c.sync.left apply_step.Failed x;
         }
 
     apply_heeded : (ends : Bool) (a : ApplyStep) (r : Step) (c' : CoreState) → Applies c.sync.left c.sync chip a y chip' → HeedsApply a c.log fault end ends beside r c' → AppliesOut ends s c chip (Ok r) c' chip'

@@ -58,22 +58,22 @@ module _ (s t : LoggedService) (c d : CoreState) (chip : ChipState) (leads : Lea
     marks_more : (e : CoreState) (chip' : ChipState) → MarksFault true d chip e chip' → MarksFault true c first e chip'
     marks_more e chip' y =
         let faults = keeps.faults in
-        let risen = y.risen in
+        let more = y.more in
         let size = size_same chip'.before_fault in
         let places = y.places in
         let limit = leads.limit in
         record {
-          before = y.before;
-          risen = omega (arith, faults, risen);
-          more = y.more;
-          log = y.log ∙ ap (λ (h : History). with_fault true h (record { taken = length h.taken; effects = length chip'.effects; event = event.Faulted y.before chip'.faults })) same;
+          more = omega (arith, faults, more);
+          log = y.log
+              ∙ ap (λ (h : History). with_fault true h (record { taken = length h.taken; effects = length chip'.effects; event = event.Faulted chip.faults chip'.faults })) same
+              ∙ ap (λ n. with_fault true c.log (record { taken = length c.log.taken; effects = length chip'.effects; event = event.Faulted n chip'.faults })) faults;
           warm = y.warm;
           places = omega (arith, size, places, limit);
           few = y.few;
         }
 
     pub faulted_more : (c.tables.waiting ≡ [] → d.tables.waiting ≡ []) → (e : CoreState) (chip' : ChipState) → StopsFaulted t d chip e chip' → StopsFaulted s c first e chip'
-    faulted_more popped e chip' y = record { steps = all_more e chip' y.steps; marks = marks_more e chip' y.marks; popped = λ none. y.popped (popped none); keeps = keeps_on first chip chip' keeps y.keeps }
+    faulted_more popped e chip' y = record { steps = all_more e chip' y.steps; marks = marks_more e chip' y.marks; popped = λ none. y.popped (popped none); fails = y.fails ∙ keeps.fails }
 
     pub full_more : (e : CoreState) (chip' : ChipState) → StopsFull t d chip e chip' → StopsFull s c first e chip'
     full_more e chip' y = record { steps = all_more e chip' y.steps; warm = y.warm; log = y.log ∙ same; flying = y.flying; full = y.full; keeps = keeps_on first chip chip' keeps y.keeps }
@@ -88,7 +88,7 @@ log_same c d first chip s t is there same = sym there.log ∙ same ∙ is.log
 -- the answer of a call that stops
 module _ (s : LoggedService) (w : ℕ) (c : CoreState) (chip : ChipState) (at : c.warm ≡ warm.Reconciled) (d : CoreState) (chip' : ChipState) where
   pub stop_faulted : Answered true s w c chip (Ok step.Faulted) d chip' → StopsFaulted s c chip d chip'
-  stop_faulted y = record { steps = one_step c d chip' s y.makes; marks = y.marks; popped = λ none. ap (λ t. t.waiting) y.tables ∙ none; keeps = y.keeps }
+  stop_faulted y = record { steps = one_step c d chip' s y.makes; marks = y.marks; popped = λ none. ap (λ t. t.waiting) y.tables ∙ none; fails = y.fails }
 
   pub stop_full : IsSessionOf c chip s → w < 4 → IsSome (flown_at c.board w) → Answered true s w c chip (Ok step.LogFull) d chip' → StopsFull s c chip d chip'
   stop_full is less flying y =

@@ -73,17 +73,15 @@ abbrev pub Heeds : ℕ → SyncAnswer → History → Mark → Bool → CoreStat
 Heeds w sync.Failed log fault ends c r c' = (r ≡ step.Faulted) × (c' ≡ record c { log = with_fault ends log fault; warm = warm.Suspect })
 Heeds w a log fault ends c r c' = (r ≡ step.Did) × (b : BoardState) × IsTakenFor c.board w (vid_made_by a) b × (c' ≡ record c { log = log; board = b })
 
--- the chip has the failing calls that it was made with, and failed no less often than before
+-- the chip has the failing calls that it was made with, and failed no more often than before
 pub record KeepsChip (old new : ChipState) : Type 0 where
   pub fails : new.fails ≡ old.fails
-  pub faults : old.faults ≤ new.faults
+  pub faults : new.faults ≡ old.faults
 
--- a call failed, and its mark says so, with the chip's counts of faults; the call had two places in the log, and at most its own effect came behind those before it
+-- a call failed, the first that did, and its mark says so, with the chip's counts of faults before it and after it; the call had two places in the log, and at most its own effect came behind those before it
 pub record MarksFault (ends : Bool) (c : CoreState) (chip : ChipState) (c' : CoreState) (chip' : ChipState) : Type 0 where
-  pub before : ℕ
-  pub risen : chip.faults ≤ before
-  pub more : before < chip'.faults
-  pub log : c'.log ≡ with_fault ends c.log (mark_at c (length chip'.effects) (event.Faulted before chip'.faults))
+  pub more : chip.faults < chip'.faults
+  pub log : c'.log ≡ with_fault ends c.log (mark_at c (length chip'.effects) (event.Faulted chip.faults chip'.faults))
   pub warm : c'.warm ≡ warm.Suspect
   pub places : size_beside c chip'.before_fault + 2 ≤ c.limit
   pub few : length chip'.effects ≤ chip'.before_fault + 1
@@ -114,7 +112,7 @@ pub record FaultsCall (ends : Bool) (s : LoggedService) (c : CoreState) (chip : 
   pub makes : MakesOne c s c' chip'
   pub marks : MarksFault ends c chip c' chip'
   pub tables : c'.tables ≡ c.tables
-  pub keeps : KeepsChip chip chip'
+  pub fails : chip'.fails ≡ chip.fails
 
 -- what the call came to: one step; a fault, which is marked; no places in the log, and then nothing was done; or no call, after want of memory
 abbrev pub Answered : Bool → LoggedService → ℕ → CoreState → ChipState → Result Step OutOfMemory → CoreState → ChipState → Type 0

@@ -82,7 +82,7 @@ pub record FaultsOnWay (need : ℕ) (ends : Bool) (s : LoggedService) (c : CoreS
   pub places : size_beside c chip'.before_fault + need ≤ c.limit
   pub few : length chip'.effects + 1 ≤ chip'.before_fault + need
   pub tables : c'.tables ≡ c.tables
-  pub keeps : KeepsChip chip chip'
+  pub fails : chip'.fails ≡ chip.fails
 
 -- ---- the list of the chip
 
@@ -199,16 +199,19 @@ pub record AppliesOne (s : LoggedService) (c : CoreState) (chip : ChipState) (c'
   pub tables : c'.tables ≡ c.tables
   pub board : c'.board ≡ c.board
   pub fewer : length c'.sync.left < length c.sync.left
+  pub more : 0 < length c'.sync.left
   pub room : IsFullFor c (length chip.effects) 2 → ⊥
   pub keeps : KeepsChip chip chip'
 
--- the last call was made, where one was left, and the end is marked: the core is reconciled
+-- the last call was made, where one was left, and the end is marked: the core is reconciled; of more than one call none is the last
 pub record AppliesLast (s : LoggedService) (c : CoreState) (chip : ChipState) (c' : CoreState) (chip' : ChipState) : Type 0 where
   pub makes : MakesMore c s c' chip'
   pub warm : c'.warm ≡ warm.Reconciled
   pub log : c'.log ≡ with_mark c.log (mark_at c (length chip'.effects) event.ApplyEnded)
   pub tables : c'.tables ≡ c.tables
   pub board : c'.board ≡ c.board
+  pub one : length c.sync.left ≤ 1
+  pub few : length chip'.effects ≤ length chip.effects + length c.sync.left
   pub room : IsFullFor c (length chip.effects) (places_left c.sync.left) → ⊥
   pub keeps : KeepsChip chip chip'
 

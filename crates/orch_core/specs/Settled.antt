@@ -29,12 +29,12 @@ use Rattle.orch_core.specs.declared.answer.Turned.TheVariants as turned
 
 -- ---- where it stops
 
--- steps were made, and then a call failed, which is marked, and the round ends at the mark; where no write waited before, none waits then
+-- steps were made, and then a call failed, the first that did, which is marked, and the round ends at the mark; where no write waited before, none waits then
 pub record StopsFaulted (s : LoggedService) (c : CoreState) (chip : ChipState) (c' : CoreState) (chip' : ChipState) : Type 0 where
   pub steps : MakesSome c s c' chip'
   pub marks : MarksFault true c chip c' chip'
   pub popped : c.tables.waiting ≡ [] → c'.tables.waiting ≡ []
-  pub keeps : KeepsChip chip chip'
+  pub fails : chip'.fails ≡ chip.fails
 
 -- steps were made, and then the call that was due for a worker had no places in the log
 pub record StopsFull (s : LoggedService) (c : CoreState) (chip : ChipState) (c' : CoreState) (chip' : ChipState) : Type 0 where
