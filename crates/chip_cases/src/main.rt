@@ -18,11 +18,14 @@
 //! listed all                 no other is on the list
 //! port NAME LANES            the plan has this port
 //! row KEY F=V ..             fields of a row are set; without any, the row is deleted
-//! waits KEY WHY              a key waits at the next settling of the round; WHY is `missing KEY`, `held KEY`, `no-room KIND`
-//!                            or `busy N`
+//! waits KEY WHY              a key waits at the next settling or apply of the round; WHY is `missing KEY`, `held KEY`,
+//!                            `no-room KIND` or `busy N`
 //! turns N                    the next settling of the round makes so many turns; none without such a line
 //! settled KEY ..             the round has a mark of a settling at which these keys wait too, for a worker
 //! faulted N                  the round has a mark of the chip's fault N
+//! restarted                  the round has a mark of a restart
+//! applying MODE KEY ..       the round has a mark of the begin of an apply, `hitless` or `cold`, at which these keys wait too
+//! applied                    the round has a mark of the end of an apply
 //! show WHAT ..               the round ends with these shows, which are those of scripts; its report is the lines behind
 //! |LINE                      a line of that report
 //! ```

@@ -3,6 +3,7 @@ use crate::words::{fields, ip, key, kind, number, short};
 use anyhow::{Context, Result, bail};
 use row_store::Rows;
 use sai_chip::{Replay, SimChip};
+use sai_types::Mode;
 use std::alloc::Global;
 use std::mem;
 use switch_model::{Mark, MarkEvent, Wait, Waits};
@@ -57,6 +58,9 @@ impl Reporter {
             ["waits", name, why @ ..] => self.put_wait(alloc, name, wait(alloc, why)?)?,
             ["turns", turns] => self.turns = number(turns)?,
             ["settled", keys @ ..] => self.settle(alloc, keys)?,
+            ["restarted"] => self.mark(MarkEvent::Restarted)?,
+            ["applying", how, keys @ ..] => self.apply(alloc, mode(how)?, keys)?,
+            ["applied"] => self.mark(MarkEvent::ApplyEnded)?,
             ["faulted", after] => {
                 let after = number(after)?;
                 self.mark(MarkEvent::Faulted { before: 0, after })?;
@@ -89,7 +93,7 @@ impl Reporter {
         Ok(())
     }
 
-    /// Lets a key wait at the next settling.
+    /// Lets a key wait at the next settling or apply.
     fn put_wait(&mut self, alloc: Global, name: &str, wait: Wait) -> Result<()> {
         self.waits.push((key(alloc, name)?, wait, None))?;
         Ok(())
@@ -97,12 +101,23 @@ impl Reporter {
 
     /// Puts the mark of a settling, at which these keys wait too.
     fn settle(&mut self, alloc: Global, keys: &[&str]) -> Result<()> {
+        let waits = self.take_waits(alloc, keys)?;
+        let turns = mem::replace(&mut self.turns, 0);
+        self.mark(MarkEvent::Settled { waits, turns })
+    }
+
+    /// Puts the mark of the begin of an apply, at which these keys wait too.
+    fn apply(&mut self, alloc: Global, mode: Mode, keys: &[&str]) -> Result<()> {
+        let waits = self.take_waits(alloc, keys)?;
+        self.mark(MarkEvent::ApplyBegan { mode, waits })
+    }
+
+    /// The keys that are to wait at the next mark, and these.
+    fn take_waits(&mut self, alloc: Global, keys: &[&str]) -> Result<Waits> {
         for name in keys {
             self.put_wait(alloc, name, Wait::Busy(1))?;
         }
-        let waits = Waits::from_vec(mem::replace(&mut self.waits, Vec::new(alloc)))?;
-        let turns = mem::replace(&mut self.turns, 0);
-        self.mark(MarkEvent::Settled { waits, turns })
+        Ok(Waits::from_vec(mem::replace(&mut self.waits, Vec::new(alloc)))?)
     }
 
     /// Puts a mark of the round. What it counts does not show.
@@ -146,6 +161,15 @@ fn wait(alloc: Global, why: &[&str]) -> Result<Wait> {
     })
 }
 
+/// How a view is applied.
+fn mode(word: &str) -> Result<Mode> {
+    Ok(match word {
+        "hitless" => Mode::Hitless,
+        "cold" => Mode::Cold,
+        _ => bail!("a mode"),
+    })
+}
+
 /// What is shown.
 fn shows(alloc: Global, words: &[&str]) -> Result<Vec<Show>> {
     let mut shows = Vec::new(alloc);
@@ -156,6 +180,7 @@ fn shows(alloc: Global, words: &[&str]) -> Result<Vec<Show>> {
             "tables" => Show::Tables,
             "ignored" => Show::Ignored,
             "waiting" => Show::Waiting,
+            "warm" => Show::Warm,
             "ready" => Show::Ready,
             "calls" => Show::Calls,
             "counts" => Show::Counts,

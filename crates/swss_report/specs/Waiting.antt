@@ -1,4 +1,4 @@
--- The keys that wait, as the report lists them, and whether it is ready. Own.
+-- The keys that wait, as the report lists them, and what it says of the end of the round. Own.
 use Rattle.std.specs.Prelude.{ℕ, List, [], ◌∷◌, ◌++◌, length, flat_map, codes, Option, Some, None}
 use Rattle.std.specs.Fmt.{decimal}
 use Rattle.table_schema.specs.KeyText.{key_text}
@@ -26,6 +26,11 @@ waiting_line w = escaped (key_text w.0) ++ wait_text w.1 ++ 10 ∷ []
 abbrev pub waiting_text : Option Waiting → List ℕ
 waiting_text (Some waits) = count_line (codes "waiting ") (length waits) ++ flat_map waiting_line waits
 waiting_text None = codes "waiting unknown" ++ 10 ∷ []
+
+-- the state that the round ended in: a settling that ended with its mark leaves it reconciled, and a fault unknown
+abbrev pub warm_line : Option Waiting → List ℕ
+warm_line (Some waits) = codes "warm reconciled" ++ 10 ∷ []
+warm_line None = codes "warm unknown" ++ 10 ∷ []
 
 -- ready is what waits for nothing: the round ended with the mark of a settling that lists no key
 abbrev pub ready_text : Option Waiting → List ℕ

@@ -1,8 +1,9 @@
 // The lines of the marks of a round.
 ghost use Rattle.std.specs.Prelude.{◌≡◌, ◌++◌, OnOk};
-ghost use Rattle.swss_report.specs.Marks.{event_line, marks_text};
+ghost use Rattle.swss_report.specs.Marks.{event_line, marks_text, mode_name};
 
 use crate::counted::write_count;
+use sai_types::Mode;
 use switch_model::{Mark, MarkEvent};
 use swss_types::{OutOfMemory, write_number};
 
@@ -27,6 +28,29 @@ fn write_event(out: &mut Vec<u8>, number: u64, event: &MarkEvent) -> Result<(), 
             write_count(out, b" waiting ", waits.items().len() as u64)
         }
         MarkEvent::Faulted { after, .. } => write_count(out, b"warm unknown faults ", *after),
-        _ => Ok(()),
+        MarkEvent::Restarted => {
+            out.extend_from_slice(b"warm initialized\n")?;
+            Ok(())
+        }
+        MarkEvent::ApplyBegan { mode, .. } => {
+            out.extend_from_slice(b"warm restored ")?;
+            out.extend_from_slice(mode_name(*mode))?;
+            out.push(b'\n')?;
+            Ok(())
+        }
+        MarkEvent::ApplyEnded => {
+            out.extend_from_slice(b"warm reconciled\n")?;
+            Ok(())
+        }
+    }
+}
+
+/// The word for how a view is applied.
+fn mode_name(mode: Mode) -> &'static [u8]
+    ensures { result.now ≡ mode_name mode }
+{
+    match mode {
+        Mode::Hitless => b"hitless",
+        Mode::Cold => b"cold",
     }
 }

@@ -9,7 +9,7 @@ use crate::ending::waits_at_end;
 use crate::ignored::write_ignored;
 use crate::round::RoundEnd;
 use crate::tables::write_tables;
-use crate::waiting::{write_ready, write_waiting};
+use crate::waiting::{write_ready, write_waiting, write_warm};
 use crate::ways::write_forward;
 use std::alloc::Global;
 use swss_script::Show;
@@ -49,6 +49,7 @@ fn write_show(
         Show::Tables => write_tables(alloc, out, end.rows),
         Show::Ignored => write_ignored(alloc, out, end.plan, end.rows),
         Show::Waiting => write_waiting(alloc, out, waits_at_end(end.marks)),
+        Show::Warm => write_warm(out, waits_at_end(end.marks)),
         Show::Ready => write_ready(out, waits_at_end(end.marks)),
         Show::Calls => {
             out.extend_from_slice(calls)?;
@@ -56,6 +57,6 @@ fn write_show(
         }
         Show::Counts => write_counts(out, end),
         Show::Forward(ip) => write_forward(alloc, out, end.plan, end.chip, ip),
-        Show::Warm | Show::Image => Ok(()),
+        Show::Image => Ok(()),
     }
 }

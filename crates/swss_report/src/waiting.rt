@@ -1,8 +1,8 @@
-// The keys that wait, as the report lists them, and whether it is ready.
+// The keys that wait, as the report lists them, and what it says of the end of the round.
 ghost use Rattle.std.specs.Prelude.{◌≡◌, ◌++◌, flat_map, option_copied, OnOk};
 ghost use Rattle.table_schema.specs.KeyText.{key_text};
 ghost use Rattle.swss_report.specs.Escaped.{escaped};
-ghost use Rattle.swss_report.specs.Waiting.{ready_text, wait_text, waiting_line, waiting_text};
+ghost use Rattle.swss_report.specs.Waiting.{ready_text, wait_text, waiting_line, waiting_text, warm_line};
 
 use crate::counted::write_count;
 use crate::kinds::kind_name;
@@ -87,6 +87,18 @@ fn write_named(alloc: Global, out: &mut Vec<u8>, word: &[u8], key: &Key) -> Resu
 {
     out.extend_from_slice(word)?;
     write_key(alloc, out, key)
+}
+
+/// Appends the state that the round ended in: reconciled where the mark of a settling ended it, and unknown where that of a
+/// fault did. An Err may leave a part of it.
+pub(crate) fn write_warm(out: &mut Vec<u8>, waits: Option<&Waits>) -> Result<(), OutOfMemory>
+    ensures { OnOk result (out.new.items ≡ out.old.items ++ warm_line (option_copied waits.entry)) }
+{
+    out.extend_from_slice(match waits {
+        Some(_) => b"warm reconciled\n",
+        None => b"warm unknown\n",
+    })?;
+    Ok(())
 }
 
 /// Appends whether the round ended with the mark of a settling that lists no key. An Err may leave a part of it.

@@ -1,6 +1,6 @@
 -- what each producer sends in a round
 use Rattle.std.proofs.Common.{◌≡◌, ℕ, ◌+◌, ◌==◌, Bool, true, false, cond, ◌&&◌, ◌||◌, List, [], ◌∷◌, ◌++◌, map, count_by, refl, sym, ap, ap₂, ◌∙◌, arith, append_assoc}
-use Rattle.std.proofs.lemmas.Bool.{eq-eqb, eqb-true}
+use Rattle.std.proofs.lemmas.Bool.{and_parts, eq-eqb, eqb-true}
 use Rattle.std.proofs.lemmas.List.{append-nil}
 use Rattle.std.proofs.lemmas.List.Elements.{filter-append}
 use Rattle.std.proofs.lemmas.List.Folds.{list_all-append, list_any-append}
@@ -81,21 +81,17 @@ module _ (is_right : ℕ → Bool) where
   right-acts q [] right = refl
   right-acts q (w ∷ ws) right = ap₂ (λ a b. a && b) right (right-acts q ws right)
 
-  both-true : (a b : Bool) → (a && b) ≡ true → (a ≡ true) × (b ≡ true)
-  both-true true b h = (refl, h)
-  both-true false b h = cc
-
   right-writes : (sections : List Section) → list_all (λ (s : Section). is_right s.producer) sections ≡ true → list_all (λ (x : ℕ × Write). is_right x.0) (writes_in sections) ≡ true
   right-writes [] right = refl
   right-writes (s ∷ ss) right =
-      let both = both-true (is_right s.producer) (list_all (λ (s : Section). is_right s.producer) ss) right in
+      let both = and_parts (is_right s.producer) (list_all (λ (s : Section). is_right s.producer) ss) right in
       list_all-append (λ (x : ℕ × Write). is_right x.0) (map (λ w. (s.producer, w)) (acts_of s.acts)) (writes_in ss)
       ∙ ap₂ (λ a b. a && b) (right-acts s.producer (acts_of s.acts) both.0) (right-writes ss both.1)
 
   right-after : (sent : List Sent) (writes : List (ℕ × Write)) → list_all (λ (s : Sent). is_right s.from) sent ≡ true → list_all (λ (x : ℕ × Write). is_right x.0) writes ≡ true → list_all (λ (s : Sent). is_right s.from) (sent_after sent writes) ≡ true
   right-after sent [] before right = before
   right-after sent (next ∷ more) before right =
-      let both = both-true (is_right next.0) (list_all (λ (x : ℕ × Write). is_right x.0) more) right in
+      let both = and_parts (is_right next.0) (list_all (λ (x : ℕ × Write). is_right x.0) more) right in
       right-after (sent ++ next_sent sent next ∷ []) more (list_all-append (λ (s : Sent). is_right s.from) sent (next_sent sent next ∷ []) ∙ ap₂ (λ a b. a && (b && true)) before both.0) both.1
 
 -- the sections behind some are among all

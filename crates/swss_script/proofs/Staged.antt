@@ -1,17 +1,16 @@
 -- an accepted script has the forms of this stage alone
-use Rattle.std.proofs.Common.{◌≡◌, ℕ, ◌+◌, ◌<◌, ◌≤◌, nat_lt, Bool, true, false, cond, ◌&&◌, List, [], ◌∷◌, ◌++◌, length, map, Option, Some, None, Result, Ok, Err, refl, sym, ap, ap₂, ◌∙◌, subst, arith, length-append, bytes_eq, slice_index_or, slice_set, if◌then◌else◌}
-use Rattle.std.proofs.lemmas.Bool.{ltb-true}
-use Rattle.std.proofs.lemmas.List.Folds.{list_all-append}
-use Rattle.std.specs.List.{list_all, position}
+use Rattle.std.proofs.Common.{◌≡◌, ℕ, ◌+◌, ◌<◌, ◌≤◌, ◌==◌, nat_lt, Bool, true, false, cond, ◌&&◌, ◌||◌, List, [], ◌∷◌, ◌++◌, length, map, Option, Some, None, Result, Ok, Err, refl, sym, ap, ap₂, ◌∙◌, subst, arith, length-append, bytes_eq, slice_index_or, slice_set, if◌then◌else◌}
+use Rattle.std.proofs.lemmas.Bool.{eqb-false, ltb-true, ne_eqb, or_parts}
+use Rattle.std.proofs.lemmas.List.Folds.{list_all-append, list_any-append}
+use Rattle.std.specs.List.{list_all, list_any, position}
 use Rattle.table_schema.specs.Plan.{IsPlan, Ports, plan_step}
 use Rattle.table_schema.specs.declared.plan.PlanWhy.{PlanWhy}
-use Rattle.table_schema.specs.declared.write.Write.{Write}
 use Rattle.table_schema.proofs.Plans.{IsPlan-none, IsPlan-plan_step}
 use Rattle.sai_types.specs.Objects.{level}
 use Rattle.sai_types.specs.declared.kind.Kind.{Kind}
 use Rattle.swss_script.specs.Built.{is_built, is_built_show}
-use Rattle.swss_script.specs.Script.{new_draft, ended_in, in_head, in_section, producer_named, draft_round_ended, script_at, script_of, section_begun, settled, shown_in, with_capacity, draft_with_line, with_plan}
-use Rattle.swss_script.specs.Stage.{IsOfStage, is_built_act, is_built_round, is_built_section}
+use Rattle.swss_script.specs.Script.{new_draft, ended_in, in_head, in_section, producer_named, draft_round_ended, script_at, script_of, section_begun, settled, shown_in, with_capacity, with_fail, draft_with_line, with_plan}
+use Rattle.swss_script.specs.Stage.{IsOfStage, NameEachOnce, is_built_round}
 use Rattle.swss_script.specs.declared.draft.Draft.{Draft}
 use Rattle.swss_script.specs.declared.draft.Place.{Place}
 use Rattle.swss_script.specs.declared.draft.Place.TheVariants as place
@@ -21,6 +20,7 @@ use Rattle.swss_script.specs.declared.line.Line.{Line}
 use Rattle.swss_script.specs.declared.line.Line.TheVariants.{Blank, Head, Producer, Put, Batch, Block, Restart, Settle, Shown, Other}
 use Rattle.swss_script.specs.declared.parts.Act.{Act}
 use Rattle.swss_script.specs.declared.parts.Act.TheVariants as act
+use Rattle.swss_script.specs.declared.parts.Fail2.{Fail2}
 use Rattle.swss_script.specs.declared.parts.Show.{Show}
 use Rattle.swss_script.specs.declared.refused.Why.TheVariants as why
 use Rattle.swss_script.specs.declared.script.Script.{Script}
@@ -30,7 +30,7 @@ use Rattle.swss_script.proofs.Steps.{same-ok, with_producer}
 
 -- the script of a draft, with the rounds that ended
 record IsBuiltScript (script : Script) : Type 0 where
-  fails : script.fails ≡ []
+  fails : NameEachOnce script.fails
   image : script.image ≡ []
   plan : IsPlan script.plan
   producers : length script.producers ≤ 4
@@ -38,8 +38,6 @@ record IsBuiltScript (script : Script) : Type 0 where
 
 record IsStaged (d : Draft) : Type 0 where
   script : IsBuiltScript d.script
-  sections : list_all is_built_section d.sections ≡ true
-  acts : list_all is_built_act d.acts ≡ true
   shows : list_all is_built_show d.shows ≡ true
 
 all-more : {X : Type 0} (test : X → Bool) (xs ys : List X) → list_all test xs ≡ true → list_all test ys ≡ true → list_all test (xs ++ ys) ≡ true
@@ -47,6 +45,14 @@ all-more test xs ys first last = list_all-append test xs ys ∙ ap₂ (λ a b. a
 
 all-last : {X : Type 0} (test : X → Bool) (xs : List X) (x : X) → list_all test xs ≡ true → test x ≡ true → list_all test (xs ++ x ∷ []) ≡ true
 all-last test xs x first last = all-more test xs (x ∷ []) first (ap (λ b. b && true) last)
+
+-- a failing call more, with a number of its own
+once-last : (fails : List Fail2) (fail : Fail2) → list_any (λ other. other.at == fail.at) fails ≡ false → NameEachOnce fails → NameEachOnce (fails ++ fail ∷ [])
+once-last [] fail new once = (refl, tt)
+once-last (first ∷ fails) fail new once =
+    let both = or_parts (first.at == fail.at) (list_any (λ other. other.at == fail.at) fails) new in
+    let apart : list_any (λ other. other.at == first.at) (fails ++ fail ∷ []) ≡ false = list_any-append (λ other. other.at == first.at) fails (fail ∷ []) ∙ ap₂ (λ a b. a || (b || false)) once.0 (ne_eqb fail.at first.at (λ same. eqb-false first.at fail.at both.0 (sym same))) in
+    (apart, once-last fails fail both.1 once.1)
 
 -- ---- what ends
 
@@ -58,15 +64,14 @@ staged-round d h =
       image = s.image;
       plan = s.plan;
       producers = s.producers;
-      rounds = all-last is_built_round d.script.rounds (record { sections = d.sections; shows = d.shows }) s.rounds (ap₂ (λ a b. a && b) h.sections h.shows);
+      rounds = all-last is_built_round d.script.rounds (record { sections = d.sections; shows = d.shows }) s.rounds (h.shows);
     }
 
 -- what is open ends, and another place is next
 staged-ended : (p next : Place) (d : Draft) → IsStaged d → IsStaged (record (ended_in p d) { place = next })
-staged-ended place.Head next d h = record { script = h.script; sections = h.sections; acts = h.acts; shows = h.shows }
-staged-ended (place.Section producer) next d h =
-    record { script = h.script; sections = all-last is_built_section d.sections (record { producer = producer; acts = d.acts }) h.sections h.acts; acts = refl; shows = h.shows }
-staged-ended place.Settled next d h = record { script = staged-round d h; sections = refl; acts = h.acts; shows = refl }
+staged-ended place.Head next d h = record { script = h.script; shows = h.shows }
+staged-ended (place.Section producer) next d h = record { script = h.script; shows = h.shows }
+staged-ended place.Settled next d h = record { script = staged-round d h; shows = refl }
 
 -- ---- one line
 
@@ -74,7 +79,7 @@ staged-plan : (d e : Draft) (text : List ℕ) (plan : Result Ports PlanWhy) → 
 staged-plan d e text (Ok plan) is k h =
     let s = h.script in
     let more : IsBuiltScript (record d.script { plan = plan }) = record { fails = s.fails; image = s.image; plan = IsPlan-plan_step d.script.plan plan text s.plan is; producers = s.producers; rounds = s.rounds } in
-    subst IsStaged (same-ok (record d { script = record d.script { plan = plan } }) e k) (record { script = more; sections = h.sections; acts = h.acts; shows = h.shows })
+    subst IsStaged (same-ok (record d { script = record d.script { plan = plan } }) e k) (record { script = more; shows = h.shows })
 staged-plan d e text (Err fault) is k h = cc
 
 -- a capacity of the head
@@ -89,26 +94,39 @@ staged-capacity d e kind most k h = by (slice_index_or d.kinds (level kind) fals
     by false k =
         let s = h.script in
         let more : IsBuiltScript room.script = record { fails = s.fails; image = s.image; plan = s.plan; producers = s.producers; rounds = s.rounds } in
-        subst IsStaged (same-ok room e k) (record { script = more; sections = h.sections; acts = h.acts; shows = h.shows })
+        subst IsStaged (same-ok room e k) (record { script = more; shows = h.shows })
+
+-- a failing call of the head
+staged-fail : (d e : Draft) (fail : Fail2) → with_fail d fail ≡ Ok e → IsStaged d → IsStaged e
+staged-fail d e fail k h = by (list_any (λ other. other.at == fail.at) d.script.fails) refl k
+  where
+    more : Draft
+    more = record d { script = record d.script { fails = d.script.fails ++ fail ∷ [] } }
+
+    by : (twice : Bool) → list_any (λ other. other.at == fail.at) d.script.fails ≡ twice → (if twice then Err why.HeadTwice else Ok more) ≡ Ok e → IsStaged e
+    by true is k = cc
+    by false is k =
+        let s = h.script in
+        let producer_named : IsBuiltScript more.script = record { fails = once-last d.script.fails fail is s.fails; image = s.image; plan = s.plan; producers = s.producers; rounds = s.rounds } in
+        subst IsStaged (same-ok more e k) (record { script = producer_named; shows = h.shows })
 
 staged-head : (p : Place) (d e : Draft) (line : Option HeadLine) → is_built (Head line) ≡ true → in_head p d line ≡ Ok e → IsStaged d → IsStaged e
 staged-head place.Head d e (Some (head.Port text)) built k h = staged-plan d e text (plan_step d.script.plan text) refl k h
 staged-head place.Head d e (Some (head.Chip kind most)) built k h = staged-capacity d e kind most k h
-staged-head place.Head d e (Some (head.Fail fail)) built k h = cc
+staged-head place.Head d e (Some (head.Fail fail)) built k h = staged-fail d e fail k h
 staged-head place.Head d e (Some (head.Image fault)) built k h = cc
 staged-head place.Head d e None built k h = cc
 staged-head (place.Section producer) d e line built k h = cc
 staged-head place.Settled d e line built k h = cc
 
-staged-acts : (p : Place) (d e : Draft) (acts : List Act) → list_all is_built_act acts ≡ true → in_section p d acts ≡ Ok e → IsStaged d → IsStaged e
-staged-acts (place.Section producer) d e acts built k h =
-    subst IsStaged (same-ok (record d { acts = d.acts ++ acts }) e k) (record { script = h.script; sections = h.sections; acts = all-more is_built_act d.acts acts h.acts built; shows = h.shows })
-staged-acts place.Head d e acts built k h = cc
-staged-acts place.Settled d e acts built k h = cc
+staged-acts : (p : Place) (d e : Draft) (acts : List Act) → in_section p d acts ≡ Ok e → IsStaged d → IsStaged e
+staged-acts (place.Section producer) d e acts k h = subst IsStaged (same-ok (record d { acts = d.acts ++ acts }) e k) (record { script = h.script; shows = h.shows })
+staged-acts place.Head d e acts k h = cc
+staged-acts place.Settled d e acts k h = cc
 
 staged-shown : (p : Place) (d e : Draft) (what : Show) → is_built_show what ≡ true → shown_in p d what ≡ Ok e → IsStaged d → IsStaged e
 staged-shown place.Settled d e what built k h =
-    subst IsStaged (same-ok (record d { shows = d.shows ++ what ∷ [] }) e k) (record { script = h.script; sections = h.sections; acts = h.acts; shows = all-last is_built_show d.shows what h.shows built })
+    subst IsStaged (same-ok (record d { shows = d.shows ++ what ∷ [] }) e k) (record { script = h.script; shows = all-last is_built_show d.shows what h.shows built })
 staged-shown place.Head d e what built k h = cc
 staged-shown (place.Section producer) d e what built k h = cc
 
@@ -117,7 +135,7 @@ staged-new d name fits h =
     let s = h.script in
     let few : length (d.script.producers ++ name ∷ []) ≤ 4 = omega (arith, fits, length-append d.script.producers (name ∷ [])) in
     let more : IsBuiltScript (with_producer d name).script = record { fails = s.fails; image = s.image; plan = s.plan; producers = few; rounds = s.rounds } in
-    record { script = more; sections = h.sections; acts = h.acts; shows = h.shows }
+    record { script = more; shows = h.shows }
 
 staged-first : (d e : Draft) (name : List ℕ) (fits : Bool) → nat_lt (length d.script.producers) 4 ≡ fits → cond fits (Ok (section_begun (with_producer d name) (length d.script.producers + 1))) (Err why.TooManyProducers) ≡ Ok e → IsStaged d → IsStaged e
 staged-first d e name true is k h =
@@ -128,20 +146,15 @@ staged-named : (d e : Draft) (name : List ℕ) (at : Option ℕ) → producer_na
 staged-named d e name (Some at) k h = subst IsStaged (same-ok _ _ k) (staged-ended d.place (place.Section (at + 1)) d h)
 staged-named d e name None k h = staged-first d e name (nat_lt (length d.script.producers) 4) refl k h
 
--- writes are acts that the service has
-writes-built : (writes : List Write) → list_all is_built_act (map act.Write writes) ≡ true
-writes-built [] = refl
-writes-built (write ∷ writes) = writes-built writes
-
 staged-line : (d e : Draft) (line : Line) → is_built line ≡ true → draft_with_line d line ≡ Ok e → IsStaged d → IsStaged e
 staged-line d e Blank built k h = subst IsStaged (same-ok _ _ k) h
 staged-line d e (Head line) built k h = staged-head d.place d e line built k h
 staged-line d e (Producer name) built k h = staged-named d e name (position (bytes_eq name) d.script.producers) k h
-staged-line d e (Put write) built k h = staged-acts d.place d e (act.Write write ∷ []) refl k h
-staged-line d e (Batch (Some writes)) built k h = staged-acts d.place d e (map act.Write writes) (writes-built writes) k h
+staged-line d e (Put write) built k h = staged-acts d.place d e (act.Write write ∷ []) k h
+staged-line d e (Batch (Some writes)) built k h = staged-acts d.place d e (map act.Write writes) k h
 staged-line d e (Batch None) built k h = cc
 staged-line d e Block built k h = cc
-staged-line d e Restart built k h = cc
+staged-line d e Restart built k h = staged-acts d.place d e (act.Restart ∷ []) k h
 staged-line d e Settle built k h = subst IsStaged (same-ok _ _ k) (staged-ended d.place place.Settled d h)
 staged-line d e (Shown what) built k h = staged-shown d.place d e what built k h
 staged-line d e Other built k h = cc
@@ -162,8 +175,8 @@ done-at (place.Section producer) d is h = done-round (settled d) (staged-ended d
 
 done-script : (bytes : List ℕ) (script : Script) → script_of bytes ≡ Ok script → IsDone script
 done-script bytes script h =
-    let empty : IsBuiltScript new_draft.script = record { fails = refl; image = refl; plan = IsPlan-none; producers = omega arith; rounds = refl } in
-    kept-script IsStaged staged-line (λ d block s. record { script = s.script; sections = s.sections; acts = s.acts; shows = s.shows }) IsDone (λ d s. done-at d.place d refl s) bytes script (record { script = empty; sections = refl; acts = refl; shows = refl }) h
+    let empty : IsBuiltScript new_draft.script = record { fails = tt; image = refl; plan = IsPlan-none; producers = omega arith; rounds = refl } in
+    kept-script IsStaged staged-line (λ d block s. record { script = s.script; shows = s.shows }) IsDone (λ d s. done-at d.place d refl s) bytes script (record { script = empty; shows = refl }) h
 
 -- what an accepted script of this stage has
 pub stage-of_script : (bytes : List ℕ) (script : Script) → script_of bytes ≡ Ok script → IsOfStage script

@@ -93,6 +93,12 @@ acts_of [] = []
 acts_of (act.Write write ∷ acts) = write ∷ acts_of acts
 acts_of (act.Restart ∷ acts) = acts_of acts
 
+-- how many of the acts are restarts
+abbrev pub restarts_of : List Act → ℕ
+restarts_of [] = 0
+restarts_of (act.Write write ∷ acts) = restarts_of acts
+restarts_of (act.Restart ∷ acts) = 1 + restarts_of acts
+
 abbrev pub sections_by : ℕ → List Section → List Write
 sections_by producer [] = []
 sections_by producer (section ∷ sections) = (if section.producer == producer then acts_of section.acts else []) ++ sections_by producer sections

@@ -3,7 +3,7 @@ use Rattle.std.specs.Prelude.{ℕ, ◌+◌, ◌==◌, Bool, List, [], ◌∷◌,
 use Rattle.std.specs.List.{list_any}
 use Rattle.table_schema.specs.declared.write.Sent.{Sent}
 use Rattle.table_schema.specs.declared.write.Write.{Write}
-use Rattle.swss_script.specs.Sections.{acts_of}
+use Rattle.swss_script.specs.Sections.{acts_of, restarts_of}
 use Rattle.swss_script.specs.declared.parts.Round.{Round}
 use Rattle.swss_script.specs.declared.parts.Section.{Section}
 
@@ -11,6 +11,11 @@ use Rattle.swss_script.specs.declared.parts.Section.{Section}
 abbrev pub writes_in : List Section → List (ℕ × Write)
 writes_in [] = []
 writes_in (section ∷ sections) = map (λ w. (section.producer, w)) (acts_of section.acts) ++ writes_in sections
+
+-- how many restarts sections have
+abbrev pub restarts_in : List Section → ℕ
+restarts_in [] = 0
+restarts_in (section ∷ sections) = restarts_of section.acts + restarts_in sections
 
 -- the next write of a producer: its number is how many the producer sent before
 abbrev pub next_sent : List Sent → ℕ × Write → Sent

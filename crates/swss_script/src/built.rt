@@ -11,7 +11,6 @@ pub fn is_built(line: &Line) -> bool
 {
     match line {
         Line::Head(Some(line)) => is_built_head(line),
-        Line::Restart => false,
         Line::Shown(show) => is_built_show(*show),
         _ => true,
     }
@@ -22,8 +21,8 @@ fn is_built_head(line: &HeadLine) -> bool
     ensures { result ≡ is_built_head line.now }
 {
     match line {
-        HeadLine::Fail(_) | HeadLine::Image(_) => false,
-        HeadLine::Port(_) | HeadLine::Chip(_, _) => true,
+        HeadLine::Image(_) => false,
+        HeadLine::Port(_) | HeadLine::Chip(_, _) | HeadLine::Fail(_) => true,
     }
 }
 
@@ -31,5 +30,5 @@ fn is_built_head(line: &HeadLine) -> bool
 fn is_built_show(show: Show) -> bool
     ensures { result ≡ is_built_show show }
 {
-    !matches!(show, Show::Warm | Show::Image)
+    !matches!(show, Show::Image)
 }

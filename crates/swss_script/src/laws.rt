@@ -20,8 +20,8 @@ pub fn script_has_the_writes_of_its_lines()
     ensures each { (bytes : List ℕ) (script : Script) (round producer : ℕ) → script_of bytes ≡ Ok script → 0 < producer → producer ≤ length script.producers → sections_of script round producer ≡ writes_of round (producer_name script.producers producer) (text_writes bytes) }
 {}
 
-/// A script that is accepted has the forms of this stage alone: no failing call, no image and no restart, and only shows that
-/// the service has. Each of its sections is of one of its producers, at most 4, and it has at least one round.
+/// A script that is accepted has the forms of this stage alone: no image, and only shows that the service has. Each failing call
+/// is named once. Each of its sections is of one of its producers, at most 4, and it has at least one round.
 pub fn script_is_of_this_stage()
     ensures { (bytes : List ℕ) (script : Script) → script_of bytes ≡ Ok script → IsOfStage script }
 {}

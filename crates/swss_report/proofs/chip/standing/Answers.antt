@@ -2,7 +2,7 @@ use Rattle.std.proofs.Common.{◌≡◌, ap, ◌∙◌, subst}
 use Rattle.std.specs.List.Sorted.{IsPermutation}
 use Rattle.sai_types.specs.Named.{named, those}
 use Rattle.sai_chip.specs.Naming.{entries_of}
-use Rattle.swss_report.proofs.Objects.{entries_of-objects_of}
+use Rattle.sai_chip.proofs.SameNames.{entries_of-objects_of}
 use Rattle.swss_report.proofs.chip.standing.Goals as goal
 
 pub returns : goal.returns

@@ -1,11 +1,11 @@
 use Rattle.std.proofs.Common.{Some, None, cond, sym, ap, ◌∙◌}
 use Rattle.std.specs.Str.{is_utf8}
 use Rattle.std.proofs.lemmas.Str.{IsUtf8-from_is_utf8, is_utf8-from_IsUtf8}
-use Rattle.swss_script.proofs.Joins.{untrue}
+use Rattle.std.proofs.lemmas.Bool.{false_from_ne_true}
 use Rattle.swss_script.proofs.lines.as_text.Goals as goal
 
 pub returns-in-Ok : goal.returns-in-Ok
 returns-in-Ok c = ap Some c.in-Ok.ensures.cases.0 ∙ sym (ap (λ b. cond b (Some c.args.bytes.now) None) (is_utf8-from_IsUtf8 c.args.bytes.now c.in-Ok.ensures.cases.1))
 
 pub returns-in-Err : goal.returns-in-Err
-returns-in-Err c = sym (ap (λ b. cond b (Some c.args.bytes.now) None) (untrue (is_utf8 c.args.bytes.now) (λ h. c.in-Err.ensures.cases.0 (IsUtf8-from_is_utf8 c.args.bytes.now h))))
+returns-in-Err c = sym (ap (λ b. cond b (Some c.args.bytes.now) None) (false_from_ne_true (is_utf8 c.args.bytes.now) (λ h. c.in-Err.ensures.cases.0 (IsUtf8-from_is_utf8 c.args.bytes.now h))))
