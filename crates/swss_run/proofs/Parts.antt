@@ -1,108 +1,67 @@
--- taking the writes of a round, part by part
-use Rattle.std.proofs.Common.{◌≡◌, ℕ, List, [], ◌∷◌, ◌++◌, refl, sym, ap, ◌∙◌, subst}
+-- making the acts of a round, part by part
+use Rattle.std.proofs.Common.{◌≡◌, ℕ, List, [], ◌∷◌, ◌++◌, Option, refl, sym, ap, ◌∙◌, subst}
 use Rattle.std.proofs.lemmas.List.{append_assoc, append-nil}
 use Rattle.table_schema.specs.declared.write.Sent.{Sent}
-use Rattle.table_schema.specs.declared.write.Write.{Write}
 use Rattle.session_laws.specs.Core.{CoreState}
-use Rattle.swss_script.specs.Sent.{next_sent, sent_after}
-use Rattle.swss_run.specs.Taking.{AreCounted, Counts, IsTook, with_all}
+use Rattle.swss_script.specs.declared.parts.Act.{Act}
+use Rattle.swss_run.specs.Taking.{AreCounted, Counts, IsMade, acts_made, writes_among, with_made}
 use Rattle.swss_run.specs.declared.taking.Taken.{Taken}
 use Rattle.swss_run.specs.declared.taking.Taken.TheVariants as taken
-use Rattle.swss_run.proofs.Tables.{all-append}
+use Rattle.swss_run.proofs.Acts.{made-append, sent_of-append, with_made-append}
 
--- ---- what was sent
-
-pub sent-append : (before : List Sent) (xs ys : List (ℕ × Write)) → sent_after before (xs ++ ys) ≡ sent_after (sent_after before xs) ys
-sent-append before [] ys = refl
-sent-append before (x ∷ xs) ys = sent-append (before ++ next_sent before x ∷ []) xs ys
-
-sent-grows : (before : List Sent) (xs : List (ℕ × Write)) → (more : List Sent) × (sent_after before xs ≡ before ++ more)
-sent-grows before [] = ([], sym (append-nil before))
-sent-grows before (x ∷ xs) =
-    let one = next_sent before x in
-    let rest = sent-grows (before ++ one ∷ []) xs in
-    (one ∷ rest.0, rest.1 ∙ append_assoc before (one ∷ []) rest.0)
-
--- a core that took some and then more
-took-more : (a b : List Sent) (old mid new : CoreState) → mid ≡ with_all old a → new ≡ with_all mid b → new ≡ with_all old (a ++ b)
-took-more a b old mid new first next = next ∙ ap (λ c. with_all c b) first ∙ sym (all-append old a b)
-
--- ---- parts of a round
-
--- the first writes of these were taken, and these are left
-pub record IsTakingWrites (effects : ℕ) (before : List Sent) (all rest : List (ℕ × Write)) (old mid : CoreState) (counts : Counts) : Type 0 where
-  pub done : List (ℕ × Write)
+-- the first of these acts were made, and these are left
+pub record IsMakingActs (effects : ℕ) (before : List Sent) (all rest : List (ℕ × Act)) (old mid : CoreState) (counts : Counts) : Type 0 where
+  pub done : List (ℕ × Act)
   pub all_are : all ≡ done ++ rest
-  pub took : IsTook effects before done old taken.All mid counts
+  pub made : IsMade effects before done old taken.All mid counts
 
 module _ (effects : ℕ) (before : List Sent) (old : CoreState) where
-  pub taking-none : (all : List (ℕ × Write)) (counts : Counts) → AreCounted counts before → IsTakingWrites effects before all all old old counts
-  taking-none all counts counted = record {
-    done = [];
-    all_are = refl;
-    took = ([], sym (append-nil before), refl, subst (AreCounted counts) (sym (append-nil before)) counted);
-  }
+  pub making-none : (all : List (ℕ × Act)) (counts : Counts) → AreCounted counts before → IsMakingActs effects before all all old old counts
+  making-none all counts counted = record { done = []; all_are = refl; made = (refl, subst (AreCounted counts) (sym (append-nil before)) counted) }
 
-  module _ (all part rest : List (ℕ × Write)) (mid : CoreState) (counts : Counts) (taking : IsTakingWrites effects before all (part ++ rest) old mid counts) (new : CoreState) (counts' : Counts) where
-    abbrev sent : List Sent
-    sent = taking.took.0
+  module _ (all part rest : List (ℕ × Act)) (mid : CoreState) (counts : Counts) (making : IsMakingActs effects before all (part ++ rest) old mid counts) (new : CoreState) (counts' : Counts) where
+    abbrev so_far : List (Option Sent)
+    so_far = acts_made before making.done
 
-    all-parts : sent_after before all ≡ sent_after (sent_after (before ++ sent) part) rest
-    all-parts =
-        ap (λ l. sent_after before l) taking.all_are
-        ∙ sent-append before taking.done (part ++ rest)
-        ∙ ap (λ s. sent_after s (part ++ rest)) taking.took.1
-        ∙ sent-append (before ++ sent) part rest
+    -- what was sent before the part
+    abbrev pub sent_so_far : List Sent
+    sent_so_far = before ++ writes_among so_far
 
-    -- all that comes of the parts, where this one gives these
-    all-gives : (given : List Sent) → sent_after (before ++ sent) part ≡ (before ++ sent) ++ given → (more : List Sent) × (sent_after before all ≡ before ++ (sent ++ (given ++ more)))
-    all-gives given gives =
-        let rest_gives = sent-grows ((before ++ sent) ++ given) rest in (
-          rest_gives.0,
-          all-parts
-              ∙ ap (λ s. sent_after s rest) gives
-              ∙ rest_gives.1
-              ∙ append_assoc (before ++ sent) given rest_gives.0
-              ∙ append_assoc before sent (given ++ rest_gives.0),
-        )
+    parts : (done : List (ℕ × Act)) → acts_made before (making.done ++ done) ≡ so_far ++ acts_made sent_so_far done
+    parts done = made-append before making.done done
 
-    pub taking-part : IsTook effects (before ++ sent) part mid taken.All new counts' → IsTakingWrites effects before all rest old new counts'
-    taking-part (given, gives, took, counted) = record {
-      done = taking.done ++ part;
-      all_are = taking.all_are ∙ sym (append_assoc taking.done part rest);
-      took = (
-        sent ++ given,
-        sent-append before taking.done part ∙ ap (λ s. sent_after s part) taking.took.1 ∙ gives ∙ append_assoc before sent given,
-        took-more sent given old mid new taking.took.2 took,
-        subst (AreCounted counts') (append_assoc before sent given) counted,
-      );
+    -- a core that made so many of the part, and so all before them
+    core-is : (done : List (ℕ × Act)) → new ≡ with_made effects mid (acts_made sent_so_far done) → new ≡ with_made effects old (acts_made before (making.done ++ done))
+    core-is done is =
+        is ∙ ap (λ c. with_made effects c (acts_made sent_so_far done)) making.made.0 ∙ sym (with_made-append effects old so_far (acts_made sent_so_far done)) ∙ ap (with_made effects old) (sym (parts done))
+
+    pub making-part : IsMade effects sent_so_far part mid taken.All new counts' → IsMakingActs effects before all rest old new counts'
+    making-part (is, counted) = record {
+      done = making.done ++ part;
+      all_are = making.all_are ∙ sym (append_assoc making.done part rest);
+      made = (core-is part is, subst (AreCounted counts') counted-so counted);
     }
+      where
+        counted-so : sent_so_far ++ writes_among (acts_made sent_so_far part) ≡ before ++ writes_among (acts_made before (making.done ++ part))
+        counted-so =
+            append_assoc before (writes_among so_far) (writes_among (acts_made sent_so_far part))
+            ∙ ap (λ l. before ++ l) (sym (sent_of-append so_far (acts_made sent_so_far part)))
+            ∙ ap (λ l. before ++ writes_among l) (sym (parts part))
 
-    pub taking-full : IsTook effects (before ++ sent) part mid taken.LogFull new counts' → IsTook effects before all old taken.LogFull new counts'
-    taking-full (given, next, later, gives, took, full) =
-        let whole = all-gives (given ++ next ∷ later) gives in (
-          sent ++ given,
-          next,
-          later ++ whole.0,
-          whole.1 ∙ ap (λ l. before ++ l) (ap (λ l. sent ++ l) (append_assoc given (next ∷ later) whole.0) ∙ sym (append_assoc sent given (next ∷ later ++ whole.0))),
-          took-more sent given old mid new taking.took.2 took,
-          full,
-        )
+    all-parts : (done more : List (ℕ × Act)) → part ≡ done ++ more → all ≡ (making.done ++ done) ++ (more ++ rest)
+    all-parts done more is = making.all_are ∙ ap (λ l. making.done ++ l) (ap (λ l. l ++ rest) is ∙ append_assoc done more rest) ∙ sym (append_assoc making.done done (more ++ rest))
 
-    pub taking-wanting : IsTook effects (before ++ sent) part mid taken.NoMemory new counts' → IsTook effects before all old taken.NoMemory new counts'
-    taking-wanting (given, later, gives, took) =
-        let whole = all-gives (given ++ later) gives in (
-          sent ++ given,
-          later ++ whole.0,
-          whole.1 ∙ ap (λ l. before ++ l) (ap (λ l. sent ++ l) (append_assoc given later whole.0) ∙ sym (append_assoc sent given (later ++ whole.0))),
-          took-more sent given old mid new taking.took.2 took,
-        )
+    making-full : IsMade effects sent_so_far part mid taken.LogFull new counts' → IsMade effects before all old taken.LogFull new counts'
+    making-full (done, next, later, split, is, full) = (making.done ++ done, next, later ++ rest, all-parts done (next ∷ later) split, core-is done is, full)
 
-  pub taking-all : (all : List (ℕ × Write)) (mid : CoreState) (counts : Counts) → IsTakingWrites effects before all [] old mid counts → IsTook effects before all old taken.All mid counts
-  taking-all all mid counts taking = subst (λ l. IsTook effects before l old taken.All mid counts) (sym (taking.all_are ∙ append-nil taking.done)) taking.took
+    making-wanting : IsMade effects sent_so_far part mid taken.NoMemory new counts' → IsMade effects before all old taken.NoMemory new counts'
+    making-wanting (done, later, split, is) = (making.done ++ done, later ++ rest, all-parts done later split, core-is done is)
 
--- a part after which no more is taken
-pub taking-ended : (effects : ℕ) (before : List Sent) (old : CoreState) (all part rest : List (ℕ × Write)) (mid : CoreState) (counts : Counts) (taking : IsTakingWrites effects before all (part ++ rest) old mid counts) (new : CoreState) (counts' : Counts) (r : Taken) → (r ≡ taken.All → ⊥) → IsTook effects (before ++ taking.took.0) part mid r new counts' → IsTook effects before all old r new counts'
-taking-ended effects before old all part rest mid counts taking new counts' taken.All other took = absurd (other refl)
-taking-ended effects before old all part rest mid counts taking new counts' taken.LogFull other took = taking-full effects before old all part rest mid counts taking new counts' took
-taking-ended effects before old all part rest mid counts taking new counts' taken.NoMemory other took = taking-wanting effects before old all part rest mid counts taking new counts' took
+    -- a part after which no more is made
+    pub making-ended : (r : Taken) → (r ≡ taken.All → ⊥) → IsMade effects sent_so_far part mid r new counts' → IsMade effects before all old r new counts'
+    making-ended taken.All other made = absurd (other refl)
+    making-ended taken.LogFull other made = making-full made
+    making-ended taken.NoMemory other made = making-wanting made
+
+  pub making-all : (all : List (ℕ × Act)) (mid : CoreState) (counts : Counts) → IsMakingActs effects before all [] old mid counts → IsMade effects before all old taken.All mid counts
+  making-all all mid counts making = subst (λ l. IsMade effects before l old taken.All mid counts) (sym (making.all_are ∙ append-nil making.done)) making.made

@@ -1,10 +1,10 @@
--- what a round comes to, from its takes and its settling
-use Rattle.std.proofs.Common.{◌≡◌, inl, inr, ℕ, ◌+◌, ◌-◌, ◌<◌, ◌≤◌, true, false, List, [], ◌∷◌, ◌++◌, length, drop, None, Option, Result, Ok, Err, refl, sym, ap, ◌∙◌, subst, arith}
+-- what a round comes to, from its acts and its settling
+use Rattle.std.proofs.Common.{◌≡◌, ◌⊎◌, inl, inr, ℕ, ◌+◌, ◌-◌, ◌<◌, ◌≤◌, true, List, [], ◌∷◌, ◌++◌, length, drop, Option, Result, Ok, Err, refl, sym, ap, ◌∙◌, subst, arith}
 use Rattle.std.proofs.Math.Seq.{drop-append_seam}
 use Rattle.std.proofs.lemmas.List.{append-nil, length-append}
 use Rattle.swss_types.specs.declared.out_of_memory.OutOfMemory.{OutOfMemory}
 use Rattle.table_schema.specs.Plan.{Ports}
-use Rattle.table_schema.specs.Rows.{HasRisingRows, Rows, rows_of}
+use Rattle.table_schema.specs.Rows.{Rows, rows_of}
 use Rattle.table_schema.specs.declared.write.Sent.{Sent}
 use Rattle.sai_types.specs.After.{chip_after}
 use Rattle.sai_types.specs.ChipState.{ChipState}
@@ -14,113 +14,74 @@ use Rattle.sai_types.specs.declared.body.Call.{Call}
 use Rattle.sai_chip.specs.Replay.{IsReplayOf, Replayed}
 use Rattle.sai_chip.proofs.Replays.{IsReplayOf-append}
 use Rattle.sai_chip.specs.Sim.{Sim}
-use Rattle.switch_model.specs.History.{History, log_size, size_listing, with_end, with_mark}
+use Rattle.switch_model.specs.History.{History, log_size, with_end, with_mark}
 use Rattle.switch_model.specs.Marks.{sent_writes}
-use Rattle.switch_model.specs.Sound.{is_fault, is_suspect}
 use Rattle.switch_model.specs.declared.mark.Mark.{Mark}
-use Rattle.switch_model.specs.declared.mark.MarkEvent.TheVariants as event
-use Rattle.machine_laws.specs.Order.{IsSettledMark}
-use Rattle.flight_board.specs.Board.{BoardState, flown_at}
+use Rattle.machine_laws.specs.Order.{MayEndRound}
+use Rattle.producer_table.specs.Pending.{ArePendingInOrder}
+use Rattle.flight_board.specs.Board.{BoardState}
 use Rattle.restart_laws.specs.Logged.{LoggedService}
-use Rattle.switch_machine.specs.Next.{MustWait}
-use Rattle.switch_machine.proofs.Needing.{listed_more}
 use Rattle.syncd_core.specs.Synced.{SyncState}
 use Rattle.warm_state.specs.declared.warm.Warm.TheVariants as warm
-use Rattle.session_laws.specs.Core.{CoreState, mark_at, size_beside}
+use Rattle.session_laws.specs.Core.{CoreState, IsFullFor}
 use Rattle.restart_session_laws.specs.Events.{MakesMore}
-use Rattle.round_laws.specs.Between.{IsBetweenRounds, IsInRound, round_from}
-use Rattle.round_laws.specs.Named.{keys_named}
+use Rattle.restart_session_laws.specs.Standing.{IsServiceOf}
+use Rattle.round_laws.specs.Between.{IsInRound, round_from}
 use Rattle.round_laws.specs.Sessions.{InSession}
-use Rattle.round_laws.proofs.Awaited.{call-awaited, keys-awaited, ops-few}
 use Rattle.round_laws.proofs.Between.{round-begins}
 use Rattle.round_laws.proofs.Drained.{round-drained}
 use Rattle.round_laws.proofs.Ending.{round-ends}
 use Rattle.round_laws.proofs.Growing.{effects-grow, marks-grow}
-use Rattle.round_laws.proofs.Sessions.{known-then, leads-on, objects-left, sized, some-on}
-use Rattle.round_laws.proofs.ToSync.{not_suspect}
-use Rattle.orch_core.specs.Outcomes.{KeepsChip}
-use Rattle.orch_core.specs.Settled.{Settles, SettlesWhole, StopsAtMark, StopsFaulted, StopsFull}
-use Rattle.orch_core.proofs.Serving.{settling_serves}
+use Rattle.round_laws.proofs.Sessions.{objects-left, sized, warm-after}
+use Rattle.orch_core.specs.ComingBack.{Back, SettlesFrom, Stopped, is_unrestored, restarts_due, restarts_marked}
+use Rattle.orch_core.specs.Settled.{Settles, SettlesWhole}
 use Rattle.orch_core.specs.declared.answer.Settled.{Settled}
 use Rattle.orch_core.specs.declared.answer.Settled.TheVariants as settled
-use Rattle.swss_script.specs.Sent.{sent_after, sent_in_round, writes_in}
+use Rattle.orch_core.proofs.Coming.{settles_as_ever}
+use Rattle.orch_core.proofs.Serving.{settle_serves}
+use Rattle.swss_script.specs.Sent.{next_sent, restarts_in, sent_in_round, writes_in}
+use Rattle.swss_script.specs.declared.parts.Act.{Act}
+use Rattle.swss_script.specs.declared.parts.Act.TheVariants as act
 use Rattle.swss_script.specs.declared.parts.Round.{Round}
 use Rattle.swss_script.specs.declared.parts.Show.{Show}
 use Rattle.swss_report.specs.Ended.{Ended}
 use Rattle.swss_report.specs.Round.{IsRoundText}
+use Rattle.swss_run.specs.Faults.{FaultsRise}
 use Rattle.swss_run.specs.Full.{IsFull}
-use Rattle.swss_run.specs.Full.IsFull.{AtWrite, AtCall, AtMark}
-use Rattle.swss_run.specs.Rounds.{Ran, is_settling}
-use Rattle.swss_run.specs.Running.{EndsRound, HasLines, IsRunReady, IsRoundRun, IsWritten, KeepsPlan, StopsRound, round_ended, with_round}
+use Rattle.swss_run.specs.Full.IsFull.{AtRestart, AtWrite}
+use Rattle.swss_run.specs.Rounds.{Ran}
+use Rattle.swss_run.specs.Running.{HasCome, HasLines, IsRunReady, IsRoundRun, IsWritten, KeepsPlan, StopsRound, round_ended}
 use Rattle.swss_run.specs.Running.IsWritten.{Whole, Failed, Wanting, Unwritten}
-use Rattle.swss_run.specs.Taking.{Counts, HaveReadKeys, IsRoundTook, with_all}
+use Rattle.swss_run.specs.Taking.{HaveReadKeys, IsRoundMade, acts_in, acts_made, restarts_made, writes_among, with_made}
 use Rattle.swss_run.specs.Turned.{EndsTurned}
 use Rattle.swss_run.specs.declared.status.Status.{Status}
 use Rattle.swss_run.specs.declared.status.Status.TheVariants as status
 use Rattle.swss_run.specs.declared.taking.Taken.TheVariants as taken
+use Rattle.swss_run.proofs.Acts.{restarts-front, restarts-made, sent-front, sent-made}
+use Rattle.swss_run.proofs.CameBack.{ends-over, ends-stopped, from-over, from-stopped}
+use Rattle.swss_run.proofs.Counting.{HasRestarted, suspect-now}
 use Rattle.swss_run.proofs.Given.{AreOnSwitch, on-front, on-round}
-use Rattle.swss_run.proofs.Tables.{all-limit, in-round, rows-told}
+use Rattle.swss_run.proofs.OnWay.{come-made, since_made}
+use Rattle.swss_run.proofs.Over.{IsEndedAs, IsOver, alone, drained_none, over-settled}
+use Rattle.swss_run.proofs.Settling.{IsFullStop, IsStopped}
+use Rattle.swss_run.proofs.Tables.{HasMade, in-round, made-all, made-none}
 
--- ---- a core and its chip
+-- ---- whatever a settling came to
 
-pub same-trans : (a b c : CoreState) → KeepsPlan a b → KeepsPlan b c → KeepsPlan a c
-same-trans a b c first next = record { plan = next.plan ∙ first.plan; capacities = next.capacities ∙ first.capacities; limit = next.limit ∙ first.limit }
+settled-fails : (mid : CoreState) (chip : ChipState) (s : LoggedService) (r : Result Settled OutOfMemory) (new : CoreState) (chip' : ChipState) → Settles s mid chip r new chip' → chip'.fails ≡ chip.fails
+settled-fails mid chip s (Ok settled.Settled) new chip' e = e.keeps.fails
+settled-fails mid chip s (Ok settled.Faulted) new chip' e = e.0.fails
+settled-fails mid chip s (Ok settled.LogFull) new chip' (inl e) = e.keeps.fails
+settled-fails mid chip s (Ok settled.LogFull) new chip' (inr e) = e.keeps.fails
+settled-fails mid chip s (Err wanting) new chip' e = e.keeps.fails
 
--- a core that is reconciled is not suspect
-known-warm : (c : CoreState) (chip : ChipState) → InSession c chip → c.warm ≡ warm.Reconciled → is_suspect c.log.marks ≡ false
-known-warm c chip within at = known-then c chip within (not_suspect c.warm at)
-
-pub known-ready : (core : CoreState) (sim : Sim) (replay : Replayed) → IsRunReady core sim replay → is_suspect core.log.marks ≡ false
-known-ready core sim replay ready = known-warm core sim.chip ready.between.within ready.between.rest.warm
-
-suspect-more : (marks : List Mark) (mark : Mark) → is_suspect (marks ++ mark ∷ []) ≡ is_fault mark.event
-suspect-more [] mark = refl
-suspect-more (m ∷ []) mark = refl
-suspect-more (m ∷ n ∷ marks) mark = suspect-more (n ∷ marks) mark
-
--- the size that a core counts is that of its log
-sized-at : (c : CoreState) (chip : ChipState) → InSession c chip → (n : ℕ) → size_beside c n ≡ log_size c.log n
-sized-at c chip within n = ap (λ k. size_listing k c.log n) within.stands.always.listed
-
--- whatever a settling came to, the chip has the failing calls that it was made with
-pub settled-keeps : (mid : CoreState) (chip : ChipState) (s : LoggedService) (r : Result Settled OutOfMemory) (new : CoreState) (chip' : ChipState) → Settles s mid chip r new chip' → KeepsChip chip chip'
-settled-keeps mid chip s (Ok settled.Settled) new chip' e = e.keeps
-settled-keeps mid chip s (Ok settled.Faulted) new chip' e = e.0.keeps
-settled-keeps mid chip s (Ok settled.LogFull) new chip' (inl e) = e.keeps
-settled-keeps mid chip s (Ok settled.LogFull) new chip' (inr e) = e.keeps
-settled-keeps mid chip s (Err wanting) new chip' e = e.keeps
-
--- the mark of a failed call, and the places that it had
-module _ (mid new : CoreState) (chip chip' : ChipState) (s : LoggedService) (is : InSession mid chip) (e : StopsFaulted s mid chip new chip') where
-  abbrev fault_mark : Mark
-  fault_mark = mark_at mid (length chip'.effects) (event.Faulted e.marks.before chip'.faults)
-
-  size-faulted : (n : ℕ) → log_size new.log n ≡ size_beside mid n + 1
-  size-faulted n =
-      ap (λ (h : History). log_size h n) e.marks.log ∙ size_after
-    where
-      size_after : log_size (with_end (with_mark mid.log fault_mark)) n ≡ size_beside mid n + 1
-      size_after =
-          let sized = sized-at mid chip is n in
-          let marks = length-append mid.log.marks (fault_mark ∷ []) in
-          let listed = listed_more mid.log.marks fault_mark in
-          omega (arith, sized, marks, listed)
-
-  pub fits-faulted : log_size new.log (length chip'.effects) ≤ new.limit
-  fits-faulted =
-      let size = size-faulted (length chip'.effects) in
-      let places = e.marks.places in
-      let few = e.marks.few in
-      let limit = e.steps.limit in
-      omega (arith, size, places, few, limit)
-
-  -- the failed call had a place for its effect and one for the mark
-  pub places-faulted : log_size new.log chip'.before_fault + 1 ≤ new.limit
-  places-faulted =
-      let size = size-faulted chip'.before_fault in
-      let places = e.marks.places in
-      let limit = e.steps.limit in
-      omega (arith, size, places, limit)
+-- the chip has the failing calls that it was made with
+pub from-fails : (mid : CoreState) (chip : ChipState) (s : LoggedService) (r : Result Settled OutOfMemory) (new : CoreState) (chip' : ChipState) → SettlesFrom s mid chip r new chip' → chip'.fails ≡ chip.fails
+from-fails mid chip s r new chip' (Back c cchip x h) = settled-fails c cchip x.later r new chip' h ∙ x.comes.keeps.fails
+from-fails mid chip s (Ok settled.Settled) new chip' (Stopped h) = absurd h
+from-fails mid chip s (Ok settled.Faulted) new chip' (Stopped h) = h.stops.1.fails ∙ h.comes.keeps.fails
+from-fails mid chip s (Ok settled.LogFull) new chip' (Stopped h) = ap (λ (z : ChipState). z.fails) h.stops.0 ∙ h.comes.keeps.fails
+from-fails mid chip s (Err wanting) new chip' (Stopped h) = ap (λ (z : ChipState). z.fails) h.stops.0 ∙ h.comes.keeps.fails
 
 -- ---- the lines
 
@@ -142,263 +103,270 @@ text-as shows lines p p' n n' ms ms' t t' r r' c c' o o' e e' b b' ps ns mss ts 
 
 -- ---- a round
 
-module _ (round : Round) (old : CoreState) (sim : Sim) (replay : Replayed) (ready : IsRunReady old sim replay) (read : HaveReadKeys (writes_in round.sections)) (mid : CoreState) where
-  -- after some of its writes
-  module _ (sent rest : List Sent) (front : sent_in_round round ≡ sent ++ rest) (took : mid ≡ with_all old sent) where
-    in-mid : IsInRound old sim.chip sent mid
-    in-mid = subst (IsInRound old sim.chip sent) (sym took) (in-round old sim.chip [] sent old (round-begins old sim.chip ready.between) (on-front sent rest (subst AreOnSwitch front (on-round round read))))
+module _ (round : Round) (old : CoreState) (sim : Sim) (replay : Replayed) (ready : IsRunReady old sim replay) (read : HaveReadKeys (writes_in round.sections)) (mid : CoreState) (effects : ℕ) (count_is : effects ≡ length sim.chip.effects) where
+  -- after some of its acts
+  module _ (done later : List (ℕ × Act)) (split : acts_in round.sections ≡ done ++ later) (is : mid ≡ with_made effects old (acts_made [] done)) where
+    abbrev pub sent_then : List Sent
+    sent_then = writes_among (acts_made [] done)
 
-    plan-mid : KeepsPlan old mid
-    plan-mid = record { plan = ap (λ (b : BoardState). b.plan) in-mid.board; capacities = ap (λ (z : SyncState). z.capacities) in-mid.sync; limit = ap (λ (c : CoreState). c.limit) took ∙ all-limit old sent }
+    abbrev pub restarts_then : ℕ
+    restarts_then = restarts_made (acts_made [] done)
 
-    abbrev stops-mid : StopsRound round old sim mid sim
-    stops-mid = record {
-      sent = sent;
-      rest = rest;
-      calls = [];
-      front = front;
-      log = in-mid.log;
-      grown = sym (append-nil sim.chip.effects);
-      within = in-mid.within;
-      same = plan-mid;
+    on_then : AreOnSwitch sent_then
+    on_then = on-front sent_then (writes_among (acts_made sent_then later)) (subst AreOnSwitch (sent-front round done later split) (on-round round read))
+
+    pub has-then : HasMade old sim.chip sent_then restarts_then mid
+    has-then =
+        subst (HasMade old sim.chip sent_then restarts_then) (sym is)
+        (subst (λ n. HasMade old sim.chip sent_then n (with_made effects old (acts_made [] done))) (omega arith)
+        (made-all old sim.chip effects count_is [] 0 (acts_made [] done) old (made-none old sim.chip ready.ready.within ready.ready.order) on_then))
+
+    abbrev pub since_then : Ran
+    since_then = since_made has-then.added sent_then
+
+    pub come-then : HasCome old sim.chip since_then mid sim.chip
+    come-then = come-made old sim.chip sent_then restarts_then mid ready.faults has-then
+
+    abbrev stops_then : StopsRound round old sim mid sim
+    stops_then = record {
+      since = since_then;
+      rest = writes_among (acts_made sent_then later);
+      front = sent-front round done later split;
+      restarts =
+          let all = restarts-front round done later split in
+          let count = has-then.count in
+          inl (omega (arith, all, count));
+      come = come-then;
     }
 
-  pub stops-wanting : IsRoundTook (length sim.chip.effects) (writes_in round.sections) old taken.NoMemory mid → StopsRound round old sim mid sim
-  stops-wanting (counts, (sent, later, gives, took)) = stops-mid sent later gives took
+  pub stops-wanting : IsRoundMade effects (acts_in round.sections) old taken.NoMemory mid → StopsRound round old sim mid sim
+  stops-wanting (counts, (done, later, split, is)) = stops_then done later split is
 
-  pub full-taking : {H : Type 0} (held : H) → IsRoundTook (length sim.chip.effects) (writes_in round.sections) old taken.LogFull mid
-      → (stops : StopsRound round old sim mid sim) × IsFull mid.board.plan mid.sync.capacities mid.limit round mid.log sim.chip stops.sent × (mid.limit < log_size mid.log (length sim.chip.effects) + 2 + length (keys_named mid.log.taken)) × (held ≡ held)
-  full-taking held (counts, (sent, next, later, gives, took, full)) =
-      let size = sized mid sim.chip (in-mid sent (next ∷ later) gives took).within in (
-        stops-mid sent (next ∷ later) gives took,
-        AtWrite next later gives (omega (arith, full, size)),
-        omega (arith, full, size),
-        refl,
-      )
+  -- the next act has no place
+  module _ (done : List (ℕ × Act)) (producer : ℕ) (later : List (ℕ × Act)) (full : IsFullFor mid effects 1) where
+    abbrev IsFullAct : Act → Type 0
+    IsFullAct a = (split : acts_in round.sections ≡ done ++ (producer, a) ∷ later) (is : mid ≡ with_made effects old (acts_made [] done)) → IsFull mid.board.plan mid.sync.capacities mid.limit round mid.log sim.chip (since_then done ((producer, a) ∷ later) split is)
 
-  -- after all of its writes
-  module _ (counts : Counts) (sent : List Sent) (gives : sent_after [] (writes_in round.sections) ≡ [] ++ sent) (took : mid ≡ with_all old sent) where
-    pub all_sent : sent_in_round round ≡ sent ++ []
-    all_sent = gives ∙ sym (append-nil sent)
+    short : InSession mid sim.chip → mid.limit < log_size mid.log (length sim.chip.effects) + 1
+    short within = let size = sized mid sim.chip within in let count = count_is in omega (arith, full, size, count)
 
-    pub in-all : IsInRound old sim.chip sent mid
-    in-all = in-mid sent [] all_sent took
+    full_act : (a : Act) → IsFullAct a
+    full_act (act.Write w) split is =
+        AtWrite (next_sent (writes_among (acts_made [] done)) (producer, w)) (writes_among (acts_made (writes_among (acts_made [] done) ++ next_sent (writes_among (acts_made [] done)) (producer, w) ∷ []) later)) (sent-front round done ((producer, act.Write w) ∷ later) split)
+        (short (has-then done ((producer, act.Write w) ∷ later) split is).within)
+    full_act act.Restart split is =
+        let all = restarts-front round done ((producer, act.Restart) ∷ later) split in
+        let count = (has-then done ((producer, act.Restart) ∷ later) split is).count in
+        AtRestart (omega (arith, all, count)) (short (has-then done ((producer, act.Restart) ∷ later) split is).within)
 
-    pub warm-all : mid.warm ≡ warm.Reconciled
-    warm-all = in-all.warm ∙ ready.between.rest.warm
+    pub full_at : (a : Act) (split : acts_in round.sections ≡ done ++ (producer, a) ∷ later) (is : mid ≡ with_made effects old (acts_made [] done)) → IsFullStop round old sim mid sim
+    full_at a split is =
+        let lack = short (has-then done ((producer, a) ∷ later) split is).within in
+        (stops_then done ((producer, a) ∷ later) split is, full_act a split is, omega (arith, lack))
 
-    free-all : (v : ℕ) → v < 4 → flown_at mid.board v ≡ None
-    free-all v less = ap (λ (b : BoardState). flown_at b v) in-all.board ∙ ready.between.rest.free v less
+  pub full-taking : IsRoundMade effects (acts_in round.sections) old taken.LogFull mid → IsFullStop round old sim mid sim
+  full-taking (counts, (done, (producer, a), later, split, is, full)) = full_at done producer later full a split is
+
+  -- after all of its acts
+  module _ (is : mid ≡ with_made effects old (acts_made [] (acts_in round.sections))) where
+    none_left : acts_in round.sections ≡ acts_in round.sections ++ []
+    none_left = sym (append-nil (acts_in round.sections))
+
+    abbrev all_sent : List Sent
+    all_sent = sent_then (acts_in round.sections) [] none_left is
+
+    abbrev since_all : Ran
+    since_all = since_then (acts_in round.sections) [] none_left is
+
+    abbrev has_all : HasMade old sim.chip all_sent (restarts_then (acts_in round.sections) [] none_left is) mid
+    has_all = has-then (acts_in round.sections) [] none_left is
+
+    abbrev come_all : HasCome old sim.chip since_all mid sim.chip
+    come_all = come-then (acts_in round.sections) [] none_left is
+
+    pub in-all : InSession mid sim.chip
+    in-all = come_all.within
+
+    sent_all : all_sent ≡ sent_in_round round
+    sent_all = sym (sent-made round)
+
+    count_all : restarts_marked since_all.marks ≡ restarts_in round.sections
+    count_all = has_all.count ∙ restarts-made round
+
+    restarted_same : mid.warm ≡ old.warm → HasRestarted round old.log.marks since_all.marks mid.warm
+    restarted_same same = by ready.ready.warm
+      where
+        least : restarts_in round.sections ≤ restarts_marked since_all.marks
+        least = let count = count_all in omega (arith, count)
+
+        by : (old.warm ≡ warm.Reconciled) ⊎ (old.warm ≡ warm.Suspect) → HasRestarted round old.log.marks since_all.marks mid.warm
+        by (inl at) =
+            let none : restarts_due mid.warm ≡ 0 = ap restarts_due (same ∙ at) in
+            let count = count_all in
+            record { more = 0; count = omega (arith, count, none); behind = inl refl; least = least }
+        by (inr at) =
+            let one : restarts_due mid.warm ≡ 1 = ap restarts_due (same ∙ at) in
+            let count = count_all in
+            record { more = 1; count = omega (arith, count, one); behind = inr (refl, suspect-now old.log.marks old.warm (warm-after old sim.chip ready.ready.within) at); least = least }
+
+    restarted_all : HasRestarted round old.log.marks since_all.marks mid.warm
+    restarted_all = by has_all.warm
+      where
+        by : ((restarts_then (acts_in round.sections) [] none_left is ≡ 0) × (mid.warm ≡ old.warm)) ⊎ ((1 ≤ restarts_then (acts_in round.sections) [] none_left is) × (mid.warm ≡ warm.Initialized)) → HasRestarted round old.log.marks since_all.marks mid.warm
+        by (inl (none, same)) = restarted_same same
+        by (inr (some, at)) =
+            let none : restarts_due mid.warm ≡ 0 = ap restarts_due at in
+            let count = count_all in
+            record { more = 0; count = omega (arith, count, none); behind = inl refl; least = omega (arith, count) }
 
     module _ (new : CoreState) (sim' : Sim) where
-      -- what stands when the round has ended, as its lines are asked for
-      abbrev pub ended_now : ℕ → Ended
-      ended_now number = record { plan = new.board.plan; number = number; marks = drop (length old.log.marks) new.log.marks; taken = length new.log.taken; rows = new.tables.rows; capacities = sim'.chip.capacities; objects = sim'.chip.objects; effects = sim'.chip.effects }
-
-      pub follows-new : MakesMore mid in-all.within.session new sim'.chip → IsReplayOf replay sim'.chip.effects
+      pub follows-new : MakesMore mid in-all.session new sim'.chip → IsReplayOf replay sim'.chip.effects
       follows-new more =
-          let grown = effects-grow mid new sim.chip sim'.chip in-all.within more in
+          let grown = effects-grow mid new sim.chip sim'.chip in-all more in
           subst (IsReplayOf replay) (sym grown.1) (IsReplayOf-append replay sim.chip.effects grown.0 ready.follows)
 
       -- no mark is lost
-      pub marks-longer : MakesMore mid in-all.within.session new sim'.chip → length old.log.marks ≤ length new.log.marks
-      marks-longer steps =
-          let more = marks-grow mid new sim.chip sim'.chip in-all.within steps in
-          let same = ap (λ (h : History). length h.marks) in-all.log in
-          let longer = length-append mid.log.marks more.0 in
-          omega (arith, ap length more.1, same, longer)
+      pub marks-longer : MakesMore mid in-all.session new sim'.chip → length old.log.marks ≤ length new.log.marks
+      marks-longer more =
+          let grown = marks-grow mid new sim.chip sim'.chip in-all more in
+          let same = ap (λ (h : History). length h.marks) come_all.log in
+          let longer = length-append old.log.marks since_all.marks in
+          let later = length-append mid.log.marks grown.0 in
+          omega (arith, ap length grown.1, same, longer, later)
 
-      module _ (within : InSession new sim'.chip) (same : KeepsPlan mid new) (calls : List (Call Rid)) (grown : sim'.chip.effects ≡ sim.chip.effects ++ calls) where
-        plan-new : KeepsPlan old new
-        plan-new = same-trans old mid new (plan-mid sent [] all_sent took) same
+      -- ---- a core that is reconciled
 
-        -- no mark was made
-        abbrev stops-new : new.log ≡ mid.log → StopsRound round old sim new sim'
-        stops-new log = record {
-          sent = sent;
-          rest = [];
-          calls = calls;
-          front = all_sent;
-          log = log ∙ in-all.log;
-          grown = grown;
-          within = within;
-          same = plan-new;
+      module _ (none : restarts_then (acts_in round.sections) [] none_left is ≡ 0) (same : mid.warm ≡ old.warm) (at : old.warm ≡ warm.Reconciled) where
+        now : mid.warm ≡ warm.Reconciled
+        now = same ∙ at
+
+        alike : IsInRound old sim.chip all_sent mid
+        alike =
+            subst (IsInRound old sim.chip all_sent) (sym is)
+            (in-round effects old sim.chip [] (acts_made [] (acts_in round.sections)) old (round-begins old sim.chip (ready.ready.between at)) none (on_then (acts_in round.sections) [] none_left is))
+
+        abbrev since_plain : Ran
+        since_plain = since_made [] all_sent
+
+        abbrev plain : HasCome old sim.chip since_plain mid sim.chip
+        plain = record {
+          log = alike.log ∙ ap (λ ms. record { taken = old.log.taken ++ all_sent; marks = ms; ends = old.log.ends }) (sym (append-nil old.log.marks));
+          calls = sym (append-nil sim.chip.effects);
+          way = tt;
+          within = alike.within;
+          same = record { plan = ap (λ (b : BoardState). b.plan) alike.board; capacities = ap (λ (z : SyncState). z.capacities) alike.sync; limit = has_all.same.limit };
+          faults = subst (λ (h : History). FaultsRise 0 h.marks sim.chip.faults) (sym alike.log) ready.faults;
         }
 
-        -- a mark was made
-        module _ (mark : Mark) (kind : is_settling mark.event ≡ true) (counts_sent : mark.taken ≡ length (old.log.taken ++ sent)) (counts_calls : mark.effects ≡ length (sim.chip.effects ++ calls)) (log : new.log ≡ with_round old.log sent mark) (turned : IsSettledMark mark.event → EndsTurned old.board.plan old.sync.capacities (round_from old sim.chip sent calls mark)) (popped : new.tables.waiting ≡ []) (fits : log_size new.log (length sim'.chip.effects) ≤ new.limit) (failed : is_fault mark.event ≡ true → log_size new.log sim'.chip.before_fault + 1 ≤ new.limit) where
-          abbrev ran : Ran
-          ran = record { marks = mark ∷ []; sent = sent; calls = calls }
+        restarted_plain : HasRestarted round old.log.marks [] mid.warm
+        restarted_plain =
+            let due : restarts_due mid.warm ≡ 0 = ap restarts_due now in
+            let count : restarts_in round.sections ≡ 0 = sym (restarts-made round) ∙ none in
+            record { more = 0; count = omega (arith, due, count); behind = inl refl; least = omega (arith, count) }
 
-          suspect-is : is_suspect new.log.marks ≡ is_fault mark.event
-          suspect-is = ap (λ (h : History). is_suspect h.marks) log ∙ suspect-more old.log.marks mark
-
-          abbrev ends-round : EndsRound round old sim ran new sim'
-          ends-round = record {
-            mark = mark;
-            marks = refl;
-            settling = kind;
-            sent = sym gives;
-            taken = counts_sent;
-            effects = counts_calls;
-            log = log;
-            calls = grown;
-            turned = λ m is settled. let same_mark : mark ≡ m = cc in subst (λ (x : Mark). IsSettledMark x.event → EndsTurned old.board.plan old.sync.capacities (round_from old sim.chip sent calls x)) same_mark turned settled;
-            within = within;
-            same = plan-new;
-            places = fits;
-            fault_places = λ suspect. failed (sym suspect-is ∙ suspect);
-          }
-
-          module _ (number : ℕ) (counted : 0 < number) (rising : HasRisingRows new.tables.rows) where
-            has-lines : (lines : List ℕ) → IsRoundText (ended_now number) replay.at round.shows lines → HasLines number round old sim ran lines
-            has-lines lines text = record {
-              before = number - 1;
-              number_is = omega (arith, counted);
-              text =
-                  text-as round.shows lines
-                  new.board.plan old.board.plan number (number - 1 + 1) (drop (length old.log.marks) new.log.marks) (mark ∷ []) (length new.log.taken) (length (old.log.taken ++ sent)) new.tables.rows (rows_of (sent_writes (old.log.taken ++ sent)))
-                  sim'.chip.capacities old.sync.capacities sim'.chip.objects (chip_after (sim.chip.effects ++ calls) (length (sim.chip.effects ++ calls))) sim'.chip.effects (sim.chip.effects ++ calls) replay.at (length sim.chip.effects)
-                  plan-new.plan
-                  (omega (arith, counted))
-                  (ap (λ (h : History). drop (length old.log.marks) h.marks) log ∙ drop-append_seam old.log.marks (mark ∷ []))
-                  (ap (λ (h : History). length h.taken) log)
-                  (rows-told new sim'.chip within popped rising ∙ ap (λ (h : History). rows_of (sent_writes h.taken)) log)
-                  (within.stands.always.capacities ∙ plan-new.capacities)
-                  (objects-left new sim'.chip within ∙ ap (λ l. chip_after l (length l)) grown)
-                  grown
-                  ready.at_end
-                  text;
-            }
-
-            module _ (held held' : Option (List ℕ)) (faults faults' : ℕ) (result : Status) (replay' : Replayed) where
-              run-done : IsBetweenRounds new sim'.chip → IsWritten (ended_now number) replay.at round.shows status.Done held faults result replay' held' faults' → IsRoundRun number round old sim held faults result new sim' replay' held' faults'
-              run-done between (Whole lines text took follows at is) =
-                  subst (λ r. IsRoundRun number round old sim held faults r new sim' replay' held' faults') (sym is) (ran, lines, ends-round, has-lines lines text, took, record { between = between; follows = follows; at_end = at })
-              run-done between (Failed lines text took rose is) =
-                  subst (λ r. IsRoundRun number round old sim held faults r new sim' replay' held' faults') (sym is) (ran, lines, ends-round, has-lines lines text, took, rose)
-              run-done between (Wanting lines text took is) =
-                  subst (λ r. IsRoundRun number round old sim held faults r new sim' replay' held' faults') (sym is) (inr (ran, ends-round, inr (lines, has-lines lines text, took)))
-              run-done between (Unwritten same is) =
-                  subst (λ r. IsRoundRun number round old sim held faults r new sim' replay' held' faults') (sym is) (inr (ran, ends-round, inl same))
-
-              run-failed : is_fault mark.event ≡ true → 0 < sim'.chip.faults → IsWritten (ended_now number) replay.at round.shows status.ChipFault held faults result replay' held' faults' → IsRoundRun number round old sim held faults result new sim' replay' held' faults'
-              run-failed bad rose (Whole lines text took follows at is) =
-                  subst (λ r. IsRoundRun number round old sim held faults r new sim' replay' held' faults') (sym is) (ran, lines, ends-round, has-lines lines text, took, suspect-is ∙ bad, rose)
-              run-failed bad rose (Failed lines text took more is) =
-                  subst (λ r. IsRoundRun number round old sim held faults r new sim' replay' held' faults') (sym is) (ran, lines, ends-round, has-lines lines text, took, more)
-              run-failed bad rose (Wanting lines text took is) =
-                  subst (λ r. IsRoundRun number round old sim held faults r new sim' replay' held' faults') (sym is) (inr (ran, ends-round, inr (lines, has-lines lines text, took)))
-              run-failed bad rose (Unwritten same is) =
-                  subst (λ r. IsRoundRun number round old sim held faults r new sim' replay' held' faults') (sym is) (inr (ran, ends-round, inl same))
-
-      -- ---- how the settling ended
-
-      some-same : MakesMore mid in-all.within.session new sim'.chip → KeepsPlan mid new
-      some-same more = record { plan = more.plan; capacities = more.capacities; limit = more.limit }
-
-      -- whatever the settling came to, steps of the service led there
-      more-of : (r : Result Settled OutOfMemory) → Settles in-all.within.session mid sim.chip r new sim'.chip → MakesMore mid in-all.within.session new sim'.chip
-      more-of r e = settling_serves in-all.within.session mid sim.chip in-all.within.stands r new sim'.chip e
-
-      -- the log behind its mark
-      with-round : (mark : Mark) → with_end (with_mark (record old.log { taken = old.log.taken ++ sent }) mark) ≡ with_round old.log sent mark
-      with-round mark = ap (λ n. record { taken = old.log.taken ++ sent; marks = old.log.marks ++ mark ∷ []; ends = old.log.ends ++ n ∷ [] }) (length-append old.log.marks (mark ∷ []))
-
-      module _ (number : ℕ) (held held' : Option (List ℕ)) (faults faults' : ℕ) (result : Status) (replay' : Replayed) (counted : 0 < number) (rising : HasRisingRows new.tables.rows) where
-        run-settled : SettlesWhole in-all.within.session mid sim.chip new sim'.chip → IsWritten (ended_now number) replay.at round.shows status.Done held faults result replay' held' faults' → IsRoundRun number round old sim held faults result new sim' replay' held' faults'
-        run-settled e written =
-            let ends = round-ends old mid new sim.chip sim'.chip sent in-all e.settles in
+        plain-settled : SettlesWhole plain.within.session mid sim.chip new sim'.chip → IsOver round old sim status.Done new sim'
+        plain-settled e =
+            let ends = round-ends old mid new sim.chip sim'.chip all_sent alike e.settles in
             let leads = e.settles.leads in
-            let size = sized new sim'.chip ends.later.within in
-            let places = e.places in
-            run-done ends.later.within (record { plan = leads.plan; capacities = leads.capacities; limit = leads.limit }) ends.calls ends.effects
-            ends.mark (ap is_settling ends.made.event_is) ends.made.counts.taken ends.made.counts.effects (ends.log ∙ with-round ends.mark)
-            (λ settled. record { made = ends.made; quiet = ends.quiet; drains = λ from least. round-drained old.board.plan old.sync.capacities (round_from old sim.chip sent ends.calls ends.mark) ends.made from least })
-            e.settles.popped
-            (omega (arith, size, places))
-            (λ bad. absurd (no_fault (sym bad ∙ ap is_fault ends.made.event_is)))
-            number counted rising held held' faults faults' result replay' ends.later written
-          where
-            no_fault : true ≡ false → ⊥
-            no_fault h = cc
+            let log = ends.log ∙ ap (λ h. with_end (with_mark h ends.mark)) (sym alike.log) in
+            let due : restarts_due mid.warm ≡ 0 = ap restarts_due now in
+            let may : MayEndRound ends.mark.event = subst MayEndRound (sym ends.made.event_is) tt in
+            let keeps : KeepsPlan mid new = record { plan = leads.plan; capacities = leads.capacities; limit = leads.limit } in
+            over-settled round old sim since_plain mid sim.chip plain sent_all restarted_plain due new sim' ends.mark may log ends.calls ends.effects ends.later.within keeps ends.made.waits ends.made.turns ends.made.event_is ends.later e.places e.keeps
+            (λ m single settled left. subst (λ x. EndsTurned old.board.plan old.sync.capacities (round_from old sim.chip all_sent ends.calls x)) (alone [] ends.mark m single).1
+            (record { made = ends.made; quiet = ends.quiet; drains = λ from least. round-drained old.board.plan old.sync.capacities (round_from old sim.chip all_sent ends.calls ends.mark) ends.made from least }))
+            (drained_none round old sim since_plain mid sim.chip plain sent_all restarted_plain due new sim' ends.mark may log ends.calls ends.effects ends.later.within keeps refl)
 
-        run-faulted : Settles in-all.within.session mid sim.chip (Ok settled.Faulted) new sim'.chip → IsWritten (ended_now number) replay.at round.shows status.ChipFault held faults result replay' held' faults' → IsRoundRun number round old sim held faults result new sim' replay' held' faults'
-        run-faulted e written =
-            let stops = e.0 in
-            let more = more-of (Ok settled.Faulted) e in
-            let grown = effects-grow mid new sim.chip sim'.chip in-all.within more in
-            let mark = mark_at mid (length sim'.chip.effects) (event.Faulted stops.marks.before sim'.chip.faults) in
-            let rose = stops.marks.more in
-            run-failed (some-on mid new sim.chip sim'.chip in-all.within more).0 (some-same more) grown.0 grown.1
-            mark refl (ap (λ (h : History). length h.taken) in-all.log) (ap length grown.1)
-            (stops.marks.log ∙ ap (λ (h : History). with_end (with_mark h mark)) in-all.log ∙ with-round mark)
-            (λ settled. absurd settled)
-            (e.1 free-all)
-            (fits-faulted mid new sim.chip sim'.chip in-all.within.session in-all.within stops)
-            (λ bad. places-faulted mid new sim.chip sim'.chip in-all.within.session in-all.within stops)
-            number counted rising held held' faults faults' result replay' refl (omega (arith, rose)) written
+        plain-over : (r : Result Settled OutOfMemory) (ended : Status) → round_ended r ≡ Ok ended → Settles plain.within.session mid sim.chip r new sim'.chip → ArePendingInOrder new.tables.waiting → IsOver round old sim ended new sim'
+        plain-over r ended same e order = ends-over round old sim since_plain mid sim.chip plain sent_all restarted_plain new sim' now plain-settled r ended same e order
 
-        pub run-marked : (r : Result Settled OutOfMemory) (ended : Status) → round_ended r ≡ Ok ended → Settles in-all.within.session mid sim.chip r new sim'.chip → IsWritten (ended_now number) replay.at round.shows ended held faults result replay' held' faults' → IsRoundRun number round old sim held faults result new sim' replay' held' faults'
-        run-marked (Ok settled.Settled) ended is e written =
-            let same_end : ended ≡ status.Done = cc in
-            run-settled e (subst (λ x. IsWritten (ended_now number) replay.at round.shows x held faults result replay' held' faults') same_end written)
-        run-marked (Ok settled.Faulted) ended is e written =
-            let same_end : ended ≡ status.ChipFault = cc in
-            run-faulted e (subst (λ x. IsWritten (ended_now number) replay.at round.shows x held faults result replay' held' faults') same_end written)
-        run-marked (Ok settled.LogFull) ended is e written = cc
-        run-marked (Err wanting) ended is e written = cc
+        plain-stopped : (r : Result Settled OutOfMemory) (ended : Status) → round_ended r ≡ Err ended → Settles plain.within.session mid sim.chip r new sim'.chip → IsStopped round old sim ended new sim'
+        plain-stopped r ended same e = ends-stopped round old sim since_plain mid sim.chip plain sent_all restarted_plain new sim' now r ended same e
 
-      -- the log is full
-      module _ {H : Type 0} (held : H) where
-        abbrev IsFullHere : Type 0
-        IsFullHere = (stops : StopsRound round old sim new sim') × IsFull new.board.plan new.sync.capacities new.limit round new.log sim'.chip stops.sent × (new.limit < log_size new.log (length sim'.chip.effects) + 2 + length (keys_named new.log.taken)) × (held ≡ held)
+      -- ---- any core
 
-        full-call : StopsFull in-all.within.session mid sim.chip new sim'.chip → IsFullHere
-        full-call e =
-            let more = more-of (Ok settled.LogFull) (inl e) in
-            let grown = effects-grow mid new sim.chip sim'.chip in-all.within more in
-            let within = (some-on mid new sim.chip sim'.chip in-all.within more).0 in
-            let size = sized new sim'.chip within in
-            let full = e.full in (
-              stops-new within (some-same more) grown.0 grown.1 e.log,
-              AtCall (sym gives) (call-awaited new sim'.chip within e.warm e.flying.0 e.flying.1 e.flying.2) (omega (arith, full, size)),
-              omega (arith, full, size),
-              refl,
-            )
+      -- what the core's settling comes to, for any session that core and chip stand for
+      abbrev pub SettlesSo : Result Settled OutOfMemory → Type 0
+      SettlesSo r = (s : LoggedService) → IsServiceOf mid sim.chip s → SettlesFrom s mid sim.chip r new sim'.chip
 
-        full-mark : StopsAtMark in-all.within.session mid sim.chip new sim'.chip → IsFullHere
-        full-mark e =
-            let more = more-of (Ok settled.LogFull) (inr e) in
-            let grown = effects-grow mid new sim.chip sim'.chip in-all.within more in
-            let there = leads-on mid new sim.chip sim'.chip in-all.within (ap (λ (h : History). h.taken) e.log) (inl e.at_rest.warm) e.later e.leads in
-            let within = there.0 in
-            let awaited = keys-awaited new sim'.chip within e.at_rest.warm e.at_rest.popped e.at_rest.free e.order (λ k to_sync. subst (λ (s : LoggedService). MustWait new.board.plan 4 new.sync.capacities s.service.core k) (sym there.1) (e.waits k to_sync)) in
-            let size = sized new sim'.chip within in
-            let full = e.full in
-            let many = awaited.1 in
-            let few = ops-few new sim'.chip within (inl e.at_rest.warm) e.order in (
-              stops-new within (some-same more) grown.0 grown.1 e.log,
-              AtMark awaited.0 (sym gives) awaited.2 (omega (arith, full, size, many)),
-              omega (arith, full, size, few),
-              refl,
-            )
+      by_warm : {P : Type 0} → ((none : restarts_then (acts_in round.sections) [] none_left is ≡ 0) → mid.warm ≡ old.warm → old.warm ≡ warm.Reconciled → P) → (1 ≤ restarts_marked since_all.marks + restarts_due mid.warm → is_unrestored mid.warm ≡ true → P) → P
+      by_warm {P} reconciled other = by has_all.warm ready.ready.warm
+        where
+          by : ((restarts_then (acts_in round.sections) [] none_left is ≡ 0) × (mid.warm ≡ old.warm)) ⊎ ((1 ≤ restarts_then (acts_in round.sections) [] none_left is) × (mid.warm ≡ warm.Initialized)) → (old.warm ≡ warm.Reconciled) ⊎ (old.warm ≡ warm.Suspect) → P
+          by (inl (none, same)) (inl at) = reconciled none same at
+          by (inl (none, same)) (inr at) = let one : restarts_due mid.warm ≡ 1 = ap restarts_due (same ∙ at) in other (omega (arith, one)) (ap is_unrestored (same ∙ at))
+          by (inr (some, at)) warms = let count = has_all.count in other (omega (arith, some, count)) (ap is_unrestored at)
 
-      stops-short : (e : OutOfMemory) → Settles in-all.within.session mid sim.chip (Err e) new sim'.chip → StopsRound round old sim new sim'
-      stops-short wanting e =
-          let more = more-of (Err wanting) e in
-          let grown = effects-grow mid new sim.chip sim'.chip in-all.within more in
-          stops-new (some-on mid new sim.chip sim'.chip in-all.within more).0 (some-same more) grown.0 grown.1 e.log
+      pub run-over : (r : Result Settled OutOfMemory) (ended : Status) → round_ended r ≡ Ok ended → SettlesSo r → ArePendingInOrder new.tables.waiting → IsOver round old sim ended new sim'
+      run-over r ended same e order =
+          by_warm
+          (λ none alike at.
+          let x = plain none alike at in
+          plain-over none alike at r ended same (settles_as_ever x.within.session mid sim.chip new sim'.chip r (alike ∙ at) (e x.within.session x.within.stands)) order)
+          (λ some out. from-over round old sim since_all mid sim.chip come_all sent_all restarted_all new sim' some out r ended same (e come_all.within.session come_all.within.stands) order)
 
-      pub run-stopped : (r : Result Settled OutOfMemory) (ended : Status) → round_ended r ≡ Err ended → Settles in-all.within.session mid sim.chip r new sim'.chip → (number : ℕ) (held : Option (List ℕ)) (faults : ℕ) (replay' : Replayed) → IsRoundRun number round old sim held faults ended new sim' replay' held faults
-      run-stopped (Ok settled.Settled) ended is e number held faults replay' = cc
-      run-stopped (Ok settled.Faulted) ended is e number held faults replay' = cc
-      run-stopped (Ok settled.LogFull) ended is (inl e) number held faults replay' =
-          let same_end : status.LogFull ≡ ended = cc in
-          subst (λ x. IsRoundRun number round old sim held faults x new sim' replay' held faults) same_end (full-call held e)
-      run-stopped (Ok settled.LogFull) ended is (inr e) number held faults replay' =
-          let same_end : status.LogFull ≡ ended = cc in
-          subst (λ x. IsRoundRun number round old sim held faults x new sim' replay' held faults) same_end (full-mark held e)
-      run-stopped (Err wanting) ended is e number held faults replay' =
-          let same_end : status.OutOfMemory ≡ ended = cc in
-          subst (λ x. IsRoundRun number round old sim held faults x new sim' replay' held faults) same_end (inl (stops-short wanting e, refl))
+      pub run-stopped : (r : Result Settled OutOfMemory) (ended : Status) → round_ended r ≡ Err ended → SettlesSo r → IsStopped round old sim ended new sim'
+      run-stopped r ended same e =
+          by_warm
+          (λ none alike at.
+          let x = plain none alike at in
+          plain-stopped none alike at r ended same (settles_as_ever x.within.session mid sim.chip new sim'.chip r (alike ∙ at) (e x.within.session x.within.stands)))
+          (λ some out. from-stopped round old sim since_all mid sim.chip come_all sent_all restarted_all new sim' some out r ended same (e come_all.within.session come_all.within.stands))
+
+      -- steps of the service led there
+      pub more-all : (r : Result Settled OutOfMemory) → SettlesSo r → MakesMore mid in-all.session new sim'.chip
+      more-all r e = settle_serves in-all.session mid sim.chip r new sim'.chip (e in-all.session in-all.stands)
+
+-- ---- what is written
+
+-- a round that did not end writes nothing
+pub run-halted : (round : Round) (old : CoreState) (sim : Sim) (new : CoreState) (sim' : Sim) (ended : Status) (number : ℕ) (held : Option (List ℕ)) (faults : ℕ) (replay' : Replayed) → IsStopped round old sim ended new sim' → IsRoundRun number round old sim held faults ended new sim' replay' held faults
+run-halted round old sim new sim' ended number held faults replay' (inl (same, (stops, full, many))) = subst (λ x. IsRoundRun number round old sim held faults x new sim' replay' held faults) (sym same) (stops, full, many, refl)
+run-halted round old sim new sim' ended number held faults replay' (inr (same, stops)) = subst (λ x. IsRoundRun number round old sim held faults x new sim' replay' held faults) (sym same) (inl (stops, refl))
+
+module _ (round : Round) (old : CoreState) (sim : Sim) (replay : Replayed) (ready : IsRunReady old sim replay) (ended : Status) (new : CoreState) (sim' : Sim) (over : IsOver round old sim ended new sim') where
+  -- what stands when the round has ended, as its lines are asked for
+  abbrev pub ended_now : ℕ → Rows → Ended
+  ended_now number rows = record { plan = new.board.plan; number = number; marks = drop (length old.log.marks) new.log.marks; taken = length new.log.taken; rows = rows; capacities = sim'.chip.capacities; objects = sim'.chip.objects; effects = sim'.chip.effects }
+
+  module _ (number : ℕ) (counted : 0 < number) (rows : Rows) (told : rows ≡ rows_of (sent_writes new.log.taken)) where
+    has-lines : (lines : List ℕ) → IsRoundText (ended_now number rows) replay.at round.shows lines → HasLines number round old sim over.ran lines
+    has-lines lines text = record {
+      before = number - 1;
+      number_is = omega (arith, counted);
+      text =
+          text-as round.shows lines
+          new.board.plan old.board.plan number (number - 1 + 1) (drop (length old.log.marks) new.log.marks) over.ran.marks (length new.log.taken) (length (old.log.taken ++ over.ran.sent)) rows (rows_of (sent_writes (old.log.taken ++ over.ran.sent)))
+          sim'.chip.capacities old.sync.capacities sim'.chip.objects (chip_after (sim.chip.effects ++ over.ran.calls) (length (sim.chip.effects ++ over.ran.calls))) sim'.chip.effects (sim.chip.effects ++ over.ran.calls) replay.at (length sim.chip.effects)
+          over.ends.same.plan
+          (omega (arith, counted))
+          (ap (λ (h : History). drop (length old.log.marks) h.marks) over.ends.log ∙ drop-append_seam old.log.marks over.ran.marks)
+          (ap (λ (h : History). length h.taken) over.ends.log)
+          (told ∙ ap (λ (h : History). rows_of (sent_writes h.taken)) over.ends.log)
+          (over.ends.within.stands.always.capacities ∙ over.ends.same.capacities)
+          (objects-left new sim'.chip over.ends.within ∙ ap (λ l. chip_after l (length l)) over.ends.calls)
+          over.ends.calls
+          ready.at_end
+          text;
+    }
+
+    module _ (held held' : Option (List ℕ)) (faults faults' : ℕ) (result : Status) (replay' : Replayed) where
+      as_result : (status : Status) → result ≡ status → IsRoundRun number round old sim held faults status new sim' replay' held' faults' → IsRoundRun number round old sim held faults result new sim' replay' held' faults'
+      as_result status is = subst (λ r. IsRoundRun number round old sim held faults r new sim' replay' held' faults') (sym is)
+
+      ready_then : IsReplayOf replay' sim'.chip.effects → replay'.at ≡ length sim'.chip.effects → IsRunReady new sim' replay'
+      ready_then follows at = record { ready = over.ready; follows = follows; at_end = at; faults = over.ends.faults }
+
+      pub run-written : IsWritten (ended_now number rows) replay.at round.shows ended held faults result replay' held' faults' → IsRoundRun number round old sim held faults result new sim' replay' held' faults'
+      run-written (Whole lines text took follows at is) = by over.how
+        where
+          by : IsEndedAs ended new sim' → IsRoundRun number round old sim held faults result new sim' replay' held' faults'
+          by (inl (done, known)) = as_result status.Done (is ∙ done) (over.ran, lines, over.ends, has-lines lines text, took, known, ready_then follows at)
+          by (inr (failed, bad, rose)) = as_result status.ChipFault (is ∙ failed) (over.ran, lines, over.ends, has-lines lines text, took, bad, rose, ready_then follows at)
+      run-written (Failed lines text took rose is) = as_result status.WriteFault is (over.ran, lines, over.ends, has-lines lines text, took, rose)
+      run-written (Wanting lines text took is) = as_result status.OutOfMemory is (inr (over.ran, over.ends, inr (lines, has-lines lines text, took)))
+      run-written (Unwritten same is) = as_result status.OutOfMemory is (inr (over.ran, over.ends, inl same))
+
+  -- where memory was refused before its lines
+  pub run-unwritten : (number : ℕ) (held : Option (List ℕ)) (faults : ℕ) (replay' : Replayed) → IsRoundRun number round old sim held faults status.OutOfMemory new sim' replay' held faults
+  run-unwritten number held faults replay' = inr (over.ran, over.ends, inl refl)

@@ -1,21 +1,21 @@
 -- one round more that ended
-use Rattle.std.proofs.Common.{◌≡◌, ℕ, ◌+◌, true, List, [], ◌∷◌, ◌++◌, length, slice_get, Option, Some, refl, sym, ap, ◌∙◌, subst, arith}
+use Rattle.std.proofs.Common.{◌≡◌, inl, ℕ, ◌+◌, Bool, List, [], ◌∷◌, ◌++◌, length, slice_get, Option, Some, refl, sym, ap, ◌∙◌, subst, arith}
 use Rattle.std.proofs.lemmas.Grind.{flat_map-append}
 use Rattle.std.proofs.lemmas.List.{append_assoc, append-nil, length-append}
 use Rattle.table_schema.specs.Plan.{Ports}
 use Rattle.table_schema.specs.declared.write.Sent.{Sent}
 use Rattle.sai_types.specs.declared.ids.Rid.{Rid}
 use Rattle.sai_types.specs.declared.body.Call.{Call}
+use Rattle.switch_model.specs.Sound.{is_suspect}
 use Rattle.switch_model.specs.declared.mark.Mark.{Mark}
-use Rattle.switch_model.specs.declared.mark.MarkEvent.{MarkEvent}
-use Rattle.switch_model.specs.declared.mark.MarkEvent.TheVariants as event
 use Rattle.restart_laws.specs.Logged.{last_mark}
-use Rattle.round_laws.specs.Sessions.{BeginNoApply, BeginsNoApply}
 use Rattle.swss_script.specs.Sent.{sent_in_round}
 use Rattle.swss_script.specs.declared.parts.Round.{Round}
 use Rattle.swss_report.specs.Round.{IsRoundText}
-use Rattle.swss_run.specs.Rounds.{AreTaken, EndAtMarks, EndsAtMark, IsReportFrom, Ran, Rise, all_calls, all_marks, all_sent, ends_from, is_settling, standing}
-use Rattle.swss_run.specs.Turned.{AreTurned, IsRoundTurned}
+use Rattle.swss_run.specs.Restarts.{AreRestarted, HasFewRestarts, HasRestarts}
+use Rattle.swss_run.specs.Rounds.{AreTaken, EndAtMarks, EndsAtMark, IsReportFrom, Ran, Rise, all_calls, all_marks, all_sent, ends_from, standing}
+use Rattle.swss_run.specs.Turned.{AreDrained, AreTurned, DrainsBehind, IsRoundTurned}
+use Rattle.swss_run.proofs.Counting.{suspect-behind}
 
 pub marks-more : (rans : List Ran) (ran : Ran) → all_marks (rans ++ ran ∷ []) ≡ all_marks rans ++ ran.marks
 marks-more rans ran = flat_map-append (λ (r : Ran). r.marks) rans (ran ∷ []) ∙ ap (λ l. all_marks rans ++ l) (append-nil ran.marks)
@@ -34,14 +34,16 @@ ends-more n (r ∷ rans) ran =
 
 pub at_marks-more : (sent calls : ℕ) (rans : List Ran) (ran : Ran) → EndAtMarks sent calls rans → EndsAtMark (sent + length (all_sent rans)) (calls + length (all_calls rans)) ran → EndAtMarks sent calls (rans ++ ran ∷ [])
 at_marks-more sent calls [] ran tt one = (
-  record { mark = one.mark; marks = one.marks; settling = one.settling; taken = omega (arith, one.taken); effects = omega (arith, one.effects) },
+  record { before = one.before; mark = one.mark; marks = one.marks; way = one.way; settling = one.settling; taken = omega (arith, one.taken); effects = omega (arith, one.effects) },
   tt,
 )
 at_marks-more sent calls (r ∷ rans) ran (first, more) one = (
   first,
   at_marks-more (sent + length r.sent) (calls + length r.calls) rans ran more (record {
+    before = one.before;
     mark = one.mark;
     marks = one.marks;
+    way = one.way;
     settling = one.settling;
     taken = omega (arith, one.taken, length-append r.sent (all_sent rans));
     effects = omega (arith, one.effects, length-append r.calls (all_calls rans));
@@ -52,7 +54,7 @@ at_marks-more sent calls (r ∷ rans) ran (first, more) one = (
 pub ends-rise : (sent calls n : ℕ) (rans : List Ran) → EndAtMarks sent calls rans → Rise n (ends_from n rans)
 ends-rise sent calls n [] at_marks = tt
 ends-rise sent calls n (r ∷ rans) (first, more) = (
-  omega (arith, ap length first.marks),
+  omega (arith, ap length first.marks, length-append first.before (first.mark ∷ [])),
   ends-rise (sent + length r.sent) (calls + length r.calls) (n + length r.marks) rans more,
 )
 
@@ -128,25 +130,44 @@ turned-more plan capacities before taken effects (r ∷ rans) ran b s c (first, 
       one,
 )
 
--- ---- no apply began
+pub drained-more : (plan : Ports) (capacities : List ℕ) (taken : List Sent) (rans : List Ran) (ran : Ran) (s : List Sent) → AreDrained plan capacities taken rans → s ≡ taken ++ all_sent rans → DrainsBehind plan capacities s ran → AreDrained plan capacities taken (rans ++ ran ∷ [])
+drained-more plan capacities taken [] ran s drained s_is one = (subst (λ x. DrainsBehind plan capacities x ran) (s_is ∙ append-nil taken) one, tt)
+drained-more plan capacities taken (r ∷ rans) ran s (first, drained) s_is one = (first, drained-more plan capacities (taken ++ r.sent) rans ran s drained (s_is ∙ sym (append_assoc taken r.sent (all_sent rans))) one)
 
-settling_begins_none : (e : MarkEvent) → is_settling e ≡ true → BeginsNoApply e
-settling_begins_none (event.Settled waits turns) h = tt
-settling_begins_none (event.Faulted before after) h = tt
-settling_begins_none event.Restarted h = cc
-settling_begins_none (event.ApplyBegan mode waits) h = cc
-settling_begins_none event.ApplyEnded h = cc
+-- ---- the restarts of rounds
 
-begin_both : (xs ys : List Mark) → BeginNoApply xs → BeginNoApply ys → BeginNoApply (xs ++ ys)
-begin_both [] ys h more = more
-begin_both (x ∷ xs) ys h more = (h.0, begin_both xs ys h.1 more)
+-- whether the last mark of rounds is that of a fault, where it is so of the marks before them
+abbrev pub suspect_then : Bool → List Ran → Bool
+suspect_then fault [] = fault
+suspect_then fault (r ∷ rans) = suspect_then (is_suspect r.marks) rans
 
-begin_all : (rans : List Ran) (sent calls : ℕ) → EndAtMarks sent calls rans → BeginNoApply (all_marks rans)
-begin_all [] sent calls at = tt
-begin_all (r ∷ rans) sent calls at =
-    begin_both r.marks (all_marks rans) (subst BeginNoApply (sym at.0.marks) (settling_begins_none at.0.mark.event at.0.settling, tt))
-    (begin_all rans (sent + length r.sent) (calls + length r.calls) at.1)
+pub suspect-rounds : (xs : List Mark) (rans : List Ran) (sent calls : ℕ) → EndAtMarks sent calls rans → is_suspect (xs ++ all_marks rans) ≡ suspect_then (is_suspect xs) rans
+suspect-rounds xs [] sent calls at = ap is_suspect (append-nil xs)
+suspect-rounds xs (r ∷ rans) sent calls at =
+    ap is_suspect (sym (append_assoc xs r.marks (all_marks rans)))
+    ∙ suspect-rounds (xs ++ r.marks) rans (sent + length r.sent) (calls + length r.calls) at.1
+    ∙ ap (λ b. suspect_then b rans) one
+  where
+    one : is_suspect (xs ++ r.marks) ≡ is_suspect r.marks
+    one = ap (λ l. is_suspect (xs ++ l)) at.0.marks ∙ suspect-behind xs at.0.before at.0.mark ∙ ap is_suspect (sym at.0.marks)
 
--- each mark of rounds that ended is that of a settling
-pub begin-none : (marks : List Mark) (rans : List Ran) → marks ≡ all_marks rans → (sent calls : ℕ) → EndAtMarks sent calls rans → BeginNoApply marks
-begin-none marks rans is sent calls at = subst BeginNoApply (sym is) (begin_all rans sent calls at)
+pub restarted-none : (fault : Bool) (rounds : List Round) → AreRestarted fault [] rounds []
+restarted-none fault [] = refl
+restarted-none fault (r ∷ rounds) = inl (omega arith)
+
+pub restarted-more : (fault : Bool) (rans : List Ran) (rounds : List Round) (ran : Ran) (round : Round) → AreRestarted fault rans rounds [] → slice_get rounds (length rans) ≡ Some round → HasRestarts (suspect_then fault rans) round ran.marks → AreRestarted fault (rans ++ ran ∷ []) rounds []
+restarted-more fault [] [] ran round were at is = cc
+restarted-more fault [] (r ∷ rounds) ran round were at is =
+    let same : round ≡ r = cc in
+    (subst (λ x. HasRestarts fault x ran.marks) same is, restarted-none (is_suspect ran.marks) rounds)
+restarted-more fault (x ∷ rans) [] ran round were at is = absurd were
+restarted-more fault (x ∷ rans) (r ∷ rounds) ran round (first, more) at is = (first, restarted-more (is_suspect x.marks) rans rounds ran round more at is)
+
+-- of a round that did not end
+pub restarted-since : (fault : Bool) (rans : List Ran) (rounds : List Round) (round : Round) (marks : List Mark) → AreRestarted fault rans rounds [] → slice_get rounds (length rans) ≡ Some round → HasFewRestarts (suspect_then fault rans) round marks → AreRestarted fault rans rounds marks
+restarted-since fault [] [] round marks were at is = cc
+restarted-since fault [] (r ∷ rounds) round marks were at is =
+    let same : round ≡ r = cc in
+    subst (λ x. HasFewRestarts fault x marks) same is
+restarted-since fault (x ∷ rans) [] round marks were at is = absurd were
+restarted-since fault (x ∷ rans) (r ∷ rounds) round marks (first, more) at is = (first, restarted-since (is_suspect x.marks) rans rounds round marks more at is)

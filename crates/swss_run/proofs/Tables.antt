@@ -1,40 +1,110 @@
--- what a core took, and what its tables come to
-use Rattle.std.proofs.Common.{◌≡◌, ◌++◌, ◌∷◌, ◌∙◌, List, [], refl, sym, ap, subst}
+-- what a core made of the acts of a round, and what its tables come to
+use Rattle.std.proofs.Common.{◌≡◌, ◌⊎◌, ◌+◌, ◌≤◌, ◌++◌, ◌∷◌, ◌∙◌, inl, inr, ℕ, List, [], length, Option, Some, None, unwrap_or, refl, sym, ap, subst, arith}
 use Rattle.std.proofs.lemmas.List.{append-nil, append_assoc}
 use Rattle.table_schema.specs.Key.{key_cmp}
-use Rattle.table_schema.specs.Rows.{HasRisingRows, fields_at, rows_of}
+use Rattle.table_schema.specs.Rows.{HasRisingRows, Rows, fields_at, rows_of}
 use Rattle.table_schema.specs.declared.key.Key.{Key}
 use Rattle.table_schema.specs.declared.write.Sent.{Sent}
-use Rattle.table_schema.specs.declared.write.Write.{Write}
 use Rattle.table_schema.proofs.Keys.{key_exact, key_total}
 use Rattle.table_schema.proofs.RowLists.{HasRisingRows-rows_of}
 use Rattle.sai_types.specs.ChipState.{ChipState}
-use Rattle.switch_model.specs.Marks.{sent_writes}
-use Rattle.producer_table.specs.Pending.{pending_at, row_with_pending}
+use Rattle.switch_model.specs.History.{with_mark, with_write}
+use Rattle.switch_model.specs.Marks.{sent_writes, written_key}
+use Rattle.switch_model.specs.declared.mark.Mark.{Mark}
+use Rattle.switch_model.specs.declared.mark.MarkEvent.TheVariants as event
+use Rattle.producer_table.specs.Pending.{ArePendingInOrder, pending_at, row_with_pending}
 use Rattle.producer_table.proofs.Found.{same_entries}
-use Rattle.session_laws.specs.Core.{CoreState, with_taken}
+use Rattle.producer_table.proofs.PendingWrites.{AreInOrder-after}
+use Rattle.switch_machine.specs.Written.{Written}
+use Rattle.machine_laws.specs.Reading.{IsOnSwitch}
+use Rattle.warm_state.specs.declared.warm.Warm.TheVariants as warm
+use Rattle.session_laws.specs.Core.{CoreState, mark_at, with_taken}
+use Rattle.restart_session_laws.specs.Events.{restarted}
+use Rattle.restart_session_laws.specs.Standing.{IsAhead, written_of}
+use Rattle.restart_session_laws.proofs.Restarting.{restart-next}
+use Rattle.restart_session_laws.proofs.Taking.{taken-next}
 use Rattle.round_laws.specs.Between.{IsInRound}
 use Rattle.round_laws.specs.Sessions.{InSession}
 use Rattle.round_laws.proofs.Between.{round-takes}
-use Rattle.round_laws.proofs.Sessions.{told_of}
-use Rattle.swss_run.specs.Taking.{with_all}
+use Rattle.round_laws.proofs.Sessions.{one-on}
+use Rattle.orch_core.specs.ComingBack.{AreOnWay, restarts_marked}
+use Rattle.orch_core.proofs.Coming.{restarts_both, way_both}
+use Rattle.swss_run.specs.Running.{AreRowsTaken, KeepsPlan}
+use Rattle.swss_run.specs.Taking.{restarts_made, writes_among, with_made}
 use Rattle.swss_run.proofs.Given.{AreOnSwitch}
 
--- ---- writes taken one after the other
+-- ---- a round without a restart
 
-pub all-append : (c : CoreState) (a b : List Sent) → with_all c (a ++ b) ≡ with_all (with_all c a) b
-all-append c [] b = refl
-all-append c (s ∷ a) b = all-append (with_taken c s) a b
+pub in-round : (effects : ℕ) (old : CoreState) (chip : ChipState) (done : List Sent) (made : List (Option Sent)) (c : CoreState) → IsInRound old chip done c → restarts_made made ≡ 0 → AreOnSwitch (writes_among made) → IsInRound old chip (done ++ writes_among made) (with_made effects c made)
+in-round effects old chip done [] c x none on = subst (λ l. IsInRound old chip l c) (sym (append-nil done)) x
+in-round effects old chip done (Some s ∷ made) c x none on =
+    subst (λ l. IsInRound old chip l (with_made effects (with_taken c s) made)) (append_assoc done (s ∷ []) (writes_among made))
+    (in-round effects old chip (done ++ s ∷ []) made (with_taken c s) (round-takes old c chip done s x on.0) none on.1)
+in-round effects old chip done (None ∷ made) c x none on = absurd (some none)
+  where
+    some : 1 + restarts_made made ≡ 0 → ⊥
+    some h = omega (arith, h)
 
-pub all-limit : (c : CoreState) (sent : List Sent) → (with_all c sent).limit ≡ c.limit
-all-limit c [] = refl
-all-limit c (s ∷ sent) = all-limit (with_taken c s) sent
+-- ---- any round
 
-pub in-round : (old : CoreState) (chip : ChipState) (done sent : List Sent) (c : CoreState) → IsInRound old chip done c → AreOnSwitch sent → IsInRound old chip (done ++ sent) (with_all c sent)
-in-round old chip done [] c x on = subst (λ l. IsInRound old chip l c) (sym (append-nil done)) x
-in-round old chip done (s ∷ sent) c x on =
-    subst (λ l. IsInRound old chip l (with_all (with_taken c s) sent)) (append_assoc done (s ∷ []) sent)
-    (in-round old chip (done ++ s ∷ []) sent (with_taken c s) (round-takes old c chip done s x on.0) on.1)
+-- in a round that began with the old core these writes were taken, and so many restarts were made, and nothing else was done; without a restart the warm state is the same, and behind one the core is initialized
+pub record HasMade (old : CoreState) (chip : ChipState) (sent : List Sent) (restarts : ℕ) (c : CoreState) : Type 0 where
+  pub within : InSession c chip
+  pub order : ArePendingInOrder c.tables.waiting
+  pub added : List Mark
+  pub log : c.log ≡ record { taken = old.log.taken ++ sent; marks = old.log.marks ++ added; ends = old.log.ends }
+  pub way : AreOnWay added
+  pub count : restarts_marked added ≡ restarts
+  pub same : KeepsPlan old c
+  pub warm : ((restarts ≡ 0) × (c.warm ≡ old.warm)) ⊎ ((1 ≤ restarts) × (c.warm ≡ warm.Initialized))
+
+pub made-none : (old : CoreState) (chip : ChipState) → InSession old chip → ArePendingInOrder old.tables.waiting → HasMade old chip [] 0 old
+made-none old chip within order = record {
+  within = within;
+  order = order;
+  added = [];
+  log = ap (λ ts. record { taken = ts; marks = old.log.marks; ends = old.log.ends }) (sym (append-nil old.log.taken)) ∙ ap (λ ms. record { taken = old.log.taken ++ []; marks = ms; ends = old.log.ends }) (sym (append-nil old.log.marks));
+  way = tt;
+  count = refl;
+  same = record { plan = refl; capacities = refl; limit = refl };
+  warm = inl (refl, refl);
+}
+
+module _ (old : CoreState) (chip : ChipState) where
+  made-write : (sent : List Sent) (restarts : ℕ) (c : CoreState) (s : Sent) → HasMade old chip sent restarts c → IsOnSwitch (written_key s.write) → HasMade old chip (sent ++ s ∷ []) restarts (with_taken c s)
+  made-write sent restarts c s x on = record {
+    within = (one-on c (with_taken c s) chip chip x.within (taken-next c chip x.within.session s x.within.stands on x.order)).0;
+    order = AreInOrder-after c.tables.waiting s.write x.order;
+    added = x.added;
+    log = ap (λ h. with_write h s) x.log ∙ ap (λ ts. record { taken = ts; marks = old.log.marks ++ x.added; ends = old.log.ends }) (append_assoc old.log.taken sent (s ∷ []));
+    way = x.way;
+    count = x.count;
+    same = record { plan = x.same.plan; capacities = x.same.capacities; limit = x.same.limit };
+    warm = x.warm;
+  }
+
+  made-restart : (sent : List Sent) (restarts : ℕ) (c : CoreState) → HasMade old chip sent restarts c → HasMade old chip sent (restarts + 1) (restarted c (length chip.effects))
+  made-restart sent restarts c x =
+      let mark = mark_at c (length chip.effects) event.Restarted in
+      record {
+        within = (one-on c (restarted c (length chip.effects)) chip chip x.within (restart-next c chip x.within.session x.within.stands)).0;
+        order = x.order;
+        added = x.added ++ mark ∷ [];
+        log = ap (λ h. with_mark h mark) x.log ∙ ap (λ ms. record { taken = old.log.taken ++ sent; marks = ms; ends = old.log.ends }) (append_assoc old.log.marks x.added (mark ∷ []));
+        way = way_both x.added (mark ∷ []) x.way ((λ h. h), tt);
+        count = let both = restarts_both x.added (mark ∷ []) in let count = x.count in omega (arith, both, count);
+        same = record { plan = x.same.plan; capacities = x.same.capacities; limit = x.same.limit };
+        warm = inr (omega arith, refl);
+      }
+
+  pub made-all : (effects : ℕ) → effects ≡ length chip.effects → (sent : List Sent) (restarts : ℕ) (made : List (Option Sent)) (c : CoreState) → HasMade old chip sent restarts c → AreOnSwitch (writes_among made) → HasMade old chip (sent ++ writes_among made) (restarts + restarts_made made) (with_made effects c made)
+  made-all effects same sent restarts [] c x on = subst (λ l. HasMade old chip l (restarts + 0) c) (sym (append-nil sent)) (subst (λ n. HasMade old chip sent n c) (omega arith) x)
+  made-all effects same sent restarts (Some s ∷ made) c x on =
+      subst (λ l. HasMade old chip l (restarts + restarts_made made) (with_made effects (with_taken c s) made)) (append_assoc sent (s ∷ []) (writes_among made))
+      (made-all effects same (sent ++ s ∷ []) restarts made (with_taken c s) (made-write sent restarts c s x on.0) on.1)
+  made-all effects same sent restarts (None ∷ made) c x on =
+      subst (λ n. HasMade old chip (sent ++ writes_among made) n (with_made effects (restarted c effects) made)) (omega arith)
+      (made-all effects same sent (restarts + 1) made (restarted c effects) (subst (λ n. HasMade old chip sent (restarts + 1) (restarted c n)) (sym same) (made-restart sent restarts c x)) on)
 
 -- ---- the rows
 
@@ -44,5 +114,16 @@ rows-told c chip x none rising =
     same_entries key_cmp key_total key_exact c.tables.rows (rows_of (sent_writes c.log.taken)) rising (HasRisingRows-rows_of (sent_writes c.log.taken))
     (λ k. sym (told k ∙ ap (λ w. row_with_pending (fields_at c.tables.rows k) (pending_at w k)) none))
   where
+    s : Written
+    s = x.session.service.core.written
+
+    ahead : IsAhead s (written_of c)
+    ahead = x.stands.always.ahead
+
     told : (k : Key) → fields_at (rows_of (sent_writes c.log.taken)) k ≡ row_with_pending (fields_at c.tables.rows k) (pending_at c.tables.waiting k)
-    told k = ap (λ (ts : List Write). fields_at (rows_of ts) k) x.stands.always.ahead.taken ∙ (told_of c chip x).holds.safe.told k ∙ sym (x.stands.always.ahead.whole k)
+    told k = ap (λ ws. fields_at (rows_of ws) k) ahead.taken ∙ x.stands.always.holds.safe.told k ∙ sym (ahead.whole k)
+
+-- the rows that are shown
+pub rows-shown : (c : CoreState) (chip : ChipState) (behind : Option Rows) → InSession c chip → AreRowsTaken c behind → HasRisingRows c.tables.rows → unwrap_or behind c.tables.rows ≡ rows_of (sent_writes c.log.taken)
+rows-shown c chip None x taken rising = rows-told c chip x taken rising
+rows-shown c chip (Some rows) x taken rising = taken

@@ -1,7 +1,10 @@
+pub mod Breaks
+pub mod Faults
 pub mod Full
 pub mod Input
 pub mod Output
 pub mod Read
+pub mod Restarts
 pub mod Rounds
 pub mod Run
 pub mod Running

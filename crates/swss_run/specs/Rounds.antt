@@ -1,5 +1,5 @@
 -- The rounds of a session that ended: what the log and the chip's calls say of each, and what it prints. Own.
-use Rattle.std.specs.Prelude.{◌≡◌, ℕ, ◌+◌, ◌<◌, Bool, true, false, List, [], ◌∷◌, ◌++◌, length, flat_map}
+use Rattle.std.specs.Prelude.{◌≡◌, ℕ, ◌+◌, ◌<◌, List, [], ◌∷◌, ◌++◌, length, flat_map}
 use Rattle.table_schema.specs.Plan.{Ports}
 use Rattle.table_schema.specs.Rows.{rows_of}
 use Rattle.table_schema.specs.declared.write.Sent.{Sent}
@@ -9,18 +9,21 @@ use Rattle.sai_types.specs.declared.body.Call.{Call}
 use Rattle.switch_model.specs.History.{History}
 use Rattle.switch_model.specs.Marks.{sent_writes}
 use Rattle.switch_model.specs.declared.mark.Mark.{Mark}
-use Rattle.switch_model.specs.declared.mark.MarkEvent.{MarkEvent}
-use Rattle.switch_model.specs.declared.mark.MarkEvent.TheVariants as event
+use Rattle.machine_laws.specs.Order.{MayEndRound}
+use Rattle.orch_core.specs.ComingBack.{AreOnWay}
 use Rattle.swss_script.specs.Sent.{sent_in_round}
 use Rattle.swss_script.specs.declared.parts.Round.{Round}
 use Rattle.swss_report.specs.Ended.{Ended}
 use Rattle.swss_report.specs.Round.{IsRoundText}
 
--- a round that ended: its marks, the writes taken in it, and the chip's calls in it that took effect
+-- a round that ended, or what came of one that did not: its marks, the writes taken in it, and the chip's calls in it that took effect
 pub record Ran : Type 0 where
   pub marks : List Mark
   pub sent : List Sent
   pub calls : List (Call Rid)
+
+abbrev pub nothing_ran : Ran
+nothing_ran = record { marks = []; sent = []; calls = [] }
 
 abbrev pub all_marks : List Ran → List Mark
 all_marks rans = flat_map (λ r. r.marks) rans
@@ -36,17 +39,13 @@ abbrev pub ends_from : ℕ → List Ran → List ℕ
 ends_from n [] = []
 ends_from n (ran ∷ rans) = (n + length ran.marks) ∷ ends_from (n + length ran.marks) rans
 
--- whether a mark is that of a settling, which ended or in which the chip failed
-abbrev pub is_settling : MarkEvent → Bool
-is_settling (event.Settled waits turns) = true
-is_settling (event.Faulted before after) = true
-is_settling _ = false
-
--- a round ends at its one mark, that of its settling, which counts the writes taken and the calls made so far
+-- a round ends at its last mark, that of its settling, which counts the writes taken and the calls made so far; the marks before it are those of restarts and applies
 pub record EndsAtMark (sent calls : ℕ) (ran : Ran) : Type 0 where
+  pub before : List Mark
   pub mark : Mark
-  pub marks : ran.marks ≡ mark ∷ []
-  pub settling : is_settling mark.event ≡ true
+  pub marks : ran.marks ≡ before ++ mark ∷ []
+  pub way : AreOnWay before
+  pub settling : MayEndRound mark.event
   pub taken : mark.taken ≡ sent + length ran.sent
   pub effects : mark.effects ≡ calls + length ran.calls
 
@@ -54,13 +53,14 @@ abbrev pub EndAtMarks : ℕ → ℕ → List Ran → Type 0
 EndAtMarks sent calls [] = Unit {0}
 EndAtMarks sent calls (ran ∷ rans) = EndsAtMark sent calls ran × EndAtMarks (sent + length ran.sent) (calls + length ran.calls) rans
 
--- the log and the chip's calls are those of the rounds that ended, and then these writes and calls
-pub record IsCutInRounds (log : History) (done : List (Call Rid)) (rans : List Ran) (sent : List Sent) (calls : List (Call Rid)) : Type 0 where
-  pub marks : log.marks ≡ all_marks rans
+-- the log and the chip's calls are those of the rounds that ended, and then what came since, whose marks are those of restarts and applies
+pub record IsCutInRounds (log : History) (done : List (Call Rid)) (rans : List Ran) (since : Ran) : Type 0 where
+  pub marks : log.marks ≡ all_marks rans ++ since.marks
   pub ends : log.ends ≡ ends_from 0 rans
-  pub taken : log.taken ≡ all_sent rans ++ sent
-  pub effects : done ≡ all_calls rans ++ calls
+  pub taken : log.taken ≡ all_sent rans ++ since.sent
+  pub effects : done ≡ all_calls rans ++ since.calls
   pub at_marks : EndAtMarks 0 0 rans
+  pub way : AreOnWay since.marks
 
 -- the first number is greater than n, and each later one greater than the one before it
 abbrev pub Rise : ℕ → List ℕ → Type 0

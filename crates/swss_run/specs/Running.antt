@@ -1,19 +1,22 @@
 -- What running a round comes to. Own.
-use Rattle.std.specs.Prelude.{◌≡◌, ◌⊎◌, ℕ, ◌+◌, ◌<◌, ◌≤◌, true, List, [], ◌∷◌, ◌++◌, length, Option, Result, Ok, Err}
+use Rattle.std.specs.Prelude.{◌≡◌, ◌⊎◌, ℕ, ◌+◌, ◌<◌, ◌≤◌, true, false, List, [], ◌∷◌, ◌++◌, length, Option, Some, None, Result, Ok, Err}
 use Rattle.swss_types.specs.Outside.{HasRisen, Takes}
 use Rattle.swss_types.specs.declared.out_of_memory.OutOfMemory.{OutOfMemory}
+use Rattle.table_schema.specs.Rows.{Rows, rows_of}
 use Rattle.table_schema.specs.declared.write.Sent.{Sent}
-use Rattle.sai_types.specs.declared.ids.Rid.{Rid}
-use Rattle.sai_types.specs.declared.body.Call.{Call}
+use Rattle.sai_types.specs.ChipState.{ChipState}
 use Rattle.sai_chip.specs.Replay.{IsReplayOf, Replayed}
 use Rattle.sai_chip.specs.Sim.{Sim}
 use Rattle.switch_model.specs.History.{History, log_size}
+use Rattle.switch_model.specs.Marks.{sent_writes}
 use Rattle.switch_model.specs.Sound.{is_suspect}
 use Rattle.switch_model.specs.declared.mark.Mark.{Mark}
+use Rattle.machine_laws.specs.Order.{MayEndRound}
 use Rattle.session_laws.specs.Core.{CoreState}
-use Rattle.round_laws.specs.Between.{IsBetweenRounds, mark_of}
+use Rattle.round_laws.specs.Between.{IsReadyForRound, mark_of}
 use Rattle.round_laws.specs.Named.{keys_named}
 use Rattle.round_laws.specs.Sessions.{InSession}
+use Rattle.orch_core.specs.ComingBack.{AreOnWay}
 use Rattle.orch_core.specs.declared.answer.Settled.{Settled}
 use Rattle.orch_core.specs.declared.answer.Settled.TheVariants as settled
 use Rattle.swss_script.specs.Sent.{sent_in_round}
@@ -21,18 +24,21 @@ use Rattle.swss_script.specs.declared.parts.Round.{Round}
 use Rattle.swss_script.specs.declared.parts.Show.{Show}
 use Rattle.swss_report.specs.Ended.{Ended}
 use Rattle.swss_report.specs.Round.{IsRoundText}
+use Rattle.swss_run.specs.Faults.{FaultsRise, places_beside}
 use Rattle.swss_run.specs.Full.{IsFull}
-use Rattle.swss_run.specs.Output.{TakesFront}
-use Rattle.swss_run.specs.Rounds.{Ran, is_settling, standing}
-use Rattle.swss_run.specs.Turned.{IsRoundTurned}
+use Rattle.swss_run.specs.Output.{TakesFront, TakesPart}
+use Rattle.swss_run.specs.Restarts.{HasFewRestarts, HasRestarts}
+use Rattle.swss_run.specs.Rounds.{Ran, standing}
+use Rattle.swss_run.specs.Turned.{DrainsBehind, IsRoundTurned}
 use Rattle.swss_run.specs.declared.status.Status.{Status}
 use Rattle.swss_run.specs.declared.status.Status.TheVariants as status
 
--- a session between two rounds: the core and the chip are between rounds of a session of the service, and the replay has followed the chip
+-- a session between two rounds: the next may begin, the replay has followed the chip, and the faults that are marked are the chip's
 pub record IsRunReady (core : CoreState) (sim : Sim) (replay : Replayed) : Type 0 where
-  pub between : IsBetweenRounds core sim.chip
+  pub ready : IsReadyForRound core sim.chip
   pub follows : IsReplayOf replay sim.chip.effects
   pub at_end : replay.at ≡ length sim.chip.effects
+  pub faults : FaultsRise 0 core.log.marks sim.chip.faults
 
 -- the plan, the room and the places of the log stay
 pub record KeepsPlan (old new : CoreState) : Type 0 where
@@ -40,36 +46,52 @@ pub record KeepsPlan (old new : CoreState) : Type 0 where
   pub capacities : new.sync.capacities ≡ old.sync.capacities
   pub limit : new.limit ≡ old.limit
 
--- a log behind a round that ended with one mark
-abbrev pub with_round : History → List Sent → Mark → History
-with_round log sent mark = record { taken = log.taken ++ sent; marks = log.marks ++ mark ∷ []; ends = log.ends ++ (length log.marks + 1) ∷ [] }
+-- a log behind a round that ended
+abbrev pub with_round : History → Ran → History
+with_round log ran = record { taken = log.taken ++ ran.sent; marks = log.marks ++ ran.marks; ends = log.ends ++ length (log.marks ++ ran.marks) ∷ [] }
 
--- the round ended: all its writes were taken, and its mark counts them and the calls; where a settling ended at it, the calls are those of its turns
+-- the round ended: all its writes were taken and its restarts made, and its last mark counts the writes and the calls
 pub record EndsRound (round : Round) (old : CoreState) (sim : Sim) (ran : Ran) (new : CoreState) (sim' : Sim) : Type 0 where
+  pub before : List Mark
   pub mark : Mark
-  pub marks : ran.marks ≡ mark ∷ []
-  pub settling : is_settling mark.event ≡ true
+  pub marks : ran.marks ≡ before ++ mark ∷ []
+  pub way : AreOnWay before
+  pub settling : MayEndRound mark.event
   pub sent : ran.sent ≡ sent_in_round round
+  pub restarts : HasRestarts (is_suspect old.log.marks) round ran.marks
   pub taken : mark.taken ≡ length (old.log.taken ++ ran.sent)
   pub effects : mark.effects ≡ length (sim.chip.effects ++ ran.calls)
-  pub log : new.log ≡ with_round old.log ran.sent mark
+  pub log : new.log ≡ with_round old.log ran
   pub calls : sim'.chip.effects ≡ sim.chip.effects ++ ran.calls
   pub turned : IsRoundTurned old.board.plan old.sync.capacities (mark_of old) old.log.taken sim.chip.effects ran
+  pub drained : DrainsBehind old.board.plan old.sync.capacities old.log.taken ran
   pub within : InSession new sim'.chip
   pub same : KeepsPlan old new
   pub places : log_size new.log (length sim'.chip.effects) ≤ new.limit
-  pub fault_places : is_suspect new.log.marks ≡ true → log_size new.log sim'.chip.before_fault + 1 ≤ new.limit
+  pub fault_places : is_suspect new.log.marks ≡ true → log_size new.log sim'.chip.before_fault + places_beside new.log.marks ≤ new.limit
+  pub faults : FaultsRise 0 new.log.marks sim'.chip.faults
 
--- the round did not end: some of its writes were taken, and no mark was made
-pub record StopsRound (round : Round) (old : CoreState) (sim : Sim) (new : CoreState) (sim' : Sim) : Type 0 where
-  pub sent : List Sent
-  pub rest : List Sent
-  pub calls : List (Call Rid)
-  pub front : sent_in_round round ≡ sent ++ rest
-  pub log : new.log ≡ record old.log { taken = old.log.taken ++ sent }
-  pub grown : sim'.chip.effects ≡ sim.chip.effects ++ calls
-  pub within : InSession new sim'.chip
+-- so far this came in a round, and it did not end: writes were taken, the marks made are those of restarts and applies, and calls took effect
+pub record HasCome (old : CoreState) (chip : ChipState) (since : Ran) (new : CoreState) (chip' : ChipState) : Type 0 where
+  pub log : new.log ≡ record { taken = old.log.taken ++ since.sent; marks = old.log.marks ++ since.marks; ends = old.log.ends }
+  pub calls : chip'.effects ≡ chip.effects ++ since.calls
+  pub way : AreOnWay since.marks
+  pub within : InSession new chip'
   pub same : KeepsPlan old new
+  pub faults : FaultsRise 0 new.log.marks chip'.faults
+
+-- the round did not end: some of its writes were taken, and some restarts made
+pub record StopsRound (round : Round) (old : CoreState) (sim : Sim) (new : CoreState) (sim' : Sim) : Type 0 where
+  pub since : Ran
+  pub rest : List Sent
+  pub front : sent_in_round round ≡ since.sent ++ rest
+  pub restarts : HasFewRestarts (is_suspect old.log.marks) round since.marks
+  pub come : HasCome old sim.chip since new sim'.chip
+
+-- these rows, or else the core's, are those of the writes taken
+abbrev pub AreRowsTaken : CoreState → Option Rows → Type 0
+AreRowsTaken c None = c.tables.waiting ≡ []
+AreRowsTaken c (Some rows) = rows ≡ rows_of (sent_writes c.log.taken)
 
 -- how a settling that answered so ends the round, or the run
 abbrev pub round_ended : Result Settled OutOfMemory → Result Status Status
@@ -78,10 +100,10 @@ round_ended (Ok settled.Faulted) = Ok status.ChipFault
 round_ended (Ok settled.LogFull) = Err status.LogFull
 round_ended (Err e) = Err status.OutOfMemory
 
--- the lines of a round were written, which ended with this status and before which so many calls took effect: all of them, and then the replay has followed the chip; or a front where the sink failed or found no memory; or nothing where there was none for them
+-- the lines of a round were written, which ended with this status and before which so many calls took effect: all of them, and then the replay has followed the chip; or a part where the sink failed, and a front where it found no memory; or nothing where there was none for them
 pub data IsWritten (e : Ended) (before : ℕ) (shows : List Show) (ended : Status) (held : Option (List ℕ)) (faults : ℕ) (result : Status) (replay : Replayed) (held' : Option (List ℕ)) (faults' : ℕ) : Type 0 where
   Whole : (lines : List ℕ) → IsRoundText e before shows lines → Takes held lines held' → IsReplayOf replay e.effects → replay.at ≡ length e.effects → result ≡ ended → IsWritten e before shows ended held faults result replay held' faults'
-  Failed : (lines : List ℕ) → IsRoundText e before shows lines → TakesFront held lines held' → HasRisen faults faults' → result ≡ status.WriteFault → IsWritten e before shows ended held faults result replay held' faults'
+  Failed : (lines : List ℕ) → IsRoundText e before shows lines → TakesPart held lines held' → HasRisen faults faults' → result ≡ status.WriteFault → IsWritten e before shows ended held faults result replay held' faults'
   Wanting : (lines : List ℕ) → IsRoundText e before shows lines → TakesFront held lines held' → result ≡ status.OutOfMemory → IsWritten e before shows ended held faults result replay held' faults'
   Unwritten : held' ≡ held → result ≡ status.OutOfMemory → IsWritten e before shows ended held faults result replay held' faults'
 
@@ -98,13 +120,13 @@ TakesSome number round old sim ran held held' = (held' ≡ held) ⊎ ((lines : L
 -- what a round came to, by the status
 abbrev pub IsRoundRun : ℕ → Round → CoreState → Sim → Option (List ℕ) → ℕ → Status → CoreState → Sim → Replayed → Option (List ℕ) → ℕ → Type 0
 IsRoundRun number round old sim held faults status.Done new sim' replay held' faults' =
-    (ran : Ran) × (lines : List ℕ) × EndsRound round old sim ran new sim' × HasLines number round old sim ran lines × Takes held lines held' × IsRunReady new sim' replay
+    (ran : Ran) × (lines : List ℕ) × EndsRound round old sim ran new sim' × HasLines number round old sim ran lines × Takes held lines held' × (is_suspect new.log.marks ≡ false) × IsRunReady new sim' replay
 IsRoundRun number round old sim held faults status.ChipFault new sim' replay held' faults' =
-    (ran : Ran) × (lines : List ℕ) × EndsRound round old sim ran new sim' × HasLines number round old sim ran lines × Takes held lines held' × (is_suspect new.log.marks ≡ true) × (0 < sim'.chip.faults)
+    (ran : Ran) × (lines : List ℕ) × EndsRound round old sim ran new sim' × HasLines number round old sim ran lines × Takes held lines held' × (is_suspect new.log.marks ≡ true) × (0 < sim'.chip.faults) × IsRunReady new sim' replay
 IsRoundRun number round old sim held faults status.WriteFault new sim' replay held' faults' =
-    (ran : Ran) × (lines : List ℕ) × EndsRound round old sim ran new sim' × HasLines number round old sim ran lines × TakesFront held lines held' × HasRisen faults faults'
+    (ran : Ran) × (lines : List ℕ) × EndsRound round old sim ran new sim' × HasLines number round old sim ran lines × TakesPart held lines held' × HasRisen faults faults'
 IsRoundRun number round old sim held faults status.LogFull new sim' replay held' faults' =
-    (stops : StopsRound round old sim new sim') × IsFull new.board.plan new.sync.capacities new.limit round new.log sim'.chip stops.sent × (new.limit < log_size new.log (length sim'.chip.effects) + 2 + length (keys_named new.log.taken)) × (held' ≡ held)
+    (stops : StopsRound round old sim new sim') × IsFull new.board.plan new.sync.capacities new.limit round new.log sim'.chip stops.since × (new.limit < log_size new.log (length sim'.chip.effects) + 2 + length (keys_named new.log.taken)) × (held' ≡ held)
 IsRoundRun number round old sim held faults status.OutOfMemory new sim' replay held' faults' =
     (StopsRound round old sim new sim' × (held' ≡ held)) ⊎ ((ran : Ran) × EndsRound round old sim ran new sim' × TakesSome number round old sim ran held held')
 IsRoundRun number round old sim held faults _ new sim' replay held' faults' = ⊥

@@ -2,24 +2,28 @@
 use Rattle.std.specs.Prelude.{◌≡◌, ◌⊎◌, ℕ, ◌+◌, ◌*◌, ◌<◌, ◌≤◌, true, false, List, [], ◌++◌, length, map, slice_get, Option, Some, None}
 use Rattle.swss_types.specs.Outside.{Takes}
 use Rattle.table_schema.specs.Plan.{Ports}
-use Rattle.table_schema.specs.declared.write.Sent.{Sent}
 use Rattle.sai_types.specs.ChipState.{ChipState}
-use Rattle.sai_types.specs.declared.ids.Rid.{Rid}
-use Rattle.sai_types.specs.declared.body.Call.{Call}
 use Rattle.sai_chip.specs.Sim.{Sim}
 use Rattle.switch_model.specs.History.{History, log_size, no_history}
 use Rattle.switch_model.specs.Promises.{EffectsAreLegal, MarksAreTrue}
 use Rattle.switch_model.specs.Sound.{AreWithin, is_suspect}
 use Rattle.machine_laws.specs.Bounds.{most_calls}
+use Rattle.machine_laws.specs.Order.{IsOrdered}
+use Rattle.restart_laws.specs.Applied.{AreFollowed}
+use Rattle.restart_laws.specs.Bounded.{effects_outside, listed_at_applies}
 use Rattle.round_laws.specs.Named.{keys_named}
+use Rattle.round_laws.specs.Sessions.{BeginNoApply}
 use Rattle.swss_script.specs.declared.parts.Round.{Round}
 use Rattle.swss_script.specs.declared.script.Script.{Script}
+use Rattle.swss_run.specs.Breaks.{AreSteadyOverBreaks}
+use Rattle.swss_run.specs.Faults.{FaultsRise, places_beside}
 use Rattle.swss_run.specs.Full.{IsFull}
-use Rattle.swss_run.specs.Output.{TakesFront}
+use Rattle.swss_run.specs.Output.{TakesFront, TakesPart}
 use Rattle.swss_run.specs.Read.{WasRead}
 use Rattle.swss_run.specs.Run.{HasNoSession, chip_fail}
-use Rattle.swss_run.specs.Rounds.{AreTaken, IsCutInRounds, IsReport, Ran, Rise}
-use Rattle.swss_run.specs.Turned.{AreTurned}
+use Rattle.swss_run.specs.Restarts.{AreRestarted}
+use Rattle.swss_run.specs.Rounds.{AreTaken, IsCutInRounds, IsReport, Ran, Rise, nothing_ran}
+use Rattle.swss_run.specs.Turned.{AreDrained, AreTurned}
 use Rattle.swss_run.specs.declared.outcome.Outcome.{Outcome}
 use Rattle.swss_run.specs.declared.run.TheConstants.{LOG_LIMIT}
 use Rattle.swss_run.specs.declared.status.Status.{Status}
@@ -41,50 +45,61 @@ pub record TookFront (plan : Ports) (capacities : List ℕ) (rans : List Ran) (r
   pub report : IsReport plan capacities rans rounds text
   pub took : TakesFront held text held'
 
+-- the sink took a front of the report of these rounds, and not all of it
+pub record TookPart (plan : Ports) (capacities : List ℕ) (rans : List Ran) (rounds : List Round) (held held' : Option (List ℕ)) : Type 0 where
+  pub text : List ℕ
+  pub report : IsReport plan capacities rans rounds text
+  pub took : TakesPart held text held'
+
 -- the log is full: an event of the round that did not end needs more places than are left; and so the places, 2 more and one for each key that was written are more than the log has
-pub record HasNoPlace (plan : Ports) (capacities : List ℕ) (rounds : List Round) (rans : List Ran) (sent : List Sent) (log : History) (chip : ChipState) : Type 0 where
+pub record HasNoPlace (plan : Ports) (capacities : List ℕ) (rounds : List Round) (rans : List Ran) (since : Ran) (log : History) (chip : ChipState) : Type 0 where
   pub round : Round
   pub next : slice_get rounds (length rans) ≡ Some round
-  pub full : IsFull plan capacities log_limit round log chip sent
+  pub full : IsFull plan capacities log_limit round log chip since
   pub many : log_limit < log_size log (length chip.effects) + 2 + length (keys_named log.taken)
 
--- the last round ended at its mark, and each event found its places; where the chip failed, the call at which it did had two, for its effect and for the mark, also where it took no effect
-pub record HasEnded (sent : List Sent) (calls : List (Call Rid)) (log : History) (chip : ChipState) : Type 0 where
-  pub no_write : sent ≡ []
-  pub no_call : calls ≡ []
+-- the last round ended at its mark, and each event found its places; where the chip failed, so did the call at which it did, for its effect, if it may have one, and for the mark
+pub record HasEnded (since : Ran) (log : History) (chip : ChipState) : Type 0 where
+  pub none : since ≡ nothing_ran
   pub places : log_size log (length chip.effects) ≤ log_limit
-  pub fault_places : is_suspect log.marks ≡ true → log_size log chip.before_fault + 1 ≤ log_limit
+  pub fault_places : is_suspect log.marks ≡ true → log_size log chip.before_fault + places_beside log.marks ≤ log_limit
 
--- what the status says of the rounds that ended, of the log's places, and of what the sink took: the whole report where all rounds ended, where the chip failed in the last that ended, and where the log is full; a front of it where the sink failed; a front of that of some of the rounds where memory was refused
-abbrev pub IsReported : Status → Ports → List ℕ → List Round → List Ran → List Sent → List (Call Rid) → History → ChipState → Option (List ℕ) → Option (List ℕ) → Type 0
-IsReported status.Done plan capacities rounds rans sent calls log chip held held' =
-    HasEnded sent calls log chip × (length rans ≡ length rounds) × (is_suspect log.marks ≡ false) × TookReport plan capacities rans rounds held held'
-IsReported status.ChipFault plan capacities rounds rans sent calls log chip held held' =
-    HasEnded sent calls log chip × (is_suspect log.marks ≡ true) × (0 < chip.faults) × TookReport plan capacities rans rounds held held'
-IsReported status.WriteFault plan capacities rounds rans sent calls log chip held held' =
-    HasEnded sent calls log chip × TookFront plan capacities rans rounds held held'
-IsReported status.LogFull plan capacities rounds rans sent calls log chip held held' =
-    HasNoPlace plan capacities rounds rans sent log chip × TookReport plan capacities rans rounds held held'
-IsReported status.OutOfMemory plan capacities rounds rans sent calls log chip held held' =
+-- what the status says of the rounds that ended, of the log's places, and of what the sink took: the whole report where all rounds ended, the last with or without a fault of the chip, and where the log is full; a front of it, and not all, where the sink failed; a front of that of some of the rounds where memory was refused
+abbrev pub IsReported : Status → Ports → List ℕ → List Round → List Ran → Ran → History → ChipState → Option (List ℕ) → Option (List ℕ) → Type 0
+IsReported status.Done plan capacities rounds rans since log chip held held' =
+    HasEnded since log chip × (length rans ≡ length rounds) × (is_suspect log.marks ≡ false) × TookReport plan capacities rans rounds held held'
+IsReported status.ChipFault plan capacities rounds rans since log chip held held' =
+    HasEnded since log chip × (length rans ≡ length rounds) × (is_suspect log.marks ≡ true) × (0 < chip.faults) × TookReport plan capacities rans rounds held held'
+IsReported status.WriteFault plan capacities rounds rans since log chip held held' =
+    HasEnded since log chip × TookPart plan capacities rans rounds held held'
+IsReported status.LogFull plan capacities rounds rans since log chip held held' =
+    HasNoPlace plan capacities rounds rans since log chip × TookReport plan capacities rans rounds held held'
+IsReported status.OutOfMemory plan capacities rounds rans since log chip held held' =
     (told : List Ran) × (untold : List Ran) × (rans ≡ told ++ untold) × TookFront plan capacities told rounds held held'
-IsReported _ plan capacities rounds rans sent calls log chip held held' = ⊥
+IsReported _ plan capacities rounds rans since log chip held held' = ⊥
 
--- a session over rounds: every chip call was legal, and at most so many took effect as an operation makes for each write taken; every mark is true and counts no fewer writes and calls than the mark before it and no more than there are, the writes taken are those of the rounds in order and each once, the ends of rounds rise, the calls of each round whose settling ended are those of its turns, which leave quiet rows alone and drain where there is room, and the sink took what the status says of the report
+-- a session over rounds. Of all that was made: every chip call was legal; outside applies at most so many took effect as an operation makes for each write taken and each key listed where an apply began, and where none began, for each write; every mark is true, counts no fewer writes and calls than the mark before it and no more than there are, and stands where it may; of each apply, what holds while it is made, and of applies that are broken off one after the other, what holds over them all; and each fault of the chip has its mark. Of the rounds: the writes taken are theirs in order and each once, the ends of rounds rise, they restarted as often as their sections say, or once more behind a fault; the calls of each round that neither follows a fault nor has one, and did not restart, are those of its turns, which leave quiet rows alone and drain where there is room, and so does each that restarted. And the sink took what the status says of the report
 pub record IsSession (plan : Ports) (capacities : List ℕ) (rounds : List Round) (ended : Status) (log : History) (chip : ChipState) (held held' : Option (List ℕ)) : Type 0 where
   pub room : chip.capacities ≡ capacities
   pub clean : chip.clean ≡ true
   pub legality : EffectsAreLegal plan capacities log.taken chip.effects
-  pub few : length chip.effects ≤ most_calls * length log.taken
+  pub few : effects_outside None log.marks (length chip.effects) ≤ most_calls * (length log.taken + listed_at_applies log.marks)
+  pub all_few : BeginNoApply log.marks → length chip.effects ≤ most_calls * length log.taken
   pub marks : MarksAreTrue plan capacities log chip.effects
   pub counts : AreWithin (length log.taken) (length chip.effects) log.marks
+  pub order : IsOrdered log
+  pub applies : AreFollowed plan capacities log.taken chip.effects log.marks
+  pub breaks : AreSteadyOverBreaks plan log.taken chip.effects log.marks
+  pub faults : FaultsRise 0 log.marks chip.faults
   pub rans : List Ran
-  pub sent : List Sent
-  pub calls : List (Call Rid)
-  pub cut : IsCutInRounds log chip.effects rans sent calls
+  pub since : Ran
+  pub cut : IsCutInRounds log chip.effects rans since
   pub rise : Rise 0 log.ends
-  pub writes : AreTaken rans rounds sent
+  pub writes : AreTaken rans rounds since.sent
+  pub restarts : AreRestarted false rans rounds since.marks
   pub turned : AreTurned plan capacities None [] [] rans
-  pub reported : IsReported ended plan capacities rounds rans sent calls log chip held held'
+  pub drained : AreDrained plan capacities [] rans
+  pub reported : IsReported ended plan capacities rounds rans since log chip held held'
 
 -- a session of a script: its chip has the script's failing calls, and failed at no more calls than these are
 pub record IsScriptRun (script : Script) (ended : Status) (log : History) (chip : ChipState) (held held' : Option (List ℕ)) : Type 0 where

@@ -1,5 +1,5 @@
--- What taking the writes of a round comes to. Own.
-use Rattle.std.specs.Prelude.{◌≡◌, ℕ, ◌==◌, List, [], ◌∷◌, ◌++◌, map, count_by, Result, Ok, Err}
+-- What taking the writes of a round and making its restarts comes to. Own.
+use Rattle.std.specs.Prelude.{◌≡◌, ℕ, ◌+◌, ◌==◌, List, [], ◌∷◌, ◌++◌, map, count_by, Option, Some, None, Result, Ok, Err}
 use Rattle.std.specs.BTreeMap.{is_at}
 use Rattle.std.specs.List.{AllByRecursion}
 use Rattle.std.specs.Map.{lookup}
@@ -9,16 +9,22 @@ use Rattle.swss_types.specs.declared.out_of_memory.OutOfMemory.{OutOfMemory}
 use Rattle.table_schema.specs.declared.write.Sent.{Sent}
 use Rattle.table_schema.specs.declared.write.Write.{Write}
 use Rattle.session_laws.specs.Core.{CoreState, IsFullFor, with_taken}
+use Rattle.restart_session_laws.specs.Events.{restarted}
 use Rattle.swss_script.specs.Given.{HasReadKey}
-use Rattle.swss_script.specs.Sections.{acts_of}
-use Rattle.swss_script.specs.Sent.{sent_after}
+use Rattle.swss_script.specs.Sent.{next_sent}
 use Rattle.swss_script.specs.declared.parts.Act.{Act}
+use Rattle.swss_script.specs.declared.parts.Act.TheVariants as act
+use Rattle.swss_script.specs.declared.parts.Section.{Section}
 use Rattle.swss_run.specs.declared.taking.Taken.{Taken}
 use Rattle.swss_run.specs.declared.taking.Taken.TheVariants as taken
 
--- the writes of acts, each with this producer
-abbrev pub writes_by : ℕ → List Act → List (ℕ × Write)
-writes_by producer acts = map (λ w. (producer, w)) (acts_of acts)
+-- the acts of a section and of sections, each with its producer
+abbrev pub acts_by : ℕ → List Act → List (ℕ × Act)
+acts_by producer acts = map (λ a. (producer, a)) acts
+
+abbrev pub acts_in : List Section → List (ℕ × Act)
+acts_in [] = []
+acts_in (section ∷ sections) = acts_by section.producer section.acts ++ acts_in sections
 
 -- the key of each of these writes is one that was read
 abbrev pub HaveReadKeys : List (ℕ × Write) → Type 0
@@ -31,22 +37,56 @@ Counts = List (ℕ × ℕ)
 pub record AreCounted (counts : Counts) (sent : List Sent) : Type 0 where
   pub each : (producer : ℕ) → unwrap_or (lookup (is_at (nat_cmp producer)) counts) 0 ≡ count_by (λ s. s.from == producer) sent
 
--- a core that took these writes, one after the other
-abbrev pub with_all : CoreState → List Sent → CoreState
-with_all c [] = c
-with_all c (sent ∷ more) = with_all (with_taken c sent) more
+-- ---- what is made of acts
 
--- the writes of producers behind those of the round so far: all were taken, and counted; or some, and the next found the log full; or some, and memory was refused
-abbrev pub IsTook : ℕ → List Sent → List (ℕ × Write) → CoreState → Taken → CoreState → Counts → Type 0
-IsTook effects before writes old taken.All new counts = (sent : List Sent) × (sent_after before writes ≡ before ++ sent) × (new ≡ with_all old sent) × AreCounted counts (before ++ sent)
-IsTook effects before writes old taken.LogFull new counts =
-    (sent : List Sent) × (next : Sent) × (later : List Sent) × (sent_after before writes ≡ before ++ (sent ++ next ∷ later)) × (new ≡ with_all old sent) × IsFullFor new effects 1
-IsTook effects before writes old taken.NoMemory new counts =
-    (sent : List Sent) × (later : List Sent) × (sent_after before writes ≡ before ++ (sent ++ later)) × (new ≡ with_all old sent)
+-- an act is made after these writes were sent: a write is sent with its number, or it is a restart
+abbrev pub act_made : List Sent → ℕ → Act → Option Sent
+act_made before producer (act.Write write) = Some (next_sent before (producer, write))
+act_made before producer act.Restart = None
 
--- the same of the first writes of a round
-abbrev pub IsRoundTook : ℕ → List (ℕ × Write) → CoreState → Taken → CoreState → Type 0
-IsRoundTook effects writes old result new = (counts : Counts) × IsTook effects [] writes old result new counts
+abbrev pub sent_then : List Sent → Option Sent → List Sent
+sent_then before (Some sent) = before ++ sent ∷ []
+sent_then before None = before
+
+-- acts are made in order: each write with its number, and each restart as none
+abbrev pub acts_made : List Sent → List (ℕ × Act) → List (Option Sent)
+acts_made before [] = []
+acts_made before (next ∷ more) = act_made before next.0 next.1 ∷ acts_made (sent_then before (act_made before next.0 next.1)) more
+
+-- the writes among them, and how many restarts
+abbrev pub writes_among : List (Option Sent) → List Sent
+writes_among [] = []
+writes_among (Some sent ∷ more) = sent ∷ writes_among more
+writes_among (None ∷ more) = writes_among more
+
+abbrev pub restarts_made : List (Option Sent) → ℕ
+restarts_made [] = 0
+restarts_made (Some sent ∷ more) = restarts_made more
+restarts_made (None ∷ more) = 1 + restarts_made more
+
+-- a core that took these writes and restarted where none is, one after the other, beside a chip with so many effects
+abbrev pub with_made : ℕ → CoreState → List (Option Sent) → CoreState
+with_made effects c [] = c
+with_made effects c (Some sent ∷ more) = with_made effects (with_taken c sent) more
+with_made effects c (None ∷ more) = with_made effects (restarted c effects) more
+
+-- the acts of producers behind the writes of the round so far: all were made, and their writes counted; or some, and the next found the log full; or some, and memory was refused
+abbrev pub IsMade : ℕ → List Sent → List (ℕ × Act) → CoreState → Taken → CoreState → Counts → Type 0
+IsMade effects before acts old taken.All new counts = (new ≡ with_made effects old (acts_made before acts)) × AreCounted counts (before ++ writes_among (acts_made before acts))
+IsMade effects before acts old taken.LogFull new counts =
+    (done : List (ℕ × Act)) × (next : ℕ × Act) × (later : List (ℕ × Act)) × (acts ≡ done ++ next ∷ later) × (new ≡ with_made effects old (acts_made before done)) × IsFullFor new effects 1
+IsMade effects before acts old taken.NoMemory new counts =
+    (done : List (ℕ × Act)) × (later : List (ℕ × Act)) × (acts ≡ done ++ later) × (new ≡ with_made effects old (acts_made before done))
+
+-- the same of the first acts of a round
+abbrev pub IsRoundMade : ℕ → List (ℕ × Act) → CoreState → Taken → CoreState → Type 0
+IsRoundMade effects acts old result new = (counts : Counts) × IsMade effects [] acts old result new counts
+
+-- a restart was made; or it found the log full; or memory was refused
+abbrev pub IsRestartMade : ℕ → CoreState → Taken → CoreState → Type 0
+IsRestartMade effects old taken.All new = new ≡ restarted old effects
+IsRestartMade effects old taken.LogFull new = (new ≡ old) × IsFullFor new effects 1
+IsRestartMade effects old taken.NoMemory new = new ≡ old
 
 -- the number of a producer's next write, which is counted then
 abbrev pub IsNextNumber : ℕ → List Sent → Result ℕ OutOfMemory → Counts → Type 0

@@ -52,11 +52,12 @@ pub fn swss_main<R: Threads + Wait + Sync, S: Source, K: Sink, G: Gate + Sync>(
     ensures read_fault { result.status ≡ Status.ReadFault → HasRisen (S.faults source.old) (S.faults source.new) }
     ensures write_fault { result.status ≡ Status.WriteFault → HasRisen (K.faults sink.old) (K.faults sink.new) }
 
-    // On wrong words, a refused script and a fault of reading no session begins and nothing is written. Else the session is
-    // that of the script that the source gave: every chip call was legal, and they are few by the writes taken; every mark is
-    // true; the writes taken are the script's, round by round, in order and each once, the ends of the rounds rise, the log is
-    // full exactly where an event needs more places than are left, and the sink took the report as the status says. The chip
-    // has the script's failing calls and failed at no more than these, so a chip fault comes only where the script has one.
+    // On wrong words, a refused script and a fault of reading no session begins and nothing is written. Else the
+    // session is that of the script that the source gave: every chip call was legal, and outside applies they are few
+    // by the writes taken and the keys listed; every mark is true; the writes taken are the script's, round by round,
+    // in order and each once, the ends of the rounds rise, the log is full exactly where an event needs more places
+    // than are left, and the sink took the report as the status says. The chip has the script's failing calls and
+    // failed at no more than these, so a chip fault comes only where the script has one.
     ensures session { TellsOfSession result.status result (S.left source.old) (S.left source.new) (K.holds sink.old) (K.holds sink.new) }
 {
     run(alloc, words, source, sink)

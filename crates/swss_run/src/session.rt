@@ -1,15 +1,18 @@
 // A session: each round of a script is taken and settled, and its lines are written.
-ghost use Rattle.std.specs.Prelude.{◌≡◌, ◌<◌, ◌≤◌, false};
+ghost use Rattle.std.specs.Prelude.{◌≡◌, ◌<◌, ◌≤◌, false, unwrap_or, IfOk};
 ghost use Rattle.std.specs.List.{AllByRecursion};
 ghost use Rattle.swss_types.specs.Outside.{HasRisen};
 ghost use Rattle.sai_types.specs.ChipState.{new_chip};
 ghost use Rattle.table_schema.specs.Plan.{IsPlan};
+ghost use Rattle.table_schema.specs.Rows.{HasRisingRows, rows_of};
+ghost use Rattle.switch_model.specs.Marks.{sent_writes};
+ghost use Rattle.producer_table.specs.Pending.{ArePendingInOrder};
 ghost use Rattle.session_laws.specs.Core.{new_core};
 ghost use Rattle.swss_run.specs.Run.{ends_early};
 ghost use Rattle.sai_chip.specs.Replay.{IsReplayOf};
 ghost use Rattle.swss_report.specs.Ended.{ended_round};
 ghost use Rattle.swss_script.specs.Sent.{writes_in};
-ghost use Rattle.swss_run.specs.Running.{IsRunReady, IsRoundRun, IsWritten, round_ended};
+ghost use Rattle.swss_run.specs.Running.{AreRowsTaken, IsRunReady, IsRoundRun, IsWritten, round_ended};
 ghost use Rattle.swss_run.specs.Session.{IsSession, log_limit};
 ghost use Rattle.swss_run.specs.Taking.{HaveReadKeys};
 
@@ -17,12 +20,14 @@ use crate::Status;
 use crate::output::{Output, write_all};
 use crate::taking::{Taken, take_round};
 use orch_core::{Core, Settled};
+use row_store::Rows;
 use sai_chip::{Replay, SimChip};
 use sai_types::Chip;
 use std::alloc::Global;
 use swss_report::{RoundEnd, round_lines};
 use swss_script::{Round, RoundList};
 use swss_types::{OutOfMemory, Sink};
+use table_schema::Sent;
 
 /// Runs rounds one after the other on a new core and a new chip, until all have ended or one can't go on.
 pub(crate) fn run_rounds<K: Sink>(
@@ -43,14 +48,17 @@ pub(crate) fn run_rounds<K: Sink>(
 {
     let mut replay = Replay::new(alloc);
     let mut number = 0u64;
+    let mut ended = Status::Done;
     for round in rounds.into_vec() {
         number += 1;
         match run_round(alloc, core, chip, &mut replay, number, round, sink) {
-            Status::Done => {}
-            ended => return ended,
+            Status::Done => ended = Status::Done,
+            // The next round begins with a restart.
+            Status::ChipFault => ended = Status::ChipFault,
+            stopped => return stopped,
         }
     }
-    Status::Done
+    ended
 }
 
 /// Runs a round: its writes are taken, they are settled, and its lines are written.
@@ -79,21 +87,57 @@ fn run_round<K: Sink>(
     }
     let settled = core.settle(chip);
     match round_ended(settled) {
-        Ok(ended) => {
-            // The rows are in key order.
-            let _count = core.rows().len();
-            let end = RoundEnd {
-                plan: core.plan(),
-                number,
-                marks: &core.log().marks()[before..],
-                taken: core.log().taken().len() as u64,
-                rows: core.rows(),
-                chip,
-                shows: shows.items(),
-            };
-            write_lines(alloc, &end, replay, ended, sink)
-        }
+        Ok(ended) => match rows_behind(alloc, core) {
+            Ok(behind) => {
+                let end = RoundEnd {
+                    plan: core.plan(),
+                    number,
+                    marks: &core.log().marks()[before..],
+                    taken: core.log().taken().len() as u64,
+                    rows: rows_shown(core, &behind),
+                    chip,
+                    shows: shows.items(),
+                };
+                write_lines(alloc, &end, replay, ended, sink)
+            }
+            Err(OutOfMemory) => Status::OutOfMemory,
+        },
         Err(status) => status,
+    }
+}
+
+/// The rows of the writes taken, where the core's are behind them: a write still waits after a list of the chip that failed.
+fn rows_behind(alloc: Global, core: &Core) -> Result<Option<Rows>, OutOfMemory>
+    ensures rows { IfOk result (λ behind. AreRowsTaken core.now behind) }
+    ensures order { ArePendingInOrder core.now.tables.waiting }
+    ensures rising { HasRisingRows core.now.tables.rows }
+{
+    // The rows are in key order.
+    let _count = core.rows().len();
+    if core.is_popped() {
+        return Ok(None);
+    }
+    Ok(Some(rows_taken(alloc, core.log().taken())?))
+}
+
+/// The rows of these writes.
+fn rows_taken(alloc: Global, taken: &[Sent]) -> Result<Rows, OutOfMemory>
+    ensures { IfOk result (λ rows. rows ≡ rows_of (sent_writes taken.now)) }
+{
+    let mut rows = Rows::new(alloc);
+    for sent in taken {
+        rows.apply(&sent.write)?;
+    }
+    Ok(rows)
+}
+
+/// These rows, or those of the core.
+fn rows_shown<'a>(core: &'a Core, behind: &'a Option<Rows>) -> &'a Rows
+    ensures { result.now ≡ unwrap_or behind.now core.now.tables.rows }
+{
+    match behind {
+        Some(rows) => rows,
+        None => core.rows(),
     }
 }
 

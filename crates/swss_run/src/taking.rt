@@ -1,10 +1,10 @@
-// Taking the writes of a round.
+// Taking the writes of a round, and making its restarts.
 ghost use Rattle.std.specs.Prelude.{◌≡◌, List, [], ◌∷◌};
 ghost use Rattle.table_schema.specs.declared.write.Sent.{Sent};
-ghost use Rattle.swss_script.specs.Sent.{writes_in};
-ghost use Rattle.swss_run.specs.Taking.{AreCounted, IsNextNumber, IsRoundTook, IsTook, writes_by};
+ghost use Rattle.swss_script.specs.declared.parts.Act.TheVariants as act;
+ghost use Rattle.swss_run.specs.Taking.{AreCounted, IsMade, IsNextNumber, IsRestartMade, IsRoundMade, acts_by, acts_in};
 
-use orch_core::Core;
+use orch_core::{Core, LogFull};
 use std::alloc::Global;
 use std::collections::BTreeMap;
 use swss_script::{Act, Acts, Sections};
@@ -25,10 +25,10 @@ pub(crate) enum Taken {
 /// How many writes of the round each producer has sent.
 type Counts = BTreeMap<u32, u64>;
 
-/// Takes the writes of a round's sections in order; those of each producer are numbered from 0. `effects` is the number
-/// of the chip's effects.
+/// Takes the writes of a round's sections, and makes their restarts, in order; the writes of each producer are numbered from 0.
+/// `effects` is the number of the chip's effects.
 pub(crate) fn take_round(alloc: Global, core: &mut Core, effects: u64, sections: Sections) -> Taken
-    ensures { IsRoundTook effects (writes_in sections) core.old result core.new }
+    ensures { IsRoundMade effects (acts_in sections) core.old result core.new }
 {
     let mut counts = BTreeMap::new(alloc);
     for section in sections.into_vec() {
@@ -40,7 +40,7 @@ pub(crate) fn take_round(alloc: Global, core: &mut Core, effects: u64, sections:
     Taken::All
 }
 
-/// Takes the writes of a section. It has no restart: the reader refuses that.
+/// Takes the writes of a section, and makes its restarts.
 fn take_section(
     core: &mut Core,
     effects: u64,
@@ -48,17 +48,25 @@ fn take_section(
     acts: Acts,
     counts: &mut Counts,
 ) -> Taken
-    ensures { (before : List Sent) → AreCounted counts.old.entries before → IsTook effects before (writes_by producer acts) core.old result core.new counts.new.entries }
+    ensures { (before : List Sent) → AreCounted counts.old.entries before → IsMade effects before (acts_by producer acts) core.old result core.new counts.new.entries }
 {
     for act in acts.into_vec() {
-        if let Act::Write(write) = act {
-            match take_write(core, effects, producer, write, counts) {
-                Taken::All => {}
-                ended => return ended,
-            }
+        match take_act(core, effects, producer, act, counts) {
+            Taken::All => {}
+            ended => return ended,
         }
     }
     Taken::All
+}
+
+/// Takes a write, or restarts.
+fn take_act(core: &mut Core, effects: u64, producer: u32, act: Act, counts: &mut Counts) -> Taken
+    ensures { (before : List Sent) → AreCounted counts.old.entries before → IsMade effects before ((producer, act) ∷ []) core.old result core.new counts.new.entries }
+{
+    match act {
+        Act::Write(write) => take_write(core, effects, producer, write, counts),
+        Act::Restart => restart(core, effects),
+    }
 }
 
 /// Takes a write, numbered by how many of its producer came before it in the round.
@@ -69,7 +77,7 @@ fn take_write(
     write: Write,
     counts: &mut Counts,
 ) -> Taken
-    ensures { (before : List Sent) → AreCounted counts.old.entries before → IsTook effects before ((producer, write) ∷ []) core.old result core.new counts.new.entries }
+    ensures { (before : List Sent) → AreCounted counts.old.entries before → IsMade effects before ((producer, act.Write write) ∷ []) core.old result core.new counts.new.entries }
 {
     let Ok(number) = next_number(counts, producer) else {
         return Taken::NoMemory;
@@ -82,6 +90,17 @@ fn take_write(
     match core.take(sent, effects) {
         Ok(Ok(())) => Taken::All,
         Ok(Err(_)) => Taken::LogFull,
+        Err(OutOfMemory) => Taken::NoMemory,
+    }
+}
+
+/// Makes a restart.
+fn restart(core: &mut Core, effects: u64) -> Taken
+    ensures { IsRestartMade effects core.old result core.new }
+{
+    match core.restart(effects) {
+        Ok(Ok(())) => Taken::All,
+        Ok(Err(LogFull)) => Taken::LogFull,
         Err(OutOfMemory) => Taken::NoMemory,
     }
 }

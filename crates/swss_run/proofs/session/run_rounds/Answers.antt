@@ -7,7 +7,7 @@ use Rattle.sai_chip.specs.Replay.{Replayed}
 use Rattle.swss_script.specs.Sent.{writes_in}
 use Rattle.swss_script.specs.declared.parts.Round.{Round}
 use Rattle.swss_run.specs.Taking.{HaveReadKeys}
-use Rattle.swss_run.proofs.Sessions.{replay-none, running-more, running-none, session-done, session-ended}
+use Rattle.swss_run.proofs.Sessions.{ended-none, replay-none, running-failed, running-more, running-none, session-done, session-ended}
 use Rattle.swss_run.proofs.session.run_rounds.Goals as goal
 
 round-at : (done : List Round) (round : Round) (rest rounds : List Round) → rounds ≡ done ++ round ∷ rest → slice_get rounds (length done) ≡ Some round
@@ -31,6 +31,7 @@ loop-round-init g c =
       subst AreRead (sym items) c.requires.read,
       omega arith,
       running-none c.args.rounds c.args.core.now c.args.chip.now (g.K.Sink.holds c.args.sink.now) c.new-replay.result c.requires.new c.requires.chip c.requires.plan (replay-none c.args.chip.now.chip.effects c.new-replay.result c.new-replay.ensures) (ap (λ (r : Replayed). r.at) c.new-replay.ensures),
+      ended-none c.args.core.now c.args.chip.now c.requires.new,
       refl,
     )
 
@@ -46,26 +47,48 @@ returns-in_default-clause-session g c =
     session-ended c.args.rounds c.loop-round.invariant.0 c.args.core.now (g.K.Sink.holds c.args.sink.now) c.loop-round.core c.loop-round.chip c.loop-round.replay (g.K.Sink.holds c.loop-round.sink) c.loop-round.invariant.5
     c.in-Some.round (c.loop-round.number + 1) (round-at c.loop-round.invariant.0 c.in-Some.round c.next.new.self.rest.items c.args.rounds split) (ap (λ n. n + 1) c.loop-round.invariant.2)
     (g.K.Sink.faults c.loop-round.sink) (g.K.Sink.faults c.run_round.new.sink) c.run_round.new.core c.run_round.new.chip c.run_round.new.replay (g.K.Sink.holds c.run_round.new.sink)
-    c.run_round.result c.in_default.not-Done c.run_round.ensures.run
+    c.run_round.result c.in_default.not-Done c.in_default.not-ChipFault c.run_round.ensures.run
 
-pub loop-round-preserved : goal.loop-round-preserved
-loop-round-preserved g c =
+pub loop-round-preserved-in-Done : goal.loop-round-preserved-in-Done
+loop-round-preserved-in-Done g c =
     let left : c.loop-round.round-iterator.rest.items ≡ c.in-Some.round ∷ c.next.new.self.rest.items = search rules in
-    let split : c.args.rounds ≡ c.loop-round.invariant.0 ++ c.in-Some.round ∷ c.next.new.self.rest.items = c.loop-round.invariant.1 ∙ ap (λ l. c.loop-round.invariant.0 ++ l) left in (
+    let split : c.args.rounds ≡ c.loop-round.invariant.0 ++ c.in-Some.round ∷ c.next.new.self.rest.items = c.loop-round.invariant.1 ∙ ap (λ l. c.loop-round.invariant.0 ++ l) left in
+    let more =
+    running-more c.args.rounds c.loop-round.invariant.0 c.args.core.now (g.K.Sink.holds c.args.sink.now) c.loop-round.core c.loop-round.chip c.loop-round.replay (g.K.Sink.holds c.loop-round.sink) c.loop-round.invariant.5
+    c.in-Some.round (c.loop-round.number + 1) (round-at c.loop-round.invariant.0 c.in-Some.round c.next.new.self.rest.items c.args.rounds split) (ap (λ n. n + 1) c.loop-round.invariant.2)
+    (g.K.Sink.faults c.loop-round.sink) (g.K.Sink.faults c.run_round.new.sink) c.run_round.new.core c.run_round.new.chip c.run_round.new.replay (g.K.Sink.holds c.run_round.new.sink)
+    c.in-Done.ensures.run in (
       c.loop-round.invariant.0 ++ c.in-Some.round ∷ [],
       split ∙ sym (append_assoc c.loop-round.invariant.0 (c.in-Some.round ∷ []) c.next.new.self.rest.items),
       ap (λ n. n + 1) c.loop-round.invariant.2 ∙ sym (length-append c.loop-round.invariant.0 (c.in-Some.round ∷ [])),
       (read-first c.loop-round.round-iterator.rest.items c.next.new.self.rest.items c.in-Some.round left c.loop-round.invariant.3).1,
       omega (arith, c.loop-round.invariant.4, c.run_round.ensures.counts),
-      running-more c.args.rounds c.loop-round.invariant.0 c.args.core.now (g.K.Sink.holds c.args.sink.now) c.loop-round.core c.loop-round.chip c.loop-round.replay (g.K.Sink.holds c.loop-round.sink) c.loop-round.invariant.5
-          c.in-Some.round (c.loop-round.number + 1) (round-at c.loop-round.invariant.0 c.in-Some.round c.next.new.self.rest.items c.args.rounds split) (ap (λ n. n + 1) c.loop-round.invariant.2)
-          (g.K.Sink.faults c.loop-round.sink) (g.K.Sink.faults c.run_round.new.sink) c.run_round.new.core c.run_round.new.chip c.run_round.new.replay (g.K.Sink.holds c.run_round.new.sink)
-          c.in-Done.ensures.run,
-      c.run_round.ensures.fails ∙ c.loop-round.invariant.6,
+      more.0,
+      more.1,
+      c.run_round.ensures.fails ∙ c.loop-round.invariant.7,
+    )
+
+pub loop-round-preserved : goal.loop-round-preserved
+loop-round-preserved g c =
+    let left : c.loop-round.round-iterator.rest.items ≡ c.in-Some.round ∷ c.next.new.self.rest.items = search rules in
+    let split : c.args.rounds ≡ c.loop-round.invariant.0 ++ c.in-Some.round ∷ c.next.new.self.rest.items = c.loop-round.invariant.1 ∙ ap (λ l. c.loop-round.invariant.0 ++ l) left in
+    let more =
+    running-failed c.args.rounds c.loop-round.invariant.0 c.args.core.now (g.K.Sink.holds c.args.sink.now) c.loop-round.core c.loop-round.chip c.loop-round.replay (g.K.Sink.holds c.loop-round.sink) c.loop-round.invariant.5
+    c.in-Some.round (c.loop-round.number + 1) (round-at c.loop-round.invariant.0 c.in-Some.round c.next.new.self.rest.items c.args.rounds split) (ap (λ n. n + 1) c.loop-round.invariant.2)
+    (g.K.Sink.faults c.loop-round.sink) (g.K.Sink.faults c.run_round.new.sink) c.run_round.new.core c.run_round.new.chip c.run_round.new.replay (g.K.Sink.holds c.run_round.new.sink)
+    c.in-ChipFault.ensures.run in (
+      c.loop-round.invariant.0 ++ c.in-Some.round ∷ [],
+      split ∙ sym (append_assoc c.loop-round.invariant.0 (c.in-Some.round ∷ []) c.next.new.self.rest.items),
+      ap (λ n. n + 1) c.loop-round.invariant.2 ∙ sym (length-append c.loop-round.invariant.0 (c.in-Some.round ∷ [])),
+      (read-first c.loop-round.round-iterator.rest.items c.next.new.self.rest.items c.in-Some.round left c.loop-round.invariant.3).1,
+      omega (arith, c.loop-round.invariant.4, c.run_round.ensures.counts),
+      more.0,
+      more.1,
+      c.run_round.ensures.fails ∙ c.loop-round.invariant.7,
     )
 
 pub returns-clause-session : goal.returns-clause-session
 returns-clause-session g c =
     let none : c.loop-round.round-iterator.rest.items ≡ [] = nil_from_length c.loop-round.round-iterator.rest.items (sym c.loop-round.round-iterator.rest.ok.0 ∙ c.in-None.ensures.steps.0) in
     let split : c.args.rounds ≡ c.loop-round.invariant.0 = c.loop-round.invariant.1 ∙ ap (λ l. c.loop-round.invariant.0 ++ l) none ∙ append-nil c.loop-round.invariant.0 in
-    session-done c.args.rounds c.loop-round.invariant.0 c.args.core.now (g.K.Sink.holds c.args.sink.now) c.loop-round.core c.loop-round.chip c.loop-round.replay (g.K.Sink.holds c.loop-round.sink) c.loop-round.invariant.5 (ap length (sym split))
+    session-done c.args.rounds c.loop-round.invariant.0 c.args.core.now (g.K.Sink.holds c.args.sink.now) c.loop-round.core c.loop-round.chip c.loop-round.replay (g.K.Sink.holds c.loop-round.sink) c.loop-round.invariant.5 c.loop-round.ended (ap length (sym split)) c.loop-round.invariant.6
