@@ -89,8 +89,18 @@ impl Ord for Bits {
 
     ghost matches_eq = { Prim.search (comparing, rules) };
 
+    // Word by word, so that the numbers need not be put together.
     fn cmp(&self, other: &Bits) -> Ordering {
-        self.number().cmp(&other.number())
+        if self.first != other.first {
+            return self.first.cmp(&other.first);
+        }
+        if self.second != other.second {
+            return self.second.cmp(&other.second);
+        }
+        if self.third != other.third {
+            return self.third.cmp(&other.third);
+        }
+        self.fourth.cmp(&other.fourth)
     }
 }
 
