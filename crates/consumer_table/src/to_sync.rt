@@ -11,6 +11,7 @@ use crate::Op;
 use producer_table::KeyOp;
 use std::alloc::Global;
 use std::collections::BTreeMap;
+use std::collections::btree_map::Entry;
 use std::marker::Model;
 use std::ops::Bound;
 use swss_types::OutOfMemory;
@@ -67,10 +68,10 @@ fn lay(ops: &mut BTreeMap<Key, Op>, key: Key, fields: Fields) -> Result<(), OutO
     ensures ok { OnOk result (ops.new.entries ≡ ops_after ops.old.entries (write.Set key fields)) }
     ensures err { OnErr result (ops.new.entries ≡ ops.old.entries) }
 {
-    match ops.get_mut(&key) {
-        Some(op) => op.lay(fields),
-        None => {
-            ops.insert(key, Op::Set(first_fields(fields)))?;
+    match ops.entry(key)? {
+        Entry::Occupied(place) => place.into_mut().lay(fields),
+        Entry::Vacant(place) => {
+            place.insert(Op::Set(first_fields(fields)));
             Ok(())
         }
     }

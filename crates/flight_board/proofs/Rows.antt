@@ -45,10 +45,6 @@ moved-others k old new seen is h = subst (λ z. KeepsOthers k z new) is (others-
 pub moved-rows : (k : Key) (old new seen : Entries) → old ≡ seen → (w : Option (Option Row)) → ((q : Key) → found new q ≡ cond (is_at (key_cmp k) q) w (found old q)) → row_in w ≡ row_at old k → HasSameRows seen new
 moved-rows k old new seen is w h same = subst (λ z. HasSameRows z new) is (rows-updated k old new w h same)
 
-pub none-found : (o : Option (Option Row)) → is_some o ≡ false → row_in o ≡ None
-none-found None e = refl
-none-found (Some o) e = absurd (false≢true (sym e))
-
 pub no-row : {X : Type 0} (o : Option X) (f : X → Row) → is_some o ≡ false → option_map f o ≡ None
 no-row None f e = refl
 no-row (Some x) f e = absurd (false≢true (sym e))

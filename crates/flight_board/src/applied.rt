@@ -4,6 +4,7 @@ ghost use Rattle.flight_board.specs.Applied.{HasPlace, HasSameRows, KeepsOthers,
 
 use std::alloc::Global;
 use std::collections::BTreeMap;
+use std::collections::btree_map::Entry;
 use std::marker::Model;
 use std::mem::{drop, replace};
 use swss_types::OutOfMemory;
@@ -50,8 +51,11 @@ impl AppliedRows {
         ensures others { KeepsOthers key.now self.old self.new }
         ensures err { OnErr result (self.new ≡ self.old) }
     {
-        if !self.rows.contains_key(key) {
-            drop(self.rows.insert(key.copy()?, None)?);
+        match self.rows.entry(key.copy()?)? {
+            Entry::Occupied(_) => {}
+            Entry::Vacant(place) => {
+                place.insert(None);
+            }
         }
         Ok(())
     }

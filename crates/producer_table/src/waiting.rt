@@ -9,6 +9,7 @@ ghost use Rattle.producer_table.specs.Pending.{ArePendingInOrder, laid_over, not
 use crate::KeyOp;
 use std::alloc::Global;
 use std::collections::BTreeMap;
+use std::collections::btree_map::Entry;
 use std::marker::Model;
 use swss_types::OutOfMemory;
 use table_schema::{Fields, Key};
@@ -82,10 +83,10 @@ fn lay(keys: &mut BTreeMap<Key, Pending>, key: Key, fields: Fields) -> Result<()
     ensures ok { OnOk result (keys.new.entries ≡ pending_after keys.old.entries (write.Set key fields)) }
     ensures err { OnErr result (keys.new.entries ≡ keys.old.entries) }
 {
-    match keys.get_mut(&key) {
-        Some(pending) => pending.lay(fields),
-        None => {
-            keys.insert(key, Pending::first(fields))?;
+    match keys.entry(key)? {
+        Entry::Occupied(place) => place.into_mut().lay(fields),
+        Entry::Vacant(place) => {
+            place.insert(Pending::first(fields));
             Ok(())
         }
     }

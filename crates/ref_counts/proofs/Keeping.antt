@@ -201,7 +201,3 @@ place-set test (e ∷ es) v q h =
       | true ↦ place_stays_there (is_at (key_cmp q) e.0) e.1 v (lookup (is_at (key_cmp q)) es) (lookup (is_at (key_cmp q)) es) (λ x. x) h
       | false ↦ place_stays_there (is_at (key_cmp q) e.0) e.1 e.1 (lookup (is_at (key_cmp q)) es) (lookup (is_at (key_cmp q)) (set_value test es v)) rest h
     ]
-
-pub not_there_none : (o : Option Bool) → is_some o ≡ false → o ≡ None
-not_there_none None h = refl
-not_there_none (Some x) h = absurd cc

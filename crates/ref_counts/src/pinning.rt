@@ -1,8 +1,9 @@
 // Names that workers pin and release.
-ghost use Rattle.std.specs.Prelude.{◌≡◌, ℕ, ◌++◌, length, map, take, IsSome, OnOk, OnErr};
+ghost use Rattle.std.specs.Prelude.{◌≡◌, ℕ, List, ◌++◌, length, map, take, IsSome, OnOk, OnErr};
 ghost use Rattle.std.specs.BTreeMap.{is_at};
 ghost use Rattle.std.specs.Map.{lookup};
 ghost use Rattle.std.specs.Ordering.{nat_cmp};
+ghost use Rattle.table_schema.specs.declared.key.Key.{Key};
 ghost use Rattle.ref_counts.specs.Registered.{IsReadable};
 ghost use Rattle.ref_counts.specs.Registry.{AreNoted, all_released, each_released, noted_by, pinned};
 
@@ -35,7 +36,7 @@ pub fn pin_noted(
         noted.truncate(before);
         return Err(error);
     }
-    if let Err(error) = pin_each(names, worker, user, keys) {
+    if let Err(error) = pin_each(names, worker, user, &noted.as_slice()[before..]) {
         noted.truncate(before);
         return Err(error);
     }
@@ -56,25 +57,23 @@ fn note_each(noted: &mut Vec<Name>, keys: &[Key]) -> Result<(), OutOfMemory>
     }
 }
 
-/// A worker pins the rows of some keys for a user, all of them or none.
+/// A worker pins the rows of some keys by their names for a user, all of them or none.
 fn pin_each(
     names: &mut Registrations,
     worker: u32,
     user: &Key,
-    keys: &[Key],
+    rows: &[Name],
 ) -> Result<(), OutOfMemory>
     requires { IsReadable user.now }
-    ensures ok { OnOk result (names.new.entries ≡ pinned names.old.entries worker user.now keys.now) }
+    ensures ok { OnOk result ((keys : List Key) → rows.now ≡ map Name.Row keys → names.new.entries ≡ pinned names.old.entries worker user.now keys) }
     ensures err { OnErr result (names.new.entries ≡ names.old.entries) }
 {
-    match keys {
+    match rows {
         [] => Ok(()),
-        [key, others @ ..] => {
-            let copied = key.copy()?;
-            let name = Name::Row(copied);
-            pin(names, &name, worker, user)?;
+        [name, others @ ..] => {
+            pin(names, name, worker, user)?;
             if let Err(error) = pin_each(names, worker, user, others) {
-                unpin_last(names, &name);
+                unpin_last(names, name);
                 return Err(error);
             }
             Ok(())

@@ -4,7 +4,6 @@ ghost use Rattle.std.specs.BTreeMap.{is_at};
 ghost use Rattle.std.specs.BTreeSet.{insert_key};
 ghost use Rattle.std.specs.List.{list_any};
 ghost use Rattle.std.specs.Map.{lookup};
-ghost use Rattle.std.specs.Option.{is_some};
 ghost use Rattle.table_schema.specs.Key.{key_cmp};
 ghost use Rattle.table_schema.specs.declared.key.Key.{Key};
 ghost use Rattle.ref_counts.specs.Kept.{AreReadable, HasKeptPlace, users_in};
@@ -13,6 +12,7 @@ ghost use Rattle.ref_counts.specs.Registered.{IsReadable, first_of, users_but};
 use crate::copied::copied;
 use crate::pin::Pin;
 use std::collections::BTreeMap;
+use std::collections::btree_map::Entry;
 use swss_types::OutOfMemory;
 use table_schema::Key;
 
@@ -54,22 +54,12 @@ pub fn keep_place(places: &mut Places, user: &Key) -> Result<(), OutOfMemory>
     ensures others { (q : Key) → HasKeptPlace places.old.entries q → HasKeptPlace places.new.entries q }
     ensures readable { AreReadable places.old.entries → AreReadable places.new.entries }
 {
-    if !places.contains_key(user) {
-        return put_place(places, copied(user));
+    match places.entry(copied(user))? {
+        Entry::Occupied(_) => {}
+        Entry::Vacant(place) => {
+            place.insert(false);
+        }
     }
-    Ok(())
-}
-
-/// Puts a place for a key that has none.
-fn put_place(places: &mut Places, user: Key) -> Result<(), OutOfMemory>
-    requires readable { IsReadable user }
-    requires none { is_some (lookup (is_at (key_cmp user)) places.old.entries) ≡ false }
-    ensures users { users_in places.new.entries ≡ users_in places.old.entries }
-    ensures placed { OnOk result (HasKeptPlace places.new.entries user) }
-    ensures others { (q : Key) → HasKeptPlace places.old.entries q → HasKeptPlace places.new.entries q }
-    ensures readable { AreReadable places.old.entries → AreReadable places.new.entries }
-{
-    places.insert(user, false)?;
     Ok(())
 }
 

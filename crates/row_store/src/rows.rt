@@ -6,7 +6,8 @@ ghost use Rattle.table_schema.specs.Key.{key_cmp};
 ghost use Rattle.table_schema.specs.Rows.{HasRisingRows, after_write, fields_at, with_fields};
 
 use std::alloc::Global;
-use std::collections::{BTreeMap, btree_map};
+use std::collections::BTreeMap;
+use std::collections::btree_map::{self, Entry};
 use std::marker::Model;
 use swss_types::OutOfMemory;
 use table_schema::{Fields, Key, Write};
@@ -108,10 +109,10 @@ impl Rows {
         ensures ok { OnOk result (self.new ≡ with_fields self.old key.now fields.now) }
         ensures err { OnErr result (self.new ≡ self.old) }
     {
-        match self.rows.get_mut(key) {
-            Some(row) => row.merge(fields),
-            None => {
-                self.rows.insert(key.copy()?, fields.copy()?)?;
+        match self.rows.entry(key.copy()?)? {
+            Entry::Occupied(place) => place.into_mut().merge(fields),
+            absent => {
+                absent.or_try_insert_with(|| fields.copy())?;
                 Ok(())
             }
         }

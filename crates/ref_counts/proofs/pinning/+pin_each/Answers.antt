@@ -1,6 +1,17 @@
+use Rattle.std.proofs.Common.{◌≡◌, [], ◌∷◌, drop, rules, ap, ◌∙◌}
+use Rattle.std.proofs.lemmas.List.{take_rest}
 use Rattle.ref_counts.specs.declared.name.Name.TheVariants as name
+use Rattle.ref_counts.specs.Registered.{with_pin}
+use Rattle.ref_counts.specs.Registry.{changed, pinned}
 use Rattle.ref_counts.proofs.Changing.{pin-undone}
 use Rattle.ref_counts.proofs.pinning.+pin_each.Goals as goal
 
+pub returns-in_default-clause-ok : goal.returns-in_default-clause-ok
+returns-in_default-clause-ok t c [] is = search rules
+returns-in_default-clause-ok t c (k ∷ ks) is =
+    let first : c.name-item.result ≡ name.Row k = search rules in
+    c.in_default.ensures.ok ks (take_rest c.args.rows.now 1 ∙ ap (drop 1) is)
+    ∙ ap (λ ns. pinned ns c.args.worker c.args.user.now ks) (c.in_ok-pin-in-len1-up.ensures.ok ∙ ap (λ n. changed c.args.names.now.entries n (with_pin c.args.worker c.args.user.now)) first)
+
 pub returns-in-Err-clause-err : goal.returns-in-Err-clause-err
-returns-in-Err-clause-err t c = pin-undone (name.Row c.in_ok-copied-in-len1-up.copied) c.args.worker c.args.user.now c.args.names.now.entries c.pin.new.names.entries c.pin_each.new.names.entries c.unpin_last.new.names.entries c.in_ok-pin-in-len1-up.ensures.ok c.in-Err.ensures.err c.unpin_last.ensures
+returns-in-Err-clause-err t c = pin-undone c.name-item.result c.args.worker c.args.user.now c.args.names.now.entries c.pin.new.names.entries c.pin_each.new.names.entries c.unpin_last.new.names.entries c.in_ok-pin-in-len1-up.ensures.ok c.in-Err.ensures.err c.unpin_last.ensures

@@ -1,14 +1,22 @@
-use Rattle.std.proofs.Common.{None, Some, is_some, sym, ap, subst, ◌∙◌}
-use Rattle.flight_board.specs.Applied.{KeepsOthers}
-use Rattle.flight_board.proofs.Rows.{found, moved-others, moved-rows, none-found}
+use Rattle.std.proofs.Common.{◌≡◌, None, Some, sym, ap, rules}
+use Rattle.flight_board.specs.Applied.{row_in}
+use Rattle.flight_board.proofs.Rows.{found, others-same, others-updated, rows-updated}
+use Rattle.flight_board.proofs.applied.AppliedRows.keep_place.Goals.{in-Occupied, in-Vacant}
 use Rattle.flight_board.proofs.applied.AppliedRows.keep_place.Goals as goal
 
-pub returns-in_ok-insert-clause-rows : goal.returns-in_ok-insert-clause-rows
-returns-in_ok-insert-clause-rows c =
-    let entries = c.self.inside.rows.entries in
-    let k = c.in_ok-copy.field-0 in
-    moved-rows k entries c.insert.new.self.entries c.args.self.now c.self.view_is (Some None) c.in_ok-insert.ensures.updates.0 (sym (none-found (found entries k) (ap (λ q. is_some (found entries q)) c.in_ok-copy.ensures ∙ sym c.contains_key.ensures ∙ c.if-not-contains_key.true)))
+pub returns-clause-rows : goal.returns-clause-rows
+returns-clause-rows c =
+    let old = c.args.self.now in
+    let new = c.match-branch-3.self-inside.rows.entries in
+    elim c.match-branch-3.branch [
+      | in-Occupied w ↦ search rules
+      | in-Vacant w ↦
+          let none : found old c.args.key.now ≡ None = search rules in
+          rows-updated c.args.key.now old new (Some None) (λ q. search rules) (sym (ap row_in none))
+    ]
 
-pub returns-in_ok-insert-clause-others : goal.returns-in_ok-insert-clause-others
-returns-in_ok-insert-clause-others c =
-    subst (λ q. KeepsOthers q c.args.self.now c.insert.new.self.entries) c.in_ok-copy.ensures (moved-others c.in_ok-copy.field-0 c.self.inside.rows.entries c.insert.new.self.entries c.args.self.now c.self.view_is c.in_ok-insert.ensures.updates.2)
+pub returns-clause-others : goal.returns-clause-others
+returns-clause-others c =
+    let old = c.args.self.now in
+    let new = c.match-branch-3.self-inside.rows.entries in
+    elim c.match-branch-3.branch [ in-Occupied w ↦ others-same c.args.key.now old new (search rules) | in-Vacant w ↦ others-updated c.args.key.now old new (λ q apart. search rules) ]
