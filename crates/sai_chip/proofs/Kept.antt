@@ -91,20 +91,18 @@ counted-value objects e a counts sorted counted value =
 claims-cons : (m k : TakenMark) (ks : List TakenMark) → claims m (k ∷ ks) ≡ cond (is_mark k m) 1 0 + claims m ks
 claims-cons m k ks = sum_by-cons (λ j. cond (is_mark j m) 1 0) k ks
 
-pointed : (o : Option (Body Rid)) (from to : To Rid) → target_of o ≡ Some from → (m : TakenMark) → claims m (marks_if o) + claims m (target_marks to) ≡ claims m (marks_if (option_map (λ b. with_attr b (attr.To to)) o)) + claims m (target_marks from)
-pointed (Some (body.Route prefix t)) from to h m =
-    let same : t ≡ from = cc in
-    let one = claims-cons m (mark.Of kind.Route) (target_marks t) in
+pointed : (o : Option (Body Rid)) (to : To Rid) (m : TakenMark) → claims m (marks_if o) + claims m (target_marks to) ≡ claims m (marks_if (option_map (λ b. with_attr b (attr.To to)) o)) + claims m (target_marks (unwrap_or (target_of o) to))
+pointed (Some (body.Route prefix from)) to m =
+    let one = claims-cons m (mark.Of kind.Route) (target_marks from) in
     let two = claims-cons m (mark.Of kind.Route) (target_marks to) in
-    let three = ap (λ x. claims m (target_marks x)) same in
-    omega (arith, one, two, three)
-pointed o from to h m = absurd cc
+    omega (arith, one, two)
+pointed o to m = refl
 
 -- a route that points elsewhere moves one reference
-pub counted-pointed : (objects : Objects) (e : Entry Rid) (from to : To Rid) (before mid after : Tally) → IsStrictlySortedBy entry_cmp (keys_of objects) → IsCounted objects before → target_of (body_at objects e) ≡ Some from → ((m : TakenMark) → count_at mid m ≡ count_at before m + claims m (target_marks to)) → ((m : TakenMark) → count_at after m ≡ count_at mid m - claims m (target_marks from)) → IsCounted (after_set objects e (attr.To to) (body_at objects e)) after
-counted-pointed objects e from to before mid after sorted counted at more less =
+pub counted-pointed : (objects : Objects) (e : Entry Rid) (to : To Rid) (before mid after : Tally) → IsStrictlySortedBy entry_cmp (keys_of objects) → IsCounted objects before → ((m : TakenMark) → count_at mid m ≡ count_at before m + claims m (target_marks to)) → ((m : TakenMark) → count_at after m ≡ count_at mid m - claims m (target_marks (unwrap_or (target_of (body_at objects e)) to))) → IsCounted (after_set objects e (attr.To to) (body_at objects e)) after
+counted-pointed objects e to before mid after sorted counted more less =
     counted_set objects e (attr.To to) (body_at objects e) before after sorted counted refl
-    (λ m n h. let moved = pointed (body_at objects e) from to at m in let one = more m in let two = less m in omega (arith, h, moved, one, two))
+    (λ m n h. let moved = pointed (body_at objects e) to m in let one = more m in let two = less m in omega (arith, h, moved, one, two))
 
 lacks_target : (b : Body Rid) (to : To Rid) → None ≡ target_of (Some b) → with_attr b (attr.To to) ≡ b
 lacks_target (body.Route prefix t) to h = absurd cc

@@ -1,7 +1,6 @@
 mod Answered
 mod Changed
 mod Clashes
-mod Counting
 mod Failed
 mod GroupNames
 mod HopSets

@@ -1,9 +1,10 @@
 // The bodies of the objects of a chip.
-ghost use Rattle.std.specs.Prelude.{◌≡◌, [], ◌++◌, true, false, take, length, Some, OnOk, OnErr, option_copied};
+ghost use Rattle.std.specs.Prelude.{◌≡◌, [], ◌++◌, true, false, take, length, Some, None, IfOk, OnOk, OnErr, option_copied, if◌then◌else◌};
 ghost use Rattle.std.specs.BTreeMap.{insert_entry, is_at};
+ghost use Rattle.std.specs.BTreeSet.{insert_key};
 ghost use Rattle.std.specs.List.{list_any};
-ghost use Rattle.std.specs.Map.{remove_entry};
-ghost use Rattle.std.specs.Option.{is_some};
+ghost use Rattle.std.specs.Map.{lookup, remove_entry};
+ghost use Rattle.std.specs.Option.{is_some, option_map};
 ghost use Rattle.sai_types.specs.After.{after_set, entry_of, has_id};
 ghost use Rattle.sai_types.specs.ChipState.{objects_of};
 ghost use Rattle.sai_types.specs.Forwarding.{best_route, has_own, hop_mac};
@@ -12,15 +13,18 @@ ghost use Rattle.sai_types.specs.Named.{hop_on, named, those};
 ghost use Rattle.sai_types.specs.Objects.{body_at, entry_cmp};
 ghost use Rattle.sai_types.specs.Refusal.{clash};
 ghost use Rattle.sai_types.specs.declared.hop.Hop.{Hop};
+ghost use Rattle.swss_types.specs.contracts.address.IpOrd.TheImpl as ip_ord;
 ghost use Rattle.swss_types.specs.declared.address.Ip.{Ip};
-ghost use Rattle.sai_chip.specs.Bodies.{best_of, ids_set, keyed_at, macs_set, numbered, owned, reached, routed, target_of, targets_set, value_set};
+ghost use Rattle.sai_chip.specs.Bodies.{best_of, ids_set, keyed_at, macs_set, numbered, owned, prefix_cmp, reached, routed, target_of, targets_set, value_set};
 ghost use Rattle.sai_chip.specs.Naming.{AreBodies};
+ghost use Rattle.sai_chip.specs.Tally.{neighbor_cmp};
 
 use crate::effect::set_attr;
 use sai_types::{Attr, Body, Entry, Object, Rid, To, empty_is_whole, entries_stay_sorted};
 use std::alloc::Global;
 use std::collections::{BTreeMap, BTreeSet};
 use std::marker::Model;
+use std::mem::replace;
 use swss_types::{Ip, Mac, OutOfMemory, Prefix};
 
 /// Bodies by their identifiers.
@@ -100,49 +104,25 @@ impl Bodies {
         }
     }
 
-    /// Where the route with this entry points: None where there is no such route.
-    pub fn target(&self, entry: &Entry<Rid>) -> Option<To<Rid>>
-        ensures { result ≡ target_of (body_at self.now entry.now) }
-    {
-        match entry {
-            Entry::Route(prefix) => self.routes.get(prefix).copied(),
-            _ => None,
-        }
-    }
-
     /// The own address as a body, where it stands.
     fn own(&self, ip: Ip) -> Option<Body<Rid>>
         ensures { result ≡ body_at self.now (Entry.Own ip) }
     {
-        if self.own.contains(&ip) {
-            Some(Body::OwnAddress { ip })
-        } else {
-            None
-        }
+        own_if(&ip, self.own.contains(&ip))
     }
 
     /// The neighbour as a body, where it stands.
     fn neighbor(&self, rif: Rid, ip: &Ip) -> Option<Body<Rid>>
         ensures { result ≡ body_at self.now (Entry.Neigh rif ip.now) }
     {
-        match self.neighbors.get(&(rif, *ip)) {
-            Some(mac) => Some(Body::Neighbor {
-                rif,
-                ip: *ip,
-                mac: *mac,
-            }),
-            None => None,
-        }
+        neighbor_if(rif, ip, self.neighbors.get(&(rif, *ip)).copied())
     }
 
     /// The route as a body, where it stands.
     fn route(&self, prefix: Prefix) -> Option<Body<Rid>>
         ensures { result ≡ body_at self.now (Entry.Route prefix) }
     {
-        match self.routes.get(&prefix) {
-            Some(to) => Some(Body::Route { prefix, to: *to }),
-            None => None,
-        }
+        route_if(&prefix, self.routes.get(&prefix).copied())
     }
 
     /// Whether an object with the natural key of this body stands, which has no identifier.
@@ -181,22 +161,21 @@ impl Bodies {
         &self.routes
     }
 
-    /// Puts an object in place of the one with the same entry, if there is one. The identifier is taken where the body
-    /// has one.
-    pub fn put(&mut self, id: Rid, body: Body<Rid>) -> Result<(), OutOfMemory>
+    /// Puts an object in place of the one with the same entry, and answers the body of that one, if there is one. The
+    /// identifier is taken where the body has one.
+    pub fn put(&mut self, id: Rid, body: Body<Rid>) -> Result<Option<Body<Rid>>, OutOfMemory>
         ensures ok { OnOk result (self.new ≡ insert_entry entry_cmp self.old (entry_of id.0 body) body) }
+        ensures old { IfOk result (λ old. old ≡ body_at self.old (entry_of id.0 body)) }
         ensures err { OnErr result (self.new ≡ self.old) }
     {
         entries_stay_sorted();
-        match body {
-            Body::OwnAddress { ip } => {
-                self.own.insert(ip)?;
-            }
-            Body::Neighbor { rif, ip, mac } => insert(&mut self.neighbors, (rif, ip), mac)?,
-            Body::Route { prefix, to } => insert(&mut self.routes, prefix, to)?,
-            body => insert(&mut self.numbered, id, body)?,
-        }
-        Ok(())
+        let old = match body {
+            Body::OwnAddress { ip } => put_own(&mut self.own, &ip)?,
+            Body::Neighbor { rif, ip, mac } => put_neighbor(&mut self.neighbors, rif, &ip, mac)?,
+            Body::Route { prefix, to } => put_route(&mut self.routes, &prefix, to)?,
+            body => put(&mut self.numbered, id, body)?,
+        };
+        Ok(old)
     }
 
     /// Sets an attribute of an object, if there is one with the entry that has the attribute.
@@ -212,18 +191,32 @@ impl Bodies {
         }
     }
 
-    /// Removes the object with this entry, if there is one.
-    pub fn remove(&mut self, entry: &Entry<Rid>)
-        ensures { self.new ≡ remove_entry (is_at (entry_cmp entry.now)) self.old }
+    /// Points a route elsewhere, if there is one with the entry, and answers where it pointed.
+    pub fn point(&mut self, entry: &Entry<Rid>, to: To<Rid>) -> Option<To<Rid>>
+        ensures set { self.new ≡ after_set self.old entry.now (Attr.To to) (body_at self.old entry.now) }
+        ensures from { result ≡ target_of (body_at self.old entry.now) }
     {
         entries_stay_sorted();
         match *entry {
-            Entry::Oid(id) => remove(&mut self.numbered, id),
-            Entry::Own(ip) => {
-                self.own.remove(&ip);
+            Entry::Route(prefix) => set_value(&mut self.routes, prefix, to),
+            _ => None,
+        }
+    }
+
+    /// Removes the object with this entry, and answers its body, if there is one.
+    pub fn remove(&mut self, entry: &Entry<Rid>) -> Option<Body<Rid>>
+        ensures removed { self.new ≡ remove_entry (is_at (entry_cmp entry.now)) self.old }
+        ensures old { result ≡ body_at self.old entry.now }
+    {
+        entries_stay_sorted();
+        match entry {
+            Entry::Oid(id) => remove(&mut self.numbered, *id),
+            Entry::Own(ip) => own_if(ip, self.own.remove(ip)),
+            Entry::Neigh(rif, ip) => {
+                let mac = remove(&mut self.neighbors, (*rif, *ip));
+                neighbor_if(*rif, ip, mac)
             }
-            Entry::Neigh(rif, ip) => remove(&mut self.neighbors, (rif, ip)),
-            Entry::Route(prefix) => remove(&mut self.routes, prefix),
+            Entry::Route(prefix) => route_if(prefix, remove(&mut self.routes, *prefix)),
         }
     }
 
@@ -239,24 +232,102 @@ impl Bodies {
     }
 }
 
-/// Puts a value in place of the one with the same key, if there is one.
-fn insert<K: Ord + Drop, V: Drop>(
+/// Puts a value in place of the one with the same key, and answers that one, if there is one.
+fn put<K: Ord + Drop, V: Drop>(
     map: &mut BTreeMap<K, V>,
     key: K,
     value: V,
-) -> Result<(), OutOfMemory>
+) -> Result<Option<V>, OutOfMemory>
     ensures ok { OnOk result (map.new.entries ≡ insert_entry K.cmp map.old.entries key value) }
+    ensures old { IfOk result (λ old. old ≡ lookup (is_at (K.cmp key)) map.old.entries) }
     ensures err { OnErr result (map.new.entries ≡ map.old.entries) }
 {
-    map.insert(key, value)?;
-    Ok(())
+    let old = map.insert(key, value)?;
+    Ok(old)
 }
 
-/// Removes the value of a key, if it is there.
-fn remove<K: Ord + Drop, V: Drop>(map: &mut BTreeMap<K, V>, key: K)
-    ensures { map.new.entries ≡ remove_entry (is_at (K.cmp key)) map.old.entries }
+/// Puts an own address, and answers its body, if it stood before.
+fn put_own(own: &mut BTreeSet<Ip>, ip: &Ip) -> Result<Option<Body<Rid>>, OutOfMemory>
+    ensures ok { OnOk result (own.new.keys ≡ insert_key ip_ord.ghosts.cmp own.old.keys ip.now) }
+    ensures old { IfOk result (λ old. old ≡ (if list_any (is_at (ip_ord.ghosts.cmp ip.now)) own.old.keys then Some (Body.OwnAddress ip.now) else None)) }
+    ensures err { OnErr result (own.new.keys ≡ own.old.keys) }
 {
-    map.remove(&key);
+    if own.insert(*ip)? {
+        Ok(None)
+    } else {
+        Ok(Some(Body::OwnAddress { ip: *ip }))
+    }
+}
+
+/// Puts the Ethernet address of a neighbour, and answers the body of the neighbour, if it stood before.
+fn put_neighbor(
+    neighbors: &mut Neighbors,
+    rif: Rid,
+    ip: &Ip,
+    mac: Mac,
+) -> Result<Option<Body<Rid>>, OutOfMemory>
+    ensures ok { OnOk result (neighbors.new.entries ≡ insert_entry neighbor_cmp neighbors.old.entries (rif, ip.now) mac) }
+    ensures old { IfOk result (λ old. old ≡ option_map (Body.Neighbor rif ip.now) (lookup (is_at (neighbor_cmp (rif, ip.now))) neighbors.old.entries)) }
+    ensures err { OnErr result (neighbors.new.entries ≡ neighbors.old.entries) }
+{
+    let old = put(neighbors, (rif, *ip), mac)?;
+    Ok(neighbor_if(rif, ip, old))
+}
+
+/// Puts the target of a route, and answers the body of the route, if it stood before.
+fn put_route(
+    routes: &mut Routes,
+    prefix: &Prefix,
+    to: To<Rid>,
+) -> Result<Option<Body<Rid>>, OutOfMemory>
+    ensures ok { OnOk result (routes.new.entries ≡ insert_entry prefix_cmp routes.old.entries prefix.now to) }
+    ensures old { IfOk result (λ old. old ≡ option_map (Body.Route prefix.now) (lookup (is_at (prefix_cmp prefix.now)) routes.old.entries)) }
+    ensures err { OnErr result (routes.new.entries ≡ routes.old.entries) }
+{
+    let old = put(routes, *prefix, to)?;
+    Ok(route_if(prefix, old))
+}
+
+/// Removes the value of a key, and answers it, if it is there.
+fn remove<K: Ord + Drop, V: Drop>(map: &mut BTreeMap<K, V>, key: K) -> Option<V>
+    ensures removed { map.new.entries ≡ remove_entry (is_at (K.cmp key)) map.old.entries }
+    ensures old { result ≡ lookup (is_at (K.cmp key)) map.old.entries }
+{
+    map.remove(&key)
+}
+
+/// The body of an own address, where it stands.
+fn own_if(ip: &Ip, stands: bool) -> Option<Body<Rid>>
+    ensures { result ≡ (if stands then Some (Body.OwnAddress ip.now) else None) }
+{
+    if stands {
+        Some(Body::OwnAddress { ip: *ip })
+    } else {
+        None
+    }
+}
+
+/// The body of a neighbour, where it has an Ethernet address.
+fn neighbor_if(rif: Rid, ip: &Ip, mac: Option<Mac>) -> Option<Body<Rid>>
+    ensures { result ≡ option_map (Body.Neighbor rif ip.now) mac }
+{
+    match mac {
+        Some(mac) => Some(Body::Neighbor { rif, ip: *ip, mac }),
+        None => None,
+    }
+}
+
+/// The body of a route, where it has a target.
+fn route_if(prefix: &Prefix, to: Option<To<Rid>>) -> Option<Body<Rid>>
+    ensures { result ≡ option_map (Body.Route prefix.now) to }
+{
+    match to {
+        Some(to) => Some(Body::Route {
+            prefix: *prefix,
+            to,
+        }),
+        None => None,
+    }
 }
 
 /// Sets an attribute of the body with this identifier, if there is one that has the attribute.
@@ -286,12 +357,14 @@ fn set_target(routes: &mut Routes, prefix: Prefix, attr: &Attr<Rid>)
     }
 }
 
-/// Sets the value of a key, if it is there.
-fn set_value<K: Ord + Copy, V: Copy>(map: &mut BTreeMap<K, V>, key: K, value: V)
-    ensures { map.new.entries ≡ value_set (is_at (K.cmp key)) map.old.entries value }
+/// Sets the value of a key, if it is there, and answers the one before.
+fn set_value<K: Ord + Copy, V: Copy>(map: &mut BTreeMap<K, V>, key: K, value: V) -> Option<V>
+    ensures set { map.new.entries ≡ value_set (is_at (K.cmp key)) map.old.entries value }
+    ensures old { result ≡ lookup (is_at (K.cmp key)) map.old.entries }
 {
-    if let Some(old) = map.get_mut(&key) {
-        *old = value;
+    match map.get_mut(&key) {
+        Some(held) => Some(replace(held, value)),
+        None => None,
     }
 }
 

@@ -1,15 +1,16 @@
 // How often each mark stands.
-ghost use Rattle.std.specs.Prelude.{◌≡◌, ◌+◌, ◌-◌, nat_lt, IfOk, OnOk, OnErr, if◌then◌else◌};
+ghost use Rattle.std.specs.Prelude.{◌≡◌, ◌+◌, ◌-◌, nat_lt, IfOk, OnOk, OnErr, option_copied, if◌then◌else◌};
 ghost use Rattle.std.specs.List.{list_any};
 ghost use Rattle.sai_types.specs.declared.ids.Rid.{Rid};
 ghost use Rattle.sai_types.specs.Refusal.{same_id};
-ghost use Rattle.sai_chip.specs.Marks.{target_marks};
+ghost use Rattle.sai_chip.specs.Marks.{key_marks, lane_marks, marks_if, target_marks};
 ghost use Rattle.sai_chip.specs.Tally.{count_at, count_in, empty_tally, is_mark, claims, pair_cmp};
 ghost use Rattle.sai_chip.specs.declared.mark.TakenMark.{TakenMark};
 
 use crate::mark::TakenMark;
+use crate::marks::{base, kind_of};
 use crate::tally::{count, lower, raise};
-use sai_types::{Kind, Rid, RifOn, To};
+use sai_types::{Body, Kind, Rid, RifOn, To};
 use std::alloc::Global;
 use std::collections::BTreeMap;
 use std::marker::Model;
@@ -169,6 +170,63 @@ impl Counts {
     {
         for mark in marks {
             self.lower(*mark);
+        }
+    }
+
+    /// Counts all that a body takes up once less, where it stands; nothing where there is no body.
+    pub fn free(&mut self, body: Option<&Body<Rid>>)
+        ensures { (m : TakenMark) → count_at self.new m ≡ count_at self.old m - claims m (marks_if (option_copied body.entry)) }
+    {
+        if let Some(body) = body {
+            self.lower(TakenMark::Of(kind_of(body)));
+            self.free_keys(body);
+        }
+    }
+
+    /// Counts the natural key, the lanes and the references of a body once less, where they stand.
+    fn free_keys(&mut self, body: &Body<Rid>)
+        ensures { (m : TakenMark) → count_at self.new m ≡ count_at self.old m - claims m (key_marks body.now) }
+    {
+        match body {
+            Body::Port { lanes, .. } => self.free_lanes(lanes.items()),
+            Body::Vlan { vlan } => self.lower(TakenMark::Vlan(*vlan)),
+            Body::OwnAddress { .. } | Body::Group => {}
+            Body::BridgePort { port } => self.take_away(&[
+                TakenMark::BridgePort(*port),
+                TakenMark::RefersTo(*port),
+            ]),
+            Body::VlanMember {
+                vlan,
+                bridge_port,
+                ..
+            } => self.take_away(&[
+                TakenMark::VlanMember(*vlan, *bridge_port),
+                TakenMark::RefersTo(*vlan),
+                TakenMark::RefersTo(*bridge_port),
+            ]),
+            Body::Rif { on } => {
+                self.take_away(&[TakenMark::Rif(*on), TakenMark::RefersTo(base(*on))])
+            }
+            Body::Neighbor { rif, .. } => self.lower(TakenMark::RefersTo(*rif)),
+            Body::NextHop { rif, ip } => self.take_away(&[
+                TakenMark::NextHop(*rif, *ip),
+                TakenMark::RefersTo(*rif),
+            ]),
+            Body::GroupMember { group, next_hop } => self.take_away(&[
+                TakenMark::GroupMember(*group, *next_hop),
+                TakenMark::RefersTo(*group),
+                TakenMark::RefersTo(*next_hop),
+            ]),
+            Body::Route { to, .. } => self.release(*to),
+        }
+    }
+
+    /// Counts each of the lanes once less, where it stands.
+    fn free_lanes(&mut self, lanes: &[u16])
+        ensures { (m : TakenMark) → count_at self.new m ≡ count_at self.old m - claims m (lane_marks lanes.now) }
+    {
+        for lane in lanes {
+            self.lower(TakenMark::Lane(*lane));
         }
     }
 

@@ -15,7 +15,10 @@ pub fn make_effect(held: &mut Held, call: &Call<Rid>, id: Rid) -> Result<(), Out
     match call {
         Call::Create(body) => held.put(id, body.copy()?),
         Call::Set(entry, attr) => held.set(entry, attr),
-        Call::Remove(entry) => held.remove(entry),
+        Call::Remove(entry) => {
+            held.remove(entry);
+            Ok(())
+        }
     }
 }
 

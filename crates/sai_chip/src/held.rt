@@ -8,13 +8,12 @@ ghost use Rattle.sai_types.specs.ChipState.{objects_of};
 ghost use Rattle.sai_chip.specs.Sim.{AppendsListed};
 ghost use Rattle.sai_types.specs.Named.{hops_at, thing_of};
 ghost use Rattle.sai_types.specs.Objects.{body_at, entry_cmp, used};
-ghost use Rattle.sai_chip.specs.Marks.{is_claimed, marks_at, marks_if};
+ghost use Rattle.sai_chip.specs.Marks.{is_claimed};
 ghost use Rattle.sai_chip.specs.Members.{HasHops, group_named_by, hops_by};
 ghost use Rattle.sai_chip.specs.Replay.{thing_at};
 
 use crate::bodies::Bodies;
 use crate::counts::Counts;
-use crate::effect::entry_of;
 use crate::mark::TakenMark;
 use crate::marks::marks_of;
 use crate::names::{GroupHops, thing_at};
@@ -95,14 +94,17 @@ impl Held {
     {
         self.bodies.entries_rise();
         let more = marks_of(self.alloc, &body)?;
-        let less = self.marks_at(&entry_of(id, &body))?;
         self.counts.add(&more)?;
-        if let Err(error) = self.bodies.put(id, body) {
-            self.counts.take_away(&more);
-            return Err(error);
+        match self.bodies.put(id, body) {
+            Ok(old) => {
+                self.counts.free(old.as_ref());
+                Ok(())
+            }
+            Err(error) => {
+                self.counts.take_away(&more);
+                Err(error)
+            }
         }
-        self.counts.take_away(&less);
-        Ok(())
     }
 
     /// Sets an attribute of an object, if there is one with the entry that has the attribute. Only a route's target moves
@@ -119,30 +121,25 @@ impl Held {
         Ok(())
     }
 
-    /// Points a route elsewhere, if there is one with the entry.
+    /// Points a route elsewhere, if there is one with the entry. Its new target is referred to first, since that alone
+    /// takes memory; where there is no route, it is released again.
     fn point(&mut self, entry: &Entry<Rid>, to: To<Rid>) -> Result<(), OutOfMemory>
         ensures ok { OnOk result (self.new ≡ after_set self.old entry.now (Attr.To to) (body_at self.old entry.now)) }
         ensures err { OnErr result (self.new ≡ self.old) }
     {
         self.bodies.entries_rise();
-        let Some(from) = self.bodies.target(entry) else {
-            return Ok(());
-        };
         self.counts.refer(to)?;
-        self.bodies.set(entry, &Attr::To(to));
+        let from = self.bodies.point(entry, to).unwrap_or(to);
         self.counts.release(from);
         Ok(())
     }
 
     /// Removes the object with this entry, if there is one.
-    pub fn remove(&mut self, entry: &Entry<Rid>) -> Result<(), OutOfMemory>
-        ensures ok { OnOk result (self.new ≡ remove_entry (is_at (entry_cmp entry.now)) self.old) }
-        ensures err { OnErr result (self.new ≡ self.old) }
+    pub fn remove(&mut self, entry: &Entry<Rid>)
+        ensures { self.new ≡ remove_entry (is_at (entry_cmp entry.now)) self.old }
     {
-        let less = self.marks_at(entry)?;
-        self.bodies.remove(entry);
-        self.counts.take_away(&less);
-        Ok(())
+        let old = self.bodies.remove(entry);
+        self.counts.free(old.as_ref());
     }
 
     /// Appends each object once, in the order of their entries.
@@ -211,26 +208,6 @@ impl Held {
     {
         let members = self.members(group)?;
         hops_of(self.alloc, self.bodies.numbered(), &members)
-    }
-
-    /// What the object with this entry takes up: nothing where there is none.
-    fn marks_at(&self, entry: &Entry<Rid>) -> Result<Vec<TakenMark>, OutOfMemory>
-        ensures { IfOk result (λ marks. marks.items ≡ marks_at self.now entry.now) }
-    {
-        if let Entry::Oid(id) = entry {
-            return marks_if(self.alloc, self.bodies.get(*id));
-        }
-        marks_if(self.alloc, self.bodies.keyed(entry).as_ref())
-    }
-}
-
-/// What a body takes up: nothing where there is none.
-fn marks_if(alloc: Global, body: Option<&Body<Rid>>) -> Result<Vec<TakenMark>, OutOfMemory>
-    ensures { IfOk result (λ marks. marks.items ≡ marks_if (option_copied body.entry)) }
-{
-    match body {
-        Some(body) => marks_of(alloc, body),
-        None => Ok(Vec::new(alloc)),
     }
 }
 

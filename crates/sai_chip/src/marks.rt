@@ -85,7 +85,7 @@ fn push_keys(marks: &mut Vec<TakenMark>, body: &Body<Rid>) -> Result<(), OutOfMe
 }
 
 /// What a router interface stands on.
-fn base(on: RifOn<Rid>) -> Rid
+pub fn base(on: RifOn<Rid>) -> Rid
     ensures { base_marks on ≡ TakenMark.RefersTo result ∷ [] }
 {
     match on {

@@ -18,10 +18,14 @@ pub fn raise<K: Ord + Copy + Drop>(counts: &mut BTreeMap<K, u64>, key: K) -> Res
     ensures ok { OnOk result ((k : K) → count_in K.cmp counts.new.entries k ≡ count_in K.cmp counts.old.entries k + (if is_at (K.cmp key) k then 1 else 0)) }
     ensures err { OnErr result (counts.new.entries ≡ counts.old.entries) }
 {
-    let Some(more) = count(counts, &key).checked_add(1) else {
+    let Some(count) = counts.get_mut(&key) else {
+        counts.insert(key, 1)?;
+        return Ok(());
+    };
+    let Some(more) = count.checked_add(1) else {
         return Err(OutOfMemory);
     };
-    counts.insert(key, more)?;
+    *count = more;
     Ok(())
 }
 
@@ -29,10 +33,11 @@ pub fn raise<K: Ord + Copy + Drop>(counts: &mut BTreeMap<K, u64>, key: K) -> Res
 pub fn lower<K: Ord + Copy + Drop>(counts: &mut BTreeMap<K, u64>, key: K)
     ensures { (k : K) → count_in K.cmp counts.new.entries k ≡ count_in K.cmp counts.old.entries k - (if is_at (K.cmp key) k then 1 else 0) }
 {
-    let count = count(counts, &key);
-    if count < 2 {
-        counts.remove(&key);
+    if let Some(count) = counts.get_mut(&key)
+        && 2 <= *count
+    {
+        *count -= 1;
     } else {
-        let _old = counts.insert(key, count - 1);
+        counts.remove(&key);
     }
 }

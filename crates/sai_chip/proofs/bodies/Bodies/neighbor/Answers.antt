@@ -3,8 +3,5 @@ use Rattle.sai_types.specs.declared.body.Body.TheVariants as body
 use Rattle.sai_chip.proofs.Changed.{at-neighbor}
 use Rattle.sai_chip.proofs.bodies.Bodies.neighbor.Goals as goal
 
-pub returns-in-Some : goal.returns-in-Some
-returns-in-Some c = rw (← c.self.view_is) (ap (option_map (body.Neighbor c.args.rif c.args.ip.now)) c.in-Some.ensures.value ∙ sym (at-neighbor c.self.inside.numbered.entries c.self.inside.own.keys c.self.inside.neighbors.entries c.self.inside.routes.entries c.args.rif c.args.ip.now))
-
-pub returns-in-None : goal.returns-in-None
-returns-in-None c = rw (← c.self.view_is) (ap (option_map (body.Neighbor c.args.rif c.args.ip.now)) c.in-None.ensures.value ∙ sym (at-neighbor c.self.inside.numbered.entries c.self.inside.own.keys c.self.inside.neighbors.entries c.self.inside.routes.entries c.args.rif c.args.ip.now))
+pub returns : goal.returns
+returns c = rw (← c.self.view_is) (c.neighbor_if.ensures ∙ ap (option_map (body.Neighbor c.args.rif c.args.ip.now)) (c.copied.ensures ∙ c.get.ensures.value) ∙ sym (at-neighbor c.self.inside.numbered.entries c.self.inside.own.keys c.self.inside.neighbors.entries c.self.inside.routes.entries c.args.rif c.args.ip.now))
