@@ -35,7 +35,7 @@ use Rattle.session_laws.proofs.Preparing.{has_begun, prepared_stands, ready as r
 use Rattle.orch_core.specs.Outcomes.{Answered, AnswersCall, FaultsCall, Heeds, KeepsChip, KeepsFlights, StaysInSession, with_fault}
 use Rattle.orch_core.specs.declared.answer.Step.{Step}
 use Rattle.orch_core.specs.declared.answer.Step.TheVariants as step
-use Rattle.orch_core.proofs.Chips.{keeps_answered, one_more_effect}
+use Rattle.orch_core.proofs.Chips.{keeps_called, one_more_effect}
 
 -- ---- a call that was made
 
@@ -62,8 +62,8 @@ module _ (s : LoggedService) (w : ℕ) (c : CoreState) (chip : ChipState) (is : 
   is_made : (a : SyncAnswer) → Calls c.sync c.sync.temporary chip call a y chip' → (view : ViewObjects) × IsMadeOnChip c.sync.view chip call a view chip'
   is_made a calls = let z = subst (λ o. Calls c.sync o chip call a y chip') (is.working at).no_view calls in (z.0, z.2)
 
-  keeps : (a : SyncAnswer) → (a ≡ sync.Failed → ⊥) → Calls c.sync c.sync.temporary chip call a y chip' → KeepsChip chip chip'
-  keeps a went calls = let z = is_made a calls in keeps_answered chip chip' d z.1.answer (went_on c.sync.view z.0 call a z.1.answer z.1.follows went) z.1.answered
+  keeps : (a : SyncAnswer) → (a ≡ sync.Failed → ⊥) → Calls c.sync c.sync.temporary chip call a y chip' → (b : BoardState) → KeepsChip c chip (record c { sync = y; board = b }) chip'
+  keeps a went calls b = let z = is_made a calls in keeps_called c (record c { sync = y; board = b }) chip chip' d z.1.answer refl refl refl room (went_on c.sync.view z.0 call a z.1.answer z.1.follows went) z.1.answered
 
   effect : (a : SyncAnswer) → (a ≡ sync.Failed → ⊥) → Calls c.sync c.sync.temporary chip call a y chip' → (b : BoardState) → IsTakenFor c.board w (vid_made_by a) b → AnswersCall s w c chip (record c { sync = y; board = b }) chip'
   effect a went calls b taken =
@@ -77,7 +77,7 @@ module _ (s : LoggedService) (w : ℕ) (c : CoreState) (chip : ChipState) (is : 
         beside = record { tables = refl; waiting = refl; log = refl; listed = refl; limit = refl; warm = refl };
         others = kept_flights w x (vid_made_by a) c.board b there taken;
         room = room;
-        keeps = keeps a went calls;
+        keeps = keeps a went calls b;
       }
 
   failed : (ends : Bool) → Calls c.sync c.sync.temporary chip call sync.Failed y chip' → MakesOne c s (record c { sync = y; log = with_fault ends c.log fault; warm = warm.Suspect }) chip'
@@ -184,7 +184,7 @@ module _ (s : LoggedService) (w : ℕ) (c : CoreState) (b : BoardState) (chip : 
         beside = record { tables = x.beside.tables; waiting = x.beside.waiting; log = x.beside.log; listed = x.beside.listed; limit = x.beside.limit; warm = x.beside.warm };
         others = λ v apart. x.others v apart ∙ ap (option_map (λ (f : FlightState). f.flown)) (ready.others v apart);
         room = x.room;
-        keeps = x.keeps;
+        keeps = record { fails = x.keeps.fails; faults = x.keeps.faults; limit = x.keeps.limit };
       }
 
   fault_from : (ends : Bool) (c' : CoreState) (chip' : ChipState) → FaultsCall ends s with chip c' chip' → FaultsCall ends s c chip c' chip'

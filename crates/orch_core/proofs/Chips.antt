@@ -6,19 +6,34 @@ use Rattle.sai_types.specs.declared.answer.ChipAnswer.TheVariants as answer
 use Rattle.sai_types.specs.declared.body.Call.{Call}
 use Rattle.sai_types.specs.declared.ids.Rid.{Rid}
 use Rattle.sai_types.specs.ChipState.{Answers, ChipState, IsAnswered, StaysSame, TakesEffect}
-use Rattle.orch_core.specs.Outcomes.{KeepsChip}
+use Rattle.switch_model.specs.History.{History, listed_by}
+use Rattle.restart_laws.specs.Logged.{LoggedService}
+use Rattle.session_laws.specs.Core.{CoreState, IsFullFor}
+use Rattle.session_laws.specs.Standing.{IsSessionOf}
+use Rattle.orch_core.specs.Outcomes.{IsWithinLimit, KeepsChip}
 
-pub keeps_itself : (chip : ChipState) → KeepsChip chip chip
-keeps_itself chip = record { fails = refl; faults = refl }
+pub keeps_itself : (c : CoreState) (chip : ChipState) → KeepsChip c chip c chip
+keeps_itself c chip = record { fails = refl; faults = refl; limit = λ within. within }
 
-pub keeps_same : (chip chip' : ChipState) → chip' ≡ chip → KeepsChip chip chip'
-keeps_same chip chip' same = subst (KeepsChip chip) (sym same) (keeps_itself chip)
+-- a chip that is the same, and a core with as much in its log
+pub keeps_alike : (c c' : CoreState) (chip chip' : ChipState) → chip' ≡ chip → c'.log ≡ c.log → c'.listed ≡ c.listed → c'.limit ≡ c.limit → KeepsChip c chip c' chip'
+keeps_alike c c' chip chip' same log listed limit = subst (KeepsChip c chip c') (sym same) (record { fails = refl; faults = refl; limit = within })
+  where
+    within : IsWithinLimit c chip → IsWithinLimit c' chip
+    within h =
+        let taken : length c'.log.taken ≡ length c.log.taken = ap (λ (h : History). length h.taken) log in
+        let marks : length c'.log.marks ≡ length c.log.marks = ap (λ (h : History). length h.marks) log in
+        omega (arith, h, taken, marks, listed, limit)
 
-pub keeps_on : (a b c : ChipState) → KeepsChip a b → KeepsChip b c → KeepsChip a c
-keeps_on a b c x y = record { fails = y.fails ∙ x.fails; faults = y.faults ∙ x.faults }
+-- and one that stands for a session with the same log
+pub keeps_stood : (c d : CoreState) (chip : ChipState) (s t : LoggedService) → IsSessionOf c chip s → IsSessionOf d chip t → d.log ≡ c.log → d.limit ≡ c.limit → KeepsChip c chip d chip
+keeps_stood c d chip s t is there log limit = keeps_alike c d chip chip refl log (there.listed ∙ ap (λ (h : History). listed_by h.marks) log ∙ sym is.listed) limit
+
+pub keeps_on : {a b c : CoreState} {x y z : ChipState} → KeepsChip a x b y → KeepsChip b y c z → KeepsChip a x c z
+keeps_on p q = record { fails = q.fails ∙ p.fails; faults = q.faults ∙ p.faults; limit = λ within. q.limit (p.limit within) }
 
 -- a chip that answers a call otherwise did not fail
-same_faults : (old new : ChipState) (c : Call Rid) (a : ChipAnswer) → (a ≡ answer.Failed → ⊥) → Answers old c a new → new.faults ≡ old.faults
+pub same_faults : (old new : ChipState) (c : Call Rid) (a : ChipAnswer) → (a ≡ answer.Failed → ⊥) → Answers old c a new → new.faults ≡ old.faults
 same_faults old new c (answer.Made id) went h = h.3
 same_faults old new c answer.Done went h = h.2
 same_faults old new c answer.Exists went h = h.2
@@ -28,9 +43,6 @@ same_faults old new c answer.InUse went h = h.2
 same_faults old new c answer.Full went h = h.2
 same_faults old new c answer.Failed went h = absurd (went refl)
 same_faults old new c answer.NoMemory went h = h.1
-
-pub keeps_answered : (old new : ChipState) (c : Call Rid) (a : ChipAnswer) → (a ≡ answer.Failed → ⊥) → IsAnswered old c a new → KeepsChip old new
-keeps_answered old new c a went h = record { fails = h.fails; faults = same_faults old new c a went h.answer }
 
 -- a call's own effect, or none
 one_at_most : (old new : ChipState) (c : Call Rid) → StaysSame old new ⊎ TakesEffect old c new → length new.effects ≤ length old.effects + 1
@@ -51,6 +63,17 @@ answers_once old new c answer.NoMemory h = one_at_most old new c (inl h.0)
 
 pub one_effect : (old new : ChipState) (c : Call Rid) (a : ChipAnswer) → IsAnswered old c a new → length new.effects ≤ length old.effects + 1
 one_effect old new c a h = answers_once old new c a h.answer
+
+-- a call that had two places in the log, of which it took one at most
+pub keeps_called : (c c' : CoreState) (old new : ChipState) (call : Call Rid) (a : ChipAnswer) → c'.log ≡ c.log → c'.listed ≡ c.listed → c'.limit ≡ c.limit → (IsFullFor c (length old.effects) 2 → ⊥) → (a ≡ answer.Failed → ⊥) → IsAnswered old call a new → KeepsChip c old c' new
+keeps_called c c' old new call a log listed limit room went h = record { fails = h.fails; faults = same_faults old new call a went h.answer; limit = λ within. fits }
+  where
+    fits : IsWithinLimit c' new
+    fits =
+        let most = one_effect old new call a h in
+        let taken : length c'.log.taken ≡ length c.log.taken = ap (λ (h : History). length h.taken) log in
+        let marks : length c'.log.marks ≡ length c.log.marks = ap (λ (h : History). length h.marks) log in
+        omega (arith, room, most, taken, marks, listed, limit)
 
 pub one_more_effect : (old new : ChipState) (c : Call Rid) (a : ChipAnswer) → a ≡ answer.Failed → IsAnswered old c a new → (length new.effects ≤ new.before_fault + 1) × (new.before_fault ≡ length old.effects) × (old.faults < new.faults)
 one_more_effect old new c a failed h =

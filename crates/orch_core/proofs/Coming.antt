@@ -1,12 +1,12 @@
 -- a core comes back from a fault and from a restart, event by event
 use Rattle.std.proofs.Common.{◌≡◌, ◌⊎◌, ◌+◌, ◌<◌, ◌∷◌, ◌++◌, ◌∙◌, inl, inr, ℕ, Bool, true, false, List, [], length, Result, Ok, Err, refl, sym, ap, subst, arith}
-use Rattle.std.proofs.lemmas.List.{append-nil, append_assoc}
+use Rattle.std.proofs.lemmas.List.{append-nil, append_assoc, length-append}
 use Rattle.std.specs.Result.{IsErr}
 use Rattle.std.proofs.lemmas.Bool.{false≢true}
 use Rattle.swss_types.specs.declared.out_of_memory.OutOfMemory.{OutOfMemory}
 use Rattle.table_schema.specs.Plan.{Ports}
 use Rattle.sai_types.specs.ChipState.{ChipState}
-use Rattle.switch_model.specs.History.{History, with_mark}
+use Rattle.switch_model.specs.History.{History, listed_by, with_mark}
 use Rattle.switch_model.specs.declared.mark.Mark.{Mark}
 use Rattle.switch_model.specs.declared.mark.MarkEvent.TheVariants as event
 use Rattle.machine_laws.specs.Order.{MayEndRound}
@@ -16,6 +16,7 @@ use Rattle.warm_state.specs.declared.warm.Warm.TheVariants as warm
 use Rattle.session_laws.specs.Core.{CoreState, IsFullFor, mark_at}
 use Rattle.restart_session_laws.specs.Events.{MakesMore, MakesNext, restarted}
 use Rattle.restart_session_laws.specs.Standing.{IsServiceOf}
+use Rattle.restart_session_laws.proofs.Marking.{listed-so}
 use Rattle.restart_session_laws.proofs.Restarting.{restart-next}
 use Rattle.orch_core.specs.ComingBack.{AreOnWay, Back, ComesOut, ComesTo, HasRestored, IsFullOnWay, SettlesFrom, Stopped, StopsAfter, StopsOnWay, is_unrestored, places_on_way, ran_of, restarts_due, restarts_marked}
 use Rattle.orch_core.specs.Outcomes.{KeepsChip}
@@ -27,7 +28,7 @@ use Rattle.orch_core.specs.declared.answer.Settled.{Settled}
 use Rattle.orch_core.specs.declared.answer.Settled.TheVariants as settled
 use Rattle.orch_core.specs.declared.answer.Step.{Step}
 use Rattle.orch_core.specs.declared.answer.Step.TheVariants as step
-use Rattle.orch_core.proofs.Chips.{keeps_itself, keeps_on, keeps_same}
+use Rattle.orch_core.proofs.Chips.{keeps_alike, keeps_itself, keeps_on}
 
 -- ---- events one after the other
 
@@ -48,7 +49,7 @@ restarts_both [] ys = omega arith
 restarts_both (x ∷ xs) ys = let rest = restarts_both xs ys in omega (arith, rest)
 
 pub comes_none : (s : LoggedService) (c : CoreState) (chip : ChipState) → IsServiceOf c chip s → ComesTo s s c chip c chip
-comes_none s c chip is = record { steps = []; are = tt; is = refl; stands = is; plan = refl; capacities = refl; limit = refl; taken = refl; ends = refl; added = []; marks = sym (append-nil c.log.marks); way = tt; restarts = omega arith; restored = λ out in_it. absurd (false≢true (sym in_it ∙ out)); kept = λ in_it. (in_it, refl); keeps = keeps_itself chip; still = λ at. (refl, refl, refl) }
+comes_none s c chip is = record { steps = []; are = tt; is = refl; stands = is; plan = refl; capacities = refl; limit = refl; taken = refl; ends = refl; added = []; marks = sym (append-nil c.log.marks); way = tt; restarts = omega arith; restored = λ out in_it. absurd (false≢true (sym in_it ∙ out)); kept = λ in_it. (in_it, refl); keeps = keeps_itself c chip; still = λ at. (refl, refl, refl) }
 
 -- the rows that were restored on the way from a later core
 restored_later : (s t : LoggedService) (c d e : CoreState) (chip dchip : ChipState) → ComesTo s t c chip d dchip → HasRestored t d e → HasRestored s c e
@@ -106,7 +107,7 @@ comes_on s t u c d e chip dchip echip x y = record {
   restarts = let both = restarts_both x.added y.added in let first = x.restarts in let next = y.restarts in omega (arith, both, first, next);
   restored = restored_on s t u c d e chip dchip echip x y;
   kept = λ was. let a = x.kept was in let b = y.kept a.0 in (b.0, b.1 ∙ a.1);
-  keeps = keeps_on chip dchip echip x.keeps y.keeps;
+  keeps = keeps_on x.keeps y.keeps;
   still = λ at.
       let a = x.still at in
       let b = y.still (ap (λ (z : CoreState). z.warm) a.0 ∙ at) in
@@ -125,10 +126,10 @@ record Records (s : LoggedService) (c d : CoreState) : Type 0 where
   kept : is_unrestored c.warm ≡ false → (is_unrestored d.warm ≡ false) × (d.board ≡ c.board)
 
 -- so many steps of a core that is not reconciled
-comes_more : (s : LoggedService) (c : CoreState) (chip : ChipState) (d : CoreState) (dchip : ChipState) → (c.warm ≡ warm.Reconciled → ⊥) → (x : MakesMore c s d dchip) → Records s c d → KeepsChip chip dchip → ComesTo s (session_after s x.steps) c chip d dchip
+comes_more : (s : LoggedService) (c : CoreState) (chip : ChipState) (d : CoreState) (dchip : ChipState) → (c.warm ≡ warm.Reconciled → ⊥) → (x : MakesMore c s d dchip) → Records s c d → KeepsChip c chip d dchip → ComesTo s (session_after s x.steps) c chip d dchip
 comes_more s c chip d dchip away x r keeps = record { steps = x.steps; are = x.are; is = refl; stands = x.stands; plan = x.plan; capacities = x.capacities; limit = x.limit; taken = r.taken; ends = r.ends; added = r.added; marks = r.marks; way = r.way; restarts = r.restarts; restored = r.restored; kept = r.kept; keeps = keeps; still = λ at. absurd (away at) }
 
-comes_one : (s : LoggedService) (c : CoreState) (chip : ChipState) (d : CoreState) (dchip : ChipState) → (c.warm ≡ warm.Reconciled → ⊥) → (x : MakesNext c s d dchip) → Records s c d → KeepsChip chip dchip → ComesTo s x.later c chip d dchip
+comes_one : (s : LoggedService) (c : CoreState) (chip : ChipState) (d : CoreState) (dchip : ChipState) → (c.warm ≡ warm.Reconciled → ⊥) → (x : MakesNext c s d dchip) → Records s c d → KeepsChip c chip d dchip → ComesTo s x.later c chip d dchip
 comes_one s c chip d dchip away x r keeps = record { steps = x.later ∷ []; are = (x.makes, tt); is = refl; stands = x.stands; plan = x.plan; capacities = x.capacities; limit = x.limit; taken = r.taken; ends = r.ends; added = r.added; marks = r.marks; way = r.way; restarts = r.restarts; restored = r.restored; kept = r.kept; keeps = keeps; still = λ at. absurd (away at) }
 
 -- neither state is that of a suspect core
@@ -229,10 +230,13 @@ module _ (s : LoggedService) (c : CoreState) (chip : ChipState) (is : IsServiceO
   pub restart_full : (at : c.warm ≡ warm.Suspect) (d : CoreState) → d ≡ c → IsFullFor c (length chip.effects) 1 → ComesOut s c chip (Ok ran.LogFull) d chip
   restart_full at d same full = full_now d chip refl (stays_same d same) (subst (λ w. IsFullOnWay w s c chip) (sym at) full)
 
-  pub restart_comes : c.warm ≡ warm.Suspect → (d : CoreState) → d ≡ restarted c (length chip.effects) → (t : LoggedService) × ComesTo s t c chip d chip × (d.warm ≡ warm.Initialized)
-  restart_comes at d same =
+  keeps_restarted : (IsFullFor c (length chip.effects) 1 → ⊥) → KeepsChip c chip (restarted c (length chip.effects)) chip
+  keeps_restarted room = record { fails = refl; faults = refl; limit = λ within. let longer = length-append c.log.marks (mark_at c (length chip.effects) event.Restarted ∷ []) in omega (arith, room, longer) }
+
+  pub restart_comes : c.warm ≡ warm.Suspect → (IsFullFor c (length chip.effects) 1 → ⊥) → (d : CoreState) → d ≡ restarted c (length chip.effects) → (t : LoggedService) × ComesTo s t c chip d chip × (d.warm ≡ warm.Initialized)
+  restart_comes at room d same =
       let x = restart-next c chip s is in
-      subst (λ z. (t : LoggedService) × ComesTo s t c chip z chip × (z.warm ≡ warm.Initialized)) (sym same) (x.later, comes_one s c chip (restarted c (length chip.effects)) chip away x (records_restart s c (length chip.effects) at) (keeps_itself chip), refl)
+      subst (λ z. (t : LoggedService) × ComesTo s t c chip z chip × (z.warm ≡ warm.Initialized)) (sym same) (x.later, comes_one s c chip (restarted c (length chip.effects)) chip away x (records_restart s c (length chip.effects) at) (keeps_restarted room), refl)
 
   -- ---- a list
 
@@ -240,7 +244,7 @@ module _ (s : LoggedService) (c : CoreState) (chip : ChipState) (is : IsServiceO
     pub list_comes : (r : Step) (d : CoreState) (dchip : ChipState) → ran_of r ≡ ran.Whole → ListsOut true s c chip (Ok r) d dchip → (t : LoggedService) × ComesTo s t c chip d dchip × (d.warm ≡ warm.Restored)
     list_comes step.Did d dchip h x = (
       x.makes.later,
-      comes_one s c chip d dchip away x.makes (records_none s c d (none_due warm.Initialized warm.Restored c d at (ap (λ (z : CoreState). z.warm) x.is) refl refl) (still_out s warm.Initialized warm.Restored c d at (ap (λ (z : CoreState). z.warm) x.is) refl refl) (ap (λ (z : CoreState). z.log) x.is)) (keeps_same chip dchip x.chip_is),
+      comes_one s c chip d dchip away x.makes (records_none s c d (none_due warm.Initialized warm.Restored c d at (ap (λ (z : CoreState). z.warm) x.is) refl refl) (still_out s warm.Initialized warm.Restored c d at (ap (λ (z : CoreState). z.warm) x.is) refl refl) (ap (λ (z : CoreState). z.log) x.is)) (keeps_alike c d chip dchip x.chip_is (ap (λ (z : CoreState). z.log) x.is) (ap (λ (z : CoreState). z.listed) x.is) (ap (λ (z : CoreState). z.limit) x.is)),
       ap (λ (z : CoreState). z.warm) x.is,
     )
     list_comes step.Faulted d dchip h x = absurd cc
@@ -281,10 +285,21 @@ module _ (s : LoggedService) (c : CoreState) (chip : ChipState) (is : IsServiceO
           board = refl;
         }
 
+    -- the keys that the mark lists had their places too
+    keeps_restored : (d : CoreState) → RestoresRows s c chip d → KeepsChip c chip d chip
+    keeps_restored d x =
+        let mark = mark_at c (length chip.effects) (event.ApplyBegan x.mode x.waits) in
+        let room = x.room in
+        let limit = x.makes.limit in
+        let taken : length d.log.taken ≡ length c.log.taken = ap (λ (h : History). length h.taken) x.log in
+        let marks : length d.log.marks ≡ length c.log.marks + 1 = ap (λ (h : History). length h.marks) x.log ∙ length-append c.log.marks (mark ∷ []) in
+        let listed : d.listed ≡ c.listed + length x.waits = x.makes.stands.always.listed ∙ ap (λ (h : History). listed_by h.marks) x.log ∙ sym (listed-so c.log.marks mark c.listed (length x.waits) refl is.always.listed) in
+        record { fails = refl; faults = refl; limit = λ within. omega (arith, room, limit, taken, marks, listed) }
+
     pub restore_comes : (r : Step) (d : CoreState) (dchip : ChipState) → ran_of r ≡ ran.Whole → RestoresOut s c chip (Ok r) d dchip → (t : LoggedService) × ComesTo s t c chip d dchip × (d.warm ≡ warm.Applying)
     restore_comes step.Did d dchip h x =
         subst (λ z. (t : LoggedService) × ComesTo s t c chip d z × (d.warm ≡ warm.Applying)) (sym x.0)
-        (x.1.makes.later, comes_one s c chip d chip away x.1.makes (records_mark s c d (mark_at c (length chip.effects) (event.ApplyBegan x.1.mode x.1.waits)) (none_due warm.Restored warm.Applying c d at x.1.warm refl refl) (now_in s warm.Restored c d at refl (restores_now d x.1)) (λ h. h) refl x.1.log) (keeps_itself chip), x.1.warm)
+        (x.1.makes.later, comes_one s c chip d chip away x.1.makes (records_mark s c d (mark_at c (length chip.effects) (event.ApplyBegan x.1.mode x.1.waits)) (none_due warm.Restored warm.Applying c d at x.1.warm refl refl) (now_in s warm.Restored c d at refl (restores_now d x.1)) (λ h. h) refl x.1.log) (keeps_restored d x.1), x.1.warm)
     restore_comes step.Faulted d dchip h x = absurd x
     restore_comes step.LogFull d dchip h x = absurd cc
     restore_comes step.Idle d dchip h x = absurd x

@@ -26,7 +26,7 @@ use Rattle.orch_core.specs.Settled.{MarksTurns, Settles, SettlesKeys, SettlesWho
 use Rattle.orch_core.specs.declared.answer.Settled.{Settled}
 use Rattle.orch_core.specs.declared.answer.Settled.TheVariants as settled
 use Rattle.orch_core.proofs.Listings.{listed_all, listed_length, listed_only, listed_order, listed_reasons, listed_same}
-use Rattle.orch_core.proofs.Chips.{keeps_on}
+use Rattle.orch_core.proofs.Chips.{keeps_on, keeps_stood}
 use Rattle.orch_core.proofs.Runs.{faulted_more, full_more, log_same, short_more}
 
 -- ---- turns and their mark
@@ -35,7 +35,7 @@ use Rattle.orch_core.proofs.Runs.{faulted_more, full_more, log_same, short_more}
 waits_told : (n : ℕ) (s : LoggedService) (c mid : CoreState) (chip' : ChipState) (x : TurnsTo n c s mid chip') (k : Key) → IsToSync mid.tables k → MustWait mid.board.plan 4 mid.sync.capacities x.later.service.core k
 waits_told n s c mid chip' x k i = let one = x.lists k i in (one.0, one.2)
 
-module _ (s : LoggedService) (c : CoreState) (first : ChipState) (is : IsSessionOf c first s) (n : ℕ) (mid : CoreState) (chip' : ChipState) (order : AreOpsInOrder c.tables.ops) (x : TurnsTo n c s mid chip') (keeps : KeepsChip first chip') (effects : ℕ) (same : effects ≡ length chip'.effects) where
+module _ (s : LoggedService) (c : CoreState) (first : ChipState) (is : IsSessionOf c first s) (n : ℕ) (mid : CoreState) (chip' : ChipState) (order : AreOpsInOrder c.tables.ops) (x : TurnsTo n c s mid chip') (keeps : KeepsChip c first mid chip') (effects : ℕ) (same : effects ≡ length chip'.effects) where
   kept : mid.log ≡ c.log
   kept = log_same c mid first chip' s x.later is x.leads.stands x.log
 
@@ -53,12 +53,15 @@ module _ (s : LoggedService) (c : CoreState) (first : ChipState) (is : IsSession
 
 -- ---- the whole
 
-module _ (s : LoggedService) (c : CoreState) (first : ChipState) (is : IsSessionOf c first s) (c1 c2 : CoreState) (chip1 : ChipState) (keeps : KeepsChip first chip1) (x : RunsTo c s c1 chip1) (y : PopsTo c1 x.later c2 chip1) (rest : IsAtRest c2) where
+module _ (s : LoggedService) (c : CoreState) (first : ChipState) (is : IsSessionOf c first s) (c1 c2 : CoreState) (chip1 : ChipState) (ran : KeepsChip c first c1 chip1) (x : RunsTo c s c1 chip1) (y : PopsTo c1 x.later c2 chip1) (rest : IsAtRest c2) where
   leads : LeadsTo c s y.later c2 chip1
   leads = leads_more c c1 c2 chip1 chip1 s x.later y.later x.leads y.leads
 
   kept_log : c2.log ≡ c.log
   kept_log = log_same c c2 first chip1 s y.later is y.leads.stands (y.log ∙ x.log)
+
+  keeps : KeepsChip c first c2 chip1
+  keeps = keeps_on ran (keeps_stood c1 c2 chip1 x.later y.later x.leads.stands y.leads.stands (log_same c1 c2 chip1 chip1 x.later y.later x.leads.stands y.leads.stands y.log) y.leads.limit)
 
   module _ (c' : CoreState) (chip' : ChipState) (m : MarksTurns y.later c2 chip1 c' chip') where
     abbrev waits : Waiting
@@ -105,7 +108,7 @@ module _ (s : LoggedService) (c : CoreState) (first : ChipState) (is : IsSession
     lists = subst ListsWhatWaits (sym m.marks.3) lists_marked
 
     whole : SettlesWhole s c first c' chip'
-    whole = record { settles = ended; places = fits; lists = lists; keeps = keeps_on first chip1 chip' keeps m.keeps }
+    whole = record { settles = ended; places = fits; lists = lists; keeps = record { fails = m.keeps.fails ∙ keeps.fails; faults = m.keeps.faults ∙ keeps.faults; limit = λ within. fits } }
 
   pub settles_all : (r : Result Settled OutOfMemory) (c' : CoreState) (chip' : ChipState) → SettlesKeys y.later c2 chip1 r c' chip' → Settles s c first r c' chip'
   settles_all (Ok settled.Settled) c' chip' m = whole c' chip' m
@@ -119,6 +122,6 @@ module _ (s : LoggedService) (c : CoreState) (first : ChipState) (is : IsSession
     order = h.order;
     waits = h.waits;
     full = h.full;
-    keeps = keeps_on first chip1 chip' keeps h.keeps;
+    keeps = keeps_on keeps h.keeps;
   })
   settles_all (Err e) c' chip' h = short_more s y.later c c2 chip1 leads first is kept_log keeps c' chip' h

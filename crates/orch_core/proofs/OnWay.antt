@@ -1,5 +1,6 @@
 -- a list of the chip and the calls of a plan, as the core makes them
 use Rattle.std.proofs.Common.{◌≡◌, ◌+◌, ◌<◌, ◌≤◌, ◌∷◌, ◌∙◌, inl, inr, ℕ, Bool, true, false, List, [], length, Result, Ok, Err, refl, sym, ap, subst, arith}
+use Rattle.std.proofs.lemmas.List.{length-append}
 use Rattle.std.specs.Result.{IfOk}
 use Rattle.sai_types.specs.declared.answer.ChipAnswer.{ChipAnswer}
 use Rattle.sai_types.specs.declared.answer.ChipAnswer.TheVariants as answer
@@ -24,10 +25,10 @@ use Rattle.restart_session_laws.specs.Events.{MakesNext}
 use Rattle.restart_session_laws.specs.Standing.{IsServiceOf}
 use Rattle.restart_session_laws.proofs.Listing.{list-fails, list-next}
 use Rattle.restart_session_laws.proofs.Made.{ended-next, failed-next, more-next}
-use Rattle.orch_core.specs.Outcomes.{KeepsChip, with_fault}
+use Rattle.orch_core.specs.Outcomes.{with_fault}
 use Rattle.orch_core.specs.Restarting.{AppliesOne, AppliesOut, AppliesLast, FaultsOnWay, HeedsApply, HeedsList, ListsOnWay, ListsOut, places_left}
 use Rattle.orch_core.specs.declared.answer.Step.{Step}
-use Rattle.orch_core.proofs.Chips.{keeps_answered, keeps_same, one_effect, one_more_effect}
+use Rattle.orch_core.proofs.Chips.{one_effect, one_more_effect, same_faults}
 
 pub if_ok : {X E : Type 0} {P Q : X → Type 0} (r : Result X E) → ((x : X) → P x → Q x) → IfOk r P → IfOk r Q
 if_ok (Ok x) on p = on x p
@@ -72,22 +73,28 @@ more_after _ [] h = absurd cc
 one_fewer : (c : PlanCall) (cs left : List PlanCall) → left ≡ cs → length left < length (c ∷ cs)
 one_fewer c cs left same = let long : length left ≡ length cs = ap length same in omega (arith, long)
 
+-- where at most one call is left, it and the mark of the end have a place each
+places_last : (l : List PlanCall) → length l ≤ 1 → places_left l ≡ length l + 1
+places_last [] few = refl
+places_last (c ∷ []) few = refl
+places_last (c ∷ d ∷ l) few = absurd (omega (arith, few))
+
 module _ (y y' : SyncState) (chip chip' : ChipState) where
-  -- the chip stays what it is made with
-  pub applies_keep : (l : List PlanCall) (a : ApplyStep) → (a ≡ apply_step.Failed → ⊥) → Applies l y chip a y' chip' → KeepsChip chip chip'
-  applies_keep [] a went x = keeps_same chip chip' x.1
-  applies_keep (c ∷ cs) a went x = keeps_answered chip chip' (call_renamed (plan_tie y.view) c.call) x.answer (λ failed. went (x.step ∙ ap (λ z. step_by z cs) failed)) x.answered
+  -- the chip failed no more often, and stays what it is made with
+  pub applies_went : (l : List PlanCall) (a : ApplyStep) → (a ≡ apply_step.Failed → ⊥) → Applies l y chip a y' chip' → chip'.faults ≡ chip.faults
+  applies_went [] a went x = ap (λ (z : ChipState). z.faults) x.1
+  applies_went (c ∷ cs) a went x = same_faults chip chip' (call_renamed (plan_tie y.view) c.call) x.answer (λ failed. went (x.step ∙ ap (λ z. step_by z cs) failed)) x.answered.answer
 
   pub applies_fails : (l : List PlanCall) (a : ApplyStep) → Applies l y chip a y' chip' → chip'.fails ≡ chip.fails
   applies_fails [] a x = ap (λ (z : ChipState). z.fails) x.1
   applies_fails (c ∷ cs) a x = x.answered.fails
 
   -- one of the calls was made, and more are left
-  pub applies_fewer : (l : List PlanCall) → Applies l y chip apply_step.More y' chip' → (length y'.left < length l) × (places_left l ≡ 2) × (0 < length y'.left)
+  pub applies_fewer : (l : List PlanCall) → Applies l y chip apply_step.More y' chip' → (length y'.left < length l) × (places_left l ≡ 2) × (0 < length y'.left) × (length chip'.effects ≤ length chip.effects + 1)
   applies_fewer [] x = absurd cc
   applies_fewer (c ∷ cs) x =
       let left : y'.left ≡ cs = ap (λ (z : SyncState). z.left) x.later ∙ more_left x.answer c cs x.step in
-      (one_fewer c cs y'.left left, refl, subst (λ l. 0 < length l) (sym left) (more_after x.answer cs x.step))
+      (one_fewer c cs y'.left left, refl, subst (λ l. 0 < length l) (sym left) (more_after x.answer cs x.step), one_effect chip chip' (call_renamed (plan_tie y.view) c.call) x.answer x.answered)
 
   -- what ended the plan was its last call, or no call
   pub applies_last : (l : List PlanCall) → Applies l y chip apply_step.Ended y' chip' → (length l ≤ 1) × (length chip'.effects ≤ length chip.effects + length l)
@@ -150,6 +157,8 @@ module _ (s : LoggedService) (c : CoreState) (chip : ChipState) (is : IsServiceO
     applied_one : Applies c.sync.left c.sync chip apply_step.More y chip' → AppliesOne s c chip (record c { sync = y }) chip'
     applied_one x =
         let fewer = applies_fewer c.sync y chip chip' c.sync.left x in
+        let two = subst (λ n. IsFullFor c (length chip.effects) n → ⊥) fewer.1 room in
+        let most = fewer.3 in
         record {
           makes = more-next c chip s is at y chip' x;
           warm = at;
@@ -158,13 +167,16 @@ module _ (s : LoggedService) (c : CoreState) (chip : ChipState) (is : IsServiceO
           board = refl;
           fewer = fewer.0;
           more = fewer.2;
-          room = subst (λ n. IsFullFor c (length chip.effects) n → ⊥) fewer.1 room;
-          keeps = applies_keep c.sync y chip chip' c.sync.left apply_step.More more_went x;
+          room = two;
+          keeps = record { fails = applies_fails c.sync y chip chip' c.sync.left apply_step.More x; faults = applies_went c.sync y chip chip' c.sync.left apply_step.More more_went x; limit = λ within. omega (arith, two, most) };
         }
 
     applied_last : Applies c.sync.left c.sync chip apply_step.Ended y chip' → AppliesLast s c chip (record c { sync = y; log = with_mark c.log end; warm = warm.Reconciled }) chip'
     applied_last x =
         let last = applies_last c.sync y chip chip' c.sync.left x in
+        let few = last.1 in
+        let own = places_last c.sync.left last.0 in
+        let longer = length-append c.log.marks (end ∷ []) in
         record {
           makes = ended-next c chip s is at y chip' x;
           warm = refl;
@@ -174,7 +186,7 @@ module _ (s : LoggedService) (c : CoreState) (chip : ChipState) (is : IsServiceO
           one = last.0;
           few = last.1;
           room = room;
-          keeps = applies_keep c.sync y chip chip' c.sync.left apply_step.Ended ended_went x;
+          keeps = record { fails = applies_fails c.sync y chip chip' c.sync.left apply_step.Ended x; faults = applies_went c.sync y chip chip' c.sync.left apply_step.Ended ended_went x; limit = λ within. omega (arith, room, few, own, longer) };
         }
 
     unapplied : (ends : Bool) → Applies c.sync.left c.sync chip apply_step.Failed y chip' → MakesNext c s (record c { sync = y; log = with_fault ends c.log fault; warm = warm.Suspect }) chip'

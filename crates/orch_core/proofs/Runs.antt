@@ -31,7 +31,7 @@ use Rattle.orch_core.specs.declared.answer.Ran.TheVariants as ran
 use Rattle.orch_core.specs.declared.answer.Settled.{Settled}
 use Rattle.orch_core.specs.declared.answer.Step.{Step}
 use Rattle.orch_core.specs.declared.answer.Step.TheVariants as step
-use Rattle.orch_core.proofs.Chips.{keeps_itself, keeps_on}
+use Rattle.orch_core.proofs.Chips.{keeps_alike, keeps_itself, keeps_on, keeps_stood}
 
 pub beside_itself : (c : CoreState) → IsSameBeside c c
 beside_itself c = record { tables = refl; waiting = refl; log = refl; listed = refl; limit = refl; warm = refl }
@@ -47,7 +47,7 @@ module _ (s t : LoggedService) (c d : CoreState) (chip : ChipState) (leads : Lea
   all_more e chip' y = leads_some c e chip' s _ (leads_more c d e chip chip' s t _ leads (record { steps = y.steps; are = y.are; is = refl; stands = y.stands; plan = y.plan; capacities = y.capacities; limit = y.limit }))
 
   -- where nothing was logged on the way, what stops the later core stops the first
-  module _ (first : ChipState) (is : IsSessionOf c first s) (same : d.log ≡ c.log) (keeps : KeepsChip first chip) where
+  module _ (first : ChipState) (is : IsSessionOf c first s) (same : d.log ≡ c.log) (keeps : KeepsChip c first d chip) where
     size_same : (n : ℕ) → size_beside d n ≡ size_beside c n
     size_same n =
         let listed : d.listed ≡ c.listed = leads.stands.listed ∙ ap (λ (h : History). listed_by h.marks) same ∙ sym is.listed in
@@ -76,10 +76,10 @@ module _ (s t : LoggedService) (c d : CoreState) (chip : ChipState) (leads : Lea
     faulted_more popped e chip' y = record { steps = all_more e chip' y.steps; marks = marks_more e chip' y.marks; popped = λ none. y.popped (popped none); fails = y.fails ∙ keeps.fails }
 
     pub full_more : (e : CoreState) (chip' : ChipState) → StopsFull t d chip e chip' → StopsFull s c first e chip'
-    full_more e chip' y = record { steps = all_more e chip' y.steps; warm = y.warm; log = y.log ∙ same; flying = y.flying; full = y.full; keeps = keeps_on first chip chip' keeps y.keeps }
+    full_more e chip' y = record { steps = all_more e chip' y.steps; warm = y.warm; log = y.log ∙ same; flying = y.flying; full = y.full; keeps = keeps_on keeps y.keeps }
 
     pub short_more : (e : CoreState) (chip' : ChipState) → StopsShort t d chip e chip' → StopsShort s c first e chip'
-    short_more e chip' y = record { steps = all_more e chip' y.steps; warm = y.warm; log = y.log ∙ same; keeps = keeps_on first chip chip' keeps y.keeps }
+    short_more e chip' y = record { steps = all_more e chip' y.steps; warm = y.warm; log = y.log ∙ same; keeps = keeps_on keeps y.keeps }
 
 -- nothing was logged in a session: the cores' logs are the same
 pub log_same : (c d : CoreState) (first chip : ChipState) (s t : LoggedService) → IsSessionOf c first s → IsSessionOf d chip t → t.log ≡ s.log → d.log ≡ c.log
@@ -93,22 +93,22 @@ module _ (s : LoggedService) (w : ℕ) (c : CoreState) (chip : ChipState) (at : 
   pub stop_full : IsSessionOf c chip s → w < 4 → IsSome (flown_at c.board w) → Answered true s w c chip (Ok step.LogFull) d chip' → StopsFull s c chip d chip'
   stop_full is less flying y =
       subst (λ z. StopsFull s c chip z chip') (sym y.0)
-      (subst (λ z. StopsFull s c chip c z) (sym y.1) (record { steps = no_step c chip s is; warm = at; log = refl; flying = (w, less, flying); full = y.2; keeps = keeps_itself chip }))
+      (subst (λ z. StopsFull s c chip c z) (sym y.1) (record { steps = no_step c chip s is; warm = at; log = refl; flying = (w, less, flying); full = y.2; keeps = keeps_itself c chip }))
 
-  pub stop_short : (e : OutOfMemory) → Answered true s w c chip (Err e) d chip' → StopsShort s c chip d chip'
-  stop_short e y =
+  pub stop_short : IsSessionOf c chip s → (e : OutOfMemory) → Answered true s w c chip (Err e) d chip' → StopsShort s c chip d chip'
+  stop_short is e y =
       subst (λ z. StopsShort s c chip d z) (sym y.0)
-      (record { steps = record { steps = []; are = tt; stands = y.1.stands; plan = y.1.plan; capacities = y.1.capacities; limit = y.1.limit }; warm = y.1.warm ∙ at; log = y.1.log; keeps = keeps_itself chip })
+      (record { steps = record { steps = []; are = tt; stands = y.1.stands; plan = y.1.plan; capacities = y.1.capacities; limit = y.1.limit }; warm = y.1.warm ∙ at; log = y.1.log; keeps = keeps_stood c d chip s s is y.1.stands y.1.log y.1.limit })
 
 -- ---- answers
 
 module _ (s : LoggedService) (w : ℕ) (c : CoreState) (first : ChipState) where
   pub runs_first : IsSessionOf c first s → RunsWhole s w c first c first
-  runs_first is = record { runs = runs_none c first s is; beside = beside_itself c; others = λ v apart. refl; keeps = keeps_itself first }
+  runs_first is = record { runs = runs_none c first s is; beside = beside_itself c; others = λ v apart. refl; keeps = keeps_itself c first }
 
   module _ (d : CoreState) (chip : ChipState) (x : RunsWhole s w c first d chip) where
     pub runs_on : (e : CoreState) (chip' : ChipState) → AnswersCall x.runs.later w d chip e chip' → RunsWhole s w c first e chip'
-    runs_on e chip' y = record { runs = runs_more c d e chip chip' s x.runs y.makes y.call y.answer y.moves; beside = beside_on c d e x.beside y.beside; others = λ v apart. y.others v apart ∙ x.others v apart; keeps = keeps_on first chip chip' x.keeps y.keeps }
+    runs_on e chip' y = record { runs = runs_more c d e chip chip' s x.runs y.makes y.call y.answer y.moves; beside = beside_on c d e x.beside y.beside; others = λ v apart. y.others v apart ∙ x.others v apart; keeps = keeps_on x.keeps y.keeps }
 
 -- ---- the log fills up with answers
 
@@ -164,7 +164,7 @@ module _ (s : LoggedService) (c : CoreState) (chip : ChipState) (d : CoreState) 
   settles_err (Ok b) h x = absurd (false≢true h)
 
 -- one worker more, or a stop
-module _ (s : LoggedService) (c : CoreState) (first : ChipState) (is : IsSessionOf c first s) (d : CoreState) (chip : ChipState) (x : RunsTo c s d chip) (keeps : KeepsChip first chip) (w : ℕ) where
+module _ (s : LoggedService) (c : CoreState) (first : ChipState) (is : IsSessionOf c first s) (d : CoreState) (chip : ChipState) (x : RunsTo c s d chip) (keeps : KeepsChip c first d chip) (w : ℕ) where
   same : d.log ≡ c.log
   same = log_same c d first chip s x.later is x.leads.stands x.log
 
@@ -208,12 +208,12 @@ rest_popped c d e at beside free pops none = record {
   warm = ap (λ (z : CoreState). z.warm) pops.1 ∙ beside.warm ∙ at;
 }
 
-pub short_popped : (s : LoggedService) (c : CoreState) (first : ChipState) (d e : CoreState) (chip : ChipState) → c.warm ≡ warm.Reconciled → IsSameBeside c d → RunsTo c s d chip → KeepsChip first chip → PopsAlone d e → StopsShort s c first e chip
+pub short_popped : (s : LoggedService) (c : CoreState) (first : ChipState) (d e : CoreState) (chip : ChipState) → c.warm ≡ warm.Reconciled → IsSameBeside c d → RunsTo c s d chip → KeepsChip c first d chip → PopsAlone d e → StopsShort s c first e chip
 short_popped s c first d e chip at beside x keeps pops =
     let y = pops.2 chip x.later x.leads.stands in
     record {
       steps = leads_some c e chip s y.later (leads_more c d e chip chip s x.later y.later x.leads y.leads);
       warm = ap (λ (z : CoreState). z.warm) pops.1 ∙ beside.warm ∙ at;
       log = ap (λ (z : CoreState). z.log) pops.1 ∙ beside.log;
-      keeps = keeps;
+      keeps = keeps_on keeps (keeps_alike d e chip chip refl (ap (λ (z : CoreState). z.log) pops.1) (ap (λ (z : CoreState). z.listed) pops.1) (ap (λ (z : CoreState). z.limit) pops.1));
     }

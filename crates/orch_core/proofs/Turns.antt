@@ -6,12 +6,14 @@ use Rattle.std.proofs.lemmas.Bool.{false≢true}
 use Rattle.std.proofs.lemmas.List.{append_assoc}
 use Rattle.swss_types.specs.declared.out_of_memory.OutOfMemory.{OutOfMemory}
 use Rattle.table_schema.specs.declared.key.Key.{Key}
+use Rattle.sai_types.specs.Alike.{IsIn}
 use Rattle.sai_types.specs.ChipState.{ChipState}
 use Rattle.consumer_table.specs.Ops.{AreOpsInOrder, Ops, first_in, keys_behind}
 use Rattle.retry_list.specs.Reasons.{with_reason}
 use Rattle.switch_model.specs.declared.wait.Wait.{Wait}
 use Rattle.switch_machine.specs.Reasons.{IsReason}
 use Rattle.restart_laws.specs.Logged.{LoggedService}
+use Rattle.sync_tables.specs.Tables.{IsToSync}
 use Rattle.flight_board.specs.Board.{FlightState, flight_on, flown_at}
 use Rattle.warm_state.specs.declared.warm.Warm.TheVariants as warm
 use Rattle.session_laws.specs.Core.{CoreState}
@@ -27,7 +29,7 @@ use Rattle.orch_core.specs.Settled.{Begun, Brings, BringsKey, Dropped, MakesTurn
 use Rattle.orch_core.specs.declared.answer.Ran.{Ran}
 use Rattle.orch_core.specs.declared.answer.Ran.TheVariants as ran
 use Rattle.orch_core.specs.declared.answer.Turned.{Turned}
-use Rattle.orch_core.proofs.Chips.{keeps_itself, keeps_on, keeps_same}
+use Rattle.orch_core.proofs.Chips.{keeps_alike, keeps_itself, keeps_on}
 use Rattle.orch_core.proofs.Runs.{faulted_more, full_more, log_same, short_more}
 use Rattle.orch_core.proofs.Walks.{some_same, warm_same}
 
@@ -43,13 +45,21 @@ rest_same c d (b, x, e) rest = subst IsAtRest (sym e) (record { free = λ v less
     flown_same : (v : ℕ) → flown_at b v ≡ flown_at c.board v
     flown_same v = ap (λ l. option_map (λ (f : FlightState). f.flown) (flight_on l v)) x.flights
 
--- ---- a turn so far: the keys before this one were tried
+-- ---- a turn so far: the keys before these were tried
 
-abbrev pub IsTurnAt : CoreState → ChipState → Option Key → CoreState → ChipState → Type 0
-IsTurnAt c chip after d chip' = (s : LoggedService) → IsSessionOf c chip s → (left : List Key) × (rest : List Key) × (keys_behind after (keys_of d.tables.ops) ≡ rest) × IsTurning (keys_of c.tables.ops) c s left rest d chip' × KeepsChip chip chip'
+abbrev pub IsTurnAt : CoreState → ChipState → List Key → CoreState → ChipState → Type 0
+IsTurnAt c chip rest d chip' = (s : LoggedService) → IsSessionOf c chip s → (left : List Key) × IsTurning (keys_of c.tables.ops) c s left rest d chip' × KeepsChip c chip d chip'
 
-pub turn_first : (c : CoreState) (chip : ChipState) → IsAtRest c → IsTurnAt c chip None c chip
-turn_first c chip rest s is = ([], keys_of c.tables.ops, refl, turn_begins c chip s is rest, keeps_itself chip)
+pub turn_first : (c : CoreState) (chip : ChipState) → IsAtRest c → (keys : List Key) → keys ≡ keys_of c.tables.ops → IsTurnAt c chip keys c chip
+turn_first c chip rest keys are s is = ([], subst (λ l. IsTurning (keys_of c.tables.ops) c s [] l c chip) (sym are) (turn_begins c chip s is rest), keeps_itself c chip)
+
+-- the next key is one to sync
+pub in_middle : (xs ys : List Key) (k : Key) → IsIn k (xs ++ k ∷ ys)
+in_middle [] ys k = inl refl
+in_middle (x ∷ xs) ys k = inr (in_middle xs ys k)
+
+pub turn_key : (keys left more : List Key) (k : Key) (c d : CoreState) (chip : ChipState) (s : LoggedService) → IsTurning keys c s left (k ∷ more) d chip → IsToSync d.tables k
+turn_key keys left more k c d chip s x = subst (IsIn k) (sym x.ops) (in_middle left more k)
 
 -- the next key, and those behind it
 pub leads_with_key : (rest : List Key) (after : Option Key) (keys : List Key) (k : Key) → keys_behind after keys ≡ rest → first_in (keys_behind after keys) ≡ Some k → (more : List Key) × (rest ≡ k ∷ more)
@@ -86,18 +96,17 @@ module _ (ops : Ops) (after : Option Key) (k : Key) (order : AreOpsInOrder ops) 
 
 module _ (keys left more : List Key) (k : Key) (c d : CoreState) (chip : ChipState) (s : LoggedService) (x : IsTurning keys c s left (k ∷ more) d chip) (order : AreOpsInOrder d.tables.ops) where
   abbrev IsNext : CoreState → ChipState → Type 0
-  IsNext e chip' = (l : List Key) × (keys_behind (Some k) (keys_of e.tables.ops) ≡ more) × IsTurning keys c s l more e chip'
+  IsNext e chip' = (l : List Key) × IsTurning keys c s l more e chip'
 
-  goes : (keys_of (key_left d k).tables.ops ≡ left ++ more) × (keys_behind (Some k) (keys_of (key_left d k).tables.ops) ≡ more)
-  goes = walk_goes d.tables.ops left more k order x.ops
+  goes : keys_of (key_left d k).tables.ops ≡ left ++ more
+  goes = (walk_goes d.tables.ops left more k order x.ops).0
 
   dropped : (e : CoreState) (chip' : ChipState) → chip' ≡ chip → DropsTo x.later k d e chip → IsNext e chip'
   dropped e chip' same y =
       let rest : IsAtRest e = subst IsAtRest (sym y.is) (rest_left d k x.at_rest) in
       subst (IsNext e) (sym same) (
         left,
-        ap (λ (z : CoreState). keys_behind (Some k) (keys_of z.tables.ops)) y.is ∙ goes.1,
-        turn_drops keys left more k c d chip s x e y.makes y.drop y.key y.moves rest (ap (λ (z : CoreState). keys_of z.tables.ops) y.is ∙ goes.0),
+        turn_drops keys left more k c d chip s x e y.makes y.drop y.key y.moves rest (ap (λ (z : CoreState). keys_of z.tables.ops) y.is ∙ goes),
       )
 
   begun : (mid : CoreState) (y : BeginsTo x.later 0 k d mid chip) (e : CoreState) (chip' : ChipState) → RunsWhole y.makes.later 0 mid chip e chip' → flown_at e.board 0 ≡ None → IsNext e chip'
@@ -109,8 +118,7 @@ module _ (keys left more : List Key) (k : Key) (c d : CoreState) (chip : ChipSta
       } in
       let ops : e.tables ≡ (key_left d k).tables = r.beside.tables ∙ ap (λ (z : CoreState). z.tables) y.is in (
         left,
-        ap (λ t. keys_behind (Some k) (keys_of t.ops)) ops ∙ goes.1,
-        turn_runs keys left more k c d chip s x mid e chip' y.makes y.begin y.key y.moves r.runs rest (ap (λ t. keys_of t.ops) ops ∙ goes.0),
+        turn_runs keys left more k c d chip s x mid e chip' y.makes y.begin y.key y.moves r.runs rest (ap (λ t. keys_of t.ops) ops ∙ goes),
       )
     where
       free : (v : ℕ) → v < 4 → flown_at e.board v ≡ None
@@ -130,7 +138,6 @@ module _ (keys left more : List Key) (k : Key) (c d : CoreState) (chip : ChipSta
       let waiting : e.waiting ≡ with_reason d.waiting k r = ap (λ (z : CoreState). z.waiting) on ∙ ap (λ (z : CoreState). with_reason z.waiting k r) is_same in
       subst (IsNext e) (sym alike) (
         left ++ k ∷ [],
-        ap (λ l. keys_behind (Some k) (keys_of l)) ops ∙ walk_stays d.tables.ops left more k order x.ops,
         turn_waits keys left more k c d chip s x r reason e is_with plan capacities limit rest_with ops waiting,
       )
 
@@ -139,23 +146,23 @@ module _ (keys left more : List Key) (k : Key) (c d : CoreState) (chip : ChipSta
   turn_on e chip' (Begun mid y runs none) = begun mid y e chip' runs none
   turn_on e chip' (Waits mid r alike same is reason on) = waited mid r same is reason e chip' alike on
 
--- what stays of the chip where a key is brought
-brings_keeps : (s : LoggedService) (k : Key) (c d : CoreState) (chip chip' : ChipState) → BringsKey s k c d chip chip' → KeepsChip chip chip'
-brings_keeps s k c d chip chip' (Dropped same y) = keeps_same chip chip' same
-brings_keeps s k c d chip chip' (Begun mid y runs none) = runs.keeps
-brings_keeps s k c d chip chip' (Waits mid r same alike is reason on) = keeps_same chip chip' same
+-- what stays of the chip where an operation begins, and where a key is brought
+begins_keeps : (s : LoggedService) (k : Key) (c mid : CoreState) (chip : ChipState) → BeginsTo s 0 k c mid chip → KeepsChip c chip mid chip
+begins_keeps s k c mid chip x = keeps_alike c mid chip chip refl (ap (λ (z : CoreState). z.log) x.is) (ap (λ (z : CoreState). z.listed) x.is) (ap (λ (z : CoreState). z.limit) x.is)
 
--- the next key, and that fewer are behind it
-module _ (c : CoreState) (first : ChipState) (s : LoggedService) (after : Option Key) (k : Key) (d : CoreState) (chip : ChipState) (order : AreOpsInOrder d.tables.ops) (there : first_in (keys_behind after (keys_of d.tables.ops)) ≡ Some k) (left rest : List Key) (behind : keys_behind after (keys_of d.tables.ops) ≡ rest) (e : CoreState) (chip' : ChipState) where
-  pub turn_next : (x : IsTurning (keys_of c.tables.ops) c s left rest d chip) → KeepsChip first chip → BringsKey x.later k d e chip chip' → ((l : List Key) × (m : List Key) × (keys_behind (Some k) (keys_of e.tables.ops) ≡ m) × IsTurning (keys_of c.tables.ops) c s l m e chip' × KeepsChip first chip') × (length (keys_behind (Some k) (keys_of e.tables.ops)) < length (keys_behind after (keys_of d.tables.ops)))
-  turn_next turning keeps b =
-      let n = leads_with_key rest after (keys_of d.tables.ops) k behind there in
-      let on : (r : List Key) → r ≡ k ∷ n.0 → (x : IsTurning (keys_of c.tables.ops) c s left r d chip) → BringsKey x.later k d e chip chip' → (l : List Key) × (keys_behind (Some k) (keys_of e.tables.ops) ≡ n.0) × IsTurning (keys_of c.tables.ops) c s l n.0 e chip' =
-      λ r same. subst (λ l. (x : IsTurning (keys_of c.tables.ops) c s left l d chip) → BringsKey x.later k d e chip chip' → (l : List Key) × (keys_behind (Some k) (keys_of e.tables.ops) ≡ n.0) × IsTurning (keys_of c.tables.ops) c s l n.0 e chip') (sym same) (λ x h. turn_on (keys_of c.tables.ops) left n.0 k c d chip s x order e chip' h) in
-      let z = on rest n.1 turning b in
-      let now : length (keys_behind (Some k) (keys_of e.tables.ops)) ≡ length n.0 = ap length z.1 in
-      let before : length (keys_behind after (keys_of d.tables.ops)) ≡ length n.0 + 1 = ap length (behind ∙ n.1) ∙ one_longer k n.0 in
-      ((z.0, n.0, z.1, z.2, keeps_on first chip chip' keeps (brings_keeps turning.later k d e chip chip' b)), omega (arith, now, before))
+brings_keeps : (s : LoggedService) (k : Key) (c d : CoreState) (chip chip' : ChipState) → BringsKey s k c d chip chip' → KeepsChip c chip d chip'
+brings_keeps s k c d chip chip' (Dropped same y) = keeps_alike c d chip chip' same (ap (λ (z : CoreState). z.log) y.is) (ap (λ (z : CoreState). z.listed) y.is) (ap (λ (z : CoreState). z.limit) y.is)
+brings_keeps s k c d chip chip' (Begun mid y runs none) = keeps_on (begins_keeps s k c mid chip y) runs.keeps
+brings_keeps s k c d chip chip' (Waits mid r same alike is reason on) =
+    keeps_alike c d chip chip' same (ap (λ (z : CoreState). z.log) on ∙ ap (λ (z : CoreState). z.log) alike.2) (ap (λ (z : CoreState). z.listed) on ∙ ap (λ (z : CoreState). z.listed) alike.2) (ap (λ (z : CoreState). z.limit) on ∙ ap (λ (z : CoreState). z.limit) alike.2)
+
+-- the next key was brought, or waits
+pub turn_next : (c : CoreState) (first : ChipState) (k : Key) (more rest : List Key) (d : CoreState) (chip : ChipState) → rest ≡ k ∷ more → AreOpsInOrder d.tables.ops → IsTurnAt c first rest d chip → (e : CoreState) (chip' : ChipState) → ((s : LoggedService) → IsSessionOf d chip s → BringsKey s k d e chip chip') → IsTurnAt c first more e chip'
+turn_next c first k more rest d chip split order turning e chip' brings s is =
+    let x = subst (λ l. (left : List Key) × IsTurning (keys_of c.tables.ops) c s left l d chip × KeepsChip c first d chip) split (turning s is) in
+    let b = brings x.1.later x.1.leads.stands in
+    let z = turn_on (keys_of c.tables.ops) x.0 more k c d chip s x.1 order e chip' b in
+    (z.0, z.1, keeps_on x.2 (brings_keeps x.1.later k d e chip chip' b))
 
 -- ---- by the answer
 
@@ -169,7 +176,7 @@ module _ (s : LoggedService) (c : CoreState) (chip : ChipState) (d : CoreState) 
   turns_err (Ok b) h x = absurd (false≢true h)
 
 -- a key that stops the turn
-module _ (s : LoggedService) (c : CoreState) (first : ChipState) (is : IsSessionOf c first s) (keys left rest : List Key) (d : CoreState) (chip : ChipState) (x : IsTurning keys c s left rest d chip) (keeps : KeepsChip first chip) where
+module _ (s : LoggedService) (c : CoreState) (first : ChipState) (is : IsSessionOf c first s) (keys left rest : List Key) (d : CoreState) (chip : ChipState) (x : IsTurning keys c s left rest d chip) (keeps : KeepsChip c first d chip) where
   same : d.log ≡ c.log
   same = log_same c d first chip s x.later is x.leads.stands x.log
 
@@ -182,7 +189,7 @@ module _ (s : LoggedService) (c : CoreState) (first : ChipState) (is : IsSession
   turn_short e chip' h = short_more s x.later c d chip x.leads first is same keeps e chip' h
 
 -- a turn that stops the turns
-module _ (n : ℕ) (s : LoggedService) (c : CoreState) (first : ChipState) (is : IsSessionOf c first s) (d : CoreState) (chip : ChipState) (x : IsTurned n c s d chip) (keeps : KeepsChip first chip) (e : CoreState) (chip' : ChipState) where
+module _ (n : ℕ) (s : LoggedService) (c : CoreState) (first : ChipState) (is : IsSessionOf c first s) (d : CoreState) (chip : ChipState) (x : IsTurned n c s d chip) (keeps : KeepsChip c first d chip) (e : CoreState) (chip' : ChipState) where
   same_log : d.log ≡ c.log
   same_log = log_same c d first chip s x.later is x.leads.stands x.log
 
@@ -205,9 +212,9 @@ module _ (s : LoggedService) (k : Key) (c : CoreState) (chip : ChipState) (is : 
 
   pub begun_runs : (r : Result Ran OutOfMemory) → RunsOut x.makes.later 0 mid chip r d chip' → Brings s k c chip r d chip'
   begun_runs (Ok ran.Whole) h = Begun mid x h.0 h.1
-  begun_runs (Ok ran.Faulted) h = faulted_more s x.makes.later c mid chip leads chip is log_kept (keeps_itself chip) (λ none. ap (λ (z : CoreState). z.tables.waiting) x.is ∙ none) d chip' h.0
-  begun_runs (Ok ran.LogFull) h = full_more s x.makes.later c mid chip leads chip is log_kept (keeps_itself chip) d chip' h
-  begun_runs (Err e) h = short_more s x.makes.later c mid chip leads chip is log_kept (keeps_itself chip) d chip' h
+  begun_runs (Ok ran.Faulted) h = faulted_more s x.makes.later c mid chip leads chip is log_kept (begins_keeps s k c mid chip x) (λ none. ap (λ (z : CoreState). z.tables.waiting) x.is ∙ none) d chip' h.0
+  begun_runs (Ok ran.LogFull) h = full_more s x.makes.later c mid chip leads chip is log_kept (begins_keeps s k c mid chip x) d chip' h
+  begun_runs (Err e) h = short_more s x.makes.later c mid chip leads chip is log_kept (begins_keeps s k c mid chip x) d chip' h
 
 pub brings_err : (s : LoggedService) (k : Key) (c : CoreState) (chip : ChipState) (r : Result Ran OutOfMemory) (d : CoreState) (chip' : ChipState) → IsErr r → StopsShort s c chip d chip' → Brings s k c chip r d chip'
 brings_err s k c chip (Err e) d chip' h x = x
@@ -215,7 +222,7 @@ brings_err s k c chip (Ok b) d chip' h x = absurd (false≢true h)
 
 -- the same core stops where memory was refused
 pub short_same : (s : LoggedService) (c d : CoreState) (chip : ChipState) → c.warm ≡ warm.Reconciled → IsSameCore c d → IsSessionOf d chip s → StopsShort s c chip d chip
-short_same s c d chip at same is = record { steps = some_same c d s chip same is; warm = warm_same c d same ∙ at; log = ap (λ (z : CoreState). z.log) same.2; keeps = keeps_itself chip }
+short_same s c d chip at same is = record { steps = some_same c d s chip same is; warm = warm_same c d same ∙ at; log = ap (λ (z : CoreState). z.log) same.2; keeps = keeps_alike c d chip chip refl (ap (λ (z : CoreState). z.log) same.2) (ap (λ (z : CoreState). z.listed) same.2) (ap (λ (z : CoreState). z.limit) same.2) }
 
 -- a turn that took a key away, or did not
 pub turn_fewer : (keys left : List Key) (c : CoreState) (s : LoggedService) (d : CoreState) (chip' : ChipState) (y : IsTurning keys c s left [] d chip') → (length (keys_of d.tables.ops) ≡ length keys → ⊥) → length (keys_of d.tables.ops) < length keys

@@ -29,7 +29,7 @@ use Rattle.session_laws.proofs.Seeing.{free_worker_rests, is_idle, same_keys}
 use Rattle.orch_core.specs.Outcomes.{Answered, BeginsOrDrops, BeginsTo, DropsTo, IsInSession, IsSameCore, StepsTo}
 use Rattle.orch_core.specs.declared.answer.Step.{Step}
 use Rattle.orch_core.specs.declared.answer.Step.TheVariants as step
-use Rattle.orch_core.proofs.Chips.{keeps_itself}
+use Rattle.orch_core.proofs.Chips.{keeps_alike}
 
 -- ---- orders
 
@@ -115,13 +115,13 @@ module _ (c c' : CoreState) (after : Option Key) (walked : IsWalkedTo c after c'
     walk_drops x =
         let makes = makes_same c c' d chip s walked.0 x.makes in
         let z : (z : IsDrop c.board.plan s.service.core makes.later.service.core) × (z.key ≡ k) = of_same (λ y. (z : IsDrop y.board.plan s.service.core x.makes.later.service.core) × (z.key ≡ k)) c c' (λ b e h. subst (λ p. (z : IsDrop p s.service.core x.makes.later.service.core) × (z.key ≡ k)) e h) walked.0 (x.drop, x.key) in
-        (makes, None, Dropping makes.later.service.core z.0 (free_worker_rests c chip s is at w none) (popped c chip s is at empty) (subst (AreHindered c.board.plan 4 c.sync.capacities s.service.core) (sym z.1) (hindered s chip is)), x.moves, keeps_itself chip, λ some full. false≢true some)
+        (makes, None, Dropping makes.later.service.core z.0 (free_worker_rests c chip s is at w none) (popped c chip s is at empty) (subst (AreHindered c.board.plan 4 c.sync.capacities s.service.core) (sym z.1) (hindered s chip is)), x.moves, keeps_alike c d chip chip refl (ap (λ (z : CoreState). z.log) x.is ∙ ap (λ (z : CoreState). z.log) walked.0.2) (ap (λ (z : CoreState). z.listed) x.is ∙ ap (λ (z : CoreState). z.listed) walked.0.2) (ap (λ (z : CoreState). z.limit) x.is ∙ ap (λ (z : CoreState). z.limit) walked.0.2), λ some full. false≢true some)
 
     pub walk_begins : BeginsTo s w k c' d chip → StepsTo s w c chip (Ok step.Did) d chip
     walk_begins x =
         let makes = makes_same c c' d chip s walked.0 x.makes in
         let z : (z : IsBegin c.board.plan 4 c.sync.capacities s.service.core makes.later.service.core) × (z.worker ≡ w) × (z.flight.key ≡ k) = of_same (λ y. (z : IsBegin y.board.plan 4 y.sync.capacities s.service.core x.makes.later.service.core) × (z.worker ≡ w) × (z.flight.key ≡ k)) c c' (λ b e h. subst (λ p. (z : IsBegin p 4 c.sync.capacities s.service.core x.makes.later.service.core) × (z.worker ≡ w) × (z.flight.key ≡ k)) e h) walked.0 (x.begin, x.worker, x.key) in
-        (makes, None, Beginning makes.later.service.core z.0 z.1 (popped c chip s is at empty) (subst (AreHindered c.board.plan 4 c.sync.capacities s.service.core) (sym z.2) (hindered s chip is)), x.moves, keeps_itself chip, λ some full. false≢true some)
+        (makes, None, Beginning makes.later.service.core z.0 z.1 (popped c chip s is at empty) (subst (AreHindered c.board.plan 4 c.sync.capacities s.service.core) (sym z.2) (hindered s chip is)), x.moves, keeps_alike c d chip chip refl (ap (λ (z : CoreState). z.log) x.is ∙ ap (λ (z : CoreState). z.log) walked.0.2) (ap (λ (z : CoreState). z.listed) x.is ∙ ap (λ (z : CoreState). z.listed) walked.0.2) (ap (λ (z : CoreState). z.limit) x.is ∙ ap (λ (z : CoreState). z.limit) walked.0.2), λ some full. false≢true some)
 
 -- no key is left: the worker is idle
 pub walk_idle : (c c' : CoreState) (after : Option Key) → IsWalkedTo c after c' → ((q : Key) → IsIn q (keys_of c'.tables.ops) → IsBehind after q → ⊥) → (w : ℕ) → c.warm ≡ warm.Reconciled → flown_at c.board w ≡ None → c.tables.waiting ≡ [] → (s : LoggedService) (chip : ChipState) → IsSessionOf c chip s → StepsTo s w c chip (Ok step.Idle) c' chip
@@ -169,4 +169,4 @@ module _ (s : LoggedService) (w : ℕ) (c : CoreState) (chip : ChipState) (is : 
   popping_steps none some (inr popped) =
       let told = pop_told c chip s t is at keys in
       let one = told.3 (subst (λ (z : CoreState). PopsSome c.tables z.tables) same popped) in
-      subst (λ z. StepsTo s w c chip (Ok step.Did) z chip) (sym same) (told.0, None, Popping told.0.later.service.core one.0 (free_worker_rests c chip s is at w none) told.1 one.1 one.2, told.2, keeps_itself chip, λ some full. false≢true some)
+      subst (λ z. StepsTo s w c chip (Ok step.Did) z chip) (sym same) (told.0, None, Popping told.0.later.service.core one.0 (free_worker_rests c chip s is at w none) told.1 one.1 one.2, told.2, keeps_alike c (record c { tables = t }) chip chip refl refl refl refl, λ some full. false≢true some)

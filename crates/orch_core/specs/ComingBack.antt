@@ -94,7 +94,7 @@ pub record ComesTo (s later : LoggedService) (c : CoreState) (chip : ChipState) 
   pub restarts : restarts_marked added + restarts_due c'.warm ≡ restarts_due c.warm
   pub restored : is_unrestored c.warm ≡ true → is_unrestored c'.warm ≡ false → HasRestored s c c'
   pub kept : is_unrestored c.warm ≡ false → (is_unrestored c'.warm ≡ false) × (c'.board ≡ c.board)
-  pub keeps : KeepsChip chip chip'
+  pub keeps : KeepsChip c chip c' chip'
   pub still : c.warm ≡ warm.Reconciled → (c' ≡ c) × (chip' ≡ chip) × (later ≡ s)
 
 -- the log has no places for the next event of the way: a restart, a list, a restore, or a call of the plan

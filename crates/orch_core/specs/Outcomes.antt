@@ -73,10 +73,15 @@ abbrev pub Heeds : ℕ → SyncAnswer → History → Mark → Bool → CoreStat
 Heeds w sync.Failed log fault ends c r c' = (r ≡ step.Faulted) × (c' ≡ record c { log = with_fault ends log fault; warm = warm.Suspect })
 Heeds w a log fault ends c r c' = (r ≡ step.Did) × (b : BoardState) × IsTakenFor c.board w (vid_made_by a) b × (c' ≡ record c { log = log; board = b })
 
--- the chip has the failing calls that it was made with, and failed no more often than before
-pub record KeepsChip (old new : ChipState) : Type 0 where
-  pub fails : new.fails ≡ old.fails
-  pub faults : new.faults ≡ old.faults
+-- the log, beside the chip's effects, is within its limit
+abbrev pub IsWithinLimit : CoreState → ChipState → Type 0
+IsWithinLimit c chip = size_beside c (length chip.effects) ≤ c.limit
+
+-- the chip has the failing calls that it was made with, and failed no more often than before; and a log that was within its limit still is
+pub record KeepsChip (c : CoreState) (chip : ChipState) (c' : CoreState) (chip' : ChipState) : Type 0 where
+  pub fails : chip'.fails ≡ chip.fails
+  pub faults : chip'.faults ≡ chip.faults
+  pub limit : IsWithinLimit c chip → IsWithinLimit c' chip'
 
 -- a call failed, the first that did, and its mark says so, with the chip's counts of faults before it and after it; the call had two places in the log, and at most its own effect came behind those before it
 pub record MarksFault (ends : Bool) (c : CoreState) (chip : ChipState) (c' : CoreState) (chip' : ChipState) : Type 0 where
@@ -105,7 +110,7 @@ pub record AnswersCall (s : LoggedService) (w : ℕ) (c : CoreState) (chip : Chi
   pub beside : IsSameBeside c c'
   pub others : KeepsFlights w c.board c'.board
   pub room : IsFullFor c (length chip.effects) 2 → ⊥
-  pub keeps : KeepsChip chip chip'
+  pub keeps : KeepsChip c chip c' chip'
 
 -- a fault of the call is one step too, and leaves the tables as they were
 pub record FaultsCall (ends : Bool) (s : LoggedService) (c : CoreState) (chip : ChipState) (c' : CoreState) (chip' : ChipState) : Type 0 where
@@ -171,7 +176,7 @@ BeginsOrDrops s w k c chip (Err e) c' = IsSameCore c c' × IsSessionOf c' chip s
 
 -- a step of a worker is the first event that applies to it, whose call, where it makes one, had two places in the log; Idle where none does; Faulted where its call failed, which is marked; LogFull where its call has no places; and after want of memory perhaps a part of a pop was made
 abbrev pub StepsTo : LoggedService → ℕ → CoreState → ChipState → Result Step OutOfMemory → CoreState → ChipState → Type 0
-StepsTo s w c chip (Ok step.Did) c' chip' = (y : MakesOne c s c' chip') × (call : Option (Call Rid)) × IsNextEvent c.board.plan 4 c.sync.capacities w s.service.core call y.later.service.core × IsMachineStep s call y.later × KeepsChip chip chip' × (IsSome call → IsFullFor c (length chip.effects) 2 → ⊥)
+StepsTo s w c chip (Ok step.Did) c' chip' = (y : MakesOne c s c' chip') × (call : Option (Call Rid)) × IsNextEvent c.board.plan 4 c.sync.capacities w s.service.core call y.later.service.core × IsMachineStep s call y.later × KeepsChip c chip c' chip' × (IsSome call → IsFullFor c (length chip.effects) 2 → ⊥)
 StepsTo s w c chip (Ok step.Idle) c' chip' = (chip' ≡ chip) × IsSameCore c c' × IsSessionOf c' chip s × IsIdle c.board.plan 4 c.sync.capacities w s.service.core
 StepsTo s w c chip (Ok step.Suspect) c' chip' = (c' ≡ c) × (chip' ≡ chip) × (c.warm ≡ warm.Suspect)
 StepsTo s w c chip (Ok step.Faulted) c' chip' = FaultsCall false s c chip c' chip'

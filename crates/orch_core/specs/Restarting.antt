@@ -201,7 +201,7 @@ pub record AppliesOne (s : LoggedService) (c : CoreState) (chip : ChipState) (c'
   pub fewer : length c'.sync.left < length c.sync.left
   pub more : 0 < length c'.sync.left
   pub room : IsFullFor c (length chip.effects) 2 → ⊥
-  pub keeps : KeepsChip chip chip'
+  pub keeps : KeepsChip c chip c' chip'
 
 -- the last call was made, where one was left, and the end is marked: the core is reconciled; of more than one call none is the last
 pub record AppliesLast (s : LoggedService) (c : CoreState) (chip : ChipState) (c' : CoreState) (chip' : ChipState) : Type 0 where
@@ -213,7 +213,7 @@ pub record AppliesLast (s : LoggedService) (c : CoreState) (chip : ChipState) (c
   pub one : length c.sync.left ≤ 1
   pub few : length chip'.effects ≤ length chip.effects + length c.sync.left
   pub room : IsFullFor c (length chip.effects) (places_left c.sync.left) → ⊥
-  pub keeps : KeepsChip chip chip'
+  pub keeps : KeepsChip c chip c' chip'
 
 -- a call was made, or the end is marked; the call failed, which is marked; the log has no places; or memory was refused
 abbrev pub AppliesOut : Bool → LoggedService → CoreState → ChipState → Result Step OutOfMemory → CoreState → ChipState → Type 0

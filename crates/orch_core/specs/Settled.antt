@@ -43,14 +43,14 @@ pub record StopsFull (s : LoggedService) (c : CoreState) (chip : ChipState) (c' 
   pub log : c'.log ≡ c.log
   pub flying : (v : ℕ) × (v < 4) × IsSome (flown_at c'.board v)
   pub full : IsFullFor c' (length chip'.effects) 2
-  pub keeps : KeepsChip chip chip'
+  pub keeps : KeepsChip c chip c' chip'
 
 -- steps were made, and then memory was refused
 pub record StopsShort (s : LoggedService) (c : CoreState) (chip : ChipState) (c' : CoreState) (chip' : ChipState) : Type 0 where
   pub steps : MakesSome c s c' chip'
   pub warm : c'.warm ≡ warm.Reconciled
   pub log : c'.log ≡ c.log
-  pub keeps : KeepsChip chip chip'
+  pub keeps : KeepsChip c chip c' chip'
 
 -- ---- what is under way
 
@@ -59,7 +59,7 @@ pub record RunsWhole (s : LoggedService) (w : ℕ) (c : CoreState) (chip : ChipS
   pub runs : RunsTo c s c' chip'
   pub beside : IsSameBeside c c'
   pub others : KeepsFlights w c.board c'.board
-  pub keeps : KeepsChip chip chip'
+  pub keeps : KeepsChip c chip c' chip'
 
 abbrev pub RunsOut : LoggedService → ℕ → CoreState → ChipState → Result Ran OutOfMemory → CoreState → ChipState → Type 0
 RunsOut s w c chip (Ok ran.Whole) c' chip' = RunsWhole s w c chip c' chip' × (flown_at c'.board w ≡ None)
@@ -68,7 +68,7 @@ RunsOut s w c chip (Ok ran.LogFull) c' chip' = StopsFull s c chip c' chip'
 RunsOut s w c chip (Err e) c' chip' = StopsShort s c chip c' chip'
 
 abbrev pub RunsAll : LoggedService → CoreState → ChipState → Result Ran OutOfMemory → CoreState → ChipState → Type 0
-RunsAll s c chip (Ok ran.Whole) c' chip' = RunsTo c s c' chip' × IsSameBeside c c' × ((v : ℕ) → v < 4 → flown_at c'.board v ≡ None) × KeepsChip chip chip'
+RunsAll s c chip (Ok ran.Whole) c' chip' = RunsTo c s c' chip' × IsSameBeside c c' × ((v : ℕ) → v < 4 → flown_at c'.board v ≡ None) × KeepsChip c chip c' chip'
 RunsAll s c chip (Ok ran.Faulted) c' chip' = StopsFaulted s c chip c' chip' × ((v : ℕ) × (v < 4) × IsSome (flown_at c.board v))
 RunsAll s c chip (Ok ran.LogFull) c' chip' = StopsFull s c chip c' chip'
 RunsAll s c chip (Err e) c' chip' = StopsShort s c chip c' chip'
@@ -98,13 +98,13 @@ Brings s k c chip (Ok ran.LogFull) c' chip' = StopsFull s c chip c' chip'
 Brings s k c chip (Err e) c' chip' = StopsShort s c chip c' chip'
 
 abbrev pub MakesTurn : LoggedService → CoreState → ChipState → Result Ran OutOfMemory → CoreState → ChipState → Type 0
-MakesTurn s c chip (Ok ran.Whole) c' chip' = (left : List Key) × IsTurning (keys_of c.tables.ops) c s left [] c' chip' × KeepsChip chip chip'
+MakesTurn s c chip (Ok ran.Whole) c' chip' = (left : List Key) × IsTurning (keys_of c.tables.ops) c s left [] c' chip' × KeepsChip c chip c' chip'
 MakesTurn s c chip (Ok ran.Faulted) c' chip' = StopsFaulted s c chip c' chip'
 MakesTurn s c chip (Ok ran.LogFull) c' chip' = StopsFull s c chip c' chip'
 MakesTurn s c chip (Err e) c' chip' = StopsShort s c chip c' chip'
 
 abbrev pub MakesTurns : LoggedService → CoreState → ChipState → Result Turned OutOfMemory → CoreState → ChipState → Type 0
-MakesTurns s c chip (Ok (turned.Whole n)) c' chip' = AreOpsInOrder c.tables.ops × TurnsTo n c s c' chip' × KeepsChip chip chip'
+MakesTurns s c chip (Ok (turned.Whole n)) c' chip' = AreOpsInOrder c.tables.ops × TurnsTo n c s c' chip' × KeepsChip c chip c' chip'
 MakesTurns s c chip (Ok turned.Faulted) c' chip' = StopsFaulted s c chip c' chip'
 MakesTurns s c chip (Ok turned.LogFull) c' chip' = StopsFull s c chip c' chip'
 MakesTurns s c chip (Err e) c' chip' = StopsShort s c chip c' chip'
@@ -120,14 +120,14 @@ pub record StopsAtMark (s : LoggedService) (c : CoreState) (chip : ChipState) (c
   pub order : AreOpsInOrder c'.tables.ops
   pub waits : (k : Key) → IsToSync c'.tables k → MustWait c'.board.plan 4 c'.sync.capacities later.service.core k
   pub full : IsFullFor c' (length chip'.effects) (1 + length c'.tables.ops)
-  pub keeps : KeepsChip chip chip'
+  pub keeps : KeepsChip c chip c' chip'
 
 -- a whole settling; its mark had its places, and lists each key that is still to sync with the reason that the core has for it
 pub record SettlesWhole (s : LoggedService) (c : CoreState) (chip : ChipState) (c' : CoreState) (chip' : ChipState) : Type 0 where
   pub settles : SettlesTo c s c' chip'
   pub places : size_beside c' (length chip'.effects) ≤ c'.limit
   pub lists : ListsWhatWaits c'
-  pub keeps : KeepsChip chip chip'
+  pub keeps : KeepsChip c chip c' chip'
 
 -- a settling ends at its mark; a call fails, and its mark ends it, and where no worker had anything under way no write waits any more; the log has no place for the call that is due or for the mark; or memory is refused, and then whole events were made
 abbrev pub Settles : LoggedService → CoreState → ChipState → Result Settled OutOfMemory → CoreState → ChipState → Type 0
@@ -143,7 +143,7 @@ pub record MarksTurns (s : LoggedService) (c : CoreState) (chip : ChipState) (c'
   pub order : AreOpsInOrder c.tables.ops
   pub turned : TurnsTo turns c s mid chip'
   pub marks : Marks (length chip'.effects) turns mid (Ok settled.Settled) c'
-  pub keeps : KeepsChip chip chip'
+  pub keeps : KeepsChip c chip mid chip'
 
 abbrev pub SettlesKeys : LoggedService → CoreState → ChipState → Result Settled OutOfMemory → CoreState → ChipState → Type 0
 SettlesKeys s c chip (Ok settled.Settled) c' chip' = MarksTurns s c chip c' chip'

@@ -78,11 +78,10 @@ impl Core {
         requires listed { (k : Key) → IsIn k (keys_of self.now.tables.ops) → IsSome (reason_at self.now.waiting k) }
         ensures { IfOk result (λ waits. AreListedFrom self.now (keys_of self.now.tables.ops) waits) }
     {
-        let mut waits = Vec::with_capacity(self.alloc, self.count())?;
-        let mut after: Option<&Key> = None;
-        while let Some(key) = self.next_key(after) {
+        let keys = self.keys()?;
+        let mut waits = Vec::with_capacity(self.alloc, keys.len())?;
+        for key in keys {
             waits.push(self.listing(key)?)?;
-            after = Some(key);
         }
         Waits::from_vec(waits)
     }
@@ -92,38 +91,39 @@ impl Core {
         requires listed { (k : Key) → IsIn k (keys_of self.now.tables.ops) → IsSome (reason_at self.now.waiting k) }
         ensures { IfOk result (λ waits. AreBareWaits self.now.waiting (keys_of self.now.tables.ops) waits) }
     {
-        let mut waits = Vec::with_capacity(self.alloc, self.count())?;
-        let mut after: Option<&Key> = None;
-        while let Some(key) = self.next_key(after) {
+        let keys = self.keys()?;
+        let mut waits = Vec::with_capacity(self.alloc, keys.len())?;
+        for key in keys {
             waits.push(self.bare_listing(key)?)?;
-            after = Some(key);
         }
         Waits::from_vec(waits)
     }
 
     /// A key that waits, with its reason and no row.
-    fn bare_listing(&self, key: &Key) -> Result<(Key, Wait, Option<Row>), OutOfMemory>
-        requires listed { IsSome (reason_at self.now.waiting key.now) }
-        ensures { IfOk result (λ listed. IsBareWait self.now.waiting key.now listed) }
+    fn bare_listing(&self, key: Key) -> Result<(Key, Wait, Option<Row>), OutOfMemory>
+        requires listed { IsSome (reason_at self.now.waiting key) }
+        ensures { IfOk result (λ listed. IsBareWait self.now.waiting key listed) }
     {
-        let Some(wait) = self.waiting.reason(key) else {
+        let Some(wait) = self.waiting.reason(&key) else {
             unreachable!()
         };
-        Ok((key.copy()?, wait.copy()?, None))
+        let wait = wait.copy()?;
+        Ok((key, wait, None))
     }
 
     /// A key that waits, with its reason and its applied row.
-    fn listing(&self, key: &Key) -> Result<(Key, Wait, Option<Row>), OutOfMemory>
-        requires listed { IsSome (reason_at self.now.waiting key.now) }
-        ensures { IfOk result (λ listed. IsListedAs self.now key.now listed) }
+    fn listing(&self, key: Key) -> Result<(Key, Wait, Option<Row>), OutOfMemory>
+        requires listed { IsSome (reason_at self.now.waiting key) }
+        ensures { IfOk result (λ listed. IsListedAs self.now key listed) }
     {
-        let Some(wait) = self.waiting.reason(key) else {
+        let Some(wait) = self.waiting.reason(&key) else {
             unreachable!()
         };
-        let row = match self.row(key) {
+        let wait = wait.copy()?;
+        let row = match self.row(&key) {
             Some(row) => Some(row.copy()?),
             None => None,
         };
-        Ok((key.copy()?, wait.copy()?, row))
+        Ok((key, wait, row))
     }
 }

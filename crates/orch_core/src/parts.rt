@@ -144,6 +144,14 @@ impl Core {
         }
     }
 
+    /// Copies of the keys to sync, in order.
+    pub(crate) fn keys(&self) -> Result<Vec<Key>, OutOfMemory>
+        ensures keys { IfOk result (λ keys. keys.items ≡ keys_of self.now.tables.ops) }
+        ensures order { AreOpsInOrder self.now.tables.ops }
+    {
+        self.tables.keys()
+    }
+
     /// Whether no write waits in the tables. Those that wait are in order.
     pub fn is_popped(&self) -> bool
         ensures popped { IsTrue result ↔ (self.now.tables.waiting ≡ []) }

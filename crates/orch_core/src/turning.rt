@@ -11,7 +11,6 @@ ghost use Rattle.orch_core.specs.Settled.{Brings, MakesTurn, MakesTurns};
 use crate::Core;
 use crate::answer::{Ran, Tried, Turned};
 use sai_types::Chip;
-use std::mem::{drop, replace};
 use swss_types::OutOfMemory;
 use table_schema::Key;
 
@@ -46,10 +45,11 @@ impl Core {
         requires rest { IsAtRest self.old }
         ensures { (s : LoggedService) → IsSessionOf self.old (C.state chip.old) s → MakesTurn s self.old (C.state chip.old) result self.new (C.state chip.new) }
     {
-        let mut after: Option<Key> = None;
-        while let Some(key) = self.key_behind(after.as_ref())? {
+        for key in self.keys()? {
+            // It says that the keys are in order still.
+            let _count = self.count();
             match self.bring(chip, &key)? {
-                Ran::Whole => drop(replace(&mut after, Some(key))),
+                Ran::Whole => {}
                 stopped => return Ok(stopped),
             }
         }

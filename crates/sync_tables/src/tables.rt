@@ -149,6 +149,15 @@ impl Tables {
         self.to_sync.next_key(after)
     }
 
+    /// The keys to sync, in key order, as `AreOpsInOrder` says.
+    pub fn keys(&self) -> Result<Vec<Key>, OutOfMemory>
+        ensures keys { IfOk result (λ keys. keys.items ≡ keys_of self.now.ops) }
+        ensures order { AreOpsInOrder self.now.ops }
+    {
+        let _order = self.to_sync.len();
+        self.to_sync.keys()
+    }
+
     /// How many keys are to sync. They are in order, as `AreOpsInOrder` says.
     pub fn count(&self) -> usize
         ensures ops { result ≡ length self.now.ops }

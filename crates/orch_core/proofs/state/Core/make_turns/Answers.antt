@@ -11,7 +11,7 @@ pub loop-left-init : goal.loop-left-init
 loop-left-init g c =
     let left = c.count-left.ensures.keys in
     let small = c.count-left.ensures.small in
-    (λ s is. turned_none c.args.self.now (g.C.Chip.state c.args.chip.now) s is c.requires.rest, left, omega (arith, left), omega (arith, left, small), keeps_itself (g.C.Chip.state c.args.chip.now))
+    (λ s is. turned_none c.args.self.now (g.C.Chip.state c.args.chip.now) s is c.requires.rest, left, omega (arith, left), omega (arith, left, small), keeps_itself c.args.self.now (g.C.Chip.state c.args.chip.now))
 
 pub returns-in_err-turn : goal.returns-in_err-turn
 returns-in_err-turn g c = λ s is.
@@ -34,7 +34,7 @@ returns-then-still-left g c = λ s is.
     let x = c.loop-left.invariant.0 s is in
     let b = subst (λ r. MakesTurn x.later c.loop-left.self (g.C.Chip.state c.loop-left.chip) r c.turn.new.self (g.C.Chip.state c.turn.new.chip)) (c.in_ok-turn.was ∙ ap Ok c.in-Whole.is) (c.turn.ensures x.later x.leads.stands) in
     let left = c.loop-left.invariant.1 in
-    (c.count-left.ensures.order, turned_still c.loop-left.turns c.args.self.now c.loop-left.self (g.C.Chip.state c.loop-left.chip) s x b.0 c.turn.new.self (g.C.Chip.state c.turn.new.chip) b.1 (omega (arith, c.loop-left-test.true, left)) (sym c.count-still.ensures.keys ∙ c.if-still-left.true ∙ left), keeps_on (g.C.Chip.state c.args.chip.now) (g.C.Chip.state c.loop-left.chip) (g.C.Chip.state c.turn.new.chip) c.loop-left.invariant.4 b.2)
+    (c.count-left.ensures.order, turned_still c.loop-left.turns c.args.self.now c.loop-left.self (g.C.Chip.state c.loop-left.chip) s x b.0 c.turn.new.self (g.C.Chip.state c.turn.new.chip) b.1 (omega (arith, c.loop-left-test.true, left)) (sym c.count-still.ensures.keys ∙ c.if-still-left.true ∙ left), keeps_on c.loop-left.invariant.4 b.2)
 
 pub loop-left-preserved : goal.loop-left-preserved
 loop-left-preserved g c =
@@ -53,7 +53,7 @@ loop-left-preserved g c =
       still,
       omega (arith, left, still, fewer, so_far),
       c.loop-left.invariant.3,
-      keeps_on (g.C.Chip.state c.args.chip.now) (g.C.Chip.state c.loop-left.chip) (g.C.Chip.state c.turn.new.chip) c.loop-left.invariant.4 b.2,
+      keeps_on c.loop-left.invariant.4 b.2,
     )
 
 pub returns : goal.returns

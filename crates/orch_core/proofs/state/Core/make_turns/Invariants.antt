@@ -11,7 +11,7 @@ abbrev pub invariant-loop-left : goal.invariant-loop-left
 invariant-loop-left g l =
     ((s : LoggedService) → IsSessionOf l.fn.self (g.C.Chip.state l.fn.chip) s → IsTurned l.turns l.fn.self s l.self (g.C.Chip.state l.chip))
     × (l.left ≡ length (keys_of l.self.tables.ops)) × (l.turns + l.left ≤ length (keys_of l.fn.self.tables.ops)) × (length (keys_of l.fn.self.tables.ops) < 2 ^ 63)
-    × KeepsChip (g.C.Chip.state l.fn.chip) (g.C.Chip.state l.chip)
+    × KeepsChip l.fn.self (g.C.Chip.state l.fn.chip) l.self (g.C.Chip.state l.chip)
 
 abbrev pub decreases-loop-left : goal.decreases-loop-left
 decreases-loop-left g l = l.left

@@ -1,28 +1,31 @@
-use Rattle.std.proofs.Common.{◌∙◌, [], ap, option_map, subst, sym}
+use Rattle.std.proofs.Common.{rules, ◌≡◌, ◌∙◌, ◌∷◌, ◌++◌, [], ap, subst, sym}
+use Rattle.std.proofs.lemmas.List.{append-nil, append_assoc, nil_from_length}
 use Rattle.std.specs.Map.{keys_of}
-use Rattle.sync_tables.proofs.Walks.{next-key}
+use Rattle.sai_types.specs.Alike.{IsIn}
 use Rattle.orch_core.specs.Marked.{AreListedFrom}
 use Rattle.orch_core.proofs.Listings.{listed_one_more}
-use Rattle.orch_core.proofs.Turns.{behind_fewer, behind_first, behind_on}
+use Rattle.orch_core.proofs.OnWay.{if_ok}
+use Rattle.orch_core.proofs.Turns.{in_middle}
 use Rattle.orch_core.proofs.state.Core.new_list.Goals as goal
 
 pub loop-key-init : goal.loop-key-init
-loop-key-init c = (behind_first (keys_of c.args.self.now.tables.ops), subst (AreListedFrom c.args.self.now []) (sym c.in_ok-waits.ensures.items) tt)
+loop-key-init c = ([], search rules, subst (AreListedFrom c.args.self.now []) (sym c.in_ok-waits.ensures.items) tt)
 
 pub listing-requires : goal.listing-requires
 listing-requires c =
-    let next = sym c.next_key.ensures.next ∙ ap (option_map (λ k. k.now)) c.in-Some.is in
-    record { listed = c.requires.listed c.in-Some.key.now (next-key (option_map (λ k. k.now) c.loop-key.after) c.args.self.now.tables.ops c.in-Some.key.now c.next_key.ensures.order.keys next).there }
-
-pub loop-key-smaller : goal.loop-key-smaller
-loop-key-smaller c =
-    let next = sym c.next_key.ensures.next ∙ ap (option_map (λ k. k.now)) c.in-Some.is in
-    behind_fewer c.args.self.now.tables.ops (option_map (λ k. k.now) c.loop-key.after) c.in-Some.key.now c.next_key.ensures.order c.loop-key.invariant.0 next
+    let left : c.loop-key.key-iterator.rest.items ≡ c.in-Some.key ∷ c.next.new.self.rest.items = search rules in
+    record { listed = c.requires.listed c.in-Some.key (subst (IsIn c.in-Some.key) (sym (c.loop-key.invariant.1 ∙ ap (λ l. c.loop-key.invariant.0 ++ l) left)) (in_middle c.loop-key.invariant.0 c.next.new.self.rest.items c.in-Some.key)) }
 
 pub loop-key-preserved : goal.loop-key-preserved
 loop-key-preserved c =
-    let next = sym c.next_key.ensures.next ∙ ap (option_map (λ k. k.now)) c.in-Some.is in
-    let are = c.loop-key.invariant.0 in (
-      behind_on c.args.self.now.tables.ops (option_map (λ k. k.now) c.loop-key.after) c.in-Some.key.now c.next_key.ensures.order are next,
-      listed_one_more c.args.self.now are.0 c.loop-key.waits.items c.push.new.self.items c.in-Some.key.now c.in_ok-listing.field-0 c.in_ok-push.ensures.items c.loop-key.invariant.1 c.in_ok-listing.ensures,
+    let left : c.loop-key.key-iterator.rest.items ≡ c.in-Some.key ∷ c.next.new.self.rest.items = search rules in (
+      c.loop-key.invariant.0 ++ c.in-Some.key ∷ [],
+      c.loop-key.invariant.1 ∙ ap (λ l. c.loop-key.invariant.0 ++ l) left ∙ sym (append_assoc c.loop-key.invariant.0 (c.in-Some.key ∷ []) c.next.new.self.rest.items),
+      listed_one_more c.args.self.now c.loop-key.invariant.0 c.loop-key.waits.items c.push.new.self.items c.in-Some.key c.in_ok-listing.field-0 c.in_ok-push.ensures.items c.loop-key.invariant.2 c.in_ok-listing.ensures,
     )
+
+pub returns : goal.returns
+returns c =
+    let none : c.loop-key.key-iterator.rest.items ≡ [] = nil_from_length c.loop-key.key-iterator.rest.items (sym c.loop-key.key-iterator.rest.ok.0 ∙ c.in-None.ensures.steps.0) in
+    let all = c.loop-key.invariant.1 ∙ ap (λ l. c.loop-key.invariant.0 ++ l) none ∙ append-nil c.loop-key.invariant.0 in
+    if_ok c.from_vec.result (λ list same. subst (AreListedFrom c.args.self.now (keys_of c.args.self.now.tables.ops)) (sym same) (subst (λ l. AreListedFrom c.args.self.now l c.loop-key.waits.items) (sym all) c.loop-key.invariant.2)) c.from_vec.ensures

@@ -8,7 +8,7 @@ returns-in_err-answer g c = λ s is.
     let x = c.loop-self.invariant.0 s is in
     let t = x.runs.later in
     let y = subst (λ r. Answered true t c.args.worker c.loop-self.self (g.C.Chip.state c.loop-self.chip) r c.answer.new.self (g.C.Chip.state c.answer.new.chip)) (c.in_err-answer.was) (c.answer.ensures t x.runs.leads.stands) in
-    out_err s c.args.self.now (g.C.Chip.state c.args.chip.now) c.answer.new.self (g.C.Chip.state c.answer.new.chip) c.args.worker c.from_residual.result c.from_residual.ensures.0 (short_more s t c.args.self.now c.loop-self.self (g.C.Chip.state c.loop-self.chip) x.runs.leads (g.C.Chip.state c.args.chip.now) is (log_same c.args.self.now c.loop-self.self (g.C.Chip.state c.args.chip.now) (g.C.Chip.state c.loop-self.chip) s t is x.runs.leads.stands x.runs.log) x.keeps c.answer.new.self (g.C.Chip.state c.answer.new.chip) (stop_short t c.args.worker c.loop-self.self (g.C.Chip.state c.loop-self.chip) (x.beside.warm ∙ c.requires.warm) c.answer.new.self (g.C.Chip.state c.answer.new.chip) c.in_err-answer.field-0.0 y))
+    out_err s c.args.self.now (g.C.Chip.state c.args.chip.now) c.answer.new.self (g.C.Chip.state c.answer.new.chip) c.args.worker c.from_residual.result c.from_residual.ensures.0 (short_more s t c.args.self.now c.loop-self.self (g.C.Chip.state c.loop-self.chip) x.runs.leads (g.C.Chip.state c.args.chip.now) is (log_same c.args.self.now c.loop-self.self (g.C.Chip.state c.args.chip.now) (g.C.Chip.state c.loop-self.chip) s t is x.runs.leads.stands x.runs.log) x.keeps c.answer.new.self (g.C.Chip.state c.answer.new.chip) (stop_short t c.args.worker c.loop-self.self (g.C.Chip.state c.loop-self.chip) (x.beside.warm ∙ c.requires.warm) c.answer.new.self (g.C.Chip.state c.answer.new.chip) x.runs.leads.stands c.in_err-answer.field-0.0 y))
 
 pub returns-in-Faulted : goal.returns-in-Faulted
 returns-in-Faulted g c = λ s is.

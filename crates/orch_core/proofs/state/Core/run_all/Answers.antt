@@ -27,6 +27,6 @@ loop-worker-preserved g c =
           runs_both c.args.self.now c.loop-worker.self c.run.new.self (g.C.Chip.state c.loop-worker.chip) (g.C.Chip.state c.run.new.chip) t x r.0.runs,
       beside_on c.args.self.now c.loop-worker.self c.run.new.self c.loop-worker.invariant.1 q.0.beside,
       free_on c.loop-worker.worker c.loop-worker.self.board c.run.new.self.board c.loop-worker.invariant.2 q.0.others q.1,
-      keeps_on (g.C.Chip.state c.args.chip.now) (g.C.Chip.state c.loop-worker.chip) (g.C.Chip.state c.run.new.chip) c.loop-worker.invariant.3 q.0.keeps,
+      keeps_on c.loop-worker.invariant.3 q.0.keeps,
       still_on c.loop-worker.worker c.args.self.now.board c.loop-worker.self.board c.run.new.self.board c.loop-worker.invariant.4 q.0.others,
     )

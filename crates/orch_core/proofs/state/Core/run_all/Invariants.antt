@@ -10,4 +10,4 @@ use Rattle.orch_core.proofs.state.Core.run_all.Given as goal
 abbrev pub invariant-loop-worker : goal.invariant-loop-worker
 invariant-loop-worker g l =
     ((s : LoggedService) → IsSessionOf l.fn.self (g.C.Chip.state l.fn.chip) s → RunsTo l.fn.self s l.self (g.C.Chip.state l.chip)) × IsSameBeside l.fn.self l.self × ((v : ℕ) → v < l.worker → flown_at l.self.board v ≡ None)
-    × KeepsChip (g.C.Chip.state l.fn.chip) (g.C.Chip.state l.chip) × ((v : ℕ) → l.worker ≤ v → flown_at l.self.board v ≡ flown_at l.fn.self.board v)
+    × KeepsChip l.fn.self (g.C.Chip.state l.fn.chip) l.self (g.C.Chip.state l.chip) × ((v : ℕ) → l.worker ≤ v → flown_at l.self.board v ≡ flown_at l.fn.self.board v)
