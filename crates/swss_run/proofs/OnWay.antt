@@ -1,11 +1,11 @@
 -- what comes in a round before its end
-use Rattle.std.proofs.Common.{◌≡◌, ◌++◌, ◌∙◌, ℕ, List, [], sym, ap, subst, arith}
+use Rattle.std.proofs.Common.{◌≡◌, ◌++◌, ◌∙◌, ℕ, List, [], refl, sym, ap, subst, arith}
 use Rattle.std.proofs.lemmas.List.{append-nil, append_assoc}
 use Rattle.table_schema.specs.declared.write.Sent.{Sent}
 use Rattle.sai_types.specs.ChipState.{ChipState}
 use Rattle.sai_types.specs.declared.ids.Rid.{Rid}
 use Rattle.sai_types.specs.declared.body.Call.{Call}
-use Rattle.switch_model.specs.History.{History}
+use Rattle.switch_model.specs.History.{History, listed_by}
 use Rattle.switch_model.specs.declared.mark.Mark.{Mark}
 use Rattle.restart_laws.specs.Logged.{LoggedService}
 use Rattle.session_laws.specs.Core.{CoreState}
@@ -14,8 +14,9 @@ use Rattle.round_laws.specs.Sessions.{InSession}
 use Rattle.round_laws.proofs.Growing.{effects-grow}
 use Rattle.round_laws.proofs.Sessions.{same-on, steps-on}
 use Rattle.orch_core.specs.ComingBack.{ComesTo}
-use Rattle.orch_core.specs.Outcomes.{KeepsChip}
+use Rattle.orch_core.specs.Outcomes.{IsWithinLimit, KeepsChip}
 use Rattle.orch_core.specs.Restarting.{StaysInService}
+use Rattle.orch_core.proofs.Chips.{keeps_alike}
 use Rattle.orch_core.proofs.Coming.{restarts_both, way_both}
 use Rattle.orch_core.proofs.Serving.{comes_serves}
 use Rattle.swss_script.specs.declared.parts.Round.{Round}
@@ -37,13 +38,14 @@ log-as h taken marks ends ts ms es =
 abbrev pub since_made : List Mark → List Sent → Ran
 since_made marks sent = record { marks = marks; sent = sent; calls = [] }
 
-pub come-made : (old : CoreState) (chip : ChipState) (sent : List Sent) (restarts : ℕ) (c : CoreState) → FaultsRise 0 old.log.marks chip.faults → (x : HasMade old chip sent restarts c) → HasCome old chip (since_made x.added sent) c chip
-come-made old chip sent restarts c rise x = record {
+pub come-made : (old : CoreState) (chip : ChipState) (sent : List Sent) (restarts : ℕ) (c : CoreState) → FaultsRise 0 old.log.marks chip.faults → IsWithinLimit c chip → (x : HasMade old chip sent restarts c) → HasCome old chip (since_made x.added sent) c chip
+come-made old chip sent restarts c rise limit x = record {
   log = x.log;
   calls = sym (append-nil chip.effects);
   way = x.way;
   within = x.within;
   same = x.same;
+  limit = limit;
   faults = subst (λ (h : History). FaultsRise 0 h.marks chip.faults) (sym x.log) (rise-way 0 chip.faults old.log.marks x.added rise x.way);
 }
 
@@ -59,10 +61,11 @@ module _ (old : CoreState) (chip : ChipState) (since : Ran) (c : CoreState) (cch
     way = x.way;
     within = same-on c d cchip cchip x.within stays.stands stays.plan stays.capacities;
     same = same-trans old c d x.same (record { plan = stays.plan; capacities = stays.capacities; limit = stays.limit });
+    limit = (keeps_alike c d cchip cchip refl stays.log (stays.stands.always.listed ∙ ap (λ (h : History). listed_by h.marks) stays.log ∙ sym x.within.stands.always.listed) stays.limit).limit x.limit;
     faults = subst (λ (h : History). FaultsRise 0 h.marks cchip.faults) (sym stays.log) x.faults;
   }
 
-  module _ (dchip : ChipState) (keeps : KeepsChip cchip dchip) where
+  module _ (dchip : ChipState) (keeps : KeepsChip c cchip d dchip) where
     -- steps without a record
     abbrev pub since_steps : List (Call Rid) → Ran
     since_steps calls = record { marks = since.marks; sent = since.sent; calls = since.calls ++ calls }
@@ -76,6 +79,7 @@ module _ (old : CoreState) (chip : ChipState) (since : Ran) (c : CoreState) (cch
           way = x.way;
           within = within;
           same = same-trans old c d x.same (record { plan = more.plan; capacities = more.capacities; limit = more.limit });
+          limit = keeps.limit x.limit;
           faults = subst (λ (h : History). FaultsRise 0 h.marks dchip.faults) (sym log) (rise-later 0 cchip.faults dchip.faults c.log.marks x.faults keeps.faults);
         }
 
@@ -104,6 +108,7 @@ module _ (old : CoreState) (chip : ChipState) (since : Ran) (c : CoreState) (cch
         way = way_both since.marks y.added x.way y.way;
         within = came_in.0;
         same = same-trans old c d x.same (record { plan = y.plan; capacities = y.capacities; limit = y.limit });
+        limit = y.keeps.limit x.limit;
         faults = subst (λ l. FaultsRise 0 l dchip.faults) (sym y.marks) (rise-way 0 dchip.faults c.log.marks y.added (rise-later 0 cchip.faults dchip.faults c.log.marks x.faults y.keeps.faults) y.way);
       },
       came_in.1,

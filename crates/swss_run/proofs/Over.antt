@@ -153,7 +153,7 @@ module _ (round : Round) (old : CoreState) (sim : Sim) (since : Ran) (c : CoreSt
       (sym waits_same ∙ d.0, subst (λ k. k ≤ 4) turns_same d.1)
 
   -- its settling ended
-  pub over-settled : (waits : Waiting) (turns : ℕ) → mark.event ≡ event.Settled waits turns → IsBetweenRounds new sim'.chip → size_beside new (length sim'.chip.effects) ≤ new.limit → KeepsChip cchip sim'.chip
+  pub over-settled : (waits : Waiting) (turns : ℕ) → mark.event ≡ event.Settled waits turns → IsBetweenRounds new sim'.chip → size_beside new (length sim'.chip.effects) ≤ new.limit → KeepsChip c cchip new sim'.chip
       → IsRoundTurned old.board.plan old.sync.capacities (mark_of old) old.log.taken sim.chip.effects ran_now → DrainsBehind old.board.plan old.sync.capacities old.log.taken ran_now → IsOver round old sim status.Done new sim'
   over-settled waits turns is between places keeps turned drained =
       let size = sized new sim'.chip within in

@@ -1,10 +1,12 @@
 -- making the acts of a round, part by part
-use Rattle.std.proofs.Common.{◌≡◌, ℕ, List, [], ◌∷◌, ◌++◌, Option, refl, sym, ap, ◌∙◌, subst}
-use Rattle.std.proofs.lemmas.List.{append_assoc, append-nil}
+use Rattle.std.proofs.Common.{◌≡◌, ℕ, List, [], ◌∷◌, ◌++◌, Option, refl, sym, ap, ◌∙◌, subst, arith}
+use Rattle.std.proofs.lemmas.List.{append_assoc, append-nil, length-append}
 use Rattle.table_schema.specs.declared.write.Sent.{Sent}
-use Rattle.session_laws.specs.Core.{CoreState}
+use Rattle.switch_model.specs.declared.mark.MarkEvent.TheVariants as event
+use Rattle.session_laws.specs.Core.{CoreState, IsFullFor, mark_at, with_taken}
+use Rattle.restart_session_laws.specs.Events.{restarted}
 use Rattle.swss_script.specs.declared.parts.Act.{Act}
-use Rattle.swss_run.specs.Taking.{AreCounted, Counts, IsMade, acts_made, writes_among, with_made}
+use Rattle.swss_run.specs.Taking.{AreCounted, Counts, IsMade, IsRestartMade, StaysWithin, acts_made, writes_among, with_made}
 use Rattle.swss_run.specs.declared.taking.Taken.{Taken}
 use Rattle.swss_run.specs.declared.taking.Taken.TheVariants as taken
 use Rattle.swss_run.proofs.Acts.{made-append, sent_of-append, with_made-append}
@@ -65,3 +67,22 @@ module _ (effects : ℕ) (before : List Sent) (old : CoreState) where
 
   pub making-all : (all : List (ℕ × Act)) (mid : CoreState) (counts : Counts) → IsMakingActs effects before all [] old mid counts → IsMade effects before all old taken.All mid counts
   making-all all mid counts making = subst (λ l. IsMade effects before l old taken.All mid counts) (sym (making.all_are ∙ append-nil making.done)) making.made
+
+-- ---- the log's limit
+
+pub within-same : (effects : ℕ) (old new : CoreState) → new ≡ old → StaysWithin effects old new
+within-same effects old new is = subst (StaysWithin effects old) (sym is) (λ within. within)
+
+pub within-taken : (effects : ℕ) (old new : CoreState) (sent : Sent) → new ≡ with_taken old sent → (IsFullFor old effects 1 → ⊥) → StaysWithin effects old new
+within-taken effects old new sent is room = subst (StaysWithin effects old) (sym is) (λ within. let longer = length-append old.log.taken (sent ∷ []) in omega (arith, room, longer))
+
+within-restarted : (effects : ℕ) (old new : CoreState) → new ≡ restarted old effects → (IsFullFor old effects 1 → ⊥) → StaysWithin effects old new
+within-restarted effects old new is room = subst (StaysWithin effects old) (sym is) (λ within. let longer = length-append old.log.marks (mark_at old effects event.Restarted ∷ []) in omega (arith, room, longer))
+
+pub within-restart : (effects : ℕ) (old : CoreState) (r : Taken) (new : CoreState) → IsRestartMade effects old r new → StaysWithin effects old new
+within-restart effects old taken.All new (is, room) = within-restarted effects old new is room
+within-restart effects old taken.LogFull new (same, full) = within-same effects old new same
+within-restart effects old taken.NoMemory new same = within-same effects old new same
+
+pub within-more : (effects : ℕ) (old mid new : CoreState) → StaysWithin effects old mid → StaysWithin effects mid new → StaysWithin effects old new
+within-more effects old mid new first next = λ within. next (first within)

@@ -23,7 +23,7 @@ use Rattle.flight_board.specs.Board.{BoardState}
 use Rattle.restart_laws.specs.Logged.{LoggedService}
 use Rattle.syncd_core.specs.Synced.{SyncState}
 use Rattle.warm_state.specs.declared.warm.Warm.TheVariants as warm
-use Rattle.session_laws.specs.Core.{CoreState, IsFullFor}
+use Rattle.session_laws.specs.Core.{CoreState, IsFullFor, size_beside}
 use Rattle.restart_session_laws.specs.Events.{MakesMore}
 use Rattle.restart_session_laws.specs.Standing.{IsServiceOf}
 use Rattle.round_laws.specs.Between.{IsInRound, round_from}
@@ -31,9 +31,10 @@ use Rattle.round_laws.specs.Sessions.{InSession}
 use Rattle.round_laws.proofs.Between.{round-begins}
 use Rattle.round_laws.proofs.Drained.{round-drained}
 use Rattle.round_laws.proofs.Ending.{round-ends}
-use Rattle.round_laws.proofs.Growing.{effects-grow, marks-grow}
+use Rattle.round_laws.proofs.Growing.{effects-grow, marks-grow, taken-grow}
 use Rattle.round_laws.proofs.Sessions.{objects-left, sized, warm-after}
 use Rattle.orch_core.specs.ComingBack.{Back, SettlesFrom, Stopped, is_unrestored, restarts_due, restarts_marked}
+use Rattle.orch_core.specs.Outcomes.{IsWithinLimit}
 use Rattle.orch_core.specs.Settled.{Settles, SettlesWhole}
 use Rattle.orch_core.specs.declared.answer.Settled.{Settled}
 use Rattle.orch_core.specs.declared.answer.Settled.TheVariants as settled
@@ -52,11 +53,13 @@ use Rattle.swss_run.specs.Full.IsFull.{AtRestart, AtWrite}
 use Rattle.swss_run.specs.Rounds.{Ran}
 use Rattle.swss_run.specs.Running.{HasCome, HasLines, IsRunReady, IsRoundRun, IsWritten, KeepsPlan, StopsRound, round_ended}
 use Rattle.swss_run.specs.Running.IsWritten.{Whole, Failed, Wanting, Unwritten}
-use Rattle.swss_run.specs.Taking.{HaveReadKeys, IsRoundMade, acts_in, acts_made, restarts_made, writes_among, with_made}
+use Rattle.swss_run.specs.Taking.{HaveReadKeys, IsRoundMade, StaysWithin, acts_in, acts_made, restarts_made, writes_among, with_made}
+use Rattle.swss_run.specs.Told.{IsToldOf}
 use Rattle.swss_run.specs.Turned.{EndsTurned}
 use Rattle.swss_run.specs.declared.status.Status.{Status}
 use Rattle.swss_run.specs.declared.status.Status.TheVariants as status
 use Rattle.swss_run.specs.declared.taking.Taken.TheVariants as taken
+use Rattle.swss_run.specs.declared.told.Told.{Told}
 use Rattle.swss_run.proofs.Acts.{restarts-front, restarts-made, sent-front, sent-made}
 use Rattle.swss_run.proofs.CameBack.{ends-over, ends-stopped, from-over, from-stopped}
 use Rattle.swss_run.proofs.Counting.{HasRestarted, suspect-now}
@@ -64,7 +67,7 @@ use Rattle.swss_run.proofs.Given.{AreOnSwitch, on-front, on-round}
 use Rattle.swss_run.proofs.OnWay.{come-made, since_made}
 use Rattle.swss_run.proofs.Over.{IsEndedAs, IsOver, alone, drained_none, over-settled}
 use Rattle.swss_run.proofs.Settling.{IsFullStop, IsStopped}
-use Rattle.swss_run.proofs.Tables.{HasMade, in-round, made-all, made-none}
+use Rattle.swss_run.proofs.Tables.{HasMade, in-round, made-all, made-none, told-more}
 
 -- ---- whatever a settling came to
 
@@ -103,7 +106,17 @@ text-as shows lines p p' n n' ms ms' t t' r r' c c' o o' e e' b b' ps ns mss ts 
 
 -- ---- a round
 
-module _ (round : Round) (old : CoreState) (sim : Sim) (replay : Replayed) (ready : IsRunReady old sim replay) (read : HaveReadKeys (writes_in round.sections)) (mid : CoreState) (effects : ℕ) (count_is : effects ≡ length sim.chip.effects) where
+module _ (round : Round) (old : CoreState) (sim : Sim) (replay : Replayed) (ready : IsRunReady old sim replay) (read : HaveReadKeys (writes_in round.sections)) (mid : CoreState) (effects : ℕ) (count_is : effects ≡ length sim.chip.effects) (stays : StaysWithin effects old mid) where
+  -- the log is within its limit before the acts, and after some of them
+  within_old : size_beside old effects ≤ old.limit
+  within_old =
+      let size = sized old sim.chip ready.ready.within in
+      let places = ready.places in
+      subst (λ n. size_beside old n ≤ old.limit) (sym count_is) (omega (arith, size, places))
+
+  within_mid : IsWithinLimit mid sim.chip
+  within_mid = subst (λ n. size_beside mid n ≤ mid.limit) count_is (stays within_old)
+
   -- after some of its acts
   module _ (done later : List (ℕ × Act)) (split : acts_in round.sections ≡ done ++ later) (is : mid ≡ with_made effects old (acts_made [] done)) where
     abbrev pub sent_then : List Sent
@@ -125,7 +138,7 @@ module _ (round : Round) (old : CoreState) (sim : Sim) (replay : Replayed) (read
     since_then = since_made has-then.added sent_then
 
     pub come-then : HasCome old sim.chip since_then mid sim.chip
-    come-then = come-made old sim.chip sent_then restarts_then mid ready.faults has-then
+    come-then = come-made old sim.chip sent_then restarts_then mid ready.faults within_mid has-then
 
     abbrev stops_then : StopsRound round old sim mid sim
     stops_then = record {
@@ -141,6 +154,10 @@ module _ (round : Round) (old : CoreState) (sim : Sim) (replay : Replayed) (read
 
   pub stops-wanting : IsRoundMade effects (acts_in round.sections) old taken.NoMemory mid → StopsRound round old sim mid sim
   stops-wanting (counts, (done, later, split, is)) = stops_then done later split is
+
+  -- what is told stays so
+  pub told-stopped : (t : Told) → IsToldOf t old.log.taken → StopsRound round old sim mid sim → IsToldOf t mid.log.taken
+  told-stopped t told stop = told-more t old.log.taken stop.since.sent mid.log.taken told (ap (λ (h : History). h.taken) stop.come.log)
 
   -- the next act has no place
   module _ (done : List (ℕ × Act)) (producer : ℕ) (later : List (ℕ × Act)) (full : IsFullFor mid effects 1) where
@@ -225,6 +242,12 @@ module _ (round : Round) (old : CoreState) (sim : Sim) (replay : Replayed) (read
           let grown = effects-grow mid new sim.chip sim'.chip in-all more in
           subst (IsReplayOf replay) (sym grown.1) (IsReplayOf-append replay sim.chip.effects grown.0 ready.follows)
 
+      -- nor a write taken
+      pub told-new : (t : Told) → IsToldOf t old.log.taken → MakesMore mid in-all.session new sim'.chip → IsToldOf t new.log.taken
+      told-new t told more =
+          let grown = taken-grow mid new sim.chip sim'.chip in-all more in
+          told-more t mid.log.taken grown.0 new.log.taken (told-more t old.log.taken since_all.sent mid.log.taken told (ap (λ (h : History). h.taken) come_all.log)) grown.1
+
       -- no mark is lost
       pub marks-longer : MakesMore mid in-all.session new sim'.chip → length old.log.marks ≤ length new.log.marks
       marks-longer more =
@@ -255,6 +278,7 @@ module _ (round : Round) (old : CoreState) (sim : Sim) (replay : Replayed) (read
           way = tt;
           within = alike.within;
           same = record { plan = ap (λ (b : BoardState). b.plan) alike.board; capacities = ap (λ (z : SyncState). z.capacities) alike.sync; limit = has_all.same.limit };
+          limit = within_mid;
           faults = subst (λ (h : History). FaultsRise 0 h.marks sim.chip.faults) (sym alike.log) ready.faults;
         }
 
@@ -355,7 +379,7 @@ module _ (round : Round) (old : CoreState) (sim : Sim) (replay : Replayed) (read
       as_result status is = subst (λ r. IsRoundRun number round old sim held faults r new sim' replay' held' faults') (sym is)
 
       ready_then : IsReplayOf replay' sim'.chip.effects → replay'.at ≡ length sim'.chip.effects → IsRunReady new sim' replay'
-      ready_then follows at = record { ready = over.ready; follows = follows; at_end = at; faults = over.ends.faults }
+      ready_then follows at = record { ready = over.ready; follows = follows; at_end = at; places = over.ends.places; faults = over.ends.faults }
 
       pub run-written : IsWritten (ended_now number rows) replay.at round.shows ended held faults result replay' held' faults' → IsRoundRun number round old sim held faults result new sim' replay' held' faults'
       run-written (Whole lines text took follows at is) = by over.how

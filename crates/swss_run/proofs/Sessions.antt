@@ -22,7 +22,7 @@ use Rattle.round_laws.specs.Named.{keys_named}
 use Rattle.round_laws.specs.Sessions.{InSession}
 use Rattle.round_laws.proofs.Bounded.{all-few}
 use Rattle.round_laws.proofs.Ready.{ready-first}
-use Rattle.round_laws.proofs.Sessions.{applies-followed, counts-within, effects-legal, log-ordered, marks-true, outside-few-of}
+use Rattle.round_laws.proofs.Sessions.{applies-followed, counts-within, effects-legal, log-ordered, marks-true, outside-few-of, sized}
 use Rattle.swss_script.specs.Sent.{sent_in_round}
 use Rattle.swss_script.specs.declared.parts.Round.{Round}
 use Rattle.swss_report.specs.Round.{IsRoundText}
@@ -150,6 +150,7 @@ running-none rounds first sim held replay new chip plan follows at = record {
         (ready-first first.board.plan first.sync.capacities log_limit sim.chip plan (ap (λ (c : ChipState). c.objects) chip) (ap (λ (c : ChipState). c.effects) chip) (ap (λ (c : ChipState). c.clean) chip) (ap (λ (c : ChipState). c.capacities) chip));
     follows = follows;
     at_end = at ∙ sym (ap (λ (c : ChipState). length c.effects) chip);
+    places = subst (λ (c : CoreState). log_size c.log (length sim.chip.effects) ≤ c.limit) (sym new) (subst (λ n. n ≤ log_limit) (sym (ap (λ (c : ChipState). log_size no_history (length c.effects)) chip)) (omega arith));
     faults = subst (λ (c : CoreState). FaultsRise 0 c.log.marks sim.chip.faults) (sym new) (ap (λ (c : ChipState). c.faults) chip);
   };
   same = record { plan = refl; capacities = refl; limit = refl };
@@ -171,7 +172,6 @@ running-none rounds first sim held replay new chip plan follows at = record {
   told = record { text = []; report = refl; took = Takes-none held };
   ended = record {
     none = refl;
-    places = subst (λ n. n ≤ log_limit) (sym (ap (λ (s : CoreState). log_size s.log (length sim.chip.effects)) new ∙ ap (λ (c : ChipState). log_size no_history (length c.effects)) chip)) (omega arith);
     fault_places = λ failed. absurd (false≢true (sym (ap (λ (s : CoreState). is_suspect s.log.marks) new) ∙ failed));
   };
 }
@@ -182,10 +182,10 @@ ended-none first sim new = inl (refl, ap (λ (s : CoreState). is_suspect s.log.m
 
 -- a session, from a core and a chip within one of the service
 session-from : (rounds : List Round) (ended : Status) (first core : CoreState) (chip : ChipState) (held held' : Option (List ℕ)) (rans : List Ran) (since : Ran)
-    → InSession core chip → KeepsPlan first core → FaultsRise 0 core.log.marks chip.faults → IsCutInRounds core.log chip.effects rans since → AreTaken rans rounds since.sent → AreRestarted false rans rounds since.marks → AreTurned first.board.plan first.sync.capacities None [] [] rans → AreDrained first.board.plan first.sync.capacities [] rans
+    → InSession core chip → KeepsPlan first core → log_size core.log (length chip.effects) ≤ log_limit → FaultsRise 0 core.log.marks chip.faults → IsCutInRounds core.log chip.effects rans since → AreTaken rans rounds since.sent → AreRestarted false rans rounds since.marks → AreTurned first.board.plan first.sync.capacities None [] [] rans → AreDrained first.board.plan first.sync.capacities [] rans
     → IsReported ended first.board.plan first.sync.capacities rounds rans since core.log chip held held'
     → IsSession first.board.plan first.sync.capacities rounds ended core.log chip held held'
-session-from rounds ended first core chip held held' rans since within same faults cut writes restarts turned drained reported = record {
+session-from rounds ended first core chip held held' rans since within same places faults cut writes restarts turned drained reported = record {
   room = within.stands.always.capacities ∙ same.capacities;
   clean = within.stands.always.clean;
   legality = as_first (λ p c. EffectsAreLegal p c core.log.taken chip.effects) (effects-legal core chip within);
@@ -194,6 +194,7 @@ session-from rounds ended first core chip held held' rans since within same faul
   marks = as_first (λ p c. MarksAreTrue p c core.log chip.effects) (marks-true core chip within);
   counts = counts-within core chip within;
   order = log-ordered core chip within;
+  places = places;
   applies = followed;
   breaks = steady-breaks first.board.plan first.sync.capacities core.log.taken chip.effects core.log.marks followed;
   faults = faults;
@@ -217,7 +218,7 @@ session-from rounds ended first core chip held held' rans since within same faul
 module _ (rounds done : List Round) (first : CoreState) (held0 : Option (List ℕ)) (core : CoreState) (sim : Sim) (replay : Replayed) (held : Option (List ℕ)) (running : IsRunning rounds done first held0 core sim replay held) where
   -- every round ended
   pub session-done : (ended : Status) → length done ≡ length rounds → IsEndedAs ended core sim → IsSession first.board.plan first.sync.capacities rounds ended core.log sim.chip held0 held
-  session-done ended all how = session-from rounds ended first core sim.chip held0 held running.rans nothing_ran running.ready.ready.within running.same running.ready.faults running.cut running.writes running.restarts running.turned running.drained (by how)
+  session-done ended all how = session-from rounds ended first core sim.chip held0 held running.rans nothing_ran running.ready.ready.within running.same (subst (λ n. log_size core.log (length sim.chip.effects) ≤ n) (running.same.limit ∙ running.limit) running.ready.places) running.ready.faults running.cut running.writes running.restarts running.turned running.drained (by how)
     where
       by : IsEndedAs ended core sim → IsReported ended first.board.plan first.sync.capacities rounds running.rans nothing_ran core.log sim.chip held0 held
       by (inl (is, known)) = subst (λ e. IsReported e first.board.plan first.sync.capacities rounds running.rans nothing_ran core.log sim.chip held0 held) (sym is) (running.ended, running.many ∙ all, known, running.told)
@@ -283,12 +284,11 @@ module _ (rounds done : List Round) (first : CoreState) (held0 : Option (List �
       part_now lines has took = record { text = running.told.text ++ lines; report = report_now lines has; took = part-more held0 held held' running.told.text lines running.told.took took }
 
       session_now : (ended : Status) → IsReported ended first.board.plan first.sync.capacities rounds (rans ++ ran ∷ []) nothing_ran new.log sim'.chip held0 held' → IsSession first.board.plan first.sync.capacities rounds ended new.log sim'.chip held0 held'
-      session_now ended reported = session-from rounds ended first new sim'.chip held0 held' (rans ++ ran ∷ []) nothing_ran ends.within same_now ends.faults cut_now taken_now restarted_now turned_now drained_now reported
+      session_now ended reported = session-from rounds ended first new sim'.chip held0 held' (rans ++ ran ∷ []) nothing_ran ends.within same_now (subst (λ n. log_size new.log (length sim'.chip.effects) ≤ n) limit_now ends.places) ends.faults cut_now taken_now restarted_now turned_now drained_now reported
 
       has_ended : HasEnded nothing_ran new.log sim'.chip
       has_ended = record {
         none = refl;
-        places = subst (λ n. log_size new.log (length sim'.chip.effects) ≤ n) limit_now ends.places;
         fault_places = λ failed. subst (λ n. log_size new.log sim'.chip.before_fault + places_beside new.log.marks ≤ n) limit_now (ends.fault_places failed);
       }
 
@@ -339,8 +339,15 @@ module _ (rounds done : List Round) (first : CoreState) (held0 : Option (List �
       same_stopped : KeepsPlan first new
       same_stopped = same-trans first core new running.same stops.come.same
 
+      places_stopped : log_size new.log (length sim'.chip.effects) ≤ log_limit
+      places_stopped =
+          let size = sized new sim'.chip stops.come.within in
+          let limit = same_stopped.limit ∙ running.limit in
+          let within = stops.come.limit in
+          omega (arith, size, limit, within)
+
       session_stopped : (ended : Status) → IsReported ended first.board.plan first.sync.capacities rounds rans stops.since new.log sim'.chip held0 held' → IsSession first.board.plan first.sync.capacities rounds ended new.log sim'.chip held0 held'
-      session_stopped ended reported = session-from rounds ended first new sim'.chip held0 held' rans stops.since stops.come.within same_stopped stops.come.faults cut_stopped taken_stopped restarted_stopped running.turned running.drained reported
+      session_stopped ended reported = session-from rounds ended first new sim'.chip held0 held' rans stops.since stops.come.within same_stopped places_stopped stops.come.faults cut_stopped taken_stopped restarted_stopped running.turned running.drained reported
 
     pub session-ended : (ended : Status) → ¬ (ended ≡ status.Done) → ¬ (ended ≡ status.ChipFault) → IsRoundRun number round core sim held faults ended new sim' replay' held' faults' → IsSession first.board.plan first.sync.capacities rounds ended new.log sim'.chip held0 held'
     session-ended status.Done other fault run = absurd (other refl)

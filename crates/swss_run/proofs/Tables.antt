@@ -1,12 +1,13 @@
 -- what a core made of the acts of a round, and what its tables come to
-use Rattle.std.proofs.Common.{◌≡◌, ◌⊎◌, ◌+◌, ◌≤◌, ◌++◌, ◌∷◌, ◌∙◌, inl, inr, ℕ, List, [], length, Option, Some, None, unwrap_or, refl, sym, ap, subst, arith}
-use Rattle.std.proofs.lemmas.List.{append-nil, append_assoc}
+use Rattle.std.proofs.Common.{◌≡◌, ◌⊎◌, ◌+◌, ◌-◌, ◌<◌, ◌≤◌, ◌++◌, ◌∷◌, ◌∙◌, inl, inr, ℕ, suc, Bool, true, false, if◌then◌else◌, List, [], length, take, drop, get_or, Option, Some, None, refl, sym, ap, subst, arith}
+use Rattle.std.proofs.lemmas.List.{append-nil, append_assoc, get_or-drop, length-append, length-drop, map-append, take-append-le, take_rest}
+use Rattle.std.proofs.Math.Seq.{take-suc}
 use Rattle.table_schema.specs.Key.{key_cmp}
-use Rattle.table_schema.specs.Rows.{HasRisingRows, Rows, fields_at, rows_of}
+use Rattle.table_schema.specs.Rows.{HasRisingRows, Rows, after_write, fields_at, rows_of}
 use Rattle.table_schema.specs.declared.key.Key.{Key}
 use Rattle.table_schema.specs.declared.write.Sent.{Sent}
 use Rattle.table_schema.proofs.Keys.{key_exact, key_total}
-use Rattle.table_schema.proofs.RowLists.{HasRisingRows-rows_of}
+use Rattle.table_schema.proofs.RowLists.{HasRisingRows-rows_of, after_writes-more}
 use Rattle.sai_types.specs.ChipState.{ChipState}
 use Rattle.switch_model.specs.History.{with_mark, with_write}
 use Rattle.switch_model.specs.Marks.{sent_writes, written_key}
@@ -29,8 +30,10 @@ use Rattle.round_laws.proofs.Between.{round-takes}
 use Rattle.round_laws.proofs.Sessions.{one-on}
 use Rattle.orch_core.specs.ComingBack.{AreOnWay, restarts_marked}
 use Rattle.orch_core.proofs.Coming.{restarts_both, way_both}
-use Rattle.swss_run.specs.Running.{AreRowsTaken, KeepsPlan}
+use Rattle.swss_run.specs.Running.{KeepsPlan}
 use Rattle.swss_run.specs.Taking.{restarts_made, writes_among, with_made}
+use Rattle.swss_run.specs.Told.{AreRowsTaken, IsToldOf}
+use Rattle.swss_run.specs.declared.told.Told.{Told}
 use Rattle.swss_run.proofs.Given.{AreOnSwitch}
 
 -- ---- a round without a restart
@@ -124,6 +127,44 @@ rows-told c chip x none rising =
     told k = ap (λ ws. fields_at (rows_of ws) k) ahead.taken ∙ x.stands.always.holds.safe.told k ∙ sym (ahead.whole k)
 
 -- the rows that are shown
-pub rows-shown : (c : CoreState) (chip : ChipState) (behind : Option Rows) → InSession c chip → AreRowsTaken c behind → HasRisingRows c.tables.rows → unwrap_or behind c.tables.rows ≡ rows_of (sent_writes c.log.taken)
-rows-shown c chip None x taken rising = rows-told c chip x taken rising
-rows-shown c chip (Some rows) x taken rising = taken
+pub rows-shown : (c : CoreState) (chip : ChipState) (behind : Bool) (rows : Rows) → InSession c chip → AreRowsTaken c behind rows → HasRisingRows c.tables.rows → (if behind then rows else c.tables.rows) ≡ rows_of (sent_writes c.log.taken)
+rows-shown c chip false rows x taken rising = rows-told c chip x taken rising
+rows-shown c chip true rows x taken rising = taken
+
+-- nothing is told at first
+pub told-none : (t : Told) (taken : List Sent) → t.rows ≡ [] → t.count ≡ 0 → IsToldOf t taken
+told-none t taken rows count = record {
+  few = omega (arith, count);
+  rows = rows ∙ ap (λ n. rows_of (sent_writes (take n taken))) (sym count);
+}
+
+-- where more writes were taken, what is told is as far as it was
+pub told-more : (t : Told) (taken more all : List Sent) → IsToldOf t taken → all ≡ taken ++ more → IsToldOf t all
+told-more t taken more all x is = record {
+  few = let longer = length-append taken more in let same = ap length is in let few = x.few in omega (arith, longer, same, few);
+  rows = x.rows ∙ ap (λ l. rows_of (sent_writes l)) (sym (ap (take t.count) is ∙ take-append-le t.count taken more x.few));
+}
+
+-- and one write more is told, which is the next of those behind the start
+pub told-next : (t : Told) (start at : ℕ) (taken : List Sent) (s : Sent) (rows : Rows) → t.count ≡ start + at → IsToldOf t taken → at < length (take (length taken - start) (drop start taken)) → s ≡ get_or (take (length taken - start) (drop start taken)) at s → rows ≡ after_write t.rows s.write → IsToldOf (record { rows = rows; count = t.count + 1 }) taken
+told-next t start at taken s rows count x less is applied = record { few = omega (arith, within); rows = all }
+  where
+    behind : take (length taken - start) (drop start taken) ≡ drop start taken
+    behind = take_rest taken start
+
+    within : t.count < length taken
+    within = let long = ap length behind ∙ length-drop start taken in omega (arith, less, long, count)
+
+    next : get_or taken t.count s ≡ s
+    next = ap (λ n. get_or taken n s) count ∙ sym (get_or-drop start taken at s) ∙ ap (λ l. get_or l at s) (sym behind) ∙ sym is
+
+    longer : take (t.count + 1) taken ≡ take t.count taken ++ s ∷ []
+    longer = let one : t.count + 1 ≡ suc t.count = omega arith in ap (λ n. take n taken) one ∙ take-suc taken t.count s within ∙ ap (λ y. take t.count taken ++ y ∷ []) next
+
+    all : rows ≡ rows_of (sent_writes (take (t.count + 1) taken))
+    all =
+        applied
+        ∙ ap (λ r. after_write r s.write) x.rows
+        ∙ sym (after_writes-more [] (sent_writes (take t.count taken)) s.write)
+        ∙ ap rows_of (sym (map-append (λ (z : Sent). z.write) (take t.count taken) (s ∷ [])))
+        ∙ ap (λ l. rows_of (sent_writes l)) (sym longer)

@@ -11,5 +11,6 @@ pub mod Running
 pub mod Session
 pub mod Status
 pub mod Taking
+pub mod Told
 pub mod Turned
 pub mod Words

@@ -1,14 +1,12 @@
 -- What running a round comes to. Own.
-use Rattle.std.specs.Prelude.{◌≡◌, ◌⊎◌, ℕ, ◌+◌, ◌<◌, ◌≤◌, true, false, List, [], ◌∷◌, ◌++◌, length, Option, Some, None, Result, Ok, Err}
+use Rattle.std.specs.Prelude.{◌≡◌, ◌⊎◌, ℕ, ◌+◌, ◌<◌, ◌≤◌, true, false, List, [], ◌∷◌, ◌++◌, length, Option, Result, Ok, Err}
 use Rattle.swss_types.specs.Outside.{HasRisen, Takes}
 use Rattle.swss_types.specs.declared.out_of_memory.OutOfMemory.{OutOfMemory}
-use Rattle.table_schema.specs.Rows.{Rows, rows_of}
 use Rattle.table_schema.specs.declared.write.Sent.{Sent}
 use Rattle.sai_types.specs.ChipState.{ChipState}
 use Rattle.sai_chip.specs.Replay.{IsReplayOf, Replayed}
 use Rattle.sai_chip.specs.Sim.{Sim}
 use Rattle.switch_model.specs.History.{History, log_size}
-use Rattle.switch_model.specs.Marks.{sent_writes}
 use Rattle.switch_model.specs.Sound.{is_suspect}
 use Rattle.switch_model.specs.declared.mark.Mark.{Mark}
 use Rattle.machine_laws.specs.Order.{MayEndRound}
@@ -17,6 +15,7 @@ use Rattle.round_laws.specs.Between.{IsReadyForRound, mark_of}
 use Rattle.round_laws.specs.Named.{keys_named}
 use Rattle.round_laws.specs.Sessions.{InSession}
 use Rattle.orch_core.specs.ComingBack.{AreOnWay}
+use Rattle.orch_core.specs.Outcomes.{IsWithinLimit}
 use Rattle.orch_core.specs.declared.answer.Settled.{Settled}
 use Rattle.orch_core.specs.declared.answer.Settled.TheVariants as settled
 use Rattle.swss_script.specs.Sent.{sent_in_round}
@@ -33,11 +32,12 @@ use Rattle.swss_run.specs.Turned.{DrainsBehind, IsRoundTurned}
 use Rattle.swss_run.specs.declared.status.Status.{Status}
 use Rattle.swss_run.specs.declared.status.Status.TheVariants as status
 
--- a session between two rounds: the next may begin, the replay has followed the chip, and the faults that are marked are the chip's
+-- a session between two rounds: the next may begin, the replay has followed the chip, the log is within its limit, and the faults that are marked are the chip's
 pub record IsRunReady (core : CoreState) (sim : Sim) (replay : Replayed) : Type 0 where
   pub ready : IsReadyForRound core sim.chip
   pub follows : IsReplayOf replay sim.chip.effects
   pub at_end : replay.at ≡ length sim.chip.effects
+  pub places : log_size core.log (length sim.chip.effects) ≤ core.limit
   pub faults : FaultsRise 0 core.log.marks sim.chip.faults
 
 -- the plan, the room and the places of the log stay
@@ -71,13 +71,14 @@ pub record EndsRound (round : Round) (old : CoreState) (sim : Sim) (ran : Ran) (
   pub fault_places : is_suspect new.log.marks ≡ true → log_size new.log sim'.chip.before_fault + places_beside new.log.marks ≤ new.limit
   pub faults : FaultsRise 0 new.log.marks sim'.chip.faults
 
--- so far this came in a round, and it did not end: writes were taken, the marks made are those of restarts and applies, and calls took effect
+-- so far this came in a round, and it did not end: writes were taken, the marks made are those of restarts and applies, calls took effect, and the log is within its limit
 pub record HasCome (old : CoreState) (chip : ChipState) (since : Ran) (new : CoreState) (chip' : ChipState) : Type 0 where
   pub log : new.log ≡ record { taken = old.log.taken ++ since.sent; marks = old.log.marks ++ since.marks; ends = old.log.ends }
   pub calls : chip'.effects ≡ chip.effects ++ since.calls
   pub way : AreOnWay since.marks
   pub within : InSession new chip'
   pub same : KeepsPlan old new
+  pub limit : IsWithinLimit new chip'
   pub faults : FaultsRise 0 new.log.marks chip'.faults
 
 -- the round did not end: some of its writes were taken, and some restarts made
@@ -87,11 +88,6 @@ pub record StopsRound (round : Round) (old : CoreState) (sim : Sim) (new : CoreS
   pub front : sent_in_round round ≡ since.sent ++ rest
   pub restarts : HasFewRestarts (is_suspect old.log.marks) round since.marks
   pub come : HasCome old sim.chip since new sim'.chip
-
--- these rows, or else the core's, are those of the writes taken
-abbrev pub AreRowsTaken : CoreState → Option Rows → Type 0
-AreRowsTaken c None = c.tables.waiting ≡ []
-AreRowsTaken c (Some rows) = rows ≡ rows_of (sent_writes c.log.taken)
 
 -- how a settling that answered so ends the round, or the run
 abbrev pub round_ended : Result Settled OutOfMemory → Result Status Status

@@ -58,13 +58,12 @@ pub record HasNoPlace (plan : Ports) (capacities : List ℕ) (rounds : List Roun
   pub full : IsFull plan capacities log_limit round log chip since
   pub many : log_limit < log_size log (length chip.effects) + 2 + length (keys_named log.taken)
 
--- the last round ended at its mark, and each event found its places; where the chip failed, so did the call at which it did, for its effect, if it may have one, and for the mark
+-- the last round ended at its mark; where the chip failed, the call at which it did found its places, for its effect, if it may have one, and for the mark
 pub record HasEnded (since : Ran) (log : History) (chip : ChipState) : Type 0 where
   pub none : since ≡ nothing_ran
-  pub places : log_size log (length chip.effects) ≤ log_limit
   pub fault_places : is_suspect log.marks ≡ true → log_size log chip.before_fault + places_beside log.marks ≤ log_limit
 
--- what the status says of the rounds that ended, of the log's places, and of what the sink took: the whole report where all rounds ended, the last with or without a fault of the chip, and where the log is full; a front of it, and not all, where the sink failed; a front of that of some of the rounds where memory was refused
+-- what the status says of the rounds that ended, of the places that were left in the log, and of what the sink took: the whole report where all rounds ended, the last with or without a fault of the chip, and where the log is full; a front of it, and not all, where the sink failed; a front of that of some of the rounds where memory was refused
 abbrev pub IsReported : Status → Ports → List ℕ → List Round → List Ran → Ran → History → ChipState → Option (List ℕ) → Option (List ℕ) → Type 0
 IsReported status.Done plan capacities rounds rans since log chip held held' =
     HasEnded since log chip × (length rans ≡ length rounds) × (is_suspect log.marks ≡ false) × TookReport plan capacities rans rounds held held'
@@ -78,7 +77,7 @@ IsReported status.OutOfMemory plan capacities rounds rans since log chip held he
     (told : List Ran) × (untold : List Ran) × (rans ≡ told ++ untold) × TookFront plan capacities told rounds held held'
 IsReported _ plan capacities rounds rans since log chip held held' = ⊥
 
--- a session over rounds. Of all that was made: every chip call was legal; outside applies at most so many took effect as an operation makes for each write taken and each key listed where an apply began, and where none began, for each write; every mark is true, counts no fewer writes and calls than the mark before it and no more than there are, and stands where it may; of each apply, what holds while it is made, and of applies that are broken off one after the other, what holds over them all; and each fault of the chip has its mark. Of the rounds: the writes taken are theirs in order and each once, the ends of rounds rise, they restarted as often as their sections say, or once more behind a fault; the calls of each round that neither follows a fault nor has one, and did not restart, are those of its turns, which leave quiet rows alone and drain where there is room, and so does each that restarted. And the sink took what the status says of the report
+-- a session over rounds. Of all that was made: every chip call was legal; outside applies at most so many took effect as an operation makes for each write taken and each key listed where an apply began, and where none began, for each write; every mark is true, counts no fewer writes and calls than the mark before it and no more than there are, and stands where it may; each event found its places in the log; of each apply, what holds while it is made, and of applies that are broken off one after the other, what holds over them all; and each fault of the chip has its mark. Of the rounds: the writes taken are theirs in order and each once, the ends of rounds rise, they restarted as often as their sections say, or once more behind a fault; the calls of each round that neither follows a fault nor has one, and did not restart, are those of its turns, which leave quiet rows alone and drain where there is room, and so does each that restarted. And the sink took what the status says of the report
 pub record IsSession (plan : Ports) (capacities : List ℕ) (rounds : List Round) (ended : Status) (log : History) (chip : ChipState) (held held' : Option (List ℕ)) : Type 0 where
   pub room : chip.capacities ≡ capacities
   pub clean : chip.clean ≡ true
@@ -88,6 +87,7 @@ pub record IsSession (plan : Ports) (capacities : List ℕ) (rounds : List Round
   pub marks : MarksAreTrue plan capacities log chip.effects
   pub counts : AreWithin (length log.taken) (length chip.effects) log.marks
   pub order : IsOrdered log
+  pub places : log_size log (length chip.effects) ≤ log_limit
   pub applies : AreFollowed plan capacities log.taken chip.effects log.marks
   pub breaks : AreSteadyOverBreaks plan log.taken chip.effects log.marks
   pub faults : FaultsRise 0 log.marks chip.faults

@@ -1,5 +1,5 @@
 -- What taking the writes of a round and making its restarts comes to. Own.
-use Rattle.std.specs.Prelude.{◌≡◌, ℕ, ◌+◌, ◌==◌, List, [], ◌∷◌, ◌++◌, map, count_by, Option, Some, None, Result, Ok, Err}
+use Rattle.std.specs.Prelude.{◌≡◌, ℕ, ◌+◌, ◌≤◌, ◌==◌, List, [], ◌∷◌, ◌++◌, map, count_by, Option, Some, None, Result, Ok, Err}
 use Rattle.std.specs.BTreeMap.{is_at}
 use Rattle.std.specs.List.{AllByRecursion}
 use Rattle.std.specs.Map.{lookup}
@@ -8,7 +8,7 @@ use Rattle.std.specs.Ordering.{nat_cmp}
 use Rattle.swss_types.specs.declared.out_of_memory.OutOfMemory.{OutOfMemory}
 use Rattle.table_schema.specs.declared.write.Sent.{Sent}
 use Rattle.table_schema.specs.declared.write.Write.{Write}
-use Rattle.session_laws.specs.Core.{CoreState, IsFullFor, with_taken}
+use Rattle.session_laws.specs.Core.{CoreState, IsFullFor, size_beside, with_taken}
 use Rattle.restart_session_laws.specs.Events.{restarted}
 use Rattle.swss_script.specs.Given.{HasReadKey}
 use Rattle.swss_script.specs.Sent.{next_sent}
@@ -82,9 +82,13 @@ IsMade effects before acts old taken.NoMemory new counts =
 abbrev pub IsRoundMade : ℕ → List (ℕ × Act) → CoreState → Taken → CoreState → Type 0
 IsRoundMade effects acts old result new = (counts : Counts) × IsMade effects [] acts old result new counts
 
--- a restart was made; or it found the log full; or memory was refused
+-- a log that was within its limit, beside so many effects, still is
+abbrev pub StaysWithin : ℕ → CoreState → CoreState → Type 0
+StaysWithin effects c c' = size_beside c effects ≤ c.limit → size_beside c' effects ≤ c'.limit
+
+-- a restart was made, for whose mark the log had a place; or it found the log full; or memory was refused
 abbrev pub IsRestartMade : ℕ → CoreState → Taken → CoreState → Type 0
-IsRestartMade effects old taken.All new = new ≡ restarted old effects
+IsRestartMade effects old taken.All new = (new ≡ restarted old effects) × (IsFullFor old effects 1 → ⊥)
 IsRestartMade effects old taken.LogFull new = (new ≡ old) × IsFullFor new effects 1
 IsRestartMade effects old taken.NoMemory new = new ≡ old
 

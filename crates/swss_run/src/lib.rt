@@ -9,6 +9,7 @@ mod session;
 mod standard;
 mod status;
 mod taking;
+mod told;
 mod words;
 
 pub use outcome::Outcome;

@@ -1,24 +1,25 @@
 // A session: each round of a script is taken and settled, and its lines are written.
-ghost use Rattle.std.specs.Prelude.{◌≡◌, ◌<◌, ◌≤◌, false, unwrap_or, IfOk};
+ghost use Rattle.std.specs.Prelude.{◌≡◌, ◌<◌, ◌≤◌, false, IfOk, if◌then◌else◌};
 ghost use Rattle.std.specs.List.{AllByRecursion};
 ghost use Rattle.swss_types.specs.Outside.{HasRisen};
 ghost use Rattle.sai_types.specs.ChipState.{new_chip};
 ghost use Rattle.table_schema.specs.Plan.{IsPlan};
-ghost use Rattle.table_schema.specs.Rows.{HasRisingRows, rows_of};
-ghost use Rattle.switch_model.specs.Marks.{sent_writes};
+ghost use Rattle.table_schema.specs.Rows.{HasRisingRows};
 ghost use Rattle.producer_table.specs.Pending.{ArePendingInOrder};
 ghost use Rattle.session_laws.specs.Core.{new_core};
 ghost use Rattle.swss_run.specs.Run.{ends_early};
 ghost use Rattle.sai_chip.specs.Replay.{IsReplayOf};
 ghost use Rattle.swss_report.specs.Ended.{ended_round};
 ghost use Rattle.swss_script.specs.Sent.{writes_in};
-ghost use Rattle.swss_run.specs.Running.{AreRowsTaken, IsRunReady, IsRoundRun, IsWritten, round_ended};
+ghost use Rattle.swss_run.specs.Running.{IsRunReady, IsRoundRun, IsWritten, round_ended};
 ghost use Rattle.swss_run.specs.Session.{IsSession, log_limit};
 ghost use Rattle.swss_run.specs.Taking.{HaveReadKeys};
+ghost use Rattle.swss_run.specs.Told.{AreRowsTaken, IsToldOf};
 
 use crate::Status;
 use crate::output::{Output, write_all};
 use crate::taking::{Taken, take_round};
+use crate::told::Told;
 use orch_core::{Core, Settled};
 use row_store::Rows;
 use sai_chip::{Replay, SimChip};
@@ -27,7 +28,6 @@ use std::alloc::Global;
 use swss_report::{RoundEnd, round_lines};
 use swss_script::{Round, RoundList};
 use swss_types::{OutOfMemory, Sink};
-use table_schema::Sent;
 
 /// Runs rounds one after the other on a new core and a new chip, until all have ended or one can't go on.
 pub(crate) fn run_rounds<K: Sink>(
@@ -47,11 +47,21 @@ pub(crate) fn run_rounds<K: Sink>(
     ensures fails { chip.new.chip.fails ≡ chip.old.chip.fails }
 {
     let mut replay = Replay::new(alloc);
+    let mut told = Told::new(alloc);
     let mut number = 0u64;
     let mut ended = Status::Done;
     for round in rounds.into_vec() {
         number += 1;
-        match run_round(alloc, core, chip, &mut replay, number, round, sink) {
+        match run_round(
+            alloc,
+            core,
+            chip,
+            &mut replay,
+            &mut told,
+            number,
+            round,
+            sink,
+        ) {
             Status::Done => ended = Status::Done,
             // The next round begins with a restart.
             Status::ChipFault => ended = Status::ChipFault,
@@ -67,13 +77,16 @@ fn run_round<K: Sink>(
     core: &mut Core,
     chip: &mut SimChip,
     replay: &mut Replay,
+    told: &mut Told,
     number: u64,
     round: Round,
     sink: &mut K,
 ) -> Status
     requires ready { IsRunReady core.old chip.old replay.old }
+    requires told { IsToldOf told.old core.old.log.taken }
     requires counted { 0 < number }
     requires read { HaveReadKeys (writes_in round.sections) }
+    ensures told { IsToldOf told.new core.new.log.taken }
     ensures counts { K.faults sink.old ≤ K.faults sink.new }
     ensures fails { chip.new.chip.fails ≡ chip.old.chip.fails }
     ensures run { IsRoundRun number round core.old chip.old (K.holds sink.old) (K.faults sink.old) result core.new chip.new replay.new (K.holds sink.new) (K.faults sink.new) }
@@ -87,14 +100,14 @@ fn run_round<K: Sink>(
     }
     let settled = core.settle(chip);
     match round_ended(settled) {
-        Ok(ended) => match rows_behind(alloc, core) {
+        Ok(ended) => match is_behind(core, told) {
             Ok(behind) => {
                 let end = RoundEnd {
                     plan: core.plan(),
                     number,
                     marks: &core.log().marks()[before..],
                     taken: core.log().taken().len() as u64,
-                    rows: rows_shown(core, &behind),
+                    rows: rows_shown(core, told, behind),
                     chip,
                     shows: shows.items(),
                 };
@@ -106,39 +119,32 @@ fn run_round<K: Sink>(
     }
 }
 
-/// The rows of the writes taken, where the core's are behind them: a write still waits after a list of the chip that failed.
-fn rows_behind(alloc: Global, core: &Core) -> Result<Option<Rows>, OutOfMemory>
-    ensures rows { IfOk result (λ behind. AreRowsTaken core.now behind) }
+/// Whether the core's rows are behind those of the writes taken, since a write still waits after a list of the chip that
+/// failed. The rows of all writes taken are then told.
+fn is_behind(core: &Core, told: &mut Told) -> Result<bool, OutOfMemory>
+    requires { IsToldOf told.old core.now.log.taken }
+    ensures told { IsToldOf told.new core.now.log.taken }
+    ensures rows { IfOk result (λ behind. AreRowsTaken core.now behind told.new.rows) }
     ensures order { ArePendingInOrder core.now.tables.waiting }
     ensures rising { HasRisingRows core.now.tables.rows }
 {
     // The rows are in key order.
     let _count = core.rows().len();
     if core.is_popped() {
-        return Ok(None);
+        return Ok(false);
     }
-    Ok(Some(rows_taken(alloc, core.log().taken())?))
+    told.go_on(core.log().taken())?;
+    Ok(true)
 }
 
-/// The rows of these writes.
-fn rows_taken(alloc: Global, taken: &[Sent]) -> Result<Rows, OutOfMemory>
-    ensures { IfOk result (λ rows. rows ≡ rows_of (sent_writes taken.now)) }
+/// The rows that are told where the core's are behind, and else those of the core.
+fn rows_shown<'a>(core: &'a Core, told: &'a Told, behind: bool) -> &'a Rows
+    ensures { result.now ≡ (if behind then told.now.rows else core.now.tables.rows) }
 {
-    let mut rows = Rows::new(alloc);
-    for sent in taken {
-        rows.apply(&sent.write)?;
+    if behind {
+        return told.rows();
     }
-    Ok(rows)
-}
-
-/// These rows, or those of the core.
-fn rows_shown<'a>(core: &'a Core, behind: &'a Option<Rows>) -> &'a Rows
-    ensures { result.now ≡ unwrap_or behind.now core.now.tables.rows }
-{
-    match behind {
-        Some(rows) => rows,
-        None => core.rows(),
-    }
+    core.rows()
 }
 
 /// How a settling that answered so ends its round, or the run.

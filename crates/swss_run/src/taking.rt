@@ -2,7 +2,7 @@
 ghost use Rattle.std.specs.Prelude.{◌≡◌, List, [], ◌∷◌};
 ghost use Rattle.table_schema.specs.declared.write.Sent.{Sent};
 ghost use Rattle.swss_script.specs.declared.parts.Act.TheVariants as act;
-ghost use Rattle.swss_run.specs.Taking.{AreCounted, IsMade, IsNextNumber, IsRestartMade, IsRoundMade, acts_by, acts_in};
+ghost use Rattle.swss_run.specs.Taking.{AreCounted, IsMade, IsNextNumber, IsRestartMade, IsRoundMade, StaysWithin, acts_by, acts_in};
 
 use orch_core::{Core, LogFull};
 use std::alloc::Global;
@@ -28,7 +28,8 @@ type Counts = BTreeMap<u32, u64>;
 /// Takes the writes of a round's sections, and makes their restarts, in order; the writes of each producer are numbered from 0.
 /// `effects` is the number of the chip's effects.
 pub(crate) fn take_round(alloc: Global, core: &mut Core, effects: u64, sections: Sections) -> Taken
-    ensures { IsRoundMade effects (acts_in sections) core.old result core.new }
+    ensures made { IsRoundMade effects (acts_in sections) core.old result core.new }
+    ensures within { StaysWithin effects core.old core.new }
 {
     let mut counts = BTreeMap::new(alloc);
     for section in sections.into_vec() {
@@ -48,7 +49,8 @@ fn take_section(
     acts: Acts,
     counts: &mut Counts,
 ) -> Taken
-    ensures { (before : List Sent) → AreCounted counts.old.entries before → IsMade effects before (acts_by producer acts) core.old result core.new counts.new.entries }
+    ensures made { (before : List Sent) → AreCounted counts.old.entries before → IsMade effects before (acts_by producer acts) core.old result core.new counts.new.entries }
+    ensures within { StaysWithin effects core.old core.new }
 {
     for act in acts.into_vec() {
         match take_act(core, effects, producer, act, counts) {
@@ -61,7 +63,8 @@ fn take_section(
 
 /// Takes a write, or restarts.
 fn take_act(core: &mut Core, effects: u64, producer: u32, act: Act, counts: &mut Counts) -> Taken
-    ensures { (before : List Sent) → AreCounted counts.old.entries before → IsMade effects before ((producer, act) ∷ []) core.old result core.new counts.new.entries }
+    ensures made { (before : List Sent) → AreCounted counts.old.entries before → IsMade effects before ((producer, act) ∷ []) core.old result core.new counts.new.entries }
+    ensures within { StaysWithin effects core.old core.new }
 {
     match act {
         Act::Write(write) => take_write(core, effects, producer, write, counts),
@@ -77,7 +80,8 @@ fn take_write(
     write: Write,
     counts: &mut Counts,
 ) -> Taken
-    ensures { (before : List Sent) → AreCounted counts.old.entries before → IsMade effects before ((producer, act.Write write) ∷ []) core.old result core.new counts.new.entries }
+    ensures made { (before : List Sent) → AreCounted counts.old.entries before → IsMade effects before ((producer, act.Write write) ∷ []) core.old result core.new counts.new.entries }
+    ensures within { StaysWithin effects core.old core.new }
 {
     let Ok(number) = next_number(counts, producer) else {
         return Taken::NoMemory;

@@ -15,7 +15,7 @@ use Rattle.swss_run.specs.declared.status.Status.{Status}
 use Rattle.session_laws.specs.Core.{CoreState}
 use Rattle.swss_run.specs.Taking.{IsRoundMade, acts_in}
 use Rattle.swss_run.specs.declared.taking.Taken.{Taken}
-use Rattle.swss_run.proofs.RoundRuns.{follows-new, from-fails, full-taking, in-all, marks-longer, more-all, run-halted, run-over, run-stopped, run-unwritten, run-written, stops-wanting}
+use Rattle.swss_run.proofs.RoundRuns.{follows-new, from-fails, full-taking, in-all, marks-longer, more-all, run-halted, run-over, run-stopped, run-unwritten, run-written, stops-wanting, told-new, told-stopped}
 use Rattle.swss_run.proofs.Tables.{rows-shown}
 use Rattle.swss_run.proofs.session.run_round.Goals as goal
 
@@ -24,68 +24,68 @@ made_as n acts old mid is made = subst (λ x. IsRoundMade n acts old x mid) is m
 
 pub returns-in-LogFull-clause-run : goal.returns-in-LogFull-clause-run
 returns-in-LogFull-clause-run g c =
-    let stop = full-taking c.args.round c.args.core.now c.args.chip.now c.args.replay.now c.requires.ready c.requires.read c.take_round.new.core c.effects.result c.effects.ensures (made_as c.effects.result (acts_in c.args.round.sections) c.args.core.now c.take_round.new.core c.in-LogFull.is c.take_round.ensures) in
+    let stop = full-taking c.args.round c.args.core.now c.args.chip.now c.args.replay.now c.requires.ready c.requires.read c.take_round.new.core c.effects.result c.effects.ensures c.take_round.ensures.within (made_as c.effects.result (acts_in c.args.round.sections) c.args.core.now c.take_round.new.core c.in-LogFull.is c.take_round.ensures.made) in
     (stop.0, stop.1, stop.2, refl)
 
 pub returns-in-NoMemory-clause-run : goal.returns-in-NoMemory-clause-run
 returns-in-NoMemory-clause-run g c =
-    inl (stops-wanting c.args.round c.args.core.now c.args.chip.now c.args.replay.now c.requires.ready c.requires.read c.take_round.new.core c.effects.result c.effects.ensures (made_as c.effects.result (acts_in c.args.round.sections) c.args.core.now c.take_round.new.core c.in-NoMemory.is c.take_round.ensures), refl)
+    inl (stops-wanting c.args.round c.args.core.now c.args.chip.now c.args.replay.now c.requires.ready c.requires.read c.take_round.new.core c.effects.result c.effects.ensures c.take_round.ensures.within (made_as c.effects.result (acts_in c.args.round.sections) c.args.core.now c.take_round.new.core c.in-NoMemory.is c.take_round.ensures.made), refl)
 
 pub settle-settled-requires : goal.settle-settled-requires
 settle-settled-requires g c =
-    let made = (made_as c.effects.result (acts_in c.args.round.sections) c.args.core.now c.take_round.new.core c.in-All.is c.take_round.ensures).1.0 in
-    let x = in-all c.args.round c.args.core.now c.args.chip.now c.args.replay.now c.requires.ready c.requires.read c.take_round.new.core c.effects.result c.effects.ensures made in
+    let made = (made_as c.effects.result (acts_in c.args.round.sections) c.args.core.now c.take_round.new.core c.in-All.is c.take_round.ensures.made).1.0 in
+    let x = in-all c.args.round c.args.core.now c.args.chip.now c.args.replay.now c.requires.ready c.requires.read c.take_round.new.core c.effects.result c.effects.ensures c.take_round.ensures.within made in
     record { service = (x.session, x.stands) }
 
 pub slice_bounds-end-count : goal.slice_bounds-end-count
 slice_bounds-end-count g c =
-    let made = (made_as c.effects.result (acts_in c.args.round.sections) c.args.core.now c.take_round.new.core c.in-All.is c.take_round.ensures).1.0 in
-    let longer = marks-longer c.args.round c.args.core.now c.args.chip.now c.args.replay.now c.requires.ready c.requires.read c.take_round.new.core c.effects.result c.effects.ensures made c.settle-settled.new.self c.settle-settled.new.chip (more-all c.args.round c.args.core.now c.args.chip.now c.args.replay.now c.requires.ready c.requires.read c.take_round.new.core c.effects.result c.effects.ensures made c.settle-settled.new.self c.settle-settled.new.chip c.settle-settled.result c.settle-settled.ensures) in
+    let made = (made_as c.effects.result (acts_in c.args.round.sections) c.args.core.now c.take_round.new.core c.in-All.is c.take_round.ensures.made).1.0 in
+    let longer = marks-longer c.args.round c.args.core.now c.args.chip.now c.args.replay.now c.requires.ready c.requires.read c.take_round.new.core c.effects.result c.effects.ensures c.take_round.ensures.within made c.settle-settled.new.self c.settle-settled.new.chip (more-all c.args.round c.args.core.now c.args.chip.now c.args.replay.now c.requires.ready c.requires.read c.take_round.new.core c.effects.result c.effects.ensures c.take_round.ensures.within made c.settle-settled.new.self c.settle-settled.new.chip c.settle-settled.result c.settle-settled.ensures) in
     let before : c.marks-before.result.now ≡ c.args.core.now.log.marks = search rules in
     let now : c.marks.result.now ≡ c.settle-settled.new.self.log.marks = search rules in
     omega (arith, longer, ap length before, ap length now)
 
 pub slice_bounds-end-start : goal.slice_bounds-end-start
 slice_bounds-end-start g c =
-    let made = (made_as c.effects.result (acts_in c.args.round.sections) c.args.core.now c.take_round.new.core c.in-All.is c.take_round.ensures).1.0 in
-    let longer = marks-longer c.args.round c.args.core.now c.args.chip.now c.args.replay.now c.requires.ready c.requires.read c.take_round.new.core c.effects.result c.effects.ensures made c.settle-settled.new.self c.settle-settled.new.chip (more-all c.args.round c.args.core.now c.args.chip.now c.args.replay.now c.requires.ready c.requires.read c.take_round.new.core c.effects.result c.effects.ensures made c.settle-settled.new.self c.settle-settled.new.chip c.settle-settled.result c.settle-settled.ensures) in
+    let made = (made_as c.effects.result (acts_in c.args.round.sections) c.args.core.now c.take_round.new.core c.in-All.is c.take_round.ensures.made).1.0 in
+    let longer = marks-longer c.args.round c.args.core.now c.args.chip.now c.args.replay.now c.requires.ready c.requires.read c.take_round.new.core c.effects.result c.effects.ensures c.take_round.ensures.within made c.settle-settled.new.self c.settle-settled.new.chip (more-all c.args.round c.args.core.now c.args.chip.now c.args.replay.now c.requires.ready c.requires.read c.take_round.new.core c.effects.result c.effects.ensures c.take_round.ensures.within made c.settle-settled.new.self c.settle-settled.new.chip c.settle-settled.result c.settle-settled.ensures) in
     let before : c.marks-before.result.now ≡ c.args.core.now.log.marks = search rules in
     let now : c.marks.result.now ≡ c.settle-settled.new.self.log.marks = search rules in
     omega (arith, longer, ap length before, ap length now)
 
-pub returns-in-Ok-rows_behind-clause-fails : goal.returns-in-Ok-rows_behind-clause-fails
-returns-in-Ok-rows_behind-clause-fails g c =
-    let made = (made_as c.effects.result (acts_in c.args.round.sections) c.args.core.now c.take_round.new.core c.in-All.is c.take_round.ensures).1.0 in
-    let x = in-all c.args.round c.args.core.now c.args.chip.now c.args.replay.now c.requires.ready c.requires.read c.take_round.new.core c.effects.result c.effects.ensures made in
+pub returns-in-Ok-is_behind-clause-fails : goal.returns-in-Ok-is_behind-clause-fails
+returns-in-Ok-is_behind-clause-fails g c =
+    let made = (made_as c.effects.result (acts_in c.args.round.sections) c.args.core.now c.take_round.new.core c.in-All.is c.take_round.ensures.made).1.0 in
+    let x = in-all c.args.round c.args.core.now c.args.chip.now c.args.replay.now c.requires.ready c.requires.read c.take_round.new.core c.effects.result c.effects.ensures c.take_round.ensures.within made in
     from-fails c.take_round.new.core c.args.chip.now.chip x.session c.settle-settled.result c.settle-settled.new.self c.settle-settled.new.chip.chip (c.settle-settled.ensures x.session x.stands)
 
 pub returns-in-Ok-clause-fails : goal.returns-in-Ok-clause-fails
 returns-in-Ok-clause-fails g c =
-    let made = (made_as c.effects.result (acts_in c.args.round.sections) c.args.core.now c.take_round.new.core c.in-All.is c.take_round.ensures).1.0 in
-    let x = in-all c.args.round c.args.core.now c.args.chip.now c.args.replay.now c.requires.ready c.requires.read c.take_round.new.core c.effects.result c.effects.ensures made in
+    let made = (made_as c.effects.result (acts_in c.args.round.sections) c.args.core.now c.take_round.new.core c.in-All.is c.take_round.ensures.made).1.0 in
+    let x = in-all c.args.round c.args.core.now c.args.chip.now c.args.replay.now c.requires.ready c.requires.read c.take_round.new.core c.effects.result c.effects.ensures c.take_round.ensures.within made in
     from-fails c.take_round.new.core c.args.chip.now.chip x.session c.settle-settled.result c.settle-settled.new.self c.settle-settled.new.chip.chip (c.settle-settled.ensures x.session x.stands)
 
 pub returns-clause-fails : goal.returns-clause-fails
 returns-clause-fails g c =
-    let made = (made_as c.effects.result (acts_in c.args.round.sections) c.args.core.now c.take_round.new.core c.in-All.is c.take_round.ensures).1.0 in
-    let x = in-all c.args.round c.args.core.now c.args.chip.now c.args.replay.now c.requires.ready c.requires.read c.take_round.new.core c.effects.result c.effects.ensures made in
+    let made = (made_as c.effects.result (acts_in c.args.round.sections) c.args.core.now c.take_round.new.core c.in-All.is c.take_round.ensures.made).1.0 in
+    let x = in-all c.args.round c.args.core.now c.args.chip.now c.args.replay.now c.requires.ready c.requires.read c.take_round.new.core c.effects.result c.effects.ensures c.take_round.ensures.within made in
     from-fails c.take_round.new.core c.args.chip.now.chip x.session c.settle-settled.result c.settle-settled.new.self c.settle-settled.new.chip.chip (c.settle-settled.ensures x.session x.stands)
 
 pub write_lines-requires : goal.write_lines-requires
 write_lines-requires g c =
-    let made = (made_as c.effects.result (acts_in c.args.round.sections) c.args.core.now c.take_round.new.core c.in-All.is c.take_round.ensures).1.0 in
-    record { follows = follows-new c.args.round c.args.core.now c.args.chip.now c.args.replay.now c.requires.ready c.requires.read c.take_round.new.core c.effects.result c.effects.ensures made c.settle-settled.new.self c.settle-settled.new.chip (more-all c.args.round c.args.core.now c.args.chip.now c.args.replay.now c.requires.ready c.requires.read c.take_round.new.core c.effects.result c.effects.ensures made c.settle-settled.new.self c.settle-settled.new.chip c.settle-settled.result c.settle-settled.ensures) }
+    let made = (made_as c.effects.result (acts_in c.args.round.sections) c.args.core.now c.take_round.new.core c.in-All.is c.take_round.ensures.made).1.0 in
+    record { follows = follows-new c.args.round c.args.core.now c.args.chip.now c.args.replay.now c.requires.ready c.requires.read c.take_round.new.core c.effects.result c.effects.ensures c.take_round.ensures.within made c.settle-settled.new.self c.settle-settled.new.chip (more-all c.args.round c.args.core.now c.args.chip.now c.args.replay.now c.requires.ready c.requires.read c.take_round.new.core c.effects.result c.effects.ensures c.take_round.ensures.within made c.settle-settled.new.self c.settle-settled.new.chip c.settle-settled.result c.settle-settled.ensures) }
 
 pub returns-clause-run : goal.returns-clause-run
 returns-clause-run g c =
-    let made = (made_as c.effects.result (acts_in c.args.round.sections) c.args.core.now c.take_round.new.core c.in-All.is c.take_round.ensures).1.0 in
+    let made = (made_as c.effects.result (acts_in c.args.round.sections) c.args.core.now c.take_round.new.core c.in-All.is c.take_round.ensures.made).1.0 in
     run-halted c.args.round c.args.core.now c.args.chip.now c.settle-settled.new.self c.settle-settled.new.chip c.in-Err.status c.args.number (g.K.Sink.holds c.args.sink.now) (g.K.Sink.faults c.args.sink.now) c.args.replay.now
-    (run-stopped c.args.round c.args.core.now c.args.chip.now c.args.replay.now c.requires.ready c.requires.read c.take_round.new.core c.effects.result c.effects.ensures made c.settle-settled.new.self c.settle-settled.new.chip c.settle-settled.result c.in-Err.status (sym c.round_ended.ensures ∙ c.in-Err.is) c.settle-settled.ensures)
+    (run-stopped c.args.round c.args.core.now c.args.chip.now c.args.replay.now c.requires.ready c.requires.read c.take_round.new.core c.effects.result c.effects.ensures c.take_round.ensures.within made c.settle-settled.new.self c.settle-settled.new.chip c.settle-settled.result c.in-Err.status (sym c.round_ended.ensures ∙ c.in-Err.is) c.settle-settled.ensures)
 
 pub returns-in-Ok-clause-run : goal.returns-in-Ok-clause-run
 returns-in-Ok-clause-run g c =
-    let made = (made_as c.effects.result (acts_in c.args.round.sections) c.args.core.now c.take_round.new.core c.in-All.is c.take_round.ensures).1.0 in
-    let over = run-over c.args.round c.args.core.now c.args.chip.now c.args.replay.now c.requires.ready c.requires.read c.take_round.new.core c.effects.result c.effects.ensures made c.settle-settled.new.self c.settle-settled.new.chip c.settle-settled.result c.in-Ok.ended (sym c.round_ended.ensures ∙ c.in-Ok.is) c.settle-settled.ensures c.rows_behind.ensures.order in
+    let made = (made_as c.effects.result (acts_in c.args.round.sections) c.args.core.now c.take_round.new.core c.in-All.is c.take_round.ensures.made).1.0 in
+    let over = run-over c.args.round c.args.core.now c.args.chip.now c.args.replay.now c.requires.ready c.requires.read c.take_round.new.core c.effects.result c.effects.ensures c.take_round.ensures.within made c.settle-settled.new.self c.settle-settled.new.chip c.settle-settled.result c.in-Ok.ended (sym c.round_ended.ensures ∙ c.in-Ok.is) c.settle-settled.ensures c.is_behind.ensures.order in
     run-unwritten c.args.round c.args.core.now c.args.chip.now c.args.replay.now c.requires.ready c.in-Ok.ended c.settle-settled.new.self c.settle-settled.new.chip over c.args.number (g.K.Sink.holds c.args.sink.now) (g.K.Sink.faults c.args.sink.now) c.args.replay.now
 
 -- the lines that were asked for, said in other words
@@ -105,14 +105,35 @@ marks_behind : (before before' : List Mark) (n : ℕ) (ms ms' : List Mark) → n
 marks_behind before before' n ms ms' at same is =
     take_rest ms n ∙ ap (λ k. drop k ms) (at ∙ ap length same) ∙ ap (λ l. drop (length before') l) is
 
-pub returns-in-Ok-rows_behind-clause-run : goal.returns-in-Ok-rows_behind-clause-run
-returns-in-Ok-rows_behind-clause-run g c =
-    let made = (made_as c.effects.result (acts_in c.args.round.sections) c.args.core.now c.take_round.new.core c.in-All.is c.take_round.ensures).1.0 in
-    let over = run-over c.args.round c.args.core.now c.args.chip.now c.args.replay.now c.requires.ready c.requires.read c.take_round.new.core c.effects.result c.effects.ensures made c.settle-settled.new.self c.settle-settled.new.chip c.settle-settled.result c.in-Ok.ended (sym c.round_ended.ensures ∙ c.in-Ok.is) c.settle-settled.ensures c.rows_behind.ensures.order in
+pub returns-in-Ok-is_behind-clause-run : goal.returns-in-Ok-is_behind-clause-run
+returns-in-Ok-is_behind-clause-run g c =
+    let made = (made_as c.effects.result (acts_in c.args.round.sections) c.args.core.now c.take_round.new.core c.in-All.is c.take_round.ensures.made).1.0 in
+    let over = run-over c.args.round c.args.core.now c.args.chip.now c.args.replay.now c.requires.ready c.requires.read c.take_round.new.core c.effects.result c.effects.ensures c.take_round.ensures.within made c.settle-settled.new.self c.settle-settled.new.chip c.settle-settled.result c.in-Ok.ended (sym c.round_ended.ensures ∙ c.in-Ok.is) c.settle-settled.ensures c.is_behind.ensures.order in
     let marks : c.marks-before.result.now ≡ c.args.core.now.log.marks = search rules in
-    let told = rows-shown c.settle-settled.new.self c.settle-settled.new.chip.chip c.in-Ok-rows_behind.behind over.ends.within c.in-Ok-rows_behind.ensures.rows c.rows_behind.ensures.rising in
+    let told = rows-shown c.settle-settled.new.self c.settle-settled.new.chip.chip c.in-Ok-is_behind.behind c.is_behind.new.told.rows over.ends.within c.in-Ok-is_behind.ensures.rows c.is_behind.ensures.rising in
     run-written c.args.round c.args.core.now c.args.chip.now c.args.replay.now c.requires.ready c.in-Ok.ended c.settle-settled.new.self c.settle-settled.new.chip over c.args.number c.requires.counted (rows_of (sent_writes c.settle-settled.new.self.log.taken)) refl (g.K.Sink.holds c.args.sink.now) (g.K.Sink.holds c.write_lines.new.sink) (g.K.Sink.faults c.args.sink.now) (g.K.Sink.faults c.write_lines.new.sink) c.write_lines.result c.write_lines.new.replay
     (written_as c.plan.result.now c.settle-settled.new.self.board.plan c.args.number (take (length c.marks.result.now - length c.marks-before.result.now) (drop (length c.marks-before.result.now) c.marks.result.now)) (drop (length c.args.core.now.log.marks) c.settle-settled.new.self.log.marks) (length c.taken.result.now) (length c.settle-settled.new.self.log.taken) c.rows_shown.result.now (rows_of (sent_writes c.settle-settled.new.self.log.taken)) c.settle-settled.new.chip.chip.capacities c.settle-settled.new.chip.chip.objects c.settle-settled.new.chip.chip.effects c.args.replay.now.at c.items.result.now c.args.round.shows c.in-Ok.ended (g.K.Sink.holds c.args.sink.now) (g.K.Sink.faults c.args.sink.now) c.write_lines.result c.write_lines.new.replay (g.K.Sink.holds c.write_lines.new.sink) (g.K.Sink.faults c.write_lines.new.sink)
     (search rules)
     (marks_behind c.marks-before.result.now c.args.core.now.log.marks (length c.marks-before.result.now) c.marks.result.now c.settle-settled.new.self.log.marks refl marks (search rules))
     (search rules) (c.rows_shown.ensures ∙ told) c.items.ensures c.write_lines.ensures.written)
+
+-- what is told of the writes taken
+
+pub returns-in-LogFull-clause-told : goal.returns-in-LogFull-clause-told
+returns-in-LogFull-clause-told g c =
+    let stop = full-taking c.args.round c.args.core.now c.args.chip.now c.args.replay.now c.requires.ready c.requires.read c.take_round.new.core c.effects.result c.effects.ensures c.take_round.ensures.within (made_as c.effects.result (acts_in c.args.round.sections) c.args.core.now c.take_round.new.core c.in-LogFull.is c.take_round.ensures.made) in
+    told-stopped c.args.round c.args.core.now c.args.chip.now c.args.replay.now c.requires.ready c.requires.read c.take_round.new.core c.effects.result c.effects.ensures c.take_round.ensures.within c.args.told.now c.requires.told stop.0
+
+pub returns-in-NoMemory-clause-told : goal.returns-in-NoMemory-clause-told
+returns-in-NoMemory-clause-told g c =
+    told-stopped c.args.round c.args.core.now c.args.chip.now c.args.replay.now c.requires.ready c.requires.read c.take_round.new.core c.effects.result c.effects.ensures c.take_round.ensures.within c.args.told.now c.requires.told (stops-wanting c.args.round c.args.core.now c.args.chip.now c.args.replay.now c.requires.ready c.requires.read c.take_round.new.core c.effects.result c.effects.ensures c.take_round.ensures.within (made_as c.effects.result (acts_in c.args.round.sections) c.args.core.now c.take_round.new.core c.in-NoMemory.is c.take_round.ensures.made))
+
+pub is_behind-requires : goal.is_behind-requires
+is_behind-requires g c =
+    let made = (made_as c.effects.result (acts_in c.args.round.sections) c.args.core.now c.take_round.new.core c.in-All.is c.take_round.ensures.made).1.0 in
+    told-new c.args.round c.args.core.now c.args.chip.now c.args.replay.now c.requires.ready c.requires.read c.take_round.new.core c.effects.result c.effects.ensures c.take_round.ensures.within made c.settle-settled.new.self c.settle-settled.new.chip c.args.told.now c.requires.told (more-all c.args.round c.args.core.now c.args.chip.now c.args.replay.now c.requires.ready c.requires.read c.take_round.new.core c.effects.result c.effects.ensures c.take_round.ensures.within made c.settle-settled.new.self c.settle-settled.new.chip c.settle-settled.result c.settle-settled.ensures)
+
+pub returns-clause-told : goal.returns-clause-told
+returns-clause-told g c =
+    let made = (made_as c.effects.result (acts_in c.args.round.sections) c.args.core.now c.take_round.new.core c.in-All.is c.take_round.ensures.made).1.0 in
+    told-new c.args.round c.args.core.now c.args.chip.now c.args.replay.now c.requires.ready c.requires.read c.take_round.new.core c.effects.result c.effects.ensures c.take_round.ensures.within made c.settle-settled.new.self c.settle-settled.new.chip c.args.told.now c.requires.told (more-all c.args.round c.args.core.now c.args.chip.now c.args.replay.now c.requires.ready c.requires.read c.take_round.new.core c.effects.result c.effects.ensures c.take_round.ensures.within made c.settle-settled.new.self c.settle-settled.new.chip c.settle-settled.result c.settle-settled.ensures)

@@ -8,6 +8,7 @@ use Rattle.swss_script.specs.Sent.{writes_in}
 use Rattle.swss_script.specs.declared.parts.Round.{Round}
 use Rattle.swss_run.specs.Taking.{HaveReadKeys}
 use Rattle.swss_run.proofs.Sessions.{ended-none, replay-none, running-failed, running-more, running-none, session-done, session-ended}
+use Rattle.swss_run.proofs.Tables.{told-none}
 use Rattle.swss_run.proofs.session.run_rounds.Goals as goal
 
 round-at : (done : List Round) (round : Round) (rest rounds : List Round) → rounds ≡ done ++ round ∷ rest → slice_get rounds (length done) ≡ Some round
@@ -33,6 +34,7 @@ loop-round-init g c =
       running-none c.args.rounds c.args.core.now c.args.chip.now (g.K.Sink.holds c.args.sink.now) c.new-replay.result c.requires.new c.requires.chip c.requires.plan (replay-none c.args.chip.now.chip.effects c.new-replay.result c.new-replay.ensures) (ap (λ (r : Replayed). r.at) c.new-replay.ensures),
       ended-none c.args.core.now c.args.chip.now c.requires.new,
       refl,
+      told-none c.new-told.result c.args.core.now.log.taken c.new-told.ensures.rows c.new-told.ensures.count,
     )
 
 pub run_round-requires-clause-read : goal.run_round-requires-clause-read
@@ -66,6 +68,7 @@ loop-round-preserved-in-Done g c =
       more.0,
       more.1,
       c.run_round.ensures.fails ∙ c.loop-round.invariant.7,
+      c.run_round.ensures.told,
     )
 
 pub loop-round-preserved : goal.loop-round-preserved
@@ -85,6 +88,7 @@ loop-round-preserved g c =
       more.0,
       more.1,
       c.run_round.ensures.fails ∙ c.loop-round.invariant.7,
+      c.run_round.ensures.told,
     )
 
 pub returns-clause-session : goal.returns-clause-session
