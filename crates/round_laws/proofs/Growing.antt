@@ -1,6 +1,6 @@
 -- steps only add to the log and to the effects
-use Rattle.std.proofs.Common.{◌≡◌, ◌∷◌, ◌++◌, ◌∙◌, inl, inr, ℕ, List, [], length, Option, refl, sym, ap}
-use Rattle.std.proofs.lemmas.List.{append-nil, append_assoc}
+use Rattle.std.proofs.Common.{◌≡◌, ◌+◌, ◌≤◌, ◌∷◌, ◌++◌, ◌∙◌, inl, inr, ℕ, List, [], length, Option, None, Some, refl, sym, ap, arith}
+use Rattle.std.proofs.lemmas.List.{append-nil, append_assoc, length-append}
 use Rattle.table_schema.specs.Plan.{Ports}
 use Rattle.table_schema.specs.declared.write.Sent.{Sent}
 use Rattle.sai_types.specs.declared.ids.Rid.{Rid}
@@ -8,8 +8,11 @@ use Rattle.sai_types.specs.declared.body.Call.{Call}
 use Rattle.sai_types.specs.ChipState.{ChipState}
 use Rattle.switch_model.specs.History.{History, with_end, with_mark, with_write}
 use Rattle.switch_model.specs.declared.mark.Mark.{Mark}
-use Rattle.switch_machine.specs.Events.{with_made_call}
+use Rattle.switch_machine.specs.Events.{AreEvents, IsEvent, SwitchState, calls_of, with_made_call}
 use Rattle.machine_laws.specs.Logged.{IsLoggedEvent}
+use Rattle.machine_laws.proofs.Turning.{TakeNothing}
+use Rattle.warm_state.specs.declared.warm.Warm.{Warm}
+use Rattle.warm_state.specs.declared.warm.Warm.TheVariants as warm
 use Rattle.restart_laws.specs.Logged.{AddsFault, AreLoggedSteps, IsLoggedStep, LoggedService, OfMachine, OfService, Records, session_after, switch_of}
 use Rattle.restart_laws.specs.Service.{IsServiceEvent, OfApply, OfFault, OfFinish, OfList, OfListFault, OfRestart, OfRestore, OfTake, OfWork}
 use Rattle.session_laws.specs.Core.{CoreState}
@@ -115,6 +118,93 @@ module _ (plan : Ports) (capacities : List ℕ) where
           ends = more_list s.log.ends t.log.ends u.log.ends x.log.later y.log.later x.log.ends y.log.ends;
         };
       }
+
+-- ---- steps that log nothing
+
+-- how many writes and marks a log has
+abbrev entries : History → ℕ
+entries h = length h.taken + length h.marks
+
+longer : (g h : History) → LogGrows g h → entries g ≤ entries h
+longer g h x =
+    let taken = ap length x.taken ∙ length-append g.taken x.sent in
+    let marks = ap length x.marks ∙ length-append g.marks x.more in
+    omega (arith, taken, marks)
+
+write_longer : (g h : History) (sent : Sent) → h ≡ with_write g sent → entries h ≤ entries g → ⊥
+write_longer g h sent e short =
+    let taken = ap (λ (z : History). length z.taken) e ∙ length-append g.taken (sent ∷ []) in
+    let marks = ap (λ (z : History). length z.marks) e in
+    omega (arith, taken, marks, short)
+
+mark_longer : (g h : History) (mark : Mark) → h.taken ≡ g.taken → h.marks ≡ g.marks ++ mark ∷ [] → entries h ≤ entries g → ⊥
+mark_longer g h mark same e short =
+    let taken = ap length same in
+    let longer = ap length e ∙ length-append g.marks (mark ∷ []) in
+    omega (arith, taken, longer, short)
+
+fault_longer : (s t : LoggedService) → AddsFault s t → entries t.log ≤ entries s.log → ⊥
+fault_longer s t (before, after, less, inl e) short = mark_longer s.log t.log _ (ap (λ (z : History). z.taken) e) (ap (λ (z : History). z.marks) e) short
+fault_longer s t (before, after, less, inr e) short = mark_longer s.log t.log _ (ap (λ (z : History). z.taken) e) (ap (λ (z : History). z.marks) e) short
+
+reconciled_alone : (w other : Warm) → w ≡ other → w ≡ warm.Reconciled → (other ≡ warm.Reconciled → ⊥) → ⊥
+reconciled_alone w other is at apart = apart (sym is ∙ at)
+
+made_front : (c : Option (Call Rid)) (calls es : List (Call Rid)) → (es ++ with_made_call c []) ++ calls ≡ es ++ with_made_call c calls
+made_front None calls es = ap (λ z. z ++ calls) (append-nil es)
+made_front (Some call) calls es = append_assoc es (call ∷ []) calls
+
+module _ (plan : Ports) (capacities : List ℕ) where
+  -- an event of the service that is none of the machine logs something, or does not come while the core is reconciled
+  service_logs : (s t : LoggedService) → s.service.warm ≡ warm.Reconciled → entries t.log ≤ entries s.log → (c : Option (Call Rid)) (e : IsServiceEvent plan 4 capacities s.service c t.service) → Records s t e → ⊥
+  service_logs s t at short _ (OfTake _ x) (sent, same, log) = write_longer s.log t.log sent log short
+  service_logs s t at short _ (OfWork c _ x) records = records
+  service_logs s t at short _ (OfFault c _ x) records = fault_longer s t records short
+  service_logs s t at short _ (OfListFault _ x) records = reconciled_alone s.service.warm warm.Initialized x.before at (λ h. cc)
+  service_logs s t at short _ (OfRestart _ x) records = mark_longer s.log t.log _ (ap (λ (z : History). z.taken) records) (ap (λ (z : History). z.marks) records) short
+  service_logs s t at short _ (OfList _ x) records = reconciled_alone s.service.warm warm.Initialized x.before at (λ h. cc)
+  service_logs s t at short _ (OfRestore _ x) records = mark_longer s.log t.log _ (ap (λ (z : History). z.taken) records) (ap (λ (z : History). z.marks) records) short
+  service_logs s t at short _ (OfApply call _ x) records = reconciled_alone s.service.warm warm.Applying x.before at (λ h. cc)
+  service_logs s t at short _ (OfFinish _ x) records = mark_longer s.log t.log _ (ap (λ (z : History). z.taken) records) (ap (λ (z : History). z.marks) records) short
+
+  -- one that logs nothing is an event of the machine that takes no write
+  record UnloggedStep (s t : LoggedService) : Type 0 where
+    call : Option (Call Rid)
+    event : IsEvent plan 4 capacities s.service.core call t.service.core
+    taken : t.service.core.written.taken ≡ s.service.core.written.taken
+    effects : t.effects ≡ s.effects ++ with_made_call call []
+    warm : t.service.warm ≡ warm.Reconciled
+
+  unlogged_step : (s t : LoggedService) → s.service.warm ≡ warm.Reconciled → entries t.log ≤ entries s.log → IsLoggedStep plan 4 capacities s t → UnloggedStep s t
+  unlogged_step s t at short (OfMachine before after (inl x)) = absurd (write_longer s.log t.log x.sent x.log short)
+  unlogged_step s t at short (OfMachine before after (inr (inl x))) = record { call = x.call; event = x.event; taken = x.taken; effects = x.effects; warm = after }
+  unlogged_step s t at short (OfMachine before after (inr (inr x))) = absurd (mark_longer s.log t.log _ (ap (λ (z : History). z.taken) x.log) (ap (λ (z : History). z.marks) x.log) short)
+  unlogged_step s t at short (OfService c e effects records) = absurd (service_logs s t at short c e records)
+
+  -- steps that log nothing are events of the machine that take no write
+  pub record Unlogged (s t : LoggedService) : Type 0 where
+    pub events : List (Option (Call Rid) × SwitchState)
+    pub are : AreEvents plan 4 capacities s.service.core events
+    pub takeless : TakeNothing plan 4 capacities s.service.core events
+    pub grown : t.effects ≡ s.effects ++ calls_of events
+
+  unlogged_steps : (s : LoggedService) (ts : List LoggedService) → s.service.warm ≡ warm.Reconciled → entries (session_after s ts).log ≤ entries s.log → AreLoggedSteps plan 4 capacities s ts → Unlogged s (session_after s ts)
+  unlogged_steps s [] at short run = record { events = []; are = tt; takeless = tt; grown = sym (append-nil s.effects) }
+  unlogged_steps s (t ∷ ts) at short run =
+      let u = session_after t ts in
+      let head = longer s.log t.log (step_grows plan capacities s t run.0).log in
+      let tail = longer t.log u.log (steps_grow plan capacities t ts run.1).log in
+      let one = unlogged_step s t at (omega (arith, tail, short)) run.0 in
+      let more = unlogged_steps t ts one.warm (omega (arith, head, short)) run.1 in
+      record {
+        events = (one.call, t.service.core) ∷ more.events;
+        are = (one.event, more.are);
+        takeless = (one.taken, more.takeless);
+        grown = more.grown ∙ ap (λ z. z ++ calls_of more.events) one.effects ∙ made_front one.call (calls_of more.events) s.effects;
+      }
+
+  pub unlogged : (s : LoggedService) (ts : List LoggedService) → s.service.warm ≡ warm.Reconciled → (session_after s ts).log ≡ s.log → AreLoggedSteps plan 4 capacities s ts → Unlogged s (session_after s ts)
+  unlogged s ts at same run = unlogged_steps s ts at (let one = ap entries same in omega (arith, one)) run
 
 module _ (c c' : CoreState) (chip chip' : ChipState) (x : InSession c chip) (y : MakesMore c x.session c' chip') where
   grown : Grows x.session (session_after x.session y.steps)

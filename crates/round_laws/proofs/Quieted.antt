@@ -1,5 +1,6 @@
 -- a round leaves quiet rows alone
-use Rattle.std.proofs.Common.{◌≡◌, ◌∷◌, ◌∙◌, inl, inr, ℕ, List, [], length, Option, None, Some, refl, sym, ap, subst}
+use Rattle.std.proofs.Common.{◌≡◌, ◌∷◌, ◌++◌, ◌∙◌, inl, inr, ℕ, List, [], length, Option, None, Some, refl, sym, ap, subst}
+use Rattle.std.proofs.lemmas.List.{append_cancel_left}
 use Rattle.std.proofs.lemmas.Option.{same_Some}
 use Rattle.table_schema.specs.Plan.{IsPlan, Ports}
 use Rattle.table_schema.specs.declared.key.Key.{Key}
@@ -15,9 +16,10 @@ use Rattle.sai_types.specs.Named.{thing_of}
 use Rattle.sai_types.specs.Objects.{Objects, body_at}
 use Rattle.sai_types.proofs.Exact.{entry-exact}
 use Rattle.switch_model.specs.Things.{things_of}
+use Rattle.switch_model.specs.declared.mark.Mark.{Mark}
 use Rattle.chip_layout.specs.Layout.{listed}
 use Rattle.chip_layout.proofs.Naming.{thing-laid}
-use Rattle.switch_machine.specs.Events.{AreEvents, IsEvent, IsQuiet, IsSafe, SwitchState}
+use Rattle.switch_machine.specs.Events.{AreEvents, IsEvent, IsQuiet, IsSafe, SwitchState, calls_of}
 use Rattle.switch_machine.specs.Written.{HasNoWrite}
 use Rattle.switch_machine.proofs.Resting.{grouped}
 use Rattle.switch_machine.proofs.Tabled.{tabled}
@@ -25,12 +27,15 @@ use Rattle.machine_laws.specs.Logged.{ArePops, after_pops}
 use Rattle.machine_laws.specs.Quiet.{NamesNot, EntryStandsFor, TakesNoWriteOf}
 use Rattle.machine_laws.proofs.Turning.{Leads, TakeNothing, both, turns-lead}
 use Rattle.machine_laws.proofs.Unnamed.{one_more_differs, unnamed-rows}
+use Rattle.restart_laws.specs.Logged.{session_after}
 use Rattle.session_laws.specs.Core.{CoreState}
+use Rattle.restart_session_laws.specs.Events.{MakesMore}
 use Rattle.settling_laws.specs.Leading.{SettlesTo}
-use Rattle.round_laws.specs.Between.{IsInRound}
+use Rattle.round_laws.specs.Between.{IsInRound, round_from}
 use Rattle.round_laws.specs.Quiet.{LeavesQuietRows, StandsForRow}
+use Rattle.round_laws.proofs.Growing.{Unlogged, unlogged}
 use Rattle.round_laws.proofs.Sessions.{objects-left}
-use Rattle.round_laws.proofs.Turned.{before, round-rows, round-synced, round-unnamed, s, same-switch, settling-quiet, settling-safe, the-round}
+use Rattle.round_laws.proofs.Turned.{before, round-quiet, round-rows, round-safe, round-synced, round-unnamed, round-warm, s, same-switch, settling-quiet, settling-safe, the-round}
 
 -- ---- a settling's events take no write
 
@@ -104,3 +109,34 @@ module _ (old c c' : CoreState) (chip chip' : ChipState) (sent : List Sent) (x :
       (λ w f flying is. settling-quiet old c c' chip chip' sent x y w f flying)
       (λ i. other (inl (x.began.to_sync k (round-synced old c chip sent x k (subst (λ (z : SwitchState). IsIn k z.to_sync) same i)))))
       there).2 call (subst (IsIn call) (sym events.calls_are) called)
+
+-- ---- of a round so far
+
+module _ (old c c' : CoreState) (chip chip' : ChipState) (sent : List Sent) (x : IsInRound old chip sent c) (y : MakesMore c x.within.session c' chip') (log : c'.log ≡ c.log) where
+  abbrev start : SwitchState
+  start = x.within.session.service.core
+
+  same_session : (session_after x.within.session y.steps).log ≡ x.within.session.log
+  same_session = y.stands.always.log ∙ log ∙ sym x.within.stands.always.log
+
+  run : Unlogged c.board.plan c.sync.capacities x.within.session (session_after x.within.session y.steps)
+  run = unlogged c.board.plan c.sync.capacities x.within.session y.steps (x.within.stands.always.warm_is ∙ round-warm old c chip sent x) same_session y.are
+
+  module _ (calls : List (Call Rid)) (grown : chip'.effects ≡ chip.effects ++ calls) where
+    same_calls : calls ≡ calls_of run.events
+    same_calls =
+        append_cancel_left chip.effects calls (calls_of run.events)
+        (sym grown ∙ sym y.stands.always.effects ∙ run.grown ∙ ap (λ l. l ++ calls_of run.events) x.within.stands.always.effects)
+
+    -- where nothing is logged no call changes what stood for the row of a key that the round does not try, whatever mark would end it
+    pub quiet-so-far : (mark : Mark) → LeavesQuietRows c.board.plan (round_from old chip sent calls mark)
+    quiet-so-far mark k row e at other stood call called =
+        let safe = round-safe old c chip sent x in
+        let quiet = round-quiet old c chip sent x in
+        let rows = round-rows old c chip sent x k ∙ at in
+        let there = stands-for c.board.plan x.within.stands.always.plan c.sync.capacities start safe quiet (chip_after chip.effects (length chip.effects)) k row e (x.within.stands.always.objects ∙ objects-left c chip x.within) rows stood in
+        (unnamed-rows c.board.plan x.within.stands.always.plan 4 c.sync.capacities k start run.events e safe run.are (names_not c.board.plan c.sync.capacities k start run.events run.are run.takeless)
+        (round-unnamed old c chip sent x k (λ i. other (inr i)))
+        (λ w f flying is. quiet w f flying)
+        (λ i. other (inl (x.began.to_sync k (round-synced old c chip sent x k i))))
+        there).2 call (subst (IsIn call) same_calls called)

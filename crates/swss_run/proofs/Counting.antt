@@ -6,10 +6,11 @@ use Rattle.switch_model.specs.Sound.{is_fault, is_suspect}
 use Rattle.switch_model.specs.declared.mark.Mark.{Mark}
 use Rattle.switch_model.specs.declared.mark.MarkEvent.{MarkEvent}
 use Rattle.switch_model.specs.declared.mark.MarkEvent.TheVariants as event
-use Rattle.machine_laws.specs.Order.{AreMarksInOrder, MayEndRound, MayFollow}
+use Rattle.machine_laws.specs.Order.{AreMarksInOrder, IsSettledMark, MayEndRound, MayFollow}
 use Rattle.restart_laws.specs.Logged.{IsLeftIn, IsWarmAfter, last_mark}
 use Rattle.warm_state.specs.declared.warm.Warm.{Warm}
 use Rattle.warm_state.specs.declared.warm.Warm.TheVariants as warm
+use Rattle.round_laws.specs.Ended.{LeavesSettled}
 use Rattle.orch_core.specs.ComingBack.{AreOnWay, restarts_at, restarts_due, restarts_marked}
 use Rattle.orch_core.proofs.Coming.{restarts_both}
 use Rattle.swss_script.specs.Sent.{restarts_in}
@@ -74,6 +75,22 @@ fault-by (Some last) w left at = (last, refl, fault-left last.event w left at)
 -- the last mark of a suspect core is that of a fault
 pub suspect-now : (marks : List Mark) (w : Warm) → IsWarmAfter (last_mark None marks) w → w ≡ warm.Suspect → is_suspect marks ≡ true
 suspect-now marks w left at = let x = fault-by (last_mark None marks) w left at in suspect-at marks x.0 x.1 ∙ x.2
+
+-- it is then no mark of a settling that ended
+fault_unsettled : (e : MarkEvent) → is_fault e ≡ true → IsSettledMark e → ⊥
+fault_unsettled (event.Settled waits turns) bad h = cc
+fault_unsettled (event.Faulted before after) bad h = h
+fault_unsettled event.Restarted bad h = h
+fault_unsettled (event.ApplyBegan mode waits) bad h = h
+fault_unsettled event.ApplyEnded bad h = h
+
+unsettled-by : (first : Mark) (marks : List Mark) → is_suspect (first ∷ marks) ≡ true → LeavesSettled (last_mark (Some first) marks) → ⊥
+unsettled-by first [] bad h = fault_unsettled first.event bad h
+unsettled-by first (next ∷ marks) bad h = unsettled-by next marks bad h
+
+pub unsettled : (marks : List Mark) → is_suspect marks ≡ true → LeavesSettled (last_mark None marks) → ⊥
+unsettled [] bad h = cc
+unsettled (mark ∷ marks) bad h = unsettled-by mark marks bad h
 
 restart-left : (e : MarkEvent) (w : Warm) → IsLeftIn e w → w ≡ warm.Initialized → restarts_at e ≡ 1
 restart-left event.Restarted w left at = refl

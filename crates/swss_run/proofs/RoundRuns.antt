@@ -1,7 +1,7 @@
 -- what a round comes to, from its acts and its settling
 use Rattle.std.proofs.Common.{◌≡◌, ◌⊎◌, inl, inr, ℕ, ◌+◌, ◌-◌, ◌<◌, ◌≤◌, true, List, [], ◌∷◌, ◌++◌, length, drop, Option, Result, Ok, Err, refl, sym, ap, ◌∙◌, subst, arith}
 use Rattle.std.proofs.Math.Seq.{drop-append_seam}
-use Rattle.std.proofs.lemmas.List.{append-nil, length-append}
+use Rattle.std.proofs.lemmas.List.{append-nil, length-append, nil_from_length}
 use Rattle.swss_types.specs.declared.out_of_memory.OutOfMemory.{OutOfMemory}
 use Rattle.table_schema.specs.Plan.{Ports}
 use Rattle.table_schema.specs.Rows.{Rows, rows_of}
@@ -17,6 +17,8 @@ use Rattle.sai_chip.specs.Sim.{Sim}
 use Rattle.switch_model.specs.History.{History, log_size, with_end, with_mark}
 use Rattle.switch_model.specs.Marks.{sent_writes}
 use Rattle.switch_model.specs.declared.mark.Mark.{Mark}
+use Rattle.switch_model.specs.declared.mark.MarkEvent.{MarkEvent}
+use Rattle.switch_model.specs.declared.mark.MarkEvent.TheVariants as event
 use Rattle.machine_laws.specs.Order.{MayEndRound}
 use Rattle.producer_table.specs.Pending.{ArePendingInOrder}
 use Rattle.flight_board.specs.Board.{BoardState}
@@ -26,14 +28,18 @@ use Rattle.warm_state.specs.declared.warm.Warm.TheVariants as warm
 use Rattle.session_laws.specs.Core.{CoreState, IsFullFor, size_beside}
 use Rattle.restart_session_laws.specs.Events.{MakesMore}
 use Rattle.restart_session_laws.specs.Standing.{IsServiceOf}
-use Rattle.round_laws.specs.Between.{IsInRound, round_from}
+use Rattle.round_laws.specs.Between.{IsInRound, mark_of, round_from}
+use Rattle.round_laws.specs.Ended.{LeavesSettled}
+use Rattle.round_laws.specs.Named.{keys_named}
+use Rattle.round_laws.specs.Quiet.{LeavesQuietRows}
 use Rattle.round_laws.specs.Sessions.{InSession}
 use Rattle.round_laws.proofs.Between.{round-begins}
 use Rattle.round_laws.proofs.Drained.{round-drained}
 use Rattle.round_laws.proofs.Ending.{round-ends}
 use Rattle.round_laws.proofs.Growing.{effects-grow, marks-grow, taken-grow}
+use Rattle.round_laws.proofs.Quieted.{quiet-so-far}
 use Rattle.round_laws.proofs.Sessions.{objects-left, sized, warm-after}
-use Rattle.orch_core.specs.ComingBack.{Back, SettlesFrom, Stopped, is_unrestored, restarts_due, restarts_marked}
+use Rattle.orch_core.specs.ComingBack.{Back, SettlesFrom, Stopped, is_unrestored, restarts_at, restarts_due, restarts_marked}
 use Rattle.orch_core.specs.Outcomes.{IsWithinLimit}
 use Rattle.orch_core.specs.Settled.{Settles, SettlesWhole}
 use Rattle.orch_core.specs.declared.answer.Settled.{Settled}
@@ -51,22 +57,22 @@ use Rattle.swss_run.specs.Faults.{FaultsRise}
 use Rattle.swss_run.specs.Full.{IsFull}
 use Rattle.swss_run.specs.Full.IsFull.{AtRestart, AtWrite}
 use Rattle.swss_run.specs.Rounds.{Ran}
-use Rattle.swss_run.specs.Running.{HasCome, HasLines, IsRunReady, IsRoundRun, IsWritten, KeepsPlan, StopsRound, round_ended}
+use Rattle.swss_run.specs.Running.{HasCome, HasLines, IsRunReady, IsRoundRun, IsWritten, KeepsPlan, StopsQuietly, StopsRound, round_ended}
 use Rattle.swss_run.specs.Running.IsWritten.{Whole, Failed, Wanting, Unwritten}
 use Rattle.swss_run.specs.Taking.{HaveReadKeys, IsRoundMade, StaysWithin, acts_in, acts_made, restarts_made, writes_among, with_made}
 use Rattle.swss_run.specs.Told.{IsToldOf}
-use Rattle.swss_run.specs.Turned.{EndsTurned}
+use Rattle.swss_run.specs.Turned.{EndsTurned, IsSinceQuiet, round_at}
 use Rattle.swss_run.specs.declared.status.Status.{Status}
 use Rattle.swss_run.specs.declared.status.Status.TheVariants as status
 use Rattle.swss_run.specs.declared.taking.Taken.TheVariants as taken
 use Rattle.swss_run.specs.declared.told.Told.{Told}
 use Rattle.swss_run.proofs.Acts.{restarts-front, restarts-made, sent-front, sent-made}
 use Rattle.swss_run.proofs.CameBack.{ends-over, ends-stopped, from-over, from-stopped}
-use Rattle.swss_run.proofs.Counting.{HasRestarted, suspect-now}
+use Rattle.swss_run.proofs.Counting.{HasRestarted, suspect-now, unsettled}
 use Rattle.swss_run.proofs.Given.{AreOnSwitch, on-front, on-round}
 use Rattle.swss_run.proofs.OnWay.{come-made, since_made}
 use Rattle.swss_run.proofs.Over.{IsEndedAs, IsOver, alone, drained_none, over-settled}
-use Rattle.swss_run.proofs.Settling.{IsFullStop, IsStopped}
+use Rattle.swss_run.proofs.Settling.{IsStopped}
 use Rattle.swss_run.proofs.Tables.{HasMade, in-round, made-all, made-none, told-more}
 
 -- ---- whatever a settling came to
@@ -105,6 +111,34 @@ text-as shows lines p p' n n' ms ms' t t' r r' c c' o o' e e' b b' ps ns mss ts 
     (subst (λ x. IsRoundText (record { plan = p; number = n; marks = ms; taken = t; rows = r; capacities = c; objects = o; effects = e }) x shows lines) bs text))))))))
 
 -- ---- a round
+
+-- a round that stopped with a full log, and left quiet rows alone
+abbrev IsFullRun : Round → CoreState → Sim → CoreState → Sim → Type 0
+IsFullRun round old sim new sim' =
+    (stops : StopsQuietly round old sim new sim') × IsFull new.board.plan new.sync.capacities new.limit round new.log sim'.chip stops.0.since × (new.limit < log_size new.log (length sim'.chip.effects) + 2 + length (keys_named new.log.taken))
+
+-- there are no more restarts than marks
+few_restarts : (e : MarkEvent) → restarts_at e ≤ 1
+few_restarts event.Restarted = omega arith
+few_restarts (event.Settled waits turns) = omega arith
+few_restarts (event.Faulted before after) = omega arith
+few_restarts (event.ApplyBegan mode waits) = omega arith
+few_restarts event.ApplyEnded = omega arith
+
+restarts_few : (marks : List Mark) → restarts_marked marks ≤ length marks
+restarts_few [] = omega arith
+restarts_few (mark ∷ marks) = let one = few_restarts mark.event in let rest = restarts_few marks in omega (arith, one, rest)
+
+-- the front of a list that grew is all of it, where the whole is behind it
+front_all : (xs ys zs rest more : List Sent) → ys ≡ zs ++ rest → xs ++ zs ≡ (xs ++ ys) ++ more → ys ≡ zs
+front_all xs ys zs rest more split grown = split ∙ ap (λ l. zs ++ l) none ∙ append-nil zs
+  where
+    none : rest ≡ []
+    none =
+        let front = ap length split ∙ length-append zs rest in
+        let now = sym (length-append xs zs) ∙ ap length grown ∙ length-append (xs ++ ys) more in
+        let then = length-append xs ys in
+        nil_from_length rest (omega (arith, front, now, then))
 
 module _ (round : Round) (old : CoreState) (sim : Sim) (replay : Replayed) (ready : IsRunReady old sim replay) (read : HaveReadKeys (writes_in round.sections)) (mid : CoreState) (effects : ℕ) (count_is : effects ≡ length sim.chip.effects) (stays : StaysWithin effects old mid) where
   -- the log is within its limit before the acts, and after some of them
@@ -152,12 +186,16 @@ module _ (round : Round) (old : CoreState) (sim : Sim) (replay : Replayed) (read
       come = come-then;
     }
 
-  pub stops-wanting : IsRoundMade effects (acts_in round.sections) old taken.NoMemory mid → StopsRound round old sim mid sim
-  stops-wanting (counts, (done, later, split, is)) = stops_then done later split is
+    -- no call was made
+    quiet_then : IsSinceQuiet old.board.plan (mark_of old) old.log.taken sim.chip.effects since_then
+    quiet_then none settled mark k row e at other stood call called changes = called
+
+  pub stops-wanting : IsRoundMade effects (acts_in round.sections) old taken.NoMemory mid → StopsQuietly round old sim mid sim
+  stops-wanting (counts, (done, later, split, is)) = (stops_then done later split is, quiet_then done later split is)
 
   -- what is told stays so
-  pub told-stopped : (t : Told) → IsToldOf t old.log.taken → StopsRound round old sim mid sim → IsToldOf t mid.log.taken
-  told-stopped t told stop = told-more t old.log.taken stop.since.sent mid.log.taken told (ap (λ (h : History). h.taken) stop.come.log)
+  pub told-stopped : (t : Told) → IsToldOf t old.log.taken → StopsQuietly round old sim mid sim → IsToldOf t mid.log.taken
+  told-stopped t told stop = told-more t old.log.taken stop.0.since.sent mid.log.taken told (ap (λ (h : History). h.taken) stop.0.come.log)
 
   -- the next act has no place
   module _ (done : List (ℕ × Act)) (producer : ℕ) (later : List (ℕ × Act)) (full : IsFullFor mid effects 1) where
@@ -176,12 +214,12 @@ module _ (round : Round) (old : CoreState) (sim : Sim) (replay : Replayed) (read
         let count = (has-then done ((producer, act.Restart) ∷ later) split is).count in
         AtRestart (omega (arith, all, count)) (short (has-then done ((producer, act.Restart) ∷ later) split is).within)
 
-    pub full_at : (a : Act) (split : acts_in round.sections ≡ done ++ (producer, a) ∷ later) (is : mid ≡ with_made effects old (acts_made [] done)) → IsFullStop round old sim mid sim
+    pub full_at : (a : Act) (split : acts_in round.sections ≡ done ++ (producer, a) ∷ later) (is : mid ≡ with_made effects old (acts_made [] done)) → IsFullRun round old sim mid sim
     full_at a split is =
         let lack = short (has-then done ((producer, a) ∷ later) split is).within in
-        (stops_then done ((producer, a) ∷ later) split is, full_act a split is, omega (arith, lack))
+        ((stops_then done ((producer, a) ∷ later) split is, quiet_then done ((producer, a) ∷ later) split is), full_act a split is, omega (arith, lack))
 
-  pub full-taking : IsRoundMade effects (acts_in round.sections) old taken.LogFull mid → IsFullStop round old sim mid sim
+  pub full-taking : IsRoundMade effects (acts_in round.sections) old taken.LogFull mid → IsFullRun round old sim mid sim
   full-taking (counts, (done, (producer, a), later, split, is, full)) = full_at done producer later full a split is
 
   -- after all of its acts
@@ -337,6 +375,63 @@ module _ (round : Round) (old : CoreState) (sim : Sim) (replay : Replayed) (read
           plain-stopped none alike at r ended same (settles_as_ever x.within.session mid sim.chip new sim'.chip r (alike ∙ at) (e x.within.session x.within.stands)))
           (λ some out. from-stopped round old sim since_all mid sim.chip come_all sent_all restarted_all new sim' some out r ended same (e come_all.within.session come_all.within.stands))
 
+      -- it leaves quiet rows alone: where no mark was made, it neither restarted nor follows a fault, and so its calls are those of a settling as ever
+      module _ (r : Result Settled OutOfMemory) (e : SettlesSo r) (stops : StopsRound round old sim new sim') (empty : stops.since.marks ≡ []) (settled : LeavesSettled (mark_of old)) where
+        marks_same : length new.log.marks ≡ length old.log.marks
+        marks_same = ap (λ (h : History). length h.marks) stops.come.log ∙ ap (λ l. length (old.log.marks ++ l)) empty ∙ ap length (append-nil old.log.marks)
+
+        unrestarted : 1 ≤ restarts_then (acts_in round.sections) [] none_left is → ⊥
+        unrestarted some =
+            let longer = length-append old.log.marks since_all.marks in
+            let made : length mid.log.marks ≡ length (old.log.marks ++ since_all.marks) = ap (λ (h : History). length h.marks) come_all.log in
+            let grown = marks-grow mid new sim.chip sim'.chip in-all (settle_serves in-all.session mid sim.chip r new sim'.chip (e in-all.session in-all.stands)) in
+            let later = ap length grown.1 ∙ length-append mid.log.marks grown.0 in
+            let few = restarts_few since_all.marks in
+            let count = has_all.count in
+            let same = marks_same in
+            omega (arith, some, longer, made, later, few, count, same)
+
+        module _ (none : restarts_then (acts_in round.sections) [] none_left is ≡ 0) (same : mid.warm ≡ old.warm) (at : old.warm ≡ warm.Reconciled) where
+          begun : IsInRound old sim.chip all_sent mid
+          begun = alike none same at
+
+          more : MakesMore mid begun.within.session new sim'.chip
+          more = settle_serves begun.within.session mid sim.chip r new sim'.chip (e begun.within.session begun.within.stands)
+
+          taken_by : new.log.taken ≡ mid.log.taken ++ (taken-grow mid new sim.chip sim'.chip begun.within more).0
+          taken_by = (taken-grow mid new sim.chip sim'.chip begun.within more).1
+
+          sent_is : all_sent ≡ stops.since.sent
+          sent_is =
+              front_all old.log.taken all_sent stops.since.sent stops.rest (taken-grow mid new sim.chip sim'.chip begun.within more).0
+              (sent_all ∙ stops.front)
+              (sym (ap (λ (h : History). h.taken) stops.come.log) ∙ taken_by ∙ ap (λ (h : History). h.taken ++ (taken-grow mid new sim.chip sim'.chip begun.within more).0) begun.log)
+
+          log_same : new.log ≡ mid.log
+          log_same =
+              stops.come.log
+              ∙ ap (λ l. record { taken = old.log.taken ++ l; marks = old.log.marks ++ stops.since.marks; ends = old.log.ends }) (sym sent_is)
+              ∙ ap (λ l. record { taken = old.log.taken ++ all_sent; marks = old.log.marks ++ l; ends = old.log.ends }) empty
+              ∙ ap (λ l. record { taken = old.log.taken ++ all_sent; marks = l; ends = old.log.ends }) (append-nil old.log.marks)
+              ∙ sym begun.log
+
+          quiet_plain : (mark : Mark) → LeavesQuietRows old.board.plan (round_at (mark_of old) old.log.taken sim.chip.effects stops.since mark)
+          quiet_plain mark =
+              subst (λ l. LeavesQuietRows old.board.plan (record { before = mark_of old; taken = old.log.taken; effects = sim.chip.effects; sent = l; calls = stops.since.calls; mark = mark })) sent_is
+              (subst (λ (b : BoardState). LeavesQuietRows b.plan (round_from old sim.chip all_sent stops.since.calls mark)) begun.board
+              (quiet-so-far old mid new sim.chip sim'.chip all_sent begun more log_same stops.since.calls stops.come.calls mark))
+
+        quiet_by : (mark : Mark) → LeavesQuietRows old.board.plan (round_at (mark_of old) old.log.taken sim.chip.effects stops.since mark)
+        quiet_by mark = by has_all.warm ready.ready.warm
+          where
+            by : ((restarts_then (acts_in round.sections) [] none_left is ≡ 0) × (mid.warm ≡ old.warm)) ⊎ ((1 ≤ restarts_then (acts_in round.sections) [] none_left is) × (mid.warm ≡ warm.Initialized)) → (old.warm ≡ warm.Reconciled) ⊎ (old.warm ≡ warm.Suspect) → LeavesQuietRows old.board.plan (round_at (mark_of old) old.log.taken sim.chip.effects stops.since mark)
+            by (inl (none, same)) (inl at) = quiet_plain none same at mark
+            by (inl (none, same)) (inr at) = absurd (unsettled old.log.marks (suspect-now old.log.marks old.warm (warm-after old sim.chip ready.ready.within) at) settled)
+            by (inr (some, at)) warms = absurd (unrestarted some)
+
+      pub run-quiet : (r : Result Settled OutOfMemory) → SettlesSo r → (stops : StopsRound round old sim new sim') → IsSinceQuiet old.board.plan (mark_of old) old.log.taken sim.chip.effects stops.since
+      run-quiet r e stops empty settled mark = quiet_by r e stops empty settled mark
+
       -- steps of the service led there
       pub more-all : (r : Result Settled OutOfMemory) → SettlesSo r → MakesMore mid in-all.session new sim'.chip
       more-all r e = settle_serves in-all.session mid sim.chip r new sim'.chip (e in-all.session in-all.stands)
@@ -344,9 +439,9 @@ module _ (round : Round) (old : CoreState) (sim : Sim) (replay : Replayed) (read
 -- ---- what is written
 
 -- a round that did not end writes nothing
-pub run-halted : (round : Round) (old : CoreState) (sim : Sim) (new : CoreState) (sim' : Sim) (ended : Status) (number : ℕ) (held : Option (List ℕ)) (faults : ℕ) (replay' : Replayed) → IsStopped round old sim ended new sim' → IsRoundRun number round old sim held faults ended new sim' replay' held faults
-run-halted round old sim new sim' ended number held faults replay' (inl (same, (stops, full, many))) = subst (λ x. IsRoundRun number round old sim held faults x new sim' replay' held faults) (sym same) (stops, full, many, refl)
-run-halted round old sim new sim' ended number held faults replay' (inr (same, stops)) = subst (λ x. IsRoundRun number round old sim held faults x new sim' replay' held faults) (sym same) (inl (stops, refl))
+pub run-halted : (round : Round) (old : CoreState) (sim : Sim) (new : CoreState) (sim' : Sim) (ended : Status) (number : ℕ) (held : Option (List ℕ)) (faults : ℕ) (replay' : Replayed) → IsStopped round old sim ended new sim' → ((stops : StopsRound round old sim new sim') → IsSinceQuiet old.board.plan (mark_of old) old.log.taken sim.chip.effects stops.since) → IsRoundRun number round old sim held faults ended new sim' replay' held faults
+run-halted round old sim new sim' ended number held faults replay' (inl (same, (stops, full, many))) quiet = subst (λ x. IsRoundRun number round old sim held faults x new sim' replay' held faults) (sym same) ((stops, quiet stops), full, many, refl)
+run-halted round old sim new sim' ended number held faults replay' (inr (same, stops)) quiet = subst (λ x. IsRoundRun number round old sim held faults x new sim' replay' held faults) (sym same) (inl ((stops, quiet stops), refl))
 
 module _ (round : Round) (old : CoreState) (sim : Sim) (replay : Replayed) (ready : IsRunReady old sim replay) (ended : Status) (new : CoreState) (sim' : Sim) (over : IsOver round old sim ended new sim') where
   -- what stands when the round has ended, as its lines are asked for

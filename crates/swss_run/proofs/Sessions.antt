@@ -5,6 +5,7 @@ use Rattle.std.proofs.lemmas.Bool.{false≢true}
 use Rattle.std.proofs.lemmas.List.{append-nil, length-append}
 use Rattle.swss_types.specs.Outside.{Takes}
 use Rattle.table_schema.specs.Plan.{IsPlan, Ports}
+use Rattle.table_schema.specs.declared.write.Sent.{Sent}
 use Rattle.sai_types.specs.ChipState.{ChipState, new_chip}
 use Rattle.sai_types.specs.declared.ids.Rid.{Rid}
 use Rattle.sai_types.specs.declared.body.Call.{Call}
@@ -14,6 +15,7 @@ use Rattle.sai_chip.specs.Sim.{Sim}
 use Rattle.switch_model.specs.History.{History, log_size, no_history}
 use Rattle.switch_model.specs.Promises.{EffectsAreLegal, MarksAreTrue}
 use Rattle.switch_model.specs.Sound.{is_suspect}
+use Rattle.switch_model.specs.declared.mark.Mark.{Mark}
 use Rattle.restart_laws.specs.Applied.{AreFollowed}
 use Rattle.restart_laws.specs.Logged.{last_mark}
 use Rattle.session_laws.specs.Core.{CoreState, new_core}
@@ -31,9 +33,9 @@ use Rattle.swss_run.specs.Full.{IsFull}
 use Rattle.swss_run.specs.Output.{TakesFront, TakesPart}
 use Rattle.swss_run.specs.Restarts.{AreRestarted, HasFewRestarts, HasRestarts}
 use Rattle.swss_run.specs.Rounds.{AreTaken, EndsAtMark, IsCutInRounds, IsReport, Ran, Rise, all_calls, all_marks, all_sent, ends_from, nothing_ran, standing}
-use Rattle.swss_run.specs.Running.{EndsRound, HasLines, IsRunReady, IsRoundRun, KeepsPlan, StopsRound}
+use Rattle.swss_run.specs.Running.{EndsRound, HasLines, IsRunReady, IsRoundRun, KeepsPlan, StopsQuietly, StopsRound}
 use Rattle.swss_run.specs.Session.{HasEnded, IsReported, IsSession, TookFront, TookPart, TookReport, log_limit}
-use Rattle.swss_run.specs.Turned.{AreDrained, AreTurned, DrainsBehind, IsRoundTurned}
+use Rattle.swss_run.specs.Turned.{AreDrained, AreTurned, DrainsBehind, IsRoundTurned, IsSinceQuiet}
 use Rattle.swss_run.specs.declared.status.Status.{Status}
 use Rattle.swss_run.specs.declared.status.Status.TheVariants as status
 use Rattle.swss_run.proofs.Pieces.{Takes-trans}
@@ -131,6 +133,10 @@ pub record IsRunning (rounds done : List Round) (first : CoreState) (held0 : Opt
   pub told : TookReport first.board.plan first.sync.capacities rans rounds held0 held
   pub ended : HasEnded nothing_ran core.log sim.chip
 
+-- behind the last round there is no call
+quiet_none : (plan : Ports) (before : Option Mark) (taken : List Sent) (effects : List (Call Rid)) → IsSinceQuiet plan before taken effects nothing_ran
+quiet_none plan before taken effects none settled mark k row e at other stood call called changes = called
+
 none_taken : (rounds : List Round) → AreTaken [] rounds []
 none_taken [] = refl
 none_taken (r ∷ rounds) = (sent_in_round r, refl)
@@ -182,10 +188,10 @@ ended-none first sim new = inl (refl, ap (λ (s : CoreState). is_suspect s.log.m
 
 -- a session, from a core and a chip within one of the service
 session-from : (rounds : List Round) (ended : Status) (first core : CoreState) (chip : ChipState) (held held' : Option (List ℕ)) (rans : List Ran) (since : Ran)
-    → InSession core chip → KeepsPlan first core → log_size core.log (length chip.effects) ≤ log_limit → FaultsRise 0 core.log.marks chip.faults → IsCutInRounds core.log chip.effects rans since → AreTaken rans rounds since.sent → AreRestarted false rans rounds since.marks → AreTurned first.board.plan first.sync.capacities None [] [] rans → AreDrained first.board.plan first.sync.capacities [] rans
+    → InSession core chip → KeepsPlan first core → log_size core.log (length chip.effects) ≤ log_limit → FaultsRise 0 core.log.marks chip.faults → IsCutInRounds core.log chip.effects rans since → AreTaken rans rounds since.sent → AreRestarted false rans rounds since.marks → AreTurned first.board.plan first.sync.capacities None [] [] rans → IsSinceQuiet first.board.plan (last_mark None (all_marks rans)) (all_sent rans) (all_calls rans) since → AreDrained first.board.plan first.sync.capacities [] rans
     → IsReported ended first.board.plan first.sync.capacities rounds rans since core.log chip held held'
     → IsSession first.board.plan first.sync.capacities rounds ended core.log chip held held'
-session-from rounds ended first core chip held held' rans since within same places faults cut writes restarts turned drained reported = record {
+session-from rounds ended first core chip held held' rans since within same places faults cut writes restarts turned quiet drained reported = record {
   room = within.stands.always.capacities ∙ same.capacities;
   clean = within.stands.always.clean;
   legality = as_first (λ p c. EffectsAreLegal p c core.log.taken chip.effects) (effects-legal core chip within);
@@ -205,6 +211,7 @@ session-from rounds ended first core chip held held' rans since within same plac
   writes = writes;
   restarts = restarts;
   turned = turned;
+  quiet = quiet;
   drained = drained;
   reported = reported;
 }
@@ -218,7 +225,7 @@ session-from rounds ended first core chip held held' rans since within same plac
 module _ (rounds done : List Round) (first : CoreState) (held0 : Option (List ℕ)) (core : CoreState) (sim : Sim) (replay : Replayed) (held : Option (List ℕ)) (running : IsRunning rounds done first held0 core sim replay held) where
   -- every round ended
   pub session-done : (ended : Status) → length done ≡ length rounds → IsEndedAs ended core sim → IsSession first.board.plan first.sync.capacities rounds ended core.log sim.chip held0 held
-  session-done ended all how = session-from rounds ended first core sim.chip held0 held running.rans nothing_ran running.ready.ready.within running.same (subst (λ n. log_size core.log (length sim.chip.effects) ≤ n) (running.same.limit ∙ running.limit) running.ready.places) running.ready.faults running.cut running.writes running.restarts running.turned running.drained (by how)
+  session-done ended all how = session-from rounds ended first core sim.chip held0 held running.rans nothing_ran running.ready.ready.within running.same (subst (λ n. log_size core.log (length sim.chip.effects) ≤ n) (running.same.limit ∙ running.limit) running.ready.places) running.ready.faults running.cut running.writes running.restarts running.turned (quiet_none first.board.plan (last_mark None (all_marks running.rans)) (all_sent running.rans) (all_calls running.rans)) running.drained (by how)
     where
       by : IsEndedAs ended core sim → IsReported ended first.board.plan first.sync.capacities rounds running.rans nothing_ran core.log sim.chip held0 held
       by (inl (is, known)) = subst (λ e. IsReported e first.board.plan first.sync.capacities rounds running.rans nothing_ran core.log sim.chip held0 held) (sym is) (running.ended, running.many ∙ all, known, running.told)
@@ -284,7 +291,7 @@ module _ (rounds done : List Round) (first : CoreState) (held0 : Option (List �
       part_now lines has took = record { text = running.told.text ++ lines; report = report_now lines has; took = part-more held0 held held' running.told.text lines running.told.took took }
 
       session_now : (ended : Status) → IsReported ended first.board.plan first.sync.capacities rounds (rans ++ ran ∷ []) nothing_ran new.log sim'.chip held0 held' → IsSession first.board.plan first.sync.capacities rounds ended new.log sim'.chip held0 held'
-      session_now ended reported = session-from rounds ended first new sim'.chip held0 held' (rans ++ ran ∷ []) nothing_ran ends.within same_now (subst (λ n. log_size new.log (length sim'.chip.effects) ≤ n) limit_now ends.places) ends.faults cut_now taken_now restarted_now turned_now drained_now reported
+      session_now ended reported = session-from rounds ended first new sim'.chip held0 held' (rans ++ ran ∷ []) nothing_ran ends.within same_now (subst (λ n. log_size new.log (length sim'.chip.effects) ≤ n) limit_now ends.places) ends.faults cut_now taken_now restarted_now turned_now (quiet_none first.board.plan (last_mark None (all_marks (rans ++ ran ∷ []))) (all_sent (rans ++ ran ∷ [])) (all_calls (rans ++ ran ∷ []))) drained_now reported
 
       has_ended : HasEnded nothing_ran new.log sim'.chip
       has_ended = record {
@@ -319,7 +326,10 @@ module _ (rounds done : List Round) (first : CoreState) (held0 : Option (List �
     front_before : held' ≡ held → TookFront first.board.plan first.sync.capacities rans rounds held0 held'
     front_before same = record { text = running.told.text; report = running.told.report; took = whole-front held0 held' running.told.text (subst (λ h. Takes held0 running.told.text h) (sym same) running.told.took) }
 
-    module _ (stops : StopsRound round core sim new sim') where
+    module _ (stopped : StopsQuietly round core sim new sim') where
+      abbrev stops : StopsRound round core sim new sim'
+      stops = stopped.0
+
       cut_stopped : IsCutInRounds new.log sim'.chip.effects rans stops.since
       cut_stopped = record {
         marks = ap (λ (h : History). h.marks) stops.come.log ∙ ap (λ l. l ++ stops.since.marks) (running.cut.marks ∙ append-nil (all_marks rans));
@@ -346,8 +356,15 @@ module _ (rounds done : List Round) (first : CoreState) (held0 : Option (List �
           let within = stops.come.limit in
           omega (arith, size, limit, within)
 
+      quiet_stopped : IsSinceQuiet first.board.plan (last_mark None (all_marks rans)) (all_sent rans) (all_calls rans) stops.since
+      quiet_stopped =
+          subst (λ p. IsSinceQuiet p (last_mark None (all_marks rans)) (all_sent rans) (all_calls rans) stops.since) (sym plan_is)
+          (subst (λ l. IsSinceQuiet core.board.plan (last_mark None l) (all_sent rans) (all_calls rans) stops.since) (running.cut.marks ∙ append-nil (all_marks rans))
+          (subst (λ l. IsSinceQuiet core.board.plan (mark_of core) l (all_calls rans) stops.since) (running.cut.taken ∙ append-nil (all_sent rans))
+          (subst (λ l. IsSinceQuiet core.board.plan (mark_of core) core.log.taken l stops.since) (running.cut.effects ∙ append-nil (all_calls rans)) stopped.1)))
+
       session_stopped : (ended : Status) → IsReported ended first.board.plan first.sync.capacities rounds rans stops.since new.log sim'.chip held0 held' → IsSession first.board.plan first.sync.capacities rounds ended new.log sim'.chip held0 held'
-      session_stopped ended reported = session-from rounds ended first new sim'.chip held0 held' rans stops.since stops.come.within same_stopped places_stopped stops.come.faults cut_stopped taken_stopped restarted_stopped running.turned running.drained reported
+      session_stopped ended reported = session-from rounds ended first new sim'.chip held0 held' rans stops.since stops.come.within same_stopped places_stopped stops.come.faults cut_stopped taken_stopped restarted_stopped running.turned quiet_stopped running.drained reported
 
     pub session-ended : (ended : Status) → ¬ (ended ≡ status.Done) → ¬ (ended ≡ status.ChipFault) → IsRoundRun number round core sim held faults ended new sim' replay' held' faults' → IsSession first.board.plan first.sync.capacities rounds ended new.log sim'.chip held0 held'
     session-ended status.Done other fault run = absurd (other refl)
@@ -365,11 +382,11 @@ module _ (rounds done : List Round) (first : CoreState) (held0 : Option (List �
           record { text = running.told.text; report = running.told.report; took = subst (λ h. Takes held0 running.told.text h) (sym same) running.told.took },
         )
       where
-        full_here : (stops : StopsRound round core sim new sim') → IsFull new.board.plan new.sync.capacities new.limit round new.log sim'.chip stops.since → IsFull first.board.plan first.sync.capacities log_limit round new.log sim'.chip stops.since
+        full_here : (stops : StopsQuietly round core sim new sim') → IsFull new.board.plan new.sync.capacities new.limit round new.log sim'.chip stops.0.since → IsFull first.board.plan first.sync.capacities log_limit round new.log sim'.chip stops.0.since
         full_here stops full =
-            subst (λ n. IsFull first.board.plan first.sync.capacities n round new.log sim'.chip stops.since) ((same_stopped stops).limit ∙ running.limit)
-            (subst (λ p. IsFull p first.sync.capacities new.limit round new.log sim'.chip stops.since) (same_stopped stops).plan
-            (subst (λ c. IsFull new.board.plan c new.limit round new.log sim'.chip stops.since) (same_stopped stops).capacities full))
+            subst (λ n. IsFull first.board.plan first.sync.capacities n round new.log sim'.chip stops.0.since) ((same_stopped stops).limit ∙ running.limit)
+            (subst (λ p. IsFull p first.sync.capacities new.limit round new.log sim'.chip stops.0.since) (same_stopped stops).plan
+            (subst (λ c. IsFull new.board.plan c new.limit round new.log sim'.chip stops.0.since) (same_stopped stops).capacities full))
     session-ended status.OutOfMemory other fault (inl (stops, same)) =
         session_stopped stops status.OutOfMemory (rans, [], sym (append-nil rans), front_before same)
     session-ended status.OutOfMemory other fault (inr (ran, ends, inl same)) =

@@ -28,7 +28,7 @@ use Rattle.swss_run.specs.Full.{IsFull}
 use Rattle.swss_run.specs.Output.{TakesFront, TakesPart}
 use Rattle.swss_run.specs.Restarts.{HasFewRestarts, HasRestarts}
 use Rattle.swss_run.specs.Rounds.{Ran, standing}
-use Rattle.swss_run.specs.Turned.{DrainsBehind, IsRoundTurned}
+use Rattle.swss_run.specs.Turned.{DrainsBehind, IsRoundTurned, IsSinceQuiet}
 use Rattle.swss_run.specs.declared.status.Status.{Status}
 use Rattle.swss_run.specs.declared.status.Status.TheVariants as status
 
@@ -89,6 +89,10 @@ pub record StopsRound (round : Round) (old : CoreState) (sim : Sim) (new : CoreS
   pub restarts : HasFewRestarts (is_suspect old.log.marks) round since.marks
   pub come : HasCome old sim.chip since new sim'.chip
 
+-- and its calls left quiet rows alone
+abbrev pub StopsQuietly : Round → CoreState → Sim → CoreState → Sim → Type 0
+StopsQuietly round old sim new sim' = (stops : StopsRound round old sim new sim') × IsSinceQuiet old.board.plan (mark_of old) old.log.taken sim.chip.effects stops.since
+
 -- how a settling that answered so ends the round, or the run
 abbrev pub round_ended : Result Settled OutOfMemory → Result Status Status
 round_ended (Ok settled.Settled) = Ok status.Done
@@ -122,7 +126,7 @@ IsRoundRun number round old sim held faults status.ChipFault new sim' replay hel
 IsRoundRun number round old sim held faults status.WriteFault new sim' replay held' faults' =
     (ran : Ran) × (lines : List ℕ) × EndsRound round old sim ran new sim' × HasLines number round old sim ran lines × TakesPart held lines held' × HasRisen faults faults'
 IsRoundRun number round old sim held faults status.LogFull new sim' replay held' faults' =
-    (stops : StopsRound round old sim new sim') × IsFull new.board.plan new.sync.capacities new.limit round new.log sim'.chip stops.since × (new.limit < log_size new.log (length sim'.chip.effects) + 2 + length (keys_named new.log.taken)) × (held' ≡ held)
+    (stops : StopsQuietly round old sim new sim') × IsFull new.board.plan new.sync.capacities new.limit round new.log sim'.chip stops.0.since × (new.limit < log_size new.log (length sim'.chip.effects) + 2 + length (keys_named new.log.taken)) × (held' ≡ held)
 IsRoundRun number round old sim held faults status.OutOfMemory new sim' replay held' faults' =
-    (StopsRound round old sim new sim' × (held' ≡ held)) ⊎ ((ran : Ran) × EndsRound round old sim ran new sim' × TakesSome number round old sim ran held held')
+    (StopsQuietly round old sim new sim' × (held' ≡ held)) ⊎ ((ran : Ran) × EndsRound round old sim ran new sim' × TakesSome number round old sim ran held held')
 IsRoundRun number round old sim held faults _ new sim' replay held' faults' = ⊥

@@ -11,6 +11,7 @@ use Rattle.machine_laws.specs.Bounds.{most_calls}
 use Rattle.machine_laws.specs.Order.{IsOrdered}
 use Rattle.restart_laws.specs.Applied.{AreFollowed}
 use Rattle.restart_laws.specs.Bounded.{effects_outside, listed_at_applies}
+use Rattle.restart_laws.specs.Logged.{last_mark}
 use Rattle.round_laws.specs.Named.{keys_named}
 use Rattle.round_laws.specs.Sessions.{BeginNoApply}
 use Rattle.swss_script.specs.declared.parts.Round.{Round}
@@ -22,8 +23,8 @@ use Rattle.swss_run.specs.Output.{TakesFront, TakesPart}
 use Rattle.swss_run.specs.Read.{WasRead}
 use Rattle.swss_run.specs.Run.{HasNoSession, chip_fail}
 use Rattle.swss_run.specs.Restarts.{AreRestarted}
-use Rattle.swss_run.specs.Rounds.{AreTaken, IsCutInRounds, IsReport, Ran, Rise, nothing_ran}
-use Rattle.swss_run.specs.Turned.{AreDrained, AreTurned}
+use Rattle.swss_run.specs.Rounds.{AreTaken, IsCutInRounds, IsReport, Ran, Rise, all_calls, all_marks, all_sent, nothing_ran}
+use Rattle.swss_run.specs.Turned.{AreDrained, AreTurned, IsSinceQuiet}
 use Rattle.swss_run.specs.declared.outcome.Outcome.{Outcome}
 use Rattle.swss_run.specs.declared.run.TheConstants.{LOG_LIMIT}
 use Rattle.swss_run.specs.declared.status.Status.{Status}
@@ -77,7 +78,7 @@ IsReported status.OutOfMemory plan capacities rounds rans since log chip held he
     (told : List Ran) × (untold : List Ran) × (rans ≡ told ++ untold) × TookFront plan capacities told rounds held held'
 IsReported _ plan capacities rounds rans since log chip held held' = ⊥
 
--- a session over rounds. Of all that was made: every chip call was legal; outside applies at most so many took effect as an operation makes for each write taken and each key listed where an apply began, and where none began, for each write; every mark is true, counts no fewer writes and calls than the mark before it and no more than there are, and stands where it may; each event found its places in the log; of each apply, what holds while it is made, and of applies that are broken off one after the other, what holds over them all; and each fault of the chip has its mark. Of the rounds: the writes taken are theirs in order and each once, the ends of rounds rise, they restarted as often as their sections say, or once more behind a fault; the calls of each round that neither follows a fault nor has one, and did not restart, are those of its turns, which leave quiet rows alone and drain where there is room, and so does each that restarted. And the sink took what the status says of the report
+-- a session over rounds. Of all that was made: every chip call was legal; outside applies at most so many took effect as an operation makes for each write taken and each key listed where an apply began, and where none began, for each write; every mark is true, counts no fewer writes and calls than the mark before it and no more than there are, and stands where it may; each event found its places in the log; of each apply, what holds while it is made, and of applies that are broken off one after the other, what holds over them all; and each fault of the chip has its mark. Of the rounds: the writes taken are theirs in order and each once, the ends of rounds rise, they restarted as often as their sections say, or once more behind a fault; the calls of each round that neither follows a fault nor has one, and did not restart, are those of its turns, which leave quiet rows alone and drain where there is room, and so does each that restarted; and the calls of one that did not end leave quiet rows alone too. And the sink took what the status says of the report
 pub record IsSession (plan : Ports) (capacities : List ℕ) (rounds : List Round) (ended : Status) (log : History) (chip : ChipState) (held held' : Option (List ℕ)) : Type 0 where
   pub room : chip.capacities ≡ capacities
   pub clean : chip.clean ≡ true
@@ -98,6 +99,7 @@ pub record IsSession (plan : Ports) (capacities : List ℕ) (rounds : List Round
   pub writes : AreTaken rans rounds since.sent
   pub restarts : AreRestarted false rans rounds since.marks
   pub turned : AreTurned plan capacities None [] [] rans
+  pub quiet : IsSinceQuiet plan (last_mark None (all_marks rans)) (all_sent rans) (all_calls rans) since
   pub drained : AreDrained plan capacities [] rans
   pub reported : IsReported ended plan capacities rounds rans since log chip held held'
 

@@ -39,6 +39,10 @@ abbrev pub AreTurned : Ports → List ℕ → Option Mark → List Sent → List
 AreTurned plan capacities before taken effects [] = Unit {0}
 AreTurned plan capacities before taken effects (ran ∷ rans) = IsRoundTurned plan capacities before taken effects ran × AreTurned plan capacities (last_mark before ran.marks) (taken ++ ran.sent) (effects ++ ran.calls) rans
 
+-- a round that did not end leaves alone, as far as it came, what stood for the rows of keys that it does not try, whatever mark would have ended it, where it made none and follows a settling that ended
+abbrev pub IsSinceQuiet : Ports → Option Mark → List Sent → List (Call Rid) → Ran → Type 0
+IsSinceQuiet plan before taken effects since = since.marks ≡ [] → LeavesSettled before → (mark : Mark) → LeavesQuietRows plan (round_at before taken effects since mark)
+
 -- where the good rows of all writes then taken are closed, and there is room for their things, a round that restarted and whose settling ended lists no key at its mark and counts at most four turns
 abbrev pub DrainsBehind : Ports → List ℕ → List Sent → Ran → Type 0
 DrainsBehind plan capacities taken ran =

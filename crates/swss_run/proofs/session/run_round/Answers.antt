@@ -15,7 +15,7 @@ use Rattle.swss_run.specs.declared.status.Status.{Status}
 use Rattle.session_laws.specs.Core.{CoreState}
 use Rattle.swss_run.specs.Taking.{IsRoundMade, acts_in}
 use Rattle.swss_run.specs.declared.taking.Taken.{Taken}
-use Rattle.swss_run.proofs.RoundRuns.{follows-new, from-fails, full-taking, in-all, marks-longer, more-all, run-halted, run-over, run-stopped, run-unwritten, run-written, stops-wanting, told-new, told-stopped}
+use Rattle.swss_run.proofs.RoundRuns.{follows-new, from-fails, full-taking, in-all, marks-longer, more-all, run-halted, run-over, run-quiet, run-stopped, run-unwritten, run-written, stops-wanting, told-new, told-stopped}
 use Rattle.swss_run.proofs.Tables.{rows-shown}
 use Rattle.swss_run.proofs.session.run_round.Goals as goal
 
@@ -81,6 +81,7 @@ returns-clause-run g c =
     let made = (made_as c.effects.result (acts_in c.args.round.sections) c.args.core.now c.take_round.new.core c.in-All.is c.take_round.ensures.made).1.0 in
     run-halted c.args.round c.args.core.now c.args.chip.now c.settle-settled.new.self c.settle-settled.new.chip c.in-Err.status c.args.number (g.K.Sink.holds c.args.sink.now) (g.K.Sink.faults c.args.sink.now) c.args.replay.now
     (run-stopped c.args.round c.args.core.now c.args.chip.now c.args.replay.now c.requires.ready c.requires.read c.take_round.new.core c.effects.result c.effects.ensures c.take_round.ensures.within made c.settle-settled.new.self c.settle-settled.new.chip c.settle-settled.result c.in-Err.status (sym c.round_ended.ensures ∙ c.in-Err.is) c.settle-settled.ensures)
+    (run-quiet c.args.round c.args.core.now c.args.chip.now c.args.replay.now c.requires.ready c.requires.read c.take_round.new.core c.effects.result c.effects.ensures c.take_round.ensures.within made c.settle-settled.new.self c.settle-settled.new.chip c.settle-settled.result c.settle-settled.ensures)
 
 pub returns-in-Ok-clause-run : goal.returns-in-Ok-clause-run
 returns-in-Ok-clause-run g c =
