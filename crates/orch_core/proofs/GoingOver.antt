@@ -1,5 +1,5 @@
 -- the rows are gone over, key by key, on the temporary view
-use Rattle.std.proofs.Common.{◌≡◌, ◌⊎◌, ◌+◌, ◌<◌, ◌∷◌, ◌++◌, ◌∙◌, inl, inr, ℕ, Bool, true, false, List, [], length, Option, None, Some, option_map, is_some, Result, Ok, Err, refl, sym, ap, subst, arith}
+use Rattle.std.proofs.Common.{◌≡◌, ◌+◌, ◌∷◌, ◌++◌, ◌∙◌, inl, inr, ℕ, Bool, true, false, List, [], Option, None, Some, option_map, is_some, Result, Ok, Err, refl, sym, ap, subst, arith}
 use Rattle.std.specs.Map.{keys_of}
 use Rattle.std.specs.Option.{IsSome}
 use Rattle.std.specs.Result.{IsErr, OnErr, OnOk}
@@ -14,25 +14,22 @@ use Rattle.sai_types.specs.Alike.{IsIn}
 use Rattle.sai_types.specs.ChipState.{ChipState}
 use Rattle.switch_model.specs.declared.wait.Wait.{Wait}
 use Rattle.retry_list.specs.Reasons.{reason_at, with_reason}
-use Rattle.consumer_table.specs.Ops.{AreOpsInOrder, first_in, keys_behind, without_op}
+use Rattle.consumer_table.specs.Ops.{AreOpsInOrder, without_op}
 use Rattle.registry_laws.specs.Flown.{Flown}
 use Rattle.registry_laws.specs.Making.{IsNextCall, MayTakeFor, with_group_begun}
 use Rattle.core_laws.specs.Standing.{HasBegun}
-use Rattle.sync_tables.specs.Tables.{TablesState}
 use Rattle.syncd_core.specs.Synced.{CanCall, Calls, SyncState}
 use Rattle.ref_counts.specs.Room.{number_of_kind}
 use Rattle.flight_board.specs.Applied.{row_at}
 use Rattle.flight_board.specs.Board.{BoardState, IsBegunFor, IsCallReady, IsPrepared, IsSameBoard, IsTakenFor, IsUnflown, flown_at}
 use Rattle.session_laws.specs.Core.{CoreState, good_in}
 use Rattle.session_laws.specs.Events.{vid_made_by}
-use Rattle.settling_laws.proofs.Walking.{walk_goes, walk_stays}
 use Rattle.restart_laws.specs.Restored.{keys_waiting}
 use Rattle.restart_session_laws.specs.Built.{AreReasons, IsBeside, IsBringing, IsBuilt}
 use Rattle.restart_session_laws.proofs.Building.{begun-prepared, bringing-called, bringing-ends, bringing-first, bringing-prepared, built-wait, can-bring, may-take-called, ready-prepared, same-chip}
 use Rattle.orch_core.specs.Outcomes.{AreKindsCounted}
 use Rattle.orch_core.specs.Restarting.{CallsView, GoesOver, calls_left}
-use Rattle.orch_core.proofs.OnView.{fewer_called, fewer_prepared, longer}
-use Rattle.orch_core.proofs.Turns.{leads_with_key}
+use Rattle.orch_core.proofs.OnView.{fewer_called, fewer_prepared}
 
 -- ---- by the answer
 
@@ -111,38 +108,15 @@ module _ (first c : CoreState) (k : Key) (rest : List Key) (x : IsBuilt first c 
 
 -- ---- the walk over the keys
 
-abbrev pub IsOverAt : CoreState → ChipState → Option Key → CoreState → ChipState → Type 0
-IsOverAt c chip after d chip' = (first : CoreState) → IsBuilt first c (keys_of c.tables.ops) → IsBuilt first d (keys_behind after (keys_of d.tables.ops)) × (chip' ≡ chip)
+-- these keys are left
+abbrev pub IsOverAt : CoreState → ChipState → List Key → CoreState → ChipState → Type 0
+IsOverAt c chip rest d chip' = (first : CoreState) → IsBuilt first c (keys_of c.tables.ops) → IsBuilt first d rest × (chip' ≡ chip)
 
--- the same table of keys, or the one without the key
-abbrev pub StaysOrGoes : Key → TablesState → TablesState → Type 0
-StaysOrGoes k t u = (u ≡ t) ⊎ (u ≡ record t { ops = without_op t.ops k })
+pub over_first : (c : CoreState) (chip : ChipState) (keys : List Key) → keys ≡ keys_of c.tables.ops → IsOverAt c chip keys c chip
+over_first c chip keys are first x = (subst (IsBuilt first c) (sym are) x, refl)
 
-module _ (first d : CoreState) (after : Option Key) (k : Key) (order : AreOpsInOrder d.tables.ops) (there : first_in (keys_behind after (keys_of d.tables.ops)) ≡ Some k) (x : IsBuilt first d (keys_behind after (keys_of d.tables.ops))) where
-  abbrev more : List Key
-  more = (leads_with_key (keys_behind after (keys_of d.tables.ops)) after (keys_of d.tables.ops) k refl there).0
-
-  behind : keys_behind after (keys_of d.tables.ops) ≡ k ∷ more
-  behind = (leads_with_key (keys_behind after (keys_of d.tables.ops)) after (keys_of d.tables.ops) k refl there).1
-
-  pub over_key : IsBuilt first d (k ∷ more)
-  over_key = subst (IsBuilt first d) behind x
-
-  split : keys_of d.tables.ops ≡ keys_waiting over_key.waits ++ (k ∷ more)
-  split = over_key.ops
-
-  pub over_behind : (e : CoreState) → StaysOrGoes k d.tables e.tables → keys_behind (Some k) (keys_of e.tables.ops) ≡ more
-  over_behind e (inl same) = ap (λ (t : TablesState). keys_behind (Some k) (keys_of t.ops)) same ∙ walk_stays d.tables.ops (keys_waiting over_key.waits) more k order split
-  over_behind e (inr gone) = ap (λ (t : TablesState). keys_behind (Some k) (keys_of t.ops)) gone ∙ (walk_goes d.tables.ops (keys_waiting over_key.waits) more k order split).1
-
-  pub over_fewer : (e : CoreState) → StaysOrGoes k d.tables e.tables → length (keys_behind (Some k) (keys_of e.tables.ops)) < length (keys_behind after (keys_of d.tables.ops))
-  over_fewer e ops =
-      let now : length (keys_behind (Some k) (keys_of e.tables.ops)) ≡ length more = ap length (over_behind e ops) in
-      let before : length (keys_behind after (keys_of d.tables.ops)) ≡ length more + 1 = ap length behind ∙ longer k more in
-      omega (arith, now, before)
-
-  pub over_next : (e : CoreState) → StaysOrGoes k d.tables e.tables → IsBuilt first e more → IsBuilt first e (keys_behind (Some k) (keys_of e.tables.ops))
-  over_next e ops built = subst (IsBuilt first e) (sym (over_behind e ops)) built
+pub over_left : (c : CoreState) (chip : ChipState) (rest more : List Key) (d : CoreState) (chip' : ChipState) → rest ≡ more → IsOverAt c chip rest d chip' → IsOverAt c chip more d chip'
+over_left c chip rest more d chip' same over first x = subst (λ l. IsBuilt first d l × (chip' ≡ chip)) same (over first x)
 
 -- ---- after the last key each one that is to sync is on the list
 

@@ -1,14 +1,14 @@
 -- what a mark lists, from the keys to sync
-use Rattle.std.proofs.Common.{◌≡◌, ◌∷◌, ◌++◌, ◌∙◌, inl, inr, ℕ, suc, List, [], length, map, None, Option, refl, sym, ap, ap₂, subst}
+use Rattle.std.proofs.Common.{◌≡◌, ◌∷◌, ◌++◌, ◌∙◌, inl, inr, ℕ, suc, List, [], length, map, Option, refl, sym, ap, ap₂, subst}
 use Rattle.std.specs.List.Sorted.{IsStrictlySortedBy}
 use Rattle.std.specs.Map.{keys_of}
-use Rattle.std.proofs.lemmas.Option.{none-some, same_Some}
+use Rattle.std.proofs.lemmas.Option.{same_Some}
 use Rattle.table_schema.specs.Key.{key_cmp}
 use Rattle.table_schema.specs.declared.key.Key.{Key}
 use Rattle.table_schema.specs.declared.row.Row.{Row}
 use Rattle.sai_types.specs.Alike.{IsIn}
 use Rattle.producer_table.proofs.Found.{sorted_from_rising}
-use Rattle.consumer_table.specs.Ops.{AreOpsInOrder, Ops, first_in}
+use Rattle.consumer_table.specs.Ops.{AreOpsInOrder, Ops}
 use Rattle.switch_model.specs.History.{History}
 use Rattle.switch_model.specs.Marks.{AreInOrder, Waiting}
 use Rattle.switch_model.specs.declared.wait.Wait.{Wait}
@@ -78,10 +78,10 @@ pub listed_first : (c : CoreState) (ks more : List Key) (k : Key) (ws rest : Wai
 listed_first c ks more k ws rest w keys are one others = subst (λ l. AreListedFrom c l ws) (sym keys) (subst (AreListedFrom c (k ∷ more)) (sym are) (one, others))
 
 -- of no key nothing is listed
-pub listed_none : (c : CoreState) (ks : List Key) (ws : Waiting) → first_in ks ≡ None → length ws ≡ 0 → AreListedFrom c ks ws
+pub listed_none : (c : CoreState) (ks : List Key) (ws : Waiting) → ks ≡ [] → length ws ≡ 0 → AreListedFrom c ks ws
 listed_none c [] [] none empty = tt
 listed_none c [] (w ∷ ws) none empty = cc
-listed_none c (k ∷ ks) ws none empty = absurd (none-some k (sym none))
+listed_none c (k ∷ ks) ws none empty = cc
 
 -- with another log the same is listed
 pub listed_same : (c : CoreState) (log : History) (count : ℕ) (ks : List Key) (ws : Waiting) → AreListedFrom c ks ws → AreListedFrom (record c { log = log; listed = count }) ks ws

@@ -85,9 +85,6 @@ module _ (ops : Ops) (after : Option Key) (k : Key) (order : AreOpsInOrder ops) 
   abbrev pub behind_on : AreBehind (Some k) (keys_of ops)
   behind_on = (are.0 ++ k ∷ [], more_of.0, split_of ∙ sym (append_assoc are.0 (k ∷ []) more_of.0), walk_stays ops are.0 more_of.0 k order split_of)
 
-  pub behind_next : keys_behind after (keys_of ops) ≡ k ∷ keys_behind (Some k) (keys_of ops)
-  behind_next = are.3 ∙ more_of.1 ∙ ap (λ l. k ∷ l) (sym (walk_stays ops are.0 more_of.0 k order split_of))
-
   pub behind_fewer : length (keys_behind (Some k) (keys_of ops)) < length (keys_behind after (keys_of ops))
   behind_fewer =
       let now : length (keys_behind (Some k) (keys_of ops)) ≡ length more_of.0 = ap length (walk_stays ops are.0 more_of.0 k order split_of) in

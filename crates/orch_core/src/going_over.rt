@@ -11,7 +11,6 @@ ghost use Rattle.orch_core.specs.Restarting.{CallsView, GoesOver};
 
 use crate::Core;
 use sai_types::{Chip, SyncAnswer, Vid};
-use std::mem::{drop, replace};
 use swss_types::OutOfMemory;
 use table_schema::Key;
 
@@ -21,10 +20,10 @@ impl Core {
         requires built { (first : CoreState) × IsBuilt first self.old (keys_of self.old.tables.ops) }
         ensures { (first : CoreState) → IsBuilt first self.old (keys_of self.old.tables.ops) → GoesOver first [] (C.state chip.old) result self.new (C.state chip.new) }
     {
-        let mut after: Option<Key> = None;
-        while let Some(key) = self.key_behind(after.as_ref())? {
+        for key in self.keys()? {
+            // It says that the keys are in order still.
+            let _count = self.count();
             self.restore_key(chip, &key)?;
-            drop(replace(&mut after, Some(key)));
         }
         Ok(())
     }

@@ -19,9 +19,10 @@ impl Core {
         requires listed { (k : Key) → IsIn k (keys_of self.now.tables.ops) → IsSome (reason_at self.now.waiting k) }
         ensures { IfOk result (λ waits. AreListedFrom self.now (keys_of self.now.tables.ops) waits) }
     {
+        let keys = self.keys()?;
         match self.last_list() {
-            Some(list) if self.is_list(list.items()) => list.share(),
-            _ => self.new_list(),
+            Some(list) if self.is_list(keys.as_slice(), list.items()) => list.share(),
+            _ => self.new_list(keys),
         }
     }
 
@@ -33,23 +34,21 @@ impl Core {
         }
     }
 
-    /// Whether a list is that of the keys to sync. A list of another length is not looked at.
-    fn is_list(&self, list: &[(Key, Wait, Option<Row>)]) -> bool
-        ensures { IsTrue result → AreListedFrom self.now (keys_of self.now.tables.ops) list.now }
+    /// Whether a list is that of these keys. A list of another length is not looked at.
+    fn is_list(&self, keys: &[Key], list: &[(Key, Wait, Option<Row>)]) -> bool
+        ensures { IsTrue result → AreListedFrom self.now keys.now list.now }
     {
-        if list.len() != self.count() {
+        if list.len() != keys.len() {
             return false;
         }
         let mut left = list;
-        let mut after: Option<&Key> = None;
-        while let Some(key) = self.next_key(after) {
+        for key in keys {
             let Some((listed, rest)) = left.split_first() else {
                 return false;
             };
             if !self.is_listed(key, listed) {
                 return false;
             }
-            after = Some(key);
             left = rest;
         }
         left.is_empty()
@@ -73,12 +72,11 @@ impl Core {
         }
     }
 
-    /// The keys to sync, each with its reason and its applied row, in a list of its own.
-    fn new_list(&self) -> Result<Waits, OutOfMemory>
-        requires listed { (k : Key) → IsIn k (keys_of self.now.tables.ops) → IsSome (reason_at self.now.waiting k) }
-        ensures { IfOk result (λ waits. AreListedFrom self.now (keys_of self.now.tables.ops) waits) }
+    /// Keys that wait, each with its reason and its applied row, in a list of its own.
+    fn new_list(&self, keys: Vec<Key>) -> Result<Waits, OutOfMemory>
+        requires listed { (k : Key) → IsIn k keys.items → IsSome (reason_at self.now.waiting k) }
+        ensures { IfOk result (λ waits. AreListedFrom self.now keys.items waits) }
     {
-        let keys = self.keys()?;
         let mut waits = Vec::with_capacity(self.alloc, keys.len())?;
         for key in keys {
             waits.push(self.listing(key)?)?;

@@ -114,13 +114,15 @@ impl Room {
         ensures { result ≡ lacks self.now need.now used.now kind }
     {
         let at = level(kind);
+        if need[at] == 0 {
+            return false;
+        }
         let reserved = self.reserved[at]
             + self.reserved[KINDS + at]
             + self.reserved[2 * KINDS + at]
             + self.reserved[3 * KINDS + at];
-        0 < need[at]
-            && u128::from(self.capacities[at])
-                < u128::from(used[at]) + u128::from(reserved) + u128::from(need[at])
+        u128::from(self.capacities[at])
+            < u128::from(used[at]) + u128::from(reserved) + u128::from(need[at])
     }
 }
 

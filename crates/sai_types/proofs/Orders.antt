@@ -3,7 +3,8 @@ use Rattle.std.proofs.Common.{◌≡◌, List, [], ◌∷◌, Ordering, ap, ap�
 use Rattle.std.specs.Cmp.Lexicographic.{slice_cmp}
 use Rattle.std.specs.Ordering.{ordering_then}
 use Rattle.std.specs.declared.cmp.Ordering.TheVariants.{Less, Equal, Greater}
-use Rattle.swss_types.specs.Order.{prefix_cmp, prefix_order}
+use Rattle.swss_types.specs.AddressOrder.{prefix_cmp}
+use Rattle.swss_types.specs.Order.{prefix_order}
 use Rattle.swss_types.proofs.Orders.{ips-by_parts, prefixes-by_parts}
 use Rattle.sai_types.specs.contracts.hop.BaseOrd.TheImpl as base_ord
 use Rattle.sai_types.specs.contracts.thing.ThingOrd.TheImpl as thing_ord

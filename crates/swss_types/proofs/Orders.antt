@@ -7,13 +7,11 @@ use Rattle.swss_types.specs.declared.address.Family.TheVariants.{V4, V6}
 use Rattle.swss_types.specs.declared.address.Ip.{Ip}
 use Rattle.swss_types.specs.declared.address.Prefix.{Prefix}
 use Rattle.swss_types.specs.declared.interface.IfName.{IfName}
-use Rattle.swss_types.specs.declared.interface.IfName.TheVariants as name
-use Rattle.swss_types.specs.Order.{family_place, ip_cmp, ip_order, name_cmp, name_order, prefix_cmp, prefix_order}
+use Rattle.swss_types.specs.AddressOrder.{ip_cmp, prefix_cmp}
+use Rattle.swss_types.specs.NameOrder.{name_cmp}
+use Rattle.swss_types.specs.Order.{family_place, ip_order, name_order, prefix_order}
 
 pub names-by_parts : (a b : IfName) → name_cmp a b ≡ name_order a b
-names-by_parts (name.Ethernet m) (name.Ethernet n) = refl
-names-by_parts (name.Vlan m) (name.Vlan n) = refl
-names-by_parts (name.Loopback m) (name.Loopback n) = refl
 names-by_parts a b = refl
 
 families-by_place : (a b : Family) → family_ord.ghosts.cmp a b ≡ nat_cmp (family_place a) (family_place b)

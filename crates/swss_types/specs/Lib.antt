@@ -1,4 +1,5 @@
 pub mod Address
+pub mod AddressOrder
 pub mod Bits
 pub mod Hex
 pub mod Interface
@@ -7,6 +8,7 @@ pub mod IpParts
 pub mod Lanes
 pub mod Laws
 pub mod Mac
+pub mod NameOrder
 pub mod Number
 pub mod Order
 pub mod Outside

@@ -1,8 +1,14 @@
 // Addresses of the internet protocol and of Ethernet.
 ghost use Rattle.std.specs.Prelude.{◌≡◌};
+ghost use Rattle.std.proofs.Common.{rules};
+ghost use Rattle.std.specs.Cmp.{partial_order_from_own_ties, partial_order_from_total};
+ghost use Rattle.std.specs.Cmp.Rules.{comparing};
+ghost use Rattle.std.specs.Ordering.{as_partial_cmp};
 ghost use Rattle.swss_types.specs.Address.{IsProperIp, IsProperPrefix, covers, width};
+ghost use Rattle.swss_types.specs.AddressOrder.{ip_cmp, ip_total, prefix_cmp, prefix_total};
 
 use crate::Bits;
+use std::cmp::Ordering;
 
 /// The bits of an address of version 4.
 pub const V4_BITS: u8 = 32;
@@ -20,7 +26,7 @@ pub enum Family {
 }
 
 /// An internet address. It is proper where an address of version 4 is below 2^32.
-#[derive(Clone, Copy, Debug, PartialEq, Eq, PartialOrd, Ord)]
+#[derive(Clone, Copy, Debug, PartialEq, Eq)]
 pub struct Ip {
     /// The version.
     pub family: Family,
@@ -30,7 +36,7 @@ pub struct Ip {
 
 /// An address with the number of its first bits that count. It is proper where the length is in the family's range
 /// and all bits past it are zero.
-#[derive(Clone, Copy, Debug, PartialEq, Eq, PartialOrd, Ord)]
+#[derive(Clone, Copy, Debug, PartialEq, Eq)]
 pub struct Prefix {
     /// The first address that the prefix covers.
     pub ip: Ip,
@@ -65,6 +71,64 @@ impl Family {
         match self {
             Family::V4 => V4_BITS,
             Family::V6 => V6_BITS,
+        }
+    }
+}
+
+impl PartialOrd for Ip {
+    ghost partial_cmp = { as_partial_cmp ip_cmp };
+
+    ghost laws = { partial_order_from_own_ties (partial_order_from_total ip_total) (Prim.search (comparing, rules)) };
+
+    fn partial_cmp(&self, other: &Ip) -> Option<Ordering> {
+        Some(self.cmp(other))
+    }
+}
+
+impl Ord for Ip {
+    ghost cmp = { ip_cmp };
+
+    ghost total = { ip_total };
+
+    ghost matches_partial_cmp = { Prim.search (comparing, rules) };
+
+    ghost matches_eq = { Prim.search (comparing, rules) };
+
+    // A map's search compares with many keys, so the comparison stands in it and is no call.
+    #[inline(always)]
+    fn cmp(&self, other: &Ip) -> Ordering {
+        match (self.family, other.family) {
+            (Family::V4, Family::V6) => Ordering::Less,
+            (Family::V6, Family::V4) => Ordering::Greater,
+            (Family::V4, Family::V4) | (Family::V6, Family::V6) => self.bits.cmp(&other.bits),
+        }
+    }
+}
+
+impl PartialOrd for Prefix {
+    ghost partial_cmp = { as_partial_cmp prefix_cmp };
+
+    ghost laws = { partial_order_from_own_ties (partial_order_from_total prefix_total) (Prim.search (comparing, rules)) };
+
+    fn partial_cmp(&self, other: &Prefix) -> Option<Ordering> {
+        Some(self.cmp(other))
+    }
+}
+
+impl Ord for Prefix {
+    ghost cmp = { prefix_cmp };
+
+    ghost total = { prefix_total };
+
+    ghost matches_partial_cmp = { Prim.search (comparing, rules) };
+
+    ghost matches_eq = { Prim.search (comparing, rules) };
+
+    #[inline(always)]
+    fn cmp(&self, other: &Prefix) -> Ordering {
+        match self.ip.cmp(&other.ip) {
+            Ordering::Equal => self.len.cmp(&other.len),
+            order => order,
         }
     }
 }

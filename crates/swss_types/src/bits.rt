@@ -89,7 +89,8 @@ impl Ord for Bits {
 
     ghost matches_eq = { Prim.search (comparing, rules) };
 
-    // Word by word, so that the numbers need not be put together.
+    // Word by word, so that the numbers need not be put together. The comparison stands in a map's search.
+    #[inline(always)]
     fn cmp(&self, other: &Bits) -> Ordering {
         if self.first != other.first {
             return self.first.cmp(&other.first);

@@ -1,20 +1,20 @@
 -- the laws of the order of keys, and that keys that compare equal are equal
 use Rattle.std.proofs.Common.{◌≡◌, ◌∙◌, ℕ, true, sym, ap, ap₂}
-use Rattle.std.specs.Cmp.{IsTotalOrder, eq_by_cmp_equiv}
+use Rattle.std.specs.Cmp.{eq_by_cmp_equiv}
 use Rattle.std.proofs.lemmas.Map.Lookups.{CmpEqualImpliesEq, exact_bytes, exact_unsigned}
 use Rattle.std.specs.BTreeMap.{is_at}
 use Rattle.swss_types.specs.declared.address.Ip.{Ip}
 use Rattle.swss_types.specs.declared.interface.IfName.{IfName}
 use Rattle.swss_types.specs.declared.interface.IfName.TheVariants as name
-use Rattle.swss_types.specs.contracts.interface.IfNameOrd.TheImpl as name_ord
+use Rattle.swss_types.specs.NameOrder.{name_cmp}
 use Rattle.swss_types.proofs.AddressOrders.{ip_exact, prefix_exact}
 use Rattle.swss_types.proofs.Tied.{then_first, then_last, tied}
 use Rattle.table_schema.specs.declared.key.Key.{Key}
 use Rattle.table_schema.specs.declared.key.Key.TheVariants.{Port, Vlan, Member, Intf, Addr, Neigh, Route, Other}
-use Rattle.table_schema.specs.contracts.key.KeyOrd.TheImpl.Laws as key_laws
+pub use Rattle.table_schema.specs.Key.{key_total}
 use Rattle.table_schema.specs.Key.{key_cmp}
 
-pub name_exact : CmpEqualImpliesEq name_ord.ghosts.cmp
+pub name_exact : CmpEqualImpliesEq name_cmp
 name_exact (name.Ethernet m) (name.Ethernet n) h = ap name.Ethernet (exact_unsigned m n h)
 name_exact (name.Vlan m) (name.Vlan n) h = ap name.Vlan (exact_unsigned m n h)
 name_exact (name.Loopback m) (name.Loopback n) h = ap name.Loopback (exact_unsigned m n h)
@@ -37,9 +37,6 @@ key_exact x y h = cc
 
 pub tied_keys_same : (k q : Key) → is_at (key_cmp k) q ≡ true → k ≡ q
 tied_keys_same k q h = key_exact k q (tied (key_cmp k q) h)
-
-pub key_total : IsTotalOrder key_cmp
-key_total = key_laws.total-law
 
 -- a key is at itself
 pub at_itself : (k q : Key) → k ≡ q → is_at (key_cmp k) q ≡ true

@@ -1,24 +1,13 @@
 -- The order of keys, part by part: by their tables, from the ports to the routes, and those that do not read last (own).
-use Rattle.std.specs.Prelude.{ℕ}
 use Rattle.std.specs.Cmp.Lexicographic.{slice_cmp}
 use Rattle.std.specs.Ordering.{nat_cmp, ordering_then}
 use Rattle.std.specs.declared.cmp.Ordering.{Ordering}
 use Rattle.std.specs.declared.cmp.Ordering.TheVariants.{Equal}
 use Rattle.swss_types.specs.Order.{ip_order, name_order, prefix_order}
+use Rattle.table_schema.specs.Key.{table_place}
 use Rattle.table_schema.specs.declared.key.Key.{Key}
 use Rattle.table_schema.specs.declared.key.Key.TheVariants as key
 use Rattle.table_schema.specs.declared.row_hop.RowHop.{RowHop}
-
--- the place of a key's table
-abbrev pub table_place : Key → ℕ
-table_place (key.Port port) = 0
-table_place (key.Vlan vlan) = 1
-table_place (key.Member vlan port) = 2
-table_place (key.Intf on) = 3
-table_place (key.Addr on ip len) = 4
-table_place (key.Neigh on ip) = 5
-table_place (key.Route prefix) = 6
-table_place (key.Other text) = 7
 
 -- keys of one table by their parts, from the first on; those that do not read by their bytes
 abbrev pub part_order : Key → Key → Ordering

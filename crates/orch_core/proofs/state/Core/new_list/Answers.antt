@@ -1,6 +1,5 @@
 use Rattle.std.proofs.Common.{rules, ◌≡◌, ◌∙◌, ◌∷◌, ◌++◌, [], ap, subst, sym}
 use Rattle.std.proofs.lemmas.List.{append-nil, append_assoc, nil_from_length}
-use Rattle.std.specs.Map.{keys_of}
 use Rattle.sai_types.specs.Alike.{IsIn}
 use Rattle.orch_core.specs.Marked.{AreListedFrom}
 use Rattle.orch_core.proofs.Listings.{listed_one_more}
@@ -28,4 +27,4 @@ pub returns : goal.returns
 returns c =
     let none : c.loop-key.key-iterator.rest.items ≡ [] = nil_from_length c.loop-key.key-iterator.rest.items (sym c.loop-key.key-iterator.rest.ok.0 ∙ c.in-None.ensures.steps.0) in
     let all = c.loop-key.invariant.1 ∙ ap (λ l. c.loop-key.invariant.0 ++ l) none ∙ append-nil c.loop-key.invariant.0 in
-    if_ok c.from_vec.result (λ list same. subst (AreListedFrom c.args.self.now (keys_of c.args.self.now.tables.ops)) (sym same) (subst (λ l. AreListedFrom c.args.self.now l c.loop-key.waits.items) (sym all) c.loop-key.invariant.2)) c.from_vec.ensures
+    if_ok c.from_vec.result (λ list same. subst (AreListedFrom c.args.self.now c.args.keys.items) (sym same) (subst (λ l. AreListedFrom c.args.self.now l c.loop-key.waits.items) (sym all) c.loop-key.invariant.2)) c.from_vec.ensures
