@@ -1,5 +1,5 @@
 // The bits of an internet address.
-ghost use Rattle.std.specs.Prelude.{◌≡◌, ◌==◌};
+ghost use Rattle.std.specs.Prelude.{◌≡◌, ◌==◌, ◌/◌, ◌%◌, ◌^◌};
 ghost use Rattle.std.proofs.Common.{rules};
 ghost use Rattle.std.specs.Cmp.{partial_order_from_own_ties};
 ghost use Rattle.std.specs.Cmp.Rules.{comparing};
@@ -9,14 +9,14 @@ use std::cmp::Ordering;
 use std::fmt;
 use std::marker::Model;
 
-/// A number below 2^128: the bits of an internet address. It stands in words of 32 bits, the highest first, so that an
-/// address takes the room of its bits beside other fields.
+/// A number below 2^128: the bits of an internet address. It stands in words of 32 bits, the lowest first, so that an
+/// address takes the room of its bits beside other fields, and two words are read at once.
 #[derive(Clone, Copy)]
 pub struct Bits {
-    first: u32,
-    second: u32,
-    third: u32,
     fourth: u32,
+    third: u32,
+    second: u32,
+    first: u32,
 }
 
 impl Model for Bits {
@@ -49,10 +49,23 @@ impl Bits {
     pub fn number(self) -> u128
         ensures { result ≡ self }
     {
-        ((u128::from(self.first) * (1 << 32) + u128::from(self.second)) * (1 << 32)
-            + u128::from(self.third))
-            * (1 << 32)
-            + u128::from(self.fourth)
+        u128::from(self.upper()) * (1 << 64) + u128::from(self.lower())
+    }
+
+    /// Its upper half.
+    #[inline(always)]
+    fn upper(self) -> u64
+        ensures { result ≡ self / 2 ^ 64 }
+    {
+        u64::from(self.first) * (1 << 32) + u64::from(self.second)
+    }
+
+    /// Its lower half.
+    #[inline(always)]
+    fn lower(self) -> u64
+        ensures { result ≡ self % 2 ^ 64 }
+    {
+        u64::from(self.third) * (1 << 32) + u64::from(self.fourth)
     }
 }
 
@@ -89,19 +102,13 @@ impl Ord for Bits {
 
     ghost matches_eq = { Prim.search (comparing, rules) };
 
-    // Word by word, so that the numbers need not be put together. The comparison stands in a map's search.
+    // Half by half, so that the numbers need not be put together. The comparison stands in a map's search.
     #[inline(always)]
     fn cmp(&self, other: &Bits) -> Ordering {
-        if self.first != other.first {
-            return self.first.cmp(&other.first);
+        match self.upper().cmp(&other.upper()) {
+            Ordering::Equal => self.lower().cmp(&other.lower()),
+            order => order,
         }
-        if self.second != other.second {
-            return self.second.cmp(&other.second);
-        }
-        if self.third != other.third {
-            return self.third.cmp(&other.third);
-        }
-        self.fourth.cmp(&other.fourth)
     }
 }
 

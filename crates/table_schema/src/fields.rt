@@ -1,32 +1,30 @@
 // The fields of a row.
 ghost use Rattle.std.specs.Prelude.{◌≡◌, [], ◌==◌, length, IfOk, OnOk, OnErr, option_map};
-ghost use Rattle.table_schema.specs.Fields.{HasRisingNames, merged, restored, taken_back, value_of, with_pair};
+ghost use Rattle.table_schema.specs.Fields.{HasRisingNames, merged, value_of, with_pair};
 
 use crate::Items;
-use crate::few::{copy_few, have_rising_names};
-use crate::held::{FEW, Held};
-use crate::many::map_of;
+use crate::own_fields::OwnFields;
 use std::alloc::Global;
 use std::marker::Model;
+use std::sync::Arc;
 use swss_types::{OutOfMemory, Text};
 
-/// Pairs of a name and a value, the names distinct and rising by bytes.
+/// Pairs of a name and a value, the names distinct and rising by bytes. A copy shares them with its original until one of
+/// the two is changed.
 #[derive(Debug, Drop)]
 pub struct Fields {
-    held: Held,
+    // none of them where there is no pair
+    shared: Option<Arc<OwnFields, Global>>,
     alloc: Global,
 }
 
 impl Model for Fields {
     ghost use Rattle.std.specs.Prelude.{List, ℕ};
-    ghost use Rattle.table_schema.specs.Fields.{HasRisingNames};
-    ghost use Rattle.table_schema.specs.Held.{pairs_in};
+    ghost use Rattle.table_schema.specs.Held.{pairs_shared};
 
     ghost Value = { List (List ℕ × List ℕ) };
 
-    ghost view = { λ f. pairs_in f.held };
-
-    ghost invariant = { λ f. HasRisingNames (pairs_in f.held) };
+    ghost view = { λ f. pairs_shared f.shared };
 }
 
 impl Fields {
@@ -35,7 +33,7 @@ impl Fields {
         ensures { result ≡ [] }
     {
         Fields {
-            held: Held::Few(Vec::new(alloc)),
+            shared: None,
             alloc,
         }
     }
@@ -45,30 +43,11 @@ impl Fields {
     pub fn from_pairs(alloc: Global, pairs: Vec<(Text, Text)>) -> Result<Fields, OutOfMemory>
         ensures { IfOk result (λ fields. fields ≡ merged [] pairs.items) }
     {
-        if pairs.len() > FEW && have_rising_names(pairs.as_slice()) {
-            return Ok(Fields::from_rising(alloc, pairs));
-        }
-        let room = Vec::with_capacity(alloc, pairs.len().min(FEW))?;
-        let mut fields = Fields {
-            held: Held::Few(room),
+        let own = OwnFields::from_pairs(alloc, pairs)?;
+        Ok(Fields {
+            shared: Some(Arc::new(alloc, own)?),
             alloc,
-        };
-        for (name, value) in pairs {
-            fields.put(name, value)?;
-        }
-        Ok(fields)
-    }
-
-    /// The fields of pairs whose names rise.
-    fn from_rising(alloc: Global, mut pairs: Vec<(Text, Text)>) -> Fields
-        requires { HasRisingNames pairs.items }
-        ensures { result ≡ pairs.items }
-    {
-        pairs.shrink_to_fit();
-        Fields {
-            held: Held::Few(pairs),
-            alloc,
-        }
+        })
     }
 
     /// Puts a value under a name, in the place of one that is there.
@@ -76,16 +55,23 @@ impl Fields {
         ensures ok { OnOk result (self.new ≡ with_pair self.old name value) }
         ensures err { OnErr result (self.new ≡ self.old) }
     {
-        self.widen()?;
-        self.held.put(name, value)?;
-        Ok(())
+        let Some(shared) = &mut self.shared else {
+            let mut own = OwnFields::new(self.alloc);
+            own.put(name, value)?;
+            self.shared = Some(Arc::new(self.alloc, own)?);
+            return Ok(());
+        };
+        Arc::make_mut(shared)?.put(name, value)
     }
 
     /// The value under a name: None exactly where there is no such name.
     pub fn get(&self, name: &[u8]) -> Option<&Text>
         ensures { option_map (λ value. value.now) result ≡ value_of name.now self.now }
     {
-        self.held.find(self.alloc, name)
+        match &self.shared {
+            Some(own) => own.get(name),
+            None => None,
+        }
     }
 
     /// The pairs, their names rising.
@@ -93,93 +79,59 @@ impl Fields {
         ensures rest { result ≡ self.now }
         ensures names { HasRisingNames self.now }
     {
-        Items::new(&self.held)
+        match &self.shared {
+            Some(own) => own.items(),
+            None => Items::none(),
+        }
     }
 
     /// Whether there is no pair.
     pub fn is_empty(&self) -> bool
         ensures { result ≡ (length self.now == 0) }
     {
-        match &self.held {
-            Held::Few(pairs) => pairs.is_empty(),
-            Held::Many(pairs) => pairs.is_empty(),
+        match &self.shared {
+            Some(own) => own.is_empty(),
+            None => true,
         }
     }
 
-    /// Lays other fields over these: the value of a name that both have is then the other's. Each costs a few steps.
+    /// Lays other fields over these: the value of a name that both have is then the other's. Each costs a few steps, and
+    /// what is laid over nothing costs none.
     pub fn merge(&mut self, other: &Fields) -> Result<(), OutOfMemory>
         ensures ok { OnOk result (self.new ≡ merged self.old other.now) }
         ensures err { OnErr result (self.new ≡ self.old) }
     {
-        let mut laid = Vec::new(self.alloc);
-        for (name, value) in other.items() {
-            if let Err(error) = self.lay(&mut laid, name, value) {
-                self.take_back(laid);
-                return Err(error);
-            }
+        let Some(shared) = &mut self.shared else {
+            *self = laid_over_none(other.copy()?);
+            return Ok(());
+        };
+        match &other.shared {
+            Some(own) => Arc::make_mut(shared)?.merge(own),
+            None => Ok(()),
         }
-        Ok(())
     }
 
-    /// The same fields once more.
+    /// The same fields once more. They are shared, so that it costs a few steps, however many they are.
     pub fn copy(&self) -> Result<Fields, OutOfMemory>
         ensures same { IfOk result (λ fields. fields ≡ self.now) }
         ensures names { HasRisingNames self.now }
     {
+        // It says that the names rise.
+        let _rising = self.items();
         Ok(Fields {
-            held: match &self.held {
-                Held::Few(pairs) if pairs.len() <= FEW => {
-                    Held::Few(copy_few(self.alloc, pairs.as_slice())?)
-                }
-                _ => Held::Many(map_of(self.alloc, self.items())?),
+            shared: match &self.shared {
+                Some(own) => Some(own.clone()?),
+                None => None,
             },
             alloc: self.alloc,
         })
     }
+}
 
-    /// Goes over to a map where the list is full.
-    fn widen(&mut self) -> Result<(), OutOfMemory>
-        ensures { self.new ≡ self.old }
-    {
-        let map = match &self.held {
-            Held::Few(pairs) if pairs.len() >= FEW => map_of(self.alloc, self.items())?,
-            _ => return Ok(()),
-        };
-        self.held = Held::Many(map);
-        Ok(())
-    }
-
-    /// Lays a pair over these, and notes it among those that were laid.
-    fn lay<'a>(
-        &mut self,
-        laid: &mut Vec<(&'a Text, Option<Text>)>,
-        name: &'a Text,
-        value: &Text,
-    ) -> Result<(), OutOfMemory>
-        ensures ok { OnOk result (self.new ≡ with_pair self.old name.now value.now) }
-        ensures noted { taken_back self.new laid.new.items ≡ taken_back self.old laid.old.items }
-    {
-        laid.reserve(1)?;
-        self.widen()?;
-        let was = self.held.lay(name, value)?;
-        laid.push((name, was))?;
-        Ok(())
-    }
-
-    /// Takes back what was laid, the last pair first.
-    fn take_back(&mut self, laid: Vec<(&Text, Option<Text>)>)
-        ensures { self.new ≡ taken_back self.old laid.entry.items }
-    {
-        let mut laid = laid;
-        while let Some((name, was)) = laid.pop() {
-            self.restore(name, was);
-        }
-    }
-
-    /// Takes a put under a name back: what stood there stands there again, or nothing.
-    fn restore(&mut self, name: &Text, was: Option<Text>)
-        ensures { self.new ≡ restored self.old name.now was }
-    {
-        self.held.restore(name, was);
-    }
+/// Fields that are laid over none: since their names rise, they stay what they are.
+fn laid_over_none(fields: Fields) -> Fields
+    ensures { result ≡ merged [] fields }
+{
+    let _rising = fields.items();
+    fields
 }

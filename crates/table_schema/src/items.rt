@@ -1,5 +1,5 @@
 // The pairs of a row, one after the other.
-ghost use Rattle.std.specs.Prelude.{◌≡◌, length};
+ghost use Rattle.std.specs.Prelude.{◌≡◌, [], length};
 ghost use Rattle.std.specs.Iterator.{at_most};
 ghost use Rattle.std.specs.Map.Iter.{TakesFirst, deref_pair};
 ghost use Rattle.table_schema.specs.Held.{pairs_in};
@@ -33,6 +33,15 @@ impl<'a> Model for Items<'a> {
 }
 
 impl<'a> Items<'a> {
+    /// No pair.
+    pub(crate) fn none() -> Items<'a>
+        ensures { result ≡ [] }
+    {
+        Items {
+            left: Left::Few([].iter()),
+        }
+    }
+
     pub(crate) fn new(held: &'a Held) -> Items<'a>
         ensures { result ≡ pairs_in held.now }
     {

@@ -12,6 +12,7 @@ mod key_text;
 mod laws;
 mod many;
 mod naming;
+mod own_fields;
 mod plan;
 mod route_rules;
 mod row;

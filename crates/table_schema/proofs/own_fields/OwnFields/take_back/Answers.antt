@@ -1,7 +1,7 @@
 use Rattle.std.proofs.Common.{◌≡◌, ◌++◌, ◌∷◌, [], sym, ap, ◌∙◌, rules}
 use Rattle.table_schema.specs.Fields.{taken_back}
 use Rattle.table_schema.proofs.TakenBack.{taken_back-last}
-use Rattle.table_schema.proofs.fields.Fields.take_back.Goals as goal
+use Rattle.table_schema.proofs.own_fields.OwnFields.take_back.Goals as goal
 
 pub loop-name-preserved : goal.loop-name-preserved
 loop-name-preserved c =

@@ -1,6 +1,6 @@
 use Rattle.std.proofs.Common.{◌≡◌, length}
 use Rattle.table_schema.specs.Fields.{taken_back}
-use Rattle.table_schema.proofs.fields.Fields.take_back.Given as goal
+use Rattle.table_schema.proofs.own_fields.OwnFields.take_back.Given as goal
 
 -- what is left, taken back, comes to all taken back
 abbrev pub invariant-loop-name : goal.invariant-loop-name

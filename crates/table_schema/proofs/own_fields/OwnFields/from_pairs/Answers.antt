@@ -1,7 +1,7 @@
 use Rattle.std.proofs.Common.{sym, ◌∙◌, rules}
 use Rattle.table_schema.specs.Fields.{HasRisingNames}
 use Rattle.table_schema.proofs.Merges.{merged-nil}
-use Rattle.table_schema.proofs.fields.Fields.from_pairs.Goals as goal
+use Rattle.table_schema.proofs.own_fields.OwnFields.from_pairs.Goals as goal
 
 pub returns-then-have_rising_names : goal.returns-then-have_rising_names
 returns-then-have_rising_names c =

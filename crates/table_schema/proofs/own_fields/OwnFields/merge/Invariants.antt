@@ -1,6 +1,6 @@
 use Rattle.std.proofs.Common.{◌≡◌}
 use Rattle.table_schema.specs.Fields.{merged, taken_back}
-use Rattle.table_schema.proofs.fields.Fields.merge.Given as goal
+use Rattle.table_schema.proofs.own_fields.OwnFields.merge.Given as goal
 
 -- the pairs that are left, laid over these, make what is wanted, and what was laid can be taken back
 abbrev pub invariant-loop-name : goal.invariant-loop-name

@@ -4,7 +4,7 @@ use Rattle.table_schema.specs.Fields.{by_bytes, taken_back, value_of, with_pair}
 use Rattle.table_schema.specs.Held.{pairs_in}
 use Rattle.table_schema.proofs.Places.{kept}
 use Rattle.table_schema.proofs.TakenBack.{taken_back-put}
-use Rattle.table_schema.proofs.fields.Fields.lay.Goals as goal
+use Rattle.table_schema.proofs.own_fields.OwnFields.lay.Goals as goal
 
 pub invariant_of-self-2 : goal.invariant_of-self-2
 invariant_of-self-2 c = kept by_bytes nat_list_cmp_total c.lay.result _ _ _ _ c.lay.ensures.ok c.lay.ensures.err c.self.invariant
