@@ -1,5 +1,5 @@
 // The operations by key.
-ghost use Rattle.std.specs.Prelude.{◌≡◌, ◌<◌, ◌^◌, [], length, Some, option_map, IfOk, OnOk, OnErr};
+ghost use Rattle.std.specs.Prelude.{◌≡◌, ◌<◌, ◌^◌, [], length, Some, option_map, is_some, IfOk, OnOk, OnErr};
 ghost use Rattle.std.specs.List.Sorted.{IsStrictlySortedBy};
 ghost use Rattle.std.specs.Map.{keys_of};
 ghost use Rattle.table_schema.specs.Fields.{merged};
@@ -63,23 +63,28 @@ fn first_fields(fields: Fields) -> Fields
     fields
 }
 
-/// Merges fields into the operation of a key.
-fn lay(ops: &mut BTreeMap<Key, Op>, key: Key, fields: Fields) -> Result<(), OutOfMemory>
+/// Merges fields into the operation of a key, and tells whether it had one.
+fn lay(ops: &mut BTreeMap<Key, Op>, key: Key, fields: Fields) -> Result<bool, OutOfMemory>
     ensures ok { OnOk result (ops.new.entries ≡ ops_after ops.old.entries (write.Set key fields)) }
+    ensures there { IfOk result (λ there. there ≡ is_some (op_at ops.old.entries key)) }
     ensures err { OnErr result (ops.new.entries ≡ ops.old.entries) }
 {
     match ops.entry(key)? {
-        Entry::Occupied(place) => place.into_mut().lay(fields),
+        Entry::Occupied(place) => {
+            place.into_mut().lay(fields)?;
+            Ok(true)
+        }
         Entry::Vacant(place) => {
             place.insert(Op::Set(first_fields(fields)));
-            Ok(())
+            Ok(false)
         }
     }
 }
 
-/// Adds what was popped of a key.
-fn add(ops: &mut BTreeMap<Key, Op>, op: KeyOp) -> Result<(), OutOfMemory>
+/// Adds what was popped of a key, and tells whether it had an operation.
+fn add(ops: &mut BTreeMap<Key, Op>, op: KeyOp) -> Result<bool, OutOfMemory>
     ensures ok { OnOk result (ops.new.entries ≡ ops_with ops.old.entries op) }
+    ensures there { IfOk result (λ there. there ≡ is_some (op_at ops.old.entries op.key)) }
     ensures err { OnErr result (ops.new.entries ≡ ops.old.entries) }
 {
     let KeyOp {
@@ -89,15 +94,15 @@ fn add(ops: &mut BTreeMap<Key, Op>, op: KeyOp) -> Result<(), OutOfMemory>
     } = op;
     match (dropped, fields) {
         (true, Some(fields)) => {
-            ops.insert(key, Op::Replace(first_fields(fields)))?;
-            Ok(())
+            let was = ops.insert(key, Op::Replace(first_fields(fields)))?;
+            Ok(was.is_some())
         }
         (true, None) => {
-            ops.insert(key, Op::Del)?;
-            Ok(())
+            let was = ops.insert(key, Op::Del)?;
+            Ok(was.is_some())
         }
         (false, Some(fields)) => lay(ops, key, fields),
-        (false, None) => Ok(()),
+        (false, None) => Ok(ops.contains_key(&key)),
     }
 }
 
@@ -142,6 +147,16 @@ impl ToSync {
     /// with fields a SET behind it, which is merged into a Set or a Replace and turns a Del into a Replace.
     pub fn add(&mut self, op: KeyOp) -> Result<(), OutOfMemory>
         ensures ok { OnOk result (self.new ≡ ops_with self.old op) }
+        ensures err { OnErr result (self.new ≡ self.old) }
+    {
+        self.put(op)?;
+        Ok(())
+    }
+
+    /// The same, which tells whether the key was to sync before.
+    pub fn put(&mut self, op: KeyOp) -> Result<bool, OutOfMemory>
+        ensures ok { OnOk result (self.new ≡ ops_with self.old op) }
+        ensures there { IfOk result (λ there. there ≡ is_some (op_at self.old op.key)) }
         ensures err { OnErr result (self.new ≡ self.old) }
     {
         add(&mut self.ops, op)

@@ -23,8 +23,7 @@ pub(crate) fn take_in(
     ensures err { OnErr result (rows.new ≡ rows.old) }
     ensures none { OnErr result (IsAdded to_sync.old None to_sync.new) }
 {
-    let there = to_sync.op(key).is_some();
-    to_sync.add(op_of(key, pending)?)?;
+    let there = to_sync.put(op_of(key, pending)?)?;
     let _order = to_sync.len();
     if let Err(error) = merge(rows, key, pending) {
         if !there {

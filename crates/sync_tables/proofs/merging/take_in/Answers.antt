@@ -9,7 +9,7 @@ pub returns-then-not-there-clause-none : goal.returns-then-not-there-clause-none
 returns-then-not-there-clause-none c =
     let old = c.args.to_sync.now in
     let key = c.args.key.now in
-    let now : c.add.new.self ≡ ops_with old (op_of (key, c.args.pending.now)) = search rules in
+    let now : c.put.new.self ≡ ops_with old (op_of (key, c.args.pending.now)) = search rules in
     let none : is_some (op_at old key) ≡ false = search rules in
     let off = added-off old key c.args.pending.now (subst AreOpsInOrder now c.len-order.ensures.order) c.requires.matters none in
     subst (λ n. IsAdded old None n) (sym (c.done.ensures ∙ ap (λ n. without_op n key) now)) off
@@ -18,7 +18,7 @@ pub returns-else-not-there-clause-none : goal.returns-else-not-there-clause-none
 returns-else-not-there-clause-none c =
     let old = c.args.to_sync.now in
     let key = c.args.key.now in
-    let now : c.add.new.self ≡ ops_with old (op_of (key, c.args.pending.now)) = search rules in
+    let now : c.put.new.self ≡ ops_with old (op_of (key, c.args.pending.now)) = search rules in
     let there : is_some (op_at old key) ≡ true = search rules in
     subst (λ n. IsAdded old None n) (sym now) (added-there old key c.args.pending.now c.requires.matters there)
 
@@ -26,5 +26,5 @@ pub returns-clause-added : goal.returns-clause-added
 returns-clause-added c =
     let old = c.args.to_sync.now in
     let key = c.args.key.now in
-    let now : c.add.new.self ≡ ops_with old (op_of (key, c.args.pending.now)) = search rules in
+    let now : c.put.new.self ≡ ops_with old (op_of (key, c.args.pending.now)) = search rules in
     subst (λ n. IsAdded old (Some key) n) (sym now) (added old key c.args.pending.now c.requires.matters)

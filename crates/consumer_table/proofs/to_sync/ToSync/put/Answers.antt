@@ -2,7 +2,7 @@ use Rattle.producer_table.specs.Pending.{writes_of_op}
 use Rattle.producer_table.proofs.Placed.{kept}
 use Rattle.consumer_table.specs.Ops.{HaveOpNames, ops_with}
 use Rattle.consumer_table.proofs.OpWrites.{HaveOpNames-after_all}
-use Rattle.consumer_table.proofs.to_sync.ToSync.add.Goals as goal
+use Rattle.consumer_table.proofs.to_sync.ToSync.put.Goals as goal
 
 pub invariant_of-self : goal.invariant_of-self
 invariant_of-self c =
