@@ -3,6 +3,7 @@ ghost use Rattle.std.specs.Prelude.{◌≡◌, ◌++◌, ◌<◌, ℕ, List, suc
 ghost use Rattle.std.specs.declared.cmp.Ordering.TheVariants.{Less};
 ghost use Rattle.table_schema.specs.Fields.{HasRisingNames, IsPlace, by_bytes, restored, value_of, with_pair};
 
+use crate::held::FEW;
 use std::alloc::Global;
 use std::mem::replace;
 use swss_types::{OutOfMemory, Text};
@@ -40,15 +41,30 @@ fn is_below_next(pairs: &[(Text, Text)], at: usize) -> bool
     }
 }
 
-/// The value under a name.
+/// The value under a name. Of a few pairs most have a name of another length, which takes no comparison of bytes.
 pub(crate) fn find_few<'a>(pairs: &'a [(Text, Text)], name: &[u8]) -> Option<&'a Text>
     requires { HasRisingNames pairs.now }
     ensures { option_map (λ value. value.now) result ≡ value_of name.now pairs.now }
 {
+    if pairs.len() <= FEW {
+        return find_in_turn(pairs, name);
+    }
     match place_of(pairs, name) {
         Ok(at) => Some(&pairs[at].1),
         Err(_) => None,
     }
+}
+
+/// The value under a name, which is looked for from the first pair on.
+fn find_in_turn<'a>(pairs: &'a [(Text, Text)], name: &[u8]) -> Option<&'a Text>
+    ensures { option_map (λ value. value.now) result ≡ value_of name.now pairs.now }
+{
+    for pair in pairs {
+        if name.cmp(pair.0.bytes()).is_eq() {
+            return Some(&pair.1);
+        }
+    }
+    None
 }
 
 /// Puts a value under a name, and answers the one that it replaced.
