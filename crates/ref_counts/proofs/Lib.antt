@@ -2,6 +2,8 @@ pub mod Changing
 pub mod Found
 pub mod Keeping
 pub mod Noting
+pub mod Partings
 pub mod Pins
 pub mod Releasing
 pub mod Rooms
+pub mod Segments

@@ -1,4 +1,6 @@
 pub mod Kept
+pub mod Lent
+pub mod Parted
 pub mod Registered
 pub mod Registry
 pub mod Room

@@ -3,20 +3,16 @@ ghost use Rattle.std.specs.Prelude.{◌≡◌, ◌≤◌, None, Some, length, If
 ghost use Rattle.ref_counts.specs.Registered.{IsReadable, begun_to_go, made_live, released, with_pin, with_user, without_last_pin, without_user};
 ghost use Rattle.ref_counts.specs.Registry.{changed, gone_from, places_of, retire_refusal_at, state_of};
 
-use crate::registration::Registration;
+use crate::registrations::Registrations;
 use crate::{Name, NameState};
 use sai_types::Vid;
-use std::collections::BTreeMap;
 use switch_model::Wait;
 use swss_types::OutOfMemory;
 use table_schema::Key;
 
-/// What is known of the names that are not absent.
-pub type Registrations = BTreeMap<Name, Registration>;
-
 /// How a name stands.
 pub fn state(names: &Registrations, name: &Name) -> NameState
-    ensures { result ≡ state_of names.now.entries name.now }
+    ensures { result ≡ state_of names.now name.now }
 {
     match names.get(name) {
         Some(registration) => registration.state(),
@@ -26,8 +22,8 @@ pub fn state(names: &Registrations, name: &Name) -> NameState
 
 /// All of a name is there, with these identifiers.
 pub fn make_live(names: &mut Registrations, name: &Name, ids: &[Vid])
-    requires { length ids.now ≤ places_of names.old.entries name.now }
-    ensures { names.new.entries ≡ changed names.old.entries name.now (made_live ids.now) }
+    requires { length ids.now ≤ places_of names.old name.now }
+    ensures { names.new ≡ changed names.old name.now (made_live ids.now) }
 {
     if let Some(registration) = names.get_mut(name) {
         registration.make_live(ids);
@@ -37,8 +33,8 @@ pub fn make_live(names: &mut Registrations, name: &Name, ids: &[Vid])
 /// A key comes to use a name, where it is not absent.
 pub fn add_user(names: &mut Registrations, name: &Name, user: Key) -> Result<(), OutOfMemory>
     requires { IsReadable user }
-    ensures ok { OnOk result (names.new.entries ≡ changed names.old.entries name.now (with_user user)) }
-    ensures err { OnErr result (names.new.entries ≡ names.old.entries) }
+    ensures ok { OnOk result (names.new ≡ changed names.old name.now (with_user user)) }
+    ensures err { OnErr result (names.new ≡ names.old) }
 {
     match names.get_mut(name) {
         Some(registration) => registration.add_user(user),
@@ -48,7 +44,7 @@ pub fn add_user(names: &mut Registrations, name: &Name, user: Key) -> Result<(),
 
 /// A key uses a name no more.
 pub fn drop_user(names: &mut Registrations, name: &Name, user: &Key)
-    ensures { names.new.entries ≡ changed names.old.entries name.now (without_user user.now) }
+    ensures { names.new ≡ changed names.old name.now (without_user user.now) }
 {
     if let Some(registration) = names.get_mut(name) {
         registration.drop_user(user);
@@ -57,11 +53,11 @@ pub fn drop_user(names: &mut Registrations, name: &Name, user: &Key)
 
 /// A worker begins to take a name away, unless a key uses it or another worker pins it.
 pub fn retire(names: &mut Registrations, name: &Name, worker: u32) -> Result<(), Wait>
-    requires { state_of names.old.entries name.now ≡ NameState.Live }
-    ensures free { OnOk result (retire_refusal_at names.old.entries worker name.now ≡ None) }
-    ensures ok { OnOk result (names.new.entries ≡ changed names.old.entries name.now (begun_to_go worker)) }
-    ensures refusal { IfErr result (λ wait. retire_refusal_at names.old.entries worker name.now ≡ Some wait) }
-    ensures err { OnErr result (names.new.entries ≡ names.old.entries) }
+    requires { state_of names.old name.now ≡ NameState.Live }
+    ensures free { OnOk result (retire_refusal_at names.old worker name.now ≡ None) }
+    ensures ok { OnOk result (names.new ≡ changed names.old name.now (begun_to_go worker)) }
+    ensures refusal { IfErr result (λ wait. retire_refusal_at names.old worker name.now ≡ Some wait) }
+    ensures err { OnErr result (names.new ≡ names.old) }
 {
     match names.get_mut(name) {
         Some(registration) => registration.retire(worker),
@@ -71,7 +67,7 @@ pub fn retire(names: &mut Registrations, name: &Name, worker: u32) -> Result<(),
 
 /// A name that was retiring is absent.
 pub fn end_retirement(names: &mut Registrations, name: &Name)
-    ensures { names.new.entries ≡ gone_from names.old.entries name.now }
+    ensures { names.new ≡ gone_from names.old name.now }
 {
     if let NameState::Retiring(_) = state(names, name) {
         names.remove(name);
@@ -86,8 +82,8 @@ pub fn pin(
     user: &Key,
 ) -> Result<(), OutOfMemory>
     requires { IsReadable user.now }
-    ensures ok { OnOk result (names.new.entries ≡ changed names.old.entries name.now (with_pin worker user.now)) }
-    ensures err { OnErr result (names.new.entries ≡ names.old.entries) }
+    ensures ok { OnOk result (names.new ≡ changed names.old name.now (with_pin worker user.now)) }
+    ensures err { OnErr result (names.new ≡ names.old) }
 {
     match names.get_mut(name) {
         Some(registration) => registration.pin(worker, user),
@@ -97,7 +93,7 @@ pub fn pin(
 
 /// The last pin of a name is taken back.
 pub fn unpin_last(names: &mut Registrations, name: &Name)
-    ensures { names.new.entries ≡ changed names.old.entries name.now without_last_pin }
+    ensures { names.new ≡ changed names.old name.now without_last_pin }
 {
     if let Some(registration) = names.get_mut(name) {
         registration.unpin_last();
@@ -106,7 +102,7 @@ pub fn unpin_last(names: &mut Registrations, name: &Name)
 
 /// A worker gives up its pins of a name.
 pub fn release(names: &mut Registrations, name: &Name, worker: u32, used: bool)
-    ensures { names.new.entries ≡ changed names.old.entries name.now (released worker used) }
+    ensures { names.new ≡ changed names.old name.now (released worker used) }
 {
     if let Some(registration) = names.get_mut(name) {
         registration.release(worker, used);

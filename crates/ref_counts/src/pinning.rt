@@ -8,7 +8,8 @@ ghost use Rattle.ref_counts.specs.Registered.{IsReadable};
 ghost use Rattle.ref_counts.specs.Registry.{AreNoted, all_released, each_released, noted_by, pinned};
 
 use crate::Name;
-use crate::changes::{Registrations, pin, release, unpin_last};
+use crate::changes::{pin, release, unpin_last};
+use crate::registrations::Registrations;
 use std::alloc::Global;
 use std::collections::BTreeMap;
 use swss_types::OutOfMemory;
@@ -26,9 +27,9 @@ pub fn pin_noted(
     keys: &[Key],
 ) -> Result<(), OutOfMemory>
     requires { IsReadable user.now }
-    ensures ok { OnOk result (names.new.entries ≡ pinned names.old.entries worker user.now keys.now) }
+    ensures ok { OnOk result (names.new ≡ pinned names.old worker user.now keys.now) }
     ensures noted { OnOk result (noted.new.items ≡ noted.old.items ++ map Name.Row keys.now) }
-    ensures err { OnErr result (names.new.entries ≡ names.old.entries) }
+    ensures err { OnErr result (names.new ≡ names.old) }
     ensures noted_err { OnErr result (noted.new.items ≡ noted.old.items) }
 {
     let before = noted.as_slice().len();
@@ -65,8 +66,8 @@ fn pin_each(
     rows: &[Name],
 ) -> Result<(), OutOfMemory>
     requires { IsReadable user.now }
-    ensures ok { OnOk result ((keys : List Key) → rows.now ≡ map Name.Row keys → names.new.entries ≡ pinned names.old.entries worker user.now keys) }
-    ensures err { OnErr result (names.new.entries ≡ names.old.entries) }
+    ensures ok { OnOk result ((keys : List Key) → rows.now ≡ map Name.Row keys → names.new ≡ pinned names.old worker user.now keys) }
+    ensures err { OnErr result (names.new ≡ names.old) }
 {
     match rows {
         [] => Ok(()),
@@ -83,7 +84,7 @@ fn pin_each(
 
 /// A worker gives up its pins of these names.
 pub fn release_each(names: &mut Registrations, noted: &[Name], worker: u32, used: bool)
-    ensures { names.new.entries ≡ each_released names.old.entries worker used noted.now }
+    ensures { names.new ≡ each_released names.old worker used noted.now }
 {
     for name in noted {
         release(names, name, worker, used);
@@ -100,9 +101,9 @@ pub fn pin_all(
     keys: &[Key],
 ) -> Result<(), OutOfMemory>
     requires { IsReadable user.now }
-    ensures ok { OnOk result (names.new.entries ≡ pinned names.old.entries worker user.now keys.now) }
-    ensures err { OnErr result (names.new.entries ≡ names.old.entries) }
-    ensures noted { AreNoted noted.old.entries names.old.entries → AreNoted noted.new.entries names.new.entries }
+    ensures ok { OnOk result (names.new ≡ pinned names.old worker user.now keys.now) }
+    ensures err { OnErr result (names.new ≡ names.old) }
+    ensures noted { AreNoted noted.old.entries names.old → AreNoted noted.new.entries names.new }
 {
     note_worker(alloc, noted, worker)?;
     match noted.get_mut(&worker) {
@@ -125,9 +126,9 @@ fn note_worker(alloc: Global, noted: &mut NotedNames, worker: u32) -> Result<(),
 
 /// A worker gives up all its pins, whose names are noted under it.
 pub fn release_all(names: &mut Registrations, noted: &mut NotedNames, worker: u32, used: bool)
-    requires { AreNoted noted.old.entries names.old.entries }
-    ensures released { names.new.entries ≡ all_released worker used names.old.entries }
-    ensures noted { AreNoted noted.new.entries names.new.entries }
+    requires { AreNoted noted.old.entries names.old }
+    ensures released { names.new ≡ all_released worker used names.old }
+    ensures noted { AreNoted noted.new.entries names.new }
 {
     if let Some(noted) = noted.get_mut(&worker) {
         release_each(names, noted.as_slice(), worker, used);

@@ -6,9 +6,9 @@ ghost use Rattle.std.specs.Map.{keys_of};
 ghost use Rattle.ref_counts.specs.Registered.{IsReadable, begun, first_of, begun_to_go, made_live, with_user, without_user};
 ghost use Rattle.ref_counts.specs.Registry.{all_released, changed, first_not_live, gone_from, ids_of, is_live, registered_name_cmp, owner_in, pinned, places_of, retire_refusal_at, state_of, takes_users, users_of};
 
-use crate::changes::Registrations;
 use crate::pinning::{NotedNames, pin_all, release_all};
 use crate::registration::Registration;
+use crate::registrations::Registrations;
 use crate::{Missing, Name, NameState, changes};
 use sai_types::Vid;
 use std::alloc::Global;
@@ -32,9 +32,9 @@ impl Model for Registry {
 
     ghost Value = { Names };
 
-    ghost view = { λ r. r.names.entries };
+    ghost view = { λ r. r.names };
 
-    ghost invariant = { λ r. AreNoted r.noted.entries r.names.entries };
+    ghost invariant = { λ r. AreNoted r.noted.entries r.names };
 }
 
 impl Registry {
@@ -43,7 +43,7 @@ impl Registry {
         ensures { result ≡ [] }
     {
         Registry {
-            names: BTreeMap::new(alloc),
+            names: Registrations::new(alloc),
             noted: BTreeMap::new(alloc),
             alloc,
         }
@@ -61,8 +61,8 @@ impl Registry {
         ensures live { IsTrue result ↔ (state_of self.now name.now ≡ NameState.Live) }
         ensures order { IsStrictlySortedBy registered_name_cmp (keys_of self.now) }
     {
-        // It says that the names rise.
-        let _rising = self.names.len();
+        // It says that the names are in order.
+        self.names.rise();
         match self.state(name) {
             NameState::Live => true,
             _ => false,

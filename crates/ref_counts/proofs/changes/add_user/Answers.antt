@@ -6,16 +6,16 @@ use Rattle.ref_counts.proofs.changes.add_user.Goals as goal
 
 pub returns-in-Some-clause-ok : goal.returns-in-Some-clause-ok
 returns-in-Some-clause-ok c =
-    let there : registered_at c.args.names.now.entries c.args.name.now ≡ Some c.in-Some.registration.now = search rules in
-    changed-ok c.args.names.now.entries (c.get_mut.follows.lender c.add_user.new.self).entries c.args.name.now c.in-Some.registration.now c.add_user.new.self c.get_mut.ensures.ordered there (c.get_mut.follows.holds c.add_user.new.self).0 c.add_user.result (with_user c.args.user) c.add_user.ensures.ok
+    let there : registered_at c.args.names.now c.args.name.now ≡ Some c.in-Some.registration.now = search rules in
+    changed-ok c.args.names.now (c.get_mut.follows.lender c.add_user.new.self) c.args.name.now c.in-Some.registration.now c.add_user.new.self c.get_mut.ensures.ordered there (c.get_mut.follows.holds c.add_user.new.self) c.add_user.result (with_user c.args.user) c.add_user.ensures.ok
 
 pub returns-in-Some-clause-err : goal.returns-in-Some-clause-err
 returns-in-Some-clause-err c =
-    let there : registered_at c.args.names.now.entries c.args.name.now ≡ Some c.in-Some.registration.now = search rules in
-    same-err c.args.names.now.entries (c.get_mut.follows.lender c.add_user.new.self).entries c.args.name.now c.in-Some.registration.now c.add_user.new.self c.get_mut.ensures.ordered there (c.get_mut.follows.holds c.add_user.new.self).0 c.add_user.result c.add_user.ensures.err
+    let there : registered_at c.args.names.now c.args.name.now ≡ Some c.in-Some.registration.now = search rules in
+    same-err c.args.names.now (c.get_mut.follows.lender c.add_user.new.self) c.args.name.now c.in-Some.registration.now c.add_user.new.self c.get_mut.ensures.ordered there (c.get_mut.follows.holds c.add_user.new.self) c.add_user.result c.add_user.ensures.err
 
 pub returns-in-None-clause-ok : goal.returns-in-None-clause-ok
 returns-in-None-clause-ok c =
-    let none : registered_at c.args.names.now.entries c.args.name.now ≡ None = search rules in
-    let same : c.get_mut.follows.lender-at-none.entries ≡ c.args.names.now.entries = search rules in
-    same ∙ changed-absent c.args.name.now (with_user c.args.user) c.args.names.now.entries none
+    let none : registered_at c.args.names.now c.args.name.now ≡ None = search rules in
+    let same : c.get_mut.follows.lender-at-none ≡ c.args.names.now = search rules in
+    same ∙ changed-absent c.args.name.now (with_user c.args.user) c.args.names.now none

@@ -6,11 +6,11 @@ use Rattle.ref_counts.proofs.changes.release.Goals as goal
 
 pub returns-in-Some : goal.returns-in-Some
 returns-in-Some c =
-    let there : registered_at c.args.names.now.entries c.args.name.now ≡ Some c.in-Some.registration.now = search rules in
-    changed-by c.args.names.now.entries (c.get_mut.follows.lender c.release.new.self).entries c.args.name.now c.in-Some.registration.now c.release.new.self c.get_mut.ensures.ordered there (c.get_mut.follows.holds c.release.new.self).0 (released c.args.worker c.args.used) c.release.ensures
+    let there : registered_at c.args.names.now c.args.name.now ≡ Some c.in-Some.registration.now = search rules in
+    changed-by c.args.names.now (c.get_mut.follows.lender c.release.new.self) c.args.name.now c.in-Some.registration.now c.release.new.self c.get_mut.ensures.ordered there (c.get_mut.follows.holds c.release.new.self) (released c.args.worker c.args.used) c.release.ensures
 
 pub returns-in_default : goal.returns-in_default
 returns-in_default c =
-    let none : registered_at c.args.names.now.entries c.args.name.now ≡ None = search rules in
-    let same : c.get_mut.follows.lender-at-none.entries ≡ c.args.names.now.entries = search rules in
-    same ∙ changed-absent c.args.name.now (released c.args.worker c.args.used) c.args.names.now.entries none
+    let none : registered_at c.args.names.now c.args.name.now ≡ None = search rules in
+    let same : c.get_mut.follows.lender-at-none ≡ c.args.names.now = search rules in
+    same ∙ changed-absent c.args.name.now (released c.args.worker c.args.used) c.args.names.now none

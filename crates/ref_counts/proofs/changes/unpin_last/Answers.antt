@@ -6,11 +6,11 @@ use Rattle.ref_counts.proofs.changes.unpin_last.Goals as goal
 
 pub returns-in-Some : goal.returns-in-Some
 returns-in-Some c =
-    let there : registered_at c.args.names.now.entries c.args.name.now ≡ Some c.in-Some.registration.now = search rules in
-    changed-by c.args.names.now.entries (c.get_mut.follows.lender c.unpin_last.new.self).entries c.args.name.now c.in-Some.registration.now c.unpin_last.new.self c.get_mut.ensures.ordered there (c.get_mut.follows.holds c.unpin_last.new.self).0 (without_last_pin) c.unpin_last.ensures
+    let there : registered_at c.args.names.now c.args.name.now ≡ Some c.in-Some.registration.now = search rules in
+    changed-by c.args.names.now (c.get_mut.follows.lender c.unpin_last.new.self) c.args.name.now c.in-Some.registration.now c.unpin_last.new.self c.get_mut.ensures.ordered there (c.get_mut.follows.holds c.unpin_last.new.self) (without_last_pin) c.unpin_last.ensures
 
 pub returns-in_default : goal.returns-in_default
 returns-in_default c =
-    let none : registered_at c.args.names.now.entries c.args.name.now ≡ None = search rules in
-    let same : c.get_mut.follows.lender-at-none.entries ≡ c.args.names.now.entries = search rules in
-    same ∙ changed-absent c.args.name.now (without_last_pin) c.args.names.now.entries none
+    let none : registered_at c.args.names.now c.args.name.now ≡ None = search rules in
+    let same : c.get_mut.follows.lender-at-none ≡ c.args.names.now = search rules in
+    same ∙ changed-absent c.args.name.now (without_last_pin) c.args.names.now none

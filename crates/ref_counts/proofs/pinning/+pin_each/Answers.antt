@@ -11,7 +11,7 @@ returns-in_default-clause-ok t c [] is = search rules
 returns-in_default-clause-ok t c (k ∷ ks) is =
     let first : c.name-item.result ≡ name.Row k = search rules in
     c.in_default.ensures.ok ks (take_rest c.args.rows.now 1 ∙ ap (drop 1) is)
-    ∙ ap (λ ns. pinned ns c.args.worker c.args.user.now ks) (c.in_ok-pin-in-len1-up.ensures.ok ∙ ap (λ n. changed c.args.names.now.entries n (with_pin c.args.worker c.args.user.now)) first)
+    ∙ ap (λ ns. pinned ns c.args.worker c.args.user.now ks) (c.in_ok-pin-in-len1-up.ensures.ok ∙ ap (λ n. changed c.args.names.now n (with_pin c.args.worker c.args.user.now)) first)
 
 pub returns-in-Err-clause-err : goal.returns-in-Err-clause-err
-returns-in-Err-clause-err t c = pin-undone c.name-item.result c.args.worker c.args.user.now c.args.names.now.entries c.pin.new.names.entries c.pin_each.new.names.entries c.unpin_last.new.names.entries c.in_ok-pin-in-len1-up.ensures.ok c.in-Err.ensures.err c.unpin_last.ensures
+returns-in-Err-clause-err t c = pin-undone c.name-item.result c.args.worker c.args.user.now c.args.names.now c.pin.new.names c.pin_each.new.names c.unpin_last.new.names c.in_ok-pin-in-len1-up.ensures.ok c.in-Err.ensures.err c.unpin_last.ensures

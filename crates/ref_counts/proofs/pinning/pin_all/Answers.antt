@@ -7,7 +7,7 @@ use Rattle.ref_counts.proofs.Noting.{noted-same, noted-set, noted-tried}
 use Rattle.ref_counts.proofs.pinning.pin_all.Goals as goal
 
 pub returns-in_err-note_worker-clause-noted : goal.returns-in_err-note_worker-clause-noted
-returns-in_err-note_worker-clause-noted c = λ h. noted-same c.args.noted.now.entries c.note_worker.new.noted.entries c.note_worker.ensures.same c.args.names.now.entries h
+returns-in_err-note_worker-clause-noted c = λ h. noted-same c.args.noted.now.entries c.note_worker.new.noted.entries c.note_worker.ensures.same c.args.names.now h
 
 pub returns-clause-noted : goal.returns-clause-noted
 returns-clause-noted c =
@@ -16,5 +16,5 @@ returns-clause-noted c =
     let there : lookup (is_at (nat_cmp c.args.worker)) start ≡ Some c.in-Some.noted.now = search rules in
     let some : IsSome (lookup (is_at (nat_cmp c.args.worker)) start) = rw there refl in
     let set = noted-set start end c.args.worker c.pin_noted.new.noted ((c.get_mut.follows.holds c.pin_noted.new.noted).3 some).0 in
-    λ h. noted-tried c.pin_noted.result start end c.args.worker c.args.user.now c.args.keys.now c.args.names.now.entries c.pin_noted.new.names.entries c.in-Some.noted.now.items c.pin_noted.new.noted.items (ap items_in there) set.0 set.1 c.pin_noted.ensures.ok c.pin_noted.ensures.noted c.pin_noted.ensures.err c.pin_noted.ensures.noted_err
-    (noted-same c.args.noted.now.entries start c.note_worker.ensures.same c.args.names.now.entries h)
+    λ h. noted-tried c.pin_noted.result start end c.args.worker c.args.user.now c.args.keys.now c.args.names.now c.pin_noted.new.names c.in-Some.noted.now.items c.pin_noted.new.noted.items (ap items_in there) set.0 set.1 c.pin_noted.ensures.ok c.pin_noted.ensures.noted c.pin_noted.ensures.err c.pin_noted.ensures.noted_err
+    (noted-same c.args.noted.now.entries start c.note_worker.ensures.same c.args.names.now h)

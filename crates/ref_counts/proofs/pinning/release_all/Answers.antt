@@ -11,8 +11,8 @@ pub returns-in-Some-clause-released : goal.returns-in-Some-clause-released
 returns-in-Some-clause-released c =
     let there : lookup (is_at (nat_cmp c.args.worker)) c.args.noted.now.entries ≡ Some c.in-Some.noted.now = search rules in
     c.release_each.ensures
-    ∙ ap (each_released c.args.names.now.entries c.args.worker c.args.used) (c.as_slice.ensures.value ∙ sym (ap items_in there))
-    ∙ released-noted c.args.noted.now.entries c.args.worker c.args.used c.args.names.now.entries c.requires
+    ∙ ap (each_released c.args.names.now c.args.worker c.args.used) (c.as_slice.ensures.value ∙ sym (ap items_in there))
+    ∙ released-noted c.args.noted.now.entries c.args.worker c.args.used c.args.names.now c.requires
 
 pub returns-in-Some-clause-noted : goal.returns-in-Some-clause-noted
 returns-in-Some-clause-noted c =
@@ -20,14 +20,14 @@ returns-in-Some-clause-noted c =
     let some : IsSome (lookup (is_at (nat_cmp c.args.worker)) c.args.noted.now.entries) = rw there refl in
     let end = (c.get_mut.follows.lender c.clear.new.self).entries in
     let set = noted-set c.args.noted.now.entries end c.args.worker c.clear.new.self ((c.get_mut.follows.holds c.clear.new.self).3 some).0 in
-    let released : c.release_each.new.names.entries ≡ all_released c.args.worker c.args.used c.args.names.now.entries =
+    let released : c.release_each.new.names ≡ all_released c.args.worker c.args.used c.args.names.now =
     c.release_each.ensures
-    ∙ ap (each_released c.args.names.now.entries c.args.worker c.args.used) (c.as_slice.ensures.value ∙ sym (ap items_in there))
-    ∙ released-noted c.args.noted.now.entries c.args.worker c.args.used c.args.names.now.entries c.requires in
-    subst (AreNoted end) (sym released) (noted-released c.args.noted.now.entries end c.args.worker c.args.used set.1 c.args.names.now.entries c.requires)
+    ∙ ap (each_released c.args.names.now c.args.worker c.args.used) (c.as_slice.ensures.value ∙ sym (ap items_in there))
+    ∙ released-noted c.args.noted.now.entries c.args.worker c.args.used c.args.names.now c.requires in
+    subst (AreNoted end) (sym released) (noted-released c.args.noted.now.entries end c.args.worker c.args.used set.1 c.args.names.now c.requires)
 
 pub returns-in_default-clause-released : goal.returns-in_default-clause-released
 returns-in_default-clause-released c =
     let none : lookup (is_at (nat_cmp c.args.worker)) c.args.noted.now.entries ≡ None = search rules in
-    ap (each_released c.args.names.now.entries c.args.worker c.args.used) (sym (ap items_in none))
-    ∙ released-noted c.args.noted.now.entries c.args.worker c.args.used c.args.names.now.entries c.requires
+    ap (each_released c.args.names.now c.args.worker c.args.used) (sym (ap items_in none))
+    ∙ released-noted c.args.noted.now.entries c.args.worker c.args.used c.args.names.now c.requires

@@ -4,4 +4,4 @@ use Rattle.ref_counts.proofs.Noting.{either-way, noted-changed}
 use Rattle.ref_counts.proofs.registry.Registry.add_user.Goals as goal
 
 pub invariant_of-self : goal.invariant_of-self
-invariant_of-self c = either-way (AreNoted c.self.inside.noted.entries) c.add_user.result c.self.inside.names.entries c.add_user.new.names.entries (changed c.self.inside.names.entries c.args.name.now (with_user c.args.user)) c.add_user.ensures.ok c.add_user.ensures.err (noted-changed c.self.inside.noted.entries c.args.name.now (with_user c.args.user) (λ m r h. h) c.self.inside.names.entries c.self.invariant) c.self.invariant
+invariant_of-self c = either-way (AreNoted c.self.inside.noted.entries) c.add_user.result c.self.inside.names c.add_user.new.names (changed c.self.inside.names c.args.name.now (with_user c.args.user)) c.add_user.ensures.ok c.add_user.ensures.err (noted-changed c.self.inside.noted.entries c.args.name.now (with_user c.args.user) (λ m r h. h) c.self.inside.names c.self.invariant) c.self.invariant

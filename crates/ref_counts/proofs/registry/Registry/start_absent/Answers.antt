@@ -6,5 +6,5 @@ use Rattle.ref_counts.proofs.registry.Registry.start_absent.Goals as goal
 
 pub invariant_of-self-2 : goal.invariant_of-self-2
 invariant_of-self-2 c =
-    let put : c.insert.new.self.entries ≡ insert_entry registered_name_cmp c.self.inside.names.entries c.args.name c.in_ok-registration.registration = search rules in
-    rw put (noted-put c.self.inside.noted.entries c.args.name c.in_ok-registration.registration (ap (λ r. r.pins) c.in_ok-registration.ensures) c.self.inside.names.entries c.self.invariant)
+    let put : c.insert.new.self ≡ insert_entry registered_name_cmp c.self.inside.names c.args.name c.in_ok-registration.registration = search rules in
+    rw put (noted-put c.self.inside.noted.entries c.args.name c.in_ok-registration.registration (ap (λ r. r.pins) c.in_ok-registration.ensures) c.self.inside.names c.self.invariant)

@@ -1,0 +1,30 @@
+use Rattle.std.proofs.Common.{sym, ap₂, ◌∙◌}
+use Rattle.std.specs.BTreeMap.{is_at}
+use Rattle.std.specs.Map.{remove_entry}
+use Rattle.ref_counts.specs.Registry.{registered_at, registered_name_cmp}
+use Rattle.ref_counts.proofs.Partings.{other-found, other-removed, parted-other_removed, parted-row_removed, route-found, route-removed, row-found, row-removed}
+use Rattle.ref_counts.proofs.registrations.Registrations.remove.Goals as goal
+
+pub invariant_of-self : goal.invariant_of-self
+invariant_of-self c = parted-row_removed c.self.inside.rows.entries c.self.inside.routes.entries c.self.inside.others.entries c.self.invariant c.remove.new.self.entries c.in-Row.key.now c.remove.ensures.entries
+
+pub invariant_of-self-in-Other : goal.invariant_of-self-in-Other
+invariant_of-self-in-Other c = parted-other_removed c.self.inside.rows.entries c.self.inside.routes.entries c.self.inside.others.entries c.self.invariant c.remove-in-Other.new.self.entries c.in-Other.name.now c.remove-in-Other.ensures.entries
+
+pub returns-in-Row-clause-value : goal.returns-in-Row-clause-value
+returns-in-Row-clause-value c = c.remove.ensures.value ∙ row-found c.self.inside.rows.entries c.self.inside.routes.entries c.self.inside.others.entries c.self.invariant c.in-Row.key.now c.in-Row.ensures.1 ∙ ap₂ registered_at c.self.view_is (sym c.in-Row.ensures.0)
+
+pub returns-in-Row-clause-removed : goal.returns-in-Row-clause-removed
+returns-in-Row-clause-removed c = row-removed c.self.inside.rows.entries c.self.inside.routes.entries c.self.inside.others.entries c.self.invariant c.in-Row.key.now c.in-Row.ensures.1 c.remove.new.self.entries c.remove.ensures.entries ∙ ap₂ (λ ns n. remove_entry (is_at (registered_name_cmp n)) ns) c.self.view_is (sym c.in-Row.ensures.0)
+
+pub returns-in-Route-clause-value : goal.returns-in-Route-clause-value
+returns-in-Route-clause-value c = c.remove-in-Route.ensures.value ∙ route-found c.self.inside.rows.entries c.self.inside.routes.entries c.self.inside.others.entries c.self.invariant c.in-Route.prefix.now ∙ ap₂ registered_at c.self.view_is (sym c.in-Route.ensures)
+
+pub returns-in-Route-clause-removed : goal.returns-in-Route-clause-removed
+returns-in-Route-clause-removed c = route-removed c.self.inside.rows.entries c.self.inside.routes.entries c.self.inside.others.entries c.self.invariant c.in-Route.prefix.now c.remove-in-Route.new.self.entries c.remove-in-Route.ensures.entries ∙ ap₂ (λ ns n. remove_entry (is_at (registered_name_cmp n)) ns) c.self.view_is (sym c.in-Route.ensures)
+
+pub returns-in-Other-clause-value : goal.returns-in-Other-clause-value
+returns-in-Other-clause-value c = c.remove-in-Other.ensures.value ∙ other-found c.self.inside.rows.entries c.self.inside.routes.entries c.self.inside.others.entries c.self.invariant c.in-Other.name.now c.in-Other.ensures.1 ∙ ap₂ registered_at c.self.view_is (sym c.in-Other.ensures.0)
+
+pub returns-in-Other-clause-removed : goal.returns-in-Other-clause-removed
+returns-in-Other-clause-removed c = other-removed c.self.inside.rows.entries c.self.inside.routes.entries c.self.inside.others.entries c.self.invariant c.in-Other.name.now c.in-Other.ensures.1 c.remove-in-Other.new.self.entries c.remove-in-Other.ensures.entries ∙ ap₂ (λ ns n. remove_entry (is_at (registered_name_cmp n)) ns) c.self.view_is (sym c.in-Other.ensures.0)

@@ -1,0 +1,43 @@
+// The parts in which names stand.
+ghost use Rattle.ref_counts.specs.Parted.{IsPart, IsPartOf};
+
+use crate::Name;
+use swss_types::Prefix;
+use table_schema::Key;
+
+/// What stands for a name in its part. Names are in order, and so are their parts.
+#[derive(Drop)]
+pub enum Part<R, P, N> {
+    /// The key of a row, which comes before the routes.
+    Row(R),
+    /// The prefix of a route.
+    Route(P),
+    /// A name that comes behind the routes.
+    Other(N),
+}
+
+/// The part of a name.
+#[inline(always)]
+pub fn part_of(name: &Name) -> Part<&Key, &Prefix, &Name>
+    ensures { IsPartOf result name.now }
+{
+    match name {
+        Name::Row(Key::Route(prefix)) => Part::Route(prefix),
+        Name::Row(Key::Other(_)) => Part::Other(name),
+        Name::Row(key) => Part::Row(key),
+        _ => Part::Other(name),
+    }
+}
+
+/// The part of a name that is handed over.
+#[inline(always)]
+pub fn into_part(name: Name) -> Part<Key, Prefix, Name>
+    ensures { IsPart result name }
+{
+    match name {
+        Name::Row(Key::Route(prefix)) => Part::Route(prefix),
+        Name::Row(Key::Other(text)) => Part::Other(Name::Row(Key::Other(text))),
+        Name::Row(key) => Part::Row(key),
+        other => Part::Other(other),
+    }
+}

@@ -1,0 +1,149 @@
+// What is known of all names.
+ghost use Rattle.std.specs.Prelude.{◌≡◌, ◌<◌, [], OnOk, OnErr, option_copied};
+ghost use Rattle.std.specs.BTreeMap.{insert_entry, is_at};
+ghost use Rattle.std.specs.Borrow.{sem};
+ghost use Rattle.std.specs.List.Sorted.{IsStrictlySortedBy};
+ghost use Rattle.std.specs.Map.{keys_of, remove_entry};
+ghost use Rattle.std.specs.Option.{option_copied_mut};
+ghost use Rattle.table_schema.specs.Key.{table_place};
+ghost use Rattle.ref_counts.specs.Lent.{lends_name};
+ghost use Rattle.ref_counts.specs.Parted.{name_place, route_name};
+ghost use Rattle.ref_counts.specs.Registry.{registered_at, registered_name_cmp};
+
+use crate::Name;
+use crate::part::{Part, into_part, part_of};
+use crate::registration::Registration;
+use std::alloc::Global;
+use std::collections::BTreeMap;
+use std::marker::Model;
+use swss_types::{OutOfMemory, Prefix};
+use table_schema::Key;
+
+/// What is known of the names that are not absent, in order. Most names are routes: they stand apart, so that the
+/// others are found among few, and each by a short comparison.
+#[derive(Drop)]
+pub struct Registrations {
+    rows: BTreeMap<Key, Registration>,
+    routes: BTreeMap<Prefix, Registration>,
+    others: BTreeMap<Name, Registration>,
+}
+
+impl Model for Registrations {
+    ghost use Rattle.ref_counts.specs.Registry.{Names};
+
+    ghost Value = { Names };
+
+    ghost use Rattle.ref_counts.specs.Parted.{AreParted, joined};
+
+    ghost view = { λ r. joined r.rows.entries r.routes.entries r.others.entries };
+
+    ghost invariant = { λ r. AreParted r.rows.entries r.others.entries };
+}
+
+impl Registrations {
+    /// Nothing is known.
+    pub fn new(alloc: Global) -> Registrations
+        ensures { result ≡ [] }
+    {
+        Registrations {
+            rows: BTreeMap::new(alloc),
+            routes: BTreeMap::new(alloc),
+            others: BTreeMap::new(alloc),
+        }
+    }
+
+    /// What is known of a name.
+    pub fn get(&self, name: &Name) -> Option<&Registration>
+        ensures { option_copied result ≡ registered_at self.now name.now }
+    {
+        match part_of(name) {
+            Part::Row(key) => self.rows.get(key),
+            Part::Route(prefix) => self.routes.get(prefix),
+            Part::Other(name) => self.others.get(name),
+        }
+    }
+
+    /// What is known of a name, to be changed.
+    pub fn get_mut(&mut self, name: &Name) -> Option<&mut Registration>
+        ensures* writes_back { sem 𝓛 (lends_name self.entry name.now result) }
+        ensures value { option_copied_mut result ≡ registered_at self.old name.now }
+        ensures ordered { IsStrictlySortedBy registered_name_cmp (keys_of self.old) }
+    {
+        // It says that the names are in order.
+        self.rise();
+        match part_of(name) {
+            Part::Row(key) => self.row_mut(key),
+            Part::Route(prefix) => self.route_mut(prefix),
+            Part::Other(name) => self.other_mut(name),
+        }
+    }
+
+    /// What is known of a route, to be changed.
+    fn route_mut(&mut self, prefix: &Prefix) -> Option<&mut Registration>
+        ensures* writes_back { sem 𝓛 (lends_name self.entry (route_name prefix.now) result) }
+        ensures value { option_copied_mut result ≡ registered_at self.old (route_name prefix.now) }
+    {
+        self.routes.get_mut(prefix)
+    }
+
+    /// What is known of a row that comes before the routes, to be changed.
+    fn row_mut(&mut self, key: &Key) -> Option<&mut Registration>
+        requires { table_place key.now < 6 }
+        ensures* writes_back { sem 𝓛 (lends_name self.entry (Name.Row key.now) result) }
+        ensures value { option_copied_mut result ≡ registered_at self.old (Name.Row key.now) }
+    {
+        self.rows.get_mut(key)
+    }
+
+    /// What is known of a name behind the routes, to be changed.
+    fn other_mut(&mut self, name: &Name) -> Option<&mut Registration>
+        requires { 6 < name_place name.now }
+        ensures* writes_back { sem 𝓛 (lends_name self.entry name.now result) }
+        ensures value { option_copied_mut result ≡ registered_at self.old name.now }
+    {
+        self.others.get_mut(name)
+    }
+
+    /// A name is known.
+    pub fn insert(&mut self, name: Name, registration: Registration) -> Result<(), OutOfMemory>
+        ensures ok { OnOk result (self.new ≡ insert_entry registered_name_cmp self.old name registration) }
+        ensures err { OnErr result (self.new ≡ self.old) }
+    {
+        match into_part(name) {
+            Part::Row(key) => {
+                self.rows.insert(key, registration)?;
+                Ok(())
+            }
+            Part::Route(prefix) => {
+                self.routes.insert(prefix, registration)?;
+                Ok(())
+            }
+            Part::Other(name) => {
+                self.others.insert(name, registration)?;
+                Ok(())
+            }
+        }
+    }
+
+    /// Nothing is known of a name any more. It returns what was known.
+    pub fn remove(&mut self, name: &Name) -> Option<Registration>
+        ensures value { result ≡ registered_at self.old name.now }
+        ensures removed { self.new ≡ remove_entry (is_at (registered_name_cmp name.now)) self.old }
+    {
+        match part_of(name) {
+            Part::Row(key) => self.rows.remove(key),
+            Part::Route(prefix) => self.routes.remove(prefix),
+            Part::Other(name) => self.others.remove(name),
+        }
+    }
+
+    /// The names are in order, each once.
+    #[inline(always)]
+    pub fn rise(&self)
+        ensures { IsStrictlySortedBy registered_name_cmp (keys_of self.now) }
+    {
+        let _rows = self.rows.len();
+        let _routes = self.routes.len();
+        let _others = self.others.len();
+    }
+}
