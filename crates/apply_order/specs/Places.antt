@@ -1,5 +1,5 @@
 -- Which places are paired, as maps from place to place. Own.
-use Rattle.std.specs.Prelude.{ℕ, List, [], ◌∷◌, Option}
+use Rattle.std.specs.Prelude.{◌≡◌, ℕ, ◌<◌, List, [], ◌∷◌, length, slice_get, Option, Some}
 use Rattle.std.specs.BTreeMap.{insert_entry, is_at}
 use Rattle.std.specs.Map.{lookup}
 use Rattle.std.specs.Ordering.{nat_cmp}
@@ -25,3 +25,7 @@ by_old pairs = with_old [] pairs
 
 abbrev pub partner_at : Places → ℕ → Option ℕ
 partner_at places place = lookup (is_at (nat_cmp place)) places
+
+-- a table of the partners of the places that it has
+pub record IsTable (places : Places) (table : List (Option ℕ)) : Type 0 where
+  pub each : (place : ℕ) → place < length table → slice_get table place ≡ Some (partner_at places place)

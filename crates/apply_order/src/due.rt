@@ -1,8 +1,10 @@
 // The steps that are due, with their turns.
 ghost use Rattle.std.specs.Prelude.{◌≡◌, ◌++◌, length, IfOk, OnOk};
 ghost use Rattle.std.specs.List.Sorted.{IsPermutation, IsSorted};
+ghost use Rattle.view_match.specs.Keyed.{AreKeysOf};
 ghost use Rattle.apply_order.specs.Due.{due_steps, entry_number, new_step, new_steps, old_step, old_steps, paired_in};
-ghost use Rattle.apply_order.specs.Places.{by_new, by_old};
+ghost use Rattle.apply_order.specs.Places as at;
+ghost use Rattle.apply_order.specs.Places.{IsTable, by_new, by_old};
 ghost use Rattle.apply_order.specs.Ranks.{timed_cmp};
 
 use crate::places::{Places, by_new, by_old, partner};
@@ -10,7 +12,7 @@ use crate::ranks::{PlanStep, Timed, make_rank, remove_rank, set_rank};
 use sai_types::{Entry, Mode, Object, Rid, Vid};
 use std::alloc::Global;
 use swss_types::OutOfMemory;
-use view_match::{NaturalKey, as_listed, natural_keys};
+use view_match::{Keys, NaturalKey};
 
 /// The steps of a plan, in their order.
 pub(crate) fn steps_of(
@@ -19,10 +21,12 @@ pub(crate) fn steps_of(
     old: &[Object<Rid>],
     new: &[Object<Vid>],
     pairs: &[(u64, u64)],
+    keys: Keys,
 ) -> Result<Vec<Timed>, OutOfMemory>
+    requires keyed { AreKeysOf old.now new.now keys }
     ensures { IfOk result (λ steps. IsPermutation (due_steps mode old.now new.now pairs.now) steps.items × IsSorted timed_cmp steps.items) }
 {
-    let mut steps = due_steps(alloc, mode, old, new, pairs)?;
+    let mut steps = due_steps(alloc, mode, old, new, pairs, keys)?;
     steps.sort()?;
     Ok(steps)
 }
@@ -34,16 +38,17 @@ fn due_steps(
     old: &[Object<Rid>],
     new: &[Object<Vid>],
     pairs: &[(u64, u64)],
+    keys: Keys,
 ) -> Result<Vec<Timed>, OutOfMemory>
+    requires keyed { AreKeysOf old.now new.now keys }
     ensures { IfOk result (λ steps. steps.items ≡ due_steps mode old.now new.now pairs.now) }
 {
     let pairs = paired_in(mode, pairs);
-    let mut steps = Vec::new(alloc);
-    let listed = as_listed(alloc, new)?;
-    let new_keys = natural_keys(alloc, listed.as_slice())?;
-    push_new(mode, &by_new(alloc, pairs)?, new_keys, new, &mut steps)?;
-    let old_keys = natural_keys(alloc, old)?;
-    push_old(mode, &by_old(alloc, pairs)?, old_keys, old, &mut steps)?;
+    let mut steps = Vec::with_capacity(alloc, new.len())?;
+    let new_places = by_new(alloc, new.len(), pairs)?;
+    push_new(mode, &new_places, keys.of_new, new, &mut steps)?;
+    let old_places = by_old(alloc, old.len(), pairs)?;
+    push_old(mode, &old_places, keys.of_old, old, &mut steps)?;
     Ok(steps)
 }
 
@@ -66,12 +71,13 @@ fn push_new(
     steps: &mut Vec<Timed>,
 ) -> Result<(), OutOfMemory>
     requires keyed { length keys.items ≡ length new.now }
-    ensures { OnOk result (steps.new.items ≡ steps.old.items ++ new_steps mode paired.now.entries keys.items new.now 0) }
+    requires counted { length paired.now.items ≡ length new.now }
+    ensures { OnOk result ((known : at.Places) → IsTable known paired.now.items → steps.new.items ≡ steps.old.items ++ new_steps mode known keys.items new.now 0) }
 {
     let mut place = 0;
     for key in keys {
         let at = place as u64;
-        steps.push(new_step(mode, key, &new[place], at, partner(paired, at)))?;
+        steps.push(new_step(mode, key, &new[place], at, partner(paired, place)))?;
         place += 1;
     }
     Ok(())
@@ -112,12 +118,13 @@ fn push_old(
     steps: &mut Vec<Timed>,
 ) -> Result<(), OutOfMemory>
     requires keyed { length keys.items ≡ length old.now }
-    ensures { OnOk result (steps.new.items ≡ steps.old.items ++ old_steps mode paired.now.entries keys.items old.now 0) }
+    requires counted { length paired.now.items ≡ length old.now }
+    ensures { OnOk result ((known : at.Places) → IsTable known paired.now.items → steps.new.items ≡ steps.old.items ++ old_steps mode known keys.items old.now 0) }
 {
     let mut place = 0;
     for key in keys {
         let at = place as u64;
-        push_old_step(mode, key, &old[place], at, partner(paired, at), steps)?;
+        push_old_step(mode, key, &old[place], at, partner(paired, place), steps)?;
         place += 1;
     }
     Ok(())

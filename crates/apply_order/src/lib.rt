@@ -12,5 +12,5 @@ mod ranks;
 mod room;
 
 pub use laws::turns_are_ordered;
-pub use planned::plan;
+pub use planned::{plan, plan_by};
 pub use ranks::{PlanStep, Rank, Timed};

@@ -1,42 +1,74 @@
 // Which places are paired.
-ghost use Rattle.std.specs.Prelude.{◌≡◌, IfOk, option_copied};
-ghost use Rattle.apply_order.specs.Places.{by_new, by_old, partner_at};
+ghost use Rattle.std.specs.Prelude.{◌≡◌, ◌<◌, [], length, slice_get, None, IfOk};
+ghost use Rattle.std.specs.BTreeMap.{insert_entry};
+ghost use Rattle.std.specs.Ordering.{nat_cmp};
+ghost use Rattle.apply_order.specs.Places as at;
+ghost use Rattle.apply_order.specs.Places.{IsTable, by_new, by_old, partner_at};
 
 use std::alloc::Global;
-use std::collections::BTreeMap;
 use swss_types::OutOfMemory;
 
-/// By each place of a paired object on the one side the place of its partner on the other.
-pub(crate) type Places = BTreeMap<u64, u64>;
+/// At each place of an object of the one side the place of its partner on the other.
+pub(crate) type Places = Vec<Option<u64>>;
 
-/// By each place of a new object the place of its partner.
-pub(crate) fn by_new(alloc: Global, pairs: &[(u64, u64)]) -> Result<Places, OutOfMemory>
-    ensures { IfOk result (λ places. places.entries ≡ by_new pairs.now) }
+/// At each of so many places of new objects the place of its partner.
+pub(crate) fn by_new(
+    alloc: Global,
+    count: usize,
+    pairs: &[(u64, u64)],
+) -> Result<Places, OutOfMemory>
+    ensures count { IfOk result (λ places. length places.items ≡ count) }
+    ensures each { IfOk result (λ places. IsTable (by_new pairs.now) places.items) }
 {
-    let mut places = BTreeMap::new(alloc);
+    let mut places = no_partners(alloc, count)?;
     for pair in pairs {
-        places.insert(pair.1, pair.0)?;
+        put(&mut places, pair.1, pair.0);
     }
     Ok(places)
 }
 
-/// By each place of an old object the place of its partner.
-pub(crate) fn by_old(alloc: Global, pairs: &[(u64, u64)]) -> Result<Places, OutOfMemory>
-    ensures { IfOk result (λ places. places.entries ≡ by_old pairs.now) }
+/// At each of so many places of old objects the place of its partner.
+pub(crate) fn by_old(
+    alloc: Global,
+    count: usize,
+    pairs: &[(u64, u64)],
+) -> Result<Places, OutOfMemory>
+    ensures count { IfOk result (λ places. length places.items ≡ count) }
+    ensures each { IfOk result (λ places. IsTable (by_old pairs.now) places.items) }
 {
-    let mut places = BTreeMap::new(alloc);
+    let mut places = no_partners(alloc, count)?;
     for pair in pairs {
-        places.insert(pair.0, pair.1)?;
+        put(&mut places, pair.0, pair.1);
     }
     Ok(places)
+}
+
+/// So many places with no partner.
+fn no_partners(alloc: Global, count: usize) -> Result<Places, OutOfMemory>
+    ensures count { IfOk result (λ places. length places.items ≡ count) }
+    ensures each { IfOk result (λ places. IsTable [] places.items) }
+{
+    let mut places = Vec::with_capacity(alloc, count)?;
+    for _place in 0..count {
+        places.push(None)?;
+    }
+    Ok(places)
+}
+
+/// Puts the partner of a place, where there is such a place.
+fn put(places: &mut Places, place: u64, partner: u64)
+    ensures count { length places.new.items ≡ length places.old.items }
+    ensures each { (known : at.Places) → IsTable known places.old.items → IsTable (insert_entry nat_cmp known place partner) places.new.items }
+{
+    if place < places.len() as u64 {
+        places[place as usize] = Some(partner);
+    }
 }
 
 /// The place of the partner of the object at a place.
-pub(crate) fn partner(places: &Places, place: u64) -> Option<u64>
-    ensures { result ≡ partner_at places.now.entries place }
+pub(crate) fn partner(places: &Places, place: usize) -> Option<u64>
+    requires within { place < length places.now.items }
+    ensures { (known : at.Places) → IsTable known places.now.items → result ≡ partner_at known place }
 {
-    match places.get(&place) {
-        Some(partner) => Some(*partner),
-        None => None,
-    }
+    places[place]
 }

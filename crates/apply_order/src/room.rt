@@ -1,7 +1,9 @@
 // When there is room to keep what stands until the new view stands too.
-ghost use Rattle.std.specs.Prelude.{◌≡◌, ◌↔◌, ◌≤◌, true, IfOk};
+ghost use Rattle.std.specs.Prelude.{◌≡◌, ◌↔◌, ◌≤◌, length, true, IfOk};
 ghost use Rattle.std.specs.List.{list_all};
 ghost use Rattle.sai_types.specs.Objects.{is_of, level};
+ghost use Rattle.apply_order.specs.Places as at;
+ghost use Rattle.apply_order.specs.Places.{IsTable};
 ghost use Rattle.apply_order.specs.Room.{FitTogether, all_kinds, has_room, is_lacking, lacking_from, old_count};
 
 use crate::places::{Places, by_new, partner};
@@ -20,7 +22,7 @@ pub(crate) fn mode_of(
 ) -> Result<Mode, OutOfMemory>
     ensures { IfOk result (λ mode. (mode ≡ Mode.Hitless) ↔ FitTogether caps.now.0 old.now new.now pairs.now) }
 {
-    let paired = by_new(alloc, pairs)?;
+    let paired = by_new(alloc, new.len(), pairs)?;
     Ok(mode_if(fits(&paired, old, new, caps)))
 }
 
@@ -33,7 +35,8 @@ fn mode_if(fits: bool) -> Mode
 
 /// Whether there is room for the old objects of each kind and the new ones that are not paired.
 fn fits(paired: &Places, old: &[Object<Rid>], new: &[Object<Vid>], caps: &Caps) -> bool
-    ensures { result ≡ list_all (λ kind. has_room caps.now.0 old.now new.now paired.now.entries kind) all_kinds }
+    requires counted { length paired.now.items ≡ length new.now }
+    ensures { (known : at.Places) → IsTable known paired.now.items → result ≡ list_all (λ kind. has_room caps.now.0 old.now new.now known kind) all_kinds }
 {
     let kinds = [
         Kind::Port,
@@ -59,7 +62,8 @@ fn have_room(
     new: &[Object<Vid>],
     caps: &Caps,
 ) -> bool
-    ensures { result ≡ list_all (λ kind. has_room caps.now.0 old.now new.now paired.now.entries kind) kinds.now }
+    requires counted { length paired.now.items ≡ length new.now }
+    ensures { (known : at.Places) → IsTable known paired.now.items → result ≡ list_all (λ kind. has_room caps.now.0 old.now new.now known kind) kinds.now }
 {
     for kind in kinds {
         if !has_room(*kind, paired, old, new, caps) {
@@ -77,7 +81,8 @@ fn has_room(
     new: &[Object<Vid>],
     caps: &Caps,
 ) -> bool
-    ensures { result ≡ has_room caps.now.0 old.now new.now paired.now.entries kind }
+    requires counted { length paired.now.items ≡ length new.now }
+    ensures { (known : at.Places) → IsTable known paired.now.items → result ≡ has_room caps.now.0 old.now new.now known kind }
 {
     let room = caps.0[level(kind)];
     let held = count(kind, old);
@@ -99,7 +104,8 @@ fn count(kind: Kind, old: &[Object<Rid>]) -> u64
 
 /// How many new objects are of a kind and not paired.
 fn lacking(kind: Kind, paired: &Places, new: &[Object<Vid>]) -> u64
-    ensures { result ≡ lacking_from kind paired.now.entries new.now 0 }
+    requires counted { length paired.now.items ≡ length new.now }
+    ensures { (known : at.Places) → IsTable known paired.now.items → result ≡ lacking_from kind known new.now 0 }
 {
     let mut count = 0;
     let mut place = 0;

@@ -6,12 +6,12 @@ ghost use Rattle.view_match.specs.Pairs.{new_keys, pairs_of};
 ghost use Rattle.apply_order.specs.Planned.{IsPlanOf};
 ghost use Rattle.syncd_core.specs.Begun.{objects_listed, tied_entries, tied_in, tied_objects, tied_pairs};
 
-use apply_order::plan;
+use apply_order::plan_by;
 use asic_view::View;
 use sai_types::{Caps, Entry, Mode, Object, Plan, Rid, Vid};
 use std::alloc::Global;
 use swss_types::OutOfMemory;
-use view_match::pair;
+use view_match::{keys_of, pair_by};
 
 /// Plans the way from the objects of the chip to a view, and ties what stays.
 pub(crate) fn begin(
@@ -26,8 +26,9 @@ pub(crate) fn begin(
     ensures err { OnErr result (view.new ≡ view.old) }
 {
     let objects = view.objects()?;
-    let pairing = pair(alloc, listed, objects.as_slice())?;
-    let plan = plan(alloc, listed, objects.as_slice(), &pairing, caps)?;
+    let keys = keys_of(alloc, listed, objects.as_slice())?;
+    let pairing = pair_by(alloc, listed, objects.as_slice(), &keys)?;
+    let plan = plan_by(alloc, listed, objects.as_slice(), &pairing, keys, caps)?;
     tie_in(plan.mode, view, listed, objects.as_slice(), pairing.items());
     Ok(plan)
 }

@@ -37,6 +37,10 @@ abbrev pub with_object : Option Partner → Option NaturalKey → Partner → Na
 with_object found None p k = found
 with_object found (Some key) p k = if is_at (natural_key_cmp key) k then (if replaces found p then Some p else found) else found
 
+-- the partner of a key once what stood at a key of its own is put back, unless another stands in its place
+abbrev pub with_back : Option Partner → NaturalKey → Partner → Partner → NaturalKey → Option Partner
+with_back now key found p k = if replaces (Some found) p then now else (if is_at (natural_key_cmp key) k then Some found else now)
+
 -- the partner of a key so far, and the objects from this place on, with their keys
 abbrev pub best_from : Option Partner → List (Option NaturalKey) → Objects → NaturalKey → ℕ → Option Partner
 best_from found (key ∷ keys) (o ∷ os) k place = best_from (with_object found key (record { group = group_number o; place = place }) k) keys os k (place + 1)

@@ -1,13 +1,13 @@
 // The old objects by their natural keys.
-ghost use Rattle.std.specs.Prelude.{◌≡◌, Some, IfOk, OnOk, option_copied};
+ghost use Rattle.std.specs.Prelude.{◌≡◌, Some, IfOk, OnOk};
 ghost use Rattle.std.specs.BTreeMap.{is_at};
 ghost use Rattle.std.specs.Map.{lookup};
 ghost use Rattle.sai_chip.specs.Naming.{entries_of};
-ghost use Rattle.view_match.specs.Keys.{natural_key_cmp};
-ghost use Rattle.view_match.specs.Pairs.{IsIndex, group_number, replaces, with_object};
+ghost use Rattle.view_match.specs.Keys.{keys_of_objects, natural_key_cmp};
+ghost use Rattle.view_match.specs.Pairs.{IsIndex, group_number, replaces, with_back, with_object};
 ghost use Rattle.view_match.specs.declared.key.NaturalKey.{NaturalKey};
 
-use crate::key::{NaturalKey, natural_keys};
+use crate::key::NaturalKey;
 use sai_types::{Body, Entry, Object, Rid};
 use std::alloc::Global;
 use std::collections::BTreeMap;
@@ -25,13 +25,18 @@ pub(crate) struct Partner {
 /// By each natural key the object of it, of several the one of the least group.
 pub(crate) type Index = BTreeMap<NaturalKey, Partner>;
 
-/// The old objects by their natural keys.
-pub(crate) fn index(alloc: Global, old: &[Object<Rid>]) -> Result<Index, OutOfMemory>
+/// The old objects by these keys, which are theirs.
+pub(crate) fn index(
+    alloc: Global,
+    keys: &[Option<NaturalKey>],
+    old: &[Object<Rid>],
+) -> Result<Index, OutOfMemory>
+    requires keyed { keys.now ≡ keys_of_objects (entries_of old.now) }
     ensures { IfOk result (λ index. IsIndex (entries_of old.now) index.entries) }
 {
     let mut index = BTreeMap::new(alloc);
     let mut place = 0;
-    for key in natural_keys(alloc, old)? {
+    for key in keys {
         let object = &old[place];
         let partner = Partner {
             group: group_number(object),
@@ -55,8 +60,8 @@ fn group_number(object: &Object<Rid>) -> u64
 }
 
 /// Puts an object under its key, where it has one.
-fn put_if(index: &mut Index, key: Option<NaturalKey>, partner: Partner) -> Result<(), OutOfMemory>
-    ensures { OnOk result ((k : NaturalKey) → lookup (is_at (natural_key_cmp k)) index.new.entries ≡ with_object (lookup (is_at (natural_key_cmp k)) index.old.entries) key partner k) }
+fn put_if(index: &mut Index, key: &Option<NaturalKey>, partner: Partner) -> Result<(), OutOfMemory>
+    ensures { OnOk result ((k : NaturalKey) → lookup (is_at (natural_key_cmp k)) index.new.entries ≡ with_object (lookup (is_at (natural_key_cmp k)) index.old.entries) key.now partner k) }
 {
     match key {
         Some(key) => put(index, key, partner),
@@ -65,18 +70,33 @@ fn put_if(index: &mut Index, key: Option<NaturalKey>, partner: Partner) -> Resul
 }
 
 /// Puts an object under its key, unless one of a group that is no greater stands there.
-fn put(index: &mut Index, key: NaturalKey, partner: Partner) -> Result<(), OutOfMemory>
-    ensures { OnOk result ((k : NaturalKey) → lookup (is_at (natural_key_cmp k)) index.new.entries ≡ with_object (lookup (is_at (natural_key_cmp k)) index.old.entries) (Some key) partner k) }
+fn put(index: &mut Index, key: &NaturalKey, partner: Partner) -> Result<(), OutOfMemory>
+    ensures { OnOk result ((k : NaturalKey) → lookup (is_at (natural_key_cmp k)) index.new.entries ≡ with_object (lookup (is_at (natural_key_cmp k)) index.old.entries) (Some key.now) partner k) }
 {
-    if is_lesser(index.get(&key), partner) {
-        index.insert(key, partner)?;
+    match index.insert(key.copy()?, partner)? {
+        Some(found) => put_back(index, key, found, partner),
+        None => Ok(()),
+    }
+}
+
+/// Puts back what was found, unless the object stands in its place.
+fn put_back(
+    index: &mut Index,
+    key: &NaturalKey,
+    found: Partner,
+    partner: Partner,
+) -> Result<(), OutOfMemory>
+    ensures { OnOk result ((k : NaturalKey) → lookup (is_at (natural_key_cmp k)) index.new.entries ≡ with_back (lookup (is_at (natural_key_cmp k)) index.old.entries) key.now found partner k) }
+{
+    if !is_lesser(Some(found), partner) {
+        index.insert(key.copy()?, found)?;
     }
     Ok(())
 }
 
 /// Whether an object stands in place of the one that was found, where one was found.
-fn is_lesser(found: Option<&Partner>, partner: Partner) -> bool
-    ensures { result ≡ replaces (option_copied found.entry) partner }
+fn is_lesser(found: Option<Partner>, partner: Partner) -> bool
+    ensures { result ≡ replaces found partner }
 {
     match found {
         Some(found) => partner.group < found.group,

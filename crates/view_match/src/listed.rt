@@ -12,7 +12,7 @@ use swss_types::OutOfMemory;
 pub fn as_listed(alloc: Global, objects: &[Object<Vid>]) -> Result<Vec<Object<Rid>>, OutOfMemory>
     ensures { IfOk result (λ listed. listed.items ≡ objects_as objects.now) }
 {
-    let mut listed = Vec::new(alloc);
+    let mut listed = Vec::with_capacity(alloc, objects.len())?;
     for object in objects {
         listed.push(object_of(object)?)?;
     }

@@ -3,11 +3,12 @@ ghost use Rattle.std.specs.Prelude.{◌≡◌, IfOk};
 ghost use Rattle.sai_types.specs.Named.{those};
 ghost use Rattle.sai_types.specs.Objects.{Objects};
 ghost use Rattle.chip_layout.specs.Counted.{AreDistinct};
+ghost use Rattle.view_match.specs.Keyed.{AreKeysOf};
 ghost use Rattle.view_match.specs.Pairs.{IsIndex, new_keys, pairs_from, pairs_of, partner_of};
 
 use crate::indexed::{Index, index};
-use crate::key::{NaturalKey, natural_keys};
-use crate::listed::as_listed;
+use crate::key::NaturalKey;
+use crate::keyed::{Keys, keys_of};
 use sai_types::{Object, Pairing, Rid, Vid};
 use std::alloc::Global;
 use swss_types::OutOfMemory;
@@ -19,10 +20,23 @@ pub fn pair(alloc: Global, old: &[Object<Rid>], new: &[Object<Vid>]) -> Result<P
     requires distinct { AreDistinct (those (new_keys new.now)) }
     ensures { IfOk result (λ pairing. pairing ≡ pairs_of old.now new.now) }
 {
-    let index = index(alloc, old)?;
-    let listed = as_listed(alloc, new)?;
-    let keys = natural_keys(alloc, listed.as_slice())?;
-    pair_keys(alloc, &index, keys.as_slice())
+    let keys = keys_of(alloc, old, new)?;
+    pair_by(alloc, old, new, &keys)
+}
+
+/// The same by the natural keys of the objects, where these are at hand.
+pub fn pair_by(
+    alloc: Global,
+    old: &[Object<Rid>],
+    new: &[Object<Vid>],
+    keys: &Keys,
+) -> Result<Pairing, OutOfMemory>
+    requires keyed { AreKeysOf old.now new.now keys.now }
+    requires distinct { AreDistinct (those (new_keys new.now)) }
+    ensures { IfOk result (λ pairing. pairing ≡ pairs_of old.now new.now) }
+{
+    let index = index(alloc, keys.of_old.as_slice(), old)?;
+    pair_keys(alloc, &index, keys.of_new.as_slice())
 }
 
 /// The pairs of new objects with these keys.

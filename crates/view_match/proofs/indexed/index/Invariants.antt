@@ -1,5 +1,4 @@
-use Rattle.std.specs.Vec.Iter.{into_iter_items}
-use Rattle.std.proofs.Common.{◌≡◌, ◌+◌, None, drop, length}
+use Rattle.std.proofs.Common.{◌≡◌, None, drop, length}
 use Rattle.std.specs.BTreeMap.{is_at}
 use Rattle.std.specs.Map.{lookup}
 use Rattle.sai_chip.specs.Naming.{entries_of}
@@ -11,6 +10,7 @@ use Rattle.view_match.proofs.indexed.index.Given as goal
 -- what is found so far, and the objects that are left, come to what all objects come to
 abbrev pub invariant-loop-key : goal.invariant-loop-key
 invariant-loop-key l = record {
-  within : l.place + length (into_iter_items l.key-iterator) ≡ length l.old;
-  found : (k : NaturalKey) → best_from (lookup (is_at (natural_key_cmp k)) l.index.entries) (into_iter_items l.key-iterator) (entries_of (drop l.place l.old)) k l.place ≡ best_from None (keys_of_objects (entries_of l.old)) (entries_of l.old) k 0;
+  counted : l.place ≡ l.key-index;
+  long : length l.keys ≡ length l.old;
+  found : (k : NaturalKey) → best_from (lookup (is_at (natural_key_cmp k)) l.index.entries) (drop l.key-index l.keys) (entries_of (drop l.place l.old)) k l.place ≡ best_from None (keys_of_objects (entries_of l.old)) (entries_of l.old) k 0;
 }

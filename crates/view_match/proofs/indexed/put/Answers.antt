@@ -1,15 +1,25 @@
-use Rattle.std.proofs.Common.{◌∙◌, ap, sym}
-use Rattle.view_match.specs.Pairs.{replaces}
-use Rattle.view_match.proofs.Put.{left-found, put-found}
+use Rattle.std.proofs.Common.{Some, cond, ◌∙◌, ap, sym}
+use Rattle.std.specs.BTreeMap.{is_at}
+use Rattle.std.specs.Map.{lookup}
+use Rattle.std.proofs.lemmas.Result.{on_ok_weaker}
+use Rattle.view_match.specs.Keys.{natural_key_cmp}
+use Rattle.view_match.proofs.Put.{put-back, put-none}
 use Rattle.view_match.proofs.indexed.put.Goals as goal
 
-pub returns-in_ok-insert : goal.returns-in_ok-insert
-returns-in_ok-insert c =
-    put-found c.args.key c.args.partner c.args.index.now.entries c.insert.new.self.entries
-    (ap (λ o. replaces o c.args.partner) (sym c.get.ensures.value) ∙ sym c.is_lesser.ensures ∙ c.if-is_lesser.true)
-    (λ k. c.in_ok-insert.ensures.updates.0 k)
+pub returns-in-None : goal.returns-in-None
+returns-in-None c = λ k.
+    put-none c.args.key.now c.args.partner c.args.index.now.entries c.insert.new.self.entries
+    (λ l. c.in_ok-found.ensures.updates.0 l ∙ ap (λ x. cond (is_at (natural_key_cmp x) l) (Some c.args.partner) (lookup (is_at (natural_key_cmp l)) c.args.index.now.entries)) c.in_ok-copy.ensures)
+    k
+    (ap (λ x. lookup (is_at (natural_key_cmp x)) c.args.index.now.entries) (sym c.in_ok-copy.ensures) ∙ sym c.in_ok-found.ensures.old ∙ c.in-None.is)
 
-pub returns-else-is_lesser : goal.returns-else-is_lesser
-returns-else-is_lesser c =
-    left-found c.args.key c.args.partner c.args.index.now.entries
-    (ap (λ o. replaces o c.args.partner) (sym c.get.ensures.value) ∙ sym c.is_lesser.ensures ∙ c.if-is_lesser.false)
+pub returns-in-Some : goal.returns-in-Some
+returns-in-Some c = on_ok_weaker c.put_back.result
+    (λ back k.
+    back k
+    ∙ put-back c.args.key.now c.args.partner c.args.index.now.entries c.insert.new.self.entries
+    (λ l. c.in_ok-found.ensures.updates.0 l ∙ ap (λ x. cond (is_at (natural_key_cmp x) l) (Some c.args.partner) (lookup (is_at (natural_key_cmp l)) c.args.index.now.entries)) c.in_ok-copy.ensures)
+    k
+    c.in-Some.found
+    (ap (λ x. lookup (is_at (natural_key_cmp x)) c.args.index.now.entries) (sym c.in_ok-copy.ensures) ∙ sym c.in_ok-found.ensures.old ∙ c.in-Some.is))
+    c.put_back.ensures
