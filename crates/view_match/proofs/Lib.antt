@@ -1,6 +1,7 @@
 pub mod Best
 mod Exact
 pub mod Free
+mod Near
 mod Orders
 pub mod Paired
 mod Put

@@ -1,5 +1,6 @@
 pub mod Keyed
 pub mod Keys
 pub mod Listed
+pub mod Near
 pub mod Paired
 pub mod Pairs

@@ -37,7 +37,7 @@ abbrev pub with_object : Option Partner → Option NaturalKey → Partner → Na
 with_object found None p k = found
 with_object found (Some key) p k = if is_at (natural_key_cmp key) k then (if replaces found p then Some p else found) else found
 
--- the partner of a key once what stood at a key of its own is put back, unless another stands in its place
+-- the partner of a key k, after what was found at a key is put back there, unless the object takes its place
 abbrev pub with_back : Option Partner → NaturalKey → Partner → Partner → NaturalKey → Option Partner
 with_back now key found p k = if replaces (Some found) p then now else (if is_at (natural_key_cmp key) k then Some found else now)
 

@@ -1,9 +1,10 @@
 // The old objects by their natural keys.
-ghost use Rattle.std.specs.Prelude.{◌≡◌, Some, IfOk, OnOk};
+ghost use Rattle.std.specs.Prelude.{◌≡◌, length, true, Some, IfOk, OnOk};
 ghost use Rattle.std.specs.BTreeMap.{is_at};
 ghost use Rattle.std.specs.Map.{lookup};
 ghost use Rattle.sai_chip.specs.Naming.{entries_of};
 ghost use Rattle.view_match.specs.Keys.{keys_of_objects, natural_key_cmp};
+ghost use Rattle.view_match.specs.Near.{AreFound, IsFresh};
 ghost use Rattle.view_match.specs.Pairs.{IsIndex, group_number, replaces, with_back, with_object};
 ghost use Rattle.view_match.specs.declared.key.NaturalKey.{NaturalKey};
 
@@ -25,16 +26,27 @@ pub(crate) struct Partner {
 /// By each natural key the object of it, of several the one of the least group.
 pub(crate) type Index = BTreeMap<NaturalKey, Partner>;
 
+/// The old objects by their natural keys.
+#[derive(Debug, Drop)]
+pub(crate) struct Indexed {
+    /// The objects by their keys.
+    pub(crate) index: Index,
+    /// Whether no two of them have one key.
+    pub(crate) apart: bool,
+}
+
 /// The old objects by these keys, which are theirs.
 pub(crate) fn index(
     alloc: Global,
     keys: &[Option<NaturalKey>],
     old: &[Object<Rid>],
-) -> Result<Index, OutOfMemory>
+) -> Result<Indexed, OutOfMemory>
     requires keyed { keys.now ≡ keys_of_objects (entries_of old.now) }
-    ensures { IfOk result (λ index. IsIndex (entries_of old.now) index.entries) }
+    ensures index { IfOk result (λ indexed. IsIndex (entries_of old.now) indexed.index.entries) }
+    ensures found { IfOk result (λ indexed. indexed.apart ≡ true → AreFound keys.now indexed.index.entries (length keys.now)) }
 {
     let mut index = BTreeMap::new(alloc);
+    let mut apart = true;
     let mut place = 0;
     for key in keys {
         let object = &old[place];
@@ -42,10 +54,18 @@ pub(crate) fn index(
             group: group_number(object),
             place: place as u64,
         };
-        put_if(&mut index, key, partner)?;
+        let fresh = put_if(&mut index, key, partner)?;
+        apart = both(apart, fresh);
         place += 1;
     }
-    Ok(index)
+    Ok(Indexed { index, apart })
+}
+
+/// Whether both hold.
+fn both(first: bool, second: bool) -> bool
+    ensures { result ≡ true → (first ≡ true) × (second ≡ true) }
+{
+    first && second
 }
 
 /// The number of the group that an object is or is a member of, else 0.
@@ -59,23 +79,33 @@ fn group_number(object: &Object<Rid>) -> u64
     }
 }
 
-/// Puts an object under its key, where it has one.
-fn put_if(index: &mut Index, key: &Option<NaturalKey>, partner: Partner) -> Result<(), OutOfMemory>
-    ensures { OnOk result ((k : NaturalKey) → lookup (is_at (natural_key_cmp k)) index.new.entries ≡ with_object (lookup (is_at (natural_key_cmp k)) index.old.entries) key.now partner k) }
+/// Puts an object under its key, where it has one, and answers whether no other stood there.
+fn put_if(
+    index: &mut Index,
+    key: &Option<NaturalKey>,
+    partner: Partner,
+) -> Result<bool, OutOfMemory>
+    ensures fresh { IfOk result (λ fresh. fresh ≡ true → IsFresh key.now index.old.entries) }
+    ensures put { OnOk result ((k : NaturalKey) → lookup (is_at (natural_key_cmp k)) index.new.entries ≡ with_object (lookup (is_at (natural_key_cmp k)) index.old.entries) key.now partner k) }
 {
     match key {
         Some(key) => put(index, key, partner),
-        None => Ok(()),
+        None => Ok(true),
     }
 }
 
-/// Puts an object under its key, unless one of a group that is no greater stands there.
-fn put(index: &mut Index, key: &NaturalKey, partner: Partner) -> Result<(), OutOfMemory>
-    ensures { OnOk result ((k : NaturalKey) → lookup (is_at (natural_key_cmp k)) index.new.entries ≡ with_object (lookup (is_at (natural_key_cmp k)) index.old.entries) (Some key.now) partner k) }
+/// Puts an object under its key, unless one of a group that is no greater stands there, and answers whether none stood
+/// there.
+fn put(index: &mut Index, key: &NaturalKey, partner: Partner) -> Result<bool, OutOfMemory>
+    ensures fresh { IfOk result (λ fresh. fresh ≡ true → IsFresh (Some key.now) index.old.entries) }
+    ensures put { OnOk result ((k : NaturalKey) → lookup (is_at (natural_key_cmp k)) index.new.entries ≡ with_object (lookup (is_at (natural_key_cmp k)) index.old.entries) (Some key.now) partner k) }
 {
     match index.insert(key.copy()?, partner)? {
-        Some(found) => put_back(index, key, found, partner),
-        None => Ok(()),
+        Some(found) => {
+            put_back(index, key, found, partner)?;
+            Ok(false)
+        }
+        None => Ok(true),
     }
 }
 

@@ -1,12 +1,13 @@
 // The pairing of old objects and new ones.
-ghost use Rattle.std.specs.Prelude.{◌≡◌, IfOk};
+ghost use Rattle.std.specs.Prelude.{◌≡◌, length, true, Some, option_copied, IfOk};
 ghost use Rattle.sai_types.specs.Named.{those};
 ghost use Rattle.sai_types.specs.Objects.{Objects};
 ghost use Rattle.chip_layout.specs.Counted.{AreDistinct};
 ghost use Rattle.view_match.specs.Keyed.{AreKeysOf};
+ghost use Rattle.view_match.specs.Near.{AreFound, IsKey};
 ghost use Rattle.view_match.specs.Pairs.{IsIndex, new_keys, pairs_from, pairs_of, partner_of};
 
-use crate::indexed::{Index, index};
+use crate::indexed::{Index, Indexed, index};
 use crate::key::NaturalKey;
 use crate::keyed::{Keys, keys_of};
 use sai_types::{Object, Pairing, Rid, Vid};
@@ -35,29 +36,82 @@ pub fn pair_by(
     requires distinct { AreDistinct (those (new_keys new.now)) }
     ensures { IfOk result (λ pairing. pairing ≡ pairs_of old.now new.now) }
 {
-    let index = index(alloc, keys.of_old.as_slice(), old)?;
-    pair_keys(alloc, &index, keys.of_new.as_slice())
+    let indexed = index(alloc, keys.of_old.as_slice(), old)?;
+    pair_keys(
+        alloc,
+        &indexed,
+        keys.of_old.as_slice(),
+        keys.of_new.as_slice(),
+    )
 }
 
 /// The pairs of new objects with these keys.
 fn pair_keys(
     alloc: Global,
-    index: &Index,
+    indexed: &Indexed,
+    old_keys: &[Option<NaturalKey>],
     keys: &[Option<NaturalKey>],
 ) -> Result<Pairing, OutOfMemory>
-    requires indexed { (objects : Objects) × IsIndex objects index.now.entries }
+    requires indexed { (objects : Objects) × IsIndex objects indexed.now.index.entries }
+    requires found { indexed.now.apart ≡ true → AreFound old_keys.now indexed.now.index.entries (length old_keys.now) }
     requires distinct { AreDistinct (those keys.now) }
-    ensures { IfOk result (λ pairing. (objects : Objects) → IsIndex objects index.now.entries → pairing ≡ pairs_from objects keys.now 0) }
+    ensures { IfOk result (λ pairing. (objects : Objects) → IsIndex objects indexed.now.index.entries → pairing ≡ pairs_from objects keys.now 0) }
 {
     let mut pairing = Pairing::new(alloc);
     let mut place = 0;
+    let mut near: u64 = 0;
     for key in keys {
-        if let Some(partner) = partner_of(index, key) {
+        if let Some(partner) = partner_near(indexed, old_keys, near, key) {
             pairing.push((partner, place))?;
+            near = partner.wrapping_add(1);
         }
         place += 1;
     }
     Ok(pairing)
+}
+
+/// The place of the old object of a key: looked for first at the place that follows that of the last one found, since
+/// new objects mostly come in the order of the old ones.
+fn partner_near(
+    indexed: &Indexed,
+    old_keys: &[Option<NaturalKey>],
+    near: u64,
+    key: &Option<NaturalKey>,
+) -> Option<u64>
+    requires found { indexed.now.apart ≡ true → AreFound old_keys.now indexed.now.index.entries (length old_keys.now) }
+    ensures { (objects : Objects) → IsIndex objects indexed.now.index.entries → result ≡ partner_of objects key.now }
+{
+    if indexed.apart && is_key(old_keys.get(near as usize), key) {
+        return Some(near);
+    }
+    partner_of(&indexed.index, key)
+}
+
+/// Whether an object that was found has this key.
+fn is_key(old: Option<&Option<NaturalKey>>, key: &Option<NaturalKey>) -> bool
+    ensures { result ≡ true → IsKey (option_copied old.entry) key.now }
+{
+    match old {
+        Some(old) => has_key(old, key),
+        None => false,
+    }
+}
+
+/// Whether both are one key.
+fn has_key(old: &Option<NaturalKey>, key: &Option<NaturalKey>) -> bool
+    ensures { result ≡ true → IsKey (Some old.now) key.now }
+{
+    match (old, key) {
+        (Some(old), Some(key)) => is_same(old, key),
+        _ => false,
+    }
+}
+
+/// Whether two keys are one.
+fn is_same(old: &NaturalKey, key: &NaturalKey) -> bool
+    ensures { result ≡ true → old.now ≡ key.now }
+{
+    old == key
 }
 
 /// The place of the old object of a key.

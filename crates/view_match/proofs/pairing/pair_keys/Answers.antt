@@ -8,6 +8,6 @@ push-requires c =
     push-free given.0 c.args.keys.now c.loop-key.key-index c.loop-key.place c.in-Some.partner c.key-item.result c.loop-key.pairing
     c.loop-key-test.true
     c.key-item.is
-    (sym (c.partner_of.ensures given.0 given.1) ∙ c.in-Some.is)
+    (sym (c.partner_near.ensures given.0 given.1) ∙ c.in-Some.is)
     c.requires.distinct
     (c.loop-key.invariant.pairs given.0 given.1)
