@@ -15,9 +15,11 @@ use Rattle.table_schema.proofs.Places.{HasRisingKeys-from_sorted}
 use Rattle.ref_counts.specs.contracts.name.NameOrd.TheImpl.Laws as name_laws
 use Rattle.table_schema.specs.declared.key.Key.{Key}
 use Rattle.ref_counts.specs.declared.name.Name.{Name}
+use Rattle.ref_counts.specs.declared.name.NameState.{NameState}
+use Rattle.ref_counts.specs.declared.name.NameState.TheVariants as state
 use Rattle.ref_counts.specs.declared.pin.Pin.{Pin}
-use Rattle.ref_counts.specs.Registered.{Registered, with_pin, without_last_pin}
-use Rattle.ref_counts.specs.Registry.{Names, changed, changed_at, registered_name_cmp, registered_at}
+use Rattle.ref_counts.specs.Registered.{Registered, finished_by, made_live, with_pin, without_last_pin}
+use Rattle.ref_counts.specs.Registry.{Names, changed, changed_at, finished_in, registered_name_cmp, registered_at, state_in, state_of}
 
 pub name_total : IsTotalOrder registered_name_cmp
 name_total = name_laws.total-law
@@ -106,6 +108,19 @@ module _ (names new : Names) (n : Name) (r w : Registered) (sorted : IsStrictlyS
   pub same-err : {T E : Type 0} (res : Result T E) → OnErr res (w ≡ r) → OnErr res (new ≡ names)
   same-err (Ok x) is = tt
   same-err (Err e) is = set ∙ ap (set_value (is_at (registered_name_cmp n)) names) is ∙ set_value_same (is_at (registered_name_cmp n)) names r there
+
+  same-by : w ≡ r → new ≡ names
+  same-by is = set ∙ ap (set_value (is_at (registered_name_cmp n)) names) is ∙ set_value_same (is_at (registered_name_cmp n)) names r there
+
+  -- what was found comes to be live where it was being built
+  finished-in : (s : NameState) → w ≡ finished_by s r → new ≡ finished_in s names n
+  finished-in state.Absent is = same-by is
+  finished-in (state.Building worker) is = changed-by (made_live []) is
+  finished-in state.Live is = same-by is
+  finished-in (state.Retiring worker) is = same-by is
+
+  pub finished-there : w ≡ finished_by r.state r → new ≡ finished_in (state_of names n) names n
+  finished-there is = finished-in r.state is ∙ sym (ap (λ o. finished_in (state_in o) names n) there)
 
 -- a pin of a name that is taken back, since the others were not made
 pub pin-undone : (n : Name) (worker : ℕ) (user : Key) (old one two three : Names) → one ≡ changed old n (with_pin worker user) → two ≡ one → three ≡ changed two n without_last_pin → three ≡ old

@@ -62,7 +62,7 @@ found-released (e ∷ es) worker used n =
       | false ↦ rest
     ]
 
-eq_back : (o : Ordering) → is_eq (ordering_reverse o) ≡ is_eq o
+pub eq_back : (o : Ordering) → is_eq (ordering_reverse o) ≡ is_eq o
 eq_back Less = refl
 eq_back Equal = refl
 eq_back Greater = refl

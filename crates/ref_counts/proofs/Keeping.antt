@@ -1,5 +1,5 @@
 -- what puts, sets and removals of places make of the users
-use Rattle.std.proofs.Common.{◌≡◌, Bool, true, false, not, cond, List, [], ◌∷◌, Option, None, Some, refl, sym, ap, subst, ◌∙◌}
+use Rattle.std.proofs.Common.{◌≡◌, Bool, true, false, not, cond, List, [], ◌∷◌, Option, None, Some, option_map, IfSome, Bor, refl, sym, ap, subst, ◌∙◌}
 use Rattle.std.specs.BTreeMap.{insert_entry, is_at}
 use Rattle.std.specs.BTreeSet.{insert_key}
 use Rattle.std.specs.List.{AllByRecursion}
@@ -15,7 +15,7 @@ use Rattle.table_schema.specs.declared.key.Key.{Key}
 use Rattle.table_schema.proofs.Keys.{key_exact, key_total}
 use Rattle.table_schema.proofs.Places.{above_more, find_step, out_step, put_step}
 use Rattle.table_schema.proofs.Restored.{remove-none, set-put}
-use Rattle.ref_counts.specs.Kept.{AreReadable, HasKeptPlace, Kept, users_in}
+use Rattle.ref_counts.specs.Kept.{AreReadable, HasKeptPlace, Kept, marked_in}
 use Rattle.ref_counts.specs.Registered.{IsReadable, first_of, users_but}
 
 -- users that are all above a key
@@ -26,9 +26,9 @@ above_step : (k x : Key) (us : List Key) (b : Bool) → key_cmp k x ≡ Less →
 above_step k x us true h rest = (h, rest)
 above_step k x us false h rest = rest
 
-users-above : (k : Key) (es : Kept) → AllByRecursion (λ e. key_cmp k e.0 ≡ Less) es → AreAbove k (users_in es)
+users-above : (k : Key) (es : Kept) → AllByRecursion (λ e. key_cmp k e.0 ≡ Less) es → AreAbove k (marked_in es)
 users-above k [] h = tt
-users-above k (e ∷ es) h = above_step k e.0 (users_in es) e.1 h.0 (users-above k es h.1)
+users-above k (e ∷ es) h = above_step k e.0 (marked_in es) e.1 h.0 (users-above k es h.1)
 
 key_step : (k x : Key) (us : List Key) (r : Ordering) → key_cmp k x ≡ r → insert_key key_cmp (x ∷ us) k ≡ match_ordering r (k ∷ x ∷ us) (x ∷ us) (x ∷ insert_key key_cmp us k)
 key_step k x us r h = ap (λ o. match_ordering o (k ∷ x ∷ us) (x ∷ us) (x ∷ insert_key key_cmp us k)) h
@@ -45,7 +45,7 @@ but-above k [] h = refl
 but-above k (u ∷ us) h = but_step k u us Less h.0 ∙ ap (λ l. u ∷ l) (but-above k us h.1)
 
 -- a key of the same order is above the same keys
-above-equal : (k x : Key) (es : Kept) → key_cmp k x ≡ Equal → AllByRecursion (λ e. key_cmp x e.0 ≡ Less) es → AllByRecursion (λ e. key_cmp k e.0 ≡ Less) es
+pub above-equal : (k x : Key) (es : Kept) → key_cmp k x ≡ Equal → AllByRecursion (λ e. key_cmp x e.0 ≡ Less) es → AllByRecursion (λ e. key_cmp k e.0 ≡ Less) es
 above-equal k x [] is h = tt
 above-equal k x (e ∷ es) is h = (key_total.congr k x e.0 is ∙ h.0, above-equal k x es is h.1)
 
@@ -58,35 +58,35 @@ put_greater k x us vs true is rest = ap (λ l. x ∷ l) rest ∙ sym (key_step k
 put_greater k x us vs false is rest = rest
 
 -- a place that is put for a user
-pub users-put : (es : Kept) (k : Key) → HasRisingKeys key_cmp es → users_in (insert_entry key_cmp es k true) ≡ insert_key key_cmp (users_in es) k
+pub users-put : (es : Kept) (k : Key) → HasRisingKeys key_cmp es → marked_in (insert_entry key_cmp es k true) ≡ insert_key key_cmp (marked_in es) k
 users-put [] k h = refl
 users-put (e ∷ es) k h =
     let rest = users-put es k h.1 in
-    let by : (r : Ordering) → key_cmp k e.0 ≡ r → users_in (insert_entry key_cmp (e ∷ es) k true) ≡ insert_key key_cmp (users_in (e ∷ es)) k =
-    λ r. elim r as (λ r. key_cmp k e.0 ≡ r → users_in (insert_entry key_cmp (e ∷ es) k true) ≡ insert_key key_cmp (users_in (e ∷ es)) k) [
-      | Less ↦ λ is. ap users_in (put_step key_cmp e es k true Less is) ∙ sym (put-above k (users_in (e ∷ es)) (users-above k (e ∷ es) (is, above_more key_cmp key_total k e.0 es is h.0)))
-      | Equal ↦ λ is. ap users_in (put_step key_cmp e es k true Equal is) ∙ put_equal k e.0 (users_in es) e.1 is (users-above k es (above-equal k e.0 es is h.0))
-      | Greater ↦ λ is. ap users_in (put_step key_cmp e es k true Greater is) ∙ put_greater k e.0 (users_in es) (users_in (insert_entry key_cmp es k true)) e.1 is rest
+    let by : (r : Ordering) → key_cmp k e.0 ≡ r → marked_in (insert_entry key_cmp (e ∷ es) k true) ≡ insert_key key_cmp (marked_in (e ∷ es)) k =
+    λ r. elim r as (λ r. key_cmp k e.0 ≡ r → marked_in (insert_entry key_cmp (e ∷ es) k true) ≡ insert_key key_cmp (marked_in (e ∷ es)) k) [
+      | Less ↦ λ is. ap marked_in (put_step key_cmp e es k true Less is) ∙ sym (put-above k (marked_in (e ∷ es)) (users-above k (e ∷ es) (is, above_more key_cmp key_total k e.0 es is h.0)))
+      | Equal ↦ λ is. ap marked_in (put_step key_cmp e es k true Equal is) ∙ put_equal k e.0 (marked_in es) e.1 is (users-above k es (above-equal k e.0 es is h.0))
+      | Greater ↦ λ is. ap marked_in (put_step key_cmp e es k true Greater is) ∙ put_greater k e.0 (marked_in es) (marked_in (insert_entry key_cmp es k true)) e.1 is rest
     ] in
     by (key_cmp k e.0) refl
 
 -- a place that is set for a user
-pub users-set_true : (es : Kept) (k : Key) (x : Bool) → HasRisingKeys key_cmp es → lookup (is_at (key_cmp k)) es ≡ Some x → users_in (set_value (is_at (key_cmp k)) es true) ≡ insert_key key_cmp (users_in es) k
-users-set_true es k x h there = ap users_in (set-put key_cmp key_total es k true x h there) ∙ users-put es k h
+pub users-set_true : (es : Kept) (k : Key) (x : Bool) → HasRisingKeys key_cmp es → lookup (is_at (key_cmp k)) es ≡ Some x → marked_in (set_value (is_at (key_cmp k)) es true) ≡ insert_key key_cmp (marked_in es) k
+users-set_true es k x h there = ap marked_in (set-put key_cmp key_total es k true x h there) ∙ users-put es k h
 
 same_with : (x : Key) (us vs : List Key) (b : Bool) → vs ≡ us → cond b (x ∷ vs) vs ≡ cond b (x ∷ us) us
 same_with x us vs b e = ap (λ l. cond b (x ∷ l) l) e
 
 -- a place alone
-pub users-put_false : (es : Kept) (k : Key) → lookup (is_at (key_cmp k)) es ≡ None → users_in (insert_entry key_cmp es k false) ≡ users_in es
+pub users-put_false : (es : Kept) (k : Key) → lookup (is_at (key_cmp k)) es ≡ None → marked_in (insert_entry key_cmp es k false) ≡ marked_in es
 users-put_false [] k none = refl
 users-put_false (e ∷ es) k none =
     let rest = users-put_false es k in
-    let by : (r : Ordering) → key_cmp k e.0 ≡ r → users_in (insert_entry key_cmp (e ∷ es) k false) ≡ users_in (e ∷ es) =
-    λ r. elim r as (λ r. key_cmp k e.0 ≡ r → users_in (insert_entry key_cmp (e ∷ es) k false) ≡ users_in (e ∷ es)) [
-      | Less ↦ λ is. ap users_in (put_step key_cmp e es k false Less is)
+    let by : (r : Ordering) → key_cmp k e.0 ≡ r → marked_in (insert_entry key_cmp (e ∷ es) k false) ≡ marked_in (e ∷ es) =
+    λ r. elim r as (λ r. key_cmp k e.0 ≡ r → marked_in (insert_entry key_cmp (e ∷ es) k false) ≡ marked_in (e ∷ es)) [
+      | Less ↦ λ is. ap marked_in (put_step key_cmp e es k false Less is)
       | Equal ↦ λ is. absurd (none-some e.1 (sym none ∙ find_step key_cmp e es k Equal is))
-      | Greater ↦ λ is. ap users_in (put_step key_cmp e es k false Greater is) ∙ same_with e.0 (users_in es) (users_in (insert_entry key_cmp es k false)) e.1 (rest (sym (find_step key_cmp e es k Greater is) ∙ none))
+      | Greater ↦ λ is. ap marked_in (put_step key_cmp e es k false Greater is) ∙ same_with e.0 (marked_in es) (marked_in (insert_entry key_cmp es k false)) e.1 (rest (sym (find_step key_cmp e es k Greater is) ∙ none))
     ] in
     by (key_cmp k e.0) refl
 
@@ -94,14 +94,14 @@ unused_step : (e : Key × Bool) (us : List Key) (b : Bool) → b ≡ false → u
 unused_step e us b h = rw h refl
 
 -- a place alone that is taken away
-pub users-remove_unused : (es : Kept) (k : Key) → lookup (is_at (key_cmp k)) es ≡ Some false → users_in (remove_entry (is_at (key_cmp k)) es) ≡ users_in es
+pub users-remove_unused : (es : Kept) (k : Key) → lookup (is_at (key_cmp k)) es ≡ Some false → marked_in (remove_entry (is_at (key_cmp k)) es) ≡ marked_in es
 users-remove_unused [] k h = absurd (none-some false h)
 users-remove_unused (e ∷ es) k h =
     let rest = users-remove_unused es k in
-    let step = unused_step e (users_in es) e.1 in
-    elim (is_at (key_cmp k) e.0) as (λ b. cond b (Some e.1) (lookup (is_at (key_cmp k)) es) ≡ Some false → users_in (cond b es (e ∷ remove_entry (is_at (key_cmp k)) es)) ≡ users_in (e ∷ es)) [
+    let step = unused_step e (marked_in es) e.1 in
+    elim (is_at (key_cmp k) e.0) as (λ b. cond b (Some e.1) (lookup (is_at (key_cmp k)) es) ≡ Some false → marked_in (cond b es (e ∷ remove_entry (is_at (key_cmp k)) es)) ≡ marked_in (e ∷ es)) [
       | true ↦ λ is. let unused : e.1 ≡ false = cc in step unused
-      | false ↦ λ is. same_with e.0 (users_in es) (users_in (remove_entry (is_at (key_cmp k)) es)) e.1 (rest is)
+      | false ↦ λ is. same_with e.0 (marked_in es) (marked_in (remove_entry (is_at (key_cmp k)) es)) e.1 (rest is)
     ] h
 
 but_equal : (k x : Key) (us : List Key) (b : Bool) → key_cmp k x ≡ Equal → AreAbove k us → us ≡ users_but k (cond b (x ∷ us) us)
@@ -113,34 +113,34 @@ but_other k x us vs r true is apart rest = ap (λ l. x ∷ l) rest ∙ sym (but_
 but_other k x us vs r false is apart rest = rest
 
 -- a place that is taken away
-pub users-remove : (es : Kept) (k : Key) → HasRisingKeys key_cmp es → users_in (remove_entry (is_at (key_cmp k)) es) ≡ users_but k (users_in es)
+pub users-remove : (es : Kept) (k : Key) → HasRisingKeys key_cmp es → marked_in (remove_entry (is_at (key_cmp k)) es) ≡ users_but k (marked_in es)
 users-remove [] k h = refl
 users-remove (e ∷ es) k h =
     let rest = users-remove es k h.1 in
-    let by : (r : Ordering) → key_cmp k e.0 ≡ r → users_in (remove_entry (is_at (key_cmp k)) (e ∷ es)) ≡ users_but k (users_in (e ∷ es)) =
-    λ r. elim r as (λ r. key_cmp k e.0 ≡ r → users_in (remove_entry (is_at (key_cmp k)) (e ∷ es)) ≡ users_but k (users_in (e ∷ es))) [
-      | Less ↦ λ is. ap users_in (out_step key_cmp e es k Less is) ∙ but_other k e.0 (users_in es) (users_in (remove_entry (is_at (key_cmp k)) es)) Less e.1 is refl rest
-      | Equal ↦ λ is. ap users_in (out_step key_cmp e es k Equal is) ∙ but_equal k e.0 (users_in es) e.1 is (users-above k es (above-equal k e.0 es is h.0))
-      | Greater ↦ λ is. ap users_in (out_step key_cmp e es k Greater is) ∙ but_other k e.0 (users_in es) (users_in (remove_entry (is_at (key_cmp k)) es)) Greater e.1 is refl rest
+    let by : (r : Ordering) → key_cmp k e.0 ≡ r → marked_in (remove_entry (is_at (key_cmp k)) (e ∷ es)) ≡ users_but k (marked_in (e ∷ es)) =
+    λ r. elim r as (λ r. key_cmp k e.0 ≡ r → marked_in (remove_entry (is_at (key_cmp k)) (e ∷ es)) ≡ users_but k (marked_in (e ∷ es))) [
+      | Less ↦ λ is. ap marked_in (out_step key_cmp e es k Less is) ∙ but_other k e.0 (marked_in es) (marked_in (remove_entry (is_at (key_cmp k)) es)) Less e.1 is refl rest
+      | Equal ↦ λ is. ap marked_in (out_step key_cmp e es k Equal is) ∙ but_equal k e.0 (marked_in es) e.1 is (users-above k es (above-equal k e.0 es is h.0))
+      | Greater ↦ λ is. ap marked_in (out_step key_cmp e es k Greater is) ∙ but_other k e.0 (marked_in es) (marked_in (remove_entry (is_at (key_cmp k)) es)) Greater e.1 is refl rest
     ] in
     by (key_cmp k e.0) refl
 
-set-remove : (test : Key → Bool) (es : Kept) → users_in (set_value test es false) ≡ users_in (remove_entry test es)
+set-remove : (test : Key → Bool) (es : Kept) → marked_in (set_value test es false) ≡ marked_in (remove_entry test es)
 set-remove test [] = refl
 set-remove test (e ∷ es) =
     let rest = set-remove test es in
-    elim (test e.0) as (λ b. users_in (cond b ((e.0, false) ∷ es) (e ∷ set_value test es false)) ≡ users_in (cond b es (e ∷ remove_entry test es))) [
+    elim (test e.0) as (λ b. marked_in (cond b ((e.0, false) ∷ es) (e ∷ set_value test es false)) ≡ marked_in (cond b es (e ∷ remove_entry test es))) [
       | true ↦ refl
-      | false ↦ same_with e.0 (users_in (remove_entry test es)) (users_in (set_value test es false)) e.1 rest
+      | false ↦ same_with e.0 (marked_in (remove_entry test es)) (marked_in (set_value test es false)) e.1 rest
     ]
 
 -- a place that stays without its user
-pub users-set_false : (es : Kept) (k : Key) → HasRisingKeys key_cmp es → users_in (set_value (is_at (key_cmp k)) es false) ≡ users_but k (users_in es)
+pub users-set_false : (es : Kept) (k : Key) → HasRisingKeys key_cmp es → marked_in (set_value (is_at (key_cmp k)) es false) ≡ users_but k (marked_in es)
 users-set_false es k h = set-remove (is_at (key_cmp k)) es ∙ users-remove es k h
 
 -- a key that has no place is no user
-pub users-but_none : (es : Kept) (k : Key) → HasRisingKeys key_cmp es → lookup (is_at (key_cmp k)) es ≡ None → users_in es ≡ users_but k (users_in es)
-users-but_none es k h none = ap users_in (sym (remove-none (is_at (key_cmp k)) es none)) ∙ users-remove es k h
+pub users-but_none : (es : Kept) (k : Key) → HasRisingKeys key_cmp es → lookup (is_at (key_cmp k)) es ≡ None → marked_in es ≡ users_but k (marked_in es)
+users-but_none es k h none = ap marked_in (sym (remove-none (is_at (key_cmp k)) es none)) ∙ users-remove es k h
 
 -- ---- readable keys
 
@@ -162,14 +162,19 @@ readable-set test (e ∷ es) v h =
     let rest = readable-set test es v h.1 in
     elim (test e.0) as (λ b. AreReadable (cond b ((e.0, v) ∷ es) (e ∷ set_value test es v))) [ true ↦ h | false ↦ (h.0, rest) ]
 
-pub readable-first : (es : Kept) (k : Key) → AreReadable es → Some k ≡ first_of (users_in es) → IsReadable k
+pub readable-first : (es : Kept) (k : Key) → AreReadable es → Some k ≡ first_of (marked_in es) → IsReadable k
 readable-first [] k h e = absurd (none-some k (sym e))
 readable-first (e ∷ es) k h first =
     let rest = readable-first es k h.1 in
-    elim e.1 as (λ b. Some k ≡ first_of (cond b (e.0 ∷ users_in es) (users_in es)) → IsReadable k) [
+    elim e.1 as (λ b. Some k ≡ first_of (cond b (e.0 ∷ marked_in es) (marked_in es)) → IsReadable k) [
       | true ↦ λ is. let same : e.0 ≡ k = cc in subst IsReadable same h.0
       | false ↦ λ is. rest is
     ] first
+
+-- the same of a user by reference, where there is one
+pub readable-least : (o : Option (Bor Key)) (es : Kept) → AreReadable es → option_map (λ user. user.now) o ≡ first_of (marked_in es) → IfSome o (λ user. IsReadable user.now)
+readable-least None es h is = tt
+readable-least (Some user) es h is = readable-first es user.now h is
 
 -- ---- places
 

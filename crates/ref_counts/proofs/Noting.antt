@@ -12,9 +12,11 @@ use Rattle.std.specs.Cmp.{unsigned_tied}
 use Rattle.table_schema.specs.declared.key.Key.{Key}
 use Rattle.ref_counts.specs.declared.name.Name.{Name}
 use Rattle.ref_counts.specs.declared.name.Name.TheVariants as name
+use Rattle.ref_counts.specs.declared.name.NameState.{NameState}
+use Rattle.ref_counts.specs.declared.name.NameState.TheVariants as state
 use Rattle.ref_counts.specs.declared.pin.Pin.{Pin}
-use Rattle.ref_counts.specs.Registered.{Registered, with_pin}
-use Rattle.ref_counts.specs.Registry.{AreNoted, IsNoted, Names, Noted, changed, changed_at, gone_from, is_among, is_retiring, items_in, registered_name_cmp, noted_by, pinned, state_of}
+use Rattle.ref_counts.specs.Registered.{Registered, made_live, with_pin}
+use Rattle.ref_counts.specs.Registry.{AreNoted, IsNoted, Names, Noted, changed, changed_at, finished_in, gone_from, is_among, is_retiring, items_in, registered_name_cmp, noted_by, pinned, state_of}
 
 pub or_more : (a b d : Bool) → (b ≡ true → d ≡ true) → (a || b) ≡ true → (a || d) ≡ true
 or_more true b d f h = refl
@@ -27,6 +29,13 @@ noted-changed noted n f keeps (e ∷ es) h =
     let one = keeps e.0 e.1 h.0 in
     let first : IsNoted noted (changed_at n f e) = elim (is_at (registered_name_cmp n) e.0) as (λ b. IsNoted noted (cond b (e.0, f e.1) e)) [ true ↦ one | false ↦ h.0 ] in
     (first, noted-changed noted n f keeps es h.1)
+
+-- a name that comes to be live where it was being built
+pub noted-finished : (noted : Noted) (n : Name) (s : NameState) (names : Names) → AreNoted noted names → AreNoted noted (finished_in s names n)
+noted-finished noted n state.Absent names h = h
+noted-finished noted n (state.Building worker) names h = noted-changed noted n (made_live []) (λ m r is. is) names h
+noted-finished noted n state.Live names h = h
+noted-finished noted n (state.Retiring worker) names h = h
 
 -- a name that nobody pins
 pub noted-put : (noted : Noted) (n : Name) (r : Registered) → r.pins ≡ [] → (names : Names) → AreNoted noted names → AreNoted noted (insert_entry registered_name_cmp names n r)

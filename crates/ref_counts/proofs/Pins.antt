@@ -7,7 +7,7 @@ use Rattle.table_schema.specs.Key.{key_cmp}
 use Rattle.table_schema.specs.declared.key.Key.{Key}
 use Rattle.ref_counts.specs.declared.pin.Pin.{Pin}
 use Rattle.ref_counts.specs.Kept.{HasKeptPlace, HavePlaces, Kept}
-use Rattle.ref_counts.specs.Registered.{pins_but, pins_of, with_users}
+use Rattle.ref_counts.specs.Registered.{pins_but}
 
 pub places-kept : (old new : Kept) → ((q : Key) → HasKeptPlace old q → HasKeptPlace new q) → (pins : List Pin) → HavePlaces old pins → HavePlaces new pins
 places-kept old new f [] h = tt
@@ -35,16 +35,12 @@ places-but kept worker (p ∷ ps) h =
     let rest = places-but kept worker ps h.1 in
     elim (not (p.worker == worker)) as (λ b. HavePlaces kept (cond b (p ∷ pins_but worker ps) (pins_but worker ps))) [ true ↦ (h.0, rest) | false ↦ rest ]
 
--- no other worker's pin is for the key
 -- the place of a key may go, or stays where a pin is for it
 pub places-end : (k : Key) (old new : Kept) (pins : List Pin) (b : Bool) → b ≡ list_any (λ p. is_at (key_cmp k) p.user) pins → (b ≡ true → (q : Key) → HasKeptPlace old q → HasKeptPlace new q) → ((q : Key) → is_at (key_cmp k) q ≡ false → HasKeptPlace old q → HasKeptPlace new q) → HavePlaces old pins → HavePlaces new pins
 places-end k old new pins true is stays others h = places-kept old new (stays refl) pins h
 places-end k old new pins false is stays others h = places-others k old new others pins (sym is) h
 
--- the keys of pins come to be users, the first before the others
-pub users-cons : (worker : ℕ) (p : Pin) (ps : List Pin) (us : List Key) → with_users (pins_of worker ps) (with_users (pins_of worker (p ∷ [])) us) ≡ with_users (pins_of worker (p ∷ ps)) us
-users-cons worker p ps us = elim (p.worker == worker) as (λ b. with_users (pins_of worker ps) (with_users (cond b (p ∷ []) []) us) ≡ with_users (cond b (p ∷ pins_of worker ps) (pins_of worker ps)) us) [ true ↦ refl | false ↦ refl ]
-
+-- no other worker's pin is for the key
 pub none-but : (k : Key) (worker : ℕ) (pins : List Pin) → list_any (λ p. not (p.worker == worker) && is_at (key_cmp k) p.user) pins ≡ false → list_any (λ p. is_at (key_cmp k) p.user) (pins_but worker pins) ≡ false
 none-but k worker [] h = refl
 none-but k worker (p ∷ ps) h =

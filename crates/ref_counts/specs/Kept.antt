@@ -1,7 +1,7 @@
 -- Users beside places that are kept for keys that may come to be users.
-use Rattle.std.specs.Prelude.{◌≡◌, true, Bool, List, [], ◌∷◌, if◌then◌else◌}
+use Rattle.std.specs.Prelude.{◌≡◌, true, Bool, not, ◌||◌, List, [], ◌∷◌, Option, Some, None, false, if◌then◌else◌}
 use Rattle.std.specs.BTreeMap.{is_at}
-use Rattle.std.specs.List.{AllByRecursion}
+use Rattle.std.specs.List.{AllByRecursion, list_any}
 use Rattle.std.specs.Map.{lookup}
 use Rattle.std.specs.Option.{is_some}
 use Rattle.table_schema.specs.Key.{key_cmp}
@@ -9,13 +9,29 @@ use Rattle.table_schema.specs.declared.key.Key.{Key}
 use Rattle.ref_counts.specs.declared.pin.Pin.{Pin}
 use Rattle.ref_counts.specs.Registered.{IsReadable}
 
--- keys, each with whether it is a user: for the others places are kept
+-- keys, each with whether it is a user whatever pins there are: the others are users where no pin is for them
 abbrev pub Kept : Type 0
 Kept = List (Key × Bool)
 
-abbrev pub users_in : Kept → List Key
-users_in [] = []
-users_in (e ∷ es) = if e.1 then e.0 ∷ users_in es else users_in es
+abbrev pub marked_in : Kept → List Key
+marked_in [] = []
+marked_in (e ∷ es) = if e.1 then e.0 ∷ marked_in es else marked_in es
+
+abbrev pub is_pinned : List Pin → Key → Bool
+is_pinned pins user = list_any (λ p. is_at (key_cmp user) p.user) pins
+
+-- keys, each with whether it is a user, where some keys wait for their pins
+abbrev pub settled : (Key → Bool) → Kept → Kept
+settled waits [] = []
+settled waits (e ∷ es) = (e.0, e.1 || not (waits e.0)) ∷ settled waits es
+
+abbrev pub users_in : Kept → List Pin → List Key
+users_in kept pins = marked_in (settled (is_pinned pins) kept)
+
+-- whether a place is for a key that is a user only where no pin is for it
+abbrev pub is_waiting : Option Bool → Bool
+is_waiting (Some uses) = not uses
+is_waiting None = false
 
 -- there is a place for the key
 abbrev pub HasKeptPlace : Kept → Key → Type 0

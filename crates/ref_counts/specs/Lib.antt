@@ -1,3 +1,4 @@
+pub mod Claimed
 pub mod Kept
 pub mod Lent
 pub mod Parted

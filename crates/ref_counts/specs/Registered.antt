@@ -33,6 +33,11 @@ begun worker places = record { state = state.Building worker; ids = []; places =
 abbrev pub made_live : List Vid → Registered → Registered
 made_live ids r = record { state = state.Live; ids = ids; places = 0; users = r.users; pins = r.pins }
 
+-- in a state in which a worker builds it, all of it comes to be there, with no identifier
+abbrev pub finished_by : NameState → Registered → Registered
+finished_by (state.Building worker) r = made_live [] r
+finished_by _ r = r
+
 -- it begins to go: nobody but this worker pins it, and this worker's pins go
 abbrev pub begun_to_go : ℕ → Registered → Registered
 begun_to_go worker r = record { state = state.Retiring worker; ids = r.ids; places = 0; users = r.users; pins = [] }

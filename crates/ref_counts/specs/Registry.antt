@@ -14,7 +14,7 @@ use Rattle.ref_counts.specs.declared.name.Name.{Name}
 use Rattle.ref_counts.specs.declared.name.Name.TheVariants as name
 use Rattle.ref_counts.specs.declared.name.NameState.{NameState}
 use Rattle.ref_counts.specs.declared.name.NameState.TheVariants as state
-use Rattle.ref_counts.specs.Registered.{Registered, released, retire_refusal, with_pin}
+use Rattle.ref_counts.specs.Registered.{Registered, made_live, released, retire_refusal, with_pin}
 
 -- by what they name, rows first, and then by their parts
 abbrev pub registered_name_cmp : Name → Name → Ordering
@@ -89,6 +89,11 @@ changed_at n f e = if is_at (registered_name_cmp n) e.0 then (e.0, f e.1) else e
 -- a change of what is known of one name
 abbrev pub changed : Names → Name → (Registered → Registered) → Names
 changed names n f = map (changed_at n f) names
+
+-- a name that a worker builds comes to be live, with no identifier, and any other stays as it is
+abbrev pub finished_in : NameState → Names → Name → Names
+finished_in (state.Building worker) names n = changed names n (made_live [])
+finished_in _ names n = names
 
 -- the first of some keys whose row is not live
 abbrev pub first_not_live : Names → List Key → Option Key

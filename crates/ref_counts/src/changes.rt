@@ -1,7 +1,7 @@
 // Changes of what is known of one name.
-ghost use Rattle.std.specs.Prelude.{◌≡◌, ◌≤◌, None, Some, length, IfErr, OnOk, OnErr};
+ghost use Rattle.std.specs.Prelude.{◌≡◌, ◌≤◌, ◌↔◌, None, Some, length, IfOk, IfErr, OnOk, OnErr, IsTrue};
 ghost use Rattle.ref_counts.specs.Registered.{IsReadable, begun_to_go, made_live, released, with_pin, with_user, without_last_pin, without_user};
-ghost use Rattle.ref_counts.specs.Registry.{changed, gone_from, places_of, retire_refusal_at, state_of};
+ghost use Rattle.ref_counts.specs.Registry.{changed, finished_in, gone_from, places_of, retire_refusal_at, state_of};
 
 use crate::registrations::Registrations;
 use crate::{Name, NameState};
@@ -30,6 +30,15 @@ pub fn make_live(names: &mut Registrations, name: &Name, ids: &[Vid])
     }
 }
 
+/// All of a name is there that a worker builds, with no identifier. Any other name stays as it is.
+pub fn finish(names: &mut Registrations, name: &Name)
+    ensures { names.new ≡ finished_in (state_of names.old name.now) names.old name.now }
+{
+    if let Some(registration) = names.get_mut(name) {
+        registration.finish();
+    }
+}
+
 /// A key comes to use a name, where it is not absent.
 pub fn add_user(names: &mut Registrations, name: &Name, user: Key) -> Result<(), OutOfMemory>
     requires { IsReadable user }
@@ -39,6 +48,19 @@ pub fn add_user(names: &mut Registrations, name: &Name, user: Key) -> Result<(),
     match names.get_mut(name) {
         Some(registration) => registration.add_user(user),
         None => Ok(()),
+    }
+}
+
+/// A key comes to use a name, where it is not absent. True says that it is not.
+pub fn share(names: &mut Registrations, name: &Name, user: Key) -> Result<bool, OutOfMemory>
+    requires { IsReadable user }
+    ensures there { IfOk result (λ there. IsTrue there ↔ ¬ (state_of names.old name.now ≡ NameState.Absent)) }
+    ensures ok { OnOk result (names.new ≡ changed names.old name.now (with_user user)) }
+    ensures err { OnErr result (names.new ≡ names.old) }
+{
+    match names.get_mut(name) {
+        Some(registration) => registration.share(user),
+        None => Ok(false),
     }
 }
 

@@ -1,7 +1,9 @@
 //! The names that operations need and make, with their users and pins, and the room that operations reserve on a chip.
 #![tactic(auto)]
 
+mod boxed_claims;
 mod changes;
+mod claims;
 mod copied;
 mod laws;
 mod name;

@@ -1,41 +1,36 @@
 // What is known of one name.
-ghost use Rattle.std.specs.Prelude.{◌≡◌, ◌≤◌, None, Some, length, option_map, IfOk, IfErr, OnOk, OnErr};
+ghost use Rattle.std.specs.Prelude.{◌≡◌, ◌≤◌, ◌↔◌, None, Some, length, option_map, IfOk, IfErr, OnOk, OnErr, IsTrue};
 ghost use Rattle.ref_counts.specs.Registry.{ids_by};
-ghost use Rattle.ref_counts.specs.Registered.{IsReadable, begun, first_of, begun_to_go, least_worker, made_live, pins_but, released, retire_refusal, with_pin, with_user, without_last_pin, without_user};
+ghost use Rattle.ref_counts.specs.Registered.{IsReadable, begun, finished_by, first_of, begun_to_go, made_live, released, retire_refusal, with_pin, with_user, without_last_pin, without_user};
 
 use crate::NameState;
+use crate::boxed_claims::BoxedClaims;
 use crate::copied::copied;
-use crate::pin::Pin;
-use crate::placing::{end_place_of, end_use_of, leave_places};
-use crate::users::{Places, keep_place, least_user, put_user};
 use sai_types::Vid;
 use std::alloc::Global;
-use std::collections::BTreeMap;
 use std::marker::Model;
 use switch_model::Wait;
 use swss_types::OutOfMemory;
 use table_schema::Key;
 
-/// How a name stands, its identifiers, its users and its pins. Each pin's key has its place among the users.
+/// How a name stands, its identifiers, its users and its pins. It is small, since there are many names.
 #[derive(Drop)]
 pub struct Registration {
     state: NameState,
     ids: Vec<Vid>,
     places: u64,
-    users: Places,
-    pins: Vec<Pin>,
+    claims: BoxedClaims,
 }
 
 impl Model for Registration {
     ghost use Rattle.std.specs.Prelude.{◌≤◌, ◌+◌, vec_len, vec_capacity};
-    ghost use Rattle.ref_counts.specs.Kept.{IsKept, users_in};
     ghost use Rattle.ref_counts.specs.Registered.{Registered};
 
     ghost Value = { Registered };
 
-    ghost view = { λ r. record { state = r.state; ids = r.ids.items; places = r.places; users = users_in r.users.entries; pins = r.pins.items } };
+    ghost view = { λ r. record { state = r.state; ids = r.ids.items; places = r.places; users = r.claims.users; pins = r.claims.pins } };
 
-    ghost invariant = { λ r. IsKept r.users.entries r.pins.items × (r.places ≤ vec_capacity r.ids) };
+    ghost invariant = { λ r. r.places ≤ vec_capacity r.ids };
 }
 
 impl Registration {
@@ -47,8 +42,7 @@ impl Registration {
             state: NameState::Building(worker),
             ids: Vec::with_capacity(alloc, places as usize)?,
             places,
-            users: BTreeMap::new(alloc),
-            pins: Vec::new(alloc),
+            claims: BoxedClaims::new(),
         })
     }
 
@@ -73,7 +67,7 @@ impl Registration {
     pub fn least_user(&self) -> Option<&Key>
         ensures { option_map (λ user. user.now) result ≡ first_of self.now.users }
     {
-        least_user(&self.users)
+        self.claims.least_user()
     }
 
     /// All of it is there, with these identifiers.
@@ -89,20 +83,43 @@ impl Registration {
         self.places = 0;
     }
 
+    /// All of it is there, with no identifier, where a worker builds it. Else it stays as it is.
+    pub fn finish(&mut self)
+        ensures { self.new ≡ finished_by self.old.state self.old }
+    {
+        if let NameState::Building(_) = self.state {
+            self.make_live(&[]);
+        }
+    }
+
     /// A key comes to use it.
     pub fn add_user(&mut self, user: Key) -> Result<(), OutOfMemory>
         requires { IsReadable user }
         ensures ok { OnOk result (self.new ≡ with_user user self.old) }
         ensures err { OnErr result (self.new ≡ self.old) }
     {
-        put_user(&mut self.users, user)
+        self.claims.add_user(*self.ids.allocator(), user)
+    }
+
+    /// A key comes to use it. True says that it is not absent.
+    pub fn share(&mut self, user: Key) -> Result<bool, OutOfMemory>
+        requires { IsReadable user }
+        ensures there { IfOk result (λ there. IsTrue there ↔ ¬ (self.old.state ≡ NameState.Absent)) }
+        ensures ok { OnOk result (self.new ≡ with_user user self.old) }
+        ensures err { OnErr result (self.new ≡ self.old) }
+    {
+        self.add_user(user)?;
+        match self.state {
+            NameState::Absent => Ok(false),
+            _ => Ok(true),
+        }
     }
 
     /// A key uses it no more.
     pub fn drop_user(&mut self, user: &Key)
         ensures { self.new ≡ without_user user.now self.old }
     {
-        end_use_of(&mut self.users, self.pins.as_slice(), user);
+        self.claims.drop_user(user);
     }
 
     /// A worker pins it for a key.
@@ -111,30 +128,21 @@ impl Registration {
         ensures ok { OnOk result (self.new ≡ with_pin worker user.now self.old) }
         ensures err { OnErr result (self.new ≡ self.old) }
     {
-        self.pins.reserve(1)?;
-        keep_place(&mut self.users, user)?;
-        self.pins.push(Pin {
-            worker,
-            user: copied(user),
-        })?;
-        Ok(())
+        self.claims.pin(*self.ids.allocator(), worker, user)
     }
 
     /// The pin that was made last is taken back.
     pub fn unpin_last(&mut self)
         ensures { self.new ≡ without_last_pin self.old }
     {
-        if let Some(pin) = self.pins.pop() {
-            end_place_of(&mut self.users, self.pins.as_slice(), &pin.user);
-        }
+        self.claims.unpin_last();
     }
 
     /// A worker gives up its pins: their keys then use it, or do not.
     pub fn release(&mut self, worker: u32, used: bool)
         ensures { self.new ≡ released worker used self.old }
     {
-        leave_places(&mut self.users, self.pins.as_slice(), worker, used);
-        self.pins.retain(|pin| pin.worker != worker);
+        self.claims.release(worker, used);
     }
 
     /// A worker begins to take it away, unless a key uses it or another worker pins it.
@@ -144,34 +152,15 @@ impl Registration {
         ensures refusal { IfErr result (λ wait. retire_refusal worker self.old ≡ Some wait) }
         ensures err { OnErr result (self.new ≡ self.old) }
     {
-        if let Some(user) = least_user(&self.users) {
+        if let Some(user) = self.claims.least_user() {
             return Err(Wait::Held(copied(user)));
         }
-        if let Some(other) = least_other(self.pins.as_slice(), worker) {
+        if let Some(other) = self.claims.least_other(worker) {
             return Err(Wait::Busy(other));
         }
         self.state = NameState::Retiring(worker);
         self.places = 0;
-        self.pins.clear();
+        self.claims.clear();
         Ok(())
-    }
-}
-
-/// The least other worker that has a pin.
-fn least_other(pins: &[Pin], worker: u32) -> Option<u32>
-    ensures { result ≡ least_worker (pins_but worker pins.now) }
-{
-    match pins {
-        [] => None,
-        [pin, others @ ..] => {
-            let least = least_other(others, worker);
-            if pin.worker == worker {
-                return least;
-            }
-            match least {
-                None => Some(pin.worker),
-                Some(other) => Some(pin.worker.min(other)),
-            }
-        }
     }
 }

@@ -1,10 +1,10 @@
 // The registry of names.
-ghost use Rattle.std.specs.Prelude.{◌≡◌, ◌≤◌, ◌↔◌, [], true, length, None, Some, option_map, IfOk, IfErr, OnOk, OnErr, IsTrue};
+ghost use Rattle.std.specs.Prelude.{◌≡◌, ◌≤◌, ◌↔◌, ◌⊎◌, [], true, length, None, Some, option_map, IfOk, IfErr, OnOk, OnErr, IsTrue};
 ghost use Rattle.std.specs.BTreeMap.{insert_entry};
 ghost use Rattle.std.specs.List.Sorted.{IsStrictlySortedBy};
 ghost use Rattle.std.specs.Map.{keys_of};
 ghost use Rattle.ref_counts.specs.Registered.{IsReadable, begun, first_of, begun_to_go, made_live, with_user, without_user};
-ghost use Rattle.ref_counts.specs.Registry.{all_released, changed, first_not_live, gone_from, ids_of, is_live, registered_name_cmp, owner_in, pinned, places_of, retire_refusal_at, state_of, takes_users, users_of};
+ghost use Rattle.ref_counts.specs.Registry.{all_released, changed, finished_in, first_not_live, gone_from, ids_of, is_live, registered_name_cmp, owner_in, pinned, places_of, retire_refusal_at, state_of, takes_users, users_of};
 
 use crate::pinning::{NotedNames, pin_all, release_all};
 use crate::registration::Registration;
@@ -162,6 +162,13 @@ impl Registry {
         changes::make_live(&mut self.names, name, vids);
     }
 
+    /// Makes a name live that a worker builds, with no identifier. Any other name stays as it is.
+    pub fn finish(&mut self, name: &Name)
+        ensures { self.new ≡ finished_in (state_of self.old name.now) self.old name.now }
+    {
+        changes::finish(&mut self.names, name);
+    }
+
     /// The identifiers of a name that is live or goes: none of any other name.
     pub fn vids_of(&self, name: &Name) -> &[Vid]
         ensures { result.now ≡ ids_of self.now name.now }
@@ -190,6 +197,18 @@ impl Registry {
         ensures err { OnErr result (self.new ≡ self.old) }
     {
         changes::add_user(&mut self.names, name, user)
+    }
+
+    /// Adds a key to the users of a name that is live or being built, and tells whether it is; an absent name stays
+    /// absent.
+    pub fn share(&mut self, name: &Name, user: Key) -> Result<bool, OutOfMemory>
+        requires state { (state_of self.old name.now ≡ NameState.Absent) ⊎ (takes_users (state_of self.old name.now) ≡ true) }
+        requires user { IsReadable user }
+        ensures there { IfOk result (λ there. IsTrue there ↔ ¬ (state_of self.old name.now ≡ NameState.Absent)) }
+        ensures ok { OnOk result (self.new ≡ changed self.old name.now (with_user user)) }
+        ensures err { OnErr result (self.new ≡ self.old) }
+    {
+        changes::share(&mut self.names, name, user)
     }
 
     /// Takes a key from the users of a name.

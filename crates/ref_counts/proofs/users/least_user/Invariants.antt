@@ -4,4 +4,4 @@ use Rattle.ref_counts.proofs.users.least_user.Given as goal
 
 -- no user so far
 abbrev pub invariant-loop-user : goal.invariant-loop-user
-invariant-loop-user l = users_in l.user-iterator ≡ users_in l.places.entries
+invariant-loop-user l = users_in l.user-iterator l.pins ≡ users_in l.places.entries l.pins

@@ -3,13 +3,14 @@ use Rattle.std.specs.BTreeMap.{insert_entry}
 use Rattle.table_schema.specs.Key.{key_cmp}
 use Rattle.table_schema.proofs.Places.{HasRisingKeys-from_sorted}
 use Rattle.ref_counts.specs.Kept.{users_in}
-use Rattle.ref_counts.proofs.Keeping.{place-put, readable-put, users-put}
+use Rattle.ref_counts.proofs.Keeping.{place-put, readable-put}
+use Rattle.ref_counts.proofs.Settling.{users_in-put}
 use Rattle.ref_counts.proofs.users.put_user.Goals as goal
 
 pub returns-clause-users : goal.returns-clause-users
 returns-clause-users c =
     let put : c.insert.new.self.entries ≡ insert_entry key_cmp c.args.places.now.entries c.args.user true = search rules in
-    ap users_in put ∙ users-put c.args.places.now.entries c.args.user (HasRisingKeys-from_sorted key_cmp c.args.places.now.entries c.insert.ensures.was_ordered)
+    λ ps. ap (λ es. users_in es ps) put ∙ users_in-put c.args.places.now.entries c.args.user ps (HasRisingKeys-from_sorted key_cmp c.args.places.now.entries c.insert.ensures.was_ordered)
 
 pub returns-clause-others : goal.returns-clause-others
 returns-clause-others c =

@@ -1,5 +1,5 @@
 use Rattle.std.proofs.Common.{length}
-use Rattle.ref_counts.proofs.registration.+least_other.Given as goal
+use Rattle.ref_counts.proofs.claims.+least_other.Given as goal
 
 abbrev pub decreases-least_other : goal.decreases-least_other
 decreases-least_other l = length l.pins.now
