@@ -1,5 +1,6 @@
 mod EachKind
 pub mod Lengths
+mod Left
 mod Modes
 mod Steps
 mod Tables

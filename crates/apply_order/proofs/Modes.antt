@@ -1,5 +1,5 @@
--- the mode of a plan, by room for each kind
-use Rattle.std.proofs.Common.{◌≡◌, ◌↔◌, ℕ, ◌+◌, ◌≤◌, Bool, true, List, sym, ap, ◌∙◌, arith}
+-- whether there is room, kind by kind
+use Rattle.std.proofs.Common.{◌≡◌, ◌↔◌, ℕ, ◌+◌, ◌≤◌, Bool, true, List, slice_index, sym, ◌∙◌, arith}
 use Rattle.std.specs.Bool.{nat_le}
 use Rattle.std.specs.List.{list_all}
 use Rattle.std.proofs.lemmas.Bool.Decides.{nat_tests}
@@ -7,19 +7,18 @@ use Rattle.swss_types.proofs.Most.{most_by_test}
 use Rattle.sai_types.specs.declared.ids.Rid.{Rid}
 use Rattle.sai_types.specs.declared.ids.Vid.{Vid}
 use Rattle.sai_types.specs.declared.body.Object.{Object}
-use Rattle.sai_types.specs.declared.plan.Mode.{Mode}
-use Rattle.sai_types.specs.declared.plan.Mode.TheVariants as mode
-use Rattle.apply_order.specs.Places.{Places, by_new}
-use Rattle.apply_order.specs.Room.{FitTogether, all_kinds, has_room, lacking_from, old_count}
+use Rattle.sai_types.specs.declared.kind.Kind.{Kind}
+use Rattle.sai_types.specs.Objects.{level}
+use Rattle.apply_order.specs.Places.{Places}
+use Rattle.apply_order.specs.Room.{all_kinds, has_room, lacking_from, old_count}
 use Rattle.sai_types.specs.Refusal.{capacity_of}
 use Rattle.apply_order.proofs.EachKind.{each-kind, kinds-each}
 
 is_no_more : (m n : ℕ) → m ≤ n → nat_le m n ≡ true
 is_no_more m n h = grind (arith, nat_tests)
 
-pub mode-fits : (m : Mode) (fits : Bool) (capacities : List ℕ) (old : List (Object Rid)) (new : List (Object Vid)) (pairs : List (ℕ × ℕ)) (paired : Places) → (m ≡ mode.Hitless) ↔ (fits ≡ true) → fits ≡ list_all (λ k. has_room capacities old new paired k) all_kinds → paired ≡ by_new pairs → (m ≡ mode.Hitless) ↔ FitTogether capacities old new pairs
-mode-fits m fits capacities old new pairs paired is all same =
-    let by = ap (λ p. list_all (λ k. has_room capacities old new p k) all_kinds) same in (
-      λ h k. most_by_test (old_count k old + lacking_from k (by_new pairs) new 0) (capacity_of capacities k) (each-kind (λ k. has_room capacities old new (by_new pairs) k) (sym by ∙ sym all ∙ is.0 h) k),
-      λ f. is.1 (all ∙ by ∙ kinds-each (λ k. has_room capacities old new (by_new pairs) k) (λ k. is_no_more (old_count k old + lacking_from k (by_new pairs) new 0) (capacity_of capacities k) (f k))),
-    )
+pub fits-each : (fits : Bool) (capacities held lacking : List ℕ) (old : List (Object Rid)) (new : List (Object Vid)) (paired : Places) → fits ≡ list_all (λ k. has_room capacities held lacking k) all_kinds → ((k : Kind) → slice_index held (level k) ≡ old_count k old) → ((k : Kind) → slice_index lacking (level k) ≡ lacking_from k paired new 0) → (fits ≡ true) ↔ ((k : Kind) → old_count k old + lacking_from k paired new 0 ≤ capacity_of capacities k)
+fits-each fits capacities held lacking old new paired is olds news = (
+  λ h k. let most = most_by_test (slice_index held (level k) + slice_index lacking (level k)) (capacity_of capacities k) (each-kind (λ l. has_room capacities held lacking l) (sym is ∙ h) k) in omega (arith, most, olds k, news k),
+  λ f. is ∙ kinds-each (λ l. has_room capacities held lacking l) (λ k. is_no_more (slice_index held (level k) + slice_index lacking (level k)) (capacity_of capacities k) (omega (arith, f k, olds k, news k))),
+)

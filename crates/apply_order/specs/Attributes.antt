@@ -54,3 +54,8 @@ set_call e a = record { call = call.Set (old_entry e) a; makes = None }
 
 abbrev pub set_calls : OldIds → Object Rid → Object Vid → List PlanCall
 set_calls names o n = map (set_call o.entry) (differing names o.body n.body)
+
+-- whether there is any
+abbrev pub is_any : {X : Type 0} → List X → Bool
+is_any [] = false
+is_any (x ∷ xs) = true

@@ -1,5 +1,5 @@
 -- The calls of a plan's steps. Own.
-use Rattle.std.specs.Prelude.{◌++◌, List, [], ◌∷◌, Option, None, Some, slice_get}
+use Rattle.std.specs.Prelude.{Bool, true, ◌++◌, List, [], ◌∷◌, Option, None, Some, slice_get}
 use Rattle.sai_types.specs.declared.ids.Rid.{Rid}
 use Rattle.sai_types.specs.declared.ids.Vid.{Vid}
 use Rattle.sai_types.specs.declared.body.Call.TheVariants as call
@@ -9,7 +9,7 @@ use Rattle.sai_types.specs.declared.body.Object.{Object}
 use Rattle.sai_types.specs.declared.plan.PlanCall.{PlanCall}
 use Rattle.chip_layout.specs.Renamed.{body_renamed}
 use Rattle.plan_laws.specs.Calls.{old_entry}
-use Rattle.apply_order.specs.Attributes.{set_calls}
+use Rattle.apply_order.specs.Attributes.{is_any, set_calls}
 use Rattle.apply_order.specs.Naming.{OldIds, new_id}
 use Rattle.apply_order.specs.declared.ranks.PlanStep.{PlanStep}
 use Rattle.apply_order.specs.declared.ranks.PlanStep.TheVariants as step
@@ -42,3 +42,8 @@ step_calls names old new (step.Remove i) = remove_calls (slice_get old i)
 abbrev pub steps_calls : OldIds → List (Object Rid) → List (Object Vid) → List Timed → List PlanCall
 steps_calls names old new [] = []
 steps_calls names old new (t ∷ ts) = step_calls names old new t.step ++ steps_calls names old new ts
+
+-- whether a step has anything to do: one that sets what differs has not where nothing does
+abbrev pub is_needed : OldIds → List (Object Rid) → List (Object Vid) → PlanStep → Bool
+is_needed names old new (step.Set i j) = is_any (both_calls names (slice_get old i) (slice_get new j))
+is_needed names old new s = true

@@ -1,5 +1,6 @@
 -- The steps that are due, with their turns. Own.
 use Rattle.std.specs.Prelude.{ℕ, ◌+◌, ◌++◌, List, [], ◌∷◌, Option, None, Some}
+use Rattle.std.specs.List.{filter}
 use Rattle.sai_types.specs.declared.ids.Rid.{Rid}
 use Rattle.sai_types.specs.declared.ids.Vid.{Vid}
 use Rattle.sai_types.specs.declared.body.Entry.{Entry}
@@ -11,10 +12,16 @@ use Rattle.sai_chip.specs.Naming.{entries_of}
 use Rattle.view_match.specs.Keys.{keys_of_objects}
 use Rattle.view_match.specs.Pairs.{new_keys}
 use Rattle.view_match.specs.declared.key.NaturalKey.{NaturalKey}
+use Rattle.apply_order.specs.Calls.{is_needed}
+use Rattle.apply_order.specs.Naming.{OldIds}
 use Rattle.apply_order.specs.Places.{Places, by_new, by_old, partner_at}
 use Rattle.apply_order.specs.Ranks.{make_rank, remove_rank, set_rank}
 use Rattle.apply_order.specs.declared.ranks.PlanStep.TheVariants as step
 use Rattle.apply_order.specs.declared.ranks.Timed.{Timed}
+
+-- those of some steps that have anything to do
+abbrev pub needed : OldIds → List (Object Rid) → List (Object Vid) → List Timed → List Timed
+needed names old new = filter (λ t. is_needed names old new t.step)
 
 -- in a cold plan no object counts as paired
 abbrev pub paired_in : Mode → List (ℕ × ℕ) → List (ℕ × ℕ)

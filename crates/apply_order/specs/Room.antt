@@ -1,11 +1,11 @@
 -- When there is room to keep what stands until the new view stands too. Own.
-use Rattle.std.specs.Prelude.{ℕ, ◌+◌, ◌≤◌, nat_le, Bool, false, List, [], ◌∷◌, Option, None, Some, count_by, if◌then◌else◌}
+use Rattle.std.specs.Prelude.{ℕ, ◌+◌, ◌≤◌, nat_le, Bool, false, List, [], ◌∷◌, Option, None, Some, count_by, slice_index, if◌then◌else◌}
 use Rattle.sai_types.specs.declared.ids.Rid.{Rid}
 use Rattle.sai_types.specs.declared.ids.Vid.{Vid}
 use Rattle.sai_types.specs.declared.body.Object.{Object}
 use Rattle.sai_types.specs.declared.kind.Kind.{Kind}
 use Rattle.sai_types.specs.declared.kind.Kind.TheVariants as kind
-use Rattle.sai_types.specs.Objects.{is_of}
+use Rattle.sai_types.specs.Objects.{is_of, level}
 use Rattle.sai_types.specs.Refusal.{capacity_of}
 use Rattle.apply_order.specs.Places.{Places, by_new, partner_at}
 
@@ -27,9 +27,9 @@ lacking_from kind paired (n ∷ ns) place = (if is_lacking kind n (partner_at pa
 abbrev pub FitTogether : List ℕ → List (Object Rid) → List (Object Vid) → List (ℕ × ℕ) → Type 0
 FitTogether capacities old new pairs = (kind : Kind) → old_count kind old + lacking_from kind (by_new pairs) new 0 ≤ capacity_of capacities kind
 
--- the same as a test, kind by kind
-abbrev pub has_room : List ℕ → List (Object Rid) → List (Object Vid) → Places → Kind → Bool
-has_room capacities old new paired kind = nat_le (old_count kind old + lacking_from kind paired new 0) (capacity_of capacities kind)
+-- whether there is room for so many objects that are held and so many that are lacking, by the levels of their kinds
+abbrev pub has_room : List ℕ → List ℕ → List ℕ → Kind → Bool
+has_room capacities held lacking kind = nat_le (slice_index held (level kind) + slice_index lacking (level kind)) (capacity_of capacities kind)
 
 abbrev pub all_kinds : List Kind
 all_kinds = kind.Port ∷ kind.Vlan ∷ kind.BridgePort ∷ kind.VlanMember ∷ kind.Rif ∷ kind.OwnAddress ∷ kind.Neighbor ∷ kind.NextHop ∷ kind.Group ∷ kind.GroupMember ∷ kind.Route ∷ []

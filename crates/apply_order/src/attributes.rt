@@ -1,6 +1,6 @@
 // What a plan sets on a paired object.
 ghost use Rattle.std.specs.Prelude.{◌≡◌, ◌++◌, map, OnOk};
-ghost use Rattle.apply_order.specs.Attributes.{differing, is_old, is_same_target, set_call, set_calls, where_differs};
+ghost use Rattle.apply_order.specs.Attributes.{differing, is_any, is_old, is_same_target, set_call, set_calls, where_differs};
 
 use crate::naming::{Names, new_to, old_entry};
 use sai_types::{Attr, Body, Call, Entry, Object, PlanCall, PlanCalls, PlanId, Rid, To, Vid};
@@ -61,6 +61,35 @@ fn push_differing(
             push_unless(calls, entry, is_target(*to, target), Attr::To(target))
         }
         _ => Ok(()),
+    }
+}
+
+/// Whether anything differs that a plan sets.
+pub(crate) fn differs(names: &Names, old: &Object<Rid>, new: &Object<Vid>) -> bool
+    ensures { result ≡ is_any (set_calls names.now.entries old.now new.now) }
+{
+    match (&old.body, &new.body) {
+        (
+            Body::Port { speed, mtu, up, .. },
+            Body::Port {
+                speed: new_speed,
+                mtu: new_mtu,
+                up: new_up,
+                ..
+            },
+        ) => speed != new_speed || mtu != new_mtu || up != new_up,
+        (
+            Body::VlanMember { tagging, .. },
+            Body::VlanMember {
+                tagging: new_tagging,
+                ..
+            },
+        ) => tagging != new_tagging,
+        (Body::Neighbor { mac, .. }, Body::Neighbor { mac: new_mac, .. }) => mac != new_mac,
+        (Body::Route { to, .. }, Body::Route { to: new, .. }) => {
+            !is_target(*to, new_to(names, *new))
+        }
+        _ => false,
     }
 }
 

@@ -1,8 +1,9 @@
 // The calls of a plan's steps.
 ghost use Rattle.std.specs.Prelude.{◌≡◌, ◌++◌, IfOk, OnOk, option_copied};
-ghost use Rattle.apply_order.specs.Calls.{both_calls, made_id, make_calls, remove_calls, step_calls, steps_calls};
+ghost use Rattle.apply_order.specs.Attributes.{is_any};
+ghost use Rattle.apply_order.specs.Calls.{both_calls, is_needed, made_id, make_calls, remove_calls, step_calls, steps_calls};
 
-use crate::attributes::push_sets;
+use crate::attributes::{differs, push_sets};
 use crate::naming::{Names, new_body, old_entry};
 use crate::ranks::{PlanStep, Timed};
 use sai_types::{Call, Entry, Object, PlanCall, PlanCalls, Rid, Vid};
@@ -45,6 +46,30 @@ fn push_step(
             new.get(to as usize),
         ),
         PlanStep::Remove(place) => push_remove(calls, old.get(place as usize)),
+    }
+}
+
+/// Whether a step has anything to do: one that sets what differs has not where nothing does.
+pub(crate) fn is_needed(
+    names: &Names,
+    old: &[Object<Rid>],
+    new: &[Object<Vid>],
+    step: PlanStep,
+) -> bool
+    ensures { result ≡ is_needed names.now.entries old.now new.now step }
+{
+    match step {
+        PlanStep::Set(from, to) => both_differ(names, old.get(from as usize), new.get(to as usize)),
+        _ => true,
+    }
+}
+
+fn both_differ(names: &Names, old: Option<&Object<Rid>>, new: Option<&Object<Vid>>) -> bool
+    ensures { result ≡ is_any (both_calls names.now.entries (option_copied old.entry) (option_copied new.entry)) }
+{
+    match (old, new) {
+        (Some(old), Some(new)) => differs(names, old, new),
+        _ => false,
     }
 }
 

@@ -1,52 +1,55 @@
 // The steps that are due, with their turns.
 ghost use Rattle.std.specs.Prelude.{◌≡◌, ◌++◌, length, IfOk, OnOk};
 ghost use Rattle.std.specs.List.Sorted.{IsPermutation, IsSorted};
-ghost use Rattle.view_match.specs.Keyed.{AreKeysOf};
-ghost use Rattle.apply_order.specs.Due.{due_steps, entry_number, new_step, new_steps, old_step, old_steps, paired_in};
-ghost use Rattle.apply_order.specs.Places as at;
-ghost use Rattle.apply_order.specs.Places.{IsTable, by_new, by_old};
+ghost use Rattle.view_match.specs.Keyed.{AreNaturalKeysOf};
+ghost use Rattle.apply_order.specs.Due.{due_steps, entry_number, needed, new_step, new_steps, old_step, old_steps, paired_in};
+ghost use Rattle.apply_order.specs.Places.{IsTable, Places, by_new, by_old};
 ghost use Rattle.apply_order.specs.Ranks.{timed_cmp};
 
-use crate::places::{Places, by_new, by_old, partner};
+use crate::calls::is_needed;
+use crate::naming::Names;
+use crate::places::{Partners, by_new, by_old, partner};
 use crate::ranks::{PlanStep, Timed, make_rank, remove_rank, set_rank};
 use sai_types::{Entry, Mode, Object, Rid, Vid};
 use std::alloc::Global;
 use swss_types::OutOfMemory;
-use view_match::{Keys, NaturalKey};
+use view_match::{NaturalKey, NaturalKeys};
 
-/// The steps of a plan, in their order.
+/// The steps of a plan that have anything to do, in their order.
 pub(crate) fn steps_of(
     alloc: Global,
     mode: Mode,
+    names: &Names,
     old: &[Object<Rid>],
     new: &[Object<Vid>],
     pairs: &[(u64, u64)],
-    keys: Keys,
+    keys: NaturalKeys,
 ) -> Result<Vec<Timed>, OutOfMemory>
-    requires keyed { AreKeysOf old.now new.now keys }
-    ensures { IfOk result (λ steps. IsPermutation (due_steps mode old.now new.now pairs.now) steps.items × IsSorted timed_cmp steps.items) }
+    requires keyed { AreNaturalKeysOf old.now new.now keys }
+    ensures { IfOk result (λ steps. IsPermutation (needed names.now.entries old.now new.now (due_steps mode old.now new.now pairs.now)) steps.items × IsSorted timed_cmp steps.items) }
 {
-    let mut steps = due_steps(alloc, mode, old, new, pairs, keys)?;
+    let mut steps = due_steps(alloc, mode, names, old, new, pairs, keys)?;
     steps.sort()?;
     Ok(steps)
 }
 
-/// The steps of a plan, in no order.
+/// The steps of a plan that have anything to do, in no order.
 fn due_steps(
     alloc: Global,
     mode: Mode,
+    names: &Names,
     old: &[Object<Rid>],
     new: &[Object<Vid>],
     pairs: &[(u64, u64)],
-    keys: Keys,
+    keys: NaturalKeys,
 ) -> Result<Vec<Timed>, OutOfMemory>
-    requires keyed { AreKeysOf old.now new.now keys }
-    ensures { IfOk result (λ steps. steps.items ≡ due_steps mode old.now new.now pairs.now) }
+    requires keyed { AreNaturalKeysOf old.now new.now keys }
+    ensures { IfOk result (λ steps. steps.items ≡ needed names.now.entries old.now new.now (due_steps mode old.now new.now pairs.now)) }
 {
     let pairs = paired_in(mode, pairs);
     let mut steps = Vec::with_capacity(alloc, new.len())?;
     let new_places = by_new(alloc, new.len(), pairs)?;
-    push_new(mode, &new_places, keys.of_new, new, &mut steps)?;
+    push_new(mode, names, &new_places, keys.of_new, old, new, &mut steps)?;
     let old_places = by_old(alloc, old.len(), pairs)?;
     push_old(mode, &old_places, keys.of_old, old, &mut steps)?;
     Ok(steps)
@@ -62,22 +65,27 @@ fn paired_in(mode: Mode, pairs: &[(u64, u64)]) -> &[(u64, u64)]
     }
 }
 
-/// Puts the steps of the new objects.
+/// Puts the steps of the new objects that have anything to do.
 fn push_new(
     mode: Mode,
-    paired: &Places,
+    names: &Names,
+    paired: &Partners,
     keys: Vec<Option<NaturalKey>>,
+    old: &[Object<Rid>],
     new: &[Object<Vid>],
     steps: &mut Vec<Timed>,
 ) -> Result<(), OutOfMemory>
     requires keyed { length keys.items ≡ length new.now }
     requires counted { length paired.now.items ≡ length new.now }
-    ensures { OnOk result ((known : at.Places) → IsTable known paired.now.items → steps.new.items ≡ steps.old.items ++ new_steps mode known keys.items new.now 0) }
+    ensures { OnOk result ((known : Places) → IsTable known paired.now.items → steps.new.items ≡ steps.old.items ++ needed names.now.entries old.now new.now (new_steps mode known keys.items new.now 0)) }
 {
     let mut place = 0;
     for key in keys {
         let at = place as u64;
-        steps.push(new_step(mode, key, &new[place], at, partner(paired, place)))?;
+        let step = new_step(mode, key, &new[place], at, partner(paired, place));
+        if is_needed(names, old, new, step.step) {
+            steps.push(step)?;
+        }
         place += 1;
     }
     Ok(())
@@ -112,14 +120,14 @@ fn new_step(
 /// Puts the steps of the old objects.
 fn push_old(
     mode: Mode,
-    paired: &Places,
+    paired: &Partners,
     keys: Vec<Option<NaturalKey>>,
     old: &[Object<Rid>],
     steps: &mut Vec<Timed>,
 ) -> Result<(), OutOfMemory>
     requires keyed { length keys.items ≡ length old.now }
     requires counted { length paired.now.items ≡ length old.now }
-    ensures { OnOk result ((known : at.Places) → IsTable known paired.now.items → steps.new.items ≡ steps.old.items ++ old_steps mode known keys.items old.now 0) }
+    ensures { OnOk result ((known : Places) → IsTable known paired.now.items → steps.new.items ≡ steps.old.items ++ old_steps mode known keys.items old.now 0) }
 {
     let mut place = 0;
     for key in keys {

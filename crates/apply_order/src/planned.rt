@@ -1,6 +1,6 @@
 // The plan from what stands on a chip to a new view.
 ghost use Rattle.std.specs.Prelude.{IfOk};
-ghost use Rattle.view_match.specs.Keyed.{AreKeysOf};
+ghost use Rattle.view_match.specs.Keyed.{AreNaturalKeysOf};
 ghost use Rattle.apply_order.specs.Planned.{IsPlanOf};
 
 use crate::calls::calls_of;
@@ -10,7 +10,7 @@ use crate::room::mode_of;
 use sai_types::{Caps, Object, Pairing, Plan, Rid, Vid};
 use std::alloc::Global;
 use swss_types::OutOfMemory;
-use view_match::{Keys, keys_of};
+use view_match::{NaturalKeys, natural_keys_of};
 
 /// The calls that bring a chip with the old objects to the new view. Where of each kind the old objects and the new ones
 /// that are not paired number at most the capacity, what is paired stays: the others are made, what differs is set, and
@@ -26,7 +26,7 @@ pub fn plan(
 ) -> Result<Plan, OutOfMemory>
     ensures { IfOk result (λ plan. IsPlanOf old.now new.now pairing.now caps.now.0 plan) }
 {
-    let keys = keys_of(alloc, old, new)?;
+    let keys = natural_keys_of(alloc, old, new)?;
     plan_by(alloc, old, new, pairing, keys, caps)
 }
 
@@ -36,16 +36,16 @@ pub fn plan_by(
     old: &[Object<Rid>],
     new: &[Object<Vid>],
     pairing: &Pairing,
-    keys: Keys,
+    keys: NaturalKeys,
     caps: &Caps,
 ) -> Result<Plan, OutOfMemory>
-    requires keyed { AreKeysOf old.now new.now keys }
+    requires keyed { AreNaturalKeysOf old.now new.now keys }
     ensures { IfOk result (λ plan. IsPlanOf old.now new.now pairing.now caps.now.0 plan) }
 {
     let pairs = pairing.items();
     let mode = mode_of(alloc, old, new, pairs, caps)?;
     let names = names_in(alloc, mode, old, new, pairs)?;
-    let steps = steps_of(alloc, mode, old, new, pairs, keys)?;
+    let steps = steps_of(alloc, mode, &names, old, new, pairs, keys)?;
     let calls = calls_of(alloc, &names, old, new, steps.as_slice())?;
     Ok(Plan { mode, calls })
 }

@@ -1,16 +1,20 @@
 // When there is room to keep what stands until the new view stands too.
-ghost use Rattle.std.specs.Prelude.{◌≡◌, ◌↔◌, ◌≤◌, length, true, IfOk};
+ghost use Rattle.std.specs.Prelude.{◌≡◌, ◌↔◌, ◌+◌, ◌<◌, ◌≤◌, ◌==◌, length, slice_index, true, IfOk, if◌then◌else◌};
 ghost use Rattle.std.specs.List.{list_all};
-ghost use Rattle.sai_types.specs.Objects.{is_of, level};
-ghost use Rattle.apply_order.specs.Places as at;
-ghost use Rattle.apply_order.specs.Places.{IsTable};
-ghost use Rattle.apply_order.specs.Room.{FitTogether, all_kinds, has_room, is_lacking, lacking_from, old_count};
+ghost use Rattle.sai_types.specs.declared.kind.Kind.{Kind};
+ghost use Rattle.sai_types.specs.Objects.{kind_of, level};
+ghost use Rattle.sai_types.specs.Refusal.{capacity_of};
+ghost use Rattle.apply_order.specs.Places.{IsTable, Places};
+ghost use Rattle.apply_order.specs.Room.{FitTogether, has_room, is_lacking, lacking_from, old_count};
 
-use crate::places::{Places, by_new, partner};
+use crate::places::{Partners, by_new, partner};
 use crate::ranks::kind_of;
-use sai_types::{Body, Caps, Kind, Mode, Object, Rid, Vid};
+use sai_types::{Caps, Kind, Mode, Object, Rid, Vid};
 use std::alloc::Global;
 use swss_types::OutOfMemory;
+
+/// A number of objects of each kind, in the order of `Kind`.
+type Counts = [u64; 11];
 
 /// The mode of a plan: hitless where there is room.
 pub(crate) fn mode_of(
@@ -34,9 +38,9 @@ fn mode_if(fits: bool) -> Mode
 }
 
 /// Whether there is room for the old objects of each kind and the new ones that are not paired.
-fn fits(paired: &Places, old: &[Object<Rid>], new: &[Object<Vid>], caps: &Caps) -> bool
+fn fits(paired: &Partners, old: &[Object<Rid>], new: &[Object<Vid>], caps: &Caps) -> bool
     requires counted { length paired.now.items ≡ length new.now }
-    ensures { (known : at.Places) → IsTable known paired.now.items → result ≡ list_all (λ kind. has_room caps.now.0 old.now new.now known kind) all_kinds }
+    ensures { (known : Places) → IsTable known paired.now.items → (result ≡ true) ↔ ((kind : Kind) → old_count kind old.now + lacking_from kind known new.now 0 ≤ capacity_of caps.now.0 kind) }
 {
     let kinds = [
         Kind::Port,
@@ -51,88 +55,71 @@ fn fits(paired: &Places, old: &[Object<Rid>], new: &[Object<Vid>], caps: &Caps) 
         Kind::GroupMember,
         Kind::Route,
     ];
-    have_room(&kinds, paired, old, new, caps)
+    have_room(&kinds, &held(old), &lacking(paired, new), caps)
 }
 
-/// Whether there is room for each of these kinds.
-fn have_room(
-    kinds: &[Kind],
-    paired: &Places,
-    old: &[Object<Rid>],
-    new: &[Object<Vid>],
-    caps: &Caps,
-) -> bool
-    requires counted { length paired.now.items ≡ length new.now }
-    ensures { (known : at.Places) → IsTable known paired.now.items → result ≡ list_all (λ kind. has_room caps.now.0 old.now new.now known kind) kinds.now }
+/// Whether there is room for so many objects that are held and so many that are lacking, for each of these kinds.
+fn have_room(kinds: &[Kind], held: &Counts, lacking: &Counts, caps: &Caps) -> bool
+    ensures { result ≡ list_all (λ kind. has_room caps.now.0 held.now lacking.now kind) kinds.now }
 {
     for kind in kinds {
-        if !has_room(*kind, paired, old, new, caps) {
+        if !has_room(*kind, held, lacking, caps) {
             return false;
         }
     }
     true
 }
 
-/// Whether there is room for the old objects of a kind and the new ones that are not paired.
-fn has_room(
-    kind: Kind,
-    paired: &Places,
-    old: &[Object<Rid>],
-    new: &[Object<Vid>],
-    caps: &Caps,
-) -> bool
-    requires counted { length paired.now.items ≡ length new.now }
-    ensures { (known : at.Places) → IsTable known paired.now.items → result ≡ has_room caps.now.0 old.now new.now known kind }
+fn has_room(kind: Kind, held: &Counts, lacking: &Counts, caps: &Caps) -> bool
+    ensures { result ≡ has_room caps.now.0 held.now lacking.now kind }
 {
-    let room = caps.0[level(kind)];
-    let held = count(kind, old);
-    held <= room && lacking(kind, paired, new) <= room - held
+    let place = level(kind);
+    let room = caps.0[place];
+    held[place] <= room && lacking[place] <= room - held[place]
 }
 
-/// How many old objects are of a kind.
-fn count(kind: Kind, old: &[Object<Rid>]) -> u64
-    ensures { result ≡ old_count kind old.now }
+/// How many old objects there are of each kind.
+fn held(old: &[Object<Rid>]) -> Counts
+    ensures { (kind : Kind) → slice_index result (level kind) ≡ old_count kind old.now }
 {
-    let mut count = 0;
+    let mut counts = [0; 11];
     for object in old {
-        if is_of(kind, &object.body) {
-            count += 1;
-        }
+        raise(&mut counts, kind_of(&object.body));
     }
-    count
+    counts
 }
 
-/// How many new objects are of a kind and not paired.
-fn lacking(kind: Kind, paired: &Places, new: &[Object<Vid>]) -> u64
+/// How many new objects of each kind are not paired.
+fn lacking(paired: &Partners, new: &[Object<Vid>]) -> Counts
     requires counted { length paired.now.items ≡ length new.now }
-    ensures { (known : at.Places) → IsTable known paired.now.items → result ≡ lacking_from kind known new.now 0 }
+    ensures { (known : Places) → IsTable known paired.now.items → (kind : Kind) → slice_index result (level kind) ≡ lacking_from kind known new.now 0 }
 {
-    let mut count = 0;
+    let mut counts = [0; 11];
     let mut place = 0;
     for object in new {
-        if is_lacking(kind, object, partner(paired, place)) {
-            count += 1;
-        }
+        raise_lacking(&mut counts, object, partner(paired, place));
         place += 1;
     }
-    count
+    counts
 }
 
-/// Whether a new object is of a kind and not paired.
-fn is_lacking(kind: Kind, new: &Object<Vid>, partner: Option<u64>) -> bool
-    ensures { result ≡ is_lacking kind new.now partner }
+/// One more of a new object's kind, where it is not paired.
+fn raise_lacking(counts: &mut Counts, new: &Object<Vid>, partner: Option<u64>)
+    requires { slice_index counts.old (level (kind_of new.now.body)) + 1 < 18446744073709551616 }
+    ensures { (k : Kind) → slice_index counts.new (level k) ≡ slice_index counts.old (level k) + (if is_lacking k new.now partner then 1 else 0) }
 {
-    match partner {
-        None => is_of(kind, &new.body),
-        Some(_) => false,
+    if partner.is_none() {
+        raise(counts, kind_of(&new.body));
     }
 }
 
-/// Whether a body is of a kind.
-fn is_of<I>(kind: Kind, body: &Body<I>) -> bool
-    ensures { result ≡ is_of kind body.now }
+/// One more of a kind.
+fn raise(counts: &mut Counts, kind: Kind)
+    requires { slice_index counts.old (level kind) + 1 < 18446744073709551616 }
+    ensures { (k : Kind) → slice_index counts.new (level k) ≡ slice_index counts.old (level k) + (if level kind == level k then 1 else 0) }
 {
-    level(kind_of(body)) == level(kind)
+    let place = level(kind);
+    counts[place] += 1;
 }
 
 /// The place of a kind in the chip's table.

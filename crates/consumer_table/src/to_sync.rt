@@ -2,7 +2,6 @@
 ghost use Rattle.std.specs.Prelude.{◌≡◌, ◌<◌, ◌^◌, [], length, Some, option_map, is_some, IfOk, OnOk, OnErr};
 ghost use Rattle.std.specs.List.Sorted.{IsStrictlySortedBy};
 ghost use Rattle.std.specs.Map.{keys_of};
-ghost use Rattle.table_schema.specs.Fields.{merged};
 ghost use Rattle.table_schema.specs.Key.{key_cmp};
 ghost use Rattle.table_schema.specs.declared.write.Write.TheVariants as write;
 ghost use Rattle.consumer_table.specs.Ops.{AreOpsInOrder, first_in, keys_behind, op_at, op_with_set, ops_after, ops_with, without_op};
@@ -48,19 +47,11 @@ impl Op {
             Op::Set(held) => held.merge(&fields),
             Op::Replace(held) => held.merge(&fields),
             Op::Del => {
-                *self = Op::Replace(first_fields(fields));
+                *self = Op::Replace(fields.laid_over_none());
                 Ok(())
             }
         }
     }
-}
-
-/// Fields that are laid over none: since their names rise, they stay what they are.
-fn first_fields(fields: Fields) -> Fields
-    ensures { result ≡ merged [] fields }
-{
-    let _rising = fields.items();
-    fields
 }
 
 /// Merges fields into the operation of a key, and tells whether it had one.
@@ -75,7 +66,7 @@ fn lay(ops: &mut BTreeMap<Key, Op>, key: Key, fields: Fields) -> Result<bool, Ou
             Ok(true)
         }
         Entry::Vacant(place) => {
-            place.insert(Op::Set(first_fields(fields)));
+            place.insert(Op::Set(fields.laid_over_none()));
             Ok(false)
         }
     }
@@ -94,7 +85,7 @@ fn add(ops: &mut BTreeMap<Key, Op>, op: KeyOp) -> Result<bool, OutOfMemory>
     } = op;
     match (dropped, fields) {
         (true, Some(fields)) => {
-            let was = ops.insert(key, Op::Replace(first_fields(fields)))?;
+            let was = ops.insert(key, Op::Replace(fields.laid_over_none()))?;
             Ok(was.is_some())
         }
         (true, None) => {

@@ -1,6 +1,5 @@
 // The table of the writes that wait.
 ghost use Rattle.std.specs.Prelude.{◌≡◌, ◌⊎◌, ◌↔◌, [], ◌∷◌, take, drop, IsTrue, IfOk, IfSome, IfNone, OnOk, OnErr, option_map, slice_get};
-ghost use Rattle.table_schema.specs.Fields.{merged};
 ghost use Rattle.table_schema.specs.declared.write.Write.TheVariants as write;
 ghost use Rattle.table_schema.specs.declared.key.Key.{Key};
 ghost use Rattle.producer_table.specs.declared.waiting.Pending.{Pending};
@@ -51,7 +50,7 @@ impl Pending {
     {
         Pending {
             dropped: false,
-            fields: Some(first_fields(fields)),
+            fields: Some(fields.laid_over_none()),
         }
     }
 
@@ -63,19 +62,11 @@ impl Pending {
         match &mut self.fields {
             Some(held) => held.merge(&fields),
             None => {
-                self.fields = Some(first_fields(fields));
+                self.fields = Some(fields.laid_over_none());
                 Ok(())
             }
         }
     }
-}
-
-/// Fields that are laid over none: since their names rise, they stay what they are.
-fn first_fields(fields: Fields) -> Fields
-    ensures { result ≡ merged [] fields }
-{
-    let _rising = fields.items();
-    fields
 }
 
 /// Merges fields into those that wait of a key.

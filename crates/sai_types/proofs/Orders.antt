@@ -3,9 +3,7 @@ use Rattle.std.proofs.Common.{◌≡◌, List, [], ◌∷◌, Ordering, ap, ap�
 use Rattle.std.specs.Cmp.Lexicographic.{slice_cmp}
 use Rattle.std.specs.Ordering.{ordering_then}
 use Rattle.std.specs.declared.cmp.Ordering.TheVariants.{Less, Equal, Greater}
-use Rattle.swss_types.specs.AddressOrder.{prefix_cmp}
-use Rattle.swss_types.specs.Order.{prefix_order}
-use Rattle.swss_types.proofs.Orders.{ips-by_parts, prefixes-by_parts}
+use Rattle.swss_types.specs.AddressOrder.{ip_cmp}
 use Rattle.sai_types.specs.contracts.hop.BaseOrd.TheImpl as base_ord
 use Rattle.sai_types.specs.contracts.thing.ThingOrd.TheImpl as thing_ord
 use Rattle.sai_types.specs.declared.hop.Base.{Base}
@@ -22,8 +20,11 @@ bases-by_parts (base.Port m) (base.Vlan n) = refl
 bases-by_parts (base.Vlan m) (base.Port n) = refl
 bases-by_parts (base.Vlan m) (base.Vlan n) = refl
 
+then_same : (a b c : Ordering) → a ≡ b → ordering_then a c ≡ ordering_then b c
+then_same a b c e = ap (λ o. ordering_then o c) e
+
 pub hops-by_parts : (a b : Hop) → hop_cmp a b ≡ hop_order a b
-hops-by_parts a b = ap₂ ordering_then (bases-by_parts a.on b.on) (ips-by_parts a.ip b.ip)
+hops-by_parts a b = then_same (base_ord.ghosts.cmp a.on b.on) (base_order a.on b.on) (ip_cmp a.ip b.ip) (bases-by_parts a.on b.on)
 
 pub lists-by_parts : (gs hs : List Hop) → slice_cmp hop_cmp gs hs ≡ slice_cmp hop_order gs hs
 lists-by_parts [] [] = refl
@@ -41,9 +42,6 @@ then_none Less = refl
 then_none Equal = refl
 then_none Greater = refl
 
-then_same : (a b c : Ordering) → a ≡ b → ordering_then a c ≡ ordering_then b c
-then_same a b c e = ap (λ o. ordering_then o c) e
-
 -- by kind and natural key, and then by what can be set
 pub things-by_parts : (t u : Thing) → (rest : Ordering) × (thing_ord.ghosts.cmp t u ≡ ordering_then (thing_order t u) rest)
 things-by_parts (thing.Port p) (thing.Port q) = (_, refl)
@@ -51,10 +49,10 @@ things-by_parts (thing.Vlan v) (thing.Vlan w) = (Equal, then_none (nat_cmp v w))
 things-by_parts (thing.BridgePort p) (thing.BridgePort q) = (Equal, then_none (nat_cmp p q))
 things-by_parts (thing.VlanMember v p t) (thing.VlanMember w q u) = (_, then_assoc (nat_cmp v w) (nat_cmp p q) _)
 things-by_parts (thing.Rif a) (thing.Rif b) = (Equal, bases-by_parts a b ∙ then_none (base_order a b))
-things-by_parts (thing.Own i) (thing.Own j) = (Equal, ips-by_parts i j ∙ then_none _)
+things-by_parts (thing.Own i) (thing.Own j) = (Equal, then_none (ip_cmp i j))
 things-by_parts (thing.Neighbor g m) (thing.Neighbor h n) = (_, then_same (hop_cmp g h) (hop_order g h) _ (hops-by_parts g h))
 things-by_parts (thing.NextHop g) (thing.NextHop h) = (Equal, hops-by_parts g h ∙ then_none (hop_order g h))
 things-by_parts (thing.Group gs) (thing.Group hs) = (Equal, lists-by_parts gs hs ∙ then_none (slice_cmp hop_order gs hs))
 things-by_parts (thing.GroupMember gs g) (thing.GroupMember hs h) = (Equal, ap₂ ordering_then (lists-by_parts gs hs) (hops-by_parts g h) ∙ then_none (ordering_then (slice_cmp hop_order gs hs) (hop_order g h)))
-things-by_parts (thing.Route p f) (thing.Route q g) = (_, then_same (prefix_cmp p q) (prefix_order p q) _ (prefixes-by_parts p q))
+things-by_parts (thing.Route p f) (thing.Route q g) = (_, refl)
 things-by_parts t u = (Equal, refl)

@@ -4,7 +4,7 @@ use Rattle.std.specs.Cmp.Lexicographic.{slice_cmp}
 use Rattle.std.specs.Ordering.{nat_cmp, ordering_then}
 use Rattle.std.specs.declared.cmp.Ordering.{Ordering}
 use Rattle.std.specs.declared.cmp.Ordering.TheVariants.{Equal}
-use Rattle.swss_types.specs.Order.{ip_order, prefix_order}
+use Rattle.swss_types.specs.AddressOrder.{ip_cmp, prefix_cmp}
 use Rattle.sai_types.specs.declared.hop.Base.{Base}
 use Rattle.sai_types.specs.declared.hop.Base.TheVariants as base
 use Rattle.sai_types.specs.declared.hop.Hop.{Hop}
@@ -27,7 +27,7 @@ base_order a b = ordering_then (nat_cmp (base_place a) (base_place b)) (nat_cmp 
 
 -- hops by what their interfaces stand on, and then by address
 abbrev pub hop_order : Hop → Hop → Ordering
-hop_order a b = ordering_then (base_order a.on b.on) (ip_order a.ip b.ip)
+hop_order a b = ordering_then (base_order a.on b.on) (ip_cmp a.ip b.ip)
 
 -- things of one kind by their natural keys, from the first part on
 abbrev pub natural_order : Thing → Thing → Ordering
@@ -36,12 +36,12 @@ natural_order (thing.Vlan v) (thing.Vlan w) = nat_cmp v w
 natural_order (thing.BridgePort p) (thing.BridgePort q) = nat_cmp p q
 natural_order (thing.VlanMember v p t) (thing.VlanMember w q u) = ordering_then (nat_cmp v w) (nat_cmp p q)
 natural_order (thing.Rif a) (thing.Rif b) = base_order a b
-natural_order (thing.Own i) (thing.Own j) = ip_order i j
+natural_order (thing.Own i) (thing.Own j) = ip_cmp i j
 natural_order (thing.Neighbor g m) (thing.Neighbor h n) = hop_order g h
 natural_order (thing.NextHop g) (thing.NextHop h) = hop_order g h
 natural_order (thing.Group gs) (thing.Group hs) = slice_cmp hop_order gs hs
 natural_order (thing.GroupMember gs g) (thing.GroupMember hs h) = ordering_then (slice_cmp hop_order gs hs) (hop_order g h)
-natural_order (thing.Route p f) (thing.Route q g) = prefix_order p q
+natural_order (thing.Route p f) (thing.Route q g) = prefix_cmp p q
 natural_order t u = Equal
 
 -- things by their kinds, lowest first, and then by their natural keys

@@ -1,15 +1,14 @@
 -- addresses and prefixes that compare equal are equal
-use Rattle.std.proofs.Common.{ℕ, refl, ap₂}
+use Rattle.std.proofs.Common.{ℕ, refl, ap₂, nat_cmp}
 use Rattle.std.proofs.lemmas.Map.Lookups.{CmpEqualImpliesEq, exact_unsigned}
 use Rattle.swss_types.specs.declared.address.Family.{Family}
 use Rattle.swss_types.specs.declared.address.Family.TheVariants.{V4, V6}
 use Rattle.swss_types.specs.declared.address.Ip.{Ip}
 use Rattle.swss_types.specs.declared.address.Prefix.{Prefix}
-use Rattle.swss_types.specs.contracts.address.FamilyOrd.TheImpl as family_ord
-use Rattle.swss_types.specs.AddressOrder.{ip_cmp, prefix_cmp}
+use Rattle.swss_types.specs.AddressOrder.{family_place, ip_cmp, prefix_cmp}
 use Rattle.swss_types.proofs.Tied.{then_first, then_last}
 
-family_exact : CmpEqualImpliesEq family_ord.ghosts.cmp
+family_exact : CmpEqualImpliesEq (λ x y. nat_cmp (family_place x) (family_place y))
 family_exact V4 V4 h = refl
 family_exact V6 V6 h = refl
 family_exact x y h = cc

@@ -21,7 +21,6 @@ pub mod LaneLists
 pub mod Lists
 pub mod Macs
 pub mod Names
-pub mod Orders
 pub mod Risings
 pub mod SameValues
 pub mod Tied

@@ -10,7 +10,6 @@ pub mod Laws
 pub mod Mac
 pub mod NameOrder
 pub mod Number
-pub mod Order
 pub mod Outside
 pub mod OutsideMemory
 pub mod Parts

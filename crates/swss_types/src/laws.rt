@@ -10,15 +10,9 @@ ghost use Rattle.swss_types.specs.Lanes.{lanes_of, lanes_text, IsLaneList};
 ghost use Rattle.swss_types.specs.Laws.{ReadsBack, IsWrittenOnce, ReadsProper};
 ghost use Rattle.swss_types.specs.Mac.{mac_of, mac_text, IsProperMac};
 ghost use Rattle.swss_types.specs.Number.{number_of};
-ghost use Rattle.swss_types.specs.AddressOrder.{ip_cmp, prefix_cmp};
-ghost use Rattle.swss_types.specs.NameOrder.{name_cmp};
-ghost use Rattle.swss_types.specs.Order.{ip_order, name_order, prefix_order};
 ghost use Rattle.swss_types.specs.Prefix.{interface_address_of, interface_address_text, prefix_of, prefix_text, IsProperInterfaceAddress};
 ghost use Rattle.swss_types.specs.Tagging.{tagging_of, tagging_text};
 ghost use Rattle.swss_types.specs.declared.address.Family.{Family};
-ghost use Rattle.swss_types.specs.declared.address.Ip.{Ip};
-ghost use Rattle.swss_types.specs.declared.address.Prefix.{Prefix};
-ghost use Rattle.swss_types.specs.declared.interface.IfName.{IfName};
 ghost use Rattle.swss_types.specs.declared.tagging.Tagging.{Tagging};
 
 /// A number's decimal form reads as the number, and no other text does.
@@ -76,12 +70,4 @@ pub fn prefixes_read_back()
     ensures back { ReadsBack IsProperPrefix prefix_text prefix_of }
     ensures once { IsWrittenOnce IsProperPrefix prefix_text }
     ensures proper { ReadsProper IsProperPrefix prefix_of }
-{}
-
-/// Names of interfaces are ordered by what they are of, ports first and loopback interfaces last, and then by number;
-/// addresses by version and then as numbers; prefixes by address and then by length.
-pub fn names_and_addresses_are_ordered()
-    ensures names { (a b : IfName) → name_cmp a b ≡ name_order a b }
-    ensures addresses { (a b : Ip) → ip_cmp a b ≡ ip_order a b }
-    ensures prefixes { (p q : Prefix) → prefix_cmp p q ≡ prefix_order p q }
 {}

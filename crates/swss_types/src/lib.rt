@@ -25,8 +25,7 @@ pub use interface::{IfName, MOST_PORT, MOST_VLAN};
 pub use lanes::{LANE_BOUND, Lanes};
 pub use laws::{
     addresses_read_back, interface_addresses_read_back, interface_names_read_back, lanes_read_back,
-    macs_read_back, names_and_addresses_are_ordered, numbers_read_back, prefixes_read_back,
-    taggings_read_back,
+    macs_read_back, numbers_read_back, prefixes_read_back, taggings_read_back,
 };
 pub use number::{read_number, write_number};
 pub use out_of_memory::OutOfMemory;

@@ -11,7 +11,7 @@ use asic_view::View;
 use sai_types::{Caps, Entry, Mode, Object, Plan, Rid, Vid};
 use std::alloc::Global;
 use swss_types::OutOfMemory;
-use view_match::{keys_of, pair_by};
+use view_match::{natural_keys_of, pair_by};
 
 /// Plans the way from the objects of the chip to a view, and ties what stays.
 pub(crate) fn begin(
@@ -26,7 +26,7 @@ pub(crate) fn begin(
     ensures err { OnErr result (view.new ≡ view.old) }
 {
     let objects = view.objects()?;
-    let keys = keys_of(alloc, listed, objects.as_slice())?;
+    let keys = natural_keys_of(alloc, listed, objects.as_slice())?;
     let pairing = pair_by(alloc, listed, objects.as_slice(), &keys)?;
     let plan = plan_by(alloc, listed, objects.as_slice(), &pairing, keys, caps)?;
     tie_in(plan.mode, view, listed, objects.as_slice(), pairing.items());

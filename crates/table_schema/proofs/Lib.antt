@@ -14,4 +14,3 @@ pub mod RowLists
 pub mod Restored
 pub mod Risen
 pub mod TakenBack
-mod KeyOrders

@@ -3,7 +3,6 @@ pub mod Fields
 pub mod Held
 pub mod Hop
 pub mod Key
-pub mod KeyOrder
 pub mod KeyText
 pub mod LastValue
 pub mod Names

@@ -60,7 +60,7 @@ fn find_in_turn<'a>(pairs: &'a [(Text, Text)], name: &[u8]) -> Option<&'a Text>
     ensures { option_map (λ value. value.now) result ≡ value_of name.now pairs.now }
 {
     for pair in pairs {
-        if name.cmp(pair.0.bytes()).is_eq() {
+        if name == pair.0.bytes() {
             return Some(&pair.1);
         }
     }

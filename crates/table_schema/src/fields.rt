@@ -102,13 +102,22 @@ impl Fields {
         ensures err { OnErr result (self.new ≡ self.old) }
     {
         let Some(shared) = &mut self.shared else {
-            *self = laid_over_none(other.copy()?);
+            *self = other.copy()?.laid_over_none();
             return Ok(());
         };
         match &other.shared {
             Some(own) => Arc::make_mut(shared)?.merge(own),
             None => Ok(()),
         }
+    }
+
+    /// These fields laid over none: since their names rise, they stay what they are.
+    pub fn laid_over_none(self) -> Fields
+        ensures { result ≡ merged [] self }
+    {
+        // It says that the names rise.
+        let _rising = self.items();
+        self
     }
 
     /// The same fields once more. They are shared, so that it costs a few steps, however many they are.
@@ -126,12 +135,4 @@ impl Fields {
             alloc: self.alloc,
         })
     }
-}
-
-/// Fields that are laid over none: since their names rise, they stay what they are.
-fn laid_over_none(fields: Fields) -> Fields
-    ensures { result ≡ merged [] fields }
-{
-    let _rising = fields.items();
-    fields
 }

@@ -5,9 +5,8 @@ ghost use Rattle.std.specs.Cmp.{IsTotalOrder};
 ghost use Rattle.std.specs.Str.{IsUtf8};
 ghost use Rattle.std.proofs.lemmas.Map.Lookups.{CmpEqualImpliesEq};
 ghost use Rattle.table_schema.specs.Fields.{HasRisingKeys, HasRisingNames, Pairs, merged, value_of};
-ghost use Rattle.table_schema.specs.Hop.{AreRisingRowHops, row_hop_cmp};
+ghost use Rattle.table_schema.specs.Hop.{AreRisingRowHops, row_hop_cmp, row_hop_order};
 ghost use Rattle.table_schema.specs.Key.{key_cmp};
-ghost use Rattle.table_schema.specs.KeyOrder.{key_order, row_hop_order};
 ghost use Rattle.table_schema.specs.KeyText.{key_of, key_text};
 ghost use Rattle.table_schema.specs.LastValue.{last_value};
 ghost use Rattle.table_schema.specs.Names.{names_of};
@@ -26,11 +25,9 @@ pub fn keys_are_ordered()
     ensures exact { CmpEqualImpliesEq key_cmp }
 {}
 
-/// Keys are ordered by their tables: ports, VLANs, members, interfaces, addresses, neighbours, routes, and last those that
-/// do not read. Keys of one table are ordered by their parts, and the hops of rows by interface and then by address.
-pub fn keys_go_by_table()
-    ensures keys { (k q : Key) → key_cmp k q ≡ key_order k q }
-    ensures hops { (a b : RowHop) → row_hop_cmp a b ≡ row_hop_order a b }
+/// The hops of rows are ordered by interface and then by address.
+pub fn row_hops_are_ordered()
+    ensures { (a b : RowHop) → row_hop_cmp a b ≡ row_hop_order a b }
 {}
 
 /// Each key that a text is is proper: its written form reads as the key again. So no two proper keys share one. Whatever the

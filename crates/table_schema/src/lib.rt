@@ -28,10 +28,10 @@ pub use items::Items;
 pub use key::Key;
 pub use key_text::{has_colon, read_key};
 pub use laws::{
-    hops_collapse, keys_are_ordered, keys_go_by_table, keys_read_back, last_values_stay,
-    names_are_proper, plans_are_plans, rows_are_a_fold,
+    hops_collapse, keys_are_ordered, keys_read_back, last_values_stay, names_are_proper,
+    plans_are_plans, row_hops_are_ordered, rows_are_a_fold,
 };
-pub use naming::names;
+pub use naming::{first_name, names};
 pub use plan::{MOST_PORTS, PlanWhy, PortPlan};
 pub use route_rules::MOST_HOPS;
 pub use row::{BadRow, BadWhy, PortRow, RouteRow, Row};

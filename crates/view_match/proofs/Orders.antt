@@ -1,7 +1,6 @@
 -- the order of natural keys is that of things by kind and natural key
 use Rattle.std.proofs.Common.{◌≡◌, [], ap₂, refl}
 use Rattle.std.specs.Ordering.{ordering_then}
-use Rattle.swss_types.proofs.Orders.{ips-by_parts, prefixes-by_parts}
 use Rattle.sai_types.specs.declared.thing.Thing.{Thing}
 use Rattle.sai_types.specs.declared.thing.Thing.TheVariants as thing
 use Rattle.sai_types.specs.Order.{thing_order}
@@ -14,10 +13,10 @@ keys-by_parts (thing.Vlan v) (thing.Vlan w) = refl
 keys-by_parts (thing.BridgePort p) (thing.BridgePort q) = refl
 keys-by_parts (thing.VlanMember v p t) (thing.VlanMember w q u) = refl
 keys-by_parts (thing.Rif a) (thing.Rif b) = bases-by_parts a b
-keys-by_parts (thing.Own i) (thing.Own j) = ips-by_parts i j
+keys-by_parts (thing.Own i) (thing.Own j) = refl
 keys-by_parts (thing.Neighbor g m) (thing.Neighbor h n) = hops-by_parts g h
 keys-by_parts (thing.NextHop g) (thing.NextHop h) = hops-by_parts g h
 keys-by_parts (thing.Group gs) (thing.Group hs) = lists-by_parts gs hs
 keys-by_parts (thing.GroupMember gs g) (thing.GroupMember hs h) = ap₂ ordering_then (lists-by_parts gs hs) (hops-by_parts g h)
-keys-by_parts (thing.Route p f) (thing.Route q g) = prefixes-by_parts p q
+keys-by_parts (thing.Route p f) (thing.Route q g) = refl
 keys-by_parts t u = refl

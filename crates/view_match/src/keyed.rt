@@ -1,6 +1,6 @@
 // The natural keys of old objects and of new ones, made once for the pairing and for the plan.
 ghost use Rattle.std.specs.Prelude.{IfOk};
-ghost use Rattle.view_match.specs.Keyed.{AreKeysOf};
+ghost use Rattle.view_match.specs.Keyed.{AreNaturalKeysOf};
 
 use crate::key::{NaturalKey, natural_keys};
 use crate::listed::as_listed;
@@ -10,7 +10,7 @@ use swss_types::OutOfMemory;
 
 /// The natural keys of old objects and of new ones.
 #[derive(Debug, Drop)]
-pub struct Keys {
+pub struct NaturalKeys {
     /// That of each old object, in their order.
     pub of_old: Vec<Option<NaturalKey>>,
     /// That of each new object, in their order.
@@ -18,11 +18,15 @@ pub struct Keys {
 }
 
 /// The natural keys of these old objects and of these new ones.
-pub fn keys_of(alloc: Global, old: &[Object<Rid>], new: &[Object<Vid>]) -> Result<Keys, OutOfMemory>
-    ensures { IfOk result (λ keys. AreKeysOf old.now new.now keys) }
+pub fn natural_keys_of(
+    alloc: Global,
+    old: &[Object<Rid>],
+    new: &[Object<Vid>],
+) -> Result<NaturalKeys, OutOfMemory>
+    ensures { IfOk result (λ keys. AreNaturalKeysOf old.now new.now keys) }
 {
     let of_old = natural_keys(alloc, old)?;
     let listed = as_listed(alloc, new)?;
     let of_new = natural_keys(alloc, listed.as_slice())?;
-    Ok(Keys { of_old, of_new })
+    Ok(NaturalKeys { of_old, of_new })
 }

@@ -9,7 +9,7 @@ mod listed;
 mod pairing;
 
 pub use key::{NaturalKey, natural_keys};
-pub use keyed::{Keys, keys_of};
+pub use keyed::{NaturalKeys, natural_keys_of};
 pub use laws::{natural_keys_are_ordered, pairs_are_of_one_key};
 pub use listed::as_listed;
 pub use pairing::{pair, pair_by};

@@ -3,13 +3,13 @@ ghost use Rattle.std.specs.Prelude.{◌≡◌, length, true, Some, option_copied
 ghost use Rattle.sai_types.specs.Named.{those};
 ghost use Rattle.sai_types.specs.Objects.{Objects};
 ghost use Rattle.chip_layout.specs.Counted.{AreDistinct};
-ghost use Rattle.view_match.specs.Keyed.{AreKeysOf};
+ghost use Rattle.view_match.specs.Keyed.{AreNaturalKeysOf};
 ghost use Rattle.view_match.specs.Near.{AreFound, IsKey};
 ghost use Rattle.view_match.specs.Pairs.{IsIndex, new_keys, pairs_from, pairs_of, partner_of};
 
 use crate::indexed::{Index, Indexed, index};
 use crate::key::NaturalKey;
-use crate::keyed::{Keys, keys_of};
+use crate::keyed::{NaturalKeys, natural_keys_of};
 use sai_types::{Object, Pairing, Rid, Vid};
 use std::alloc::Global;
 use swss_types::OutOfMemory;
@@ -21,7 +21,7 @@ pub fn pair(alloc: Global, old: &[Object<Rid>], new: &[Object<Vid>]) -> Result<P
     requires distinct { AreDistinct (those (new_keys new.now)) }
     ensures { IfOk result (λ pairing. pairing ≡ pairs_of old.now new.now) }
 {
-    let keys = keys_of(alloc, old, new)?;
+    let keys = natural_keys_of(alloc, old, new)?;
     pair_by(alloc, old, new, &keys)
 }
 
@@ -30,9 +30,9 @@ pub fn pair_by(
     alloc: Global,
     old: &[Object<Rid>],
     new: &[Object<Vid>],
-    keys: &Keys,
+    keys: &NaturalKeys,
 ) -> Result<Pairing, OutOfMemory>
-    requires keyed { AreKeysOf old.now new.now keys.now }
+    requires keyed { AreNaturalKeysOf old.now new.now keys.now }
     requires distinct { AreDistinct (those (new_keys new.now)) }
     ensures { IfOk result (λ pairing. pairing ≡ pairs_of old.now new.now) }
 {

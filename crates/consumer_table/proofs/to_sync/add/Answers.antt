@@ -9,5 +9,5 @@ pub returns-in_ok-was-in-true-Some-clause-ok : goal.returns-in_ok-was-in-true-So
 returns-in_ok-was-in-true-Some-clause-ok c =
     let ops = c.args.ops.now.entries in
     c.in_ok-was-in-true-Some.ensures.entries
-    ∙ ap (λ f. insert_entry key_cmp ops c.args.op.key (Replace f)) c.first_fields.ensures
+    ∙ ap (λ f. insert_entry key_cmp ops c.args.op.key (Replace f)) c.laid_over_none.ensures
     ∙ ops_with-both ops c.args.op c.in-true-Some.fields c.in-true-Some.is-0 c.in-true-Some.is-1
