@@ -7,17 +7,17 @@ ghost use Rattle.asic_view.specs.View.{view_changed_at, entry_at, object_set, un
 
 use crate::ViewObject;
 use crate::body::{entry_of, kind_of, set_attr};
+use late_maps::LateMap;
 use sai_types::{Attr, Body, Entry, Kind, Rid, Vid};
-use std::collections::BTreeMap;
 use swss_types::OutOfMemory;
 
 /// Objects by their identifiers.
-pub type Objects = BTreeMap<Vid, ViewObject>;
+pub type Objects = LateMap<Vid, ViewObject>;
 
 /// Puts an object that is tied to none of the chip in place of the one with the same identifier, if there is one.
 pub fn put(objects: &mut Objects, vid: Vid, body: Body<Vid>) -> Result<(), OutOfMemory>
-    ensures ok { OnOk result (objects.new.entries ≡ insert_entry vid_cmp objects.old.entries vid (untied body)) }
-    ensures err { OnErr result (objects.new.entries ≡ objects.old.entries) }
+    ensures ok { OnOk result (objects.new ≡ insert_entry vid_cmp objects.old vid (untied body)) }
+    ensures err { OnErr result (objects.new ≡ objects.old) }
 {
     objects.insert(vid, ViewObject { body, rid: None })?;
     Ok(())
@@ -25,7 +25,7 @@ pub fn put(objects: &mut Objects, vid: Vid, body: Body<Vid>) -> Result<(), OutOf
 
 /// By what the object with this identifier is named in calls, if there is one.
 pub fn entry_at(objects: &Objects, vid: Vid) -> Option<Entry<Vid>>
-    ensures { result ≡ option_map (λ x. entry_at vid x.body) (lookup (is_at (vid_cmp vid)) objects.now.entries) }
+    ensures { result ≡ option_map (λ x. entry_at vid x.body) (lookup (is_at (vid_cmp vid)) objects.now) }
 {
     match objects.get(&vid) {
         Some(object) => Some(entry_of(vid, &object.body)),
@@ -35,8 +35,8 @@ pub fn entry_at(objects: &Objects, vid: Vid) -> Option<Entry<Vid>>
 
 /// Takes the object with this identifier away, if there is one, and answers its kind.
 pub fn take(objects: &mut Objects, vid: Vid) -> Option<Kind>
-    ensures kind { result ≡ option_map (λ x. kind_of x.body) (lookup (is_at (vid_cmp vid)) objects.old.entries) }
-    ensures taken { objects.new.entries ≡ remove_entry (is_at (vid_cmp vid)) objects.old.entries }
+    ensures kind { result ≡ option_map (λ x. kind_of x.body) (lookup (is_at (vid_cmp vid)) objects.old) }
+    ensures taken { objects.new ≡ remove_entry (is_at (vid_cmp vid)) objects.old }
 {
     let object = objects.remove(&vid)?;
     Some(kind_of(&object.body))
@@ -44,7 +44,7 @@ pub fn take(objects: &mut Objects, vid: Vid) -> Option<Kind>
 
 /// Sets an attribute of the object with this identifier, if there is one.
 pub fn set(objects: &mut Objects, vid: Vid, attr: Attr<Vid>)
-    ensures { objects.new.entries ≡ view_changed_at objects.old.entries vid (λ x. object_set x attr) }
+    ensures { objects.new ≡ view_changed_at objects.old vid (λ x. object_set x attr) }
 {
     if let Some(object) = objects.get_mut(&vid) {
         set_attr(&mut object.body, attr);
@@ -53,7 +53,7 @@ pub fn set(objects: &mut Objects, vid: Vid, attr: Attr<Vid>)
 
 /// Ties the object with this identifier, if there is one.
 pub fn tie(objects: &mut Objects, vid: Vid, rid: Rid)
-    ensures { objects.new.entries ≡ with_tie objects.old.entries vid rid }
+    ensures { objects.new ≡ with_tie objects.old vid rid }
 {
     if let Some(object) = objects.get_mut(&vid) {
         object.rid = Some(rid);

@@ -6,9 +6,9 @@ use crate::body::{entry_of, kind_of, level};
 use crate::counts::{lower, raise};
 use crate::keyed::{Keyed, file, unfile, vid_by};
 use crate::objects::{Objects, entry_at, put, set, take, tie};
+use late_maps::LateMap;
 use sai_types::{Attr, Body, Call, Entry, Kind, Object, Rid, Vid};
 use std::alloc::Global;
-use std::collections::BTreeMap;
 use std::marker::Model;
 use swss_types::OutOfMemory;
 
@@ -29,9 +29,9 @@ impl Model for View {
 
     ghost Value = { ViewObjects };
 
-    ghost view = { λ v. v.objects.entries };
+    ghost view = { λ v. v.objects };
 
-    ghost invariant = { λ v. IsViewKept v.made v.objects.entries v.keyed.entries v.counts };
+    ghost invariant = { λ v. IsViewKept v.made v.objects v.keyed v.counts };
 }
 
 impl View {
@@ -41,8 +41,8 @@ impl View {
     {
         View {
             alloc,
-            objects: BTreeMap::new(alloc),
-            keyed: BTreeMap::new(alloc),
+            objects: LateMap::new(alloc),
+            keyed: LateMap::new(alloc),
             counts: [0; 11],
             made: 0,
         }
@@ -111,7 +111,7 @@ impl View {
         ensures { IfOk result (λ objects. objects.items ≡ map object_of self.now) }
     {
         let mut all = Vec::new(self.alloc);
-        for (vid, object) in &self.objects {
+        for (vid, object) in self.objects.iter() {
             all.push(Object {
                 entry: entry_of(*vid, &object.body),
                 body: object.body.copy()?,

@@ -39,7 +39,7 @@ use Rattle.sai_chip.specs.Tally.{neighbor_cmp, rid_cmp}
 use Rattle.sai_chip.specs.Bodies.{HaveIdKinds, IsWellHeld, id_found, ids_set, macs_set, numbered, owned, reached, routed, objects_in, prefix_cmp, target_of, targets_set, value_found}
 use Rattle.sai_chip.proofs.Parts.{lookup-past, lookup-last, remove-past, remove-last, insert-past, set-past, lookup-in, insert-in, remove-in, set-in, key-lookup, key-insert, key-remove}
 
-rid_exact : CmpEqualImpliesEq rid_cmp
+pub rid_exact : CmpEqualImpliesEq rid_cmp
 rid_exact x y h = let made : ℕ → Rid = λ n. record { 0 = n } in ap made (exact_unsigned x.0 y.0 h)
 
 pub neighbor_exact : CmpEqualImpliesEq neighbor_cmp

@@ -1,3 +1,4 @@
+mod Added
 mod Answered
 mod Changed
 mod Clashes

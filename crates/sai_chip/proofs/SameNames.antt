@@ -1,8 +1,6 @@
 -- what objects stand for, by bodies that are found alike
-use Rattle.std.proofs.Common.{◌≡◌, ℕ, ◌-◌, ◌<◌, ◌≤◌, suc, cond, List, [], ◌∷◌, length, drop, get_or, drop-cons, map, Option, None, Some, option_map, if◌then◌else◌, refl, sym, ap, ◌∙◌, arith}
-use Rattle.std.specs.BTreeMap.{is_at}
+use Rattle.std.proofs.Common.{◌≡◌, ℕ, ◌-◌, ◌<◌, ◌≤◌, suc, List, [], ◌∷◌, length, drop, get_or, drop-cons, map, Option, None, Some, option_map, if◌then◌else◌, refl, ap, ◌∙◌, arith}
 use Rattle.std.specs.BTreeSet.{insert_key}
-use Rattle.std.specs.Cmp.{eq_by_cmp_equiv}
 use Rattle.swss_types.specs.declared.address.Ip.{Ip}
 use Rattle.sai_types.specs.declared.ids.Rid.{Rid}
 use Rattle.sai_types.specs.declared.hop.Base.TheVariants as base
@@ -13,16 +11,14 @@ use Rattle.sai_types.specs.declared.body.Body.{Body}
 use Rattle.sai_types.specs.declared.body.Body.TheVariants as body
 use Rattle.sai_types.specs.declared.body.Entry.{Entry}
 use Rattle.sai_types.specs.declared.body.Entry.TheVariants as entry
-use Rattle.sai_types.specs.declared.body.Object.{Object}
 use Rattle.sai_types.specs.declared.body.RifOn.{RifOn}
 use Rattle.sai_types.specs.declared.body.RifOn.TheVariants as on
 use Rattle.sai_types.specs.declared.body.To.{To}
 use Rattle.sai_types.specs.declared.body.To.TheVariants as to
-use Rattle.sai_types.specs.Objects.{Objects, body_at, entry_cmp}
+use Rattle.sai_types.specs.Objects.{Objects, body_at}
 use Rattle.sai_types.specs.ChipState.{objects_of}
 use Rattle.sai_types.specs.Refusal.{same_id}
 use Rattle.sai_types.specs.Named.{both, hop_cmp, body_port, body_vlan, port_at, vlan_at, bridge_port_of, bridge_port_at, base_on, rif_of, rif_at, hop_on, next_hop_of, next_hop_at, with_member, hops_among, hops_at, goal_by, thing_by, thing_of, things_among, named}
-use Rattle.sai_types.proofs.Entries.{entry_total}
 use Rattle.sai_chip.specs.Members.{hops_by}
 use Rattle.sai_chip.specs.Naming.{AreBodies, AreHops, GroupHops, entries_of, hops_in}
 
@@ -112,16 +108,6 @@ pub things-named : (objects bodies : Objects) (groups : GroupHops) → AreBodies
 things-named objects bodies groups found hops =
     map-same bodies objects found (hops_in groups) (hops_at objects) (λ r. hops.each r ∙ hops_among-same bodies objects found r objects) objects
     ∙ map-things_among objects objects
-
--- one more body in front
-pub AreBodies-cons : (all rest : List (Object Rid)) (o : Object Rid) (old new : Objects) → all ≡ o ∷ rest → AreBodies (entries_of rest) old → ((r : Rid) → body_at new (entry.Oid r) ≡ cond (is_at (entry_cmp o.entry) (entry.Oid r)) (Some o.body) (body_at old (entry.Oid r))) → AreBodies (entries_of all) new
-AreBodies-cons all rest o old new e found put = record {
-  each = λ r.
-      put r
-      ∙ ap (λ b. cond b (Some o.body) (body_at old (entry.Oid r))) ((eq_by_cmp_equiv entry_total).symm o.entry (entry.Oid r))
-      ∙ ap (λ w. cond (is_at (entry_cmp (entry.Oid r)) o.entry) (Some o.body) w) (found.each r)
-      ∙ ap (λ l. body_at (entries_of l) (entry.Oid r)) (sym e);
-}
 
 pub drop-before : {X : Type 0} (xs : List X) (left : ℕ) (d : X) → 0 < left → left ≤ length xs → drop (left - 1) xs ≡ get_or xs (left - 1) d ∷ drop left xs
 drop-before xs left d some within =

@@ -20,6 +20,7 @@ ghost use Rattle.sai_chip.specs.Naming.{AreBodies};
 ghost use Rattle.sai_chip.specs.Tally.{neighbor_cmp};
 
 use crate::effect::set_attr;
+use late_maps::LateMap;
 use sai_types::{Attr, Body, Entry, Object, Rid, To, empty_is_whole, entries_stay_sorted};
 use std::alloc::Global;
 use std::collections::{BTreeMap, BTreeSet};
@@ -27,14 +28,14 @@ use std::marker::Model;
 use std::mem::replace;
 use swss_types::{Ip, Mac, OutOfMemory, Prefix};
 
-/// Bodies by their identifiers.
-pub type Numbered = BTreeMap<Rid, Body<Rid>>;
+/// Bodies by their identifiers, which mostly come in their order.
+pub type Numbered = LateMap<Rid, Body<Rid>>;
 
 /// The Ethernet addresses of neighbours, by their interfaces and addresses.
 pub type Neighbors = BTreeMap<(Rid, Ip), Mac>;
 
-/// Where routes point, by their prefixes.
-pub type Routes = BTreeMap<Prefix, To<Rid>>;
+/// Where routes point, by their prefixes, which mostly come in their order.
+pub type Routes = LateMap<Prefix, To<Rid>>;
 
 /// The bodies of objects: those with identifiers, and those that are found by their own keys.
 #[derive(Drop)]
@@ -52,9 +53,9 @@ impl Model for Bodies {
 
     ghost use Rattle.sai_chip.specs.Bodies.{IsWellHeld, objects_in};
 
-    ghost view = { λ b. objects_in b.numbered.entries b.own.keys b.neighbors.entries b.routes.entries };
+    ghost view = { λ b. objects_in b.numbered b.own.keys b.neighbors.entries b.routes };
 
-    ghost invariant = { λ b. IsWellHeld b.numbered.entries b.own.keys b.neighbors.entries b.routes.entries };
+    ghost invariant = { λ b. IsWellHeld b.numbered b.own.keys b.neighbors.entries b.routes };
 }
 
 impl Bodies {
@@ -64,10 +65,10 @@ impl Bodies {
     {
         empty_is_whole();
         Bodies {
-            numbered: BTreeMap::new(alloc),
+            numbered: LateMap::new(alloc),
             own: BTreeSet::new(alloc),
             neighbors: BTreeMap::new(alloc),
-            routes: BTreeMap::new(alloc),
+            routes: LateMap::new(alloc),
         }
     }
 
@@ -80,7 +81,7 @@ impl Bodies {
 
     /// The bodies that have identifiers.
     pub fn numbered(&self) -> &Numbered
-        ensures { AreBodies self.now (numbered result.now.entries) }
+        ensures { AreBodies self.now (numbered result.now) }
     {
         &self.numbered
     }
@@ -156,7 +157,7 @@ impl Bodies {
 
     /// The routes by their prefixes. No other object decides where an address goes that is not the switch's own.
     pub fn routes(&self) -> &Routes
-        ensures { (ip : Ip) → best_route (those (named self.now)) ip ≡ best_of self.now result.now.entries ip }
+        ensures { (ip : Ip) → best_route (those (named self.now)) ip ≡ best_of self.now result.now ip }
     {
         &self.routes
     }
@@ -173,7 +174,7 @@ impl Bodies {
             Body::OwnAddress { ip } => put_own(&mut self.own, &ip)?,
             Body::Neighbor { rif, ip, mac } => put_neighbor(&mut self.neighbors, rif, &ip, mac)?,
             Body::Route { prefix, to } => put_route(&mut self.routes, &prefix, to)?,
-            body => put(&mut self.numbered, id, body)?,
+            body => self.numbered.insert(id, body)?,
         };
         Ok(old)
     }
@@ -198,7 +199,7 @@ impl Bodies {
     {
         entries_stay_sorted();
         match *entry {
-            Entry::Route(prefix) => set_value(&mut self.routes, prefix, to),
+            Entry::Route(prefix) => point(&mut self.routes, &prefix, to),
             _ => None,
         }
     }
@@ -210,13 +211,13 @@ impl Bodies {
     {
         entries_stay_sorted();
         match entry {
-            Entry::Oid(id) => remove(&mut self.numbered, *id),
+            Entry::Oid(id) => self.numbered.remove(id),
             Entry::Own(ip) => own_if(ip, self.own.remove(ip)),
             Entry::Neigh(rif, ip) => {
-                let mac = remove(&mut self.neighbors, (*rif, *ip));
+                let mac = self.neighbors.remove(&(*rif, *ip));
                 neighbor_if(*rif, ip, mac)
             }
-            Entry::Route(prefix) => route_if(prefix, remove(&mut self.routes, *prefix)),
+            Entry::Route(prefix) => route_if(prefix, self.routes.remove(prefix)),
         }
     }
 
@@ -230,20 +231,6 @@ impl Bodies {
         push_neighbors(&self.neighbors, out)?;
         push_routes(&self.routes, out)
     }
-}
-
-/// Puts a value in place of the one with the same key, and answers that one, if there is one.
-fn put<K: Ord + Drop, V: Drop>(
-    map: &mut BTreeMap<K, V>,
-    key: K,
-    value: V,
-) -> Result<Option<V>, OutOfMemory>
-    ensures ok { OnOk result (map.new.entries ≡ insert_entry K.cmp map.old.entries key value) }
-    ensures old { IfOk result (λ old. old ≡ lookup (is_at (K.cmp key)) map.old.entries) }
-    ensures err { OnErr result (map.new.entries ≡ map.old.entries) }
-{
-    let old = map.insert(key, value)?;
-    Ok(old)
 }
 
 /// Puts an own address, and answers its body, if it stood before.
@@ -270,7 +257,7 @@ fn put_neighbor(
     ensures old { IfOk result (λ old. old ≡ option_map (Body.Neighbor rif ip.now) (lookup (is_at (neighbor_cmp (rif, ip.now))) neighbors.old.entries)) }
     ensures err { OnErr result (neighbors.new.entries ≡ neighbors.old.entries) }
 {
-    let old = put(neighbors, (rif, *ip), mac)?;
+    let old = neighbors.insert((rif, *ip), mac)?;
     Ok(neighbor_if(rif, ip, old))
 }
 
@@ -280,20 +267,12 @@ fn put_route(
     prefix: &Prefix,
     to: To<Rid>,
 ) -> Result<Option<Body<Rid>>, OutOfMemory>
-    ensures ok { OnOk result (routes.new.entries ≡ insert_entry prefix_cmp routes.old.entries prefix.now to) }
-    ensures old { IfOk result (λ old. old ≡ option_map (Body.Route prefix.now) (lookup (is_at (prefix_cmp prefix.now)) routes.old.entries)) }
-    ensures err { OnErr result (routes.new.entries ≡ routes.old.entries) }
+    ensures ok { OnOk result (routes.new ≡ insert_entry prefix_cmp routes.old prefix.now to) }
+    ensures old { IfOk result (λ old. old ≡ option_map (Body.Route prefix.now) (lookup (is_at (prefix_cmp prefix.now)) routes.old)) }
+    ensures err { OnErr result (routes.new ≡ routes.old) }
 {
-    let old = put(routes, *prefix, to)?;
+    let old = routes.insert(*prefix, to)?;
     Ok(route_if(prefix, old))
-}
-
-/// Removes the value of a key, and answers it, if it is there.
-fn remove<K: Ord + Drop, V: Drop>(map: &mut BTreeMap<K, V>, key: K) -> Option<V>
-    ensures removed { map.new.entries ≡ remove_entry (is_at (K.cmp key)) map.old.entries }
-    ensures old { result ≡ lookup (is_at (K.cmp key)) map.old.entries }
-{
-    map.remove(&key)
 }
 
 /// The body of an own address, where it stands.
@@ -332,7 +311,7 @@ fn route_if(prefix: &Prefix, to: Option<To<Rid>>) -> Option<Body<Rid>>
 
 /// Sets an attribute of the body with this identifier, if there is one that has the attribute.
 fn set_numbered(numbered: &mut Numbered, id: Rid, attr: &Attr<Rid>)
-    ensures { numbered.new.entries ≡ ids_set numbered.old.entries id attr.now }
+    ensures { numbered.new ≡ ids_set numbered.old id attr.now }
 {
     if let Some(body) = numbered.get_mut(&id) {
         set_attr(body, attr);
@@ -344,36 +323,38 @@ fn set_mac(neighbors: &mut Neighbors, key: (Rid, Ip), attr: &Attr<Rid>)
     ensures { neighbors.new.entries ≡ macs_set neighbors.old.entries key attr.now }
 {
     if let Attr::Mac(mac) = attr {
-        set_value(neighbors, key, *mac);
+        if let Some(held) = neighbors.get_mut(&key) {
+            *held = *mac;
+        }
     }
 }
 
 /// Sets the target of a route, if it is there.
 fn set_target(routes: &mut Routes, prefix: Prefix, attr: &Attr<Rid>)
-    ensures { routes.new.entries ≡ targets_set routes.old.entries prefix attr.now }
+    ensures { routes.new ≡ targets_set routes.old prefix attr.now }
 {
     if let Attr::To(to) = attr {
-        set_value(routes, prefix, *to);
+        point(routes, &prefix, *to);
     }
 }
 
-/// Sets the value of a key, if it is there, and answers the one before.
-fn set_value<K: Ord + Copy, V: Copy>(map: &mut BTreeMap<K, V>, key: K, value: V) -> Option<V>
-    ensures set { map.new.entries ≡ value_set (is_at (K.cmp key)) map.old.entries value }
-    ensures old { result ≡ lookup (is_at (K.cmp key)) map.old.entries }
+/// Points a route elsewhere, if it is there, and answers where it pointed.
+fn point(routes: &mut Routes, prefix: &Prefix, to: To<Rid>) -> Option<To<Rid>>
+    ensures set { routes.new ≡ value_set (is_at (prefix_cmp prefix.now)) routes.old to }
+    ensures from { result ≡ lookup (is_at (prefix_cmp prefix.now)) routes.old }
 {
-    match map.get_mut(&key) {
-        Some(held) => Some(replace(held, value)),
+    match routes.get_mut(prefix) {
+        Some(held) => Some(replace(held, to)),
         None => None,
     }
 }
 
 /// Appends each object that has an identifier.
 fn push_numbered(bodies: &Numbered, out: &mut Vec<Object<Rid>>) -> Result<(), OutOfMemory>
-    ensures ok { OnOk result (out.new.items ≡ out.old.items ++ objects_of (numbered bodies.now.entries)) }
+    ensures ok { OnOk result (out.new.items ≡ out.old.items ++ objects_of (numbered bodies.now)) }
     ensures err { OnErr result (take (length out.old.items) out.new.items ≡ out.old.items) }
 {
-    for (id, body) in bodies {
+    for (id, body) in bodies.iter() {
         out.push(Object {
             entry: Entry::Oid(*id),
             body: body.copy()?,
@@ -416,10 +397,10 @@ fn push_neighbors(neighbors: &Neighbors, out: &mut Vec<Object<Rid>>) -> Result<(
 
 /// Appends each route.
 fn push_routes(routes: &Routes, out: &mut Vec<Object<Rid>>) -> Result<(), OutOfMemory>
-    ensures ok { OnOk result (out.new.items ≡ out.old.items ++ objects_of (routed routes.now.entries)) }
+    ensures ok { OnOk result (out.new.items ≡ out.old.items ++ objects_of (routed routes.now)) }
     ensures err { OnErr result (take (length out.old.items) out.new.items ≡ out.old.items) }
 {
-    for (prefix, to) in routes {
+    for (prefix, to) in routes.iter() {
         out.push(Object {
             entry: Entry::Route(*prefix),
             body: Body::Route {

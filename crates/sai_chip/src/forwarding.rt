@@ -44,7 +44,7 @@ fn best_route(alloc: Global, held: &Held, ip: &Ip) -> Result<Option<Forward>, Ou
     ensures { IfOk result (λ best. best ≡ option_map (λ r. sent held.now r.1) (best_route (those (named held.now)) ip.now)) }
 {
     let mut best = None;
-    for (prefix, to) in held.bodies().routes() {
+    for (prefix, to) in held.bodies().routes().iter() {
         best = with_route(alloc, held, ip, best, prefix, *to)?;
     }
     Ok(best.map(|route| route.1))

@@ -16,14 +16,14 @@ pub type GroupHops = BTreeMap<Rid, Option<Hops>>;
 
 /// The body with this identifier.
 fn body_at<'a>(bodies: &'a Numbered, id: Rid) -> Option<&'a Body<Rid>>
-    ensures { option_copied result ≡ body_at (numbered bodies.now.entries) (Entry.Oid id) }
+    ensures { option_copied result ≡ body_at (numbered bodies.now) (Entry.Oid id) }
 {
     bodies.get(&id)
 }
 
 /// A port is named by its first lane.
 fn port_at(bodies: &Numbered, port: Rid) -> Option<u16>
-    ensures { result ≡ port_at (numbered bodies.now.entries) port }
+    ensures { result ≡ port_at (numbered bodies.now) port }
 {
     match body_at(bodies, port) {
         Some(Body::Port { lanes, .. }) => Some(lanes.first()),
@@ -33,7 +33,7 @@ fn port_at(bodies: &Numbered, port: Rid) -> Option<u16>
 
 /// A VLAN is named by its number.
 fn vlan_at(bodies: &Numbered, vlan: Rid) -> Option<u16>
-    ensures { result ≡ vlan_at (numbered bodies.now.entries) vlan }
+    ensures { result ≡ vlan_at (numbered bodies.now) vlan }
 {
     match body_at(bodies, vlan) {
         Some(Body::Vlan { vlan }) => Some(*vlan),
@@ -43,7 +43,7 @@ fn vlan_at(bodies: &Numbered, vlan: Rid) -> Option<u16>
 
 /// A bridge port is named by its port.
 fn bridge_port_at(bodies: &Numbered, bridge_port: Rid) -> Option<u16>
-    ensures { result ≡ bridge_port_at (numbered bodies.now.entries) bridge_port }
+    ensures { result ≡ bridge_port_at (numbered bodies.now) bridge_port }
 {
     match body_at(bodies, bridge_port) {
         Some(Body::BridgePort { port }) => port_at(bodies, *port),
@@ -53,7 +53,7 @@ fn bridge_port_at(bodies: &Numbered, bridge_port: Rid) -> Option<u16>
 
 /// What a router interface stands on.
 fn base_on(bodies: &Numbered, on: &RifOn<Rid>) -> Option<Base>
-    ensures { result ≡ base_on (numbered bodies.now.entries) on.now }
+    ensures { result ≡ base_on (numbered bodies.now) on.now }
 {
     match on {
         RifOn::Port(port) => Some(Base::Port(port_at(bodies, *port)?)),
@@ -63,7 +63,7 @@ fn base_on(bodies: &Numbered, on: &RifOn<Rid>) -> Option<Base>
 
 /// A router interface is named by its base.
 pub fn rif_at(bodies: &Numbered, rif: Rid) -> Option<Base>
-    ensures { result ≡ rif_at (numbered bodies.now.entries) rif }
+    ensures { result ≡ rif_at (numbered bodies.now) rif }
 {
     match body_at(bodies, rif) {
         Some(Body::Rif { on }) => base_on(bodies, on),
@@ -73,7 +73,7 @@ pub fn rif_at(bodies: &Numbered, rif: Rid) -> Option<Base>
 
 /// A neighbour is named by its interface and address.
 pub fn hop_on(bodies: &Numbered, rif: Rid, ip: Ip) -> Option<Hop>
-    ensures { result ≡ hop_on (numbered bodies.now.entries) rif ip }
+    ensures { result ≡ hop_on (numbered bodies.now) rif ip }
 {
     let on = rif_at(bodies, rif)?;
     Some(Hop { on, ip })
@@ -81,7 +81,7 @@ pub fn hop_on(bodies: &Numbered, rif: Rid, ip: Ip) -> Option<Hop>
 
 /// A next hop is named as its neighbour.
 pub fn next_hop_at(bodies: &Numbered, next_hop: Rid) -> Option<Hop>
-    ensures { result ≡ next_hop_at (numbered bodies.now.entries) next_hop }
+    ensures { result ≡ next_hop_at (numbered bodies.now) next_hop }
 {
     match body_at(bodies, next_hop) {
         Some(Body::NextHop { rif, ip }) => hop_on(bodies, *rif, *ip),
@@ -107,7 +107,7 @@ fn goal_at(
     groups: &GroupHops,
     to: &To<Rid>,
 ) -> Result<Option<Goal>, OutOfMemory>
-    ensures { IfOk result (λ goal. goal ≡ goal_by (hops_in groups.now.entries) (numbered bodies.now.entries) to.now) }
+    ensures { IfOk result (λ goal. goal ≡ goal_by (hops_in groups.now.entries) (numbered bodies.now) to.now) }
 {
     Ok(match to {
         To::Drop => Some(Goal::Drop),
@@ -125,7 +125,7 @@ pub fn thing_at(
     entry: &Entry<Rid>,
     body: &Body<Rid>,
 ) -> Result<Option<Thing>, OutOfMemory>
-    ensures { IfOk result (λ thing. thing ≡ thing_by (hops_in groups.now.entries) (numbered bodies.now.entries) (entry.now, body.now)) }
+    ensures { IfOk result (λ thing. thing ≡ thing_by (hops_in groups.now.entries) (numbered bodies.now) (entry.now, body.now)) }
 {
     match body {
         Body::Port {
@@ -166,7 +166,7 @@ fn route_at(
     prefix: Prefix,
     to: &To<Rid>,
 ) -> Result<Option<Thing>, OutOfMemory>
-    ensures { IfOk result (λ thing. thing ≡ option_map (Thing.Route prefix) (goal_by (hops_in groups.now.entries) (numbered bodies.now.entries) to.now)) }
+    ensures { IfOk result (λ thing. thing ≡ option_map (Thing.Route prefix) (goal_by (hops_in groups.now.entries) (numbered bodies.now) to.now)) }
 {
     match goal_at(alloc, bodies, groups, to)? {
         Some(goal) => Ok(Some(Thing::Route(prefix, goal))),
@@ -176,7 +176,7 @@ fn route_at(
 
 /// A member of a VLAN as a thing.
 fn member_at(bodies: &Numbered, vlan: Rid, bridge_port: Rid, tagging: Tagging) -> Option<Thing>
-    ensures { result ≡ both (λ v p. Thing.VlanMember v p tagging) (vlan_at (numbered bodies.now.entries) vlan) (bridge_port_at (numbered bodies.now.entries) bridge_port) }
+    ensures { result ≡ both (λ v p. Thing.VlanMember v p tagging) (vlan_at (numbered bodies.now) vlan) (bridge_port_at (numbered bodies.now) bridge_port) }
 {
     let vlan = vlan_at(bodies, vlan)?;
     let port = bridge_port_at(bodies, bridge_port)?;
@@ -185,7 +185,7 @@ fn member_at(bodies: &Numbered, vlan: Rid, bridge_port: Rid, tagging: Tagging) -
 
 /// A neighbour as a thing.
 fn neighbor_at(bodies: &Numbered, rif: Rid, ip: Ip, mac: Mac) -> Option<Thing>
-    ensures { result ≡ option_map (λ h. Thing.Neighbor h mac) (hop_on (numbered bodies.now.entries) rif ip) }
+    ensures { result ≡ option_map (λ h. Thing.Neighbor h mac) (hop_on (numbered bodies.now) rif ip) }
 {
     let hop = hop_on(bodies, rif, ip)?;
     Some(Thing::Neighbor(hop, mac))
@@ -213,7 +213,7 @@ fn group_member_at(
     group: Rid,
     next_hop: Rid,
 ) -> Result<Option<Thing>, OutOfMemory>
-    ensures { IfOk result (λ thing. thing ≡ both Thing.GroupMember (hops_in groups.now.entries group) (next_hop_at (numbered bodies.now.entries) next_hop)) }
+    ensures { IfOk result (λ thing. thing ≡ both Thing.GroupMember (hops_in groups.now.entries group) (next_hop_at (numbered bodies.now) next_hop)) }
 {
     let Some(hop) = next_hop_at(bodies, next_hop) else {
         return Ok(None);

@@ -1,8 +1,9 @@
 // What stands on a chip, up to identifiers.
-ghost use Rattle.std.specs.Prelude.{◌≡◌, Some, IfOk, OnOk, map, if◌then◌else◌};
+ghost use Rattle.std.specs.Prelude.{◌≡◌, None, Some, IfOk, OnOk, map, if◌then◌else◌};
 ghost use Rattle.std.specs.BTreeMap.{is_at};
 ghost use Rattle.std.specs.BTreeSet.{insert_key};
 ghost use Rattle.std.specs.List.Sorted.{IsPermutation, IsSorted};
+ghost use Rattle.std.specs.Option.{option_or};
 ghost use Rattle.sai_types.specs.Named.{both, hop_cmp, named, thing_by, those, with_member};
 ghost use Rattle.sai_types.specs.Objects.{body_at, entry_cmp};
 ghost use Rattle.sai_types.specs.declared.ids.Rid.{Rid};
@@ -12,6 +13,7 @@ ghost use Rattle.sai_chip.specs.Naming.{AreBodies, AreHops, entries_of, hops_in,
 
 use crate::bodies::Numbered;
 use crate::names::{GroupHops, next_hop_at, thing_at};
+use late_maps::LateMap;
 use sai_types::{Body, Entry, Hop, Hops, Object, Rid, Thing};
 use std::alloc::Global;
 use std::collections::BTreeMap;
@@ -38,24 +40,24 @@ pub fn things_of(alloc: Global, objects: &[Object<Rid>]) -> Result<Vec<Thing>, O
 
 /// The bodies by their identifiers; of several with one identifier, the first.
 fn bodies_of(alloc: Global, objects: &[Object<Rid>]) -> Result<Numbered, OutOfMemory>
-    ensures { IfOk result (λ bodies. AreBodies (entries_of objects.now) (numbered bodies.entries)) }
+    ensures { IfOk result (λ bodies. AreBodies (entries_of objects.now) (numbered bodies)) }
 {
-    let mut bodies = BTreeMap::new(alloc);
-    let mut left = objects.len();
-    while 0 < left {
-        left -= 1;
-        put_body(&mut bodies, &objects[left])?;
+    let mut bodies = LateMap::new(alloc);
+    for object in objects {
+        add_body(&mut bodies, object)?;
     }
     Ok(bodies)
 }
 
-/// Puts the body of an object that has an identifier, in place of one with the same.
-fn put_body(bodies: &mut Numbered, object: &Object<Rid>) -> Result<(), OutOfMemory>
-    ensures { OnOk result ((r : Rid) → body_at (numbered bodies.new.entries) (Entry.Oid r) ≡ (if is_at (entry_cmp object.now.entry) (Entry.Oid r) then Some object.now.body else body_at (numbered bodies.old.entries) (Entry.Oid r))) }
+/// Puts the body of an object that has an identifier, if there is none with the same.
+fn add_body(bodies: &mut Numbered, object: &Object<Rid>) -> Result<(), OutOfMemory>
+    ensures { OnOk result ((r : Rid) → body_at (numbered bodies.new) (Entry.Oid r) ≡ option_or (body_at (numbered bodies.old) (Entry.Oid r)) (if is_at (entry_cmp object.now.entry) (Entry.Oid r) then Some object.now.body else None)) }
 {
     match object.entry {
         Entry::Oid(id) => {
-            bodies.insert(id, object.body.copy()?)?;
+            if !bodies.contains_key(&id) {
+                bodies.insert(id, object.body.copy()?)?;
+            }
             Ok(())
         }
         _ => Ok(()),
@@ -68,7 +70,7 @@ fn group_hops(
     bodies: &Numbered,
     objects: &[Object<Rid>],
 ) -> Result<GroupHops, OutOfMemory>
-    ensures { IfOk result (λ groups. AreHops (numbered bodies.now.entries) (entries_of objects.now) groups.entries) }
+    ensures { IfOk result (λ groups. AreHops (numbered bodies.now) (entries_of objects.now) groups.entries) }
 {
     let mut groups = BTreeMap::new(alloc);
     let mut left = objects.len();
@@ -86,7 +88,7 @@ fn put_member(
     groups: &mut GroupHops,
     body: &Body<Rid>,
 ) -> Result<(), OutOfMemory>
-    ensures { OnOk result ((g : Rid) → hops_in groups.new.entries g ≡ with_member (numbered bodies.now.entries) g body.now (hops_in groups.old.entries g)) }
+    ensures { OnOk result ((g : Rid) → hops_in groups.new.entries g ≡ with_member (numbered bodies.now) g body.now (hops_in groups.old.entries g)) }
 {
     match body {
         Body::GroupMember { group, next_hop } => {
@@ -120,7 +122,7 @@ pub fn hops_of(
     bodies: &Numbered,
     next_hops: &[Rid],
 ) -> Result<Option<Hops>, OutOfMemory>
-    ensures { IfOk result (λ hops. hops ≡ hops_by (numbered bodies.now.entries) next_hops.now) }
+    ensures { IfOk result (λ hops. hops ≡ hops_by (numbered bodies.now) next_hops.now) }
 {
     let mut hops = Some(Hops::new(alloc));
     let mut left = next_hops.len();
@@ -149,7 +151,7 @@ fn list_things(
     groups: &GroupHops,
     objects: &[Object<Rid>],
 ) -> Result<Vec<Thing>, OutOfMemory>
-    ensures { IfOk result (λ things. things.items ≡ those (map (thing_by (hops_in groups.now.entries) (numbered bodies.now.entries)) (entries_of objects.now))) }
+    ensures { IfOk result (λ things. things.items ≡ those (map (thing_by (hops_in groups.now.entries) (numbered bodies.now)) (entries_of objects.now))) }
 {
     let mut things = Vec::new(alloc);
     for object in objects {
@@ -176,7 +178,7 @@ fn list_each(
     groups: &GroupHops,
     objects: &[Object<Rid>],
 ) -> Result<Vec<Option<Thing>>, OutOfMemory>
-    ensures { IfOk result (λ things. things.items ≡ map (thing_by (hops_in groups.now.entries) (numbered bodies.now.entries)) (entries_of objects.now)) }
+    ensures { IfOk result (λ things. things.items ≡ map (thing_by (hops_in groups.now.entries) (numbered bodies.now)) (entries_of objects.now)) }
 {
     let mut things = Vec::new(alloc);
     for object in objects {

@@ -7,12 +7,12 @@ use Rattle.asic_view.proofs.objects.tie.Goals as goal
 
 pub returns-in-Some : goal.returns-in-Some
 returns-in-Some c =
-    let there : lookup (is_at (vid_cmp c.args.vid)) c.args.objects.now.entries ≡ Some c.in-Some.object.now = search rules in
-    (c.get_mut.follows.holds (record { body = c.in-Some.object.now.body; rid = Some c.args.rid })).0
-    ∙ changed-there c.args.vid (λ x. record { body = x.body; rid = Some c.args.rid }) c.args.objects.now.entries c.in-Some.object.now c.get_mut.ensures.ordered there
+    let there : lookup (is_at (vid_cmp c.args.vid)) c.args.objects.now ≡ Some c.in-Some.object.now = search rules in
+    c.get_mut.follows.holds (record { body = c.in-Some.object.now.body; rid = Some c.args.rid })
+    ∙ changed-there c.args.vid (λ x. record { body = x.body; rid = Some c.args.rid }) c.args.objects.now c.in-Some.object.now c.get_mut.ensures.ordered there
 
 pub returns-in_default : goal.returns-in_default
 returns-in_default c =
-    let none : lookup (is_at (vid_cmp c.args.vid)) c.args.objects.now.entries ≡ None = search rules in
-    let same : c.get_mut.follows.lender-at-none.entries ≡ c.args.objects.now.entries = search rules in
-    same ∙ changed-absent c.args.vid (λ x. record { body = x.body; rid = Some c.args.rid }) c.args.objects.now.entries none
+    let none : lookup (is_at (vid_cmp c.args.vid)) c.args.objects.now ≡ None = search rules in
+    let same : c.get_mut.follows.lender-at-none ≡ c.args.objects.now = search rules in
+    same ∙ changed-absent c.args.vid (λ x. record { body = x.body; rid = Some c.args.rid }) c.args.objects.now none

@@ -7,5 +7,5 @@ use Rattle.sai_chip.proofs.bodies.push_numbered.Given as goal
 abbrev pub invariant-loop-id : goal.invariant-loop-id
 invariant-loop-id l = record {
   front : take (length l.fn.out.items) l.out.items ≡ l.fn.out.items;
-  all : l.out.items ++ objects_of (numbered l.id-iterator) ≡ l.fn.out.items ++ objects_of (numbered l.bodies.entries);
+  all : l.out.items ++ objects_of (numbered l.id-iterator) ≡ l.fn.out.items ++ objects_of (numbered l.bodies);
 }

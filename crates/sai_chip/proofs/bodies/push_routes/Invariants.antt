@@ -7,5 +7,5 @@ use Rattle.sai_chip.proofs.bodies.push_routes.Given as goal
 abbrev pub invariant-loop-prefix : goal.invariant-loop-prefix
 invariant-loop-prefix l = record {
   front : take (length l.fn.out.items) l.out.items ≡ l.fn.out.items;
-  all : l.out.items ++ objects_of (routed l.prefix-iterator) ≡ l.fn.out.items ++ objects_of (routed l.routes.entries);
+  all : l.out.items ++ objects_of (routed l.prefix-iterator) ≡ l.fn.out.items ++ objects_of (routed l.routes);
 }

@@ -1,14 +1,13 @@
-use Rattle.std.proofs.Common.{◌≤◌, drop, length}
+use Rattle.std.proofs.Common.{◌≡◌, drop}
+use Rattle.std.specs.Option.{option_or}
+use Rattle.sai_types.specs.declared.ids.Rid.{Rid}
+use Rattle.sai_types.specs.declared.body.Entry.TheVariants as entry
+use Rattle.sai_types.specs.Objects.{body_at}
 use Rattle.sai_chip.specs.Bodies.{numbered}
-use Rattle.sai_chip.specs.Naming.{AreBodies, entries_of}
+use Rattle.sai_chip.specs.Naming.{entries_of}
 use Rattle.sai_chip.proofs.things.bodies_of.Given as goal
 
--- the bodies are those of the objects from this place on
-abbrev pub invariant-loop-left : goal.invariant-loop-left
-invariant-loop-left l = record {
-  within : l.left ≤ length l.objects;
-  found : AreBodies (entries_of (drop l.left l.objects)) (numbered l.bodies.entries);
-}
-
-abbrev pub decreases-loop-left : goal.decreases-loop-left
-decreases-loop-left l = l.left
+-- the bodies so far, and then those of the objects that are left, are found as those of all
+abbrev pub invariant-loop-object : goal.invariant-loop-object
+invariant-loop-object l =
+    (r : Rid) → option_or (body_at (numbered l.bodies) (entry.Oid r)) (body_at (entries_of (drop l.object-index l.objects)) (entry.Oid r)) ≡ body_at (entries_of l.objects) (entry.Oid r)

@@ -7,7 +7,7 @@ use Rattle.sai_chip.proofs.things.hops_of.Given as goal
 abbrev pub invariant-loop-left : goal.invariant-loop-left
 invariant-loop-left l = record {
   within : l.left ≤ length l.next_hops;
-  found : l.hops ≡ hops_by (numbered l.bodies.entries) (drop l.left l.next_hops);
+  found : l.hops ≡ hops_by (numbered l.bodies) (drop l.left l.next_hops);
 }
 
 abbrev pub decreases-loop-left : goal.decreases-loop-left

@@ -14,25 +14,25 @@ invariant_of-self-in-Err c =
     let s = c.self.inside in
     let vid : Vid = record { 0 = c.in-Some.made } in
     let next : c.in-Some.made ≡ s.made + 1 = search rules in
-    let known : IsNewEntry vid c.args.body s.objects.entries = making vid c.args.body s.objects.entries (is-new s.made s.objects.entries s.keyed.entries s.counts c.self.invariant vid next) (subst (λ l. IsLegalOn l (call.Create c.args.body)) (sym c.self.view_is) c.requires) in
-    let same : c.put.new.objects.entries ≡ s.objects.entries = search rules in
-    let entered : c.file.new.keyed.entries ≡ filed s.keyed.entries (entry_at vid c.args.body) vid = search rules in
-    let gone : c.unfile.new.keyed.entries ≡ unfiled (filed s.keyed.entries (entry_at vid c.args.body) vid) (entry_at vid c.args.body) = search rules in
-    subst (λ l. IsViewKept s.made l c.unfile.new.keyed.entries s.counts) (sym same)
-    (subst (λ k. IsViewKept s.made s.objects.entries k s.counts) (sym gone)
-    (kept-undone s.made s.objects.entries s.keyed.entries s.counts c.self.invariant vid (entry_at vid c.args.body) known.apart))
+    let known : IsNewEntry vid c.args.body s.objects = making vid c.args.body s.objects (is-new s.made s.objects s.keyed s.counts c.self.invariant vid next) (subst (λ l. IsLegalOn l (call.Create c.args.body)) (sym c.self.view_is) c.requires) in
+    let same : c.put.new.objects ≡ s.objects = search rules in
+    let entered : c.file.new.keyed ≡ filed s.keyed (entry_at vid c.args.body) vid = search rules in
+    let gone : c.unfile.new.keyed ≡ unfiled (filed s.keyed (entry_at vid c.args.body) vid) (entry_at vid c.args.body) = search rules in
+    subst (λ l. IsViewKept s.made l c.unfile.new.keyed s.counts) (sym same)
+    (subst (λ k. IsViewKept s.made s.objects k s.counts) (sym gone)
+    (kept-undone s.made s.objects s.keyed s.counts c.self.invariant vid (entry_at vid c.args.body) known.apart))
 
 pub invariant_of-self-2 : goal.invariant_of-self-2
 invariant_of-self-2 c =
     let s = c.self.inside in
     let vid : Vid = record { 0 = c.in-Some.made } in
     let next : c.in-Some.made ≡ s.made + 1 = search rules in
-    let known : IsNewEntry vid c.args.body s.objects.entries = making vid c.args.body s.objects.entries (is-new s.made s.objects.entries s.keyed.entries s.counts c.self.invariant vid next) (subst (λ l. IsLegalOn l (call.Create c.args.body)) (sym c.self.view_is) c.requires) in
-    let put : c.put.new.objects.entries ≡ insert_entry vid_cmp s.objects.entries vid (untied c.args.body) = search rules in
-    let entered : c.file.new.keyed.entries ≡ filed s.keyed.entries (entry_at vid c.args.body) vid = search rules in
-    subst (λ l. IsViewKept c.in-Some.made l c.file.new.keyed.entries c.raise.new.counts) (sym (put ∙ made-last s.made s.objects.entries s.keyed.entries s.counts c.self.invariant vid (untied c.args.body) next))
-    (subst (λ k. IsViewKept c.in-Some.made (after_create s.objects.entries vid c.args.body) k c.raise.new.counts) (sym entered)
-    (kept-made s.made s.objects.entries s.keyed.entries s.counts c.self.invariant c.raise.new.counts vid c.args.body next known.apart
+    let known : IsNewEntry vid c.args.body s.objects = making vid c.args.body s.objects (is-new s.made s.objects s.keyed s.counts c.self.invariant vid next) (subst (λ l. IsLegalOn l (call.Create c.args.body)) (sym c.self.view_is) c.requires) in
+    let put : c.put.new.objects ≡ insert_entry vid_cmp s.objects vid (untied c.args.body) = search rules in
+    let entered : c.file.new.keyed ≡ filed s.keyed (entry_at vid c.args.body) vid = search rules in
+    subst (λ l. IsViewKept c.in-Some.made l c.file.new.keyed c.raise.new.counts) (sym (put ∙ made-last s.made s.objects s.keyed s.counts c.self.invariant vid (untied c.args.body) next))
+    (subst (λ k. IsViewKept c.in-Some.made (after_create s.objects vid c.args.body) k c.raise.new.counts) (sym entered)
+    (kept-made s.made s.objects s.keyed s.counts c.self.invariant c.raise.new.counts vid c.args.body next known.apart
     (λ k. c.raise.ensures k ∙ ap (λ m. slice_index s.counts (level k) + cond (level m == level k) 1 0) c.kind_of-kind.ensures)))
 
 pub returns-clause-new : goal.returns-clause-new
@@ -40,12 +40,12 @@ returns-clause-new c =
     let s = c.self.inside in
     let vid : Vid = record { 0 = c.in-Some.made } in
     let next : c.in-Some.made ≡ s.made + 1 = search rules in
-    subst (IsNew vid) c.self.view_is (is-new s.made s.objects.entries s.keyed.entries s.counts c.self.invariant vid next)
+    subst (IsNew vid) c.self.view_is (is-new s.made s.objects s.keyed s.counts c.self.invariant vid next)
 
 pub returns-clause-ok : goal.returns-clause-ok
 returns-clause-ok c =
     let s = c.self.inside in
     let vid : Vid = record { 0 = c.in-Some.made } in
     let next : c.in-Some.made ≡ s.made + 1 = search rules in
-    let put : c.put.new.objects.entries ≡ insert_entry vid_cmp s.objects.entries vid (untied c.args.body) = search rules in
-    put ∙ made-last s.made s.objects.entries s.keyed.entries s.counts c.self.invariant vid (untied c.args.body) next ∙ ap (λ l. after_create l vid c.args.body) c.self.view_is
+    let put : c.put.new.objects ≡ insert_entry vid_cmp s.objects vid (untied c.args.body) = search rules in
+    put ∙ made-last s.made s.objects s.keyed s.counts c.self.invariant vid (untied c.args.body) next ∙ ap (λ l. after_create l vid c.args.body) c.self.view_is

@@ -3,4 +3,4 @@ use Rattle.sai_chip.proofs.Looked.{own-held}
 use Rattle.sai_chip.proofs.bodies.Bodies.is_own.Goals as goal
 
 pub returns : goal.returns
-returns c = rw (← c.self.view_is) (c.contains.ensures ∙ own-held c.self.inside.numbered.entries c.self.inside.own.keys c.self.inside.neighbors.entries c.self.inside.routes.entries c.self.invariant.with_ids c.args.ip)
+returns c = rw (← c.self.view_is) (c.contains.ensures ∙ own-held c.self.inside.numbered c.self.inside.own.keys c.self.inside.neighbors.entries c.self.inside.routes c.self.invariant.with_ids c.args.ip)

@@ -18,5 +18,5 @@ returns c = λ hop named.
     let is = subst (λ objects. hop_on objects c.args.rif c.args.ip ≡ Some hop) (sym c.self.view_is) named in
     let stands = subst (λ objects. is_some (body_at objects (entry.Neigh c.args.rif c.args.ip)) ≡ true) (sym c.self.view_is) c.requires.stands in
     let there : is_some (lookup (is_at (neighbor_cmp (c.args.rif, c.args.ip))) c.self.inside.neighbors.entries) ≡ true =
-    sym (mapped_some (body.Neighbor c.args.rif c.args.ip) (lookup (is_at (neighbor_cmp (c.args.rif, c.args.ip))) c.self.inside.neighbors.entries)) ∙ ap is_some (sym (at-neighbor c.self.inside.numbered.entries c.self.inside.own.keys c.self.inside.neighbors.entries c.self.inside.routes.entries c.args.rif c.args.ip)) ∙ stands in
-    rw (← c.self.view_is) (c.copied.ensures ∙ c.get.ensures.value ∙ mac-held c.self.inside.numbered.entries c.self.inside.own.keys c.self.inside.neighbors.entries c.self.inside.routes.entries c.self.invariant.with_ids one c.args.rif c.args.ip hop is there)
+    sym (mapped_some (body.Neighbor c.args.rif c.args.ip) (lookup (is_at (neighbor_cmp (c.args.rif, c.args.ip))) c.self.inside.neighbors.entries)) ∙ ap is_some (sym (at-neighbor c.self.inside.numbered c.self.inside.own.keys c.self.inside.neighbors.entries c.self.inside.routes c.args.rif c.args.ip)) ∙ stands in
+    rw (← c.self.view_is) (c.copied.ensures ∙ c.get.ensures.value ∙ mac-held c.self.inside.numbered c.self.inside.own.keys c.self.inside.neighbors.entries c.self.inside.routes c.self.invariant.with_ids one c.args.rif c.args.ip hop is there)

@@ -3,4 +3,4 @@ use Rattle.sai_chip.proofs.Changed.{at-id, at-numbered}
 use Rattle.sai_chip.proofs.bodies.Bodies.numbered.Goals as goal
 
 pub returns : goal.returns
-returns c = rw (← c.self.view_is) (record { each = λ r. at-numbered c.self.inside.numbered.entries r ∙ sym (at-id c.self.inside.numbered.entries c.self.inside.own.keys c.self.inside.neighbors.entries c.self.inside.routes.entries r) })
+returns c = rw (← c.self.view_is) (record { each = λ r. at-numbered c.self.inside.numbered r ∙ sym (at-id c.self.inside.numbered c.self.inside.own.keys c.self.inside.neighbors.entries c.self.inside.routes r) })
