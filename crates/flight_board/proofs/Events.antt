@@ -22,6 +22,17 @@ use Rattle.flight_board.proofs.Places.{Under, on-other, on-same, set-same}
 
 -- ---- a group's operation begins
 
+-- where no group is due nothing begins
+pub prepared-still : (b : BoardState) (w : ℕ) (f : FlightState) → flight_at b w ≡ Some f → with_group_begun b.plan b.names f.flown ≡ f.flown → IsPrepared b w b
+prepared-still b w f at same = record {
+  plan = refl;
+  names = refl;
+  room = refl;
+  applied = refl;
+  own = ap (λ o. option_map (λ f. f.flown) o) at ∙ ap Some (sym same) ∙ ap (λ o. option_map (with_group_begun b.plan b.names) (option_map (λ f. f.flown) o)) (sym at);
+  others = λ v apart. refl;
+}
+
 module _ (b : BoardState) (w : ℕ) (below : w < length b.flights) where
   with-flights : Under → BoardState
   with-flights fs = record { plan = b.plan; names = b.names; room = b.room; applied = b.applied; flights = fs }

@@ -1,27 +1,31 @@
 // The applied rows.
-ghost use Rattle.std.specs.Prelude.{◌≡◌, [], None, Some, OnOk, OnErr, option_map};
-ghost use Rattle.flight_board.specs.Applied.{HasPlace, HasSameRows, KeepsOthers, row_at};
+ghost use Rattle.std.specs.Prelude.{◌≡◌, [], None, Some, IsSome, IsTrue, IfOk, OnOk, OnErr, ◌↔◌, option_copied, option_map};
+ghost use Rattle.flight_board.specs.Applied.{HasPlace, HasSameRows, KeepsOthers, SetsPlace, place_at, row_at};
 
+use late_maps::{LateMap, get_late};
 use std::alloc::Global;
 use std::collections::BTreeMap;
-use std::collections::btree_map::Entry;
 use std::marker::Model;
 use std::mem::{drop, replace};
-use swss_types::OutOfMemory;
+use swss_types::{OutOfMemory, Prefix};
 use table_schema::{Key, Row};
 
-/// The applied row of each key, with places for those of keys whose operations are under way.
+/// The applied row of each key, with places for those of keys whose operations are under way. Most rows are routes: they
+/// stand apart, by their prefixes.
 #[derive(Drop)]
 pub struct AppliedRows {
     rows: BTreeMap<Key, Option<Row>>,
+    routes: LateMap<Prefix, Option<Row>>,
 }
 
 impl Model for AppliedRows {
-    ghost use Rattle.flight_board.specs.Applied.{Entries};
+    ghost use Rattle.flight_board.specs.Applied.{Entries, HasNoRoute, with_routes};
 
     ghost Value = { Entries };
 
-    ghost view = { λ a. a.rows.entries };
+    ghost view = { λ a. with_routes a.routes a.rows.entries };
+
+    ghost invariant = { λ a. HasNoRoute a.rows.entries };
 }
 
 impl AppliedRows {
@@ -31,6 +35,7 @@ impl AppliedRows {
     {
         AppliedRows {
             rows: BTreeMap::new(alloc),
+            routes: LateMap::new(alloc),
         }
     }
 
@@ -38,26 +43,35 @@ impl AppliedRows {
     pub fn row(&self, key: &Key) -> Option<&Row>
         ensures { option_map (λ row. row.now) result ≡ row_at self.now key.now }
     {
-        match self.rows.get(key) {
+        match self.place(key) {
             Some(Some(row)) => Some(row),
             _ => None,
         }
     }
 
-    /// Keeps a place for a key's row.
-    pub fn keep_place(&mut self, key: &Key) -> Result<(), OutOfMemory>
+    /// The applied row of a key of which it is known whether it has one.
+    pub fn known_row(&self, key: &Key, has_row: bool) -> Option<&Row>
+        requires { IsTrue has_row ↔ IsSome (row_at self.now key.now) }
+        ensures { option_map (λ row. row.now) result ≡ row_at self.now key.now }
+    {
+        if has_row { self.row(key) } else { None }
+    }
+
+    /// Keeps a place for a key's row, and tells whether the key has one.
+    pub fn keep_place(&mut self, key: &Key) -> Result<bool, OutOfMemory>
+        ensures has { IfOk result (λ has. IsTrue has ↔ IsSome (row_at self.new key.now)) }
         ensures rows { HasSameRows self.old self.new }
         ensures place { OnOk result (HasPlace self.new key.now) }
         ensures others { KeepsOthers key.now self.old self.new }
         ensures err { OnErr result (self.new ≡ self.old) }
     {
-        match self.rows.entry(key.copy()?)? {
-            Entry::Occupied(_) => {}
-            Entry::Vacant(place) => {
-                place.insert(None);
+        match self.place(key) {
+            Some(place) => Ok(place.is_some()),
+            None => {
+                self.add_place(key)?;
+                Ok(false)
             }
         }
-        Ok(())
     }
 
     /// Gives up the place of a key that has no row.
@@ -67,7 +81,7 @@ impl AppliedRows {
         ensures others { KeepsOthers key.now self.old self.new }
     {
         if self.row(key).is_none() {
-            drop(self.rows.remove(key));
+            self.remove_place(key);
         }
     }
 
@@ -79,19 +93,60 @@ impl AppliedRows {
     {
         match row {
             Some(row) => self.put(key, row),
-            None => drop(self.rows.remove(key)),
+            None => self.remove_place(key),
+        }
+    }
+
+    /// What stands in a key's place.
+    fn place(&self, key: &Key) -> Option<&Option<Row>>
+        ensures { option_copied result ≡ place_at self.now key.now }
+    {
+        match key {
+            Key::Route(prefix) => self.routes.get(prefix),
+            _ => get_late(&self.rows, key),
+        }
+    }
+
+    /// A key gets a place, without a row.
+    fn add_place(&mut self, key: &Key) -> Result<(), OutOfMemory>
+        ensures ok { OnOk result (SetsPlace key.now (Some None) self.old self.new) }
+        ensures err { OnErr result (self.new ≡ self.old) }
+    {
+        match key {
+            Key::Route(prefix) => drop(self.routes.insert(*prefix, None)?),
+            _ => drop(self.rows.insert(key.copy()?, None)?),
+        }
+        Ok(())
+    }
+
+    /// A key has no place any more.
+    fn remove_place(&mut self, key: &Key)
+        ensures { SetsPlace key.now None self.old self.new }
+    {
+        match key {
+            Key::Route(prefix) => {
+                // Their number says that the routes are in order.
+                let _routes = self.routes.len();
+                drop(self.routes.remove(prefix));
+            }
+            _ => drop(self.rows.remove(key)),
         }
     }
 
     /// Puts a row in its place.
     fn put(&mut self, key: &Key, row: Row)
         requires { HasPlace self.old key.now }
-        ensures own { row_at self.new key.now ≡ Some row }
-        ensures others { KeepsOthers key.now self.old self.new }
+        ensures { SetsPlace key.now (Some (Some row)) self.old self.new }
     {
-        match self.rows.get_mut(key) {
-            Some(place) => drop(Some(replace(place, Some(row)))),
-            None => unreachable!(),
+        match key {
+            Key::Route(prefix) => match self.routes.insert(*prefix, Some(row)) {
+                Ok(old) => drop(old),
+                Err(_) => unreachable!(),
+            },
+            _ => match self.rows.get_mut(key) {
+                Some(place) => drop(Some(replace(place, Some(row)))),
+                None => unreachable!(),
+            },
         }
     }
 }

@@ -1,7 +1,8 @@
 // The board.
-ghost use Rattle.std.specs.Prelude.{◌≡◌, ◌<◌, ◌↔◌, Some, None, IsSome, IsTrue, option_map, IfOk, IfSome, IfNone, OnOk, OnErr};
+ghost use Rattle.std.specs.Prelude.{◌≡◌, ◌<◌, ◌↔◌, false, Some, None, IsSome, IsTrue, option_map, IfOk, IfSome, IfNone, OnOk, OnErr};
 ghost use Rattle.orch_flight.specs.Needing.{first_unapplied};
 ghost use Rattle.orch_flight.specs.Sharing.{MayStart};
+ghost use Rattle.orch_flight.specs.Taking.{to_list};
 ghost use Rattle.registry_laws.specs.Flown.{Flown};
 ghost use Rattle.registry_laws.specs.Making.{IsNextCall, MayTakeFor};
 ghost use Rattle.flight_board.specs.Applied.{row_at};
@@ -17,7 +18,7 @@ use std::alloc::Global;
 use std::marker::Model;
 use switch_model::Wait;
 use swss_types::OutOfMemory;
-use table_schema::{Key, PortPlan, Row, names};
+use table_schema::{Key, PortPlan, Row, first_name};
 
 /// The rows that are applied, and the operations of up to four workers, which know names, users, pins and places, and no chip.
 #[derive(Drop)]
@@ -115,7 +116,7 @@ impl Board {
         if let Some(wait) = self.first_wait(key, &new)? {
             return Ok(Err(wait));
         }
-        self.applied.keep_place(key)?;
+        let has_row = self.applied.keep_place(key)?;
         match Flight::start(
             self.alloc,
             &self.plan,
@@ -124,7 +125,7 @@ impl Board {
             used,
             worker,
             key,
-            self.applied.row(key),
+            self.applied.known_row(key, has_row),
             new,
         ) {
             Ok(Ok(flight)) => {
@@ -154,19 +155,19 @@ impl Board {
         let Some(row) = new else {
             return Ok(None);
         };
-        match self.first_unapplied(names(self.alloc, key, row)?.as_slice())? {
+        match self.unapplied_in(first_name(key, row))? {
             Some(missing) => Ok(Some(Wait::Missing(missing))),
             None => Ok(None),
         }
     }
 
-    /// The first of some keys, where it is not applied.
-    fn first_unapplied(&self, keys: &[Key]) -> Result<Option<Key>, OutOfMemory>
-        ensures { IfOk result (λ key. IfSome key (λ key. first_unapplied self.now.names keys.now ≡ Some key)) }
+    /// A key, where there is one that is not applied.
+    fn unapplied_in(&self, key: Option<Key>) -> Result<Option<Key>, OutOfMemory>
+        ensures { IfOk result (λ found. found ≡ first_unapplied self.now.names (to_list key)) }
     {
-        match keys {
-            [] => Ok(None),
-            [first, ..] => unapplied(&self.registry, first),
+        match key {
+            Some(key) => unapplied(&self.registry, &key),
+            None => Ok(None),
         }
     }
 
@@ -176,12 +177,26 @@ impl Board {
         ensures ok { OnOk result (IsPrepared self.old worker self.new) }
         ensures err { OnErr result (self.new ≡ self.old) }
     {
+        if !self.awaits_group(worker) {
+            return Ok(());
+        }
         let Some(mut flight) = self.workers.take(worker) else {
             return Ok(());
         };
         let prepared = flight.prepare(self.alloc, &self.plan, &self.registry);
         self.workers.put(worker, flight);
         prepared
+    }
+
+    /// Whether the operation of a group is due for a worker that has not begun.
+    fn awaits_group(&self, worker: u32) -> bool
+        requires { worker < 4 }
+        ensures { result ≡ false → IsPrepared self.now worker self.now }
+    {
+        match self.workers.get(worker) {
+            Some(flight) => flight.awaits_group(&self.registry),
+            None => false,
+        }
     }
 
     /// The call that is due for a worker that has something under way.

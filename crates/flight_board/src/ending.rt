@@ -3,7 +3,7 @@ ghost use Rattle.std.specs.Prelude.{◌≡◌, List, map};
 ghost use Rattle.table_schema.specs.declared.key.Key.{Key};
 ghost use Rattle.registry_laws.specs.Ending.{users_dropped, with_own_ended};
 
-use ref_counts::{Name, NameState, Registry};
+use ref_counts::{Name, Registry};
 use table_schema::{Key, Row};
 
 /// A key uses the rows with these names no more.
@@ -24,11 +24,7 @@ pub fn end_row(reg: &mut Registry, name: &Name, new: &Option<Row>)
     ensures { (key : Key) → name.now ≡ Name.Row key → reg.new ≡ with_own_ended reg.old key new.now }
 {
     match new {
-        Some(_) => {
-            if let NameState::Building(worker) = reg.state(name) {
-                reg.built(worker, name, &[]);
-            }
-        }
+        Some(_) => reg.finish(name),
         None => reg.gone(name),
     }
 }

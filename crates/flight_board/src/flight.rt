@@ -1,5 +1,5 @@
 // What a worker has under way.
-ghost use Rattle.std.specs.Prelude.{◌≡◌, ◌<◌, ◌↔◌, ◌++◌, [], None, IsTrue, OnOk, OnErr, IfOk, map, option_map};
+ghost use Rattle.std.specs.Prelude.{◌≡◌, ◌<◌, ◌↔◌, ◌++◌, [], None, IsTrue, false, OnOk, OnErr, IfOk, map, option_map};
 ghost use Rattle.table_schema.specs.Plan.{Ports};
 ghost use Rattle.row_layout.specs.Operations.{uses_of};
 ghost use Rattle.ref_counts.specs.Room.{GivesBack};
@@ -116,6 +116,19 @@ impl Flight {
                 (None, None) => true,
                 _ => false,
             },
+        }
+    }
+
+    /// Whether the operation of a group is due that has not begun: where none is, `prepare` changes nothing.
+    pub fn awaits_group(&self, reg: &Registry) -> bool
+        ensures { (plan : Ports) → uses_of plan self.now.flown.operation.key self.now.flown.operation.new ≡ owners_of self.now.shared → result ≡ false → with_group_begun plan reg.now self.now.flown ≡ self.now.flown }
+    {
+        if self.group.is_some() {
+            return false;
+        }
+        match (self.group_to_build(reg), self.operation.retired_group()) {
+            (None, None) => false,
+            _ => true,
         }
     }
 

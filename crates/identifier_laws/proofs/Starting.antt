@@ -17,12 +17,12 @@ use Rattle.ref_counts.specs.declared.name.Name.TheVariants as name
 use Rattle.ref_counts.specs.declared.name.NameState.{NameState}
 use Rattle.ref_counts.specs.declared.name.NameState.TheVariants as state
 use Rattle.ref_counts.specs.Registered.{Registered, begun, made_live, with_user, without_user}
-use Rattle.ref_counts.specs.Registry.{Names, changed, ids_by, ids_in, ids_of, retire_refusal_at, registered_at, state_in, state_of}
+use Rattle.ref_counts.specs.Registry.{Names, changed, finished_in, ids_by, ids_in, ids_of, retire_refusal_at, registered_at, state_in, state_of}
 use Rattle.ref_counts.proofs.Found.{pinned-kept}
 use Rattle.orch_flight.specs.Needing.{name_for, to_build}
 use Rattle.orch_flight.specs.Sharing.{MayStart}
 use Rattle.orch_flight.specs.Starting.{begun_names, first_due, ids_for, ids_for_row, leaving, left_names, parted_by, started_names, started_names_by, used_by, with_building, with_own, with_pins}
-use Rattle.registry_laws.specs.Ending.{ended_names, made_at_last, named_by, users_dropped, users_passed}
+use Rattle.registry_laws.specs.Ending.{ended_names, named_by, users_dropped, users_passed}
 use Rattle.registry_laws.proofs.Finding.{building_off, found_at, found_off, gone_off, own_off}
 use Rattle.registry_laws.proofs.Listing.{not_some}
 use Rattle.registry_laws.proofs.Sharing.{absent_first, left_apart}
@@ -164,7 +164,7 @@ ids_passed names w k old =
     let dropped = users_dropped names k (named_by k old) in
     ids_then names dropped (users_passed names w k old) (dropped_ids names k (named_by k old)) (ids_released dropped w true)
 
-pub ids_ended_live : (names : Names) (k : Key) (st : NameState) → state_of names (name.Row k) ≡ st → HaveSameIds names (made_at_last st names k)
+pub ids_ended_live : (names : Names) (k : Key) (st : NameState) → state_of names (name.Row k) ≡ st → HaveSameIds names (finished_in st names (name.Row k))
 ids_ended_live names k (state.Building w) e = ids_changed names (owner.OfRow k) (made_live []) (λ r x. sym (ap (λ z. ids_by z r.ids) (sym (ap state_in x) ∙ e)))
 ids_ended_live names k _ e = λ p. refl
 

@@ -3,3 +3,4 @@ pub mod Begun
 pub mod Rows
 pub mod Stages
 pub mod Unhindered
+mod Unused

@@ -17,14 +17,14 @@ use Rattle.ref_counts.specs.declared.name.Name.{Name}
 use Rattle.ref_counts.specs.declared.name.Name.TheVariants as name
 use Rattle.ref_counts.specs.declared.name.NameState.{NameState}
 use Rattle.ref_counts.specs.declared.name.NameState.TheVariants as state
-use Rattle.ref_counts.specs.Registered.{begun, begun_to_go, with_user}
+use Rattle.ref_counts.specs.Registered.{begun, with_user}
 use Rattle.ref_counts.specs.Registry.{Names, changed, registered_name_cmp, pinned, state_of}
 use Rattle.ref_counts.specs.Room.{Reserves, RoomState, lacking}
 use Rattle.switch_machine.specs.Operations.{built_first}
 use Rattle.orch_flight.specs.Needing.{absent_or, crowded_for, first_absent, first_unapplied, holder_of, busy_for, least_of, name_for, or_else, places_for, row_reason, to_build, wait_of, workers_on}
 use Rattle.orch_flight.specs.Operation.{Operation}
 use Rattle.orch_flight.specs.Sharing.{MayShare, begun_by, is_absent, lacks_shared, owner_for, owners_of, with_row_begun, with_shared}
-use Rattle.orch_flight.specs.Starting.{IsBegunBy, IsStartedBy, answered, begun_names, first_due, ids_for, leaving, started_names, started_names_by, started_operation, used_by, with_building, with_own}
+use Rattle.orch_flight.specs.Starting.{IsBegunBy, IsStartedBy, answered, begun_names, first_due, ids_for, leaving, started_names_by, started_operation, used_by, with_building, with_own}
 use Rattle.orch_flight.specs.Taking.{to_list}
 use Rattle.orch_flight.proofs.Begins.{begun-row-when, names-plain, none-missing}
 

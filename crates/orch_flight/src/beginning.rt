@@ -6,7 +6,7 @@ ghost use Rattle.orch_flight.specs.Starting.{ids_for, ids_for_row};
 ghost use Rattle.orch_flight.specs.Sharing.{HasNoPins, IsNameReady, begun_by, lacks_shared, owner_for, with_row_begun, with_shared, with_shared_begun};
 
 use crate::undoing::{begin_build, end_build};
-use ref_counts::{Name, NameState, Registry};
+use ref_counts::{Name, Registry};
 use swss_types::{IfName, OutOfMemory};
 use table_schema::Key;
 
@@ -77,11 +77,10 @@ fn begin_shared(
     let Some(name) = shared else {
         return Ok(());
     };
-    match reg.state(name) {
-        NameState::Absent => build_shared(reg, worker, key, name),
-        NameState::Live => reg.add_user(name, key.copy()?),
-        NameState::Building(_) | NameState::Retiring(_) => unreachable!(),
+    if reg.share(name, key.copy()?)? {
+        return Ok(());
     }
+    build_shared(reg, worker, key, name)
 }
 
 /// Begins the building of what is shared and absent, and makes the key a user of it.

@@ -1,12 +1,15 @@
 -- what is found, changed, put and removed in the parts of what is known of all names
-use Rattle.std.proofs.Common.{◌≡◌, ◌<◌, ◌≤◌, List, [], ◌∷◌, ◌++◌, refl, sym, ap, ◌∙◌, arith}
+use Rattle.std.proofs.Common.{◌≡◌, ◌<◌, ◌≤◌, List, ◌++◌, refl, sym, ap, ◌∙◌, arith}
 use Rattle.std.specs.Cmp.{nat_cmp_is}
+use Rattle.std.specs.Cmp.Lexicographic.{slice_cmp}
 use Rattle.std.specs.BTreeMap.{insert_entry, is_at}
-use Rattle.std.specs.List.{AllByRecursion}
 use Rattle.std.specs.List.Sorted.{IsStrictlySortedBy}
-use Rattle.std.specs.Map.{keys_of, lookup, remove_entry, set_value}
+use Rattle.std.specs.Map.{keys_of, remove_entry}
 use Rattle.std.specs.Ordering.{ordering_reverse, ordering_then}
+use Rattle.std.specs.declared.cmp.Ordering.{Ordering}
 use Rattle.std.specs.declared.cmp.Ordering.TheVariants.{Less, Greater}
+use Rattle.sai_types.specs.Hop.{hop_cmp}
+use Rattle.sai_types.specs.declared.hop.Hop.{Hop}
 use Rattle.swss_types.specs.AddressOrder.{prefix_cmp}
 use Rattle.swss_types.specs.declared.address.Prefix.{Prefix}
 use Rattle.table_schema.specs.Key.{key_cmp, part_cmp, table_place}
@@ -14,126 +17,156 @@ use Rattle.table_schema.specs.declared.key.Key.{Key}
 use Rattle.table_schema.specs.declared.key.Key.TheVariants as key
 use Rattle.ref_counts.specs.declared.name.Name.{Name}
 use Rattle.ref_counts.specs.declared.name.Name.TheVariants as name
-use Rattle.ref_counts.specs.Parted.{AreParted, joined, name_place, renamed, route_name}
+use Rattle.ref_counts.specs.declared.registrations.Registrations.TheInside.{Inside}
+use Rattle.ref_counts.specs.Parted.{AreParted, IsAmongRows, IsAmongOthers, Neighbor, all_names, name_place, neighbor_cmp, neighbor_name, place_of_groups, place_of_neighbors, place_of_routes, renamed, route_name}
 use Rattle.ref_counts.specs.Registered.{Registered}
 use Rattle.ref_counts.specs.Registry.{Names, registered_name_cmp}
 use Rattle.ref_counts.proofs.Changing.{name_total}
-use Rattle.ref_counts.proofs.Segments.{AllAbove, AllBelow, all-inserted, all-removed, insert-above, insert-below, insert-renamed, lookup-above, lookup-below, lookup-renamed, remove-above, remove-below, remove-renamed, set-above, set-below, set-renamed, sorted-joined, sorted-renamed}
+use Rattle.ref_counts.proofs.Segments.{AllAbove, AllBelow, StandsIn, StandsIn-above, StandsIn-below, StandsIn-itself, StandsIn-renamed, all-inserted, all-all_names, all-kept, all-named, all-removed, all-renamed, sorted-all_names, sorted-renamed}
+
+abbrev hops_cmp : List Hop → List Hop → Ordering
+hops_cmp = slice_cmp hop_cmp
 
 rows_same : (k q : Key) → registered_name_cmp (name.Row k) (name.Row q) ≡ key_cmp k q
 rows_same k q = refl
 
+neighbors_same : (m n : Neighbor) → registered_name_cmp (neighbor_name m) (neighbor_name n) ≡ neighbor_cmp m n
+neighbors_same m n = refl
+
 routes_same : (p q : Prefix) → registered_name_cmp (route_name p) (route_name q) ≡ prefix_cmp p q
 routes_same p q = refl
 
--- a row is below what has a greater place
-row_below : (k : Key) (m : Name) → table_place k < name_place m → registered_name_cmp (name.Row k) m ≡ Less
+groups_same : (g h : List Hop) → registered_name_cmp (name.Group g) (name.Group h) ≡ hops_cmp g h
+groups_same g h = refl
+
+-- the second name is above the first, or below it
+abbrev IsAbove : Name → Name → Type 0
+IsAbove n m = registered_name_cmp n m ≡ Less
+
+abbrev IsBelow : Name → Name → Type 0
+IsBelow n m = registered_name_cmp n m ≡ Greater
+
+-- a row is below what has a greater place, and a group is above all that has a lesser place
+row_below : (k : Key) (m : Name) → table_place k < name_place m → IsAbove (name.Row k) m
 row_below k (name.Row q) lt = ap (λ o. ordering_then o (part_cmp k q)) (sym (nat_cmp_is (table_place k) (table_place q) Less lt))
 row_below k (name.BridgePort p) lt = refl
 row_below k (name.Own ip) lt = refl
 row_below k (name.Group hops) lt = refl
 
-above_row : (k : Key) (m : Name) → table_place k < name_place m → registered_name_cmp m (name.Row k) ≡ Greater
-above_row k m lt = name_total.antisymm m (name.Row k) ∙ ap ordering_reverse (row_below k m lt)
+group_above : (n : Name) (hops : List Hop) → name_place n < place_of_groups → IsAbove n (name.Group hops)
+group_above (name.Row k) hops lt = refl
+group_above (name.BridgePort p) hops lt = refl
+group_above (name.Own ip) hops lt = refl
+group_above (name.Group other) hops lt = absurd (omega arith)
 
-above_rows : (m : Name) (rows : List (Key × Registered)) → 6 ≤ name_place m → AllByRecursion (λ k. table_place k < 6) (keys_of rows) → AllBelow registered_name_cmp m (renamed name.Row rows)
-above_rows m [] le h = tt
-above_rows m (e ∷ es) le h = let first = h.0 in (above_row e.0 m (omega arith), above_rows m es le h.1)
+turned : (n m : Name) → IsAbove n m → IsBelow m n
+turned n m is = name_total.antisymm m n ∙ ap ordering_reverse is
 
-above_routes : (m : Name) (routes : List (Prefix × Registered)) → 6 < name_place m → AllBelow registered_name_cmp m (renamed route_name routes)
-above_routes m [] lt = tt
-above_routes m (e ∷ es) lt = (above_row (key.Route e.0) m lt, above_routes m es lt)
+module _ (r : Inside) (h : AreParted r.rows.entries r.others.entries) where
+  abbrev the_rows : Names
+  the_rows = renamed name.Row r.rows.entries
 
-below_others : (k : Key) (others : Names) → table_place k ≤ 6 → AllByRecursion (λ n. 6 < name_place n) (keys_of others) → AllAbove registered_name_cmp (name.Row k) others
-below_others k [] le h = tt
-below_others k (e ∷ es) le h = let first = h.0 in (row_below k e.0 (omega arith), below_others k es le h.1)
+  abbrev the_neighbors : Names
+  the_neighbors = renamed neighbor_name r.neighbors.entries
 
-below_routes : (k : Key) (routes : List (Prefix × Registered)) (others : Names) → table_place k < 6 → AllByRecursion (λ n. 6 < name_place n) (keys_of others) → AllAbove registered_name_cmp (name.Row k) (renamed route_name routes ++ others)
-below_routes k [] others lt h = below_others k others (omega arith) h
-below_routes k (e ∷ es) others lt h = (row_below k (route_name e.0) lt, below_routes k es others lt h)
+  abbrev the_routes : Names
+  the_routes = renamed route_name r.routes
 
-module _ (rows : List (Key × Registered)) (routes : List (Prefix × Registered)) (others : Names) (h : AreParted rows others) where
-  -- a row that comes before the routes
-  module _ (k : Key) (lt : table_place k < 6) where
-    behind : AllAbove registered_name_cmp (name.Row k) (renamed route_name routes ++ others)
-    behind = below_routes k routes others lt h.behind
+  abbrev the_groups : Names
+  the_groups = renamed name.Group r.groups.entries
 
-    pub row-found : lookup (is_at (key_cmp k)) rows ≡ lookup (is_at (registered_name_cmp (name.Row k))) (joined rows routes others)
-    row-found = sym (lookup-above registered_name_cmp (name.Row k) (renamed name.Row rows) _ behind ∙ lookup-renamed key_cmp registered_name_cmp name.Row rows_same k rows)
+  abbrev behind_routes : Names
+  behind_routes = r.others.entries ++ the_groups
 
-    pub row-set : (new : List (Key × Registered)) (w : Registered) → new ≡ set_value (is_at (key_cmp k)) rows w → joined new routes others ≡ set_value (is_at (registered_name_cmp (name.Row k))) (joined rows routes others) w
-    row-set new w is = ap (λ l. joined l routes others) is ∙ sym (set-above registered_name_cmp (name.Row k) (renamed name.Row rows) _ w behind ∙ ap (λ l. l ++ (renamed route_name routes ++ others)) (set-renamed key_cmp registered_name_cmp name.Row rows_same k rows w))
+  abbrev behind_neighbors : Names
+  behind_neighbors = the_routes ++ behind_routes
 
-    pub row-put : (new : List (Key × Registered)) (w : Registered) → new ≡ insert_entry key_cmp rows k w → joined new routes others ≡ insert_entry registered_name_cmp (joined rows routes others) (name.Row k) w
-    row-put new w is = ap (λ l. joined l routes others) is ∙ sym (insert-above registered_name_cmp (name.Row k) (renamed name.Row rows) _ w behind ∙ ap (λ l. l ++ (renamed route_name routes ++ others)) (insert-renamed key_cmp registered_name_cmp name.Row rows_same k rows w))
+  abbrev behind_rows : Names
+  behind_rows = the_neighbors ++ behind_neighbors
 
-    pub row-removed : (new : List (Key × Registered)) → new ≡ remove_entry (is_at (key_cmp k)) rows → joined new routes others ≡ remove_entry (is_at (registered_name_cmp (name.Row k))) (joined rows routes others)
-    row-removed new is = ap (λ l. joined l routes others) is ∙ sym (remove-above registered_name_cmp (name.Row k) (renamed name.Row rows) _ behind ∙ ap (λ l. l ++ (renamed route_name routes ++ others)) (remove-renamed key_cmp registered_name_cmp name.Row rows_same k rows))
+  -- what stands behind a part is above what comes before
+  groups_above : (n : Name) → name_place n < place_of_groups → AllAbove registered_name_cmp n the_groups
+  groups_above n lt = all-named (IsAbove n) name.Group (λ hops. group_above n hops lt) r.groups.entries
 
-  -- a route
-  module _ (p : Prefix) where
-    before_it : AllBelow registered_name_cmp (route_name p) (renamed name.Row rows)
-    before_it = above_rows (route_name p) rows (omega arith) h.before
+  behind_routes_above : (k : Key) → table_place k ≤ place_of_routes → AllAbove registered_name_cmp (name.Row k) behind_routes
+  behind_routes_above k le =
+      let others = all-kept (IsAbove (name.Row k)) IsAmongOthers (λ m is. let first = is.0 in row_below k m (omega arith)) r.others.entries h.of_others in
+      all-all_names (IsAbove (name.Row k)) r.others.entries the_groups others (groups_above (name.Row k) (omega arith))
 
-    behind_it : AllAbove registered_name_cmp (route_name p) others
-    behind_it = below_others (key.Route p) others (omega arith) h.behind
+  behind_neighbors_above : (k : Key) → table_place k < place_of_routes → AllAbove registered_name_cmp (name.Row k) behind_neighbors
+  behind_neighbors_above k lt =
+      let routes = all-named (IsAbove (name.Row k)) route_name (λ p. row_below k (route_name p) lt) r.routes in
+      all-all_names (IsAbove (name.Row k)) the_routes behind_routes routes (behind_routes_above k (omega arith))
 
-    pub route-found : lookup (is_at (prefix_cmp p)) routes ≡ lookup (is_at (registered_name_cmp (route_name p))) (joined rows routes others)
-    route-found = sym (lookup-below registered_name_cmp (route_name p) (renamed name.Row rows) _ before_it ∙ lookup-above registered_name_cmp (route_name p) (renamed route_name routes) others behind_it ∙ lookup-renamed prefix_cmp registered_name_cmp route_name routes_same p routes)
+  behind_rows_above : (k : Key) → IsAmongRows k → AllAbove registered_name_cmp (name.Row k) behind_rows
+  behind_rows_above k lt =
+      let neighbors = all-named (IsAbove (name.Row k)) neighbor_name (λ a. row_below k (neighbor_name a) lt) r.neighbors.entries in
+      all-all_names (IsAbove (name.Row k)) the_neighbors behind_neighbors neighbors (behind_neighbors_above k (omega arith))
 
-    pub route-set : (new : List (Prefix × Registered)) (w : Registered) → new ≡ set_value (is_at (prefix_cmp p)) routes w → joined rows new others ≡ set_value (is_at (registered_name_cmp (route_name p))) (joined rows routes others) w
-    route-set new w is = ap (λ l. joined rows l others) is ∙ sym (set-below registered_name_cmp (route_name p) (renamed name.Row rows) _ w before_it ∙ ap (λ l. renamed name.Row rows ++ l) (set-above registered_name_cmp (route_name p) (renamed route_name routes) others w behind_it ∙ ap (λ l. l ++ others) (set-renamed prefix_cmp registered_name_cmp route_name routes_same p routes w)))
+  -- a part is below what comes behind it
+  rows_below : (n : Name) → place_of_neighbors ≤ name_place n → AllBelow registered_name_cmp n the_rows
+  rows_below n le = all-renamed (IsBelow n) name.Row IsAmongRows (λ k is. turned (name.Row k) n (row_below k n (omega arith))) r.rows.entries h.of_rows
 
-    pub route-put : (new : List (Prefix × Registered)) (w : Registered) → new ≡ insert_entry prefix_cmp routes p w → joined rows new others ≡ insert_entry registered_name_cmp (joined rows routes others) (route_name p) w
-    route-put new w is = ap (λ l. joined rows l others) is ∙ sym (insert-below registered_name_cmp (route_name p) (renamed name.Row rows) _ w before_it ∙ ap (λ l. renamed name.Row rows ++ l) (insert-above registered_name_cmp (route_name p) (renamed route_name routes) others w behind_it ∙ ap (λ l. l ++ others) (insert-renamed prefix_cmp registered_name_cmp route_name routes_same p routes w)))
+  neighbors_below : (n : Name) → place_of_neighbors < name_place n → AllBelow registered_name_cmp n the_neighbors
+  neighbors_below n lt = all-named (IsBelow n) neighbor_name (λ a. turned (neighbor_name a) n (row_below (key.Neigh a.0 a.1) n lt)) r.neighbors.entries
 
-    pub route-removed : (new : List (Prefix × Registered)) → new ≡ remove_entry (is_at (prefix_cmp p)) routes → joined rows new others ≡ remove_entry (is_at (registered_name_cmp (route_name p))) (joined rows routes others)
-    route-removed new is = ap (λ l. joined rows l others) is ∙ sym (remove-below registered_name_cmp (route_name p) (renamed name.Row rows) _ before_it ∙ ap (λ l. renamed name.Row rows ++ l) (remove-above registered_name_cmp (route_name p) (renamed route_name routes) others behind_it ∙ ap (λ l. l ++ others) (remove-renamed prefix_cmp registered_name_cmp route_name routes_same p routes)))
+  routes_below : (n : Name) → place_of_routes < name_place n → AllBelow registered_name_cmp n the_routes
+  routes_below n lt = all-named (IsBelow n) route_name (λ p. turned (route_name p) n (row_below (key.Route p) n lt)) r.routes
 
-  -- a name behind the routes
-  module _ (m : Name) (gt : 6 < name_place m) where
-    before_rows : AllBelow registered_name_cmp m (renamed name.Row rows)
-    before_rows = above_rows m rows (omega arith) h.before
+  others_below : (hops : List Hop) → AllBelow registered_name_cmp (name.Group hops) r.others.entries
+  others_below hops = all-kept (IsBelow (name.Group hops)) IsAmongOthers (λ m is. turned m (name.Group hops) (group_above m hops is.1)) r.others.entries h.of_others
 
-    before_routes : AllBelow registered_name_cmp m (renamed route_name routes)
-    before_routes = above_routes m routes gt
+  -- each part stands in the whole
+  pub row-stands : (k : Key) → IsAmongRows k → StandsIn key_cmp k registered_name_cmp (name.Row k) r.rows.entries (λ l. all_names l r.neighbors.entries r.routes r.others.entries r.groups.entries)
+  row-stands k is = StandsIn-above (StandsIn-renamed key_cmp registered_name_cmp name.Row rows_same k r.rows.entries) behind_rows (behind_rows_above k is)
 
-    pub other-found : lookup (is_at (registered_name_cmp m)) others ≡ lookup (is_at (registered_name_cmp m)) (joined rows routes others)
-    other-found = sym (lookup-below registered_name_cmp m (renamed name.Row rows) _ before_rows ∙ lookup-below registered_name_cmp m (renamed route_name routes) others before_routes)
+  pub neighbor-stands : (a : Neighbor) → StandsIn neighbor_cmp a registered_name_cmp (neighbor_name a) r.neighbors.entries (λ l. all_names r.rows.entries l r.routes r.others.entries r.groups.entries)
+  neighbor-stands a =
+      let own = StandsIn-renamed neighbor_cmp registered_name_cmp neighbor_name neighbors_same a r.neighbors.entries in
+      let first = StandsIn-above own behind_neighbors (behind_neighbors_above (key.Neigh a.0 a.1) (omega arith)) in
+      StandsIn-below first the_rows (rows_below (neighbor_name a) (omega arith))
 
-    pub other-set : (new : Names) (w : Registered) → new ≡ set_value (is_at (registered_name_cmp m)) others w → joined rows routes new ≡ set_value (is_at (registered_name_cmp m)) (joined rows routes others) w
-    other-set new w is = ap (joined rows routes) is ∙ sym (set-below registered_name_cmp m (renamed name.Row rows) _ w before_rows ∙ ap (λ l. renamed name.Row rows ++ l) (set-below registered_name_cmp m (renamed route_name routes) others w before_routes))
+  -- what stands among what is behind the neighbours stands in the whole
+  past_neighbors : {K : Type 0} (own : K → K → Ordering) (k : K) (n : Name) (part : List (K × Registered)) (whole : List (K × Registered) → Names) → place_of_neighbors < name_place n → StandsIn own k registered_name_cmp n part whole → StandsIn own k registered_name_cmp n part (λ l. the_rows ++ (the_neighbors ++ whole l))
+  past_neighbors own k n part whole lt s = StandsIn-below (StandsIn-below s the_neighbors (neighbors_below n lt)) the_rows (rows_below n (omega arith))
 
-    pub other-put : (new : Names) (w : Registered) → new ≡ insert_entry registered_name_cmp others m w → joined rows routes new ≡ insert_entry registered_name_cmp (joined rows routes others) m w
-    other-put new w is = ap (joined rows routes) is ∙ sym (insert-below registered_name_cmp m (renamed name.Row rows) _ w before_rows ∙ ap (λ l. renamed name.Row rows ++ l) (insert-below registered_name_cmp m (renamed route_name routes) others w before_routes))
+  pub route-stands : (p : Prefix) → StandsIn prefix_cmp p registered_name_cmp (route_name p) r.routes (λ l. all_names r.rows.entries r.neighbors.entries l r.others.entries r.groups.entries)
+  route-stands p =
+      let own = StandsIn-renamed prefix_cmp registered_name_cmp route_name routes_same p r.routes in
+      past_neighbors _ _ _ _ _ (omega arith) (StandsIn-above own behind_routes (behind_routes_above (key.Route p) (omega arith)))
 
-    pub other-removed : (new : Names) → new ≡ remove_entry (is_at (registered_name_cmp m)) others → joined rows routes new ≡ remove_entry (is_at (registered_name_cmp m)) (joined rows routes others)
-    other-removed new is = ap (joined rows routes) is ∙ sym (remove-below registered_name_cmp m (renamed name.Row rows) _ before_rows ∙ ap (λ l. renamed name.Row rows ++ l) (remove-below registered_name_cmp m (renamed route_name routes) others before_routes))
+  pub other-stands : (n : Name) → IsAmongOthers n → StandsIn registered_name_cmp n registered_name_cmp n r.others.entries (λ l. all_names r.rows.entries r.neighbors.entries r.routes l r.groups.entries)
+  other-stands n is =
+      let place = is.0 in
+      let first = StandsIn-above (StandsIn-itself registered_name_cmp n r.others.entries) the_groups (groups_above n is.1) in
+      past_neighbors _ _ _ _ _ (omega arith) (StandsIn-below first the_routes (routes_below n is.0))
+
+  pub group-stands : (hops : List Hop) → StandsIn hops_cmp hops registered_name_cmp (name.Group hops) r.groups.entries (λ l. all_names r.rows.entries r.neighbors.entries r.routes r.others.entries l)
+  group-stands hops =
+      let own = StandsIn-renamed hops_cmp registered_name_cmp name.Group groups_same hops r.groups.entries in
+      past_neighbors _ _ _ _ _ (omega arith) (StandsIn-below (StandsIn-below own r.others.entries (others_below hops)) the_routes (routes_below (name.Group hops) (omega arith)))
+
+  -- parts in order are one list in order
+  pub all_names-sorted : IsStrictlySortedBy key_cmp (keys_of r.rows.entries) → IsStrictlySortedBy neighbor_cmp (keys_of r.neighbors.entries) → IsStrictlySortedBy prefix_cmp (keys_of r.routes) → IsStrictlySortedBy registered_name_cmp (keys_of r.others.entries) → IsStrictlySortedBy hops_cmp (keys_of r.groups.entries) → IsStrictlySortedBy registered_name_cmp (keys_of (the_rows ++ behind_rows))
+  all_names-sorted rows neighbors routes others groups =
+      let above_others = all-kept (λ n. AllAbove registered_name_cmp n the_groups) IsAmongOthers (λ n is. groups_above n is.1) r.others.entries h.of_others in
+      let above_routes = all-named (λ n. AllAbove registered_name_cmp n behind_routes) route_name (λ p. behind_routes_above (key.Route p) (omega arith)) r.routes in
+      let above_neighbors = all-named (λ n. AllAbove registered_name_cmp n behind_neighbors) neighbor_name (λ a. behind_neighbors_above (key.Neigh a.0 a.1) (omega arith)) r.neighbors.entries in
+      let above_rows = all-renamed (λ n. AllAbove registered_name_cmp n behind_rows) name.Row IsAmongRows behind_rows_above r.rows.entries h.of_rows in
+      let from_others = sorted-all_names registered_name_cmp r.others.entries the_groups others (sorted-renamed hops_cmp registered_name_cmp name.Group groups_same r.groups.entries groups) above_others in
+      let from_routes = sorted-all_names registered_name_cmp the_routes behind_routes (sorted-renamed prefix_cmp registered_name_cmp route_name routes_same r.routes routes) from_others above_routes in
+      let from_neighbors = sorted-all_names registered_name_cmp the_neighbors behind_neighbors (sorted-renamed neighbor_cmp registered_name_cmp neighbor_name neighbors_same r.neighbors.entries neighbors) from_routes above_neighbors in
+      sorted-all_names registered_name_cmp the_rows behind_rows (sorted-renamed key_cmp registered_name_cmp name.Row rows_same r.rows.entries rows) from_neighbors above_rows
 
   -- the parts keep their keys
-  pub parted-row_put : (new : List (Key × Registered)) (k : Key) (w : Registered) → table_place k < 6 → new ≡ insert_entry key_cmp rows k w → AreParted new others
-  parted-row_put new k w lt is = rw is (record { before = all-inserted key_cmp k (λ k. table_place k < 6) lt rows w h.before; behind = h.behind })
+  pub parted-row_put : (new : List (Key × Registered)) (k : Key) (w : Registered) → IsAmongRows k → new ≡ insert_entry key_cmp r.rows.entries k w → AreParted new r.others.entries
+  parted-row_put new k w among is = rw is (record { of_rows = all-inserted key_cmp k IsAmongRows among r.rows.entries w h.of_rows; of_others = h.of_others })
 
-  pub parted-row_removed : (new : List (Key × Registered)) (k : Key) → new ≡ remove_entry (is_at (key_cmp k)) rows → AreParted new others
-  parted-row_removed new k is = rw is (record { before = all-removed key_cmp k (λ k. table_place k < 6) rows h.before; behind = h.behind })
+  pub parted-row_removed : (new : List (Key × Registered)) (k : Key) → new ≡ remove_entry (is_at (key_cmp k)) r.rows.entries → AreParted new r.others.entries
+  parted-row_removed new k is = rw is (record { of_rows = all-removed key_cmp k IsAmongRows r.rows.entries h.of_rows; of_others = h.of_others })
 
-  pub parted-other_put : (new : Names) (m : Name) (w : Registered) → 6 < name_place m → new ≡ insert_entry registered_name_cmp others m w → AreParted rows new
-  parted-other_put new m w gt is = rw is (record { before = h.before; behind = all-inserted registered_name_cmp m (λ n. 6 < name_place n) gt others w h.behind })
+  pub parted-other_put : (new : Names) (n : Name) (w : Registered) → IsAmongOthers n → new ≡ insert_entry registered_name_cmp r.others.entries n w → AreParted r.rows.entries new
+  parted-other_put new n w among is = rw is (record { of_rows = h.of_rows; of_others = all-inserted registered_name_cmp n IsAmongOthers among r.others.entries w h.of_others })
 
-  pub parted-other_removed : (new : Names) (m : Name) → new ≡ remove_entry (is_at (registered_name_cmp m)) others → AreParted rows new
-  parted-other_removed new m is = rw is (record { before = h.before; behind = all-removed registered_name_cmp m (λ n. 6 < name_place n) others h.behind })
-
-each_above_others : (ks : List (Key × Registered)) (routes : List (Prefix × Registered)) (others : Names) → AllByRecursion (λ k. table_place k < 6) (keys_of ks) → AllByRecursion (λ n. 6 < name_place n) (keys_of others) → AllByRecursion (λ e. AllAbove registered_name_cmp e.0 (renamed route_name routes ++ others)) (renamed name.Row ks)
-each_above_others [] routes others h more = tt
-each_above_others (e ∷ es) routes others h more = (below_routes e.0 routes others h.0 more, each_above_others es routes others h.1 more)
-
-each_route_above : (ps : List (Prefix × Registered)) (others : Names) → AllByRecursion (λ n. 6 < name_place n) (keys_of others) → AllByRecursion (λ e. AllAbove registered_name_cmp e.0 others) (renamed route_name ps)
-each_route_above [] others more = tt
-each_route_above (e ∷ es) others more = (below_others (key.Route e.0) others (omega arith) more, each_route_above es others more)
-
--- parts in order are one list in order
-pub joined-sorted : (rows : List (Key × Registered)) (routes : List (Prefix × Registered)) (others : Names) → AreParted rows others → IsStrictlySortedBy key_cmp (keys_of rows) → IsStrictlySortedBy prefix_cmp (keys_of routes) → IsStrictlySortedBy registered_name_cmp (keys_of others) → IsStrictlySortedBy registered_name_cmp (keys_of (joined rows routes others))
-joined-sorted rows routes others h first second third =
-    sorted-joined registered_name_cmp (renamed name.Row rows) (renamed route_name routes ++ others) (sorted-renamed key_cmp registered_name_cmp name.Row rows_same rows first)
-    (sorted-joined registered_name_cmp (renamed route_name routes) others (sorted-renamed prefix_cmp registered_name_cmp route_name routes_same routes second) third (each_route_above routes others h.behind))
-    (each_above_others rows routes others h.before h.behind)
+  pub parted-other_removed : (new : Names) (n : Name) → new ≡ remove_entry (is_at (registered_name_cmp n)) r.others.entries → AreParted r.rows.entries new
+  parted-other_removed new n is = rw is (record { of_rows = h.of_rows; of_others = all-removed registered_name_cmp n IsAmongOthers r.others.entries h.of_others })

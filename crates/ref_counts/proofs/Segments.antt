@@ -1,5 +1,5 @@
 -- entries in order one after another, and under other keys: what is found, changed, put and removed in a part of them
-use Rattle.std.proofs.Common.{◌≡◌, true, false, cond, List, [], ◌∷◌, ◌++◌, None, Some, refl, ap, ap₂, ◌∙◌}
+use Rattle.std.proofs.Common.{◌≡◌, true, false, cond, List, [], ◌∷◌, ◌++◌, None, Some, refl, sym, ap, ap₂, ◌∙◌}
 use Rattle.std.specs.BTreeMap.{insert_entry, is_at}
 use Rattle.std.specs.List.{AllByRecursion}
 use Rattle.std.specs.List.Sorted.{IsStrictlySortedBy}
@@ -8,6 +8,13 @@ use Rattle.std.specs.Ordering.{is_eq, match_ordering}
 use Rattle.std.specs.declared.cmp.Ordering.{Ordering}
 use Rattle.std.specs.declared.cmp.Ordering.TheVariants.{Less, Equal, Greater}
 use Rattle.ref_counts.specs.Parted.{renamed}
+
+-- what is found, changed, put and removed at a key of a part is so at its name in the whole
+pub record StandsIn {K L X : Type 0} (own : K → K → Ordering) (k : K) (cmp : L → L → Ordering) (n : L) (part : List (K × X)) (whole : List (K × X) → List (L × X)) : Type 0 where
+  pub found : lookup (is_at (own k)) part ≡ lookup (is_at (cmp n)) (whole part)
+  pub set : (new : List (K × X)) (w : X) → new ≡ set_value (is_at (own k)) part w → whole new ≡ set_value (is_at (cmp n)) (whole part) w
+  pub put : (new : List (K × X)) (w : X) → new ≡ insert_entry own part k w → whole new ≡ insert_entry cmp (whole part) n w
+  pub removed : (new : List (K × X)) → new ≡ remove_entry (is_at (own k)) part → whole new ≡ remove_entry (is_at (cmp n)) (whole part)
 
 module _ {K X : Type 0} (cmp : K → K → Ordering) (n : K) where
   -- the key is below all keys, or above them
@@ -86,6 +93,28 @@ module _ {K X : Type 0} (cmp : K → K → Ordering) (n : K) where
       let rest = insert-above xs ys w h in
       elim (cmp n a.0) as (λ o. match_ordering o ((n, w) ∷ a ∷ xs ++ ys) ((a.0, w) ∷ xs ++ ys) (a ∷ insert_entry cmp (xs ++ ys) n w) ≡ match_ordering o ((n, w) ∷ a ∷ xs) ((a.0, w) ∷ xs) (a ∷ insert_entry cmp xs n w) ++ ys) [ Less ↦ refl | Equal ↦ refl | Greater ↦ ap (λ l. a ∷ l) rest ]
 
+-- a part stands with entries that are all below before it, or with entries that are all above behind it
+module _ {K L X : Type 0} {own : K → K → Ordering} {k : K} {cmp : L → L → Ordering} {n : L} {part : List (K × X)} {whole : List (K × X) → List (L × X)} (s : StandsIn own k cmp n part whole) where
+  pub StandsIn-below : (xs : List (L × X)) → AllBelow cmp n xs → StandsIn own k cmp n part (λ l. xs ++ whole l)
+  StandsIn-below xs h = record {
+    found = s.found ∙ sym (lookup-below cmp n xs (whole part) h);
+    set = λ new w is. ap (λ l. xs ++ l) (s.set new w is) ∙ sym (set-below cmp n xs (whole part) w h);
+    put = λ new w is. ap (λ l. xs ++ l) (s.put new w is) ∙ sym (insert-below cmp n xs (whole part) w h);
+    removed = λ new is. ap (λ l. xs ++ l) (s.removed new is) ∙ sym (remove-below cmp n xs (whole part) h);
+  }
+
+  pub StandsIn-above : (ys : List (L × X)) → AllAbove cmp n ys → StandsIn own k cmp n part (λ l. whole l ++ ys)
+  StandsIn-above ys h = record {
+    found = s.found ∙ sym (lookup-above cmp n (whole part) ys h);
+    set = λ new w is. ap (λ l. l ++ ys) (s.set new w is) ∙ sym (set-above cmp n (whole part) ys w h);
+    put = λ new w is. ap (λ l. l ++ ys) (s.put new w is) ∙ sym (insert-above cmp n (whole part) ys w h);
+    removed = λ new is. ap (λ l. l ++ ys) (s.removed new is) ∙ sym (remove-above cmp n (whole part) ys h);
+  }
+
+-- a part is a whole of its own
+pub StandsIn-itself : {K X : Type 0} (cmp : K → K → Ordering) (n : K) (part : List (K × X)) → StandsIn cmp n cmp n part (λ l. l)
+StandsIn-itself cmp n part = record { found = refl; set = λ new w is. is; put = λ new w is. is; removed = λ new is. is }
+
 -- entries under other keys in the same order
 module _ {K L X : Type 0} (own : K → K → Ordering) (cmp : L → L → Ordering) (g : K → L) (same : (a b : K) → cmp (g a) (g b) ≡ own a b) (n : K) where
   pub lookup-renamed : (es : List (K × X)) → lookup (is_at (cmp (g n))) (renamed g es) ≡ lookup (is_at (own n)) es
@@ -113,6 +142,33 @@ module _ {K L X : Type 0} (own : K → K → Ordering) (cmp : L → L → Orderi
       ap₂ (λ o l. match_ordering o ((g n, w) ∷ (g e.0, e.1) ∷ renamed g es) ((g e.0, w) ∷ renamed g es) ((g e.0, e.1) ∷ l)) (same n e.0) rest
       ∙ elim (own n e.0) as (λ o. match_ordering o ((g n, w) ∷ (g e.0, e.1) ∷ renamed g es) ((g e.0, w) ∷ renamed g es) ((g e.0, e.1) ∷ renamed g (insert_entry own es n w)) ≡ renamed g (match_ordering o ((n, w) ∷ e ∷ es) ((e.0, w) ∷ es) (e ∷ insert_entry own es n w))) [ Less ↦ refl | Equal ↦ refl | Greater ↦ refl ]
 
+  pub StandsIn-renamed : (es : List (K × X)) → StandsIn own n cmp (g n) es (renamed g)
+  StandsIn-renamed es = record {
+    found = sym (lookup-renamed es);
+    set = λ new w is. ap (renamed g) is ∙ sym (set-renamed es w);
+    put = λ new w is. ap (renamed g) is ∙ sym (insert-renamed es w);
+    removed = λ new is. ap (renamed g) is ∙ sym (remove-renamed es);
+  }
+
+-- what holds of the keys holds of all entries: of those before and behind, and of entries under other keys
+module _ {L X : Type 0} (P : L → Type 0) where
+  pub all-all_names : (xs ys : List (L × X)) → AllByRecursion (λ e. P e.0) xs → AllByRecursion (λ e. P e.0) ys → AllByRecursion (λ e. P e.0) (xs ++ ys)
+  all-all_names [] ys h more = more
+  all-all_names (x ∷ xs) ys h more = (h.0, all-all_names xs ys h.1 more)
+
+  pub all-kept : (Q : L → Type 0) → ((n : L) → Q n → P n) → (es : List (L × X)) → AllByRecursion Q (keys_of es) → AllByRecursion (λ e. P e.0) es
+  all-kept Q by [] h = tt
+  all-kept Q by (e ∷ es) h = (by e.0 h.0, all-kept Q by es h.1)
+
+  module _ {K : Type 0} (g : K → L) where
+    pub all-renamed : (Q : K → Type 0) → ((k : K) → Q k → P (g k)) → (es : List (K × X)) → AllByRecursion Q (keys_of es) → AllByRecursion (λ e. P e.0) (renamed g es)
+    all-renamed Q by [] h = tt
+    all-renamed Q by (e ∷ es) h = (by e.0 h.0, all-renamed Q by es h.1)
+
+    pub all-named : ((k : K) → P (g k)) → (es : List (K × X)) → AllByRecursion (λ e. P e.0) (renamed g es)
+    all-named by [] = tt
+    all-named by (e ∷ es) = (by e.0, all-named by es)
+
 -- order
 module _ {K X : Type 0} (cmp : K → K → Ordering) where
   above-both : (n : K) (xs ys : List (K × X)) → AllByRecursion (λ k. cmp n k ≡ Less) (keys_of xs) → AllAbove cmp n ys → AllByRecursion (λ k. cmp n k ≡ Less) (keys_of (xs ++ ys))
@@ -121,10 +177,10 @@ module _ {K X : Type 0} (cmp : K → K → Ordering) where
   above-both n (a ∷ xs) ys h more = (h.0, above-both n xs ys h.1 more)
 
   -- entries in order, all of which are below the others
-  pub sorted-joined : (xs ys : List (K × X)) → IsStrictlySortedBy cmp (keys_of xs) → IsStrictlySortedBy cmp (keys_of ys) → AllByRecursion (λ a. AllAbove cmp a.0 ys) xs → IsStrictlySortedBy cmp (keys_of (xs ++ ys))
+  pub sorted-all_names : (xs ys : List (K × X)) → IsStrictlySortedBy cmp (keys_of xs) → IsStrictlySortedBy cmp (keys_of ys) → AllByRecursion (λ a. AllAbove cmp a.0 ys) xs → IsStrictlySortedBy cmp (keys_of (xs ++ ys))
   unfolding IsStrictlySortedBy
-  sorted-joined [] ys sa sb h = sb
-  sorted-joined (a ∷ xs) ys sa sb h = (above-both a.0 xs ys sa.0 h.0, sorted-joined xs ys sa.1 sb h.1)
+  sorted-all_names [] ys sa sb h = sb
+  sorted-all_names (a ∷ xs) ys sa sb h = (above-both a.0 xs ys sa.0 h.0, sorted-all_names xs ys sa.1 sb h.1)
 
 module _ {K L X : Type 0} (own : K → K → Ordering) (cmp : L → L → Ordering) (g : K → L) (same : (a b : K) → cmp (g a) (g b) ≡ own a b) where
   above-renamed : (n : K) (es : List (K × X)) → AllByRecursion (λ k. own n k ≡ Less) (keys_of es) → AllByRecursion (λ k. cmp (g n) k ≡ Less) (keys_of (renamed g es))

@@ -1,9 +1,16 @@
--- What is known of all names, in three parts: the rows of keys that come before the routes, the routes, and what comes behind them. Own.
+-- What is known of all names, in five parts: the rows of keys that come before the neighbours, the neighbours, the routes, what comes behind the routes, and the groups. Own.
 use Rattle.std.specs.Prelude.{◌≡◌, ℕ, ◌<◌, List, ◌++◌, map}
 use Rattle.std.specs.Borrow.{Bor}
 use Rattle.std.specs.List.{AllByRecursion}
 use Rattle.std.specs.Map.{keys_of}
+use Rattle.std.specs.Ordering.{ordering_then}
+use Rattle.std.specs.declared.cmp.Ordering.{Ordering}
+use Rattle.sai_types.specs.declared.hop.Hop.{Hop}
+use Rattle.swss_types.specs.AddressOrder.{ip_cmp}
+use Rattle.swss_types.specs.NameOrder.{name_cmp}
+use Rattle.swss_types.specs.declared.address.Ip.{Ip}
 use Rattle.swss_types.specs.declared.address.Prefix.{Prefix}
+use Rattle.swss_types.specs.declared.interface.IfName.{IfName}
 use Rattle.table_schema.specs.Key.{table_place}
 use Rattle.table_schema.specs.declared.key.Key.{Key}
 use Rattle.table_schema.specs.declared.key.Key.TheVariants as key
@@ -14,35 +21,70 @@ use Rattle.ref_counts.specs.declared.part.Part.TheVariants as part
 use Rattle.ref_counts.specs.Registered.{Registered}
 use Rattle.ref_counts.specs.Registry.{Names}
 
+-- the places of the tables of neighbours and routes among the tables
+abbrev pub place_of_neighbors : ℕ
+place_of_neighbors = 5
+
+abbrev pub place_of_routes : ℕ
+place_of_routes = 6
+
+-- groups come last, behind all tables and all other names
+abbrev pub place_of_groups : ℕ
+place_of_groups = 9
+
 -- the place of a name's table, and behind all tables what is no row
 abbrev pub name_place : Name → ℕ
 name_place (name.Row k) = table_place k
+name_place (name.Group hops) = place_of_groups
 name_place _ = 8
+
+-- a neighbour is an address on an interface
+abbrev pub Neighbor : Type 0
+Neighbor = IfName × Ip
+
+abbrev pub neighbor_name : Neighbor → Name
+neighbor_name n = name.Row (key.Neigh n.0 n.1)
+
+-- by interface, and then by address
+abbrev pub neighbor_cmp : Neighbor → Neighbor → Ordering
+neighbor_cmp m n = ordering_then (name_cmp m.0 n.0) (ip_cmp m.1 n.1)
 
 abbrev pub route_name : Prefix → Name
 route_name p = name.Row (key.Route p)
 
+-- keys before those of the neighbours
+abbrev pub IsAmongRows : Key → Type 0
+IsAmongRows k = table_place k < place_of_neighbors
+
+-- names behind the routes and before the groups
+abbrev pub IsAmongOthers : Name → Type 0
+IsAmongOthers n = (place_of_routes < name_place n) × (name_place n < place_of_groups)
+
 -- the part of a name, and what stands there for it
-abbrev pub IsPart : Part Key Prefix Name → Name → Type 0
-IsPart (part.Row k) n = (n ≡ name.Row k) × (table_place k < 6)
+abbrev pub IsPart : Part Key Prefix Name (List Hop) → Name → Type 0
+IsPart (part.Row k) n = (n ≡ name.Row k) × IsAmongRows k
+IsPart (part.Neighbor m) n = n ≡ neighbor_name m
 IsPart (part.Route p) n = n ≡ route_name p
-IsPart (part.Other m) n = (n ≡ m) × (6 < name_place m)
+IsPart (part.Other m) n = (n ≡ m) × IsAmongOthers m
+IsPart (part.Group hops) n = n ≡ name.Group hops
 
 -- the same by references
-abbrev pub IsPartOf : Part (Bor Key) (Bor Prefix) (Bor Name) → Name → Type 0
+abbrev pub IsPartOf : Part (Bor Key) (Bor Prefix) (Bor Name) (Bor (List Hop)) → Name → Type 0
 IsPartOf (part.Row k) = IsPart (part.Row k.now)
+IsPartOf (part.Neighbor m) = IsPart (part.Neighbor m)
 IsPartOf (part.Route p) = IsPart (part.Route p.now)
 IsPartOf (part.Other m) = IsPart (part.Other m.now)
+IsPartOf (part.Group hops) = IsPart (part.Group hops.now)
 
 -- entries under other keys
 abbrev pub renamed : {K L X : Type 0} → (K → L) → List (K × X) → List (L × X)
 renamed g es = map (λ e. (g e.0, e.1)) es
 
--- the three parts, one after another
-abbrev pub joined : List (Key × Registered) → List (Prefix × Registered) → Names → Names
-joined rows routes others = renamed name.Row rows ++ (renamed route_name routes ++ others)
+-- the five parts, one after another
+abbrev pub all_names : List (Key × Registered) → List (Neighbor × Registered) → List (Prefix × Registered) → Names → List (List Hop × Registered) → Names
+all_names rows neighbors routes others groups = renamed name.Row rows ++ (renamed neighbor_name neighbors ++ (renamed route_name routes ++ (others ++ renamed name.Group groups)))
 
 -- no key stands in another's part
 pub record AreParted (rows : List (Key × Registered)) (others : Names) : Type 0 where
-  pub before : AllByRecursion (λ k. table_place k < 6) (keys_of rows)
-  pub behind : AllByRecursion (λ n. 6 < name_place n) (keys_of others)
+  pub of_rows : AllByRecursion IsAmongRows (keys_of rows)
+  pub of_others : AllByRecursion IsAmongOthers (keys_of others)

@@ -2,42 +2,51 @@
 ghost use Rattle.ref_counts.specs.Parted.{IsPart, IsPartOf};
 
 use crate::Name;
-use swss_types::Prefix;
+use sai_types::Hops;
+use swss_types::{IfName, Ip, Prefix};
 use table_schema::Key;
 
 /// What stands for a name in its part. Names are in order, and so are their parts.
 #[derive(Drop)]
-pub enum Part<R, P, N> {
-    /// The key of a row, which comes before the routes.
+pub enum Part<R, P, N, G> {
+    /// The key of a row, which comes before the neighbours.
     Row(R),
+    /// The interface and the address of a neighbour.
+    Neighbor((IfName, Ip)),
     /// The prefix of a route.
     Route(P),
-    /// A name that comes behind the routes.
+    /// A name that comes behind the routes and before the groups.
     Other(N),
+    /// The hops of a group.
+    Group(G),
 }
 
 /// The part of a name.
 #[inline(always)]
-pub fn part_of(name: &Name) -> Part<&Key, &Prefix, &Name>
+pub fn part_of(name: &Name) -> Part<&Key, &Prefix, &Name, &Hops>
     ensures { IsPartOf result name.now }
 {
     match name {
+        Name::Row(Key::Neigh(on, ip)) => Part::Neighbor((*on, *ip)),
         Name::Row(Key::Route(prefix)) => Part::Route(prefix),
         Name::Row(Key::Other(_)) => Part::Other(name),
         Name::Row(key) => Part::Row(key),
+        Name::Group(hops) => Part::Group(hops),
         _ => Part::Other(name),
     }
 }
 
 /// The part of a name that is handed over.
 #[inline(always)]
-pub fn into_part(name: Name) -> Part<Key, Prefix, Name>
+pub fn into_part(name: Name) -> Part<Key, Prefix, Name, Hops>
     ensures { IsPart result name }
 {
     match name {
+        Name::Row(Key::Neigh(on, ip)) => Part::Neighbor((on, ip)),
         Name::Row(Key::Route(prefix)) => Part::Route(prefix),
         Name::Row(Key::Other(text)) => Part::Other(Name::Row(Key::Other(text))),
         Name::Row(key) => Part::Row(key),
+        Name::Group(hops) => Part::Group(hops),
         other => Part::Other(other),
     }
 }

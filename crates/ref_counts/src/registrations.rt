@@ -1,31 +1,34 @@
 // What is known of all names.
-ghost use Rattle.std.specs.Prelude.{◌≡◌, ◌<◌, [], OnOk, OnErr, option_copied};
+ghost use Rattle.std.specs.Prelude.{◌≡◌, [], OnOk, OnErr, option_copied};
 ghost use Rattle.std.specs.BTreeMap.{insert_entry, is_at};
 ghost use Rattle.std.specs.Borrow.{sem};
 ghost use Rattle.std.specs.List.Sorted.{IsStrictlySortedBy};
 ghost use Rattle.std.specs.Map.{keys_of, remove_entry};
 ghost use Rattle.std.specs.Option.{option_copied_mut};
-ghost use Rattle.table_schema.specs.Key.{table_place};
 ghost use Rattle.ref_counts.specs.Lent.{lends_name};
-ghost use Rattle.ref_counts.specs.Parted.{name_place, route_name};
+ghost use Rattle.ref_counts.specs.Parted.{IsAmongRows, IsAmongOthers, neighbor_name, route_name};
 ghost use Rattle.ref_counts.specs.Registry.{registered_at, registered_name_cmp};
 
 use crate::Name;
 use crate::part::{Part, into_part, part_of};
 use crate::registration::Registration;
+use late_maps::{LateMap, get_late};
+use sai_types::Hops;
 use std::alloc::Global;
 use std::collections::BTreeMap;
 use std::marker::Model;
-use swss_types::{OutOfMemory, Prefix};
+use swss_types::{IfName, Ip, OutOfMemory, Prefix};
 use table_schema::Key;
 
-/// What is known of the names that are not absent, in order. Most names are routes: they stand apart, so that the
-/// others are found among few, and each by a short comparison.
+/// What is known of the names that are not absent, in order. Most names are routes, neighbours and groups: each kind
+/// stands apart, so that the others are found among few, and each by a short comparison. Routes mostly come in order.
 #[derive(Drop)]
 pub struct Registrations {
     rows: BTreeMap<Key, Registration>,
-    routes: BTreeMap<Prefix, Registration>,
+    neighbors: BTreeMap<(IfName, Ip), Registration>,
+    routes: LateMap<Prefix, Registration>,
     others: BTreeMap<Name, Registration>,
+    groups: BTreeMap<Hops, Registration>,
 }
 
 impl Model for Registrations {
@@ -33,9 +36,9 @@ impl Model for Registrations {
 
     ghost Value = { Names };
 
-    ghost use Rattle.ref_counts.specs.Parted.{AreParted, joined};
+    ghost use Rattle.ref_counts.specs.Parted.{AreParted, all_names};
 
-    ghost view = { λ r. joined r.rows.entries r.routes.entries r.others.entries };
+    ghost view = { λ r. all_names r.rows.entries r.neighbors.entries r.routes r.others.entries r.groups.entries };
 
     ghost invariant = { λ r. AreParted r.rows.entries r.others.entries };
 }
@@ -47,8 +50,10 @@ impl Registrations {
     {
         Registrations {
             rows: BTreeMap::new(alloc),
-            routes: BTreeMap::new(alloc),
+            neighbors: BTreeMap::new(alloc),
+            routes: LateMap::new(alloc),
             others: BTreeMap::new(alloc),
+            groups: BTreeMap::new(alloc),
         }
     }
 
@@ -57,9 +62,11 @@ impl Registrations {
         ensures { option_copied result ≡ registered_at self.now name.now }
     {
         match part_of(name) {
-            Part::Row(key) => self.rows.get(key),
+            Part::Row(key) => get_late(&self.rows, key),
+            Part::Neighbor(neighbor) => self.neighbors.get(&neighbor),
             Part::Route(prefix) => self.routes.get(prefix),
             Part::Other(name) => self.others.get(name),
+            Part::Group(hops) => self.groups.get(hops),
         }
     }
 
@@ -73,9 +80,28 @@ impl Registrations {
         self.rise();
         match part_of(name) {
             Part::Row(key) => self.row_mut(key),
+            Part::Neighbor(neighbor) => self.neighbor_mut(&neighbor),
             Part::Route(prefix) => self.route_mut(prefix),
             Part::Other(name) => self.other_mut(name),
+            Part::Group(hops) => self.group_mut(hops),
         }
+    }
+
+    /// What is known of a row that comes before the neighbours, to be changed.
+    fn row_mut(&mut self, key: &Key) -> Option<&mut Registration>
+        requires { IsAmongRows key.now }
+        ensures* writes_back { sem 𝓛 (lends_name self.entry (Name.Row key.now) result) }
+        ensures value { option_copied_mut result ≡ registered_at self.old (Name.Row key.now) }
+    {
+        self.rows.get_mut(key)
+    }
+
+    /// What is known of a neighbour, to be changed.
+    fn neighbor_mut(&mut self, neighbor: &(IfName, Ip)) -> Option<&mut Registration>
+        ensures* writes_back { sem 𝓛 (lends_name self.entry (neighbor_name neighbor.now) result) }
+        ensures value { option_copied_mut result ≡ registered_at self.old (neighbor_name neighbor.now) }
+    {
+        self.neighbors.get_mut(neighbor)
     }
 
     /// What is known of a route, to be changed.
@@ -86,22 +112,21 @@ impl Registrations {
         self.routes.get_mut(prefix)
     }
 
-    /// What is known of a row that comes before the routes, to be changed.
-    fn row_mut(&mut self, key: &Key) -> Option<&mut Registration>
-        requires { table_place key.now < 6 }
-        ensures* writes_back { sem 𝓛 (lends_name self.entry (Name.Row key.now) result) }
-        ensures value { option_copied_mut result ≡ registered_at self.old (Name.Row key.now) }
-    {
-        self.rows.get_mut(key)
-    }
-
-    /// What is known of a name behind the routes, to be changed.
+    /// What is known of a name behind the routes and before the groups, to be changed.
     fn other_mut(&mut self, name: &Name) -> Option<&mut Registration>
-        requires { 6 < name_place name.now }
+        requires { IsAmongOthers name.now }
         ensures* writes_back { sem 𝓛 (lends_name self.entry name.now result) }
         ensures value { option_copied_mut result ≡ registered_at self.old name.now }
     {
         self.others.get_mut(name)
+    }
+
+    /// What is known of a group, to be changed.
+    fn group_mut(&mut self, hops: &Hops) -> Option<&mut Registration>
+        ensures* writes_back { sem 𝓛 (lends_name self.entry (Name.Group hops.now) result) }
+        ensures value { option_copied_mut result ≡ registered_at self.old (Name.Group hops.now) }
+    {
+        self.groups.get_mut(hops)
     }
 
     /// A name is known.
@@ -114,12 +139,20 @@ impl Registrations {
                 self.rows.insert(key, registration)?;
                 Ok(())
             }
+            Part::Neighbor(neighbor) => {
+                self.neighbors.insert(neighbor, registration)?;
+                Ok(())
+            }
             Part::Route(prefix) => {
                 self.routes.insert(prefix, registration)?;
                 Ok(())
             }
             Part::Other(name) => {
                 self.others.insert(name, registration)?;
+                Ok(())
+            }
+            Part::Group(hops) => {
+                self.groups.insert(hops, registration)?;
                 Ok(())
             }
         }
@@ -132,8 +165,10 @@ impl Registrations {
     {
         match part_of(name) {
             Part::Row(key) => self.rows.remove(key),
+            Part::Neighbor(neighbor) => self.neighbors.remove(&neighbor),
             Part::Route(prefix) => self.routes.remove(prefix),
             Part::Other(name) => self.others.remove(name),
+            Part::Group(hops) => self.groups.remove(hops),
         }
     }
 
@@ -143,7 +178,9 @@ impl Registrations {
         ensures { IsStrictlySortedBy registered_name_cmp (keys_of self.now) }
     {
         let _rows = self.rows.len();
+        let _neighbors = self.neighbors.len();
         let _routes = self.routes.len();
         let _others = self.others.len();
+        let _groups = self.groups.len();
     }
 }

@@ -25,11 +25,11 @@ use Rattle.ref_counts.specs.declared.name.NameState.TheVariants as state
 use Rattle.ref_counts.specs.declared.pin.Pin.{Pin}
 use Rattle.ref_counts.specs.Registered.{Registered, made_live, pins_but, pins_of, released, with_users}
 use Rattle.ref_counts.specs.Registry as registry
-use Rattle.ref_counts.specs.Registry.{registered_name_cmp, registered_at, state_in, state_of, users_at}
+use Rattle.ref_counts.specs.Registry.{finished_in, registered_name_cmp, registered_at, state_in, state_of, users_at}
 use Rattle.ref_counts.specs.Room.{GivesBack, RoomState, places_by}
 use Rattle.ref_counts.proofs.Found.{found-released}
 use Rattle.orch_flight.specs.Needing.{name_for}
-use Rattle.registry_laws.specs.Ending.{ended_names, made_at_last, named_by, users_dropped, users_passed, with_own_ended}
+use Rattle.registry_laws.specs.Ending.{ended_names, named_by, users_dropped, users_passed, with_own_ended}
 use Rattle.registry_laws.specs.Known.{IsKnownRow, IsKnownShared, IsPinOf, NamesKey, RowStands, SharedStands, pins_at}
 use Rattle.registry_laws.specs.Registers.{Registers}
 use Rattle.registry_laws.proofs.Finding.{found_at, found_off, gone_at, gone_off}
@@ -58,7 +58,7 @@ own_ended_off : (names : registry.Names) (k : Key) (x : Option Row) (o : Owner) 
 own_ended_off names k None o apart = gone_off names (owner.OfRow k) o apart
 own_ended_off names k (Some r) o apart = by (state_of names (name.Row k))
   where
-    by : (st : NameState) → registered_at (made_at_last st names k) (name_for o) ≡ registered_at names (name_for o)
+    by : (st : NameState) → registered_at (finished_in st names (name.Row k)) (name_for o) ≡ registered_at names (name_for o)
     by state.Absent = refl
     by (state.Building v) = found_off names (owner.OfRow k) o (made_live []) apart
     by state.Live = refl
@@ -261,13 +261,13 @@ module _ (plan : Ports) (m : Machine) (sound : IsConsistent plan m) (w : ℕ) (f
         nobody q (inr apart) (r, at, i) = (sound.board.named q f.key r (inl (sym (applied_off q apart) ∙ at)) i).stays w f ends.flying refl new
     own_row (Some r) new = by (state_of passed (name.Row f.key)) refl (subst (RowStands m f.key) (sym (state_at f.key)) (known.names_known.rows f.key).stands)
       where
-        by : (st : NameState) → state_of passed (name.Row f.key) ≡ st → RowStands m f.key (state_of passed (name.Row f.key)) → IsKnownRow later f.key (registered_at (made_at_last (state_of passed (name.Row f.key)) passed f.key) (name.Row f.key))
+        by : (st : NameState) → state_of passed (name.Row f.key) ≡ st → RowStands m f.key (state_of passed (name.Row f.key)) → IsKnownRow later f.key (registered_at (finished_in (state_of passed (name.Row f.key)) passed (name.Row f.key)) (name.Row f.key))
         by state.Absent e stands = absurd ((subst (RowStands m f.key) e stands).0 w f ends.flying refl)
-        by (state.Building v) e stands = subst (IsKnownRow later f.key) (sym (ap (λ st. registered_at (made_at_last st passed f.key) (name.Row f.key)) e ∙ found_at passed (owner.OfRow f.key) (made_live []))) (live_again (registered_at passed (name.Row f.key)) (users_at_row f.key) r new (λ a. absent_not (sym e ∙ a)))
+        by (state.Building v) e stands = subst (IsKnownRow later f.key) (sym (ap (λ st. registered_at (finished_in st passed (name.Row f.key)) (name.Row f.key)) e ∙ found_at passed (owner.OfRow f.key) (made_live []))) (live_again (registered_at passed (name.Row f.key)) (users_at_row f.key) r new (λ a. absent_not (sym e ∙ a)))
           where
             absent_not : state.Building v ≡ state.Absent → ⊥
             absent_not h = cc
-        by state.Live e stands = subst (IsKnownRow later f.key) (sym (ap (λ st. registered_at (made_at_last st passed f.key) (name.Row f.key)) e)) (with_stands f.key (registered_at passed (name.Row f.key)) (users_at_row f.key) (subst (RowStands later f.key) (sym e) (own_live r new)))
+        by state.Live e stands = subst (IsKnownRow later f.key) (sym (ap (λ st. registered_at (finished_in st passed (name.Row f.key)) (name.Row f.key)) e)) (with_stands f.key (registered_at passed (name.Row f.key)) (users_at_row f.key) (subst (RowStands later f.key) (sym e) (own_live r new)))
         by (state.Retiring v) e stands =
             let x = subst (RowStands m f.key) e stands in
             not_some r (sym (ap (λ (z : MachineFlight). z.new) (its v x.flight x.flying (sound.board.one v w x.flight f x.flying ends.flying x.key)) ∙ x.none) ∙ new)

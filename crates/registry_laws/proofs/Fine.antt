@@ -23,14 +23,14 @@ use Rattle.ref_counts.specs.declared.name.Name.TheVariants as name
 use Rattle.ref_counts.specs.declared.name.NameState.{NameState}
 use Rattle.ref_counts.specs.declared.name.NameState.TheVariants as state
 use Rattle.ref_counts.specs.Registered.{Registered, begun, begun_to_go, made_live, released, with_pin, with_user, without_user}
-use Rattle.ref_counts.specs.Registry.{Names, all_released, changed, gone_from, is_retiring, registered_name_cmp, pinned, places_in, retire_refusal_at, registered_at, state_in, state_of}
+use Rattle.ref_counts.specs.Registry.{Names, all_released, changed, finished_in, gone_from, is_retiring, registered_name_cmp, pinned, places_in, retire_refusal_at, registered_at, state_in, state_of}
 use Rattle.ref_counts.proofs.Changing.{name_total}
 use Rattle.ref_counts.proofs.Found.{found-released}
 use Rattle.orch_flight.specs.Grouping.{GroupOperation, group_names_by}
 use Rattle.orch_flight.specs.Needing.{name_for, to_build}
 use Rattle.orch_flight.specs.Starting.{begun_names, ids_for, ids_for_row, left_names, parted_by, used_by, with_building, with_own, with_pins}
 use Rattle.orch_flight.specs.Taking.{names_after_made, names_after, taken_names, to_list}
-use Rattle.registry_laws.specs.Ending.{ended_names, made_at_last, named_by, users_dropped, users_passed, with_own_ended}
+use Rattle.registry_laws.specs.Ending.{ended_names, named_by, users_dropped, users_passed, with_own_ended}
 use Rattle.registry_laws.specs.Flying.{ArePlaced, AreThere}
 use Rattle.registry_laws.proofs.Finding.{found_at, found_off, gone_off, out_at, put_at_name, put_off_name}
 use Rattle.registry_laws.proofs.Passing.{changed_rising, released_rising}
@@ -213,7 +213,7 @@ ended_fine names w k old new are = by new
     passed : AreFine (users_passed names w k old)
     passed = released_fine w (users_dropped names k (named_by k old)) (dropped_fine k (named_by k old) names are)
 
-    at_last : (st : NameState) → AreFine (made_at_last st (users_passed names w k old) k)
+    at_last : (st : NameState) → AreFine (finished_in st (users_passed names w k old) (name.Row k))
     at_last state.Absent = passed
     at_last (state.Building v) = live_fine (owner.OfRow k) [] (users_passed names w k old) passed
     at_last state.Live = passed

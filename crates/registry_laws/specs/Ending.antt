@@ -4,10 +4,8 @@ use Rattle.table_schema.specs.Names.{names_of}
 use Rattle.table_schema.specs.declared.key.Key.{Key}
 use Rattle.table_schema.specs.declared.row.Row.{Row}
 use Rattle.ref_counts.specs.declared.name.Name.TheVariants as name
-use Rattle.ref_counts.specs.declared.name.NameState.{NameState}
-use Rattle.ref_counts.specs.declared.name.NameState.TheVariants as state
-use Rattle.ref_counts.specs.Registered.{made_live, without_user}
-use Rattle.ref_counts.specs.Registry.{Names, all_released, changed, gone_from, state_of}
+use Rattle.ref_counts.specs.Registered.{without_user}
+use Rattle.ref_counts.specs.Registry.{Names, all_released, changed, finished_in, gone_from, state_of}
 
 -- what a key's row names, where it has one
 abbrev pub named_by : Key → Option Row → List Key
@@ -19,15 +17,10 @@ abbrev pub users_dropped : Names → Key → List Key → Names
 users_dropped names k [] = names
 users_dropped names k (p ∷ ps) = users_dropped (changed names (name.Row p) (without_user k)) k ps
 
--- a row whose objects have no identifier is live from the end on
-abbrev pub made_at_last : NameState → Names → Key → Names
-made_at_last (state.Building worker) names k = changed names (name.Row k) (made_live [])
-made_at_last _ names k = names
-
--- the key's own name: gone with its row, or live
+-- the key's own name: gone with its row, or live, also where its objects have no identifier
 abbrev pub with_own_ended : Names → Key → Option Row → Names
 with_own_ended names k None = gone_from names (name.Row k)
-with_own_ended names k (Some r) = made_at_last (state_of names (name.Row k)) names k
+with_own_ended names k (Some r) = finished_in (state_of names (name.Row k)) names (name.Row k)
 
 -- the key no longer uses what its old row named, and from now on what its new row names
 abbrev pub users_passed : Names → ℕ → Key → Option Row → Names

@@ -10,7 +10,7 @@ ghost use Rattle.orch_flight.specs.Sharing.{MayStart, owner_for};
 ghost use Rattle.orch_flight.specs.Starting.{IsStartedBy, left_names, retired_by};
 ghost use Rattle.orch_flight.specs.Taking.{IsTook, MayTake};
 ghost use Rattle.route_orch.specs.Targets.{AreGroups, IsRouteKey, IsRouteRow};
-ghost use Rattle.route_orch.specs.Routes.{first_operation, first_step, flown, group_hops, group_owners, later_step};
+ghost use Rattle.route_orch.specs.Routes.{first_operation, first_step, group_hops, group_owners, later_step};
 
 use crate::starting::begin;
 use crate::target::{Target, left};
@@ -92,7 +92,7 @@ impl RouteFlight {
         let target = Target::of(alloc, plan, key, new)?;
         let applied = route_row(old)?;
         let wanted = route_row(new)?;
-        let begun = begin(
+        match begin(
             alloc,
             plan,
             reg,
@@ -103,9 +103,10 @@ impl RouteFlight {
             old,
             new,
             &target.group,
-        )?;
-        let flight = RouteFlight::first(worker, *prefix, applied, wanted, was, target);
-        Ok(flight.begun(begun))
+        )? {
+            Ok(()) => Ok(Ok(RouteFlight::first(worker, *prefix, applied, wanted, was, target))),
+            Err(wait) => Ok(Err(wait)),
+        }
     }
 
     /// The operation of which nothing is made yet.
@@ -133,16 +134,6 @@ impl RouteFlight {
             step,
             leaves,
             retires: None,
-        }
-    }
-
-    /// The operation, where it could begin.
-    fn begun(self, begun: Result<(), Wait>) -> Result<RouteFlight, Wait>
-        ensures { result ≡ flown self begun }
-    {
-        match begun {
-            Ok(()) => Ok(self),
-            Err(wait) => Err(wait),
         }
     }
 

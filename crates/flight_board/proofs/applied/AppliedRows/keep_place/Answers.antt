@@ -1,22 +1,13 @@
-use Rattle.std.proofs.Common.{◌≡◌, None, Some, sym, ap, rules}
+use Rattle.std.proofs.Common.{None, Some, IsSome, refl, sym, ap, subst}
 use Rattle.flight_board.specs.Applied.{row_in}
-use Rattle.flight_board.proofs.Rows.{found, others-same, others-updated, rows-updated}
-use Rattle.flight_board.proofs.applied.AppliedRows.keep_place.Goals.{in-Occupied, in-Vacant}
+use Rattle.flight_board.proofs.Rows.{set-others, set-own, set-rows}
 use Rattle.flight_board.proofs.applied.AppliedRows.keep_place.Goals as goal
 
-pub returns-clause-rows : goal.returns-clause-rows
-returns-clause-rows c =
-    let old = c.args.self.now in
-    let new = c.match-branch-3.self-inside.rows.entries in
-    elim c.match-branch-3.branch [
-      | in-Occupied w ↦ search rules
-      | in-Vacant w ↦
-          let none : found old c.args.key.now ≡ None = search rules in
-          rows-updated c.args.key.now old new (Some None) (λ q. search rules) (sym (ap row_in none))
-    ]
+pub returns-in_ok-add_place-in-None-clause-rows : goal.returns-in_ok-add_place-in-None-clause-rows
+returns-in_ok-add_place-in-None-clause-rows c = set-rows c.args.key.now (Some None) c.args.self.now c.add_place.new.self c.in_ok-add_place-in-None.ensures.ok (ap row_in c.in-None.ensures)
 
-pub returns-clause-others : goal.returns-clause-others
-returns-clause-others c =
-    let old = c.args.self.now in
-    let new = c.match-branch-3.self-inside.rows.entries in
-    elim c.match-branch-3.branch [ in-Occupied w ↦ others-same c.args.key.now old new (search rules) | in-Vacant w ↦ others-updated c.args.key.now old new (λ q apart. search rules) ]
+pub returns-in_ok-add_place-in-None-clause-place : goal.returns-in_ok-add_place-in-None-clause-place
+returns-in_ok-add_place-in-None-clause-place c = subst (λ o. IsSome o) (sym (set-own c.args.key.now (Some None) c.args.self.now c.add_place.new.self c.in_ok-add_place-in-None.ensures.ok)) refl
+
+pub returns-in_ok-add_place-in-None-clause-others : goal.returns-in_ok-add_place-in-None-clause-others
+returns-in_ok-add_place-in-None-clause-others c = set-others c.args.key.now (Some None) c.args.self.now c.add_place.new.self c.in_ok-add_place-in-None.ensures.ok

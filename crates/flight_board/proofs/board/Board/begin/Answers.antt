@@ -13,20 +13,20 @@ start-requires c =
     let free = subst (λ z. IsUnflown z c.args.key.now) (sym c.self.view_is) (subst (λ o. IfNone o (IsUnflown c.args.self.now c.args.key.now)) c.in_default.is c.in_ok-wait.ensures.none) in
     let k = c.args.key.now in
     let may = subst (λ z. IsUnflown z k → MayStart z.plan z.names c.args.worker k (row_at z.applied k) c.args.new) (sym c.self.view_is) c.requires.may free in
-    record { may = subst (λ o. MayStart i.plan i.registry c.args.worker k o c.args.new) (sym (c.row.ensures ∙ c.in_ok-keep_place.ensures.rows k)) may }
+    record { may = subst (λ o. MayStart i.plan i.registry c.args.worker k o c.args.new) (sym (c.known_row.ensures ∙ c.in_ok-has_row.ensures.rows k)) may }
 
 pub invariant_of-self-in-Ok-Ok : goal.invariant_of-self-in-Ok-Ok
 invariant_of-self-in-Ok-Ok c =
     let i = c.self.inside in
     let free = subst (λ z. IsUnflown z c.args.key.now) (sym c.self.view_is) (subst (λ o. IfNone o (IsUnflown c.args.self.now c.args.key.now)) c.in_default.is c.in_ok-wait.ensures.none) in
-    kept-moved i.plan i.applied c.keep_place.new.self i.workers c.args.key.now c.in_ok-keep_place.ensures.others free c.self.invariant
+    kept-moved i.plan i.applied c.keep_place.new.self i.workers c.args.key.now c.in_ok-has_row.ensures.others free c.self.invariant
 
 pub go_on-requires-clause-worker : goal.go_on-requires-clause-worker
 go_on-requires-clause-worker c =
     let i = c.self.inside in
     let k = c.args.key.now in
     let f = c.in-Ok-Ok.flight in
-    let h = started_operation_told i.plan i.registry i.room c.args.used.now c.args.worker k c.args.new c.start.new.reg c.start.new.room _ (row_at i.applied k) c.in-Ok-Ok.field-0 (Ok f) (c.row.ensures ∙ c.in_ok-keep_place.ensures.rows k) c.in-Ok-Ok.field-0-is c.in-Ok-Ok.ensures.started in
+    let h = started_operation_told i.plan i.registry i.room c.args.used.now c.args.worker k c.args.new c.start.new.reg c.start.new.room _ (row_at i.applied k) c.in-Ok-Ok.field-0 (Ok f) (c.known_row.ensures ∙ c.in_ok-has_row.ensures.rows k) c.in-Ok-Ok.field-0-is c.in-Ok-Ok.ensures.started in
     let is = operation-is i.plan i.registry i.room c.args.used.now c.args.worker k c.args.new c.start.new.reg c.start.new.room (row_at i.applied k) f.flown.operation h in
     subst (λ n. n < 4) (sym is.worker) c.requires.worker
 
@@ -35,17 +35,17 @@ go_on-requires-clause-kept c =
     let i = c.self.inside in
     let k = c.args.key.now in
     let f = c.in-Ok-Ok.flight in
-    let h = started_operation_told i.plan i.registry i.room c.args.used.now c.args.worker k c.args.new c.start.new.reg c.start.new.room _ (row_at i.applied k) c.in-Ok-Ok.field-0 (Ok f) (c.row.ensures ∙ c.in_ok-keep_place.ensures.rows k) c.in-Ok-Ok.field-0-is c.in-Ok-Ok.ensures.started in
+    let h = started_operation_told i.plan i.registry i.room c.args.used.now c.args.worker k c.args.new c.start.new.reg c.start.new.room _ (row_at i.applied k) c.in-Ok-Ok.field-0 (Ok f) (c.known_row.ensures ∙ c.in_ok-has_row.ensures.rows k) c.in-Ok-Ok.field-0-is c.in-Ok-Ok.ensures.started in
     let is = operation-is i.plan i.registry i.room c.args.used.now c.args.worker k c.args.new c.start.new.reg c.start.new.room (row_at i.applied k) f.flown.operation h in
-    let begun = subst (λ a. IfOk a (IsFlightBegun i.plan k (row_at c.keep_place.new.self k) c.args.new)) c.in-Ok-Ok.field-0-is (subst (λ o. IfOk c.in-Ok-Ok.field-0 (IsFlightBegun i.plan k o c.args.new)) c.row.ensures c.in-Ok-Ok.ensures.begun) in
-    kept-begun i.plan c.keep_place.new.self f.flown.operation.worker k c.args.new f (record { worker = refl; key = is.key; row = is.row }) begun c.in_ok-keep_place.ensures.place
+    let begun = subst (λ a. IfOk a (IsFlightBegun i.plan k (row_at c.keep_place.new.self k) c.args.new)) c.in-Ok-Ok.field-0-is (subst (λ o. IfOk c.in-Ok-Ok.field-0 (IsFlightBegun i.plan k o c.args.new)) c.known_row.ensures c.in-Ok-Ok.ensures.begun) in
+    kept-begun i.plan c.keep_place.new.self f.flown.operation.worker k c.args.new f (record { worker = refl; key = is.key; row = is.row }) begun c.in_ok-has_row.ensures.place
 
 pub go_on-requires-clause-none : goal.go_on-requires-clause-none
 go_on-requires-clause-none c =
     let i = c.self.inside in
     let k = c.args.key.now in
     let f = c.in-Ok-Ok.flight in
-    let h = started_operation_told i.plan i.registry i.room c.args.used.now c.args.worker k c.args.new c.start.new.reg c.start.new.room _ (row_at i.applied k) c.in-Ok-Ok.field-0 (Ok f) (c.row.ensures ∙ c.in_ok-keep_place.ensures.rows k) c.in-Ok-Ok.field-0-is c.in-Ok-Ok.ensures.started in
+    let h = started_operation_told i.plan i.registry i.room c.args.used.now c.args.worker k c.args.new c.start.new.reg c.start.new.room _ (row_at i.applied k) c.in-Ok-Ok.field-0 (Ok f) (c.known_row.ensures ∙ c.in_ok-has_row.ensures.rows k) c.in-Ok-Ok.field-0-is c.in-Ok-Ok.ensures.started in
     let is = operation-is i.plan i.registry i.room c.args.used.now c.args.worker k c.args.new c.start.new.reg c.start.new.room (row_at i.applied k) f.flown.operation h in
     let none = none-flown (flight_on i.workers c.args.worker) (subst (λ z. flown_at z c.args.worker ≡ None) (sym c.self.view_is) c.requires.none) in
     subst (λ n. flight_on i.workers n ≡ None) (sym is.worker) none
@@ -56,7 +56,7 @@ go_on-requires-clause-unflown c =
     let free = subst (λ z. IsUnflown z c.args.key.now) (sym c.self.view_is) (subst (λ o. IfNone o (IsUnflown c.args.self.now c.args.key.now)) c.in_default.is c.in_ok-wait.ensures.none) in
     let k = c.args.key.now in
     let f = c.in-Ok-Ok.flight in
-    let h = started_operation_told i.plan i.registry i.room c.args.used.now c.args.worker k c.args.new c.start.new.reg c.start.new.room _ (row_at i.applied k) c.in-Ok-Ok.field-0 (Ok f) (c.row.ensures ∙ c.in_ok-keep_place.ensures.rows k) c.in-Ok-Ok.field-0-is c.in-Ok-Ok.ensures.started in
+    let h = started_operation_told i.plan i.registry i.room c.args.used.now c.args.worker k c.args.new c.start.new.reg c.start.new.room _ (row_at i.applied k) c.in-Ok-Ok.field-0 (Ok f) (c.known_row.ensures ∙ c.in_ok-has_row.ensures.rows k) c.in-Ok-Ok.field-0-is c.in-Ok-Ok.ensures.started in
     let is = operation-is i.plan i.registry i.room c.args.used.now c.args.worker k c.args.new c.start.new.reg c.start.new.room (row_at i.applied k) f.flown.operation h in
     subst (λ q. (v : ℕ) → HasKeyAt i.workers q v → ⊥) (sym is.key) free
 
@@ -64,13 +64,13 @@ pub invariant_of-self-in-Ok-Err : goal.invariant_of-self-in-Ok-Err
 invariant_of-self-in-Ok-Err c =
     let i = c.self.inside in
     let free = subst (λ z. IsUnflown z c.args.key.now) (sym c.self.view_is) (subst (λ o. IfNone o (IsUnflown c.args.self.now c.args.key.now)) c.in_default.is c.in_ok-wait.ensures.none) in
-    kept-moved i.plan c.keep_place.new.self c.forget_place.new.self i.workers c.args.key.now c.forget_place.ensures.others free (kept-moved i.plan i.applied c.keep_place.new.self i.workers c.args.key.now c.in_ok-keep_place.ensures.others free c.self.invariant)
+    kept-moved i.plan c.keep_place.new.self c.forget_place.new.self i.workers c.args.key.now c.forget_place.ensures.others free (kept-moved i.plan i.applied c.keep_place.new.self i.workers c.args.key.now c.in_ok-has_row.ensures.others free c.self.invariant)
 
 pub invariant_of-self-in-Err : goal.invariant_of-self-in-Err
 invariant_of-self-in-Err c =
     let i = c.self.inside in
     let free = subst (λ z. IsUnflown z c.args.key.now) (sym c.self.view_is) (subst (λ o. IfNone o (IsUnflown c.args.self.now c.args.key.now)) c.in_default.is c.in_ok-wait.ensures.none) in
-    kept-moved i.plan c.keep_place.new.self c.forget_place-in-Err.new.self i.workers c.args.key.now c.forget_place-in-Err.ensures.others free (kept-moved i.plan i.applied c.keep_place.new.self i.workers c.args.key.now c.in_ok-keep_place.ensures.others free c.self.invariant)
+    kept-moved i.plan c.keep_place.new.self c.forget_place-in-Err.new.self i.workers c.args.key.now c.forget_place-in-Err.ensures.others free (kept-moved i.plan i.applied c.keep_place.new.self i.workers c.args.key.now c.in_ok-has_row.ensures.others free c.self.invariant)
 
 pub returns-in-Ok-Ok-clause-begun : goal.returns-in-Ok-Ok-clause-begun
 returns-in-Ok-Ok-clause-begun c =
@@ -78,21 +78,21 @@ returns-in-Ok-Ok-clause-begun c =
     let free = subst (λ z. IsUnflown z c.args.key.now) (sym c.self.view_is) (subst (λ o. IfNone o (IsUnflown c.args.self.now c.args.key.now)) c.in_default.is c.in_ok-wait.ensures.none) in
     let k = c.args.key.now in
     let f = c.in-Ok-Ok.flight in
-    let h = started_operation_told i.plan i.registry i.room c.args.used.now c.args.worker k c.args.new c.start.new.reg c.start.new.room _ (row_at i.applied k) c.in-Ok-Ok.field-0 (Ok f) (c.row.ensures ∙ c.in_ok-keep_place.ensures.rows k) c.in-Ok-Ok.field-0-is c.in-Ok-Ok.ensures.started in
+    let h = started_operation_told i.plan i.registry i.room c.args.used.now c.args.worker k c.args.new c.start.new.reg c.start.new.room _ (row_at i.applied k) c.in-Ok-Ok.field-0 (Ok f) (c.known_row.ensures ∙ c.in_ok-has_row.ensures.rows k) c.in-Ok-Ok.field-0-is c.in-Ok-Ok.ensures.started in
     let is = operation-is i.plan i.registry i.room c.args.used.now c.args.worker k c.args.new c.start.new.reg c.start.new.room (row_at i.applied k) f.flown.operation h in
-    let begun = subst (λ a. IfOk a (IsFlightBegun i.plan k (row_at c.keep_place.new.self k) c.args.new)) c.in-Ok-Ok.field-0-is (subst (λ o. IfOk c.in-Ok-Ok.field-0 (IsFlightBegun i.plan k o c.args.new)) c.row.ensures c.in-Ok-Ok.ensures.begun) in
+    let begun = subst (λ a. IfOk a (IsFlightBegun i.plan k (row_at c.keep_place.new.self k) c.args.new)) c.in-Ok-Ok.field-0-is (subst (λ o. IfOk c.in-Ok-Ok.field-0 (IsFlightBegun i.plan k o c.args.new)) c.known_row.ensures c.in-Ok-Ok.ensures.begun) in
     let old : BoardState = record { plan = i.plan; names = i.registry; room = i.room; applied = i.applied; flights = i.workers } in
     let mid : BoardState = record { plan = i.plan; names = c.start.new.reg; room = c.start.new.room; applied = c.keep_place.new.self; flights = i.workers } in
     subst (λ z. IsBegunFor z c.args.used.now c.args.worker k c.args.new (Ok tt) c.go_on.new.self) c.self.view_is
-    (begun-ok old mid c.go_on.new.self c.args.used.now c.args.worker k c.args.new free f h begun.group is.worker refl c.in_ok-keep_place.ensures.rows refl c.go_on.ensures)
+    (begun-ok old mid c.go_on.new.self c.args.used.now c.args.worker k c.args.new free f h begun.group is.worker refl c.in_ok-has_row.ensures.rows refl c.go_on.ensures)
 
 pub returns-in-Ok-Err-clause-begun : goal.returns-in-Ok-Err-clause-begun
 returns-in-Ok-Err-clause-begun c =
     let i = c.self.inside in
     let free = subst (λ z. IsUnflown z c.args.key.now) (sym c.self.view_is) (subst (λ o. IfNone o (IsUnflown c.args.self.now c.args.key.now)) c.in_default.is c.in_ok-wait.ensures.none) in
     let k = c.args.key.now in
-    let h = started_operation_told i.plan i.registry i.room c.args.used.now c.args.worker k c.args.new c.start.new.reg c.start.new.room _ (row_at i.applied k) c.in-Ok-Err.field-0 (Err c.in-Ok-Err.wait) (c.row.ensures ∙ c.in_ok-keep_place.ensures.rows k) c.in-Ok-Err.field-0-is c.in-Ok-Err.ensures.started in
+    let h = started_operation_told i.plan i.registry i.room c.args.used.now c.args.worker k c.args.new c.start.new.reg c.start.new.room _ (row_at i.applied k) c.in-Ok-Err.field-0 (Err c.in-Ok-Err.wait) (c.known_row.ensures ∙ c.in_ok-has_row.ensures.rows k) c.in-Ok-Err.field-0-is c.in-Ok-Err.ensures.started in
     let old : BoardState = record { plan = i.plan; names = i.registry; room = i.room; applied = i.applied; flights = i.workers } in
     let new : BoardState = record { plan = i.plan; names = c.start.new.reg; room = c.start.new.room; applied = c.forget_place.new.self; flights = i.workers } in
     subst (λ z. IsBegunFor z c.args.used.now c.args.worker k c.args.new (Err c.in-Ok-Err.wait) new) c.self.view_is
-    (begun-err old new new c.args.used.now c.args.worker k c.args.new free c.in-Ok-Err.wait h refl (λ q. c.forget_place.ensures.rows q ∙ c.in_ok-keep_place.ensures.rows q) refl)
+    (begun-err old new new c.args.used.now c.args.worker k c.args.new free c.in-Ok-Err.wait h refl (λ q. c.forget_place.ensures.rows q ∙ c.in_ok-has_row.ensures.rows q) refl)

@@ -1,8 +1,9 @@
-use Rattle.std.proofs.Common.{◌≡◌, ◌∙◌, Some, IfSome, inr, option_map, ap, rules, subst}
+use Rattle.std.proofs.Common.{◌∙◌, inr, option_map, sym, ap, subst}
 use Rattle.table_schema.specs.Names.{names_of}
 use Rattle.switch_model.specs.declared.wait.Wait.TheVariants as wait
-use Rattle.orch_flight.specs.Needing.{first_unapplied, missing_for}
+use Rattle.orch_flight.specs.Needing.{missing_for}
 use Rattle.flight_board.specs.Board.{IsUnflown}
+use Rattle.flight_board.proofs.Heads.{head-unapplied}
 use Rattle.flight_board.proofs.board.Board.first_wait.Goals as goal
 
 pub returns-in_default-new-clause-none : goal.returns-in_default-new-clause-none
@@ -13,9 +14,8 @@ returns-in-Some-2-clause-some c =
     let names = c.args.self.now.names in
     let key = c.args.key.now in
     let free = subst (λ z. IsUnflown z key) c.self.view_is c.in_default.ensures.none in
-    let first = subst (λ o. IfSome o (λ k. first_unapplied names c.as_slice.result.now ≡ Some k)) c.in-Some-2.is c.in_ok-missing.ensures in
-    let found : first_unapplied names (names_of key c.in-Some-new.row) ≡ Some c.in-Some-2.missing = search rules in
+    let found = head-unapplied names (names_of key c.in-Some-new.row) c.first_name.result c.in-Some-2.missing c.first_name.ensures (sym c.in_ok-missing.ensures ∙ c.in-Some-2.is) in
     inr (free, ap (missing_for names key) c.in-Some-new.is ∙ ap (option_map wait.Missing) found)
 
-pub returns-clause-none : goal.returns-clause-none
-returns-clause-none c = subst (λ z. IsUnflown z c.args.key.now) c.self.view_is c.in_default.ensures.none
+pub returns-in-None-clause-none : goal.returns-in-None-clause-none
+returns-in-None-clause-none c = subst (λ z. IsUnflown z c.args.key.now) c.self.view_is c.in_default.ensures.none

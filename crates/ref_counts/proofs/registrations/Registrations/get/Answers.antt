@@ -1,13 +1,19 @@
 use Rattle.std.proofs.Common.{sym, ap₂, ◌∙◌}
 use Rattle.ref_counts.specs.Registry.{registered_at}
-use Rattle.ref_counts.proofs.Partings.{other-found, route-found, row-found}
+use Rattle.ref_counts.proofs.Partings.{group-stands, neighbor-stands, other-stands, route-stands, row-stands}
 use Rattle.ref_counts.proofs.registrations.Registrations.get.Goals as goal
 
 pub returns-in-Row : goal.returns-in-Row
-returns-in-Row c = c.get.ensures.value ∙ row-found c.self.inside.rows.entries c.self.inside.routes.entries c.self.inside.others.entries c.self.invariant c.in-Row.key.now c.in-Row.ensures.1 ∙ ap₂ registered_at c.self.view_is (sym c.in-Row.ensures.0)
+returns-in-Row c = c.get_late.ensures.value ∙ (row-stands c.self.inside c.self.invariant c.in-Row.key.now c.in-Row.ensures.1).found ∙ ap₂ registered_at c.self.view_is (sym c.in-Row.ensures.0)
+
+pub returns-in-Neighbor : goal.returns-in-Neighbor
+returns-in-Neighbor c = c.get.ensures.value ∙ (neighbor-stands c.self.inside c.self.invariant c.in-Neighbor.neighbor).found ∙ ap₂ registered_at c.self.view_is (sym c.in-Neighbor.ensures)
 
 pub returns-in-Route : goal.returns-in-Route
-returns-in-Route c = c.get-in-Route.ensures.value ∙ route-found c.self.inside.rows.entries c.self.inside.routes.entries c.self.inside.others.entries c.self.invariant c.in-Route.prefix.now ∙ ap₂ registered_at c.self.view_is (sym c.in-Route.ensures)
+returns-in-Route c = c.get-in-Route.ensures ∙ (route-stands c.self.inside c.self.invariant c.in-Route.prefix.now).found ∙ ap₂ registered_at c.self.view_is (sym c.in-Route.ensures)
 
 pub returns-in-Other : goal.returns-in-Other
-returns-in-Other c = c.get-in-Other.ensures.value ∙ other-found c.self.inside.rows.entries c.self.inside.routes.entries c.self.inside.others.entries c.self.invariant c.in-Other.name.now c.in-Other.ensures.1 ∙ ap₂ registered_at c.self.view_is (sym c.in-Other.ensures.0)
+returns-in-Other c = c.get-in-Other.ensures.value ∙ (other-stands c.self.inside c.self.invariant c.in-Other.name.now c.in-Other.ensures.1).found ∙ ap₂ registered_at c.self.view_is (sym c.in-Other.ensures.0)
+
+pub returns-in-Group : goal.returns-in-Group
+returns-in-Group c = c.get-in-Group.ensures.value ∙ (group-stands c.self.inside c.self.invariant c.in-Group.hops.now).found ∙ ap₂ registered_at c.self.view_is (sym c.in-Group.ensures)

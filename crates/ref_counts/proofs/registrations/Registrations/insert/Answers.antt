@@ -1,20 +1,26 @@
 use Rattle.std.proofs.Common.{sym, ap₂, ◌∙◌}
 use Rattle.std.specs.BTreeMap.{insert_entry}
 use Rattle.ref_counts.specs.Registry.{registered_name_cmp}
-use Rattle.ref_counts.proofs.Partings.{other-put, parted-other_put, parted-row_put, route-put, row-put}
+use Rattle.ref_counts.proofs.Partings.{group-stands, neighbor-stands, other-stands, parted-other_put, parted-row_put, route-stands, row-stands}
 use Rattle.ref_counts.proofs.registrations.Registrations.insert.Goals as goal
 
 pub invariant_of-self-in-Row : goal.invariant_of-self-in-Row
-invariant_of-self-in-Row c = parted-row_put c.self.inside.rows.entries c.self.inside.routes.entries c.self.inside.others.entries c.self.invariant c.insert.new.self.entries c.in-Row.key c.args.registration c.in-Row.ensures.1 c.in_ok-insert-in-Row.ensures.entries
+invariant_of-self-in-Row c = parted-row_put c.self.inside c.self.invariant c.insert.new.self.entries c.in-Row.key c.args.registration c.in-Row.ensures.1 c.in_ok-insert-in-Row.ensures.entries
 
 pub invariant_of-self-in-Other : goal.invariant_of-self-in-Other
-invariant_of-self-in-Other c = parted-other_put c.self.inside.rows.entries c.self.inside.routes.entries c.self.inside.others.entries c.self.invariant c.insert-in-Other.new.self.entries c.in-Other.name c.args.registration c.in-Other.ensures.1 c.in_ok-insert-in-Other.ensures.entries
+invariant_of-self-in-Other c = parted-other_put c.self.inside c.self.invariant c.insert-in-Other.new.self.entries c.in-Other.name c.args.registration c.in-Other.ensures.1 c.in_ok-insert-in-Other.ensures.entries
 
 pub returns-in_ok-insert-in-Row-clause-ok : goal.returns-in_ok-insert-in-Row-clause-ok
-returns-in_ok-insert-in-Row-clause-ok c = row-put c.self.inside.rows.entries c.self.inside.routes.entries c.self.inside.others.entries c.self.invariant c.in-Row.key c.in-Row.ensures.1 c.insert.new.self.entries c.args.registration c.in_ok-insert-in-Row.ensures.entries ∙ ap₂ (λ ns n. insert_entry registered_name_cmp ns n c.args.registration) c.self.view_is (sym c.in-Row.ensures.0)
+returns-in_ok-insert-in-Row-clause-ok c = (row-stands c.self.inside c.self.invariant c.in-Row.key c.in-Row.ensures.1).put c.insert.new.self.entries c.args.registration c.in_ok-insert-in-Row.ensures.entries ∙ ap₂ (λ ns n. insert_entry registered_name_cmp ns n c.args.registration) c.self.view_is (sym c.in-Row.ensures.0)
+
+pub returns-in_ok-insert-in-Neighbor-clause-ok : goal.returns-in_ok-insert-in-Neighbor-clause-ok
+returns-in_ok-insert-in-Neighbor-clause-ok c = (neighbor-stands c.self.inside c.self.invariant c.in-Neighbor.neighbor).put c.insert-in-Neighbor.new.self.entries c.args.registration c.in_ok-insert-in-Neighbor.ensures.entries ∙ ap₂ (λ ns n. insert_entry registered_name_cmp ns n c.args.registration) c.self.view_is (sym c.in-Neighbor.ensures)
 
 pub returns-in_ok-insert-in-Route-clause-ok : goal.returns-in_ok-insert-in-Route-clause-ok
-returns-in_ok-insert-in-Route-clause-ok c = route-put c.self.inside.rows.entries c.self.inside.routes.entries c.self.inside.others.entries c.self.invariant c.in-Route.prefix c.insert-in-Route.new.self.entries c.args.registration c.in_ok-insert-in-Route.ensures.entries ∙ ap₂ (λ ns n. insert_entry registered_name_cmp ns n c.args.registration) c.self.view_is (sym c.in-Route.ensures)
+returns-in_ok-insert-in-Route-clause-ok c = (route-stands c.self.inside c.self.invariant c.in-Route.prefix).put c.insert-in-Route.new.self c.args.registration c.in_ok-insert-in-Route.ensures.entries ∙ ap₂ (λ ns n. insert_entry registered_name_cmp ns n c.args.registration) c.self.view_is (sym c.in-Route.ensures)
 
 pub returns-in_ok-insert-in-Other-clause-ok : goal.returns-in_ok-insert-in-Other-clause-ok
-returns-in_ok-insert-in-Other-clause-ok c = other-put c.self.inside.rows.entries c.self.inside.routes.entries c.self.inside.others.entries c.self.invariant c.in-Other.name c.in-Other.ensures.1 c.insert-in-Other.new.self.entries c.args.registration c.in_ok-insert-in-Other.ensures.entries ∙ ap₂ (λ ns n. insert_entry registered_name_cmp ns n c.args.registration) c.self.view_is (sym c.in-Other.ensures.0)
+returns-in_ok-insert-in-Other-clause-ok c = (other-stands c.self.inside c.self.invariant c.in-Other.name c.in-Other.ensures.1).put c.insert-in-Other.new.self.entries c.args.registration c.in_ok-insert-in-Other.ensures.entries ∙ ap₂ (λ ns n. insert_entry registered_name_cmp ns n c.args.registration) c.self.view_is (sym c.in-Other.ensures.0)
+
+pub returns-in_ok-insert-in-Group-clause-ok : goal.returns-in_ok-insert-in-Group-clause-ok
+returns-in_ok-insert-in-Group-clause-ok c = (group-stands c.self.inside c.self.invariant c.in-Group.hops).put c.insert-in-Group.new.self.entries c.args.registration c.in_ok-insert-in-Group.ensures.entries ∙ ap₂ (λ ns n. insert_entry registered_name_cmp ns n c.args.registration) c.self.view_is (sym c.in-Group.ensures)

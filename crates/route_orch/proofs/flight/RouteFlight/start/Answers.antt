@@ -1,3 +1,5 @@
+use Rattle.std.proofs.Common.{Ok, Err, refl, sym, ap}
+use Rattle.route_orch.specs.Routes.{first_operation, flown}
 use Rattle.route_orch.proofs.Operations.{route-row, rows, started-as}
 use Rattle.route_orch.proofs.flight.RouteFlight.start.Goals as goal
 
@@ -13,8 +15,15 @@ route_row-requires c = route-row c.args.plan.now c.args.reg.now c.args.key.now (
 pub route_row-requires-2 : goal.route_row-requires-2
 route_row-requires-2 c = route-row c.args.plan.now c.args.reg.now c.args.key.now (rows c.args.new) c.requires.key c.requires.may.new_fits
 
-pub returns-clause-started : goal.returns-clause-started
-returns-clause-started c =
+pub returns-in-Ok-clause-started : goal.returns-in-Ok-clause-started
+returns-in-Ok-clause-started c =
     started-as c.args.plan.now c.args.reg.now c.args.room.now c.args.used.now c.args.worker c.args.key.now (rows c.args.old) (rows c.args.new) c.in-Route.prefix c.in_ok-applied.applied c.in_ok-wanted.wanted c.in_ok-was.was' c.in_ok-target.target
-    c.first-flight.result c.in_ok-begun.begun c.begun.result c.begin.new.reg c.begin.new.room
-    c.in-Route.is c.in_ok-applied.ensures c.in_ok-wanted.ensures c.in_ok-was.ensures c.in_ok-target.ensures c.first-flight.ensures c.begun.ensures c.requires.may c.in_ok-begun.ensures.begun
+    c.first.result c.in_ok-begin.field-0 (Ok c.first.result) c.begin.new.reg c.begin.new.room
+    c.in-Route.is c.in_ok-applied.ensures c.in_ok-wanted.ensures c.in_ok-was.ensures c.in_ok-target.ensures c.first.ensures (sym (ap (flown c.first.result) c.in-Ok.is)) c.requires.may c.in_ok-begin.ensures.begun
+
+pub returns-in-Err-clause-started : goal.returns-in-Err-clause-started
+returns-in-Err-clause-started c =
+    let flight = first_operation c.args.worker c.in-Route.prefix c.in_ok-applied.applied c.in_ok-wanted.wanted c.in_ok-was.was' c.in_ok-target.target in
+    started-as c.args.plan.now c.args.reg.now c.args.room.now c.args.used.now c.args.worker c.args.key.now (rows c.args.old) (rows c.args.new) c.in-Route.prefix c.in_ok-applied.applied c.in_ok-wanted.wanted c.in_ok-was.was' c.in_ok-target.target
+    flight c.in_ok-begin.field-0 (Err c.in-Err.wait) c.begin.new.reg c.begin.new.room
+    c.in-Route.is c.in_ok-applied.ensures c.in_ok-wanted.ensures c.in_ok-was.ensures c.in_ok-target.ensures refl (sym (ap (flown flight) c.in-Err.is)) c.requires.may c.in_ok-begin.ensures.begun
