@@ -14,7 +14,7 @@ use Rattle.table_schema.specs.declared.key.Key.{Key}
 use Rattle.table_schema.specs.declared.key.Key.TheVariants as key
 use Rattle.table_schema.specs.declared.row.Row.{Row}
 use Rattle.table_schema.proofs.Keys.{at_itself, tied_keys_same}
-use Rattle.flight_board.specs.Applied.{Entries, HasNoRoute, HasSameRows, KeepsOthers, SetsPlace, with_routes, place_at, row_at, row_in}
+use Rattle.flight_board.specs.Applied.{Entries, HasNoRoute, HasSameRows, KeepsOthers, SetsPlace, routes_first, place_at, row_at, row_in}
 
 abbrev pub Routes : Type 0
 Routes = List (Prefix × Option Row)
@@ -27,11 +27,11 @@ found_in routes rows (key.Route p) = lookup (is_at (prefix_cmp p)) routes
 found_in routes rows k = place_at rows k
 
 -- a route's key is found among the routes, and another among the others
-place_at-with_routes : (routes : Routes) (rows : Entries) → HasNoRoute rows → (k : Key) → place_at (with_routes routes rows) k ≡ found_in routes rows k
-place_at-with_routes [] rows none (key.Route p) = none p
-place_at-with_routes [] rows none k = refl
-place_at-with_routes (e ∷ es) rows none (key.Route p) = ap (λ o. cond (is_at (prefix_cmp p) e.0) (Some e.1) o) (place_at-with_routes es rows none (key.Route p))
-place_at-with_routes (e ∷ es) rows none k = place_at-with_routes es rows none k
+place_at-routes_first : (routes : Routes) (rows : Entries) → HasNoRoute rows → (k : Key) → place_at (routes_first routes rows) k ≡ found_in routes rows k
+place_at-routes_first [] rows none (key.Route p) = none p
+place_at-routes_first [] rows none k = refl
+place_at-routes_first (e ∷ es) rows none (key.Route p) = ap (λ o. cond (is_at (prefix_cmp p) e.0) (Some e.1) o) (place_at-routes_first es rows none (key.Route p))
+place_at-routes_first (e ∷ es) rows none k = place_at-routes_first es rows none k
 
 not-at_route : (k : Key) (p : Prefix) → IsNoRoute k → is_at (key_cmp k) (key.Route p) ≡ false
 not-at_route (key.Route r) p apart = absurd (apart r refl)
@@ -42,22 +42,22 @@ rows-none : (k : Key) (w : Option (Option Row)) (rows new : Entries) → HasNoRo
 rows-none k w rows new none apart h p = h (key.Route p) ∙ ap (λ b. cond b w (place_at rows (key.Route p))) (not-at_route k p apart) ∙ none p
 
 -- what is found and set in all rows, as they are seen
-module _ (routes : Routes) (rows : Entries) (none : HasNoRoute rows) {seen : Entries} (is : with_routes routes rows ≡ seen) {k : Key} where
+module _ (routes : Routes) (rows : Entries) (none : HasNoRoute rows) {seen : Entries} (is : routes_first routes rows ≡ seen) {k : Key} where
   module _ {p : Prefix} (here : k ≡ key.Route p) where
     pub route-place : lookup (is_at (prefix_cmp p)) routes ≡ place_at seen k
-    route-place = rw here (rw (← is) (sym (place_at-with_routes routes rows none (key.Route p))))
+    route-place = rw here (rw (← is) (sym (place_at-routes_first routes rows none (key.Route p))))
 
-    route-set : (w : Option (Option Row)) (new : Routes) → ((q : Prefix) → lookup (is_at (prefix_cmp q)) new ≡ cond (is_at (prefix_cmp p) q) w (lookup (is_at (prefix_cmp q)) routes)) → SetsPlace k w seen (with_routes new rows)
-    route-set w new h = rw here (rw (← is) (λ q. place_at-with_routes new rows none q ∙ by q ∙ sym (ap (cond (is_at (key_cmp (key.Route p)) q) w) (place_at-with_routes routes rows none q))))
+    route-set : (w : Option (Option Row)) (new : Routes) → ((q : Prefix) → lookup (is_at (prefix_cmp q)) new ≡ cond (is_at (prefix_cmp p) q) w (lookup (is_at (prefix_cmp q)) routes)) → SetsPlace k w seen (routes_first new rows)
+    route-set w new h = rw here (rw (← is) (λ q. place_at-routes_first new rows none q ∙ by q ∙ sym (ap (cond (is_at (key_cmp (key.Route p)) q) w) (place_at-routes_first routes rows none q))))
       where
         by : (q : Key) → found_in new rows q ≡ cond (is_at (key_cmp (key.Route p)) q) w (found_in routes rows q)
         by (key.Route q) = h q
         by q = refl
 
-    pub route-put : (v : Option Row) (new : Routes) → new ≡ insert_entry prefix_cmp routes p v → SetsPlace k (Some v) seen (with_routes new rows)
+    pub route-put : (v : Option Row) (new : Routes) → new ≡ insert_entry prefix_cmp routes p v → SetsPlace k (Some v) seen (routes_first new rows)
     route-put v new put = route-set (Some v) new (λ q. ap (lookup (is_at (prefix_cmp q))) put ∙ lookup-insert_entry prefix_cmp prefix_total routes p v q ∙ ap (λ b. cond b (Some v) (lookup (is_at (prefix_cmp q)) routes)) ((eq_by_cmp_equiv prefix_total).symm q p))
 
-    pub route-removed : (new : Routes) → IsStrictlySortedBy prefix_cmp (keys_of routes) → new ≡ remove_entry (is_at (prefix_cmp p)) routes → SetsPlace k None seen (with_routes new rows)
+    pub route-removed : (new : Routes) → IsStrictlySortedBy prefix_cmp (keys_of routes) → new ≡ remove_entry (is_at (prefix_cmp p)) routes → SetsPlace k None seen (routes_first new rows)
     route-removed new sorted removed = route-set None new (λ q. ap (lookup (is_at (prefix_cmp q))) removed ∙ lookup-removed prefix_cmp prefix_total routes p q sorted)
 
   module _ (apart : IsNoRoute k) where
@@ -66,10 +66,10 @@ module _ (routes : Routes) (rows : Entries) (none : HasNoRoute rows) {seen : Ent
     found-apart q out = refl
 
     pub row-place : place_at rows k ≡ place_at seen k
-    row-place = rw (← is) (sym (place_at-with_routes routes rows none k ∙ found-apart k apart))
+    row-place = rw (← is) (sym (place_at-routes_first routes rows none k ∙ found-apart k apart))
 
-    pub row-set : (w : Option (Option Row)) (new : Entries) → SetsPlace k w rows new → SetsPlace k w seen (with_routes routes new)
-    row-set w new h = rw (← is) (λ q. place_at-with_routes routes new (rows-none k w rows new none apart h) q ∙ by q ∙ sym (ap (cond (is_at (key_cmp k) q) w) (place_at-with_routes routes rows none q)))
+    pub row-set : (w : Option (Option Row)) (new : Entries) → SetsPlace k w rows new → SetsPlace k w seen (routes_first routes new)
+    row-set w new h = rw (← is) (λ q. place_at-routes_first routes new (rows-none k w rows new none apart h) q ∙ by q ∙ sym (ap (cond (is_at (key_cmp k) q) w) (place_at-routes_first routes rows none q)))
       where
         by : (q : Key) → found_in routes new q ≡ cond (is_at (key_cmp k) q) w (found_in routes rows q)
         by (key.Route p) = ap (λ b. cond b w (lookup (is_at (prefix_cmp p)) routes)) (sym (not-at_route k p apart))

@@ -18,8 +18,8 @@ abbrev pub place_at : Entries → Key → Option (Option Row)
 place_at entries k = lookup (is_at (key_cmp k)) entries
 
 -- the routes under their keys, and then the others
-abbrev pub with_routes : List (Prefix × Option Row) → Entries → Entries
-with_routes routes rows = renamed key.Route routes ++ rows
+abbrev pub routes_first : List (Prefix × Option Row) → Entries → Entries
+routes_first routes rows = renamed key.Route routes ++ rows
 
 -- no route has a place
 abbrev pub HasNoRoute : Entries → Type 0

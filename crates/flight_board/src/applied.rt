@@ -19,11 +19,11 @@ pub struct AppliedRows {
 }
 
 impl Model for AppliedRows {
-    ghost use Rattle.flight_board.specs.Applied.{Entries, HasNoRoute, with_routes};
+    ghost use Rattle.flight_board.specs.Applied.{Entries, HasNoRoute, routes_first};
 
     ghost Value = { Entries };
 
-    ghost view = { λ a. with_routes a.routes a.rows.entries };
+    ghost view = { λ a. routes_first a.routes a.rows.entries };
 
     ghost invariant = { λ a. HasNoRoute a.rows.entries };
 }

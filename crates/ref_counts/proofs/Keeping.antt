@@ -1,7 +1,8 @@
 -- what puts, sets and removals of places make of the users
-use Rattle.std.proofs.Common.{◌≡◌, Bool, true, false, not, cond, List, [], ◌∷◌, Option, None, Some, option_map, IfSome, Bor, refl, sym, ap, subst, ◌∙◌}
+use Rattle.std.proofs.Common.{◌≡◌, Bool, true, false, not, cond, List, [], ◌∷◌, Option, None, Some, refl, sym, ap, subst, ◌∙◌}
 use Rattle.std.specs.BTreeMap.{insert_entry, is_at}
 use Rattle.std.specs.BTreeSet.{insert_key}
+use Rattle.std.specs.Cmp.{eq_by_cmp_equiv}
 use Rattle.std.specs.List.{AllByRecursion}
 use Rattle.std.specs.Map.{lookup, remove_entry, set_value}
 use Rattle.std.specs.Option.{is_some}
@@ -9,10 +10,11 @@ use Rattle.std.specs.Ordering.{is_eq, match_ordering}
 use Rattle.std.specs.declared.cmp.Ordering.{Ordering}
 use Rattle.std.specs.declared.cmp.Ordering.TheVariants.{Less, Equal, Greater}
 use Rattle.std.proofs.lemmas.Option.{none-some}
+use Rattle.swss_types.proofs.Maps.{lookup-insert_entry}
 use Rattle.table_schema.specs.Fields.{HasRisingKeys}
 use Rattle.table_schema.specs.Key.{key_cmp}
 use Rattle.table_schema.specs.declared.key.Key.{Key}
-use Rattle.table_schema.proofs.Keys.{key_exact, key_total}
+use Rattle.table_schema.proofs.Keys.{at_itself, key_exact, key_total, tied_keys_same}
 use Rattle.table_schema.proofs.Places.{above_more, find_step, out_step, put_step}
 use Rattle.table_schema.proofs.Restored.{remove-none, set-put}
 use Rattle.ref_counts.specs.Kept.{AreReadable, HasKeptPlace, Kept, marked_in}
@@ -142,25 +144,7 @@ users-set_false es k h = set-remove (is_at (key_cmp k)) es ∙ users-remove es k
 pub users-but_none : (es : Kept) (k : Key) → HasRisingKeys key_cmp es → lookup (is_at (key_cmp k)) es ≡ None → marked_in es ≡ users_but k (marked_in es)
 users-but_none es k h none = ap marked_in (sym (remove-none (is_at (key_cmp k)) es none)) ∙ users-remove es k h
 
--- ---- readable keys
-
-pub readable-put : (es : Kept) (k : Key) (v : Bool) → IsReadable k → AreReadable es → AreReadable (insert_entry key_cmp es k v)
-readable-put [] k v is h = (is, tt)
-readable-put (e ∷ es) k v is h =
-    let rest = readable-put es k v is h.1 in
-    elim (key_cmp k e.0) as (λ r. AreReadable (match_ordering r ((k, v) ∷ e ∷ es) ((e.0, v) ∷ es) (e ∷ insert_entry key_cmp es k v))) [ Less ↦ (is, h) | Equal ↦ h | Greater ↦ (h.0, rest) ]
-
-pub readable-remove : (test : Key → Bool) (es : Kept) → AreReadable es → AreReadable (remove_entry test es)
-readable-remove test [] h = tt
-readable-remove test (e ∷ es) h =
-    let rest = readable-remove test es h.1 in
-    elim (test e.0) as (λ b. AreReadable (cond b es (e ∷ remove_entry test es))) [ true ↦ h.1 | false ↦ (h.0, rest) ]
-
-pub readable-set : (test : Key → Bool) (es : Kept) (v : Bool) → AreReadable es → AreReadable (set_value test es v)
-readable-set test [] v h = tt
-readable-set test (e ∷ es) v h =
-    let rest = readable-set test es v h.1 in
-    elim (test e.0) as (λ b. AreReadable (cond b ((e.0, v) ∷ es) (e ∷ set_value test es v))) [ true ↦ h | false ↦ (h.0, rest) ]
+-- ---- the first user is one of the keys
 
 pub readable-first : (es : Kept) (k : Key) → AreReadable es → Some k ≡ first_of (marked_in es) → IsReadable k
 readable-first [] k h e = absurd (none-some k (sym e))
@@ -170,11 +154,6 @@ readable-first (e ∷ es) k h first =
       | true ↦ λ is. let same : e.0 ≡ k = cc in subst IsReadable same h.0
       | false ↦ λ is. rest is
     ] first
-
--- the same of a user by reference, where there is one
-pub readable-least : (o : Option (Bor Key)) (es : Kept) → AreReadable es → option_map (λ user. user.now) o ≡ first_of (marked_in es) → IfSome o (λ user. IsReadable user.now)
-readable-least None es h is = tt
-readable-least (Some user) es h is = readable-first es user.now h is
 
 -- ---- places
 
@@ -196,6 +175,19 @@ place-put (e ∷ es) k v q h =
       | Equal ↦ place_stays_there (is_at (key_cmp q) e.0) e.1 v (lookup (is_at (key_cmp q)) es) (lookup (is_at (key_cmp q)) es) (λ x. x) h
       | Greater ↦ place_stays_there (is_at (key_cmp q) e.0) e.1 e.1 (lookup (is_at (key_cmp q)) es) (lookup (is_at (key_cmp q)) (insert_entry key_cmp es k v)) rest h
     ]
+
+pub place-own : (es : Kept) (k : Key) (v : Bool) → HasKeptPlace (insert_entry key_cmp es k v) k
+place-own es k v = ap is_some (lookup-insert_entry key_cmp key_total es k v k ∙ ap (λ b. cond b (Some v) (lookup (is_at (key_cmp k)) es)) (at_itself k k refl))
+
+-- and so does one that is taken away
+pub place-removed : (es : Kept) (k q : Key) → is_at (key_cmp k) q ≡ false → HasKeptPlace es q → HasKeptPlace (remove_entry (is_at (key_cmp k)) es) q
+place-removed [] k q apart h = h
+place-removed (e ∷ es) k q apart h =
+    let rest = place-removed es k q apart in
+    elim (is_at (key_cmp k) e.0) as (λ b. is_at (key_cmp k) e.0 ≡ b → HasKeptPlace (cond b es (e ∷ remove_entry (is_at (key_cmp k)) es)) q) [
+      | true ↦ λ is. subst (λ b. is_some (cond b (Some e.1) (lookup (is_at (key_cmp q)) es)) ≡ true) (ap (is_at (key_cmp q)) (sym (tied_keys_same k e.0 is)) ∙ (eq_by_cmp_equiv key_total).symm q k ∙ apart) h
+      | false ↦ λ is. place_stays_there (is_at (key_cmp q) e.0) e.1 e.1 (lookup (is_at (key_cmp q)) es) (lookup (is_at (key_cmp q)) (remove_entry (is_at (key_cmp k)) es)) rest h
+    ] refl
 
 -- a place that is set is there, and so are the others
 pub place-set : (test : Key → Bool) (es : Kept) (v : Bool) (q : Key) → HasKeptPlace es q → HasKeptPlace (set_value test es v) q

@@ -1,6 +1,7 @@
 pub mod Changing
 pub mod Found
 pub mod Keeping
+pub mod KeptRoutes
 pub mod Noting
 pub mod Partings
 pub mod Pins

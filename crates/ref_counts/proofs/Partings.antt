@@ -47,7 +47,7 @@ abbrev IsBelow : Name → Name → Type 0
 IsBelow n m = registered_name_cmp n m ≡ Greater
 
 -- a row is below what has a greater place, and a group is above all that has a lesser place
-row_below : (k : Key) (m : Name) → table_place k < name_place m → IsAbove (name.Row k) m
+pub row_below : (k : Key) (m : Name) → table_place k < name_place m → IsAbove (name.Row k) m
 row_below k (name.Row q) lt = ap (λ o. ordering_then o (part_cmp k q)) (sym (nat_cmp_is (table_place k) (table_place q) Less lt))
 row_below k (name.BridgePort p) lt = refl
 row_below k (name.Own ip) lt = refl
@@ -59,7 +59,7 @@ group_above (name.BridgePort p) hops lt = refl
 group_above (name.Own ip) hops lt = refl
 group_above (name.Group other) hops lt = absurd (omega arith)
 
-turned : (n m : Name) → IsAbove n m → IsBelow m n
+pub turned : (n m : Name) → IsAbove n m → IsBelow m n
 turned n m is = name_total.antisymm m n ∙ ap ordering_reverse is
 
 module _ (r : Inside) (h : AreParted r.rows.entries r.others.entries) where

@@ -24,6 +24,14 @@ module _ {K X : Type 0} (cmp : K → K → Ordering) (n : K) where
   abbrev pub AllBelow : List (K × X) → Type 0
   AllBelow es = AllByRecursion (λ e. cmp n e.0 ≡ Greater) es
 
+  -- or it is none of them
+  abbrev pub AllApart : List (K × X) → Type 0
+  AllApart es = AllByRecursion (λ e. is_at (cmp n) e.0 ≡ false) es
+
+  apart-above : (es : List (K × X)) → AllAbove es → AllApart es
+  apart-above [] h = tt
+  apart-above (e ∷ es) h = (ap is_eq h.0, apart-above es h.1)
+
   -- in entries that are all below, nothing happens before the others
   pub lookup-below : (xs ys : List (K × X)) → AllBelow xs → lookup (is_at (cmp n)) (xs ++ ys) ≡ lookup (is_at (cmp n)) ys
   lookup-below [] ys h = refl
@@ -41,18 +49,18 @@ module _ {K X : Type 0} (cmp : K → K → Ordering) (n : K) where
   insert-below [] ys w h = refl
   insert-below (a ∷ xs) ys w h = ap (λ o. match_ordering o ((n, w) ∷ a ∷ xs ++ ys) ((a.0, w) ∷ xs ++ ys) (a ∷ insert_entry cmp (xs ++ ys) n w)) h.0 ∙ ap (λ l. a ∷ l) (insert-below xs ys w h.1)
 
-  -- in entries that are all above, nothing happens
-  lookup-absent : (ys : List (K × X)) → AllAbove ys → lookup (is_at (cmp n)) ys ≡ None
-  lookup-absent [] h = refl
-  lookup-absent (b ∷ ys) h = ap (λ o. cond (is_eq o) (Some b.1) (lookup (is_at (cmp n)) ys)) h.0 ∙ lookup-absent ys h.1
+  -- in entries at other keys, nothing happens
+  lookup-apart : (ys : List (K × X)) → AllApart ys → lookup (is_at (cmp n)) ys ≡ None
+  lookup-apart [] h = refl
+  lookup-apart (b ∷ ys) h = ap (λ t. cond t (Some b.1) (lookup (is_at (cmp n)) ys)) h.0 ∙ lookup-apart ys h.1
 
-  set-absent : (ys : List (K × X)) (w : X) → AllAbove ys → set_value (is_at (cmp n)) ys w ≡ ys
-  set-absent [] w h = refl
-  set-absent (b ∷ ys) w h = ap (λ o. cond (is_eq o) ((b.0, w) ∷ ys) (b ∷ set_value (is_at (cmp n)) ys w)) h.0 ∙ ap (λ l. b ∷ l) (set-absent ys w h.1)
+  set-apart : (ys : List (K × X)) (w : X) → AllApart ys → set_value (is_at (cmp n)) ys w ≡ ys
+  set-apart [] w h = refl
+  set-apart (b ∷ ys) w h = ap (λ t. cond t ((b.0, w) ∷ ys) (b ∷ set_value (is_at (cmp n)) ys w)) h.0 ∙ ap (λ l. b ∷ l) (set-apart ys w h.1)
 
-  remove-absent : (ys : List (K × X)) → AllAbove ys → remove_entry (is_at (cmp n)) ys ≡ ys
-  remove-absent [] h = refl
-  remove-absent (b ∷ ys) h = ap (λ o. cond (is_eq o) ys (b ∷ remove_entry (is_at (cmp n)) ys)) h.0 ∙ ap (λ l. b ∷ l) (remove-absent ys h.1)
+  remove-apart : (ys : List (K × X)) → AllApart ys → remove_entry (is_at (cmp n)) ys ≡ ys
+  remove-apart [] h = refl
+  remove-apart (b ∷ ys) h = ap (λ t. cond t ys (b ∷ remove_entry (is_at (cmp n)) ys)) h.0 ∙ ap (λ l. b ∷ l) (remove-apart ys h.1)
 
   insert-first : (ys : List (K × X)) (w : X) → AllAbove ys → insert_entry cmp ys n w ≡ (n, w) ∷ ys
   insert-first [] w h = refl
@@ -71,20 +79,20 @@ module _ {K X : Type 0} (cmp : K → K → Ordering) (n : K) where
       let rest = all-removed P es h.1 in
       elim (is_at (cmp n) e.0) as (λ b. AllByRecursion P (keys_of (cond b es (e ∷ remove_entry (is_at (cmp n)) es)))) [ true ↦ h.1 | false ↦ (h.0, rest) ]
 
-  pub lookup-above : (xs ys : List (K × X)) → AllAbove ys → lookup (is_at (cmp n)) (xs ++ ys) ≡ lookup (is_at (cmp n)) xs
-  lookup-above [] ys h = lookup-absent ys h
-  lookup-above (a ∷ xs) ys h = ap (λ l. cond (is_at (cmp n) a.0) (Some a.1) l) (lookup-above xs ys h)
+  pub lookup-before : (xs ys : List (K × X)) → AllApart ys → lookup (is_at (cmp n)) (xs ++ ys) ≡ lookup (is_at (cmp n)) xs
+  lookup-before [] ys h = lookup-apart ys h
+  lookup-before (a ∷ xs) ys h = ap (λ l. cond (is_at (cmp n) a.0) (Some a.1) l) (lookup-before xs ys h)
 
-  pub set-above : (xs ys : List (K × X)) (w : X) → AllAbove ys → set_value (is_at (cmp n)) (xs ++ ys) w ≡ set_value (is_at (cmp n)) xs w ++ ys
-  set-above [] ys w h = set-absent ys w h
-  set-above (a ∷ xs) ys w h =
-      let rest = set-above xs ys w h in
+  pub set-before : (xs ys : List (K × X)) (w : X) → AllApart ys → set_value (is_at (cmp n)) (xs ++ ys) w ≡ set_value (is_at (cmp n)) xs w ++ ys
+  set-before [] ys w h = set-apart ys w h
+  set-before (a ∷ xs) ys w h =
+      let rest = set-before xs ys w h in
       elim (is_at (cmp n) a.0) as (λ b. cond b ((a.0, w) ∷ xs ++ ys) (a ∷ set_value (is_at (cmp n)) (xs ++ ys) w) ≡ cond b ((a.0, w) ∷ xs) (a ∷ set_value (is_at (cmp n)) xs w) ++ ys) [ true ↦ refl | false ↦ ap (λ l. a ∷ l) rest ]
 
-  pub remove-above : (xs ys : List (K × X)) → AllAbove ys → remove_entry (is_at (cmp n)) (xs ++ ys) ≡ remove_entry (is_at (cmp n)) xs ++ ys
-  remove-above [] ys h = remove-absent ys h
-  remove-above (a ∷ xs) ys h =
-      let rest = remove-above xs ys h in
+  pub remove-before : (xs ys : List (K × X)) → AllApart ys → remove_entry (is_at (cmp n)) (xs ++ ys) ≡ remove_entry (is_at (cmp n)) xs ++ ys
+  remove-before [] ys h = remove-apart ys h
+  remove-before (a ∷ xs) ys h =
+      let rest = remove-before xs ys h in
       elim (is_at (cmp n) a.0) as (λ b. cond b (xs ++ ys) (a ∷ remove_entry (is_at (cmp n)) (xs ++ ys)) ≡ cond b xs (a ∷ remove_entry (is_at (cmp n)) xs) ++ ys) [ true ↦ refl | false ↦ ap (λ l. a ∷ l) rest ]
 
   pub insert-above : (xs ys : List (K × X)) (w : X) → AllAbove ys → insert_entry cmp (xs ++ ys) n w ≡ insert_entry cmp xs n w ++ ys
@@ -105,10 +113,10 @@ module _ {K L X : Type 0} {own : K → K → Ordering} {k : K} {cmp : L → L �
 
   pub StandsIn-above : (ys : List (L × X)) → AllAbove cmp n ys → StandsIn own k cmp n part (λ l. whole l ++ ys)
   StandsIn-above ys h = record {
-    found = s.found ∙ sym (lookup-above cmp n (whole part) ys h);
-    set = λ new w is. ap (λ l. l ++ ys) (s.set new w is) ∙ sym (set-above cmp n (whole part) ys w h);
+    found = s.found ∙ sym (lookup-before cmp n (whole part) ys (apart-above cmp n ys h));
+    set = λ new w is. ap (λ l. l ++ ys) (s.set new w is) ∙ sym (set-before cmp n (whole part) ys w (apart-above cmp n ys h));
     put = λ new w is. ap (λ l. l ++ ys) (s.put new w is) ∙ sym (insert-above cmp n (whole part) ys w h);
-    removed = λ new is. ap (λ l. l ++ ys) (s.removed new is) ∙ sym (remove-above cmp n (whole part) ys h);
+    removed = λ new is. ap (λ l. l ++ ys) (s.removed new is) ∙ sym (remove-before cmp n (whole part) ys (apart-above cmp n ys h));
   }
 
 -- a part is a whole of its own

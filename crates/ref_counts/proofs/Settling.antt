@@ -16,7 +16,6 @@ use Rattle.table_schema.specs.Fields.{HasRisingKeys}
 use Rattle.table_schema.specs.Key.{key_cmp}
 use Rattle.table_schema.specs.declared.key.Key.{Key}
 use Rattle.table_schema.proofs.Keys.{key_exact, key_total}
-use Rattle.table_schema.proofs.Restored.{set-put}
 use Rattle.ref_counts.specs.declared.pin.Pin.{Pin}
 use Rattle.ref_counts.specs.Kept.{AreReadable, HasKeptPlace, Kept, is_pinned, is_waiting, marked_in, settled, users_in}
 use Rattle.ref_counts.specs.Registered.{pins_but, pins_of, users_but}
@@ -291,12 +290,8 @@ settled_keep p ps (e ∷ es) h free =
     ] refl
 
 -- a user that comes to be pinned stays one
-users-keep_used : (es : Kept) (k : Key) (p : Pin) (ps : List Pin) → p.user ≡ k → HasRisingKeys key_cmp es → is_pinned ps k ≡ false → users_in (set_value (is_at (key_cmp k)) es true) (ps ++ p ∷ []) ≡ users_in es ps
+pub users-keep_used : (es : Kept) (k : Key) (p : Pin) (ps : List Pin) → p.user ≡ k → HasRisingKeys key_cmp es → is_pinned ps k ≡ false → users_in (set_value (is_at (key_cmp k)) es true) (ps ++ p ∷ []) ≡ users_in es ps
 users-keep_used es k p ps same h = subst (λ k. is_pinned ps k ≡ false → users_in (set_value (is_at (key_cmp k)) es true) (ps ++ p ∷ []) ≡ users_in es ps) same (λ free. users-push (set_value (is_at (key_cmp p.user)) es true) p ps ∙ ap marked_in (settled_keep p ps es h free))
-
--- the same, as a place that is put
-pub users-keep_put : (es : Kept) (k : Key) (x : Bool) (p : Pin) (ps : List Pin) → p.user ≡ k → HasRisingKeys key_cmp es → lookup (is_at (key_cmp k)) es ≡ Some x → is_pinned ps k ≡ false → users_in (insert_entry key_cmp es k true) (ps ++ p ∷ []) ≡ users_in es ps
-users-keep_put es k x p ps same h there free = ap (λ es. users_in es (ps ++ p ∷ [])) (sym (set-put key_cmp key_total es k true x h there)) ∙ users-keep_used es k p ps same h free
 
 -- a key that is pinned once more
 pub users-keep_pinned : (es : Kept) (k : Key) (p : Pin) (ps : List Pin) → p.user ≡ k → is_pinned ps k ≡ true → users_in es (ps ++ p ∷ []) ≡ users_in es ps

@@ -1,17 +1,28 @@
 -- Users beside places that are kept for keys that may come to be users.
-use Rattle.std.specs.Prelude.{◌≡◌, true, Bool, not, ◌||◌, List, [], ◌∷◌, Option, Some, None, false, if◌then◌else◌}
+use Rattle.std.specs.Prelude.{◌≡◌, ◌<◌, true, Bool, not, ◌||◌, List, [], ◌∷◌, ◌++◌, Option, Some, None, false, if◌then◌else◌}
 use Rattle.std.specs.BTreeMap.{is_at}
 use Rattle.std.specs.List.{AllByRecursion, list_any}
 use Rattle.std.specs.Map.{lookup}
 use Rattle.std.specs.Option.{is_some}
-use Rattle.table_schema.specs.Key.{key_cmp}
+use Rattle.swss_types.specs.declared.address.Prefix.{Prefix}
+use Rattle.table_schema.specs.Key.{key_cmp, table_place}
 use Rattle.table_schema.specs.declared.key.Key.{Key}
+use Rattle.table_schema.specs.declared.key.Key.TheVariants as key
 use Rattle.ref_counts.specs.declared.pin.Pin.{Pin}
+use Rattle.ref_counts.specs.Parted.{place_of_routes, renamed}
 use Rattle.ref_counts.specs.Registered.{IsReadable}
 
 -- keys, each with whether it is a user whatever pins there are: the others are users where no pin is for them
 abbrev pub Kept : Type 0
 Kept = List (Key × Bool)
+
+-- keys before those of the routes: all readable keys but those of the routes
+abbrev pub ComesBeforeRoutes : Key → Type 0
+ComesBeforeRoutes k = table_place k < place_of_routes
+
+-- keys before those of the routes, and then the routes
+abbrev pub with_routes : Kept → List (Prefix × Bool) → Kept
+with_routes rows routes = rows ++ renamed key.Route routes
 
 abbrev pub marked_in : Kept → List Key
 marked_in [] = []
@@ -37,13 +48,9 @@ is_waiting None = false
 abbrev pub HasKeptPlace : Kept → Key → Type 0
 HasKeptPlace kept user = is_some (lookup (is_at (key_cmp user)) kept) ≡ true
 
+-- the key of each pin has a place
 abbrev pub HavePlaces : Kept → List Pin → Type 0
 HavePlaces kept pins = AllByRecursion (λ p. HasKeptPlace kept p.user) pins
 
 abbrev pub AreReadable : Kept → Type 0
 AreReadable kept = AllByRecursion (λ e. IsReadable e.0) kept
-
--- the key of each pin has a place, and no place is for an unreadable key
-pub record IsKept (kept : Kept) (pins : List Pin) : Type 0 where
-  pub places : HavePlaces kept pins
-  pub readable : AreReadable kept

@@ -1,5 +1,5 @@
 // The users and the pins of one name, where there are any.
-ghost use Rattle.std.specs.Prelude.{◌≡◌, ◌∷◌, ◌++◌, [], ◌-◌, length, take, option_map, IfSome, OnOk, OnErr, if◌then◌else◌};
+ghost use Rattle.std.specs.Prelude.{◌≡◌, ◌∷◌, ◌++◌, [], ◌-◌, length, take, OnOk, OnErr, if◌then◌else◌};
 ghost use Rattle.std.specs.BTreeSet.{insert_key};
 ghost use Rattle.table_schema.specs.Key.{key_cmp};
 ghost use Rattle.ref_counts.specs.Claimed.{unclaimed};
@@ -34,9 +34,8 @@ impl BoxedClaims {
     }
 
     /// The least key that uses the name.
-    pub fn least_user(&self) -> Option<&Key>
-        ensures least { option_map (λ user. user.now) result ≡ first_of self.now.users }
-        ensures readable { IfSome result (λ user. IsReadable user.now) }
+    pub fn least_user(&self) -> Option<Key>
+        ensures { result ≡ first_of self.now.users }
     {
         match &self.boxed {
             Some(claims) => claims.least_user(),

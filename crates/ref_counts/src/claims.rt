@@ -1,5 +1,5 @@
 // The users and the pins of one name.
-ghost use Rattle.std.specs.Prelude.{◌≡◌, ◌∷◌, ◌++◌, [], ◌-◌, length, take, option_map, IfSome, OnOk, OnErr, if◌then◌else◌};
+ghost use Rattle.std.specs.Prelude.{◌≡◌, ◌∷◌, ◌++◌, [], ◌-◌, length, take, OnOk, OnErr, if◌then◌else◌};
 ghost use Rattle.std.specs.BTreeSet.{insert_key};
 ghost use Rattle.table_schema.specs.Key.{key_cmp};
 ghost use Rattle.ref_counts.specs.Claimed.{unclaimed};
@@ -7,10 +7,10 @@ ghost use Rattle.ref_counts.specs.Registered.{IsReadable, first_of, least_worker
 
 use crate::copied::copied;
 use crate::pin::Pin;
+use crate::places::Places;
 use crate::placing::{end_place_of, end_use_of, leave_places};
-use crate::users::{Places, keep_place, least_user, put_user};
+use crate::users::{keep_place, put_user};
 use std::alloc::Global;
-use std::collections::BTreeMap;
 use std::marker::Model;
 use swss_types::OutOfMemory;
 use table_schema::Key;
@@ -24,13 +24,13 @@ pub struct Claims {
 
 impl Model for Claims {
     ghost use Rattle.ref_counts.specs.Claimed.{Claimed};
-    ghost use Rattle.ref_counts.specs.Kept.{IsKept, users_in};
+    ghost use Rattle.ref_counts.specs.Kept.{HavePlaces, users_in};
 
     ghost Value = { Claimed };
 
-    ghost view = { λ c. record { users = users_in c.users.entries c.pins.items; pins = c.pins.items } };
+    ghost view = { λ c. record { users = users_in c.users c.pins.items; pins = c.pins.items } };
 
-    ghost invariant = { λ c. IsKept c.users.entries c.pins.items };
+    ghost invariant = { λ c. HavePlaces c.users c.pins.items };
 }
 
 impl Claims {
@@ -39,17 +39,16 @@ impl Claims {
         ensures { result ≡ unclaimed }
     {
         Claims {
-            users: BTreeMap::new(alloc),
+            users: Places::new(alloc),
             pins: Vec::new(alloc),
         }
     }
 
     /// The least key that uses the name.
-    pub fn least_user(&self) -> Option<&Key>
-        ensures least { option_map (λ user. user.now) result ≡ first_of self.now.users }
-        ensures readable { IfSome result (λ user. IsReadable user.now) }
+    pub fn least_user(&self) -> Option<Key>
+        ensures { result ≡ first_of self.now.users }
     {
-        least_user(&self.users, self.pins.as_slice())
+        self.users.least_user(self.pins.as_slice())
     }
 
     /// The least other worker that pins the name.

@@ -11,6 +11,7 @@ mod next;
 mod part;
 mod pin;
 mod pinning;
+mod places;
 mod placing;
 mod registration;
 mod registrations;

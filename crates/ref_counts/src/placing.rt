@@ -4,18 +4,18 @@ ghost use Rattle.std.specs.BTreeSet.{insert_key};
 ghost use Rattle.table_schema.specs.Key.{key_cmp};
 ghost use Rattle.table_schema.specs.declared.key.Key.{Key};
 ghost use Rattle.ref_counts.specs.declared.pin.Pin.{Pin};
-ghost use Rattle.ref_counts.specs.Kept.{AreReadable, HasKeptPlace, HavePlaces, is_pinned, users_in};
+ghost use Rattle.ref_counts.specs.Kept.{HasKeptPlace, HavePlaces, is_pinned, users_in};
 ghost use Rattle.ref_counts.specs.Registered.{pins_but, pins_of, users_but, with_users};
 
-use crate::pin::Pin;
-use crate::users::{Places, end_place, end_use, is_pinned_by_others, is_pinned_for, use_place};
+use crate::pin::{Pin, is_pinned_by_others, is_pinned_for};
+use crate::places::Places;
+use crate::users::{end_place, end_use, use_place};
 use table_schema::Key;
 
 /// Takes the place of a key away that was pinned, unless it is a user or one of the other pins is for it.
 pub fn end_place_of(users: &mut Places, pins: &[Pin], user: &Key)
-    ensures users { (p : Pin) → p.user ≡ user.now → users_in users.new.entries pins.now ≡ users_in users.old.entries (p ∷ pins.now) }
-    ensures places { HavePlaces users.old.entries pins.now → HavePlaces users.new.entries pins.now }
-    ensures readable { AreReadable users.old.entries → AreReadable users.new.entries }
+    ensures users { (p : Pin) → p.user ≡ user.now → users_in users.new pins.now ≡ users_in users.old (p ∷ pins.now) }
+    ensures places { HavePlaces users.old pins.now → HavePlaces users.new pins.now }
 {
     if !is_pinned_for(pins, user) {
         end_place(users, user);
@@ -24,9 +24,8 @@ pub fn end_place_of(users: &mut Places, pins: &[Pin], user: &Key)
 
 /// Makes a key no user: it keeps its place where a pin is for it.
 pub fn end_use_of(users: &mut Places, pins: &[Pin], user: &Key)
-    ensures users { users_in users.new.entries pins.now ≡ users_but user.now (users_in users.old.entries pins.now) }
-    ensures places { HavePlaces users.old.entries pins.now → HavePlaces users.new.entries pins.now }
-    ensures readable { AreReadable users.old.entries → AreReadable users.new.entries }
+    ensures users { users_in users.new pins.now ≡ users_but user.now (users_in users.old pins.now) }
+    ensures places { HavePlaces users.old pins.now → HavePlaces users.new pins.now }
 {
     let stays = is_pinned_for(pins, user);
     end_use(users, user, stays);
@@ -35,10 +34,9 @@ pub fn end_use_of(users: &mut Places, pins: &[Pin], user: &Key)
 /// The keys of a worker's pins become users once these pins go, or lose their places, but for users and keys of other
 /// workers' pins.
 pub fn leave_places(users: &mut Places, pins: &[Pin], worker: u32, used: bool)
-    requires { HavePlaces users.old.entries pins.now }
-    ensures users { users_in users.new.entries (pins_but worker pins.now) ≡ (if used then with_users (pins_of worker pins.now) (users_in users.old.entries pins.now) else users_in users.old.entries pins.now) }
-    ensures places { HavePlaces users.new.entries (pins_but worker pins.now) }
-    ensures readable { AreReadable users.old.entries → AreReadable users.new.entries }
+    requires { HavePlaces users.old pins.now }
+    ensures users { users_in users.new (pins_but worker pins.now) ≡ (if used then with_users (pins_of worker pins.now) (users_in users.old pins.now) else users_in users.old pins.now) }
+    ensures places { HavePlaces users.new (pins_but worker pins.now) }
 {
     if used {
         use_places(users, pins, pins, worker);
@@ -49,10 +47,9 @@ pub fn leave_places(users: &mut Places, pins: &[Pin], worker: u32, used: bool)
 
 /// The keys of a worker's pins, which are some of all pins, become users once these pins go.
 fn use_places(users: &mut Places, all: &[Pin], pins: &[Pin], worker: u32)
-    requires { HavePlaces users.old.entries pins.now }
-    ensures users { users_in users.new.entries (pins_but worker all.now) ≡ with_users (pins_of worker pins.now) (users_in users.old.entries (pins_of worker pins.now ++ pins_but worker all.now)) }
-    ensures others { (q : Key) → HasKeptPlace users.old.entries q → HasKeptPlace users.new.entries q }
-    ensures readable { AreReadable users.old.entries → AreReadable users.new.entries }
+    requires { HavePlaces users.old pins.now }
+    ensures users { users_in users.new (pins_but worker all.now) ≡ with_users (pins_of worker pins.now) (users_in users.old (pins_of worker pins.now ++ pins_but worker all.now)) }
+    ensures others { (q : Key) → HasKeptPlace users.old q → HasKeptPlace users.new q }
 {
     match pins {
         [] => {}
@@ -67,13 +64,12 @@ fn use_places(users: &mut Places, all: &[Pin], pins: &[Pin], worker: u32)
 
 /// The key of a worker's pin becomes a user once this pin goes, also where another pin is for it.
 fn use_place_beside(users: &mut Places, all: &[Pin], others: &[Pin], pin: &Pin, worker: u32)
-    requires { HasKeptPlace users.old.entries pin.now.user }
-    ensures users { users_in users.new.entries (pins_of worker others.now ++ pins_but worker all.now) ≡ insert_key key_cmp (users_in users.old.entries (pin.now ∷ pins_of worker others.now ++ pins_but worker all.now)) pin.now.user }
-    ensures others { (q : Key) → HasKeptPlace users.old.entries q → HasKeptPlace users.new.entries q }
-    ensures places { (ps : List Pin) → HavePlaces users.old.entries ps → HavePlaces users.new.entries ps }
-    ensures readable { AreReadable users.old.entries → AreReadable users.new.entries }
+    requires { HasKeptPlace users.old pin.now.user }
+    ensures users { users_in users.new (pins_of worker others.now ++ pins_but worker all.now) ≡ insert_key key_cmp (users_in users.old (pin.now ∷ pins_of worker others.now ++ pins_but worker all.now)) pin.now.user }
+    ensures others { (q : Key) → HasKeptPlace users.old q → HasKeptPlace users.new q }
+    ensures places { (ps : List Pin) → HavePlaces users.old ps → HavePlaces users.new ps }
 {
-    let _count = users.len();
+    users.rise();
     if is_pinned_beside(all, others, worker, &pin.user) {
         use_place(users, &pin.user);
     }
@@ -89,10 +85,9 @@ fn is_pinned_beside(all: &[Pin], others: &[Pin], worker: u32, user: &Key) -> boo
 /// The keys of a worker's pins, which are some of all pins, lose their places, but for users and keys of other workers'
 /// pins.
 fn end_places(users: &mut Places, all: &[Pin], pins: &[Pin], worker: u32)
-    requires { HavePlaces users.old.entries (pins_but worker all.now) }
-    ensures users { users_in users.new.entries (pins_but worker all.now) ≡ users_in users.old.entries (pins_of worker pins.now ++ pins_but worker all.now) }
-    ensures places { HavePlaces users.new.entries (pins_but worker all.now) }
-    ensures readable { AreReadable users.old.entries → AreReadable users.new.entries }
+    requires { HavePlaces users.old (pins_but worker all.now) }
+    ensures users { users_in users.new (pins_but worker all.now) ≡ users_in users.old (pins_of worker pins.now ++ pins_but worker all.now) }
+    ensures places { HavePlaces users.new (pins_but worker all.now) }
 {
     match pins {
         [] => {}
@@ -107,10 +102,9 @@ fn end_places(users: &mut Places, all: &[Pin], pins: &[Pin], worker: u32)
 
 /// The key of a worker's pin loses its place, where it is no user and no key of other workers' pins.
 fn end_place_beside(users: &mut Places, all: &[Pin], pin: &Pin, worker: u32)
-    requires { HavePlaces users.old.entries (pins_but worker all.now) }
-    ensures users { (ps : List Pin) → users_in users.new.entries (ps ++ pins_but worker all.now) ≡ users_in users.old.entries (pin.now ∷ ps ++ pins_but worker all.now) }
-    ensures places { HavePlaces users.new.entries (pins_but worker all.now) }
-    ensures readable { AreReadable users.old.entries → AreReadable users.new.entries }
+    requires { HavePlaces users.old (pins_but worker all.now) }
+    ensures users { (ps : List Pin) → users_in users.new (ps ++ pins_but worker all.now) ≡ users_in users.old (pin.now ∷ ps ++ pins_but worker all.now) }
+    ensures places { HavePlaces users.new (pins_but worker all.now) }
 {
     if !is_pinned_by_others(all, worker, &pin.user) {
         end_place(users, &pin.user);

@@ -1,11 +1,10 @@
 // What is known of one name.
-ghost use Rattle.std.specs.Prelude.{◌≡◌, ◌≤◌, ◌↔◌, None, Some, length, option_map, IfOk, IfErr, OnOk, OnErr, IsTrue};
+ghost use Rattle.std.specs.Prelude.{◌≡◌, ◌≤◌, ◌↔◌, None, Some, length, IfOk, IfErr, OnOk, OnErr, IsTrue};
 ghost use Rattle.ref_counts.specs.Registry.{ids_by};
 ghost use Rattle.ref_counts.specs.Registered.{IsReadable, begun, finished_by, first_of, begun_to_go, made_live, released, retire_refusal, with_pin, with_user, without_last_pin, without_user};
 
 use crate::NameState;
 use crate::boxed_claims::BoxedClaims;
-use crate::copied::copied;
 use sai_types::Vid;
 use std::alloc::Global;
 use std::marker::Model;
@@ -64,8 +63,8 @@ impl Registration {
     }
 
     /// The least key that uses it.
-    pub fn least_user(&self) -> Option<&Key>
-        ensures { option_map (λ user. user.now) result ≡ first_of self.now.users }
+    pub fn least_user(&self) -> Option<Key>
+        ensures { result ≡ first_of self.now.users }
     {
         self.claims.least_user()
     }
@@ -153,7 +152,7 @@ impl Registration {
         ensures err { OnErr result (self.new ≡ self.old) }
     {
         if let Some(user) = self.claims.least_user() {
-            return Err(Wait::Held(copied(user)));
+            return Err(Wait::Held(user));
         }
         if let Some(other) = self.claims.least_other(worker) {
             return Err(Wait::Busy(other));

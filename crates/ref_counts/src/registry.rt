@@ -219,8 +219,8 @@ impl Registry {
     }
 
     /// The least key that uses a name: None exactly where no key uses it.
-    pub fn least_user(&self, name: &Name) -> Option<&Key>
-        ensures { option_map (λ user. user.now) result ≡ first_of (users_of self.now name.now) }
+    pub fn least_user(&self, name: &Name) -> Option<Key>
+        ensures { result ≡ first_of (users_of self.now name.now) }
     {
         self.names.get(name)?.least_user()
     }

@@ -10,9 +10,9 @@ use Rattle.ref_counts.proofs.placing.end_place_beside.Goals as goal
 pub returns-then-not-is_pinned_by_others-clause-places : goal.returns-then-not-is_pinned_by_others-clause-places
 returns-then-not-is_pinned_by_others-clause-places c =
     let none : list_any (λ p. not (p.worker == c.args.worker) && is_at (key_cmp c.args.pin.now.user) p.user) c.args.all.now ≡ false = search rules in
-    places-others c.args.pin.now.user c.args.users.now.entries c.end_place.new.places.entries c.end_place.ensures.others (pins_but c.args.worker c.args.all.now) (none-but c.args.pin.now.user c.args.worker c.args.all.now none) c.requires
+    places-others c.args.pin.now.user c.args.users.now c.end_place.new.places c.end_place.ensures.others (pins_but c.args.worker c.args.all.now) (none-but c.args.pin.now.user c.args.worker c.args.all.now none) c.requires
 
 pub returns-else-not-is_pinned_by_others-clause-users : goal.returns-else-not-is_pinned_by_others-clause-users
 returns-else-not-is_pinned_by_others-clause-users c =
     let some : list_any (λ p. not (p.worker == c.args.worker) && is_at (key_cmp c.args.pin.now.user) p.user) c.args.all.now ≡ true = search rules in
-    λ ps. users-others c.args.users.now.entries c.args.worker c.args.pin.now ps c.args.all.now some
+    λ ps. users-others c.args.users.now c.args.worker c.args.pin.now ps c.args.all.now some

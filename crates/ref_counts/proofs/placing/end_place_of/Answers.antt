@@ -10,9 +10,9 @@ use Rattle.ref_counts.proofs.placing.end_place_of.Goals as goal
 pub returns-then-not-is_pinned_for-clause-places : goal.returns-then-not-is_pinned_for-clause-places
 returns-then-not-is_pinned_for-clause-places c =
     let none : list_any (λ p. is_at (key_cmp c.args.user.now) p.user) c.args.pins.now ≡ false = search rules in
-    λ h. places-others c.args.user.now c.args.users.now.entries c.end_place.new.places.entries c.end_place.ensures.others c.args.pins.now none h
+    λ h. places-others c.args.user.now c.args.users.now c.end_place.new.places c.end_place.ensures.others c.args.pins.now none h
 
 pub returns-else-not-is_pinned_for-clause-users : goal.returns-else-not-is_pinned_for-clause-users
 returns-else-not-is_pinned_for-clause-users c =
     let is : is_pinned c.args.pins.now c.args.user.now ≡ true = search rules in
-    λ p same. users-pinned_at c.args.users.now.entries c.args.user.now p c.args.pins.now same is
+    λ p same. users-pinned_at c.args.users.now c.args.user.now p c.args.pins.now same is

@@ -6,18 +6,18 @@ use Rattle.ref_counts.proofs.Settling.{users-parted}
 use Rattle.ref_counts.proofs.placing.leave_places.Goals as goal
 
 pub returns-then-used-clause-places : goal.returns-then-used-clause-places
-returns-then-used-clause-places c = places-but c.use_places.new.users.entries c.args.worker c.args.pins.now (places-kept c.args.users.now.entries c.use_places.new.users.entries c.use_places.ensures.others c.args.pins.now c.requires)
+returns-then-used-clause-places c = places-but c.use_places.new.users c.args.worker c.args.pins.now (places-kept c.args.users.now c.use_places.new.users c.use_places.ensures.others c.args.pins.now c.requires)
 
 pub end_places-requires : goal.end_places-requires
-end_places-requires c = places-but c.args.users.now.entries c.args.worker c.args.pins.now c.requires
+end_places-requires c = places-but c.args.users.now c.args.worker c.args.pins.now c.requires
 
 pub returns-then-used-clause-users : goal.returns-then-used-clause-users
 returns-then-used-clause-users c =
-    let parted = users-parted c.args.worker c.args.users.now.entries c.args.pins.now in
-    let users : users_in c.use_places.new.users.entries (pins_but c.args.worker c.args.pins.now) ≡ with_users (pins_of c.args.worker c.args.pins.now) (users_in c.args.users.now.entries c.args.pins.now) = c.use_places.ensures.users ∙ ap (with_users (pins_of c.args.worker c.args.pins.now)) parted in
+    let parted = users-parted c.args.worker c.args.users.now c.args.pins.now in
+    let users : users_in c.use_places.new.users (pins_but c.args.worker c.args.pins.now) ≡ with_users (pins_of c.args.worker c.args.pins.now) (users_in c.args.users.now c.args.pins.now) = c.use_places.ensures.users ∙ ap (with_users (pins_of c.args.worker c.args.pins.now)) parted in
     search rules
 
 pub returns-clause-users : goal.returns-clause-users
 returns-clause-users c =
-    let users : users_in c.end_places.new.users.entries (pins_but c.args.worker c.args.pins.now) ≡ users_in c.args.users.now.entries c.args.pins.now = c.end_places.ensures.users ∙ users-parted c.args.worker c.args.users.now.entries c.args.pins.now in
+    let users : users_in c.end_places.new.users (pins_but c.args.worker c.args.pins.now) ≡ users_in c.args.users.now c.args.pins.now = c.end_places.ensures.users ∙ users-parted c.args.worker c.args.users.now c.args.pins.now in
     search rules

@@ -1,44 +1,40 @@
-use Rattle.std.proofs.Common.{◌≡◌, Some, true, false, rules}
-use Rattle.std.specs.BTreeMap.{is_at}
+use Rattle.std.proofs.Common.{◌≡◌, ◌∷◌, ◌++◌, [], None, true, false, rules, ap, ◌∙◌}
+use Rattle.std.specs.BTreeMap.{insert_entry, is_at}
 use Rattle.std.specs.Map.{lookup}
 use Rattle.table_schema.specs.Key.{key_cmp}
-use Rattle.table_schema.proofs.Places.{HasRisingKeys-from_sorted}
-use Rattle.ref_counts.specs.Kept.{is_pinned}
-use Rattle.ref_counts.proofs.Keeping.{place-put, readable-put}
-use Rattle.ref_counts.proofs.Settling.{users-keep, users-keep_pinned, users-keep_put}
+use Rattle.ref_counts.specs.Kept.{HasKeptPlace, is_pinned, users_in}
+use Rattle.ref_counts.proofs.Keeping.{place-own, place-put, place-set}
+use Rattle.ref_counts.proofs.Settling.{users-keep, users-keep_pinned, users-keep_used}
 use Rattle.ref_counts.proofs.users.keep_place.Goals as goal
 
 pub returns-then-not-is_pinned_for-clause-users : goal.returns-then-not-is_pinned_for-clause-users
 returns-then-not-is_pinned_for-clause-users c =
     let free : is_pinned c.args.pins.now c.args.user.now ≡ false = search rules in
-    let there : lookup (is_at (key_cmp c.args.user.now)) c.args.places.now.entries ≡ Some c.into_mut.result.now = search rules in
-    λ p same. let kept = users-keep_put c.args.places.now.entries c.args.user.now c.into_mut.result.now p c.args.pins.now same (HasRisingKeys-from_sorted key_cmp c.args.places.now.entries c.len-count.ensures.ordered) there free in search rules
+    λ p same. ap (λ es. users_in es (c.args.pins.now ++ p ∷ [])) c.set.ensures ∙ users-keep_used c.args.places.now c.args.user.now p c.args.pins.now same c.rise.ensures free
+
+pub returns-then-not-is_pinned_for-clause-placed : goal.returns-then-not-is_pinned_for-clause-placed
+returns-then-not-is_pinned_for-clause-placed c =
+    let has : HasKeptPlace c.args.places.now c.args.user.now = search rules in
+    rw c.set.ensures (place-set (is_at (key_cmp c.args.user.now)) c.args.places.now true c.args.user.now has)
 
 pub returns-then-not-is_pinned_for-clause-others : goal.returns-then-not-is_pinned_for-clause-others
-returns-then-not-is_pinned_for-clause-others c =
-    let set = place-put c.args.places.now.entries c.args.user.now true in
-    search rules
-
-pub returns-then-not-is_pinned_for-clause-readable : goal.returns-then-not-is_pinned_for-clause-readable
-returns-then-not-is_pinned_for-clause-readable c =
-    let set = readable-put c.args.places.now.entries c.args.user.now true c.requires in
-    search rules
+returns-then-not-is_pinned_for-clause-others c = λ q h. rw c.set.ensures (place-set (is_at (key_cmp c.args.user.now)) c.args.places.now true q h)
 
 pub returns-else-not-is_pinned_for-clause-users : goal.returns-else-not-is_pinned_for-clause-users
 returns-else-not-is_pinned_for-clause-users c =
     let is : is_pinned c.args.pins.now c.args.user.now ≡ true = search rules in
-    λ p same. let kept = users-keep_pinned c.args.places.now.entries c.args.user.now p c.args.pins.now same is in search rules
+    λ p same. users-keep_pinned c.args.places.now c.args.user.now p c.args.pins.now same is
 
-pub returns-in-Vacant-clause-users : goal.returns-in-Vacant-clause-users
-returns-in-Vacant-clause-users c =
-    λ p same. let put = users-keep c.args.places.now.entries c.args.user.now p c.args.pins.now same (search rules) in search rules
+pub returns-in_ok-put-in-None-clause-users : goal.returns-in_ok-put-in-None-clause-users
+returns-in_ok-put-in-None-clause-users c =
+    let put : c.put.new.self ≡ insert_entry key_cmp c.args.places.now c.args.user.now false = rw (← c.copied.ensures) c.in_ok-put-in-None.ensures.ok in
+    let none : lookup (is_at (key_cmp c.args.user.now)) c.args.places.now ≡ None = search rules in
+    λ p same. ap (λ es. users_in es (c.args.pins.now ++ p ∷ [])) put ∙ users-keep c.args.places.now c.args.user.now p c.args.pins.now same none
 
-pub returns-in-Vacant-clause-others : goal.returns-in-Vacant-clause-others
-returns-in-Vacant-clause-others c =
-    let put = place-put c.args.places.now.entries c.args.user.now false in
-    search rules
+pub returns-in_ok-put-in-None-clause-placed : goal.returns-in_ok-put-in-None-clause-placed
+returns-in_ok-put-in-None-clause-placed c =
+    let put : c.put.new.self ≡ insert_entry key_cmp c.args.places.now c.args.user.now false = rw (← c.copied.ensures) c.in_ok-put-in-None.ensures.ok in
+    rw put (place-own c.args.places.now c.args.user.now false)
 
-pub returns-in-Vacant-clause-readable : goal.returns-in-Vacant-clause-readable
-returns-in-Vacant-clause-readable c =
-    let put = readable-put c.args.places.now.entries c.args.user.now false c.requires in
-    search rules
+pub returns-in_ok-put-in-None-clause-others : goal.returns-in_ok-put-in-None-clause-others
+returns-in_ok-put-in-None-clause-others c = λ q h. rw c.in_ok-put-in-None.ensures.ok (place-put c.args.places.now c.copied.result false q h)

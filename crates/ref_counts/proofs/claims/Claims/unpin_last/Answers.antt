@@ -7,5 +7,5 @@ pub returns-in-Some : goal.returns-in-Some
 returns-in-Some c =
     let pushed : c.self.inside.pins.items ≡ c.pop.new.self.items ++ c.in-Some.pin ∷ [] = search rules in
     let ended = rw c.as_slice.ensures.value at c.end_place_of.ensures.users in
-    let users : users_in c.end_place_of.new.users.entries c.pop.new.self.items ≡ users_in c.self.inside.users.entries c.self.inside.pins.items = rw pushed (ended c.in-Some.pin refl ∙ sym (users-push c.self.inside.users.entries c.in-Some.pin c.pop.new.self.items)) in
+    let users : users_in c.end_place_of.new.users c.pop.new.self.items ≡ users_in c.self.inside.users c.self.inside.pins.items = rw pushed (ended c.in-Some.pin refl ∙ sym (users-push c.self.inside.users c.in-Some.pin c.pop.new.self.items)) in
     search rules
