@@ -1,5 +1,5 @@
 -- natural keys that compare equal are equal
-use Rattle.std.proofs.Common.{[], ◌∷◌, ap, ap₂, ◌∙◌}
+use Rattle.std.proofs.Common.{ap, ap₂, ◌∙◌}
 use Rattle.std.specs.Ordering.{is_eq}
 use Rattle.std.proofs.lemmas.Map.Lookups.{CmpEqualImpliesEq, exact_bytes, exact_unsigned}
 use Rattle.sai_types.specs.contracts.hop.BaseOrd.TheImpl as base_ord

@@ -1,7 +1,8 @@
 pub mod Best
+mod Entries
 mod Exact
 pub mod Free
-mod Near
 mod Orders
 pub mod Paired
-mod Put
+mod Rising
+pub mod Shuffled

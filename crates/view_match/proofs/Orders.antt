@@ -1,5 +1,5 @@
 -- the order of natural keys is that of things by kind and natural key
-use Rattle.std.proofs.Common.{◌≡◌, [], ap₂, refl}
+use Rattle.std.proofs.Common.{◌≡◌, ap₂, refl}
 use Rattle.std.specs.Ordering.{ordering_then}
 use Rattle.sai_types.specs.declared.thing.Thing.{Thing}
 use Rattle.sai_types.specs.declared.thing.Thing.TheVariants as thing

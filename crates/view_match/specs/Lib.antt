@@ -1,3 +1,4 @@
+pub mod Indexed
 pub mod Keyed
 pub mod Keys
 pub mod Listed

@@ -1,15 +1,10 @@
 -- Old objects that stand at the place where they are looked for first. Own.
-use Rattle.std.specs.Prelude.{◌≡◌, ℕ, ◌<◌, List, slice_get, Option, None, Some, option_map}
+use Rattle.std.specs.Prelude.{◌≡◌, ℕ, ◌<◌, List, slice_get, Option, Some, option_map}
 use Rattle.std.specs.BTreeMap.{is_at}
 use Rattle.std.specs.Map.{lookup}
 use Rattle.view_match.specs.declared.indexed.Partner.{Partner}
 use Rattle.view_match.specs.declared.key.NaturalKey.{NaturalKey}
 use Rattle.view_match.specs.Keys.{natural_key_cmp}
-
--- no object stands under the key
-abbrev pub IsFresh : Option NaturalKey → List (NaturalKey × Partner) → Type 0
-IsFresh None index = Unit {0}
-IsFresh (Some k) index = lookup (is_at (natural_key_cmp k)) index ≡ None
 
 -- each object before this place stands under its key
 abbrev pub AreFound : List (Option NaturalKey) → List (NaturalKey × Partner) → ℕ → Type 0

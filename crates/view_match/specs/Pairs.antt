@@ -1,7 +1,9 @@
 -- Which old object is which new one. Own.
-use Rattle.std.specs.Prelude.{◌≡◌, ℕ, ◌+◌, Bool, true, nat_lt, List, [], ◌∷◌, Option, None, Some, option_map, if◌then◌else◌}
+use Rattle.std.specs.Prelude.{◌≡◌, ℕ, ◌+◌, Bool, true, false, nat_lt, List, [], ◌∷◌, Option, None, Some, option_map, if◌then◌else◌}
 use Rattle.std.specs.BTreeMap.{is_at}
+use Rattle.std.specs.List.{AllByRecursion}
 use Rattle.std.specs.Map.{lookup}
+use Rattle.std.specs.Ordering.{is_lt}
 use Rattle.sai_types.specs.declared.ids.Rid.{Rid}
 use Rattle.sai_types.specs.declared.ids.Vid.{Vid}
 use Rattle.sai_types.specs.declared.body.Body.{Body}
@@ -37,10 +39,6 @@ abbrev pub with_object : Option Partner → Option NaturalKey → Partner → Na
 with_object found None p k = found
 with_object found (Some key) p k = if is_at (natural_key_cmp key) k then (if replaces found p then Some p else found) else found
 
--- the partner of a key k, after what was found at a key is put back there, unless the object takes its place
-abbrev pub with_back : Option Partner → NaturalKey → Partner → Partner → NaturalKey → Option Partner
-with_back now key found p k = if replaces (Some found) p then now else (if is_at (natural_key_cmp key) k then Some found else now)
-
 -- the partner of a key so far, and the objects from this place on, with their keys
 abbrev pub best_from : Option Partner → List (Option NaturalKey) → Objects → NaturalKey → ℕ → Option Partner
 best_from found (key ∷ keys) (o ∷ os) k place = best_from (with_object found key (record { group = group_number o; place = place }) k) keys os k (place + 1)
@@ -51,8 +49,14 @@ abbrev pub partner_of : Objects → Option NaturalKey → Option ℕ
 partner_of objects None = None
 partner_of objects (Some k) = option_map (λ p. p.place) (best_from None (keys_of_objects objects) objects k 0)
 
--- a map from natural keys to the objects of them
+-- no entry has a lesser key than one before it
+abbrev pub AreRising : List (NaturalKey × Partner) → Type 0
+AreRising [] = Unit {0}
+AreRising (e ∷ es) = AllByRecursion (λ y. is_lt (natural_key_cmp y.0 e.0) ≡ false) es × AreRising es
+
+-- a list of objects by rising natural keys, of which the first one of a key is the object of it
 pub record IsIndex (objects : Objects) (index : List (NaturalKey × Partner)) : Type 0 where
+  pub rising : AreRising index
   pub each : (k : NaturalKey) → lookup (is_at (natural_key_cmp k)) index ≡ best_from None (keys_of_objects objects) objects k 0
 
 abbrev pub with_pair_at : Option ℕ → ℕ → List (ℕ × ℕ) → List (ℕ × ℕ)

@@ -56,25 +56,6 @@ impl NaturalKey {
             Thing::Route(prefix, _goal) => NaturalKey::Route(prefix),
         }
     }
-
-    /// The same key once more.
-    pub(crate) fn copy(&self) -> Result<NaturalKey, OutOfMemory>
-        ensures { IfOk result (λ key. key ≡ self.now) }
-    {
-        Ok(match self {
-            NaturalKey::Port(lanes) => NaturalKey::Port(lanes.copy()?),
-            NaturalKey::Vlan(vlan) => NaturalKey::Vlan(*vlan),
-            NaturalKey::BridgePort(lane) => NaturalKey::BridgePort(*lane),
-            NaturalKey::VlanMember(vlan, lane) => NaturalKey::VlanMember(*vlan, *lane),
-            NaturalKey::Rif(on) => NaturalKey::Rif(*on),
-            NaturalKey::Own(ip) => NaturalKey::Own(*ip),
-            NaturalKey::Neighbor(hop) => NaturalKey::Neighbor(*hop),
-            NaturalKey::NextHop(hop) => NaturalKey::NextHop(*hop),
-            NaturalKey::Group(hops) => NaturalKey::Group(hops.copy()?),
-            NaturalKey::GroupMember(hops, hop) => NaturalKey::GroupMember(hops.copy()?, *hop),
-            NaturalKey::Route(prefix) => NaturalKey::Route(*prefix),
-        })
-    }
 }
 
 /// The natural key of each object, in their order: None where a reference is absent. A group is named by the hops of its

@@ -1,13 +1,18 @@
 // The pairing of old objects and new ones.
-ghost use Rattle.std.specs.Prelude.{◌≡◌, length, true, Some, option_copied, IfOk};
+ghost use Rattle.std.specs.Prelude.{◌≡◌, length, true, Some, option_copied, option_map, IfOk};
+ghost use Rattle.std.specs.BTreeMap.{is_at};
+ghost use Rattle.std.specs.Map.{lookup};
+ghost use Rattle.std.specs.Ordering.{is_lt};
 ghost use Rattle.sai_types.specs.Named.{those};
 ghost use Rattle.sai_types.specs.Objects.{Objects};
 ghost use Rattle.chip_layout.specs.Counted.{AreDistinct};
 ghost use Rattle.view_match.specs.Keyed.{AreNaturalKeysOf};
+ghost use Rattle.view_match.specs.Indexed.{entries_in, entry_in, partner_if};
+ghost use Rattle.view_match.specs.Keys.{natural_key_cmp};
 ghost use Rattle.view_match.specs.Near.{AreFound, IsKey};
-ghost use Rattle.view_match.specs.Pairs.{IsIndex, new_keys, pairs_from, pairs_of, partner_of};
+ghost use Rattle.view_match.specs.Pairs.{AreRising, IsIndex, new_keys, pairs_from, pairs_of, partner_of};
 
-use crate::indexed::{Index, Indexed, index};
+use crate::indexed::{Index, Indexed, Partner, index};
 use crate::key::NaturalKey;
 use crate::keyed::{NaturalKeys, natural_keys_of};
 use sai_types::{Object, Pairing, Rid, Vid};
@@ -48,14 +53,14 @@ pub fn pair_by(
 /// The pairs of new objects with these keys.
 fn pair_keys(
     alloc: Global,
-    indexed: &Indexed,
+    indexed: &Indexed<'_>,
     old_keys: &[Option<NaturalKey>],
     keys: &[Option<NaturalKey>],
 ) -> Result<Pairing, OutOfMemory>
-    requires indexed { (objects : Objects) × IsIndex objects indexed.now.index.entries }
-    requires found { indexed.now.apart ≡ true → AreFound old_keys.now indexed.now.index.entries (length old_keys.now) }
+    requires indexed { (objects : Objects) × IsIndex objects (entries_in indexed.now.index.items) }
+    requires found { indexed.now.apart ≡ true → AreFound old_keys.now (entries_in indexed.now.index.items) (length old_keys.now) }
     requires distinct { AreDistinct (those keys.now) }
-    ensures { IfOk result (λ pairing. (objects : Objects) → IsIndex objects indexed.now.index.entries → pairing ≡ pairs_from objects keys.now 0) }
+    ensures { IfOk result (λ pairing. (objects : Objects) → IsIndex objects (entries_in indexed.now.index.items) → pairing ≡ pairs_from objects keys.now 0) }
 {
     let mut pairing = Pairing::new(alloc);
     let mut place = 0;
@@ -73,13 +78,13 @@ fn pair_keys(
 /// The place of the old object of a key: looked for first at the place that follows that of the last one found, since
 /// new objects mostly come in the order of the old ones.
 fn partner_near(
-    indexed: &Indexed,
+    indexed: &Indexed<'_>,
     old_keys: &[Option<NaturalKey>],
     near: u64,
     key: &Option<NaturalKey>,
 ) -> Option<u64>
-    requires found { indexed.now.apart ≡ true → AreFound old_keys.now indexed.now.index.entries (length old_keys.now) }
-    ensures { (objects : Objects) → IsIndex objects indexed.now.index.entries → result ≡ partner_of objects key.now }
+    requires found { indexed.now.apart ≡ true → AreFound old_keys.now (entries_in indexed.now.index.items) (length old_keys.now) }
+    ensures { (objects : Objects) → IsIndex objects (entries_in indexed.now.index.items) → result ≡ partner_of objects key.now }
 {
     if indexed.apart && is_key(old_keys.get(near as usize), key) {
         return Some(near);
@@ -115,14 +120,40 @@ fn is_same(old: &NaturalKey, key: &NaturalKey) -> bool
 }
 
 /// The place of the old object of a key.
-fn partner_of(index: &Index, key: &Option<NaturalKey>) -> Option<u64>
-    ensures { (objects : Objects) → IsIndex objects index.now.entries → result ≡ partner_of objects key.now }
+fn partner_of(index: &Index<'_>, key: &Option<NaturalKey>) -> Option<u64>
+    ensures { (objects : Objects) → IsIndex objects (entries_in index.now.items) → result ≡ partner_of objects key.now }
 {
     match key {
-        Some(key) => match index.get(key) {
-            Some(partner) => Some(partner.place),
-            None => None,
-        },
+        Some(key) => place_of(index.as_slice(), key),
         None => None,
+    }
+}
+
+/// The place of the first object of a key.
+fn place_of(index: &[(&NaturalKey, Partner)], key: &NaturalKey) -> Option<u64>
+    ensures { AreRising (entries_in index.now) → result ≡ option_map (λ p. p.place) (lookup (is_at (natural_key_cmp key.now)) (entries_in index.now)) }
+{
+    let at = index.partition_point(|one| is_before(one, key));
+    match index.get(at) {
+        Some(one) => place_if(one, key),
+        None => None,
+    }
+}
+
+/// Whether an object's key is less than this one.
+fn is_before(one: &(&NaturalKey, Partner), key: &NaturalKey) -> bool
+    ensures { result ≡ is_lt (natural_key_cmp (entry_in one.now).0 key.now) }
+{
+    one.0 < key
+}
+
+/// The place of an object, where it has this key.
+fn place_if(one: &(&NaturalKey, Partner), key: &NaturalKey) -> Option<u64>
+    ensures { result ≡ option_map (λ p. p.place) (partner_if (entry_in one.now) key.now) }
+{
+    if key == one.0 {
+        Some(one.1.place)
+    } else {
+        None
     }
 }
