@@ -1,3 +1,4 @@
 pub mod OpWrites
 pub mod SyncedRows
 pub mod Behind
+mod KeySets

@@ -1,10 +1,14 @@
 // The operations by key.
-ghost use Rattle.std.specs.Prelude.{◌≡◌, ◌<◌, ◌^◌, [], length, Some, option_map, is_some, IfOk, OnOk, OnErr};
+ghost use Rattle.std.specs.Prelude.{◌≡◌, ◌<◌, ◌^◌, [], length, Some, None, option_map, is_some, if◌then◌else◌, IfOk, OnOk, OnErr};
 ghost use Rattle.std.specs.List.Sorted.{IsStrictlySortedBy};
 ghost use Rattle.std.specs.Map.{keys_of};
+ghost use Rattle.std.specs.Ordering.{eq_by_cmp};
+ghost use Rattle.std.specs.Set.{is_member};
 ghost use Rattle.table_schema.specs.Key.{key_cmp};
+ghost use Rattle.table_schema.specs.declared.key.Key.{Key};
 ghost use Rattle.table_schema.specs.declared.write.Write.TheVariants as write;
 ghost use Rattle.consumer_table.specs.Ops.{AreOpsInOrder, first_in, keys_behind, op_at, op_with_set, ops_after, ops_with, without_op};
+ghost use Rattle.consumer_table.specs.declared.op.Op.TheVariants as op;
 
 use crate::Op;
 use producer_table::KeyOp;
@@ -108,11 +112,17 @@ impl ToSync {
         }
     }
 
-    /// No key, beside what is held.
-    pub fn none(&self) -> ToSync
-        ensures { result ≡ [] }
+    /// A Set of no field for each of these keys, on the list's allocator.
+    pub fn of_keys(keys: Vec<Key>) -> Result<ToSync, OutOfMemory>
+        ensures ops { IfOk result (λ to_sync. (key : Key) → op_at to_sync key ≡ (if is_member (eq_by_cmp key_cmp) keys.items key then Some (op.Set []) else None)) }
+        ensures order { IfOk result (λ to_sync. AreOpsInOrder to_sync) }
     {
-        ToSync::new(self.alloc)
+        let alloc = *keys.allocator();
+        let ops = keys
+            .into_iter()
+            .map(|key| (key, Op::Set(Fields::new(alloc))))
+            .collect(alloc)?;
+        Ok(ToSync { ops, alloc })
     }
 
     /// Takes all keys off.
@@ -120,18 +130,6 @@ impl ToSync {
         ensures { self.new ≡ [] }
     {
         *self = ToSync::new(self.alloc);
-    }
-
-    /// Adds a Set of no field: it makes a key one to sync, leaves a Set or a Replace as it is, and turns a Del into a Replace.
-    pub fn add_key(&mut self, key: Key) -> Result<(), OutOfMemory>
-        ensures ok { OnOk result (self.new ≡ ops_after self.old (write.Set key [])) }
-        ensures err { OnErr result (self.new ≡ self.old) }
-    {
-        self.add(KeyOp {
-            key,
-            dropped: false,
-            fields: Some(Fields::new(self.alloc)),
-        })
     }
 
     /// Adds what was popped of a key: with a deletion mark a DEL, which takes the place of the operation that is there, and

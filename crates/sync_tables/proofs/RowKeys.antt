@@ -1,38 +1,26 @@
 -- that the keys with rows come to be those to sync
-use Rattle.std.proofs.Common.{◌≡◌, ◌↔◌, inr, Bool, true, false, ◌||◌, cond, [], ◌∷◌, Option, Some, is_some, IsSome, refl, sym, ap, ◌∙◌}
+use Rattle.std.proofs.Common.{◌≡◌, ◌↔◌, Bool, true, false, List, [], Some, None, is_some, IsSome, if◌then◌else◌, refl, sym, ap, ◌∙◌}
 use Rattle.std.specs.BTreeMap.{is_at}
 use Rattle.std.specs.Map.{keys_of}
+use Rattle.std.specs.Ordering.{eq_by_cmp}
+use Rattle.std.specs.Set.{is_member}
+use Rattle.std.proofs.lemmas.Map.Made.{is_some-lookup}
 use Rattle.sai_types.specs.Alike.{IsIn}
-use Rattle.table_schema.specs.Fields.{Pairs}
 use Rattle.table_schema.specs.Key.{key_cmp}
 use Rattle.table_schema.specs.Rows.{Rows, fields_at}
 use Rattle.table_schema.specs.declared.key.Key.{Key}
-use Rattle.table_schema.specs.declared.write.Write.TheVariants.{Set}
-use Rattle.consumer_table.specs.Ops.{Ops, op_at, ops_after}
-use Rattle.sync_tables.proofs.Membership.{found-in, found-with, in-found}
+use Rattle.consumer_table.specs.Ops.{Ops, op_at}
+use Rattle.consumer_table.specs.declared.op.Op.{Op}
+use Rattle.consumer_table.specs.declared.op.Op.TheVariants as op
+use Rattle.sync_tables.proofs.Membership.{found-in, in-found}
 
--- a key has an operation, or a row among those that are left, exactly where it has a row
-abbrev pub AreKeysOf : Rows → Ops → Rows → Type 0
-AreKeysOf rows ops rest = (q : Key) → (is_some (op_at ops q) || is_some (fields_at rest q)) ≡ is_some (fields_at rows q)
+is_some-where : (there : Bool) (o : Op) → is_some (if there then Some o else None) ≡ there
+is_some-where true o = refl
+is_some-where false o = refl
 
-moved : (here was : Bool) (fields : Pairs) (o : Option Pairs) → ((here || was) || is_some o) ≡ (was || is_some (cond here (Some fields) o))
-moved true true fields o = refl
-moved true false fields o = refl
-moved false was fields o = refl
-
--- the first key that is left is added
-pub AreKeysOf-added : (rows : Rows) (ops : Ops) (k : Key) (fields : Pairs) (rest : Rows) → AreKeysOf rows ops ((k, fields) ∷ rest) → AreKeysOf rows (ops_after ops (Set k [])) rest
-AreKeysOf-added rows ops k fields rest h q =
-    ap (λ b. b || is_some (fields_at rest q)) (found-with ops k (record { dropped = false; fields = Some [] }) q (inr refl))
-    ∙ moved (is_at (key_cmp q) k) (is_some (op_at ops q)) fields (fields_at rest q)
-    ∙ h q
-
-or_nothing : (b : Bool) → b ≡ (b || false)
-or_nothing true = refl
-or_nothing false = refl
-
--- no key is left
-pub AreKeysOf-all : (rows : Rows) (ops : Ops) → AreKeysOf rows ops [] → (q : Key) → IsIn q (keys_of ops) ↔ IsSome (fields_at rows q)
-AreKeysOf-all rows ops h q =
-    let same = or_nothing (is_some (op_at ops q)) ∙ h q in
+-- a key has an operation exactly where it is among the keys of the rows
+pub keys-listed : (rows : Rows) (keys : List Key) (ops : Ops) → keys ≡ keys_of rows → ((q : Key) → op_at ops q ≡ (if is_member (eq_by_cmp key_cmp) keys q then Some (op.Set []) else None)) → (q : Key) → IsIn q (keys_of ops) ↔ IsSome (fields_at rows q)
+keys-listed rows keys ops listed found q =
+    let same : is_some (op_at ops q) ≡ is_some (fields_at rows q) =
+    ap is_some (found q) ∙ is_some-where (is_member (eq_by_cmp key_cmp) keys q) (op.Set []) ∙ ap (λ ks. is_member (eq_by_cmp key_cmp) ks q) listed ∙ sym (is_some-lookup (is_at (key_cmp q)) rows) in
     ((λ i. sym same ∙ in-found q ops i), (λ s. found-in q ops (same ∙ s)))

@@ -182,7 +182,7 @@ impl Tables {
         ensures order { OnOk result (AreOpsInOrder self.new.ops) }
         ensures err { OnErr result (self.new ≡ self.old) }
     {
-        let to_sync = keys_of_rows(&self.rows, self.to_sync.none())?;
+        let to_sync = keys_of_rows(&self.rows)?;
         let _order = to_sync.len();
         self.to_sync = to_sync;
         Ok(())
