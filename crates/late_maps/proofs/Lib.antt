@@ -1,3 +1,5 @@
 pub mod Ends
+pub mod Firsts
 pub mod Lasts
+pub mod Segments
 pub mod Turns

@@ -1,2 +1,3 @@
 pub mod Lent
 pub mod Rising
+pub mod Segments

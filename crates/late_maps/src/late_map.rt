@@ -1,5 +1,7 @@
 // A map that is searched from its greatest key on.
-ghost use Rattle.std.specs.Prelude.{◌≡◌, ◌+◌, ◌^◌, ◌<◌, ◌↔◌, IsTrue, if◌then◌else◌, [], None, is_some, length, IfOk, IfErr, OnOk, OnErr, option_copied};
+ghost use Rattle.std.specs.Prelude.{◌≡◌, ◌+◌, ◌^◌, ◌<◌, IsTrue, true, if◌then◌else◌, [], ◌∷◌, None, Some, is_some, length, IfSome, IfNone, IfOk, IfErr, OnOk, OnErr, option_copied, option_map};
+ghost use Rattle.std.specs.List.{filter, slice_get};
+ghost use Rattle.std.specs.Ordering.{is_lt};
 ghost use Rattle.std.specs.Borrow.{sem};
 ghost use Rattle.std.specs.BTreeMap.{insert_entry, is_at};
 ghost use Rattle.std.specs.List.Sorted.{IsStrictlySortedBy};
@@ -8,11 +10,13 @@ ghost use Rattle.std.specs.Map.Iter.{ShowsInOrder, ShowsInReverse, deref_pair};
 ghost use Rattle.std.specs.Option.{option_copied_mut};
 
 use crate::Iter;
+use crate::at_ends::get_at_ends;
 use std::alloc::{AllocFailed, Global};
-use std::cmp::Reverse;
+use std::cmp::{Ordering, Reverse};
 use std::collections::BTreeMap;
 use std::fmt;
 use std::marker::Model;
+use std::ops::Bound;
 
 /// A map whose search begins at its greatest key, so that what comes in key order is put and found at once. It is
 /// otherwise as `BTreeMap`.
@@ -54,11 +58,25 @@ impl<K: Ord, V> LateMap<K, V> {
         self.entries.len()
     }
 
-    /// Whether there is no entry.
-    pub fn is_empty(&self) -> bool
-        ensures { IsTrue result ↔ (length self.now ≡ 0) }
+    /// The entry of the least key: None exactly where there is no entry.
+    pub fn first(&self) -> Option<(&K, &V)>
+        ensures { option_map deref_pair result ≡ slice_get self.now 0 }
     {
-        self.len() == 0
+        match self.entries.last_key_value() {
+            Some((key, value)) => Some((&key.0, value)),
+            None => None,
+        }
+    }
+
+    /// Takes the entry of the least key out: None exactly where there is no entry.
+    pub fn pop_first(&mut self) -> Option<(K, V)>
+        ensures some { IfSome result (λ e. self.old ≡ e ∷ self.new) }
+        ensures none { IfNone result ((self.old ≡ []) × (self.new ≡ [])) }
+    {
+        match self.entries.pop_last() {
+            Some((key, value)) => Some((key.0, value)),
+            None => None,
+        }
     }
 
     /// The entries, in rising order of their keys.
@@ -78,11 +96,11 @@ impl<K: Ord, V> LateMap<K, V> {
 impl<K: Ord + Copy, V> LateMap<K, V> {
     ghost use Rattle.late_maps.specs.Lent.{lends_value};
 
-    /// The value of a key.
+    /// The value of a key. A key at either end, or beyond, is found at once.
     pub fn get(&self, key: &K) -> Option<&V>
         ensures { option_copied result ≡ lookup (is_at (K.cmp key.now)) self.now }
     {
-        self.entries.get(&Reverse(*key))
+        get_at_ends(&self.entries, &Reverse(*key))
     }
 
     /// Whether a key has a value.
@@ -126,7 +144,32 @@ impl<K: Ord + Copy, V> LateMap<K, V> {
         }
     }
 
-    /// Takes a key and its value away, and returns the value.
+    /// The first key behind this one.
+    pub fn behind(&self, key: &K) -> Option<&K>
+        ensures { option_map (λ found. found.now) result ≡ slice_get (filter (λ other. is_lt (K.cmp key.now other)) (keys_of self.now)) 0 }
+    {
+        let key = Reverse(*key);
+        match self
+            .entries
+            .range((Bound::Unbounded, Bound::Excluded(&key)))
+            .next_back()
+        {
+            Some((found, _)) => Some(&found.0),
+            None => None,
+        }
+    }
+
+    /// Whether the first entry, if there is one, is this key's.
+    fn is_first(&self, key: &K) -> bool
+        ensures { IsTrue result → (e : K × V) → slice_get self.now 0 ≡ Some e → is_at (K.cmp key.now) e.0 ≡ true }
+    {
+        match self.first() {
+            Some((first, _)) => key.cmp(first) == Ordering::Equal,
+            None => true,
+        }
+    }
+
+    /// Takes a key and its value away, and returns the value. The least key is taken at once.
     #[tactic(auto, using(crate::proofs::Turns::removed_rising, crate::proofs::Turns::rising_length, crate::proofs::Turns::rising_sorted))]
     pub fn remove(&mut self, key: &K) -> Option<V>
     where
@@ -136,6 +179,12 @@ impl<K: Ord + Copy, V> LateMap<K, V> {
         ensures ordered { IsStrictlySortedBy K.cmp (keys_of self.new) }
         ensures len { length self.new + (if is_some result then 1 else 0) ≡ length self.old }
     {
+        if self.is_first(key) {
+            return match self.pop_first() {
+                Some((_, value)) => Some(value),
+                None => None,
+            };
+        }
         self.entries.remove(&Reverse(*key))
     }
 }

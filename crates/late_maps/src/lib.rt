@@ -1,6 +1,7 @@
 //! Maps whose greatest key is looked at first, for keys that come in their order.
 #![tactic(auto)]
 
+mod at_ends;
 mod iter;
 mod late;
 mod late_map;
