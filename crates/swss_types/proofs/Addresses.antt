@@ -10,17 +10,12 @@ use Rattle.swss_types.specs.Hex.{hex_within}
 use Rattle.swss_types.proofs.Hexes.{hex_within-lt}
 use Rattle.swss_types.proofs.Each.{AllBelow-each_of}
 use Rattle.swss_types.specs.Parts.{AllBelow, parts_at}
-use Rattle.swss_types.specs.IpParts.{base, whole, made}
-use Rattle.swss_types.specs.declared.address.Family.{Family}
-use Rattle.swss_types.specs.declared.address.Family.TheVariants.{V4, V6}
+use Rattle.swss_types.specs.IpParts.{made}
+use Rattle.swss_types.specs.declared.address.Family.TheVariants.{V6}
 
--- one part more still fits in 128 bits
-pub part_fits : (f : Family) (n count v : ℕ) → n < base f ^ count → count < whole f → v < base f → base f * n + v < 2 ^ 128
-part_fits V4 n count v small few below =
-    let few' : count ≤ 3 = omega arith in
-    let most : 256 ^ count ≤ 256 ^ 3 = pow-le-pow_right (lit≤ tt) few' in
-    omega arith
-part_fits V6 n count v small few below =
+-- one group more still fits in 128 bits
+pub part_fits : (n count v : ℕ) → n < 65536 ^ count → count < 8 → v < 65536 → 65536 * n + v < 2 ^ 128
+part_fits n count v small few below =
     let few' : count ≤ 7 = omega arith in
     let most : 65536 ^ count ≤ 65536 ^ 7 = pow-le-pow_right (lit≤ tt) few' in
     omega arith
@@ -63,7 +58,7 @@ joined-lt b n (x ∷ xs) h =
     rw (pow-suc b (length xs)) (omega arith)
 
 -- values that were made are there
-pub made_some : (o : Option (List ℕ)) (n count : ℕ) → made V6 0 0 o ≡ Some (n, count) → (values : List ℕ) × (o ≡ Some values) × (n ≡ joined 65536 0 values) × (count ≡ length values) × (count ≤ 8)
+pub made_some : (o : Option (List ℕ)) (n count : ℕ) → made 0 0 o ≡ Some (n, count) → (values : List ℕ) × (o ≡ Some values) × (n ≡ joined 65536 0 values) × (count ≡ length values) × (count ≤ 8)
 made_some None n count h = cc
 made_some (Some values) n count h =
     elim (cases_lt 8 (0 + length values)) [
@@ -82,7 +77,7 @@ filled_from_none : (front back : List ℕ) → 7 < length front + length back �
 filled_from_none front back many = ap ipv6_from (filled_none front back many)
 
 -- where none were made, there are none or too many
-made_none : (values : List ℕ) → made V6 0 0 (Some values) ≡ None → 8 < length values
+made_none : (values : List ℕ) → made 0 0 (Some values) ≡ None → 8 < length values
 made_none values h =
     elim (cases_lt 8 (0 + length values)) [
       | inl more ↦ omega arith
@@ -90,18 +85,18 @@ made_none values h =
     ]
 
 -- no address is made where a side is none
-pub around_none-front : (front back : Option (List ℕ)) → made V6 0 0 front ≡ None → ipv6_from (filled_between front back) ≡ None
+pub around_none-front : (front back : Option (List ℕ)) → made 0 0 front ≡ None → ipv6_from (filled_between front back) ≡ None
 around_none-front None back h = refl
 around_none-front (Some front) None h = refl
 around_none-front (Some front) (Some back) h = let many = made_none front h in filled_from_none front back (omega arith)
 
-pub around_none-back : (front back : Option (List ℕ)) → made V6 0 0 back ≡ None → ipv6_from (filled_between front back) ≡ None
+pub around_none-back : (front back : Option (List ℕ)) → made 0 0 back ≡ None → ipv6_from (filled_between front back) ≡ None
 around_none-back None back h = refl
 around_none-back (Some front) None h = refl
 around_none-back (Some front) (Some back) h = let many = made_none back h in filled_from_none front back (omega arith)
 
 -- nor where there are too many groups
-pub around_many : (front back : Option (List ℕ)) (h a l b : ℕ) → made V6 0 0 front ≡ Some (h, a) → made V6 0 0 back ≡ Some (l, b) → 7 < a + b → ipv6_from (filled_between front back) ≡ None
+pub around_many : (front back : Option (List ℕ)) (h a l b : ℕ) → made 0 0 front ≡ Some (h, a) → made 0 0 back ≡ Some (l, b) → 7 < a + b → ipv6_from (filled_between front back) ≡ None
 around_many front back h a l b f g many =
     let (fs, front_is, _, a_is, _) = made_some front h a f in
     let (bs, back_is, _, b_is, _) = made_some back l b g in
@@ -150,7 +145,7 @@ around_lists front back fs bs h a l front_is back_is f g h_is a_is l_is few =
     let same = around_value (joined 65536 0 fs) (length fs) (joined 65536 0 bs) (omega arith) value in
     rw (h_is, a_is, l_is, front_is, back_is, le-leb (length fs + length bs) 7 few, all.2, same) (value, ap (λ bits. Some (record { family = V6; bits = bits })) all.0)
 
-pub around_some : (front back : List ℕ) (h a l b : ℕ) → made V6 0 0 (side_of front) ≡ Some (h, a) → made V6 0 0 (side_of back) ≡ Some (l, b) → a + b ≤ 7 →
+pub around_some : (front back : List ℕ) (h a l b : ℕ) → made 0 0 (side_of front) ≡ Some (h, a) → made 0 0 (side_of back) ≡ Some (l, b) → a + b ≤ 7 →
     (h * 2 ^ (16 * (7 - a)) % 340282366920938463463374607431768211456 * 65536 % 340282366920938463463374607431768211456 + l < 340282366920938463463374607431768211456)
     × (ipv6_from (filled_between (side_of front) (side_of back)) ≡ Some (record { family = V6; bits = h * 2 ^ (16 * (7 - a)) % 340282366920938463463374607431768211456 * 65536 % 340282366920938463463374607431768211456 + l }))
 around_some front back h a l b f g few =
@@ -159,5 +154,5 @@ around_some front back h a l b f g few =
     let few' : length fs + length bs ≤ 7 = omega arith in
     around_lists (side_of front) (side_of back) fs bs h a l front_is back_is (AllBelow-side_of front fs front_is) (AllBelow-side_of back bs back_is) h_is a_is l_is few'
 
-pub made_few : (o : Option (List ℕ)) (n count : ℕ) → made V6 0 0 o ≡ Some (n, count) → count ≤ 8
+pub made_few : (o : Option (List ℕ)) (n count : ℕ) → made 0 0 o ≡ Some (n, count) → count ≤ 8
 made_few o n count h = (made_some o n count h).4

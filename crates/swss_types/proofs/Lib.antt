@@ -16,6 +16,7 @@ pub mod GroupTexts
 pub mod Groups
 pub mod Hexes
 pub mod IpTexts
+pub mod Ipv4Bytes
 pub mod Joins
 pub mod LaneLists
 pub mod Lists

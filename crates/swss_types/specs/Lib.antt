@@ -5,6 +5,7 @@ pub mod Hex
 pub mod Interface
 pub mod Ip
 pub mod IpParts
+pub mod Ipv4
 pub mod Lanes
 pub mod Laws
 pub mod Mac

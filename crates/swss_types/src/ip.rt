@@ -3,43 +3,15 @@ ghost use Rattle.std.specs.Prelude.{◌≡◌, ◌+◌, ◌<◌, ◌≤◌, ◌%
 ghost use Rattle.std.specs.Fmt.{decimal};
 ghost use Rattle.std.specs.Net.Text.{groups_text, hex, hex_groups_text, leading_zero_digits, longest_zero_run};
 ghost use Rattle.swss_types.specs.Address.{IsProperIp};
-ghost use Rattle.swss_types.specs.Ip.{ip_of, ip_text, text_in, groups_in, ipv6_of, ipv6_from, gap_at, side_of, filled_between};
-ghost use Rattle.swss_types.specs.IpParts.{separator, base, whole, value_in, values_in, made, address_from};
+ghost use Rattle.swss_types.specs.Ip.{ip_of, ip_text, text_in, groups_in, groups_of, ipv6_of, ipv6_from, gap_at, side_of, filled_between};
+ghost use Rattle.swss_types.specs.IpParts.{made};
 
 use crate::hex::{hex_digit, read_hex};
-use crate::{Bits, Family, Ip, OutOfMemory, cut_at, read_number, write_number};
+use crate::ipv4::read_v4;
+use crate::{Bits, Family, Ip, OutOfMemory, cut_at, write_number};
 
-impl Family {
-    /// The byte between the parts of an address.
-    fn separator(self) -> u8
-        ensures { result ≡ separator self }
-    {
-        match self {
-            Family::V4 => b'.',
-            Family::V6 => b':',
-        }
-    }
-
-    /// The number that the parts of an address are below.
-    fn base(self) -> u128
-        ensures { result ≡ base self }
-    {
-        match self {
-            Family::V4 => 256,
-            Family::V6 => 65_536,
-        }
-    }
-
-    /// How many parts an address has.
-    fn whole(self) -> u32
-        ensures { result ≡ whole self }
-    {
-        match self {
-            Family::V4 => 4,
-            Family::V6 => 8,
-        }
-    }
-}
+/// How many groups an address of version 6 has.
+const GROUPS: u32 = 8;
 
 impl Ip {
     /// The address that the text writes: four numbers 0 to 255 joined by `.`, or groups of hexadecimal digits joined by
@@ -49,7 +21,7 @@ impl Ip {
         ensures value { result ≡ ip_of text.now }
         ensures proper { IfSome result IsProperIp }
     {
-        if let Some(ip) = read_whole(text, Family::V4) {
+        if let Some(ip) = read_v4(text) {
             return Some(ip);
         }
         read_v6(text)
@@ -75,21 +47,21 @@ fn read_v6(text: &[u8]) -> Option<Ip>
     ensures { result ≡ ipv6_of text.now }
 {
     match gap_at(text) {
-        None => read_whole(text, Family::V6),
+        None => read_whole(text),
         Some(at) => read_around(&text[..at], &text[at + 2..]),
     }
 }
 
-/// The address whose text has all parts of its family.
-fn read_whole(text: &[u8], family: Family) -> Option<Ip>
-    ensures { result ≡ address_from family (values_in family text.now) }
+/// The address of version 6 whose text has all groups.
+fn read_whole(text: &[u8]) -> Option<Ip>
+    ensures { result ≡ ipv6_from (groups_of text.now) }
 {
-    let (bits, count) = read_parts(text, family)?;
-    if count != family.whole() {
+    let (bits, count) = read_groups(text)?;
+    if count != GROUPS {
         return None;
     }
     Some(Ip {
-        family,
+        family: Family::V6,
         bits: Bits::new(bits),
     })
 }
@@ -109,32 +81,21 @@ fn read_around(front: &[u8], back: &[u8]) -> Option<Ip>
     })
 }
 
-/// The number that a part of an address writes, or None where it writes none.
-fn read_part(part: &[u8], family: Family) -> Option<u32>
-    ensures value { result ≡ value_in family part.now }
-    ensures small { IfSome result (λ n. n < base family) }
-{
-    match family {
-        Family::V4 => read_number(part, 255),
-        Family::V6 => read_hex(part, 1, 4).map(u32::from),
-    }
-}
-
-/// The number that the parts in the text make, and how many they are. None where a part is none, or where there are more
+/// The number that the groups in the text make, and how many they are. None where a part is none, or where there are more
 /// than an address has.
-fn read_parts(text: &[u8], family: Family) -> Option<(u128, u32)>
-    ensures { result ≡ made family 0 0 (values_in family text.now) }
+fn read_groups(text: &[u8]) -> Option<(u128, u32)>
+    ensures { result ≡ made 0 0 (groups_of text.now) }
 {
     let mut bits = 0u128;
     let mut count = 0u32;
     let mut left = Some(text);
     while let Some(list) = left {
-        let (part, behind) = cut_at(list, family.separator());
-        let value = read_part(part, family)?;
-        if count == family.whole() {
+        let (part, behind) = cut_at(list, b':');
+        let value = read_hex(part, 1, 4)?;
+        if count == GROUPS {
             return None;
         }
-        bits = family.base() * bits + u128::from(value);
+        bits = 65_536 * bits + u128::from(value);
         count += 1;
         left = behind;
     }
@@ -143,12 +104,12 @@ fn read_parts(text: &[u8], family: Family) -> Option<(u128, u32)>
 
 /// The same for what stands beside a `::`, which may be nothing.
 fn read_side(text: &[u8]) -> Option<(u128, u32)>
-    ensures { result ≡ made Family.V6 0 0 (side_of text.now) }
+    ensures { result ≡ made 0 0 (side_of text.now) }
 {
     if text.is_empty() {
         return Some((0, 0));
     }
-    read_parts(text, Family::V6)
+    read_groups(text)
 }
 
 /// The place of the first `::`.

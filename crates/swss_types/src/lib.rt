@@ -6,6 +6,7 @@ mod bits;
 mod hex;
 mod interface;
 mod ip;
+mod ipv4;
 mod lanes;
 mod laws;
 mod mac;

@@ -14,3 +14,4 @@ pub mod RowLists
 pub mod Restored
 pub mod Risen
 pub mod TakenBack
+mod TwoPairs

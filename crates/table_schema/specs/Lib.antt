@@ -1,6 +1,7 @@
 pub mod Broken
 pub mod Fields
 pub mod Held
+pub mod HeldHops
 pub mod Hop
 pub mod Key
 pub mod KeyText

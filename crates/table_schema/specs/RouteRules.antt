@@ -84,19 +84,30 @@ hops_of_texts ips names =
     then (if nat_le (length ips) MOST_HOPS then hops_with (nat_lt 1 (length ips)) [] ips names else bad TooManyHops 7)
     else bad CountsDiffer 8
 
+-- as many addresses as names, no more than a route may have
+abbrev pub counts_of : ℕ → ℕ → Result (Unit {0}) BadRow
+counts_of ips names =
+    if ips == names
+    then (if nat_le ips MOST_HOPS then Ok tt else bad TooManyHops 7)
+    else bad CountsDiffer 8
+
 -- one hop with a zero address is the interface itself
 abbrev pub target_of_hops : List RowHop → RouteRow
 target_of_hops [] = route.Hops []
 target_of_hops (hop ∷ []) = if is_zero hop.ip then route.Direct hop.on else route.Hops (hop ∷ [])
 target_of_hops (hop ∷ other ∷ others) = route.Hops (hop ∷ other ∷ others)
 
--- the hops of a route that drops nothing
-abbrev pub route_hops_of : Pairs → Result RouteRow BadRow
-route_hops_of fields =
-    and_then (field_filled 7 (value_of (codes "nexthop") fields)) (λ ips.
-    and_then (field_filled 8 (value_of (codes "ifname") fields)) (λ names.
+-- the hops that a list of addresses and a list of names write
+abbrev pub hops_listed : Option (List ℕ) → Option (List ℕ) → Result RouteRow BadRow
+hops_listed ips names =
+    and_then (field_filled 7 ips) (λ ips.
+    and_then (field_filled 8 names) (λ names.
     and_then (hops_of_texts (parts_at 44 ips) (parts_at 44 names)) (λ hops.
     Ok (target_of_hops hops))))
+
+-- the hops of a route that drops nothing
+abbrev pub route_hops_of : Pairs → Result RouteRow BadRow
+route_hops_of fields = hops_listed (value_of (codes "nexthop") fields) (value_of (codes "ifname") fields)
 
 abbrev pub route_target : Bool → Pairs → Result RouteRow BadRow
 route_target true fields = Ok route.Drop

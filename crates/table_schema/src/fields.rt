@@ -1,5 +1,5 @@
 // The fields of a row.
-ghost use Rattle.std.specs.Prelude.{◌≡◌, [], ◌==◌, length, IfOk, OnOk, OnErr, option_map};
+ghost use Rattle.std.specs.Prelude.{◌≡◌, [], ◌==◌, length, IfOk, IfSome, OnOk, OnErr, option_map};
 ghost use Rattle.table_schema.specs.Fields.{HasRisingNames, merged, value_of, with_pair};
 
 use crate::Items;
@@ -70,6 +70,16 @@ impl Fields {
     {
         match &self.shared {
             Some(own) => own.get(name),
+            None => None,
+        }
+    }
+
+    /// The pairs, where they stand in a list.
+    pub(crate) fn listed(&self) -> Option<&[(Text, Text)]>
+        ensures { IfSome result (λ pairs. pairs.now ≡ self.now) }
+    {
+        match &self.shared {
+            Some(own) => own.listed(),
             None => None,
         }
     }

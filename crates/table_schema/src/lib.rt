@@ -6,6 +6,7 @@ mod few;
 pub mod field;
 mod fields;
 mod held;
+mod held_hops;
 mod items;
 mod key;
 mod key_text;

@@ -9,6 +9,8 @@ use std::collections::BTreeMap;
 use swss_types::{OutOfMemory, Text};
 
 /// The value under a name. The map compares texts: without the memory for one the pairs are gone over.
+// Most rows have few pairs, so what searches a map stands apart from what searches a list.
+#[inline(never)]
 pub(crate) fn find_many<'a>(
     alloc: Global,
     pairs: &'a BTreeMap<Text, Text>,

@@ -1,5 +1,5 @@
 // The fields of a row that one owner may change.
-ghost use Rattle.std.specs.Prelude.{◌≡◌, [], ◌==◌, length, IfOk, OnOk, OnErr, option_map};
+ghost use Rattle.std.specs.Prelude.{◌≡◌, [], ◌==◌, length, IfOk, IfSome, OnOk, OnErr, option_map};
 ghost use Rattle.table_schema.specs.Fields.{HasRisingNames, merged, restored, taken_back, value_of, with_pair};
 
 use crate::Items;
@@ -89,6 +89,16 @@ impl OwnFields {
         ensures { option_map (λ value. value.now) result ≡ value_of name.now self.now }
     {
         self.held.find(self.alloc, name)
+    }
+
+    /// The pairs, where they stand in a list.
+    pub(crate) fn listed(&self) -> Option<&[(Text, Text)]>
+        ensures { IfSome result (λ pairs. pairs.now ≡ self.now) }
+    {
+        match &self.held {
+            Held::Few(pairs) => Some(pairs.as_slice()),
+            Held::Many(_) => None,
+        }
     }
 
     /// The pairs, their names rising.

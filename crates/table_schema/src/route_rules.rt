@@ -1,7 +1,7 @@
 // The rules by which a route's row reads.
-ghost use Rattle.std.specs.Prelude.{◌≡◌, [], ◌≤◌, ◌==◌, count_by, length, IfOk, option_map, MatchResult};
+ghost use Rattle.std.specs.Prelude.{◌≡◌, [], ◌∷◌, codes, ◌≤◌, ◌==◌, count_by, length, nat_lt, false, true, Ok, IfOk, IfSome, option_map, MatchResult};
 ghost use Rattle.table_schema.specs.Fields.{value_of};
-ghost use Rattle.table_schema.specs.RouteRules.{are_blank, blackhole_of, drops_of, field_filled, route_hops_of, hop_of_texts, hops_of_texts, hops_with, is_blank_part, is_zero, route_row_of, target_of_hops, unused, unused_fields};
+ghost use Rattle.table_schema.specs.RouteRules.{are_blank, blackhole_of, counts_of, drops_of, field_filled, hops_listed, hop_of_texts, hops_of_texts, hops_with, is_blank_part, is_zero, route_row_of, target_of_hops, unused, unused_fields};
 ghost use Rattle.swss_types.specs.Parts.{parts_at};
 
 use crate::broken::bad;
@@ -18,11 +18,27 @@ pub const MOST_HOPS: usize = 128;
 pub fn read_route(alloc: Global, fields: &Fields) -> Result<Result<RouteRow, BadRow>, OutOfMemory>
     ensures { IfOk result (λ route. route ≡ route_row_of fields.now) }
 {
+    if let Some((addresses, names)) = hop_texts_alone(fields) {
+        return read_forwarding(alloc, Some(addresses), Some(names));
+    }
     match read_drops(fields) {
         Ok(true) => Ok(Ok(RouteRow::Drop)),
-        Ok(false) => read_forwarding(alloc, fields),
+        Ok(false) => read_forwarding(alloc, fields.get(b"nexthop"), fields.get(b"ifname")),
         Err(broken) => Ok(Err(broken)),
     }
+}
+
+/// The addresses and the names of a row that has nothing but these, as most routes' have.
+fn hop_texts_alone(fields: &Fields) -> Option<(&Text, &Text)>
+    ensures { IfSome result (λ texts. fields.now ≡ (codes "ifname", texts.1.now) ∷ (codes "nexthop", texts.0.now) ∷ []) }
+{
+    let [first, second] = fields.listed()? else {
+        return None;
+    };
+    if first.0.bytes() == b"ifname".as_slice() && second.0.bytes() == b"nexthop".as_slice() {
+        return Some((&second.1, &first.1));
+    }
+    None
 }
 
 /// Whether a route drops its packets.
@@ -84,14 +100,18 @@ fn read_blackhole(text: Option<&Text>) -> Result<bool, BadRow>
 }
 
 /// The hops of a route that drops nothing.
-fn read_forwarding(alloc: Global, fields: &Fields) -> Result<Result<RouteRow, BadRow>, OutOfMemory>
-    ensures { IfOk result (λ route. route ≡ route_hops_of fields.now) }
+fn read_forwarding(
+    alloc: Global,
+    addresses: Option<&Text>,
+    names: Option<&Text>,
+) -> Result<Result<RouteRow, BadRow>, OutOfMemory>
+    ensures { IfOk result (λ route. route ≡ hops_listed (option_map (λ t. t.now) addresses.entry) (option_map (λ t. t.now) names.entry)) }
 {
-    let addresses = match require_filled(field::NEXTHOP, fields.get(b"nexthop")) {
+    let addresses = match require_filled(field::NEXTHOP, addresses) {
         Ok(addresses) => addresses,
         Err(broken) => return Ok(Err(broken)),
     };
-    let names = match require_filled(field::IFNAME, fields.get(b"ifname")) {
+    let names = match require_filled(field::IFNAME, names) {
         Ok(names) => names,
         Err(broken) => return Ok(Err(broken)),
     };
@@ -116,14 +136,39 @@ fn read_hops(
 ) -> Result<Result<RowHops, BadRow>, OutOfMemory>
     ensures { IfOk result (λ hops. hops ≡ hops_of_texts (parts_at 44 addresses.now) (parts_at 44 names.now)) }
 {
+    let several = has_several(addresses);
+    if !several && !has_several(names) {
+        return Ok(read_hop(false, addresses, names).map(|hop| RowHops::one(alloc, hop)));
+    }
+    let (hops, fit) = read_pairs(alloc, several, addresses, names)?;
+    if !fit {
+        if let Err(broken) = require_counts(addresses, names) {
+            return Ok(Err(broken));
+        }
+    }
+    Ok(hops)
+}
+
+/// Whether a list has more than one element.
+fn has_several(list: &[u8]) -> bool
+    ensures many { result ≡ nat_lt 1 (length (parts_at 44 list.now)) }
+    ensures one { result ≡ false → parts_at 44 list.now ≡ list.now ∷ [] }
+{
+    cut_at(list, b',').1.is_some()
+}
+
+/// That two lists have as many elements, at most `MOST_HOPS`.
+fn require_counts(addresses: &[u8], names: &[u8]) -> Result<(), BadRow>
+    ensures { result ≡ counts_of (length (parts_at 44 addresses.now)) (length (parts_at 44 names.now)) }
+{
     let count = count_parts(addresses);
     if count != count_parts(names) {
-        return Ok(Err(bad(CountsDiffer, field::IFNAME)));
+        return Err(bad(CountsDiffer, field::IFNAME));
     }
     if count > MOST_HOPS {
-        return Ok(Err(bad(TooManyHops, field::NEXTHOP)));
+        return Err(bad(TooManyHops, field::NEXTHOP));
     }
-    read_pairs(alloc, count > 1, addresses, names)
+    Ok(())
 }
 
 /// How many elements a list has.
@@ -141,29 +186,36 @@ fn count_commas(text: &[u8]) -> usize
     text.iter().filter(|byte| **byte == b',').count()
 }
 
-/// The hops at the pairs of two lists.
+/// The hops at the pairs of two lists that have as many elements, at most `MOST_HOPS`, and whether it is known that they
+/// have.
 fn read_pairs(
     alloc: Global,
     several: bool,
     addresses: &[u8],
     names: &[u8],
-) -> Result<Result<RowHops, BadRow>, OutOfMemory>
-    ensures { IfOk result (λ hops. hops ≡ hops_with several [] (parts_at 44 addresses.now) (parts_at 44 names.now)) }
+) -> Result<(Result<RowHops, BadRow>, bool), OutOfMemory>
+    ensures hops { IfOk result (λ read. counts_of (length (parts_at 44 addresses.now)) (length (parts_at 44 names.now)) ≡ Ok tt → read.0 ≡ hops_with several [] (parts_at 44 addresses.now) (parts_at 44 names.now)) }
+    ensures fit { IfOk result (λ read. read.1 ≡ true → counts_of (length (parts_at 44 addresses.now)) (length (parts_at 44 names.now)) ≡ Ok tt) }
 {
     let mut hops = RowHops::new(alloc);
     let mut addresses_left = Some(addresses);
     let mut names_left = Some(names);
+    let mut count = 0usize;
     while let (Some(address_list), Some(name_list)) = (addresses_left, names_left) {
+        if count == MOST_HOPS {
+            return Ok((Ok(hops), false));
+        }
+        count += 1;
         let (address, addresses_behind) = cut_at(address_list, b',');
         let (name, names_behind) = cut_at(name_list, b',');
         match read_hop(several, address, name) {
             Ok(hop) => hops.put(hop)?,
-            Err(broken) => return Ok(Err(broken)),
+            Err(broken) => return Ok((Err(broken), false)),
         }
         addresses_left = addresses_behind;
         names_left = names_behind;
     }
-    Ok(Ok(hops))
+    Ok((Ok(hops), addresses_left.is_none() && names_left.is_none()))
 }
 
 /// The hop that an address and the name of an Ethernet or Vlan interface write. A zero address is none of several hops.

@@ -1,5 +1,5 @@
 // The hops of a route's row.
-ghost use Rattle.std.specs.Prelude.{◌≡◌, [], IfOk, OnOk, OnErr};
+ghost use Rattle.std.specs.Prelude.{◌≡◌, [], ◌∷◌, IfOk, OnOk, OnErr};
 ghost use Rattle.std.specs.BTreeSet.{insert_key};
 ghost use Rattle.std.proofs.Common.{rules};
 ghost use Rattle.std.specs.Cmp.Rules.{comparing};
@@ -9,26 +9,28 @@ ghost use Rattle.table_schema.specs.contracts.row_hop.RowHopPartialEq.TheImpl.La
 ghost use Rattle.table_schema.specs.contracts.row_hop.RowHopEq.TheImpl.Laws as equal_hop;
 
 use crate::RowHop;
+use crate::held_hops::HeldHops;
 use std::alloc::Global;
 use std::marker::Model;
-use swss_types::{OutOfMemory, insert_rising};
+use swss_types::OutOfMemory;
 
 /// The hops of a route's row, distinct and rising.
 #[derive(Debug, Drop)]
 pub struct RowHops {
-    hops: Vec<RowHop>,
+    hops: HeldHops,
 }
 
 impl Model for RowHops {
     ghost use Rattle.std.specs.Prelude.{List};
+    ghost use Rattle.table_schema.specs.HeldHops.{hops_in};
     ghost use Rattle.table_schema.specs.Hop.{AreRisingRowHops};
     ghost use Rattle.table_schema.specs.declared.row_hop.RowHop.{RowHop};
 
     ghost Value = { List RowHop };
 
-    ghost view = { λ h. h.hops.items };
+    ghost view = { λ h. hops_in h.hops };
 
-    ghost invariant = { λ h. AreRisingRowHops h.hops.items };
+    ghost invariant = { λ h. AreRisingRowHops (hops_in h.hops) };
 }
 
 impl RowHops {
@@ -37,7 +39,16 @@ impl RowHops {
         ensures { result ≡ [] }
     {
         RowHops {
-            hops: Vec::new(alloc),
+            hops: HeldHops::List(Vec::new(alloc)),
+        }
+    }
+
+    /// One hop.
+    pub(crate) fn one(alloc: Global, hop: RowHop) -> RowHops
+        ensures { result ≡ hop ∷ [] }
+    {
+        RowHops {
+            hops: HeldHops::One(hop, alloc),
         }
     }
 
@@ -46,7 +57,7 @@ impl RowHops {
         ensures ok { OnOk result (self.new ≡ insert_key ⟦<RowHop as Ord>⟧.cmp self.old hop) }
         ensures err { OnErr result (self.new ≡ self.old) }
     {
-        put_hop(&mut self.hops, hop)
+        self.hops.put(hop)
     }
 
     /// The hops, rising.
@@ -62,19 +73,9 @@ impl RowHops {
         ensures { IfOk result (λ hops. hops ≡ self.now) }
     {
         Ok(RowHops {
-            hops: self.hops.clone()?,
+            hops: self.hops.copy()?,
         })
     }
-}
-
-/// Puts a hop into its place among hops that rise, unless it is there.
-fn put_hop(hops: &mut Vec<RowHop>, hop: RowHop) -> Result<(), OutOfMemory>
-    requires { AreRisingRowHops hops.old.items }
-    ensures ok { OnOk result (hops.new.items ≡ insert_key ⟦<RowHop as Ord>⟧.cmp hops.old.items hop) }
-    ensures err { OnErr result (hops.new.items ≡ hops.old.items) }
-    ensures rising { AreRisingRowHops hops.new.items }
-{
-    insert_rising(hops, hop)
 }
 
 impl PartialEq for RowHops {
