@@ -1,4 +1,4 @@
 pub mod OpWrites
 pub mod SyncedRows
-pub mod Behind
+pub mod FirstKeys
 mod KeySets

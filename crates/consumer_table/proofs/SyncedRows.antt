@@ -1,5 +1,5 @@
 -- rows that are the operations laid over the rows when the keys were done
-use Rattle.std.proofs.Common.{◌≡◌, Bool, true, false, cond, List, [], ◌∷◌, Option, None, Some, refl, sym, ap, ◌∙◌}
+use Rattle.std.proofs.Common.{◌≡◌, Bool, true, false, cond, List, [], ◌∷◌, Option, None, refl, sym, ap, ◌∙◌}
 use Rattle.std.specs.BTreeMap.{is_at}
 use Rattle.table_schema.specs.Fields.{Pairs}
 use Rattle.table_schema.specs.Key.{key_cmp}
@@ -12,10 +12,9 @@ use Rattle.producer_table.specs.declared.key_op.KeyOp.{KeyOp}
 use Rattle.producer_table.specs.Pending.{with_ops, writes_of_op, writes_of_ops}
 use Rattle.producer_table.proofs.Found.{lookup-removed}
 use Rattle.producer_table.proofs.RowWrites.{after_writes-append, fields_at-after_write, row_after}
-use Rattle.consumer_table.specs.declared.op.Op.{Op}
-use Rattle.consumer_table.specs.Ops.{Ops, AreOpsInOrder, op_at, ops_after, ops_after_all, ops_with, without_op}
-use Rattle.consumer_table.specs.Synced.{AreRowsNow, Added, Finished, SyncStep, Synced, after_step, after_steps, all_done, row_with_op, with_added, with_finished}
-use Rattle.consumer_table.proofs.OpWrites.{AreOpsInOrder-after, AreOpsInOrder-after_all, AreOpsInOrder-without, op_after, op_at-after, op_names_at, row_with-after}
+use Rattle.consumer_table.specs.Ops.{Ops, AreOpsInOrder, op_at, ops_after, ops_after_all}
+use Rattle.consumer_table.specs.Synced.{AreRowsNow, Added, Finished, SyncStep, Synced, after_steps, all_done, row_with_op, with_added, with_finished}
+use Rattle.consumer_table.proofs.OpWrites.{AreOpsInOrder-after, AreOpsInOrder-after_all, AreOpsInOrder-without, op_at-after, op_names_at, row_with-after}
 
 -- writes to the rows, and the same writes to the operations
 now-after : (done : Key → Option Pairs) (rows : Rows) (ops : Ops) (ws : List Write) → HasRisingRows rows → AreOpsInOrder ops → ((q : Key) → row_with_op (done q) (op_at ops q) ≡ fields_at rows q) → (q : Key) → row_with_op (done q) (op_at (ops_after_all ops ws) q) ≡ fields_at (after_writes rows ws) q

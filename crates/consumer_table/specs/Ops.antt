@@ -1,5 +1,5 @@
 -- The operations of keys that are to be brought to the chip: what was written to a key's row since the key was done (SONiC's consumers keep such a map).
-use Rattle.std.specs.Prelude.{List, [], ◌∷◌, filter, Option, Some, None, unwrap_or}
+use Rattle.std.specs.Prelude.{List, [], ◌∷◌, filter, Option, Some, None}
 use Rattle.std.specs.BTreeMap.{insert_entry, is_at}
 use Rattle.std.specs.List.{AllByRecursion}
 use Rattle.std.specs.Map.{lookup, remove_entry}

@@ -7,16 +7,15 @@ ghost use Rattle.std.specs.Set.{is_member};
 ghost use Rattle.table_schema.specs.Key.{key_cmp};
 ghost use Rattle.table_schema.specs.declared.key.Key.{Key};
 ghost use Rattle.table_schema.specs.declared.write.Write.TheVariants as write;
+ghost use Rattle.row_maps.specs.Entries.{lent_key};
 ghost use Rattle.consumer_table.specs.Ops.{AreOpsInOrder, first_in, keys_behind, op_at, op_with_set, ops_after, ops_with, without_op};
 ghost use Rattle.consumer_table.specs.declared.op.Op.TheVariants as op;
 
 use crate::Op;
 use producer_table::KeyOp;
+use row_maps::{KeyIn, RowMap};
 use std::alloc::Global;
-use std::collections::BTreeMap;
-use std::collections::btree_map::Entry;
 use std::marker::Model;
-use std::ops::Bound;
 use swss_types::OutOfMemory;
 use table_schema::{Fields, Key};
 
@@ -24,7 +23,7 @@ use table_schema::{Fields, Key};
 /// In SONiC's words, a consumer's map of keys to sync.
 #[derive(Debug, Drop)]
 pub struct ToSync {
-    ops: BTreeMap<Key, Op>,
+    ops: RowMap<Op>,
     alloc: Global,
 }
 
@@ -36,9 +35,9 @@ impl Model for ToSync {
 
     ghost Value = { List (Key × Op) };
 
-    ghost view = { λ s. s.ops.entries };
+    ghost view = { λ s. s.ops };
 
-    ghost invariant = { λ s. HaveOpNames s.ops.entries };
+    ghost invariant = { λ s. HaveOpNames s.ops };
 }
 
 impl Op {
@@ -59,28 +58,28 @@ impl Op {
 }
 
 /// Merges fields into the operation of a key, and tells whether it had one.
-fn lay(ops: &mut BTreeMap<Key, Op>, key: Key, fields: Fields) -> Result<bool, OutOfMemory>
-    ensures ok { OnOk result (ops.new.entries ≡ ops_after ops.old.entries (write.Set key fields)) }
-    ensures there { IfOk result (λ there. there ≡ is_some (op_at ops.old.entries key)) }
-    ensures err { OnErr result (ops.new.entries ≡ ops.old.entries) }
+fn lay(ops: &mut RowMap<Op>, key: Key, fields: Fields) -> Result<bool, OutOfMemory>
+    ensures ok { OnOk result (ops.new ≡ ops_after ops.old (write.Set key fields)) }
+    ensures there { IfOk result (λ there. there ≡ is_some (op_at ops.old key)) }
+    ensures err { OnErr result (ops.new ≡ ops.old) }
 {
-    match ops.entry(key)? {
-        Entry::Occupied(place) => {
-            place.into_mut().lay(fields)?;
+    match ops.get_mut(&key) {
+        Some(op) => {
+            op.lay(fields)?;
             Ok(true)
         }
-        Entry::Vacant(place) => {
-            place.insert(Op::Set(fields.laid_over_none()));
+        None => {
+            ops.insert(key, Op::Set(fields.laid_over_none()))?;
             Ok(false)
         }
     }
 }
 
 /// Adds what was popped of a key, and tells whether it had an operation.
-fn add(ops: &mut BTreeMap<Key, Op>, op: KeyOp) -> Result<bool, OutOfMemory>
-    ensures ok { OnOk result (ops.new.entries ≡ ops_with ops.old.entries op) }
-    ensures there { IfOk result (λ there. there ≡ is_some (op_at ops.old.entries op.key)) }
-    ensures err { OnErr result (ops.new.entries ≡ ops.old.entries) }
+fn add(ops: &mut RowMap<Op>, op: KeyOp) -> Result<bool, OutOfMemory>
+    ensures ok { OnOk result (ops.new ≡ ops_with ops.old op) }
+    ensures there { IfOk result (λ there. there ≡ is_some (op_at ops.old op.key)) }
+    ensures err { OnErr result (ops.new ≡ ops.old) }
 {
     let KeyOp {
         key,
@@ -107,7 +106,7 @@ impl ToSync {
         ensures { result ≡ [] }
     {
         ToSync {
-            ops: BTreeMap::new(alloc),
+            ops: RowMap::new(alloc),
             alloc,
         }
     }
@@ -118,10 +117,10 @@ impl ToSync {
         ensures order { IfOk result (λ to_sync. AreOpsInOrder to_sync) }
     {
         let alloc = *keys.allocator();
-        let ops = keys
-            .into_iter()
-            .map(|key| (key, Op::Set(Fields::new(alloc))))
-            .collect(alloc)?;
+        let mut ops = RowMap::new(alloc);
+        for key in keys {
+            ops.insert(key, Op::Set(Fields::new(alloc)))?;
+        }
         Ok(ToSync { ops, alloc })
     }
 
@@ -179,16 +178,12 @@ impl ToSync {
         ensures keys { IfOk result (λ keys. keys.items ≡ keys_of self.now) }
         ensures rise { IfOk result (λ keys. IsStrictlySortedBy key_cmp keys.items) }
     {
-        let mut keys = Vec::with_capacity(self.alloc, self.ops.len())?;
-        for (key, _) in self.ops.iter() {
-            keys.push(key.copy()?)?;
-        }
-        Ok(keys)
+        self.ops.keys()
     }
 
     /// The first key, in key order, behind this one, and the first of all where none is given.
-    pub fn next_key(&self, after: Option<&Key>) -> Option<&Key>
-        ensures { option_map (λ key. key.now) result ≡ first_in (keys_behind (option_map (λ key. key.now) after.entry) (keys_of self.now)) }
+    pub fn next_key(&self, after: Option<&Key>) -> Option<KeyIn<'_>>
+        ensures { option_map lent_key result ≡ first_in (keys_behind (option_map (λ key. key.now) after.entry) (keys_of self.now)) }
     {
         match after {
             Some(key) => self.key_behind(key),
@@ -197,26 +192,19 @@ impl ToSync {
     }
 
     /// The first key.
-    fn first_key(&self) -> Option<&Key>
-        ensures { option_map (λ key. key.now) result ≡ first_in (keys_of self.now) }
+    fn first_key(&self) -> Option<KeyIn<'_>>
+        ensures { option_map lent_key result ≡ first_in (keys_of self.now) }
     {
-        match self.ops.iter().next() {
+        match self.ops.first() {
             Some((key, _)) => Some(key),
             None => None,
         }
     }
 
     /// The first key behind this one.
-    fn key_behind(&self, key: &Key) -> Option<&Key>
-        ensures { option_map (λ key. key.now) result ≡ first_in (keys_behind (Some key.now) (keys_of self.now)) }
+    fn key_behind(&self, key: &Key) -> Option<KeyIn<'_>>
+        ensures { option_map lent_key result ≡ first_in (keys_behind (Some key.now) (keys_of self.now)) }
     {
-        match self
-            .ops
-            .range((Bound::Excluded(key), Bound::Unbounded))
-            .next()
-        {
-            Some((key, _)) => Some(key),
-            None => None,
-        }
+        self.ops.key_behind(key)
     }
 }

@@ -1,10 +1,8 @@
 -- what waits, laid over rows
-use Rattle.std.proofs.Common.{◌≡◌, ℕ, zero, suc, Bool, true, false, cond, ◌||◌, List, [], ◌∷◌, ◌++◌, map, take, drop, Option, None, Some, unwrap_or, is_some, refl, sym, ap, ◌∙◌, subst}
+use Rattle.std.proofs.Common.{◌≡◌, ℕ, zero, suc, Bool, true, false, cond, ◌||◌, List, [], ◌∷◌, ◌++◌, take, drop, Option, None, Some, unwrap_or, is_some, refl, sym, ap, ◌∙◌}
 use Rattle.std.specs.BTreeMap.{insert_entry, is_at}
 use Rattle.std.specs.List.{AllByRecursion}
 use Rattle.std.specs.Map.{lookup}
-use Rattle.std.specs.declared.cmp.Ordering.{Ordering}
-use Rattle.std.specs.declared.cmp.Ordering.TheVariants.{Less}
 use Rattle.swss_types.proofs.Truths.{or_none}
 use Rattle.swss_types.proofs.Maps.{lookup-insert_entry}
 use Rattle.table_schema.specs.Fields.{Pairs, HasRisingKeys, HasRisingNames, merged}
@@ -17,9 +15,8 @@ use Rattle.table_schema.proofs.Keys.{key_exact, key_total, tied_keys_same}
 use Rattle.table_schema.proofs.LastValues.{HasRisingNames-merged}
 use Rattle.table_schema.proofs.Places.{HasRisingKeys-insert_entry}
 use Rattle.table_schema.proofs.RowLists.{HasRisingRows-after_write, HasRisingRows-after_writes}
-use Rattle.producer_table.specs.declared.key_op.KeyOp.{KeyOp}
 use Rattle.producer_table.specs.declared.waiting.Pending.{Pending}
-use Rattle.producer_table.specs.Pending.{PendingKeys, ArePendingInOrder, HaveRisingNames, has_write, is_write_of, laid_over, nothing_pending, op_of, ops_of, pending_after, pending_after_all, pending_at, pending_fields, pending_of, row_with_fields, row_with_pending, set_of, with_ops, with_pending, writes_of_op, writes_of_ops}
+use Rattle.producer_table.specs.Pending.{PendingKeys, ArePendingInOrder, HaveRisingNames, has_write, is_write_of, laid_over, nothing_pending, op_of, ops_of, pending_after, pending_after_all, pending_at, pending_fields, pending_of, row_with_fields, row_with_pending, set_of, with_pending, writes_of_op, writes_of_ops}
 use Rattle.producer_table.proofs.Found.{each-found, each-put, lookup-above, same_entries}
 use Rattle.producer_table.proofs.Merging.{merged-merged}
 use Rattle.producer_table.proofs.RowWrites.{after_writes-append, fields_at-after_write, row_after}

@@ -2,13 +2,13 @@
 ghost use Rattle.std.specs.Prelude.{◌≡◌, ◌⊎◌, ◌↔◌, [], ◌∷◌, take, drop, IsTrue, IfOk, IfSome, IfNone, OnOk, OnErr, option_map, slice_get};
 ghost use Rattle.table_schema.specs.declared.write.Write.TheVariants as write;
 ghost use Rattle.table_schema.specs.declared.key.Key.{Key};
+ghost use Rattle.row_maps.specs.Entries.{lent_key};
 ghost use Rattle.producer_table.specs.declared.waiting.Pending.{Pending};
 ghost use Rattle.producer_table.specs.Pending.{ArePendingInOrder, laid_over, nothing_pending, op_of, ops_of, pending_after};
 
 use crate::KeyOp;
+use row_maps::{KeyIn, RowMap};
 use std::alloc::Global;
-use std::collections::BTreeMap;
-use std::collections::btree_map::Entry;
 use std::marker::Model;
 use swss_types::OutOfMemory;
 use table_schema::{Fields, Key};
@@ -26,7 +26,7 @@ pub struct Pending {
 /// a producer table with its temporary fields, its set of keys and its set of deleted keys.
 #[derive(Debug, Drop)]
 pub struct Waiting {
-    keys: BTreeMap<Key, Pending>,
+    keys: RowMap<Pending>,
     alloc: Global,
 }
 
@@ -38,9 +38,9 @@ impl Model for Waiting {
 
     ghost Value = { List (Key × Pending) };
 
-    ghost view = { λ w. w.keys.entries };
+    ghost view = { λ w. w.keys };
 
-    ghost invariant = { λ w. HaveRisingNames w.keys.entries };
+    ghost invariant = { λ w. HaveRisingNames w.keys };
 }
 
 impl Pending {
@@ -70,14 +70,14 @@ impl Pending {
 }
 
 /// Merges fields into those that wait of a key.
-fn lay(keys: &mut BTreeMap<Key, Pending>, key: Key, fields: Fields) -> Result<(), OutOfMemory>
-    ensures ok { OnOk result (keys.new.entries ≡ pending_after keys.old.entries (write.Set key fields)) }
-    ensures err { OnErr result (keys.new.entries ≡ keys.old.entries) }
+fn lay(keys: &mut RowMap<Pending>, key: Key, fields: Fields) -> Result<(), OutOfMemory>
+    ensures ok { OnOk result (keys.new ≡ pending_after keys.old (write.Set key fields)) }
+    ensures err { OnErr result (keys.new ≡ keys.old) }
 {
-    match keys.entry(key)? {
-        Entry::Occupied(place) => place.into_mut().lay(fields),
-        Entry::Vacant(place) => {
-            place.insert(Pending::first(fields));
+    match keys.get_mut(&key) {
+        Some(pending) => pending.lay(fields),
+        None => {
+            keys.insert(key, Pending::first(fields))?;
             Ok(())
         }
     }
@@ -89,7 +89,7 @@ impl Waiting {
         ensures { result ≡ [] }
     {
         Waiting {
-            keys: BTreeMap::new(alloc),
+            keys: RowMap::new(alloc),
             alloc,
         }
     }
@@ -141,10 +141,10 @@ impl Waiting {
     }
 
     /// The first key with what waits of it: None exactly where nothing waits.
-    pub fn first(&self) -> Option<(&Key, &Pending)>
-        ensures { option_map (λ e. (e.0.now, e.1.now)) result ≡ slice_get self.now 0 }
+    pub fn first(&self) -> Option<(KeyIn<'_>, &Pending)>
+        ensures { option_map (λ e. (lent_key e.0, e.1.now)) result ≡ slice_get self.now 0 }
     {
-        self.keys.iter().next()
+        self.keys.first()
     }
 
     /// Takes out the first key with all that waits of it, and no memory: None exactly where nothing waits.

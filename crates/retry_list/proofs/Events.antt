@@ -1,5 +1,5 @@
 -- the order of events, and that reasons that compare equal are equal
-use Rattle.std.proofs.Common.{◌≡◌, true, refl, sym, ap, ◌∙◌}
+use Rattle.std.proofs.Common.{◌≡◌, Bool, true, false, refl, sym, ap, ◌∙◌}
 use Rattle.std.specs.BTreeMap.{is_at}
 use Rattle.std.specs.Cmp.{IsTotalOrder}
 use Rattle.std.proofs.lemmas.Bool.{eqb-true, false≢true}
@@ -14,7 +14,7 @@ use Rattle.table_schema.proofs.Keys.{key_exact}
 use Rattle.switch_model.specs.declared.wait.Wait.{Wait}
 use Rattle.switch_model.specs.declared.wait.Wait.TheVariants as wait
 use Rattle.switch_model.specs.contracts.wait.WaitPartialEq.TheImpl as wait_eq
-use Rattle.sai_types.specs.declared.kind.Kind.{Kind}
+use Rattle.switch_model.specs.contracts.wait.WaitEq.TheImpl.Laws as equal_wait
 use Rattle.sai_types.specs.declared.kind.Kind.TheVariants as kind
 use Rattle.sai_types.specs.contracts.kind.KindOrd.TheImpl as kind_ord
 use Rattle.sai_types.specs.contracts.kind.KindOrd.TheImpl.Laws as kind_laws
@@ -22,6 +22,7 @@ use Rattle.retry_list.specs.declared.event.Event.{Event}
 use Rattle.retry_list.specs.declared.event.Event.TheVariants.{Applied, Gone, Freed, Ended}
 use Rattle.retry_list.specs.contracts.event.EventOrd.TheImpl.Laws as event_laws
 use Rattle.retry_list.specs.Event.{event_cmp}
+use Rattle.retry_list.specs.Reasons.{event_of, is_about}
 
 kind_exact : CmpEqualImpliesEq kind_ord.ghosts.cmp
 kind_exact kind.Port kind.Port h = refl
@@ -67,3 +68,29 @@ wait_exact (wait.Held k) (wait.Held j) h = ap wait.Held (same-key k j h)
 wait_exact (wait.NoRoom a) (wait.NoRoom b) h = ap wait.NoRoom (kind_exact a b (tied (kind_ord.ghosts.cmp a b) (sym (kind_laws.matches_eq-law a b) ∙ h)))
 wait_exact (wait.Busy m) (wait.Busy n) h = ap wait.Busy (eqb-true m n h)
 wait_exact _ _ h = absurd (false≢true h)
+
+-- the reason that is about an event
+reason_about : Event → Wait
+reason_about (Applied k) = wait.Missing k
+reason_about (Gone k) = wait.Held k
+reason_about (Freed kind) = wait.NoRoom kind
+reason_about (Ended worker) = wait.Busy worker
+
+reason_about-event_of : (w : Wait) → reason_about (event_of w) ≡ w
+unfolding reason_about
+reason_about-event_of (wait.Missing k) = refl
+reason_about-event_of (wait.Held k) = refl
+reason_about-event_of (wait.NoRoom kind) = refl
+reason_about-event_of (wait.Busy worker) = refl
+
+-- another reason is about another event
+pub other_about : (w own : Wait) → wait_eq.ghosts.eq own w ≡ false → is_about (event_of w) own ≡ false
+other_about w own apart =
+    let by : (b : Bool) → is_about (event_of w) own ≡ b → b ≡ false =
+    λ b. elim b as (λ b. is_about (event_of w) own ≡ b → b ≡ false) [
+      | true ↦ λ here.
+          let one : w ≡ own = sym (reason_about-event_of w) ∙ ap reason_about (same_event (event_of w) (event_of own) here) ∙ reason_about-event_of own in
+          absurd (false≢true (sym apart ∙ ap (wait_eq.ghosts.eq own) one ∙ equal_wait.laws-law.refl own))
+      | false ↦ λ here. refl
+    ] in
+    by (is_about (event_of w) own) refl

@@ -1,5 +1,5 @@
 -- what is filed under events, after a change of one event's keys
-use Rattle.std.proofs.Common.{◌≡◌, Bool, true, false, cond, ◌&&◌, not, List, [], Option, None, Some, Result, Ok, Err, IfOk, IsOkAnd, OnOk, refl, sym, ap, ◌∙◌}
+use Rattle.std.proofs.Common.{◌≡◌, Bool, true, false, cond, ◌&&◌, List, Option, None, Some, Result, Ok, Err, IfOk, IsOkAnd, OnOk, refl, sym, ap, ◌∙◌}
 use Rattle.std.specs.BTreeMap.{is_at}
 use Rattle.std.specs.BTreeSet.{BTreeSet}
 use Rattle.std.specs.List.{list_any}

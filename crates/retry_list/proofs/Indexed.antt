@@ -9,7 +9,7 @@ use Rattle.switch_model.specs.declared.wait.Wait.{Wait}
 use Rattle.retry_list.specs.declared.event.Event.{Event}
 use Rattle.retry_list.specs.declared.index.Index.{Index}
 use Rattle.retry_list.specs.Event.{event_cmp}
-use Rattle.retry_list.specs.Index.{IsFiledAs, IsFiledUnless, AreReasonsFiled, IsSameIndex, is_filed}
+use Rattle.retry_list.specs.Index.{IsFiledAs, IsFiledUnless, AreReasonsFiled, IsSameIndex}
 use Rattle.retry_list.specs.Reasons.{Reasons, event_of, is_about, is_woken, reason_at, with_reason}
 use Rattle.retry_list.proofs.Events.{event-turned, same_event}
 use Rattle.retry_list.proofs.Keyed.{key-turned}
@@ -72,18 +72,18 @@ IsIndexed-moved r old mid new k w before indexed filed unfiled there e q =
     ∙ moved_anywhere (is_at (event_cmp to) e) (is_at (key_cmp k) q) (is_at (event_cmp from) e) (is_at (event_cmp from) to) (is_woken e (reason_at r q)) (λ here. was_of r k q e (Some before) there here ∙ event-turned e from) same back
     ∙ sym (woken-put r k w e q)
 
-filed_and_back : (b c was : Bool) → (c ≡ true → was ≡ false) → cond (b && c) false (cond (b && c) true was) ≡ was
-filed_and_back true true was h = sym (h refl)
+filed_and_back : (b c was : Bool) → (b ≡ true → c ≡ true → was ≡ false) → cond (b && c) false (cond (b && c) true was) ≡ was
+filed_and_back true true was h = sym (h refl refl)
 filed_and_back true false was h = refl
 filed_and_back false c was h = refl
 
--- a key that got no reason, since memory was refused
-pub IsIndexed-restored : (r after : Reasons) (old mid new : Index) (event : Event) (k : Key) → AreReasonsFiled r old → IsFiledAs true old mid event k → IsFiledAs false mid new event k → reason_at r k ≡ None → after ≡ r → AreReasonsFiled after new
+-- a key that did not get a reason about an event, since memory was refused
+pub IsIndexed-restored : (r after : Reasons) (old mid new : Index) (event : Event) (k : Key) → AreReasonsFiled r old → IsFiledAs true old mid event k → IsFiledAs false mid new event k → is_woken event (reason_at r k) ≡ false → after ≡ r → AreReasonsFiled after new
 IsIndexed-restored r after old mid new event k indexed filed unfiled none same =
     subst (λ r. AreReasonsFiled r new) (sym same) (λ e q.
     unfiled e q
     ∙ ap (λ x. cond (is_at (event_cmp event) e && is_at (key_cmp k) q) false x) (filed e q ∙ ap (λ x. cond (is_at (event_cmp event) e && is_at (key_cmp k) q) true x) (indexed e q))
-    ∙ filed_and_back (is_at (event_cmp event) e) (is_at (key_cmp k) q) (is_woken e (reason_at r q)) (was_of r k q e None none))
+    ∙ filed_and_back (is_at (event_cmp event) e) (is_at (key_cmp k) q) (is_woken e (reason_at r q)) (λ same here. ap (λ f. is_woken f (reason_at r q)) (sym (same_event event e same)) ∙ was_of r k q event (reason_at r k) refl here ∙ none))
 
 -- nothing changed
 pub IsIndexed-same : (r after : Reasons) (old new : Index) → AreReasonsFiled r old → IsSameIndex old new → after ≡ r → AreReasonsFiled after new

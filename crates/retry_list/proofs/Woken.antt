@@ -1,12 +1,11 @@
 -- the keys that an event wakes, and those that it leaves
-use Rattle.std.proofs.Common.{◌≡◌, Bool, true, false, not, cond, ◌||◌, List, [], ◌∷◌, Option, None, Some, Ordering, filter, refl, sym, ap, subst, ◌∙◌}
+use Rattle.std.proofs.Common.{◌≡◌, Bool, true, false, not, cond, ◌||◌, List, [], ◌∷◌, Option, None, Some, filter, refl, sym, ap, subst, ◌∙◌}
 use Rattle.std.specs.declared.cmp.Ordering.TheVariants.{Less, Equal, Greater}
 use Rattle.std.specs.Ordering.{ordering_reverse}
 use Rattle.std.specs.BTreeMap.{is_at}
-use Rattle.std.specs.BTreeSet.{BTreeSet}
 use Rattle.std.specs.List.{AllByRecursion, list_any}
 use Rattle.std.specs.List.Sorted.{IsStrictlySortedBy}
-use Rattle.std.specs.Map.{keys_of, lookup}
+use Rattle.std.specs.Map.{keys_of}
 use Rattle.std.proofs.lemmas.Cmp.{eq_by_cmp_equiv, tied_itself}
 use Rattle.std.proofs.lemmas.Map.Entries.{lookup-filter-values, option_filter}
 use Rattle.std.proofs.lemmas.Map.Keys.{IsDistinct-from_sorted}
@@ -23,8 +22,8 @@ use Rattle.sai_types.proofs.Maps.{lookup-removed}
 use Rattle.retry_list.specs.declared.event.Event.{Event}
 use Rattle.retry_list.specs.declared.index.Index.{Index}
 use Rattle.retry_list.specs.Event.{event_cmp}
-use Rattle.retry_list.specs.Index.{IsCleared, AreReasonsFiled, is_filed, keys_about}
-use Rattle.retry_list.specs.Reasons.{Forgot, Put, Reasons, RetryStep, Woke, event_of, is_about, is_woken, last_reason, left_asleep, reason_after, reason_at, reasons_after, reasons_after_all, unless_about, with_reason, without_all, without_reason, woken_keys}
+use Rattle.retry_list.specs.Index.{IsCleared, AreReasonsFiled, keys_about}
+use Rattle.retry_list.specs.Reasons.{Forgot, Put, Reasons, RetryStep, Woke, event_of, is_about, is_woken, last_reason, left_asleep, reason_after, reason_at, reasons_after, reasons_after_all, unless_about, without_all, without_reason, woken_keys}
 use Rattle.retry_list.proofs.Events.{event-turned, same_event}
 use Rattle.retry_list.proofs.Keyed.{key-turned, lookup-above, sorted_from_rising}
 

@@ -1,5 +1,5 @@
 -- Keys filed by the events that their reasons are about. Own.
-use Rattle.std.specs.Prelude.{◌≡◌, Bool, true, false, ◌&&◌, not, List, [], Option, Some, None, if◌then◌else◌}
+use Rattle.std.specs.Prelude.{◌≡◌, Bool, false, ◌&&◌, not, List, [], Option, Some, None, if◌then◌else◌}
 use Rattle.std.specs.BTreeMap.{is_at}
 use Rattle.std.specs.BTreeSet.{BTreeSet}
 use Rattle.std.specs.List.{list_any}

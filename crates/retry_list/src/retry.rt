@@ -1,15 +1,16 @@
 // The list of the rows that wait.
-ghost use Rattle.std.specs.Prelude.{◌≡◌, ◌≤◌, [], length, IfOk, IsOkAnd, IsTrue, OnOk, OnErr, option_map, vec_capacity};
+ghost use Rattle.std.specs.Prelude.{◌≡◌, ◌≤◌, ◌<◌, ◌^◌, [], false, length, IfOk, IsOkAnd, IsTrue, OnOk, OnErr, option_map, vec_capacity};
 ghost use Rattle.std.specs.List.Sorted.{IsStrictlySortedBy};
 ghost use Rattle.table_schema.specs.Fields.{HasRisingKeys};
 ghost use Rattle.table_schema.specs.Key.{key_cmp};
 ghost use Rattle.retry_list.specs.Index.{AreReasonsFiled};
-ghost use Rattle.retry_list.specs.Reasons.{left_asleep, reason_at, with_reason, without_all, without_reason, woken_keys};
+ghost use Rattle.retry_list.specs.Reasons.{event_of, is_woken, left_asleep, reason_at, with_reason, without_all, without_reason, woken_keys};
 
 use crate::Event;
 use crate::index::Index;
+use row_maps::RowMap;
 use std::alloc::Global;
-use std::collections::{BTreeMap, BTreeSet, btree_map};
+use std::collections::BTreeSet;
 use std::marker::Model;
 use switch_model::Wait;
 use swss_types::OutOfMemory;
@@ -18,7 +19,7 @@ use table_schema::Key;
 /// The keys whose rows wait, each with its reason, in key order. What an event wakes is found without going over the others.
 #[derive(Debug, Drop)]
 pub struct Retry {
-    reasons: BTreeMap<Key, Wait>,
+    reasons: RowMap<Wait>,
     index: Index,
     alloc: Global,
 }
@@ -31,9 +32,9 @@ impl Model for Retry {
 
     ghost Value = { List (Key × Wait) };
 
-    ghost view = { λ r. r.reasons.entries };
+    ghost view = { λ r. r.reasons };
 
-    ghost invariant = { λ r. AreReasonsFiled r.reasons.entries r.index };
+    ghost invariant = { λ r. AreReasonsFiled r.reasons r.index };
 }
 
 impl Retry {
@@ -42,7 +43,7 @@ impl Retry {
         ensures { result ≡ [] }
     {
         Retry {
-            reasons: BTreeMap::new(alloc),
+            reasons: RowMap::new(alloc),
             index: Index::new(alloc),
             alloc,
         }
@@ -93,25 +94,28 @@ impl Retry {
     }
 
     /// The keys on the list with their reasons, in key order.
-    pub fn list(&self) -> btree_map::Iter<'_, Key, Wait>
+    pub fn list(&self) -> row_maps::Iter<'_, Wait>
         ensures rest { result ≡ self.now }
         ensures rising { HasRisingKeys key_cmp self.now }
+        ensures small { length self.now < 2 ^ 63 }
     {
+        // It says that there are so few.
+        let _few = self.reasons.len();
         self.reasons.iter()
     }
 }
 
 /// Gives a key its reason, and files it under the event that this is about.
 fn put(
-    reasons: &mut BTreeMap<Key, Wait>,
+    reasons: &mut RowMap<Wait>,
     index: &mut Index,
     key: Key,
     wait: Wait,
 ) -> Result<(), OutOfMemory>
-    requires indexed { AreReasonsFiled reasons.old.entries index.old }
-    ensures ok { OnOk result (reasons.new.entries ≡ with_reason reasons.old.entries key wait) }
-    ensures err { OnErr result (reasons.new.entries ≡ reasons.old.entries) }
-    ensures indexed { AreReasonsFiled reasons.new.entries index.new }
+    requires indexed { AreReasonsFiled reasons.old index.old }
+    ensures ok { OnOk result (reasons.new ≡ with_reason reasons.old key wait) }
+    ensures err { OnErr result (reasons.new ≡ reasons.old) }
+    ensures indexed { AreReasonsFiled reasons.new index.new }
 {
     if has(reasons, &key, &wait) {
         return Ok(());
@@ -133,8 +137,9 @@ fn put(
 }
 
 /// Whether a key has this reason already. To put it once more changes nothing.
-fn has(reasons: &BTreeMap<Key, Wait>, key: &Key, wait: &Wait) -> bool
-    ensures { IsTrue result → with_reason reasons.now.entries key.now wait.now ≡ reasons.now.entries }
+fn has(reasons: &RowMap<Wait>, key: &Key, wait: &Wait) -> bool
+    ensures same { IsTrue result → with_reason reasons.now key.now wait.now ≡ reasons.now }
+    ensures other { (result ≡ false) → is_woken (event_of wait.now) (reason_at reasons.now key.now) ≡ false }
 {
     // It says that the keys rise.
     let _rising = reasons.len();
@@ -145,11 +150,13 @@ fn has(reasons: &BTreeMap<Key, Wait>, key: &Key, wait: &Wait) -> bool
 }
 
 /// Takes a key's reason, and the key out from under the event that this is about.
-fn forget(reasons: &mut BTreeMap<Key, Wait>, index: &mut Index, key: &Key)
-    requires indexed { AreReasonsFiled reasons.old.entries index.old }
-    ensures gone { reasons.new.entries ≡ without_reason reasons.old.entries key.now }
-    ensures indexed { AreReasonsFiled reasons.new.entries index.new }
+fn forget(reasons: &mut RowMap<Wait>, index: &mut Index, key: &Key)
+    requires indexed { AreReasonsFiled reasons.old index.old }
+    ensures gone { reasons.new ≡ without_reason reasons.old key.now }
+    ensures indexed { AreReasonsFiled reasons.new index.new }
 {
+    // It says that the keys rise.
+    let _rising = reasons.len();
     match reasons.remove(key) {
         Some(wait) => index.unfile(&Event::of(wait), key),
         None => {}
@@ -158,14 +165,14 @@ fn forget(reasons: &mut BTreeMap<Key, Wait>, index: &mut Index, key: &Key)
 
 /// Takes keys off the list, and gives them in the room that was made for them.
 fn take_off(
-    reasons: &mut BTreeMap<Key, Wait>,
+    reasons: &mut RowMap<Wait>,
     keys: BTreeSet<Key>,
     room: Vec<Key>,
 ) -> Result<Vec<Key>, OutOfMemory>
     requires room { (room.items ≡ []) × (length keys.keys ≤ vec_capacity room) }
     ensures given { IsOkAnd result (λ woken. woken.items ≡ keys.keys) }
     ensures rise { IsStrictlySortedBy key_cmp keys.keys }
-    ensures left { reasons.new.entries ≡ without_all reasons.old.entries keys.keys }
+    ensures left { reasons.new ≡ without_all reasons.old keys.keys }
 {
     let mut woken = room;
     for key in keys {

@@ -5,9 +5,8 @@ ghost use Rattle.std.specs.Map.{keys_of, remove_entry};
 ghost use Rattle.table_schema.specs.Key.{key_cmp};
 ghost use Rattle.table_schema.specs.Rows.{HasRisingRows, after_write, fields_at, with_fields};
 
+use row_maps::{Iter, RowMap};
 use std::alloc::Global;
-use std::collections::BTreeMap;
-use std::collections::btree_map::{self, Entry};
 use std::marker::Model;
 use swss_types::OutOfMemory;
 use table_schema::{Fields, Key, Write};
@@ -15,8 +14,7 @@ use table_schema::{Fields, Key, Write};
 /// Rows by their keys: what a list of writes makes of no row.
 #[derive(Debug, Drop)]
 pub struct Rows {
-    rows: BTreeMap<Key, Fields>,
-    alloc: Global,
+    rows: RowMap<Fields>,
 }
 
 impl Model for Rows {
@@ -25,7 +23,7 @@ impl Model for Rows {
 
     ghost Value = { List (Key × List (List ℕ × List ℕ)) };
 
-    ghost view = { λ r. r.rows.entries };
+    ghost view = { λ r. r.rows };
 }
 
 impl Rows {
@@ -34,8 +32,7 @@ impl Rows {
         ensures { result ≡ [] }
     {
         Rows {
-            rows: BTreeMap::new(alloc),
-            alloc,
+            rows: RowMap::new(alloc),
         }
     }
 
@@ -65,8 +62,7 @@ impl Rows {
         ensures ok { OnOk result (self.new ≡ insert_entry key_cmp self.old key.now fields.now) }
         ensures err { OnErr result (self.new ≡ self.old) }
     {
-        let key = key.copy()?;
-        self.rows.insert(key, fields.copy()?)?;
+        self.rows.insert(key.copy()?, fields.copy()?)?;
         Ok(())
     }
 
@@ -81,15 +77,11 @@ impl Rows {
     pub fn keys(&self) -> Result<Vec<Key>, OutOfMemory>
         ensures { IfOk result (λ keys. keys.items ≡ keys_of self.now) }
     {
-        let mut keys = Vec::with_capacity(self.alloc, self.rows.len())?;
-        for (key, _) in self.rows.iter() {
-            keys.push(key.copy()?)?;
-        }
-        Ok(keys)
+        self.rows.keys()
     }
 
     /// The rows, in key order.
-    pub fn iter(&self) -> btree_map::Iter<'_, Key, Fields>
+    pub fn iter(&self) -> Iter<'_, Fields>
         ensures rest { result ≡ self.now }
         ensures rising { HasRisingRows self.now }
     {
@@ -109,10 +101,10 @@ impl Rows {
         ensures ok { OnOk result (self.new ≡ with_fields self.old key.now fields.now) }
         ensures err { OnErr result (self.new ≡ self.old) }
     {
-        match self.rows.entry(key.copy()?)? {
-            Entry::Occupied(place) => place.into_mut().merge(fields),
-            absent => {
-                absent.or_try_insert_with(|| fields.copy())?;
+        match self.rows.get_mut(key) {
+            Some(row) => row.merge(fields),
+            None => {
+                self.rows.insert(key.copy()?, fields.copy()?)?;
                 Ok(())
             }
         }

@@ -1,5 +1,7 @@
 -- the rows that do not read are some of the rows
-use Rattle.std.proofs.Common.{◌≡◌, ℕ, suc, ◌+◌, ◌≤◌, List, [], ◌∷◌, length, Result, Ok, Err, ap, ◌∙◌, arith}
+use Rattle.std.proofs.Common.{◌≡◌, suc, ◌+◌, ◌≤◌, List, [], ◌∷◌, ◌++◌, flat_map, length, Result, Ok, Err, refl, ap, ◌∙◌, arith}
+use Rattle.std.proofs.lemmas.Grind.{flat_map-append}
+use Rattle.std.proofs.lemmas.List.{length-append}
 use Rattle.table_schema.specs.Fields.{Pairs}
 use Rattle.table_schema.specs.Plan.{Ports}
 use Rattle.table_schema.specs.Rows.{Rows}
@@ -7,7 +9,7 @@ use Rattle.table_schema.specs.Rules.{row_of}
 use Rattle.table_schema.specs.declared.key.Key.{Key}
 use Rattle.table_schema.specs.declared.row.BadRow.{BadRow}
 use Rattle.table_schema.specs.declared.row.Row.{Row}
-use Rattle.swss_report.specs.Ignored.{bad_rows, with_bad}
+use Rattle.swss_report.specs.Ignored.{bad_rows, ignored_line, with_bad}
 
 few-with_bad : (key : Key) (row : Result Row BadRow) (bad : List (Key × BadRow)) → length (with_bad key row bad) ≤ suc (length bad)
 few-with_bad key (Ok row) bad = omega arith
@@ -20,8 +22,17 @@ few-bad_rows plan (row ∷ rows) =
     let one = few-with_bad row.0 (row_of plan row.0 row.1) (bad_rows plan rows) in
     omega (arith, one, more)
 
--- one row more that does not read: there are still no more of them than rows
-pub one-more : (plan : Ports) (rows left rest : Rows) (key : Key) (fields : Pairs) (why : BadRow) (count : ℕ) → left ≡ (key, fields) ∷ rest → row_of plan key fields ≡ Err why → count + length (bad_rows plan left) ≡ length (bad_rows plan rows) → count + 1 ≤ length rows
-one-more plan rows left rest key fields why count is bad all =
-    let one : length (bad_rows plan left) ≡ suc (length (bad_rows plan rest)) = ap (λ r. length (bad_rows plan r)) is ∙ ap (λ x. length (with_bad key x (bad_rows plan rest))) bad in
-    omega (arith, few-bad_rows plan rows, all, one)
+-- those of a row, and then those of the rows behind it
+pub bad_rows-first : (plan : Ports) (row : Key × Pairs) (rest : Rows) → bad_rows plan (row ∷ rest) ≡ bad_rows plan (row ∷ []) ++ bad_rows plan rest
+bad_rows-first plan row rest = by (row_of plan row.0 row.1)
+  where
+    by : (r : Result Row BadRow) → with_bad row.0 r (bad_rows plan rest) ≡ with_bad row.0 r [] ++ bad_rows plan rest
+    by (Ok good) = refl
+    by (Err why) = refl
+
+-- so it is with their number and their lines
+pub count-first : (plan : Ports) (left rest : Rows) (row : Key × Pairs) → left ≡ row ∷ rest → length (bad_rows plan left) ≡ length (bad_rows plan (row ∷ [])) + length (bad_rows plan rest)
+count-first plan left rest row is = ap (λ l. length (bad_rows plan l)) is ∙ ap length (bad_rows-first plan row rest) ∙ length-append (bad_rows plan (row ∷ [])) (bad_rows plan rest)
+
+pub lines-first : (plan : Ports) (left rest : Rows) (row : Key × Pairs) → left ≡ row ∷ rest → flat_map ignored_line (bad_rows plan left) ≡ flat_map ignored_line (bad_rows plan (row ∷ [])) ++ flat_map ignored_line (bad_rows plan rest)
+lines-first plan left rest row is = ap (λ l. flat_map ignored_line (bad_rows plan l)) is ∙ ap (flat_map ignored_line) (bad_rows-first plan row rest) ∙ flat_map-append ignored_line (bad_rows plan (row ∷ [])) (bad_rows plan rest)

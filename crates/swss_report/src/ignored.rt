@@ -1,13 +1,15 @@
 // The rows that do not read, as the report lists them.
-ghost use Rattle.std.specs.Prelude.{◌≡◌, ◌++◌, flat_map, length, IfOk, OnOk};
+ghost use Rattle.std.specs.Prelude.{◌≡◌, [], ◌∷◌, ◌++◌, flat_map, length, IfOk, OnOk};
+ghost use Rattle.row_maps.specs.Entries.{lent_key};
 ghost use Rattle.swss_report.specs.Ignored.{bad_rows, field_name, ignored_line, ignored_text, ignored_why};
 
 use crate::counted::write_count;
 use crate::tables::write_key;
+use row_maps::KeyIn;
 use row_store::Rows;
 use std::alloc::Global;
 use swss_types::OutOfMemory;
-use table_schema::{BadRow, BadWhy, Key, PortPlan, read_row};
+use table_schema::{BadRow, BadWhy, Fields, Key, PortPlan, read_row};
 
 /// Appends how many rows do not read, and their lines in key order. An Err may leave a part of it.
 pub(crate) fn write_ignored(
@@ -39,12 +41,29 @@ fn write_bad_rows(
     let _most = rows.len();
     let mut count = 0u64;
     for (key, fields) in rows.iter() {
-        if let Err(broken) = read_row(alloc, plan, key, fields)? {
-            write_bad_row(alloc, out, key, broken)?;
-            count += 1;
-        }
+        count += write_if_bad(alloc, out, plan, key, fields)?;
     }
     Ok(count)
+}
+
+/// Appends the line of a row if it does not read, and gives the number of lines.
+fn write_if_bad(
+    alloc: Global,
+    out: &mut Vec<u8>,
+    plan: &PortPlan,
+    key: KeyIn<'_>,
+    fields: &Fields,
+) -> Result<u64, OutOfMemory>
+    ensures lines { OnOk result (out.new.items ≡ out.old.items ++ flat_map ignored_line (bad_rows plan.now ((lent_key key.entry, fields.now) ∷ []))) }
+    ensures count { IfOk result (λ count. count ≡ length (bad_rows plan.now ((lent_key key.entry, fields.now) ∷ []))) }
+{
+    match read_row(alloc, plan, key.key(), fields)? {
+        Ok(_) => Ok(0),
+        Err(broken) => {
+            write_bad_row(alloc, out, key.key(), broken)?;
+            Ok(1)
+        }
+    }
 }
 
 /// Appends the line of a row that does not read: its key, what is wrong, and in which field.

@@ -6,3 +6,4 @@ pub mod Walks
 pub mod LeftWaiting
 pub mod KeysLeave
 mod RowKeys
+mod ReadRows

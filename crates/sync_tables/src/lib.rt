@@ -4,6 +4,7 @@
 
 mod laws;
 mod merging;
+mod read_rows;
 mod rows;
 mod tables;
 

@@ -1,18 +1,37 @@
 // How what was popped of a key is merged into the rows, and the key comes to be one to sync.
 ghost use Rattle.std.specs.Prelude.{◌≡◌, IfOk, OnOk, OnErr, None, Some};
+ghost use Rattle.row_maps.specs.Entries.{lent_key};
 ghost use Rattle.producer_table.specs.Pending.{op_of};
 ghost use Rattle.sync_tables.specs.Tables.{IsAdded, IsMerged, Matters};
 
+use crate::read_rows::ReadRows;
 use consumer_table::ToSync;
 use producer_table::{KeyOp, Pending};
+use row_maps::KeyIn;
 use row_store::Rows;
 use swss_types::OutOfMemory;
 use table_schema::Key;
 
+/// Takes in what waited of the first key that waits, as it stands there.
+pub(crate) fn take_first(
+    rows: &mut ReadRows,
+    to_sync: &mut ToSync,
+    key: KeyIn<'_>,
+    pending: &Pending,
+) -> Result<(), OutOfMemory>
+    requires matters { Matters pending.now }
+    ensures merged { OnOk result (IsMerged rows.old (lent_key key.entry) pending.now rows.new) }
+    ensures added { OnOk result (IsAdded to_sync.old (Some (lent_key key.entry)) to_sync.new) }
+    ensures err { OnErr result (rows.new ≡ rows.old) }
+    ensures none { OnErr result (IsAdded to_sync.old None to_sync.new) }
+{
+    take_in(rows, to_sync, key.key(), pending)
+}
+
 /// Takes in what waited of a key: it is merged into its row, and the key is to sync. After want of memory the rows are as they
 /// were, and so are the keys to sync.
-pub(crate) fn take_in(
-    rows: &mut Rows,
+fn take_in(
+    rows: &mut ReadRows,
     to_sync: &mut ToSync,
     key: &Key,
     pending: &Pending,
@@ -25,7 +44,7 @@ pub(crate) fn take_in(
 {
     let there = to_sync.put(op_of(key, pending)?)?;
     let _order = to_sync.len();
-    if let Err(error) = merge(rows, key, pending) {
+    if let Err(error) = rows.merge(key, pending) {
         if !there {
             to_sync.done(key);
         }
@@ -36,7 +55,7 @@ pub(crate) fn take_in(
 
 /// Merges what waited of a key into the rows: first its row goes where there is the deletion mark, and then the fields are
 /// merged in.
-fn merge(rows: &mut Rows, key: &Key, pending: &Pending) -> Result<(), OutOfMemory>
+pub(crate) fn merge(rows: &mut Rows, key: &Key, pending: &Pending) -> Result<(), OutOfMemory>
     ensures ok { OnOk result (IsMerged rows.old key.now pending.now rows.new) }
     ensures err { OnErr result (rows.new ≡ rows.old) }
 {

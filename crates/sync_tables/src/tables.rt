@@ -1,25 +1,28 @@
 // The tables.
-ghost use Rattle.std.specs.Prelude.{◌≡◌, ◌⊎◌, ◌↔◌, ◌<◌, ◌^◌, [], drop, length, IsSome, IsTrue, IfOk, OnOk, OnErr, option_map};
+ghost use Rattle.std.specs.Prelude.{◌≡◌, ◌⊎◌, ◌↔◌, ◌<◌, ◌^◌, [], drop, length, Some, IsSome, IsTrue, IfOk, OnOk, OnErr, option_map};
 ghost use Rattle.std.specs.Bool.{OnTrue, OnFalse};
 ghost use Rattle.std.specs.Map.{keys_of};
 ghost use Rattle.table_schema.specs.Rows.{fields_at};
 ghost use Rattle.table_schema.specs.declared.key.Key.{Key};
 ghost use Rattle.table_schema.specs.declared.write.Write.TheVariants as write;
+ghost use Rattle.row_maps.specs.Entries.{lent_key};
 ghost use Rattle.switch_model.specs.Good.{good_row};
 ghost use Rattle.producer_table.specs.Pending.{ArePendingInOrder};
 ghost use Rattle.consumer_table.specs.Ops.{AreOpsInOrder, first_in, keys_behind, without_op};
 ghost use Rattle.sync_tables.specs.Tables.{IsToSync, PopsKeys, PopsSome, TakesAtMost, no_tables, tables_with_write};
 ghost use Rattle.sync_tables.specs.declared.tables.TheConstants.{BATCH};
 
-use crate::merging::take_in;
+use crate::merging::take_first;
+use crate::read_rows::ReadRows;
 use crate::rows::keys_of_rows;
 use consumer_table::ToSync;
 use producer_table::Waiting;
+use row_maps::KeyIn;
 use row_store::Rows;
 use std::alloc::Global;
 use std::marker::Model;
 use swss_types::OutOfMemory;
-use table_schema::{Fields, Key, PortPlan, Row, read_row};
+use table_schema::{Fields, Key, PortPlan, Row};
 
 /// How many keys one pop takes at most.
 pub const BATCH: u64 = 128;
@@ -27,7 +30,7 @@ pub const BATCH: u64 = 128;
 /// The rows of the application tables, the writes that wait to be popped, and the keys that are to be brought to the chip.
 #[derive(Debug, Drop)]
 pub struct Tables {
-    rows: Rows,
+    rows: ReadRows,
     waiting: Waiting,
     to_sync: ToSync,
 }
@@ -48,7 +51,7 @@ impl Tables {
         ensures { result ≡ no_tables }
     {
         Tables {
-            rows: Rows::new(alloc),
+            rows: ReadRows::new(alloc),
             waiting: Waiting::new(alloc),
             to_sync: ToSync::new(alloc),
         }
@@ -119,30 +122,40 @@ impl Tables {
         let Some((key, pending)) = self.waiting.first() else {
             return Ok(false);
         };
-        take_in(&mut self.rows, &mut self.to_sync, key, pending)?;
+        take_first(&mut self.rows, &mut self.to_sync, key, pending)?;
         self.waiting.pop_first();
         Ok(true)
     }
 
-    /// The key's row, where it reads.
+    /// The key's row, where it reads. A row of a key that waits is not read anew at each try.
     pub fn good_row(
-        &self,
+        &mut self,
         alloc: Global,
         plan: &PortPlan,
         key: &Key,
     ) -> Result<Option<Row>, OutOfMemory>
-        ensures { IfOk result (λ row. row ≡ good_row plan.now key.now (fields_at self.now.rows key.now)) }
+        ensures row { IfOk result (λ row. row ≡ good_row plan.now key.now (fields_at self.old.rows key.now)) }
+        ensures same { self.new ≡ self.old }
     {
-        match self.rows.get(key) {
-            Some(fields) => Ok(read_row(alloc, plan, key, fields)?.ok()),
-            None => Ok(None),
+        // The first key is mostly done with at once.
+        let waits = !self.is_first(key);
+        self.rows.good_row(alloc, plan, key, waits)
+    }
+
+    /// Whether a key is the first one to sync.
+    fn is_first(&self, key: &Key) -> bool
+        ensures { IsTrue result ↔ (first_in (keys_of self.now.ops) ≡ Some key.now) }
+    {
+        match self.to_sync.next_key(None) {
+            Some(first) => first.key() == key,
+            None => false,
         }
     }
 
     /// The first key to sync, in key order, behind this one, and the first of all where none is given. The keys are in order,
     /// as `AreOpsInOrder` says.
-    pub fn next_key(&self, after: Option<&Key>) -> Option<&Key>
-        ensures key { option_map (λ key. key.now) result ≡ first_in (keys_behind (option_map (λ key. key.now) after.entry) (keys_of self.now.ops)) }
+    pub fn next_key(&self, after: Option<&Key>) -> Option<KeyIn<'_>>
+        ensures key { option_map lent_key result ≡ first_in (keys_behind (option_map (λ key. key.now) after.entry) (keys_of self.now.ops)) }
         ensures order { AreOpsInOrder self.now.ops }
     {
         let _order = self.to_sync.len();
@@ -172,6 +185,7 @@ impl Tables {
     pub fn done(&mut self, key: &Key)
         ensures { self.new ≡ record self.old { ops = without_op self.old.ops key.now } }
     {
+        self.rows.forget(key);
         self.to_sync.done(key);
     }
 
@@ -182,8 +196,9 @@ impl Tables {
         ensures order { OnOk result (AreOpsInOrder self.new.ops) }
         ensures err { OnErr result (self.new ≡ self.old) }
     {
-        let to_sync = keys_of_rows(&self.rows)?;
+        let to_sync = keys_of_rows(self.rows.rows())?;
         let _order = to_sync.len();
+        self.rows.forget_all();
         self.to_sync = to_sync;
         Ok(())
     }
@@ -192,6 +207,7 @@ impl Tables {
     pub fn forget_ops(&mut self)
         ensures { self.new ≡ record self.old { ops = [] } }
     {
+        self.rows.forget_all();
         self.to_sync.forget_all();
     }
 
@@ -199,6 +215,6 @@ impl Tables {
     pub fn rows(&self) -> &Rows
         ensures { result.now ≡ self.now.rows }
     {
-        &self.rows
+        self.rows.rows()
     }
 }

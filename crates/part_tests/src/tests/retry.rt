@@ -170,6 +170,7 @@ fn act_once(
 fn listed(alloc: Global, retry: &Retry) -> Result<String, OutOfMemory> {
     let mut out = String::new(alloc);
     for (key, wait) in retry.list() {
+        let key = key.into_key()?;
         let shown = match wait {
             Wait::Missing(Key::Other(_)) => format!(in alloc; "{key:?} other;")?,
             _ => format!(in alloc; "{key:?} {wait:?};")?,

@@ -6,6 +6,6 @@ use Rattle.retry_list.proofs.retry.take_off.Given as goal
 abbrev pub invariant-loop-key : goal.invariant-loop-key
 invariant-loop-key l = record {
   given : l.woken.items ++ l.key-iterator ≡ l.fn.keys.keys;
-  left : without_all l.reasons.entries l.key-iterator ≡ without_all l.fn.reasons.entries l.fn.keys.keys;
+  left : without_all l.reasons l.key-iterator ≡ without_all l.fn.reasons l.fn.keys.keys;
   room : length l.fn.keys.keys ≤ vec_capacity l.woken;
 }

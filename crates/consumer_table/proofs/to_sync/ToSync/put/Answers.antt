@@ -6,5 +6,5 @@ use Rattle.consumer_table.proofs.to_sync.ToSync.put.Goals as goal
 
 pub invariant_of-self : goal.invariant_of-self
 invariant_of-self c =
-    let ops = c.self.inside.ops.entries in
-    kept HaveOpNames c.add.result ops (ops_with ops c.args.op) c.add.new.ops.entries c.add.ensures.ok c.add.ensures.err c.self.invariant (HaveOpNames-after_all ops (writes_of_op c.args.op) c.self.invariant)
+    let ops = c.self.inside.ops in
+    kept HaveOpNames c.add.result ops (ops_with ops c.args.op) c.add.new.ops c.add.ensures.ok c.add.ensures.err c.self.invariant (HaveOpNames-after_all ops (writes_of_op c.args.op) c.self.invariant)

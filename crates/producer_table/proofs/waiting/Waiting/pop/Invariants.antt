@@ -6,7 +6,7 @@ use Rattle.producer_table.proofs.waiting.Waiting.pop.Given as goal
 abbrev pub invariant-loop : goal.invariant-loop
 invariant-loop l = record {
   taken : l.ops.items ≡ ops_of (take l.counter l.fn.self);
-  left : l.self-inside.keys.entries ≡ drop l.counter l.fn.self;
+  left : l.self-inside.keys ≡ drop l.counter l.fn.self;
   within : l.count ≤ length l.fn.self;
   held : length l.ops.items ≡ l.counter;
   room : l.count ≤ vec_capacity l.ops;

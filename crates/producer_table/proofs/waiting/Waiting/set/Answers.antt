@@ -6,6 +6,6 @@ use Rattle.producer_table.proofs.waiting.Waiting.set.Goals as goal
 
 pub invariant_of-self : goal.invariant_of-self
 invariant_of-self c =
-    let pending = c.self.inside.keys.entries in
+    let pending = c.self.inside.keys in
     let write = Set c.args.key c.args.fields in
-    kept HaveRisingNames c.lay.result pending (pending_after pending write) c.lay.new.keys.entries c.lay.ensures.ok c.lay.ensures.err c.self.invariant (HaveRisingNames-after pending write c.self.invariant)
+    kept HaveRisingNames c.lay.result pending (pending_after pending write) c.lay.new.keys c.lay.ensures.ok c.lay.ensures.err c.self.invariant (HaveRisingNames-after pending write c.self.invariant)

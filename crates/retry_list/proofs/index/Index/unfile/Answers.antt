@@ -1,4 +1,4 @@
-use Rattle.std.proofs.Common.{◌≡◌, false, sym, ap, ◌∙◌}
+use Rattle.std.proofs.Common.{sym, ap, ◌∙◌}
 use Rattle.retry_list.specs.Index.{is_filed}
 use Rattle.retry_list.proofs.Events.{same_event}
 use Rattle.retry_list.proofs.Filed.{has-emptied, under}

@@ -3,4 +3,4 @@ use Rattle.table_schema.proofs.Places.{HasRisingKeys-from_sorted}
 use Rattle.row_store.proofs.rows.Rows.iter.Goals as goal
 
 pub returns-clause-rising : goal.returns-clause-rising
-returns-clause-rising c = rw (← c.self.view_is) (HasRisingKeys-from_sorted key_cmp c.self.inside.rows.entries c.iter.ensures.ordered)
+returns-clause-rising c = rw (← c.self.view_is) (HasRisingKeys-from_sorted key_cmp c.self.inside.rows c.iter.ensures.ordered)

@@ -1,25 +1,28 @@
-use Rattle.std.proofs.Common.{rules}
+use Rattle.std.proofs.Common.{◌≡◌, Some, rules}
+use Rattle.std.specs.BTreeMap.{is_at}
+use Rattle.std.proofs.lemmas.Map.Steps.{set_value_same}
 use Rattle.table_schema.specs.Key.{key_cmp}
-use Rattle.table_schema.proofs.Places.{HasRisingKeys-from_sorted}
-use Rattle.row_store.proofs.Sets.{new_row, same_row}
+use Rattle.table_schema.specs.Rows.{fields_at}
+use Rattle.row_store.proofs.Sets.{laid_row, new_row}
 use Rattle.row_store.proofs.rows.Rows.set.Goals as goal
-use Rattle.row_store.proofs.rows.Rows.set.Goals.{in-Occupied, in_default+in_ok-or_try_insert_with-in_default}
 
-pub returns-clause-ok : goal.returns-clause-ok
-returns-clause-ok c =
-    elim c.match-branch-3.branch [
-      | in-Occupied w ↦ search rules
-      | in_default+in_ok-or_try_insert_with-in_default w ↦
-          let new = new_row c.self.inside.rows.entries c.args.key.now c.args.fields.now (search rules) in
-          search (new, rules)
-    ]
+pub returns-in-Some-clause-ok : goal.returns-in-Some-clause-ok
+returns-in-Some-clause-ok c =
+    let rows = c.self.inside.rows in
+    let there : fields_at rows c.args.key.now ≡ Some c.in-Some.row.now = search rules in
+    let laid = laid_row rows c.args.key.now c.in-Some.row.now c.args.fields.now c.get_mut.ensures.ordered there in
+    let held = c.get_mut.follows.holds c.merge.new.self in
+    search (laid, held, rules)
 
-pub returns-clause-err : goal.returns-clause-err
-returns-clause-err c =
-    let rows = c.self.inside.rows.entries in
-    elim c.match-branch-3.branch [
-      | in-Occupied w ↦
-          let same = same_row rows c.args.key.now w.into_mut.result.now (HasRisingKeys-from_sorted key_cmp rows c.entry.ensures.ordered) in
-          search (same, rules)
-      | in_default+in_ok-or_try_insert_with-in_default w ↦ search rules
-    ]
+pub returns-in-Some-clause-err : goal.returns-in-Some-clause-err
+returns-in-Some-clause-err c =
+    let rows = c.self.inside.rows in
+    let there : fields_at rows c.args.key.now ≡ Some c.in-Some.row.now = search rules in
+    let same = set_value_same (is_at (key_cmp c.args.key.now)) rows c.in-Some.row.now there in
+    let held = c.get_mut.follows.holds c.merge.new.self in
+    search (same, held, rules)
+
+pub returns-in_ok-insert-in-None-clause-ok : goal.returns-in_ok-insert-in-None-clause-ok
+returns-in_ok-insert-in-None-clause-ok c =
+    let new = new_row c.self.inside.rows c.args.key.now c.args.fields.now (search rules) in
+    search (new, rules)
