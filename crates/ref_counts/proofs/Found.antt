@@ -1,5 +1,5 @@
 -- what is known of a name after a change
-use Rattle.std.proofs.Common.{◌≡◌, ℕ, Bool, true, false, cond, List, [], ◌∷◌, Option, None, Some, option_map, refl, sym, ap, ◌∙◌}
+use Rattle.std.proofs.Common.{◌≡◌, ℕ, Bool, true, false, ◌&&◌, cond, List, [], ◌∷◌, map, Option, None, Some, option_map, refl, sym, ap, ap₂, ◌∙◌}
 use Rattle.std.specs.BTreeMap.{insert_entry, is_at}
 use Rattle.std.specs.List.Sorted.{IsStrictlySortedBy}
 use Rattle.std.specs.Map.{keys_of, remove_entry}
@@ -7,7 +7,8 @@ use Rattle.std.specs.Ordering.{is_eq, ordering_reverse}
 use Rattle.std.specs.declared.cmp.Ordering.{Ordering}
 use Rattle.std.specs.declared.cmp.Ordering.TheVariants.{Less, Equal, Greater}
 use Rattle.std.proofs.lemmas.Cmp.{tied_itself}
-use Rattle.std.proofs.lemmas.Bool.{cond-false}
+use Rattle.std.proofs.lemmas.Bool.{cond-false, false≢true}
+use Rattle.std.proofs.lemmas.Option.{none-some}
 use Rattle.swss_types.proofs.Tied.{tied}
 use Rattle.table_schema.proofs.Places.{find_step, put_step}
 use Rattle.table_schema.specs.declared.key.Key.{Key}
@@ -16,7 +17,7 @@ use Rattle.ref_counts.specs.declared.name.Name.{Name}
 use Rattle.ref_counts.specs.declared.name.Name.TheVariants as name
 use Rattle.ref_counts.specs.declared.name.NameState.TheVariants as state
 use Rattle.ref_counts.specs.Registered.{Registered, released, with_pin}
-use Rattle.ref_counts.specs.Registry.{Names, all_released, changed, gone_from, is_retiring, registered_name_cmp, pinned, registered_at, state_in, state_of}
+use Rattle.ref_counts.specs.Registry.{Names, all_released, are_live, changed, first_not_live, gone_from, is_live, is_retiring, registered_name_cmp, pinned, registered_at, state_in, state_of}
 use Rattle.ref_counts.proofs.Changing.{name_total}
 
 -- a name that is put is there
@@ -86,6 +87,27 @@ module _ {X : Type 0} (h : Option Registered → X) (f : Registered → Register
 pub pinned-kept : {X : Type 0} (h : Option Registered → X) (worker : ℕ) (user : Key) → ((r : Registered) → h (Some (with_pin worker user r)) ≡ h (Some r)) → (names : Names) (keys : List Key) (n : Name) → h (registered_at (pinned names worker user keys) n) ≡ h (registered_at names n)
 pinned-kept h worker user same names [] n = refl
 pinned-kept h worker user same names (k ∷ ks) n = pinned-kept h worker user same (changed names (name.Row k) (with_pin worker user)) ks n ∙ found-kept h (with_pin worker user) same names n (name.Row k)
+
+-- pins leave what is live
+live-kept : (worker : ℕ) (user : Key) (names : Names) (m : Name) (ns : List Name) → are_live (changed names m (with_pin worker user)) ns ≡ are_live names ns
+live-kept worker user names m [] = refl
+live-kept worker user names m (n ∷ ns) = ap₂ (λ a b. a && b) (found-kept (λ o. is_live (state_in o)) (with_pin worker user) (λ r. refl) names n m) (live-kept worker user names m ns)
+
+-- a name that is live and pinned, and then others
+pub live-next : (names new : Names) (worker : ℕ) (user : Key) (n : Name) (ns : List Name) → new ≡ changed names n (with_pin worker user) → is_live (state_of names n) ≡ true → are_live names (n ∷ ns) ≡ are_live new ns
+live-next names new worker user n ns is live = ap (λ b. b && are_live names ns) live ∙ sym (live-kept worker user names n ns) ∙ sym (ap (λ l. are_live l ns) is)
+
+pub first-live : (names : Names) (ks : List Key) → are_live names (map name.Row ks) ≡ true → first_not_live names ks ≡ None
+first-live names [] is = refl
+first-live names (k ∷ ks) is =
+    let rest = first-live names ks in
+    elim (is_live (state_of names (name.Row k))) as (λ b. (b && are_live names (map name.Row ks)) ≡ true → cond b (first_not_live names ks) (Some k) ≡ None) [ true ↦ rest | false ↦ λ h. absurd (false≢true h) ] is
+
+pub first-not-live : (names : Names) (ks : List Key) → are_live names (map name.Row ks) ≡ false → first_not_live names ks ≡ None → ⊥
+first-not-live names [] not = λ h. false≢true (sym not)
+first-not-live names (k ∷ ks) not =
+    let rest = first-not-live names ks in
+    elim (is_live (state_of names (name.Row k))) as (λ b. (b && are_live names (map name.Row ks)) ≡ false → cond b (first_not_live names ks) (Some k) ≡ None → ⊥) [ true ↦ rest | false ↦ λ h none. none-some k (sym none) ] not
 
 -- what is known of a name once one was removed
 removed-found : (names : Names) (n m : Name) → IsStrictlySortedBy registered_name_cmp (keys_of names) → registered_at (remove_entry (is_at (registered_name_cmp n)) names) m ≡ cond (is_at (registered_name_cmp n) m) None (registered_at names m)

@@ -17,10 +17,10 @@ use Rattle.ref_counts.specs.declared.name.Name.TheVariants as name
 use Rattle.ref_counts.specs.declared.pin.Pin.{Pin}
 use Rattle.ref_counts.specs.declared.places.Places.TheInside.{Inside}
 use Rattle.ref_counts.specs.Kept.{AreReadable, ComesBeforeRoutes, Kept, is_pinned, marked_in, settled, users_in, with_routes}
-use Rattle.ref_counts.specs.Parted.{renamed}
+use Rattle.late_maps.specs.Segments.{renamed}
 use Rattle.ref_counts.specs.Registered.{IsReadable, first_of}
 use Rattle.ref_counts.proofs.Partings.{row_below, turned}
-use Rattle.ref_counts.proofs.Segments.{AllAbove, AllApart, AllBelow, StandsIn, StandsIn-above, StandsIn-below, StandsIn-itself, StandsIn-renamed, all-kept, all-named, lookup-before, remove-before, set-before, sorted-all_names, sorted-renamed}
+use Rattle.late_maps.proofs.Segments.{AllAbove, AllApart, AllBelow, StandsIn, StandsIn-above, StandsIn-below, StandsIn-itself, StandsIn-renamed, all-kept, all-named, lookup-before, remove-before, set-before, sorted-all_names, sorted-renamed}
 
 abbrev pub IsNoRoute : Key → Type 0
 IsNoRoute k = (p : Prefix) → k ≡ key.Route p → ⊥

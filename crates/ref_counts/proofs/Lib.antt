@@ -7,5 +7,4 @@ pub mod Partings
 pub mod Pins
 pub mod Releasing
 pub mod Rooms
-pub mod Segments
 pub mod Settling

@@ -1,28 +1,44 @@
 -- what is found, changed, put and removed in the parts of what is known of all names
-use Rattle.std.proofs.Common.{◌≡◌, ◌<◌, ◌≤◌, List, ◌++◌, refl, sym, ap, ◌∙◌, arith}
+use Rattle.std.proofs.Common.{◌≡◌, ℕ, ◌<◌, ◌≤◌, List, ◌++◌, refl, sym, ap, ◌∙◌, arith}
 use Rattle.std.specs.Cmp.{nat_cmp_is}
 use Rattle.std.specs.Cmp.Lexicographic.{slice_cmp}
 use Rattle.std.specs.BTreeMap.{insert_entry, is_at}
 use Rattle.std.specs.List.Sorted.{IsStrictlySortedBy}
-use Rattle.std.specs.Map.{keys_of, remove_entry}
+use Rattle.std.specs.Map.{keys_of, remove_entry, set_value}
 use Rattle.std.specs.Ordering.{ordering_reverse, ordering_then}
 use Rattle.std.specs.declared.cmp.Ordering.{Ordering}
 use Rattle.std.specs.declared.cmp.Ordering.TheVariants.{Less, Greater}
+use Rattle.std.proofs.lemmas.Map.{keys-set_value}
 use Rattle.sai_types.specs.Hop.{hop_cmp}
 use Rattle.sai_types.specs.declared.hop.Hop.{Hop}
 use Rattle.swss_types.specs.AddressOrder.{prefix_cmp}
+use Rattle.swss_types.specs.declared.address.Ip.{Ip}
 use Rattle.swss_types.specs.declared.address.Prefix.{Prefix}
+use Rattle.swss_types.specs.declared.interface.IfName.{IfName}
 use Rattle.table_schema.specs.Key.{key_cmp, part_cmp, table_place}
 use Rattle.table_schema.specs.declared.key.Key.{Key}
 use Rattle.table_schema.specs.declared.key.Key.TheVariants as key
 use Rattle.ref_counts.specs.declared.name.Name.{Name}
 use Rattle.ref_counts.specs.declared.name.Name.TheVariants as name
 use Rattle.ref_counts.specs.declared.registrations.Registrations.TheInside.{Inside}
-use Rattle.ref_counts.specs.Parted.{AreParted, IsAmongRows, IsAmongOthers, Neighbor, all_names, name_place, neighbor_cmp, neighbor_name, place_of_groups, place_of_neighbors, place_of_routes, renamed, route_name}
+use Rattle.ref_counts.specs.Parted.{AreParted, IsAmongRows, IsAmongOthers, all_names, name_place, neighbor_cmp, neighbor_name, place_of_groups, place_of_neighbors, place_of_routes, route_name}
+use Rattle.late_maps.specs.Segments.{renamed}
 use Rattle.ref_counts.specs.Registered.{Registered}
 use Rattle.ref_counts.specs.Registry.{Names, registered_name_cmp}
 use Rattle.ref_counts.proofs.Changing.{name_total}
-use Rattle.ref_counts.proofs.Segments.{AllAbove, AllBelow, StandsIn, StandsIn-above, StandsIn-below, StandsIn-itself, StandsIn-renamed, all-inserted, all-all_names, all-kept, all-named, all-removed, all-renamed, sorted-all_names, sorted-renamed}
+use Rattle.row_maps.specs.Parts.{Neighbor}
+use Rattle.late_maps.proofs.Segments.{AllAbove, AllBelow, StandsIn, StandsIn-above, StandsIn-below, StandsIn-itself, StandsIn-renamed, all-inserted, all-all_names, all-kept, all-named, all-removed, all-renamed, sorted-all_names, sorted-renamed}
+
+-- the keys that stand apart are those of the neighbours, of the routes, and of no table
+pub among_rows : (k : Key) → ((on : IfName) (ip : Ip) → k ≡ key.Neigh on ip → ⊥) → ((p : Prefix) → k ≡ key.Route p → ⊥) → ((text : List ℕ) → k ≡ key.Other text → ⊥) → IsAmongRows k
+among_rows (key.Neigh on ip) neighbor route other = absurd (neighbor on ip refl)
+among_rows (key.Route p) neighbor route other = absurd (route p refl)
+among_rows (key.Other text) neighbor route other = absurd (other text refl)
+among_rows (key.Port port) neighbor route other = omega arith
+among_rows (key.Vlan vlan) neighbor route other = omega arith
+among_rows (key.Member vlan port) neighbor route other = omega arith
+among_rows (key.Intf on) neighbor route other = omega arith
+among_rows (key.Addr on ip len) neighbor route other = omega arith
 
 abbrev hops_cmp : List Hop → List Hop → Ordering
 hops_cmp = slice_cmp hop_cmp
@@ -62,9 +78,9 @@ group_above (name.Group other) hops lt = absurd (omega arith)
 pub turned : (n m : Name) → IsAbove n m → IsBelow m n
 turned n m is = name_total.antisymm m n ∙ ap ordering_reverse is
 
-module _ (r : Inside) (h : AreParted r.rows.entries r.others.entries) where
+module _ (r : Inside) (h : AreParted r.rows r.others.entries) where
   abbrev the_rows : Names
-  the_rows = renamed name.Row r.rows.entries
+  the_rows = renamed name.Row r.rows
 
   abbrev the_neighbors : Names
   the_neighbors = renamed neighbor_name r.neighbors.entries
@@ -105,7 +121,7 @@ module _ (r : Inside) (h : AreParted r.rows.entries r.others.entries) where
 
   -- a part is below what comes behind it
   rows_below : (n : Name) → place_of_neighbors ≤ name_place n → AllBelow registered_name_cmp n the_rows
-  rows_below n le = all-renamed (IsBelow n) name.Row IsAmongRows (λ k is. turned (name.Row k) n (row_below k n (omega arith))) r.rows.entries h.of_rows
+  rows_below n le = all-renamed (IsBelow n) name.Row IsAmongRows (λ k is. turned (name.Row k) n (row_below k n (omega arith))) r.rows h.of_rows
 
   neighbors_below : (n : Name) → place_of_neighbors < name_place n → AllBelow registered_name_cmp n the_neighbors
   neighbors_below n lt = all-named (IsBelow n) neighbor_name (λ a. turned (neighbor_name a) n (row_below (key.Neigh a.0 a.1) n lt)) r.neighbors.entries
@@ -117,10 +133,10 @@ module _ (r : Inside) (h : AreParted r.rows.entries r.others.entries) where
   others_below hops = all-kept (IsBelow (name.Group hops)) IsAmongOthers (λ m is. turned m (name.Group hops) (group_above m hops is.1)) r.others.entries h.of_others
 
   -- each part stands in the whole
-  pub row-stands : (k : Key) → IsAmongRows k → StandsIn key_cmp k registered_name_cmp (name.Row k) r.rows.entries (λ l. all_names l r.neighbors.entries r.routes r.others.entries r.groups.entries)
-  row-stands k is = StandsIn-above (StandsIn-renamed key_cmp registered_name_cmp name.Row rows_same k r.rows.entries) behind_rows (behind_rows_above k is)
+  pub row-stands : (k : Key) → IsAmongRows k → StandsIn key_cmp k registered_name_cmp (name.Row k) r.rows (λ l. all_names l r.neighbors.entries r.routes r.others.entries r.groups.entries)
+  row-stands k is = StandsIn-above (StandsIn-renamed key_cmp registered_name_cmp name.Row rows_same k r.rows) behind_rows (behind_rows_above k is)
 
-  pub neighbor-stands : (a : Neighbor) → StandsIn neighbor_cmp a registered_name_cmp (neighbor_name a) r.neighbors.entries (λ l. all_names r.rows.entries l r.routes r.others.entries r.groups.entries)
+  pub neighbor-stands : (a : Neighbor) → StandsIn neighbor_cmp a registered_name_cmp (neighbor_name a) r.neighbors.entries (λ l. all_names r.rows l r.routes r.others.entries r.groups.entries)
   neighbor-stands a =
       let own = StandsIn-renamed neighbor_cmp registered_name_cmp neighbor_name neighbors_same a r.neighbors.entries in
       let first = StandsIn-above own behind_neighbors (behind_neighbors_above (key.Neigh a.0 a.1) (omega arith)) in
@@ -130,43 +146,46 @@ module _ (r : Inside) (h : AreParted r.rows.entries r.others.entries) where
   past_neighbors : {K : Type 0} (own : K → K → Ordering) (k : K) (n : Name) (part : List (K × Registered)) (whole : List (K × Registered) → Names) → place_of_neighbors < name_place n → StandsIn own k registered_name_cmp n part whole → StandsIn own k registered_name_cmp n part (λ l. the_rows ++ (the_neighbors ++ whole l))
   past_neighbors own k n part whole lt s = StandsIn-below (StandsIn-below s the_neighbors (neighbors_below n lt)) the_rows (rows_below n (omega arith))
 
-  pub route-stands : (p : Prefix) → StandsIn prefix_cmp p registered_name_cmp (route_name p) r.routes (λ l. all_names r.rows.entries r.neighbors.entries l r.others.entries r.groups.entries)
+  pub route-stands : (p : Prefix) → StandsIn prefix_cmp p registered_name_cmp (route_name p) r.routes (λ l. all_names r.rows r.neighbors.entries l r.others.entries r.groups.entries)
   route-stands p =
       let own = StandsIn-renamed prefix_cmp registered_name_cmp route_name routes_same p r.routes in
       past_neighbors _ _ _ _ _ (omega arith) (StandsIn-above own behind_routes (behind_routes_above (key.Route p) (omega arith)))
 
-  pub other-stands : (n : Name) → IsAmongOthers n → StandsIn registered_name_cmp n registered_name_cmp n r.others.entries (λ l. all_names r.rows.entries r.neighbors.entries r.routes l r.groups.entries)
+  pub other-stands : (n : Name) → IsAmongOthers n → StandsIn registered_name_cmp n registered_name_cmp n r.others.entries (λ l. all_names r.rows r.neighbors.entries r.routes l r.groups.entries)
   other-stands n is =
       let place = is.0 in
       let first = StandsIn-above (StandsIn-itself registered_name_cmp n r.others.entries) the_groups (groups_above n is.1) in
       past_neighbors _ _ _ _ _ (omega arith) (StandsIn-below first the_routes (routes_below n is.0))
 
-  pub group-stands : (hops : List Hop) → StandsIn hops_cmp hops registered_name_cmp (name.Group hops) r.groups.entries (λ l. all_names r.rows.entries r.neighbors.entries r.routes r.others.entries l)
+  pub group-stands : (hops : List Hop) → StandsIn hops_cmp hops registered_name_cmp (name.Group hops) r.groups.entries (λ l. all_names r.rows r.neighbors.entries r.routes r.others.entries l)
   group-stands hops =
       let own = StandsIn-renamed hops_cmp registered_name_cmp name.Group groups_same hops r.groups.entries in
       past_neighbors _ _ _ _ _ (omega arith) (StandsIn-below (StandsIn-below own r.others.entries (others_below hops)) the_routes (routes_below (name.Group hops) (omega arith)))
 
   -- parts in order are one list in order
-  pub all_names-sorted : IsStrictlySortedBy key_cmp (keys_of r.rows.entries) → IsStrictlySortedBy neighbor_cmp (keys_of r.neighbors.entries) → IsStrictlySortedBy prefix_cmp (keys_of r.routes) → IsStrictlySortedBy registered_name_cmp (keys_of r.others.entries) → IsStrictlySortedBy hops_cmp (keys_of r.groups.entries) → IsStrictlySortedBy registered_name_cmp (keys_of (the_rows ++ behind_rows))
+  pub all_names-sorted : IsStrictlySortedBy key_cmp (keys_of r.rows) → IsStrictlySortedBy neighbor_cmp (keys_of r.neighbors.entries) → IsStrictlySortedBy prefix_cmp (keys_of r.routes) → IsStrictlySortedBy registered_name_cmp (keys_of r.others.entries) → IsStrictlySortedBy hops_cmp (keys_of r.groups.entries) → IsStrictlySortedBy registered_name_cmp (keys_of (the_rows ++ behind_rows))
   all_names-sorted rows neighbors routes others groups =
       let above_others = all-kept (λ n. AllAbove registered_name_cmp n the_groups) IsAmongOthers (λ n is. groups_above n is.1) r.others.entries h.of_others in
       let above_routes = all-named (λ n. AllAbove registered_name_cmp n behind_routes) route_name (λ p. behind_routes_above (key.Route p) (omega arith)) r.routes in
       let above_neighbors = all-named (λ n. AllAbove registered_name_cmp n behind_neighbors) neighbor_name (λ a. behind_neighbors_above (key.Neigh a.0 a.1) (omega arith)) r.neighbors.entries in
-      let above_rows = all-renamed (λ n. AllAbove registered_name_cmp n behind_rows) name.Row IsAmongRows behind_rows_above r.rows.entries h.of_rows in
+      let above_rows = all-renamed (λ n. AllAbove registered_name_cmp n behind_rows) name.Row IsAmongRows behind_rows_above r.rows h.of_rows in
       let from_others = sorted-all_names registered_name_cmp r.others.entries the_groups others (sorted-renamed hops_cmp registered_name_cmp name.Group groups_same r.groups.entries groups) above_others in
       let from_routes = sorted-all_names registered_name_cmp the_routes behind_routes (sorted-renamed prefix_cmp registered_name_cmp route_name routes_same r.routes routes) from_others above_routes in
       let from_neighbors = sorted-all_names registered_name_cmp the_neighbors behind_neighbors (sorted-renamed neighbor_cmp registered_name_cmp neighbor_name neighbors_same r.neighbors.entries neighbors) from_routes above_neighbors in
-      sorted-all_names registered_name_cmp the_rows behind_rows (sorted-renamed key_cmp registered_name_cmp name.Row rows_same r.rows.entries rows) from_neighbors above_rows
+      sorted-all_names registered_name_cmp the_rows behind_rows (sorted-renamed key_cmp registered_name_cmp name.Row rows_same r.rows rows) from_neighbors above_rows
 
   -- the parts keep their keys
-  pub parted-row_put : (new : List (Key × Registered)) (k : Key) (w : Registered) → IsAmongRows k → new ≡ insert_entry key_cmp r.rows.entries k w → AreParted new r.others.entries
-  parted-row_put new k w among is = rw is (record { of_rows = all-inserted key_cmp k IsAmongRows among r.rows.entries w h.of_rows; of_others = h.of_others })
+  pub parted-row_put : (new : List (Key × Registered)) (k : Key) (w : Registered) → IsAmongRows k → new ≡ insert_entry key_cmp r.rows k w → AreParted new r.others.entries
+  parted-row_put new k w among is = rw is (record { of_rows = all-inserted key_cmp k IsAmongRows among r.rows w h.of_rows; of_others = h.of_others })
 
-  pub parted-row_removed : (new : List (Key × Registered)) (k : Key) → new ≡ remove_entry (is_at (key_cmp k)) r.rows.entries → AreParted new r.others.entries
-  parted-row_removed new k is = rw is (record { of_rows = all-removed key_cmp k IsAmongRows r.rows.entries h.of_rows; of_others = h.of_others })
+  pub parted-row_set : (new : List (Key × Registered)) (k : Key) (w : Registered) → new ≡ set_value (is_at (key_cmp k)) r.rows w → AreParted new r.others.entries
+  parted-row_set new k w is = rw is (record { of_rows = rw (keys-set_value (is_at (key_cmp k)) r.rows w) h.of_rows; of_others = h.of_others })
 
-  pub parted-other_put : (new : Names) (n : Name) (w : Registered) → IsAmongOthers n → new ≡ insert_entry registered_name_cmp r.others.entries n w → AreParted r.rows.entries new
+  pub parted-row_removed : (new : List (Key × Registered)) (k : Key) → new ≡ remove_entry (is_at (key_cmp k)) r.rows → AreParted new r.others.entries
+  parted-row_removed new k is = rw is (record { of_rows = all-removed key_cmp k IsAmongRows r.rows h.of_rows; of_others = h.of_others })
+
+  pub parted-other_put : (new : Names) (n : Name) (w : Registered) → IsAmongOthers n → new ≡ insert_entry registered_name_cmp r.others.entries n w → AreParted r.rows new
   parted-other_put new n w among is = rw is (record { of_rows = h.of_rows; of_others = all-inserted registered_name_cmp n IsAmongOthers among r.others.entries w h.of_others })
 
-  pub parted-other_removed : (new : Names) (n : Name) → new ≡ remove_entry (is_at (registered_name_cmp n)) r.others.entries → AreParted r.rows.entries new
+  pub parted-other_removed : (new : Names) (n : Name) → new ≡ remove_entry (is_at (registered_name_cmp n)) r.others.entries → AreParted r.rows new
   parted-other_removed new n is = rw is (record { of_rows = h.of_rows; of_others = all-removed registered_name_cmp n IsAmongOthers r.others.entries h.of_others })

@@ -4,12 +4,13 @@ use Rattle.std.specs.BTreeMap.{is_at}
 use Rattle.std.specs.List.{AllByRecursion, list_any}
 use Rattle.std.specs.Map.{lookup}
 use Rattle.std.specs.Option.{is_some}
+use Rattle.late_maps.specs.Segments.{renamed}
 use Rattle.swss_types.specs.declared.address.Prefix.{Prefix}
 use Rattle.table_schema.specs.Key.{key_cmp, table_place}
 use Rattle.table_schema.specs.declared.key.Key.{Key}
 use Rattle.table_schema.specs.declared.key.Key.TheVariants as key
 use Rattle.ref_counts.specs.declared.pin.Pin.{Pin}
-use Rattle.ref_counts.specs.Parted.{place_of_routes, renamed}
+use Rattle.ref_counts.specs.Parted.{place_of_routes}
 use Rattle.ref_counts.specs.Registered.{IsReadable}
 
 -- keys, each with whether it is a user whatever pins there are: the others are users where no pin is for them

@@ -1,16 +1,16 @@
 -- What is known of all names, in five parts: the rows of keys that come before the neighbours, the neighbours, the routes, what comes behind the routes, and the groups. Own.
-use Rattle.std.specs.Prelude.{◌≡◌, ℕ, ◌<◌, List, ◌++◌, map}
+use Rattle.std.specs.Prelude.{◌≡◌, ℕ, ◌<◌, List, ◌++◌}
 use Rattle.std.specs.Borrow.{Bor}
 use Rattle.std.specs.List.{AllByRecursion}
 use Rattle.std.specs.Map.{keys_of}
 use Rattle.std.specs.Ordering.{ordering_then}
 use Rattle.std.specs.declared.cmp.Ordering.{Ordering}
+use Rattle.late_maps.specs.Segments.{renamed}
+use Rattle.row_maps.specs.Parts.{Neighbor}
 use Rattle.sai_types.specs.declared.hop.Hop.{Hop}
 use Rattle.swss_types.specs.AddressOrder.{ip_cmp}
 use Rattle.swss_types.specs.NameOrder.{name_cmp}
-use Rattle.swss_types.specs.declared.address.Ip.{Ip}
 use Rattle.swss_types.specs.declared.address.Prefix.{Prefix}
-use Rattle.swss_types.specs.declared.interface.IfName.{IfName}
 use Rattle.table_schema.specs.Key.{table_place}
 use Rattle.table_schema.specs.declared.key.Key.{Key}
 use Rattle.table_schema.specs.declared.key.Key.TheVariants as key
@@ -37,10 +37,6 @@ abbrev pub name_place : Name → ℕ
 name_place (name.Row k) = table_place k
 name_place (name.Group hops) = place_of_groups
 name_place _ = 8
-
--- a neighbour is an address on an interface
-abbrev pub Neighbor : Type 0
-Neighbor = IfName × Ip
 
 abbrev pub neighbor_name : Neighbor → Name
 neighbor_name n = name.Row (key.Neigh n.0 n.1)
@@ -75,10 +71,6 @@ IsPartOf (part.Neighbor m) = IsPart (part.Neighbor m)
 IsPartOf (part.Route p) = IsPart (part.Route p.now)
 IsPartOf (part.Other m) = IsPart (part.Other m.now)
 IsPartOf (part.Group hops) = IsPart (part.Group hops.now)
-
--- entries under other keys
-abbrev pub renamed : {K L X : Type 0} → (K → L) → List (K × X) → List (L × X)
-renamed g es = map (λ e. (g e.0, e.1)) es
 
 -- the five parts, one after another
 abbrev pub all_names : List (Key × Registered) → List (Neighbor × Registered) → List (Prefix × Registered) → Names → List (List Hop × Registered) → Names

@@ -1,5 +1,5 @@
 -- What is known of all names, and what each call makes of it. Own.
-use Rattle.std.specs.Prelude.{◌≡◌, ℕ, Bool, true, false, List, [], ◌∷◌, map, Option, Some, None, option_and_then, if◌then◌else◌, Vec}
+use Rattle.std.specs.Prelude.{◌≡◌, ℕ, Bool, true, false, ◌&&◌, List, [], ◌∷◌, map, Option, Some, None, option_and_then, if◌then◌else◌, Vec}
 use Rattle.std.specs.BTreeMap.{is_at}
 use Rattle.std.specs.List.{AllByRecursion, list_any}
 use Rattle.std.specs.Map.{lookup, remove_entry}
@@ -99,6 +99,11 @@ finished_in _ names n = names
 abbrev pub first_not_live : Names → List Key → Option Key
 first_not_live names [] = None
 first_not_live names (k ∷ ks) = if is_live (state_of names (name.Row k)) then first_not_live names ks else Some k
+
+-- all these names are live
+abbrev pub are_live : Names → List Name → Bool
+are_live names [] = true
+are_live names (n ∷ ns) = is_live (state_of names n) && are_live names ns
 
 -- a worker pins the rows of some keys for a user
 abbrev pub pinned : Names → ℕ → Key → List Key → Names

@@ -1,9 +1,10 @@
 // Changes of what is known of one name.
-ghost use Rattle.std.specs.Prelude.{◌≡◌, ◌≤◌, ◌↔◌, None, Some, length, IfOk, IfErr, OnOk, OnErr, IsTrue};
+ghost use Rattle.std.specs.Prelude.{◌≡◌, ◌≤◌, ◌↔◌, true, false, None, Some, length, IfOk, IfErr, OnOk, OnErr, IsTrue};
 ghost use Rattle.ref_counts.specs.Registered.{IsReadable, begun_to_go, made_live, released, with_pin, with_user, without_last_pin, without_user};
-ghost use Rattle.ref_counts.specs.Registry.{changed, finished_in, gone_from, places_of, retire_refusal_at, state_of};
+ghost use Rattle.ref_counts.specs.Registry.{changed, finished_in, gone_from, is_live, places_of, retire_refusal_at, state_of};
 
 use crate::registrations::Registrations;
+use crate::unpinned::Unpinned;
 use crate::{Name, NameState};
 use sai_types::Vid;
 use switch_model::Wait;
@@ -15,6 +16,16 @@ pub fn state(names: &Registrations, name: &Name) -> NameState
     ensures { result ≡ state_of names.now name.now }
 {
     match names.get(name) {
+        Some(registration) => registration.state(),
+        None => NameState::Absent,
+    }
+}
+
+/// How the row of a key stands.
+pub fn row_state(names: &Registrations, key: &Key) -> NameState
+    ensures { result ≡ state_of names.now (Name.Row key.now) }
+{
+    match names.get_row(key) {
         Some(registration) => registration.state(),
         None => NameState::Absent,
     }
@@ -96,20 +107,17 @@ pub fn end_retirement(names: &mut Registrations, name: &Name)
     }
 }
 
-/// A worker pins a name for a user, where it is not absent.
-pub fn pin(
-    names: &mut Registrations,
-    name: &Name,
-    worker: u32,
-    user: &Key,
-) -> Result<(), OutOfMemory>
+/// A worker pins a name for a user, where it is live.
+pub fn pin(names: &mut Registrations, name: &Name, worker: u32, user: &Key) -> Result<(), Unpinned>
     requires { IsReadable user.now }
     ensures ok { OnOk result (names.new ≡ changed names.old name.now (with_pin worker user.now)) }
+    ensures live { OnOk result (is_live (state_of names.old name.now) ≡ true) }
+    ensures other { IfErr result (λ why. why ≡ Unpinned.NotLive → is_live (state_of names.old name.now) ≡ false) }
     ensures err { OnErr result (names.new ≡ names.old) }
 {
     match names.get_mut(name) {
         Some(registration) => registration.pin(worker, user),
-        None => Ok(()),
+        None => Err(Unpinned::NotLive),
     }
 }
 

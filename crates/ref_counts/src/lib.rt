@@ -17,6 +17,7 @@ mod registration;
 mod registrations;
 mod registry;
 mod room;
+mod unpinned;
 mod users;
 
 pub use laws::{

@@ -1,15 +1,16 @@
 // Names that workers pin and release.
-ghost use Rattle.std.specs.Prelude.{◌≡◌, ℕ, List, ◌++◌, length, map, take, IsSome, OnOk, OnErr};
+ghost use Rattle.std.specs.Prelude.{◌≡◌, ℕ, List, ◌++◌, true, false, length, map, take, IsSome, IfErr, OnOk, OnErr};
 ghost use Rattle.std.specs.BTreeMap.{is_at};
 ghost use Rattle.std.specs.Map.{lookup};
 ghost use Rattle.std.specs.Ordering.{nat_cmp};
 ghost use Rattle.table_schema.specs.declared.key.Key.{Key};
 ghost use Rattle.ref_counts.specs.Registered.{IsReadable};
-ghost use Rattle.ref_counts.specs.Registry.{AreNoted, all_released, each_released, noted_by, pinned};
+ghost use Rattle.ref_counts.specs.Registry.{AreNoted, all_released, are_live, each_released, noted_by, pinned};
 
 use crate::Name;
 use crate::changes::{pin, release, unpin_last};
 use crate::registrations::Registrations;
+use crate::unpinned::Unpinned;
 use std::alloc::Global;
 use std::collections::BTreeMap;
 use swss_types::OutOfMemory;
@@ -18,28 +19,30 @@ use table_schema::Key;
 /// The names that are noted as pinned, by worker.
 pub type NotedNames = BTreeMap<u32, Vec<Name>>;
 
-/// A worker pins the rows of some keys for a user, and notes their names.
+/// A worker pins the rows of some keys for a user, all of them or none, and notes their names.
 pub fn pin_noted(
     names: &mut Registrations,
     noted: &mut Vec<Name>,
     worker: u32,
     user: &Key,
     keys: &[Key],
-) -> Result<(), OutOfMemory>
+) -> Result<(), Unpinned>
     requires { IsReadable user.now }
     ensures ok { OnOk result (names.new ≡ pinned names.old worker user.now keys.now) }
+    ensures live { OnOk result (are_live names.old (map Name.Row keys.now) ≡ true) }
+    ensures other { IfErr result (λ why. why ≡ Unpinned.NotLive → are_live names.old (map Name.Row keys.now) ≡ false) }
     ensures noted { OnOk result (noted.new.items ≡ noted.old.items ++ map Name.Row keys.now) }
     ensures err { OnErr result (names.new ≡ names.old) }
     ensures noted_err { OnErr result (noted.new.items ≡ noted.old.items) }
 {
     let before = noted.as_slice().len();
-    if let Err(error) = note_each(noted, keys) {
+    if note_each(noted, keys).is_err() {
         noted.truncate(before);
-        return Err(error);
+        return Err(Unpinned::OutOfMemory);
     }
-    if let Err(error) = pin_each(names, worker, user, &noted.as_slice()[before..]) {
+    if let Err(why) = pin_each(names, worker, user, &noted.as_slice()[before..]) {
         noted.truncate(before);
-        return Err(error);
+        return Err(why);
     }
     Ok(())
 }
@@ -58,24 +61,26 @@ fn note_each(noted: &mut Vec<Name>, keys: &[Key]) -> Result<(), OutOfMemory>
     }
 }
 
-/// A worker pins the rows of some keys by their names for a user, all of them or none.
+/// A worker pins the rows of some keys by their names for a user, all of them or none. Each is looked up once.
 fn pin_each(
     names: &mut Registrations,
     worker: u32,
     user: &Key,
     rows: &[Name],
-) -> Result<(), OutOfMemory>
+) -> Result<(), Unpinned>
     requires { IsReadable user.now }
     ensures ok { OnOk result ((keys : List Key) → rows.now ≡ map Name.Row keys → names.new ≡ pinned names.old worker user.now keys) }
+    ensures live { OnOk result (are_live names.old rows.now ≡ true) }
+    ensures other { IfErr result (λ why. why ≡ Unpinned.NotLive → are_live names.old rows.now ≡ false) }
     ensures err { OnErr result (names.new ≡ names.old) }
 {
     match rows {
         [] => Ok(()),
         [name, others @ ..] => {
             pin(names, name, worker, user)?;
-            if let Err(error) = pin_each(names, worker, user, others) {
+            if let Err(why) = pin_each(names, worker, user, others) {
                 unpin_last(names, name);
-                return Err(error);
+                return Err(why);
             }
             Ok(())
         }
@@ -91,7 +96,7 @@ pub fn release_each(names: &mut Registrations, noted: &[Name], worker: u32, used
     }
 }
 
-/// A worker pins the rows of some keys for a user, and their names are noted under it.
+/// A worker pins the rows of some keys for a user, all of them or none, and their names are noted under it.
 pub fn pin_all(
     alloc: Global,
     names: &mut Registrations,
@@ -99,13 +104,17 @@ pub fn pin_all(
     worker: u32,
     user: &Key,
     keys: &[Key],
-) -> Result<(), OutOfMemory>
+) -> Result<(), Unpinned>
     requires { IsReadable user.now }
     ensures ok { OnOk result (names.new ≡ pinned names.old worker user.now keys.now) }
+    ensures live { OnOk result (are_live names.old (map Name.Row keys.now) ≡ true) }
+    ensures other { IfErr result (λ why. why ≡ Unpinned.NotLive → are_live names.old (map Name.Row keys.now) ≡ false) }
     ensures err { OnErr result (names.new ≡ names.old) }
     ensures noted { AreNoted noted.old.entries names.old → AreNoted noted.new.entries names.new }
 {
-    note_worker(alloc, noted, worker)?;
+    if note_worker(alloc, noted, worker).is_err() {
+        return Err(Unpinned::OutOfMemory);
+    }
     match noted.get_mut(&worker) {
         Some(noted) => pin_noted(names, noted, worker, user, keys),
         None => unreachable!(),

@@ -6,12 +6,12 @@ ghost use Rattle.table_schema.specs.Fields.{HasRisingKeys};
 ghost use Rattle.table_schema.specs.Key.{key_cmp};
 ghost use Rattle.table_schema.specs.declared.key.Key.TheVariants as key_of;
 ghost use Rattle.ref_counts.specs.Kept.{users_in};
-ghost use Rattle.ref_counts.specs.Parted.{renamed};
+ghost use Rattle.late_maps.specs.Segments.{renamed};
 ghost use Rattle.ref_counts.specs.Registered.{IsReadable, first_of};
 
 use crate::copied::copied;
 use crate::pin::{Pin, is_pinned_for};
-use late_maps::LateMap;
+use late_maps::{LateMap, get_late};
 use std::alloc::Global;
 use std::collections::BTreeMap;
 use std::marker::Model;
@@ -55,7 +55,7 @@ impl Places {
     {
         match key {
             Key::Route(prefix) => self.routes.get(prefix).copied(),
-            _ => self.rows.get(key).copied(),
+            _ => get_late(&self.rows, key).copied(),
         }
     }
 

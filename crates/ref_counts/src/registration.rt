@@ -1,10 +1,11 @@
 // What is known of one name.
-ghost use Rattle.std.specs.Prelude.{◌≡◌, ◌≤◌, ◌↔◌, None, Some, length, IfOk, IfErr, OnOk, OnErr, IsTrue};
-ghost use Rattle.ref_counts.specs.Registry.{ids_by};
+ghost use Rattle.std.specs.Prelude.{◌≡◌, ◌≤◌, ◌↔◌, true, false, None, Some, length, IfOk, IfErr, OnOk, OnErr, IsTrue};
+ghost use Rattle.ref_counts.specs.Registry.{ids_by, is_live};
 ghost use Rattle.ref_counts.specs.Registered.{IsReadable, begun, finished_by, first_of, begun_to_go, made_live, released, retire_refusal, with_pin, with_user, without_last_pin, without_user};
 
 use crate::NameState;
 use crate::boxed_claims::BoxedClaims;
+use crate::unpinned::Unpinned;
 use sai_types::Vid;
 use std::alloc::Global;
 use std::marker::Model;
@@ -121,13 +122,21 @@ impl Registration {
         self.claims.drop_user(user);
     }
 
-    /// A worker pins it for a key.
-    pub fn pin(&mut self, worker: u32, user: &Key) -> Result<(), OutOfMemory>
+    /// A worker pins it for a key, where it is live.
+    pub fn pin(&mut self, worker: u32, user: &Key) -> Result<(), Unpinned>
         requires { IsReadable user.now }
         ensures ok { OnOk result (self.new ≡ with_pin worker user.now self.old) }
+        ensures live { OnOk result (is_live self.old.state ≡ true) }
+        ensures other { IfErr result (λ why. why ≡ Unpinned.NotLive → is_live self.old.state ≡ false) }
         ensures err { OnErr result (self.new ≡ self.old) }
     {
-        self.claims.pin(*self.ids.allocator(), worker, user)
+        let NameState::Live = self.state else {
+            return Err(Unpinned::NotLive);
+        };
+        match self.claims.pin(*self.ids.allocator(), worker, user) {
+            Ok(()) => Ok(()),
+            Err(_) => Err(Unpinned::OutOfMemory),
+        }
     }
 
     /// The pin that was made last is taken back.

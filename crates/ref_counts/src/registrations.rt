@@ -12,7 +12,8 @@ ghost use Rattle.ref_counts.specs.Registry.{registered_at, registered_name_cmp};
 use crate::Name;
 use crate::part::{Part, into_part, part_of};
 use crate::registration::Registration;
-use late_maps::{LateMap, get_late};
+use late_maps::LateMap;
+use row_maps::RowMap;
 use sai_types::Hops;
 use std::alloc::Global;
 use std::collections::BTreeMap;
@@ -21,10 +22,10 @@ use swss_types::{IfName, Ip, OutOfMemory, Prefix};
 use table_schema::Key;
 
 /// What is known of the names that are not absent, in order. Most names are routes, neighbours and groups: each kind
-/// stands apart, so that the others are found among few, and each by a short comparison. Routes mostly come in order.
+/// stands apart, so that the others are found among few, and each by a short comparison. Rows mostly come in key order.
 #[derive(Drop)]
 pub struct Registrations {
-    rows: BTreeMap<Key, Registration>,
+    rows: RowMap<Registration>,
     neighbors: BTreeMap<(IfName, Ip), Registration>,
     routes: LateMap<Prefix, Registration>,
     others: BTreeMap<Name, Registration>,
@@ -38,9 +39,9 @@ impl Model for Registrations {
 
     ghost use Rattle.ref_counts.specs.Parted.{AreParted, all_names};
 
-    ghost view = { λ r. all_names r.rows.entries r.neighbors.entries r.routes r.others.entries r.groups.entries };
+    ghost view = { λ r. all_names r.rows r.neighbors.entries r.routes r.others.entries r.groups.entries };
 
-    ghost invariant = { λ r. AreParted r.rows.entries r.others.entries };
+    ghost invariant = { λ r. AreParted r.rows r.others.entries };
 }
 
 impl Registrations {
@@ -49,7 +50,7 @@ impl Registrations {
         ensures { result ≡ [] }
     {
         Registrations {
-            rows: BTreeMap::new(alloc),
+            rows: RowMap::new(alloc),
             neighbors: BTreeMap::new(alloc),
             routes: LateMap::new(alloc),
             others: BTreeMap::new(alloc),
@@ -62,11 +63,23 @@ impl Registrations {
         ensures { option_copied result ≡ registered_at self.now name.now }
     {
         match part_of(name) {
-            Part::Row(key) => get_late(&self.rows, key),
+            Part::Row(key) => self.rows.get(key),
             Part::Neighbor(neighbor) => self.neighbors.get(&neighbor),
             Part::Route(prefix) => self.routes.get(prefix),
             Part::Other(name) => self.others.get(name),
             Part::Group(hops) => self.groups.get(hops),
+        }
+    }
+
+    /// What is known of the row of a key.
+    pub fn get_row(&self, key: &Key) -> Option<&Registration>
+        ensures { option_copied result ≡ registered_at self.now (Name.Row key.now) }
+    {
+        match key {
+            Key::Neigh(on, ip) => self.neighbors.get(&(*on, *ip)),
+            Key::Route(prefix) => self.routes.get(prefix),
+            Key::Other(_) => get_unread(&self.others, key),
+            _ => self.rows.get(key),
         }
     }
 
@@ -182,5 +195,27 @@ impl Registrations {
         let _routes = self.routes.len();
         let _others = self.others.len();
         let _groups = self.groups.len();
+    }
+}
+
+/// What is known of the row of a key among others. No row names a key that stands there, and so it is not looked for fast.
+fn get_unread<'a>(others: &'a BTreeMap<Name, Registration>, key: &Key) -> Option<&'a Registration>
+    ensures { option_copied result ≡ registered_at others.now.entries (Name.Row key.now) }
+{
+    for (name, registration) in others.iter() {
+        if is_row_of(name, key) {
+            return Some(registration);
+        }
+    }
+    None
+}
+
+/// Whether a name is that of the row of a key.
+fn is_row_of(name: &Name, key: &Key) -> bool
+    ensures { result ≡ is_at (registered_name_cmp (Name.Row key.now)) name.now }
+{
+    match name {
+        Name::Row(other) => key.cmp(other).is_eq(),
+        _ => false,
     }
 }

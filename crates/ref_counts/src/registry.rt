@@ -9,6 +9,7 @@ ghost use Rattle.ref_counts.specs.Registry.{all_released, changed, finished_in, 
 use crate::pinning::{NotedNames, pin_all, release_all};
 use crate::registration::Registration;
 use crate::registrations::Registrations;
+use crate::unpinned::Unpinned;
 use crate::{Missing, Name, NameState, changes};
 use sai_types::Vid;
 use std::alloc::Global;
@@ -56,6 +57,13 @@ impl Registry {
         changes::state(&self.names, name)
     }
 
+    /// How the row of a key stands.
+    pub fn row_state(&self, key: &Key) -> NameState
+        ensures { result ≡ state_of self.now (Name.Row key.now) }
+    {
+        changes::row_state(&self.names, key)
+    }
+
     /// Whether a name is live. What is known of names is in their order, of each once.
     pub fn live(&self, name: &Name) -> bool
         ensures live { IsTrue result ↔ (state_of self.now name.now ≡ NameState.Live) }
@@ -84,28 +92,22 @@ impl Registry {
         ensures none { IfOk result (λ answer. OnErr answer (self.new ≡ self.old)) }
         ensures err { OnErr result (self.new ≡ self.old) }
     {
-        if let Some(key) = self.first_missing(names)? {
-            return Ok(Err(Missing(key)));
-        }
-        self.pin_live(worker, user, names)?;
-        Ok(Ok(()))
-    }
-
-    /// Pins the rows of some keys that are all live, as `pin` does once it has found none that is not.
-    pub fn pin_live(&mut self, worker: u32, user: &Key, names: &[Key]) -> Result<(), OutOfMemory>
-        requires readable { IsReadable user.now }
-        requires live { first_not_live self.old names.now ≡ None }
-        ensures ok { OnOk result (self.new ≡ pinned self.old worker user.now names.now) }
-        ensures err { OnErr result (self.new ≡ self.old) }
-    {
-        pin_all(
+        let pinned = pin_all(
             self.alloc,
             &mut self.names,
             &mut self.noted,
             worker,
             user,
             names,
-        )
+        );
+        match pinned {
+            Ok(()) => Ok(Ok(())),
+            Err(Unpinned::OutOfMemory) => Err(OutOfMemory),
+            Err(Unpinned::NotLive) => match self.first_missing(names)? {
+                Some(key) => Ok(Err(Missing(key))),
+                None => unreachable!(),
+            },
+        }
     }
 
     /// Gives up all pins of a worker. Where they are used, the key that each was made for then uses its name.
@@ -249,8 +251,7 @@ impl Registry {
         ensures { IfOk result (λ missing. missing ≡ first_not_live self.now keys.now) }
     {
         for key in keys {
-            let name = Name::Row(key.copy()?);
-            if !is_live(self.state(&name)) {
+            if !is_live(self.row_state(key)) {
                 return Ok(Some(key.copy()?));
             }
         }

@@ -1,7 +1,7 @@
 // Room on a chip, and the places that are reserved of it.
 ghost use Rattle.std.specs.Prelude.{◌≡◌, ℕ, ◌+◌, ◌<◌, ◌≤◌, ◌⊎◌, slice_index, IfSome, IfNone};
 ghost use Rattle.sai_types.specs.Objects.{level};
-ghost use Rattle.ref_counts.specs.Room.{GivesBack, Reserves, all_free, first_lacking, lacking, lacks};
+ghost use Rattle.ref_counts.specs.Room.{GivesBack, Reserves, all_free, lacking, lacks, number_of_kind};
 
 use sai_types::{Caps, Kind};
 use std::marker::Model;
@@ -75,54 +75,50 @@ impl Room {
     pub fn lacking(&self, need: &[u64; 11], used: &[u64; 11]) -> Option<Kind>
         ensures { result ≡ lacking self.now need.now used.now }
     {
-        self.first_lacking(
-            &[
-                Kind::Port,
-                Kind::Vlan,
-                Kind::BridgePort,
-                Kind::VlanMember,
-                Kind::Rif,
-                Kind::OwnAddress,
-                Kind::Neighbor,
-                Kind::NextHop,
-                Kind::Group,
-                Kind::GroupMember,
-                Kind::Route,
-            ],
-            need,
-            used,
-        )
-    }
-
-    /// The first of some kinds of which room is lacking.
-    fn first_lacking(&self, kinds: &[Kind], need: &[u64; 11], used: &[u64; 11]) -> Option<Kind>
-        ensures { result ≡ first_lacking self.now need.now used.now kinds.now }
-    {
-        match kinds {
-            [] => None,
-            [kind, others @ ..] => {
-                if self.lacks(*kind, need, used) {
-                    return Some(*kind);
-                }
-                self.first_lacking(others, need, used)
+        for at in 0..11usize {
+            if need[at] == 0 {
+                continue;
+            }
+            let kind = kind_at(at);
+            if self.lacks(kind, need, used) {
+                return Some(kind);
             }
         }
+        None
     }
 
-    /// Whether room for a kind is lacking.
+    /// Whether room is lacking for a kind of which a place is needed.
     fn lacks(&self, kind: Kind, need: &[u64; 11], used: &[u64; 11]) -> bool
+        requires { 0 < number_of_kind need.now kind }
         ensures { result ≡ lacks self.now need.now used.now kind }
     {
         let at = level(kind);
-        if need[at] == 0 {
-            return false;
-        }
         let reserved = self.reserved[at]
             + self.reserved[KINDS + at]
             + self.reserved[2 * KINDS + at]
             + self.reserved[3 * KINDS + at];
         u128::from(self.capacities[at])
             < u128::from(used[at]) + u128::from(reserved) + u128::from(need[at])
+    }
+}
+
+/// The kind at a place among the kinds.
+fn kind_at(at: usize) -> Kind
+    requires { at < 11 }
+    ensures { level result ≡ at }
+{
+    match at {
+        0 => Kind::Port,
+        1 => Kind::Vlan,
+        2 => Kind::BridgePort,
+        3 => Kind::VlanMember,
+        4 => Kind::Rif,
+        5 => Kind::OwnAddress,
+        6 => Kind::Neighbor,
+        7 => Kind::NextHop,
+        8 => Kind::Group,
+        9 => Kind::GroupMember,
+        _ => Kind::Route,
     }
 }
 

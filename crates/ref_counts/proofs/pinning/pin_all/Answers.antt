@@ -6,8 +6,8 @@ use Rattle.ref_counts.specs.Registry.{items_in}
 use Rattle.ref_counts.proofs.Noting.{noted-same, noted-set, noted-tried}
 use Rattle.ref_counts.proofs.pinning.pin_all.Goals as goal
 
-pub returns-in_err-note_worker-clause-noted : goal.returns-in_err-note_worker-clause-noted
-returns-in_err-note_worker-clause-noted c = λ h. noted-same c.args.noted.now.entries c.note_worker.new.noted.entries c.note_worker.ensures.same c.args.names.now h
+pub returns-then-is_err-clause-noted : goal.returns-then-is_err-clause-noted
+returns-then-is_err-clause-noted c = λ h. noted-same c.args.noted.now.entries c.note_worker.new.noted.entries c.note_worker.ensures.same c.args.names.now h
 
 pub returns-clause-noted : goal.returns-clause-noted
 returns-clause-noted c =

@@ -1,7 +1,7 @@
 use Rattle.std.proofs.Common.{◌≡◌}
 use Rattle.table_schema.specs.declared.key.Key.TheVariants as key
 use Rattle.ref_counts.specs.Kept.{users_in}
-use Rattle.ref_counts.specs.Parted.{renamed}
+use Rattle.late_maps.specs.Segments.{renamed}
 use Rattle.ref_counts.proofs.places.least_route.Given as goal
 
 -- no user so far

@@ -1,7 +1,7 @@
 use Rattle.std.proofs.Common.{◌≡◌, None, Some, rules, ◌∙◌}
 use Rattle.table_schema.specs.declared.key.Key.TheVariants as key
 use Rattle.ref_counts.specs.Kept.{is_pinned, settled, users_in}
-use Rattle.ref_counts.specs.Parted.{renamed}
+use Rattle.late_maps.specs.Segments.{renamed}
 use Rattle.ref_counts.specs.Registered.{first_of}
 use Rattle.ref_counts.proofs.Keeping.{readable-first}
 use Rattle.ref_counts.proofs.KeptRoutes.{least-before, least-behind, rows-readable}

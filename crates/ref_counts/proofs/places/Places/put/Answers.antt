@@ -1,7 +1,7 @@
 use Rattle.table_schema.specs.Key.{key_cmp}
 use Rattle.ref_counts.specs.Kept.{ComesBeforeRoutes}
 use Rattle.ref_counts.proofs.KeptRoutes.{readable_before, route-stands, row-put}
-use Rattle.ref_counts.proofs.Segments.{all-inserted}
+use Rattle.late_maps.proofs.Segments.{all-inserted}
 use Rattle.ref_counts.proofs.places.Places.put.Goals as goal
 
 pub invariant_of-self-in_ok-insert-in_default : goal.invariant_of-self-in_ok-insert-in_default

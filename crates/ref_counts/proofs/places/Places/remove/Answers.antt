@@ -1,7 +1,7 @@
 use Rattle.table_schema.specs.Key.{key_cmp}
 use Rattle.ref_counts.specs.Kept.{ComesBeforeRoutes}
 use Rattle.ref_counts.proofs.KeptRoutes.{route-stands, row-removed}
-use Rattle.ref_counts.proofs.Segments.{all-removed}
+use Rattle.late_maps.proofs.Segments.{all-removed}
 use Rattle.ref_counts.proofs.places.Places.remove.Goals as goal
 
 pub invariant_of-self-in_default : goal.invariant_of-self-in_default

@@ -4,10 +4,10 @@ use Rattle.ref_counts.proofs.Partings.{group-stands, neighbor-stands, other-stan
 use Rattle.ref_counts.proofs.registrations.Registrations.get.Goals as goal
 
 pub returns-in-Row : goal.returns-in-Row
-returns-in-Row c = c.get_late.ensures.value ∙ (row-stands c.self.inside c.self.invariant c.in-Row.key.now c.in-Row.ensures.1).found ∙ ap₂ registered_at c.self.view_is (sym c.in-Row.ensures.0)
+returns-in-Row c = c.get.ensures ∙ (row-stands c.self.inside c.self.invariant c.in-Row.key.now c.in-Row.ensures.1).found ∙ ap₂ registered_at c.self.view_is (sym c.in-Row.ensures.0)
 
 pub returns-in-Neighbor : goal.returns-in-Neighbor
-returns-in-Neighbor c = c.get.ensures.value ∙ (neighbor-stands c.self.inside c.self.invariant c.in-Neighbor.neighbor).found ∙ ap₂ registered_at c.self.view_is (sym c.in-Neighbor.ensures)
+returns-in-Neighbor c = c.get-in-Neighbor.ensures.value ∙ (neighbor-stands c.self.inside c.self.invariant c.in-Neighbor.neighbor).found ∙ ap₂ registered_at c.self.view_is (sym c.in-Neighbor.ensures)
 
 pub returns-in-Route : goal.returns-in-Route
 returns-in-Route c = c.get-in-Route.ensures ∙ (route-stands c.self.inside c.self.invariant c.in-Route.prefix.now).found ∙ ap₂ registered_at c.self.view_is (sym c.in-Route.ensures)

@@ -6,7 +6,7 @@ use Rattle.ref_counts.proofs.Partings.{group-stands, neighbor-stands, other-stan
 use Rattle.ref_counts.proofs.registrations.Registrations.remove.Goals as goal
 
 pub invariant_of-self : goal.invariant_of-self
-invariant_of-self c = parted-row_removed c.self.inside c.self.invariant c.remove.new.self.entries c.in-Row.key.now c.remove.ensures.entries
+invariant_of-self c = parted-row_removed c.self.inside c.self.invariant c.remove.new.self c.in-Row.key.now c.remove.ensures.entries
 
 pub invariant_of-self-in-Other : goal.invariant_of-self-in-Other
 invariant_of-self-in-Other c = parted-other_removed c.self.inside c.self.invariant c.remove-in-Other.new.self.entries c.in-Other.name.now c.remove-in-Other.ensures.entries
@@ -15,7 +15,7 @@ pub returns-in-Row-clause-value : goal.returns-in-Row-clause-value
 returns-in-Row-clause-value c = c.remove.ensures.value ∙ (row-stands c.self.inside c.self.invariant c.in-Row.key.now c.in-Row.ensures.1).found ∙ ap₂ registered_at c.self.view_is (sym c.in-Row.ensures.0)
 
 pub returns-in-Row-clause-removed : goal.returns-in-Row-clause-removed
-returns-in-Row-clause-removed c = (row-stands c.self.inside c.self.invariant c.in-Row.key.now c.in-Row.ensures.1).removed c.remove.new.self.entries c.remove.ensures.entries ∙ ap₂ (λ ns n. remove_entry (is_at (registered_name_cmp n)) ns) c.self.view_is (sym c.in-Row.ensures.0)
+returns-in-Row-clause-removed c = (row-stands c.self.inside c.self.invariant c.in-Row.key.now c.in-Row.ensures.1).removed c.remove.new.self c.remove.ensures.entries ∙ ap₂ (λ ns n. remove_entry (is_at (registered_name_cmp n)) ns) c.self.view_is (sym c.in-Row.ensures.0)
 
 pub returns-in-Neighbor-clause-value : goal.returns-in-Neighbor-clause-value
 returns-in-Neighbor-clause-value c = c.remove-in-Neighbor.ensures.value ∙ (neighbor-stands c.self.inside c.self.invariant c.in-Neighbor.neighbor).found ∙ ap₂ registered_at c.self.view_is (sym c.in-Neighbor.ensures)
