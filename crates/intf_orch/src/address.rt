@@ -1,18 +1,15 @@
 // How the operation of an interface's address starts.
-ghost use Rattle.std.specs.Prelude.{◌≡◌, ◌∷◌, ◌<◌, [], true, false, is_some, None, Some, option_map, IfOk, IfErr, OnOk, OnErr, if◌then◌else◌};
+ghost use Rattle.std.specs.Prelude.{◌≡◌, true, false, None, Some, IfOk, IfErr, OnOk, OnErr, if◌then◌else◌};
 ghost use Rattle.ref_counts.specs.declared.name.NameState.TheVariants.{Live};
 ghost use Rattle.ref_counts.specs.Registered.{begun_to_go};
-ghost use Rattle.ref_counts.specs.Registry.{changed, retire_refusal_at, registered_at, state_of};
-ghost use Rattle.ref_counts.specs.Room.{Reserves};
+ghost use Rattle.ref_counts.specs.Registry.{changed, retire_refusal_at, state_of};
 ghost use Rattle.row_layout.specs.Shared.{uses};
-ghost use Rattle.orch_flight.specs.Needing.{row_reason};
-ghost use Rattle.orch_flight.specs.Sharing.{AreOfShared, HasNoPins, MayShare, MayStart, begun_by, lacks_shared, owners_of};
+ghost use Rattle.orch_flight.specs.Sharing.{AreOfShared, MayStart, owners_of};
 ghost use Rattle.orch_flight.specs.Starting.{IsStartedBy, answered};
-ghost use Rattle.orch_flight.specs.Taking.{to_list};
 ghost use Rattle.intf_orch.specs.Interfaces.{IsLive, IsRetired, intf_operation, left_shared};
 
 use crate::stage::{OwnStage, Subject, own_places, own_stage};
-use orch_flight::{lacks, leave, own_of, start_row, try_remove};
+use orch_flight::{leave, own_of, start_row, start_sharing, try_remove};
 use ref_counts::{Name, Registry, Room};
 use switch_model::Wait;
 use swss_types::{IfName, Ip, OutOfMemory};
@@ -36,10 +33,25 @@ pub fn add(
     ensures err_room { OnErr result (room.new ≡ room.old) }
 {
     let shared = shared_by(plan, on, ip, len, new);
-    let builds = lacks(reg, &shared);
-    let need = own_places(ip, builds);
-    let begun = begin(reg, room, used, worker, on, ip, len, false, &shared, &need)?;
-    Ok(begun.and(Ok(Subject::Addr(on, *ip, len, own_stage(builds)))))
+    let key = Key::Addr(on, *ip, len);
+    let need = own_places(ip, false);
+    let need_built = own_places(ip, true);
+    let started = start_sharing(
+        reg,
+        room,
+        used,
+        worker,
+        &key,
+        &[Key::Intf(on)],
+        false,
+        &shared,
+        &need,
+        &need_built,
+    )?;
+    match started {
+        Ok(builds) => Ok(Ok(Subject::Addr(on, *ip, len, own_stage(builds)))),
+        Err(wait) => Ok(Err(wait)),
+    }
 }
 
 /// Starts the operation of an address whose row is replaced, which is the same.
@@ -61,8 +73,10 @@ pub fn change(
     ensures err_room { OnErr result (room.new ≡ room.old) }
 {
     let shared = shared_by(plan, on, ip, len, new);
-    let begun = begin(
-        reg, room, used, worker, on, ip, len, true, &shared, &[0; 11],
+    let key = Key::Addr(on, *ip, len);
+    let names = [Key::Intf(on)];
+    let begun = start_row(
+        reg, room, used, worker, &key, &names, true, &shared, &[0; 11],
     )?;
     Ok(begun.and(Ok(Subject::Addr(on, *ip, len, OwnStage::Stays))))
 }
@@ -89,46 +103,6 @@ pub fn remove(
         Ok(stage) => Ok(Ok(Subject::Addr(on, *ip, len, stage))),
         Err(wait) => Ok(Err(wait)),
     }
-}
-
-/// Begins the operation of an address's row, which names its interface.
-fn begin(
-    reg: &mut Registry,
-    room: &mut Room,
-    used: &[u64; 11],
-    worker: u32,
-    on: IfName,
-    ip: &Ip,
-    len: u8,
-    applied: bool,
-    shared: &Option<Name>,
-    need: &[u64; 11],
-) -> Result<Result<(), Wait>, OutOfMemory>
-    requires worker { worker < 4 }
-    requires unpinned { HasNoPins reg.old worker }
-    requires own { applied ≡ false → registered_at reg.old (Name.Row (Key.Addr on ip.now len)) ≡ None }
-    requires shared { MayShare reg.old shared.now }
-    ensures free { IfOk result (λ answer. OnOk answer (row_reason reg.old room.old used.now (Key.Intf on ∷ []) (to_list shared.now) need.now ≡ None)) }
-    ensures names { IfOk result (λ answer. OnOk answer (reg.new ≡ begun_by reg.old worker (Key.Addr on ip.now len) (Key.Intf on ∷ []) applied shared.now (lacks_shared reg.old shared.now))) }
-    ensures places { IfOk result (λ answer. OnOk answer (Reserves room.old worker need.now room.new)) }
-    ensures wait { IfOk result (λ answer. IfErr answer (λ wait. row_reason reg.old room.old used.now (Key.Intf on ∷ []) (to_list shared.now) need.now ≡ Some wait)) }
-    ensures none { IfOk result (λ answer. OnErr answer (reg.new ≡ reg.old)) }
-    ensures none_room { IfOk result (λ answer. OnErr answer (room.new ≡ room.old)) }
-    ensures err { OnErr result (reg.new ≡ reg.old) }
-    ensures err_room { OnErr result (room.new ≡ room.old) }
-{
-    let key = Key::Addr(on, *ip, len);
-    start_row(
-        reg,
-        room,
-        used,
-        worker,
-        &key,
-        &[Key::Intf(on)],
-        applied,
-        shared,
-        need,
-    )
 }
 
 /// Begins to take the applied row of a key away, which then leaves what it shared, or tells why it has to wait.

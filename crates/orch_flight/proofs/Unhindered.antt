@@ -1,5 +1,5 @@
 -- what holds where no reason to wait does
-use Rattle.std.proofs.Common.{◌≡◌, ℕ, List, [], ◌∷◌, ◌++◌, map, Option, Some, None, option_map, if◌then◌else◌, refl, ap}
+use Rattle.std.proofs.Common.{◌≡◌, ℕ, List, [], ◌∷◌, ◌++◌, map, Option, Some, None, option_map, if◌then◌else◌, refl, ap, ◌∙◌}
 use Rattle.table_schema.specs.declared.key.Key.{Key}
 use Rattle.sai_types.specs.Named.{those}
 use Rattle.switch_model.specs.declared.wait.Wait.{Wait}
@@ -12,7 +12,7 @@ use Rattle.ref_counts.specs.Registered.{Registered}
 use Rattle.ref_counts.specs.Registry.{Names, first_not_live, is_live, owner_in, registered_at, state_in, state_of}
 use Rattle.ref_counts.specs.Room.{RoomState, lacking}
 use Rattle.orch_flight.specs.Needing.{first_unapplied, least_of, or_else, row_reason, unapplied_or, workers_on}
-use Rattle.orch_flight.specs.Sharing.{IsNameReady, IsLiveOrAbsent, MayShare}
+use Rattle.orch_flight.specs.Sharing.{IsNameReady, IsLiveOrAbsent, MayShare, shared_state}
 use Rattle.orch_flight.specs.Taking.{to_list}
 
 or_else_none : (a b : Option Wait) → or_else a b ≡ None → a ≡ None
@@ -94,7 +94,47 @@ settled (Some r) free not = by r.state free (λ e. not (ap Some e))
     by (state.Building w) free not = cc
     by (state.Retiring w) free not = cc
 
--- and what is shared is ready
-pub reason-ready : (names : Names) (room : RoomState) (used : List ℕ) (ks : List Key) (shared : Option Name) (need : List ℕ) → MayShare names shared → row_reason names room used ks (to_list shared) need ≡ None → IsNameReady names shared
-reason-ready names room used ks None need may none = tt
-reason-ready names room used ks (Some n) need may none = (may.0, settled (registered_at names n) (reason-free names room used ks (n ∷ []) need none).0 may.1)
+-- what is shared and has no worker is ready
+pub unowned-ready : (names : Names) (shared : Option Name) → MayShare names shared → owner_in (shared_state names shared) ≡ None → IsNameReady names shared
+unowned-ready names None may unowned = tt
+unowned-ready names (Some n) may unowned = (may.0, settled (registered_at names n) unowned may.1)
+
+-- ---- and where all that is needed is there, no reason does
+
+live_applied : (s : NameState) (k : Key) (a b : Option Key) → (if is_live s then b else Some k) ≡ None → (b ≡ None → a ≡ None) → (unapplied_or k s a ≡ None) × ((owner_in s ≡ None) × (b ≡ None))
+live_applied state.Live k a b h next = (next h, (refl, h))
+live_applied state.Absent k a b h next = cc
+live_applied (state.Building w) k a b h next = cc
+live_applied (state.Retiring w) k a b h next = cc
+
+there_so_applied : (names : Names) (ks : List Key) → first_not_live names ks ≡ None → first_unapplied names ks ≡ None
+there_so_applied names [] h = refl
+there_so_applied names (k ∷ ks) h = (live_applied (state_of names (name.Row k)) k (first_unapplied names ks) (first_not_live names ks) h (there_so_applied names ks)).0
+
+there_so_free : (names : Names) (ks : List Key) (ns : List Name) → first_not_live names ks ≡ None → workers_on names ns ≡ [] → workers_on names (map name.Row ks ++ ns) ≡ []
+there_so_free names [] ns h none = none
+there_so_free names (k ∷ ks) ns h none =
+    let live = (live_applied (state_of names (name.Row k)) k (first_unapplied names ks) (first_not_live names ks) h (there_so_applied names ks)).1 in
+    ap (λ o. those (o ∷ map (λ n. owner_in (state_of names n)) (map name.Row ks ++ ns))) live.0 ∙ there_so_free names ks ns live.1 none
+
+shared_free : (names : Names) (shared : Option Name) → owner_in (shared_state names shared) ≡ None → workers_on names (to_list shared) ≡ []
+shared_free names None h = refl
+shared_free names (Some n) h = ap (λ o. those (o ∷ [])) h
+
+none_of : (a b c : Option Wait) → a ≡ None → b ≡ None → c ≡ None → or_else a (or_else b c) ≡ None
+none_of a b c x y z = rw (x, y, z) refl
+
+free_shared : (names : Names) (shared : Option Name) → AreFree names (to_list shared) → owner_in (shared_state names shared) ≡ None
+free_shared names None h = refl
+free_shared names (Some n) h = h.0
+
+module _ (names : Names) (room : RoomState) (used : List ℕ) (ks : List Key) (shared : Option Name) (need : List ℕ) where
+  abbrev pub why : Option Wait
+  why = row_reason names room used ks (to_list shared) need
+
+  pub no-reason : owner_in (shared_state names shared) ≡ None → lacking room need used ≡ None → first_not_live names ks ≡ None → why ≡ None
+  no-reason unowned rooms live =
+      none_of _ _ _ (ap (option_map wait.Missing) (there_so_applied names ks live)) (ap (λ ws. option_map wait.Busy (least_of ws)) (there_so_free names ks (to_list shared) live (shared_free names shared unowned))) (ap (option_map wait.NoRoom) rooms)
+
+  pub reason-shared : why ≡ None → owner_in (shared_state names shared) ≡ None
+  reason-shared none = free_shared names shared (reason-free names room used ks (to_list shared) need none)

@@ -34,10 +34,14 @@ abbrev pub is_absent : NameState → Bool
 is_absent state.Absent = true
 is_absent _ = false
 
+-- how what is shared stands: where nothing is, nobody has to build it, as if it were live
+abbrev pub shared_state : Names → Option Name → NameState
+shared_state names None = state.Live
+shared_state names (Some n) = state_of names n
+
 -- nothing of what is shared is there
 abbrev pub lacks_shared : Names → Option Name → Bool
-lacks_shared names None = false
-lacks_shared names (Some n) = is_absent (state_of names n)
+lacks_shared names shared = is_absent (shared_state names shared)
 
 -- the name of a key begins to be built, unless its row is applied
 abbrev pub with_row_begun : Names → ℕ → Key → Bool → Names

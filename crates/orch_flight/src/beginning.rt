@@ -1,17 +1,18 @@
 // What becomes of names when the operation of a row begins.
-ghost use Rattle.std.specs.Prelude.{◌≡◌, true, false, None, OnOk, OnErr};
+ghost use Rattle.std.specs.Prelude.{◌≡◌, true, false, None, Some, IfOk, IfErr, OnOk, OnErr};
 ghost use Rattle.ref_counts.specs.Registered.{IsReadable, with_user};
 ghost use Rattle.ref_counts.specs.Registry.{changed, first_not_live, registered_at};
 ghost use Rattle.orch_flight.specs.Starting.{ids_for, ids_for_row};
 ghost use Rattle.orch_flight.specs.Sharing.{HasNoPins, IsNameReady, begun_by, lacks_shared, owner_for, with_row_begun, with_shared, with_shared_begun};
 
 use crate::undoing::{begin_build, end_build};
-use ref_counts::{Name, Registry};
+use ref_counts::{Missing, Name, Registry};
 use swss_types::{IfName, OutOfMemory};
 use table_schema::Key;
 
 /// Begins the operation of a row: pins the rows of the keys that it names, begins the building of its own name unless a row
-/// is applied, and of what it shares where it is absent, and makes its key a user of this.
+/// is applied, and of what it shares where it is absent, and makes its key a user of this. Missing is the first of the keys
+/// whose row is not live: nothing is begun then.
 pub fn begin(
     reg: &mut Registry,
     worker: u32,
@@ -19,21 +20,26 @@ pub fn begin(
     keys: &[Key],
     applied: bool,
     shared: &Option<Name>,
-) -> Result<(), OutOfMemory>
+) -> Result<Result<(), Missing>, OutOfMemory>
     requires readable { IsReadable key.now }
     requires unpinned { HasNoPins reg.old worker }
-    requires named { first_not_live reg.old keys.now ≡ None }
     requires own { applied ≡ false → registered_at reg.old (Name.Row key.now) ≡ None }
     requires shared { IsNameReady reg.old shared.now }
-    ensures ok { OnOk result (reg.new ≡ begun_by reg.old worker key.now keys.now applied shared.now (lacks_shared reg.old shared.now)) }
+    ensures named { IfOk result (λ answer. OnOk answer (first_not_live reg.old keys.now ≡ None)) }
+    ensures ok { IfOk result (λ answer. OnOk answer (reg.new ≡ begun_by reg.old worker key.now keys.now applied shared.now (lacks_shared reg.old shared.now))) }
+    ensures missing { IfOk result (λ answer. IfErr answer (λ missing. first_not_live reg.old keys.now ≡ Some missing.0)) }
+    ensures none { IfOk result (λ answer. OnErr answer (reg.new ≡ reg.old)) }
     ensures err { OnErr result (reg.new ≡ reg.old) }
 {
-    reg.pin_live(worker, key, keys)?;
+    match reg.pin(worker, key, keys)? {
+        Ok(()) => {}
+        Err(missing) => return Ok(Err(missing)),
+    }
     if let Err(error) = begin_row(reg, worker, key, applied, shared) {
         reg.release(worker, false);
         return Err(error);
     }
-    Ok(())
+    Ok(Ok(()))
 }
 
 /// Begins the building of a key's own name, unless a row of it is applied, and of what its new row shares.

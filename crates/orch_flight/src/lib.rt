@@ -11,4 +11,4 @@ mod undoing;
 pub use leaving::{leave, try_remove, vid};
 pub use reasons::unapplied;
 pub use sharing::{base_of, bridge_of, lane_of, own_of, shared};
-pub use starting::{lacks, start_row};
+pub use starting::{lacks, start_row, start_sharing};

@@ -36,7 +36,7 @@ pub fn reason(
 pub fn unapplied(reg: &Registry, key: &Key) -> Result<Option<Key>, OutOfMemory>
     ensures { IfOk result (λ found. found ≡ first_unapplied reg.now (key.now ∷ [])) }
 {
-    match reg.state(&Name::Row(key.copy()?)) {
+    match reg.row_state(key) {
         NameState::Live | NameState::Retiring(_) => Ok(None),
         NameState::Absent | NameState::Building(_) => Ok(Some(key.copy()?)),
     }
@@ -58,7 +58,7 @@ fn least_on(
             Some(name) => Ok(Ok(worker_on(reg, name))),
             None => Ok(Ok(None)),
         },
-        [key, others @ ..] => match reg.state(&Name::Row(key.copy()?)) {
+        [key, others @ ..] => match reg.row_state(key) {
             NameState::Live => least_on(reg, others, shared),
             NameState::Retiring(worker) => match least_on(reg, others, shared)? {
                 Ok(least) => Ok(Ok(Some(lesser(worker, least)))),
@@ -73,7 +73,14 @@ fn least_on(
 fn worker_on(reg: &Registry, name: &Name) -> Option<u32>
     ensures { result ≡ owner_in (state_of reg.now name.now) }
 {
-    match reg.state(name) {
+    owner(reg.state(name))
+}
+
+/// The worker whose operation builds what stands so, or takes it away.
+pub fn owner(state: NameState) -> Option<u32>
+    ensures { result ≡ owner_in state }
+{
+    match state {
         NameState::Building(worker) | NameState::Retiring(worker) => Some(worker),
         NameState::Absent | NameState::Live => None,
     }

@@ -7,7 +7,7 @@ ghost use Rattle.orch_flight.specs.Sharing.{MayStart, owners_of};
 ghost use Rattle.orch_flight.specs.Starting.{IsBegunBy};
 ghost use Rattle.vlan_orch.specs.Vlans.{IsOfVlan, IsVlanKey, places_of_member, places_of_vlan};
 
-use orch_flight::{bridge_of, lacks, start_row, try_remove};
+use orch_flight::{bridge_of, lacks, start_row, start_sharing, try_remove};
 use ref_counts::{Name, Registry, Room};
 use switch_model::Wait;
 use swss_types::OutOfMemory;
@@ -118,8 +118,12 @@ fn begin_member(
     let applied = old.is_some();
     let names = [Key::Vlan(vlan), Key::Port(port)];
     let shared = shared_by(plan, key, new);
-    let need = member_places(applied, lacks(reg, &shared));
-    start_row(reg, room, used, worker, key, &names, applied, &shared, need)
+    let need = member_places(applied, false);
+    let need_built = member_places(applied, true);
+    let started = start_sharing(
+        reg, room, used, worker, key, &names, applied, &shared, need, need_built,
+    )?;
+    Ok(started.and(Ok(())))
 }
 
 /// The bridge port that a row shares: none of a VLAN, nor of a member on a port that is not in the plan.
