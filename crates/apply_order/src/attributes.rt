@@ -13,7 +13,7 @@ pub(crate) fn push_sets(
     old: &Object<Rid>,
     new: &Object<Vid>,
 ) -> Result<(), OutOfMemory>
-    ensures { OnOk result (calls.new ≡ calls.old ++ set_calls names.now.entries old.now new.now) }
+    ensures { OnOk result (calls.new ≡ calls.old ++ set_calls names.now old.now new.now) }
 {
     push_differing(names, calls, &old.entry, &old.body, &new.body)
 }
@@ -25,7 +25,7 @@ fn push_differing(
     old: &Body<Rid>,
     new: &Body<Vid>,
 ) -> Result<(), OutOfMemory>
-    ensures { OnOk result (calls.new ≡ calls.old ++ map (set_call entry.now) (differing names.now.entries old.now new.now)) }
+    ensures { OnOk result (calls.new ≡ calls.old ++ map (set_call entry.now) (differing names.now old.now new.now)) }
 {
     match (old, new) {
         (
@@ -66,7 +66,7 @@ fn push_differing(
 
 /// Whether anything differs that a plan sets.
 pub(crate) fn differs(names: &Names, old: &Object<Rid>, new: &Object<Vid>) -> bool
-    ensures { result ≡ is_any (set_calls names.now.entries old.now new.now) }
+    ensures { result ≡ is_any (set_calls names.now old.now new.now) }
 {
     match (&old.body, &new.body) {
         (

@@ -18,7 +18,7 @@ pub(crate) fn calls_of(
     new: &[Object<Vid>],
     steps: &[Timed],
 ) -> Result<PlanCalls, OutOfMemory>
-    ensures { IfOk result (λ calls. calls ≡ steps_calls names.now.entries old.now new.now steps.now) }
+    ensures { IfOk result (λ calls. calls ≡ steps_calls names.now old.now new.now steps.now) }
 {
     let mut calls = PlanCalls::new(alloc);
     for timed in steps {
@@ -35,7 +35,7 @@ fn push_step(
     new: &[Object<Vid>],
     step: PlanStep,
 ) -> Result<(), OutOfMemory>
-    ensures { OnOk result (calls.new ≡ calls.old ++ step_calls names.now.entries old.now new.now step) }
+    ensures { OnOk result (calls.new ≡ calls.old ++ step_calls names.now old.now new.now step) }
 {
     match step {
         PlanStep::Make(place) => push_make(names, calls, new.get(place as usize)),
@@ -56,7 +56,7 @@ pub(crate) fn is_needed(
     new: &[Object<Vid>],
     step: PlanStep,
 ) -> bool
-    ensures { result ≡ is_needed names.now.entries old.now new.now step }
+    ensures { result ≡ is_needed names.now old.now new.now step }
 {
     match step {
         PlanStep::Set(from, to) => both_differ(names, old.get(from as usize), new.get(to as usize)),
@@ -65,7 +65,7 @@ pub(crate) fn is_needed(
 }
 
 fn both_differ(names: &Names, old: Option<&Object<Rid>>, new: Option<&Object<Vid>>) -> bool
-    ensures { result ≡ is_any (both_calls names.now.entries (option_copied old.entry) (option_copied new.entry)) }
+    ensures { result ≡ is_any (both_calls names.now (option_copied old.entry) (option_copied new.entry)) }
 {
     match (old, new) {
         (Some(old), Some(new)) => differs(names, old, new),
@@ -78,7 +78,7 @@ fn push_make(
     calls: &mut PlanCalls,
     new: Option<&Object<Vid>>,
 ) -> Result<(), OutOfMemory>
-    ensures { OnOk result (calls.new ≡ calls.old ++ make_calls names.now.entries (option_copied new.entry)) }
+    ensures { OnOk result (calls.new ≡ calls.old ++ make_calls names.now (option_copied new.entry)) }
 {
     match new {
         Some(new) => calls.push(PlanCall {
@@ -95,7 +95,7 @@ fn push_both(
     old: Option<&Object<Rid>>,
     new: Option<&Object<Vid>>,
 ) -> Result<(), OutOfMemory>
-    ensures { OnOk result (calls.new ≡ calls.old ++ both_calls names.now.entries (option_copied old.entry) (option_copied new.entry)) }
+    ensures { OnOk result (calls.new ≡ calls.old ++ both_calls names.now (option_copied old.entry) (option_copied new.entry)) }
 {
     match (old, new) {
         (Some(old), Some(new)) => push_sets(names, calls, old, new),

@@ -26,7 +26,7 @@ pub(crate) fn steps_of(
     keys: NaturalKeys,
 ) -> Result<Vec<Timed>, OutOfMemory>
     requires keyed { AreNaturalKeysOf old.now new.now keys }
-    ensures { IfOk result (λ steps. IsPermutation (needed names.now.entries old.now new.now (due_steps mode old.now new.now pairs.now)) steps.items × IsSorted timed_cmp steps.items) }
+    ensures { IfOk result (λ steps. IsPermutation (needed names.now old.now new.now (due_steps mode old.now new.now pairs.now)) steps.items × IsSorted timed_cmp steps.items) }
 {
     let mut steps = due_steps(alloc, mode, names, old, new, pairs, keys)?;
     steps.sort()?;
@@ -44,7 +44,7 @@ fn due_steps(
     keys: NaturalKeys,
 ) -> Result<Vec<Timed>, OutOfMemory>
     requires keyed { AreNaturalKeysOf old.now new.now keys }
-    ensures { IfOk result (λ steps. steps.items ≡ needed names.now.entries old.now new.now (due_steps mode old.now new.now pairs.now)) }
+    ensures { IfOk result (λ steps. steps.items ≡ needed names.now old.now new.now (due_steps mode old.now new.now pairs.now)) }
 {
     let pairs = paired_in(mode, pairs);
     let mut steps = Vec::with_capacity(alloc, new.len())?;
@@ -77,7 +77,7 @@ fn push_new(
 ) -> Result<(), OutOfMemory>
     requires keyed { length keys.items ≡ length new.now }
     requires counted { length paired.now.items ≡ length new.now }
-    ensures { OnOk result ((known : Places) → IsTable known paired.now.items → steps.new.items ≡ steps.old.items ++ needed names.now.entries old.now new.now (new_steps mode known keys.items new.now 0)) }
+    ensures { OnOk result ((known : Places) → IsTable known paired.now.items → steps.new.items ≡ steps.old.items ++ needed names.now old.now new.now (new_steps mode known keys.items new.now 0)) }
 {
     let mut place = 0;
     for key in keys {

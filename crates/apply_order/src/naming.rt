@@ -4,13 +4,14 @@ ghost use Rattle.chip_layout.specs.Renamed.{body_renamed, on_renamed, to_renamed
 ghost use Rattle.plan_laws.specs.Calls.{old_entry};
 ghost use Rattle.apply_order.specs.Naming.{names_in, new_id, with_entries, with_objects};
 
+use late_maps::LateMap;
 use sai_types::{Body, Entry, Mode, Object, PlanId, Rid, RifOn, To, Vid};
 use std::alloc::Global;
-use std::collections::BTreeMap;
 use swss_types::OutOfMemory;
 
-/// By the number of a new identifier that of the old object, where a plan names it so.
-pub(crate) type Names = BTreeMap<u64, Rid>;
+/// By the number of a new identifier that of the old object, where a plan names it so. New identifiers mostly come in
+/// their order.
+pub(crate) type Names = LateMap<u64, Rid>;
 
 /// The names of paired objects: a cold plan names none.
 pub(crate) fn names_in(
@@ -20,9 +21,9 @@ pub(crate) fn names_in(
     new: &[Object<Vid>],
     pairs: &[(u64, u64)],
 ) -> Result<Names, OutOfMemory>
-    ensures { IfOk result (λ names. names.entries ≡ names_in mode old.now new.now pairs.now) }
+    ensures { IfOk result (λ names. names ≡ names_in mode old.now new.now pairs.now) }
 {
-    let mut names = BTreeMap::new(alloc);
+    let mut names = LateMap::new(alloc);
     if mode == Mode::Cold {
         return Ok(names);
     }
@@ -39,17 +40,18 @@ fn put_pair(
     new: &[Object<Vid>],
     pair: (u64, u64),
 ) -> Result<(), OutOfMemory>
-    ensures { OnOk result (names.new.entries ≡ with_objects names.old.entries (slice_get old.now pair.0) (slice_get new.now pair.1)) }
+    ensures { OnOk result (names.new ≡ with_objects names.old (slice_get old.now pair.0) (slice_get new.now pair.1)) }
 {
     put_objects(names, old.get(pair.0 as usize), new.get(pair.1 as usize))
 }
 
+/// Puts the name of an old object and a new one, where both are there.
 fn put_objects(
     names: &mut Names,
     old: Option<&Object<Rid>>,
     new: Option<&Object<Vid>>,
 ) -> Result<(), OutOfMemory>
-    ensures { OnOk result (names.new.entries ≡ with_objects names.old.entries (option_copied old.entry) (option_copied new.entry)) }
+    ensures { OnOk result (names.new ≡ with_objects names.old (option_copied old.entry) (option_copied new.entry)) }
 {
     match (old, new) {
         (Some(old), Some(new)) => put_entries(names, &old.entry, &new.entry),
@@ -57,8 +59,9 @@ fn put_objects(
     }
 }
 
+/// Puts the old identifier under the new one, where both objects have one.
 fn put_entries(names: &mut Names, old: &Entry<Rid>, new: &Entry<Vid>) -> Result<(), OutOfMemory>
-    ensures { OnOk result (names.new.entries ≡ with_entries names.old.entries old.now new.now) }
+    ensures { OnOk result (names.new ≡ with_entries names.old old.now new.now) }
 {
     match (old, new) {
         (Entry::Oid(old), Entry::Oid(new)) => {
@@ -71,7 +74,7 @@ fn put_entries(names: &mut Names, old: &Entry<Rid>, new: &Entry<Vid>) -> Result<
 
 /// The name of a new object.
 pub(crate) fn new_id(names: &Names, id: Vid) -> PlanId
-    ensures { result ≡ new_id names.now.entries id }
+    ensures { result ≡ new_id names.now id }
 {
     match names.get(&id.0) {
         Some(old) => PlanId::Old(*old),
@@ -91,8 +94,9 @@ pub(crate) fn old_entry(entry: &Entry<Rid>) -> Entry<PlanId>
     }
 }
 
+/// What a new router interface stands on, as a plan names it.
 fn new_on(names: &Names, on: RifOn<Vid>) -> RifOn<PlanId>
-    ensures { result ≡ on_renamed (new_id names.now.entries) on }
+    ensures { result ≡ on_renamed (new_id names.now) on }
 {
     match on {
         RifOn::Port(port) => RifOn::Port(new_id(names, port)),
@@ -102,7 +106,7 @@ fn new_on(names: &Names, on: RifOn<Vid>) -> RifOn<PlanId>
 
 /// A route's target, as a plan names it.
 pub(crate) fn new_to(names: &Names, to: To<Vid>) -> To<PlanId>
-    ensures { result ≡ to_renamed (new_id names.now.entries) to }
+    ensures { result ≡ to_renamed (new_id names.now) to }
 {
     match to {
         To::Drop => To::Drop,
@@ -114,7 +118,7 @@ pub(crate) fn new_to(names: &Names, to: To<Vid>) -> To<PlanId>
 
 /// A new body, as a plan names what it refers to.
 pub(crate) fn new_body(names: &Names, body: &Body<Vid>) -> Result<Body<PlanId>, OutOfMemory>
-    ensures { IfOk result (λ named. named ≡ body_renamed (new_id names.now.entries) body.now) }
+    ensures { IfOk result (λ named. named ≡ body_renamed (new_id names.now) body.now) }
 {
     Ok(match body {
         Body::Port {

@@ -1,5 +1,5 @@
 // When there is room to keep what stands until the new view stands too.
-ghost use Rattle.std.specs.Prelude.{◌≡◌, ◌↔◌, ◌+◌, ◌<◌, ◌≤◌, ◌==◌, length, slice_index, true, IfOk, if◌then◌else◌};
+ghost use Rattle.std.specs.Prelude.{◌≡◌, ◌↔◌, ◌+◌, ◌^◌, ◌<◌, ◌≤◌, ◌==◌, length, slice_index, true, IfOk, if◌then◌else◌};
 ghost use Rattle.std.specs.List.{list_all};
 ghost use Rattle.sai_types.specs.declared.kind.Kind.{Kind};
 ghost use Rattle.sai_types.specs.Objects.{kind_of, level};
@@ -70,6 +70,7 @@ fn have_room(kinds: &[Kind], held: &Counts, lacking: &Counts, caps: &Caps) -> bo
     true
 }
 
+/// Whether there is room for the objects of one kind.
 fn has_room(kind: Kind, held: &Counts, lacking: &Counts, caps: &Caps) -> bool
     ensures { result ≡ has_room caps.now.0 held.now lacking.now kind }
 {
@@ -105,7 +106,7 @@ fn lacking(paired: &Partners, new: &[Object<Vid>]) -> Counts
 
 /// One more of a new object's kind, where it is not paired.
 fn raise_lacking(counts: &mut Counts, new: &Object<Vid>, partner: Option<u64>)
-    requires { slice_index counts.old (level (kind_of new.now.body)) + 1 < 18446744073709551616 }
+    requires { slice_index counts.old (level (kind_of new.now.body)) + 1 < 2 ^ 64 }
     ensures { (k : Kind) → slice_index counts.new (level k) ≡ slice_index counts.old (level k) + (if is_lacking k new.now partner then 1 else 0) }
 {
     if partner.is_none() {
@@ -115,7 +116,7 @@ fn raise_lacking(counts: &mut Counts, new: &Object<Vid>, partner: Option<u64>)
 
 /// One more of a kind.
 fn raise(counts: &mut Counts, kind: Kind)
-    requires { slice_index counts.old (level kind) + 1 < 18446744073709551616 }
+    requires { slice_index counts.old (level kind) + 1 < 2 ^ 64 }
     ensures { (k : Kind) → slice_index counts.new (level k) ≡ slice_index counts.old (level k) + (if level kind == level k then 1 else 0) }
 {
     let place = level(kind);

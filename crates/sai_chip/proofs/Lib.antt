@@ -12,7 +12,9 @@ mod LanesStay
 mod Looked
 mod Members
 mod Nearby
+mod NextHops
 mod Parts
+mod Recounted
 pub mod Remades
 pub mod Replays
 pub mod SameNames

@@ -38,7 +38,7 @@ abbrev pub front : Rid → Members → List Rid
 front g [] = []
 front g (e ∷ es) = with_front (same_id e.0.0 g) e.0.1 e.1 (front g es)
 
-pair_total : IsTotalOrder pair_cmp
+pub pair_total : IsTotalOrder pair_cmp
 pair_total = then_total (on_total (λ (p : Rid × Rid). p.0) ordered_rid.total-law) (on_total (λ (p : Rid × Rid). p.1) ordered_rid.total-law)
 
 -- below the group's pairs

@@ -20,7 +20,7 @@ use Rattle.sai_types.specs.ChipState.{objects_of}
 use Rattle.sai_types.specs.Refusal.{same_id}
 use Rattle.sai_types.specs.Named.{both, hop_cmp, body_port, body_vlan, port_at, vlan_at, bridge_port_of, bridge_port_at, base_on, rif_of, rif_at, hop_on, next_hop_of, next_hop_at, with_member, hops_among, hops_at, goal_by, thing_by, thing_of, things_among, named}
 use Rattle.sai_chip.specs.Members.{hops_by}
-use Rattle.sai_chip.specs.Naming.{AreBodies, AreHops, GroupHops, entries_of, hops_in}
+use Rattle.sai_chip.specs.Naming.{AreBodies, AreHops, AreNamesOf, GroupHops, NameTable, entries_of, hops_in}
 
 module _ (xs ys : Objects) (found : AreBodies ys xs) where
   port_at-same : (r : Rid) → port_at xs r ≡ port_at ys r
@@ -114,6 +114,17 @@ drop-before xs left d some within =
     let next : suc (left - 1) ≡ left = omega arith in
     let inside : left - 1 < length xs = omega arith in
     drop-cons xs (left - 1) d inside ∙ ap (λ k. get_or xs (left - 1) d ∷ drop k xs) next
+
+-- and so is what one of them names, and where a route leads
+module _ (objects : Objects) (names : NameTable) (are : AreNamesOf objects names) where
+  hops_of-names : (r : Rid) → hops_in names.groups r ≡ hops_at objects r
+  hops_of-names r = are.groups.each r ∙ hops_among-same names.bodies objects are.bodies r objects
+
+  pub thing-named : (e : Entry Rid) (b : Body Rid) → thing_by (hops_in names.groups) names.bodies (e, b) ≡ thing_of objects (e, b)
+  thing-named e b = thing_by-same names.bodies objects are.bodies (hops_in names.groups) (hops_at objects) hops_of-names e b
+
+  pub goal-named : (to : To Rid) → goal_by (hops_in names.groups) names.bodies to ≡ goal_by (hops_at objects) objects to
+  goal-named to = goal_by-same names.bodies objects are.bodies (hops_in names.groups) (hops_at objects) hops_of-names to
 
 -- the objects of a chip, as its list gives them
 pub entries_of-objects_of : (objects : Objects) → entries_of (objects_of objects) ≡ objects

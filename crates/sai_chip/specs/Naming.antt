@@ -13,7 +13,7 @@ use Rattle.sai_types.specs.contracts.thing.ThingOrd.TheImpl as thing_ord
 use Rattle.sai_types.specs.declared.body.Entry.TheVariants as entry
 use Rattle.sai_types.specs.Objects.{Objects, body_at}
 use Rattle.sai_types.specs.Refusal.{same_id}
-use Rattle.sai_types.specs.Named.{both, hop_cmp, hops_among}
+use Rattle.sai_types.specs.Named.{both, hop_cmp, hops_among, next_hop_at}
 use Rattle.sai_chip.specs.Tally.{rid_cmp}
 
 -- the order of things: by kind, and within a kind by what they are
@@ -42,3 +42,17 @@ with_hop group hop g others = if same_id group g then both (insert_key hop_cmp) 
 -- bodies that are found by their identifiers as those of a list
 pub record AreBodies (objects : Objects) (bodies : Objects) : Type 0 where
   pub each : (r : Rid) → body_at bodies (entry.Oid r) ≡ body_at objects (entry.Oid r)
+
+-- the hop of each next hop that is there, by its identifier
+pub record AreNextHops (objects : Objects) (hops : List (Rid × Hop)) : Type 0 where
+  pub each : (r : Rid) → lookup (is_at (rid_cmp r)) hops ≡ next_hop_at objects r
+
+-- what identifiers stand for: the bodies that are found by them, and the hops of groups
+pub record NameTable : Type 0 where
+  pub bodies : Objects
+  pub groups : GroupHops
+
+-- they stand for what they stand for among these objects
+pub record AreNamesOf (objects : Objects) (names : NameTable) : Type 0 where
+  pub bodies : AreBodies objects names.bodies
+  pub groups : AreHops names.bodies objects names.groups

@@ -1,5 +1,5 @@
 // The bodies of the objects of a chip.
-ghost use Rattle.std.specs.Prelude.{◌≡◌, [], ◌++◌, true, false, take, length, Some, None, IfOk, OnOk, OnErr, option_copied, if◌then◌else◌};
+ghost use Rattle.std.specs.Prelude.{◌≡◌, [], ◌++◌, true, false, take, length, Some, None, IfOk, IfErr, OnOk, OnErr, option_copied, if◌then◌else◌};
 ghost use Rattle.std.specs.BTreeMap.{insert_entry, is_at};
 ghost use Rattle.std.specs.BTreeSet.{insert_key};
 ghost use Rattle.std.specs.List.{list_any};
@@ -17,7 +17,7 @@ ghost use Rattle.swss_types.specs.contracts.address.IpOrd.TheImpl as ip_ord;
 ghost use Rattle.swss_types.specs.declared.address.Ip.{Ip};
 ghost use Rattle.sai_chip.specs.Bodies.{best_of, ids_set, keyed_at, macs_set, numbered, owned, prefix_cmp, reached, routed, target_of, targets_set, value_set};
 ghost use Rattle.sai_chip.specs.Naming.{AreBodies};
-ghost use Rattle.sai_chip.specs.Tally.{neighbor_cmp};
+ghost use Rattle.sai_chip.specs.Tally.{neighbor_cmp, rid_cmp};
 
 use crate::effect::set_attr;
 use late_maps::LateMap;
@@ -163,10 +163,11 @@ impl Bodies {
     }
 
     /// Puts an object in place of the one with the same entry, and answers the body of that one, if there is one. The
-    /// identifier is taken where the body has one.
-    pub fn put(&mut self, id: Rid, body: Body<Rid>) -> Result<Option<Body<Rid>>, OutOfMemory>
+    /// identifier is taken where the body has one. For want of memory the body comes back.
+    pub fn put(&mut self, id: Rid, body: Body<Rid>) -> Result<Option<Body<Rid>>, Body<Rid>>
         ensures ok { OnOk result (self.new ≡ insert_entry entry_cmp self.old (entry_of id.0 body) body) }
         ensures old { IfOk result (λ old. old ≡ body_at self.old (entry_of id.0 body)) }
+        ensures returned { IfErr result (λ failed. failed ≡ body) }
         ensures err { OnErr result (self.new ≡ self.old) }
     {
         entries_stay_sorted();
@@ -174,7 +175,7 @@ impl Bodies {
             Body::OwnAddress { ip } => put_own(&mut self.own, &ip)?,
             Body::Neighbor { rif, ip, mac } => put_neighbor(&mut self.neighbors, rif, &ip, mac)?,
             Body::Route { prefix, to } => put_route(&mut self.routes, &prefix, to)?,
-            body => self.numbered.insert(id, body)?,
+            body => put_numbered(&mut self.numbered, id, body)?,
         };
         Ok(old)
     }
@@ -233,16 +234,37 @@ impl Bodies {
     }
 }
 
+/// Puts a body in place of the one with the same identifier, and answers that one, if there is one.
+fn put_numbered(
+    numbered: &mut Numbered,
+    id: Rid,
+    body: Body<Rid>,
+) -> Result<Option<Body<Rid>>, Body<Rid>>
+    ensures ok { OnOk result (numbered.new ≡ insert_entry rid_cmp numbered.old id body) }
+    ensures old { IfOk result (λ old. old ≡ lookup (is_at (rid_cmp id)) numbered.old) }
+    ensures returned { IfErr result (λ failed. failed ≡ body) }
+    ensures err { OnErr result (numbered.new ≡ numbered.old) }
+{
+    match numbered.insert(id, body) {
+        Ok(old) => Ok(old),
+        Err(failed) => {
+            let (_, body) = failed.value;
+            Err(body)
+        }
+    }
+}
+
 /// Puts an own address, and answers its body, if it stood before.
-fn put_own(own: &mut BTreeSet<Ip>, ip: &Ip) -> Result<Option<Body<Rid>>, OutOfMemory>
+fn put_own(own: &mut BTreeSet<Ip>, ip: &Ip) -> Result<Option<Body<Rid>>, Body<Rid>>
     ensures ok { OnOk result (own.new.keys ≡ insert_key ip_ord.ghosts.cmp own.old.keys ip.now) }
     ensures old { IfOk result (λ old. old ≡ (if list_any (is_at (ip_ord.ghosts.cmp ip.now)) own.old.keys then Some (Body.OwnAddress ip.now) else None)) }
+    ensures returned { IfErr result (λ failed. failed ≡ Body.OwnAddress ip.now) }
     ensures err { OnErr result (own.new.keys ≡ own.old.keys) }
 {
-    if own.insert(*ip)? {
-        Ok(None)
-    } else {
-        Ok(Some(Body::OwnAddress { ip: *ip }))
+    match own.insert(*ip) {
+        Ok(true) => Ok(None),
+        Ok(false) => Ok(Some(Body::OwnAddress { ip: *ip })),
+        Err(_) => Err(Body::OwnAddress { ip: *ip }),
     }
 }
 
@@ -252,13 +274,16 @@ fn put_neighbor(
     rif: Rid,
     ip: &Ip,
     mac: Mac,
-) -> Result<Option<Body<Rid>>, OutOfMemory>
+) -> Result<Option<Body<Rid>>, Body<Rid>>
     ensures ok { OnOk result (neighbors.new.entries ≡ insert_entry neighbor_cmp neighbors.old.entries (rif, ip.now) mac) }
     ensures old { IfOk result (λ old. old ≡ option_map (Body.Neighbor rif ip.now) (lookup (is_at (neighbor_cmp (rif, ip.now))) neighbors.old.entries)) }
+    ensures returned { IfErr result (λ failed. failed ≡ Body.Neighbor rif ip.now mac) }
     ensures err { OnErr result (neighbors.new.entries ≡ neighbors.old.entries) }
 {
-    let old = neighbors.insert((rif, *ip), mac)?;
-    Ok(neighbor_if(rif, ip, old))
+    match neighbors.insert((rif, *ip), mac) {
+        Ok(old) => Ok(neighbor_if(rif, ip, old)),
+        Err(_) => Err(Body::Neighbor { rif, ip: *ip, mac }),
+    }
 }
 
 /// Puts the target of a route, and answers the body of the route, if it stood before.
@@ -266,13 +291,19 @@ fn put_route(
     routes: &mut Routes,
     prefix: &Prefix,
     to: To<Rid>,
-) -> Result<Option<Body<Rid>>, OutOfMemory>
+) -> Result<Option<Body<Rid>>, Body<Rid>>
     ensures ok { OnOk result (routes.new ≡ insert_entry prefix_cmp routes.old prefix.now to) }
     ensures old { IfOk result (λ old. old ≡ option_map (Body.Route prefix.now) (lookup (is_at (prefix_cmp prefix.now)) routes.old)) }
+    ensures returned { IfErr result (λ failed. failed ≡ Body.Route prefix.now to) }
     ensures err { OnErr result (routes.new ≡ routes.old) }
 {
-    let old = routes.insert(*prefix, to)?;
-    Ok(route_if(prefix, old))
+    match routes.insert(*prefix, to) {
+        Ok(old) => Ok(route_if(prefix, old)),
+        Err(_) => Err(Body::Route {
+            prefix: *prefix,
+            to,
+        }),
+    }
 }
 
 /// The body of an own address, where it stands.

@@ -1,33 +1,37 @@
 // How often each mark stands.
-ghost use Rattle.std.specs.Prelude.{◌≡◌, ◌+◌, ◌-◌, nat_lt, IfOk, OnOk, OnErr, option_copied, if◌then◌else◌};
+ghost use Rattle.std.specs.Prelude.{◌≡◌, [], ◌∷◌, ◌+◌, ◌-◌, nat_lt, IfOk, OnOk, OnErr, option_copied, if◌then◌else◌};
 ghost use Rattle.std.specs.List.{list_any};
 ghost use Rattle.sai_types.specs.declared.ids.Rid.{Rid};
 ghost use Rattle.sai_types.specs.Refusal.{same_id};
-ghost use Rattle.sai_chip.specs.Marks.{key_marks, lane_marks, marks_if, target_marks};
-ghost use Rattle.sai_chip.specs.Tally.{count_at, count_in, empty_tally, is_mark, claims, pair_cmp};
+ghost use Rattle.sai_chip.specs.Marks.{key_marks, lane_marks, marks_if, marks_of, target_marks};
+ghost use Rattle.sai_chip.specs.Tally.{count_at, empty_tally, is_mark, claims};
 ghost use Rattle.sai_chip.specs.declared.mark.TakenMark.{TakenMark};
 
 use crate::mark::TakenMark;
 use crate::marks::{base, kind_of};
+use crate::membership::{GroupMembers, count_member, lower_member, members_of, raise_member};
 use crate::tally::{count, lower, raise};
+use late_maps::LateMap;
 use sai_types::{Body, Kind, Rid, RifOn, To};
 use std::alloc::Global;
 use std::collections::BTreeMap;
 use std::marker::Model;
 use swss_types::{Ip, OutOfMemory};
 
-/// A count for each mark, by what it marks; 0 for those that are not there.
+/// A count for each mark, by what it marks; 0 for those that are not there. Identifiers mostly come in their order, and
+/// most objects are routes, the greatest kind, so all but the members of groups, which are looked for from the first of
+/// a group on, are searched from their greatest keys.
 #[derive(Drop)]
 pub struct Counts {
-    kinds: BTreeMap<Kind, u64>,
-    references: BTreeMap<Rid, u64>,
-    lanes: BTreeMap<u16, u64>,
-    vlans: BTreeMap<u16, u64>,
-    bridge_ports: BTreeMap<Rid, u64>,
-    vlan_members: BTreeMap<(Rid, Rid), u64>,
-    rifs: BTreeMap<RifOn<Rid>, u64>,
-    next_hops: BTreeMap<(Rid, Ip), u64>,
-    group_members: BTreeMap<(Rid, Rid), u64>,
+    kinds: LateMap<Kind, u64>,
+    references: LateMap<Rid, u64>,
+    lanes: LateMap<u16, u64>,
+    vlans: LateMap<u16, u64>,
+    bridge_ports: LateMap<Rid, u64>,
+    vlan_members: LateMap<(Rid, Rid), u64>,
+    rifs: LateMap<RifOn<Rid>, u64>,
+    next_hops: LateMap<(Rid, Ip), u64>,
+    group_members: GroupMembers,
 }
 
 impl Model for Counts {
@@ -36,14 +40,14 @@ impl Model for Counts {
     ghost Value = { Tally };
 
     ghost view = { λ c. record {
-      kinds = c.kinds.entries;
-      references = c.references.entries;
-      lanes = c.lanes.entries;
-      vlans = c.vlans.entries;
-      bridge_ports = c.bridge_ports.entries;
-      vlan_members = c.vlan_members.entries;
-      rifs = c.rifs.entries;
-      next_hops = c.next_hops.entries;
+      kinds = c.kinds;
+      references = c.references;
+      lanes = c.lanes;
+      vlans = c.vlans;
+      bridge_ports = c.bridge_ports;
+      vlan_members = c.vlan_members;
+      rifs = c.rifs;
+      next_hops = c.next_hops;
       group_members = c.group_members.entries;
     } };
 }
@@ -54,14 +58,14 @@ impl Counts {
         ensures { result ≡ empty_tally }
     {
         Counts {
-            kinds: BTreeMap::new(alloc),
-            references: BTreeMap::new(alloc),
-            lanes: BTreeMap::new(alloc),
-            vlans: BTreeMap::new(alloc),
-            bridge_ports: BTreeMap::new(alloc),
-            vlan_members: BTreeMap::new(alloc),
-            rifs: BTreeMap::new(alloc),
-            next_hops: BTreeMap::new(alloc),
+            kinds: LateMap::new(alloc),
+            references: LateMap::new(alloc),
+            lanes: LateMap::new(alloc),
+            vlans: LateMap::new(alloc),
+            bridge_ports: LateMap::new(alloc),
+            vlan_members: LateMap::new(alloc),
+            rifs: LateMap::new(alloc),
+            next_hops: LateMap::new(alloc),
             group_members: BTreeMap::new(alloc),
         }
     }
@@ -80,7 +84,7 @@ impl Counts {
             TakenMark::Rif(on) => count(&self.rifs, on),
             TakenMark::NextHop(rif, ip) => count(&self.next_hops, &(*rif, *ip)),
             TakenMark::GroupMember(group, next_hop) => {
-                count(&self.group_members, &(*group, *next_hop))
+                count_member(&self.group_members, *group, *next_hop)
             }
         }
     }
@@ -100,7 +104,7 @@ impl Counts {
             TakenMark::Rif(on) => raise(&mut self.rifs, on),
             TakenMark::NextHop(rif, ip) => raise(&mut self.next_hops, (rif, ip)),
             TakenMark::GroupMember(group, next_hop) => {
-                raise(&mut self.group_members, (group, next_hop))
+                raise_member(&mut self.group_members, group, next_hop)
             }
         }
     }
@@ -119,7 +123,7 @@ impl Counts {
             TakenMark::Rif(on) => lower(&mut self.rifs, on),
             TakenMark::NextHop(rif, ip) => lower(&mut self.next_hops, (rif, ip)),
             TakenMark::GroupMember(group, next_hop) => {
-                lower(&mut self.group_members, (group, next_hop));
+                lower_member(&mut self.group_members, group, next_hop);
             }
         }
     }
@@ -145,18 +149,90 @@ impl Counts {
         }
     }
 
-    /// Counts each of the marks once more. Want of memory comes too where a count has no next number; the counts are
-    /// then what they were.
-    pub fn add(&mut self, marks: &[TakenMark]) -> Result<(), OutOfMemory>
-        ensures ok { OnOk result ((m : TakenMark) → count_at self.new m ≡ count_at self.old m + claims m marks.now) }
+    /// Counts all that a body takes up once more. Want of memory comes too where a count has no next number; the counts
+    /// are then what they were.
+    pub fn take(&mut self, body: &Body<Rid>) -> Result<(), OutOfMemory>
+        ensures ok { OnOk result ((m : TakenMark) → count_at self.new m ≡ count_at self.old m + claims m (marks_of body.now)) }
         ensures err { OnErr result ((m : TakenMark) → count_at self.new m ≡ count_at self.old m) }
     {
-        match marks {
+        let kind = kind_of(body);
+        self.raise(TakenMark::Of(kind))?;
+        if let Err(error) = self.take_keys(body) {
+            self.lower(TakenMark::Of(kind));
+            return Err(error);
+        }
+        Ok(())
+    }
+
+    /// Counts the natural key, the lanes and the references of a body once more.
+    fn take_keys(&mut self, body: &Body<Rid>) -> Result<(), OutOfMemory>
+        ensures ok { OnOk result ((m : TakenMark) → count_at self.new m ≡ count_at self.old m + claims m (key_marks body.now)) }
+        ensures err { OnErr result ((m : TakenMark) → count_at self.new m ≡ count_at self.old m) }
+    {
+        match body {
+            Body::Port { lanes, .. } => self.take_lanes(lanes.items()),
+            Body::Vlan { vlan } => self.raise(TakenMark::Vlan(*vlan)),
+            Body::OwnAddress { .. } | Body::Group => Ok(()),
+            Body::BridgePort { port } => self.raise_on(&TakenMark::BridgePort(*port), *port),
+            Body::VlanMember {
+                vlan,
+                bridge_port,
+                ..
+            } => self.raise_between(
+                &TakenMark::VlanMember(*vlan, *bridge_port),
+                *vlan,
+                *bridge_port,
+            ),
+            Body::Rif { on } => self.raise_on(&TakenMark::Rif(*on), base(*on)),
+            Body::Neighbor { rif, .. } => self.raise(TakenMark::RefersTo(*rif)),
+            Body::NextHop { rif, ip } => self.raise_on(&TakenMark::NextHop(*rif, *ip), *rif),
+            Body::GroupMember { group, next_hop } => self.raise_between(
+                &TakenMark::GroupMember(*group, *next_hop),
+                *group,
+                *next_hop,
+            ),
+            Body::Route { to, .. } => self.refer(*to),
+        }
+    }
+
+    /// Counts a natural key and a reference once more.
+    fn raise_on(&mut self, key: &TakenMark, id: Rid) -> Result<(), OutOfMemory>
+        ensures ok { OnOk result ((m : TakenMark) → count_at self.new m ≡ count_at self.old m + claims m (key.now ∷ TakenMark.RefersTo id ∷ [])) }
+        ensures err { OnErr result ((m : TakenMark) → count_at self.new m ≡ count_at self.old m) }
+    {
+        self.raise(*key)?;
+        if let Err(error) = self.raise(TakenMark::RefersTo(id)) {
+            self.lower(*key);
+            return Err(error);
+        }
+        Ok(())
+    }
+
+    /// Counts a natural key and two references once more.
+    fn raise_between(&mut self, key: &TakenMark, id: Rid, other: Rid) -> Result<(), OutOfMemory>
+        ensures ok { OnOk result ((m : TakenMark) → count_at self.new m ≡ count_at self.old m + claims m (key.now ∷ TakenMark.RefersTo id ∷ TakenMark.RefersTo other ∷ [])) }
+        ensures err { OnErr result ((m : TakenMark) → count_at self.new m ≡ count_at self.old m) }
+    {
+        self.raise_on(key, id)?;
+        if let Err(error) = self.raise(TakenMark::RefersTo(other)) {
+            self.lower(*key);
+            self.lower(TakenMark::RefersTo(id));
+            return Err(error);
+        }
+        Ok(())
+    }
+
+    /// Counts each of the lanes once more.
+    fn take_lanes(&mut self, lanes: &[u16]) -> Result<(), OutOfMemory>
+        ensures ok { OnOk result ((m : TakenMark) → count_at self.new m ≡ count_at self.old m + claims m (lane_marks lanes.now)) }
+        ensures err { OnErr result ((m : TakenMark) → count_at self.new m ≡ count_at self.old m) }
+    {
+        match lanes {
             [] => Ok(()),
-            [first, others @ ..] => {
-                self.raise(*first)?;
-                if let Err(error) = self.add(others) {
-                    self.lower(*first);
+            [lane, others @ ..] => {
+                self.raise(TakenMark::Lane(*lane))?;
+                if let Err(error) = self.take_lanes(others) {
+                    self.lower(TakenMark::Lane(*lane));
                     return Err(error);
                 }
                 Ok(())
@@ -236,25 +312,4 @@ impl Counts {
     {
         members_of(alloc, &self.group_members, group)
     }
-}
-
-/// The next hops whose counts as members of the group are not 0. Members of a group stand together, since they are in
-/// order.
-fn members_of(
-    alloc: Global,
-    counts: &BTreeMap<(Rid, Rid), u64>,
-    group: Rid,
-) -> Result<Vec<Rid>, OutOfMemory>
-    ensures { IfOk result (λ members. (n : Rid) → list_any (same_id n) members.items ≡ nat_lt 0 (count_in pair_cmp counts.now.entries (group, n))) }
-{
-    let mut members = Vec::new(alloc);
-    for ((of, next_hop), count) in counts.range((group, Rid(0))..) {
-        if *of != group {
-            break;
-        }
-        if 0 < *count {
-            members.push(*next_hop)?;
-        }
-    }
-    Ok(members)
 }

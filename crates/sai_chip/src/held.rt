@@ -15,7 +15,6 @@ ghost use Rattle.sai_chip.specs.Replay.{thing_at};
 use crate::bodies::Bodies;
 use crate::counts::Counts;
 use crate::mark::TakenMark;
-use crate::marks::marks_of;
 use crate::names::{GroupHops, thing_at};
 use crate::things::hops_of;
 use sai_types::{Attr, Body, Entry, Hops, Kind, ListAnswer, Object, Rid, Thing, To};
@@ -93,16 +92,15 @@ impl Held {
         ensures err { OnErr result (self.new ≡ self.old) }
     {
         self.bodies.entries_rise();
-        let more = marks_of(self.alloc, &body)?;
-        self.counts.add(&more)?;
+        self.counts.take(&body)?;
         match self.bodies.put(id, body) {
             Ok(old) => {
                 self.counts.free(old.as_ref());
                 Ok(())
             }
-            Err(error) => {
-                self.counts.take_away(&more);
-                Err(error)
+            Err(body) => {
+                self.counts.free(Some(&body));
+                Err(OutOfMemory)
             }
         }
     }

@@ -1,11 +1,13 @@
 // What identifiers stand for.
 ghost use Rattle.std.specs.Prelude.{◌≡◌, [], IfOk, option_copied, option_map};
+ghost use Rattle.std.specs.Option.{is_some};
 ghost use Rattle.sai_types.specs.Named.{base_on, both, bridge_port_at, goal_by, hop_on, next_hop_at, port_at, rif_at, thing_by, vlan_at};
 ghost use Rattle.sai_types.specs.Objects.{body_at};
 ghost use Rattle.sai_chip.specs.Bodies.{numbered};
 ghost use Rattle.sai_chip.specs.Naming.{hops_in};
 
 use crate::bodies::Numbered;
+use crate::known::Known;
 use sai_types::{Base, Body, Entry, Goal, Hop, Hops, PortThing, Rid, RifOn, Thing, To};
 use std::alloc::Global;
 use std::collections::BTreeMap;
@@ -117,6 +119,28 @@ fn goal_at(
     })
 }
 
+/// Whether what a route points to is there.
+pub fn leads(known: &Known, groups: &GroupHops, to: &To<Rid>) -> bool
+    ensures { result ≡ is_some (goal_by (hops_in groups.now.entries) known.now to.now) }
+{
+    match to {
+        To::Drop => true,
+        To::Rif(rif) => rif_at(known.bodies(), *rif).is_some(),
+        To::NextHop(next_hop) => known.hop(*next_hop).is_some(),
+        To::Group(group) => has_hops(groups, *group),
+    }
+}
+
+/// Whether the next hop of each member of a group is there.
+fn has_hops(groups: &GroupHops, group: Rid) -> bool
+    ensures { result ≡ is_some (hops_in groups.now.entries group) }
+{
+    match groups.get(&group) {
+        Some(hops) => hops.is_some(),
+        None => true,
+    }
+}
+
 /// What an object stands for: None where a reference is absent.
 pub fn thing_at(
     alloc: Global,
@@ -152,7 +176,7 @@ pub fn thing_at(
         Body::NextHop { rif, ip } => Ok(hop_on(bodies, *rif, *ip).map(Thing::NextHop)),
         Body::Group => group_at(alloc, groups, entry),
         Body::GroupMember { group, next_hop } => {
-            group_member_at(alloc, bodies, groups, *group, *next_hop)
+            group_member_at(alloc, groups, *group, next_hop_at(bodies, *next_hop))
         }
         Body::Route { prefix, to } => route_at(alloc, bodies, groups, *prefix, to),
     }
@@ -205,17 +229,16 @@ fn group_at(
     }
 }
 
-/// A member of a group as a thing.
-fn group_member_at(
+/// A member of a group as a thing, with the hop of its next hop, where that is there.
+pub fn group_member_at(
     alloc: Global,
-    bodies: &Numbered,
     groups: &GroupHops,
     group: Rid,
-    next_hop: Rid,
+    hop: Option<Hop>,
 ) -> Result<Option<Thing>, OutOfMemory>
-    ensures { IfOk result (λ thing. thing ≡ both Thing.GroupMember (hops_in groups.now.entries group) (next_hop_at (numbered bodies.now) next_hop)) }
+    ensures { IfOk result (λ thing. thing ≡ both Thing.GroupMember (hops_in groups.now.entries group) hop) }
 {
-    let Some(hop) = next_hop_at(bodies, next_hop) else {
+    let Some(hop) = hop else {
         return Ok(None);
     };
     match hops_at(alloc, groups, group)? {

@@ -3,20 +3,20 @@ ghost use Rattle.std.specs.Prelude.{◌≡◌, ◌+◌, ◌-◌, OnOk, OnErr, if
 ghost use Rattle.std.specs.BTreeMap.{is_at};
 ghost use Rattle.sai_chip.specs.Tally.{count_in};
 
-use std::collections::BTreeMap;
+use late_maps::LateMap;
 use swss_types::OutOfMemory;
 
 /// How often the key is counted.
-pub fn count<K: Ord>(counts: &BTreeMap<K, u64>, key: &K) -> u64
-    ensures { result ≡ count_in K.cmp counts.now.entries key.now }
+pub fn count<K: Ord + Copy>(counts: &LateMap<K, u64>, key: &K) -> u64
+    ensures { result ≡ count_in K.cmp counts.now key.now }
 {
     counts.get(key).copied().unwrap_or(0)
 }
 
 /// Counts a key once more. Want of memory comes too where the count has no next number.
-pub fn raise<K: Ord + Copy + Drop>(counts: &mut BTreeMap<K, u64>, key: K) -> Result<(), OutOfMemory>
-    ensures ok { OnOk result ((k : K) → count_in K.cmp counts.new.entries k ≡ count_in K.cmp counts.old.entries k + (if is_at (K.cmp key) k then 1 else 0)) }
-    ensures err { OnErr result (counts.new.entries ≡ counts.old.entries) }
+pub fn raise<K: Ord + Copy + Drop>(counts: &mut LateMap<K, u64>, key: K) -> Result<(), OutOfMemory>
+    ensures ok { OnOk result ((k : K) → count_in K.cmp counts.new k ≡ count_in K.cmp counts.old k + (if is_at (K.cmp key) k then 1 else 0)) }
+    ensures err { OnErr result (counts.new ≡ counts.old) }
 {
     let Some(count) = counts.get_mut(&key) else {
         counts.insert(key, 1)?;
@@ -30,8 +30,8 @@ pub fn raise<K: Ord + Copy + Drop>(counts: &mut BTreeMap<K, u64>, key: K) -> Res
 }
 
 /// Counts a key once less, where it is counted.
-pub fn lower<K: Ord + Copy + Drop>(counts: &mut BTreeMap<K, u64>, key: K)
-    ensures { (k : K) → count_in K.cmp counts.new.entries k ≡ count_in K.cmp counts.old.entries k - (if is_at (K.cmp key) k then 1 else 0) }
+pub fn lower<K: Ord + Copy + Drop>(counts: &mut LateMap<K, u64>, key: K)
+    ensures { (k : K) → count_in K.cmp counts.new k ≡ count_in K.cmp counts.old k - (if is_at (K.cmp key) k then 1 else 0) }
 {
     if let Some(count) = counts.get_mut(&key)
         && 2 <= *count

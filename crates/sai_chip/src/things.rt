@@ -12,6 +12,7 @@ ghost use Rattle.sai_chip.specs.Members.{hops_by};
 ghost use Rattle.sai_chip.specs.Naming.{AreBodies, AreHops, entries_of, hops_in, thing_cmp, with_hop};
 
 use crate::bodies::Numbered;
+use crate::known::Known;
 use crate::names::{GroupHops, next_hop_at, thing_at};
 use late_maps::LateMap;
 use sai_types::{Body, Entry, Hop, Hops, Object, Rid, Thing};
@@ -33,13 +34,13 @@ pub fn named(alloc: Global, objects: &[Object<Rid>]) -> Result<Vec<Thing>, OutOf
 pub fn things_of(alloc: Global, objects: &[Object<Rid>]) -> Result<Vec<Thing>, OutOfMemory>
     ensures { IfOk result (λ things. things.items ≡ those (named (entries_of objects.now))) }
 {
-    let bodies = bodies_of(alloc, objects)?;
-    let groups = group_hops(alloc, &bodies, objects)?;
-    list_things(alloc, &bodies, &groups, objects)
+    let known = Known::of(alloc, objects)?;
+    let groups = group_hops(alloc, &known, objects)?;
+    list_things(alloc, known.bodies(), &groups, objects)
 }
 
 /// The bodies by their identifiers; of several with one identifier, the first.
-fn bodies_of(alloc: Global, objects: &[Object<Rid>]) -> Result<Numbered, OutOfMemory>
+pub fn bodies_of(alloc: Global, objects: &[Object<Rid>]) -> Result<Numbered, OutOfMemory>
     ensures { IfOk result (λ bodies. AreBodies (entries_of objects.now) (numbered bodies)) }
 {
     let mut bodies = LateMap::new(alloc);
@@ -65,18 +66,18 @@ fn add_body(bodies: &mut Numbered, object: &Object<Rid>) -> Result<(), OutOfMemo
 }
 
 /// The hops of each group that has members.
-fn group_hops(
+pub fn group_hops(
     alloc: Global,
-    bodies: &Numbered,
+    known: &Known,
     objects: &[Object<Rid>],
 ) -> Result<GroupHops, OutOfMemory>
-    ensures { IfOk result (λ groups. AreHops (numbered bodies.now) (entries_of objects.now) groups.entries) }
+    ensures { IfOk result (λ groups. AreHops known.now (entries_of objects.now) groups.entries) }
 {
     let mut groups = BTreeMap::new(alloc);
     let mut left = objects.len();
     while 0 < left {
         left -= 1;
-        put_member(alloc, bodies, &mut groups, &objects[left].body)?;
+        put_member(alloc, known, &mut groups, &objects[left].body)?;
     }
     Ok(groups)
 }
@@ -84,15 +85,15 @@ fn group_hops(
 /// Puts the hop of a body to the hops of its group, where it is a member of one.
 fn put_member(
     alloc: Global,
-    bodies: &Numbered,
+    known: &Known,
     groups: &mut GroupHops,
     body: &Body<Rid>,
 ) -> Result<(), OutOfMemory>
-    ensures { OnOk result ((g : Rid) → hops_in groups.new.entries g ≡ with_member (numbered bodies.now) g body.now (hops_in groups.old.entries g)) }
+    ensures { OnOk result ((g : Rid) → hops_in groups.new.entries g ≡ with_member known.now g body.now (hops_in groups.old.entries g)) }
 {
     match body {
         Body::GroupMember { group, next_hop } => {
-            put_hop(alloc, groups, *group, next_hop_at(bodies, *next_hop))
+            put_hop(alloc, groups, *group, known.hop(*next_hop))
         }
         _ => Ok(()),
     }
@@ -158,31 +159,6 @@ fn list_things(
         if let Some(thing) = thing_at(alloc, bodies, groups, &object.entry, &object.body)? {
             things.push(thing)?;
         }
-    }
-    Ok(things)
-}
-
-/// What each object stands for, in their order: None where a reference is absent.
-pub fn each_thing(alloc: Global, objects: &[Object<Rid>]) -> Result<Vec<Option<Thing>>, OutOfMemory>
-    ensures { IfOk result (λ things. things.items ≡ named (entries_of objects.now)) }
-{
-    let bodies = bodies_of(alloc, objects)?;
-    let groups = group_hops(alloc, &bodies, objects)?;
-    list_each(alloc, &bodies, &groups, objects)
-}
-
-/// The thing of each of these objects, in their order.
-fn list_each(
-    alloc: Global,
-    bodies: &Numbered,
-    groups: &GroupHops,
-    objects: &[Object<Rid>],
-) -> Result<Vec<Option<Thing>>, OutOfMemory>
-    ensures { IfOk result (λ things. things.items ≡ map (thing_by (hops_in groups.now.entries) (numbered bodies.now)) (entries_of objects.now)) }
-{
-    let mut things = Vec::new(alloc);
-    for object in objects {
-        things.push(thing_at(alloc, bodies, groups, &object.entry, &object.body)?)?;
     }
     Ok(things)
 }

@@ -5,4 +5,5 @@ pub mod Free
 mod Orders
 pub mod Paired
 mod Rising
+mod Routeless
 pub mod Shuffled

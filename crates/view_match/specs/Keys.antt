@@ -1,9 +1,12 @@
 -- Natural keys: things without what can be set on them. Own; they are those of the OCP SAI headers' key attributes, and a group's the hops of its members.
 use Rattle.std.specs.Prelude.{List, Option, map, option_map}
 use Rattle.std.specs.declared.cmp.Ordering.{Ordering}
+use Rattle.sai_types.specs.declared.ids.Rid.{Rid}
+use Rattle.sai_types.specs.declared.body.Body.{Body}
+use Rattle.sai_types.specs.declared.body.Entry.{Entry}
 use Rattle.sai_types.specs.declared.thing.Thing.{Thing}
 use Rattle.sai_types.specs.declared.thing.Thing.TheVariants as thing
-use Rattle.sai_types.specs.Named.{named}
+use Rattle.sai_types.specs.Named.{named, thing_of}
 use Rattle.sai_types.specs.Objects.{Objects}
 use Rattle.view_match.specs.declared.key.NaturalKey.{NaturalKey}
 use Rattle.view_match.specs.declared.key.NaturalKey.TheVariants as key
@@ -25,6 +28,10 @@ natural_key_of (thing.NextHop hop) = key.NextHop hop
 natural_key_of (thing.Group hops) = key.Group hops
 natural_key_of (thing.GroupMember hops hop) = key.GroupMember hops hop
 natural_key_of (thing.Route prefix goal) = key.Route prefix
+
+-- the natural key of an object, where its references are among these objects
+abbrev pub key_among : Objects → (Entry Rid × Body Rid) → Option NaturalKey
+key_among objects o = option_map natural_key_of (thing_of objects o)
 
 -- the natural key of each object, in their order, and none for an object with an absent reference
 abbrev pub keys_of_objects : Objects → List (Option NaturalKey)

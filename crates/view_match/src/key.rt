@@ -1,11 +1,14 @@
 // The natural keys of objects.
-ghost use Rattle.std.specs.Prelude.{◌≡◌, IfOk, map, option_map};
-ghost use Rattle.sai_types.specs.Named.{named};
-ghost use Rattle.sai_chip.specs.Naming.{entries_of};
-ghost use Rattle.view_match.specs.Keys.{natural_key_of, keys_of_objects};
+ghost use Rattle.std.specs.Prelude.{◌≡◌, None, Some, IfOk, option_map, if◌then◌else◌};
+ghost use Rattle.sai_types.specs.Objects.{Objects};
+ghost use Rattle.sai_chip.specs.Naming.{AreNamesOf, entries_of};
+ghost use Rattle.view_match.specs.Keys.{key_among, natural_key_of, keys_of_objects};
+ghost use Rattle.view_match.specs.Listed.{object_as};
+ghost use Rattle.view_match.specs.Pairs.{new_keys};
 
-use sai_chip::each_thing;
-use sai_types::{Base, Hop, Hops, Object, Rid, Thing};
+use crate::listed::{object_of, others_listed, to_of};
+use sai_chip::Names;
+use sai_types::{Base, Body, Hop, Hops, Object, Rid, Thing, Vid};
 use std::alloc::Global;
 use swss_types::{Ip, Lanes, OutOfMemory, Prefix};
 
@@ -66,11 +69,63 @@ pub fn natural_keys(
 ) -> Result<Vec<Option<NaturalKey>>, OutOfMemory>
     ensures { IfOk result (λ keys. keys.items ≡ keys_of_objects (entries_of objects.now)) }
 {
+    let names = Names::of(alloc, objects)?;
     let mut keys = Vec::with_capacity(alloc, objects.len())?;
-    for thing in each_thing(alloc, objects)? {
-        keys.push(key_if(thing))?;
+    for object in objects {
+        keys.push(key_of(&names, object)?)?;
     }
     Ok(keys)
+}
+
+/// The natural key of each object of a view, in their order: None where a reference is absent. The objects are named as
+/// those of a chip.
+pub(crate) fn new_natural_keys(
+    alloc: Global,
+    objects: &[Object<Vid>],
+) -> Result<Vec<Option<NaturalKey>>, OutOfMemory>
+    ensures { IfOk result (λ keys. keys.items ≡ new_keys objects.now) }
+{
+    let listed = others_listed(alloc, objects)?;
+    let names = Names::of(alloc, listed.as_slice())?;
+    let mut keys = Vec::with_capacity(alloc, objects.len())?;
+    for object in objects {
+        keys.push(new_key_of(&names, object)?)?;
+    }
+    Ok(keys)
+}
+
+/// The natural key of an object of a view. That of a route needs no copy of it.
+fn new_key_of(names: &Names, object: &Object<Vid>) -> Result<Option<NaturalKey>, OutOfMemory>
+    ensures { IfOk result (λ key. (objects : Objects) → AreNamesOf objects names.now → key ≡ key_among objects ((object_as object.now).entry, (object_as object.now).body)) }
+{
+    if let Body::Route { prefix, to } = &object.body {
+        return Ok(route_key(*prefix, names.leads(&to_of(*to))));
+    }
+    let listed = object_of(object)?;
+    let key = key_of(names, &listed)?;
+    Ok(key)
+}
+
+/// The natural key of an object: None where a reference is absent. That of a route needs no goal, only that there is one.
+fn key_of(names: &Names, object: &Object<Rid>) -> Result<Option<NaturalKey>, OutOfMemory>
+    ensures { IfOk result (λ key. (objects : Objects) → AreNamesOf objects names.now → key ≡ key_among objects (object.now.entry, object.now.body)) }
+{
+    if let Body::Route { prefix, to } = &object.body {
+        return Ok(route_key(*prefix, names.leads(to)));
+    }
+    let thing = names.thing(object)?;
+    Ok(key_if(thing))
+}
+
+/// The natural key of a route, where it leads somewhere.
+fn route_key(prefix: Prefix, leads: bool) -> Option<NaturalKey>
+    ensures { result ≡ (if leads then Some (NaturalKey.Route prefix) else None) }
+{
+    if leads {
+        Some(NaturalKey::Route(prefix))
+    } else {
+        None
+    }
 }
 
 /// The natural key of a thing, where there is one.

@@ -2,8 +2,7 @@
 ghost use Rattle.std.specs.Prelude.{IfOk};
 ghost use Rattle.view_match.specs.Keyed.{AreNaturalKeysOf};
 
-use crate::key::{NaturalKey, natural_keys};
-use crate::listed::as_listed;
+use crate::key::{NaturalKey, natural_keys, new_natural_keys};
 use sai_types::{Object, Rid, Vid};
 use std::alloc::Global;
 use swss_types::OutOfMemory;
@@ -26,7 +25,6 @@ pub fn natural_keys_of(
     ensures { IfOk result (λ keys. AreNaturalKeysOf old.now new.now keys) }
 {
     let of_old = natural_keys(alloc, old)?;
-    let listed = as_listed(alloc, new)?;
-    let of_new = natural_keys(alloc, listed.as_slice())?;
+    let of_new = new_natural_keys(alloc, new)?;
     Ok(NaturalKeys { of_old, of_new })
 }

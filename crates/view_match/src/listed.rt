@@ -1,7 +1,7 @@
 // The objects of a new view, seen as those of a chip.
 ghost use Rattle.std.specs.Prelude.{◌≡◌, IfOk};
 ghost use Rattle.chip_layout.specs.Renamed.{body_renamed, entry_renamed, on_renamed, to_renamed};
-ghost use Rattle.view_match.specs.Listed.{object_as, objects_as, rid_of};
+ghost use Rattle.view_match.specs.Listed.{is_route, object_as, objects_as, rid_of, without_routes};
 
 use sai_types::{Body, Entry, Object, Rid, RifOn, To, Vid};
 use std::alloc::Global;
@@ -19,7 +19,33 @@ pub fn as_listed(alloc: Global, objects: &[Object<Vid>]) -> Result<Vec<Object<Ri
     Ok(listed)
 }
 
-fn object_of(object: &Object<Vid>) -> Result<Object<Rid>, OutOfMemory>
+/// The same, without the routes: no object refers to one.
+pub(crate) fn others_listed(
+    alloc: Global,
+    objects: &[Object<Vid>],
+) -> Result<Vec<Object<Rid>>, OutOfMemory>
+    ensures { IfOk result (λ listed. listed.items ≡ objects_as (without_routes objects.now)) }
+{
+    let mut listed = Vec::with_capacity(alloc, objects.len())?;
+    for object in objects {
+        if !is_route(object) {
+            listed.push(object_of(object)?)?;
+        }
+    }
+    Ok(listed)
+}
+
+fn is_route(object: &Object<Vid>) -> bool
+    ensures { result ≡ is_route object.now }
+{
+    match (&object.body, &object.entry) {
+        (Body::Route { .. }, Entry::Route(_)) => true,
+        _ => false,
+    }
+}
+
+/// An object of a view as one of a chip.
+pub(crate) fn object_of(object: &Object<Vid>) -> Result<Object<Rid>, OutOfMemory>
     ensures { IfOk result (λ listed. listed ≡ object_as object.now) }
 {
     Ok(Object {
@@ -54,7 +80,8 @@ fn on_of(on: RifOn<Vid>) -> RifOn<Rid>
     }
 }
 
-fn to_of(to: To<Vid>) -> To<Rid>
+/// A target in a view as one on a chip.
+pub(crate) fn to_of(to: To<Vid>) -> To<Rid>
     ensures { result ≡ to_renamed rid_of to }
 {
     match to {

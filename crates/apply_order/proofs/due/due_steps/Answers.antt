@@ -13,7 +13,7 @@ push_old-requires-clause-keyed c = length-old c.args.keys.of_old.items c.args.ol
 
 pub returns : goal.returns
 returns c =
-    let due = needed-due c.args.names.now.entries c.args.old.now c.args.new.now c.args.mode c.args.pairs.now in
+    let due = needed-due c.args.names.now c.args.old.now c.args.new.now c.args.mode c.args.pairs.now in
     let made = c.in_ok-push_new.ensures (by_new c.paired_in-pairs.result.now) c.in_ok-new_places.ensures.each in
     let gone = c.in_ok-push_old.ensures (by_old c.paired_in-pairs.result.now) c.in_ok-old_places.ensures.each in
     grind (rules, due, made, gone)

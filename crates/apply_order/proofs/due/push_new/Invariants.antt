@@ -8,5 +8,5 @@ use Rattle.apply_order.proofs.due.push_new.Given as goal
 abbrev pub invariant-loop-key : goal.invariant-loop-key
 invariant-loop-key l = record {
   within : l.place + length (into_iter_items l.key-iterator) ≡ length l.new;
-  made : (known : Places) → IsTable known l.paired.items → l.steps.items ++ needed l.names.entries l.old l.new (new_steps l.mode known (into_iter_items l.key-iterator) (drop l.place l.new) l.place) ≡ l.initial.steps.items ++ needed l.names.entries l.old l.new (new_steps l.mode known l.fn.keys.items l.new 0);
+  made : (known : Places) → IsTable known l.paired.items → l.steps.items ++ needed l.names l.old l.new (new_steps l.mode known (into_iter_items l.key-iterator) (drop l.place l.new) l.place) ≡ l.initial.steps.items ++ needed l.names l.old l.new (new_steps l.mode known l.fn.keys.items l.new 0);
 }

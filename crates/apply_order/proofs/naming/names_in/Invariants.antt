@@ -4,4 +4,4 @@ use Rattle.apply_order.proofs.naming.names_in.Given as goal
 
 -- the names so far, with the pairs that are left, are those of all
 abbrev pub invariant-loop-pair : goal.invariant-loop-pair
-invariant-loop-pair l = names_from l.names.entries l.old l.new (drop l.pair-index l.pairs) ≡ names_from [] l.old l.new l.pairs
+invariant-loop-pair l = names_from l.names l.old l.new (drop l.pair-index l.pairs) ≡ names_from [] l.old l.new l.pairs

@@ -10,8 +10,8 @@ returns c =
     let O = c.args.old.now in
     let N = c.args.new.now in
     let pairs = c.items-pairs.result.now in
-    let f = filled-needed c.in_ok-names.names.entries O N (due_steps c.in_ok-mode.mode O N pairs) c.in_ok-steps.steps.items c.in_ok-steps.ensures.0 c.in_ok-steps.ensures.1 in
-    let of_steps = c.in_ok-calls.ensures ∙ ap (steps_calls c.in_ok-names.names.entries O N) c.as_slice.ensures.value in
+    let f = filled-needed c.in_ok-names.names O N (due_steps c.in_ok-mode.mode O N pairs) c.in_ok-steps.steps.items c.in_ok-steps.ensures.0 c.in_ok-steps.ensures.1 in
+    let of_steps = c.in_ok-calls.ensures ∙ ap (steps_calls c.in_ok-names.names O N) c.as_slice.ensures.value in
     let plan : IsPlanOf O N pairs c.args.caps.now.0 (record { mode = c.in_ok-mode.mode; calls = c.in_ok-calls.calls }) = record {
       mode = c.in_ok-mode.ensures;
       steps = f.filled;

@@ -1,5 +1,4 @@
 use Rattle.std.proofs.Common.{◌≤◌, drop, length}
-use Rattle.sai_chip.specs.Bodies.{numbered}
 use Rattle.sai_chip.specs.Naming.{AreHops, entries_of}
 use Rattle.sai_chip.proofs.things.group_hops.Given as goal
 
@@ -7,7 +6,7 @@ use Rattle.sai_chip.proofs.things.group_hops.Given as goal
 abbrev pub invariant-loop-left : goal.invariant-loop-left
 invariant-loop-left l = record {
   within : l.left ≤ length l.objects;
-  found : AreHops (numbered l.bodies) (entries_of (drop l.left l.objects)) l.groups.entries;
+  found : AreHops l.known (entries_of (drop l.left l.objects)) l.groups.entries;
 }
 
 abbrev pub decreases-loop-left : goal.decreases-loop-left

@@ -1,7 +1,6 @@
-use Rattle.sai_chip.specs.Bodies.{numbered}
 use Rattle.sai_chip.specs.Naming.{entries_of}
 use Rattle.sai_chip.proofs.SameNames.{things-named}
 use Rattle.sai_chip.proofs.things.things_of.Goals as goal
 
 pub returns : goal.returns
-returns c = rw (← things-named (entries_of c.args.objects.now) (numbered c.in_ok-bodies.bodies) c.in_ok-groups.groups.entries c.in_ok-bodies.ensures c.in_ok-groups.ensures) c.list_things.ensures
+returns c = rw (← things-named (entries_of c.args.objects.now) c.in_ok-known.known c.in_ok-groups.groups.entries c.in_ok-known.ensures c.in_ok-groups.ensures, ← c.bodies.ensures) c.list_things.ensures

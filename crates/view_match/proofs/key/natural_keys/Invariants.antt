@@ -1,9 +1,11 @@
-use Rattle.std.specs.Vec.Iter.{into_iter_items}
-use Rattle.std.proofs.Common.{◌≡◌, ◌++◌, map, option_map}
+use Rattle.std.proofs.Common.{◌≡◌, ◌++◌, drop, map, option_map}
+use Rattle.sai_types.specs.Named.{things_among}
 use Rattle.sai_chip.specs.Naming.{entries_of}
 use Rattle.view_match.specs.Keys.{natural_key_of, keys_of_objects}
 use Rattle.view_match.proofs.key.natural_keys.Given as goal
 
--- the keys so far, with those of the things that are left, are the keys of all
-abbrev pub invariant-loop-thing : goal.invariant-loop-thing
-invariant-loop-thing l = l.keys.items ++ map (option_map natural_key_of) (into_iter_items l.thing-iterator) ≡ keys_of_objects (entries_of l.objects)
+-- the keys so far, with those of the objects that are left, are the keys of all
+abbrev pub invariant-loop-object : goal.invariant-loop-object
+invariant-loop-object l =
+    l.keys.items ++ map (option_map natural_key_of) (things_among (entries_of l.objects) (entries_of (drop l.object-index l.objects)))
+    ≡ keys_of_objects (entries_of l.objects)

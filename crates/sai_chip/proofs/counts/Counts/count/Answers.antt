@@ -7,4 +7,4 @@ pub returns-in-NextHop : goal.returns-in-NextHop
 returns-in-NextHop c = rw (c.in-NextHop.is, ← c.self.view_is) c.count-in-NextHop.ensures
 
 pub returns-in-GroupMember : goal.returns-in-GroupMember
-returns-in-GroupMember c = rw (c.in-GroupMember.is, ← c.self.view_is) c.count-in-GroupMember.ensures
+returns-in-GroupMember c = rw (c.in-GroupMember.is, ← c.self.view_is) c.count_member.ensures

@@ -6,8 +6,8 @@ use Rattle.std.specs.List.{list_any}
 use Rattle.sai_types.specs.Refusal.{same_id}
 use Rattle.sai_chip.specs.Tally.{pair_cmp}
 use Rattle.sai_chip.proofs.MarkRanges.{first_pair, front, front-counted, front-done, with_front}
-use Rattle.sai_chip.proofs.counts.members_of.Goals as goal
-use Rattle.sai_chip.proofs.counts.members_of.Goals.{in-None, in-Some+then-ne}
+use Rattle.sai_chip.proofs.membership.members_of.Goals as goal
+use Rattle.sai_chip.proofs.membership.members_of.Goals.{in-None, in-Some+then-ne}
 
 pub returns : goal.returns
 returns c =

@@ -1,0 +1,81 @@
+-- what the objects of a view are named by: no route
+use Rattle.std.proofs.Common.{◌≡◌, ℕ, ◌+◌, ◌<◌, Bool, true, false, cond, ◌&&◌, List, [], ◌∷◌, ◌++◌, length, drop, get_or, map, Option, Some, option_map, refl, sym, ap, ◌∙◌}
+use Rattle.std.specs.BTreeMap.{is_at}
+use Rattle.std.proofs.lemmas.List.{append_assoc, drop_more}
+use Rattle.sai_types.specs.declared.ids.Rid.{Rid}
+use Rattle.sai_types.specs.declared.ids.Vid.{Vid}
+use Rattle.sai_types.specs.declared.hop.Hop.{Hop}
+use Rattle.sai_types.specs.declared.body.Body.{Body}
+use Rattle.sai_types.specs.declared.body.Body.TheVariants as body
+use Rattle.sai_types.specs.declared.body.Entry.{Entry}
+use Rattle.sai_types.specs.declared.body.Entry.TheVariants as entry
+use Rattle.sai_types.specs.declared.body.Object.{Object}
+use Rattle.sai_types.specs.Named.{hops_among, things_among, with_member}
+use Rattle.sai_types.specs.Objects.{Objects, body_at, entry_cmp}
+use Rattle.sai_chip.specs.Naming.{AreNamesOf, NameTable, entries_of}
+use Rattle.chip_layout.specs.Renamed.{body_renamed, entry_renamed}
+use Rattle.view_match.specs.declared.key.NaturalKey.{NaturalKey}
+use Rattle.view_match.specs.Keys.{key_among, natural_key_of}
+use Rattle.view_match.specs.Listed.{has_prefix, has_target, is_route, object_as, objects_as, rid_of, without_routes}
+
+and_left : (a b : Bool) → (a && b) ≡ true → a ≡ true
+and_left true b h = refl
+and_left false b h = absurd cc
+
+and_right : (a b : Bool) → (a && b) ≡ true → b ≡ true
+and_right true b h = h
+and_right false b h = absurd cc
+
+-- what has a prefix is not found by an identifier
+apart : (r : Rid) (e : Entry Vid) → has_prefix e ≡ true → is_at (entry_cmp (entry.Oid r)) (entry_renamed rid_of e) ≡ false
+apart r (entry.Route prefix) h = refl
+apart r e h = absurd cc
+
+-- what has a target is no member of a group
+no_member : (objects : Objects) (g : Rid) (b : Body Vid) (others : Option (List Hop)) → has_target b ≡ true → with_member objects g (body_renamed rid_of b) others ≡ others
+no_member objects g (body.Route prefix to) others h = refl
+no_member objects g b others h = absurd cc
+
+abbrev found : Rid → List (Object Vid) → Option (Body Rid)
+found r os = body_at (entries_of (objects_as os)) (entry.Oid r)
+
+found_by : (r : Rid) (o : Object Vid) (t : Bool) → is_route o ≡ t → (some all : List (Object Vid)) → found r some ≡ found r all → found r (cond t some (o ∷ some)) ≡ found r (o ∷ all)
+found_by r o true is some all same = same ∙ sym (ap (λ t. cond t (Some (body_renamed rid_of o.body)) (found r all)) (apart r o.entry (and_right (has_target o.body) (has_prefix o.entry) is)))
+found_by r o false is some all same = ap (cond (is_at (entry_cmp (entry.Oid r)) (entry_renamed rid_of o.entry)) (Some (body_renamed rid_of o.body))) same
+
+found-routeless : (r : Rid) (new : List (Object Vid)) → found r (without_routes new) ≡ found r new
+found-routeless r [] = refl
+found-routeless r (o ∷ os) = found_by r o (is_route o) refl (without_routes os) os (found-routeless r os)
+
+module _ (objects : Objects) (g : Rid) where
+  abbrev hops : List (Object Vid) → Option (List Hop)
+  hops os = hops_among objects g (entries_of (objects_as os))
+
+  hops_by : (o : Object Vid) (t : Bool) → is_route o ≡ t → (some all : List (Object Vid)) → hops some ≡ hops all → hops (cond t some (o ∷ some)) ≡ hops (o ∷ all)
+  hops_by o true is some all same = same ∙ sym (no_member objects g o.body (hops all) (and_left (has_target o.body) (has_prefix o.entry) is))
+  hops_by o false is some all same = ap (with_member objects g (body_renamed rid_of o.body)) same
+
+  hops-routeless : (new : List (Object Vid)) → hops (without_routes new) ≡ hops new
+  hops-routeless [] = refl
+  hops-routeless (o ∷ os) = hops_by o (is_route o) refl (without_routes os) os (hops-routeless os)
+
+-- the names of the others are those of all
+pub routeless-names : (new : List (Object Vid)) (names : NameTable) → AreNamesOf (entries_of (objects_as (without_routes new))) names → AreNamesOf (entries_of (objects_as new)) names
+routeless-names new names are = record {
+  bodies = record { each = λ r. are.bodies.each r ∙ found-routeless r new };
+  groups = record { each = λ g. are.groups.each g ∙ hops-routeless names.bodies g new };
+}
+
+-- the keys so far, and those of the objects that are left
+pub keys-step : (all : Objects) (keys more want : List (Option NaturalKey)) (key : Option NaturalKey) (new : List (Object Vid)) (i : ℕ) (o : Object Vid) → i < length new → o ≡ get_or new i o → key ≡ key_among all ((object_as o).entry, (object_as o).body) → more ≡ keys ++ key ∷ []
+    → keys ++ map (option_map natural_key_of) (things_among all (entries_of (objects_as (drop i new)))) ≡ want
+    → more ++ map (option_map natural_key_of) (things_among all (entries_of (objects_as (drop (i + 1) new)))) ≡ want
+keys-step all keys more want key new i o within is keyed put so_far =
+    ap (λ ks. ks ++ left (drop (i + 1) new)) put
+    ∙ append_assoc keys (key ∷ []) (left (drop (i + 1) new))
+    ∙ ap (λ k. keys ++ (k ∷ left (drop (i + 1) new))) keyed
+    ∙ sym (ap (λ os. keys ++ left os) (drop_more new i o within ∙ ap (λ x. x ∷ drop (i + 1) new) (sym is)))
+    ∙ so_far
+  where
+    left : List (Object Vid) → List (Option NaturalKey)
+    left os = map (option_map natural_key_of) (things_among all (entries_of (objects_as os)))
