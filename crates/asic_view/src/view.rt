@@ -1,5 +1,7 @@
 // A view.
-ghost use Rattle.std.specs.Prelude.{◌≡◌, [], map, IfOk, OnErr};
+ghost use Rattle.std.specs.Prelude.{◌≡◌, [], map, slice_index, IfOk, OnErr};
+ghost use Rattle.sai_types.specs.declared.kind.Kind.{Kind};
+ghost use Rattle.sai_types.specs.Objects.{level};
 ghost use Rattle.asic_view.specs.View.{IsLegalOn, IsNew, after_create, after_remove, view_after_set, object_of, rid_at, used_of, with_tie, without_object};
 
 use crate::body::{entry_of, kind_of, level};
@@ -110,7 +112,7 @@ impl View {
     pub fn objects(&self) -> Result<Vec<Object<Vid>>, OutOfMemory>
         ensures { IfOk result (λ objects. objects.items ≡ map object_of self.now) }
     {
-        let mut all = Vec::new(self.alloc);
+        let mut all = Vec::with_capacity(self.alloc, self.objects.len())?;
         for (vid, object) in self.objects.iter() {
             all.push(Object {
                 entry: entry_of(*vid, &object.body),
@@ -125,6 +127,13 @@ impl View {
         ensures { result ≡ used_of self.now kind }
     {
         self.counts[level(kind)]
+    }
+
+    /// How many objects of each kind there are, in the order of the kinds.
+    pub fn counts(&self) -> [u64; 11]
+        ensures { (k : Kind) → slice_index result (level k) ≡ used_of self.now k }
+    {
+        self.counts
     }
 
     /// The chip's object to which an object is tied: None where it is tied to none, or is not there.

@@ -1,6 +1,8 @@
 // Syncd.
-ghost use Rattle.std.specs.Prelude.{◌≡◌, [], length, None, IfOk, OnErr};
+ghost use Rattle.std.specs.Prelude.{◌≡◌, [], length, None, slice_index, IfOk, OnErr};
+ghost use Rattle.sai_types.specs.declared.kind.Kind.{Kind};
 ghost use Rattle.sai_types.specs.ChipState.{IsAnswered};
+ghost use Rattle.sai_types.specs.Objects.{level};
 ghost use Rattle.sai_types.specs.Refusal.{IsLegal};
 ghost use Rattle.chip_layout.specs.Renamed.{call_renamed};
 ghost use Rattle.asic_view.specs.View.{used_of};
@@ -112,6 +114,17 @@ impl Syncd {
         match &self.temporary {
             Some(view) => view.used(kind),
             None => self.view.used(kind),
+        }
+    }
+
+    /// How many objects of each kind there are, in the order of the kinds, in the temporary view, where one is built, and
+    /// otherwise in the view that stands for the chip.
+    pub fn counts(&self) -> [u64; 11]
+        ensures { (k : Kind) → slice_index result (level k) ≡ used_of (current self.now) k }
+    {
+        match &self.temporary {
+            Some(view) => view.counts(),
+            None => self.view.counts(),
         }
     }
 
