@@ -1,13 +1,11 @@
 -- what follows in an event
-use Rattle.std.proofs.Common.{◌≡◌, inl, inr, ℕ, ◌<◌, List, [], length, Option, None, Some, option_map, Result, Ok, Err, refl, sym, ap, subst, ◌∙◌}
+use Rattle.std.proofs.Common.{◌≡◌, inr, ℕ, ◌<◌, List, [], length, Option, None, Some, option_map, Result, Ok, Err, refl, sym, ap, subst, ◌∙◌}
 use Rattle.std.specs.Prelude.{set}
-use Rattle.std.proofs.lemmas.List.{set-set}
 use Rattle.table_schema.specs.declared.key.Key.{Key}
 use Rattle.table_schema.specs.Plan.{Ports}
 use Rattle.table_schema.specs.declared.row.Row.{Row}
 use Rattle.sai_types.specs.declared.ids.Vid.{Vid}
 use Rattle.switch_model.specs.declared.wait.Wait.{Wait}
-use Rattle.orch_flight.specs.Needing.{busy_for, crowded_for, holder_of, or_else}
 use Rattle.orch_flight.specs.Operation.{Operation}
 use Rattle.orch_flight.specs.Starting.{IsStartedBy, answered, begun_names, first_due, leaving}
 use Rattle.ref_counts.specs.Registry.{Names}
@@ -16,51 +14,26 @@ use Rattle.registry_laws.specs.Ending.{ended_names}
 use Rattle.registry_laws.specs.Flown.{Flown, due_for}
 use Rattle.registry_laws.specs.Making.{TookFor, with_group_begun}
 use Rattle.flight_board.specs.Applied.{Entries, HasSameRows, KeepsOthers, row_at}
-use Rattle.flight_board.specs.Board.{BoardState, FlightState, BoardFollows, IsBegunFor, IsHeldUp, IsPrepared, IsSameBoard, IsTakenFor, IsUnflown, flight_at, flight_on, operation_in}
+use Rattle.flight_board.specs.Board.{BoardState, FlightState, BoardFollows, IsBegunFor, IsPrepared, IsTakenFor, IsUnflown, flight_at, flight_on, operation_in, with_group}
 use Rattle.flight_board.proofs.Kept.{IsOperationOf, starts-as}
-use Rattle.flight_board.proofs.Places.{Under, on-other, on-same, set-same}
+use Rattle.flight_board.proofs.Places.{Under, on-other, on-same, same-flown}
 
 -- ---- a group's operation begins
 
--- where no group is due nothing begins
-pub prepared-still : (b : BoardState) (w : ℕ) (f : FlightState) → flight_at b w ≡ Some f → with_group_begun b.plan b.names f.flown ≡ f.flown → IsPrepared b w b
-prepared-still b w f at same = record {
-  plan = refl;
-  names = refl;
-  room = refl;
-  applied = refl;
-  own = ap (λ o. option_map (λ f. f.flown) o) at ∙ ap Some (sym same) ∙ ap (λ o. option_map (with_group_begun b.plan b.names) (option_map (λ f. f.flown) o)) (sym at);
-  others = λ v apart. refl;
-}
+begun-flown : (plan : Ports) (names : Names) (o : Option FlightState) → option_map (λ f. f.flown) (option_map (with_group plan names) o) ≡ option_map (with_group_begun plan names) (option_map (λ f. f.flown) o)
+begun-flown plan names None = refl
+begun-flown plan names (Some f) = refl
 
-module _ (b : BoardState) (w : ℕ) (below : w < length b.flights) where
-  with-flights : Under → BoardState
-  with-flights fs = record { plan = b.plan; names = b.names; room = b.room; applied = b.applied; flights = fs }
-
-  pub prepared-none : (fs : Under) → flight_at b w ≡ None → fs ≡ set b.flights w None → IsPrepared b w (record { plan = b.plan; names = b.names; room = b.room; applied = b.applied; flights = fs })
-  prepared-none fs none is =
-      let same : fs ≡ b.flights = is ∙ set-same b.flights w None none below in record {
-        plan = refl;
-        names = refl;
-        room = refl;
-        applied = refl;
-        own = ap (λ l. option_map (λ f. f.flown) (flight_on l w)) same ∙ ap (λ o. option_map (λ f. f.flown) o) none ∙ ap (λ o. option_map (with_group_begun b.plan b.names) (option_map (λ f. f.flown) o)) (sym none);
-        others = λ v apart. ap (λ l. flight_on l v) same;
-      }
-
-  pub prepared-some : (f g : FlightState) (fs fs' : Under) → Some f ≡ flight_at b w → g ≡ record { named = f.named; shared = f.shared; flown = with_group_begun b.plan b.names f.flown } → fs ≡ set b.flights w None → fs' ≡ set fs w (Some g) → IsPrepared b w (record { plan = b.plan; names = b.names; room = b.room; applied = b.applied; flights = fs' })
-  prepared-some f g fs fs' was is out back =
-      let all : fs' ≡ set b.flights w (Some g) = back ∙ ap (λ l. set l w (Some g)) out ∙ set-set b.flights w None (Some g) in record {
-        plan = refl;
-        names = refl;
-        room = refl;
-        applied = refl;
-        own = ap (λ l. option_map (λ f. f.flown) (flight_on l w)) all ∙ ap (λ o. option_map (λ f. f.flown) o) (on-same b.flights w (Some g) below) ∙ ap (λ z. Some z.flown) is ∙ ap (λ o. option_map (with_group_begun b.plan b.names) (option_map (λ f. f.flown) o)) was;
-        others = λ v apart. ap (λ l. flight_on l v) all ∙ on-other b.flights w v (Some g) apart;
-      }
-
-  pub put-back : (f g : FlightState) (fs fs' : Under) → Some f ≡ flight_at b w → g ≡ f → fs ≡ set b.flights w None → fs' ≡ set fs w (Some g) → fs' ≡ b.flights
-  put-back f g fs fs' was is out back = back ∙ ap (λ l. set l w (Some g)) out ∙ set-set b.flights w None (Some g) ∙ set-same b.flights w (Some g) (sym was ∙ ap Some (sym is)) below
+pub prepared : (b : BoardState) (w : ℕ) (fs : Under) → w < length b.flights → fs ≡ set b.flights w (option_map (with_group b.plan b.names) (flight_at b w)) → IsPrepared b w (record { plan = b.plan; names = b.names; room = b.room; applied = b.applied; flights = fs })
+prepared b w fs below is =
+    let begun = option_map (with_group b.plan b.names) (flight_at b w) in record {
+      plan = refl;
+      names = refl;
+      room = refl;
+      applied = refl;
+      own = ap (λ l. option_map (λ f. f.flown) (flight_on l w)) is ∙ ap (λ o. option_map (λ f. f.flown) o) (on-same b.flights w begun below) ∙ begun-flown b.plan b.names (flight_at b w);
+      others = λ v apart. ap (λ l. flight_on l v) is ∙ on-other b.flights w v begun apart;
+    }
 
 -- ---- what follows
 
@@ -85,20 +58,17 @@ module _ (b : BoardState) (w : ℕ) (f : FlightState) where
   abbrev x : Flown
   x = f.flown
 
-  -- an operation goes on
-  pub goes-on : (fs : Under) → w < length b.flights → fs ≡ set b.flights w (Some f) → (due_for b.plan b.names x ≡ [] → ⊥) → BoardFollows w x b.names b.room b (record { plan = b.plan; names = b.names; room = b.room; applied = b.applied; flights = fs })
-  goes-on fs below is some = record {
-    others = record { plan = refl; flights = λ v apart. ap (λ l. flight_on l v) is ∙ on-other b.flights w v (Some f) apart; rows = λ q apart. refl };
-    more = λ _. record { row = refl; flying = ap (λ l. option_map (λ z. z.flown) (flight_on l w)) is ∙ ap (option_map (λ z. z.flown)) (on-same b.flights w (Some f) below); names_are = refl; room_is = refl };
-    over = λ none. absurd (some none);
-  }
-
   -- an operation ends
-  pub ends : (names : Names) (room : RoomState) (applied : Entries) → flight_at b w ≡ None → due_for b.plan b.names x ≡ [] → names ≡ ended_names b.names w x.operation.key (row_at b.applied x.operation.key) x.operation.new → GivesBack b.room w room → row_at applied x.operation.key ≡ x.operation.new → KeepsOthers x.operation.key b.applied applied → BoardFollows w x b.names b.room b (record { plan = b.plan; names = names; room = room; applied = applied; flights = b.flights })
-  ends names room applied free none names_are room_is row others = record {
-    others = record { plan = refl; flights = λ v apart. refl; rows = others.rows };
+  pub ends : (fs : Under) (names : Names) (room : RoomState) (applied : Entries) → w < length b.flights → fs ≡ set b.flights w None → due_for b.plan b.names x ≡ [] → x.operation.worker ≡ w → names ≡ ended_names b.names x.operation.worker x.operation.key (row_at b.applied x.operation.key) x.operation.new → GivesBack b.room x.operation.worker room → row_at applied x.operation.key ≡ x.operation.new → KeepsOthers x.operation.key b.applied applied → BoardFollows w x b.names b.room b (record { plan = b.plan; names = names; room = room; applied = applied; flights = fs })
+  ends fs names room applied below out none worker names_are room_is row others = record {
+    others = record { plan = refl; flights = λ v apart. ap (λ l. flight_on l v) out ∙ on-other b.flights w v None apart; rows = others.rows };
     more = λ some. absurd (some none);
-    over = λ _. record { row = row; none = free; names_are = names_are; room_is = room_is };
+    over = λ _. record {
+      row = row;
+      none = ap (λ l. flight_on l w) out ∙ on-same b.flights w None below;
+      names_are = names_are ∙ ap (λ n. ended_names b.names n x.operation.key (row_at b.applied x.operation.key) x.operation.new) worker;
+      room_is = subst (λ n. GivesBack b.room n room) worker room_is;
+    };
   }
 
 -- ---- a beginning
@@ -112,30 +82,18 @@ module _ (plan : Ports) (names : Names) (room : RoomState) (used : List ℕ) (w 
   operation-is old f h = subst (IsOperationOf w k new) (sym h.1) (starts-as (begun_names plan names w k old new) w k old new (first_due plan names k old new) (leaving plan k old new))
 
 module _ (old mid new : BoardState) (used : List ℕ) (w : ℕ) (k : Key) (row : Option Row) (free : IsUnflown old k) where
-  pub begun-ok : (f : FlightState) → IsStartedBy old.plan old.names old.room used w k (row_at old.applied k) row (Ok f.flown.operation) mid.names mid.room → f.flown.group ≡ None → f.flown.operation.worker ≡ w → mid.plan ≡ old.plan → HasSameRows old.applied mid.applied → mid.flights ≡ old.flights → BoardFollows f.flown.operation.worker f.flown mid.names mid.room mid new → IsBegunFor old used w k row (Ok tt) new
-  begun-ok f h group worker plan rows flights follows =
-      let from = follows-from f.flown.operation.worker f.flown mid.names mid.room old mid new plan rows (λ v apart. ap (λ l. flight_on l v) flights) follows in
-      let here = subst (λ n. BoardFollows n f.flown mid.names mid.room old new) worker from in
-      (free, f.flown.operation, mid.names, mid.room, h, subst (λ g. BoardFollows w (record { operation = f.flown.operation; group = g }) mid.names mid.room old new) group here)
+  pub begun-ok : (f : FlightState) → IsStartedBy old.plan old.names old.room used w k (row_at old.applied k) row (Ok f.flown.operation) mid.names mid.room → f.flown.group ≡ None → mid.plan ≡ old.plan → HasSameRows old.applied mid.applied → mid.flights ≡ set old.flights w (Some f) → BoardFollows w f.flown mid.names mid.room mid new → IsBegunFor old used w k row (Ok tt) new
+  begun-ok f h group plan rows flights follows =
+      let from = follows-from w f.flown mid.names mid.room old mid new plan rows (λ v apart. ap (λ l. flight_on l v) flights ∙ on-other old.flights w v (Some f) apart) follows in
+      (free, f.flown.operation, mid.names, mid.room, h, subst (λ g. BoardFollows w (record { operation = f.flown.operation; group = g }) mid.names mid.room old new) group from)
 
   pub begun-err : (wait : Wait) → IsStartedBy old.plan old.names old.room used w k (row_at old.applied k) row (Err wait) new.names new.room → new.plan ≡ old.plan → HasSameRows old.applied new.applied → new.flights ≡ old.flights → IsBegunFor old used w k row (Err wait) new
   begun-err wait h plan rows flights = (record { plan = plan; names = h.1; room = h.2; flights = flights; rows = rows }, inr (free, h.0))
 
--- a key that is held up waits, and nothing changes
-pub held-up : (b : BoardState) (used : List ℕ) (w : ℕ) (k : Key) (row : Option Row) (reason : Wait) → IsHeldUp b k row reason → IsBegunFor b used w k row (Err reason) b
-held-up b used w k row reason h =
-    let same : IsSameBoard b b = record { plan = refl; names = refl; room = refl; flights = refl; rows = λ q. refl } in
-    elim h [
-      | inl other ↦ (same, inl other)
-      | inr missing ↦ (same, inr (missing.0, ap (λ o. or_else o (or_else (holder_of b.names k row) (or_else (busy_for b.plan b.names w k row) (crowded_for b.plan b.names b.room used k (row_at b.applied k) row)))) missing.1))
-    ]
-
 -- ---- an answer
 
-pub took_event : (old mid new : BoardState) (w : ℕ) (made : Option Vid) (f g : FlightState) → flight_on old.flights w ≡ Some f → g.flown.operation.worker ≡ w → TookFor f.flown.operation f.flown.group made old.names g.flown mid.names → mid.plan ≡ old.plan → mid.applied ≡ old.applied → mid.room ≡ old.room → mid.flights ≡ set old.flights w None → BoardFollows g.flown.operation.worker g.flown mid.names mid.room mid new → IsTakenFor old w made new
-took_event old mid new w made f g at worker took plan applied room flights follows = λ x e.
-    let is : Some f.flown ≡ Some x = sym (ap (λ o. option_map (λ z. z.flown) o) at) ∙ e in
-    let same : f.flown ≡ x = cc in
-    let from = follows-from g.flown.operation.worker g.flown mid.names mid.room old mid new plan (λ q. ap (λ es. row_at es q) applied) (λ v apart. ap (λ l. flight_on l v) flights ∙ on-other old.flights w v None (λ h. apart (h ∙ sym worker))) follows in
-    let here = subst (λ n. BoardFollows n g.flown mid.names mid.room old new) worker from in
-    (g.flown, mid.names, subst (λ z. TookFor z.operation z.group made old.names g.flown mid.names) same took, subst (λ r. BoardFollows w g.flown mid.names r old new) room here)
+pub took_event : (old mid new : BoardState) (w : ℕ) (made : Option Vid) (f g : FlightState) → flight_at old w ≡ Some f → TookFor f.flown.operation f.flown.group made old.names g.flown mid.names → mid.plan ≡ old.plan → mid.applied ≡ old.applied → mid.room ≡ old.room → mid.flights ≡ set old.flights w (Some g) → BoardFollows w g.flown mid.names mid.room mid new → IsTakenFor old w made new
+took_event old mid new w made f g at took plan applied room flights follows = λ x e.
+    let same = same-flown (flight_at old w) f x at e in
+    let from = follows-from w g.flown mid.names mid.room old mid new plan (λ q. ap (λ es. row_at es q) applied) (λ v apart. ap (λ l. flight_on l v) flights ∙ on-other old.flights w v (Some g) apart) follows in
+    (g.flown, mid.names, subst (λ z. TookFor z.operation z.group made old.names g.flown mid.names) same took, subst (λ r. BoardFollows w g.flown mid.names r old new) room from)

@@ -1,25 +1,23 @@
 -- what holds of the operations of all workers stays
-use Rattle.std.proofs.Common.{◌≡◌, inl, inr, ◌⊎◌, ℕ, ◌<◌, List, [], ◌∷◌, length, map, Option, None, Some, Result, Ok, Err, OnOk, OnErr, refl, sym, ap, ap₂, subst, ◌∙◌}
+use Rattle.std.proofs.Common.{◌≡◌, inl, inr, ◌⊎◌, ℕ, ◌<◌, List, [], ◌∷◌, length, Option, None, Some, option_map, Result, Ok, Err, OnOk, OnErr, refl, sym, ap, ap₂, subst, ◌∙◌}
 use Rattle.std.specs.Prelude.{set}
-use Rattle.std.proofs.lemmas.List.{length-set}
+use Rattle.std.proofs.lemmas.List.{length-set, set-set}
 use Rattle.table_schema.specs.Plan.{Ports}
 use Rattle.table_schema.specs.declared.key.Key.{Key}
 use Rattle.table_schema.specs.declared.row.Row.{Row}
 use Rattle.sai_types.specs.declared.ids.Vid.{Vid}
 use Rattle.row_layout.specs.Operations.{Change, uses_of}
 use Rattle.row_layout.specs.Rows.{Owner}
-use Rattle.ref_counts.specs.declared.name.Name.TheVariants as name
 use Rattle.ref_counts.specs.Registry.{Names}
 use Rattle.orch_flight.specs.Grouping.{GroupOperation}
 use Rattle.orch_flight.specs.Operation.{Operation}
-use Rattle.orch_flight.specs.Sharing.{owners_of}
 use Rattle.orch_flight.specs.Starting.{started_by}
 use Rattle.orch_flight.specs.Taking.{IsTook, operation_by}
 use Rattle.registry_laws.specs.Ending.{named_by}
-use Rattle.registry_laws.specs.Flown.{Flown}
-use Rattle.registry_laws.specs.Making.{TookFor, with_group_begun}
+use Rattle.registry_laws.specs.Flown.{Flown, group_in}
+use Rattle.registry_laws.specs.Making.{TookFor}
 use Rattle.flight_board.specs.Applied.{Entries, HasPlace, KeepsOthers, row_at}
-use Rattle.flight_board.specs.Board.{AreKept, FlightState, HasKeyAt, IsFlightBegun, IsKeptFlight, flight_on}
+use Rattle.flight_board.specs.Board.{AreKept, FlightState, HasKeyAt, IsFlightBegun, IsKeptFlight, flight_on, with_group}
 use Rattle.flight_board.proofs.Places.{Under, held-by, holds, put-by, taken-by}
 
 -- ---- of one worker
@@ -56,25 +54,20 @@ starts-as names w k old new [] (Some o) = record { worker = refl; key = refl; ro
 starts-as names w k old new [] None = record { worker = refl; key = refl; row = refl }
 starts-as names w k old new (c ∷ cs) leaves = record { worker = refl; key = refl; row = refl }
 
--- a group's operation that begins, or does not for want of memory
-pub prepared-alike : {E : Type 0} (plan : Ports) (names : Names) (f g : FlightState) (r : Result (Unit {0}) E) → OnOk r (g ≡ record { named = f.named; shared = f.shared; flown = with_group_begun plan names f.flown }) → OnErr r (g ≡ f) → (g.named ≡ f.named) × (g.shared ≡ f.shared) × IsSameOperation f.flown.operation g.flown.operation
-prepared-alike plan names f g (Ok _) is h = (ap (λ z. z.named) is, ap (λ z. z.shared) is, subst (λ z. IsSameOperation f.flown.operation z.flown.operation) (sym is) (alike-itself f.flown.operation))
-prepared-alike plan names f g (Err _) h is = (ap (λ z. z.named) is, ap (λ z. z.shared) is, subst (λ z. IsSameOperation f.flown.operation z.flown.operation) (sym is) (alike-itself f.flown.operation))
-
 module _ (plan : Ports) (applied : Entries) (w : ℕ) where
   pub kept-alike : (f g : FlightState) → g.named ≡ f.named → g.shared ≡ f.shared → IsSameOperation f.flown.operation g.flown.operation → IsKeptFlight plan applied w f → IsKeptFlight plan applied w g
   kept-alike f g named shared same is = record {
     worker = same.worker ∙ is.worker;
-    named = named ∙ is.named ∙ ap (λ k. map name.Row (named_by k (row_at applied k))) (sym same.key);
-    shared = ap₂ (uses_of plan) same.key same.new ∙ is.shared ∙ ap owners_of (sym shared);
+    named = named ∙ is.named ∙ ap (λ k. named_by k (row_at applied k)) (sym same.key);
+    shared = ap₂ (λ k o. group_in (uses_of plan k o)) same.key same.new ∙ is.shared ∙ sym shared;
     placed = subst (HasPlace applied) (sym same.key) is.placed;
   }
 
   pub kept-begun : (k : Key) (new : Option Row) (f : FlightState) → IsOperationOf w k new f.flown.operation → IsFlightBegun plan k (row_at applied k) new f → HasPlace applied k → IsKeptFlight plan applied w f
   kept-begun k new f is begun placed = record {
     worker = is.worker;
-    named = begun.named ∙ ap (λ q. map name.Row (named_by q (row_at applied q))) (sym is.key);
-    shared = ap₂ (uses_of plan) is.key is.row ∙ begun.shared;
+    named = begun.named ∙ ap (λ q. named_by q (row_at applied q)) (sym is.key);
+    shared = ap₂ (λ k o. group_in (uses_of plan k o)) is.key is.row ∙ begun.shared;
     placed = subst (HasPlace applied) (sym is.key) placed;
   }
 
@@ -122,10 +115,20 @@ module _ (plan : Ports) (applied : Entries) (fs : Under) (w : ℕ) where
       apart = λ v u g h e d same. apart v u g h (flight_put_back v g e) (flight_put_back u h d) same;
     }
 
--- what is put back after it was taken out is alike
-pub kept-back : (plan : Ports) (applied : Entries) (fs : Under) (w : ℕ) (f g : FlightState) → w < 4 → AreKept plan applied fs → flight_on fs w ≡ Some f → g.named ≡ f.named → g.shared ≡ f.shared → IsSameOperation f.flown.operation g.flown.operation → AreKept plan applied (set (set fs w None) w (Some g))
+-- what comes in the place of another is alike
+pub kept-back : (plan : Ports) (applied : Entries) (fs : Under) (w : ℕ) (f g : FlightState) → w < 4 → AreKept plan applied fs → flight_on fs w ≡ Some f → g.named ≡ f.named → g.shared ≡ f.shared → IsSameOperation f.flown.operation g.flown.operation → AreKept plan applied (set fs w (Some g))
 kept-back plan applied fs w f g below kept at named shared same =
-    kept-with plan applied (set fs w None) w g below (kept-alike plan applied w f g named shared same (kept.each w f at)) (λ v h. free-without plan applied fs w f below kept at v (subst (λ k. HasKeyAt (set fs w None) k v) same.key h)) (kept-without plan applied fs w below kept)
+    subst (AreKept plan applied) (set-set fs w None (Some g))
+    (kept-with plan applied (set fs w None) w g below (kept-alike plan applied w f g named shared same (kept.each w f at)) (λ v h. free-without plan applied fs w f below kept at v (subst (λ k. HasKeyAt (set fs w None) k v) same.key h)) (kept-without plan applied fs w below kept))
+
+-- a group's operation that begins, or does not for want of memory
+pub kept-prepared : {E : Type 0} (plan : Ports) (names : Names) (applied : Entries) (fs fs' : Under) (w : ℕ) (r : Result (Unit {0}) E) → w < 4 → OnOk r (fs' ≡ set fs w (option_map (with_group plan names) (flight_on fs w))) → OnErr r (fs' ≡ fs) → AreKept plan applied fs → AreKept plan applied fs'
+kept-prepared plan names applied fs fs' w (Err _) below begun same kept = subst (AreKept plan applied) (sym same) kept
+kept-prepared plan names applied fs fs' w (Ok _) below begun same kept = subst (AreKept plan applied) (sym begun) (by (flight_on fs w) refl)
+  where
+    by : (o : Option FlightState) → flight_on fs w ≡ o → AreKept plan applied (set fs w (option_map (with_group plan names) o))
+    by None e = kept-without plan applied fs w below kept
+    by (Some f) e = kept-back plan applied fs w f (with_group plan names f) below kept e refl refl (alike-itself f.flown.operation)
 
 -- the rows and places of a key that no operation has may change
 pub kept-moved : (plan : Ports) (old new : Entries) (fs : Under) (k : Key) → KeepsOthers k old new → ((v : ℕ) → HasKeyAt fs k v → ⊥) → AreKept plan old fs → AreKept plan new fs
@@ -135,7 +138,7 @@ kept-moved plan old new fs k others free kept = record {
       let is = kept.each w f e in
       let apart : f.flown.operation.key ≡ k → ⊥ = λ same. free w (subst (λ q. HasKeyAt fs q w) same (holds fs w f e)) in record {
         worker = is.worker;
-        named = is.named ∙ ap (λ o. map name.Row (named_by f.flown.operation.key o)) (sym (others.rows f.flown.operation.key apart));
+        named = is.named ∙ ap (named_by f.flown.operation.key) (sym (others.rows f.flown.operation.key apart));
         shared = is.shared;
         placed = others.places f.flown.operation.key apart is.placed;
       };

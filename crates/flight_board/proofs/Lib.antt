@@ -1,6 +1,5 @@
 mod Begins
 mod Dues
-mod Dropped
 mod Events
 mod Heads
 mod Kept

@@ -1,11 +1,15 @@
 -- what the workers have under way, after one is taken out or put in
-use Rattle.std.proofs.Common.{◌≡◌, ◌↔◌, inl, inr, ◌⊎◌, ℕ, zero, suc, ◌<◌, ◌≤◌, Bool, IsTrue, List, [], ◌∷◌, length, Option, None, Some, option_map, refl, sym, ap, subst, ◌∙◌, arith}
+use Rattle.std.proofs.Common.{◌≡◌, ◌↔◌, inl, inr, ◌⊎◌, ℕ, zero, suc, ◌<◌, ◌≤◌, Bool, IsTrue, List, [], ◌∷◌, get_or, length, Option, None, Some, option_map, refl, sym, ap, subst, ◌∙◌, arith}
 use Rattle.std.proofs.lemmas.Bool.{cases_lt}
 use Rattle.std.specs.Prelude.{set}
 use Rattle.std.proofs.lemmas.Option.{none-some}
 use Rattle.table_schema.specs.declared.key.Key.{Key}
+use Rattle.sai_types.specs.declared.ids.Vid.{Vid}
+use Rattle.ref_counts.specs.Registry.{Names}
+use Rattle.registry_laws.specs.Flown.{Flown}
+use Rattle.registry_laws.specs.Making.{TookFor}
 use Rattle.switch_machine.proofs.Splits.{IsSplit, nat_split}
-use Rattle.flight_board.specs.Board.{FlightState, HasKeyAt, flight_on}
+use Rattle.flight_board.specs.Board.{FlightState, HasKeyAt, TookOn, flight_on}
 
 abbrev pub Under : Type 0
 Under = List (Option FlightState)
@@ -27,11 +31,43 @@ on-other (x ∷ xs) zero (suc v) o apart = refl
 on-other (x ∷ xs) (suc w) zero o apart = refl
 on-other (x ∷ xs) (suc w) (suc v) o apart = on-other xs w v o (λ e. apart (ap suc e))
 
--- what is put back in its place changes nothing
-pub set-same : (fs : Under) (w : ℕ) (o : Option FlightState) → flight_on fs w ≡ o → w < length fs → set fs w o ≡ fs
-set-same [] w o e h = absurd (omega arith)
-set-same (x ∷ xs) zero o e h = ap (λ y. y ∷ xs) (sym e)
-set-same (x ∷ xs) (suc w) o e h = ap (λ ys. x ∷ ys) (set-same xs w o e (omega arith))
+stands : (fs : Under) (w : ℕ) (o : Option FlightState) → w < length fs → flight_on fs w ≡ get_or fs w o
+stands [] w o h = absurd (omega arith)
+stands (x ∷ xs) zero o h = refl
+stands (x ∷ xs) (suc w) o h = stands xs w o (omega arith)
+
+-- what stands in a worker's place, as the workers are seen
+pub got-on : (fs seen : Under) (w : ℕ) (o : Option FlightState) → fs ≡ seen → w < 4 → length seen ≡ 4 → flight_on seen w ≡ get_or fs w o
+got-on fs seen w o is below four = stands seen w o (omega (arith, below, four)) ∙ ap (λ l. get_or l w o) (sym is)
+
+-- what holds of what stands in a worker's place
+pub is-held : (fs : Under) (w : ℕ) (f : FlightState) (P : FlightState → Type 0) → flight_on fs w ≡ Some f → P f → (g : FlightState) → flight_on fs w ≡ Some g → P g
+is-held fs w f P at h g e =
+    let is : Some f ≡ Some g = sym at ∙ e in
+    let same : f ≡ g = cc in
+    subst P same h
+
+-- what is flown is that of what a worker has under way
+pub same-flown : (o : Option FlightState) (f : FlightState) (x : Flown) → o ≡ Some f → option_map (λ f. f.flown) o ≡ Some x → f.flown ≡ x
+same-flown o f x at e =
+    let is : Some f.flown ≡ Some x = sym (ap (option_map (λ z. z.flown)) at) ∙ e in
+    cc
+
+-- the flight of what a worker has under way
+pub under-way : (o : Option FlightState) (x : Flown) → option_map (λ f. f.flown) o ≡ Some x → (f : FlightState) × (o ≡ Some f) × (f.flown ≡ x)
+under-way None x e = absurd (none-some x e)
+under-way (Some f) x e = let same : f.flown ≡ x = cc in (f, refl, same)
+
+-- a call takes effect on what stands in a worker's place, and on nothing where nobody has anything there
+module _ (old new : Under) (w : ℕ) (made : Option Vid) (names names' : Names) where
+  pub took-on : (f g : FlightState) → flight_on old w ≡ Some f → new ≡ set old w (Some g) → TookFor f.flown.operation f.flown.group made names g.flown names' → g.named ≡ f.named → g.shared ≡ f.shared → TookOn old w made names new names'
+  took-on f g at is took named shared h e =
+      let one : Some f ≡ Some h = sym at ∙ e in
+      let same : f ≡ h = cc in
+      (g, is, subst (λ z. TookFor z.flown.operation z.flown.group made names g.flown names') same took, named ∙ ap (λ z. z.named) same, shared ∙ ap (λ z. z.shared) same)
+
+  pub took-none : flight_on old w ≡ None → TookOn old w made names new names'
+  took-none none f e = absurd (none-some f (sym none ∙ e))
 
 -- the worker has the operation of a key
 pub held-by : (fs : Under) (k : Key) (v : ℕ) → HasKeyAt fs k v → (g : FlightState) × (flight_on fs v ≡ Some g) × (g.flown.operation.key ≡ k)
@@ -84,7 +120,3 @@ beyond fs k last all none v h = by (cases_lt v last)
     by : (v < last) ⊎ (last ≤ v) → ⊥
     by (inl below) = none v below h
     by (inr above) = key-none fs k v (sym (none-beyond fs v (omega arith))) h
-
-pub none-flown : (o : Option FlightState) → option_map (λ f. f.flown) o ≡ None → o ≡ None
-none-flown None e = refl
-none-flown (Some f) e = absurd cc

@@ -1,13 +1,10 @@
 -- The applied rows as they are kept: with places for those of keys that are to have one. Own.
-use Rattle.std.specs.Prelude.{◌≡◌, cond, List, ◌++◌, Option, Some, None, IsSome}
+use Rattle.std.specs.Prelude.{◌≡◌, cond, List, Option, Some, None, IsSome}
 use Rattle.std.specs.BTreeMap.{is_at}
 use Rattle.std.specs.Map.{lookup}
-use Rattle.swss_types.specs.declared.address.Prefix.{Prefix}
 use Rattle.table_schema.specs.Key.{key_cmp}
 use Rattle.table_schema.specs.declared.key.Key.{Key}
-use Rattle.table_schema.specs.declared.key.Key.TheVariants as key
 use Rattle.table_schema.specs.declared.row.Row.{Row}
-use Rattle.ref_counts.specs.Parted.{renamed}
 
 -- keys with their rows, or with a place alone
 abbrev pub Entries : Type 0
@@ -16,14 +13,6 @@ Entries = List (Key × Option Row)
 -- what stands in a key's place
 abbrev pub place_at : Entries → Key → Option (Option Row)
 place_at entries k = lookup (is_at (key_cmp k)) entries
-
--- the routes under their keys, and then the others
-abbrev pub routes_first : List (Prefix × Option Row) → Entries → Entries
-routes_first routes rows = renamed key.Route routes ++ rows
-
--- no route has a place
-abbrev pub HasNoRoute : Entries → Type 0
-HasNoRoute rows = (p : Prefix) → place_at rows (key.Route p) ≡ None
 
 -- the row in a place, where there are both
 abbrev pub row_in : Option (Option Row) → Option Row

@@ -1,31 +1,29 @@
 -- The board: names and places, the applied rows, and the operations of four workers; and how an operation begins, goes on and ends. Own.
-use Rattle.std.specs.Prelude.{◌≡◌, ◌⊎◌, ℕ, List, [], ◌∷◌, map, length, Option, Some, None, option_map, Result, Ok, Err, zero, suc}
+use Rattle.std.specs.Prelude.{◌≡◌, ◌⊎◌, ℕ, List, [], ◌∷◌, length, Option, Some, None, option_map, set, Result, Ok, Err, zero, suc}
 use Rattle.table_schema.specs.Plan.{IsPlan, Ports}
 use Rattle.table_schema.specs.declared.key.Key.{Key}
 use Rattle.table_schema.specs.declared.row.Row.{Row}
+use Rattle.sai_types.specs.declared.hop.Hop.{Hop}
 use Rattle.sai_types.specs.declared.ids.Vid.{Vid}
 use Rattle.switch_model.specs.declared.wait.Wait.{Wait}
 use Rattle.switch_model.specs.declared.wait.Wait.TheVariants as wait
 use Rattle.row_layout.specs.Operations.{uses_of}
-use Rattle.ref_counts.specs.declared.name.Name.{Name}
-use Rattle.ref_counts.specs.declared.name.Name.TheVariants as name
 use Rattle.ref_counts.specs.Registry.{Names}
 use Rattle.ref_counts.specs.Room.{GivesBack, RoomState, all_free}
 use Rattle.orch_flight.specs.Calling.{IsOver}
 use Rattle.orch_flight.specs.Grouping.{GroupOperation, IsGroupOver}
 use Rattle.orch_flight.specs.Needing.{missing_for, wait_of}
 use Rattle.orch_flight.specs.Operation.{Operation}
-use Rattle.orch_flight.specs.Sharing.{owners_of}
 use Rattle.orch_flight.specs.Starting.{IsStartedBy}
 use Rattle.registry_laws.specs.Ending.{ended_names, named_by}
-use Rattle.registry_laws.specs.Flown.{Flown, due_for}
+use Rattle.registry_laws.specs.Flown.{Flown, due_for, group_in}
 use Rattle.registry_laws.specs.Making.{KnowsNext, TookFor, with_group_begun}
 use Rattle.flight_board.specs.Applied.{Entries, HasPlace, row_at}
 
--- what a worker has under way: the names of the rows that the key's applied row names, what its new row shares, and the operations
+-- what a worker has under way: the keys of the rows that the key's applied row names, the group that its new row shares, and the operations
 pub record FlightState : Type 0 where
-  pub named : List Name
-  pub shared : Option Name
+  pub named : List Key
+  pub shared : Option (List Hop)
   pub flown : Flown
 
 -- the port plan, what the registry and the room know, the applied rows, and what each of the four workers has under way
@@ -62,17 +60,21 @@ flown_at b w = option_map (λ f. f.flown) (flight_at b w)
 
 -- ---- what holds of each flight
 
--- one that begins: it has to do with no group yet, and keeps the names of the rows that the key's old row names, and what its new row shares
+-- what it keeps as the group that its new row shares is that by this plan
+abbrev pub KnowsGroup : Ports → FlightState → Type 0
+KnowsGroup plan f = group_in (uses_of plan f.flown.operation.key f.flown.operation.new) ≡ f.shared
+
+-- one that begins: it has to do with no group yet, and keeps the keys of the rows that the key's old row names, and the group that its new row shares
 pub record IsFlightBegun (plan : Ports) (k : Key) (old new : Option Row) (f : FlightState) : Type 0 where
   pub group : f.flown.group ≡ None
-  pub named : f.named ≡ map name.Row (named_by k old)
-  pub shared : uses_of plan k new ≡ owners_of f.shared
+  pub named : f.named ≡ named_by k old
+  pub shared : group_in (uses_of plan k new) ≡ f.shared
 
--- what a worker has under way names what its key's applied row names, keeps what its new row shares, and has a place for its row
+-- what a worker has under way names what its key's applied row names, keeps the group that its new row shares, and has a place for its row
 pub record IsKeptFlight (plan : Ports) (applied : Entries) (w : ℕ) (f : FlightState) : Type 0 where
   pub worker : f.flown.operation.worker ≡ w
-  pub named : f.named ≡ map name.Row (named_by f.flown.operation.key (row_at applied f.flown.operation.key))
-  pub shared : uses_of plan f.flown.operation.key f.flown.operation.new ≡ owners_of f.shared
+  pub named : f.named ≡ named_by f.flown.operation.key (row_at applied f.flown.operation.key)
+  pub shared : KnowsGroup plan f
   pub placed : HasPlace applied f.flown.operation.key
 
 -- each worker's is its own, and no two have one key
@@ -141,6 +143,10 @@ IsBegunFor old used w k row (Ok _) new =
 
 -- ---- calls and their effects
 
+-- the operation of the group that is due begins
+abbrev pub with_group : Ports → Names → FlightState → FlightState
+with_group plan names f = record { named = f.named; shared = f.shared; flown = with_group_begun plan names f.flown }
+
 -- a worker's group that is due begins, and nothing else changes
 pub record IsPrepared (old : BoardState) (w : ℕ) (new : BoardState) : Type 0 where
   pub plan : new.plan ≡ old.plan
@@ -158,6 +164,11 @@ pub record IsCallReady (plan : Ports) (names : Names) (x : Flown) : Type 0 where
   pub group_due : (g : GroupOperation) → x.group ≡ Some g → g.due ≡ [] → ⊥
   pub due : x.group ≡ None → x.operation.due ≡ [] → ⊥
   pub known : KnowsNext names x.operation x.group
+
+-- the call that was due for what a worker has under way has taken effect, and the other workers' stay
+abbrev pub TookOn : List (Option FlightState) → ℕ → Option Vid → Names → List (Option FlightState) → Names → Type 0
+TookOn old w made names new names' = (f : FlightState) → flight_on old w ≡ Some f
+    → (g : FlightState) × (new ≡ set old w (Some g)) × TookFor f.flown.operation f.flown.group made names g.flown names' × (g.named ≡ f.named) × (g.shared ≡ f.shared)
 
 -- the call that was due for a worker has taken effect
 abbrev pub IsTakenFor : BoardState → ℕ → Option Vid → BoardState → Type 0

@@ -1,6 +1,7 @@
 -- The operation of a row's flight. Own.
-use Rattle.std.specs.Prelude.{◌≡◌, ℕ, Option, Some}
+use Rattle.std.specs.Prelude.{◌≡◌, ℕ, List, Option, Some, None}
 use Rattle.table_schema.specs.declared.row.Row.{Row}
+use Rattle.sai_types.specs.declared.hop.Hop.{Hop}
 use Rattle.row_layout.specs.Rows.{Group, Owner}
 use Rattle.ref_counts.specs.declared.name.Name.{Name}
 use Rattle.ref_counts.specs.declared.name.Name.TheVariants as name
@@ -10,11 +11,24 @@ use Rattle.flight_board.specs.declared.row_flight.RowFlight.TheVariants as fligh
 
 -- the operation of a row's flight, of whichever table
 abbrev pub operation_of : RowFlight → Operation
-operation_of (flight.Port f) = f
-operation_of (flight.Vlan f) = f
-operation_of (flight.Intf f) = f
-operation_of (flight.Neigh f) = f
-operation_of (flight.Route f) = f
+operation_of (flight.Port f row) = f
+operation_of (flight.Vlan f row) = f
+operation_of (flight.Intf f row) = f
+operation_of (flight.Neigh f row) = f
+operation_of (flight.Route f) = f.operation
+
+-- the group that its new row shares: only routes share groups
+abbrev pub shared_group : RowFlight → Option (List Hop)
+shared_group (flight.Route f) = f.group
+shared_group r = None
+
+-- the key is to have this row
+abbrev pub HasRow : RowFlight → Option Row → Type 0
+HasRow (flight.Port f row) new = row ≡ new
+HasRow (flight.Vlan f row) new = row ≡ new
+HasRow (flight.Intf f row) new = row ≡ new
+HasRow (flight.Neigh f row) new = row ≡ new
+HasRow (flight.Route f) new = f.operation.new ≡ new
 
 -- what is left or taken away is no group
 abbrev pub IsNoGroup : Option Owner → Type 0
@@ -30,9 +44,9 @@ abbrev pub HasGroupsOnly : RowFlight → Type 0
 HasGroupsOnly (flight.Route f) = Unit {0}
 HasGroupsOnly r = IsUngrouped (operation_of r)
 
--- an operation of this worker, of the key with this name, to this row
-pub record IsFlightOf (worker : ℕ) (n : Name) (new : Option Row) (r : RowFlight) : Type 0 where
+-- an operation of this worker, of the key with this name, with the row that the key is to have
+pub record IsFlightOf (worker : ℕ) (n : Name) (r : RowFlight) : Type 0 where
   pub worker_is : (operation_of r).worker ≡ worker
   pub named : n ≡ name.Row (operation_of r).key
-  pub row : (operation_of r).new ≡ new
+  pub row : HasRow r (operation_of r).new
   pub groups : HasGroupsOnly r

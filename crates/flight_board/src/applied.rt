@@ -2,30 +2,25 @@
 ghost use Rattle.std.specs.Prelude.{◌≡◌, [], None, Some, IsSome, IsTrue, IfOk, OnOk, OnErr, ◌↔◌, option_copied, option_map};
 ghost use Rattle.flight_board.specs.Applied.{HasPlace, HasSameRows, KeepsOthers, SetsPlace, place_at, row_at};
 
-use late_maps::{LateMap, get_late};
+use row_maps::RowMap;
 use std::alloc::Global;
-use std::collections::BTreeMap;
 use std::marker::Model;
 use std::mem::{drop, replace};
-use swss_types::{OutOfMemory, Prefix};
+use swss_types::OutOfMemory;
 use table_schema::{Key, Row};
 
-/// The applied row of each key, with places for those of keys whose operations are under way. Most rows are routes: they
-/// stand apart, by their prefixes.
+/// The applied row of each key, with places for those of keys whose operations are under way.
 #[derive(Drop)]
 pub struct AppliedRows {
-    rows: BTreeMap<Key, Option<Row>>,
-    routes: LateMap<Prefix, Option<Row>>,
+    rows: RowMap<Option<Row>>,
 }
 
 impl Model for AppliedRows {
-    ghost use Rattle.flight_board.specs.Applied.{Entries, HasNoRoute, routes_first};
+    ghost use Rattle.flight_board.specs.Applied.{Entries};
 
     ghost Value = { Entries };
 
-    ghost view = { λ a. routes_first a.routes a.rows.entries };
-
-    ghost invariant = { λ a. HasNoRoute a.rows.entries };
+    ghost view = { λ a. a.rows };
 }
 
 impl AppliedRows {
@@ -34,8 +29,7 @@ impl AppliedRows {
         ensures { result ≡ [] }
     {
         AppliedRows {
-            rows: BTreeMap::new(alloc),
-            routes: LateMap::new(alloc),
+            rows: RowMap::new(alloc),
         }
     }
 
@@ -101,52 +95,38 @@ impl AppliedRows {
     fn place(&self, key: &Key) -> Option<&Option<Row>>
         ensures { option_copied result ≡ place_at self.now key.now }
     {
-        match key {
-            Key::Route(prefix) => self.routes.get(prefix),
-            _ => get_late(&self.rows, key),
-        }
+        self.rows.get(key)
     }
 
     /// A key gets a place, without a row.
+    #[tactic(auto, using(crate::proofs::Rows::place_put))]
     fn add_place(&mut self, key: &Key) -> Result<(), OutOfMemory>
         ensures ok { OnOk result (SetsPlace key.now (Some None) self.old self.new) }
         ensures err { OnErr result (self.new ≡ self.old) }
     {
-        match key {
-            Key::Route(prefix) => drop(self.routes.insert(*prefix, None)?),
-            _ => drop(self.rows.insert(key.copy()?, None)?),
-        }
+        drop(self.rows.insert(key.copy()?, None)?);
         Ok(())
     }
 
     /// A key has no place any more.
+    #[tactic(auto, using(crate::proofs::Rows::place_removed))]
     fn remove_place(&mut self, key: &Key)
         ensures { SetsPlace key.now None self.old self.new }
     {
-        match key {
-            Key::Route(prefix) => {
-                // Their number says that the routes are in order.
-                let _routes = self.routes.len();
-                drop(self.routes.remove(prefix));
-            }
-            _ => drop(self.rows.remove(key)),
-        }
+        // Their number says that the rows are in order.
+        let _rows = self.rows.len();
+        drop(self.rows.remove(key));
     }
 
     /// Puts a row in its place.
+    #[tactic(auto, using(crate::proofs::Rows::place_set))]
     fn put(&mut self, key: &Key, row: Row)
         requires { HasPlace self.old key.now }
         ensures { SetsPlace key.now (Some (Some row)) self.old self.new }
     {
-        match key {
-            Key::Route(prefix) => match self.routes.insert(*prefix, Some(row)) {
-                Ok(old) => drop(old),
-                Err(_) => unreachable!(),
-            },
-            _ => match self.rows.get_mut(key) {
-                Some(place) => drop(Some(replace(place, Some(row)))),
-                None => unreachable!(),
-            },
+        match self.rows.get_mut(key) {
+            Some(place) => drop(Some(replace(place, Some(row)))),
+            None => unreachable!(),
         }
     }
 }

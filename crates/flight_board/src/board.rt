@@ -1,12 +1,12 @@
 // The board.
-ghost use Rattle.std.specs.Prelude.{◌≡◌, ◌<◌, ◌↔◌, false, Some, None, IsSome, IsTrue, option_map, IfOk, IfSome, IfNone, OnOk, OnErr};
+ghost use Rattle.std.specs.Prelude.{◌≡◌, ◌<◌, ◌↔◌, [], Some, None, IsSome, IsTrue, option_map, IfOk, IfSome, IfNone, OnOk, OnErr};
 ghost use Rattle.orch_flight.specs.Needing.{first_unapplied};
 ghost use Rattle.orch_flight.specs.Sharing.{MayStart};
 ghost use Rattle.orch_flight.specs.Taking.{to_list};
-ghost use Rattle.registry_laws.specs.Flown.{Flown};
+ghost use Rattle.registry_laws.specs.Flown.{Flown, due_for};
 ghost use Rattle.registry_laws.specs.Making.{IsNextCall, MayTakeFor};
 ghost use Rattle.flight_board.specs.Applied.{row_at};
-ghost use Rattle.flight_board.specs.Board.{BoardFollows, IsBegunFor, IsFlownAt, IsHeldUp, IsKeptFlight, IsPrepared, IsCallReady, IsSameBoard, IsTakenFor, IsUnflown, flight_at, flown_at, new_board};
+ghost use Rattle.flight_board.specs.Board.{BoardFollows, FlightState, IsBegunFor, IsFlownAt, IsHeldUp, IsPrepared, IsCallReady, IsSameBoard, IsTakenFor, IsUnflown, flight_at, flown_at, new_board};
 
 use crate::applied::AppliedRows;
 use crate::flight::Flight;
@@ -129,7 +129,8 @@ impl Board {
             new,
         ) {
             Ok(Ok(flight)) => {
-                self.go_on(flight);
+                self.workers.put(worker, flight);
+                self.go_on(worker);
                 Ok(Ok(()))
             }
             Ok(Err(wait)) => {
@@ -177,26 +178,8 @@ impl Board {
         ensures ok { OnOk result (IsPrepared self.old worker self.new) }
         ensures err { OnErr result (self.new ≡ self.old) }
     {
-        if !self.awaits_group(worker) {
-            return Ok(());
-        }
-        let Some(mut flight) = self.workers.take(worker) else {
-            return Ok(());
-        };
-        let prepared = flight.prepare(self.alloc, &self.plan, &self.registry);
-        self.workers.put(worker, flight);
-        prepared
-    }
-
-    /// Whether the operation of a group is due for a worker that has not begun.
-    fn awaits_group(&self, worker: u32) -> bool
-        requires { worker < 4 }
-        ensures { result ≡ false → IsPrepared self.now worker self.now }
-    {
-        match self.workers.get(worker) {
-            Some(flight) => flight.awaits_group(&self.registry),
-            None => false,
-        }
+        self.workers
+            .prepare(self.alloc, &self.plan, &self.registry, worker)
     }
 
     /// The call that is due for a worker that has something under way.
@@ -218,25 +201,31 @@ impl Board {
         requires may { (x : Flown) × (flown_at self.old worker ≡ Some x) × MayTakeFor x.operation x.group made self.old.names }
         ensures { IsTakenFor self.old worker made self.new }
     {
-        if let Some(mut flight) = self.workers.take(worker) {
-            flight.took(made, &mut self.registry);
-            self.go_on(flight);
+        self.workers.took(worker, made, &mut self.registry);
+        self.go_on(worker);
+    }
+
+    /// What a worker has under way goes on where something is due for it, and ends where nothing is.
+    fn go_on(&mut self, worker: u32)
+        requires { worker < 4 }
+        ensures { (f : FlightState) → flight_at self.old worker ≡ Some f → BoardFollows worker f.flown self.old.names self.old.room self.old self.new }
+    {
+        if !self.is_over(worker) {
+            return;
+        }
+        if let Some(flight) = self.workers.take(worker) {
+            flight.end(&mut self.registry, &mut self.room, &mut self.applied);
         }
     }
 
-    /// An operation goes on where something is due for it, and ends where nothing is.
-    fn go_on(&mut self, flight: Flight)
-        requires worker { flight.flown.operation.worker < 4 }
-        requires kept { IsKeptFlight self.old.plan self.old.applied flight.flown.operation.worker flight }
-        requires none { flight_at self.old flight.flown.operation.worker ≡ None }
-        requires unflown { IsUnflown self.old flight.flown.operation.key }
-        ensures { BoardFollows flight.flown.operation.worker flight.flown self.old.names self.old.room self.old self.new }
+    /// Whether nothing is due any more for a worker that has something under way.
+    fn is_over(&self, worker: u32) -> bool
+        requires { worker < 4 }
+        ensures { (f : FlightState) → flight_at self.now worker ≡ Some f → IsTrue result ↔ (due_for self.now.plan self.now.names f.flown ≡ []) }
     {
-        let worker = flight.worker();
-        if flight.is_over(&self.registry) {
-            flight.end(&mut self.registry, &mut self.room, &mut self.applied);
-        } else {
-            self.workers.put(worker, flight);
+        match self.workers.get(worker) {
+            Some(flight) => flight.is_over(&self.registry),
+            None => false,
         }
     }
 }

@@ -1,21 +1,17 @@
 // How an operation ends.
-ghost use Rattle.std.specs.Prelude.{◌≡◌, List, map};
+ghost use Rattle.std.specs.Prelude.{◌≡◌};
 ghost use Rattle.table_schema.specs.declared.key.Key.{Key};
 ghost use Rattle.registry_laws.specs.Ending.{users_dropped, with_own_ended};
 
 use ref_counts::{Name, Registry};
 use table_schema::{Key, Row};
 
-/// A key uses the rows with these names no more.
-pub fn drop_users(reg: &mut Registry, named: &[Name], key: &Key)
-    ensures { (keys : List Key) → named.now ≡ map Name.Row keys → reg.new ≡ users_dropped reg.old key.now keys }
+/// A key uses the rows of these keys no more.
+pub fn drop_users(reg: &mut Registry, named: Vec<Key>, key: &Key)
+    ensures { reg.new ≡ users_dropped reg.old key.now named.items }
 {
-    match named {
-        [] => {}
-        [name, others @ ..] => {
-            reg.drop_user(name, key);
-            drop_users(reg, others, key);
-        }
+    for other in named {
+        reg.drop_user(&Name::Row(other), key);
     }
 }
 

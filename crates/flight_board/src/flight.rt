@@ -1,21 +1,19 @@
 // What a worker has under way.
-ghost use Rattle.std.specs.Prelude.{◌≡◌, ◌<◌, ◌↔◌, ◌++◌, [], None, IsTrue, false, OnOk, OnErr, IfOk, map, option_map};
+ghost use Rattle.std.specs.Prelude.{◌≡◌, ◌<◌, ◌↔◌, [], IsTrue, OnOk, OnErr, IfOk, option_map};
 ghost use Rattle.table_schema.specs.Plan.{Ports};
-ghost use Rattle.row_layout.specs.Operations.{uses_of};
 ghost use Rattle.ref_counts.specs.Room.{GivesBack};
-ghost use Rattle.orch_flight.specs.Sharing.{MayStart, owners_of};
+ghost use Rattle.orch_flight.specs.Sharing.{MayStart};
 ghost use Rattle.orch_flight.specs.Starting.{IsStartedBy, answered};
 ghost use Rattle.registry_laws.specs.Ending.{ended_names, named_by};
 ghost use Rattle.registry_laws.specs.Flown.{due_for, group_to_build, group_to_take};
-ghost use Rattle.registry_laws.specs.Making.{IsNextCall, MayTakeFor, TookFor, group_begun, left_of_group_by, with_group_begun};
+ghost use Rattle.registry_laws.specs.Making.{IsNextCall, MayTakeFor, TookFor, group_begun, left_of_group_by};
 ghost use Rattle.flight_board.specs.Applied.{HasPlace, KeepsOthers, row_at};
-ghost use Rattle.flight_board.specs.Board.{IsFlightBegun, IsCallReady, operation_in};
+ghost use Rattle.flight_board.specs.Board.{IsCallReady, IsFlightBegun, KnowsGroup, operation_in, with_group};
 
 use crate::applied::AppliedRows;
 use crate::ending::{drop_users, end_row};
 use crate::row_flight::RowFlight;
 use nexthop_orch::GroupFlight;
-use orch_flight::shared;
 use ref_counts::{Name, NameState, Next, Registry, Room};
 use sai_types::{Call, Hops, Vid};
 use std::alloc::Global;
@@ -28,25 +26,23 @@ use table_schema::{Key, PortPlan, Row, names};
 #[derive(Drop)]
 pub struct Flight {
     worker: u32,
-    // the name of the key's row, and the row that it is to have
+    // the name of the key's row
     name: Name,
-    target: Option<Row>,
-    // the names of the rows that its applied row names, and what the new row shares
-    named: Vec<Name>,
-    shared: Option<Name>,
+    // the keys of the rows that its applied row names
+    named: Vec<Key>,
     operation: RowFlight,
     group: Option<GroupFlight>,
 }
 
 impl Model for Flight {
     ghost use Rattle.flight_board.specs.Board.{FlightState};
-    ghost use Rattle.flight_board.specs.Flights.{IsFlightOf, operation_of};
+    ghost use Rattle.flight_board.specs.Flights.{IsFlightOf, operation_of, shared_group};
 
     ghost Value = { FlightState };
 
-    ghost view = { λ f. record { named = f.named.items; shared = f.shared; flown = record { operation = operation_of f.operation; group = f.group } } };
+    ghost view = { λ f. record { named = f.named.items; shared = shared_group f.operation; flown = record { operation = operation_of f.operation; group = f.group } } };
 
-    ghost invariant = { λ f. IsFlightOf f.worker f.name f.target f.operation };
+    ghost invariant = { λ f. IsFlightOf f.worker f.name f.operation };
 }
 
 impl Flight {
@@ -70,27 +66,17 @@ impl Flight {
         ensures err_room { OnErr result (room.new ≡ room.old) }
     {
         let name = Name::Row(key.copy()?);
-        let named = names_named(alloc, key, old)?;
-        let shared = name_shared(alloc, plan, key, &new)?;
-        match RowFlight::start(alloc, plan, reg, room, used, worker, key, old, new.as_ref())? {
+        let named = keys_named(alloc, key, old)?;
+        match RowFlight::start(alloc, plan, reg, room, used, worker, key, old, new)? {
             Ok(operation) => Ok(Ok(Flight {
                 worker,
                 name,
-                target: new,
                 named,
-                shared,
                 operation,
                 group: None,
             })),
             Err(wait) => Ok(Err(wait)),
         }
-    }
-
-    /// Its worker.
-    pub fn worker(&self) -> u32
-        ensures { result ≡ self.now.flown.operation.worker }
-    {
-        self.worker
     }
 
     /// Whether it is the operation of a key.
@@ -105,7 +91,7 @@ impl Flight {
 
     /// Whether nothing is due any more.
     pub fn is_over(&self, reg: &Registry) -> bool
-        ensures { (plan : Ports) → uses_of plan self.now.flown.operation.key self.now.flown.operation.new ≡ owners_of self.now.shared → IsTrue result ↔ (due_for plan reg.now self.now.flown ≡ []) }
+        ensures { (plan : Ports) → KnowsGroup plan self.now → IsTrue result ↔ (due_for plan reg.now self.now.flown ≡ []) }
     {
         if !self.operation.is_over() {
             return false;
@@ -119,24 +105,11 @@ impl Flight {
         }
     }
 
-    /// Whether the operation of a group is due that has not begun: where none is, `prepare` changes nothing.
-    pub fn awaits_group(&self, reg: &Registry) -> bool
-        ensures { (plan : Ports) → uses_of plan self.now.flown.operation.key self.now.flown.operation.new ≡ owners_of self.now.shared → result ≡ false → with_group_begun plan reg.now self.now.flown ≡ self.now.flown }
-    {
-        if self.group.is_some() {
-            return false;
-        }
-        match (self.group_to_build(reg), self.operation.retired_group()) {
-            (None, None) => false,
-            _ => true,
-        }
-    }
-
     /// The group that the worker builds for the new row.
     fn group_to_build(&self, reg: &Registry) -> Option<&Hops>
-        ensures { (plan : Ports) → uses_of plan self.now.flown.operation.key self.now.flown.operation.new ≡ owners_of self.now.shared → option_map (λ hops. hops.now) result ≡ group_to_build plan reg.now self.now.flown.operation }
+        ensures { (plan : Ports) → KnowsGroup plan self.now → option_map (λ hops. hops.now) result ≡ group_to_build plan reg.now self.now.flown.operation }
     {
-        let Some(name) = &self.shared else {
+        let Some(name) = self.operation.group() else {
             return None;
         };
         let Name::Group(hops) = name else {
@@ -155,12 +128,15 @@ impl Flight {
         plan: &PortPlan,
         reg: &Registry,
     ) -> Result<(), OutOfMemory>
-        requires { uses_of plan.now self.old.flown.operation.key self.old.flown.operation.new ≡ owners_of self.old.shared }
-        ensures ok { OnOk result (self.new ≡ record self.old { flown = with_group_begun plan.now reg.now self.old.flown }) }
+        requires { KnowsGroup plan.now self.old }
+        ensures ok { OnOk result (self.new ≡ with_group plan.now reg.now self.old) }
         ensures err { OnErr result (self.new ≡ self.old) }
     {
-        if self.group.is_none() {
-            self.group = self.group_due(alloc, plan, reg)?;
+        if self.group.is_some() {
+            return Ok(());
+        }
+        if let Some(group) = self.group_due(alloc, plan, reg)? {
+            self.group = Some(group);
         }
         Ok(())
     }
@@ -172,7 +148,7 @@ impl Flight {
         plan: &PortPlan,
         reg: &Registry,
     ) -> Result<Option<GroupFlight>, OutOfMemory>
-        requires { uses_of plan.now self.now.flown.operation.key self.now.flown.operation.new ≡ owners_of self.now.shared }
+        requires { KnowsGroup plan.now self.now }
         ensures { IfOk result (λ group. group ≡ group_begun plan.now self.now.flown.operation.worker (group_to_build plan.now reg.now self.now.flown.operation) (group_to_take self.now.flown.operation)) }
     {
         if let Some(hops) = self.group_to_build(reg) {
@@ -215,7 +191,7 @@ impl Flight {
     /// live or gone, its places are given back, and its row is applied.
     pub fn end(self, reg: &mut Registry, room: &mut Room, applied: &mut AppliedRows)
         requires worker { self.flown.operation.worker < 4 }
-        requires named { self.named ≡ map Name.Row (named_by self.flown.operation.key (row_at applied.old self.flown.operation.key)) }
+        requires named { self.named ≡ named_by self.flown.operation.key (row_at applied.old self.flown.operation.key) }
         requires placed { HasPlace applied.old self.flown.operation.key }
         ensures names { reg.new ≡ ended_names reg.old self.flown.operation.worker self.flown.operation.key (row_at applied.old self.flown.operation.key) self.flown.operation.new }
         ensures room { GivesBack room.old self.flown.operation.worker room.new }
@@ -225,12 +201,13 @@ impl Flight {
         let Flight {
             worker,
             name,
-            target,
             named,
+            operation,
             ..
         } = self;
+        let target = operation.into_row();
         if let Name::Row(key) = &name {
-            drop_users(reg, named.as_slice(), key);
+            drop_users(reg, named, key);
             reg.release(worker, true);
             end_row(reg, &name, &target);
             room.give_back(worker);
@@ -239,42 +216,13 @@ impl Flight {
     }
 }
 
-/// The names of the rows that a key's row names.
-fn names_named(alloc: Global, key: &Key, row: Option<&Row>) -> Result<Vec<Name>, OutOfMemory>
-    ensures { IfOk result (λ named. named.items ≡ map Name.Row (named_by key.now (option_map (λ r. r.now) row.entry))) }
-{
-    let mut all = Vec::new(alloc);
-    if let Some(row) = row {
-        add_names(&mut all, names(alloc, key, row)?.as_slice())?;
-    }
-    Ok(all)
-}
-
-/// Adds the names of the rows of some keys.
-fn add_names(all: &mut Vec<Name>, keys: &[Key]) -> Result<(), OutOfMemory>
-    ensures { OnOk result (all.new.items ≡ all.old.items ++ map Name.Row keys.now) }
-{
-    match keys {
-        [] => Ok(()),
-        [key, others @ ..] => {
-            all.push(Name::Row(key.copy()?))?;
-            add_names(all, others)
-        }
-    }
-}
-
-/// The name of what a key's row shares.
-fn name_shared(
-    alloc: Global,
-    plan: &PortPlan,
-    key: &Key,
-    row: &Option<Row>,
-) -> Result<Option<Name>, OutOfMemory>
-    ensures { IfOk result (λ name. uses_of plan.now key.now row.now ≡ owners_of name) }
+/// The keys of the rows that a key's row names.
+fn keys_named(alloc: Global, key: &Key, row: Option<&Row>) -> Result<Vec<Key>, OutOfMemory>
+    ensures { IfOk result (λ named. named.items ≡ named_by key.now (option_map (λ r. r.now) row.entry)) }
 {
     match row {
-        Some(row) => shared(alloc, plan, key, row),
-        None => Ok(None),
+        Some(row) => names(alloc, key, row),
+        None => Ok(Vec::new(alloc)),
     }
 }
 

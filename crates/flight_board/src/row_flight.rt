@@ -1,17 +1,18 @@
 // The operation of a row of any table.
-ghost use Rattle.std.specs.Prelude.{◌≡◌, ◌↔◌, [], IsTrue, IfOk, OnErr, option_map};
+ghost use Rattle.std.specs.Prelude.{◌≡◌, ◌↔◌, [], IsTrue, IfOk, OnErr, Option, option_map};
 ghost use Rattle.table_schema.specs.Plan.{Ports};
+ghost use Rattle.row_layout.specs.Operations.{uses_of};
 ghost use Rattle.orch_flight.specs.Calling.{IsNextOf, IsOver, KnowsIds};
 ghost use Rattle.orch_flight.specs.Sharing.{MayStart};
 ghost use Rattle.orch_flight.specs.Starting.{IsStartedBy, answered};
 ghost use Rattle.orch_flight.specs.Taking.{IsTook, MayTake};
-ghost use Rattle.registry_laws.specs.Flown.{group_to_take};
-ghost use Rattle.flight_board.specs.Flights.{HasGroupsOnly, operation_of};
+ghost use Rattle.registry_laws.specs.Flown.{group_in, group_to_take};
+ghost use Rattle.flight_board.specs.Flights.{HasGroupsOnly, HasRow, operation_of, shared_group};
 
 use intf_orch::IntfFlight;
 use neigh_orch::NeighFlight;
 use port_orch::PortFlight;
-use ref_counts::{Next, Registry, Room};
+use ref_counts::{Name, Next, Registry, Room};
 use route_orch::RouteFlight;
 use sai_types::{Hops, Vid};
 use std::alloc::Global;
@@ -20,17 +21,17 @@ use swss_types::OutOfMemory;
 use table_schema::{Key, PortPlan, Row};
 use vlan_orch::VlanFlight;
 
-/// The operation of a row, by its table.
+/// The operation of a row, by its table, with the row that the key is to have: that of a route has it itself.
 #[derive(Drop)]
 pub enum RowFlight {
     /// Of a port.
-    Port(PortFlight),
+    Port(PortFlight, Option<Row>),
     /// Of a VLAN, or of a member of one.
-    Vlan(VlanFlight),
+    Vlan(VlanFlight, Option<Row>),
     /// Of an interface, or of an address of one.
-    Intf(IntfFlight),
+    Intf(IntfFlight, Option<Row>),
     /// Of a neighbour.
-    Neigh(NeighFlight),
+    Neigh(NeighFlight, Option<Row>),
     /// Of a route.
     Route(RouteFlight),
 }
@@ -47,37 +48,45 @@ impl RowFlight {
         worker: u32,
         key: &Key,
         old: Option<&Row>,
-        new: Option<&Row>,
+        new: Option<Row>,
     ) -> Result<Result<RowFlight, Wait>, OutOfMemory>
-        requires may { MayStart plan.now reg.old worker key.now (option_map (λ r. r.now) old) (option_map (λ r. r.now) new) }
-        ensures started { IfOk result (λ answer. IsStartedBy plan.now reg.old room.old used.now worker key.now (option_map (λ r. r.now) old.entry) (option_map (λ r. r.now) new.entry) (answered operation_of answer) reg.new room.new) }
+        requires may { MayStart plan.now reg.old worker key.now (option_map (λ r. r.now) old) new }
+        ensures started { IfOk result (λ answer. IsStartedBy plan.now reg.old room.old used.now worker key.now (option_map (λ r. r.now) old.entry) new (answered operation_of answer) reg.new room.new) }
         ensures groups { IfOk result (λ answer. IfOk answer HasGroupsOnly) }
+        ensures shared { IfOk result (λ answer. IfOk answer (λ f. group_in (uses_of plan.now key.now new) ≡ shared_group f)) }
+        ensures row { IfOk result (λ answer. IfOk answer (λ f. HasRow f new)) }
         ensures err { OnErr result (reg.new ≡ reg.old) }
         ensures err_room { OnErr result (room.new ≡ room.old) }
     {
         match key {
-            Key::Port(_) => match PortFlight::start(plan, reg, room, used, worker, key, old, new)? {
-                Ok(flight) => Ok(Ok(RowFlight::Port(flight))),
-                Err(wait) => Ok(Err(wait)),
-            },
-            Key::Vlan(_) | Key::Member(..) => match VlanFlight::start(
-                plan, reg, room, used, worker, key, old, new,
-            )? {
-                Ok(flight) => Ok(Ok(RowFlight::Vlan(flight))),
-                Err(wait) => Ok(Err(wait)),
-            },
-            Key::Intf(_) | Key::Addr(..) => match IntfFlight::start(
-                plan, reg, room, used, worker, key, old, new,
-            )? {
-                Ok(flight) => Ok(Ok(RowFlight::Intf(flight))),
-                Err(wait) => Ok(Err(wait)),
-            },
-            Key::Neigh(..) => match NeighFlight::start(
-                plan, reg, room, used, worker, key, old, new,
-            )? {
-                Ok(flight) => Ok(Ok(RowFlight::Neigh(flight))),
-                Err(wait) => Ok(Err(wait)),
-            },
+            Key::Port(_) => {
+                let given = new.as_ref();
+                match PortFlight::start(plan, reg, room, used, worker, key, old, given)? {
+                    Ok(flight) => Ok(Ok(RowFlight::Port(flight, new))),
+                    Err(wait) => Ok(Err(wait)),
+                }
+            }
+            Key::Vlan(_) | Key::Member(..) => {
+                let given = new.as_ref();
+                match VlanFlight::start(plan, reg, room, used, worker, key, old, given)? {
+                    Ok(flight) => Ok(Ok(RowFlight::Vlan(flight, new))),
+                    Err(wait) => Ok(Err(wait)),
+                }
+            }
+            Key::Intf(_) | Key::Addr(..) => {
+                let given = new.as_ref();
+                match IntfFlight::start(plan, reg, room, used, worker, key, old, given)? {
+                    Ok(flight) => Ok(Ok(RowFlight::Intf(flight, new))),
+                    Err(wait) => Ok(Err(wait)),
+                }
+            }
+            Key::Neigh(..) => {
+                let given = new.as_ref();
+                match NeighFlight::start(plan, reg, room, used, worker, key, old, given)? {
+                    Ok(flight) => Ok(Ok(RowFlight::Neigh(flight, new))),
+                    Err(wait) => Ok(Err(wait)),
+                }
+            }
             Key::Route(_) => match RouteFlight::start(
                 alloc, plan, reg, room, used, worker, key, old, new,
             )? {
@@ -94,10 +103,10 @@ impl RowFlight {
         ensures { IfOk result (λ next. (plan : Ports) → IsOver plan (operation_of self.now) → IsNextOf plan reg.now (operation_of self.now) next) }
     {
         match self {
-            RowFlight::Port(flight) => flight.next(reg),
-            RowFlight::Vlan(flight) => flight.next(reg),
-            RowFlight::Intf(flight) => flight.next(reg),
-            RowFlight::Neigh(flight) => flight.next(reg),
+            RowFlight::Port(flight, _) => flight.next(reg),
+            RowFlight::Vlan(flight, _) => flight.next(reg),
+            RowFlight::Intf(flight, _) => flight.next(reg),
+            RowFlight::Neigh(flight, _) => flight.next(reg),
             RowFlight::Route(flight) => flight.next(reg),
         }
     }
@@ -107,12 +116,14 @@ impl RowFlight {
         requires { MayTake (operation_of self.old) made reg.old }
         ensures took { IsTook (operation_of self.old) made reg.old (operation_of self.new) reg.new }
         ensures groups { HasGroupsOnly self.old → HasGroupsOnly self.new }
+        ensures shared { shared_group self.new ≡ shared_group self.old }
+        ensures row { HasRow self.old (operation_of self.old).new → HasRow self.new (operation_of self.new).new }
     {
         match self {
-            RowFlight::Port(flight) => flight.took(made, reg),
-            RowFlight::Vlan(flight) => flight.took(made, reg),
-            RowFlight::Intf(flight) => flight.took(made, reg),
-            RowFlight::Neigh(flight) => flight.took(made, reg),
+            RowFlight::Port(flight, _) => flight.took(made, reg),
+            RowFlight::Vlan(flight, _) => flight.took(made, reg),
+            RowFlight::Intf(flight, _) => flight.took(made, reg),
+            RowFlight::Neigh(flight, _) => flight.took(made, reg),
             RowFlight::Route(flight) => flight.took(made, reg),
         }
     }
@@ -122,11 +133,34 @@ impl RowFlight {
         ensures { IsTrue result ↔ ((operation_of self.now).due ≡ []) }
     {
         match self {
-            RowFlight::Port(flight) => flight.is_over(),
-            RowFlight::Vlan(flight) => flight.is_over(),
-            RowFlight::Intf(flight) => flight.is_over(),
-            RowFlight::Neigh(flight) => flight.is_over(),
+            RowFlight::Port(flight, _) => flight.is_over(),
+            RowFlight::Vlan(flight, _) => flight.is_over(),
+            RowFlight::Intf(flight, _) => flight.is_over(),
+            RowFlight::Neigh(flight, _) => flight.is_over(),
             RowFlight::Route(flight) => flight.is_over(),
+        }
+    }
+
+    /// The row that the key is to have.
+    pub fn into_row(self) -> Option<Row>
+        ensures { (row : Option Row) → HasRow self row → result ≡ row }
+    {
+        match self {
+            RowFlight::Port(_, row) => row,
+            RowFlight::Vlan(_, row) => row,
+            RowFlight::Intf(_, row) => row,
+            RowFlight::Neigh(_, row) => row,
+            RowFlight::Route(flight) => flight.into_row(),
+        }
+    }
+
+    /// The name of the group that its new row shares: only routes share groups.
+    pub fn group(&self) -> Option<&Name>
+        ensures { option_map (λ name. name.now) result ≡ option_map Name.Group (shared_group self.now) }
+    {
+        match self {
+            RowFlight::Route(flight) => flight.group(),
+            _ => None,
         }
     }
 

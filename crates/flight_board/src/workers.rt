@@ -1,10 +1,15 @@
 // What each worker has under way.
-ghost use Rattle.std.specs.Prelude.{◌≡◌, ◌<◌, ◌↔◌, ◌∷◌, [], ℕ, None, Some, length, set, option_map, IfSome, IfNone, IsTrue};
-ghost use Rattle.flight_board.specs.Board.{HasKeyAt, flight_on};
+ghost use Rattle.std.specs.Prelude.{◌≡◌, ◌<◌, ◌↔◌, ◌∷◌, [], ℕ, None, Some, length, set, option_map, IfSome, IfNone, IsTrue, OnErr, OnOk};
+ghost use Rattle.registry_laws.specs.Making.{MayTakeFor};
+ghost use Rattle.flight_board.specs.Board.{FlightState, HasKeyAt, KnowsGroup, TookOn, flight_on, with_group};
 
 use crate::flight::Flight;
+use ref_counts::Registry;
+use sai_types::Vid;
+use std::alloc::Global;
 use std::marker::Model;
-use table_schema::Key;
+use swss_types::OutOfMemory;
+use table_schema::{Key, PortPlan};
 
 /// What each of four workers has under way.
 #[derive(Drop)]
@@ -57,6 +62,39 @@ impl Workers {
         ensures { self.new ≡ set self.old worker (Some flight) }
     {
         self.flights[worker as usize] = Some(flight);
+    }
+
+    /// Begins the operation of a group that is due for a worker.
+    pub fn prepare(
+        &mut self,
+        alloc: Global,
+        plan: &PortPlan,
+        reg: &Registry,
+        worker: u32,
+    ) -> Result<(), OutOfMemory>
+        requires worker { worker < 4 }
+        requires four { length self.old ≡ 4 }
+        requires shared { (f : FlightState) → flight_on self.old worker ≡ Some f → KnowsGroup plan.now f }
+        ensures ok { OnOk result (self.new ≡ set self.old worker (option_map (with_group plan.now reg.now) (flight_on self.old worker))) }
+        ensures err { OnErr result (self.new ≡ self.old) }
+    {
+        match &mut self.flights[worker as usize] {
+            Some(flight) => flight.prepare(alloc, plan, reg),
+            None => Ok(()),
+        }
+    }
+
+    /// The call that was due for a worker has taken effect.
+    pub fn took(&mut self, worker: u32, made: Option<Vid>, reg: &mut Registry)
+        requires worker { worker < 4 }
+        requires four { length self.old ≡ 4 }
+        requires may { (f : FlightState) → flight_on self.old worker ≡ Some f → MayTakeFor f.flown.operation f.flown.group made reg.old }
+        ensures { TookOn self.old worker made reg.old self.new reg.new }
+    {
+        match &mut self.flights[worker as usize] {
+            Some(flight) => flight.took(made, reg),
+            None => {}
+        }
     }
 
     /// The worker whose operation has a key.

@@ -1,4 +1,4 @@
--- the call that is due of a route's operation, and the group that its new row has
+-- the call that is due of a route's operation
 use Rattle.std.proofs.Common.{◌≡◌, ◌⊎◌, inl, inr, ℕ, [], ◌∷◌, Option, Some, None, option_map, refl, sym, ap, subst, ◌∙◌}
 use Rattle.std.proofs.lemmas.Bool.{false≢true}
 use Rattle.std.proofs.lemmas.Option.{same_Some}
@@ -22,7 +22,7 @@ use Rattle.sai_types.specs.declared.thing.Thing.{Thing}
 use Rattle.sai_types.specs.declared.thing.Thing.TheVariants as thing
 use Rattle.sai_types.proofs.Membership.{in-left}
 use Rattle.chip_layout.specs.Bodies.{IsAt, IsBody, IsChange, first_thing_name, second_of, to_with}
-use Rattle.row_layout.specs.Operations.{Make, Set, Take, uses_of}
+use Rattle.row_layout.specs.Operations.{Make, Set, Take}
 use Rattle.row_layout.specs.Rows.{Owner, OfRow, goal_of}
 use Rattle.row_layout.specs.Shared.{shared_things}
 use Rattle.row_layout.proofs.Members.{from_in, only}
@@ -30,20 +30,17 @@ use Rattle.row_layout.proofs.Owners.{shared-own}
 use Rattle.switch_machine.specs.Changes.{IsSamePort, Resembles}
 use Rattle.switch_machine.specs.Flights.{own_of}
 use Rattle.ref_counts.specs.declared.name.Name.{Name}
-use Rattle.ref_counts.specs.declared.name.Name.TheVariants as name
 use Rattle.ref_counts.specs.declared.next.Next.TheVariants as next
 use Rattle.ref_counts.specs.Registry.{Names}
 use Rattle.orch_flight.specs.Calling.{HasVid, IsChangeFor, IsEnteredBy, IsEntryOf, IsNextOf, IsOver, things_retired}
 use Rattle.orch_flight.specs.Operation.{Operation}
 use Rattle.orch_flight.specs.Sharing.{owner_for}
-use Rattle.route_orch.specs.Targets.{PointsTo, goal_at, goal_with}
-use Rattle.route_orch.specs.Routes.{Matches, group_hops, group_owners, route_operation}
+use Rattle.route_orch.specs.Targets.{PointsTo, goal_at}
+use Rattle.route_orch.specs.Routes.{route_operation}
 use Rattle.route_orch.specs.declared.flight.RouteStep.{RouteStep}
 use Rattle.route_orch.specs.declared.flight.RouteStep.TheVariants as step
 use Rattle.route_orch.specs.declared.target.Target.{Target}
-use Rattle.route_orch.specs.declared.target.Way.{Way}
-use Rattle.route_orch.specs.declared.target.Way.TheVariants as way
-use Rattle.route_orch.proofs.Goals.{goal-same, goal_uses, to-at, uses-goal}
+use Rattle.route_orch.proofs.Goals.{goal-same, to-at}
 
 -- a route's operation, from what its fields are known to be
 pub route_operation_told : (f : Operation) (w : ℕ) (p : Prefix) (applied wanted wanted' : Option RouteRow) (t : Target) (s s' : RouteStep) (leaves retires : Option Name) → route_operation w p applied wanted t s leaves retires ≡ f → s ≡ s' → wanted ≡ wanted' → f ≡ route_operation w p applied wanted' t s' leaves retires
@@ -123,35 +120,6 @@ module _ (plan : Ports) (p : Prefix) where
     set_goal : (wanted : Option RouteRow) → IsOver plan (Stage step.Set wanted) → (r : RouteRow) × (wanted ≡ Some r) × (goal_of plan r ≡ Some (goal_at t))
     set_goal None over = elim over.sets.1 [ ]
     set_goal (Some r) over = (r, refl, set_like r over.sets.0 over.sets.1 over.sets.2)
-
-    group_known : (group : Option Name) (own : Way) → goal_uses (goal_with group own) ≡ group_owners (group_hops group)
-    group_known None way.Drop = refl
-    group_known None (way.Direct b) = refl
-    group_known None (way.Via hop) = refl
-    group_known (Some (name.Group hops)) own = refl
-    group_known (Some (name.Row k)) way.Drop = refl
-    group_known (Some (name.Row k)) (way.Direct b) = refl
-    group_known (Some (name.Row k)) (way.Via hop) = refl
-    group_known (Some (name.BridgePort lane)) way.Drop = refl
-    group_known (Some (name.BridgePort lane)) (way.Direct b) = refl
-    group_known (Some (name.BridgePort lane)) (way.Via hop) = refl
-    group_known (Some (name.Own ip)) way.Drop = refl
-    group_known (Some (name.Own ip)) (way.Direct b) = refl
-    group_known (Some (name.Own ip)) (way.Via hop) = refl
-
-    goal_group : (wanted : Option RouteRow) → (r : RouteRow) × (wanted ≡ Some r) × (goal_of plan r ≡ Some (goal_at t)) → uses_of plan (key.Route p) (option_map row.Route wanted) ≡ group_owners (group_hops t.group)
-    goal_group wanted (r, has, at) = ap (λ o. uses_of plan (key.Route p) (option_map row.Route o)) has ∙ uses-goal plan r (goal_at t) at ∙ group_known t.group t.way
-
-    by_step : (s : RouteStep) (wanted : Option RouteRow) → Matches s wanted t.group → IsOver plan (Stage s wanted) → ((Stage s wanted).due ≡ [] → ⊥) → uses_of plan (key.Route p) (option_map row.Route wanted) ≡ group_owners (group_hops t.group)
-    by_step step.Make wanted matches over some = goal_group wanted (made_goal wanted over)
-    by_step step.Set wanted matches over some = goal_group wanted (set_goal wanted over)
-    by_step step.Take wanted (none, apart) over some = ap (λ o. uses_of plan (key.Route p) (option_map row.Route o)) none ∙ ap (λ o. group_owners (group_hops o)) (sym apart)
-    by_step step.Changed wanted matches over some = absurd (some refl)
-    by_step step.Ended wanted matches over some = absurd (some refl)
-
-    -- the group that the new row has
-    pub group-over : (s : RouteStep) (wanted : Option RouteRow) (f : Operation) → Stage s wanted ≡ f → Matches s wanted t.group → IsOver plan f → (f.due ≡ [] → ⊥) → uses_of plan f.key f.new ≡ group_owners (group_hops t.group)
-    group-over s wanted f is matches = subst (λ z. IsOver plan z → (z.due ≡ [] → ⊥) → uses_of plan z.key z.new ≡ group_owners (group_hops t.group)) is (by_step s wanted matches)
 
     module _ (names : Names) (r : RouteRow) (x : To Vid) (to : PointsTo names r (goal_at t) x) where
       pub next-make : (f : Operation) → f ≡ Stage step.Make (Some r) → IsOver plan f → IsNextOf plan names f (next.Call (call.Create (body.Route p x)))

@@ -1,5 +1,5 @@
 -- the operation with which a route's start leaves
-use Rattle.std.proofs.Common.{◌≡◌, ℕ, List, Option, Some, None, option_map, Result, Ok, Err, refl, sym, ap, ap₂, subst, ◌∙◌, Bor}
+use Rattle.std.proofs.Common.{◌≡◌, ℕ, Bool, true, false, if◌then◌else◌, List, Option, Some, None, option_map, Result, Ok, Err, refl, sym, ap, ap₂, subst, ◌∙◌, Bor}
 use Rattle.std.proofs.lemmas.Option.{same_Some}
 use Rattle.swss_types.specs.declared.address.Prefix.{Prefix}
 use Rattle.table_schema.specs.Names.{names_of}
@@ -9,18 +9,22 @@ use Rattle.table_schema.specs.declared.key.Key.TheVariants as key
 use Rattle.table_schema.specs.declared.row.Row.{Row}
 use Rattle.table_schema.specs.declared.row.Row.TheVariants as row
 use Rattle.table_schema.specs.declared.row.RouteRow.{RouteRow}
+use Rattle.sai_types.specs.contracts.thing.GoalPartialEq.TheImpl as goal_eq
 use Rattle.switch_model.specs.declared.wait.Wait.{Wait}
 use Rattle.row_layout.specs.Operations.{own_changes, uses_of}
 use Rattle.switch_machine.specs.Flights.{Fits}
+use Rattle.ref_counts.specs.declared.name.Name.{Name}
 use Rattle.ref_counts.specs.Registry.{Names}
 use Rattle.ref_counts.specs.Room.{RoomState}
 use Rattle.orch_flight.specs.Needing.{first_unapplied, wait_of}
 use Rattle.orch_flight.specs.Operation.{Operation}
-use Rattle.orch_flight.specs.Sharing.{MayStart}
+use Rattle.orch_flight.specs.Sharing.{MayStart, owner_for, owners_of}
 use Rattle.orch_flight.specs.Starting.{IsBegunBy, IsStartedBy, begun_names, first_due, first_left, leaving, started_operation}
 use Rattle.orch_flight.proofs.Begins.{none-missing}
 use Rattle.route_orch.specs.Targets.{IsRouteKey, IsRouteRow, IsTargetOf, goal_at}
-use Rattle.route_orch.specs.Routes.{first_operation, first_step, flown, route_due}
+use Rattle.route_orch.specs.Routes.{first_operation, first_step, flown, route_due, route_operation, stands_for}
+use Rattle.route_orch.specs.declared.flight.RouteStep.{RouteStep}
+use Rattle.route_orch.specs.declared.flight.RouteStep.TheVariants as step
 use Rattle.route_orch.specs.declared.target.Target.{Target}
 use Rattle.route_orch.proofs.Dues.{HasGoal, built-apart, fit-goal, none-left, own-due}
 use Rattle.route_orch.proofs.Starts.{started-due}
@@ -40,6 +44,24 @@ route-row plan names (key.Route p) (Some row.Intf) is fits = elim (fits row.Intf
 route-row plan names (key.Route p) (Some row.Addr) is fits = elim (fits row.Addr refl refl) [ ]
 route-row plan names (key.Route p) (Some (row.Neigh mac)) is fits = elim (fits (row.Neigh mac) refl refl) [ ]
 route-row plan names k (Some r) is fits = elim is [ ]
+
+-- the row for which a route stands is the old one at first
+stands-first : (o n : Option RouteRow) (was target : Target) → stands_for (first_step o n was target) o n ≡ o
+stands-first None None was target = refl
+stands-first None (Some r) was target = refl
+stands-first (Some a) None was target = refl
+stands-first (Some a) (Some r) was target = by (goal_eq.ghosts.eq (goal_at was) (goal_at target))
+  where
+    by : (b : Bool) → stands_for (if b then step.Ended else step.Set) (Some a) (Some r) ≡ Some a
+    by true = refl
+    by false = refl
+
+-- what is made of its parts is the first operation
+pub first-made : (worker : ℕ) (p : Prefix) (o n : Option RouteRow) (was target : Target) (s : RouteStep) (leaves : Option Name) → s ≡ first_step o n was target → option_map owner_for leaves ≡ first_left (owners_of target.group) (owners_of was.group)
+    → route_operation worker p o n target s leaves None ≡ first_operation worker p o n was target
+first-made worker p o n was target s leaves is left =
+    ap₂ (λ z l. record { worker = worker; key = key.Route p; now = option_map row.Route (stands_for z o n); new = option_map row.Route n; due = route_due z p (goal_at target); leaves = l; retires = None }) is left
+    ∙ ap (λ z. record { worker = worker; key = key.Route p; now = option_map row.Route z; new = option_map row.Route n; due = route_due (first_step o n was target) p (goal_at target); leaves = first_left (owners_of target.group) (owners_of was.group); retires = None }) (stands-first o n was target)
 
 module _ (plan : Ports) (names : Names) (worker : ℕ) (p : Prefix) (o n : Option RouteRow) (was target : Target) (of_was : IsTargetOf plan (key.Route p) (option_map row.Route o) was) (of_target : IsTargetOf plan (key.Route p) (option_map row.Route n) target) where
   due_first : HasGoal plan o → HasGoal plan n → first_due plan names (key.Route p) (option_map row.Route o) (option_map row.Route n) ≡ route_due (first_step o n was target) p (goal_at target)

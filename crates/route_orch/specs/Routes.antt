@@ -1,5 +1,5 @@
 -- The operation of a route, as far as it is made: the route is made, or set to its new target, or removed. Own.
-use Rattle.std.specs.Prelude.{◌≡◌, ℕ, Bool, true, List, [], ◌∷◌, length, Option, Some, None, option_map, Result, Ok, Err, if◌then◌else◌}
+use Rattle.std.specs.Prelude.{ℕ, Bool, true, List, [], ◌∷◌, length, Option, Some, None, option_map, Result, Ok, Err, if◌then◌else◌}
 use Rattle.swss_types.specs.declared.address.Prefix.{Prefix}
 use Rattle.table_schema.specs.declared.key.Key.TheVariants as key
 use Rattle.table_schema.specs.declared.row.Row.TheVariants as row
@@ -59,17 +59,19 @@ abbrev pub later_step : RouteStep → RouteStep
 later_step step.Set = step.Changed
 later_step _ = step.Ended
 
--- where the route is to go there is no new row, and no group
-abbrev pub Matches : RouteStep → Option RouteRow → Option Name → Type 0
-Matches step.Take new group = (new ≡ None) × (group ≡ None)
-Matches s new group = Unit {0}
+-- what a route's flight is, as far as it is made, and the group that the new row has
+pub record RouteState : Type 0 where
+  pub operation : Operation
+  pub group : Option (List Hop)
+
+abbrev pub operation_in : RouteState → Operation
+operation_in f = f.operation
 
 -- what the route is part of are groups
-pub record IsRouteKept (s : RouteStep) (new : Option RouteRow) (group left going : Option Name) : Type 0 where
+pub record IsRouteKept (group left going : Option Name) : Type 0 where
   pub has : AreGroups group
   pub leaves : AreGroups left
   pub retires : AreGroups going
-  pub matches : Matches s new group
 
 -- the hops of a group's name, where it is one
 abbrev pub group_hops : Option Name → Option (List Hop)

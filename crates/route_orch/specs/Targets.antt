@@ -1,5 +1,5 @@
 -- Where a route points. Own.
-use Rattle.std.specs.Prelude.{◌≡◌, List, [], ◌∷◌, Option, Some, None}
+use Rattle.std.specs.Prelude.{◌≡◌, ◌<◌, length, List, [], ◌∷◌, Option, Some, None}
 use Rattle.table_schema.specs.Plan.{Ports}
 use Rattle.table_schema.specs.declared.key.Key.{Key}
 use Rattle.table_schema.specs.declared.key.Key.TheVariants as key
@@ -34,6 +34,10 @@ abbrev pub IsRouteRow : Option Row → Type 0
 IsRouteRow None = Unit {0}
 IsRouteRow (Some (row.Route r)) = Unit {0}
 IsRouteRow (Some _) = ⊥
+
+abbrev pub HasSeveral : RouteRow → Type 0
+HasSeveral (route.Hops hops) = 1 < length hops
+HasSeveral r = ⊥
 
 -- it is the name of a group, where there is one
 abbrev pub AreGroups : Option Name → Type 0

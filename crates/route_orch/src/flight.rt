@@ -7,10 +7,10 @@ ghost use Rattle.ref_counts.specs.Registry.{state_of};
 ghost use Rattle.ref_counts.specs.declared.name.NameState.TheVariants as state;
 ghost use Rattle.orch_flight.specs.Calling.{IsNextOf, IsOver, KnowsIds};
 ghost use Rattle.orch_flight.specs.Sharing.{MayStart, owner_for};
-ghost use Rattle.orch_flight.specs.Starting.{IsStartedBy, left_names, retired_by};
+ghost use Rattle.orch_flight.specs.Starting.{IsStartedBy, answered, left_names, retired_by};
 ghost use Rattle.orch_flight.specs.Taking.{IsTook, MayTake};
 ghost use Rattle.route_orch.specs.Targets.{AreGroups, IsRouteKey, IsRouteRow};
-ghost use Rattle.route_orch.specs.Routes.{first_operation, first_step, group_hops, group_owners, later_step};
+ghost use Rattle.route_orch.specs.Routes.{first_step, group_hops, group_owners, later_step, operation_in};
 
 use crate::starting::begin;
 use crate::target::{Target, left};
@@ -55,14 +55,13 @@ pub struct RouteFlight {
 }
 
 impl Model for RouteFlight {
-    ghost use Rattle.orch_flight.specs.Operation.{Operation};
-    ghost use Rattle.route_orch.specs.Routes.{IsRouteKept, route_operation};
+    ghost use Rattle.route_orch.specs.Routes.{IsRouteKept, RouteState, group_hops, route_operation};
 
-    ghost Value = { Operation };
+    ghost Value = { RouteState };
 
-    ghost view = { λ f. route_operation f.worker f.prefix f.applied f.wanted f.target f.step f.leaves f.retires };
+    ghost view = { λ f. record { operation = route_operation f.worker f.prefix f.applied f.wanted f.target f.step f.leaves f.retires; group = group_hops f.target.group } };
 
-    ghost invariant = { λ f. IsRouteKept f.step f.wanted f.target.group f.leaves f.retires };
+    ghost invariant = { λ f. IsRouteKept f.target.group f.leaves f.retires };
 }
 
 impl RouteFlight {
@@ -77,11 +76,12 @@ impl RouteFlight {
         worker: u32,
         key: &Key,
         old: Option<&Row>,
-        new: Option<&Row>,
+        new: Option<Row>,
     ) -> Result<Result<RouteFlight, Wait>, OutOfMemory>
         requires key { IsRouteKey key.now }
-        requires may { MayStart plan.now reg.old worker key.now (option_map (λ r. r.now) old) (option_map (λ r. r.now) new) }
-        ensures started { IfOk result (λ answer. IsStartedBy plan.now reg.old room.old used.now worker key.now (option_map (λ r. r.now) old.entry) (option_map (λ r. r.now) new.entry) answer reg.new room.new) }
+        requires may { MayStart plan.now reg.old worker key.now (option_map (λ r. r.now) old) new }
+        ensures started { IfOk result (λ answer. IsStartedBy plan.now reg.old room.old used.now worker key.now (option_map (λ r. r.now) old.entry) new (answered operation_in answer) reg.new room.new) }
+        ensures group { IfOk result (λ answer. IfOk answer (λ f. uses_of plan.now key.now new ≡ group_owners f.group)) }
         ensures err { OnErr result (reg.new ≡ reg.old) }
         ensures err_room { OnErr result (room.new ≡ room.old) }
     {
@@ -89,9 +89,9 @@ impl RouteFlight {
             unreachable!();
         };
         let was = Target::of(alloc, plan, key, old)?;
-        let target = Target::of(alloc, plan, key, new)?;
-        let applied = route_row(old)?;
-        let wanted = route_row(new)?;
+        let given = new.as_ref();
+        let target = Target::of(alloc, plan, key, given)?;
+        let applied = copied_row(old)?;
         match begin(
             alloc,
             plan,
@@ -101,46 +101,32 @@ impl RouteFlight {
             worker,
             key,
             old,
-            new,
+            given,
             &target.group,
         )? {
-            Ok(()) => Ok(Ok(RouteFlight::first(worker, *prefix, applied, wanted, was, target))),
+            Ok(()) => {
+                let wanted = own_row(new);
+                let step = first_step(&applied, &wanted, &was, &target);
+                let leaves = left(was.group, &target.group);
+                Ok(Ok(RouteFlight {
+                    worker,
+                    prefix: *prefix,
+                    applied,
+                    wanted,
+                    target,
+                    step,
+                    leaves,
+                    retires: None,
+                }))
+            }
             Err(wait) => Ok(Err(wait)),
-        }
-    }
-
-    /// The operation of which nothing is made yet.
-    fn first(
-        worker: u32,
-        prefix: Prefix,
-        applied: Option<RouteRow>,
-        wanted: Option<RouteRow>,
-        was: Target,
-        target: Target,
-    ) -> RouteFlight
-        requires was { AreGroups was.group }
-        requires target { AreGroups target.group }
-        requires none { wanted ≡ None → target.group ≡ None }
-        ensures { result ≡ first_operation worker prefix applied wanted was target }
-    {
-        let step = first_step(&applied, &wanted, &was, &target);
-        let leaves = left(was.group, &target.group);
-        RouteFlight {
-            worker,
-            prefix,
-            applied,
-            wanted,
-            target,
-            step,
-            leaves,
-            retires: None,
         }
     }
 
     /// The call that is due, or the end. It takes no memory.
     pub fn next(&self, reg: &Registry) -> Result<Next, OutOfMemory>
-        requires { KnowsIds reg.now self.now }
-        ensures { IfOk result (λ next. (plan : Ports) → IsOver plan self.now → IsNextOf plan reg.now self.now next) }
+        requires { KnowsIds reg.now self.now.operation }
+        ensures { IfOk result (λ next. (plan : Ports) → IsOver plan self.now.operation → IsNextOf plan reg.now self.now.operation next) }
     {
         match (self.step, &self.wanted) {
             (RouteStep::Make, Some(row)) => Ok(Next::Call(Call::Create(Body::Route {
@@ -160,8 +146,9 @@ impl RouteFlight {
     /// The call that was due has taken effect. The route then leaves the group that its new row has no more, and takes it
     /// away where it was the last.
     pub fn took(&mut self, _made: Option<Vid>, reg: &mut Registry)
-        requires { MayTake self.old _made reg.old }
-        ensures { IsTook self.old _made reg.old self.new reg.new }
+        requires { MayTake self.old.operation _made reg.old }
+        ensures took { IsTook self.old.operation _made reg.old self.new.operation reg.new }
+        ensures group { self.new.group ≡ self.old.group }
     {
         self.step = later_step(self.step);
         if let Some(name) = self.leaves.take() {
@@ -169,9 +156,20 @@ impl RouteFlight {
         }
     }
 
+    /// The row that the route is to have.
+    pub fn into_row(self) -> Option<Row>
+        ensures { result ≡ self.operation.new }
+    {
+        let RouteFlight { wanted, .. } = self;
+        match wanted {
+            Some(row) => Some(Row::Route(row)),
+            None => None,
+        }
+    }
+
     /// Whether no call is due.
     pub fn is_over(&self) -> bool
-        ensures { IsTrue result ↔ (self.now.due ≡ []) }
+        ensures { IsTrue result ↔ (self.now.operation.due ≡ []) }
     {
         match self.step {
             RouteStep::Make | RouteStep::Set | RouteStep::Take => false,
@@ -179,16 +177,16 @@ impl RouteFlight {
         }
     }
 
-    /// The group that the new row has, while a call is due.
-    pub fn new_group(&self) -> Option<&Hops>
-        ensures { (plan : Ports) → IsOver plan self.now → (self.now.due ≡ [] → ⊥) → uses_of plan self.now.key self.now.new ≡ group_owners (option_map (λ hops. hops.now) result) }
+    /// The name of the group that the new row has.
+    pub fn group(&self) -> Option<&Name>
+        ensures { option_map (λ name. name.now) result ≡ option_map Name.Group self.now.group }
     {
-        hops_of(&self.target.group)
+        self.target.group.as_ref()
     }
 
     /// The group that it takes away.
     pub fn retired(&self) -> Option<&Hops>
-        ensures { option_map (λ hops. Group hops.now) result ≡ self.now.retires }
+        ensures { option_map (λ hops. Group hops.now) result ≡ self.now.operation.retires }
     {
         match &self.retires {
             Some(Name::Group(hops)) => Some(hops),
@@ -247,18 +245,8 @@ fn part(reg: &mut Registry, worker: u32, prefix: Prefix, group: Name) -> Option<
     }
 }
 
-/// The hops of a group's name, where it is one.
-fn hops_of(group: &Option<Name>) -> Option<&Hops>
-    ensures { option_map (λ hops. hops.now) result ≡ group_hops group.now }
-{
-    match group {
-        Some(Name::Group(hops)) => Some(hops),
-        _ => None,
-    }
-}
-
 /// A copy of a route's row, where there is one.
-fn route_row(given: Option<&Row>) -> Result<Option<RouteRow>, OutOfMemory>
+fn copied_row(given: Option<&Row>) -> Result<Option<RouteRow>, OutOfMemory>
     requires { IsRouteRow (option_map (λ r. r.now) given) }
     ensures { IfOk result (λ route. option_map Row.Route route ≡ option_map (λ r. r.now) given.entry) }
 {
@@ -266,5 +254,17 @@ fn route_row(given: Option<&Row>) -> Result<Option<RouteRow>, OutOfMemory>
         Some(Row::Route(row)) => Ok(Some(row.copy()?)),
         Some(_) => unreachable!(),
         None => Ok(None),
+    }
+}
+
+/// A route's row, where there is one.
+fn own_row(given: Option<Row>) -> Option<RouteRow>
+    requires { IsRouteRow given }
+    ensures { option_map Row.Route result ≡ given }
+{
+    match given {
+        Some(Row::Route(row)) => Some(row),
+        Some(_) => unreachable!(),
+        None => None,
     }
 }

@@ -6,7 +6,7 @@ ghost use Rattle.orch_flight.specs.Starting.{IsBegunBy};
 ghost use Rattle.route_orch.specs.Targets.{AreGroups, IsRouteKey};
 ghost use Rattle.route_orch.specs.Routes.{places_needed};
 
-use orch_flight::{lacks, start_row, try_remove};
+use orch_flight::{start_sharing, try_remove};
 use ref_counts::{Name, Registry, Room};
 use std::alloc::Global;
 use switch_model::Wait;
@@ -64,8 +64,9 @@ fn bring(
 {
     let keys = names(alloc, key, new)?;
     let applied = old.is_some();
-    let need = places_needed(lacks(reg, group), group, applied);
-    start_row(
+    let need = places_needed(false, group, applied);
+    let need_built = places_needed(true, group, applied);
+    let started = start_sharing(
         reg,
         room,
         used,
@@ -75,7 +76,9 @@ fn bring(
         applied,
         group,
         &need,
-    )
+        &need_built,
+    )?;
+    Ok(started.and(Ok(())))
 }
 
 /// The places that a route needs: one for itself where it is new, and those of its group where that is built.

@@ -1,10 +1,10 @@
 // Where a route points.
-ghost use Rattle.std.specs.Prelude.{◌≡◌, Some, option_map, map, IfOk};
+ghost use Rattle.std.specs.Prelude.{◌≡◌, ◌↔◌, Some, option_map, map, IfOk, IsTrue};
 ghost use Rattle.sai_types.specs.contracts.thing.GoalPartialEq.TheImpl as goal_eq;
 ghost use Rattle.orch_flight.specs.Calling.{HaveIds, pointed};
 ghost use Rattle.orch_flight.specs.Sharing.{owner_for, owners_of};
 ghost use Rattle.orch_flight.specs.Starting.{first_left};
-ghost use Rattle.route_orch.specs.Targets.{AreGroups, IsRouteKey, IsRouteRow, IsTargetOf, IsToFirst, PointsTo, goal_at, row_way};
+ghost use Rattle.route_orch.specs.Targets.{AreGroups, HasSeveral, IsRouteKey, IsRouteRow, IsTargetOf, IsToFirst, PointsTo, goal_at, row_way};
 
 use orch_flight::{base_of, shared, vid};
 use ref_counts::{Name, Registry};
@@ -52,10 +52,15 @@ impl Target {
             });
         };
         match row {
-            Row::Route(route) => Ok(Target {
-                group: shared(alloc, plan, key, row)?,
-                way: own_way(plan, route),
-            }),
+            Row::Route(route) => {
+                let group = if has_several(route) {
+                    shared(alloc, plan, key, row)?
+                } else {
+                    None
+                };
+                let way = own_way(plan, route);
+                Ok(Target { group, way })
+            }
             _ => unreachable!(),
         }
     }
@@ -111,6 +116,16 @@ pub fn left(group: Option<Name>, other: &Option<Name>) -> Option<Name>
     match (&group, other) {
         (Some(name), Some(other)) if name == other => None,
         _ => group,
+    }
+}
+
+/// Whether a route's row has several hops: one that has a group has.
+fn has_several(row: &RouteRow) -> bool
+    ensures { IsTrue result ↔ HasSeveral row.now }
+{
+    match row {
+        RouteRow::Hops(hops) => hops.items().len() > 1,
+        RouteRow::Drop | RouteRow::Direct(_) => false,
     }
 }
 

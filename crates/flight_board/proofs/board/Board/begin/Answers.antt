@@ -1,10 +1,10 @@
-use Rattle.std.proofs.Common.{◌≡◌, ◌<◌, ℕ, Ok, Err, IfOk, IfNone, None, refl, sym, subst, ◌∙◌}
+use Rattle.std.proofs.Common.{ℕ, Ok, Err, Some, IfOk, IfNone, refl, sym, ap, subst, ◌∙◌}
 use Rattle.orch_flight.specs.Sharing.{MayStart}
 use Rattle.flight_board.specs.Applied.{row_at}
-use Rattle.flight_board.specs.Board.{BoardState, HasKeyAt, IsFlightBegun, IsBegunFor, IsUnflown, flight_on, flown_at}
+use Rattle.flight_board.specs.Board.{AreKept, BoardState, HasKeyAt, IsFlightBegun, IsBegunFor, IsUnflown, flight_on}
 use Rattle.flight_board.proofs.Events.{begun-err, begun-ok, operation-is, started_operation_told}
-use Rattle.flight_board.proofs.Kept.{kept-begun, kept-moved}
-use Rattle.flight_board.proofs.Places.{none-flown}
+use Rattle.flight_board.proofs.Kept.{kept-begun, kept-moved, kept-with, within}
+use Rattle.flight_board.proofs.Places.{on-same}
 use Rattle.flight_board.proofs.board.Board.begin.Goals as goal
 
 pub start-requires : goal.start-requires
@@ -18,47 +18,16 @@ start-requires c =
 pub invariant_of-self-in-Ok-Ok : goal.invariant_of-self-in-Ok-Ok
 invariant_of-self-in-Ok-Ok c =
     let i = c.self.inside in
-    let free = subst (λ z. IsUnflown z c.args.key.now) (sym c.self.view_is) (subst (λ o. IfNone o (IsUnflown c.args.self.now c.args.key.now)) c.in_default.is c.in_ok-wait.ensures.none) in
-    kept-moved i.plan i.applied c.keep_place.new.self i.workers c.args.key.now c.in_ok-has_row.ensures.others free c.self.invariant
-
-pub go_on-requires-clause-worker : goal.go_on-requires-clause-worker
-go_on-requires-clause-worker c =
-    let i = c.self.inside in
     let k = c.args.key.now in
+    let w = c.args.worker in
     let f = c.in-Ok-Ok.flight in
-    let h = started_operation_told i.plan i.registry i.room c.args.used.now c.args.worker k c.args.new c.start.new.reg c.start.new.room _ (row_at i.applied k) c.in-Ok-Ok.field-0 (Ok f) (c.known_row.ensures ∙ c.in_ok-has_row.ensures.rows k) c.in-Ok-Ok.field-0-is c.in-Ok-Ok.ensures.started in
-    let is = operation-is i.plan i.registry i.room c.args.used.now c.args.worker k c.args.new c.start.new.reg c.start.new.room (row_at i.applied k) f.flown.operation h in
-    subst (λ n. n < 4) (sym is.worker) c.requires.worker
-
-pub go_on-requires-clause-kept : goal.go_on-requires-clause-kept
-go_on-requires-clause-kept c =
-    let i = c.self.inside in
-    let k = c.args.key.now in
-    let f = c.in-Ok-Ok.flight in
-    let h = started_operation_told i.plan i.registry i.room c.args.used.now c.args.worker k c.args.new c.start.new.reg c.start.new.room _ (row_at i.applied k) c.in-Ok-Ok.field-0 (Ok f) (c.known_row.ensures ∙ c.in_ok-has_row.ensures.rows k) c.in-Ok-Ok.field-0-is c.in-Ok-Ok.ensures.started in
-    let is = operation-is i.plan i.registry i.room c.args.used.now c.args.worker k c.args.new c.start.new.reg c.start.new.room (row_at i.applied k) f.flown.operation h in
+    let free = subst (λ z. IsUnflown z k) (sym c.self.view_is) (subst (λ o. IfNone o (IsUnflown c.args.self.now k)) c.in_default.is c.in_ok-wait.ensures.none) in
+    let h = started_operation_told i.plan i.registry i.room c.args.used.now w k c.args.new c.start.new.reg c.start.new.room _ (row_at i.applied k) c.in-Ok-Ok.field-0 (Ok f) (c.known_row.ensures ∙ c.in_ok-has_row.ensures.rows k) c.in-Ok-Ok.field-0-is c.in-Ok-Ok.ensures.started in
+    let is = operation-is i.plan i.registry i.room c.args.used.now w k c.args.new c.start.new.reg c.start.new.room (row_at i.applied k) f.flown.operation h in
     let begun = subst (λ a. IfOk a (IsFlightBegun i.plan k (row_at c.keep_place.new.self k) c.args.new)) c.in-Ok-Ok.field-0-is (subst (λ o. IfOk c.in-Ok-Ok.field-0 (IsFlightBegun i.plan k o c.args.new)) c.known_row.ensures c.in-Ok-Ok.ensures.begun) in
-    kept-begun i.plan c.keep_place.new.self f.flown.operation.worker k c.args.new f (record { worker = refl; key = is.key; row = is.row }) begun c.in_ok-has_row.ensures.place
-
-pub go_on-requires-clause-none : goal.go_on-requires-clause-none
-go_on-requires-clause-none c =
-    let i = c.self.inside in
-    let k = c.args.key.now in
-    let f = c.in-Ok-Ok.flight in
-    let h = started_operation_told i.plan i.registry i.room c.args.used.now c.args.worker k c.args.new c.start.new.reg c.start.new.room _ (row_at i.applied k) c.in-Ok-Ok.field-0 (Ok f) (c.known_row.ensures ∙ c.in_ok-has_row.ensures.rows k) c.in-Ok-Ok.field-0-is c.in-Ok-Ok.ensures.started in
-    let is = operation-is i.plan i.registry i.room c.args.used.now c.args.worker k c.args.new c.start.new.reg c.start.new.room (row_at i.applied k) f.flown.operation h in
-    let none = none-flown (flight_on i.workers c.args.worker) (subst (λ z. flown_at z c.args.worker ≡ None) (sym c.self.view_is) c.requires.none) in
-    subst (λ n. flight_on i.workers n ≡ None) (sym is.worker) none
-
-pub go_on-requires-clause-unflown : goal.go_on-requires-clause-unflown
-go_on-requires-clause-unflown c =
-    let i = c.self.inside in
-    let free = subst (λ z. IsUnflown z c.args.key.now) (sym c.self.view_is) (subst (λ o. IfNone o (IsUnflown c.args.self.now c.args.key.now)) c.in_default.is c.in_ok-wait.ensures.none) in
-    let k = c.args.key.now in
-    let f = c.in-Ok-Ok.flight in
-    let h = started_operation_told i.plan i.registry i.room c.args.used.now c.args.worker k c.args.new c.start.new.reg c.start.new.room _ (row_at i.applied k) c.in-Ok-Ok.field-0 (Ok f) (c.known_row.ensures ∙ c.in_ok-has_row.ensures.rows k) c.in-Ok-Ok.field-0-is c.in-Ok-Ok.ensures.started in
-    let is = operation-is i.plan i.registry i.room c.args.used.now c.args.worker k c.args.new c.start.new.reg c.start.new.room (row_at i.applied k) f.flown.operation h in
-    subst (λ q. (v : ℕ) → HasKeyAt i.workers q v → ⊥) (sym is.key) free
+    subst (AreKept i.plan c.keep_place.new.self) (sym c.put.ensures)
+    (kept-with i.plan c.keep_place.new.self i.workers w f c.requires.worker (kept-begun i.plan c.keep_place.new.self w k c.args.new f is begun c.in_ok-has_row.ensures.place)
+    (subst (λ q. (v : ℕ) → HasKeyAt i.workers q v → ⊥) (sym is.key) free) (kept-moved i.plan i.applied c.keep_place.new.self i.workers k c.in_ok-has_row.ensures.others free c.self.invariant))
 
 pub invariant_of-self-in-Ok-Err : goal.invariant_of-self-in-Ok-Err
 invariant_of-self-in-Ok-Err c =
@@ -79,12 +48,12 @@ returns-in-Ok-Ok-clause-begun c =
     let k = c.args.key.now in
     let f = c.in-Ok-Ok.flight in
     let h = started_operation_told i.plan i.registry i.room c.args.used.now c.args.worker k c.args.new c.start.new.reg c.start.new.room _ (row_at i.applied k) c.in-Ok-Ok.field-0 (Ok f) (c.known_row.ensures ∙ c.in_ok-has_row.ensures.rows k) c.in-Ok-Ok.field-0-is c.in-Ok-Ok.ensures.started in
-    let is = operation-is i.plan i.registry i.room c.args.used.now c.args.worker k c.args.new c.start.new.reg c.start.new.room (row_at i.applied k) f.flown.operation h in
     let begun = subst (λ a. IfOk a (IsFlightBegun i.plan k (row_at c.keep_place.new.self k) c.args.new)) c.in-Ok-Ok.field-0-is (subst (λ o. IfOk c.in-Ok-Ok.field-0 (IsFlightBegun i.plan k o c.args.new)) c.known_row.ensures c.in-Ok-Ok.ensures.begun) in
     let old : BoardState = record { plan = i.plan; names = i.registry; room = i.room; applied = i.applied; flights = i.workers } in
-    let mid : BoardState = record { plan = i.plan; names = c.start.new.reg; room = c.start.new.room; applied = c.keep_place.new.self; flights = i.workers } in
+    let mid : BoardState = record { plan = i.plan; names = c.start.new.reg; room = c.start.new.room; applied = c.keep_place.new.self; flights = c.put.new.self } in
+    let here = ap (λ l. flight_on l c.args.worker) c.put.ensures ∙ on-same i.workers c.args.worker (Some f) (within i.plan i.applied i.workers c.args.worker c.requires.worker c.self.invariant) in
     subst (λ z. IsBegunFor z c.args.used.now c.args.worker k c.args.new (Ok tt) c.go_on.new.self) c.self.view_is
-    (begun-ok old mid c.go_on.new.self c.args.used.now c.args.worker k c.args.new free f h begun.group is.worker refl c.in_ok-has_row.ensures.rows refl c.go_on.ensures)
+    (begun-ok old mid c.go_on.new.self c.args.used.now c.args.worker k c.args.new free f h begun.group refl c.in_ok-has_row.ensures.rows c.put.ensures (c.go_on.ensures f here))
 
 pub returns-in-Ok-Err-clause-begun : goal.returns-in-Ok-Err-clause-begun
 returns-in-Ok-Err-clause-begun c =

@@ -1,32 +1,38 @@
-use Rattle.std.proofs.Common.{Some, slice_set, sym, ap, subst, ◌∙◌}
-use Rattle.std.proofs.lemmas.Bool.{false≢true}
-use Rattle.flight_board.specs.Board.{AreKept, BoardState, BoardFollows, IsKeptFlight, IsUnflown}
-use Rattle.flight_board.proofs.Events.{goes-on}
-use Rattle.flight_board.proofs.Kept.{kept-moved, kept-with, within}
+use Rattle.std.proofs.Common.{◌≡◌, ◌<◌, [], Some, refl, sym, ap, subst, ◌∙◌}
+use Rattle.registry_laws.specs.Flown.{due_for}
+use Rattle.flight_board.specs.Board.{AreKept, BoardFollows, BoardState, FlightState, flight_at}
+use Rattle.flight_board.proofs.Events.{ends}
+use Rattle.flight_board.proofs.Kept.{free-without, kept-moved, kept-without, within}
+use Rattle.flight_board.proofs.Places.{is-held}
 use Rattle.flight_board.proofs.board.Board.go_on.Goals as goal
+
+pub end-requires-clause-worker : goal.end-requires-clause-worker
+end-requires-clause-worker c = subst (λ n. n < 4) (sym (c.self.invariant.each c.args.worker c.in-Some.flight (sym c.in-Some.ensures.value)).worker) c.requires
+
+pub end-requires-clause-placed : goal.end-requires-clause-placed
+end-requires-clause-placed c = (c.self.invariant.each c.args.worker c.in-Some.flight (sym c.in-Some.ensures.value)).placed
 
 pub invariant_of-self : goal.invariant_of-self
 invariant_of-self c =
     let i = c.self.inside in
-    let k = c.args.flight.flown.operation.key in
-    kept-moved i.plan i.applied c.end.new.applied i.workers k c.end.ensures.others (subst (λ z. IsUnflown z k) (sym c.self.view_is) c.requires.unflown) c.self.invariant
+    let w = c.args.worker in
+    let f = c.in-Some.flight in
+    subst (AreKept i.plan c.end.new.applied) (sym c.take.ensures.rest)
+    (kept-moved i.plan i.applied c.end.new.applied _ f.flown.operation.key c.end.ensures.others (free-without i.plan i.applied i.workers w f c.requires c.self.invariant (sym c.in-Some.ensures.value)) (kept-without i.plan i.applied i.workers w c.requires c.self.invariant))
 
-pub invariant_of-self-else-is_over : goal.invariant_of-self-else-is_over
-invariant_of-self-else-is_over c =
+pub invariant_of-self-in_default : goal.invariant_of-self-in_default
+invariant_of-self-in_default c =
     let i = c.self.inside in
-    let f = c.args.flight in
-    let worker = f.flown.operation.worker in
-    subst (AreKept i.plan i.applied) (sym (c.put.ensures ∙ ap (λ n. slice_set i.workers n (Some f)) c.worker-worker.ensures))
-    (kept-with i.plan i.applied i.workers worker f c.requires.worker (subst (λ z. IsKeptFlight z.plan z.applied worker f) (sym c.self.view_is) c.requires.kept) (subst (λ z. IsUnflown z f.flown.operation.key) (sym c.self.view_is) c.requires.unflown) c.self.invariant)
+    subst (AreKept i.plan i.applied) (sym c.take.ensures.rest) (kept-without i.plan i.applied i.workers c.args.worker c.requires c.self.invariant)
 
-pub returns-else-is_over : goal.returns-else-is_over
-returns-else-is_over c =
+pub returns-in-Some : goal.returns-in-Some
+returns-in-Some c =
     let i = c.self.inside in
-    let f = c.args.flight in
-    let worker = f.flown.operation.worker in
-    let old : BoardState = record { plan = i.plan; names = i.registry; room = i.room; applied = i.applied; flights = i.workers } in
-    let new : BoardState = record { plan = i.plan; names = i.registry; room = i.room; applied = i.applied; flights = c.put.new.self } in
-    let kept = subst (λ z. IsKeptFlight z.plan z.applied worker f) (sym c.self.view_is) c.requires.kept in
-    subst (λ z. BoardFollows worker f.flown z.names z.room z new) c.self.view_is
-    (goes-on old worker f c.put.new.self (within i.plan i.applied i.workers worker c.requires.worker c.self.invariant) (c.put.ensures ∙ ap (λ n. slice_set i.workers n (Some f)) c.worker-worker.ensures)
-    (λ none. false≢true (sym c.if-is_over.false ∙ (c.is_over.ensures i.plan kept.shared).1 none)))
+    let w = c.args.worker in
+    let f = c.in-Some.flight in
+    let at = sym c.in-Some.ensures.value in
+    let b : BoardState = record { plan = i.plan; names = i.registry; room = i.room; applied = i.applied; flights = i.workers } in
+    let new : BoardState = record { plan = i.plan; names = c.end.new.reg; room = c.end.new.room; applied = c.end.new.applied; flights = c.take.new.self } in
+    let over = subst (λ z. due_for z.plan z.names f.flown ≡ []) (sym c.self.view_is) ((c.if-not-is_over.ensures f (ap (λ z. flight_at z w) (sym c.self.view_is) ∙ at)).0 refl) in
+    let follows = ends b w f c.take.new.self c.end.new.reg c.end.new.room c.end.new.applied (within i.plan i.applied i.workers w c.requires c.self.invariant) c.take.ensures.rest over (c.self.invariant.each w f at).worker c.end.ensures.names c.end.ensures.room c.end.ensures.row c.end.ensures.others in
+    subst (λ (z : BoardState). (g : FlightState) → flight_at z w ≡ Some g → BoardFollows w g.flown z.names z.room z new) c.self.view_is (is-held i.workers w f (λ g. BoardFollows w g.flown i.registry i.room b new) at follows)
