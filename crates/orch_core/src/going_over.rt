@@ -4,7 +4,7 @@ ghost use Rattle.std.specs.Map.{keys_of};
 ghost use Rattle.table_schema.specs.declared.key.Key.{Key};
 ghost use Rattle.consumer_table.specs.Ops.{AreOpsInOrder, without_op};
 ghost use Rattle.flight_board.specs.Board.{flown_at};
-ghost use Rattle.session_laws.specs.Core.{CoreState};
+ghost use Rattle.session_laws.specs.Core.{CoreState, good_in};
 ghost use Rattle.session_laws.specs.Events.{vid_made_by};
 ghost use Rattle.restart_session_laws.specs.Built.{IsBringing, IsBuilt};
 ghost use Rattle.orch_core.specs.Restarting.{CallsView, GoesOver};
@@ -12,7 +12,7 @@ ghost use Rattle.orch_core.specs.Restarting.{CallsView, GoesOver};
 use crate::Core;
 use sai_types::{Chip, SyncAnswer, Vid};
 use swss_types::OutOfMemory;
-use table_schema::Key;
+use table_schema::{Key, Row};
 
 impl Core {
     /// Goes over the keys to sync: each has its good row, or is brought to the view, or is put on the list of those that wait.
@@ -36,6 +36,22 @@ impl Core {
         ensures ops { (self.new.tables ≡ self.old.tables) ⊎ (self.new.tables ≡ record self.old.tables { ops = without_op self.old.tables.ops key.now }) }
     {
         let new = self.good_row(key)?;
+        self.restore_row(chip, key, new)
+    }
+
+    /// The same, where this is the good row of the key.
+    fn restore_row<C: Chip>(
+        &mut self,
+        chip: &mut C,
+        key: &Key,
+        new: Option<Row>,
+    ) -> Result<(), OutOfMemory>
+        requires built { (first : CoreState) × (rest : List Key) × IsBuilt first self.old (key.now ∷ rest) }
+        requires order { AreOpsInOrder self.old.tables.ops }
+        requires row { new ≡ good_in self.old key.now }
+        ensures over { (first : CoreState) (rest : List Key) → IsBuilt first self.old (key.now ∷ rest) → GoesOver first rest (C.state chip.old) result self.new (C.state chip.new) }
+        ensures ops { (self.new.tables ≡ self.old.tables) ⊎ (self.new.tables ≡ record self.old.tables { ops = without_op self.old.tables.ops key.now }) }
+    {
         if self.is_there(key, new.as_ref()) {
             self.done(key);
             return Ok(());

@@ -1,6 +1,7 @@
 // What the core has its parts do: each call is one of the board, of syncd or of the tables, and the rest of the core stays.
 ghost use Rattle.std.specs.Prelude.{◌≡◌, ◌<◌, ◌^◌, ◌↔◌, ◌⊎◌, [], length, None, Some, IsSome, IsTrue, IfOk, OnOk, OnErr, option_map};
 ghost use Rattle.std.specs.Map.{keys_of};
+ghost use Rattle.row_maps.specs.Entries.{lent_key};
 ghost use Rattle.producer_table.specs.Pending.{ArePendingInOrder};
 ghost use Rattle.consumer_table.specs.Ops.{AreOpsInOrder, first_in, keys_behind};
 ghost use Rattle.retry_list.specs.Reasons.{reason_at, with_reason};
@@ -15,6 +16,7 @@ ghost use Rattle.session_laws.specs.Core.{good_in};
 ghost use Rattle.orch_core.specs.Outcomes.{key_left};
 
 use crate::Core;
+use row_maps::KeyIn;
 use sai_types::{Call, Chip, SyncAnswer, Vid};
 use switch_model::Wait;
 use swss_types::OutOfMemory;
@@ -96,8 +98,9 @@ impl Core {
     }
 
     /// The good row of a key.
-    pub(crate) fn good_row(&self, key: &Key) -> Result<Option<Row>, OutOfMemory>
-        ensures { IfOk result (λ row. row ≡ good_in self.now key.now) }
+    pub(crate) fn good_row(&mut self, key: &Key) -> Result<Option<Row>, OutOfMemory>
+        ensures row { IfOk result (λ row. row ≡ good_in self.old key.now) }
+        ensures same { self.new ≡ self.old }
     {
         self.tables.good_row(self.alloc, self.board.plan(), key)
     }
@@ -126,8 +129,8 @@ impl Core {
     }
 
     /// The first key to sync behind this one. The keys are in order.
-    pub(crate) fn next_key(&self, after: Option<&Key>) -> Option<&Key>
-        ensures next { option_map (λ key. key.now) result ≡ first_in (keys_behind (option_map (λ key. key.now) after.entry) (keys_of self.now.tables.ops)) }
+    pub(crate) fn next_key(&self, after: Option<&Key>) -> Option<KeyIn<'_>>
+        ensures next { option_map lent_key result ≡ first_in (keys_behind (option_map (λ key. key.now) after.entry) (keys_of self.now.tables.ops)) }
         ensures order { AreOpsInOrder self.now.tables.ops }
     {
         self.tables.next_key(after)
@@ -139,7 +142,7 @@ impl Core {
         ensures order { AreOpsInOrder self.now.tables.ops }
     {
         match self.next_key(after) {
-            Some(key) => Ok(Some(key.copy()?)),
+            Some(key) => Ok(Some(key.into_key()?)),
             None => Ok(None),
         }
     }

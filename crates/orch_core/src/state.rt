@@ -1,6 +1,5 @@
 // The core.
 ghost use Rattle.std.specs.Prelude.{◌≡◌};
-ghost use Rattle.sai_types.specs.declared.kind.Kind.{Kind};
 ghost use Rattle.ref_counts.specs.Room.{number_of_kind};
 ghost use Rattle.session_laws.specs.Core.{new_core};
 ghost use Rattle.orch_core.specs.Outcomes.{AreKindsCounted};
@@ -8,7 +7,7 @@ ghost use Rattle.orch_core.specs.Outcomes.{AreKindsCounted};
 use flight_board::Board;
 use retry_list::Retry;
 use row_store::Rows;
-use sai_types::{Caps, Kind};
+use sai_types::Caps;
 use std::alloc::Global;
 use std::marker::Model;
 use switch_model::Log;
@@ -110,18 +109,6 @@ impl Core {
     pub(crate) fn used(&self) -> [u64; 11]
         ensures { AreKindsCounted self.now.sync (number_of_kind result) }
     {
-        [
-            self.syncd.used(Kind::Port),
-            self.syncd.used(Kind::Vlan),
-            self.syncd.used(Kind::BridgePort),
-            self.syncd.used(Kind::VlanMember),
-            self.syncd.used(Kind::Rif),
-            self.syncd.used(Kind::OwnAddress),
-            self.syncd.used(Kind::Neighbor),
-            self.syncd.used(Kind::NextHop),
-            self.syncd.used(Kind::Group),
-            self.syncd.used(Kind::GroupMember),
-            self.syncd.used(Kind::Route),
-        ]
+        self.syncd.counts()
     }
 }

@@ -8,6 +8,7 @@ ghost use Rattle.sync_tables.specs.Tables.{IsToSync};
 ghost use Rattle.flight_board.specs.Applied.{row_at};
 ghost use Rattle.flight_board.specs.Board.{IsUnflown, flown_at};
 ghost use Rattle.warm_state.specs.declared.warm.Warm.TheVariants as warm;
+ghost use Rattle.session_laws.specs.Core.{good_in};
 ghost use Rattle.session_laws.specs.Standing.{IsSessionOf};
 ghost use Rattle.orch_core.specs.Outcomes.{BeginsOrDrops, Begun, IsInSession, Tries};
 
@@ -29,6 +30,20 @@ impl Core {
         ensures { (s : LoggedService) (chip : ChipState) → IsSessionOf self.old chip s → Tries s worker key.now self.old chip result self.new }
     {
         let new = self.good_row(key)?;
+        self.try_row(worker, key, new)
+    }
+
+    /// The same, where this is the good row of the key.
+    fn try_row(&mut self, worker: u32, key: &Key, new: Option<Row>) -> Result<Tried, OutOfMemory>
+        requires worker { worker < 4 }
+        requires session { (chip : ChipState) × IsInSession self.old chip }
+        requires warm { self.old.warm ≡ warm.Reconciled }
+        requires none { flown_at self.old.board worker ≡ None }
+        requires order { AreOpsInOrder self.old.tables.ops }
+        requires key { IsToSync self.old.tables key.now }
+        requires row { new ≡ good_in self.old key.now }
+        ensures { (s : LoggedService) (chip : ChipState) → IsSessionOf self.old chip s → Tries s worker key.now self.old chip result self.new }
+    {
         if self.is_there(key, new.as_ref()) {
             self.leave(key);
             return Ok(Tried::Dropped);
