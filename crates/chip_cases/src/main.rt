@@ -64,13 +64,14 @@ struct Tally {
 fn main(rt: HostRuntime) -> Result<()> {
     let alloc = rt.alloc();
     let mut tally = Tally::default();
+    // A case is large, so that it stands apart from what the program drops wherever it ends.
     let mut case = None;
     for line in BufReader::new(alloc, rt.reader())?.lines(alloc) {
         let line = line.context("the cases")?;
         match line.as_str().strip_prefix("case ") {
             Some(name) => {
                 finish(&rt, case, &mut tally)?;
-                case = Some(Case::new(alloc, name)?);
+                case = Some(Box::new(alloc, Case::new(alloc, name)?)?);
             }
             None => add_line(&rt, alloc, &mut case, line.as_str())?,
         }
@@ -82,7 +83,12 @@ fn main(rt: HostRuntime) -> Result<()> {
 }
 
 /// Does what a line says in the case that has begun.
-fn add_line(rt: &impl Print, alloc: Global, case: &mut Option<Case>, line: &str) -> Result<()> {
+fn add_line(
+    rt: &impl Print,
+    alloc: Global,
+    case: &mut Option<Box<Case>>,
+    line: &str,
+) -> Result<()> {
     if line.is_empty() || line.starts_with('#') {
         return Ok(());
     }
@@ -94,7 +100,7 @@ fn add_line(rt: &impl Print, alloc: Global, case: &mut Option<Case>, line: &str)
 }
 
 /// Counts a case that is complete.
-fn finish(rt: &impl Print, case: Option<Case>, tally: &mut Tally) -> Result<()> {
+fn finish(rt: &impl Print, case: Option<Box<Case>>, tally: &mut Tally) -> Result<()> {
     let Some(case) = case else {
         return Ok(());
     };
