@@ -132,9 +132,14 @@ fn act_once(
     Ok(())
 }
 
-/// Writes and pops, each compared with what is wanted.
+/// Writes and pops, where nothing waits before.
 fn act_each(rt: &impl Abort, alloc: Global) -> Result<(), OutOfMemory> {
     let mut waiting = Waiting::new(alloc);
+    act_on(rt, alloc, &mut waiting)
+}
+
+/// Writes and pops, each compared with what is wanted.
+fn act_on(rt: &impl Abort, alloc: Global, waiting: &mut Waiting) -> Result<(), OutOfMemory> {
     let mut wants = [NONE; 4];
     for act in [
         Act::Pop(128),
@@ -157,7 +162,7 @@ fn act_each(rt: &impl Abort, alloc: Global) -> Result<(), OutOfMemory> {
         Act::Pop(2),
         Act::Pop(u64::MAX),
     ] {
-        act_once(rt, alloc, act, &mut waiting, &mut wants)?;
+        act_once(rt, alloc, act, waiting, &mut wants)?;
     }
     Ok(())
 }

@@ -67,11 +67,16 @@ fn lay(values: &mut Values, from: u64, to: u64, value: u64) {
     fill(values, from, to, value);
 }
 
-/// Applies writes to two keys, and compares after each.
+/// Applies writes to rows, of which there are none before.
 fn apply_each(rt: &impl Abort, alloc: Global) -> Result<(), OutOfMemory> {
+    let mut rows = Rows::new(alloc);
+    apply_on(rt, alloc, &mut rows)
+}
+
+/// Applies writes to two keys, and compares after each.
+fn apply_on(rt: &impl Abort, alloc: Global, rows: &mut Rows) -> Result<(), OutOfMemory> {
     let mut port = NO_VALUES;
     let mut route = NO_VALUES;
-    let mut rows = Rows::new(alloc);
     for (key, from, to, value) in [
         (ROUTE, 2, 4, 1),
         (ROUTE, 1, 3, 2),
@@ -85,9 +90,9 @@ fn apply_each(rt: &impl Abort, alloc: Global) -> Result<(), OutOfMemory> {
         (ROUTE, 0, 0, 0),
     ] {
         let write = write(rt, alloc, key, from, to, value)?;
-        let before = shown(alloc, &rows)?;
+        let before = shown(alloc, rows)?;
         if rows.apply(&write).is_err() {
-            assert_eq!(rt; shown(alloc, &rows)?.as_slice(), before.as_slice());
+            assert_eq!(rt; shown(alloc, rows)?.as_slice(), before.as_slice());
             assert!(rt; rows.apply(&write).is_ok(), "the next try");
         }
         if key == PORT {
@@ -98,7 +103,7 @@ fn apply_each(rt: &impl Abort, alloc: Global) -> Result<(), OutOfMemory> {
         let mut wanted = Vec::new(alloc);
         want_row(alloc, &mut wanted, PORT, &port)?;
         want_row(alloc, &mut wanted, ROUTE, &route)?;
-        assert_eq!(rt; shown(alloc, &rows)?.as_slice(), wanted.as_slice());
+        assert_eq!(rt; shown(alloc, rows)?.as_slice(), wanted.as_slice());
     }
     Ok(())
 }

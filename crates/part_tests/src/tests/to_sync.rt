@@ -141,9 +141,14 @@ fn act_once(
     Ok(())
 }
 
-/// Operations that are added and done, each compared with what is wanted.
+/// Operations that are added and done, where none is there before.
 fn act_each(rt: &impl Abort, alloc: Global) -> Result<(), OutOfMemory> {
     let mut to_sync = ToSync::new(alloc);
+    act_on(rt, alloc, &mut to_sync)
+}
+
+/// Operations that are added and done, each compared with what is wanted.
+fn act_on(rt: &impl Abort, alloc: Global, to_sync: &mut ToSync) -> Result<(), OutOfMemory> {
     let mut wants = [NONE; 4];
     for act in [
         Act::Done(1),
@@ -163,7 +168,7 @@ fn act_each(rt: &impl Abort, alloc: Global) -> Result<(), OutOfMemory> {
         Act::Done(3),
         Act::Done(1),
     ] {
-        act_once(rt, alloc, act, &mut to_sync, &mut wants)?;
+        act_once(rt, alloc, act, to_sync, &mut wants)?;
     }
     Ok(())
 }

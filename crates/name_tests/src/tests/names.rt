@@ -190,20 +190,25 @@ fn shown(alloc: Global, registry: &Registry) -> Result<String, OutOfMemory> {
     Ok(out)
 }
 
-/// Makes each step, and compares after each. A step that is refused memory changes nothing, and is made again.
+/// Makes each step on a new registry.
 fn take_each(rt: &impl Abort, alloc: Global) -> Result<(), OutOfMemory> {
     let mut registry = Registry::new(alloc);
+    take_on(rt, alloc, &mut registry)
+}
+
+/// Makes each step, and compares after each. A step that is refused memory changes nothing, and is made again.
+fn take_on(rt: &impl Abort, alloc: Global, registry: &mut Registry) -> Result<(), OutOfMemory> {
     let mut before = "- - - - -";
     for (step, answer, after) in STEPS {
-        let refusal = match take(alloc, &mut registry, step) {
+        let refusal = match take(alloc, registry, step) {
             Ok(refusal) => refusal,
             Err(_) => {
-                assert_eq!(rt; shown(alloc, &registry)?.as_str(), before);
-                take(alloc, &mut registry, step)?
+                assert_eq!(rt; shown(alloc, registry)?.as_str(), before);
+                take(alloc, registry, step)?
             }
         };
         assert_eq!(rt; format!(in alloc; "{refusal:?}")?.as_str(), answer);
-        assert_eq!(rt; shown(alloc, &registry)?.as_str(), after);
+        assert_eq!(rt; shown(alloc, registry)?.as_str(), after);
         before = after;
     }
     Ok(())

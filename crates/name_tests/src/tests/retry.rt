@@ -189,20 +189,25 @@ fn shown(alloc: Global, keys: &[Key]) -> Result<String, OutOfMemory> {
     Ok(out)
 }
 
-/// Makes each act, and compares after each.
+/// Does each act on a new list.
 fn act_each(rt: &impl Abort, alloc: Global) -> Result<(), OutOfMemory> {
     let mut retry = Retry::new(alloc);
+    act_on(rt, alloc, &mut retry)
+}
+
+/// Does each act, and compares after each.
+fn act_on(rt: &impl Abort, alloc: Global, retry: &mut Retry) -> Result<(), OutOfMemory> {
     let mut before = "";
     for (act, wakes, after) in ACTS {
-        let woken = match act_once(rt, alloc, &mut retry, act) {
+        let woken = match act_once(rt, alloc, retry, act) {
             Ok(woken) => woken,
             Err(_) => {
-                assert_eq!(rt; listed(alloc, &retry)?.as_str(), before);
-                act_once(rt, alloc, &mut retry, act)?
+                assert_eq!(rt; listed(alloc, retry)?.as_str(), before);
+                act_once(rt, alloc, retry, act)?
             }
         };
         assert_eq!(rt; shown(alloc, woken.as_slice())?.as_str(), wakes);
-        assert_eq!(rt; listed(alloc, &retry)?.as_str(), after);
+        assert_eq!(rt; listed(alloc, retry)?.as_str(), after);
         before = after;
     }
     Ok(())
