@@ -1,15 +1,15 @@
 -- what a map finds at its greatest key, and behind it
 use Rattle.std.proofs.Common.{◌≡◌, ◌-◌, false, true, Option, None, Some, refl, sym, ap, ◌∙◌}
-use Rattle.std.specs.BTreeMap.{BTreeMap, IsLowerBound, IsUpperBound, btree_map_len, get, get_by, values}
+use Rattle.std.specs.BTreeMap.{BTreeMap, IsUpperBound, btree_map_len, get, get_by, values}
 use Rattle.std.specs.Cmp.{IsTotalOrder}
 use Rattle.std.specs.HashMap.Eq.{lookup_congr}
 use Rattle.std.specs.List.{IsAmong, slice_get}
 use Rattle.std.specs.Option.{is_some, option_map}
-use Rattle.std.specs.Ordering.{eq_by_cmp, is_eq, is_gt, is_lt, ordering_reverse}
+use Rattle.std.specs.Ordering.{eq_by_cmp, is_eq, is_lt, ordering_reverse}
 use Rattle.std.proofs.lemmas.Cmp.{eq_by_cmp_equiv}
 use Rattle.std.proofs.lemmas.Option.{get_or_from_slice_get, slice_get-map, slice_get_within}
 use Rattle.std.specs.declared.cmp.Ordering.{Ordering}
-use Rattle.std.specs.declared.cmp.Ordering.TheVariants.{Equal, Greater, Less}
+use Rattle.std.specs.declared.cmp.Ordering.TheVariants.{Equal, Greater}
 
 module _ {K X : Type 0} {cmp : K → K → Ordering} (o : IsTotalOrder cmp) (m : BTreeMap K X) (last q : K) where
   -- a key that compares equal to one of the map finds its value
@@ -23,17 +23,6 @@ module _ {K X : Type 0} {cmp : K → K → Ordering} (o : IsTotalOrder cmp) (m :
       let by : (r : Option X) → get_by (cmp q) m ≡ r → r ≡ None = λ r. elim r as (λ r. get_by (cmp q) m ≡ r → r ≡ None) [
         | None ↦ λ _. refl
         | Some x ↦ λ is. let no : true ≡ false = sym less ∙ most q (ap is_some is) in cc
-      ] in
-      by (get_by (cmp q) m) refl
-
-module _ {K X : Type 0} {cmp : K → K → Ordering} (o : IsTotalOrder cmp) (m : BTreeMap K X) (first q : K) where
-  -- a key ahead of all keys finds nothing
-  pub lookup_ahead : IsLowerBound cmp m first → cmp q first ≡ Less → get_by (cmp q) m ≡ None
-  lookup_ahead least ahead =
-      let more : is_gt (cmp first q) ≡ true = ap is_gt (o.antisymm first q ∙ ap ordering_reverse ahead) in
-      let by : (r : Option X) → get_by (cmp q) m ≡ r → r ≡ None = λ r. elim r as (λ r. get_by (cmp q) m ≡ r → r ≡ None) [
-        | None ↦ λ _. refl
-        | Some x ↦ λ is. let no : true ≡ false = sym more ∙ least q (ap is_some is) in cc
       ] in
       by (get_by (cmp q) m) refl
 

@@ -1,5 +1,12 @@
+pub mod Behind
+pub mod Edits
 pub mod Ends
-pub mod Firsts
+pub mod Joins
+pub mod Kept
 pub mod Lasts
+pub mod Lents
+pub mod Nears
+pub mod Places
+pub mod Risings
 pub mod Segments
-pub mod Turns
+pub mod Spots

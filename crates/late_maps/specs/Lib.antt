@@ -1,3 +1,3 @@
+pub mod Chunks
 pub mod Lent
-pub mod Rising
 pub mod Segments

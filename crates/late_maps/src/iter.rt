@@ -3,24 +3,29 @@ ghost use Rattle.std.specs.Prelude.{length};
 ghost use Rattle.std.specs.Iterator.{at_most};
 ghost use Rattle.std.specs.Map.Iter.{TakesFirst, TakesLast, deref_pair};
 
-use std::cmp::Reverse;
-use std::collections::btree_map;
 use std::iter::FusedIterator;
 use std::marker::Model;
+use std::slice;
 
 /// The entries of a map, in rising order of their keys.
 #[derive(Drop)]
 pub struct Iter<'a, K, V> {
-    pub(crate) falling: btree_map::Iter<'a, Reverse<K>, V>,
+    pub(crate) front: slice::Iter<'a, (K, V)>,
+    pub(crate) middle: slice::Iter<'a, Vec<(K, V)>>,
+    pub(crate) back: slice::Iter<'a, (K, V)>,
+    pub(crate) left: usize,
 }
 
 impl<'a, K, V> Model for Iter<'a, K, V> {
-    ghost use Rattle.std.specs.Prelude.{List};
-    ghost use Rattle.late_maps.specs.Rising.{turned_back};
+    ghost use Rattle.std.specs.Prelude.{◌≡◌, List, length};
+    ghost use Rattle.std.specs.Slice.Iter.{iter_rest};
+    ghost use Rattle.late_maps.specs.Chunks.{AreFilled, rest_of};
 
     ghost Value = { List (K × V) };
 
-    ghost view = { λ i. turned_back i.falling };
+    ghost view = { λ i. rest_of (iter_rest i.front) (iter_rest i.middle) (iter_rest i.back) };
+
+    ghost invariant = { λ i. AreFilled (iter_rest i.middle) × (i.left ≡ length (rest_of (iter_rest i.front) (iter_rest i.middle) (iter_rest i.back))) };
 }
 
 impl<'a, K, V> Iterator for Iter<'a, K, V> {
@@ -31,8 +36,22 @@ impl<'a, K, V> Iterator for Iter<'a, K, V> {
     ghost remaining = { λ s. at_most (length s) };
 
     fn next(&mut self) -> Option<(&'a K, &'a V)> {
-        match self.falling.next_back() {
-            Some((key, value)) => Some((&key.0, value)),
+        if let Some(entry) = self.front.next() {
+            self.left -= 1;
+            return Some((&entry.0, &entry.1));
+        }
+        if let Some(chunk) = self.middle.next() {
+            self.front = chunk.as_slice().iter();
+            if let Some(entry) = self.front.next() {
+                self.left -= 1;
+                return Some((&entry.0, &entry.1));
+            }
+        }
+        match self.back.next() {
+            Some(entry) => {
+                self.left -= 1;
+                Some((&entry.0, &entry.1))
+            }
             None => None,
         }
     }
@@ -46,18 +65,32 @@ impl<'a, K, V> Iterator for Iter<'a, K, V> {
 impl<'a, K, V> DoubleEndedIterator for Iter<'a, K, V> {
     ghost next_back_gives = { TakesLast deref_pair };
 
+    #[tactic(auto, using(crate::proofs::Joins::joins))]
     fn next_back(&mut self) -> Option<(&'a K, &'a V)> {
-        match self.falling.next() {
-            Some((key, value)) => Some((&key.0, value)),
+        if let Some(entry) = self.back.next_back() {
+            self.left -= 1;
+            return Some((&entry.0, &entry.1));
+        }
+        if let Some(chunk) = self.middle.next_back() {
+            self.back = chunk.as_slice().iter();
+            if let Some(entry) = self.back.next_back() {
+                self.left -= 1;
+                return Some((&entry.0, &entry.1));
+            }
+        }
+        match self.front.next_back() {
+            Some(entry) => {
+                self.left -= 1;
+                Some((&entry.0, &entry.1))
+            }
             None => None,
         }
     }
 }
 
 impl<'a, K, V> ExactSizeIterator for Iter<'a, K, V> {
-    #[tactic(auto, using(crate::proofs::Turns::rising_length))]
     fn len(&self) -> usize {
-        self.falling.len()
+        self.left
     }
 }
 

@@ -1,4 +1,4 @@
-// A map that is searched from its greatest key on.
+// A map that is searched from where a key was found last, and from its greatest key on.
 ghost use Rattle.std.specs.Prelude.{◌≡◌, ◌+◌, ◌^◌, ◌<◌, IsTrue, true, if◌then◌else◌, [], ◌∷◌, None, Some, is_some, length, IfSome, IfNone, IfOk, IfErr, OnOk, OnErr, option_copied, option_map};
 ghost use Rattle.std.specs.List.{filter, slice_get};
 ghost use Rattle.std.specs.Ordering.{is_lt};
@@ -10,32 +10,35 @@ ghost use Rattle.std.specs.Map.Iter.{ShowsInOrder, ShowsInReverse, deref_pair};
 ghost use Rattle.std.specs.Option.{option_copied_mut};
 
 use crate::Iter;
-use crate::at_ends::get_at_ends;
+use crate::chunks::{Chunks, Place, put, set, spot_of, take};
 use std::alloc::{AllocFailed, Global};
-use std::cmp::{Ordering, Reverse};
-use std::collections::BTreeMap;
+use std::cell::Cell;
 use std::fmt;
 use std::marker::Model;
-use std::ops::Bound;
 
-/// A map whose search begins at its greatest key, so that what comes in key order is put and found at once. It is
-/// otherwise as `BTreeMap`.
+/// How many entries a map has at most.
+const MOST: usize = 9_223_372_036_854_775_807;
+
+/// A map whose search begins where a key was found last, and then at its greatest key, so that what comes in key order, or
+/// is sought once more, is put and found at once. It is otherwise as `BTreeMap`.
 #[derive(Drop)]
 pub struct LateMap<K: Ord, V> {
-    entries: BTreeMap<Reverse<K>, V>,
+    alloc: Global,
+    chunks: Chunks<K, V>,
+    count: usize,
+    // where a key was found or put last: the next one is looked for there first
+    near: Cell<Place>,
 }
 
 impl<K: Ord, V> Model for LateMap<K, V> {
-    ghost use Rattle.std.specs.Prelude.{List};
-    ghost use Rattle.std.specs.List.Sorted.{IsStrictlySortedBy};
-    ghost use Rattle.std.specs.Map.{keys_of};
-    ghost use Rattle.late_maps.specs.Rising.{turned_back, turned};
+    ghost use Rattle.std.specs.Prelude.{◌≡◌, ◌<◌, ◌^◌, List, length};
+    ghost use Rattle.late_maps.specs.Chunks.{HaveRisingKeys, entries_of_chunks};
 
     ghost Value = { List (K × V) };
 
-    ghost view = { λ m. turned_back m.entries.entries };
+    ghost view = { λ m. entries_of_chunks m.chunks.items };
 
-    ghost invariant = { λ m. IsStrictlySortedBy (turned K.cmp) (keys_of m.entries.entries) };
+    ghost invariant = { λ m. HaveRisingKeys K.cmp m.chunks.items × (m.count ≡ length (entries_of_chunks m.chunks.items)) × (m.count < 2 ^ 63) };
 }
 
 impl<K: Ord, V> LateMap<K, V> {
@@ -44,26 +47,28 @@ impl<K: Ord, V> LateMap<K, V> {
         ensures { result ≡ [] }
     {
         LateMap {
-            entries: BTreeMap::new(alloc),
+            alloc,
+            chunks: Vec::new(alloc),
+            count: 0,
+            near: Cell::new(Place { chunk: 0, at: 0 }),
         }
     }
 
     /// How many entries there are.
-    #[tactic(auto, using(crate::proofs::Turns::rising_length, crate::proofs::Turns::rising_sorted))]
     pub fn len(&self) -> usize
         ensures len { result ≡ length self.now }
         ensures small { result < 2 ^ 63 }
         ensures ordered { IsStrictlySortedBy K.cmp (keys_of self.now) }
     {
-        self.entries.len()
+        self.count
     }
 
     /// The entry of the least key: None exactly where there is no entry.
     pub fn first(&self) -> Option<(&K, &V)>
         ensures { option_map deref_pair result ≡ slice_get self.now 0 }
     {
-        match self.entries.last_key_value() {
-            Some((key, value)) => Some((&key.0, value)),
+        match self.chunks.get(0) {
+            Some(chunk) => Some((&chunk[0].0, &chunk[0].1)),
             None => None,
         }
     }
@@ -73,10 +78,11 @@ impl<K: Ord, V> LateMap<K, V> {
         ensures some { IfSome result (λ e. self.old ≡ e ∷ self.new) }
         ensures none { IfNone result ((self.old ≡ []) × (self.new ≡ [])) }
     {
-        match self.entries.pop_last() {
-            Some((key, value)) => Some((key.0, value)),
-            None => None,
+        if self.count == 0 {
+            return None;
         }
+        self.count -= 1;
+        Some(take(&mut self.chunks, 0, 0))
     }
 
     /// The entries, in rising order of their keys.
@@ -88,19 +94,26 @@ impl<K: Ord, V> LateMap<K, V> {
         ensures fits { length self.now < 2 ^ 63 }
     {
         Iter {
-            falling: self.entries.iter(),
+            front: [].iter(),
+            middle: self.chunks.as_slice().iter(),
+            back: [].iter(),
+            left: self.count,
         }
     }
 }
 
-impl<K: Ord + Copy, V> LateMap<K, V> {
+impl<K: Ord, V> LateMap<K, V> {
     ghost use Rattle.late_maps.specs.Lent.{lends_value};
 
-    /// The value of a key. A key at either end, or beyond, is found at once.
+    /// The value of a key. A key that is the greatest, or behind all keys, is found at once.
     pub fn get(&self, key: &K) -> Option<&V>
         ensures { option_copied result ≡ lookup (is_at (K.cmp key.now)) self.now }
     {
-        get_at_ends(&self.entries, &Reverse(*key))
+        let spot = spot_of(self.chunks.as_slice(), &self.near, key);
+        match spot.at {
+            Ok(at) => Some(&self.chunks[spot.chunk][at].1),
+            Err(_) => None,
+        }
     }
 
     /// Whether a key has a value.
@@ -116,11 +129,20 @@ impl<K: Ord + Copy, V> LateMap<K, V> {
         ensures value { option_copied_mut result ≡ lookup (is_at (K.cmp key.now)) self.old }
         ensures ordered { IsStrictlySortedBy K.cmp (keys_of self.old) }
     {
-        self.entries.get_mut(&Reverse(*key))
+        let spot = spot_of(self.chunks.as_slice(), &self.near, key);
+        match spot.at {
+            Ok(at) => match self.chunks.get_mut(spot.chunk) {
+                Some(chunk) => match chunk.get_mut(at) {
+                    Some(entry) => Some(&mut entry.1),
+                    None => None,
+                },
+                None => None,
+            },
+            Err(_) => None,
+        }
     }
 
     /// Gives a key a value, and returns the one that it had.
-    #[tactic(auto, using(crate::proofs::Turns::rising_length, crate::proofs::Turns::rising_sorted))]
     pub fn insert(&mut self, key: K, value: V) -> Result<Option<V>, AllocFailed<(K, V)>>
     where
         K: Drop,
@@ -138,9 +160,23 @@ impl<K: Ord + Copy, V> LateMap<K, V> {
         ensures ordered { IsStrictlySortedBy K.cmp (keys_of self.new) }
         ensures was_ordered { IsStrictlySortedBy K.cmp (keys_of self.old) }
     {
-        match self.entries.insert(Reverse(key), value) {
-            Ok(old) => Ok(old),
-            Err(failed) => Err(unturned(failed)),
+        let spot = spot_of(self.chunks.as_slice(), &self.near, &key);
+        match spot.at {
+            Ok(at) => Ok(Some(set(&mut self.chunks, spot.chunk, at, value))),
+            Err(at) => {
+                if self.count == MOST {
+                    return Err(AllocFailed {
+                        value: (key, value),
+                    });
+                }
+                match put(self.alloc, &mut self.chunks, spot.chunk, at, (key, value)) {
+                    Ok(()) => {
+                        self.count += 1;
+                        Ok(None)
+                    }
+                    Err(failed) => Err(failed),
+                }
+            }
         }
     }
 
@@ -148,29 +184,25 @@ impl<K: Ord + Copy, V> LateMap<K, V> {
     pub fn behind(&self, key: &K) -> Option<&K>
         ensures { option_map (λ found. found.now) result ≡ slice_get (filter (λ other. is_lt (K.cmp key.now other)) (keys_of self.now)) 0 }
     {
-        let key = Reverse(*key);
-        match self
-            .entries
-            .range((Bound::Unbounded, Bound::Excluded(&key)))
-            .next_back()
-        {
-            Some((found, _)) => Some(&found.0),
+        let chunks = self.chunks.as_slice();
+        let spot = spot_of(chunks, &self.near, key);
+        let at = match spot.at {
+            Ok(at) => at + 1,
+            Err(at) => at,
+        };
+        match chunks.get(spot.chunk) {
+            Some(chunk) => match chunk.get(at) {
+                Some(entry) => Some(&entry.0),
+                None => match chunks.get(spot.chunk + 1) {
+                    Some(next) => Some(&next[0].0),
+                    None => None,
+                },
+            },
             None => None,
         }
     }
 
-    /// Whether the first entry, if there is one, is this key's.
-    fn is_first(&self, key: &K) -> bool
-        ensures { IsTrue result → (e : K × V) → slice_get self.now 0 ≡ Some e → is_at (K.cmp key.now) e.0 ≡ true }
-    {
-        match self.first() {
-            Some((first, _)) => key.cmp(first) == Ordering::Equal,
-            None => true,
-        }
-    }
-
-    /// Takes a key and its value away, and returns the value. The least key is taken at once.
-    #[tactic(auto, using(crate::proofs::Turns::removed_rising, crate::proofs::Turns::rising_length, crate::proofs::Turns::rising_sorted))]
+    /// Takes a key and its value away, and returns the value.
     pub fn remove(&mut self, key: &K) -> Option<V>
     where
         K: Drop,
@@ -179,13 +211,15 @@ impl<K: Ord + Copy, V> LateMap<K, V> {
         ensures ordered { IsStrictlySortedBy K.cmp (keys_of self.new) }
         ensures len { length self.new + (if is_some result then 1 else 0) ≡ length self.old }
     {
-        if self.is_first(key) {
-            return match self.pop_first() {
-                Some((_, value)) => Some(value),
-                None => None,
-            };
+        let spot = spot_of(self.chunks.as_slice(), &self.near, key);
+        match spot.at {
+            Ok(at) => {
+                self.count -= 1;
+                let (_, value) = take(&mut self.chunks, spot.chunk, at);
+                Some(value)
+            }
+            Err(_) => None,
         }
-        self.entries.remove(&Reverse(*key))
     }
 }
 
@@ -196,15 +230,5 @@ impl<K: Ord + fmt::Debug, V: fmt::Debug> fmt::Debug for LateMap<K, V> {
             out.entry(key, value);
         }
         out.finish()
-    }
-}
-
-/// The pair that was not put, with its key itself.
-fn unturned<K, V>(failed: AllocFailed<(Reverse<K>, V)>) -> AllocFailed<(K, V)>
-    ensures { result.value ≡ (failed.value.0.0, failed.value.1) }
-{
-    let (Reverse(key), value) = failed.value;
-    AllocFailed {
-        value: (key, value),
     }
 }

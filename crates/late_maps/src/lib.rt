@@ -1,7 +1,7 @@
-//! Maps whose greatest key is looked at first, for keys that come in their order.
+//! Maps that are searched from where a key was found last, and from the greatest on, for keys that come in their order.
 #![tactic(auto)]
 
-mod at_ends;
+mod chunks;
 mod iter;
 mod late;
 mod late_map;

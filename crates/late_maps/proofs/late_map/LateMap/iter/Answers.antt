@@ -1,7 +1,6 @@
 use Rattle.std.proofs.Common.{length, ap}
 use Rattle.std.proofs.iter.runs.Sources.{from_back, from_front}
 use Rattle.std.specs.Map.Iter.{TakesFirst, TakesLast, deref_pair}
-use Rattle.late_maps.proofs.Turns.{rising_length, rising_sorted}
 use Rattle.late_maps.proofs.late_map.LateMap.iter.Goals as goal
 
 pub returns-clause-runs : goal.returns-clause-runs
@@ -9,9 +8,3 @@ returns-clause-runs g c = from_front (TakesFirst deref_pair) deref_pair (λ s. s
 
 pub returns-clause-runs_back : goal.returns-clause-runs_back
 returns-clause-runs_back g c = from_back (TakesLast deref_pair) deref_pair (λ s. s) (λ s t h. ap length h.0) (λ s x t h. h)
-
-pub returns-clause-ordered : goal.returns-clause-ordered
-returns-clause-ordered g c = rw (← c.self.view_is) (rising_sorted g.met.K.Ord.total c.self.inside.entries.entries c.self.invariant)
-
-pub returns-clause-fits : goal.returns-clause-fits
-returns-clause-fits g c = rw (← c.self.view_is, rising_length) c.iter.ensures.fits
