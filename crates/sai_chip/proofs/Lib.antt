@@ -3,6 +3,7 @@ mod Answered
 mod Changed
 mod Clashes
 mod Failed
+mod GroupHops
 mod GroupNames
 mod HopSets
 mod Indexed

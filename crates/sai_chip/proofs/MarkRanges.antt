@@ -52,7 +52,7 @@ record IsAbove (g : Rid) (p : Rid × Rid) : Type 0 where
   less : (n : Rid) → pair_cmp (g, n) p ≡ Less
   other : same_id p.0 g ≡ false
 
-rid_tied : (a b : Rid) → same_id b a ≡ is_eq (rid_cmp a b)
+pub rid_tied : (a b : Rid) → same_id b a ≡ is_eq (rid_cmp a b)
 rid_tied a b = search rules
 
 place_by : (g h n : Rid) (r : Ordering) → rid_cmp g h ≡ r → IsBelow g (h, n) ⊎ ((same_id h g ≡ true) ⊎ IsAbove g (h, n))

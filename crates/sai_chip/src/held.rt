@@ -17,9 +17,9 @@ use crate::counts::Counts;
 use crate::mark::TakenMark;
 use crate::names::{GroupHops, thing_at};
 use crate::things::hops_of;
+use late_maps::LateMap;
 use sai_types::{Attr, Body, Entry, Hops, Kind, ListAnswer, Object, Rid, Thing, To};
 use std::alloc::Global;
-use std::collections::BTreeMap;
 use std::marker::Model;
 use swss_types::OutOfMemory;
 
@@ -183,9 +183,9 @@ impl Held {
 
     /// The hops of the group by whose hops an object is named, where there is one.
     fn groups_in(&self, entry: &Entry<Rid>, body: &Body<Rid>) -> Result<GroupHops, OutOfMemory>
-        ensures { IfOk result (λ groups. HasHops self.now entry.now body.now groups.entries) }
+        ensures { IfOk result (λ groups. HasHops self.now entry.now body.now groups) }
     {
-        let mut groups = BTreeMap::new(self.alloc);
+        let mut groups = LateMap::new(self.alloc);
         if let Some(group) = group_in(entry, body) {
             groups.insert(group, self.hops(group)?)?;
         }

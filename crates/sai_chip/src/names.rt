@@ -8,13 +8,13 @@ ghost use Rattle.sai_chip.specs.Naming.{hops_in};
 
 use crate::bodies::Numbered;
 use crate::known::Known;
+use late_maps::LateMap;
 use sai_types::{Base, Body, Entry, Goal, Hop, Hops, PortThing, Rid, RifOn, Thing, To};
 use std::alloc::Global;
-use std::collections::BTreeMap;
 use swss_types::{Ip, Mac, OutOfMemory, Prefix, Tagging};
 
 /// The hops of each group that has members: None where a member's next hop is absent.
-pub type GroupHops = BTreeMap<Rid, Option<Hops>>;
+pub type GroupHops = LateMap<Rid, Option<Hops>>;
 
 /// The body with this identifier.
 fn body_at<'a>(bodies: &'a Numbered, id: Rid) -> Option<&'a Body<Rid>>
@@ -93,7 +93,7 @@ pub fn next_hop_at(bodies: &Numbered, next_hop: Rid) -> Option<Hop>
 
 /// The hops of a group once more, without a hop where it has no member.
 fn hops_at(alloc: Global, groups: &GroupHops, group: Rid) -> Result<Option<Hops>, OutOfMemory>
-    ensures { IfOk result (λ hops. hops ≡ hops_in groups.now.entries group) }
+    ensures { IfOk result (λ hops. hops ≡ hops_in groups.now group) }
 {
     Ok(match groups.get(&group) {
         Some(Some(hops)) => Some(hops.copy()?),
@@ -109,7 +109,7 @@ fn goal_at(
     groups: &GroupHops,
     to: &To<Rid>,
 ) -> Result<Option<Goal>, OutOfMemory>
-    ensures { IfOk result (λ goal. goal ≡ goal_by (hops_in groups.now.entries) (numbered bodies.now) to.now) }
+    ensures { IfOk result (λ goal. goal ≡ goal_by (hops_in groups.now) (numbered bodies.now) to.now) }
 {
     Ok(match to {
         To::Drop => Some(Goal::Drop),
@@ -121,7 +121,7 @@ fn goal_at(
 
 /// Whether what a route points to is there.
 pub fn leads(known: &Known, groups: &GroupHops, to: &To<Rid>) -> bool
-    ensures { result ≡ is_some (goal_by (hops_in groups.now.entries) known.now to.now) }
+    ensures { result ≡ is_some (goal_by (hops_in groups.now) known.now to.now) }
 {
     match to {
         To::Drop => true,
@@ -133,7 +133,7 @@ pub fn leads(known: &Known, groups: &GroupHops, to: &To<Rid>) -> bool
 
 /// Whether the next hop of each member of a group is there.
 fn has_hops(groups: &GroupHops, group: Rid) -> bool
-    ensures { result ≡ is_some (hops_in groups.now.entries group) }
+    ensures { result ≡ is_some (hops_in groups.now group) }
 {
     match groups.get(&group) {
         Some(hops) => hops.is_some(),
@@ -149,7 +149,7 @@ pub fn thing_at(
     entry: &Entry<Rid>,
     body: &Body<Rid>,
 ) -> Result<Option<Thing>, OutOfMemory>
-    ensures { IfOk result (λ thing. thing ≡ thing_by (hops_in groups.now.entries) (numbered bodies.now) (entry.now, body.now)) }
+    ensures { IfOk result (λ thing. thing ≡ thing_by (hops_in groups.now) (numbered bodies.now) (entry.now, body.now)) }
 {
     match body {
         Body::Port {
@@ -190,7 +190,7 @@ fn route_at(
     prefix: Prefix,
     to: &To<Rid>,
 ) -> Result<Option<Thing>, OutOfMemory>
-    ensures { IfOk result (λ thing. thing ≡ option_map (Thing.Route prefix) (goal_by (hops_in groups.now.entries) (numbered bodies.now) to.now)) }
+    ensures { IfOk result (λ thing. thing ≡ option_map (Thing.Route prefix) (goal_by (hops_in groups.now) (numbered bodies.now) to.now)) }
 {
     match goal_at(alloc, bodies, groups, to)? {
         Some(goal) => Ok(Some(Thing::Route(prefix, goal))),
@@ -221,7 +221,7 @@ fn group_at(
     groups: &GroupHops,
     entry: &Entry<Rid>,
 ) -> Result<Option<Thing>, OutOfMemory>
-    ensures { IfOk result (λ thing. thing ≡ thing_by (hops_in groups.now.entries) [] (entry.now, Body.Group)) }
+    ensures { IfOk result (λ thing. thing ≡ thing_by (hops_in groups.now) [] (entry.now, Body.Group)) }
 {
     match entry {
         Entry::Oid(group) => Ok(hops_at(alloc, groups, *group)?.map(Thing::Group)),
@@ -236,7 +236,7 @@ pub fn group_member_at(
     group: Rid,
     hop: Option<Hop>,
 ) -> Result<Option<Thing>, OutOfMemory>
-    ensures { IfOk result (λ thing. thing ≡ both Thing.GroupMember (hops_in groups.now.entries group) hop) }
+    ensures { IfOk result (λ thing. thing ≡ both Thing.GroupMember (hops_in groups.now group) hop) }
 {
     let Some(hop) = hop else {
         return Ok(None);

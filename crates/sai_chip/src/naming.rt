@@ -26,7 +26,7 @@ impl Model for Names {
 
     ghost Value = { NameTable };
 
-    ghost view = { λ n. record { bodies = n.known; groups = n.groups.entries } };
+    ghost view = { λ n. record { bodies = n.known; groups = n.groups } };
 }
 
 impl Names {

@@ -17,7 +17,6 @@ use crate::names::{GroupHops, next_hop_at, thing_at};
 use late_maps::LateMap;
 use sai_types::{Body, Entry, Hop, Hops, Object, Rid, Thing};
 use std::alloc::Global;
-use std::collections::BTreeMap;
 use swss_types::OutOfMemory;
 
 /// Each object with its identifiers replaced by natural keys, a group by the hops of its members, in rising order.
@@ -71,9 +70,9 @@ pub fn group_hops(
     known: &Known,
     objects: &[Object<Rid>],
 ) -> Result<GroupHops, OutOfMemory>
-    ensures { IfOk result (λ groups. AreHops known.now (entries_of objects.now) groups.entries) }
+    ensures { IfOk result (λ groups. AreHops known.now (entries_of objects.now) groups) }
 {
-    let mut groups = BTreeMap::new(alloc);
+    let mut groups = LateMap::new(alloc);
     let mut left = objects.len();
     while 0 < left {
         left -= 1;
@@ -89,7 +88,7 @@ fn put_member(
     groups: &mut GroupHops,
     body: &Body<Rid>,
 ) -> Result<(), OutOfMemory>
-    ensures { OnOk result ((g : Rid) → hops_in groups.new.entries g ≡ with_member known.now g body.now (hops_in groups.old.entries g)) }
+    ensures { OnOk result ((g : Rid) → hops_in groups.new g ≡ with_member known.now g body.now (hops_in groups.old g)) }
 {
     match body {
         Body::GroupMember { group, next_hop } => {
@@ -106,7 +105,7 @@ fn put_hop(
     group: Rid,
     hop: Option<Hop>,
 ) -> Result<(), OutOfMemory>
-    ensures { OnOk result ((g : Rid) → hops_in groups.new.entries g ≡ with_hop group hop g (hops_in groups.old.entries g)) }
+    ensures { OnOk result ((g : Rid) → hops_in groups.new g ≡ with_hop group hop g (hops_in groups.old g)) }
 {
     let others = match groups.remove(&group) {
         Some(others) => others,
@@ -152,7 +151,7 @@ fn list_things(
     groups: &GroupHops,
     objects: &[Object<Rid>],
 ) -> Result<Vec<Thing>, OutOfMemory>
-    ensures { IfOk result (λ things. things.items ≡ those (map (thing_by (hops_in groups.now.entries) (numbered bodies.now)) (entries_of objects.now))) }
+    ensures { IfOk result (λ things. things.items ≡ those (map (thing_by (hops_in groups.now) (numbered bodies.now)) (entries_of objects.now))) }
 {
     let mut things = Vec::new(alloc);
     for object in objects {

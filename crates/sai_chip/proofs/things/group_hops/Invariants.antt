@@ -6,7 +6,7 @@ use Rattle.sai_chip.proofs.things.group_hops.Given as goal
 abbrev pub invariant-loop-left : goal.invariant-loop-left
 invariant-loop-left l = record {
   within : l.left ≤ length l.objects;
-  found : AreHops l.known (entries_of (drop l.left l.objects)) l.groups.entries;
+  found : AreHops l.known (entries_of (drop l.left l.objects)) l.groups;
 }
 
 abbrev pub decreases-loop-left : goal.decreases-loop-left

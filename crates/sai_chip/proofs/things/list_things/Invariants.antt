@@ -7,5 +7,5 @@ use Rattle.sai_chip.proofs.things.list_things.Given as goal
 -- the things so far, with those of the objects that are left, are the things of all
 abbrev pub invariant-loop-object : goal.invariant-loop-object
 invariant-loop-object l =
-    l.things.items ++ those (map (thing_by (hops_in l.groups.entries) (numbered l.bodies)) (entries_of (drop l.object-index l.objects)))
-    ≡ those (map (thing_by (hops_in l.groups.entries) (numbered l.bodies)) (entries_of l.objects))
+    l.things.items ++ those (map (thing_by (hops_in l.groups) (numbered l.bodies)) (entries_of (drop l.object-index l.objects)))
+    ≡ those (map (thing_by (hops_in l.groups) (numbered l.bodies)) (entries_of l.objects))

@@ -9,7 +9,7 @@ use Rattle.sai_chip.proofs.held.Held.thing_by.Goals as goal
 pub returns : goal.returns
 returns c =
     let bodies = numbered c.numbered.result.now in
-    let groups = c.in_ok-groups.groups.entries in
+    let groups = c.in_ok-groups.groups in
     let found = subst (λ o. AreBodies o bodies) c.self.view_is c.numbered.ensures in
     let named : thing_by (hops_in groups) bodies (c.args.entry.now, c.in-Some.body.now) ≡ thing_of c.args.self.now (c.args.entry.now, c.in-Some.body.now) =
     thing_by-same bodies c.args.self.now found (hops_in groups) (hops_in groups) (λ r. refl) c.args.entry.now c.in-Some.body.now
