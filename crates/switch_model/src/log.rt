@@ -7,6 +7,10 @@ use std::marker::Model;
 use swss_types::OutOfMemory;
 use table_schema::Sent;
 
+/// For how many writes there is room from the first on. A list that grows from nothing leaves its smaller places behind it;
+/// memory that nothing was written to takes no place.
+const FIRST_WRITES: usize = 65_536;
+
 /// What happened in a session: the writes taken, in order; the marks, in order; and the ends of the rounds, each the
 /// number of marks at it.
 #[derive(Debug, Drop)]
@@ -75,6 +79,9 @@ impl Log {
         ensures ok { OnOk result (self.new ≡ with_write self.old sent) }
         ensures err { OnErr result (self.new ≡ self.old) }
     {
+        if self.taken.is_empty() {
+            self.taken.reserve(FIRST_WRITES)?;
+        }
         self.taken.push(sent)?;
         Ok(())
     }
