@@ -42,9 +42,9 @@ no_route_apart k p out = refl
 routes_same : (p q : Prefix) → key_cmp (key.Route p) (key.Route q) ≡ prefix_cmp p q
 routes_same p q = refl
 
-module _ (p : Inside) (h : AllByRecursion ComesBeforeRoutes (keys_of p.rows.entries)) where
+module _ (p : Inside) (h : AllByRecursion ComesBeforeRoutes (keys_of p.rows)) where
   abbrev the_rows : Kept
-  the_rows = p.rows.entries
+  the_rows = p.rows
 
   abbrev the_routes : Kept
   the_routes = renamed key.Route p.routes

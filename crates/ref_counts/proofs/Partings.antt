@@ -78,21 +78,21 @@ group_above (name.Group other) hops lt = absurd (omega arith)
 pub turned : (n m : Name) → IsAbove n m → IsBelow m n
 turned n m is = name_total.antisymm m n ∙ ap ordering_reverse is
 
-module _ (r : Inside) (h : AreParted r.rows r.others.entries) where
+module _ (r : Inside) (h : AreParted r.rows r.others) where
   abbrev the_rows : Names
   the_rows = renamed name.Row r.rows
 
   abbrev the_neighbors : Names
-  the_neighbors = renamed neighbor_name r.neighbors.entries
+  the_neighbors = renamed neighbor_name r.neighbors
 
   abbrev the_routes : Names
   the_routes = renamed route_name r.routes
 
   abbrev the_groups : Names
-  the_groups = renamed name.Group r.groups.entries
+  the_groups = renamed name.Group r.groups
 
   abbrev behind_routes : Names
-  behind_routes = r.others.entries ++ the_groups
+  behind_routes = r.others ++ the_groups
 
   abbrev behind_neighbors : Names
   behind_neighbors = the_routes ++ behind_routes
@@ -102,12 +102,12 @@ module _ (r : Inside) (h : AreParted r.rows r.others.entries) where
 
   -- what stands behind a part is above what comes before
   groups_above : (n : Name) → name_place n < place_of_groups → AllAbove registered_name_cmp n the_groups
-  groups_above n lt = all-named (IsAbove n) name.Group (λ hops. group_above n hops lt) r.groups.entries
+  groups_above n lt = all-named (IsAbove n) name.Group (λ hops. group_above n hops lt) r.groups
 
   behind_routes_above : (k : Key) → table_place k ≤ place_of_routes → AllAbove registered_name_cmp (name.Row k) behind_routes
   behind_routes_above k le =
-      let others = all-kept (IsAbove (name.Row k)) IsAmongOthers (λ m is. let first = is.0 in row_below k m (omega arith)) r.others.entries h.of_others in
-      all-all_names (IsAbove (name.Row k)) r.others.entries the_groups others (groups_above (name.Row k) (omega arith))
+      let others = all-kept (IsAbove (name.Row k)) IsAmongOthers (λ m is. let first = is.0 in row_below k m (omega arith)) r.others h.of_others in
+      all-all_names (IsAbove (name.Row k)) r.others the_groups others (groups_above (name.Row k) (omega arith))
 
   behind_neighbors_above : (k : Key) → table_place k < place_of_routes → AllAbove registered_name_cmp (name.Row k) behind_neighbors
   behind_neighbors_above k lt =
@@ -116,7 +116,7 @@ module _ (r : Inside) (h : AreParted r.rows r.others.entries) where
 
   behind_rows_above : (k : Key) → IsAmongRows k → AllAbove registered_name_cmp (name.Row k) behind_rows
   behind_rows_above k lt =
-      let neighbors = all-named (IsAbove (name.Row k)) neighbor_name (λ a. row_below k (neighbor_name a) lt) r.neighbors.entries in
+      let neighbors = all-named (IsAbove (name.Row k)) neighbor_name (λ a. row_below k (neighbor_name a) lt) r.neighbors in
       all-all_names (IsAbove (name.Row k)) the_neighbors behind_neighbors neighbors (behind_neighbors_above k (omega arith))
 
   -- a part is below what comes behind it
@@ -124,21 +124,21 @@ module _ (r : Inside) (h : AreParted r.rows r.others.entries) where
   rows_below n le = all-renamed (IsBelow n) name.Row IsAmongRows (λ k is. turned (name.Row k) n (row_below k n (omega arith))) r.rows h.of_rows
 
   neighbors_below : (n : Name) → place_of_neighbors < name_place n → AllBelow registered_name_cmp n the_neighbors
-  neighbors_below n lt = all-named (IsBelow n) neighbor_name (λ a. turned (neighbor_name a) n (row_below (key.Neigh a.0 a.1) n lt)) r.neighbors.entries
+  neighbors_below n lt = all-named (IsBelow n) neighbor_name (λ a. turned (neighbor_name a) n (row_below (key.Neigh a.0 a.1) n lt)) r.neighbors
 
   routes_below : (n : Name) → place_of_routes < name_place n → AllBelow registered_name_cmp n the_routes
   routes_below n lt = all-named (IsBelow n) route_name (λ p. turned (route_name p) n (row_below (key.Route p) n lt)) r.routes
 
-  others_below : (hops : List Hop) → AllBelow registered_name_cmp (name.Group hops) r.others.entries
-  others_below hops = all-kept (IsBelow (name.Group hops)) IsAmongOthers (λ m is. turned m (name.Group hops) (group_above m hops is.1)) r.others.entries h.of_others
+  others_below : (hops : List Hop) → AllBelow registered_name_cmp (name.Group hops) r.others
+  others_below hops = all-kept (IsBelow (name.Group hops)) IsAmongOthers (λ m is. turned m (name.Group hops) (group_above m hops is.1)) r.others h.of_others
 
   -- each part stands in the whole
-  pub row-stands : (k : Key) → IsAmongRows k → StandsIn key_cmp k registered_name_cmp (name.Row k) r.rows (λ l. all_names l r.neighbors.entries r.routes r.others.entries r.groups.entries)
+  pub row-stands : (k : Key) → IsAmongRows k → StandsIn key_cmp k registered_name_cmp (name.Row k) r.rows (λ l. all_names l r.neighbors r.routes r.others r.groups)
   row-stands k is = StandsIn-above (StandsIn-renamed key_cmp registered_name_cmp name.Row rows_same k r.rows) behind_rows (behind_rows_above k is)
 
-  pub neighbor-stands : (a : Neighbor) → StandsIn neighbor_cmp a registered_name_cmp (neighbor_name a) r.neighbors.entries (λ l. all_names r.rows l r.routes r.others.entries r.groups.entries)
+  pub neighbor-stands : (a : Neighbor) → StandsIn neighbor_cmp a registered_name_cmp (neighbor_name a) r.neighbors (λ l. all_names r.rows l r.routes r.others r.groups)
   neighbor-stands a =
-      let own = StandsIn-renamed neighbor_cmp registered_name_cmp neighbor_name neighbors_same a r.neighbors.entries in
+      let own = StandsIn-renamed neighbor_cmp registered_name_cmp neighbor_name neighbors_same a r.neighbors in
       let first = StandsIn-above own behind_neighbors (behind_neighbors_above (key.Neigh a.0 a.1) (omega arith)) in
       StandsIn-below first the_rows (rows_below (neighbor_name a) (omega arith))
 
@@ -146,46 +146,49 @@ module _ (r : Inside) (h : AreParted r.rows r.others.entries) where
   past_neighbors : {K : Type 0} (own : K → K → Ordering) (k : K) (n : Name) (part : List (K × Registered)) (whole : List (K × Registered) → Names) → place_of_neighbors < name_place n → StandsIn own k registered_name_cmp n part whole → StandsIn own k registered_name_cmp n part (λ l. the_rows ++ (the_neighbors ++ whole l))
   past_neighbors own k n part whole lt s = StandsIn-below (StandsIn-below s the_neighbors (neighbors_below n lt)) the_rows (rows_below n (omega arith))
 
-  pub route-stands : (p : Prefix) → StandsIn prefix_cmp p registered_name_cmp (route_name p) r.routes (λ l. all_names r.rows r.neighbors.entries l r.others.entries r.groups.entries)
+  pub route-stands : (p : Prefix) → StandsIn prefix_cmp p registered_name_cmp (route_name p) r.routes (λ l. all_names r.rows r.neighbors l r.others r.groups)
   route-stands p =
       let own = StandsIn-renamed prefix_cmp registered_name_cmp route_name routes_same p r.routes in
       past_neighbors _ _ _ _ _ (omega arith) (StandsIn-above own behind_routes (behind_routes_above (key.Route p) (omega arith)))
 
-  pub other-stands : (n : Name) → IsAmongOthers n → StandsIn registered_name_cmp n registered_name_cmp n r.others.entries (λ l. all_names r.rows r.neighbors.entries r.routes l r.groups.entries)
+  pub other-stands : (n : Name) → IsAmongOthers n → StandsIn registered_name_cmp n registered_name_cmp n r.others (λ l. all_names r.rows r.neighbors r.routes l r.groups)
   other-stands n is =
       let place = is.0 in
-      let first = StandsIn-above (StandsIn-itself registered_name_cmp n r.others.entries) the_groups (groups_above n is.1) in
+      let first = StandsIn-above (StandsIn-itself registered_name_cmp n r.others) the_groups (groups_above n is.1) in
       past_neighbors _ _ _ _ _ (omega arith) (StandsIn-below first the_routes (routes_below n is.0))
 
-  pub group-stands : (hops : List Hop) → StandsIn hops_cmp hops registered_name_cmp (name.Group hops) r.groups.entries (λ l. all_names r.rows r.neighbors.entries r.routes r.others.entries l)
+  pub group-stands : (hops : List Hop) → StandsIn hops_cmp hops registered_name_cmp (name.Group hops) r.groups (λ l. all_names r.rows r.neighbors r.routes r.others l)
   group-stands hops =
-      let own = StandsIn-renamed hops_cmp registered_name_cmp name.Group groups_same hops r.groups.entries in
-      past_neighbors _ _ _ _ _ (omega arith) (StandsIn-below (StandsIn-below own r.others.entries (others_below hops)) the_routes (routes_below (name.Group hops) (omega arith)))
+      let own = StandsIn-renamed hops_cmp registered_name_cmp name.Group groups_same hops r.groups in
+      past_neighbors _ _ _ _ _ (omega arith) (StandsIn-below (StandsIn-below own r.others (others_below hops)) the_routes (routes_below (name.Group hops) (omega arith)))
 
   -- parts in order are one list in order
-  pub all_names-sorted : IsStrictlySortedBy key_cmp (keys_of r.rows) → IsStrictlySortedBy neighbor_cmp (keys_of r.neighbors.entries) → IsStrictlySortedBy prefix_cmp (keys_of r.routes) → IsStrictlySortedBy registered_name_cmp (keys_of r.others.entries) → IsStrictlySortedBy hops_cmp (keys_of r.groups.entries) → IsStrictlySortedBy registered_name_cmp (keys_of (the_rows ++ behind_rows))
+  pub all_names-sorted : IsStrictlySortedBy key_cmp (keys_of r.rows) → IsStrictlySortedBy neighbor_cmp (keys_of r.neighbors) → IsStrictlySortedBy prefix_cmp (keys_of r.routes) → IsStrictlySortedBy registered_name_cmp (keys_of r.others) → IsStrictlySortedBy hops_cmp (keys_of r.groups) → IsStrictlySortedBy registered_name_cmp (keys_of (the_rows ++ behind_rows))
   all_names-sorted rows neighbors routes others groups =
-      let above_others = all-kept (λ n. AllAbove registered_name_cmp n the_groups) IsAmongOthers (λ n is. groups_above n is.1) r.others.entries h.of_others in
+      let above_others = all-kept (λ n. AllAbove registered_name_cmp n the_groups) IsAmongOthers (λ n is. groups_above n is.1) r.others h.of_others in
       let above_routes = all-named (λ n. AllAbove registered_name_cmp n behind_routes) route_name (λ p. behind_routes_above (key.Route p) (omega arith)) r.routes in
-      let above_neighbors = all-named (λ n. AllAbove registered_name_cmp n behind_neighbors) neighbor_name (λ a. behind_neighbors_above (key.Neigh a.0 a.1) (omega arith)) r.neighbors.entries in
+      let above_neighbors = all-named (λ n. AllAbove registered_name_cmp n behind_neighbors) neighbor_name (λ a. behind_neighbors_above (key.Neigh a.0 a.1) (omega arith)) r.neighbors in
       let above_rows = all-renamed (λ n. AllAbove registered_name_cmp n behind_rows) name.Row IsAmongRows behind_rows_above r.rows h.of_rows in
-      let from_others = sorted-all_names registered_name_cmp r.others.entries the_groups others (sorted-renamed hops_cmp registered_name_cmp name.Group groups_same r.groups.entries groups) above_others in
+      let from_others = sorted-all_names registered_name_cmp r.others the_groups others (sorted-renamed hops_cmp registered_name_cmp name.Group groups_same r.groups groups) above_others in
       let from_routes = sorted-all_names registered_name_cmp the_routes behind_routes (sorted-renamed prefix_cmp registered_name_cmp route_name routes_same r.routes routes) from_others above_routes in
-      let from_neighbors = sorted-all_names registered_name_cmp the_neighbors behind_neighbors (sorted-renamed neighbor_cmp registered_name_cmp neighbor_name neighbors_same r.neighbors.entries neighbors) from_routes above_neighbors in
+      let from_neighbors = sorted-all_names registered_name_cmp the_neighbors behind_neighbors (sorted-renamed neighbor_cmp registered_name_cmp neighbor_name neighbors_same r.neighbors neighbors) from_routes above_neighbors in
       sorted-all_names registered_name_cmp the_rows behind_rows (sorted-renamed key_cmp registered_name_cmp name.Row rows_same r.rows rows) from_neighbors above_rows
 
   -- the parts keep their keys
-  pub parted-row_put : (new : List (Key × Registered)) (k : Key) (w : Registered) → IsAmongRows k → new ≡ insert_entry key_cmp r.rows k w → AreParted new r.others.entries
+  pub parted-row_put : (new : List (Key × Registered)) (k : Key) (w : Registered) → IsAmongRows k → new ≡ insert_entry key_cmp r.rows k w → AreParted new r.others
   parted-row_put new k w among is = rw is (record { of_rows = all-inserted key_cmp k IsAmongRows among r.rows w h.of_rows; of_others = h.of_others })
 
-  pub parted-row_set : (new : List (Key × Registered)) (k : Key) (w : Registered) → new ≡ set_value (is_at (key_cmp k)) r.rows w → AreParted new r.others.entries
+  pub parted-row_set : (new : List (Key × Registered)) (k : Key) (w : Registered) → new ≡ set_value (is_at (key_cmp k)) r.rows w → AreParted new r.others
   parted-row_set new k w is = rw is (record { of_rows = rw (keys-set_value (is_at (key_cmp k)) r.rows w) h.of_rows; of_others = h.of_others })
 
-  pub parted-row_removed : (new : List (Key × Registered)) (k : Key) → new ≡ remove_entry (is_at (key_cmp k)) r.rows → AreParted new r.others.entries
+  pub parted-row_removed : (new : List (Key × Registered)) (k : Key) → new ≡ remove_entry (is_at (key_cmp k)) r.rows → AreParted new r.others
   parted-row_removed new k is = rw is (record { of_rows = all-removed key_cmp k IsAmongRows r.rows h.of_rows; of_others = h.of_others })
 
-  pub parted-other_put : (new : Names) (n : Name) (w : Registered) → IsAmongOthers n → new ≡ insert_entry registered_name_cmp r.others.entries n w → AreParted r.rows new
-  parted-other_put new n w among is = rw is (record { of_rows = h.of_rows; of_others = all-inserted registered_name_cmp n IsAmongOthers among r.others.entries w h.of_others })
+  pub parted-other_put : (new : Names) (n : Name) (w : Registered) → IsAmongOthers n → new ≡ insert_entry registered_name_cmp r.others n w → AreParted r.rows new
+  parted-other_put new n w among is = rw is (record { of_rows = h.of_rows; of_others = all-inserted registered_name_cmp n IsAmongOthers among r.others w h.of_others })
 
-  pub parted-other_removed : (new : Names) (n : Name) → new ≡ remove_entry (is_at (registered_name_cmp n)) r.others.entries → AreParted r.rows new
-  parted-other_removed new n is = rw is (record { of_rows = h.of_rows; of_others = all-removed registered_name_cmp n IsAmongOthers r.others.entries h.of_others })
+  pub parted-other_set : (new : Names) (n : Name) (w : Registered) → new ≡ set_value (is_at (registered_name_cmp n)) r.others w → AreParted r.rows new
+  parted-other_set new n w is = rw is (record { of_rows = h.of_rows; of_others = rw (keys-set_value (is_at (registered_name_cmp n)) r.others w) h.of_others })
+
+  pub parted-other_removed : (new : Names) (n : Name) → new ≡ remove_entry (is_at (registered_name_cmp n)) r.others → AreParted r.rows new
+  parted-other_removed new n is = rw is (record { of_rows = h.of_rows; of_others = all-removed registered_name_cmp n IsAmongOthers r.others h.of_others })

@@ -10,12 +10,14 @@ use Rattle.std.specs.declared.cmp.Ordering.TheVariants.{Less, Equal, Greater}
 use Rattle.std.proofs.lemmas.Bool.{false≢true, or_parts}
 use Rattle.std.proofs.lemmas.Cmp.{tied_itself}
 use Rattle.std.proofs.lemmas.List.Folds.{list_any-append}
+use Rattle.std.proofs.lemmas.Map.Steps.{set_value_same}
 use Rattle.std.proofs.lemmas.Option.{none-some}
 use Rattle.swss_types.proofs.Tied.{tied}
 use Rattle.table_schema.specs.Fields.{HasRisingKeys}
 use Rattle.table_schema.specs.Key.{key_cmp}
 use Rattle.table_schema.specs.declared.key.Key.{Key}
 use Rattle.table_schema.proofs.Keys.{key_exact, key_total}
+use Rattle.table_schema.proofs.Restored.{set-put}
 use Rattle.ref_counts.specs.declared.pin.Pin.{Pin}
 use Rattle.ref_counts.specs.Kept.{AreReadable, HasKeptPlace, Kept, is_pinned, is_waiting, marked_in, settled, users_in}
 use Rattle.ref_counts.specs.Registered.{pins_but, pins_of, users_but}
@@ -35,6 +37,10 @@ or_swap false false c = refl
 or_true : (v : Bool) → (v || true) ≡ true
 or_true true = refl
 or_true false = refl
+
+or_false : (v : Bool) → (v || false) ≡ v
+or_false true = refl
+or_false false = refl
 
 -- ---- the same keys, in the same order
 
@@ -290,12 +296,32 @@ settled_keep p ps (e ∷ es) h free =
     ] refl
 
 -- a user that comes to be pinned stays one
-pub users-keep_used : (es : Kept) (k : Key) (p : Pin) (ps : List Pin) → p.user ≡ k → HasRisingKeys key_cmp es → is_pinned ps k ≡ false → users_in (set_value (is_at (key_cmp k)) es true) (ps ++ p ∷ []) ≡ users_in es ps
+users-keep_used : (es : Kept) (k : Key) (p : Pin) (ps : List Pin) → p.user ≡ k → HasRisingKeys key_cmp es → is_pinned ps k ≡ false → users_in (set_value (is_at (key_cmp k)) es true) (ps ++ p ∷ []) ≡ users_in es ps
 users-keep_used es k p ps same h = subst (λ k. is_pinned ps k ≡ false → users_in (set_value (is_at (key_cmp k)) es true) (ps ++ p ∷ []) ≡ users_in es ps) same (λ free. users-push (set_value (is_at (key_cmp p.user)) es true) p ps ∙ ap marked_in (settled_keep p ps es h free))
 
 -- a key that is pinned once more
-pub users-keep_pinned : (es : Kept) (k : Key) (p : Pin) (ps : List Pin) → p.user ≡ k → is_pinned ps k ≡ true → users_in es (ps ++ p ∷ []) ≡ users_in es ps
+users-keep_pinned : (es : Kept) (k : Key) (p : Pin) (ps : List Pin) → p.user ≡ k → is_pinned ps k ≡ true → users_in es (ps ++ p ∷ []) ≡ users_in es ps
 users-keep_pinned es k p ps same = subst (λ k. is_pinned ps k ≡ true → users_in es (ps ++ p ∷ []) ≡ users_in es ps) same (λ is. users-push es p ps ∙ sym (users-pinned es p ps is))
+
+set_twice : (test : Key → Bool) (es : Kept) (v w : Bool) → set_value test (set_value test es v) w ≡ set_value test es w
+set_twice test [] v w = refl
+set_twice test (e ∷ es) v w =
+    let rest = set_twice test es v w in
+    elim (test e.0) as (λ b. test e.0 ≡ b → set_value test (cond b ((e.0, v) ∷ es) (e ∷ set_value test es v)) w ≡ cond b ((e.0, w) ∷ es) (e ∷ set_value test es w)) [
+      | true ↦ λ is. ap (λ b. cond b ((e.0, w) ∷ es) ((e.0, v) ∷ set_value test es w)) is
+      | false ↦ λ is. ap (λ b. cond b ((e.0, w) ∷ set_value test es v) (e ∷ set_value test (set_value test es v) w)) is ∙ ap (λ l. e ∷ l) rest
+    ] refl
+
+-- a key that had a place, put anew and then set, stays a user where it was one by itself or for want of a pin
+pub users-keep_put : (es : Kept) (k : Key) (p : Pin) (ps : List Pin) (v x : Bool) → p.user ≡ k → HasRisingKeys key_cmp es → lookup (is_at (key_cmp k)) es ≡ Some x → users_in (set_value (is_at (key_cmp k)) (insert_entry key_cmp es k v) (x || not (is_pinned ps k))) (ps ++ p ∷ []) ≡ users_in es ps
+users-keep_put es k p ps v x same h there =
+    let test : Key → Bool = is_at (key_cmp k) in
+    let as_set : Bool → List Key = λ w. users_in (set_value test (insert_entry key_cmp es k v) w) (ps ++ p ∷ []) in
+    let once : (w : Bool) → as_set w ≡ users_in (set_value test es w) (ps ++ p ∷ []) = λ w. ap (λ l. users_in l (ps ++ p ∷ [])) (ap (λ l. set_value test l w) (sym (set-put key_cmp key_total es k v x h there)) ∙ set_twice test es v w) in
+    elim (is_pinned ps k) as (λ b. is_pinned ps k ≡ b → as_set (x || not b) ≡ users_in es ps) [
+      | true ↦ λ is. ap as_set (or_false x) ∙ once x ∙ ap (λ l. users_in l (ps ++ p ∷ [])) (set_value_same test es x there) ∙ users-keep_pinned es k p ps same is
+      | false ↦ λ free. ap as_set (or_true x) ∙ once true ∙ users-keep_used es k p ps same h free
+    ] refl
 
 pub readable-settled : (f : Key → Bool) (es : Kept) → AreReadable es → AreReadable (settled f es)
 readable-settled f [] h = tt

@@ -5,7 +5,7 @@ ghost use Rattle.table_schema.specs.Key.{key_cmp};
 ghost use Rattle.ref_counts.specs.Claimed.{unclaimed};
 ghost use Rattle.ref_counts.specs.Registered.{IsReadable, first_of, least_worker, pins_but, pins_of, users_but, with_users};
 
-use crate::copied::copied;
+use crate::copying::copied;
 use crate::pin::Pin;
 use crate::places::Places;
 use crate::placing::{end_place_of, end_use_of, leave_places};

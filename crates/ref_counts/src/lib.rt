@@ -4,7 +4,7 @@
 mod boxed_claims;
 mod changes;
 mod claims;
-mod copied;
+mod copying;
 mod laws;
 mod name;
 mod next;
@@ -20,6 +20,7 @@ mod room;
 mod unpinned;
 mod users;
 
+pub use copying::copied;
 pub use laws::{
     changes_are_found, gone_names_are_absent, pins_leave_names, put_names_are_found,
     releases_are_found,

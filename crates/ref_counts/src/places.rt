@@ -1,5 +1,5 @@
 // The places of the keys that use a name, or may come to use it.
-ghost use Rattle.std.specs.Prelude.{◌≡◌, [], List, OnOk, OnErr, option_map};
+ghost use Rattle.std.specs.Prelude.{◌≡◌, [], List, IfOk, OnOk, OnErr, option_map};
 ghost use Rattle.std.specs.BTreeMap.{insert_entry, is_at};
 ghost use Rattle.std.specs.Map.{lookup, remove_entry, set_value};
 ghost use Rattle.table_schema.specs.Fields.{HasRisingKeys};
@@ -9,11 +9,10 @@ ghost use Rattle.ref_counts.specs.Kept.{users_in};
 ghost use Rattle.late_maps.specs.Segments.{renamed};
 ghost use Rattle.ref_counts.specs.Registered.{IsReadable, first_of};
 
-use crate::copied::copied;
+use crate::copying::copied;
 use crate::pin::{Pin, is_pinned_for};
-use late_maps::{LateMap, get_late};
+use late_maps::LateMap;
 use std::alloc::Global;
-use std::collections::BTreeMap;
 use std::marker::Model;
 use swss_types::{OutOfMemory, Prefix};
 use table_schema::Key;
@@ -22,7 +21,7 @@ use table_schema::Key;
 /// users are routes: they stand apart, by their prefixes, and mostly come in order.
 #[derive(Drop)]
 pub struct Places {
-    rows: BTreeMap<Key, bool>,
+    rows: LateMap<Key, bool>,
     routes: LateMap<Prefix, bool>,
 }
 
@@ -33,9 +32,9 @@ impl Model for Places {
 
     ghost Value = { Kept };
 
-    ghost view = { λ p. with_routes p.rows.entries p.routes };
+    ghost view = { λ p. with_routes p.rows p.routes };
 
-    ghost invariant = { λ p. AllByRecursion ComesBeforeRoutes (keys_of p.rows.entries) };
+    ghost invariant = { λ p. AllByRecursion ComesBeforeRoutes (keys_of p.rows) };
 }
 
 impl Places {
@@ -44,7 +43,7 @@ impl Places {
         ensures { result ≡ [] }
     {
         Places {
-            rows: BTreeMap::new(alloc),
+            rows: LateMap::new(alloc),
             routes: LateMap::new(alloc),
         }
     }
@@ -55,25 +54,21 @@ impl Places {
     {
         match key {
             Key::Route(prefix) => self.routes.get(prefix).copied(),
-            _ => get_late(&self.rows, key).copied(),
+            _ => self.rows.get(key).copied(),
         }
     }
 
-    /// A key has a place, with this in it.
-    pub fn put(&mut self, key: Key, uses: bool) -> Result<(), OutOfMemory>
+    /// A key has a place, with this in it. What stood there before comes back.
+    pub fn put(&mut self, key: Key, uses: bool) -> Result<Option<bool>, OutOfMemory>
         requires { IsReadable key }
+        ensures old { IfOk result (λ old. old ≡ lookup (is_at (key_cmp key)) self.old) }
         ensures ok { OnOk result (self.new ≡ insert_entry key_cmp self.old key uses) }
         ensures err { OnErr result (self.new ≡ self.old) }
     {
         match key {
-            Key::Route(prefix) => {
-                self.routes.insert(prefix, uses)?;
-            }
-            _ => {
-                self.rows.insert(key, uses)?;
-            }
+            Key::Route(prefix) => Ok(self.routes.insert(prefix, uses)?),
+            _ => Ok(self.rows.insert(key, uses)?),
         }
-        Ok(())
     }
 
     /// Sets what stands in a key's place, if it has one.
@@ -129,8 +124,8 @@ impl Places {
 }
 
 /// The least user of those that are no routes.
-fn least_row<'a>(rows: &'a BTreeMap<Key, bool>, pins: &[Pin]) -> Option<&'a Key>
-    ensures { option_map (λ user. user.now) result ≡ first_of (users_in rows.now.entries pins.now) }
+fn least_row<'a>(rows: &'a LateMap<Key, bool>, pins: &[Pin]) -> Option<&'a Key>
+    ensures { option_map (λ user. user.now) result ≡ first_of (users_in rows.now pins.now) }
 {
     for (user, uses) in rows.iter() {
         if *uses || !is_pinned_for(pins, user) {

@@ -16,7 +16,6 @@ use late_maps::LateMap;
 use row_maps::RowMap;
 use sai_types::Hops;
 use std::alloc::Global;
-use std::collections::BTreeMap;
 use std::marker::Model;
 use swss_types::{IfName, Ip, OutOfMemory, Prefix};
 use table_schema::Key;
@@ -26,10 +25,10 @@ use table_schema::Key;
 #[derive(Drop)]
 pub struct Registrations {
     rows: RowMap<Registration>,
-    neighbors: BTreeMap<(IfName, Ip), Registration>,
+    neighbors: LateMap<(IfName, Ip), Registration>,
     routes: LateMap<Prefix, Registration>,
-    others: BTreeMap<Name, Registration>,
-    groups: BTreeMap<Hops, Registration>,
+    others: LateMap<Name, Registration>,
+    groups: LateMap<Hops, Registration>,
 }
 
 impl Model for Registrations {
@@ -39,9 +38,9 @@ impl Model for Registrations {
 
     ghost use Rattle.ref_counts.specs.Parted.{AreParted, all_names};
 
-    ghost view = { λ r. all_names r.rows r.neighbors.entries r.routes r.others.entries r.groups.entries };
+    ghost view = { λ r. all_names r.rows r.neighbors r.routes r.others r.groups };
 
-    ghost invariant = { λ r. AreParted r.rows r.others.entries };
+    ghost invariant = { λ r. AreParted r.rows r.others };
 }
 
 impl Registrations {
@@ -51,10 +50,10 @@ impl Registrations {
     {
         Registrations {
             rows: RowMap::new(alloc),
-            neighbors: BTreeMap::new(alloc),
+            neighbors: LateMap::new(alloc),
             routes: LateMap::new(alloc),
-            others: BTreeMap::new(alloc),
-            groups: BTreeMap::new(alloc),
+            others: LateMap::new(alloc),
+            groups: LateMap::new(alloc),
         }
     }
 
@@ -199,8 +198,8 @@ impl Registrations {
 }
 
 /// What is known of the row of a key among others. No row names a key that stands there, and so it is not looked for fast.
-fn get_unread<'a>(others: &'a BTreeMap<Name, Registration>, key: &Key) -> Option<&'a Registration>
-    ensures { option_copied result ≡ registered_at others.now.entries (Name.Row key.now) }
+fn get_unread<'a>(others: &'a LateMap<Name, Registration>, key: &Key) -> Option<&'a Registration>
+    ensures { option_copied result ≡ registered_at others.now (Name.Row key.now) }
 {
     for (name, registration) in others.iter() {
         if is_row_of(name, key) {

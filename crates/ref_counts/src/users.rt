@@ -9,7 +9,7 @@ ghost use Rattle.ref_counts.specs.declared.pin.Pin.{Pin};
 ghost use Rattle.ref_counts.specs.Kept.{HasKeptPlace, is_pinned, is_waiting, users_in};
 ghost use Rattle.ref_counts.specs.Registered.{IsReadable, users_but};
 
-use crate::copied::copied;
+use crate::copying::copied;
 use crate::pin::{Pin, is_pinned_for};
 use crate::places::Places;
 use swss_types::OutOfMemory;
@@ -24,13 +24,10 @@ pub fn keep_place(places: &mut Places, pins: &[Pin], user: &Key) -> Result<(), O
     ensures others { (q : Key) → HasKeptPlace places.old q → HasKeptPlace places.new q }
 {
     places.rise();
-    match places.get(user) {
-        Some(_) => {
-            if !is_pinned_for(pins, user) {
-                places.set(user, true);
-            }
-        }
-        None => places.put(copied(user), false)?,
+    match places.put(copied(user), false)? {
+        None => {}
+        // It had one: that it is a user, by itself or for want of a pin, must not be lost.
+        Some(uses) => places.set(user, uses || !is_pinned_for(pins, user)),
     }
     Ok(())
 }

@@ -4,4 +4,4 @@ use Rattle.ref_counts.proofs.places.least_row.Given as goal
 
 -- no user so far
 abbrev pub invariant-loop-user : goal.invariant-loop-user
-invariant-loop-user l = users_in l.user-iterator l.pins ≡ users_in l.rows.entries l.pins
+invariant-loop-user l = users_in l.user-iterator l.pins ≡ users_in l.rows l.pins

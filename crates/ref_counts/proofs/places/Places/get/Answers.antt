@@ -6,4 +6,4 @@ pub returns-in-Route : goal.returns-in-Route
 returns-in-Route c = rw (c.in-Route.is, ← c.self.view_is) (c.copied.ensures ∙ c.get.ensures ∙ (route-stands c.self.inside c.self.invariant c.in-Route.prefix).found)
 
 pub returns-in_default : goal.returns-in_default
-returns-in_default c = rw (← c.self.view_is) (c.copied-in_default.ensures ∙ c.get_late.ensures.value ∙ row-found c.self.inside c.self.invariant c.args.key.now c.in_default.not-Route)
+returns-in_default c = rw (← c.self.view_is) (c.copied-in_default.ensures ∙ c.get-in_default.ensures ∙ row-found c.self.inside c.self.invariant c.args.key.now c.in_default.not-Route)

@@ -10,16 +10,16 @@ use Rattle.ref_counts.proofs.places.Places.least_user.Goals as goal
 
 pub copied-requires : goal.copied-requires
 copied-requires c =
-    let least : Some c.in-Some.key.now ≡ first_of (users_in c.self.inside.rows.entries c.args.pins.now) = search rules in
-    readable-first (settled (is_pinned c.args.pins.now) c.self.inside.rows.entries) c.in-Some.key.now (readable-settled (is_pinned c.args.pins.now) c.self.inside.rows.entries (rows-readable c.self.inside c.self.invariant)) least
+    let least : Some c.in-Some.key.now ≡ first_of (users_in c.self.inside.rows c.args.pins.now) = search rules in
+    readable-first (settled (is_pinned c.args.pins.now) c.self.inside.rows) c.in-Some.key.now (readable-settled (is_pinned c.args.pins.now) c.self.inside.rows (rows-readable c.self.inside c.self.invariant)) least
 
 pub returns-in-Some : goal.returns-in-Some
 returns-in-Some c =
-    let least : Some c.in-Some.key.now ≡ first_of (users_in c.self.inside.rows.entries c.args.pins.now) = search rules in
-    rw (c.copied.ensures, ← c.self.view_is) (least-before c.in-Some.key.now c.self.inside.rows.entries (renamed key.Route c.self.inside.routes) c.args.pins.now least)
+    let least : Some c.in-Some.key.now ≡ first_of (users_in c.self.inside.rows c.args.pins.now) = search rules in
+    rw (c.copied.ensures, ← c.self.view_is) (least-before c.in-Some.key.now c.self.inside.rows (renamed key.Route c.self.inside.routes) c.args.pins.now least)
 
 pub returns-in-None : goal.returns-in-None
 returns-in-None c =
-    let none : None ≡ first_of (users_in c.self.inside.rows.entries c.args.pins.now) = search rules in
+    let none : None ≡ first_of (users_in c.self.inside.rows c.args.pins.now) = search rules in
     let route : c.map.result ≡ first_of (users_in (renamed key.Route c.self.inside.routes) c.args.pins.now) = search rules in
-    rw (← c.self.view_is) (route ∙ least-behind c.self.inside.rows.entries (renamed key.Route c.self.inside.routes) c.args.pins.now none)
+    rw (← c.self.view_is) (route ∙ least-behind c.self.inside.rows (renamed key.Route c.self.inside.routes) c.args.pins.now none)

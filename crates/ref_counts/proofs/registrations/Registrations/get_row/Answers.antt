@@ -6,7 +6,7 @@ use Rattle.ref_counts.proofs.Partings.{among_rows, neighbor-stands, other-stands
 use Rattle.ref_counts.proofs.registrations.Registrations.get_row.Goals as goal
 
 pub returns-in-Neigh : goal.returns-in-Neigh
-returns-in-Neigh c = c.get.ensures.value ∙ (neighbor-stands c.self.inside c.self.invariant (c.in-Neigh.on, c.in-Neigh.ip)).found ∙ ap₂ registered_at c.self.view_is (ap name.Row (sym c.in-Neigh.is))
+returns-in-Neigh c = c.get.ensures ∙ (neighbor-stands c.self.inside c.self.invariant (c.in-Neigh.on, c.in-Neigh.ip)).found ∙ ap₂ registered_at c.self.view_is (ap name.Row (sym c.in-Neigh.is))
 
 pub returns-in-Route : goal.returns-in-Route
 returns-in-Route c = c.get-in-Route.ensures ∙ (route-stands c.self.inside c.self.invariant c.in-Route.prefix).found ∙ ap₂ registered_at c.self.view_is (ap name.Row (sym c.in-Route.is))

@@ -6,4 +6,4 @@ use Rattle.ref_counts.proofs.registrations.Registrations.group_mut.Goals as goal
 pub returns : goal.returns
 returns c =
     let stands = group-stands c.self.inside c.self.invariant c.args.hops.now in
-    rw (← c.self.view_is) ((refl, (λ w. stands.set (c.get_mut.follows.lender w).entries w (c.get_mut.follows.holds w).0), ap (λ m. all_names c.self.inside.rows c.self.inside.neighbors.entries c.self.inside.routes c.self.inside.others.entries m.entries) c.get_mut.follows.holds-at-none), record { writes_back = tt; value = c.get_mut.ensures.value ∙ stands.found })
+    rw (← c.self.view_is) ((refl, (λ w. stands.set (c.get_mut.follows.lender w) w (c.get_mut.follows.holds w)), ap (λ m. all_names c.self.inside.rows c.self.inside.neighbors c.self.inside.routes c.self.inside.others m) c.get_mut.follows.holds-at-none), record { writes_back = tt; value = c.get_mut.ensures.value ∙ stands.found })

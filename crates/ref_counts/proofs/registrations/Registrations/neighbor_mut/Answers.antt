@@ -6,4 +6,4 @@ use Rattle.ref_counts.proofs.registrations.Registrations.neighbor_mut.Goals as g
 pub returns : goal.returns
 returns c =
     let stands = neighbor-stands c.self.inside c.self.invariant c.args.neighbor.now in
-    rw (← c.self.view_is) ((refl, (λ w. stands.set (c.get_mut.follows.lender w).entries w (c.get_mut.follows.holds w).0), ap (λ m. all_names c.self.inside.rows m.entries c.self.inside.routes c.self.inside.others.entries c.self.inside.groups.entries) c.get_mut.follows.holds-at-none), record { writes_back = tt; value = c.get_mut.ensures.value ∙ stands.found })
+    rw (← c.self.view_is) ((refl, (λ w. stands.set (c.get_mut.follows.lender w) w (c.get_mut.follows.holds w)), ap (λ m. all_names c.self.inside.rows m c.self.inside.routes c.self.inside.others c.self.inside.groups) c.get_mut.follows.holds-at-none), record { writes_back = tt; value = c.get_mut.ensures.value ∙ stands.found })

@@ -9,7 +9,7 @@ pub invariant_of-self : goal.invariant_of-self
 invariant_of-self c = parted-row_removed c.self.inside c.self.invariant c.remove.new.self c.in-Row.key.now c.remove.ensures.entries
 
 pub invariant_of-self-in-Other : goal.invariant_of-self-in-Other
-invariant_of-self-in-Other c = parted-other_removed c.self.inside c.self.invariant c.remove-in-Other.new.self.entries c.in-Other.name.now c.remove-in-Other.ensures.entries
+invariant_of-self-in-Other c = parted-other_removed c.self.inside c.self.invariant c.remove-in-Other.new.self c.in-Other.name.now c.remove-in-Other.ensures.entries
 
 pub returns-in-Row-clause-value : goal.returns-in-Row-clause-value
 returns-in-Row-clause-value c = c.remove.ensures.value ∙ (row-stands c.self.inside c.self.invariant c.in-Row.key.now c.in-Row.ensures.1).found ∙ ap₂ registered_at c.self.view_is (sym c.in-Row.ensures.0)
@@ -21,7 +21,7 @@ pub returns-in-Neighbor-clause-value : goal.returns-in-Neighbor-clause-value
 returns-in-Neighbor-clause-value c = c.remove-in-Neighbor.ensures.value ∙ (neighbor-stands c.self.inside c.self.invariant c.in-Neighbor.neighbor).found ∙ ap₂ registered_at c.self.view_is (sym c.in-Neighbor.ensures)
 
 pub returns-in-Neighbor-clause-removed : goal.returns-in-Neighbor-clause-removed
-returns-in-Neighbor-clause-removed c = (neighbor-stands c.self.inside c.self.invariant c.in-Neighbor.neighbor).removed c.remove-in-Neighbor.new.self.entries c.remove-in-Neighbor.ensures.entries ∙ ap₂ (λ ns n. remove_entry (is_at (registered_name_cmp n)) ns) c.self.view_is (sym c.in-Neighbor.ensures)
+returns-in-Neighbor-clause-removed c = (neighbor-stands c.self.inside c.self.invariant c.in-Neighbor.neighbor).removed c.remove-in-Neighbor.new.self c.remove-in-Neighbor.ensures.entries ∙ ap₂ (λ ns n. remove_entry (is_at (registered_name_cmp n)) ns) c.self.view_is (sym c.in-Neighbor.ensures)
 
 pub returns-in-Route-clause-value : goal.returns-in-Route-clause-value
 returns-in-Route-clause-value c = c.remove-in-Route.ensures.value ∙ (route-stands c.self.inside c.self.invariant c.in-Route.prefix.now).found ∙ ap₂ registered_at c.self.view_is (sym c.in-Route.ensures)
@@ -33,10 +33,10 @@ pub returns-in-Other-clause-value : goal.returns-in-Other-clause-value
 returns-in-Other-clause-value c = c.remove-in-Other.ensures.value ∙ (other-stands c.self.inside c.self.invariant c.in-Other.name.now c.in-Other.ensures.1).found ∙ ap₂ registered_at c.self.view_is (sym c.in-Other.ensures.0)
 
 pub returns-in-Other-clause-removed : goal.returns-in-Other-clause-removed
-returns-in-Other-clause-removed c = (other-stands c.self.inside c.self.invariant c.in-Other.name.now c.in-Other.ensures.1).removed c.remove-in-Other.new.self.entries c.remove-in-Other.ensures.entries ∙ ap₂ (λ ns n. remove_entry (is_at (registered_name_cmp n)) ns) c.self.view_is (sym c.in-Other.ensures.0)
+returns-in-Other-clause-removed c = (other-stands c.self.inside c.self.invariant c.in-Other.name.now c.in-Other.ensures.1).removed c.remove-in-Other.new.self c.remove-in-Other.ensures.entries ∙ ap₂ (λ ns n. remove_entry (is_at (registered_name_cmp n)) ns) c.self.view_is (sym c.in-Other.ensures.0)
 
 pub returns-in-Group-clause-value : goal.returns-in-Group-clause-value
 returns-in-Group-clause-value c = c.remove-in-Group.ensures.value ∙ (group-stands c.self.inside c.self.invariant c.in-Group.hops.now).found ∙ ap₂ registered_at c.self.view_is (sym c.in-Group.ensures)
 
 pub returns-in-Group-clause-removed : goal.returns-in-Group-clause-removed
-returns-in-Group-clause-removed c = (group-stands c.self.inside c.self.invariant c.in-Group.hops.now).removed c.remove-in-Group.new.self.entries c.remove-in-Group.ensures.entries ∙ ap₂ (λ ns n. remove_entry (is_at (registered_name_cmp n)) ns) c.self.view_is (sym c.in-Group.ensures)
+returns-in-Group-clause-removed c = (group-stands c.self.inside c.self.invariant c.in-Group.hops.now).removed c.remove-in-Group.new.self c.remove-in-Group.ensures.entries ∙ ap₂ (λ ns n. remove_entry (is_at (registered_name_cmp n)) ns) c.self.view_is (sym c.in-Group.ensures)

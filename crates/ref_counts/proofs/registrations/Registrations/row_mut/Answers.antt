@@ -9,4 +9,4 @@ invariant_of-self-lent c = λ _. ((λ w. parted-row_set c.self.inside c.self.inv
 pub returns : goal.returns
 returns c =
     let stands = row-stands c.self.inside c.self.invariant c.args.key.now c.requires in
-    rw (← c.self.view_is) ((refl, (λ w. stands.set (c.get_mut.follows.lender w) w (c.get_mut.follows.holds w)), ap (λ m. all_names m c.self.inside.neighbors.entries c.self.inside.routes c.self.inside.others.entries c.self.inside.groups.entries) c.get_mut.follows.holds-at-none), record { writes_back = tt; value = c.get_mut.ensures.value ∙ stands.found })
+    rw (← c.self.view_is) ((refl, (λ w. stands.set (c.get_mut.follows.lender w) w (c.get_mut.follows.holds w)), ap (λ m. all_names m c.self.inside.neighbors c.self.inside.routes c.self.inside.others c.self.inside.groups) c.get_mut.follows.holds-at-none), record { writes_back = tt; value = c.get_mut.ensures.value ∙ stands.found })

@@ -4,7 +4,7 @@ ghost use Rattle.ref_counts.specs.Registered.{IsReadable};
 
 use table_schema::Key;
 
-/// The same key once more: but for unreadable keys it takes no memory.
+/// A readable key once more; this takes no memory. Unreadable keys are not for it: `Key::copy` copies their text.
 pub fn copied(key: &Key) -> Key
     requires { IsReadable key.now }
     ensures { result ≡ key.now }
