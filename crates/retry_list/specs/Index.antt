@@ -17,7 +17,7 @@ keys_in (Some keys) = keys.keys
 
 -- the keys that are filed under an event
 abbrev pub keys_about : Index → Event → List Key
-keys_about index e = keys_in (lookup (is_at (event_cmp e)) index.keys.entries)
+keys_about index e = keys_in (lookup (is_at (event_cmp e)) index.keys)
 
 abbrev pub is_filed : Index → Event → Key → Bool
 is_filed index e q = list_any (is_at (key_cmp q)) (keys_about index e)

@@ -6,15 +6,16 @@ ghost use Rattle.table_schema.specs.declared.key.Key.{Key};
 ghost use Rattle.retry_list.specs.Index.{IsCleared, IsFiledAs, IsFiledUnless, IsSameIndex, is_filed, keys_about};
 
 use crate::Event;
+use late_maps::LateMap;
 use std::alloc::Global;
-use std::collections::{BTreeMap, BTreeSet};
+use std::collections::BTreeSet;
 use swss_types::OutOfMemory;
 use table_schema::Key;
 
-/// For each event the keys whose reasons are about it. An event without a key has no entry.
+/// For each event the keys whose reasons are about it. An event without a key has no entry. Events mostly come in order.
 #[derive(Debug, Drop)]
 pub(crate) struct Index {
-    keys: BTreeMap<Event, BTreeSet<Key>>,
+    keys: LateMap<Event, BTreeSet<Key>>,
     alloc: Global,
 }
 
@@ -23,7 +24,7 @@ impl Index {
         ensures { (event : Event) (key : Key) → is_filed result event key ≡ false }
     {
         Index {
-            keys: BTreeMap::new(alloc),
+            keys: LateMap::new(alloc),
             alloc,
         }
     }
@@ -62,6 +63,8 @@ impl Index {
         ensures { IsFiledAs false self.old self.new event.now key.now }
     {
         if self.take(event, key) {
+            // It says that the events rise.
+            let _rising = self.keys.len();
             self.keys.remove(event);
         }
     }
@@ -94,6 +97,8 @@ impl Index {
         ensures cleared { IsCleared self.old self.new event.now }
         ensures keys { result.keys ≡ keys_about self.old event.now }
     {
+        // It says that the events rise.
+        let _rising = self.keys.len();
         match self.keys.remove(event) {
             Some(keys) => keys,
             None => BTreeSet::new(self.alloc),
