@@ -25,9 +25,6 @@ AreRead-changed rows later old new k same gone h q row is plan =
     ] in
     by (is_at (key_cmp q) k) refl
 
-pub AreRead-forgotten : (rows : Rows) (old new : List (Key × Row)) (k : Key) → IsForgotten old k new → AreRead rows old → AreRead rows new
-AreRead-forgotten rows old new k gone h = AreRead-changed rows rows old new k (λ q at. refl) gone h
-
 pub AreRead-merged : {T E : Type 0} (r : Result T E) (rows later : Rows) (old new : List (Key × Row)) (k : Key) (p : Pending) → OnOk r (IsMerged rows k p later) → OnErr r (later ≡ rows) → IsForgotten old k new → AreRead rows old → AreRead later new
 AreRead-merged (Ok x) rows later old new k p merged same gone h = AreRead-changed rows later old new k (λ q at. merged q ∙ ap (λ b. cond b (row_with_pending (fields_at rows q) p) (fields_at rows q)) at) gone h
 AreRead-merged (Err x) rows later old new k p merged same gone h = AreRead-changed rows later old new k (λ q at. ap (λ r. fields_at r q) same) gone h

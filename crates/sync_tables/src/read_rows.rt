@@ -15,13 +15,12 @@ use std::marker::Model;
 use swss_types::OutOfMemory;
 use table_schema::{Key, PortPlan, Row, read_row};
 
-/// The rows of the application tables, and some of them as they were read, so that a row of a key that waits is not read at
-/// each try.
+/// The rows of the application tables, and those of neighbours and routes as they were read, so that a row is not read again
+/// at each try, nor after a restart.
 #[derive(Debug, Drop)]
 pub(crate) struct ReadRows {
     rows: Rows,
     read: RowMap<Row>,
-    alloc: Global,
 }
 
 impl Model for ReadRows {
@@ -43,7 +42,6 @@ impl ReadRows {
         ReadRows {
             rows: Rows::new(alloc),
             read: RowMap::new(alloc),
-            alloc,
         }
     }
 
@@ -63,14 +61,12 @@ impl ReadRows {
         merge(&mut self.rows, key, pending)
     }
 
-    /// The key's row, where it reads. It is kept as it was read, if that is asked for and the row does not depend on the port
-    /// plan.
+    /// The key's row, where it reads. It is kept as it was read, if it does not depend on the port plan.
     pub(crate) fn good_row(
         &mut self,
         alloc: Global,
         plan: &PortPlan,
         key: &Key,
-        keeps: bool,
     ) -> Result<Option<Row>, OutOfMemory>
         ensures row { IfOk result (λ row. row ≡ good_row plan.now key.now (fields_at self.old key.now)) }
         ensures same { self.new ≡ self.old }
@@ -79,8 +75,7 @@ impl ReadRows {
             return Ok(Some(row.copy()?));
         }
         let row = self.row(alloc, plan, key)?;
-        if keeps
-            && is_plan_free(key)
+        if is_plan_free(key)
             && let Some(row) = &row
         {
             self.keep(key, row)?;
@@ -105,20 +100,6 @@ impl ReadRows {
     {
         self.read.insert(key.copy()?, row.copy()?)?;
         Ok(())
-    }
-
-    /// Keeps no row of a key.
-    pub(crate) fn forget(&mut self, key: &Key)
-        ensures { self.new ≡ self.old }
-    {
-        forget(&mut self.read, key);
-    }
-
-    /// Keeps no row.
-    pub(crate) fn forget_all(&mut self)
-        ensures { self.new ≡ self.old }
-    {
-        self.read = RowMap::new(self.alloc);
     }
 }
 

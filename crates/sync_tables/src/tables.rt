@@ -127,7 +127,7 @@ impl Tables {
         Ok(true)
     }
 
-    /// The key's row, where it reads. A row of a key that waits is not read anew at each try.
+    /// The key's row, where it reads. A row of a neighbour or a route is read once.
     pub fn good_row(
         &mut self,
         alloc: Global,
@@ -137,19 +137,7 @@ impl Tables {
         ensures row { IfOk result (λ row. row ≡ good_row plan.now key.now (fields_at self.old.rows key.now)) }
         ensures same { self.new ≡ self.old }
     {
-        // The first key is mostly done with at once.
-        let waits = !self.is_first(key);
-        self.rows.good_row(alloc, plan, key, waits)
-    }
-
-    /// Whether a key is the first one to sync.
-    fn is_first(&self, key: &Key) -> bool
-        ensures { IsTrue result ↔ (first_in (keys_of self.now.ops) ≡ Some key.now) }
-    {
-        match self.to_sync.next_key(None) {
-            Some(first) => first.key() == key,
-            None => false,
-        }
+        self.rows.good_row(alloc, plan, key)
     }
 
     /// The first key to sync, in key order, behind this one, and the first of all where none is given. The keys are in order,
@@ -185,7 +173,6 @@ impl Tables {
     pub fn done(&mut self, key: &Key)
         ensures { self.new ≡ record self.old { ops = without_op self.old.ops key.now } }
     {
-        self.rows.forget(key);
         self.to_sync.done(key);
     }
 
@@ -198,7 +185,6 @@ impl Tables {
     {
         let to_sync = keys_of_rows(self.rows.rows())?;
         let _order = to_sync.len();
-        self.rows.forget_all();
         self.to_sync = to_sync;
         Ok(())
     }
@@ -207,7 +193,6 @@ impl Tables {
     pub fn forget_ops(&mut self)
         ensures { self.new ≡ record self.old { ops = [] } }
     {
-        self.rows.forget_all();
         self.to_sync.forget_all();
     }
 
