@@ -6,7 +6,7 @@ ghost use Rattle.orch_flight.specs.Starting.{ids_for, ids_for_row};
 ghost use Rattle.orch_flight.specs.Sharing.{HasNoPins, IsNameReady, begun_by, lacks_shared, owner_for, with_row_begun, with_shared, with_shared_begun};
 
 use crate::undoing::{begin_build, end_build};
-use ref_counts::{Missing, Name, Registry};
+use ref_counts::{Missing, Name, Registry, copied};
 use swss_types::{IfName, OutOfMemory};
 use table_schema::Key;
 
@@ -59,10 +59,9 @@ fn begin_row(
     if applied {
         return begin_shared(reg, worker, key, shared);
     }
-    let name = Name::Row(key.copy()?);
-    begin_build(reg, worker, name.copy()?, ids_for_row(key))?;
+    begin_build(reg, worker, Name::Row(copied(key)), ids_for_row(key))?;
     if let Err(error) = begin_shared(reg, worker, key, shared) {
-        end_build(reg, worker, &name);
+        end_build(reg, worker, &Name::Row(copied(key)));
         return Err(error);
     }
     Ok(())
@@ -83,7 +82,7 @@ fn begin_shared(
     let Some(name) = shared else {
         return Ok(());
     };
-    if reg.share(name, key.copy()?)? {
+    if reg.share(name, copied(key))? {
         return Ok(());
     }
     build_shared(reg, worker, key, name)
@@ -96,7 +95,7 @@ fn build_shared(reg: &mut Registry, worker: u32, key: &Key, name: &Name) -> Resu
     ensures ok { OnOk result (reg.new ≡ changed (with_shared_begun reg.old worker name.now true) name.now (with_user key.now)) }
     ensures err { OnErr result (reg.new ≡ reg.old) }
 {
-    let user = key.copy()?;
+    let user = copied(key);
     begin_build(reg, worker, name.copy()?, ids_for(name))?;
     if let Err(error) = reg.add_user(name, user) {
         end_build(reg, worker, name);

@@ -92,21 +92,17 @@ fn group_of(alloc: Global, plan: &PortPlan, hops: &[RowHop]) -> Result<Option<Na
     }
 }
 
-/// The hops of a row as hops of the chip, where each stands on something.
+/// The hops of a row as hops of the chip, where each stands on something. They are put from the last one to the first: a
+/// row's hops rise, so each is mostly less than those put so far, and one comparison tells it.
 fn hops_of(alloc: Global, plan: &PortPlan, hops: &[RowHop]) -> Result<Option<Hops>, OutOfMemory>
     ensures { IfOk result (λ found. found ≡ hops_of plan.now hops.now) }
 {
-    match hops {
-        [] => Ok(Some(Hops::new(alloc))),
-        [hop, others @ ..] => {
-            let Some(mut found) = hops_of(alloc, plan, others)? else {
-                return Ok(None);
-            };
-            let Some(on) = base_of(plan, hop.on) else {
-                return Ok(None);
-            };
-            found.put(Hop { on, ip: hop.ip })?;
-            Ok(Some(found))
-        }
+    let mut found = Hops::new(alloc);
+    for hop in hops.iter().rev() {
+        let Some(on) = base_of(plan, hop.on) else {
+            return Ok(None);
+        };
+        found.put(Hop { on, ip: hop.ip })?;
     }
+    Ok(Some(found))
 }
