@@ -1,5 +1,5 @@
 -- the call that is due of a route's operation
-use Rattle.std.proofs.Common.{◌≡◌, ◌⊎◌, inl, inr, ℕ, [], ◌∷◌, Option, Some, None, option_map, refl, sym, ap, subst, ◌∙◌}
+use Rattle.std.proofs.Common.{◌≡◌, ◌⊎◌, inl, inr, ℕ, [], ◌∷◌, Option, Some, None, option_map, refl, sym, ap, ap₂, subst, ◌∙◌}
 use Rattle.std.proofs.lemmas.Bool.{false≢true}
 use Rattle.std.proofs.lemmas.Option.{same_Some}
 use Rattle.swss_types.specs.declared.address.Prefix.{Prefix}
@@ -36,16 +36,18 @@ use Rattle.orch_flight.specs.Calling.{HasVid, IsChangeFor, IsEnteredBy, IsEntryO
 use Rattle.orch_flight.specs.Operation.{Operation}
 use Rattle.orch_flight.specs.Sharing.{owner_for}
 use Rattle.route_orch.specs.Targets.{PointsTo, goal_at}
-use Rattle.route_orch.specs.Routes.{route_operation}
+use Rattle.route_orch.specs.Routes.{RouteState, operation_in, route_operation, route_state}
+use Rattle.route_orch.specs.declared.flight.RouteBody.{RouteBody}
 use Rattle.route_orch.specs.declared.flight.RouteStep.{RouteStep}
 use Rattle.route_orch.specs.declared.flight.RouteStep.TheVariants as step
 use Rattle.route_orch.specs.declared.target.Target.{Target}
 use Rattle.route_orch.proofs.Goals.{goal-same, to-at}
 
 -- a route's operation, from what its fields are known to be
-pub route_operation_told : (f : Operation) (w : ℕ) (p : Prefix) (applied wanted wanted' : Option RouteRow) (t : Target) (s s' : RouteStep) (leaves retires : Option Name) → route_operation w p applied wanted t s leaves retires ≡ f → s ≡ s' → wanted ≡ wanted' → f ≡ route_operation w p applied wanted' t s' leaves retires
-route_operation_told f w p applied wanted wanted' t s s' leaves retires is at has =
-    sym is ∙ ap (λ z. route_operation w p applied wanted t z leaves retires) at ∙ ap (λ z. route_operation w p applied z t s' leaves retires) has
+pub route_operation_told : (f : RouteState) (b i : RouteBody) (wanted wanted' : Option RouteRow) (s : RouteStep) → route_state wanted b ≡ f → i ≡ b → i.step ≡ s → wanted ≡ wanted' → f.operation ≡ route_operation i.worker i.prefix i.applied wanted' i.target s i.leaves i.retires
+route_operation_told f b i wanted wanted' s is same at has =
+    sym (ap (λ z. operation_in (route_state wanted z)) same ∙ ap operation_in is)
+    ∙ ap₂ (λ z w. route_operation i.worker i.prefix i.applied w i.target z i.leaves i.retires) at has
 
 -- what has the name of a route is a route
 is_route : (t : Thing) (p : Prefix) → name_of t ≡ thing_name.Route p → (g : Goal) × (t ≡ thing.Route p g)

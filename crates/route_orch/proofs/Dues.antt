@@ -48,7 +48,7 @@ due_by_set p g false = refl
 
 module _ (plan : Ports) (p : Prefix) where
   -- the changes of the route itself
-  pub own-due : (o n : Option RouteRow) (was target : Target) → HasGoal plan o → HasGoal plan n → IsTargetOf plan (key.Route p) (option_map row.Route o) was → IsTargetOf plan (key.Route p) (option_map row.Route n) target → own_changes plan (key.Route p) (option_map row.Route o) (option_map row.Route n) ≡ route_due (first_step o n was target) p (goal_at target)
+  pub own-due : (o n : Option RouteRow) (was target : Target) → HasGoal plan o → HasGoal plan n → IsTargetOf plan (key.Route p) (option_map row.Route o) was → IsTargetOf plan (key.Route p) (option_map row.Route n) target → own_changes plan (key.Route p) (option_map row.Route o) (option_map row.Route n) ≡ route_due (first_step (option_map row.Route o) (option_map row.Route n) was target) p (goal_at target)
   own-due None None was target a b of_was of_target = refl
   own-due None (Some r) was target a (g, is) of_was of_target =
       ap (λ o. make_all (from o (λ g. thing.Route p g ∷ [])) []) is ∙ ap (λ g. Make (thing.Route p g) ∷ []) (sym (target-goal plan p r target g of_target is))

@@ -13,7 +13,6 @@ use Rattle.sai_types.specs.contracts.thing.GoalPartialEq.TheImpl as goal_eq
 use Rattle.switch_model.specs.declared.wait.Wait.{Wait}
 use Rattle.row_layout.specs.Operations.{own_changes, uses_of}
 use Rattle.switch_machine.specs.Flights.{Fits}
-use Rattle.ref_counts.specs.declared.name.Name.{Name}
 use Rattle.ref_counts.specs.Registry.{Names}
 use Rattle.ref_counts.specs.Room.{RoomState}
 use Rattle.orch_flight.specs.Needing.{first_unapplied, wait_of}
@@ -22,8 +21,8 @@ use Rattle.orch_flight.specs.Sharing.{MayStart, owner_for, owners_of}
 use Rattle.orch_flight.specs.Starting.{IsBegunBy, IsStartedBy, begun_names, first_due, first_left, leaving, started_operation}
 use Rattle.orch_flight.proofs.Begins.{none-missing}
 use Rattle.route_orch.specs.Targets.{IsRouteKey, IsRouteRow, IsTargetOf, goal_at}
-use Rattle.route_orch.specs.Routes.{first_operation, first_step, flown, route_due, route_operation, stands_for}
-use Rattle.route_orch.specs.declared.flight.RouteStep.{RouteStep}
+use Rattle.route_orch.specs.Routes.{IsFirst, first_operation, first_step, flown, operation_in, route_due, route_state, stands_for}
+use Rattle.route_orch.specs.declared.flight.RouteBody.{RouteBody}
 use Rattle.route_orch.specs.declared.flight.RouteStep.TheVariants as step
 use Rattle.route_orch.specs.declared.target.Target.{Target}
 use Rattle.route_orch.proofs.Dues.{HasGoal, built-apart, fit-goal, none-left, own-due}
@@ -46,7 +45,7 @@ route-row plan names (key.Route p) (Some (row.Neigh mac)) is fits = elim (fits (
 route-row plan names k (Some r) is fits = elim is [ ]
 
 -- the row for which a route stands is the old one at first
-stands-first : (o n : Option RouteRow) (was target : Target) → stands_for (first_step o n was target) o n ≡ o
+stands-first : (o n : Option RouteRow) (was target : Target) → stands_for (first_step (option_map row.Route o) (option_map row.Route n) was target) o n ≡ o
 stands-first None None was target = refl
 stands-first None (Some r) was target = refl
 stands-first (Some a) None was target = refl
@@ -56,15 +55,19 @@ stands-first (Some a) (Some r) was target = by (goal_eq.ghosts.eq (goal_at was) 
     by true = refl
     by false = refl
 
--- what is made of its parts is the first operation
-pub first-made : (worker : ℕ) (p : Prefix) (o n : Option RouteRow) (was target : Target) (s : RouteStep) (leaves : Option Name) → s ≡ first_step o n was target → option_map owner_for leaves ≡ first_left (owners_of target.group) (owners_of was.group)
-    → route_operation worker p o n target s leaves None ≡ first_operation worker p o n was target
-first-made worker p o n was target s leaves is left =
-    ap₂ (λ z l. record { worker = worker; key = key.Route p; now = option_map row.Route (stands_for z o n); new = option_map row.Route n; due = route_due z p (goal_at target); leaves = l; retires = None }) is left
-    ∙ ap (λ z. record { worker = worker; key = key.Route p; now = option_map row.Route z; new = option_map row.Route n; due = route_due (first_step o n was target) p (goal_at target); leaves = first_left (owners_of target.group) (owners_of was.group); retires = None }) (stands-first o n was target)
+-- what is known at first makes the first operation
+first_made : (plan : Ports) (worker : ℕ) (k : Key) (old new : Option Row) (b : RouteBody) (n : Option RouteRow) (first : IsFirst plan worker k old new b) → option_map row.Route n ≡ new → operation_in (route_state n b) ≡ first_operation worker b.prefix b.applied n first.was b.target
+first_made plan worker k old new b n first is_new =
+    let p = b.prefix in
+    let o = b.applied in
+    let step = first_step (option_map row.Route o) (option_map row.Route n) first.was b.target in
+    let same : b.step ≡ step = first.step ∙ ap₂ (λ x y. first_step x y first.was b.target) (sym first.applied) (sym is_new) in
+    ap₂ (λ w r. record { worker = w; key = key.Route p; now = option_map row.Route (stands_for b.step o n); new = option_map row.Route n; due = route_due b.step p (goal_at b.target); leaves = option_map owner_for b.leaves; retires = option_map owner_for r }) first.worker_is first.retires
+    ∙ ap₂ (λ z l. record { worker = worker; key = key.Route p; now = option_map row.Route (stands_for z o n); new = option_map row.Route n; due = route_due z p (goal_at b.target); leaves = l; retires = None }) same first.leaves
+    ∙ ap (λ z. record { worker = worker; key = key.Route p; now = option_map row.Route z; new = option_map row.Route n; due = route_due step p (goal_at b.target); leaves = first_left (owners_of b.target.group) (owners_of first.was.group); retires = None }) (stands-first o n first.was b.target)
 
 module _ (plan : Ports) (names : Names) (worker : ℕ) (p : Prefix) (o n : Option RouteRow) (was target : Target) (of_was : IsTargetOf plan (key.Route p) (option_map row.Route o) was) (of_target : IsTargetOf plan (key.Route p) (option_map row.Route n) target) where
-  due_first : HasGoal plan o → HasGoal plan n → first_due plan names (key.Route p) (option_map row.Route o) (option_map row.Route n) ≡ route_due (first_step o n was target) p (goal_at target)
+  due_first : HasGoal plan o → HasGoal plan n → first_due plan names (key.Route p) (option_map row.Route o) (option_map row.Route n) ≡ route_due (first_step (option_map row.Route o) (option_map row.Route n) was target) p (goal_at target)
   due_first a b = apart n of_target ∙ own-due plan p o n was target a b of_was of_target
     where
       apart : (n : Option RouteRow) → IsTargetOf plan (key.Route p) (option_map row.Route n) target → first_due plan names (key.Route p) (option_map row.Route o) (option_map row.Route n) ≡ own_changes plan (key.Route p) (option_map row.Route o) (option_map row.Route n)
@@ -99,13 +102,16 @@ abbrev Turns : Ports → Names → RoomState → List ℕ → ℕ → Operation 
 Turns plan names room used worker flight res names' room' k old new = MayStart plan names worker k old new → IsBegunBy plan names room used worker k old new res names' room' → IsStartedBy plan names room used worker k old new (flown flight res) names' room'
 
 -- the same, for the key and the rows that are given
-pub started-as : (plan : Ports) (names : Names) (room : RoomState) (used : List ℕ) (worker : ℕ) (k : Key) (old new : Option Row) (p : Prefix) (o n : Option RouteRow) (was target : Target) (flight : Operation) (res : Result (Unit {0}) Wait) (answer : Result Operation Wait) (names' : Names) (room' : RoomState)
-    → k ≡ key.Route p → option_map row.Route o ≡ old → option_map row.Route n ≡ new → IsTargetOf plan k old was → IsTargetOf plan k new target → flight ≡ first_operation worker p o n was target → answer ≡ flown flight res → MayStart plan names worker k old new
+pub started-as : (plan : Ports) (names : Names) (room : RoomState) (used : List ℕ) (worker : ℕ) (k : Key) (old new : Option Row) (b : RouteBody) (n : Option RouteRow) (res : Result (Unit {0}) Wait) (answer : Result Operation Wait) (names' : Names) (room' : RoomState)
+    → IsFirst plan worker k old new b → option_map row.Route n ≡ new → answer ≡ flown (operation_in (route_state n b)) res → MayStart plan names worker k old new
     → IsBegunBy plan names room used worker k old new res names' room' → IsStartedBy plan names room used worker k old new answer names' room'
-started-as plan names room used worker k old new p o n was target flight res answer names' room' is_key is_old is_new of_was of_target is gave =
-    let turns = Turns plan names room used worker (first_operation worker p o n was target) res names' room' in
-    subst (λ a. MayStart plan names worker k old new → IsBegunBy plan names room used worker k old new res names' room' → IsStartedBy plan names room used worker k old new a names' room') (sym (gave ∙ ap (λ f. flown f res) is))
-    (subst (λ z. IsTargetOf plan z old was → IsTargetOf plan z new target → turns z old new) (sym is_key)
-    (subst (λ z. IsTargetOf plan (key.Route p) z was → IsTargetOf plan (key.Route p) new target → turns (key.Route p) z new) is_old
-    (subst (λ z. IsTargetOf plan (key.Route p) (option_map row.Route o) was → IsTargetOf plan (key.Route p) z target → turns (key.Route p) (option_map row.Route o) z) is_new
-    (λ a b. started plan names worker p o n was target a b room used names' room' res))) of_was of_target)
+started-as plan names room used worker k old new b n res answer names' room' first is_new gave =
+    let p = b.prefix in
+    let o = b.applied in
+    let was = first.was in
+    let turns = Turns plan names room used worker (first_operation worker p o n was b.target) res names' room' in
+    subst (λ a. MayStart plan names worker k old new → IsBegunBy plan names room used worker k old new res names' room' → IsStartedBy plan names room used worker k old new a names' room') (sym (gave ∙ ap (λ f. flown f res) (first_made plan worker k old new b n first is_new)))
+    (subst (λ z. IsTargetOf plan z old was → IsTargetOf plan z new b.target → turns z old new) (sym first.key_is)
+    (subst (λ z. IsTargetOf plan (key.Route p) z was → IsTargetOf plan (key.Route p) new b.target → turns (key.Route p) z new) first.applied
+    (subst (λ z. IsTargetOf plan (key.Route p) (option_map row.Route o) was → IsTargetOf plan (key.Route p) z b.target → turns (key.Route p) (option_map row.Route o) z) is_new
+    (λ x y. started plan names worker p o n was b.target x y room used names' room' res))) first.of_was first.of_target)

@@ -1,7 +1,10 @@
 -- The operation of a route, as far as it is made: the route is made, or set to its new target, or removed. Own.
-use Rattle.std.specs.Prelude.{ℕ, Bool, true, List, [], ◌∷◌, length, Option, Some, None, option_map, Result, Ok, Err, if◌then◌else◌}
+use Rattle.std.specs.Prelude.{◌≡◌, ℕ, Bool, true, List, [], ◌∷◌, length, Option, Some, None, option_map, Result, Ok, Err, if◌then◌else◌}
 use Rattle.swss_types.specs.declared.address.Prefix.{Prefix}
+use Rattle.table_schema.specs.Plan.{Ports}
+use Rattle.table_schema.specs.declared.key.Key.{Key}
 use Rattle.table_schema.specs.declared.key.Key.TheVariants as key
+use Rattle.table_schema.specs.declared.row.Row.{Row}
 use Rattle.table_schema.specs.declared.row.Row.TheVariants as row
 use Rattle.table_schema.specs.declared.row.RouteRow.{RouteRow}
 use Rattle.sai_types.specs.contracts.thing.GoalPartialEq.TheImpl as goal_eq
@@ -17,7 +20,8 @@ use Rattle.ref_counts.specs.declared.name.Name.TheVariants as name
 use Rattle.orch_flight.specs.Operation.{Operation}
 use Rattle.orch_flight.specs.Sharing.{owner_for, owners_of}
 use Rattle.orch_flight.specs.Starting.{first_left}
-use Rattle.route_orch.specs.Targets.{AreGroups, goal_at}
+use Rattle.route_orch.specs.Targets.{AreGroups, IsTargetOf, goal_at}
+use Rattle.route_orch.specs.declared.flight.RouteBody.{RouteBody}
 use Rattle.route_orch.specs.declared.flight.RouteStep.{RouteStep}
 use Rattle.route_orch.specs.declared.flight.RouteStep.TheVariants as step
 use Rattle.route_orch.specs.declared.target.Target.{Target}
@@ -44,7 +48,7 @@ abbrev pub route_operation : ℕ → Prefix → Option RouteRow → Option Route
 route_operation worker prefix old new target s leaves retires = record { worker = worker; key = key.Route prefix; now = option_map row.Route (stands_for s old new); new = option_map row.Route new; due = route_due s prefix (goal_at target); leaves = option_map owner_for leaves; retires = option_map owner_for retires }
 
 -- the first step: a route whose target stays needs none
-abbrev pub first_step : Option RouteRow → Option RouteRow → Target → Target → RouteStep
+abbrev pub first_step : Option Row → Option Row → Target → Target → RouteStep
 first_step None None was target = step.Ended
 first_step None (Some r) was target = step.Make
 first_step (Some a) None was target = step.Take
@@ -52,31 +56,47 @@ first_step (Some a) (Some r) was target = if goal_eq.ghosts.eq (goal_at was) (go
 
 -- an operation of which nothing is made
 abbrev pub first_operation : ℕ → Prefix → Option RouteRow → Option RouteRow → Target → Target → Operation
-first_operation worker prefix old new was target = record { worker = worker; key = key.Route prefix; now = option_map row.Route old; new = option_map row.Route new; due = route_due (first_step old new was target) prefix (goal_at target); leaves = first_left (owners_of target.group) (owners_of was.group); retires = None }
+first_operation worker prefix old new was target = record { worker = worker; key = key.Route prefix; now = option_map row.Route old; new = option_map row.Route new; due = route_due (first_step (option_map row.Route old) (option_map row.Route new) was target) prefix (goal_at target); leaves = first_left (owners_of target.group) (owners_of was.group); retires = None }
 
 -- the step after one
 abbrev pub later_step : RouteStep → RouteStep
 later_step step.Set = step.Changed
 later_step _ = step.Ended
 
+-- the hops of a group's name, where it is one
+abbrev pub group_hops : Option Name → Option (List Hop)
+group_hops (Some (name.Group hops)) = Some hops
+group_hops _ = None
+
 -- what a route's flight is, as far as it is made, and the group that the new row has
 pub record RouteState : Type 0 where
   pub operation : Operation
   pub group : Option (List Hop)
 
+abbrev pub route_state : Option RouteRow → RouteBody → RouteState
+route_state new b = record { operation = route_operation b.worker b.prefix b.applied new b.target b.step b.leaves b.retires; group = group_hops b.target.group }
+
 abbrev pub operation_in : RouteState → Operation
 operation_in f = f.operation
 
 -- what the route is part of are groups
-pub record IsRouteKept (group left going : Option Name) : Type 0 where
-  pub has : AreGroups group
-  pub leaves : AreGroups left
-  pub retires : AreGroups going
+pub record IsRouteKept (b : RouteBody) : Type 0 where
+  pub has : AreGroups b.target.group
+  pub leaves : AreGroups b.leaves
+  pub retires : AreGroups b.retires
 
--- the hops of a group's name, where it is one
-abbrev pub group_hops : Option Name → Option (List Hop)
-group_hops (Some (name.Group hops)) = Some hops
-group_hops _ = None
+-- what is known at first of the operation that brings a route from one row to another
+pub record IsFirst (plan : Ports) (worker : ℕ) (k : Key) (old new : Option Row) (b : RouteBody) : Type 0 where
+  pub was : Target
+  pub of_was : IsTargetOf plan k old was
+  pub of_target : IsTargetOf plan k new b.target
+  pub worker_is : b.worker ≡ worker
+  pub key_is : k ≡ key.Route b.prefix
+  pub applied : option_map row.Route b.applied ≡ old
+  pub step : b.step ≡ first_step old new was b.target
+  pub leaves : option_map owner_for b.leaves ≡ first_left (owners_of b.target.group) (owners_of was.group)
+  pub groups : AreGroups b.leaves
+  pub retires : b.retires ≡ None
 
 abbrev pub group_owners : Option (List Hop) → List Owner
 group_owners None = []

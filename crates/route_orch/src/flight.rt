@@ -10,7 +10,7 @@ ghost use Rattle.orch_flight.specs.Sharing.{MayStart, owner_for};
 ghost use Rattle.orch_flight.specs.Starting.{IsStartedBy, answered, left_names, retired_by};
 ghost use Rattle.orch_flight.specs.Taking.{IsTook, MayTake};
 ghost use Rattle.route_orch.specs.Targets.{AreGroups, IsRouteKey, IsRouteRow};
-ghost use Rattle.route_orch.specs.Routes.{first_step, group_hops, group_owners, later_step, operation_in};
+ghost use Rattle.route_orch.specs.Routes.{IsFirst, first_step, group_hops, group_owners, later_step, operation_in};
 
 use crate::starting::begin;
 use crate::target::{Target, left};
@@ -42,11 +42,19 @@ enum RouteStep {
 /// built before it, and the one that it leaves last is taken away after it, each by an operation of its own.
 #[derive(Debug, Drop)]
 pub struct RouteFlight {
+    // the row that the route is to have
+    wanted: Option<RouteRow>,
+    // the rest stands in a box: a flight is moved often
+    body: Box<RouteBody>,
+}
+
+/// What is known of a route's operation beside the row that the route is to have.
+#[derive(Debug, Drop)]
+struct RouteBody {
     worker: u32,
     prefix: Prefix,
-    // the row before, and the one that the route is to have, with its target
+    // the row before, and where the new one points
     applied: Option<RouteRow>,
-    wanted: Option<RouteRow>,
     target: Target,
     step: RouteStep,
     // the group that it has still to leave, and the one that it takes away since it left it last
@@ -55,13 +63,13 @@ pub struct RouteFlight {
 }
 
 impl Model for RouteFlight {
-    ghost use Rattle.route_orch.specs.Routes.{IsRouteKept, RouteState, group_hops, route_operation};
+    ghost use Rattle.route_orch.specs.Routes.{IsRouteKept, RouteState, route_state};
 
     ghost Value = { RouteState };
 
-    ghost view = { λ f. record { operation = route_operation f.worker f.prefix f.applied f.wanted f.target f.step f.leaves f.retires; group = group_hops f.target.group } };
+    ghost view = { λ f. route_state f.wanted f.body.value };
 
-    ghost invariant = { λ f. IsRouteKept f.target.group f.leaves f.retires };
+    ghost invariant = { λ f. IsRouteKept f.body.value };
 }
 
 impl RouteFlight {
@@ -85,13 +93,8 @@ impl RouteFlight {
         ensures err { OnErr result (reg.new ≡ reg.old) }
         ensures err_room { OnErr result (room.new ≡ room.old) }
     {
-        let Key::Route(prefix) = key else {
-            unreachable!();
-        };
-        let was = Target::of(alloc, plan, key, old)?;
         let given = new.as_ref();
-        let target = Target::of(alloc, plan, key, given)?;
-        let applied = copied_row(old)?;
+        let body = body_of(alloc, plan, worker, key, old, given)?;
         match begin(
             alloc,
             plan,
@@ -102,22 +105,11 @@ impl RouteFlight {
             key,
             old,
             given,
-            &target.group,
+            &body.target.group,
         )? {
             Ok(()) => {
                 let wanted = own_row(new);
-                let step = first_step(&applied, &wanted, &was, &target);
-                let leaves = left(was.group, &target.group);
-                Ok(Ok(RouteFlight {
-                    worker,
-                    prefix: *prefix,
-                    applied,
-                    wanted,
-                    target,
-                    step,
-                    leaves,
-                    retires: None,
-                }))
+                Ok(Ok(RouteFlight { wanted, body }))
             }
             Err(wait) => Ok(Err(wait)),
         }
@@ -128,16 +120,17 @@ impl RouteFlight {
         requires { KnowsIds reg.now self.now.operation }
         ensures { IfOk result (λ next. (plan : Ports) → IsOver plan self.now.operation → IsNextOf plan reg.now self.now.operation next) }
     {
-        match (self.step, &self.wanted) {
+        let body = self.body.as_ref();
+        match (body.step, &self.wanted) {
             (RouteStep::Make, Some(row)) => Ok(Next::Call(Call::Create(Body::Route {
-                prefix: self.prefix,
-                to: self.target.to(reg, row),
+                prefix: body.prefix,
+                to: body.target.to(reg, row),
             }))),
             (RouteStep::Set, Some(row)) => {
-                let to = self.target.to(reg, row);
-                Ok(Next::Call(Call::Set(Entry::Route(self.prefix), Attr::To(to))))
+                let to = body.target.to(reg, row);
+                Ok(Next::Call(Call::Set(Entry::Route(body.prefix), Attr::To(to))))
             }
-            (RouteStep::Take, _) => Ok(Next::Call(Call::Remove(Entry::Route(self.prefix)))),
+            (RouteStep::Take, _) => Ok(Next::Call(Call::Remove(Entry::Route(body.prefix)))),
             (RouteStep::Make | RouteStep::Set, None) => Ok(Next::End),
             (RouteStep::Changed | RouteStep::Ended, _) => Ok(Next::End),
         }
@@ -150,9 +143,9 @@ impl RouteFlight {
         ensures took { IsTook self.old.operation _made reg.old self.new.operation reg.new }
         ensures group { self.new.group ≡ self.old.group }
     {
-        self.step = later_step(self.step);
-        if let Some(name) = self.leaves.take() {
-            self.retires = part(reg, self.worker, self.prefix, name);
+        self.body.step = later_step(self.body.step);
+        if let Some(name) = self.body.leaves.take() {
+            self.body.retires = part(reg, self.body.worker, self.body.prefix, name);
         }
     }
 
@@ -171,7 +164,7 @@ impl RouteFlight {
     pub fn is_over(&self) -> bool
         ensures { IsTrue result ↔ (self.now.operation.due ≡ []) }
     {
-        match self.step {
+        match self.body.step {
             RouteStep::Make | RouteStep::Set | RouteStep::Take => false,
             RouteStep::Changed | RouteStep::Ended => true,
         }
@@ -181,32 +174,61 @@ impl RouteFlight {
     pub fn group(&self) -> Option<&Name>
         ensures { option_map (λ name. name.now) result ≡ option_map Name.Group self.now.group }
     {
-        self.target.group.as_ref()
+        self.body.target.group.as_ref()
     }
 
     /// The group that it takes away.
     pub fn retired(&self) -> Option<&Hops>
         ensures { option_map (λ hops. Group hops.now) result ≡ self.now.operation.retires }
     {
-        match &self.retires {
+        match &self.body.retires {
             Some(Name::Group(hops)) => Some(hops),
             _ => None,
         }
     }
 }
 
+/// What is known of a route's operation at first.
+fn body_of(
+    alloc: Global,
+    plan: &PortPlan,
+    worker: u32,
+    key: &Key,
+    old: Option<&Row>,
+    new: Option<&Row>,
+) -> Result<Box<RouteBody>, OutOfMemory>
+    requires key { IsRouteKey key.now }
+    requires old { IsRouteRow (option_map (λ r. r.now) old) }
+    requires new { IsRouteRow (option_map (λ r. r.now) new) }
+    ensures { IfOk result (λ body. IsFirst plan.now worker key.now (option_map (λ r. r.now) old.entry) (option_map (λ r. r.now) new.entry) body.value) }
+{
+    let Key::Route(prefix) = key else {
+        unreachable!();
+    };
+    let was = Target::of(alloc, plan, key, old)?;
+    let target = Target::of(alloc, plan, key, new)?;
+    let applied = copied_row(old)?;
+    let step = first_step(old, new, &was, &target);
+    let leaves = left(was.group, &target.group);
+    let body = RouteBody {
+        worker,
+        prefix: *prefix,
+        applied,
+        target,
+        step,
+        leaves,
+        retires: None,
+    };
+    Ok(Box::new(alloc, body)?)
+}
+
 /// The first step of a route's operation.
-fn first_step(
-    applied: &Option<RouteRow>,
-    wanted: &Option<RouteRow>,
-    was: &Target,
-    target: &Target,
-) -> RouteStep
+fn first_step(old: Option<&Row>, new: Option<&Row>, was: &Target, target: &Target) -> RouteStep
     requires was { AreGroups was.now.group }
     requires target { AreGroups target.now.group }
-    ensures { result ≡ first_step applied.now wanted.now was.now target.now }
+    ensures { result ≡ first_step (option_map (λ r. r.now) old.entry) (option_map (λ r. r.now) new.entry) was.now target.now }
 {
-    match (applied, wanted) {
+    match (old, new) {
         (None, None) => RouteStep::Ended,
         (None, Some(_)) => RouteStep::Make,
         (Some(_), None) => RouteStep::Take,
