@@ -1,7 +1,8 @@
 -- what holds of the operations of all workers stays
-use Rattle.std.proofs.Common.{◌≡◌, inl, inr, ◌⊎◌, ℕ, ◌<◌, List, [], ◌∷◌, length, Option, None, Some, option_map, Result, Ok, Err, OnOk, OnErr, refl, sym, ap, ap₂, subst, ◌∙◌}
+use Rattle.std.proofs.Common.{◌≡◌, inl, inr, ◌⊎◌, ℕ, zero, suc, ◌<◌, List, [], ◌∷◌, length, Option, None, Some, option_map, Result, Ok, Err, OnOk, OnErr, refl, sym, ap, ap₂, subst, ◌∙◌}
 use Rattle.std.specs.Prelude.{set}
 use Rattle.std.proofs.lemmas.List.{length-set, set-set}
+use Rattle.std.proofs.lemmas.Option.{none-some}
 use Rattle.table_schema.specs.Plan.{Ports}
 use Rattle.table_schema.specs.declared.key.Key.{Key}
 use Rattle.table_schema.specs.declared.row.Row.{Row}
@@ -53,6 +54,21 @@ pub starts-as : (names : Names) (w : ℕ) (k : Key) (old new : Option Row) (due 
 starts-as names w k old new [] (Some o) = record { worker = refl; key = refl; row = refl }
 starts-as names w k old new [] None = record { worker = refl; key = refl; row = refl }
 starts-as names w k old new (c ∷ cs) leaves = record { worker = refl; key = refl; row = refl }
+
+-- nobody has anything under way at first
+no-flight : (w : ℕ) → flight_on (None ∷ None ∷ None ∷ None ∷ []) w ≡ None
+no-flight zero = refl
+no-flight (suc zero) = refl
+no-flight (suc (suc zero)) = refl
+no-flight (suc (suc (suc zero))) = refl
+no-flight (suc (suc (suc (suc w)))) = refl
+
+pub kept-new : (plan : Ports) (applied : Entries) → AreKept plan applied (None ∷ None ∷ None ∷ None ∷ [])
+kept-new plan applied = record {
+  four = refl;
+  each = λ w f is. absurd (none-some f (sym (no-flight w) ∙ is));
+  apart = λ w v f g is at same. absurd (none-some f (sym (no-flight w) ∙ is));
+}
 
 module _ (plan : Ports) (applied : Entries) (w : ℕ) where
   pub kept-alike : (f g : FlightState) → g.named ≡ f.named → g.shared ≡ f.shared → IsSameOperation f.flown.operation g.flown.operation → IsKeptFlight plan applied w f → IsKeptFlight plan applied w g

@@ -1,10 +1,12 @@
 -- The operation of a row's flight. Own.
-use Rattle.std.specs.Prelude.{◌≡◌, ℕ, List, Option, Some, None}
+use Rattle.std.specs.Prelude.{◌≡◌, ℕ, List, Option, Some, None, Box, option_map}
+use Rattle.std.specs.declared.alloc.Global.{Global}
 use Rattle.table_schema.specs.declared.row.Row.{Row}
 use Rattle.sai_types.specs.declared.hop.Hop.{Hop}
 use Rattle.row_layout.specs.Rows.{Group, Owner}
 use Rattle.ref_counts.specs.declared.name.Name.{Name}
 use Rattle.ref_counts.specs.declared.name.Name.TheVariants as name
+use Rattle.orch_flight.specs.Grouping.{GroupOperation}
 use Rattle.orch_flight.specs.Operation.{Operation}
 use Rattle.flight_board.specs.declared.row_flight.RowFlight.{RowFlight}
 use Rattle.flight_board.specs.declared.row_flight.RowFlight.TheVariants as flight
@@ -21,6 +23,10 @@ operation_of (flight.Route f) = f.operation
 abbrev pub shared_group : RowFlight → Option (List Hop)
 shared_group (flight.Route f) = f.group
 shared_group r = None
+
+-- the operation of a group, where there is a box of it
+abbrev pub unboxed : Option (Box GroupOperation Global) → Option GroupOperation
+unboxed o = option_map (λ b. b.value) o
 
 -- the key is to have this row
 abbrev pub HasRow : RowFlight → Option Row → Type 0

@@ -9,6 +9,7 @@ ghost use Rattle.registry_laws.specs.Flown.{due_for, group_to_build, group_to_ta
 ghost use Rattle.registry_laws.specs.Making.{IsNextCall, MayTakeFor, TookFor, group_begun, left_of_group_by};
 ghost use Rattle.flight_board.specs.Applied.{HasPlace, KeepsOthers, row_at};
 ghost use Rattle.flight_board.specs.Board.{IsCallReady, IsFlightBegun, KnowsGroup, operation_in, with_group};
+ghost use Rattle.flight_board.specs.Flights.{unboxed};
 
 use crate::applied::AppliedRows;
 use crate::ending::{drop_users, end_row};
@@ -31,16 +32,17 @@ pub struct Flight {
     // the keys of the rows that its applied row names
     named: Vec<Key>,
     operation: RowFlight,
-    group: Option<GroupFlight>,
+    // in a box: few operations have one, and each is moved often
+    group: Option<Box<GroupFlight>>,
 }
 
 impl Model for Flight {
     ghost use Rattle.flight_board.specs.Board.{FlightState};
-    ghost use Rattle.flight_board.specs.Flights.{IsFlightOf, operation_of, shared_group};
+    ghost use Rattle.flight_board.specs.Flights.{IsFlightOf, operation_of, shared_group, unboxed};
 
     ghost Value = { FlightState };
 
-    ghost view = { λ f. record { named = f.named.items; shared = shared_group f.operation; flown = record { operation = operation_of f.operation; group = f.group } } };
+    ghost view = { λ f. record { named = f.named.items; shared = shared_group f.operation; flown = record { operation = operation_of f.operation; group = unboxed f.group } } };
 
     ghost invariant = { λ f. IsFlightOf f.worker f.name f.operation };
 }
@@ -136,7 +138,7 @@ impl Flight {
             return Ok(());
         }
         if let Some(group) = self.group_due(alloc, plan, reg)? {
-            self.group = Some(group);
+            self.group = Some(Box::new(alloc, group)?);
         }
         Ok(())
     }
@@ -227,8 +229,8 @@ fn keys_named(alloc: Global, key: &Key, row: Option<&Row>) -> Result<Vec<Key>, O
 }
 
 /// What is left of a group's operation: nothing once the group is built.
-fn left_of(group: GroupFlight) -> Option<GroupFlight>
-    ensures { result ≡ left_of_group_by group group.due }
+fn left_of(group: Box<GroupFlight>) -> Option<Box<GroupFlight>>
+    ensures { unboxed result ≡ left_of_group_by group.value group.value.due }
 {
     if group.is_over() && group.builds() {
         None
