@@ -88,7 +88,20 @@ impl Core {
     pub fn into_log(self) -> Log
         ensures { result ≡ self.log }
     {
-        self.log
+        let Core {
+            tables,
+            board,
+            syncd,
+            waiting,
+            log,
+            ..
+        } = self;
+        // each by its destructor, which is so proved by itself
+        drop(tables);
+        drop(board);
+        drop(syncd);
+        drop(waiting);
+        log
     }
 
     /// The keys that wait, each with the reason that the last turn found.
