@@ -30,7 +30,8 @@ fn main(rt: HostRuntime) -> Result<()> {
 
 /// Makes, sets and removes so many routes on a new chip, and tells the time of a call.
 fn time(rt: &(impl Print + Eprint + Clock), alloc: Global, routes: u32) -> Result<()> {
-    let mut chip = SimChip::new(alloc, CAPACITIES, Vec::new(alloc));
+    // in a box, so that its destructor is proved once
+    let mut chip = Box::new(alloc, SimChip::new(alloc, CAPACITIES, Vec::new(alloc)))?;
     let network = Network::new(alloc, &mut chip)?;
     let start = Instant::now(rt)?;
     make_routes(&mut chip, &network, routes)?;

@@ -27,7 +27,8 @@ pub fn run_case(alloc: Global, case: &Case) -> Result<()> {
 /// Runs a case on a new core and chip. It tells what stands at the end of each round.
 fn run(alloc: Global, case: &Case, workers: &CaseWorkers) -> Result<Vec<Vec<Thing>>> {
     let plan = plan_of(alloc, case.ports.as_slice())?;
-    let mut bench = Bench::new(alloc, plan);
+    // in a box, so that its destructor is proved once
+    let mut bench = Box::new(alloc, Bench::new(alloc, plan))?;
     run_rounds(alloc, &mut bench, case.rounds.as_slice(), workers)
 }
 

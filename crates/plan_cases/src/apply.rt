@@ -37,8 +37,9 @@ pub fn run_case(alloc: Global, case: &Case) -> Result<()> {
     let mut ips = Vec::new(alloc);
     add_addresses(&mut ips, old.as_slice())?;
     add_addresses(&mut ips, new.as_slice())?;
-    let mut chip = SimChip::new(alloc, caps, Vec::new(alloc));
-    let mut twin = SimChip::new(alloc, caps, Vec::new(alloc));
+    // in boxes, so that the destructor is proved once
+    let mut chip = Box::new(alloc, SimChip::new(alloc, caps, Vec::new(alloc)))?;
+    let mut twin = Box::new(alloc, SimChip::new(alloc, caps, Vec::new(alloc)))?;
     make_old(alloc, &mut chip, &mut twin, old.as_slice())?;
     let views = Views { caps, new, ips };
     apply_each(alloc, &views, case.breaks.as_slice(), &mut chip, &mut twin)
@@ -91,8 +92,9 @@ fn apply_view(
     requires { AreTwins chip.old.chip twin.old.chip }
     ensures { IfOk result (λ calls. AreTwins chip.new.chip twin.new.chip) }
 {
-    let mut syncd = Syncd::new(alloc, views.caps);
-    let mut second = SimChip::new(alloc, AMPLE, Vec::new(alloc));
+    // in boxes, as above
+    let mut syncd = Box::new(alloc, Syncd::new(alloc, views.caps))?;
+    let mut second = Box::new(alloc, SimChip::new(alloc, AMPLE, Vec::new(alloc)))?;
     apply_by(alloc, views, most, &mut syncd, &mut second, chip, twin)
 }
 
