@@ -20,7 +20,7 @@ use Rattle.sai_types.specs.Names as name
 use Rattle.sai_types.specs.Names.{ShareLane, name_of}
 use Rattle.sai_types.specs.Objects.{Objects}
 use Rattle.sai_types.specs.Refusal.{capacity_of}
-use Rattle.sai_chip.specs.Naming.{entries_of}
+use Rattle.chip_names.specs.Naming.{entries_of}
 use Rattle.chip_layout.specs.Bodies.{IsBody}
 use Rattle.chip_layout.specs.Layout.{Has}
 use Rattle.chip_layout.specs.Renamed.{call_renamed}

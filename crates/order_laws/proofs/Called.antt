@@ -21,7 +21,7 @@ use Rattle.sai_types.specs.Made.{made_after_all}
 use Rattle.sai_types.specs.Named.{thing_of}
 use Rattle.sai_types.specs.Names.{ThingName, name_kind, name_of}
 use Rattle.sai_types.specs.Objects.{Objects}
-use Rattle.sai_chip.specs.Naming.{entries_of}
+use Rattle.chip_names.specs.Naming.{entries_of}
 use Rattle.chip_layout.specs.Bodies.{IsAt, IsBody, body_with, first_name, is_numbered, second_name}
 use Rattle.chip_layout.specs.Layout.{Has, Layout, has_number}
 use Rattle.chip_layout.specs.Renamed.{body_renamed, call_renamed}

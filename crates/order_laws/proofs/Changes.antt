@@ -19,7 +19,7 @@ use Rattle.sai_types.specs.Names as name
 use Rattle.sai_types.specs.Names.{ThingName, name_of}
 use Rattle.sai_types.specs.Objects.{Objects}
 use Rattle.sai_types.proofs.Membership.{in-either, in-left, in-map, in-right, map-in}
-use Rattle.sai_chip.specs.Naming.{entries_of}
+use Rattle.chip_names.specs.Naming.{entries_of}
 use Rattle.chip_layout.specs.Bodies.{IsBody}
 use Rattle.chip_layout.specs.Counted.{AreDistinct}
 use Rattle.chip_layout.specs.Layout.{Has}

@@ -17,7 +17,7 @@ use Rattle.sai_types.specs.Alike.{IsAlike, IsIn}
 use Rattle.sai_types.specs.Made.{AreLegal, made_after_all}
 use Rattle.sai_types.specs.Names.{name_of}
 use Rattle.sai_types.specs.Objects.{Objects}
-use Rattle.sai_chip.specs.Naming.{entries_of}
+use Rattle.chip_names.specs.Naming.{entries_of}
 use Rattle.chip_layout.specs.Layout.{Layout}
 use Rattle.chip_layout.specs.Renamed.{call_renamed}
 use Rattle.plan_laws.specs.Applied.{chip_things, nothing}

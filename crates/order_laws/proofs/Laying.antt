@@ -23,7 +23,7 @@ use Rattle.sai_types.specs.Refusal.{same_id}
 use Rattle.sai_types.proofs.Exact.{entry-exact}
 use Rattle.sai_types.proofs.Listed.{found-in, in-found}
 use Rattle.sai_types.proofs.Membership.{in-map, map-in}
-use Rattle.sai_chip.specs.Naming.{entries_of}
+use Rattle.chip_names.specs.Naming.{entries_of}
 use Rattle.chip_layout.specs.Bodies.{body_with}
 use Rattle.chip_layout.specs.Counted.{AreDistinct}
 use Rattle.chip_layout.specs.Layout.{Layout, has_number}

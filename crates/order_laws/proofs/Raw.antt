@@ -23,8 +23,8 @@ use Rattle.sai_types.proofs.Exact.{entry-exact, id-exact}
 use Rattle.sai_types.proofs.Found.{same-refl, same-symm}
 use Rattle.sai_types.proofs.Listed.{found-in, in-found}
 use Rattle.sai_types.proofs.Rising.{hop_exact, hop_total, same-rising}
-use Rattle.sai_chip.specs.Naming.{AreBodies}
-use Rattle.sai_chip.proofs.SameNames.{hops_among-same, thing_by-same}
+use Rattle.chip_names.specs.Naming.{AreBodies}
+use Rattle.chip_names.proofs.SameNames.{hops_among-same, thing_by-same}
 use Rattle.chip_layout.specs.Layout.{Layout}
 use Rattle.chip_layout.proofs.Naming.{among}
 use Rattle.plan_laws.specs.Applied.{IsListedChip}

@@ -12,7 +12,7 @@ use Rattle.sai_types.specs.declared.thing.Thing.{Thing}
 use Rattle.sai_types.specs.Named.{those}
 use Rattle.sai_types.specs.Names.{ThingName, name_kind, name_of}
 use Rattle.sai_types.specs.Objects.{is_of, kind_of, level, used}
-use Rattle.sai_chip.specs.Naming.{entries_of}
+use Rattle.chip_names.specs.Naming.{entries_of}
 use Rattle.chip_layout.specs.Layout.{Has}
 use Rattle.chip_layout.proofs.Bodies.{kind-body}
 use Rattle.plan_laws.specs.Applied.{IsListedChip}

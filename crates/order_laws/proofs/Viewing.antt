@@ -28,7 +28,7 @@ use Rattle.sai_types.specs.Refusal.{clash}
 use Rattle.sai_types.proofs.Exact.{entry-exact}
 use Rattle.sai_types.proofs.Listed.{found-in, in-found, object-of_thing}
 use Rattle.sai_types.proofs.Membership.{in-map, map-in}
-use Rattle.sai_chip.specs.Naming.{entries_of}
+use Rattle.chip_names.specs.Naming.{entries_of}
 use Rattle.chip_layout.specs.Bodies.{IsAt, IsBody, body_with, first_name, is_numbered, second_name}
 use Rattle.chip_layout.specs.Counted.{AreDistinct}
 use Rattle.chip_layout.specs.Layout.{Has, Layout, has_number}

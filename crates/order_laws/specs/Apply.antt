@@ -12,7 +12,7 @@ use Rattle.sai_types.specs.declared.thing.Thing.{Thing}
 use Rattle.sai_types.specs.After.{makes_id}
 use Rattle.sai_types.specs.Objects.{used}
 use Rattle.sai_types.specs.Refusal.{capacity_of}
-use Rattle.sai_chip.specs.Naming.{entries_of}
+use Rattle.chip_names.specs.Naming.{entries_of}
 use Rattle.chip_layout.specs.Layout.{next_rid}
 use Rattle.chip_layout.specs.Renamed.{call_renamed}
 use Rattle.plan_laws.specs.Applied.{IsListedChip}

@@ -16,7 +16,7 @@ ghost use Rattle.sai_types.specs.declared.body.Call.TheVariants as call;
 ghost use Rattle.sai_types.specs.declared.body.Entry.{Entry};
 ghost use Rattle.sai_types.specs.declared.kind.Kind.{Kind};
 ghost use Rattle.plan_laws.specs.Bounds.{IsUnwanted, makes_kind};
-ghost use Rattle.sai_chip.specs.Naming.{entries_of};
+ghost use Rattle.chip_names.specs.Naming.{entries_of};
 ghost use Rattle.chip_layout.specs.Renamed.{call_renamed};
 ghost use Rattle.plan_laws.specs.Applied.{IsColdPlan, IsHitlessPlan, chip_things, nothing};
 ghost use Rattle.plan_laws.specs.Calls.{PlansChanges, resolve, viewed};

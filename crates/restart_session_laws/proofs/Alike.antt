@@ -16,7 +16,7 @@ use Rattle.sai_types.specs.Alike.{IsIn}
 use Rattle.sai_types.specs.Names.{ThingName}
 use Rattle.sai_types.specs.Objects.{Objects}
 use Rattle.sai_types.specs.Refusal.{same_id}
-use Rattle.sai_chip.specs.Naming.{entries_of}
+use Rattle.chip_names.specs.Naming.{entries_of}
 use Rattle.plan_laws.specs.Moments.{MakesChanges}
 use Rattle.plan_laws.specs.Old.{chip_groups, is_double, is_group_of, old_things, seen_things, shown_hops, tag_for, tag_of}
 use Rattle.plan_laws.specs.Plans.{PlanChange, IsViewPlan, cold_rank, hitless_rank}

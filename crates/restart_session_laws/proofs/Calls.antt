@@ -9,7 +9,7 @@ use Rattle.sai_types.specs.declared.thing.Thing.{Thing}
 use Rattle.sai_types.specs.After.{after_call, after_calls}
 use Rattle.sai_types.specs.Made.{made_after, made_after_all}
 use Rattle.sai_types.specs.Objects.{Objects}
-use Rattle.sai_chip.specs.Naming.{entries_of}
+use Rattle.chip_names.specs.Naming.{entries_of}
 use Rattle.chip_layout.specs.Renamed.{call_renamed}
 use Rattle.plan_laws.proofs.Running.{after-append}
 use Rattle.machine_laws.proofs.Staying.{made-one}

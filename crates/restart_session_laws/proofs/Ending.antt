@@ -27,7 +27,7 @@ use Rattle.sai_types.specs.Objects.{Objects, body_at, kind_of}
 use Rattle.sai_types.proofs.Exact.{entry-exact}
 use Rattle.sai_types.proofs.Found.{same-refl}
 use Rattle.sai_types.proofs.Membership.{all-in, in-map, map-in}
-use Rattle.sai_chip.specs.Naming.{entries_of}
+use Rattle.chip_names.specs.Naming.{entries_of}
 use Rattle.chip_layout.specs.Bodies.{IsBody, is_numbered}
 use Rattle.chip_layout.specs.Counted.{AreDistinct}
 use Rattle.chip_layout.specs.Layout.{Has, IsLaidOut, Layout, has_number, listed}

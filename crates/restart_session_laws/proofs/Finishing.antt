@@ -10,7 +10,7 @@ use Rattle.sai_types.specs.ChipState.{ChipState}
 use Rattle.sai_types.specs.Made.{IsWhole}
 use Rattle.sai_types.specs.Names.{name_of}
 use Rattle.sai_types.proofs.Membership.{in-map, map-in}
-use Rattle.sai_chip.specs.Naming.{entries_of}
+use Rattle.chip_names.specs.Naming.{entries_of}
 use Rattle.chip_layout.specs.Layout.{IsLaidOut, has_number, listed}
 use Rattle.chip_layout.proofs.Distinct.{one-of}
 use Rattle.switch_model.specs.History.{with_mark}

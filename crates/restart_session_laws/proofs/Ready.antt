@@ -31,7 +31,7 @@ use Rattle.sai_types.proofs.Keys.{share-first}
 use Rattle.sai_types.proofs.Listed.{found-in, object-of_thing}
 use Rattle.sai_types.proofs.Things.{both_mapped}
 use Rattle.sai_types.proofs.Membership.{map-in}
-use Rattle.sai_chip.specs.Naming.{entries_of}
+use Rattle.chip_names.specs.Naming.{entries_of}
 use Rattle.chip_layout.specs.Counted.{AreDistinct}
 use Rattle.chip_layout.specs.Grouped.{AreGrouped}
 use Rattle.chip_layout.specs.Layout.{Has, IsLaidOut, Layout, has_number}

@@ -15,8 +15,8 @@ use Rattle.sai_types.specs.declared.plan.Mode.{Mode}
 use Rattle.sai_types.specs.declared.thing.Thing.{Thing}
 use Rattle.sai_types.specs.Alike.{IsIn}
 use Rattle.sai_types.specs.ChipState.{ChipState, objects_of}
-use Rattle.sai_chip.specs.Naming.{entries_of}
-use Rattle.sai_chip.proofs.SameNames.{entries_of-objects_of}
+use Rattle.chip_names.specs.Naming.{entries_of}
+use Rattle.chip_names.proofs.SameNames.{entries_of-objects_of}
 use Rattle.switch_model.specs.History.{History, listed_by, with_mark}
 use Rattle.switch_model.specs.Marks.{Waiting, sent_writes, written_key}
 use Rattle.switch_model.specs.declared.mark.Mark.{Mark}

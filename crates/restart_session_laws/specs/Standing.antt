@@ -19,7 +19,7 @@ use Rattle.sai_types.specs.Alike.{IsIn}
 use Rattle.sai_types.specs.ChipState.{ChipState, objects_of}
 use Rattle.sai_types.specs.Made.{made_after_all}
 use Rattle.sai_types.specs.Objects.{Objects, body_at}
-use Rattle.sai_chip.specs.Naming.{entries_of}
+use Rattle.chip_names.specs.Naming.{entries_of}
 use Rattle.chip_layout.specs.Layout.{has_number}
 use Rattle.switch_model.specs.History.{listed_by}
 use Rattle.switch_model.specs.Marks.{sent_writes, written_key}

@@ -13,7 +13,7 @@ use Rattle.std.proofs.lemmas.List.{append-nil}
 use Rattle.std.proofs.lemmas.Map.{lookup-none}
 use Rattle.std.proofs.lemmas.Map.Entries.{none_below_head}
 use Rattle.std.proofs.lemmas.Map.Keys.{sorted_tail}
-use Rattle.std.proofs.lemmas.Map.Lookups.{CmpEqualImpliesEq, exact_unsigned}
+use Rattle.std.proofs.lemmas.Map.Lookups.{CmpEqualImpliesEq}
 use Rattle.std.proofs.lemmas.Map.Steps.{set_value_same}
 use Rattle.std.proofs.lemmas.Iterator.Adapters.{option_map_id}
 use Rattle.swss_types.specs.declared.address.Ip.{Ip}
@@ -35,12 +35,11 @@ use Rattle.sai_types.specs.After.{after_call, after_set, entry_of, has_id, with_
 use Rattle.sai_types.specs.Made.{AreSorted}
 use Rattle.sai_types.specs.Objects.{Objects, body_at, entry_cmp}
 use Rattle.sai_types.proofs.Entries.{entry_total}
-use Rattle.sai_chip.specs.Tally.{neighbor_cmp, rid_cmp}
-use Rattle.sai_chip.specs.Bodies.{HaveIdKinds, IsWellHeld, id_found, ids_set, macs_set, numbered, owned, reached, routed, objects_in, prefix_cmp, target_of, targets_set, value_found}
+use Rattle.chip_names.specs.Naming.{numbered, rid_cmp}
+use Rattle.chip_names.proofs.Ids.{rid_exact}
+use Rattle.sai_chip.specs.Tally.{neighbor_cmp}
+use Rattle.sai_chip.specs.Bodies.{HaveIdKinds, IsWellHeld, id_found, ids_set, macs_set, owned, reached, routed, objects_in, prefix_cmp, target_of, targets_set, value_found}
 use Rattle.sai_chip.proofs.Parts.{lookup-past, lookup-last, remove-past, remove-last, insert-past, set-past, lookup-in, insert-in, remove-in, set-in, key-lookup, key-insert, key-remove}
-
-pub rid_exact : CmpEqualImpliesEq rid_cmp
-rid_exact x y h = let made : ℕ → Rid = λ n. record { 0 = n } in ap made (exact_unsigned x.0 y.0 h)
 
 pub neighbor_exact : CmpEqualImpliesEq neighbor_cmp
 neighbor_exact x y h = let made : Rid → Ip → Rid × Ip = λ r ip. (r, ip) in ap₂ made (rid_exact x.0 y.0 (then_first _ _ h)) (ip_exact x.1 y.1 (then_last _ _ h))
@@ -79,19 +78,6 @@ set-lacking objects e a (Some b) sorted found lacks =
     ap (insert_entry entry_cmp objects e) (lacks b refl)
     ∙ insert-found entry_cmp entry_total e b b objects sorted found
     ∙ set_value_same (is_at (entry_cmp e)) objects b found
-
--- bodies with identifiers alone
-pub at-numbered : (ids : List (Rid × Body Rid)) (r : Rid) → body_at (numbered ids) (entry.Oid r) ≡ lookup (is_at (rid_cmp r)) ids
-at-numbered ids r =
-    ap (λ l. body_at l (entry.Oid r)) (sym (append-nil (numbered ids)))
-    ∙ lookup-in rid_cmp entry.Oid (λ r b. b) (λ x y. refl) rid_exact r [] refl ids
-    ∙ option_map_id (lookup (is_at (rid_cmp r)) ids)
-
-pub not_oid : (e : Entry Rid) → ((r : Rid) → e ≡ entry.Oid r → ⊥) → (r : Rid) → is_at (entry_cmp e) (entry.Oid r) ≡ false
-not_oid (entry.Oid s) not r = absurd (not s refl)
-not_oid (entry.Own ip) not r = refl
-not_oid (entry.Neigh s ip) not r = refl
-not_oid (entry.Route p) not r = refl
 
 before_id : (ips : List Ip) (ns : List ((Rid × Ip) × Mac)) (rs : List (Prefix × To Rid)) (r : Rid) (b : Body Rid) → insert_entry entry_cmp (owned ips ++ (reached ns ++ routed rs)) (entry.Oid r) b ≡ (entry.Oid r, b) ∷ (owned ips ++ (reached ns ++ routed rs))
 before_id [] [] [] r b = refl

@@ -13,8 +13,8 @@ use Rattle.sai_types.specs.declared.body.Entry.TheVariants as entry
 use Rattle.sai_types.specs.declared.body.To.TheVariants as to
 use Rattle.sai_types.specs.Objects.{Objects}
 use Rattle.sai_types.specs.Named.{both, hops_at, next_hop_at, thing_by, thing_of}
-use Rattle.sai_chip.specs.Members.{HasHops, group_named_by}
-use Rattle.sai_chip.specs.Naming.{GroupHops, hops_in}
+use Rattle.chip_names.specs.Members.{HasHops, group_named_by}
+use Rattle.chip_names.specs.Naming.{GroupHops, hops_in}
 use Rattle.sai_chip.proofs.MarkRanges.{group_tied}
 
 thing_by-known : (f h : Rid → Option (List Hop)) (objects : Objects) (e : Entry Rid) (b : Body Rid) → ((g : Rid) → group_named_by e b ≡ Some g → f g ≡ h g) → thing_by f objects (e, b) ≡ thing_by h objects (e, b)

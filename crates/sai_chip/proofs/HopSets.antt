@@ -1,5 +1,5 @@
 -- hops put in their places: what the list holds, in whatever order they came
-use Rattle.std.proofs.Common.{◌≡◌, ℕ, ◌-◌, ◌<◌, ◌≤◌, Bool, true, false, ◌||◌, List, [], ◌∷◌, drop, get_or, length, Option, None, Some, Ordering, refl, sym, ap, ◌∙◌}
+use Rattle.std.proofs.Common.{◌≡◌, Bool, true, false, ◌||◌, List, [], ◌∷◌, Option, None, Some, Ordering, refl, sym, ap, ◌∙◌}
 use Rattle.std.specs.declared.cmp.Ordering.TheVariants.{Less, Equal, Greater}
 use Rattle.std.specs.Ordering.{is_eq, match_ordering}
 use Rattle.std.specs.BTreeMap.{is_at}
@@ -18,8 +18,7 @@ use Rattle.sai_types.specs.contracts.hop.HopOrd.TheImpl.Laws as ordered_hop
 use Rattle.sai_types.specs.Objects.{Objects}
 use Rattle.sai_types.specs.Named.{both, hop_cmp, next_hop_at}
 use Rattle.sai_types.proofs.Rising.{hop_exact}
-use Rattle.sai_chip.specs.Members.{hops_by}
-use Rattle.sai_chip.proofs.SameNames.{drop-before}
+use Rattle.chip_names.specs.Members.{hops_by}
 
 -- either is true where one is
 pub or_true : (b : Bool) → (b || true) ≡ true
@@ -86,11 +85,3 @@ module _ (objects : Objects) where
   -- the hops of next hops don't depend on the order in which these stand, nor on how often
   pub hops_by-same : (ns ms : List Rid) → ((p : Rid → Bool) → list_any p ns ≡ list_any p ms) → hops_by objects ns ≡ hops_by objects ms
   hops_by-same ns ms same = same_described ns ms (hops_by objects ns) (hops_by objects ms) same (described ns) (described ms)
-
--- one more next hop in front
-pub hops_by-before : (objects : Objects) (ns : List Rid) (left : ℕ) (d : Rid) (hop : Option Hop) (hops new : Option (List Hop)) → 0 < left → left ≤ length ns → hops ≡ hops_by objects (drop left ns) → hop ≡ next_hop_at objects (get_or ns (left - 1) d) → new ≡ both (insert_key hop_cmp) hops hop → new ≡ hops_by objects (drop (left - 1) ns)
-hops_by-before objects ns left d hop hops new some within found one more =
-    more
-    ∙ ap (both (insert_key hop_cmp) hops) one
-    ∙ ap (λ hs. both (insert_key hop_cmp) hs (next_hop_at objects (get_or ns (left - 1) d))) found
-    ∙ ap (hops_by objects) (sym (drop-before ns left d some within))

@@ -24,8 +24,9 @@ use Rattle.sai_types.specs.After.{has_id}
 use Rattle.sai_types.specs.Forwarding.{best_route, has_own, hop_mac}
 use Rattle.sai_types.specs.Named.{both, base_on, bridge_port_at, goal_by, hop_on, hops_at, named, next_hop_at, port_at, thing_of, those, vlan_at}
 use Rattle.sai_types.specs.Objects.{Objects}
-use Rattle.sai_chip.specs.Bodies.{HaveIdKinds, best_of, numbered, owned, reached, routed, objects_in}
-use Rattle.sai_chip.proofs.SameNames.{map-things_among}
+use Rattle.chip_names.specs.Naming.{numbered}
+use Rattle.chip_names.proofs.SameNames.{map-things_among}
+use Rattle.sai_chip.specs.Bodies.{HaveIdKinds, best_of, owned, reached, routed, objects_in}
 
 -- things that are no own address, neighbour or route
 abbrev pub is_other : Thing → Bool

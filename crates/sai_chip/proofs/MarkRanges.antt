@@ -1,5 +1,5 @@
 -- the counted members of a group: they stand together, from the first that the group may have
-use Rattle.std.proofs.Common.{◌≡◌, ◌⊎◌, inl, inr, ℕ, ◌<◌, nat_lt, nat_cmp, Bool, true, false, cond, ◌||◌, ◌&&◌, List, [], ◌∷◌, ◌++◌, Option, Some, Ordering, if◌then◌else◌, refl, sym, ap, ◌∙◌, arith, rules}
+use Rattle.std.proofs.Common.{◌≡◌, ◌⊎◌, inl, inr, ℕ, ◌<◌, nat_lt, nat_cmp, Bool, true, false, cond, ◌||◌, ◌&&◌, List, [], ◌∷◌, ◌++◌, Option, Some, Ordering, if◌then◌else◌, refl, sym, ap, ◌∙◌, arith}
 use Rattle.std.specs.declared.cmp.Ordering.TheVariants.{Less, Equal, Greater}
 use Rattle.std.specs.declared.ops.Bound.TheVariants.{Included, Unbounded}
 use Rattle.std.specs.Ordering.{MatchOrdering, is_eq, is_le, ordering_then}
@@ -20,7 +20,9 @@ use Rattle.sai_types.specs.contracts.ids.RidOrd.TheImpl.Laws as ordered_rid
 use Rattle.sai_types.specs.Refusal.{same_id}
 use Rattle.sai_types.proofs.Apart.{same_id-symm}
 use Rattle.sai_types.proofs.Exact.{id-exact}
-use Rattle.sai_chip.specs.Tally.{count_in, pair_cmp, rid_cmp}
+use Rattle.chip_names.specs.Naming.{rid_cmp}
+use Rattle.chip_names.proofs.Ids.{rid_tied}
+use Rattle.sai_chip.specs.Tally.{count_in, pair_cmp}
 
 abbrev Members : Type 0
 Members = List ((Rid × Rid) × ℕ)
@@ -51,9 +53,6 @@ record IsAbove (g : Rid) (p : Rid × Rid) : Type 0 where
   inside : is_le (pair_cmp (first_pair g) p) ≡ true
   less : (n : Rid) → pair_cmp (g, n) p ≡ Less
   other : same_id p.0 g ≡ false
-
-pub rid_tied : (a b : Rid) → same_id b a ≡ is_eq (rid_cmp a b)
-rid_tied a b = search rules
 
 place_by : (g h n : Rid) (r : Ordering) → rid_cmp g h ≡ r → IsBelow g (h, n) ⊎ ((same_id h g ≡ true) ⊎ IsAbove g (h, n))
 place_by g h n Less e = inr (inr (record {

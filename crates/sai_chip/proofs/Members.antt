@@ -11,10 +11,10 @@ use Rattle.sai_types.specs.Refusal.{clash, same_id}
 use Rattle.sai_types.specs.Named.{both, hop_cmp, hops_among, hops_at, next_hop_at, with_member}
 use Rattle.sai_types.proofs.Apart.{same_id-symm}
 use Rattle.sai_types.proofs.Exact.{id-exact}
+use Rattle.chip_names.specs.Members.{hops_by}
 use Rattle.sai_chip.specs.declared.mark.TakenMark.TheVariants as mark
 use Rattle.sai_chip.specs.Tally.{Tally, count_at}
 use Rattle.sai_chip.specs.Marks.{IsCounted, has_mark, is_claimed}
-use Rattle.sai_chip.specs.Members.{hops_by}
 use Rattle.sai_chip.proofs.Clashes.{clash-group_member}
 use Rattle.sai_chip.proofs.HopSets.{hops_by-same, or_true}
 use Rattle.sai_chip.proofs.Standing.{positive-standing}

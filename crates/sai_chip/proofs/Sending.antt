@@ -27,12 +27,12 @@ use Rattle.sai_types.specs.Objects.{Objects, body_at}
 use Rattle.sai_types.specs.References.{refers_well, stands}
 use Rattle.sai_types.specs.declared.kind.Kind.TheVariants as kind
 use Rattle.sai_types.proofs.Rising.{hop_exact}
+use Rattle.chip_names.specs.Members.{hops_by}
+use Rattle.chip_names.proofs.SameNames.{drop-before}
 use Rattle.sai_chip.specs.declared.forward.Forward.{Forward}
 use Rattle.sai_chip.specs.declared.forward.Forward.TheVariants as forward
 use Rattle.sai_chip.specs.Bodies.{best_of, routed}
 use Rattle.sai_chip.specs.Forward.{answer_of, is_longer, more_ways, pick, sent, way_of, ways_by, ways_of, with_goal}
-use Rattle.sai_chip.specs.Members.{hops_by}
-use Rattle.sai_chip.proofs.SameNames.{drop-before}
 
 best_by : (objects : Objects) (ip : Ip) (p : Prefix) (os : List (Option Thing)) (g : Option Goal) → best_route (those (option_map (thing.Route p) g ∷ os)) ip ≡ with_goal ip p g (best_route (those os) ip)
 best_by objects ip p os None = refl

@@ -23,8 +23,9 @@ use Rattle.sai_types.specs.declared.body.To.{To}
 use Rattle.sai_types.specs.After.{has_id}
 use Rattle.sai_types.specs.Objects.{Objects}
 use Rattle.sai_types.specs.Refusal.{clash, same_id}
-use Rattle.sai_chip.specs.Tally.{neighbor_cmp, rid_cmp}
-use Rattle.sai_chip.specs.Bodies.{numbered, owned, reached, routed, objects_in}
+use Rattle.chip_names.specs.Naming.{numbered, rid_cmp}
+use Rattle.sai_chip.specs.Tally.{neighbor_cmp}
+use Rattle.sai_chip.specs.Bodies.{owned, reached, routed, objects_in}
 
 -- a part of which no body passes a test
 any-past : {X : Type 0} (f : X → Entry Rid × Body Rid) (p : Body Rid → Bool) → ((x : X) → p (f x).1 ≡ false) → (xs : List X) (rest : Objects) → list_any (λ o. p o.1) (map f xs ++ rest) ≡ list_any (λ o. p o.1) rest

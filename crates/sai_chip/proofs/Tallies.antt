@@ -6,9 +6,10 @@ use Rattle.swss_types.specs.declared.address.Ip.{Ip}
 use Rattle.sai_types.specs.declared.ids.Rid.{Rid}
 use Rattle.sai_types.specs.declared.kind.Kind.{Kind}
 use Rattle.sai_types.specs.declared.body.RifOn.{RifOn}
+use Rattle.chip_names.specs.Naming.{rid_cmp}
 use Rattle.sai_chip.specs.declared.mark.TakenMark.{TakenMark}
 use Rattle.sai_chip.specs.declared.mark.TakenMark.TheVariants as mark
-use Rattle.sai_chip.specs.Tally.{Tally, count_in, count_at, is_mark, kind_cmp, rid_cmp, rif_on_cmp, pair_cmp, neighbor_cmp}
+use Rattle.sai_chip.specs.Tally.{Tally, count_in, count_at, is_mark, kind_cmp, rif_on_cmp, pair_cmp, neighbor_cmp}
 
 -- one more, or one less, where a test passes
 abbrev pub more : ℕ → Bool → ℕ

@@ -22,15 +22,12 @@ use Rattle.sai_types.specs.Forwarding.{best_route}
 use Rattle.sai_types.specs.Made.{AreSorted}
 use Rattle.sai_types.specs.Named.{thing_of, those}
 use Rattle.sai_types.specs.Objects.{Objects, body_at}
-use Rattle.sai_chip.specs.Tally.{neighbor_cmp, rid_cmp}
+use Rattle.chip_names.specs.Naming.{numbered, rid_cmp}
+use Rattle.sai_chip.specs.Tally.{neighbor_cmp}
 
 -- the order of prefixes
 abbrev pub prefix_cmp : Prefix → Prefix → Ordering
 prefix_cmp = prefix_ord.ghosts.cmp
-
--- bodies with their identifiers, as objects
-abbrev pub numbered : List (Rid × Body Rid) → Objects
-numbered ids = map (λ e. (entry.Oid e.0, e.1)) ids
 
 abbrev pub owned : List Ip → Objects
 owned ips = map (λ ip. (entry.Own ip, body.OwnAddress ip)) ips

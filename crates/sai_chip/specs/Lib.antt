@@ -2,8 +2,6 @@ pub mod Bodies
 pub mod Failing
 pub mod Forward
 pub mod Marks
-pub mod Members
-pub mod Naming
 pub mod Replay
 pub mod Sim
 pub mod SimChip

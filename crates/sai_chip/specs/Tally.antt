@@ -17,15 +17,13 @@ use Rattle.sai_types.specs.contracts.ids.RidEq.TheImpl as rid_eq
 use Rattle.sai_types.specs.contracts.ids.RidPartialEq.TheImpl as rid_partial_eq
 use Rattle.sai_types.specs.contracts.ids.RidPartialOrd.TheImpl as rid_partial_ord
 use Rattle.sai_types.specs.contracts.body.RifOnOrd.TheImpl as rif_on_ord
+use Rattle.chip_names.specs.Naming.{rid_cmp}
 use Rattle.sai_chip.specs.declared.mark.TakenMark.{TakenMark}
 use Rattle.sai_chip.specs.declared.mark.TakenMark.TheVariants as mark
 
 -- the orders of what is marked
 abbrev pub kind_cmp : Kind → Kind → Ordering
 kind_cmp = kind_ord.ghosts.cmp
-
-abbrev pub rid_cmp : Rid → Rid → Ordering
-rid_cmp = rid_ord.ghosts.cmp
 
 abbrev pub rif_on_cmp : RifOn Rid → RifOn Rid → Ordering
 rif_on_cmp = (rif_on_ord.ghosts rid.the_row rid_ord.ghosts rid_ord.dict rid_eq.ghosts rid_eq.dict rid_partial_eq.ghosts rid_partial_eq.dict rid_partial_ord.ghosts rid_partial_ord.dict).cmp

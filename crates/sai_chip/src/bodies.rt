@@ -15,11 +15,12 @@ ghost use Rattle.sai_types.specs.Refusal.{clash};
 ghost use Rattle.sai_types.specs.declared.hop.Hop.{Hop};
 ghost use Rattle.swss_types.specs.contracts.address.IpOrd.TheImpl as ip_ord;
 ghost use Rattle.swss_types.specs.declared.address.Ip.{Ip};
-ghost use Rattle.sai_chip.specs.Bodies.{best_of, ids_set, keyed_at, macs_set, numbered, owned, prefix_cmp, reached, routed, target_of, targets_set, value_set};
-ghost use Rattle.sai_chip.specs.Naming.{AreBodies};
-ghost use Rattle.sai_chip.specs.Tally.{neighbor_cmp, rid_cmp};
+ghost use Rattle.chip_names.specs.Naming.{AreBodies, numbered, rid_cmp};
+ghost use Rattle.sai_chip.specs.Bodies.{best_of, ids_set, keyed_at, macs_set, owned, prefix_cmp, reached, routed, target_of, targets_set, value_set};
+ghost use Rattle.sai_chip.specs.Tally.{neighbor_cmp};
 
 use crate::effect::set_attr;
+use chip_names::Numbered;
 use late_maps::LateMap;
 use sai_types::{Attr, Body, Entry, Object, Rid, To, empty_is_whole, entries_stay_sorted};
 use std::alloc::Global;
@@ -27,9 +28,6 @@ use std::collections::{BTreeMap, BTreeSet};
 use std::marker::Model;
 use std::mem::replace;
 use swss_types::{Ip, Mac, OutOfMemory, Prefix};
-
-/// Bodies by their identifiers, which mostly come in their order.
-pub type Numbered = LateMap<Rid, Body<Rid>>;
 
 /// The Ethernet addresses of neighbours, by their interfaces and addresses.
 pub type Neighbors = BTreeMap<(Rid, Ip), Mac>;

@@ -9,13 +9,13 @@ ghost use Rattle.sai_types.specs.Objects.{body_at};
 ghost use Rattle.sai_types.specs.declared.body.Entry.TheVariants as entry;
 ghost use Rattle.sai_types.specs.declared.thing.Goal.{Goal};
 ghost use Rattle.swss_types.specs.declared.address.Prefix.{Prefix};
+ghost use Rattle.chip_names.specs.Members.{hops_by};
 ghost use Rattle.sai_chip.specs.Forward.{answer_of, is_longer, more_ways, pick, sent, way_of, ways_by, ways_of, with_goal};
-ghost use Rattle.sai_chip.specs.Members.{hops_by};
 
 use crate::forward::Forward;
 use crate::held::Held;
-use crate::names::{hop_on, rif_at};
 use crate::ways::Ways;
+use chip_names::{hop_on, rif_at};
 use sai_types::{Body, Hop, Rid, To};
 use std::alloc::Global;
 use std::collections::BTreeMap;

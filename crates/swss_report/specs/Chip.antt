@@ -5,7 +5,7 @@ use Rattle.table_schema.specs.Plan.{Ports}
 use Rattle.sai_types.specs.Named.{named, those}
 use Rattle.sai_types.specs.Objects.{Objects}
 use Rattle.sai_types.specs.declared.thing.Thing.{Thing}
-use Rattle.sai_chip.specs.Naming.{thing_cmp}
+use Rattle.chip_names.specs.Naming.{thing_cmp}
 use Rattle.swss_report.specs.ChipLine.{chip_line}
 use Rattle.swss_report.specs.Counted.{count_line}
 

@@ -22,7 +22,7 @@ use Rattle.sai_types.specs.Made.{made_after_all}
 use Rattle.sai_types.specs.Names.{name_of}
 use Rattle.sai_types.specs.Objects.{entry_cmp}
 use Rattle.sai_types.proofs.Membership.{in-map}
-use Rattle.sai_chip.specs.Naming.{entries_of}
+use Rattle.chip_names.specs.Naming.{entries_of}
 use Rattle.chip_layout.specs.Layout.{Has, Layout, has_number}
 use Rattle.chip_layout.specs.Renamed.{body_renamed, call_renamed, entry_renamed}
 use Rattle.plan_laws.specs.Applied.{nothing}

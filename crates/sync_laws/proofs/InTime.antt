@@ -12,7 +12,7 @@ use Rattle.sai_types.specs.declared.plan.PlanCall.{PlanCall}
 use Rattle.sai_types.specs.declared.thing.Thing.{Thing}
 use Rattle.sai_types.specs.Alike.{IsIn}
 use Rattle.sai_types.specs.Objects.{Objects}
-use Rattle.sai_chip.specs.Naming.{entries_of}
+use Rattle.chip_names.specs.Naming.{entries_of}
 use Rattle.plan_laws.specs.Applied.{IsListedChip, nothing}
 use Rattle.plan_laws.specs.Calls.{old_entry}
 use Rattle.plan_laws.specs.Old.{old_layout, old_things}

@@ -10,7 +10,7 @@ use Rattle.sai_types.specs.declared.body.Entry.{Entry}
 use Rattle.sai_types.specs.Alike.{IsIn}
 use Rattle.sai_types.specs.Objects.{Objects, entry_cmp}
 use Rattle.sai_types.proofs.Exact.{entry-exact}
-use Rattle.sai_chip.specs.Naming.{entries_of}
+use Rattle.chip_names.specs.Naming.{entries_of}
 use Rattle.chip_layout.specs.Counted.{AreDistinct}
 use Rattle.view_match.specs.Listed.{objects_as}
 use Rattle.asic_view.specs.View.{ViewObjects, as_chip, as_rid}

@@ -15,7 +15,7 @@ use Rattle.sai_types.specs.declared.thing.Thing.{Thing}
 use Rattle.sai_types.specs.After.{has_id, makes_id}
 use Rattle.sai_types.specs.Alike.{IsIn}
 use Rattle.sai_types.proofs.Membership.{in-either, map-in}
-use Rattle.sai_chip.specs.Naming.{entries_of}
+use Rattle.chip_names.specs.Naming.{entries_of}
 use Rattle.chip_layout.specs.Layout.{has_number}
 use Rattle.chip_layout.specs.Renamed.{body_renamed, call_renamed}
 use Rattle.chip_layout.proofs.Shapes.{renamed_with}

@@ -16,7 +16,7 @@ use Rattle.sai_types.specs.Names.{ThingName, name_kind, name_of}
 use Rattle.sai_types.specs.Objects.{Objects, body_at}
 use Rattle.sai_types.proofs.Exact.{entry-exact}
 use Rattle.sai_types.proofs.Found.{body_at-insert, same-refl}
-use Rattle.sai_chip.specs.Naming.{entries_of}
+use Rattle.chip_names.specs.Naming.{entries_of}
 use Rattle.chip_layout.specs.Bodies.{IsAt, IsBody, first_name, is_numbered, second_name}
 use Rattle.chip_layout.specs.Layout.{Has, IsLaidOut, Layout, has_number}
 use Rattle.chip_layout.specs.Renamed.{body_renamed, entry_renamed}

@@ -22,7 +22,7 @@ use Rattle.sai_types.specs.After.{has_id, makes_id}
 use Rattle.sai_types.specs.Alike.{IsIn}
 use Rattle.sai_types.specs.Names.{ThingName, name_kind, name_of}
 use Rattle.sai_types.proofs.Membership.{in-either, in-left, in-right}
-use Rattle.sai_chip.specs.Naming.{entries_of}
+use Rattle.chip_names.specs.Naming.{entries_of}
 use Rattle.chip_layout.specs.Bodies.{IsAt, body_with, first_name, is_numbered, second_name}
 use Rattle.chip_layout.specs.Layout.{Has, Layout, has_number}
 use Rattle.chip_layout.specs.Renamed.{body_renamed}

@@ -23,7 +23,7 @@ use Rattle.chip_layout.specs.Answered.{HasPrefix}
 use Rattle.sai_types.specs.Objects.{body_at, used}
 use Rattle.sai_types.proofs.Listed.{in-found}
 use Rattle.sai_types.proofs.Whole.{whole-after_call, whole-empty}
-use Rattle.sai_chip.specs.Naming.{entries_of}
+use Rattle.chip_names.specs.Naming.{entries_of}
 use Rattle.plan_laws.specs.Applied.{IsListedChip, chip_things}
 use Rattle.view_match.specs.Pairs.{pairs_of}
 use Rattle.apply_order.specs.Due.{due_steps}

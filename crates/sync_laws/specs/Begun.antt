@@ -8,7 +8,7 @@ use Rattle.sai_types.specs.declared.kind.Kind.{Kind}
 use Rattle.sai_types.specs.Named.{those}
 use Rattle.sai_types.specs.Objects.{used}
 use Rattle.sai_types.specs.Refusal.{capacity_of}
-use Rattle.sai_chip.specs.Naming.{entries_of}
+use Rattle.chip_names.specs.Naming.{entries_of}
 use Rattle.chip_layout.specs.Counted.{AreDistinct}
 use Rattle.chip_layout.specs.Renamed.{entry_renamed}
 use Rattle.plan_laws.specs.Applied.{IsListedChip, chip_things}

@@ -13,7 +13,7 @@ ghost use Rattle.sai_types.specs.declared.thing.Thing.{Thing};
 ghost use Rattle.sai_types.specs.After.{after_calls};
 ghost use Rattle.sai_types.specs.Alike.{IsAlike, IsIn};
 ghost use Rattle.sai_types.specs.Made.{AreLegal};
-ghost use Rattle.sai_chip.specs.Naming.{entries_of};
+ghost use Rattle.chip_names.specs.Naming.{entries_of};
 ghost use Rattle.plan_laws.specs.Applied.{chip_things};
 ghost use Rattle.plan_laws.specs.Steady.{IsHitless, IsOldOrNew, StaysNew};
 ghost use Rattle.asic_view.specs.View.{ViewObjects, as_chip, shown_by};

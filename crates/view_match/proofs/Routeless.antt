@@ -12,7 +12,7 @@ use Rattle.sai_types.specs.declared.body.Entry.TheVariants as entry
 use Rattle.sai_types.specs.declared.body.Object.{Object}
 use Rattle.sai_types.specs.Named.{hops_among, things_among, with_member}
 use Rattle.sai_types.specs.Objects.{Objects, body_at, entry_cmp}
-use Rattle.sai_chip.specs.Naming.{AreNamesOf, NameTable, entries_of}
+use Rattle.chip_names.specs.Naming.{AreNamesOf, NameTable, entries_of}
 use Rattle.chip_layout.specs.Renamed.{body_renamed, entry_renamed}
 use Rattle.view_match.specs.declared.key.NaturalKey.{NaturalKey}
 use Rattle.view_match.specs.Keys.{key_among, natural_key_of}

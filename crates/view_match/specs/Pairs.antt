@@ -12,7 +12,7 @@ use Rattle.sai_types.specs.declared.body.Entry.{Entry}
 use Rattle.sai_types.specs.declared.body.Entry.TheVariants as entry
 use Rattle.sai_types.specs.declared.body.Object.{Object}
 use Rattle.sai_types.specs.Objects.{Objects}
-use Rattle.sai_chip.specs.Naming.{entries_of}
+use Rattle.chip_names.specs.Naming.{entries_of}
 use Rattle.view_match.specs.declared.indexed.Partner.{Partner}
 use Rattle.view_match.specs.declared.key.NaturalKey.{NaturalKey}
 use Rattle.view_match.specs.Keys.{natural_key_cmp, keys_of_objects}

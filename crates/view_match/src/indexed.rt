@@ -1,6 +1,6 @@
 // The old objects by their natural keys.
 ghost use Rattle.std.specs.Prelude.{◌≡◌, length, true, IfOk};
-ghost use Rattle.sai_chip.specs.Naming.{entries_of};
+ghost use Rattle.chip_names.specs.Naming.{entries_of};
 ghost use Rattle.view_match.specs.Indexed.{AreApart, entries_in, entries_from};
 ghost use Rattle.view_match.specs.Keys.{keys_of_objects};
 ghost use Rattle.view_match.specs.Near.{AreFound};

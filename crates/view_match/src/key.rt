@@ -1,13 +1,13 @@
 // The natural keys of objects.
 ghost use Rattle.std.specs.Prelude.{◌≡◌, None, Some, IfOk, option_map, if◌then◌else◌};
 ghost use Rattle.sai_types.specs.Objects.{Objects};
-ghost use Rattle.sai_chip.specs.Naming.{AreNamesOf, entries_of};
+ghost use Rattle.chip_names.specs.Naming.{AreNamesOf, entries_of};
 ghost use Rattle.view_match.specs.Keys.{key_among, natural_key_of, keys_of_objects};
 ghost use Rattle.view_match.specs.Listed.{object_as};
 ghost use Rattle.view_match.specs.Pairs.{new_keys};
 
 use crate::listed::{object_of, others_listed, to_of};
-use sai_chip::Names;
+use chip_names::Names;
 use sai_types::{Base, Body, Hop, Hops, Object, Rid, Thing, Vid};
 use std::alloc::Global;
 use swss_types::{Ip, Lanes, OutOfMemory, Prefix};

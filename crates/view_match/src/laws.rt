@@ -7,7 +7,7 @@ ghost use Rattle.sai_types.specs.declared.body.Object.{Object};
 ghost use Rattle.sai_types.specs.declared.thing.Thing.{Thing};
 ghost use Rattle.sai_types.specs.Alike.{IsIn};
 ghost use Rattle.sai_types.specs.Order.{thing_order};
-ghost use Rattle.sai_chip.specs.Naming.{entries_of};
+ghost use Rattle.chip_names.specs.Naming.{entries_of};
 ghost use Rattle.view_match.specs.Keys.{natural_key_cmp, natural_key_of};
 ghost use Rattle.view_match.specs.Listed.{objects_as};
 ghost use Rattle.view_match.specs.Paired.{ArePaired};

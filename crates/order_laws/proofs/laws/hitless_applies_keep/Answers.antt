@@ -1,4 +1,4 @@
-use Rattle.sai_chip.specs.Naming.{entries_of}
+use Rattle.chip_names.specs.Naming.{entries_of}
 use Rattle.plan_laws.specs.Old.{old_layout}
 use Rattle.plan_laws.specs.Views.{made_names}
 use Rattle.plan_laws.proofs.Counts.{run-makes}

@@ -1,6 +1,6 @@
 use Rattle.std.proofs.Common.{◌≡◌, ◌++◌, take, length}
 use Rattle.sai_types.specs.ChipState.{objects_of}
-use Rattle.sai_chip.specs.Bodies.{numbered}
+use Rattle.chip_names.specs.Naming.{numbered}
 use Rattle.sai_chip.proofs.bodies.push_numbered.Given as goal
 
 -- what was there stays in front, and the objects so far, with those that are left, are all

@@ -1,6 +1,6 @@
 use Rattle.std.proofs.Common.{◌≡◌, ◌≤◌, drop, length, option_map}
+use Rattle.chip_names.specs.Members.{hops_by}
 use Rattle.sai_chip.specs.Forward.{ways_by}
-use Rattle.sai_chip.specs.Members.{hops_by}
 use Rattle.sai_chip.proofs.forwarding.macs_of.Given as goal
 
 -- the ways are those of the next hops from this place on

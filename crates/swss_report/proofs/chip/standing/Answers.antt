@@ -1,8 +1,8 @@
 use Rattle.std.proofs.Common.{◌≡◌, ap, ◌∙◌, subst}
 use Rattle.std.specs.List.Sorted.{IsPermutation}
 use Rattle.sai_types.specs.Named.{named, those}
-use Rattle.sai_chip.specs.Naming.{entries_of}
-use Rattle.sai_chip.proofs.SameNames.{entries_of-objects_of}
+use Rattle.chip_names.specs.Naming.{entries_of}
+use Rattle.chip_names.proofs.SameNames.{entries_of-objects_of}
 use Rattle.swss_report.proofs.chip.standing.Goals as goal
 
 pub returns : goal.returns

@@ -1,6 +1,6 @@
 use Rattle.std.proofs.Common.{sym, subst}
 use Rattle.sai_types.specs.Made.{AreLegal}
-use Rattle.sai_chip.specs.Naming.{entries_of}
+use Rattle.chip_names.specs.Naming.{entries_of}
 use Rattle.order_laws.proofs.Ends.{all-legal}
 use Rattle.sync_laws.specs.Begun.{first_ties}
 use Rattle.sync_laws.proofs.Next.{next-legal}

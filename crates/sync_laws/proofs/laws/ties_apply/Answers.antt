@@ -2,7 +2,7 @@ use Rattle.std.proofs.Common.{sym, subst}
 use Rattle.sai_types.specs.After.{after_calls}
 use Rattle.sai_types.specs.Alike.{IsAlike, IsIn}
 use Rattle.sai_types.specs.Made.{AreLegal}
-use Rattle.sai_chip.specs.Naming.{entries_of}
+use Rattle.chip_names.specs.Naming.{entries_of}
 use Rattle.order_laws.specs.Viewed.{things_in}
 use Rattle.order_laws.proofs.Ends.{all-alike, all-legal}
 use Rattle.sync_laws.proofs.Numbered.{apply-by_ties, tied-are}

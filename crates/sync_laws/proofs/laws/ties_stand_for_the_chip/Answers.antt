@@ -1,6 +1,6 @@
 use Rattle.std.proofs.Common.{sym, ap, ◌∙◌}
 use Rattle.sai_types.specs.After.{after_calls}
-use Rattle.sai_chip.specs.Naming.{entries_of}
+use Rattle.chip_names.specs.Naming.{entries_of}
 use Rattle.sync_laws.proofs.Ended.{view-stands}
 use Rattle.sync_laws.proofs.Numbered.{tied-are}
 use Rattle.sync_laws.proofs.laws.ties_stand_for_the_chip.Goals as goal

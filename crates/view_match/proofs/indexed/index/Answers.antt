@@ -1,6 +1,6 @@
 use Rattle.std.proofs.Common.{length, None, ap, subst, ◌∙◌, IsPermutation}
 use Rattle.std.proofs.lemmas.List.Sorted.{IsPermutation-map}
-use Rattle.sai_chip.specs.Naming.{entries_of}
+use Rattle.chip_names.specs.Naming.{entries_of}
 use Rattle.view_match.specs.Indexed.{AreApart, entries_in, entry_in}
 use Rattle.view_match.specs.Pairs.{best_from}
 use Rattle.view_match.proofs.Entries.{found-best, found-apart}

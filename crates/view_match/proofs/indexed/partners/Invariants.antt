@@ -1,5 +1,5 @@
 use Rattle.std.proofs.Common.{◌≡◌, ◌++◌, drop, length}
-use Rattle.sai_chip.specs.Naming.{entries_of}
+use Rattle.chip_names.specs.Naming.{entries_of}
 use Rattle.view_match.specs.Indexed.{entries_from, entries_in}
 use Rattle.view_match.proofs.indexed.partners.Given as goal
 

@@ -1,5 +1,5 @@
 use Rattle.std.proofs.Common.{◌∙◌, subst}
-use Rattle.sai_chip.specs.Naming.{AreNamesOf, entries_of}
+use Rattle.chip_names.specs.Naming.{AreNamesOf, entries_of}
 use Rattle.view_match.specs.Listed.{objects_as}
 use Rattle.view_match.proofs.Routeless.{keys-step, routeless-names}
 use Rattle.view_match.proofs.key.new_natural_keys.Goals as goal

@@ -1,6 +1,6 @@
 use Rattle.std.proofs.Common.{◌≡◌, ◌++◌, drop, map, option_map}
 use Rattle.sai_types.specs.Named.{things_among}
-use Rattle.sai_chip.specs.Naming.{entries_of}
+use Rattle.chip_names.specs.Naming.{entries_of}
 use Rattle.view_match.specs.Keys.{natural_key_of}
 use Rattle.view_match.specs.Listed.{objects_as}
 use Rattle.view_match.specs.Pairs.{new_keys}

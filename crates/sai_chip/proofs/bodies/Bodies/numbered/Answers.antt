@@ -1,5 +1,6 @@
 use Rattle.std.proofs.Common.{◌∙◌, sym}
-use Rattle.sai_chip.proofs.Changed.{at-id, at-numbered}
+use Rattle.chip_names.proofs.Ids.{at-numbered}
+use Rattle.sai_chip.proofs.Changed.{at-id}
 use Rattle.sai_chip.proofs.bodies.Bodies.numbered.Goals as goal
 
 pub returns : goal.returns

@@ -1,9 +1,8 @@
 use Rattle.std.proofs.Common.{◌≡◌, ap, ◌∙◌, subst}
 use Rattle.sai_types.specs.Named.{hops_at}
-use Rattle.sai_chip.specs.Bodies.{numbered}
-use Rattle.sai_chip.specs.Members.{hops_by}
-use Rattle.sai_chip.specs.Naming.{AreBodies}
-use Rattle.sai_chip.proofs.SameNames.{hops_by-bodies}
+use Rattle.chip_names.specs.Naming.{AreBodies, numbered}
+use Rattle.chip_names.specs.Members.{hops_by}
+use Rattle.chip_names.proofs.SameNames.{hops_by-bodies}
 use Rattle.sai_chip.proofs.held.Held.hops.Goals as goal
 
 pub returns : goal.returns

@@ -1,9 +1,8 @@
 use Rattle.std.proofs.Common.{◌≡◌, ◌∙◌, refl, subst}
 use Rattle.sai_types.specs.Named.{thing_by, thing_of}
-use Rattle.sai_chip.specs.Bodies.{numbered}
-use Rattle.sai_chip.specs.Naming.{AreBodies, hops_in}
+use Rattle.chip_names.specs.Naming.{AreBodies, hops_in, numbered}
+use Rattle.chip_names.proofs.SameNames.{thing_by-same}
 use Rattle.sai_chip.proofs.GroupNames.{thing_of-known}
-use Rattle.sai_chip.proofs.SameNames.{thing_by-same}
 use Rattle.sai_chip.proofs.held.Held.thing_by.Goals as goal
 
 pub returns : goal.returns

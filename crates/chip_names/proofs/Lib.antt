@@ -1,0 +1,5 @@
+mod Added
+mod GroupHops
+pub mod Ids
+mod NextHops
+pub mod SameNames
