@@ -1,61 +1,198 @@
-// The objects of a view by their identifiers.
-ghost use Rattle.std.specs.Prelude.{◌≡◌, None, option_map, OnOk, OnErr};
-ghost use Rattle.std.specs.BTreeMap.{insert_entry, is_at};
-ghost use Rattle.std.specs.Map.{lookup, remove_entry};
+// The objects of a view by their identifiers, in the order in which they were made.
+ghost use Rattle.std.specs.Prelude.{◌≡◌, ◌+◌, ◌^◌, ◌<◌, ◌++◌, [], ◌∷◌, length, map, is_some, option_map, filter, nat_eq, IfSome, IfNone, IfOk, OnOk, OnErr};
+ghost use Rattle.std.specs.BTreeMap.{is_at};
+ghost use Rattle.std.specs.Map.{lookup, set_value};
+ghost use Rattle.std.specs.Option.{option_copied};
 ghost use Rattle.sai_types.specs.Objects.{kind_of};
-ghost use Rattle.asic_view.specs.View.{view_changed_at, entry_at, object_set, untied, vid_cmp, with_tie};
+ghost use Rattle.asic_view.specs.Places.{Placed, inside, is_full};
+ghost use Rattle.asic_view.specs.View.{after_create, view_changed_at, entry_at, object_of, object_set, rid_at, vid_cmp, with_tie, without_object};
 
 use crate::ViewObject;
 use crate::body::{entry_of, kind_of, set_attr};
-use late_maps::LateMap;
-use sai_types::{Attr, Body, Entry, Kind, Rid, Vid};
+use indexmap::IndexMap;
+use sai_types::{Attr, Body, Entry, Kind, Object, Rid, Vid};
+use std::alloc::Global;
+use std::marker::Model;
 use swss_types::OutOfMemory;
 
-/// Objects by their identifiers.
-pub type Objects = LateMap<Vid, ViewObject>;
+/// Places by the numbers of identifiers: a removal leaves its place empty.
+type Places = IndexMap<u64, Option<ViewObject>>;
 
-/// Puts an object that is tied to none of the chip in place of the one with the same identifier, if there is one.
-pub fn put(objects: &mut Objects, vid: Vid, body: Body<Vid>) -> Result<(), OutOfMemory>
-    ensures ok { OnOk result (objects.new ≡ insert_entry vid_cmp objects.old vid (untied body)) }
-    ensures err { OnErr result (objects.new ≡ objects.old) }
+/// Takes what stands at a place, which stays there empty.
+fn empty(places: &mut Places, number: u64) -> Option<ViewObject>
+    ensures object { result ≡ inside (lookup (nat_eq number) places.old.entries) }
+    ensures some { IfSome result (λ _. places.new.entries ≡ set_value (nat_eq number) places.old.entries None) }
+    ensures none { IfNone result (places.new.entries ≡ places.old.entries) }
 {
-    objects.insert(vid, ViewObject { body, rid: None })?;
-    Ok(())
+    if let Some(place) = places.get_mut(&number) {
+        if let Some(object) = place.take() {
+            return Some(object);
+        }
+    }
+    None
 }
 
-/// By what the object with this identifier is named in calls, if there is one.
-pub fn entry_at(objects: &Objects, vid: Vid) -> Option<Entry<Vid>>
-    ensures { result ≡ option_map (λ x. entry_at vid x.body) (lookup (is_at (vid_cmp vid)) objects.now) }
+/// Gives memory back where there is room for more than eight times what stands, and keeps the half of that. So a closing, which walks over the
+/// room, is paid for by the removals since the one before, and memory that is soon wanted again stays.
+fn give_back(places: &mut Places)
+    ensures entries { places.new.entries ≡ places.old.entries }
 {
-    match objects.get(&vid) {
-        Some(object) => Some(entry_of(vid, &object.body)),
-        None => None,
+    let most = places.len().saturating_mul(8).max(256);
+    if places.capacity() > most {
+        places.shrink_to(most / 2);
     }
 }
 
-/// Takes the object with this identifier away, if there is one, and answers its kind.
-pub fn take(objects: &mut Objects, vid: Vid) -> Option<Kind>
-    ensures kind { result ≡ option_map (λ x. kind_of x.body) (lookup (is_at (vid_cmp vid)) objects.old) }
-    ensures taken { objects.new ≡ remove_entry (is_at (vid_cmp vid)) objects.old }
+/// Closes the places that are empty.
+fn close(places: &mut Places)
+    ensures { places.new.entries ≡ filter is_full places.old.entries }
 {
-    let object = objects.remove(&vid)?;
-    Some(kind_of(&object.body))
+    places.retain(
+        |_number: &u64, place: &mut Option<ViewObject>| -> bool
+            ensures { (result ≡ is_some place.old) × (place.new ≡ place.old) }
+        { place.is_some() },
+    );
+    give_back(places);
 }
 
-/// Sets an attribute of the object with this identifier, if there is one.
-pub fn set(objects: &mut Objects, vid: Vid, attr: Attr<Vid>)
-    ensures { objects.new ≡ view_changed_at objects.old vid (λ x. object_set x attr) }
-{
-    if let Some(object) = objects.get_mut(&vid) {
-        set_attr(&mut object.body, attr);
+/// The objects of a view in a map that keeps its order. At least half of its places are full.
+#[derive(Drop)]
+pub struct Objects {
+    places: Places,
+    full: usize,
+    made: u64,
+}
+
+impl Model for Objects {
+    ghost use Rattle.asic_view.specs.Places.{ArePlaced, Placed, standing};
+
+    ghost Value = { Placed };
+
+    ghost view = { λ o. record { made = o.made; objects = standing o.places.entries } };
+
+    ghost invariant = { λ o. ArePlaced o.made o.full o.places.entries };
+}
+
+impl Objects {
+    /// No object.
+    pub fn new(alloc: Global) -> Objects
+        ensures { result ≡ record { made = 0; objects = [] } }
+    {
+        Objects {
+            places: IndexMap::new(alloc),
+            full: 0,
+            made: 0,
+        }
     }
-}
 
-/// Ties the object with this identifier, if there is one.
-pub fn tie(objects: &mut Objects, vid: Vid, rid: Rid)
-    ensures { objects.new ≡ with_tie objects.old vid rid }
-{
-    if let Some(object) = objects.get_mut(&vid) {
-        object.rid = Some(rid);
+    /// The identifier that comes after all that were given, if there is one.
+    pub fn next(&self) -> Option<Vid>
+        ensures { IfSome result (λ vid. vid.0 ≡ self.now.made + 1) }
+    {
+        Some(Vid(self.made.checked_add(1)?))
+    }
+
+    /// How many stand.
+    pub fn len(&self) -> usize
+        ensures few { result < 2 ^ 63 }
+        ensures len { result ≡ length self.now.objects }
+    {
+        let _places = self.places.len();
+        self.full
+    }
+
+    /// Puts an object that is tied to none of the chip behind all others.
+    pub fn put(&mut self, vid: Vid, body: Body<Vid>) -> Result<(), OutOfMemory>
+        requires { self.old.made < vid.0 }
+        ensures ok { OnOk result (self.new ≡ record { made = vid.0; objects = after_create self.old.objects vid body }) }
+        ensures err { OnErr result (self.new ≡ self.old) }
+    {
+        let _few = self.places.len();
+        self.places
+            .insert(vid.0, Some(ViewObject { body, rid: None }))?;
+        self.full += 1;
+        self.made = vid.0;
+        Ok(())
+    }
+
+    // The object with this identifier, if there is one.
+    fn find(&self, vid: Vid) -> Option<&ViewObject>
+        ensures { option_copied result ≡ lookup (is_at (vid_cmp vid)) self.now.objects }
+    {
+        match self.places.get(&vid.0) {
+            Some(place) => place.as_ref(),
+            None => None,
+        }
+    }
+
+    /// By what the object with this identifier is named in calls, if there is one.
+    pub fn entry_at(&self, vid: Vid) -> Option<Entry<Vid>>
+        ensures { result ≡ option_map (λ x. entry_at vid x.body) (lookup (is_at (vid_cmp vid)) self.now.objects) }
+    {
+        match self.find(vid) {
+            Some(object) => Some(entry_of(vid, &object.body)),
+            None => None,
+        }
+    }
+
+    /// The chip's object to which an object is tied: None where it is tied to none, or is not there.
+    pub fn rid(&self, vid: Vid) -> Option<Rid>
+        ensures { result ≡ rid_at self.now.objects vid }
+    {
+        match self.find(vid) {
+            Some(object) => object.rid,
+            None => None,
+        }
+    }
+
+    /// Takes the object with this identifier away, if there is one, and answers its kind.
+    pub fn take(&mut self, vid: Vid) -> Option<Kind>
+        ensures kind { result ≡ option_map (λ x. kind_of x.body) (lookup (is_at (vid_cmp vid)) self.old.objects) }
+        ensures taken { self.new ≡ record { made = self.old.made; objects = without_object self.old.objects vid } }
+    {
+        let object = empty(&mut self.places, vid.0)?;
+        self.full -= 1;
+        if self.places.len() - self.full > self.full {
+            close(&mut self.places);
+        }
+        Some(kind_of(&object.body))
+    }
+
+    /// Sets an attribute of the object with this identifier, if there is one.
+    pub fn set(&mut self, vid: Vid, attr: Attr<Vid>)
+        ensures { self.new ≡ record { made = self.old.made; objects = view_changed_at self.old.objects vid (λ x. object_set x attr) } }
+    {
+        if let Some(place) = self.places.get_mut(&vid.0) {
+            if let Some(object) = place {
+                set_attr(&mut object.body, attr);
+            }
+        }
+    }
+
+    /// Ties the object with this identifier, if there is one.
+    pub fn tie(&mut self, vid: Vid, rid: Rid)
+        ensures { self.new ≡ record { made = self.old.made; objects = with_tie self.old.objects vid rid } }
+    {
+        if let Some(place) = self.places.get_mut(&vid.0) {
+            if let Some(object) = place {
+                object.rid = Some(rid);
+            }
+        }
+    }
+
+    /// The objects, in the order in which they were made.
+    pub fn list(&self, alloc: Global) -> Result<Vec<Object<Vid>>, OutOfMemory>
+        ensures { IfOk result (λ objects. objects.items ≡ map object_of self.now.objects) }
+    {
+        let mut all = Vec::with_capacity(alloc, self.full)?;
+        for (number, place) in self.places.iter() {
+            if let Some(object) = place {
+                all.push(Object {
+                    entry: entry_of(Vid(*number), &object.body),
+                    body: object.body.copy()?,
+                })?;
+            }
+        }
+        Ok(all)
     }
 }

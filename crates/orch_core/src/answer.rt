@@ -1,5 +1,6 @@
 // What the core answers.
 use table_schema::Sent;
+use thiserror::Error;
 
 /// What a step came to.
 #[derive(Clone, Copy, Debug, PartialEq, Eq)]
@@ -35,7 +36,8 @@ pub enum TakeFault {
 }
 
 /// The log has no place for the mark of a restart.
-#[derive(Clone, Copy, Debug, PartialEq, Eq)]
+#[derive(Clone, Copy, Debug, PartialEq, Eq, Error)]
+#[error("log full")]
 pub struct LogFull;
 
 /// How far what is under way, a key or a turn was run.
