@@ -3,6 +3,7 @@ import os
 import subprocess
 import sys
 import tempfile
+import time
 import unittest
 
 import common
@@ -269,10 +270,13 @@ class Large(unittest.TestCase):
         self.assertLess(long - short, 12_000)
 
     def peak(self, count, value=b"nexthop:10.0.0.1,10.0.0.3|ifname:Ethernet0,Ethernet4"):
+        """Returns the most memory, in KiB, that a recording of so many lines took, a round for each 1,000, and what was told."""
+        self.written = 0
+
         def write(pipe):
             for block in range(0, count, 1_000):
-                time = b"2026-03-%02d.%02d:%02d:%02d." % (1 + block // 1_000 // 86_400, block // 3_600_000 % 24, block // 60_000 % 60, block // 1_000 % 60)
-                pipe.write(b"".join(time + b"%06d|ROUTE_TABLE:10.%d.%d.0/24|SET|" % (it, it // 256, it % 256) + value + b"\n" for it in range(min(1_000, count - block))))
+                second = b"2026-03-%02d.%02d:%02d:%02d." % (1 + block // 1_000 // 86_400, block // 3_600_000 % 24, block // 60_000 % 60, block // 1_000 % 60)
+                self.written += pipe.write(b"".join(second + b"%06d|ROUTE_TABLE:10.%d.%d.0/24|SET|" % (it, it // 256, it % 256) + value + b"\n" for it in range(min(1_000, count - block))))
 
         status, peak, told = peak_of([sys.executable, "-B", str(TOOLS / "from-rec"), "--gap", "0.5"], write)
         self.assertEqual(status, 0, told)
@@ -300,9 +304,12 @@ class Large(unittest.TestCase):
 
     @unittest.skipUnless(common.IS_LONG, "only with --long")
     def test_ten_million_lines(self):
+        began = time.monotonic()
         peak, told = self.peak(10_000_000)
-        print(f"10 million lines: {peak / 1024:.0f} MiB at most", file=sys.stderr)
-        self.assertIn("10,000,0", told)
+        print(f"10 million lines, {self.written:,} bytes: {peak / 1024:.0f} MiB at most, {time.monotonic() - began:.0f} seconds", file=sys.stderr)
+        # Each round of 1,000 rows has a comment, a producer and a settle; there are a title at the head and two shows at the end.
+        self.assertIn("the script has 10,030,003 lines", told)
+        self.assertGreater(self.written, 1_000_000_000)
         self.assertLess(peak, 100_000)
 
     def test_a_reader_that_goes_away(self):
