@@ -314,7 +314,7 @@ class Large(unittest.TestCase):
 
     def test_a_reader_that_goes_away(self):
         with tempfile.TemporaryFile() as file:
-            file.write((FIRST + b"A:b|SET|c:d\n") * 20_000)
+            file.write((FIRST + b"A:b|SET|c:" + b"d" * 200 + b"\n") * 1_000)
             file.seek(0)
             with subprocess.Popen([sys.executable, "-B", str(TOOLS / "from-rec")], stdin=file, stdout=subprocess.PIPE, stderr=subprocess.PIPE) as child:
                 child.stdout.readline()
