@@ -32,7 +32,7 @@ MOST_NOTES = 10
 MOST_NOTES_OF_HEAD = 100
 
 # Rounds up to this many bytes stay in memory.
-IN_MEMORY = 4_194_304
+IN_MEMORY = 1_048_576
 
 SHOWS = ("chip", "tables", "ignored", "waiting", "warm", "ready", "calls", "counts")
 UNPLAIN = re.compile(rb"[\x00-\x20]")
@@ -265,7 +265,7 @@ class Script:
                 self.voice.say(f"{self.voice.name}: the input up to line {self.last_that_fits} makes a script that is taken: {self.words.hint(self.last_that_fits)}")
         output.writelines(head)
         self.body.seek(0)
-        shutil.copyfileobj(self.body, output, IN_MEMORY // 4)
+        shutil.copyfileobj(self.body, output, IN_MEMORY)
         output.flush()
 
 

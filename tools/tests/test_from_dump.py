@@ -113,9 +113,9 @@ class Large(unittest.TestCase):
     """Long input: constant memory."""
 
     def test_memory_stays_where_it_is(self):
-        short, long = (self.peak(count) for count in (1_000, 60_000))
-        self.assertLess(long, 60_000)
-        self.assertLess(long - short, 12_000)
+        short, long = (self.peak(count) for count in (2_000, 40_000))
+        # (the long one has 5 MB, which a tool that keeps its rows holds more than twice)
+        self.assertLess(long - short, 4_000)
 
     def peak(self, count):
         row = json.dumps({"type": "hash", "ttl": -0.001, "value": {"nexthop": "10.0.0.1,10.0.0.3", "ifname": "Ethernet0,Ethernet4"}}, indent=2)

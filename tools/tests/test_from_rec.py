@@ -265,9 +265,9 @@ class Large(unittest.TestCase):
     """Long input: constant memory, and what a script may have."""
 
     def test_memory_stays_where_it_is(self):
-        short, long = (self.peak(count)[0] for count in (3_000, 100_000))
-        self.assertLess(long, 60_000)
-        self.assertLess(long - short, 12_000)
+        short, long = (self.peak(count)[0] for count in (3_000, 60_000))
+        # (the long one has 5 MB, which a tool that keeps its lines holds more than twice)
+        self.assertLess(long - short, 4_000)
 
     def peak(self, count, value=b"nexthop:10.0.0.1,10.0.0.3|ifname:Ethernet0,Ethernet4"):
         """Returns the most memory, in KiB, that a recording of so many lines took, a round for each 1,000, and what was told."""
