@@ -50,11 +50,20 @@ class Refusal(Exception):
         self.is_final = is_final
 
 
+def printable(raw):
+    """Returns bytes as a text that can be printed on one line."""
+    text = raw.decode("utf-8", "backslashreplace")
+    return "".join(it if it.isprintable() else it.encode("unicode_escape").decode() for it in text)
+
+
 def quoted(raw):
-    """Returns bytes as a short text that can be printed."""
-    text = raw[:LONGEST_QUOTE].decode("utf-8", "backslashreplace")
-    text = "".join(it if it.isprintable() else it.encode("unicode_escape").decode() for it in text)
-    return f"'{text}'" + (" .." if len(raw) > LONGEST_QUOTE else "")
+    """Returns the front of bytes as a text that can be printed."""
+    return f"'{printable(raw[:LONGEST_QUOTE])}'" + (" .." if len(raw) > LONGEST_QUOTE else "")
+
+
+def name_of(path):
+    """Returns how a script names the file that it was made from."""
+    return "standard input" if path == "-" else printable(os.fsencode(path.rpartition("/")[2]))
 
 
 def counted(number, one, many=None):
@@ -127,7 +136,7 @@ class Plan:
             return
         fault = self.fault_of(name, lanes)
         if fault:
-            self.voice.note("rows of ports that are not in the port plan", line, f"PORT_TABLE:{name.decode()}: {fault}; `show ignored` lists the row")
+            self.voice.note("rows of ports that are not in the port plan", line, f"PORT_TABLE:{printable(name)}: {fault}; `show ignored` lists the row")
 
     def fault_of(self, name, lanes):
         if name in self.ports and self.ports[name] == lanes:
@@ -220,13 +229,18 @@ class Script:
     def remark(self, line, text):
         """Keeps as a comment what makes no write."""
         self.remarks += 1
-        if len(text) > LONGEST_REMARK:
-            text = text[:LONGEST_REMARK].decode("utf-8", "ignore").encode() + b" .."
-        self.write(f"# line {line}: ".encode() + text + b"\n")
+        self.write(f"# line {line}: ".encode() + self.shortened(line, text) + b"\n")
 
-    def comment(self, text):
+    def shortened(self, line, text):
+        """Returns what a line has room for of a text that stands as a comment."""
+        if len(text) <= LONGEST_REMARK:
+            return text
+        self.voice.note("comments that are cut", line, f"the comment has room for {LONGEST_REMARK:,} bytes of {len(text):,}: the rest is left out")
+        return text[:LONGEST_REMARK].decode("utf-8", "ignore").encode() + b" .."
+
+    def comment(self, line, text):
         """Keeps a comment of the input: the first ones at the head of the script."""
-        text = text.decode("utf-8", "backslashreplace").encode()[:LONGEST_REMARK].decode("utf-8", "ignore").encode() + b"\n"
+        text = self.shortened(line, text) + b"\n"
         if self.sets or self.deletions or self.remarks or len(self.head) >= MOST_NOTES_OF_HEAD:
             self.write(text)
         else:
@@ -318,8 +332,11 @@ def close_quietly():
 def run(tool, words, read):
     """Reads the input into a script and writes it; returns the exit status, which is 1 where the input is refused."""
     signal.signal(signal.SIGINT, signal.SIG_DFL)
-    name = "standard input" if words.file == "-" else words.file
+    name = "standard input" if words.file == "-" else printable(os.fsencode(words.file))
     voice = Voice(tool, name)
+    if sys.stdout is None or sys.stdin is None and words.file == "-":
+        voice.say("standard input or output is closed")
+        return 1
     try:
         with sys.stdin.buffer if words.file == "-" else open(words.file, "rb") as source:
             voice.size = os.fstat(source.fileno()).st_size

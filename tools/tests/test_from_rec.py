@@ -104,6 +104,21 @@ class Comments(unittest.TestCase):
             "from-rec: standard input: line 5: '2026-03-02.08:00:00.000001|A:b|HSET|c:d' is neither SET nor DEL: the line is kept as a comment\n",
         )
 
+    def test_a_comment_that_is_too_long_is_cut_and_told(self):
+        status, script, told = run("from-rec", given=b"# " + b"x" * 70_000 + b"\n" + FIRST + b"Ab|SET|" + b"y:" * 40_000 + b"\n")
+        self.assertEqual((status, [len(it) <= 65_536 for it in script.splitlines()]), (0, [True] * 7))
+        self.assertIn("line 1: the comment has room for 60,000 bytes of 70,002: the rest is left out\n", told)
+        self.assertIn("line 2: the comment has room for 60,000 bytes of 80,034: the rest is left out\n", told)
+
+    def test_a_strange_name_of_the_file(self):
+        with tempfile.TemporaryDirectory() as folder:
+            path = f"{folder}/a\nb\x1b.rec"
+            with open(path, "wb") as file:
+                file.write(FIRST + b"A:b|DEL\n")
+            status, script, told = run("from-rec", path)
+        self.assertEqual((status, told), (0, ""))
+        self.assertEqual(script.splitlines()[0].decode(), TITLE.replace("standard input", "a\\nb\\x1b.rec").format("0 sets, 1 deletion").rstrip())
+
     def test_many_notes_are_counted(self):
         _, told = script_of((FIRST + b"A|b|SET|c:d\n") * 25)
         lines = told.splitlines()
@@ -243,7 +258,7 @@ class Refusals(unittest.TestCase):
         self.assertEqual(status, 0)
         self.assertEqual([it[:40] for it in script.splitlines()[1:3]], [b"# line 1: 2026-03-02.08:00:00.000001|A:b", b"# line 2: \\xff"])
         self.assertEqual([len(it) < 65_536 for it in script.splitlines()], [True] * 10)
-        self.assertEqual([it.split(": ")[2] for it in told.splitlines()], ["line 1", "line 2", "line 3"])
+        self.assertEqual([it.split(": ")[2] for it in told.splitlines()], ["line 1", "line 2", "line 3", "line 3"])
 
     def test_wrong_words(self):
         for words in (["--gap", "-1"], ["--gap", "x"], ["--gap", "nan"], ["--producer", "a b"], ["--show", "all"], ["--restart", "0"], ["a", "b"], ["--wrong"]):
