@@ -3,12 +3,23 @@ import os
 import pathlib
 import subprocess
 import sys
+import tempfile
 
 TOP = pathlib.Path(__file__).resolve().parents[2]
 TOOLS = TOP / "tools"
 EXAMPLES = TOP / "examples"
 PROGRAM = TOP / "crates" / "swss_cli" / "out" / "swss_cli"
 IS_LONG = False
+
+
+def has_program():
+    """Tells whether there is a proved program of the sources as they are: whether tools/install takes it."""
+    with tempfile.TemporaryDirectory() as folder:
+        done = subprocess.run([str(TOOLS / "install"), folder], stdin=subprocess.DEVNULL, capture_output=True, check=False, timeout=60)
+    return done.returncode == 0
+
+
+HAS_PROGRAM = has_program()
 
 
 def run(tool, *words, given=b"", folder=None, **more):

@@ -7,7 +7,7 @@ import time
 import unittest
 
 import common
-from common import EXAMPLES, PROGRAM, TOOLS, peak_of, port, run
+from common import EXAMPLES, HAS_PROGRAM, PROGRAM, TOOLS, peak_of, port, run
 
 FIRST = b"2026-03-02.08:00:00.000001|"
 END = b"settle\nshow waiting\nshow ready\n"
@@ -352,7 +352,7 @@ class Example(unittest.TestCase):
         self.assertEqual(script, (EXAMPLES / "leaf-recording.swss").read_bytes())
         self.assertEqual(told, "from-rec: examples/leaf-recording.rec: line 24: 'CRM|Config' has no colon, so it is no key of a script: the line is kept as a comment\n")
 
-    @unittest.skipUnless(PROGRAM.exists(), "there is no proved program")
+    @unittest.skipUnless(HAS_PROGRAM, "there is no proved program of these sources")
     def test_its_report_stands_beside_it(self):
         script = (EXAMPLES / "leaf-recording.swss").read_bytes()
         done = subprocess.run([str(PROGRAM), "run"], input=script, capture_output=True, check=False, timeout=60)

@@ -5,7 +5,7 @@ import subprocess
 import tempfile
 import unittest
 
-from common import EXAMPLES, PROGRAM, TOOLS, TOP, run
+from common import EXAMPLES, HAS_PROGRAM, PROGRAM, TOOLS, TOP, run
 
 UNPROVED = "swss: this run is unproved, and takes a minute or two to begin; bin/swss prove makes the proved program\n"
 TITLE = "A leaf switch, whose service restarts in the third round"
@@ -25,7 +25,7 @@ class Walk(unittest.TestCase):
     def test_what_needs_no_program(self):
         self.follow(lambda command: command.startswith(("tools/from-rec", "tail")))
 
-    @unittest.skipUnless(PROGRAM.exists(), "there is no proved program")
+    @unittest.skipUnless(HAS_PROGRAM, "there is no proved program of these sources")
     def test_the_walk_word_by_word(self):
         # (the proof itself is the gate's)
         self.follow(lambda command: command != "bin/swss prove")
@@ -55,7 +55,7 @@ class Walk(unittest.TestCase):
         report = (EXAMPLES / "leaf-recording.out").read_text(encoding="utf-8")
         self.assertEqual(printed["bin/swss run < /tmp/leaf.swss"], UNPROVED + report)
 
-    @unittest.skipUnless(PROGRAM.exists(), "there is no proved program")
+    @unittest.skipUnless(HAS_PROGRAM, "there is no proved program of these sources")
     def test_the_report_is_the_programs(self):
         status, script, _ = run("from-rec", "--show", "calls", "--restart", "3", EXAMPLES / "leaf-recording.rec")
         done = subprocess.run([str(PROGRAM), "run"], input=script, capture_output=True, check=False, timeout=60)
