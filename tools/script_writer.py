@@ -193,7 +193,8 @@ class Script:
 
     def check(self, line):
         """Remembers a line of the input up to which the script is within its limits, with room left for its head and its end."""
-        if self.body_lines < MOST_LINES - MOST_PORTS - MOST_NOTES_OF_HEAD - 100 and self.body_bytes < MOST_BYTES - MOST_BYTES // 64:
+        size = self.body_bytes + sum(map(len, self.head))
+        if self.body_lines < MOST_LINES - MOST_PORTS - MOST_NOTES_OF_HEAD - 100 and size < MOST_BYTES - MOST_BYTES // 64:
             self.last_that_fits = line
 
     def stand_still(self):

@@ -192,6 +192,9 @@ class Plan(unittest.TestCase):
     def test_the_same_lanes_again(self):
         self.assertEqual(self.plan(port(0, b"0,1") + port(0, b"0,1") + port(0, b"1,0")), (["port Ethernet0 0,1"], []))
 
+    def test_lanes_that_stand_twice_in_a_row(self):
+        self.assertEqual(self.plan(port(0, b"0,1", b"|lanes:2,3")), (["port Ethernet0 2,3"], []))
+
     def test_lanes_that_change(self):
         plan, told = self.plan(port(0, b"0,1,2,3") + port(0, b"0,1") + port(2, b"2,3"))
         self.assertEqual(plan, ["port Ethernet0 0,1,2,3"])
@@ -309,11 +312,11 @@ class Large(unittest.TestCase):
             told,
             [
                 "from-rec: standard input: the script has 3,262 lines and 177,512 bytes, and `swss run` takes up to 3,000 and 67,108,864: it is written, and will be refused".replace("177,512", f"{len(done.stdout):,}"),
-                "from-rec: standard input: the input up to line 2048 makes a script that is taken: head -n 2048 FILE | tools/from-rec",
+                "from-rec: standard input: the input up to line 2047 makes a script that is taken: head -n 2047 FILE | tools/from-rec",
             ],
         )
         self.assertEqual(len(done.stdout.splitlines()), 3_262)
-        front = b"".join(recording.splitlines(keepends=True)[:2_048])
+        front = b"".join(recording.splitlines(keepends=True)[:2_047])
         done = subprocess.run(command, input=front, capture_output=True, check=True, timeout=60)
         self.assertEqual((done.stderr, len(done.stdout.splitlines()) <= 3_000), (b"", True))
 
