@@ -41,7 +41,8 @@ use words::{Group, NAMES, groups_of};
 
 fn main(rt: HostRuntime) -> Result<()> {
     let alloc = rt.alloc();
-    let groups = groups_of(alloc, env::args(&rt)?.skip(1))?;
+    let words = env::args(&rt)?.skip(1).collect::<Vec<String>>(alloc)?;
+    let groups = groups_of(alloc, words)?;
     ensure!(!groups.is_empty(), "nothing to time of {NAMES:?}");
     for group in &groups {
         time_group(&rt, alloc, group)?;

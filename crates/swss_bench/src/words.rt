@@ -18,7 +18,7 @@ pub struct Group {
 }
 
 /// The groups of the words: each word that is no number begins one.
-pub fn groups_of(alloc: Global, words: impl Iterator<Item = String>) -> Result<Vec<Group>> {
+pub fn groups_of(alloc: Global, words: Vec<String>) -> Result<Vec<Group>> {
     let mut groups = Vec::<Group>::new(alloc);
     for word in words {
         match (word.parse::<u32>(), groups.last_mut()) {
