@@ -8,7 +8,7 @@ use std::alloc::Global;
 use std::sync::Wait;
 use std::thread::Threads;
 use std::time::{Clock, Instant};
-use swss_run::swss_main;
+use swss_run::{Outcome, swss_main};
 use swss_types::{MemSink, MemSource, Open};
 
 /// Runs a script of so many rounds or writes, and tells the time of each of them.
@@ -19,11 +19,8 @@ pub fn time_script(
     number: u32,
     script: Vec<u8>,
 ) -> Result<()> {
-    let mut source = MemSource::new(script, Vec::new(alloc));
-    let mut sink = MemSink::new(alloc, Vec::new(alloc));
-    let words = vec![in alloc; String::from_str(alloc, "run")?]?;
     let start = Instant::now(rt)?;
-    let outcome = swss_main(rt, alloc, &words, &mut source, &mut sink, &Open);
+    let outcome = run(rt, alloc, script)?;
     let timed = print_time(rt, start, number, name);
     let taken = outcome.log.taken().len();
     let ended = outcome.log.ends().len();
@@ -31,4 +28,12 @@ pub fn time_script(
     timed?;
     println!(rt; "{number} {name}: status {status}, {taken} writes, {ended} rounds")?;
     Ok(())
+}
+
+/// Runs a script from memory into memory.
+fn run(rt: &(impl Threads + Wait + Sync), alloc: Global, script: Vec<u8>) -> Result<Outcome> {
+    let words = vec![in alloc; String::from_str(alloc, "run")?]?;
+    let mut source = MemSource::new(script, Vec::new(alloc));
+    let mut sink = MemSink::new(alloc, Vec::new(alloc));
+    Ok(swss_main(rt, alloc, &words, &mut source, &mut sink, &Open))
 }

@@ -4,8 +4,8 @@ use std::alloc::Global;
 
 /// What can be timed.
 pub const NAMES: [&str; 11] = [
-    "chip", "rounds", "writes", "waiting", "fields", "alone", "together", "names", "keys", "reasons",
-    "plan",
+    "chip", "rounds", "writes", "waiting", "fields", "alone", "together", "names", "keys",
+    "reasons", "plan",
 ];
 
 /// A name and the numbers behind it.

@@ -89,7 +89,7 @@ fn make_next_hop(chip: &mut SimChip, rif: Rid, number: usize) -> Result<Rid> {
         ip: address(number),
         mac: Mac([2, 0, 0, 0, 0, 1]),
     };
-    act(chip, &Call::Create(neighbor))?;
+    act(chip, Call::Create(neighbor))?;
     let ip = address(number);
     make(chip, Body::NextHop { rif, ip })
 }
@@ -104,16 +104,21 @@ fn address(number: usize) -> Ip {
 
 /// Makes an object of a kind with identifiers.
 fn make(chip: &mut SimChip, body: Body<Rid>) -> Result<Rid> {
-    match chip.call(&Call::Create(body)) {
+    match answer(chip, Call::Create(body)) {
         ChipAnswer::Made(id) => Ok(id),
         answer => bail!("the chip answers {answer:?}"),
     }
 }
 
 /// Makes a call that makes no identifier.
-pub fn act(chip: &mut SimChip, call: &Call<Rid>) -> Result<()> {
-    match chip.call(call) {
+pub fn act(chip: &mut SimChip, call: Call<Rid>) -> Result<()> {
+    match answer(chip, call) {
         ChipAnswer::Done => Ok(()),
         answer => bail!("the chip answers {answer:?}"),
     }
+}
+
+/// Makes a call, and gives it up here alone: its destructor is proved anew at each place where it goes.
+fn answer(chip: &mut SimChip, call: Call<Rid>) -> ChipAnswer {
+    chip.call(&call)
 }

@@ -23,7 +23,7 @@ pub fn make_routes(chip: &mut SimChip, network: &Network, routes: u32) -> Result
     for route in 0..routes {
         let prefix = prefix(route);
         let to = network.next_hop_for(route)?;
-        act(chip, &Call::Create(Body::Route { prefix, to }))?;
+        act(chip, Call::Create(Body::Route { prefix, to }))?;
     }
     Ok(())
 }
@@ -33,7 +33,7 @@ pub fn set_routes(chip: &mut SimChip, network: &Network, routes: u32) -> Result<
     for route in 0..routes {
         let entry = Entry::Route(prefix(route));
         let to = network.group_for(route)?;
-        act(chip, &Call::Set(entry, Attr::To(to)))?;
+        act(chip, Call::Set(entry, Attr::To(to)))?;
     }
     Ok(())
 }
@@ -41,7 +41,7 @@ pub fn set_routes(chip: &mut SimChip, network: &Network, routes: u32) -> Result<
 /// Removes the routes.
 pub fn remove_routes(chip: &mut SimChip, routes: u32) -> Result<()> {
     for route in 0..routes {
-        act(chip, &Call::Remove(Entry::Route(prefix(route))))?;
+        act(chip, Call::Remove(Entry::Route(prefix(route))))?;
     }
     Ok(())
 }

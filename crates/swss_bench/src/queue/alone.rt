@@ -12,28 +12,31 @@ use table_schema::{Key, Write};
 
 /// One thread sends and takes so many writes, in tenths.
 #[tactic(auto, using(crate::proofs::Readies::new_ready))]
-pub fn time_alone<R: Wait + Print + Eprint + Clock>(rt: &R, alloc: Global, number: u32) -> Result<()> {
+pub fn time_alone<R: Wait + Print + Eprint + Clock>(
+    rt: &R,
+    alloc: Global,
+    number: u32,
+) -> Result<()> {
     let Made {
         intake,
         mut passes,
         mut taker,
     } = Intake::new(alloc, 1)?;
-    let taken = send_tenths(rt, &intake, &mut passes[0], &mut taker, number / 10)?;
-    println!(rt; "{number} alone: {taken} taken")?;
-    Ok(())
+    send_tenths(rt, &intake, &mut passes[0], &mut taker, number)
 }
 
-/// Sends and takes so many writes ten times over. It tells how many it took.
-fn send_tenths<R: Wait + Eprint + Clock>(
+/// Sends and takes so many writes, a tenth after the other.
+fn send_tenths<R: Wait + Print + Eprint + Clock>(
     rt: &R,
     intake: &Intake,
     pass: &mut Pass,
     taker: &mut Taker,
-    each: u32,
-) -> Result<u64>
+    number: u32,
+) -> Result<()>
     requires taker { taker.old.intake ≡ intake.now }
     requires ready { IsQueueReady intake.now 0 pass.old }
 {
+    let each = number / 10;
     let mut taken = 0u64;
     for tenth in 0..10u64 {
         let start = Instant::now(rt)?;
@@ -41,7 +44,8 @@ fn send_tenths<R: Wait + Eprint + Clock>(
         taken = taken.saturating_add(more);
         print_time(rt, start, each, "writes alone")?;
     }
-    Ok(taken)
+    println!(rt; "{number} alone: {taken} taken")?;
+    Ok(())
 }
 
 /// Sends so many writes, and takes all whenever the queue is full and at the end. It tells how many it took.

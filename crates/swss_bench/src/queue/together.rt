@@ -26,15 +26,17 @@ pub fn time_together<R: Threads + Wait + Sync + Print + Eprint + Clock>(
     number: u32,
 ) -> Result<()> {
     let made = Intake::new(alloc, 4)?;
-    send_all::<R, Brand>(rt, made, number)
+    let taken = send_all::<R, Brand>(rt, made, number)?;
+    println!(rt; "{number} together: {taken} taken")?;
+    Ok(())
 }
 
-/// Sends them by the passes of a new intake.
-fn send_all<R: Threads + Wait + Sync + Print + Eprint + Clock, J: IntakeName + Send + Sync>(
+/// Sends them by the passes of a new intake. It tells how many were taken.
+fn send_all<R: Threads + Wait + Sync + Eprint + Clock, J: IntakeName + Send + Sync>(
     rt: &R,
     made: Made,
     number: u32,
-) -> Result<()>
+) -> Result<u64>
     requires name { (made.intake ≡ J.intake) × (made.taker.intake ≡ J.intake) }
     requires ready { All (λ s. IsQueueReady made.intake 0 s) made.passes.items }
 {
@@ -44,12 +46,10 @@ fn send_all<R: Threads + Wait + Sync + Print + Eprint + Clock, J: IntakeName + S
         taker,
     } = made;
     let locked = Mutex::new(Locked::<J>::new(taker));
-    send_tenths(rt, &intake, &locked, passes.as_mut_slice(), number / 40)?;
+    let sent = send_tenths(rt, &intake, &locked, passes.as_mut_slice(), number / 40);
     let mut locked = locked.into_inner();
     locked.take_some(rt, &intake, 1024);
-    let taken = locked.taken();
-    println!(rt; "{number} together: {taken} taken")?;
-    Ok(())
+    sent.and(Ok(locked.taken()))
 }
 
 /// Each producer sends so many writes ten times over.
