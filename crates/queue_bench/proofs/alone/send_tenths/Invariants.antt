@@ -1,6 +1,0 @@
-use Rattle.std.proofs.Common.{◌≡◌}
-use Rattle.queue_bench.specs.Ready.{IsQueueReady}
-use Rattle.queue_bench.proofs.alone.send_tenths.Given as goal
-
-abbrev pub invariant-loop-tenth : goal.invariant-loop-tenth
-invariant-loop-tenth g l = (l.taker.intake ≡ l.intake) × IsQueueReady l.intake l.tenth-counter l.pass

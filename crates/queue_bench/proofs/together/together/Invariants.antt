@@ -1,4 +1,0 @@
-use Rattle.queue_bench.proofs.together.together.Given as goal
-
-abbrev pub ghosts-send_all : goal.ghosts-send_all
-ghosts-send_all g a = record { intake = a.made.intake }

@@ -1,0 +1,5 @@
+use Rattle.std.proofs.Common.{◌≡◌, ◌≤◌, ◌+◌, ◌*◌, length}
+use Rattle.swss_bench.proofs.queue.together.send_some.Given as goal
+
+abbrev pub invariant-loop-number : goal.invariant-loop-number
+invariant-loop-number g l = (l.pass.queue ≡ l.intake.queue) × (length l.pass.sent ≤ l.tenth * 4294967296 + l.number)
