@@ -3,11 +3,11 @@ ghost use Rattle.std.specs.Prelude.{◌<◌};
 
 use crate::bench::Bench;
 use crate::case::{Case, CaseRound};
-use crate::draw::Draw;
 use crate::words::read_write;
 use crate::workers::{CaseWorkers, Order};
 use anyhow::{Context, Result, bail, ensure};
 use orch_core::{Settled, Step};
+use part_cases::draw::Draw;
 use sai_chip::named;
 use sai_types::Thing;
 use std::alloc::Global;
