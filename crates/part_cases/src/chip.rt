@@ -63,9 +63,10 @@ pub fn run(rt: &impl Print, alloc: Global, lines: &[String]) -> Result<Tally> {
 
 /// Whether a case finds what its lines want.
 fn passes(rt: &impl Print, alloc: Global, part: &Part) -> Result<bool> {
-    // in a box, so that its destructor is proved once
-    let mut case = Box::new(alloc, Case::new(alloc)?)?;
-    find_all(rt, alloc, &mut case, part)
+    let mut case = Case::new(alloc)?;
+    let passes = find_all(rt, alloc, &mut case, part);
+    case.end();
+    passes
 }
 
 /// The same of this case, which has only begun.

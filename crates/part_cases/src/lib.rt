@@ -3,6 +3,7 @@
 #![tactic(auto)]
 
 pub mod chip;
+pub mod chips;
 pub mod draw;
 pub mod parted;
 pub mod plans;

@@ -1,33 +1,39 @@
 // A chip, and what it is asked.
 use crate::chip::call::{answer, call, list_answer, object};
+use crate::chips::put_away;
 use crate::words::{KINDS, kind, number};
 use anyhow::{Context, Result, bail};
 use sai_chip::{Fail, SimChip};
 use sai_types::{Caps, Chip, Object, Rid};
 use std::alloc::Global;
+use std::mem::replace;
 
 /// A chip in the middle of a case.
 #[derive(Drop)]
 pub struct Asked {
     room: Caps,
     fails: Vec<Fail>,
-    chip: Box<SimChip>,
+    chip: SimChip,
     listed: Vec<Object<Rid>>,
     named: usize,
 }
 
 impl Asked {
     /// An empty chip with room for 100 objects of each kind.
-    pub fn new(alloc: Global) -> Result<Asked> {
+    pub fn new(alloc: Global) -> Asked {
         let room = Caps([100; 11]);
-        Ok(Asked {
+        Asked {
             room,
-            // in a box, so that its destructor is proved once
-            chip: Box::new(alloc, SimChip::new(alloc, room, Vec::new(alloc)))?,
             fails: Vec::new(alloc),
+            chip: SimChip::new(alloc, room, Vec::new(alloc)),
             listed: Vec::new(alloc),
             named: 0,
-        })
+        }
+    }
+
+    /// The chip, of which no more is asked.
+    pub fn into_chip(self) -> SimChip {
+        self.chip
     }
 
     /// The chip.
@@ -49,7 +55,8 @@ impl Asked {
         }
         if self.chip.effects() == 0 {
             let fails = self.fails.clone()?;
-            self.chip = Box::new(alloc, SimChip::new(alloc, self.room, fails))?;
+            let chip = SimChip::new(alloc, self.room, fails);
+            put_away(replace(&mut self.chip, chip));
         }
         Ok(true)
     }

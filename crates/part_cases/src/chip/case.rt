@@ -1,10 +1,11 @@
 // A case: a chip, what it is asked, and what is reported of it.
 use crate::chip::asked::Asked;
 use crate::chip::report::Reporter;
+use crate::chips::put_away;
 use anyhow::Result;
 use std::alloc::Global;
 
-/// A case, as far as its lines were read.
+/// A case, as far as its lines were read. It ends by `end`.
 #[derive(Drop)]
 pub struct Case {
     asked: Asked,
@@ -17,10 +18,21 @@ impl Case {
     pub fn new(alloc: Global) -> Result<Case> {
         let reporter = Reporter::new(alloc)?;
         Ok(Case {
-            asked: Asked::new(alloc)?,
+            asked: Asked::new(alloc),
             reporter,
             wanted: Vec::new(alloc),
         })
+    }
+
+    /// Ends the case.
+    pub fn end(self) {
+        let Case {
+            asked,
+            reporter,
+            ..
+        } = self;
+        put_away(asked.into_chip());
+        drop(reporter);
     }
 
     /// Does what a line says. Where it wants something else than was found, this is what was found.

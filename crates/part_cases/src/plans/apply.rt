@@ -2,8 +2,9 @@
 ghost use Rattle.std.specs.Prelude.{◌≡◌, [], IfOk};
 ghost use Rattle.part_cases.specs.Tested.{AreLinked, AreTwins};
 
-use crate::plans::case::{Case, Odd};
+use crate::chips::put_away;
 use crate::draw::ViewDraw;
+use crate::plans::case::{Case, Odd};
 use crate::plans::drawn::draw_view;
 use crate::plans::room::{AMPLE, fits, tight_room};
 use crate::plans::starting::start;
@@ -16,10 +17,11 @@ use std::alloc::Global;
 use swss_types::Ip;
 use syncd_core::{ApplyStep, Syncd};
 
-/// What the applies of a case share.
+/// Both views of a case, and what its applies share beside them.
 #[derive(Drop)]
 struct Views {
     caps: Caps,
+    old: Vec<Body<Vid>>,
     new: Vec<Body<Vid>>,
     ips: Vec<Ip>,
 }
@@ -27,6 +29,17 @@ struct Views {
 /// Draws both views of a case, makes the old one on a chip, and brings the chip to the new one. It fails where something
 /// is found that is not to be.
 pub fn run_case(alloc: Global, case: &Case) -> Result<()> {
+    let views = draw_views(alloc, case)?;
+    let mut chip = SimChip::new(alloc, views.caps, Vec::new(alloc));
+    let mut twin = SimChip::new(alloc, views.caps, Vec::new(alloc));
+    let found = run_on(alloc, &views, case.breaks.as_slice(), &mut chip, &mut twin);
+    put_away(chip);
+    put_away(twin);
+    found
+}
+
+/// Draws both views of a case.
+fn draw_views(alloc: Global, case: &Case) -> Result<Views> {
     let old = draw_view(alloc, &ViewDraw::new(case.seed, 1), case.old, case.odd)?;
     let new = draw_view(alloc, &ViewDraw::new(case.seed, 2), case.new, Odd::NONE)?;
     let caps = if case.tight {
@@ -37,12 +50,26 @@ pub fn run_case(alloc: Global, case: &Case) -> Result<()> {
     let mut ips = Vec::new(alloc);
     add_addresses(&mut ips, old.as_slice())?;
     add_addresses(&mut ips, new.as_slice())?;
-    // in boxes, so that the destructor is proved once
-    let mut chip = Box::new(alloc, SimChip::new(alloc, caps, Vec::new(alloc)))?;
-    let mut twin = Box::new(alloc, SimChip::new(alloc, caps, Vec::new(alloc)))?;
-    make_old(alloc, &mut chip, &mut twin, old.as_slice())?;
-    let views = Views { caps, new, ips };
-    apply_each(alloc, &views, case.breaks.as_slice(), &mut chip, &mut twin)
+    Ok(Views {
+        caps,
+        old,
+        new,
+        ips,
+    })
+}
+
+/// Makes the old view on these chips, which are empty, and brings them to the new one.
+fn run_on(
+    alloc: Global,
+    views: &Views,
+    breaks: &[u64],
+    chip: &mut SimChip,
+    twin: &mut SimChip,
+) -> Result<()>
+    requires { AreTwins chip.old.chip twin.old.chip }
+{
+    make_old(alloc, chip, twin, views.old.as_slice())?;
+    apply_each(alloc, views, breaks, chip, twin)
 }
 
 /// Makes the drawn objects on two chips.
@@ -92,10 +119,12 @@ fn apply_view(
     requires { AreTwins chip.old.chip twin.old.chip }
     ensures { IfOk result (λ calls. AreTwins chip.new.chip twin.new.chip) }
 {
-    // in boxes, as above
-    let mut syncd = Box::new(alloc, Syncd::new(alloc, views.caps))?;
-    let mut second = Box::new(alloc, SimChip::new(alloc, AMPLE, Vec::new(alloc)))?;
-    apply_by(alloc, views, most, &mut syncd, &mut second, chip, twin)
+    let mut syncd = Syncd::new(alloc, views.caps);
+    let mut second = SimChip::new(alloc, AMPLE, Vec::new(alloc));
+    let calls = apply_by(alloc, views, most, &mut syncd, &mut second, chip, twin);
+    put_away(second);
+    drop(syncd);
+    calls
 }
 
 /// The same by a new syncd and an empty chip, on which the new view is made too.

@@ -1,6 +1,6 @@
 // Views that are drawn.
-use crate::plans::case::Odd;
 use crate::draw::ViewDraw;
+use crate::plans::case::Odd;
 use anyhow::{Context, Result};
 use sai_types::{Body, RifOn, To, Vid};
 use std::alloc::Global;

@@ -1,4 +1,5 @@
 // What a hitless plan has room for.
+use crate::words::KINDS;
 use anyhow::Result;
 use sai_chip::SimChip;
 use sai_types::{Body, Caps, Chip, Kind, Object, Rid, Vid};
@@ -7,21 +8,6 @@ use view_match::{NaturalKey, natural_keys};
 
 /// Room for a thousand objects of each kind.
 pub const AMPLE: Caps = Caps([1000; 11]);
-
-/// The kinds in the order of the chip's table.
-const KINDS: [Kind; 11] = [
-    Kind::Port,
-    Kind::Vlan,
-    Kind::BridgePort,
-    Kind::VlanMember,
-    Kind::Rif,
-    Kind::OwnAddress,
-    Kind::Neighbor,
-    Kind::NextHop,
-    Kind::Group,
-    Kind::GroupMember,
-    Kind::Route,
-];
 
 /// The kind of a body.
 fn kind_of<I>(body: &Body<I>) -> Kind {
@@ -43,7 +29,7 @@ fn kind_of<I>(body: &Body<I>) -> Kind {
 /// Room for the greater of two views in each kind, and for the VLAN by which identifiers are used up.
 pub fn tight_room(old: &[Body<Vid>], new: &[Body<Vid>]) -> Caps {
     let mut caps = [0; 11];
-    for (place, kind) in KINDS.iter().enumerate() {
+    for (place, (_, kind)) in KINDS.iter().enumerate() {
         let spare = u64::from(*kind == Kind::Vlan);
         if let Some(room) = caps.get_mut(place) {
             *room = count(old, *kind)
@@ -68,7 +54,7 @@ pub fn fits(alloc: Global, chip: &SimChip, second: &SimChip, caps: &Caps) -> Res
     let old = natural_keys(alloc, chip.objects(alloc)?.as_slice())?;
     let objects = second.objects(alloc)?;
     let new = natural_keys(alloc, objects.as_slice())?;
-    for (kind, room) in KINDS.iter().zip(caps.0.iter()) {
+    for ((_, kind), room) in KINDS.iter().zip(caps.0.iter()) {
         let lacking = lacking(old.as_slice(), new.as_slice(), objects.as_slice(), *kind);
         if *room < chip.used(*kind).saturating_add(lacking) {
             return Ok(false);
