@@ -4,6 +4,7 @@ ghost use Rattle.switch_model.specs.Marks.{written_key};
 ghost use Rattle.machine_laws.specs.Reading.{IsOnSwitch};
 
 use orch_core::{Core, LogFull, Settled, Step, TakeFault};
+use part_cases::chips::put_away;
 use sai_chip::SimChip;
 use sai_types::{Caps, Chip, Object, Rid};
 use std::alloc::Global;
@@ -20,8 +21,7 @@ const ROOM: Caps = Caps([
 /// How many places the log has.
 const PLACES: u64 = 4_194_304;
 
-/// A core and its chip, which stand for a session of the service at each moment, over restarts too.
-#[derive(Drop)]
+/// A core and its chip, which stand for a session of the service at each moment, over restarts too. They end by `end`.
 pub struct Bench {
     core: Core,
     chip: SimChip,
@@ -48,6 +48,14 @@ impl Bench {
             core: Core::new(alloc, plan, ROOM, PLACES),
             chip: SimChip::new(alloc, ROOM, Vec::new(alloc)),
         }
+    }
+
+    /// Ends core and chip.
+    pub fn end(self) {
+        let Bench { core, chip } = self;
+        // so its destructor is not proved once more
+        drop(core.into_log());
+        put_away(chip);
     }
 
     /// Takes a write of a key that was read.

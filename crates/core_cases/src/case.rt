@@ -1,7 +1,7 @@
 // A case, as its lines give it.
-use crate::words::number;
 use crate::workers::CaseWorkers;
-use anyhow::{Result, bail};
+use anyhow::{Context, Result, bail};
+use part_cases::words::number;
 use std::alloc::Global;
 use std::mem;
 
@@ -19,7 +19,6 @@ pub struct CaseRound {
 /// A plan, writes round by round, and workers by which they are run.
 #[derive(Drop)]
 pub struct Case {
-    name: String,
     round: CaseRound,
     /// The lines of the plan.
     pub ports: Vec<String>,
@@ -41,24 +40,23 @@ impl CaseRound {
 }
 
 impl Case {
-    /// A case without lines.
-    pub fn new(alloc: Global, name: &str) -> Result<Case> {
-        Ok(Case {
-            name: String::from_str(alloc, name)?,
+    /// The case of these lines.
+    pub fn read(alloc: Global, lines: &[String]) -> Result<Case> {
+        let mut case = Case {
             round: CaseRound::new(alloc),
             ports: Vec::new(alloc),
             rounds: Vec::new(alloc),
             workers: Vec::new(alloc),
-        })
-    }
-
-    /// The name of the case.
-    pub fn name(&self) -> &str {
-        self.name.as_str()
+        };
+        for line in lines {
+            case.add_line(alloc, line).context(line.as_str())?;
+        }
+        case.end_round(alloc)?;
+        Ok(case)
     }
 
     /// Adds a line.
-    pub fn add_line(&mut self, alloc: Global, line: &str) -> Result<()> {
+    fn add_line(&mut self, alloc: Global, line: &str) -> Result<()> {
         let words = line.split_whitespace().collect::<Vec<&str>>(alloc)?;
         match words.as_slice() {
             ["port", name, lanes] => self.ports.push(format!(in alloc; "{name} {lanes}")?)?,
@@ -78,7 +76,7 @@ impl Case {
     }
 
     /// Ends the round, and begins the next.
-    pub fn end_round(&mut self, alloc: Global) -> Result<()> {
+    fn end_round(&mut self, alloc: Global) -> Result<()> {
         self.rounds
             .push(mem::replace(&mut self.round, CaseRound::new(alloc)))?;
         Ok(())

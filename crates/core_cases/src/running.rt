@@ -3,11 +3,11 @@ ghost use Rattle.std.specs.Prelude.{◌<◌};
 
 use crate::bench::Bench;
 use crate::case::{Case, CaseRound};
-use crate::draw::Draw;
 use crate::words::read_write;
 use crate::workers::{CaseWorkers, Order};
 use anyhow::{Context, Result, bail, ensure};
 use orch_core::{Settled, Step};
+use part_cases::draw::Draw;
 use sai_chip::named;
 use sai_types::Thing;
 use std::alloc::Global;
@@ -27,9 +27,10 @@ pub fn run_case(alloc: Global, case: &Case) -> Result<()> {
 /// Runs a case on a new core and chip. It tells what stands at the end of each round.
 fn run(alloc: Global, case: &Case, workers: &CaseWorkers) -> Result<Vec<Vec<Thing>>> {
     let plan = plan_of(alloc, case.ports.as_slice())?;
-    // in a box, so that its destructor is proved once
-    let mut bench = Box::new(alloc, Bench::new(alloc, plan))?;
-    run_rounds(alloc, &mut bench, case.rounds.as_slice(), workers)
+    let mut bench = Bench::new(alloc, plan);
+    let ends = run_rounds(alloc, &mut bench, case.rounds.as_slice(), workers);
+    bench.end();
+    ends
 }
 
 /// The same on this core and chip.

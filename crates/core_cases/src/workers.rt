@@ -1,8 +1,8 @@
 // Workers, and the order in which they step.
 ghost use Rattle.std.specs.Prelude.{◌<◌};
 
-use crate::words::number;
 use anyhow::{Result, bail};
+use part_cases::words::number;
 use std::alloc::Global;
 
 /// In which order workers step.

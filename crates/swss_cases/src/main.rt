@@ -1,90 +1,84 @@
-//! Runs scripts through the top call and compares what they come to. Standard input holds the cases:
+//! Runs all cases that are kept as data. Standard input holds them, kind by kind:
 //!
 //! ```text
-//! case NAME            a case begins; its name is told where it fails
-//! word WORD            a word behind the program's name, `word` alone an empty one; a case without such a line has `run`
-//! no words             there is none
-//! status N LINE        the status that is wanted, with its line; a case without such a line wants 0
-//! why REASON           the reason of the refusal, as Rust writes the value
-//! taken N              how many writes are taken
-//! senders P/N P/N ..   the producer and number of each write taken
-//! ends N N ..          how many marks there are at the end of each round
-//! once                 the case takes long, and is run from the first of the two sources alone
-//! output               what follows is the output that is wanted, and no more the script
-//! |TEXT                this text and a newline
-//! +TEXT                this text without a newline
-//! *N TEXT              this text N times, without a newline
-//! *A..B TEXT           the same once for each number from A to B, up or down
+//! cases KIND      the cases of a kind begin
 //! ```
 //!
-//! In a TEXT behind `+` and `*`, `%n` stands for the number of the repetition, and `%` with two hexadecimal digits for a
-//! byte. Other lines between are empty or begin with `#`. Each case is run from a source that gives all at once and from
-//! one that gives a byte at a time (a thousand of a long script), into a sink that takes as much at a time. What differs
-//! is printed, and at the end `N passed, M failed`; the exit status is 1 where one failed.
+//! The kinds are `texts`, `chip` and `plans` (crate `part_cases`), `core` (crate `core_cases`), `scripts` and `examples`; what
+//! the lines of a kind mean stands at the head of its file. `examples` has no lines, and stands for the scripts of the folder
+//! that the program runs in. Lines that are empty or begin with `#` are skipped. What differs is printed by the name of its
+//! case, then how many cases of each kind passed and failed, and in the last line how many of all; the exit status is 1 where
+//! one failed, and where a kind has no case. With a word the program reads no cases, and runs the examples of that folder.
 #![tactic(auto)]
 
-mod bytes;
-mod case;
-mod fact;
-mod play;
+mod examples;
+mod scripts;
 
-use anyhow::{Context, Result, ensure};
-use case::Case;
-use play::passes;
+use anyhow::{Context, Result, bail, ensure};
+use part_cases::parted::{Part, parts};
+use part_cases::tally::Tally;
+use part_cases::{chip, plans, texts};
 use std::alloc::Global;
+use std::env;
+use std::fs::Files;
 use std::io::{BufRead, BufReader};
 use std::sync::Wait;
 use std::thread::Threads;
 
-/// How many cases passed, and how many failed.
-#[derive(Clone, Copy, Debug, Default)]
-struct Tally {
-    passed: u32,
-    failed: u32,
-}
-
 fn main(rt: HostRuntime) -> Result<()> {
     let alloc = rt.alloc();
-    let mut tally = Tally::default();
-    let mut case = None;
+    let tally = match env::args(&rt)?.nth(1) {
+        Some(folder) => examples::run(&rt, alloc, &folder)?,
+        None => run_all(&rt, alloc, read_lines(&rt, alloc)?.as_slice())?,
+    };
+    println!(rt; "{tally}")?;
+    ensure!(!tally.is_empty(), "there is no case");
+    ensure!(tally.passes(), "cases failed");
+    Ok(())
+}
+
+/// Runs the cases of these lines.
+fn run_all<R: Files + AllocGlobal + Clone + Drop + Threads + Wait + Sync + Print>(
+    rt: &R,
+    alloc: Global,
+    lines: &[String],
+) -> Result<Tally> {
+    let mut all = Tally::default();
+    for kind in parts(alloc, "cases ", lines)?.iter() {
+        let tally = run_kind(rt, alloc, kind).context(kind.name)?;
+        println!(rt; "{}: {tally}", kind.name)?;
+        all.add(tally);
+    }
+    Ok(all)
+}
+
+/// The lines of standard input that are neither empty nor comments.
+fn read_lines(rt: &HostRuntime, alloc: Global) -> Result<Vec<String>> {
+    let mut lines = Vec::new(alloc);
     for line in BufReader::new(alloc, rt.reader())?.lines(alloc) {
         let line = line.context("the cases")?;
-        match line.as_str().strip_prefix("case ") {
-            Some(name) => {
-                finish(&rt, alloc, case, &mut tally)?;
-                case = Some(Case::new(alloc, name)?);
-            }
-            None => add_line(alloc, &mut case, line.as_str())?,
+        if !line.is_empty() && !line.starts_with('#') {
+            lines.push(line)?;
         }
     }
-    finish(&rt, alloc, case, &mut tally)?;
-    println!(rt; "{} passed, {} failed", tally.passed, tally.failed)?;
-    ensure!(tally.failed == 0, "cases failed");
-    Ok(())
+    Ok(lines)
 }
 
-/// Adds a line to the case that has begun.
-fn add_line(alloc: Global, case: &mut Option<Case>, line: &str) -> Result<()> {
-    if line.is_empty() || line.starts_with('#') {
-        return Ok(());
-    }
-    let case = case.as_mut().context("a case")?;
-    case.add_line(alloc, line).context(line)
-}
-
-/// Runs a case that is complete, and counts it.
-fn finish(
-    rt: &(impl Threads + Wait + Sync + Print),
+/// Runs the cases of a kind, of which there is one at least.
+fn run_kind<R: Files + AllocGlobal + Clone + Drop + Threads + Wait + Sync + Print>(
+    rt: &R,
     alloc: Global,
-    case: Option<Case>,
-    tally: &mut Tally,
-) -> Result<()> {
-    if let Some(case) = case {
-        if passes(rt, alloc, &case)? {
-            tally.passed = tally.passed.saturating_add(1);
-        } else {
-            tally.failed = tally.failed.saturating_add(1);
-        }
-    }
-    Ok(())
+    kind: &Part,
+) -> Result<Tally> {
+    let tally = match kind.name {
+        "texts" => texts::run(rt, alloc, kind.lines)?,
+        "chip" => chip::run(rt, alloc, kind.lines)?,
+        "plans" => plans::run(rt, alloc, kind.lines)?,
+        "core" => core_cases::run(rt, alloc, kind.lines)?,
+        "scripts" => scripts::run(rt, alloc, kind.lines)?,
+        "examples" if kind.lines.is_empty() => examples::run(rt, alloc, ".")?,
+        _ => bail!("no kind of cases, or a line that it has not"),
+    };
+    ensure!(!tally.is_empty(), "there is no case of the kind");
+    Ok(tally)
 }

@@ -1,0 +1,99 @@
+// Words of a line as values.
+ghost use Rattle.std.specs.Prelude.{IfOk};
+ghost use Rattle.machine_laws.specs.Reading.{IsOnSwitch};
+
+use anyhow::{Context, Result, bail};
+use sai_types::{Kind, Rid};
+use std::alloc::Global;
+use swss_types::{Ip, Lanes, Mac, Prefix, Tagging, Text};
+use table_schema::{Fields, Key, has_colon, read_key};
+
+/// The kinds by their names in the chip's table, in its order.
+pub const KINDS: [(&str, Kind); 11] = [
+    ("PORT", Kind::Port),
+    ("VLAN", Kind::Vlan),
+    ("BRIDGE_PORT", Kind::BridgePort),
+    ("VLAN_MEMBER", Kind::VlanMember),
+    ("RIF", Kind::Rif),
+    ("OWN_ADDRESS", Kind::OwnAddress),
+    ("NEIGHBOR", Kind::Neighbor),
+    ("NEXT_HOP", Kind::NextHop),
+    ("GROUP", Kind::Group),
+    ("GROUP_MEMBER", Kind::GroupMember),
+    ("ROUTE", Kind::Route),
+];
+
+/// A number.
+pub fn number(word: &str) -> Result<u64> {
+    word.parse::<u64>().context("a number")
+}
+
+/// A number of 32 bits.
+pub fn short(word: &str) -> Result<u32> {
+    word.parse::<u32>().context("a number")
+}
+
+/// An identifier.
+pub fn id(word: &str) -> Result<Rid> {
+    Ok(Rid(number(word)?))
+}
+
+/// An address.
+pub fn ip(word: &str) -> Result<Ip> {
+    Ip::read(word.as_bytes()).context("an address")
+}
+
+/// A prefix.
+pub fn prefix(word: &str) -> Result<Prefix> {
+    Prefix::read(word.as_bytes()).context("a prefix")
+}
+
+/// An Ethernet address.
+pub fn mac(word: &str) -> Result<Mac> {
+    Mac::read(word.as_bytes()).context("an Ethernet address")
+}
+
+/// A tagging.
+pub fn tagging(word: &str) -> Result<Tagging> {
+    Tagging::read(word.as_bytes()).context("a tagging")
+}
+
+/// Lanes.
+pub fn lanes(alloc: Global, word: &str) -> Result<Lanes> {
+    Lanes::read(alloc, word.as_bytes())?.context("lanes")
+}
+
+/// A kind of object.
+pub fn kind(word: &str) -> Result<Kind> {
+    for (name, kind) in KINDS {
+        if name == word {
+            return Ok(kind);
+        }
+    }
+    bail!("a kind")
+}
+
+/// A key.
+pub fn key(alloc: Global, word: &str) -> Result<Key>
+    ensures { IfOk result IsOnSwitch }
+{
+    if !has_colon(word.as_bytes()) {
+        bail!("a key");
+    }
+    Ok(read_key(alloc, word.as_bytes())?)
+}
+
+/// A text.
+pub fn text(alloc: Global, word: &str) -> Result<Text> {
+    Text::new(alloc, word.as_bytes())?.context("a text")
+}
+
+/// Fields, each a name, an equals sign and a value.
+pub fn fields(alloc: Global, words: &[&str]) -> Result<Fields> {
+    let mut fields = Fields::new(alloc);
+    for word in words {
+        let (name, value) = word.split_once('=').context("a field")?;
+        fields.put(text(alloc, name)?, text(alloc, value)?)?;
+    }
+    Ok(fields)
+}

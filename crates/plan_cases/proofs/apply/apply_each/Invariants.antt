@@ -1,6 +1,0 @@
-use Rattle.plan_cases.specs.Tested.{AreTwins}
-use Rattle.plan_cases.proofs.apply.apply_each.Given as goal
-
--- both chips answer alike
-abbrev pub invariant-loop-most : goal.invariant-loop-most
-invariant-loop-most l = AreTwins l.chip.chip l.twin.chip

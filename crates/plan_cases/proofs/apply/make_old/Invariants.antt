@@ -1,6 +1,0 @@
-use Rattle.plan_cases.specs.Tested.{AreTwins}
-use Rattle.plan_cases.proofs.apply.make_old.Given as goal
-
--- both chips answer alike
-abbrev pub invariant-loop-body : goal.invariant-loop-body
-invariant-loop-body l = AreTwins l.chip.chip l.twin.chip

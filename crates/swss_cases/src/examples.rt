@@ -1,0 +1,103 @@
+// Examples, which are the cases of the kind `examples`: scripts with what they print. Each file NAME.swss of a folder is a
+// script; NAME.out beside it is what the program writes for it, and NAME.err, where there is one, the line of its status.
+// What differs is printed by the name of the example.
+use anyhow::{Context, Result};
+use part_cases::tally::Tally;
+use std::alloc::Global;
+use std::fs::{self, Files};
+use std::sync::Wait;
+use std::thread::Threads;
+use swss_run::{Status, swss_main};
+use swss_types::{MemSink, MemSource, Open};
+
+/// What an example is not.
+const OTHER_OUTPUT: &str = "standard output is not NAME.out";
+
+const OTHER_LINE: &str = "the line of the status is not NAME.err";
+
+/// Runs the examples of a folder.
+pub fn run<R: Files + AllocGlobal + Clone + Drop + Threads + Wait + Sync + Print>(
+    rt: &R,
+    alloc: Global,
+    folder: &str,
+) -> Result<Tally> {
+    let mut tally = Tally::default();
+    for name in names_in(rt, alloc, folder)?.iter() {
+        let difference = run_example(rt, alloc, folder, name)?;
+        if let Some(difference) = difference {
+            println!(rt; "{name}: {difference}")?;
+        }
+        tally.count(difference.is_none());
+    }
+    Ok(tally)
+}
+
+/// The names of the examples in the folder, rising: those of its files NAME.swss.
+fn names_in<R: Files + AllocGlobal + Clone + Drop>(
+    rt: &R,
+    alloc: Global,
+    folder: &str,
+) -> Result<Vec<String>> {
+    let mut names = Vec::new(alloc);
+    for entry in fs::read_dir(rt, folder)? {
+        let entry = entry?;
+        if let Some(name) = entry.file_name().strip_suffix(".swss") {
+            names.push(String::from_str(alloc, name)?)?;
+        }
+    }
+    names.sort()?;
+    Ok(names)
+}
+
+/// Runs an example, and tells what differs from what stands beside it, if anything does.
+fn run_example<R: Files + AllocGlobal + Threads + Wait + Sync>(
+    rt: &R,
+    alloc: Global,
+    folder: &str,
+    name: &str,
+) -> Result<Option<&'static str>> {
+    let script = file(rt, alloc, folder, name, "swss")?;
+    let output = file(rt, alloc, folder, name, "out")?;
+    let line = match fs::exists(rt, path(alloc, folder, name, "err")?)? {
+        true => file(rt, alloc, folder, name, "err")?,
+        false => Vec::new(alloc),
+    };
+    let mut source = MemSource::new(script, Vec::new(alloc));
+    let mut sink = MemSink::new(alloc, Vec::new(alloc));
+    let words = vec![in alloc; String::from_str(alloc, "run")?]?;
+    let outcome = swss_main(rt, alloc, &words, &mut source, &mut sink, &Open);
+    let status = outcome.into_status();
+    if sink.held() != output.as_slice() {
+        return Ok(Some(OTHER_OUTPUT));
+    }
+    if printed(alloc, &status)? != line {
+        return Ok(Some(OTHER_LINE));
+    }
+    Ok(None)
+}
+
+/// The line of a status as the program prints it, with its end; nothing where all went well.
+fn printed(alloc: Global, status: &Status) -> Result<Vec<u8>> {
+    let mut line = status.line(alloc)?;
+    if !line.is_empty() {
+        line.push(b'\n')?;
+    }
+    Ok(line)
+}
+
+/// The bytes of a file of an example.
+fn file<R: Files + AllocGlobal>(
+    rt: &R,
+    alloc: Global,
+    folder: &str,
+    name: &str,
+    ending: &str,
+) -> Result<Vec<u8>> {
+    let path = path(alloc, folder, name, ending)?;
+    fs::read(rt, &path).context("a file beside an example")
+}
+
+/// Where a file of an example stands.
+fn path(alloc: Global, folder: &str, name: &str, ending: &str) -> Result<String> {
+    Ok(format!(in alloc; "{folder}/{name}.{ending}")?)
+}
