@@ -3,7 +3,7 @@ use std::alloc::Global;
 use std::fmt::Debug;
 use std::process::Abort;
 use swss_types::{OutOfMemory, Text};
-use table_schema::Fields;
+use table_schema::{Fields, Key};
 
 /// The fields from one number to before another, both at most 99, with a value, at most 9.
 pub type Run = (u8, u8, u8);
@@ -67,6 +67,14 @@ pub fn are_of(fields: &Fields, runs: &[Run]) -> bool {
         }
     }
     items.next().is_none()
+}
+
+/// Whether it is the key of the VLAN of a number. No key is made for it, which would go at each way out.
+pub fn is_vlan(key: &Key, number: u16) -> bool {
+    match key {
+        Key::Vlan(vlan) => *vlan == number,
+        _ => false,
+    }
 }
 
 /// How a value is shown to who looks for a fault. Where it is shown as before, it is as before.

@@ -37,11 +37,10 @@ fn are_found(fields: &Fields, runs: &[Run]) -> bool {
     fields.get(b"f").is_none() && fields.get(b"\xff").is_none()
 }
 
-/// Merges fields into others: where it is refused memory they stay, and the next try does it.
-fn merge_once(rt: &impl Abort, alloc: Global, fields: &mut Fields, others: &Fields) {
-    let before = shown(rt, alloc, fields);
+/// Merges fields into others: where it is refused memory they stay as shown, and the next try does it.
+fn merge_once(rt: &impl Abort, alloc: Global, fields: &mut Fields, others: &Fields, before: &str) {
     if fields.merge(others).is_err() {
-        assert_shown(rt, alloc, before.as_str(), fields);
+        assert_shown(rt, alloc, before, fields);
         assert!(rt; fields.merge(others).is_ok(), "the next try");
     }
 }
@@ -59,7 +58,8 @@ fn merge_each(rt: &impl Abort, alloc: Global, fields: &mut Fields) {
     let mut before: &[Run] = &[];
     for (run, after) in MERGES {
         let copy = copy_of(rt, fields);
-        merge_once(rt, alloc, fields, &fields_of(rt, alloc, run));
+        let text = shown(rt, alloc, fields);
+        merge_once(rt, alloc, fields, &fields_of(rt, alloc, run), text.as_str());
         assert!(rt; are_of(&copy, before), "the copy before {after:?}");
         assert!(rt;
             are_of(fields, after) && are_found(fields, after),

@@ -212,18 +212,30 @@ fn stand_as(alloc: Global, registry: &Registry, told: &str) -> bool {
     number == 5
 }
 
-/// Makes each step, and looks at the names behind it. A step that is refused memory changes nothing, and is made again.
+/// Makes a step, and gives what it is refused. One that is refused memory changes nothing, and is made again.
+fn take_at_last(
+    rt: &impl Abort,
+    alloc: Global,
+    registry: &mut Registry,
+    step: Step,
+    name: &Name,
+    before: &str,
+) -> Option<Wait> {
+    match take(registry, step, name) {
+        Ok(refusal) => refusal,
+        Err(_) => {
+            assert!(rt; stand_as(alloc, registry, before), "still {before}");
+            take(registry, step, name).expect(rt, "the next try")
+        }
+    }
+}
+
+/// Makes each step, and looks at the names behind it.
 fn take_each(rt: &impl Abort, alloc: Global, registry: &mut Registry) {
     let mut before = "- - - - -";
     for (step, answer, after) in STEPS {
         let name = name_of(alloc, number_of(step));
-        let refusal = match take(registry, step, &name) {
-            Ok(refusal) => refusal,
-            Err(_) => {
-                assert!(rt; stand_as(alloc, registry, before), "still {before}");
-                take(registry, step, &name).expect(rt, "the next try")
-            }
-        };
+        let refusal = take_at_last(rt, alloc, registry, step, &name, before);
         assert_shown(rt, alloc, answer, &refusal);
         assert!(rt; stand_as(alloc, registry, after), "{after}");
         before = after;

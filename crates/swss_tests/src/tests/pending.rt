@@ -1,7 +1,7 @@
 // What waits where memory is refused. `rt try --test --fail-alloc N` refuses the Nth allocation of the tests: a write that is
 // refused memory is as if it had not come, a pop that is refused it takes nothing, and the next try does it. Without the flag
 // no allocation is refused, and the test goes over writes that are merged, dropped and taken out.
-use super::common::{Run, are_of, assert_shown, fields_of, shown};
+use super::common::{Run, are_of, assert_shown, fields_of, is_vlan, shown};
 use producer_table::{KeyOp, Waiting};
 use std::alloc::Global;
 use std::process::Abort;
@@ -60,7 +60,7 @@ const ACTS: [(Act, bool); 21] = [
 /// Whether this was taken out.
 fn is_taken(op: &KeyOp, wanted: &Taken) -> bool {
     let (vlan, dropped, runs) = wanted;
-    op.key == Key::Vlan(*vlan)
+    is_vlan(&op.key, *vlan)
         && op.dropped == *dropped
         && match &op.fields {
             Some(fields) => !runs.is_empty() && are_of(fields, runs),
@@ -89,15 +89,20 @@ fn act_once(
     }
 }
 
-/// Each act: where it is refused memory what waits stays, and the next try does it.
+/// One act: where it is refused memory what waits stays as shown, and the next try does it.
+fn act_at_last(rt: &impl Abort, alloc: Global, waiting: &mut Waiting, act: Act, before: &str) {
+    if act_once(rt, alloc, waiting, act).is_err() {
+        assert_shown(rt, alloc, before, waiting);
+        let next = act_once(rt, alloc, waiting, act);
+        assert!(rt; next.is_ok(), "the next try");
+    }
+}
+
+/// Each act.
 fn act_each(rt: &impl Abort, alloc: Global, waiting: &mut Waiting) {
     for (at, (act, empty)) in ACTS.into_iter().enumerate() {
         let before = shown(rt, alloc, waiting);
-        if act_once(rt, alloc, waiting, act).is_err() {
-            assert_shown(rt, alloc, before.as_str(), waiting);
-            let next = act_once(rt, alloc, waiting, act);
-            assert!(rt; next.is_ok(), "the next try");
-        }
+        act_at_last(rt, alloc, waiting, act, before.as_str());
         assert!(rt; waiting.is_empty() == empty, "act {at}");
     }
 }

@@ -93,24 +93,29 @@ fn have_keys(rt: &impl Abort, rows: &Rows, port: bool, route: bool) -> bool {
     }
 }
 
+/// Looks at the two rows.
+fn look(rt: &impl Abort, rows: &Rows, port: &[Run], route: &[Run]) {
+    let (port_key, route_key) = (key(Of::Port), key(Of::Route));
+    assert!(rt; is_row(rows.get(&port_key), port), "the port, {port:?}");
+    assert!(rt; is_row(rows.get(&route_key), route), "the route, {route:?}");
+    let have_keys = have_keys(rt, rows, !port.is_empty(), !route.is_empty());
+    assert!(rt; have_keys, "the keys");
+}
+
 /// Applies each write, and looks at the rows behind it.
 fn apply_each(rt: &impl Abort, alloc: Global, rows: &mut Rows) {
-    for (at, (of, run, port, route)) in WRITES.into_iter().enumerate() {
-        apply_once(rt, alloc, rows, &write(rt, alloc, of, run));
-        assert!(rt; is_row(rows.get(&Key::Port(0)), port), "the port, {at}");
-        assert!(rt; is_row(rows.get(&key(Of::Route)), route), "the route, {at}");
-        assert!(rt;
-            have_keys(rt, rows, !port.is_empty(), !route.is_empty()),
-            "keys, {at}"
-        );
+    for (of, run, port, route) in WRITES {
+        let before = shown(rt, alloc, rows);
+        let write = write(rt, alloc, of, run);
+        apply_once(rt, alloc, rows, &write, before.as_str());
+        look(rt, rows, port, route);
     }
 }
 
-/// Applies a write: where it is refused memory the rows stay, and the next try applies it.
-fn apply_once(rt: &impl Abort, alloc: Global, rows: &mut Rows, write: &Write) {
-    let before = shown(rt, alloc, rows);
+/// Applies a write: where it is refused memory the rows stay as shown, and the next try applies it.
+fn apply_once(rt: &impl Abort, alloc: Global, rows: &mut Rows, write: &Write, before: &str) {
     if rows.apply(write).is_err() {
-        assert_shown(rt, alloc, before.as_str(), rows);
+        assert_shown(rt, alloc, before, rows);
         assert!(rt; rows.apply(write).is_ok(), "the next try");
     }
 }

@@ -1,7 +1,7 @@
 // What is to sync where memory is refused. `rt try --test --fail-alloc N` refuses the Nth allocation of the tests: what could
 // not be added is as if it had not come, and the next try adds it. Without the flag no allocation is refused, and the test
 // goes over operations that are merged, replaced and done.
-use super::common::{Run, are_of, assert_shown, fields_of, shown};
+use super::common::{Run, are_of, assert_shown, fields_of, is_vlan, shown};
 use consumer_table::{Op, ToSync};
 use producer_table::KeyOp;
 use std::alloc::Global;
@@ -125,10 +125,10 @@ const ACTS: [(Act, &[Want]); 16] = [
 /// Whether the operation of a key is the one that is wanted.
 fn is_wanted(key: &Key, op: &Op, want: Want) -> bool {
     match (op, want) {
-        (Op::Set(fields), Want::Set(vlan, runs)) => *key == Key::Vlan(vlan) && are_of(fields, runs),
-        (Op::Del, Want::Del(vlan)) => *key == Key::Vlan(vlan),
+        (Op::Set(fields), Want::Set(vlan, runs)) => is_vlan(key, vlan) && are_of(fields, runs),
+        (Op::Del, Want::Del(vlan)) => is_vlan(key, vlan),
         (Op::Replace(fields), Want::Replace(vlan, runs)) => {
-            *key == Key::Vlan(vlan) && are_of(fields, runs)
+            is_vlan(key, vlan) && are_of(fields, runs)
         }
         _ => false,
     }
@@ -189,15 +189,20 @@ fn act_once(
     }
 }
 
-/// Each act: where it is refused memory what is to sync stays, and the next try does it.
+/// One act: where it is refused memory what is to sync stays as shown, and the next try does it.
+fn act_at_last(rt: &impl Abort, alloc: Global, to_sync: &mut ToSync, act: Act, before: &str) {
+    if act_once(rt, alloc, to_sync, act).is_err() {
+        assert_shown(rt, alloc, before, to_sync);
+        let next = act_once(rt, alloc, to_sync, act);
+        assert!(rt; next.is_ok(), "the next try");
+    }
+}
+
+/// Each act.
 fn act_each(rt: &impl Abort, alloc: Global, to_sync: &mut ToSync) {
     for (act, wants) in ACTS {
         let before = shown(rt, alloc, to_sync);
-        if act_once(rt, alloc, to_sync, act).is_err() {
-            assert_shown(rt, alloc, before.as_str(), to_sync);
-            let next = act_once(rt, alloc, to_sync, act);
-            assert!(rt; next.is_ok(), "the next try");
-        }
+        act_at_last(rt, alloc, to_sync, act, before.as_str());
         look(rt, to_sync, wants);
     }
 }
