@@ -1,5 +1,13 @@
 // Each file tests one subject; refused memory is tried by `rt try --test --fail-alloc N`, which refuses the Nth allocation.
-mod bodies;
+mod common;
+mod fields;
 mod log;
+mod names;
 mod outside;
+mod pending;
+mod queue;
+mod retry;
+mod rows;
+mod run;
+mod to_sync;
 mod values;

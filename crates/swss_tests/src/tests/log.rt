@@ -1,12 +1,12 @@
 // What a log holds.
+use super::run::run;
 use sai_types::{Kind, Mode};
 use std::alloc::Global;
+use std::process::Abort;
 use std::sync::Wait as Waiting;
-use std::test::Fail;
 use std::thread::Threads;
 use switch_model::{Log, Mark, MarkEvent, PlacedLog, Wait, Waits};
-use swss_run::swss_main;
-use swss_types::{IfName, MemSink, MemSource, Open, OutOfMemory, Tagging};
+use swss_types::{IfName, MemSink, MemSource, Tagging};
 use table_schema::{Key, Row, Sent, Write};
 
 /// A port whose row is deleted under an interface.
@@ -16,49 +16,49 @@ const HELD: &[u8] =
 /// An interface without the row of its port.
 const MISSING: &[u8] = b"port Ethernet0 0\nproducer a\nset INTF_TABLE:Ethernet0\nsettle\n";
 
-/// The key that waits at the last mark of a script, why, and whether a row of it is applied.
-fn wait_of<R: Threads + Waiting + Sync>(
-    rt: &R,
-    alloc: Global,
-    script: &[u8],
-) -> Result<(Key, Wait, bool), Fail> {
-    let words = vec![in alloc; String::from_str(alloc, "run")?]?;
-    let mut source = MemSource::new(Vec::from_slice(alloc, script)?, Vec::new(alloc));
-    let mut sink = MemSink::new(alloc, Vec::new(alloc));
-    let outcome = swss_main(rt, alloc, &words, &mut source, &mut sink, &Open);
-    let found = wait_at_end(&outcome.log);
-    outcome.into_status();
-    found
-}
+/// What waits: a key, why, and the row that is applied for it.
+type Waiter = (Key, Wait, Option<Row>);
 
-/// The one key that waits at the last mark.
-fn wait_at_end(log: &Log) -> Result<(Key, Wait, bool), Fail> {
-    let mark = log.marks().last().ok_or("a mark")?;
-    let MarkEvent::Settled { waits, turns: 1 } = &mark.event else {
-        return Err(Fail::new("a settling of one turn"));
-    };
-    match waits.items() {
-        [(key, wait, row)] => Ok((key.copy()?, wait.copy()?, row.is_some())),
-        _ => Err(Fail::new("one key")),
+/// Looks at the last mark of the log of a script: a settling of one turn, at which this key waits.
+fn look_at_end(rt: &impl Abort, log: &Log, key: &Key, wait: &Wait, has_row: bool) {
+    let mark = log.marks().last().expect(rt, "a mark");
+    match &mark.event {
+        MarkEvent::Settled { waits, turns: 1 } => match waits.items() {
+            [(found, why, row)] => assert!(rt;
+                found == key && why == wait && row.is_some() == has_row,
+                "{found:?} waits, {why:?}"
+            ),
+            _ => assert!(rt; false, "one key waits"),
+        },
+        _ => assert!(rt; false, "a settling of one turn"),
     }
 }
 
+/// Runs a script, and looks at what waits at its end.
+fn look_at_run<R: Threads + Waiting + Sync + Abort>(
+    rt: &R,
+    alloc: Global,
+    script: &[u8],
+    key: &Key,
+    wait: &Wait,
+    has_row: bool,
+) {
+    let script = Vec::from_slice(alloc, script).expect(rt, "memory");
+    let mut source = MemSource::new(script, Vec::new(alloc));
+    let mut sink = MemSink::new(alloc, Vec::new(alloc));
+    let outcome = run(rt, alloc, &mut source, &mut sink);
+    look_at_end(rt, &outcome.log, key, wait, has_row);
+    outcome.into_status();
+}
+
 #[test]
-fn marks_tell_why_keys_wait(rt: HostRuntime) -> Result<(), Fail> {
+fn marks_tell_why_keys_wait(rt: HostRuntime) {
+    let alloc = rt.alloc();
     let interface = Key::Intf(IfName::Ethernet(0));
-    let held = wait_of(&rt, rt.alloc(), HELD)?;
-    assert!(rt; held.0 == Key::Port(0) && held.2, "an applied port");
-    assert!(rt; held.1 == Wait::Held(interface), "held by its interface");
-    let missing = wait_of(&rt, rt.alloc(), MISSING)?;
-    assert!(rt;
-        missing.0 == Key::Intf(IfName::Ethernet(0)) && !missing.2,
-        "an interface"
-    );
-    assert!(rt;
-        missing.1 == Wait::Missing(Key::Port(0)),
-        "its port is missing"
-    );
-    Ok(())
+    let missing = Wait::Missing(Key::Port(0));
+    look_at_run(&rt, alloc, MISSING, &interface, &missing, false);
+    let held = Wait::Held(interface);
+    look_at_run(&rt, alloc, HELD, &Key::Port(0), &held, true);
 }
 
 /// The write of this number, a deletion of the VLAN of this number.
@@ -79,44 +79,51 @@ fn mark(effects: u64, event: MarkEvent) -> Mark {
     }
 }
 
-/// The log with a place for a mark.
-fn with_place(log: Log) -> Result<PlacedLog, OutOfMemory> {
-    match log.with_place() {
-        Ok(placed) => Ok(placed),
-        Err(_) => Err(OutOfMemory),
+/// Enters three writes, takes the last back, and enters the marks that ask for memory.
+fn enter(rt: &impl Abort, alloc: Global, log: &mut Log) {
+    for number in [10, 20, 30] {
+        log.take(sent(number)).expect(rt, "memory");
     }
+    log.take_back();
+    let waits = Waits::from_vec(Vec::new(alloc)).expect(rt, "memory");
+    let again = waits.share().expect(rt, "memory");
+    let settled = MarkEvent::Settled { waits, turns: 1 };
+    log.mark_end(mark(4, settled)).expect(rt, "memory");
+    log.mark(mark(4, MarkEvent::Restarted)).expect(rt, "memory");
+    let (mode, waits) = (Mode::Hitless, again);
+    let began = MarkEvent::ApplyBegan { mode, waits };
+    log.mark(mark(4, began)).expect(rt, "memory");
+}
+
+/// The log with a place for a mark.
+fn with_place(rt: &impl Abort, log: Log) -> PlacedLog {
+    log.with_place().ok().expect(rt, "a place")
+}
+
+/// Enters two marks in places, and gives up a place between them.
+fn enter_in_places(rt: &impl Abort, log: Log) -> Log {
+    let log = with_place(rt, log).mark(mark(6, MarkEvent::ApplyEnded));
+    let log = with_place(rt, log).give_up();
+    let (before, after) = (0, 1);
+    with_place(rt, log).mark_end(mark(7, MarkEvent::Faulted { before, after }))
 }
 
 #[test]
-fn a_log_has_its_writes_marks_and_ends(rt: HostRuntime) -> Result<(), Fail> {
-    let alloc = rt.alloc();
-    let mut log = Log::new(alloc);
+fn a_log_has_its_writes_marks_and_ends(rt: HostRuntime) {
+    let mut log = Log::new(rt.alloc());
     assert!(rt; log.taken().is_empty() && log.marks().is_empty() && log.ends().is_empty());
-    for number in [10, 20, 30] {
-        log.take(sent(number))?;
-    }
-    log.take_back();
-    let waits = Waits::from_vec(Vec::new(alloc))?;
-    let again = waits.share()?;
-    log.mark_end(mark(4, MarkEvent::Settled { waits, turns: 1 }))?;
-    log.mark(mark(4, MarkEvent::Restarted))?;
-    let (mode, waits) = (Mode::Hitless, again);
-    log.mark(mark(4, MarkEvent::ApplyBegan { mode, waits }))?;
-    let log = with_place(log)?.mark(mark(6, MarkEvent::ApplyEnded));
-    let log = with_place(log)?.give_up();
-    let (before, after) = (0, 1);
-    let log = with_place(log)?.mark_end(mark(7, MarkEvent::Faulted { before, after }));
+    enter(&rt, rt.alloc(), &mut log);
+    let log = enter_in_places(&rt, log);
     let numbers = log.taken().iter().map(|sent| sent.number);
     assert!(rt; numbers.eq([10, 20]), "the writes taken");
     let effects = log.marks().iter().map(|mark| mark.effects);
     assert!(rt; effects.eq([4, 4, 4, 6, 7]), "the marks");
-    assert_eq!(rt; log.ends(), [1, 5].as_slice(), "the ends");
-    Ok(())
+    assert!(rt; log.ends() == [1, 5].as_slice(), "the ends");
 }
 
-#[test]
-fn keys_wait_in_the_order_of_their_list(rt: HostRuntime) -> Result<(), Fail> {
-    let cases = [
+/// Four keys, why they wait, and the rows that are applied for them.
+fn four() -> [Waiter; 4] {
+    [
         (Key::Port(0), Wait::Missing(Key::Port(4)), None),
         (
             Key::Member(10, 4),
@@ -125,18 +132,17 @@ fn keys_wait_in_the_order_of_their_list(rt: HostRuntime) -> Result<(), Fail> {
         ),
         (Key::Vlan(20), Wait::NoRoom(Kind::Vlan), None),
         (Key::Intf(IfName::Vlan(20)), Wait::Busy(3), Some(Row::Intf)),
-    ];
-    let mut list = Vec::new(rt.alloc());
-    for (key, wait, row) in &cases {
-        let row = match row {
-            Some(row) => Some(row.copy()?),
-            None => None,
-        };
-        list.push((key.copy()?, wait.copy()?, row))?;
-    }
-    let waits = Waits::from_vec(list)?;
-    let shared = waits.share()?;
-    assert_eq!(rt; waits.items(), cases.as_slice());
-    assert_eq!(rt; shared.items(), cases.as_slice());
-    Ok(())
+    ]
+}
+
+#[test]
+fn keys_wait_in_the_order_of_their_list(rt: HostRuntime) {
+    let list = Vec::from_array(rt.alloc(), four()).expect(&rt, "memory");
+    let waits = Waits::from_vec(list).expect(&rt, "memory");
+    let shared = waits.share().expect(&rt, "memory");
+    assert!(rt; waits.items() == four().as_slice(), "the list");
+    assert!(rt;
+        shared.items() == four().as_slice(),
+        "the list that is shared"
+    );
 }

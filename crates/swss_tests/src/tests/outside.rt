@@ -1,9 +1,10 @@
 // Sources and sinks that fail.
+use super::run::run;
 use std::alloc::Global;
+use std::process::Abort;
 use std::sync::Wait;
-use std::test::Fail;
 use std::thread::Threads;
-use swss_run::{Status, swss_main};
+use swss_run::Status;
 use swss_types::{Gate, Got, MemSink, MemSource, Open, Sink, Source, Took};
 
 /// Two rounds.
@@ -14,38 +15,36 @@ const SCRIPT: &[u8] =
 const REPORT: &[u8] =
     b"settled 1 waiting 0\nsettled 2 waiting 0\nchip 1\nPORT Ethernet0 lanes 0 speed 100000 mtu 9100 admin down\n";
 
-/// How a run of the script from a source and into a sink ends, how many rounds ended, and whether there is a chip.
-fn run<R: Threads + Wait + Sync>(
+/// How a run of the script ends, how many rounds ended, and whether there is a chip.
+fn end_of<R: Threads + Wait + Sync + Abort>(
     rt: &R,
     alloc: Global,
     source: &mut MemSource,
     sink: &mut MemSink,
-) -> Result<(Status, usize, bool), Fail> {
-    let words = vec![in alloc; String::from_str(alloc, "run")?]?;
-    let outcome = swss_main(rt, alloc, &words, source, sink, &Open);
+) -> (Status, usize, bool) {
+    let outcome = run(rt, alloc, source, sink);
     let ended = outcome.log.ends().len();
     let has_chip = outcome.chip.is_some();
-    Ok((outcome.into_status(), ended, has_chip))
+    (outcome.into_status(), ended, has_chip)
 }
 
 #[test]
-fn a_failed_read_writes_nothing(rt: HostRuntime) -> Result<(), Fail> {
+fn a_failed_read_writes_nothing(rt: HostRuntime) {
     let alloc = rt.alloc();
     // The source gives the script in two calls, and tells its end in the third.
     for call in [1u64, 2, 3] {
-        let script = Vec::from_slice(alloc, SCRIPT)?;
-        let mut source = MemSource::in_pieces(script, vec![in alloc; call]?, 100);
+        let script = Vec::from_slice(alloc, SCRIPT).expect(&rt, "memory");
+        let fails = Vec::from_array(alloc, [call]).expect(&rt, "memory");
+        let mut source = MemSource::in_pieces(script, fails, 100);
         let mut sink = MemSink::new(alloc, Vec::new(alloc));
-        let (status, ended, has_chip) = run(&rt, alloc, &mut source, &mut sink)?;
-        assert_eq!(rt; status, Status::ReadFault, "{call}");
-        assert!(rt; sink.held().is_empty() && ended == 0 && !has_chip, "{call}");
-        assert_eq!(rt; status.line(alloc)?.as_slice(), b"read fault".as_slice());
+        let end = end_of(&rt, alloc, &mut source, &mut sink);
+        assert!(rt; end == (Status::ReadFault, 0, false), "{call}: {end:?}");
+        assert!(rt; sink.held().is_empty(), "{call}");
     }
-    Ok(())
 }
 
 #[test]
-fn a_failed_write_leaves_a_front_of_the_report(rt: HostRuntime) -> Result<(), Fail> {
+fn a_failed_write_leaves_a_front_of_the_report(rt: HostRuntime) {
     let alloc = rt.alloc();
     // How much the sink takes at once, the call at which it fails, what it holds then, and the rounds that ended.
     for (piece, call, held, rounds) in [
@@ -56,36 +55,41 @@ fn a_failed_write_leaves_a_front_of_the_report(rt: HostRuntime) -> Result<(), Fa
         (1000, 1, 0, 1),
         (1000, 2, 20, 2),
     ] {
-        let mut source = MemSource::new(Vec::from_slice(alloc, SCRIPT)?, Vec::new(alloc));
-        let mut sink = MemSink::in_pieces(alloc, vec![in alloc; call]?, piece);
-        let (status, ended, has_chip) = run(&rt, alloc, &mut source, &mut sink)?;
-        assert_eq!(rt; status, Status::WriteFault, "{piece} {call}");
-        assert_eq!(rt; status.line(alloc)?.as_slice(), b"write fault".as_slice());
-        assert_eq!(rt; sink.held().len(), held, "{piece} {call}");
-        assert!(rt; REPORT.starts_with(sink.held()), "{piece} {call}");
-        assert_eq!(rt; ended, rounds, "{piece} {call}");
-        assert!(rt; has_chip, "{piece} {call}");
+        let script = Vec::from_slice(alloc, SCRIPT).expect(&rt, "memory");
+        let fails = Vec::from_array(alloc, [call]).expect(&rt, "memory");
+        let mut source = MemSource::new(script, Vec::new(alloc));
+        let mut sink = MemSink::in_pieces(alloc, fails, piece);
+        let end = end_of(&rt, alloc, &mut source, &mut sink);
+        assert!(rt;
+            end == (Status::WriteFault, rounds, true),
+            "{piece} {call}: {end:?}"
+        );
+        assert!(rt;
+            sink.held().len() == held && REPORT.starts_with(sink.held()),
+            "{piece} {call}"
+        );
     }
-    Ok(())
 }
 
 #[test]
-fn statuses_that_no_case_ends_with_have_numbers_and_lines(rt: HostRuntime) -> Result<(), Fail> {
+fn statuses_that_no_case_ends_with_have_numbers_and_lines(rt: HostRuntime) {
     for (status, number, line) in [
         (Status::ReadFault, 3, b"read fault".as_slice()),
         (Status::WriteFault, 4, b"write fault"),
         (Status::ChipFault, 5, b"chip fault"),
         (Status::OutOfMemory, 7, b"out of memory"),
     ] {
-        assert_eq!(rt; status.number(), number);
-        assert_eq!(rt; status.line(rt.alloc())?.as_slice(), line);
+        let told = status.line(rt.alloc()).expect(&rt, "memory");
+        assert!(rt;
+            status.number() == number && told.as_slice() == line,
+            "{number}"
+        );
     }
-    Ok(())
 }
 
 #[test]
-fn a_source_in_memory_gives_all_bytes(rt: HostRuntime) -> Result<(), Fail> {
-    // How much it gives at once, the calls at which it fails, and what it answers to calls of three bytes.
+fn a_source_in_memory_gives_all_bytes(rt: HostRuntime) {
+    // How much it gives at once, the call at which it fails, and what it answers to calls of three bytes.
     let cases = [
         (
             1,
@@ -99,26 +103,32 @@ fn a_source_in_memory_gives_all_bytes(rt: HostRuntime) -> Result<(), Fail> {
             [Got::Bytes(2), Got::Bytes(2), Got::Bytes(1), Got::End],
         ),
     ];
-    for (piece, fails, answers) in cases {
-        let bytes = Vec::from_slice(rt.alloc(), b"abcde")?;
-        let mut source = MemSource::in_pieces(bytes, vec![in rt.alloc(); fails]?, piece);
-        let mut given = Vec::new(rt.alloc());
-        for answer in answers {
-            let mut part = [0; 3];
-            assert_eq!(rt; source.read(&mut part), answer, "{piece} at once");
-            if let Got::Bytes(count) = answer {
-                given.extend_from_slice(part.get(..count).ok_or("at most three")?)?;
-            }
-        }
-        assert!(rt; b"abcde".starts_with(given.as_slice()), "{piece} at once");
-        assert_eq!(rt; source.faults(), u64::from(fails < 9));
+    for (piece, call, answers) in cases {
+        let bytes = Vec::from_slice(rt.alloc(), b"abcde").expect(&rt, "memory");
+        let fails = Vec::from_array(rt.alloc(), [call]).expect(&rt, "memory");
+        let mut source = MemSource::in_pieces(bytes, fails, piece);
+        read_each(&rt, &mut source, answers);
+        assert!(rt; source.faults() == u64::from(call < 9), "{piece} at once");
     }
-    Ok(())
+}
+
+/// Reads three bytes at a time: the answers are these, and the bytes those of the text, one after the other.
+fn read_each(rt: &impl Abort, source: &mut MemSource, answers: [Got; 4]) {
+    let mut left = b"abcde".as_slice();
+    for answer in answers {
+        let mut part = [0; 3];
+        let got = source.read(&mut part);
+        assert!(rt; got == answer, "{got:?} and {answer:?}");
+        if let Got::Bytes(count) = answer {
+            let given = part.get(..count).expect(rt, "at most three");
+            left = left.strip_prefix(given).expect(rt, "the next bytes");
+        }
+    }
 }
 
 #[test]
-fn a_source_in_memory_gives_as_much_as_there_is_place_for(rt: HostRuntime) -> Result<(), Fail> {
-    let bytes = Vec::from_slice(rt.alloc(), b"abcde")?;
+fn a_source_in_memory_gives_as_much_as_there_is_place_for(rt: HostRuntime) {
+    let bytes = Vec::from_slice(rt.alloc(), b"abcde").expect(&rt, "memory");
     let mut source = MemSource::new(bytes, Vec::new(rt.alloc()));
     let mut part = [0; 3];
     // The second call leaves the last byte as it was.
@@ -127,26 +137,28 @@ fn a_source_in_memory_gives_as_much_as_there_is_place_for(rt: HostRuntime) -> Re
         (Got::Bytes(2), b"dec"),
         (Got::End, b"dec"),
     ] {
-        assert_eq!(rt; source.read(&mut part), answer);
-        assert_eq!(rt; part.as_slice(), bytes);
+        let got = source.read(&mut part);
+        assert!(rt; got == answer && part.as_slice() == bytes, "{got:?}");
     }
-    assert_eq!(rt; source.faults(), 0);
-    Ok(())
+    assert!(rt; source.faults() == 0);
 }
 
 #[test]
-fn a_sink_in_memory_holds_what_it_took(rt: HostRuntime) -> Result<(), Fail> {
-    let fails = Vec::from_slice(rt.alloc(), &[1, 3])?;
-    let mut sink = MemSink::in_pieces(rt.alloc(), fails, 1);
+fn a_sink_in_memory_holds_what_it_took(rt: HostRuntime) {
+    let fails = Vec::from_array(rt.alloc(), [1, 3]).expect(&rt, "memory");
+    let mut failing = MemSink::in_pieces(rt.alloc(), fails, 1);
     for took in [Took::Failed, Took::Bytes(1), Took::Failed, Took::Bytes(1)] {
-        assert_eq!(rt; sink.write(b"xyz"), took);
+        assert!(rt; failing.write(b"xyz") == took, "{took:?}");
     }
-    assert_eq!(rt; sink.held(), b"xx".as_slice());
-    assert_eq!(rt; sink.faults(), 2);
+    assert!(rt;
+        failing.held() == b"xx".as_slice() && failing.faults() == 2,
+        "two bytes"
+    );
     let mut sink = MemSink::new(rt.alloc(), Vec::new(rt.alloc()));
-    assert_eq!(rt; sink.write(b"xyz"), Took::Bytes(3));
-    assert_eq!(rt; sink.held(), b"xyz".as_slice());
-    assert_eq!(rt; sink.faults(), 0);
+    assert!(rt; sink.write(b"xyz") == Took::Bytes(3), "all at once");
+    assert!(rt;
+        sink.held() == b"xyz".as_slice() && sink.faults() == 0,
+        "three bytes"
+    );
     Open.pause(0, 0);
-    Ok(())
 }

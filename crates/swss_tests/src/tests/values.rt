@@ -1,12 +1,10 @@
-// Values that are copied, and lists that are put together.
-use sai_types::{
-    Base, Body, Call, Entry, Goal, Hop, Hops, Object, Pairing, PlanCall, PlanCalls, PlanId,
-    PortThing, Rid, Thing, Vid,
-};
+// Values that are copied, and how the want of memory reads.
+use sai_types::{Base, Body, Entry, Goal, Hop, Hops, Object, PortThing, Rid, Thing};
 use std::alloc::Global;
-use std::test::Fail;
-use swss_script::DEFAULT_CAPS;
-use swss_types::{Bits, Family, Ip, Lanes, OutOfMemory, Prefix, Text, insert_rising};
+use std::process::Abort;
+use switch_model::Wait;
+use swss_types::{Bits, Family, Ip, Lanes, OutOfMemory, Prefix, Text};
+use table_schema::Key;
 
 /// The address 10.0.0.1.
 fn ten() -> Ip {
@@ -16,8 +14,10 @@ fn ten() -> Ip {
     }
 }
 
-fn lanes(alloc: Global) -> Result<Lanes, Fail> {
-    Ok(Lanes::read(alloc, b"0,1")?.ok_or("lanes")?)
+/// The lanes 0 and 1.
+fn lanes(rt: &impl Abort, alloc: Global) -> Lanes {
+    let lanes = Lanes::read(alloc, b"0,1").expect(rt, "memory");
+    lanes.expect(rt, "lanes")
 }
 
 /// The hop on the port whose first lane this is.
@@ -29,83 +29,69 @@ fn hop(lane: u16) -> Hop {
 }
 
 /// Two hops, put in falling order.
-fn hops(alloc: Global) -> Result<Hops, Fail> {
+fn hops(rt: &impl Abort, alloc: Global) -> Hops {
     let mut hops = Hops::new(alloc);
     for lane in [4, 0] {
-        hops.put(hop(lane))?;
+        hops.put(hop(lane)).expect(rt, "memory");
     }
-    Ok(hops)
+    hops
+}
+
+/// Compares a thing with its copy.
+fn copy_thing(rt: &impl Abort, thing: &Thing) {
+    let copy = thing.copy().expect(rt, "memory");
+    assert!(rt; copy == *thing, "{thing:?}");
 }
 
 #[test]
-fn objects_and_things_are_copied(rt: HostRuntime) -> Result<(), Fail> {
+fn objects_and_things_are_copied(rt: HostRuntime) {
     let alloc = rt.alloc();
+    copy_thing(
+        &rt,
+        &Thing::Port(PortThing {
+            lanes: lanes(&rt, alloc),
+            speed: 100_000,
+            mtu: 9100,
+            up: true,
+        }),
+    );
+    let prefix = Prefix { ip: ten(), len: 32 };
+    let hops = hops(&rt, alloc);
+    assert!(rt; hops.items() == [hop(0), hop(4)].as_slice(), "in order");
+    copy_thing(&rt, &Thing::Route(prefix, Goal::Group(hops)));
+}
+
+#[test]
+fn an_object_is_copied(rt: HostRuntime) {
     let object = Object {
         entry: Entry::Oid(Rid(1)),
         body: Body::Port {
-            lanes: lanes(alloc)?,
+            lanes: lanes(&rt, rt.alloc()),
             speed: 100_000,
             mtu: 9100,
             up: true,
         },
     };
-    assert_eq!(rt; object.copy()?, object);
-    let port = Thing::Port(PortThing {
-        lanes: lanes(alloc)?,
-        speed: 100_000,
-        mtu: 9100,
-        up: true,
-    });
-    assert_eq!(rt; port.copy()?, port);
-    let prefix = Prefix { ip: ten(), len: 32 };
-    let route = Thing::Route(prefix, Goal::Group(hops(alloc)?));
-    assert_eq!(rt; route.copy()?, route);
-    Ok(())
+    let copy = object.copy().expect(&rt, "memory");
+    assert!(rt; copy == object, "{copy:?}");
 }
 
 #[test]
-fn hops_pairs_and_calls_are_put_in_order(rt: HostRuntime) -> Result<(), Fail> {
+fn texts_and_reasons_are_copied(rt: HostRuntime) {
     let alloc = rt.alloc();
-    assert_eq!(rt; hops(alloc)?.items(), [hop(0), hop(4)].as_slice());
-    let mut pairing = Pairing::new(alloc);
-    pairing.push((3, 5))?;
-    assert_eq!(rt; pairing.items(), [(3, 5)].as_slice());
-    let mut calls = PlanCalls::new(alloc);
-    calls.push(PlanCall {
-        call: Call::Remove(Entry::Oid(PlanId::Old(Rid(1)))),
-        makes: None,
-    })?;
-    calls.push(PlanCall {
-        call: Call::Create(Body::Group),
-        makes: Some(Vid(2)),
-    })?;
-    assert_eq!(rt; calls.items().len(), 2);
-    Ok(())
-}
-
-#[test]
-fn texts_are_of_utf8_and_lists_rise(rt: HostRuntime) -> Result<(), Fail> {
-    let alloc = rt.alloc();
-    let text = Text::new(alloc, "Zürich".as_bytes())?.ok_or("UTF-8")?;
-    assert_eq!(rt; text.copy()?.bytes(), "Zürich".as_bytes());
-    assert!(rt; Text::new(alloc, b"\xff\xfe")?.is_none());
-    let mut list = Vec::new(alloc);
-    for item in [5, 1, 9, 5, 3] {
-        insert_rising(&mut list, item)?;
+    // A short text stands in the value itself, one of more than 30 bytes has memory of its own.
+    for text in ["Zürich", "Zürich Flughafen Terminal A und B"] {
+        let long = Text::from_str(alloc, text).expect(&rt, "memory");
+        let copy = long.copy().expect(&rt, "memory");
+        assert!(rt; copy.bytes() == text.as_bytes(), "{text}");
     }
-    assert_eq!(rt; list.as_slice(), [1, 3, 5, 9].as_slice());
-    let text = format!(in alloc; "{OutOfMemory}")?;
-    assert_eq!(rt; text.as_str(), "out of memory");
-    Ok(())
-}
-
-#[test]
-fn capacities_of_a_chip_are_as_many_as_the_formats_say(rt: HostRuntime) -> Result<(), Fail> {
-    // Of ports, VLANs, bridge ports, members of VLANs, interfaces, own addresses, neighbours, next hops, groups, members of
-    // groups, and routes.
-    let most: [u64; 11] = [
-        256, 4094, 256, 16384, 1024, 2048, 16384, 16384, 512, 16384, 65536,
-    ];
-    assert_eq!(rt; DEFAULT_CAPS.0.as_slice(), most.as_slice());
-    Ok(())
+    assert!(rt;
+        Text::new(alloc, b"\xff\xfe")
+            .expect(&rt, "memory")
+            .is_none()
+    );
+    let wait = Wait::Missing(Key::Port(4));
+    assert!(rt; wait.copy().expect(&rt, "memory") == wait);
+    let text = format!(in alloc; "{OutOfMemory}").expect(&rt, "memory");
+    assert!(rt; text.as_str() == "out of memory");
 }

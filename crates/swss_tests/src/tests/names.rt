@@ -3,6 +3,7 @@
 // Without the flag no allocation is refused.
 ghost use Rattle.ref_counts.specs.Registered.{IsReadable};
 
+use super::common::assert_shown;
 use ref_counts::{Missing, Name, NameState, Registry, Room, put_names_are_found};
 use sai_types::{Caps, Hops, Kind, Vid};
 use std::alloc::Global;
@@ -84,7 +85,7 @@ const STEPS: [(Step, &str, &str); 27] = [
 ];
 
 /// The name of a number.
-fn name(alloc: Global, number: u16) -> Name {
+fn name_of(alloc: Global, number: u16) -> Name {
     match number {
         4 => Name::BridgePort(4),
         5 => Name::Group(Hops::new(alloc)),
@@ -99,128 +100,152 @@ fn key(number: u16) -> Key
     Key::Vlan(number)
 }
 
-/// Builds a name, and makes it live with these identifiers.
-fn build(
-    registry: &mut Registry,
-    worker: u32,
-    made: &Name,
-    vids: &[Vid],
-) -> Result<Option<Wait>, OutOfMemory> {
-    put_names_are_found();
-    let name = made.copy()?;
-    if registry.live(&name) {
-        return Ok(None);
-    }
-    match registry.start_build(worker, name, vids.len() as u64)? {
-        Ok(()) => {
-            registry.built(worker, made, vids);
-            Ok(None)
-        }
-        Err(wait) => Ok(Some(wait)),
+/// The number of the name that a step is about, if it is about one.
+fn number_of(step: Step) -> u16 {
+    match step {
+        Step::Begin(_, number) | Step::Build(_, number, _) | Step::Retire(_, number) => number,
+        Step::Add(number, _) | Step::Take(number, _) | Step::Gone(number) => number,
+        Step::Pin(..) | Step::Release(..) => 0,
     }
 }
 
-/// Makes a step, where its conditions hold.
-fn take(alloc: Global, registry: &mut Registry, step: Step) -> Result<Option<Wait>, OutOfMemory> {
+/// What an answer of the registry refuses.
+fn refused(answer: Result<Result<(), Wait>, OutOfMemory>) -> Result<Option<Wait>, OutOfMemory> {
+    match answer {
+        Ok(Ok(())) => Ok(None),
+        Ok(Err(wait)) => Ok(Some(wait)),
+        Err(OutOfMemory) => Err(OutOfMemory),
+    }
+}
+
+/// Begins to build a name, and makes it live with these identifiers.
+fn build(
+    registry: &mut Registry,
+    worker: u32,
+    name: &Name,
+    vids: &[Vid],
+) -> Result<Option<Wait>, OutOfMemory> {
+    put_names_are_found();
+    let copy = name.copy()?;
+    if registry.live(&copy) {
+        return Ok(None);
+    }
+    let answer = registry.start_build(worker, copy, vids.len() as u64);
+    if let Ok(Ok(())) = answer {
+        registry.built(worker, name, vids);
+    }
+    refused(answer)
+}
+
+/// Pins two rows for a key.
+fn pin(
+    registry: &mut Registry,
+    worker: u32,
+    user: u16,
+    first: u16,
+    second: u16,
+) -> Result<Option<Wait>, OutOfMemory> {
+    match registry.pin(worker, &key(user), &[key(first), key(second)]) {
+        Ok(Ok(())) => Ok(None),
+        Ok(Err(Missing(key))) => Ok(Some(Wait::Missing(key))),
+        Err(OutOfMemory) => Err(OutOfMemory),
+    }
+}
+
+/// Makes a step that is about a name or none, where its conditions hold.
+fn take(registry: &mut Registry, step: Step, name: &Name) -> Result<Option<Wait>, OutOfMemory> {
     match step {
-        Step::Begin(worker, number) => {
-            let begun = name(alloc, number);
-            if !registry.live(&begun) {
-                if let Err(wait) = registry.start_build(worker, begun, 5)? {
-                    return Ok(Some(wait));
-                }
+        Step::Begin(worker, _) => {
+            let copy = name.copy()?;
+            if !registry.live(&copy) {
+                return refused(registry.start_build(worker, copy, 5));
             }
         }
-        Step::Build(worker, number, ids) => {
-            let vids = VIDS.get(..ids).unwrap_or(&VIDS);
-            return build(registry, worker, &name(alloc, number), vids);
+        Step::Build(worker, _, ids) => {
+            return build(registry, worker, name, VIDS.get(..ids).unwrap_or(&VIDS));
         }
-        Step::Pin(worker, user, first, second) => {
-            let keys = [key(first), key(second)];
-            if let Err(Missing(key)) = registry.pin(worker, &key(user), &keys)? {
-                return Ok(Some(Wait::Missing(key)));
-            }
-        }
+        Step::Pin(worker, user, first, second) => return pin(registry, worker, user, first, second),
         Step::Release(worker, used) => registry.release(worker, used),
-        Step::Add(number, user) => {
-            let used = name(alloc, number);
-            match registry.state(&used) {
-                NameState::Live => registry.add_user(&used, key(user))?,
-                NameState::Building(_) => registry.add_user(&used, key(user))?,
-                _ => {}
+        Step::Add(_, user) => match registry.state(name) {
+            NameState::Live | NameState::Building(_) => registry.add_user(name, key(user))?,
+            _ => {}
+        },
+        Step::Take(_, user) => registry.drop_user(name, &key(user)),
+        Step::Retire(worker, _) => {
+            if registry.live(name) {
+                return refused(Ok(registry.try_retire(worker, name)));
             }
         }
-        Step::Take(number, user) => registry.drop_user(&name(alloc, number), &key(user)),
-        Step::Retire(worker, number) => {
-            let left = name(alloc, number);
-            if registry.live(&left) {
-                if let Err(wait) = registry.try_retire(worker, &left) {
-                    return Ok(Some(wait));
-                }
-            }
-        }
-        Step::Gone(number) => registry.gone(&name(alloc, number)),
+        Step::Gone(_) => registry.gone(name),
     }
     Ok(None)
 }
 
-/// How the five names stand.
-fn shown(alloc: Global, registry: &Registry) -> Result<String, OutOfMemory> {
-    let mut out = String::new(alloc);
-    for number in 1..6u16 {
-        let asked = name(alloc, number);
-        if number != 1 {
-            out.push_str(" ")?;
-        }
-        let state = match registry.state(&asked) {
-            NameState::Absent => format!(in alloc; "-")?,
-            NameState::Building(worker) => format!(in alloc; "b{worker}")?,
-            NameState::Live => format!(in alloc; "l")?,
-            NameState::Retiring(worker) => format!(in alloc; "r{worker}")?,
-        };
-        out.push_str(state.as_str())?;
-        if registry.vid_of(&asked).is_some() {
-            let count = registry.vids_of(&asked).len();
-            out.push_str(format!(in alloc; "#{count}")?.as_str())?;
-        }
-        if let Some(Key::Vlan(user)) = registry.least_user(&asked) {
-            out.push_str(format!(in alloc; ":{user}")?.as_str())?;
+/// Whether a name stands as it is told.
+fn stands_as(registry: &Registry, name: &Name, told: &str) -> bool {
+    let (front, user) = told.split_once(':').unwrap_or((told, ""));
+    let (state, count) = front.split_once('#').unwrap_or((front, "0"));
+    let is_state = match registry.state(name) {
+        NameState::Absent => state == "-",
+        NameState::Building(1) => state == "b1",
+        NameState::Live => state == "l",
+        NameState::Retiring(1) => state == "r1",
+        _ => false,
+    };
+    let is_user = match registry.least_user(name) {
+        Some(Key::Vlan(least)) => user.parse() == Ok(least),
+        Some(_) => false,
+        None => user.is_empty(),
+    };
+    is_state && is_user && count.parse() == Ok(registry.vids_of(name).len())
+}
+
+/// Whether the five names stand as it is told.
+fn stand_as(alloc: Global, registry: &Registry, told: &str) -> bool {
+    let mut number = 0;
+    for word in told.split(' ') {
+        number += 1;
+        if !stands_as(registry, &name_of(alloc, number), word) {
+            return false;
         }
     }
-    Ok(out)
+    number == 5
 }
 
-/// Makes each step on a new registry.
-fn take_each(rt: &impl Abort, alloc: Global) -> Result<(), OutOfMemory> {
-    let mut registry = Registry::new(alloc);
-    take_on(rt, alloc, &mut registry)
+/// Makes a step, and gives what it is refused. One that is refused memory changes nothing, and is made again.
+fn take_at_last(
+    rt: &impl Abort,
+    alloc: Global,
+    registry: &mut Registry,
+    step: Step,
+    name: &Name,
+    before: &str,
+) -> Option<Wait> {
+    match take(registry, step, name) {
+        Ok(refusal) => refusal,
+        Err(_) => {
+            assert!(rt; stand_as(alloc, registry, before), "still {before}");
+            take(registry, step, name).expect(rt, "the next try")
+        }
+    }
 }
 
-/// Makes each step, and compares after each. A step that is refused memory changes nothing, and is made again.
-fn take_on(rt: &impl Abort, alloc: Global, registry: &mut Registry) -> Result<(), OutOfMemory> {
+/// Makes each step, and looks at the names behind it.
+fn take_each(rt: &impl Abort, alloc: Global, registry: &mut Registry) {
     let mut before = "- - - - -";
     for (step, answer, after) in STEPS {
-        let refusal = match take(alloc, registry, step) {
-            Ok(refusal) => refusal,
-            Err(_) => {
-                assert_eq!(rt; shown(alloc, registry)?.as_str(), before);
-                take(alloc, registry, step)?
-            }
-        };
-        assert_eq!(rt; format!(in alloc; "{refusal:?}")?.as_str(), answer);
-        assert_eq!(rt; shown(alloc, registry)?.as_str(), after);
+        let name = name_of(alloc, number_of(step));
+        let refusal = take_at_last(rt, alloc, registry, step, &name, before);
+        assert_shown(rt, alloc, answer, &refusal);
+        assert!(rt; stand_as(alloc, registry, after), "{after}");
         before = after;
     }
-    Ok(())
 }
 
 #[test]
 fn names_stand_as_the_steps_made_them(rt: HostRuntime) {
-    let alloc = rt.alloc();
-    // An Err comes of a refusal outside the calls that are looked at.
-    if take_each(&rt, alloc).is_err() {
-        assert!(rt; take_each(&rt, alloc).is_ok(), "the next try");
-    }
+    let mut registry = Registry::new(rt.alloc());
+    take_each(&rt, rt.alloc(), &mut registry);
 }
 
 /// A need of so many VLANs and routes.

@@ -1,6 +1,0 @@
-//! Tests of the tables and of the queue, of what no clause says and no case shows. They stand on no program, so that the gate
-//! proves them beside the crates above.
-#![tactic(auto)]
-
-#[cfg(test)]
-mod tests;
