@@ -1,4 +1,5 @@
-// Values that are copied, and how the want of memory reads.
+// Values that are copied, and how the want of memory and a full log read.
+use orch_core::LogFull;
 use sai_types::{Base, Body, Entry, Goal, Hop, Hops, Object, PortThing, Rid, Thing};
 use std::alloc::Global;
 use std::process::Abort;
@@ -94,4 +95,6 @@ fn texts_and_reasons_are_copied(rt: HostRuntime) {
     assert!(rt; wait.copy().expect(&rt, "memory") == wait);
     let text = format!(in alloc; "{OutOfMemory}").expect(&rt, "memory");
     assert!(rt; text.as_str() == "out of memory");
+    let text = format!(in alloc; "{LogFull}").expect(&rt, "memory");
+    assert!(rt; text.as_str() == "log full");
 }
