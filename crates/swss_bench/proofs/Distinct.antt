@@ -1,5 +1,5 @@
 -- keys of which no two are equal
-use Rattle.std.proofs.Common.{◌≡◌, Bool, true, not, List, [], ◌∷◌, Option, None, Some, refl}
+use Rattle.std.proofs.Common.{◌≡◌, Bool, true, not, List, ◌∷◌, Option, None, Some, refl}
 use Rattle.std.specs.List.{list_any}
 use Rattle.sai_types.specs.Named.{those}
 use Rattle.chip_layout.specs.Counted.{AreDistinct}

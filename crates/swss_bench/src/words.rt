@@ -2,11 +2,9 @@
 use anyhow::Result;
 use std::alloc::Global;
 
-/// What can be timed.
-pub const NAMES: [&str; 11] = [
-    "chip", "rounds", "writes", "waiting", "fields", "alone", "together", "names", "keys",
-    "reasons", "plan",
-];
+/// The names of what can be timed.
+pub const NAMES: &str =
+    "chip, rounds, writes, waiting, fields, alone, together, names, keys, reasons, plan";
 
 /// A name and the numbers behind it.
 #[derive(Drop)]
