@@ -202,9 +202,9 @@ fn stands_as(registry: &Registry, name: &Name, told: &str) -> bool {
 
 /// Whether the five names stand as it is told.
 fn stand_as(alloc: Global, registry: &Registry, told: &str) -> bool {
-    let mut number = 0;
+    let mut number = 0u16;
     for word in told.split(' ') {
-        number += 1;
+        number = number.saturating_add(1);
         if !stands_as(registry, &name_of(alloc, number), word) {
             return false;
         }
