@@ -15,7 +15,8 @@ pub fn read_write(alloc: Global, line: &str) -> Result<Write>
     let words = line.split_whitespace().collect::<Vec<&str>>(alloc)?;
     match words.as_slice() {
         ["set", name, pairs @ ..] if !pairs.is_empty() => {
-            Ok(Write::Set(key(alloc, name)?, fields(alloc, pairs)?))
+            let fields = fields(alloc, pairs)?;
+            Ok(Write::Set(key(alloc, name)?, fields))
         }
         ["del", name] => Ok(Write::Del(key(alloc, name)?)),
         _ => bail!("a write"),

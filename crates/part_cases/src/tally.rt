@@ -2,7 +2,7 @@
 use std::fmt;
 
 /// How many cases passed, and how many failed.
-#[derive(Clone, Copy, Debug, Default)]
+#[derive(Clone, Copy, Default)]
 pub struct Tally {
     passed: u32,
     failed: u32,

@@ -49,6 +49,13 @@ fn names_in<R: Files + AllocGlobal + Clone + Drop>(
     Ok(names)
 }
 
+/// What an example is to print, or what it prints.
+#[derive(Drop)]
+struct Written {
+    output: Vec<u8>,
+    line: Vec<u8>,
+}
+
 /// Runs an example, and tells what differs from what stands beside it, if anything does.
 fn run_example<R: Files + AllocGlobal + Threads + Wait + Sync>(
     rt: &R,
@@ -56,24 +63,42 @@ fn run_example<R: Files + AllocGlobal + Threads + Wait + Sync>(
     folder: &str,
     name: &str,
 ) -> Result<Option<&'static str>> {
-    let script = file(rt, alloc, folder, name, "swss")?;
-    let output = file(rt, alloc, folder, name, "out")?;
+    let found = run_script(rt, alloc, file(rt, alloc, folder, name, "swss")?)?;
+    let wanted = wanted(rt, alloc, folder, name)?;
+    Ok(if found.output != wanted.output {
+        Some(OTHER_OUTPUT)
+    } else if found.line != wanted.line {
+        Some(OTHER_LINE)
+    } else {
+        None
+    })
+}
+
+/// What stands beside an example.
+fn wanted<R: Files + AllocGlobal>(
+    rt: &R,
+    alloc: Global,
+    folder: &str,
+    name: &str,
+) -> Result<Written> {
     let line = match fs::exists(rt, path(alloc, folder, name, "err")?)? {
         true => file(rt, alloc, folder, name, "err")?,
         false => Vec::new(alloc),
     };
+    let output = file(rt, alloc, folder, name, "out")?;
+    Ok(Written { output, line })
+}
+
+/// What a script prints.
+fn run_script<R: Threads + Wait + Sync>(rt: &R, alloc: Global, script: Vec<u8>) -> Result<Written> {
+    let mut words = Vec::new(alloc);
+    words.push(String::from_str(alloc, "run")?)?;
     let mut source = MemSource::new(script, Vec::new(alloc));
     let mut sink = MemSink::new(alloc, Vec::new(alloc));
-    let words = vec![in alloc; String::from_str(alloc, "run")?]?;
     let outcome = swss_main(rt, alloc, &words, &mut source, &mut sink, &Open);
-    let status = outcome.into_status();
-    if sink.held() != output.as_slice() {
-        return Ok(Some(OTHER_OUTPUT));
-    }
-    if printed(alloc, &status)? != line {
-        return Ok(Some(OTHER_LINE));
-    }
-    Ok(None)
+    let line = printed(alloc, &outcome.into_status())?;
+    let output = sink.held().to_vec(alloc)?;
+    Ok(Written { output, line })
 }
 
 /// The line of a status as the program prints it, with its end; nothing where all went well.

@@ -21,7 +21,6 @@ use part_cases::{chip, plans, texts};
 use std::alloc::Global;
 use std::env;
 use std::fs::Files;
-use std::io::{BufRead, BufReader};
 use std::sync::Wait;
 use std::thread::Threads;
 
@@ -55,7 +54,7 @@ fn run_all<R: Files + AllocGlobal + Clone + Drop + Threads + Wait + Sync + Print
 /// The lines of standard input that are neither empty nor comments.
 fn read_lines(rt: &HostRuntime, alloc: Global) -> Result<Vec<String>> {
     let mut lines = Vec::new(alloc);
-    for line in BufReader::new(alloc, rt.reader())?.lines(alloc) {
+    for line in rt.lines(alloc) {
         let line = line.context("the cases")?;
         if !line.is_empty() && !line.starts_with('#') {
             lines.push(line)?;

@@ -6,6 +6,7 @@ use anyhow::{Context, Result, bail};
 use sai_chip::{Fail, SimChip};
 use sai_types::{Caps, Chip, Object, Rid};
 use std::alloc::Global;
+use std::fmt::Debug;
 use std::mem::replace;
 
 /// A chip in the middle of a case.
@@ -67,21 +68,19 @@ impl Asked {
         let wanted = wanted.split_whitespace().collect::<Vec<&str>>(alloc)?;
         let wanted = answer(wanted.as_slice())?;
         let found = self.chip.call(&call(alloc, words.as_slice())?);
-        if found == wanted {
-            return Ok(None);
-        }
-        Ok(Some(format!(in alloc; "{found:?}")?))
+        unless_equal(alloc, &found, &wanted)
     }
 
     /// What was found, where a line wants something else.
     pub fn find(&mut self, alloc: Global, words: &[&str]) -> Result<Option<String>> {
         match words {
             ["list", wanted] => self.list(alloc, wanted),
-            ["listed", "all"] => self.expect_all(alloc),
-            ["listed", words @ ..] => self.expect_listed(alloc, &object(alloc, words)?),
-            ["effect", number] => self.expect_effect(alloc, number, true),
-            ["no", "effect", number] => self.expect_effect(alloc, number, false),
-            _ => self.count(alloc, words),
+            ["listed", "all"] => self.expect_listed(alloc, None),
+            ["listed", words @ ..] => self.expect_listed(alloc, Some(&object(alloc, words)?)),
+            ["effect", at] => unless_equal(alloc, &self.has_effect(number(at)?), &true),
+            ["no", "effect", at] => unless_equal(alloc, &self.has_effect(number(at)?), &false),
+            [what @ .., wanted] => unless_equal(alloc, &self.count(what)?, &number(wanted)?),
+            [] => bail!("a line of a case"),
         }
     }
 
@@ -90,54 +89,47 @@ impl Asked {
         let wanted = list_answer(wanted)?;
         let found = self.chip.list(&mut self.listed);
         self.named = 0;
-        if found == wanted {
-            return Ok(None);
-        }
-        Ok(Some(format!(in alloc; "{found:?}")?))
+        unless_equal(alloc, &found, &wanted)
     }
 
     /// The next object of the list, where it is another than this.
-    fn expect_listed(&mut self, alloc: Global, wanted: &Object<Rid>) -> Result<Option<String>> {
+    fn expect_listed(
+        &mut self,
+        alloc: Global,
+        wanted: Option<&Object<Rid>>,
+    ) -> Result<Option<String>> {
         let found = self.listed.get(self.named);
         self.named = self.named.saturating_add(1);
-        if found == Some(wanted) {
-            return Ok(None);
-        }
-        Ok(Some(format!(in alloc; "{found:?}")?))
+        unless_equal(alloc, &found, &wanted)
     }
 
-    /// The next object of the list, where there is one.
-    fn expect_all(&self, alloc: Global) -> Result<Option<String>> {
-        let found = self.listed.get(self.named);
-        if found.is_none() {
-            return Ok(None);
-        }
-        Ok(Some(format!(in alloc; "{found:?}")?))
+    /// Whether there is an effect of this number.
+    fn has_effect(&self, at: u64) -> bool {
+        self.chip.effect(at).is_some()
     }
 
-    /// Whether there is an effect of a number, where the contrary is wanted.
-    fn expect_effect(&self, alloc: Global, at: &str, wanted: bool) -> Result<Option<String>> {
-        let found = self.chip.effect(number(at)?).is_some();
-        if found == wanted {
-            return Ok(None);
-        }
-        Ok(Some(format!(in alloc; "{found}")?))
-    }
-
-    /// A count of the chip, where it is another than is wanted.
-    fn count(&self, alloc: Global, words: &[&str]) -> Result<Option<String>> {
-        let (found, wanted) = match words {
-            ["used", name, wanted] => (self.chip.used(kind(name)?), number(wanted)?),
-            ["capacity", name, wanted] => (self.chip.capacity(kind(name)?), number(wanted)?),
-            ["effects", wanted] => (self.chip.effects(), number(wanted)?),
-            ["faults", wanted] => (self.chip.faults(), number(wanted)?),
+    /// A count of the chip.
+    fn count(&self, what: &[&str]) -> Result<u64> {
+        match what {
+            ["used", name] => Ok(self.chip.used(kind(name)?)),
+            ["capacity", name] => Ok(self.chip.capacity(kind(name)?)),
+            ["effects"] => Ok(self.chip.effects()),
+            ["faults"] => Ok(self.chip.faults()),
             _ => bail!("a line of a case"),
-        };
-        if found == wanted {
-            return Ok(None);
         }
-        Ok(Some(format!(in alloc; "{found}")?))
     }
+}
+
+/// What was found, where something else is wanted.
+fn unless_equal<T: Debug + PartialEq>(
+    alloc: Global,
+    found: &T,
+    wanted: &T,
+) -> Result<Option<String>> {
+    if found == wanted {
+        return Ok(None);
+    }
+    Ok(Some(format!(in alloc; "{found:?}")?))
 }
 
 /// The same room but for a kind.

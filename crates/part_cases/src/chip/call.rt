@@ -6,14 +6,26 @@ use anyhow::{Result, bail};
 use sai_types::{Attr, Call, ChipAnswer, ListAnswer, Object, Rid};
 use std::alloc::Global;
 
+/// What the chip answers to calls, by their names in the chip's table; the answer with an identifier is not among them.
+const ANSWERS: [(&str, ChipAnswer); 8] = [
+    ("done", ChipAnswer::Done),
+    ("exists", ChipAnswer::Exists),
+    ("bad-reference", ChipAnswer::BadReference),
+    ("not-found", ChipAnswer::NotFound),
+    ("in-use", ChipAnswer::InUse),
+    ("full", ChipAnswer::Full),
+    ("failed", ChipAnswer::Failed),
+    ("no-memory", ChipAnswer::NoMemory),
+];
+
 /// The call of these words.
 pub fn call(alloc: Global, words: &[&str]) -> Result<Call<Rid>> {
-    Ok(match words {
-        ["create", object @ ..] => Call::Create(body(alloc, object)?),
-        ["remove", at @ ..] => Call::Remove(entry(at)?),
-        ["set", change @ ..] => set(change)?,
+    match words {
+        ["create", object @ ..] => Ok(Call::Create(body(alloc, object)?)),
+        ["remove", at @ ..] => Ok(Call::Remove(entry(at)?)),
+        ["set", change @ ..] => set(change),
         _ => bail!("a call"),
-    })
+    }
 }
 
 /// A change of an attribute.
@@ -24,16 +36,16 @@ fn set(words: &[&str]) -> Result<Call<Rid>> {
 
 /// A new value of an attribute.
 fn attribute(words: &[&str]) -> Result<Attr<Rid>> {
-    Ok(match words {
-        ["speed", speed] => Attr::Speed(short(speed)?),
-        ["mtu", mtu] => Attr::Mtu(short(mtu)?),
-        ["up"] => Attr::Up(true),
-        ["down"] => Attr::Up(false),
-        ["tagging", word] => Attr::Tagging(tagging(word)?),
-        ["mac", address] => Attr::Mac(mac(address)?),
-        ["to", to @ ..] => Attr::To(target(to)?),
+    match words {
+        ["speed", speed] => Ok(Attr::Speed(short(speed)?)),
+        ["mtu", mtu] => Ok(Attr::Mtu(short(mtu)?)),
+        ["up"] => Ok(Attr::Up(true)),
+        ["down"] => Ok(Attr::Up(false)),
+        ["tagging", word] => Ok(Attr::Tagging(tagging(word)?)),
+        ["mac", address] => Ok(Attr::Mac(mac(address)?)),
+        ["to", to @ ..] => Ok(Attr::To(target(to)?)),
         _ => bail!("an attribute"),
-    })
+    }
 }
 
 /// An object with its entry.
@@ -47,26 +59,29 @@ pub fn object(alloc: Global, words: &[&str]) -> Result<Object<Rid>> {
 
 /// The answer of these words.
 pub fn answer(words: &[&str]) -> Result<ChipAnswer> {
-    Ok(match words {
-        ["made", made] => ChipAnswer::Made(id(made)?),
-        ["done"] => ChipAnswer::Done,
-        ["exists"] => ChipAnswer::Exists,
-        ["bad-reference"] => ChipAnswer::BadReference,
-        ["not-found"] => ChipAnswer::NotFound,
-        ["in-use"] => ChipAnswer::InUse,
-        ["full"] => ChipAnswer::Full,
-        ["failed"] => ChipAnswer::Failed,
-        ["no-memory"] => ChipAnswer::NoMemory,
+    match words {
+        ["made", made] => Ok(ChipAnswer::Made(id(made)?)),
+        [word] => named_answer(word),
         _ => bail!("an answer"),
-    })
+    }
+}
+
+/// The answer of this name.
+fn named_answer(word: &str) -> Result<ChipAnswer> {
+    for (name, answer) in ANSWERS {
+        if name == word {
+            return Ok(answer);
+        }
+    }
+    bail!("an answer")
 }
 
 /// What a listing answers.
 pub fn list_answer(word: &str) -> Result<ListAnswer> {
-    Ok(match word {
-        "done" => ListAnswer::Done,
-        "failed" => ListAnswer::Failed,
-        "no-memory" => ListAnswer::NoMemory,
+    match word {
+        "done" => Ok(ListAnswer::Done),
+        "failed" => Ok(ListAnswer::Failed),
+        "no-memory" => Ok(ListAnswer::NoMemory),
         _ => bail!("an answer"),
-    })
+    }
 }

@@ -18,11 +18,11 @@ pub fn entry_end(words: &[&str]) -> usize
 
 /// The entry of these words.
 pub fn entry(words: &[&str]) -> Result<Entry<Rid>> {
-    Ok(match words {
-        ["id", number] => Entry::Oid(id(number)?),
-        ["own", address] => Entry::Own(ip(address)?),
-        ["neighbor", rif, address] => Entry::Neigh(id(rif)?, ip(address)?),
-        ["route", covers] => Entry::Route(prefix(covers)?),
+    match words {
+        ["id", number] => Ok(Entry::Oid(id(number)?)),
+        ["own", address] => Ok(Entry::Own(ip(address)?)),
+        ["neighbor", rif, address] => Ok(Entry::Neigh(id(rif)?, ip(address)?)),
+        ["route", covers] => Ok(Entry::Route(prefix(covers)?)),
         _ => bail!("an entry"),
-    })
+    }
 }

@@ -15,26 +15,23 @@ pub fn body(alloc: Global, words: &[&str]) -> Result<Body<Rid>> {
 
 /// An object of the kinds up to router interfaces.
 fn below(alloc: Global, words: &[&str]) -> Result<Body<Rid>> {
-    Ok(match words {
-        ["port", numbers] => port(lanes(alloc, numbers)?, false),
-        ["port", numbers, "up"] => port(lanes(alloc, numbers)?, true),
-        ["vlan", number] => Body::Vlan {
+    match words {
+        ["port", numbers] => Ok(port(lanes(alloc, numbers)?, false)),
+        ["port", numbers, "up"] => Ok(port(lanes(alloc, numbers)?, true)),
+        ["vlan", number] => Ok(Body::Vlan {
             vlan: number.parse::<u16>().context("a number")?,
-        },
-        ["bridge_port", port] => Body::BridgePort { port: id(port)? },
-        ["member", vlan, bridge_port] => Body::VlanMember {
+        }),
+        ["bridge_port", port] => Ok(Body::BridgePort { port: id(port)? }),
+        ["member", vlan, bridge_port] => Ok(Body::VlanMember {
             vlan: id(vlan)?,
             bridge_port: id(bridge_port)?,
             tagging: Tagging::Tagged,
-        },
-        ["rif", "port", port] => Body::Rif {
-            on: RifOn::Port(id(port)?),
-        },
-        ["rif", "vlan", vlan] => Body::Rif {
-            on: RifOn::Vlan(id(vlan)?),
-        },
+        }),
+        ["rif", on, number] => Ok(Body::Rif {
+            on: rif_on(on, id(number)?)?,
+        }),
         _ => bail!("an object"),
-    })
+    }
 }
 
 /// A port with the usual values.
@@ -47,39 +44,48 @@ fn port(lanes: Lanes, up: bool) -> Body<Rid> {
     }
 }
 
+/// What a router interface is on.
+fn rif_on(word: &str, number: Rid) -> Result<RifOn<Rid>> {
+    match word {
+        "port" => Ok(RifOn::Port(number)),
+        "vlan" => Ok(RifOn::Vlan(number)),
+        _ => bail!("what an interface is on"),
+    }
+}
+
 /// An object of the kinds from own addresses on.
 fn above(words: &[&str]) -> Result<Body<Rid>> {
-    Ok(match words {
-        ["own", address] => Body::OwnAddress { ip: ip(address)? },
-        ["neighbor", rif, address, to] => Body::Neighbor {
+    match words {
+        ["own", address] => Ok(Body::OwnAddress { ip: ip(address)? }),
+        ["neighbor", rif, address, to] => Ok(Body::Neighbor {
             rif: id(rif)?,
             ip: ip(address)?,
             mac: mac(to)?,
-        },
-        ["next_hop", rif, address] => Body::NextHop {
+        }),
+        ["next_hop", rif, address] => Ok(Body::NextHop {
             rif: id(rif)?,
             ip: ip(address)?,
-        },
-        ["group"] => Body::Group,
-        ["group_member", group, next_hop] => Body::GroupMember {
+        }),
+        ["group"] => Ok(Body::Group),
+        ["group_member", group, next_hop] => Ok(Body::GroupMember {
             group: id(group)?,
             next_hop: id(next_hop)?,
-        },
-        ["route", covers, to @ ..] => Body::Route {
+        }),
+        ["route", covers, to @ ..] => Ok(Body::Route {
             prefix: prefix(covers)?,
             to: target(to)?,
-        },
+        }),
         _ => bail!("an object"),
-    })
+    }
 }
 
 /// Where a route points.
 pub fn target(words: &[&str]) -> Result<To<Rid>> {
-    Ok(match words {
-        ["drop"] => To::Drop,
-        ["rif", rif] => To::Rif(id(rif)?),
-        ["next_hop", next_hop] => To::NextHop(id(next_hop)?),
-        ["group", group] => To::Group(id(group)?),
+    match words {
+        ["drop"] => Ok(To::Drop),
+        ["rif", rif] => Ok(To::Rif(id(rif)?)),
+        ["next_hop", next_hop] => Ok(To::NextHop(id(next_hop)?)),
+        ["group", group] => Ok(To::Group(id(group)?)),
         _ => bail!("a target"),
-    })
+    }
 }

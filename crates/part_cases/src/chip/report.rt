@@ -52,22 +52,20 @@ impl Reporter {
 
     /// Does what a line says, and tells whether it is one of these.
     pub fn add_line(&mut self, alloc: Global, words: &[&str], chip: &SimChip) -> Result<bool> {
-        match words {
-            ["port", name, lanes] => self.put_port(alloc, name, lanes)?,
-            ["row", name, set @ ..] => self.write(alloc, name, set)?,
-            ["waits", name, why @ ..] => self.put_wait(alloc, name, wait(alloc, why)?)?,
-            ["turns", turns] => self.turns = number(turns)?,
-            ["settled", keys @ ..] => self.settle(alloc, keys)?,
-            ["restarted"] => self.mark(MarkEvent::Restarted)?,
-            ["applying", how, keys @ ..] => self.apply(alloc, mode(how)?, keys)?,
-            ["applied"] => self.mark(MarkEvent::ApplyEnded)?,
-            ["faulted", after] => {
-                let after = number(after)?;
-                self.mark(MarkEvent::Faulted { before: 0, after })?;
-            }
-            ["show", shows @ ..] => self.show(alloc, shows, chip)?,
+        let done = match words {
+            ["port", name, lanes] => self.put_port(alloc, name, lanes),
+            ["row", name, set @ ..] => self.write(alloc, name, set),
+            ["waits", name, why @ ..] => self.put_wait(alloc, name, why),
+            ["turns", turns] => self.set_turns(turns),
+            ["settled", keys @ ..] => self.settle(alloc, keys),
+            ["restarted"] => self.mark(MarkEvent::Restarted),
+            ["applying", how, keys @ ..] => self.apply(alloc, how, keys),
+            ["applied"] => self.mark(MarkEvent::ApplyEnded),
+            ["faulted", after] => self.put_fault(after),
+            ["show", shows @ ..] => self.show(alloc, shows, chip),
             _ => return Ok(false),
-        }
+        };
+        done?;
         Ok(true)
     }
 
@@ -82,21 +80,28 @@ impl Reporter {
 
     /// Sets fields of a row, or deletes it where there are none.
     fn write(&mut self, alloc: Global, name: &str, set: &[&str]) -> Result<()> {
-        let key = key(alloc, name)?;
-        let write = if set.is_empty() {
-            Write::Del(key)
-        } else {
-            Write::Set(key, fields(alloc, set)?)
-        };
-        self.rows.apply(&write)?;
+        self.rows.apply(&write_of(alloc, name, set)?)?;
         self.taken = self.taken.saturating_add(1);
         Ok(())
     }
 
     /// Lets a key wait at the next settling or apply.
-    fn put_wait(&mut self, alloc: Global, name: &str, wait: Wait) -> Result<()> {
+    fn put_wait(&mut self, alloc: Global, name: &str, why: &[&str]) -> Result<()> {
+        let wait = wait(alloc, why)?;
         self.waits.push((key(alloc, name)?, wait, None))?;
         Ok(())
+    }
+
+    /// Lets the next settling make so many turns.
+    fn set_turns(&mut self, turns: &str) -> Result<()> {
+        self.turns = number(turns)?;
+        Ok(())
+    }
+
+    /// Puts the mark of the chip's fault of this number.
+    fn put_fault(&mut self, after: &str) -> Result<()> {
+        let after = number(after)?;
+        self.mark(MarkEvent::Faulted { before: 0, after })
     }
 
     /// Puts the mark of a settling, at which these keys wait too.
@@ -107,7 +112,8 @@ impl Reporter {
     }
 
     /// Puts the mark of the begin of an apply, at which these keys wait too.
-    fn apply(&mut self, alloc: Global, mode: Mode, keys: &[&str]) -> Result<()> {
+    fn apply(&mut self, alloc: Global, how: &str, keys: &[&str]) -> Result<()> {
+        let mode = mode(how)?;
         let waits = self.take_waits(alloc, keys)?;
         self.mark(MarkEvent::ApplyBegan { mode, waits })
     }
@@ -115,7 +121,7 @@ impl Reporter {
     /// The keys that are to wait at the next mark, and these.
     fn take_waits(&mut self, alloc: Global, keys: &[&str]) -> Result<Waits> {
         for name in keys {
-            self.put_wait(alloc, name, Wait::Busy(1))?;
+            self.waits.push((key(alloc, name)?, Wait::Busy(1), None))?;
         }
         Ok(Waits::from_vec(mem::replace(&mut self.waits, Vec::new(alloc)))?)
     }
@@ -150,15 +156,24 @@ impl Reporter {
     }
 }
 
+/// The write that sets fields of a row, or deletes it where there are none.
+fn write_of(alloc: Global, name: &str, set: &[&str]) -> Result<Write> {
+    if set.is_empty() {
+        return Ok(Write::Del(key(alloc, name)?));
+    }
+    let fields = fields(alloc, set)?;
+    Ok(Write::Set(key(alloc, name)?, fields))
+}
+
 /// Why a key waits.
 fn wait(alloc: Global, why: &[&str]) -> Result<Wait> {
-    Ok(match why {
-        ["missing", name] => Wait::Missing(key(alloc, name)?),
-        ["held", name] => Wait::Held(key(alloc, name)?),
-        ["no-room", name] => Wait::NoRoom(kind(name)?),
-        ["busy", worker] => Wait::Busy(short(worker)?),
+    match why {
+        ["missing", name] => Ok(Wait::Missing(key(alloc, name)?)),
+        ["held", name] => Ok(Wait::Held(key(alloc, name)?)),
+        ["no-room", name] => Ok(Wait::NoRoom(kind(name)?)),
+        ["busy", worker] => Ok(Wait::Busy(short(worker)?)),
         _ => bail!("a reason"),
-    })
+    }
 }
 
 /// How a view is applied.

@@ -61,20 +61,32 @@ fn read(alloc: Global, text: &str) -> Result<(Key, Result<Row, BadRow>)> {
 }
 
 fn shown_row(alloc: Global, text: &str) -> Result<String> {
-    let (key, row) = read(alloc, text)?;
     let mut out = Vec::new(alloc);
-    key.write(&mut out)?;
-    match &row {
-        Ok(Row::Port(port)) => show_port(alloc, &mut out, port)?,
+    let (key, row) = read(alloc, text)?;
+    show_row(alloc, &mut out, &key, &row)?;
+    Ok(String::from_str(alloc, str::from_utf8(&out)?)?)
+}
+
+/// A key, what its row reads as, and where this is a row the keys that it names.
+fn show_row(alloc: Global, out: &mut Vec<u8>, key: &Key, row: &Result<Row, BadRow>) -> Result<()> {
+    key.write(out)?;
+    match row {
+        Ok(Row::Port(port)) => show_port(alloc, out, port)?,
         row => out.extend_from_slice(format!(in alloc; " {row:?}")?.as_bytes())?,
     }
     if let Ok(row) = row {
-        for name in names(alloc, &key, &row)? {
-            out.push(b' ')?;
-            name.write(&mut out)?;
-        }
+        show_names(alloc, out, key, row)?;
     }
-    Ok(String::from_str(alloc, str::from_utf8(&out)?)?)
+    Ok(())
+}
+
+/// The keys that a row names.
+fn show_names(alloc: Global, out: &mut Vec<u8>, key: &Key, row: &Row) -> Result<()> {
+    for name in names(alloc, key, row)?.iter() {
+        out.push(b' ')?;
+        name.write(out)?;
+    }
+    Ok(())
 }
 
 /// The row of a port, its lanes as they are written.

@@ -10,21 +10,22 @@ use swss_types::{
 
 /// What a text of one of these kinds comes to.
 pub fn find(alloc: Global, kind: &str, text: &str) -> Result<Option<String>> {
-    Ok(Some(match kind {
-        "ip" => ip(alloc, text)?,
-        "ip-value" => shown(alloc, &Ip::read(text.as_bytes()))?,
-        "prefix" => prefix(alloc, text)?,
-        "host-bits" => format!(in alloc; "{}", has_host_bits(text.as_bytes()))?,
-        "address" => address(alloc, text)?,
-        "covers" => covers(alloc, text)?,
-        "mac" => mac(alloc, text)?,
-        "name" => name(alloc, text)?,
-        "lanes" => lanes(alloc, text)?,
-        "tagging" => tagging(alloc, text)?,
-        "number" => number(alloc, text)?,
-        "writes" => writes(alloc, text)?,
+    let found = match kind {
+        "ip" => ip(alloc, text),
+        "ip-value" => shown(alloc, &Ip::read(text.as_bytes())),
+        "prefix" => prefix(alloc, text),
+        "host-bits" => host_bits(alloc, text),
+        "address" => address(alloc, text),
+        "covers" => covers(alloc, text),
+        "mac" => mac(alloc, text),
+        "name" => name(alloc, text),
+        "lanes" => lanes(alloc, text),
+        "tagging" => tagging(alloc, text),
+        "number" => number(alloc, text),
+        "writes" => writes(alloc, text),
         _ => return Ok(None),
-    }))
+    };
+    Ok(Some(found?))
 }
 
 /// A value, or `none`.
@@ -74,6 +75,10 @@ fn address(alloc: Global, text: &str) -> Result<String> {
     let mut out = Vec::new(alloc);
     write_interface_address(&mut out, ip, len)?;
     written(alloc, &out)
+}
+
+fn host_bits(alloc: Global, text: &str) -> Result<String> {
+    Ok(format!(in alloc; "{}", has_host_bits(text.as_bytes()))?)
 }
 
 fn covers(alloc: Global, text: &str) -> Result<String> {

@@ -64,9 +64,9 @@ fn add_escape(out: &mut Vec<u8>, text: &[u8], number: u64) -> Result<()> {
 
 /// The value of a hexadecimal digit.
 fn digit(byte: u8) -> Result<u8> {
-    Ok(match byte {
-        b'0'..=b'9' => byte - b'0',
-        b'a'..=b'f' => byte - b'a' + 10,
+    match byte {
+        b'0'..=b'9' => Ok(byte - b'0'),
+        b'a'..=b'f' => Ok(byte - b'a' + 10),
         _ => bail!("a hexadecimal digit"),
-    })
+    }
 }

@@ -27,9 +27,11 @@ pub struct Case {
 impl Case {
     /// A case of the command `run` over the empty script, which wants nothing yet.
     fn new(alloc: Global, name: &str) -> Result<Case> {
+        let mut words = Vec::new(alloc);
+        words.push(String::from_str(alloc, "run")?)?;
         Ok(Case {
             name: String::from_str(alloc, name)?,
-            words: vec![in alloc; String::from_str(alloc, "run")?]?,
+            words,
             script: Vec::new(alloc),
             facts: Vec::new(alloc),
             output: Vec::new(alloc),
