@@ -1,7 +1,6 @@
 pub mod Behind
 pub mod Edits
 pub mod Ends
-pub mod Joins
 pub mod Kept
 pub mod Lasts
 pub mod Lents

@@ -29,9 +29,9 @@ chunk_at (c ∷ cs) (suc i) = chunk_at cs i
 abbrev pub with_chunk : {A : Type 0} → Chunks A → ℕ → List A → List A
 with_chunk cs i es = entries_of_chunks (take i cs) ++ es ++ entries_of_chunks (drop (suc i) cs)
 
--- what is left of the entries of some chunks: of one, of whole ones, and of one
-abbrev pub rest_of : {A : Type 0} → List A → Chunks A → List A → List A
-rest_of front cs back = front ++ entries_of_chunks cs ++ back
+-- what is left of the entries of some chunks: of one, and of whole ones behind it
+abbrev pub rest_of : {A : Type 0} → List A → Chunks A → List A
+rest_of front cs = front ++ entries_of_chunks cs
 
 -- no chunk is empty
 abbrev pub AreFilled : {A : Type 0} → Chunks A → Type 0

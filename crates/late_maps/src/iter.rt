@@ -1,7 +1,7 @@
 // The entries of a map that is searched from its greatest key on.
 ghost use Rattle.std.specs.Prelude.{length};
 ghost use Rattle.std.specs.Iterator.{at_most};
-ghost use Rattle.std.specs.Map.Iter.{TakesFirst, TakesLast, deref_pair};
+ghost use Rattle.std.specs.Map.Iter.{TakesFirst, deref_pair};
 
 use std::iter::FusedIterator;
 use std::marker::Model;
@@ -12,7 +12,6 @@ use std::slice;
 pub struct Iter<'a, K, V> {
     pub(crate) front: slice::Iter<'a, (K, V)>,
     pub(crate) middle: slice::Iter<'a, Vec<(K, V)>>,
-    pub(crate) back: slice::Iter<'a, (K, V)>,
     pub(crate) left: usize,
 }
 
@@ -23,9 +22,9 @@ impl<'a, K, V> Model for Iter<'a, K, V> {
 
     ghost Value = { List (K × V) };
 
-    ghost view = { λ i. rest_of (iter_rest i.front) (iter_rest i.middle) (iter_rest i.back) };
+    ghost view = { λ i. rest_of (iter_rest i.front) (iter_rest i.middle) };
 
-    ghost invariant = { λ i. AreFilled (iter_rest i.middle) × (i.left ≡ length (rest_of (iter_rest i.front) (iter_rest i.middle) (iter_rest i.back))) };
+    ghost invariant = { λ i. AreFilled (iter_rest i.middle) × (i.left ≡ length (rest_of (iter_rest i.front) (iter_rest i.middle))) };
 }
 
 impl<'a, K, V> Iterator for Iter<'a, K, V> {
@@ -47,44 +46,12 @@ impl<'a, K, V> Iterator for Iter<'a, K, V> {
                 return Some((&entry.0, &entry.1));
             }
         }
-        match self.back.next() {
-            Some(entry) => {
-                self.left -= 1;
-                Some((&entry.0, &entry.1))
-            }
-            None => None,
-        }
+        None
     }
 
     fn size_hint(&self) -> (usize, Option<usize>) {
         let len = self.len();
         (len, Some(len))
-    }
-}
-
-impl<'a, K, V> DoubleEndedIterator for Iter<'a, K, V> {
-    ghost next_back_gives = { TakesLast deref_pair };
-
-    #[tactic(auto, using(crate::proofs::Joins::joins))]
-    fn next_back(&mut self) -> Option<(&'a K, &'a V)> {
-        if let Some(entry) = self.back.next_back() {
-            self.left -= 1;
-            return Some((&entry.0, &entry.1));
-        }
-        if let Some(chunk) = self.middle.next_back() {
-            self.back = chunk.as_slice().iter();
-            if let Some(entry) = self.back.next_back() {
-                self.left -= 1;
-                return Some((&entry.0, &entry.1));
-            }
-        }
-        match self.front.next_back() {
-            Some(entry) => {
-                self.left -= 1;
-                Some((&entry.0, &entry.1))
-            }
-            None => None,
-        }
     }
 }
 

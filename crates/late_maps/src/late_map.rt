@@ -6,7 +6,7 @@ ghost use Rattle.std.specs.Borrow.{sem};
 ghost use Rattle.std.specs.BTreeMap.{insert_entry, is_at};
 ghost use Rattle.std.specs.List.Sorted.{IsStrictlySortedBy};
 ghost use Rattle.std.specs.Map.{keys_of, lookup, remove_entry};
-ghost use Rattle.std.specs.Map.Iter.{ShowsInOrder, ShowsInReverse, deref_pair};
+ghost use Rattle.std.specs.Map.Iter.{ShowsInOrder, deref_pair};
 ghost use Rattle.std.specs.Option.{option_copied_mut};
 
 use crate::Iter;
@@ -89,14 +89,12 @@ impl<K: Ord, V> LateMap<K, V> {
     pub fn iter(&self) -> Iter<'_, K, V>
         ensures rest { result ≡ self.now }
         ensures runs { ShowsInOrder (deref_pair {K = K} {X = V}) }
-        ensures runs_back { ShowsInReverse (deref_pair {K = K} {X = V}) }
         ensures ordered { IsStrictlySortedBy K.cmp (keys_of self.now) }
         ensures fits { length self.now < 2 ^ 63 }
     {
         Iter {
             front: [].iter(),
             middle: self.chunks.as_slice().iter(),
-            back: [].iter(),
             left: self.count,
         }
     }

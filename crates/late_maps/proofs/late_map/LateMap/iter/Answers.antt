@@ -1,10 +1,7 @@
 use Rattle.std.proofs.Common.{length, ap}
-use Rattle.std.proofs.iter.runs.Sources.{from_back, from_front}
-use Rattle.std.specs.Map.Iter.{TakesFirst, TakesLast, deref_pair}
+use Rattle.std.proofs.iter.runs.Sources.{from_front}
+use Rattle.std.specs.Map.Iter.{TakesFirst, deref_pair}
 use Rattle.late_maps.proofs.late_map.LateMap.iter.Goals as goal
 
 pub returns-clause-runs : goal.returns-clause-runs
 returns-clause-runs g c = from_front (TakesFirst deref_pair) deref_pair (λ s. s) (λ s t h. ap length h.0) (λ s x t h. h)
-
-pub returns-clause-runs_back : goal.returns-clause-runs_back
-returns-clause-runs_back g c = from_back (TakesLast deref_pair) deref_pair (λ s. s) (λ s t h. ap length h.0) (λ s x t h. h)
