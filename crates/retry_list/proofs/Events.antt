@@ -2,6 +2,7 @@
 use Rattle.std.proofs.Common.{◌≡◌, Bool, true, false, refl, sym, ap, ◌∙◌}
 use Rattle.std.specs.BTreeMap.{is_at}
 use Rattle.std.specs.Cmp.{IsTotalOrder}
+use Rattle.std.specs.Ordering.{is_eq}
 use Rattle.std.proofs.lemmas.Bool.{eqb-true, false≢true}
 use Rattle.std.proofs.lemmas.Cmp.{eq_by_cmp_equiv}
 use Rattle.std.proofs.lemmas.Map.Lookups.{CmpEqualImpliesEq, exact_unsigned}
@@ -36,7 +37,7 @@ kind_exact kind.NextHop kind.NextHop h = refl
 kind_exact kind.Group kind.Group h = refl
 kind_exact kind.GroupMember kind.GroupMember h = refl
 kind_exact kind.Route kind.Route h = refl
-kind_exact x y h = cc
+kind_exact x y h = absurd (false≢true (kind_laws.matches_eq-law x y ∙ ap is_eq h))
 
 -- events that compare equal are equal
 pub event_exact : CmpEqualImpliesEq event_cmp
