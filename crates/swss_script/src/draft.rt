@@ -15,7 +15,7 @@ use crate::{
 use row_store::Rows;
 use sai_types::{Caps, Kind};
 use std::alloc::Global;
-use std::mem;
+use std::mem::{self, drop};
 use swss_types::{OutOfMemory, Text};
 use table_schema::PortPlan;
 
@@ -276,11 +276,40 @@ impl Draft {
     pub fn finish(mut self, alloc: Global) -> Result<Script, OutOfMemory>
         ensures { IfOk result (λ script. script ≡ script_at self.place self) }
     {
+        match self.close(alloc) {
+            Ok(()) => Ok(self.into_script()),
+            Err(error) => {
+                drop(self);
+                Err(error)
+            }
+        }
+    }
+
+    /// Ends what is open, with a settle where the last round is not settled.
+    fn close(&mut self, alloc: Global) -> Result<(), OutOfMemory>
+        ensures { OnOk result (self.new.script ≡ script_at self.old.place self.old) }
+    {
         if self.place != Place::Settled {
             self.settle(alloc)?;
         }
-        self.end(alloc)?;
-        Ok(self.script)
+        self.end(alloc)
+    }
+
+    /// The script alone.
+    fn into_script(self) -> Script
+        ensures { result ≡ self.script }
+    {
+        let Draft {
+            script,
+            sections,
+            acts,
+            shows,
+            ..
+        } = self;
+        drop(sections);
+        drop(acts);
+        drop(shows);
+        script
     }
 }
 

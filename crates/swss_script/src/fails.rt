@@ -1,5 +1,5 @@
 // The chip calls that fail.
-ghost use Rattle.std.specs.Prelude.{◌≡◌, [], ◌∷◌, ◌++◌, ◌==◌, OnOk, OnErr};
+ghost use Rattle.std.specs.Prelude.{◌≡◌, [], ◌∷◌, ◌++◌, ◌==◌, IfOk, OnOk, OnErr};
 ghost use Rattle.std.specs.List.{list_any};
 
 use crate::Fail2;
@@ -62,5 +62,15 @@ impl Fails {
         ensures { result.now ≡ self.now }
     {
         self.fails.as_slice()
+    }
+
+    /// The same calls once more.
+    pub fn copy(&self) -> Result<Fails, OutOfMemory>
+        ensures { IfOk result (λ fails. fails ≡ self.now) }
+    {
+        Ok(Fails {
+            fails: self.fails.clone()?,
+            numbers: self.numbers.clone()?,
+        })
     }
 }

@@ -3,6 +3,7 @@
 
 mod batch;
 mod built;
+mod copies;
 mod draft;
 mod fails;
 mod fields;

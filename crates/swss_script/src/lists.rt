@@ -1,7 +1,8 @@
 // The lists of a script.
-ghost use Rattle.std.specs.Prelude.{◌≡◌, [], ◌∷◌, ◌++◌, OnOk, OnErr, map};
+ghost use Rattle.std.specs.Prelude.{◌≡◌, [], ◌∷◌, ◌++◌, IfOk, OnOk, OnErr, map};
 ghost use Rattle.swss_script.specs.declared.parts.Act.TheVariants as act;
 
+use crate::copies::copy_each;
 use crate::{Act, Round, Section, Show};
 use std::alloc::Global;
 use std::marker::Model;
@@ -46,6 +47,15 @@ impl Producers {
         ensures { result.now ≡ self.now }
     {
         self.names.as_slice()
+    }
+
+    /// The same names once more.
+    pub fn copy(&self) -> Result<Producers, OutOfMemory>
+        ensures { IfOk result (λ names. names ≡ self.now) }
+    {
+        Ok(Producers {
+            names: copy_each(&self.names)?,
+        })
     }
 }
 
@@ -96,6 +106,15 @@ impl RoundList {
     {
         self.rounds
     }
+
+    /// The same rounds once more.
+    pub fn copy(&self) -> Result<RoundList, OutOfMemory>
+        ensures { IfOk result (λ rounds. rounds ≡ self.now) }
+    {
+        Ok(RoundList {
+            rounds: copy_each(&self.rounds)?,
+        })
+    }
 }
 
 /// The sections of a round, in order.
@@ -145,6 +164,15 @@ impl Sections {
     {
         self.sections
     }
+
+    /// The same sections once more.
+    pub fn copy(&self) -> Result<Sections, OutOfMemory>
+        ensures { IfOk result (λ sections. sections ≡ self.now) }
+    {
+        Ok(Sections {
+            sections: copy_each(&self.sections)?,
+        })
+    }
 }
 
 /// What is shown behind a round, in order.
@@ -187,6 +215,15 @@ impl Shows {
     {
         self.shows.as_slice()
     }
+
+    /// The same shows once more.
+    pub fn copy(&self) -> Result<Shows, OutOfMemory>
+        ensures { IfOk result (λ shows. shows ≡ self.now) }
+    {
+        Ok(Shows {
+            shows: self.shows.clone()?,
+        })
+    }
 }
 
 /// What a producer does in a section, in order.
@@ -224,7 +261,7 @@ impl Acts {
     }
 
     /// Puts writes last, in their order.
-    pub fn push_writes(&mut self, writes: Writes) -> Result<(), OutOfMemory>
+    pub(crate) fn push_writes(&mut self, writes: Writes) -> Result<(), OutOfMemory>
         ensures { OnOk result (self.new ≡ self.old ++ map act.Write writes) }
     {
         for write in writes.writes {
@@ -234,7 +271,7 @@ impl Acts {
     }
 
     /// Gives back the room that no act takes.
-    pub fn shrink(&mut self)
+    pub(crate) fn shrink(&mut self)
         ensures { self.new ≡ self.old }
     {
         self.acts.shrink_to_fit();
@@ -252,6 +289,15 @@ impl Acts {
         ensures { result.items ≡ self }
     {
         self.acts
+    }
+
+    /// The same acts once more.
+    pub fn copy(&self) -> Result<Acts, OutOfMemory>
+        ensures { IfOk result (λ acts. acts ≡ self.now) }
+    {
+        Ok(Acts {
+            acts: copy_each(&self.acts)?,
+        })
     }
 }
 
@@ -294,5 +340,14 @@ impl Writes {
         ensures { result.now ≡ self.now }
     {
         self.writes.as_slice()
+    }
+
+    /// The same writes once more.
+    pub fn copy(&self) -> Result<Writes, OutOfMemory>
+        ensures { IfOk result (λ writes. writes ≡ self.now) }
+    {
+        Ok(Writes {
+            writes: copy_each(&self.writes)?,
+        })
     }
 }

@@ -1,7 +1,7 @@
 // Scripts, and how they are read.
-ghost use Rattle.std.specs.Prelude.{◌≡◌, ◌≤◌, IfOk, Ok, length};
+ghost use Rattle.std.specs.Prelude.{◌≡◌, ◌≤◌, Err, IfOk, MatchResult, Ok, length};
 ghost use Rattle.swss_script.specs.Lines.{lines_in, text_of};
-ghost use Rattle.swss_script.specs.Script.{Becomes, new_draft, script_from, script_of, step, with_block, with_text};
+ghost use Rattle.swss_script.specs.Script.{Becomes, new_draft, script_at, script_from, script_of, step, with_block, with_text};
 
 use crate::batch::read_batch;
 use crate::draft::Draft;
@@ -11,6 +11,7 @@ use crate::{Fails, Producers, Refused, RoundList, Why};
 use row_store::Rows;
 use sai_types::Caps;
 use std::alloc::Global;
+use std::mem::drop;
 use swss_types::OutOfMemory;
 use table_schema::PortPlan;
 
@@ -57,16 +58,38 @@ fn read_lines(alloc: Global, bytes: &[u8]) -> Result<Result<Script, Refused>, Ou
     ensures { IfOk result (λ answer. answer ≡ script_from (Ok new_draft) 0 (lines_in bytes.now)) }
 {
     let mut draft = Draft::new(alloc)?;
+    match add_lines(alloc, &mut draft, bytes) {
+        Ok(Ok(())) => Ok(Ok(draft.finish(alloc)?)),
+        Ok(Err(refused)) => {
+            drop(draft);
+            Ok(Err(refused))
+        }
+        Err(error) => {
+            drop(draft);
+            Err(error)
+        }
+    }
+}
+
+/// Adds the lines of a text to a draft, up to the first that is faulty.
+fn add_lines(
+    alloc: Global,
+    draft: &mut Draft,
+    bytes: &[u8],
+) -> Result<Result<(), Refused>, OutOfMemory>
+    requires { length draft.old.script.producers ≤ 4 }
+    ensures { IfOk result (λ answer. MatchResult answer (λ _. script_from (Ok draft.old) 0 (lines_in bytes.now) ≡ Ok (script_at draft.new.place draft.new)) (λ refused. script_from (Ok draft.old) 0 (lines_in bytes.now) ≡ Err refused)) }
+{
     let mut number = 0;
     let mut left = bytes;
     while let Some((line, rest)) = next_line(left) {
         number += 1;
-        match add_line(alloc, &mut draft, number, line, rest)? {
+        match add_line(alloc, draft, number, line, rest)? {
             Ok(()) => left = rest,
             Err(why) => return Ok(Err(Refused { line: number, why })),
         }
     }
-    Ok(Ok(draft.finish(alloc)?))
+    Ok(Ok(()))
 }
 
 /// Adds a numbered line to a draft, with the text behind it.

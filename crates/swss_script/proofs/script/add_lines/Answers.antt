@@ -2,7 +2,7 @@ use Rattle.std.proofs.Common.{◌≡◌, ◌+◌, Ok, ap, sym, ◌∙◌, subst}
 use Rattle.swss_script.specs.Lines.{lines_in}
 use Rattle.swss_script.specs.Script.{Becomes, script_from, step}
 use Rattle.swss_script.proofs.Steps.{few-step, within-step}
-use Rattle.swss_script.proofs.script.read_lines.Goals as goal
+use Rattle.swss_script.proofs.script.add_lines.Goals as goal
 
 pub loop-line-preserved : goal.loop-line-preserved
 loop-line-preserved c =
