@@ -1,6 +1,7 @@
 // The rows of the application tables.
 ghost use Rattle.std.specs.Prelude.{◌≡◌, [], length, option_map, IfOk, OnOk, OnErr};
 ghost use Rattle.std.specs.BTreeMap.{insert_entry, is_at};
+ghost use Rattle.std.specs.List.{fold};
 ghost use Rattle.std.specs.Map.{keys_of, remove_entry};
 ghost use Rattle.table_schema.specs.Key.{key_cmp};
 ghost use Rattle.table_schema.specs.Rows.{HasRisingRows, after_write, fields_at, with_fields};
@@ -15,6 +16,7 @@ use table_schema::{Fields, Key, Write};
 #[derive(Debug, Drop)]
 pub struct Rows {
     rows: RowMap<Fields>,
+    alloc: Global,
 }
 
 impl Model for Rows {
@@ -33,6 +35,7 @@ impl Rows {
     {
         Rows {
             rows: RowMap::new(alloc),
+            alloc,
         }
     }
 
@@ -108,5 +111,24 @@ impl Rows {
                 Ok(())
             }
         }
+    }
+
+    /// The same rows once more. Their fields are shared until one of the two is changed.
+    pub fn copy(&self) -> Result<Rows, OutOfMemory>
+        ensures { IfOk result (λ rows. rows ≡ self.now) }
+    {
+        let mut rows = Rows::new(self.alloc);
+        rows.replace_each(self.iter())?;
+        Ok(rows)
+    }
+
+    /// Makes each of these rows the row of its key.
+    fn replace_each(&mut self, rows: Iter<'_, Fields>) -> Result<(), OutOfMemory>
+        ensures { OnOk result (self.new ≡ fold (λ rows row. insert_entry key_cmp rows row.0 row.1) self.old rows.entry) }
+    {
+        for (key, fields) in rows {
+            self.replace(key.key(), fields)?;
+        }
+        Ok(())
     }
 }
