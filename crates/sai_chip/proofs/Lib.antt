@@ -1,4 +1,5 @@
 mod Answered
+mod Appended
 mod Changed
 mod Clashes
 mod Failed

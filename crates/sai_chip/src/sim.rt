@@ -201,6 +201,7 @@ impl SimChip {
     /// What a listing answers, and appends.
     fn answer_list(&mut self, out: &mut Vec<Object<Rid>>) -> ListAnswer
         ensures lists { ListsBy (fault_of self.old) result out.old.items (objects_of self.old.chip.objects) out.new.items }
+        ensures sorted { AreSorted self.old.chip.objects }
         ensures kept { self.new ≡ self.old }
     {
         match self.fault() {
@@ -225,6 +226,7 @@ impl Chip for SimChip {
         answer
     }
 
+    #[tactic(auto, using(crate::proofs::Appended::each_appended))]
     fn list(&mut self, out: &mut Vec<Object<Rid>>) -> ListAnswer
         ensures listed { IsListed self.old.chip result out.old.items out.new.items self.new.chip }
         ensures called { IsListing self.old result out.old.items out.new.items self.new }

@@ -1,5 +1,5 @@
 // Next hops with their Ethernet addresses.
-ghost use Rattle.std.specs.Prelude.{◌≡◌, [], ◌∷◌, ◌++◌, OnOk, OnErr};
+ghost use Rattle.std.specs.Prelude.{◌≡◌, [], ◌∷◌, ◌++◌, IfOk, OnOk, OnErr};
 
 use sai_types::Hop;
 use std::alloc::Global;
@@ -39,6 +39,15 @@ impl Ways {
     {
         self.ways.push(way)?;
         Ok(())
+    }
+
+    /// The same hops once more.
+    pub fn copy(&self) -> Result<Ways, OutOfMemory>
+        ensures { IfOk result (λ ways. ways ≡ self.now) }
+    {
+        Ok(Ways {
+            ways: self.ways.clone()?,
+        })
     }
 
     /// The hops, in order.

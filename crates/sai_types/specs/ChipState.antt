@@ -1,5 +1,6 @@
 -- What contracts see of a chip, and what its calls answer and leave.
 use Rattle.std.specs.Prelude.{◌≡◌, ℕ, ◌<◌, Bool, true, false, ◌&&◌, ◌⊎◌, List, [], ◌∷◌, ◌++◌, length, map, Some}
+use Rattle.std.specs.List.Sorted.{IsPermutation}
 use Rattle.sai_types.specs.declared.ids.Rid.{Rid}
 use Rattle.sai_types.specs.declared.body.Call.{Call}
 use Rattle.sai_types.specs.declared.body.Object.{Object}
@@ -11,6 +12,7 @@ use Rattle.sai_types.specs.declared.answer.ListAnswer.TheVariants as listed
 use Rattle.sai_types.specs.Objects.{Objects}
 use Rattle.sai_types.specs.Refusal.{refusal_of, is_legal, IsLegal}
 use Rattle.sai_types.specs.After.{after_call, makes_id, next_id}
+use Rattle.sai_types.specs.Made.{AreSorted}
 
 -- the objects in the order of their entries; the calls that took effect, in order; the room for each kind; the calls at which it is made to fail; whether each call so far was legal; how often the chip failed, and how many calls had taken effect before the one at which it failed last
 pub record ChipState : Type 0 where
@@ -70,8 +72,16 @@ pub record IsAnswered (old : ChipState) (c : Call Rid) (a : ChipAnswer) (new : C
 abbrev pub objects_of : Objects → List (Object Rid)
 objects_of objects = map (λ o. record { entry = o.0; body = o.1 }) objects
 
+-- the objects of the state rise by their entries, and each was appended once, in any order
+pub record AppendsEach (objects : Objects) (out out' : List (Object Rid)) : Type 0 where
+  pub sorted : AreSorted objects
+  pub more : List (Object Rid)
+  pub appended : out' ≡ out ++ more
+  pub once : IsPermutation (objects_of objects) more
+
+-- what each answer to a list says
 abbrev pub Lists : ChipState → ListAnswer → List (Object Rid) → List (Object Rid) → ChipState → Type 0
-Lists old listed.Done out out' new = (out' ≡ out ++ objects_of old.objects) × (new.faults ≡ old.faults)
+Lists old listed.Done out out' new = AppendsEach old.objects out out' × (new.faults ≡ old.faults)
 Lists old listed.Failed out out' new = (out' ≡ out) × (old.faults < new.faults)
 Lists old listed.NoMemory out out' new = (out' ≡ out) × (new.faults ≡ old.faults)
 
@@ -80,7 +90,7 @@ abbrev pub list_fault_behind : ChipState → ListAnswer → ℕ
 list_fault_behind old listed.Failed = length old.effects
 list_fault_behind old _ = old.before_fault
 
--- a list of the chip and its answer: each object once, and nothing changes but the count of faults and what came before the last of them
+-- a list of the chip and its answer: each object once, in any order, and nothing changes but the count of faults and what came before the last of them
 pub record IsListed (old : ChipState) (a : ListAnswer) (out out' : List (Object Rid)) (new : ChipState) : Type 0 where
   pub answer : Lists old a out out' new
   pub same : StaysSame old new

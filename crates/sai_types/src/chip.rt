@@ -18,7 +18,7 @@ pub trait Chip {
     fn call(&mut self, call: &Call<Rid>) -> ChipAnswer
         ensures { IsAnswered (state self.old) call.now result (state self.new) };
 
-    /// Appends each object once, in the order of their entries. After Failed and NoMemory `out` is as before.
+    /// Appends each object once, in any order. After Failed and NoMemory `out` is as before.
     fn list(&mut self, out: &mut Vec<Object<Rid>>) -> ListAnswer
         ensures { IsListed (state self.old) result out.old.items out.new.items (state self.new) };
 

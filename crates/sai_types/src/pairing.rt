@@ -1,5 +1,5 @@
 // Which old object is which new one.
-ghost use Rattle.std.specs.Prelude.{◌≡◌, [], ◌∷◌, ◌++◌, OnOk, OnErr};
+ghost use Rattle.std.specs.Prelude.{◌≡◌, [], ◌∷◌, ◌++◌, IfOk, OnOk, OnErr};
 ghost use Rattle.sai_types.specs.Pairing.{IsFreePair};
 
 use std::alloc::Global;
@@ -38,6 +38,15 @@ impl Pairing {
     {
         self.pairs.push(pair)?;
         Ok(())
+    }
+
+    /// The same pairs once more.
+    pub fn copy(&self) -> Result<Pairing, OutOfMemory>
+        ensures { IfOk result (λ pairing. pairing ≡ self.now) }
+    {
+        Ok(Pairing {
+            pairs: self.pairs.clone()?,
+        })
     }
 
     /// The pairs.

@@ -1,5 +1,5 @@
 // The calls that bring a chip from one view to another.
-ghost use Rattle.std.specs.Prelude.{◌≡◌, [], ◌∷◌, ◌++◌, OnOk, OnErr};
+ghost use Rattle.std.specs.Prelude.{◌≡◌, [], ◌∷◌, ◌++◌, IfOk, OnOk, OnErr};
 
 use crate::{Call, Rid, Vid};
 use std::alloc::Global;
@@ -48,6 +48,18 @@ pub struct Plan {
     pub calls: PlanCalls,
 }
 
+impl PlanCall {
+    /// The same call once more.
+    pub(crate) fn copy(&self) -> Result<PlanCall, OutOfMemory>
+        ensures { IfOk result (λ call. call ≡ self.now) }
+    {
+        Ok(PlanCall {
+            call: self.call.copy()?,
+            makes: self.makes,
+        })
+    }
+}
+
 impl Model for PlanCalls {
     ghost use Rattle.std.specs.Prelude.{List};
     ghost use Rattle.sai_types.specs.declared.plan.PlanCall.{PlanCall};
@@ -74,6 +86,17 @@ impl PlanCalls {
     {
         self.calls.push(call)?;
         Ok(())
+    }
+
+    /// The same calls once more.
+    pub fn copy(&self) -> Result<PlanCalls, OutOfMemory>
+        ensures { IfOk result (λ calls. calls ≡ self.now) }
+    {
+        let mut calls = Vec::with_capacity(*self.calls.allocator(), self.calls.len())?;
+        for call in self.calls.as_slice() {
+            calls.push(call.copy()?)?;
+        }
+        Ok(PlanCalls { calls })
     }
 
     /// The calls.

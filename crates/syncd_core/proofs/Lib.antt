@@ -1,2 +1,4 @@
 mod Failing
+mod InOrder
+mod Sorted
 pub mod Ties

@@ -1,8 +1,8 @@
 // Syncd.
 ghost use Rattle.std.specs.Prelude.{◌≡◌, [], length, None, slice_index, IfOk, OnErr};
 ghost use Rattle.sai_types.specs.declared.kind.Kind.{Kind};
-ghost use Rattle.sai_types.specs.ChipState.{IsAnswered};
-ghost use Rattle.sai_types.specs.Objects.{level};
+ghost use Rattle.sai_types.specs.ChipState.{AppendsEach, IsAnswered, objects_of};
+ghost use Rattle.sai_types.specs.Objects.{Objects, level};
 ghost use Rattle.sai_types.specs.Refusal.{IsLegal};
 ghost use Rattle.chip_layout.specs.Renamed.{call_renamed};
 ghost use Rattle.asic_view.specs.View.{used_of};
@@ -128,7 +128,7 @@ impl Syncd {
         }
     }
 
-    /// Lists the chip's objects.
+    /// Lists the chip's objects, and keeps them in the order of their entries.
     pub fn take_list<C: Chip>(&mut self, chip: &mut C) -> Result<Listed, OutOfMemory>
         ensures ok { IfOk result (λ listed. TakesList self.old (C.state chip.old) listed self.new (C.state chip.new)) }
         ensures err { OnErr result (self.new ≡ self.old) }
@@ -137,6 +137,7 @@ impl Syncd {
         let mut objects = Vec::new(self.alloc);
         match chip.list(&mut objects) {
             ListAnswer::Done => {
+                put_in_order(&mut objects);
                 self.listed = Some(objects);
                 Ok(Listed::Done)
             }
@@ -215,6 +216,13 @@ impl Syncd {
             ApplyStep::More
         }
     }
+}
+
+/// Puts a chip's objects, listed in any order, in the order of their entries.
+fn put_in_order(listed: &mut Vec<Object<Rid>>)
+    ensures { (objects : Objects) → AppendsEach objects [] listed.old.items → listed.new.items ≡ objects_of objects }
+{
+    listed.sort_unstable_by_key(|object| object.entry);
 }
 
 /// Makes a call of a plan on the chip, and ties what it makes.
