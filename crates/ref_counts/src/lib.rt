@@ -29,3 +29,4 @@ pub use name::{Missing, Name, NameState};
 pub use next::Next;
 pub use registry::Registry;
 pub use room::Room;
+pub use switch_model::Wait;

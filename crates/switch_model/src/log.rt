@@ -44,15 +44,6 @@ impl Log {
         }
     }
 
-    /// The empty log, with room for so many writes: it then takes these without asking for memory.
-    pub fn with_room(alloc: Global, writes: usize) -> Result<Log, OutOfMemory>
-        ensures { IfOk result (λ log. log ≡ no_history) }
-    {
-        let mut log = Log::new(alloc);
-        log.taken.reserve_exact(writes)?;
-        Ok(log)
-    }
-
     /// The writes taken, in order.
     pub fn taken(&self) -> &[Sent]
         ensures { result.now ≡ self.now.taken }

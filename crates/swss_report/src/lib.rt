@@ -17,5 +17,4 @@ mod tables;
 mod waiting;
 mod ways;
 
-pub use chip_line::write_chip_line;
 pub use round::{RoundEnd, round_lines};
