@@ -9,8 +9,8 @@ use Rattle.sai_types.specs.declared.fail.Fail.{Fail}
 use Rattle.sai_chip.specs.Sim.{Sim, new_sim}
 use Rattle.restart_laws.specs.Logged.{LoggedService, new_session, session_after}
 use Rattle.session_laws.specs.Core.{CoreState, new_core}
-use Rattle.restart_session_laws.specs.Events.{MakesMore}
-use Rattle.restart_session_laws.proofs.Sessions.{first-service}
+use Rattle.session_laws.specs.Service.Events.{MakesMore}
+use Rattle.session_laws.proofs.Service.Sessions.{first-service}
 use Rattle.orch_core.specs.ComingBack.{SettlesFrom}
 use Rattle.orch_core.specs.Restarting.{MarksRestart, RestartsStep, StepsFrom}
 use Rattle.orch_core.specs.Taking.{TakesNext}

@@ -5,3 +5,4 @@ mod Heads
 mod Kept
 mod Places
 mod Rows
+mod SameRows

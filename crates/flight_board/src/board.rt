@@ -16,6 +16,7 @@ use ref_counts::{Registry, Room};
 use sai_types::{Call, Caps, Vid};
 use std::alloc::Global;
 use std::marker::Model;
+use std::mem::{drop, replace};
 use switch_model::Wait;
 use swss_types::OutOfMemory;
 use table_schema::{Key, PortPlan, Row, first_name};
@@ -61,10 +62,10 @@ impl Board {
     pub fn forget(&mut self, caps: Caps)
         ensures { self.new ≡ new_board self.old.plan caps.0 }
     {
-        self.registry = Registry::new(self.alloc);
+        drop(replace(&mut self.registry, Registry::new(self.alloc)));
         self.room = Room::new(caps);
-        self.applied = AppliedRows::new(self.alloc);
-        self.workers = Workers::new();
+        drop(replace(&mut self.applied, AppliedRows::new(self.alloc)));
+        drop(replace(&mut self.workers, Workers::new()));
     }
 
     /// The port plan.
@@ -79,6 +80,13 @@ impl Board {
         ensures { option_map (λ row. row.now) result ≡ row_at self.now.applied key.now }
     {
         self.applied.row(key)
+    }
+
+    /// Whether this is the applied row of a key, or it has none where none is given.
+    pub fn has_row(&self, key: &Key, row: Option<&Row>) -> bool
+        ensures { IsTrue result ↔ (row_at self.now.applied key.now ≡ option_map (λ row. row.now) row.entry) }
+    {
+        is_same(self.row(key), row)
     }
 
     /// Whether a worker has something under way.
@@ -227,5 +235,16 @@ impl Board {
             Some(flight) => flight.is_over(&self.registry),
             None => false,
         }
+    }
+}
+
+/// Whether two rows, or none, are the same.
+fn is_same(one: Option<&Row>, other: Option<&Row>) -> bool
+    ensures { IsTrue result ↔ (option_map (λ row. row.now) one.entry ≡ option_map (λ row. row.now) other.entry) }
+{
+    match (one, other) {
+        (Some(one), Some(other)) => one == other,
+        (None, None) => true,
+        _ => false,
     }
 }

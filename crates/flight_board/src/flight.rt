@@ -59,7 +59,7 @@ impl Flight {
         worker: u32,
         key: &Key,
         old: Option<&Row>,
-        new: Option<Row>,
+        mut new: Option<Row>,
     ) -> Result<Result<Flight, Wait>, OutOfMemory>
         requires may { MayStart plan.now reg.old worker key.now (option_map (λ r. r.now) old) new }
         ensures started { IfOk result (λ answer. IsStartedBy plan.now reg.old room.old used.now worker key.now (option_map (λ r. r.now) old.entry) new (answered operation_in answer) reg.new room.new) }
@@ -69,7 +69,7 @@ impl Flight {
     {
         let name = Name::Row(key.copy()?);
         let named = keys_named(alloc, key, old)?;
-        match RowFlight::start(alloc, plan, reg, room, used, worker, key, old, new)? {
+        match RowFlight::start(alloc, plan, reg, room, used, worker, key, old, &mut new)? {
             Ok(operation) => Ok(Ok(Flight {
                 worker,
                 name,

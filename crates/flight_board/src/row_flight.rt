@@ -38,7 +38,7 @@ pub enum RowFlight {
 
 impl RowFlight {
     /// Starts the operation that brings a key from its applied row to its new one, or tells the first reason why it has to
-    /// wait, and changes nothing then.
+    /// wait, and changes nothing then. The operation takes the new row.
     pub fn start(
         alloc: Global,
         plan: &PortPlan,
@@ -48,13 +48,13 @@ impl RowFlight {
         worker: u32,
         key: &Key,
         old: Option<&Row>,
-        new: Option<Row>,
+        new: &mut Option<Row>,
     ) -> Result<Result<RowFlight, Wait>, OutOfMemory>
-        requires may { MayStart plan.now reg.old worker key.now (option_map (λ r. r.now) old) new }
-        ensures started { IfOk result (λ answer. IsStartedBy plan.now reg.old room.old used.now worker key.now (option_map (λ r. r.now) old.entry) new (answered operation_of answer) reg.new room.new) }
+        requires may { MayStart plan.now reg.old worker key.now (option_map (λ r. r.now) old) new.old }
+        ensures started { IfOk result (λ answer. IsStartedBy plan.now reg.old room.old used.now worker key.now (option_map (λ r. r.now) old.entry) new.old (answered operation_of answer) reg.new room.new) }
         ensures groups { IfOk result (λ answer. IfOk answer HasGroupsOnly) }
-        ensures shared { IfOk result (λ answer. IfOk answer (λ f. group_in (uses_of plan.now key.now new) ≡ shared_group f)) }
-        ensures row { IfOk result (λ answer. IfOk answer (λ f. HasRow f new)) }
+        ensures shared { IfOk result (λ answer. IfOk answer (λ f. group_in (uses_of plan.now key.now new.old) ≡ shared_group f)) }
+        ensures row { IfOk result (λ answer. IfOk answer (λ f. HasRow f new.old)) }
         ensures err { OnErr result (reg.new ≡ reg.old) }
         ensures err_room { OnErr result (room.new ≡ room.old) }
     {
@@ -62,37 +62,38 @@ impl RowFlight {
             Key::Port(_) => {
                 let given = new.as_ref();
                 match PortFlight::start(plan, reg, room, used, worker, key, old, given)? {
-                    Ok(flight) => Ok(Ok(RowFlight::Port(flight, new))),
+                    Ok(flight) => Ok(Ok(RowFlight::Port(flight, new.take()))),
                     Err(wait) => Ok(Err(wait)),
                 }
             }
             Key::Vlan(_) | Key::Member(..) => {
                 let given = new.as_ref();
                 match VlanFlight::start(plan, reg, room, used, worker, key, old, given)? {
-                    Ok(flight) => Ok(Ok(RowFlight::Vlan(flight, new))),
+                    Ok(flight) => Ok(Ok(RowFlight::Vlan(flight, new.take()))),
                     Err(wait) => Ok(Err(wait)),
                 }
             }
             Key::Intf(_) | Key::Addr(..) => {
                 let given = new.as_ref();
                 match IntfFlight::start(plan, reg, room, used, worker, key, old, given)? {
-                    Ok(flight) => Ok(Ok(RowFlight::Intf(flight, new))),
+                    Ok(flight) => Ok(Ok(RowFlight::Intf(flight, new.take()))),
                     Err(wait) => Ok(Err(wait)),
                 }
             }
             Key::Neigh(..) => {
                 let given = new.as_ref();
                 match NeighFlight::start(plan, reg, room, used, worker, key, old, given)? {
-                    Ok(flight) => Ok(Ok(RowFlight::Neigh(flight, new))),
+                    Ok(flight) => Ok(Ok(RowFlight::Neigh(flight, new.take()))),
                     Err(wait) => Ok(Err(wait)),
                 }
             }
-            Key::Route(_) => match RouteFlight::start(
-                alloc, plan, reg, room, used, worker, key, old, new,
-            )? {
-                Ok(flight) => Ok(Ok(RowFlight::Route(flight))),
-                Err(wait) => Ok(Err(wait)),
-            },
+            Key::Route(_) => {
+                let new = new.take();
+                match RouteFlight::start(alloc, plan, reg, room, used, worker, key, old, new)? {
+                    Ok(flight) => Ok(Ok(RowFlight::Route(flight))),
+                    Err(wait) => Ok(Err(wait)),
+                }
+            }
             Key::Other(_) => unreachable!(),
         }
     }

@@ -19,7 +19,7 @@ use Rattle.chip_layout.specs.Renamed.{call_renamed}
 use Rattle.switch_machine.specs.Events.{IsAnswer}
 use Rattle.registry_laws.specs.Flown.{Flown}
 use Rattle.registry_laws.specs.Making.{IsNextCall, MayTakeFor, with_group_begun}
-use Rattle.core_laws.specs.Standing.{HasBegun}
+use Rattle.registry_laws.specs.Standing.{HasBegun}
 use Rattle.restart_laws.specs.Logged.{IsLoggedStep, LoggedService}
 use Rattle.asic_view.specs.View.{ViewObjects}
 use Rattle.syncd_core.specs.Synced.{AnswerFollows, CanCall, Calls, IsMadeOnChip, SyncState}

@@ -14,10 +14,10 @@ use Rattle.restart_laws.specs.Logged.{AreLoggedSteps, LoggedService, session_aft
 use Rattle.warm_state.specs.declared.warm.Warm.{Warm}
 use Rattle.warm_state.specs.declared.warm.Warm.TheVariants as warm
 use Rattle.session_laws.specs.Core.{CoreState, IsFullFor, mark_at}
-use Rattle.restart_session_laws.specs.Events.{MakesMore, MakesNext, restarted}
-use Rattle.restart_session_laws.specs.Standing.{IsServiceOf}
-use Rattle.restart_session_laws.proofs.Marking.{listed-so}
-use Rattle.restart_session_laws.proofs.Restarting.{restart-next}
+use Rattle.session_laws.specs.Service.Events.{MakesMore, MakesNext, restarted}
+use Rattle.session_laws.specs.Service.Standing.{IsServiceOf}
+use Rattle.session_laws.proofs.Service.Marking.{listed-so}
+use Rattle.session_laws.proofs.Service.Restarting.{restart-next}
 use Rattle.orch_core.specs.ComingBack.{AreOnWay, Back, ComesOut, ComesTo, HasRestored, IsFullOnWay, SettlesFrom, Stopped, StopsAfter, StopsOnWay, is_unrestored, places_on_way, ran_of, restarts_due, restarts_marked}
 use Rattle.orch_core.specs.Outcomes.{KeepsChip}
 use Rattle.orch_core.specs.Restarting.{AppliesOut, FaultsOnWay, ListsOut, RestoresOut, RestoresRows, StaysInService}

@@ -16,16 +16,18 @@ use Rattle.restart_laws.specs.Logged.{LoggedService}
 use Rattle.sync_tables.specs.Tables.{IsToSync}
 use Rattle.session_laws.specs.Core.{CoreState, IsFullFor, mark_at, size_beside}
 use Rattle.session_laws.specs.Standing.{IsSessionOf}
-use Rattle.settling_laws.specs.Leading.{LeadsTo, PopsTo, RunsTo, SettlesTo}
-use Rattle.settling_laws.specs.Turning.{IsAtRest, TurnsTo}
-use Rattle.settling_laws.proofs.Leading.{leads_more, leads_some}
-use Rattle.settling_laws.proofs.Settling.{settling_ends}
+use Rattle.session_laws.specs.Leading.{LeadsTo, PopsTo, RunsTo, SettlesTo}
+use Rattle.session_laws.specs.Turning.{IsAtRest, TurnsTo}
+use Rattle.session_laws.proofs.Settling.Leading.{leads_more, leads_some}
+use Rattle.session_laws.proofs.Settling.Settling.{settling_ends}
 use Rattle.orch_core.specs.Marked.{AreListedFrom, ListsWhatWaits, Marks, with_settled}
 use Rattle.orch_core.specs.Outcomes.{KeepsChip}
 use Rattle.orch_core.specs.Settled.{MarksTurns, Settles, SettlesKeys, SettlesWhole, StopsAtMark, StopsShort}
 use Rattle.orch_core.specs.declared.answer.Settled.{Settled}
 use Rattle.orch_core.specs.declared.answer.Settled.TheVariants as settled
-use Rattle.orch_core.proofs.Listings.{listed_all, listed_length, listed_only, listed_order, listed_reasons, listed_same}
+use Rattle.flight_board.specs.Applied.{row_at}
+use Rattle.mark_lists.proofs.Listings.{listed_length}
+use Rattle.orch_core.proofs.Listings.{listed_all, listed_only, listed_order, listed_reasons}
 use Rattle.orch_core.proofs.Chips.{keeps_on, keeps_stood}
 use Rattle.orch_core.proofs.Runs.{faulted_more, full_more, log_same, short_more}
 
@@ -71,7 +73,7 @@ module _ (s : LoggedService) (c : CoreState) (first : ChipState) (is : IsSession
     listed = m.marks.2
 
     many : length waits ≡ length m.mid.tables.ops
-    many = listed_length m.mid (keys_of m.mid.tables.ops) waits listed ∙ length-keys_of m.mid.tables.ops
+    many = listed_length m.mid.waiting (row_at m.mid.board.applied) (keys_of m.mid.tables.ops) waits listed ∙ length-keys_of m.mid.tables.ops
 
     ended : SettlesTo c s c' chip'
     ended =
@@ -101,7 +103,7 @@ module _ (s : LoggedService) (c : CoreState) (first : ChipState) (is : IsSession
           turns = m.turns;
           log = refl;
           settled = refl;
-          listed = listed_same m.mid (with_end (with_mark m.mid.log mark)) (m.mid.listed + length m.mid.tables.ops) (keys_of m.mid.tables.ops) waits listed;
+          listed = listed;
         }
 
     lists : ListsWhatWaits c'

@@ -17,7 +17,7 @@ use Rattle.retry_list.specs.Reasons.{reason_at, with_reason}
 use Rattle.consumer_table.specs.Ops.{AreOpsInOrder, without_op}
 use Rattle.registry_laws.specs.Flown.{Flown}
 use Rattle.registry_laws.specs.Making.{IsNextCall, MayTakeFor, with_group_begun}
-use Rattle.core_laws.specs.Standing.{HasBegun}
+use Rattle.registry_laws.specs.Standing.{HasBegun}
 use Rattle.syncd_core.specs.Synced.{CanCall, Calls, SyncState}
 use Rattle.ref_counts.specs.Room.{number_of_kind}
 use Rattle.flight_board.specs.Applied.{row_at}
@@ -25,8 +25,8 @@ use Rattle.flight_board.specs.Board.{BoardState, IsBegunFor, IsCallReady, IsPrep
 use Rattle.session_laws.specs.Core.{CoreState, good_in}
 use Rattle.session_laws.specs.Events.{vid_made_by}
 use Rattle.restart_laws.specs.Restored.{keys_waiting}
-use Rattle.restart_session_laws.specs.Built.{AreReasons, IsBeside, IsBringing, IsBuilt}
-use Rattle.restart_session_laws.proofs.Building.{begun-prepared, bringing-called, bringing-ends, bringing-first, bringing-prepared, built-wait, can-bring, may-take-called, ready-prepared, same-chip}
+use Rattle.session_laws.specs.Service.Built.{AreReasons, IsBeside, IsBringing, IsBuilt}
+use Rattle.session_laws.proofs.Service.Building.{begun-prepared, bringing-called, bringing-ends, bringing-first, bringing-prepared, built-wait, can-bring, may-take-called, ready-prepared, same-chip}
 use Rattle.orch_core.specs.Outcomes.{AreKindsCounted}
 use Rattle.orch_core.specs.Restarting.{CallsView, GoesOver, calls_left}
 use Rattle.orch_core.proofs.OnView.{fewer_called, fewer_prepared}

@@ -6,7 +6,6 @@ pub mod Runs
 pub mod Turns
 pub mod Listings
 pub mod Ends
-pub mod SameRows
 pub mod OnView
 pub mod OnWay
 pub mod GoingOver

@@ -21,7 +21,7 @@ use Rattle.ref_counts.specs.Room.{RoomState}
 use Rattle.registry_laws.specs.Flown.{Flown}
 use Rattle.registry_laws.specs.Flying.{KnowsBoard}
 use Rattle.registry_laws.specs.Making.{IsNextCall}
-use Rattle.core_laws.specs.Standing.{HasBegun}
+use Rattle.registry_laws.specs.Standing.{HasBegun}
 use Rattle.asic_view.specs.View.{ViewObjects}
 use Rattle.restart_laws.specs.Logged.{LoggedService}
 use Rattle.syncd_core.specs.Synced.{Calls, Changes, CanCall, SyncState}
@@ -32,8 +32,8 @@ use Rattle.session_laws.specs.Events.{vid_made_by}
 use Rattle.session_laws.specs.Standing.{IsSessionOf}
 use Rattle.session_laws.proofs.Answering.{answer_step}
 use Rattle.session_laws.proofs.Preparing.{can, prepared_stands}
-use Rattle.restart_session_laws.specs.Built.{IsBringing, over_view, untied_view}
-use Rattle.restart_session_laws.proofs.Viewing.{IsMadeOver, chip_then, made-over}
+use Rattle.session_laws.specs.Service.Built.{IsBringing, over_view, untied_view}
+use Rattle.session_laws.proofs.Service.Viewing.{IsMadeOver, chip_then, made-over}
 use Rattle.orch_core.specs.Restarting.{calls_for, calls_leaving, calls_left}
 
 -- the same count, of the machine's operation and so many changes that are due

@@ -1,7 +1,6 @@
 -- a list of the chip and the calls of a plan, as the core makes them
 use Rattle.std.proofs.Common.{◌≡◌, ◌+◌, ◌<◌, ◌≤◌, ◌∷◌, ◌∙◌, inl, inr, ℕ, Bool, true, false, List, [], length, Result, Ok, Err, refl, sym, ap, subst, arith}
 use Rattle.std.proofs.lemmas.List.{length-append}
-use Rattle.std.specs.Result.{IfOk}
 use Rattle.sai_types.specs.declared.answer.ChipAnswer.{ChipAnswer}
 use Rattle.sai_types.specs.declared.answer.ChipAnswer.TheVariants as answer
 use Rattle.sai_types.specs.declared.plan.PlanCall.{PlanCall}
@@ -21,18 +20,14 @@ use Rattle.syncd_core.specs.declared.answer.Listed.TheVariants as listed
 use Rattle.warm_state.specs.declared.warm.Warm.TheVariants as warm
 use Rattle.session_laws.specs.Core.{CoreState, IsFullFor, mark_at}
 use Rattle.session_laws.proofs.Faulting.{Ended, Marked}
-use Rattle.restart_session_laws.specs.Events.{MakesNext}
-use Rattle.restart_session_laws.specs.Standing.{IsServiceOf}
-use Rattle.restart_session_laws.proofs.Listing.{list-fails, list-next}
-use Rattle.restart_session_laws.proofs.Made.{ended-next, failed-next, more-next}
+use Rattle.session_laws.specs.Service.Events.{MakesNext}
+use Rattle.session_laws.specs.Service.Standing.{IsServiceOf}
+use Rattle.session_laws.proofs.Service.Listing.{list-fails, list-next}
+use Rattle.session_laws.proofs.Service.Made.{ended-next, failed-next, more-next}
 use Rattle.orch_core.specs.Outcomes.{with_fault}
 use Rattle.orch_core.specs.Restarting.{AppliesOne, AppliesOut, AppliesLast, FaultsOnWay, HeedsApply, HeedsList, ListsOnWay, ListsOut, places_left}
 use Rattle.orch_core.specs.declared.answer.Step.{Step}
 use Rattle.orch_core.proofs.Chips.{one_effect, one_more_effect, same_faults}
-
-pub if_ok : {X E : Type 0} {P Q : X → Type 0} (r : Result X E) → ((x : X) → P x → Q x) → IfOk r P → IfOk r Q
-if_ok (Ok x) on p = on x p
-if_ok (Err e) on p = tt
 
 -- ---- what a plan's call came to
 

@@ -23,17 +23,18 @@ use Rattle.syncd_core.specs.Begun.{Begins}
 use Rattle.syncd_core.specs.Synced.{SyncState}
 use Rattle.warm_state.specs.declared.warm.Warm.TheVariants as warm
 use Rattle.session_laws.specs.Core.{CoreState, IsFullFor, mark_at, size_beside}
-use Rattle.restart_session_laws.specs.Built.{AreBareWaits, IsBeside, IsBuilt, building, given_up}
-use Rattle.restart_session_laws.specs.Events.{MakesNext}
-use Rattle.restart_session_laws.specs.Standing.{IsServiceOf}
-use Rattle.restart_session_laws.proofs.Building.{built-first}
-use Rattle.restart_session_laws.proofs.Giving.{given-up}
-use Rattle.restart_session_laws.proofs.Popping.{pops-stay}
-use Rattle.restart_session_laws.proofs.Restoring.{listed-waits, restored-step}
+use Rattle.session_laws.specs.Service.Built.{AreBareWaits, IsBeside, IsBuilt, building, given_up}
+use Rattle.session_laws.specs.Service.Events.{MakesNext}
+use Rattle.session_laws.specs.Service.Standing.{IsServiceOf}
+use Rattle.session_laws.proofs.Service.Building.{built-first}
+use Rattle.session_laws.proofs.Service.Giving.{given-up}
+use Rattle.session_laws.proofs.Service.Popping.{pops-stay}
+use Rattle.session_laws.proofs.Service.Restoring.{listed-waits, restored-step}
 use Rattle.orch_core.specs.Restarting.{BeginsOut, BuildsOut, IsFullForRestore, IsFullOncePopped, PopsBare, PopsForRestore, RestoresOut, RestoresRows, StaysInService}
 use Rattle.orch_core.specs.declared.answer.Step.{Step}
 use Rattle.orch_core.specs.declared.answer.Step.TheVariants as step
-use Rattle.orch_core.proofs.Listings.{bare_length}
+use Rattle.retry_list.specs.Listed.{without_row}
+use Rattle.mark_lists.proofs.Listings.{listed_length}
 
 -- ---- pops for a restore
 
@@ -111,7 +112,7 @@ module _ (first : CoreState) (chip : ChipState) (s : LoggedService) (is : IsServ
     makes = subst (λ l. MakesNext first s (marked l (length l)) chip) (sym is_listing) (restored-step first chip s is at popped d x m y begins)
 
     listing_long : length listing ≡ length d.tables.ops
-    listing_long = bare_length d.waiting (keys_of d.tables.ops) listing bare ∙ length-keys_of d.tables.ops
+    listing_long = listed_length d.waiting without_row (keys_of d.tables.ops) listing bare ∙ length-keys_of d.tables.ops
 
     restored : (IsFullFor d (length chip.effects) (1 + length d.tables.ops) → ⊥) → RestoresRows s first chip (marked listing (length listing))
     restored room = record {

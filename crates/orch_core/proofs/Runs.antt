@@ -19,12 +19,12 @@ use Rattle.session_laws.specs.Events.{MakesSome}
 use Rattle.session_laws.specs.Standing.{IsSessionOf}
 use Rattle.session_laws.proofs.Joining.{no_step, one_step}
 use Rattle.session_laws.proofs.Popping.{pop_told}
-use Rattle.settling_laws.specs.Leading.{LeadsTo, PopsTo, RunsTo}
-use Rattle.settling_laws.proofs.Leading.{leads_more, leads_some}
-use Rattle.settling_laws.proofs.Popping.{pops_more, pops_none}
-use Rattle.settling_laws.proofs.Running.{runs_more, runs_none}
+use Rattle.session_laws.specs.Leading.{LeadsTo, PopsTo, RunsTo}
+use Rattle.session_laws.proofs.Settling.Leading.{leads_more, leads_some}
+use Rattle.session_laws.proofs.Settling.Popping.{pops_more, pops_none}
+use Rattle.session_laws.proofs.Settling.Running.{runs_more, runs_none}
 use Rattle.orch_core.specs.Outcomes.{Answered, AnswersCall, IsSameBeside, KeepsChip, KeepsFlights, MarksFault, with_fault}
-use Rattle.settling_laws.specs.Turning.{IsAtRest}
+use Rattle.session_laws.specs.Turning.{IsAtRest}
 use Rattle.orch_core.specs.Settled.{Pops, PopsAlone, RunsAll, RunsOut, Settles, RunsWhole, StopsFaulted, StopsFull, StopsShort}
 use Rattle.orch_core.specs.declared.answer.Ran.{Ran}
 use Rattle.orch_core.specs.declared.answer.Ran.TheVariants as ran

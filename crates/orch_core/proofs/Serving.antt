@@ -5,15 +5,15 @@ use Rattle.sai_types.specs.ChipState.{ChipState}
 use Rattle.switch_model.specs.History.{History}
 use Rattle.switch_model.specs.declared.mark.Mark.{Mark}
 use Rattle.restart_laws.specs.Logged.{LoggedService, session_after}
-use Rattle.settling_laws.proofs.Leading.{leads_some}
+use Rattle.session_laws.proofs.Settling.Leading.{leads_some}
 use Rattle.warm_state.specs.declared.warm.Warm.{Warm}
 use Rattle.warm_state.specs.declared.warm.Warm.TheVariants as warm
 use Rattle.session_laws.specs.Core.{CoreState}
 use Rattle.session_laws.specs.Events.{MakesOne, MakesSome}
-use Rattle.restart_session_laws.specs.Events.{MakesMore}
-use Rattle.restart_session_laws.specs.Standing.{IsServiceOf}
-use Rattle.restart_session_laws.proofs.Joining.{both-more, none-more, one-more}
-use Rattle.restart_session_laws.proofs.Sessions.{step-next, steps-more}
+use Rattle.session_laws.specs.Service.Events.{MakesMore}
+use Rattle.session_laws.specs.Service.Standing.{IsServiceOf}
+use Rattle.session_laws.proofs.Service.Joining.{both-more, none-more, one-more}
+use Rattle.session_laws.proofs.Service.Sessions.{step-next, steps-more}
 use Rattle.orch_core.specs.ComingBack.{Back, ComesTo, SettlesFrom, Stopped, StopsAfter, StopsOnWay}
 use Rattle.orch_core.specs.Outcomes.{StepsTo, with_fault}
 use Rattle.orch_core.specs.Restarting.{AppliesOut, ListsOut, RestoresOut, StaysInService, StepsFrom}

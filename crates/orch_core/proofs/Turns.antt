@@ -16,14 +16,15 @@ use Rattle.restart_laws.specs.Logged.{LoggedService}
 use Rattle.sync_tables.specs.Tables.{IsToSync}
 use Rattle.flight_board.specs.Board.{FlightState, flight_on, flown_at}
 use Rattle.warm_state.specs.declared.warm.Warm.TheVariants as warm
+use Rattle.mark_lists.proofs.Listings.{in_middle}
 use Rattle.session_laws.specs.Core.{CoreState}
 use Rattle.session_laws.specs.Standing.{IsSessionOf}
 use Rattle.session_laws.proofs.Beside.{stands_with}
-use Rattle.settling_laws.specs.Leading.{LeadsTo}
-use Rattle.settling_laws.specs.Turning.{IsAtRest, IsTurned, IsTurning}
-use Rattle.settling_laws.proofs.Leading.{leads_one}
-use Rattle.settling_laws.proofs.Turning.{turn_begins, turn_drops, turn_runs, turn_waits}
-use Rattle.settling_laws.proofs.Walking.{first_next, walk_goes, walk_stays}
+use Rattle.session_laws.specs.Leading.{LeadsTo}
+use Rattle.session_laws.specs.Turning.{IsAtRest, IsTurned, IsTurning}
+use Rattle.session_laws.proofs.Settling.Leading.{leads_one}
+use Rattle.session_laws.proofs.Settling.Turning.{turn_begins, turn_drops, turn_runs, turn_waits}
+use Rattle.session_laws.proofs.Settling.Walking.{first_next, walk_goes, walk_stays}
 use Rattle.orch_core.specs.Outcomes.{KeepsChip, BeginsTo, DropsTo, IsSameCore, key_left}
 use Rattle.orch_core.specs.Settled.{Begun, Brings, BringsKey, Dropped, MakesTurn, MakesTurns, RunsOut, RunsWhole, StopsShort, Waits, StopsFaulted, StopsFull}
 use Rattle.orch_core.specs.declared.answer.Ran.{Ran}
@@ -54,10 +55,6 @@ pub turn_first : (c : CoreState) (chip : ChipState) → IsAtRest c → (keys : L
 turn_first c chip rest keys are s is = ([], subst (λ l. IsTurning (keys_of c.tables.ops) c s [] l c chip) (sym are) (turn_begins c chip s is rest), keeps_itself c chip)
 
 -- the next key is one to sync
-pub in_middle : (xs ys : List Key) (k : Key) → IsIn k (xs ++ k ∷ ys)
-in_middle [] ys k = inl refl
-in_middle (x ∷ xs) ys k = inr (in_middle xs ys k)
-
 pub turn_key : (keys left more : List Key) (k : Key) (c d : CoreState) (chip : ChipState) (s : LoggedService) → IsTurning keys c s left (k ∷ more) d chip → IsToSync d.tables k
 turn_key keys left more k c d chip s x = subst (IsIn k) (sym x.ops) (in_middle left more k)
 

@@ -11,7 +11,7 @@ use Rattle.flight_board.specs.Board.{flown_at}
 use Rattle.warm_state.specs.declared.warm.Warm.{Warm}
 use Rattle.warm_state.specs.declared.warm.Warm.TheVariants as warm
 use Rattle.session_laws.specs.Core.{CoreState, IsFullFor}
-use Rattle.restart_session_laws.specs.Standing.{IsServiceOf}
+use Rattle.session_laws.specs.Service.Standing.{IsServiceOf}
 use Rattle.orch_core.specs.Outcomes.{KeepsChip}
 use Rattle.orch_core.specs.Restarting.{FaultsOnWay, IsFullOncePopped, StaysInService, places_left}
 use Rattle.orch_core.specs.Settled.{Settles}

@@ -1,34 +1,22 @@
 -- The mark at the end of a settling, and what it lists. Own.
-use Rattle.std.specs.Prelude.{◌≡◌, ◌+◌, ℕ, List, [], ◌∷◌, length, Option, None, Some, Result, Ok, Err}
+use Rattle.std.specs.Prelude.{◌≡◌, ◌+◌, ℕ, List, length, Result, Ok, Err}
 use Rattle.std.specs.Map.{keys_of}
 use Rattle.swss_types.specs.declared.out_of_memory.OutOfMemory.{OutOfMemory}
 use Rattle.table_schema.specs.declared.key.Key.{Key}
-use Rattle.table_schema.specs.declared.row.Row.{Row}
 use Rattle.consumer_table.specs.Ops.{AreOpsInOrder}
-use Rattle.retry_list.specs.Reasons.{Reasons, reason_at}
+use Rattle.retry_list.specs.Listed.{AreListedWith}
 use Rattle.switch_model.specs.History.{History, with_end, with_mark}
 use Rattle.switch_model.specs.Marks.{Waiting}
 use Rattle.switch_model.specs.declared.mark.Mark.{Mark}
 use Rattle.switch_model.specs.declared.mark.MarkEvent.TheVariants as event
-use Rattle.switch_model.specs.declared.wait.Wait.{Wait}
 use Rattle.flight_board.specs.Applied.{row_at}
 use Rattle.session_laws.specs.Core.{CoreState, IsFullFor, mark_at}
 use Rattle.orch_core.specs.declared.answer.Settled.{Settled}
 use Rattle.orch_core.specs.declared.answer.Settled.TheVariants as settled
 
--- a key is listed with its reason on the list of those that wait, and its applied row
-abbrev pub IsListedAs : CoreState → Key → Key × Wait × Option Row → Type 0
-IsListedAs c k w = (w.0 ≡ k) × (reason_at c.waiting k ≡ Some w.1) × (w.2 ≡ row_at c.board.applied k)
-
--- these keys are listed so, in their order
+-- these keys are listed, each with its reason on the list of those that wait and its applied row, in their order
 abbrev pub AreListedFrom : CoreState → List Key → Waiting → Type 0
-AreListedFrom c [] [] = Unit {0}
-AreListedFrom c (k ∷ ks) (w ∷ ws) = IsListedAs c k w × AreListedFrom c ks ws
-AreListedFrom c _ _ = ⊥
-
--- a key is listed with its reason and no row
-abbrev pub IsBareWait : Reasons → Key → Key × Wait × Option Row → Type 0
-IsBareWait reasons k w = (w.0 ≡ k) × (reason_at reasons k ≡ Some w.1) × (w.2 ≡ None)
+AreListedFrom c keys waits = AreListedWith c.waiting (row_at c.board.applied) keys waits
 
 -- the last mark of the log is that of a settling at which the last round ended, and lists the keys that are to sync
 pub record ListsWhatWaits (c : CoreState) : Type 0 where

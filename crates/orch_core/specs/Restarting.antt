@@ -25,9 +25,9 @@ use Rattle.flight_board.specs.Board.{BoardState, flown_at, new_board}
 use Rattle.warm_state.specs.declared.warm.Warm.{Warm}
 use Rattle.warm_state.specs.declared.warm.Warm.TheVariants as warm
 use Rattle.session_laws.specs.Core.{CoreState, IsFullFor, mark_at, size_beside}
-use Rattle.restart_session_laws.specs.Built.{IsBeside, IsBringing, IsBuilt}
-use Rattle.restart_session_laws.specs.Events.{MakesMore, MakesNext, restarted}
-use Rattle.restart_session_laws.specs.Standing.{IsServiceOf}
+use Rattle.session_laws.specs.Service.Built.{IsBeside, IsBringing, IsBuilt}
+use Rattle.session_laws.specs.Service.Events.{MakesMore, MakesNext, restarted}
+use Rattle.session_laws.specs.Service.Standing.{IsServiceOf}
 use Rattle.orch_core.specs.Outcomes.{KeepsChip, StepsTo, with_fault}
 use Rattle.orch_core.specs.declared.answer.LogFull.{LogFull}
 use Rattle.orch_core.specs.declared.answer.Step.{Step}

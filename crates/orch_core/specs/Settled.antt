@@ -16,8 +16,8 @@ use Rattle.warm_state.specs.declared.warm.Warm.TheVariants as warm
 use Rattle.session_laws.specs.Core.{CoreState, IsFullFor, size_beside}
 use Rattle.session_laws.specs.Events.{MakesSome}
 use Rattle.session_laws.specs.Standing.{IsSessionOf}
-use Rattle.settling_laws.specs.Leading.{LeadsTo, PopsTo, RunsTo, SettlesTo}
-use Rattle.settling_laws.specs.Turning.{IsAtRest, IsTurning, TurnsTo}
+use Rattle.session_laws.specs.Leading.{LeadsTo, PopsTo, RunsTo, SettlesTo}
+use Rattle.session_laws.specs.Turning.{IsAtRest, IsTurning, TurnsTo}
 use Rattle.orch_core.specs.Outcomes.{KeepsChip, MarksFault, BeginsTo, DropsTo, IsSameBeside, IsSameCore, KeepsFlights}
 use Rattle.orch_core.specs.Marked.{ListsWhatWaits, Marks}
 use Rattle.orch_core.specs.declared.answer.Ran.{Ran}

@@ -6,7 +6,7 @@ use Rattle.sai_types.specs.ChipState.{ChipState}
 use Rattle.restart_laws.specs.Logged.{LoggedService}
 use Rattle.session_laws.specs.Core.{CoreState, IsFullFor, with_taken}
 use Rattle.session_laws.specs.Events.{MakesOne}
-use Rattle.restart_session_laws.specs.Events.{MakesNext}
+use Rattle.session_laws.specs.Service.Events.{MakesNext}
 use Rattle.orch_core.specs.declared.answer.TakeFault.{TakeFault}
 use Rattle.orch_core.specs.declared.answer.TakeFault.TheVariants as fault
 

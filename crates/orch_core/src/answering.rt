@@ -3,7 +3,7 @@ ghost use Rattle.std.specs.Prelude.{◌≡◌, ◌<◌, Some, IsSome, length};
 ghost use Rattle.sai_types.specs.declared.answer.SyncAnswer.TheVariants as sync;
 ghost use Rattle.registry_laws.specs.Flown.{Flown};
 ghost use Rattle.registry_laws.specs.Making.{IsNextCall, MayTakeFor};
-ghost use Rattle.core_laws.specs.Standing.{HasBegun};
+ghost use Rattle.registry_laws.specs.Standing.{HasBegun};
 ghost use Rattle.restart_laws.specs.Logged.{LoggedService};
 ghost use Rattle.flight_board.specs.Board.{flown_at};
 ghost use Rattle.warm_state.specs.declared.warm.Warm.TheVariants as warm;

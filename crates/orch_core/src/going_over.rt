@@ -6,7 +6,7 @@ ghost use Rattle.consumer_table.specs.Ops.{AreOpsInOrder, without_op};
 ghost use Rattle.flight_board.specs.Board.{flown_at};
 ghost use Rattle.session_laws.specs.Core.{CoreState, good_in};
 ghost use Rattle.session_laws.specs.Events.{vid_made_by};
-ghost use Rattle.restart_session_laws.specs.Built.{IsBringing, IsBuilt};
+ghost use Rattle.session_laws.specs.Service.Built.{IsBringing, IsBuilt};
 ghost use Rattle.orch_core.specs.Restarting.{CallsView, GoesOver};
 
 use crate::Core;

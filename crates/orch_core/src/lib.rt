@@ -24,3 +24,4 @@ mod turning;
 
 pub use answer::{LogFull, Settled, Step, TakeFault};
 pub use state::Core;
+pub use switch_model::{Log, Mark, MarkEvent, Waits};

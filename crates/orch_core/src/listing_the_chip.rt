@@ -2,7 +2,7 @@
 ghost use Rattle.std.specs.Prelude.{◌≡◌};
 ghost use Rattle.restart_laws.specs.Logged.{LoggedService};
 ghost use Rattle.warm_state.specs.declared.warm.Warm.TheVariants as warm;
-ghost use Rattle.restart_session_laws.specs.Standing.{IsServiceOf};
+ghost use Rattle.session_laws.specs.Service.Standing.{IsServiceOf};
 ghost use Rattle.orch_core.specs.Restarting.{HeedsList, IsInService, ListsOut};
 
 use crate::logging::{entered, mark_in};

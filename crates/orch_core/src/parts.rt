@@ -94,7 +94,7 @@ impl Core {
         ensures there { IsTrue result → IsUnflown self.now.board key.now × (row_at self.now.board.applied key.now ≡ option_map (λ row. row.now) new.entry) }
         ensures other { IsUnflown self.now.board key.now → row_at self.now.board.applied key.now ≡ option_map (λ row. row.now) new.entry → IsTrue result }
     {
-        self.board.worker_of(key).is_none() && is_same(self.board.row(key), new)
+        self.board.worker_of(key).is_none() && self.board.has_row(key, new)
     }
 
     /// The good row of a key.
@@ -119,13 +119,6 @@ impl Core {
         ensures err { OnErr result (self.new ≡ self.old) }
     {
         self.waiting.put(key.copy()?, wait)
-    }
-
-    /// The applied row of a key.
-    pub(crate) fn row(&self, key: &Key) -> Option<&Row>
-        ensures { option_map (λ row. row.now) result ≡ row_at self.now.board.applied key.now }
-    {
-        self.board.row(key)
     }
 
     /// The first key to sync behind this one. The keys are in order.
@@ -180,16 +173,5 @@ impl Core {
         ensures fewer { OnOk result ((self.old.tables.waiting ≡ []) ⊎ (length self.new.tables.waiting < length self.old.tables.waiting)) }
     {
         self.tables.pop()
-    }
-}
-
-/// Whether two rows, or none, are the same.
-pub(crate) fn is_same(one: Option<&Row>, other: Option<&Row>) -> bool
-    ensures { IsTrue result ↔ (option_map (λ row. row.now) one.entry ≡ option_map (λ row. row.now) other.entry) }
-{
-    match (one, other) {
-        (Some(one), Some(other)) => one == other,
-        (None, None) => true,
-        _ => false,
     }
 }

@@ -7,7 +7,7 @@ ghost use Rattle.sai_types.specs.Alike.{IsIn};
 ghost use Rattle.consumer_table.specs.Ops.{AreOpsInOrder, Ops, without_op};
 ghost use Rattle.syncd_core.specs.Begun.{Begins, CanBegin};
 ghost use Rattle.syncd_core.specs.Synced.{Applies, CanApply, SyncState, TakesList};
-ghost use Rattle.restart_session_laws.specs.Built.{building, given_up};
+ghost use Rattle.session_laws.specs.Service.Built.{building, given_up};
 ghost use Rattle.orch_core.specs.Restarting.{forgotten_core, places_left};
 
 use crate::Core;

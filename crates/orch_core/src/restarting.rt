@@ -2,7 +2,7 @@
 ghost use Rattle.std.specs.Prelude.{◌≡◌, length, IfOk, OnErr};
 ghost use Rattle.sai_types.specs.ChipState.{ChipState};
 ghost use Rattle.restart_laws.specs.Logged.{LoggedService};
-ghost use Rattle.restart_session_laws.specs.Standing.{IsServiceOf};
+ghost use Rattle.session_laws.specs.Service.Standing.{IsServiceOf};
 ghost use Rattle.orch_core.specs.Restarting.{MarksRestart, RestartsStep};
 
 use crate::{Core, LogFull};

@@ -5,8 +5,8 @@ ghost use Rattle.sai_types.specs.ChipState.{ChipState};
 ghost use Rattle.switch_model.specs.History.{with_mark};
 ghost use Rattle.warm_state.specs.declared.warm.Warm.TheVariants as warm;
 ghost use Rattle.session_laws.specs.Core.{CoreState};
-ghost use Rattle.restart_session_laws.specs.Built.{IsBuilt};
-ghost use Rattle.restart_session_laws.specs.Standing.{IsServiceOf};
+ghost use Rattle.session_laws.specs.Service.Built.{IsBuilt};
+ghost use Rattle.session_laws.specs.Service.Standing.{IsServiceOf};
 ghost use Rattle.orch_core.specs.Restarting.{BeginsOut, BuildsOut, IsInService, RestoresOut};
 
 use crate::logging::mark_in;

@@ -5,7 +5,7 @@ ghost use Rattle.flight_board.specs.Board.{flown_at};
 ghost use Rattle.warm_state.specs.declared.warm.Warm.TheVariants as warm;
 ghost use Rattle.session_laws.specs.Standing.{IsSessionOf};
 ghost use Rattle.sai_types.specs.ChipState.{ChipState};
-ghost use Rattle.restart_session_laws.specs.Standing.{IsServiceOf};
+ghost use Rattle.session_laws.specs.Service.Standing.{IsServiceOf};
 ghost use Rattle.orch_core.specs.Outcomes.{IsInSession, StepsTo};
 ghost use Rattle.orch_core.specs.Restarting.{IsInService, StepsFrom};
 

@@ -9,7 +9,7 @@ ghost use Rattle.switch_model.specs.Marks.{written_key};
 ghost use Rattle.machine_laws.specs.Reading.{IsOnSwitch};
 ghost use Rattle.restart_laws.specs.Logged.{LoggedService};
 ghost use Rattle.session_laws.specs.Standing.{IsSessionOf};
-ghost use Rattle.restart_session_laws.specs.Standing.{IsServiceOf};
+ghost use Rattle.session_laws.specs.Service.Standing.{IsServiceOf};
 ghost use Rattle.orch_core.specs.Taking.{TakesSent, TakesNext, TakesStep};
 
 use crate::{Core, TakeFault};

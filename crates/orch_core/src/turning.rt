@@ -4,7 +4,7 @@ ghost use Rattle.consumer_table.specs.Ops.{AreOpsInOrder};
 ghost use Rattle.restart_laws.specs.Logged.{LoggedService};
 ghost use Rattle.sync_tables.specs.Tables.{IsToSync};
 ghost use Rattle.session_laws.specs.Standing.{IsSessionOf};
-ghost use Rattle.settling_laws.specs.Turning.{IsAtRest};
+ghost use Rattle.session_laws.specs.Turning.{IsAtRest};
 ghost use Rattle.orch_core.specs.Outcomes.{IsInSession};
 ghost use Rattle.orch_core.specs.Settled.{Brings, MakesTurn, MakesTurns};
 

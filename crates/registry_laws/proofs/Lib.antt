@@ -30,3 +30,5 @@ pub mod Taking
 pub mod Telling
 pub mod Users
 pub mod Waiting
+pub mod Identifier
+pub mod Core

@@ -5,3 +5,6 @@ pub mod Answering
 pub mod Flown
 pub mod Making
 pub mod Flying
+pub mod Identified
+pub mod Calls
+pub mod Standing

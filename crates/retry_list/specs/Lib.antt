@@ -1,3 +1,4 @@
 pub mod Event
 pub mod Index
 pub mod Reasons
+pub mod Listed

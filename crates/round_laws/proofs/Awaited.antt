@@ -25,7 +25,7 @@ use Rattle.switch_machine.specs.Next.{MustWait}
 use Rattle.switch_machine.proofs.Reasoned.{has-call}
 use Rattle.machine_laws.specs.Logged.{AreListed, ListsKey, LogsMark}
 use Rattle.machine_laws.proofs.Staying.{chip_after-all}
-use Rattle.core_laws.proofs.Resting.{none_flies}
+use Rattle.registry_laws.proofs.Core.Resting.{none_flies}
 use Rattle.registry_laws.specs.Flown.{Flown, flight_of}
 use Rattle.syncd_core.specs.Run.{tied_calls}
 use Rattle.restart_laws.specs.Logged.{LoggedService, OfMachine, last_mark, mark_now, switch_of}
@@ -41,8 +41,8 @@ use Rattle.session_laws.specs.Events.{HaveReasons}
 use Rattle.session_laws.specs.Standing.{IsSessionOf, IsWorking}
 use Rattle.session_laws.proofs.Marking.{popped}
 use Rattle.session_laws.proofs.Seeing.{keys_same, same_keys}
-use Rattle.restart_session_laws.specs.Standing.{IsApplyingCore}
-use Rattle.restart_session_laws.proofs.Sessions.{session-of}
+use Rattle.session_laws.specs.Service.Standing.{IsApplyingCore}
+use Rattle.session_laws.proofs.Service.Sessions.{session-of}
 use Rattle.round_laws.specs.Awaited.{AwaitsCall, AwaitsMark, HasRecorded}
 use Rattle.round_laws.specs.Named.{keys_named}
 use Rattle.round_laws.specs.Sessions.{HasComeAbout, InSession}

@@ -31,8 +31,8 @@ use Rattle.flight_board.specs.Applied.{row_at}
 use Rattle.session_laws.specs.Core.{CoreState, new_core, with_taken}
 use Rattle.session_laws.proofs.Seeing.{keys_same, same_keys}
 use Rattle.session_laws.proofs.Beginning.{none_flown}
-use Rattle.settling_laws.specs.Leading.{SettlesTo}
-use Rattle.restart_session_laws.proofs.Taking.{taken-next}
+use Rattle.session_laws.specs.Leading.{SettlesTo}
+use Rattle.session_laws.proofs.Service.Taking.{taken-next}
 use Rattle.round_laws.specs.Between.{IsBetweenRounds, IsInRound, mark_of}
 use Rattle.round_laws.specs.Ended.{LeavesSettled, applied_since, waits_since}
 use Rattle.round_laws.specs.Named.{keys_named}

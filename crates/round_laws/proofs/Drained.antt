@@ -40,7 +40,7 @@ use Rattle.machine_laws.proofs.Turning.{turns-rows}
 use Rattle.restart_laws.specs.Logged.{switch_of}
 use Rattle.warm_state.specs.declared.warm.Warm.TheVariants as warm
 use Rattle.session_laws.specs.Core.{CoreState}
-use Rattle.settling_laws.specs.Leading.{SettlesTo, switch_answered}
+use Rattle.session_laws.specs.Leading.{SettlesTo, switch_answered}
 use Rattle.round_laws.specs.Drained.{Drains}
 use Rattle.round_laws.specs.Ended.{EndedRound, IsToTry, LeavesSettled, applied_by, applied_since, rows_before, rows_wanted, taken_then, waits_by, waits_since}
 use Rattle.round_laws.specs.Sessions.{InSession}

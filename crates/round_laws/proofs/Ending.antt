@@ -4,7 +4,7 @@ use Rattle.table_schema.specs.declared.write.Sent.{Sent}
 use Rattle.sai_types.specs.ChipState.{ChipState}
 use Rattle.switch_model.specs.History.{with_end, with_mark}
 use Rattle.session_laws.specs.Core.{CoreState}
-use Rattle.settling_laws.specs.Leading.{SettlesTo}
+use Rattle.session_laws.specs.Leading.{SettlesTo}
 use Rattle.round_laws.specs.Between.{IsInRound, RoundEnds}
 use Rattle.round_laws.specs.Quiet.{LeavesQuietRows}
 use Rattle.round_laws.specs.Turns.{IsMadeByTurns}

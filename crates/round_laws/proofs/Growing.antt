@@ -16,7 +16,7 @@ use Rattle.warm_state.specs.declared.warm.Warm.TheVariants as warm
 use Rattle.restart_laws.specs.Logged.{AddsFault, AreLoggedSteps, IsLoggedStep, LoggedService, OfMachine, OfService, Records, session_after, switch_of}
 use Rattle.restart_laws.specs.Service.{IsServiceEvent, OfApply, OfFault, OfFinish, OfList, OfListFault, OfRestart, OfRestore, OfTake, OfWork}
 use Rattle.session_laws.specs.Core.{CoreState}
-use Rattle.restart_session_laws.specs.Events.{MakesMore}
+use Rattle.session_laws.specs.Service.Events.{MakesMore}
 use Rattle.round_laws.specs.Sessions.{InSession}
 
 record LogGrows (g h : History) : Type 0 where

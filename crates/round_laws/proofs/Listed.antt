@@ -26,8 +26,8 @@ use Rattle.restart_laws.proofs.Rising.{pass-rising}
 use Rattle.sync_tables.specs.Tables.{written_in}
 use Rattle.session_laws.specs.Core.{CoreState}
 use Rattle.session_laws.specs.Standing.{IsWorking}
-use Rattle.restart_session_laws.specs.Built.{IsBuilt, over_view}
-use Rattle.restart_session_laws.specs.Standing.{written_of}
+use Rattle.session_laws.specs.Service.Built.{IsBuilt, over_view}
+use Rattle.session_laws.specs.Service.Standing.{written_of}
 use Rattle.round_laws.specs.Named.{keys_named}
 use Rattle.round_laws.proofs.Named.{few-among, named-sorted, of-named}
 use Rattle.round_laws.proofs.ToSync.{good_named}

@@ -29,8 +29,8 @@ use Rattle.machine_laws.proofs.Turning.{Leads, TakeNothing, both, turns-lead}
 use Rattle.machine_laws.proofs.Unnamed.{one_more_differs, unnamed-rows}
 use Rattle.restart_laws.specs.Logged.{session_after}
 use Rattle.session_laws.specs.Core.{CoreState}
-use Rattle.restart_session_laws.specs.Events.{MakesMore}
-use Rattle.settling_laws.specs.Leading.{SettlesTo}
+use Rattle.session_laws.specs.Service.Events.{MakesMore}
+use Rattle.session_laws.specs.Leading.{SettlesTo}
 use Rattle.round_laws.specs.Between.{IsInRound, round_from}
 use Rattle.round_laws.specs.Quiet.{LeavesQuietRows, StandsForRow}
 use Rattle.round_laws.proofs.Growing.{Unlogged, unlogged}

@@ -30,14 +30,14 @@ use Rattle.machine_laws.specs.Settling.{situation}
 use Rattle.machine_laws.proofs.Deciding.{IsDecided}
 use Rattle.machine_laws.proofs.Dropping.{same-no_reason}
 use Rattle.machine_laws.proofs.Sharing.{key_listed_decided}
-use Rattle.core_laws.proofs.Resting.{none_flies}
+use Rattle.registry_laws.proofs.Core.Resting.{none_flies}
 use Rattle.flight_board.specs.Board.{flown_at}
 use Rattle.warm_state.specs.declared.warm.Warm.TheVariants as warm
 use Rattle.session_laws.specs.Core.{CoreState}
 use Rattle.session_laws.specs.Standing.{IsSessionOf, IsWorking}
 use Rattle.session_laws.proofs.Marking.{popped}
-use Rattle.restart_session_laws.specs.Standing.{written_of}
-use Rattle.restart_session_laws.proofs.Sessions.{session-of}
+use Rattle.session_laws.specs.Service.Standing.{written_of}
+use Rattle.session_laws.proofs.Service.Sessions.{session-of}
 use Rattle.round_laws.specs.Sessions.{InSession}
 use Rattle.round_laws.specs.Turns.{StandsOnChip}
 use Rattle.round_laws.proofs.Sessions.{objects-left}

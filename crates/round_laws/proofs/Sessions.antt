@@ -27,10 +27,10 @@ use Rattle.session_laws.specs.Core.{CoreState, new_core, size_beside}
 use Rattle.session_laws.specs.Events.{MakesOne, MakesSome}
 use Rattle.session_laws.specs.Standing.{IsSessionOf}
 use Rattle.session_laws.proofs.Joining.{after_both, are_both}
-use Rattle.settling_laws.specs.Leading.{LeadsTo}
-use Rattle.restart_session_laws.specs.Events.{MakesMore, MakesNext}
-use Rattle.restart_session_laws.specs.Standing.{IsServiceOf}
-use Rattle.restart_session_laws.proofs.Sessions.{first-service, step-next, steps-more, steps-stand}
+use Rattle.session_laws.specs.Leading.{LeadsTo}
+use Rattle.session_laws.specs.Service.Events.{MakesMore, MakesNext}
+use Rattle.session_laws.specs.Service.Standing.{IsServiceOf}
+use Rattle.session_laws.proofs.Service.Sessions.{first-service, step-next, steps-more, steps-stand}
 use Rattle.round_laws.specs.Sessions.{HasComeAbout, InSession}
 
 -- ---- steps

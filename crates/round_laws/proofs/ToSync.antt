@@ -28,7 +28,7 @@ use Rattle.sync_tables.specs.Tables.{IsToSync}
 use Rattle.warm_state.specs.declared.warm.Warm.{Warm}
 use Rattle.warm_state.specs.declared.warm.Warm.TheVariants as warm
 use Rattle.session_laws.specs.Core.{CoreState}
-use Rattle.restart_session_laws.specs.Standing.{IsExact}
+use Rattle.session_laws.specs.Service.Standing.{IsExact}
 use Rattle.round_laws.specs.Named.{keys_named}
 use Rattle.round_laws.specs.Sessions.{HasComeAbout, InSession}
 use Rattle.round_laws.proofs.Named.{named-front, named-last, of-named}

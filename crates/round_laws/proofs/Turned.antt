@@ -33,7 +33,7 @@ use Rattle.flight_board.specs.Board.{flown_at}
 use Rattle.warm_state.specs.declared.warm.Warm.TheVariants as warm
 use Rattle.session_laws.specs.Core.{CoreState}
 use Rattle.session_laws.proofs.Seeing.{keys_same, same_keys}
-use Rattle.settling_laws.specs.Leading.{SettlesTo, calls_in, switch_answered}
+use Rattle.session_laws.specs.Leading.{SettlesTo, calls_in, switch_answered}
 use Rattle.round_laws.specs.Between.{IsInRound, mark_of, round_from}
 use Rattle.round_laws.specs.Ended.{EndedRound, HasCounts, IsToTry, applied_since, rows_wanted}
 use Rattle.round_laws.specs.Named.{keys_named}

@@ -17,7 +17,7 @@ use Rattle.sync_tables.specs.Tables.{IsToSync, written_in}
 use Rattle.flight_board.specs.Applied.{row_at}
 use Rattle.warm_state.specs.declared.warm.Warm.TheVariants as warm
 use Rattle.session_laws.specs.Core.{CoreState}
-use Rattle.settling_laws.specs.Turning.{IsAtRest}
+use Rattle.session_laws.specs.Turning.{IsAtRest}
 use Rattle.round_laws.specs.Ended.{EndedRound, LeavesSettled, applied_since, waits_since}
 use Rattle.round_laws.specs.Named.{keys_named}
 use Rattle.round_laws.specs.Quiet.{LeavesQuietRows}

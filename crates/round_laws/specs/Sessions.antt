@@ -7,7 +7,7 @@ use Rattle.switch_model.specs.declared.mark.MarkEvent.{MarkEvent}
 use Rattle.switch_model.specs.declared.mark.MarkEvent.TheVariants as event
 use Rattle.restart_laws.specs.Logged.{AreLoggedSteps, LoggedService, new_session, session_after}
 use Rattle.session_laws.specs.Core.{CoreState}
-use Rattle.restart_session_laws.specs.Standing.{IsServiceOf}
+use Rattle.session_laws.specs.Service.Standing.{IsServiceOf}
 
 -- steps of the service lead from its beginning to this session
 pub record HasComeAbout (plan : Ports) (capacities : List ℕ) (s : LoggedService) : Type 0 where

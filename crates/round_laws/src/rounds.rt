@@ -16,7 +16,7 @@ ghost use Rattle.producer_table.specs.Pending.{ArePendingInOrder};
 ghost use Rattle.machine_laws.specs.Reading.{IsOnSwitch};
 ghost use Rattle.warm_state.specs.declared.warm.Warm.TheVariants as warm;
 ghost use Rattle.session_laws.specs.Core.{CoreState, new_core, with_taken};
-ghost use Rattle.settling_laws.specs.Leading.{SettlesTo};
+ghost use Rattle.session_laws.specs.Leading.{SettlesTo};
 ghost use Rattle.round_laws.specs.Between.{IsBetweenRounds, IsInRound, IsReadyForRound, RoundEnds};
 ghost use Rattle.round_laws.specs.Drained.{Drains};
 ghost use Rattle.round_laws.specs.Ended.{EndedRound, taken_then};

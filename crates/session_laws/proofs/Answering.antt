@@ -23,15 +23,15 @@ use Rattle.ref_counts.specs.Registry.{Names}
 use Rattle.registry_laws.specs.Ending.{ended_names}
 use Rattle.registry_laws.specs.Flown.{Flown, due_for, flight_of}
 use Rattle.registry_laws.specs.Making.{IsNextCall, MayTakeFor, TookFor}
-use Rattle.identifier_laws.specs.Identified.{tie_by}
-use Rattle.core_laws.specs.Calls.{TiesFollowCall}
-use Rattle.core_laws.specs.Standing.{HasBegun, StandsFor, with_answer}
-use Rattle.core_laws.proofs.Answered as answers
-use Rattle.core_laws.proofs.Taken.{may_take_next}
+use Rattle.registry_laws.specs.Identified.{tie_by}
+use Rattle.registry_laws.specs.Calls.{TiesFollowCall}
+use Rattle.registry_laws.specs.Standing.{HasBegun, StandsFor, with_answer}
+use Rattle.registry_laws.proofs.Core.Answered as answers
+use Rattle.registry_laws.proofs.Core.Taken.{may_take_next}
 use Rattle.asic_view.specs.View.{ViewObjects, rid_at}
 use Rattle.syncd_core.specs.Synced.{Calls, IsMadeOnChip, SyncState, with_view}
-use Rattle.tie_laws.specs.Ties.{AreTied}
-use Rattle.tie_laws.proofs.Calls.{tied-made, ties-after}
+use Rattle.apply_laws.specs.Ties.{AreTied}
+use Rattle.apply_laws.proofs.Tying.Calls.{tied-made, ties-after}
 use Rattle.restart_laws.specs.Logged.{LoggedService}
 use Rattle.flight_board.specs.Applied.{row_at}
 use Rattle.flight_board.specs.Board.{BoardState, FlightState, BoardFollows, IsTakenFor, flown_at}

@@ -6,10 +6,10 @@ use Rattle.sai_types.specs.ChipState.{ChipState}
 use Rattle.switch_machine.specs.Events.{empty_switch}
 use Rattle.ref_counts.specs.Room.{all_free}
 use Rattle.asic_view.specs.View.{rid_at}
-use Rattle.tie_laws.specs.Ties.{AreTied}
-use Rattle.tie_laws.proofs.Alike.{none-tied}
-use Rattle.core_laws.proofs.Empty.{stands_first}
-use Rattle.core_laws.proofs.Same.{stands_flown}
+use Rattle.apply_laws.specs.Ties.{AreTied}
+use Rattle.apply_laws.proofs.Tying.Alike.{none-tied}
+use Rattle.registry_laws.proofs.Core.Empty.{stands_first}
+use Rattle.registry_laws.proofs.Core.Same.{stands_flown}
 use Rattle.restart_laws.specs.Logged.{new_session}
 use Rattle.flight_board.specs.Board.{flown_at, new_board}
 use Rattle.session_laws.specs.Core.{new_core}

@@ -35,10 +35,10 @@ use Rattle.registry_laws.specs.Flying.{flown_as, with_machine}
 use Rattle.registry_laws.specs.Registers.{AreUsed}
 use Rattle.registry_laws.proofs.Allowed.{may_start}
 use Rattle.registry_laws.proofs.Waiting.{reason_by}
-use Rattle.core_laws.specs.Standing.{IsNotFlown, StandsFor}
-use Rattle.core_laws.proofs.Empty.{stands_dropped}
-use Rattle.core_laws.proofs.Opened as opened
-use Rattle.core_laws.proofs.Resting.{differing_reads, flown_busy, free_rests}
+use Rattle.registry_laws.specs.Standing.{IsNotFlown, StandsFor}
+use Rattle.registry_laws.proofs.Core.Empty.{stands_dropped}
+use Rattle.registry_laws.proofs.Core.Opened as opened
+use Rattle.registry_laws.proofs.Core.Resting.{differing_reads, flown_busy, free_rests}
 use Rattle.asic_view.specs.View.{rid_at}
 use Rattle.sync_tables.specs.Tables.{IsToSync}
 use Rattle.sync_tables.proofs.KeysLeave.{has_left}

@@ -14,8 +14,8 @@ use Rattle.chip_layout.specs.Renamed.{call_renamed}
 use Rattle.switch_machine.specs.Events.{with_made_call}
 use Rattle.registry_laws.specs.Flown.{Flown}
 use Rattle.registry_laws.specs.Making.{IsNextCall}
-use Rattle.identifier_laws.specs.Identified.{tie_by}
-use Rattle.core_laws.specs.Standing.{HasBegun}
+use Rattle.registry_laws.specs.Identified.{tie_by}
+use Rattle.registry_laws.specs.Standing.{HasBegun}
 use Rattle.asic_view.specs.View.{ViewObjects, rid_at}
 use Rattle.syncd_core.specs.Synced.{IsMadeOnChip}
 use Rattle.restart_laws.specs.Logged.{LoggedService}

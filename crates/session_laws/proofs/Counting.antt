@@ -7,7 +7,7 @@ use Rattle.ref_counts.specs.Room.{number_of_kind}
 use Rattle.registry_laws.specs.Registers.{AreUsed}
 use Rattle.asic_view.specs.View.{used_of}
 use Rattle.syncd_core.specs.Synced.{current}
-use Rattle.tie_laws.proofs.Calls.{current-used}
+use Rattle.apply_laws.proofs.Tying.Calls.{current-used}
 use Rattle.restart_laws.specs.Logged.{LoggedService}
 use Rattle.warm_state.specs.declared.warm.Warm.TheVariants as warm
 use Rattle.session_laws.specs.Core.{CoreState}

@@ -23,8 +23,8 @@ use Rattle.switch_machine.proofs.Needing.{listed_more}
 use Rattle.machine_laws.specs.Reading.{IsOnSwitch}
 use Rattle.registry_laws.specs.Flown.{Flown}
 use Rattle.registry_laws.specs.Making.{IsNextCall}
-use Rattle.identifier_laws.specs.Identified.{tie_by}
-use Rattle.core_laws.specs.Standing.{HasBegun}
+use Rattle.registry_laws.specs.Identified.{tie_by}
+use Rattle.registry_laws.specs.Standing.{HasBegun}
 use Rattle.asic_view.specs.View.{ViewObjects, rid_at}
 use Rattle.syncd_core.specs.Synced.{Calls, AnswerFollows, IsMadeOnChip, SyncState, with_view}
 use Rattle.restart_laws.specs.Logged.{LoggedService, OfService, mark_now}

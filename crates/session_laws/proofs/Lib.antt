@@ -15,3 +15,5 @@ pub mod Joining
 pub mod Seeing
 pub mod Sizing
 pub mod Beside
+pub mod Settling
+pub mod Service

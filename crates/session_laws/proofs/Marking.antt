@@ -13,7 +13,7 @@ use Rattle.switch_machine.specs.Events.{SwitchState}
 use Rattle.switch_machine.specs.Written.{IsPopped}
 use Rattle.switch_machine.proofs.Needing.{listed_more}
 use Rattle.machine_laws.specs.Logged.{AreListed, ListsKey, LogsMark}
-use Rattle.core_laws.proofs.Resting.{none_flies}
+use Rattle.registry_laws.proofs.Core.Resting.{none_flies}
 use Rattle.sync_tables.specs.Tables.{IsToSync}
 use Rattle.restart_laws.specs.Logged.{LoggedService, OfMachine, mark_now, switch_of}
 use Rattle.flight_board.specs.Board.{flown_at}

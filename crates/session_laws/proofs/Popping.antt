@@ -10,7 +10,7 @@ use Rattle.switch_machine.specs.Written.{HasNoWrite, IsPoppedKey}
 use Rattle.machine_laws.specs.Reading.{IsOnSwitch}
 use Rattle.restart_laws.specs.Logged.{LoggedService}
 use Rattle.asic_view.specs.View.{rid_at}
-use Rattle.core_laws.proofs.Empty.{stands_popped}
+use Rattle.registry_laws.proofs.Core.Empty.{stands_popped}
 use Rattle.sync_tables.specs.Tables.{IsPoppedIn, IsToSync, Popped, PopsKeys, PopsSome, Stays, TablesState, written_in}
 use Rattle.sync_tables.proofs.Popped.{is_pop}
 use Rattle.flight_board.specs.Board.{flown_at}

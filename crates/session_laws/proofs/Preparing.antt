@@ -18,16 +18,16 @@ use Rattle.ref_counts.specs.Registry.{Names}
 use Rattle.ref_counts.specs.Room.{RoomState}
 use Rattle.registry_laws.specs.Flown.{Flown}
 use Rattle.registry_laws.specs.Making.{IsNextCall, with_group_begun}
-use Rattle.identifier_laws.specs.Identified.{rid_or_zero, tie_by}
-use Rattle.core_laws.specs.Standing.{HasBegun, StandsFor}
-use Rattle.core_laws.proofs.Begun.{begun_once, stands_begun}
-use Rattle.core_laws.proofs.Due.{next_due}
-use Rattle.core_laws.proofs.Nexts.{knows_next, row_some}
-use Rattle.core_laws.proofs.Same.{stands_flown}
+use Rattle.registry_laws.specs.Identified.{rid_or_zero, tie_by}
+use Rattle.registry_laws.specs.Standing.{HasBegun, StandsFor}
+use Rattle.registry_laws.proofs.Core.Begun.{begun_once, stands_begun}
+use Rattle.registry_laws.proofs.Core.Due.{next_due}
+use Rattle.registry_laws.proofs.Core.Nexts.{knows_next, row_some}
+use Rattle.registry_laws.proofs.Core.Same.{stands_flown}
 use Rattle.asic_view.specs.View.{ViewObjects, rid_at}
 use Rattle.syncd_core.specs.Synced.{CanCall}
 use Rattle.syncd_core.specs.Tied.{rid_or_none, tie_of}
-use Rattle.tie_laws.proofs.Calls.{can-call}
+use Rattle.apply_laws.proofs.Tying.Calls.{can-call}
 use Rattle.restart_laws.specs.Logged.{LoggedService}
 use Rattle.flight_board.specs.Applied.{row_at}
 use Rattle.flight_board.specs.Board.{BoardState, FlightState, IsPrepared, IsCallReady, flight_at, flown_at}

@@ -17,9 +17,9 @@ use Rattle.chip_layout.specs.Renamed.{call_renamed}
 use Rattle.chip_layout.proofs.Renaming.{has_renamed}
 use Rattle.asic_view.specs.View.{ViewObjects, rid_at}
 use Rattle.syncd_core.specs.Synced.{AnswerFollows}
-use Rattle.core_laws.specs.Calls.{TiesFollowCall}
+use Rattle.registry_laws.specs.Calls.{TiesFollowCall}
 use Rattle.registry_laws.proofs.Listing.{not_some}
-use Rattle.tie_laws.specs.Following as tied
+use Rattle.apply_laws.specs.Following as tied
 use Rattle.session_laws.specs.Events.{vid_made_by}
 
 pub makes_on_chip : (f : Vid → Rid) (c : Call Vid) → makes_id (call_renamed f c) ≡ makes_id c

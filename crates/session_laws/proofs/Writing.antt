@@ -20,7 +20,7 @@ use Rattle.producer_table.specs.Pending.{ArePendingInOrder}
 use Rattle.restart_laws.specs.Logged.{LoggedService, OfService}
 use Rattle.restart_laws.specs.Service.{OfTake}
 use Rattle.asic_view.specs.View.{rid_at}
-use Rattle.core_laws.proofs.Empty.{stands_taken}
+use Rattle.registry_laws.proofs.Core.Empty.{stands_taken}
 use Rattle.sync_tables.specs.Tables.{tables_with_write, written_in}
 use Rattle.sync_tables.proofs.Waits.{takes_write}
 use Rattle.flight_board.specs.Board.{flown_at}

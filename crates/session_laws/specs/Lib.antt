@@ -1,3 +1,6 @@
 pub mod Core
 pub mod Events
 pub mod Standing
+pub mod Leading
+pub mod Turning
+pub mod Service

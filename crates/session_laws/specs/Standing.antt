@@ -12,8 +12,8 @@ use Rattle.switch_machine.specs.Written.{HasNoWrite}
 use Rattle.machine_laws.specs.Reading.{IsOnSwitch}
 use Rattle.restart_laws.specs.Logged.{LoggedService}
 use Rattle.asic_view.specs.View.{rid_at}
-use Rattle.tie_laws.specs.Ties.{AreTied}
-use Rattle.core_laws.specs.Standing.{StandsFor}
+use Rattle.apply_laws.specs.Ties.{AreTied}
+use Rattle.registry_laws.specs.Standing.{StandsFor}
 use Rattle.sync_tables.specs.Tables.{IsToSync, written_in}
 use Rattle.flight_board.specs.Applied.{row_at}
 use Rattle.flight_board.specs.Board.{flown_at}

@@ -32,7 +32,7 @@ ghost use Rattle.machine_laws.specs.Logged.{ListsKey, LogsMark};
 ghost use Rattle.machine_laws.specs.Reading.{IsOnSwitch};
 ghost use Rattle.registry_laws.specs.Flown.{Flown};
 ghost use Rattle.registry_laws.specs.Making.{IsNextCall, MayTakeFor};
-ghost use Rattle.core_laws.specs.Standing.{HasBegun};
+ghost use Rattle.registry_laws.specs.Standing.{HasBegun};
 ghost use Rattle.sync_tables.specs.Tables.{IsToSync, PopsKeys, PopsSome, TablesState};
 ghost use Rattle.syncd_core.specs.Synced.{CanCall, Calls, SyncState, current};
 ghost use Rattle.restart_laws.specs.Logged.{LoggedService, new_session, session_after, switch_of};

@@ -4,7 +4,7 @@ use Rattle.std.proofs.lemmas.List.{append_assoc, append-nil}
 use Rattle.table_schema.specs.declared.write.Sent.{Sent}
 use Rattle.table_schema.specs.declared.write.Write.{Write}
 use Rattle.session_laws.specs.Core.{CoreState, with_taken}
-use Rattle.restart_session_laws.specs.Events.{restarted}
+use Rattle.session_laws.specs.Service.Events.{restarted}
 use Rattle.swss_script.specs.Sections.{acts_of, restarts_of}
 use Rattle.swss_script.specs.Sent.{next_sent, restarts_in, sent_after, sent_in_round, writes_in}
 use Rattle.swss_script.specs.declared.parts.Act.{Act}

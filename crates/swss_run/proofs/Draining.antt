@@ -30,7 +30,7 @@ use Rattle.restart_laws.proofs.Logged.{HasBegun}
 use Rattle.restart_laws.proofs.Marking.{last-more}
 use Rattle.warm_state.specs.declared.warm.Warm.TheVariants as warm
 use Rattle.session_laws.specs.Core.{CoreState}
-use Rattle.settling_laws.specs.Leading.{SettlesTo}
+use Rattle.session_laws.specs.Leading.{SettlesTo}
 use Rattle.round_laws.specs.Sessions.{InSession}
 use Rattle.round_laws.proofs.Awaited.{last-true}
 use Rattle.round_laws.proofs.Drained.{settling-drains}

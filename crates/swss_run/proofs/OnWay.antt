@@ -9,7 +9,7 @@ use Rattle.switch_model.specs.History.{History, listed_by}
 use Rattle.switch_model.specs.declared.mark.Mark.{Mark}
 use Rattle.restart_laws.specs.Logged.{LoggedService}
 use Rattle.session_laws.specs.Core.{CoreState}
-use Rattle.restart_session_laws.specs.Events.{MakesMore}
+use Rattle.session_laws.specs.Service.Events.{MakesMore}
 use Rattle.round_laws.specs.Sessions.{InSession}
 use Rattle.round_laws.proofs.Growing.{effects-grow}
 use Rattle.round_laws.proofs.Sessions.{same-on, steps-on}

@@ -4,7 +4,7 @@ use Rattle.std.proofs.lemmas.List.{append_assoc, append-nil, length-append}
 use Rattle.table_schema.specs.declared.write.Sent.{Sent}
 use Rattle.switch_model.specs.declared.mark.MarkEvent.TheVariants as event
 use Rattle.session_laws.specs.Core.{CoreState, IsFullFor, mark_at, with_taken}
-use Rattle.restart_session_laws.specs.Events.{restarted}
+use Rattle.session_laws.specs.Service.Events.{restarted}
 use Rattle.swss_script.specs.declared.parts.Act.{Act}
 use Rattle.swss_run.specs.Taking.{AreCounted, Counts, IsMade, IsRestartMade, StaysWithin, acts_made, writes_among, with_made}
 use Rattle.swss_run.specs.declared.taking.Taken.{Taken}

@@ -26,8 +26,8 @@ use Rattle.restart_laws.specs.Logged.{LoggedService}
 use Rattle.syncd_core.specs.Synced.{SyncState}
 use Rattle.warm_state.specs.declared.warm.Warm.TheVariants as warm
 use Rattle.session_laws.specs.Core.{CoreState, IsFullFor, size_beside}
-use Rattle.restart_session_laws.specs.Events.{MakesMore}
-use Rattle.restart_session_laws.specs.Standing.{IsServiceOf}
+use Rattle.session_laws.specs.Service.Events.{MakesMore}
+use Rattle.session_laws.specs.Service.Standing.{IsServiceOf}
 use Rattle.round_laws.specs.Between.{IsInRound, mark_of, round_from}
 use Rattle.round_laws.specs.Ended.{LeavesSettled}
 use Rattle.round_laws.specs.Named.{keys_named}

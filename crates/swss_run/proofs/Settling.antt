@@ -30,11 +30,11 @@ use Rattle.warm_state.specs.declared.warm.Warm.{Warm}
 use Rattle.warm_state.specs.declared.warm.Warm.TheVariants as warm
 use Rattle.session_laws.specs.Core.{CoreState, IsFullFor, mark_at, size_beside}
 use Rattle.syncd_core.specs.Run.{tied_calls}
-use Rattle.restart_session_laws.specs.Built.{IsBuilt}
-use Rattle.restart_session_laws.specs.Events.{MakesMore}
-use Rattle.restart_session_laws.specs.Standing.{IsApplyingCore, written_of}
-use Rattle.restart_session_laws.proofs.Joining.{one-more}
-use Rattle.restart_session_laws.proofs.Popped.{none-waits, popped-all}
+use Rattle.session_laws.specs.Service.Built.{IsBuilt}
+use Rattle.session_laws.specs.Service.Events.{MakesMore}
+use Rattle.session_laws.specs.Service.Standing.{IsApplyingCore, written_of}
+use Rattle.session_laws.proofs.Service.Joining.{one-more}
+use Rattle.session_laws.proofs.Service.Popped.{none-waits, popped-all}
 use Rattle.round_laws.specs.Awaited.{AwaitsCall, HasRecorded}
 use Rattle.round_laws.specs.Named.{keys_named}
 use Rattle.round_laws.proofs.Awaited.{apply-awaited, call-awaited, keys-awaited, ops-few}

@@ -20,10 +20,10 @@ use Rattle.switch_machine.specs.Written.{Written}
 use Rattle.machine_laws.specs.Reading.{IsOnSwitch}
 use Rattle.warm_state.specs.declared.warm.Warm.TheVariants as warm
 use Rattle.session_laws.specs.Core.{CoreState, mark_at, with_taken}
-use Rattle.restart_session_laws.specs.Events.{restarted}
-use Rattle.restart_session_laws.specs.Standing.{IsAhead, written_of}
-use Rattle.restart_session_laws.proofs.Restarting.{restart-next}
-use Rattle.restart_session_laws.proofs.Taking.{taken-next}
+use Rattle.session_laws.specs.Service.Events.{restarted}
+use Rattle.session_laws.specs.Service.Standing.{IsAhead, written_of}
+use Rattle.session_laws.proofs.Service.Restarting.{restart-next}
+use Rattle.session_laws.proofs.Service.Taking.{taken-next}
 use Rattle.round_laws.specs.Between.{IsInRound}
 use Rattle.round_laws.specs.Sessions.{InSession}
 use Rattle.round_laws.proofs.Between.{round-takes}

@@ -9,7 +9,7 @@ use Rattle.swss_types.specs.declared.out_of_memory.OutOfMemory.{OutOfMemory}
 use Rattle.table_schema.specs.declared.write.Sent.{Sent}
 use Rattle.table_schema.specs.declared.write.Write.{Write}
 use Rattle.session_laws.specs.Core.{CoreState, IsFullFor, size_beside, with_taken}
-use Rattle.restart_session_laws.specs.Events.{restarted}
+use Rattle.session_laws.specs.Service.Events.{restarted}
 use Rattle.swss_script.specs.Given.{HasReadKey}
 use Rattle.swss_script.specs.Sent.{next_sent}
 use Rattle.swss_script.specs.declared.parts.Act.{Act}

@@ -1,10 +1,12 @@
 // Each file tests one subject; refused memory is tried by `rt try --test --fail-alloc N`, which refuses the Nth allocation.
 mod common;
+mod copies;
 mod fields;
 mod log;
 mod names;
 mod outside;
 mod pending;
+mod plans;
 mod queue;
 mod retry;
 mod rows;

@@ -1,7 +1,7 @@
 use Rattle.std.proofs.Common.{length, subst, sym}
 use Rattle.syncd_core.specs.Synced.{CanApply}
 use Rattle.session_laws.specs.Core.{CoreState, IsFullFor}
-use Rattle.restart_session_laws.proofs.Made.{can-next}
+use Rattle.session_laws.proofs.Service.Made.{can-next}
 use Rattle.orch_core.proofs.Answers.{never, with_sync}
 use Rattle.orch_core.proofs.OnWay.{applies_kept, apply_made}
 use Rattle.orch_core.proofs.state.Core.apply.Goals as goal

@@ -1,7 +1,7 @@
 use Rattle.std.proofs.Common.{◌≡◌, ◌⊎◌, length}
 use Rattle.restart_laws.specs.Logged.{LoggedService}
 use Rattle.warm_state.specs.declared.warm.Warm.TheVariants as warm
-use Rattle.restart_session_laws.specs.Standing.{IsServiceOf}
+use Rattle.session_laws.specs.Service.Standing.{IsServiceOf}
 use Rattle.orch_core.specs.ComingBack.{ComesTo}
 use Rattle.orch_core.proofs.Coming.{calls_to_apply}
 use Rattle.orch_core.proofs.state.Core.apply_all.Given as goal

@@ -1,31 +1,9 @@
-use Rattle.std.proofs.Common.{rules, ◌≡◌, ◌∙◌, ◌∷◌, ◌++◌, [], ap, subst, sym}
-use Rattle.std.proofs.lemmas.List.{append-nil, append_assoc, nil_from_length}
-use Rattle.std.specs.Map.{keys_of}
+use Rattle.std.proofs.Common.{subst, sym}
+use Rattle.std.specs.Prelude.{IsSome}
 use Rattle.sai_types.specs.Alike.{IsIn}
-use Rattle.restart_session_laws.specs.Built.{AreBareWaits}
-use Rattle.orch_core.proofs.Listings.{bare_one_more}
-use Rattle.orch_core.proofs.OnWay.{if_ok}
-use Rattle.orch_core.proofs.Turns.{in_middle}
+use Rattle.retry_list.specs.Reasons.{reason_at}
+use Rattle.session_laws.specs.Core.{CoreState}
 use Rattle.orch_core.proofs.state.Core.bare_list.Goals as goal
 
-pub loop-key-init : goal.loop-key-init
-loop-key-init c = ([], search rules, subst (AreBareWaits c.args.self.now.waiting []) (sym c.in_ok-waits.ensures.items) tt)
-
-pub bare_listing-requires : goal.bare_listing-requires
-bare_listing-requires c =
-    let left : c.loop-key.key-iterator.rest.items ≡ c.in-Some.key ∷ c.next.new.self.rest.items = search rules in
-    record { listed = c.requires.listed c.in-Some.key (subst (IsIn c.in-Some.key) (sym (c.loop-key.invariant.1 ∙ ap (λ l. c.loop-key.invariant.0 ++ l) left)) (in_middle c.loop-key.invariant.0 c.next.new.self.rest.items c.in-Some.key)) }
-
-pub loop-key-preserved : goal.loop-key-preserved
-loop-key-preserved c =
-    let left : c.loop-key.key-iterator.rest.items ≡ c.in-Some.key ∷ c.next.new.self.rest.items = search rules in (
-      c.loop-key.invariant.0 ++ c.in-Some.key ∷ [],
-      c.loop-key.invariant.1 ∙ ap (λ l. c.loop-key.invariant.0 ++ l) left ∙ sym (append_assoc c.loop-key.invariant.0 (c.in-Some.key ∷ []) c.next.new.self.rest.items),
-      bare_one_more c.args.self.now.waiting c.loop-key.invariant.0 c.loop-key.waits.items c.push.new.self.items c.in-Some.key c.in_ok-bare_listing.field-0 c.in_ok-push.ensures.items c.loop-key.invariant.2 c.in_ok-bare_listing.ensures,
-    )
-
-pub returns : goal.returns
-returns c =
-    let none : c.loop-key.key-iterator.rest.items ≡ [] = nil_from_length c.loop-key.key-iterator.rest.items (sym c.loop-key.key-iterator.rest.ok.0 ∙ c.in-None.ensures.steps.0) in
-    let all = c.loop-key.invariant.1 ∙ ap (λ l. c.loop-key.invariant.0 ++ l) none ∙ append-nil c.loop-key.invariant.0 in
-    if_ok c.from_vec.result (λ list same. subst (AreBareWaits c.args.self.now.waiting (keys_of c.args.self.now.tables.ops)) (sym same) (subst (λ l. AreBareWaits c.args.self.now.waiting l c.loop-key.waits.items) (sym all) c.loop-key.invariant.2)) c.from_vec.ensures
+pub list_bare-requires : goal.list_bare-requires
+list_bare-requires c = record { listed = λ k i. subst (λ (z : CoreState). IsSome (reason_at z.waiting k)) (sym c.self.view_is) (c.requires.listed k (subst (IsIn k) c.in_ok-keys.ensures.keys i)) }

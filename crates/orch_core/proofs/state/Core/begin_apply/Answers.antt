@@ -3,7 +3,7 @@ use Rattle.switch_model.specs.History.{with_mark}
 use Rattle.warm_state.specs.declared.warm.Warm.TheVariants as warm
 use Rattle.session_laws.specs.Core.{CoreState}
 use Rattle.syncd_core.specs.Begun.{Begins, CanBegin}
-use Rattle.restart_session_laws.proofs.Restoring.{can-begin}
+use Rattle.session_laws.proofs.Service.Restoring.{can-begin}
 use Rattle.orch_core.proofs.Answers.{never}
 use Rattle.orch_core.proofs.GoingOver.{built_listed}
 use Rattle.orch_core.proofs.Restores.{begun, full_for}

@@ -5,7 +5,7 @@ use Rattle.table_schema.specs.Rows.{fields_at}
 use Rattle.sai_types.specs.Alike.{IsIn}
 use Rattle.sync_tables.specs.Tables.{TablesState}
 use Rattle.session_laws.specs.Core.{CoreState}
-use Rattle.restart_session_laws.specs.Built.{building}
+use Rattle.session_laws.specs.Service.Built.{building}
 use Rattle.orch_core.specs.contracts.state.Core.{the_view}
 use Rattle.orch_core.proofs.state.Core.begin_view.Goals as goal
 

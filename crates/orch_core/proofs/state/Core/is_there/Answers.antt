@@ -8,7 +8,7 @@ use Rattle.orch_core.proofs.state.Core.is_there.Goals as goal
 pub returns-then-is_none-clause-there : goal.returns-then-is_none-clause-there
 returns-then-is_none-clause-there c = λ h. (
   subst (λ (z : CoreState). IsUnflown z.board c.args.key.now) c.self.view_is (none_then c.worker_of.result c.if-is_none.ensures c.worker_of.ensures.none),
-  ap (λ (z : CoreState). row_at z.board.applied c.args.key.now) (sym c.self.view_is) ∙ sym c.row.ensures ∙ c.is_same.ensures.0 h,
+  ap (λ (z : CoreState). row_at z.board.applied c.args.key.now) (sym c.self.view_is) ∙ c.has_row.ensures.0 h,
 )
 
 pub returns-else-is_none-clause-other : goal.returns-else-is_none-clause-other

@@ -2,7 +2,7 @@ use Rattle.std.proofs.Common.{◌≡◌, refl, subst}
 use Rattle.syncd_core.specs.Synced.{SyncState, TakesList}
 use Rattle.session_laws.specs.Core.{CoreState}
 use Rattle.orch_core.specs.contracts.state.Core.{the_view}
-use Rattle.orch_core.proofs.OnWay.{if_ok}
+use Rattle.mark_lists.proofs.Listings.{if_ok}
 use Rattle.orch_core.proofs.state.Core.list_chip.Goals as goal
 
 pub returns-clause-ok : goal.returns-clause-ok

@@ -1,7 +1,7 @@
 use Rattle.std.proofs.Common.{◌≡◌, ◌∙◌, Ok, ap, length, subst, sym, arith}
 use Rattle.std.specs.Map.{keys_of}
 use Rattle.std.proofs.lemmas.List.{nil_from_length}
-use Rattle.settling_laws.proofs.Turned.{turned_empty, turned_more, turned_none, turned_still}
+use Rattle.session_laws.proofs.Settling.Turned.{turned_empty, turned_more, turned_none, turned_still}
 use Rattle.orch_core.specs.Settled.{MakesTurn}
 use Rattle.orch_core.proofs.Chips.{keeps_itself, keeps_on}
 use Rattle.orch_core.proofs.Turns.{turn_fewer, turns_err, turns_faulted, turns_full, turns_short}

@@ -2,7 +2,7 @@ use Rattle.std.proofs.Common.{◌≡◌, ◌+◌, ◌<◌, ◌≤◌, ◌^◌, l
 use Rattle.std.specs.Map.{keys_of}
 use Rattle.restart_laws.specs.Logged.{LoggedService}
 use Rattle.session_laws.specs.Standing.{IsSessionOf}
-use Rattle.settling_laws.specs.Turning.{IsTurned}
+use Rattle.session_laws.specs.Turning.{IsTurned}
 use Rattle.orch_core.specs.Outcomes.{KeepsChip}
 use Rattle.orch_core.proofs.state.Core.make_turns.Given as goal
 

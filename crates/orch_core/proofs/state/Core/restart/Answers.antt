@@ -1,6 +1,6 @@
 use Rattle.std.proofs.Common.{◌∙◌, ap, subst, sym}
-use Rattle.restart_session_laws.specs.Events.{MakesNext, restarted}
-use Rattle.restart_session_laws.proofs.Restarting.{restart-next}
+use Rattle.session_laws.specs.Service.Events.{MakesNext, restarted}
+use Rattle.session_laws.proofs.Service.Restarting.{restart-next}
 use Rattle.orch_core.specs.Restarting.{forgotten_core}
 use Rattle.orch_core.proofs.state.Core.restart.Goals as goal
 

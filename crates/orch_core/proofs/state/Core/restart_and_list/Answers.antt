@@ -1,6 +1,6 @@
 use Rattle.std.proofs.Common.{◌∙◌, ap, refl, subst}
 use Rattle.session_laws.specs.Core.{IsFullFor}
-use Rattle.restart_session_laws.specs.Events.{restarted}
+use Rattle.session_laws.specs.Service.Events.{restarted}
 use Rattle.orch_core.specs.Restarting.{MarksRestart}
 use Rattle.orch_core.proofs.Coming.{away, out_on, restart_comes, restart_full, short_now, stays_same}
 use Rattle.orch_core.proofs.state.Core.restart_and_list.Goals as goal

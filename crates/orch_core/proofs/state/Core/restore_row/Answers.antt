@@ -2,8 +2,8 @@ use Rattle.std.proofs.Common.{◌∙◌, refl, subst, sym}
 use Rattle.flight_board.specs.Applied.{row_at}
 use Rattle.flight_board.specs.Board.{IsBegunFor}
 use Rattle.orch_flight.specs.Sharing.{MayStart}
-use Rattle.restart_session_laws.specs.Built.{IsBuilt}
-use Rattle.restart_session_laws.proofs.Building.{built-drop, may-begin}
+use Rattle.session_laws.specs.Service.Built.{IsBuilt}
+use Rattle.session_laws.proofs.Service.Building.{built-drop, may-begin}
 use Rattle.orch_core.proofs.Answers.{never}
 use Rattle.orch_core.proofs.GoingOver.{key_begun, key_waits}
 use Rattle.orch_core.proofs.state.Core.restore_row.Goals as goal

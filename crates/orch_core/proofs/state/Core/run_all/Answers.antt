@@ -1,5 +1,5 @@
 use Rattle.std.proofs.Common.{rules, ◌∙◌, Ok, ap, subst, arith}
-use Rattle.settling_laws.proofs.Running.{runs_both}
+use Rattle.session_laws.proofs.Settling.Running.{runs_both}
 use Rattle.orch_core.specs.Settled.{RunsOut}
 use Rattle.orch_core.proofs.Chips.{keeps_on}
 use Rattle.orch_core.proofs.Runs.{all_err, all_short, all_stops, beside_on, free_on, still_on}

@@ -2,7 +2,7 @@ use Rattle.std.proofs.Common.{◌≡◌, ◌<◌, ◌≤◌, ℕ, None}
 use Rattle.restart_laws.specs.Logged.{LoggedService}
 use Rattle.flight_board.specs.Board.{flown_at}
 use Rattle.session_laws.specs.Standing.{IsSessionOf}
-use Rattle.settling_laws.specs.Leading.{RunsTo}
+use Rattle.session_laws.specs.Leading.{RunsTo}
 use Rattle.orch_core.specs.Outcomes.{IsSameBeside, KeepsChip}
 use Rattle.orch_core.proofs.state.Core.run_all.Given as goal
 

@@ -1,7 +1,7 @@
 use Rattle.std.proofs.Common.{◌≡◌, List}
 use Rattle.table_schema.specs.declared.key.Key.{Key}
 use Rattle.session_laws.specs.Core.{CoreState}
-use Rattle.restart_session_laws.specs.Built.{IsBringing}
+use Rattle.session_laws.specs.Service.Built.{IsBringing}
 use Rattle.orch_core.specs.Restarting.{calls_left}
 use Rattle.orch_core.proofs.state.Core.run_on_view.Given as goal
 

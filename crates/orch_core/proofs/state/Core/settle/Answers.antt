@@ -1,5 +1,5 @@
 use Rattle.std.proofs.Common.{◌∙◌, Ok, ap, subst}
-use Rattle.restart_session_laws.proofs.Sessions.{session-of}
+use Rattle.session_laws.proofs.Service.Sessions.{session-of}
 use Rattle.orch_core.specs.ComingBack.{Back, ComesOut, Stopped}
 use Rattle.orch_core.proofs.Coming.{settles_short}
 use Rattle.orch_core.proofs.state.Core.settle.Goals as goal

@@ -1,5 +1,5 @@
 use Rattle.std.proofs.Common.{◌∙◌, subst, sym}
-use Rattle.restart_session_laws.proofs.Sessions.{session-of}
+use Rattle.session_laws.proofs.Service.Sessions.{session-of}
 use Rattle.orch_core.specs.Restarting.{StepsFrom}
 use Rattle.orch_core.proofs.state.Core.step.Goals as goal
 

@@ -4,8 +4,8 @@ use Rattle.sync_tables.specs.Tables.{tables_with_write}
 use Rattle.session_laws.specs.Core.{CoreState, with_taken}
 use Rattle.session_laws.specs.Events.{MakesOne}
 use Rattle.session_laws.proofs.Writing.{write_step}
-use Rattle.restart_session_laws.specs.Events.{MakesNext}
-use Rattle.restart_session_laws.proofs.Taking.{taken-next}
+use Rattle.session_laws.specs.Service.Events.{MakesNext}
+use Rattle.session_laws.proofs.Service.Taking.{taken-next}
 use Rattle.orch_core.specs.contracts.state.Core.{the_view}
 use Rattle.orch_core.proofs.state.Core.take.Goals as goal
 

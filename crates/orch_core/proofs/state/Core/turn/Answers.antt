@@ -5,7 +5,7 @@ use Rattle.table_schema.specs.declared.key.Key.{Key}
 use Rattle.sai_types.specs.ChipState.{ChipState}
 use Rattle.restart_laws.specs.Logged.{LoggedService}
 use Rattle.session_laws.specs.Core.{CoreState}
-use Rattle.settling_laws.specs.Turning.{IsTurning}
+use Rattle.session_laws.specs.Turning.{IsTurning}
 use Rattle.orch_core.specs.Outcomes.{KeepsChip}
 use Rattle.orch_core.specs.Settled.{Brings}
 use Rattle.orch_core.proofs.Turns.{turn_err, turn_first, turn_key, turn_next, turn_short, turn_stops}

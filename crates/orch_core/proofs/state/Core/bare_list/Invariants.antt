@@ -1,9 +1,0 @@
-use Rattle.std.proofs.Common.{◌≡◌, ◌++◌, List}
-use Rattle.std.specs.Map.{keys_of}
-use Rattle.table_schema.specs.declared.key.Key.{Key}
-use Rattle.restart_session_laws.specs.Built.{AreBareWaits}
-use Rattle.orch_core.proofs.state.Core.bare_list.Given as goal
-
--- the keys up to this one are listed
-abbrev pub invariant-loop-key : goal.invariant-loop-key
-invariant-loop-key l = (done : List Key) × (keys_of l.self.tables.ops ≡ done ++ l.key-iterator.rest.items) × AreBareWaits l.self.waiting done l.waits.items

@@ -1,5 +1,0 @@
-use Rattle.order_laws.proofs.Viewing.{laid_things, shown-of, view-of}
-use Rattle.order_laws.proofs.laws.views_are_laid_out.Goals as goal
-
-pub returns : goal.returns
-returns c = λ made objects new m. (laid_things m, view-of m, shown-of m)

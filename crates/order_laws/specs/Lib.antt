@@ -1,2 +1,0 @@
-pub mod Apply
-pub mod Viewed

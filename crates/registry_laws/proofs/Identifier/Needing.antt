@@ -1,0 +1,170 @@
+-- which identifiers a change needs: those of rows that are named, of what is shared, and of its own name
+use Rattle.std.proofs.Common.{◌≡◌, ◌∷◌, ◌++◌, ◌∙◌, inl, inr, true, List, [], map, Option, None, Some, refl, sym, ap, subst}
+use Rattle.std.specs.BTreeSet.{insert_key}
+use Rattle.std.specs.Prelude.{IsSome}
+use Rattle.swss_types.specs.declared.address.Prefix as key_prefix
+use Rattle.swss_types.specs.declared.interface.IfName.{IfName}
+use Rattle.swss_types.specs.declared.interface.IfName.TheVariants as on
+use Rattle.swss_types.proofs.Proper.{mapped}
+use Rattle.table_schema.specs.Names.{base_names, names_of}
+use Rattle.table_schema.specs.Plan.{Ports}
+use Rattle.table_schema.specs.declared.key.Key.{Key}
+use Rattle.table_schema.specs.declared.key.Key.TheVariants as key
+use Rattle.table_schema.specs.declared.row.Row.{Row}
+use Rattle.table_schema.specs.declared.row.Row.TheVariants as row
+use Rattle.table_schema.specs.declared.row.RouteRow.{RouteRow}
+use Rattle.table_schema.specs.declared.row.RouteRow.TheVariants as route
+use Rattle.table_schema.specs.declared.row_hop.RowHop.{RowHop}
+use Rattle.sai_types.specs.declared.hop.Base.{Base}
+use Rattle.sai_types.specs.declared.hop.Base.TheVariants as base
+use Rattle.sai_types.specs.declared.hop.Hop.{Hop}
+use Rattle.sai_types.specs.declared.thing.Goal.{Goal}
+use Rattle.sai_types.specs.declared.thing.Goal.TheVariants as goal
+use Rattle.sai_types.specs.declared.thing.Thing.{Thing}
+use Rattle.sai_types.specs.declared.thing.Thing.TheVariants as thing
+use Rattle.sai_types.specs.Alike.{IsIn}
+use Rattle.sai_types.specs.Named.{hop_cmp}
+use Rattle.sai_types.specs.Names as thing_name
+use Rattle.sai_types.specs.Names.{ThingName, name_kind, name_of}
+use Rattle.sai_types.proofs.Things.{both_mapped}
+use Rattle.sai_types.proofs.Membership.{all-in}
+use Rattle.switch_model.specs.Things.{base_of, hop_of, hops_of, lane_of}
+use Rattle.chip_layout.specs.Bodies.{is_numbered}
+use Rattle.row_layout.specs.Rows as owner
+use Rattle.row_layout.specs.Rows.{Owner, goal_to, goal_of, own_things}
+use Rattle.row_layout.specs.Shared.{shared_things, uses}
+use Rattle.row_layout.proofs.Members.{from_in, in_map, only, two}
+use Rattle.switch_machine.specs.Flights.{Fits, own_names}
+use Rattle.switch_machine.proofs.Tabled.{group_use, member_of, in_from}
+use Rattle.ref_counts.specs.declared.name.Name as registry_name
+use Rattle.ref_counts.specs.declared.name.Name.TheVariants as name
+use Rattle.ref_counts.specs.Registered.{first_of}
+use Rattle.ref_counts.specs.Registry.{Names, ids_of}
+use Rattle.orch_flight.specs.Calling.{HaveIds, entered, pointed, referred}
+use Rattle.orch_flight.specs.Needing.{name_for}
+use Rattle.registry_laws.proofs.Listing.{map_in, not_some}
+use Rattle.registry_laws.proofs.Launched.{use_is}
+use Rattle.registry_laws.proofs.Identifier.Owning.{IsFirst}
+
+-- each hop of a route's row is on an interface of the plan
+same_hop_base : (plan : Ports) (x h : RowHop) (b : Hop) → hop_of plan x ≡ Some b → h ≡ x → (c : Base) × (base_of plan h.on ≡ Some c)
+same_hop_base plan x h b at same =
+    let m = mapped (λ c. record { on = c; ip = x.ip }) (base_of plan x.on) b at in
+    (m.0, ap (λ (z : RowHop). base_of plan z.on) same ∙ m.1)
+
+hops_based : (plan : Ports) (hops : List RowHop) (group : List Hop) (h : RowHop) → hops_of plan hops ≡ Some group → IsIn h hops → (c : Base) × (base_of plan h.on ≡ Some c)
+hops_based plan [] group h e i = elim i [ ]
+hops_based plan (x ∷ xs) group h e (inl same) =
+    let parts = both_mapped (insert_key hop_cmp) (hops_of plan xs) (hop_of plan x) group e in
+    same_hop_base plan x h parts.1 parts.3 same
+hops_based plan (x ∷ xs) group h e (inr more) =
+    let parts = both_mapped (insert_key hop_cmp) (hops_of plan xs) (hop_of plan x) group e in
+    hops_based plan xs parts.0 h parts.2 more
+
+some_hops : (o : Option (List Hop)) (g : Goal) → goal_to o ≡ Some g → (group : List Hop) × (o ≡ Some group)
+some_hops None g h = not_some g h
+some_hops (Some hops) g h = (hops, refl)
+
+-- the registry has an identifier of a name
+abbrev pub IsKnown : Names → registry_name.Name → Type 0
+IsKnown names n = IsSome (first_of (ids_of names n))
+
+pub both_known : (names : Names) (ns ms : List registry_name.Name) → HaveIds names ns → HaveIds names ms → HaveIds names (ns ++ ms)
+both_known names [] ms x y = y
+both_known names (n ∷ ns) ms x y = (x.0, both_known names ns ms x.1 y)
+
+-- of rows that this row names, and of what it shares
+module _ (plan : Ports) (names : Names) (k : Key) (r : Row) where
+  abbrev pub RowsKnown : Type 0
+  RowsKnown = (p : Key) (n : ThingName) → IsIn p (names_of k r) → IsIn n (own_names plan p) → is_numbered (name_kind n) ≡ true → IsFirst n → IsKnown names (name.Row p)
+
+  abbrev pub SharedKnown : Type 0
+  SharedKnown = (o : Owner) (x : Thing) → IsIn o (uses plan k r) → IsIn x (shared_things o) → is_numbered (name_kind (name_of x)) ≡ true → IsFirst (name_of x) → IsKnown names (name_for o)
+
+module _ (plan : Ports) (names : Names) where
+  interface_known : (i : IfName) (r : Row) (b : Base) → base_of plan i ≡ Some b → RowsKnown plan names (key.Intf i) r → HaveIds names (map name.Row (base_names i))
+  interface_known (on.Ethernet p) r b at rows =
+      let m = mapped base.Port (lane_of plan p) b at in
+      (rows (key.Port p) (thing_name.Port m.0) (inl refl) (in_from (lane_of plan p) (λ l. thing_name.Port l ∷ []) m.0 (thing_name.Port m.0) m.1 (inl refl)) refl tt, tt)
+  interface_known (on.Vlan v) r b at rows = (rows (key.Vlan v) (thing_name.Vlan v) (inl refl) (inl refl) refl tt, tt)
+  interface_known (on.Loopback l) r b at rows = tt
+
+  rif_known : (k : Key) (r : Row) (i : IfName) (b : Base) → base_of plan i ≡ Some b → IsIn (key.Intf i) (names_of k r) → RowsKnown plan names k r → HaveIds names (name.Row (key.Intf i) ∷ [])
+  rif_known k r i b at h rows = (rows (key.Intf i) (thing_name.Rif b) h (in_from (base_of plan i) (λ c. thing_name.Rif c ∷ []) b (thing_name.Rif b) at (inl refl)) refl tt, tt)
+
+  hops_known : (prefix : key_prefix.Prefix) (hops : List RowHop) (g : Goal) → goal_to (hops_of plan hops) ≡ Some g → RowsKnown plan names (key.Route prefix) (row.Route (route.Hops hops)) → HaveIds names (map (λ h. name.Row (key.Neigh h.on h.ip)) hops)
+  hops_known prefix hops g at rows = all-in (IsKnown names) (map (λ (h : RowHop). name.Row (key.Neigh h.on h.ip)) hops) (λ n i. by n (map_in (λ (h : RowHop). name.Row (key.Neigh h.on h.ip)) n hops i))
+    where
+      group : (group : List Hop) × (hops_of plan hops ≡ Some group)
+      group = some_hops (hops_of plan hops) g at
+
+      by : (n : registry_name.Name) → (h : RowHop) × IsIn h hops × (n ≡ name.Row (key.Neigh h.on h.ip)) → IsKnown names n
+      by n (h, i, same) =
+          let b = hops_based plan hops group.0 h group.1 i in
+          let hop : Hop = record { on = b.0; ip = h.ip } in
+          subst (IsKnown names) (sym same) (rows (key.Neigh h.on h.ip) (thing_name.NextHop hop) (in_map (λ (z : RowHop). key.Neigh z.on z.ip) h hops i) (in_from (base_of plan h.on) (λ c. thing_name.Neighbor (record { on = c; ip = h.ip }) ∷ thing_name.NextHop (record { on = c; ip = h.ip }) ∷ []) b.0 (thing_name.NextHop hop) b.1 (inr (inl refl))) refl tt)
+
+  -- what a route's row points at
+  pub pointed_known : (prefix : key_prefix.Prefix) (r : RouteRow) (g : Goal) → goal_of plan r ≡ Some g → RowsKnown plan names (key.Route prefix) (row.Route r) → SharedKnown plan names (key.Route prefix) (row.Route r) → HaveIds names (pointed (Some (row.Route r)) g)
+  pointed_known prefix route.Drop g at rows shared = tt
+  pointed_known prefix (route.Direct i) g at rows shared =
+      let m = mapped goal.Direct (base_of plan i) g at in
+      rif_known (key.Route prefix) (row.Route (route.Direct i)) i m.0 m.1 (inl refl) rows
+  pointed_known prefix (route.Hops hops) (goal.Group group) at rows shared = (shared (owner.Group group) (thing.Group group) (use_is (hops_of plan hops) group at) (inl refl) refl tt, tt)
+  pointed_known prefix (route.Hops hops) g at rows shared = hops_known prefix hops g at rows
+
+  -- what a thing of the row refers to
+  pub referred_known : (k : Key) (r : Row) (t : Thing) → Fits plan k r → IsIn t (own_things plan k r) → RowsKnown plan names k r → SharedKnown plan names k r → HaveIds names (referred k (Some r) t)
+  referred_known (key.Port p) (row.Port r) t fit h rows shared = tt
+  referred_known (key.Vlan v) row.Vlan t fit h rows shared = tt
+  referred_known (key.Member v p) (row.Member tagging) t fit h rows shared =
+      let m = from_in (lane_of plan p) _ t h in
+      only (λ z. HaveIds names (referred (key.Member v p) (Some (row.Member tagging)) z)) t (thing.VlanMember v m.0 tagging) (
+        rows (key.Vlan v) (thing_name.Vlan v) (inl refl) (inl refl) refl tt,
+        (shared (owner.Bridge m.0) (thing.BridgePort m.0) (in_from (lane_of plan p) (λ l. owner.Bridge l ∷ []) m.0 (owner.Bridge m.0) m.1 (inl refl)) (inl refl) refl tt, tt),
+      ) m.2
+  referred_known (key.Intf i) row.Intf t fit h rows shared =
+      let m = from_in (base_of plan i) _ t h in
+      only (λ z. HaveIds names (referred (key.Intf i) (Some row.Intf) z)) t (thing.Rif m.0) (interface_known i row.Intf m.0 m.1 rows) m.2
+  referred_known (key.Neigh i ip) (row.Neigh mac) t fit h rows shared =
+      let m = from_in (base_of plan i) _ t h in
+      let on = rif_known (key.Neigh i ip) (row.Neigh mac) i m.0 m.1 (inl refl) rows in
+      two (λ z. HaveIds names (referred (key.Neigh i ip) (Some (row.Neigh mac)) z)) t (thing.Neighbor (record { on = m.0; ip = ip }) mac) (thing.NextHop (record { on = m.0; ip = ip })) on on m.2
+  referred_known (key.Route prefix) (row.Route r) t fit h rows shared =
+      let m = from_in (goal_of plan r) _ t h in
+      only (λ z. HaveIds names (referred (key.Route prefix) (Some (row.Route r)) z)) t (thing.Route prefix m.0) (pointed_known prefix r m.0 m.1 rows shared) m.2
+  referred_known k r t fit h rows shared = elim h [ ]
+
+  -- and a thing that it shares
+  pub shared_referred : (k : Key) (r : Row) (o : Owner) (t : Thing) → IsIn o (uses plan k r) → IsIn t (shared_things o) → Fits plan k r → RowsKnown plan names k r → HaveIds names (referred k (Some r) t)
+  shared_referred (key.Member v p) (row.Member tagging) o t h in_it fit rows =
+      let m = from_in (lane_of plan p) _ o h in
+      only (λ o. IsIn t (shared_things o) → HaveIds names (referred (key.Member v p) (Some (row.Member tagging)) t)) o (owner.Bridge m.0) (λ y. only (λ z. HaveIds names (referred (key.Member v p) (Some (row.Member tagging)) z)) t (thing.BridgePort m.0) (
+        rows (key.Port p) (thing_name.Port m.0) (inr (inl refl)) (in_from (lane_of plan p) (λ l. thing_name.Port l ∷ []) m.0 (thing_name.Port m.0) m.1 (inl refl)) refl tt,
+        tt,
+      ) y) m.2 in_it
+  shared_referred (key.Addr i ip len) row.Addr o t h in_it fit rows = tt
+  shared_referred (key.Route prefix) (row.Route (route.Hops hops)) o t h in_it fit rows =
+      let x = group_use o (hops_of plan hops) h in
+      of_group x.0 (subst (λ o. IsIn t (shared_things o)) x.2 in_it)
+    where
+      of_group : (group : List Hop) → IsIn t (shared_things (owner.Group group)) → HaveIds names (referred (key.Route prefix) (Some (row.Route (route.Hops hops))) t)
+      of_group group (inl e) = subst (λ z. HaveIds names (referred (key.Route prefix) (Some (row.Route (route.Hops hops))) z)) (sym e) tt
+      of_group group (inr y) = let m = member_of group group t y in subst (λ z. HaveIds names (referred (key.Route prefix) (Some (row.Route (route.Hops hops))) z)) (sym m.2) tt
+  shared_referred (key.Route prefix) (row.Route route.Drop) o t h in_it fit rows = elim h [ ]
+  shared_referred (key.Route prefix) (row.Route (route.Direct i)) o t h in_it fit rows = elim h [ ]
+  shared_referred k r o t h in_it fit rows = elim h [ ]
+
+-- ---- by what a thing is named itself
+
+-- but for a neighbour, which is named by its interface
+abbrev pub entered_by : Key → ThingName → List registry_name.Name
+entered_by k (thing_name.BridgePort lane) = name.BridgePort lane ∷ []
+entered_by k (thing_name.Own ip) = []
+entered_by k (thing_name.Route prefix) = []
+entered_by k n = name.Row k ∷ []
+
+pub entered_other : (k : Key) (n : ThingName) → ((hop : Hop) → n ≡ thing_name.Neighbor hop → ⊥) → entered k n ≡ entered_by k n
+entered_other (key.Neigh i ip) (thing_name.Neighbor hop) other = absurd (other hop refl)
+entered_other (key.Neigh i ip) _ other = refl
+entered_other k n other = refl

@@ -1,8 +1,0 @@
-use Rattle.settling_laws.proofs.Popping.{pops_more, pops_none}
-use Rattle.settling_laws.proofs.laws.pops_go_on.Goals as goal
-
-pub returns-clause-none : goal.returns-clause-none
-returns-clause-none c = pops_none
-
-pub returns-clause-more : goal.returns-clause-more
-returns-clause-more c = pops_more

@@ -1,5 +1,0 @@
-use Rattle.tie_laws.proofs.Calls.{ties-after}
-use Rattle.tie_laws.proofs.laws.ties_stay.Goals as goal
-
-pub returns : goal.returns
-returns c = λ view view' made objects capacities call answer a tied whole legal follows. ties-after view made objects tied whole capacities call legal view' answer a follows

@@ -1,4 +1,0 @@
-pub mod Following
-pub mod Named
-pub mod Standing
-pub mod Ties
