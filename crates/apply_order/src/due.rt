@@ -1,10 +1,11 @@
 // The steps that are due, with their turns.
-ghost use Rattle.std.specs.Prelude.{◌≡◌, ◌++◌, length, IfOk, OnOk};
+ghost use Rattle.std.specs.Prelude.{◌≡◌, ◌++◌, ◌∷◌, List, length, IfOk, OnOk};
 ghost use Rattle.std.specs.List.Sorted.{IsPermutation, IsSorted};
 ghost use Rattle.view_match.specs.Keyed.{AreNaturalKeysOf};
 ghost use Rattle.apply_order.specs.Due.{due_steps, entry_number, needed, new_step, new_steps, old_step, old_steps, paired_in};
 ghost use Rattle.apply_order.specs.Places.{IsTable, Places, by_new, by_old};
 ghost use Rattle.apply_order.specs.Ranks.{timed_cmp};
+ghost use Rattle.apply_order.specs.declared.ranks.Timed.{Timed};
 
 use crate::calls::is_needed;
 use crate::naming::Names;
@@ -12,6 +13,7 @@ use crate::places::{Partners, by_new, by_old, partner};
 use crate::ranks::{PlanStep, Timed, make_rank, remove_rank, set_rank};
 use sai_types::{Entry, Mode, Object, Rid, Vid};
 use std::alloc::Global;
+use std::mem::drop;
 use swss_types::OutOfMemory;
 use view_match::{NaturalKey, NaturalKeys};
 
@@ -83,10 +85,26 @@ fn push_new(
     for key in keys {
         let at = place as u64;
         let step = new_step(mode, key, &new[place], at, partner(paired, place));
-        if is_needed(names, old, new, step.step) {
-            steps.push(step)?;
-        }
+        push_needed(names, old, new, step, steps)?;
         place += 1;
+    }
+    Ok(())
+}
+
+/// Puts a step, if it has anything to do.
+fn push_needed(
+    names: &Names,
+    old: &[Object<Rid>],
+    new: &[Object<Vid>],
+    step: Timed,
+    steps: &mut Vec<Timed>,
+) -> Result<(), OutOfMemory>
+    ensures { OnOk result ((rest : List Timed) → steps.new.items ++ needed names.now old.now new.now rest ≡ steps.old.items ++ needed names.now old.now new.now (step ∷ rest)) }
+{
+    if is_needed(names, old, new, step.step) {
+        steps.push(step)?;
+    } else {
+        drop(step);
     }
     Ok(())
 }

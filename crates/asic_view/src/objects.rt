@@ -61,6 +61,8 @@ pub struct Objects {
     places: Places,
     full: usize,
     made: u64,
+    // for how many the first makes room
+    expected: usize,
 }
 
 impl Model for Objects {
@@ -74,14 +76,15 @@ impl Model for Objects {
 }
 
 impl Objects {
-    /// No object.
-    pub fn new(alloc: Global) -> Objects
+    /// No object. The first makes room for so many.
+    pub fn expecting(alloc: Global, expected: usize) -> Objects
         ensures { result ≡ record { made = 0; objects = [] } }
     {
         Objects {
             places: IndexMap::new(alloc),
             full: 0,
             made: 0,
+            expected,
         }
     }
 
@@ -107,11 +110,32 @@ impl Objects {
         ensures ok { OnOk result (self.new ≡ record { made = vid.0; objects = after_create self.old.objects vid body }) }
         ensures err { OnErr result (self.new ≡ self.old) }
     {
+        self.make_room()?;
+        self.place(vid, body)
+    }
+
+    // The same, where room was made.
+    fn place(&mut self, vid: Vid, body: Body<Vid>) -> Result<(), OutOfMemory>
+        requires { self.old.made < vid.0 }
+        ensures ok { OnOk result (self.new ≡ record { made = vid.0; objects = after_create self.old.objects vid body }) }
+        ensures err { OnErr result (self.new ≡ self.old) }
+    {
         let _few = self.places.len();
         self.places
             .insert(vid.0, Some(ViewObject { body, rid: None }))?;
         self.full += 1;
         self.made = vid.0;
+        Ok(())
+    }
+
+    // Makes room for as many objects as are expected, once.
+    fn make_room(&mut self) -> Result<(), OutOfMemory>
+        ensures { self.new ≡ self.old }
+    {
+        if self.expected > 0 {
+            self.places.reserve(self.expected)?;
+            self.expected = 0;
+        }
         Ok(())
     }
 

@@ -8,6 +8,7 @@ ghost use Rattle.ref_counts.specs.Registered.{IsReadable, first_of, least_worker
 use crate::claims::Claims;
 use std::alloc::Global;
 use std::marker::Model;
+use std::mem::{drop, replace};
 use swss_types::OutOfMemory;
 use table_schema::Key;
 
@@ -63,11 +64,25 @@ impl BoxedClaims {
             Some(claims) => claims.add_user(user),
             None => {
                 let mut claims = Claims::new(alloc);
-                claims.add_user(user)?;
-                self.boxed = Some(Box::new(alloc, claims)?);
-                Ok(())
+                match claims.add_user(user) {
+                    Ok(()) => self.begin(alloc, claims),
+                    Err(error) => {
+                        drop(claims);
+                        Err(error)
+                    }
+                }
             }
         }
+    }
+
+    /// The first users and pins.
+    fn begin(&mut self, alloc: Global, claims: Claims) -> Result<(), OutOfMemory>
+        ensures ok { OnOk result (self.new ≡ claims) }
+        ensures err { OnErr result (self.new ≡ self.old) }
+    {
+        let boxed = Some(Box::new(alloc, claims)?);
+        drop(replace(&mut self.boxed, boxed));
+        Ok(())
     }
 
     /// A key uses the name no more.
@@ -89,9 +104,13 @@ impl BoxedClaims {
             Some(claims) => claims.pin(worker, user),
             None => {
                 let mut claims = Claims::new(alloc);
-                claims.pin(worker, user)?;
-                self.boxed = Some(Box::new(alloc, claims)?);
-                Ok(())
+                match claims.pin(worker, user) {
+                    Ok(()) => self.begin(alloc, claims),
+                    Err(error) => {
+                        drop(claims);
+                        Err(error)
+                    }
+                }
             }
         }
     }

@@ -17,6 +17,7 @@ use row_maps::RowMap;
 use sai_types::Hops;
 use std::alloc::Global;
 use std::marker::Model;
+use std::mem::drop;
 use swss_types::{IfName, Ip, OutOfMemory, Prefix};
 use table_schema::Key;
 
@@ -148,23 +149,23 @@ impl Registrations {
     {
         match into_part(name) {
             Part::Row(key) => {
-                self.rows.insert(key, registration)?;
+                drop(self.rows.insert(key, registration)?);
                 Ok(())
             }
             Part::Neighbor(neighbor) => {
-                self.neighbors.insert(neighbor, registration)?;
+                drop(self.neighbors.insert(neighbor, registration)?);
                 Ok(())
             }
             Part::Route(prefix) => {
-                self.routes.insert(prefix, registration)?;
+                drop(self.routes.insert(prefix, registration)?);
                 Ok(())
             }
             Part::Other(name) => {
-                self.others.insert(name, registration)?;
+                drop(self.others.insert(name, registration)?);
                 Ok(())
             }
             Part::Group(hops) => {
-                self.groups.insert(hops, registration)?;
+                drop(self.groups.insert(hops, registration)?);
                 Ok(())
             }
         }

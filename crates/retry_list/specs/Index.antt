@@ -1,5 +1,5 @@
 -- Keys filed by the events that their reasons are about. Own.
-use Rattle.std.specs.Prelude.{◌≡◌, Bool, false, ◌&&◌, not, List, [], Option, Some, None, if◌then◌else◌}
+use Rattle.std.specs.Prelude.{◌≡◌, Bool, false, true, ◌&&◌, not, List, [], Option, Some, None, if◌then◌else◌}
 use Rattle.std.specs.BTreeMap.{is_at}
 use Rattle.std.specs.BTreeSet.{BTreeSet}
 use Rattle.std.specs.List.{list_any}
@@ -40,3 +40,10 @@ IsCleared old new event = (e : Event) (q : Key) → is_filed new e q ≡ (if is_
 -- a key is filed under an event exactly where its reason is about it
 abbrev pub AreReasonsFiled : Reasons → Index → Type 0
 AreReasonsFiled reasons index = (e : Event) (q : Key) → is_filed index e q ≡ is_woken e (reason_at reasons q)
+
+-- the same, but that a key is filed under one event more, which its reason is not about
+pub record HasFiled (reasons : Reasons) (index : Index) (event : Event) (key : Key) : Type 0 where
+  pub was : Index
+  pub indexed : AreReasonsFiled reasons was
+  pub filed : IsFiledAs true was index event key
+  pub other : is_woken event (reason_at reasons key) ≡ false

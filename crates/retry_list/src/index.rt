@@ -9,6 +9,7 @@ use crate::Event;
 use late_maps::LateMap;
 use std::alloc::Global;
 use std::collections::BTreeSet;
+use std::mem::drop;
 use swss_types::OutOfMemory;
 use table_schema::Key;
 
@@ -46,14 +47,38 @@ impl Index {
     {
         match self.keys.get_mut(&event) {
             Some(keys) => {
+                drop(event);
                 keys.insert(key)?;
                 Ok(())
             }
             None => {
                 let mut keys = BTreeSet::new(self.alloc);
-                keys.insert(key)?;
-                self.keys.insert(event, keys)?;
-                Ok(())
+                match keys.insert(key) {
+                    Ok(_) => {
+                        self.keys.insert(event, keys)?;
+                        Ok(())
+                    }
+                    Err(error) => {
+                        drop(keys);
+                        drop(event);
+                        Err(error.into())
+                    }
+                }
+            }
+        }
+    }
+
+    /// Files a copy of a key under an event.
+    pub(crate) fn file_copies(&mut self, event: &Event, key: &Key) -> Result<(), OutOfMemory>
+        ensures ok { OnOk result (IsFiledAs true self.old self.new event.now key.now) }
+        ensures err { OnErr result (IsSameIndex self.old self.new) }
+    {
+        let event = event.copy()?;
+        match key.copy() {
+            Ok(key) => self.file(event, key),
+            Err(error) => {
+                drop(event);
+                Err(error)
             }
         }
     }

@@ -1,9 +1,9 @@
 // The list of the rows that wait.
-ghost use Rattle.std.specs.Prelude.{◌≡◌, ◌≤◌, ◌<◌, ◌^◌, [], false, length, IfOk, IsOkAnd, IsTrue, OnOk, OnErr, option_map, vec_capacity};
+ghost use Rattle.std.specs.Prelude.{◌≡◌, ◌≤◌, ◌<◌, ◌^◌, [], false, true, length, IfNone, IfOk, IfSome, IsOkAnd, IsTrue, OnOk, OnErr, option_map, vec_capacity};
 ghost use Rattle.std.specs.List.Sorted.{IsStrictlySortedBy};
 ghost use Rattle.table_schema.specs.Fields.{HasRisingKeys};
 ghost use Rattle.table_schema.specs.Key.{key_cmp};
-ghost use Rattle.retry_list.specs.Index.{AreReasonsFiled};
+ghost use Rattle.retry_list.specs.Index.{AreReasonsFiled, HasFiled, IsFiledAs, IsSameIndex};
 ghost use Rattle.retry_list.specs.Reasons.{event_of, is_woken, left_asleep, reason_at, with_reason, without_all, without_reason, woken_keys};
 
 use crate::Event;
@@ -12,6 +12,7 @@ use row_maps::RowMap;
 use std::alloc::Global;
 use std::collections::BTreeSet;
 use std::marker::Model;
+use std::mem::{drop, replace};
 use switch_model::Wait;
 use swss_types::OutOfMemory;
 use table_schema::Key;
@@ -68,7 +69,7 @@ impl Retry {
     pub fn forget_all(&mut self)
         ensures { self.new ≡ [] }
     {
-        *self = Retry::new(self.alloc);
+        drop(replace(self, Retry::new(self.alloc)));
     }
 
     /// Takes the keys off the list whose reasons are about an event, and gives them in key order. It takes a logarithm of the
@@ -117,20 +118,80 @@ fn put(
     ensures err { OnErr result (reasons.new ≡ reasons.old) }
     ensures indexed { AreReasonsFiled reasons.new index.new }
 {
-    if has(reasons, &key, &wait) {
-        return Ok(());
+    match file(reasons, index, &key, &wait) {
+        Ok(Some((event, name))) => {
+            let answer = exchange(reasons, index, key, wait, &event, &name);
+            drop(event);
+            drop(name);
+            answer
+        }
+        Ok(None) => {
+            drop(key);
+            drop(wait);
+            Ok(())
+        }
+        Err(error) => {
+            drop(key);
+            drop(wait);
+            Err(error)
+        }
+    }
+}
+
+/// Files a key under the event that a reason is about, unless it has this reason already, and gives the event with a copy of
+/// the key.
+fn file(
+    reasons: &RowMap<Wait>,
+    index: &mut Index,
+    key: &Key,
+    wait: &Wait,
+) -> Result<Option<(Event, Key)>, OutOfMemory>
+    ensures same { IfOk result (λ filed. IfNone filed (with_reason reasons.now key.now wait.now ≡ reasons.now)) }
+    ensures kept { IfOk result (λ filed. IfNone filed (IsSameIndex index.old index.new)) }
+    ensures given { IfOk result (λ filed. IfSome filed (λ at. at ≡ (event_of wait.now, key.now))) }
+    ensures filed { IfOk result (λ filed. IfSome filed (λ _. IsFiledAs true index.old index.new (event_of wait.now) key.now)) }
+    ensures other { IfOk result (λ filed. IfSome filed (λ _. is_woken (event_of wait.now) (reason_at reasons.now key.now) ≡ false)) }
+    ensures err { OnErr result (IsSameIndex index.old index.new) }
+{
+    if has(reasons, key, wait) {
+        return Ok(None);
     }
     let event = Event::of(wait.copy()?);
     let name = key.copy()?;
-    index.file(event.copy()?, name.copy()?)?;
+    match index.file_copies(&event, &name) {
+        Ok(()) => Ok(Some((event, name))),
+        Err(error) => {
+            drop(event);
+            drop(name);
+            Err(error)
+        }
+    }
+}
+
+/// Gives a key its reason, which is about this event: the key is filed under it already, and under that of its old reason.
+fn exchange(
+    reasons: &mut RowMap<Wait>,
+    index: &mut Index,
+    key: Key,
+    wait: Wait,
+    event: &Event,
+    name: &Key,
+) -> Result<(), OutOfMemory>
+    requires about { event.now ≡ event_of wait }
+    requires named { name.now ≡ key }
+    requires filed { HasFiled reasons.old index.old event.now name.now }
+    ensures ok { OnOk result (reasons.new ≡ with_reason reasons.old key wait) }
+    ensures err { OnErr result (reasons.new ≡ reasons.old) }
+    ensures indexed { AreReasonsFiled reasons.new index.new }
+{
     match reasons.insert(key, wait) {
         Ok(None) => Ok(()),
         Ok(Some(old)) => {
-            index.unfile_unless(&Event::of(old), &event, &name);
+            index.unfile_unless(&Event::of(old), event, name);
             Ok(())
         }
         Err(_) => {
-            index.unfile(&event, &name);
+            index.unfile(event, name);
             Err(OutOfMemory)
         }
     }

@@ -1,11 +1,10 @@
 -- what is found, changed, put and removed in the parts of a map
-use Rattle.std.proofs.Common.{◌≡◌, ℕ, ◌+◌, ◌-◌, ◌^◌, ◌<◌, ◌≤◌, List, [], ◌∷◌, ◌++◌, length, map, Option, None, Some, if◌then◌else◌, refl, sym, ap, ◌∙◌, arith}
+use Rattle.std.proofs.Common.{◌≡◌, ℕ, ◌+◌, ◌-◌, ◌^◌, ◌<◌, ◌≤◌, List, [], ◌∷◌, ◌++◌, length, map, Option, Result, Ok, Err, IfOk, OnOk, OnErr, refl, sym, ap, ◌∙◌, arith}
 use Rattle.std.specs.BTreeMap.{insert_entry, is_at}
 use Rattle.std.specs.Cmp.{nat_cmp_is}
 use Rattle.std.specs.List.{AllByRecursion}
 use Rattle.std.specs.List.Sorted.{IsStrictlySortedBy}
-use Rattle.std.specs.Map.{keys_of, remove_entry, set_value}
-use Rattle.std.specs.Option.{is_some}
+use Rattle.std.specs.Map.{keys_of, lookup, remove_entry, set_value}
 use Rattle.std.specs.Ordering.{nat_cmp, ordering_reverse, ordering_then}
 use Rattle.std.specs.declared.cmp.Ordering.{Ordering}
 use Rattle.std.specs.declared.cmp.Ordering.TheVariants.{Less, Equal, Greater}
@@ -77,6 +76,20 @@ module _ {K V : Type 0} {own : K → K → Ordering} {k : K} {n : Key} {part : L
   pub lent_written : ((w : V) → whole (lender w) ≡ set_value (is_at (key_cmp n)) (whole part) w) × (whole at_none ≡ whole part)
   lent_written = ((λ w. s.set (lender w) w (holds w)), ap whole stays)
 
+-- what a map becomes where a part is given a value, or finds no memory for it
+module _ {K V E : Type 0} {own : K → K → Ordering} {k : K} {n : Key} {part : List (K × V)} {whole : List (K × V) → List (Key × V)} (s : StandsIn own k key_cmp n part whole) where
+  pub put_old : (result : Result (Option V) E) → IfOk result (λ old. old ≡ lookup (is_at (own k)) part) → IfOk result (λ old. old ≡ lookup (is_at (key_cmp n)) (whole part))
+  put_old (Ok old) is = is ∙ s.found
+  put_old (Err error) is = tt
+
+  pub put_ok : (result : Result (Option V) E) (new : List (K × V)) (w : V) → OnOk result (new ≡ insert_entry own part k w) → OnOk result (whole new ≡ insert_entry key_cmp (whole part) n w)
+  put_ok (Ok old) new w is = s.put new w is
+  put_ok (Err error) new w is = tt
+
+  pub put_err : (result : Result (Option V) E) (new : List (K × V)) → OnErr result (new ≡ part) → OnErr result (whole new ≡ whole part)
+  put_err (Ok old) new is = tt
+  put_err (Err error) new is = ap whole is
+
 -- as many rows as in all parts
 pub length_all_rows : {V : Type 0} (a b : List (ℕ × V)) (c : List ((ℕ × ℕ) × V)) (d : List (IfName × V)) (e : List (Address × V)) (f : List (Neighbor × V)) (g : List (Prefix × V)) (h : List (Key × V)) → length (all_rows a b c d e f g h) ≡ length a + length b + length c + length d + length e + length f + length g + length h
 length_all_rows a b c d e f g h = grind (arith, length-append, length-map)
@@ -87,9 +100,9 @@ keys-part g before [] later = ap (λ ks. ks ++ keys_of later) (sym (append-nil b
 keys-part g before (e ∷ part) later =
     sym (append_assoc before (g e.0 ∷ []) (keys_of (renamed g part ++ later))) ∙ keys-part g (before ++ g e.0 ∷ []) part later ∙ ap (λ ks. ks ++ keys_of later) (append_assoc before (g e.0 ∷ []) (map g (keys_of part)))
 
-pub keys_of_parts : {V : Type 0} (a b : List (ℕ × V)) (c : List ((ℕ × ℕ) × V)) (d : List (IfName × V)) (e : List (Address × V)) (f : List (Neighbor × V)) (g : List (Prefix × V)) (h : List (Key × V)) → ((((((([] ++ map key.Port (keys_of a)) ++ map key.Vlan (keys_of b)) ++ map key_of_member (keys_of c)) ++ map key.Intf (keys_of d)) ++ map key_of_address (keys_of e)) ++ map key_of_neighbor (keys_of f)) ++ map key.Route (keys_of g)) ++ keys_of h ≡ keys_of (all_rows a b c d e f g h)
-keys_of_parts a b c d e f g h =
-    sym (keys-part key.Port [] a _ ∙ keys-part key.Vlan _ b _ ∙ keys-part key_of_member _ c _ ∙ keys-part key.Intf _ d _ ∙ keys-part key_of_address _ e _ ∙ keys-part key_of_neighbor _ f _ ∙ keys-part key.Route _ g _)
+pub keys_of_parts : {V : Type 0} (before : List Key) (a b : List (ℕ × V)) (c : List ((ℕ × ℕ) × V)) (d : List (IfName × V)) (e : List (Address × V)) (f : List (Neighbor × V)) (g : List (Prefix × V)) (h : List (Key × V)) → (((((((before ++ map key.Port (keys_of a)) ++ map key.Vlan (keys_of b)) ++ map key_of_member (keys_of c)) ++ map key.Intf (keys_of d)) ++ map key_of_address (keys_of e)) ++ map key_of_neighbor (keys_of f)) ++ map key.Route (keys_of g)) ++ keys_of h ≡ before ++ keys_of (all_rows a b c d e f g h)
+keys_of_parts before a b c d e f g h =
+    sym (keys-part key.Port before a _ ∙ keys-part key.Vlan _ b _ ∙ keys-part key_of_member _ c _ ∙ keys-part key.Intf _ d _ ∙ keys-part key_of_address _ e _ ∙ keys-part key_of_neighbor _ f _ ∙ keys-part key.Route _ g _)
 
 module _ {V : Type 0} (r : Inside V) (h : AreUnreadable r.others.entries) where
   abbrev pub the_ports : List (Key × V)
@@ -226,12 +239,15 @@ module _ {V : Type 0} (r : Inside V) (h : AreUnreadable r.others.entries) where
   other-stands k is = past_neighbors (StandsIn-below (StandsIn-itself key_cmp k r.others.entries) the_routes (below_in k 6 the_routes (omega arith) in_routes)) (omega arith)
 
   -- the unreadable keys stay such, and the rows few enough
-  pub other_put : (k : Key) (new : List (Key × V)) (w : V) (found : Option V) → table_place k ≡ place_of_others → new ≡ insert_entry key_cmp r.others.entries k w → length new ≡ length r.others.entries + (if is_some found then 0 else 1) → length (the_ports ++ from_vlans) < 2 ^ 63 - 1 → AreUnreadable new × (length (all_rows r.ports r.vlans r.members r.interfaces r.addresses r.neighbors r.routes new) < 2 ^ 63)
-  other_put k new w found place is more few =
+  pub other_put : {E : Type 0} (k : Key) (new : List (Key × V)) (w : V) (result : Result (Option V) E) → table_place k ≡ place_of_others → OnOk result (new ≡ insert_entry key_cmp r.others.entries k w) → OnErr result (new ≡ r.others.entries) → length new ≤ length r.others.entries + 1 → length (the_ports ++ from_vlans) < 2 ^ 63 - 1 → AreUnreadable new × (length (all_rows r.ports r.vlans r.members r.interfaces r.addresses r.neighbors r.routes new) < 2 ^ 63)
+  other_put {E = E} k new w result place ok err more few =
       let before = length_all_rows r.ports r.vlans r.members r.interfaces r.addresses r.neighbors r.routes r.others.entries in
       let after = length_all_rows r.ports r.vlans r.members r.interfaces r.addresses r.neighbors r.routes new in
-      let one : (if is_some found then 0 else 1) ≤ 1 = elim found as (λ found. (if is_some found then 0 else 1) ≤ 1) [ None ↦ omega arith | Some v ↦ omega arith ] in
-      (rw is (all-inserted key_cmp k (λ q. table_place q ≡ place_of_others) place r.others.entries w h), omega arith)
+      (unreadable result ok err, omega arith)
+    where
+      unreadable : (result : Result (Option V) E) → OnOk result (new ≡ insert_entry key_cmp r.others.entries k w) → OnErr result (new ≡ r.others.entries) → AreUnreadable new
+      unreadable (Ok old) ok err = rw ok (all-inserted key_cmp k (λ q. table_place q ≡ place_of_others) place r.others.entries w h)
+      unreadable (Err error) ok err = rw err h
 
   pub other_removed : (k : Key) (new : List (Key × V)) (gone : ℕ) → new ≡ remove_entry (is_at (key_cmp k)) r.others.entries → length new + gone ≡ length r.others.entries → length (the_ports ++ from_vlans) < 2 ^ 63 → AreUnreadable new × (length (all_rows r.ports r.vlans r.members r.interfaces r.addresses r.neighbors r.routes new) < 2 ^ 63)
   other_removed k new gone is less few =

@@ -1,5 +1,5 @@
 // A map from the keys of rows.
-ghost use Rattle.std.specs.Prelude.{◌≡◌, ◌^◌, ◌<◌, [], ◌∷◌, ◌++◌, length, map, IfSome, IfNone, IfOk, OnOk, OnErr, is_some, option_copied, option_map};
+ghost use Rattle.std.specs.Prelude.{◌≡◌, ◌+◌, ◌-◌, ◌^◌, ◌<◌, ◌≤◌, [], ◌∷◌, ◌++◌, length, map, IfSome, IfNone, IfOk, OnOk, OnErr, is_some, option_copied, option_map};
 ghost use Rattle.std.specs.Borrow.{sem};
 ghost use Rattle.std.specs.BTreeMap.{insert_entry, is_at};
 ghost use Rattle.std.specs.List.{filter, slice_get};
@@ -7,6 +7,7 @@ ghost use Rattle.std.specs.List.Sorted.{IsStrictlySortedBy};
 ghost use Rattle.std.specs.Map.{keys_of, lookup, remove_entry};
 ghost use Rattle.std.specs.Option.{option_copied_mut};
 ghost use Rattle.std.specs.Ordering.{is_lt};
+ghost use Rattle.late_maps.specs.Segments.{renamed};
 ghost use Rattle.table_schema.specs.Key.{key_cmp, table_place};
 ghost use Rattle.table_schema.specs.declared.key.Key.TheVariants as key;
 ghost use Rattle.row_maps.specs.Entries.{deref_row, lent_key};
@@ -226,6 +227,9 @@ impl<V> RowMap<V> {
         ensures err { OnErr result (self.new ≡ self.old) }
         ensures ordered { IsStrictlySortedBy key_cmp (keys_of self.new) }
     {
+        if self.len() == MOST_ROWS {
+            return Err(OutOfMemory);
+        }
         let old = self.put(key, value);
         self.rise();
         old
@@ -235,22 +239,20 @@ impl<V> RowMap<V> {
     fn put(&mut self, key: Key, value: V) -> Result<Option<V>, OutOfMemory>
     where
         V: Drop,
+        requires { length self.old < 2 ^ 63 - 1 }
         ensures old { IfOk result (λ old. old ≡ lookup (is_at (key_cmp key)) self.old) }
         ensures ok { OnOk result (self.new ≡ insert_entry key_cmp self.old key value) }
         ensures err { OnErr result (self.new ≡ self.old) }
     {
-        if self.len() == MOST_ROWS {
-            return Err(OutOfMemory);
-        }
         match key {
-            Key::Port(port) => Ok(self.ports.insert(port, value)?),
-            Key::Vlan(vlan) => Ok(self.vlans.insert(vlan, value)?),
-            Key::Member(vlan, port) => Ok(self.members.insert((vlan, port), value)?),
-            Key::Intf(on) => Ok(self.interfaces.insert(on, value)?),
-            Key::Addr(on, ip, len) => Ok(self.addresses.insert((on, ip, len), value)?),
-            Key::Neigh(on, ip) => Ok(self.neighbors.insert((on, ip), value)?),
-            Key::Route(prefix) => Ok(self.routes.insert(prefix, value)?),
-            Key::Other(text) => Ok(self.others.insert(Key::Other(text), value)?),
+            Key::Port(port) => put_in(&mut self.ports, port, value),
+            Key::Vlan(vlan) => put_in(&mut self.vlans, vlan, value),
+            Key::Member(vlan, port) => put_in(&mut self.members, (vlan, port), value),
+            Key::Intf(on) => put_in(&mut self.interfaces, on, value),
+            Key::Addr(on, ip, len) => put_in(&mut self.addresses, (on, ip, len), value),
+            Key::Neigh(on, ip) => put_in(&mut self.neighbors, (on, ip), value),
+            Key::Route(prefix) => put_in(&mut self.routes, prefix, value),
+            Key::Other(text) => put_other(&mut self.others, Key::Other(text), value),
         }
     }
 
@@ -373,26 +375,26 @@ impl<V> RowMap<V> {
         ensures some { IfSome result (λ e. self.old ≡ e ∷ self.new) }
         ensures none { IfNone result ((self.old ≡ []) × (self.new ≡ [])) }
     {
-        if let Some((port, value)) = self.ports.pop_first() {
-            return Some((Key::Port(port), value));
+        if let Some(row) = pop_from(&mut self.ports) {
+            return Some(row);
         }
-        if let Some((vlan, value)) = self.vlans.pop_first() {
-            return Some((Key::Vlan(vlan), value));
+        if let Some(row) = pop_from(&mut self.vlans) {
+            return Some(row);
         }
-        if let Some((member, value)) = self.members.pop_first() {
-            return Some((Key::Member(member.0, member.1), value));
+        if let Some(row) = pop_from(&mut self.members) {
+            return Some(row);
         }
-        if let Some((on, value)) = self.interfaces.pop_first() {
-            return Some((Key::Intf(on), value));
+        if let Some(row) = pop_from(&mut self.interfaces) {
+            return Some(row);
         }
-        if let Some((address, value)) = self.addresses.pop_first() {
-            return Some((Key::Addr(address.0, address.1, address.2), value));
+        if let Some(row) = pop_from(&mut self.addresses) {
+            return Some(row);
         }
-        if let Some((neighbor, value)) = self.neighbors.pop_first() {
-            return Some((Key::Neigh(neighbor.0, neighbor.1), value));
+        if let Some(row) = pop_from(&mut self.neighbors) {
+            return Some(row);
         }
-        if let Some((prefix, value)) = self.routes.pop_first() {
-            return Some((Key::Route(prefix), value));
+        if let Some(row) = pop_from(&mut self.routes) {
+            return Some(row);
         }
         self.others.pop_first()
     }
@@ -455,17 +457,27 @@ impl<V> RowMap<V> {
         ensures ordered { IsStrictlySortedBy key_cmp (keys_of self.now) }
     {
         let mut keys = Vec::with_capacity(self.alloc, self.len())?;
-        push_keys(&mut keys, &self.ports)?;
-        push_keys(&mut keys, &self.vlans)?;
-        push_keys(&mut keys, &self.members)?;
-        push_keys(&mut keys, &self.interfaces)?;
-        push_keys(&mut keys, &self.addresses)?;
-        push_keys(&mut keys, &self.neighbors)?;
-        push_keys(&mut keys, &self.routes)?;
-        for (key, _) in self.others.iter() {
-            keys.push(key.copy()?)?;
+        match self.push_all(&mut keys) {
+            Ok(()) => Ok(keys),
+            Err(error) => {
+                drop(keys);
+                Err(error)
+            }
         }
-        Ok(keys)
+    }
+
+    /// Appends all keys, in order.
+    fn push_all(&self, keys: &mut Vec<Key>) -> Result<(), OutOfMemory>
+        ensures { OnOk result (keys.new.items ≡ keys.old.items ++ keys_of self.now) }
+    {
+        push_keys(keys, &self.ports)?;
+        push_keys(keys, &self.vlans)?;
+        push_keys(keys, &self.members)?;
+        push_keys(keys, &self.interfaces)?;
+        push_keys(keys, &self.addresses)?;
+        push_keys(keys, &self.neighbors)?;
+        push_keys(keys, &self.routes)?;
+        push_others(keys, &self.others)
     }
 
     /// The entries, in key order.
@@ -518,4 +530,59 @@ fn push_keys<K: Ord + KeyParts, V>(
         keys.push(parts.key())?;
     }
     Ok(())
+}
+
+/// Appends the keys that do not read.
+fn push_others<V>(keys: &mut Vec<Key>, others: &BTreeMap<Key, V>) -> Result<(), OutOfMemory>
+    ensures { OnOk result (keys.new.items ≡ keys.old.items ++ keys_of others.now.entries) }
+{
+    for (key, _) in others.iter() {
+        keys.push(key.copy()?)?;
+    }
+    Ok(())
+}
+
+/// Gives a key a value in the part of its table. A pair that finds no memory is dropped.
+fn put_in<K: Ord + Copy, V: Drop>(
+    part: &mut LateMap<K, V>,
+    parts: K,
+    value: V,
+) -> Result<Option<V>, OutOfMemory>
+    ensures old { IfOk result (λ old. old ≡ lookup (is_at (K.cmp parts)) part.old) }
+    ensures ok { OnOk result (part.new ≡ insert_entry K.cmp part.old parts value) }
+    ensures err { OnErr result (part.new ≡ part.old) }
+    ensures len { length part.new ≤ length part.old + 1 }
+{
+    match part.insert(parts, value) {
+        Ok(old) => Ok(old),
+        Err(_) => Err(OutOfMemory),
+    }
+}
+
+/// Gives a key that does not read a value.
+fn put_other<V: Drop>(
+    others: &mut BTreeMap<Key, V>,
+    key: Key,
+    value: V,
+) -> Result<Option<V>, OutOfMemory>
+    ensures old { IfOk result (λ old. old ≡ lookup (is_at (key_cmp key)) others.old.entries) }
+    ensures ok { OnOk result (others.new.entries ≡ insert_entry key_cmp others.old.entries key value) }
+    ensures err { OnErr result (others.new.entries ≡ others.old.entries) }
+    ensures len { length others.new.entries ≤ length others.old.entries + 1 }
+{
+    match others.insert(key, value) {
+        Ok(old) => Ok(old),
+        Err(_) => Err(OutOfMemory),
+    }
+}
+
+/// Takes the first row out of the part of a table.
+fn pop_from<K: Ord + KeyParts, V>(part: &mut LateMap<K, V>) -> Option<(Key, V)>
+    ensures some { IfSome result (λ row. renamed K.key part.old ≡ row ∷ renamed K.key part.new) }
+    ensures none { IfNone result ((part.old ≡ []) × (part.new ≡ [])) }
+{
+    match part.pop_first() {
+        Some((parts, value)) => Some((parts.key(), value)),
+        None => None,
+    }
 }

@@ -21,6 +21,10 @@ impl Outcome {
     pub fn into_status(self) -> Status
         ensures { result ≡ self.status }
     {
-        self.status
+        let Outcome { status, log, chip } = self;
+        // each by its destructor, which is so proved by itself
+        drop(log);
+        drop(chip);
+        status
     }
 }

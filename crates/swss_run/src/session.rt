@@ -8,7 +8,7 @@ ghost use Rattle.table_schema.specs.Rows.{HasRisingRows};
 ghost use Rattle.producer_table.specs.Pending.{ArePendingInOrder};
 ghost use Rattle.session_laws.specs.Core.{new_core};
 ghost use Rattle.swss_run.specs.Run.{ends_early};
-ghost use Rattle.sai_chip.specs.Replay.{IsReplayOf};
+ghost use Rattle.sai_chip.specs.Replay.{IsReplayOf, new_replay};
 ghost use Rattle.swss_report.specs.Ended.{ended_round};
 ghost use Rattle.swss_script.specs.Sent.{writes_in};
 ghost use Rattle.swss_run.specs.Running.{IsRunReady, IsRoundRun, IsWritten, round_ended};
@@ -25,6 +25,7 @@ use row_store::Rows;
 use sai_chip::{Replay, SimChip};
 use sai_types::Chip;
 use std::alloc::Global;
+use std::mem::drop;
 use swss_report::{RoundEnd, round_lines};
 use swss_script::{Round, RoundList};
 use swss_types::{OutOfMemory, Sink};
@@ -48,20 +49,38 @@ pub(crate) fn run_rounds<K: Sink>(
 {
     let mut replay = Replay::new(alloc);
     let mut told = Told::new(alloc);
+    let status = run_each(alloc, core, chip, &mut replay, &mut told, rounds, sink);
+    drop(replay);
+    drop(told);
+    status
+}
+
+/// The same, with what is remembered from round to round.
+fn run_each<K: Sink>(
+    alloc: Global,
+    core: &mut Core,
+    chip: &mut SimChip,
+    replay: &mut Replay,
+    told: &mut Told,
+    rounds: RoundList,
+    sink: &mut K,
+) -> Status
+    requires new { core.old ≡ new_core core.old.board.plan core.old.sync.capacities log_limit }
+    requires chip { chip.old.chip ≡ new_chip core.old.sync.capacities chip.old.chip.fails }
+    requires plan { IsPlan core.old.board.plan }
+    requires read { AllByRecursion (λ r. HaveReadKeys (writes_in r.sections)) rounds }
+    requires replay { replay.old ≡ new_replay }
+    requires told { IsToldOf told.old core.old.log.taken }
+    ensures ran { ends_early result ≡ false }
+    ensures write_fault { result ≡ Status.WriteFault → HasRisen (K.faults sink.old) (K.faults sink.new) }
+    ensures session { IsSession core.old.board.plan core.old.sync.capacities rounds result core.new.log chip.new.chip (K.holds sink.old) (K.holds sink.new) }
+    ensures fails { chip.new.chip.fails ≡ chip.old.chip.fails }
+{
     let mut number = 0u64;
     let mut ended = Status::Done;
     for round in rounds.into_vec() {
         number += 1;
-        match run_round(
-            alloc,
-            core,
-            chip,
-            &mut replay,
-            &mut told,
-            number,
-            round,
-            sink,
-        ) {
+        match run_round(alloc, core, chip, replay, told, number, round, sink) {
             Status::Done => ended = Status::Done,
             // The next round begins with a restart.
             Status::ChipFault => ended = Status::ChipFault,

@@ -10,6 +10,7 @@ pub mod Choices
 pub mod Cuts
 pub mod Decimals
 pub mod Each
+mod EachWritten
 pub mod Fronts
 pub mod Gaps
 pub mod GroupTexts

@@ -83,11 +83,15 @@ impl Syncd {
         }
     }
 
-    /// Starts an empty temporary view.
+    /// Starts an empty temporary view. Mostly it comes to hold about as many objects as the chip, so its first object makes room for these.
     pub fn init_view(&mut self)
         ensures { self.new ≡ with_temporary self.old [] }
     {
-        self.temporary = Some(View::new(self.alloc));
+        let count = match &self.listed {
+            Some(listed) => listed.len(),
+            None => 0,
+        };
+        self.temporary = Some(View::expecting(self.alloc, count));
     }
 
     /// Gives up the temporary view, where one is built, and the plan, where there is one.

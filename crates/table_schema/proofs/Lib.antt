@@ -15,3 +15,4 @@ pub mod Restored
 pub mod Risen
 pub mod TakenBack
 mod TwoPairs
+mod RoutePairs

@@ -1,11 +1,13 @@
 // The fields of a row.
 ghost use Rattle.std.specs.Prelude.{◌≡◌, [], ◌==◌, length, IfOk, IfSome, OnOk, OnErr, option_map};
+ghost use Rattle.std.specs.Arc.{arc_value};
 ghost use Rattle.table_schema.specs.Fields.{HasRisingNames, merged, value_of, with_pair};
 
 use crate::Items;
 use crate::own_fields::OwnFields;
 use std::alloc::Global;
 use std::marker::Model;
+use std::mem::replace;
 use std::sync::Arc;
 use swss_types::{OutOfMemory, Text};
 
@@ -55,13 +57,12 @@ impl Fields {
         ensures ok { OnOk result (self.new ≡ with_pair self.old name value) }
         ensures err { OnErr result (self.new ≡ self.old) }
     {
-        let Some(shared) = &mut self.shared else {
-            let mut own = OwnFields::new(self.alloc);
-            own.put(name, value)?;
-            self.shared = Some(Arc::new(self.alloc, own)?);
-            return Ok(());
-        };
-        Arc::make_mut(shared)?.put(name, value)
+        if let Some(shared) = &mut self.shared {
+            return Arc::make_mut(shared)?.put(name, value);
+        }
+        let own = one_pair(self.alloc, name, value)?;
+        drop(replace(&mut self.shared, Some(own)));
+        Ok(())
     }
 
     /// The value under a name: None exactly where there is no such name.
@@ -144,5 +145,19 @@ impl Fields {
             },
             alloc: self.alloc,
         })
+    }
+}
+
+/// One pair, to be shared.
+fn one_pair(alloc: Global, name: Text, value: Text) -> Result<Arc<OwnFields, Global>, OutOfMemory>
+    ensures { IfOk result (λ own. arc_value own ≡ with_pair [] name value) }
+{
+    let mut own = OwnFields::new(alloc);
+    match own.put(name, value) {
+        Ok(()) => Ok(Arc::new(alloc, own)?),
+        Err(error) => {
+            drop(own);
+            Err(error)
+        }
     }
 }

@@ -1,8 +1,8 @@
 // The port plan: which ports a switch has, and their lanes.
-ghost use Rattle.std.specs.Prelude.{◌≡◌, [], ◌<◌, false, length, slice_index_or, slice_index, option_map, IfOk, OnOk, OnErr, All, find, MatchResult};
+ghost use Rattle.std.specs.Prelude.{◌≡◌, [], ◌<◌, false, length, slice_index_or, slice_index, option_map, Ok, Err, IfOk, OnOk, OnErr, All, find, MatchResult};
 ghost use Rattle.std.specs.BTreeMap.{insert_entry};
 ghost use Rattle.std.specs.Ordering.{nat_cmp};
-ghost use Rattle.table_schema.specs.Plan.{IsPlan, first_taken, has_lane, lanes_in_plan, line_of, plan_of, plan_step, port_fault, port_named};
+ghost use Rattle.table_schema.specs.Plan.{IsPlan, first_taken, has_lane, lanes_in_plan, line_of, plan_from, plan_of, plan_step, port_fault, port_named};
 ghost use Rattle.table_schema.specs.PlanIndex.{marked};
 
 use crate::split::split_once;
@@ -71,12 +71,29 @@ impl PortPlan {
         ensures { IfOk result (λ plan. plan ≡ plan_of lines.now) }
     {
         let mut plan = PortPlan::new(alloc)?;
+        match plan.put_lines(lines) {
+            Ok(Ok(())) => Ok(Ok(plan)),
+            Ok(Err(fault)) => {
+                drop(plan);
+                Ok(Err(fault))
+            }
+            Err(error) => {
+                drop(plan);
+                Err(error)
+            }
+        }
+    }
+
+    /// Adds the ports of lines, up to the first faulty one, or tells the number of that, from 1, and its first fault.
+    fn put_lines(&mut self, lines: &[Text]) -> Result<Result<(), (u64, PlanWhy)>, OutOfMemory>
+        ensures { IfOk result (λ answer. MatchResult answer (λ _. plan_from (Ok self.old) 0 lines.now ≡ Ok self.new) (λ fault. plan_from (Ok self.old) 0 lines.now ≡ Err fault)) }
+    {
         for (at, line) in lines.iter().enumerate() {
-            if let Err(why) = plan.put(line.bytes())? {
+            if let Err(why) = self.put(line.bytes())? {
                 return Ok(Err((at as u64 + 1, why)));
             }
         }
-        Ok(Ok(plan))
+        Ok(Ok(()))
     }
 
     /// Adds the port of one more line, or tells the line's first fault in the order BadName, BadLanes, NameTwice,

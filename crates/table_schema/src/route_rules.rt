@@ -1,5 +1,5 @@
 // The rules by which a route's row reads.
-ghost use Rattle.std.specs.Prelude.{◌≡◌, [], ◌∷◌, codes, ◌≤◌, ◌==◌, count_by, length, nat_lt, false, true, Ok, IfOk, IfSome, option_map, MatchResult};
+ghost use Rattle.std.specs.Prelude.{◌≡◌, [], ◌∷◌, codes, ◌≤◌, ◌==◌, count_by, length, nat_lt, false, true, Ok, Err, IfOk, IfSome, option_map, MatchResult};
 ghost use Rattle.table_schema.specs.Fields.{value_of};
 ghost use Rattle.table_schema.specs.RouteRules.{are_blank, blackhole_of, counts_of, drops_of, field_filled, hops_listed, hop_of_texts, hops_of_texts, hops_with, is_blank_part, is_zero, route_row_of, target_of_hops, unused, unused_fields};
 ghost use Rattle.swss_types.specs.Parts.{parts_at};
@@ -198,24 +198,48 @@ fn read_pairs(
     ensures fit { IfOk result (λ read. read.1 ≡ true → counts_of (length (parts_at 44 addresses.now)) (length (parts_at 44 names.now)) ≡ Ok tt) }
 {
     let mut hops = RowHops::new(alloc);
+    match put_pairs(&mut hops, several, addresses, names) {
+        Ok(Ok(fit)) => Ok((Ok(hops), fit)),
+        Ok(Err(broken)) => {
+            drop(hops);
+            Ok((Err(broken), false))
+        }
+        Err(error) => {
+            drop(hops);
+            Err(error)
+        }
+    }
+}
+
+/// Adds the hops at the pairs of two lists that have as many elements, at most `MOST_HOPS`, and tells whether it is known
+/// that they have.
+fn put_pairs(
+    hops: &mut RowHops,
+    several: bool,
+    addresses: &[u8],
+    names: &[u8],
+) -> Result<Result<bool, BadRow>, OutOfMemory>
+    ensures hops { IfOk result (λ put. counts_of (length (parts_at 44 addresses.now)) (length (parts_at 44 names.now)) ≡ Ok tt → MatchResult put (λ _. hops_with several hops.old (parts_at 44 addresses.now) (parts_at 44 names.now) ≡ Ok hops.new) (λ broken. hops_with several hops.old (parts_at 44 addresses.now) (parts_at 44 names.now) ≡ Err broken)) }
+    ensures fit { IfOk result (λ put. put ≡ Ok true → counts_of (length (parts_at 44 addresses.now)) (length (parts_at 44 names.now)) ≡ Ok tt) }
+{
     let mut addresses_left = Some(addresses);
     let mut names_left = Some(names);
     let mut count = 0usize;
     while let (Some(address_list), Some(name_list)) = (addresses_left, names_left) {
         if count == MOST_HOPS {
-            return Ok((Ok(hops), false));
+            return Ok(Ok(false));
         }
         count += 1;
         let (address, addresses_behind) = cut_at(address_list, b',');
         let (name, names_behind) = cut_at(name_list, b',');
         match read_hop(several, address, name) {
             Ok(hop) => hops.put(hop)?,
-            Err(broken) => return Ok((Err(broken), false)),
+            Err(broken) => return Ok(Err(broken)),
         }
         addresses_left = addresses_behind;
         names_left = names_behind;
     }
-    Ok((Ok(hops), addresses_left.is_none() && names_left.is_none()))
+    Ok(Ok(addresses_left.is_none() && names_left.is_none()))
 }
 
 /// The hop that an address and the name of an Ethernet or Vlan interface write. A zero address is none of several hops.

@@ -75,7 +75,7 @@ fn partners<'a>(
 fn are_apart(index: &[(&NaturalKey, Partner)]) -> bool
     ensures { result ≡ true → AreApart (entries_in index.now) }
 {
-    index.is_sorted_by(|one, next| one.0 < next.0)
+    index.is_sorted_by(|one, next| one.0.cmp(next.0).is_lt())
 }
 
 /// The number of the group that an object is or is a member of, else 0.

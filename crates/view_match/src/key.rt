@@ -1,15 +1,16 @@
 // The natural keys of objects.
-ghost use Rattle.std.specs.Prelude.{◌≡◌, None, Some, IfOk, option_map, if◌then◌else◌};
+ghost use Rattle.std.specs.Prelude.{◌≡◌, ◌++◌, None, Some, IfOk, OnOk, option_map, if◌then◌else◌};
 ghost use Rattle.sai_types.specs.Objects.{Objects};
 ghost use Rattle.chip_names.specs.Naming.{AreNamesOf, entries_of};
 ghost use Rattle.view_match.specs.Keys.{key_among, natural_key_of, keys_of_objects};
-ghost use Rattle.view_match.specs.Listed.{object_as};
+ghost use Rattle.view_match.specs.Listed.{object_as, objects_as, without_routes};
 ghost use Rattle.view_match.specs.Pairs.{new_keys};
 
 use crate::listed::{object_of, others_listed, to_of};
 use chip_names::Names;
 use sai_types::{Base, Body, Hop, Hops, Object, Rid, Thing, Vid};
 use std::alloc::Global;
+use std::mem::drop;
 use swss_types::{Ip, Lanes, OutOfMemory, Prefix};
 
 /// By what two objects of a kind are the same object: what can be set on an object has no part in it. Keys are ordered
@@ -69,12 +70,43 @@ pub fn natural_keys(
 ) -> Result<Vec<Option<NaturalKey>>, OutOfMemory>
     ensures { IfOk result (λ keys. keys.items ≡ keys_of_objects (entries_of objects.now)) }
 {
-    let names = Names::of(alloc, objects)?;
     let mut keys = Vec::with_capacity(alloc, objects.len())?;
-    for object in objects {
-        keys.push(key_of(&names, object)?)?;
+    match push_keys(alloc, objects, &mut keys) {
+        Ok(()) => Ok(keys),
+        Err(error) => {
+            drop(keys);
+            Err(error)
+        }
     }
-    Ok(keys)
+}
+
+/// Puts the natural keys of objects.
+fn push_keys(
+    alloc: Global,
+    objects: &[Object<Rid>],
+    keys: &mut Vec<Option<NaturalKey>>,
+) -> Result<(), OutOfMemory>
+    ensures { OnOk result (keys.new.items ≡ keys.old.items ++ keys_of_objects (entries_of objects.now)) }
+{
+    let names = Names::of(alloc, objects)?;
+    let answer = push_named(&names, objects, keys);
+    drop(names);
+    answer
+}
+
+/// Puts the natural keys of objects that have these names.
+fn push_named(
+    names: &Names,
+    objects: &[Object<Rid>],
+    keys: &mut Vec<Option<NaturalKey>>,
+) -> Result<(), OutOfMemory>
+    requires { AreNamesOf (entries_of objects.now) names.now }
+    ensures { OnOk result (keys.new.items ≡ keys.old.items ++ keys_of_objects (entries_of objects.now)) }
+{
+    for object in objects {
+        keys.push(key_of(names, object)?)?;
+    }
+    Ok(())
 }
 
 /// The natural key of each object of a view, in their order: None where a reference is absent. The objects are named as
@@ -85,13 +117,53 @@ pub(crate) fn new_natural_keys(
 ) -> Result<Vec<Option<NaturalKey>>, OutOfMemory>
     ensures { IfOk result (λ keys. keys.items ≡ new_keys objects.now) }
 {
-    let listed = others_listed(alloc, objects)?;
-    let names = Names::of(alloc, listed.as_slice())?;
     let mut keys = Vec::with_capacity(alloc, objects.len())?;
-    for object in objects {
-        keys.push(new_key_of(&names, object)?)?;
+    match push_new_keys(alloc, objects, &mut keys) {
+        Ok(()) => Ok(keys),
+        Err(error) => {
+            drop(keys);
+            Err(error)
+        }
     }
-    Ok(keys)
+}
+
+/// Puts the natural keys of the objects of a view.
+fn push_new_keys(
+    alloc: Global,
+    objects: &[Object<Vid>],
+    keys: &mut Vec<Option<NaturalKey>>,
+) -> Result<(), OutOfMemory>
+    ensures { OnOk result (keys.new.items ≡ keys.old.items ++ new_keys objects.now) }
+{
+    let names = names_of_others(alloc, objects)?;
+    let answer = push_new_named(&names, objects, keys);
+    drop(names);
+    answer
+}
+
+/// The names of the objects of a view that are no routes.
+fn names_of_others(alloc: Global, objects: &[Object<Vid>]) -> Result<Names, OutOfMemory>
+    ensures { IfOk result (λ names. AreNamesOf (entries_of (objects_as (without_routes objects.now))) names) }
+{
+    let listed = others_listed(alloc, objects)?;
+    let names = Names::of(alloc, listed.as_slice());
+    drop(listed);
+    names
+}
+
+/// Puts the natural keys of the objects of a view, of which those that are no routes have these names.
+fn push_new_named(
+    names: &Names,
+    objects: &[Object<Vid>],
+    keys: &mut Vec<Option<NaturalKey>>,
+) -> Result<(), OutOfMemory>
+    requires { AreNamesOf (entries_of (objects_as (without_routes objects.now))) names.now }
+    ensures { OnOk result (keys.new.items ≡ keys.old.items ++ new_keys objects.now) }
+{
+    for object in objects {
+        keys.push(new_key_of(names, object)?)?;
+    }
+    Ok(())
 }
 
 /// The natural key of an object of a view. That of a route needs no copy of it.

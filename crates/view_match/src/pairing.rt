@@ -144,7 +144,7 @@ fn place_of(index: &[(&NaturalKey, Partner)], key: &NaturalKey) -> Option<u64>
 fn is_before(one: &(&NaturalKey, Partner), key: &NaturalKey) -> bool
     ensures { result ≡ is_lt (natural_key_cmp (entry_in one.now).0 key.now) }
 {
-    one.0 < key
+    one.0.cmp(key).is_lt()
 }
 
 /// The place of an object, where it has this key.

@@ -27,12 +27,12 @@ returns-in_ok-insert-in-Some-clause-ok c =
     let set = sets-set es new c.args.event keys was there (c.get_mut.follows.holds keys) in
     λ e q. has-changed es new c.args.event e q (is_at (key_cmp c.args.key) q) true keys (Some was) there set (c.in_ok-insert-in-Some.ensures.updates.0 q)
 
-pub returns-in_ok-insert-in-None-2-clause-ok : goal.returns-in_ok-insert-in-None-2-clause-ok
-returns-in_ok-insert-in-None-2-clause-ok c =
+pub returns-in_ok-insert-in-Ok-clause-ok : goal.returns-in_ok-insert-in-Ok-clause-ok
+returns-in_ok-insert-in-Ok-clause-ok c =
     let es = c.args.self.now.keys in
     let keys = c.insert-in-None.new.self in
-    let new = c.insert-in-None-2.new.self in
+    let new = c.insert-in-Ok.new.self in
     let none : under es c.args.event ≡ None = search rules in
-    let set = sets-inserted es new c.args.event keys (c.in_ok-insert-in-None-2.ensures.entries ∙ ap (λ m. insert_entry event_cmp m c.args.event keys) c.get_mut.follows.holds-at-none) in
+    let set = sets-inserted es new c.args.event keys (c.in_ok-insert-in-Ok.ensures.entries ∙ ap (λ m. insert_entry event_cmp m c.args.event keys) c.get_mut.follows.holds-at-none) in
     λ e q. has-changed es new c.args.event e q (is_at (key_cmp c.args.key) q) true keys None none set
-    (c.in_ok-insert-in-None.ensures.updates.0 q ∙ ap (λ ks. cond (is_at (key_cmp c.args.key) q) true (list_any (is_at (key_cmp q)) ks)) c.new-keys.ensures.empty)
+    (c.in-Ok.ensures.updates.0 q ∙ ap (λ ks. cond (is_at (key_cmp c.args.key) q) true (list_any (is_at (key_cmp q)) ks)) c.new-keys.ensures.empty)

@@ -8,8 +8,7 @@ use Rattle.swss_script.specs.Sent.{writes_in}
 use Rattle.swss_script.specs.declared.parts.Round.{Round}
 use Rattle.swss_run.specs.Taking.{HaveReadKeys}
 use Rattle.swss_run.proofs.Sessions.{ended-none, replay-none, running-failed, running-more, running-none, session-done, session-ended}
-use Rattle.swss_run.proofs.Tables.{told-none}
-use Rattle.swss_run.proofs.session.run_rounds.Goals as goal
+use Rattle.swss_run.proofs.session.run_each.Goals as goal
 
 round-at : (done : List Round) (round : Round) (rest rounds : List Round) → rounds ≡ done ++ round ∷ rest → slice_get rounds (length done) ≡ Some round
 round-at done round rest rounds is =
@@ -31,10 +30,10 @@ loop-round-init g c =
       refl,
       subst AreRead (sym items) c.requires.read,
       omega arith,
-      running-none c.args.rounds c.args.core.now c.args.chip.now (g.K.Sink.holds c.args.sink.now) c.new-replay.result c.requires.new c.requires.chip c.requires.plan (replay-none c.args.chip.now.chip.effects c.new-replay.result c.new-replay.ensures) (ap (λ (r : Replayed). r.at) c.new-replay.ensures),
+      running-none c.args.rounds c.args.core.now c.args.chip.now (g.K.Sink.holds c.args.sink.now) c.args.replay.now c.requires.new c.requires.chip c.requires.plan (replay-none c.args.chip.now.chip.effects c.args.replay.now c.requires.replay) (ap (λ (r : Replayed). r.at) c.requires.replay),
       ended-none c.args.core.now c.args.chip.now c.requires.new,
       refl,
-      told-none c.new-told.result c.args.core.now.log.taken c.new-told.ensures.rows c.new-told.ensures.count,
+      c.requires.told,
     )
 
 pub run_round-requires-clause-read : goal.run_round-requires-clause-read

@@ -6,7 +6,7 @@ use Rattle.swss_run.specs.Taking.{HaveReadKeys}
 use Rattle.swss_run.specs.Told.{IsToldOf}
 use Rattle.swss_run.proofs.Over.{IsEndedAs}
 use Rattle.swss_run.proofs.Sessions.{IsRunning}
-use Rattle.swss_run.proofs.session.run_rounds.Given as goal
+use Rattle.swss_run.proofs.session.run_each.Given as goal
 
 -- the rounds so far ended, and these are left
 abbrev pub invariant-loop-round : goal.invariant-loop-round

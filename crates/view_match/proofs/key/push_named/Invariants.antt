@@ -2,10 +2,10 @@ use Rattle.std.proofs.Common.{◌≡◌, ◌++◌, drop, map, option_map}
 use Rattle.sai_types.specs.Named.{things_among}
 use Rattle.chip_names.specs.Naming.{entries_of}
 use Rattle.view_match.specs.Keys.{natural_key_of, keys_of_objects}
-use Rattle.view_match.proofs.key.natural_keys.Given as goal
+use Rattle.view_match.proofs.key.push_named.Given as goal
 
--- the keys so far, with those of the objects that are left, are the keys of all
+-- the keys so far, with those of the objects that are left, are those before and the keys of all
 abbrev pub invariant-loop-object : goal.invariant-loop-object
 invariant-loop-object l =
     l.keys.items ++ map (option_map natural_key_of) (things_among (entries_of l.objects) (entries_of (drop l.object-index l.objects)))
-    ≡ keys_of_objects (entries_of l.objects)
+    ≡ l.initial.keys.items ++ keys_of_objects (entries_of l.objects)
