@@ -1,2 +1,3 @@
 mod Distinct
 pub mod Readies
+pub mod RoutesBelow

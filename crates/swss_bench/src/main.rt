@@ -12,6 +12,7 @@
 //! names N..            N names that are made, used and gone
 //! keys N..             N keys that are written, popped and done
 //! reasons N..          N reasons to wait that are put and woken
+//! churn N..            N times 20,000 routes that are made and taken away again in one view
 //! plan ROUTES GROUPS   the way from a view of so many routes and groups to one in which half of the routes moved
 //! ```
 //!
@@ -19,6 +20,7 @@
 #![tactic(auto)]
 
 mod chip;
+mod churn;
 mod plans;
 mod queue;
 mod rounds;
@@ -28,6 +30,7 @@ mod words;
 
 use anyhow::{Result, bail, ensure};
 use chip::time_chip;
+use churn::time_churn;
 use plans::time_plan;
 use queue::{time_alone, time_together};
 use rounds::{fields_script, rounds_script, time_script, waiting_script, writes_script};
@@ -91,6 +94,7 @@ fn time(
         "names" => time_names(rt, alloc, number),
         "keys" => time_keys(rt, alloc, number),
         "reasons" => time_reasons(rt, alloc, number),
+        "churn" => time_churn(rt, alloc, number),
         _ => bail!("{name}: a number of routes and one of groups are wanted"),
     }
 }
