@@ -1,4 +1,6 @@
-"""What the tests of the tools share: to run a tool, and where things stand."""
+"""What the tests of the tools share: to run a tool, to call its functions, and where things stand."""
+import importlib.machinery
+import importlib.util
 import os
 import pathlib
 import subprocess
@@ -27,6 +29,15 @@ def run(tool, *words, given=b"", folder=None, **more):
     command = [sys.executable, "-B", str(TOOLS / tool), *map(str, words)]
     done = subprocess.run(command, input=given, capture_output=True, cwd=folder, timeout=120, check=False, **more)
     return done.returncode, done.stdout, done.stderr.decode()
+
+
+def module_of(tool):
+    """Returns a tool of Python as a module."""
+    loader = importlib.machinery.SourceFileLoader(tool, str(TOOLS / tool))
+    module = importlib.util.module_from_spec(importlib.util.spec_from_loader(tool, loader))
+    sys.dont_write_bytecode = True
+    loader.exec_module(module)
+    return module
 
 
 def peak_of(command, write):

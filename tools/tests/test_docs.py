@@ -1,11 +1,8 @@
-"""Tests of pages that follow from the sources: the public items, the picture of the crates, and the list of wrong bodies; and how tools/quick deals cases."""
-import importlib.machinery
-import importlib.util
+"""Tests of pages that follow from the sources: public items, pictures of the floors, the list of wrong bodies; and how tools/quick deals cases."""
 import re
-import sys
 import unittest
 
-from common import TOOLS, TOP, run
+from common import TOP, module_of, run
 
 
 def crates():
@@ -16,7 +13,7 @@ def crates():
 
 
 def reached(arrows, name):
-    """Returns what is reached from a crate by arrows."""
+    """Returns what is reached from a crate or a floor by arrows."""
     found, left = set(), [name]
     while left:
         new = arrows.get(left.pop(), set()) - found
@@ -25,21 +22,68 @@ def reached(arrows, name):
     return found
 
 
+def pictures(page):
+    """Returns the pictures of who stands on whom: each its floor, its own crates and its arrows. The picture of all floors has no floor."""
+    found = []
+    for text in re.findall(r"(?ms)^```mermaid\nflowchart (.*?)^```$", page):
+        frame = re.search(r"(?ms)^    subgraph (\w+) (.*?)^    end$", text)
+        own = re.findall(r"(?m)^        (\w+)$", frame[2]) if frame else []
+        found.append((frame and frame[1], own, re.findall(r"(?m)^    (\w+) --> (\w+)$", text)))
+    return found
+
+
+def those_from(arrows):
+    """Returns where arrows go to, by where they come from."""
+    found = {}
+    for one, other in arrows:
+        found.setdefault(one, set()).add(other)
+    return found
+
+
 class Pages(unittest.TestCase):
+    def setUp(self):
+        self.page = (TOP / "docs" / "ARCHITECTURE.md").read_text(encoding="utf-8")
+        self.pictures = pictures(self.page)
+        self.floors = {name: floor for floor, own, _ in self.pictures for name in own}
+
     def test_the_page_of_public_items_is_that_of_the_sources(self):
         status, _, said = run("surface", "--check")
         self.assertEqual((status, said), (0, ""))
 
-    def test_the_picture_shows_what_each_crate_stands_on(self):
-        arrows = {}
-        page = (TOP / "docs" / "ARCHITECTURE.md").read_text()
-        for one, other in re.findall(r"(?m)^    (\w+) --> (\w+)$", page):
-            arrows.setdefault(one, set()).add(other)
-        stand = crates()
-        for name, others in stand.items():
-            self.assertIn(f"\n        {name}\n", page)
-            self.assertLessEqual(arrows.get(name, set()), reached(stand, name), name)
-            self.assertLessEqual(others, reached(arrows, name), name)
+    def test_each_crate_has_one_place(self):
+        places = [name for _, own, _ in self.pictures for name in own]
+        self.assertEqual(sorted(places), sorted(crates()))
+        for floor, own, arrows in self.pictures:
+            self.assertTrue(not floor or {one for one, _ in arrows} <= set(own), floor)
+
+    def test_the_table_has_each_crate_on_its_floor(self):
+        told, floor = {}, ""
+        for named, names in re.findall(r"(?m)^\| (\w* ?)\| ((?:`\w+`(?:, )?)+) \|", self.page):
+            floor = named.strip() or floor
+            told.update({name: floor for name in re.findall(r"\w+", names)})
+        self.assertEqual(told, self.floors)
+
+    def test_the_pictures_show_what_each_crate_stands_on(self):
+        arrows = those_from(it for floor, _, its in self.pictures if floor for it in its)
+        self.check_arrows(arrows, crates())
+
+    def test_the_picture_of_floors_shows_on_which_others_each_stands(self):
+        stand = {floor: set() for floor in self.floors.values()}
+        for name, others in crates().items():
+            floor = self.floors[name]
+            stand[floor] |= {self.floors[it] for it in others} - {floor}
+        [its] = [its for floor, _, its in self.pictures if not floor]
+        self.check_arrows(those_from(its), stand)
+
+    def check_arrows(self, arrows, stand):
+        """Checks that arrows lead from each exactly to what it stands on, and that none shows what others show."""
+        self.assertLessEqual(set(arrows), set(stand))
+        for name in stand:
+            its = arrows.get(name, set())
+            self.assertLessEqual(its, reached(stand, name), name)
+            self.assertLessEqual(stand[name], reached(arrows, name), name)
+            for other in its:
+                self.assertNotIn(other, reached({**arrows, name: its - {other}}, name), name)
 
     def test_wrong_bodies_are_counted(self):
         rows = re.findall(r"(?m)^\| `(\w+)` \| (\d+) \|", (TOP / "docs" / "WRONG_BODIES.md").read_text())
@@ -58,14 +102,16 @@ class Pages(unittest.TestCase):
 
 class Dealing(unittest.TestCase):
     def test_each_case_is_dealt_once(self):
-        loader = importlib.machinery.SourceFileLoader("quick", str(TOOLS / "quick"))
-        quick = importlib.util.module_from_spec(importlib.util.spec_from_loader("quick", loader))
-        sys.dont_write_bytecode = True
-        loader.exec_module(quick)
+        quick = module_of("quick")
         text = (TOP / "crates" / "swss_cases" / "stdin").read_text()
         wanted = sorted(it for it in text.split("\n") if it.startswith("case "))
         for rooms in (1, 3, 5):
-            parts = quick.dealt(text, rooms)
-            self.assertEqual(len(parts), rooms)
+            parts, out = quick.dealt(text, rooms, True)
+            self.assertEqual((len(parts), out), (rooms, 0))
             found = sorted(line for part in parts for line in part.split("\n") if line.startswith("case "))
             self.assertEqual(found, wanted)
+
+    def test_a_long_case_is_left_out_or_run_once(self):
+        quick = module_of("quick")
+        text = "cases scripts\ncase long\n*300000 %0a\nonce\ncase large\n*300000 %0a\noutput\n|a\ncase small\n|a\noutput\n|a\n"
+        self.assertEqual(quick.dealt(text, 1, False), (["cases scripts\ncase large\n*300000 %0a\nonce\noutput\n|a\ncase small\n|a\noutput\n|a\n\n"], 1))
