@@ -1,5 +1,5 @@
 -- An apply: the plan from what stands on a chip to a new view, and the calls that it comes to. Own.
-use Rattle.std.specs.Prelude.{◌≡◌, ℕ, ◌+◌, ◌≤◌, List, [], ◌∷◌, map, Some, if◌then◌else◌}
+use Rattle.std.specs.Prelude.{◌≡◌, ℕ, ◌≤◌, List, [], ◌∷◌, map, Some}
 use Rattle.sai_types.specs.declared.ids.Rid.{Rid}
 use Rattle.sai_types.specs.declared.ids.Vid.{Vid}
 use Rattle.sai_types.specs.declared.body.Call.{Call}
@@ -9,7 +9,6 @@ use Rattle.sai_types.specs.declared.plan.Plan.{Plan}
 use Rattle.sai_types.specs.declared.plan.PlanCall.{PlanCall}
 use Rattle.sai_types.specs.declared.plan.PlanId.{PlanId}
 use Rattle.sai_types.specs.declared.thing.Thing.{Thing}
-use Rattle.sai_types.specs.After.{makes_id}
 use Rattle.sai_types.specs.Objects.{used}
 use Rattle.sai_types.specs.Refusal.{capacity_of}
 use Rattle.chip_names.specs.Naming.{entries_of}
@@ -20,11 +19,8 @@ use Rattle.plan_laws.specs.Calls.{resolve}
 use Rattle.view_match.specs.Pairs.{pairs_of}
 use Rattle.apply_order.specs.Planned.{IsPlanOf}
 use Rattle.apply_order.specs.Room.{lacking_from}
+use Rattle.syncd_core.specs.Run.{made_by}
 use Rattle.apply_laws.specs.Viewed.{HaveOneLanes, IsViewOf, things_in}
-
--- how many identifiers the chip has made after a call
-abbrev pub made_by : ℕ → PlanCall → ℕ
-made_by made c = if makes_id c.call then made + 1 else made
 
 -- what a call of the plan makes comes to the chip's next identifier
 abbrev pub ComeToNextIds : (Vid → Rid) → ℕ → List PlanCall → Type 0

@@ -21,11 +21,10 @@ ghost use Rattle.sai_types.specs.Made.{AreSorted, IsWhole, made_after};
 ghost use Rattle.sai_types.specs.Objects.{Objects, body_at, used};
 ghost use Rattle.sai_types.specs.Refusal.{IsLegal};
 ghost use Rattle.chip_layout.specs.Counted.{AreDistinct};
-ghost use Rattle.chip_layout.specs.Layout.{IsLaidOut};
-ghost use Rattle.chip_layout.specs.Layout as chip;
+ghost use Rattle.chip_layout.specs.Layout.{IsLaidOut, listed};
 ghost use Rattle.chip_layout.specs.Renamed.{call_renamed};
 ghost use Rattle.asic_view.specs.declared.object.ViewObject.{ViewObject};
-ghost use Rattle.asic_view.specs.Things.{StandFor, listed};
+ghost use Rattle.asic_view.specs.Things.{StandFor};
 ghost use Rattle.asic_view.specs.View.{IsLegalOn, IsLegalWith, ViewObjects, rid_at, used_of, vid_cmp};
 ghost use Rattle.syncd_core.specs.Synced.{CanCall, AnswerFollows, IsMadeOnChip, SyncState, current};
 ghost use Rattle.syncd_core.specs.Tied.{tie_of};
@@ -76,7 +75,7 @@ pub fn ties_stay()
 
 /// A view that is tied to a chip stands for the things for which the chip's objects stand.
 pub fn tied_views_stand()
-    ensures { (view : ViewObjects) (made : ℕ) (objects : Objects) (stands : List (Rid × Thing)) → AreTied view made objects → IsWhole made objects → IsLaidOut (chip.listed stands) objects → (things : List (Vid × Thing)) × StandFor (listed things) view × AreThingsOf view stands things }
+    ensures { (view : ViewObjects) (made : ℕ) (objects : Objects) (stands : List (Rid × Thing)) → AreTied view made objects → IsWhole made objects → IsLaidOut (listed stands) objects → (things : List (Vid × Thing)) × StandFor (listed things) view × AreThingsOf view stands things }
 {}
 
 /// The view has as many objects of each kind as the chip.

@@ -5,7 +5,7 @@ use Rattle.std.proofs.lemmas.Bool.{and_parts}
 use Rattle.sai_types.specs.declared.kind.Kind.{Kind}
 use Rattle.sai_types.specs.declared.kind.Kind.TheVariants as kind
 use Rattle.sai_types.specs.Alike.{IsIn}
-use Rattle.apply_order.specs.Room.{all_kinds}
+use Rattle.sai_types.specs.Kinds.{all_kinds}
 
 in_all_kinds : (k : Kind) → IsIn k all_kinds
 in_all_kinds kind.Port = inl refl

@@ -10,7 +10,8 @@ use Rattle.sai_types.specs.declared.body.Object.{Object}
 use Rattle.sai_types.specs.declared.kind.Kind.{Kind}
 use Rattle.sai_types.specs.Objects.{level}
 use Rattle.apply_order.specs.Places.{Places}
-use Rattle.apply_order.specs.Room.{all_kinds, has_room, lacking_from, old_count}
+use Rattle.sai_types.specs.Kinds.{all_kinds}
+use Rattle.apply_order.specs.Room.{has_room, lacking_from, old_count}
 use Rattle.sai_types.specs.Refusal.{capacity_of}
 use Rattle.apply_order.proofs.EachKind.{each-kind, kinds-each}
 

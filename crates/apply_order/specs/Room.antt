@@ -4,7 +4,6 @@ use Rattle.sai_types.specs.declared.ids.Rid.{Rid}
 use Rattle.sai_types.specs.declared.ids.Vid.{Vid}
 use Rattle.sai_types.specs.declared.body.Object.{Object}
 use Rattle.sai_types.specs.declared.kind.Kind.{Kind}
-use Rattle.sai_types.specs.declared.kind.Kind.TheVariants as kind
 use Rattle.sai_types.specs.Objects.{is_of, level}
 use Rattle.sai_types.specs.Refusal.{capacity_of}
 use Rattle.apply_order.specs.Places.{Places, by_new, partner_at}
@@ -30,6 +29,3 @@ FitTogether capacities old new pairs = (kind : Kind) → old_count kind old + la
 -- whether there is room for so many objects that are held and so many that are lacking, by the levels of their kinds
 abbrev pub has_room : List ℕ → List ℕ → List ℕ → Kind → Bool
 has_room capacities held lacking kind = nat_le (slice_index held (level kind) + slice_index lacking (level kind)) (capacity_of capacities kind)
-
-abbrev pub all_kinds : List Kind
-all_kinds = kind.Port ∷ kind.Vlan ∷ kind.BridgePort ∷ kind.VlanMember ∷ kind.Rif ∷ kind.OwnAddress ∷ kind.Neighbor ∷ kind.NextHop ∷ kind.Group ∷ kind.GroupMember ∷ kind.Route ∷ []

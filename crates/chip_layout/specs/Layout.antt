@@ -32,23 +32,23 @@ pub record IsLaidOut (layout : Layout Rid) (objects : Objects) : Type 0 where
   pub ids : (i : Rid) (t u : Thing) → layout i t → layout i u → has_number t ≡ true → has_number u ≡ true → t ≡ u
 
 -- nothing that stands can't stand beside this thing
-abbrev pub IsFree : Layout Rid → Thing → Type 0
-IsFree layout t = (i : Rid) (u : Thing) → layout i u → Meet t u → ⊥
+abbrev pub IsFree : {I : Type 0} → Layout I → Thing → Type 0
+IsFree {I} layout t = (i : I) (u : Thing) → layout i u → Meet t u → ⊥
 
 -- what a thing refers to stands
-abbrev pub RefersWell : Layout Rid → Thing → Type 0
-RefersWell layout t = (k : ThingName) → Refers t k → (i : Rid) × Has layout k i
+abbrev pub RefersWell : {I : Type 0} → Layout I → Thing → Type 0
+RefersWell {I} layout t = (k : ThingName) → Refers t k → (i : I) × Has layout k i
 
 -- nothing that stands refers to this name
-abbrev pub IsUnused : Layout Rid → ThingName → Type 0
-IsUnused layout k = (i : Rid) (u : Thing) → layout i u → Refers u k → ⊥
+abbrev pub IsUnused : {I : Type 0} → Layout I → ThingName → Type 0
+IsUnused {I} layout k = (i : I) (u : Thing) → layout i u → Refers u k → ⊥
 
 -- the things that stand, and one more
-abbrev pub with_thing : Layout Rid → Rid → Thing → Layout Rid
+abbrev pub with_thing : {I : Type 0} → Layout I → I → Thing → Layout I
 with_thing layout i t j u = layout j u ⊎ ((j ≡ i) × (u ≡ t))
 
 -- but what has this name
-abbrev pub without : Layout Rid → ThingName → Layout Rid
+abbrev pub without : {I : Type 0} → Layout I → ThingName → Layout I
 without layout k j u = layout j u × (name_of u ≡ k → ⊥)
 
 -- the identifier of the next thing to be made
@@ -64,9 +64,9 @@ abbrev pub HasRoom : List ℕ → Objects → Thing → Type 0
 HasRoom capacities objects t = nat_le (capacity_of capacities (name_kind (name_of t))) (used objects (name_kind (name_of t))) ≡ false
 
 -- the things that stand, with another thing in the place of the one of its name
-abbrev pub with_changed : Layout Rid → Rid → Thing → Layout Rid
+abbrev pub with_changed : {I : Type 0} → Layout I → I → Thing → Layout I
 with_changed layout i t = with_thing (without layout (name_of t)) i t
 
 -- a layout that a list gives
-abbrev pub listed : List (Rid × Thing) → Layout Rid
+abbrev pub listed : {I : Type 0} → List (I × Thing) → Layout I
 listed things i t = IsIn (i, t) things

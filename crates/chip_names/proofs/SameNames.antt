@@ -20,7 +20,7 @@ use Rattle.sai_types.specs.ChipState.{objects_of}
 use Rattle.sai_types.specs.Refusal.{same_id}
 use Rattle.sai_types.specs.Named.{both, hop_cmp, body_port, body_vlan, port_at, vlan_at, bridge_port_of, bridge_port_at, base_on, rif_of, rif_at, hop_on, next_hop_of, next_hop_at, with_member, hops_among, hops_at, goal_by, thing_by, thing_of, things_among, named}
 use Rattle.chip_names.specs.Members.{hops_by}
-use Rattle.chip_names.specs.Naming.{AreBodies, AreHops, AreNamesOf, GroupHops, NameTable, entries_of, hops_in}
+use Rattle.chip_names.specs.Naming.{AreBodies, AreHops, AreNamesOf, GroupHops, NameTable, entries_of, hops_of_group}
 
 module _ (xs ys : Objects) (found : AreBodies ys xs) where
   port_at-same : (r : Rid) → port_at xs r ≡ port_at ys r
@@ -104,9 +104,9 @@ map-things_among objects [] = refl
 map-things_among objects (o ∷ os) = ap (λ ts. thing_of objects o ∷ ts) (map-things_among objects os)
 
 -- what bodies and groups name is what the objects stand for
-pub things-named : (objects bodies : Objects) (groups : GroupHops) → AreBodies objects bodies → AreHops bodies objects groups → map (thing_by (hops_in groups) bodies) objects ≡ named objects
+pub things-named : (objects bodies : Objects) (groups : GroupHops) → AreBodies objects bodies → AreHops bodies objects groups → map (thing_by (hops_of_group groups) bodies) objects ≡ named objects
 things-named objects bodies groups found hops =
-    map-same bodies objects found (hops_in groups) (hops_at objects) (λ r. hops.each r ∙ hops_among-same bodies objects found r objects) objects
+    map-same bodies objects found (hops_of_group groups) (hops_at objects) (λ r. hops.each r ∙ hops_among-same bodies objects found r objects) objects
     ∙ map-things_among objects objects
 
 pub drop-before : {X : Type 0} (xs : List X) (left : ℕ) (d : X) → 0 < left → left ≤ length xs → drop (left - 1) xs ≡ get_or xs (left - 1) d ∷ drop left xs
@@ -125,14 +125,14 @@ hops_by-before objects ns left d hop hops new some within found one more =
 
 -- and so is what one of them names, and where a route leads
 module _ (objects : Objects) (names : NameTable) (are : AreNamesOf objects names) where
-  hops_of-names : (r : Rid) → hops_in names.groups r ≡ hops_at objects r
+  hops_of-names : (r : Rid) → hops_of_group names.groups r ≡ hops_at objects r
   hops_of-names r = are.groups.each r ∙ hops_among-same names.bodies objects are.bodies r objects
 
-  pub thing-named : (e : Entry Rid) (b : Body Rid) → thing_by (hops_in names.groups) names.bodies (e, b) ≡ thing_of objects (e, b)
-  thing-named e b = thing_by-same names.bodies objects are.bodies (hops_in names.groups) (hops_at objects) hops_of-names e b
+  pub thing-named : (e : Entry Rid) (b : Body Rid) → thing_by (hops_of_group names.groups) names.bodies (e, b) ≡ thing_of objects (e, b)
+  thing-named e b = thing_by-same names.bodies objects are.bodies (hops_of_group names.groups) (hops_at objects) hops_of-names e b
 
-  pub goal-named : (to : To Rid) → goal_by (hops_in names.groups) names.bodies to ≡ goal_by (hops_at objects) objects to
-  goal-named to = goal_by-same names.bodies objects are.bodies (hops_in names.groups) (hops_at objects) hops_of-names to
+  pub goal-named : (to : To Rid) → goal_by (hops_of_group names.groups) names.bodies to ≡ goal_by (hops_at objects) objects to
+  goal-named to = goal_by-same names.bodies objects are.bodies (hops_of_group names.groups) (hops_at objects) hops_of-names to
 
 -- the objects of a chip, as its list gives them
 pub entries_of-objects_of : (objects : Objects) → entries_of (objects_of objects) ≡ objects

@@ -10,7 +10,7 @@ use Rattle.sai_types.specs.declared.body.Entry.TheVariants as entry
 use Rattle.sai_types.specs.declared.body.To.TheVariants as to
 use Rattle.sai_types.specs.Objects.{Objects}
 use Rattle.sai_types.specs.Named.{both, hop_cmp, hops_at, next_hop_at}
-use Rattle.chip_names.specs.Naming.{GroupHops, hops_in}
+use Rattle.chip_names.specs.Naming.{GroupHops, hops_of_group}
 
 -- the hops of these next hops, rising: none where one is absent
 abbrev pub hops_by : Objects → List Rid → Option (List Hop)
@@ -26,4 +26,4 @@ group_named_by e b = None
 
 -- that group has these hops
 pub record HasHops (objects : Objects) (e : Entry Rid) (b : Body Rid) (groups : GroupHops) : Type 0 where
-  pub each : (g : Rid) → group_named_by e b ≡ Some g → hops_in groups g ≡ hops_at objects g
+  pub each : (g : Rid) → group_named_by e b ≡ Some g → hops_of_group groups g ≡ hops_at objects g

@@ -37,12 +37,12 @@ abbrev pub GroupHops : Type 0
 GroupHops = List (Rid × Option (List Hop))
 
 -- the hops of a group: none where it has no entry
-abbrev pub hops_in : GroupHops → Rid → Option (List Hop)
-hops_in groups g = unwrap_or (lookup (is_at (rid_cmp g)) groups) (Some [])
+abbrev pub hops_of_group : GroupHops → Rid → Option (List Hop)
+hops_of_group groups g = unwrap_or (lookup (is_at (rid_cmp g)) groups) (Some [])
 
 -- the hops that the members among these objects give to each group
 pub record AreHops (objects : Objects) (members : Objects) (groups : GroupHops) : Type 0 where
-  pub each : (g : Rid) → hops_in groups g ≡ hops_among objects g members
+  pub each : (g : Rid) → hops_of_group groups g ≡ hops_among objects g members
 
 -- the hops of a group where a member of another or of the same is added
 abbrev pub with_hop : Rid → Option Hop → Rid → Option (List Hop) → Option (List Hop)

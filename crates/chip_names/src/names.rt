@@ -3,7 +3,7 @@ ghost use Rattle.std.specs.Prelude.{◌≡◌, [], IfOk, option_copied, option_m
 ghost use Rattle.std.specs.Option.{is_some};
 ghost use Rattle.sai_types.specs.Named.{base_on, both, bridge_port_at, goal_by, hop_on, next_hop_at, port_at, rif_at, thing_by, vlan_at};
 ghost use Rattle.sai_types.specs.Objects.{body_at};
-ghost use Rattle.chip_names.specs.Naming.{hops_in, numbered};
+ghost use Rattle.chip_names.specs.Naming.{hops_of_group, numbered};
 
 use crate::known::{Known, Numbered};
 use late_maps::LateMap;
@@ -91,7 +91,7 @@ pub fn next_hop_at(bodies: &Numbered, next_hop: Rid) -> Option<Hop>
 
 /// The hops of a group once more, without a hop where it has no member.
 fn hops_at(alloc: Global, groups: &GroupHops, group: Rid) -> Result<Option<Hops>, OutOfMemory>
-    ensures { IfOk result (λ hops. hops ≡ hops_in groups.now group) }
+    ensures { IfOk result (λ hops. hops ≡ hops_of_group groups.now group) }
 {
     Ok(match groups.get(&group) {
         Some(Some(hops)) => Some(hops.copy()?),
@@ -107,7 +107,7 @@ fn goal_at(
     groups: &GroupHops,
     to: &To<Rid>,
 ) -> Result<Option<Goal>, OutOfMemory>
-    ensures { IfOk result (λ goal. goal ≡ goal_by (hops_in groups.now) (numbered bodies.now) to.now) }
+    ensures { IfOk result (λ goal. goal ≡ goal_by (hops_of_group groups.now) (numbered bodies.now) to.now) }
 {
     Ok(match to {
         To::Drop => Some(Goal::Drop),
@@ -119,7 +119,7 @@ fn goal_at(
 
 /// Whether what a route points to is there.
 pub fn leads(known: &Known, groups: &GroupHops, to: &To<Rid>) -> bool
-    ensures { result ≡ is_some (goal_by (hops_in groups.now) known.now to.now) }
+    ensures { result ≡ is_some (goal_by (hops_of_group groups.now) known.now to.now) }
 {
     match to {
         To::Drop => true,
@@ -131,7 +131,7 @@ pub fn leads(known: &Known, groups: &GroupHops, to: &To<Rid>) -> bool
 
 /// Whether the next hop of each member of a group is there.
 fn has_hops(groups: &GroupHops, group: Rid) -> bool
-    ensures { result ≡ is_some (hops_in groups.now group) }
+    ensures { result ≡ is_some (hops_of_group groups.now group) }
 {
     match groups.get(&group) {
         Some(hops) => hops.is_some(),
@@ -147,7 +147,7 @@ pub fn thing_at(
     entry: &Entry<Rid>,
     body: &Body<Rid>,
 ) -> Result<Option<Thing>, OutOfMemory>
-    ensures { IfOk result (λ thing. thing ≡ thing_by (hops_in groups.now) (numbered bodies.now) (entry.now, body.now)) }
+    ensures { IfOk result (λ thing. thing ≡ thing_by (hops_of_group groups.now) (numbered bodies.now) (entry.now, body.now)) }
 {
     match body {
         Body::Port {
@@ -188,7 +188,7 @@ fn route_at(
     prefix: Prefix,
     to: &To<Rid>,
 ) -> Result<Option<Thing>, OutOfMemory>
-    ensures { IfOk result (λ thing. thing ≡ option_map (Thing.Route prefix) (goal_by (hops_in groups.now) (numbered bodies.now) to.now)) }
+    ensures { IfOk result (λ thing. thing ≡ option_map (Thing.Route prefix) (goal_by (hops_of_group groups.now) (numbered bodies.now) to.now)) }
 {
     match goal_at(alloc, bodies, groups, to)? {
         Some(goal) => Ok(Some(Thing::Route(prefix, goal))),
@@ -219,7 +219,7 @@ fn group_at(
     groups: &GroupHops,
     entry: &Entry<Rid>,
 ) -> Result<Option<Thing>, OutOfMemory>
-    ensures { IfOk result (λ thing. thing ≡ thing_by (hops_in groups.now) [] (entry.now, Body.Group)) }
+    ensures { IfOk result (λ thing. thing ≡ thing_by (hops_of_group groups.now) [] (entry.now, Body.Group)) }
 {
     match entry {
         Entry::Oid(group) => Ok(hops_at(alloc, groups, *group)?.map(Thing::Group)),
@@ -234,7 +234,7 @@ pub fn group_member_at(
     group: Rid,
     hop: Option<Hop>,
 ) -> Result<Option<Thing>, OutOfMemory>
-    ensures { IfOk result (λ thing. thing ≡ both Thing.GroupMember (hops_in groups.now group) hop) }
+    ensures { IfOk result (λ thing. thing ≡ both Thing.GroupMember (hops_of_group groups.now group) hop) }
 {
     let Some(hop) = hop else {
         return Ok(None);

@@ -7,7 +7,7 @@ ghost use Rattle.std.specs.Option.{option_or};
 ghost use Rattle.sai_types.specs.Named.{both, hop_cmp, named, thing_by, those, with_member};
 ghost use Rattle.sai_types.specs.Objects.{body_at, entry_cmp};
 ghost use Rattle.sai_types.specs.declared.ids.Rid.{Rid};
-ghost use Rattle.chip_names.specs.Naming.{AreBodies, AreHops, entries_of, hops_in, numbered, thing_cmp, with_hop};
+ghost use Rattle.chip_names.specs.Naming.{AreBodies, AreHops, entries_of, hops_of_group, numbered, thing_cmp, with_hop};
 ghost use Rattle.chip_names.specs.Members.{hops_by};
 
 use crate::known::{Known, Numbered};
@@ -86,7 +86,7 @@ fn put_member(
     groups: &mut GroupHops,
     body: &Body<Rid>,
 ) -> Result<(), OutOfMemory>
-    ensures { OnOk result ((g : Rid) → hops_in groups.new g ≡ with_member known.now g body.now (hops_in groups.old g)) }
+    ensures { OnOk result ((g : Rid) → hops_of_group groups.new g ≡ with_member known.now g body.now (hops_of_group groups.old g)) }
 {
     match body {
         Body::GroupMember { group, next_hop } => {
@@ -103,7 +103,7 @@ fn put_hop(
     group: Rid,
     hop: Option<Hop>,
 ) -> Result<(), OutOfMemory>
-    ensures { OnOk result ((g : Rid) → hops_in groups.new g ≡ with_hop group hop g (hops_in groups.old g)) }
+    ensures { OnOk result ((g : Rid) → hops_of_group groups.new g ≡ with_hop group hop g (hops_of_group groups.old g)) }
 {
     let others = match groups.remove(&group) {
         Some(others) => others,
@@ -149,7 +149,7 @@ fn list_things(
     groups: &GroupHops,
     objects: &[Object<Rid>],
 ) -> Result<Vec<Thing>, OutOfMemory>
-    ensures { IfOk result (λ things. things.items ≡ those (map (thing_by (hops_in groups.now) (numbered bodies.now)) (entries_of objects.now))) }
+    ensures { IfOk result (λ things. things.items ≡ those (map (thing_by (hops_of_group groups.now) (numbered bodies.now)) (entries_of objects.now))) }
 {
     let mut things = Vec::new(alloc);
     for object in objects {

@@ -135,3 +135,8 @@ IsBegunBy plan names room used worker k old new (Err wait) names' room' = (wait_
 abbrev pub answered : {X : Type 0} → (X → Operation) → Result X Wait → Result Operation Wait
 answered operation (Ok x) = Ok (operation x)
 answered operation (Err wait) = Err wait
+
+-- an operation for an answer
+abbrev pub flown : Operation → Result (Unit {0}) Wait → Result Operation Wait
+flown operation (Ok _) = Ok operation
+flown operation (Err wait) = Err wait

@@ -17,9 +17,9 @@ use Rattle.switch_machine.specs.Flights.{Fits}
 use Rattle.orch_flight.specs.Needing.{first_unapplied}
 use Rattle.orch_flight.specs.Operation.{Operation}
 use Rattle.orch_flight.specs.Sharing.{MayStart}
-use Rattle.orch_flight.specs.Starting.{IsBegunBy, IsStartedBy, begun_names, first_due, leaving, started_by, started_operation}
+use Rattle.orch_flight.specs.Starting.{IsBegunBy, IsStartedBy, begun_names, first_due, leaving, started_by, started_operation, flown}
 use Rattle.orch_flight.proofs.Begins.{started-plain}
-use Rattle.port_orch.specs.Ports.{IsPortStart, IsPortKey, IsPortRow, flown, port_due, port_operation, port_thing}
+use Rattle.port_orch.specs.Ports.{IsPortStart, IsPortKey, IsPortRow, port_due, port_operation, port_thing}
 
 -- the port's lanes are those of the plan, where there is a row
 abbrev pub IsPlannedAs : Ports → ℕ → Option PortRow → Type 0

@@ -1,5 +1,5 @@
 -- The operation of a port, as far as it is made: its row is made, its values are set one after the other, or it is removed. The order of calls is that of SONiC's orchestration agent.
-use Rattle.std.specs.Prelude.{◌≡◌, ℕ, ◌==◌, Bool, true, false, List, [], ◌∷◌, Option, Some, None, option_map, Result, Ok, Err, if◌then◌else◌}
+use Rattle.std.specs.Prelude.{◌≡◌, ℕ, ◌==◌, Bool, true, false, List, [], ◌∷◌, Option, Some, None, option_map, if◌then◌else◌}
 use Rattle.table_schema.specs.declared.key.Key.{Key}
 use Rattle.table_schema.specs.declared.key.Key.TheVariants as key
 use Rattle.table_schema.specs.declared.row.PortRow.{PortRow}
@@ -13,7 +13,6 @@ use Rattle.sai_types.specs.declared.body.Body.TheVariants as body
 use Rattle.sai_types.specs.declared.thing.Thing.{Thing}
 use Rattle.sai_types.specs.Named.{first_lane}
 use Rattle.sai_types.specs.Names as name
-use Rattle.switch_model.specs.declared.wait.Wait.{Wait}
 use Rattle.row_layout.specs.Operations.{Change, Make, Take, thing_of_port, set_to}
 use Rattle.orch_flight.specs.Operation.{Operation}
 
@@ -67,8 +66,3 @@ IsPortRow (Some _) = ⊥
 -- an operation of which nothing is made
 abbrev pub IsPortStart : ℕ → Key → Option Row → Option Row → Operation → Type 0
 IsPortStart worker k old new operation = (port : ℕ) × (now : Option PortRow) × (next : Option PortRow) × (k ≡ key.Port port) × (old ≡ option_map row.Port now) × (new ≡ option_map row.Port next) × (operation ≡ port_operation worker port false now next)
-
--- an operation for an answer
-abbrev pub flown : Operation → Result (Unit {0}) Wait → Result Operation Wait
-flown operation (Ok _) = Ok operation
-flown operation (Err wait) = Err wait

@@ -3,12 +3,12 @@ ghost use Rattle.std.specs.Prelude.{◌≡◌, ◌↔◌, [], ◌∷◌, IsSome,
 ghost use Rattle.table_schema.specs.Plan.{Ports};
 ghost use Rattle.orch_flight.specs.Calling.{IsNextOf, IsOver, KnowsIds};
 ghost use Rattle.orch_flight.specs.Sharing.{MayStart};
-ghost use Rattle.orch_flight.specs.Starting.{IsStartedBy};
+ghost use Rattle.orch_flight.specs.Starting.{IsStartedBy, flown};
 ghost use Rattle.orch_flight.specs.Taking.{IsTook, MayTake};
 ghost use Rattle.ref_counts.specs.Registered.{first_of};
 ghost use Rattle.ref_counts.specs.Registry.{ids_of};
 ghost use Rattle.sai_types.specs.declared.ids.Vid.{Vid};
-ghost use Rattle.port_orch.specs.Ports.{IsPortStart, IsPortKey, IsPortRow, first_attr, flown, port_body, stepped};
+ghost use Rattle.port_orch.specs.Ports.{IsPortStart, IsPortKey, IsPortRow, first_attr, port_body, stepped};
 
 use crate::starting::{add, change, remove};
 use orch_flight::vid;

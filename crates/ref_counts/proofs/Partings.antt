@@ -21,7 +21,7 @@ use Rattle.table_schema.specs.declared.key.Key.TheVariants as key
 use Rattle.ref_counts.specs.declared.name.Name.{Name}
 use Rattle.ref_counts.specs.declared.name.Name.TheVariants as name
 use Rattle.ref_counts.specs.declared.registrations.Registrations.TheInside.{Inside}
-use Rattle.ref_counts.specs.Parted.{AreParted, IsAmongRows, IsAmongOthers, all_names, name_place, neighbor_cmp, neighbor_name, place_of_groups, place_of_neighbors, place_of_routes, route_name}
+use Rattle.ref_counts.specs.Parted.{AreParted, IsAmongRows, IsAmongOthers, all_names, table_place_of_name, neighbor_key_cmp, neighbor_name, place_of_groups, place_of_neighbors, place_of_routes, route_name}
 use Rattle.late_maps.specs.Segments.{renamed}
 use Rattle.ref_counts.specs.Registered.{Registered}
 use Rattle.ref_counts.specs.Registry.{Names, registered_name_cmp}
@@ -46,7 +46,7 @@ hops_cmp = slice_cmp hop_cmp
 rows_same : (k q : Key) → registered_name_cmp (name.Row k) (name.Row q) ≡ key_cmp k q
 rows_same k q = refl
 
-neighbors_same : (m n : Neighbor) → registered_name_cmp (neighbor_name m) (neighbor_name n) ≡ neighbor_cmp m n
+neighbors_same : (m n : Neighbor) → registered_name_cmp (neighbor_name m) (neighbor_name n) ≡ neighbor_key_cmp m n
 neighbors_same m n = refl
 
 routes_same : (p q : Prefix) → registered_name_cmp (route_name p) (route_name q) ≡ prefix_cmp p q
@@ -63,13 +63,13 @@ abbrev IsBelow : Name → Name → Type 0
 IsBelow n m = registered_name_cmp n m ≡ Greater
 
 -- a row is below what has a greater place, and a group is above all that has a lesser place
-pub row_below : (k : Key) (m : Name) → table_place k < name_place m → IsAbove (name.Row k) m
+pub row_below : (k : Key) (m : Name) → table_place k < table_place_of_name m → IsAbove (name.Row k) m
 row_below k (name.Row q) lt = ap (λ o. ordering_then o (part_cmp k q)) (sym (nat_cmp_is (table_place k) (table_place q) Less lt))
 row_below k (name.BridgePort p) lt = refl
 row_below k (name.Own ip) lt = refl
 row_below k (name.Group hops) lt = refl
 
-group_above : (n : Name) (hops : List Hop) → name_place n < place_of_groups → IsAbove n (name.Group hops)
+group_above : (n : Name) (hops : List Hop) → table_place_of_name n < place_of_groups → IsAbove n (name.Group hops)
 group_above (name.Row k) hops lt = refl
 group_above (name.BridgePort p) hops lt = refl
 group_above (name.Own ip) hops lt = refl
@@ -101,7 +101,7 @@ module _ (r : Inside) (h : AreParted r.rows r.others) where
   behind_rows = the_neighbors ++ behind_neighbors
 
   -- what stands behind a part is above what comes before
-  groups_above : (n : Name) → name_place n < place_of_groups → AllAbove registered_name_cmp n the_groups
+  groups_above : (n : Name) → table_place_of_name n < place_of_groups → AllAbove registered_name_cmp n the_groups
   groups_above n lt = all-named (IsAbove n) name.Group (λ hops. group_above n hops lt) r.groups
 
   behind_routes_above : (k : Key) → table_place k ≤ place_of_routes → AllAbove registered_name_cmp (name.Row k) behind_routes
@@ -120,13 +120,13 @@ module _ (r : Inside) (h : AreParted r.rows r.others) where
       all-all_names (IsAbove (name.Row k)) the_neighbors behind_neighbors neighbors (behind_neighbors_above k (omega arith))
 
   -- a part is below what comes behind it
-  rows_below : (n : Name) → place_of_neighbors ≤ name_place n → AllBelow registered_name_cmp n the_rows
+  rows_below : (n : Name) → place_of_neighbors ≤ table_place_of_name n → AllBelow registered_name_cmp n the_rows
   rows_below n le = all-renamed (IsBelow n) name.Row IsAmongRows (λ k is. turned (name.Row k) n (row_below k n (omega arith))) r.rows h.of_rows
 
-  neighbors_below : (n : Name) → place_of_neighbors < name_place n → AllBelow registered_name_cmp n the_neighbors
+  neighbors_below : (n : Name) → place_of_neighbors < table_place_of_name n → AllBelow registered_name_cmp n the_neighbors
   neighbors_below n lt = all-named (IsBelow n) neighbor_name (λ a. turned (neighbor_name a) n (row_below (key.Neigh a.0 a.1) n lt)) r.neighbors
 
-  routes_below : (n : Name) → place_of_routes < name_place n → AllBelow registered_name_cmp n the_routes
+  routes_below : (n : Name) → place_of_routes < table_place_of_name n → AllBelow registered_name_cmp n the_routes
   routes_below n lt = all-named (IsBelow n) route_name (λ p. turned (route_name p) n (row_below (key.Route p) n lt)) r.routes
 
   others_below : (hops : List Hop) → AllBelow registered_name_cmp (name.Group hops) r.others
@@ -136,14 +136,14 @@ module _ (r : Inside) (h : AreParted r.rows r.others) where
   pub row-stands : (k : Key) → IsAmongRows k → StandsIn key_cmp k registered_name_cmp (name.Row k) r.rows (λ l. all_names l r.neighbors r.routes r.others r.groups)
   row-stands k is = StandsIn-above (StandsIn-renamed key_cmp registered_name_cmp name.Row rows_same k r.rows) behind_rows (behind_rows_above k is)
 
-  pub neighbor-stands : (a : Neighbor) → StandsIn neighbor_cmp a registered_name_cmp (neighbor_name a) r.neighbors (λ l. all_names r.rows l r.routes r.others r.groups)
+  pub neighbor-stands : (a : Neighbor) → StandsIn neighbor_key_cmp a registered_name_cmp (neighbor_name a) r.neighbors (λ l. all_names r.rows l r.routes r.others r.groups)
   neighbor-stands a =
-      let own = StandsIn-renamed neighbor_cmp registered_name_cmp neighbor_name neighbors_same a r.neighbors in
+      let own = StandsIn-renamed neighbor_key_cmp registered_name_cmp neighbor_name neighbors_same a r.neighbors in
       let first = StandsIn-above own behind_neighbors (behind_neighbors_above (key.Neigh a.0 a.1) (omega arith)) in
       StandsIn-below first the_rows (rows_below (neighbor_name a) (omega arith))
 
   -- what stands among what is behind the neighbours stands in the whole
-  past_neighbors : {K : Type 0} (own : K → K → Ordering) (k : K) (n : Name) (part : List (K × Registered)) (whole : List (K × Registered) → Names) → place_of_neighbors < name_place n → StandsIn own k registered_name_cmp n part whole → StandsIn own k registered_name_cmp n part (λ l. the_rows ++ (the_neighbors ++ whole l))
+  past_neighbors : {K : Type 0} (own : K → K → Ordering) (k : K) (n : Name) (part : List (K × Registered)) (whole : List (K × Registered) → Names) → place_of_neighbors < table_place_of_name n → StandsIn own k registered_name_cmp n part whole → StandsIn own k registered_name_cmp n part (λ l. the_rows ++ (the_neighbors ++ whole l))
   past_neighbors own k n part whole lt s = StandsIn-below (StandsIn-below s the_neighbors (neighbors_below n lt)) the_rows (rows_below n (omega arith))
 
   pub route-stands : (p : Prefix) → StandsIn prefix_cmp p registered_name_cmp (route_name p) r.routes (λ l. all_names r.rows r.neighbors l r.others r.groups)
@@ -163,7 +163,7 @@ module _ (r : Inside) (h : AreParted r.rows r.others) where
       past_neighbors _ _ _ _ _ (omega arith) (StandsIn-below (StandsIn-below own r.others (others_below hops)) the_routes (routes_below (name.Group hops) (omega arith)))
 
   -- parts in order are one list in order
-  pub all_names-sorted : IsStrictlySortedBy key_cmp (keys_of r.rows) → IsStrictlySortedBy neighbor_cmp (keys_of r.neighbors) → IsStrictlySortedBy prefix_cmp (keys_of r.routes) → IsStrictlySortedBy registered_name_cmp (keys_of r.others) → IsStrictlySortedBy hops_cmp (keys_of r.groups) → IsStrictlySortedBy registered_name_cmp (keys_of (the_rows ++ behind_rows))
+  pub all_names-sorted : IsStrictlySortedBy key_cmp (keys_of r.rows) → IsStrictlySortedBy neighbor_key_cmp (keys_of r.neighbors) → IsStrictlySortedBy prefix_cmp (keys_of r.routes) → IsStrictlySortedBy registered_name_cmp (keys_of r.others) → IsStrictlySortedBy hops_cmp (keys_of r.groups) → IsStrictlySortedBy registered_name_cmp (keys_of (the_rows ++ behind_rows))
   all_names-sorted rows neighbors routes others groups =
       let above_others = all-kept (λ n. AllAbove registered_name_cmp n the_groups) IsAmongOthers (λ n is. groups_above n is.1) r.others h.of_others in
       let above_routes = all-named (λ n. AllAbove registered_name_cmp n behind_routes) route_name (λ p. behind_routes_above (key.Route p) (omega arith)) r.routes in
@@ -171,7 +171,7 @@ module _ (r : Inside) (h : AreParted r.rows r.others) where
       let above_rows = all-renamed (λ n. AllAbove registered_name_cmp n behind_rows) name.Row IsAmongRows behind_rows_above r.rows h.of_rows in
       let from_others = sorted-all_names registered_name_cmp r.others the_groups others (sorted-renamed hops_cmp registered_name_cmp name.Group groups_same r.groups groups) above_others in
       let from_routes = sorted-all_names registered_name_cmp the_routes behind_routes (sorted-renamed prefix_cmp registered_name_cmp route_name routes_same r.routes routes) from_others above_routes in
-      let from_neighbors = sorted-all_names registered_name_cmp the_neighbors behind_neighbors (sorted-renamed neighbor_cmp registered_name_cmp neighbor_name neighbors_same r.neighbors neighbors) from_routes above_neighbors in
+      let from_neighbors = sorted-all_names registered_name_cmp the_neighbors behind_neighbors (sorted-renamed neighbor_key_cmp registered_name_cmp neighbor_name neighbors_same r.neighbors neighbors) from_routes above_neighbors in
       sorted-all_names registered_name_cmp the_rows behind_rows (sorted-renamed key_cmp registered_name_cmp name.Row rows_same r.rows rows) from_neighbors above_rows
 
   -- the parts keep their keys

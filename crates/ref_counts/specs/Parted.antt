@@ -33,17 +33,17 @@ abbrev pub place_of_groups : ℕ
 place_of_groups = 9
 
 -- the place of a name's table, and behind all tables what is no row
-abbrev pub name_place : Name → ℕ
-name_place (name.Row k) = table_place k
-name_place (name.Group hops) = place_of_groups
-name_place _ = 8
+abbrev pub table_place_of_name : Name → ℕ
+table_place_of_name (name.Row k) = table_place k
+table_place_of_name (name.Group hops) = place_of_groups
+table_place_of_name _ = 8
 
 abbrev pub neighbor_name : Neighbor → Name
 neighbor_name n = name.Row (key.Neigh n.0 n.1)
 
 -- by interface, and then by address
-abbrev pub neighbor_cmp : Neighbor → Neighbor → Ordering
-neighbor_cmp m n = ordering_then (name_cmp m.0 n.0) (ip_cmp m.1 n.1)
+abbrev pub neighbor_key_cmp : Neighbor → Neighbor → Ordering
+neighbor_key_cmp m n = ordering_then (name_cmp m.0 n.0) (ip_cmp m.1 n.1)
 
 abbrev pub route_name : Prefix → Name
 route_name p = name.Row (key.Route p)
@@ -54,7 +54,7 @@ IsAmongRows k = table_place k < place_of_neighbors
 
 -- names behind the routes and before the groups
 abbrev pub IsAmongOthers : Name → Type 0
-IsAmongOthers n = (place_of_routes < name_place n) × (name_place n < place_of_groups)
+IsAmongOthers n = (place_of_routes < table_place_of_name n) × (table_place_of_name n < place_of_groups)
 
 -- the part of a name, and what stands there for it
 abbrev pub IsPart : Part Key Prefix Name (List Hop) → Name → Type 0

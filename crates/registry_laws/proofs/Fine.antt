@@ -31,7 +31,7 @@ use Rattle.orch_flight.specs.Needing.{name_for, to_build}
 use Rattle.orch_flight.specs.Starting.{begun_names, ids_for, ids_for_row, left_names, parted_by, used_by, with_building, with_own, with_pins}
 use Rattle.orch_flight.specs.Taking.{names_after_made, names_after, taken_names, to_list}
 use Rattle.registry_laws.specs.Ending.{ended_names, named_by, users_dropped, users_passed, with_own_ended}
-use Rattle.registry_laws.specs.Flying.{ArePlaced, AreThere}
+use Rattle.registry_laws.specs.Flying.{HavePlacesForIdentifiers, AreThere}
 use Rattle.registry_laws.proofs.Finding.{found_at, found_off, gone_off, out_at, put_at_name, put_off_name}
 use Rattle.registry_laws.proofs.Passing.{changed_rising, released_rising}
 
@@ -47,7 +47,7 @@ pub record AreFine (names : Names) : Type 0 where
   pub rising : HasRisingKeys registered_name_cmp names
   pub fine : (o : Owner) → IsFine o (registered_at names (name_for o))
 
-pub fine_of : (names : Names) → HasRisingKeys registered_name_cmp names → ArePlaced names → AreThere names → AreFine names
+pub fine_of : (names : Names) → HasRisingKeys registered_name_cmp names → HavePlacesForIdentifiers names → AreThere names → AreFine names
 fine_of names rising placed there = record { rising = rising; fine = λ o. by o (registered_at names (name_for o)) refl }
   where
     by : (o : Owner) (x : Option Registered) → registered_at names (name_for o) ≡ x → IsFine o x
@@ -55,7 +55,7 @@ fine_of names rising placed there = record { rising = rising; fine = λ o. by o 
     by o (Some r) e = (there o r e, λ w h. sym (ap places_in e) ∙ placed o w (ap state_in e ∙ h))
 
 module _ (names : Names) (are : AreFine names) where
-  pub placed_of : ArePlaced names
+  pub placed_of : HavePlacesForIdentifiers names
   placed_of o w h = by (registered_at names (name_for o)) refl (are.fine o)
     where
       by : (x : Option Registered) → registered_at names (name_for o) ≡ x → IsFine o x → places_in (registered_at names (name_for o)) ≡ ids_for o

@@ -28,8 +28,8 @@ use Rattle.registry_laws.specs.Registers.{HaveDue, Registers}
 -- ---- names
 
 -- a name that is being built has places for all its identifiers
-abbrev pub ArePlaced : Names → Type 0
-ArePlaced names = (o : Owner) (worker : ℕ) → state_of names (name_for o) ≡ state.Building worker → places_of names (name_for o) ≡ ids_for o
+abbrev pub HavePlacesForIdentifiers : Names → Type 0
+HavePlacesForIdentifiers names = (o : Owner) (worker : ℕ) → state_of names (name_for o) ≡ state.Building worker → places_of names (name_for o) ≡ ids_for o
 
 -- a name that is absent is not registered
 abbrev pub AreThere : Names → Type 0
@@ -89,7 +89,7 @@ pub record KnowsBoard (plan : Ports) (capacities : List ℕ) (names : Names) (ro
   pub busy : HaveDue m
   pub idle : (w : ℕ) → flown w ≡ None → m.board.flights w ≡ None
   pub flying : (w : ℕ) (x : Flown) → flown w ≡ Some x → IsFlown plan names m w x
-  pub placed : ArePlaced names
+  pub placed : HavePlacesForIdentifiers names
   pub there : AreThere names
 
 -- the state with another machine, and fewer keys to sync

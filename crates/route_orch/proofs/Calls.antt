@@ -36,7 +36,7 @@ use Rattle.orch_flight.specs.Calling.{HasVid, IsChangeFor, IsEnteredBy, IsEntryO
 use Rattle.orch_flight.specs.Operation.{Operation}
 use Rattle.orch_flight.specs.Sharing.{owner_for}
 use Rattle.route_orch.specs.Targets.{PointsTo, goal_at}
-use Rattle.route_orch.specs.Routes.{RouteState, operation_in, route_operation, route_state}
+use Rattle.route_orch.specs.Routes.{RouteState, operation_of_route, route_operation, route_state}
 use Rattle.route_orch.specs.declared.flight.RouteBody.{RouteBody}
 use Rattle.route_orch.specs.declared.flight.RouteStep.{RouteStep}
 use Rattle.route_orch.specs.declared.flight.RouteStep.TheVariants as step
@@ -46,7 +46,7 @@ use Rattle.route_orch.proofs.Goals.{goal-same, to-at}
 -- a route's operation, from what its fields are known to be
 pub route_operation_told : (f : RouteState) (b i : RouteBody) (wanted wanted' : Option RouteRow) (s : RouteStep) → route_state wanted b ≡ f → i ≡ b → i.step ≡ s → wanted ≡ wanted' → f.operation ≡ route_operation i.worker i.prefix i.applied wanted' i.target s i.leaves i.retires
 route_operation_told f b i wanted wanted' s is same at has =
-    sym (ap (λ z. operation_in (route_state wanted z)) same ∙ ap operation_in is)
+    sym (ap (λ z. operation_of_route (route_state wanted z)) same ∙ ap operation_of_route is)
     ∙ ap₂ (λ z w. route_operation i.worker i.prefix i.applied w i.target z i.leaves i.retires) at has
 
 -- what has the name of a route is a route

@@ -18,10 +18,10 @@ use Rattle.ref_counts.specs.Room.{RoomState}
 use Rattle.orch_flight.specs.Needing.{first_unapplied, wait_of}
 use Rattle.orch_flight.specs.Operation.{Operation}
 use Rattle.orch_flight.specs.Sharing.{MayStart, owner_for, owners_of}
-use Rattle.orch_flight.specs.Starting.{IsBegunBy, IsStartedBy, begun_names, first_due, first_left, leaving, started_operation}
+use Rattle.orch_flight.specs.Starting.{IsBegunBy, IsStartedBy, begun_names, first_due, first_left, leaving, started_operation, flown}
 use Rattle.orch_flight.proofs.Begins.{none-missing}
 use Rattle.route_orch.specs.Targets.{IsRouteKey, IsRouteRow, IsTargetOf, goal_at}
-use Rattle.route_orch.specs.Routes.{IsFirst, first_operation, first_step, flown, operation_in, route_due, route_state, stands_for}
+use Rattle.route_orch.specs.Routes.{IsFirst, first_operation, first_step, operation_of_route, route_due, route_state, stands_for}
 use Rattle.route_orch.specs.declared.flight.RouteBody.{RouteBody}
 use Rattle.route_orch.specs.declared.flight.RouteStep.TheVariants as step
 use Rattle.route_orch.specs.declared.target.Target.{Target}
@@ -56,7 +56,7 @@ stands-first (Some a) (Some r) was target = by (goal_eq.ghosts.eq (goal_at was) 
     by false = refl
 
 -- what is known at first makes the first operation
-first_made : (plan : Ports) (worker : ℕ) (k : Key) (old new : Option Row) (b : RouteBody) (n : Option RouteRow) (first : IsFirst plan worker k old new b) → option_map row.Route n ≡ new → operation_in (route_state n b) ≡ first_operation worker b.prefix b.applied n first.was b.target
+first_made : (plan : Ports) (worker : ℕ) (k : Key) (old new : Option Row) (b : RouteBody) (n : Option RouteRow) (first : IsFirst plan worker k old new b) → option_map row.Route n ≡ new → operation_of_route (route_state n b) ≡ first_operation worker b.prefix b.applied n first.was b.target
 first_made plan worker k old new b n first is_new =
     let p = b.prefix in
     let o = b.applied in
@@ -103,7 +103,7 @@ Turns plan names room used worker flight res names' room' k old new = MayStart p
 
 -- the same, for the key and the rows that are given
 pub started-as : (plan : Ports) (names : Names) (room : RoomState) (used : List ℕ) (worker : ℕ) (k : Key) (old new : Option Row) (b : RouteBody) (n : Option RouteRow) (res : Result (Unit {0}) Wait) (answer : Result Operation Wait) (names' : Names) (room' : RoomState)
-    → IsFirst plan worker k old new b → option_map row.Route n ≡ new → answer ≡ flown (operation_in (route_state n b)) res → MayStart plan names worker k old new
+    → IsFirst plan worker k old new b → option_map row.Route n ≡ new → answer ≡ flown (operation_of_route (route_state n b)) res → MayStart plan names worker k old new
     → IsBegunBy plan names room used worker k old new res names' room' → IsStartedBy plan names room used worker k old new answer names' room'
 started-as plan names room used worker k old new b n res answer names' room' first is_new gave =
     let p = b.prefix in

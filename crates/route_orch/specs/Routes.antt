@@ -1,5 +1,5 @@
 -- The operation of a route, as far as it is made: the route is made, or set to its new target, or removed. Own.
-use Rattle.std.specs.Prelude.{◌≡◌, ℕ, Bool, true, List, [], ◌∷◌, length, Option, Some, None, option_map, Result, Ok, Err, if◌then◌else◌}
+use Rattle.std.specs.Prelude.{◌≡◌, ℕ, Bool, true, List, [], ◌∷◌, length, Option, Some, None, option_map, if◌then◌else◌}
 use Rattle.swss_types.specs.declared.address.Prefix.{Prefix}
 use Rattle.table_schema.specs.Plan.{Ports}
 use Rattle.table_schema.specs.declared.key.Key.{Key}
@@ -12,7 +12,6 @@ use Rattle.sai_types.specs.declared.hop.Hop.{Hop}
 use Rattle.sai_types.specs.declared.thing.Goal.{Goal}
 use Rattle.sai_types.specs.declared.thing.Thing.TheVariants as thing
 use Rattle.sai_types.specs.Names as thing_name
-use Rattle.switch_model.specs.declared.wait.Wait.{Wait}
 use Rattle.row_layout.specs.Operations.{Change, Make, Set, Take}
 use Rattle.row_layout.specs.Rows.{Owner, Group}
 use Rattle.ref_counts.specs.declared.name.Name.{Name}
@@ -76,8 +75,8 @@ pub record RouteState : Type 0 where
 abbrev pub route_state : Option RouteRow → RouteBody → RouteState
 route_state new b = record { operation = route_operation b.worker b.prefix b.applied new b.target b.step b.leaves b.retires; group = group_hops b.target.group }
 
-abbrev pub operation_in : RouteState → Operation
-operation_in f = f.operation
+abbrev pub operation_of_route : RouteState → Operation
+operation_of_route f = f.operation
 
 -- what the route is part of are groups
 pub record IsRouteKept (b : RouteBody) : Type 0 where
@@ -101,8 +100,3 @@ pub record IsFirst (plan : Ports) (worker : ℕ) (k : Key) (old new : Option Row
 abbrev pub group_owners : Option (List Hop) → List Owner
 group_owners None = []
 group_owners (Some hops) = Group hops ∷ []
-
--- an operation for an answer
-abbrev pub flown : Operation → Result (Unit {0}) Wait → Result Operation Wait
-flown operation (Ok _) = Ok operation
-flown operation (Err wait) = Err wait

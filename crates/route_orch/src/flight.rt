@@ -10,7 +10,7 @@ ghost use Rattle.orch_flight.specs.Sharing.{MayStart, owner_for};
 ghost use Rattle.orch_flight.specs.Starting.{IsStartedBy, answered, left_names, retired_by};
 ghost use Rattle.orch_flight.specs.Taking.{IsTook, MayTake};
 ghost use Rattle.route_orch.specs.Targets.{AreGroups, IsRouteKey, IsRouteRow};
-ghost use Rattle.route_orch.specs.Routes.{IsFirst, first_step, group_hops, group_owners, later_step, operation_in};
+ghost use Rattle.route_orch.specs.Routes.{IsFirst, first_step, group_hops, group_owners, later_step, operation_of_route};
 
 use crate::starting::begin;
 use crate::target::{Target, left};
@@ -88,7 +88,7 @@ impl RouteFlight {
     ) -> Result<Result<RouteFlight, Wait>, OutOfMemory>
         requires key { IsRouteKey key.now }
         requires may { MayStart plan.now reg.old worker key.now (option_map (λ r. r.now) old) new }
-        ensures started { IfOk result (λ answer. IsStartedBy plan.now reg.old room.old used.now worker key.now (option_map (λ r. r.now) old.entry) new (answered operation_in answer) reg.new room.new) }
+        ensures started { IfOk result (λ answer. IsStartedBy plan.now reg.old room.old used.now worker key.now (option_map (λ r. r.now) old.entry) new (answered operation_of_route answer) reg.new room.new) }
         ensures group { IfOk result (λ answer. IfOk answer (λ f. uses_of plan.now key.now new ≡ group_owners f.group)) }
         ensures err { OnErr result (reg.new ≡ reg.old) }
         ensures err_room { OnErr result (room.new ≡ room.old) }

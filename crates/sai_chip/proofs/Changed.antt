@@ -19,6 +19,7 @@ use Rattle.std.proofs.lemmas.Iterator.Adapters.{option_map_id}
 use Rattle.swss_types.specs.declared.address.Ip.{Ip}
 use Rattle.swss_types.specs.declared.address.Mac.{Mac}
 use Rattle.swss_types.specs.declared.address.Prefix.{Prefix}
+use Rattle.swss_types.specs.AddressOrder.{prefix_cmp}
 use Rattle.swss_types.specs.contracts.address.IpOrd.TheImpl as ip_ord
 use Rattle.swss_types.proofs.AddressOrders.{ip_exact, prefix_exact}
 use Rattle.swss_types.proofs.Tied.{then_first, then_last}
@@ -38,7 +39,7 @@ use Rattle.sai_types.proofs.Entries.{entry_total}
 use Rattle.chip_names.specs.Naming.{numbered, rid_cmp}
 use Rattle.chip_names.proofs.Ids.{rid_exact}
 use Rattle.sai_chip.specs.Tally.{neighbor_cmp}
-use Rattle.sai_chip.specs.Bodies.{HaveIdKinds, IsWellHeld, id_found, ids_set, macs_set, owned, reached, routed, objects_in, prefix_cmp, target_of, targets_set, value_found}
+use Rattle.sai_chip.specs.Bodies.{HaveIdKinds, IsWellHeld, id_found, ids_set, macs_set, owned, reached, routed, objects_in, target_of, targets_set, value_found}
 use Rattle.sai_chip.proofs.Parts.{lookup-past, lookup-last, remove-past, remove-last, insert-past, set-past, lookup-in, insert-in, remove-in, set-in, key-lookup, key-insert, key-remove}
 
 pub neighbor_exact : CmpEqualImpliesEq neighbor_cmp

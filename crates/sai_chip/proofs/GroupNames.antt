@@ -14,7 +14,7 @@ use Rattle.sai_types.specs.declared.body.To.TheVariants as to
 use Rattle.sai_types.specs.Objects.{Objects}
 use Rattle.sai_types.specs.Named.{both, hops_at, next_hop_at, thing_by, thing_of}
 use Rattle.chip_names.specs.Members.{HasHops, group_named_by}
-use Rattle.chip_names.specs.Naming.{GroupHops, hops_in}
+use Rattle.chip_names.specs.Naming.{GroupHops, hops_of_group}
 use Rattle.sai_chip.proofs.MarkRanges.{group_tied}
 
 thing_by-known : (f h : Rid → Option (List Hop)) (objects : Objects) (e : Entry Rid) (b : Body Rid) → ((g : Rid) → group_named_by e b ≡ Some g → f g ≡ h g) → thing_by f objects (e, b) ≡ thing_by h objects (e, b)
@@ -24,15 +24,15 @@ thing_by-known f h objects (entry.Oid g) body.Group known = ap (option_map thing
 thing_by-known f h objects e b known = refl
 
 -- the thing of an object
-pub thing_of-known : (objects : Objects) (e : Entry Rid) (b : Body Rid) (groups : GroupHops) → HasHops objects e b groups → thing_by (hops_in groups) objects (e, b) ≡ thing_of objects (e, b)
-thing_of-known objects e b groups has = thing_by-known (hops_in groups) (hops_at objects) objects e b has.each
+pub thing_of-known : (objects : Objects) (e : Entry Rid) (b : Body Rid) (groups : GroupHops) → HasHops objects e b groups → thing_by (hops_of_group groups) objects (e, b) ≡ thing_of objects (e, b)
+thing_of-known objects e b groups has = thing_by-known (hops_of_group groups) (hops_at objects) objects e b has.each
 
 -- the hops of one group
 pub HasHops-one : (objects : Objects) (e : Entry Rid) (b : Body Rid) (g : Rid) (hops : Option (List Hop)) → group_named_by e b ≡ Some g → hops ≡ hops_at objects g → HasHops objects e b ((g, hops) ∷ [])
 HasHops-one objects e b g hops named is = record {
   each = λ k at.
       let same : g ≡ k = cc in
-      subst (λ x. hops_in ((g, hops) ∷ []) x ≡ hops_at objects x) same
+      subst (λ x. hops_of_group ((g, hops) ∷ []) x ≡ hops_at objects x) same
       (ap (λ r. unwrap_or (cond (is_eq r) (Some hops) None) (Some [])) (group_tied g) ∙ is);
 }
 

@@ -3,11 +3,10 @@ use Rattle.std.specs.Prelude.{◌≡◌, Bool, true, List, ◌++◌, map, Option
 use Rattle.std.specs.BTreeMap.{is_at}
 use Rattle.std.specs.List.{AllByRecursion}
 use Rattle.std.specs.Map.{lookup, set_value}
-use Rattle.std.specs.declared.cmp.Ordering.{Ordering}
+use Rattle.swss_types.specs.AddressOrder.{prefix_cmp}
 use Rattle.swss_types.specs.declared.address.Ip.{Ip}
 use Rattle.swss_types.specs.declared.address.Mac.{Mac}
 use Rattle.swss_types.specs.declared.address.Prefix.{Prefix}
-use Rattle.swss_types.specs.contracts.address.PrefixOrd.TheImpl as prefix_ord
 use Rattle.sai_types.specs.declared.ids.Rid.{Rid}
 use Rattle.sai_types.specs.declared.body.Attr.{Attr}
 use Rattle.sai_types.specs.declared.body.Attr.TheVariants as attr
@@ -24,10 +23,6 @@ use Rattle.sai_types.specs.Named.{thing_of, those}
 use Rattle.sai_types.specs.Objects.{Objects, body_at}
 use Rattle.chip_names.specs.Naming.{numbered, rid_cmp}
 use Rattle.sai_chip.specs.Tally.{neighbor_cmp}
-
--- the order of prefixes
-abbrev pub prefix_cmp : Prefix → Prefix → Ordering
-prefix_cmp = prefix_ord.ghosts.cmp
 
 abbrev pub owned : List Ip → Objects
 owned ips = map (λ ip. (entry.Own ip, body.OwnAddress ip)) ips

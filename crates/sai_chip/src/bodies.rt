@@ -13,10 +13,11 @@ ghost use Rattle.sai_types.specs.Named.{hop_on, named, those};
 ghost use Rattle.sai_types.specs.Objects.{body_at, entry_cmp};
 ghost use Rattle.sai_types.specs.Refusal.{clash};
 ghost use Rattle.sai_types.specs.declared.hop.Hop.{Hop};
+ghost use Rattle.swss_types.specs.AddressOrder.{prefix_cmp};
 ghost use Rattle.swss_types.specs.contracts.address.IpOrd.TheImpl as ip_ord;
 ghost use Rattle.swss_types.specs.declared.address.Ip.{Ip};
 ghost use Rattle.chip_names.specs.Naming.{AreBodies, numbered, rid_cmp};
-ghost use Rattle.sai_chip.specs.Bodies.{best_of, ids_set, keyed_at, macs_set, owned, prefix_cmp, reached, routed, target_of, targets_set, value_set};
+ghost use Rattle.sai_chip.specs.Bodies.{best_of, ids_set, keyed_at, macs_set, owned, reached, routed, target_of, targets_set, value_set};
 ghost use Rattle.sai_chip.specs.Tally.{neighbor_cmp};
 
 use crate::effect::set_attr;

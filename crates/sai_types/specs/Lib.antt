@@ -4,6 +4,7 @@ pub mod ChipState
 pub mod Decided
 pub mod Forwarding
 pub mod Hop
+pub mod Kinds
 pub mod Made
 pub mod Named
 pub mod Names

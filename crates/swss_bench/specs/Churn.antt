@@ -10,12 +10,12 @@ use Rattle.asic_view.specs.View.{ViewObjects}
 use Rattle.asic_view.specs.declared.object.ViewObject.{ViewObject}
 
 -- 256 addresses, from 11.0.0.0 on
-abbrev pub prefix_of : ℕ → Prefix
-prefix_of n = record { ip = record { family = family.V4; bits = 184549376 + n * 256 }; len = 24 }
+abbrev pub nth_prefix : ℕ → Prefix
+nth_prefix n = record { ip = record { family = family.V4; bits = 184549376 + n * 256 }; len = 24 }
 
 -- a route to nowhere of a number below this one
 abbrev pub IsRouteBelow : ℕ → Vid × ViewObject → Type 0
-IsRouteBelow n x = (j : ℕ) × (j < n) × (x.1.body ≡ body.Route (prefix_of j) to.Drop)
+IsRouteBelow n x = (j : ℕ) × (j < n) × (x.1.body ≡ body.Route (nth_prefix j) to.Drop)
 
 abbrev pub AreRoutesBelow : ℕ → ViewObjects → Type 0
 AreRoutesBelow n objects = AllByRecursion (IsRouteBelow n) objects

@@ -1,6 +1,6 @@
 // A view in which routes come and go.
 ghost use Rattle.std.specs.Prelude.{◌≡◌, ◌<◌, ◌+◌, IfOk, []};
-ghost use Rattle.swss_bench.specs.Churn.{AreRoutesBelow, prefix_of};
+ghost use Rattle.swss_bench.specs.Churn.{AreRoutesBelow, nth_prefix};
 
 use crate::timing::print_time;
 use anyhow::{Result, ensure};
@@ -15,7 +15,7 @@ const ROUTES: u32 = 20_000;
 
 /// The prefix of a route: 256 addresses, from 11.0.0.0 on.
 fn prefix(route: u32) -> Prefix
-    ensures { result ≡ prefix_of route }
+    ensures { result ≡ nth_prefix route }
 {
     Prefix {
         ip: Ip {

@@ -7,7 +7,8 @@ use Rattle.sai_types.specs.declared.kind.Kind.{Kind}
 use Rattle.swss_report.specs.Counted.{count_line}
 use Rattle.swss_report.specs.Ended.{Ended}
 use Rattle.swss_report.specs.Ending.{turns_at_end}
-use Rattle.swss_report.specs.Kinds.{all_kinds, kind_name}
+use Rattle.sai_types.specs.Kinds.{all_kinds}
+use Rattle.swss_report.specs.Kinds.{kind_name}
 
 -- the number of turns of the settling, or `-` where the round ended with a fault
 abbrev pub turns_text : Option ℕ → List ℕ

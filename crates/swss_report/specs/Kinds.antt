@@ -1,5 +1,5 @@
 -- The kinds of objects, as the report names and orders them. Own; the words are those of the SAI object types.
-use Rattle.std.specs.Prelude.{ℕ, List, [], ◌∷◌, codes}
+use Rattle.std.specs.Prelude.{ℕ, List, codes}
 use Rattle.sai_types.specs.declared.kind.Kind.{Kind}
 use Rattle.sai_types.specs.declared.kind.Kind.TheVariants as kind
 
@@ -15,7 +15,3 @@ kind_name kind.NextHop = codes "NEXT_HOP"
 kind_name kind.Group = codes "GROUP"
 kind_name kind.GroupMember = codes "GROUP_MEMBER"
 kind_name kind.Route = codes "ROUTE"
-
--- all kinds, in the order of the chip's table: lowest level first
-abbrev pub all_kinds : List Kind
-all_kinds = kind.Port ∷ kind.Vlan ∷ kind.BridgePort ∷ kind.VlanMember ∷ kind.Rif ∷ kind.OwnAddress ∷ kind.Neighbor ∷ kind.NextHop ∷ kind.Group ∷ kind.GroupMember ∷ kind.Route ∷ []

@@ -13,7 +13,7 @@ use Rattle.swss_script.specs.Sent.{sent_in_round}
 use Rattle.swss_script.specs.declared.parts.Round.{Round}
 use Rattle.swss_report.specs.Round.{IsRoundText}
 use Rattle.swss_run.specs.Restarts.{AreRestarted, HasFewRestarts, HasRestarts}
-use Rattle.swss_run.specs.Rounds.{AreTaken, EndAtMarks, EndsAtMark, IsReportFrom, Ran, Rise, all_calls, all_marks, all_sent, ends_from, standing}
+use Rattle.swss_run.specs.Rounds.{AreTaken, EndAtMarks, EndsAtMark, IsReportFrom, Ran, AreEndsRising, all_calls, all_marks, all_sent, ends_from, round_end}
 use Rattle.swss_run.specs.Turned.{AreDrained, AreTurned, DrainsBehind, IsRoundTurned}
 use Rattle.swss_run.proofs.Counting.{suspect-behind}
 
@@ -51,7 +51,7 @@ at_marks-more sent calls (r ∷ rans) ran (first, more) one = (
 )
 
 -- each round has a mark of its own, so the ends rise
-pub ends-rise : (sent calls n : ℕ) (rans : List Ran) → EndAtMarks sent calls rans → Rise n (ends_from n rans)
+pub ends-rise : (sent calls n : ℕ) (rans : List Ran) → EndAtMarks sent calls rans → AreEndsRising n (ends_from n rans)
 ends-rise sent calls n [] at_marks = tt
 ends-rise sent calls n (r ∷ rans) (first, more) = (
   omega (arith, ap length first.marks, length-append first.before (first.mark ∷ [])),
@@ -82,17 +82,17 @@ taken-since (x ∷ rans) (r ∷ rounds) round sent rest (first, more) at is = (f
 pub report-more : (plan : Ports) (capacities : List ℕ) (number : ℕ) (sent : List Sent) (calls : List (Call Rid)) (rans : List Ran) (rounds : List Round) (text : List ℕ) (ran : Ran) (round : Round) (lines : List ℕ) (before : ℕ) (s : List Sent) (c : List (Call Rid))
     → IsReportFrom plan capacities number sent calls rans rounds text → slice_get rounds (length rans) ≡ Some round
     → before ≡ number + length rans → s ≡ sent ++ all_sent rans → c ≡ calls ++ all_calls rans
-    → IsRoundText (standing plan capacities before s c ran) (length c) round.shows lines
+    → IsRoundText (round_end plan capacities before s c ran) (length c) round.shows lines
     → IsReportFrom plan capacities number sent calls (rans ++ ran ∷ []) rounds (text ++ lines)
 report-more plan capacities number sent calls [] [] text ran round lines before s c told at number_is s_is c_is is = cc
 report-more plan capacities number sent calls [] (r ∷ rounds) text ran round lines before s c told at number_is s_is c_is is =
     let same : round ≡ r = cc in
     let number_same : before ≡ number = omega (arith, number_is) in
-    let moved : IsRoundText (standing plan capacities number sent calls ran) (length calls) r.shows lines =
-    subst (λ n. IsRoundText (standing plan capacities n sent calls ran) (length calls) r.shows lines) number_same
-    (subst (λ x. IsRoundText (standing plan capacities before x calls ran) (length calls) r.shows lines) (s_is ∙ append-nil sent)
-    (subst (λ x. IsRoundText (standing plan capacities before s x ran) (length x) r.shows lines) (c_is ∙ append-nil calls)
-    (subst (λ (x : Round). IsRoundText (standing plan capacities before s c ran) (length c) x.shows lines) same is))) in
+    let moved : IsRoundText (round_end plan capacities number sent calls ran) (length calls) r.shows lines =
+    subst (λ n. IsRoundText (round_end plan capacities n sent calls ran) (length calls) r.shows lines) number_same
+    (subst (λ x. IsRoundText (round_end plan capacities before x calls ran) (length calls) r.shows lines) (s_is ∙ append-nil sent)
+    (subst (λ x. IsRoundText (round_end plan capacities before s x ran) (length x) r.shows lines) (c_is ∙ append-nil calls)
+    (subst (λ (x : Round). IsRoundText (round_end plan capacities before s c ran) (length c) x.shows lines) same is))) in
     (lines, [], moved, ap (λ t. t ++ lines) told ∙ sym (append-nil lines), refl)
 report-more plan capacities number sent calls (x ∷ rans) [] text ran round lines before s c told at number_is s_is c_is is = absurd told
 report-more plan capacities number sent calls (x ∷ rans) (r ∷ rounds) text ran round lines before s c (first, rest, one, text_is, more) at number_is s_is c_is is = (

@@ -32,7 +32,7 @@ use Rattle.swss_run.specs.Faults.{FaultsRise, places_beside}
 use Rattle.swss_run.specs.Full.{IsFull}
 use Rattle.swss_run.specs.Output.{TakesFront, TakesPart}
 use Rattle.swss_run.specs.Restarts.{AreRestarted, HasFewRestarts, HasRestarts}
-use Rattle.swss_run.specs.Rounds.{AreTaken, EndsAtMark, IsCutInRounds, IsReport, Ran, Rise, all_calls, all_marks, all_sent, ends_from, nothing_ran, standing}
+use Rattle.swss_run.specs.Rounds.{AreTaken, EndsAtMark, IsCutInRounds, IsReport, Ran, AreEndsRising, all_calls, all_marks, all_sent, ends_from, nothing_ran, round_end}
 use Rattle.swss_run.specs.Running.{EndsRound, HasLines, IsRunReady, IsRoundRun, KeepsPlan, StopsQuietly, StopsRound}
 use Rattle.swss_run.specs.Session.{HasEnded, IsReported, IsSession, TookFront, TookPart, TookReport, log_limit}
 use Rattle.swss_run.specs.Turned.{AreDrained, AreTurned, DrainsBehind, IsRoundTurned, IsSinceQuiet}
@@ -113,8 +113,8 @@ module _ (round : Round) (old : CoreState) (sim : Sim) (ran : Ran) (new : CoreSt
   report-longer : (number : ℕ) (plan : Ports) (capacities : List ℕ) (rounds : List Round) (text lines : List ℕ) → plan ≡ old.board.plan → capacities ≡ old.sync.capacities → slice_get rounds (length rans) ≡ Some round → number ≡ length rans + 1 → IsReport plan capacities rans rounds text → HasLines number round old sim ran lines → IsReport plan capacities (rans ++ ran ∷ []) rounds (text ++ lines)
   report-longer number plan capacities rounds text lines plan_is capacities_are at number_is told has =
       report-more plan capacities 0 [] [] rans rounds text ran round lines has.before old.log.taken sim.chip.effects told at (omega (arith, number_is, has.number_is)) taken_were effects_were
-      (subst (λ p. IsRoundText (standing p capacities has.before old.log.taken sim.chip.effects ran) (length sim.chip.effects) round.shows lines) (sym plan_is)
-      (subst (λ c. IsRoundText (standing old.board.plan c has.before old.log.taken sim.chip.effects ran) (length sim.chip.effects) round.shows lines) (sym capacities_are) has.text))
+      (subst (λ p. IsRoundText (round_end p capacities has.before old.log.taken sim.chip.effects ran) (length sim.chip.effects) round.shows lines) (sym plan_is)
+      (subst (λ c. IsRoundText (round_end old.board.plan c has.before old.log.taken sim.chip.effects ran) (length sim.chip.effects) round.shows lines) (sym capacities_are) has.text))
 
 -- ---- a session
 
@@ -207,7 +207,7 @@ session-from rounds ended first core chip held held' rans since within same plac
   rans = rans;
   since = since;
   cut = cut;
-  rise = subst (Rise 0) (sym cut.ends) (ends-rise 0 0 0 rans cut.at_marks);
+  rise = subst (AreEndsRising 0) (sym cut.ends) (ends-rise 0 0 0 rans cut.at_marks);
   writes = writes;
   restarts = restarts;
   turned = turned;

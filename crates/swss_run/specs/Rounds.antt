@@ -63,9 +63,9 @@ pub record IsCutInRounds (log : History) (done : List (Call Rid)) (rans : List R
   pub way : AreOnWay since.marks
 
 -- the first number is greater than n, and each later one greater than the one before it
-abbrev pub Rise : ℕ → List ℕ → Type 0
-Rise n [] = Unit {0}
-Rise n (end ∷ ends) = (n < end) × Rise end ends
+abbrev pub AreEndsRising : ℕ → List ℕ → Type 0
+AreEndsRising n [] = Unit {0}
+AreEndsRising n (end ∷ ends) = (n < end) × AreEndsRising end ends
 
 -- of each round that ended exactly the writes of its sections were taken, in script order; what was taken since is a front of the next round's, and nothing where there is none
 abbrev pub AreTaken : List Ran → List Round → List Sent → Type 0
@@ -75,8 +75,8 @@ AreTaken (ran ∷ rans) [] sent = ⊥
 AreTaken (ran ∷ rans) (round ∷ rounds) sent = (ran.sent ≡ sent_in_round round) × AreTaken rans rounds sent
 
 -- what stands when a round has ended, on a chip with these capacities, where so many rounds, these writes and these calls came before
-abbrev pub standing : Ports → List ℕ → ℕ → List Sent → List (Call Rid) → Ran → Ended
-standing plan capacities number sent calls ran = record {
+abbrev pub round_end : Ports → List ℕ → ℕ → List Sent → List (Call Rid) → Ran → Ended
+round_end plan capacities number sent calls ran = record {
   plan = plan;
   number = number + 1;
   marks = ran.marks;
@@ -92,7 +92,7 @@ abbrev pub IsReportFrom : Ports → List ℕ → ℕ → List Sent → List (Cal
 IsReportFrom plan capacities number sent calls [] rounds text = text ≡ []
 IsReportFrom plan capacities number sent calls (ran ∷ rans) [] text = ⊥
 IsReportFrom plan capacities number sent calls (ran ∷ rans) (round ∷ rounds) text =
-    (lines : List ℕ) × (rest : List ℕ) × IsRoundText (standing plan capacities number sent calls ran) (length calls) round.shows lines × (text ≡ lines ++ rest)
+    (lines : List ℕ) × (rest : List ℕ) × IsRoundText (round_end plan capacities number sent calls ran) (length calls) round.shows lines × (text ≡ lines ++ rest)
     × IsReportFrom plan capacities (number + 1) (sent ++ ran.sent) (calls ++ ran.calls) rans rounds rest
 
 abbrev pub IsReport : Ports → List ℕ → List Ran → List Round → List ℕ → Type 0

@@ -27,7 +27,7 @@ use Rattle.swss_run.specs.Faults.{FaultsRise, places_beside}
 use Rattle.swss_run.specs.Full.{IsFull}
 use Rattle.swss_run.specs.Output.{TakesFront, TakesPart}
 use Rattle.swss_run.specs.Restarts.{HasFewRestarts, HasRestarts}
-use Rattle.swss_run.specs.Rounds.{Ran, standing}
+use Rattle.swss_run.specs.Rounds.{Ran, round_end}
 use Rattle.swss_run.specs.Turned.{DrainsBehind, IsRoundTurned, IsSinceQuiet}
 use Rattle.swss_run.specs.declared.status.Status.{Status}
 use Rattle.swss_run.specs.declared.status.Status.TheVariants as status
@@ -111,7 +111,7 @@ pub data IsWritten (e : Ended) (before : ℕ) (shows : List Show) (ended : Statu
 pub record HasLines (number : ℕ) (round : Round) (old : CoreState) (sim : Sim) (ran : Ran) (lines : List ℕ) : Type 0 where
   pub before : ℕ
   pub number_is : number ≡ before + 1
-  pub text : IsRoundText (standing old.board.plan old.sync.capacities before old.log.taken sim.chip.effects ran) (length sim.chip.effects) round.shows lines
+  pub text : IsRoundText (round_end old.board.plan old.sync.capacities before old.log.taken sim.chip.effects ran) (length sim.chip.effects) round.shows lines
 
 -- the sink took a front of the lines of the round, or nothing
 abbrev pub TakesSome : ℕ → Round → CoreState → Sim → Ran → Option (List ℕ) → Option (List ℕ) → Type 0

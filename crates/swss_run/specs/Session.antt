@@ -23,7 +23,7 @@ use Rattle.swss_run.specs.Output.{TakesFront, TakesPart}
 use Rattle.swss_run.specs.Read.{WasRead}
 use Rattle.swss_run.specs.Run.{HasNoSession, chip_fail}
 use Rattle.swss_run.specs.Restarts.{AreRestarted}
-use Rattle.swss_run.specs.Rounds.{AreTaken, IsCutInRounds, IsReport, Ran, Rise, all_calls, all_marks, all_sent, nothing_ran}
+use Rattle.swss_run.specs.Rounds.{AreTaken, IsCutInRounds, IsReport, Ran, AreEndsRising, all_calls, all_marks, all_sent, nothing_ran}
 use Rattle.swss_run.specs.Turned.{AreDrained, AreTurned, IsSinceQuiet}
 use Rattle.swss_run.specs.declared.outcome.Outcome.{Outcome}
 use Rattle.swss_run.specs.declared.run.TheConstants.{LOG_LIMIT}
@@ -95,7 +95,7 @@ pub record IsSession (plan : Ports) (capacities : List ℕ) (rounds : List Round
   pub rans : List Ran
   pub since : Ran
   pub cut : IsCutInRounds log chip.effects rans since
-  pub rise : Rise 0 log.ends
+  pub rise : AreEndsRising 0 log.ends
   pub writes : AreTaken rans rounds since.sent
   pub restarts : AreRestarted false rans rounds since.marks
   pub turned : AreTurned plan capacities None [] [] rans

@@ -11,7 +11,7 @@ use Rattle.std.proofs.lemmas.Option.{cond_some}
 use Rattle.table_schema.specs.declared.write.Write.{Write}
 use Rattle.swss_types.proofs.AllElements.{all-push}
 use Rattle.swss_types.proofs.Choices.{chosen_none}
-use Rattle.swss_script.specs.Script.{ended_in, in_section, producer_named, script_at, script_of, section_begun, settled, draft_with_line}
+use Rattle.swss_script.specs.Script.{ended_in, in_section, producer_named, script_at, script_of, section_begun, round_settled, draft_with_line}
 use Rattle.swss_script.specs.Sections.{Placed, placed, acts_of, acts_writes, producer_name, rounds_writes, sections_by, sections_from, sections_of, sections_writes, text_writes, writes_of}
 use Rattle.swss_script.specs.Stage.{AreOfProducers, IsProducerNumber}
 use Rattle.swss_script.specs.declared.draft.Draft.{Draft}
@@ -174,8 +174,8 @@ numbered-close p d is h =
 
 numbered-at : (p : Place) (d : Draft) → d.place ≡ p → IsNumbered d → IsNumberedScript (script_at p d)
 numbered-at place.Settled d is h = numbered-close d.place d refl h
-numbered-at place.Head d is h = numbered-close place.Settled (settled d) refl (numbered-ended d.place place.Settled d refl h tt)
-numbered-at (place.Section producer) d is h = numbered-close place.Settled (settled d) refl (numbered-ended d.place place.Settled d refl h tt)
+numbered-at place.Head d is h = numbered-close place.Settled (round_settled d) refl (numbered-ended d.place place.Settled d refl h tt)
+numbered-at (place.Section producer) d is h = numbered-close place.Settled (round_settled d) refl (numbered-ended d.place place.Settled d refl h tt)
 
 none-distinct : AreDistinct []
 unfolding AreDistinct

@@ -15,7 +15,7 @@ use Rattle.swss_script.specs.Batch.{batch_of}
 use Rattle.swss_script.specs.Built.{is_built}
 use Rattle.swss_script.specs.Line.{is_block, script_line_of}
 use Rattle.swss_script.specs.Lines.{block_of, is_end, is_too_long, line_text, lines_in, text_of}
-use Rattle.swss_script.specs.Script.{add, new_draft, ended_in, if_built, in_block, in_head, in_section, producer_named, draft_round_ended, script_at, script_from, script_of, section_begun, settled, shown_in, step, draft_step, with_block, with_head, draft_with_line, with_plan, with_text}
+use Rattle.swss_script.specs.Script.{add, new_draft, ended_in, if_built, in_block, in_head, in_section, producer_named, draft_round_ended, script_at, script_from, script_of, section_begun, round_settled, shown_in, step, draft_step, with_block, with_head, draft_with_line, with_plan, with_text}
 use Rattle.swss_script.specs.Sections.{Placed, placed, acts_writes, producer_name, sections_writes, rounds_writes, script_writes, whole_line, told, line_writes, round_behind, name_behind, lines_writes, text_writes}
 use Rattle.swss_script.specs.declared.draft.Draft.{Draft}
 use Rattle.swss_script.specs.declared.draft.Place.{Place}
@@ -294,7 +294,7 @@ moves-named names d e name (Some at) found tidy script_begins_with h =
     moves-begun names d e name (at + 1) here (subst (Began names d (at + 1)) is (began names d (at + 1) tidy))
 moves-named names d e name None found tidy script_begins_with h = moves-new names d e name (nat_lt (length d.script.producers) 4) tidy script_begins_with h
 
-moves-settle : (names : List (List ℕ)) (d : Draft) → IsTidy d.place d.acts → DraftMoves names d Settle (settled d)
+moves-settle : (names : List (List ℕ)) (d : Draft) → IsTidy d.place d.acts → DraftMoves names d Settle (round_settled d)
 moves-settle names d tidy = record {
   tidy = acts-ended d.place d tidy;
   block = block-ended d.place d;
@@ -398,8 +398,8 @@ steps names d e number line rest tidy script_begins_with h =
 
 names-at : (p : Place) (d : Draft) → (script_at p d).producers ≡ d.script.producers
 names-at place.Settled d = kept-names d.place d
-names-at place.Head d = kept-names (settled d).place (settled d) ∙ kept-names d.place d
-names-at (place.Section producer) d = kept-names (settled d).place (settled d) ∙ kept-names d.place d
+names-at place.Head d = kept-names (round_settled d).place (round_settled d) ∙ kept-names d.place d
+names-at (place.Section producer) d = kept-names (round_settled d).place (round_settled d) ∙ kept-names d.place d
 
 -- the names of a script begin with those of the draft
 begins-stay : (names : List (List ℕ)) (d e : Draft) → e.script.producers ≡ d.script.producers → ((more : List (List ℕ)) × (d.script.producers ≡ names ++ more)) → (more : List (List ℕ)) × (e.script.producers ≡ names ++ more)
@@ -434,8 +434,8 @@ script_begins_with d number (line ∷ lines) script h = begins-by d (number + 1)
 writes-at : (names : List (List ℕ)) (p : Place) (d : Draft) → d.place ≡ p → IsTidy d.place d.acts → rounds_writes names 1 (script_at p d).rounds ≡ so_far names d
 writes-at names place.Settled d is tidy =
     ap (λ q. rounds_writes names 1 (ended_in q d).script.rounds) is ∙ rounds-ended names d (current names d.place) (subst (λ q. IsTidy q d.acts) is tidy)
-writes-at names place.Head d is tidy = rounds-ended names (settled d) [] (acts-ended d.place d tidy) ∙ base-ended names d.place d [] tidy
-writes-at names (place.Section producer) d is tidy = rounds-ended names (settled d) [] (acts-ended d.place d tidy) ∙ base-ended names d.place d [] tidy
+writes-at names place.Head d is tidy = rounds-ended names (round_settled d) [] (acts-ended d.place d tidy) ∙ base-ended names d.place d [] tidy
+writes-at names (place.Section producer) d is tidy = rounds-ended names (round_settled d) [] (acts-ended d.place d tidy) ∙ base-ended names d.place d [] tidy
 
 writes-by : (d : Draft) (number : ℕ) (line : List ℕ) (rest : List (List ℕ)) (script : Script) (answer : Result Draft Why) → step d number line rest ≡ answer → IsTidy d.place d.acts
     → ((e : Draft) → IsTidy e.place e.acts → script_from (Ok e) number rest ≡ Ok script → script_writes script ≡ with_lines script.producers e (told e.block rest))

@@ -9,7 +9,7 @@ use Rattle.table_schema.proofs.Plans.{IsPlan-none, IsPlan-plan_step}
 use Rattle.sai_types.specs.Objects.{level}
 use Rattle.sai_types.specs.declared.kind.Kind.{Kind}
 use Rattle.swss_script.specs.Built.{is_built, is_built_show}
-use Rattle.swss_script.specs.Script.{new_draft, ended_in, in_head, in_section, producer_named, draft_round_ended, script_at, script_of, section_begun, settled, shown_in, with_capacity, with_fail, draft_with_line, with_plan}
+use Rattle.swss_script.specs.Script.{new_draft, ended_in, in_head, in_section, producer_named, draft_round_ended, script_at, script_of, section_begun, round_settled, shown_in, with_capacity, with_fail, draft_with_line, with_plan}
 use Rattle.swss_script.specs.Stage.{IsOfStage, NameEachOnce, is_built_round}
 use Rattle.swss_script.specs.declared.draft.Draft.{Draft}
 use Rattle.swss_script.specs.declared.draft.Place.{Place}
@@ -170,8 +170,8 @@ done-round d h = (staged-round d h, omega (arith, length-append d.script.rounds 
 
 done-at : (p : Place) (d : Draft) → d.place ≡ p → IsStaged d → IsDone (script_at p d)
 done-at place.Settled d is h = subst (λ q. IsDone (ended_in q d).script) (sym is) (done-round d h)
-done-at place.Head d is h = done-round (settled d) (staged-ended d.place place.Settled d h)
-done-at (place.Section producer) d is h = done-round (settled d) (staged-ended d.place place.Settled d h)
+done-at place.Head d is h = done-round (round_settled d) (staged-ended d.place place.Settled d h)
+done-at (place.Section producer) d is h = done-round (round_settled d) (staged-ended d.place place.Settled d h)
 
 done-script : (bytes : List ℕ) (script : Script) → script_of bytes ≡ Ok script → IsDone script
 done-script bytes script h =

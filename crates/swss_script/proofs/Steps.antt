@@ -8,7 +8,7 @@ use Rattle.swss_script.specs.Batch.{batch_of}
 use Rattle.swss_script.specs.Built.{is_built}
 use Rattle.swss_script.specs.Line.{is_block, script_line_of}
 use Rattle.swss_script.specs.Lines.{block_of, is_end, is_too_long, line_text, text_of}
-use Rattle.swss_script.specs.Script.{add, ended_in, if_built, in_block, in_head, in_section, producer_named, section_begun, settled, shown_in, step, draft_step, with_block, with_head, draft_with_line, with_plan, with_text}
+use Rattle.swss_script.specs.Script.{add, ended_in, if_built, in_block, in_head, in_section, producer_named, section_begun, round_settled, shown_in, step, draft_step, with_block, with_head, draft_with_line, with_plan, with_text}
 use Rattle.swss_script.specs.declared.draft.Draft.{Draft}
 use Rattle.swss_script.specs.declared.draft.Place.{Place}
 use Rattle.swss_script.specs.declared.draft.Place.TheVariants as place
@@ -99,7 +99,7 @@ module _ (P : Draft → Type 0) (stays : (d d' : Draft) → AreKept d d' → P d
   holds-line d d' (Batch None) holds h = cc
   holds-line d d' Block holds h = cc
   holds-line d d' Restart holds h = stays d d' (kept-in_section d.place d d' _ h) holds
-  holds-line d d' Settle holds h = stays d d' (kept-to d (settled d) d' (kept-ended d.place d) (same-ok _ _ h)) holds
+  holds-line d d' Settle holds h = stays d d' (kept-to d (round_settled d) d' (kept-ended d.place d) (same-ok _ _ h)) holds
   holds-line d d' (Shown what) holds h = stays d d' (kept-shown d.place d d' what h) holds
   holds-line d d' Other holds h = cc
 

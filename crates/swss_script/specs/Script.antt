@@ -56,13 +56,13 @@ abbrev pub section_begun : Draft → ℕ → Draft
 section_begun d producer = record (ended d) { place = place.Section producer }
 
 -- a round is settled
-abbrev pub settled : Draft → Draft
-settled d = record (ended d) { place = place.Settled }
+abbrev pub round_settled : Draft → Draft
+round_settled d = record (ended d) { place = place.Settled }
 
 -- the script at its end: where the last round is not settled, a settle is added
 abbrev pub script_at : Place → Draft → Script
 script_at place.Settled d = (ended d).script
-script_at _ d = (ended (settled d)).script
+script_at _ d = (ended (round_settled d)).script
 
 -- ---- what a line adds
 
@@ -118,7 +118,7 @@ draft_with_line d (Batch (Some writes)) = in_section d.place d (map act.Write wr
 draft_with_line d (Batch None) = Err why.BadJson
 draft_with_line d Block = Err why.BadJson
 draft_with_line d Restart = in_section d.place d (act.Restart ∷ [])
-draft_with_line d Settle = Ok (settled d)
+draft_with_line d Settle = Ok (round_settled d)
 draft_with_line d (Shown what) = shown_in d.place d what
 draft_with_line d Other = Err why.BadWord
 

@@ -2,7 +2,7 @@
 ghost use Rattle.std.specs.Prelude.{◌≡◌, ◌≤◌, [], ◌∷◌, IfOk, OnOk, bytes_eq, length, map};
 ghost use Rattle.std.specs.List.{position};
 ghost use Rattle.sai_types.specs.Objects.{level};
-ghost use Rattle.swss_script.specs.Script.{Becomes, add, new_draft, ended, in_head, in_section, producer_named, draft_round_ended, script_at, section_begun, section_ended, settled, shown_in, with_capacity, with_fail, with_head, draft_with_line};
+ghost use Rattle.swss_script.specs.Script.{Becomes, add, new_draft, ended, in_head, in_section, producer_named, draft_round_ended, script_at, section_begun, section_ended, round_settled, shown_in, with_capacity, with_fail, with_head, draft_with_line};
 ghost use Rattle.swss_script.specs.declared.line.HeadLine.TheVariants as head;
 ghost use Rattle.swss_script.specs.declared.parts.Act.TheVariants as act;
 
@@ -195,7 +195,7 @@ impl Draft {
 
     /// Settles the round.
     fn settle(&mut self, alloc: Global) -> Result<(), OutOfMemory>
-        ensures { OnOk result (self.new ≡ settled self.old) }
+        ensures { OnOk result (self.new ≡ round_settled self.old) }
     {
         self.end(alloc)?;
         self.place = Place::Settled;

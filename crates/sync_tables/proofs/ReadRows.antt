@@ -12,11 +12,11 @@ use Rattle.table_schema.proofs.Keys.{key_total, tied_keys_same}
 use Rattle.switch_model.specs.Good.{good_row}
 use Rattle.producer_table.specs.Pending.{row_with_pending}
 use Rattle.producer_table.specs.declared.waiting.Pending.{Pending}
-use Rattle.sync_tables.specs.ReadRows.{AreRead, IsForgotten, read_at}
+use Rattle.sync_tables.specs.ReadRows.{AreRead, IsKeyForgotten, read_at}
 use Rattle.sync_tables.specs.Tables.{IsMerged}
 
 -- where the rows of all other keys stay
-AreRead-changed : (rows later : Rows) (old new : List (Key × Row)) (k : Key) → ((q : Key) → is_at (key_cmp q) k ≡ false → fields_at later q ≡ fields_at rows q) → IsForgotten old k new → AreRead rows old → AreRead later new
+AreRead-changed : (rows later : Rows) (old new : List (Key × Row)) (k : Key) → ((q : Key) → is_at (key_cmp q) k ≡ false → fields_at later q ≡ fields_at rows q) → IsKeyForgotten old k new → AreRead rows old → AreRead later new
 AreRead-changed rows later old new k same gone h q row is plan =
     let by : (b : Bool) → is_at (key_cmp q) k ≡ b → good_row plan q (fields_at later q) ≡ Some row =
     λ b. elim b as (λ b. is_at (key_cmp q) k ≡ b → good_row plan q (fields_at later q) ≡ Some row) [
@@ -25,7 +25,7 @@ AreRead-changed rows later old new k same gone h q row is plan =
     ] in
     by (is_at (key_cmp q) k) refl
 
-pub AreRead-merged : {T E : Type 0} (r : Result T E) (rows later : Rows) (old new : List (Key × Row)) (k : Key) (p : Pending) → OnOk r (IsMerged rows k p later) → OnErr r (later ≡ rows) → IsForgotten old k new → AreRead rows old → AreRead later new
+pub AreRead-merged : {T E : Type 0} (r : Result T E) (rows later : Rows) (old new : List (Key × Row)) (k : Key) (p : Pending) → OnOk r (IsMerged rows k p later) → OnErr r (later ≡ rows) → IsKeyForgotten old k new → AreRead rows old → AreRead later new
 AreRead-merged (Ok x) rows later old new k p merged same gone h = AreRead-changed rows later old new k (λ q at. merged q ∙ ap (λ b. cond b (row_with_pending (fields_at rows q) p) (fields_at rows q)) at) gone h
 AreRead-merged (Err x) rows later old new k p merged same gone h = AreRead-changed rows later old new k (λ q at. ap (λ r. fields_at r q) same) gone h
 

@@ -18,8 +18,8 @@ abbrev pub AreRead : Rows → List (Key × Row) → Type 0
 AreRead rows read = (key : Key) (row : Row) → read_at read key ≡ Some row → (plan : Ports) → good_row plan key (fields_at rows key) ≡ Some row
 
 -- this key has none, and each other key what it had
-abbrev pub IsForgotten : List (Key × Row) → Key → List (Key × Row) → Type 0
-IsForgotten old key new = (other : Key) → read_at new other ≡ (if is_at (key_cmp other) key then None else read_at old other)
+abbrev pub IsKeyForgotten : List (Key × Row) → Key → List (Key × Row) → Type 0
+IsKeyForgotten old key new = (other : Key) → read_at new other ≡ (if is_at (key_cmp other) key then None else read_at old other)
 
 -- the tables whose rows do not depend on the port plan, of those whose rows take long to read
 abbrev pub is_plan_free : Key → Bool

@@ -3,7 +3,7 @@ ghost use Rattle.std.specs.Prelude.{◌≡◌, [], Some, IfOk, OnOk, OnErr};
 ghost use Rattle.table_schema.specs.Plan.{Ports};
 ghost use Rattle.table_schema.specs.Rows.{fields_at};
 ghost use Rattle.switch_model.specs.Good.{good_row};
-ghost use Rattle.sync_tables.specs.ReadRows.{IsForgotten, is_plan_free};
+ghost use Rattle.sync_tables.specs.ReadRows.{IsKeyForgotten, is_plan_free};
 ghost use Rattle.sync_tables.specs.Tables.{IsMerged};
 
 use crate::merging::merge;
@@ -105,7 +105,7 @@ impl ReadRows {
 
 /// Takes a key's row out of those that were read.
 fn forget(read: &mut RowMap<Row>, key: &Key)
-    ensures { IsForgotten read.old key.now read.new }
+    ensures { IsKeyForgotten read.old key.now read.new }
 {
     // It says that the keys are in order.
     let _order = read.len();

@@ -9,7 +9,7 @@ use Rattle.sai_types.specs.Alike.{IsIn}
 use Rattle.sai_types.specs.Objects.{Objects}
 use Rattle.view_match.specs.declared.indexed.Partner.{Partner}
 use Rattle.view_match.specs.declared.key.NaturalKey.{NaturalKey}
-use Rattle.view_match.specs.Indexed.{AreApart, entries_from, with_entry}
+use Rattle.view_match.specs.Indexed.{AreStrictlySortedByKey, entries_from, with_entry}
 use Rattle.view_match.specs.Near.{AreFound}
 use Rattle.view_match.specs.Pairs.{best_from, group_number, group_of}
 use Rattle.view_match.proofs.Best.{best, found-none}
@@ -65,7 +65,7 @@ module _ (keys : List (Option NaturalKey)) (os : Objects) (long : length keys �
   stands : (n : ℕ) (k : NaturalKey) → slice_get keys n ≡ Some (Some k) → IsIn (k, record { group = group_of (slice_get os n); place = n }) es
   stands n k h = shuffled-in _ es same _ (subst (λ m. IsIn (k, record { group = group_of (slice_get os n); place = m }) (entries_from keys os 0)) (from_none n) (of_entry keys os 0 n k long h))
 
-  pub found-apart : AreApart es → AreFound keys es (length keys)
+  pub found-apart : AreStrictlySortedByKey es → AreFound keys es (length keys)
   found-apart apart i k within h = ap (option_map (λ (p : Partner). p.place)) (apart-found k es _ apart (stands i k h))
 
   module _ (k : NaturalKey) (order : AreInOrder es) where

@@ -19,9 +19,9 @@ use Rattle.view_match.specs.contracts.indexed.PartnerOrd.TheImpl.Laws as ordered
 use Rattle.view_match.specs.contracts.key.NaturalKeyOrd.TheImpl.Laws as ordered_key
 use Rattle.view_match.specs.declared.indexed.Partner.{Partner}
 use Rattle.view_match.specs.declared.key.NaturalKey.{NaturalKey}
-use Rattle.view_match.specs.Indexed.{AreApart, partner_if}
+use Rattle.view_match.specs.Indexed.{AreStrictlySortedByKey, partner_if}
 use Rattle.view_match.specs.Keys.{natural_key_cmp}
-use Rattle.view_match.specs.Pairs.{AreRising}
+use Rattle.view_match.specs.Pairs.{AreSortedByKey}
 use Rattle.view_match.proofs.Exact.{natural_key_exact}
 use Rattle.view_match.proofs.Shuffled.{in-all}
 
@@ -57,7 +57,7 @@ first_decides Less s h = h
 first_decides Equal s h = refl
 first_decides Greater s h = refl
 
-pub rising-in_order : (es : List IndexEntry) → AreInOrder es → AreRising es
+pub rising-in_order : (es : List IndexEntry) → AreInOrder es → AreSortedByKey es
 rising-in_order [] h = tt
 rising-in_order (e ∷ es) h = (all_more (λ y. is_lt (entry_cmp y e) ≡ false) (λ y. before y.0 e.0 ≡ false) es (λ y. first_decides (natural_key_cmp y.0 e.0) (partner_cmp y.1 e.1)) h.0, rising-in_order es h.1)
 
@@ -102,7 +102,7 @@ module _ {X : Type 0} (entry : X → IndexEntry) where
       let next : suc k + 1 ≡ suc (k + 1) = omega arith in
       subst (λ n. IsBelow (slice_index_or xs k d) (slice_index_or (x ∷ xs) n d)) next (h (suc k) d (omega (arith, high)))
 
-  apart-adjacent : (xs : List X) → AllAdjacentBelow IsBelow xs (length xs) → AreApart (map entry xs)
+  apart-adjacent : (xs : List X) → AllAdjacentBelow IsBelow xs (length xs) → AreStrictlySortedByKey (map entry xs)
   apart-adjacent [] h = tt
   apart-adjacent (x ∷ []) h = (tt, tt)
   apart-adjacent (x ∷ y ∷ xs) h =
@@ -110,7 +110,7 @@ module _ {X : Type 0} (entry : X → IndexEntry) where
       let rest = apart-adjacent (y ∷ xs) (adjacent_tail x (y ∷ xs) h) in
       ((less, all_more (λ e. natural_key_cmp (entry y).0 e.0 ≡ Less) (λ e. natural_key_cmp (entry x).0 e.0 ≡ Less) (map entry xs) (λ e. ordered_key.total-law.trans (entry x).0 (entry y).0 e.0 less) rest.0), rest)
 
-  pub apart-answer : (xs : List X) (b : Bool) → IsAllAdjacentAnswer (λ x y r. r ≡ before (entry x).0 (entry y).0) xs b → b ≡ true → AreApart (map entry xs)
+  pub apart-answer : (xs : List X) (b : Bool) → IsAllAdjacentAnswer (λ x y r. r ≡ before (entry x).0 (entry y).0) xs b → b ≡ true → AreStrictlySortedByKey (map entry xs)
   apart-answer xs true h is = apart-adjacent xs h
   apart-answer xs false h is = absurd (false≢true is)
 
@@ -154,7 +154,7 @@ module _ (k : NaturalKey) where
       by false other is (inr i) rest = rest is i
 
   -- where no two have one key, each entry is found
-  pub apart-found : (es : List IndexEntry) (p : Partner) → AreApart es → IsIn (k, p) es → found es ≡ Some p
+  pub apart-found : (es : List IndexEntry) (p : Partner) → AreStrictlySortedByKey es → IsIn (k, p) es → found es ≡ Some p
   apart-found [] p h i = absurd i
   apart-found (e ∷ es) p h (inl own) = ap (λ b. cond b (Some e.1) (found es)) (at_own e (ap (λ (x : IndexEntry). x.0) own)) ∙ ap (λ (x : IndexEntry). Some x.1) (sym own)
   apart-found (e ∷ es) p h (inr i) = ap (λ r. cond (is_eq r) (Some e.1) (found es)) (ordered_key.total-law.antisymm k e.0 ∙ ap ordering_reverse (in-all (λ y. natural_key_cmp e.0 y.0 ≡ Less) es h.0 (k, p) i)) ∙ apart-found es p h.1 i
@@ -199,14 +199,14 @@ module _ (k : NaturalKey) where
       by false is = sym ((ranks_by ordered_key.total-law (λ (x : NaturalKey). x)).chain y e k from is) ∙ less
 
   -- the entries with lesser keys come first
-  parted-rising : {X : Type 0} (entry : X → IndexEntry) (xs : List X) → AreRising (map entry xs) → IsPartitionedBy (λ x. before (entry x).0 k) xs
+  parted-rising : {X : Type 0} (entry : X → IndexEntry) (xs : List X) → AreSortedByKey (map entry xs) → IsPartitionedBy (λ x. before (entry x).0 k) xs
   parted-rising entry [] rise i j d from within less = absurd (omega (arith, within))
   parted-rising entry (x ∷ xs) rise zero zero d from within less = less
   parted-rising entry (x ∷ xs) rise zero (suc j) d from within less = lesser_first (entry x).0 _ (at_each (λ y. before y.0 (entry x).0 ≡ false) entry xs j d (omega (arith, within)) rise.0) less
   parted-rising entry (x ∷ xs) rise (suc i) zero d from within less = absurd (omega (arith, from))
   parted-rising entry (x ∷ xs) rise (suc i) (suc j) d from within less = parted-rising entry xs rise.1 i j d (omega (arith, from)) (omega (arith, within)) less
 
-  found-parted : {X : Type 0} (entry : X → IndexEntry) (xs : List X) (at : ℕ) → AreRising (map entry xs) → ((j : ℕ) (d : X) → j < at → before (entry (slice_index_or xs j d)).0 k ≡ true) → ((j : ℕ) (d : X) → at ≤ j → j < length xs → before (entry (slice_index_or xs j d)).0 k ≡ false) → found (map entry xs) ≡ partner_in (option_map entry (slice_get xs at))
+  found-parted : {X : Type 0} (entry : X → IndexEntry) (xs : List X) (at : ℕ) → AreSortedByKey (map entry xs) → ((j : ℕ) (d : X) → j < at → before (entry (slice_index_or xs j d)).0 k ≡ true) → ((j : ℕ) (d : X) → at ≤ j → j < length xs → before (entry (slice_index_or xs j d)).0 k ≡ false) → found (map entry xs) ≡ partner_in (option_map entry (slice_get xs at))
   found-parted entry [] at rise low high = refl
   found-parted entry (x ∷ xs) zero rise low high = at_first (entry x) (map entry xs) (high 0 x (omega arith) (omega arith)) rise.0
   found-parted entry (x ∷ xs) (suc at) rise low high =
@@ -215,5 +215,5 @@ module _ (k : NaturalKey) where
       ∙ found-parted entry xs at rise.1 (λ j d less. low (suc j) d (omega (arith, less))) (λ j d from less. high (suc j) d (omega (arith, from)) (omega (arith, less)))
 
   -- what stands where the entries with lesser keys end
-  pub found-point : {X : Type 0} (entry : X → IndexEntry) (xs : List X) (at : ℕ) → AreRising (map entry xs) → (IsPartitionedBy (λ x. before (entry x).0 k) xs → IsPartitionPoint (λ x. before (entry x).0 k ≡ true) (λ x. before (entry x).0 k ≡ false) xs at) → found (map entry xs) ≡ partner_in (option_map entry (slice_get xs at))
+  pub found-point : {X : Type 0} (entry : X → IndexEntry) (xs : List X) (at : ℕ) → AreSortedByKey (map entry xs) → (IsPartitionedBy (λ x. before (entry x).0 k) xs → IsPartitionPoint (λ x. before (entry x).0 k ≡ true) (λ x. before (entry x).0 k ≡ false) xs at) → found (map entry xs) ≡ partner_in (option_map entry (slice_get xs at))
   found-point entry xs at rise point = let parted = point (parted-rising entry xs rise) in found-parted entry xs at rise (λ j d. parted.0 j d (omega arith)) parted.1

@@ -11,11 +11,11 @@ use Rattle.view_match.specs.Keys.{natural_key_cmp}
 use Rattle.view_match.specs.Pairs.{group_number}
 
 -- an entry, by a reference to its key
-abbrev pub entry_in : (Bor NaturalKey × Partner) → NaturalKey × Partner
-entry_in item = (item.0.now, item.1)
+abbrev pub lent_entry : (Bor NaturalKey × Partner) → NaturalKey × Partner
+lent_entry item = (item.0.now, item.1)
 
-abbrev pub entries_in : List (Bor NaturalKey × Partner) → List (NaturalKey × Partner)
-entries_in items = map entry_in items
+abbrev pub lent_entries : List (Bor NaturalKey × Partner) → List (NaturalKey × Partner)
+lent_entries items = map lent_entry items
 
 -- an entry before others, where the object has a key
 abbrev pub with_entry : Option NaturalKey → Partner → List (NaturalKey × Partner) → List (NaturalKey × Partner)
@@ -28,9 +28,9 @@ entries_from (key ∷ keys) (o ∷ os) place = with_entry key (record { group = 
 entries_from _ _ place = []
 
 -- each entry has a lesser key than those behind it
-abbrev pub AreApart : List (NaturalKey × Partner) → Type 0
-AreApart [] = Unit {0}
-AreApart (e ∷ es) = AllByRecursion (λ y. natural_key_cmp e.0 y.0 ≡ Less) es × AreApart es
+abbrev pub AreStrictlySortedByKey : List (NaturalKey × Partner) → Type 0
+AreStrictlySortedByKey [] = Unit {0}
+AreStrictlySortedByKey (e ∷ es) = AllByRecursion (λ y. natural_key_cmp e.0 y.0 ≡ Less) es × AreStrictlySortedByKey es
 
 -- the partner of an entry, where it has this key
 abbrev pub partner_if : (NaturalKey × Partner) → NaturalKey → Option Partner

@@ -50,13 +50,13 @@ partner_of objects None = None
 partner_of objects (Some k) = option_map (λ p. p.place) (best_from None (keys_of_objects objects) objects k 0)
 
 -- no entry has a lesser key than one before it
-abbrev pub AreRising : List (NaturalKey × Partner) → Type 0
-AreRising [] = Unit {0}
-AreRising (e ∷ es) = AllByRecursion (λ y. is_lt (natural_key_cmp y.0 e.0) ≡ false) es × AreRising es
+abbrev pub AreSortedByKey : List (NaturalKey × Partner) → Type 0
+AreSortedByKey [] = Unit {0}
+AreSortedByKey (e ∷ es) = AllByRecursion (λ y. is_lt (natural_key_cmp y.0 e.0) ≡ false) es × AreSortedByKey es
 
 -- a list of objects by rising natural keys, of which the first one of a key is the object of it
 pub record IsIndex (objects : Objects) (index : List (NaturalKey × Partner)) : Type 0 where
-  pub rising : AreRising index
+  pub rising : AreSortedByKey index
   pub each : (k : NaturalKey) → lookup (is_at (natural_key_cmp k)) index ≡ best_from None (keys_of_objects objects) objects k 0
 
 abbrev pub with_pair_at : Option ℕ → ℕ → List (ℕ × ℕ) → List (ℕ × ℕ)

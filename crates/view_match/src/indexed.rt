@@ -1,7 +1,7 @@
 // The old objects by their natural keys.
 ghost use Rattle.std.specs.Prelude.{◌≡◌, length, true, IfOk};
 ghost use Rattle.chip_names.specs.Naming.{entries_of};
-ghost use Rattle.view_match.specs.Indexed.{AreApart, entries_in, entries_from};
+ghost use Rattle.view_match.specs.Indexed.{AreStrictlySortedByKey, lent_entries, entries_from};
 ghost use Rattle.view_match.specs.Keys.{keys_of_objects};
 ghost use Rattle.view_match.specs.Near.{AreFound};
 ghost use Rattle.view_match.specs.Pairs.{IsIndex, group_number};
@@ -40,8 +40,8 @@ pub(crate) fn index<'a>(
     old: &[Object<Rid>],
 ) -> Result<Indexed<'a>, OutOfMemory>
     requires keyed { keys.now ≡ keys_of_objects (entries_of old.now) }
-    ensures index { IfOk result (λ indexed. IsIndex (entries_of old.now) (entries_in indexed.index.items)) }
-    ensures found { IfOk result (λ indexed. indexed.apart ≡ true → AreFound keys.now (entries_in indexed.index.items) (length keys.now)) }
+    ensures index { IfOk result (λ indexed. IsIndex (entries_of old.now) (lent_entries indexed.index.items)) }
+    ensures found { IfOk result (λ indexed. indexed.apart ≡ true → AreFound keys.now (lent_entries indexed.index.items) (length keys.now)) }
 {
     let mut index = partners(alloc, keys, old)?;
     index.sort()?;
@@ -56,7 +56,7 @@ fn partners<'a>(
     old: &[Object<Rid>],
 ) -> Result<Index<'a>, OutOfMemory>
     requires { length keys.now ≡ length old.now }
-    ensures { IfOk result (λ index. entries_in index.items ≡ entries_from keys.now (entries_of old.now) 0) }
+    ensures { IfOk result (λ index. lent_entries index.items ≡ entries_from keys.now (entries_of old.now) 0) }
 {
     let mut index = Vec::with_capacity(alloc, keys.len())?;
     let mut place = 0;
@@ -73,7 +73,7 @@ fn partners<'a>(
 
 /// Whether each key is less than the next.
 fn are_apart(index: &[(&NaturalKey, Partner)]) -> bool
-    ensures { result ≡ true → AreApart (entries_in index.now) }
+    ensures { result ≡ true → AreStrictlySortedByKey (lent_entries index.now) }
 {
     index.is_sorted_by(|one, next| one.0.cmp(next.0).is_lt())
 }

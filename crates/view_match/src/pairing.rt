@@ -7,10 +7,10 @@ ghost use Rattle.sai_types.specs.Named.{those};
 ghost use Rattle.sai_types.specs.Objects.{Objects};
 ghost use Rattle.chip_layout.specs.Counted.{AreDistinct};
 ghost use Rattle.view_match.specs.Keyed.{AreNaturalKeysOf};
-ghost use Rattle.view_match.specs.Indexed.{entries_in, entry_in, partner_if};
+ghost use Rattle.view_match.specs.Indexed.{lent_entries, lent_entry, partner_if};
 ghost use Rattle.view_match.specs.Keys.{natural_key_cmp};
 ghost use Rattle.view_match.specs.Near.{AreFound, IsKey};
-ghost use Rattle.view_match.specs.Pairs.{AreRising, IsIndex, new_keys, pairs_from, pairs_of, partner_of};
+ghost use Rattle.view_match.specs.Pairs.{AreSortedByKey, IsIndex, new_keys, pairs_from, pairs_of, partner_of};
 
 use crate::indexed::{Index, Indexed, Partner, index};
 use crate::key::NaturalKey;
@@ -57,10 +57,10 @@ fn pair_keys(
     old_keys: &[Option<NaturalKey>],
     keys: &[Option<NaturalKey>],
 ) -> Result<Pairing, OutOfMemory>
-    requires indexed { (objects : Objects) × IsIndex objects (entries_in indexed.now.index.items) }
-    requires found { indexed.now.apart ≡ true → AreFound old_keys.now (entries_in indexed.now.index.items) (length old_keys.now) }
+    requires indexed { (objects : Objects) × IsIndex objects (lent_entries indexed.now.index.items) }
+    requires found { indexed.now.apart ≡ true → AreFound old_keys.now (lent_entries indexed.now.index.items) (length old_keys.now) }
     requires distinct { AreDistinct (those keys.now) }
-    ensures { IfOk result (λ pairing. (objects : Objects) → IsIndex objects (entries_in indexed.now.index.items) → pairing ≡ pairs_from objects keys.now 0) }
+    ensures { IfOk result (λ pairing. (objects : Objects) → IsIndex objects (lent_entries indexed.now.index.items) → pairing ≡ pairs_from objects keys.now 0) }
 {
     let mut pairing = Pairing::new(alloc);
     let mut place = 0;
@@ -83,8 +83,8 @@ fn partner_near(
     near: u64,
     key: &Option<NaturalKey>,
 ) -> Option<u64>
-    requires found { indexed.now.apart ≡ true → AreFound old_keys.now (entries_in indexed.now.index.items) (length old_keys.now) }
-    ensures { (objects : Objects) → IsIndex objects (entries_in indexed.now.index.items) → result ≡ partner_of objects key.now }
+    requires found { indexed.now.apart ≡ true → AreFound old_keys.now (lent_entries indexed.now.index.items) (length old_keys.now) }
+    ensures { (objects : Objects) → IsIndex objects (lent_entries indexed.now.index.items) → result ≡ partner_of objects key.now }
 {
     if indexed.apart && is_key(old_keys.get(near as usize), key) {
         return Some(near);
@@ -121,7 +121,7 @@ fn is_same(old: &NaturalKey, key: &NaturalKey) -> bool
 
 /// The place of the old object of a key.
 fn partner_of(index: &Index<'_>, key: &Option<NaturalKey>) -> Option<u64>
-    ensures { (objects : Objects) → IsIndex objects (entries_in index.now.items) → result ≡ partner_of objects key.now }
+    ensures { (objects : Objects) → IsIndex objects (lent_entries index.now.items) → result ≡ partner_of objects key.now }
 {
     match key {
         Some(key) => place_of(index.as_slice(), key),
@@ -131,7 +131,7 @@ fn partner_of(index: &Index<'_>, key: &Option<NaturalKey>) -> Option<u64>
 
 /// The place of the first object of a key.
 fn place_of(index: &[(&NaturalKey, Partner)], key: &NaturalKey) -> Option<u64>
-    ensures { AreRising (entries_in index.now) → result ≡ option_map (λ p. p.place) (lookup (is_at (natural_key_cmp key.now)) (entries_in index.now)) }
+    ensures { AreSortedByKey (lent_entries index.now) → result ≡ option_map (λ p. p.place) (lookup (is_at (natural_key_cmp key.now)) (lent_entries index.now)) }
 {
     let at = index.partition_point(|one| is_before(one, key));
     match index.get(at) {
@@ -142,14 +142,14 @@ fn place_of(index: &[(&NaturalKey, Partner)], key: &NaturalKey) -> Option<u64>
 
 /// Whether an object's key is less than this one.
 fn is_before(one: &(&NaturalKey, Partner), key: &NaturalKey) -> bool
-    ensures { result ≡ is_lt (natural_key_cmp (entry_in one.now).0 key.now) }
+    ensures { result ≡ is_lt (natural_key_cmp (lent_entry one.now).0 key.now) }
 {
     one.0.cmp(key).is_lt()
 }
 
 /// The place of an object, where it has this key.
 fn place_if(one: &(&NaturalKey, Partner), key: &NaturalKey) -> Option<u64>
-    ensures { result ≡ option_map (λ p. p.place) (partner_if (entry_in one.now) key.now) }
+    ensures { result ≡ option_map (λ p. p.place) (partner_if (lent_entry one.now) key.now) }
 {
     if key == one.0 {
         Some(one.1.place)

@@ -40,7 +40,8 @@ use Rattle.apply_order.specs.Calls.{both_calls, make_calls, made_id, remove_call
 use Rattle.apply_order.specs.Naming.{OldIds, new_id}
 use Rattle.apply_order.specs.declared.ranks.PlanStep.{PlanStep}
 use Rattle.apply_order.specs.declared.ranks.Timed.{Timed}
-use Rattle.apply_laws.specs.Apply.{ComeToNextIds, made_by}
+use Rattle.syncd_core.specs.Run.{made_by}
+use Rattle.apply_laws.specs.Apply.{ComeToNextIds}
 use Rattle.apply_laws.specs.Viewed.{IsViewOf, things_in}
 use Rattle.apply_laws.proofs.Order.Changes.{IsGoneDue, IsMadeDue, IsSetDue, change_of, due-pair, name-is, new_thing, old_name, place_old, thing-is}
 use Rattle.apply_laws.proofs.Order.Partners.{in-place}

@@ -13,9 +13,8 @@ use Rattle.sai_types.specs.Alike.{IsIn}
 use Rattle.sai_types.specs.Made.{AreSorted, IsWhole}
 use Rattle.sai_types.specs.Objects.{Objects, body_at}
 use Rattle.chip_layout.specs.Counted.{AreDistinct}
-use Rattle.chip_layout.specs.Layout.{IsLaidOut}
-use Rattle.chip_layout.specs.Layout as chip
-use Rattle.asic_view.specs.Things.{StandFor, listed}
+use Rattle.chip_layout.specs.Layout.{IsLaidOut, listed}
+use Rattle.asic_view.specs.Things.{StandFor}
 use Rattle.asic_view.specs.View.{ViewObjects, rid_at, shown_by, vid_cmp}
 use Rattle.asic_view.proofs.Same.{same-objects}
 use Rattle.asic_view.proofs.Shown.{sorted-shown}
@@ -57,5 +56,5 @@ module _ (view : ViewObjects) (made : ℕ) (objects : Objects) where
           let from = back e b at in
           ap (body_at (shown_by (tie_of view) view)) from.2 ∙ shown-there (tie_of view) view from.0 once from.1 ∙ sym (there from.0 from.1) ∙ ap (body_at objects) (sym from.2)
 
-pub stand-for : (view : ViewObjects) (made : ℕ) (objects : Objects) (stands : List (Rid × Thing)) → AreTied view made objects → IsWhole made objects → IsLaidOut (chip.listed stands) objects → (things : List (Vid × Thing)) × StandFor (listed things) view × AreThingsOf view stands things
-stand-for view made objects stands tied whole laid = stand-tied view made (own-chip view made objects tied) (subst (IsWhole made) (sym tied.shown) whole) stands (subst (IsLaidOut (chip.listed stands)) (sym tied.shown) laid)
+pub stand-for : (view : ViewObjects) (made : ℕ) (objects : Objects) (stands : List (Rid × Thing)) → AreTied view made objects → IsWhole made objects → IsLaidOut (listed stands) objects → (things : List (Vid × Thing)) × StandFor (listed things) view × AreThingsOf view stands things
+stand-for view made objects stands tied whole laid = stand-tied view made (own-chip view made objects tied) (subst (IsWhole made) (sym tied.shown) whole) stands (subst (IsLaidOut (listed stands)) (sym tied.shown) laid)

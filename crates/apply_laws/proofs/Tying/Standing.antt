@@ -26,15 +26,14 @@ use Rattle.sai_types.proofs.Exact.{entry-exact, id-exact}
 use Rattle.sai_types.proofs.Found.{same-refl}
 use Rattle.sai_types.proofs.Membership.{all-in, in-map, map-in}
 use Rattle.chip_layout.specs.Bodies.{is_numbered}
-use Rattle.chip_layout.specs.Layout.{Has, IsLaidOut, has_number}
-use Rattle.chip_layout.specs.Layout as chip
+use Rattle.chip_layout.specs.Layout.{Has, IsLaidOut, has_number, listed}
 use Rattle.chip_layout.specs.Renamed.{AreRenamed, body_renamed, entry_renamed, on_renamed, things_renamed}
 use Rattle.chip_layout.proofs.Bodies.{kind-body}
 use Rattle.chip_layout.proofs.Legality.{refusal-renamed}
 use Rattle.chip_layout.proofs.Renaming.{renamed-laid}
 use Rattle.chip_layout.proofs.Shapes.{laid-same}
 use Rattle.chip_layout.proofs.Distinct.{one-of}
-use Rattle.asic_view.specs.Things.{StandFor, by_number, listed}
+use Rattle.asic_view.specs.Things.{StandFor, by_number}
 use Rattle.asic_view.specs.View.{ViewObjects, as_chip, as_rid, as_vid, entry_at, rid_at, shown_by}
 use Rattle.asic_view.proofs.Naming.{entered-below}
 use Rattle.asic_view.proofs.Shown.{shown_body, shown_entry, sorted-shown}
@@ -239,7 +238,7 @@ module _ (view : ViewObjects) (made : ℕ) (tied : AreTied view made (shown_by (
 
   -- ---- the things
 
-  module _ (stands : List (Rid × Thing)) (laid : IsLaidOut (chip.listed stands) (shown_by (tie_of view) view)) where
+  module _ (stands : List (Rid × Thing)) (laid : IsLaidOut (listed stands) (shown_by (tie_of view) view)) where
     abbrev untied_thing : Rid × Thing → Vid × Thing
     untied_thing s = (as_vid (back s.0), s.1)
 
@@ -260,7 +259,7 @@ module _ (view : ViewObjects) (made : ℕ) (tied : AreTied view made (shown_by (
     is_tied : (i : Rid) (u : Thing) → IsIn (i, u) stands → has_number u ≡ true → rid_at view (as_vid (back i)) ≡ Some i
     is_tied i u h number =
         let on_chip = laid.stand i u h in
-        let id : has_id on_chip.0 ≡ true = sym (numbered_has_id on_chip.0) ∙ ap is_numbered (kind-body (Has (chip.listed stands)) u on_chip.0 on_chip.1) ∙ number in
+        let id : has_id on_chip.0 ≡ true = sym (numbered_has_id on_chip.0) ∙ ap is_numbered (kind-body (Has (listed stands)) u on_chip.0 on_chip.1) ∙ number in
         let from = shown-from t view (entry_of i.0 on_chip.0) on_chip.0 on_chip.2 in
         let of = oid-of t view i from.0.0 from.0.1.body (sym (own_id i on_chip.0 id) ∙ from.2) in
         let own = own-tie view made tied from.0 from.1 of.0 in
@@ -273,7 +272,7 @@ module _ (view : ViewObjects) (made : ℕ) (tied : AreTied view made (shown_by (
       record {
         made = top view;
         whole = whole_number;
-        laid = laid-same (chip.listed (things_renamed back stands)) (by_number (listed things)) (as_chip view) (into stands) (out stands) (renamed-laid back stands (shown_by t view) (as_chip view) are_back laid);
+        laid = laid-same (listed (things_renamed back stands)) (by_number (listed things)) (as_chip view) (into stands) (out stands) (renamed-laid back stands (shown_by t view) (as_chip view) are_back laid);
       },
       record {
         into = λ v u h.

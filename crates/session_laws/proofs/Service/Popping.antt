@@ -9,7 +9,7 @@ use Rattle.sync_tables.specs.Tables.{IsPoppedIn, IsToSync, Popped, PopsKeys, Sta
 use Rattle.warm_state.specs.declared.warm.Warm.TheVariants as warm
 use Rattle.restart_laws.specs.Logged.{LoggedService}
 use Rattle.session_laws.specs.Core.{CoreState}
-use Rattle.session_laws.specs.Service.Standing.{AreRead, IsAhead, IsServiceOf, written_of}
+use Rattle.session_laws.specs.Service.Standing.{AreKeysOnSwitch, IsAhead, IsServiceOf, written_of}
 use Rattle.session_laws.proofs.Service.States.{not-in, restored-applying, restored-initialized, restored-reconciled}
 
 module _ (c : CoreState) (t : TablesState) (pops : PopsKeys c.tables t) where
@@ -23,7 +23,7 @@ module _ (c : CoreState) (t : TablesState) (pops : PopsKeys c.tables t) where
   pub pops-ahead : (w : Written) → IsAhead w (written_of c) → IsAhead w (written_of popped)
   pops-ahead w a = record { taken = a.taken; whole = λ k. whole k (pops.keys k) ∙ a.whole k }
 
-  module _ (read : AreRead c) where
+  module _ (read : AreKeysOnSwitch c) where
     to_sync : (k : Key) → IsPoppedIn c.tables t k → IsToSync t k → IsOnSwitch k
     to_sync k (Stays same only) i = read.to_sync k (only i)
     to_sync k (Popped more gone there) i = read.waiting k (more (sent_writes c.log.taken))
@@ -32,7 +32,7 @@ module _ (c : CoreState) (t : TablesState) (pops : PopsKeys c.tables t) where
     waiting k (Stays same only) some = read.waiting k (λ none. some (λ o. (same (sent_writes c.log.taken)).waiting o ∙ none o))
     waiting k (Popped more gone there) some = absurd (some (gone (sent_writes c.log.taken)).none)
 
-    pub pops-read : AreRead popped
+    pub pops-read : AreKeysOnSwitch popped
     pops-read = record { taken = read.taken; to_sync = λ k. to_sync k (pops.keys k); waiting = λ k. waiting k (pops.keys k) }
 
   pub pops-stay : (chip : ChipState) (s : LoggedService) → IsServiceOf c chip s → c.warm ≡ warm.Restored → IsServiceOf popped chip s

@@ -34,7 +34,7 @@ use Rattle.sai_types.proofs.Membership.{map-in}
 use Rattle.chip_names.specs.Naming.{entries_of}
 use Rattle.chip_layout.specs.Counted.{AreDistinct}
 use Rattle.chip_layout.specs.Grouped.{AreGrouped}
-use Rattle.chip_layout.specs.Layout.{Has, IsLaidOut, Layout, has_number}
+use Rattle.chip_layout.specs.Layout.{Has, IsLaidOut, Layout, has_number, listed}
 use Rattle.chip_layout.specs.Layout as layout
 use Rattle.chip_layout.specs.Renamed.{body_renamed, entry_renamed}
 use Rattle.chip_layout.proofs.Answering.{in_those, those_in}
@@ -51,7 +51,7 @@ use Rattle.view_match.specs.Listed.{objects_as, rid_of}
 use Rattle.view_match.specs.Pairs.{new_keys, pairs_of}
 use Rattle.apply_order.specs.Planned.{IsPlanOf}
 use Rattle.apply_order.specs.Room.{lacking_from}
-use Rattle.asic_view.specs.Things.{StandFor, by_number, listed}
+use Rattle.asic_view.specs.Things.{StandFor, by_number}
 use Rattle.asic_view.specs.View.{ViewObjects, as_chip, as_rid, as_vid, entry_at, rid_at, rid_in, used_of, vid_cmp}
 use Rattle.asic_view.proofs.Naming.{entries_told_alike, key-exact}
 use Rattle.syncd_core.specs.Begun.{objects_listed}

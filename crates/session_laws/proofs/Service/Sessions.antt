@@ -17,7 +17,7 @@ use Rattle.session_laws.specs.Events.{MakesOne, MakesSome}
 use Rattle.session_laws.specs.Standing.{IsSessionOf}
 use Rattle.session_laws.proofs.Beginning.{new_stands}
 use Rattle.session_laws.specs.Service.Events.{MakesMore, MakesNext}
-use Rattle.session_laws.specs.Service.Standing.{AreRead, HaveNumbers, IsAhead, IsServiceOf, written_of}
+use Rattle.session_laws.specs.Service.Standing.{AreKeysOnSwitch, HaveNumbers, IsAhead, IsServiceOf, written_of}
 use Rattle.session_laws.proofs.Service.Holding.{step-holds}
 use Rattle.session_laws.proofs.Service.Numbers.{step-numbers}
 use Rattle.session_laws.proofs.Service.States.{not-in, reconciled-applying, reconciled-initialized, reconciled-restored, suspect-applying, suspect-initialized, suspect-restored}
@@ -44,7 +44,7 @@ pub exactly-ahead : (s now : Written) → s ≡ now → IsAhead s now
 exactly-ahead s now same = subst (IsAhead s) same (record { taken = refl; whole = λ k. refl })
 
 module _ (c : CoreState) (chip : ChipState) (s : LoggedService) (is : IsSessionOf c chip s) (holds : Holds c.board.plan 4 c.sync.capacities s.service) (numbers : HaveNumbers s.service.core.objects) (taken : (w : Write) → IsIn w (sent_writes c.log.taken) → IsOnSwitch (written_key w)) where
-  read_of : AreRead c
+  read_of : AreKeysOnSwitch c
   read_of = record {
     taken = taken;
     to_sync = is.to_sync_read;

@@ -54,7 +54,7 @@ pub record IsAhead (s now : Written) : Type 0 where
   pub whole : (k : Key) → now.waiting k (now.rows k) ≡ s.waiting k (s.rows k)
 
 -- each key that a write named which was taken, each that is to sync, and each of which a write waits, is one that a text is
-pub record AreRead (c : CoreState) : Type 0 where
+pub record AreKeysOnSwitch (c : CoreState) : Type 0 where
   pub taken : (w : Write) → IsIn w (sent_writes c.log.taken) → IsOnSwitch (written_key w)
   pub to_sync : (k : Key) → IsToSync c.tables k → IsOnSwitch k
   pub waiting : (k : Key) → (HasNoWrite (written_of c) k → ⊥) → IsOnSwitch k
@@ -84,7 +84,7 @@ pub record IsLogOf (c : CoreState) (chip : ChipState) (s : LoggedService) : Type
   pub log : s.log ≡ c.log
   pub effects : s.effects ≡ chip.effects
   pub listed : c.listed ≡ listed_by c.log.marks
-  pub read : AreRead c
+  pub read : AreKeysOnSwitch c
 
 -- ---- after a restart, and while the chip is listed
 

@@ -1,7 +1,7 @@
 use Rattle.std.proofs.Common.{length, None, ap, subst, ◌∙◌, IsPermutation}
 use Rattle.std.proofs.lemmas.List.Sorted.{IsPermutation-map}
 use Rattle.chip_names.specs.Naming.{entries_of}
-use Rattle.view_match.specs.Indexed.{AreApart, entries_in, entry_in}
+use Rattle.view_match.specs.Indexed.{AreStrictlySortedByKey, lent_entries, lent_entry}
 use Rattle.view_match.specs.Pairs.{best_from}
 use Rattle.view_match.proofs.Entries.{found-best, found-apart}
 use Rattle.view_match.proofs.Paired.{length-keys, length-entries}
@@ -15,8 +15,8 @@ pub returns-clause-index : goal.returns-clause-index
 returns-clause-index c =
     let objects = entries_of c.args.old.now in
     let long = ap length c.requires.keyed ∙ length-keys objects in
-    let same = subst (λ es. IsPermutation es (entries_in c.sort.new.self.items)) c.in_ok-index.ensures (IsPermutation-map entry_in _ _ c.sort.ensures.permutation) in
-    let order = in_order-sorted entry_in c.sort.new.self.items c.in_ok-sort.ensures.sorted in
+    let same = subst (λ es. IsPermutation es (lent_entries c.sort.new.self.items)) c.in_ok-index.ensures (IsPermutation-map lent_entry _ _ c.sort.ensures.permutation) in
+    let order = in_order-sorted lent_entry c.sort.new.self.items c.in_ok-sort.ensures.sorted in
     record {
       rising = rising-in_order _ order;
       each = λ k. found-best c.args.keys.now objects long _ same k order ∙ ap (λ keys. best_from None keys objects k 0) c.requires.keyed;
@@ -26,5 +26,5 @@ pub returns-clause-found : goal.returns-clause-found
 returns-clause-found c = λ apart.
     let objects = entries_of c.args.old.now in
     let long = ap length c.requires.keyed ∙ length-keys objects in
-    let same = subst (λ es. IsPermutation es (entries_in c.sort.new.self.items)) c.in_ok-index.ensures (IsPermutation-map entry_in _ _ c.sort.ensures.permutation) in
-    found-apart c.args.keys.now objects long _ same (subst (λ items. AreApart (entries_in items)) c.as_slice.ensures.value (c.are_apart-apart.ensures apart))
+    let same = subst (λ es. IsPermutation es (lent_entries c.sort.new.self.items)) c.in_ok-index.ensures (IsPermutation-map lent_entry _ _ c.sort.ensures.permutation) in
+    found-apart c.args.keys.now objects long _ same (subst (λ items. AreStrictlySortedByKey (lent_entries items)) c.as_slice.ensures.value (c.are_apart-apart.ensures apart))

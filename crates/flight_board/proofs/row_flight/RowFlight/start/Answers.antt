@@ -1,6 +1,6 @@
 use Rattle.std.proofs.Common.{Ok, option_map, ap, refl}
 use Rattle.orch_flight.specs.Starting.{answered}
-use Rattle.route_orch.specs.Routes.{operation_in}
+use Rattle.route_orch.specs.Routes.{operation_of_route}
 use Rattle.flight_board.proofs.Begins.{told-of}
 use Rattle.flight_board.proofs.Events.{operation-is}
 use Rattle.flight_board.proofs.row_flight.RowFlight.start.Goals as goal
@@ -20,8 +20,8 @@ returns-in-Ok-5-clause-started c = told-of c.args.plan.now c.args.reg.now c.args
 pub returns-in-Ok-3-clause-row : goal.returns-in-Ok-3-clause-row
 returns-in-Ok-3-clause-row c =
     let old = option_map (λ r. r.now) c.args.old in
-    let told = told-of c.args.plan.now c.args.reg.now c.args.room.now c.args.used.now c.args.worker c.args.key.now old c.take-new.result c.args.new.now c.start-in-Route.new.reg c.start-in-Route.new.room (answered operation_in c.in_ok-flight-in-Route.field-0) (Ok c.in-Ok-3.flight.operation) c.take-new.ensures.value (ap (answered operation_in) c.in-Ok-3.is) c.in_ok-flight-in-Route.ensures.started in
+    let told = told-of c.args.plan.now c.args.reg.now c.args.room.now c.args.used.now c.args.worker c.args.key.now old c.take-new.result c.args.new.now c.start-in-Route.new.reg c.start-in-Route.new.room (answered operation_of_route c.in_ok-flight-in-Route.field-0) (Ok c.in-Ok-3.flight.operation) c.take-new.ensures.value (ap (answered operation_of_route) c.in-Ok-3.is) c.in_ok-flight-in-Route.ensures.started in
     (operation-is c.args.plan.now c.args.reg.now c.args.room.now c.args.used.now c.args.worker c.args.key.now c.args.new.now c.start-in-Route.new.reg c.start-in-Route.new.room old c.in-Ok-3.flight.operation told).row
 
 pub returns-in-Ok-3-clause-started : goal.returns-in-Ok-3-clause-started
-returns-in-Ok-3-clause-started c = told-of c.args.plan.now c.args.reg.now c.args.room.now c.args.used.now c.args.worker c.args.key.now (option_map (λ r. r.now) c.args.old) c.take-new.result c.args.new.now c.start-in-Route.new.reg c.start-in-Route.new.room (answered operation_in c.in_ok-flight-in-Route.field-0) (Ok c.in-Ok-3.flight.operation) c.take-new.ensures.value (ap (answered operation_in) c.in-Ok-3.is) c.in_ok-flight-in-Route.ensures.started
+returns-in-Ok-3-clause-started c = told-of c.args.plan.now c.args.reg.now c.args.room.now c.args.used.now c.args.worker c.args.key.now (option_map (λ r. r.now) c.args.old) c.take-new.result c.args.new.now c.start-in-Route.new.reg c.start-in-Route.new.room (answered operation_of_route c.in_ok-flight-in-Route.field-0) (Ok c.in-Ok-3.flight.operation) c.take-new.ensures.value (ap (answered operation_of_route) c.in-Ok-3.is) c.in_ok-flight-in-Route.ensures.started

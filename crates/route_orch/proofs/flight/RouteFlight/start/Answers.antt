@@ -1,6 +1,6 @@
 use Rattle.std.proofs.Common.{Ok, sym, ap, subst}
-use Rattle.orch_flight.specs.Starting.{IsBegunBy}
-use Rattle.route_orch.specs.Routes.{IsFirst, flown, operation_in, route_state}
+use Rattle.orch_flight.specs.Starting.{IsBegunBy, flown}
+use Rattle.route_orch.specs.Routes.{IsFirst, operation_of_route, route_state}
 use Rattle.route_orch.specs.Targets.{IsRouteRow}
 use Rattle.route_orch.proofs.Operations.{route-row, rows, started-as}
 use Rattle.route_orch.proofs.flight.RouteFlight.start.Goals as goal
@@ -21,7 +21,7 @@ returns-in-Ok-clause-started c =
     let old = rows c.args.old in
     let b = c.in_ok-body.body.value in
     let n = c.own_row-wanted.result in
-    let f = operation_in (route_state n b) in
+    let f = operation_of_route (route_state n b) in
     let same = c.as_ref-given.ensures.value in
     started-as plan c.args.reg.now c.args.room.now c.args.used.now c.args.worker k old c.args.new b n c.in_ok-begin.field-0 (Ok f) c.begin.new.reg c.begin.new.room
     (subst (λ o. IsFirst plan c.args.worker k old o b) same c.in_ok-body.ensures) c.own_row-wanted.ensures (sym (ap (flown f) c.in-Ok.is)) c.requires.may
