@@ -1,4 +1,5 @@
 mod EachKind
+mod Filtered
 pub mod Lengths
 mod Left
 mod Modes

@@ -1,7 +1,12 @@
 // The steps that are due, with their turns.
-ghost use Rattle.std.specs.Prelude.{◌≡◌, ◌++◌, ◌∷◌, List, length, IfOk, OnOk};
+ghost use Rattle.std.specs.Prelude.{◌≡◌, ◌++◌, Option, length, IfOk, OnOk};
 ghost use Rattle.std.specs.List.Sorted.{IsPermutation, IsSorted};
-ghost use Rattle.view_match.specs.Keyed.{AreNaturalKeysOf};
+ghost use Rattle.sai_types.specs.declared.body.Object.{Object};
+ghost use Rattle.sai_types.specs.declared.ids.Vid.{Vid};
+ghost use Rattle.sai_types.specs.declared.plan.Mode.{Mode};
+ghost use Rattle.view_match.specs.Keyed.{AreNaturalKeysOf, AreNewNames};
+ghost use Rattle.view_match.specs.Pairs.{new_keys};
+ghost use Rattle.view_match.specs.declared.key.NaturalKey.{NaturalKey};
 ghost use Rattle.apply_order.specs.Due.{due_steps, entry_number, needed, new_step, new_steps, old_step, old_steps, paired_in};
 ghost use Rattle.apply_order.specs.Places.{IsTable, Places, by_new, by_old};
 ghost use Rattle.apply_order.specs.Ranks.{timed_cmp};
@@ -51,7 +56,8 @@ fn due_steps(
     let pairs = paired_in(mode, pairs);
     let mut steps = Vec::with_capacity(alloc, new.len())?;
     let new_places = by_new(alloc, new.len(), pairs)?;
-    push_new(mode, names, &new_places, keys.of_new, old, new, &mut steps)?;
+    push_new(mode, names, &new_places, &keys, old, new, &mut steps)?;
+    drop(new_places);
     let old_places = by_old(alloc, old.len(), pairs)?;
     push_old(mode, &old_places, keys.of_old, old, &mut steps)?;
     Ok(steps)
@@ -67,49 +73,44 @@ fn paired_in(mode: Mode, pairs: &[(u64, u64)]) -> &[(u64, u64)]
     }
 }
 
-/// Puts the steps of the new objects that have anything to do.
+/// Puts the steps of the new objects that have anything to do: of these alone the natural keys are made.
 fn push_new(
     mode: Mode,
     names: &Names,
     paired: &Partners,
-    keys: Vec<Option<NaturalKey>>,
+    keys: &NaturalKeys,
     old: &[Object<Rid>],
     new: &[Object<Vid>],
     steps: &mut Vec<Timed>,
 ) -> Result<(), OutOfMemory>
-    requires keyed { length keys.items ≡ length new.now }
+    requires named { AreNewNames new.now keys.now.new_names }
     requires counted { length paired.now.items ≡ length new.now }
-    ensures { OnOk result ((known : Places) → IsTable known paired.now.items → steps.new.items ≡ steps.old.items ++ needed names.now old.now new.now (new_steps mode known keys.items new.now 0)) }
+    ensures { OnOk result ((known : Places) → IsTable known paired.now.items → steps.new.items ≡ steps.old.items ++ needed names.now old.now new.now (new_steps mode known (new_keys new.now) new.now 0)) }
 {
     let mut place = 0;
-    for key in keys {
+    for object in new {
         let at = place as u64;
-        let step = new_step(mode, key, &new[place], at, partner(paired, place));
-        push_needed(names, old, new, step, steps)?;
+        let partner = partner(paired, place);
+        if is_needed(names, old, new, step_of(at, partner)) {
+            let key = keys.of_new(object)?;
+            steps.push(new_step(mode, key, object, at, partner))?;
+        }
         place += 1;
     }
     Ok(())
 }
 
-/// Puts a step, if it has anything to do.
-fn push_needed(
-    names: &Names,
-    old: &[Object<Rid>],
-    new: &[Object<Vid>],
-    step: Timed,
-    steps: &mut Vec<Timed>,
-) -> Result<(), OutOfMemory>
-    ensures { OnOk result ((rest : List Timed) → steps.new.items ++ needed names.now old.now new.now rest ≡ steps.old.items ++ needed names.now old.now new.now (step ∷ rest)) }
+/// What is done for the new object at a place: it is made where it is not paired, else what differs is set.
+fn step_of(place: u64, partner: Option<u64>) -> PlanStep
+    ensures { (m : Mode) (key : Option NaturalKey) (n : Object Vid) → result ≡ (new_step m key n place partner).step }
 {
-    if is_needed(names, old, new, step.step) {
-        steps.push(step)?;
-    } else {
-        drop(step);
+    match partner {
+        None => PlanStep::Make(place),
+        Some(old) => PlanStep::Set(old, place),
     }
-    Ok(())
 }
 
-/// The step of a new object: it is made where it is not paired, else what differs is set.
+/// The step of a new object: that with its turn.
 fn new_step(
     mode: Mode,
     key: Option<NaturalKey>,
@@ -119,19 +120,16 @@ fn new_step(
 ) -> Timed
     ensures { result ≡ new_step mode key new.now place partner }
 {
-    match partner {
-        None => Timed {
-            rank: make_rank(mode, &new.body),
-            key,
-            id: 0,
-            step: PlanStep::Make(place),
-        },
-        Some(old) => Timed {
-            rank: set_rank(&new.body),
-            key,
-            id: 0,
-            step: PlanStep::Set(old, place),
-        },
+    let rank = match partner {
+        None => make_rank(mode, &new.body),
+        Some(_) => set_rank(&new.body),
+    };
+    let step = step_of(place, partner);
+    Timed {
+        rank,
+        key,
+        id: 0,
+        step,
     }
 }
 

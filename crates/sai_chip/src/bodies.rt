@@ -226,10 +226,20 @@ impl Bodies {
         ensures ok { OnOk result (out.new.items ≡ out.old.items ++ objects_of self.now) }
         ensures err { OnErr result (take (length out.old.items) out.new.items ≡ out.old.items) }
     {
+        out.reserve_exact(self.count())?;
         push_numbered(&self.numbered, out)?;
         push_own(&self.own, out)?;
         push_neighbors(&self.neighbors, out)?;
         push_routes(&self.routes, out)
+    }
+
+    /// How many objects there are, for which a list makes room.
+    fn count(&self) -> usize {
+        let numbered = self.numbered.len();
+        let keyed = self.own.len().saturating_add(self.neighbors.len());
+        numbered
+            .saturating_add(keyed)
+            .saturating_add(self.routes.len())
     }
 }
 

@@ -1,6 +1,7 @@
 -- no place stands in two pairs
-use Rattle.std.proofs.Common.{◌≡◌, ◌≢◌, ◌⊎◌, inl, inr, ℕ, ◌+◌, ◌<◌, ◌≤◌, Bool, true, false, cond, List, [], ◌∷◌, ◌++◌, length, drop, drop-cons, get_or, suc, Option, None, Some, refl, sym, ap, ◌∙◌, subst, arith}
+use Rattle.std.proofs.Common.{◌≡◌, ◌≢◌, ◌⊎◌, inl, inr, ℕ, ◌+◌, ◌<◌, ◌≤◌, Bool, true, false, cond, List, [], ◌∷◌, ◌++◌, Option, None, Some, refl, sym, ap, ◌∙◌, subst, arith}
 use Rattle.std.specs.BTreeMap.{is_at}
+use Rattle.std.proofs.lemmas.List.{append_assoc}
 use Rattle.std.proofs.lemmas.Map.Views.{tells_apart}
 use Rattle.swss_types.proofs.Proper.{mapped}
 use Rattle.sai_types.specs.Alike.{IsIn}
@@ -127,9 +128,22 @@ free-before (q ∷ front) rest p h = let apart = h.0 p (in_middle front rest p) 
     in_middle [] rest p = inl refl
     in_middle (q ∷ front) rest p = inr (in_middle front rest p)
 
-pub push-free : (objects : Objects) (keys : List (Option NaturalKey)) (n place i : ℕ) (key : Option NaturalKey) (front : List (ℕ × ℕ)) → n < length keys → key ≡ get_or keys n key → partner_of objects key ≡ Some i → AreDistinct (those keys) → front ++ pairs_from objects (drop n keys) place ≡ pairs_from objects keys 0 → IsFreePair front (i, place)
-push-free objects keys n place i key front within is partner apart all =
-    let split : drop n keys ≡ key ∷ drop (suc n) keys = drop-cons keys n key within ∙ ap (λ k. k ∷ drop (suc n) keys) (sym is) in
-    let here : pairs_from objects (drop n keys) place ≡ (i, place) ∷ pairs_from objects (drop (suc n) keys) (place + 1) =
-    ap (λ ks. pairs_from objects ks place) split ∙ ap (λ o. with_pair_at o place (pairs_from objects (drop (suc n) keys) (place + 1))) partner in
-    free-before front (pairs_from objects (drop (suc n) keys) (place + 1)) (i, place) (subst AreFree (sym all ∙ ap (λ ps. front ++ ps) here) (pairs-free objects keys 0 apart))
+pub push-free : (objects : Objects) (keys back : List (Option NaturalKey)) (place i : ℕ) (key : Option NaturalKey) (front : List (ℕ × ℕ)) → partner_of objects key ≡ Some i → AreDistinct (those keys) → front ++ pairs_from objects (key ∷ back) place ≡ pairs_from objects keys 0 → IsFreePair front (i, place)
+push-free objects keys back place i key front partner apart all =
+    let rest = pairs_from objects back (place + 1) in
+    let here : pairs_from objects (key ∷ back) place ≡ (i, place) ∷ rest = ap (λ o. with_pair_at o place rest) partner in
+    free-before front rest (i, place) (subst AreFree (sym all ∙ ap (λ ps. front ++ ps) here) (pairs-free objects keys 0 apart))
+
+-- the pairs so far, and the pair of the next key, with those of the keys that are left
+pub pairs-next : (objects : Objects) (front more all : List (ℕ × ℕ)) (key : Option NaturalKey) (back : List (Option NaturalKey)) (place : ℕ) (o : Option ℕ) → o ≡ partner_of objects key → more ≡ front ++ with_pair_at o place [] → front ++ pairs_from objects (key ∷ back) place ≡ all → more ++ pairs_from objects back (place + 1) ≡ all
+pairs-next objects front more all key back place o is put so_far =
+    let rest = pairs_from objects back (place + 1) in
+    ap (λ ps. ps ++ rest) put
+    ∙ append_assoc front (with_pair_at o place []) rest
+    ∙ ap (λ ps. front ++ ps) (one o)
+    ∙ ap (λ p. front ++ with_pair_at p place rest) is
+    ∙ so_far
+  where
+    one : (p : Option ℕ) → with_pair_at p place [] ++ pairs_from objects back (place + 1) ≡ with_pair_at p place (pairs_from objects back (place + 1))
+    one None = refl
+    one (Some i) = refl

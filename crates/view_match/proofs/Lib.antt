@@ -5,5 +5,5 @@ pub mod Free
 mod Orders
 pub mod Paired
 mod Rising
-mod Routeless
+pub mod Routeless
 pub mod Shuffled

@@ -1,7 +1,7 @@
 -- what the objects of a view are named by: no route
-use Rattle.std.proofs.Common.{◌≡◌, ℕ, ◌+◌, ◌<◌, Bool, true, false, cond, ◌&&◌, List, [], ◌∷◌, ◌++◌, length, drop, get_or, map, Option, Some, option_map, refl, sym, ap, ◌∙◌}
+use Rattle.std.proofs.Common.{◌≡◌, ℕ, ◌+◌, ◌<◌, Bool, true, false, cond, ◌&&◌, List, [], ◌∷◌, length, drop, get_or, map, Option, Some, option_map, refl, sym, ap, ◌∙◌}
 use Rattle.std.specs.BTreeMap.{is_at}
-use Rattle.std.proofs.lemmas.List.{append_assoc, drop_more}
+use Rattle.std.proofs.lemmas.List.{drop_more}
 use Rattle.sai_types.specs.declared.ids.Rid.{Rid}
 use Rattle.sai_types.specs.declared.ids.Vid.{Vid}
 use Rattle.sai_types.specs.declared.hop.Hop.{Hop}
@@ -15,8 +15,9 @@ use Rattle.sai_types.specs.Objects.{Objects, body_at, entry_cmp}
 use Rattle.chip_names.specs.Naming.{AreNamesOf, NameTable, entries_of}
 use Rattle.chip_layout.specs.Renamed.{body_renamed, entry_renamed}
 use Rattle.view_match.specs.declared.key.NaturalKey.{NaturalKey}
-use Rattle.view_match.specs.Keys.{key_among, natural_key_of}
-use Rattle.view_match.specs.Listed.{has_prefix, has_target, is_route, object_as, objects_as, rid_of, without_routes}
+use Rattle.view_match.specs.Keys.{natural_key_of}
+use Rattle.view_match.specs.Listed.{has_prefix, has_target, is_route, objects_as, rid_of, without_routes}
+use Rattle.view_match.specs.Pairs.{new_key}
 
 and_left : (a b : Bool) → (a && b) ≡ true → a ≡ true
 and_left true b h = refl
@@ -66,16 +67,10 @@ routeless-names new names are = record {
   groups = record { each = λ g. are.groups.each g ∙ hops-routeless names.bodies g new };
 }
 
--- the keys so far, and those of the objects that are left
-pub keys-step : (all : Objects) (keys more want : List (Option NaturalKey)) (key : Option NaturalKey) (new : List (Object Vid)) (i : ℕ) (o : Object Vid) → i < length new → o ≡ get_or new i o → key ≡ key_among all ((object_as o).entry, (object_as o).body) → more ≡ keys ++ key ∷ []
-    → keys ++ map (option_map natural_key_of) (things_among all (entries_of (objects_as (drop i new)))) ≡ want
-    → more ++ map (option_map natural_key_of) (things_among all (entries_of (objects_as (drop (i + 1) new)))) ≡ want
-keys-step all keys more want key new i o within is keyed put so_far =
-    ap (λ ks. ks ++ left (drop (i + 1) new)) put
-    ∙ append_assoc keys (key ∷ []) (left (drop (i + 1) new))
-    ∙ ap (λ k. keys ++ (k ∷ left (drop (i + 1) new))) keyed
-    ∙ sym (ap (λ os. keys ++ left os) (drop_more new i o within ∙ ap (λ x. x ∷ drop (i + 1) new) (sym is)))
-    ∙ so_far
-  where
-    left : List (Object Vid) → List (Option NaturalKey)
-    left os = map (option_map natural_key_of) (things_among all (entries_of (objects_as os)))
+-- the natural keys of some objects, among all of a new view
+abbrev pub new_keys_among : List (Object Vid) → List (Object Vid) → List (Option NaturalKey)
+new_keys_among new os = map (option_map natural_key_of) (things_among (entries_of (objects_as new)) (entries_of (objects_as os)))
+
+-- those of the objects that are left begin with that of the next one
+pub keys-split : (new : List (Object Vid)) (i : ℕ) (o : Object Vid) → i < length new → o ≡ get_or new i o → new_keys_among new (drop i new) ≡ new_key new o ∷ new_keys_among new (drop (i + 1) new)
+keys-split new i o within is = ap (new_keys_among new) (drop_more new i o within ∙ ap (λ x. x ∷ drop (i + 1) new) (sym is))

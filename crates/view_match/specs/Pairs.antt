@@ -15,8 +15,8 @@ use Rattle.sai_types.specs.Objects.{Objects}
 use Rattle.chip_names.specs.Naming.{entries_of}
 use Rattle.view_match.specs.declared.indexed.Partner.{Partner}
 use Rattle.view_match.specs.declared.key.NaturalKey.{NaturalKey}
-use Rattle.view_match.specs.Keys.{natural_key_cmp, keys_of_objects}
-use Rattle.view_match.specs.Listed.{objects_as}
+use Rattle.view_match.specs.Keys.{key_among, keys_of_objects, natural_key_cmp}
+use Rattle.view_match.specs.Listed.{object_as, objects_as}
 
 -- the number of the group that an object is or is a member of: where several groups have the same hops, it tells which of them stays
 abbrev pub group_number : (Entry Rid × Body Rid) → ℕ
@@ -68,6 +68,11 @@ abbrev pub pairs_from : Objects → List (Option NaturalKey) → ℕ → List (�
 pairs_from objects [] place = []
 pairs_from objects (key ∷ keys) place = with_pair_at (partner_of objects key) place (pairs_from objects keys (place + 1))
 
+-- the natural key of an object of a new view, among all of that
+abbrev pub new_key : List (Object Vid) → Object Vid → Option NaturalKey
+new_key new o = key_among (entries_of (objects_as new)) ((object_as o).entry, (object_as o).body)
+
+-- those of all objects of a new view
 abbrev pub new_keys : List (Object Vid) → List (Option NaturalKey)
 new_keys new = keys_of_objects (entries_of (objects_as new))
 

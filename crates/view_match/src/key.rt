@@ -3,8 +3,8 @@ ghost use Rattle.std.specs.Prelude.{◌≡◌, ◌++◌, None, Some, IfOk, OnOk,
 ghost use Rattle.sai_types.specs.Objects.{Objects};
 ghost use Rattle.chip_names.specs.Naming.{AreNamesOf, entries_of};
 ghost use Rattle.view_match.specs.Keys.{key_among, natural_key_of, keys_of_objects};
-ghost use Rattle.view_match.specs.Listed.{object_as, objects_as, without_routes};
-ghost use Rattle.view_match.specs.Pairs.{new_keys};
+ghost use Rattle.view_match.specs.Keyed.{AreNewNames};
+ghost use Rattle.view_match.specs.Listed.{object_as};
 
 use crate::listed::{object_of, others_listed, to_of};
 use chip_names::Names;
@@ -109,41 +109,9 @@ fn push_named(
     Ok(())
 }
 
-/// The natural key of each object of a view, in their order: None where a reference is absent. The objects are named as
-/// those of a chip.
-pub(crate) fn new_natural_keys(
-    alloc: Global,
-    objects: &[Object<Vid>],
-) -> Result<Vec<Option<NaturalKey>>, OutOfMemory>
-    ensures { IfOk result (λ keys. keys.items ≡ new_keys objects.now) }
-{
-    let mut keys = Vec::with_capacity(alloc, objects.len())?;
-    match push_new_keys(alloc, objects, &mut keys) {
-        Ok(()) => Ok(keys),
-        Err(error) => {
-            drop(keys);
-            Err(error)
-        }
-    }
-}
-
-/// Puts the natural keys of the objects of a view.
-fn push_new_keys(
-    alloc: Global,
-    objects: &[Object<Vid>],
-    keys: &mut Vec<Option<NaturalKey>>,
-) -> Result<(), OutOfMemory>
-    ensures { OnOk result (keys.new.items ≡ keys.old.items ++ new_keys objects.now) }
-{
-    let names = names_of_others(alloc, objects)?;
-    let answer = push_new_named(&names, objects, keys);
-    drop(names);
-    answer
-}
-
 /// The names of the objects of a view that are no routes.
-fn names_of_others(alloc: Global, objects: &[Object<Vid>]) -> Result<Names, OutOfMemory>
-    ensures { IfOk result (λ names. AreNamesOf (entries_of (objects_as (without_routes objects.now))) names) }
+pub(crate) fn names_of_others(alloc: Global, objects: &[Object<Vid>]) -> Result<Names, OutOfMemory>
+    ensures { IfOk result (λ names. AreNewNames objects.now names) }
 {
     let listed = others_listed(alloc, objects)?;
     let names = Names::of(alloc, listed.as_slice());
@@ -151,23 +119,11 @@ fn names_of_others(alloc: Global, objects: &[Object<Vid>]) -> Result<Names, OutO
     names
 }
 
-/// Puts the natural keys of the objects of a view, of which those that are no routes have these names.
-fn push_new_named(
-    names: &Names,
-    objects: &[Object<Vid>],
-    keys: &mut Vec<Option<NaturalKey>>,
-) -> Result<(), OutOfMemory>
-    requires { AreNamesOf (entries_of (objects_as (without_routes objects.now))) names.now }
-    ensures { OnOk result (keys.new.items ≡ keys.old.items ++ new_keys objects.now) }
-{
-    for object in objects {
-        keys.push(new_key_of(names, object)?)?;
-    }
-    Ok(())
-}
-
 /// The natural key of an object of a view. That of a route needs no copy of it.
-fn new_key_of(names: &Names, object: &Object<Vid>) -> Result<Option<NaturalKey>, OutOfMemory>
+pub(crate) fn new_key_of(
+    names: &Names,
+    object: &Object<Vid>,
+) -> Result<Option<NaturalKey>, OutOfMemory>
     ensures { IfOk result (λ key. (objects : Objects) → AreNamesOf objects names.now → key ≡ key_among objects ((object_as object.now).entry, (object_as object.now).body)) }
 {
     if let Body::Route { prefix, to } = &object.body {

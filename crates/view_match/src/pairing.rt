@@ -1,16 +1,18 @@
 // The pairing of old objects and new ones.
-ghost use Rattle.std.specs.Prelude.{◌≡◌, length, true, Some, option_copied, option_map, IfOk};
+ghost use Rattle.std.specs.Prelude.{◌≡◌, List, length, true, Some, option_copied, option_map, IfOk};
 ghost use Rattle.std.specs.BTreeMap.{is_at};
 ghost use Rattle.std.specs.Map.{lookup};
 ghost use Rattle.std.specs.Ordering.{is_lt};
 ghost use Rattle.sai_types.specs.Named.{those};
 ghost use Rattle.sai_types.specs.Objects.{Objects};
+ghost use Rattle.sai_types.specs.declared.body.Object.{Object};
+ghost use Rattle.sai_types.specs.declared.ids.Vid.{Vid};
 ghost use Rattle.chip_layout.specs.Counted.{AreDistinct};
-ghost use Rattle.view_match.specs.Keyed.{AreNaturalKeysOf};
+ghost use Rattle.view_match.specs.Keyed.{AreNaturalKeysOf, AreNewNames};
 ghost use Rattle.view_match.specs.Indexed.{lent_entries, lent_entry, partner_if};
 ghost use Rattle.view_match.specs.Keys.{natural_key_cmp};
 ghost use Rattle.view_match.specs.Near.{AreFound, IsKey};
-ghost use Rattle.view_match.specs.Pairs.{AreSortedByKey, IsIndex, new_keys, pairs_from, pairs_of, partner_of};
+ghost use Rattle.view_match.specs.Pairs.{AreSortedByKey, IsIndex, new_key, new_keys, pairs_from, pairs_of, partner_of};
 
 use crate::indexed::{Index, Indexed, Partner, index};
 use crate::key::NaturalKey;
@@ -42,37 +44,47 @@ pub fn pair_by(
     ensures { IfOk result (λ pairing. pairing ≡ pairs_of old.now new.now) }
 {
     let indexed = index(alloc, keys.of_old.as_slice(), old)?;
-    pair_keys(
-        alloc,
-        &indexed,
-        keys.of_old.as_slice(),
-        keys.of_new.as_slice(),
-    )
+    pair_new(alloc, &indexed, keys, new)
 }
 
-/// The pairs of new objects with these keys.
-fn pair_keys(
+/// The pairs of new objects.
+fn pair_new(
     alloc: Global,
     indexed: &Indexed<'_>,
-    old_keys: &[Option<NaturalKey>],
-    keys: &[Option<NaturalKey>],
+    keys: &NaturalKeys,
+    new: &[Object<Vid>],
 ) -> Result<Pairing, OutOfMemory>
     requires indexed { (objects : Objects) × IsIndex objects (lent_entries indexed.now.index.items) }
-    requires found { indexed.now.apart ≡ true → AreFound old_keys.now (lent_entries indexed.now.index.items) (length old_keys.now) }
-    requires distinct { AreDistinct (those keys.now) }
-    ensures { IfOk result (λ pairing. (objects : Objects) → IsIndex objects (lent_entries indexed.now.index.items) → pairing ≡ pairs_from objects keys.now 0) }
+    requires found { indexed.now.apart ≡ true → AreFound keys.now.of_old.items (lent_entries indexed.now.index.items) (length keys.now.of_old.items) }
+    requires named { AreNewNames new.now keys.now.new_names }
+    requires distinct { AreDistinct (those (new_keys new.now)) }
+    ensures { IfOk result (λ pairing. (objects : Objects) → IsIndex objects (lent_entries indexed.now.index.items) → pairing ≡ pairs_from objects (new_keys new.now) 0) }
 {
     let mut pairing = Pairing::new(alloc);
     let mut place = 0;
     let mut near: u64 = 0;
-    for key in keys {
-        if let Some(partner) = partner_near(indexed, old_keys, near, key) {
+    for object in new {
+        if let Some(partner) = partner_for(indexed, keys, near, object)? {
             pairing.push((partner, place))?;
             near = partner.wrapping_add(1);
         }
         place += 1;
     }
     Ok(pairing)
+}
+
+/// The place of the old object of a new one, looked for first near a place.
+fn partner_for(
+    indexed: &Indexed<'_>,
+    keys: &NaturalKeys,
+    near: u64,
+    object: &Object<Vid>,
+) -> Result<Option<u64>, OutOfMemory>
+    requires found { indexed.now.apart ≡ true → AreFound keys.now.of_old.items (lent_entries indexed.now.index.items) (length keys.now.of_old.items) }
+    ensures { IfOk result (λ partner. (objects : Objects) (new : List (Object Vid)) → IsIndex objects (lent_entries indexed.now.index.items) → AreNewNames new keys.now.new_names → partner ≡ partner_of objects (new_key new object.now)) }
+{
+    let key = keys.of_new(object)?;
+    Ok(partner_near(indexed, keys.of_old.as_slice(), near, &key))
 }
 
 /// The place of the old object of a key: looked for first at the place that follows that of the last one found, since
