@@ -3,7 +3,7 @@ use crate::workers::CaseWorkers;
 use anyhow::{Context, Result, bail};
 use part_cases::words::number;
 use std::alloc::Global;
-use std::mem;
+use std::mem::{drop, replace};
 
 /// What is written between two settlings, and what is wanted at the second.
 #[derive(Drop)]
@@ -58,7 +58,14 @@ impl Case {
     /// Adds a line.
     fn add_line(&mut self, alloc: Global, line: &str) -> Result<()> {
         let words = line.split_whitespace().collect::<Vec<&str>>(alloc)?;
-        match words.as_slice() {
+        let added = self.add_words(alloc, line, words.as_slice());
+        drop(words);
+        added
+    }
+
+    /// Adds a line of these words.
+    fn add_words(&mut self, alloc: Global, line: &str, words: &[&str]) -> Result<()> {
+        match words {
             ["port", name, lanes] => self.ports.push(format!(in alloc; "{name} {lanes}")?)?,
             ["set", _, ..] | ["del", _] => {
                 self.round.writes.push(String::from_str(alloc, line)?)?;
@@ -67,8 +74,8 @@ impl Case {
             ["objects", count] => self.round.objects = number(count)?,
             ["settle"] => self.end_round(alloc)?,
             ["workers", count, order @ ..] => {
-                let line = String::from_str(alloc, line)?;
-                self.workers.push(CaseWorkers::read(line, count, order)?)?;
+                let workers = CaseWorkers::read(alloc, line, count, order)?;
+                self.workers.push(workers)?;
             }
             _ => bail!("no line of a case"),
         }
@@ -78,7 +85,7 @@ impl Case {
     /// Ends the round, and begins the next.
     fn end_round(&mut self, alloc: Global) -> Result<()> {
         self.rounds
-            .push(mem::replace(&mut self.round, CaseRound::new(alloc)))?;
+            .push(replace(&mut self.round, CaseRound::new(alloc)))?;
         Ok(())
     }
 }

@@ -39,7 +39,7 @@ impl CaseWorkers {
     }
 
     /// The workers of a line, by its words.
-    pub fn read(line: String, count: &str, order: &[&str]) -> Result<CaseWorkers> {
+    pub fn read(alloc: Global, line: &str, count: &str, order: &[&str]) -> Result<CaseWorkers> {
         let count = match count {
             "1" => 1,
             "2" => 2,
@@ -55,7 +55,7 @@ impl CaseWorkers {
             _ => bail!("an order of steps"),
         };
         Ok(CaseWorkers {
-            line,
+            line: String::from_str(alloc, line)?,
             count,
             order,
             steps,

@@ -7,6 +7,7 @@ use anyhow::{Result, ensure};
 use asic_view::View;
 use sai_types::{Body, Kind, To, Vid};
 use std::alloc::Global;
+use std::mem::drop;
 use std::time::{Clock, Instant};
 use swss_types::{Bits, Family, Ip, Prefix};
 
@@ -28,8 +29,23 @@ fn prefix(route: u32) -> Prefix
 
 /// Makes 20,000 routes and takes them away again, so many times in one view, and tells the time of a call.
 pub fn time_churn(rt: &(impl Print + Eprint + Clock), alloc: Global, times: u32) -> Result<()> {
+    let mut view = View::new(alloc);
+    let timed = time_routes(rt, alloc, &mut view, times);
+    drop(view);
+    timed
+}
+
+/// The same in this view.
+fn time_routes(
+    rt: &(impl Print + Eprint + Clock),
+    alloc: Global,
+    view: &mut View,
+    times: u32,
+) -> Result<()>
+    requires { AreRoutesBelow 20000 view.old }
+{
     let start = Instant::now(rt)?;
-    let left = come_and_go(alloc, times)?;
+    let left = come_and_go(alloc, view, times)?;
     print_time(
         rt,
         start,
@@ -41,12 +57,13 @@ pub fn time_churn(rt: &(impl Print + Eprint + Clock), alloc: Global, times: u32)
 }
 
 /// Makes the routes and takes them away again, so many times in one view, and gives how many are left.
-fn come_and_go(alloc: Global, times: u32) -> Result<u64> {
-    let mut view = View::new(alloc);
+fn come_and_go(alloc: Global, view: &mut View, times: u32) -> Result<u64>
+    requires { AreRoutesBelow 20000 view.old }
+{
     let mut made = Vec::with_capacity(alloc, ROUTES as usize)?;
     for _ in 0..times {
-        make_all(&mut view, &mut made)?;
-        take_all(&mut view, &mut made);
+        make_all(view, &mut made)?;
+        take_all(view, &mut made);
     }
     Ok(view.used(Kind::Route))
 }
