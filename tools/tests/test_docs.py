@@ -85,6 +85,17 @@ class Pages(unittest.TestCase):
             for other in its:
                 self.assertNotIn(other, reached({**arrows, name: its - {other}}, name), name)
 
+    def test_definitions_and_laws_stand_where_the_pages_say(self):
+        rows = re.findall(r"(?m)^\| (.*?) \|.*\| (.*?) \|$", (TOP / "docs" / "DEFINITIONS.md").read_text(encoding="utf-8"))
+        told = [(names, re.findall(r"`([^`]+\.(?:antt|rt))`", files)) for names, files in rows]
+        rules = (TOP / "docs" / "RULES.md").read_text(encoding="utf-8")
+        told += [(names, [file]) for names, file in re.findall(r"((?:`\w+`(?:, | and )?)+) \(`([^`]+\.(?:antt|rt))`\)", rules)]
+        self.assertGreater(len(told), 300)
+        for names, files in told:
+            text = "".join((TOP / "crates" / file).read_text(encoding="utf-8") for file in files)
+            for name in re.findall(r"`([^`]+)`", names) if files else []:
+                self.assertRegex(text, rf"(?<!\w){re.escape(name)}(?!\w)", f"{name} in {files}")
+
     def test_wrong_bodies_are_counted(self):
         rows = re.findall(r"(?m)^\| `(\w+)` \| (\d+) \|", (TOP / "docs" / "WRONG_BODIES.md").read_text())
         found = {it.name: len([*it.glob("wrong/*.edit"), *it.glob("must-fail/*.edit")]) for it in (TOP / "crates").iterdir()}
