@@ -15,6 +15,12 @@ use std::alloc::Global;
 use std::marker::Model;
 use swss_types::OutOfMemory;
 
+/// With so many places a view makes room for many more at once, and later need not move what it has.
+const SOME: usize = 1024;
+
+/// For how many more.
+const MANY: usize = 32_768;
+
 /// Places by the numbers of identifiers: a removal leaves its place empty.
 type Places = IndexMap<u64, Option<ViewObject>>;
 
@@ -128,13 +134,16 @@ impl Objects {
         Ok(())
     }
 
-    // Makes room for as many objects as are expected, once.
+    // Makes room for as many objects as are expected, once, and for many more as soon as there are some, where memory is there.
     fn make_room(&mut self) -> Result<(), OutOfMemory>
         ensures { self.new ≡ self.old }
     {
         if self.expected > 0 {
             self.places.reserve(self.expected)?;
             self.expected = 0;
+        }
+        if self.places.len() == SOME {
+            let _more = self.places.reserve(MANY);
         }
         Ok(())
     }
