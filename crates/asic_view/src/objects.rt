@@ -8,7 +8,8 @@ ghost use Rattle.asic_view.specs.Places.{NumberedObjects, inside, is_full};
 ghost use Rattle.asic_view.specs.View.{after_create, view_changed_at, entry_at, object_of, object_set, rid_at, vid_cmp, with_tie, without_object};
 
 use crate::ViewObject;
-use crate::body::{entry_of, kind_of, set_attr};
+use crate::body::{entry_of, kind_of};
+use crate::place::Place;
 use indexmap::IndexMap;
 use sai_types::{Attr, Body, Entry, Kind, Object, Rid, Vid};
 use std::alloc::Global;
@@ -16,13 +17,13 @@ use std::marker::Model;
 use swss_types::OutOfMemory;
 
 /// With so many places a view makes room for many more at once, and later need not move what it has.
-const SOME: usize = 1024;
+const ROOM_FROM: usize = 1024;
 
 /// For how many more.
-const MANY: usize = 32_768;
+const ROOM_AHEAD: usize = 32_768;
 
 /// Places by the numbers of identifiers: a removal leaves its place empty.
-type Places = IndexMap<u64, Option<ViewObject>>;
+type Places = IndexMap<u64, Place>;
 
 /// Takes what stands at a place, which stays there empty.
 fn empty(places: &mut Places, number: u64) -> Option<ViewObject>
@@ -30,12 +31,10 @@ fn empty(places: &mut Places, number: u64) -> Option<ViewObject>
     ensures some { IfSome result (λ _. places.new.entries ≡ set_value (nat_eq number) places.old.entries None) }
     ensures none { IfNone result (places.new.entries ≡ places.old.entries) }
 {
-    if let Some(place) = places.get_mut(&number) {
-        if let Some(object) = place.take() {
-            return Some(object);
-        }
+    match places.get_mut(&number) {
+        Some(place) => place.take(),
+        None => None,
     }
-    None
 }
 
 /// Gives memory back where there is room for more than eight times what stands, and keeps the half of that. So a closing, which walks over the
@@ -54,9 +53,9 @@ fn close(places: &mut Places)
     ensures { places.new.entries ≡ filter is_full places.old.entries }
 {
     places.retain(
-        |_number: &u64, place: &mut Option<ViewObject>| -> bool
+        |_number: &u64, place: &mut Place| -> bool
             ensures { (result ≡ is_some place.old) × (place.new ≡ place.old) }
-        { place.is_some() },
+        { place.is_full() },
     );
     give_back(places);
 }
@@ -116,66 +115,57 @@ impl Objects {
         ensures ok { OnOk result (self.new ≡ record { made = vid.0; objects = after_create self.old.objects vid body }) }
         ensures err { OnErr result (self.new ≡ self.old) }
     {
-        self.make_room()?;
+        self.make_room();
         self.place(vid, body)
     }
 
-    // The same, where room was made.
+    /// The same, with no room made ahead.
     fn place(&mut self, vid: Vid, body: Body<Vid>) -> Result<(), OutOfMemory>
         requires { self.old.made < vid.0 }
         ensures ok { OnOk result (self.new ≡ record { made = vid.0; objects = after_create self.old.objects vid body }) }
         ensures err { OnErr result (self.new ≡ self.old) }
     {
         let _few = self.places.len();
-        self.places
-            .insert(vid.0, Some(ViewObject { body, rid: None }))?;
+        self.places.insert(vid.0, Place::untied(body))?;
         self.full += 1;
         self.made = vid.0;
         Ok(())
     }
 
-    // Makes room for as many objects as are expected, once, and for many more as soon as there are some, where memory is there.
-    fn make_room(&mut self) -> Result<(), OutOfMemory>
+    /// Makes room for as many objects as are expected, once, and for many more as soon as there are some. A refusal is passed
+    /// over: less room may still be had, for one object at a time.
+    fn make_room(&mut self)
         ensures { self.new ≡ self.old }
     {
         if self.expected > 0 {
-            self.places.reserve(self.expected)?;
+            let _expected = self.places.reserve(self.expected);
             self.expected = 0;
         }
-        if self.places.len() == SOME {
-            let _more = self.places.reserve(MANY);
+        if self.places.len() == ROOM_FROM {
+            let _ahead = self.places.reserve(ROOM_AHEAD);
         }
-        Ok(())
     }
 
-    // The object with this identifier, if there is one.
-    fn find(&self, vid: Vid) -> Option<&ViewObject>
-        ensures { option_copied result ≡ lookup (is_at (vid_cmp vid)) self.now.objects }
+    /// The place of the object with this identifier, if it has one.
+    fn find(&self, vid: Vid) -> Option<&Place>
+        ensures { inside (option_copied result) ≡ lookup (is_at (vid_cmp vid)) self.now.objects }
     {
-        match self.places.get(&vid.0) {
-            Some(place) => place.as_ref(),
-            None => None,
-        }
+        self.places.get(&vid.0)
     }
 
     /// By what the object with this identifier is named in calls, if there is one.
     pub fn entry_at(&self, vid: Vid) -> Option<Entry<Vid>>
         ensures { result ≡ option_map (λ x. entry_at vid x.body) (lookup (is_at (vid_cmp vid)) self.now.objects) }
     {
-        match self.find(vid) {
-            Some(object) => Some(entry_of(vid, &object.body)),
-            None => None,
-        }
+        let body = self.find(vid)?.body()?;
+        Some(entry_of(vid, body))
     }
 
     /// The chip's object to which an object is tied: None where it is tied to none, or is not there.
     pub fn rid(&self, vid: Vid) -> Option<Rid>
         ensures { result ≡ rid_at self.now.objects vid }
     {
-        match self.find(vid) {
-            Some(object) => object.rid,
-            None => None,
-        }
+        self.find(vid)?.rid()
     }
 
     /// Takes the object with this identifier away, if there is one, and answers its kind.
@@ -196,9 +186,7 @@ impl Objects {
         ensures { self.new ≡ record { made = self.old.made; objects = view_changed_at self.old.objects vid (λ x. object_set x attr) } }
     {
         if let Some(place) = self.places.get_mut(&vid.0) {
-            if let Some(object) = place {
-                set_attr(&mut object.body, attr);
-            }
+            place.set(attr);
         }
     }
 
@@ -207,9 +195,7 @@ impl Objects {
         ensures { self.new ≡ record { made = self.old.made; objects = with_tie self.old.objects vid rid } }
     {
         if let Some(place) = self.places.get_mut(&vid.0) {
-            if let Some(object) = place {
-                object.rid = Some(rid);
-            }
+            place.tie(rid);
         }
     }
 
@@ -219,10 +205,10 @@ impl Objects {
     {
         let mut all = Vec::with_capacity(alloc, self.full)?;
         for (number, place) in self.places.iter() {
-            if let Some(object) = place {
+            if let Some(body) = place.body() {
                 all.push(Object {
-                    entry: entry_of(Vid(*number), &object.body),
-                    body: object.body.copy()?,
+                    entry: entry_of(Vid(*number), body),
+                    body: body.copy()?,
                 })?;
             }
         }
