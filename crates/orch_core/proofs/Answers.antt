@@ -158,9 +158,13 @@ some_then None h p = absurd (false≢true h)
 pub never : {P : Type 0} (b : Bool) → b ≡ false → (P → b ≡ true) → P → ⊥
 never b off on p = false≢true (sym off ∙ on p)
 
-pub answered_err : (ends : Bool) (s : LoggedService) (w : ℕ) (c : CoreState) (chip : ChipState) (r : Result Step OutOfMemory) (c' : CoreState) → IsErr r → StaysInSession s c c' chip → Answered ends s w c chip r c' chip
-answered_err ends s w c chip (Err e) c' h x = (refl, x)
-answered_err ends s w c chip (Ok r) c' h x = absurd (false≢true h)
+pub answered_err : (ends : Bool) (s : LoggedService) (w : ℕ) (c : CoreState) (chip : ChipState) (r : Result Step OutOfMemory) (c' : CoreState) → IsErr r → (IsFullFor c (length chip.effects) 2 → ⊥) → StaysInSession s c c' chip → Answered ends s w c chip r c' chip
+answered_err ends s w c chip (Err e) c' h room x = (refl, x, room)
+answered_err ends s w c chip (Ok r) c' h room x = absurd (false≢true h)
+
+-- the same core
+pub stays_itself : (s : LoggedService) (c d : CoreState) (chip : ChipState) → d ≡ c → IsSessionOf c chip s → StaysInSession s c d chip
+stays_itself s c d chip same is = subst (λ z. StaysInSession s c z chip) (sym same) (record { stands = is; plan = refl; capacities = refl; limit = refl; warm = refl; log = refl })
 
 -- ---- a worker's group began before it
 
@@ -204,7 +208,7 @@ module _ (s : LoggedService) (w : ℕ) (c : CoreState) (b : BoardState) (chip : 
   answered_from ends room (Ok step.LogFull) c' chip' x = absurd (room x.2)
   answered_from ends room (Ok step.Idle) c' chip' x = absurd x
   answered_from ends room (Ok step.Suspect) c' chip' x = absurd x
-  answered_from ends room (Err e) c' chip' x = (x.0, stays_from c' x.1)
+  answered_from ends room (Err e) c' chip' x = (x.0, stays_from c' x.1, room)
 
   -- what the next call is about, once it is prepared
   module _ (is : IsSessionOf c chip s) (x : Flown) (there : flown_at c.board w ≡ Some x) (d : CoreState) (is_with : d ≡ with) where

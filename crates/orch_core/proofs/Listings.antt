@@ -1,5 +1,5 @@
 -- what a mark lists, from the keys to sync
-use Rattle.std.proofs.Common.{◌≡◌, ◌∷◌, ◌∙◌, inl, inr, List, [], refl, sym, ap, subst}
+use Rattle.std.proofs.Common.{◌∷◌, ◌∙◌, inl, inr, List, [], refl, sym, ap, subst}
 use Rattle.std.specs.List.Sorted.{IsStrictlySortedBy}
 use Rattle.std.specs.Map.{keys_of}
 use Rattle.std.proofs.lemmas.Option.{same_Some}

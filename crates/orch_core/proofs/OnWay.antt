@@ -1,5 +1,5 @@
 -- a list of the chip and the calls of a plan, as the core makes them
-use Rattle.std.proofs.Common.{◌≡◌, ◌+◌, ◌<◌, ◌≤◌, ◌∷◌, ◌∙◌, inl, inr, ℕ, Bool, true, false, List, [], length, Result, Ok, Err, refl, sym, ap, subst, arith}
+use Rattle.std.proofs.Common.{◌≡◌, ◌+◌, ◌<◌, ◌≤◌, ◌∷◌, ◌∙◌, inl, inr, ℕ, Bool, true, false, List, [], length, Ok, refl, sym, ap, subst, arith}
 use Rattle.std.proofs.lemmas.List.{length-append}
 use Rattle.sai_types.specs.declared.answer.ChipAnswer.{ChipAnswer}
 use Rattle.sai_types.specs.declared.answer.ChipAnswer.TheVariants as answer

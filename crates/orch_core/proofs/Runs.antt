@@ -23,9 +23,9 @@ use Rattle.session_laws.specs.Leading.{LeadsTo, PopsTo, RunsTo}
 use Rattle.session_laws.proofs.Settling.Leading.{leads_more, leads_some}
 use Rattle.session_laws.proofs.Settling.Popping.{pops_more, pops_none}
 use Rattle.session_laws.proofs.Settling.Running.{runs_more, runs_none}
-use Rattle.orch_core.specs.Outcomes.{Answered, AnswersCall, IsSameBeside, KeepsChip, KeepsFlights, MarksFault, with_fault}
+use Rattle.orch_core.specs.Outcomes.{Answered, AnswersCall, IsSameBeside, KeepsChip, KeepsFlights, MarksFault, with_fault, PopsAlone}
 use Rattle.session_laws.specs.Turning.{IsAtRest}
-use Rattle.orch_core.specs.Settled.{Pops, PopsAlone, RunsAll, RunsOut, Settles, RunsWhole, StopsFaulted, StopsFull, StopsShort}
+use Rattle.orch_core.specs.Settled.{Pops, RunsAll, RunsOut, Settles, RunsWhole, StopsFaulted, StopsFull, StopsShort}
 use Rattle.orch_core.specs.declared.answer.Ran.{Ran}
 use Rattle.orch_core.specs.declared.answer.Ran.TheVariants as ran
 use Rattle.orch_core.specs.declared.answer.Settled.{Settled}

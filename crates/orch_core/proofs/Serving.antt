@@ -13,9 +13,9 @@ use Rattle.session_laws.specs.Events.{MakesOne, MakesSome}
 use Rattle.session_laws.specs.Service.Events.{MakesMore}
 use Rattle.session_laws.specs.Service.Standing.{IsServiceOf}
 use Rattle.session_laws.proofs.Service.Joining.{both-more, none-more, one-more}
-use Rattle.session_laws.proofs.Service.Sessions.{step-next, steps-more}
+use Rattle.session_laws.proofs.Service.Sessions.{session-of, step-next, steps-more}
 use Rattle.orch_core.specs.ComingBack.{Back, ComesTo, SettlesFrom, Stopped, StopsAfter, StopsOnWay}
-use Rattle.orch_core.specs.Outcomes.{StepsTo, with_fault}
+use Rattle.orch_core.specs.Outcomes.{Part, PopsAlone, Same, StepsInPart, StepsTo, with_fault}
 use Rattle.orch_core.specs.Restarting.{AppliesOut, ListsOut, RestoresOut, StaysInService, StepsFrom}
 use Rattle.orch_core.specs.Settled.{Settles}
 use Rattle.orch_core.specs.declared.answer.Ran.{Ran}
@@ -49,18 +49,28 @@ module _ (s : LoggedService) (c : CoreState) (chip : ChipState) (is : IsServiceO
   -- ---- a step
 
   module _ (at : c.warm ≡ warm.Reconciled) where
+    pops_serve : (d : CoreState) → PopsAlone c d → MakesMore c s d chip
+    pops_serve d (t, same, pops) =
+        let x = pops chip s (session-of c chip s is at) in
+        some_serves d chip (ap (λ (z : CoreState). z.log.taken) same) (inl (ap (λ (z : CoreState). z.warm) same ∙ at)) (leads_some c d chip s x.later x.leads)
+
+    -- memory was refused
+    part_serves : (w : ℕ) (d : CoreState) (dchip : ChipState) → dchip ≡ chip → StepsInPart s w c d chip → MakesMore c s d dchip
+    part_serves w d dchip there (Same x room) = subst (λ z. MakesMore c s d z) (sym there) (some_serves d chip (ap (λ (h : History). h.taken) x.log) (inl (x.warm ∙ at)) (record { steps = []; are = tt; stands = x.stands; plan = x.plan; capacities = x.capacities; limit = x.limit }))
+    part_serves w d dchip there (Part next x few) = subst (λ z. MakesMore c s d z) (sym there) (pops_serve d x)
+
     pub work_serves : (w : ℕ) (r : Result Step OutOfMemory) (d : CoreState) (dchip : ChipState) → StepsTo s w c chip r d dchip → MakesMore c s d dchip
     work_serves w (Ok step.Did) d dchip x =
-        let log : d.log ≡ c.log = sym x.0.stands.log ∙ ap (λ (t : LoggedService). t.log) x.3 ∙ is.always.log in
-        let same : d.warm ≡ c.warm = sym x.0.stands.warm_is ∙ ap (λ (t : LoggedService). t.service.warm) x.3 ∙ is.always.warm_is in
-        one_serves d dchip (ap (λ (h : History). h.taken) log) (inl (same ∙ at)) x.0
+        let log : d.log ≡ c.log = sym x.makes.stands.log ∙ ap (λ (t : LoggedService). t.log) x.moves ∙ is.always.log in
+        let same : d.warm ≡ c.warm = sym x.makes.stands.warm_is ∙ ap (λ (t : LoggedService). t.service.warm) x.moves ∙ is.always.warm_is in
+        one_serves d dchip (ap (λ (h : History). h.taken) log) (inl (same ∙ at)) x.makes
     work_serves w (Ok step.Idle) d dchip x =
         subst (λ z. MakesMore c s d z) (sym x.0)
         (some_serves d chip (ap (λ (z : CoreState). z.log.taken) x.1.2) (inl (warm_same c d x.1 ∙ at)) (some_same c d s chip x.1 x.2))
     work_serves w (Ok step.Suspect) d dchip x = same_serves d dchip x.0 x.1
-    work_serves w (Ok step.Faulted) d dchip x = one_serves d dchip (ap (λ (h : History). h.taken) x.marks.log) (inr x.marks.warm) x.makes
+    work_serves w (Ok step.Faulted) d dchip x = one_serves d dchip (ap (λ (h : History). h.taken) x.0.marks.log) (inr x.0.marks.warm) x.0.makes
     work_serves w (Ok step.LogFull) d dchip x = same_serves d dchip x.0 x.1
-    work_serves w (Err e) d dchip x = some_serves d dchip (ap (λ (h : History). h.taken) x.3) (inl (x.2 ∙ at)) x.1
+    work_serves w (Err e) d dchip x = part_serves w d dchip x.0 x.1
 
   list_serves : (ends : Bool) (r : Result Step OutOfMemory) (d : CoreState) (dchip : ChipState) → ListsOut ends s c chip r d dchip → MakesMore c s d dchip
   list_serves ends (Ok step.Did) d dchip x = one-more c d dchip s x.makes

@@ -1,32 +1,37 @@
 -- the walk of a worker over the keys to sync, up to the first that can begin
-use Rattle.std.proofs.Common.{◌≡◌, ◌⊎◌, ◌∙◌, inl, inr, ℕ, true, false, [], Option, Some, None, Result, Ok, Err, Ordering, refl, sym, ap, subst}
+use Rattle.std.proofs.Common.{◌≡◌, ◌⊎◌, ◌∙◌, inl, inr, ℕ, true, false, [], drop, is_some, Option, Some, None, Result, Ok, Err, Ordering, refl, sym, ap, subst}
 use Rattle.std.specs.Map.{keys_of}
+use Rattle.std.specs.Option.{IsSome}
 use Rattle.std.specs.Ordering.{is_lt}
 use Rattle.std.specs.Result.{IsErr}
 use Rattle.std.specs.declared.cmp.Ordering.TheVariants.{Less, Equal, Greater}
 use Rattle.std.proofs.lemmas.Bool.{false≢true}
+use Rattle.std.proofs.lemmas.Option.{none-some}
 use Rattle.swss_types.specs.declared.out_of_memory.OutOfMemory.{OutOfMemory}
 use Rattle.table_schema.specs.Key.{key_cmp}
 use Rattle.table_schema.specs.declared.key.Key.{Key}
 use Rattle.sai_types.specs.Alike.{IsIn}
+use Rattle.sai_types.specs.declared.body.Call.{Call}
+use Rattle.sai_types.specs.declared.ids.Rid.{Rid}
 use Rattle.sai_types.specs.ChipState.{ChipState}
 use Rattle.switch_model.specs.declared.wait.Wait.{Wait}
-use Rattle.switch_machine.specs.Events.{IsBegin, IsDrop}
-use Rattle.switch_machine.specs.Next.{AreHindered, Answering, Beginning, Dropping, MustWait, Popping}
+use Rattle.switch_machine.specs.Events.{IsAnswer, IsBegin, IsDrop, SwitchState}
+use Rattle.switch_machine.specs.Next.{AreHindered, Answering, Beginning, Dropping, IsIdle, MustWait, Popping}
 use Rattle.switch_machine.specs.Reasons.{IsReason}
+use Rattle.switch_machine.proofs.Hindered.{begins-free, drops-free}
 use Rattle.restart_laws.specs.Logged.{IsLoggedStep, LoggedService}
 use Rattle.restart_laws.proofs.Order.{not-both, not-self}
 use Rattle.sync_tables.specs.Tables.{IsBehind, IsNextKey, IsToSync, PopsKeys, PopsSome, TablesState}
+use Rattle.sync_tables.specs.declared.tables.TheConstants.{BATCH}
 use Rattle.flight_board.specs.Board.{BoardState, IsSameBoard, flown_at}
 use Rattle.warm_state.specs.declared.warm.Warm.TheVariants as warm
 use Rattle.session_laws.specs.Core.{CoreState}
 use Rattle.session_laws.specs.Events.{MakesOne, MakesSome}
 use Rattle.session_laws.specs.Standing.{IsSessionOf}
-use Rattle.session_laws.proofs.Joining.{one_step}
 use Rattle.session_laws.proofs.Marking.{popped}
 use Rattle.session_laws.proofs.Popping.{pop_told}
 use Rattle.session_laws.proofs.Seeing.{free_worker_rests, is_idle, same_keys}
-use Rattle.orch_core.specs.Outcomes.{Answered, BeginsOrDrops, BeginsTo, DropsTo, IsInSession, IsSameCore, StepsTo}
+use Rattle.orch_core.specs.Outcomes.{Answered, BeginsOrDrops, BeginsTo, DropsTo, IsInSession, IsPopNext, IsSameCore, Same, StaysInSession, StepsTo}
 use Rattle.orch_core.specs.declared.answer.Step.{Step}
 use Rattle.orch_core.specs.declared.answer.Step.TheVariants as step
 use Rattle.orch_core.proofs.Chips.{keeps_alike}
@@ -115,13 +120,31 @@ module _ (c c' : CoreState) (after : Option Key) (walked : IsWalkedTo c after c'
     walk_drops x =
         let makes = makes_same c c' d chip s walked.0 x.makes in
         let z : (z : IsDrop c.board.plan s.service.core makes.later.service.core) × (z.key ≡ k) = of_same (λ y. (z : IsDrop y.board.plan s.service.core x.makes.later.service.core) × (z.key ≡ k)) c c' (λ b e h. subst (λ p. (z : IsDrop p s.service.core x.makes.later.service.core) × (z.key ≡ k)) e h) walked.0 (x.drop, x.key) in
-        (makes, None, Dropping makes.later.service.core z.0 (free_worker_rests c chip s is at w none) (popped c chip s is at empty) (subst (AreHindered c.board.plan 4 c.sync.capacities s.service.core) (sym z.1) (hindered s chip is)), x.moves, keeps_alike c d chip chip refl (ap (λ (z : CoreState). z.log) x.is ∙ ap (λ (z : CoreState). z.log) walked.0.2) (ap (λ (z : CoreState). z.listed) x.is ∙ ap (λ (z : CoreState). z.listed) walked.0.2) (ap (λ (z : CoreState). z.limit) x.is ∙ ap (λ (z : CoreState). z.limit) walked.0.2), λ some full. false≢true some)
+        record {
+          makes = makes;
+          call = None;
+          next = Dropping makes.later.service.core z.0 (free_worker_rests c chip s is at w none) (popped c chip s is at empty) (subst (AreHindered c.board.plan 4 c.sync.capacities s.service.core) (sym z.1) (hindered s chip is));
+          applies = λ idle. let wait = idle.hindered z.0.key z.0.to_sync.there in drops-free c.board.plan is.plan 4 c.sync.capacities s.service.core (is.working at).stands.safe makes.later.service.core z.0 wait.0 wait.1;
+          moves = x.moves;
+          keeps = keeps_alike c d chip chip refl (ap (λ (z : CoreState). z.log) x.is ∙ ap (λ (z : CoreState). z.log) walked.0.2) (ap (λ (z : CoreState). z.listed) x.is ∙ ap (λ (z : CoreState). z.listed) walked.0.2) (ap (λ (z : CoreState). z.limit) x.is ∙ ap (λ (z : CoreState). z.limit) walked.0.2);
+          room = λ some full. false≢true some;
+          batch = λ next. absurd (next.1 empty);
+        }
 
     pub walk_begins : BeginsTo s w k c' d chip → StepsTo s w c chip (Ok step.Did) d chip
     walk_begins x =
         let makes = makes_same c c' d chip s walked.0 x.makes in
         let z : (z : IsBegin c.board.plan 4 c.sync.capacities s.service.core makes.later.service.core) × (z.worker ≡ w) × (z.flight.key ≡ k) = of_same (λ y. (z : IsBegin y.board.plan 4 y.sync.capacities s.service.core x.makes.later.service.core) × (z.worker ≡ w) × (z.flight.key ≡ k)) c c' (λ b e h. subst (λ p. (z : IsBegin p 4 c.sync.capacities s.service.core x.makes.later.service.core) × (z.worker ≡ w) × (z.flight.key ≡ k)) e h) walked.0 (x.begin, x.worker, x.key) in
-        (makes, None, Beginning makes.later.service.core z.0 z.1 (popped c chip s is at empty) (subst (AreHindered c.board.plan 4 c.sync.capacities s.service.core) (sym z.2) (hindered s chip is)), x.moves, keeps_alike c d chip chip refl (ap (λ (z : CoreState). z.log) x.is ∙ ap (λ (z : CoreState). z.log) walked.0.2) (ap (λ (z : CoreState). z.listed) x.is ∙ ap (λ (z : CoreState). z.listed) walked.0.2) (ap (λ (z : CoreState). z.limit) x.is ∙ ap (λ (z : CoreState). z.limit) walked.0.2), λ some full. false≢true some)
+        record {
+          makes = makes;
+          call = None;
+          next = Beginning makes.later.service.core z.0 z.1 (popped c chip s is at empty) (subst (AreHindered c.board.plan 4 c.sync.capacities s.service.core) (sym z.2) (hindered s chip is));
+          applies = λ idle. let wait = idle.hindered z.0.flight.key z.0.to_sync.there in begins-free c.board.plan is.plan 4 c.sync.capacities s.service.core makes.later.service.core z.0 wait.0 wait.1;
+          moves = x.moves;
+          keeps = keeps_alike c d chip chip refl (ap (λ (z : CoreState). z.log) x.is ∙ ap (λ (z : CoreState). z.log) walked.0.2) (ap (λ (z : CoreState). z.listed) x.is ∙ ap (λ (z : CoreState). z.listed) walked.0.2) (ap (λ (z : CoreState). z.limit) x.is ∙ ap (λ (z : CoreState). z.limit) walked.0.2);
+          room = λ some full. false≢true some;
+          batch = λ next. absurd (next.1 empty);
+        }
 
 -- no key is left: the worker is idle
 pub walk_idle : (c c' : CoreState) (after : Option Key) → IsWalkedTo c after c' → ((q : Key) → IsIn q (keys_of c'.tables.ops) → IsBehind after q → ⊥) → (w : ℕ) → c.warm ≡ warm.Reconciled → flown_at c.board w ≡ None → c.tables.waiting ≡ [] → (s : LoggedService) (chip : ChipState) → IsSessionOf c chip s → StepsTo s w c chip (Ok step.Idle) c' chip
@@ -136,8 +159,12 @@ some_same c d s chip same is = record { steps = []; are = tt; stands = is; plan 
 pub warm_same : (c d : CoreState) → IsSameCore c d → d.warm ≡ c.warm
 warm_same c d same = ap (λ (z : CoreState). z.warm) same.2
 
-pub walk_err : (c c' d : CoreState) (after : Option Key) (e : OutOfMemory) → IsWalkedTo c after c' → IsSameCore c' d → (w : ℕ) → (s : LoggedService) (chip : ChipState) → IsSessionOf d chip s → StepsTo s w c chip (Err e) d chip
-walk_err c c' d after e walked same w s chip is = (refl, some_same c d s chip (same_on c c' d walked.0 same) is, warm_same c d (same_on c c' d walked.0 same), ap (λ (z : CoreState). z.log) (same_on c c' d walked.0 same).2)
+-- it stays where memory was refused
+stays_same : (c d : CoreState) (s : LoggedService) (chip : ChipState) → IsSameCore c d → IsSessionOf d chip s → StaysInSession s c d chip
+stays_same c d s chip same is = record { stands = is; plan = plan_same c d same; capacities = capacities_same c d same; limit = limit_same c d same; warm = warm_same c d same; log = ap (λ (z : CoreState). z.log) same.2 }
+
+pub walk_err : (c c' d : CoreState) (after : Option Key) (e : OutOfMemory) → IsWalkedTo c after c' → IsSameCore c' d → (w : ℕ) → flown_at c.board w ≡ None → (s : LoggedService) (chip : ChipState) → IsSessionOf d chip s → StepsTo s w c chip (Err e) d chip
+walk_err c c' d after e walked same w none s chip is = (refl, Same (stays_same c d s chip (same_on c c' d walked.0 same) is) (λ some. absurd (false≢true (ap is_some (sym none) ∙ some))))
 
 -- ---- by the answer
 
@@ -152,21 +179,44 @@ steps_err s w c chip (Ok r) d h x = absurd (false≢true h)
 
 -- ---- the other steps
 
-pub answering_steps : (s : LoggedService) (w : ℕ) (c : CoreState) (chip : ChipState) (r : Result Step OutOfMemory) (d : CoreState) (chip' : ChipState) → Answered false s w c chip r d chip' → StepsTo s w c chip r d chip'
-answering_steps s w c chip (Ok step.Did) d chip' x = (x.makes, Some x.call, Answering x.call x.makes.later.service.core x.answer x.worker, x.moves, x.keeps, λ some. x.room)
-answering_steps s w c chip (Ok step.Faulted) d chip' x = x
-answering_steps s w c chip (Ok step.LogFull) d chip' x = x
-answering_steps s w c chip (Ok step.Idle) d chip' x = absurd x
-answering_steps s w c chip (Ok step.Suspect) d chip' x = absurd x
-answering_steps s w c chip (Err e) d chip' x = (x.0, subst (λ k. MakesSome c s d k) (sym x.0) (record { steps = []; are = tt; stands = x.1.stands; plan = x.1.plan; capacities = x.1.capacities; limit = x.1.limit }), x.1.warm, x.1.log)
+module _ (s : LoggedService) (w : ℕ) (c : CoreState) (chip : ChipState) (is : IsSessionOf c chip s) (at : c.warm ≡ warm.Reconciled) (flying : IsSome (flown_at c.board w)) where
+  -- the worker makes a call, and is not idle
+  call_applies : (call : Call Rid) (t : SwitchState) (x : IsAnswer c.board.plan 4 call s.service.core t) → x.next.worker ≡ w → IsIdle c.board.plan 4 c.sync.capacities w s.service.core → ⊥
+  call_applies call t x same idle = none-some x.next.flight (sym idle.none ∙ subst (λ v. s.service.core.machine.board.flights v ≡ Some x.next.flight) same x.next.flying)
 
-module _ (s : LoggedService) (w : ℕ) (c : CoreState) (chip : ChipState) (is : IsSessionOf c chip s) (at : c.warm ≡ warm.Reconciled) (t : TablesState) (keys : PopsKeys c.tables t) (d : CoreState) (same : d ≡ record c { tables = t }) where
-  pub popping_part : (e : OutOfMemory) → StepsTo s w c chip (Err e) d chip
-  popping_part e = subst (λ z. StepsTo s w c chip (Err e) z chip) (sym same) (refl, one_step c (record c { tables = t }) chip s (pop_told c chip s t is at keys).0, refl, refl)
+  no_pop_next : IsPopNext c w → ⊥
+  no_pop_next next = false≢true (ap is_some (sym next.0) ∙ flying)
 
-  pub popping_steps : flown_at c.board w ≡ None → (c.tables.waiting ≡ [] → ⊥) → (c.tables.waiting ≡ []) ⊎ PopsSome c.tables d.tables → StepsTo s w c chip (Ok step.Did) d chip
-  popping_steps none some (inl empty) = absurd (some empty)
-  popping_steps none some (inr popped) =
+  pub answering_steps : (r : Result Step OutOfMemory) (d : CoreState) (chip' : ChipState) → Answered false s w c chip r d chip' → StepsTo s w c chip r d chip'
+  answering_steps (Ok step.Did) d chip' x = record {
+    makes = x.makes;
+    call = Some x.call;
+    next = Answering x.call x.makes.later.service.core x.answer x.worker;
+    applies = call_applies x.call x.makes.later.service.core x.answer x.worker;
+    moves = x.moves;
+    keeps = x.keeps;
+    room = λ some. x.room;
+    batch = λ next. absurd (no_pop_next next);
+  }
+  answering_steps (Ok step.Faulted) d chip' x = (x, flying)
+  answering_steps (Ok step.LogFull) d chip' x = (x.0, x.1, x.2, flying)
+  answering_steps (Ok step.Idle) d chip' x = absurd x
+  answering_steps (Ok step.Suspect) d chip' x = absurd x
+  answering_steps (Err e) d chip' x = (x.0, Same x.1 (λ some. x.2))
+
+module _ (s : LoggedService) (w : ℕ) (c : CoreState) (chip : ChipState) (is : IsSessionOf c chip s) (at : c.warm ≡ warm.Reconciled) (next : IsPopNext c w) (t : TablesState) (keys : PopsKeys c.tables t) (d : CoreState) (same : d ≡ record c { tables = t }) where
+  pub popping_steps : (c.tables.waiting ≡ []) ⊎ PopsSome c.tables d.tables → d.tables.waiting ≡ drop BATCH c.tables.waiting → StepsTo s w c chip (Ok step.Did) d chip
+  popping_steps (inl empty) left = absurd (next.1 empty)
+  popping_steps (inr popped) left =
       let told = pop_told c chip s t is at keys in
       let one = told.3 (subst (λ (z : CoreState). PopsSome c.tables z.tables) same popped) in
-      subst (λ z. StepsTo s w c chip (Ok step.Did) z chip) (sym same) (told.0, None, Popping told.0.later.service.core one.0 (free_worker_rests c chip s is at w none) told.1 one.1 one.2, told.2, keeps_alike c (record c { tables = t }) chip chip refl refl refl refl, λ some full. false≢true some)
+      subst (λ z. StepsTo s w c chip (Ok step.Did) z chip) (sym same) (record {
+        makes = told.0;
+        call = None;
+        next = Popping told.0.later.service.core one.0 (free_worker_rests c chip s is at w next.0) told.1 one.1 one.2;
+        applies = λ idle. one.1 (idle.popped one.0);
+        moves = told.2;
+        keeps = keeps_alike c (record c { tables = t }) chip chip refl refl refl refl;
+        room = λ some full. false≢true some;
+        batch = λ next. ap (λ (z : CoreState). z.tables.waiting) (sym same) ∙ left;
+      })

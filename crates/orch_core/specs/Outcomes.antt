@@ -1,5 +1,5 @@
 -- What the core's events come to, by their answers. Own.
-use Rattle.std.specs.Prelude.{◌≡◌, ◌+◌, ◌<◌, ◌≤◌, ◌⊎◌, ℕ, Bool, true, false, List, length, Option, Some, None, IsSome, Result, Ok, Err}
+use Rattle.std.specs.Prelude.{◌≡◌, ◌+◌, ◌<◌, ◌≤◌, ◌⊎◌, ℕ, Bool, true, false, List, [], drop, length, Option, Some, None, IsSome, Result, Ok, Err}
 use Rattle.swss_types.specs.declared.out_of_memory.OutOfMemory.{OutOfMemory}
 use Rattle.table_schema.specs.declared.key.Key.{Key}
 use Rattle.table_schema.specs.declared.row.Row.{Row}
@@ -21,11 +21,14 @@ use Rattle.switch_machine.specs.Reasons.{IsReason}
 use Rattle.restart_laws.specs.Logged.{LoggedService}
 use Rattle.asic_view.specs.View.{used_of}
 use Rattle.ref_counts.specs.Room.{number_of_kind}
+use Rattle.sync_tables.specs.Tables.{TablesState, TakesAtMost}
+use Rattle.sync_tables.specs.declared.tables.TheConstants.{BATCH}
 use Rattle.syncd_core.specs.Synced.{SyncState, current}
 use Rattle.flight_board.specs.Board.{BoardState, IsBegunFor, IsSameBoard, IsTakenFor, flown_at}
 use Rattle.warm_state.specs.declared.warm.Warm.TheVariants as warm
 use Rattle.session_laws.specs.Core.{CoreState, IsFullFor, mark_at, size_beside}
-use Rattle.session_laws.specs.Events.{IsMachineStep, MakesOne, MakesSome, vid_made_by}
+use Rattle.session_laws.specs.Events.{IsMachineStep, MakesOne, vid_made_by}
+use Rattle.session_laws.specs.Leading.{PopsTo}
 use Rattle.session_laws.specs.Standing.{IsSessionOf}
 use Rattle.orch_core.specs.declared.answer.Step.{Step}
 use Rattle.orch_core.specs.declared.answer.Step.TheVariants as step
@@ -119,13 +122,13 @@ pub record FaultsCall (ends : Bool) (s : LoggedService) (c : CoreState) (chip : 
   pub tables : c'.tables ≡ c.tables
   pub fails : chip'.fails ≡ chip.fails
 
--- what the call came to: one step; a fault, which is marked; no places in the log, and then nothing was done; or no call, after want of memory
+-- what the call came to: one step; a fault, which is marked; no places in the log, and then nothing was done; or no call, after want of memory, where the log has its places
 abbrev pub Answered : Bool → LoggedService → ℕ → CoreState → ChipState → Result Step OutOfMemory → CoreState → ChipState → Type 0
 Answered ends s w c chip (Ok step.Did) c' chip' = AnswersCall s w c chip c' chip'
 Answered ends s w c chip (Ok step.Faulted) c' chip' = FaultsCall ends s c chip c' chip'
 Answered ends s w c chip (Ok step.LogFull) c' chip' = (c' ≡ c) × (chip' ≡ chip) × IsFullFor c (length chip.effects) 2
 Answered ends s w c chip (Ok _) c' chip' = ⊥
-Answered ends s w c chip (Err e) c' chip' = (chip' ≡ chip) × StaysInSession s c c' chip
+Answered ends s w c chip (Err e) c' chip' = (chip' ≡ chip) × StaysInSession s c c' chip × (IsFullFor c (length chip.effects) 2 → ⊥)
 
 -- ---- a key to sync
 
@@ -172,13 +175,39 @@ BeginsOrDrops s w k c chip (Ok true) c' = DropsTo s k c c' chip ⊎ BeginsTo s w
 BeginsOrDrops s w k c chip (Ok false) c' = IsSameCore c c' × IsSessionOf c' chip s × ((r : Wait) × IsReason c.board.plan 4 c.sync.capacities s.service.core k r)
 BeginsOrDrops s w k c chip (Err e) c' = IsSameCore c c' × IsSessionOf c' chip s
 
+-- ---- a pop
+
+-- keys were popped, and nothing but the tables changed
+abbrev pub PopsAlone : CoreState → CoreState → Type 0
+PopsAlone c c' = (t : TablesState) × (c' ≡ record c { tables = t }) × ((chip : ChipState) (s : LoggedService) → IsSessionOf c chip s → PopsTo c s c' chip)
+
+-- a worker has nothing under way and a write waits: a pop is next
+abbrev pub IsPopNext : CoreState → ℕ → Type 0
+IsPopNext c w = (flown_at c.board w ≡ None) × (c.tables.waiting ≡ [] → ⊥)
+
 -- ---- a step
 
--- a step of a worker is the first event that applies to it, whose call, where it makes one, had two places in the log; Idle where none does; Faulted where its call failed, which is marked; LogFull where its call has no places; and after want of memory perhaps a part of a pop was made
+-- one event was made, the first that applies to the worker, and one does; its call, where it makes one, had two places in the log; and where a pop was next, the first keys that waited were popped, a batch of them or all
+pub record StepsOn (s : LoggedService) (w : ℕ) (c : CoreState) (chip : ChipState) (c' : CoreState) (chip' : ChipState) : Type 0 where
+  pub makes : MakesOne c s c' chip'
+  pub call : Option (Call Rid)
+  pub next : IsNextEvent c.board.plan 4 c.sync.capacities w s.service.core call makes.later.service.core
+  pub applies : IsIdle c.board.plan 4 c.sync.capacities w s.service.core → ⊥
+  pub moves : IsMachineStep s call makes.later
+  pub keeps : KeepsChip c chip c' chip'
+  pub room : IsSome call → IsFullFor c (length chip.effects) 2 → ⊥
+  pub batch : IsPopNext c w → c'.tables.waiting ≡ drop BATCH c.tables.waiting
+
+-- memory was refused: no event was made, and a call that was due had its places in the log; or a pop was next, and a part of it was made
+pub data StepsInPart (s : LoggedService) (w : ℕ) (c c' : CoreState) (chip : ChipState) : Type 0 where
+  Same : StaysInSession s c c' chip → (IsSome (flown_at c.board w) → IsFullFor c (length chip.effects) 2 → ⊥) → StepsInPart s w c c' chip
+  Part : IsPopNext c w → PopsAlone c c' → TakesAtMost BATCH c.tables.waiting c'.tables.waiting → StepsInPart s w c c' chip
+
+-- a step of a worker makes the first event that applies to it; it is Idle where none does; Faulted where the call that was due for it failed, which is marked; LogFull where that call has not two places; and after want of memory at most a part of a pop was made
 abbrev pub StepsTo : LoggedService → ℕ → CoreState → ChipState → Result Step OutOfMemory → CoreState → ChipState → Type 0
-StepsTo s w c chip (Ok step.Did) c' chip' = (y : MakesOne c s c' chip') × (call : Option (Call Rid)) × IsNextEvent c.board.plan 4 c.sync.capacities w s.service.core call y.later.service.core × IsMachineStep s call y.later × KeepsChip c chip c' chip' × (IsSome call → IsFullFor c (length chip.effects) 2 → ⊥)
+StepsTo s w c chip (Ok step.Did) c' chip' = StepsOn s w c chip c' chip'
 StepsTo s w c chip (Ok step.Idle) c' chip' = (chip' ≡ chip) × IsSameCore c c' × IsSessionOf c' chip s × IsIdle c.board.plan 4 c.sync.capacities w s.service.core
 StepsTo s w c chip (Ok step.Suspect) c' chip' = (c' ≡ c) × (chip' ≡ chip) × (c.warm ≡ warm.Suspect)
-StepsTo s w c chip (Ok step.Faulted) c' chip' = FaultsCall false s c chip c' chip'
-StepsTo s w c chip (Ok step.LogFull) c' chip' = (c' ≡ c) × (chip' ≡ chip) × IsFullFor c (length chip.effects) 2
-StepsTo s w c chip (Err e) c' chip' = (chip' ≡ chip) × MakesSome c s c' chip' × (c'.warm ≡ c.warm) × (c'.log ≡ c.log)
+StepsTo s w c chip (Ok step.Faulted) c' chip' = FaultsCall false s c chip c' chip' × IsSome (flown_at c.board w)
+StepsTo s w c chip (Ok step.LogFull) c' chip' = (c' ≡ c) × (chip' ≡ chip) × IsFullFor c (length chip.effects) 2 × IsSome (flown_at c.board w)
+StepsTo s w c chip (Err e) c' chip' = (chip' ≡ chip) × StepsInPart s w c c' chip

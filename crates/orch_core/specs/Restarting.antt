@@ -98,13 +98,13 @@ pub record ListsOnWay (s : LoggedService) (c : CoreState) (chip : ChipState) (c'
   pub chip_is : chip' ≡ chip
   pub room : IsFullFor c (length chip.effects) 1 → ⊥
 
--- the chip was listed; the list failed, which is marked; the log has no place for the list; or memory was refused
+-- the chip was listed; the list failed, which is marked; the log has no place for the list; or it has, and memory was refused
 abbrev pub ListsOut : Bool → LoggedService → CoreState → ChipState → Result Step OutOfMemory → CoreState → ChipState → Type 0
 ListsOut ends s c chip (Ok step.Did) c' chip' = ListsOnWay s c chip c' chip'
 ListsOut ends s c chip (Ok step.Faulted) c' chip' = FaultsOnWay 1 ends s c chip c' chip'
 ListsOut ends s c chip (Ok step.LogFull) c' chip' = (c' ≡ c) × (chip' ≡ chip) × IsFullFor c (length chip.effects) 1
 ListsOut ends s c chip (Ok _) c' chip' = ⊥
-ListsOut ends s c chip (Err e) c' chip' = (c' ≡ c) × (chip' ≡ chip)
+ListsOut ends s c chip (Err e) c' chip' = (c' ≡ c) × (chip' ≡ chip) × (IsFullFor c (length chip.effects) 1 → ⊥)
 
 -- ---- the restore
 
@@ -215,13 +215,13 @@ pub record AppliesLast (s : LoggedService) (c : CoreState) (chip : ChipState) (c
   pub room : IsFullFor c (length chip.effects) (places_left c.sync.left) → ⊥
   pub keeps : KeepsChip c chip c' chip'
 
--- a call was made, or the end is marked; the call failed, which is marked; the log has no places; or memory was refused
+-- a call was made, or the end is marked; the call failed, which is marked; the log has no places; or it has, and memory was refused
 abbrev pub AppliesOut : Bool → LoggedService → CoreState → ChipState → Result Step OutOfMemory → CoreState → ChipState → Type 0
 AppliesOut ends s c chip (Ok step.Did) c' chip' = AppliesOne s c chip c' chip' ⊎ AppliesLast s c chip c' chip'
 AppliesOut ends s c chip (Ok step.Faulted) c' chip' = FaultsOnWay 2 ends s c chip c' chip'
 AppliesOut ends s c chip (Ok step.LogFull) c' chip' = (c' ≡ c) × (chip' ≡ chip) × IsFullFor c (length chip.effects) (places_left c.sync.left)
 AppliesOut ends s c chip (Ok _) c' chip' = ⊥
-AppliesOut ends s c chip (Err e) c' chip' = (c' ≡ c) × (chip' ≡ chip)
+AppliesOut ends s c chip (Err e) c' chip' = (c' ≡ c) × (chip' ≡ chip) × (IsFullFor c (length chip.effects) (places_left c.sync.left) → ⊥)
 
 -- ---- a step
 

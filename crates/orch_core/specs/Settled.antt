@@ -10,15 +10,15 @@ use Rattle.switch_model.specs.declared.wait.Wait.{Wait}
 use Rattle.switch_machine.specs.Next.{MustWait}
 use Rattle.switch_machine.specs.Reasons.{IsReason}
 use Rattle.restart_laws.specs.Logged.{LoggedService}
-use Rattle.sync_tables.specs.Tables.{IsToSync, TablesState}
+use Rattle.sync_tables.specs.Tables.{IsToSync}
 use Rattle.flight_board.specs.Board.{flown_at}
 use Rattle.warm_state.specs.declared.warm.Warm.TheVariants as warm
 use Rattle.session_laws.specs.Core.{CoreState, IsFullFor, size_beside}
 use Rattle.session_laws.specs.Events.{MakesSome}
 use Rattle.session_laws.specs.Standing.{IsSessionOf}
-use Rattle.session_laws.specs.Leading.{LeadsTo, PopsTo, RunsTo, SettlesTo}
+use Rattle.session_laws.specs.Leading.{LeadsTo, RunsTo, SettlesTo}
 use Rattle.session_laws.specs.Turning.{IsAtRest, IsTurning, TurnsTo}
-use Rattle.orch_core.specs.Outcomes.{KeepsChip, MarksFault, BeginsTo, DropsTo, IsSameBeside, IsSameCore, KeepsFlights}
+use Rattle.orch_core.specs.Outcomes.{KeepsChip, MarksFault, BeginsTo, DropsTo, IsSameBeside, IsSameCore, KeepsFlights, PopsAlone}
 use Rattle.orch_core.specs.Marked.{ListsWhatWaits, Marks}
 use Rattle.orch_core.specs.declared.answer.Ran.{Ran}
 use Rattle.orch_core.specs.declared.answer.Ran.TheVariants as ran
@@ -74,10 +74,6 @@ RunsAll s c chip (Ok ran.LogFull) c' chip' = StopsFull s c chip c' chip'
 RunsAll s c chip (Err e) c' chip' = StopsShort s c chip c' chip'
 
 -- ---- pops
-
--- keys were popped, and nothing but the tables changed
-abbrev pub PopsAlone : CoreState → CoreState → Type 0
-PopsAlone c c' = (t : TablesState) × (c' ≡ record c { tables = t }) × ((chip : ChipState) (s : LoggedService) → IsSessionOf c chip s → PopsTo c s c' chip)
 
 abbrev pub Pops : CoreState → Result (Unit {0}) OutOfMemory → CoreState → Type 0
 Pops c (Ok _) c' = PopsAlone c c' × (c'.tables.waiting ≡ [])

@@ -23,19 +23,19 @@ impl Core {
         for key in self.keys()? {
             // It says that the keys are in order still.
             let _count = self.count();
-            self.restore_key(chip, &key)?;
+            self.restore_key(chip, key)?;
         }
         Ok(())
     }
 
     /// Brings a key to the view, or puts it on the list of those that wait.
-    fn restore_key<C: Chip>(&mut self, chip: &mut C, key: &Key) -> Result<(), OutOfMemory>
-        requires built { (first : CoreState) × (rest : List Key) × IsBuilt first self.old (key.now ∷ rest) }
+    fn restore_key<C: Chip>(&mut self, chip: &mut C, key: Key) -> Result<(), OutOfMemory>
+        requires built { (first : CoreState) × (rest : List Key) × IsBuilt first self.old (key ∷ rest) }
         requires order { AreOpsInOrder self.old.tables.ops }
-        ensures over { (first : CoreState) (rest : List Key) → IsBuilt first self.old (key.now ∷ rest) → GoesOver first rest (C.state chip.old) result self.new (C.state chip.new) }
-        ensures ops { (self.new.tables ≡ self.old.tables) ⊎ (self.new.tables ≡ record self.old.tables { ops = without_op self.old.tables.ops key.now }) }
+        ensures over { (first : CoreState) (rest : List Key) → IsBuilt first self.old (key ∷ rest) → GoesOver first rest (C.state chip.old) result self.new (C.state chip.new) }
+        ensures ops { (self.new.tables ≡ self.old.tables) ⊎ (self.new.tables ≡ record self.old.tables { ops = without_op self.old.tables.ops key }) }
     {
-        let new = self.good_row(key)?;
+        let new = self.good_row(&key)?;
         self.restore_row(chip, key, new)
     }
 
@@ -43,23 +43,23 @@ impl Core {
     fn restore_row<C: Chip>(
         &mut self,
         chip: &mut C,
-        key: &Key,
+        key: Key,
         new: Option<Row>,
     ) -> Result<(), OutOfMemory>
-        requires built { (first : CoreState) × (rest : List Key) × IsBuilt first self.old (key.now ∷ rest) }
+        requires built { (first : CoreState) × (rest : List Key) × IsBuilt first self.old (key ∷ rest) }
         requires order { AreOpsInOrder self.old.tables.ops }
-        requires row { new ≡ good_in self.old key.now }
-        ensures over { (first : CoreState) (rest : List Key) → IsBuilt first self.old (key.now ∷ rest) → GoesOver first rest (C.state chip.old) result self.new (C.state chip.new) }
-        ensures ops { (self.new.tables ≡ self.old.tables) ⊎ (self.new.tables ≡ record self.old.tables { ops = without_op self.old.tables.ops key.now }) }
+        requires row { new ≡ good_in self.old key }
+        ensures over { (first : CoreState) (rest : List Key) → IsBuilt first self.old (key ∷ rest) → GoesOver first rest (C.state chip.old) result self.new (C.state chip.new) }
+        ensures ops { (self.new.tables ≡ self.old.tables) ⊎ (self.new.tables ≡ record self.old.tables { ops = without_op self.old.tables.ops key }) }
     {
-        if self.is_there(key, new.as_ref()) {
-            self.done(key);
+        if self.is_there(&key, new.as_ref()) {
+            self.done(&key);
             return Ok(());
         }
         let used = self.used();
-        match self.start(&used, 0, key, new)? {
+        match self.start(&used, 0, &key, new)? {
             Ok(()) => {
-                self.done(key);
+                self.done(&key);
                 self.run_on_view(chip)
             }
             Err(wait) => self.wait(key, wait),

@@ -1,5 +1,5 @@
 // What the core has its parts do: each call is one of the board, of syncd or of the tables, and the rest of the core stays.
-ghost use Rattle.std.specs.Prelude.{◌≡◌, ◌<◌, ◌^◌, ◌↔◌, ◌⊎◌, [], length, None, Some, IsSome, IsTrue, IfOk, OnOk, OnErr, option_map};
+ghost use Rattle.std.specs.Prelude.{◌≡◌, ◌<◌, ◌^◌, ◌↔◌, ◌⊎◌, [], drop, length, None, Some, IsSome, IsTrue, IfOk, OnOk, OnErr, option_map};
 ghost use Rattle.std.specs.Map.{keys_of};
 ghost use Rattle.row_maps.specs.Entries.{lent_key};
 ghost use Rattle.producer_table.specs.Pending.{ArePendingInOrder};
@@ -8,7 +8,8 @@ ghost use Rattle.retry_list.specs.Reasons.{reason_at, with_reason};
 ghost use Rattle.orch_flight.specs.Sharing.{MayStart};
 ghost use Rattle.registry_laws.specs.Flown.{Flown};
 ghost use Rattle.registry_laws.specs.Making.{IsNextCall, MayTakeFor};
-ghost use Rattle.sync_tables.specs.Tables.{PopsKeys, PopsSome, TablesState};
+ghost use Rattle.sync_tables.specs.Tables.{PopsKeys, PopsSome, TablesState, TakesAtMost};
+ghost use Rattle.sync_tables.specs.declared.tables.TheConstants.{BATCH};
 ghost use Rattle.syncd_core.specs.Synced.{CanCall, Calls, SyncState};
 ghost use Rattle.flight_board.specs.Applied.{row_at};
 ghost use Rattle.flight_board.specs.Board.{BoardState, IsBegunFor, IsPrepared, IsCallReady, IsSameBoard, IsTakenFor, IsUnflown, flown_at};
@@ -114,11 +115,11 @@ impl Core {
     }
 
     /// Puts a key on the list of those that wait, with its reason.
-    pub(crate) fn wait(&mut self, key: &Key, wait: Wait) -> Result<(), OutOfMemory>
-        ensures ok { OnOk result (self.new ≡ record self.old { waiting = with_reason self.old.waiting key.now wait }) }
+    pub(crate) fn wait(&mut self, key: Key, wait: Wait) -> Result<(), OutOfMemory>
+        ensures ok { OnOk result (self.new ≡ record self.old { waiting = with_reason self.old.waiting key wait }) }
         ensures err { OnErr result (self.new ≡ self.old) }
     {
-        self.waiting.put(key.copy()?, wait)
+        self.waiting.put(key, wait)
     }
 
     /// The first key to sync behind this one. The keys are in order.
@@ -170,6 +171,8 @@ impl Core {
     pub(crate) fn pop(&mut self) -> Result<(), OutOfMemory>
         ensures keys { (t : TablesState) × PopsKeys self.old.tables t × (self.new ≡ record self.old { tables = t }) }
         ensures some { OnOk result ((self.old.tables.waiting ≡ []) ⊎ PopsSome self.old.tables self.new.tables) }
+        ensures left { OnOk result (self.new.tables.waiting ≡ drop BATCH self.old.tables.waiting) }
+        ensures err { OnErr result (TakesAtMost BATCH self.old.tables.waiting self.new.tables.waiting) }
         ensures fewer { OnOk result ((self.old.tables.waiting ≡ []) ⊎ (length self.new.tables.waiting < length self.old.tables.waiting)) }
     {
         self.tables.pop()

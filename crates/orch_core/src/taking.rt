@@ -3,7 +3,7 @@ ghost use Rattle.std.specs.Prelude.{◌≡◌, Ok, Err, IfOk, OnOk, OnErr};
 ghost use Rattle.table_schema.specs.declared.write.Sent.{Sent};
 ghost use Rattle.switch_model.specs.History.{History, with_write as with_taken_write};
 ghost use Rattle.sync_tables.specs.Tables.{tables_with_write};
-ghost use Rattle.session_laws.specs.Core.{with_taken};
+ghost use Rattle.session_laws.specs.Core.{IsFullFor, with_taken};
 ghost use Rattle.sai_types.specs.ChipState.{ChipState};
 ghost use Rattle.switch_model.specs.Marks.{written_key};
 ghost use Rattle.machine_laws.specs.Reading.{IsOnSwitch};
@@ -18,10 +18,11 @@ use table_schema::{Sent, Write};
 
 impl Core {
     /// Takes a write; `effects` is the number of the chip's effects. LogFull gives the write back exactly where the log has no
-    /// place for it; after it and after want of memory nothing has changed.
+    /// place for it; want of memory comes only where it has one. After either nothing has changed.
     pub fn take(&mut self, sent: Sent, effects: u64) -> Result<Result<(), TakeFault>, OutOfMemory>
         ensures ok { IfOk result (λ taken. TakesSent self.old sent effects taken self.new) }
         ensures err { OnErr result (self.new ≡ self.old) }
+        ensures room { OnErr result (IsFullFor self.old effects 1 → ⊥) }
         ensures steps { (chip : ChipState) (s : LoggedService) → IsSessionOf self.old chip s → IsOnSwitch (written_key sent.write) → TakesStep s self.old chip result self.new }
         ensures serves { (chip : ChipState) (s : LoggedService) → IsServiceOf self.old chip s → IsOnSwitch (written_key sent.write) → TakesNext s self.old chip result self.new }
     {

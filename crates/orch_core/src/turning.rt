@@ -14,6 +14,9 @@ use sai_types::Chip;
 use swss_types::OutOfMemory;
 use table_schema::Key;
 
+/// With room for so many keys a list is long.
+const LONG: usize = 512;
+
 impl Core {
     /// Makes turns until no key is left to sync or a turn took none away.
     pub(crate) fn make_turns<C: Chip>(&mut self, chip: &mut C) -> Result<Turned, OutOfMemory>
@@ -45,10 +48,14 @@ impl Core {
         requires rest { IsAtRest self.old }
         ensures { (s : LoggedService) → IsSessionOf self.old (C.state chip.old) s → MakesTurn s self.old (C.state chip.old) result self.new (C.state chip.new) }
     {
-        for key in self.keys()? {
+        // the first key stands last, so that the list gets shorter from its end
+        let mut keys = self.keys()?;
+        keys.reverse();
+        while let Some(key) = keys.pop() {
+            give_back(&mut keys);
             // It says that the keys are in order still.
             let _count = self.count();
-            match self.bring(chip, &key)? {
+            match self.bring(chip, key)? {
                 Ran::Whole => {}
                 stopped => return Ok(stopped),
             }
@@ -57,14 +64,14 @@ impl Core {
     }
 
     /// Brings a key to the chip, or puts it on the list of those that wait.
-    fn bring<C: Chip>(&mut self, chip: &mut C, key: &Key) -> Result<Ran, OutOfMemory>
+    fn bring<C: Chip>(&mut self, chip: &mut C, key: Key) -> Result<Ran, OutOfMemory>
         requires session { IsInSession self.old (C.state chip.old) }
         requires rest { IsAtRest self.old }
         requires order { AreOpsInOrder self.old.tables.ops }
-        requires key { IsToSync self.old.tables key.now }
-        ensures { (s : LoggedService) → IsSessionOf self.old (C.state chip.old) s → Brings s key.now self.old (C.state chip.old) result self.new (C.state chip.new) }
+        requires key { IsToSync self.old.tables key }
+        ensures { (s : LoggedService) → IsSessionOf self.old (C.state chip.old) s → Brings s key self.old (C.state chip.old) result self.new (C.state chip.new) }
     {
-        match self.try_key(0, key)? {
+        match self.try_key(0, &key)? {
             Tried::Dropped => Ok(Ran::Whole),
             Tried::Begun => self.run(chip, 0),
             Tried::Waits(wait) => {
@@ -72,5 +79,14 @@ impl Core {
                 Ok(Ran::Whole)
             }
         }
+    }
+}
+
+/// Gives memory back where most of a long list is gone.
+fn give_back(keys: &mut Vec<Key>)
+    ensures { keys.new.items ≡ keys.old.items }
+{
+    if keys.capacity() >= LONG && keys.len() < keys.capacity() / 2 {
+        keys.shrink_to_fit();
     }
 }

@@ -10,7 +10,7 @@ use Rattle.orch_core.proofs.state.Core.begin_first.Goals as goal
 
 pub returns-in_err-key : goal.returns-in_err-key
 returns-in_err-key c = λ s chip is. steps_err s c.args.worker c.args.self.now chip c.from_residual.result c.loop-after.self c.from_residual.ensures.0
-    (λ e. walk_err c.args.self.now c.loop-after.self c.loop-after.self c.loop-after.after e c.loop-after.invariant.0 (same_itself c.loop-after.self) c.args.worker s chip (c.loop-after.invariant.0.1 s chip is).0)
+    (λ e. walk_err c.args.self.now c.loop-after.self c.loop-after.self c.loop-after.after e c.loop-after.invariant.0 (same_itself c.loop-after.self) c.args.worker c.requires.none s chip (c.loop-after.invariant.0.1 s chip is).0)
 
 pub begins-requires-clause-key : goal.begins-requires-clause-key
 begins-requires-clause-key c =
@@ -22,7 +22,7 @@ returns-in_err-begins c = λ s chip is.
     let there = (c.loop-after.invariant.0.1 s chip is).0 in
     let x = subst (λ r. BeginsOrDrops s c.args.worker c.in-Some.key c.loop-after.self chip r c.begins.new.self) c.in_err-begins.was (c.begins.ensures s chip there) in
     steps_err s c.args.worker c.args.self.now chip c.from_residual-in_err-begins.result c.begins.new.self c.from_residual-in_err-begins.ensures.0
-    (λ e. walk_err c.args.self.now c.loop-after.self c.begins.new.self c.loop-after.after e c.loop-after.invariant.0 x.0 c.args.worker s chip x.1)
+    (λ e. walk_err c.args.self.now c.loop-after.self c.begins.new.self c.loop-after.after e c.loop-after.invariant.0 x.0 c.args.worker c.requires.none s chip x.1)
 
 pub returns-then-branch : goal.returns-then-branch
 returns-then-branch c = λ s chip is.

@@ -29,20 +29,6 @@ loop-key-preserved g c = λ first x.
     let z = c.in_ok-restore_key.ensures.over first c.next.new.self.rest.items y.0 in
     (z.0, z.1 ∙ y.1)
 
-pub loop-key-preserved-in_ok-restore_key : goal.loop-key-preserved-in_ok-restore_key
-loop-key-preserved-in_ok-restore_key g c = λ first x.
-    let left : c.loop-key.key-iterator.rest.items ≡ c.in-Some.key ∷ c.next.new.self.rest.items = search rules in
-    let y = over_left c.args.self.now (g.C.Chip.state c.args.chip.now) c.loop-key.key-iterator.rest.items (c.in-Some.key ∷ c.next.new.self.rest.items) c.loop-key.self (g.C.Chip.state c.loop-key.chip) left c.loop-key.invariant first x in
-    let z = c.in_ok-restore_key.ensures.over first c.next.new.self.rest.items y.0 in
-    (z.0, z.1 ∙ y.1)
-
-pub loop-key-preserved-in_ok-restore_key-2 : goal.loop-key-preserved-in_ok-restore_key-2
-loop-key-preserved-in_ok-restore_key-2 g c = λ first x.
-    let left : c.loop-key.key-iterator.rest.items ≡ c.in-Some.key ∷ c.next.new.self.rest.items = search rules in
-    let y = over_left c.args.self.now (g.C.Chip.state c.args.chip.now) c.loop-key.key-iterator.rest.items (c.in-Some.key ∷ c.next.new.self.rest.items) c.loop-key.self (g.C.Chip.state c.loop-key.chip) left c.loop-key.invariant first x in
-    let z = c.in_ok-restore_key.ensures.over first c.next.new.self.rest.items y.0 in
-    (z.0, z.1 ∙ y.1)
-
 pub returns : goal.returns
 returns g c =
     let none : c.loop-key.key-iterator.rest.items ≡ [] = nil_from_length c.loop-key.key-iterator.rest.items (sym c.loop-key.key-iterator.rest.ok.0 ∙ c.in-None.ensures.steps.0) in

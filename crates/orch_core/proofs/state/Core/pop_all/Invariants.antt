@@ -1,7 +1,7 @@
 use Rattle.std.proofs.Common.{◌≡◌, length}
 use Rattle.warm_state.specs.declared.warm.Warm.TheVariants as warm
 use Rattle.orch_core.specs.Restarting.{PopsForRestore}
-use Rattle.orch_core.specs.Settled.{PopsAlone}
+use Rattle.orch_core.specs.Outcomes.{PopsAlone}
 use Rattle.orch_core.proofs.state.Core.pop_all.Given as goal
 
 -- keys alone were popped

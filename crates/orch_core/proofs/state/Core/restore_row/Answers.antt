@@ -11,13 +11,13 @@ use Rattle.orch_core.proofs.state.Core.restore_row.Goals as goal
 pub returns-then-is_there-clause-over : goal.returns-then-is_there-clause-over
 returns-then-is_there-clause-over g c = λ first rest x.
     let there = c.if-is_there.ensures.there refl in
-    (subst (λ z. IsBuilt first z rest) (sym c.done.ensures) (built-drop first c.args.self.now c.args.key.now rest x c.requires.order there.0 (there.1 ∙ c.as_ref.ensures.value ∙ c.requires.row)), refl)
+    (subst (λ z. IsBuilt first z rest) (sym c.done.ensures) (built-drop first c.args.self.now c.args.key rest x c.requires.order there.0 (there.1 ∙ c.as_ref.ensures.value ∙ c.requires.row)), refl)
 
 pub start-requires-clause-may : goal.start-requires-clause-may
 start-requires-clause-may g c = λ un.
     let x = c.requires.built in
-    subst (MayStart c.args.self.now.board.plan c.args.self.now.board.names 0 c.args.key.now (row_at c.args.self.now.board.applied c.args.key.now)) (sym c.requires.row)
-    (may-begin x.0 c.args.self.now c.args.key.now x.1 x.2 c.requires.order
+    subst (MayStart c.args.self.now.board.plan c.args.self.now.board.names 0 c.args.key (row_at c.args.self.now.board.applied c.args.key)) (sym c.requires.row)
+    (may-begin x.0 c.args.self.now c.args.key x.1 x.2 c.requires.order
     (λ free. never c.is_there.result c.if-is_there.false (λ h. c.is_there.ensures.other free (h ∙ sym (c.as_ref.ensures.value ∙ c.requires.row)))) un)
 
 pub run_on_view-requires : goal.run_on_view-requires
@@ -28,22 +28,22 @@ run_on_view-requires g c =
       bringing = (
         x.0,
         x.1,
-        key_begun x.0 c.args.self.now c.args.key.now x.1 x.2 c.requires.order
+        key_begun x.0 c.args.self.now c.args.key x.1 x.2 c.requires.order
             (λ free. never c.is_there.result c.if-is_there.false (λ h. c.is_there.ensures.other free (h ∙ sym (c.as_ref.ensures.value ∙ c.requires.row))))
-            c.used-used.result c.used-used.ensures b.0 (subst (λ a. IsBegunFor c.args.self.now.board c.used-used.result 0 c.args.key.now c.args.new a b.0) c.in-Ok.is b.1) c.requires.row c.start.new.self b.2 c.done-in-Ok.new.self c.done-in-Ok.ensures,
+            c.used-used.result c.used-used.ensures b.0 (subst (λ a. IsBegunFor c.args.self.now.board c.used-used.result 0 c.args.key c.args.new a b.0) c.in-Ok.is b.1) c.requires.row c.start.new.self b.2 c.done-in-Ok.new.self c.done-in-Ok.ensures,
       );
     }
 
 pub returns-in-Ok-clause-over : goal.returns-in-Ok-clause-over
 returns-in-Ok-clause-over g c = λ first rest x.
     let b = c.in_ok-start.ensures.begun in
-    c.run_on_view.ensures.over first rest (key_begun first c.args.self.now c.args.key.now rest x c.requires.order
+    c.run_on_view.ensures.over first rest (key_begun first c.args.self.now c.args.key rest x c.requires.order
     (λ free. never c.is_there.result c.if-is_there.false (λ h. c.is_there.ensures.other free (h ∙ sym (c.as_ref.ensures.value ∙ c.requires.row))))
-    c.used-used.result c.used-used.ensures b.0 (subst (λ a. IsBegunFor c.args.self.now.board c.used-used.result 0 c.args.key.now c.args.new a b.0) c.in-Ok.is b.1) c.requires.row c.start.new.self b.2 c.done-in-Ok.new.self c.done-in-Ok.ensures)
+    c.used-used.result c.used-used.ensures b.0 (subst (λ a. IsBegunFor c.args.self.now.board c.used-used.result 0 c.args.key c.args.new a b.0) c.in-Ok.is b.1) c.requires.row c.start.new.self b.2 c.done-in-Ok.new.self c.done-in-Ok.ensures)
 
 pub returns-in-Err-clause-over : goal.returns-in-Err-clause-over
 returns-in-Err-clause-over g c = λ first rest x.
     let b = c.in_ok-start.ensures.begun in
-    key_waits first c.args.self.now c.args.key.now rest x c.requires.order
+    key_waits first c.args.self.now c.args.key rest x c.requires.order
     (λ free. never c.is_there.result c.if-is_there.false (λ h. c.is_there.ensures.other free (h ∙ sym (c.as_ref.ensures.value ∙ c.requires.row))))
-    c.used-used.result c.used-used.ensures c.in-Err.wait b.0 (subst (λ a. IsBegunFor c.args.self.now.board c.used-used.result 0 c.args.key.now c.args.new a b.0) c.in-Err.is b.1) c.requires.row c.start.new.self b.2 (g.C.Chip.state c.args.chip.now) c.wait.result c.wait.new.self c.wait.ensures.ok c.wait.ensures.err
+    c.used-used.result c.used-used.ensures c.in-Err.wait b.0 (subst (λ a. IsBegunFor c.args.self.now.board c.used-used.result 0 c.args.key c.args.new a b.0) c.in-Err.is b.1) c.requires.row c.start.new.self b.2 (g.C.Chip.state c.args.chip.now) c.wait.result c.wait.new.self c.wait.ensures.ok c.wait.ensures.err
