@@ -50,8 +50,9 @@ use Rattle.round_laws.proofs.Named.{few-among, named-sorted}
 use Rattle.round_laws.proofs.Sessions.{told}
 use Rattle.round_laws.proofs.ToSync.{came-synced, keys-named, not_suspect}
 
-recorded : (c : CoreState) (chip : ChipState) (x : InSession c chip) → HasRecorded c.board.plan c.sync.capacities c.log chip.effects x.session
-recorded c chip x = record { came = x.came; log_is = x.stands.always.log; effects_are = x.stands.always.effects }
+-- the session came about, with the log and the effects of the core and its chip
+pub session-recorded : (c : CoreState) (chip : ChipState) (x : InSession c chip) → HasRecorded c.board.plan c.sync.capacities c.log chip.effects x.session
+session-recorded c chip x = record { came = x.came; log_is = x.stands.always.log; effects_are = x.stands.always.effects }
 
 -- ---- a call
 
@@ -73,31 +74,26 @@ module _ (c : CoreState) (chip : ChipState) (x : InSession c chip) (at : c.warm 
       by [] e = absurd (its.stands.board.busy w (flight_of f.operation) flying e)
       by (d ∷ ds) e = has-call c.board.plan x.stands.always.plan 4 c.sync.capacities core its.stands.safe w (flight_of f.operation) d ds below flying e
 
-  pub call-awaited : (w : ℕ) → w < 4 → IsSome (flown_at c.board w) → AwaitsCall c.board.plan c.sync.capacities c.log chip.effects
+  pub call-awaited : (w : ℕ) → w < 4 → IsSome (flown_at c.board w) → AwaitsCall x.session
   call-awaited w below some = by (flown_at c.board w) refl some
     where
-      by : (o : Option Flown) → flown_at c.board w ≡ o → IsSome o → AwaitsCall c.board.plan c.sync.capacities c.log chip.effects
+      by : (o : Option Flown) → flown_at c.board w ≡ o → IsSome o → AwaitsCall x.session
       by None e h = absurd cc
-      by (Some f) e h = let y = due_for w f below e in record { session = x.session; recorded = recorded c chip x; call = y.0; due = OfFlight (x.stands.always.warm_is ∙ at) y.1 }
+      by (Some f) e h = let y = due_for w f below e in record { call = y.0; due = OfFlight (x.stands.always.warm_is ∙ at) y.1 }
 
 -- the next call of a plan is due
 module _ (c : CoreState) (chip : ChipState) (x : InSession c chip) (at : c.warm ≡ warm.Applying) where
   applies : IsApplyingCore c x.session.service
   applies = (x.stands.applying at).1
 
-  pub apply-awaited : (next : PlanCall) (rest : List PlanCall) → c.sync.left ≡ next ∷ rest → AwaitsCall c.board.plan c.sync.capacities c.log chip.effects
-  apply-awaited next rest left = record {
-    session = x.session;
-    recorded = recorded c chip x;
-    call = _;
-    due = OfPlan _ (x.stands.always.warm_is ∙ at) (applies.underway.left_are ∙ ap (tied_calls x.session.service.core.made c.sync.view) left);
-  }
+  pub apply-awaited : (next : PlanCall) (rest : List PlanCall) → c.sync.left ≡ next ∷ rest → AwaitsCall x.session
+  apply-awaited next rest left = record { call = _; due = OfPlan _ (x.stands.always.warm_is ∙ at) (applies.underway.left_are ∙ ap (tied_calls x.session.service.core.made c.sync.view) left) }
 
-pub awaited-legal : (plan : Ports) (capacities : List ℕ) (log : History) (effects : List (Call Rid)) → IsPlan plan → (x : AwaitsCall plan capacities log effects) → IsLegal capacities (chip_after effects (length effects)) x.call
-awaited-legal plan capacities log effects is x =
-    let t = told plan is capacities x.session x.recorded.came in
-    subst (λ es. IsLegal capacities (chip_after es (length es)) x.call) x.recorded.effects_are
-    (subst (λ o. IsLegal capacities o x.call) (t.tells.objects ∙ sym (chip_after-all x.session.effects)) (due-legal plan is 4 capacities x.session.service x.call t.holds x.due).0)
+pub awaited-legal : (plan : Ports) (capacities : List ℕ) (log : History) (effects : List (Call Rid)) (s : LoggedService) → IsPlan plan → HasRecorded plan capacities log effects s → (x : AwaitsCall s) → IsLegal capacities (chip_after effects (length effects)) x.call
+awaited-legal plan capacities log effects s is recorded x =
+    let t = told plan is capacities s recorded.came in
+    subst (λ es. IsLegal capacities (chip_after es (length es)) x.call) recorded.effects_are
+    (subst (λ o. IsLegal capacities o x.call) (t.tells.objects ∙ sym (chip_after-all s.effects)) (due-legal plan is 4 capacities s.service x.call t.holds x.due).0)
 
 -- ---- a mark
 
@@ -112,10 +108,8 @@ module _ (c : CoreState) (chip : ChipState) (x : InSession c chip) (at : c.warm 
   listing [] h = tt
   listing (w ∷ ws) h = (h.0, h.1 ∙ sym (its_rows.rows w.0), listing ws h.2)
 
-  awaits : (waits : Waiting) → AreListed c.board.plan 4 c.sync.capacities x.session.service.core waits → ((k : Key) → IsToSync c.tables k → ListsKey k waits) → ((k : Key) → ListsKey k waits → IsToSync c.tables k) → AreInOrder waits → AwaitsMark c.board.plan c.sync.capacities c.log chip.effects waits
+  awaits : (waits : Waiting) → AreListed c.board.plan 4 c.sync.capacities x.session.service.core waits → ((k : Key) → IsToSync c.tables k → ListsKey k waits) → ((k : Key) → ListsKey k waits → IsToSync c.tables k) → AreInOrder waits → AwaitsMark c.board.plan c.sync.capacities x.session waits
   awaits waits listed all only order = record {
-    session = x.session;
-    recorded = recorded c chip x;
     warm = x.stands.always.warm_is ∙ at;
     quiet = none_flies c.board.plan c.sync.capacities c.board.names c.board.room (flown_at c.board) x.session.service.core its_rows.stands.board rest;
     popped = popped c chip x.session its_session at none;
@@ -125,7 +119,7 @@ module _ (c : CoreState) (chip : ChipState) (x : InSession c chip) (at : c.warm 
     in_order = order;
   }
 
-  pub mark-awaited : (waits : Waiting) → HaveReasons c x.session.service.core waits → ((k : Key) → IsToSync c.tables k → ListsKey k waits) → ((k : Key) → ListsKey k waits → IsToSync c.tables k) → AreInOrder waits → AwaitsMark c.board.plan c.sync.capacities c.log chip.effects waits
+  pub mark-awaited : (waits : Waiting) → HaveReasons c x.session.service.core waits → ((k : Key) → IsToSync c.tables k → ListsKey k waits) → ((k : Key) → ListsKey k waits → IsToSync c.tables k) → AreInOrder waits → AwaitsMark c.board.plan c.sync.capacities x.session waits
   mark-awaited waits reasons all only order = awaits waits (listing waits reasons) all only order
 
   -- the list of keys that have reasons
@@ -156,7 +150,7 @@ listed-in [] k i = absurd i
 listed-in (w ∷ ws) k (inl is) = inl (sym is)
 listed-in (w ∷ ws) k (inr i) = inr (listed-in ws k i)
 
-pub keys-awaited : (c : CoreState) (chip : ChipState) (x : InSession c chip) → c.warm ≡ warm.Reconciled → c.tables.waiting ≡ [] → ((v : ℕ) → v < 4 → flown_at c.board v ≡ None) → AreOpsInOrder c.tables.ops → ((k : Key) → IsToSync c.tables k → MustWait c.board.plan 4 c.sync.capacities x.session.service.core k) → (waits : Waiting) × (length waits ≡ length c.tables.ops) × AwaitsMark c.board.plan c.sync.capacities c.log chip.effects waits
+pub keys-awaited : (c : CoreState) (chip : ChipState) (x : InSession c chip) → c.warm ≡ warm.Reconciled → c.tables.waiting ≡ [] → ((v : ℕ) → v < 4 → flown_at c.board v ≡ None) → AreOpsInOrder c.tables.ops → ((k : Key) → IsToSync c.tables k → MustWait c.board.plan 4 c.sync.capacities x.session.service.core k) → (waits : Waiting) × (length waits ≡ length c.tables.ops) × AwaitsMark c.board.plan c.sync.capacities x.session waits
 keys-awaited c chip x at none rest order must =
     let keys = keys_of c.tables.ops in
     let y = list_of c chip x at none rest must keys (λ k i. i) in (
@@ -166,10 +160,10 @@ keys-awaited c chip x at none rest order must =
     )
 
 -- the keys that such a mark lists were named
-pub awaited-few : (plan : Ports) (capacities : List ℕ) (log : History) (effects : List (Call Rid)) (waits : Waiting) → IsPlan plan → AwaitsMark plan capacities log effects waits → length waits ≤ length (keys_named log.taken)
-awaited-few plan capacities log effects waits is x =
+pub awaited-few : (plan : Ports) (capacities : List ℕ) (log : History) (effects : List (Call Rid)) (s : LoggedService) (waits : Waiting) → IsPlan plan → HasRecorded plan capacities log effects s → AwaitsMark plan capacities s waits → length waits ≤ length (keys_named log.taken)
+awaited-few plan capacities log effects s waits is recorded x =
     let few = few-among (map (λ w. w.0) waits) (keys_named log.taken) x.in_order (named-sorted log.taken)
-    (λ k i. subst (λ (z : History). IsIn k (keys_named z.taken)) x.recorded.log_is (came-synced plan is capacities x.session x.recorded.came (not_suspect x.session.service.warm x.warm) k (x.only k (lists-in waits k i)))) in
+    (λ k i. subst (λ (z : History). IsIn k (keys_named z.taken)) recorded.log_is (came-synced plan is capacities s recorded.came (not_suspect s.service.warm x.warm) k (x.only k (lists-in waits k i)))) in
     let long = length-map waits (λ w. w.0) in
     omega (arith, few, long)
 
@@ -196,11 +190,11 @@ module _ (plan : Ports) (is : IsPlan plan) (capacities : List ℕ) (s : LoggedSe
   marked_true : LogsMark plan 4 capacities (switch_of s) (switch_of marked) → s.service.warm ≡ warm.Reconciled → IsSettled plan capacities s.log.taken s.effects mark waits
   marked_true x at = last-true plan capacities s.log s.effects None s.log.marks mark (told-step plan is 4 capacities s marked (told plan is capacities s came) (OfMachine at at (inr (inr x)))).tells.marks
 
-pub awaited-true : (plan : Ports) (capacities : List ℕ) (log : History) (effects : List (Call Rid)) (waits : Waiting) (turns : ℕ) → IsPlan plan → AwaitsMark plan capacities log effects waits → IsSettled plan capacities log.taken effects (mark_now log effects (event.Settled waits turns)) waits
-awaited-true plan capacities log effects waits turns is x =
-    subst (λ (h : History). IsSettled plan capacities h.taken effects (mark_now h effects (event.Settled waits turns)) waits) x.recorded.log_is
-    (subst (λ es. IsSettled plan capacities x.session.log.taken es (mark_now x.session.log es (event.Settled waits turns)) waits) x.recorded.effects_are
-    (marked_true plan is capacities x.session x.recorded.came waits turns (record {
+pub awaited-true : (plan : Ports) (capacities : List ℕ) (log : History) (effects : List (Call Rid)) (s : LoggedService) (waits : Waiting) (turns : ℕ) → IsPlan plan → HasRecorded plan capacities log effects s → AwaitsMark plan capacities s waits → IsSettled plan capacities log.taken effects (mark_now log effects (event.Settled waits turns)) waits
+awaited-true plan capacities log effects s waits turns is recorded x =
+    subst (λ (h : History). IsSettled plan capacities h.taken effects (mark_now h effects (event.Settled waits turns)) waits) recorded.log_is
+    (subst (λ es. IsSettled plan capacities s.log.taken es (mark_now s.log es (event.Settled waits turns)) waits) recorded.effects_are
+    (marked_true plan is capacities s recorded.came waits turns (record {
       quiet = x.quiet;
       popped = x.popped;
       waits = waits;

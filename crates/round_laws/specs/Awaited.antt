@@ -21,21 +21,17 @@ pub record HasRecorded (plan : Ports) (capacities : List ℕ) (log : History) (e
   pub log_is : s.log ≡ log
   pub effects_are : s.effects ≡ effects
 
--- in such a session a call is due, for a worker or of the plan of an apply
-pub record AwaitsCall (plan : Ports) (capacities : List ℕ) (log : History) (effects : List (Call Rid)) : Type 0 where
-  pub session : LoggedService
-  pub recorded : HasRecorded plan capacities log effects session
+-- in a session a call is due, for a worker or of the plan of an apply
+pub record AwaitsCall (s : LoggedService) : Type 0 where
   pub call : Call Rid
-  pub due : IsDue 4 session.service call
+  pub due : IsDue 4 s.service call
 
--- in such a session no operation is under way, no write waits in the tables, and the keys to sync are these, each with its reason to wait and its applied row: the mark that lists them is due
-pub record AwaitsMark (plan : Ports) (capacities : List ℕ) (log : History) (effects : List (Call Rid)) (waits : Waiting) : Type 0 where
-  pub session : LoggedService
-  pub recorded : HasRecorded plan capacities log effects session
-  pub warm : session.service.warm ≡ warm.Reconciled
-  pub quiet : IsQuiet session.service.core
-  pub popped : IsPopped session.service.core.written
-  pub listed : AreListed plan 4 capacities session.service.core waits
-  pub all : (k : Key) → IsIn k session.service.core.to_sync → ListsKey k waits
-  pub only : (k : Key) → ListsKey k waits → IsIn k session.service.core.to_sync
+-- in a session no operation is under way, no write waits in the tables, and the keys to sync are these, each with its reason to wait and its applied row: the mark that lists them is due
+pub record AwaitsMark (plan : Ports) (capacities : List ℕ) (s : LoggedService) (waits : Waiting) : Type 0 where
+  pub warm : s.service.warm ≡ warm.Reconciled
+  pub quiet : IsQuiet s.service.core
+  pub popped : IsPopped s.service.core.written
+  pub listed : AreListed plan 4 capacities s.service.core waits
+  pub all : (k : Key) → IsIn k s.service.core.to_sync → ListsKey k waits
+  pub only : (k : Key) → ListsKey k waits → IsIn k s.service.core.to_sync
   pub in_order : AreInOrder waits

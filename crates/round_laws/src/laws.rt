@@ -35,7 +35,7 @@ ghost use Rattle.session_laws.specs.Leading.{LeadsTo};
 ghost use Rattle.session_laws.specs.Service.Built.{IsBuilt};
 ghost use Rattle.session_laws.specs.Service.Events.{MakesMore, MakesNext};
 ghost use Rattle.session_laws.specs.Service.Standing.{IsServiceOf};
-ghost use Rattle.round_laws.specs.Awaited.{AwaitsCall, AwaitsMark};
+ghost use Rattle.round_laws.specs.Awaited.{AwaitsCall, AwaitsMark, HasRecorded};
 ghost use Rattle.round_laws.specs.Named.{keys_named};
 ghost use Rattle.round_laws.specs.Sessions.{BeginNoApply, InSession};
 
@@ -91,7 +91,7 @@ pub fn sessions_are_true()
 pub fn keys_to_sync_were_named()
     ensures named { (c : CoreState) (chip : ChipState) (k : Key) → InSession c chip → (c.warm ≡ warm.Reconciled) ⊎ (c.warm ≡ warm.Applying) → IsToSync c.tables k → IsIn k (keys_named c.log.taken) }
     ensures few { (c : CoreState) (chip : ChipState) → InSession c chip → (c.warm ≡ warm.Reconciled) ⊎ (c.warm ≡ warm.Applying) → AreOpsInOrder c.tables.ops → length c.tables.ops ≤ length (keys_named c.log.taken) }
-    ensures listed { (plan : Ports) (capacities : List ℕ) (log : History) (effects : List (Call Rid)) (waits : Waiting) → IsPlan plan → AwaitsMark plan capacities log effects waits → length waits ≤ length (keys_named log.taken) }
+    ensures listed { (plan : Ports) (capacities : List ℕ) (log : History) (effects : List (Call Rid)) (s : LoggedService) (waits : Waiting) → IsPlan plan → HasRecorded plan capacities log effects s → AwaitsMark plan capacities s waits → length waits ≤ length (keys_named log.taken) }
 {}
 
 /// Once all rows were gone over, the keys that a restore is to list were named by writes taken, and so they are no more than the keys
@@ -101,13 +101,16 @@ pub fn listed_keys_were_named()
     ensures few { (first built : CoreState) (x : IsBuilt first built []) → length x.waits ≤ length (keys_named first.log.taken) }
 {}
 
-/// Where a worker has something under way, or calls of a plan are left, a call is awaited, and it is legal on the chip. Where no worker has anything under way, no
-/// write waits, and each key to sync has a reason to wait, a mark is awaited that lists as many keys, and what it would say is true.
+/// The session that a core and its chip are in has come about, with the core's log and the chip's effects. In it, where a worker has
+/// something under way, or calls of a plan are left, a call is awaited, and it is legal on the chip. Where no worker has anything under
+/// way, no write waits, and each key to sync has a reason to wait, a mark is awaited that lists as many keys, and what it would say is
+/// true.
 pub fn what_is_due_is_awaited()
-    ensures call { (c : CoreState) (chip : ChipState) (w : ℕ) → InSession c chip → c.warm ≡ warm.Reconciled → w < 4 → IsSome (flown_at c.board w) → AwaitsCall c.board.plan c.sync.capacities c.log chip.effects }
-    ensures apply { (c : CoreState) (chip : ChipState) (next : PlanCall) (rest : List PlanCall) → InSession c chip → c.warm ≡ warm.Applying → c.sync.left ≡ next ∷ rest → AwaitsCall c.board.plan c.sync.capacities c.log chip.effects }
-    ensures legal { (plan : Ports) (capacities : List ℕ) (log : History) (effects : List (Call Rid)) → IsPlan plan → (x : AwaitsCall plan capacities log effects) → IsLegal capacities (chip_after effects (length effects)) x.call }
-    ensures mark { (c : CoreState) (chip : ChipState) (waits : Waiting) (x : InSession c chip) → c.warm ≡ warm.Reconciled → c.tables.waiting ≡ [] → ((v : ℕ) → v < 4 → flown_at c.board v ≡ None) → HaveReasons c x.session.service.core waits → ((k : Key) → IsToSync c.tables k → ListsKey k waits) → ((k : Key) → ListsKey k waits → IsToSync c.tables k) → marks.AreInOrder waits → AwaitsMark c.board.plan c.sync.capacities c.log chip.effects waits }
-    ensures keys { (c : CoreState) (chip : ChipState) (x : InSession c chip) → c.warm ≡ warm.Reconciled → c.tables.waiting ≡ [] → ((v : ℕ) → v < 4 → flown_at c.board v ≡ None) → AreOpsInOrder c.tables.ops → ((k : Key) → IsToSync c.tables k → MustWait c.board.plan 4 c.sync.capacities x.session.service.core k) → (waits : Waiting) × (length waits ≡ length c.tables.ops) × AwaitsMark c.board.plan c.sync.capacities c.log chip.effects waits }
-    ensures is_true { (plan : Ports) (capacities : List ℕ) (log : History) (effects : List (Call Rid)) (waits : Waiting) (turns : ℕ) → IsPlan plan → AwaitsMark plan capacities log effects waits → IsSettled plan capacities log.taken effects (mark_now log effects (event.Settled waits turns)) waits }
+    ensures recorded { (c : CoreState) (chip : ChipState) (x : InSession c chip) → HasRecorded c.board.plan c.sync.capacities c.log chip.effects x.session }
+    ensures call { (c : CoreState) (chip : ChipState) (w : ℕ) (x : InSession c chip) → c.warm ≡ warm.Reconciled → w < 4 → IsSome (flown_at c.board w) → AwaitsCall x.session }
+    ensures apply { (c : CoreState) (chip : ChipState) (next : PlanCall) (rest : List PlanCall) (x : InSession c chip) → c.warm ≡ warm.Applying → c.sync.left ≡ next ∷ rest → AwaitsCall x.session }
+    ensures legal { (plan : Ports) (capacities : List ℕ) (log : History) (effects : List (Call Rid)) (s : LoggedService) → IsPlan plan → HasRecorded plan capacities log effects s → (x : AwaitsCall s) → IsLegal capacities (chip_after effects (length effects)) x.call }
+    ensures mark { (c : CoreState) (chip : ChipState) (waits : Waiting) (x : InSession c chip) → c.warm ≡ warm.Reconciled → c.tables.waiting ≡ [] → ((v : ℕ) → v < 4 → flown_at c.board v ≡ None) → HaveReasons c x.session.service.core waits → ((k : Key) → IsToSync c.tables k → ListsKey k waits) → ((k : Key) → ListsKey k waits → IsToSync c.tables k) → marks.AreInOrder waits → AwaitsMark c.board.plan c.sync.capacities x.session waits }
+    ensures keys { (c : CoreState) (chip : ChipState) (x : InSession c chip) → c.warm ≡ warm.Reconciled → c.tables.waiting ≡ [] → ((v : ℕ) → v < 4 → flown_at c.board v ≡ None) → AreOpsInOrder c.tables.ops → ((k : Key) → IsToSync c.tables k → MustWait c.board.plan 4 c.sync.capacities x.session.service.core k) → (waits : Waiting) × (length waits ≡ length c.tables.ops) × AwaitsMark c.board.plan c.sync.capacities x.session waits }
+    ensures is_true { (plan : Ports) (capacities : List ℕ) (log : History) (effects : List (Call Rid)) (s : LoggedService) (waits : Waiting) (turns : ℕ) → IsPlan plan → HasRecorded plan capacities log effects s → AwaitsMark plan capacities s waits → IsSettled plan capacities log.taken effects (mark_now log effects (event.Settled waits turns)) waits }
 {}

@@ -12,7 +12,7 @@ use Rattle.session_laws.specs.Core.{CoreState}
 use Rattle.session_laws.specs.Service.Events.{MakesMore}
 use Rattle.round_laws.specs.Sessions.{InSession}
 use Rattle.round_laws.proofs.Growing.{effects-grow}
-use Rattle.round_laws.proofs.Sessions.{same-on, steps-on}
+use Rattle.round_laws.proofs.Sessions.{steps-on}
 use Rattle.orch_core.specs.ComingBack.{ComesTo}
 use Rattle.orch_core.specs.Outcomes.{IsWithinLimit, KeepsChip}
 use Rattle.orch_core.specs.Restarting.{StaysInService}
@@ -50,27 +50,31 @@ come-made old chip sent restarts c rise limit x = record {
 }
 
 module _ (old : CoreState) (chip : ChipState) (since : Ran) (c : CoreState) (cchip : ChipState) (x : HasCome old chip since c cchip) (d : CoreState) where
-  more-calls : (dchip : ChipState) (calls : List (Call Rid)) → dchip.effects ≡ cchip.effects ++ calls → dchip.effects ≡ chip.effects ++ (since.calls ++ calls)
+  pub more-calls : (dchip : ChipState) (calls : List (Call Rid)) → dchip.effects ≡ cchip.effects ++ calls → dchip.effects ≡ chip.effects ++ (since.calls ++ calls)
   more-calls dchip calls grown = grown ∙ ap (λ l. l ++ calls) x.calls ∙ append_assoc chip.effects since.calls calls
 
   -- the core and the chip in the same session, with the same log
-  pub come-stays : StaysInService x.within.session c d cchip → HasCome old chip since d cchip
-  come-stays stays = record {
-    log = stays.log ∙ x.log;
-    calls = x.calls;
-    way = x.way;
-    within = same-on c d cchip cchip x.within stays.stands stays.plan stays.capacities;
-    same = same-trans old c d x.same (record { plan = stays.plan; capacities = stays.capacities; limit = stays.limit });
-    limit = (keeps_alike c d cchip cchip refl stays.log (stays.stands.always.listed ∙ ap (λ (h : History). listed_by h.marks) stays.log ∙ sym x.within.stands.always.listed) stays.limit).limit x.limit;
-    faults = subst (λ (h : History). FaultsRise 0 h.marks cchip.faults) (sym stays.log) x.faults;
-  }
+  pub come-stays : StaysInService x.within.session c d cchip → (z : HasCome old chip since d cchip) × (z.within.session ≡ x.within.session)
+  come-stays stays =
+      let within = steps-on c d cchip cchip x.within x.within.session [] tt refl stays.stands stays.plan stays.capacities in (
+        record {
+          log = stays.log ∙ x.log;
+          calls = x.calls;
+          way = x.way;
+          within = within.0;
+          same = same-trans old c d x.same (record { plan = stays.plan; capacities = stays.capacities; limit = stays.limit });
+          limit = (keeps_alike c d cchip cchip refl stays.log (stays.stands.always.listed ∙ ap (λ (h : History). listed_by h.marks) stays.log ∙ sym x.within.stands.always.listed) stays.limit).limit x.limit;
+          faults = subst (λ (h : History). FaultsRise 0 h.marks cchip.faults) (sym stays.log) x.faults;
+        },
+        within.1,
+      )
 
   module _ (dchip : ChipState) (keeps : KeepsChip c cchip d dchip) where
     -- steps without a record
     abbrev pub since_steps : List (Call Rid) → Ran
     since_steps calls = record { marks = since.marks; sent = since.sent; calls = since.calls ++ calls }
 
-    pub come-steps : (more : MakesMore c x.within.session d dchip) → (within : InSession d dchip) → d.log ≡ c.log → HasCome old chip (since_steps (effects-grow c d cchip dchip x.within more).0) d dchip
+    abbrev pub come-steps : (more : MakesMore c x.within.session d dchip) → (within : InSession d dchip) → d.log ≡ c.log → HasCome old chip (since_steps (effects-grow c d cchip dchip x.within more).0) d dchip
     come-steps more within log =
         let grown = effects-grow c d cchip dchip x.within more in
         record {

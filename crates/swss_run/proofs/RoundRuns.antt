@@ -115,7 +115,7 @@ text-as shows lines p p' n n' ms ms' t t' r r' c c' o o' e e' b b' ps ns mss ts 
 -- a round that stopped with a full log, and left quiet rows alone
 abbrev IsFullRun : Round → CoreState → Sim → CoreState → Sim → Type 0
 IsFullRun round old sim new sim' =
-    (stops : StopsQuietly round old sim new sim') × IsFull new.board.plan new.sync.capacities new.limit round new.log sim'.chip stops.0.since × (new.limit < log_size new.log (length sim'.chip.effects) + 2 + length (keys_named new.log.taken))
+    (stops : StopsQuietly round old sim new sim') × IsFull new.board.plan new.sync.capacities new.limit round new.log sim'.chip stops.0.since stops.0.come.within.session × (new.limit < log_size new.log (length sim'.chip.effects) + 2 + length (keys_named new.log.taken))
 
 -- there are no more restarts than marks
 few_restarts : (e : MarkEvent) → restarts_at e ≤ 1
@@ -200,7 +200,7 @@ module _ (round : Round) (old : CoreState) (sim : Sim) (replay : Replayed) (read
   -- the next act has no place
   module _ (done : List (ℕ × Act)) (producer : ℕ) (later : List (ℕ × Act)) (full : IsFullFor mid effects 1) where
     abbrev IsFullAct : Act → Type 0
-    IsFullAct a = (split : acts_in round.sections ≡ done ++ (producer, a) ∷ later) (is : mid ≡ with_made effects old (acts_made [] done)) → IsFull mid.board.plan mid.sync.capacities mid.limit round mid.log sim.chip (since_then done ((producer, a) ∷ later) split is)
+    IsFullAct a = (split : acts_in round.sections ≡ done ++ (producer, a) ∷ later) (is : mid ≡ with_made effects old (acts_made [] done)) → IsFull mid.board.plan mid.sync.capacities mid.limit round mid.log sim.chip (since_then done ((producer, a) ∷ later) split is) (come-then done ((producer, a) ∷ later) split is).within.session
 
     short : InSession mid sim.chip → mid.limit < log_size mid.log (length sim.chip.effects) + 1
     short within = let size = sized mid sim.chip within in let count = count_is in omega (arith, full, size, count)

@@ -19,9 +19,11 @@ use Rattle.switch_model.specs.declared.mark.Mark.{Mark}
 use Rattle.restart_laws.specs.Applied.{AreFollowed}
 use Rattle.restart_laws.specs.Logged.{last_mark}
 use Rattle.session_laws.specs.Core.{CoreState, new_core}
+use Rattle.round_laws.specs.Awaited.{HasRecorded}
 use Rattle.round_laws.specs.Between.{IsReadyForRound, mark_of}
 use Rattle.round_laws.specs.Named.{keys_named}
 use Rattle.round_laws.specs.Sessions.{InSession}
+use Rattle.round_laws.proofs.Awaited.{session-recorded}
 use Rattle.round_laws.proofs.Bounded.{all-few}
 use Rattle.round_laws.proofs.Ready.{ready-first}
 use Rattle.round_laws.proofs.Sessions.{applies-followed, counts-within, effects-legal, log-ordered, marks-true, outside-few-of, sized}
@@ -188,10 +190,12 @@ ended-none first sim new = inl (refl, ap (λ (s : CoreState). is_suspect s.log.m
 
 -- a session, from a core and a chip within one of the service
 session-from : (rounds : List Round) (ended : Status) (first core : CoreState) (chip : ChipState) (held held' : Option (List ℕ)) (rans : List Ran) (since : Ran)
-    → InSession core chip → KeepsPlan first core → log_size core.log (length chip.effects) ≤ log_limit → FaultsRise 0 core.log.marks chip.faults → IsCutInRounds core.log chip.effects rans since → AreTaken rans rounds since.sent → AreRestarted false rans rounds since.marks → AreTurned first.board.plan first.sync.capacities None [] [] rans → IsSinceQuiet first.board.plan (last_mark None (all_marks rans)) (all_sent rans) (all_calls rans) since → AreDrained first.board.plan first.sync.capacities [] rans
-    → IsReported ended first.board.plan first.sync.capacities rounds rans since core.log chip held held'
+    → (within : InSession core chip) → KeepsPlan first core → log_size core.log (length chip.effects) ≤ log_limit → FaultsRise 0 core.log.marks chip.faults → IsCutInRounds core.log chip.effects rans since → AreTaken rans rounds since.sent → AreRestarted false rans rounds since.marks → AreTurned first.board.plan first.sync.capacities None [] [] rans → IsSinceQuiet first.board.plan (last_mark None (all_marks rans)) (all_sent rans) (all_calls rans) since → AreDrained first.board.plan first.sync.capacities [] rans
+    → IsReported ended first.board.plan first.sync.capacities rounds rans since core.log chip within.session held held'
     → IsSession first.board.plan first.sync.capacities rounds ended core.log chip held held'
 session-from rounds ended first core chip held held' rans since within same places faults cut writes restarts turned quiet drained reported = record {
+  run = within.session;
+  recorded = as_first (λ p c. HasRecorded p c core.log chip.effects within.session) (session-recorded core chip within);
   room = within.stands.always.capacities ∙ same.capacities;
   clean = within.stands.always.clean;
   legality = as_first (λ p c. EffectsAreLegal p c core.log.taken chip.effects) (effects-legal core chip within);
@@ -227,9 +231,9 @@ module _ (rounds done : List Round) (first : CoreState) (held0 : Option (List �
   pub session-done : (ended : Status) → length done ≡ length rounds → IsEndedAs ended core sim → IsSession first.board.plan first.sync.capacities rounds ended core.log sim.chip held0 held
   session-done ended all how = session-from rounds ended first core sim.chip held0 held running.rans nothing_ran running.ready.ready.within running.same (subst (λ n. log_size core.log (length sim.chip.effects) ≤ n) (running.same.limit ∙ running.limit) running.ready.places) running.ready.faults running.cut running.writes running.restarts running.turned (quiet_none first.board.plan (last_mark None (all_marks running.rans)) (all_sent running.rans) (all_calls running.rans)) running.drained (by how)
     where
-      by : IsEndedAs ended core sim → IsReported ended first.board.plan first.sync.capacities rounds running.rans nothing_ran core.log sim.chip held0 held
-      by (inl (is, known)) = subst (λ e. IsReported e first.board.plan first.sync.capacities rounds running.rans nothing_ran core.log sim.chip held0 held) (sym is) (running.ended, running.many ∙ all, known, running.told)
-      by (inr (is, bad, rose)) = subst (λ e. IsReported e first.board.plan first.sync.capacities rounds running.rans nothing_ran core.log sim.chip held0 held) (sym is) (running.ended, running.many ∙ all, bad, rose, running.told)
+      by : IsEndedAs ended core sim → IsReported ended first.board.plan first.sync.capacities rounds running.rans nothing_ran core.log sim.chip running.ready.ready.within.session held0 held
+      by (inl (is, known)) = subst (λ e. IsReported e first.board.plan first.sync.capacities rounds running.rans nothing_ran core.log sim.chip running.ready.ready.within.session held0 held) (sym is) (running.ended, running.many ∙ all, known, running.told)
+      by (inr (is, bad, rose)) = subst (λ e. IsReported e first.board.plan first.sync.capacities rounds running.rans nothing_ran core.log sim.chip running.ready.ready.within.session held0 held) (sym is) (running.ended, running.many ∙ all, bad, rose, running.told)
 
   module _ (round : Round) (number : ℕ) (next : slice_get rounds (length done) ≡ Some round) (number_is : number ≡ length done + 1) (faults faults' : ℕ) (new : CoreState) (sim' : Sim) (replay' : Replayed) (held' : Option (List ℕ)) where
     abbrev rans : List Ran
@@ -290,7 +294,7 @@ module _ (rounds done : List Round) (first : CoreState) (held0 : Option (List �
       part_now : (lines : List ℕ) → HasLines number round core sim ran lines → TakesPart held lines held' → TookPart first.board.plan first.sync.capacities (rans ++ ran ∷ []) rounds held0 held'
       part_now lines has took = record { text = running.told.text ++ lines; report = report_now lines has; took = part-more held0 held held' running.told.text lines running.told.took took }
 
-      session_now : (ended : Status) → IsReported ended first.board.plan first.sync.capacities rounds (rans ++ ran ∷ []) nothing_ran new.log sim'.chip held0 held' → IsSession first.board.plan first.sync.capacities rounds ended new.log sim'.chip held0 held'
+      session_now : (ended : Status) → IsReported ended first.board.plan first.sync.capacities rounds (rans ++ ran ∷ []) nothing_ran new.log sim'.chip ends.within.session held0 held' → IsSession first.board.plan first.sync.capacities rounds ended new.log sim'.chip held0 held'
       session_now ended reported = session-from rounds ended first new sim'.chip held0 held' (rans ++ ran ∷ []) nothing_ran ends.within same_now (subst (λ n. log_size new.log (length sim'.chip.effects) ≤ n) limit_now ends.places) ends.faults cut_now taken_now restarted_now turned_now (quiet_none first.board.plan (last_mark None (all_marks (rans ++ ran ∷ []))) (all_sent (rans ++ ran ∷ [])) (all_calls (rans ++ ran ∷ []))) drained_now reported
 
       has_ended : HasEnded nothing_ran new.log sim'.chip
@@ -363,7 +367,7 @@ module _ (rounds done : List Round) (first : CoreState) (held0 : Option (List �
           (subst (λ l. IsSinceQuiet core.board.plan (mark_of core) l (all_calls rans) stops.since) (running.cut.taken ∙ append-nil (all_sent rans))
           (subst (λ l. IsSinceQuiet core.board.plan (mark_of core) core.log.taken l stops.since) (running.cut.effects ∙ append-nil (all_calls rans)) stopped.1)))
 
-      session_stopped : (ended : Status) → IsReported ended first.board.plan first.sync.capacities rounds rans stops.since new.log sim'.chip held0 held' → IsSession first.board.plan first.sync.capacities rounds ended new.log sim'.chip held0 held'
+      session_stopped : (ended : Status) → IsReported ended first.board.plan first.sync.capacities rounds rans stops.since new.log sim'.chip stops.come.within.session held0 held' → IsSession first.board.plan first.sync.capacities rounds ended new.log sim'.chip held0 held'
       session_stopped ended reported = session-from rounds ended first new sim'.chip held0 held' rans stops.since stops.come.within same_stopped places_stopped stops.come.faults cut_stopped taken_stopped restarted_stopped running.turned quiet_stopped running.drained reported
 
     pub session-ended : (ended : Status) → ¬ (ended ≡ status.Done) → ¬ (ended ≡ status.ChipFault) → IsRoundRun number round core sim held faults ended new sim' replay' held' faults' → IsSession first.board.plan first.sync.capacities rounds ended new.log sim'.chip held0 held'
@@ -382,11 +386,11 @@ module _ (rounds done : List Round) (first : CoreState) (held0 : Option (List �
           record { text = running.told.text; report = running.told.report; took = subst (λ h. Takes held0 running.told.text h) (sym same) running.told.took },
         )
       where
-        full_here : (stops : StopsQuietly round core sim new sim') → IsFull new.board.plan new.sync.capacities new.limit round new.log sim'.chip stops.0.since → IsFull first.board.plan first.sync.capacities log_limit round new.log sim'.chip stops.0.since
+        full_here : (stops : StopsQuietly round core sim new sim') → IsFull new.board.plan new.sync.capacities new.limit round new.log sim'.chip stops.0.since stops.0.come.within.session → IsFull first.board.plan first.sync.capacities log_limit round new.log sim'.chip stops.0.since stops.0.come.within.session
         full_here stops full =
-            subst (λ n. IsFull first.board.plan first.sync.capacities n round new.log sim'.chip stops.0.since) ((same_stopped stops).limit ∙ running.limit)
-            (subst (λ p. IsFull p first.sync.capacities new.limit round new.log sim'.chip stops.0.since) (same_stopped stops).plan
-            (subst (λ c. IsFull new.board.plan c new.limit round new.log sim'.chip stops.0.since) (same_stopped stops).capacities full))
+            subst (λ n. IsFull first.board.plan first.sync.capacities n round new.log sim'.chip stops.0.since stops.0.come.within.session) ((same_stopped stops).limit ∙ running.limit)
+            (subst (λ p. IsFull p first.sync.capacities new.limit round new.log sim'.chip stops.0.since stops.0.come.within.session) (same_stopped stops).plan
+            (subst (λ c. IsFull new.board.plan c new.limit round new.log sim'.chip stops.0.since stops.0.come.within.session) (same_stopped stops).capacities full))
     session-ended status.OutOfMemory other fault (inl (stops, same)) =
         session_stopped stops status.OutOfMemory (rans, [], sym (append-nil rans), front_before same)
     session-ended status.OutOfMemory other fault (inr (ran, ends, inl same)) =

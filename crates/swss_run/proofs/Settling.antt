@@ -35,7 +35,7 @@ use Rattle.session_laws.specs.Service.Events.{MakesMore}
 use Rattle.session_laws.specs.Service.Standing.{IsApplyingCore, written_of}
 use Rattle.session_laws.proofs.Service.Joining.{one-more}
 use Rattle.session_laws.proofs.Service.Popped.{none-waits, popped-all}
-use Rattle.round_laws.specs.Awaited.{AwaitsCall, HasRecorded}
+use Rattle.round_laws.specs.Awaited.{AwaitsCall}
 use Rattle.round_laws.specs.Named.{keys_named}
 use Rattle.round_laws.proofs.Awaited.{apply-awaited, call-awaited, keys-awaited, ops-few}
 use Rattle.round_laws.proofs.Between.{its-log, its-mark, settled-between}
@@ -66,7 +66,7 @@ use Rattle.swss_run.proofs.Over.{IsOver, drained_by, over-failed, over-settled, 
 -- a round that stopped with a full log
 abbrev pub IsFullStop : Round → CoreState → Sim → CoreState → Sim → Type 0
 IsFullStop round old sim new sim' =
-    (stops : StopsRound round old sim new sim') × IsFull new.board.plan new.sync.capacities new.limit round new.log sim'.chip stops.since × (new.limit < log_size new.log (length sim'.chip.effects) + 2 + length (keys_named new.log.taken))
+    (stops : StopsRound round old sim new sim') × IsFull new.board.plan new.sync.capacities new.limit round new.log sim'.chip stops.since stops.come.within.session × (new.limit < log_size new.log (length sim'.chip.effects) + 2 + length (keys_named new.log.taken))
 
 -- or with this status
 abbrev pub IsStopped : Round → CoreState → Sim → Status → CoreState → Sim → Type 0
@@ -90,8 +90,12 @@ module _ (round : Round) (old : CoreState) (sim : Sim) (since : Ran) (new : Core
 -- ---- on the way back
 
 module _ (round : Round) (old : CoreState) (sim : Sim) (since : Ran) (c : CoreState) (cchip : ChipState) (come : HasCome old sim.chip since c cchip) (all : since.sent ≡ sent_in_round round) (restarted : HasRestarted round old.log.marks since.marks c.warm) (new : CoreState) (sim' : Sim) (still : sim'.chip ≡ cchip) (stays : StaysInService come.within.session c new cchip) where
+  -- the later core stands for the same session
+  stayed : (x : HasCome old sim.chip since new cchip) × (x.within.session ≡ come.within.session)
+  stayed = come-stays old sim.chip since c cchip come new stays
+
   then : HasCome old sim.chip since new sim'.chip
-  then = subst (HasCome old sim.chip since new) (sym still) (come-stays old sim.chip since c cchip come new stays)
+  then = subst (HasCome old sim.chip since new) (sym still) stayed.0
 
   made : AreActsMade round since
   made = acts-made round old sim since new sim' then all c.warm restarted
@@ -100,13 +104,10 @@ module _ (round : Round) (old : CoreState) (sim : Sim) (since : Ran) (c : CoreSt
   same_size = sized c cchip come.within ∙ ap (λ (h : History). log_size h (length cchip.effects)) (sym stays.log)
 
   abbrev FullSo : Type 0
-  FullSo = IsFull new.board.plan new.sync.capacities new.limit round new.log cchip since
+  FullSo = IsFull new.board.plan new.sync.capacities new.limit round new.log cchip since come.within.session
 
   abbrev ManySo : Type 0
   ManySo = new.limit < log_size new.log (length cchip.effects) + 2 + length (keys_named new.log.taken)
-
-  recorded : HasRecorded c.board.plan c.sync.capacities new.log cchip.effects come.within.session
-  recorded = record { came = come.within.came; log_is = come.within.stands.always.log ∙ sym stays.log; effects_are = come.within.stands.always.effects }
 
   -- the same of the later core
   as_new : (P : Ports → List ℕ → Type 0) → P c.board.plan c.sync.capacities → P new.board.plan new.sync.capacities
@@ -153,8 +154,8 @@ module _ (round : Round) (old : CoreState) (sim : Sim) (since : Ran) (c : CoreSt
       pass = subst (λ l. IsPass c.board.plan 4 c.sync.capacities (fresh_view (written_of first) built.keys) built.keys l view) (append-nil built.waits) (built.pass [] view (refl, refl));
     }
 
-    awaits : AwaitsRestore c.board.plan c.sync.capacities new.log cchip.effects built.waits
-    awaits = record { session = come.within.session; recorded = recorded; warm = come.within.stands.always.warm_is ∙ at; view = view; restored = restored; lists = refl }
+    awaits : AwaitsRestore c.board.plan c.sync.capacities come.within.session built.waits
+    awaits = record { warm = come.within.stands.always.warm_is ∙ at; view = view; restored = restored; lists = refl }
 
     at_restore : FullSo × ManySo
     at_restore =
@@ -163,23 +164,21 @@ module _ (round : Round) (old : CoreState) (sim : Sim) (since : Ran) (c : CoreSt
         let lack = full.full.full in
         let few : length built.waits ≤ length (keys_named new.log.taken) = subst (λ (h : History). length built.waits ≤ length (keys_named h.taken)) (sym stays.log) (listed-few first full.full.built built) in
         let short : new.limit < log_size new.log (length cchip.effects) + 1 + length built.waits = omega (arith, lack, size, limit) in
-        (AtRestore built.waits made (as_new (λ p l. AwaitsRestore p l new.log cchip.effects built.waits) awaits) short, omega (arith, short, few))
+        (AtRestore built.waits made (as_new (λ p l. AwaitsRestore p l come.within.session built.waits) awaits) short, omega (arith, short, few))
 
   -- a call of the plan, or its end
   module _ (at : c.warm ≡ warm.Applying) where
     core_applying : IsApplyingCore c come.within.session.service
     core_applying = (come.within.stands.applying at).1
 
-    ends : c.sync.left ≡ [] → AwaitsEnd c.board.plan c.sync.capacities new.log cchip.effects
+    ends : c.sync.left ≡ [] → AwaitsEnd come.within.session
     ends none = record {
-      session = come.within.session;
-      recorded = recorded;
       warm = come.within.stands.always.warm_is ∙ at;
       none = core_applying.underway.left_are ∙ ap (tied_calls come.within.session.service.core.made c.sync.view) none;
     }
 
-    awaits_call : (next : PlanCall) (rest : List PlanCall) → c.sync.left ≡ next ∷ rest → AwaitsCall c.board.plan c.sync.capacities new.log cchip.effects
-    awaits_call next rest left = subst (λ h. AwaitsCall c.board.plan c.sync.capacities h cchip.effects) (sym stays.log) (apply-awaited c cchip come.within at next rest left)
+    awaits_call : (next : PlanCall) (rest : List PlanCall) → c.sync.left ≡ next ∷ rest → AwaitsCall come.within.session
+    awaits_call next rest left = apply-awaited c cchip come.within at next rest left
 
     at_plan : IsFullFor c (length cchip.effects) (places_left c.sync.left) → FullSo × ManySo
     at_plan full = by c.sync.left refl
@@ -187,10 +186,10 @@ module _ (round : Round) (old : CoreState) (sim : Sim) (since : Ran) (c : CoreSt
         by : (left : List PlanCall) → c.sync.left ≡ left → FullSo × ManySo
         by [] none =
             let short = need_few 1 (omega arith) (subst (λ l. IsFullFor c (length cchip.effects) (places_left l)) none full) in
-            (AtApplyEnd made (as_new (λ p l. AwaitsEnd p l new.log cchip.effects) (ends none)) short.0, short.1)
+            (AtApplyEnd made (ends none) short.0, short.1)
         by (next ∷ rest) some =
             let short = need_few 2 (omega arith) (subst (λ l. IsFullFor c (length cchip.effects) (places_left l)) some full) in
-            (AtCall made (as_new (λ p l. AwaitsCall p l new.log cchip.effects) (awaits_call next rest some)) short.0, short.1)
+            (AtCall made (awaits_call next rest some) short.0, short.1)
 
   full_way : (w : Warm) → c.warm ≡ w → IsFullOnWay w come.within.session c cchip → FullSo × ManySo
   full_way warm.Suspect at full = at_fault at full
@@ -199,13 +198,17 @@ module _ (round : Round) (old : CoreState) (sim : Sim) (since : Ran) (c : CoreSt
   full_way warm.Applying at full = at_plan at full
   full_way warm.Reconciled at full = absurd full
 
+  -- the same of the later core and its chip, and of the session that they stand for
+  abbrev IsFullAt : ChipState → Type 0
+  IsFullAt k = (x : HasCome old sim.chip since new k) × IsFull new.board.plan new.sync.capacities new.limit round new.log k since x.within.session × (new.limit < log_size new.log (length k.effects) + 2 + length (keys_named new.log.taken))
+
+  full_at : FullSo × ManySo → IsFullAt sim'.chip
+  full_at x = subst IsFullAt (sym still) (stayed.0, subst (λ s. IsFull new.board.plan new.sync.capacities new.limit round new.log cchip since s) (sym stayed.1) x.0, x.1)
+
   pub full-way : IsFullOnWay c.warm come.within.session c cchip → IsFullStop round old sim new sim'
   full-way full =
-      let x = full_way c.warm refl full in (
-        stops_here round old sim since new sim' then all c.warm restarted,
-        subst (λ k. IsFull new.board.plan new.sync.capacities new.limit round new.log k since) (sym still) x.0,
-        subst (λ k. new.limit < log_size new.log (length k.effects) + 2 + length (keys_named new.log.taken)) (sym still) x.1,
-      )
+      let x = full_at (full_way c.warm refl full) in
+      (stops_here round old sim since new sim' x.0 all c.warm restarted, x.1, x.2)
 
   pub short-way : StopsRound round old sim new sim'
   short-way = stops_here round old sim since new sim' then all c.warm restarted

@@ -126,7 +126,7 @@ IsRoundRun number round old sim held faults status.ChipFault new sim' replay hel
 IsRoundRun number round old sim held faults status.WriteFault new sim' replay held' faults' =
     (ran : Ran) × (lines : List ℕ) × EndsRound round old sim ran new sim' × HasLines number round old sim ran lines × TakesPart held lines held' × HasRisen faults faults'
 IsRoundRun number round old sim held faults status.LogFull new sim' replay held' faults' =
-    (stops : StopsQuietly round old sim new sim') × IsFull new.board.plan new.sync.capacities new.limit round new.log sim'.chip stops.0.since × (new.limit < log_size new.log (length sim'.chip.effects) + 2 + length (keys_named new.log.taken)) × (held' ≡ held)
+    (stops : StopsQuietly round old sim new sim') × IsFull new.board.plan new.sync.capacities new.limit round new.log sim'.chip stops.0.since stops.0.come.within.session × (new.limit < log_size new.log (length sim'.chip.effects) + 2 + length (keys_named new.log.taken)) × (held' ≡ held)
 IsRoundRun number round old sim held faults status.OutOfMemory new sim' replay held' faults' =
     (StopsQuietly round old sim new sim' × (held' ≡ held)) ⊎ ((ran : Ran) × EndsRound round old sim ran new sim' × TakesSome number round old sim ran held held')
 IsRoundRun number round old sim held faults _ new sim' replay held' faults' = ⊥

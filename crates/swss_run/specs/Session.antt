@@ -11,7 +11,8 @@ use Rattle.machine_laws.specs.Bounds.{most_calls}
 use Rattle.machine_laws.specs.Order.{IsOrdered}
 use Rattle.restart_laws.specs.Applied.{AreFollowed}
 use Rattle.restart_laws.specs.Bounded.{effects_outside, listed_at_applies}
-use Rattle.restart_laws.specs.Logged.{last_mark}
+use Rattle.restart_laws.specs.Logged.{LoggedService, last_mark}
+use Rattle.round_laws.specs.Awaited.{HasRecorded}
 use Rattle.round_laws.specs.Named.{keys_named}
 use Rattle.round_laws.specs.Sessions.{BeginNoApply}
 use Rattle.swss_script.specs.declared.parts.Round.{Round}
@@ -52,11 +53,11 @@ pub record TookPart (plan : Ports) (capacities : List ℕ) (rans : List Ran) (ro
   pub report : IsReport plan capacities rans rounds text
   pub took : TakesPart held text held'
 
--- the log is full: an event of the round that did not end needs more places than are left; and so the places, 2 more and one for each key that was written are more than the log has
-pub record HasNoPlace (plan : Ports) (capacities : List ℕ) (rounds : List Round) (rans : List Ran) (since : Ran) (log : History) (chip : ChipState) : Type 0 where
+-- the log of the run is full: an event of the round that did not end needs more places than are left; and so the places, 2 more and one for each key that was written are more than the log has
+pub record HasNoPlace (plan : Ports) (capacities : List ℕ) (rounds : List Round) (rans : List Ran) (since : Ran) (log : History) (chip : ChipState) (run : LoggedService) : Type 0 where
   pub round : Round
   pub next : slice_get rounds (length rans) ≡ Some round
-  pub full : IsFull plan capacities log_limit round log chip since
+  pub full : IsFull plan capacities log_limit round log chip since run
   pub many : log_limit < log_size log (length chip.effects) + 2 + length (keys_named log.taken)
 
 -- the last round ended at its mark; where the chip failed, the call at which it did found its places, for its effect, if it may have one, and for the mark
@@ -65,21 +66,23 @@ pub record HasEnded (since : Ran) (log : History) (chip : ChipState) : Type 0 wh
   pub fault_places : is_suspect log.marks ≡ true → log_size log chip.before_fault + places_beside log.marks ≤ log_limit
 
 -- what the status says of the rounds that ended, of the places that were left in the log, and of what the sink took: the whole report where all rounds ended, the last with or without a fault of the chip, and where the log is full; a front of it, and not all, where the sink failed; a front of that of some of the rounds where memory was refused
-abbrev pub IsReported : Status → Ports → List ℕ → List Round → List Ran → Ran → History → ChipState → Option (List ℕ) → Option (List ℕ) → Type 0
-IsReported status.Done plan capacities rounds rans since log chip held held' =
+abbrev pub IsReported : Status → Ports → List ℕ → List Round → List Ran → Ran → History → ChipState → LoggedService → Option (List ℕ) → Option (List ℕ) → Type 0
+IsReported status.Done plan capacities rounds rans since log chip run held held' =
     HasEnded since log chip × (length rans ≡ length rounds) × (is_suspect log.marks ≡ false) × TookReport plan capacities rans rounds held held'
-IsReported status.ChipFault plan capacities rounds rans since log chip held held' =
+IsReported status.ChipFault plan capacities rounds rans since log chip run held held' =
     HasEnded since log chip × (length rans ≡ length rounds) × (is_suspect log.marks ≡ true) × (0 < chip.faults) × TookReport plan capacities rans rounds held held'
-IsReported status.WriteFault plan capacities rounds rans since log chip held held' =
+IsReported status.WriteFault plan capacities rounds rans since log chip run held held' =
     HasEnded since log chip × TookPart plan capacities rans rounds held held'
-IsReported status.LogFull plan capacities rounds rans since log chip held held' =
-    HasNoPlace plan capacities rounds rans since log chip × TookReport plan capacities rans rounds held held'
-IsReported status.OutOfMemory plan capacities rounds rans since log chip held held' =
+IsReported status.LogFull plan capacities rounds rans since log chip run held held' =
+    HasNoPlace plan capacities rounds rans since log chip run × TookReport plan capacities rans rounds held held'
+IsReported status.OutOfMemory plan capacities rounds rans since log chip run held held' =
     (told : List Ran) × (untold : List Ran) × (rans ≡ told ++ untold) × TookFront plan capacities told rounds held held'
-IsReported _ plan capacities rounds rans since log chip held held' = ⊥
+IsReported _ plan capacities rounds rans since log chip run held held' = ⊥
 
--- a session over rounds. Of all that was made: every chip call was legal; outside applies at most so many took effect as an operation makes for each write taken and each key listed where an apply began, and where none began, for each write; every mark is true, counts no fewer writes and calls than the mark before it and no more than there are, and stands where it may; each event found its places in the log; of each apply, what holds while it is made, and of applies that are broken off one after the other, what holds over them all; and each fault of the chip has its mark. Of the rounds: the writes taken are theirs in order and each once, the ends of rounds rise, they restarted as often as their sections say, or once more behind a fault; the calls of each round that neither follows a fault nor has one, and did not restart, are those of its turns, which leave quiet rows alone and drain where there is room, and so does each that restarted; and the calls of one that did not end leave quiet rows alone too. And the sink took what the status says of the report
+-- a session over rounds: the log and the effects are the record of one run of the service's machine, by at most four workers, from its beginning over an empty chip. Of all that was made: every chip call was legal; outside applies at most so many took effect as an operation makes for each write taken and each key listed where an apply began, and where none began, for each write; every mark is true, counts no fewer writes and calls than the mark before it and no more than there are, and stands where it may; each event found its places in the log; of each apply, what holds while it is made, and of applies that are broken off one after the other, what holds over them all; and each fault of the chip has its mark. Of the rounds: the writes taken are theirs in order and each once, the ends of rounds rise, they restarted as often as their sections say, or once more behind a fault; the calls of each round that neither follows a fault nor has one, and did not restart, are those of its turns, which leave quiet rows alone and drain where there is room, and so does each that restarted; and the calls of one that did not end leave quiet rows alone too. And the sink took what the status says of the report
 pub record IsSession (plan : Ports) (capacities : List ℕ) (rounds : List Round) (ended : Status) (log : History) (chip : ChipState) (held held' : Option (List ℕ)) : Type 0 where
+  pub run : LoggedService
+  pub recorded : HasRecorded plan capacities log chip.effects run
   pub room : chip.capacities ≡ capacities
   pub clean : chip.clean ≡ true
   pub legality : EffectsAreLegal plan capacities log.taken chip.effects
@@ -101,7 +104,7 @@ pub record IsSession (plan : Ports) (capacities : List ℕ) (rounds : List Round
   pub turned : AreTurned plan capacities None [] [] rans
   pub quiet : IsSinceQuiet plan (last_mark None (all_marks rans)) (all_sent rans) (all_calls rans) since
   pub drained : AreDrained plan capacities [] rans
-  pub reported : IsReported ended plan capacities rounds rans since log chip held held'
+  pub reported : IsReported ended plan capacities rounds rans since log chip run held held'
 
 -- a session of a script: its chip has the script's failing calls, and failed at no more calls than these are
 pub record IsScriptRun (script : Script) (ended : Status) (log : History) (chip : ChipState) (held held' : Option (List ℕ)) : Type 0 where

@@ -1,5 +1,8 @@
-use Rattle.round_laws.proofs.Awaited.{apply-awaited, awaited-legal, awaited-true, call-awaited, keys-awaited, mark-awaited}
+use Rattle.round_laws.proofs.Awaited.{apply-awaited, awaited-legal, awaited-true, call-awaited, keys-awaited, mark-awaited, session-recorded}
 use Rattle.round_laws.proofs.laws.what_is_due_is_awaited.Goals as goal
+
+pub returns-clause-recorded : goal.returns-clause-recorded
+returns-clause-recorded c = session-recorded
 
 pub returns-clause-call : goal.returns-clause-call
 returns-clause-call c = λ core chip w x at below some. call-awaited core chip x at w below some
