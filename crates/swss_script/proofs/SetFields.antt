@@ -6,7 +6,7 @@ use Rattle.std.specs.declared.cmp.Ordering.TheVariants.{Less, Equal, Greater}
 use Rattle.table_schema.specs.Fields.{Pairs, by_bytes, merged, with_pair}
 use Rattle.table_schema.proofs.ProperKeys.{IsReadKey-key_of}
 use Rattle.swss_script.specs.Fields.{set_fields}
-use Rattle.swss_script.specs.Given.{HasField, HasReadKey}
+use Rattle.table_schema.specs.Writes.{HasField, HasReadKey}
 use Rattle.swss_script.specs.Script.{script_of}
 use Rattle.swss_script.specs.Sections.{script_writes}
 use Rattle.swss_script.specs.declared.script.Script.{Script}

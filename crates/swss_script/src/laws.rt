@@ -2,7 +2,7 @@
 ghost use Rattle.std.specs.Prelude.{◌≡◌, ◌<◌, ◌≤◌, ℕ, List, Ok, Some, false, length, slice_get, true};
 ghost use Rattle.std.specs.List.{AllByRecursion, list_all};
 ghost use Rattle.table_schema.specs.SentBy.{sent_of};
-ghost use Rattle.swss_script.specs.Given.{HasField, HasReadKey};
+ghost use Rattle.table_schema.specs.Writes.{HasField, HasReadKey};
 ghost use Rattle.swss_script.specs.Lines.{lines_in};
 ghost use Rattle.swss_script.specs.Plain.{has_batch};
 ghost use Rattle.swss_script.specs.Script.{script_of};

@@ -15,3 +15,4 @@ pub mod Rows
 pub mod Rules
 pub mod SentBy
 pub mod Split
+pub mod Writes

@@ -1,4 +1,4 @@
--- What a write that the reader gives has. Own.
+-- What a write that was read has. Own.
 use Rattle.std.specs.Prelude.{◌<◌, length}
 use Rattle.table_schema.specs.ProperKey.{IsReadKey}
 use Rattle.table_schema.specs.declared.write.Write.{Write}
