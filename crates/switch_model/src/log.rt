@@ -44,6 +44,17 @@ impl Log {
         }
     }
 
+    /// The same log once more, on its allocator. What its writes set and what its marks list is shared.
+    pub fn copy(&self) -> Result<Log, OutOfMemory>
+        ensures { IfOk result (λ log. log ≡ self.now) }
+    {
+        Ok(Log {
+            taken: copy_writes(&self.taken)?,
+            marks: copy_marks(&self.marks)?,
+            ends: self.ends.clone()?,
+        })
+    }
+
     /// The writes taken, in order.
     pub fn taken(&self) -> &[Sent]
         ensures { result.now ≡ self.now.taken }
@@ -120,4 +131,26 @@ impl Log {
         }
         Ok(PlacedLog { taken, marks, ends })
     }
+}
+
+/// Copies of these writes, in order.
+fn copy_writes(writes: &Vec<Sent>) -> Result<Vec<Sent>, OutOfMemory>
+    ensures { IfOk result (λ copies. copies.items ≡ writes.now.items) }
+{
+    let mut copies = Vec::with_capacity(*writes.allocator(), writes.len())?;
+    for sent in writes.as_slice() {
+        copies.push(sent.copy()?)?;
+    }
+    Ok(copies)
+}
+
+/// Copies of these marks, in order.
+fn copy_marks(marks: &Vec<Mark>) -> Result<Vec<Mark>, OutOfMemory>
+    ensures { IfOk result (λ copies. copies.items ≡ marks.now.items) }
+{
+    let mut copies = Vec::with_capacity(*marks.allocator(), marks.len())?;
+    for mark in marks.as_slice() {
+        copies.push(mark.copy()?)?;
+    }
+    Ok(copies)
 }

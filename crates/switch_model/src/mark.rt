@@ -1,6 +1,9 @@
 // Marks of the log.
+ghost use Rattle.std.specs.Prelude.{◌≡◌, IfOk};
+
 use crate::Waits;
 use sai_types::Mode;
+use swss_types::OutOfMemory;
 
 /// What a mark records.
 #[derive(Debug, Drop)]
@@ -41,4 +44,41 @@ pub struct Mark {
     pub effects: u64,
     /// What happened.
     pub event: MarkEvent,
+}
+
+impl MarkEvent {
+    /// The same event once more. What it lists is shared.
+    pub fn copy(&self) -> Result<MarkEvent, OutOfMemory>
+        ensures { IfOk result (λ event. event ≡ self.now) }
+    {
+        match self {
+            MarkEvent::Settled { waits, turns } => Ok(MarkEvent::Settled {
+                waits: waits.share()?,
+                turns: *turns,
+            }),
+            MarkEvent::Faulted { before, after } => Ok(MarkEvent::Faulted {
+                before: *before,
+                after: *after,
+            }),
+            MarkEvent::Restarted => Ok(MarkEvent::Restarted),
+            MarkEvent::ApplyBegan { mode, waits } => Ok(MarkEvent::ApplyBegan {
+                mode: *mode,
+                waits: waits.share()?,
+            }),
+            MarkEvent::ApplyEnded => Ok(MarkEvent::ApplyEnded),
+        }
+    }
+}
+
+impl Mark {
+    /// The same mark once more. What it lists is shared.
+    pub fn copy(&self) -> Result<Mark, OutOfMemory>
+        ensures { IfOk result (λ mark. mark ≡ self.now) }
+    {
+        Ok(Mark {
+            taken: self.taken,
+            effects: self.effects,
+            event: self.event.copy()?,
+        })
+    }
 }

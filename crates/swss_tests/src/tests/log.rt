@@ -108,17 +108,23 @@ fn enter_in_places(rt: &impl Abort, log: Log) -> Log {
     with_place(rt, log).mark_end(mark(7, MarkEvent::Faulted { before, after }))
 }
 
+/// Looks at the log that was entered.
+fn look_at_log(rt: &impl Abort, log: &Log) {
+    let numbers = log.taken().iter().map(|sent| sent.number);
+    assert!(rt; numbers.eq([10, 20]), "the writes taken");
+    let effects = log.marks().iter().map(|mark| mark.effects);
+    assert!(rt; effects.eq([4, 4, 4, 6, 7]), "the marks");
+    assert!(rt; log.ends() == [1, 5].as_slice(), "the ends");
+}
+
 #[test]
 fn a_log_has_its_writes_marks_and_ends(rt: HostRuntime) {
     let mut log = Log::new(rt.alloc());
     assert!(rt; log.taken().is_empty() && log.marks().is_empty() && log.ends().is_empty());
     enter(&rt, rt.alloc(), &mut log);
     let log = enter_in_places(&rt, log);
-    let numbers = log.taken().iter().map(|sent| sent.number);
-    assert!(rt; numbers.eq([10, 20]), "the writes taken");
-    let effects = log.marks().iter().map(|mark| mark.effects);
-    assert!(rt; effects.eq([4, 4, 4, 6, 7]), "the marks");
-    assert!(rt; log.ends() == [1, 5].as_slice(), "the ends");
+    look_at_log(&rt, &log);
+    look_at_log(&rt, &log.copy().expect(&rt, "memory"));
 }
 
 /// Four keys, why they wait, and the rows that are applied for them.
