@@ -1,4 +1,4 @@
--- a whole settling is a list of logged events, and its effects are those of as many turns as its mark counts
+-- a whole settling is a list of logged events, and its effects are those of as many turns as its mark counts; so it is so far, up to where it is cut off
 use Rattle.std.proofs.Common.{◌≡◌, ◌⊎◌, ◌∷◌, ◌++◌, ◌∙◌, inl, inr, ℕ, List, [], Option, None, Some, refl, sym, ap, subst}
 use Rattle.std.proofs.lemmas.List.{append-nil, append_assoc}
 use Rattle.table_schema.specs.Plan.{IsPlan, Ports}
@@ -6,18 +6,19 @@ use Rattle.table_schema.specs.declared.key.Key.{Key}
 use Rattle.sai_types.specs.declared.ids.Rid.{Rid}
 use Rattle.sai_types.specs.declared.body.Call.{Call}
 use Rattle.sai_types.specs.Alike.{IsIn}
-use Rattle.switch_machine.specs.Events.{AreEvents, IsQuiet, IsSafe, Popped, PopsKey, Stays, SwitchState, after_events, calls_of, with_made_call}
+use Rattle.switch_machine.specs.Events.{AreEvents, IsDueCall, IsQuiet, IsSafe, Popped, PopsKey, Stays, SwitchState, after_events, calls_of, with_made_call}
 use Rattle.switch_machine.specs.Flights.{MachineFlight}
-use Rattle.switch_machine.specs.Written.{HasNoWrite, IsAsBefore, IsPoppedKey, IsTold, good_of}
+use Rattle.switch_machine.specs.Written.{HasNoWrite, IsAsBefore, IsPopped, IsPoppedKey, IsTold, good_of}
 use Rattle.switch_machine.proofs.Runs.{kept-run}
 use Rattle.switch_machine.proofs.Telling.{told-popped}
 use Rattle.switch_model.specs.Good.{good_row, good_rows}
 use Rattle.table_schema.specs.Rows.{fields_at, rows_of}
-use Rattle.machine_laws.specs.Calls.{AreTurnsWith, Situation}
-use Rattle.machine_laws.specs.Logged.{AreLoggedEvents, ArePops, IsWholeSettling, LoggedSwitch, LogsMark, after_logged, after_pops}
+use Rattle.machine_laws.specs.Calls.{AreTurnsWith, AreTurnsWithSoFar, Situation}
+use Rattle.machine_laws.specs.Logged.{AreLoggedEvents, ArePops, InPops, InTurns, IsInPops, IsInTurns, IsSettlingSoFar, IsWholeSettling, LoggedSwitch, LogsMark, after_logged, after_pops}
 use Rattle.machine_laws.specs.Settling.{IsSituationOf, situation}
-use Rattle.machine_laws.proofs.Settling.{Comes, settles}
-use Rattle.machine_laws.proofs.Turning.{Leads, TakeNothing, both, turns-lead}
+use Rattle.machine_laws.proofs.Alone.{AreTried}
+use Rattle.machine_laws.proofs.Settling.{Comes, settles, settles-so-far}
+use Rattle.machine_laws.proofs.Turning.{Leads, TakeNothing, both, turns-cut, turns-lead, turns-so-far-lead}
 use Rattle.machine_laws.proofs.Waiting.{sync-left}
 
 module _ (plan : Ports) (workers : ℕ) (capacities : List ℕ) where
@@ -44,6 +45,18 @@ module _ (plan : Ports) (workers : ℕ) (capacities : List ℕ) where
     where
       next : LoggedSwitch
       next = record { switch = e.1; log = s.log; effects = s.effects ++ with_made_call e.0 [] }
+
+  leads_logged : (s t : LoggedSwitch) (calls : List (Call Rid)) → Leads plan workers capacities s.switch t.switch calls → t.effects ≡ s.effects ++ calls → t.log ≡ s.log → (ts : List LoggedSwitch) × AreLoggedEvents plan workers capacities s ts × (after_logged s ts ≡ t)
+  leads_logged s t calls x effects log =
+      let y = logged s x.events x.are x.takeless in (
+        y.events,
+        y.are,
+        y.last
+            ∙ ap (λ z. record { switch = z; log = s.log; effects = s.effects ++ calls_of x.events }) x.last
+            ∙ ap (λ z. record { switch = t.switch; log = s.log; effects = s.effects ++ z }) x.calls_are
+            ∙ ap (λ z. record { switch = t.switch; log = s.log; effects = z }) (sym effects)
+            ∙ ap (λ z. record { switch = t.switch; log = z; effects = t.effects }) (sym log),
+      )
 
   more_logged : (s : LoggedSwitch) (ts us : List LoggedSwitch) → AreLoggedEvents plan workers capacities s ts → AreLoggedEvents plan workers capacities (after_logged s ts) us → AreLoggedEvents plan workers capacities s (ts ++ us) × (after_logged s (ts ++ us) ≡ after_logged (after_logged s ts) us)
   more_logged s [] us run more = (more, refl)
@@ -87,12 +100,15 @@ module _ (plan : Ports) (workers : ℕ) (capacities : List ℕ) where
       )
 
   -- the keys that a settling tries are those that were to sync, and those of which a write waited
-  pub settling-keys : (s t : LoggedSwitch) (x : IsWholeSettling plan workers capacities s t) (k : Key) → (IsIn k s.switch.to_sync → IsIn k x.keys) × ((HasNoWrite s.switch.written k → ⊥) → IsIn k x.keys) × (IsIn k x.keys → HasNoWrite s.switch.written k → IsIn k s.switch.to_sync)
-  settling-keys s t x k = (
-    (λ h. x.all k (pops_keep s.switch x.pops k x.are_pops h)),
-    (λ had. x.all k (pops_bring s.switch x.pops k x.are_pops (x.popped k) had)),
-    λ h none. pops_only s.switch x.pops k x.are_pops none (x.only k h),
+  pub pops-keys : (s : SwitchState) (pops : List SwitchState) → ArePops s pops → IsPopped (after_pops s pops).written → (keys : List Key) → ((q : Key) → IsIn q (after_pops s pops).to_sync → IsIn q keys) → ((q : Key) → IsIn q keys → IsIn q (after_pops s pops).to_sync) → (k : Key) → (IsIn k s.to_sync → IsIn k keys) × ((HasNoWrite s.written k → ⊥) → IsIn k keys) × (IsIn k keys → HasNoWrite s.written k → IsIn k s.to_sync)
+  pops-keys s pops are popped keys all only k = (
+    (λ h. all k (pops_keep s pops k are h)),
+    (λ had. all k (pops_bring s pops k are (popped k) had)),
+    λ h none. pops_only s pops k are none (only k h),
   )
+
+  pub settling-keys : (s t : LoggedSwitch) (x : IsWholeSettling plan workers capacities s t) (k : Key) → (IsIn k s.switch.to_sync → IsIn k x.keys) × ((HasNoWrite s.switch.written k → ⊥) → IsIn k x.keys) × (IsIn k x.keys → HasNoWrite s.switch.written k → IsIn k s.switch.to_sync)
+  settling-keys s t x k = pops-keys s.switch x.pops x.are_pops x.popped x.keys x.all x.only k
 
   pops_told : (s : SwitchState) (ts : List SwitchState) → ArePops s ts → IsTold s.written → IsTold (after_pops s ts).written × ((after_pops s ts).written.taken ≡ s.written.taken)
   pops_told s [] run told = (told, refl)
@@ -105,10 +121,20 @@ module _ (plan : Ports) (workers : ℕ) (capacities : List ℕ) where
       by k (Popped some popped there) = inr popped
 
   -- the good rows of its turns are those of all the writes taken
+  pub pops-good : (s : SwitchState) (pops : List SwitchState) → ArePops s pops → IsPopped (after_pops s pops).written → IsSafe plan workers capacities s → (k : Key) → good_of plan (after_pops s pops).written k ≡ good_rows plan (rows_of s.written.taken) k
+  pops-good s pops are popped kept k =
+      let y = pops_told s pops are kept.told in
+      ap (good_row plan k) (sym (popped k ((after_pops s pops).written.rows k)) ∙ sym (y.0 k) ∙ ap (λ z. fields_at (rows_of z) k) y.1)
+
   pub settling-good : (s t : LoggedSwitch) (x : IsWholeSettling plan workers capacities s t) → IsSafe plan workers capacities s.switch → (k : Key) → good_of plan (after_pops s.switch x.pops).written k ≡ good_rows plan (rows_of s.switch.written.taken) k
-  settling-good s t x kept k =
-      let y = pops_told s.switch x.pops x.are_pops kept.told in
-      ap (good_row plan k) (sym (x.popped k ((after_pops s.switch x.pops).written.rows k)) ∙ sym (y.0 k) ∙ ap (λ z. fields_at (rows_of z) k) y.1)
+  settling-good s t x kept k = pops-good s.switch x.pops x.are_pops x.popped kept k
+
+  leads_safe : IsPlan plan → (s t : SwitchState) (calls : List (Call Rid)) → IsSafe plan workers capacities s → Leads plan workers capacities s t calls → IsSafe plan workers capacities t
+  leads_safe is s t calls kept x = subst (IsSafe plan workers capacities) x.last (kept-run plan is workers capacities s x.events kept x.are)
+
+  -- up to its mark
+  abbrev pub unmarked : LoggedSwitch → LoggedSwitch → LoggedSwitch
+  unmarked s t = record { switch = t.switch; log = s.log; effects = t.effects }
 
   module _ (is : IsPlan plan) (s t : LoggedSwitch) (x : IsWholeSettling plan workers capacities s t) (kept : IsSafe plan workers capacities s.switch) (quiet : IsQuiet s.switch) where
     popped : SwitchState
@@ -119,7 +145,7 @@ module _ (plan : Ports) (workers : ℕ) (capacities : List ℕ) where
     lead = pops_lead s.switch x.pops x.are_pops
 
     popped_safe : IsSafe plan workers capacities popped
-    popped_safe = subst (IsSafe plan workers capacities) lead.last (kept-run plan is workers capacities s.switch lead.events kept lead.are)
+    popped_safe = leads_safe is s.switch popped [] kept lead
 
     popped_quiet : IsQuiet popped
     unfolding popped
@@ -139,12 +165,11 @@ module _ (plan : Ports) (workers : ℕ) (capacities : List ℕ) where
     unfolding popped
     settling-logged =
         let all = both plan workers capacities s.switch popped t.switch [] x.calls x.calls refl lead (turns-lead plan workers capacities x.turns popped t.switch x.keys x.left x.calls x.turns_are) in
-        let y = logged s all.events all.are all.takeless in
-        let at : after_logged s y.events ≡ record { switch = t.switch; log = s.log; effects = t.effects } = y.last ∙ ap (λ z. record { switch = z; log = s.log; effects = s.effects ++ calls_of all.events }) all.last ∙ ap (λ z. record { switch = t.switch; log = s.log; effects = s.effects ++ z }) all.calls_are ∙ ap (λ z. record { switch = t.switch; log = s.log; effects = z }) (sym x.effects) in
-        let more = more_logged s y.events (t ∷ []) y.are (subst (λ v. AreLoggedEvents plan workers capacities v (t ∷ [])) (sym at) (inr (inr marked), tt)) in
-        (y.events ++ t ∷ [], more.0, more.1)
+        let y = leads_logged s (unmarked s t) x.calls all x.effects refl in
+        let more = more_logged s y.0 (t ∷ []) y.1 (subst (λ v. AreLoggedEvents plan workers capacities v (t ∷ [])) (sym y.2) (inr (inr marked), tt)) in
+        (y.0 ++ t ∷ [], more.0, more.1)
       where
-        marked : LogsMark plan workers capacities (record { switch = t.switch; log = s.log; effects = t.effects }) t
+        marked : LogsMark plan workers capacities (unmarked s t) t
         marked = record {
           quiet = comes.rest.quiet;
           popped = subst (λ v. (k : Key) → HasNoWrite v k) (sym comes.rest.same) x.popped;
@@ -157,3 +182,38 @@ module _ (plan : Ports) (workers : ℕ) (capacities : List ℕ) where
           log = x.log;
           effects = refl;
         }
+
+  -- ---- so far
+
+  -- a whole settling is one so far, up to its mark
+  pub settling-cut : (s t : LoggedSwitch) (x : IsWholeSettling plan workers capacities s t) → (y : IsInTurns plan workers capacities s (unmarked s t)) × (y.pops ≡ x.pops) × (y.keys ≡ x.keys) × (y.calls ≡ x.calls)
+  settling-cut s t x =
+      let y = turns-cut plan workers capacities x.turns (after_pops s.switch x.pops) t.switch x.keys x.left x.calls x.turns_are in
+      (record { pops = x.pops; are_pops = x.are_pops; popped = x.popped; keys = x.keys; order = x.order; all = x.all; only = x.only; turns = y.0; calls = x.calls; turns_are = y.2; effects = x.effects; log = refl }, refl, refl, refl)
+
+  -- so far it is a list of events, which are logged, and keep it safe
+  pub so-far-leads : (s t : LoggedSwitch) → IsSettlingSoFar plan workers capacities s t → (calls : List (Call Rid)) × Leads plan workers capacities s.switch t.switch calls × (t.effects ≡ s.effects ++ calls) × (t.log ≡ s.log)
+  so-far-leads s t (InPops x) = ([], subst (λ v. Leads plan workers capacities s.switch v []) (sym x.switch) (pops_lead s.switch x.pops x.are_pops), x.effects ∙ sym (append-nil s.effects), x.log)
+  so-far-leads s t (InTurns x) =
+      let popped = after_pops s.switch x.pops in
+      (x.calls, both plan workers capacities s.switch popped t.switch [] x.calls x.calls refl (pops_lead s.switch x.pops x.are_pops) (turns-so-far-lead plan workers capacities x.turns popped t.switch x.keys x.calls x.turns_are), x.effects, x.log)
+
+  pub so-far-logged : (s t : LoggedSwitch) → IsSettlingSoFar plan workers capacities s t → (ts : List LoggedSwitch) × AreLoggedEvents plan workers capacities s ts × (after_logged s ts ≡ t)
+  so-far-logged s t x = let y = so-far-leads s t x in leads_logged s t y.0 y.1 y.2 y.3
+
+  pub so-far-safe : IsPlan plan → (s t : LoggedSwitch) → IsSettlingSoFar plan workers capacities s t → IsSafe plan workers capacities s.switch → IsSafe plan workers capacities t.switch
+  so-far-safe is s t x kept = let y = so-far-leads s t x in leads_safe is s.switch t.switch y.0 kept y.1
+
+  -- while keys are popped no call is due
+  pub so-far-pops : (s t : LoggedSwitch) → IsInPops s t → IsQuiet s.switch → IsQuiet t.switch × ((call : Call Rid) → IsDueCall workers call t.switch → ⊥)
+  so-far-pops s t x quiet =
+      let still = subst IsQuiet (sym x.switch) ((pops_machine s.switch x.pops x.are_pops).1 quiet) in
+      (still, λ call y. still y.worker y.flight y.flying)
+
+  -- its calls, and one that is due, are those of turns over the rows that were applied when it began, cut off
+  pub so-far-calls : IsPlan plan → (s t : LoggedSwitch) (x : IsInTurns plan workers capacities s t) (tried : List (Call Rid)) → IsSafe plan workers capacities s.switch → IsQuiet s.switch → AreTried workers t.switch tried → AreTurnsWithSoFar plan capacities (good_of plan (after_pops s.switch x.pops).written) x.turns (situation s.switch) x.keys (x.calls ++ tried)
+  so-far-calls is s t x tried kept quiet are =
+      let popped = after_pops s.switch x.pops in
+      let m = pops_machine s.switch x.pops x.are_pops in
+      let safe = leads_safe is s.switch popped [] kept (pops_lead s.switch x.pops x.are_pops) in
+      subst (λ v. AreTurnsWithSoFar plan capacities (good_of plan popped.written) x.turns v x.keys (x.calls ++ tried)) m.0 (settles-so-far plan is workers capacities x.turns popped t.switch x.keys x.calls tried safe (m.1 quiet) x.turns_are are)

@@ -1,11 +1,13 @@
--- a settling of the machine, by operations run alone: its rows and its calls are those of turns over rows
-use Rattle.std.proofs.Common.{◌≡◌, ◌⊎◌, ◌+◌, ◌≤◌, ◌∷◌, ◌∙◌, inl, inr, ℕ, zero, suc, Bool, List, [], Option, None, Some, is_some, refl, sym, ap, subst, arith}
+-- a settling of the machine, by operations run alone: its rows and its calls are those of turns over rows; cut off, those of turns that are cut off
+use Rattle.std.proofs.Common.{◌≡◌, ◌⊎◌, ◌+◌, ◌≤◌, ◌∷◌, ◌++◌, ◌∙◌, inl, inr, ℕ, zero, suc, Bool, List, [], Option, None, Some, is_some, refl, sym, ap, subst, arith}
+use Rattle.std.proofs.lemmas.List.{append_assoc}
 use Rattle.table_schema.specs.Names.{names_of}
 use Rattle.table_schema.specs.Plan.{Ports, IsPlan}
 use Rattle.table_schema.specs.declared.key.Key.{Key}
 use Rattle.table_schema.specs.declared.row.Row.{Row}
 use Rattle.sai_types.specs.declared.ids.Rid.{Rid}
 use Rattle.sai_types.specs.declared.body.Call.{Call}
+use Rattle.sai_types.specs.declared.thing.Thing.{Thing}
 use Rattle.sai_types.specs.Made.{made_after_all}
 use Rattle.sai_types.specs.Objects.{used as on_chip}
 use Rattle.sai_types.specs.Refusal.{capacity_of}
@@ -20,18 +22,19 @@ use Rattle.row_layout.proofs.Changing.{changes-same}
 use Rattle.switch_machine.specs.Events.{AreAnswers, SwitchState, IsSafe, IsQuiet, after_answers, changes_made}
 use Rattle.switch_machine.specs.Flights.{MachineFlight, Machine}
 use Rattle.switch_machine.specs.Places.{makes}
+use Rattle.switch_machine.specs.Reasons.{IsReason}
 use Rattle.switch_machine.specs.Steps.{started, with_row}
 use Rattle.switch_machine.specs.Written.{Written, good_of}
 use Rattle.switch_machine.proofs.Kept.{kept-answers}
 use Rattle.switch_machine.proofs.Overflowing.{no-overflow}
 use Rattle.switch_machine.proofs.Reasoned.{reason-true}
 use Rattle.switch_machine.proofs.Runs.{kept-run}
-use Rattle.switch_machine.proofs.Sequence.{sequence}
+use Rattle.switch_machine.proofs.Sequence.{sequence, sequence-so-far}
 use Rattle.switch_machine.proofs.Solo.{solo-key}
 use Rattle.switch_machine.proofs.Splits.{IsSplit, key_split, row_at, row_off}
-use Rattle.machine_laws.specs.Calls.{AreCallsOf, AreChangesOf, AreTurnsWith, CompletesWith, IsTurnWith, Situation}
-use Rattle.machine_laws.specs.Settling.{AreMachineTurns, DropsKey, IsMachineTurn, IsSituationOf, RunsAlone, situation}
-use Rattle.machine_laws.proofs.Alone.{calls-made, calls_in, follows-stands}
+use Rattle.machine_laws.specs.Calls.{AreCallsOf, AreChangesOf, AreFirstCallsOf, AreTurnsWith, AreTurnsWithSoFar, BeginsWith, CompletesWith, IsTurnWith, IsTurnWithSoFar, Situation}
+use Rattle.machine_laws.specs.Settling.{AreMachineTurns, AreMachineTurnsSoFar, DropsKey, IsMachineTurn, IsMachineTurnSoFar, IsSituationOf, RunsAlone, RunsSoFar, situation}
+use Rattle.machine_laws.proofs.Alone.{AreTried, DueCall, NoCall, alone-so-far, calls-made, calls_in, first-calls, follows-stands}
 use Rattle.machine_laws.proofs.Dropping.{same-no_reason}
 use Rattle.machine_laws.proofs.Rows.{AreSameRows, no_some, none_missing, reason-same}
 use Rattle.machine_laws.proofs.Sharing.{others-use, used-by}
@@ -76,40 +79,79 @@ module _ (plan : Ports) (is : IsPlan plan) (workers : ℕ) (capacities : List �
       same = x.drop.written;
     }
 
-    -- ---- an operation that runs alone
+    -- ---- an operation that runs alone, so far
 
-    module _ (x : RunsAlone plan workers capacities k s t calls) where
+    module _ (x : RunsSoFar plan workers capacities k s t calls) where
       abbrev f : MachineFlight
       f = x.starting.flight
+
+      abbrev used : Owner → Bool
+      used = used-by plan workers capacities s kept f.key
 
       first_safe : IsSafe plan workers capacities x.first
       first_safe = kept-run plan is workers capacities s ((None, x.first) ∷ []) kept (inr (inr (inr x.starting)), tt)
 
+      begun_changes : (changes : List Change) → changes ≡ changes_of plan f.key (s.machine.board.applied f.key) f.new used → AreChangesOf plan s.machine.board.applied k (good k) changes
+      begun_changes changes e = subst (λ q. AreChangesOf plan s.machine.board.applied q (good q) changes) x.is (record {
+        used = used;
+        by_others = others-use plan workers capacities s kept f.key;
+        is = e ∙ ap (λ z. changes_of plan f.key (s.machine.board.applied f.key) z used) x.starting.new;
+      })
+
+      -- what stands when it has begun stood before
+      from_first : (P : List (Rid × Thing) → ℕ → Type 0) (z : Situation) → IsSituationOf z s → P x.first.machine.stands x.first.made → P z.stands z.made
+      from_first P z agrees h = subst (P z.stands) (x.starting.made ∙ sym agrees.made) (subst (λ v. P v x.first.made) (follows-stands plan x.starting.worker (started s.machine x.starting.worker f x.starting.due) x.first.machine x.starting.follows ∙ sym agrees.stands) h)
+
+      -- its calls, and one that is due, are the first of its key's changes
+      begun : (z : Situation) → IsSituationOf z s → (more : List (Call Rid)) → AreTried workers t more → BeginsWith plan good k z (calls ++ more)
+      begun z agrees more tried =
+          let y = sequence-so-far plan workers capacities s x.first x.starting x.answers x.are used quiet (others-use plan workers capacities s kept f.key) in
+          let changes = changes_made plan workers x.first x.answers x.are ++ y.0 in
+          let first = first-calls plan workers x.first x.answers x.are y.0 more (subst (λ v. AreTried workers v more) x.last tried) y.2 in
+          record {
+            changes = changes;
+            are = changes_over plan s.machine.board.applied z.applied k (good k) changes (λ q. sym (agrees.rows q)) (begun_changes changes y.1);
+            calls_are = subst (λ v. AreFirstCallsOf z.stands z.made changes (v ++ more)) (sym x.calls_are) (from_first (λ stands made. AreFirstCallsOf stands made changes (calls_in x.answers ++ more)) z agrees first);
+          }
+
+      -- of its key no reason was true
+      begun-no_reason : (w : Wait) → IsTrueReason plan capacities good s.machine.board.applied f.key w → ⊥
+      begun-no_reason (wait.Missing p) (r, at, h) = no_some (first_missing s.machine.board.applied (names_of f.key r)) p (none_missing s.machine.board.applied (names_of f.key r) (λ q in_it. ap is_some (x.starting.begins.named q r (x.starting.new ∙ at) in_it).applied)) h
+      begun-no_reason (wait.Held h) (none, r, at, held) = x.starting.begins.unnamed (x.starting.new ∙ none) h held.row (inl held.applied_row) held.names
+      begun-no_reason (wait.NoRoom kind) (r, at, have, over) = no-overflow plan is capacities s.machine kept.sound quiet s.made s.objects kept.whole kept.laid x.starting.worker f x.starting.due x.starting.begins r (x.starting.new ∙ at) kind (fits (makes kind x.starting.due) refl) over
+        where
+          fits : (n : ℕ) → makes kind x.starting.due ≡ n → on_chip s.objects kind + makes kind x.starting.due ≤ capacity_of capacities kind
+          fits zero e = let p = kept.places kind in omega (arith, e, p)
+          fits (suc n) e = let p = x.starting.room kind (omega (arith, e)) in omega (arith, p)
+      begun-no_reason (wait.Busy v) h = h
+
+      no_reason : (z : Situation) → IsSituationOf z s → HasReason plan capacities good z.applied k → ⊥
+      no_reason z agrees h = begun-no_reason h.0 (subst (λ v. IsTrueReason plan capacities good s.machine.board.applied v h.0) (sym x.is) (reason-same plan capacities good z.applied s.machine.board.applied agrees.rows k h.0 h.1))
+
+    -- ---- and to its end
+
+    module _ (x : RunsAlone plan workers capacities k s t calls) where
+      abbrev so_far : RunsSoFar plan workers capacities k s t calls
+      so_far = alone-so-far plan workers capacities k s t calls x
+
       pub ran : Rests plan workers capacities s.written t
       ran =
-          let y = answered x.first x.answers x.are first_safe in
+          let y = answered x.first x.answers x.are (first_safe so_far) in
           subst (Rests plan workers capacities s.written) (sym x.last) (record { kept = y.0; quiet = x.quiet; same = y.1 ∙ x.starting.written })
 
       abbrev changes : List Change
       changes = changes_made plan workers x.first x.answers x.are
 
       alone_changes : AreChangesOf plan s.machine.board.applied k (good k) changes
-      alone_changes = subst (λ q. AreChangesOf plan s.machine.board.applied q (good q) changes) x.is (record {
-        used = used-by plan workers capacities s kept f.key;
-        by_others = others-use plan workers capacities s kept f.key;
-        is = sequence plan workers capacities s x.first x.starting x.answers x.are (used-by plan workers capacities s kept f.key) quiet x.quiet (others-use plan workers capacities s kept f.key) ∙ ap (λ z. changes_of plan f.key (s.machine.board.applied f.key) z (used-by plan workers capacities s kept f.key)) x.starting.new;
-      })
+      alone_changes = begun_changes so_far changes (sequence plan workers capacities s x.first x.starting x.answers x.are (used so_far) quiet x.quiet (others-use plan workers capacities s kept x.starting.flight.key))
 
-      alone_calls : AreCallsOf s.machine.stands s.made changes calls t.machine.stands
-      alone_calls =
-          let stands = follows-stands plan x.starting.worker (started s.machine x.starting.worker f x.starting.due) x.first.machine x.starting.follows in
-          let y = calls-made plan workers x.first x.answers x.are in
-          subst (λ z. AreCallsOf s.machine.stands s.made changes z t.machine.stands) (sym x.calls_are) (subst (λ (z : SwitchState). AreCallsOf s.machine.stands s.made changes (calls_in x.answers) z.machine.stands) (sym x.last) (subst (λ z. AreCallsOf z s.made changes (calls_in x.answers) (after_answers x.first x.answers).machine.stands) stands (subst (λ z. AreCallsOf x.first.machine.stands z changes (calls_in x.answers) (after_answers x.first x.answers).machine.stands) x.starting.made y)))
+      alone_calls : (z : Situation) → IsSituationOf z s → AreCallsOf z.stands z.made changes calls t.machine.stands
+      alone_calls z agrees = subst (λ v. AreCallsOf z.stands z.made changes v t.machine.stands) (sym x.calls_are) (subst (λ (v : SwitchState). AreCallsOf z.stands z.made changes (calls_in x.answers) v.machine.stands) (sym x.last) (from_first so_far (λ stands made. AreCallsOf stands made changes (calls_in x.answers) (after_answers x.first x.answers).machine.stands) z agrees (calls-made plan workers x.first x.answers x.are)))
 
       ran_made : t.made ≡ made_after_all s.made calls
       ran_made =
           ap (λ (z : SwitchState). z.made) x.last
-          ∙ (answered x.first x.answers x.are first_safe).2
+          ∙ (answered x.first x.answers x.are (first_safe so_far)).2
           ∙ ap (λ z. made_after_all z (calls_in x.answers)) x.starting.made
           ∙ ap (made_after_all s.made) (sym x.calls_are)
 
@@ -123,17 +165,6 @@ module _ (plan : Ports) (is : IsPlan plan) (workers : ℕ) (capacities : List �
           by : IsSplit k q → with_good good a k q ≡ t.machine.board.applied q
           by (inl e) = row_at k q (good q) a e ∙ ap good (sym e) ∙ sym (row_at k q (good k) s.machine.board.applied e) ∙ sym now
           by (inr h) = row_off k q (good q) a h ∙ same q ∙ sym (row_off k q (good k) s.machine.board.applied h) ∙ sym now
-
-      -- of its key no reason was true
-      begun-no_reason : (w : Wait) → IsTrueReason plan capacities good s.machine.board.applied f.key w → ⊥
-      begun-no_reason (wait.Missing p) (r, at, h) = no_some (first_missing s.machine.board.applied (names_of f.key r)) p (none_missing s.machine.board.applied (names_of f.key r) (λ q in_it. ap is_some (x.starting.begins.named q r (x.starting.new ∙ at) in_it).applied)) h
-      begun-no_reason (wait.Held h) (none, r, at, held) = x.starting.begins.unnamed (x.starting.new ∙ none) h held.row (inl held.applied_row) held.names
-      begun-no_reason (wait.NoRoom kind) (r, at, have, over) = no-overflow plan is capacities s.machine kept.sound quiet s.made s.objects kept.whole kept.laid x.starting.worker f x.starting.due x.starting.begins r (x.starting.new ∙ at) kind (fits (makes kind x.starting.due) refl) over
-        where
-          fits : (n : ℕ) → makes kind x.starting.due ≡ n → on_chip s.objects kind + makes kind x.starting.due ≤ capacity_of capacities kind
-          fits zero e = let p = kept.places kind in omega (arith, e, p)
-          fits (suc n) e = let p = x.starting.room kind (omega (arith, e)) in omega (arith, p)
-      begun-no_reason (wait.Busy v) h = h
 
     -- a key that leaves has its good row then, after the calls of its operation, and no reason was true of it
     record Left (z : Situation) : Type 0 where
@@ -180,13 +211,13 @@ module _ (plan : Ports) (is : IsPlan plan) (workers : ℕ) (capacities : List �
       so = record {
         changes = changes x;
         are = changes_over plan s.machine.board.applied z.applied k (good k) (changes x) (λ q. sym (agrees.rows q)) (alone_changes x);
-        calls_are = subst (λ v. AreCallsOf v z.made (changes x) calls t.machine.stands) (sym agrees.stands) (subst (λ v. AreCallsOf s.machine.stands v (changes x) calls t.machine.stands) (sym agrees.made) (alone_calls x));
+        calls_are = alone_calls x z agrees;
         applied = refl;
         made = refl;
       };
       agrees = record { rows = ran_rows x z.applied agrees.rows; stands = refl; made = ap (λ v. made_after_all v calls) agrees.made ∙ sym (ran_made x) };
       rest = ran x;
-      none = λ h. begun-no_reason x h.0 (subst (λ v. IsTrueReason plan capacities good s.machine.board.applied v h.0) (sym x.is) (reason-same plan capacities good z.applied s.machine.board.applied agrees.rows k h.0 h.1));
+      none = no_reason (alone-so-far plan workers capacities k s t calls x) z agrees;
     }
 
   -- what a turn, or turns, of the machine come to over rows
@@ -200,11 +231,15 @@ module _ (plan : Ports) (is : IsPlan plan) (workers : ℕ) (capacities : List �
   same_state : (z : Situation) (s t : SwitchState) → IsSafe plan workers capacities s → IsQuiet s → IsSituationOf z s → t ≡ s → Comes (λ y. y ≡ z) s.written t
   same_state z s t kept quiet agrees e = subst (Comes (λ y. y ≡ z) s.written) (sym e) (record { then = z; so = refl; agrees = agrees; rest = record { kept = kept; quiet = quiet; same = refl } })
 
+  -- a reason of the machine is one over rows
+  left_reason : (s : SwitchState) (z : Situation) → IsSafe plan workers capacities s → IsQuiet s → IsSituationOf z s → (k : Key) (w : Wait) → IsReason plan workers capacities s k w → HasReason plan capacities (good_of plan s.written) z.applied k
+  left_reason s z kept quiet agrees k w reason = (w, reason-same plan capacities (good_of plan s.written) s.machine.board.applied z.applied (λ q. sym (agrees.rows q)) k w (reason-true plan is workers capacities s kept quiet k w reason))
+
   turn : (ks : List Key) (s t : SwitchState) (left : List Key) (calls : List (Call Rid)) (z : Situation) → IsSafe plan workers capacities s → IsQuiet s → IsSituationOf z s → IsMachineTurn plan workers capacities s ks t left calls → Comes (λ y. IsTurnWith plan capacities (good_of plan s.written) z ks y left calls) s.written t
   turn [] s t left calls z kept quiet agrees (e, none, no_call) = let y = same_state z s t kept quiet agrees e in record { then = y.then; so = (y.so, none, no_call); agrees = y.agrees; rest = y.rest }
   turn (k ∷ ks) s t left calls z kept quiet agrees (inl (w, reason, rest, e, more)) =
       let y = turn ks s t rest calls z kept quiet agrees more in
-      record { then = y.then; so = inl ((w, reason-same plan capacities (good_of plan s.written) s.machine.board.applied z.applied (λ q. sym (agrees.rows q)) k w (reason-true plan is workers capacities s kept quiet k w reason)), rest, e, y.so); agrees = y.agrees; rest = y.rest }
+      record { then = y.then; so = inl (left_reason s z kept quiet agrees k w reason, rest, e, y.so); agrees = y.agrees; rest = y.rest }
   turn (k ∷ ks) s t left calls z kept quiet agrees (inr (mid, own, rest, x, e, more)) =
       let r = left_when_done k s mid own kept quiet z agrees x in
       let y = turn ks mid t left rest r.then r.rest.kept r.rest.quiet r.agrees more in
@@ -241,3 +276,34 @@ module _ (plan : Ports) (is : IsPlan plan) (workers : ℕ) (capacities : List �
 
   pub alone : (k : Key) (s t : SwitchState) (calls : List (Call Rid)) → IsSafe plan workers capacities s → IsQuiet s → RunsAlone plan workers capacities k s t calls → (z : Situation) × CompletesWith plan (good_of plan s.written) k (situation s) z calls × IsSituationOf z t
   alone k s t calls kept quiet x = let y = left_when_done k s t calls kept quiet (situation s) (record { rows = λ q. refl; stands = refl; made = refl }) (inr x) in (y.then, y.so, y.agrees)
+
+  -- ---- cut off, with the calls that are tried from there on
+
+  module _ (t : SwitchState) (tried : List (Call Rid)) (are_tried : AreTried workers t tried) where
+    none_tried : (more : List (Call Rid)) → AreTried workers t more → IsQuiet t → more ≡ []
+    none_tried _ NoCall quiet = refl
+    none_tried _ (DueCall call y) quiet = absurd (quiet y.worker y.flight y.flying)
+
+    cut_before : (s : SwitchState) (calls : List (Call Rid)) → IsQuiet s → t ≡ s → calls ≡ [] → calls ++ tried ≡ []
+    cut_before s calls quiet e no_call = ap (λ v. v ++ tried) no_call ∙ none_tried tried are_tried (subst IsQuiet (sym e) quiet)
+
+    turn_so_far : (ks : List Key) (s : SwitchState) (calls : List (Call Rid)) (z : Situation) → IsSafe plan workers capacities s → IsQuiet s → IsSituationOf z s → IsMachineTurnSoFar plan workers capacities s ks t calls → IsTurnWithSoFar plan capacities (good_of plan s.written) z ks (calls ++ tried)
+    turn_so_far [] s calls z kept quiet agrees (e, no_call) = cut_before s calls quiet e no_call
+    turn_so_far (k ∷ ks) s calls z kept quiet agrees (inl (e, no_call)) = inl (cut_before s calls quiet e no_call)
+    turn_so_far (k ∷ ks) s calls z kept quiet agrees (inr (inl x)) = inr (inl (no_reason k s t calls kept quiet x z agrees, begun k s t calls kept quiet x z agrees tried are_tried))
+    turn_so_far (k ∷ ks) s calls z kept quiet agrees (inr (inr (inl (w, reason, more)))) = inr (inr (inl (left_reason s z kept quiet agrees k w reason, turn_so_far ks s calls z kept quiet agrees more)))
+    turn_so_far (k ∷ ks) s calls z kept quiet agrees (inr (inr (inr (mid, own, rest, x, e, more)))) =
+        let r = left_when_done k s mid own kept quiet z agrees x in
+        let y = turn_so_far ks mid rest r.then r.rest.kept r.rest.quiet r.agrees more in
+        inr (inr (inr (r.none, r.then, own, rest ++ tried, r.so, ap (λ v. v ++ tried) e ∙ append_assoc own rest tried, subst (λ v. IsTurnWithSoFar plan capacities (good_of plan v) r.then ks (rest ++ tried)) r.rest.same y)))
+
+    turns_so_far : (n : ℕ) (s : SwitchState) (keys : List Key) (calls : List (Call Rid)) (z : Situation) → IsSafe plan workers capacities s → IsQuiet s → IsSituationOf z s → AreMachineTurnsSoFar plan workers capacities n s keys t calls → AreTurnsWithSoFar plan capacities (good_of plan s.written) n z keys (calls ++ tried)
+    turns_so_far zero s keys calls z kept quiet agrees h = turn_so_far keys s calls z kept quiet agrees h
+    turns_so_far (suc n) s keys calls z kept quiet agrees (mid, rest, own, one, less, more, all, later) =
+        let y = turn keys s mid rest own z kept quiet agrees one in
+        let v = turns_so_far n mid rest more y.then y.rest.kept y.rest.quiet y.agrees later in
+        (y.then, rest, own, y.so, less, more ++ tried, ap (λ u. u ++ tried) all ∙ append_assoc own more tried, subst (λ u. AreTurnsWithSoFar plan capacities (good_of plan u) n y.then rest (more ++ tried)) y.rest.same v)
+
+  -- a settling so far comes to turns over rows, cut off, with the same calls, and with one more that is due and fails
+  pub settles-so-far : (n : ℕ) (s t : SwitchState) (keys : List Key) (calls tried : List (Call Rid)) → IsSafe plan workers capacities s → IsQuiet s → AreMachineTurnsSoFar plan workers capacities n s keys t calls → AreTried workers t tried → AreTurnsWithSoFar plan capacities (good_of plan s.written) n (situation s) keys (calls ++ tried)
+  settles-so-far n s t keys calls tried kept quiet h are = turns_so_far t tried are n s keys calls (situation s) kept quiet (record { rows = λ q. refl; stands = refl; made = refl }) h

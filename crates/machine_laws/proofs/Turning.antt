@@ -1,5 +1,5 @@
--- turns with their calls are turns over rows, and a settling of the machine is a list of its events
-use Rattle.std.proofs.Common.{◌≡◌, ◌⊎◌, ◌∷◌, ◌++◌, ◌∙◌, inl, inr, ℕ, zero, suc, List, [], map, Option, None, Some, refl, sym, ap, subst}
+-- turns with their calls are turns over rows, and a settling of the machine, whole or so far, is a list of its events
+use Rattle.std.proofs.Common.{◌≡◌, ◌⊎◌, ◌+◌, ◌<◌, ◌∷◌, ◌++◌, ◌∙◌, inl, inr, ℕ, zero, suc, List, [], length, map, Option, None, Some, refl, sym, ap, subst, arith}
 use Rattle.std.proofs.lemmas.List.{append-nil}
 use Rattle.table_schema.specs.Plan.{Ports}
 use Rattle.table_schema.specs.declared.key.Key.{Key}
@@ -9,7 +9,8 @@ use Rattle.switch_model.specs.Good.{TypedRows}
 use Rattle.switch_model.specs.Turns.{IsTurn, TakeTurns}
 use Rattle.switch_machine.specs.Events.{AreAnswers, AreEvents, SwitchState, after_answers, after_events, calls_of, with_made_call}
 use Rattle.machine_laws.specs.Calls.{AreTurnsWith, IsTurnWith, Situation}
-use Rattle.machine_laws.specs.Settling.{AreMachineTurns, DropsKey, IsMachineTurn, RunsAlone}
+use Rattle.machine_laws.specs.Settling.{AreMachineTurns, AreMachineTurnsSoFar, DropsKey, IsMachineTurn, IsMachineTurnSoFar, RunsAlone, RunsSoFar}
+use Rattle.machine_laws.proofs.Alone.{alone-so-far}
 
 -- ---- turns without their calls
 
@@ -76,11 +77,14 @@ module _ (plan : Ports) (workers : ℕ) (capacities : List ℕ) where
       let y = answers e.1 es run.1 in
       record { events = (Some e.0, e.1) ∷ y.events; are = (run.0, y.are); last = y.last; takeless = (ap (λ z. z.taken) run.0.written, y.takeless); calls_are = ap (λ z. e.0 ∷ z) y.calls_are }
 
-  leaves : (k : Key) (s t : SwitchState) (calls : List (Call Rid)) → DropsKey plan k s t calls ⊎ RunsAlone plan workers capacities k s t calls → Leads s t calls
-  leaves k s t calls (inl x) = record { events = (None, t) ∷ []; are = (inr (inr (inl x.drop)), tt); last = refl; takeless = (ap (λ z. z.taken) x.drop.written, tt); calls_are = sym x.none }
-  leaves k s t calls (inr x) =
+  begun : (k : Key) (s t : SwitchState) (calls : List (Call Rid)) → RunsSoFar plan workers capacities k s t calls → Leads s t calls
+  begun k s t calls x =
       let y = answers x.first x.answers x.are in
       record { events = (None, x.first) ∷ y.events; are = (inr (inr (inr x.starting)), y.are); last = y.last ∙ sym x.last; takeless = (ap (λ z. z.taken) x.starting.written, y.takeless); calls_are = y.calls_are ∙ sym x.calls_are }
+
+  leaves : (k : Key) (s t : SwitchState) (calls : List (Call Rid)) → DropsKey plan k s t calls ⊎ RunsAlone plan workers capacities k s t calls → Leads s t calls
+  leaves k s t calls (inl x) = record { events = (None, t) ∷ []; are = (inr (inr (inl x.drop)), tt); last = refl; takeless = (ap (λ z. z.taken) x.drop.written, tt); calls_are = sym x.none }
+  leaves k s t calls (inr x) = begun k s t calls (alone-so-far plan workers capacities k s t calls x)
 
   turn : (ks : List Key) (s t : SwitchState) (left : List Key) (calls : List (Call Rid)) → IsMachineTurn plan workers capacities s ks t left calls → Leads s t calls
   turn [] s t left calls (e, none, no_call) = nothing s t calls e no_call
@@ -95,3 +99,43 @@ module _ (plan : Ports) (workers : ℕ) (capacities : List ℕ) where
   -- a settling is a list of events with its calls
   pub settling-events : (n : ℕ) (s t : SwitchState) (keys left : List Key) (calls : List (Call Rid)) → AreMachineTurns plan workers capacities n s keys t left calls → (es : List (Option (Call Rid) × SwitchState)) × AreEvents plan workers capacities s es × (after_events s es ≡ t) × (calls_of es ≡ calls)
   settling-events n s t keys left calls h = let x = turns-lead n s t keys left calls h in (x.events, x.are, x.last, x.calls_are)
+
+  -- ---- and so far
+
+  turn_so_far : (ks : List Key) (s t : SwitchState) (calls : List (Call Rid)) → IsMachineTurnSoFar plan workers capacities s ks t calls → Leads s t calls
+  turn_so_far [] s t calls (e, no_call) = nothing s t calls e no_call
+  turn_so_far (k ∷ ks) s t calls (inl (e, no_call)) = nothing s t calls e no_call
+  turn_so_far (k ∷ ks) s t calls (inr (inl x)) = begun k s t calls x
+  turn_so_far (k ∷ ks) s t calls (inr (inr (inl (w, reason, more)))) = turn_so_far ks s t calls more
+  turn_so_far (k ∷ ks) s t calls (inr (inr (inr (mid, own, rest, x, e, more)))) = both s mid t own rest calls e (leaves k s mid own x) (turn_so_far ks mid t rest more)
+
+  pub turns-so-far-lead : (n : ℕ) (s t : SwitchState) (keys : List Key) (calls : List (Call Rid)) → AreMachineTurnsSoFar plan workers capacities n s keys t calls → Leads s t calls
+  turns-so-far-lead zero s t keys calls h = turn_so_far keys s t calls h
+  turns-so-far-lead (suc n) s t keys calls (mid, rest, own, one, less, more, all, later) = both s mid t own more calls all (turn keys s mid rest own one) (turns-so-far-lead n mid t rest more later)
+
+  -- a settling so far is a list of events with its calls
+  pub so-far-events : (n : ℕ) (s t : SwitchState) (keys : List Key) (calls : List (Call Rid)) → AreMachineTurnsSoFar plan workers capacities n s keys t calls → (es : List (Option (Call Rid) × SwitchState)) × AreEvents plan workers capacities s es × (after_events s es ≡ t) × (calls_of es ≡ calls)
+  so-far-events n s t keys calls h = let x = turns-so-far-lead n s t keys calls h in (x.events, x.are, x.last, x.calls_are)
+
+  -- a whole turn is one so far
+  turn_cut : (ks : List Key) (s t : SwitchState) (left : List Key) (calls : List (Call Rid)) → IsMachineTurn plan workers capacities s ks t left calls → IsMachineTurnSoFar plan workers capacities s ks t calls
+  turn_cut [] s t left calls (e, none, no_call) = (e, no_call)
+  turn_cut (k ∷ ks) s t left calls (inl (w, reason, rest, e, more)) = inr (inr (inl (w, reason, turn_cut ks s t rest calls more)))
+  turn_cut (k ∷ ks) s t left calls (inr (mid, own, rest, x, e, more)) = inr (inr (inr (mid, own, rest, x, e, turn_cut ks mid t left rest more)))
+
+  -- and whole turns are turns so far, one less where they left a key
+  abbrev IsCount : ℕ → ℕ → List Key → Type 0
+  IsCount m n left = ((left ≡ []) × (m ≡ n)) ⊎ ((0 < length left) × (n ≡ m + 1))
+
+  one_more : (m n : ℕ) (left : List Key) → IsCount m n left → IsCount (suc m) (suc n) left
+  one_more m n left (inl (none, e)) = inl (none, ap suc e)
+  one_more m n left (inr (some, e)) = inr (some, omega (arith, e))
+
+  pub turns-cut : (n : ℕ) (s t : SwitchState) (keys left : List Key) (calls : List (Call Rid)) → AreMachineTurns plan workers capacities n s keys t left calls → (m : ℕ) × IsCount m n left × AreMachineTurnsSoFar plan workers capacities m s keys t calls
+  turns-cut zero s t keys left calls (none, e, gone, no_call) = (0, inl (gone, refl), subst (λ v. IsMachineTurnSoFar plan workers capacities s v t calls) (sym none) (e, no_call))
+  turns-cut (suc n) s t keys left calls (some, mid, rest, own, one, inl (e, zero_more, at, gone, all)) =
+      let y = turn_cut keys s mid rest own one in
+      (0, inr (omega (arith, some, e, ap length gone), ap suc zero_more), subst (λ v. IsMachineTurnSoFar plan workers capacities s keys v calls) (sym at) (subst (λ v. IsMachineTurnSoFar plan workers capacities s keys mid v) (sym all) y))
+  turns-cut (suc n) s t keys left calls (some, mid, rest, own, one, inr (less, more, all, later)) =
+      let y = turns-cut n mid t rest left more later in
+      (suc y.0, one_more y.0 n left y.1, (mid, rest, own, one, less, more, all, y.2))

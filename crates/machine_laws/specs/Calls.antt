@@ -37,6 +37,12 @@ abbrev pub AreCallsOf : List (Rid × Thing) → ℕ → List Change → List (Ca
 AreCallsOf stands made [] calls later = (calls ≡ []) × (later ≡ stands)
 AreCallsOf stands made (c ∷ cs) calls later = (call : Call Rid) × (rest : List (Call Rid)) × (mid : List (Rid × Thing)) × (calls ≡ call ∷ rest) × IsCallOf stands made c call mid × AreCallsOf mid (made_after made call) cs rest later
 
+-- a call for each of the first of the changes, in their order; the last may be one that failed, so nothing is said of what it left
+abbrev pub AreFirstCallsOf : List (Rid × Thing) → ℕ → List Change → List (Call Rid) → Type 0
+AreFirstCallsOf stands made changes [] = Unit {0}
+AreFirstCallsOf stands made [] (call ∷ rest) = ⊥
+AreFirstCallsOf stands made (c ∷ cs) (call ∷ rest) = IsCall (listed stands) c call × ((rest ≡ []) ⊎ ((mid : List (Rid × Thing)) × IsCallOf stands made c call mid × AreFirstCallsOf mid (made_after made call) cs rest))
+
 -- ---- of turns
 
 -- the applied rows, what stands, and the number of identifiers given so far
@@ -66,3 +72,27 @@ AreTurnsWith plan capacities good zero s keys t left calls = (keys ≡ []) × (t
 AreTurnsWith plan capacities good (suc n) s keys t left calls =
     (0 < length keys) × (mid : Situation) × (rest : List Key) × (own : List (Call Rid)) × IsTurnWith plan capacities good s keys mid rest own
     × (((length rest ≡ length keys) × (n ≡ 0) × (t ≡ mid) × (left ≡ rest) × (calls ≡ own)) ⊎ ((length rest < length keys) × (more : List (Call Rid)) × (calls ≡ own ++ more) × AreTurnsWith plan capacities good n mid rest t left more))
+
+-- ---- of turns that are cut off
+
+-- the operation of a key is begun with these calls
+pub record BeginsWith (plan : Ports) (good : TypedRows) (k : Key) (s : Situation) (calls : List (Call Rid)) : Type 0 where
+  pub changes : List Change
+  pub are : AreChangesOf plan s.applied k (good k) changes
+  pub calls_are : AreFirstCallsOf s.stands s.made changes calls
+
+-- a turn over these keys, so far: it is cut off before a key, or in the operation of a key
+abbrev pub IsTurnWithSoFar : Ports → List ℕ → TypedRows → Situation → List Key → List (Call Rid) → Type 0
+IsTurnWithSoFar plan capacities good s [] calls = calls ≡ []
+IsTurnWithSoFar plan capacities good s (k ∷ ks) calls =
+    (calls ≡ [])
+    ⊎ (((¬ (HasReason plan capacities good s.applied k)) × BeginsWith plan good k s calls)
+    ⊎ ((HasReason plan capacities good s.applied k × IsTurnWithSoFar plan capacities good s ks calls)
+    ⊎ ((¬ (HasReason plan capacities good s.applied k)) × (mid : Situation) × (own : List (Call Rid)) × (more : List (Call Rid)) × CompletesWith plan good k s mid own × (calls ≡ own ++ more) × IsTurnWithSoFar plan capacities good mid ks more)))
+
+-- so many whole turns, each of which took a key away, and then one so far
+abbrev pub AreTurnsWithSoFar : Ports → List ℕ → TypedRows → ℕ → Situation → List Key → List (Call Rid) → Type 0
+AreTurnsWithSoFar plan capacities good zero s keys calls = IsTurnWithSoFar plan capacities good s keys calls
+AreTurnsWithSoFar plan capacities good (suc n) s keys calls =
+    (mid : Situation) × (rest : List Key) × (own : List (Call Rid)) × IsTurnWith plan capacities good s keys mid rest own
+    × (length rest < length keys) × (more : List (Call Rid)) × (calls ≡ own ++ more) × AreTurnsWithSoFar plan capacities good n mid rest more

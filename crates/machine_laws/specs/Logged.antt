@@ -13,7 +13,7 @@ use Rattle.switch_model.specs.declared.mark.MarkEvent.TheVariants as event
 use Rattle.switch_machine.specs.Events.{SwitchState, IsEvent, IsPop, IsQuiet, IsTake, with_made_call, empty_switch}
 use Rattle.switch_machine.specs.Reasons.{IsReason}
 use Rattle.switch_machine.specs.Written.{IsPopped}
-use Rattle.machine_laws.specs.Settling.{AreMachineTurns}
+use Rattle.machine_laws.specs.Settling.{AreMachineTurns, AreMachineTurnsSoFar}
 use Rattle.machine_laws.specs.ToSync.{AreInKeyOrder}
 
 pub record LoggedSwitch : Type 0 where
@@ -104,6 +104,35 @@ pub record IsWholeSettling (plan : Ports) (workers : ℕ) (capacities : List ℕ
   pub in_order : AreInOrder waits
   pub effects : t.effects ≡ s.effects ++ calls
   pub log : t.log ≡ with_end (with_mark s.log (record { taken = length s.log.taken; effects = length t.effects; event = event.Settled waits turns }))
+
+-- ---- a settling so far, cut off anywhere before its mark
+
+-- it is cut off while keys are popped
+pub record IsInPops (s t : LoggedSwitch) : Type 0 where
+  pub pops : List SwitchState
+  pub are_pops : ArePops s.switch pops
+  pub switch : t.switch ≡ after_pops s.switch pops
+  pub effects : t.effects ≡ s.effects
+  pub log : t.log ≡ s.log
+
+-- all that waits is popped, and it is cut off in the turns over the keys to sync, or behind the last of them
+pub record IsInTurns (plan : Ports) (workers : ℕ) (capacities : List ℕ) (s t : LoggedSwitch) : Type 0 where
+  pub pops : List SwitchState
+  pub are_pops : ArePops s.switch pops
+  pub popped : IsPopped (after_pops s.switch pops).written
+  pub keys : List Key
+  pub order : AreInKeyOrder keys
+  pub all : (k : Key) → IsIn k (after_pops s.switch pops).to_sync → IsIn k keys
+  pub only : (k : Key) → IsIn k keys → IsIn k (after_pops s.switch pops).to_sync
+  pub turns : ℕ
+  pub calls : List (Call Rid)
+  pub turns_are : AreMachineTurnsSoFar plan workers capacities turns (after_pops s.switch pops) keys t.switch calls
+  pub effects : t.effects ≡ s.effects ++ calls
+  pub log : t.log ≡ s.log
+
+pub data IsSettlingSoFar (plan : Ports) (workers : ℕ) (capacities : List ℕ) (s t : LoggedSwitch) : Type 0 where
+  InPops : IsInPops s t → IsSettlingSoFar plan workers capacities s t
+  InTurns : IsInTurns plan workers capacities s t → IsSettlingSoFar plan workers capacities s t
 
 -- ---- writes of a key
 

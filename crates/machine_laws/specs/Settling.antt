@@ -20,6 +20,16 @@ pub record RunsAlone (plan : Ports) (workers : ℕ) (capacities : List ℕ) (k :
   pub last : t ≡ after_answers first answers
   pub calls_are : calls ≡ map (λ (a : Call Rid × SwitchState). a.0) answers
 
+-- an operation of this key begins, and the first of its calls are made
+pub record RunsSoFar (plan : Ports) (workers : ℕ) (capacities : List ℕ) (k : Key) (s t : SwitchState) (calls : List (Call Rid)) : Type 0 where
+  pub first : SwitchState
+  pub starting : IsBegin plan workers capacities s first
+  pub is : starting.flight.key ≡ k
+  pub answers : List (Call Rid × SwitchState)
+  pub are : AreAnswers plan workers first answers
+  pub last : t ≡ after_answers first answers
+  pub calls_are : calls ≡ map (λ (a : Call Rid × SwitchState). a.0) answers
+
 -- a key has its good row already, and no call is made
 pub record DropsKey (plan : Ports) (k : Key) (s t : SwitchState) (calls : List (Call Rid)) : Type 0 where
   pub drop : IsDrop plan s t
@@ -39,6 +49,24 @@ AreMachineTurns plan workers capacities zero s keys t left calls = (keys ≡ [])
 AreMachineTurns plan workers capacities (suc n) s keys t left calls =
     (0 < length keys) × (mid : SwitchState) × (rest : List Key) × (own : List (Call Rid)) × IsMachineTurn plan workers capacities s keys mid rest own
     × (((length rest ≡ length keys) × (n ≡ 0) × (t ≡ mid) × (left ≡ rest) × (calls ≡ own)) ⊎ ((length rest < length keys) × (more : List (Call Rid)) × (calls ≡ own ++ more) × AreMachineTurns plan workers capacities n mid rest t left more))
+
+-- ---- cut off
+
+-- a turn over these keys, so far: it is cut off before a key, or while the operation of a key is under way; each key before was left with its reason, or left
+abbrev pub IsMachineTurnSoFar : Ports → ℕ → List ℕ → SwitchState → List Key → SwitchState → List (Call Rid) → Type 0
+IsMachineTurnSoFar plan workers capacities s [] t calls = (t ≡ s) × (calls ≡ [])
+IsMachineTurnSoFar plan workers capacities s (k ∷ ks) t calls =
+    ((t ≡ s) × (calls ≡ []))
+    ⊎ (RunsSoFar plan workers capacities k s t calls
+    ⊎ (((w : Wait) × IsReason plan workers capacities s k w × IsMachineTurnSoFar plan workers capacities s ks t calls)
+    ⊎ ((mid : SwitchState) × (own : List (Call Rid)) × (more : List (Call Rid)) × (DropsKey plan k s mid own ⊎ RunsAlone plan workers capacities k s mid own) × (calls ≡ own ++ more) × IsMachineTurnSoFar plan workers capacities mid ks t more)))
+
+-- so many whole turns, each of which took a key away, and then one so far
+abbrev pub AreMachineTurnsSoFar : Ports → ℕ → List ℕ → ℕ → SwitchState → List Key → SwitchState → List (Call Rid) → Type 0
+AreMachineTurnsSoFar plan workers capacities zero s keys t calls = IsMachineTurnSoFar plan workers capacities s keys t calls
+AreMachineTurnsSoFar plan workers capacities (suc n) s keys t calls =
+    (mid : SwitchState) × (rest : List Key) × (own : List (Call Rid)) × IsMachineTurn plan workers capacities s keys mid rest own
+    × (length rest < length keys) × (more : List (Call Rid)) × (calls ≡ own ++ more) × AreMachineTurnsSoFar plan workers capacities n mid rest t more
 
 -- ---- over rows
 

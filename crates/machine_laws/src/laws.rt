@@ -1,5 +1,5 @@
 // What whole settlings and logs of the machine come to. Each function is a law: it does nothing, and its contract is proved.
-ghost use Rattle.std.specs.Prelude.{◌≡◌, ◌++◌, ◌⊎◌, ℕ, ◌*◌, ◌≤◌, ◌<◌, true, List, [], length, Option, Some, None};
+ghost use Rattle.std.specs.Prelude.{◌≡◌, ◌∷◌, ◌++◌, ◌⊎◌, ℕ, ◌+◌, ◌*◌, ◌≤◌, ◌<◌, true, List, [], length, Option, Some, None};
 ghost use Rattle.table_schema.specs.Fields.{Pairs};
 ghost use Rattle.table_schema.specs.KeyText.{key_of};
 ghost use Rattle.table_schema.specs.Names.{names_of};
@@ -20,7 +20,7 @@ ghost use Rattle.switch_model.specs.Promises.{EffectsAreLegal, MarksAreTrue, goo
 ghost use Rattle.switch_model.specs.Sound.{AreWithin};
 ghost use Rattle.switch_model.specs.Turns.{TakeTurns};
 ghost use Rattle.row_layout.specs.Operations.{Change};
-ghost use Rattle.switch_machine.specs.Events.{AreAnswers, AreEvents, IsBegin, IsQuiet, IsSafe, SwitchState, after_answers, after_events, calls_of, empty_switch};
+ghost use Rattle.switch_machine.specs.Events.{AreAnswers, AreEvents, IsBegin, IsDueCall, IsQuiet, IsSafe, SwitchState, after_answers, after_events, calls_of, empty_switch};
 ghost use Rattle.switch_machine.specs.Flights.{Fits, MachineFlight, IsResting, IsRow};
 ghost use Rattle.switch_machine.specs.Next.{MustWait};
 ghost use Rattle.switch_machine.specs.Operations.{MayBegin};
@@ -28,12 +28,12 @@ ghost use Rattle.switch_machine.specs.Places.{HasRoomFor};
 ghost use Rattle.switch_machine.specs.Reasons.{LacksRoom};
 ghost use Rattle.switch_machine.specs.Written.{HasNoWrite, good_of};
 ghost use Rattle.machine_laws.specs.Bounds.{most_calls};
-ghost use Rattle.machine_laws.specs.Calls.{AreTurnsWith, CompletesWith, Situation};
-ghost use Rattle.machine_laws.specs.Logged.{AreListed, AreLoggedEvents, IsWholeSettling, ListsKey, LoggedSwitch, LogsMark, AreNoWritesOf, after_logged, after_pops, new_switch};
+ghost use Rattle.machine_laws.specs.Calls.{AreTurnsWith, AreTurnsWithSoFar, CompletesWith, Situation};
+ghost use Rattle.machine_laws.specs.Logged.{AreListed, AreLoggedEvents, IsInPops, IsInTurns, IsSettlingSoFar, IsWholeSettling, ListsKey, LoggedSwitch, LogsMark, AreNoWritesOf, after_logged, after_pops, new_switch};
 ghost use Rattle.machine_laws.specs.Order.{IsOrdered};
 ghost use Rattle.machine_laws.specs.Quiet.{ChangesEntry, LeavesAlone, NamesNot, EntryStandsFor};
 ghost use Rattle.machine_laws.specs.Reading.{IsOnSwitch};
-ghost use Rattle.machine_laws.specs.Settling.{AreMachineTurns, IsSituationOf, RunsAlone, situation};
+ghost use Rattle.machine_laws.specs.Settling.{AreMachineTurns, AreMachineTurnsSoFar, IsSituationOf, RunsAlone, situation};
 ghost use Rattle.machine_laws.specs.ToSync.{AreInKeyOrder, AreSynced, HasRoomTogether};
 
 /// A row names only keys of lower levels. With closed good rows and room for the applied and the good rows together, turns leave
@@ -61,6 +61,15 @@ pub fn settlings_are_turns()
     ensures lists { (plan : Ports) (workers : ℕ) (capacities : List ℕ) (n : ℕ) (s t : SwitchState) (keys left : List Key) (calls : List (Call Rid)) → ((q : Key) → IsIn q s.to_sync → IsIn q keys) → AreMachineTurns plan workers capacities n s keys t left calls → (waits : Waiting) × AreListed plan workers capacities t waits × ((q : Key) → IsIn q t.to_sync → ListsKey q waits) × ((q : Key) → ListsKey q waits → IsIn q left) }
 {}
 
+/// Turns that are cut off, anywhere, are a list of events of the machine. Their calls are those of turns over rows, cut off; and so
+/// are they with one more, which was due and failed. Whole turns are turns so far, one less where they left a key.
+pub fn turns_so_far_are_turns()
+    ensures events { (plan : Ports) (workers : ℕ) (capacities : List ℕ) (n : ℕ) (s t : SwitchState) (keys : List Key) (calls : List (Call Rid)) → AreMachineTurnsSoFar plan workers capacities n s keys t calls → (es : List (Option (Call Rid) × SwitchState)) × AreEvents plan workers capacities s es × (after_events s es ≡ t) × (calls_of es ≡ calls) }
+    ensures calls { (plan : Ports) (workers : ℕ) (capacities : List ℕ) (n : ℕ) (s t : SwitchState) (keys : List Key) (calls : List (Call Rid)) → IsPlan plan → IsSafe plan workers capacities s → IsQuiet s → AreMachineTurnsSoFar plan workers capacities n s keys t calls → AreTurnsWithSoFar plan capacities (good_of plan s.written) n (situation s) keys calls }
+    ensures failed { (plan : Ports) (workers : ℕ) (capacities : List ℕ) (n : ℕ) (s t : SwitchState) (keys : List Key) (calls : List (Call Rid)) (call : Call Rid) → IsPlan plan → IsSafe plan workers capacities s → IsQuiet s → AreMachineTurnsSoFar plan workers capacities n s keys t calls → IsDueCall workers call t → AreTurnsWithSoFar plan capacities (good_of plan s.written) n (situation s) keys (calls ++ call ∷ []) }
+    ensures whole { (plan : Ports) (workers : ℕ) (capacities : List ℕ) (n : ℕ) (s t : SwitchState) (keys left : List Key) (calls : List (Call Rid)) → AreMachineTurns plan workers capacities n s keys t left calls → (m : ℕ) × (((left ≡ []) × (m ≡ n)) ⊎ ((0 < length left) × (n ≡ m + 1))) × AreMachineTurnsSoFar plan workers capacities m s keys t calls }
+{}
+
 /// With closed good rows and room for the applied and the good rows together a settling leaves no key, takes at most four turns,
 /// brings each key its good row and the chip the things of the good rows; and no key waits after it, so its mark lists none.
 pub fn settlings_drain()
@@ -76,6 +85,20 @@ pub fn settlings_are_logged()
     ensures effects { (plan : Ports) (workers : ℕ) (capacities : List ℕ) (s t : LoggedSwitch) (x : IsWholeSettling plan workers capacities s t) → IsPlan plan → IsSafe plan workers capacities s.switch → IsQuiet s.switch → (z : Situation) × AreTurnsWith plan capacities (good_of plan (after_pops s.switch x.pops).written) x.turns (situation s.switch) x.keys z x.left x.calls × IsSituationOf z t.switch }
     ensures good { (plan : Ports) (workers : ℕ) (capacities : List ℕ) (s t : LoggedSwitch) (x : IsWholeSettling plan workers capacities s t) (k : Key) → IsPlan plan → IsSafe plan workers capacities s.switch → good_of plan (after_pops s.switch x.pops).written k ≡ good_rows plan (rows_of s.switch.written.taken) k }
     ensures keys { (plan : Ports) (workers : ℕ) (capacities : List ℕ) (s t : LoggedSwitch) (x : IsWholeSettling plan workers capacities s t) (k : Key) → (IsIn k s.switch.to_sync → IsIn k x.keys) × ((HasNoWrite s.switch.written k → ⊥) → IsIn k x.keys) × (IsIn k x.keys → HasNoWrite s.switch.written k → IsIn k s.switch.to_sync) }
+{}
+
+/// A settling so far, cut off anywhere before its mark, is a list of logged events, and safe. While keys are popped no call is due.
+/// Then its calls, and with them one more that was due and failed, are those of turns, cut off, over the rows that were applied
+/// before it and the good rows of all that was written. A whole settling is one so far, up to its mark.
+pub fn settlings_so_far_are_logged()
+    ensures events { (plan : Ports) (workers : ℕ) (capacities : List ℕ) (s t : LoggedSwitch) → IsSettlingSoFar plan workers capacities s t → (ts : List LoggedSwitch) × AreLoggedEvents plan workers capacities s ts × (after_logged s ts ≡ t) }
+    ensures safe { (plan : Ports) (workers : ℕ) (capacities : List ℕ) (s t : LoggedSwitch) → IsPlan plan → IsSafe plan workers capacities s.switch → IsSettlingSoFar plan workers capacities s t → IsSafe plan workers capacities t.switch }
+    ensures pops { (workers : ℕ) (s t : LoggedSwitch) → IsInPops s t → IsQuiet s.switch → IsQuiet t.switch × ((call : Call Rid) → IsDueCall workers call t.switch → ⊥) }
+    ensures effects { (plan : Ports) (workers : ℕ) (capacities : List ℕ) (s t : LoggedSwitch) (x : IsInTurns plan workers capacities s t) → IsPlan plan → IsSafe plan workers capacities s.switch → IsQuiet s.switch → AreTurnsWithSoFar plan capacities (good_of plan (after_pops s.switch x.pops).written) x.turns (situation s.switch) x.keys x.calls }
+    ensures failed { (plan : Ports) (workers : ℕ) (capacities : List ℕ) (s t : LoggedSwitch) (x : IsInTurns plan workers capacities s t) (call : Call Rid) → IsPlan plan → IsSafe plan workers capacities s.switch → IsQuiet s.switch → IsDueCall workers call t.switch → AreTurnsWithSoFar plan capacities (good_of plan (after_pops s.switch x.pops).written) x.turns (situation s.switch) x.keys (x.calls ++ call ∷ []) }
+    ensures good { (plan : Ports) (workers : ℕ) (capacities : List ℕ) (s t : LoggedSwitch) (x : IsInTurns plan workers capacities s t) (k : Key) → IsPlan plan → IsSafe plan workers capacities s.switch → good_of plan (after_pops s.switch x.pops).written k ≡ good_rows plan (rows_of s.switch.written.taken) k }
+    ensures keys { (plan : Ports) (workers : ℕ) (capacities : List ℕ) (s t : LoggedSwitch) (x : IsInTurns plan workers capacities s t) (k : Key) → (IsIn k s.switch.to_sync → IsIn k x.keys) × ((HasNoWrite s.switch.written k → ⊥) → IsIn k x.keys) × (IsIn k x.keys → HasNoWrite s.switch.written k → IsIn k s.switch.to_sync) }
+    ensures whole { (plan : Ports) (workers : ℕ) (capacities : List ℕ) (s t : LoggedSwitch) (x : IsWholeSettling plan workers capacities s t) → (y : IsInTurns plan workers capacities s (record { switch = t.switch; log = s.log; effects = t.effects })) × (y.pops ≡ x.pops) × (y.keys ≡ x.keys) × (y.calls ≡ x.calls) }
 {}
 
 /// From the new switch on the switch is safe, each mark is true, the marks stand in order, each

@@ -1,7 +1,8 @@
--- an operation that runs alone makes its changes in the order of its table
+-- an operation that runs alone makes its changes in the order of its table, and so far the first of them
 use Rattle.std.proofs.Common.{◌≡◌, ◌⊎◌, ◌||◌, ◌∷◌, ◌++◌, ◌∙◌, inl, inr, ℕ, Bool, true, false, List, [], Option, None, Some, if◌then◌else◌, refl, sym, ap, subst}
 use Rattle.std.proofs.lemmas.Bool.{cases_Bool, eqb-true, false≢true, or_cases}
 use Rattle.std.specs.List.{list_any}
+use Rattle.std.proofs.lemmas.List.{append-nil}
 use Rattle.std.proofs.lemmas.Option.{same_Some}
 use Rattle.swss_types.specs.declared.interface.IfName.TheVariants as on
 use Rattle.swss_types.proofs.Tied.{tied}
@@ -27,7 +28,7 @@ use Rattle.row_layout.specs.Rows as owner
 use Rattle.row_layout.specs.Rows.{Owner, from}
 use Rattle.row_layout.specs.Shared.{group_by, shared_things, uses}
 use Rattle.row_layout.proofs.Changing.{among}
-use Rattle.switch_machine.specs.Events.{AreAnswers, Due, Ended, Follows, IsAnswer, IsBegin, IsQuiet, Left, Retires, SwitchState, after_answers, changes_made}
+use Rattle.switch_machine.specs.Events.{AreAnswers, Due, Ended, Follows, IsAnswer, IsBegin, IsDueCall, IsQuiet, Left, Retires, SwitchState, after_answers, changes_made}
 use Rattle.switch_machine.specs.Flights.{CountsAsUser, MachineFlight, IsResting, IsUser, Machine}
 use Rattle.switch_machine.specs.Operations.{IsUsedByOthers, built_first}
 use Rattle.switch_machine.specs.Steps.{finished, left, moved, parted, started}
@@ -243,29 +244,38 @@ module _ (plan : Ports) (workers w : ℕ) (f : MachineFlight) (rows : TypedRows)
         only = left_only m g (Some o) going (λ v h at. (x.only v h at).0);
       })))
 
+  -- the call that is due makes the first change that is still to be made
+  due_is : (s : SwitchState) (call : Call Rid) (due : List Change) → s.machine.due w ≡ due → (x : IsDueCall workers call s) → x.worker ≡ w → due ≡ x.change ∷ x.rest
+  due_is s call due is x at = sym is ∙ ap s.machine.due (sym at) ∙ x.due
+
+  phase_due : (s : SwitchState) (call : Call Rid) (rest : List Change) → Phase s.machine rest → (x : IsDueCall workers call s) → (after : List Change) × (rest ≡ x.change ∷ after)
+  phase_due s call _ (AtEnd none) x = absurd (none x.worker x.flight x.flying)
+  phase_due s call _ (AtLast due p) x = (x.rest, due_is s call due p.is_due x (p.only x.worker x.flight x.flying))
+  phase_due s call _ (AtFirst due p) x = (x.rest ++ tail, ap (λ z. z ++ tail) (due_is s call due p.is_due x (p.only x.worker x.flight x.flying).0))
+
   phase_answer : (s t : SwitchState) (call : Call Rid) (rest : List Change) → Phase s.machine rest → (x : IsAnswer plan workers call s t) → (after : List Change) × (rest ≡ x.next.change ∷ after) × Phase t.machine after
   phase_answer s t call _ (AtEnd none) x = absurd (none x.next.worker x.next.flight x.next.flying)
   phase_answer s t call _ (AtLast due p) x =
       let at = p.only x.next.worker x.next.flight x.next.flying in
       let m = moved s.machine x.next.worker x.next.rest x.stands in
-      let is : due ≡ x.next.change ∷ x.next.rest = sym p.is_due ∙ ap s.machine.due (sym at) ∙ x.next.due in
-      (x.next.rest, is, phase_follows m t.machine x.next.rest (AtLast x.next.rest (record { flight = p.flight; there = p.there; parted = p.parted; is_due = put_at x.next.worker w x.next.rest s.machine.due (sym at); only = p.only })) (subst (λ v. Follows plan v m t.machine) at x.follows))
+      (x.next.rest, due_is s call due p.is_due x.next at, phase_follows m t.machine x.next.rest (AtLast x.next.rest (record { flight = p.flight; there = p.there; parted = p.parted; is_due = put_at x.next.worker w x.next.rest s.machine.due (sym at); only = p.only })) (subst (λ v. Follows plan v m t.machine) at x.follows))
   phase_answer s t call _ (AtFirst due p) x =
       let at = (p.only x.next.worker x.next.flight x.next.flying).0 in
       let m = moved s.machine x.next.worker x.next.rest x.stands in
-      let is : due ≡ x.next.change ∷ x.next.rest = sym p.is_due ∙ ap s.machine.due (sym at) ∙ x.next.due in
-      (x.next.rest ++ tail, ap (λ z. z ++ tail) is, phase_follows m t.machine (x.next.rest ++ tail) (AtFirst x.next.rest (record { there = p.there; is_due = put_at x.next.worker w x.next.rest s.machine.due (sym at); only = p.only; applied = p.applied })) (subst (λ v. Follows plan v m t.machine) at x.follows))
+      (x.next.rest ++ tail, ap (λ z. z ++ tail) (due_is s call due p.is_due x.next at), phase_follows m t.machine (x.next.rest ++ tail) (AtFirst x.next.rest (record { there = p.there; is_due = put_at x.next.worker w x.next.rest s.machine.due (sym at); only = p.only; applied = p.applied })) (subst (λ v. Follows plan v m t.machine) at x.follows))
 
   phase_quiet : (m : Machine) (rest : List Change) → ((v : ℕ) (g : MachineFlight) → m.board.flights v ≡ Some g → ⊥) → Phase m rest → rest ≡ []
   phase_quiet m _ quiet (AtEnd none) = refl
   phase_quiet m _ quiet (AtLast due p) = absurd (quiet w p.flight p.there)
   phase_quiet m _ quiet (AtFirst due p) = absurd (quiet w f p.there)
 
-  phase_answers : (s : SwitchState) (es : List (Call Rid × SwitchState)) (rest : List Change) (run : AreAnswers plan workers s es) → Phase s.machine rest → IsQuiet (after_answers s es) → changes_made plan workers s es run ≡ rest
-  phase_answers s [] rest run p quiet = sym (phase_quiet s.machine rest quiet p)
-  phase_answers s (e ∷ es) rest run p quiet =
+  -- what was made comes first, and what is still to be made behind it
+  phase_answers : (s : SwitchState) (es : List (Call Rid × SwitchState)) (rest : List Change) (run : AreAnswers plan workers s es) → Phase s.machine rest → (later : List Change) × (changes_made plan workers s es run ++ later ≡ rest) × Phase (after_answers s es).machine later
+  phase_answers s [] rest run p = (rest, refl, p)
+  phase_answers s (e ∷ es) rest run p =
       let x = phase_answer s e.1 e.0 rest p run.0 in
-      ap (λ z. run.0.next.change ∷ z) (phase_answers e.1 es x.0 run.1 x.2 quiet) ∙ sym x.1
+      let y = phase_answers e.1 es x.0 run.1 x.2 in
+      (y.0, ap (λ z. run.0.next.change ∷ z) y.1 ∙ sym x.1, y.2)
 
   -- ---- the changes that are due first
 
@@ -297,41 +307,53 @@ module _ (plan : Ports) (workers w : ℕ) (f : MachineFlight) (rows : TypedRows)
           make_append (shared_things o) own tail
           ∙ sym (shares (p ∷ []) one ∙ ap (λ z. build_all (unshared used was (z ∷ [])) (own ++ tail)) (sym same) ∙ ap (λ z. build_all z (own ++ tail)) (unshared_it used was o (no o b.1 (cases_Bool (used o))) b.2))
 
--- alone, an operation makes the changes of its table in their order
+module _ (plan : Ports) (workers : ℕ) (capacities : List ℕ) (s t : SwitchState) (x : IsBegin plan workers capacities s t) (es : List (Call Rid × SwitchState)) (run : AreAnswers plan workers t es) (used : Owner → Bool) (quiet : IsQuiet s) (by_others : IsUsedByOthers plan s.machine.board.applied x.flight.key used) where
+  abbrev IsStillDue : Machine → List Change → Type 0
+  IsStillDue = Phase plan workers x.worker x.flight s.machine.board.applied used by_others x.begins.leaves x.begins.covers
+
+  abbrev table : List Change
+  table = changes_of plan x.flight.key (s.machine.board.applied x.flight.key) x.flight.new used
+
+  so_far : (rest : List Change) × (changes_made plan workers t es run ++ rest ≡ table) × IsStillDue (after_answers t es).machine rest
+  so_far =
+      let y = phase_answers plan workers x.worker x.flight s.machine.board.applied used by_others x.begins.leaves x.begins.covers t es _ run (phase_follows plan workers x.worker x.flight s.machine.board.applied used by_others x.begins.leaves x.begins.covers (started s.machine x.worker x.flight x.due) t.machine _ first x.follows) in
+      (y.0, y.1 ∙ ap (λ z. z ++ tail plan workers x.worker x.flight s.machine.board.applied used by_others x.begins.leaves x.begins.covers) x.begins.operation.is ∙ builds_is plan workers x.worker x.flight s.machine.board.applied used by_others x.begins.leaves x.begins.covers x.begins.operation.builds built found, y.2)
+    where
+      rests : (q : Key) → IsResting s.machine.board q
+      rests q v g at is = quiet v g at
+
+      first : IsStillDue (started s.machine x.worker x.flight x.due) (x.due ++ tail plan workers x.worker x.flight s.machine.board.applied used by_others x.begins.leaves x.begins.covers)
+      first = AtFirst x.due (record {
+        there = put_at x.worker x.worker (Some x.flight) s.machine.board.flights refl;
+        is_due = put_at x.worker x.worker x.due s.machine.due refl;
+        only = λ v g at. of v g (put_by x.worker v (Some x.flight) s.machine.board.flights (Some g) at);
+        applied = λ q. refl;
+      })
+        where
+          of : (v : ℕ) (g : MachineFlight) → IsPut x.worker v (Some x.flight) s.machine.board.flights (Some g) → (v ≡ x.worker) × (x.flight ≡ g)
+          of v g (New same e) = (same, same_Some x.flight g e)
+          of v g (Old other there) = absurd (quiet v g there)
+
+      built : (o : Owner) → x.begins.operation.builds ≡ Some o → IsIn o (uses_of plan x.flight.key x.flight.new) × (((q : Key) × (r : Row) × (q ≡ x.flight.key → ⊥) × (s.machine.board.applied q ≡ Some r) × IsIn o (uses plan q r)) → ⊥) × (IsIn o (uses_of plan x.flight.key (s.machine.board.applied x.flight.key)) → ⊥)
+      built o e =
+          let b = x.begins.operation.built o e in
+          (b.0, (λ other. b.1 other.0 (inr (rests other.0, subst (λ z. IsIn o (uses_of plan other.0 z)) (sym other.3) other.4))), λ h. b.1 x.flight.key (inr (rests x.flight.key, h)))
+
+      found : x.begins.operation.builds ≡ None → (o : Owner) → IsIn o (uses_of plan x.flight.key x.flight.new) → ((q : Key) × (r : Row) × (q ≡ x.flight.key → ⊥) × (s.machine.board.applied q ≡ Some r) × IsIn o (uses plan q r)) ⊎ IsIn o (uses_of plan x.flight.key (s.machine.board.applied x.flight.key))
+      found e o h = let y = x.begins.operation.found e o h in by y.0 y.1 (key_split y.0 x.flight.key)
+        where
+          by : (q : Key) → IsUser plan s.machine.board q o → IsSplit q x.flight.key → ((q : Key) × (r : Row) × (q ≡ x.flight.key → ⊥) × (s.machine.board.applied q ≡ Some r) × IsIn o (uses plan q r)) ⊎ IsIn o (uses_of plan x.flight.key (s.machine.board.applied x.flight.key))
+          by q (inl (v, g, at, is, counts)) _ = absurd (quiet v g at)
+          by q (inr (_, u)) (inl same) = inr (subst (λ z. IsIn o (uses_of plan z (s.machine.board.applied z))) same u)
+          by q (inr (_, u)) (inr apart) = let r = use_row_in plan q (s.machine.board.applied q) o u in inl (q, r.0, apart, r.1, r.2)
+
+  -- so far an operation that runs alone has made the first changes of its table, and a call that is due makes the next
+  pub sequence-so-far : (rest : List Change) × (changes_made plan workers t es run ++ rest ≡ table) × ((call : Call Rid) (y : IsDueCall workers call (after_answers t es)) → (after : List Change) × (rest ≡ y.change ∷ after))
+  sequence-so-far = (so_far.0, so_far.1, λ call y. phase_due plan workers x.worker x.flight s.machine.board.applied used by_others x.begins.leaves x.begins.covers (after_answers t es) call so_far.0 so_far.2 y)
+
+-- alone, to its end, it makes the changes of its table in their order
 pub sequence : (plan : Ports) (workers : ℕ) (capacities : List ℕ) (s t : SwitchState) (x : IsBegin plan workers capacities s t) (es : List (Call Rid × SwitchState)) (run : AreAnswers plan workers t es) (used : Owner → Bool) → IsQuiet s → IsQuiet (after_answers t es) → IsUsedByOthers plan s.machine.board.applied x.flight.key used → changes_made plan workers t es run ≡ changes_of plan x.flight.key (s.machine.board.applied x.flight.key) x.flight.new used
 sequence plan workers capacities s t x es run used quiet end by_others =
-    phase_answers plan workers x.worker x.flight s.machine.board.applied used by_others x.begins.leaves x.begins.covers t es _ run
-    (phase_follows plan workers x.worker x.flight s.machine.board.applied used by_others x.begins.leaves x.begins.covers (started s.machine x.worker x.flight x.due) t.machine _ first x.follows) end
-    ∙ ap (λ z. z ++ tail plan workers x.worker x.flight s.machine.board.applied used by_others x.begins.leaves x.begins.covers) x.begins.operation.is
-    ∙ builds_is plan workers x.worker x.flight s.machine.board.applied used by_others x.begins.leaves x.begins.covers x.begins.operation.builds built found
-  where
-    k : Key
-    k = x.flight.key
-
-    rests : (q : Key) → IsResting s.machine.board q
-    rests q v g at is = quiet v g at
-
-    first : Phase plan workers x.worker x.flight s.machine.board.applied used by_others x.begins.leaves x.begins.covers (started s.machine x.worker x.flight x.due) (x.due ++ tail plan workers x.worker x.flight s.machine.board.applied used by_others x.begins.leaves x.begins.covers)
-    first = AtFirst x.due (record {
-      there = put_at x.worker x.worker (Some x.flight) s.machine.board.flights refl;
-      is_due = put_at x.worker x.worker x.due s.machine.due refl;
-      only = λ v g at. of v g (put_by x.worker v (Some x.flight) s.machine.board.flights (Some g) at);
-      applied = λ q. refl;
-    })
-      where
-        of : (v : ℕ) (g : MachineFlight) → IsPut x.worker v (Some x.flight) s.machine.board.flights (Some g) → (v ≡ x.worker) × (x.flight ≡ g)
-        of v g (New same e) = (same, same_Some x.flight g e)
-        of v g (Old other there) = absurd (quiet v g there)
-
-    built : (o : Owner) → x.begins.operation.builds ≡ Some o → IsIn o (uses_of plan x.flight.key x.flight.new) × (((q : Key) × (r : Row) × (q ≡ x.flight.key → ⊥) × (s.machine.board.applied q ≡ Some r) × IsIn o (uses plan q r)) → ⊥) × (IsIn o (uses_of plan x.flight.key (s.machine.board.applied x.flight.key)) → ⊥)
-    built o e =
-        let b = x.begins.operation.built o e in
-        (b.0, (λ other. b.1 other.0 (inr (rests other.0, subst (λ z. IsIn o (uses_of plan other.0 z)) (sym other.3) other.4))), λ h. b.1 x.flight.key (inr (rests x.flight.key, h)))
-
-    found : x.begins.operation.builds ≡ None → (o : Owner) → IsIn o (uses_of plan x.flight.key x.flight.new) → ((q : Key) × (r : Row) × (q ≡ x.flight.key → ⊥) × (s.machine.board.applied q ≡ Some r) × IsIn o (uses plan q r)) ⊎ IsIn o (uses_of plan x.flight.key (s.machine.board.applied x.flight.key))
-    found e o h = let y = x.begins.operation.found e o h in by y.0 y.1 (key_split y.0 x.flight.key)
-      where
-        by : (q : Key) → IsUser plan s.machine.board q o → IsSplit q x.flight.key → ((q : Key) × (r : Row) × (q ≡ x.flight.key → ⊥) × (s.machine.board.applied q ≡ Some r) × IsIn o (uses plan q r)) ⊎ IsIn o (uses_of plan x.flight.key (s.machine.board.applied x.flight.key))
-        by q (inl (v, g, at, is, counts)) _ = absurd (quiet v g at)
-        by q (inr (_, u)) (inl same) = inr (subst (λ z. IsIn o (uses_of plan z (s.machine.board.applied z))) same u)
-        by q (inr (_, u)) (inr apart) = let r = use_row_in plan q (s.machine.board.applied q) o u in inl (q, r.0, apart, r.1, r.2)
+    let y = so_far plan workers capacities s t x es run used quiet by_others in
+    let none = phase_quiet plan workers x.worker x.flight s.machine.board.applied used by_others x.begins.leaves x.begins.covers (after_answers t es).machine y.0 end y.2 in
+    sym (append-nil (changes_made plan workers t es run)) ∙ ap (λ z. changes_made plan workers t es run ++ z) (sym none) ∙ y.1

@@ -9,5 +9,4 @@ pub mod Written
 pub mod Events
 pub mod Reasons
 pub mod Next
-pub mod Needs
 pub mod Bearing

@@ -34,7 +34,6 @@ ghost use Rattle.switch_machine.specs.Changes.{Disturbs};
 ghost use Rattle.switch_machine.specs.Events.{AreAnswers, AreEvents, IsAnswer, IsBegin, IsDrop, IsDueCall, IsEvent, IsQuiet, IsSafe, SwitchState, after_answers, after_events, calls_of, changes_made, empty_switch, fresh_view};
 ghost use Rattle.switch_machine.specs.Flights.{Fits, MachineFlight, IsResting, IsRow, StandsIn};
 ghost use Rattle.switch_machine.specs.Bearing.{BearsOnce, SwitchesOnce, standing_things};
-ghost use Rattle.switch_machine.specs.Needs.{OfCall, OfList, OfMark, OfWrite, need_of};
 ghost use Rattle.switch_machine.specs.Next.{MustWait, IsIdle, IsNextEvent};
 ghost use Rattle.switch_machine.specs.Operations.{IsUsedByOthers, MayBegin};
 ghost use Rattle.switch_machine.specs.Places.{HasRoomFor};
@@ -113,13 +112,13 @@ pub fn routes_are_steady()
     ensures forwarded { (plan : Ports) (workers : ℕ) (capacities : List ℕ) (s t : SwitchState) (x : IsBegin plan workers capacities s t) (es : List (Call Rid × SwitchState)) (run : AreAnswers plan workers t es) (used : Owner → Bool) (prefix : Prefix) (a : Ip) → IsPlan plan → IsSafe plan workers capacities s → x.flight.key ≡ key.Route prefix → IsQuiet s → IsQuiet (after_answers t es) → IsUsedByOthers plan s.machine.board.applied x.flight.key used → SwitchesOnce (λ n. forward (standing_things (after_answers t (take n es)).machine) a) (forward (standing_things s.machine) a) (forward (standing_things (after_answers t es).machine) a) }
 {}
 
-/// What an event adds to the log takes no more places than it needs: a write that is taken, a call with its effect and the mark
-/// of its failure, a list with the mark of its failure, and a mark with the keys that it lists.
+/// What an event adds to the log takes these places: a write that is taken one, a call with its effect and the mark of its failure
+/// two, a list with the mark of its failure one, and a mark one and one more for each key that it lists.
 pub fn needs_suffice()
-    ensures writes { (log : History) (sent : Sent) (effects : ℕ) → log_size (with_write log sent) effects ≡ log_size log effects + need_of OfWrite }
-    ensures calls { (log : History) (mark : Mark) (effects : ℕ) → keys_listed mark.event ≡ 0 → log_size (with_mark log mark) (effects + 1) ≡ log_size log effects + need_of OfCall }
-    ensures lists { (log : History) (mark : Mark) (effects : ℕ) → keys_listed mark.event ≡ 0 → log_size (with_mark log mark) effects ≡ log_size log effects + need_of OfList }
-    ensures marks { (log : History) (mark : Mark) (effects : ℕ) → log_size (with_mark log mark) effects ≡ log_size log effects + need_of (OfMark (keys_listed mark.event)) }
+    ensures writes { (log : History) (sent : Sent) (effects : ℕ) → log_size (with_write log sent) effects ≡ log_size log effects + 1 }
+    ensures calls { (log : History) (mark : Mark) (effects : ℕ) → keys_listed mark.event ≡ 0 → log_size (with_mark log mark) (effects + 1) ≡ log_size log effects + 2 }
+    ensures lists { (log : History) (mark : Mark) (effects : ℕ) → keys_listed mark.event ≡ 0 → log_size (with_mark log mark) effects ≡ log_size log effects + 1 }
+    ensures marks { (log : History) (mark : Mark) (effects : ℕ) → log_size (with_mark log mark) effects ≡ log_size log effects + (1 + keys_listed mark.event) }
 {}
 
 /// A key whose good row fits its table, and that no operation, no missing name, no holder and nothing in the way hinders, may
