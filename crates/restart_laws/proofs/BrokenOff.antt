@@ -14,7 +14,7 @@ use Rattle.switch_model.specs.declared.mark.Mark.{Mark}
 use Rattle.switch_model.specs.declared.mark.MarkEvent.{MarkEvent}
 use Rattle.switch_model.specs.declared.mark.MarkEvent.TheVariants as event
 use Rattle.restart_laws.specs.Applied.{AreFollowed, IsFollowed, until_next}
-use Rattle.restart_laws.specs.BrokenOff.{AreOfBroken, IsDecidedByView, IsOfBroken, IsViewAt}
+use Rattle.restart_laws.specs.BrokenOff.{AreOfBroken, AreSteadyOverBreaks, IsDecidedByView, IsOfBroken, IsViewAt}
 
 le_either : (a b : ℕ) → (a ≤ b) ⊎ (b ≤ a)
 le_either zero b = inl (omega arith)
@@ -82,10 +82,16 @@ module _ (plan : Ports) (capacities : List ℕ) (taken : List Sent) (es : List (
   followed_behind [] rest x = x
   followed_behind (m ∷ front) rest x = followed_behind front rest x.1
 
-  pub broken-decided : (front ms behind : List Mark) (m : Mark) → AreFollowed plan capacities taken es (front ++ ((m ∷ ms) ++ behind)) → ((n : Mark) → IsIn n (m ∷ ms) → IsIn n all) → AreOfBroken (m ∷ ms) → (k : ℕ) → m.effects ≤ k → k ≤ until_next behind es → Decided (decide (things_after es m.effects) a) k
+  broken-decided : (front ms behind : List Mark) (m : Mark) → AreFollowed plan capacities taken es (front ++ ((m ∷ ms) ++ behind)) → ((n : Mark) → IsIn n (m ∷ ms) → IsIn n all) → AreOfBroken (m ∷ ms) → (k : ℕ) → m.effects ≤ k → k ≤ until_next behind es → Decided (decide (things_after es m.effects) a) k
   broken-decided front ms behind m x within b k least most =
       let d = decide (things_after es m.effects) a in
       walk (Decided d) (λ n to i broken y q j low high. decided_step d n n.event to refl i broken y q j low high) m ms behind within (followed_behind front ((m ∷ ms) ++ behind) x) b (inl refl) k least most
 
-  pub broken-forwarded : (front ms behind : List Mark) (m : Mark) (f : Forwarding) → AreFollowed plan capacities taken es (front ++ ((m ∷ ms) ++ behind)) → ((n : Mark) → IsIn n (m ∷ ms) → IsIn n all) → AreOfBroken (m ∷ ms) → Forwarded f m.effects → ((mark : Mark) (view : List Thing) → IsViewAt plan taken all mark view → forward view a ≡ f) → (k : ℕ) → m.effects ≤ k → k ≤ until_next behind es → Forwarded f k
+  broken-forwarded : (front ms behind : List Mark) (m : Mark) (f : Forwarding) → AreFollowed plan capacities taken es (front ++ ((m ∷ ms) ++ behind)) → ((n : Mark) → IsIn n (m ∷ ms) → IsIn n all) → AreOfBroken (m ∷ ms) → Forwarded f m.effects → ((mark : Mark) (view : List Thing) → IsViewAt plan taken all mark view → forward view a ≡ f) → (k : ℕ) → m.effects ≤ k → k ≤ until_next behind es → Forwarded f k
   broken-forwarded front ms behind m f x within b old views k least most = walk (Forwarded f) (λ n to i broken y q j low high. forwarded_step f views n n.event to refl i broken y q j low high) m ms behind within (followed_behind front ((m ∷ ms) ++ behind) x) b old k least most
+
+pub steady-breaks : (plan : Ports) (capacities : List ℕ) (taken : List Sent) (effects : List (Call Rid)) (marks : List Mark) → AreFollowed plan capacities taken effects marks → AreSteadyOverBreaks plan taken effects marks
+steady-breaks plan capacities taken effects marks followed = record {
+  decided = λ front ms behind m a k is broken proper least most. broken-decided plan capacities taken effects (m ∷ ms) a proper front ms behind m (subst (AreFollowed plan capacities taken effects) is followed) (λ n i. i) broken k least most;
+  forwarded = λ front ms behind m a f k is broken proper old views least most. broken-forwarded plan capacities taken effects (m ∷ ms) a proper front ms behind m f (subst (AreFollowed plan capacities taken effects) is followed) (λ n i. i) broken old views k least most;
+}

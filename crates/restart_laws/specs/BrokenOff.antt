@@ -1,20 +1,25 @@
 -- Applies that are broken off one after the other, told by the marks of a log. Own.
-use Rattle.std.specs.Prelude.{◌≡◌, ℕ, ◌≤◌, List, [], ◌∷◌}
+use Rattle.std.specs.Prelude.{◌≡◌, ◌⊎◌, ℕ, ◌≤◌, List, [], ◌∷◌, ◌++◌}
+use Rattle.swss_types.specs.Address.{IsProperIp}
 use Rattle.swss_types.specs.declared.address.Ip.{Ip}
 use Rattle.table_schema.specs.Plan.{Ports}
 use Rattle.table_schema.specs.declared.write.Sent.{Sent}
+use Rattle.sai_types.specs.declared.body.Call.{Call}
+use Rattle.sai_types.specs.declared.ids.Rid.{Rid}
 use Rattle.sai_types.specs.declared.plan.Mode.{Mode}
 use Rattle.sai_types.specs.declared.plan.Mode.TheVariants.{Hitless}
 use Rattle.sai_types.specs.declared.thing.Thing.{Thing}
 use Rattle.sai_types.specs.Alike.{IsIn}
-use Rattle.sai_types.specs.Forwarding.{Decision, decide}
+use Rattle.sai_types.specs.Forwarding.{Decision, Forwarding, decide, forward}
 use Rattle.switch_model.specs.Desired.{IsThingOf}
 use Rattle.switch_model.specs.Marks.{Waiting}
 use Rattle.switch_model.specs.Promises.{applied_at}
+use Rattle.switch_model.specs.Steady.{things_after}
 use Rattle.switch_model.specs.declared.mark.Mark.{Mark}
 use Rattle.switch_model.specs.declared.mark.MarkEvent.{MarkEvent}
 use Rattle.switch_model.specs.declared.mark.MarkEvent.TheVariants as event
 use Rattle.plan_laws.specs.Views.{HaveOwnNames}
+use Rattle.restart_laws.specs.Applied.{until_next}
 
 -- a hitless apply begins, or a fault or a restart breaks one off
 abbrev pub IsOfBroken : MarkEvent → Type 0
@@ -44,3 +49,8 @@ pub record IsDecidedByView (plan : Ports) (taken : List Sent) (marks : List Mark
   pub of : IsViewAt plan taken marks mark view
   pub least : mark.effects ≤ k
   pub decides : decide view a ≡ d
+
+-- over marks of hitless applies that are broken off one after the other, by faults and restarts, each address is decided after every effect as by what stood at the first of them, or as by the view of one that had begun by then; and what stood at first and all their views forward in one way is forwarded so, up to the next other mark or the end
+pub record AreSteadyOverBreaks (plan : Ports) (taken : List Sent) (effects : List (Call Rid)) (marks : List Mark) : Type 0 where
+  pub decided : (front ms behind : List Mark) (m : Mark) (a : Ip) (k : ℕ) → marks ≡ front ++ ((m ∷ ms) ++ behind) → AreOfBroken (m ∷ ms) → IsProperIp a → m.effects ≤ k → k ≤ until_next behind effects → (decide (things_after effects k) a ≡ decide (things_after effects m.effects) a) ⊎ IsDecidedByView plan taken (m ∷ ms) k a (decide (things_after effects k) a)
+  pub forwarded : (front ms behind : List Mark) (m : Mark) (a : Ip) (f : Forwarding) (k : ℕ) → marks ≡ front ++ ((m ∷ ms) ++ behind) → AreOfBroken (m ∷ ms) → IsProperIp a → forward (things_after effects m.effects) a ≡ f → ((mark : Mark) (view : List Thing) → IsViewAt plan taken (m ∷ ms) mark view → forward view a ≡ f) → m.effects ≤ k → k ≤ until_next behind effects → forward (things_after effects k) a ≡ f

@@ -38,7 +38,7 @@ ghost use Rattle.warm_state.specs.declared.warm.Warm.TheVariants.{Applying, Susp
 ghost use Rattle.restart_laws.specs.Applied.{AreFollowed, until_next};
 ghost use Rattle.restart_laws.specs.Bounded.{effects_outside, listed_at_applies};
 ghost use Rattle.restart_laws.specs.Broken.{AreBroken};
-ghost use Rattle.restart_laws.specs.BrokenOff.{AreOfBroken, IsDecidedByView, IsViewAt};
+ghost use Rattle.restart_laws.specs.BrokenOff.{AreSteadyOverBreaks};
 ghost use Rattle.restart_laws.specs.Identified.{IsIdOf, as_vids, renamed_by};
 ghost use Rattle.restart_laws.specs.Invariant.{Holds};
 ghost use Rattle.restart_laws.specs.Logged.{AreLoggedSteps, IsWarmAfter, LoggedService, last_mark, new_session, session_after};
@@ -134,6 +134,5 @@ pub fn applies_are_steady_and_short()
 /// effect as by what stood at the first of them, or as by the view of one that had begun by then; and what stood at first and all
 /// their views forward in one way is forwarded so, up to the next other mark or the end.
 pub fn broken_applies_are_steady()
-    ensures decided { (plan : Ports) (workers : ℕ) (capacities : List ℕ) (ts : List LoggedService) (front ms behind : List Mark) (m : Mark) (a : Ip) (k : ℕ) → IsPlan plan → AreLoggedSteps plan workers capacities new_session ts → (session_after new_session ts).log.marks ≡ front ++ ((m ∷ ms) ++ behind) → AreOfBroken (m ∷ ms) → IsProperIp a → m.effects ≤ k → k ≤ until_next behind (session_after new_session ts).effects → (decide (things_after (session_after new_session ts).effects k) a ≡ decide (things_after (session_after new_session ts).effects m.effects) a) ⊎ IsDecidedByView plan (session_after new_session ts).log.taken (m ∷ ms) k a (decide (things_after (session_after new_session ts).effects k) a) }
-    ensures forwarded { (plan : Ports) (workers : ℕ) (capacities : List ℕ) (ts : List LoggedService) (front ms behind : List Mark) (m : Mark) (a : Ip) (f : Forwarding) (k : ℕ) → IsPlan plan → AreLoggedSteps plan workers capacities new_session ts → (session_after new_session ts).log.marks ≡ front ++ ((m ∷ ms) ++ behind) → AreOfBroken (m ∷ ms) → IsProperIp a → forward (things_after (session_after new_session ts).effects m.effects) a ≡ f → ((mark : Mark) (view : List Thing) → IsViewAt plan (session_after new_session ts).log.taken (m ∷ ms) mark view → forward view a ≡ f) → m.effects ≤ k → k ≤ until_next behind (session_after new_session ts).effects → forward (things_after (session_after new_session ts).effects k) a ≡ f }
+    ensures { (plan : Ports) (workers : ℕ) (capacities : List ℕ) (ts : List LoggedService) → IsPlan plan → AreLoggedSteps plan workers capacities new_session ts → AreSteadyOverBreaks plan (session_after new_session ts).log.taken (session_after new_session ts).effects (session_after new_session ts).log.marks }
 {}
