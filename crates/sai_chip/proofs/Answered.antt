@@ -12,7 +12,7 @@ use Rattle.sai_types.specs.ChipState.{ChipState, Answers, IsAnswered, StaysSame,
 use Rattle.sai_types.specs.Objects.{Objects, body_at}
 use Rattle.sai_types.specs.After.{makes_id, next_id}
 use Rattle.sai_types.specs.Refusal.{first_refusal, refusal_of, set_refusal, remove_refusal, is_legal}
-use Rattle.sai_chip.specs.Sim.{Sim, ResultsBy, counted, effect_answer, is_failed, refusal_at}
+use Rattle.sai_chip.specs.Sim.{ResultsBy, counted, effect_answer, is_failed, refusal_at}
 
 abbrev is_refusal : ChipAnswer → Bool
 is_refusal answer.Exists = true
@@ -86,25 +86,28 @@ fault_is answer.InUse old = refl
 fault_is answer.Full old = refl
 fault_is answer.NoMemory old = refl
 
-answered_by : (fault : Option Bool) (refusal : Option ChipAnswer) (old left new : Sim) (c : Call Rid) (a : ChipAnswer) → refusal_at old c ≡ refusal → ResultsBy fault refusal old c a left → new ≡ counted (is_legal old.chip.capacities old.chip.objects c) (is_failed a) (length old.chip.effects) left → IsAnswered old.chip c a new.chip
+answered_by : (fault : Option Bool) (refusal : Option ChipAnswer) (old left new : ChipState) (c : Call Rid) (a : ChipAnswer) → refusal_at old c ≡ refusal → ResultsBy fault refusal old c a left → new ≡ counted (is_legal old.capacities old.objects c) (is_failed a) (length old.effects) left → IsAnswered old c a new
 answered_by fault refusal old left new c a e (inr (ea, el)) counts = rw (counts, el, ea) (record {
   answer = (record { objects = refl; effects = refl }, omega arith);
   clean = refl;
   fault = refl;
+  calls = refl;
   capacities = refl;
   fails = refl;
 })
 answered_by None None old left new c a e (inl (ea, el)) counts = rw (counts, el, ea) (record {
-  answer = took_effect old.chip _ c (makes_id c) refl (record { legal = e; objects = refl; effects = refl }) (as_many _ old.chip.faults (id_not_failed (makes_id c) _));
+  answer = took_effect old _ c (makes_id c) refl (record { legal = e; objects = refl; effects = refl }) (as_many _ old.faults (id_not_failed (makes_id c) _));
   clean = refl;
-  fault = fault_is (effect_answer old c) old.chip;
+  fault = fault_is (effect_answer old c) old;
+  calls = refl;
   capacities = refl;
   fails = refl;
 })
 answered_by None (Some r) old left new c a e (inl (ea, el)) counts = rw (counts, el, ea) (record {
-  answer = refused old.chip _ c r (is_refusal-refusal_of old.chip.capacities old.chip.objects c r e) e (record { objects = refl; effects = refl }) (as_many _ old.chip.faults (refusal_not_failed r (is_refusal-refusal_of old.chip.capacities old.chip.objects c r e)));
+  answer = refused old _ c r (is_refusal-refusal_of old.capacities old.objects c r e) e (record { objects = refl; effects = refl }) (as_many _ old.faults (refusal_not_failed r (is_refusal-refusal_of old.capacities old.objects c r e)));
   clean = refl;
-  fault = fault_is r old.chip;
+  fault = fault_is r old;
+  calls = refl;
   capacities = refl;
   fails = refl;
 })
@@ -112,6 +115,7 @@ answered_by (Some true) None old left new c a e (inl (ea, el)) counts = rw (coun
   answer = (inr (record { legal = e; objects = refl; effects = refl }), omega arith);
   clean = refl;
   fault = refl;
+  calls = refl;
   capacities = refl;
   fails = refl;
 })
@@ -119,6 +123,7 @@ answered_by (Some false) None old left new c a e (inl (ea, el)) counts = rw (cou
   answer = (inl (record { objects = refl; effects = refl }), omega arith);
   clean = refl;
   fault = refl;
+  calls = refl;
   capacities = refl;
   fails = refl;
 })
@@ -126,9 +131,10 @@ answered_by (Some after) (Some r) old left new c a e (inl (ea, el)) counts = rw 
   answer = (inl (record { objects = refl; effects = refl }), omega arith);
   clean = refl;
   fault = refl;
+  calls = refl;
   capacities = refl;
   fails = refl;
 })
 
-pub answered : (fault : Option Bool) (old left new : Sim) (c : Call Rid) (a : ChipAnswer) → ResultsBy fault (refusal_at old c) old c a left → new ≡ counted (is_legal old.chip.capacities old.chip.objects c) (is_failed a) (length old.chip.effects) left → IsAnswered old.chip c a new.chip
+pub answered : (fault : Option Bool) (old left new : ChipState) (c : Call Rid) (a : ChipAnswer) → ResultsBy fault (refusal_at old c) old c a left → new ≡ counted (is_legal old.capacities old.objects c) (is_failed a) (length old.effects) left → IsAnswered old c a new
 answered fault old left new c a results counts = answered_by fault (refusal_at old c) old left new c a refl results counts

@@ -7,38 +7,24 @@ use Rattle.sai_types.specs.declared.answer.ChipAnswer.{ChipAnswer}
 use Rattle.sai_types.specs.declared.answer.ChipAnswer.TheVariants as answer
 use Rattle.sai_types.specs.declared.answer.ListAnswer.{ListAnswer}
 use Rattle.sai_types.specs.declared.answer.ListAnswer.TheVariants as listed
-use Rattle.sai_types.specs.ChipState.{ChipState, new_chip, objects_of}
+use Rattle.sai_types.specs.ChipState.{ChipState, calls_after, objects_of}
 use Rattle.sai_types.specs.Refusal.{refusal_of, is_legal}
 use Rattle.sai_types.specs.After.{after_call, makes_id, next_id}
-use Rattle.sai_types.specs.declared.fail.Fail.{Fail}
 use Rattle.sai_chip.specs.Failing.{fail_at}
 
--- its state, and the number of calls made so far
-pub record Sim : Type 0 where
-  pub chip : ChipState
-  pub calls : ℕ
-
--- a new one
-abbrev pub new_sim : List ℕ → List Fail → Sim
-new_sim capacities fails = record { chip = new_chip capacities fails; calls = 0 }
-
 -- whether the next call fails, and with effect: calls are numbered from 1 to 2^64 - 1, and later ones have no number
-abbrev pub fault_of : Sim → Option Bool
-fault_of s = if nat_lt s.calls 18446744073709551615 then fail_at s.chip.fails (s.calls + 1) else None
+abbrev pub fault_of : ChipState → Option Bool
+fault_of s = if nat_lt s.calls 18446744073709551615 then fail_at s.fails (s.calls + 1) else None
 
--- the number of calls after one more, which stays at 2^64 - 1
-abbrev pub calls_after : ℕ → ℕ
-calls_after calls = if nat_lt calls 18446744073709551615 then calls + 1 else calls
-
-abbrev pub refusal_at : Sim → Call Rid → Option ChipAnswer
-refusal_at s c = refusal_of s.chip.capacities s.chip.objects c
+abbrev pub refusal_at : ChipState → Call Rid → Option ChipAnswer
+refusal_at s c = refusal_of s.capacities s.objects c
 
 -- what a call answers that takes effect and does not fail
-abbrev pub effect_answer : Sim → Call Rid → ChipAnswer
-effect_answer s c = if makes_id c then answer.Made (record { 0 = next_id s.chip.effects }) else answer.Done
+abbrev pub effect_answer : ChipState → Call Rid → ChipAnswer
+effect_answer s c = if makes_id c then answer.Made (record { 0 = next_id s.effects }) else answer.Done
 
-abbrev pub with_effect : Sim → Call Rid → Sim
-with_effect s c = record s { chip = record s.chip { objects = after_call (next_id s.chip.effects) s.chip.objects c; effects = s.chip.effects ++ c ∷ [] } }
+abbrev pub with_effect : ChipState → Call Rid → ChipState
+with_effect s c = record s { objects = after_call (next_id s.effects) s.objects c; effects = s.effects ++ c ∷ [] }
 
 -- by whether the call fails, its refusal, and what it answers with effect
 abbrev pub answer_among : Option Bool → Option ChipAnswer → ChipAnswer → ChipAnswer
@@ -53,16 +39,18 @@ effect_by (Some after) None = after
 effect_by None None = true
 
 -- what comes of a call, by whether it fails and by its refusal: its answer with its effect, or want of memory and no effect
-abbrev pub ResultsBy : Option Bool → Option ChipAnswer → Sim → Call Rid → ChipAnswer → Sim → Type 0
+abbrev pub ResultsBy : Option Bool → Option ChipAnswer → ChipState → Call Rid → ChipAnswer → ChipState → Type 0
 ResultsBy fault refusal old c a new =
     ((a ≡ answer_among fault refusal (effect_answer old c)) × (new ≡ (if effect_by fault refusal then with_effect old c else old)))
     ⊎ ((a ≡ answer.NoMemory) × (new ≡ old))
 
 -- a call is counted: whether it was legal, whether the chip failed at it, and how many calls had taken effect before it
-abbrev pub counted : Bool → Bool → ℕ → Sim → Sim
+abbrev pub counted : Bool → Bool → ℕ → ChipState → ChipState
 counted legal failed before s =
     record s {
-      chip = record s.chip { clean = s.chip.clean && legal; faults = s.chip.faults + (if failed then 1 else 0); before_fault = if failed then before else s.chip.before_fault };
+      clean = s.clean && legal;
+      faults = s.faults + (if failed then 1 else 0);
+      before_fault = if failed then before else s.before_fault;
       calls = calls_after s.calls;
     }
 
@@ -71,10 +59,10 @@ is_failed answer.Failed = true
 is_failed _ = false
 
 -- a call of the simulated chip: its answer and effect, and then it is counted
-pub record IsCalled (old : Sim) (c : Call Rid) (a : ChipAnswer) (new : Sim) : Type 0 where
-  pub left : Sim
+pub record IsCalled (old : ChipState) (c : Call Rid) (a : ChipAnswer) (new : ChipState) : Type 0 where
+  pub left : ChipState
   pub results : ResultsBy (fault_of old) (refusal_at old c) old c a left
-  pub counts : new ≡ counted (is_legal old.chip.capacities old.chip.objects c) (is_failed a) (length old.chip.effects) left
+  pub counts : new ≡ counted (is_legal old.capacities old.objects c) (is_failed a) (length old.effects) left
 
 abbrev pub is_list_failed : ListAnswer → Bool
 is_list_failed listed.Failed = true
@@ -93,10 +81,10 @@ ListsBy fault listed.NoMemory old more new = new ≡ old
 ListsBy fault listed.Failed old more new = IsSome fault × (new ≡ old)
 
 -- a listing of the simulated chip: what it gives, and then it is counted
-pub record IsListing (old : Sim) (a : ListAnswer) (out out' : List (Object Rid)) (new : Sim) : Type 0 where
-  pub lists : ListsBy (fault_of old) a out (objects_of old.chip.objects) out'
-  pub counts : new ≡ counted true (is_list_failed a) (length old.chip.effects) old
+pub record IsListing (old : ChipState) (a : ListAnswer) (out out' : List (Object Rid)) (new : ChipState) : Type 0 where
+  pub lists : ListsBy (fault_of old) a out (objects_of old.objects) out'
+  pub counts : new ≡ counted true (is_list_failed a) (length old.effects) old
 
 -- what comes of a call at which the chip fails, with effect or without
-abbrev pub FailsBy : Bool → Sim → Call Rid → ChipAnswer → Sim → Type 0
+abbrev pub FailsBy : Bool → ChipState → Call Rid → ChipAnswer → ChipState → Type 0
 FailsBy takes old c a new = ((a ≡ answer.Failed) × (new ≡ (if takes then with_effect old c else old))) ⊎ ((a ≡ answer.NoMemory) × (new ≡ old))

@@ -53,8 +53,8 @@ impl Remade {
     /// Follows the chip by one effect, and says whether there was one. It names nothing, and after want of memory it is
     /// as before.
     pub fn follow(&mut self, chip: &SimChip) -> Result<bool, OutOfMemory>
-        ensures further { IfOk result (λ followed. IsRemadeOf self.old chip.now.chip.effects → self.old.at < length chip.now.chip.effects → (followed ≡ true) × (self.new.at ≡ self.old.at + 1) × IsRemadeOf self.new chip.now.chip.effects) }
-        ensures end { IfOk result (λ followed. length chip.now.chip.effects ≤ self.old.at → (followed ≡ false) × (self.new ≡ self.old)) }
+        ensures further { IfOk result (λ followed. IsRemadeOf self.old chip.now.effects → self.old.at < length chip.now.effects → (followed ≡ true) × (self.new.at ≡ self.old.at + 1) × IsRemadeOf self.new chip.now.effects) }
+        ensures end { IfOk result (λ followed. length chip.now.effects ≤ self.old.at → (followed ≡ false) × (self.new ≡ self.old)) }
         ensures err { OnErr result (self.new ≡ self.old) }
     {
         let Some(call) = self.next(chip) else {
@@ -68,9 +68,9 @@ impl Remade {
     /// and as it stood before a removal. None where all effects were followed, and for an object with an absent
     /// reference. After want of memory it is as before or has followed the effect.
     pub fn advance(&mut self, chip: &SimChip) -> Result<Option<Thing>, OutOfMemory>
-        ensures further { IfOk result (λ thing. IsRemadeOf self.old chip.now.chip.effects → self.old.at < length chip.now.chip.effects → (thing ≡ effect_thing chip.now.chip.effects (self.old.at + 1)) × (self.new.at ≡ self.old.at + 1) × IsRemadeOf self.new chip.now.chip.effects) }
-        ensures end { IfOk result (λ thing. length chip.now.chip.effects ≤ self.old.at → (thing ≡ None) × (self.new ≡ self.old)) }
-        ensures err { OnErr result (IsRemadeOf self.old chip.now.chip.effects → (self.old.at ≤ self.new.at) × (self.new.at ≤ self.old.at + 1) × IsRemadeOf self.new chip.now.chip.effects) }
+        ensures further { IfOk result (λ thing. IsRemadeOf self.old chip.now.effects → self.old.at < length chip.now.effects → (thing ≡ effect_thing chip.now.effects (self.old.at + 1)) × (self.new.at ≡ self.old.at + 1) × IsRemadeOf self.new chip.now.effects) }
+        ensures end { IfOk result (λ thing. length chip.now.effects ≤ self.old.at → (thing ≡ None) × (self.new ≡ self.old)) }
+        ensures err { OnErr result (IsRemadeOf self.old chip.now.effects → (self.old.at ≤ self.new.at) × (self.new.at ≤ self.old.at + 1) × IsRemadeOf self.new chip.now.effects) }
     {
         match self.next(chip) {
             Some(call) => self.tell(call),
@@ -80,7 +80,7 @@ impl Remade {
 
     /// The next effect to follow.
     fn next<'a>(&self, chip: &'a SimChip) -> Option<&'a Call<Rid>>
-        ensures next { option_copied result ≡ slice_get chip.now.chip.effects self.now.at }
+        ensures next { option_copied result ≡ slice_get chip.now.effects self.now.at }
         ensures fits { IfSome result (λ _. self.now.at < 18446744073709551615) }
     {
         if chip.effects() <= self.at {

@@ -46,8 +46,8 @@ impl Replay {
     /// Follows the chip by one effect, and says whether there was one. It names nothing, and after want of memory it is
     /// as before.
     pub fn follow(&mut self, chip: &SimChip) -> Result<bool, OutOfMemory>
-        ensures further { IfOk result (λ followed. IsReplayOf self.old chip.now.chip.effects → self.old.at < length chip.now.chip.effects → (followed ≡ true) × (self.new.at ≡ self.old.at + 1) × IsReplayOf self.new chip.now.chip.effects) }
-        ensures end { IfOk result (λ followed. length chip.now.chip.effects ≤ self.old.at → (followed ≡ false) × (self.new ≡ self.old)) }
+        ensures further { IfOk result (λ followed. IsReplayOf self.old chip.now.effects → self.old.at < length chip.now.effects → (followed ≡ true) × (self.new.at ≡ self.old.at + 1) × IsReplayOf self.new chip.now.effects) }
+        ensures end { IfOk result (λ followed. length chip.now.effects ≤ self.old.at → (followed ≡ false) × (self.new ≡ self.old)) }
         ensures err { OnErr result (self.new ≡ self.old) }
     {
         if chip.effects() <= self.at {
@@ -61,9 +61,9 @@ impl Replay {
     /// and as it stood before a removal. None where all effects were followed, and for an object with an absent
     /// reference. After want of memory the replay is as before or has followed the effect.
     pub fn advance(&mut self, chip: &SimChip) -> Result<Option<Thing>, OutOfMemory>
-        ensures further { IfOk result (λ thing. IsReplayOf self.old chip.now.chip.effects → self.old.at < length chip.now.chip.effects → (thing ≡ effect_thing chip.now.chip.effects (self.old.at + 1)) × (self.new.at ≡ self.old.at + 1) × IsReplayOf self.new chip.now.chip.effects) }
-        ensures end { IfOk result (λ thing. length chip.now.chip.effects ≤ self.old.at → (thing ≡ None) × (self.new ≡ self.old)) }
-        ensures err { OnErr result (IsReplayOf self.old chip.now.chip.effects → (self.old.at ≤ self.new.at) × (self.new.at ≤ self.old.at + 1) × IsReplayOf self.new chip.now.chip.effects) }
+        ensures further { IfOk result (λ thing. IsReplayOf self.old chip.now.effects → self.old.at < length chip.now.effects → (thing ≡ effect_thing chip.now.effects (self.old.at + 1)) × (self.new.at ≡ self.old.at + 1) × IsReplayOf self.new chip.now.effects) }
+        ensures end { IfOk result (λ thing. length chip.now.effects ≤ self.old.at → (thing ≡ None) × (self.new ≡ self.old)) }
+        ensures err { OnErr result (IsReplayOf self.old chip.now.effects → (self.old.at ≤ self.new.at) × (self.new.at ≤ self.old.at + 1) × IsReplayOf self.new chip.now.effects) }
     {
         if chip.effects() <= self.at {
             return Ok(None);
@@ -76,8 +76,8 @@ impl Replay {
 
     /// Makes the effects that it has followed.
     fn catch_up(&mut self, chip: &SimChip) -> Result<(), OutOfMemory>
-        ensures kept { IsReplayOf self.old chip.now.chip.effects → (self.new.at ≡ self.old.at) × IsReplayOf self.new chip.now.chip.effects }
-        ensures caught { OnOk result (IsReplayOf self.old chip.now.chip.effects → self.new.remade.at ≡ self.old.at) }
+        ensures kept { IsReplayOf self.old chip.now.effects → (self.new.at ≡ self.old.at) × IsReplayOf self.new chip.now.effects }
+        ensures caught { OnOk result (IsReplayOf self.old chip.now.effects → self.new.remade.at ≡ self.old.at) }
     {
         for _before in self.remade.at()..self.at {
             self.remade.follow(chip)?;

@@ -5,13 +5,13 @@ ghost use Rattle.sai_types.specs.declared.body.Call.{Call};
 ghost use Rattle.sai_types.specs.After.{after_call};
 ghost use Rattle.sai_types.specs.Made.{AreSorted, HaveLanes, has_first};
 ghost use Rattle.sai_types.specs.Objects.{Objects};
-ghost use Rattle.sai_types.specs.ChipState.{IsAnswered, IsListed, objects_of};
+ghost use Rattle.sai_types.specs.ChipState.{IsAnswered, IsListed, new_chip, objects_of};
 ghost use Rattle.sai_types.specs.Refusal.{refusal_of};
 ghost use Rattle.sai_types.specs.Forwarding.{forward};
 ghost use Rattle.sai_types.specs.Named.{named, those};
 ghost use Rattle.sai_chip.specs.Forward.{answer_of};
 ghost use Rattle.sai_chip.specs.SimChip.{effect_at, makes_first};
-ghost use Rattle.sai_chip.specs.Sim.{FailsBy, IsCalled, IsListing, ListsBy, ResultsBy, counted, effect_answer, fault_of, is_failed, new_sim, refusal_at, with_effect};
+ghost use Rattle.sai_chip.specs.Sim.{FailsBy, IsCalled, IsListing, ListsBy, ResultsBy, counted, effect_answer, fault_of, is_failed, refusal_at, with_effect};
 
 use crate::effect::{make_effect, makes_id};
 use crate::fail::Failing;
@@ -47,12 +47,12 @@ pub struct SimChip {
 }
 
 impl Model for SimChip {
-    ghost use Rattle.sai_chip.specs.Sim.{Sim};
+    ghost use Rattle.sai_types.specs.ChipState.{ChipState};
     ghost use Rattle.sai_chip.specs.SimChip.{IsChipInOrder};
 
-    ghost Value = { Sim };
+    ghost Value = { ChipState };
 
-    ghost view = { λ s. record { chip = record { objects = s.held; effects = s.effects.items; capacities = s.caps.0; fails = s.fails; clean = s.clean; faults = s.faults; before_fault = s.before_fault }; calls = s.calls } };
+    ghost view = { λ s. record { objects = s.held; effects = s.effects.items; capacities = s.caps.0; fails = s.fails; clean = s.clean; faults = s.faults; before_fault = s.before_fault; calls = s.calls } };
 
     ghost invariant = { λ s. IsChipInOrder s.held s.effects.items s.fails s.made s.faults s.calls };
 }
@@ -61,7 +61,7 @@ impl SimChip {
     /// An empty chip with these capacities. It fails at the calls that `fails` lists; of several entries for one call
     /// the first counts.
     pub fn new(alloc: Global, caps: Caps, fails: Vec<Fail>) -> SimChip
-        ensures { result ≡ new_sim caps.0 fails.items }
+        ensures { result ≡ new_chip caps.0 fails.items }
     {
         empty_is_whole();
         SimChip {
@@ -79,7 +79,7 @@ impl SimChip {
 
     /// Effect k, counted from 1: None exactly where k is 0 or greater than the number of effects.
     pub fn effect(&self, k: u64) -> Option<&Call<Rid>>
-        ensures { option_copied result ≡ effect_at self.now.chip.effects k }
+        ensures { option_copied result ≡ effect_at self.now.effects k }
     {
         self.effects.get(k.checked_sub(1)? as usize)
     }
@@ -87,7 +87,7 @@ impl SimChip {
     /// Where the chip sends the packets of an address: to the switch itself where the address is its own, else where
     /// the route of the longest prefix that covers the address points, with its hops in rising order, else nowhere.
     pub fn forward(&self, alloc: Global, ip: Ip) -> Result<Forward, OutOfMemory>
-        ensures { IfOk result (λ f. f ≡ answer_of (forward (those (named self.now.chip.objects)) ip)) }
+        ensures { IfOk result (λ f. f ≡ answer_of (forward (those (named self.now.objects)) ip)) }
     {
         keys_are_taken_once();
         forward_by(alloc, &self.held, ip)
@@ -95,7 +95,7 @@ impl SimChip {
 
     /// The objects on the chip, each once, in the order of their entries.
     pub fn objects(&self, alloc: Global) -> Result<Vec<Object<Rid>>, OutOfMemory>
-        ensures { IfOk result (λ objects. objects.items ≡ objects_of self.now.chip.objects) }
+        ensures { IfOk result (λ objects. objects.items ≡ objects_of self.now.objects) }
     {
         let mut objects = Vec::new(alloc);
         match self.held.list(&mut objects) {
@@ -200,8 +200,8 @@ impl SimChip {
 
     /// What a listing answers, and appends.
     fn answer_list(&mut self, out: &mut Vec<Object<Rid>>) -> ListAnswer
-        ensures lists { ListsBy (fault_of self.old) result out.old.items (objects_of self.old.chip.objects) out.new.items }
-        ensures sorted { AreSorted self.old.chip.objects }
+        ensures lists { ListsBy (fault_of self.old) result out.old.items (objects_of self.old.objects) out.new.items }
+        ensures sorted { AreSorted self.old.objects }
         ensures kept { self.new ≡ self.old }
     {
         match self.fault() {
@@ -213,10 +213,10 @@ impl SimChip {
 }
 
 impl Chip for SimChip {
-    ghost state = { λ s. s.chip };
+    ghost state = { λ s. s };
 
     fn call(&mut self, call: &Call<Rid>) -> ChipAnswer
-        ensures answered { IsAnswered self.old.chip call.now result self.new.chip }
+        ensures answered { IsAnswered self.old call.now result self.new }
         ensures called { IsCalled self.old call.now result self.new }
     {
         let before = self.effects();
@@ -228,7 +228,7 @@ impl Chip for SimChip {
 
     #[tactic(auto, using(crate::proofs::Appended::each_appended))]
     fn list(&mut self, out: &mut Vec<Object<Rid>>) -> ListAnswer
-        ensures listed { IsListed self.old.chip result out.old.items out.new.items self.new.chip }
+        ensures listed { IsListed self.old result out.old.items out.new.items self.new }
         ensures called { IsListing self.old result out.old.items out.new.items self.new }
     {
         let answer = self.answer_list(out);

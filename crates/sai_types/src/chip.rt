@@ -6,19 +6,21 @@ ghost use Rattle.sai_types.specs.Refusal.{capacity_of};
 
 use crate::{Call, ChipAnswer, Kind, ListAnswer, Object, Rid};
 
-/// A SAI chip: it answers each call by the table of answers (docs/FORMATS.md), and counts its faults. Its capacities and
-/// the calls at which it is made to fail stay.
+/// A SAI chip: it answers each call by the table of answers (docs/FORMATS.md), counts the calls and lists that are made
+/// of it, whatever it answers, and counts its faults. Its capacities and the calls at which it is made to fail stay.
 pub trait Chip {
     ghost use Rattle.sai_types.specs.ChipState.{ChipState};
 
     /// What stands on the chip, and what it did so far.
     ghost state: { Self → ChipState };
 
-    /// Makes a call. The answer is the first refusal of the table that holds; after one the chip is as before.
+    /// Makes a call, which counts as one, whatever the answer. The answer is the first refusal of the table that holds;
+    /// after one the chip is as before, but for that count. A failure counts as one fault.
     fn call(&mut self, call: &Call<Rid>) -> ChipAnswer
         ensures { IsAnswered (state self.old) call.now result (state self.new) };
 
-    /// Appends each object once, in any order. After Failed and NoMemory `out` is as before.
+    /// Appends each object once, in any order. After Failed and NoMemory `out` is as before. It counts as a call, whatever
+    /// the answer, and a failure counts as one fault.
     fn list(&mut self, out: &mut Vec<Object<Rid>>) -> ListAnswer
         ensures { IsListed (state self.old) result out.old.items out.new.items (state self.new) };
 

@@ -124,7 +124,7 @@ module _ (c : CoreState) (chip : ChipState) (s : LoggedService) (is : IsSessionO
       plan = refl;
       capacities = refl;
       limit = refl;
-      makes = OfService effect (OfFault effect (then log).service (record { call = d; due = OfFlight (is.warm_is ∙ at) (due_call c chip s is at w x there begun call told).0; warm = refl; written = written; chip = has })) refl (chip.faults, chip'.faults, failed.1, adds log form);
+      makes = OfService effect (OfFault effect (then log).service (record { call = d; due = OfFlight (is.warm_is ∙ at) (due_call c chip s is at w x there begun call told).0; warm = refl; written = written; chip = has })) refl (chip.faults, chip'.faults, omega (arith, failed.1), adds log form);
       stands = stands log (same_taken log form) (same_marks log form);
     }
       where

@@ -15,5 +15,6 @@ pub mod Joining
 pub mod Seeing
 pub mod Sizing
 pub mod Beside
+pub mod Asked
 pub mod Settling
 pub mod Service

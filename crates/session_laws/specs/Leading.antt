@@ -3,6 +3,7 @@ use Rattle.std.specs.Prelude.{◌≡◌, ◌++◌, ◌<◌, ℕ, List, [], map, 
 use Rattle.sai_types.specs.declared.body.Call.{Call}
 use Rattle.sai_types.specs.declared.ids.Rid.{Rid}
 use Rattle.sai_types.specs.ChipState.{ChipState}
+use Rattle.switch_model.specs.History.{no_history}
 use Rattle.switch_machine.specs.Events.{AreAnswers, IsQuiet, SwitchState, after_answers}
 use Rattle.machine_laws.specs.Logged.{ArePops, IsWholeSettling, LoggedSwitch, after_pops}
 use Rattle.restart_laws.specs.Logged.{AreLoggedSteps, LoggedService, session_after, switch_of}
@@ -44,6 +45,10 @@ pub record PopsTo (c : CoreState) (s : LoggedService) (c' : CoreState) (chip' : 
   pub core : later.service.core ≡ after_pops s.service.core pops
   pub effects : later.effects ≡ s.effects
   pub log : later.log ≡ s.log
+
+-- a state of the machine alone, with calls that took effect
+abbrev pub with_calls : SwitchState → List (Call Rid) → LoggedSwitch
+with_calls s calls = record { switch = s; log = no_history; effects = calls }
 
 -- the switch with its log and effects, once so many answers were given
 abbrev pub switch_answered : LoggedService → List (Call Rid × SwitchState) → LoggedSwitch

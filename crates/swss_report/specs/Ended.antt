@@ -27,7 +27,7 @@ ended_round end = record {
   marks = end.marks.now;
   taken = end.taken;
   rows = end.rows.now;
-  capacities = end.chip.now.chip.capacities;
-  objects = end.chip.now.chip.objects;
-  effects = end.chip.now.chip.effects;
+  capacities = end.chip.now.capacities;
+  objects = end.chip.now.objects;
+  effects = end.chip.now.effects;
 }

@@ -19,8 +19,8 @@ pub(crate) fn follow_with_lines(
     chip: &SimChip,
     replay: &mut Replay,
 ) -> Result<Vec<u8>, OutOfMemory>
-    ensures lines { IfOk result (λ lines. IsReplayOf replay.old chip.now.chip.effects → lines.items ≡ calls_text plan.now replay.old.at chip.now.chip.effects) }
-    ensures followed { IfOk result (λ lines. IsReplayOf replay.old chip.now.chip.effects → IsReplayOf replay.new chip.now.chip.effects × (replay.new.at ≡ length chip.now.chip.effects)) }
+    ensures lines { IfOk result (λ lines. IsReplayOf replay.old chip.now.effects → lines.items ≡ calls_text plan.now replay.old.at chip.now.effects) }
+    ensures followed { IfOk result (λ lines. IsReplayOf replay.old chip.now.effects → IsReplayOf replay.new chip.now.effects × (replay.new.at ≡ length chip.now.effects)) }
 {
     let mut lines = Vec::new(alloc);
     write_count(
@@ -34,7 +34,7 @@ pub(crate) fn follow_with_lines(
 
 /// Follows the chip to its last effect.
 pub(crate) fn follow(chip: &SimChip, replay: &mut Replay) -> Result<(), OutOfMemory>
-    ensures { OnOk result (IsReplayOf replay.old chip.now.chip.effects → IsReplayOf replay.new chip.now.chip.effects × (replay.new.at ≡ length chip.now.chip.effects)) }
+    ensures { OnOk result (IsReplayOf replay.old chip.now.effects → IsReplayOf replay.new chip.now.effects × (replay.new.at ≡ length chip.now.effects)) }
 {
     for _before in replay.at()..chip.effects() {
         replay.follow(chip)?;
@@ -49,8 +49,8 @@ fn write_calls(
     chip: &SimChip,
     replay: &mut Replay,
 ) -> Result<(), OutOfMemory>
-    ensures lines { OnOk result (IsReplayOf replay.old chip.now.chip.effects → out.new.items ≡ out.old.items ++ call_lines plan.now chip.now.chip.effects replay.old.at (length chip.now.chip.effects - replay.old.at)) }
-    ensures followed { OnOk result (IsReplayOf replay.old chip.now.chip.effects → IsReplayOf replay.new chip.now.chip.effects × (replay.new.at ≡ length chip.now.chip.effects)) }
+    ensures lines { OnOk result (IsReplayOf replay.old chip.now.effects → out.new.items ≡ out.old.items ++ call_lines plan.now chip.now.effects replay.old.at (length chip.now.effects - replay.old.at)) }
+    ensures followed { OnOk result (IsReplayOf replay.old chip.now.effects → IsReplayOf replay.new chip.now.effects × (replay.new.at ≡ length chip.now.effects)) }
 {
     for before in replay.at()..chip.effects() {
         let thing = replay.advance(chip)?;

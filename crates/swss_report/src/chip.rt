@@ -14,7 +14,7 @@ use table_schema::PortPlan;
 
 /// What stands on the chip, in the order of the report.
 pub(crate) fn standing(alloc: Global, chip: &SimChip) -> Result<Vec<Thing>, OutOfMemory>
-    ensures { IfOk result (λ things. Stand chip.now.chip.objects things.items) }
+    ensures { IfOk result (λ things. Stand chip.now.objects things.items) }
 {
     let objects = chip.objects(alloc)?;
     let things = named(alloc, objects.as_slice())?;

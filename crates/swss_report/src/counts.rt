@@ -53,7 +53,7 @@ fn write_turns(out: &mut Vec<u8>, turns: Option<u64>) -> Result<(), OutOfMemory>
 
 /// Appends the lines of kinds.
 fn write_kinds(out: &mut Vec<u8>, chip: &SimChip, kinds: &[Kind]) -> Result<(), OutOfMemory>
-    ensures { OnOk result (out.new.items ≡ out.old.items ++ flat_map (kind_line chip.now.chip.objects chip.now.chip.capacities) kinds.now) }
+    ensures { OnOk result (out.new.items ≡ out.old.items ++ flat_map (kind_line chip.now.objects chip.now.capacities) kinds.now) }
 {
     for kind in kinds {
         write_kind(out, chip, *kind)?;
@@ -63,7 +63,7 @@ fn write_kinds(out: &mut Vec<u8>, chip: &SimChip, kinds: &[Kind]) -> Result<(), 
 
 /// Appends a kind, how many objects of it stand, and how many have room.
 fn write_kind(out: &mut Vec<u8>, chip: &SimChip, kind: Kind) -> Result<(), OutOfMemory>
-    ensures { OnOk result (out.new.items ≡ out.old.items ++ kind_line chip.now.chip.objects chip.now.chip.capacities kind) }
+    ensures { OnOk result (out.new.items ≡ out.old.items ++ kind_line chip.now.objects chip.now.capacities kind) }
 {
     out.extend_from_slice(kind_name(kind))?;
     out.push(b' ')?;

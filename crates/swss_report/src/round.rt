@@ -62,8 +62,8 @@ fn lines_of_calls(
     chip: &SimChip,
     replay: &mut Replay,
 ) -> Result<Vec<u8>, OutOfMemory>
-    ensures lines { IfOk result (λ lines. IsReplayOf replay.old chip.now.chip.effects → list_any is_calls shows.now ≡ true → lines.items ≡ calls_text plan.now replay.old.at chip.now.chip.effects) }
-    ensures followed { IfOk result (λ lines. IsReplayOf replay.old chip.now.chip.effects → IsReplayOf replay.new chip.now.chip.effects × (replay.new.at ≡ length chip.now.chip.effects)) }
+    ensures lines { IfOk result (λ lines. IsReplayOf replay.old chip.now.effects → list_any is_calls shows.now ≡ true → lines.items ≡ calls_text plan.now replay.old.at chip.now.effects) }
+    ensures followed { IfOk result (λ lines. IsReplayOf replay.old chip.now.effects → IsReplayOf replay.new chip.now.effects × (replay.new.at ≡ length chip.now.effects)) }
 {
     if show_calls(shows) {
         return follow_with_lines(alloc, plan, chip, replay);

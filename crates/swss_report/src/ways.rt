@@ -20,7 +20,7 @@ pub(crate) fn write_forward(
     chip: &SimChip,
     ip: &Ip,
 ) -> Result<(), OutOfMemory>
-    ensures { OnOk result (out.new.items ≡ out.old.items ++ forward_text plan.now ip.now (answer_of (forward (those (named chip.now.chip.objects)) ip.now))) }
+    ensures { OnOk result (out.new.items ≡ out.old.items ++ forward_text plan.now ip.now (answer_of (forward (those (named chip.now.objects)) ip.now))) }
 {
     let answer = chip.forward(alloc, *ip)?;
     out.extend_from_slice(b"forward ")?;

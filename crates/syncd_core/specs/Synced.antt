@@ -13,7 +13,7 @@ use Rattle.sai_types.specs.declared.ids.Rid.{Rid}
 use Rattle.sai_types.specs.declared.ids.Vid.{Vid}
 use Rattle.sai_types.specs.declared.plan.PlanCall.{PlanCall}
 use Rattle.sai_types.specs.After.{has_id}
-use Rattle.sai_types.specs.ChipState.{ChipState, IsAnswered, IsListed, objects_of}
+use Rattle.sai_types.specs.ChipState.{ChipState, IsAnswered, IsAskedOnce, IsListed, asked, objects_of}
 use Rattle.sai_types.specs.Refusal.{IsLegal}
 use Rattle.chip_layout.specs.Renamed.{call_renamed}
 use Rattle.asic_view.specs.View.{IsLegalOn, IsNew, ViewObjects, after_create, after_remove, view_after_set, with_tie}
@@ -96,10 +96,16 @@ abbrev pub Calls : SyncState → Option ViewObjects → ChipState → Call Vid �
 Calls s (Some temporary) chip c a s' chip' = (later : ViewObjects) × (s' ≡ with_temporary s later) × Changes temporary c a later × (chip' ≡ chip)
 Calls s None chip c a s' chip' = (later : ViewObjects) × (s' ≡ with_view s later) × IsMadeOnChip s.view chip c a later chip'
 
+-- the chip after a call for which there was no memory: it may have been asked, but not while a temporary view is built
+abbrev pub IsUnmade : Option ViewObjects → ChipState → ChipState → Type 0
+IsUnmade (Some temporary) chip chip' = chip' ≡ chip
+IsUnmade None chip chip' = IsAskedOnce chip chip'
+
 -- ---- lists
 
+-- the chip was asked for one list
 abbrev pub TakesList : SyncState → ChipState → Listed → SyncState → ChipState → Type 0
-TakesList s chip listed.Done s' chip' = (s' ≡ with_listed s (objects_of chip.objects)) × (chip' ≡ chip)
+TakesList s chip listed.Done s' chip' = (s' ≡ with_listed s (objects_of chip.objects)) × (chip' ≡ asked chip)
 TakesList s chip listed.Failed s' chip' = (s' ≡ s) × IsListed chip list_answer.Failed [] [] chip'
 
 -- ---- applies
@@ -137,7 +143,7 @@ abbrev pub step_by : ChipAnswer → List PlanCall → ApplyStep
 step_by answer.Failed cs = step.Failed
 step_by _ cs = step_after cs
 
--- a call of the plan was made on the chip, by the ties so far, and what it made was tied
+-- exactly one call was made on the chip, that of the plan by the ties so far, and what it made was tied
 pub record IsApplied (s : SyncState) (chip : ChipState) (c : PlanCall) (cs : List PlanCall) (a : ApplyStep) (s' : SyncState) (chip' : ChipState) : Type 0 where
   pub answer : ChipAnswer
   pub answered : IsAnswered chip (call_renamed (plan_tie s.view) c.call) answer chip'

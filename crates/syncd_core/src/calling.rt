@@ -1,5 +1,6 @@
 // Calls on a view, and on the chip beside it.
 ghost use Rattle.std.specs.Prelude.{◌≡◌, OnErr, IfOk};
+ghost use Rattle.sai_types.specs.ChipState.{IsAskedOnce};
 ghost use Rattle.sai_types.specs.Refusal.{IsLegal};
 ghost use Rattle.chip_layout.specs.Renamed.{call_renamed};
 ghost use Rattle.asic_view.specs.View.{IsLegalOn};
@@ -55,7 +56,7 @@ pub(crate) fn call_chip<C: Chip>(
     requires chip { IsLegal (C.state chip.old).capacities (C.state chip.old).objects (call_renamed (tie_of view.old) call.now) }
     ensures ok { IfOk result (λ answer. IsMadeOnChip view.old (C.state chip.old) call.now answer view.new (C.state chip.new)) }
     ensures err { OnErr result (view.new ≡ view.old) }
-    ensures unmade { OnErr result (C.state chip.new ≡ C.state chip.old) }
+    ensures unmade { OnErr result (IsAskedOnce (C.state chip.old) (C.state chip.new)) }
 {
     let tied = tied_call(view, call)?;
     match call {
@@ -90,7 +91,7 @@ fn create<C: Chip>(
     requires tied { tied.now ≡ call_renamed (tie_of view.old) (Call.Create body.now) }
     ensures ok { IfOk result (λ answer. IsMadeOnChip view.old (C.state chip.old) (Call.Create body.now) answer view.new (C.state chip.new)) }
     ensures err { OnErr result (view.new ≡ view.old) }
-    ensures unmade { OnErr result (C.state chip.new ≡ C.state chip.old) }
+    ensures unmade { OnErr result (IsAskedOnce (C.state chip.old) (C.state chip.new)) }
 {
     taken_back_is_unmade();
     let copy = body.copy()?;

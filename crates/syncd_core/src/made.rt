@@ -1,6 +1,6 @@
 // A legal call on the chip.
 ghost use Rattle.std.specs.Prelude.{◌≡◌, IfOk, OnErr};
-ghost use Rattle.sai_types.specs.ChipState.{IsAnswered};
+ghost use Rattle.sai_types.specs.ChipState.{IsAnswered, asked};
 ghost use Rattle.sai_types.specs.Refusal.{IsLegal};
 ghost use Rattle.syncd_core.specs.Synced.{answer_by};
 
@@ -18,11 +18,11 @@ pub(crate) enum Made {
     Failed,
 }
 
-/// Makes a legal call on the chip.
+/// Makes a legal call on the chip, which is asked once.
 pub(crate) fn make<C: Chip>(chip: &mut C, call: &Call<Rid>) -> Result<Made, OutOfMemory>
     requires { IsLegal (C.state chip.old).capacities (C.state chip.old).objects call.now }
     ensures ok { IfOk result (λ made. IsAnswered (C.state chip.old) call.now (answer_by made) (C.state chip.new)) }
-    ensures err { OnErr result (C.state chip.new ≡ C.state chip.old) }
+    ensures err { OnErr result (C.state chip.new ≡ asked (C.state chip.old)) }
 {
     match chip.call(call) {
         ChipAnswer::Made(rid) => Ok(Made::Object(rid)),

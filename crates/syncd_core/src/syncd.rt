@@ -1,14 +1,14 @@
 // Syncd.
 ghost use Rattle.std.specs.Prelude.{◌≡◌, [], length, None, slice_index, IfOk, OnErr};
 ghost use Rattle.sai_types.specs.declared.kind.Kind.{Kind};
-ghost use Rattle.sai_types.specs.ChipState.{AppendsEach, IsAnswered, objects_of};
+ghost use Rattle.sai_types.specs.ChipState.{AppendsEach, IsAnswered, IsAskedOnce, asked, objects_of};
 ghost use Rattle.sai_types.specs.Objects.{Objects, level};
 ghost use Rattle.sai_types.specs.Refusal.{IsLegal};
 ghost use Rattle.chip_layout.specs.Renamed.{call_renamed};
 ghost use Rattle.asic_view.specs.View.{used_of};
 ghost use Rattle.syncd_core.specs.Begun.{Begins, CanBegin};
 ghost use Rattle.syncd_core.specs.Next.{next_call};
-ghost use Rattle.syncd_core.specs.Synced.{Applies, CanApply, CanCall, Calls, TakesList, Ties, answer_by, current, new_state, step_after, tied_by, with_temporary};
+ghost use Rattle.syncd_core.specs.Synced.{Applies, CanApply, CanCall, Calls, IsUnmade, TakesList, Ties, answer_by, current, new_state, step_after, tied_by, with_temporary};
 ghost use Rattle.syncd_core.specs.Tied.{plan_tie};
 
 use crate::answer::{ApplyStep, Listed};
@@ -66,7 +66,8 @@ impl Syncd {
 
     /// Makes a call: while a temporary view is built on that view alone, and otherwise exactly one call on the chip, the
     /// call with its identifiers replaced by those of the chip to which they are tied. What is made is tied. After
-    /// Failed it is not known whether the chip made the call, and `take_list` is next.
+    /// Failed it is not known whether the chip made the call, and `take_list` is next. After want of memory nothing is
+    /// made; the chip may have been asked once.
     pub fn call<C: Chip>(
         &mut self,
         chip: &mut C,
@@ -75,7 +76,7 @@ impl Syncd {
         requires { CanCall self.old self.old.temporary (C.state chip.old) call.now }
         ensures ok { IfOk result (λ answer. Calls self.old self.old.temporary (C.state chip.old) call.now answer self.new (C.state chip.new)) }
         ensures err { OnErr result (self.new ≡ self.old) }
-        ensures unmade { OnErr result (C.state chip.new ≡ C.state chip.old) }
+        ensures unmade { OnErr result (IsUnmade self.old.temporary (C.state chip.old) (C.state chip.new)) }
     {
         match &mut self.temporary {
             Some(view) => call_view(view, call),
@@ -132,11 +133,11 @@ impl Syncd {
         }
     }
 
-    /// Lists the chip's objects, and keeps them in the order of their entries.
+    /// Lists the chip's objects, and keeps them in the order of their entries. The chip is asked once, whatever it answers.
     pub fn take_list<C: Chip>(&mut self, chip: &mut C) -> Result<Listed, OutOfMemory>
         ensures ok { IfOk result (λ listed. TakesList self.old (C.state chip.old) listed self.new (C.state chip.new)) }
         ensures err { OnErr result (self.new ≡ self.old) }
-        ensures unmade { OnErr result (C.state chip.new ≡ C.state chip.old) }
+        ensures unmade { OnErr result (C.state chip.new ≡ asked (C.state chip.old)) }
     {
         let mut objects = Vec::new(self.alloc);
         match chip.list(&mut objects) {
@@ -191,12 +192,13 @@ impl Syncd {
     }
 
     /// Makes the plan's next call on the chip, and ties what it makes. Ended exactly where every call was made, then and
-    /// whenever no call is left. After Failed it is not known whether the chip made the call.
+    /// whenever no call is left. After Failed it is not known whether the chip made the call. After want of memory
+    /// nothing is made; the chip may have been asked once.
     pub fn apply_one<C: Chip>(&mut self, chip: &mut C) -> Result<ApplyStep, OutOfMemory>
         requires { CanApply self.old.left self.old.view (C.state chip.old) }
         ensures ok { IfOk result (λ step. Applies self.old.left self.old (C.state chip.old) step self.new (C.state chip.new)) }
         ensures err { OnErr result (self.new ≡ self.old) }
-        ensures unmade { OnErr result (C.state chip.new ≡ C.state chip.old) }
+        ensures unmade { OnErr result (IsAskedOnce (C.state chip.old) (C.state chip.new)) }
     {
         let Some(next) = self.plan.items().get(self.made) else {
             return Ok(ApplyStep::Ended);
@@ -235,7 +237,7 @@ fn apply<C: Chip>(view: &mut View, chip: &mut C, next: &PlanCall) -> Result<Made
     ensures answered { IfOk result (λ made. IsAnswered (C.state chip.old) (call_renamed (plan_tie view.old) next.now.call) (answer_by made) (C.state chip.new)) }
     ensures ties { IfOk result (λ made. Ties view.old next.now (answer_by made) view.new) }
     ensures err { OnErr result (view.new ≡ view.old) }
-    ensures unmade { OnErr result (C.state chip.new ≡ C.state chip.old) }
+    ensures unmade { OnErr result (IsAskedOnce (C.state chip.old) (C.state chip.new)) }
 {
     let call = tied_call(view, &next.call)?;
     let made = make(chip, &call)?;

@@ -66,7 +66,7 @@ fn run_on(
     chip: &mut SimChip,
     twin: &mut SimChip,
 ) -> Result<()>
-    requires { AreTwins chip.old.chip twin.old.chip }
+    requires { AreTwins chip.old twin.old }
 {
     make_old(alloc, chip, twin, views.old.as_slice())?;
     apply_each(alloc, views, breaks, chip, twin)
@@ -79,8 +79,8 @@ fn make_old(
     twin: &mut SimChip,
     bodies: &[Body<Vid>],
 ) -> Result<()>
-    requires { AreTwins chip.old.chip twin.old.chip }
-    ensures { IfOk result (λ done. AreTwins chip.new.chip twin.new.chip) }
+    requires { AreTwins chip.old twin.old }
+    ensures { IfOk result (λ done. AreTwins chip.new twin.new) }
 {
     for body in bodies {
         make_drawn(alloc, chip, twin, body).context("the old view")?;
@@ -97,7 +97,7 @@ fn apply_each(
     chip: &mut SimChip,
     twin: &mut SimChip,
 ) -> Result<()>
-    requires { AreTwins chip.old.chip twin.old.chip }
+    requires { AreTwins chip.old twin.old }
 {
     for most in breaks {
         apply_view(alloc, views, *most, chip, twin).context("an apply that breaks off")?;
@@ -116,8 +116,8 @@ fn apply_view(
     chip: &mut SimChip,
     twin: &mut SimChip,
 ) -> Result<u64>
-    requires { AreTwins chip.old.chip twin.old.chip }
-    ensures { IfOk result (λ calls. AreTwins chip.new.chip twin.new.chip) }
+    requires { AreTwins chip.old twin.old }
+    ensures { IfOk result (λ calls. AreTwins chip.new twin.new) }
 {
     let mut syncd = Syncd::new(alloc, views.caps);
     let mut second = SimChip::new(alloc, AMPLE, Vec::new(alloc));
@@ -137,10 +137,10 @@ fn apply_by(
     chip: &mut SimChip,
     twin: &mut SimChip,
 ) -> Result<u64>
-    requires twins { AreTwins chip.old.chip twin.old.chip }
-    requires objects { second.old.chip.objects ≡ [] }
-    requires effects { second.old.chip.effects ≡ [] }
-    ensures { IfOk result (λ calls. AreTwins chip.new.chip twin.new.chip) }
+    requires twins { AreTwins chip.old twin.old }
+    requires objects { second.old.objects ≡ [] }
+    requires effects { second.old.effects ≡ [] }
+    ensures { IfOk result (λ calls. AreTwins chip.new twin.new) }
 {
     let objects = build(alloc, syncd, second, views.new.as_slice()).context("the new view")?;
     let hitless = fits(alloc, chip, second, &views.caps)?;
@@ -161,9 +161,9 @@ fn build(
     chip: &mut SimChip,
     bodies: &[Body<Vid>],
 ) -> Result<Vec<Object<Vid>>>
-    requires objects { chip.old.chip.objects ≡ [] }
-    requires effects { chip.old.chip.effects ≡ [] }
-    ensures { IfOk result (λ objects. AreLinked syncd.new objects.items chip.new.chip) }
+    requires objects { chip.old.objects ≡ [] }
+    requires effects { chip.old.effects ≡ [] }
+    ensures { IfOk result (λ objects. AreLinked syncd.new objects.items chip.new) }
 {
     let mut objects = Vec::new(alloc);
     syncd.init_view();
@@ -182,8 +182,8 @@ fn apply_most(
     chip: &mut SimChip,
     twin: &mut SimChip,
 ) -> Result<()>
-    requires { AreTwins chip.old.chip twin.old.chip }
-    ensures { IfOk result (λ done. AreTwins chip.new.chip twin.new.chip) }
+    requires { AreTwins chip.old twin.old }
+    ensures { IfOk result (λ done. AreTwins chip.new twin.new) }
 {
     for _ in 0..most {
         let step = apply_one(syncd, chip, twin)?;

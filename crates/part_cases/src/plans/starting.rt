@@ -1,5 +1,6 @@
 // How an apply begins.
 ghost use Rattle.std.specs.Prelude.{◌≡◌, ◌∷◌, true, IfOk};
+ghost use Rattle.sai_types.specs.ChipState.{asked};
 ghost use Rattle.sai_types.specs.Named.{those};
 ghost use Rattle.chip_layout.specs.Counted.{AreDistinct};
 ghost use Rattle.view_match.specs.Pairs.{new_keys};
@@ -20,8 +21,8 @@ pub fn start(
     second: &SimChip,
     objects: &[Object<Vid>],
 ) -> Result<Mode>
-    requires { AreLinked syncd.old objects.now second.now.chip }
-    ensures { IfOk result (λ mode. chip.new.chip ≡ chip.old.chip) }
+    requires { AreLinked syncd.old objects.now second.now }
+    ensures { IfOk result (λ mode. chip.new ≡ asked chip.old) }
 {
     find_distinct(alloc, objects)?;
     match syncd.take_list(chip)? {

@@ -19,7 +19,7 @@ const SPARE: u16 = 4094;
 
 /// Makes a call, which is to take effect. It tells the identifier that the call makes, where it makes one.
 pub fn make(chip: &mut SimChip, call: &Call<Rid>) -> Result<Option<Rid>>
-    ensures { IfOk result (λ made. IsAnswered chip.old.chip call.now (tested_answer made) chip.new.chip) }
+    ensures { IfOk result (λ made. IsAnswered chip.old call.now (tested_answer made) chip.new) }
 {
     match chip.call(call) {
         ChipAnswer::Made(id) => Ok(Some(id)),
@@ -30,8 +30,8 @@ pub fn make(chip: &mut SimChip, call: &Call<Rid>) -> Result<Option<Rid>>
 
 /// Makes a call on two chips.
 pub fn make_both(chip: &mut SimChip, twin: &mut SimChip, call: &Call<Rid>) -> Result<Option<Rid>>
-    requires { AreTwins chip.old.chip twin.old.chip }
-    ensures { IfOk result (λ made. AreTwins chip.new.chip twin.new.chip) }
+    requires { AreTwins chip.old twin.old }
+    ensures { IfOk result (λ made. AreTwins chip.new twin.new) }
 {
     let made = make(chip, call)?;
     let _twin = make(twin, call)?;
@@ -66,8 +66,8 @@ pub fn make_drawn(
     twin: &mut SimChip,
     body: &Body<Vid>,
 ) -> Result<()>
-    requires { AreTwins chip.old.chip twin.old.chip }
-    ensures { IfOk result (λ made. AreTwins chip.new.chip twin.new.chip) }
+    requires { AreTwins chip.old twin.old }
+    ensures { IfOk result (λ made. AreTwins chip.new twin.new) }
 {
     if make_both(chip, twin, &creation(alloc, body)?)?.is_some() {
         return Ok(());
@@ -80,9 +80,9 @@ pub fn make_drawn(
 
 /// Uses up the next identifier of a chip, and leaves the objects as they are.
 fn use_up(chip: &mut SimChip) -> Result<()>
-    requires { IsWholeChip chip.old.chip }
-    ensures whole { IfOk result (λ done. IsWholeChip chip.new.chip) }
-    ensures same { IfOk result (λ done. chip.new.chip.objects ≡ chip.old.chip.objects) }
+    requires { IsWholeChip chip.old }
+    ensures whole { IfOk result (λ done. IsWholeChip chip.new) }
+    ensures same { IfOk result (λ done. chip.new.objects ≡ chip.old.objects) }
 {
     let made = make(chip, &Call::Create(Body::Vlan { vlan: SPARE }))?.context("an identifier")?;
     make(chip, &Call::Remove(Entry::Oid(made)))?;
@@ -109,8 +109,8 @@ pub fn make_new(
     objects: &mut Vec<Object<Vid>>,
     body: &Body<Vid>,
 ) -> Result<()>
-    requires { AreLinked syncd.old objects.old.items chip.old.chip }
-    ensures { IfOk result (λ done. AreLinked syncd.new objects.new.items chip.new.chip) }
+    requires { AreLinked syncd.old objects.old.items chip.old }
+    ensures { IfOk result (λ done. AreLinked syncd.new objects.new.items chip.new) }
 {
     views_change_as_chips();
     let made = make(chip, &creation(alloc, body)?)?;
@@ -136,8 +136,8 @@ pub fn make_new(
 
 /// Makes the plan's next call, once it was made on the chip's twin.
 pub fn apply_one(syncd: &mut Syncd, chip: &mut SimChip, twin: &mut SimChip) -> Result<ApplyStep>
-    requires { AreTwins chip.old.chip twin.old.chip }
-    ensures { IfOk result (λ step. AreTwins chip.new.chip twin.new.chip) }
+    requires { AreTwins chip.old twin.old }
+    ensures { IfOk result (λ step. AreTwins chip.new twin.new) }
 {
     let Some(next) = syncd.next()? else {
         return Ok(ApplyStep::Ended);

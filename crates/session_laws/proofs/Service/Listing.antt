@@ -1,8 +1,8 @@
 -- a list of the chip is a step, and so is one that failed
-use Rattle.std.proofs.Common.{◌≡◌, ◌∙◌, length, None, refl, sym, ap, subst}
+use Rattle.std.proofs.Common.{◌≡◌, ◌∙◌, length, None, refl, sym, ap, subst, arith}
 use Rattle.std.proofs.lemmas.List.{append-nil}
 use Rattle.sai_types.specs.After.{next_id}
-use Rattle.sai_types.specs.ChipState.{ChipState, objects_of}
+use Rattle.sai_types.specs.ChipState.{ChipState, asked, objects_of}
 use Rattle.switch_model.specs.History.{History, listed_by, with_mark}
 use Rattle.switch_model.specs.declared.mark.Mark.{Mark}
 use Rattle.switch_model.specs.declared.mark.MarkEvent.{MarkEvent}
@@ -32,7 +32,7 @@ module _ (c : CoreState) (chip : ChipState) (s : LoggedService) (is : IsServiceO
   makes : IsLoggedStep c.board.plan 4 c.sync.capacities s later
   makes = OfService None (OfList later.service (record { before = is.always.warm_is ∙ at; warm = refl; core = refl; seen = refl })) (sym (append-nil s.effects)) refl
 
-  listed_next : MakesNext c s (record c { sync = with_listed c.sync (objects_of chip.objects); warm = warm.Restored }) chip
+  listed_next : MakesNext c s (record c { sync = with_listed c.sync (objects_of chip.objects); warm = warm.Restored }) (asked chip)
   listed_next = let bare = is.restarted at in record {
     later = later;
     makes = makes;
@@ -84,7 +84,7 @@ module _ (c : CoreState) (chip : ChipState) (s : LoggedService) (is : IsServiceO
       effects_are = ap length (failed.1.same.effects ∙ sym is.always.effects)
 
       faults : IsLoggedStep c.board.plan 4 c.sync.capacities s suspect
-      faults = OfService None (OfListFault suspect.service (record { before = is.always.warm_is ∙ at; warm = refl; core = refl })) (sym (append-nil s.effects)) (chip.faults, chip'.faults, failed.1.answer.1, fault-adds c.log mark log (with_mark s.log (mark_now s.log s.effects fault)) form (mark-same c s is.always.log fault s.effects (length chip'.effects) effects_are))
+      faults = OfService None (OfListFault suspect.service (record { before = is.always.warm_is ∙ at; warm = refl; core = refl })) (sym (append-nil s.effects)) (chip.faults, chip'.faults, omega (arith, failed.1.answer.1), fault-adds c.log mark log (with_mark s.log (mark_now s.log s.effects fault)) form (mark-same c s is.always.log fault s.effects (length chip'.effects) effects_are))
 
       pub list-fails : MakesNext c s (record c { sync = y; log = log; warm = warm.Suspect }) chip'
       list-fails = record {

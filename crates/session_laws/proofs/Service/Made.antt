@@ -1,5 +1,5 @@
 -- the plan's calls as syncd makes them
-use Rattle.std.proofs.Common.{◌≡◌, ◌⊎◌, ◌<◌, ◌+◌, ◌∷◌, ◌∙◌, ℕ, true, false, cond, List, [], length, refl, sym, ap, subst}
+use Rattle.std.proofs.Common.{◌≡◌, ◌⊎◌, ◌<◌, ◌+◌, ◌∷◌, ◌∙◌, ℕ, true, false, cond, List, [], length, refl, sym, ap, subst, arith}
 use Rattle.sai_types.specs.declared.answer.ChipAnswer.{ChipAnswer}
 use Rattle.sai_types.specs.declared.answer.ChipAnswer.TheVariants as answer
 use Rattle.sai_types.specs.declared.body.Call.{Call}
@@ -69,7 +69,7 @@ module _ (chip chip' : ChipState) (view view' : ViewObjects) (made : ℕ) (next 
 
   -- it failed
   faulty : (said : ChipAnswer) → Answers chip d said chip' → Ties view c said view' → step.Failed ≡ step_by said cs → (StaysSame chip chip' ⊎ TakesEffect chip d chip') × (chip.faults < chip'.faults)
-  faulty answer.Failed h ties failed = h
+  faulty answer.Failed h ties failed = (h.0, omega (arith, h.1))
   faulty (answer.Made r) h ties failed = absurd (failed_after cs failed)
   faulty answer.Done h ties failed = absurd (failed_after cs failed)
   faulty _ h ties failed = absurd ties

@@ -18,7 +18,7 @@ use Rattle.sai_types.specs.declared.ids.Rid.{Rid}
 use Rattle.sai_types.specs.declared.ids.Vid.{Vid}
 use Rattle.sai_types.specs.declared.kind.Kind.{Kind}
 use Rattle.sai_types.specs.After.{after_call, has_id, makes_id, next_id}
-use Rattle.sai_types.specs.ChipState.{ChipState, IsAnswered}
+use Rattle.sai_types.specs.ChipState.{ChipState, IsAnswered, calls_after}
 use Rattle.sai_types.specs.Objects.{entry_cmp, is_of}
 use Rattle.sai_types.specs.Refusal.{IsLegal, is_legal}
 use Rattle.chip_layout.specs.Renamed.{body_renamed, call_renamed, entry_renamed}
@@ -94,11 +94,12 @@ chip_then chip d = record {
   clean = chip.clean && is_legal chip.capacities chip.objects d;
   faults = chip.faults;
   before_fault = chip.before_fault;
+  calls = calls_after chip.calls;
 }
 
 answered_then : (chip : ChipState) (d : Call Rid) → IsLegal chip.capacities chip.objects d → (b : Bool) → makes_id d ≡ b → IsAnswered chip d (said_by b (next_id chip.effects)) (chip_then chip d)
-answered_then chip d legal true makes = record { answer = (record { legal = legal; objects = refl; effects = refl }, makes, refl, refl); clean = refl; fault = refl; capacities = refl; fails = refl }
-answered_then chip d legal false makes = record { answer = (record { legal = legal; objects = refl; effects = refl }, makes, refl); clean = refl; fault = refl; capacities = refl; fails = refl }
+answered_then chip d legal true makes = record { answer = (record { legal = legal; objects = refl; effects = refl }, makes, refl, refl); clean = refl; fault = refl; calls = refl; capacities = refl; fails = refl }
+answered_then chip d legal false makes = record { answer = (record { legal = legal; objects = refl; effects = refl }, makes, refl); clean = refl; fault = refl; calls = refl; capacities = refl; fails = refl }
 
 -- the tied view after a call on the temporary one
 pub record IsMadeOver (view : ViewObjects) (chip : ChipState) (c : Call Vid) (a : SyncAnswer) (later : ViewObjects) : Type 0 where

@@ -13,11 +13,11 @@ use Rattle.session_laws.specs.Standing.{IsSessionOf}
 use Rattle.session_laws.specs.Leading.{RunsTo, calls_in}
 use Rattle.session_laws.proofs.Settling.Leading.{grown, leads_more, leads_none, leads_one}
 
-answered_both : (s : SwitchState) (xs ys : List (Call Rid × SwitchState)) → after_answers s (xs ++ ys) ≡ after_answers (after_answers s xs) ys
+pub answered_both : (s : SwitchState) (xs ys : List (Call Rid × SwitchState)) → after_answers s (xs ++ ys) ≡ after_answers (after_answers s xs) ys
 answered_both s [] ys = refl
 answered_both s (x ∷ xs) ys = answered_both x.1 xs ys
 
-answers_both : (plan : Ports) (s : SwitchState) (xs ys : List (Call Rid × SwitchState)) → AreAnswers plan 4 s xs → AreAnswers plan 4 (after_answers s xs) ys → AreAnswers plan 4 s (xs ++ ys)
+pub answers_both : (plan : Ports) (s : SwitchState) (xs ys : List (Call Rid × SwitchState)) → AreAnswers plan 4 s xs → AreAnswers plan 4 (after_answers s xs) ys → AreAnswers plan 4 s (xs ++ ys)
 answers_both plan s [] ys a b = b
 answers_both plan s (x ∷ xs) ys a b = (a.0, answers_both plan x.1 xs ys a.1 b)
 

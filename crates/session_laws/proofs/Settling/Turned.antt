@@ -9,7 +9,7 @@ use Rattle.sai_types.specs.declared.body.Call.{Call}
 use Rattle.sai_types.specs.declared.ids.Rid.{Rid}
 use Rattle.switch_machine.specs.Events.{SwitchState}
 use Rattle.switch_machine.specs.Reasons.{IsReason}
-use Rattle.machine_laws.specs.Settling.{AreMachineTurns, IsMachineTurn}
+use Rattle.machine_laws.specs.Settling.{AreMachineTurns, AreMachineTurnsSoFar, IsMachineTurn}
 use Rattle.restart_laws.specs.Logged.{LoggedService}
 use Rattle.session_laws.specs.Core.{CoreState}
 use Rattle.session_laws.specs.Standing.{IsSessionOf}
@@ -24,12 +24,17 @@ AreTurns c n s keys t left calls = AreMachineTurns c.board.plan 4 c.sync.capacit
 so_many : (c : CoreState) (n m : ℕ) (s : SwitchState) (keys : List Key) (t : SwitchState) (left : List Key) (calls others : List (Call Rid)) → n ≡ m → calls ≡ others → AreTurns c n s keys t left calls → AreTurns c m s keys t left others
 so_many c n m s keys t left calls others many same h = subst (λ k. AreTurns c k s keys t left others) many (subst (AreTurns c n s keys t left) same h)
 
+-- and turns so far
+so_far : (c : CoreState) (n m : ℕ) (s : SwitchState) (keys : List Key) (t : SwitchState) (calls others : List (Call Rid)) → n ≡ m → calls ≡ others → AreMachineTurnsSoFar c.board.plan 4 c.sync.capacities n s keys t calls → AreMachineTurnsSoFar c.board.plan 4 c.sync.capacities m s keys t others
+so_far c n m s keys t calls others many same h = subst (λ k. AreMachineTurnsSoFar c.board.plan 4 c.sync.capacities k s keys t others) many (subst (AreMachineTurnsSoFar c.board.plan 4 c.sync.capacities n s keys t) same h)
+
 pub turned_none : (c : CoreState) (chip : ChipState) (s : LoggedService) → IsSessionOf c chip s → IsAtRest c → IsTurned 0 c s c chip
 turned_none c chip s is rest = record {
   later = s;
   leads = leads_none c chip s is;
   calls = [];
   turns = λ m t left calls h. so_many c m (0 + m) s.service.core (keys_of c.tables.ops) t left calls calls (omega arith) refl h;
+  cut = λ m t calls h. so_far c m (0 + m) s.service.core (keys_of c.tables.ops) t calls calls (omega arith) refl h;
   effects = sym (append-nil s.effects);
   log = refl;
   at_rest = rest;
@@ -64,6 +69,9 @@ module _ (n : ℕ) (c c' : CoreState) (chip' : ChipState) (s : LoggedService) (x
       turns = λ m t left' calls' h.
           so_many c (n + suc m) (n + 1 + m) s.service.core first t left' (x.calls ++ (y.calls ++ calls')) ((x.calls ++ y.calls) ++ calls') (omega arith) (sym (append_assoc x.calls y.calls calls'))
           (x.turns (suc m) t left' (y.calls ++ calls') (omega (arith, fewer), y.later.service.core, over, y.calls, turn, inr (fewer, calls', refl, h)));
+      cut = λ m t calls' h.
+          so_far c (n + suc m) (n + 1 + m) s.service.core first t (x.calls ++ (y.calls ++ calls')) ((x.calls ++ y.calls) ++ calls') (omega arith) (sym (append_assoc x.calls y.calls calls'))
+          (x.cut (suc m) t (y.calls ++ calls') (y.later.service.core, over, y.calls, turn, fewer, calls', refl, h));
       effects = grown s.effects x.later.effects y.later.effects x.calls y.calls x.effects y.effects;
       log = y.log ∙ x.log;
       at_rest = y.at_rest;

@@ -1,5 +1,5 @@
 -- how a turn goes on: its keys are left or brought, one after the other
-use Rattle.std.proofs.Common.{◌≡◌, ◌⊎◌, ◌<◌, ◌∷◌, ◌++◌, ◌∙◌, inl, inr, Bool, true, false, cond, List, [], length, None, Some, refl, sym, ap, subst, arith}
+use Rattle.std.proofs.Common.{◌≡◌, ◌⊎◌, ◌<◌, ◌∷◌, ◌++◌, ◌∙◌, inl, inr, ℕ, Bool, true, false, cond, List, [], length, None, Some, refl, sym, ap, subst, arith}
 use Rattle.std.specs.BTreeMap.{is_at}
 use Rattle.std.specs.Map.{keys_of}
 use Rattle.std.proofs.lemmas.Bool.{false≢true}
@@ -17,10 +17,11 @@ use Rattle.switch_model.specs.declared.wait.Wait.{Wait}
 use Rattle.retry_list.specs.Reasons.{Reasons, reason_at, with_reason}
 use Rattle.switch_machine.specs.Events.{AreAnswers, IsBegin, IsDrop, IsQuiet, SwitchState}
 use Rattle.switch_machine.specs.Reasons.{IsReason}
-use Rattle.machine_laws.specs.Settling.{DropsKey, IsMachineTurn, RunsAlone}
+use Rattle.machine_laws.specs.Settling.{DropsKey, IsMachineTurn, IsMachineTurnSoFar, RunsAlone}
 use Rattle.restart_laws.specs.Logged.{LoggedService}
 use Rattle.registry_laws.proofs.Core.Resting.{none_flies}
 use Rattle.flight_board.specs.Board.{flown_at}
+use Rattle.warm_state.specs.declared.warm.Warm.TheVariants as warm
 use Rattle.session_laws.specs.Core.{CoreState}
 use Rattle.session_laws.specs.Events.{IsMachineStep, MakesOne}
 use Rattle.session_laws.specs.Standing.{IsSessionOf}
@@ -34,6 +35,7 @@ turn_begins c chip s is rest = record {
   leads = leads_none c chip s is;
   calls = [];
   turn = λ t left calls h. h;
+  cut = λ t calls h. h;
   effects = sym (append-nil s.effects);
   log = refl;
   ops = refl;
@@ -42,8 +44,11 @@ turn_begins c chip s is rest = record {
 }
 
 -- where no worker has anything under way the machine is quiet
+pub free_quiet : (c : CoreState) (chip : ChipState) (s : LoggedService) → IsSessionOf c chip s → c.warm ≡ warm.Reconciled → ((v : ℕ) → v < 4 → flown_at c.board v ≡ None) → IsQuiet s.service.core
+free_quiet c chip s is at free = none_flies c.board.plan c.sync.capacities c.board.names c.board.room (flown_at c.board) s.service.core (is.working at).stands.board free
+
 pub quiet : (c : CoreState) (chip : ChipState) (s : LoggedService) → IsSessionOf c chip s → IsAtRest c → IsQuiet s.service.core
-quiet c chip s is rest = none_flies c.board.plan c.sync.capacities c.board.names c.board.room (flown_at c.board) s.service.core (is.working rest.warm).stands.board rest.free
+quiet c chip s is rest = free_quiet c chip s is rest.warm rest.free
 
 module _ (keys left rest : List Key) (k : Key) (c c' : CoreState) (chip' : ChipState) (s : LoggedService) (x : IsTurning keys c s left (k ∷ rest) c' chip') where
   abbrev core : SwitchState
@@ -67,13 +72,19 @@ module _ (keys left rest : List Key) (k : Key) (c c' : CoreState) (chip' : ChipS
     calls = x.calls ++ own;
     turn = λ t left' calls' h.
         subst (IsMachineTurn c.board.plan 4 c.sync.capacities s.service.core keys t (left ++ left')) (sym (append_assoc x.calls own calls'))
-        (x.turn t left' (own ++ calls') (inr (later.service.core, own, calls', plan_led_back (λ p l. DropsKey p k core later.service.core own ⊎ RunsAlone p 4 l k core later.service.core own) x.leads brings, refl, h)));
+        (x.turn t left' (own ++ calls') (inr (later.service.core, own, calls', brought, refl, h)));
+    cut = λ t calls' h.
+        subst (IsMachineTurnSoFar c.board.plan 4 c.sync.capacities s.service.core keys t) (sym (append_assoc x.calls own calls'))
+        (x.cut t (own ++ calls') (inr (inr (inr (later.service.core, own, calls', brought, refl, h)))));
     effects = grown s.effects x.later.effects later.effects x.calls own x.effects effects;
     log = log ∙ x.log;
     ops = ops;
     at_rest = rests;
     lists = inl fewer;
   }
+    where
+      brought : DropsKey c.board.plan k core later.service.core own ⊎ RunsAlone c.board.plan 4 c.sync.capacities k core later.service.core own
+      brought = plan_led_back (λ p l. DropsKey p k core later.service.core own ⊎ RunsAlone p 4 l k core later.service.core own) x.leads brings
 
   pub turn_drops : (c'' : CoreState) (y : MakesOne c' x.later c'' chip') (z : IsDrop c'.board.plan core y.later.service.core) → z.key ≡ k → IsMachineStep x.later None y.later → IsAtRest c'' → keys_of c''.tables.ops ≡ left ++ rest → IsTurning keys c s left rest c'' chip'
   turn_drops c'' y z at step rests ops =
@@ -126,6 +137,7 @@ module _ (keys left rest : List Key) (k : Key) (c c' : CoreState) (chip' : ChipS
           turn = λ t left' calls' h.
               subst (λ l. IsMachineTurn c.board.plan 4 c.sync.capacities s.service.core keys t l (x.calls ++ calls')) (sym (append_assoc left (k ∷ []) left'))
               (x.turn t (k ∷ left') calls' (inl (r, true_reason, left', refl, h)));
+          cut = λ t calls' h. x.cut t calls' (inr (inr (inl (r, true_reason, h))));
           effects = x.effects;
           log = x.log;
           ops = ap keys_of ops ∙ x.ops ∙ sym (append_assoc left (k ∷ []) rest);

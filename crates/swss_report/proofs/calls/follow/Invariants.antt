@@ -4,4 +4,4 @@ use Rattle.swss_report.proofs.calls.follow.Given as goal
 
 -- so many effects were followed
 abbrev pub invariant-loop-before : goal.invariant-loop-before
-invariant-loop-before l = IsReplayOf l.fn.replay l.chip.chip.effects → IsReplayOf l.replay l.chip.chip.effects × (l.replay.at ≡ l._before)
+invariant-loop-before l = IsReplayOf l.fn.replay l.chip.effects → IsReplayOf l.replay l.chip.effects × (l.replay.at ≡ l._before)

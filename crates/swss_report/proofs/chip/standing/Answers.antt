@@ -7,7 +7,7 @@ use Rattle.swss_report.proofs.chip.standing.Goals as goal
 
 pub returns : goal.returns
 returns c =
-    let same : entries_of c.as_slice.result.now ≡ c.args.chip.now.chip.objects = ap entries_of (c.as_slice.ensures.value ∙ c.in_ok-objects.ensures) ∙ entries_of-objects_of c.args.chip.now.chip.objects in
+    let same : entries_of c.as_slice.result.now ≡ c.args.chip.now.objects = ap entries_of (c.as_slice.ensures.value ∙ c.in_ok-objects.ensures) ∙ entries_of-objects_of c.args.chip.now.objects in
     record {
       stand = subst (λ os. IsPermutation (those (named os)) c.in_ok-things.things.items) same c.in_ok-things.ensures.0;
       ordered = c.in_ok-things.ensures.1;

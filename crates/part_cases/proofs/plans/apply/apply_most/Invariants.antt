@@ -3,4 +3,4 @@ use Rattle.part_cases.proofs.plans.apply.apply_most.Given as goal
 
 -- both chips answer alike
 abbrev pub invariant-loop : goal.invariant-loop
-invariant-loop l = AreTwins l.chip.chip l.twin.chip
+invariant-loop l = AreTwins l.chip l.twin

@@ -9,6 +9,6 @@ use Rattle.part_cases.proofs.plans.starting.start.Goals as goal
 
 pub begin_apply-requires : goal.begin_apply-requires
 begin_apply-requires c =
-    let takes : TakesList c.args.syncd.now c.args.chip.now.chip listed.Done c.take_list.new.self c.take_list.new.chip.chip = search rules in
+    let takes : TakesList c.args.syncd.now c.args.chip.now listed.Done c.take_list.new.self c.take_list.new.chip = search rules in
     let distinct : AreDistinct (those (new_keys c.args.objects.now)) = search rules in
-    can-begin c.args.syncd.now c.take_list.new.self c.args.second.now.chip c.args.chip.now.chip c.take_list.new.chip.chip c.args.objects.now c.requires takes distinct
+    can-begin c.args.syncd.now c.take_list.new.self c.args.second.now c.args.chip.now c.take_list.new.chip c.args.objects.now c.requires takes distinct

@@ -7,8 +7,8 @@ pub returns-clause-further : goal.returns-clause-further
 returns-clause-further c = λ is within. (
   refl,
   ap (λ r. r.at) c.in_ok-make.ensures.ok,
-  subst (λ r. IsRemadeOf r c.args.chip.now.chip.effects) (sym c.in_ok-make.ensures.ok) (IsRemadeOf-with_call c.args.self.now c.args.chip.now.chip.effects c.in-Some.call.now is (sym c.in-Some.ensures.next)),
+  subst (λ r. IsRemadeOf r c.args.chip.now.effects) (sym c.in_ok-make.ensures.ok) (IsRemadeOf-with_call c.args.self.now c.args.chip.now.effects c.in-Some.call.now is (sym c.in-Some.ensures.next)),
 )
 
 pub returns-clause-end : goal.returns-clause-end
-returns-clause-end c = λ past. none-past c.args.chip.now.chip.effects c.args.self.now.at c.in-Some.call.now (sym c.in-Some.ensures.next) past
+returns-clause-end c = λ past. none-past c.args.chip.now.effects c.args.self.now.at c.in-Some.call.now (sym c.in-Some.ensures.next) past
