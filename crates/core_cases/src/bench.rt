@@ -21,7 +21,7 @@ const ROOM: Caps = Caps([
 /// How many places the log has.
 const PLACES: u64 = 4_194_304;
 
-/// A core and its chip, which stand for a session of the service at each moment, over restarts too. They end by `end`.
+/// A core and its chip, which are at each moment in a session that came about, over restarts too. They end by `end`.
 pub struct Bench {
     core: Core,
     chip: SimChip,
@@ -30,13 +30,13 @@ pub struct Bench {
 impl Model for Bench {
     ghost use Rattle.sai_types.specs.ChipState.{ChipState};
     ghost use Rattle.session_laws.specs.Core.{CoreState};
-    ghost use Rattle.core_cases.specs.Running.{IsRunning};
+    ghost use Rattle.round_laws.specs.Sessions.{InSession};
 
     ghost Value = { CoreState × ChipState };
 
-    ghost view = { λ b. (b.core, b.chip.chip) };
+    ghost view = { λ b. (b.core, b.chip) };
 
-    ghost invariant = { λ b. IsRunning b.core b.chip.chip };
+    ghost invariant = { λ b. InSession b.core b.chip };
 }
 
 impl Bench {

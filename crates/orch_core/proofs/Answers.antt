@@ -10,7 +10,7 @@ use Rattle.sai_types.specs.declared.answer.SyncAnswer.TheVariants as sync
 use Rattle.sai_types.specs.declared.body.Call.{Call}
 use Rattle.sai_types.specs.declared.ids.Rid.{Rid}
 use Rattle.sai_types.specs.declared.ids.Vid.{Vid}
-use Rattle.sai_types.specs.ChipState.{ChipState}
+use Rattle.sai_types.specs.ChipState.{ChipState, IsAskedOnce}
 use Rattle.swss_types.specs.declared.out_of_memory.OutOfMemory.{OutOfMemory}
 use Rattle.switch_model.specs.History.{History, no_history}
 use Rattle.switch_model.specs.declared.mark.Mark.{Mark}
@@ -31,11 +31,11 @@ use Rattle.session_laws.specs.Events.{MakesOne, vid_made_by}
 use Rattle.session_laws.specs.Standing.{IsSessionOf}
 use Rattle.session_laws.proofs.Answering.{answers_step, may_take}
 use Rattle.session_laws.proofs.Faulting.{Ended, Marked, faults_step, said_failed}
-use Rattle.session_laws.proofs.Preparing.{has_begun, prepared_stands, ready as ready_of}
+use Rattle.session_laws.proofs.Preparing.{due_call, has_begun, prepared_stands, ready as ready_of}
 use Rattle.orch_core.specs.Outcomes.{Answered, AnswersCall, FaultsCall, Heeds, KeepsChip, KeepsFlights, StaysInSession, with_fault}
 use Rattle.orch_core.specs.declared.answer.Step.{Step}
 use Rattle.orch_core.specs.declared.answer.Step.TheVariants as step
-use Rattle.orch_core.proofs.Chips.{keeps_called, one_more_effect}
+use Rattle.orch_core.proofs.Chips.{keeps_called, last_effect, one_more_effect}
 
 -- ---- a call that was made
 
@@ -77,6 +77,7 @@ module _ (s : LoggedService) (w : ℕ) (c : CoreState) (chip : ChipState) (is : 
         beside = record { tables = refl; waiting = refl; log = refl; listed = refl; limit = refl; warm = refl };
         others = kept_flights w x (vid_made_by a) c.board b there taken;
         room = room;
+        called = (is_made a calls).1.answered.calls;
         keeps = keeps a went calls b;
       }
 
@@ -84,17 +85,24 @@ module _ (s : LoggedService) (w : ℕ) (c : CoreState) (chip : ChipState) (is : 
   failed true calls = faults_step c chip s w x call y chip' (with_fault true c.log fault) is at there begun told calls Ended
   failed false calls = faults_step c chip s w x call y chip' (with_fault false c.log fault) is at there begun told calls Marked
 
-  faulted : (ends : Bool) → Calls c.sync c.sync.temporary chip call sync.Failed y chip' → FaultsCall ends s c chip (record c { sync = y; log = with_fault ends c.log fault; warm = warm.Suspect }) chip'
+  faulted : (ends : Bool) → Calls c.sync c.sync.temporary chip call sync.Failed y chip' → FaultsCall ends s w c chip (record c { sync = y; log = with_fault ends c.log fault; warm = warm.Suspect }) chip'
   faulted ends calls =
       let z = is_made sync.Failed calls in
-      let one = one_more_effect chip chip' d z.1.answer (said_failed c.sync.view z.0 call z.1.answer z.1.follows) z.1.answered in
+      let said = said_failed c.sync.view z.0 call z.1.answer z.1.follows in
+      let one = one_more_effect chip chip' d z.1.answer said z.1.answered in
+      let due = due_call c chip s is at w x there begun call told in
       let behind = one.1 in
       record {
         makes = failed ends calls;
+        call = d;
+        due = due.0;
+        worker = due.1;
+        effects = last_effect chip chip' d z.1.answer said z.1.answered;
+        called = z.1.answered.calls;
         tables = refl;
         fails = z.1.answered.fails;
         marks = record {
-          more = one.2;
+          one = one.2;
           log = refl;
           warm = refl;
           places = omega (arith, behind, room);
@@ -110,7 +118,7 @@ module _ (s : LoggedService) (w : ℕ) (c : CoreState) (chip : ChipState) (is : 
   pub heeded : (ends : Bool) (a : SyncAnswer) (r : Step) (c' : CoreState) → Calls c.sync c.sync.temporary chip call a y chip' → Heeds w a c.log fault ends beside r c' → Answered ends s w c chip (Ok r) c' chip'
   heeded ends sync.Failed r c' calls h =
       subst (λ q. Answered ends s w c chip (Ok q) c' chip') (sym h.0)
-      (subst (λ z. FaultsCall ends s c chip z chip') (sym h.1) (faulted ends calls))
+      (subst (λ z. FaultsCall ends s w c chip z chip') (sym h.1) (faulted ends calls))
   heeded ends (sync.Made v) r c' calls h = as_did ends (sync.Made v) (λ e. cc) calls r c' h.0 h.1 h.2 h.3
   heeded ends sync.Done r c' calls h = as_did ends sync.Done (λ e. cc) calls r c' h.0 h.1 h.2 h.3
 
@@ -158,9 +166,9 @@ some_then None h p = absurd (false≢true h)
 pub never : {P : Type 0} (b : Bool) → b ≡ false → (P → b ≡ true) → P → ⊥
 never b off on p = false≢true (sym off ∙ on p)
 
-pub answered_err : (ends : Bool) (s : LoggedService) (w : ℕ) (c : CoreState) (chip : ChipState) (r : Result Step OutOfMemory) (c' : CoreState) → IsErr r → (IsFullFor c (length chip.effects) 2 → ⊥) → StaysInSession s c c' chip → Answered ends s w c chip r c' chip
-answered_err ends s w c chip (Err e) c' h room x = (refl, x, room)
-answered_err ends s w c chip (Ok r) c' h room x = absurd (false≢true h)
+pub answered_err : (ends : Bool) (s : LoggedService) (w : ℕ) (c : CoreState) (chip chip' : ChipState) (r : Result Step OutOfMemory) (c' : CoreState) → IsErr r → (IsFullFor c (length chip.effects) 2 → ⊥) → IsAskedOnce chip chip' → StaysInSession s c c' chip' → Answered ends s w c chip r c' chip'
+answered_err ends s w c chip chip' (Err e) c' h room asked x = (asked, x, room)
+answered_err ends s w c chip chip' (Ok r) c' h room asked x = absurd (false≢true h)
 
 -- the same core
 pub stays_itself : (s : LoggedService) (c d : CoreState) (chip : ChipState) → d ≡ c → IsSessionOf c chip s → StaysInSession s c d chip
@@ -188,19 +196,25 @@ module _ (s : LoggedService) (w : ℕ) (c : CoreState) (b : BoardState) (chip : 
         beside = record { tables = x.beside.tables; waiting = x.beside.waiting; log = x.beside.log; listed = x.beside.listed; limit = x.beside.limit; warm = x.beside.warm };
         others = λ v apart. x.others v apart ∙ ap (option_map (λ (f : FlightState). f.flown)) (ready.others v apart);
         room = x.room;
+        called = x.called;
         keeps = record { fails = x.keeps.fails; faults = x.keeps.faults; limit = x.keeps.limit };
       }
 
-  fault_from : (ends : Bool) (c' : CoreState) (chip' : ChipState) → FaultsCall ends s with chip c' chip' → FaultsCall ends s c chip c' chip'
+  fault_from : (ends : Bool) (c' : CoreState) (chip' : ChipState) → FaultsCall ends s w with chip c' chip' → FaultsCall ends s w c chip c' chip'
   fault_from ends c' chip' x = record {
     makes = makes_from c' chip' x.makes;
+    call = x.call;
+    due = x.due;
+    worker = x.worker;
+    effects = x.effects;
+    called = x.called;
     tables = x.tables;
     fails = x.fails;
-    marks = record { more = x.marks.more; log = x.marks.log; warm = x.marks.warm; places = x.marks.places; few = x.marks.few };
+    marks = record { one = x.marks.one; log = x.marks.log; warm = x.marks.warm; places = x.marks.places; few = x.marks.few };
   }
 
-  stays_from : (c' : CoreState) → StaysInSession s with c' chip → StaysInSession s c c' chip
-  stays_from c' x = record { stands = x.stands; plan = x.plan ∙ ready.plan; capacities = x.capacities; limit = x.limit; warm = x.warm; log = x.log }
+  stays_from : (c' : CoreState) (chip' : ChipState) → StaysInSession s with c' chip' → StaysInSession s c c' chip'
+  stays_from c' chip' x = record { stands = x.stands; plan = x.plan ∙ ready.plan; capacities = x.capacities; limit = x.limit; warm = x.warm; log = x.log }
 
   pub answered_from : (ends : Bool) → (IsFullFor c (length chip.effects) 2 → ⊥) → (r : Result Step OutOfMemory) (c' : CoreState) (chip' : ChipState) → Answered ends s w with chip r c' chip' → Answered ends s w c chip r c' chip'
   answered_from ends room (Ok step.Did) c' chip' x = call_from c' chip' x
@@ -208,7 +222,7 @@ module _ (s : LoggedService) (w : ℕ) (c : CoreState) (b : BoardState) (chip : 
   answered_from ends room (Ok step.LogFull) c' chip' x = absurd (room x.2)
   answered_from ends room (Ok step.Idle) c' chip' x = absurd x
   answered_from ends room (Ok step.Suspect) c' chip' x = absurd x
-  answered_from ends room (Err e) c' chip' x = (x.0, stays_from c' x.1, room)
+  answered_from ends room (Err e) c' chip' x = (x.0, stays_from c' chip' x.1, room)
 
   -- what the next call is about, once it is prepared
   module _ (is : IsSessionOf c chip s) (x : Flown) (there : flown_at c.board w ≡ Some x) (d : CoreState) (is_with : d ≡ with) where

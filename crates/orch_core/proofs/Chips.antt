@@ -5,12 +5,12 @@ use Rattle.sai_types.specs.declared.answer.ChipAnswer.{ChipAnswer}
 use Rattle.sai_types.specs.declared.answer.ChipAnswer.TheVariants as answer
 use Rattle.sai_types.specs.declared.body.Call.{Call}
 use Rattle.sai_types.specs.declared.ids.Rid.{Rid}
-use Rattle.sai_types.specs.ChipState.{Answers, ChipState, IsAnswered, StaysSame, TakesEffect}
+use Rattle.sai_types.specs.ChipState.{Answers, ChipState, IsAnswered, IsAskedOnce, StaysSame, TakesEffect}
 use Rattle.switch_model.specs.History.{History, listed_by}
 use Rattle.restart_laws.specs.Logged.{LoggedService}
 use Rattle.session_laws.specs.Core.{CoreState, IsFullFor}
 use Rattle.session_laws.specs.Standing.{IsSessionOf}
-use Rattle.orch_core.specs.Outcomes.{IsWithinLimit, KeepsChip}
+use Rattle.orch_core.specs.Outcomes.{IsLastCall, IsWithinLimit, KeepsChip}
 
 pub keeps_itself : (c : CoreState) (chip : ChipState) → KeepsChip c chip c chip
 keeps_itself c chip = record { fails = refl; faults = refl; limit = λ within. within }
@@ -25,9 +25,22 @@ keeps_alike c c' chip chip' same log listed limit = subst (KeepsChip c chip c') 
         let marks : length c'.log.marks ≡ length c.log.marks = ap (λ (h : History). length h.marks) log in
         omega (arith, h, taken, marks, listed, limit)
 
--- and one that stands for a session with the same log
-pub keeps_stood : (c d : CoreState) (chip : ChipState) (s t : LoggedService) → IsSessionOf c chip s → IsSessionOf d chip t → d.log ≡ c.log → d.limit ≡ c.limit → KeepsChip c chip d chip
-keeps_stood c d chip s t is there log limit = keeps_alike c d chip chip refl log (there.listed ∙ ap (λ (h : History). listed_by h.marks) log ∙ sym is.listed) limit
+-- and one of which one call or list more was asked
+pub keeps_asked : {c c' : CoreState} {chip chip' : ChipState} → IsAskedOnce chip chip' → KeepsChip c chip c' chip → KeepsChip c chip c' chip'
+keeps_asked {c} {c'} {chip} (inl same) k = subst (KeepsChip c chip c') (sym same) k
+keeps_asked {c} {c'} {chip} (inr more) k = subst (KeepsChip c chip c') (sym more) (record { fails = k.fails; faults = k.faults; limit = k.limit })
+
+pub effects_asked : {chip chip' : ChipState} → IsAskedOnce chip chip' → chip'.effects ≡ chip.effects
+effects_asked (inl same) = ap (λ (z : ChipState). z.effects) same
+effects_asked (inr more) = ap (λ (z : ChipState). z.effects) more
+
+pub fails_asked : {chip chip' : ChipState} → IsAskedOnce chip chip' → chip'.fails ≡ chip.fails
+fails_asked (inl same) = ap (λ (z : ChipState). z.fails) same
+fails_asked (inr more) = ap (λ (z : ChipState). z.fails) more
+
+-- and one that stands for a session with the same log, over any chip
+pub keeps_stood : (c d : CoreState) (chip other : ChipState) (s t : LoggedService) → IsSessionOf c chip s → IsSessionOf d other t → d.log ≡ c.log → d.limit ≡ c.limit → KeepsChip c chip d chip
+keeps_stood c d chip other s t is there log limit = keeps_alike c d chip chip refl log (there.listed ∙ ap (λ (h : History). listed_by h.marks) log ∙ sym is.listed) limit
 
 pub keeps_on : {a b c : CoreState} {x y z : ChipState} → KeepsChip a x b y → KeepsChip b y c z → KeepsChip a x c z
 keeps_on p q = record { fails = q.fails ∙ p.fails; faults = q.faults ∙ p.faults; limit = λ within. q.limit (p.limit within) }
@@ -75,7 +88,15 @@ keeps_called c c' old new call a log listed limit room went h = record { fails =
         let marks : length c'.log.marks ≡ length c.log.marks = ap (λ (h : History). length h.marks) log in
         omega (arith, room, most, taken, marks, listed, limit)
 
-pub one_more_effect : (old new : ChipState) (c : Call Rid) (a : ChipAnswer) → a ≡ answer.Failed → IsAnswered old c a new → (length new.effects ≤ new.before_fault + 1) × (new.before_fault ≡ length old.effects) × (old.faults < new.faults)
+-- of one that failed the effects are those before it, and perhaps its own
+pub last_effect : (old new : ChipState) (c : Call Rid) (a : ChipAnswer) → a ≡ answer.Failed → IsAnswered old c a new → IsLastCall old.effects c new.effects
+last_effect old new c a failed h = by (subst (λ z. IsAnswered old c z new) failed h).answer.0
+  where
+    by : StaysSame old new ⊎ TakesEffect old c new → IsLastCall old.effects c new.effects
+    by (inl same) = inl same.effects
+    by (inr effect) = inr effect.effects
+
+pub one_more_effect : (old new : ChipState) (c : Call Rid) (a : ChipAnswer) → a ≡ answer.Failed → IsAnswered old c a new → (length new.effects ≤ new.before_fault + 1) × (new.before_fault ≡ length old.effects) × (new.faults ≡ old.faults + 1)
 one_more_effect old new c a failed h =
     let x = subst (λ z. IsAnswered old c z new) failed h in
     let behind = x.fault in

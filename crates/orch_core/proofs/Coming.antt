@@ -5,7 +5,7 @@ use Rattle.std.specs.Result.{IsErr}
 use Rattle.std.proofs.lemmas.Bool.{false≢true}
 use Rattle.swss_types.specs.declared.out_of_memory.OutOfMemory.{OutOfMemory}
 use Rattle.table_schema.specs.Plan.{Ports}
-use Rattle.sai_types.specs.ChipState.{ChipState}
+use Rattle.sai_types.specs.ChipState.{ChipState, IsAskedOnce}
 use Rattle.switch_model.specs.History.{History, listed_by, with_mark}
 use Rattle.switch_model.specs.declared.mark.Mark.{Mark}
 use Rattle.switch_model.specs.declared.mark.MarkEvent.TheVariants as event
@@ -16,9 +16,10 @@ use Rattle.warm_state.specs.declared.warm.Warm.TheVariants as warm
 use Rattle.session_laws.specs.Core.{CoreState, IsFullFor, mark_at}
 use Rattle.session_laws.specs.Service.Events.{MakesMore, MakesNext, restarted}
 use Rattle.session_laws.specs.Service.Standing.{IsServiceOf}
+use Rattle.session_laws.proofs.Asked.{service_asked_once}
 use Rattle.session_laws.proofs.Service.Marking.{listed-so}
 use Rattle.session_laws.proofs.Service.Restarting.{restart-next}
-use Rattle.orch_core.specs.ComingBack.{AreOnWay, Back, ComesOut, ComesTo, HasRestored, IsFullOnWay, SettlesFrom, Stopped, StopsAfter, StopsOnWay, is_unrestored, places_on_way, ran_of, restarts_due, restarts_marked}
+use Rattle.orch_core.specs.ComingBack.{AreOnWay, Back, ComesOut, ComesTo, CountAll, CountsSo, HasRestored, IsFullOnWay, SettlesFrom, Stopped, StopsAfter, StopsOnWay, is_unrestored, places_on_way, ran_of, restarts_due, restarts_marked}
 use Rattle.orch_core.specs.Outcomes.{KeepsChip}
 use Rattle.orch_core.specs.Restarting.{AppliesOut, FaultsOnWay, ListsOut, RestoresOut, RestoresRows, StaysInService}
 use Rattle.orch_core.specs.Settled.{Settles}
@@ -28,7 +29,7 @@ use Rattle.orch_core.specs.declared.answer.Settled.{Settled}
 use Rattle.orch_core.specs.declared.answer.Settled.TheVariants as settled
 use Rattle.orch_core.specs.declared.answer.Step.{Step}
 use Rattle.orch_core.specs.declared.answer.Step.TheVariants as step
-use Rattle.orch_core.proofs.Chips.{keeps_alike, keeps_itself, keeps_on}
+use Rattle.orch_core.proofs.Chips.{keeps_alike, keeps_asked, keeps_itself, keeps_on}
 
 -- ---- events one after the other
 
@@ -48,8 +49,12 @@ pub restarts_both : (xs ys : List Mark) → restarts_marked (xs ++ ys) ≡ resta
 restarts_both [] ys = omega arith
 restarts_both (x ∷ xs) ys = let rest = restarts_both xs ys in omega (arith, rest)
 
+counted_both : (taken effects : ℕ) (xs ys : List Mark) → CountAll taken effects xs → CountAll taken effects ys → CountAll taken effects (xs ++ ys)
+counted_both taken effects [] ys a b = b
+counted_both taken effects (x ∷ xs) ys a b = (a.0, counted_both taken effects xs ys a.1 b)
+
 pub comes_none : (s : LoggedService) (c : CoreState) (chip : ChipState) → IsServiceOf c chip s → ComesTo s s c chip c chip
-comes_none s c chip is = record { steps = []; are = tt; is = refl; stands = is; plan = refl; capacities = refl; limit = refl; taken = refl; ends = refl; added = []; marks = sym (append-nil c.log.marks); way = tt; restarts = omega arith; restored = λ out in_it. absurd (false≢true (sym in_it ∙ out)); kept = λ in_it. (in_it, refl); keeps = keeps_itself c chip; still = λ at. (refl, refl, refl) }
+comes_none s c chip is = record { steps = []; are = tt; is = refl; stands = is; plan = refl; capacities = refl; limit = refl; taken = refl; ends = refl; added = []; marks = sym (append-nil c.log.marks); way = tt; counted = tt; none_counted = λ in_it taken effects. tt; unmoved = λ out. refl; restarts = omega arith; restored = λ out in_it. absurd (false≢true (sym in_it ∙ out)); kept = λ in_it. (in_it, refl); keeps = keeps_itself c chip; still = λ at. (refl, refl, refl) }
 
 -- the rows that were restored on the way from a later core
 restored_later : (s t : LoggedService) (c d e : CoreState) (chip dchip : ChipState) → ComesTo s t c chip d dchip → HasRestored t d e → HasRestored s c e
@@ -87,6 +92,22 @@ restored_on s t u c d e chip dchip echip x y out in_it = by (is_unrestored d.war
     by true still = restored_later s t c d e chip dchip x (y.restored still in_it)
     by false was = restored_earlier s c d e (x.restored out was) (y.kept was).1
 
+-- the marks that come behind count the same, as no call took effect before the rows are restored
+counted_on : (s t u : LoggedService) (c d e : CoreState) (chip dchip echip : ChipState) → ComesTo s t c chip d dchip → (y : ComesTo t u d dchip e echip) → CountAll (length c.log.taken) (length chip.effects) y.added
+counted_on s t u c d e chip dchip echip x y = by (is_unrestored d.warm) refl
+  where
+    by : (b : Bool) → is_unrestored d.warm ≡ b → CountAll (length c.log.taken) (length chip.effects) y.added
+    by true out = subst (λ n. CountAll n (length chip.effects) y.added) (ap length x.taken) (subst (λ n. CountAll (length d.log.taken) n y.added) (ap length (x.unmoved out)) y.counted)
+    by false in_it = y.none_counted in_it (length c.log.taken) (length chip.effects)
+
+-- rows that are still to be restored were so before
+out_before : (s t u : LoggedService) (c d e : CoreState) (chip dchip echip : ChipState) → ComesTo s t c chip d dchip → ComesTo t u d dchip e echip → is_unrestored e.warm ≡ true → is_unrestored d.warm ≡ true
+out_before s t u c d e chip dchip echip x y out = by (is_unrestored d.warm) refl
+  where
+    by : (b : Bool) → is_unrestored d.warm ≡ b → is_unrestored d.warm ≡ true
+    by true h = h
+    by false h = absurd (false≢true (sym (y.kept h).0 ∙ out))
+
 pub comes_on : (s t u : LoggedService) (c d e : CoreState) (chip dchip echip : ChipState) → ComesTo s t c chip d dchip → ComesTo t u d dchip e echip → ComesTo s u c chip e echip
 comes_on s t u c d e chip dchip echip x y = record {
   steps = x.steps ++ y.steps;
@@ -104,6 +125,9 @@ comes_on s t u c d e chip dchip echip x y = record {
   added = x.added ++ y.added;
   marks = y.marks ∙ ap (λ l. l ++ y.added) x.marks ∙ append_assoc c.log.marks x.added y.added;
   way = way_both x.added y.added x.way y.way;
+  counted = counted_both (length c.log.taken) (length chip.effects) x.added y.added x.counted (counted_on s t u c d e chip dchip echip x y);
+  none_counted = λ in_it taken effects. counted_both taken effects x.added y.added (x.none_counted in_it taken effects) (y.none_counted (x.kept in_it).0 taken effects);
+  unmoved = λ out. y.unmoved out ∙ x.unmoved (out_before s t u c d e chip dchip echip x y out);
   restarts = let both = restarts_both x.added y.added in let first = x.restarts in let next = y.restarts in omega (arith, both, first, next);
   restored = restored_on s t u c d e chip dchip echip x y;
   kept = λ was. let a = x.kept was in let b = y.kept a.0 in (b.0, b.1 ∙ a.1);
@@ -115,22 +139,24 @@ comes_on s t u c d e chip dchip echip x y = record {
 }
 
 -- what an event on the way records: no write and no end of a round, at most the marks of a restart or an apply, and a restart that was due
-record Records (s : LoggedService) (c d : CoreState) : Type 0 where
+record Records (s : LoggedService) (c : CoreState) (effects : ℕ) (d : CoreState) : Type 0 where
   taken : d.log.taken ≡ c.log.taken
   ends : d.log.ends ≡ c.log.ends
   added : List Mark
   marks : d.log.marks ≡ c.log.marks ++ added
   way : AreOnWay added
+  counted : CountAll (length c.log.taken) effects added
+  none_counted : is_unrestored c.warm ≡ false → (taken effects : ℕ) → CountAll taken effects added
   restarts : restarts_marked added + restarts_due d.warm ≡ restarts_due c.warm
   restored : is_unrestored c.warm ≡ true → is_unrestored d.warm ≡ false → HasRestored s c d
   kept : is_unrestored c.warm ≡ false → (is_unrestored d.warm ≡ false) × (d.board ≡ c.board)
 
 -- so many steps of a core that is not reconciled
-comes_more : (s : LoggedService) (c : CoreState) (chip : ChipState) (d : CoreState) (dchip : ChipState) → (c.warm ≡ warm.Reconciled → ⊥) → (x : MakesMore c s d dchip) → Records s c d → KeepsChip c chip d dchip → ComesTo s (session_after s x.steps) c chip d dchip
-comes_more s c chip d dchip away x r keeps = record { steps = x.steps; are = x.are; is = refl; stands = x.stands; plan = x.plan; capacities = x.capacities; limit = x.limit; taken = r.taken; ends = r.ends; added = r.added; marks = r.marks; way = r.way; restarts = r.restarts; restored = r.restored; kept = r.kept; keeps = keeps; still = λ at. absurd (away at) }
+comes_more : (s : LoggedService) (c : CoreState) (chip : ChipState) (d : CoreState) (dchip : ChipState) → (c.warm ≡ warm.Reconciled → ⊥) → (x : MakesMore c s d dchip) → Records s c (length chip.effects) d → (is_unrestored d.warm ≡ true → dchip.effects ≡ chip.effects) → KeepsChip c chip d dchip → ComesTo s (session_after s x.steps) c chip d dchip
+comes_more s c chip d dchip away x r unmoved keeps = record { steps = x.steps; are = x.are; is = refl; stands = x.stands; plan = x.plan; capacities = x.capacities; limit = x.limit; taken = r.taken; ends = r.ends; added = r.added; marks = r.marks; way = r.way; counted = r.counted; none_counted = r.none_counted; unmoved = unmoved; restarts = r.restarts; restored = r.restored; kept = r.kept; keeps = keeps; still = λ at. absurd (away at) }
 
-comes_one : (s : LoggedService) (c : CoreState) (chip : ChipState) (d : CoreState) (dchip : ChipState) → (c.warm ≡ warm.Reconciled → ⊥) → (x : MakesNext c s d dchip) → Records s c d → KeepsChip c chip d dchip → ComesTo s x.later c chip d dchip
-comes_one s c chip d dchip away x r keeps = record { steps = x.later ∷ []; are = (x.makes, tt); is = refl; stands = x.stands; plan = x.plan; capacities = x.capacities; limit = x.limit; taken = r.taken; ends = r.ends; added = r.added; marks = r.marks; way = r.way; restarts = r.restarts; restored = r.restored; kept = r.kept; keeps = keeps; still = λ at. absurd (away at) }
+comes_one : (s : LoggedService) (c : CoreState) (chip : ChipState) (d : CoreState) (dchip : ChipState) → (c.warm ≡ warm.Reconciled → ⊥) → (x : MakesNext c s d dchip) → Records s c (length chip.effects) d → (is_unrestored d.warm ≡ true → dchip.effects ≡ chip.effects) → KeepsChip c chip d dchip → ComesTo s x.later c chip d dchip
+comes_one s c chip d dchip away x r unmoved keeps = record { steps = x.later ∷ []; are = (x.makes, tt); is = refl; stands = x.stands; plan = x.plan; capacities = x.capacities; limit = x.limit; taken = r.taken; ends = r.ends; added = r.added; marks = r.marks; way = r.way; counted = r.counted; none_counted = r.none_counted; unmoved = unmoved; restarts = r.restarts; restored = r.restored; kept = r.kept; keeps = keeps; still = λ at. absurd (away at) }
 
 -- neither state is that of a suspect core
 abbrev NoneDue : CoreState → CoreState → Type 0
@@ -155,32 +181,36 @@ now_in s w c d at a h = ((λ out in_it. h), (λ in_it. absurd (false≢true (sym
 still_in : (s : LoggedService) (w v : Warm) (c d : CoreState) → c.warm ≡ w → d.warm ≡ v → is_unrestored w ≡ false → is_unrestored v ≡ false → d.board ≡ c.board → Restores s c d
 still_in s w v c d at then a b same = ((λ out in_it. absurd (false≢true (sym (ap is_unrestored at ∙ a) ∙ out))), (λ in_it. (ap is_unrestored then ∙ b, same)))
 
-records_none : (s : LoggedService) (c d : CoreState) → NoneDue c d → Restores s c d → d.log ≡ c.log → Records s c d
-records_none s c d due rows same = record {
+records_none : (s : LoggedService) (c : CoreState) (effects : ℕ) (d : CoreState) → NoneDue c d → Restores s c d → d.log ≡ c.log → Records s c effects d
+records_none s c effects d due rows same = record {
   taken = ap (λ (h : History). h.taken) same;
   ends = ap (λ (h : History). h.ends) same;
   added = [];
   marks = ap (λ (h : History). h.marks) same ∙ sym (append-nil c.log.marks);
   way = tt;
+  counted = tt;
+  none_counted = λ in_it taken many. tt;
   restarts = let now = due.1 in let before = due.0 in omega (arith, now, before);
   restored = rows.0;
   kept = rows.1;
 }
 
 -- a mark at which no round may end, and which is not that of a restart
-records_mark : (s : LoggedService) (c d : CoreState) (m : Mark) → NoneDue c d → Restores s c d → (MayEndRound m.event → ⊥) → restarts_marked (m ∷ []) ≡ 0 → d.log ≡ with_mark c.log m → Records s c d
-records_mark s c d m due rows way none same = record {
+records_mark : (s : LoggedService) (c : CoreState) (effects : ℕ) (d : CoreState) (m : Mark) → NoneDue c d → Restores s c d → (MayEndRound m.event → ⊥) → CountsSo (length c.log.taken) effects m m.event → (is_unrestored c.warm ≡ false → (taken many : ℕ) → CountsSo taken many m m.event) → restarts_marked (m ∷ []) ≡ 0 → d.log ≡ with_mark c.log m → Records s c effects d
+records_mark s c effects d m due rows way counts none_counts none same = record {
   taken = ap (λ (h : History). h.taken) same;
   ends = ap (λ (h : History). h.ends) same;
   added = m ∷ [];
   marks = ap (λ (h : History). h.marks) same;
   way = (way, tt);
+  counted = (counts, tt);
+  none_counted = λ in_it taken many. (none_counts in_it taken many, tt);
   restarts = let now = due.1 in let before = due.0 in omega (arith, now, before, none);
   restored = rows.0;
   kept = rows.1;
 }
 
-records_restart : (s : LoggedService) (c : CoreState) (effects : ℕ) → c.warm ≡ warm.Suspect → Records s c (restarted c effects)
+records_restart : (s : LoggedService) (c : CoreState) (effects : ℕ) → c.warm ≡ warm.Suspect → Records s c effects (restarted c effects)
 records_restart s c effects at =
     let rows = still_out s warm.Suspect warm.Initialized c (restarted c effects) at refl refl refl in
     record {
@@ -189,6 +219,8 @@ records_restart s c effects at =
       added = mark_at c effects event.Restarted ∷ [];
       marks = refl;
       way = ((λ h. h), tt);
+      counted = ((refl, refl), tt);
+      none_counted = λ in_it. absurd (false≢true (sym in_it ∙ ap is_unrestored at));
       restarts = sym (ap restarts_due at);
       restored = rows.0;
       kept = rows.1;
@@ -218,9 +250,13 @@ module _ (s : LoggedService) (c : CoreState) (chip : ChipState) (is : IsServiceO
   full_now : (d : CoreState) (dchip : ChipState) → dchip ≡ chip → StaysInService s c d chip → IsFullOnWay c.warm s c chip → ComesOut s c chip (Ok ran.LogFull) d dchip
   full_now d dchip same stays full = stops_now (Ok ran.LogFull) d dchip (same, stays, full)
 
-  pub short_now : (r : Result Ran OutOfMemory) → IsErr r → (d : CoreState) (dchip : ChipState) → dchip ≡ chip → StaysInService s c d chip → ComesOut s c chip r d dchip
-  short_now (Err e) h d dchip same stays = stops_now (Err e) d dchip (same, stays)
-  short_now (Ok b) h d dchip same stays = absurd (false≢true h)
+  pub short_now : (r : Result Ran OutOfMemory) → IsErr r → (d : CoreState) (dchip : ChipState) → IsAskedOnce chip dchip → StaysInService s c d dchip → ComesOut s c chip r d dchip
+  short_now (Err e) h d dchip asked stays = stops_now (Err e) d dchip (asked, stays)
+  short_now (Ok b) h d dchip asked stays = absurd (false≢true h)
+
+  -- the same core, of whose chip a call or list more may have been asked
+  pub stays_asked : (d : CoreState) (dchip : ChipState) → d ≡ c → IsAskedOnce chip dchip → StaysInService s c d dchip
+  stays_asked d dchip same asked = subst (λ z. StaysInService s c z dchip) (sym same) (record { stands = service_asked_once c chip dchip s asked is; plan = refl; capacities = refl; limit = refl; warm = refl; log = refl })
 
   pub stays_same : (d : CoreState) → d ≡ c → StaysInService s c d chip
   stays_same d same = subst (λ z. StaysInService s c z chip) (sym same) (record { stands = is; plan = refl; capacities = refl; limit = refl; warm = refl; log = refl })
@@ -236,7 +272,7 @@ module _ (s : LoggedService) (c : CoreState) (chip : ChipState) (is : IsServiceO
   pub restart_comes : c.warm ≡ warm.Suspect → (IsFullFor c (length chip.effects) 1 → ⊥) → (d : CoreState) → d ≡ restarted c (length chip.effects) → (t : LoggedService) × ComesTo s t c chip d chip × (d.warm ≡ warm.Initialized)
   restart_comes at room d same =
       let x = restart-next c chip s is in
-      subst (λ z. (t : LoggedService) × ComesTo s t c chip z chip × (z.warm ≡ warm.Initialized)) (sym same) (x.later, comes_one s c chip (restarted c (length chip.effects)) chip away x (records_restart s c (length chip.effects) at) (keeps_restarted room), refl)
+      subst (λ z. (t : LoggedService) × ComesTo s t c chip z chip × (z.warm ≡ warm.Initialized)) (sym same) (x.later, comes_one s c chip (restarted c (length chip.effects)) chip away x (records_restart s c (length chip.effects) at) (λ out. refl) (keeps_restarted room), refl)
 
   -- ---- a list
 
@@ -244,7 +280,7 @@ module _ (s : LoggedService) (c : CoreState) (chip : ChipState) (is : IsServiceO
     pub list_comes : (r : Step) (d : CoreState) (dchip : ChipState) → ran_of r ≡ ran.Whole → ListsOut true s c chip (Ok r) d dchip → (t : LoggedService) × ComesTo s t c chip d dchip × (d.warm ≡ warm.Restored)
     list_comes step.Did d dchip h x = (
       x.makes.later,
-      comes_one s c chip d dchip away x.makes (records_none s c d (none_due warm.Initialized warm.Restored c d at (ap (λ (z : CoreState). z.warm) x.is) refl refl) (still_out s warm.Initialized warm.Restored c d at (ap (λ (z : CoreState). z.warm) x.is) refl refl) (ap (λ (z : CoreState). z.log) x.is)) (keeps_alike c d chip dchip x.chip_is (ap (λ (z : CoreState). z.log) x.is) (ap (λ (z : CoreState). z.listed) x.is) (ap (λ (z : CoreState). z.limit) x.is)),
+      comes_one s c chip d dchip away x.makes (records_none s c (length chip.effects) d (none_due warm.Initialized warm.Restored c d at (ap (λ (z : CoreState). z.warm) x.is) refl refl) (still_out s warm.Initialized warm.Restored c d at (ap (λ (z : CoreState). z.warm) x.is) refl refl) (ap (λ (z : CoreState). z.log) x.is)) (λ out. ap (λ (z : ChipState). z.effects) x.chip_is) (keeps_asked (inr x.chip_is) (keeps_alike c d chip chip refl (ap (λ (z : CoreState). z.log) x.is) (ap (λ (z : CoreState). z.listed) x.is) (ap (λ (z : CoreState). z.limit) x.is))),
       ap (λ (z : CoreState). z.warm) x.is,
     )
     list_comes step.Faulted d dchip h x = absurd cc
@@ -299,7 +335,7 @@ module _ (s : LoggedService) (c : CoreState) (chip : ChipState) (is : IsServiceO
     pub restore_comes : (r : Step) (d : CoreState) (dchip : ChipState) → ran_of r ≡ ran.Whole → RestoresOut s c chip (Ok r) d dchip → (t : LoggedService) × ComesTo s t c chip d dchip × (d.warm ≡ warm.Applying)
     restore_comes step.Did d dchip h x =
         subst (λ z. (t : LoggedService) × ComesTo s t c chip d z × (d.warm ≡ warm.Applying)) (sym x.0)
-        (x.1.makes.later, comes_one s c chip d chip away x.1.makes (records_mark s c d (mark_at c (length chip.effects) (event.ApplyBegan x.1.mode x.1.waits)) (none_due warm.Restored warm.Applying c d at x.1.warm refl refl) (now_in s warm.Restored c d at refl (restores_now d x.1)) (λ h. h) refl x.1.log) (keeps_restored d x.1), x.1.warm)
+        (x.1.makes.later, comes_one s c chip d chip away x.1.makes (records_mark s c (length chip.effects) d (mark_at c (length chip.effects) (event.ApplyBegan x.1.mode x.1.waits)) (none_due warm.Restored warm.Applying c d at x.1.warm refl refl) (now_in s warm.Restored c d at refl (restores_now d x.1)) (λ h. h) (refl, refl) (λ in_it. absurd (false≢true (sym in_it ∙ ap is_unrestored at))) refl x.1.log) (λ out. refl) (keeps_restored d x.1), x.1.warm)
     restore_comes step.Faulted d dchip h x = absurd x
     restore_comes step.LogFull d dchip h x = absurd cc
     restore_comes step.Idle d dchip h x = absurd x
@@ -320,8 +356,8 @@ module _ (s : LoggedService) (c : CoreState) (chip : ChipState) (is : IsServiceO
     GoesOnApplying d = ((d.warm ≡ warm.Applying) × (length d.sync.left < length c.sync.left)) ⊎ (d.warm ≡ warm.Reconciled)
 
     pub apply_comes : (r : Step) (d : CoreState) (dchip : ChipState) → ran_of r ≡ ran.Whole → AppliesOut true s c chip (Ok r) d dchip → (t : LoggedService) × ComesTo s t c chip d dchip × GoesOnApplying d
-    apply_comes step.Did d dchip h (inl x) = (x.makes.later, comes_one s c chip d dchip away x.makes (records_none s c d (none_due warm.Applying warm.Applying c d at x.warm refl refl) (still_in s warm.Applying warm.Applying c d at x.warm refl refl x.board) x.log) x.keeps, inl (x.warm, x.fewer))
-    apply_comes step.Did d dchip h (inr x) = (session_after s x.makes.steps, comes_more s c chip d dchip away x.makes (records_mark s c d (mark_at c (length dchip.effects) event.ApplyEnded) (none_due warm.Applying warm.Reconciled c d at x.warm refl refl) (still_in s warm.Applying warm.Reconciled c d at x.warm refl refl x.board) (λ h. h) refl x.log) x.keeps, inr x.warm)
+    apply_comes step.Did d dchip h (inl x) = (x.makes.later, comes_one s c chip d dchip away x.makes (records_none s c (length chip.effects) d (none_due warm.Applying warm.Applying c d at x.warm refl refl) (still_in s warm.Applying warm.Applying c d at x.warm refl refl x.board) x.log) (λ out. absurd (false≢true (sym (ap is_unrestored x.warm) ∙ out))) x.keeps, inl (x.warm, x.fewer))
+    apply_comes step.Did d dchip h (inr x) = (session_after s x.makes.steps, comes_more s c chip d dchip away x.makes (records_mark s c (length chip.effects) d (mark_at c (length dchip.effects) event.ApplyEnded) (none_due warm.Applying warm.Reconciled c d at x.warm refl refl) (still_in s warm.Applying warm.Reconciled c d at x.warm refl refl x.board) (λ h. h) tt (λ in_it taken many. tt) refl x.log) (λ out. absurd (false≢true (sym (ap is_unrestored x.warm) ∙ out))) x.keeps, inr x.warm)
     apply_comes step.Faulted d dchip h x = absurd cc
     apply_comes step.LogFull d dchip h x = absurd cc
     apply_comes step.Idle d dchip h x = absurd x

@@ -1,35 +1,40 @@
 -- the end of a settling
-use Rattle.std.proofs.Common.{◌≡◌, ◌+◌, ◌≤◌, ◌∷◌, ◌∙◌, inl, inr, ℕ, [], length, Result, Ok, Err, refl, sym, ap, subst, arith}
+use Rattle.std.proofs.Common.{◌≡◌, ◌+◌, ◌≤◌, ◌∷◌, ◌++◌, ◌∙◌, inl, inr, ℕ, List, [], length, Result, Ok, Err, refl, sym, ap, subst, arith}
 use Rattle.std.specs.Map.{keys_of}
 use Rattle.std.proofs.lemmas.List.{length-append}
 use Rattle.std.proofs.lemmas.Map.Entries.{length-keys_of}
 use Rattle.swss_types.specs.declared.out_of_memory.OutOfMemory.{OutOfMemory}
 use Rattle.table_schema.specs.declared.key.Key.{Key}
+use Rattle.sai_types.specs.declared.body.Call.{Call}
+use Rattle.sai_types.specs.declared.ids.Rid.{Rid}
 use Rattle.sai_types.specs.ChipState.{ChipState}
 use Rattle.consumer_table.specs.Ops.{AreOpsInOrder}
 use Rattle.switch_model.specs.History.{with_end, with_mark}
 use Rattle.switch_model.specs.Marks.{Waiting}
 use Rattle.switch_model.specs.declared.mark.Mark.{Mark}
 use Rattle.switch_model.specs.declared.mark.MarkEvent.TheVariants as event
+use Rattle.switch_machine.specs.Events.{SwitchState}
 use Rattle.switch_machine.specs.Next.{MustWait}
+use Rattle.machine_laws.proofs.Turning.{turns-cut}
 use Rattle.restart_laws.specs.Logged.{LoggedService}
 use Rattle.sync_tables.specs.Tables.{IsToSync}
 use Rattle.session_laws.specs.Core.{CoreState, IsFullFor, mark_at, size_beside}
 use Rattle.session_laws.specs.Standing.{IsSessionOf}
-use Rattle.session_laws.specs.Leading.{LeadsTo, PopsTo, RunsTo, SettlesTo}
+use Rattle.session_laws.specs.Leading.{LeadsTo, PopsTo, RunsTo, SettlesTo, calls_in}
 use Rattle.session_laws.specs.Turning.{IsAtRest, TurnsTo}
 use Rattle.session_laws.proofs.Settling.Leading.{leads_more, leads_some}
-use Rattle.session_laws.proofs.Settling.Settling.{settling_ends}
+use Rattle.session_laws.proofs.Settling.Settling.{quiet_answered, settling_ends, turns_cut}
+use Rattle.session_laws.proofs.Settling.Walking.{in_key_order}
 use Rattle.orch_core.specs.Marked.{AreListedFrom, ListsWhatWaits, Marks, with_settled}
 use Rattle.orch_core.specs.Outcomes.{KeepsChip}
-use Rattle.orch_core.specs.Settled.{MarksTurns, Settles, SettlesKeys, SettlesWhole, StopsAtMark, StopsShort}
+use Rattle.orch_core.specs.Settled.{AreTurnsSoFar, BehindThem, MarksTurns, Settles, SettlesKeys, SettlesSoFar, SettlesWhole, StopsAtMark, StopsShort}
 use Rattle.orch_core.specs.declared.answer.Settled.{Settled}
 use Rattle.orch_core.specs.declared.answer.Settled.TheVariants as settled
 use Rattle.flight_board.specs.Applied.{row_at}
 use Rattle.mark_lists.proofs.Listings.{listed_length}
 use Rattle.orch_core.proofs.Listings.{listed_all, listed_only, listed_order, listed_reasons}
 use Rattle.orch_core.proofs.Chips.{keeps_on, keeps_stood}
-use Rattle.orch_core.proofs.Runs.{faulted_more, full_more, log_same, short_more}
+use Rattle.orch_core.proofs.Runs.{effects_on, faulted_more, full_more, log_same, short_more}
 
 -- ---- turns and their mark
 
@@ -41,17 +46,27 @@ module _ (s : LoggedService) (c : CoreState) (first : ChipState) (is : IsSession
   kept : mid.log ≡ c.log
   kept = log_same c mid first chip' s x.later is x.leads.stands x.log
 
-  full : IsFullFor mid effects (1 + length mid.tables.ops) → AreOpsInOrder mid.tables.ops → StopsAtMark s c first mid chip'
-  full h rise = record { later = x.later; leads = x.leads; at_rest = x.at_rest; log = kept; order = rise; waits = waits_told n s c mid chip' x; full = subst (λ e. IsFullFor mid e (1 + length mid.tables.ops)) same h; keeps = keeps }
+  abbrev So : SwitchState → SwitchState → List (Call Rid) → Type 0
+  So = AreTurnsSoFar c.board.plan c.sync.capacities (keys_of c.tables.ops)
 
-  short : StopsShort s c first mid chip'
-  short = record { steps = leads_some c mid chip' s x.later x.leads; warm = x.at_rest.warm; log = kept; keeps = keeps }
+  -- whole turns are turns so far
+  so : So s.service.core x.later.service.core x.calls
+  so = let cut = turns-cut c.board.plan 4 c.sync.capacities n s.service.core x.later.service.core (keys_of c.tables.ops) (keys_of mid.tables.ops) x.calls x.turns in (in_key_order c.tables.ops order.keys, cut.0, cut.2)
+
+  made : chip'.effects ≡ first.effects ++ x.calls
+  made = sym x.leads.stands.effects ∙ x.effects ∙ ap (λ l. l ++ x.calls) is.effects
+
+  full : IsFullFor mid effects (1 + length mid.tables.ops) → AreOpsInOrder mid.tables.ops → StopsAtMark So s c first mid chip'
+  full h rise = record { later = x.later; leads = x.leads; calls = x.calls; so = so; effects = made; at_rest = x.at_rest; log = kept; order = rise; waits = waits_told n s c mid chip' x; full = subst (λ e. IsFullFor mid e (1 + length mid.tables.ops)) same h; keeps = keeps }
+
+  short : StopsShort So s c first mid chip'
+  short = record { steps = leads_some c mid chip' s x.later x.leads; then = x.later.service.core; calls = x.calls; so = so; effects = made; warm = x.at_rest.warm; log = kept; keeps = keeps }
 
   pub keys_end : (r : Result Settled OutOfMemory) (c' : CoreState) → Marks effects n mid r c' → SettlesKeys s c first r c' chip'
   keys_end (Ok settled.Settled) c' h = record { turns = n; mid = mid; order = order; turned = x; marks = subst (λ e. Marks e n mid (Ok settled.Settled) c') same h; keeps = keeps }
-  keys_end (Ok settled.LogFull) c' h = inr (subst (λ z. StopsAtMark s c first z chip') (sym h.0) (full h.1 h.2))
+  keys_end (Ok settled.LogFull) c' h = inr (subst (λ z. StopsAtMark So s c first z chip') (sym h.0) (full h.1 h.2))
   keys_end (Ok settled.Faulted) c' h = absurd h
-  keys_end (Err e) c' h = subst (λ z. StopsShort s c first z chip') (sym h) short
+  keys_end (Err e) c' h = subst (λ z. StopsShort So s c first z chip') (sym h) short
 
 -- ---- the whole
 
@@ -63,7 +78,7 @@ module _ (s : LoggedService) (c : CoreState) (first : ChipState) (is : IsSession
   kept_log = log_same c c2 first chip1 s y.later is y.leads.stands (y.log ∙ x.log)
 
   keeps : KeepsChip c first c2 chip1
-  keeps = keeps_on ran (keeps_stood c1 c2 chip1 x.later y.later x.leads.stands y.leads.stands (log_same c1 c2 chip1 chip1 x.later y.later x.leads.stands y.leads.stands y.log) y.leads.limit)
+  keeps = keeps_on ran (keeps_stood c1 c2 chip1 chip1 x.later y.later x.leads.stands y.leads.stands (log_same c1 c2 chip1 chip1 x.later y.later x.leads.stands y.leads.stands y.log) y.leads.limit)
 
   module _ (c' : CoreState) (chip' : ChipState) (m : MarksTurns y.later c2 chip1 c' chip') where
     abbrev waits : Waiting
@@ -112,13 +127,29 @@ module _ (s : LoggedService) (c : CoreState) (first : ChipState) (is : IsSession
     whole : SettlesWhole s c first c' chip'
     whole = record { settles = ended; places = fits; lists = lists; keeps = record { fails = m.keeps.fails ∙ keeps.fails; faults = m.keeps.faults ∙ keeps.faults; limit = λ within. fits } }
 
+  -- turns so far, behind what workers left and the pops
+  abbrev KeysSo : SwitchState → SwitchState → List (Call Rid) → Type 0
+  KeysSo = AreTurnsSoFar c2.board.plan c2.sync.capacities (keys_of c2.tables.ops)
+
+  abbrev AllSo : SwitchState → SwitchState → List (Call Rid) → Type 0
+  AllSo = SettlesSoFar c.board.plan c.sync.capacities
+
+  through : (u : SwitchState) (calls : List (Call Rid)) → KeysSo y.later.service.core u calls → AllSo s.service.core u (calls_in x.answers ++ calls)
+  through u calls (order, n, turns) = BehindThem x.answers calls x.are (quiet_answered c c1 c2 chip1 chip1 s x y rest) (turns_cut c c1 c2 chip1 chip1 s x y rest order n u calls turns) refl
+
+  grew : y.later.effects ≡ s.effects ++ calls_in x.answers
+  grew = y.effects ∙ x.effects
+
   pub settles_all : (r : Result Settled OutOfMemory) (c' : CoreState) (chip' : ChipState) → SettlesKeys y.later c2 chip1 r c' chip' → Settles s c first r c' chip'
   settles_all (Ok settled.Settled) c' chip' m = whole c' chip' m
-  settles_all (Ok settled.Faulted) c' chip' h = (faulted_more s y.later c c2 chip1 leads first is kept_log keeps (λ none. rest.popped) c' chip' h, λ free. h.popped rest.popped)
-  settles_all (Ok settled.LogFull) c' chip' (inl h) = inl (full_more s y.later c c2 chip1 leads first is kept_log keeps c' chip' h)
+  settles_all (Ok settled.Faulted) c' chip' h = (faulted_more s y.later c c2 chip1 leads first is kept_log keeps AllSo KeysSo (calls_in x.answers) grew through (λ none. rest.popped) c' chip' h, λ free. h.popped rest.popped)
+  settles_all (Ok settled.LogFull) c' chip' (inl h) = inl (full_more s y.later c c2 chip1 leads first is kept_log keeps AllSo KeysSo (calls_in x.answers) grew through c' chip' h)
   settles_all (Ok settled.LogFull) c' chip' (inr h) = inr (record {
     later = h.later;
     leads = leads_more c c2 c' chip1 chip' s y.later h.later leads h.leads;
+    calls = calls_in x.answers ++ h.calls;
+    so = through h.later.service.core h.calls h.so;
+    effects = h.effects ∙ effects_on s y.later c c2 chip1 leads first is kept_log keeps AllSo KeysSo (calls_in x.answers) grew through h.calls;
     at_rest = h.at_rest;
     log = h.log ∙ kept_log;
     order = h.order;
@@ -126,4 +157,4 @@ module _ (s : LoggedService) (c : CoreState) (first : ChipState) (is : IsSession
     full = h.full;
     keeps = keeps_on keeps h.keeps;
   })
-  settles_all (Err e) c' chip' h = short_more s y.later c c2 chip1 leads first is kept_log keeps c' chip' h
+  settles_all (Err e) c' chip' h = short_more s y.later c c2 chip1 leads first is kept_log keeps AllSo KeysSo (calls_in x.answers) grew through c' chip' h

@@ -4,7 +4,7 @@ use Rattle.std.proofs.lemmas.List.{length-append}
 use Rattle.sai_types.specs.declared.answer.ChipAnswer.{ChipAnswer}
 use Rattle.sai_types.specs.declared.answer.ChipAnswer.TheVariants as answer
 use Rattle.sai_types.specs.declared.plan.PlanCall.{PlanCall}
-use Rattle.sai_types.specs.ChipState.{ChipState}
+use Rattle.sai_types.specs.ChipState.{ChipState, calls_after}
 use Rattle.chip_layout.specs.Renamed.{call_renamed}
 use Rattle.switch_model.specs.History.{History, no_history, with_mark}
 use Rattle.switch_model.specs.declared.mark.Mark.{Mark}
@@ -25,7 +25,7 @@ use Rattle.session_laws.specs.Service.Standing.{IsServiceOf}
 use Rattle.session_laws.proofs.Service.Listing.{list-fails, list-next}
 use Rattle.session_laws.proofs.Service.Made.{ended-next, failed-next, more-next}
 use Rattle.orch_core.specs.Outcomes.{with_fault}
-use Rattle.orch_core.specs.Restarting.{AppliesOne, AppliesOut, AppliesLast, FaultsOnWay, HeedsApply, HeedsList, ListsOnWay, ListsOut, places_left}
+use Rattle.orch_core.specs.Restarting.{AppliesLast, AppliesOne, AppliesOut, FaultsOnWay, HeedsApply, HeedsList, ListsOnWay, ListsOut, calls_then, places_left}
 use Rattle.orch_core.specs.declared.answer.Step.{Step}
 use Rattle.orch_core.proofs.Chips.{one_effect, one_more_effect, same_faults}
 
@@ -85,11 +85,11 @@ module _ (y y' : SyncState) (chip chip' : ChipState) where
   applies_fails (c ∷ cs) a x = x.answered.fails
 
   -- one of the calls was made, and more are left
-  pub applies_fewer : (l : List PlanCall) → Applies l y chip apply_step.More y' chip' → (length y'.left < length l) × (places_left l ≡ 2) × (0 < length y'.left) × (length chip'.effects ≤ length chip.effects + 1)
+  pub applies_fewer : (l : List PlanCall) → Applies l y chip apply_step.More y' chip' → (length y'.left < length l) × (places_left l ≡ 2) × (0 < length y'.left) × (length chip'.effects ≤ length chip.effects + 1) × (chip'.calls ≡ calls_after chip.calls)
   applies_fewer [] x = absurd cc
   applies_fewer (c ∷ cs) x =
       let left : y'.left ≡ cs = ap (λ (z : SyncState). z.left) x.later ∙ more_left x.answer c cs x.step in
-      (one_fewer c cs y'.left left, refl, subst (λ l. 0 < length l) (sym left) (more_after x.answer cs x.step), one_effect chip chip' (call_renamed (plan_tie y.view) c.call) x.answer x.answered)
+      (one_fewer c cs y'.left left, refl, subst (λ l. 0 < length l) (sym left) (more_after x.answer cs x.step), one_effect chip chip' (call_renamed (plan_tie y.view) c.call) x.answer x.answered, x.answered.calls)
 
   -- what ended the plan was its last call, or no call
   pub applies_last : (l : List PlanCall) → Applies l y chip apply_step.Ended y' chip' → (length l ≤ 1) × (length chip'.effects ≤ length chip.effects + length l)
@@ -98,10 +98,15 @@ module _ (y y' : SyncState) (chip chip' : ChipState) where
       let none : length cs ≡ 0 = ap length (last_left x.answer cs x.step) in
       let most = one_effect chip chip' (call_renamed (plan_tie y.view) c.call) x.answer x.answered in (omega (arith, none), omega (arith, none, most))
 
+  -- one call was asked of the chip, where one was left
+  pub applies_called : (l : List PlanCall) (a : ApplyStep) → Applies l y chip a y' chip' → chip'.calls ≡ calls_then l chip.calls
+  applies_called [] a x = ap (λ (z : ChipState). z.calls) x.1
+  applies_called (c ∷ cs) a x = x.answered.calls
+
   -- of a failed call at most its own effect came behind those before it
-  pub applies_failed : (l : List PlanCall) → Applies l y chip apply_step.Failed y' chip' → (places_left l ≡ 2) × (length chip'.effects ≤ chip'.before_fault + 1) × (chip'.before_fault ≡ length chip.effects) × (chip.faults < chip'.faults)
+  pub applies_failed : (l : List PlanCall) → Applies l y chip apply_step.Failed y' chip' → (places_left l ≡ 2) × (length chip'.effects ≤ chip'.before_fault + 1) × (chip'.before_fault ≡ length chip.effects) × (chip'.faults ≡ chip.faults + 1) × (chip'.calls ≡ calls_after chip.calls)
   applies_failed [] x = absurd cc
-  applies_failed (c ∷ cs) x = let z = one_more_effect chip chip' (call_renamed (plan_tie y.view) c.call) x.answer (said_failed x.answer cs y.view x.view c x.ties x.step) x.answered in (refl, z.0, z.1, z.2)
+  applies_failed (c ∷ cs) x = let z = one_more_effect chip chip' (call_renamed (plan_tie y.view) c.call) x.answer (said_failed x.answer cs y.view x.view c x.ties x.step) x.answered in (refl, z.0, z.1, z.2, x.answered.calls)
 
 -- ---- as the core takes it
 
@@ -130,10 +135,11 @@ module _ (s : LoggedService) (c : CoreState) (chip : ChipState) (is : IsServiceO
     unlisted_core ends x =
         let behind = x.1.fault in
         let long : length chip'.effects ≡ length chip.effects = ap length x.1.same.effects in
-        let more = x.1.answer.1 in
         record {
           makes = unlisted ends x;
-          more = more;
+          called = x.1.calls;
+          one = x.1.answer.1;
+          last = behind;
           log = refl;
           warm = refl;
           places = omega (arith, behind, room);
@@ -163,6 +169,7 @@ module _ (s : LoggedService) (c : CoreState) (chip : ChipState) (is : IsServiceO
           fewer = fewer.0;
           more = fewer.2;
           room = two;
+          called = fewer.4;
           keeps = record { fails = applies_fails c.sync y chip chip' c.sync.left apply_step.More x; faults = applies_went c.sync y chip chip' c.sync.left apply_step.More more_went x; limit = λ within. omega (arith, two, most) };
         }
 
@@ -181,6 +188,7 @@ module _ (s : LoggedService) (c : CoreState) (chip : ChipState) (is : IsServiceO
           one = last.0;
           few = last.1;
           room = room;
+          called = applies_called c.sync y chip chip' c.sync.left apply_step.Ended x;
           keeps = record { fails = applies_fails c.sync y chip chip' c.sync.left apply_step.Ended x; faults = applies_went c.sync y chip chip' c.sync.left apply_step.Ended ended_went x; limit = λ within. omega (arith, room, few, own, longer) };
         }
 
@@ -196,7 +204,9 @@ module _ (s : LoggedService) (c : CoreState) (chip : ChipState) (is : IsServiceO
         let behind = z.2 in
         record {
           makes = unapplied ends x;
-          more = z.3;
+          called = z.4;
+          one = z.3;
+          last = behind;
           log = refl;
           warm = refl;
           places = omega (arith, behind, two);

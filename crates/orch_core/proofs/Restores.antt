@@ -191,17 +191,17 @@ module _ (s : LoggedService) (c : CoreState) (chip : ChipState) (is : IsServiceO
   pub built_whole : (e : CoreState) (chip' : ChipState) → BuildsOut s first chip (Ok step.Did) e chip' → RestoresOut s c chip (Ok step.Did) e chip'
   built_whole e chip' x = (x.0, rows_from pops.0 e (subst (λ z. RestoresRows s z chip e) pops.1 x.1))
 
-  pub built_stops : (r : Result Step OutOfMemory) (d : CoreState) (chip' : ChipState) → (r ≡ Ok step.Did → ⊥) → BuildsOut s first chip r d chip' → (e : CoreState) → e ≡ given_up d → RestoresOut s c chip r e chip'
-  built_stops (Ok step.Did) d chip' not x e same = absurd (not refl)
-  built_stops (Ok step.LogFull) d chip' not x e same = (x.0, subst (λ z. StaysInService s c z chip) (sym same) (given d x.1.0), full_once x.1.1)
-  built_stops (Ok step.Faulted) d chip' not x e same = absurd x.1
-  built_stops (Ok step.Idle) d chip' not x e same = absurd x.1
-  built_stops (Ok step.Suspect) d chip' not x e same = absurd x.1
-  built_stops (Err o) d chip' not x e same = (x.0, subst (λ z. StaysInService s c z chip) (sym same) (given d x.1))
+  pub built_stops : (r : Result Step OutOfMemory) (d : CoreState) (chip' : ChipState) → (r ≡ Ok step.Did → ⊥) → (IsFullFor c (length chip.effects) 1 → ⊥) → BuildsOut s first chip r d chip' → (e : CoreState) → e ≡ given_up d → RestoresOut s c chip r e chip'
+  built_stops (Ok step.Did) d chip' not room x e same = absurd (not refl)
+  built_stops (Ok step.LogFull) d chip' not room x e same = (x.0, subst (λ z. StaysInService s c z chip) (sym same) (given d x.1.0), inr (full_once x.1.1))
+  built_stops (Ok step.Faulted) d chip' not room x e same = absurd x.1
+  built_stops (Ok step.Idle) d chip' not room x e same = absurd x.1
+  built_stops (Ok step.Suspect) d chip' not room x e same = absurd x.1
+  built_stops (Err o) d chip' not room x e same = (x.0, subst (λ z. StaysInService s c z chip) (sym same) (given d x.1), room)
 
-pub restores_err : (s : LoggedService) (c : CoreState) (chip : ChipState) (r : Result Step OutOfMemory) (d : CoreState) → IsErr r → StaysInService s c d chip → RestoresOut s c chip r d chip
-restores_err s c chip (Err e) d h x = (refl, x)
-restores_err s c chip (Ok r) d h x = absurd (false≢true h)
+pub restores_err : (s : LoggedService) (c : CoreState) (chip : ChipState) (r : Result Step OutOfMemory) (d : CoreState) → IsErr r → (IsFullFor c (length chip.effects) 1 → ⊥) → StaysInService s c d chip → RestoresOut s c chip r d chip
+restores_err s c chip (Err e) d h room x = (refl, x, room)
+restores_err s c chip (Ok r) d h room x = absurd (false≢true h)
 
 pub builds_err : (s : LoggedService) (first : CoreState) (chip chip' : ChipState) (r : Result Step OutOfMemory) (d : CoreState) → IsErr r → chip' ≡ chip → IsBeside first d → BuildsOut s first chip r d chip'
 builds_err s first chip chip' (Err e) d h same x = (same, x)

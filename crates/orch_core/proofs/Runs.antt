@@ -1,6 +1,6 @@
 -- answers and pops, one after the other
 use Rattle.std.proofs.Common.{◌≡◌, ◌+◌, ◌<◌, ◌≤◌, ◌==◌, ◌∷◌, ◌++◌, ◌∙◌, ◌⊎◌, inl, inr, ℕ, Bool, true, false, List, [], length, Option, None, Some, Result, Ok, Err, refl, sym, ap, subst, arith}
-use Rattle.std.proofs.lemmas.List.{length-append}
+use Rattle.std.proofs.lemmas.List.{append-nil, append_assoc, length-append, map-append}
 use Rattle.std.specs.Option.{IsSome}
 use Rattle.std.specs.Result.{IsErr}
 use Rattle.std.proofs.lemmas.Bool.{eq-eqb, eqb-true, false≢true}
@@ -10,6 +10,7 @@ use Rattle.sai_types.specs.declared.ids.Rid.{Rid}
 use Rattle.sai_types.specs.ChipState.{ChipState}
 use Rattle.switch_model.specs.History.{History, listed_by}
 use Rattle.switch_model.specs.declared.mark.MarkEvent.TheVariants as event
+use Rattle.switch_machine.specs.Events.{AreAnswers, SwitchState, after_answers}
 use Rattle.restart_laws.specs.Logged.{LoggedService}
 use Rattle.sync_tables.specs.Tables.{PopsKeys, TablesState}
 use Rattle.flight_board.specs.Board.{BoardState, flown_at}
@@ -19,19 +20,20 @@ use Rattle.session_laws.specs.Events.{MakesSome}
 use Rattle.session_laws.specs.Standing.{IsSessionOf}
 use Rattle.session_laws.proofs.Joining.{no_step, one_step}
 use Rattle.session_laws.proofs.Popping.{pop_told}
-use Rattle.session_laws.specs.Leading.{LeadsTo, PopsTo, RunsTo}
+use Rattle.session_laws.specs.Leading.{LeadsTo, PopsTo, RunsTo, calls_in}
 use Rattle.session_laws.proofs.Settling.Leading.{leads_more, leads_some}
 use Rattle.session_laws.proofs.Settling.Popping.{pops_more, pops_none}
-use Rattle.session_laws.proofs.Settling.Running.{runs_more, runs_none}
-use Rattle.orch_core.specs.Outcomes.{Answered, AnswersCall, IsSameBeside, KeepsChip, KeepsFlights, MarksFault, with_fault, PopsAlone}
+use Rattle.session_laws.proofs.Settling.Running.{answered_both, answers_both, runs_more, runs_none}
+use Rattle.session_laws.proofs.Settling.Settling.{free_answered, pops_cut}
+use Rattle.orch_core.specs.Outcomes.{Answered, AnswersCall, IsLastCall, IsSameBeside, KeepsChip, KeepsFlights, MarksFault, with_fault, PopsAlone}
 use Rattle.session_laws.specs.Turning.{IsAtRest}
-use Rattle.orch_core.specs.Settled.{Pops, RunsAll, RunsOut, Settles, RunsWhole, StopsFaulted, StopsFull, StopsShort}
+use Rattle.orch_core.specs.Settled.{AreAnswersSoFar, BehindThem, Pops, RunsAll, RunsOut, Settles, SettlesSoFar, RunsWhole, StopsFaulted, StopsFull, StopsShort}
 use Rattle.orch_core.specs.declared.answer.Ran.{Ran}
 use Rattle.orch_core.specs.declared.answer.Ran.TheVariants as ran
 use Rattle.orch_core.specs.declared.answer.Settled.{Settled}
 use Rattle.orch_core.specs.declared.answer.Step.{Step}
 use Rattle.orch_core.specs.declared.answer.Step.TheVariants as step
-use Rattle.orch_core.proofs.Chips.{keeps_alike, keeps_itself, keeps_on, keeps_stood}
+use Rattle.orch_core.proofs.Chips.{effects_asked, keeps_alike, keeps_asked, keeps_itself, keeps_on, keeps_stood}
 
 pub beside_itself : (c : CoreState) → IsSameBeside c c
 beside_itself c = record { tables = refl; waiting = refl; log = refl; listed = refl; limit = refl; warm = refl }
@@ -58,12 +60,11 @@ module _ (s t : LoggedService) (c d : CoreState) (chip : ChipState) (leads : Lea
     marks_more : (e : CoreState) (chip' : ChipState) → MarksFault true d chip e chip' → MarksFault true c first e chip'
     marks_more e chip' y =
         let faults = keeps.faults in
-        let more = y.more in
         let size = size_same chip'.before_fault in
         let places = y.places in
         let limit = leads.limit in
         record {
-          more = omega (arith, faults, more);
+          one = y.one ∙ ap (λ n. n + 1) faults;
           log = y.log
               ∙ ap (λ (h : History). with_fault true h (record { taken = length h.taken; effects = length chip'.effects; event = event.Faulted chip.faults chip'.faults })) same
               ∙ ap (λ n. with_fault true c.log (record { taken = length c.log.taken; effects = length chip'.effects; event = event.Faulted n chip'.faults })) faults;
@@ -72,14 +73,41 @@ module _ (s t : LoggedService) (c d : CoreState) (chip : ChipState) (leads : Lea
           few = y.few;
         }
 
-    pub faulted_more : (c.tables.waiting ≡ [] → d.tables.waiting ≡ []) → (e : CoreState) (chip' : ChipState) → StopsFaulted t d chip e chip' → StopsFaulted s c first e chip'
-    faulted_more popped e chip' y = record { steps = all_more e chip' y.steps; marks = marks_more e chip' y.marks; popped = λ none. y.popped (popped none); fails = y.fails ∙ keeps.fails }
+    -- what was made so far behind these calls was made so far from the first core on
+    module _ (So Then : SwitchState → SwitchState → List (Call Rid) → Type 0) (own : List (Call Rid)) (grew : t.effects ≡ s.effects ++ own) (through : (u : SwitchState) (calls : List (Call Rid)) → Then t.service.core u calls → So s.service.core u (own ++ calls)) where
+      pub effects_on : (calls : List (Call Rid)) → chip.effects ++ calls ≡ first.effects ++ (own ++ calls)
+      effects_on calls = ap (λ l. l ++ calls) (sym leads.stands.effects ∙ grew ∙ ap (λ l. l ++ own) is.effects) ∙ append_assoc first.effects own calls
 
-    pub full_more : (e : CoreState) (chip' : ChipState) → StopsFull t d chip e chip' → StopsFull s c first e chip'
-    full_more e chip' y = record { steps = all_more e chip' y.steps; warm = y.warm; log = y.log ∙ same; flying = y.flying; full = y.full; keeps = keeps_on keeps y.keeps }
+      pub faulted_more : (c.tables.waiting ≡ [] → d.tables.waiting ≡ []) → (e : CoreState) (chip' : ChipState) → StopsFaulted Then t d chip e chip' → StopsFaulted So s c first e chip'
+      faulted_more popped e chip' y = record {
+        steps = all_more e chip' y.steps;
+        before = y.before;
+        calls = own ++ y.calls;
+        so = through y.before y.calls y.so;
+        call = y.call;
+        due = y.due;
+        effects = subst (λ l. IsLastCall l y.call chip'.effects) (effects_on y.calls) y.effects;
+        marks = marks_more e chip' y.marks;
+        popped = λ none. y.popped (popped none);
+        fails = y.fails ∙ keeps.fails;
+      }
 
-    pub short_more : (e : CoreState) (chip' : ChipState) → StopsShort t d chip e chip' → StopsShort s c first e chip'
-    short_more e chip' y = record { steps = all_more e chip' y.steps; warm = y.warm; log = y.log ∙ same; keeps = keeps_on keeps y.keeps }
+      pub full_more : (e : CoreState) (chip' : ChipState) → StopsFull Then t d chip e chip' → StopsFull So s c first e chip'
+      full_more e chip' y = record { steps = all_more e chip' y.steps; then = y.then; calls = own ++ y.calls; so = through y.then y.calls y.so; effects = y.effects ∙ effects_on y.calls; warm = y.warm; log = y.log ∙ same; flying = y.flying; full = y.full; keeps = keeps_on keeps y.keeps }
+
+      pub short_more : (e : CoreState) (chip' : ChipState) → StopsShort Then t d chip e chip' → StopsShort So s c first e chip'
+      short_more e chip' y = record { steps = all_more e chip' y.steps; then = y.then; calls = own ++ y.calls; so = through y.then y.calls y.so; effects = y.effects ∙ effects_on y.calls; warm = y.warm; log = y.log ∙ same; keeps = keeps_on keeps y.keeps }
+
+-- what was made so far, seen as a part of more
+module _ (So Then : SwitchState → SwitchState → List (Call Rid) → Type 0) (s : LoggedService) (through : (u : SwitchState) (calls : List (Call Rid)) → Then s.service.core u calls → So s.service.core u calls) (c : CoreState) (chip : ChipState) (d : CoreState) (chip' : ChipState) where
+  pub faulted_as : StopsFaulted Then s c chip d chip' → StopsFaulted So s c chip d chip'
+  faulted_as y = record { steps = y.steps; before = y.before; calls = y.calls; so = through y.before y.calls y.so; call = y.call; due = y.due; effects = y.effects; marks = y.marks; popped = y.popped; fails = y.fails }
+
+  pub full_as : StopsFull Then s c chip d chip' → StopsFull So s c chip d chip'
+  full_as y = record { steps = y.steps; then = y.then; calls = y.calls; so = through y.then y.calls y.so; effects = y.effects; warm = y.warm; log = y.log; flying = y.flying; full = y.full; keeps = y.keeps }
+
+  pub short_as : StopsShort Then s c chip d chip' → StopsShort So s c chip d chip'
+  short_as y = record { steps = y.steps; then = y.then; calls = y.calls; so = through y.then y.calls y.so; effects = y.effects; warm = y.warm; log = y.log; keeps = y.keeps }
 
 -- nothing was logged in a session: the cores' logs are the same
 pub log_same : (c d : CoreState) (first chip : ChipState) (s t : LoggedService) → IsSessionOf c first s → IsSessionOf d chip t → t.log ≡ s.log → d.log ≡ c.log
@@ -87,18 +115,39 @@ log_same c d first chip s t is there same = sym there.log ∙ same ∙ is.log
 
 -- the answer of a call that stops
 module _ (s : LoggedService) (w : ℕ) (c : CoreState) (chip : ChipState) (at : c.warm ≡ warm.Reconciled) (d : CoreState) (chip' : ChipState) where
-  pub stop_faulted : Answered true s w c chip (Ok step.Faulted) d chip' → StopsFaulted s c chip d chip'
-  stop_faulted y = record { steps = one_step c d chip' s y.makes; marks = y.marks; popped = λ none. ap (λ t. t.waiting) y.tables ∙ none; fails = y.fails }
+  none_so : AreAnswersSoFar c.board.plan s.service.core s.service.core []
+  none_so = ([], tt, refl, refl)
 
-  pub stop_full : IsSessionOf c chip s → w < 4 → IsSome (flown_at c.board w) → Answered true s w c chip (Ok step.LogFull) d chip' → StopsFull s c chip d chip'
+  pub stop_faulted : Answered true s w c chip (Ok step.Faulted) d chip' → StopsFaulted (AreAnswersSoFar c.board.plan) s c chip d chip'
+  stop_faulted y = record {
+    steps = one_step c d chip' s y.makes;
+    before = s.service.core;
+    calls = [];
+    so = none_so;
+    call = y.call;
+    due = y.due;
+    effects = subst (λ l. IsLastCall l y.call chip'.effects) (sym (append-nil chip.effects)) y.effects;
+    marks = y.marks;
+    popped = λ none. ap (λ t. t.waiting) y.tables ∙ none;
+    fails = y.fails;
+  }
+
+  pub stop_full : IsSessionOf c chip s → w < 4 → IsSome (flown_at c.board w) → Answered true s w c chip (Ok step.LogFull) d chip' → StopsFull (AreAnswersSoFar c.board.plan) s c chip d chip'
   stop_full is less flying y =
-      subst (λ z. StopsFull s c chip z chip') (sym y.0)
-      (subst (λ z. StopsFull s c chip c z) (sym y.1) (record { steps = no_step c chip s is; warm = at; log = refl; flying = (w, less, flying); full = y.2; keeps = keeps_itself c chip }))
+      subst (λ z. StopsFull (AreAnswersSoFar c.board.plan) s c chip z chip') (sym y.0)
+      (subst (λ z. StopsFull (AreAnswersSoFar c.board.plan) s c chip c z) (sym y.1) (record { steps = no_step c chip s is; then = s.service.core; calls = []; so = none_so; effects = sym (append-nil chip.effects); warm = at; log = refl; flying = (w, less, flying); full = y.2; keeps = keeps_itself c chip }))
 
-  pub stop_short : IsSessionOf c chip s → (e : OutOfMemory) → Answered true s w c chip (Err e) d chip' → StopsShort s c chip d chip'
-  stop_short is e y =
-      subst (λ z. StopsShort s c chip d z) (sym y.0)
-      (record { steps = record { steps = []; are = tt; stands = y.1.stands; plan = y.1.plan; capacities = y.1.capacities; limit = y.1.limit }; warm = y.1.warm ∙ at; log = y.1.log; keeps = keeps_stood c d chip s s is y.1.stands y.1.log y.1.limit })
+  pub stop_short : IsSessionOf c chip s → (e : OutOfMemory) → Answered true s w c chip (Err e) d chip' → StopsShort (AreAnswersSoFar c.board.plan) s c chip d chip'
+  stop_short is e y = record {
+    steps = record { steps = []; are = tt; stands = y.1.stands; plan = y.1.plan; capacities = y.1.capacities; limit = y.1.limit };
+    then = s.service.core;
+    calls = [];
+    so = none_so;
+    effects = effects_asked y.0 ∙ sym (append-nil chip.effects);
+    warm = y.1.warm ∙ at;
+    log = y.1.log;
+    keeps = keeps_asked y.0 (keeps_stood c d chip chip' s s is y.1.stands y.1.log y.1.limit);
+  }
 
 -- ---- answers
 
@@ -151,33 +200,54 @@ did_by s w c chip step.Idle d chip' not_faulted not_full h = absurd h
 did_by s w c chip step.Suspect d chip' not_faulted not_full h = absurd h
 
 module _ (s : LoggedService) (c : CoreState) (chip : ChipState) (d : CoreState) (chip' : ChipState) where
-  pub out_err : (w : ℕ) (r : Result Ran OutOfMemory) → IsErr r → StopsShort s c chip d chip' → RunsOut s w c chip r d chip'
+  pub out_err : (w : ℕ) (r : Result Ran OutOfMemory) → IsErr r → StopsShort (AreAnswersSoFar c.board.plan) s c chip d chip' → RunsOut s w c chip r d chip'
   out_err w (Err e) h x = x
   out_err w (Ok b) h x = absurd (false≢true h)
 
-  pub all_err : (r : Result Ran OutOfMemory) → IsErr r → StopsShort s c chip d chip' → RunsAll s c chip r d chip'
+  pub all_err : (r : Result Ran OutOfMemory) → IsErr r → StopsShort (AreAnswersSoFar c.board.plan) s c chip d chip' → RunsAll s c chip r d chip'
   all_err (Err e) h x = x
   all_err (Ok b) h x = absurd (false≢true h)
 
-  pub settles_err : (r : Result Settled OutOfMemory) → IsErr r → StopsShort s c chip d chip' → Settles s c chip r d chip'
+  pub settles_err : (r : Result Settled OutOfMemory) → IsErr r → StopsShort (SettlesSoFar c.board.plan c.sync.capacities) s c chip d chip' → Settles s c chip r d chip'
   settles_err (Err e) h x = x
   settles_err (Ok b) h x = absurd (false≢true h)
 
--- one worker more, or a stop
-module _ (s : LoggedService) (c : CoreState) (first : ChipState) (is : IsSessionOf c first s) (d : CoreState) (chip : ChipState) (x : RunsTo c s d chip) (keeps : KeepsChip c first d chip) (w : ℕ) where
+-- answers were given, and then more so far, or a stop
+module _ (s : LoggedService) (c : CoreState) (first : ChipState) (is : IsSessionOf c first s) (d : CoreState) (chip : ChipState) (x : RunsTo c s d chip) (keeps : KeepsChip c first d chip) where
   same : d.log ≡ c.log
   same = log_same c d first chip s x.later is x.leads.stands x.log
 
-  pub all_stops : (r : Ran) → (r ≡ ran.Whole → ⊥) → IsSameBeside c d → w < 4 → flown_at d.board w ≡ flown_at c.board w → (e : CoreState) (chip' : ChipState) → RunsOut x.later w d chip (Ok r) e chip' → RunsAll s c first (Ok r) e chip'
-  all_stops ran.Whole not beside less still e chip' h = absurd (not refl)
-  all_stops ran.Faulted not beside less still e chip' h = (
-    faulted_more s x.later c d chip x.leads first is same keeps (λ none. ap (λ t. t.waiting) beside.tables ∙ none) e chip' h.0,
+  abbrev Then : SwitchState → SwitchState → List (Call Rid) → Type 0
+  Then = AreAnswersSoFar d.board.plan
+
+  abbrev So : SwitchState → SwitchState → List (Call Rid) → Type 0
+  So = AreAnswersSoFar c.board.plan
+
+  through : (u : SwitchState) (calls : List (Call Rid)) → Then x.later.service.core u calls → So s.service.core u (calls_in x.answers ++ calls)
+  through u calls (es, run, last, said) = (
+    x.answers ++ es,
+    answers_both c.board.plan s.service.core x.answers es x.are (subst (λ z. AreAnswers c.board.plan 4 z es) x.core (subst (λ p. AreAnswers p 4 x.later.service.core es) x.leads.plan run)),
+    last ∙ ap (λ z. after_answers z es) x.core ∙ sym (answered_both s.service.core x.answers es),
+    ap (λ l. calls_in x.answers ++ l) said ∙ sym (map-append (λ (a : Call Rid × SwitchState). a.0) x.answers es),
+  )
+
+  pub runs_faulted : (c.tables.waiting ≡ [] → d.tables.waiting ≡ []) → (e : CoreState) (chip' : ChipState) → StopsFaulted Then x.later d chip e chip' → StopsFaulted So s c first e chip'
+  runs_faulted popped e chip' h = faulted_more s x.later c d chip x.leads first is same keeps So Then (calls_in x.answers) x.effects through popped e chip' h
+
+  pub runs_full : (e : CoreState) (chip' : ChipState) → StopsFull Then x.later d chip e chip' → StopsFull So s c first e chip'
+  runs_full e chip' h = full_more s x.later c d chip x.leads first is same keeps So Then (calls_in x.answers) x.effects through e chip' h
+
+  pub runs_short : (e : CoreState) (chip' : ChipState) → StopsShort Then x.later d chip e chip' → StopsShort So s c first e chip'
+  runs_short e chip' h = short_more s x.later c d chip x.leads first is same keeps So Then (calls_in x.answers) x.effects through e chip' h
+
+  -- one worker more
+  pub all_stops : (w : ℕ) (r : Ran) → (r ≡ ran.Whole → ⊥) → IsSameBeside c d → w < 4 → flown_at d.board w ≡ flown_at c.board w → (e : CoreState) (chip' : ChipState) → RunsOut x.later w d chip (Ok r) e chip' → RunsAll s c first (Ok r) e chip'
+  all_stops w ran.Whole not beside less still e chip' h = absurd (not refl)
+  all_stops w ran.Faulted not beside less still e chip' h = (
+    runs_faulted (λ none. ap (λ t. t.waiting) beside.tables ∙ none) e chip' h.0,
     (w, less, subst (λ o. IsSome o) still h.1),
   )
-  all_stops ran.LogFull not beside less still e chip' h = full_more s x.later c d chip x.leads first is same keeps e chip' h
-
-  pub all_short : (e : CoreState) (chip' : ChipState) → StopsShort x.later d chip e chip' → StopsShort s c first e chip'
-  all_short e chip' h = short_more s x.later c d chip x.leads first is same keeps e chip' h
+  all_stops w ran.LogFull not beside less still e chip' h = runs_full e chip' h
 
 pub free_on : (w : ℕ) (b b' : BoardState) → ((v : ℕ) → v < w → flown_at b v ≡ None) → KeepsFlights w b b' → flown_at b' w ≡ None → (v : ℕ) → v < w + 1 → flown_at b' v ≡ None
 free_on w b b' free others own v less = by (v == w) refl
@@ -208,11 +278,15 @@ rest_popped c d e at beside free pops none = record {
   warm = ap (λ (z : CoreState). z.warm) pops.1 ∙ beside.warm ∙ at;
 }
 
-pub short_popped : (s : LoggedService) (c : CoreState) (first : ChipState) (d e : CoreState) (chip : ChipState) → c.warm ≡ warm.Reconciled → IsSameBeside c d → RunsTo c s d chip → KeepsChip c first d chip → PopsAlone d e → StopsShort s c first e chip
-short_popped s c first d e chip at beside x keeps pops =
+pub short_popped : (s : LoggedService) (c : CoreState) (first : ChipState) (d e : CoreState) (chip : ChipState) → IsSessionOf c first s → c.warm ≡ warm.Reconciled → IsSameBeside c d → ((v : ℕ) → v < 4 → flown_at d.board v ≡ None) → RunsTo c s d chip → KeepsChip c first d chip → PopsAlone d e → StopsShort (SettlesSoFar c.board.plan c.sync.capacities) s c first e chip
+short_popped s c first d e chip is at beside free x keeps pops =
     let y = pops.2 chip x.later x.leads.stands in
     record {
       steps = leads_some c e chip s y.later (leads_more c d e chip chip s x.later y.later x.leads y.leads);
+      then = y.later.service.core;
+      calls = calls_in x.answers ++ [];
+      so = BehindThem x.answers [] x.are (free_answered c d e chip chip s x y (beside.warm ∙ at) free) (pops_cut c d e chip chip s x y) refl;
+      effects = sym x.leads.stands.effects ∙ x.effects ∙ ap (λ l. l ++ calls_in x.answers) is.effects ∙ ap (λ l. first.effects ++ l) (sym (append-nil (calls_in x.answers)));
       warm = ap (λ (z : CoreState). z.warm) pops.1 ∙ beside.warm ∙ at;
       log = ap (λ (z : CoreState). z.log) pops.1 ∙ beside.log;
       keeps = keeps_on keeps (keeps_alike d e chip chip refl (ap (λ (z : CoreState). z.log) pops.1) (ap (λ (z : CoreState). z.listed) pops.1) (ap (λ (z : CoreState). z.limit) pops.1));

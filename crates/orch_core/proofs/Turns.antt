@@ -3,15 +3,20 @@ use Rattle.std.proofs.Common.{◌≡◌, ◌+◌, ◌<◌, ◌∷◌, ◌++◌, 
 use Rattle.std.specs.Map.{keys_of}
 use Rattle.std.specs.Result.{IsErr}
 use Rattle.std.proofs.lemmas.Bool.{false≢true}
-use Rattle.std.proofs.lemmas.List.{append_assoc}
+use Rattle.std.proofs.lemmas.List.{append-nil, append_assoc}
 use Rattle.swss_types.specs.declared.out_of_memory.OutOfMemory.{OutOfMemory}
+use Rattle.table_schema.specs.Plan.{Ports}
 use Rattle.table_schema.specs.declared.key.Key.{Key}
+use Rattle.sai_types.specs.declared.body.Call.{Call}
+use Rattle.sai_types.specs.declared.ids.Rid.{Rid}
 use Rattle.sai_types.specs.Alike.{IsIn}
 use Rattle.sai_types.specs.ChipState.{ChipState}
 use Rattle.consumer_table.specs.Ops.{AreOpsInOrder, Ops, first_in, keys_behind}
 use Rattle.retry_list.specs.Reasons.{with_reason}
 use Rattle.switch_model.specs.declared.wait.Wait.{Wait}
+use Rattle.switch_machine.specs.Events.{AreAnswers, SwitchState}
 use Rattle.switch_machine.specs.Reasons.{IsReason}
+use Rattle.machine_laws.specs.Settling.{IsMachineTurnSoFar, RunsSoFar}
 use Rattle.restart_laws.specs.Logged.{LoggedService}
 use Rattle.sync_tables.specs.Tables.{IsToSync}
 use Rattle.flight_board.specs.Board.{FlightState, flight_on, flown_at}
@@ -20,13 +25,14 @@ use Rattle.mark_lists.proofs.Listings.{in_middle}
 use Rattle.session_laws.specs.Core.{CoreState}
 use Rattle.session_laws.specs.Standing.{IsSessionOf}
 use Rattle.session_laws.proofs.Beside.{stands_with}
+use Rattle.session_laws.proofs.Joining.{no_step}
 use Rattle.session_laws.specs.Leading.{LeadsTo}
 use Rattle.session_laws.specs.Turning.{IsAtRest, IsTurned, IsTurning}
-use Rattle.session_laws.proofs.Settling.Leading.{leads_one}
+use Rattle.session_laws.proofs.Settling.Leading.{leads_one, plan_led_back}
 use Rattle.session_laws.proofs.Settling.Turning.{turn_begins, turn_drops, turn_runs, turn_waits}
-use Rattle.session_laws.proofs.Settling.Walking.{first_next, walk_goes, walk_stays}
+use Rattle.session_laws.proofs.Settling.Walking.{first_next, in_key_order, walk_goes, walk_stays}
 use Rattle.orch_core.specs.Outcomes.{KeepsChip, BeginsTo, DropsTo, IsSameCore, key_left}
-use Rattle.orch_core.specs.Settled.{Begun, Brings, BringsKey, Dropped, MakesTurn, MakesTurns, RunsOut, RunsWhole, StopsShort, Waits, StopsFaulted, StopsFull}
+use Rattle.orch_core.specs.Settled.{AreAnswersSoFar, AreTurnsSoFar, Begun, Brings, BringsKey, Dropped, IsKeySoFar, IsTurnSoFar, MakesTurn, MakesTurns, RunsOut, RunsWhole, StopsShort, Waits, StopsFaulted, StopsFull}
 use Rattle.orch_core.specs.declared.answer.Ran.{Ran}
 use Rattle.orch_core.specs.declared.answer.Ran.TheVariants as ran
 use Rattle.orch_core.specs.declared.answer.Turned.{Turned}
@@ -161,40 +167,63 @@ turn_next c first k more rest d chip split order turning e chip' brings s is =
 -- ---- by the answer
 
 module _ (s : LoggedService) (c : CoreState) (chip : ChipState) (d : CoreState) (chip' : ChipState) where
-  pub turn_err : (r : Result Ran OutOfMemory) → IsErr r → StopsShort s c chip d chip' → MakesTurn s c chip r d chip'
+  pub turn_err : (r : Result Ran OutOfMemory) → IsErr r → StopsShort (IsTurnSoFar c.board.plan c.sync.capacities (keys_of c.tables.ops)) s c chip d chip' → MakesTurn s c chip r d chip'
   turn_err (Err e) h x = x
   turn_err (Ok b) h x = absurd (false≢true h)
 
-  pub turns_err : (r : Result Turned OutOfMemory) → IsErr r → StopsShort s c chip d chip' → MakesTurns s c chip r d chip'
+  pub turns_err : (r : Result Turned OutOfMemory) → IsErr r → StopsShort (AreTurnsSoFar c.board.plan c.sync.capacities (keys_of c.tables.ops)) s c chip d chip' → MakesTurns s c chip r d chip'
   turns_err (Err e) h x = x
   turns_err (Ok b) h x = absurd (false≢true h)
 
 -- a key that stops the turn
-module _ (s : LoggedService) (c : CoreState) (first : ChipState) (is : IsSessionOf c first s) (keys left rest : List Key) (d : CoreState) (chip : ChipState) (x : IsTurning keys c s left rest d chip) (keeps : KeepsChip c first d chip) where
+module _ (s : LoggedService) (c : CoreState) (first : ChipState) (is : IsSessionOf c first s) (left more : List Key) (k : Key) (d : CoreState) (chip : ChipState) (x : IsTurning (keys_of c.tables.ops) c s left (k ∷ more) d chip) (keeps : KeepsChip c first d chip) where
   same : d.log ≡ c.log
   same = log_same c d first chip s x.later is x.leads.stands x.log
 
-  pub turn_stops : (k : Key) (r : Ran) → (r ≡ ran.Whole → ⊥) → (e : CoreState) (chip' : ChipState) → Brings x.later k d chip (Ok r) e chip' → MakesTurn s c first (Ok r) e chip'
-  turn_stops k ran.Whole not e chip' h = absurd (not refl)
-  turn_stops k ran.Faulted not e chip' h = faulted_more s x.later c d chip x.leads first is same keeps (λ none. x.at_rest.popped) e chip' h
-  turn_stops k ran.LogFull not e chip' h = full_more s x.later c d chip x.leads first is same keeps e chip' h
+  abbrev KeySo : SwitchState → SwitchState → List (Call Rid) → Type 0
+  KeySo = IsKeySoFar d.board.plan d.sync.capacities k
 
-  pub turn_short : (e : CoreState) (chip' : ChipState) → StopsShort x.later d chip e chip' → StopsShort s c first e chip'
-  turn_short e chip' h = short_more s x.later c d chip x.leads first is same keeps e chip' h
+  abbrev TurnSo : SwitchState → SwitchState → List (Call Rid) → Type 0
+  TurnSo = IsTurnSoFar c.board.plan c.sync.capacities (keys_of c.tables.ops)
+
+  through : (u : SwitchState) (calls : List (Call Rid)) → KeySo x.later.service.core u calls → TurnSo s.service.core u (x.calls ++ calls)
+  through u calls (inl h) = x.cut u calls (inl h)
+  through u calls (inr runs) = x.cut u calls (inr (inl (plan_led_back (λ p l. RunsSoFar p 4 l k x.later.service.core u calls) x.leads runs)))
+
+  pub turn_stops : (r : Ran) → (r ≡ ran.Whole → ⊥) → (e : CoreState) (chip' : ChipState) → Brings x.later k d chip (Ok r) e chip' → MakesTurn s c first (Ok r) e chip'
+  turn_stops ran.Whole not e chip' h = absurd (not refl)
+  turn_stops ran.Faulted not e chip' h = faulted_more s x.later c d chip x.leads first is same keeps TurnSo KeySo x.calls x.effects through (λ none. x.at_rest.popped) e chip' h
+  turn_stops ran.LogFull not e chip' h = full_more s x.later c d chip x.leads first is same keeps TurnSo KeySo x.calls x.effects through e chip' h
+
+  pub turn_short : (e : CoreState) (chip' : ChipState) → StopsShort KeySo x.later d chip e chip' → StopsShort TurnSo s c first e chip'
+  turn_short e chip' h = short_more s x.later c d chip x.leads first is same keeps TurnSo KeySo x.calls x.effects through e chip' h
 
 -- a turn that stops the turns
-module _ (n : ℕ) (s : LoggedService) (c : CoreState) (first : ChipState) (is : IsSessionOf c first s) (d : CoreState) (chip : ChipState) (x : IsTurned n c s d chip) (keeps : KeepsChip c first d chip) (e : CoreState) (chip' : ChipState) where
+module _ (n : ℕ) (s : LoggedService) (c : CoreState) (first : ChipState) (is : IsSessionOf c first s) (order : AreOpsInOrder c.tables.ops) (d : CoreState) (chip : ChipState) (x : IsTurned n c s d chip) (keeps : KeepsChip c first d chip) (e : CoreState) (chip' : ChipState) where
   same_log : d.log ≡ c.log
   same_log = log_same c d first chip s x.later is x.leads.stands x.log
 
-  pub turns_faulted : StopsFaulted x.later d chip e chip' → StopsFaulted s c first e chip'
-  turns_faulted h = faulted_more s x.later c d chip x.leads first is same_log keeps (λ none. x.at_rest.popped) e chip' h
+  abbrev OneSo : SwitchState → SwitchState → List (Call Rid) → Type 0
+  OneSo = IsTurnSoFar d.board.plan d.sync.capacities (keys_of d.tables.ops)
 
-  pub turns_full : StopsFull x.later d chip e chip' → StopsFull s c first e chip'
-  turns_full h = full_more s x.later c d chip x.leads first is same_log keeps e chip' h
+  abbrev AllSo : SwitchState → SwitchState → List (Call Rid) → Type 0
+  AllSo = AreTurnsSoFar c.board.plan c.sync.capacities (keys_of c.tables.ops)
 
-  pub turns_short : StopsShort x.later d chip e chip' → StopsShort s c first e chip'
-  turns_short h = short_more s x.later c d chip x.leads first is same_log keeps e chip' h
+  turn_through : (u : SwitchState) (calls : List (Call Rid)) → OneSo x.later.service.core u calls → AllSo s.service.core u (x.calls ++ calls)
+  turn_through u calls h = (
+    in_key_order c.tables.ops order.keys,
+    n + 0,
+    x.cut 0 u calls (plan_led_back (λ p l. IsMachineTurnSoFar p 4 l x.later.service.core (keys_of d.tables.ops) u calls) x.leads h),
+  )
+
+  pub turns_faulted : StopsFaulted OneSo x.later d chip e chip' → StopsFaulted AllSo s c first e chip'
+  turns_faulted h = faulted_more s x.later c d chip x.leads first is same_log keeps AllSo OneSo x.calls x.effects turn_through (λ none. x.at_rest.popped) e chip' h
+
+  pub turns_full : StopsFull OneSo x.later d chip e chip' → StopsFull AllSo s c first e chip'
+  turns_full h = full_more s x.later c d chip x.leads first is same_log keeps AllSo OneSo x.calls x.effects turn_through e chip' h
+
+  pub turns_short : StopsShort OneSo x.later d chip e chip' → StopsShort AllSo s c first e chip'
+  turns_short h = short_more s x.later c d chip x.leads first is same_log keeps AllSo OneSo x.calls x.effects turn_through e chip' h
 
 -- an operation that begins is run to its end
 module _ (s : LoggedService) (k : Key) (c : CoreState) (chip : ChipState) (is : IsSessionOf c chip s) (mid : CoreState) (x : BeginsTo s 0 k c mid chip) (d : CoreState) (chip' : ChipState) where
@@ -204,19 +233,39 @@ module _ (s : LoggedService) (k : Key) (c : CoreState) (chip : ChipState) (is : 
   log_kept : mid.log ≡ c.log
   log_kept = ap (λ (z : CoreState). z.log) x.is
 
+  abbrev RunSo : SwitchState → SwitchState → List (Call Rid) → Type 0
+  RunSo = AreAnswersSoFar mid.board.plan
+
+  abbrev OwnSo : SwitchState → SwitchState → List (Call Rid) → Type 0
+  OwnSo = IsKeySoFar c.board.plan c.sync.capacities k
+
+  run_through : (u : SwitchState) (calls : List (Call Rid)) → RunSo x.makes.later.service.core u calls → OwnSo s.service.core u ([] ++ calls)
+  run_through u calls (es, run, last, said) = inr (record {
+    first = x.makes.later.service.core;
+    starting = x.begin;
+    is = x.key;
+    answers = es;
+    are = subst (λ p. AreAnswers p 4 x.makes.later.service.core es) x.makes.plan run;
+    last = last;
+    calls_are = said;
+  })
+
+  none_made : x.makes.later.effects ≡ s.effects ++ []
+  none_made = ap (λ (t : LoggedService). t.effects) x.moves
+
   pub begun_runs : (r : Result Ran OutOfMemory) → RunsOut x.makes.later 0 mid chip r d chip' → Brings s k c chip r d chip'
   begun_runs (Ok ran.Whole) h = Begun mid x h.0 h.1
-  begun_runs (Ok ran.Faulted) h = faulted_more s x.makes.later c mid chip leads chip is log_kept (begins_keeps s k c mid chip x) (λ none. ap (λ (z : CoreState). z.tables.waiting) x.is ∙ none) d chip' h.0
-  begun_runs (Ok ran.LogFull) h = full_more s x.makes.later c mid chip leads chip is log_kept (begins_keeps s k c mid chip x) d chip' h
-  begun_runs (Err e) h = short_more s x.makes.later c mid chip leads chip is log_kept (begins_keeps s k c mid chip x) d chip' h
+  begun_runs (Ok ran.Faulted) h = faulted_more s x.makes.later c mid chip leads chip is log_kept (begins_keeps s k c mid chip x) OwnSo RunSo [] none_made run_through (λ none. ap (λ (z : CoreState). z.tables.waiting) x.is ∙ none) d chip' h.0
+  begun_runs (Ok ran.LogFull) h = full_more s x.makes.later c mid chip leads chip is log_kept (begins_keeps s k c mid chip x) OwnSo RunSo [] none_made run_through d chip' h
+  begun_runs (Err e) h = short_more s x.makes.later c mid chip leads chip is log_kept (begins_keeps s k c mid chip x) OwnSo RunSo [] none_made run_through d chip' h
 
-pub brings_err : (s : LoggedService) (k : Key) (c : CoreState) (chip : ChipState) (r : Result Ran OutOfMemory) (d : CoreState) (chip' : ChipState) → IsErr r → StopsShort s c chip d chip' → Brings s k c chip r d chip'
+pub brings_err : (s : LoggedService) (k : Key) (c : CoreState) (chip : ChipState) (r : Result Ran OutOfMemory) (d : CoreState) (chip' : ChipState) → IsErr r → StopsShort (IsKeySoFar c.board.plan c.sync.capacities k) s c chip d chip' → Brings s k c chip r d chip'
 brings_err s k c chip (Err e) d chip' h x = x
 brings_err s k c chip (Ok b) d chip' h x = absurd (false≢true h)
 
 -- the same core stops where memory was refused
-pub short_same : (s : LoggedService) (c d : CoreState) (chip : ChipState) → c.warm ≡ warm.Reconciled → IsSameCore c d → IsSessionOf d chip s → StopsShort s c chip d chip
-short_same s c d chip at same is = record { steps = some_same c d s chip same is; warm = warm_same c d same ∙ at; log = ap (λ (z : CoreState). z.log) same.2; keeps = keeps_alike c d chip chip refl (ap (λ (z : CoreState). z.log) same.2) (ap (λ (z : CoreState). z.listed) same.2) (ap (λ (z : CoreState). z.limit) same.2) }
+pub short_same : (So : SwitchState → SwitchState → List (Call Rid) → Type 0) (s : LoggedService) (c d : CoreState) (chip : ChipState) → So s.service.core s.service.core [] → c.warm ≡ warm.Reconciled → IsSameCore c d → IsSessionOf d chip s → StopsShort So s c chip d chip
+short_same So s c d chip so at same is = record { steps = some_same c d s chip same is; then = s.service.core; calls = []; so = so; effects = sym (append-nil chip.effects); warm = warm_same c d same ∙ at; log = ap (λ (z : CoreState). z.log) same.2; keeps = keeps_alike c d chip chip refl (ap (λ (z : CoreState). z.log) same.2) (ap (λ (z : CoreState). z.listed) same.2) (ap (λ (z : CoreState). z.limit) same.2) }
 
 -- a turn that took a key away, or did not
 pub turn_fewer : (keys left : List Key) (c : CoreState) (s : LoggedService) (d : CoreState) (chip' : ChipState) (y : IsTurning keys c s left [] d chip') → (length (keys_of d.tables.ops) ≡ length keys → ⊥) → length (keys_of d.tables.ops) < length keys
@@ -226,3 +275,21 @@ turn_fewer keys left c s d chip' y apart =
       | inl less ↦ omega (arith, long, less)
       | inr same ↦ absurd (apart (long ∙ same.0))
     ]
+
+-- nothing of a turn was made
+turn_none : (plan : Ports) (capacities : List ℕ) (s : SwitchState) (keys : List Key) → IsTurnSoFar plan capacities keys s s []
+turn_none plan capacities s [] = (refl, refl)
+turn_none plan capacities s (k ∷ ks) = inl (refl, refl)
+
+pub turn_unbegun : (s : LoggedService) (c : CoreState) (chip : ChipState) → IsSessionOf c chip s → IsAtRest c → (r : Result Ran OutOfMemory) → IsErr r → MakesTurn s c chip r c chip
+turn_unbegun s c chip is rest r failed =
+    turn_err s c chip c chip r failed (record {
+      steps = no_step c chip s is;
+      then = s.service.core;
+      calls = [];
+      so = turn_none c.board.plan c.sync.capacities s.service.core (keys_of c.tables.ops);
+      effects = sym (append-nil chip.effects);
+      warm = rest.warm;
+      log = refl;
+      keeps = keeps_itself c chip;
+    })

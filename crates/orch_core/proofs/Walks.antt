@@ -31,7 +31,7 @@ use Rattle.session_laws.specs.Standing.{IsSessionOf}
 use Rattle.session_laws.proofs.Marking.{popped}
 use Rattle.session_laws.proofs.Popping.{pop_told}
 use Rattle.session_laws.proofs.Seeing.{free_worker_rests, is_idle, same_keys}
-use Rattle.orch_core.specs.Outcomes.{Answered, BeginsOrDrops, BeginsTo, DropsTo, IsInSession, IsPopNext, IsSameCore, Same, StaysInSession, StepsTo}
+use Rattle.orch_core.specs.Outcomes.{Answered, BeginsOrDrops, BeginsTo, DropsTo, IsInSession, IsPopNext, IsSameCore, StaysInSession, StepsTo, Unbegun, Uncalled}
 use Rattle.orch_core.specs.declared.answer.Step.{Step}
 use Rattle.orch_core.specs.declared.answer.Step.TheVariants as step
 use Rattle.orch_core.proofs.Chips.{keeps_alike}
@@ -128,6 +128,7 @@ module _ (c c' : CoreState) (after : Option Key) (walked : IsWalkedTo c after c'
           moves = x.moves;
           keeps = keeps_alike c d chip chip refl (ap (λ (z : CoreState). z.log) x.is ∙ ap (λ (z : CoreState). z.log) walked.0.2) (ap (λ (z : CoreState). z.listed) x.is ∙ ap (λ (z : CoreState). z.listed) walked.0.2) (ap (λ (z : CoreState). z.limit) x.is ∙ ap (λ (z : CoreState). z.limit) walked.0.2);
           room = λ some full. false≢true some;
+          called = refl;
           batch = λ next. absurd (next.1 empty);
         }
 
@@ -143,6 +144,7 @@ module _ (c c' : CoreState) (after : Option Key) (walked : IsWalkedTo c after c'
           moves = x.moves;
           keeps = keeps_alike c d chip chip refl (ap (λ (z : CoreState). z.log) x.is ∙ ap (λ (z : CoreState). z.log) walked.0.2) (ap (λ (z : CoreState). z.listed) x.is ∙ ap (λ (z : CoreState). z.listed) walked.0.2) (ap (λ (z : CoreState). z.limit) x.is ∙ ap (λ (z : CoreState). z.limit) walked.0.2);
           room = λ some full. false≢true some;
+          called = refl;
           batch = λ next. absurd (next.1 empty);
         }
 
@@ -164,7 +166,7 @@ stays_same : (c d : CoreState) (s : LoggedService) (chip : ChipState) → IsSame
 stays_same c d s chip same is = record { stands = is; plan = plan_same c d same; capacities = capacities_same c d same; limit = limit_same c d same; warm = warm_same c d same; log = ap (λ (z : CoreState). z.log) same.2 }
 
 pub walk_err : (c c' d : CoreState) (after : Option Key) (e : OutOfMemory) → IsWalkedTo c after c' → IsSameCore c' d → (w : ℕ) → flown_at c.board w ≡ None → (s : LoggedService) (chip : ChipState) → IsSessionOf d chip s → StepsTo s w c chip (Err e) d chip
-walk_err c c' d after e walked same w none s chip is = (refl, Same (stays_same c d s chip (same_on c c' d walked.0 same) is) (λ some. absurd (false≢true (ap is_some (sym none) ∙ some))))
+walk_err c c' d after e walked same w none s chip is = Unbegun none refl (stays_same c d s chip (same_on c c' d walked.0 same) is)
 
 -- ---- by the answer
 
@@ -196,13 +198,14 @@ module _ (s : LoggedService) (w : ℕ) (c : CoreState) (chip : ChipState) (is : 
     moves = x.moves;
     keeps = x.keeps;
     room = λ some. x.room;
+    called = x.called;
     batch = λ next. absurd (no_pop_next next);
   }
   answering_steps (Ok step.Faulted) d chip' x = (x, flying)
   answering_steps (Ok step.LogFull) d chip' x = (x.0, x.1, x.2, flying)
   answering_steps (Ok step.Idle) d chip' x = absurd x
   answering_steps (Ok step.Suspect) d chip' x = absurd x
-  answering_steps (Err e) d chip' x = (x.0, Same x.1 (λ some. x.2))
+  answering_steps (Err e) d chip' x = Uncalled flying x.0 x.1 x.2
 
 module _ (s : LoggedService) (w : ℕ) (c : CoreState) (chip : ChipState) (is : IsSessionOf c chip s) (at : c.warm ≡ warm.Reconciled) (next : IsPopNext c w) (t : TablesState) (keys : PopsKeys c.tables t) (d : CoreState) (same : d ≡ record c { tables = t }) where
   pub popping_steps : (c.tables.waiting ≡ []) ⊎ PopsSome c.tables d.tables → d.tables.waiting ≡ drop BATCH c.tables.waiting → StepsTo s w c chip (Ok step.Did) d chip
@@ -218,5 +221,6 @@ module _ (s : LoggedService) (w : ℕ) (c : CoreState) (chip : ChipState) (is : 
         moves = told.2;
         keeps = keeps_alike c (record c { tables = t }) chip chip refl refl refl refl;
         room = λ some full. false≢true some;
+        called = refl;
         batch = λ next. ap (λ (z : CoreState). z.tables.waiting) (sym same) ∙ left;
       })

@@ -1,7 +1,7 @@
 -- What a settling comes to that begins in any warm state: first the core comes back from a fault and from a restart. Own.
 use Rattle.std.specs.Prelude.{◌≡◌, ◌+◌, ◌++◌, ℕ, Bool, true, false, ◌<◌, List, [], ◌∷◌, length, None, Result, Ok, Err}
 use Rattle.swss_types.specs.declared.out_of_memory.OutOfMemory.{OutOfMemory}
-use Rattle.sai_types.specs.ChipState.{ChipState}
+use Rattle.sai_types.specs.ChipState.{ChipState, IsAskedOnce}
 use Rattle.switch_model.specs.declared.mark.Mark.{Mark}
 use Rattle.switch_model.specs.declared.mark.MarkEvent.{MarkEvent}
 use Rattle.switch_model.specs.declared.mark.MarkEvent.TheVariants as event
@@ -13,7 +13,7 @@ use Rattle.warm_state.specs.declared.warm.Warm.TheVariants as warm
 use Rattle.session_laws.specs.Core.{CoreState, IsFullFor}
 use Rattle.session_laws.specs.Service.Standing.{IsServiceOf}
 use Rattle.orch_core.specs.Outcomes.{KeepsChip}
-use Rattle.orch_core.specs.Restarting.{FaultsOnWay, IsFullOncePopped, StaysInService, places_left}
+use Rattle.orch_core.specs.Restarting.{FaultsOnWay, IsFullToRestore, StaysInService, places_left}
 use Rattle.orch_core.specs.Settled.{Settles}
 use Rattle.orch_core.specs.declared.answer.Ran.{Ran}
 use Rattle.orch_core.specs.declared.answer.Ran.TheVariants as ran
@@ -55,6 +55,16 @@ is_unrestored warm.Applying = false
 is_unrestored warm.Reconciled = false
 is_unrestored _ = true
 
+-- a mark of a restart, or of the beginning of an apply, counts so many writes and effects
+abbrev pub CountsSo : ℕ → ℕ → Mark → MarkEvent → Type 0
+CountsSo taken effects mark event.Restarted = (mark.taken ≡ taken) × (mark.effects ≡ effects)
+CountsSo taken effects mark (event.ApplyBegan mode waits) = (mark.taken ≡ taken) × (mark.effects ≡ effects)
+CountsSo taken effects mark _ = Unit {0}
+
+abbrev pub CountAll : ℕ → ℕ → List Mark → Type 0
+CountAll taken effects [] = Unit {0}
+CountAll taken effects (mark ∷ marks) = CountsSo taken effects mark mark.event × CountAll taken effects marks
+
 -- ---- on the way
 
 -- the rows were restored: whole events led to a core that had just begun its apply, with its mark, and whose board is the later core's
@@ -77,7 +87,7 @@ pub record HasRestored (s : LoggedService) (c : CoreState) (c' : CoreState) : Ty
   pub counts : mark.taken ≡ length c.log.taken
   pub board : c'.board ≡ begun.board
 
--- whole events lead to this session, which is that of the later core and chip, and none where the core was reconciled: no write was taken, and no round ended; the marks that were made are those of restarts and applies, and each restart that is no longer due has its own; the rows that are applied were restored on the way, or are as they were
+-- whole events lead to this session, which is that of the later core and chip, and none where the core was reconciled: no write was taken, and no round ended; the marks that were made are those of restarts and applies, and each restart that is no longer due has its own; a mark of a restart or of the beginning of an apply counts the writes and effects that were there first, since until the rows are restored no call takes effect; the rows that are applied were restored on the way, or are as they were
 pub record ComesTo (s later : LoggedService) (c : CoreState) (chip : ChipState) (c' : CoreState) (chip' : ChipState) : Type 0 where
   pub steps : List LoggedService
   pub are : AreLoggedSteps c.board.plan 4 c.sync.capacities s steps
@@ -91,6 +101,9 @@ pub record ComesTo (s later : LoggedService) (c : CoreState) (chip : ChipState) 
   pub added : List Mark
   pub marks : c'.log.marks ≡ c.log.marks ++ added
   pub way : AreOnWay added
+  pub counted : CountAll (length c.log.taken) (length chip.effects) added
+  pub none_counted : is_unrestored c.warm ≡ false → (taken effects : ℕ) → CountAll taken effects added
+  pub unmoved : is_unrestored c'.warm ≡ true → chip'.effects ≡ chip.effects
   pub restarts : restarts_marked added + restarts_due c'.warm ≡ restarts_due c.warm
   pub restored : is_unrestored c.warm ≡ true → is_unrestored c'.warm ≡ false → HasRestored s c c'
   pub kept : is_unrestored c.warm ≡ false → (is_unrestored c'.warm ≡ false) × (c'.board ≡ c.board)
@@ -101,7 +114,7 @@ pub record ComesTo (s later : LoggedService) (c : CoreState) (chip : ChipState) 
 abbrev pub IsFullOnWay : Warm → LoggedService → CoreState → ChipState → Type 0
 IsFullOnWay warm.Suspect s c chip = IsFullFor c (length chip.effects) 1
 IsFullOnWay warm.Initialized s c chip = IsFullFor c (length chip.effects) 1
-IsFullOnWay warm.Restored s c chip = IsFullOncePopped s c chip
+IsFullOnWay warm.Restored s c chip = IsFullToRestore s c chip
 IsFullOnWay warm.Applying s c chip = IsFullFor c (length chip.effects) (places_left c.sync.left)
 IsFullOnWay warm.Reconciled s c chip = ⊥
 
@@ -115,7 +128,7 @@ abbrev pub StopsOnWay : LoggedService → CoreState → ChipState → Result Ran
 StopsOnWay s c chip (Ok ran.Whole) c' chip' = ⊥
 StopsOnWay s c chip (Ok ran.Faulted) c' chip' = (restarts_due c.warm ≡ 0) × FaultsOnWay (places_on_way c.warm) true s c chip c' chip'
 StopsOnWay s c chip (Ok ran.LogFull) c' chip' = (chip' ≡ chip) × StaysInService s c c' chip × IsFullOnWay c.warm s c chip
-StopsOnWay s c chip (Err e) c' chip' = (chip' ≡ chip) × StaysInService s c c' chip
+StopsOnWay s c chip (Err e) c' chip' = IsAskedOnce chip chip' × StaysInService s c c' chip'
 
 -- the core came this far, where it is not reconciled yet, and then it was stopped
 pub record StopsAfter (s : LoggedService) (c : CoreState) (chip : ChipState) (r : Result Ran OutOfMemory) (c' : CoreState) (chip' : ChipState) : Type 0 where

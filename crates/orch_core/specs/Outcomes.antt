@@ -1,5 +1,5 @@
 -- What the core's events come to, by their answers. Own.
-use Rattle.std.specs.Prelude.{◌≡◌, ◌+◌, ◌<◌, ◌≤◌, ◌⊎◌, ℕ, Bool, true, false, List, [], drop, length, Option, Some, None, IsSome, Result, Ok, Err}
+use Rattle.std.specs.Prelude.{◌≡◌, ◌+◌, ◌<◌, ◌≤◌, ◌⊎◌, ◌++◌, ◌∷◌, ℕ, Bool, true, false, List, [], drop, length, Option, Some, None, IsSome, Result, Ok, Err}
 use Rattle.swss_types.specs.declared.out_of_memory.OutOfMemory.{OutOfMemory}
 use Rattle.table_schema.specs.declared.key.Key.{Key}
 use Rattle.table_schema.specs.declared.row.Row.{Row}
@@ -8,14 +8,14 @@ use Rattle.sai_types.specs.declared.answer.SyncAnswer.TheVariants as sync
 use Rattle.sai_types.specs.declared.body.Call.{Call}
 use Rattle.sai_types.specs.declared.ids.Rid.{Rid}
 use Rattle.sai_types.specs.declared.kind.Kind.{Kind}
-use Rattle.sai_types.specs.ChipState.{ChipState}
+use Rattle.sai_types.specs.ChipState.{ChipState, IsAskedOnce, calls_after}
 use Rattle.switch_model.specs.History.{History, with_end, with_mark}
 use Rattle.switch_model.specs.declared.mark.Mark.{Mark}
 use Rattle.switch_model.specs.declared.mark.MarkEvent.TheVariants as event
 use Rattle.switch_model.specs.declared.wait.Wait.{Wait}
 use Rattle.consumer_table.specs.Ops.{without_op}
 use Rattle.retry_list.specs.Reasons.{without_reason}
-use Rattle.switch_machine.specs.Events.{IsAnswer, IsBegin, IsDrop}
+use Rattle.switch_machine.specs.Events.{IsAnswer, IsBegin, IsDrop, IsDueCall}
 use Rattle.switch_machine.specs.Next.{IsIdle, IsNextEvent}
 use Rattle.switch_machine.specs.Reasons.{IsReason}
 use Rattle.restart_laws.specs.Logged.{LoggedService}
@@ -86,9 +86,13 @@ pub record KeepsChip (c : CoreState) (chip : ChipState) (c' : CoreState) (chip' 
   pub faults : chip'.faults ≡ chip.faults
   pub limit : IsWithinLimit c chip → IsWithinLimit c' chip'
 
--- a call failed, the first that did, and its mark says so, with the chip's counts of faults before it and after it; the call had two places in the log, and at most its own effect came behind those before it
+-- these calls took effect, and then that of this call or nothing
+abbrev pub IsLastCall : List (Call Rid) → Call Rid → List (Call Rid) → Type 0
+IsLastCall before call after = (after ≡ before) ⊎ (after ≡ before ++ call ∷ [])
+
+-- one call failed, the first that did, and its mark says so, with the chip's counts of faults before it and after it, which differ by one; the call had two places in the log, and at most its own effect came behind those before it
 pub record MarksFault (ends : Bool) (c : CoreState) (chip : ChipState) (c' : CoreState) (chip' : ChipState) : Type 0 where
-  pub more : chip.faults < chip'.faults
+  pub one : chip'.faults ≡ chip.faults + 1
   pub log : c'.log ≡ with_fault ends c.log (mark_at c (length chip'.effects) (event.Faulted chip.faults chip'.faults))
   pub warm : c'.warm ≡ warm.Suspect
   pub places : size_beside c chip'.before_fault + 2 ≤ c.limit
@@ -113,22 +117,28 @@ pub record AnswersCall (s : LoggedService) (w : ℕ) (c : CoreState) (chip : Chi
   pub beside : IsSameBeside c c'
   pub others : KeepsFlights w c.board c'.board
   pub room : IsFullFor c (length chip.effects) 2 → ⊥
+  pub called : chip'.calls ≡ calls_after chip.calls
   pub keeps : KeepsChip c chip c' chip'
 
--- a fault of the call is one step too, and leaves the tables as they were
-pub record FaultsCall (ends : Bool) (s : LoggedService) (c : CoreState) (chip : ChipState) (c' : CoreState) (chip' : ChipState) : Type 0 where
+-- a fault of the call that was due for the worker is one step too, one call of the chip, and leaves the tables as they were
+pub record FaultsCall (ends : Bool) (s : LoggedService) (w : ℕ) (c : CoreState) (chip : ChipState) (c' : CoreState) (chip' : ChipState) : Type 0 where
   pub makes : MakesOne c s c' chip'
+  pub call : Call Rid
+  pub due : IsDueCall 4 call s.service.core
+  pub worker : due.worker ≡ w
+  pub effects : IsLastCall chip.effects call chip'.effects
+  pub called : chip'.calls ≡ calls_after chip.calls
   pub marks : MarksFault ends c chip c' chip'
   pub tables : c'.tables ≡ c.tables
   pub fails : chip'.fails ≡ chip.fails
 
--- what the call came to: one step; a fault, which is marked; no places in the log, and then nothing was done; or no call, after want of memory, where the log has its places
+-- what the call came to: one step; a fault, which is marked; no places in the log, and then nothing was done; or want of memory, which the chip itself may have answered, where the log has its places
 abbrev pub Answered : Bool → LoggedService → ℕ → CoreState → ChipState → Result Step OutOfMemory → CoreState → ChipState → Type 0
 Answered ends s w c chip (Ok step.Did) c' chip' = AnswersCall s w c chip c' chip'
-Answered ends s w c chip (Ok step.Faulted) c' chip' = FaultsCall ends s c chip c' chip'
+Answered ends s w c chip (Ok step.Faulted) c' chip' = FaultsCall ends s w c chip c' chip'
 Answered ends s w c chip (Ok step.LogFull) c' chip' = (c' ≡ c) × (chip' ≡ chip) × IsFullFor c (length chip.effects) 2
 Answered ends s w c chip (Ok _) c' chip' = ⊥
-Answered ends s w c chip (Err e) c' chip' = (chip' ≡ chip) × StaysInSession s c c' chip × (IsFullFor c (length chip.effects) 2 → ⊥)
+Answered ends s w c chip (Err e) c' chip' = IsAskedOnce chip chip' × StaysInSession s c c' chip' × (IsFullFor c (length chip.effects) 2 → ⊥)
 
 -- ---- a key to sync
 
@@ -187,7 +197,12 @@ IsPopNext c w = (flown_at c.board w ≡ None) × (c.tables.waiting ≡ [] → �
 
 -- ---- a step
 
--- one event was made, the first that applies to the worker, and one does; its call, where it makes one, had two places in the log; and where a pop was next, the first keys that waited were popped, a batch of them or all
+-- the chip made the one call of an event, or is as it was where the event makes none
+abbrev pub IsCalledFor : Option (Call Rid) → ChipState → ChipState → Type 0
+IsCalledFor None chip chip' = chip' ≡ chip
+IsCalledFor (Some call) chip chip' = chip'.calls ≡ calls_after chip.calls
+
+-- one event was made, the first that applies to the worker, and one does; it made at most one call of the chip, which had two places in the log; and where a pop was next, the first keys that waited were popped, a batch of them or all
 pub record StepsOn (s : LoggedService) (w : ℕ) (c : CoreState) (chip : ChipState) (c' : CoreState) (chip' : ChipState) : Type 0 where
   pub makes : MakesOne c s c' chip'
   pub call : Option (Call Rid)
@@ -196,18 +211,20 @@ pub record StepsOn (s : LoggedService) (w : ℕ) (c : CoreState) (chip : ChipSta
   pub moves : IsMachineStep s call makes.later
   pub keeps : KeepsChip c chip c' chip'
   pub room : IsSome call → IsFullFor c (length chip.effects) 2 → ⊥
+  pub called : IsCalledFor call chip chip'
   pub batch : IsPopNext c w → c'.tables.waiting ≡ drop BATCH c.tables.waiting
 
--- memory was refused: no event was made, and a call that was due had its places in the log; or a pop was next, and a part of it was made
-pub data StepsInPart (s : LoggedService) (w : ℕ) (c c' : CoreState) (chip : ChipState) : Type 0 where
-  Same : StaysInSession s c c' chip → (IsSome (flown_at c.board w) → IsFullFor c (length chip.effects) 2 → ⊥) → StepsInPart s w c c' chip
-  Part : IsPopNext c w → PopsAlone c c' → TakesAtMost BATCH c.tables.waiting c'.tables.waiting → StepsInPart s w c c' chip
+-- memory was refused, and no event was made: a call was due, had its places in the log, and was not made, or the chip answered so; nothing was done, where the worker has nothing under way; or a pop was next, and a part of it was made
+pub data StepsInPart (s : LoggedService) (w : ℕ) (c : CoreState) (chip : ChipState) (c' : CoreState) (chip' : ChipState) : Type 0 where
+  Uncalled : IsSome (flown_at c.board w) → IsAskedOnce chip chip' → StaysInSession s c c' chip' → (IsFullFor c (length chip.effects) 2 → ⊥) → StepsInPart s w c chip c' chip'
+  Unbegun : flown_at c.board w ≡ None → chip' ≡ chip → StaysInSession s c c' chip → StepsInPart s w c chip c' chip'
+  Part : IsPopNext c w → chip' ≡ chip → PopsAlone c c' → TakesAtMost BATCH c.tables.waiting c'.tables.waiting → StepsInPart s w c chip c' chip'
 
 -- a step of a worker makes the first event that applies to it; it is Idle where none does; Faulted where the call that was due for it failed, which is marked; LogFull where that call has not two places; and after want of memory at most a part of a pop was made
 abbrev pub StepsTo : LoggedService → ℕ → CoreState → ChipState → Result Step OutOfMemory → CoreState → ChipState → Type 0
 StepsTo s w c chip (Ok step.Did) c' chip' = StepsOn s w c chip c' chip'
 StepsTo s w c chip (Ok step.Idle) c' chip' = (chip' ≡ chip) × IsSameCore c c' × IsSessionOf c' chip s × IsIdle c.board.plan 4 c.sync.capacities w s.service.core
 StepsTo s w c chip (Ok step.Suspect) c' chip' = (c' ≡ c) × (chip' ≡ chip) × (c.warm ≡ warm.Suspect)
-StepsTo s w c chip (Ok step.Faulted) c' chip' = FaultsCall false s c chip c' chip' × IsSome (flown_at c.board w)
+StepsTo s w c chip (Ok step.Faulted) c' chip' = FaultsCall false s w c chip c' chip' × IsSome (flown_at c.board w)
 StepsTo s w c chip (Ok step.LogFull) c' chip' = (c' ≡ c) × (chip' ≡ chip) × IsFullFor c (length chip.effects) 2 × IsSome (flown_at c.board w)
-StepsTo s w c chip (Err e) c' chip' = (chip' ≡ chip) × StepsInPart s w c c' chip
+StepsTo s w c chip (Err e) c' chip' = StepsInPart s w c chip c' chip'

@@ -5,7 +5,7 @@ use Rattle.table_schema.specs.Plan.{Ports}
 use Rattle.table_schema.specs.declared.key.Key.{Key}
 use Rattle.sai_types.specs.declared.plan.Mode.{Mode}
 use Rattle.sai_types.specs.declared.plan.PlanCall.{PlanCall}
-use Rattle.sai_types.specs.ChipState.{ChipState, objects_of}
+use Rattle.sai_types.specs.ChipState.{ChipState, IsAskedOnce, asked, calls_after, objects_of}
 use Rattle.switch_model.specs.History.{History, with_mark}
 use Rattle.switch_model.specs.Marks.{Waiting}
 use Rattle.switch_model.specs.declared.mark.Mark.{Mark}
@@ -73,10 +73,12 @@ RestartsStep s c chip _ c' = c' ≡ c
 
 -- ---- a fault on the way
 
--- a list of the chip, or a call of a plan, failed in one step of the session, and a mark says so, with the chip's counts of faults; it had so many places in the log, which are enough for the mark and its own effect
+-- a list of the chip, or a call of a plan, failed in one step of the session, one call of the chip, and a mark says so, with the chip's counts of faults, which differ by one; it had so many places in the log, which are enough for the mark and its own effect
 pub record FaultsOnWay (need : ℕ) (ends : Bool) (s : LoggedService) (c : CoreState) (chip : ChipState) (c' : CoreState) (chip' : ChipState) : Type 0 where
   pub makes : MakesNext c s c' chip'
-  pub more : chip.faults < chip'.faults
+  pub called : chip'.calls ≡ calls_after chip.calls
+  pub one : chip'.faults ≡ chip.faults + 1
+  pub last : chip'.before_fault ≡ length chip.effects
   pub log : c'.log ≡ with_fault ends c.log (mark_at c (length chip'.effects) (event.Faulted chip.faults chip'.faults))
   pub warm : c'.warm ≡ warm.Suspect
   pub places : size_beside c chip'.before_fault + need ≤ c.limit
@@ -95,16 +97,16 @@ HeedsList listed.Failed log fault ends c r c' = (r ≡ step.Faulted) × (c' ≡ 
 pub record ListsOnWay (s : LoggedService) (c : CoreState) (chip : ChipState) (c' : CoreState) (chip' : ChipState) : Type 0 where
   pub makes : MakesNext c s c' chip'
   pub is : c' ≡ record c { sync = with_listed c.sync (objects_of chip.objects); warm = warm.Restored }
-  pub chip_is : chip' ≡ chip
+  pub chip_is : chip' ≡ asked chip
   pub room : IsFullFor c (length chip.effects) 1 → ⊥
 
--- the chip was listed; the list failed, which is marked; the log has no place for the list; or it has, and memory was refused
+-- the chip was listed; the list failed, which is marked; the log has no place for the list; or it has, and memory was refused, maybe by the chip
 abbrev pub ListsOut : Bool → LoggedService → CoreState → ChipState → Result Step OutOfMemory → CoreState → ChipState → Type 0
 ListsOut ends s c chip (Ok step.Did) c' chip' = ListsOnWay s c chip c' chip'
 ListsOut ends s c chip (Ok step.Faulted) c' chip' = FaultsOnWay 1 ends s c chip c' chip'
 ListsOut ends s c chip (Ok step.LogFull) c' chip' = (c' ≡ c) × (chip' ≡ chip) × IsFullFor c (length chip.effects) 1
 ListsOut ends s c chip (Ok _) c' chip' = ⊥
-ListsOut ends s c chip (Err e) c' chip' = (c' ≡ c) × (chip' ≡ chip) × (IsFullFor c (length chip.effects) 1 → ⊥)
+ListsOut ends s c chip (Err e) c' chip' = (c' ≡ c) × IsAskedOnce chip chip' × (IsFullFor c (length chip.effects) 1 → ⊥)
 
 -- ---- the restore
 
@@ -162,6 +164,10 @@ pub record IsFullOncePopped (s : LoggedService) (c : CoreState) (chip : ChipStat
   pub popped : tables.waiting ≡ []
   pub full : IsFullForRestore (record c { tables = tables }) chip
 
+-- it has none for any mark, or none for that one
+abbrev pub IsFullToRestore : LoggedService → CoreState → ChipState → Type 0
+IsFullToRestore s c chip = IsFullFor c (length chip.effects) 1 ⊎ IsFullOncePopped s c chip
+
 abbrev pub BeginsOut : LoggedService → CoreState → ChipState → Result Step OutOfMemory → CoreState → Type 0
 BeginsOut s first chip (Ok step.Did) c' = RestoresRows s first chip c'
 BeginsOut s first chip (Ok step.LogFull) c' = IsBeside first c' × IsFullForRestore first chip
@@ -171,12 +177,12 @@ BeginsOut s first chip (Err e) c' = IsBeside first c'
 abbrev pub BuildsOut : LoggedService → CoreState → ChipState → Result Step OutOfMemory → CoreState → ChipState → Type 0
 BuildsOut s first chip r c' chip' = (chip' ≡ chip) × BeginsOut s first chip r c'
 
--- the rows were restored; the log has no places for that, or memory was refused, and then keys may have been popped, and the session is the same
+-- the rows were restored; the log has no places for that, or it has one for a mark and memory was refused, and then keys may have been popped, and the session is the same
 abbrev pub RestoresOut : LoggedService → CoreState → ChipState → Result Step OutOfMemory → CoreState → ChipState → Type 0
 RestoresOut s c chip (Ok step.Did) c' chip' = (chip' ≡ chip) × RestoresRows s c chip c'
-RestoresOut s c chip (Ok step.LogFull) c' chip' = (chip' ≡ chip) × StaysInService s c c' chip × IsFullOncePopped s c chip
+RestoresOut s c chip (Ok step.LogFull) c' chip' = (chip' ≡ chip) × StaysInService s c c' chip × IsFullToRestore s c chip
 RestoresOut s c chip (Ok _) c' chip' = ⊥
-RestoresOut s c chip (Err e) c' chip' = (chip' ≡ chip) × StaysInService s c c' chip
+RestoresOut s c chip (Err e) c' chip' = (chip' ≡ chip) × StaysInService s c c' chip × (IsFullFor c (length chip.effects) 1 → ⊥)
 
 -- ---- the apply
 
@@ -191,6 +197,11 @@ HeedsApply apply_step.More log fault end ends c r c' = (r ≡ step.Did) × (c' �
 HeedsApply apply_step.Ended log fault end ends c r c' = (r ≡ step.Did) × (c' ≡ record c { log = with_mark log end; warm = warm.Reconciled })
 HeedsApply apply_step.Failed log fault end ends c r c' = (r ≡ step.Faulted) × (c' ≡ record c { log = with_fault ends log fault; warm = warm.Suspect })
 
+-- how many calls and lists were asked of the chip after the next event of an apply: one more where a call is left
+abbrev pub calls_then : List PlanCall → ℕ → ℕ
+calls_then [] n = n
+calls_then (c ∷ cs) n = calls_after n
+
 -- a call of the plan was made in one step of the session, and more are left
 pub record AppliesOne (s : LoggedService) (c : CoreState) (chip : ChipState) (c' : CoreState) (chip' : ChipState) : Type 0 where
   pub makes : MakesNext c s c' chip'
@@ -201,6 +212,7 @@ pub record AppliesOne (s : LoggedService) (c : CoreState) (chip : ChipState) (c'
   pub fewer : length c'.sync.left < length c.sync.left
   pub more : 0 < length c'.sync.left
   pub room : IsFullFor c (length chip.effects) 2 → ⊥
+  pub called : chip'.calls ≡ calls_after chip.calls
   pub keeps : KeepsChip c chip c' chip'
 
 -- the last call was made, where one was left, and the end is marked: the core is reconciled; of more than one call none is the last
@@ -213,15 +225,16 @@ pub record AppliesLast (s : LoggedService) (c : CoreState) (chip : ChipState) (c
   pub one : length c.sync.left ≤ 1
   pub few : length chip'.effects ≤ length chip.effects + length c.sync.left
   pub room : IsFullFor c (length chip.effects) (places_left c.sync.left) → ⊥
+  pub called : chip'.calls ≡ calls_then c.sync.left chip.calls
   pub keeps : KeepsChip c chip c' chip'
 
--- a call was made, or the end is marked; the call failed, which is marked; the log has no places; or it has, and memory was refused
+-- a call was made, or the end is marked; the call failed, which is marked; the log has no places; or it has, and memory was refused, maybe by the chip
 abbrev pub AppliesOut : Bool → LoggedService → CoreState → ChipState → Result Step OutOfMemory → CoreState → ChipState → Type 0
 AppliesOut ends s c chip (Ok step.Did) c' chip' = AppliesOne s c chip c' chip' ⊎ AppliesLast s c chip c' chip'
 AppliesOut ends s c chip (Ok step.Faulted) c' chip' = FaultsOnWay 2 ends s c chip c' chip'
 AppliesOut ends s c chip (Ok step.LogFull) c' chip' = (c' ≡ c) × (chip' ≡ chip) × IsFullFor c (length chip.effects) (places_left c.sync.left)
 AppliesOut ends s c chip (Ok _) c' chip' = ⊥
-AppliesOut ends s c chip (Err e) c' chip' = (c' ≡ c) × (chip' ≡ chip) × (IsFullFor c (length chip.effects) (places_left c.sync.left) → ⊥)
+AppliesOut ends s c chip (Err e) c' chip' = (c' ≡ c) × IsAskedOnce chip chip' × (IsFullFor c (length chip.effects) (places_left c.sync.left) → ⊥)
 
 -- ---- a step
 

@@ -10,7 +10,7 @@ ghost use Rattle.registry_laws.specs.Flown.{Flown};
 ghost use Rattle.registry_laws.specs.Making.{IsNextCall, MayTakeFor};
 ghost use Rattle.sync_tables.specs.Tables.{PopsKeys, PopsSome, TablesState, TakesAtMost};
 ghost use Rattle.sync_tables.specs.declared.tables.TheConstants.{BATCH};
-ghost use Rattle.syncd_core.specs.Synced.{CanCall, Calls, SyncState};
+ghost use Rattle.syncd_core.specs.Synced.{Calls, CanCall, IsUnmade, SyncState};
 ghost use Rattle.flight_board.specs.Applied.{row_at};
 ghost use Rattle.flight_board.specs.Board.{BoardState, IsBegunFor, IsPrepared, IsCallReady, IsSameBoard, IsTakenFor, IsUnflown, flown_at};
 ghost use Rattle.session_laws.specs.Core.{good_in};
@@ -59,7 +59,7 @@ impl Core {
         requires { CanCall self.old.sync self.old.sync.temporary (C.state chip.old) call.now }
         ensures ok { IfOk result (λ answer. (y : SyncState) × Calls self.old.sync self.old.sync.temporary (C.state chip.old) call.now answer y (C.state chip.new) × (self.new ≡ record self.old { sync = y })) }
         ensures err { OnErr result (self.new ≡ self.old) }
-        ensures unmade { OnErr result (C.state chip.new ≡ C.state chip.old) }
+        ensures unmade { OnErr result (IsUnmade self.old.sync.temporary (C.state chip.old) (C.state chip.new)) }
     {
         self.syncd.call(chip, call)
     }

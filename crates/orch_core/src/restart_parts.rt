@@ -4,6 +4,7 @@ ghost use Rattle.std.specs.Map.{keys_of};
 ghost use Rattle.table_schema.specs.Rows.{fields_at};
 ghost use Rattle.table_schema.specs.declared.key.Key.{Key};
 ghost use Rattle.sai_types.specs.Alike.{IsIn};
+ghost use Rattle.sai_types.specs.ChipState.{IsAskedOnce, asked};
 ghost use Rattle.consumer_table.specs.Ops.{AreOpsInOrder, Ops, without_op};
 ghost use Rattle.syncd_core.specs.Begun.{Begins, CanBegin};
 ghost use Rattle.syncd_core.specs.Synced.{Applies, CanApply, SyncState, TakesList};
@@ -40,7 +41,7 @@ impl Core {
     pub(crate) fn list_chip<C: Chip>(&mut self, chip: &mut C) -> Result<Listed, OutOfMemory>
         ensures ok { IfOk result (λ listed. (y : SyncState) × TakesList self.old.sync (C.state chip.old) listed y (C.state chip.new) × (self.new ≡ record self.old { sync = y })) }
         ensures err { OnErr result (self.new ≡ self.old) }
-        ensures unmade { OnErr result (C.state chip.new ≡ C.state chip.old) }
+        ensures unmade { OnErr result (C.state chip.new ≡ asked (C.state chip.old)) }
     {
         self.syncd.take_list(chip)
     }
@@ -95,7 +96,7 @@ impl Core {
         requires { CanApply self.old.sync.left self.old.sync.view (C.state chip.old) }
         ensures ok { IfOk result (λ step. (y : SyncState) × Applies self.old.sync.left self.old.sync (C.state chip.old) step y (C.state chip.new) × (self.new ≡ record self.old { sync = y })) }
         ensures err { OnErr result (self.new ≡ self.old) }
-        ensures unmade { OnErr result (C.state chip.new ≡ C.state chip.old) }
+        ensures unmade { OnErr result (IsAskedOnce (C.state chip.old) (C.state chip.new)) }
     {
         self.syncd.apply_one(chip)
     }

@@ -4,6 +4,7 @@ ghost use Rattle.sai_types.specs.ChipState.{ChipState};
 ghost use Rattle.restart_laws.specs.Logged.{LoggedService};
 ghost use Rattle.session_laws.specs.Core.{IsFullFor};
 ghost use Rattle.session_laws.specs.Service.Standing.{IsServiceOf};
+ghost use Rattle.round_laws.specs.Sessions.{InSession, InSteadySession};
 ghost use Rattle.orch_core.specs.Restarting.{MarksRestart, RestartsStep};
 
 use crate::{Core, LogFull};
@@ -13,12 +14,13 @@ use swss_types::OutOfMemory;
 impl Core {
     /// Forgets all but the rows, the writes that wait to be popped and the log, and marks that; `effects` is the number of the
     /// chip's effects. LogFull comes exactly where the log has no place for the mark, and want of memory only where it has one; after
-    /// either nothing has changed.
+    /// either nothing has changed. In a session that came about it leaves core and chip in one.
     pub fn restart(&mut self, effects: u64) -> Result<Result<(), LogFull>, OutOfMemory>
         ensures ok { IfOk result (λ restarted. MarksRestart self.old effects restarted self.new) }
         ensures err { OnErr result (self.new ≡ self.old) }
         ensures room { OnErr result (IsFullFor self.old effects 1 → ⊥) }
         ensures steps { (chip : ChipState) (s : LoggedService) → IsServiceOf self.old chip s → effects ≡ length chip.effects → RestartsStep s self.old chip result self.new }
+        ensures sessions { (chip : ChipState) → InSession self.old chip → effects ≡ length chip.effects → InSteadySession self.new chip }
     {
         if self.is_full(effects, 1) {
             return Ok(Err(LogFull));

@@ -18,12 +18,16 @@ use warm_state::Warm;
 
 impl Core {
     /// Pops all that waits, goes over all rows on a temporary view, and plans the way from the chip to that, with a mark that lists
-    /// the keys that wait. Where the log has no places for it, or memory is refused, the view is given up, and what was popped stays.
+    /// the keys that wait. Where the log has no place for a mark nothing is done; where it has none for the keys, or memory is refused,
+    /// the view is given up, and what was popped stays.
     pub(crate) fn restore<C: Chip>(&mut self, chip: &mut C) -> Result<Step, OutOfMemory>
         requires service { IsInService self.old (C.state chip.old) }
         requires warm { self.old.warm ≡ warm.Restored }
         ensures { (s : LoggedService) → IsServiceOf self.old (C.state chip.old) s → RestoresOut s self.old (C.state chip.old) result self.new (C.state chip.new) }
     {
+        if self.is_full(chip.effects(), 1) {
+            return Ok(Step::LogFull);
+        }
         self.pop_all()?;
         match self.build(chip) {
             Ok(Step::Did) => Ok(Step::Did),

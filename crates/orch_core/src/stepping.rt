@@ -5,7 +5,9 @@ ghost use Rattle.flight_board.specs.Board.{flown_at};
 ghost use Rattle.warm_state.specs.declared.warm.Warm.TheVariants as warm;
 ghost use Rattle.session_laws.specs.Standing.{IsSessionOf};
 ghost use Rattle.sai_types.specs.ChipState.{ChipState};
+ghost use Rattle.session_laws.specs.Service.Events.{MakesMore};
 ghost use Rattle.session_laws.specs.Service.Standing.{IsServiceOf};
+ghost use Rattle.round_laws.specs.Sessions.{InSession, InSteadySession};
 ghost use Rattle.orch_core.specs.Outcomes.{IsInSession, StepsTo};
 ghost use Rattle.orch_core.specs.Restarting.{IsInService, StepsFrom};
 
@@ -19,11 +21,14 @@ use warm_state::Warm;
 impl Core {
     /// Makes the first event that applies to the worker: where a restart is unfinished the list of the chip, the restore, or the next
     /// call of the apply; else the call that is due for it; a pop, where a write waits; or the beginning of the first key to sync
-    /// that has no reason to wait. While the core is suspect no event is made.
+    /// that has no reason to wait. While the core is suspect no event is made. Whatever it answers, whole steps of the service lead to
+    /// a session for which core and chip stand then; so in a session that came about it leaves them in one.
     pub fn step<C: Chip>(&mut self, chip: &mut C, worker: u32) -> Result<Step, OutOfMemory>
         requires worker { worker < 4 }
         requires service { IsInService self.old (C.state chip.old) }
-        ensures { (s : LoggedService) → IsServiceOf self.old (C.state chip.old) s → StepsFrom self.old.warm worker s self.old (C.state chip.old) result self.new (C.state chip.new) }
+        ensures event { (s : LoggedService) → IsServiceOf self.old (C.state chip.old) s → StepsFrom self.old.warm worker s self.old (C.state chip.old) result self.new (C.state chip.new) }
+        ensures goes_on { (s : LoggedService) → IsServiceOf self.old (C.state chip.old) s → MakesMore self.old s self.new (C.state chip.new) }
+        ensures sessions { InSession self.old (C.state chip.old) → InSteadySession self.new (C.state chip.new) }
     {
         match self.state() {
             Warm::Initialized => self.list(chip, false),

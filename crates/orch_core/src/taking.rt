@@ -10,6 +10,7 @@ ghost use Rattle.machine_laws.specs.Reading.{IsOnSwitch};
 ghost use Rattle.restart_laws.specs.Logged.{LoggedService};
 ghost use Rattle.session_laws.specs.Standing.{IsSessionOf};
 ghost use Rattle.session_laws.specs.Service.Standing.{IsServiceOf};
+ghost use Rattle.round_laws.specs.Sessions.{InSession, InSteadySession};
 ghost use Rattle.orch_core.specs.Taking.{TakesSent, TakesNext, TakesStep};
 
 use crate::{Core, TakeFault};
@@ -18,13 +19,15 @@ use table_schema::{Sent, Write};
 
 impl Core {
     /// Takes a write; `effects` is the number of the chip's effects. LogFull gives the write back exactly where the log has no
-    /// place for it; want of memory comes only where it has one. After either nothing has changed.
+    /// place for it; want of memory comes only where it has one. After either nothing has changed. In a session that came about it
+    /// leaves core and chip in one.
     pub fn take(&mut self, sent: Sent, effects: u64) -> Result<Result<(), TakeFault>, OutOfMemory>
         ensures ok { IfOk result (λ taken. TakesSent self.old sent effects taken self.new) }
         ensures err { OnErr result (self.new ≡ self.old) }
         ensures room { OnErr result (IsFullFor self.old effects 1 → ⊥) }
         ensures steps { (chip : ChipState) (s : LoggedService) → IsSessionOf self.old chip s → IsOnSwitch (written_key sent.write) → TakesStep s self.old chip result self.new }
         ensures serves { (chip : ChipState) (s : LoggedService) → IsServiceOf self.old chip s → IsOnSwitch (written_key sent.write) → TakesNext s self.old chip result self.new }
+        ensures sessions { (chip : ChipState) → InSession self.old chip → IsOnSwitch (written_key sent.write) → InSteadySession self.new chip }
     {
         if self.is_full(effects, 1) {
             return Ok(Err(TakeFault::LogFull(sent)));

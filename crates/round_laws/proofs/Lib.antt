@@ -7,6 +7,7 @@ pub mod Resting
 pub mod Between
 pub mod Ordering
 pub mod Turned
+pub mod Cut
 pub mod Quieted
 pub mod Drained
 pub mod Ending

@@ -18,6 +18,7 @@ use Rattle.restart_laws.specs.Applied.{AreFollowed}
 use Rattle.restart_laws.specs.Bounded.{effects_outside, listed_at_applies}
 use Rattle.restart_laws.specs.Logged.{AreLoggedSteps, IsLeftIn, IsWarmAfter, LoggedService, last_mark, new_session, session_after}
 use Rattle.restart_laws.proofs.Bounded.{outside-few}
+use Rattle.restart_laws.proofs.BrokenOff.{steady-breaks}
 use Rattle.restart_laws.proofs.Followed.{log-followed}
 use Rattle.restart_laws.proofs.Logged.{IsToldLog, told-first, told-session}
 use Rattle.restart_laws.proofs.Routes.{effects-routed}
@@ -31,7 +32,7 @@ use Rattle.session_laws.specs.Leading.{LeadsTo}
 use Rattle.session_laws.specs.Service.Events.{MakesMore, MakesNext}
 use Rattle.session_laws.specs.Service.Standing.{IsServiceOf}
 use Rattle.session_laws.proofs.Service.Sessions.{first-service, step-next, steps-more, steps-stand}
-use Rattle.round_laws.specs.Sessions.{HasComeAbout, InSession}
+use Rattle.round_laws.specs.Sessions.{HasComeAbout, InSession, InSteadySession}
 
 -- ---- steps
 
@@ -198,3 +199,13 @@ module _ (c : CoreState) (chip : ChipState) (x : InSession c chip) where
 
   pub applies-followed : AreFollowed c.board.plan c.sync.capacities c.log.taken chip.effects c.log.marks
   applies-followed = carried (λ h es. AreFollowed plan room h.taken es h.marks) (applies plan its_plan room x.session x.came)
+
+-- ---- whatever a call of the core answers
+
+-- in a session applies that are broken off one after the other are steady
+pub steady-session : (c : CoreState) (chip : ChipState) → InSession c chip → InSteadySession c chip
+steady-session c chip x = record { within = x; breaks = steady-breaks c.board.plan c.sync.capacities c.log.taken chip.effects c.log.marks (applies-followed c chip x) }
+
+-- where steps lead on from whichever session core and chip stand for, they are in one still
+pub steady-on : (c c' : CoreState) (chip chip' : ChipState) → ((s : LoggedService) → IsServiceOf c chip s → MakesMore c s c' chip') → InSession c chip → InSteadySession c' chip'
+steady-on c c' chip chip' on x = steady-session c' chip' (some-on c c' chip chip' x (on x.session x.stands)).0

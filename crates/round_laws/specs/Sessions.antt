@@ -5,6 +5,7 @@ use Rattle.sai_types.specs.ChipState.{ChipState}
 use Rattle.switch_model.specs.declared.mark.Mark.{Mark}
 use Rattle.switch_model.specs.declared.mark.MarkEvent.{MarkEvent}
 use Rattle.switch_model.specs.declared.mark.MarkEvent.TheVariants as event
+use Rattle.restart_laws.specs.BrokenOff.{AreSteadyOverBreaks}
 use Rattle.restart_laws.specs.Logged.{AreLoggedSteps, LoggedService, new_session, session_after}
 use Rattle.session_laws.specs.Core.{CoreState}
 use Rattle.session_laws.specs.Service.Standing.{IsServiceOf}
@@ -29,3 +30,8 @@ BeginsNoApply _ = Unit {0}
 abbrev pub BeginNoApply : List Mark → Type 0
 BeginNoApply [] = Unit {0}
 BeginNoApply (mark ∷ marks) = BeginsNoApply mark.event × BeginNoApply marks
+
+-- a core and its chip in a session, in which what goes on over applies that are broken off one after the other is steady
+pub record InSteadySession (c : CoreState) (chip : ChipState) : Type 0 where
+  pub within : InSession c chip
+  pub breaks : AreSteadyOverBreaks c.board.plan c.log.taken chip.effects c.log.marks

@@ -1,5 +1,5 @@
 -- The calls of a round: those of turns over rows. Own.
-use Rattle.std.specs.Prelude.{◌≡◌, ◌+◌, ℕ, List, length, map}
+use Rattle.std.specs.Prelude.{◌≡◌, ◌⊎◌, ◌+◌, ℕ, List, [], length, map}
 use Rattle.table_schema.specs.Plan.{Ports}
 use Rattle.table_schema.specs.declared.key.Key.{Key}
 use Rattle.sai_types.specs.declared.body.Call.{Call}
@@ -13,7 +13,7 @@ use Rattle.switch_model.specs.Marks.{Waiting}
 use Rattle.switch_model.specs.Promises.{applied_at}
 use Rattle.switch_model.specs.declared.mark.MarkEvent.TheVariants as event
 use Rattle.chip_layout.specs.Layout.{IsLaidOut, listed}
-use Rattle.machine_laws.specs.Calls.{AreTurnsWith, Situation}
+use Rattle.machine_laws.specs.Calls.{AreTurnsWith, AreTurnsWithSoFar, Situation}
 use Rattle.machine_laws.specs.ToSync.{AreInKeyOrder}
 use Rattle.round_laws.specs.Ended.{EndedRound, HasCounts, IsToTry, LeavesSettled, effects_then, rows_before, rows_wanted, taken_then}
 
@@ -48,3 +48,21 @@ pub record IsMadeByTurns (plan : Ports) (capacities : List ℕ) (r : EndedRound)
   pub lists : left ≡ map (λ w. w.0) waits
   pub applied_then : (k : Key) → later.applied k ≡ applied_at plan (taken_then r) r.mark waits k
   pub ends : StandsOnChip plan (effects_then r) later
+
+-- a round that is the first or follows the end of a settling, without a restart, was cut off in its turns: turns over the keys that it tries were made so far, from the rows applied before it to the good rows, and its calls are those of these turns, of which the last may have failed
+pub record IsCutInTurns (plan : Ports) (capacities : List ℕ) (r : EndedRound) : Type 0 where
+  pub start : Situation
+  pub applied : (k : Key) → start.applied k ≡ rows_before plan r k
+  pub begins : StandsOnChip plan r.effects start
+  pub good : TypedRows
+  pub wanted : (k : Key) → good k ≡ rows_wanted plan r k
+  pub keys : List Key
+  pub order : AreInKeyOrder keys
+  pub tried : (k : Key) → IsIn k keys → IsToTry r k
+  pub all : (k : Key) → IsToTry r k → IsIn k keys
+  pub turns : ℕ
+  pub are : AreTurnsWithSoFar plan capacities good turns start keys r.calls
+
+-- so far a round made no call, or those of its turns
+abbrev pub IsMadeSoFar : Ports → List ℕ → EndedRound → Type 0
+IsMadeSoFar plan capacities r = (r.calls ≡ []) ⊎ IsCutInTurns plan capacities r

@@ -37,7 +37,7 @@ ghost use Rattle.session_laws.specs.Service.Events.{MakesMore, MakesNext};
 ghost use Rattle.session_laws.specs.Service.Standing.{IsServiceOf};
 ghost use Rattle.round_laws.specs.Awaited.{AwaitsCall, AwaitsMark, HasRecorded};
 ghost use Rattle.round_laws.specs.Named.{keys_named};
-ghost use Rattle.round_laws.specs.Sessions.{BeginNoApply, InSession};
+ghost use Rattle.round_laws.specs.Sessions.{BeginNoApply, InSession, InSteadySession};
 
 /// A new core over a chip on which nothing stands is in a session.
 pub fn sessions_begin()
@@ -68,7 +68,8 @@ pub fn sessions_grow()
 /// Within a session each call that took effect was legal, and no route ever pointed where no row sent it; each mark is true; the marks
 /// count what there is, and stand in their order, and no round ends but at the mark of a settling or of a fault; the last mark tells the
 /// warm state; the chip holds what its effects left; outside applies the effects are few, by the writes taken and the keys listed where
-/// applies began, and where none began all effects are; and applies are steady and short.
+/// applies began, and where none began all effects are; and applies are steady and short, also those that are broken off one after the
+/// other.
 pub fn sessions_are_true()
     ensures legality { (c : CoreState) (chip : ChipState) → InSession c chip → EffectsAreLegal c.board.plan c.sync.capacities c.log.taken chip.effects }
     ensures marks { (c : CoreState) (chip : ChipState) → InSession c chip → MarksAreTrue c.board.plan c.sync.capacities c.log chip.effects }
@@ -84,6 +85,7 @@ pub fn sessions_are_true()
     ensures few { (c : CoreState) (chip : ChipState) → InSession c chip → effects_outside None c.log.marks (length chip.effects) ≤ most_calls * (length c.log.taken + listed_at_applies c.log.marks) }
     ensures all_few { (c : CoreState) (chip : ChipState) → InSession c chip → BeginNoApply c.log.marks → length chip.effects ≤ most_calls * length c.log.taken }
     ensures applies { (c : CoreState) (chip : ChipState) → InSession c chip → AreFollowed c.board.plan c.sync.capacities c.log.taken chip.effects c.log.marks }
+    ensures breaks { (c : CoreState) (chip : ChipState) → InSession c chip → InSteadySession c chip }
 {}
 
 /// While a core is reconciled, or applies a plan, each key to sync was named by a write taken, and so they are no more than the keys named.

@@ -1,4 +1,4 @@
-use Rattle.round_laws.proofs.Sessions.{applies-followed, counts-within, effects-legal, known-then, log-ordered, marks-true, objects-left, outside-few-of, sized, suspect-then, warm-after}
+use Rattle.round_laws.proofs.Sessions.{applies-followed, counts-within, effects-legal, known-then, log-ordered, marks-true, objects-left, outside-few-of, sized, steady-session, suspect-then, warm-after}
 use Rattle.round_laws.proofs.Bounded.{all-few}
 use Rattle.round_laws.proofs.laws.sessions_are_true.Goals as goal
 
@@ -43,3 +43,6 @@ returns-clause-all_few c = λ core chip x none. all-few core chip x none
 
 pub returns-clause-applies : goal.returns-clause-applies
 returns-clause-applies c = λ core chip x. applies-followed core chip x
+
+pub returns-clause-breaks : goal.returns-clause-breaks
+returns-clause-breaks c = λ core chip x. steady-session core chip x

@@ -1,5 +1,7 @@
-use Rattle.core_cases.proofs.Going.{stepped}
 use Rattle.core_cases.proofs.bench.Bench.step.Goals as goal
 
+pub step-requires-clause-service : goal.step-requires-clause-service
+step-requires-clause-service c = (c.self.invariant.session, c.self.invariant.stands)
+
 pub invariant_of-self : goal.invariant_of-self
-invariant_of-self c = stepped c.args.worker c.self.inside.core c.self.inside.chip.chip c.self.invariant c.step.result c.step.new.self c.step.new.chip.chip (c.step.ensures c.self.invariant.0 c.self.invariant.1)
+invariant_of-self c = (c.step.ensures.sessions c.self.invariant).within

@@ -2,7 +2,7 @@ use Rattle.std.proofs.Common.{◌≡◌, ◌∙◌, Ok, inl, length, rules, subs
 use Rattle.warm_state.specs.declared.warm.Warm.TheVariants as warm
 use Rattle.orch_core.specs.ComingBack.{ComesOut, ran_of}
 use Rattle.orch_core.specs.Restarting.{AppliesOut}
-use Rattle.orch_core.proofs.Coming.{apply_comes, apply_stops, away, comes_none, comes_on, fewer_to_apply, out_on, short_now, stays_same, still_applies}
+use Rattle.orch_core.proofs.Coming.{apply_comes, apply_stops, away, comes_none, comes_on, fewer_to_apply, out_on, short_now, stays_asked, still_applies}
 use Rattle.orch_core.proofs.state.Core.apply_all.Goals as goal
 
 pub loop-self-init : goal.loop-self-init
@@ -18,7 +18,7 @@ returns-in_err-apply g c = λ s is.
     let x = subst (λ r. AppliesOut true t.0 c.loop-self.self (g.C.Chip.state c.loop-self.chip) r c.apply.new.self (g.C.Chip.state c.apply.new.chip)) c.in_err-apply.was (c.apply.ensures t.0 t.1.stands) in
     out_on s t.0 c.args.self.now c.loop-self.self (g.C.Chip.state c.args.chip.now) (g.C.Chip.state c.loop-self.chip) t.1 c.from_residual.result c.apply.new.self (g.C.Chip.state c.apply.new.chip)
     (short_now t.0 c.loop-self.self (g.C.Chip.state c.loop-self.chip) t.1.stands (away c.loop-self.self at (λ h. cc)) c.from_residual.result c.from_residual.ensures.0 c.apply.new.self (g.C.Chip.state c.apply.new.chip) x.1
-    (stays_same t.0 c.loop-self.self (g.C.Chip.state c.loop-self.chip) t.1.stands (away c.loop-self.self at (λ h. cc)) c.apply.new.self x.0))
+    (stays_asked t.0 c.loop-self.self (g.C.Chip.state c.loop-self.chip) t.1.stands (away c.loop-self.self at (λ h. cc)) c.apply.new.self (g.C.Chip.state c.apply.new.chip) x.0 x.1))
 
 pub loop-self-smaller : goal.loop-self-smaller
 loop-self-smaller g c =

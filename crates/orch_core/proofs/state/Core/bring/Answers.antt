@@ -1,7 +1,7 @@
-use Rattle.std.proofs.Common.{◌∙◌, Ok, ap, refl, subst, sym}
+use Rattle.std.proofs.Common.{◌∙◌, inl, Ok, ap, refl, subst, sym}
 use Rattle.session_laws.specs.Core.{CoreState}
 use Rattle.orch_core.specs.Outcomes.{Tries}
-use Rattle.orch_core.specs.Settled.{Dropped, StopsShort, Waits}
+use Rattle.orch_core.specs.Settled.{Dropped, IsKeySoFar, StopsShort, Waits}
 use Rattle.orch_core.proofs.Turns.{begun_runs, brings_err, short_same}
 use Rattle.orch_core.proofs.state.Core.bring.Goals as goal
 
@@ -9,7 +9,7 @@ pub returns-in_err-try_key : goal.returns-in_err-try_key
 returns-in_err-try_key g c = λ s is.
     let x = subst (λ r. Tries s 0 c.args.key c.args.self.now (g.C.Chip.state c.args.chip.now) r c.try_key.new.self) c.in_err-try_key.was (c.try_key.ensures s (g.C.Chip.state c.args.chip.now) is) in
     brings_err s c.args.key c.args.self.now (g.C.Chip.state c.args.chip.now) c.from_residual.result c.try_key.new.self (g.C.Chip.state c.args.chip.now) c.from_residual.ensures.0
-    (short_same s c.args.self.now c.try_key.new.self (g.C.Chip.state c.args.chip.now) c.requires.rest.warm x.0 x.1)
+    (short_same (IsKeySoFar c.args.self.now.board.plan c.args.self.now.sync.capacities c.args.key) s c.args.self.now c.try_key.new.self (g.C.Chip.state c.args.chip.now) (inl (refl, refl)) c.requires.rest.warm x.0 x.1)
 
 pub run-requires-clause-session : goal.run-requires-clause-session
 run-requires-clause-session g c =
@@ -27,7 +27,7 @@ pub returns-in_err-wait-in-Waits : goal.returns-in_err-wait-in-Waits
 returns-in_err-wait-in-Waits g c = λ s is.
     let x = subst (λ r. Tries s 0 c.args.key c.args.self.now (g.C.Chip.state c.args.chip.now) r c.try_key.new.self) (c.in_ok-try_key.was ∙ ap Ok c.in-Waits.is) (c.try_key.ensures s (g.C.Chip.state c.args.chip.now) is) in
     brings_err s c.args.key c.args.self.now (g.C.Chip.state c.args.chip.now) c.from_residual-in_err-wait-in-Waits.result c.wait.new.self (g.C.Chip.state c.args.chip.now) c.from_residual-in_err-wait-in-Waits.ensures.0
-    (subst (λ d. StopsShort s c.args.self.now (g.C.Chip.state c.args.chip.now) d (g.C.Chip.state c.args.chip.now)) (sym c.in_err-wait-in-Waits.ensures.err) (short_same s c.args.self.now c.try_key.new.self (g.C.Chip.state c.args.chip.now) c.requires.rest.warm x.0 x.1))
+    (subst (λ d. StopsShort (IsKeySoFar c.args.self.now.board.plan c.args.self.now.sync.capacities c.args.key) s c.args.self.now (g.C.Chip.state c.args.chip.now) d (g.C.Chip.state c.args.chip.now)) (sym c.in_err-wait-in-Waits.ensures.err) (short_same (IsKeySoFar c.args.self.now.board.plan c.args.self.now.sync.capacities c.args.key) s c.args.self.now c.try_key.new.self (g.C.Chip.state c.args.chip.now) (inl (refl, refl)) c.requires.rest.warm x.0 x.1))
 
 pub returns-in-Dropped : goal.returns-in-Dropped
 returns-in-Dropped g c = λ s is. Dropped refl (subst (λ r. Tries s 0 c.args.key c.args.self.now (g.C.Chip.state c.args.chip.now) r c.try_key.new.self) (c.in_ok-try_key.was ∙ ap Ok c.in-Dropped.is) (c.try_key.ensures s (g.C.Chip.state c.args.chip.now) is))

@@ -1,14 +1,14 @@
 use Rattle.std.proofs.Common.{◌∙◌, Ok, subst, sym, true}
 use Rattle.orch_core.specs.ComingBack.{ComesOut}
 use Rattle.orch_core.specs.Restarting.{ListsOut}
-use Rattle.orch_core.proofs.Coming.{away, list_comes, list_stops, out_on, short_now, stays_same}
+use Rattle.orch_core.proofs.Coming.{away, list_comes, list_stops, out_on, short_now, stays_asked}
 use Rattle.orch_core.proofs.state.Core.list_and_restore.Goals as goal
 
 pub returns-in_err-list : goal.returns-in_err-list
 returns-in_err-list g c = λ s is.
     let x = subst (λ r. ListsOut true s c.args.self.now (g.C.Chip.state c.args.chip.now) r c.list.new.self (g.C.Chip.state c.list.new.chip)) c.in_err-list.was (c.list.ensures s is) in
     short_now s c.args.self.now (g.C.Chip.state c.args.chip.now) is (away c.args.self.now c.requires.warm (λ h. cc)) c.from_residual.result c.from_residual.ensures.0 c.list.new.self (g.C.Chip.state c.list.new.chip) x.1
-    (stays_same s c.args.self.now (g.C.Chip.state c.args.chip.now) is (away c.args.self.now c.requires.warm (λ h. cc)) c.list.new.self x.0)
+    (stays_asked s c.args.self.now (g.C.Chip.state c.args.chip.now) is (away c.args.self.now c.requires.warm (λ h. cc)) c.list.new.self (g.C.Chip.state c.list.new.chip) x.0 x.1)
 
 pub restore_and_apply-requires-clause-service : goal.restore_and_apply-requires-clause-service
 restore_and_apply-requires-clause-service g c =

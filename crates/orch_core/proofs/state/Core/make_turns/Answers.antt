@@ -17,17 +17,17 @@ pub returns-in_err-turn : goal.returns-in_err-turn
 returns-in_err-turn g c = λ s is.
     let x = c.loop-left.invariant.0 s is in
     let b = subst (λ r. MakesTurn x.later c.loop-left.self (g.C.Chip.state c.loop-left.chip) r c.turn.new.self (g.C.Chip.state c.turn.new.chip)) (c.in_err-turn.was) (c.turn.ensures x.later x.leads.stands) in
-    turns_err s c.args.self.now (g.C.Chip.state c.args.chip.now) c.turn.new.self (g.C.Chip.state c.turn.new.chip) c.from_residual.result c.from_residual.ensures.0 (turns_short c.loop-left.turns s c.args.self.now (g.C.Chip.state c.args.chip.now) is c.loop-left.self (g.C.Chip.state c.loop-left.chip) x c.loop-left.invariant.4 c.turn.new.self (g.C.Chip.state c.turn.new.chip) b)
+    turns_err s c.args.self.now (g.C.Chip.state c.args.chip.now) c.turn.new.self (g.C.Chip.state c.turn.new.chip) c.from_residual.result c.from_residual.ensures.0 (turns_short c.loop-left.turns s c.args.self.now (g.C.Chip.state c.args.chip.now) is c.count-left.ensures.order c.loop-left.self (g.C.Chip.state c.loop-left.chip) x c.loop-left.invariant.4 c.turn.new.self (g.C.Chip.state c.turn.new.chip) b)
 
 pub returns-in-Faulted : goal.returns-in-Faulted
 returns-in-Faulted g c = λ s is.
     let x = c.loop-left.invariant.0 s is in
-    turns_faulted c.loop-left.turns s c.args.self.now (g.C.Chip.state c.args.chip.now) is c.loop-left.self (g.C.Chip.state c.loop-left.chip) x c.loop-left.invariant.4 c.turn.new.self (g.C.Chip.state c.turn.new.chip) (subst (λ r. MakesTurn x.later c.loop-left.self (g.C.Chip.state c.loop-left.chip) r c.turn.new.self (g.C.Chip.state c.turn.new.chip)) (c.in_ok-turn.was ∙ ap Ok c.in-Faulted.is) (c.turn.ensures x.later x.leads.stands))
+    turns_faulted c.loop-left.turns s c.args.self.now (g.C.Chip.state c.args.chip.now) is c.count-left.ensures.order c.loop-left.self (g.C.Chip.state c.loop-left.chip) x c.loop-left.invariant.4 c.turn.new.self (g.C.Chip.state c.turn.new.chip) (subst (λ r. MakesTurn x.later c.loop-left.self (g.C.Chip.state c.loop-left.chip) r c.turn.new.self (g.C.Chip.state c.turn.new.chip)) (c.in_ok-turn.was ∙ ap Ok c.in-Faulted.is) (c.turn.ensures x.later x.leads.stands))
 
 pub returns-in-LogFull : goal.returns-in-LogFull
 returns-in-LogFull g c = λ s is.
     let x = c.loop-left.invariant.0 s is in
-    turns_full c.loop-left.turns s c.args.self.now (g.C.Chip.state c.args.chip.now) is c.loop-left.self (g.C.Chip.state c.loop-left.chip) x c.loop-left.invariant.4 c.turn.new.self (g.C.Chip.state c.turn.new.chip) (subst (λ r. MakesTurn x.later c.loop-left.self (g.C.Chip.state c.loop-left.chip) r c.turn.new.self (g.C.Chip.state c.turn.new.chip)) (c.in_ok-turn.was ∙ ap Ok c.in-LogFull.is) (c.turn.ensures x.later x.leads.stands))
+    turns_full c.loop-left.turns s c.args.self.now (g.C.Chip.state c.args.chip.now) is c.count-left.ensures.order c.loop-left.self (g.C.Chip.state c.loop-left.chip) x c.loop-left.invariant.4 c.turn.new.self (g.C.Chip.state c.turn.new.chip) (subst (λ r. MakesTurn x.later c.loop-left.self (g.C.Chip.state c.loop-left.chip) r c.turn.new.self (g.C.Chip.state c.turn.new.chip)) (c.in_ok-turn.was ∙ ap Ok c.in-LogFull.is) (c.turn.ensures x.later x.leads.stands))
 
 pub returns-then-still-left : goal.returns-then-still-left
 returns-then-still-left g c = λ s is.

@@ -1,9 +1,20 @@
 use Rattle.std.proofs.Common.{◌∙◌, ap, subst, sym}
 use Rattle.session_laws.specs.Service.Events.{MakesNext, restarted}
 use Rattle.session_laws.proofs.Service.Restarting.{restart-next}
+use Rattle.round_laws.proofs.Sessions.{steady-session}
 use Rattle.orch_core.specs.Restarting.{forgotten_core}
+use Rattle.orch_core.proofs.Serving.{still_steady, taken_steady}
 use Rattle.orch_core.proofs.state.Core.restart.Goals as goal
 
 pub returns-clause-steps : goal.returns-clause-steps
 returns-clause-steps c = λ chip s is many.
     subst (λ z. MakesNext c.args.self.now s z chip) (sym (c.forget.ensures ∙ ap forgotten_core c.in_ok-mark.ensures.ok ∙ ap (restarted c.args.self.now) many)) (restart-next c.args.self.now chip s is)
+
+pub returns-then-is_full-clause-sessions : goal.returns-then-is_full-clause-sessions
+returns-then-is_full-clause-sessions c = λ chip x many. steady-session c.args.self.now chip x
+
+pub returns-in_err-mark-clause-sessions : goal.returns-in_err-mark-clause-sessions
+returns-in_err-mark-clause-sessions c = λ chip x many. still_steady c.args.self.now chip c.mark.new.self c.in_err-mark.ensures.err x
+
+pub returns-clause-sessions : goal.returns-clause-sessions
+returns-clause-sessions c = λ chip x many. taken_steady c.args.self.now chip c.forget.new.self (λ s is. returns-clause-steps c chip s is many) x

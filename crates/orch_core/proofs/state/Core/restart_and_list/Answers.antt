@@ -1,4 +1,4 @@
-use Rattle.std.proofs.Common.{◌∙◌, ap, refl, subst}
+use Rattle.std.proofs.Common.{◌∙◌, inl, ap, refl, subst}
 use Rattle.session_laws.specs.Core.{IsFullFor}
 use Rattle.session_laws.specs.Service.Events.{restarted}
 use Rattle.orch_core.specs.Restarting.{MarksRestart}
@@ -7,7 +7,7 @@ use Rattle.orch_core.proofs.state.Core.restart_and_list.Goals as goal
 
 pub returns-in_err-restart : goal.returns-in_err-restart
 returns-in_err-restart g c = λ s is.
-    short_now s c.args.self.now (g.C.Chip.state c.args.chip.now) is (away c.args.self.now c.requires.warm (λ h. cc)) c.from_residual.result c.from_residual.ensures.0 c.restart.new.self (g.C.Chip.state c.args.chip.now) refl
+    short_now s c.args.self.now (g.C.Chip.state c.args.chip.now) is (away c.args.self.now c.requires.warm (λ h. cc)) c.from_residual.result c.from_residual.ensures.0 c.restart.new.self (g.C.Chip.state c.args.chip.now) (inl refl)
     (stays_same s c.args.self.now (g.C.Chip.state c.args.chip.now) is (away c.args.self.now c.requires.warm (λ h. cc)) c.restart.new.self c.in_err-restart.ensures.err)
 
 pub list_and_restore-requires-clause-service : goal.list_and_restore-requires-clause-service

@@ -1,13 +1,13 @@
-use Rattle.std.proofs.Common.{◌∙◌, Ok, subst, sym}
+use Rattle.std.proofs.Common.{◌∙◌, inl, Ok, subst, sym}
 use Rattle.orch_core.specs.ComingBack.{ComesOut}
-use Rattle.orch_core.specs.Restarting.{RestoresOut}
+use Rattle.orch_core.specs.Restarting.{RestoresOut, StaysInService}
 use Rattle.orch_core.proofs.Coming.{away, restore_comes, restore_stops, out_on, short_now}
 use Rattle.orch_core.proofs.state.Core.restore_and_apply.Goals as goal
 
 pub returns-in_err-restore : goal.returns-in_err-restore
 returns-in_err-restore g c = λ s is.
     let x = subst (λ r. RestoresOut s c.args.self.now (g.C.Chip.state c.args.chip.now) r c.restore.new.self (g.C.Chip.state c.restore.new.chip)) c.in_err-restore.was (c.restore.ensures s is) in
-    short_now s c.args.self.now (g.C.Chip.state c.args.chip.now) is (away c.args.self.now c.requires.warm (λ h. cc)) c.from_residual.result c.from_residual.ensures.0 c.restore.new.self (g.C.Chip.state c.restore.new.chip) x.0 x.1
+    short_now s c.args.self.now (g.C.Chip.state c.args.chip.now) is (away c.args.self.now c.requires.warm (λ h. cc)) c.from_residual.result c.from_residual.ensures.0 c.restore.new.self (g.C.Chip.state c.restore.new.chip) (inl x.0) (subst (StaysInService s c.args.self.now c.restore.new.self) (sym x.0) x.1)
 
 pub apply_all-requires-clause-service : goal.apply_all-requires-clause-service
 apply_all-requires-clause-service g c =

@@ -1,6 +1,6 @@
 use Rattle.std.proofs.Common.{◌∙◌, inl, inr, true, Ok, ap, refl, subst}
 use Rattle.orch_core.specs.Outcomes.{Answered}
-use Rattle.orch_core.proofs.Runs.{did_by, faulted_more, flew, full_more, log_same, out_err, runs_first, runs_on, short_more, stop_faulted, stop_full, stop_short}
+use Rattle.orch_core.proofs.Runs.{did_by, flew, out_err, runs_faulted, runs_first, runs_full, runs_on, runs_short, stop_faulted, stop_full, stop_short}
 use Rattle.orch_core.proofs.state.Core.run.Goals as goal
 
 pub returns-in_err-answer : goal.returns-in_err-answer
@@ -8,21 +8,21 @@ returns-in_err-answer g c = λ s is.
     let x = c.loop-self.invariant.0 s is in
     let t = x.runs.later in
     let y = subst (λ r. Answered true t c.args.worker c.loop-self.self (g.C.Chip.state c.loop-self.chip) r c.answer.new.self (g.C.Chip.state c.answer.new.chip)) (c.in_err-answer.was) (c.answer.ensures t x.runs.leads.stands) in
-    out_err s c.args.self.now (g.C.Chip.state c.args.chip.now) c.answer.new.self (g.C.Chip.state c.answer.new.chip) c.args.worker c.from_residual.result c.from_residual.ensures.0 (short_more s t c.args.self.now c.loop-self.self (g.C.Chip.state c.loop-self.chip) x.runs.leads (g.C.Chip.state c.args.chip.now) is (log_same c.args.self.now c.loop-self.self (g.C.Chip.state c.args.chip.now) (g.C.Chip.state c.loop-self.chip) s t is x.runs.leads.stands x.runs.log) x.keeps c.answer.new.self (g.C.Chip.state c.answer.new.chip) (stop_short t c.args.worker c.loop-self.self (g.C.Chip.state c.loop-self.chip) (x.beside.warm ∙ c.requires.warm) c.answer.new.self (g.C.Chip.state c.answer.new.chip) x.runs.leads.stands c.in_err-answer.field-0.0 y))
+    out_err s c.args.self.now (g.C.Chip.state c.args.chip.now) c.answer.new.self (g.C.Chip.state c.answer.new.chip) c.args.worker c.from_residual.result c.from_residual.ensures.0 (runs_short s c.args.self.now (g.C.Chip.state c.args.chip.now) is c.loop-self.self (g.C.Chip.state c.loop-self.chip) x.runs x.keeps c.answer.new.self (g.C.Chip.state c.answer.new.chip) (stop_short t c.args.worker c.loop-self.self (g.C.Chip.state c.loop-self.chip) (x.beside.warm ∙ c.requires.warm) c.answer.new.self (g.C.Chip.state c.answer.new.chip) x.runs.leads.stands c.in_err-answer.field-0.0 y))
 
 pub returns-in-Faulted : goal.returns-in-Faulted
 returns-in-Faulted g c = λ s is.
     let x = c.loop-self.invariant.0 s is in
     let t = x.runs.later in
     let y = subst (λ r. Answered true t c.args.worker c.loop-self.self (g.C.Chip.state c.loop-self.chip) r c.answer.new.self (g.C.Chip.state c.answer.new.chip)) (c.in_ok-answer.was ∙ ap Ok c.in-Faulted.is) (c.answer.ensures t x.runs.leads.stands) in
-    (faulted_more s t c.args.self.now c.loop-self.self (g.C.Chip.state c.loop-self.chip) x.runs.leads (g.C.Chip.state c.args.chip.now) is (log_same c.args.self.now c.loop-self.self (g.C.Chip.state c.args.chip.now) (g.C.Chip.state c.loop-self.chip) s t is x.runs.leads.stands x.runs.log) x.keeps (λ none. ap (λ t. t.waiting) x.beside.tables ∙ none) c.answer.new.self (g.C.Chip.state c.answer.new.chip) (stop_faulted t c.args.worker c.loop-self.self (g.C.Chip.state c.loop-self.chip) (x.beside.warm ∙ c.requires.warm) c.answer.new.self (g.C.Chip.state c.answer.new.chip) y), flew c.args.worker c.args.self.now c.loop-self.self c.loop-self.invariant.1 (c.is_flying.ensures.0 c.loop-self-test.true))
+    (runs_faulted s c.args.self.now (g.C.Chip.state c.args.chip.now) is c.loop-self.self (g.C.Chip.state c.loop-self.chip) x.runs x.keeps (λ none. ap (λ t. t.waiting) x.beside.tables ∙ none) c.answer.new.self (g.C.Chip.state c.answer.new.chip) (stop_faulted t c.args.worker c.loop-self.self (g.C.Chip.state c.loop-self.chip) (x.beside.warm ∙ c.requires.warm) c.answer.new.self (g.C.Chip.state c.answer.new.chip) y), flew c.args.worker c.args.self.now c.loop-self.self c.loop-self.invariant.1 (c.is_flying.ensures.0 c.loop-self-test.true))
 
 pub returns-in-LogFull : goal.returns-in-LogFull
 returns-in-LogFull g c = λ s is.
     let x = c.loop-self.invariant.0 s is in
     let t = x.runs.later in
     let y = subst (λ r. Answered true t c.args.worker c.loop-self.self (g.C.Chip.state c.loop-self.chip) r c.answer.new.self (g.C.Chip.state c.answer.new.chip)) (c.in_ok-answer.was ∙ ap Ok c.in-LogFull.is) (c.answer.ensures t x.runs.leads.stands) in
-    full_more s t c.args.self.now c.loop-self.self (g.C.Chip.state c.loop-self.chip) x.runs.leads (g.C.Chip.state c.args.chip.now) is (log_same c.args.self.now c.loop-self.self (g.C.Chip.state c.args.chip.now) (g.C.Chip.state c.loop-self.chip) s t is x.runs.leads.stands x.runs.log) x.keeps c.answer.new.self (g.C.Chip.state c.answer.new.chip) (stop_full t c.args.worker c.loop-self.self (g.C.Chip.state c.loop-self.chip) (x.beside.warm ∙ c.requires.warm) c.answer.new.self (g.C.Chip.state c.answer.new.chip) x.runs.leads.stands c.requires.worker (c.is_flying.ensures.0 c.loop-self-test.true) y)
+    runs_full s c.args.self.now (g.C.Chip.state c.args.chip.now) is c.loop-self.self (g.C.Chip.state c.loop-self.chip) x.runs x.keeps c.answer.new.self (g.C.Chip.state c.answer.new.chip) (stop_full t c.args.worker c.loop-self.self (g.C.Chip.state c.loop-self.chip) (x.beside.warm ∙ c.requires.warm) c.answer.new.self (g.C.Chip.state c.answer.new.chip) x.runs.leads.stands c.requires.worker (c.is_flying.ensures.0 c.loop-self-test.true) y)
 
 pub loop-self-init : goal.loop-self-init
 loop-self-init g c = (λ s is. runs_first s c.args.worker c.args.self.now (g.C.Chip.state c.args.chip.now) is, inl refl)

@@ -2,14 +2,14 @@ use Rattle.std.proofs.Common.{rules, ◌∙◌, Ok, ap, subst, arith}
 use Rattle.session_laws.proofs.Settling.Running.{runs_both}
 use Rattle.orch_core.specs.Settled.{RunsOut}
 use Rattle.orch_core.proofs.Chips.{keeps_on}
-use Rattle.orch_core.proofs.Runs.{all_err, all_short, all_stops, beside_on, free_on, still_on}
+use Rattle.orch_core.proofs.Runs.{all_err, all_stops, beside_on, free_on, runs_short, still_on}
 use Rattle.orch_core.proofs.state.Core.run_all.Goals as goal
 
 pub returns-in_err-stopped : goal.returns-in_err-stopped
 returns-in_err-stopped g c = λ s is.
     let x = c.loop-worker.invariant.0 s is in
     let r = subst (λ r. RunsOut x.later c.loop-worker.worker c.loop-worker.self (g.C.Chip.state c.loop-worker.chip) r c.run.new.self (g.C.Chip.state c.run.new.chip)) (c.in_err-stopped.was) (c.run.ensures x.later x.leads.stands) in
-    all_err s c.args.self.now (g.C.Chip.state c.args.chip.now) c.run.new.self (g.C.Chip.state c.run.new.chip) c.from_residual.result c.from_residual.ensures.0 (all_short s c.args.self.now (g.C.Chip.state c.args.chip.now) is c.loop-worker.self (g.C.Chip.state c.loop-worker.chip) x c.loop-worker.invariant.3 c.loop-worker.worker c.run.new.self (g.C.Chip.state c.run.new.chip) r)
+    all_err s c.args.self.now (g.C.Chip.state c.args.chip.now) c.run.new.self (g.C.Chip.state c.run.new.chip) c.from_residual.result c.from_residual.ensures.0 (runs_short s c.args.self.now (g.C.Chip.state c.args.chip.now) is c.loop-worker.self (g.C.Chip.state c.loop-worker.chip) x c.loop-worker.invariant.3 c.run.new.self (g.C.Chip.state c.run.new.chip) r)
 
 pub returns-in_default : goal.returns-in_default
 returns-in_default g c = λ s is.

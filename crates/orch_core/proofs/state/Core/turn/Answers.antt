@@ -8,7 +8,7 @@ use Rattle.session_laws.specs.Core.{CoreState}
 use Rattle.session_laws.specs.Turning.{IsTurning}
 use Rattle.orch_core.specs.Outcomes.{KeepsChip}
 use Rattle.orch_core.specs.Settled.{Brings}
-use Rattle.orch_core.proofs.Turns.{IsTurnAt, turn_err, turn_first, turn_key, turn_next, turn_short, turn_stops}
+use Rattle.orch_core.proofs.Turns.{IsTurnAt, turn_err, turn_first, turn_key, turn_next, turn_short, turn_stops, turn_unbegun}
 use Rattle.orch_core.proofs.state.Core.turn.Goals as goal
 
 -- the last of a list is the first of it turned round
@@ -21,6 +21,9 @@ next_is c chip d dchip k more rest is s x = subst (λ l. (left : List Key) × Is
 
 pub loop-key-init : goal.loop-key-init
 loop-key-init g c = turn_first c.args.self.now (g.C.Chip.state c.args.chip.now) c.requires.rest (reverse c.reverse.new.self.items) (ap reverse c.reverse.ensures.items ∙ reverse-reverse c.in_ok-keys.keys.items ∙ c.in_ok-keys.ensures.keys)
+
+pub returns-in_err-keys : goal.returns-in_err-keys
+returns-in_err-keys g c = λ s is. turn_unbegun s c.args.self.now (g.C.Chip.state c.args.chip.now) is c.requires.rest c.from_residual.result c.from_residual.ensures.0
 
 pub bring-requires-clause-key : goal.bring-requires-clause-key
 bring-requires-clause-key g c =
@@ -36,7 +39,7 @@ returns-in_err-stopped g c = λ s is.
     let left = last_first c.loop-key.keys.items c.pop.new.self.items c.in-Some.key split in
     let y = next_is c.args.self.now (g.C.Chip.state c.args.chip.now) c.loop-key.self (g.C.Chip.state c.loop-key.chip) c.in-Some.key (reverse c.pop.new.self.items) (reverse c.loop-key.keys.items) left s (c.loop-key.invariant s is) in
     let b = subst (λ r. Brings y.1.later c.in-Some.key c.loop-key.self (g.C.Chip.state c.loop-key.chip) r c.bring.new.self (g.C.Chip.state c.bring.new.chip)) (c.in_err-stopped.was) (c.bring.ensures y.1.later y.1.leads.stands) in
-    turn_err s c.args.self.now (g.C.Chip.state c.args.chip.now) c.bring.new.self (g.C.Chip.state c.bring.new.chip) c.from_residual-in_err-stopped.result c.from_residual-in_err-stopped.ensures.0 (turn_short s c.args.self.now (g.C.Chip.state c.args.chip.now) is (keys_of c.args.self.now.tables.ops) y.0 (c.in-Some.key ∷ reverse c.pop.new.self.items) c.loop-key.self (g.C.Chip.state c.loop-key.chip) y.1 y.2 c.bring.new.self (g.C.Chip.state c.bring.new.chip) b)
+    turn_err s c.args.self.now (g.C.Chip.state c.args.chip.now) c.bring.new.self (g.C.Chip.state c.bring.new.chip) c.from_residual-in_err-stopped.result c.from_residual-in_err-stopped.ensures.0 (turn_short s c.args.self.now (g.C.Chip.state c.args.chip.now) is y.0 (reverse c.pop.new.self.items) c.in-Some.key c.loop-key.self (g.C.Chip.state c.loop-key.chip) y.1 y.2 c.bring.new.self (g.C.Chip.state c.bring.new.chip) b)
 
 pub loop-key-preserved : goal.loop-key-preserved
 loop-key-preserved g c =
@@ -50,4 +53,4 @@ returns-in_default-2 g c = λ s is.
     let split : c.loop-key.keys.items ≡ c.pop.new.self.items ++ c.in-Some.key ∷ [] = search rules in
     let left = last_first c.loop-key.keys.items c.pop.new.self.items c.in-Some.key split in
     let y = next_is c.args.self.now (g.C.Chip.state c.args.chip.now) c.loop-key.self (g.C.Chip.state c.loop-key.chip) c.in-Some.key (reverse c.pop.new.self.items) (reverse c.loop-key.keys.items) left s (c.loop-key.invariant s is) in
-    turn_stops s c.args.self.now (g.C.Chip.state c.args.chip.now) is (keys_of c.args.self.now.tables.ops) y.0 (c.in-Some.key ∷ reverse c.pop.new.self.items) c.loop-key.self (g.C.Chip.state c.loop-key.chip) y.1 y.2 c.in-Some.key c.in_ok-stopped.stopped c.in_default-2.not-Whole c.bring.new.self (g.C.Chip.state c.bring.new.chip) (subst (λ r. Brings y.1.later c.in-Some.key c.loop-key.self (g.C.Chip.state c.loop-key.chip) r c.bring.new.self (g.C.Chip.state c.bring.new.chip)) (c.in_ok-stopped.was) (c.bring.ensures y.1.later y.1.leads.stands))
+    turn_stops s c.args.self.now (g.C.Chip.state c.args.chip.now) is y.0 (reverse c.pop.new.self.items) c.in-Some.key c.loop-key.self (g.C.Chip.state c.loop-key.chip) y.1 y.2 c.in_ok-stopped.stopped c.in_default-2.not-Whole c.bring.new.self (g.C.Chip.state c.bring.new.chip) (subst (λ r. Brings y.1.later c.in-Some.key c.loop-key.self (g.C.Chip.state c.loop-key.chip) r c.bring.new.self (g.C.Chip.state c.bring.new.chip)) (c.in_ok-stopped.was) (c.bring.ensures y.1.later y.1.leads.stands))

@@ -18,7 +18,7 @@ returns-in_err-pop g c = λ s is.
     let some : c.args.self.now.tables.waiting ≡ [] → ⊥ = search rules in
     let t = c.pop.ensures.keys in
     steps_err s c.args.worker c.args.self.now (g.C.Chip.state c.args.chip.now) c.from_residual.result c.pop.new.self c.from_residual.ensures.0
-    (λ e. (refl, Part (none, some) (pops_on c.args.self.now c.args.self.now at (pops_first c.args.self.now) c.pop.new.self t.0 t.1 t.2) c.in_err-pop.ensures.err))
+    (λ e. Part (none, some) refl (pops_on c.args.self.now c.args.self.now at (pops_first c.args.self.now) c.pop.new.self t.0 t.1 t.2) c.in_err-pop.ensures.err)
 
 pub returns-then-not-is_popped : goal.returns-then-not-is_popped
 returns-then-not-is_popped g c = λ s is.
