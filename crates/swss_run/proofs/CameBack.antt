@@ -1,10 +1,11 @@
 -- the settling of a core that has come so far in a round, all of whose acts were made
-use Rattle.std.proofs.Common.{◌≡◌, ℕ, ◌+◌, ◌<◌, ◌≤◌, true, length, Some, None, Result, Ok, Err, inl, inr, refl, sym, ap, ◌∙◌, subst, arith}
+use Rattle.std.proofs.Common.{◌≡◌, ℕ, ◌+◌, ◌<◌, ◌≤◌, ◌++◌, true, List, length, Some, None, Result, Ok, Err, inl, inr, refl, sym, ap, ◌∙◌, subst, arith}
 use Rattle.swss_types.specs.declared.out_of_memory.OutOfMemory.{OutOfMemory}
 use Rattle.table_schema.specs.declared.key.Key.{Key}
 use Rattle.table_schema.specs.declared.row.Row.{Row}
 use Rattle.sai_types.specs.ChipState.{ChipState}
-use Rattle.sai_chip.specs.Sim.{Sim}
+use Rattle.sai_types.specs.declared.ids.Rid.{Rid}
+use Rattle.sai_types.specs.declared.body.Call.{Call}
 use Rattle.switch_model.specs.Promises.{good_rows_at}
 use Rattle.producer_table.specs.Pending.{ArePendingInOrder}
 use Rattle.flight_board.specs.Applied.{row_at}
@@ -29,7 +30,7 @@ use Rattle.swss_run.specs.declared.status.Status.TheVariants as status
 use Rattle.swss_run.proofs.Counting.{HasRestarted}
 use Rattle.swss_run.proofs.Draining.{begun-rows}
 use Rattle.swss_run.proofs.OnWay.{come-coming, restarted-coming, since_coming}
-use Rattle.swss_run.proofs.Over.{IsOver}
+use Rattle.swss_run.proofs.Over.{IsCutSo, IsOver, uncut}
 use Rattle.swss_run.proofs.Settling.{IsFullStop, IsStopped, fault-way, full-way, settled-behind, settled-faulted, settled-full, settled-short, short-way}
 
 -- ---- what a settling answered
@@ -51,52 +52,57 @@ module _ (P : Status → Type 0) (Q : Result Settled OutOfMemory → Type 0) whe
 
 -- ---- a core that is reconciled
 
-module _ (round : Round) (old : CoreState) (sim : Sim) (since : Ran) (c : CoreState) (cchip : ChipState) (come : HasCome old sim.chip since c cchip) (all : since.sent ≡ sent_in_round round) (restarted : HasRestarted round old.log.marks since.marks c.warm) (new : CoreState) (sim' : Sim) (at : c.warm ≡ warm.Reconciled) where
-  pub ends-over : (Settles come.within.session c cchip (Ok settled.Settled) new sim'.chip → IsOver round old sim status.Done new sim') → (r : Result Settled OutOfMemory) (ended : Status) → round_ended r ≡ Ok ended → Settles come.within.session c cchip r new sim'.chip → ArePendingInOrder new.tables.waiting → IsOver round old sim ended new sim'
-  ends-over whole r ended same e order =
-      by_end (λ z. IsOver round old sim z new sim') (λ a. Settles come.within.session c cchip a new sim'.chip) whole
-      (λ h. settled-faulted round old sim since c cchip come all restarted new sim' at h order) r ended same e
+module _ (round : Round) (old : CoreState) (sim : ChipState) (since : Ran) (c : CoreState) (cchip : ChipState) (come : HasCome old sim since c cchip) (all : since.sent ≡ sent_in_round round) (restarted : HasRestarted round old.log.marks since.marks c.warm) (new : CoreState) (sim' : ChipState) (at : c.warm ≡ warm.Reconciled) where
+  pub ends-over : (Settles come.within.session c cchip (Ok settled.Settled) new sim' → IsOver round old sim status.Done new sim') → (Settles come.within.session c cchip (Ok settled.Faulted) new sim' → (calls : List (Call Rid)) → sim'.effects ≡ cchip.effects ++ calls → IsCutSo old sim since calls) → (r : Result Settled OutOfMemory) (ended : Status) → round_ended r ≡ Ok ended → Settles come.within.session c cchip r new sim' → ArePendingInOrder new.tables.waiting → IsOver round old sim ended new sim'
+  ends-over whole cut r ended same e order =
+      by_end (λ z. IsOver round old sim z new sim') (λ a. Settles come.within.session c cchip a new sim') whole
+      (λ h. settled-faulted round old sim since c cchip come all restarted new sim' at (cut h) h order) r ended same e
 
-  pub ends-stopped : (r : Result Settled OutOfMemory) (ended : Status) → round_ended r ≡ Err ended → Settles come.within.session c cchip r new sim'.chip → IsStopped round old sim ended new sim'
+  pub ends-stopped : (r : Result Settled OutOfMemory) (ended : Status) → round_ended r ≡ Err ended → Settles come.within.session c cchip r new sim' → IsStopped round old sim ended new sim'
   ends-stopped r ended same e =
-      by_stop (λ z. IsStopped round old sim z new sim') (λ a. Settles come.within.session c cchip a new sim'.chip)
+      by_stop (λ z. IsStopped round old sim z new sim') (λ a. Settles come.within.session c cchip a new sim')
       (λ h. inl (refl, settled-full round old sim since c cchip come all restarted new sim' at h))
       (λ wanting h. inr (refl, settled-short round old sim since c cchip come all restarted new sim' at wanting h)) r ended same e
 
--- ---- a core that is not, and whose rows are still to be restored
+-- ---- a core that is not, and whose rows are still to be restored, and no call took effect in the round so far
 
-module _ (round : Round) (old : CoreState) (sim : Sim) (since : Ran) (mid : CoreState) (chip : ChipState) (come : HasCome old sim.chip since mid chip) (all : since.sent ≡ sent_in_round round) (restarted : HasRestarted round old.log.marks since.marks mid.warm) (new : CoreState) (sim' : Sim) where
+module _ (round : Round) (old : CoreState) (sim : ChipState) (since : Ran) (mid : CoreState) (chip : ChipState) (come : HasCome old sim since mid chip) (all : since.sent ≡ sent_in_round round) (restarted : HasRestarted round old.log.marks since.marks mid.warm) (new : CoreState) (sim' : ChipState) (uncalled : chip.effects ≡ sim.effects) where
   -- whole events of its coming back
   module _ (c : CoreState) (cchip : ChipState) (later : LoggedService) (comes : ComesTo come.within.session later mid chip c cchip) where
     abbrev since_on : Ran
-    since_on = since_coming old sim.chip since mid chip come c cchip later comes
+    since_on = since_coming old sim since mid chip come c uncalled cchip later comes
 
-    on : (z : HasCome old sim.chip since_on c cchip) × (z.within.session ≡ later)
-    on = come-coming old sim.chip since mid chip come c cchip later comes
+    on : (z : HasCome old sim since_on c cchip) × (z.within.session ≡ later)
+    on = come-coming old sim since mid chip come c uncalled cchip later comes
 
     restarted_on : HasRestarted round old.log.marks since_on.marks c.warm
-    restarted_on = restarted-coming old sim.chip since mid chip come c cchip later comes round old.log.marks restarted
+    restarted_on = restarted-coming old sim since mid chip come c uncalled cchip later comes round old.log.marks restarted
 
   -- it was stopped
-  on_failed : StopsBack come.within.session mid chip (Ok settled.Faulted) new sim'.chip → ArePendingInOrder new.tables.waiting → IsOver round old sim status.ChipFault new sim'
-  on_failed h order =
-      let z = on h.mid h.mid_chip h.later h.comes in
-      fault-way round old sim (since_on h.mid h.mid_chip h.later h.comes) h.mid h.mid_chip z.0 all (restarted_on h.mid h.mid_chip h.later h.comes) new sim'
-      (h.stops.0, subst (λ s. FaultsOnWay (places_on_way h.mid.warm) true s h.mid h.mid_chip new sim'.chip) (sym z.1) h.stops.1) order
-
-  on_full : StopsBack come.within.session mid chip (Ok settled.LogFull) new sim'.chip → IsFullStop round old sim new sim'
+  on_full : StopsBack come.within.session mid chip (Ok settled.LogFull) new sim' → IsFullStop round old sim new sim'
   on_full h =
       let z = on h.mid h.mid_chip h.later h.comes in
-      full-way round old sim (since_on h.mid h.mid_chip h.later h.comes) h.mid h.mid_chip z.0 all (restarted_on h.mid h.mid_chip h.later h.comes) new sim' h.stops.0
-      (subst (λ s. StaysInService s h.mid new h.mid_chip) (sym z.1) h.stops.1) (subst (λ s. IsFullOnWay h.mid.warm s h.mid h.mid_chip) (sym z.1) h.stops.2)
+      full-way round old sim (since_on h.mid h.mid_chip h.later h.comes) h.mid h.mid_chip z.0 all (restarted_on h.mid h.mid_chip h.later h.comes) new sim' (inl h.stops.0)
+      (subst (StaysInService z.0.within.session h.mid new) (sym h.stops.0) (subst (λ s. StaysInService s h.mid new h.mid_chip) (sym z.1) h.stops.1)) (subst (λ s. IsFullOnWay h.mid.warm s h.mid h.mid_chip) (sym z.1) h.stops.2)
 
-  on_short : (o : OutOfMemory) → StopsBack come.within.session mid chip (Err o) new sim'.chip → StopsRound round old sim new sim'
+  on_short : (o : OutOfMemory) → StopsBack come.within.session mid chip (Err o) new sim' → StopsRound round old sim new sim'
   on_short o h =
       let z = on h.mid h.mid_chip h.later h.comes in
       short-way round old sim (since_on h.mid h.mid_chip h.later h.comes) h.mid h.mid_chip z.0 all (restarted_on h.mid h.mid_chip h.later h.comes) new sim' h.stops.0
-      (subst (λ s. StaysInService s h.mid new h.mid_chip) (sym z.1) h.stops.1)
+      (subst (λ s. StaysInService s h.mid new sim') (sym z.1) h.stops.1)
 
   module _ (some : 1 ≤ restarts_marked since.marks + restarts_due mid.warm) (out : is_unrestored mid.warm ≡ true) where
+    -- it failed on its way, behind a restart
+    on_failed : StopsBack come.within.session mid chip (Ok settled.Faulted) new sim' → ArePendingInOrder new.tables.waiting → IsOver round old sim status.ChipFault new sim'
+    on_failed h order =
+        let z = on h.mid h.mid_chip h.later h.comes in
+        let both = restarts_both since.marks h.comes.added in
+        let made = h.comes.restarts in
+        let none = h.stops.0 in
+        fault-way round old sim (since_on h.mid h.mid_chip h.later h.comes) h.mid h.mid_chip z.0 all (restarted_on h.mid h.mid_chip h.later h.comes) new sim'
+        (uncut old sim (since_on h.mid h.mid_chip h.later h.comes) (omega (arith, some, both, made, none)))
+        (none, subst (λ s. FaultsOnWay (places_on_way h.mid.warm) true s h.mid h.mid_chip new sim') (sym z.1) h.stops.1) order
+
     -- it came back
     module _ (c : CoreState) (cchip : ChipState) (x : ComesBack come.within.session mid chip c cchip) where
       some_back : 1 ≤ restarts_marked (since_on c cchip x.later x.comes).marks
@@ -127,24 +133,25 @@ module _ (round : Round) (old : CoreState) (sim : Sim) (since : Ran) (mid : Core
           ∙ begun-rows restored_back.begun restored_back.begun_chip begun_in restored_back.warm restored_back.earlier restored_back.mark restored_back.marks (restored_back.counts ∙ ap length (sym restored_back.taken)) k row
           (ap (λ (b : BoardState). row_at b.applied k) (sym restored_back.board) ∙ there)
 
-      as_on : (r : Result Settled OutOfMemory) → Settles x.later c cchip r new sim'.chip → Settles (on c cchip x.later x.comes).0.within.session c cchip r new sim'.chip
-      as_on r h = subst (λ s. Settles s c cchip r new sim'.chip) (sym (on c cchip x.later x.comes).1) h
+      as_on : (r : Result Settled OutOfMemory) → Settles x.later c cchip r new sim' → Settles (on c cchip x.later x.comes).0.within.session c cchip r new sim'
+      as_on r h = subst (λ s. Settles s c cchip r new sim') (sym (on c cchip x.later x.comes).1) h
 
-      back_over : (r : Result Settled OutOfMemory) (ended : Status) → round_ended r ≡ Ok ended → Settles x.later c cchip r new sim'.chip → ArePendingInOrder new.tables.waiting → IsOver round old sim ended new sim'
+      back_over : (r : Result Settled OutOfMemory) (ended : Status) → round_ended r ≡ Ok ended → Settles x.later c cchip r new sim' → ArePendingInOrder new.tables.waiting → IsOver round old sim ended new sim'
       back_over r ended same h order =
           ends-over round old sim (since_on c cchip x.later x.comes) c cchip (on c cchip x.later x.comes).0 all (restarted_on c cchip x.later x.comes) new sim' x.warm
-          (settled-behind round old sim (since_on c cchip x.later x.comes) c cchip (on c cchip x.later x.comes).0 all (restarted_on c cchip x.later x.comes) new sim' x.warm some_back free_back rows_back) r ended same (as_on r h) order
+          (settled-behind round old sim (since_on c cchip x.later x.comes) c cchip (on c cchip x.later x.comes).0 all (restarted_on c cchip x.later x.comes) new sim' x.warm some_back free_back rows_back)
+          (λ failed calls grown. uncut old sim (since_on c cchip x.later x.comes) some_back calls) r ended same (as_on r h) order
 
-      back_stopped : (r : Result Settled OutOfMemory) (ended : Status) → round_ended r ≡ Err ended → Settles x.later c cchip r new sim'.chip → IsStopped round old sim ended new sim'
+      back_stopped : (r : Result Settled OutOfMemory) (ended : Status) → round_ended r ≡ Err ended → Settles x.later c cchip r new sim' → IsStopped round old sim ended new sim'
       back_stopped r ended same h = ends-stopped round old sim (since_on c cchip x.later x.comes) c cchip (on c cchip x.later x.comes).0 all (restarted_on c cchip x.later x.comes) new sim' x.warm r ended same (as_on r h)
 
     -- its settling
-    pub from-over : (r : Result Settled OutOfMemory) (ended : Status) → round_ended r ≡ Ok ended → SettlesFrom come.within.session mid chip r new sim'.chip → ArePendingInOrder new.tables.waiting → IsOver round old sim ended new sim'
+    pub from-over : (r : Result Settled OutOfMemory) (ended : Status) → round_ended r ≡ Ok ended → SettlesFrom come.within.session mid chip r new sim' → ArePendingInOrder new.tables.waiting → IsOver round old sim ended new sim'
     from-over r ended same (Back c cchip x h) order = back_over c cchip x r ended same h order
     from-over r ended same (Stopped h) order =
-        by_end (λ z. IsOver round old sim z new sim') (λ a. StopsBack come.within.session mid chip a new sim'.chip) (λ none. absurd none) (λ failed. on_failed failed order) r ended same h
+        by_end (λ z. IsOver round old sim z new sim') (λ a. StopsBack come.within.session mid chip a new sim') (λ none. absurd none) (λ failed. on_failed failed order) r ended same h
 
-    pub from-stopped : (r : Result Settled OutOfMemory) (ended : Status) → round_ended r ≡ Err ended → SettlesFrom come.within.session mid chip r new sim'.chip → IsStopped round old sim ended new sim'
+    pub from-stopped : (r : Result Settled OutOfMemory) (ended : Status) → round_ended r ≡ Err ended → SettlesFrom come.within.session mid chip r new sim' → IsStopped round old sim ended new sim'
     from-stopped r ended same (Back c cchip x h) = back_stopped c cchip x r ended same h
     from-stopped r ended same (Stopped h) =
-        by_stop (λ z. IsStopped round old sim z new sim') (λ a. StopsBack come.within.session mid chip a new sim'.chip) (λ full. inl (refl, on_full full)) (λ wanting short. inr (refl, on_short wanting short)) r ended same h
+        by_stop (λ z. IsStopped round old sim z new sim') (λ a. StopsBack come.within.session mid chip a new sim') (λ full. inl (refl, on_full full)) (λ wanting short. inr (refl, on_short wanting short)) r ended same h

@@ -15,7 +15,7 @@ use Rattle.orch_core.specs.ComingBack.{AreOnWay, restarts_at, restarts_due, rest
 use Rattle.orch_core.proofs.Coming.{restarts_both}
 use Rattle.swss_script.specs.Sent.{restarts_in}
 use Rattle.swss_script.specs.declared.parts.Round.{Round}
-use Rattle.swss_run.specs.Faults.{CountsMore, FaultsRise, faults_then, places_beside}
+use Rattle.swss_run.specs.Faults.{CountsOne, FaultsRise, faults_then, places_beside}
 use Rattle.swss_run.specs.Restarts.{HasFewRestarts, HasRestarts, RestartsAfterFault}
 
 -- ---- the counts of faults
@@ -23,12 +23,12 @@ use Rattle.swss_run.specs.Restarts.{HasFewRestarts, HasRestarts, RestartsAfterFa
 pub rise-later : (n m m' : ℕ) (marks : List Mark) → FaultsRise n marks m → m' ≡ m → FaultsRise n marks m'
 rise-later n m m' marks h same = subst (FaultsRise n marks) (sym same) h
 
-pub rise-mark : (n m m' : ℕ) (marks : List Mark) (mark : Mark) → FaultsRise n marks m → CountsMore m mark.event → m' ≡ faults_then m mark.event → FaultsRise n (marks ++ mark ∷ []) m'
-rise-mark n m m' [] mark h counts last = (subst (λ k. CountsMore k mark.event) h counts, last ∙ ap (λ k. faults_then k mark.event) h)
+pub rise-mark : (n m m' : ℕ) (marks : List Mark) (mark : Mark) → FaultsRise n marks m → CountsOne m mark.event → m' ≡ faults_then m mark.event → FaultsRise n (marks ++ mark ∷ []) m'
+rise-mark n m m' [] mark h counts last = (subst (λ k. CountsOne k mark.event) h counts, last ∙ ap (λ k. faults_then k mark.event) h)
 rise-mark n m m' (x ∷ marks) mark h counts last = (h.0, rise-mark (faults_then n x.event) m m' marks mark h.1 counts last)
 
 -- a mark at which no round ends is no fault's
-counts-none : (m : ℕ) (e : MarkEvent) → (MayEndRound e → ⊥) → CountsMore m e × (m ≡ faults_then m e)
+counts-none : (m : ℕ) (e : MarkEvent) → (MayEndRound e → ⊥) → CountsOne m e × (m ≡ faults_then m e)
 counts-none m (event.Faulted before after) way = absurd (way tt)
 counts-none m (event.Settled waits turns) way = absurd (way tt)
 counts-none m event.Restarted way = (tt, refl)

@@ -1,5 +1,5 @@
 -- the mark of a call that failed, at which a round ends, and the places that the call had
-use Rattle.std.proofs.Common.{◌≡◌, ◌++◌, ◌+◌, ◌<◌, ◌≤◌, ◌∙◌, ℕ, List, [], ◌∷◌, length, refl, sym, ap, subst, arith}
+use Rattle.std.proofs.Common.{◌≡◌, ◌++◌, ◌+◌, ◌≤◌, ◌∙◌, ℕ, List, [], ◌∷◌, length, refl, sym, ap, subst, arith}
 use Rattle.std.proofs.lemmas.List.{length-append}
 use Rattle.sai_types.specs.ChipState.{ChipState}
 use Rattle.switch_model.specs.History.{History, log_size, size_listing, with_end, with_mark}
@@ -22,7 +22,7 @@ sized-at c chip within n = ap (λ k. size_listing k c.log n) within.stands.alway
 -- what a failed call leaves
 pub record LeavesFault (mid new : CoreState) (chip' : ChipState) : Type 0 where
   pub before : ℕ
-  pub more : before < chip'.faults
+  pub one : chip'.faults ≡ before + 1
   pub log : new.log ≡ with_end (with_mark mid.log (mark_at mid (length chip'.effects) (event.Faulted before chip'.faults)))
   pub need : ℕ
   pub places : size_beside mid chip'.before_fault + need ≤ mid.limit
@@ -63,7 +63,7 @@ module _ (mid new : CoreState) (chip chip' : ChipState) (is : InSession mid chip
 
   pub rise-faulted : e.before ≡ chip.faults → FaultsRise 0 mid.log.marks chip.faults → FaultsRise 0 new.log.marks chip'.faults
   rise-faulted least rise =
-      subst (λ (h : History). FaultsRise 0 h.marks chip'.faults) (sym e.log) (rise-mark 0 chip.faults chip'.faults mid.log.marks fault_mark rise (least, e.more) refl)
+      subst (λ (h : History). FaultsRise 0 h.marks chip'.faults) (sym e.log) (rise-mark 0 chip.faults chip'.faults mid.log.marks fault_mark rise (least, e.one) refl)
 
 -- a call that is no list needs two places
 pub beside-two : (marks : List Mark) → places_beside marks + 1 ≤ 2

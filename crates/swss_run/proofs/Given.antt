@@ -10,7 +10,7 @@ use Rattle.table_schema.specs.declared.write.Write.TheVariants as write
 use Rattle.switch_model.specs.Marks.{written_key}
 use Rattle.machine_laws.specs.Reading.{IsOnSwitch}
 use Rattle.machine_laws.proofs.Switched.{switched-key_of}
-use Rattle.swss_script.specs.Given.{HasReadKey}
+use Rattle.table_schema.specs.Writes.{HasReadKey}
 use Rattle.swss_script.specs.Script.{script_of}
 use Rattle.swss_script.specs.Sections.{Placed, acts_of, acts_writes, producer_name, rounds_writes, sections_writes}
 use Rattle.swss_script.specs.Sent.{next_sent, sent_after, sent_in_round, writes_in}

@@ -1,8 +1,8 @@
 -- what comes in a round before its end
-use Rattle.std.proofs.Common.{◌≡◌, ◌++◌, ◌∙◌, ℕ, List, [], refl, sym, ap, subst, arith}
-use Rattle.std.proofs.lemmas.List.{append-nil, append_assoc}
+use Rattle.std.proofs.Common.{◌≡◌, ◌+◌, ◌++◌, ◌∙◌, ℕ, List, [], length, refl, sym, ap, subst, arith}
+use Rattle.std.proofs.lemmas.List.{append-nil, append_assoc, length-append}
 use Rattle.table_schema.specs.declared.write.Sent.{Sent}
-use Rattle.sai_types.specs.ChipState.{ChipState}
+use Rattle.sai_types.specs.ChipState.{ChipState, IsAskedOnce}
 use Rattle.sai_types.specs.declared.ids.Rid.{Rid}
 use Rattle.sai_types.specs.declared.body.Call.{Call}
 use Rattle.switch_model.specs.History.{History, listed_by}
@@ -13,10 +13,10 @@ use Rattle.session_laws.specs.Service.Events.{MakesMore}
 use Rattle.round_laws.specs.Sessions.{InSession}
 use Rattle.round_laws.proofs.Growing.{effects-grow}
 use Rattle.round_laws.proofs.Sessions.{steps-on}
-use Rattle.orch_core.specs.ComingBack.{ComesTo}
+use Rattle.orch_core.specs.ComingBack.{ComesTo, CountAll}
 use Rattle.orch_core.specs.Outcomes.{IsWithinLimit, KeepsChip}
 use Rattle.orch_core.specs.Restarting.{StaysInService}
-use Rattle.orch_core.proofs.Chips.{keeps_alike}
+use Rattle.orch_core.proofs.Chips.{effects_asked, keeps_alike, keeps_asked}
 use Rattle.orch_core.proofs.Coming.{restarts_both, way_both}
 use Rattle.orch_core.proofs.Serving.{comes_serves}
 use Rattle.swss_script.specs.declared.parts.Round.{Round}
@@ -24,7 +24,7 @@ use Rattle.swss_run.specs.Faults.{FaultsRise}
 use Rattle.swss_run.specs.Rounds.{Ran}
 use Rattle.swss_run.specs.Running.{HasCome, KeepsPlan}
 use Rattle.swss_run.proofs.Counting.{HasRestarted, rise-later, rise-way}
-use Rattle.swss_run.proofs.Tables.{HasMade}
+use Rattle.swss_run.proofs.Tables.{HasMade, counted-fenced, fenced-both}
 
 pub same-trans : (a b c : CoreState) → KeepsPlan a b → KeepsPlan b c → KeepsPlan a c
 same-trans a b c first next = record { plan = next.plan ∙ first.plan; capacities = next.capacities ∙ first.capacities; limit = next.limit ∙ first.limit }
@@ -43,6 +43,7 @@ come-made old chip sent restarts c rise limit x = record {
   log = x.log;
   calls = sym (append-nil chip.effects);
   way = x.way;
+  fenced = x.fenced (length old.log.taken + length sent) (omega arith);
   within = x.within;
   same = x.same;
   limit = limit;
@@ -53,18 +54,20 @@ module _ (old : CoreState) (chip : ChipState) (since : Ran) (c : CoreState) (cch
   pub more-calls : (dchip : ChipState) (calls : List (Call Rid)) → dchip.effects ≡ cchip.effects ++ calls → dchip.effects ≡ chip.effects ++ (since.calls ++ calls)
   more-calls dchip calls grown = grown ∙ ap (λ l. l ++ calls) x.calls ∙ append_assoc chip.effects since.calls calls
 
-  -- the core and the chip in the same session, with the same log
-  pub come-stays : StaysInService x.within.session c d cchip → (z : HasCome old chip since d cchip) × (z.within.session ≡ x.within.session)
-  come-stays stays =
-      let within = steps-on c d cchip cchip x.within x.within.session [] tt refl stays.stands stays.plan stays.capacities in (
+  -- the core in the same session, with the same log, and the chip, of which perhaps one call or list more was asked
+  pub come-stays : (dchip : ChipState) → IsAskedOnce cchip dchip → StaysInService x.within.session c d dchip → (z : HasCome old chip since d dchip) × (z.within.session ≡ x.within.session)
+  come-stays dchip asked stays =
+      let within = steps-on c d cchip dchip x.within x.within.session [] tt refl stays.stands stays.plan stays.capacities in
+      let keeps = keeps_asked asked (keeps_alike c d cchip cchip refl stays.log (stays.stands.always.listed ∙ ap (λ (h : History). listed_by h.marks) stays.log ∙ sym x.within.stands.always.listed) stays.limit) in (
         record {
           log = stays.log ∙ x.log;
-          calls = x.calls;
+          calls = effects_asked asked ∙ x.calls;
           way = x.way;
+          fenced = x.fenced;
           within = within.0;
           same = same-trans old c d x.same (record { plan = stays.plan; capacities = stays.capacities; limit = stays.limit });
-          limit = (keeps_alike c d cchip cchip refl stays.log (stays.stands.always.listed ∙ ap (λ (h : History). listed_by h.marks) stays.log ∙ sym x.within.stands.always.listed) stays.limit).limit x.limit;
-          faults = subst (λ (h : History). FaultsRise 0 h.marks cchip.faults) (sym stays.log) x.faults;
+          limit = keeps.limit x.limit;
+          faults = subst (λ (h : History). FaultsRise 0 h.marks dchip.faults) (sym stays.log) (rise-later 0 cchip.faults dchip.faults c.log.marks x.faults keeps.faults);
         },
         within.1,
       )
@@ -81,14 +84,15 @@ module _ (old : CoreState) (chip : ChipState) (since : Ran) (c : CoreState) (cch
           log = log ∙ x.log;
           calls = more-calls dchip grown.0 grown.1;
           way = x.way;
+          fenced = x.fenced;
           within = within;
           same = same-trans old c d x.same (record { plan = more.plan; capacities = more.capacities; limit = more.limit });
           limit = keeps.limit x.limit;
           faults = subst (λ (h : History). FaultsRise 0 h.marks dchip.faults) (sym log) (rise-later 0 cchip.faults dchip.faults c.log.marks x.faults keeps.faults);
         }
 
-  -- whole events of a core that comes back
-  module _ (dchip : ChipState) (later : LoggedService) (y : ComesTo x.within.session later c cchip d dchip) where
+  -- whole events of a core that comes back, where no call took effect in the round so far
+  module _ (uncalled : cchip.effects ≡ chip.effects) (dchip : ChipState) (later : LoggedService) (y : ComesTo x.within.session later c cchip d dchip) where
     came_more : MakesMore c x.within.session d dchip
     came_more = (comes_serves x.within.session later c cchip d dchip y).0
 
@@ -110,6 +114,10 @@ module _ (old : CoreState) (chip : ChipState) (since : Ran) (c : CoreState) (cch
             (y.ends ∙ ap (λ (h : History). h.ends) x.log);
         calls = more-calls dchip came_calls.0 came_calls.1;
         way = way_both since.marks y.added x.way y.way;
+        fenced = fenced-both (length old.log.taken) (length old.log.taken + length since.sent) (length chip.effects) since.marks y.added x.fenced
+            (counted-fenced (length old.log.taken) (length since.sent) (length chip.effects) y.added
+            (subst (λ n. CountAll n (length chip.effects) y.added) (ap (λ (h : History). length h.taken) x.log ∙ length-append old.log.taken since.sent)
+            (subst (λ n. CountAll (length c.log.taken) n y.added) (ap length uncalled) y.counted)));
         within = came_in.0;
         same = same-trans old c d x.same (record { plan = y.plan; capacities = y.capacities; limit = y.limit });
         limit = y.keeps.limit x.limit;

@@ -7,7 +7,6 @@ use Rattle.table_schema.specs.Rows.{rows_of}
 use Rattle.sai_types.specs.ChipState.{ChipState}
 use Rattle.sai_types.specs.declared.ids.Rid.{Rid}
 use Rattle.sai_types.specs.declared.body.Call.{Call}
-use Rattle.sai_chip.specs.Sim.{Sim}
 use Rattle.switch_model.specs.History.{History, log_size, with_end, with_mark}
 use Rattle.switch_model.specs.Desired.{IsClosed, IsThingOf}
 use Rattle.switch_model.specs.Good.{good_rows}
@@ -23,8 +22,10 @@ use Rattle.restart_laws.specs.Logged.{last_mark}
 use Rattle.restart_laws.proofs.Marking.{last-more}
 use Rattle.warm_state.specs.declared.warm.Warm.TheVariants as warm
 use Rattle.session_laws.specs.Core.{CoreState, size_beside}
-use Rattle.round_laws.specs.Between.{IsBetweenRounds, IsReadyForRound, mark_of}
+use Rattle.round_laws.specs.Between.{IsBetweenRounds, IsReadyForRound, mark_of, round_from}
+use Rattle.round_laws.specs.Ended.{LeavesSettled}
 use Rattle.round_laws.specs.Sessions.{InSession}
+use Rattle.round_laws.specs.Turns.{IsMadeSoFar}
 use Rattle.round_laws.proofs.Ready.{between-ready, suspect-ready}
 use Rattle.round_laws.proofs.Sessions.{log-ordered, sized}
 use Rattle.orch_core.specs.ComingBack.{restarts_due, restarts_marked}
@@ -42,15 +43,19 @@ use Rattle.swss_run.proofs.Faulting.{LeavesFault, fault_mark, fits-faulted, plac
 use Rattle.swss_run.proofs.OnWay.{same-trans}
 
 -- how the last round ended, if one did: at the mark of a settling that ended, or at that of a fault
-abbrev pub IsEndedAs : Status → CoreState → Sim → Type 0
-IsEndedAs ended core sim = ((ended ≡ status.Done) × (is_suspect core.log.marks ≡ false)) ⊎ ((ended ≡ status.ChipFault) × (is_suspect core.log.marks ≡ true) × (0 < sim.chip.faults))
+abbrev pub IsEndedAs : Status → CoreState → ChipState → Type 0
+IsEndedAs ended core sim = ((ended ≡ status.Done) × (is_suspect core.log.marks ≡ false)) ⊎ ((ended ≡ status.ChipFault) × (is_suspect core.log.marks ≡ true) × (0 < sim.faults))
 
 -- a round ended with this status, and the next may begin
-pub record IsOver (round : Round) (old : CoreState) (sim : Sim) (ended : Status) (new : CoreState) (sim' : Sim) : Type 0 where
+pub record IsOver (round : Round) (old : CoreState) (sim : ChipState) (ended : Status) (new : CoreState) (sim' : ChipState) : Type 0 where
   pub ran : Ran
   pub ends : EndsRound round old sim ran new sim'
-  pub ready : IsReadyForRound new sim'.chip
+  pub ready : IsReadyForRound new sim'
   pub how : IsEndedAs ended new sim'
+
+-- where no mark was made before the one at which it ended, its calls are those of its turns so far
+abbrev pub IsCutSo : CoreState → ChipState → Ran → List (Call Rid) → Type 0
+IsCutSo old sim since calls = since.marks ≡ [] → LeavesSettled (mark_of old) → (mark : Mark) → IsMadeSoFar old.board.plan old.sync.capacities (round_from old sim since.sent (since.calls ++ calls) mark)
 
 -- a list that is one mark has no other
 pub alone : (xs : List Mark) (x m : Mark) → xs ++ x ∷ [] ≡ m ∷ [] → (xs ≡ []) × (x ≡ m)
@@ -58,7 +63,18 @@ alone [] x m is = (refl, cc)
 alone (y ∷ []) x m is = cc
 alone (y ∷ z ∷ zs) x m is = cc
 
-module _ (round : Round) (old : CoreState) (sim : Sim) (since : Ran) (c : CoreState) (cchip : ChipState) (come : HasCome old sim.chip since c cchip) (all : since.sent ≡ sent_in_round round) (restarted : HasRestarted round old.log.marks since.marks c.warm) (none : restarts_due c.warm ≡ 0) (new : CoreState) (sim' : Sim) (mark : Mark) (may : MayEndRound mark.event) (log : new.log ≡ with_end (with_mark c.log mark)) (calls : List (Call Rid)) (grown : sim'.chip.effects ≡ cchip.effects ++ calls) (within : InSession new sim'.chip) (same : KeepsPlan c new) where
+-- the mark of a settling that ended is that of no fault
+pub unfailed : (mark m : Mark) (waits : Waiting) (turns : ℕ) → mark.event ≡ event.Settled waits turns → mark ≡ m → is_fault m.event ≡ true → ⊥
+unfailed mark m waits turns is same bad = false≢true (sym (ap is_fault is) ∙ (ap (λ (x : Mark). is_fault x.event) same ∙ bad))
+
+-- a round that restarted has a mark before its last
+marked_before : (marks : List Mark) → 1 ≤ restarts_marked marks → marks ≡ [] → ⊥
+marked_before marks some none = let count : restarts_marked marks ≡ 0 = ap restarts_marked none in omega (arith, count, some)
+
+pub uncut : (old : CoreState) (sim : ChipState) (since : Ran) → 1 ≤ restarts_marked since.marks → (calls : List (Call Rid)) → IsCutSo old sim since calls
+uncut old sim since some calls none left mark = absurd (marked_before since.marks some none)
+
+module _ (round : Round) (old : CoreState) (sim : ChipState) (since : Ran) (c : CoreState) (cchip : ChipState) (come : HasCome old sim since c cchip) (all : since.sent ≡ sent_in_round round) (restarted : HasRestarted round old.log.marks since.marks c.warm) (none : restarts_due c.warm ≡ 0) (new : CoreState) (sim' : ChipState) (mark : Mark) (may : MayEndRound mark.event) (log : new.log ≡ with_end (with_mark c.log mark)) (calls : List (Call Rid)) (grown : sim'.effects ≡ cchip.effects ++ calls) (within : InSession new sim') (same : KeepsPlan c new) where
   abbrev pub ran_now : Ran
   ran_now = record { marks = since.marks ++ mark ∷ []; sent = since.sent; calls = since.calls ++ calls }
 
@@ -68,11 +84,11 @@ module _ (round : Round) (old : CoreState) (sim : Sim) (since : Ran) (c : CoreSt
       ∙ ap (λ h. with_end (with_mark h mark)) come.log
       ∙ ap (λ ms. record { taken = old.log.taken ++ since.sent; marks = ms; ends = old.log.ends ++ length ms ∷ [] }) (append_assoc old.log.marks since.marks (mark ∷ []))
 
-  calls_now : sim'.chip.effects ≡ sim.chip.effects ++ (since.calls ++ calls)
-  calls_now = grown ∙ ap (λ l. l ++ calls) come.calls ∙ append_assoc sim.chip.effects since.calls calls
+  calls_now : sim'.effects ≡ sim.effects ++ (since.calls ++ calls)
+  calls_now = grown ∙ ap (λ l. l ++ calls) come.calls ∙ append_assoc sim.effects since.calls calls
 
   order_now : AreMarksInOrder None (old.log.marks ++ (since.marks ++ mark ∷ []))
-  order_now = subst (λ (h : History). AreMarksInOrder None h.marks) log_now (log-ordered new sim'.chip within).order
+  order_now = subst (λ (h : History). AreMarksInOrder None h.marks) log_now (log-ordered new sim' within).order
 
   last_now : mark_of new ≡ Some mark
   last_now = ap (λ (h : History). last_mark None h.marks) log ∙ last-more None c.log.marks mark
@@ -80,16 +96,17 @@ module _ (round : Round) (old : CoreState) (sim : Sim) (since : Ran) (c : CoreSt
   suspect_now : is_suspect new.log.marks ≡ is_fault mark.event
   suspect_now = ap (λ (h : History). is_suspect h.marks) log ∙ suspect-last c.log.marks mark
 
-  ends_now : mark.taken ≡ length new.log.taken → mark.effects ≡ length sim'.chip.effects
-      → IsRoundTurned old.board.plan old.sync.capacities (mark_of old) old.log.taken sim.chip.effects ran_now → DrainsBehind old.board.plan old.sync.capacities old.log.taken ran_now
-      → log_size new.log (length sim'.chip.effects) ≤ new.limit
-      → (is_suspect new.log.marks ≡ true → log_size new.log sim'.chip.before_fault + places_beside new.log.marks ≤ new.limit)
-      → FaultsRise 0 new.log.marks sim'.chip.faults → EndsRound round old sim ran_now new sim'
+  ends_now : mark.taken ≡ length new.log.taken → mark.effects ≡ length sim'.effects
+      → IsRoundTurned old.board.plan old.sync.capacities (mark_of old) old.log.taken sim.effects ran_now → DrainsBehind old.board.plan old.sync.capacities old.log.taken ran_now
+      → log_size new.log (length sim'.effects) ≤ new.limit
+      → (is_suspect new.log.marks ≡ true → log_size new.log sim'.before_fault + places_beside new.log.marks ≤ new.limit)
+      → FaultsRise 0 new.log.marks sim'.faults → EndsRound round old sim ran_now new sim'
   ends_now taken effects turned drained places fault_places faults = record {
     before = since.marks;
     mark = mark;
     marks = refl;
     way = come.way;
+    fenced = come.fenced;
     settling = may;
     sent = all;
     restarts = restarts-ended round old.log.marks since.marks c.warm mark restarted none may order_now;
@@ -106,19 +123,19 @@ module _ (round : Round) (old : CoreState) (sim : Sim) (since : Ran) (c : CoreSt
     faults = faults;
   }
 
-  -- where it restarted nothing is said of turns
-  pub turned_none : 1 ≤ restarts_marked since.marks → IsRoundTurned old.board.plan old.sync.capacities (mark_of old) old.log.taken sim.chip.effects ran_now
-  turned_none some = λ m is settled left.
-      let empty = (alone since.marks mark m is).0 in
-      let count : restarts_marked since.marks ≡ 0 = ap restarts_marked empty in
-      absurd (impossible count some)
-    where
-      impossible : restarts_marked since.marks ≡ 0 → 1 ≤ restarts_marked since.marks → ⊥
-      impossible none some = omega (arith, none, some)
+  -- where it restarted nothing is said of its turns
+  pub turned_none : 1 ≤ restarts_marked since.marks → IsRoundTurned old.board.plan old.sync.capacities (mark_of old) old.log.taken sim.effects ran_now
+  turned_none some = record {
+    whole = λ m is settled left. absurd (marked_before since.marks some (alone since.marks mark m is).0);
+    cut = λ m is bad left. absurd (marked_before since.marks some (alone since.marks mark m is).0);
+  }
 
-  -- nor where it ended with a fault
-  turned_failed : is_fault mark.event ≡ true → IsRoundTurned old.board.plan old.sync.capacities (mark_of old) old.log.taken sim.chip.effects ran_now
-  turned_failed bad = λ m is settled left. absurd (failed mark.event bad (subst (λ (x : Mark). IsSettledMark x.event) (sym (alone since.marks mark m is).1) settled))
+  -- where it ended with a fault it is cut off
+  turned_failed : is_fault mark.event ≡ true → IsCutSo old sim since calls → IsRoundTurned old.board.plan old.sync.capacities (mark_of old) old.log.taken sim.effects ran_now
+  turned_failed bad so = record {
+    whole = λ m is settled left. absurd (failed mark.event bad (subst (λ (x : Mark). IsSettledMark x.event) (sym (alone since.marks mark m is).1) settled));
+    cut = λ m is failed left. so (alone since.marks mark m is).0 left m;
+  }
     where
       failed : (e : MarkEvent) → is_fault e ≡ true → IsSettledMark e → ⊥
       failed (event.Settled waits turns) bad h = cc
@@ -128,10 +145,7 @@ module _ (round : Round) (old : CoreState) (sim : Sim) (since : Ran) (c : CoreSt
       failed event.ApplyEnded bad h = h
 
   drained_failed : is_fault mark.event ≡ true → DrainsBehind old.board.plan old.sync.capacities old.log.taken ran_now
-  drained_failed bad = λ m waits turns last is some closed room. absurd (apart m waits turns (same_Some mark m (sym (last-more None since.marks mark) ∙ last)) is)
-    where
-      apart : (m : Mark) (waits : Waiting) (turns : ℕ) → mark ≡ m → m.event ≡ event.Settled waits turns → ⊥
-      apart m waits turns same is = false≢true (sym (ap is_fault is) ∙ (ap (λ (x : Mark). is_fault x.event) (sym same) ∙ bad))
+  drained_failed bad = λ m waits turns last is some closed room. absurd (unfailed m mark waits turns is (sym (same_Some mark m (sym (last-more None since.marks mark) ∙ last))) bad)
 
   -- where it did not restart nothing more is said of draining
   pub drained_none : restarts_marked since.marks ≡ 0 → DrainsBehind old.board.plan old.sync.capacities old.log.taken ran_now
@@ -153,47 +167,47 @@ module _ (round : Round) (old : CoreState) (sim : Sim) (since : Ran) (c : CoreSt
       (sym waits_same ∙ d.0, subst (λ k. k ≤ 4) turns_same d.1)
 
   -- its settling ended
-  pub over-settled : (waits : Waiting) (turns : ℕ) → mark.event ≡ event.Settled waits turns → IsBetweenRounds new sim'.chip → size_beside new (length sim'.chip.effects) ≤ new.limit → KeepsChip c cchip new sim'.chip
-      → IsRoundTurned old.board.plan old.sync.capacities (mark_of old) old.log.taken sim.chip.effects ran_now → DrainsBehind old.board.plan old.sync.capacities old.log.taken ran_now → IsOver round old sim status.Done new sim'
+  pub over-settled : (waits : Waiting) (turns : ℕ) → mark.event ≡ event.Settled waits turns → IsBetweenRounds new sim' → size_beside new (length sim'.effects) ≤ new.limit → KeepsChip c cchip new sim'
+      → IsRoundTurned old.board.plan old.sync.capacities (mark_of old) old.log.taken sim.effects ran_now → DrainsBehind old.board.plan old.sync.capacities old.log.taken ran_now → IsOver round old sim status.Done new sim'
   over-settled waits turns is between places keeps turned drained =
-      let size = sized new sim'.chip within in
+      let size = sized new sim' within in
       let known : is_suspect new.log.marks ≡ false = suspect_now ∙ ap is_fault is in
       record {
         ran = ran_now;
         ends = ends_now (between.taken mark last_now) (between.effects mark last_now) turned drained (omega (arith, size, places)) (λ bad. absurd (apart known bad)) rise;
-        ready = between-ready new sim'.chip between;
+        ready = between-ready new sim' between;
         how = inl (refl, known);
       }
     where
       apart : is_suspect new.log.marks ≡ false → is_suspect new.log.marks ≡ true → ⊥
       apart a b = cc
 
-      counts : (e : MarkEvent) → e ≡ event.Settled waits turns → FaultsRise 0 (c.log.marks ++ record { taken = mark.taken; effects = mark.effects; event = e } ∷ []) sim'.chip.faults
+      counts : (e : MarkEvent) → e ≡ event.Settled waits turns → FaultsRise 0 (c.log.marks ++ record { taken = mark.taken; effects = mark.effects; event = e } ∷ []) sim'.faults
       counts e at =
-          subst (λ x. FaultsRise 0 (c.log.marks ++ record { taken = mark.taken; effects = mark.effects; event = x } ∷ []) sim'.chip.faults) (sym at)
-          (rise-mark 0 cchip.faults sim'.chip.faults c.log.marks (record { taken = mark.taken; effects = mark.effects; event = event.Settled waits turns }) come.faults tt keeps.faults)
+          subst (λ x. FaultsRise 0 (c.log.marks ++ record { taken = mark.taken; effects = mark.effects; event = x } ∷ []) sim'.faults) (sym at)
+          (rise-mark 0 cchip.faults sim'.faults c.log.marks (record { taken = mark.taken; effects = mark.effects; event = event.Settled waits turns }) come.faults tt keeps.faults)
 
-      rise : FaultsRise 0 new.log.marks sim'.chip.faults
-      rise = subst (λ (h : History). FaultsRise 0 h.marks sim'.chip.faults) (sym log) (counts mark.event is)
+      rise : FaultsRise 0 new.log.marks sim'.faults
+      rise = subst (λ (h : History). FaultsRise 0 h.marks sim'.faults) (sym log) (counts mark.event is)
 
 -- a call failed in it
-module _ (round : Round) (old : CoreState) (sim : Sim) (since : Ran) (c : CoreState) (cchip : ChipState) (come : HasCome old sim.chip since c cchip) (all : since.sent ≡ sent_in_round round) (restarted : HasRestarted round old.log.marks since.marks c.warm) (none : restarts_due c.warm ≡ 0) (new : CoreState) (sim' : Sim) (e : LeavesFault c new sim'.chip) (calls : List (Call Rid)) (grown : sim'.chip.effects ≡ cchip.effects ++ calls) (within : InSession new sim'.chip) (same : KeepsPlan c new) where
+module _ (round : Round) (old : CoreState) (sim : ChipState) (since : Ran) (c : CoreState) (cchip : ChipState) (come : HasCome old sim since c cchip) (all : since.sent ≡ sent_in_round round) (restarted : HasRestarted round old.log.marks since.marks c.warm) (none : restarts_due c.warm ≡ 0) (new : CoreState) (sim' : ChipState) (e : LeavesFault c new sim') (calls : List (Call Rid)) (grown : sim'.effects ≡ cchip.effects ++ calls) (within : InSession new sim') (same : KeepsPlan c new) where
   abbrev failed : Mark
-  failed = fault_mark c new cchip sim'.chip come.within e
+  failed = fault_mark c new cchip sim' come.within e
 
-  pub over-failed : e.before ≡ cchip.faults → new.warm ≡ warm.Suspect → ArePendingInOrder new.tables.waiting → IsOver round old sim status.ChipFault new sim'
-  over-failed least at order =
-      let more = e.more in
+  pub over-failed : IsCutSo old sim since calls → e.before ≡ cchip.faults → new.warm ≡ warm.Suspect → ArePendingInOrder new.tables.waiting → IsOver round old sim status.ChipFault new sim'
+  over-failed so least at order =
+      let one = e.one in
       record {
         ran = ran_now round old sim since c cchip come all restarted none new sim' failed tt e.log calls grown within same;
         ends =
             ends_now round old sim since c cchip come all restarted none new sim' failed tt e.log calls grown within same
             (ap (λ (h : History). length h.taken) (sym e.log)) refl
-            (turned_failed round old sim since c cchip come all restarted none new sim' failed tt e.log calls grown within same refl)
+            (turned_failed round old sim since c cchip come all restarted none new sim' failed tt e.log calls grown within same refl so)
             (drained_failed round old sim since c cchip come all restarted none new sim' failed tt e.log calls grown within same refl)
-            (fits-faulted c new cchip sim'.chip come.within e)
-            (λ bad. places-faulted c new cchip sim'.chip come.within e)
-            (rise-faulted c new cchip sim'.chip come.within e least come.faults);
-        ready = suspect-ready new sim'.chip within order at;
-        how = inr (refl, suspect_now round old sim since c cchip come all restarted none new sim' failed tt e.log calls grown within same, omega (arith, more));
+            (fits-faulted c new cchip sim' come.within e)
+            (λ bad. places-faulted c new cchip sim' come.within e)
+            (rise-faulted c new cchip sim' come.within e least come.faults);
+        ready = suspect-ready new sim' within order at;
+        how = inr (refl, suspect_now round old sim since c cchip come all restarted none new sim' failed tt e.log calls grown within same, omega (arith, one));
       }

@@ -13,7 +13,6 @@ use Rattle.sai_types.specs.declared.ids.Rid.{Rid}
 use Rattle.sai_types.specs.declared.body.Call.{Call}
 use Rattle.sai_chip.specs.Replay.{IsReplayOf, Replayed}
 use Rattle.sai_chip.proofs.Replays.{IsReplayOf-append}
-use Rattle.sai_chip.specs.Sim.{Sim}
 use Rattle.switch_model.specs.History.{History, log_size, with_end, with_mark}
 use Rattle.switch_model.specs.Marks.{sent_writes}
 use Rattle.switch_model.specs.declared.mark.Mark.{Mark}
@@ -25,7 +24,7 @@ use Rattle.flight_board.specs.Board.{BoardState}
 use Rattle.restart_laws.specs.Logged.{LoggedService}
 use Rattle.syncd_core.specs.Synced.{SyncState}
 use Rattle.warm_state.specs.declared.warm.Warm.TheVariants as warm
-use Rattle.session_laws.specs.Core.{CoreState, IsFullFor, size_beside}
+use Rattle.session_laws.specs.Core.{CoreState, IsFullFor, mark_at, size_beside}
 use Rattle.session_laws.specs.Service.Events.{MakesMore}
 use Rattle.session_laws.specs.Service.Standing.{IsServiceOf}
 use Rattle.round_laws.specs.Between.{IsInRound, mark_of, round_from}
@@ -33,6 +32,7 @@ use Rattle.round_laws.specs.Ended.{LeavesSettled}
 use Rattle.round_laws.specs.Named.{keys_named}
 use Rattle.round_laws.specs.Quiet.{LeavesQuietRows}
 use Rattle.round_laws.specs.Sessions.{InSession}
+use Rattle.round_laws.specs.Turns.{IsMadeSoFar}
 use Rattle.round_laws.proofs.Between.{round-begins}
 use Rattle.round_laws.proofs.Drained.{round-drained}
 use Rattle.round_laws.proofs.Ending.{round-ends}
@@ -44,6 +44,7 @@ use Rattle.orch_core.specs.Outcomes.{IsWithinLimit}
 use Rattle.orch_core.specs.Settled.{Settles, SettlesWhole}
 use Rattle.orch_core.specs.declared.answer.Settled.{Settled}
 use Rattle.orch_core.specs.declared.answer.Settled.TheVariants as settled
+use Rattle.orch_core.proofs.Chips.{fails_asked}
 use Rattle.orch_core.proofs.Coming.{settles_as_ever}
 use Rattle.orch_core.proofs.Serving.{settle_serves}
 use Rattle.swss_script.specs.Sent.{next_sent, restarts_in, sent_in_round, writes_in}
@@ -57,11 +58,11 @@ use Rattle.swss_run.specs.Faults.{FaultsRise}
 use Rattle.swss_run.specs.Full.{IsFull}
 use Rattle.swss_run.specs.Full.IsFull.{AtRestart, AtWrite}
 use Rattle.swss_run.specs.Rounds.{Ran}
-use Rattle.swss_run.specs.Running.{HasCome, HasLines, IsRunReady, IsRoundRun, IsWritten, KeepsPlan, StopsQuietly, StopsRound, round_ended}
+use Rattle.swss_run.specs.Running.{HasCome, HasLines, IsRunReady, IsRoundRun, IsWritten, KeepsPlan, StopsInTurns, StopsRound, round_ended}
 use Rattle.swss_run.specs.Running.IsWritten.{Whole, Failed, Wanting, Unwritten}
 use Rattle.swss_run.specs.Taking.{HaveReadKeys, IsRoundMade, StaysWithin, acts_in, acts_made, restarts_made, writes_among, with_made}
 use Rattle.swss_run.specs.Told.{IsToldOf}
-use Rattle.swss_run.specs.Turned.{EndsTurned, IsSinceQuiet, round_at}
+use Rattle.swss_run.specs.Turned.{EndsTurned, IsSinceTurned, round_at}
 use Rattle.swss_run.specs.declared.status.Status.{Status}
 use Rattle.swss_run.specs.declared.status.Status.TheVariants as status
 use Rattle.swss_run.specs.declared.taking.Taken.TheVariants as taken
@@ -71,7 +72,8 @@ use Rattle.swss_run.proofs.CameBack.{ends-over, ends-stopped, from-over, from-st
 use Rattle.swss_run.proofs.Counting.{HasRestarted, suspect-now, unsettled}
 use Rattle.swss_run.proofs.Given.{AreOnSwitch, on-front, on-round}
 use Rattle.swss_run.proofs.OnWay.{come-made, since_made}
-use Rattle.swss_run.proofs.Over.{IsEndedAs, IsOver, alone, drained_none, over-settled}
+use Rattle.swss_run.proofs.CutOff.{cut-failed, cut-stopped}
+use Rattle.swss_run.proofs.Over.{IsEndedAs, IsOver, alone, drained_none, over-settled, unfailed}
 use Rattle.swss_run.proofs.Settling.{IsStopped}
 use Rattle.swss_run.proofs.Tables.{HasMade, in-round, made-all, made-none, told-more}
 
@@ -90,7 +92,7 @@ from-fails mid chip s r new chip' (Back c cchip x h) = settled-fails c cchip x.l
 from-fails mid chip s (Ok settled.Settled) new chip' (Stopped h) = absurd h
 from-fails mid chip s (Ok settled.Faulted) new chip' (Stopped h) = h.stops.1.fails ∙ h.comes.keeps.fails
 from-fails mid chip s (Ok settled.LogFull) new chip' (Stopped h) = ap (λ (z : ChipState). z.fails) h.stops.0 ∙ h.comes.keeps.fails
-from-fails mid chip s (Err wanting) new chip' (Stopped h) = ap (λ (z : ChipState). z.fails) h.stops.0 ∙ h.comes.keeps.fails
+from-fails mid chip s (Err wanting) new chip' (Stopped h) = fails_asked h.stops.0 ∙ h.comes.keeps.fails
 
 -- ---- the lines
 
@@ -112,10 +114,10 @@ text-as shows lines p p' n n' ms ms' t t' r r' c c' o o' e e' b b' ps ns mss ts 
 
 -- ---- a round
 
--- a round that stopped with a full log, and left quiet rows alone
-abbrev IsFullRun : Round → CoreState → Sim → CoreState → Sim → Type 0
+-- a round that stopped with a full log, in its turns
+abbrev IsFullRun : Round → CoreState → ChipState → CoreState → ChipState → Type 0
 IsFullRun round old sim new sim' =
-    (stops : StopsQuietly round old sim new sim') × IsFull new.board.plan new.sync.capacities new.limit round new.log sim'.chip stops.0.since stops.0.come.within.session × (new.limit < log_size new.log (length sim'.chip.effects) + 2 + length (keys_named new.log.taken))
+    (stops : StopsInTurns round old sim new sim') × IsFull new.board.plan new.sync.capacities new.limit round new.log sim' stops.0.since stops.0.come.within.session × (new.limit < log_size new.log (length sim'.effects) + 2 + length (keys_named new.log.taken))
 
 -- there are no more restarts than marks
 few_restarts : (e : MarkEvent) → restarts_at e ≤ 1
@@ -140,15 +142,15 @@ front_all xs ys zs rest more split grown = split ∙ ap (λ l. zs ++ l) none ∙
         let then = length-append xs ys in
         nil_from_length rest (omega (arith, front, now, then))
 
-module _ (round : Round) (old : CoreState) (sim : Sim) (replay : Replayed) (ready : IsRunReady old sim replay) (read : HaveReadKeys (writes_in round.sections)) (mid : CoreState) (effects : ℕ) (count_is : effects ≡ length sim.chip.effects) (stays : StaysWithin effects old mid) where
+module _ (round : Round) (old : CoreState) (sim : ChipState) (replay : Replayed) (ready : IsRunReady old sim replay) (read : HaveReadKeys (writes_in round.sections)) (mid : CoreState) (effects : ℕ) (count_is : effects ≡ length sim.effects) (stays : StaysWithin effects old mid) where
   -- the log is within its limit before the acts, and after some of them
   within_old : size_beside old effects ≤ old.limit
   within_old =
-      let size = sized old sim.chip ready.ready.within in
+      let size = sized old sim ready.ready.within in
       let places = ready.places in
       subst (λ n. size_beside old n ≤ old.limit) (sym count_is) (omega (arith, size, places))
 
-  within_mid : IsWithinLimit mid sim.chip
+  within_mid : IsWithinLimit mid sim
   within_mid = subst (λ n. size_beside mid n ≤ mid.limit) count_is (stays within_old)
 
   -- after some of its acts
@@ -162,17 +164,17 @@ module _ (round : Round) (old : CoreState) (sim : Sim) (replay : Replayed) (read
     on_then : AreOnSwitch sent_then
     on_then = on-front sent_then (writes_among (acts_made sent_then later)) (subst AreOnSwitch (sent-front round done later split) (on-round round read))
 
-    pub has-then : HasMade old sim.chip sent_then restarts_then mid
+    pub has-then : HasMade old sim sent_then restarts_then mid
     has-then =
-        subst (HasMade old sim.chip sent_then restarts_then) (sym is)
-        (subst (λ n. HasMade old sim.chip sent_then n (with_made effects old (acts_made [] done))) (omega arith)
-        (made-all old sim.chip effects count_is [] 0 (acts_made [] done) old (made-none old sim.chip ready.ready.within ready.ready.order) on_then))
+        subst (HasMade old sim sent_then restarts_then) (sym is)
+        (subst (λ n. HasMade old sim sent_then n (with_made effects old (acts_made [] done))) (omega arith)
+        (made-all old sim effects count_is [] 0 (acts_made [] done) old (made-none old sim ready.ready.within ready.ready.order) on_then))
 
     abbrev pub since_then : Ran
     since_then = since_made has-then.added sent_then
 
-    pub come-then : HasCome old sim.chip since_then mid sim.chip
-    come-then = come-made old sim.chip sent_then restarts_then mid ready.faults within_mid has-then
+    pub come-then : HasCome old sim since_then mid sim
+    come-then = come-made old sim sent_then restarts_then mid ready.faults within_mid has-then
 
     abbrev stops_then : StopsRound round old sim mid sim
     stops_then = record {
@@ -187,23 +189,23 @@ module _ (round : Round) (old : CoreState) (sim : Sim) (replay : Replayed) (read
     }
 
     -- no call was made
-    quiet_then : IsSinceQuiet old.board.plan (mark_of old) old.log.taken sim.chip.effects since_then
-    quiet_then none settled mark k row e at other stood call called changes = called
+    turned_then : IsSinceTurned old.board.plan old.sync.capacities (mark_of old) old.log.taken sim.effects since_then
+    turned_then = record { so_far = λ none settled mark. inl refl; quiet = λ none settled mark k row e at other stood call called changes. called }
 
-  pub stops-wanting : IsRoundMade effects (acts_in round.sections) old taken.NoMemory mid → StopsQuietly round old sim mid sim
-  stops-wanting (counts, (done, later, split, is)) = (stops_then done later split is, quiet_then done later split is)
+  pub stops-wanting : IsRoundMade effects (acts_in round.sections) old taken.NoMemory mid → StopsInTurns round old sim mid sim
+  stops-wanting (counts, (done, later, split, is)) = (stops_then done later split is, turned_then done later split is)
 
   -- what is told stays so
-  pub told-stopped : (t : Told) → IsToldOf t old.log.taken → StopsQuietly round old sim mid sim → IsToldOf t mid.log.taken
+  pub told-stopped : (t : Told) → IsToldOf t old.log.taken → StopsInTurns round old sim mid sim → IsToldOf t mid.log.taken
   told-stopped t told stop = told-more t old.log.taken stop.0.since.sent mid.log.taken told (ap (λ (h : History). h.taken) stop.0.come.log)
 
   -- the next act has no place
   module _ (done : List (ℕ × Act)) (producer : ℕ) (later : List (ℕ × Act)) (full : IsFullFor mid effects 1) where
     abbrev IsFullAct : Act → Type 0
-    IsFullAct a = (split : acts_in round.sections ≡ done ++ (producer, a) ∷ later) (is : mid ≡ with_made effects old (acts_made [] done)) → IsFull mid.board.plan mid.sync.capacities mid.limit round mid.log sim.chip (since_then done ((producer, a) ∷ later) split is) (come-then done ((producer, a) ∷ later) split is).within.session
+    IsFullAct a = (split : acts_in round.sections ≡ done ++ (producer, a) ∷ later) (is : mid ≡ with_made effects old (acts_made [] done)) → IsFull mid.board.plan mid.sync.capacities mid.limit round mid.log sim (since_then done ((producer, a) ∷ later) split is) (come-then done ((producer, a) ∷ later) split is).within.session
 
-    short : InSession mid sim.chip → mid.limit < log_size mid.log (length sim.chip.effects) + 1
-    short within = let size = sized mid sim.chip within in let count = count_is in omega (arith, full, size, count)
+    short : InSession mid sim → mid.limit < log_size mid.log (length sim.effects) + 1
+    short within = let size = sized mid sim within in let count = count_is in omega (arith, full, size, count)
 
     full_act : (a : Act) → IsFullAct a
     full_act (act.Write w) split is =
@@ -217,7 +219,7 @@ module _ (round : Round) (old : CoreState) (sim : Sim) (replay : Replayed) (read
     pub full_at : (a : Act) (split : acts_in round.sections ≡ done ++ (producer, a) ∷ later) (is : mid ≡ with_made effects old (acts_made [] done)) → IsFullRun round old sim mid sim
     full_at a split is =
         let lack = short (has-then done ((producer, a) ∷ later) split is).within in
-        ((stops_then done ((producer, a) ∷ later) split is, quiet_then done ((producer, a) ∷ later) split is), full_act a split is, omega (arith, lack))
+        ((stops_then done ((producer, a) ∷ later) split is, turned_then done ((producer, a) ∷ later) split is), full_act a split is, omega (arith, lack))
 
   pub full-taking : IsRoundMade effects (acts_in round.sections) old taken.LogFull mid → IsFullRun round old sim mid sim
   full-taking (counts, (done, (producer, a), later, split, is, full)) = full_at done producer later full a split is
@@ -233,13 +235,13 @@ module _ (round : Round) (old : CoreState) (sim : Sim) (replay : Replayed) (read
     abbrev since_all : Ran
     since_all = since_then (acts_in round.sections) [] none_left is
 
-    abbrev has_all : HasMade old sim.chip all_sent (restarts_then (acts_in round.sections) [] none_left is) mid
+    abbrev has_all : HasMade old sim all_sent (restarts_then (acts_in round.sections) [] none_left is) mid
     has_all = has-then (acts_in round.sections) [] none_left is
 
-    abbrev come_all : HasCome old sim.chip since_all mid sim.chip
+    abbrev come_all : HasCome old sim since_all mid sim
     come_all = come-then (acts_in round.sections) [] none_left is
 
-    pub in-all : InSession mid sim.chip
+    pub in-all : InSession mid sim
     in-all = come_all.within
 
     sent_all : all_sent ≡ sent_in_round round
@@ -262,7 +264,7 @@ module _ (round : Round) (old : CoreState) (sim : Sim) (replay : Replayed) (read
         by (inr at) =
             let one : restarts_due mid.warm ≡ 1 = ap restarts_due (same ∙ at) in
             let count = count_all in
-            record { more = 1; count = omega (arith, count, one); behind = inr (refl, suspect-now old.log.marks old.warm (warm-after old sim.chip ready.ready.within) at); least = least }
+            record { more = 1; count = omega (arith, count, one); behind = inr (refl, suspect-now old.log.marks old.warm (warm-after old sim ready.ready.within) at); least = least }
 
     restarted_all : HasRestarted round old.log.marks since_all.marks mid.warm
     restarted_all = by has_all.warm
@@ -274,22 +276,22 @@ module _ (round : Round) (old : CoreState) (sim : Sim) (replay : Replayed) (read
             let count = count_all in
             record { more = 0; count = omega (arith, count, none); behind = inl refl; least = omega (arith, count) }
 
-    module _ (new : CoreState) (sim' : Sim) where
-      pub follows-new : MakesMore mid in-all.session new sim'.chip → IsReplayOf replay sim'.chip.effects
+    module _ (new : CoreState) (sim' : ChipState) where
+      pub follows-new : MakesMore mid in-all.session new sim' → IsReplayOf replay sim'.effects
       follows-new more =
-          let grown = effects-grow mid new sim.chip sim'.chip in-all more in
-          subst (IsReplayOf replay) (sym grown.1) (IsReplayOf-append replay sim.chip.effects grown.0 ready.follows)
+          let grown = effects-grow mid new sim sim' in-all more in
+          subst (IsReplayOf replay) (sym grown.1) (IsReplayOf-append replay sim.effects grown.0 ready.follows)
 
       -- nor a write taken
-      pub told-new : (t : Told) → IsToldOf t old.log.taken → MakesMore mid in-all.session new sim'.chip → IsToldOf t new.log.taken
+      pub told-new : (t : Told) → IsToldOf t old.log.taken → MakesMore mid in-all.session new sim' → IsToldOf t new.log.taken
       told-new t told more =
-          let grown = taken-grow mid new sim.chip sim'.chip in-all more in
+          let grown = taken-grow mid new sim sim' in-all more in
           told-more t mid.log.taken grown.0 new.log.taken (told-more t old.log.taken since_all.sent mid.log.taken told (ap (λ (h : History). h.taken) come_all.log)) grown.1
 
       -- no mark is lost
-      pub marks-longer : MakesMore mid in-all.session new sim'.chip → length old.log.marks ≤ length new.log.marks
+      pub marks-longer : MakesMore mid in-all.session new sim' → length old.log.marks ≤ length new.log.marks
       marks-longer more =
-          let grown = marks-grow mid new sim.chip sim'.chip in-all more in
+          let grown = marks-grow mid new sim sim' in-all more in
           let same = ap (λ (h : History). length h.marks) come_all.log in
           let longer = length-append old.log.marks since_all.marks in
           let later = length-append mid.log.marks grown.0 in
@@ -301,23 +303,24 @@ module _ (round : Round) (old : CoreState) (sim : Sim) (replay : Replayed) (read
         now : mid.warm ≡ warm.Reconciled
         now = same ∙ at
 
-        alike : IsInRound old sim.chip all_sent mid
+        alike : IsInRound old sim all_sent mid
         alike =
-            subst (IsInRound old sim.chip all_sent) (sym is)
-            (in-round effects old sim.chip [] (acts_made [] (acts_in round.sections)) old (round-begins old sim.chip (ready.ready.between at)) none (on_then (acts_in round.sections) [] none_left is))
+            subst (IsInRound old sim all_sent) (sym is)
+            (in-round effects old sim [] (acts_made [] (acts_in round.sections)) old (round-begins old sim (ready.ready.between at)) none (on_then (acts_in round.sections) [] none_left is))
 
         abbrev since_plain : Ran
         since_plain = since_made [] all_sent
 
-        abbrev plain : HasCome old sim.chip since_plain mid sim.chip
+        abbrev plain : HasCome old sim since_plain mid sim
         plain = record {
           log = alike.log ∙ ap (λ ms. record { taken = old.log.taken ++ all_sent; marks = ms; ends = old.log.ends }) (sym (append-nil old.log.marks));
-          calls = sym (append-nil sim.chip.effects);
+          calls = sym (append-nil sim.effects);
           way = tt;
+          fenced = tt;
           within = alike.within;
           same = record { plan = ap (λ (b : BoardState). b.plan) alike.board; capacities = ap (λ (z : SyncState). z.capacities) alike.sync; limit = has_all.same.limit };
           limit = within_mid;
-          faults = subst (λ (h : History). FaultsRise 0 h.marks sim.chip.faults) (sym alike.log) ready.faults;
+          faults = subst (λ (h : History). FaultsRise 0 h.marks sim.faults) (sym alike.log) ready.faults;
         }
 
         restarted_plain : HasRestarted round old.log.marks [] mid.warm
@@ -326,30 +329,33 @@ module _ (round : Round) (old : CoreState) (sim : Sim) (replay : Replayed) (read
             let count : restarts_in round.sections ≡ 0 = sym (restarts-made round) ∙ none in
             record { more = 0; count = omega (arith, due, count); behind = inl refl; least = omega (arith, count) }
 
-        plain-settled : SettlesWhole plain.within.session mid sim.chip new sim'.chip → IsOver round old sim status.Done new sim'
+        plain-settled : SettlesWhole plain.within.session mid sim new sim' → IsOver round old sim status.Done new sim'
         plain-settled e =
-            let ends = round-ends old mid new sim.chip sim'.chip all_sent alike e.settles in
+            let ends = round-ends old mid new sim sim' all_sent alike e.settles in
             let leads = e.settles.leads in
             let log = ends.log ∙ ap (λ h. with_end (with_mark h ends.mark)) (sym alike.log) in
             let due : restarts_due mid.warm ≡ 0 = ap restarts_due now in
             let may : MayEndRound ends.mark.event = subst MayEndRound (sym ends.made.event_is) tt in
             let keeps : KeepsPlan mid new = record { plan = leads.plan; capacities = leads.capacities; limit = leads.limit } in
-            over-settled round old sim since_plain mid sim.chip plain sent_all restarted_plain due new sim' ends.mark may log ends.calls ends.effects ends.later.within keeps ends.made.waits ends.made.turns ends.made.event_is ends.later e.places e.keeps
-            (λ m single settled left. subst (λ x. EndsTurned old.board.plan old.sync.capacities (round_from old sim.chip all_sent ends.calls x)) (alone [] ends.mark m single).1
-            (record { made = ends.made; quiet = ends.quiet; drains = λ from least. round-drained old.board.plan old.sync.capacities (round_from old sim.chip all_sent ends.calls ends.mark) ends.made from least }))
-            (drained_none round old sim since_plain mid sim.chip plain sent_all restarted_plain due new sim' ends.mark may log ends.calls ends.effects ends.later.within keeps refl)
+            over-settled round old sim since_plain mid sim plain sent_all restarted_plain due new sim' ends.mark may log ends.calls ends.effects ends.later.within keeps ends.made.waits ends.made.turns ends.made.event_is ends.later e.places e.keeps
+            (record {
+              whole = λ m single settled left. subst (λ x. EndsTurned old.board.plan old.sync.capacities (round_from old sim all_sent ends.calls x)) (alone [] ends.mark m single).1
+                  (record { made = ends.made; quiet = ends.quiet; drains = λ from least. round-drained old.board.plan old.sync.capacities (round_from old sim all_sent ends.calls ends.mark) ends.made from least });
+              cut = λ m single bad left. absurd (unfailed ends.mark m ends.made.waits ends.made.turns ends.made.event_is (alone [] ends.mark m single).1 bad);
+            })
+            (drained_none round old sim since_plain mid sim plain sent_all restarted_plain due new sim' ends.mark may log ends.calls ends.effects ends.later.within keeps refl)
 
-        plain-over : (r : Result Settled OutOfMemory) (ended : Status) → round_ended r ≡ Ok ended → Settles plain.within.session mid sim.chip r new sim'.chip → ArePendingInOrder new.tables.waiting → IsOver round old sim ended new sim'
-        plain-over r ended same e order = ends-over round old sim since_plain mid sim.chip plain sent_all restarted_plain new sim' now plain-settled r ended same e order
+        plain-over : (r : Result Settled OutOfMemory) (ended : Status) → round_ended r ≡ Ok ended → Settles plain.within.session mid sim r new sim' → ArePendingInOrder new.tables.waiting → IsOver round old sim ended new sim'
+        plain-over r ended same e order = ends-over round old sim since_plain mid sim plain sent_all restarted_plain new sim' now plain-settled (λ failed calls grown none left mark. cut-failed old sim all_sent mid alike new sim' failed.0 calls grown mark) r ended same e order
 
-        plain-stopped : (r : Result Settled OutOfMemory) (ended : Status) → round_ended r ≡ Err ended → Settles plain.within.session mid sim.chip r new sim'.chip → IsStopped round old sim ended new sim'
-        plain-stopped r ended same e = ends-stopped round old sim since_plain mid sim.chip plain sent_all restarted_plain new sim' now r ended same e
+        plain-stopped : (r : Result Settled OutOfMemory) (ended : Status) → round_ended r ≡ Err ended → Settles plain.within.session mid sim r new sim' → IsStopped round old sim ended new sim'
+        plain-stopped r ended same e = ends-stopped round old sim since_plain mid sim plain sent_all restarted_plain new sim' now r ended same e
 
       -- ---- any core
 
       -- what the core's settling comes to, for any session that core and chip stand for
       abbrev pub SettlesSo : Result Settled OutOfMemory → Type 0
-      SettlesSo r = (s : LoggedService) → IsServiceOf mid sim.chip s → SettlesFrom s mid sim.chip r new sim'.chip
+      SettlesSo r = (s : LoggedService) → IsServiceOf mid sim s → SettlesFrom s mid sim r new sim'
 
       by_warm : {P : Type 0} → ((none : restarts_then (acts_in round.sections) [] none_left is ≡ 0) → mid.warm ≡ old.warm → old.warm ≡ warm.Reconciled → P) → (1 ≤ restarts_marked since_all.marks + restarts_due mid.warm → is_unrestored mid.warm ≡ true → P) → P
       by_warm {P} reconciled other = by has_all.warm ready.ready.warm
@@ -364,19 +370,19 @@ module _ (round : Round) (old : CoreState) (sim : Sim) (replay : Replayed) (read
           by_warm
           (λ none alike at.
           let x = plain none alike at in
-          plain-over none alike at r ended same (settles_as_ever x.within.session mid sim.chip new sim'.chip r (alike ∙ at) (e x.within.session x.within.stands)) order)
-          (λ some out. from-over round old sim since_all mid sim.chip come_all sent_all restarted_all new sim' some out r ended same (e come_all.within.session come_all.within.stands) order)
+          plain-over none alike at r ended same (settles_as_ever x.within.session mid sim new sim' r (alike ∙ at) (e x.within.session x.within.stands)) order)
+          (λ some out. from-over round old sim since_all mid sim come_all sent_all restarted_all new sim' refl some out r ended same (e come_all.within.session come_all.within.stands) order)
 
       pub run-stopped : (r : Result Settled OutOfMemory) (ended : Status) → round_ended r ≡ Err ended → SettlesSo r → IsStopped round old sim ended new sim'
       run-stopped r ended same e =
           by_warm
           (λ none alike at.
           let x = plain none alike at in
-          plain-stopped none alike at r ended same (settles_as_ever x.within.session mid sim.chip new sim'.chip r (alike ∙ at) (e x.within.session x.within.stands)))
-          (λ some out. from-stopped round old sim since_all mid sim.chip come_all sent_all restarted_all new sim' some out r ended same (e come_all.within.session come_all.within.stands))
+          plain-stopped none alike at r ended same (settles_as_ever x.within.session mid sim new sim' r (alike ∙ at) (e x.within.session x.within.stands)))
+          (λ some out. from-stopped round old sim since_all mid sim come_all sent_all restarted_all new sim' refl some out r ended same (e come_all.within.session come_all.within.stands))
 
-      -- it leaves quiet rows alone: where no mark was made, it neither restarted nor follows a fault, and so its calls are those of a settling as ever
-      module _ (r : Result Settled OutOfMemory) (e : SettlesSo r) (stops : StopsRound round old sim new sim') (empty : stops.since.marks ≡ []) (settled : LeavesSettled (mark_of old)) where
+      -- where no mark was made, it neither restarted nor follows a fault, and so its calls are those of a settling as ever, so far, and leave quiet rows alone
+      module _ (r : Result Settled OutOfMemory) (e : SettlesSo r) (stops : StopsRound round old sim new sim') (empty : stops.since.marks ≡ []) (leaves : LeavesSettled (mark_of old)) where
         marks_same : length new.log.marks ≡ length old.log.marks
         marks_same = ap (λ (h : History). length h.marks) stops.come.log ∙ ap (λ l. length (old.log.marks ++ l)) empty ∙ ap length (append-nil old.log.marks)
 
@@ -384,7 +390,7 @@ module _ (round : Round) (old : CoreState) (sim : Sim) (replay : Replayed) (read
         unrestarted some =
             let longer = length-append old.log.marks since_all.marks in
             let made : length mid.log.marks ≡ length (old.log.marks ++ since_all.marks) = ap (λ (h : History). length h.marks) come_all.log in
-            let grown = marks-grow mid new sim.chip sim'.chip in-all (settle_serves in-all.session mid sim.chip r new sim'.chip (e in-all.session in-all.stands)) in
+            let grown = marks-grow mid new sim sim' in-all (settle_serves in-all.session mid sim r new sim' (e in-all.session in-all.stands)) in
             let later = ap length grown.1 ∙ length-append mid.log.marks grown.0 in
             let few = restarts_few since_all.marks in
             let count = has_all.count in
@@ -392,20 +398,20 @@ module _ (round : Round) (old : CoreState) (sim : Sim) (replay : Replayed) (read
             omega (arith, some, longer, made, later, few, count, same)
 
         module _ (none : restarts_then (acts_in round.sections) [] none_left is ≡ 0) (same : mid.warm ≡ old.warm) (at : old.warm ≡ warm.Reconciled) where
-          begun : IsInRound old sim.chip all_sent mid
+          begun : IsInRound old sim all_sent mid
           begun = alike none same at
 
-          more : MakesMore mid begun.within.session new sim'.chip
-          more = settle_serves begun.within.session mid sim.chip r new sim'.chip (e begun.within.session begun.within.stands)
+          more : MakesMore mid begun.within.session new sim'
+          more = settle_serves begun.within.session mid sim r new sim' (e begun.within.session begun.within.stands)
 
-          taken_by : new.log.taken ≡ mid.log.taken ++ (taken-grow mid new sim.chip sim'.chip begun.within more).0
-          taken_by = (taken-grow mid new sim.chip sim'.chip begun.within more).1
+          taken_by : new.log.taken ≡ mid.log.taken ++ (taken-grow mid new sim sim' begun.within more).0
+          taken_by = (taken-grow mid new sim sim' begun.within more).1
 
           sent_is : all_sent ≡ stops.since.sent
           sent_is =
-              front_all old.log.taken all_sent stops.since.sent stops.rest (taken-grow mid new sim.chip sim'.chip begun.within more).0
+              front_all old.log.taken all_sent stops.since.sent stops.rest (taken-grow mid new sim sim' begun.within more).0
               (sent_all ∙ stops.front)
-              (sym (ap (λ (h : History). h.taken) stops.come.log) ∙ taken_by ∙ ap (λ (h : History). h.taken ++ (taken-grow mid new sim.chip sim'.chip begun.within more).0) begun.log)
+              (sym (ap (λ (h : History). h.taken) stops.come.log) ∙ taken_by ∙ ap (λ (h : History). h.taken ++ (taken-grow mid new sim sim' begun.within more).0) begun.log)
 
           log_same : new.log ≡ mid.log
           log_same =
@@ -415,38 +421,69 @@ module _ (round : Round) (old : CoreState) (sim : Sim) (replay : Replayed) (read
               ∙ ap (λ l. record { taken = old.log.taken ++ all_sent; marks = l; ends = old.log.ends }) (append-nil old.log.marks)
               ∙ sym begun.log
 
-          quiet_plain : (mark : Mark) → LeavesQuietRows old.board.plan (round_at (mark_of old) old.log.taken sim.chip.effects stops.since mark)
+          quiet_plain : (mark : Mark) → LeavesQuietRows old.board.plan (round_at (mark_of old) old.log.taken sim.effects stops.since mark)
           quiet_plain mark =
-              subst (λ l. LeavesQuietRows old.board.plan (record { before = mark_of old; taken = old.log.taken; effects = sim.chip.effects; sent = l; calls = stops.since.calls; mark = mark })) sent_is
-              (subst (λ (b : BoardState). LeavesQuietRows b.plan (round_from old sim.chip all_sent stops.since.calls mark)) begun.board
-              (quiet-so-far old mid new sim.chip sim'.chip all_sent begun more log_same stops.since.calls stops.come.calls mark))
+              subst (λ l. LeavesQuietRows old.board.plan (record { before = mark_of old; taken = old.log.taken; effects = sim.effects; sent = l; calls = stops.since.calls; mark = mark })) sent_is
+              (subst (λ (b : BoardState). LeavesQuietRows b.plan (round_from old sim all_sent stops.since.calls mark)) begun.board
+              (quiet-so-far old mid new sim sim' all_sent begun more log_same stops.since.calls stops.come.calls mark))
 
-        quiet_by : (mark : Mark) → LeavesQuietRows old.board.plan (round_at (mark_of old) old.log.taken sim.chip.effects stops.since mark)
-        quiet_by mark = by has_all.warm ready.ready.warm
+          -- no mark was made
+          unmarked : (xs : List Mark) (mark : Mark) → new.log.marks ≡ xs ++ mark ∷ [] → length xs ≡ length old.log.marks → ⊥
+          unmarked xs mark made long =
+              let one = ap length made ∙ length-append xs (mark ∷ []) in
+              let count = marks_same in
+              omega (arith, one, long, count)
+
+          marks_begun : length mid.log.marks ≡ length old.log.marks
+          marks_begun = ap (λ (h : History). length h.marks) begun.log
+
+          so_far_plain : (a : Result Settled OutOfMemory) → Settles begun.within.session mid sim a new sim' → (mark : Mark) → IsMadeSoFar old.board.plan old.sync.capacities (round_from old sim all_sent stops.since.calls mark)
+          so_far_plain (Ok settled.Settled) x mark =
+              let ends = round-ends old mid new sim sim' all_sent begun x.settles in
+              absurd (unmarked old.log.marks ends.mark (ap (λ (h : History). h.marks) ends.log) refl)
+          so_far_plain (Ok settled.Faulted) x mark = absurd (unmarked mid.log.marks (mark_at mid (length sim'.effects) (event.Faulted sim.faults sim'.faults)) (ap (λ (h : History). h.marks) x.0.marks.log) marks_begun)
+          so_far_plain (Ok settled.LogFull) (inl x) mark = cut-stopped old sim all_sent mid begun x.then x.calls x.so sim' x.effects stops.since.calls stops.come.calls mark
+          so_far_plain (Ok settled.LogFull) (inr x) mark = cut-stopped old sim all_sent mid begun x.later.service.core x.calls x.so sim' x.effects stops.since.calls stops.come.calls mark
+          so_far_plain (Err wanting) x mark = cut-stopped old sim all_sent mid begun x.then x.calls x.so sim' x.effects stops.since.calls stops.come.calls mark
+
+          so_far_since : (mark : Mark) → IsMadeSoFar old.board.plan old.sync.capacities (round_at (mark_of old) old.log.taken sim.effects stops.since mark)
+          so_far_since mark =
+              subst (λ l. IsMadeSoFar old.board.plan old.sync.capacities (round_from old sim l stops.since.calls mark)) sent_is
+              (so_far_plain r (settles_as_ever begun.within.session mid sim new sim' r (same ∙ at) (e begun.within.session begun.within.stands)) mark)
+
+        -- by how it began
+        by_start : {P : Type 0} → ((none : restarts_then (acts_in round.sections) [] none_left is ≡ 0) → mid.warm ≡ old.warm → old.warm ≡ warm.Reconciled → P) → P
+        by_start {P} reconciled = by has_all.warm ready.ready.warm
           where
-            by : ((restarts_then (acts_in round.sections) [] none_left is ≡ 0) × (mid.warm ≡ old.warm)) ⊎ ((1 ≤ restarts_then (acts_in round.sections) [] none_left is) × (mid.warm ≡ warm.Initialized)) → (old.warm ≡ warm.Reconciled) ⊎ (old.warm ≡ warm.Suspect) → LeavesQuietRows old.board.plan (round_at (mark_of old) old.log.taken sim.chip.effects stops.since mark)
-            by (inl (none, same)) (inl at) = quiet_plain none same at mark
-            by (inl (none, same)) (inr at) = absurd (unsettled old.log.marks (suspect-now old.log.marks old.warm (warm-after old sim.chip ready.ready.within) at) settled)
+            by : ((restarts_then (acts_in round.sections) [] none_left is ≡ 0) × (mid.warm ≡ old.warm)) ⊎ ((1 ≤ restarts_then (acts_in round.sections) [] none_left is) × (mid.warm ≡ warm.Initialized)) → (old.warm ≡ warm.Reconciled) ⊎ (old.warm ≡ warm.Suspect) → P
+            by (inl (none, same)) (inl at) = reconciled none same at
+            by (inl (none, same)) (inr at) = absurd (unsettled old.log.marks (suspect-now old.log.marks old.warm (warm-after old sim ready.ready.within) at) leaves)
             by (inr (some, at)) warms = absurd (unrestarted some)
 
-      pub run-quiet : (r : Result Settled OutOfMemory) → SettlesSo r → (stops : StopsRound round old sim new sim') → IsSinceQuiet old.board.plan (mark_of old) old.log.taken sim.chip.effects stops.since
-      run-quiet r e stops empty settled mark = quiet_by r e stops empty settled mark
+        quiet_by : (mark : Mark) → LeavesQuietRows old.board.plan (round_at (mark_of old) old.log.taken sim.effects stops.since mark)
+        quiet_by mark = by_start (λ none same at. quiet_plain none same at mark)
+
+        so_far_by : (mark : Mark) → IsMadeSoFar old.board.plan old.sync.capacities (round_at (mark_of old) old.log.taken sim.effects stops.since mark)
+        so_far_by mark = by_start (λ none same at. so_far_since none same at mark)
+
+      pub run-turned : (r : Result Settled OutOfMemory) → SettlesSo r → (stops : StopsRound round old sim new sim') → IsSinceTurned old.board.plan old.sync.capacities (mark_of old) old.log.taken sim.effects stops.since
+      run-turned r e stops = record { so_far = λ empty settled mark. so_far_by r e stops empty settled mark; quiet = λ empty settled mark. quiet_by r e stops empty settled mark }
 
       -- steps of the service led there
-      pub more-all : (r : Result Settled OutOfMemory) → SettlesSo r → MakesMore mid in-all.session new sim'.chip
-      more-all r e = settle_serves in-all.session mid sim.chip r new sim'.chip (e in-all.session in-all.stands)
+      pub more-all : (r : Result Settled OutOfMemory) → SettlesSo r → MakesMore mid in-all.session new sim'
+      more-all r e = settle_serves in-all.session mid sim r new sim' (e in-all.session in-all.stands)
 
 -- ---- what is written
 
 -- a round that did not end writes nothing
-pub run-halted : (round : Round) (old : CoreState) (sim : Sim) (new : CoreState) (sim' : Sim) (ended : Status) (number : ℕ) (held : Option (List ℕ)) (faults : ℕ) (replay' : Replayed) → IsStopped round old sim ended new sim' → ((stops : StopsRound round old sim new sim') → IsSinceQuiet old.board.plan (mark_of old) old.log.taken sim.chip.effects stops.since) → IsRoundRun number round old sim held faults ended new sim' replay' held faults
-run-halted round old sim new sim' ended number held faults replay' (inl (same, (stops, full, many))) quiet = subst (λ x. IsRoundRun number round old sim held faults x new sim' replay' held faults) (sym same) ((stops, quiet stops), full, many, refl)
-run-halted round old sim new sim' ended number held faults replay' (inr (same, stops)) quiet = subst (λ x. IsRoundRun number round old sim held faults x new sim' replay' held faults) (sym same) (inl ((stops, quiet stops), refl))
+pub run-halted : (round : Round) (old : CoreState) (sim : ChipState) (new : CoreState) (sim' : ChipState) (ended : Status) (number : ℕ) (held : Option (List ℕ)) (faults : ℕ) (replay' : Replayed) → IsStopped round old sim ended new sim' → ((stops : StopsRound round old sim new sim') → IsSinceTurned old.board.plan old.sync.capacities (mark_of old) old.log.taken sim.effects stops.since) → IsRoundRun number round old sim held faults ended new sim' replay' held faults
+run-halted round old sim new sim' ended number held faults replay' (inl (same, (stops, full, many))) turned = subst (λ x. IsRoundRun number round old sim held faults x new sim' replay' held faults) (sym same) ((stops, turned stops), full, many, refl)
+run-halted round old sim new sim' ended number held faults replay' (inr (same, stops)) turned = subst (λ x. IsRoundRun number round old sim held faults x new sim' replay' held faults) (sym same) (inl ((stops, turned stops), refl))
 
-module _ (round : Round) (old : CoreState) (sim : Sim) (replay : Replayed) (ready : IsRunReady old sim replay) (ended : Status) (new : CoreState) (sim' : Sim) (over : IsOver round old sim ended new sim') where
+module _ (round : Round) (old : CoreState) (sim : ChipState) (replay : Replayed) (ready : IsRunReady old sim replay) (ended : Status) (new : CoreState) (sim' : ChipState) (over : IsOver round old sim ended new sim') where
   -- what stands when the round has ended, as its lines are asked for
   abbrev pub ended_now : ℕ → Rows → Ended
-  ended_now number rows = record { plan = new.board.plan; number = number; marks = drop (length old.log.marks) new.log.marks; taken = length new.log.taken; rows = rows; capacities = sim'.chip.capacities; objects = sim'.chip.objects; effects = sim'.chip.effects }
+  ended_now number rows = record { plan = new.board.plan; number = number; marks = drop (length old.log.marks) new.log.marks; taken = length new.log.taken; rows = rows; capacities = sim'.capacities; objects = sim'.objects; effects = sim'.effects }
 
   module _ (number : ℕ) (counted : 0 < number) (rows : Rows) (told : rows ≡ rows_of (sent_writes new.log.taken)) where
     has-lines : (lines : List ℕ) → IsRoundText (ended_now number rows) replay.at round.shows lines → HasLines number round old sim over.ran lines
@@ -456,14 +493,14 @@ module _ (round : Round) (old : CoreState) (sim : Sim) (replay : Replayed) (read
       text =
           text-as round.shows lines
           new.board.plan old.board.plan number (number - 1 + 1) (drop (length old.log.marks) new.log.marks) over.ran.marks (length new.log.taken) (length (old.log.taken ++ over.ran.sent)) rows (rows_of (sent_writes (old.log.taken ++ over.ran.sent)))
-          sim'.chip.capacities old.sync.capacities sim'.chip.objects (chip_after (sim.chip.effects ++ over.ran.calls) (length (sim.chip.effects ++ over.ran.calls))) sim'.chip.effects (sim.chip.effects ++ over.ran.calls) replay.at (length sim.chip.effects)
+          sim'.capacities old.sync.capacities sim'.objects (chip_after (sim.effects ++ over.ran.calls) (length (sim.effects ++ over.ran.calls))) sim'.effects (sim.effects ++ over.ran.calls) replay.at (length sim.effects)
           over.ends.same.plan
           (omega (arith, counted))
           (ap (λ (h : History). drop (length old.log.marks) h.marks) over.ends.log ∙ drop-append_seam old.log.marks over.ran.marks)
           (ap (λ (h : History). length h.taken) over.ends.log)
           (told ∙ ap (λ (h : History). rows_of (sent_writes h.taken)) over.ends.log)
           (over.ends.within.stands.always.capacities ∙ over.ends.same.capacities)
-          (objects-left new sim'.chip over.ends.within ∙ ap (λ l. chip_after l (length l)) over.ends.calls)
+          (objects-left new sim' over.ends.within ∙ ap (λ l. chip_after l (length l)) over.ends.calls)
           over.ends.calls
           ready.at_end
           text;
@@ -473,7 +510,7 @@ module _ (round : Round) (old : CoreState) (sim : Sim) (replay : Replayed) (read
       as_result : (status : Status) → result ≡ status → IsRoundRun number round old sim held faults status new sim' replay' held' faults' → IsRoundRun number round old sim held faults result new sim' replay' held' faults'
       as_result status is = subst (λ r. IsRoundRun number round old sim held faults r new sim' replay' held' faults') (sym is)
 
-      ready_then : IsReplayOf replay' sim'.chip.effects → replay'.at ≡ length sim'.chip.effects → IsRunReady new sim' replay'
+      ready_then : IsReplayOf replay' sim'.effects → replay'.at ≡ length sim'.effects → IsRunReady new sim' replay'
       ready_then follows at = record { ready = over.ready; follows = follows; at_end = at; places = over.ends.places; faults = over.ends.faults }
 
       pub run-written : IsWritten (ended_now number rows) replay.at round.shows ended held faults result replay' held' faults' → IsRoundRun number round old sim held faults result new sim' replay' held' faults'

@@ -13,7 +13,7 @@ use Rattle.swss_script.specs.Sent.{sent_in_round}
 use Rattle.swss_script.specs.declared.parts.Round.{Round}
 use Rattle.swss_report.specs.Round.{IsRoundText}
 use Rattle.swss_run.specs.Restarts.{AreRestarted, HasFewRestarts, HasRestarts}
-use Rattle.swss_run.specs.Rounds.{AreTaken, EndAtMarks, EndsAtMark, IsReportFrom, Ran, AreEndsRising, all_calls, all_marks, all_sent, ends_from, round_end}
+use Rattle.swss_run.specs.Rounds.{AreFenced, AreTaken, EndAtMarks, EndsAtMark, IsReportFrom, Ran, AreEndsRising, all_calls, all_marks, all_sent, ends_from, round_end}
 use Rattle.swss_run.specs.Turned.{AreDrained, AreTurned, DrainsBehind, IsRoundTurned}
 use Rattle.swss_run.proofs.Counting.{suspect-behind}
 
@@ -32,9 +32,13 @@ ends-more n (r ∷ rans) ran =
     ap (λ l. (n + length r.marks) ∷ l)
     (ends-more (n + length r.marks) rans ran ∙ ap (λ m. ends_from (n + length r.marks) rans ++ m ∷ []) (omega (arith, length-append r.marks (all_marks rans))))
 
+-- fences between the same numbers, said in other words
+fenced-at : (marks : List Mark) (from from' to to' calls calls' : ℕ) → from ≡ from' → to ≡ to' → calls ≡ calls' → AreFenced from to calls marks → AreFenced from' to' calls' marks
+fenced-at marks from from' to to' calls calls' froms tos callses h = subst (λ n. AreFenced n to' calls' marks) froms (subst (λ n. AreFenced from n calls' marks) tos (subst (λ n. AreFenced from to n marks) callses h))
+
 pub at_marks-more : (sent calls : ℕ) (rans : List Ran) (ran : Ran) → EndAtMarks sent calls rans → EndsAtMark (sent + length (all_sent rans)) (calls + length (all_calls rans)) ran → EndAtMarks sent calls (rans ++ ran ∷ [])
 at_marks-more sent calls [] ran tt one = (
-  record { before = one.before; mark = one.mark; marks = one.marks; way = one.way; settling = one.settling; taken = omega (arith, one.taken); effects = omega (arith, one.effects) },
+  record { before = one.before; mark = one.mark; marks = one.marks; way = one.way; fenced = fenced-at one.before (sent + 0) sent (sent + 0 + length ran.sent) (sent + length ran.sent) (calls + 0) calls (omega arith) (omega arith) (omega arith) one.fenced; settling = one.settling; taken = omega (arith, one.taken); effects = omega (arith, one.effects) },
   tt,
 )
 at_marks-more sent calls (r ∷ rans) ran (first, more) one = (
@@ -44,6 +48,11 @@ at_marks-more sent calls (r ∷ rans) ran (first, more) one = (
     mark = one.mark;
     marks = one.marks;
     way = one.way;
+    fenced = fenced-at one.before
+        (sent + length (all_sent (r ∷ rans))) (sent + length r.sent + length (all_sent rans))
+        (sent + length (all_sent (r ∷ rans)) + length ran.sent) (sent + length r.sent + length (all_sent rans) + length ran.sent)
+        (calls + length (all_calls (r ∷ rans))) (calls + length r.calls + length (all_calls rans))
+        (omega (arith, length-append r.sent (all_sent rans))) (omega (arith, length-append r.sent (all_sent rans))) (omega (arith, length-append r.calls (all_calls rans))) one.fenced;
     settling = one.settling;
     taken = omega (arith, one.taken, length-append r.sent (all_sent rans));
     effects = omega (arith, one.effects, length-append r.calls (all_calls rans));

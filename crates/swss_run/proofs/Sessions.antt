@@ -11,7 +11,6 @@ use Rattle.sai_types.specs.declared.ids.Rid.{Rid}
 use Rattle.sai_types.specs.declared.body.Call.{Call}
 use Rattle.sai_chip.specs.Replay.{IsReplayOf, Replayed, new_replay}
 use Rattle.sai_chip.proofs.Replays.{IsReplayOf-new}
-use Rattle.sai_chip.specs.Sim.{Sim}
 use Rattle.switch_model.specs.History.{History, log_size, no_history}
 use Rattle.switch_model.specs.Promises.{EffectsAreLegal, MarksAreTrue}
 use Rattle.switch_model.specs.Sound.{is_suspect}
@@ -26,7 +25,7 @@ use Rattle.round_laws.specs.Sessions.{InSession}
 use Rattle.round_laws.proofs.Awaited.{session-recorded}
 use Rattle.round_laws.proofs.Bounded.{all-few}
 use Rattle.round_laws.proofs.Ready.{ready-first}
-use Rattle.round_laws.proofs.Sessions.{applies-followed, counts-within, effects-legal, log-ordered, marks-true, outside-few-of, sized}
+use Rattle.round_laws.proofs.Sessions.{applies-followed, counts-within, effects-legal, log-ordered, marks-true, objects-left, outside-few-of, sized}
 use Rattle.swss_script.specs.Sent.{sent_in_round}
 use Rattle.swss_script.specs.declared.parts.Round.{Round}
 use Rattle.swss_report.specs.Round.{IsRoundText}
@@ -34,14 +33,14 @@ use Rattle.swss_run.specs.Faults.{FaultsRise, places_beside}
 use Rattle.swss_run.specs.Full.{IsFull}
 use Rattle.swss_run.specs.Output.{TakesFront, TakesPart}
 use Rattle.swss_run.specs.Restarts.{AreRestarted, HasFewRestarts, HasRestarts}
-use Rattle.swss_run.specs.Rounds.{AreTaken, EndsAtMark, IsCutInRounds, IsReport, Ran, AreEndsRising, all_calls, all_marks, all_sent, ends_from, nothing_ran, round_end}
-use Rattle.swss_run.specs.Running.{EndsRound, HasLines, IsRunReady, IsRoundRun, KeepsPlan, StopsQuietly, StopsRound}
+use Rattle.swss_run.specs.Rounds.{AreEndsRising, AreFenced, AreTaken, EndsAtMark, IsCutInRounds, IsReport, Ran, all_calls, all_marks, all_sent, ends_from, nothing_ran, round_end}
+use Rattle.swss_run.specs.Running.{EndsRound, HasLines, IsRunReady, IsRoundRun, KeepsPlan, StopsInTurns, StopsRound}
 use Rattle.swss_run.specs.Session.{HasEnded, IsReported, IsSession, TookFront, TookPart, TookReport, log_limit}
-use Rattle.swss_run.specs.Turned.{AreDrained, AreTurned, DrainsBehind, IsRoundTurned, IsSinceQuiet}
+use Rattle.swss_run.specs.Turned.{AreDrained, AreTurned, DrainsBehind, IsRoundTurned, IsSinceTurned}
 use Rattle.swss_run.specs.declared.status.Status.{Status}
 use Rattle.swss_run.specs.declared.status.Status.TheVariants as status
 use Rattle.swss_run.proofs.Pieces.{Takes-trans}
-use Rattle.swss_run.proofs.Breaks.{steady-breaks}
+use Rattle.restart_laws.proofs.BrokenOff.{steady-breaks}
 use Rattle.swss_run.proofs.OnWay.{same-trans}
 use Rattle.swss_run.proofs.Over.{IsEndedAs}
 use Rattle.swss_run.proofs.Rounds.{at_marks-more, calls-more, drained-more, ends-more, ends-rise, marks-more, report-more, restarted-more, restarted-none, restarted-since, sent-more, suspect-rounds, suspect_then, taken-more, taken-since, turned-more}
@@ -78,11 +77,11 @@ part-more a b c text lines took (n, few, next) = (
 
 -- ---- one round more
 
-module _ (round : Round) (old : CoreState) (sim : Sim) (ran : Ran) (new : CoreState) (sim' : Sim) (ends : EndsRound round old sim ran new sim') (rans : List Ran) (cut : IsCutInRounds old.log sim.chip.effects rans nothing_ran) where
+module _ (round : Round) (old : CoreState) (sim : ChipState) (ran : Ran) (new : CoreState) (sim' : ChipState) (ends : EndsRound round old sim ran new sim') (rans : List Ran) (cut : IsCutInRounds old.log sim.effects rans nothing_ran) where
   taken_were : old.log.taken ≡ all_sent rans
   taken_were = cut.taken ∙ append-nil (all_sent rans)
 
-  effects_were : sim.chip.effects ≡ all_calls rans
+  effects_were : sim.effects ≡ all_calls rans
   effects_were = cut.effects ∙ append-nil (all_calls rans)
 
   at_mark : EndsAtMark (0 + length (all_sent rans)) (0 + length (all_calls rans)) ran
@@ -91,9 +90,10 @@ module _ (round : Round) (old : CoreState) (sim : Sim) (ran : Ran) (new : CoreSt
     mark = ends.mark;
     marks = ends.marks;
     way = ends.way;
+    fenced = subst (λ n. AreFenced n (n + length ran.sent) (0 + length (all_calls rans)) ends.before) (omega (arith, ap length taken_were)) (subst (λ n. AreFenced (length old.log.taken) (length old.log.taken + length ran.sent) n ends.before) (omega (arith, ap length effects_were)) ends.fenced);
     settling = ends.settling;
     taken = omega (arith, ends.taken, length-append old.log.taken ran.sent, ap length taken_were);
-    effects = omega (arith, ends.effects, length-append sim.chip.effects ran.calls, ap length effects_were);
+    effects = omega (arith, ends.effects, length-append sim.effects ran.calls, ap length effects_were);
   }
 
   marks_were : old.log.marks ≡ all_marks rans
@@ -102,7 +102,7 @@ module _ (round : Round) (old : CoreState) (sim : Sim) (ran : Ran) (new : CoreSt
   count_were : length old.log.marks + length ran.marks ≡ 0 + length (all_marks rans) + length ran.marks
   count_were = let same = ap length marks_were in omega (arith, same)
 
-  cut-more : IsCutInRounds new.log sim'.chip.effects (rans ++ ran ∷ []) nothing_ran
+  cut-more : IsCutInRounds new.log sim'.effects (rans ++ ran ∷ []) nothing_ran
   cut-more = record {
     marks = ap (λ (h : History). h.marks) ends.log ∙ ap (λ l. l ++ ran.marks) marks_were ∙ sym (marks-more rans ran) ∙ sym (append-nil (all_marks (rans ++ ran ∷ [])));
     ends = ap (λ (h : History). h.ends) ends.log ∙ ap (λ l. l ++ length (old.log.marks ++ ran.marks) ∷ []) cut.ends ∙ ap (λ n. ends_from 0 rans ++ n ∷ []) (length-append old.log.marks ran.marks ∙ count_were) ∙ sym (ends-more 0 rans ran);
@@ -110,34 +110,35 @@ module _ (round : Round) (old : CoreState) (sim : Sim) (ran : Ran) (new : CoreSt
     effects = ends.calls ∙ ap (λ l. l ++ ran.calls) effects_were ∙ sym (calls-more rans ran) ∙ sym (append-nil (all_calls (rans ++ ran ∷ [])));
     at_marks = at_marks-more 0 0 rans ran cut.at_marks at_mark;
     way = tt;
+    fenced = tt;
   }
 
   report-longer : (number : ℕ) (plan : Ports) (capacities : List ℕ) (rounds : List Round) (text lines : List ℕ) → plan ≡ old.board.plan → capacities ≡ old.sync.capacities → slice_get rounds (length rans) ≡ Some round → number ≡ length rans + 1 → IsReport plan capacities rans rounds text → HasLines number round old sim ran lines → IsReport plan capacities (rans ++ ran ∷ []) rounds (text ++ lines)
   report-longer number plan capacities rounds text lines plan_is capacities_are at number_is told has =
-      report-more plan capacities 0 [] [] rans rounds text ran round lines has.before old.log.taken sim.chip.effects told at (omega (arith, number_is, has.number_is)) taken_were effects_were
-      (subst (λ p. IsRoundText (round_end p capacities has.before old.log.taken sim.chip.effects ran) (length sim.chip.effects) round.shows lines) (sym plan_is)
-      (subst (λ c. IsRoundText (round_end old.board.plan c has.before old.log.taken sim.chip.effects ran) (length sim.chip.effects) round.shows lines) (sym capacities_are) has.text))
+      report-more plan capacities 0 [] [] rans rounds text ran round lines has.before old.log.taken sim.effects told at (omega (arith, number_is, has.number_is)) taken_were effects_were
+      (subst (λ p. IsRoundText (round_end p capacities has.before old.log.taken sim.effects ran) (length sim.effects) round.shows lines) (sym plan_is)
+      (subst (λ c. IsRoundText (round_end old.board.plan c has.before old.log.taken sim.effects ran) (length sim.effects) round.shows lines) (sym capacities_are) has.text))
 
 -- ---- a session
 
 -- what holds between two rounds
-pub record IsRunning (rounds done : List Round) (first : CoreState) (held0 : Option (List ℕ)) (core : CoreState) (sim : Sim) (replay : Replayed) (held : Option (List ℕ)) : Type 0 where
+pub record IsRunning (rounds done : List Round) (first : CoreState) (held0 : Option (List ℕ)) (core : CoreState) (sim : ChipState) (replay : Replayed) (held : Option (List ℕ)) : Type 0 where
   pub ready : IsRunReady core sim replay
   pub same : KeepsPlan first core
   pub limit : first.limit ≡ log_limit
   pub rans : List Ran
-  pub cut : IsCutInRounds core.log sim.chip.effects rans nothing_ran
+  pub cut : IsCutInRounds core.log sim.effects rans nothing_ran
   pub many : length rans ≡ length done
   pub writes : AreTaken rans rounds []
   pub restarts : AreRestarted false rans rounds []
   pub turned : AreTurned first.board.plan first.sync.capacities None [] [] rans
   pub drained : AreDrained first.board.plan first.sync.capacities [] rans
   pub told : TookReport first.board.plan first.sync.capacities rans rounds held0 held
-  pub ended : HasEnded nothing_ran core.log sim.chip
+  pub ended : HasEnded nothing_ran core.log sim
 
 -- behind the last round there is no call
-quiet_none : (plan : Ports) (before : Option Mark) (taken : List Sent) (effects : List (Call Rid)) → IsSinceQuiet plan before taken effects nothing_ran
-quiet_none plan before taken effects none settled mark k row e at other stood call called changes = called
+turned_none : (plan : Ports) (capacities : List ℕ) (before : Option Mark) (taken : List Sent) (effects : List (Call Rid)) → IsSinceTurned plan capacities before taken effects nothing_ran
+turned_none plan capacities before taken effects = record { so_far = λ none settled mark. inl refl; quiet = λ none settled mark k row e at other stood call called changes. called }
 
 none_taken : (rounds : List Round) → AreTaken [] rounds []
 none_taken [] = refl
@@ -151,15 +152,15 @@ Takes-none (Some text) = ap Some (sym (append-nil text))
 pub replay-none : (effects : List (Call Rid)) (r : Replayed) → r ≡ new_replay → IsReplayOf r effects
 replay-none effects r is = subst (λ x. IsReplayOf x effects) (sym is) (IsReplayOf-new effects)
 
-pub running-none : (rounds : List Round) (first : CoreState) (sim : Sim) (held : Option (List ℕ)) (replay : Replayed) → first ≡ new_core first.board.plan first.sync.capacities log_limit → sim.chip ≡ new_chip first.sync.capacities sim.chip.fails → IsPlan first.board.plan → IsReplayOf replay sim.chip.effects → replay.at ≡ 0 → IsRunning rounds [] first held first sim replay held
+pub running-none : (rounds : List Round) (first : CoreState) (sim : ChipState) (held : Option (List ℕ)) (replay : Replayed) → first ≡ new_core first.board.plan first.sync.capacities log_limit → sim ≡ new_chip first.sync.capacities sim.fails → IsPlan first.board.plan → IsReplayOf replay sim.effects → replay.at ≡ 0 → IsRunning rounds [] first held first sim replay held
 running-none rounds first sim held replay new chip plan follows at = record {
   ready = record {
-    ready = subst (λ c. IsReadyForRound c sim.chip) (sym new)
-        (ready-first first.board.plan first.sync.capacities log_limit sim.chip plan (ap (λ (c : ChipState). c.objects) chip) (ap (λ (c : ChipState). c.effects) chip) (ap (λ (c : ChipState). c.clean) chip) (ap (λ (c : ChipState). c.capacities) chip));
+    ready = subst (λ c. IsReadyForRound c sim) (sym new)
+        (ready-first first.board.plan first.sync.capacities log_limit sim plan (ap (λ (c : ChipState). c.objects) chip) (ap (λ (c : ChipState). c.effects) chip) (ap (λ (c : ChipState). c.clean) chip) (ap (λ (c : ChipState). c.capacities) chip));
     follows = follows;
     at_end = at ∙ sym (ap (λ (c : ChipState). length c.effects) chip);
-    places = subst (λ (c : CoreState). log_size c.log (length sim.chip.effects) ≤ c.limit) (sym new) (subst (λ n. n ≤ log_limit) (sym (ap (λ (c : ChipState). log_size no_history (length c.effects)) chip)) (omega arith));
-    faults = subst (λ (c : CoreState). FaultsRise 0 c.log.marks sim.chip.faults) (sym new) (ap (λ (c : ChipState). c.faults) chip);
+    places = subst (λ (c : CoreState). log_size c.log (length sim.effects) ≤ c.limit) (sym new) (subst (λ n. n ≤ log_limit) (sym (ap (λ (c : ChipState). log_size no_history (length c.effects)) chip)) (omega arith));
+    faults = subst (λ (c : CoreState). FaultsRise 0 c.log.marks sim.faults) (sym new) (ap (λ (c : ChipState). c.faults) chip);
   };
   same = record { plan = refl; capacities = refl; limit = refl };
   limit = ap (λ (s : CoreState). s.limit) new;
@@ -171,6 +172,7 @@ running-none rounds first sim held replay new chip plan follows at = record {
     effects = ap (λ (c : ChipState). c.effects) chip;
     at_marks = tt;
     way = tt;
+    fenced = tt;
   };
   many = refl;
   writes = none_taken rounds;
@@ -185,19 +187,20 @@ running-none rounds first sim held replay new chip plan follows at = record {
 }
 
 -- no round ended yet
-pub ended-none : (first : CoreState) (sim : Sim) → first ≡ new_core first.board.plan first.sync.capacities log_limit → IsEndedAs status.Done first sim
+pub ended-none : (first : CoreState) (sim : ChipState) → first ≡ new_core first.board.plan first.sync.capacities log_limit → IsEndedAs status.Done first sim
 ended-none first sim new = inl (refl, ap (λ (s : CoreState). is_suspect s.log.marks) new)
 
 -- a session, from a core and a chip within one of the service
 session-from : (rounds : List Round) (ended : Status) (first core : CoreState) (chip : ChipState) (held held' : Option (List ℕ)) (rans : List Ran) (since : Ran)
-    → (within : InSession core chip) → KeepsPlan first core → log_size core.log (length chip.effects) ≤ log_limit → FaultsRise 0 core.log.marks chip.faults → IsCutInRounds core.log chip.effects rans since → AreTaken rans rounds since.sent → AreRestarted false rans rounds since.marks → AreTurned first.board.plan first.sync.capacities None [] [] rans → IsSinceQuiet first.board.plan (last_mark None (all_marks rans)) (all_sent rans) (all_calls rans) since → AreDrained first.board.plan first.sync.capacities [] rans
+    → (within : InSession core chip) → KeepsPlan first core → log_size core.log (length chip.effects) ≤ log_limit → FaultsRise 0 core.log.marks chip.faults → IsCutInRounds core.log chip.effects rans since → AreTaken rans rounds since.sent → AreRestarted false rans rounds since.marks → AreTurned first.board.plan first.sync.capacities None [] [] rans → IsSinceTurned first.board.plan first.sync.capacities (last_mark None (all_marks rans)) (all_sent rans) (all_calls rans) since → AreDrained first.board.plan first.sync.capacities [] rans
     → IsReported ended first.board.plan first.sync.capacities rounds rans since core.log chip within.session held held'
     → IsSession first.board.plan first.sync.capacities rounds ended core.log chip held held'
-session-from rounds ended first core chip held held' rans since within same places faults cut writes restarts turned quiet drained reported = record {
+session-from rounds ended first core chip held held' rans since within same places faults cut writes restarts turned since_turned drained reported = record {
   run = within.session;
   recorded = as_first (λ p c. HasRecorded p c core.log chip.effects within.session) (session-recorded core chip within);
   room = within.stands.always.capacities ∙ same.capacities;
   clean = within.stands.always.clean;
+  objects = objects-left core chip within;
   legality = as_first (λ p c. EffectsAreLegal p c core.log.taken chip.effects) (effects-legal core chip within);
   few = outside-few-of core chip within;
   all_few = all-few core chip within;
@@ -215,7 +218,7 @@ session-from rounds ended first core chip held held' rans since within same plac
   writes = writes;
   restarts = restarts;
   turned = turned;
-  quiet = quiet;
+  since_turned = since_turned;
   drained = drained;
   reported = reported;
 }
@@ -226,16 +229,16 @@ session-from rounds ended first core chip held held' rans since within same plac
     followed : AreFollowed first.board.plan first.sync.capacities core.log.taken chip.effects core.log.marks
     followed = as_first (λ p c. AreFollowed p c core.log.taken chip.effects core.log.marks) (applies-followed core chip within)
 
-module _ (rounds done : List Round) (first : CoreState) (held0 : Option (List ℕ)) (core : CoreState) (sim : Sim) (replay : Replayed) (held : Option (List ℕ)) (running : IsRunning rounds done first held0 core sim replay held) where
+module _ (rounds done : List Round) (first : CoreState) (held0 : Option (List ℕ)) (core : CoreState) (sim : ChipState) (replay : Replayed) (held : Option (List ℕ)) (running : IsRunning rounds done first held0 core sim replay held) where
   -- every round ended
-  pub session-done : (ended : Status) → length done ≡ length rounds → IsEndedAs ended core sim → IsSession first.board.plan first.sync.capacities rounds ended core.log sim.chip held0 held
-  session-done ended all how = session-from rounds ended first core sim.chip held0 held running.rans nothing_ran running.ready.ready.within running.same (subst (λ n. log_size core.log (length sim.chip.effects) ≤ n) (running.same.limit ∙ running.limit) running.ready.places) running.ready.faults running.cut running.writes running.restarts running.turned (quiet_none first.board.plan (last_mark None (all_marks running.rans)) (all_sent running.rans) (all_calls running.rans)) running.drained (by how)
+  pub session-done : (ended : Status) → length done ≡ length rounds → IsEndedAs ended core sim → IsSession first.board.plan first.sync.capacities rounds ended core.log sim held0 held
+  session-done ended all how = session-from rounds ended first core sim held0 held running.rans nothing_ran running.ready.ready.within running.same (subst (λ n. log_size core.log (length sim.effects) ≤ n) (running.same.limit ∙ running.limit) running.ready.places) running.ready.faults running.cut running.writes running.restarts running.turned (turned_none first.board.plan first.sync.capacities (last_mark None (all_marks running.rans)) (all_sent running.rans) (all_calls running.rans)) running.drained (by how)
     where
-      by : IsEndedAs ended core sim → IsReported ended first.board.plan first.sync.capacities rounds running.rans nothing_ran core.log sim.chip running.ready.ready.within.session held0 held
-      by (inl (is, known)) = subst (λ e. IsReported e first.board.plan first.sync.capacities rounds running.rans nothing_ran core.log sim.chip running.ready.ready.within.session held0 held) (sym is) (running.ended, running.many ∙ all, known, running.told)
-      by (inr (is, bad, rose)) = subst (λ e. IsReported e first.board.plan first.sync.capacities rounds running.rans nothing_ran core.log sim.chip running.ready.ready.within.session held0 held) (sym is) (running.ended, running.many ∙ all, bad, rose, running.told)
+      by : IsEndedAs ended core sim → IsReported ended first.board.plan first.sync.capacities rounds running.rans nothing_ran core.log sim running.ready.ready.within.session held0 held
+      by (inl (is, known)) = subst (λ e. IsReported e first.board.plan first.sync.capacities rounds running.rans nothing_ran core.log sim running.ready.ready.within.session held0 held) (sym is) (running.ended, running.many ∙ all, known, running.told)
+      by (inr (is, bad, rose)) = subst (λ e. IsReported e first.board.plan first.sync.capacities rounds running.rans nothing_ran core.log sim running.ready.ready.within.session held0 held) (sym is) (running.ended, running.many ∙ all, bad, rose, running.told)
 
-  module _ (round : Round) (number : ℕ) (next : slice_get rounds (length done) ≡ Some round) (number_is : number ≡ length done + 1) (faults faults' : ℕ) (new : CoreState) (sim' : Sim) (replay' : Replayed) (held' : Option (List ℕ)) where
+  module _ (round : Round) (number : ℕ) (next : slice_get rounds (length done) ≡ Some round) (number_is : number ≡ length done + 1) (faults faults' : ℕ) (new : CoreState) (sim' : ChipState) (replay' : Replayed) (held' : Option (List ℕ)) where
     abbrev rans : List Ran
     rans = running.rans
 
@@ -255,7 +258,7 @@ module _ (rounds done : List Round) (first : CoreState) (held0 : Option (List �
     suspect_core = ap is_suspect (running.cut.marks ∙ append-nil (all_marks rans)) ∙ suspect-rounds [] rans 0 0 running.cut.at_marks
 
     module _ (ran : Ran) (ends : EndsRound round core sim ran new sim') where
-      cut_now : IsCutInRounds new.log sim'.chip.effects (rans ++ ran ∷ []) nothing_ran
+      cut_now : IsCutInRounds new.log sim'.effects (rans ++ ran ∷ []) nothing_ran
       cut_now = cut-more round core sim ran new sim' ends rans running.cut
 
       taken_now : AreTaken (rans ++ ran ∷ []) rounds []
@@ -266,10 +269,10 @@ module _ (rounds done : List Round) (first : CoreState) (held0 : Option (List �
 
       turned_now : AreTurned first.board.plan first.sync.capacities None [] [] (rans ++ ran ∷ [])
       turned_now =
-          turned-more first.board.plan first.sync.capacities None [] [] rans ran (mark_of core) core.log.taken sim.chip.effects running.turned
+          turned-more first.board.plan first.sync.capacities None [] [] rans ran (mark_of core) core.log.taken sim.effects running.turned
           (ap (λ l. last_mark None l) (running.cut.marks ∙ append-nil (all_marks rans))) (running.cut.taken ∙ append-nil (all_sent rans)) (running.cut.effects ∙ append-nil (all_calls rans))
-          (subst (λ p. IsRoundTurned p first.sync.capacities (mark_of core) core.log.taken sim.chip.effects ran) (sym plan_is)
-          (subst (λ c. IsRoundTurned core.board.plan c (mark_of core) core.log.taken sim.chip.effects ran) (sym capacities_are) ends.turned))
+          (subst (λ p. IsRoundTurned p first.sync.capacities (mark_of core) core.log.taken sim.effects ran) (sym plan_is)
+          (subst (λ c. IsRoundTurned core.board.plan c (mark_of core) core.log.taken sim.effects ran) (sym capacities_are) ends.turned))
 
       drained_now : AreDrained first.board.plan first.sync.capacities [] (rans ++ ran ∷ [])
       drained_now =
@@ -294,13 +297,13 @@ module _ (rounds done : List Round) (first : CoreState) (held0 : Option (List �
       part_now : (lines : List ℕ) → HasLines number round core sim ran lines → TakesPart held lines held' → TookPart first.board.plan first.sync.capacities (rans ++ ran ∷ []) rounds held0 held'
       part_now lines has took = record { text = running.told.text ++ lines; report = report_now lines has; took = part-more held0 held held' running.told.text lines running.told.took took }
 
-      session_now : (ended : Status) → IsReported ended first.board.plan first.sync.capacities rounds (rans ++ ran ∷ []) nothing_ran new.log sim'.chip ends.within.session held0 held' → IsSession first.board.plan first.sync.capacities rounds ended new.log sim'.chip held0 held'
-      session_now ended reported = session-from rounds ended first new sim'.chip held0 held' (rans ++ ran ∷ []) nothing_ran ends.within same_now (subst (λ n. log_size new.log (length sim'.chip.effects) ≤ n) limit_now ends.places) ends.faults cut_now taken_now restarted_now turned_now (quiet_none first.board.plan (last_mark None (all_marks (rans ++ ran ∷ []))) (all_sent (rans ++ ran ∷ [])) (all_calls (rans ++ ran ∷ []))) drained_now reported
+      session_now : (ended : Status) → IsReported ended first.board.plan first.sync.capacities rounds (rans ++ ran ∷ []) nothing_ran new.log sim' ends.within.session held0 held' → IsSession first.board.plan first.sync.capacities rounds ended new.log sim' held0 held'
+      session_now ended reported = session-from rounds ended first new sim' held0 held' (rans ++ ran ∷ []) nothing_ran ends.within same_now (subst (λ n. log_size new.log (length sim'.effects) ≤ n) limit_now ends.places) ends.faults cut_now taken_now restarted_now turned_now (turned_none first.board.plan first.sync.capacities (last_mark None (all_marks (rans ++ ran ∷ []))) (all_sent (rans ++ ran ∷ [])) (all_calls (rans ++ ran ∷ []))) drained_now reported
 
-      has_ended : HasEnded nothing_ran new.log sim'.chip
+      has_ended : HasEnded nothing_ran new.log sim'
       has_ended = record {
         none = refl;
-        fault_places = λ failed. subst (λ n. log_size new.log sim'.chip.before_fault + places_beside new.log.marks ≤ n) limit_now (ends.fault_places failed);
+        fault_places = λ failed. subst (λ n. log_size new.log sim'.before_fault + places_beside new.log.marks ≤ n) limit_now (ends.fault_places failed);
       }
 
       running_now : (lines : List ℕ) → HasLines number round core sim ran lines → Takes held lines held' → IsRunReady new sim' replay' → IsRunning rounds (done ++ round ∷ []) first held0 new sim' replay' held'
@@ -330,11 +333,11 @@ module _ (rounds done : List Round) (first : CoreState) (held0 : Option (List �
     front_before : held' ≡ held → TookFront first.board.plan first.sync.capacities rans rounds held0 held'
     front_before same = record { text = running.told.text; report = running.told.report; took = whole-front held0 held' running.told.text (subst (λ h. Takes held0 running.told.text h) (sym same) running.told.took) }
 
-    module _ (stopped : StopsQuietly round core sim new sim') where
+    module _ (stopped : StopsInTurns round core sim new sim') where
       abbrev stops : StopsRound round core sim new sim'
       stops = stopped.0
 
-      cut_stopped : IsCutInRounds new.log sim'.chip.effects rans stops.since
+      cut_stopped : IsCutInRounds new.log sim'.effects rans stops.since
       cut_stopped = record {
         marks = ap (λ (h : History). h.marks) stops.come.log ∙ ap (λ l. l ++ stops.since.marks) (running.cut.marks ∙ append-nil (all_marks rans));
         ends = ap (λ (h : History). h.ends) stops.come.log ∙ running.cut.ends;
@@ -342,6 +345,9 @@ module _ (rounds done : List Round) (first : CoreState) (held0 : Option (List �
         effects = stops.come.calls ∙ ap (λ l. l ++ stops.since.calls) (running.cut.effects ∙ append-nil (all_calls rans));
         at_marks = running.cut.at_marks;
         way = stops.come.way;
+        fenced =
+            subst (λ n. AreFenced n (n + length stops.since.sent) (length (all_calls rans)) stops.since.marks) (ap length (running.cut.taken ∙ append-nil (all_sent rans)))
+            (subst (λ n. AreFenced (length core.log.taken) (length core.log.taken + length stops.since.sent) n stops.since.marks) (ap length (running.cut.effects ∙ append-nil (all_calls rans))) stops.come.fenced);
       }
 
       taken_stopped : AreTaken rans rounds stops.since.sent
@@ -353,24 +359,25 @@ module _ (rounds done : List Round) (first : CoreState) (held0 : Option (List �
       same_stopped : KeepsPlan first new
       same_stopped = same-trans first core new running.same stops.come.same
 
-      places_stopped : log_size new.log (length sim'.chip.effects) ≤ log_limit
+      places_stopped : log_size new.log (length sim'.effects) ≤ log_limit
       places_stopped =
-          let size = sized new sim'.chip stops.come.within in
+          let size = sized new sim' stops.come.within in
           let limit = same_stopped.limit ∙ running.limit in
           let within = stops.come.limit in
           omega (arith, size, limit, within)
 
-      quiet_stopped : IsSinceQuiet first.board.plan (last_mark None (all_marks rans)) (all_sent rans) (all_calls rans) stops.since
-      quiet_stopped =
-          subst (λ p. IsSinceQuiet p (last_mark None (all_marks rans)) (all_sent rans) (all_calls rans) stops.since) (sym plan_is)
-          (subst (λ l. IsSinceQuiet core.board.plan (last_mark None l) (all_sent rans) (all_calls rans) stops.since) (running.cut.marks ∙ append-nil (all_marks rans))
-          (subst (λ l. IsSinceQuiet core.board.plan (mark_of core) l (all_calls rans) stops.since) (running.cut.taken ∙ append-nil (all_sent rans))
-          (subst (λ l. IsSinceQuiet core.board.plan (mark_of core) core.log.taken l stops.since) (running.cut.effects ∙ append-nil (all_calls rans)) stopped.1)))
+      turned_stopped : IsSinceTurned first.board.plan first.sync.capacities (last_mark None (all_marks rans)) (all_sent rans) (all_calls rans) stops.since
+      turned_stopped =
+          subst (λ p. IsSinceTurned p first.sync.capacities (last_mark None (all_marks rans)) (all_sent rans) (all_calls rans) stops.since) (sym plan_is)
+          (subst (λ c. IsSinceTurned core.board.plan c (last_mark None (all_marks rans)) (all_sent rans) (all_calls rans) stops.since) (sym capacities_are)
+          (subst (λ l. IsSinceTurned core.board.plan core.sync.capacities (last_mark None l) (all_sent rans) (all_calls rans) stops.since) (running.cut.marks ∙ append-nil (all_marks rans))
+          (subst (λ l. IsSinceTurned core.board.plan core.sync.capacities (mark_of core) l (all_calls rans) stops.since) (running.cut.taken ∙ append-nil (all_sent rans))
+          (subst (λ l. IsSinceTurned core.board.plan core.sync.capacities (mark_of core) core.log.taken l stops.since) (running.cut.effects ∙ append-nil (all_calls rans)) stopped.1))))
 
-      session_stopped : (ended : Status) → IsReported ended first.board.plan first.sync.capacities rounds rans stops.since new.log sim'.chip stops.come.within.session held0 held' → IsSession first.board.plan first.sync.capacities rounds ended new.log sim'.chip held0 held'
-      session_stopped ended reported = session-from rounds ended first new sim'.chip held0 held' rans stops.since stops.come.within same_stopped places_stopped stops.come.faults cut_stopped taken_stopped restarted_stopped running.turned quiet_stopped running.drained reported
+      session_stopped : (ended : Status) → IsReported ended first.board.plan first.sync.capacities rounds rans stops.since new.log sim' stops.come.within.session held0 held' → IsSession first.board.plan first.sync.capacities rounds ended new.log sim' held0 held'
+      session_stopped ended reported = session-from rounds ended first new sim' held0 held' rans stops.since stops.come.within same_stopped places_stopped stops.come.faults cut_stopped taken_stopped restarted_stopped running.turned turned_stopped running.drained reported
 
-    pub session-ended : (ended : Status) → ¬ (ended ≡ status.Done) → ¬ (ended ≡ status.ChipFault) → IsRoundRun number round core sim held faults ended new sim' replay' held' faults' → IsSession first.board.plan first.sync.capacities rounds ended new.log sim'.chip held0 held'
+    pub session-ended : (ended : Status) → ¬ (ended ≡ status.Done) → ¬ (ended ≡ status.ChipFault) → IsRoundRun number round core sim held faults ended new sim' replay' held' faults' → IsSession first.board.plan first.sync.capacities rounds ended new.log sim' held0 held'
     session-ended status.Done other fault run = absurd (other refl)
     session-ended status.ChipFault other fault run = absurd (fault refl)
     session-ended status.WriteFault other fault (ran, lines, ends, has, took, rose) =
@@ -381,16 +388,16 @@ module _ (rounds done : List Round) (first : CoreState) (held0 : Option (List �
             round = round;
             next = at_round;
             full = full_here stops full;
-            many = subst (λ n. n < log_size new.log (length sim'.chip.effects) + 2 + length (keys_named new.log.taken)) ((same_stopped stops).limit ∙ running.limit) many;
+            many = subst (λ n. n < log_size new.log (length sim'.effects) + 2 + length (keys_named new.log.taken)) ((same_stopped stops).limit ∙ running.limit) many;
           },
           record { text = running.told.text; report = running.told.report; took = subst (λ h. Takes held0 running.told.text h) (sym same) running.told.took },
         )
       where
-        full_here : (stops : StopsQuietly round core sim new sim') → IsFull new.board.plan new.sync.capacities new.limit round new.log sim'.chip stops.0.since stops.0.come.within.session → IsFull first.board.plan first.sync.capacities log_limit round new.log sim'.chip stops.0.since stops.0.come.within.session
+        full_here : (stops : StopsInTurns round core sim new sim') → IsFull new.board.plan new.sync.capacities new.limit round new.log sim' stops.0.since stops.0.come.within.session → IsFull first.board.plan first.sync.capacities log_limit round new.log sim' stops.0.since stops.0.come.within.session
         full_here stops full =
-            subst (λ n. IsFull first.board.plan first.sync.capacities n round new.log sim'.chip stops.0.since stops.0.come.within.session) ((same_stopped stops).limit ∙ running.limit)
-            (subst (λ p. IsFull p first.sync.capacities new.limit round new.log sim'.chip stops.0.since stops.0.come.within.session) (same_stopped stops).plan
-            (subst (λ c. IsFull new.board.plan c new.limit round new.log sim'.chip stops.0.since stops.0.come.within.session) (same_stopped stops).capacities full))
+            subst (λ n. IsFull first.board.plan first.sync.capacities n round new.log sim' stops.0.since stops.0.come.within.session) ((same_stopped stops).limit ∙ running.limit)
+            (subst (λ p. IsFull p first.sync.capacities new.limit round new.log sim' stops.0.since stops.0.come.within.session) (same_stopped stops).plan
+            (subst (λ c. IsFull new.board.plan c new.limit round new.log sim' stops.0.since stops.0.come.within.session) (same_stopped stops).capacities full))
     session-ended status.OutOfMemory other fault (inl (stops, same)) =
         session_stopped stops status.OutOfMemory (rans, [], sym (append-nil rans), front_before same)
     session-ended status.OutOfMemory other fault (inr (ran, ends, inl same)) =

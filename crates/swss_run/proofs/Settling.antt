@@ -7,9 +7,10 @@ use Rattle.table_schema.specs.Rows.{rows_of}
 use Rattle.table_schema.specs.declared.key.Key.{Key}
 use Rattle.table_schema.specs.declared.row.Row.{Row}
 use Rattle.table_schema.specs.declared.write.Sent.{Sent}
-use Rattle.sai_types.specs.ChipState.{ChipState}
+use Rattle.sai_types.specs.ChipState.{ChipState, IsAskedOnce}
+use Rattle.sai_types.specs.declared.ids.Rid.{Rid}
+use Rattle.sai_types.specs.declared.body.Call.{Call}
 use Rattle.sai_types.specs.declared.plan.PlanCall.{PlanCall}
-use Rattle.sai_chip.specs.Sim.{Sim}
 use Rattle.switch_model.specs.History.{History, log_size}
 use Rattle.switch_model.specs.Desired.{IsClosed, IsThingOf}
 use Rattle.switch_model.specs.Good.{good_rows}
@@ -44,7 +45,7 @@ use Rattle.round_laws.proofs.Listed.{listed-few}
 use Rattle.round_laws.proofs.Sessions.{leads-on, log-ordered, one-on, sized, some-on, warm-after}
 use Rattle.orch_core.specs.ComingBack.{IsFullOnWay, places_on_way, restarts_due, restarts_marked}
 use Rattle.orch_core.specs.Restarting.{FaultsOnWay, IsFullOncePopped, StaysInService, places_left}
-use Rattle.orch_core.specs.Settled.{Settles, SettlesWhole, StopsAtMark, StopsFaulted, StopsFull}
+use Rattle.orch_core.specs.Settled.{Settles, SettlesSoFar, SettlesWhole, StopsAtMark, StopsFaulted, StopsFull}
 use Rattle.orch_core.proofs.Serving.{settling_serves}
 use Rattle.orch_core.specs.declared.answer.Settled.{Settled}
 use Rattle.orch_core.specs.declared.answer.Settled.TheVariants as settled
@@ -52,7 +53,7 @@ use Rattle.swss_script.specs.Sent.{sent_in_round}
 use Rattle.swss_script.specs.declared.parts.Round.{Round}
 use Rattle.swss_run.specs.Faults.{places_beside}
 use Rattle.swss_run.specs.Full.{AreActsMade, AwaitsEnd, AwaitsRestore, IsFull}
-use Rattle.swss_run.specs.Full.IsFull.{AtApplyEnd, AtCall, AtFault, AtList, AtMark, AtRestore}
+use Rattle.swss_run.specs.Full.IsFull.{AtApplyEnd, AtCall, AtFault, AtList, AtMark, AtRestore, AtRestoring}
 use Rattle.swss_run.specs.Rounds.{Ran}
 use Rattle.swss_run.specs.Running.{HasCome, KeepsPlan, StopsRound}
 use Rattle.swss_run.specs.declared.status.Status.{Status}
@@ -61,25 +62,26 @@ use Rattle.swss_run.proofs.Counting.{HasRestarted, restart-last, restarts-stoppe
 use Rattle.swss_run.proofs.Faulting.{LeavesFault, beside-two, beside-way}
 use Rattle.swss_run.proofs.OnWay.{come-stays, come-steps, since_steps}
 use Rattle.swss_run.proofs.Draining.{drains-behind}
-use Rattle.swss_run.proofs.Over.{IsOver, drained_by, over-failed, over-settled, turned_none}
+use Rattle.swss_run.proofs.Over.{IsCutSo, IsOver, drained_by, over-failed, over-settled, turned_none}
+use Rattle.orch_core.proofs.Chips.{effects_asked}
 
 -- a round that stopped with a full log
-abbrev pub IsFullStop : Round → CoreState → Sim → CoreState → Sim → Type 0
+abbrev pub IsFullStop : Round → CoreState → ChipState → CoreState → ChipState → Type 0
 IsFullStop round old sim new sim' =
-    (stops : StopsRound round old sim new sim') × IsFull new.board.plan new.sync.capacities new.limit round new.log sim'.chip stops.since stops.come.within.session × (new.limit < log_size new.log (length sim'.chip.effects) + 2 + length (keys_named new.log.taken))
+    (stops : StopsRound round old sim new sim') × IsFull new.board.plan new.sync.capacities new.limit round new.log sim' stops.since stops.come.within.session × (new.limit < log_size new.log (length sim'.effects) + 2 + length (keys_named new.log.taken))
 
 -- or with this status
-abbrev pub IsStopped : Round → CoreState → Sim → Status → CoreState → Sim → Type 0
+abbrev pub IsStopped : Round → CoreState → ChipState → Status → CoreState → ChipState → Type 0
 IsStopped round old sim ended new sim' = ((ended ≡ status.LogFull) × IsFullStop round old sim new sim') ⊎ ((ended ≡ status.OutOfMemory) × StopsRound round old sim new sim')
 
-module _ (round : Round) (old : CoreState) (sim : Sim) (since : Ran) (new : CoreState) (sim' : Sim) (come : HasCome old sim.chip since new sim'.chip) (all : since.sent ≡ sent_in_round round) where
+module _ (round : Round) (old : CoreState) (sim : ChipState) (since : Ran) (new : CoreState) (sim' : ChipState) (come : HasCome old sim since new sim') (all : since.sent ≡ sent_in_round round) where
   -- it stops there
   abbrev pub stops_here : (w : Warm) → HasRestarted round old.log.marks since.marks w → StopsRound round old sim new sim'
   stops_here w restarted = record {
     since = since;
     rest = [];
     front = sym all ∙ sym (append-nil since.sent);
-    restarts = restarts-stopped round old.log.marks since.marks w restarted (subst (λ (h : History). AreMarksInOrder None h.marks) come.log (log-ordered new sim'.chip come.within).order);
+    restarts = restarts-stopped round old.log.marks since.marks w restarted (subst (λ (h : History). AreMarksInOrder None h.marks) come.log (log-ordered new sim' come.within).order);
     come = come;
   }
 
@@ -89,35 +91,35 @@ module _ (round : Round) (old : CoreState) (sim : Sim) (since : Ran) (new : Core
 
 -- ---- on the way back
 
-module _ (round : Round) (old : CoreState) (sim : Sim) (since : Ran) (c : CoreState) (cchip : ChipState) (come : HasCome old sim.chip since c cchip) (all : since.sent ≡ sent_in_round round) (restarted : HasRestarted round old.log.marks since.marks c.warm) (new : CoreState) (sim' : Sim) (still : sim'.chip ≡ cchip) (stays : StaysInService come.within.session c new cchip) where
+module _ (round : Round) (old : CoreState) (sim : ChipState) (since : Ran) (c : CoreState) (cchip : ChipState) (come : HasCome old sim since c cchip) (all : since.sent ≡ sent_in_round round) (restarted : HasRestarted round old.log.marks since.marks c.warm) (new : CoreState) (sim' : ChipState) (asked : IsAskedOnce cchip sim') (stays : StaysInService come.within.session c new sim') where
   -- the later core stands for the same session
-  stayed : (x : HasCome old sim.chip since new cchip) × (x.within.session ≡ come.within.session)
-  stayed = come-stays old sim.chip since c cchip come new stays
+  stayed : (x : HasCome old sim since new sim') × (x.within.session ≡ come.within.session)
+  stayed = come-stays old sim since c cchip come new sim' asked stays
 
-  then : HasCome old sim.chip since new sim'.chip
-  then = subst (HasCome old sim.chip since new) (sym still) stayed.0
+  then : HasCome old sim since new sim'
+  then = stayed.0
 
   made : AreActsMade round since
   made = acts-made round old sim since new sim' then all c.warm restarted
 
-  same_size : size_beside c (length cchip.effects) ≡ log_size new.log (length cchip.effects)
-  same_size = sized c cchip come.within ∙ ap (λ (h : History). log_size h (length cchip.effects)) (sym stays.log)
+  same_size : size_beside c (length cchip.effects) ≡ log_size new.log (length sim'.effects)
+  same_size = sized c cchip come.within ∙ ap (λ (h : History). log_size h (length cchip.effects)) (sym stays.log) ∙ ap (λ es. log_size new.log (length es)) (sym (effects_asked asked))
 
   abbrev FullSo : Type 0
-  FullSo = IsFull new.board.plan new.sync.capacities new.limit round new.log cchip since come.within.session
+  FullSo = IsFull new.board.plan new.sync.capacities new.limit round new.log sim' since come.within.session
 
   abbrev ManySo : Type 0
-  ManySo = new.limit < log_size new.log (length cchip.effects) + 2 + length (keys_named new.log.taken)
+  ManySo = new.limit < log_size new.log (length sim'.effects) + 2 + length (keys_named new.log.taken)
 
   -- the same of the later core
   as_new : (P : Ports → List ℕ → Type 0) → P c.board.plan c.sync.capacities → P new.board.plan new.sync.capacities
   as_new P h = subst (λ p. P p new.sync.capacities) (sym stays.plan) (subst (P c.board.plan) (sym stays.capacities) h)
 
-  need_few : (need : ℕ) → need ≤ 2 → IsFullFor c (length cchip.effects) need → (new.limit < log_size new.log (length cchip.effects) + need) × ManySo
+  need_few : (need : ℕ) → need ≤ 2 → IsFullFor c (length cchip.effects) need → (new.limit < log_size new.log (length sim'.effects) + need) × ManySo
   need_few need few full =
       let size = same_size in
       let limit = stays.limit in
-      let short : new.limit < log_size new.log (length cchip.effects) + need = omega (arith, full, size, limit) in
+      let short : new.limit < log_size new.log (length sim'.effects) + need = omega (arith, full, size, limit) in
       (short, omega (arith, short, few))
 
   at_fault : c.warm ≡ warm.Suspect → IsFullFor c (length cchip.effects) 1 → FullSo × ManySo
@@ -163,7 +165,7 @@ module _ (round : Round) (old : CoreState) (sim : Sim) (since : Ran) (c : CoreSt
         let limit = stays.limit in
         let lack = full.full.full in
         let few : length built.waits ≤ length (keys_named new.log.taken) = subst (λ (h : History). length built.waits ≤ length (keys_named h.taken)) (sym stays.log) (listed-few first full.full.built built) in
-        let short : new.limit < log_size new.log (length cchip.effects) + 1 + length built.waits = omega (arith, lack, size, limit) in
+        let short : new.limit < log_size new.log (length sim'.effects) + 1 + length built.waits = omega (arith, lack, size, limit) in
         (AtRestore built.waits made (as_new (λ p l. AwaitsRestore p l come.within.session built.waits) awaits) short, omega (arith, short, few))
 
   -- a call of the plan, or its end
@@ -194,16 +196,19 @@ module _ (round : Round) (old : CoreState) (sim : Sim) (since : Ran) (c : CoreSt
   full_way : (w : Warm) → c.warm ≡ w → IsFullOnWay w come.within.session c cchip → FullSo × ManySo
   full_way warm.Suspect at full = at_fault at full
   full_way warm.Initialized at full = at_list at full
-  full_way warm.Restored at full = at_restore at full
+  full_way warm.Restored at (inl full) =
+      let short = need_few 1 (omega arith) full in
+      (AtRestoring made (come.within.stands.always.warm_is ∙ at) short.0, short.1)
+  full_way warm.Restored at (inr full) = at_restore at full
   full_way warm.Applying at full = at_plan at full
   full_way warm.Reconciled at full = absurd full
 
-  -- the same of the later core and its chip, and of the session that they stand for
-  abbrev IsFullAt : ChipState → Type 0
-  IsFullAt k = (x : HasCome old sim.chip since new k) × IsFull new.board.plan new.sync.capacities new.limit round new.log k since x.within.session × (new.limit < log_size new.log (length k.effects) + 2 + length (keys_named new.log.taken))
+  -- the same of the session that the later core and its chip stand for
+  abbrev IsFullAt : Type 0
+  IsFullAt = (x : HasCome old sim since new sim') × IsFull new.board.plan new.sync.capacities new.limit round new.log sim' since x.within.session × ManySo
 
-  full_at : FullSo × ManySo → IsFullAt sim'.chip
-  full_at x = subst IsFullAt (sym still) (stayed.0, subst (λ s. IsFull new.board.plan new.sync.capacities new.limit round new.log cchip since s) (sym stayed.1) x.0, x.1)
+  full_at : FullSo × ManySo → IsFullAt
+  full_at x = (stayed.0, subst (λ s. IsFull new.board.plan new.sync.capacities new.limit round new.log sim' since s) (sym stayed.1) x.0, x.1)
 
   pub full-way : IsFullOnWay c.warm come.within.session c cchip → IsFullStop round old sim new sim'
   full-way full =
@@ -218,25 +223,25 @@ abbrev LeavesNone : Waiting → ℕ → Ports → List ℕ → List Sent → Typ
 LeavesNone waits turns plan capacities taken = IsClosed (good_rows plan (rows_of (sent_writes taken))) → HasRoomForView capacities (IsThingOf plan (good_rows plan (rows_of (sent_writes taken)))) → (waits ≡ []) × (turns ≤ 4)
 
 -- a call that failed there
-module _ (round : Round) (old : CoreState) (sim : Sim) (since : Ran) (c : CoreState) (cchip : ChipState) (come : HasCome old sim.chip since c cchip) (all : since.sent ≡ sent_in_round round) (restarted : HasRestarted round old.log.marks since.marks c.warm) (new : CoreState) (sim' : Sim) where
-  abbrev left_way : FaultsOnWay (places_on_way c.warm) true come.within.session c cchip new sim'.chip → LeavesFault c new sim'.chip
+module _ (round : Round) (old : CoreState) (sim : ChipState) (since : Ran) (c : CoreState) (cchip : ChipState) (come : HasCome old sim since c cchip) (all : since.sent ≡ sent_in_round round) (restarted : HasRestarted round old.log.marks since.marks c.warm) (new : CoreState) (sim' : ChipState) where
+  abbrev left_way : FaultsOnWay (places_on_way c.warm) true come.within.session c cchip new sim' → LeavesFault c new sim'
   left_way f = record {
     before = cchip.faults;
-    more = f.more;
+    one = f.one;
     log = f.log;
     need = places_on_way c.warm;
     places = f.places;
     few = f.few;
-    beside = subst (λ (h : History). places_beside h.marks + 1 ≤ places_on_way c.warm) (sym f.log) (beside-way c cchip come.within (mark_at c (length sim'.chip.effects) (event.Faulted cchip.faults sim'.chip.faults)));
+    beside = subst (λ (h : History). places_beside h.marks + 1 ≤ places_on_way c.warm) (sym f.log) (beside-way c cchip come.within (mark_at c (length sim'.effects) (event.Faulted cchip.faults sim'.faults)));
     limit = f.makes.limit;
   }
 
-  pub fault-way : (restarts_due c.warm ≡ 0) × FaultsOnWay (places_on_way c.warm) true come.within.session c cchip new sim'.chip → ArePendingInOrder new.tables.waiting → IsOver round old sim status.ChipFault new sim'
-  fault-way (none, f) order =
-      let more = one-more c new sim'.chip come.within.session f.makes in
-      let grown = effects-grow c new cchip sim'.chip come.within more in
-      over-failed round old sim since c cchip come all restarted none new sim' (left_way f) grown.0 grown.1 (one-on c new cchip sim'.chip come.within f.makes).0
-      (record { plan = f.makes.plan; capacities = f.makes.capacities; limit = f.makes.limit }) refl f.warm order
+  pub fault-way : ((calls : List (Call Rid)) → IsCutSo old sim since calls) → (restarts_due c.warm ≡ 0) × FaultsOnWay (places_on_way c.warm) true come.within.session c cchip new sim' → ArePendingInOrder new.tables.waiting → IsOver round old sim status.ChipFault new sim'
+  fault-way so (none, f) order =
+      let more = one-more c new sim' come.within.session f.makes in
+      let grown = effects-grow c new cchip sim' come.within more in
+      over-failed round old sim since c cchip come all restarted none new sim' (left_way f) grown.0 grown.1 (one-on c new cchip sim' come.within f.makes).0
+      (record { plan = f.makes.plan; capacities = f.makes.capacities; limit = f.makes.limit }) (so grown.0) refl f.warm order
 
   -- ---- a settling of a core that is reconciled
 
@@ -244,79 +249,79 @@ module _ (round : Round) (old : CoreState) (sim : Sim) (since : Ran) (c : CoreSt
     none_due : restarts_due c.warm ≡ 0
     none_due = ap restarts_due at
 
-    more_of : (r : Result Settled OutOfMemory) → Settles come.within.session c cchip r new sim'.chip → MakesMore c come.within.session new sim'.chip
-    more_of r e = settling_serves come.within.session c cchip come.within.stands r new sim'.chip e
+    more_of : (r : Result Settled OutOfMemory) → Settles come.within.session c cchip r new sim' → MakesMore c come.within.session new sim'
+    more_of r e = settling_serves come.within.session c cchip come.within.stands r new sim' e
 
-    same_of : (r : Result Settled OutOfMemory) → Settles come.within.session c cchip r new sim'.chip → KeepsPlan c new
+    same_of : (r : Result Settled OutOfMemory) → Settles come.within.session c cchip r new sim' → KeepsPlan c new
     same_of r e = let more = more_of r e in record { plan = more.plan; capacities = more.capacities; limit = more.limit }
 
-    few_faulted : (f : StopsFaulted come.within.session c cchip new sim'.chip) → length sim'.chip.effects + 1 ≤ sim'.chip.before_fault + 2
+    few_faulted : (f : StopsFaulted (SettlesSoFar c.board.plan c.sync.capacities) come.within.session c cchip new sim') → length sim'.effects + 1 ≤ sim'.before_fault + 2
     few_faulted f = let few = f.marks.few in omega (arith, few)
 
-    abbrev left_faulted : StopsFaulted come.within.session c cchip new sim'.chip → LeavesFault c new sim'.chip
-    left_faulted f = record { before = cchip.faults; more = f.marks.more; log = f.marks.log; need = 2; places = f.marks.places; few = few_faulted f; beside = beside-two new.log.marks; limit = f.steps.limit }
+    abbrev left_faulted : StopsFaulted (SettlesSoFar c.board.plan c.sync.capacities) come.within.session c cchip new sim' → LeavesFault c new sim'
+    left_faulted f = record { before = cchip.faults; one = f.marks.one; log = f.marks.log; need = 2; places = f.marks.places; few = few_faulted f; beside = beside-two new.log.marks; limit = f.steps.limit }
 
-    pub settled-faulted : Settles come.within.session c cchip (Ok settled.Faulted) new sim'.chip → ArePendingInOrder new.tables.waiting → IsOver round old sim status.ChipFault new sim'
-    settled-faulted e order =
+    pub settled-faulted : ((calls : List (Call Rid)) → sim'.effects ≡ cchip.effects ++ calls → IsCutSo old sim since calls) → Settles come.within.session c cchip (Ok settled.Faulted) new sim' → ArePendingInOrder new.tables.waiting → IsOver round old sim status.ChipFault new sim'
+    settled-faulted so e order =
         let more = more_of (Ok settled.Faulted) e in
-        let grown = effects-grow c new cchip sim'.chip come.within more in
-        over-failed round old sim since c cchip come all restarted none_due new sim' (left_faulted e.0) grown.0 grown.1 (some-on c new cchip sim'.chip come.within more).0 (same_of (Ok settled.Faulted) e) refl e.0.marks.warm order
+        let grown = effects-grow c new cchip sim' come.within more in
+        over-failed round old sim since c cchip come all restarted none_due new sim' (left_faulted e.0) grown.0 grown.1 (some-on c new cchip sim' come.within more).0 (same_of (Ok settled.Faulted) e) (so grown.0 grown.1) refl e.0.marks.warm order
 
     -- it ended at its mark, behind a restart
-    pub settled-behind : 1 ≤ restarts_marked since.marks → ((v : ℕ) → v < 4 → flown_at c.board v ≡ None) → ((k : Key) (row : Row) → row_at c.board.applied k ≡ Some row → good_rows_at c.board.plan c.log.taken (length c.log.taken) k ≡ Some row) → SettlesWhole come.within.session c cchip new sim'.chip → IsOver round old sim status.Done new sim'
+    pub settled-behind : 1 ≤ restarts_marked since.marks → ((v : ℕ) → v < 4 → flown_at c.board v ≡ None) → ((k : Key) (row : Row) → row_at c.board.applied k ≡ Some row → good_rows_at c.board.plan c.log.taken (length c.log.taken) k ≡ Some row) → SettlesWhole come.within.session c cchip new sim' → IsOver round old sim status.Done new sim'
     settled-behind some free rows e =
         let more = more_of (Ok settled.Settled) e in
-        let grown = effects-grow c new cchip sim'.chip come.within more in
-        let between = settled-between c new cchip sim'.chip come.within e.settles in
-        let mark = its-mark c new cchip sim'.chip come.within e.settles in
-        let log = its-log c new cchip sim'.chip come.within e.settles in
+        let grown = effects-grow c new cchip sim' come.within more in
+        let between = settled-between c new cchip sim' come.within e.settles in
+        let mark = its-mark c new cchip sim' come.within e.settles in
+        let log = its-log c new cchip sim' come.within e.settles in
         let same = same_of (Ok settled.Settled) e in
         over-settled round old sim since c cchip come all restarted none_due new sim' mark tt log grown.0 grown.1 between.within same e.settles.settling.waits e.settles.settling.turns refl between e.places e.keeps
         (turned_none round old sim since c cchip come all restarted none_due new sim' mark tt log grown.0 grown.1 between.within same some)
         (drained_by round old sim since c cchip come all restarted none_due new sim' mark tt log grown.0 grown.1 between.within same e.settles.settling.waits e.settles.settling.turns refl
-        (drains_old (λ closed room. drains-behind c new cchip sim'.chip come.within at e.settles free rows closed room)))
+        (drains_old (λ closed room. drains-behind c new cchip sim' come.within at e.settles free rows closed room)))
       where
         drains_old : LeavesNone e.settles.settling.waits e.settles.settling.turns c.board.plan c.sync.capacities c.log.taken → LeavesNone e.settles.settling.waits e.settles.settling.turns old.board.plan old.sync.capacities (old.log.taken ++ since.sent)
         drains_old d = subst (λ p. LeavesNone e.settles.settling.waits e.settles.settling.turns p old.sync.capacities (old.log.taken ++ since.sent)) come.same.plan (subst (λ l. LeavesNone e.settles.settling.waits e.settles.settling.turns c.board.plan l (old.log.taken ++ since.sent)) come.same.capacities (subst (λ (h : History). LeavesNone e.settles.settling.waits e.settles.settling.turns c.board.plan c.sync.capacities h.taken) come.log d))
 
     -- the log was full
-    full-call : StopsFull come.within.session c cchip new sim'.chip → IsFullStop round old sim new sim'
+    full-call : StopsFull (SettlesSoFar c.board.plan c.sync.capacities) come.within.session c cchip new sim' → IsFullStop round old sim new sim'
     full-call e =
         let more = more_of (Ok settled.LogFull) (inl e) in
-        let within = (some-on c new cchip sim'.chip come.within more).0 in
-        let then = come-steps old sim.chip since c cchip come new sim'.chip e.keeps more within e.log in
-        let now = since_steps old sim.chip since c cchip come new sim'.chip e.keeps (effects-grow c new cchip sim'.chip come.within more).0 in
-        let size = sized new sim'.chip within in
+        let within = (some-on c new cchip sim' come.within more).0 in
+        let then = come-steps old sim since c cchip come new sim' e.keeps more within e.log in
+        let now = since_steps old sim since c cchip come new sim' e.keeps (effects-grow c new cchip sim' come.within more).0 in
+        let size = sized new sim' within in
         let full = e.full in (
           stops_here round old sim now new sim' then all c.warm restarted,
-          AtCall (acts-made round old sim now new sim' then all c.warm restarted) (call-awaited new sim'.chip within e.warm e.flying.0 e.flying.1 e.flying.2) (omega (arith, full, size)),
+          AtCall (acts-made round old sim now new sim' then all c.warm restarted) (call-awaited new sim' within e.warm e.flying.0 e.flying.1 e.flying.2) (omega (arith, full, size)),
           omega (arith, full, size),
         )
 
-    full-mark : StopsAtMark come.within.session c cchip new sim'.chip → IsFullStop round old sim new sim'
+    full-mark : StopsAtMark (SettlesSoFar c.board.plan c.sync.capacities) come.within.session c cchip new sim' → IsFullStop round old sim new sim'
     full-mark e =
         let more = more_of (Ok settled.LogFull) (inr e) in
-        let there = leads-on c new cchip sim'.chip come.within (ap (λ (h : History). h.taken) e.log) (inl e.at_rest.warm) e.later e.leads in
+        let there = leads-on c new cchip sim' come.within (ap (λ (h : History). h.taken) e.log) (inl e.at_rest.warm) e.later e.leads in
         let within = there.0 in
-        let then = come-steps old sim.chip since c cchip come new sim'.chip e.keeps more within e.log in
-        let now = since_steps old sim.chip since c cchip come new sim'.chip e.keeps (effects-grow c new cchip sim'.chip come.within more).0 in
-        let awaited = keys-awaited new sim'.chip within e.at_rest.warm e.at_rest.popped e.at_rest.free e.order (λ k to_sync. subst (λ (s : LoggedService). MustWait new.board.plan 4 new.sync.capacities s.service.core k) (sym there.1) (e.waits k to_sync)) in
-        let size = sized new sim'.chip within in
+        let then = come-steps old sim since c cchip come new sim' e.keeps more within e.log in
+        let now = since_steps old sim since c cchip come new sim' e.keeps (effects-grow c new cchip sim' come.within more).0 in
+        let awaited = keys-awaited new sim' within e.at_rest.warm e.at_rest.popped e.at_rest.free e.order (λ k to_sync. subst (λ (s : LoggedService). MustWait new.board.plan 4 new.sync.capacities s.service.core k) (sym there.1) (e.waits k to_sync)) in
+        let size = sized new sim' within in
         let full = e.full in
         let many = awaited.1 in
-        let few = ops-few new sim'.chip within (inl e.at_rest.warm) e.order in (
+        let few = ops-few new sim' within (inl e.at_rest.warm) e.order in (
           stops_here round old sim now new sim' then all c.warm restarted,
           AtMark awaited.0 (acts-made round old sim now new sim' then all c.warm restarted) awaited.2 (omega (arith, full, size, many)),
           omega (arith, full, size, few),
         )
 
-    pub settled-full : Settles come.within.session c cchip (Ok settled.LogFull) new sim'.chip → IsFullStop round old sim new sim'
+    pub settled-full : Settles come.within.session c cchip (Ok settled.LogFull) new sim' → IsFullStop round old sim new sim'
     settled-full (inl e) = full-call e
     settled-full (inr e) = full-mark e
 
-    pub settled-short : (o : OutOfMemory) → Settles come.within.session c cchip (Err o) new sim'.chip → StopsRound round old sim new sim'
+    pub settled-short : (o : OutOfMemory) → Settles come.within.session c cchip (Err o) new sim' → StopsRound round old sim new sim'
     settled-short o e =
         let more = more_of (Err o) e in
-        let within = (some-on c new cchip sim'.chip come.within more).0 in
-        let now = since_steps old sim.chip since c cchip come new sim'.chip e.keeps (effects-grow c new cchip sim'.chip come.within more).0 in
-        stops_here round old sim now new sim' (come-steps old sim.chip since c cchip come new sim'.chip e.keeps more within e.log) all c.warm restarted
+        let within = (some-on c new cchip sim' come.within more).0 in
+        let now = since_steps old sim since c cchip come new sim' e.keeps (effects-grow c new cchip sim' come.within more).0 in
+        stops_here round old sim now new sim' (come-steps old sim since c cchip come new sim' e.keeps more within e.log) all c.warm restarted

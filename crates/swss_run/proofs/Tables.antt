@@ -9,9 +9,10 @@ use Rattle.table_schema.specs.declared.write.Sent.{Sent}
 use Rattle.table_schema.proofs.Keys.{key_exact, key_total}
 use Rattle.table_schema.proofs.RowLists.{HasRisingRows-rows_of, after_writes-more}
 use Rattle.sai_types.specs.ChipState.{ChipState}
-use Rattle.switch_model.specs.History.{with_mark, with_write}
+use Rattle.switch_model.specs.History.{History, with_mark, with_write}
 use Rattle.switch_model.specs.Marks.{sent_writes, written_key}
 use Rattle.switch_model.specs.declared.mark.Mark.{Mark}
+use Rattle.switch_model.specs.declared.mark.MarkEvent.{MarkEvent}
 use Rattle.switch_model.specs.declared.mark.MarkEvent.TheVariants as event
 use Rattle.producer_table.specs.Pending.{ArePendingInOrder, pending_at, row_with_pending}
 use Rattle.producer_table.proofs.Found.{same_entries}
@@ -28,13 +29,14 @@ use Rattle.round_laws.specs.Between.{IsInRound}
 use Rattle.round_laws.specs.Sessions.{InSession}
 use Rattle.round_laws.proofs.Between.{round-takes}
 use Rattle.round_laws.proofs.Sessions.{one-on}
-use Rattle.orch_core.specs.ComingBack.{AreOnWay, restarts_marked}
+use Rattle.orch_core.specs.ComingBack.{AreOnWay, CountAll, CountsSo, restarts_marked}
 use Rattle.orch_core.proofs.Coming.{restarts_both, way_both}
 use Rattle.swss_run.specs.Running.{KeepsPlan}
 use Rattle.swss_run.specs.Taking.{restarts_made, writes_among, with_made}
 use Rattle.swss_run.specs.Told.{AreRowsTaken, IsToldOf}
 use Rattle.swss_run.specs.declared.told.Told.{Told}
 use Rattle.swss_run.proofs.Given.{AreOnSwitch}
+use Rattle.swss_run.specs.Rounds.{AreFenced, IsFenced}
 
 -- ---- a round without a restart
 
@@ -48,6 +50,24 @@ in-round effects old chip done (None ∷ made) c x none on = absurd (some none)
     some : 1 + restarts_made made ≡ 0 → ⊥
     some h = omega (arith, h)
 
+-- ---- fences
+
+pub fenced-both : (from to calls : ℕ) (xs ys : List Mark) → AreFenced from to calls xs → AreFenced from to calls ys → AreFenced from to calls (xs ++ ys)
+fenced-both from to calls [] ys a b = b
+fenced-both from to calls (x ∷ xs) ys a b = (a.0, fenced-both from to calls xs ys a.1 b)
+
+-- marks that count all writes of the round, and the calls that there were when it began
+pub counted-fenced : (from more calls : ℕ) (ms : List Mark) → CountAll (from + more) calls ms → AreFenced from (from + more) calls ms
+counted-fenced from more calls [] h = tt
+counted-fenced from more calls (m ∷ ms) h = (by m.event h.0, counted-fenced from more calls ms h.1)
+  where
+    by : (e : MarkEvent) → CountsSo (from + more) calls m e → IsFenced from (from + more) calls m e
+    by event.Restarted x = let taken = x.0 in (omega (arith, taken), omega (arith, taken), x.1)
+    by (event.ApplyBegan mode waits) x = x
+    by (event.Settled waits turns) x = tt
+    by (event.Faulted before after) x = tt
+    by event.ApplyEnded x = tt
+
 -- ---- any round
 
 -- in a round that began with the old core these writes were taken, and so many restarts were made, and nothing else was done; without a restart the warm state is the same, and behind one the core is initialized
@@ -57,6 +77,7 @@ pub record HasMade (old : CoreState) (chip : ChipState) (sent : List Sent) (rest
   pub added : List Mark
   pub log : c.log ≡ record { taken = old.log.taken ++ sent; marks = old.log.marks ++ added; ends = old.log.ends }
   pub way : AreOnWay added
+  pub fenced : (to : ℕ) → length old.log.taken + length sent ≤ to → AreFenced (length old.log.taken) to (length chip.effects) added
   pub count : restarts_marked added ≡ restarts
   pub same : KeepsPlan old c
   pub warm : ((restarts ≡ 0) × (c.warm ≡ old.warm)) ⊎ ((1 ≤ restarts) × (c.warm ≡ warm.Initialized))
@@ -68,6 +89,7 @@ made-none old chip within order = record {
   added = [];
   log = ap (λ ts. record { taken = ts; marks = old.log.marks; ends = old.log.ends }) (sym (append-nil old.log.taken)) ∙ ap (λ ms. record { taken = old.log.taken ++ []; marks = ms; ends = old.log.ends }) (sym (append-nil old.log.marks));
   way = tt;
+  fenced = λ to least. tt;
   count = refl;
   same = record { plan = refl; capacities = refl; limit = refl };
   warm = inl (refl, refl);
@@ -81,6 +103,7 @@ module _ (old : CoreState) (chip : ChipState) where
     added = x.added;
     log = ap (λ h. with_write h s) x.log ∙ ap (λ ts. record { taken = ts; marks = old.log.marks ++ x.added; ends = old.log.ends }) (append_assoc old.log.taken sent (s ∷ []));
     way = x.way;
+    fenced = λ to least. x.fenced to (let longer = length-append sent (s ∷ []) in omega (arith, least, longer));
     count = x.count;
     same = record { plan = x.same.plan; capacities = x.same.capacities; limit = x.same.limit };
     warm = x.warm;
@@ -95,6 +118,9 @@ module _ (old : CoreState) (chip : ChipState) where
         added = x.added ++ mark ∷ [];
         log = ap (λ h. with_mark h mark) x.log ∙ ap (λ ms. record { taken = old.log.taken ++ sent; marks = ms; ends = old.log.ends }) (append_assoc old.log.marks x.added (mark ∷ []));
         way = way_both x.added (mark ∷ []) x.way ((λ h. h), tt);
+        fenced = λ to least.
+            let taken : length c.log.taken ≡ length old.log.taken + length sent = ap (λ (h : History). length h.taken) x.log ∙ length-append old.log.taken sent in
+            fenced-both (length old.log.taken) to (length chip.effects) x.added (mark ∷ []) (x.fenced to least) ((omega (arith, taken), omega (arith, taken, least), refl), tt);
         count = let both = restarts_both x.added (mark ∷ []) in let count = x.count in omega (arith, both, count);
         same = record { plan = x.same.plan; capacities = x.same.capacities; limit = x.same.limit };
         warm = inr (omega arith, refl);

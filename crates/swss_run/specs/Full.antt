@@ -36,12 +36,13 @@ pub record AreActsMade (round : Round) (since : Ran) : Type 0 where
   pub sent : since.sent ≡ sent_in_round round
   pub restarts : restarts_in round.sections ≤ restarts_marked since.marks
 
--- the log of this run has so few places left: a write or a restart of the round is due; or all were made, and one of these is due in the run: the restart after a fault or the list of the chip after a restart, which need 1; the mark of a restore, which needs 1 and 1 for each key that it lists; a chip call, which needs 2; the mark of the end of an apply, which needs 1; or the mark of the settling, which needs 1 and 1 for each key that it lists
+-- the log of this run has so few places left: a write or a restart of the round is due; or all were made, and one of these is due in the run: the restart after a fault, the list of the chip after a restart or any mark of a restore, which need 1; the mark of a restore that is known, which needs 1 and 1 for each key that it lists; a chip call, which needs 2; the mark of the end of an apply, which needs 1; or the mark of the settling, which needs 1 and 1 for each key that it lists
 pub data IsFull (plan : Ports) (capacities : List ℕ) (limit : ℕ) (round : Round) (log : History) (chip : ChipState) (since : Ran) (run : LoggedService) : Type 0 where
   AtWrite : (next : Sent) (later : List Sent) → sent_in_round round ≡ since.sent ++ next ∷ later → limit < log_size log (length chip.effects) + 1 → IsFull plan capacities limit round log chip since run
   AtRestart : restarts_marked since.marks < restarts_in round.sections → limit < log_size log (length chip.effects) + 1 → IsFull plan capacities limit round log chip since run
   AtFault : AreActsMade round since → is_suspect log.marks ≡ true → limit < log_size log (length chip.effects) + 1 → IsFull plan capacities limit round log chip since run
   AtList : (last : Mark) → AreActsMade round since → last_mark None log.marks ≡ Some last → restarts_at last.event ≡ 1 → limit < log_size log (length chip.effects) + 1 → IsFull plan capacities limit round log chip since run
+  AtRestoring : AreActsMade round since → run.service.warm ≡ warm.Restored → limit < log_size log (length chip.effects) + 1 → IsFull plan capacities limit round log chip since run
   AtRestore : (waits : List (Key × Wait)) → AreActsMade round since → AwaitsRestore plan capacities run waits → limit < log_size log (length chip.effects) + 1 + length waits → IsFull plan capacities limit round log chip since run
   AtCall : AreActsMade round since → AwaitsCall run → limit < log_size log (length chip.effects) + 2 → IsFull plan capacities limit round log chip since run
   AtApplyEnd : AreActsMade round since → AwaitsEnd run → limit < log_size log (length chip.effects) + 1 → IsFull plan capacities limit round log chip since run

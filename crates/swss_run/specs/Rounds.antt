@@ -1,5 +1,5 @@
 -- The rounds of a session that ended: what the log and the chip's calls say of each, and what it prints. Own.
-use Rattle.std.specs.Prelude.{◌≡◌, ℕ, ◌+◌, ◌<◌, List, [], ◌∷◌, ◌++◌, length, flat_map}
+use Rattle.std.specs.Prelude.{◌≡◌, ℕ, ◌+◌, ◌<◌, List, [], ◌∷◌, ◌++◌, length, flat_map, ◌≤◌}
 use Rattle.table_schema.specs.Plan.{Ports}
 use Rattle.table_schema.specs.Rows.{rows_of}
 use Rattle.table_schema.specs.declared.write.Sent.{Sent}
@@ -9,6 +9,8 @@ use Rattle.sai_types.specs.declared.body.Call.{Call}
 use Rattle.switch_model.specs.History.{History}
 use Rattle.switch_model.specs.Marks.{sent_writes}
 use Rattle.switch_model.specs.declared.mark.Mark.{Mark}
+use Rattle.switch_model.specs.declared.mark.MarkEvent.{MarkEvent}
+use Rattle.switch_model.specs.declared.mark.MarkEvent.TheVariants as event
 use Rattle.machine_laws.specs.Order.{MayEndRound}
 use Rattle.orch_core.specs.ComingBack.{AreOnWay}
 use Rattle.swss_script.specs.Sent.{sent_in_round}
@@ -39,12 +41,23 @@ abbrev pub ends_from : ℕ → List Ran → List ℕ
 ends_from n [] = []
 ends_from n (ran ∷ rans) = (n + length ran.marks) ∷ ends_from (n + length ran.marks) rans
 
+-- a mark of a restart counts the calls that there were when its round began, and the writes from then on up to those of the round; the mark at which an apply begins counts all of these: with one worker no call takes effect between the mark at which the round before ended and the first mark of a round, nor up to the beginning of an apply
+abbrev pub IsFenced : ℕ → ℕ → ℕ → Mark → MarkEvent → Type 0
+IsFenced from to calls mark event.Restarted = (from ≤ mark.taken) × (mark.taken ≤ to) × (mark.effects ≡ calls)
+IsFenced from to calls mark (event.ApplyBegan mode waits) = (mark.taken ≡ to) × (mark.effects ≡ calls)
+IsFenced from to calls mark _ = Unit {0}
+
+abbrev pub AreFenced : ℕ → ℕ → ℕ → List Mark → Type 0
+AreFenced from to calls [] = Unit {0}
+AreFenced from to calls (mark ∷ marks) = IsFenced from to calls mark mark.event × AreFenced from to calls marks
+
 -- a round ends at its last mark, that of its settling, which counts the writes taken and the calls made so far; the marks before it are those of restarts and applies
 pub record EndsAtMark (sent calls : ℕ) (ran : Ran) : Type 0 where
   pub before : List Mark
   pub mark : Mark
   pub marks : ran.marks ≡ before ++ mark ∷ []
   pub way : AreOnWay before
+  pub fenced : AreFenced sent (sent + length ran.sent) calls before
   pub settling : MayEndRound mark.event
   pub taken : mark.taken ≡ sent + length ran.sent
   pub effects : mark.effects ≡ calls + length ran.calls
@@ -61,6 +74,7 @@ pub record IsCutInRounds (log : History) (done : List (Call Rid)) (rans : List R
   pub effects : done ≡ all_calls rans ++ since.calls
   pub at_marks : EndAtMarks 0 0 rans
   pub way : AreOnWay since.marks
+  pub fenced : AreFenced (length (all_sent rans)) (length (all_sent rans) + length since.sent) (length (all_calls rans)) since.marks
 
 -- the first number is greater than n, and each later one greater than the one before it
 abbrev pub AreEndsRising : ℕ → List ℕ → Type 0

@@ -3,7 +3,6 @@ use Rattle.std.specs.Prelude.{◌≡◌, ◌⊎◌, ℕ, ◌+◌, ◌*◌, ◌<�
 use Rattle.swss_types.specs.Outside.{Takes}
 use Rattle.table_schema.specs.Plan.{Ports}
 use Rattle.sai_types.specs.ChipState.{ChipState}
-use Rattle.sai_chip.specs.Sim.{Sim}
 use Rattle.switch_model.specs.History.{History, log_size, no_history}
 use Rattle.switch_model.specs.Promises.{EffectsAreLegal, MarksAreTrue}
 use Rattle.switch_model.specs.Sound.{AreWithin, is_suspect}
@@ -17,7 +16,7 @@ use Rattle.round_laws.specs.Named.{keys_named}
 use Rattle.round_laws.specs.Sessions.{BeginNoApply}
 use Rattle.swss_script.specs.declared.parts.Round.{Round}
 use Rattle.swss_script.specs.declared.script.Script.{Script}
-use Rattle.swss_run.specs.Breaks.{AreSteadyOverBreaks}
+use Rattle.restart_laws.specs.BrokenOff.{AreSteadyOverBreaks}
 use Rattle.swss_run.specs.Faults.{FaultsRise, places_beside}
 use Rattle.swss_run.specs.Full.{IsFull}
 use Rattle.swss_run.specs.Output.{TakesFront, TakesPart}
@@ -25,11 +24,12 @@ use Rattle.swss_run.specs.Read.{WasRead}
 use Rattle.swss_run.specs.Run.{HasNoSession, chip_fail}
 use Rattle.swss_run.specs.Restarts.{AreRestarted}
 use Rattle.swss_run.specs.Rounds.{AreTaken, IsCutInRounds, IsReport, Ran, AreEndsRising, all_calls, all_marks, all_sent, nothing_ran}
-use Rattle.swss_run.specs.Turned.{AreDrained, AreTurned, IsSinceQuiet}
+use Rattle.swss_run.specs.Turned.{AreDrained, AreTurned, IsSinceTurned}
 use Rattle.swss_run.specs.declared.outcome.Outcome.{Outcome}
 use Rattle.swss_run.specs.declared.run.TheConstants.{LOG_LIMIT}
 use Rattle.swss_run.specs.declared.status.Status.{Status}
 use Rattle.swss_run.specs.declared.status.Status.TheVariants as status
+use Rattle.sai_types.specs.After.{chip_after}
 
 -- how many places the log has
 abbrev pub log_limit : ℕ
@@ -79,12 +79,13 @@ IsReported status.OutOfMemory plan capacities rounds rans since log chip run hel
     (told : List Ran) × (untold : List Ran) × (rans ≡ told ++ untold) × TookFront plan capacities told rounds held held'
 IsReported _ plan capacities rounds rans since log chip run held held' = ⊥
 
--- a session over rounds: the log and the effects are the record of one run of the service's machine, by at most four workers, from its beginning over an empty chip. Of all that was made: every chip call was legal; outside applies at most so many took effect as an operation makes for each write taken and each key listed where an apply began, and where none began, for each write; every mark is true, counts no fewer writes and calls than the mark before it and no more than there are, and stands where it may; each event found its places in the log; of each apply, what holds while it is made, and of applies that are broken off one after the other, what holds over them all; and each fault of the chip has its mark. Of the rounds: the writes taken are theirs in order and each once, the ends of rounds rise, they restarted as often as their sections say, or once more behind a fault; the calls of each round that neither follows a fault nor has one, and did not restart, are those of its turns, which leave quiet rows alone and drain where there is room, and so does each that restarted; and the calls of one that did not end leave quiet rows alone too. And the sink took what the status says of the report
+-- a session over rounds: the log and the effects are the record of one run of the service's machine, by at most four workers, from its beginning over an empty chip. Of all that was made: every chip call was legal; outside applies at most so many took effect as an operation makes for each write taken and each key listed where an apply began, and where none began, for each write; every mark is true, counts no fewer writes and calls than the mark before it and no more than there are, and stands where it may; each event found its places in the log; of each apply, what holds while it is made, and of applies that are broken off one after the other, what holds over them all; and each fault of the chip has its mark. Of the rounds: the writes taken are theirs in order and each once, the ends of rounds rise, they restarted as often as their sections say, or once more behind a fault; the calls of each round that neither follows a fault nor has one, and did not restart, are those of its turns, which leave quiet rows alone and drain where there is room, and so does each that restarted; the calls of one that a fault ended, or that did not end, are those of its turns so far, and the latter leave quiet rows alone too. And the sink took what the status says of the report
 pub record IsSession (plan : Ports) (capacities : List ℕ) (rounds : List Round) (ended : Status) (log : History) (chip : ChipState) (held held' : Option (List ℕ)) : Type 0 where
   pub run : LoggedService
   pub recorded : HasRecorded plan capacities log chip.effects run
   pub room : chip.capacities ≡ capacities
   pub clean : chip.clean ≡ true
+  pub objects : chip.objects ≡ chip_after chip.effects (length chip.effects)
   pub legality : EffectsAreLegal plan capacities log.taken chip.effects
   pub few : effects_outside None log.marks (length chip.effects) ≤ most_calls * (length log.taken + listed_at_applies log.marks)
   pub all_few : BeginNoApply log.marks → length chip.effects ≤ most_calls * length log.taken
@@ -102,7 +103,7 @@ pub record IsSession (plan : Ports) (capacities : List ℕ) (rounds : List Round
   pub writes : AreTaken rans rounds since.sent
   pub restarts : AreRestarted false rans rounds since.marks
   pub turned : AreTurned plan capacities None [] [] rans
-  pub quiet : IsSinceQuiet plan (last_mark None (all_marks rans)) (all_sent rans) (all_calls rans) since
+  pub since_turned : IsSinceTurned plan capacities (last_mark None (all_marks rans)) (all_sent rans) (all_calls rans) since
   pub drained : AreDrained plan capacities [] rans
   pub reported : IsReported ended plan capacities rounds rans since log chip run held held'
 
@@ -113,9 +114,9 @@ pub record IsScriptRun (script : Script) (ended : Status) (log : History) (chip 
   pub session : IsSession script.plan script.caps.0 script.rounds ended log chip held held'
 
 -- a run that got to its script: a session, or none where memory was refused before its chip stood
-abbrev pub IsRunBy : Script → Status → History → Option Sim → Option (List ℕ) → Option (List ℕ) → Type 0
+abbrev pub IsRunBy : Script → Status → History → Option ChipState → Option (List ℕ) → Option (List ℕ) → Type 0
 IsRunBy script ended log None held held' = (ended ≡ status.OutOfMemory) × (log ≡ no_history) × (held' ≡ held)
-IsRunBy script ended log (Some sim) held held' = IsScriptRun script ended log sim.chip held held'
+IsRunBy script ended log (Some sim) held held' = IsScriptRun script ended log sim held held'
 
 abbrev pub IsRun : Script → Outcome → Option (List ℕ) → Option (List ℕ) → Type 0
 IsRun script outcome held held' = IsRunBy script outcome.status outcome.log outcome.chip held held'

@@ -10,7 +10,7 @@ use Rattle.table_schema.specs.declared.write.Sent.{Sent}
 use Rattle.table_schema.specs.declared.write.Write.{Write}
 use Rattle.session_laws.specs.Core.{CoreState, IsFullFor, size_beside, with_taken}
 use Rattle.session_laws.specs.Service.Events.{restarted}
-use Rattle.swss_script.specs.Given.{HasReadKey}
+use Rattle.table_schema.specs.Writes.{HasReadKey}
 use Rattle.swss_script.specs.Sent.{next_sent}
 use Rattle.swss_script.specs.declared.parts.Act.{Act}
 use Rattle.swss_script.specs.declared.parts.Act.TheVariants as act

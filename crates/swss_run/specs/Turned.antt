@@ -1,5 +1,5 @@
 -- What the calls of rounds are whose settlings ended. Own.
-use Rattle.std.specs.Prelude.{◌≡◌, ◌≤◌, ℕ, List, [], ◌∷◌, ◌++◌, length, Option, Some, None}
+use Rattle.std.specs.Prelude.{◌≡◌, ◌≤◌, ℕ, true, List, [], ◌∷◌, ◌++◌, length, Option, Some, None}
 use Rattle.table_schema.specs.Plan.{Ports}
 use Rattle.table_schema.specs.Rows.{rows_of}
 use Rattle.table_schema.specs.declared.write.Sent.{Sent}
@@ -9,6 +9,7 @@ use Rattle.switch_model.specs.Desired.{IsClosed, IsThingOf}
 use Rattle.switch_model.specs.Good.{good_rows}
 use Rattle.switch_model.specs.Marks.{Waiting, sent_writes}
 use Rattle.switch_model.specs.Room.{HasRoomForView}
+use Rattle.switch_model.specs.Sound.{is_fault}
 use Rattle.switch_model.specs.declared.mark.Mark.{Mark}
 use Rattle.switch_model.specs.declared.mark.MarkEvent.TheVariants as event
 use Rattle.machine_laws.specs.Order.{IsSettledMark}
@@ -16,7 +17,7 @@ use Rattle.restart_laws.specs.Logged.{last_mark}
 use Rattle.round_laws.specs.Drained.{Drains}
 use Rattle.round_laws.specs.Ended.{EndedRound, LeavesSettled, taken_then}
 use Rattle.round_laws.specs.Quiet.{LeavesQuietRows}
-use Rattle.round_laws.specs.Turns.{IsMadeByTurns}
+use Rattle.round_laws.specs.Turns.{IsMadeByTurns, IsMadeSoFar}
 use Rattle.orch_core.specs.ComingBack.{restarts_marked}
 use Rattle.swss_run.specs.Rounds.{Ran}
 
@@ -30,18 +31,20 @@ pub record EndsTurned (plan : Ports) (capacities : List ℕ) (r : EndedRound) : 
 abbrev pub round_at : Option Mark → List Sent → List (Call Rid) → Ran → Mark → EndedRound
 round_at before taken effects ran mark = record { before = before; taken = taken; effects = effects; sent = ran.sent; calls = ran.calls; mark = mark }
 
--- so it is where that is the round's one mark and that of a settling that ended, and so is the mark before it, if there is one
-abbrev pub IsRoundTurned : Ports → List ℕ → Option Mark → List Sent → List (Call Rid) → Ran → Type 0
-IsRoundTurned plan capacities before taken effects ran = (mark : Mark) → ran.marks ≡ mark ∷ [] → IsSettledMark mark.event → LeavesSettled before → EndsTurned plan capacities (round_at before taken effects ran mark)
+-- a round that has one mark, and follows none or that of a settling that ended: where its own is that of a settling too, it ended by its turns; and where it is that of a fault, its calls are those of its turns so far, of which the last may be the one that failed
+pub record IsRoundTurned (plan : Ports) (capacities : List ℕ) (before : Option Mark) (taken : List Sent) (effects : List (Call Rid)) (ran : Ran) : Type 0 where
+  pub whole : (mark : Mark) → ran.marks ≡ mark ∷ [] → IsSettledMark mark.event → LeavesSettled before → EndsTurned plan capacities (round_at before taken effects ran mark)
+  pub cut : (mark : Mark) → ran.marks ≡ mark ∷ [] → is_fault mark.event ≡ true → LeavesSettled before → IsMadeSoFar plan capacities (round_at before taken effects ran mark)
 
 -- and so of rounds that ended one after the other
 abbrev pub AreTurned : Ports → List ℕ → Option Mark → List Sent → List (Call Rid) → List Ran → Type 0
 AreTurned plan capacities before taken effects [] = Unit {0}
 AreTurned plan capacities before taken effects (ran ∷ rans) = IsRoundTurned plan capacities before taken effects ran × AreTurned plan capacities (last_mark before ran.marks) (taken ++ ran.sent) (effects ++ ran.calls) rans
 
--- a round that did not end leaves alone, as far as it came, what stood for the rows of keys that it does not try, whatever mark would have ended it, where it made none and follows a settling that ended
-abbrev pub IsSinceQuiet : Ports → Option Mark → List Sent → List (Call Rid) → Ran → Type 0
-IsSinceQuiet plan before taken effects since = since.marks ≡ [] → LeavesSettled before → (mark : Mark) → LeavesQuietRows plan (round_at before taken effects since mark)
+-- a round that did not end, where it made no mark and follows none or that of a settling that ended: as far as it came, its calls are those of its turns so far, and it leaves alone what stood for the rows of keys that it does not try, whatever mark would have ended it
+pub record IsSinceTurned (plan : Ports) (capacities : List ℕ) (before : Option Mark) (taken : List Sent) (effects : List (Call Rid)) (since : Ran) : Type 0 where
+  pub so_far : since.marks ≡ [] → LeavesSettled before → (mark : Mark) → IsMadeSoFar plan capacities (round_at before taken effects since mark)
+  pub quiet : since.marks ≡ [] → LeavesSettled before → (mark : Mark) → LeavesQuietRows plan (round_at before taken effects since mark)
 
 -- where the good rows of all writes then taken are closed, and there is room for their things, a round that restarted and whose settling ended lists no key at its mark and counts at most four turns
 abbrev pub DrainsBehind : Ports → List ℕ → List Sent → Ran → Type 0

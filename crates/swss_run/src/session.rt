@@ -39,13 +39,13 @@ pub(crate) fn run_rounds<K: Sink>(
     sink: &mut K,
 ) -> Status
     requires new { core.old ≡ new_core core.old.board.plan core.old.sync.capacities log_limit }
-    requires chip { chip.old.chip ≡ new_chip core.old.sync.capacities chip.old.chip.fails }
+    requires chip { chip.old ≡ new_chip core.old.sync.capacities chip.old.fails }
     requires plan { IsPlan core.old.board.plan }
     requires read { AllByRecursion (λ r. HaveReadKeys (writes_in r.sections)) rounds }
     ensures ran { ends_early result ≡ false }
     ensures write_fault { result ≡ Status.WriteFault → HasRisen (K.faults sink.old) (K.faults sink.new) }
-    ensures session { IsSession core.old.board.plan core.old.sync.capacities rounds result core.new.log chip.new.chip (K.holds sink.old) (K.holds sink.new) }
-    ensures fails { chip.new.chip.fails ≡ chip.old.chip.fails }
+    ensures session { IsSession core.old.board.plan core.old.sync.capacities rounds result core.new.log chip.new (K.holds sink.old) (K.holds sink.new) }
+    ensures fails { chip.new.fails ≡ chip.old.fails }
 {
     let mut replay = Replay::new(alloc);
     let mut told = Told::new(alloc);
@@ -66,15 +66,15 @@ fn run_each<K: Sink>(
     sink: &mut K,
 ) -> Status
     requires new { core.old ≡ new_core core.old.board.plan core.old.sync.capacities log_limit }
-    requires chip { chip.old.chip ≡ new_chip core.old.sync.capacities chip.old.chip.fails }
+    requires chip { chip.old ≡ new_chip core.old.sync.capacities chip.old.fails }
     requires plan { IsPlan core.old.board.plan }
     requires read { AllByRecursion (λ r. HaveReadKeys (writes_in r.sections)) rounds }
     requires replay { replay.old ≡ new_replay }
     requires told { IsToldOf told.old core.old.log.taken }
     ensures ran { ends_early result ≡ false }
     ensures write_fault { result ≡ Status.WriteFault → HasRisen (K.faults sink.old) (K.faults sink.new) }
-    ensures session { IsSession core.old.board.plan core.old.sync.capacities rounds result core.new.log chip.new.chip (K.holds sink.old) (K.holds sink.new) }
-    ensures fails { chip.new.chip.fails ≡ chip.old.chip.fails }
+    ensures session { IsSession core.old.board.plan core.old.sync.capacities rounds result core.new.log chip.new (K.holds sink.old) (K.holds sink.new) }
+    ensures fails { chip.new.fails ≡ chip.old.fails }
 {
     let mut number = 0u64;
     let mut ended = Status::Done;
@@ -107,7 +107,7 @@ fn run_round<K: Sink>(
     requires read { HaveReadKeys (writes_in round.sections) }
     ensures told { IsToldOf told.new core.new.log.taken }
     ensures counts { K.faults sink.old ≤ K.faults sink.new }
-    ensures fails { chip.new.chip.fails ≡ chip.old.chip.fails }
+    ensures fails { chip.new.fails ≡ chip.old.fails }
     ensures run { IsRoundRun number round core.old chip.old (K.holds sink.old) (K.faults sink.old) result core.new chip.new replay.new (K.holds sink.new) (K.faults sink.new) }
 {
     let Round { sections, shows } = round;

@@ -30,7 +30,7 @@ loop-round-init g c =
       refl,
       subst AreRead (sym items) c.requires.read,
       omega arith,
-      running-none c.args.rounds c.args.core.now c.args.chip.now (g.K.Sink.holds c.args.sink.now) c.args.replay.now c.requires.new c.requires.chip c.requires.plan (replay-none c.args.chip.now.chip.effects c.args.replay.now c.requires.replay) (ap (λ (r : Replayed). r.at) c.requires.replay),
+      running-none c.args.rounds c.args.core.now c.args.chip.now (g.K.Sink.holds c.args.sink.now) c.args.replay.now c.requires.new c.requires.chip c.requires.plan (replay-none c.args.chip.now.effects c.args.replay.now c.requires.replay) (ap (λ (r : Replayed). r.at) c.requires.replay),
       ended-none c.args.core.now c.args.chip.now c.requires.new,
       refl,
       c.requires.told,

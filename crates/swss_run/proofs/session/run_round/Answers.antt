@@ -15,7 +15,7 @@ use Rattle.swss_run.specs.declared.status.Status.{Status}
 use Rattle.session_laws.specs.Core.{CoreState}
 use Rattle.swss_run.specs.Taking.{IsRoundMade, acts_in}
 use Rattle.swss_run.specs.declared.taking.Taken.{Taken}
-use Rattle.swss_run.proofs.RoundRuns.{follows-new, from-fails, full-taking, in-all, marks-longer, more-all, run-halted, run-over, run-quiet, run-stopped, run-unwritten, run-written, stops-wanting, told-new, told-stopped}
+use Rattle.swss_run.proofs.RoundRuns.{follows-new, from-fails, full-taking, in-all, marks-longer, more-all, run-halted, run-over, run-turned, run-stopped, run-unwritten, run-written, stops-wanting, told-new, told-stopped}
 use Rattle.swss_run.proofs.Tables.{rows-shown}
 use Rattle.swss_run.proofs.session.run_round.Goals as goal
 
@@ -40,7 +40,7 @@ settle-settled-requires g c =
 pub slice_bounds-end-count : goal.slice_bounds-end-count
 slice_bounds-end-count g c =
     let made = (made_as c.effects.result (acts_in c.args.round.sections) c.args.core.now c.take_round.new.core c.in-All.is c.take_round.ensures.made).1.0 in
-    let longer = marks-longer c.args.round c.args.core.now c.args.chip.now c.args.replay.now c.requires.ready c.requires.read c.take_round.new.core c.effects.result c.effects.ensures c.take_round.ensures.within made c.settle-settled.new.self c.settle-settled.new.chip (more-all c.args.round c.args.core.now c.args.chip.now c.args.replay.now c.requires.ready c.requires.read c.take_round.new.core c.effects.result c.effects.ensures c.take_round.ensures.within made c.settle-settled.new.self c.settle-settled.new.chip c.settle-settled.result c.settle-settled.ensures) in
+    let longer = marks-longer c.args.round c.args.core.now c.args.chip.now c.args.replay.now c.requires.ready c.requires.read c.take_round.new.core c.effects.result c.effects.ensures c.take_round.ensures.within made c.settle-settled.new.self c.settle-settled.new.chip (more-all c.args.round c.args.core.now c.args.chip.now c.args.replay.now c.requires.ready c.requires.read c.take_round.new.core c.effects.result c.effects.ensures c.take_round.ensures.within made c.settle-settled.new.self c.settle-settled.new.chip c.settle-settled.result c.settle-settled.ensures.settles) in
     let before : c.marks-before.result.now ≡ c.args.core.now.log.marks = search rules in
     let now : c.marks.result.now ≡ c.settle-settled.new.self.log.marks = search rules in
     omega (arith, longer, ap length before, ap length now)
@@ -48,7 +48,7 @@ slice_bounds-end-count g c =
 pub slice_bounds-end-start : goal.slice_bounds-end-start
 slice_bounds-end-start g c =
     let made = (made_as c.effects.result (acts_in c.args.round.sections) c.args.core.now c.take_round.new.core c.in-All.is c.take_round.ensures.made).1.0 in
-    let longer = marks-longer c.args.round c.args.core.now c.args.chip.now c.args.replay.now c.requires.ready c.requires.read c.take_round.new.core c.effects.result c.effects.ensures c.take_round.ensures.within made c.settle-settled.new.self c.settle-settled.new.chip (more-all c.args.round c.args.core.now c.args.chip.now c.args.replay.now c.requires.ready c.requires.read c.take_round.new.core c.effects.result c.effects.ensures c.take_round.ensures.within made c.settle-settled.new.self c.settle-settled.new.chip c.settle-settled.result c.settle-settled.ensures) in
+    let longer = marks-longer c.args.round c.args.core.now c.args.chip.now c.args.replay.now c.requires.ready c.requires.read c.take_round.new.core c.effects.result c.effects.ensures c.take_round.ensures.within made c.settle-settled.new.self c.settle-settled.new.chip (more-all c.args.round c.args.core.now c.args.chip.now c.args.replay.now c.requires.ready c.requires.read c.take_round.new.core c.effects.result c.effects.ensures c.take_round.ensures.within made c.settle-settled.new.self c.settle-settled.new.chip c.settle-settled.result c.settle-settled.ensures.settles) in
     let before : c.marks-before.result.now ≡ c.args.core.now.log.marks = search rules in
     let now : c.marks.result.now ≡ c.settle-settled.new.self.log.marks = search rules in
     omega (arith, longer, ap length before, ap length now)
@@ -57,36 +57,36 @@ pub returns-in-Ok-is_behind-clause-fails : goal.returns-in-Ok-is_behind-clause-f
 returns-in-Ok-is_behind-clause-fails g c =
     let made = (made_as c.effects.result (acts_in c.args.round.sections) c.args.core.now c.take_round.new.core c.in-All.is c.take_round.ensures.made).1.0 in
     let x = in-all c.args.round c.args.core.now c.args.chip.now c.args.replay.now c.requires.ready c.requires.read c.take_round.new.core c.effects.result c.effects.ensures c.take_round.ensures.within made in
-    from-fails c.take_round.new.core c.args.chip.now.chip x.session c.settle-settled.result c.settle-settled.new.self c.settle-settled.new.chip.chip (c.settle-settled.ensures x.session x.stands)
+    from-fails c.take_round.new.core c.args.chip.now x.session c.settle-settled.result c.settle-settled.new.self c.settle-settled.new.chip (c.settle-settled.ensures.settles x.session x.stands)
 
 pub returns-in-Ok-clause-fails : goal.returns-in-Ok-clause-fails
 returns-in-Ok-clause-fails g c =
     let made = (made_as c.effects.result (acts_in c.args.round.sections) c.args.core.now c.take_round.new.core c.in-All.is c.take_round.ensures.made).1.0 in
     let x = in-all c.args.round c.args.core.now c.args.chip.now c.args.replay.now c.requires.ready c.requires.read c.take_round.new.core c.effects.result c.effects.ensures c.take_round.ensures.within made in
-    from-fails c.take_round.new.core c.args.chip.now.chip x.session c.settle-settled.result c.settle-settled.new.self c.settle-settled.new.chip.chip (c.settle-settled.ensures x.session x.stands)
+    from-fails c.take_round.new.core c.args.chip.now x.session c.settle-settled.result c.settle-settled.new.self c.settle-settled.new.chip (c.settle-settled.ensures.settles x.session x.stands)
 
 pub returns-clause-fails : goal.returns-clause-fails
 returns-clause-fails g c =
     let made = (made_as c.effects.result (acts_in c.args.round.sections) c.args.core.now c.take_round.new.core c.in-All.is c.take_round.ensures.made).1.0 in
     let x = in-all c.args.round c.args.core.now c.args.chip.now c.args.replay.now c.requires.ready c.requires.read c.take_round.new.core c.effects.result c.effects.ensures c.take_round.ensures.within made in
-    from-fails c.take_round.new.core c.args.chip.now.chip x.session c.settle-settled.result c.settle-settled.new.self c.settle-settled.new.chip.chip (c.settle-settled.ensures x.session x.stands)
+    from-fails c.take_round.new.core c.args.chip.now x.session c.settle-settled.result c.settle-settled.new.self c.settle-settled.new.chip (c.settle-settled.ensures.settles x.session x.stands)
 
 pub write_lines-requires : goal.write_lines-requires
 write_lines-requires g c =
     let made = (made_as c.effects.result (acts_in c.args.round.sections) c.args.core.now c.take_round.new.core c.in-All.is c.take_round.ensures.made).1.0 in
-    record { follows = follows-new c.args.round c.args.core.now c.args.chip.now c.args.replay.now c.requires.ready c.requires.read c.take_round.new.core c.effects.result c.effects.ensures c.take_round.ensures.within made c.settle-settled.new.self c.settle-settled.new.chip (more-all c.args.round c.args.core.now c.args.chip.now c.args.replay.now c.requires.ready c.requires.read c.take_round.new.core c.effects.result c.effects.ensures c.take_round.ensures.within made c.settle-settled.new.self c.settle-settled.new.chip c.settle-settled.result c.settle-settled.ensures) }
+    record { follows = follows-new c.args.round c.args.core.now c.args.chip.now c.args.replay.now c.requires.ready c.requires.read c.take_round.new.core c.effects.result c.effects.ensures c.take_round.ensures.within made c.settle-settled.new.self c.settle-settled.new.chip (more-all c.args.round c.args.core.now c.args.chip.now c.args.replay.now c.requires.ready c.requires.read c.take_round.new.core c.effects.result c.effects.ensures c.take_round.ensures.within made c.settle-settled.new.self c.settle-settled.new.chip c.settle-settled.result c.settle-settled.ensures.settles) }
 
 pub returns-clause-run : goal.returns-clause-run
 returns-clause-run g c =
     let made = (made_as c.effects.result (acts_in c.args.round.sections) c.args.core.now c.take_round.new.core c.in-All.is c.take_round.ensures.made).1.0 in
     run-halted c.args.round c.args.core.now c.args.chip.now c.settle-settled.new.self c.settle-settled.new.chip c.in-Err.status c.args.number (g.K.Sink.holds c.args.sink.now) (g.K.Sink.faults c.args.sink.now) c.args.replay.now
-    (run-stopped c.args.round c.args.core.now c.args.chip.now c.args.replay.now c.requires.ready c.requires.read c.take_round.new.core c.effects.result c.effects.ensures c.take_round.ensures.within made c.settle-settled.new.self c.settle-settled.new.chip c.settle-settled.result c.in-Err.status (sym c.round_ended.ensures ∙ c.in-Err.is) c.settle-settled.ensures)
-    (run-quiet c.args.round c.args.core.now c.args.chip.now c.args.replay.now c.requires.ready c.requires.read c.take_round.new.core c.effects.result c.effects.ensures c.take_round.ensures.within made c.settle-settled.new.self c.settle-settled.new.chip c.settle-settled.result c.settle-settled.ensures)
+    (run-stopped c.args.round c.args.core.now c.args.chip.now c.args.replay.now c.requires.ready c.requires.read c.take_round.new.core c.effects.result c.effects.ensures c.take_round.ensures.within made c.settle-settled.new.self c.settle-settled.new.chip c.settle-settled.result c.in-Err.status (sym c.round_ended.ensures ∙ c.in-Err.is) c.settle-settled.ensures.settles)
+    (run-turned c.args.round c.args.core.now c.args.chip.now c.args.replay.now c.requires.ready c.requires.read c.take_round.new.core c.effects.result c.effects.ensures c.take_round.ensures.within made c.settle-settled.new.self c.settle-settled.new.chip c.settle-settled.result c.settle-settled.ensures.settles)
 
 pub returns-in-Ok-clause-run : goal.returns-in-Ok-clause-run
 returns-in-Ok-clause-run g c =
     let made = (made_as c.effects.result (acts_in c.args.round.sections) c.args.core.now c.take_round.new.core c.in-All.is c.take_round.ensures.made).1.0 in
-    let over = run-over c.args.round c.args.core.now c.args.chip.now c.args.replay.now c.requires.ready c.requires.read c.take_round.new.core c.effects.result c.effects.ensures c.take_round.ensures.within made c.settle-settled.new.self c.settle-settled.new.chip c.settle-settled.result c.in-Ok.ended (sym c.round_ended.ensures ∙ c.in-Ok.is) c.settle-settled.ensures c.is_behind.ensures.order in
+    let over = run-over c.args.round c.args.core.now c.args.chip.now c.args.replay.now c.requires.ready c.requires.read c.take_round.new.core c.effects.result c.effects.ensures c.take_round.ensures.within made c.settle-settled.new.self c.settle-settled.new.chip c.settle-settled.result c.in-Ok.ended (sym c.round_ended.ensures ∙ c.in-Ok.is) c.settle-settled.ensures.settles c.is_behind.ensures.order in
     run-unwritten c.args.round c.args.core.now c.args.chip.now c.args.replay.now c.requires.ready c.in-Ok.ended c.settle-settled.new.self c.settle-settled.new.chip over c.args.number (g.K.Sink.holds c.args.sink.now) (g.K.Sink.faults c.args.sink.now) c.args.replay.now
 
 -- the lines that were asked for, said in other words
@@ -109,11 +109,11 @@ marks_behind before before' n ms ms' at same is =
 pub returns-in-Ok-is_behind-clause-run : goal.returns-in-Ok-is_behind-clause-run
 returns-in-Ok-is_behind-clause-run g c =
     let made = (made_as c.effects.result (acts_in c.args.round.sections) c.args.core.now c.take_round.new.core c.in-All.is c.take_round.ensures.made).1.0 in
-    let over = run-over c.args.round c.args.core.now c.args.chip.now c.args.replay.now c.requires.ready c.requires.read c.take_round.new.core c.effects.result c.effects.ensures c.take_round.ensures.within made c.settle-settled.new.self c.settle-settled.new.chip c.settle-settled.result c.in-Ok.ended (sym c.round_ended.ensures ∙ c.in-Ok.is) c.settle-settled.ensures c.is_behind.ensures.order in
+    let over = run-over c.args.round c.args.core.now c.args.chip.now c.args.replay.now c.requires.ready c.requires.read c.take_round.new.core c.effects.result c.effects.ensures c.take_round.ensures.within made c.settle-settled.new.self c.settle-settled.new.chip c.settle-settled.result c.in-Ok.ended (sym c.round_ended.ensures ∙ c.in-Ok.is) c.settle-settled.ensures.settles c.is_behind.ensures.order in
     let marks : c.marks-before.result.now ≡ c.args.core.now.log.marks = search rules in
-    let told = rows-shown c.settle-settled.new.self c.settle-settled.new.chip.chip c.in-Ok-is_behind.behind c.is_behind.new.told.rows over.ends.within c.in-Ok-is_behind.ensures.rows c.is_behind.ensures.rising in
+    let told = rows-shown c.settle-settled.new.self c.settle-settled.new.chip c.in-Ok-is_behind.behind c.is_behind.new.told.rows over.ends.within c.in-Ok-is_behind.ensures.rows c.is_behind.ensures.rising in
     run-written c.args.round c.args.core.now c.args.chip.now c.args.replay.now c.requires.ready c.in-Ok.ended c.settle-settled.new.self c.settle-settled.new.chip over c.args.number c.requires.counted (rows_of (sent_writes c.settle-settled.new.self.log.taken)) refl (g.K.Sink.holds c.args.sink.now) (g.K.Sink.holds c.write_lines.new.sink) (g.K.Sink.faults c.args.sink.now) (g.K.Sink.faults c.write_lines.new.sink) c.write_lines.result c.write_lines.new.replay
-    (written_as c.plan.result.now c.settle-settled.new.self.board.plan c.args.number (take (length c.marks.result.now - length c.marks-before.result.now) (drop (length c.marks-before.result.now) c.marks.result.now)) (drop (length c.args.core.now.log.marks) c.settle-settled.new.self.log.marks) (length c.taken.result.now) (length c.settle-settled.new.self.log.taken) c.rows_shown.result.now (rows_of (sent_writes c.settle-settled.new.self.log.taken)) c.settle-settled.new.chip.chip.capacities c.settle-settled.new.chip.chip.objects c.settle-settled.new.chip.chip.effects c.args.replay.now.at c.items.result.now c.args.round.shows c.in-Ok.ended (g.K.Sink.holds c.args.sink.now) (g.K.Sink.faults c.args.sink.now) c.write_lines.result c.write_lines.new.replay (g.K.Sink.holds c.write_lines.new.sink) (g.K.Sink.faults c.write_lines.new.sink)
+    (written_as c.plan.result.now c.settle-settled.new.self.board.plan c.args.number (take (length c.marks.result.now - length c.marks-before.result.now) (drop (length c.marks-before.result.now) c.marks.result.now)) (drop (length c.args.core.now.log.marks) c.settle-settled.new.self.log.marks) (length c.taken.result.now) (length c.settle-settled.new.self.log.taken) c.rows_shown.result.now (rows_of (sent_writes c.settle-settled.new.self.log.taken)) c.settle-settled.new.chip.capacities c.settle-settled.new.chip.objects c.settle-settled.new.chip.effects c.args.replay.now.at c.items.result.now c.args.round.shows c.in-Ok.ended (g.K.Sink.holds c.args.sink.now) (g.K.Sink.faults c.args.sink.now) c.write_lines.result c.write_lines.new.replay (g.K.Sink.holds c.write_lines.new.sink) (g.K.Sink.faults c.write_lines.new.sink)
     (search rules)
     (marks_behind c.marks-before.result.now c.args.core.now.log.marks (length c.marks-before.result.now) c.marks.result.now c.settle-settled.new.self.log.marks refl marks (search rules))
     (search rules) (c.rows_shown.ensures ∙ told) c.items.ensures c.write_lines.ensures.written)
@@ -132,9 +132,9 @@ returns-in-NoMemory-clause-told g c =
 pub is_behind-requires : goal.is_behind-requires
 is_behind-requires g c =
     let made = (made_as c.effects.result (acts_in c.args.round.sections) c.args.core.now c.take_round.new.core c.in-All.is c.take_round.ensures.made).1.0 in
-    told-new c.args.round c.args.core.now c.args.chip.now c.args.replay.now c.requires.ready c.requires.read c.take_round.new.core c.effects.result c.effects.ensures c.take_round.ensures.within made c.settle-settled.new.self c.settle-settled.new.chip c.args.told.now c.requires.told (more-all c.args.round c.args.core.now c.args.chip.now c.args.replay.now c.requires.ready c.requires.read c.take_round.new.core c.effects.result c.effects.ensures c.take_round.ensures.within made c.settle-settled.new.self c.settle-settled.new.chip c.settle-settled.result c.settle-settled.ensures)
+    told-new c.args.round c.args.core.now c.args.chip.now c.args.replay.now c.requires.ready c.requires.read c.take_round.new.core c.effects.result c.effects.ensures c.take_round.ensures.within made c.settle-settled.new.self c.settle-settled.new.chip c.args.told.now c.requires.told (more-all c.args.round c.args.core.now c.args.chip.now c.args.replay.now c.requires.ready c.requires.read c.take_round.new.core c.effects.result c.effects.ensures c.take_round.ensures.within made c.settle-settled.new.self c.settle-settled.new.chip c.settle-settled.result c.settle-settled.ensures.settles)
 
 pub returns-clause-told : goal.returns-clause-told
 returns-clause-told g c =
     let made = (made_as c.effects.result (acts_in c.args.round.sections) c.args.core.now c.take_round.new.core c.in-All.is c.take_round.ensures.made).1.0 in
-    told-new c.args.round c.args.core.now c.args.chip.now c.args.replay.now c.requires.ready c.requires.read c.take_round.new.core c.effects.result c.effects.ensures c.take_round.ensures.within made c.settle-settled.new.self c.settle-settled.new.chip c.args.told.now c.requires.told (more-all c.args.round c.args.core.now c.args.chip.now c.args.replay.now c.requires.ready c.requires.read c.take_round.new.core c.effects.result c.effects.ensures c.take_round.ensures.within made c.settle-settled.new.self c.settle-settled.new.chip c.settle-settled.result c.settle-settled.ensures)
+    told-new c.args.round c.args.core.now c.args.chip.now c.args.replay.now c.requires.ready c.requires.read c.take_round.new.core c.effects.result c.effects.ensures c.take_round.ensures.within made c.settle-settled.new.self c.settle-settled.new.chip c.args.told.now c.requires.told (more-all c.args.round c.args.core.now c.args.chip.now c.args.replay.now c.requires.ready c.requires.read c.take_round.new.core c.effects.result c.effects.ensures c.take_round.ensures.within made c.settle-settled.new.self c.settle-settled.new.chip c.settle-settled.result c.settle-settled.ensures.settles)
