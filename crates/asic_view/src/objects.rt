@@ -4,7 +4,7 @@ ghost use Rattle.std.specs.BTreeMap.{is_at};
 ghost use Rattle.std.specs.Map.{lookup, set_value};
 ghost use Rattle.std.specs.Option.{option_copied};
 ghost use Rattle.sai_types.specs.Objects.{kind_of};
-ghost use Rattle.asic_view.specs.Places.{NumberedObjects, inside, is_full};
+ghost use Rattle.asic_view.specs.Places.{inside, is_full};
 ghost use Rattle.asic_view.specs.View.{after_create, view_changed_at, entry_at, object_of, object_set, rid_at, vid_cmp, with_tie, without_object};
 
 use crate::ViewObject;
@@ -71,9 +71,10 @@ pub struct Objects {
 }
 
 impl Model for Objects {
-    ghost use Rattle.asic_view.specs.Places.{ArePlaced, NumberedObjects, standing};
+    ghost use Rattle.asic_view.specs.Places.{ArePlaced, standing};
+    ghost use Rattle.asic_view.specs.View.{ViewState};
 
-    ghost Value = { NumberedObjects };
+    ghost Value = { ViewState };
 
     ghost view = { λ o. record { made = o.made; objects = standing o.places.entries } };
 

@@ -42,7 +42,7 @@ fn time_routes(
     view: &mut View,
     times: u32,
 ) -> Result<()>
-    requires { AreRoutesBelow 20000 view.old }
+    requires { AreRoutesBelow 20000 view.old.objects }
 {
     let start = Instant::now(rt)?;
     let left = come_and_go(alloc, view, times)?;
@@ -58,7 +58,7 @@ fn time_routes(
 
 /// Makes the routes and takes them away again, so many times in one view, and gives how many are left.
 fn come_and_go(alloc: Global, view: &mut View, times: u32) -> Result<u64>
-    requires { AreRoutesBelow 20000 view.old }
+    requires { AreRoutesBelow 20000 view.old.objects }
 {
     let mut made = Vec::with_capacity(alloc, ROUTES as usize)?;
     for _ in 0..times {
@@ -70,8 +70,8 @@ fn come_and_go(alloc: Global, view: &mut View, times: u32) -> Result<u64>
 
 /// Makes the routes in a view without any.
 fn make_all(view: &mut View, made: &mut Vec<Vid>) -> Result<()>
-    requires { AreRoutesBelow 20000 view.old }
-    ensures { IfOk result (λ done. AreRoutesBelow 20000 view.new) }
+    requires { AreRoutesBelow 20000 view.old.objects }
+    ensures { IfOk result (λ done. AreRoutesBelow 20000 view.new.objects) }
 {
     ensure!(view.used(Kind::Route) == 0, "a route is left");
     for route in 0..ROUTES {
@@ -82,8 +82,8 @@ fn make_all(view: &mut View, made: &mut Vec<Vid>) -> Result<()>
 
 /// Makes a route.
 fn make(view: &mut View, made: &mut Vec<Vid>, route: u32) -> Result<()>
-    requires { AreRoutesBelow route view.old }
-    ensures { IfOk result (λ done. AreRoutesBelow (route + 1) view.new) }
+    requires { AreRoutesBelow route view.old.objects }
+    ensures { IfOk result (λ done. AreRoutesBelow (route + 1) view.new.objects) }
 {
     let vid = view.create(Body::Route {
         prefix: prefix(route),
@@ -95,8 +95,8 @@ fn make(view: &mut View, made: &mut Vec<Vid>, route: u32) -> Result<()>
 
 /// Takes what was made away.
 fn take_all(view: &mut View, made: &mut Vec<Vid>)
-    requires { AreRoutesBelow 20000 view.old }
-    ensures { AreRoutesBelow 20000 view.new }
+    requires { AreRoutesBelow 20000 view.old.objects }
+    ensures { AreRoutesBelow 20000 view.new.objects }
 {
     while let Some(vid) = made.pop() {
         view.take_back(vid);

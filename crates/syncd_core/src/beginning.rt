@@ -20,10 +20,10 @@ pub(crate) fn begin(
     listed: &[Object<Rid>],
     view: &mut View,
 ) -> Result<Plan, OutOfMemory>
-    requires { AreDistinct (those (new_keys (objects_listed view.old))) }
-    ensures plan { IfOk result (λ plan. IsPlanOf listed.now (objects_listed view.old) (pairs_of listed.now (objects_listed view.old)) caps.now.0 plan) }
-    ensures ties { IfOk result (λ plan. view.new ≡ tied_in plan.mode view.old listed.now (objects_listed view.old) (pairs_of listed.now (objects_listed view.old))) }
-    ensures err { OnErr result (view.new ≡ view.old) }
+    requires { AreDistinct (those (new_keys (objects_listed view.old.objects))) }
+    ensures plan { IfOk result (λ plan. IsPlanOf listed.now (objects_listed view.old.objects) (pairs_of listed.now (objects_listed view.old.objects)) caps.now.0 plan) }
+    ensures ties { IfOk result (λ plan. view.new.objects ≡ tied_in plan.mode view.old.objects listed.now (objects_listed view.old.objects) (pairs_of listed.now (objects_listed view.old.objects))) }
+    ensures err { OnErr result (view.new.objects ≡ view.old.objects) }
 {
     let objects = view.objects()?;
     let keys = natural_keys_of(alloc, listed, objects.as_slice())?;
@@ -41,7 +41,7 @@ fn tie_in(
     new: &[Object<Vid>],
     pairs: &[(u64, u64)],
 )
-    ensures { view.new ≡ tied_in mode view.old old.now new.now pairs.now }
+    ensures { view.new.objects ≡ tied_in mode view.old.objects old.now new.now pairs.now }
 {
     match mode {
         Mode::Hitless => tie_pairs(view, old, new, pairs),
@@ -51,7 +51,7 @@ fn tie_in(
 
 /// Ties each new object that is paired to the old one.
 fn tie_pairs(view: &mut View, old: &[Object<Rid>], new: &[Object<Vid>], pairs: &[(u64, u64)])
-    ensures { view.new ≡ tied_pairs view.old old.now new.now pairs.now }
+    ensures { view.new.objects ≡ tied_pairs view.old.objects old.now new.now pairs.now }
 {
     for pair in pairs {
         tie_pair(view, old, new, *pair);
@@ -60,14 +60,14 @@ fn tie_pairs(view: &mut View, old: &[Object<Rid>], new: &[Object<Vid>], pairs: &
 
 /// Ties the new object of a pair to the old one.
 fn tie_pair(view: &mut View, old: &[Object<Rid>], new: &[Object<Vid>], pair: (u64, u64))
-    ensures { view.new ≡ tied_objects view.old (slice_get old.now pair.0) (slice_get new.now pair.1) }
+    ensures { view.new.objects ≡ tied_objects view.old.objects (slice_get old.now pair.0) (slice_get new.now pair.1) }
 {
     tie_objects(view, old.get(pair.0 as usize), new.get(pair.1 as usize));
 }
 
 /// Ties a new object to an old one, where both are there.
 fn tie_objects(view: &mut View, old: Option<&Object<Rid>>, new: Option<&Object<Vid>>)
-    ensures { view.new ≡ tied_objects view.old (option_copied old.entry) (option_copied new.entry) }
+    ensures { view.new.objects ≡ tied_objects view.old.objects (option_copied old.entry) (option_copied new.entry) }
 {
     if let (Some(old), Some(new)) = (old, new) {
         tie_entries(view, &old.entry, &new.entry);
@@ -76,7 +76,7 @@ fn tie_objects(view: &mut View, old: Option<&Object<Rid>>, new: Option<&Object<V
 
 /// Ties a new object to an old one, where both have identifiers.
 fn tie_entries(view: &mut View, old: &Entry<Rid>, new: &Entry<Vid>)
-    ensures { view.new ≡ tied_entries view.old old.now new.now }
+    ensures { view.new.objects ≡ tied_entries view.old.objects old.now new.now }
 {
     if let (Entry::Oid(rid), Entry::Oid(vid)) = (old, new) {
         view.tie(*vid, *rid);

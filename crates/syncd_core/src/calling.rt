@@ -15,9 +15,9 @@ use swss_types::OutOfMemory;
 
 /// Makes a call on a view alone.
 pub(crate) fn call_view(view: &mut View, call: &Call<Vid>) -> Result<SyncAnswer, OutOfMemory>
-    requires { IsLegalOn view.old call.now }
-    ensures ok { IfOk result (λ answer. Changes view.old call.now answer view.new) }
-    ensures err { OnErr result (view.new ≡ view.old) }
+    requires { IsLegalOn view.old.objects call.now }
+    ensures ok { IfOk result (λ answer. Changes view.old.objects call.now answer view.new.objects) }
+    ensures err { OnErr result (view.new.objects ≡ view.old.objects) }
 {
     match call {
         Call::Create(body) => {
@@ -52,10 +52,10 @@ pub(crate) fn call_chip<C: Chip>(
     chip: &mut C,
     call: &Call<Vid>,
 ) -> Result<SyncAnswer, OutOfMemory>
-    requires view { IsLegalOn view.old call.now }
-    requires chip { IsLegal (C.state chip.old).capacities (C.state chip.old).objects (call_renamed (tie_of view.old) call.now) }
-    ensures ok { IfOk result (λ answer. IsMadeOnChip view.old (C.state chip.old) call.now answer view.new (C.state chip.new)) }
-    ensures err { OnErr result (view.new ≡ view.old) }
+    requires view { IsLegalOn view.old.objects call.now }
+    requires chip { IsLegal (C.state chip.old).capacities (C.state chip.old).objects (call_renamed (tie_of view.old.objects) call.now) }
+    ensures ok { IfOk result (λ answer. IsMadeOnChip view.old.objects (C.state chip.old) call.now answer view.new.objects (C.state chip.new)) }
+    ensures err { OnErr result (view.new.objects ≡ view.old.objects) }
     ensures unmade { OnErr result (IsAskedOnce (C.state chip.old) (C.state chip.new)) }
 {
     let tied = tied_call(view, call)?;
@@ -86,11 +86,11 @@ fn create<C: Chip>(
     tied: &Call<Rid>,
     body: &Body<Vid>,
 ) -> Result<SyncAnswer, OutOfMemory>
-    requires view { IsLegalOn view.old (Call.Create body.now) }
+    requires view { IsLegalOn view.old.objects (Call.Create body.now) }
     requires chip { IsLegal (C.state chip.old).capacities (C.state chip.old).objects tied.now }
-    requires tied { tied.now ≡ call_renamed (tie_of view.old) (Call.Create body.now) }
-    ensures ok { IfOk result (λ answer. IsMadeOnChip view.old (C.state chip.old) (Call.Create body.now) answer view.new (C.state chip.new)) }
-    ensures err { OnErr result (view.new ≡ view.old) }
+    requires tied { tied.now ≡ call_renamed (tie_of view.old.objects) (Call.Create body.now) }
+    ensures ok { IfOk result (λ answer. IsMadeOnChip view.old.objects (C.state chip.old) (Call.Create body.now) answer view.new.objects (C.state chip.new)) }
+    ensures err { OnErr result (view.new.objects ≡ view.old.objects) }
     ensures unmade { OnErr result (IsAskedOnce (C.state chip.old) (C.state chip.new)) }
 {
     taken_back_is_unmade();

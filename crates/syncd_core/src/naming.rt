@@ -17,7 +17,7 @@ pub(crate) trait Names: Copy {
 
     /// The chip's identifier of the object.
     fn rid(self, view: &View) -> Rid
-        ensures { result ≡ rid_in view.now self };
+        ensures { result ≡ rid_in view.now.objects self };
 }
 
 impl Names for Vid {
@@ -41,7 +41,7 @@ impl Names for PlanId {
 
 /// What an interface stands on.
 fn tied_base<I: Names>(view: &View, on: RifOn<I>) -> RifOn<Rid>
-    ensures { result ≡ on_renamed (I.rid_in view.now) on }
+    ensures { result ≡ on_renamed (I.rid_in view.now.objects) on }
 {
     match on {
         RifOn::Port(port) => RifOn::Port(port.rid(view)),
@@ -51,7 +51,7 @@ fn tied_base<I: Names>(view: &View, on: RifOn<I>) -> RifOn<Rid>
 
 /// Where a route points.
 fn tied_target<I: Names>(view: &View, to: To<I>) -> To<Rid>
-    ensures { result ≡ to_renamed (I.rid_in view.now) to }
+    ensures { result ≡ to_renamed (I.rid_in view.now.objects) to }
 {
     match to {
         To::Drop => To::Drop,
@@ -63,7 +63,7 @@ fn tied_target<I: Names>(view: &View, to: To<I>) -> To<Rid>
 
 /// A body.
 fn tied_body<I: Names>(view: &View, body: &Body<I>) -> Result<Body<Rid>, OutOfMemory>
-    ensures { IfOk result (λ tied. tied ≡ body_renamed (I.rid_in view.now) body.now) }
+    ensures { IfOk result (λ tied. tied ≡ body_renamed (I.rid_in view.now.objects) body.now) }
 {
     Ok(match body {
         Body::Port {
@@ -117,7 +117,7 @@ fn tied_body<I: Names>(view: &View, body: &Body<I>) -> Result<Body<Rid>, OutOfMe
 
 /// An entry.
 fn tied_entry<I: Names>(view: &View, entry: Entry<I>) -> Entry<Rid>
-    ensures { result ≡ entry_renamed (I.rid_in view.now) entry }
+    ensures { result ≡ entry_renamed (I.rid_in view.now.objects) entry }
 {
     match entry {
         Entry::Oid(id) => Entry::Oid(id.rid(view)),
@@ -129,7 +129,7 @@ fn tied_entry<I: Names>(view: &View, entry: Entry<I>) -> Entry<Rid>
 
 /// A value of an attribute.
 fn tied_attr<I: Names>(view: &View, attr: Attr<I>) -> Attr<Rid>
-    ensures { result ≡ attr_renamed (I.rid_in view.now) attr }
+    ensures { result ≡ attr_renamed (I.rid_in view.now.objects) attr }
 {
     match attr {
         Attr::Speed(speed) => Attr::Speed(speed),
@@ -143,7 +143,7 @@ fn tied_attr<I: Names>(view: &View, attr: Attr<I>) -> Attr<Rid>
 
 /// A call with its identifiers replaced by those to which they are tied.
 pub(crate) fn tied_call<I: Names>(view: &View, call: &Call<I>) -> Result<Call<Rid>, OutOfMemory>
-    ensures { IfOk result (λ tied. tied ≡ call_renamed (I.rid_in view.now) call.now) }
+    ensures { IfOk result (λ tied. tied ≡ call_renamed (I.rid_in view.now.objects) call.now) }
 {
     Ok(match call {
         Call::Create(body) => Call::Create(tied_body(view, body)?),

@@ -43,7 +43,7 @@ impl Model for Syncd {
 
     ghost Value = { SyncState };
 
-    ghost view = { λ s. record { view = s.view; temporary = s.temporary; listed = option_map (λ v. v.items) s.listed; left = drop s.made s.plan; capacities = s.caps.0 } };
+    ghost view = { λ s. record { view = s.view.objects; temporary = option_map (λ v. v.objects) s.temporary; listed = option_map (λ v. v.items) s.listed; left = drop s.made s.plan; capacities = s.caps.0 } };
 
     ghost invariant = { λ s. s.made ≤ length s.plan };
 }
@@ -233,10 +233,10 @@ fn put_in_order(listed: &mut Vec<Object<Rid>>)
 
 /// Makes a call of a plan on the chip, and ties what it makes.
 fn apply<C: Chip>(view: &mut View, chip: &mut C, next: &PlanCall) -> Result<Made, OutOfMemory>
-    requires { IsLegal (C.state chip.old).capacities (C.state chip.old).objects (call_renamed (plan_tie view.old) next.now.call) }
-    ensures answered { IfOk result (λ made. IsAnswered (C.state chip.old) (call_renamed (plan_tie view.old) next.now.call) (answer_by made) (C.state chip.new)) }
-    ensures ties { IfOk result (λ made. Ties view.old next.now (answer_by made) view.new) }
-    ensures err { OnErr result (view.new ≡ view.old) }
+    requires { IsLegal (C.state chip.old).capacities (C.state chip.old).objects (call_renamed (plan_tie view.old.objects) next.now.call) }
+    ensures answered { IfOk result (λ made. IsAnswered (C.state chip.old) (call_renamed (plan_tie view.old.objects) next.now.call) (answer_by made) (C.state chip.new)) }
+    ensures ties { IfOk result (λ made. Ties view.old.objects next.now (answer_by made) view.new.objects) }
+    ensures err { OnErr result (view.new.objects ≡ view.old.objects) }
     ensures unmade { OnErr result (IsAskedOnce (C.state chip.old) (C.state chip.new)) }
 {
     let call = tied_call(view, &next.call)?;
@@ -249,7 +249,7 @@ fn apply<C: Chip>(view: &mut View, chip: &mut C, next: &PlanCall) -> Result<Made
 
 /// Ties the object that a call of a plan makes to the one that the chip made.
 fn tie_made(view: &mut View, makes: Option<Vid>, rid: Rid)
-    ensures { view.new ≡ tied_by view.old makes rid }
+    ensures { view.new.objects ≡ tied_by view.old.objects makes rid }
 {
     if let Some(vid) = makes {
         view.tie(vid, rid);

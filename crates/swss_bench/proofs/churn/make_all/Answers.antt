@@ -6,5 +6,5 @@ use Rattle.swss_bench.proofs.churn.make_all.Goals as goal
 
 pub loop-route-init : goal.loop-route-init
 loop-route-init c =
-    let none : used_of c.args.view.now kind.Route ≡ 0 = search rules in
-    none_left 20000 c.args.view.now c.requires none
+    let none : used_of c.args.view.now.objects kind.Route ≡ 0 = search rules in
+    none_left 20000 c.args.view.now.objects c.requires none
