@@ -1,5 +1,5 @@
 -- Each move keeps the queue's rule, and what passes learn of it.
-use Rattle.std.proofs.Common.{◌≡◌, ◌≢◌, ℕ, ◌+◌, ◌<◌, ◌≤◌, true, inl, inr, ⊎_elim, List, [], ◌∷◌, ◌++◌, length, set, refl, sym, ap, ◌∙◌, subst, arith, true≢false, length-append, append_assoc, lt_of_not-le}
+use Rattle.std.proofs.Common.{◌≡◌, ◌≢◌, ℕ, ◌+◌, ◌<◌, ◌≤◌, true, inl, inr, ⊎_elim, List, [], ◌∷◌, ◌++◌, length, map, set, refl, sym, ap, ◌∙◌, subst, arith, true≢false, length-append, append_assoc, lt_of_not-le}
 use mathlib.Core.Option.{Option, some, none, some-ne-none, some-injective}
 use lib.ListN.{get_elem?}
 use Rattle.crossbeam_queue.proofs.Lists.{at_set}
@@ -7,6 +7,7 @@ use Rattle.crossbeam_queue.specs.Fifo.{Pushes, Pops, Forks, Merges, Learns}
 use Rattle.table_schema.specs.declared.write.Sent.{Sent}
 use Rattle.intake_queue.specs.declared.known.Known.{Known}
 use Rattle.table_schema.specs.SentBy.{sent_of}
+use Rattle.intake_queue.specs.ReadWrites.{AreReadWrites, IsReadWrite}
 use Rattle.intake_queue.specs.Writes.{IsNumbered, IsOther}
 use Rattle.intake_queue.specs.Rule.{IsInOrder, FitsProducer, FitsTaker, producer, taker, nobody, without_part, only_part, with_part, one_more, after_send, after_receipt, IsReceived, IsHalfway, IsWholePass, IsNumberedOn, HasNoOthers}
 use Rattle.intake_queue.specs.Values.{IsFront}
@@ -15,8 +16,12 @@ use Rattle.intake_queue.proofs.Views.{All, all_none, all_set, all_snoc, moved, m
 
 -- ---- pushes and pops
 
-pub sends : (n pass : ℕ) (v : Known) (x : Sent) → n ≤ 1024 → v.sends ≡ true → x.from ≡ v.from → x.number ≡ length v.sent → Pushes IsInOrder n pass v x (λ w. w ≡ after_send v x)
-sends n pass v x few may from number queued views space h at =
+read_grown : (ws : List Sent) (x : Sent) → AreReadWrites (map (λ s. s.write) ws) → IsReadWrite x.write → AreReadWrites (map (λ s. s.write) (ws ++ x ∷ []))
+read_grown [] x h one = (one, tt)
+read_grown (w ∷ ws) x h one = (h.0, read_grown ws x h.1 one)
+
+pub sends : (n pass : ℕ) (v : Known) (x : Sent) → n ≤ 1024 → v.sends ≡ true → x.from ≡ v.from → x.number ≡ length v.sent → IsReadWrite x.write → Pushes IsInOrder n pass v x (λ w. w ≡ after_send v x)
+sends n pass v x few may from number read queued views space h at =
     let mine = h.producers pass v at may in
     let sent : ℕ → List Sent = λ p. grown x p (h.sent p) in
     let unsent : (p : ℕ) → (h.seat p ≡ none) × (h.sent p ≡ []) → (h.seat p ≡ none) × (sent p ≡ []) = λ p o.
@@ -30,6 +35,7 @@ sends n pass v x few may from number queued views space h at =
         balance = λ p. sent_of-grown p h.received queued x ∙ ap (grown x p) (h.balance p);
         numbered = λ p. numbered-grown x p (h.sent p) (h.numbered p) (λ s. number ∙ ap length (mine.1 ∙ ap h.sent (sym from ∙ s)));
         room = (let l = length-append queued (x ∷ []) in omega arith);
+        read = read_grown queued x h.read read;
         producers = all_set (FitsProducer h.seat sent) views pass (after_send v x) (λ _. (mine.0, ap (λ l. l ++ x ∷ []) mine.1 ∙ sym (grown-own x v.from (h.sent v.from) from)))
             (λ j u other e s. let yours = h.producers j u e s in (yours.0, yours.1 ∙ sym (grown-other x u.from (h.sent u.from) (λ same. other (some-injective j pass (sym yours.0 ∙ ap h.seat (sym same ∙ from) ∙ mine.0))))));
         takers = all_set (FitsTaker h.reader h.seat sent h.received) views pass (after_send v x) (λ t. let its = h.takers pass v at t in (its.0, its.1, λ p o. unsent p (its.2 p o))) (λ j u other e t. let yours = h.takers j u e t in (yours.0, yours.1, λ p o. unsent p (yours.2 p o)));
@@ -52,6 +58,7 @@ pops_in_order pass v may x queued views h at =
         balance = λ p. ap (sent_of p) (append_assoc h.received (x ∷ []) queued) ∙ h.balance p;
         numbered = h.numbered;
         room = (let r = h.room in omega arith);
+        read = h.read.1;
         producers = all_set (FitsProducer h.seat h.sent) views pass (after_receipt v x) (h.producers pass v at) (λ j u other e. h.producers j u e);
         takers = all_set (FitsTaker h.reader h.seat h.sent received) views pass (after_receipt v x) (λ _. (mine.0, ap (λ l. l ++ x ∷ []) mine.1, mine.2))
             (λ j u other e t. absurd (other ((h.takers j u e t).0 ∙ sym mine.0)));
@@ -62,6 +69,7 @@ pops_in_order pass v may x queued views h at =
         (let l = lt_of_not-le (λ (z : v.made + 1 ≤ x.from). no (inr (omega arith))) in omega arith),
         (let n = numbered-at 0 (sent_of x.from h.received) x (sent_of x.from queued) (subst (IsNumbered 0) (sym (h.balance x.from) ∙ around) (h.numbered x.from)) in
             let m = ap (λ l. length (sent_of x.from l)) mine.1 in omega arith),
+        h.read.0,
       ),
     )
 
@@ -99,6 +107,7 @@ begins = record {
   balance = λ p. refl;
   numbered = λ p. tt;
   room = omega arith;
+  read = tt;
   producers = all_snoc (FitsProducer (λ _. none) (λ _. [])) [] (taker 0 []) (λ s. absurd (true≢false (sym s))) (all_none _);
   takers = all_snoc (FitsTaker 0 (λ _. none) (λ _. []) []) [] (taker 0 []) (λ _. (refl, refl, λ p o. (refl, refl))) (all_none _);
 }
@@ -118,6 +127,7 @@ opens pass v may queued views h at =
       balance = h.balance;
       numbered = h.numbered;
       room = h.room;
+      read = h.read;
       producers = all_snoc (FitsProducer seat h.sent) vs (producer (v.made + 1) []) (λ _. (moved-here (v.made + 1) (length vs) h.seat, sym free.1))
           (all_set (FitsProducer seat h.sent) views pass (one_more v)
           (λ s. let yours = h.producers pass v at s in (kept v.from pass yours.0, yours.1))
@@ -149,6 +159,7 @@ lends pass v may queued views h at =
       balance = h.balance;
       numbered = h.numbered;
       room = h.room;
+      read = h.read;
       producers = all_snoc (FitsProducer seat h.sent) vs (only_part v) (λ _. (moved-here v.from (length vs) h.seat, mine.1))
           (all_set (FitsProducer seat h.sent) views pass (without_part v) (λ s. absurd (true≢false (sym s)))
           (λ j u other e s. let yours = h.producers j u e s in (moved-stays v.from (length vs) h.seat pass u.from j mine.0 other yours.0, yours.1)));
@@ -176,6 +187,7 @@ joins pass v other w may queued views h at two at' =
       balance = h.balance;
       numbered = h.numbered;
       room = h.room;
+      read = h.read;
       producers = all_set (FitsProducer seat h.sent) vs other nobody (λ s. absurd (true≢false (sym s))) (λ j u apart e. senders j u e apart);
       takers = all_set Takes vs other nobody (λ s. absurd (true≢false (sym s))) (λ j u apart e. readers j u e);
     }

@@ -1,11 +1,12 @@
 -- The queue's rule: of each producer, what was received and then what is queued is what it sent, numbered from 0. Own.
-use Rattle.std.specs.Prelude.{◌≡◌, ℕ, ◌+◌, ◌<◌, ◌≤◌, true, false, List, [], ◌∷◌, ◌++◌, length}
+use Rattle.std.specs.Prelude.{◌≡◌, ℕ, ◌+◌, ◌<◌, ◌≤◌, true, false, List, [], ◌∷◌, ◌++◌, length, map}
 use mathlib.Core.Option.{Option, some, none}
 use lib.ListN.{get_elem?}
 use Rattle.table_schema.specs.declared.write.Sent.{Sent}
 use Rattle.intake_queue.specs.declared.intake.TheConstants.{PLACES}
 use Rattle.intake_queue.specs.declared.known.Known.{Known}
 use Rattle.table_schema.specs.SentBy.{sent_of}
+use Rattle.intake_queue.specs.ReadWrites.{AreReadWrites, IsReadWrite}
 use Rattle.intake_queue.specs.Writes.{IsNumbered, IsOther}
 
 -- ---- what passes know
@@ -42,9 +43,9 @@ after_receipt v x = record v { received = v.received ++ x ∷ [] }
 
 -- ---- what steps tell
 
--- one write more was received: the next of its producer
+-- one write more was received: the next of its producer, which was read
 abbrev pub IsReceived : Known → Sent → Known → Type 0
-IsReceived v x w = (w ≡ after_receipt v x) × (0 < x.from) × (x.from ≤ v.made) × (x.number ≡ length (sent_of x.from v.received))
+IsReceived v x w = (w ≡ after_receipt v x) × (0 < x.from) × (x.from ≤ v.made) × (x.number ≡ length (sent_of x.from v.received)) × IsReadWrite x.write
 
 -- what a producer sent is what was received of it, and then what is queued of it
 abbrev pub IsHalfway : Known → List Sent → Type 0
@@ -82,5 +83,6 @@ pub record IsInOrder (queued : List Sent) (views : List Known) : Type 0 where
   pub balance : (p : ℕ) → sent_of p (received ++ queued) ≡ sent p
   pub numbered : (p : ℕ) → IsNumbered 0 (sent p)
   pub room : length queued ≤ PLACES
+  pub read : AreReadWrites (map (λ s. s.write) queued)
   pub producers : (pass : ℕ) (v : Known) → get_elem? views pass ≡ some v → FitsProducer seat sent pass v
   pub takers : (pass : ℕ) (v : Known) → get_elem? views pass ≡ some v → FitsTaker reader seat sent received pass v

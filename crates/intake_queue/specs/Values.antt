@@ -4,6 +4,7 @@ use Rattle.atomic_table.specs.Seated.{TableId}
 use Rattle.table_schema.specs.declared.write.Sent.{Sent}
 use Rattle.table_schema.specs.declared.write.Write.{Write}
 use Rattle.table_schema.specs.SentBy.{sent_of}
+use Rattle.intake_queue.specs.ReadWrites.{IsReadWrite}
 use Rattle.intake_queue.specs.declared.intake.TheConstants.{PLACES}
 
 -- which queue it is, and how many producers it has
@@ -37,10 +38,11 @@ with_received t w = record t { received = t.received ++ w ∷ [] }
 abbrev pub new_receiver : IntakeId → Receiver
 new_receiver intake = record { intake = intake; received = [] }
 
--- the write is of a producer, and the next of it by its number
+-- the write is of a producer, the next of it by its number, and was read
 pub record IsNext (t : Receiver) (w : Sent) : Type 0 where
   pub producer : (0 < w.from) × (w.from ≤ t.intake.producers)
   pub number : w.number ≡ length (sent_of w.from t.received)
+  pub read : IsReadWrite w.write
 
 -- ---- all passes
 

@@ -1,6 +1,7 @@
 // A producer's pass, and sending over it.
 ghost use Rattle.std.specs.Prelude.{◌≡◌, [], ◌<◌, ◌^◌, length, OnOk, IfErr};
 ghost use Rattle.crossbeam_queue.specs.Passes.{view as known};
+ghost use Rattle.intake_queue.specs.ReadWrites.{IsReadWrite};
 ghost use Rattle.intake_queue.specs.Rule.{producer};
 ghost use Rattle.intake_queue.specs.Values.{with_sent};
 
@@ -53,6 +54,7 @@ impl Pass {
     pub fn send<R: Wait>(&mut self, rt: &R, intake: &Intake, write: Write) -> Result<(), Full>
         requires intake { self.old.queue ≡ intake.now.queue }
         requires few { length self.old.sent < 2 ^ 62 }
+        requires read { IsReadWrite write }
         ensures same { (self.new.queue ≡ self.old.queue) × (self.new.from ≡ self.old.from) }
         ensures ok { OnOk result (self.new ≡ with_sent self.old write) }
         ensures full { IfErr result (λ full. (full.0 ≡ write) × (self.new ≡ self.old)) }

@@ -1,4 +1,6 @@
 // The intake queue.
+use swss_types::MOST_PORT;
+
 mod alone;
 mod locked;
 mod name;
@@ -6,3 +8,6 @@ mod together;
 
 pub use alone::time_alone;
 pub use together::time_together;
+
+/// How many numbers a port can have.
+const PORTS: u32 = MOST_PORT + 1;

@@ -2,6 +2,7 @@
 ghost use Rattle.std.specs.Prelude.{◌≡◌, ◌+◌, ◌<◌};
 ghost use Rattle.swss_bench.specs.Ready.{IsQueueReady};
 
+use crate::queue::PORTS;
 use crate::timing::print_time;
 use anyhow::Result;
 use intake_queue::{Full, Intake, Made, Pass, Taker};
@@ -49,6 +50,7 @@ fn send_tenths<R: Wait + Print + Eprint + Clock>(
 }
 
 /// Sends so many writes, and takes all whenever the queue is full and at the end. It tells how many it took.
+#[tactic(auto, using(crate::proofs::Readies::port_deletion_read))]
 fn send_and_take<R: Wait>(
     rt: &R,
     intake: &Intake,
@@ -65,7 +67,7 @@ fn send_and_take<R: Wait>(
 {
     let mut taken = 0u64;
     for number in 0..each {
-        let write = Write::Del(Key::Port(number));
+        let write = Write::Del(Key::Port(number % PORTS));
         if let Err(Full(back)) = pass.send(rt, intake, write) {
             taken = taken.saturating_add(take_all(rt, intake, taker));
             let _ = pass.send(rt, intake, back);

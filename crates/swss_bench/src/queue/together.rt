@@ -1,7 +1,9 @@
 // Four producers beside each other.
 ghost use Rattle.std.specs.Prelude.{◌≡◌, ◌+◌, ◌<◌, All};
+ghost use Rattle.intake_queue.specs.ReadWrites.{IsReadWrite};
 ghost use Rattle.swss_bench.specs.Ready.{CanSend, IsQueueReady, SentOne};
 
+use crate::queue::PORTS;
 use crate::queue::locked::Locked;
 use crate::queue::name::IntakeName;
 use crate::timing::print_time;
@@ -94,6 +96,7 @@ fn send_tenth<R: Threads + Wait + Sync, J: IntakeName + Send + Sync>(
 }
 
 /// Sends so many writes.
+#[tactic(auto, using(crate::proofs::Readies::port_deletion_read))]
 fn send_some<R: Wait, J: IntakeName>(
     rt: &R,
     intake: &Intake,
@@ -108,7 +111,13 @@ fn send_some<R: Wait, J: IntakeName>(
     ensures { IsQueueReady intake.now (tenth + 1) pass.new }
 {
     for number in 0..each {
-        send_one(rt, intake, locked, pass, Write::Del(Key::Port(number)));
+        send_one(
+            rt,
+            intake,
+            locked,
+            pass,
+            Write::Del(Key::Port(number % PORTS)),
+        );
     }
 }
 
@@ -122,6 +131,7 @@ fn send_one<R: Wait, J: IntakeName>(
 )
     requires name { intake.now ≡ J.intake }
     requires ready { CanSend intake.now pass.old }
+    requires read { IsReadWrite write }
     ensures { SentOne pass.old pass.new }
 {
     for _ in rt.forever() {

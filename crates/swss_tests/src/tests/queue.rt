@@ -1,5 +1,6 @@
 // What no clause says: a queue with room takes a write, one that holds writes gives one, and a full one refuses.
 ghost use Rattle.std.specs.Prelude.{◌≡◌, ℕ, ◌+◌, ◌<◌, ◌≤◌, length, slice_index_or};
+ghost use Rattle.swss_types.specs.declared.interface.TheConstants.{MOST_PORT};
 ghost use Rattle.intake_queue.specs.Values.{Sender, AreAllPasses, AreNew};
 
 use intake_queue::{Full, Intake, Made, Pass, Taker, close};
@@ -20,6 +21,7 @@ fn send_by<R: Wait>(
     requires at { at < length passes.old.items }
     requires all { AreAllPasses intake.now passes.old.items }
     requires few { (i : ℕ) (d : Sender) → i < length passes.old.items → length (slice_index_or passes.old.items i d).sent ≤ number }
+    requires port { number ≤ MOST_PORT }
     ensures all { AreAllPasses intake.now passes.new.items }
     ensures few { (i : ℕ) (d : Sender) → i < length passes.new.items → length (slice_index_or passes.new.items i d).sent ≤ number + 1 }
 {
