@@ -1,4 +1,5 @@
 // Each file tests one subject; refused memory is tried by `rt try --test --fail-alloc N`, which refuses the Nth allocation.
+mod actors;
 mod common;
 mod copies;
 mod fields;

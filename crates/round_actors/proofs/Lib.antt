@@ -1,0 +1,9 @@
+pub mod Acting
+pub mod ByProducer
+pub mod Actors
+pub mod Together
+pub mod Lines
+pub mod Took
+pub mod Trials
+pub mod Scripts
+pub mod Workers

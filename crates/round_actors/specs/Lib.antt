@@ -1,0 +1,9 @@
+pub mod NoIntake
+pub mod Refusals
+pub mod State
+pub mod Acts
+pub mod Actors
+pub mod Round
+pub mod Follows
+pub mod Trials
+pub mod Workers

@@ -1,0 +1,69 @@
+// What the value of a round knows of its core.
+ghost use Rattle.std.specs.Prelude.{◌≡◌, ◌+◌, ◌<◌, [], ◌∷◌, ◌++◌, IfOk, OnOk, OnErr};
+ghost use Rattle.intake_queue.specs.ReadWrites.{IsReadWrite};
+
+use crate::answers::Step;
+use crate::name::RoundName;
+use std::marker::Brand;
+use swss_types::OutOfMemory;
+use table_schema::Sent;
+
+/// Why a core refuses.
+#[derive(Clone, Copy, Debug, PartialEq, Eq)]
+pub enum Refusal {
+    /// The log is full.
+    LogFull,
+    /// There is no memory.
+    NoMemory,
+}
+
+/// A core with its chip: what its log took, and how many restarts it marked.
+pub trait RoundCore {
+    ghost use Rattle.std.specs.Prelude.{List, ℕ};
+    ghost use Rattle.table_schema.specs.declared.write.Sent.{Sent};
+    ghost use Rattle.round_actors.specs.declared.answers.Step.{Step};
+
+    /// The writes taken.
+    ghost taken: { Self → List Sent };
+
+    /// The restarts marked.
+    ghost restarts: { Self → ℕ };
+
+    /// An event of a worker with this answer leads from the one core to the other.
+    ghost makes: { Self → ℕ → Step → Self → Type 0 };
+
+    /// Takes a write.
+    fn take(&mut self, sent: Sent) -> Result<(), Refusal>
+        requires read { IsReadWrite sent.write }
+        ensures ok { OnOk result ((taken self.new ≡ taken self.old ++ sent ∷ []) × (restarts self.new ≡ restarts self.old)) }
+        ensures err { OnErr result ((taken self.new ≡ taken self.old) × (restarts self.new ≡ restarts self.old)) };
+
+    /// Makes an event of a worker.
+    fn step(&mut self, worker: u32) -> Result<Step, OutOfMemory>
+        requires worker { worker < 4 }
+        ensures event { IfOk result (λ step. makes self.old worker step self.new) }
+        ensures same { (taken self.new ≡ taken self.old) × (restarts self.new ≡ restarts self.old) };
+
+    /// Restarts.
+    fn restart(&mut self) -> Result<(), Refusal>
+        ensures ok { OnOk result ((taken self.new ≡ taken self.old) × (restarts self.new ≡ restarts self.old + 1)) }
+        ensures err { OnErr result ((taken self.new ≡ taken self.old) × (restarts self.new ≡ restarts self.old)) };
+}
+
+/// Stands for a round with its opening: what was taken and how many restarts were marked before it.
+pub trait Opening: RoundName {
+    ghost use Rattle.std.specs.Prelude.{List, ℕ};
+    ghost use Rattle.table_schema.specs.declared.write.Sent.{Sent};
+
+    ghost taken: { List Sent };
+
+    ghost restarts: { ℕ };
+}
+
+impl Opening for Brand {
+    ghost use Rattle.std.specs.Prelude.{[]};
+
+    ghost taken = { [] };
+
+    ghost restarts = { 0 };
+}
