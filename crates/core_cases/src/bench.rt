@@ -21,7 +21,7 @@ const ROOM: Caps = Caps([
 /// How many places the log has.
 const PLACES: u64 = 4_194_304;
 
-/// A core and its chip, which are at each moment in a session that came about, over restarts too. They end by `end`.
+/// A core and its chip, which are at each moment in a session that came about by at most four workers, over restarts too. They end by `end`.
 pub struct Bench {
     core: Core,
     chip: SimChip,
@@ -36,7 +36,7 @@ impl Model for Bench {
 
     ghost view = { λ b. (b.core, b.chip) };
 
-    ghost invariant = { λ b. InSession b.core b.chip };
+    ghost invariant = { λ b. InSession 4 b.core b.chip };
 }
 
 impl Bench {

@@ -19,7 +19,10 @@ use Rattle.session_laws.specs.Service.Standing.{IsServiceOf}
 use Rattle.session_laws.proofs.Asked.{service_asked_once}
 use Rattle.session_laws.proofs.Service.Marking.{listed-so}
 use Rattle.session_laws.proofs.Service.Restarting.{restart-next}
-use Rattle.orch_core.specs.ComingBack.{AreOnWay, Back, ComesOut, ComesTo, CountAll, CountsSo, HasRestored, IsFullOnWay, SettlesFrom, Stopped, StopsAfter, StopsOnWay, is_unrestored, places_on_way, ran_of, restarts_due, restarts_marked}
+use Rattle.session_laws.specs.Workers.{StayByFirst}
+use Rattle.session_laws.proofs.ByFirst.{away_stays, both_stay, by_any, none_stay, one_stays}
+use Rattle.session_laws.proofs.Service.States.{applying-reconciled, initialized-reconciled, restored-reconciled}
+use Rattle.orch_core.specs.ComingBack.{AreOnWay, Back, ComesOut, ComesTo, CountAll, CountsSo, HasRestored, IsFullOnWay, KeepsRestored, SettlesFrom, Stopped, StopsAfter, StopsOnWay, is_unrestored, places_on_way, ran_of, restarts_due, restarts_marked}
 use Rattle.orch_core.specs.Outcomes.{KeepsChip}
 use Rattle.orch_core.specs.Restarting.{AppliesOut, FaultsOnWay, ListsOut, RestoresOut, RestoresRows, StaysInService}
 use Rattle.orch_core.specs.Settled.{Settles}
@@ -53,12 +56,16 @@ counted_both : (taken effects : ℕ) (xs ys : List Mark) → CountAll taken effe
 counted_both taken effects [] ys a b = b
 counted_both taken effects (x ∷ xs) ys a b = (a.0, counted_both taken effects xs ys a.1 b)
 
+-- a step after which the core is not reconciled begins no operation
+away_stay : (s : LoggedService) (c d : CoreState) (dchip : ChipState) (x : MakesNext c s d dchip) → (d.warm ≡ warm.Reconciled → ⊥) → StayByFirst 0 s (x.later ∷ [])
+away_stay s c d dchip x away = one_stays 0 s x.later (by_any 0 s x.later (away_stays s x.later (λ h. away (sym x.stands.always.warm_is ∙ h))))
+
 pub comes_none : (s : LoggedService) (c : CoreState) (chip : ChipState) → IsServiceOf c chip s → ComesTo s s c chip c chip
-comes_none s c chip is = record { steps = []; are = tt; is = refl; stands = is; plan = refl; capacities = refl; limit = refl; taken = refl; ends = refl; added = []; marks = sym (append-nil c.log.marks); way = tt; counted = tt; none_counted = λ in_it taken effects. tt; unmoved = λ out. refl; restarts = omega arith; restored = λ out in_it. absurd (false≢true (sym in_it ∙ out)); kept = λ in_it. (in_it, refl); keeps = keeps_itself c chip; still = λ at. (refl, refl, refl) }
+comes_none s c chip is = record { steps = []; are = tt; few = none_stay 0 s; is = refl; stands = is; plan = refl; capacities = refl; limit = refl; taken = refl; ends = refl; added = []; marks = sym (append-nil c.log.marks); way = tt; counted = tt; none_counted = λ in_it taken effects. tt; unmoved = λ out. refl; restarts = omega arith; restored = λ out in_it. absurd (false≢true (sym in_it ∙ out)); kept = λ in_it. record { restored = in_it; board = refl; tables = refl; goes_on = λ at. (at, refl); ends = λ was at. absurd (applying-reconciled (sym was ∙ at)); ended = λ at. (refl, refl) }; keeps = keeps_itself c chip; still = λ at. (refl, refl, refl) }
 
 -- the rows that were restored on the way from a later core
-restored_later : (s t : LoggedService) (c d e : CoreState) (chip dchip : ChipState) → ComesTo s t c chip d dchip → HasRestored t d e → HasRestored s c e
-restored_later s t c d e chip dchip x y = record {
+restored_later : (s t : LoggedService) (c d e : CoreState) (chip dchip echip : ChipState) → ComesTo s t c chip d dchip → HasRestored t d e echip → HasRestored s c e echip
+restored_later s t c d e chip dchip echip x y = record {
   begun = y.begun;
   begun_chip = y.begun_chip;
   then = y.then;
@@ -67,30 +74,106 @@ restored_later s t c d e chip dchip x y = record {
       (subst (λ z. AreLoggedSteps c.board.plan 4 c.sync.capacities z y.steps) (sym x.is)
       (subst (λ p. AreLoggedSteps p 4 c.sync.capacities t y.steps) x.plan
       (subst (λ l. AreLoggedSteps d.board.plan 4 l t y.steps) x.capacities y.are)));
+  few = both_stay 0 s x.steps y.steps x.few (subst (λ z. StayByFirst 0 z y.steps) (sym x.is) y.few);
   is = after_both s x.steps y.steps ∙ ap (λ z. session_after z y.steps) x.is ∙ y.is;
   stands = y.stands;
   plan = y.plan ∙ x.plan;
   capacities = y.capacities ∙ x.capacities;
   warm = y.warm;
   free = y.free;
+  popped = y.popped;
   taken = y.taken ∙ x.taken;
-  earlier = y.earlier;
+  earlier = x.added ++ y.earlier;
   mark = y.mark;
-  marks = y.marks;
+  marks = y.marks ∙ ap (λ l. l ++ (y.earlier ++ y.mark ∷ [])) x.marks ∙ append_assoc c.log.marks x.added (y.earlier ++ y.mark ∷ []) ∙ ap (λ l. c.log.marks ++ l) (sym (append_assoc x.added y.earlier (y.mark ∷ [])));
   counts = y.counts ∙ ap length x.taken;
+  mode = y.mode;
+  waits = y.waits;
+  event_is = y.event_is;
+  lists = y.lists;
   board = y.board;
+  tables = y.tables;
+  goes_on = y.goes_on;
+  ends = y.ends;
 }
 
--- and those on the way to an earlier one
-restored_earlier : (s : LoggedService) (c d e : CoreState) → HasRestored s c d → e.board ≡ d.board → HasRestored s c e
-restored_earlier s c d e x same = record { begun = x.begun; begun_chip = x.begun_chip; then = x.then; steps = x.steps; are = x.are; is = x.is; stands = x.stands; plan = x.plan; capacities = x.capacities; warm = x.warm; free = x.free; taken = x.taken; earlier = x.earlier; mark = x.mark; marks = x.marks; counts = x.counts; board = same ∙ x.board }
+-- a core that has its rows applies a plan, or is reconciled
+applying_or : (w : Warm) → is_unrestored w ≡ false → (w ≡ warm.Applying) ⊎ (w ≡ warm.Reconciled)
+applying_or warm.Initialized h = absurd (false≢true (sym h))
+applying_or warm.Restored h = absurd (false≢true (sym h))
+applying_or warm.Applying h = inl refl
+applying_or warm.Reconciled h = inr refl
+applying_or warm.Suspect h = absurd (false≢true (sym h))
 
-restored_on : (s t u : LoggedService) (c d e : CoreState) (chip dchip echip : ChipState) → ComesTo s t c chip d dchip → ComesTo t u d dchip e echip → is_unrestored c.warm ≡ true → is_unrestored e.warm ≡ false → HasRestored s c e
+-- where a core has its rows and others follow, and where these follow it
+module _ (c d e : CoreState) (chip dchip echip : ChipState) (taken : d.log.taken ≡ c.log.taken) (y : KeepsRestored d dchip e echip) where
+  -- the mark at the end of an apply is the one that the core had made first
+  same_end : (marks : List Mark) → e.log.marks ≡ marks ++ mark_at d (length echip.effects) event.ApplyEnded ∷ [] → e.log.marks ≡ marks ++ mark_at c (length echip.effects) event.ApplyEnded ∷ []
+  same_end marks h = h ∙ ap (λ n. marks ++ (record { taken = n; effects = length echip.effects; event = event.ApplyEnded }) ∷ []) (ap length taken)
+
+  -- an apply that goes on, or that has ended by then
+  ends_by : (marks : List Mark) → (d.warm ≡ warm.Applying → d.log.marks ≡ marks) → (d.warm ≡ warm.Reconciled → d.log.marks ≡ marks ++ mark_at c (length dchip.effects) event.ApplyEnded ∷ []) → is_unrestored d.warm ≡ false → e.warm ≡ warm.Reconciled → e.log.marks ≡ marks ++ mark_at c (length echip.effects) event.ApplyEnded ∷ []
+  ends_by marks on ended known at = by (applying_or d.warm known)
+    where
+      by : (d.warm ≡ warm.Applying) ⊎ (d.warm ≡ warm.Reconciled) → e.log.marks ≡ marks ++ mark_at c (length echip.effects) event.ApplyEnded ∷ []
+      by (inl applies) = same_end marks (y.ends applies at ∙ ap (λ l. l ++ mark_at d (length echip.effects) event.ApplyEnded ∷ []) (on applies))
+      by (inr back) = (y.ended back).0 ∙ ended back ∙ ap (λ n. marks ++ mark_at c n event.ApplyEnded ∷ []) (ap length (sym (y.ended back).1))
+
+-- and those on the way to an earlier one
+restored_earlier : (s : LoggedService) (c d e : CoreState) (dchip echip : ChipState) → d.log.taken ≡ c.log.taken → is_unrestored d.warm ≡ false → HasRestored s c d dchip → KeepsRestored d dchip e echip → HasRestored s c e echip
+restored_earlier s c d e dchip echip taken known x y = record {
+  begun = x.begun;
+  begun_chip = x.begun_chip;
+  then = x.then;
+  steps = x.steps;
+  are = x.are;
+  few = x.few;
+  is = x.is;
+  stands = x.stands;
+  plan = x.plan;
+  capacities = x.capacities;
+  warm = x.warm;
+  free = x.free;
+  popped = x.popped;
+  taken = x.taken;
+  earlier = x.earlier;
+  mark = x.mark;
+  marks = x.marks;
+  counts = x.counts;
+  mode = x.mode;
+  waits = x.waits;
+  event_is = x.event_is;
+  lists = x.lists;
+  board = y.board ∙ x.board;
+  tables = y.tables ∙ x.tables;
+  goes_on = λ at. let was = y.goes_on at in was.1 ∙ x.goes_on was.0;
+  ends = ends_by x.begun d e dchip dchip echip (taken ∙ sym x.taken) y x.begun.log.marks x.goes_on x.ends known;
+}
+
+restored_on : (s t u : LoggedService) (c d e : CoreState) (chip dchip echip : ChipState) → ComesTo s t c chip d dchip → ComesTo t u d dchip e echip → is_unrestored c.warm ≡ true → is_unrestored e.warm ≡ false → HasRestored s c e echip
 restored_on s t u c d e chip dchip echip x y out in_it = by (is_unrestored d.warm) refl
   where
-    by : (b : Bool) → is_unrestored d.warm ≡ b → HasRestored s c e
-    by true still = restored_later s t c d e chip dchip x (y.restored still in_it)
-    by false was = restored_earlier s c d e (x.restored out was) (y.kept was).1
+    by : (b : Bool) → is_unrestored d.warm ≡ b → HasRestored s c e echip
+    by true still = restored_later s t c d e chip dchip echip x (y.restored still in_it)
+    by false was = restored_earlier s c d e dchip echip x.taken was (x.restored out was) (y.kept was)
+
+keeps_restored_on : (c d e : CoreState) (chip dchip echip : ChipState) → d.log.taken ≡ c.log.taken → KeepsRestored c chip d dchip → KeepsRestored d dchip e echip → KeepsRestored c chip e echip
+keeps_restored_on c d e chip dchip echip taken x y = record {
+  restored = y.restored;
+  board = y.board ∙ x.board;
+  tables = y.tables ∙ x.tables;
+  goes_on = λ at. let b = y.goes_on at in let a = x.goes_on b.0 in (a.0, b.1 ∙ a.1);
+  ends = λ was. ends_by c d e chip dchip echip taken y c.log.marks (λ at. (x.goes_on at).1) (λ at. x.ends was at) x.restored;
+  ended = λ at. let a = x.ended at in let b = y.ended (still_back at) in (b.0 ∙ a.0, b.1 ∙ a.1);
+}
+  where
+    -- a core that is reconciled stays so
+    still_back : c.warm ≡ warm.Reconciled → d.warm ≡ warm.Reconciled
+    still_back at = by (applying_or d.warm x.restored)
+      where
+        by : (d.warm ≡ warm.Applying) ⊎ (d.warm ≡ warm.Reconciled) → d.warm ≡ warm.Reconciled
+        by (inl applies) = absurd (applying-reconciled (sym (x.goes_on applies).0 ∙ at))
+        by (inr back) = back
 
 -- the marks that come behind count the same, as no call took effect before the rows are restored
 counted_on : (s t u : LoggedService) (c d e : CoreState) (chip dchip echip : ChipState) → ComesTo s t c chip d dchip → (y : ComesTo t u d dchip e echip) → CountAll (length c.log.taken) (length chip.effects) y.added
@@ -106,7 +189,7 @@ out_before s t u c d e chip dchip echip x y out = by (is_unrestored d.warm) refl
   where
     by : (b : Bool) → is_unrestored d.warm ≡ b → is_unrestored d.warm ≡ true
     by true h = h
-    by false h = absurd (false≢true (sym (y.kept h).0 ∙ out))
+    by false h = absurd (false≢true (sym (y.kept h).restored ∙ out))
 
 pub comes_on : (s t u : LoggedService) (c d e : CoreState) (chip dchip echip : ChipState) → ComesTo s t c chip d dchip → ComesTo t u d dchip e echip → ComesTo s u c chip e echip
 comes_on s t u c d e chip dchip echip x y = record {
@@ -115,6 +198,7 @@ comes_on s t u c d e chip dchip echip x y = record {
       (subst (λ z. AreLoggedSteps c.board.plan 4 c.sync.capacities z y.steps) (sym x.is)
       (subst (λ p. AreLoggedSteps p 4 c.sync.capacities t y.steps) x.plan
       (subst (λ l. AreLoggedSteps d.board.plan 4 l t y.steps) x.capacities y.are)));
+  few = both_stay 0 s x.steps y.steps x.few (subst (λ z. StayByFirst 0 z y.steps) (sym x.is) y.few);
   is = after_both s x.steps y.steps ∙ ap (λ z. session_after z y.steps) x.is ∙ y.is;
   stands = y.stands;
   plan = y.plan ∙ x.plan;
@@ -126,11 +210,11 @@ comes_on s t u c d e chip dchip echip x y = record {
   marks = y.marks ∙ ap (λ l. l ++ y.added) x.marks ∙ append_assoc c.log.marks x.added y.added;
   way = way_both x.added y.added x.way y.way;
   counted = counted_both (length c.log.taken) (length chip.effects) x.added y.added x.counted (counted_on s t u c d e chip dchip echip x y);
-  none_counted = λ in_it taken effects. counted_both taken effects x.added y.added (x.none_counted in_it taken effects) (y.none_counted (x.kept in_it).0 taken effects);
+  none_counted = λ in_it taken effects. counted_both taken effects x.added y.added (x.none_counted in_it taken effects) (y.none_counted (x.kept in_it).restored taken effects);
   unmoved = λ out. y.unmoved out ∙ x.unmoved (out_before s t u c d e chip dchip echip x y out);
   restarts = let both = restarts_both x.added y.added in let first = x.restarts in let next = y.restarts in omega (arith, both, first, next);
   restored = restored_on s t u c d e chip dchip echip x y;
-  kept = λ was. let a = x.kept was in let b = y.kept a.0 in (b.0, b.1 ∙ a.1);
+  kept = λ was. let a = x.kept was in keeps_restored_on c d e chip dchip echip x.taken a (y.kept a.restored);
   keeps = keeps_on x.keeps y.keeps;
   still = λ at.
       let a = x.still at in
@@ -139,24 +223,24 @@ comes_on s t u c d e chip dchip echip x y = record {
 }
 
 -- what an event on the way records: no write and no end of a round, at most the marks of a restart or an apply, and a restart that was due
-record Records (s : LoggedService) (c : CoreState) (effects : ℕ) (d : CoreState) : Type 0 where
+record Records (s : LoggedService) (c : CoreState) (chip : ChipState) (d : CoreState) (dchip : ChipState) : Type 0 where
   taken : d.log.taken ≡ c.log.taken
   ends : d.log.ends ≡ c.log.ends
   added : List Mark
   marks : d.log.marks ≡ c.log.marks ++ added
   way : AreOnWay added
-  counted : CountAll (length c.log.taken) effects added
+  counted : CountAll (length c.log.taken) (length chip.effects) added
   none_counted : is_unrestored c.warm ≡ false → (taken effects : ℕ) → CountAll taken effects added
   restarts : restarts_marked added + restarts_due d.warm ≡ restarts_due c.warm
-  restored : is_unrestored c.warm ≡ true → is_unrestored d.warm ≡ false → HasRestored s c d
-  kept : is_unrestored c.warm ≡ false → (is_unrestored d.warm ≡ false) × (d.board ≡ c.board)
+  restored : is_unrestored c.warm ≡ true → is_unrestored d.warm ≡ false → HasRestored s c d dchip
+  kept : is_unrestored c.warm ≡ false → KeepsRestored c chip d dchip
 
 -- so many steps of a core that is not reconciled
-comes_more : (s : LoggedService) (c : CoreState) (chip : ChipState) (d : CoreState) (dchip : ChipState) → (c.warm ≡ warm.Reconciled → ⊥) → (x : MakesMore c s d dchip) → Records s c (length chip.effects) d → (is_unrestored d.warm ≡ true → dchip.effects ≡ chip.effects) → KeepsChip c chip d dchip → ComesTo s (session_after s x.steps) c chip d dchip
-comes_more s c chip d dchip away x r unmoved keeps = record { steps = x.steps; are = x.are; is = refl; stands = x.stands; plan = x.plan; capacities = x.capacities; limit = x.limit; taken = r.taken; ends = r.ends; added = r.added; marks = r.marks; way = r.way; counted = r.counted; none_counted = r.none_counted; unmoved = unmoved; restarts = r.restarts; restored = r.restored; kept = r.kept; keeps = keeps; still = λ at. absurd (away at) }
+comes_more : (s : LoggedService) (c : CoreState) (chip : ChipState) (d : CoreState) (dchip : ChipState) → (c.warm ≡ warm.Reconciled → ⊥) → (x : MakesMore 0 c s d dchip) → Records s c chip d dchip → (is_unrestored d.warm ≡ true → dchip.effects ≡ chip.effects) → KeepsChip c chip d dchip → ComesTo s (session_after s x.steps) c chip d dchip
+comes_more s c chip d dchip away x r unmoved keeps = record { steps = x.steps; are = x.are; few = x.few; is = refl; stands = x.stands; plan = x.plan; capacities = x.capacities; limit = x.limit; taken = r.taken; ends = r.ends; added = r.added; marks = r.marks; way = r.way; counted = r.counted; none_counted = r.none_counted; unmoved = unmoved; restarts = r.restarts; restored = r.restored; kept = r.kept; keeps = keeps; still = λ at. absurd (away at) }
 
-comes_one : (s : LoggedService) (c : CoreState) (chip : ChipState) (d : CoreState) (dchip : ChipState) → (c.warm ≡ warm.Reconciled → ⊥) → (x : MakesNext c s d dchip) → Records s c (length chip.effects) d → (is_unrestored d.warm ≡ true → dchip.effects ≡ chip.effects) → KeepsChip c chip d dchip → ComesTo s x.later c chip d dchip
-comes_one s c chip d dchip away x r unmoved keeps = record { steps = x.later ∷ []; are = (x.makes, tt); is = refl; stands = x.stands; plan = x.plan; capacities = x.capacities; limit = x.limit; taken = r.taken; ends = r.ends; added = r.added; marks = r.marks; way = r.way; counted = r.counted; none_counted = r.none_counted; unmoved = unmoved; restarts = r.restarts; restored = r.restored; kept = r.kept; keeps = keeps; still = λ at. absurd (away at) }
+comes_one : (s : LoggedService) (c : CoreState) (chip : ChipState) (d : CoreState) (dchip : ChipState) → (c.warm ≡ warm.Reconciled → ⊥) → (d.warm ≡ warm.Reconciled → ⊥) → (x : MakesNext c s d dchip) → Records s c chip d dchip → (is_unrestored d.warm ≡ true → dchip.effects ≡ chip.effects) → KeepsChip c chip d dchip → ComesTo s x.later c chip d dchip
+comes_one s c chip d dchip away out x r unmoved keeps = record { steps = x.later ∷ []; are = (x.makes, tt); few = away_stay s c d dchip x out; is = refl; stands = x.stands; plan = x.plan; capacities = x.capacities; limit = x.limit; taken = r.taken; ends = r.ends; added = r.added; marks = r.marks; way = r.way; counted = r.counted; none_counted = r.none_counted; unmoved = unmoved; restarts = r.restarts; restored = r.restored; kept = r.kept; keeps = keeps; still = λ at. absurd (away at) }
 
 -- neither state is that of a suspect core
 abbrev NoneDue : CoreState → CoreState → Type 0
@@ -166,23 +250,48 @@ none_due : (w v : Warm) (c d : CoreState) → c.warm ≡ w → d.warm ≡ v → 
 none_due w v c d at then a b = (ap restarts_due at ∙ a, ap restarts_due then ∙ b)
 
 -- how the rows are: still to be restored, restored now, or as they were
-abbrev Restores : LoggedService → CoreState → CoreState → Type 0
-Restores s c d = (is_unrestored c.warm ≡ true → is_unrestored d.warm ≡ false → HasRestored s c d) × (is_unrestored c.warm ≡ false → (is_unrestored d.warm ≡ false) × (d.board ≡ c.board))
+abbrev Restores : LoggedService → CoreState → ChipState → CoreState → ChipState → Type 0
+Restores s c chip d dchip = (is_unrestored c.warm ≡ true → is_unrestored d.warm ≡ false → HasRestored s c d dchip) × (is_unrestored c.warm ≡ false → KeepsRestored c chip d dchip)
 
-still_out : (s : LoggedService) (w v : Warm) (c d : CoreState) → c.warm ≡ w → d.warm ≡ v → is_unrestored w ≡ true → is_unrestored v ≡ true → Restores s c d
-still_out s w v c d at then a b = (
+still_out : (s : LoggedService) (w v : Warm) (c : CoreState) (chip : ChipState) (d : CoreState) (dchip : ChipState) → c.warm ≡ w → d.warm ≡ v → is_unrestored w ≡ true → is_unrestored v ≡ true → Restores s c chip d dchip
+still_out s w v c chip d dchip at then a b = (
   (λ out in_it. absurd (false≢true (sym in_it ∙ ap is_unrestored then ∙ b))),
   (λ in_it. absurd (false≢true (sym in_it ∙ ap is_unrestored at ∙ a))),
 )
 
-now_in : (s : LoggedService) (w : Warm) (c d : CoreState) → c.warm ≡ w → is_unrestored w ≡ true → HasRestored s c d → Restores s c d
-now_in s w c d at a h = ((λ out in_it. h), (λ in_it. absurd (false≢true (sym in_it ∙ ap is_unrestored at ∙ a))))
+now_in : (s : LoggedService) (w : Warm) (c : CoreState) (chip : ChipState) (d : CoreState) (dchip : ChipState) → c.warm ≡ w → is_unrestored w ≡ true → HasRestored s c d dchip → Restores s c chip d dchip
+now_in s w c chip d dchip at a h = ((λ out in_it. h), (λ in_it. absurd (false≢true (sym in_it ∙ ap is_unrestored at ∙ a))))
 
-still_in : (s : LoggedService) (w v : Warm) (c d : CoreState) → c.warm ≡ w → d.warm ≡ v → is_unrestored w ≡ false → is_unrestored v ≡ false → d.board ≡ c.board → Restores s c d
-still_in s w v c d at then a b same = ((λ out in_it. absurd (false≢true (sym (ap is_unrestored at ∙ a) ∙ out))), (λ in_it. (ap is_unrestored then ∙ b, same)))
+-- an apply goes on
+applies_in : (s : LoggedService) (c : CoreState) (chip : ChipState) (d : CoreState) (dchip : ChipState) → c.warm ≡ warm.Applying → d.warm ≡ warm.Applying → d.board ≡ c.board → d.tables ≡ c.tables → d.log ≡ c.log → Restores s c chip d dchip
+applies_in s c chip d dchip at then board tables log = (
+  (λ out in_it. absurd (false≢true (sym (ap is_unrestored at) ∙ out))),
+  (λ in_it. record {
+    restored = ap is_unrestored then;
+    board = board;
+    tables = tables;
+    goes_on = λ on. (at, ap (λ (h : History). h.marks) log);
+    ends = λ was back. absurd (applying-reconciled (sym then ∙ back));
+    ended = λ back. absurd (applying-reconciled (sym at ∙ back));
+  }),
+)
 
-records_none : (s : LoggedService) (c : CoreState) (effects : ℕ) (d : CoreState) → NoneDue c d → Restores s c d → d.log ≡ c.log → Records s c effects d
-records_none s c effects d due rows same = record {
+-- and ends at its mark
+ends_in : (s : LoggedService) (c : CoreState) (chip : ChipState) (d : CoreState) (dchip : ChipState) → c.warm ≡ warm.Applying → d.warm ≡ warm.Reconciled → d.board ≡ c.board → d.tables ≡ c.tables → d.log ≡ with_mark c.log (mark_at c (length dchip.effects) event.ApplyEnded) → Restores s c chip d dchip
+ends_in s c chip d dchip at then board tables log = (
+  (λ out in_it. absurd (false≢true (sym (ap is_unrestored at) ∙ out))),
+  (λ in_it. record {
+    restored = ap is_unrestored then;
+    board = board;
+    tables = tables;
+    goes_on = λ on. absurd (applying-reconciled (sym on ∙ then));
+    ends = λ was back. ap (λ (h : History). h.marks) log;
+    ended = λ back. absurd (applying-reconciled (sym at ∙ back));
+  }),
+)
+
+records_none : (s : LoggedService) (c : CoreState) (chip : ChipState) (d : CoreState) (dchip : ChipState) → NoneDue c d → Restores s c chip d dchip → d.log ≡ c.log → Records s c chip d dchip
+records_none s c chip d dchip due rows same = record {
   taken = ap (λ (h : History). h.taken) same;
   ends = ap (λ (h : History). h.ends) same;
   added = [];
@@ -196,8 +305,8 @@ records_none s c effects d due rows same = record {
 }
 
 -- a mark at which no round may end, and which is not that of a restart
-records_mark : (s : LoggedService) (c : CoreState) (effects : ℕ) (d : CoreState) (m : Mark) → NoneDue c d → Restores s c d → (MayEndRound m.event → ⊥) → CountsSo (length c.log.taken) effects m m.event → (is_unrestored c.warm ≡ false → (taken many : ℕ) → CountsSo taken many m m.event) → restarts_marked (m ∷ []) ≡ 0 → d.log ≡ with_mark c.log m → Records s c effects d
-records_mark s c effects d m due rows way counts none_counts none same = record {
+records_mark : (s : LoggedService) (c : CoreState) (chip : ChipState) (d : CoreState) (dchip : ChipState) (m : Mark) → NoneDue c d → Restores s c chip d dchip → (MayEndRound m.event → ⊥) → CountsSo (length c.log.taken) (length chip.effects) m m.event → (is_unrestored c.warm ≡ false → (taken many : ℕ) → CountsSo taken many m m.event) → restarts_marked (m ∷ []) ≡ 0 → d.log ≡ with_mark c.log m → Records s c chip d dchip
+records_mark s c chip d dchip m due rows way counts none_counts none same = record {
   taken = ap (λ (h : History). h.taken) same;
   ends = ap (λ (h : History). h.ends) same;
   added = m ∷ [];
@@ -210,13 +319,13 @@ records_mark s c effects d m due rows way counts none_counts none same = record 
   kept = rows.1;
 }
 
-records_restart : (s : LoggedService) (c : CoreState) (effects : ℕ) → c.warm ≡ warm.Suspect → Records s c effects (restarted c effects)
-records_restart s c effects at =
-    let rows = still_out s warm.Suspect warm.Initialized c (restarted c effects) at refl refl refl in
+records_restart : (s : LoggedService) (c : CoreState) (chip : ChipState) → c.warm ≡ warm.Suspect → Records s c chip (restarted c (length chip.effects)) chip
+records_restart s c chip at =
+    let rows = still_out s warm.Suspect warm.Initialized c chip (restarted c (length chip.effects)) chip at refl refl refl in
     record {
       taken = refl;
       ends = refl;
-      added = mark_at c effects event.Restarted ∷ [];
+      added = mark_at c (length chip.effects) event.Restarted ∷ [];
       marks = refl;
       way = ((λ h. h), tt);
       counted = ((refl, refl), tt);
@@ -272,7 +381,7 @@ module _ (s : LoggedService) (c : CoreState) (chip : ChipState) (is : IsServiceO
   pub restart_comes : c.warm ≡ warm.Suspect → (IsFullFor c (length chip.effects) 1 → ⊥) → (d : CoreState) → d ≡ restarted c (length chip.effects) → (t : LoggedService) × ComesTo s t c chip d chip × (d.warm ≡ warm.Initialized)
   restart_comes at room d same =
       let x = restart-next c chip s is in
-      subst (λ z. (t : LoggedService) × ComesTo s t c chip z chip × (z.warm ≡ warm.Initialized)) (sym same) (x.later, comes_one s c chip (restarted c (length chip.effects)) chip away x (records_restart s c (length chip.effects) at) (λ out. refl) (keeps_restarted room), refl)
+      subst (λ z. (t : LoggedService) × ComesTo s t c chip z chip × (z.warm ≡ warm.Initialized)) (sym same) (x.later, comes_one s c chip (restarted c (length chip.effects)) chip away initialized-reconciled x (records_restart s c chip at) (λ out. refl) (keeps_restarted room), refl)
 
   -- ---- a list
 
@@ -280,7 +389,7 @@ module _ (s : LoggedService) (c : CoreState) (chip : ChipState) (is : IsServiceO
     pub list_comes : (r : Step) (d : CoreState) (dchip : ChipState) → ran_of r ≡ ran.Whole → ListsOut true s c chip (Ok r) d dchip → (t : LoggedService) × ComesTo s t c chip d dchip × (d.warm ≡ warm.Restored)
     list_comes step.Did d dchip h x = (
       x.makes.later,
-      comes_one s c chip d dchip away x.makes (records_none s c (length chip.effects) d (none_due warm.Initialized warm.Restored c d at (ap (λ (z : CoreState). z.warm) x.is) refl refl) (still_out s warm.Initialized warm.Restored c d at (ap (λ (z : CoreState). z.warm) x.is) refl refl) (ap (λ (z : CoreState). z.log) x.is)) (λ out. ap (λ (z : ChipState). z.effects) x.chip_is) (keeps_asked (inr x.chip_is) (keeps_alike c d chip chip refl (ap (λ (z : CoreState). z.log) x.is) (ap (λ (z : CoreState). z.listed) x.is) (ap (λ (z : CoreState). z.limit) x.is))),
+      comes_one s c chip d dchip away (λ h. restored-reconciled (sym (ap (λ (z : CoreState). z.warm) x.is) ∙ h)) x.makes (records_none s c chip d dchip (none_due warm.Initialized warm.Restored c d at (ap (λ (z : CoreState). z.warm) x.is) refl refl) (still_out s warm.Initialized warm.Restored c chip d dchip at (ap (λ (z : CoreState). z.warm) x.is) refl refl) (ap (λ (z : CoreState). z.log) x.is)) (λ out. ap (λ (z : ChipState). z.effects) x.chip_is) (keeps_asked (inr x.chip_is) (keeps_alike c d chip chip refl (ap (λ (z : CoreState). z.log) x.is) (ap (λ (z : CoreState). z.listed) x.is) (ap (λ (z : CoreState). z.limit) x.is))),
       ap (λ (z : CoreState). z.warm) x.is,
     )
     list_comes step.Faulted d dchip h x = absurd cc
@@ -298,7 +407,7 @@ module _ (s : LoggedService) (c : CoreState) (chip : ChipState) (is : IsServiceO
   -- ---- a restore
 
   module _ (at : c.warm ≡ warm.Restored) where
-    restores_now : (d : CoreState) → RestoresRows s c chip d → HasRestored s c d
+    restores_now : (d : CoreState) → RestoresRows s c chip d → HasRestored s c d chip
     restores_now d x =
         let mark = mark_at c (length chip.effects) (event.ApplyBegan x.mode x.waits) in
         record {
@@ -307,18 +416,27 @@ module _ (s : LoggedService) (c : CoreState) (chip : ChipState) (is : IsServiceO
           then = x.makes.later;
           steps = x.makes.later ∷ [];
           are = (x.makes.makes, tt);
+          few = away_stay s c d chip x.makes (λ h. applying-reconciled (sym x.warm ∙ h));
           is = refl;
           stands = x.makes.stands;
           plan = x.makes.plan;
           capacities = x.makes.capacities;
           warm = x.warm;
           free = x.free;
+          popped = x.popped;
           taken = ap (λ (h : History). h.taken) x.log;
-          earlier = c.log.marks;
+          earlier = [];
           mark = mark;
           marks = ap (λ (h : History). h.marks) x.log;
           counts = refl;
+          mode = x.mode;
+          waits = x.waits;
+          event_is = refl;
+          lists = x.lists;
           board = refl;
+          tables = refl;
+          goes_on = λ on. refl;
+          ends = λ back. absurd (applying-reconciled (sym x.warm ∙ back));
         }
 
     -- the keys that the mark lists had their places too
@@ -335,7 +453,7 @@ module _ (s : LoggedService) (c : CoreState) (chip : ChipState) (is : IsServiceO
     pub restore_comes : (r : Step) (d : CoreState) (dchip : ChipState) → ran_of r ≡ ran.Whole → RestoresOut s c chip (Ok r) d dchip → (t : LoggedService) × ComesTo s t c chip d dchip × (d.warm ≡ warm.Applying)
     restore_comes step.Did d dchip h x =
         subst (λ z. (t : LoggedService) × ComesTo s t c chip d z × (d.warm ≡ warm.Applying)) (sym x.0)
-        (x.1.makes.later, comes_one s c chip d chip away x.1.makes (records_mark s c (length chip.effects) d (mark_at c (length chip.effects) (event.ApplyBegan x.1.mode x.1.waits)) (none_due warm.Restored warm.Applying c d at x.1.warm refl refl) (now_in s warm.Restored c d at refl (restores_now d x.1)) (λ h. h) (refl, refl) (λ in_it. absurd (false≢true (sym in_it ∙ ap is_unrestored at))) refl x.1.log) (λ out. refl) (keeps_restored d x.1), x.1.warm)
+        (x.1.makes.later, comes_one s c chip d chip away (λ h. applying-reconciled (sym x.1.warm ∙ h)) x.1.makes (records_mark s c chip d chip (mark_at c (length chip.effects) (event.ApplyBegan x.1.mode x.1.waits)) (none_due warm.Restored warm.Applying c d at x.1.warm refl refl) (now_in s warm.Restored c chip d chip at refl (restores_now d x.1)) (λ h. h) (refl, refl) (λ in_it. absurd (false≢true (sym in_it ∙ ap is_unrestored at))) refl x.1.log) (λ out. refl) (keeps_restored d x.1), x.1.warm)
     restore_comes step.Faulted d dchip h x = absurd x
     restore_comes step.LogFull d dchip h x = absurd cc
     restore_comes step.Idle d dchip h x = absurd x
@@ -356,8 +474,8 @@ module _ (s : LoggedService) (c : CoreState) (chip : ChipState) (is : IsServiceO
     GoesOnApplying d = ((d.warm ≡ warm.Applying) × (length d.sync.left < length c.sync.left)) ⊎ (d.warm ≡ warm.Reconciled)
 
     pub apply_comes : (r : Step) (d : CoreState) (dchip : ChipState) → ran_of r ≡ ran.Whole → AppliesOut true s c chip (Ok r) d dchip → (t : LoggedService) × ComesTo s t c chip d dchip × GoesOnApplying d
-    apply_comes step.Did d dchip h (inl x) = (x.makes.later, comes_one s c chip d dchip away x.makes (records_none s c (length chip.effects) d (none_due warm.Applying warm.Applying c d at x.warm refl refl) (still_in s warm.Applying warm.Applying c d at x.warm refl refl x.board) x.log) (λ out. absurd (false≢true (sym (ap is_unrestored x.warm) ∙ out))) x.keeps, inl (x.warm, x.fewer))
-    apply_comes step.Did d dchip h (inr x) = (session_after s x.makes.steps, comes_more s c chip d dchip away x.makes (records_mark s c (length chip.effects) d (mark_at c (length dchip.effects) event.ApplyEnded) (none_due warm.Applying warm.Reconciled c d at x.warm refl refl) (still_in s warm.Applying warm.Reconciled c d at x.warm refl refl x.board) (λ h. h) tt (λ in_it taken many. tt) refl x.log) (λ out. absurd (false≢true (sym (ap is_unrestored x.warm) ∙ out))) x.keeps, inr x.warm)
+    apply_comes step.Did d dchip h (inl x) = (x.makes.later, comes_one s c chip d dchip away (λ h. applying-reconciled (sym x.warm ∙ h)) x.makes (records_none s c chip d dchip (none_due warm.Applying warm.Applying c d at x.warm refl refl) (applies_in s c chip d dchip at x.warm x.board x.tables x.log) x.log) (λ out. absurd (false≢true (sym (ap is_unrestored x.warm) ∙ out))) x.keeps, inl (x.warm, x.fewer))
+    apply_comes step.Did d dchip h (inr x) = (session_after s x.makes.steps, comes_more s c chip d dchip away x.makes (records_mark s c chip d dchip (mark_at c (length dchip.effects) event.ApplyEnded) (none_due warm.Applying warm.Reconciled c d at x.warm refl refl) (ends_in s c chip d dchip at x.warm x.board x.tables x.log) (λ h. h) tt (λ in_it taken many. tt) refl x.log) (λ out. absurd (false≢true (sym (ap is_unrestored x.warm) ∙ out))) x.keeps, inr x.warm)
     apply_comes step.Faulted d dchip h x = absurd cc
     apply_comes step.LogFull d dchip h x = absurd cc
     apply_comes step.Idle d dchip h x = absurd x

@@ -27,7 +27,7 @@ use Rattle.session_laws.proofs.Settling.Settling.{quiet_answered, settling_ends,
 use Rattle.session_laws.proofs.Settling.Walking.{in_key_order}
 use Rattle.orch_core.specs.Marked.{AreListedFrom, ListsWhatWaits, Marks, with_settled}
 use Rattle.orch_core.specs.Outcomes.{KeepsChip}
-use Rattle.orch_core.specs.Settled.{AreTurnsSoFar, BehindThem, MarksTurns, Settles, SettlesKeys, SettlesSoFar, SettlesWhole, StopsAtMark, StopsShort}
+use Rattle.orch_core.specs.Settled.{AreByWorkers, AreTurnsSoFar, BehindThem, MarksTurns, RunsInOrder, Settles, SettlesKeys, SettlesSoFar, SettlesWhole, StopsAtMark, StopsShort}
 use Rattle.orch_core.specs.declared.answer.Settled.{Settled}
 use Rattle.orch_core.specs.declared.answer.Settled.TheVariants as settled
 use Rattle.flight_board.specs.Applied.{row_at}
@@ -70,7 +70,10 @@ module _ (s : LoggedService) (c : CoreState) (first : ChipState) (is : IsSession
 
 -- ---- the whole
 
-module _ (s : LoggedService) (c : CoreState) (first : ChipState) (is : IsSessionOf c first s) (c1 c2 : CoreState) (chip1 : ChipState) (ran : KeepsChip c first c1 chip1) (x : RunsTo c s c1 chip1) (y : PopsTo c1 x.later c2 chip1) (rest : IsAtRest c2) where
+module _ (s : LoggedService) (c : CoreState) (first : ChipState) (is : IsSessionOf c first s) (c1 c2 : CoreState) (chip1 : ChipState) (ran : KeepsChip c first c1 chip1) (all : RunsInOrder 4 s c c1 chip1) (y : PopsTo c1 all.runs.later c2 chip1) (rest : IsAtRest c2) where
+  abbrev x : RunsTo c s c1 chip1
+  x = all.runs
+
   leads : LeadsTo c s y.later c2 chip1
   leads = leads_more c c1 c2 chip1 chip1 s x.later y.later x.leads y.leads
 
@@ -90,14 +93,16 @@ module _ (s : LoggedService) (c : CoreState) (first : ChipState) (is : IsSession
     many : length waits ≡ length m.mid.tables.ops
     many = listed_length m.mid.waiting (row_at m.mid.board.applied) (keys_of m.mid.tables.ops) waits listed ∙ length-keys_of m.mid.tables.ops
 
-    ended : SettlesTo c s c' chip'
+    ended : (t : SettlesTo c s c' chip') × AreByWorkers c.board.plan 0 4 s.service.core t.answers
     ended =
-        subst (λ z. SettlesTo c s z chip') (sym (m.marks.3 ∙ ap (λ n. record m.mid { log = with_end (with_mark m.mid.log (mark_at m.mid (length chip'.effects) (event.Settled waits m.turns))); listed = m.mid.listed + n }) (sym many)))
-        (settling_ends m.turns c c1 c2 m.mid chip1 chip1 chip' s x y m.turned waits rest m.order
-        (listed_reasons m.mid m.turned.later.service.core (keys_of m.mid.tables.ops) waits m.turned.lists listed)
-        (λ k i. listed_all m.mid (keys_of m.mid.tables.ops) waits listed k i)
-        (λ k i. listed_only m.mid (keys_of m.mid.tables.ops) waits listed k i)
-        (listed_order m.mid m.mid.tables.ops waits m.marks.0 listed))
+        subst (λ z. (t : SettlesTo c s z chip') × AreByWorkers c.board.plan 0 4 s.service.core t.answers) (sym (m.marks.3 ∙ ap (λ n. record m.mid { log = with_end (with_mark m.mid.log (mark_at m.mid (length chip'.effects) (event.Settled waits m.turns))); listed = m.mid.listed + n }) (sym many))) (
+          settling_ends m.turns c c1 c2 m.mid chip1 chip1 chip' s x y m.turned waits rest m.order
+              (listed_reasons m.mid m.turned.later.service.core (keys_of m.mid.tables.ops) waits m.turned.lists listed)
+              (λ k i. listed_all m.mid (keys_of m.mid.tables.ops) waits listed k i)
+              (λ k i. listed_only m.mid (keys_of m.mid.tables.ops) waits listed k i)
+              (listed_order m.mid m.mid.tables.ops waits m.marks.0 listed),
+          all.order,
+        )
 
     fits_marked : size_beside (with_settled m.mid (length chip'.effects) waits m.turns (length m.mid.tables.ops)) (length chip'.effects) ≤ m.mid.limit
     fits_marked =
@@ -125,7 +130,7 @@ module _ (s : LoggedService) (c : CoreState) (first : ChipState) (is : IsSession
     lists = subst ListsWhatWaits (sym m.marks.3) lists_marked
 
     whole : SettlesWhole s c first c' chip'
-    whole = record { settles = ended; places = fits; lists = lists; keeps = record { fails = m.keeps.fails ∙ keeps.fails; faults = m.keeps.faults ∙ keeps.faults; limit = λ within. fits } }
+    whole = record { settles = ended.0; workers = ended.1; places = fits; lists = lists; keeps = record { fails = m.keeps.fails ∙ keeps.fails; faults = m.keeps.faults ∙ keeps.faults; limit = λ within. fits } }
 
   -- turns so far, behind what workers left and the pops
   abbrev KeysSo : SwitchState → SwitchState → List (Call Rid) → Type 0
@@ -135,7 +140,7 @@ module _ (s : LoggedService) (c : CoreState) (first : ChipState) (is : IsSession
   AllSo = SettlesSoFar c.board.plan c.sync.capacities
 
   through : (u : SwitchState) (calls : List (Call Rid)) → KeysSo y.later.service.core u calls → AllSo s.service.core u (calls_in x.answers ++ calls)
-  through u calls (order, n, turns) = BehindThem x.answers calls x.are (quiet_answered c c1 c2 chip1 chip1 s x y rest) (turns_cut c c1 c2 chip1 chip1 s x y rest order n u calls turns) refl
+  through u calls (order, n, turns) = BehindThem x.answers calls all.order (quiet_answered c c1 c2 chip1 chip1 s x y rest) (turns_cut c c1 c2 chip1 chip1 s x y rest order n u calls turns) refl
 
   grew : y.later.effects ≡ s.effects ++ calls_in x.answers
   grew = y.effects ∙ x.effects

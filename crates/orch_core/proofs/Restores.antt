@@ -1,9 +1,10 @@
 -- a restore, from the view that was built to the mark
-use Rattle.std.proofs.Common.{◌≡◌, ◌⊎◌, ◌+◌, ◌∷◌, ◌++◌, ◌∙◌, inl, inr, ℕ, List, [], length, suc, Option, None, Some, Result, Ok, Err, refl, sym, ap, subst, arith}
+use Rattle.std.proofs.Common.{◌≡◌, ◌⊎◌, ◌+◌, ◌∷◌, ◌++◌, ◌∙◌, inl, inr, ℕ, List, [], take, length, map, suc, Option, None, Some, Result, Ok, Err, refl, sym, ap, subst, arith}
 use Rattle.std.specs.Map.{keys_of}
 use Rattle.std.specs.Option.{IsSome}
 use Rattle.std.specs.Result.{IsErr}
 use Rattle.std.proofs.lemmas.Bool.{false≢true}
+use Rattle.std.proofs.lemmas.List.{append-nil, take-append-drop}
 use Rattle.std.proofs.lemmas.Map.Entries.{length-keys_of}
 use Rattle.swss_types.specs.declared.out_of_memory.OutOfMemory.{OutOfMemory}
 use Rattle.table_schema.specs.declared.key.Key.{Key}
@@ -18,7 +19,9 @@ use Rattle.switch_model.specs.declared.wait.Wait.{Wait}
 use Rattle.switch_model.specs.declared.mark.MarkEvent.TheVariants as event
 use Rattle.restart_laws.specs.Logged.{LoggedService}
 use Rattle.restart_laws.specs.Restored.{keys_waiting, waiting_of}
-use Rattle.sync_tables.specs.Tables.{PopsKeys, TablesState}
+use Rattle.sync_tables.specs.Tables.{PopsBatch, PopsKeys, TablesState, ops_popped, row_popped}
+use Rattle.sync_tables.specs.declared.tables.TheConstants.{BATCH}
+use Rattle.sync_tables.proofs.Batches.{batch-then}
 use Rattle.syncd_core.specs.Begun.{Begins}
 use Rattle.syncd_core.specs.Synced.{SyncState}
 use Rattle.warm_state.specs.declared.warm.Warm.TheVariants as warm
@@ -30,7 +33,7 @@ use Rattle.session_laws.proofs.Service.Building.{built-first}
 use Rattle.session_laws.proofs.Service.Giving.{given-up}
 use Rattle.session_laws.proofs.Service.Popping.{pops-stay}
 use Rattle.session_laws.proofs.Service.Restoring.{listed-waits, restored-step}
-use Rattle.orch_core.specs.Restarting.{BeginsOut, BuildsOut, IsFullForRestore, IsFullOncePopped, PopsBare, PopsForRestore, RestoresOut, RestoresRows, StaysInService}
+use Rattle.orch_core.specs.Restarting.{BeginsOut, BuildsOut, IsFullForRestore, IsFullOncePopped, PopsAll, PopsBare, PopsForRestore, RestoresOut, RestoresRows, StaysInService}
 use Rattle.orch_core.specs.declared.answer.Step.{Step}
 use Rattle.orch_core.specs.declared.answer.Step.TheVariants as step
 use Rattle.retry_list.specs.Listed.{without_row}
@@ -47,6 +50,26 @@ bare_on c d at (u, is_with, stays) e t keys same = (
   same ∙ ap (λ (z : CoreState). record z { tables = t }) is_with,
   λ chip s is. subst (λ z. IsServiceOf z chip s) (sym same) (pops-stay d t keys chip s (stays chip s is) (ap (λ (z : CoreState). z.warm) is_with ∙ at)),
 )
+
+-- keys were popped so far, batch after batch; once none waits it is all that waited
+abbrev pub PopsSoFar : CoreState → CoreState → Type 0
+PopsSoFar c d = (n : ℕ) × PopsBatch n c.tables d.tables
+
+pub batch_first : (c : CoreState) → PopsSoFar c c
+batch_first c = (0, record { waiting = refl; rows = λ q. refl; ops = refl })
+
+pub batch_on : (c d e : CoreState) → PopsSoFar c d → PopsBatch BATCH d.tables e.tables → PopsSoFar c e
+batch_on c d e (n, before) batch = (n + BATCH, batch-then c.tables d.tables e.tables n BATCH before batch)
+
+pub all_popped : (c d : CoreState) → PopsSoFar c d → d.tables.waiting ≡ [] → PopsAll c.tables d.tables
+all_popped c d (n, batch) none =
+    let whole : take n c.tables.waiting ≡ c.tables.waiting =
+    sym (append-nil (take n c.tables.waiting)) ∙ ap (λ l. take n c.tables.waiting ++ l) (sym none ∙ batch.waiting) ∙ take-append-drop n c.tables.waiting in
+    record {
+      waiting = none;
+      rows = λ q. batch.rows q ∙ ap (row_popped q (fields_at c.tables.rows q)) whole;
+      ops = batch.ops ∙ ap (ops_popped c.tables.ops) whole;
+    }
 
 pub bare_err : (c d : CoreState) (r : Result (Unit {0}) OutOfMemory) → IsErr r → PopsForRestore c d → PopsBare c r d
 bare_err c d (Err e) h x = x
@@ -89,6 +112,10 @@ keys_long : (ws : List (Key × Wait)) → length (keys_waiting ws ++ []) ≡ len
 keys_long [] = refl
 keys_long (w ∷ ws) = ap (λ n. suc n) (keys_long ws)
 
+keys_bare : (ws : List (Key × Wait)) → map (λ w. w.0) (waiting_of ws) ≡ keys_waiting ws
+keys_bare [] = refl
+keys_bare (w ∷ ws) = ap (λ ks. w.0 ∷ ks) (keys_bare ws)
+
 module _ (first : CoreState) (chip : ChipState) (s : LoggedService) (is : IsServiceOf first chip s) (at : first.warm ≡ warm.Restored) (popped : first.tables.waiting ≡ []) (d : CoreState) (x : IsBuilt first d []) where
   -- as many keys are to sync as wait
   ops_long : length d.tables.ops ≡ length x.waits
@@ -122,6 +149,7 @@ module _ (first : CoreState) (chip : ChipState) (s : LoggedService) (is : IsServ
       free = x.free;
       mode = m;
       waits = listing;
+      lists = ap (λ (l : Waiting). map (λ w. w.0) l) is_listing ∙ keys_bare x.waits ∙ sym (x.ops ∙ append-nil (keys_waiting x.waits));
       log = ap (λ (h : History). with_mark h (record { taken = length h.taken; effects = length chip.effects; event = event.ApplyBegan m listing })) x.beside.log;
       room = beside_room first d x.beside (length chip.effects) (1 + length listing) (subst (λ n. IsFullFor d (length chip.effects) (1 + n) → ⊥) (sym listing_long) room);
     }
@@ -139,7 +167,7 @@ begins_err s first chip (Ok r) d h x = absurd (false≢true h)
 
 -- ---- the whole restore
 
-module _ (s : LoggedService) (c : CoreState) (chip : ChipState) (is : IsServiceOf c chip s) (at : c.warm ≡ warm.Restored) (first : CoreState) (pops : PopsForRestore c first) (popped : first.tables.waiting ≡ []) where
+module _ (s : LoggedService) (c : CoreState) (chip : ChipState) (is : IsServiceOf c chip s) (at : c.warm ≡ warm.Restored) (first : CoreState) (pops : PopsForRestore c first) (all : PopsAll c.tables first.tables) where
   is_first : IsServiceOf first chip s
   is_first = pops.2 chip s is
 
@@ -150,7 +178,7 @@ module _ (s : LoggedService) (c : CoreState) (chip : ChipState) (is : IsServiceO
   full_once full = record {
     tables = pops.0;
     stands = subst (λ z. IsServiceOf z chip s) pops.1 is_first;
-    popped = ap (λ (z : CoreState). z.tables.waiting) (sym pops.1) ∙ popped;
+    popped = subst (λ (z : CoreState). PopsAll c.tables z.tables) pops.1 all;
     full = subst (λ z. IsFullForRestore z chip) pops.1 full;
   }
 
@@ -184,6 +212,7 @@ module _ (s : LoggedService) (c : CoreState) (chip : ChipState) (is : IsServiceO
     free = x.free;
     mode = x.mode;
     waits = x.waits;
+    lists = x.lists;
     log = x.log;
     room = x.room;
   }

@@ -14,7 +14,7 @@ use Rattle.sai_types.specs.ChipState.{ChipState}
 use Rattle.consumer_table.specs.Ops.{AreOpsInOrder, Ops, first_in, keys_behind}
 use Rattle.retry_list.specs.Reasons.{with_reason}
 use Rattle.switch_model.specs.declared.wait.Wait.{Wait}
-use Rattle.switch_machine.specs.Events.{AreAnswers, SwitchState}
+use Rattle.switch_machine.specs.Events.{SwitchState}
 use Rattle.switch_machine.specs.Reasons.{IsReason}
 use Rattle.machine_laws.specs.Settling.{IsMachineTurnSoFar, RunsSoFar}
 use Rattle.restart_laws.specs.Logged.{LoggedService}
@@ -25,6 +25,7 @@ use Rattle.mark_lists.proofs.Listings.{in_middle}
 use Rattle.session_laws.specs.Core.{CoreState}
 use Rattle.session_laws.specs.Standing.{IsSessionOf}
 use Rattle.session_laws.proofs.Beside.{stands_with}
+use Rattle.session_laws.proofs.ByFirst.{begin_stays}
 use Rattle.session_laws.proofs.Joining.{no_step}
 use Rattle.session_laws.specs.Leading.{LeadsTo}
 use Rattle.session_laws.specs.Turning.{IsAtRest, IsTurned, IsTurning}
@@ -32,12 +33,12 @@ use Rattle.session_laws.proofs.Settling.Leading.{leads_one, plan_led_back}
 use Rattle.session_laws.proofs.Settling.Turning.{turn_begins, turn_drops, turn_runs, turn_waits}
 use Rattle.session_laws.proofs.Settling.Walking.{first_next, in_key_order, walk_goes, walk_stays}
 use Rattle.orch_core.specs.Outcomes.{KeepsChip, BeginsTo, DropsTo, IsSameCore, key_left}
-use Rattle.orch_core.specs.Settled.{AreAnswersSoFar, AreTurnsSoFar, Begun, Brings, BringsKey, Dropped, IsKeySoFar, IsTurnSoFar, MakesTurn, MakesTurns, RunsOut, RunsWhole, StopsShort, Waits, StopsFaulted, StopsFull}
+use Rattle.orch_core.specs.Settled.{AreAnswersSoFar, AreByWorkers, AreTurnsSoFar, Begun, Brings, BringsKey, Dropped, IsKeySoFar, IsTurnSoFar, MakesTurn, MakesTurns, RunsOut, RunsWhole, StopsShort, Waits, StopsFaulted, StopsFull}
 use Rattle.orch_core.specs.declared.answer.Ran.{Ran}
 use Rattle.orch_core.specs.declared.answer.Ran.TheVariants as ran
 use Rattle.orch_core.specs.declared.answer.Turned.{Turned}
 use Rattle.orch_core.proofs.Chips.{keeps_alike, keeps_itself, keeps_on}
-use Rattle.orch_core.proofs.Runs.{faulted_more, full_more, log_same, short_more}
+use Rattle.orch_core.proofs.Runs.{by_are, faulted_more, full_more, log_same, short_more}
 use Rattle.orch_core.proofs.Walks.{some_same, warm_same}
 
 -- ---- at rest
@@ -118,7 +119,7 @@ module _ (keys left more : List Key) (k : Key) (c d : CoreState) (chip : ChipSta
       } in
       let ops : e.tables ≡ (key_left d k).tables = r.beside.tables ∙ ap (λ (z : CoreState). z.tables) y.is in (
         left,
-        turn_runs keys left more k c d chip s x mid e chip' y.makes y.begin y.key y.moves r.runs rest (ap (λ t. keys_of t.ops) ops ∙ goes),
+        turn_runs keys left more k c d chip s x mid e chip' y.makes y.begin y.key y.worker y.moves r.runs rest (ap (λ t. keys_of t.ops) ops ∙ goes),
       )
     where
       free : (v : ℕ) → v < 4 → flown_at e.board v ≡ None
@@ -228,13 +229,13 @@ module _ (n : ℕ) (s : LoggedService) (c : CoreState) (first : ChipState) (is :
 -- an operation that begins is run to its end
 module _ (s : LoggedService) (k : Key) (c : CoreState) (chip : ChipState) (is : IsSessionOf c chip s) (mid : CoreState) (x : BeginsTo s 0 k c mid chip) (d : CoreState) (chip' : ChipState) where
   leads : LeadsTo c s x.makes.later mid chip
-  leads = leads_one c mid chip s x.makes
+  leads = leads_one c mid chip s x.makes (begin_stays s x.makes.later (ap (λ (t : LoggedService). t.service.warm) x.moves) c.board.plan 4 c.sync.capacities x.begin 0 x.worker)
 
   log_kept : mid.log ≡ c.log
   log_kept = ap (λ (z : CoreState). z.log) x.is
 
   abbrev RunSo : SwitchState → SwitchState → List (Call Rid) → Type 0
-  RunSo = AreAnswersSoFar mid.board.plan
+  RunSo = AreAnswersSoFar mid.board.plan 0 1
 
   abbrev OwnSo : SwitchState → SwitchState → List (Call Rid) → Type 0
   OwnSo = IsKeySoFar c.board.plan c.sync.capacities k
@@ -245,7 +246,7 @@ module _ (s : LoggedService) (k : Key) (c : CoreState) (chip : ChipState) (is : 
     starting = x.begin;
     is = x.key;
     answers = es;
-    are = subst (λ p. AreAnswers p 4 x.makes.later.service.core es) x.makes.plan run;
+    are = by_are c.board.plan 0 1 x.makes.later.service.core es (subst (λ p. AreByWorkers p 0 1 x.makes.later.service.core es) x.makes.plan run);
     last = last;
     calls_are = said;
   })

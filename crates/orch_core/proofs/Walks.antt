@@ -1,5 +1,5 @@
 -- the walk of a worker over the keys to sync, up to the first that can begin
-use Rattle.std.proofs.Common.{◌≡◌, ◌⊎◌, ◌∙◌, inl, inr, ℕ, true, false, [], drop, is_some, Option, Some, None, Result, Ok, Err, Ordering, refl, sym, ap, subst}
+use Rattle.std.proofs.Common.{◌≡◌, ◌⊎◌, ◌∙◌, inl, inr, ℕ, true, false, [], is_some, Option, Some, None, Result, Ok, Err, Ordering, refl, sym, ap, subst}
 use Rattle.std.specs.Map.{keys_of}
 use Rattle.std.specs.Option.{IsSome}
 use Rattle.std.specs.Ordering.{is_lt}
@@ -21,13 +21,14 @@ use Rattle.switch_machine.specs.Reasons.{IsReason}
 use Rattle.switch_machine.proofs.Hindered.{begins-free, drops-free}
 use Rattle.restart_laws.specs.Logged.{IsLoggedStep, LoggedService}
 use Rattle.restart_laws.proofs.Order.{not-both, not-self}
-use Rattle.sync_tables.specs.Tables.{IsBehind, IsNextKey, IsToSync, PopsKeys, PopsSome, TablesState}
+use Rattle.sync_tables.specs.Tables.{IsBehind, IsNextKey, IsToSync, PopsBatch, PopsKeys, PopsSome, TablesState}
 use Rattle.sync_tables.specs.declared.tables.TheConstants.{BATCH}
 use Rattle.flight_board.specs.Board.{BoardState, IsSameBoard, flown_at}
 use Rattle.warm_state.specs.declared.warm.Warm.TheVariants as warm
 use Rattle.session_laws.specs.Core.{CoreState}
 use Rattle.session_laws.specs.Events.{MakesOne, MakesSome}
 use Rattle.session_laws.specs.Standing.{IsSessionOf}
+use Rattle.session_laws.proofs.ByFirst.{none_stay}
 use Rattle.session_laws.proofs.Marking.{popped}
 use Rattle.session_laws.proofs.Popping.{pop_told}
 use Rattle.session_laws.proofs.Seeing.{free_worker_rests, is_idle, same_keys}
@@ -156,7 +157,7 @@ walk_idle c c' after walked last w at none empty s chip is =
 
 -- the session stays where memory was refused
 pub some_same : (c d : CoreState) (s : LoggedService) (chip : ChipState) → IsSameCore c d → IsSessionOf d chip s → MakesSome c s d chip
-some_same c d s chip same is = record { steps = []; are = tt; stands = is; plan = plan_same c d same; capacities = capacities_same c d same; limit = limit_same c d same }
+some_same c d s chip same is = record { steps = []; are = tt; few = none_stay 0 s; stands = is; plan = plan_same c d same; capacities = capacities_same c d same; limit = limit_same c d same }
 
 pub warm_same : (c d : CoreState) → IsSameCore c d → d.warm ≡ c.warm
 warm_same c d same = ap (λ (z : CoreState). z.warm) same.2
@@ -208,9 +209,9 @@ module _ (s : LoggedService) (w : ℕ) (c : CoreState) (chip : ChipState) (is : 
   answering_steps (Err e) d chip' x = Uncalled flying x.0 x.1 x.2
 
 module _ (s : LoggedService) (w : ℕ) (c : CoreState) (chip : ChipState) (is : IsSessionOf c chip s) (at : c.warm ≡ warm.Reconciled) (next : IsPopNext c w) (t : TablesState) (keys : PopsKeys c.tables t) (d : CoreState) (same : d ≡ record c { tables = t }) where
-  pub popping_steps : (c.tables.waiting ≡ []) ⊎ PopsSome c.tables d.tables → d.tables.waiting ≡ drop BATCH c.tables.waiting → StepsTo s w c chip (Ok step.Did) d chip
-  popping_steps (inl empty) left = absurd (next.1 empty)
-  popping_steps (inr popped) left =
+  pub popping_steps : (c.tables.waiting ≡ []) ⊎ PopsSome c.tables d.tables → PopsBatch BATCH c.tables d.tables → StepsTo s w c chip (Ok step.Did) d chip
+  popping_steps (inl empty) batch = absurd (next.1 empty)
+  popping_steps (inr popped) batch =
       let told = pop_told c chip s t is at keys in
       let one = told.3 (subst (λ (z : CoreState). PopsSome c.tables z.tables) same popped) in
       subst (λ z. StepsTo s w c chip (Ok step.Did) z chip) (sym same) (record {
@@ -222,5 +223,5 @@ module _ (s : LoggedService) (w : ℕ) (c : CoreState) (chip : ChipState) (is : 
         keeps = keeps_alike c (record c { tables = t }) chip chip refl refl refl refl;
         room = λ some full. false≢true some;
         called = refl;
-        batch = λ next. ap (λ (z : CoreState). z.tables.waiting) (sym same) ∙ left;
+        batch = λ next. subst (λ (z : CoreState). PopsBatch BATCH c.tables z.tables) same batch;
       })

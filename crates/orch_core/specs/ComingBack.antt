@@ -1,7 +1,10 @@
 -- What a settling comes to that begins in any warm state: first the core comes back from a fault and from a restart. Own.
-use Rattle.std.specs.Prelude.{◌≡◌, ◌+◌, ◌++◌, ℕ, Bool, true, false, ◌<◌, List, [], ◌∷◌, length, None, Result, Ok, Err}
+use Rattle.std.specs.Prelude.{◌≡◌, ◌+◌, ◌++◌, ℕ, Bool, true, false, ◌<◌, List, [], ◌∷◌, length, map, None, Result, Ok, Err}
+use Rattle.std.specs.Map.{keys_of}
 use Rattle.swss_types.specs.declared.out_of_memory.OutOfMemory.{OutOfMemory}
+use Rattle.sai_types.specs.declared.plan.Mode.{Mode}
 use Rattle.sai_types.specs.ChipState.{ChipState, IsAskedOnce}
+use Rattle.switch_model.specs.Marks.{Waiting}
 use Rattle.switch_model.specs.declared.mark.Mark.{Mark}
 use Rattle.switch_model.specs.declared.mark.MarkEvent.{MarkEvent}
 use Rattle.switch_model.specs.declared.mark.MarkEvent.TheVariants as event
@@ -10,8 +13,9 @@ use Rattle.restart_laws.specs.Logged.{AreLoggedSteps, LoggedService, session_aft
 use Rattle.flight_board.specs.Board.{flown_at}
 use Rattle.warm_state.specs.declared.warm.Warm.{Warm}
 use Rattle.warm_state.specs.declared.warm.Warm.TheVariants as warm
-use Rattle.session_laws.specs.Core.{CoreState, IsFullFor}
+use Rattle.session_laws.specs.Core.{CoreState, IsFullFor, mark_at}
 use Rattle.session_laws.specs.Service.Standing.{IsServiceOf}
+use Rattle.session_laws.specs.Workers.{StayByFirst}
 use Rattle.orch_core.specs.Outcomes.{KeepsChip}
 use Rattle.orch_core.specs.Restarting.{FaultsOnWay, IsFullToRestore, StaysInService, places_left}
 use Rattle.orch_core.specs.Settled.{Settles}
@@ -67,30 +71,49 @@ CountAll taken effects (mark ∷ marks) = CountsSo taken effects mark mark.event
 
 -- ---- on the way
 
--- the rows were restored: whole events led to a core that had just begun its apply, with its mark, and whose board is the later core's
-pub record HasRestored (s : LoggedService) (c : CoreState) (c' : CoreState) : Type 0 where
+-- the rows were restored: whole events led to a core that had just begun its apply, with its mark, which lists the keys that are to sync; its board and its tables are the later core's; and while the apply goes on no other mark is made, and then that of its end alone
+pub record HasRestored (s : LoggedService) (c : CoreState) (c' : CoreState) (chip' : ChipState) : Type 0 where
   pub begun : CoreState
   pub begun_chip : ChipState
   pub then : LoggedService
   pub steps : List LoggedService
   pub are : AreLoggedSteps c.board.plan 4 c.sync.capacities s steps
+  pub few : StayByFirst 0 s steps
   pub is : session_after s steps ≡ then
   pub stands : IsServiceOf begun begun_chip then
   pub plan : begun.board.plan ≡ c.board.plan
   pub capacities : begun.sync.capacities ≡ c.sync.capacities
+  pub goes_on : c'.warm ≡ warm.Applying → c'.log.marks ≡ begun.log.marks
+  pub ends : c'.warm ≡ warm.Reconciled → c'.log.marks ≡ begun.log.marks ++ mark_at begun (length chip'.effects) event.ApplyEnded ∷ []
   pub warm : begun.warm ≡ warm.Applying
   pub free : (v : ℕ) → v < 4 → flown_at begun.board v ≡ None
+  pub popped : begun.tables.waiting ≡ []
   pub taken : begun.log.taken ≡ c.log.taken
   pub earlier : List Mark
   pub mark : Mark
-  pub marks : begun.log.marks ≡ earlier ++ mark ∷ []
+  pub marks : begun.log.marks ≡ c.log.marks ++ (earlier ++ mark ∷ [])
   pub counts : mark.taken ≡ length c.log.taken
+  pub mode : Mode
+  pub waits : Waiting
+  pub event_is : mark.event ≡ event.ApplyBegan mode waits
+  pub lists : map (λ w. w.0) waits ≡ keys_of begun.tables.ops
   pub board : c'.board ≡ begun.board
+  pub tables : c'.tables ≡ begun.tables
+
+-- the rows were restored before: the board and the tables stay, and no mark is made but that of the end of an apply
+pub record KeepsRestored (c : CoreState) (chip : ChipState) (c' : CoreState) (chip' : ChipState) : Type 0 where
+  pub restored : is_unrestored c'.warm ≡ false
+  pub board : c'.board ≡ c.board
+  pub tables : c'.tables ≡ c.tables
+  pub goes_on : c'.warm ≡ warm.Applying → (c.warm ≡ warm.Applying) × (c'.log.marks ≡ c.log.marks)
+  pub ends : c.warm ≡ warm.Applying → c'.warm ≡ warm.Reconciled → c'.log.marks ≡ c.log.marks ++ mark_at c (length chip'.effects) event.ApplyEnded ∷ []
+  pub ended : c.warm ≡ warm.Reconciled → (c'.log.marks ≡ c.log.marks) × (chip'.effects ≡ chip.effects)
 
 -- whole events lead to this session, which is that of the later core and chip, and none where the core was reconciled: no write was taken, and no round ended; the marks that were made are those of restarts and applies, and each restart that is no longer due has its own; a mark of a restart or of the beginning of an apply counts the writes and effects that were there first, since until the rows are restored no call takes effect; the rows that are applied were restored on the way, or are as they were
 pub record ComesTo (s later : LoggedService) (c : CoreState) (chip : ChipState) (c' : CoreState) (chip' : ChipState) : Type 0 where
   pub steps : List LoggedService
   pub are : AreLoggedSteps c.board.plan 4 c.sync.capacities s steps
+  pub few : StayByFirst 0 s steps
   pub is : session_after s steps ≡ later
   pub stands : IsServiceOf c' chip' later
   pub plan : c'.board.plan ≡ c.board.plan
@@ -105,8 +128,8 @@ pub record ComesTo (s later : LoggedService) (c : CoreState) (chip : ChipState) 
   pub none_counted : is_unrestored c.warm ≡ false → (taken effects : ℕ) → CountAll taken effects added
   pub unmoved : is_unrestored c'.warm ≡ true → chip'.effects ≡ chip.effects
   pub restarts : restarts_marked added + restarts_due c'.warm ≡ restarts_due c.warm
-  pub restored : is_unrestored c.warm ≡ true → is_unrestored c'.warm ≡ false → HasRestored s c c'
-  pub kept : is_unrestored c.warm ≡ false → (is_unrestored c'.warm ≡ false) × (c'.board ≡ c.board)
+  pub restored : is_unrestored c.warm ≡ true → is_unrestored c'.warm ≡ false → HasRestored s c c' chip'
+  pub kept : is_unrestored c.warm ≡ false → KeepsRestored c chip c' chip'
   pub keeps : KeepsChip c chip c' chip'
   pub still : c.warm ≡ warm.Reconciled → (c' ≡ c) × (chip' ≡ chip) × (later ≡ s)
 

@@ -1,5 +1,5 @@
 -- What the core's events come to, by their answers. Own.
-use Rattle.std.specs.Prelude.{◌≡◌, ◌+◌, ◌<◌, ◌≤◌, ◌⊎◌, ◌++◌, ◌∷◌, ℕ, Bool, true, false, List, [], drop, length, Option, Some, None, IsSome, Result, Ok, Err}
+use Rattle.std.specs.Prelude.{◌≡◌, ◌+◌, ◌<◌, ◌≤◌, ◌⊎◌, ◌++◌, ◌∷◌, ℕ, Bool, true, false, List, [], length, Option, Some, None, IsSome, Result, Ok, Err}
 use Rattle.swss_types.specs.declared.out_of_memory.OutOfMemory.{OutOfMemory}
 use Rattle.table_schema.specs.declared.key.Key.{Key}
 use Rattle.table_schema.specs.declared.row.Row.{Row}
@@ -21,7 +21,7 @@ use Rattle.switch_machine.specs.Reasons.{IsReason}
 use Rattle.restart_laws.specs.Logged.{LoggedService}
 use Rattle.asic_view.specs.View.{used_of}
 use Rattle.ref_counts.specs.Room.{number_of_kind}
-use Rattle.sync_tables.specs.Tables.{TablesState, TakesAtMost}
+use Rattle.sync_tables.specs.Tables.{PopsBatch, PopsInPart, TablesState}
 use Rattle.sync_tables.specs.declared.tables.TheConstants.{BATCH}
 use Rattle.syncd_core.specs.Synced.{SyncState, current}
 use Rattle.flight_board.specs.Board.{BoardState, IsBegunFor, IsSameBoard, IsTakenFor, flown_at}
@@ -202,7 +202,7 @@ abbrev pub IsCalledFor : Option (Call Rid) → ChipState → ChipState → Type 
 IsCalledFor None chip chip' = chip' ≡ chip
 IsCalledFor (Some call) chip chip' = chip'.calls ≡ calls_after chip.calls
 
--- one event was made, the first that applies to the worker, and one does; it made at most one call of the chip, which had two places in the log; and where a pop was next, the first keys that waited were popped, a batch of them or all
+-- one event was made, the first that applies to the worker, and one does; it made at most one call of the chip, which had two places in the log; and where a pop was next, the first keys that waited were popped, a batch of them or all, and the rows and the operations to sync are what that makes of them
 pub record StepsOn (s : LoggedService) (w : ℕ) (c : CoreState) (chip : ChipState) (c' : CoreState) (chip' : ChipState) : Type 0 where
   pub makes : MakesOne c s c' chip'
   pub call : Option (Call Rid)
@@ -212,13 +212,13 @@ pub record StepsOn (s : LoggedService) (w : ℕ) (c : CoreState) (chip : ChipSta
   pub keeps : KeepsChip c chip c' chip'
   pub room : IsSome call → IsFullFor c (length chip.effects) 2 → ⊥
   pub called : IsCalledFor call chip chip'
-  pub batch : IsPopNext c w → c'.tables.waiting ≡ drop BATCH c.tables.waiting
+  pub batch : IsPopNext c w → PopsBatch BATCH c.tables c'.tables
 
--- memory was refused, and no event was made: a call was due, had its places in the log, and was not made, or the chip answered so; nothing was done, where the worker has nothing under way; or a pop was next, and a part of it was made
+-- memory was refused, and no event was made: a call was due, had its places in the log, and was not made, or the chip answered so; nothing was done, where the worker has nothing under way; or a pop was next, and a part of it was made, up to the key at which memory was refused
 pub data StepsInPart (s : LoggedService) (w : ℕ) (c : CoreState) (chip : ChipState) (c' : CoreState) (chip' : ChipState) : Type 0 where
   Uncalled : IsSome (flown_at c.board w) → IsAskedOnce chip chip' → StaysInSession s c c' chip' → (IsFullFor c (length chip.effects) 2 → ⊥) → StepsInPart s w c chip c' chip'
   Unbegun : flown_at c.board w ≡ None → chip' ≡ chip → StaysInSession s c c' chip → StepsInPart s w c chip c' chip'
-  Part : IsPopNext c w → chip' ≡ chip → PopsAlone c c' → TakesAtMost BATCH c.tables.waiting c'.tables.waiting → StepsInPart s w c chip c' chip'
+  Part : IsPopNext c w → chip' ≡ chip → PopsAlone c c' → PopsInPart BATCH c.tables c'.tables → StepsInPart s w c chip c' chip'
 
 -- a step of a worker makes the first event that applies to it; it is Idle where none does; Faulted where the call that was due for it failed, which is marked; LogFull where that call has not two places; and after want of memory at most a part of a pop was made
 abbrev pub StepsTo : LoggedService → ℕ → CoreState → ChipState → Result Step OutOfMemory → CoreState → ChipState → Type 0

@@ -1,7 +1,9 @@
 -- What a restart and the events that follow it come to, by their answers. Own.
-use Rattle.std.specs.Prelude.{◌≡◌, ◌+◌, ◌<◌, ◌≤◌, ◌⊎◌, ℕ, Bool, false, List, [], ◌∷◌, length, Option, Some, None, Result, Ok, Err}
+use Rattle.std.specs.Prelude.{◌≡◌, ◌+◌, ◌<◌, ◌≤◌, ◌⊎◌, ℕ, Bool, false, List, [], ◌∷◌, length, map, Option, Some, None, Result, Ok, Err}
+use Rattle.std.specs.Map.{keys_of}
 use Rattle.swss_types.specs.declared.out_of_memory.OutOfMemory.{OutOfMemory}
 use Rattle.table_schema.specs.Plan.{Ports}
+use Rattle.table_schema.specs.Rows.{fields_at}
 use Rattle.table_schema.specs.declared.key.Key.{Key}
 use Rattle.sai_types.specs.declared.plan.Mode.{Mode}
 use Rattle.sai_types.specs.declared.plan.PlanCall.{PlanCall}
@@ -11,7 +13,7 @@ use Rattle.switch_model.specs.Marks.{Waiting}
 use Rattle.switch_model.specs.declared.mark.Mark.{Mark}
 use Rattle.switch_model.specs.declared.mark.MarkEvent.TheVariants as event
 use Rattle.restart_laws.specs.Logged.{LoggedService}
-use Rattle.sync_tables.specs.Tables.{TablesState}
+use Rattle.sync_tables.specs.Tables.{TablesState, ops_popped, row_popped}
 use Rattle.syncd_core.specs.Synced.{new_state, with_listed}
 use Rattle.syncd_core.specs.declared.answer.ApplyStep.{ApplyStep}
 use Rattle.syncd_core.specs.declared.answer.ApplyStep.TheVariants as apply_step
@@ -114,8 +116,14 @@ ListsOut ends s c chip (Err e) c' chip' = (c' ≡ c) × IsAskedOnce chip chip' �
 abbrev pub PopsForRestore : CoreState → CoreState → Type 0
 PopsForRestore c c' = (t : TablesState) × (c' ≡ record c { tables = t }) × ((chip : ChipState) (s : LoggedService) → IsServiceOf c chip s → IsServiceOf c' chip s)
 
+-- all that waited is popped, one key after the other
+pub record PopsAll (old new : TablesState) : Type 0 where
+  pub waiting : new.waiting ≡ []
+  pub rows : (q : Key) → fields_at new.rows q ≡ row_popped q (fields_at old.rows q) old.waiting
+  pub ops : new.ops ≡ ops_popped old.ops old.waiting
+
 abbrev pub PopsBare : CoreState → Result (Unit {0}) OutOfMemory → CoreState → Type 0
-PopsBare c (Ok _) c' = PopsForRestore c c' × (c'.tables.waiting ≡ [])
+PopsBare c (Ok _) c' = PopsForRestore c c' × PopsAll c.tables c'.tables
 PopsBare c (Err e) c' = PopsForRestore c c'
 
 -- of the keys gone over these are left; or memory was refused; no call was made on the chip
@@ -140,7 +148,7 @@ abbrev pub CallsView : CoreState → List Key → CoreState → ChipState → Re
 CallsView first rest c chip (Ok _) c' chip' = IsBringing first c' rest × (chip' ≡ chip) × (calls_left c'.board < calls_left c.board)
 CallsView first rest c chip (Err e) c' chip' = IsBeside first c' × (chip' ≡ chip)
 
--- the rows were restored in one step of the session, and no worker has anything under way: its mark, which lists the keys that wait, had its places in the log
+-- the rows were restored in one step of the session, and no worker has anything under way: its mark lists the keys that are to sync, each of which waits, and had its places in the log
 pub record RestoresRows (s : LoggedService) (c : CoreState) (chip : ChipState) (c' : CoreState) : Type 0 where
   pub makes : MakesNext c s c' chip
   pub warm : c'.warm ≡ warm.Applying
@@ -148,6 +156,7 @@ pub record RestoresRows (s : LoggedService) (c : CoreState) (chip : ChipState) (
   pub free : (v : ℕ) → v < 4 → flown_at c'.board v ≡ None
   pub mode : Mode
   pub waits : Waiting
+  pub lists : map (λ w. w.0) waits ≡ keys_of c'.tables.ops
   pub log : c'.log ≡ with_mark c.log (mark_at c (length chip.effects) (event.ApplyBegan mode waits))
   pub room : IsFullFor c (length chip.effects) (1 + length waits) → ⊥
 
@@ -161,7 +170,7 @@ pub record IsFullForRestore (first : CoreState) (chip : ChipState) : Type 0 wher
 pub record IsFullOncePopped (s : LoggedService) (c : CoreState) (chip : ChipState) : Type 0 where
   pub tables : TablesState
   pub stands : IsServiceOf (record c { tables = tables }) chip s
-  pub popped : tables.waiting ≡ []
+  pub popped : PopsAll c.tables tables
   pub full : IsFullForRestore (record c { tables = tables }) chip
 
 -- it has none for any mark, or none for that one
@@ -217,7 +226,7 @@ pub record AppliesOne (s : LoggedService) (c : CoreState) (chip : ChipState) (c'
 
 -- the last call was made, where one was left, and the end is marked: the core is reconciled; of more than one call none is the last
 pub record AppliesLast (s : LoggedService) (c : CoreState) (chip : ChipState) (c' : CoreState) (chip' : ChipState) : Type 0 where
-  pub makes : MakesMore c s c' chip'
+  pub makes : MakesMore 0 c s c' chip'
   pub warm : c'.warm ≡ warm.Reconciled
   pub log : c'.log ≡ with_mark c.log (mark_at c (length chip'.effects) event.ApplyEnded)
   pub tables : c'.tables ≡ c.tables

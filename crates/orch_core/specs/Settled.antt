@@ -1,5 +1,5 @@
 -- What running, popping, turns and settling come to, by their answers. Own.
-use Rattle.std.specs.Prelude.{◌≡◌, ◌+◌, ◌<◌, ◌≤◌, ◌⊎◌, ◌++◌, ℕ, true, List, [], length, None, IsSome, Result, Ok, Err}
+use Rattle.std.specs.Prelude.{◌≡◌, ◌+◌, ◌<◌, ◌≤◌, ◌⊎◌, ◌++◌, ◌∷◌, ℕ, true, List, [], length, None, IsSome, Result, Ok, Err}
 use Rattle.std.specs.Map.{keys_of}
 use Rattle.swss_types.specs.declared.out_of_memory.OutOfMemory.{OutOfMemory}
 use Rattle.table_schema.specs.Plan.{Ports}
@@ -10,7 +10,7 @@ use Rattle.sai_types.specs.ChipState.{ChipState}
 use Rattle.consumer_table.specs.Ops.{AreOpsInOrder}
 use Rattle.retry_list.specs.Reasons.{with_reason}
 use Rattle.switch_model.specs.declared.wait.Wait.{Wait}
-use Rattle.switch_machine.specs.Events.{AreAnswers, IsDueCall, IsQuiet, SwitchState, after_answers}
+use Rattle.switch_machine.specs.Events.{IsAnswer, IsDueCall, IsQuiet, SwitchState, after_answers}
 use Rattle.switch_machine.specs.Next.{MustWait}
 use Rattle.switch_machine.specs.Reasons.{IsReason}
 use Rattle.machine_laws.specs.Logged.{IsSettlingSoFar}
@@ -36,9 +36,14 @@ use Rattle.orch_core.specs.declared.answer.Turned.TheVariants as turned
 
 -- ---- where it stops: with the calls that were made so far
 
--- what workers left was run so far, with these calls
-abbrev pub AreAnswersSoFar : Ports → SwitchState → SwitchState → List (Call Rid) → Type 0
-AreAnswersSoFar plan s t calls = (answers : List (Call Rid × SwitchState)) × AreAnswers plan 4 s answers × (t ≡ after_answers s answers) × (calls ≡ calls_in answers)
+-- answers of workers from one number on and below another, in the order of these numbers: no worker goes on behind the next
+abbrev pub AreByWorkers : Ports → ℕ → ℕ → SwitchState → List (Call Rid × SwitchState) → Type 0
+AreByWorkers plan from to s [] = Unit {0}
+AreByWorkers plan from to s (e ∷ es) = (x : IsAnswer plan 4 e.0 s e.1) × (from ≤ x.next.worker) × (x.next.worker < to) × AreByWorkers plan x.next.worker to e.1 es
+
+-- what these workers left was run so far, with these calls
+abbrev pub AreAnswersSoFar : Ports → ℕ → ℕ → SwitchState → SwitchState → List (Call Rid) → Type 0
+AreAnswersSoFar plan from to s t calls = (answers : List (Call Rid × SwitchState)) × AreByWorkers plan from to s answers × (t ≡ after_answers s answers) × (calls ≡ calls_in answers)
 
 -- the operation of a key had not begun, or was run so far
 abbrev pub IsKeySoFar : Ports → List ℕ → Key → SwitchState → SwitchState → List (Call Rid) → Type 0
@@ -52,10 +57,10 @@ IsTurnSoFar plan capacities keys s t calls = IsMachineTurnSoFar plan 4 capacitie
 abbrev pub AreTurnsSoFar : Ports → List ℕ → List Key → SwitchState → SwitchState → List (Call Rid) → Type 0
 AreTurnsSoFar plan capacities keys s t calls = AreInKeyOrder keys × (turns : ℕ) × AreMachineTurnsSoFar plan 4 capacities turns s keys t calls
 
--- a settling so far: what workers left was run so far; or to its end, and then keys were popped and turns made so far
+-- a settling so far: what workers left was run so far, worker by worker; or to its end, and then keys were popped and turns made so far
 pub data SettlesSoFar (plan : Ports) (capacities : List ℕ) (s t : SwitchState) (calls : List (Call Rid)) : Type 0 where
-  InAnswers : AreAnswersSoFar plan s t calls → SettlesSoFar plan capacities s t calls
-  BehindThem : (answers : List (Call Rid × SwitchState)) (more : List (Call Rid)) → AreAnswers plan 4 s answers → IsQuiet (after_answers s answers) → IsSettlingSoFar plan 4 capacities (with_calls (after_answers s answers) []) (with_calls t more) → calls ≡ calls_in answers ++ more → SettlesSoFar plan capacities s t calls
+  InAnswers : AreAnswersSoFar plan 0 4 s t calls → SettlesSoFar plan capacities s t calls
+  BehindThem : (answers : List (Call Rid × SwitchState)) (more : List (Call Rid)) → AreByWorkers plan 0 4 s answers → IsQuiet (after_answers s answers) → IsSettlingSoFar plan 4 capacities (with_calls (after_answers s answers) []) (with_calls t more) → calls ≡ calls_in answers ++ more → SettlesSoFar plan capacities s t calls
 
 -- steps were made, with calls so far, and then a call that was due failed, the first that did, which is marked, and the round ends at the mark; where no write waited before, none waits then
 pub record StopsFaulted (So : SwitchState → SwitchState → List (Call Rid) → Type 0) (s : LoggedService) (c : CoreState) (chip : ChipState) (c' : CoreState) (chip' : ChipState) : Type 0 where
@@ -99,21 +104,27 @@ pub record StopsShort (So : SwitchState → SwitchState → List (Call Rid) → 
 -- what a worker has under way was run to its end: answers alone; nothing else changed
 pub record RunsWhole (s : LoggedService) (w : ℕ) (c : CoreState) (chip : ChipState) (c' : CoreState) (chip' : ChipState) : Type 0 where
   pub runs : RunsTo c s c' chip'
+  pub order : AreByWorkers c.board.plan w (w + 1) s.service.core runs.answers
   pub beside : IsSameBeside c c'
   pub others : KeepsFlights w c.board c'.board
   pub keeps : KeepsChip c chip c' chip'
 
 abbrev pub RunsOut : LoggedService → ℕ → CoreState → ChipState → Result Ran OutOfMemory → CoreState → ChipState → Type 0
 RunsOut s w c chip (Ok ran.Whole) c' chip' = RunsWhole s w c chip c' chip' × (flown_at c'.board w ≡ None)
-RunsOut s w c chip (Ok ran.Faulted) c' chip' = StopsFaulted (AreAnswersSoFar c.board.plan) s c chip c' chip' × IsSome (flown_at c.board w)
-RunsOut s w c chip (Ok ran.LogFull) c' chip' = StopsFull (AreAnswersSoFar c.board.plan) s c chip c' chip'
-RunsOut s w c chip (Err e) c' chip' = StopsShort (AreAnswersSoFar c.board.plan) s c chip c' chip'
+RunsOut s w c chip (Ok ran.Faulted) c' chip' = StopsFaulted (AreAnswersSoFar c.board.plan w (w + 1)) s c chip c' chip' × IsSome (flown_at c.board w)
+RunsOut s w c chip (Ok ran.LogFull) c' chip' = StopsFull (AreAnswersSoFar c.board.plan w (w + 1)) s c chip c' chip'
+RunsOut s w c chip (Err e) c' chip' = StopsShort (AreAnswersSoFar c.board.plan w (w + 1)) s c chip c' chip'
+
+-- what the workers below this number have under way was run to its end, one worker after the other
+pub record RunsInOrder (to : ℕ) (s : LoggedService) (c c' : CoreState) (chip' : ChipState) : Type 0 where
+  pub runs : RunsTo c s c' chip'
+  pub order : AreByWorkers c.board.plan 0 to s.service.core runs.answers
 
 abbrev pub RunsAll : LoggedService → CoreState → ChipState → Result Ran OutOfMemory → CoreState → ChipState → Type 0
-RunsAll s c chip (Ok ran.Whole) c' chip' = RunsTo c s c' chip' × IsSameBeside c c' × ((v : ℕ) → v < 4 → flown_at c'.board v ≡ None) × KeepsChip c chip c' chip'
-RunsAll s c chip (Ok ran.Faulted) c' chip' = StopsFaulted (AreAnswersSoFar c.board.plan) s c chip c' chip' × ((v : ℕ) × (v < 4) × IsSome (flown_at c.board v))
-RunsAll s c chip (Ok ran.LogFull) c' chip' = StopsFull (AreAnswersSoFar c.board.plan) s c chip c' chip'
-RunsAll s c chip (Err e) c' chip' = StopsShort (AreAnswersSoFar c.board.plan) s c chip c' chip'
+RunsAll s c chip (Ok ran.Whole) c' chip' = RunsInOrder 4 s c c' chip' × IsSameBeside c c' × ((v : ℕ) → v < 4 → flown_at c'.board v ≡ None) × KeepsChip c chip c' chip'
+RunsAll s c chip (Ok ran.Faulted) c' chip' = StopsFaulted (AreAnswersSoFar c.board.plan 0 4) s c chip c' chip' × ((v : ℕ) × (v < 4) × IsSome (flown_at c.board v))
+RunsAll s c chip (Ok ran.LogFull) c' chip' = StopsFull (AreAnswersSoFar c.board.plan 0 4) s c chip c' chip'
+RunsAll s c chip (Err e) c' chip' = StopsShort (AreAnswersSoFar c.board.plan 0 4) s c chip c' chip'
 
 -- ---- pops
 
@@ -163,9 +174,10 @@ pub record StopsAtMark (So : SwitchState → SwitchState → List (Call Rid) →
   pub full : IsFullFor c' (length chip'.effects) (1 + length c'.tables.ops)
   pub keeps : KeepsChip c chip c' chip'
 
--- a whole settling; its mark had its places, and lists each key that is still to sync with the reason that the core has for it
+-- a whole settling, which began with what workers had left, worker by worker; its mark had its places, and lists each key that is still to sync with the reason that the core has for it
 pub record SettlesWhole (s : LoggedService) (c : CoreState) (chip : ChipState) (c' : CoreState) (chip' : ChipState) : Type 0 where
   pub settles : SettlesTo c s c' chip'
+  pub workers : AreByWorkers c.board.plan 0 4 s.service.core settles.answers
   pub places : size_beside c' (length chip'.effects) ≤ c'.limit
   pub lists : ListsWhatWaits c'
   pub keeps : KeepsChip c chip c' chip'

@@ -1,5 +1,5 @@
 // What the core has its parts do: each call is one of the board, of syncd or of the tables, and the rest of the core stays.
-ghost use Rattle.std.specs.Prelude.{◌≡◌, ◌<◌, ◌^◌, ◌↔◌, ◌⊎◌, [], drop, length, None, Some, IsSome, IsTrue, IfOk, OnOk, OnErr, option_map};
+ghost use Rattle.std.specs.Prelude.{◌≡◌, ◌<◌, ◌^◌, ◌↔◌, ◌⊎◌, [], length, None, Some, IsSome, IsTrue, IfOk, OnOk, OnErr, option_map};
 ghost use Rattle.std.specs.Map.{keys_of};
 ghost use Rattle.row_maps.specs.Entries.{lent_key};
 ghost use Rattle.producer_table.specs.Pending.{ArePendingInOrder};
@@ -8,7 +8,7 @@ ghost use Rattle.retry_list.specs.Reasons.{reason_at, with_reason};
 ghost use Rattle.orch_flight.specs.Sharing.{MayStart};
 ghost use Rattle.registry_laws.specs.Flown.{Flown};
 ghost use Rattle.registry_laws.specs.Making.{IsNextCall, MayTakeFor};
-ghost use Rattle.sync_tables.specs.Tables.{PopsKeys, PopsSome, TablesState, TakesAtMost};
+ghost use Rattle.sync_tables.specs.Tables.{PopsBatch, PopsInPart, PopsKeys, PopsSome, TablesState};
 ghost use Rattle.sync_tables.specs.declared.tables.TheConstants.{BATCH};
 ghost use Rattle.syncd_core.specs.Synced.{Calls, CanCall, IsUnmade, SyncState};
 ghost use Rattle.flight_board.specs.Applied.{row_at};
@@ -171,8 +171,8 @@ impl Core {
     pub(crate) fn pop(&mut self) -> Result<(), OutOfMemory>
         ensures keys { (t : TablesState) × PopsKeys self.old.tables t × (self.new ≡ record self.old { tables = t }) }
         ensures some { OnOk result ((self.old.tables.waiting ≡ []) ⊎ PopsSome self.old.tables self.new.tables) }
-        ensures left { OnOk result (self.new.tables.waiting ≡ drop BATCH self.old.tables.waiting) }
-        ensures err { OnErr result (TakesAtMost BATCH self.old.tables.waiting self.new.tables.waiting) }
+        ensures batch { OnOk result (PopsBatch BATCH self.old.tables self.new.tables) }
+        ensures part { OnErr result (PopsInPart BATCH self.old.tables self.new.tables) }
         ensures fewer { OnOk result ((self.old.tables.waiting ≡ []) ⊎ (length self.new.tables.waiting < length self.old.tables.waiting)) }
     {
         self.tables.pop()

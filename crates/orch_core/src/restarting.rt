@@ -1,5 +1,5 @@
 // Restarting.
-ghost use Rattle.std.specs.Prelude.{◌≡◌, length, IfOk, OnErr};
+ghost use Rattle.std.specs.Prelude.{◌≡◌, ℕ, length, IfOk, OnErr};
 ghost use Rattle.sai_types.specs.ChipState.{ChipState};
 ghost use Rattle.restart_laws.specs.Logged.{LoggedService};
 ghost use Rattle.session_laws.specs.Core.{IsFullFor};
@@ -20,7 +20,7 @@ impl Core {
         ensures err { OnErr result (self.new ≡ self.old) }
         ensures room { OnErr result (IsFullFor self.old effects 1 → ⊥) }
         ensures steps { (chip : ChipState) (s : LoggedService) → IsServiceOf self.old chip s → effects ≡ length chip.effects → RestartsStep s self.old chip result self.new }
-        ensures sessions { (chip : ChipState) → InSession self.old chip → effects ≡ length chip.effects → InSteadySession self.new chip }
+        ensures sessions { (workers : ℕ) (chip : ChipState) → InSession workers self.old chip → effects ≡ length chip.effects → InSteadySession workers self.new chip }
     {
         if self.is_full(effects, 1) {
             return Ok(Err(LogFull));

@@ -1,5 +1,5 @@
 // Settling.
-ghost use Rattle.std.specs.Prelude.{◌≡◌};
+ghost use Rattle.std.specs.Prelude.{◌≡◌, ◌<◌, ℕ};
 ghost use Rattle.restart_laws.specs.Logged.{LoggedService};
 ghost use Rattle.warm_state.specs.declared.warm.Warm.TheVariants as warm;
 ghost use Rattle.session_laws.specs.Standing.{IsSessionOf};
@@ -20,13 +20,13 @@ use swss_types::OutOfMemory;
 impl Core {
     /// Restarts where the core is suspect, and lists, restores and applies where a restart is unfinished; then runs what workers left,
     /// pops all that waits, makes turns until no key is left to sync or a turn took none away, and marks that with the keys that
-    /// wait. Whatever it answers, whole steps of the service lead to a session for which core and chip stand then; so in a session that
-    /// came about it leaves them in one.
+    /// wait. Whatever it answers, whole steps of the service lead to a session for which core and chip stand then, and begin operations
+    /// for the first worker alone; so in a session that came about it leaves them in one, by as many workers.
     pub fn settle<C: Chip>(&mut self, chip: &mut C) -> Result<Settled, OutOfMemory>
         requires service { IsInService self.old (C.state chip.old) }
         ensures settles { (s : LoggedService) → IsServiceOf self.old (C.state chip.old) s → SettlesFrom s self.old (C.state chip.old) result self.new (C.state chip.new) }
-        ensures goes_on { (s : LoggedService) → IsServiceOf self.old (C.state chip.old) s → MakesMore self.old s self.new (C.state chip.new) }
-        ensures sessions { InSession self.old (C.state chip.old) → InSteadySession self.new (C.state chip.new) }
+        ensures goes_on { (s : LoggedService) → IsServiceOf self.old (C.state chip.old) s → MakesMore 0 self.old s self.new (C.state chip.new) }
+        ensures sessions { (workers : ℕ) → 0 < workers → InSession workers self.old (C.state chip.old) → InSteadySession workers self.new (C.state chip.new) }
     {
         match self.come_back(chip)? {
             Ran::Whole => self.settle_reconciled(chip),

@@ -1,5 +1,5 @@
 // One event.
-ghost use Rattle.std.specs.Prelude.{◌≡◌, ◌<◌, [], None};
+ghost use Rattle.std.specs.Prelude.{◌≡◌, ◌<◌, ℕ, [], None};
 ghost use Rattle.restart_laws.specs.Logged.{LoggedService};
 ghost use Rattle.flight_board.specs.Board.{flown_at};
 ghost use Rattle.warm_state.specs.declared.warm.Warm.TheVariants as warm;
@@ -22,13 +22,14 @@ impl Core {
     /// Makes the first event that applies to the worker: where a restart is unfinished the list of the chip, the restore, or the next
     /// call of the apply; else the call that is due for it; a pop, where a write waits; or the beginning of the first key to sync
     /// that has no reason to wait. While the core is suspect no event is made. Whatever it answers, whole steps of the service lead to
-    /// a session for which core and chip stand then; so in a session that came about it leaves them in one.
+    /// a session for which core and chip stand then; so in a session that came about it leaves them in one, by any number of workers that
+    /// this one is among.
     pub fn step<C: Chip>(&mut self, chip: &mut C, worker: u32) -> Result<Step, OutOfMemory>
         requires worker { worker < 4 }
         requires service { IsInService self.old (C.state chip.old) }
         ensures event { (s : LoggedService) → IsServiceOf self.old (C.state chip.old) s → StepsFrom self.old.warm worker s self.old (C.state chip.old) result self.new (C.state chip.new) }
-        ensures goes_on { (s : LoggedService) → IsServiceOf self.old (C.state chip.old) s → MakesMore self.old s self.new (C.state chip.new) }
-        ensures sessions { InSession self.old (C.state chip.old) → InSteadySession self.new (C.state chip.new) }
+        ensures goes_on { (s : LoggedService) → IsServiceOf self.old (C.state chip.old) s → MakesMore worker self.old s self.new (C.state chip.new) }
+        ensures sessions { (workers : ℕ) → worker < workers → InSession workers self.old (C.state chip.old) → InSteadySession workers self.new (C.state chip.new) }
     {
         match self.state() {
             Warm::Initialized => self.list(chip, false),

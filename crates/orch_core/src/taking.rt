@@ -1,5 +1,5 @@
 // Taking writes.
-ghost use Rattle.std.specs.Prelude.{◌≡◌, Ok, Err, IfOk, OnOk, OnErr};
+ghost use Rattle.std.specs.Prelude.{◌≡◌, ℕ, Ok, Err, IfOk, OnOk, OnErr};
 ghost use Rattle.table_schema.specs.declared.write.Sent.{Sent};
 ghost use Rattle.switch_model.specs.History.{History, with_write as with_taken_write};
 ghost use Rattle.sync_tables.specs.Tables.{tables_with_write};
@@ -27,7 +27,7 @@ impl Core {
         ensures room { OnErr result (IsFullFor self.old effects 1 → ⊥) }
         ensures steps { (chip : ChipState) (s : LoggedService) → IsSessionOf self.old chip s → IsOnSwitch (written_key sent.write) → TakesStep s self.old chip result self.new }
         ensures serves { (chip : ChipState) (s : LoggedService) → IsServiceOf self.old chip s → IsOnSwitch (written_key sent.write) → TakesNext s self.old chip result self.new }
-        ensures sessions { (chip : ChipState) → InSession self.old chip → IsOnSwitch (written_key sent.write) → InSteadySession self.new chip }
+        ensures sessions { (workers : ℕ) (chip : ChipState) → InSession workers self.old chip → IsOnSwitch (written_key sent.write) → InSteadySession workers self.new chip }
     {
         if self.is_full(effects, 1) {
             return Ok(Err(TakeFault::LogFull(sent)));

@@ -51,12 +51,12 @@ use Rattle.round_laws.proofs.Sessions.{told}
 use Rattle.round_laws.proofs.ToSync.{came-synced, keys-named, not_suspect}
 
 -- the session came about, with the log and the effects of the core and its chip
-pub session-recorded : (c : CoreState) (chip : ChipState) (x : InSession c chip) → HasRecorded c.board.plan c.sync.capacities c.log chip.effects x.session
+pub session-recorded : {workers : ℕ} (c : CoreState) (chip : ChipState) (x : InSession workers c chip) → HasRecorded workers c.board.plan c.sync.capacities c.log chip.effects x.session
 session-recorded c chip x = record { came = x.came; log_is = x.stands.always.log; effects_are = x.stands.always.effects }
 
 -- ---- a call
 
-module _ (c : CoreState) (chip : ChipState) (x : InSession c chip) (at : c.warm ≡ warm.Reconciled) where
+module _ {workers : ℕ} (c : CoreState) (chip : ChipState) (x : InSession workers c chip) (at : c.warm ≡ warm.Reconciled) where
   abbrev core : SwitchState
   core = x.session.service.core
 
@@ -82,14 +82,14 @@ module _ (c : CoreState) (chip : ChipState) (x : InSession c chip) (at : c.warm 
       by (Some f) e h = let y = due_for w f below e in record { call = y.0; due = OfFlight (x.stands.always.warm_is ∙ at) y.1 }
 
 -- the next call of a plan is due
-module _ (c : CoreState) (chip : ChipState) (x : InSession c chip) (at : c.warm ≡ warm.Applying) where
+module _ {workers : ℕ} (c : CoreState) (chip : ChipState) (x : InSession workers c chip) (at : c.warm ≡ warm.Applying) where
   applies : IsApplyingCore c x.session.service
   applies = (x.stands.applying at).1
 
   pub apply-awaited : (next : PlanCall) (rest : List PlanCall) → c.sync.left ≡ next ∷ rest → AwaitsCall x.session
   apply-awaited next rest left = record { call = _; due = OfPlan _ (x.stands.always.warm_is ∙ at) (applies.underway.left_are ∙ ap (tied_calls x.session.service.core.made c.sync.view) left) }
 
-pub awaited-legal : (plan : Ports) (capacities : List ℕ) (log : History) (effects : List (Call Rid)) (s : LoggedService) → IsPlan plan → HasRecorded plan capacities log effects s → (x : AwaitsCall s) → IsLegal capacities (chip_after effects (length effects)) x.call
+pub awaited-legal : {workers : ℕ} (plan : Ports) (capacities : List ℕ) (log : History) (effects : List (Call Rid)) (s : LoggedService) → IsPlan plan → HasRecorded workers plan capacities log effects s → (x : AwaitsCall s) → IsLegal capacities (chip_after effects (length effects)) x.call
 awaited-legal plan capacities log effects s is recorded x =
     let t = told plan is capacities s recorded.came in
     subst (λ es. IsLegal capacities (chip_after es (length es)) x.call) recorded.effects_are
@@ -97,7 +97,7 @@ awaited-legal plan capacities log effects s is recorded x =
 
 -- ---- a mark
 
-module _ (c : CoreState) (chip : ChipState) (x : InSession c chip) (at : c.warm ≡ warm.Reconciled) (none : c.tables.waiting ≡ []) (rest : (v : ℕ) → v < 4 → flown_at c.board v ≡ None) where
+module _ {workers : ℕ} (c : CoreState) (chip : ChipState) (x : InSession workers c chip) (at : c.warm ≡ warm.Reconciled) (none : c.tables.waiting ≡ []) (rest : (v : ℕ) → v < 4 → flown_at c.board v ≡ None) where
   its_rows : IsWorking c chip x.session.service.core
   its_rows = (x.stands.working at).1
 
@@ -150,7 +150,7 @@ listed-in [] k i = absurd i
 listed-in (w ∷ ws) k (inl is) = inl (sym is)
 listed-in (w ∷ ws) k (inr i) = inr (listed-in ws k i)
 
-pub keys-awaited : (c : CoreState) (chip : ChipState) (x : InSession c chip) → c.warm ≡ warm.Reconciled → c.tables.waiting ≡ [] → ((v : ℕ) → v < 4 → flown_at c.board v ≡ None) → AreOpsInOrder c.tables.ops → ((k : Key) → IsToSync c.tables k → MustWait c.board.plan 4 c.sync.capacities x.session.service.core k) → (waits : Waiting) × (length waits ≡ length c.tables.ops) × AwaitsMark c.board.plan c.sync.capacities x.session waits
+pub keys-awaited : {workers : ℕ} (c : CoreState) (chip : ChipState) (x : InSession workers c chip) → c.warm ≡ warm.Reconciled → c.tables.waiting ≡ [] → ((v : ℕ) → v < 4 → flown_at c.board v ≡ None) → AreOpsInOrder c.tables.ops → ((k : Key) → IsToSync c.tables k → MustWait c.board.plan 4 c.sync.capacities x.session.service.core k) → (waits : Waiting) × (length waits ≡ length c.tables.ops) × AwaitsMark c.board.plan c.sync.capacities x.session waits
 keys-awaited c chip x at none rest order must =
     let keys = keys_of c.tables.ops in
     let y = list_of c chip x at none rest must keys (λ k i. i) in (
@@ -160,14 +160,14 @@ keys-awaited c chip x at none rest order must =
     )
 
 -- the keys that such a mark lists were named
-pub awaited-few : (plan : Ports) (capacities : List ℕ) (log : History) (effects : List (Call Rid)) (s : LoggedService) (waits : Waiting) → IsPlan plan → HasRecorded plan capacities log effects s → AwaitsMark plan capacities s waits → length waits ≤ length (keys_named log.taken)
+pub awaited-few : {workers : ℕ} (plan : Ports) (capacities : List ℕ) (log : History) (effects : List (Call Rid)) (s : LoggedService) (waits : Waiting) → IsPlan plan → HasRecorded workers plan capacities log effects s → AwaitsMark plan capacities s waits → length waits ≤ length (keys_named log.taken)
 awaited-few plan capacities log effects s waits is recorded x =
     let few = few-among (map (λ w. w.0) waits) (keys_named log.taken) x.in_order (named-sorted log.taken)
     (λ k i. subst (λ (z : History). IsIn k (keys_named z.taken)) recorded.log_is (came-synced plan is capacities s recorded.came (not_suspect s.service.warm x.warm) k (x.only k (lists-in waits k i)))) in
     let long = length-map waits (λ w. w.0) in
     omega (arith, few, long)
 
-pub ops-few : (c : CoreState) (chip : ChipState) → InSession c chip → (c.warm ≡ warm.Reconciled) ⊎ (c.warm ≡ warm.Applying) → AreOpsInOrder c.tables.ops → length c.tables.ops ≤ length (keys_named c.log.taken)
+pub ops-few : {workers : ℕ} (c : CoreState) (chip : ChipState) → InSession workers c chip → (c.warm ≡ warm.Reconciled) ⊎ (c.warm ≡ warm.Applying) → AreOpsInOrder c.tables.ops → length c.tables.ops ≤ length (keys_named c.log.taken)
 ops-few c chip x known order =
     let few = few-among (keys_of c.tables.ops) (keys_named c.log.taken) (sorted_from_rising c.tables.ops order.keys) (named-sorted c.log.taken) (keys-named c chip x known) in
     let long = length-map c.tables.ops (λ e. e.0) in
@@ -180,7 +180,7 @@ pub last-true : (plan : Ports) (capacities : List ℕ) (log : History) (effects 
 last-true plan capacities log effects before [] mark h = h.0
 last-true plan capacities log effects before (m ∷ marks) mark h = last-true plan capacities log effects (Some m) marks mark h.1
 
-module _ (plan : Ports) (is : IsPlan plan) (capacities : List ℕ) (s : LoggedService) (came : HasComeAbout plan capacities s) (waits : Waiting) (turns : ℕ) where
+module _ {workers : ℕ} (plan : Ports) (is : IsPlan plan) (capacities : List ℕ) (s : LoggedService) (came : HasComeAbout workers plan capacities s) (waits : Waiting) (turns : ℕ) where
   abbrev mark : Mark
   mark = mark_now s.log s.effects (event.Settled waits turns)
 
@@ -190,7 +190,7 @@ module _ (plan : Ports) (is : IsPlan plan) (capacities : List ℕ) (s : LoggedSe
   marked_true : LogsMark plan 4 capacities (switch_of s) (switch_of marked) → s.service.warm ≡ warm.Reconciled → IsSettled plan capacities s.log.taken s.effects mark waits
   marked_true x at = last-true plan capacities s.log s.effects None s.log.marks mark (told-step plan is 4 capacities s marked (told plan is capacities s came) (OfMachine at at (inr (inr x)))).tells.marks
 
-pub awaited-true : (plan : Ports) (capacities : List ℕ) (log : History) (effects : List (Call Rid)) (s : LoggedService) (waits : Waiting) (turns : ℕ) → IsPlan plan → HasRecorded plan capacities log effects s → AwaitsMark plan capacities s waits → IsSettled plan capacities log.taken effects (mark_now log effects (event.Settled waits turns)) waits
+pub awaited-true : {workers : ℕ} (plan : Ports) (capacities : List ℕ) (log : History) (effects : List (Call Rid)) (s : LoggedService) (waits : Waiting) (turns : ℕ) → IsPlan plan → HasRecorded workers plan capacities log effects s → AwaitsMark plan capacities s waits → IsSettled plan capacities log.taken effects (mark_now log effects (event.Settled waits turns)) waits
 awaited-true plan capacities log effects s waits turns is recorded x =
     subst (λ (h : History). IsSettled plan capacities h.taken effects (mark_now h effects (event.Settled waits turns)) waits) recorded.log_is
     (subst (λ es. IsSettled plan capacities s.log.taken es (mark_now s.log es (event.Settled waits turns)) waits) recorded.effects_are

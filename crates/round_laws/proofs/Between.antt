@@ -1,5 +1,5 @@
 -- a settling ends between rounds, and a round begins there
-use Rattle.std.proofs.Common.{◌≡◌, ◌⊎◌, ◌∷◌, ◌++◌, ◌∙◌, inl, inr, true, ℕ, List, [], length, None, Some, refl, sym, ap, subst}
+use Rattle.std.proofs.Common.{◌≡◌, ◌⊎◌, ◌<◌, ◌∷◌, ◌++◌, ◌∙◌, inl, inr, true, ℕ, List, [], length, None, Option, Some, refl, suc, sym, ap, subst, arith}
 use Rattle.std.proofs.lemmas.List.{append-nil, append_assoc}
 use Rattle.std.proofs.lemmas.Option.{none-some, same_Some}
 use Rattle.table_schema.specs.Plan.{IsPlan, Ports}
@@ -32,35 +32,49 @@ use Rattle.session_laws.specs.Core.{CoreState, new_core, with_taken}
 use Rattle.session_laws.proofs.Seeing.{keys_same, same_keys}
 use Rattle.session_laws.proofs.Beginning.{none_flown}
 use Rattle.session_laws.specs.Leading.{SettlesTo}
+use Rattle.session_laws.specs.Service.Events.{MakesNext}
+use Rattle.session_laws.specs.Service.Standing.{IsServiceOf}
+use Rattle.session_laws.specs.Workers.{IsByFirst}
+use Rattle.session_laws.proofs.Service.ByFirst.{board-stays}
 use Rattle.session_laws.proofs.Service.Taking.{taken-next}
-use Rattle.round_laws.specs.Between.{IsBetweenRounds, IsInRound, mark_of}
-use Rattle.round_laws.specs.Ended.{LeavesSettled, applied_since, waits_since}
+use Rattle.round_laws.specs.Between.{IsAtRestSince, IsBetweenRounds, IsInRound, mark_of}
+use Rattle.round_laws.specs.Ended.{CountsCalls, LeavesRows, LeavesSettled, applied_since, waits_since}
 use Rattle.round_laws.specs.Named.{keys_named}
 use Rattle.round_laws.specs.Sessions.{InSession}
 use Rattle.round_laws.proofs.Named.{in_put-or_there, named-back, named-front, named-last}
 use Rattle.round_laws.proofs.Resting.{all-good, core-good, core-popped, core-quiet, core-safe, core-written, listed-reason, listed-rows, waits-synced}
-use Rattle.round_laws.proofs.Sessions.{begins-session, in_later, leads-stand, one-on}
+use Rattle.round_laws.proofs.Sessions.{begins-session, by_more, in_later, leads-stand, one-on}
 use Rattle.round_laws.proofs.Writes.{beside-write, write-beside, write-waits}
 
 -- ---- the first round
 
-pub between-first : (plan : Ports) (capacities : List ℕ) (limit : ℕ) (chip : ChipState) → IsPlan plan → chip.objects ≡ [] → chip.effects ≡ [] → chip.clean ≡ true → chip.capacities ≡ capacities → IsBetweenRounds (new_core plan capacities limit) chip
-between-first plan capacities limit chip is objects effects clean room = record {
-  within = begins-session plan capacities limit chip is objects effects clean room;
-  rest = record { free = λ v below. none_flown plan capacities v; popped = refl; warm = refl };
+pub between-first : (workers : ℕ) (plan : Ports) (capacities : List ℕ) (limit : ℕ) (chip : ChipState) → IsPlan plan → chip.objects ≡ [] → chip.effects ≡ [] → chip.clean ≡ true → chip.capacities ≡ capacities → IsBetweenRounds workers (new_core plan capacities limit) chip
+between-first workers plan capacities limit chip is objects effects clean room = record {
+  resting = record {
+    within = begins-session workers plan capacities limit chip is objects effects clean room;
+    rest = record { free = λ v below. none_flown plan capacities v; popped = refl; warm = refl };
+    tells = tt;
+    first = λ e. (refl, effects);
+    taken = λ mark e. absurd (none-some mark e);
+    effects = λ mark e. absurd (none-some mark e);
+    applied = λ k. refl;
+    to_sync = λ k i. absurd i;
+    listed = λ k i. absurd i;
+  };
   settled = tt;
-  first = λ e. (refl, effects);
-  taken = λ mark e. absurd (none-some mark e);
-  effects = λ mark e. absurd (none-some mark e);
-  applied = λ k. refl;
-  to_sync = λ k i. absurd i;
-  listed = λ k i. absurd i;
 }
 
 -- ---- a round begins, and takes writes
 
-pub round-begins : (c : CoreState) (chip : ChipState) → IsBetweenRounds c chip → IsInRound c chip [] c
-round-begins c chip x = record {
+-- no write waits for its pop
+pub none_waits : {workers : ℕ} (since : Option Mark) (c : CoreState) (chip : ChipState) (x : IsAtRestSince workers since c chip) (k : Key) → HasNoWrite (written_in (sent_writes c.log.taken) c.tables) k
+none_waits since c chip x k o = subst (λ w. HasNoWrite w k) (core-written c chip x.within x.rest.warm x.rest.free) (λ o. no_write k o) o
+  where
+    no_write : (k : Key) → HasNoWrite x.within.session.service.core.written k
+    no_write k = core-popped c chip x.within x.rest.warm x.rest.free x.rest.popped k
+
+abbrev pub round-begins : {workers : ℕ} (since : Option Mark) (c : CoreState) (chip : ChipState) → IsAtRestSince workers since c chip → IsInRound workers since c chip [] c
+round-begins since c chip x = record {
   began = x;
   within = x.within;
   log = ap (λ ts. record { taken = ts; marks = c.log.marks; ends = c.log.ends }) (sym (append-nil c.log.taken));
@@ -70,13 +84,10 @@ round-begins c chip x = record {
   ops = refl;
   order = subst ArePendingInOrder (sym x.rest.popped) (record { keys = tt; names = tt });
   named = λ k i. absurd i;
-  unnamed = λ k none o. subst (λ w. HasNoWrite w k) (core-written c chip x.within x.rest.warm x.rest.free) (λ o. no_write k o) o;
+  unnamed = λ k none. none_waits since c chip x k;
 }
-  where
-    no_write : (k : Key) → HasNoWrite x.within.session.service.core.written k
-    no_write k = core-popped c chip x.within x.rest.warm x.rest.free x.rest.popped k
 
-module _ (old c : CoreState) (chip : ChipState) (sent : List Sent) (next : Sent) (x : IsInRound old chip sent c) (on : IsOnSwitch (written_key next.write)) where
+module _ {workers : ℕ} (since : Option Mark) (old c : CoreState) (chip : ChipState) (sent : List Sent) (next : Sent) (x : IsInRound workers since old chip sent c) (on : IsOnSwitch (written_key next.write)) where
   abbrev before : Written
   before = written_in (sent_writes c.log.taken) c.tables
 
@@ -107,10 +118,16 @@ module _ (old c : CoreState) (chip : ChipState) (sent : List Sent) (next : Sent)
       by (inl same) = apart (sym same)
       by (inr at) = x.named k at (beside-write next.write before then k takes apart none)
 
-  pub round-takes : IsInRound old chip (sent ++ next ∷ []) (with_taken c next)
+  its-take : MakesNext c x.within.session (with_taken c next) chip
+  its-take = taken-next c chip x.within.session next x.within.stands on x.order
+
+  takes-on : (n : ℕ) → IsByFirst n x.within.session → IsByFirst n its-take.later
+  takes-on = board-stays c (with_taken c next) chip chip x.within.session its-take.later x.within.stands its-take.stands refl refl
+
+  pub round-takes : IsInRound workers since old chip (sent ++ next ∷ []) (with_taken c next)
   round-takes = record {
     began = x.began;
-    within = (one-on c (with_taken c next) chip chip x.within (taken-next c chip x.within.session next x.within.stands on x.order)).0;
+    within = (one-on c (with_taken c next) chip chip x.within its-take (takes-on workers)).0;
     log = ap (λ h. with_write h next) x.log ∙ ap (λ ts. record { taken = ts; marks = old.log.marks; ends = old.log.ends }) (append_assoc old.log.taken sent (next ∷ []));
     board = x.board;
     sync = x.sync;
@@ -123,7 +140,7 @@ module _ (old c : CoreState) (chip : ChipState) (sent : List Sent) (next : Sent)
 
 -- ---- a settling ends between rounds
 
-module _ (c c' : CoreState) (chip chip' : ChipState) (x : InSession c chip) (y : SettlesTo c x.session c' chip') where
+module _ {workers : ℕ} (c c' : CoreState) (chip chip' : ChipState) (x : InSession workers c chip) (y : SettlesTo c x.session c' chip') where
   abbrev t : SwitchState
   t = y.later.service.core
 
@@ -139,8 +156,12 @@ module _ (c c' : CoreState) (chip chip' : ChipState) (x : InSession c chip) (y :
   pub same_taken : c'.log.taken ≡ c.log.taken
   same_taken = ap (λ (h : History). h.taken) its-log
 
-  abbrev pub later-in : InSession c' chip'
-  later-in = in_later c c' chip chip' x y.later y.leads.steps y.leads.are y.leads.is (leads-stand c c' chip chip' x same_taken (inl y.warm) y.later y.leads) y.leads.plan y.leads.capacities
+  pub later_stands : IsServiceOf c' chip' y.later
+  later_stands = leads-stand c c' chip chip' x same_taken (inl y.warm) y.later y.leads
+
+  -- whoever had operations under way before, the first worker has them now too
+  abbrev pub later-in : InSession (suc workers) c' chip'
+  later-in = in_later c c' chip chip' (by_more c chip x) y.later y.leads.steps y.leads.are (y.leads.few (suc workers) (omega arith)) y.leads.is later_stands y.leads.plan y.leads.capacities
 
   counts : its-mark.taken ≡ length c'.log.taken
   counts = ap (λ (h : History). length h.taken) x.stands.always.log ∙ ap length (sym same_taken)
@@ -166,17 +187,20 @@ module _ (c c' : CoreState) (chip chip' : ChipState) (x : InSession c chip) (y :
       ∙ core-good c' chip' later-in y.warm y.free y.popped k
       ∙ good_is k)
 
-  pub settled-between : IsBetweenRounds c' chip'
-  settled-between = record {
-    within = later-in;
-    rest = record { free = y.free; popped = y.popped; warm = y.warm };
+  pub settled-between : 0 < workers → IsBetweenRounds workers c' chip'
+  settled-between some = record {
+    resting = record {
+      within = in_later c c' chip chip' x y.later y.leads.steps y.leads.are (y.leads.few workers some) y.leads.is later_stands y.leads.plan y.leads.capacities;
+      rest = record { free = y.free; popped = y.popped; warm = y.warm };
+      tells = subst LeavesRows (sym last) tt;
+      first = λ e. absurd (none-some its-mark (sym e ∙ last));
+      taken = by_last (λ m. m.taken ≡ length c'.log.taken) counts;
+      effects = by_last (λ m. CountsCalls m.event m.effects (length chip'.effects)) (ap length y.leads.stands.effects);
+      applied = λ k. subst (λ o. row_at c'.board.applied k ≡ applied_since c'.board.plan c'.log.taken o k) (sym last) (sym ((y.leads.stands.working y.warm).rows k) ∙ sym (its-rows k));
+      to_sync = λ k i. subst (λ o. ListsKey k (waits_since o)) (sym last) (synced_listed k (keys_same c' chip' y.later y.leads.stands k i));
+      listed = λ k i.
+          let r = listed-reason c'.board.plan c'.sync.capacities t y.settling.waits k its-listed (subst (λ o. ListsKey k (waits_since o)) last i) in
+          same_keys c' chip' y.later y.leads.stands k (waits-synced c'.board.plan later-in.stands.always.plan c'.sync.capacities t (core-safe c' chip' later-in y.warm y.free) (core-quiet c' chip' later-in y.warm y.free) k r.0 r.1);
+    };
     settled = subst LeavesSettled (sym last) tt;
-    first = λ e. absurd (none-some its-mark (sym e ∙ last));
-    taken = by_last (λ m. m.taken ≡ length c'.log.taken) counts;
-    effects = by_last (λ m. m.effects ≡ length chip'.effects) (ap length y.leads.stands.effects);
-    applied = λ k. subst (λ o. row_at c'.board.applied k ≡ applied_since c'.board.plan c'.log.taken o k) (sym last) (sym ((y.leads.stands.working y.warm).rows k) ∙ sym (its-rows k));
-    to_sync = λ k i. subst (λ o. ListsKey k (waits_since o)) (sym last) (synced_listed k (keys_same c' chip' y.later y.leads.stands k i));
-    listed = λ k i.
-        let r = listed-reason c'.board.plan c'.sync.capacities t y.settling.waits k its-listed (subst (λ o. ListsKey k (waits_since o)) last i) in
-        same_keys c' chip' y.later y.leads.stands k (waits-synced c'.board.plan later-in.stands.always.plan c'.sync.capacities t (core-safe c' chip' later-in y.warm y.free) (core-quiet c' chip' later-in y.warm y.free) k r.0 r.1);
   }

@@ -42,7 +42,7 @@ outside_all : (marks : List Mark) (taken to : ℕ) → BeginNoApply marks → Ar
 outside_all [] taken to none within = refl
 outside_all (m ∷ marks) taken to none within = let rest = outside_from_mark m marks taken to none.0 none.1 within in omega (arith, rest)
 
-pub all-few : (c : CoreState) (chip : ChipState) → InSession c chip → BeginNoApply c.log.marks → length chip.effects ≤ most_calls * length c.log.taken
+pub all-few : {workers : ℕ} (c : CoreState) (chip : ChipState) → InSession workers c chip → BeginNoApply c.log.marks → length chip.effects ≤ most_calls * length c.log.taken
 all-few c chip x none =
     let few = outside-few-of c chip x in
     let all = outside_all c.log.marks (length c.log.taken) (length chip.effects) none (counts-within c chip x) in

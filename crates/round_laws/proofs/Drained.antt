@@ -28,7 +28,6 @@ use Rattle.switch_machine.proofs.Kept.{kept-event}
 use Rattle.switch_machine.proofs.Runs.{kept-run}
 use Rattle.switch_machine.proofs.Splits.{row_off}
 use Rattle.machine_laws.specs.Logged.{ArePops, ListsKey, after_pops}
-use Rattle.machine_laws.specs.Order.{IsSettledMark}
 use Rattle.machine_laws.specs.ToSync.{AreSynced, HasRoomTogether}
 use Rattle.machine_laws.proofs.Deciding.{IsDecided}
 use Rattle.machine_laws.proofs.Draining.{drains, nothing-waits}
@@ -42,7 +41,7 @@ use Rattle.warm_state.specs.declared.warm.Warm.TheVariants as warm
 use Rattle.session_laws.specs.Core.{CoreState}
 use Rattle.session_laws.specs.Leading.{SettlesTo, switch_answered}
 use Rattle.round_laws.specs.Drained.{Drains}
-use Rattle.round_laws.specs.Ended.{EndedRound, IsToTry, LeavesSettled, applied_by, applied_since, rows_before, rows_wanted, taken_then, waits_by, waits_since}
+use Rattle.round_laws.specs.Ended.{EndedRound, IsToTry, LeavesRows, TellsRows, applied_by, applied_since, rows_before, rows_wanted, taken_then, waits_by, waits_since}
 use Rattle.round_laws.specs.Sessions.{InSession}
 use Rattle.round_laws.specs.Turns.{IsMadeByTurns}
 use Rattle.round_laws.proofs.Quieted.{pops-lead}
@@ -74,20 +73,23 @@ module _ (plan : Ports) (capacities : List ℕ) (r : EndedRound) (x : IsMadeByTu
   unlisted [] good k none = refl
   unlisted (w ∷ ws) good k none = row_off k w.0 w.2 (λ z. applied_rows ws good k) (λ e. none (inl (sym e))) ∙ unlisted ws good k (λ h. none (inr h))
 
-  good_before : (mark : Mark) (e : MarkEvent) (k : Key) → mark.taken ≡ length r.taken → IsSettledMark e → (ListsKey k (waits_by e) → ⊥) → applied_by plan r.taken mark e k ≡ good_rows plan (rows_of (sent_writes r.taken)) k
-  good_before mark (event.Settled waits turns) k count settled none =
+  good_before : (mark : Mark) (e : MarkEvent) (k : Key) → mark.taken ≡ length r.taken → TellsRows e → (ListsKey k (waits_by e) → ⊥) → applied_by plan r.taken mark e k ≡ good_rows plan (rows_of (sent_writes r.taken)) k
+  good_before mark (event.Settled waits turns) k count tells none =
       unlisted waits (good_rows_at plan r.taken mark.taken) k none
       ∙ ap (λ n. good_rows_at plan r.taken n k) count
       ∙ ap (λ (g : TypedRows). g k) (all-good plan r.taken)
-  good_before mark (event.Faulted before after) k count settled none = absurd settled
-  good_before mark event.Restarted k count settled none = absurd settled
-  good_before mark (event.ApplyBegan mode waits) k count settled none = absurd settled
-  good_before mark event.ApplyEnded k count settled none = absurd settled
+  good_before mark (event.Faulted before after) k count tells none = absurd tells
+  good_before mark event.Restarted k count tells none = absurd tells
+  good_before mark (event.ApplyBegan mode waits) k count tells none =
+      unlisted waits (good_rows_at plan r.taken mark.taken) k none
+      ∙ ap (λ n. good_rows_at plan r.taken n k) count
+      ∙ ap (λ (g : TypedRows). g k) (all-good plan r.taken)
+  good_before mark event.ApplyEnded k count tells none = absurd tells
 
   -- the row of a key that the round does not try is good already
-  good_by : (o : Option Mark) (k : Key) → r.before ≡ o → LeavesSettled o → (ListsKey k (waits_since o) → ⊥) → applied_since plan r.taken o k ≡ good_rows plan (rows_of (sent_writes r.taken)) k
-  good_by None k e settled none = ap (λ ts. good_rows plan (rows_of (sent_writes ts)) k) (sym (x.counts.first e).0)
-  good_by (Some mark) k e settled none = good_before mark mark.event k (x.counts.taken_before mark e) settled none
+  good_by : (o : Option Mark) (k : Key) → r.before ≡ o → LeavesRows o → (ListsKey k (waits_since o) → ⊥) → applied_since plan r.taken o k ≡ good_rows plan (rows_of (sent_writes r.taken)) k
+  good_by None k e tells none = ap (λ ts. good_rows plan (rows_of (sent_writes ts)) k) (sym (x.counts.first e).0)
+  good_by (Some mark) k e tells none = good_before mark mark.event k (x.counts.taken_before mark e) tells none
 
   rests : (k : Key) → (IsToTry r k → ⊥) → x.start.applied k ≡ x.good k
   rests k none =
@@ -133,7 +135,7 @@ module _ (plan : Ports) (is : IsPlan plan) (capacities : List ℕ) where
   pops_machine s [] run = refl
   pops_machine s (t ∷ ts) run = pops_machine t ts run.1 ∙ run.0.machine
 
-module _ (c c' : CoreState) (chip chip' : ChipState) (x : InSession c chip) (y : SettlesTo c x.session c' chip') (at : c.warm ≡ warm.Reconciled) where
+module _ {workers : ℕ} (c c' : CoreState) (chip chip' : ChipState) (x : InSession workers c chip) (y : SettlesTo c x.session c' chip') (at : c.warm ≡ warm.Reconciled) where
   abbrev from : SwitchState
   from = after_answers x.session.service.core y.answers
 

@@ -206,7 +206,7 @@ module _ (plan : Ports) (capacities : List ℕ) where
   pub unlogged : (s : LoggedService) (ts : List LoggedService) → s.service.warm ≡ warm.Reconciled → (session_after s ts).log ≡ s.log → AreLoggedSteps plan 4 capacities s ts → Unlogged s (session_after s ts)
   unlogged s ts at same run = unlogged_steps s ts at (let one = ap entries same in omega (arith, one)) run
 
-module _ (c c' : CoreState) (chip chip' : ChipState) (x : InSession c chip) (y : MakesMore c x.session c' chip') where
+module _ {workers w : ℕ} (c c' : CoreState) (chip chip' : ChipState) (x : InSession workers c chip) (y : MakesMore w c x.session c' chip') where
   grown : Grows x.session (session_after x.session y.steps)
   grown = steps_grow c.board.plan c.sync.capacities x.session y.steps y.are
 

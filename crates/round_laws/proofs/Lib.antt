@@ -5,6 +5,7 @@ pub mod Awaited
 pub mod Writes
 pub mod Resting
 pub mod Between
+pub mod Behind
 pub mod Ordering
 pub mod Turned
 pub mod Cut

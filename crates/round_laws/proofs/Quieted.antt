@@ -78,7 +78,7 @@ module _ (plan : Ports) (is : IsPlan plan) (capacities : List ℕ) (s : SwitchSt
 
 -- ---- of a round
 
-module _ (old c c' : CoreState) (chip chip' : ChipState) (sent : List Sent) (x : IsInRound old chip sent c) (y : SettlesTo c x.within.session c' chip') where
+module _ {workers : ℕ} (since : Option Mark) (old c c' : CoreState) (chip chip' : ChipState) (sent : List Sent) (x : IsInRound workers since old chip sent c) (y : SettlesTo c x.within.session c' chip') where
   abbrev plan : Ports
   plan = c.board.plan
 
@@ -86,33 +86,33 @@ module _ (old c c' : CoreState) (chip chip' : ChipState) (sent : List Sent) (x :
   room = c.sync.capacities
 
   abbrev from : SwitchState
-  from = (s old c c' chip chip' sent x y).switch
+  from = (s since old c c' chip chip' sent x y).switch
 
   events : Leads plan 4 room from y.later.service.core y.settling.calls
   events =
       both plan 4 room from (after_pops from y.settling.pops) y.later.service.core [] y.settling.calls y.settling.calls refl (pops-lead plan room from y.settling.pops y.settling.are_pops)
       (turns-lead plan 4 room y.settling.turns (after_pops from y.settling.pops) y.later.service.core y.settling.keys y.settling.left y.settling.calls y.settling.turns_are)
 
-  same : from ≡ before old c chip sent x
-  same = same-switch old c c' chip chip' sent x y
+  same : from ≡ before since old c chip sent x
+  same = same-switch since old c c' chip chip' sent x y
 
   objects : from.objects ≡ chip_after chip.effects (length chip.effects)
   objects = ap (λ (z : SwitchState). z.objects) same ∙ x.within.stands.always.objects ∙ objects-left c chip x.within
 
-  pub quiet-left : LeavesQuietRows c.board.plan (the-round old c c' chip chip' sent x y)
+  pub quiet-left : LeavesQuietRows c.board.plan (the-round since old c c' chip chip' sent x y)
   quiet-left k row e at other stood call called =
-      let safe = settling-safe old c c' chip chip' sent x y in
-      let rows = ap (λ (z : SwitchState). z.machine.board.applied k) same ∙ round-rows old c chip sent x k ∙ at in
-      let there = stands-for plan x.within.stands.always.plan room from safe (settling-quiet old c c' chip chip' sent x y) (chip_after chip.effects (length chip.effects)) k row e objects rows stood in
+      let safe = settling-safe since old c c' chip chip' sent x y in
+      let rows = ap (λ (z : SwitchState). z.machine.board.applied k) same ∙ round-rows since old c chip sent x k ∙ at in
+      let there = stands-for plan x.within.stands.always.plan room from safe (settling-quiet since old c c' chip chip' sent x y) (chip_after chip.effects (length chip.effects)) k row e objects rows stood in
       (unnamed-rows plan x.within.stands.always.plan 4 room k from events.events e safe events.are (names_not plan room k from events.events events.are events.takeless)
-      (subst (λ (z : SwitchState). HasNoWrite z.written k) (sym same) (round-unnamed old c chip sent x k (λ i. other (inr i))))
-      (λ w f flying is. settling-quiet old c c' chip chip' sent x y w f flying)
-      (λ i. other (inl (x.began.to_sync k (round-synced old c chip sent x k (subst (λ (z : SwitchState). IsIn k z.to_sync) same i)))))
+      (subst (λ (z : SwitchState). HasNoWrite z.written k) (sym same) (round-unnamed since old c chip sent x k (λ i. other (inr i))))
+      (λ w f flying is. settling-quiet since old c c' chip chip' sent x y w f flying)
+      (λ i. other (inl (x.began.to_sync k (round-synced since old c chip sent x k (subst (λ (z : SwitchState). IsIn k z.to_sync) same i)))))
       there).2 call (subst (IsIn call) (sym events.calls_are) called)
 
 -- ---- of a round so far
 
-module _ (old c c' : CoreState) (chip chip' : ChipState) (sent : List Sent) (x : IsInRound old chip sent c) (y : MakesMore c x.within.session c' chip') (log : c'.log ≡ c.log) where
+module _ {workers w : ℕ} (since : Option Mark) (old c c' : CoreState) (chip chip' : ChipState) (sent : List Sent) (x : IsInRound workers since old chip sent c) (y : MakesMore w c x.within.session c' chip') (log : c'.log ≡ c.log) where
   abbrev start : SwitchState
   start = x.within.session.service.core
 
@@ -120,7 +120,7 @@ module _ (old c c' : CoreState) (chip chip' : ChipState) (sent : List Sent) (x :
   same_session = y.stands.always.log ∙ log ∙ sym x.within.stands.always.log
 
   run : Unlogged c.board.plan c.sync.capacities x.within.session (session_after x.within.session y.steps)
-  run = unlogged c.board.plan c.sync.capacities x.within.session y.steps (x.within.stands.always.warm_is ∙ round-warm old c chip sent x) same_session y.are
+  run = unlogged c.board.plan c.sync.capacities x.within.session y.steps (x.within.stands.always.warm_is ∙ round-warm since old c chip sent x) same_session y.are
 
   module _ (calls : List (Call Rid)) (grown : chip'.effects ≡ chip.effects ++ calls) where
     same_calls : calls ≡ calls_of run.events
@@ -129,14 +129,14 @@ module _ (old c c' : CoreState) (chip chip' : ChipState) (sent : List Sent) (x :
         (sym grown ∙ sym y.stands.always.effects ∙ run.grown ∙ ap (λ l. l ++ calls_of run.events) x.within.stands.always.effects)
 
     -- where nothing is logged no call changes what stood for the row of a key that the round does not try, whatever mark would end it
-    pub quiet-so-far : (mark : Mark) → LeavesQuietRows c.board.plan (round_from old chip sent calls mark)
+    pub quiet-so-far : (mark : Mark) → LeavesQuietRows c.board.plan (round_from since old chip sent calls mark)
     quiet-so-far mark k row e at other stood call called =
-        let safe = round-safe old c chip sent x in
-        let quiet = round-quiet old c chip sent x in
-        let rows = round-rows old c chip sent x k ∙ at in
+        let safe = round-safe since old c chip sent x in
+        let quiet = round-quiet since old c chip sent x in
+        let rows = round-rows since old c chip sent x k ∙ at in
         let there = stands-for c.board.plan x.within.stands.always.plan c.sync.capacities start safe quiet (chip_after chip.effects (length chip.effects)) k row e (x.within.stands.always.objects ∙ objects-left c chip x.within) rows stood in
         (unnamed-rows c.board.plan x.within.stands.always.plan 4 c.sync.capacities k start run.events e safe run.are (names_not c.board.plan c.sync.capacities k start run.events run.are run.takeless)
-        (round-unnamed old c chip sent x k (λ i. other (inr i)))
+        (round-unnamed since old c chip sent x k (λ i. other (inr i)))
         (λ w f flying is. quiet w f flying)
-        (λ i. other (inl (x.began.to_sync k (round-synced old c chip sent x k i))))
+        (λ i. other (inl (x.began.to_sync k (round-synced since old c chip sent x k i))))
         there).2 call (subst (IsIn call) same_calls called)

@@ -1,8 +1,9 @@
 -- when a round may begin
-use Rattle.std.proofs.Common.{◌≡◌, inl, inr, true, ℕ, List, [], sym, subst}
+use Rattle.std.proofs.Common.{◌≡◌, inl, inr, true, ℕ, List, [], Option, sym, subst}
 use Rattle.table_schema.specs.Plan.{IsPlan, Ports}
 use Rattle.table_schema.specs.declared.write.Sent.{Sent}
 use Rattle.sai_types.specs.ChipState.{ChipState}
+use Rattle.switch_model.specs.declared.mark.Mark.{Mark}
 use Rattle.producer_table.specs.Pending.{ArePendingInOrder}
 use Rattle.warm_state.specs.declared.warm.Warm.TheVariants as warm
 use Rattle.session_laws.specs.Core.{CoreState, new_core}
@@ -11,14 +12,14 @@ use Rattle.round_laws.specs.Sessions.{InSession}
 use Rattle.round_laws.proofs.Between.{between-first}
 use Rattle.round_laws.proofs.ToSync.{not_suspect}
 
-pub between-ready : (c : CoreState) (chip : ChipState) → IsBetweenRounds c chip → IsReadyForRound c chip
-between-ready c chip x = record { within = x.within; order = subst ArePendingInOrder (sym x.rest.popped) (record { keys = tt; names = tt }); warm = inl x.rest.warm; between = λ at. x }
+pub between-ready : {workers : ℕ} (c : CoreState) (chip : ChipState) → IsBetweenRounds workers c chip → IsReadyForRound workers c chip
+between-ready c chip x = record { within = x.resting.within; order = subst ArePendingInOrder (sym x.resting.rest.popped) (record { keys = tt; names = tt }); warm = inl x.resting.rest.warm; between = λ at. x }
 
-pub ready-first : (plan : Ports) (capacities : List ℕ) (limit : ℕ) (chip : ChipState) → IsPlan plan → chip.objects ≡ [] → chip.effects ≡ [] → chip.clean ≡ true → chip.capacities ≡ capacities → IsReadyForRound (new_core plan capacities limit) chip
-ready-first plan capacities limit chip is objects effects clean room = between-ready (new_core plan capacities limit) chip (between-first plan capacities limit chip is objects effects clean room)
+pub ready-first : (workers : ℕ) (plan : Ports) (capacities : List ℕ) (limit : ℕ) (chip : ChipState) → IsPlan plan → chip.objects ≡ [] → chip.effects ≡ [] → chip.clean ≡ true → chip.capacities ≡ capacities → IsReadyForRound workers (new_core plan capacities limit) chip
+ready-first workers plan capacities limit chip is objects effects clean room = between-ready (new_core plan capacities limit) chip (between-first workers plan capacities limit chip is objects effects clean room)
 
-pub ended-ready : (old c : CoreState) (chip chip' : ChipState) (sent : List Sent) → RoundEnds old chip sent c chip' → IsReadyForRound c chip'
-ended-ready old c chip chip' sent x = between-ready c chip' x.later
+pub ended-ready : {workers : ℕ} (since : Option Mark) (old c : CoreState) (chip chip' : ChipState) (sent : List Sent) → RoundEnds workers since old chip sent c chip' → IsReadyForRound workers c chip'
+ended-ready since old c chip chip' sent x = between-ready c chip' x.later
 
-pub suspect-ready : (c : CoreState) (chip : ChipState) → InSession c chip → ArePendingInOrder c.tables.waiting → c.warm ≡ warm.Suspect → IsReadyForRound c chip
+pub suspect-ready : {workers : ℕ} (c : CoreState) (chip : ChipState) → InSession workers c chip → ArePendingInOrder c.tables.waiting → c.warm ≡ warm.Suspect → IsReadyForRound workers c chip
 suspect-ready c chip x order at = record { within = x; order = order; warm = inr at; between = λ back. absurd (not_suspect c.warm back at) }

@@ -87,7 +87,7 @@ module _ (plan : Ports) (is : IsPlan plan) (capacities : List ℕ) (s : SwitchSt
 
 -- ---- of a core
 
-module _ (c : CoreState) (chip : ChipState) (x : InSession c chip) (at : c.warm ≡ warm.Reconciled) (free : (v : ℕ) → v < 4 → flown_at c.board v ≡ None) where
+module _ {workers : ℕ} (c : CoreState) (chip : ChipState) (x : InSession workers c chip) (at : c.warm ≡ warm.Reconciled) (free : (v : ℕ) → v < 4 → flown_at c.board v ≡ None) where
   abbrev pub core : SwitchState
   core = x.session.service.core
 

@@ -1,5 +1,5 @@
 -- what holds of a core and its chip within a session
-use Rattle.std.proofs.Common.{◌≡◌, ◌⊎◌, ◌+◌, ◌*◌, ◌≤◌, ◌∷◌, ◌++◌, ◌∙◌, Bool, true, false, ℕ, List, [], length, Option, None, Some, refl, sym, ap, subst}
+use Rattle.std.proofs.Common.{◌≡◌, ◌⊎◌, ◌+◌, ◌*◌, ◌≤◌, ◌<◌, ◌∷◌, ◌++◌, ◌∙◌, Bool, true, false, ℕ, List, [], length, Option, None, Some, refl, suc, sym, ap, subst, arith}
 use Rattle.table_schema.specs.Plan.{IsPlan, Ports}
 use Rattle.sai_types.specs.declared.body.Call.{Call}
 use Rattle.sai_types.specs.declared.ids.Rid.{Rid}
@@ -27,6 +27,8 @@ use Rattle.warm_state.specs.declared.warm.Warm.TheVariants as warm
 use Rattle.session_laws.specs.Core.{CoreState, new_core, size_beside}
 use Rattle.session_laws.specs.Events.{MakesOne, MakesSome}
 use Rattle.session_laws.specs.Standing.{IsSessionOf}
+use Rattle.session_laws.specs.Workers.{AreByFirst, IsByFirst}
+use Rattle.session_laws.proofs.ByFirst.{after_first, both_first}
 use Rattle.session_laws.proofs.Joining.{after_both, are_both}
 use Rattle.session_laws.specs.Leading.{LeadsTo}
 use Rattle.session_laws.specs.Service.Events.{MakesMore, MakesNext}
@@ -36,64 +38,77 @@ use Rattle.round_laws.specs.Sessions.{HasComeAbout, InSession, InSteadySession}
 
 -- ---- steps
 
-pub came-more : (plan : Ports) (capacities : List ℕ) (s : LoggedService) (ts : List LoggedService) → HasComeAbout plan capacities s → AreLoggedSteps plan 4 capacities s ts → HasComeAbout plan capacities (session_after s ts)
-came-more plan capacities s ts x run = record {
+-- at its beginning no operation is under way
+pub came-first : {workers : ℕ} (plan : Ports) (capacities : List ℕ) (s : LoggedService) → HasComeAbout workers plan capacities s → IsByFirst workers s
+came-first {workers} plan capacities s x = subst (IsByFirst workers) x.is (after_first workers new_session x.steps (λ at w above. refl) x.by)
+
+pub came-more : {workers : ℕ} (plan : Ports) (capacities : List ℕ) (s : LoggedService) (ts : List LoggedService) → HasComeAbout workers plan capacities s → AreLoggedSteps plan 4 capacities s ts → AreByFirst workers ts → HasComeAbout workers plan capacities (session_after s ts)
+came-more {workers} plan capacities s ts x run few = record {
   steps = x.steps ++ ts;
   are = are_both plan capacities new_session x.steps ts x.are (subst (λ z. AreLoggedSteps plan 4 capacities z ts) (sym x.is) run);
   is = after_both new_session x.steps ts ∙ ap (λ z. session_after z ts) x.is;
+  by = both_first workers x.steps ts x.by few;
 }
 
 -- the same port plan and capacities
-pub came-by : (plan plan' : Ports) (capacities capacities' : List ℕ) (s : LoggedService) → plan' ≡ plan → capacities' ≡ capacities → HasComeAbout plan capacities s → HasComeAbout plan' capacities' s
-came-by plan plan' capacities capacities' s p l x = subst (λ z. HasComeAbout z capacities' s) (sym p) (subst (λ z. HasComeAbout plan z s) (sym l) x)
+pub came-by : {workers : ℕ} (plan plan' : Ports) (capacities capacities' : List ℕ) (s : LoggedService) → plan' ≡ plan → capacities' ≡ capacities → HasComeAbout workers plan capacities s → HasComeAbout workers plan' capacities' s
+came-by {workers} plan plan' capacities capacities' s p l x = subst (λ z. HasComeAbout workers z capacities' s) (sym p) (subst (λ z. HasComeAbout workers plan z s) (sym l) x)
 
-pub begins-session : (plan : Ports) (capacities : List ℕ) (limit : ℕ) (chip : ChipState) → IsPlan plan → chip.objects ≡ [] → chip.effects ≡ [] → chip.clean ≡ true → chip.capacities ≡ capacities → InSession (new_core plan capacities limit) chip
-begins-session plan capacities limit chip is objects effects clean room = record {
+pub begins-session : (workers : ℕ) (plan : Ports) (capacities : List ℕ) (limit : ℕ) (chip : ChipState) → IsPlan plan → chip.objects ≡ [] → chip.effects ≡ [] → chip.clean ≡ true → chip.capacities ≡ capacities → InSession workers (new_core plan capacities limit) chip
+begins-session workers plan capacities limit chip is objects effects clean room = record {
   session = new_session;
-  came = record { steps = []; are = tt; is = refl };
+  came = record { steps = []; are = tt; is = refl; by = tt };
   stands = first-service plan capacities limit chip is objects effects clean room;
 }
 
-module _ (c c' : CoreState) (chip chip' : ChipState) (x : InSession c chip) where
+module _ {workers : ℕ} (c c' : CoreState) (chip chip' : ChipState) (x : InSession workers c chip) where
   -- the core that stands for a later session
-  abbrev pub in_later : (later : LoggedService) (ts : List LoggedService) → AreLoggedSteps c.board.plan 4 c.sync.capacities x.session ts → session_after x.session ts ≡ later → IsServiceOf c' chip' later → c'.board.plan ≡ c.board.plan → c'.sync.capacities ≡ c.sync.capacities → InSession c' chip'
-  in_later later ts run same stands plan capacities = record {
+  abbrev pub in_later : (later : LoggedService) (ts : List LoggedService) → AreLoggedSteps c.board.plan 4 c.sync.capacities x.session ts → (IsByFirst workers x.session → AreByFirst workers ts) → session_after x.session ts ≡ later → IsServiceOf c' chip' later → c'.board.plan ≡ c.board.plan → c'.sync.capacities ≡ c.sync.capacities → InSession workers c' chip'
+  in_later later ts run few same stands plan capacities = record {
     session = later;
-    came = subst (HasComeAbout c'.board.plan c'.sync.capacities) same
-        (came-by c.board.plan c'.board.plan c.sync.capacities c'.sync.capacities (session_after x.session ts) plan capacities (came-more c.board.plan c.sync.capacities x.session ts x.came run));
+    came = subst (HasComeAbout workers c'.board.plan c'.sync.capacities) same
+        (came-by c.board.plan c'.board.plan c.sync.capacities c'.sync.capacities (session_after x.session ts) plan capacities (came-more c.board.plan c.sync.capacities x.session ts x.came run (few (came-first c.board.plan c.sync.capacities x.session x.came))));
     stands = stands;
   }
 
-  pub steps-on : (later : LoggedService) (ts : List LoggedService) → AreLoggedSteps c.board.plan 4 c.sync.capacities x.session ts → session_after x.session ts ≡ later → IsServiceOf c' chip' later → c'.board.plan ≡ c.board.plan → c'.sync.capacities ≡ c.sync.capacities → (z : InSession c' chip') × (z.session ≡ later)
-  steps-on later ts run same stands plan capacities = (in_later later ts run same stands plan capacities, refl)
+  pub steps-on : (later : LoggedService) (ts : List LoggedService) → AreLoggedSteps c.board.plan 4 c.sync.capacities x.session ts → (IsByFirst workers x.session → AreByFirst workers ts) → session_after x.session ts ≡ later → IsServiceOf c' chip' later → c'.board.plan ≡ c.board.plan → c'.sync.capacities ≡ c.sync.capacities → (z : InSession workers c' chip') × (z.session ≡ later)
+  steps-on later ts run few same stands plan capacities = (in_later later ts run few same stands plan capacities, refl)
 
-  pub one-on : (y : MakesNext c x.session c' chip') → (z : InSession c' chip') × (z.session ≡ y.later)
-  one-on y = steps-on y.later (y.later ∷ []) (y.makes, tt) refl y.stands y.plan y.capacities
+  pub one-on : (y : MakesNext c x.session c' chip') → (IsByFirst workers x.session → IsByFirst workers y.later) → (z : InSession workers c' chip') × (z.session ≡ y.later)
+  one-on y stays = steps-on y.later (y.later ∷ []) (y.makes, tt) (λ first. (stays first, tt)) refl y.stands y.plan y.capacities
 
-  pub some-on : (y : MakesMore c x.session c' chip') → (z : InSession c' chip') × (z.session ≡ session_after x.session y.steps)
-  some-on y = steps-on (session_after x.session y.steps) y.steps y.are refl y.stands y.plan y.capacities
+  pub some-on : {w : ℕ} → w < workers → (y : MakesMore w c x.session c' chip') → (z : InSession workers c' chip') × (z.session ≡ session_after x.session y.steps)
+  some-on less y = steps-on (session_after x.session y.steps) y.steps y.are (y.few workers less) refl y.stands y.plan y.capacities
 
-  pub same-on : IsServiceOf c' chip' x.session → c'.board.plan ≡ c.board.plan → c'.sync.capacities ≡ c.sync.capacities → InSession c' chip'
-  same-on stands plan capacities = in_later x.session [] tt refl stands plan capacities
+  pub same-on : IsServiceOf c' chip' x.session → c'.board.plan ≡ c.board.plan → c'.sync.capacities ≡ c.sync.capacities → InSession workers c' chip'
+  same-on stands plan capacities = in_later x.session [] tt (λ first. tt) refl stands plan capacities
 
   -- steps that take no write, to a core that is reconciled or suspect
   module _ (taken : c'.log.taken ≡ c.log.taken) (at : (c'.warm ≡ warm.Reconciled) ⊎ (c'.warm ≡ warm.Suspect)) where
-    pub works-one : (y : MakesOne c x.session c' chip') → (z : InSession c' chip') × (z.session ≡ y.later)
-    works-one y = let n = step-next c c' chip chip' x.session x.stands taken at y in let z = one-on n.0 in (z.0, z.1 ∙ n.1)
+    pub works-one : (y : MakesOne c x.session c' chip') → (IsByFirst workers x.session → IsByFirst workers y.later) → (z : InSession workers c' chip') × (z.session ≡ y.later)
+    works-one y stays = let n = step-next c c' chip chip' x.session x.stands taken at y in let z = one-on n.0 (λ first. subst (IsByFirst workers) (sym n.1) (stays first)) in (z.0, z.1 ∙ n.1)
 
-    pub works-some : (y : MakesSome c x.session c' chip') → (z : InSession c' chip') × (z.session ≡ session_after x.session y.steps)
-    works-some y = let n = steps-more c c' chip chip' x.session x.stands taken at y in let z = some-on n.0 in (z.0, z.1 ∙ ap (session_after x.session) n.1)
+    pub works-some : 0 < workers → (y : MakesSome c x.session c' chip') → (z : InSession workers c' chip') × (z.session ≡ session_after x.session y.steps)
+    works-some some y = let n = steps-more c c' chip chip' x.session x.stands taken at y in let z = some-on some n.0 in (z.0, z.1 ∙ ap (session_after x.session) n.1)
 
     -- the core that they lead to stands for the later session of the service
     pub leads-stand : (later : LoggedService) → LeadsTo c x.session later c' chip' → IsServiceOf c' chip' later
     leads-stand later y = subst (IsServiceOf c' chip') y.is (steps-stand c c' chip chip' x.session x.stands taken at y.steps y.are (subst (IsSessionOf c' chip') (sym y.is) y.stands) y.plan y.capacities)
 
-    pub leads-on : (later : LoggedService) → LeadsTo c x.session later c' chip' → (z : InSession c' chip') × (z.session ≡ later)
-    leads-on later y = steps-on later y.steps y.are y.is (leads-stand later y) y.plan y.capacities
+    pub leads-on : 0 < workers → (later : LoggedService) → LeadsTo c x.session later c' chip' → (z : InSession workers c' chip') × (z.session ≡ later)
+    leads-on some later y = steps-on later y.steps y.are (y.few workers some) y.is (leads-stand later y) y.plan y.capacities
+
+-- what so many workers do is done by one more
+pub first_wider : (n : ℕ) (steps : List LoggedService) → AreByFirst n steps → AreByFirst (suc n) steps
+first_wider n [] h = tt
+first_wider n (s ∷ ss) h = ((λ at w above. h.0 at w (omega (arith, above))), first_wider n ss h.1)
+
+abbrev pub by_more : {workers : ℕ} (c : CoreState) (chip : ChipState) → InSession workers c chip → InSession (suc workers) c chip
+by_more {workers} c chip x = record { session = x.session; came = record { steps = x.came.steps; are = x.came.are; is = x.came.is; by = first_wider workers x.came.steps x.came.by }; stands = x.stands }
 
 -- ---- what holds of a session that has come about
 
-module _ (plan : Ports) (is : IsPlan plan) (capacities : List ℕ) (s : LoggedService) (x : HasComeAbout plan capacities s) where
+module _ {workers : ℕ} (plan : Ports) (is : IsPlan plan) (capacities : List ℕ) (s : LoggedService) (x : HasComeAbout workers plan capacities s) where
   pub told : IsToldLog plan is 4 capacities s
   told = subst (IsToldLog plan is 4 capacities) x.is (told-session plan is 4 capacities new_session x.steps (told-first plan is 4 capacities) x.are)
 
@@ -148,7 +163,7 @@ known_warm (Some mark) w left not = known_left mark.event w left not
 
 -- ---- of the core and its chip
 
-module _ (c : CoreState) (chip : ChipState) (x : InSession c chip) where
+module _ {workers : ℕ} (c : CoreState) (chip : ChipState) (x : InSession workers c chip) where
   abbrev plan : Ports
   plan = c.board.plan
 
@@ -203,9 +218,9 @@ module _ (c : CoreState) (chip : ChipState) (x : InSession c chip) where
 -- ---- whatever a call of the core answers
 
 -- in a session applies that are broken off one after the other are steady
-pub steady-session : (c : CoreState) (chip : ChipState) → InSession c chip → InSteadySession c chip
+pub steady-session : {workers : ℕ} (c : CoreState) (chip : ChipState) → InSession workers c chip → InSteadySession workers c chip
 steady-session c chip x = record { within = x; breaks = steady-breaks c.board.plan c.sync.capacities c.log.taken chip.effects c.log.marks (applies-followed c chip x) }
 
 -- where steps lead on from whichever session core and chip stand for, they are in one still
-pub steady-on : (c c' : CoreState) (chip chip' : ChipState) → ((s : LoggedService) → IsServiceOf c chip s → MakesMore c s c' chip') → InSession c chip → InSteadySession c' chip'
-steady-on c c' chip chip' on x = steady-session c' chip' (some-on c c' chip chip' x (on x.session x.stands)).0
+pub steady-on : (w workers : ℕ) → w < workers → (c c' : CoreState) (chip chip' : ChipState) → ((s : LoggedService) → IsServiceOf c chip s → MakesMore w c s c' chip') → InSession workers c chip → InSteadySession workers c' chip'
+steady-on w workers less c c' chip chip' on x = steady-session c' chip' (some-on c c' chip chip' x less (on x.session x.stands)).0

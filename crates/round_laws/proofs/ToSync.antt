@@ -198,11 +198,11 @@ module _ (plan : Ports) (is : IsPlan plan) (capacities : List ℕ) where
   named_first : AreNamedIn plan capacities new_session
   named_first = record { to_sync = λ v k at. absurd at; waiting = λ k some. absurd (some (λ o. refl)) }
 
-  came_named : (s : LoggedService) → HasComeAbout plan capacities s → AreNamedIn plan capacities s
+  came_named : {workers : ℕ} (s : LoggedService) → HasComeAbout workers plan capacities s → AreNamedIn plan capacities s
   came_named s x = subst (AreNamedIn plan capacities) x.is (named_steps new_session x.steps (told-first plan is 4 capacities) x.are named_first)
 
   -- the keys to sync of a session that is not suspect were named
-  pub came-synced : (s : LoggedService) → HasComeAbout plan capacities s → (s.service.warm ≡ warm.Suspect → ⊥) → (k : Key) → IsIn k s.service.core.to_sync → IsIn k (keys_named s.log.taken)
+  pub came-synced : {workers : ℕ} (s : LoggedService) → HasComeAbout workers plan capacities s → (s.service.warm ≡ warm.Suspect → ⊥) → (k : Key) → IsIn k s.service.core.to_sync → IsIn k (keys_named s.log.taken)
   came-synced s x known k at = (came_named s x).to_sync known k at
 
 -- ---- of the core
@@ -214,7 +214,7 @@ known_not_suspect w (inr at) e = two (sym at ∙ e)
     two : warm.Applying ≡ warm.Suspect → ⊥
     two e = cc
 
-module _ (c : CoreState) (chip : ChipState) (x : InSession c chip) (known : (c.warm ≡ warm.Reconciled) ⊎ (c.warm ≡ warm.Applying)) where
+module _ {workers : ℕ} (c : CoreState) (chip : ChipState) (x : InSession workers c chip) (known : (c.warm ≡ warm.Reconciled) ⊎ (c.warm ≡ warm.Applying)) where
   its_exact : (c.warm ≡ warm.Reconciled) ⊎ (c.warm ≡ warm.Applying) → IsExact c x.session.service.core
   its_exact (inl at) = (x.stands.working at).0
   its_exact (inr at) = (x.stands.applying at).0

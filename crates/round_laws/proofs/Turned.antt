@@ -1,5 +1,5 @@
 -- the calls of a round are those of turns
-use Rattle.std.proofs.Common.{◌≡◌, ◌+◌, ◌<◌, ◌∷◌, ◌++◌, ◌∙◌, inl, inr, ℕ, List, [], length, map, None, refl, sym, ap, subst}
+use Rattle.std.proofs.Common.{◌≡◌, ◌+◌, ◌<◌, ◌∷◌, ◌++◌, ◌∙◌, inl, inr, ℕ, List, [], length, map, None, Option, refl, sym, ap, subst}
 use Rattle.std.proofs.lemmas.List.{append-nil}
 use Rattle.std.specs.Map.{keys_of}
 use Rattle.table_schema.specs.Plan.{Ports}
@@ -34,7 +34,7 @@ use Rattle.warm_state.specs.declared.warm.Warm.TheVariants as warm
 use Rattle.session_laws.specs.Core.{CoreState}
 use Rattle.session_laws.proofs.Seeing.{keys_same, same_keys}
 use Rattle.session_laws.specs.Leading.{SettlesTo, calls_in, switch_answered}
-use Rattle.round_laws.specs.Between.{IsInRound, mark_of, round_from}
+use Rattle.round_laws.specs.Between.{IsInRound, round_from}
 use Rattle.round_laws.specs.Ended.{EndedRound, HasCounts, IsToTry, applied_since, rows_wanted}
 use Rattle.round_laws.specs.Named.{keys_named}
 use Rattle.round_laws.specs.Turns.{IsMadeByTurns, StandsOnChip}
@@ -54,7 +54,7 @@ stands_as plan effects t z agrees x = record {
 
 -- ---- a settling of a core whose workers have nothing under way
 
-module _ (old c : CoreState) (chip : ChipState) (sent : List Sent) (x : IsInRound old chip sent c) where
+module _ {workers : ℕ} (since : Option Mark) (old c : CoreState) (chip : ChipState) (sent : List Sent) (x : IsInRound workers since old chip sent c) where
   pub round-warm : c.warm ≡ warm.Reconciled
   round-warm = x.warm ∙ x.began.rest.warm
 
@@ -71,12 +71,12 @@ module _ (old c : CoreState) (chip : ChipState) (sent : List Sent) (x : IsInRoun
   round-quiet = core-quiet c chip x.within round-warm round-free
 
   -- the applied rows
-  pub round-rows : (k : Key) → before.machine.board.applied k ≡ applied_since c.board.plan old.log.taken (mark_of old) k
+  pub round-rows : (k : Key) → before.machine.board.applied k ≡ applied_since c.board.plan old.log.taken since k
   round-rows k =
       (x.within.stands.working round-warm).1.rows k
       ∙ ap (λ b. row_at b.applied k) x.board
       ∙ x.began.applied k
-      ∙ ap (λ b. applied_since b.plan old.log.taken (mark_of old) k) (sym x.board)
+      ∙ ap (λ b. applied_since b.plan old.log.taken since k) (sym x.board)
 
   pub round-taken : c.log.taken ≡ old.log.taken ++ sent
   round-taken = ap (λ (h : History). h.taken) x.log
@@ -94,25 +94,25 @@ module _ (old c : CoreState) (chip : ChipState) (sent : List Sent) (x : IsInRoun
   pub synced-round : (k : Key) → IsToSync old.tables k → IsIn k before.to_sync
   synced-round k i = keys_same c chip x.within.session (core-session c chip x.within round-warm round-free) k (subst (λ o. IsIn k (keys_of o)) (sym x.ops) i)
 
-module _ (old c c' : CoreState) (chip chip' : ChipState) (sent : List Sent) (x : IsInRound old chip sent c) (y : SettlesTo c x.within.session c' chip') where
-  no_answers : (answers : List (Call Rid × SwitchState)) → AreAnswers c.board.plan 4 (before old c chip sent x) answers → answers ≡ []
+module _ {workers : ℕ} (since : Option Mark) (old c c' : CoreState) (chip chip' : ChipState) (sent : List Sent) (x : IsInRound workers since old chip sent c) (y : SettlesTo c x.within.session c' chip') where
+  no_answers : (answers : List (Call Rid × SwitchState)) → AreAnswers c.board.plan 4 (before since old c chip sent x) answers → answers ≡ []
   no_answers [] run = refl
-  no_answers (a ∷ rest) run = absurd (round-quiet old c chip sent x run.0.next.worker run.0.next.flight run.0.next.flying)
+  no_answers (a ∷ rest) run = absurd (round-quiet since old c chip sent x run.0.next.worker run.0.next.flight run.0.next.flying)
 
   abbrev pub s : LoggedSwitch
   s = switch_answered x.within.session y.answers
 
-  pub same-switch : s.switch ≡ before old c chip sent x
-  same-switch = ap (after_answers (before old c chip sent x)) (no_answers y.answers y.are)
+  pub same-switch : s.switch ≡ before since old c chip sent x
+  same-switch = ap (after_answers (before since old c chip sent x)) (no_answers y.answers y.are)
 
   pub same-effects : s.effects ≡ chip.effects
   same-effects = ap (λ answers. x.within.session.effects ++ calls_in answers) (no_answers y.answers y.are) ∙ append-nil x.within.session.effects ∙ x.within.stands.always.effects
 
   pub settling-safe : IsSafe c.board.plan 4 c.sync.capacities s.switch
-  settling-safe = subst (IsSafe c.board.plan 4 c.sync.capacities) (sym same-switch) (round-safe old c chip sent x)
+  settling-safe = subst (IsSafe c.board.plan 4 c.sync.capacities) (sym same-switch) (round-safe since old c chip sent x)
 
   pub settling-quiet : IsQuiet s.switch
-  settling-quiet = subst (λ (z : SwitchState). IsQuiet z) (sym same-switch) (round-quiet old c chip sent x)
+  settling-quiet = subst (λ (z : SwitchState). IsQuiet z) (sym same-switch) (round-quiet since old c chip sent x)
 
   abbrev plan : Ports
   plan = c.board.plan
@@ -124,7 +124,7 @@ module _ (old c c' : CoreState) (chip chip' : ChipState) (sent : List Sent) (x :
   mark = its-mark c c' chip chip' x.within y
 
   abbrev pub the-round : EndedRound
-  the-round = round_from old chip sent y.settling.calls mark
+  the-round = round_from since old chip sent y.settling.calls mark
 
   pub more-effects : chip'.effects ≡ chip.effects ++ y.settling.calls
   more-effects = sym y.leads.stands.effects ∙ y.settling.effects ∙ ap (λ es. es ++ y.settling.calls) same-effects
@@ -134,19 +134,19 @@ module _ (old c c' : CoreState) (chip chip' : ChipState) (sent : List Sent) (x :
     first = x.began.first;
     taken_before = x.began.taken;
     effects_before = x.began.effects;
-    taken = ap (λ (h : History). length h.taken) x.within.stands.always.log ∙ ap length (round-taken old c chip sent x);
+    taken = ap (λ (h : History). length h.taken) x.within.stands.always.log ∙ ap length (round-taken since old c chip sent x);
     effects = ap length (y.leads.stands.effects ∙ more-effects);
   }
 
   begins : StandsOnChip plan chip.effects (situation s.switch)
-  begins = subst (λ (z : SwitchState). StandsOnChip plan chip.effects (situation z)) (sym same-switch) (core-stands c chip x.within (round-warm old c chip sent x) (round-free old c chip sent x))
+  begins = subst (λ (z : SwitchState). StandsOnChip plan chip.effects (situation z)) (sym same-switch) (core-stands c chip x.within (round-warm since old c chip sent x) (round-free since old c chip sent x))
 
   wanted : (k : Key) → good_of plan (after_pops s.switch y.settling.pops).written k ≡ rows_wanted plan the-round k
   wanted k =
       settling-good plan 4 room s (switch_of y.later) y.settling settling-safe k
       ∙ ap (λ (z : SwitchState). good_rows plan (rows_of z.written.taken) k) same-switch
-      ∙ ap (λ ts. good_rows plan (rows_of ts) k) (core-taken c chip x.within (round-warm old c chip sent x) (round-free old c chip sent x))
-      ∙ ap (λ ts. good_rows plan (rows_of (sent_writes ts)) k) (round-taken old c chip sent x)
+      ∙ ap (λ ts. good_rows plan (rows_of ts) k) (core-taken c chip x.within (round-warm since old c chip sent x) (round-free since old c chip sent x))
+      ∙ ap (λ ts. good_rows plan (rows_of (sent_writes ts)) k) (round-taken since old c chip sent x)
 
   keys : (k : Key) → (IsIn k s.switch.to_sync → IsIn k y.settling.keys) × ((HasNoWrite s.switch.written k → ⊥) → IsIn k y.settling.keys) × (IsIn k y.settling.keys → HasNoWrite s.switch.written k → IsIn k s.switch.to_sync)
   keys k = settling-keys plan 4 room s (switch_of y.later) y.settling k
@@ -157,12 +157,12 @@ module _ (old c c' : CoreState) (chip chip' : ChipState) (sent : List Sent) (x :
       by : IsDecided (IsIn k (keys_named sent)) → IsToTry the-round k
       by (inl named) = inr named
       by (inr none) =
-          let still = (keys k).2 i (subst (λ (z : SwitchState). HasNoWrite z.written k) (sym same-switch) (round-unnamed old c chip sent x k none)) in
-          inl (x.began.to_sync k (round-synced old c chip sent x k (subst (λ (z : SwitchState). IsIn k z.to_sync) same-switch still)))
+          let still = (keys k).2 i (subst (λ (z : SwitchState). HasNoWrite z.written k) (sym same-switch) (round-unnamed since old c chip sent x k none)) in
+          inl (x.began.to_sync k (round-synced since old c chip sent x k (subst (λ (z : SwitchState). IsIn k z.to_sync) same-switch still)))
 
   all : (k : Key) → IsToTry the-round k → IsIn k y.settling.keys
-  all k (inl listed) = (keys k).0 (subst (λ (z : SwitchState). IsIn k z.to_sync) (sym same-switch) (synced-round old c chip sent x k (x.began.listed k listed)))
-  all k (inr named) = (keys k).1 (λ none. round-named old c chip sent x k named (subst (λ (z : SwitchState). HasNoWrite z.written k) same-switch none))
+  all k (inl listed) = (keys k).0 (subst (λ (z : SwitchState). IsIn k z.to_sync) (sym same-switch) (synced-round since old c chip sent x k (x.began.listed k listed)))
+  all k (inr named) = (keys k).1 (λ none. round-named since old c chip sent x k named (subst (λ (z : SwitchState). HasNoWrite z.written k) same-switch none))
 
   comes : (z : Situation) × AreTurnsWith plan room (good_of plan (after_pops s.switch y.settling.pops).written) y.settling.turns (situation s.switch) y.settling.keys z y.settling.left y.settling.calls × IsSituationOf z y.later.service.core
   comes = settling-calls plan 4 room x.within.stands.always.plan s (switch_of y.later) y.settling settling-safe settling-quiet
@@ -182,7 +182,7 @@ module _ (old c c' : CoreState) (chip chip' : ChipState) (sent : List Sent) (x :
       (λ k i. y.settling.lists_only k (lists-in y.settling.waits k i))
 
   all_taken : c'.log.taken ≡ old.log.taken ++ sent
-  all_taken = ap (λ (h : History). h.taken) (its-log c c' chip chip' x.within y) ∙ round-taken old c chip sent x
+  all_taken = ap (λ (h : History). h.taken) (its-log c c' chip chip' x.within y) ∙ round-taken since old c chip sent x
 
   applied_then : (k : Key) → comes.0.applied k ≡ applied_at plan (old.log.taken ++ sent) mark y.settling.waits k
   applied_then k =
@@ -194,12 +194,12 @@ module _ (old c c' : CoreState) (chip chip' : ChipState) (sent : List Sent) (x :
   pub made-by-turns : IsMadeByTurns c.board.plan c.sync.capacities the-round
   made-by-turns = record {
     counts = counts;
-    follows = x.began.settled;
+    follows = x.began.tells;
     waits = y.settling.waits;
     turns = y.settling.turns;
     event_is = refl;
     start = situation s.switch;
-    applied = λ k. ap (λ (z : SwitchState). z.machine.board.applied k) same-switch ∙ round-rows old c chip sent x k;
+    applied = λ k. ap (λ (z : SwitchState). z.machine.board.applied k) same-switch ∙ round-rows since old c chip sent x k;
     begins = begins;
     good = good_of plan (after_pops s.switch y.settling.pops).written;
     wanted = wanted;

@@ -15,9 +15,9 @@ use Rattle.restart_laws.specs.Service.{IsDue}
 use Rattle.warm_state.specs.declared.warm.Warm.TheVariants as warm
 use Rattle.round_laws.specs.Sessions.{HasComeAbout}
 
--- a session that has come about, with this log and these calls that took effect
-pub record HasRecorded (plan : Ports) (capacities : List ℕ) (log : History) (effects : List (Call Rid)) (s : LoggedService) : Type 0 where
-  pub came : HasComeAbout plan capacities s
+-- a session that has come about by so many workers, with this log and these calls that took effect
+pub record HasRecorded (workers : ℕ) (plan : Ports) (capacities : List ℕ) (log : History) (effects : List (Call Rid)) (s : LoggedService) : Type 0 where
+  pub came : HasComeAbout workers plan capacities s
   pub log_is : s.log ≡ log
   pub effects_are : s.effects ≡ effects
 

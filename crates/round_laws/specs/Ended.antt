@@ -1,5 +1,5 @@
 -- A round that ended at its mark, told by the log and the effects. Own.
-use Rattle.std.specs.Prelude.{◌≡◌, ◌⊎◌, ◌++◌, List, [], length, Option, Some, None}
+use Rattle.std.specs.Prelude.{◌≡◌, ◌⊎◌, ◌++◌, ◌≤◌, ℕ, List, [], length, Option, Some, None}
 use Rattle.table_schema.specs.Plan.{Ports}
 use Rattle.table_schema.specs.Rows.{rows_of}
 use Rattle.table_schema.specs.declared.key.Key.{Key}
@@ -17,7 +17,7 @@ use Rattle.machine_laws.specs.Logged.{ListsKey}
 use Rattle.machine_laws.specs.Order.{IsSettledMark}
 use Rattle.round_laws.specs.Named.{keys_named}
 
--- the mark before it, or none; the writes taken and the calls that had taken effect by then; the writes taken and the calls that took effect since; and its mark
+-- the mark from which its turns are made, that of the settling before it or that of the beginning of an apply, or none; the writes taken and the calls that had taken effect by then, those of the apply among them; the writes taken and the calls that took effect since; and its mark
 pub record EndedRound : Type 0 where
   pub before : Option Mark
   pub taken : List Sent
@@ -33,11 +33,16 @@ taken_then r = r.taken ++ r.sent
 abbrev pub effects_then : EndedRound → List (Call Rid)
 effects_then r = r.effects ++ r.calls
 
+-- a mark counts these calls; that of the beginning of an apply counts those before it alone
+abbrev pub CountsCalls : MarkEvent → ℕ → ℕ → Type 0
+CountsCalls (event.ApplyBegan mode waits) counted calls = counted ≤ calls
+CountsCalls _ counted calls = counted ≡ calls
+
 -- the marks count them
 pub record HasCounts (r : EndedRound) : Type 0 where
   pub first : r.before ≡ None → (r.taken ≡ []) × (r.effects ≡ [])
   pub taken_before : (mark : Mark) → r.before ≡ Some mark → mark.taken ≡ length r.taken
-  pub effects_before : (mark : Mark) → r.before ≡ Some mark → mark.effects ≡ length r.effects
+  pub effects_before : (mark : Mark) → r.before ≡ Some mark → CountsCalls mark.event mark.effects (length r.effects)
   pub taken : r.mark.taken ≡ length (taken_then r)
   pub effects : r.mark.effects ≡ length (effects_then r)
 
@@ -48,18 +53,31 @@ abbrev pub LeavesSettled : Option Mark → Type 0
 LeavesSettled None = Unit {0}
 LeavesSettled (Some mark) = IsSettledMark mark.event
 
--- the keys that wait since the end of a settling, with their reasons and applied rows
+-- a mark tells which rows are applied, and which keys wait: that of a settling that ended, or of the beginning of an apply
+abbrev pub TellsRows : MarkEvent → Type 0
+TellsRows (event.Settled waits turns) = Unit {0}
+TellsRows (event.ApplyBegan mode waits) = Unit {0}
+TellsRows _ = ⊥
+
+-- there is none, or it is one of these
+abbrev pub LeavesRows : Option Mark → Type 0
+LeavesRows None = Unit {0}
+LeavesRows (Some mark) = TellsRows mark.event
+
+-- the keys that wait since such a mark, with their reasons and applied rows
 abbrev pub waits_by : MarkEvent → Waiting
 waits_by (event.Settled waits turns) = waits
+waits_by (event.ApplyBegan mode waits) = waits
 waits_by _ = []
 
 abbrev pub waits_since : Option Mark → Waiting
 waits_since None = []
 waits_since (Some mark) = waits_by mark.event
 
--- the rows that are applied since the end of a settling, and none before
+-- the rows that are applied since such a mark, and none before
 abbrev pub applied_by : Ports → List Sent → Mark → MarkEvent → TypedRows
 applied_by plan taken mark (event.Settled waits turns) key = applied_at plan taken mark waits key
+applied_by plan taken mark (event.ApplyBegan mode waits) key = applied_at plan taken mark waits key
 applied_by plan taken mark _ key = None
 
 abbrev pub applied_since : Ports → List Sent → Option Mark → TypedRows

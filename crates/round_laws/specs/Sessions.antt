@@ -9,17 +9,19 @@ use Rattle.restart_laws.specs.BrokenOff.{AreSteadyOverBreaks}
 use Rattle.restart_laws.specs.Logged.{AreLoggedSteps, LoggedService, new_session, session_after}
 use Rattle.session_laws.specs.Core.{CoreState}
 use Rattle.session_laws.specs.Service.Standing.{IsServiceOf}
+use Rattle.session_laws.specs.Workers.{AreByFirst}
 
--- steps of the service lead from its beginning to this session
-pub record HasComeAbout (plan : Ports) (capacities : List ℕ) (s : LoggedService) : Type 0 where
+-- steps of the service lead from its beginning to this session, and in none but the first workers, so many, has an operation under way
+pub record HasComeAbout (workers : ℕ) (plan : Ports) (capacities : List ℕ) (s : LoggedService) : Type 0 where
   pub steps : List LoggedService
   pub are : AreLoggedSteps plan 4 capacities new_session steps
   pub is : session_after new_session steps ≡ s
+  pub by : AreByFirst workers steps
 
--- a core and its chip stand for a session that has come about, in any warm state
-pub record InSession (c : CoreState) (chip : ChipState) : Type 0 where
+-- a core and its chip stand for a session that has come about by so many workers, in any warm state
+pub record InSession (workers : ℕ) (c : CoreState) (chip : ChipState) : Type 0 where
   pub session : LoggedService
-  pub came : HasComeAbout c.board.plan c.sync.capacities session
+  pub came : HasComeAbout workers c.board.plan c.sync.capacities session
   pub stands : IsServiceOf c chip session
 
 -- none of these marks is that of the beginning of an apply
@@ -32,6 +34,6 @@ BeginNoApply [] = Unit {0}
 BeginNoApply (mark ∷ marks) = BeginsNoApply mark.event × BeginNoApply marks
 
 -- a core and its chip in a session, in which what goes on over applies that are broken off one after the other is steady
-pub record InSteadySession (c : CoreState) (chip : ChipState) : Type 0 where
-  pub within : InSession c chip
+pub record InSteadySession (workers : ℕ) (c : CoreState) (chip : ChipState) : Type 0 where
+  pub within : InSession workers c chip
   pub breaks : AreSteadyOverBreaks c.board.plan c.log.taken chip.effects c.log.marks

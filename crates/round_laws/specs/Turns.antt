@@ -15,7 +15,7 @@ use Rattle.switch_model.specs.declared.mark.MarkEvent.TheVariants as event
 use Rattle.chip_layout.specs.Layout.{IsLaidOut, listed}
 use Rattle.machine_laws.specs.Calls.{AreTurnsWith, AreTurnsWithSoFar, Situation}
 use Rattle.machine_laws.specs.ToSync.{AreInKeyOrder}
-use Rattle.round_laws.specs.Ended.{EndedRound, HasCounts, IsToTry, LeavesSettled, effects_then, rows_before, rows_wanted, taken_then}
+use Rattle.round_laws.specs.Ended.{EndedRound, HasCounts, IsToTry, LeavesRows, effects_then, rows_before, rows_wanted, taken_then}
 
 -- after these effects what stands are the things of the applied rows, each with its identifier on the chip
 pub record StandsOnChip (plan : Ports) (effects : List (Call Rid)) (z : Situation) : Type 0 where
@@ -24,10 +24,10 @@ pub record StandsOnChip (plan : Ports) (effects : List (Call Rid)) (z : Situatio
   pub laid : IsLaidOut (listed z.stands) (chip_after effects (length effects))
   pub made : next_id effects ≡ z.made + 1
 
--- a round that is the first or follows the end of a settling, and that ended at the mark of its own, without a restart or a fault: turns were made over the keys that it tries, as many as its mark counts, from the rows applied before it to the good rows; the mark lists the keys that the turns left; and the calls of the round are those of these turns
+-- a round, or what comes of it behind its last apply, that ended at the mark of its settling: from the mark before it, or the beginning, turns were made over the keys that it tries, as many as its mark counts, from the rows applied before it to the good rows; the mark lists the keys that the turns left; and the calls of the round are those of these turns
 pub record IsMadeByTurns (plan : Ports) (capacities : List ℕ) (r : EndedRound) : Type 0 where
   pub counts : HasCounts r
-  pub follows : LeavesSettled r.before
+  pub follows : LeavesRows r.before
   pub waits : Waiting
   pub turns : ℕ
   pub event_is : r.mark.event ≡ event.Settled waits turns
@@ -49,7 +49,7 @@ pub record IsMadeByTurns (plan : Ports) (capacities : List ℕ) (r : EndedRound)
   pub applied_then : (k : Key) → later.applied k ≡ applied_at plan (taken_then r) r.mark waits k
   pub ends : StandsOnChip plan (effects_then r) later
 
--- a round that is the first or follows the end of a settling, without a restart, was cut off in its turns: turns over the keys that it tries were made so far, from the rows applied before it to the good rows, and its calls are those of these turns, of which the last may have failed
+-- a round, or what comes of it behind its last apply, was cut off in its turns: turns over the keys that it tries were made so far, from the rows applied before it to the good rows, and its calls are those of these turns, of which the last may have failed
 pub record IsCutInTurns (plan : Ports) (capacities : List ℕ) (r : EndedRound) : Type 0 where
   pub start : Situation
   pub applied : (k : Key) → start.applied k ≡ rows_before plan r k

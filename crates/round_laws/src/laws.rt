@@ -35,34 +35,36 @@ ghost use Rattle.session_laws.specs.Leading.{LeadsTo};
 ghost use Rattle.session_laws.specs.Service.Built.{IsBuilt};
 ghost use Rattle.session_laws.specs.Service.Events.{MakesMore, MakesNext};
 ghost use Rattle.session_laws.specs.Service.Standing.{IsServiceOf};
+ghost use Rattle.session_laws.specs.Workers.{AreByFirst, IsByFirst};
 ghost use Rattle.round_laws.specs.Awaited.{AwaitsCall, AwaitsMark, HasRecorded};
 ghost use Rattle.round_laws.specs.Named.{keys_named};
 ghost use Rattle.round_laws.specs.Sessions.{BeginNoApply, InSession, InSteadySession};
 
-/// A new core over a chip on which nothing stands is in a session.
+/// A new core over a chip on which nothing stands is in a session, by any number of workers.
 pub fn sessions_begin()
-    ensures { (plan : Ports) (capacities : List ℕ) (limit : ℕ) (chip : ChipState) → IsPlan plan → chip.objects ≡ [] → chip.effects ≡ [] → chip.clean ≡ true → chip.capacities ≡ capacities → InSession (new_core plan capacities limit) chip }
+    ensures { (workers : ℕ) (plan : Ports) (capacities : List ℕ) (limit : ℕ) (chip : ChipState) → IsPlan plan → chip.objects ≡ [] → chip.effects ≡ [] → chip.clean ≡ true → chip.capacities ≡ capacities → InSession workers (new_core plan capacities limit) chip }
 {}
 
-/// Where a core in a session makes a step of the service, some steps, or steps that lead to a later session, in any warm state, the later
-/// core is in a session; and so is another core that stands for the same session. So it is for steps of a core whose tables, board and
-/// syncd stand for the session then, where they take no write and leave the core reconciled or suspect.
+/// Where a core in a session by so many workers makes a step of the service, some steps, or steps that lead to a later session, in any
+/// warm state, and begins operations for these workers alone, the later core is in a session by them; and so is another core that stands
+/// for the same session. So it is for steps of a core whose tables, board and syncd stand for the session then, where they take no write
+/// and leave the core reconciled or suspect.
 pub fn sessions_go_on()
-    ensures one { (c c' : CoreState) (chip chip' : ChipState) (x : InSession c chip) (y : MakesNext c x.session c' chip') → (z : InSession c' chip') × (z.session ≡ y.later) }
-    ensures some { (c c' : CoreState) (chip chip' : ChipState) (x : InSession c chip) (y : MakesMore c x.session c' chip') → (z : InSession c' chip') × (z.session ≡ session_after x.session y.steps) }
-    ensures leads { (c c' : CoreState) (chip chip' : ChipState) (later : LoggedService) (steps : List LoggedService) (x : InSession c chip) → AreLoggedSteps c.board.plan 4 c.sync.capacities x.session steps → session_after x.session steps ≡ later → IsServiceOf c' chip' later → c'.board.plan ≡ c.board.plan → c'.sync.capacities ≡ c.sync.capacities → (z : InSession c' chip') × (z.session ≡ later) }
-    ensures same { (c c' : CoreState) (chip chip' : ChipState) (x : InSession c chip) → IsServiceOf c' chip' x.session → c'.board.plan ≡ c.board.plan → c'.sync.capacities ≡ c.sync.capacities → InSession c' chip' }
-    ensures works_one { (c c' : CoreState) (chip chip' : ChipState) (x : InSession c chip) → c'.log.taken ≡ c.log.taken → (c'.warm ≡ warm.Reconciled) ⊎ (c'.warm ≡ warm.Suspect) → (y : MakesOne c x.session c' chip') → (z : InSession c' chip') × (z.session ≡ y.later) }
-    ensures works_some { (c c' : CoreState) (chip chip' : ChipState) (x : InSession c chip) → c'.log.taken ≡ c.log.taken → (c'.warm ≡ warm.Reconciled) ⊎ (c'.warm ≡ warm.Suspect) → (y : MakesSome c x.session c' chip') → (z : InSession c' chip') × (z.session ≡ session_after x.session y.steps) }
-    ensures works_on { (c c' : CoreState) (chip chip' : ChipState) (later : LoggedService) (x : InSession c chip) → c'.log.taken ≡ c.log.taken → (c'.warm ≡ warm.Reconciled) ⊎ (c'.warm ≡ warm.Suspect) → LeadsTo c x.session later c' chip' → (z : InSession c' chip') × (z.session ≡ later) }
+    ensures one { (workers : ℕ) (c c' : CoreState) (chip chip' : ChipState) (x : InSession workers c chip) (y : MakesNext c x.session c' chip') → (IsByFirst workers x.session → IsByFirst workers y.later) → (z : InSession workers c' chip') × (z.session ≡ y.later) }
+    ensures some { (workers w : ℕ) (c c' : CoreState) (chip chip' : ChipState) (x : InSession workers c chip) (y : MakesMore w c x.session c' chip') → w < workers → (z : InSession workers c' chip') × (z.session ≡ session_after x.session y.steps) }
+    ensures leads { (workers : ℕ) (c c' : CoreState) (chip chip' : ChipState) (later : LoggedService) (steps : List LoggedService) (x : InSession workers c chip) → AreLoggedSteps c.board.plan 4 c.sync.capacities x.session steps → (IsByFirst workers x.session → AreByFirst workers steps) → session_after x.session steps ≡ later → IsServiceOf c' chip' later → c'.board.plan ≡ c.board.plan → c'.sync.capacities ≡ c.sync.capacities → (z : InSession workers c' chip') × (z.session ≡ later) }
+    ensures same { (workers : ℕ) (c c' : CoreState) (chip chip' : ChipState) (x : InSession workers c chip) → IsServiceOf c' chip' x.session → c'.board.plan ≡ c.board.plan → c'.sync.capacities ≡ c.sync.capacities → InSession workers c' chip' }
+    ensures works_one { (workers : ℕ) (c c' : CoreState) (chip chip' : ChipState) (x : InSession workers c chip) → c'.log.taken ≡ c.log.taken → (c'.warm ≡ warm.Reconciled) ⊎ (c'.warm ≡ warm.Suspect) → (y : MakesOne c x.session c' chip') → (IsByFirst workers x.session → IsByFirst workers y.later) → (z : InSession workers c' chip') × (z.session ≡ y.later) }
+    ensures works_some { (workers : ℕ) (c c' : CoreState) (chip chip' : ChipState) (x : InSession workers c chip) → c'.log.taken ≡ c.log.taken → (c'.warm ≡ warm.Reconciled) ⊎ (c'.warm ≡ warm.Suspect) → 0 < workers → (y : MakesSome c x.session c' chip') → (z : InSession workers c' chip') × (z.session ≡ session_after x.session y.steps) }
+    ensures works_on { (workers : ℕ) (c c' : CoreState) (chip chip' : ChipState) (later : LoggedService) (x : InSession workers c chip) → c'.log.taken ≡ c.log.taken → (c'.warm ≡ warm.Reconciled) ⊎ (c'.warm ≡ warm.Suspect) → 0 < workers → LeadsTo c x.session later c' chip' → (z : InSession workers c' chip') × (z.session ≡ later) }
 {}
 
 /// Steps only add to a log and to the effects.
 pub fn sessions_grow()
-    ensures effects { (c c' : CoreState) (chip chip' : ChipState) (x : InSession c chip) → MakesMore c x.session c' chip' → (calls : List (Call Rid)) × (chip'.effects ≡ chip.effects ++ calls) }
-    ensures taken { (c c' : CoreState) (chip chip' : ChipState) (x : InSession c chip) → MakesMore c x.session c' chip' → (sent : List Sent) × (c'.log.taken ≡ c.log.taken ++ sent) }
-    ensures marks { (c c' : CoreState) (chip chip' : ChipState) (x : InSession c chip) → MakesMore c x.session c' chip' → (more : List Mark) × (c'.log.marks ≡ c.log.marks ++ more) }
-    ensures ends { (c c' : CoreState) (chip chip' : ChipState) (x : InSession c chip) → MakesMore c x.session c' chip' → (more : List ℕ) × (c'.log.ends ≡ c.log.ends ++ more) }
+    ensures effects { (workers w : ℕ) (c c' : CoreState) (chip chip' : ChipState) (x : InSession workers c chip) → MakesMore w c x.session c' chip' → (calls : List (Call Rid)) × (chip'.effects ≡ chip.effects ++ calls) }
+    ensures taken { (workers w : ℕ) (c c' : CoreState) (chip chip' : ChipState) (x : InSession workers c chip) → MakesMore w c x.session c' chip' → (sent : List Sent) × (c'.log.taken ≡ c.log.taken ++ sent) }
+    ensures marks { (workers w : ℕ) (c c' : CoreState) (chip chip' : ChipState) (x : InSession workers c chip) → MakesMore w c x.session c' chip' → (more : List Mark) × (c'.log.marks ≡ c.log.marks ++ more) }
+    ensures ends { (workers w : ℕ) (c c' : CoreState) (chip chip' : ChipState) (x : InSession workers c chip) → MakesMore w c x.session c' chip' → (more : List ℕ) × (c'.log.ends ≡ c.log.ends ++ more) }
 {}
 
 /// Within a session each call that took effect was legal, and no route ever pointed where no row sent it; each mark is true; the marks
@@ -71,29 +73,29 @@ pub fn sessions_grow()
 /// applies began, and where none began all effects are; and applies are steady and short, also those that are broken off one after the
 /// other.
 pub fn sessions_are_true()
-    ensures legality { (c : CoreState) (chip : ChipState) → InSession c chip → EffectsAreLegal c.board.plan c.sync.capacities c.log.taken chip.effects }
-    ensures marks { (c : CoreState) (chip : ChipState) → InSession c chip → MarksAreTrue c.board.plan c.sync.capacities c.log chip.effects }
-    ensures counts { (c : CoreState) (chip : ChipState) → InSession c chip → AreWithin (length c.log.taken) (length chip.effects) c.log.marks }
-    ensures order { (c : CoreState) (chip : ChipState) → InSession c chip → IsOrdered c.log }
-    ensures warm { (c : CoreState) (chip : ChipState) → InSession c chip → IsWarmAfter (last_mark None c.log.marks) c.warm }
-    ensures suspect { (c : CoreState) (chip : ChipState) → InSession c chip → is_suspect c.log.marks ≡ true → c.warm ≡ warm.Suspect }
-    ensures known { (c : CoreState) (chip : ChipState) → InSession c chip → (c.warm ≡ warm.Suspect → ⊥) → is_suspect c.log.marks ≡ false }
-    ensures objects { (c : CoreState) (chip : ChipState) → InSession c chip → chip.objects ≡ chip_after chip.effects (length chip.effects) }
-    ensures clean { (c : CoreState) (chip : ChipState) → InSession c chip → chip.clean ≡ true }
-    ensures capacities { (c : CoreState) (chip : ChipState) → InSession c chip → chip.capacities ≡ c.sync.capacities }
-    ensures size { (c : CoreState) (chip : ChipState) → InSession c chip → size_beside c (length chip.effects) ≡ log_size c.log (length chip.effects) }
-    ensures few { (c : CoreState) (chip : ChipState) → InSession c chip → effects_outside None c.log.marks (length chip.effects) ≤ most_calls * (length c.log.taken + listed_at_applies c.log.marks) }
-    ensures all_few { (c : CoreState) (chip : ChipState) → InSession c chip → BeginNoApply c.log.marks → length chip.effects ≤ most_calls * length c.log.taken }
-    ensures applies { (c : CoreState) (chip : ChipState) → InSession c chip → AreFollowed c.board.plan c.sync.capacities c.log.taken chip.effects c.log.marks }
-    ensures breaks { (c : CoreState) (chip : ChipState) → InSession c chip → InSteadySession c chip }
+    ensures legality { (workers : ℕ) (c : CoreState) (chip : ChipState) → InSession workers c chip → EffectsAreLegal c.board.plan c.sync.capacities c.log.taken chip.effects }
+    ensures marks { (workers : ℕ) (c : CoreState) (chip : ChipState) → InSession workers c chip → MarksAreTrue c.board.plan c.sync.capacities c.log chip.effects }
+    ensures counts { (workers : ℕ) (c : CoreState) (chip : ChipState) → InSession workers c chip → AreWithin (length c.log.taken) (length chip.effects) c.log.marks }
+    ensures order { (workers : ℕ) (c : CoreState) (chip : ChipState) → InSession workers c chip → IsOrdered c.log }
+    ensures warm { (workers : ℕ) (c : CoreState) (chip : ChipState) → InSession workers c chip → IsWarmAfter (last_mark None c.log.marks) c.warm }
+    ensures suspect { (workers : ℕ) (c : CoreState) (chip : ChipState) → InSession workers c chip → is_suspect c.log.marks ≡ true → c.warm ≡ warm.Suspect }
+    ensures known { (workers : ℕ) (c : CoreState) (chip : ChipState) → InSession workers c chip → (c.warm ≡ warm.Suspect → ⊥) → is_suspect c.log.marks ≡ false }
+    ensures objects { (workers : ℕ) (c : CoreState) (chip : ChipState) → InSession workers c chip → chip.objects ≡ chip_after chip.effects (length chip.effects) }
+    ensures clean { (workers : ℕ) (c : CoreState) (chip : ChipState) → InSession workers c chip → chip.clean ≡ true }
+    ensures capacities { (workers : ℕ) (c : CoreState) (chip : ChipState) → InSession workers c chip → chip.capacities ≡ c.sync.capacities }
+    ensures size { (workers : ℕ) (c : CoreState) (chip : ChipState) → InSession workers c chip → size_beside c (length chip.effects) ≡ log_size c.log (length chip.effects) }
+    ensures few { (workers : ℕ) (c : CoreState) (chip : ChipState) → InSession workers c chip → effects_outside None c.log.marks (length chip.effects) ≤ most_calls * (length c.log.taken + listed_at_applies c.log.marks) }
+    ensures all_few { (workers : ℕ) (c : CoreState) (chip : ChipState) → InSession workers c chip → BeginNoApply c.log.marks → length chip.effects ≤ most_calls * length c.log.taken }
+    ensures applies { (workers : ℕ) (c : CoreState) (chip : ChipState) → InSession workers c chip → AreFollowed c.board.plan c.sync.capacities c.log.taken chip.effects c.log.marks }
+    ensures breaks { (workers : ℕ) (c : CoreState) (chip : ChipState) → InSession workers c chip → InSteadySession workers c chip }
 {}
 
 /// While a core is reconciled, or applies a plan, each key to sync was named by a write taken, and so they are no more than the keys named.
 /// So it is of the keys that a mark is to list.
 pub fn keys_to_sync_were_named()
-    ensures named { (c : CoreState) (chip : ChipState) (k : Key) → InSession c chip → (c.warm ≡ warm.Reconciled) ⊎ (c.warm ≡ warm.Applying) → IsToSync c.tables k → IsIn k (keys_named c.log.taken) }
-    ensures few { (c : CoreState) (chip : ChipState) → InSession c chip → (c.warm ≡ warm.Reconciled) ⊎ (c.warm ≡ warm.Applying) → AreOpsInOrder c.tables.ops → length c.tables.ops ≤ length (keys_named c.log.taken) }
-    ensures listed { (plan : Ports) (capacities : List ℕ) (log : History) (effects : List (Call Rid)) (s : LoggedService) (waits : Waiting) → IsPlan plan → HasRecorded plan capacities log effects s → AwaitsMark plan capacities s waits → length waits ≤ length (keys_named log.taken) }
+    ensures named { (workers : ℕ) (c : CoreState) (chip : ChipState) (k : Key) → InSession workers c chip → (c.warm ≡ warm.Reconciled) ⊎ (c.warm ≡ warm.Applying) → IsToSync c.tables k → IsIn k (keys_named c.log.taken) }
+    ensures few { (workers : ℕ) (c : CoreState) (chip : ChipState) → InSession workers c chip → (c.warm ≡ warm.Reconciled) ⊎ (c.warm ≡ warm.Applying) → AreOpsInOrder c.tables.ops → length c.tables.ops ≤ length (keys_named c.log.taken) }
+    ensures listed { (workers : ℕ) (plan : Ports) (capacities : List ℕ) (log : History) (effects : List (Call Rid)) (s : LoggedService) (waits : Waiting) → IsPlan plan → HasRecorded workers plan capacities log effects s → AwaitsMark plan capacities s waits → length waits ≤ length (keys_named log.taken) }
 {}
 
 /// Once all rows were gone over, the keys that a restore is to list were named by writes taken, and so they are no more than the keys
@@ -108,11 +110,11 @@ pub fn listed_keys_were_named()
 /// way, no write waits, and each key to sync has a reason to wait, a mark is awaited that lists as many keys, and what it would say is
 /// true.
 pub fn what_is_due_is_awaited()
-    ensures recorded { (c : CoreState) (chip : ChipState) (x : InSession c chip) → HasRecorded c.board.plan c.sync.capacities c.log chip.effects x.session }
-    ensures call { (c : CoreState) (chip : ChipState) (w : ℕ) (x : InSession c chip) → c.warm ≡ warm.Reconciled → w < 4 → IsSome (flown_at c.board w) → AwaitsCall x.session }
-    ensures apply { (c : CoreState) (chip : ChipState) (next : PlanCall) (rest : List PlanCall) (x : InSession c chip) → c.warm ≡ warm.Applying → c.sync.left ≡ next ∷ rest → AwaitsCall x.session }
-    ensures legal { (plan : Ports) (capacities : List ℕ) (log : History) (effects : List (Call Rid)) (s : LoggedService) → IsPlan plan → HasRecorded plan capacities log effects s → (x : AwaitsCall s) → IsLegal capacities (chip_after effects (length effects)) x.call }
-    ensures mark { (c : CoreState) (chip : ChipState) (waits : Waiting) (x : InSession c chip) → c.warm ≡ warm.Reconciled → c.tables.waiting ≡ [] → ((v : ℕ) → v < 4 → flown_at c.board v ≡ None) → HaveReasons c x.session.service.core waits → ((k : Key) → IsToSync c.tables k → ListsKey k waits) → ((k : Key) → ListsKey k waits → IsToSync c.tables k) → marks.AreInOrder waits → AwaitsMark c.board.plan c.sync.capacities x.session waits }
-    ensures keys { (c : CoreState) (chip : ChipState) (x : InSession c chip) → c.warm ≡ warm.Reconciled → c.tables.waiting ≡ [] → ((v : ℕ) → v < 4 → flown_at c.board v ≡ None) → AreOpsInOrder c.tables.ops → ((k : Key) → IsToSync c.tables k → MustWait c.board.plan 4 c.sync.capacities x.session.service.core k) → (waits : Waiting) × (length waits ≡ length c.tables.ops) × AwaitsMark c.board.plan c.sync.capacities x.session waits }
-    ensures is_true { (plan : Ports) (capacities : List ℕ) (log : History) (effects : List (Call Rid)) (s : LoggedService) (waits : Waiting) (turns : ℕ) → IsPlan plan → HasRecorded plan capacities log effects s → AwaitsMark plan capacities s waits → IsSettled plan capacities log.taken effects (mark_now log effects (event.Settled waits turns)) waits }
+    ensures recorded { (workers : ℕ) (c : CoreState) (chip : ChipState) (x : InSession workers c chip) → HasRecorded workers c.board.plan c.sync.capacities c.log chip.effects x.session }
+    ensures call { (workers : ℕ) (c : CoreState) (chip : ChipState) (w : ℕ) (x : InSession workers c chip) → c.warm ≡ warm.Reconciled → w < 4 → IsSome (flown_at c.board w) → AwaitsCall x.session }
+    ensures apply { (workers : ℕ) (c : CoreState) (chip : ChipState) (next : PlanCall) (rest : List PlanCall) (x : InSession workers c chip) → c.warm ≡ warm.Applying → c.sync.left ≡ next ∷ rest → AwaitsCall x.session }
+    ensures legal { (workers : ℕ) (plan : Ports) (capacities : List ℕ) (log : History) (effects : List (Call Rid)) (s : LoggedService) → IsPlan plan → HasRecorded workers plan capacities log effects s → (x : AwaitsCall s) → IsLegal capacities (chip_after effects (length effects)) x.call }
+    ensures mark { (workers : ℕ) (c : CoreState) (chip : ChipState) (waits : Waiting) (x : InSession workers c chip) → c.warm ≡ warm.Reconciled → c.tables.waiting ≡ [] → ((v : ℕ) → v < 4 → flown_at c.board v ≡ None) → HaveReasons c x.session.service.core waits → ((k : Key) → IsToSync c.tables k → ListsKey k waits) → ((k : Key) → ListsKey k waits → IsToSync c.tables k) → marks.AreInOrder waits → AwaitsMark c.board.plan c.sync.capacities x.session waits }
+    ensures keys { (workers : ℕ) (c : CoreState) (chip : ChipState) (x : InSession workers c chip) → c.warm ≡ warm.Reconciled → c.tables.waiting ≡ [] → ((v : ℕ) → v < 4 → flown_at c.board v ≡ None) → AreOpsInOrder c.tables.ops → ((k : Key) → IsToSync c.tables k → MustWait c.board.plan 4 c.sync.capacities x.session.service.core k) → (waits : Waiting) × (length waits ≡ length c.tables.ops) × AwaitsMark c.board.plan c.sync.capacities x.session waits }
+    ensures is_true { (workers : ℕ) (plan : Ports) (capacities : List ℕ) (log : History) (effects : List (Call Rid)) (s : LoggedService) (waits : Waiting) (turns : ℕ) → IsPlan plan → HasRecorded workers plan capacities log effects s → AwaitsMark plan capacities s waits → IsSettled plan capacities log.taken effects (mark_now log effects (event.Settled waits turns)) waits }
 {}

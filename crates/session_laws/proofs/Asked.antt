@@ -1,5 +1,5 @@
 -- a session and its core stand for a chip still where one call or list more was asked of it
-use Rattle.std.proofs.Common.{◌≡◌, inl, inr, sym, subst}
+use Rattle.std.proofs.Common.{inl, inr, sym, subst}
 use Rattle.sai_types.specs.ChipState.{ChipState, IsAskedOnce, asked}
 use Rattle.restart_laws.specs.Logged.{LoggedService}
 use Rattle.switch_machine.specs.Events.{SwitchState}

@@ -11,6 +11,7 @@ pub mod Faulting
 pub mod Beginnings
 pub mod Counting
 pub mod Marking
+pub mod ByFirst
 pub mod Joining
 pub mod Seeing
 pub mod Sizing

@@ -5,6 +5,7 @@ pub mod Marking
 pub mod Reading
 pub mod Joining
 pub mod Sessions
+pub mod ByFirst
 pub mod Taking
 pub mod Restarting
 pub mod Listing

@@ -13,6 +13,7 @@ use Rattle.restart_laws.specs.Logged.{AreLoggedSteps, IsLoggedStep, LoggedServic
 use Rattle.flight_board.specs.Applied.{row_at}
 use Rattle.session_laws.specs.Core.{CoreState}
 use Rattle.session_laws.specs.Standing.{IsSessionOf}
+use Rattle.session_laws.specs.Workers.{StayByFirst}
 
 -- one step of the session leads to one of the later core and chip, with the same port plan, capacities and places of the log
 pub record MakesOne (c : CoreState) (s : LoggedService) (c' : CoreState) (chip' : ChipState) : Type 0 where
@@ -31,10 +32,11 @@ session_with s core call = record { service = record { warm = s.service.warm; co
 abbrev pub IsMachineStep : LoggedService → Option (Call Rid) → LoggedService → Type 0
 IsMachineStep s call t = t ≡ session_with s t.service.core call
 
--- so many steps do
+-- so many steps do, and begin operations for the first worker alone
 pub record MakesSome (c : CoreState) (s : LoggedService) (c' : CoreState) (chip' : ChipState) : Type 0 where
   pub steps : List LoggedService
   pub are : AreLoggedSteps c.board.plan 4 c.sync.capacities s steps
+  pub few : StayByFirst 0 s steps
   pub stands : IsSessionOf c' chip' (session_after s steps)
   pub plan : c'.board.plan ≡ c.board.plan
   pub capacities : c'.sync.capacities ≡ c.sync.capacities

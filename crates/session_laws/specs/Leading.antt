@@ -10,12 +10,14 @@ use Rattle.restart_laws.specs.Logged.{AreLoggedSteps, LoggedService, session_aft
 use Rattle.flight_board.specs.Board.{flown_at}
 use Rattle.session_laws.specs.Core.{CoreState}
 use Rattle.session_laws.specs.Standing.{IsSessionOf}
+use Rattle.session_laws.specs.Workers.{StayByFirst}
 use Rattle.warm_state.specs.declared.warm.Warm.TheVariants as warm
 
--- steps of the session lead to this one, which is that of the later core and chip
+-- steps of the session lead to this one, which is that of the later core and chip, and begin operations for the first worker alone
 pub record LeadsTo (c : CoreState) (s later : LoggedService) (c' : CoreState) (chip' : ChipState) : Type 0 where
   pub steps : List LoggedService
   pub are : AreLoggedSteps c.board.plan 4 c.sync.capacities s steps
+  pub few : StayByFirst 0 s steps
   pub is : session_after s steps ≡ later
   pub stands : IsSessionOf c' chip' later
   pub plan : c'.board.plan ≡ c.board.plan

@@ -1,4 +1,5 @@
 pub mod Core
+pub mod Workers
 pub mod Events
 pub mod Standing
 pub mod Leading

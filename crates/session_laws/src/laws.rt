@@ -42,6 +42,7 @@ ghost use Rattle.warm_state.specs.declared.warm.Warm.TheVariants as warm;
 ghost use Rattle.session_laws.specs.Core.{CoreState, good_in, mark_at, new_core, size_beside, with_taken};
 ghost use Rattle.session_laws.specs.Events.{HaveReasons, IsMachineStep, MakesOne, MakesSome, vid_made_by};
 ghost use Rattle.session_laws.specs.Standing.{IsSessionOf};
+ghost use Rattle.session_laws.specs.Workers.{StaysByFirst};
 
 /// A new core over a chip on which nothing stands begins a session.
 pub fn new_cores_stand()
@@ -105,10 +106,10 @@ pub fn marks_are_steps()
     ensures { (c : CoreState) (chip : ChipState) (s : LoggedService) (waits : Waiting) (turns : ℕ) → IsSessionOf c chip s → c.warm ≡ warm.Reconciled → c.tables.waiting ≡ [] → ((v : ℕ) → v < 4 → flown_at c.board v ≡ None) → HaveReasons c s.service.core waits → ((k : Key) → IsToSync c.tables k → ListsKey k waits) → marks.AreInOrder waits → (x : MakesOne c s (record c { log = with_end (with_mark c.log (mark_at c (length chip.effects) (event.Settled waits turns))); listed = c.listed + length waits }) chip) × LogsMark c.board.plan 4 c.sync.capacities (switch_of s) (switch_of x.later) }
 {}
 
-/// Steps follow one another: the port plan and the capacities stay.
+/// Steps follow one another: the port plan and the capacities stay, and operations are begun for the first worker alone.
 pub fn steps_join()
     ensures none { (c : CoreState) (chip : ChipState) (s : LoggedService) → IsSessionOf c chip s → MakesSome c s c chip }
-    ensures one { (c c' : CoreState) (chip' : ChipState) (s : LoggedService) → MakesOne c s c' chip' → MakesSome c s c' chip' }
+    ensures one { (c c' : CoreState) (chip' : ChipState) (s : LoggedService) (x : MakesOne c s c' chip') → StaysByFirst 0 s x.later → MakesSome c s c' chip' }
     ensures more { (c c' c'' : CoreState) (chip' chip'' : ChipState) (s : LoggedService) (x : MakesSome c s c' chip') → MakesSome c' (session_after s x.steps) c'' chip'' → MakesSome c s c'' chip'' }
 {}
 

@@ -1,11 +1,12 @@
 //! Each step of the core's code is a step of the service's session with its log: laws of definitions, with no code. By `laws` the steps
 //! of a core that is reconciled; by `settlings` what the parts of a settling come to, and that together they settle the machine; by
-//! `services` restarts, lists of the chip, restores and the calls of plans.
+//! `services` restarts, lists of the chip, restores and the calls of plans; by `workers` for which workers operations are under way.
 #![tactic(auto)]
 
 mod laws;
 mod services;
 mod settlings;
+mod workers;
 
 pub use laws::{
     answers_are_steps, calls_can_be_made, drops_are_steps, faults_are_steps, free_workers_see,
@@ -20,3 +21,4 @@ pub use services::{
 pub use settlings::{
     leads_are_steps, pops_go_on, runs_go_on, settlings_end, turns_follow, turns_go_on, walks_go_on,
 };
+pub use workers::{boards_stay, workers_stay, workers_stay_on};

@@ -42,6 +42,7 @@ ghost use Rattle.session_laws.specs.Standing.{IsSessionOf};
 ghost use Rattle.session_laws.specs.Service.Built.{AreBareWaits, IsBeside, IsBringing, IsBuilt, building, given_up};
 ghost use Rattle.session_laws.specs.Service.Events.{MakesMore, MakesNext, restarted};
 ghost use Rattle.session_laws.specs.Service.Standing.{IsServiceOf};
+ghost use Rattle.session_laws.specs.Workers.{StaysByFirst};
 
 /// A new core begins a session of the service. While a core is reconciled its session is one over the tables, the board and syncd, and
 /// steps of the one that take no write, to a core that is reconciled or suspect, are steps of the other.
@@ -49,16 +50,18 @@ pub fn sessions_are_services()
     ensures first { (plan : Ports) (capacities : List ℕ) (limit : ℕ) (chip : ChipState) → IsPlan plan → chip.objects ≡ [] → chip.effects ≡ [] → chip.clean ≡ true → chip.capacities ≡ capacities → IsServiceOf (new_core plan capacities limit) chip new_session }
     ensures reconciled { (c : CoreState) (chip : ChipState) (s : LoggedService) → IsServiceOf c chip s → c.warm ≡ warm.Reconciled → IsSessionOf c chip s }
     ensures one { (c c' : CoreState) (chip chip' : ChipState) (s : LoggedService) → IsServiceOf c chip s → c'.log.taken ≡ c.log.taken → (c'.warm ≡ warm.Reconciled) ⊎ (c'.warm ≡ warm.Suspect) → (x : MakesOne c s c' chip') → (y : MakesNext c s c' chip') × (y.later ≡ x.later) }
-    ensures some { (c c' : CoreState) (chip chip' : ChipState) (s : LoggedService) → IsServiceOf c chip s → c'.log.taken ≡ c.log.taken → (c'.warm ≡ warm.Reconciled) ⊎ (c'.warm ≡ warm.Suspect) → (x : MakesSome c s c' chip') → (y : MakesMore c s c' chip') × (y.steps ≡ x.steps) }
+    ensures some { (c c' : CoreState) (chip chip' : ChipState) (s : LoggedService) → IsServiceOf c chip s → c'.log.taken ≡ c.log.taken → (c'.warm ≡ warm.Reconciled) ⊎ (c'.warm ≡ warm.Suspect) → (x : MakesSome c s c' chip') → (y : MakesMore 0 c s c' chip') × (y.steps ≡ x.steps) }
     ensures stands { (c c' : CoreState) (chip chip' : ChipState) (s : LoggedService) (ts : List LoggedService) → IsServiceOf c chip s → c'.log.taken ≡ c.log.taken → (c'.warm ≡ warm.Reconciled) ⊎ (c'.warm ≡ warm.Suspect) → AreLoggedSteps c.board.plan 4 c.sync.capacities s ts → IsSessionOf c' chip' (session_after s ts) → c'.board.plan ≡ c.board.plan → c'.sync.capacities ≡ c.sync.capacities → IsServiceOf c' chip' (session_after s ts) }
 {}
 
-/// Steps of the service follow one another: the port plan and the capacities stay. The size that the core counts beside the chip's effects
+/// Steps of the service follow one another: the port plan and the capacities stay, and operations are begun for
+/// one worker and those before it alone. What is begun for the first worker alone is begun for it and others. The size that the core counts beside the chip's effects
 /// is that of the session's log.
 pub fn steps_follow()
-    ensures none { (c : CoreState) (chip : ChipState) (s : LoggedService) → IsServiceOf c chip s → MakesMore c s c chip }
-    ensures one { (c c' : CoreState) (chip' : ChipState) (s : LoggedService) → MakesNext c s c' chip' → MakesMore c s c' chip' }
-    ensures more { (c c' c'' : CoreState) (chip' chip'' : ChipState) (s : LoggedService) (x : MakesMore c s c' chip') → MakesMore c' (session_after s x.steps) c'' chip'' → MakesMore c s c'' chip'' }
+    ensures none { (w : ℕ) (c : CoreState) (chip : ChipState) (s : LoggedService) → IsServiceOf c chip s → MakesMore w c s c chip }
+    ensures one { (w : ℕ) (c c' : CoreState) (chip' : ChipState) (s : LoggedService) (x : MakesNext c s c' chip') → StaysByFirst w s x.later → MakesMore w c s c' chip' }
+    ensures more { (w : ℕ) (c c' c'' : CoreState) (chip' chip'' : ChipState) (s : LoggedService) (x : MakesMore w c s c' chip') → MakesMore w c' (session_after s x.steps) c'' chip'' → MakesMore w c s c'' chip'' }
+    ensures first { (w : ℕ) (c c' : CoreState) (chip' : ChipState) (s : LoggedService) → MakesMore 0 c s c' chip' → MakesMore w c s c' chip' }
     ensures sized { (c : CoreState) (chip : ChipState) (s : LoggedService) → IsServiceOf c chip s → size_beside c (length chip.effects) ≡ log_size s.log (length s.effects) }
 {}
 
@@ -91,7 +94,7 @@ pub fn pops_wait_for_the_restore()
 pub fn apply_calls_are_steps()
     ensures can { (c : CoreState) (chip : ChipState) (s : LoggedService) → IsServiceOf c chip s → c.warm ≡ warm.Applying → CanApply c.sync.left c.sync.view chip }
     ensures more { (c : CoreState) (chip : ChipState) (s : LoggedService) (y : SyncState) (chip' : ChipState) → IsServiceOf c chip s → c.warm ≡ warm.Applying → Applies c.sync.left c.sync chip step.More y chip' → MakesNext c s (record c { sync = y }) chip' }
-    ensures last { (c : CoreState) (chip : ChipState) (s : LoggedService) (y : SyncState) (chip' : ChipState) → IsServiceOf c chip s → c.warm ≡ warm.Applying → Applies c.sync.left c.sync chip step.Ended y chip' → MakesMore c s (record c { sync = y; log = with_mark c.log (mark_at c (length chip'.effects) event.ApplyEnded); warm = warm.Reconciled }) chip' }
+    ensures last { (c : CoreState) (chip : ChipState) (s : LoggedService) (y : SyncState) (chip' : ChipState) → IsServiceOf c chip s → c.warm ≡ warm.Applying → Applies c.sync.left c.sync chip step.Ended y chip' → MakesMore 0 c s (record c { sync = y; log = with_mark c.log (mark_at c (length chip'.effects) event.ApplyEnded); warm = warm.Reconciled }) chip' }
     ensures failed { (c : CoreState) (chip : ChipState) (s : LoggedService) (y : SyncState) (chip' : ChipState) → IsServiceOf c chip s → c.warm ≡ warm.Applying → Applies c.sync.left c.sync chip step.Failed y chip' → MakesNext c s (record c { sync = y; log = with_mark c.log (mark_at c (length chip'.effects) (event.Faulted chip.faults chip'.faults)); warm = warm.Suspect }) chip' }
     ensures ended { (c : CoreState) (chip : ChipState) (s : LoggedService) (y : SyncState) (chip' : ChipState) → IsServiceOf c chip s → c.warm ≡ warm.Applying → Applies c.sync.left c.sync chip step.Failed y chip' → MakesNext c s (record c { sync = y; log = with_end (with_mark c.log (mark_at c (length chip'.effects) (event.Faulted chip.faults chip'.faults))); warm = warm.Suspect }) chip' }
 {}

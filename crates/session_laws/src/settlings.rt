@@ -22,11 +22,12 @@ ghost use Rattle.session_laws.specs.Events.{HaveReasons, IsMachineStep, MakesOne
 ghost use Rattle.session_laws.specs.Standing.{IsSessionOf};
 ghost use Rattle.session_laws.specs.Leading.{LeadsTo, PopsTo, RunsTo, SettlesTo};
 ghost use Rattle.session_laws.specs.Turning.{IsAtRest, IsTurned, IsTurning, TurnsTo};
+ghost use Rattle.session_laws.specs.Workers.{StaysByFirst};
 
 /// Steps that lead to a session are steps of the core.
 pub fn leads_are_steps()
     ensures none { (c : CoreState) (chip : ChipState) (s : LoggedService) → IsSessionOf c chip s → LeadsTo c s s c chip }
-    ensures one { (c c' : CoreState) (chip' : ChipState) (s : LoggedService) (x : MakesOne c s c' chip') → LeadsTo c s x.later c' chip' }
+    ensures one { (c c' : CoreState) (chip' : ChipState) (s : LoggedService) (x : MakesOne c s c' chip') → StaysByFirst 0 s x.later → LeadsTo c s x.later c' chip' }
     ensures more { (c c' c'' : CoreState) (chip' chip'' : ChipState) (s t u : LoggedService) → LeadsTo c s t c' chip' → LeadsTo c' t u c'' chip'' → LeadsTo c s u c'' chip'' }
     ensures some { (c c' : CoreState) (chip' : ChipState) (s t : LoggedService) → LeadsTo c s t c' chip' → MakesSome c s c' chip' }
 {}
@@ -54,12 +55,12 @@ pub fn walks_go_on()
 {}
 
 /// A turn begins with all keys that are to sync; and goes on where a key waits and its reason is put on the list, where a key has its
-/// good row, and where an operation begins and is run to its end.
+/// good row, and where an operation begins for the first worker and is run to its end.
 pub fn turns_go_on()
     ensures begins { (c : CoreState) (chip : ChipState) (s : LoggedService) → IsSessionOf c chip s → IsAtRest c → IsTurning (keys_of c.tables.ops) c s [] (keys_of c.tables.ops) c chip }
     ensures waits { (keys left rest : List Key) (k : Key) (c c' c'' : CoreState) (chip' : ChipState) (s : LoggedService) (x : IsTurning keys c s left (k ∷ rest) c' chip') (r : Wait) → IsSessionOf c'' chip' x.later → c''.board.plan ≡ c'.board.plan → c''.sync.capacities ≡ c'.sync.capacities → c''.limit ≡ c'.limit → IsAtRest c'' → c''.tables.ops ≡ c'.tables.ops → IsReason c'.board.plan 4 c'.sync.capacities x.later.service.core k r → c''.waiting ≡ with_reason c'.waiting k r → IsTurning keys c s (left ++ k ∷ []) rest c'' chip' }
     ensures drops { (keys left rest : List Key) (k : Key) (c c' c'' : CoreState) (chip' : ChipState) (s : LoggedService) (x : IsTurning keys c s left (k ∷ rest) c' chip') (y : MakesOne c' x.later c'' chip') (z : IsDrop c'.board.plan x.later.service.core y.later.service.core) → z.key ≡ k → IsMachineStep x.later None y.later → IsAtRest c'' → keys_of c''.tables.ops ≡ left ++ rest → IsTurning keys c s left rest c'' chip' }
-    ensures runs { (keys left rest : List Key) (k : Key) (c c' c'' d : CoreState) (chip' chip'' : ChipState) (s : LoggedService) (x : IsTurning keys c s left (k ∷ rest) c' chip') (y : MakesOne c' x.later c'' chip') (z : IsBegin c'.board.plan 4 c'.sync.capacities x.later.service.core y.later.service.core) → z.flight.key ≡ k → IsMachineStep x.later None y.later → RunsTo c'' y.later d chip'' → IsAtRest d → keys_of d.tables.ops ≡ left ++ rest → IsTurning keys c s left rest d chip'' }
+    ensures runs { (keys left rest : List Key) (k : Key) (c c' c'' d : CoreState) (chip' chip'' : ChipState) (s : LoggedService) (x : IsTurning keys c s left (k ∷ rest) c' chip') (y : MakesOne c' x.later c'' chip') (z : IsBegin c'.board.plan 4 c'.sync.capacities x.later.service.core y.later.service.core) → z.flight.key ≡ k → z.worker ≡ 0 → IsMachineStep x.later None y.later → RunsTo c'' y.later d chip'' → IsAtRest d → keys_of d.tables.ops ≡ left ++ rest → IsTurning keys c s left rest d chip'' }
 {}
 
 /// Turns begin with none; go on with one that took a key away; and end where no key is to sync, or with one that took none away.

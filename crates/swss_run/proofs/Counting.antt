@@ -77,7 +77,7 @@ pub suspect-now : (marks : List Mark) (w : Warm) → IsWarmAfter (last_mark None
 suspect-now marks w left at = let x = fault-by (last_mark None marks) w left at in suspect-at marks x.0 x.1 ∙ x.2
 
 -- it is then no mark of a settling that ended
-fault_unsettled : (e : MarkEvent) → is_fault e ≡ true → IsSettledMark e → ⊥
+pub fault_unsettled : (e : MarkEvent) → is_fault e ≡ true → IsSettledMark e → ⊥
 fault_unsettled (event.Settled waits turns) bad h = cc
 fault_unsettled (event.Faulted before after) bad h = h
 fault_unsettled event.Restarted bad h = h

@@ -55,7 +55,7 @@ begun-lists plan capacities taken effects before mark e mode waits is true_mark 
 
 -- ---- a core that had just begun its apply
 
-module _ (b : CoreState) (bchip : ChipState) (x : InSession b bchip) (at : b.warm ≡ warm.Applying) (earlier : List Mark) (mark : Mark) (marks : b.log.marks ≡ earlier ++ mark ∷ []) (counts : mark.taken ≡ length b.log.taken) where
+module _ (b : CoreState) (bchip : ChipState) (x : InSession 1 b bchip) (at : b.warm ≡ warm.Applying) (earlier : List Mark) (mark : Mark) (marks : b.log.marks ≡ earlier ++ mark ∷ []) (counts : mark.taken ≡ length b.log.taken) where
   abbrev begun : HasBegun b.board.plan (its_plan b bchip x) 4 b.sync.capacities x.session
   begun = (told_of b bchip x).begun (x.stands.always.warm_is ∙ at)
 
@@ -78,7 +78,7 @@ module _ (b : CoreState) (bchip : ChipState) (x : InSession b bchip) (at : b.war
 
 -- ---- the settling behind it
 
-module _ (c new : CoreState) (chip chip' : ChipState) (x : InSession c chip) (at : c.warm ≡ warm.Reconciled) (y : SettlesTo c x.session new chip') (free : (v : ℕ) → v < 4 → flown_at c.board v ≡ None) (rows : (k : Key) (row : Row) → row_at c.board.applied k ≡ Some row → good_rows_at c.board.plan c.log.taken (length c.log.taken) k ≡ Some row) where
+module _ (c new : CoreState) (chip chip' : ChipState) (x : InSession 1 c chip) (at : c.warm ≡ warm.Reconciled) (y : SettlesTo c x.session new chip') (free : (v : ℕ) → v < 4 → flown_at c.board v ≡ None) (rows : (k : Key) (row : Row) → row_at c.board.applied k ≡ Some row → good_rows_at c.board.plan c.log.taken (length c.log.taken) k ≡ Some row) where
   abbrev core : SwitchState
   core = x.session.service.core
 

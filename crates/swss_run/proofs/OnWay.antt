@@ -57,7 +57,7 @@ module _ (old : CoreState) (chip : ChipState) (since : Ran) (c : CoreState) (cch
   -- the core in the same session, with the same log, and the chip, of which perhaps one call or list more was asked
   pub come-stays : (dchip : ChipState) → IsAskedOnce cchip dchip → StaysInService x.within.session c d dchip → (z : HasCome old chip since d dchip) × (z.within.session ≡ x.within.session)
   come-stays dchip asked stays =
-      let within = steps-on c d cchip dchip x.within x.within.session [] tt refl stays.stands stays.plan stays.capacities in
+      let within = steps-on c d cchip dchip x.within x.within.session [] tt (λ first. tt) refl stays.stands stays.plan stays.capacities in
       let keeps = keeps_asked asked (keeps_alike c d cchip cchip refl stays.log (stays.stands.always.listed ∙ ap (λ (h : History). listed_by h.marks) stays.log ∙ sym x.within.stands.always.listed) stays.limit) in (
         record {
           log = stays.log ∙ x.log;
@@ -77,7 +77,7 @@ module _ (old : CoreState) (chip : ChipState) (since : Ran) (c : CoreState) (cch
     abbrev pub since_steps : List (Call Rid) → Ran
     since_steps calls = record { marks = since.marks; sent = since.sent; calls = since.calls ++ calls }
 
-    abbrev pub come-steps : (more : MakesMore c x.within.session d dchip) → (within : InSession d dchip) → d.log ≡ c.log → HasCome old chip (since_steps (effects-grow c d cchip dchip x.within more).0) d dchip
+    abbrev pub come-steps : (more : MakesMore 0 c x.within.session d dchip) → (within : InSession 1 d dchip) → d.log ≡ c.log → HasCome old chip (since_steps (effects-grow c d cchip dchip x.within more).0) d dchip
     come-steps more within log =
         let grown = effects-grow c d cchip dchip x.within more in
         record {
@@ -93,14 +93,14 @@ module _ (old : CoreState) (chip : ChipState) (since : Ran) (c : CoreState) (cch
 
   -- whole events of a core that comes back, where no call took effect in the round so far
   module _ (uncalled : cchip.effects ≡ chip.effects) (dchip : ChipState) (later : LoggedService) (y : ComesTo x.within.session later c cchip d dchip) where
-    came_more : MakesMore c x.within.session d dchip
+    came_more : MakesMore 0 c x.within.session d dchip
     came_more = (comes_serves x.within.session later c cchip d dchip y).0
 
     pub came_calls : (calls : List (Call Rid)) × (dchip.effects ≡ cchip.effects ++ calls)
     came_calls = effects-grow c d cchip dchip x.within came_more
 
-    came_in : (z : InSession d dchip) × (z.session ≡ later)
-    came_in = steps-on c d cchip dchip x.within later y.steps y.are y.is y.stands y.plan y.capacities
+    came_in : (z : InSession 1 d dchip) × (z.session ≡ later)
+    came_in = steps-on c d cchip dchip x.within later y.steps y.are (y.few 1 (omega arith)) y.is y.stands y.plan y.capacities
 
     abbrev pub since_coming : Ran
     since_coming = record { marks = since.marks ++ y.added; sent = since.sent; calls = since.calls ++ came_calls.0 }

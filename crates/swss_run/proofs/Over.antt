@@ -18,16 +18,17 @@ use Rattle.switch_model.specs.declared.mark.MarkEvent.{MarkEvent}
 use Rattle.switch_model.specs.declared.mark.MarkEvent.TheVariants as event
 use Rattle.machine_laws.specs.Order.{AreMarksInOrder, IsSettledMark, MayEndRound}
 use Rattle.producer_table.specs.Pending.{ArePendingInOrder}
-use Rattle.restart_laws.specs.Logged.{last_mark}
+use Rattle.restart_laws.specs.Logged.{IsLeftIn, IsWarmAfter, last_mark}
 use Rattle.restart_laws.proofs.Marking.{last-more}
+use Rattle.warm_state.specs.declared.warm.Warm.{Warm}
 use Rattle.warm_state.specs.declared.warm.Warm.TheVariants as warm
 use Rattle.session_laws.specs.Core.{CoreState, size_beside}
 use Rattle.round_laws.specs.Between.{IsBetweenRounds, IsReadyForRound, mark_of, round_from}
-use Rattle.round_laws.specs.Ended.{LeavesSettled}
+use Rattle.round_laws.specs.Ended.{CountsCalls, LeavesSettled}
 use Rattle.round_laws.specs.Sessions.{InSession}
 use Rattle.round_laws.specs.Turns.{IsMadeSoFar}
 use Rattle.round_laws.proofs.Ready.{between-ready, suspect-ready}
-use Rattle.round_laws.proofs.Sessions.{log-ordered, sized}
+use Rattle.round_laws.proofs.Sessions.{log-ordered, sized, warm-after}
 use Rattle.orch_core.specs.ComingBack.{restarts_due, restarts_marked}
 use Rattle.orch_core.specs.Outcomes.{KeepsChip}
 use Rattle.swss_script.specs.Sent.{sent_in_round}
@@ -35,10 +36,11 @@ use Rattle.swss_script.specs.declared.parts.Round.{Round}
 use Rattle.swss_run.specs.Faults.{FaultsRise, places_beside}
 use Rattle.swss_run.specs.Rounds.{Ran}
 use Rattle.swss_run.specs.Running.{EndsRound, HasCome, KeepsPlan, with_round}
-use Rattle.swss_run.specs.Turned.{DrainsBehind, IsRoundTurned}
+use Rattle.swss_run.specs.Turned.{DrainsBehind, EndedApply, EndsTurned, IsRoundTurned, behind_apply}
 use Rattle.swss_run.specs.declared.status.Status.{Status}
 use Rattle.swss_run.specs.declared.status.Status.TheVariants as status
-use Rattle.swss_run.proofs.Counting.{HasRestarted, restarts-ended, restarts-mark, rise-mark, suspect-last}
+use Rattle.swss_run.proofs.Behind.{same-last, same-last-two}
+use Rattle.swss_run.proofs.Counting.{HasRestarted, fault_unsettled, restarts-ended, restarts-mark, rise-mark, suspect-last}
 use Rattle.swss_run.proofs.Faulting.{LeavesFault, fault_mark, fits-faulted, places-faulted, rise-faulted}
 use Rattle.swss_run.proofs.OnWay.{same-trans}
 
@@ -50,12 +52,13 @@ IsEndedAs ended core sim = ((ended ≡ status.Done) × (is_suspect core.log.mark
 pub record IsOver (round : Round) (old : CoreState) (sim : ChipState) (ended : Status) (new : CoreState) (sim' : ChipState) : Type 0 where
   pub ran : Ran
   pub ends : EndsRound round old sim ran new sim'
-  pub ready : IsReadyForRound new sim'
+  pub ready : IsReadyForRound 1 new sim'
   pub how : IsEndedAs ended new sim'
 
--- where no mark was made before the one at which it ended, its calls are those of its turns so far
-abbrev pub IsCutSo : CoreState → ChipState → Ran → List (Call Rid) → Type 0
-IsCutSo old sim since calls = since.marks ≡ [] → LeavesSettled (mark_of old) → (mark : Mark) → IsMadeSoFar old.board.plan old.sync.capacities (round_from old sim since.sent (since.calls ++ calls) mark)
+-- where a fault ends it, and no mark was made before, its calls are those of its turns so far; and so are those behind an apply, where the mark of its end came right before
+pub record IsCutSo (old : CoreState) (sim : ChipState) (since : Ran) (calls : List (Call Rid)) : Type 0 where
+  pub whole : since.marks ≡ [] → LeavesSettled (mark_of old) → (mark : Mark) → IsMadeSoFar old.board.plan old.sync.capacities (round_from (mark_of old) old sim since.sent (since.calls ++ calls) mark)
+  pub behind : (earlier : List Mark) (ended : Mark) → since.marks ≡ earlier ++ ended ∷ [] → ended.event ≡ event.ApplyEnded → (mark : Mark) → (x : EndedApply sim.effects (record { marks = since.marks ++ mark ∷ []; sent = since.sent; calls = since.calls ++ calls }) (mark ∷ [])) × IsMadeSoFar old.board.plan old.sync.capacities (behind_apply old.log.taken sim.effects (record { marks = since.marks ++ mark ∷ []; sent = since.sent; calls = since.calls ++ calls }) (mark ∷ []) x mark)
 
 -- a list that is one mark has no other
 pub alone : (xs : List Mark) (x m : Mark) → xs ++ x ∷ [] ≡ m ∷ [] → (xs ≡ []) × (x ≡ m)
@@ -64,17 +67,37 @@ alone (y ∷ []) x m is = cc
 alone (y ∷ z ∷ zs) x m is = cc
 
 -- the mark of a settling that ended is that of no fault
+-- no list with a last mark is empty
+pub empty-last : (xs : List Mark) (x : Mark) → [] ≡ xs ++ x ∷ [] → ⊥
+empty-last [] x is = cc
+empty-last (y ∷ xs) x is = cc
+
 pub unfailed : (mark m : Mark) (waits : Waiting) (turns : ℕ) → mark.event ≡ event.Settled waits turns → mark ≡ m → is_fault m.event ≡ true → ⊥
 unfailed mark m waits turns is same bad = false≢true (sym (ap is_fault is) ∙ (ap (λ (x : Mark). is_fault x.event) same ∙ bad))
 
 -- a round that restarted has a mark before its last
-marked_before : (marks : List Mark) → 1 ≤ restarts_marked marks → marks ≡ [] → ⊥
+pub marked_before : (marks : List Mark) → 1 ≤ restarts_marked marks → marks ≡ [] → ⊥
 marked_before marks some none = let count : restarts_marked marks ≡ 0 = ap restarts_marked none in omega (arith, count, some)
 
-pub uncut : (old : CoreState) (sim : ChipState) (since : Ran) → 1 ≤ restarts_marked since.marks → (calls : List (Call Rid)) → IsCutSo old sim since calls
-uncut old sim since some calls none left mark = absurd (marked_before since.marks some none)
+-- the mark of the end of an apply leaves a core reconciled
+pub ended-warm : (marks earlier : List Mark) (ended : Mark) (w : Warm) → marks ≡ earlier ++ ended ∷ [] → ended.event ≡ event.ApplyEnded → IsWarmAfter (last_mark None marks) w → w ≡ warm.Reconciled
+ended-warm marks earlier ended w is end left = subst (λ e. IsLeftIn e w) end (subst (λ o. IsWarmAfter o w) (ap (λ l. last_mark None l) is ∙ last-more None earlier ended) left)
 
-module _ (round : Round) (old : CoreState) (sim : ChipState) (since : Ran) (c : CoreState) (cchip : ChipState) (come : HasCome old sim since c cchip) (all : since.sent ≡ sent_in_round round) (restarted : HasRestarted round old.log.marks since.marks c.warm) (none : restarts_due c.warm ≡ 0) (new : CoreState) (sim' : ChipState) (mark : Mark) (may : MayEndRound mark.event) (log : new.log ≡ with_end (with_mark c.log mark)) (calls : List (Call Rid)) (grown : sim'.effects ≡ cchip.effects ++ calls) (within : InSession new sim') (same : KeepsPlan c new) where
+-- a round that restarted, and then did not come to the end of an apply
+pub uncut : (old : CoreState) (sim : ChipState) (since : Ran) (c : CoreState) (cchip : ChipState) → HasCome old sim since c cchip → 1 ≤ restarts_marked since.marks → (c.warm ≡ warm.Reconciled → ⊥) → (calls : List (Call Rid)) → IsCutSo old sim since calls
+uncut old sim since c cchip come some away calls = record {
+  whole = λ none left mark. absurd (marked_before since.marks some none);
+  behind = λ earlier ended is end mark. absurd (away (ended-warm c.log.marks (old.log.marks ++ earlier) ended c.warm (ap (λ (h : History). h.marks) come.log ∙ ap (λ l. old.log.marks ++ l) is ∙ sym (append_assoc old.log.marks earlier (ended ∷ []))) end (warm-after c cchip come.within)));
+}
+
+-- one that did not restart
+pub cut-plain : (old : CoreState) (sim : ChipState) (since : Ran) (calls : List (Call Rid)) → since.marks ≡ [] → ((mark : Mark) → IsMadeSoFar old.board.plan old.sync.capacities (round_from (mark_of old) old sim since.sent (since.calls ++ calls) mark)) → IsCutSo old sim since calls
+cut-plain old sim since calls none so = record {
+  whole = λ unmarked left mark. so mark;
+  behind = λ earlier ended is end mark. absurd (empty-last earlier ended (sym none ∙ is));
+}
+
+module _ (round : Round) (old : CoreState) (sim : ChipState) (since : Ran) (c : CoreState) (cchip : ChipState) (come : HasCome old sim since c cchip) (all : since.sent ≡ sent_in_round round) (restarted : HasRestarted round old.log.marks since.marks c.warm) (none : restarts_due c.warm ≡ 0) (new : CoreState) (sim' : ChipState) (mark : Mark) (may : MayEndRound mark.event) (log : new.log ≡ with_end (with_mark c.log mark)) (calls : List (Call Rid)) (grown : sim'.effects ≡ cchip.effects ++ calls) (within : InSession 1 new sim') (same : KeepsPlan c new) where
   abbrev pub ran_now : Ran
   ran_now = record { marks = since.marks ++ mark ∷ []; sent = since.sent; calls = since.calls ++ calls }
 
@@ -123,26 +146,32 @@ module _ (round : Round) (old : CoreState) (sim : ChipState) (since : Ran) (c : 
     faults = faults;
   }
 
-  -- where it restarted nothing is said of its turns
-  pub turned_none : 1 ≤ restarts_marked since.marks → IsRoundTurned old.board.plan old.sync.capacities (mark_of old) old.log.taken sim.effects ran_now
-  turned_none some = record {
+  -- the mark is the last
+  is_last : (earlier : List Mark) (m : Mark) → since.marks ++ mark ∷ [] ≡ earlier ++ m ∷ [] → mark ≡ m
+  is_last earlier m is = (same-last since.marks earlier mark m is).1
+
+  unsettled_fault : is_fault mark.event ≡ true → (m : Mark) → mark ≡ m → IsSettledMark m.event → ⊥
+  unsettled_fault bad m same settled = fault_unsettled mark.event bad (subst (λ (x : Mark). IsSettledMark x.event) (sym same) settled)
+
+  -- where it restarted its turns are those behind its last apply
+  pub turned_behind : 1 ≤ restarts_marked since.marks → (waits : Waiting) (turns : ℕ) → mark.event ≡ event.Settled waits turns → (x : EndedApply sim.effects ran_now (mark ∷ [])) × EndsTurned old.board.plan old.sync.capacities (behind_apply old.log.taken sim.effects ran_now (mark ∷ []) x mark) → IsRoundTurned old.board.plan old.sync.capacities (mark_of old) old.log.taken sim.effects ran_now
+  turned_behind some waits turns at so = record {
     whole = λ m is settled left. absurd (marked_before since.marks some (alone since.marks mark m is).0);
     cut = λ m is bad left. absurd (marked_before since.marks some (alone since.marks mark m is).0);
+    behind = λ earlier m is settled restarts. subst (λ k. (x : EndedApply sim.effects ran_now (k ∷ [])) × EndsTurned old.board.plan old.sync.capacities (behind_apply old.log.taken sim.effects ran_now (k ∷ []) x k)) (is_last earlier m is) so;
+    cut_behind = λ earlier ended m is end bad. absurd (unfailed mark m waits turns at (same-last-two since.marks earlier mark m ended is).1 bad);
   }
 
   -- where it ended with a fault it is cut off
   turned_failed : is_fault mark.event ≡ true → IsCutSo old sim since calls → IsRoundTurned old.board.plan old.sync.capacities (mark_of old) old.log.taken sim.effects ran_now
   turned_failed bad so = record {
-    whole = λ m is settled left. absurd (failed mark.event bad (subst (λ (x : Mark). IsSettledMark x.event) (sym (alone since.marks mark m is).1) settled));
-    cut = λ m is failed left. so (alone since.marks mark m is).0 left m;
+    whole = λ m is settled left. absurd (unsettled_fault bad m (alone since.marks mark m is).1 settled);
+    cut = λ m is failed left. so.whole (alone since.marks mark m is).0 left m;
+    behind = λ earlier m is settled restarts. absurd (unsettled_fault bad m (is_last earlier m is) settled);
+    cut_behind = λ earlier ended m is end failed.
+        let two = same-last-two since.marks earlier mark m ended is in
+        subst (λ k. (x : EndedApply sim.effects ran_now (k ∷ [])) × IsMadeSoFar old.board.plan old.sync.capacities (behind_apply old.log.taken sim.effects ran_now (k ∷ []) x k)) two.1 (so.behind earlier ended two.0 end mark);
   }
-    where
-      failed : (e : MarkEvent) → is_fault e ≡ true → IsSettledMark e → ⊥
-      failed (event.Settled waits turns) bad h = cc
-      failed (event.Faulted before after) bad h = h
-      failed event.Restarted bad h = h
-      failed (event.ApplyBegan mode waits) bad h = h
-      failed event.ApplyEnded bad h = h
 
   drained_failed : is_fault mark.event ≡ true → DrainsBehind old.board.plan old.sync.capacities old.log.taken ran_now
   drained_failed bad = λ m waits turns last is some closed room. absurd (unfailed m mark waits turns is (sym (same_Some mark m (sym (last-more None since.marks mark) ∙ last))) bad)
@@ -167,20 +196,23 @@ module _ (round : Round) (old : CoreState) (sim : ChipState) (since : Ran) (c : 
       (sym waits_same ∙ d.0, subst (λ k. k ≤ 4) turns_same d.1)
 
   -- its settling ended
-  pub over-settled : (waits : Waiting) (turns : ℕ) → mark.event ≡ event.Settled waits turns → IsBetweenRounds new sim' → size_beside new (length sim'.effects) ≤ new.limit → KeepsChip c cchip new sim'
+  pub over-settled : (waits : Waiting) (turns : ℕ) → mark.event ≡ event.Settled waits turns → IsBetweenRounds 1 new sim' → size_beside new (length sim'.effects) ≤ new.limit → KeepsChip c cchip new sim'
       → IsRoundTurned old.board.plan old.sync.capacities (mark_of old) old.log.taken sim.effects ran_now → DrainsBehind old.board.plan old.sync.capacities old.log.taken ran_now → IsOver round old sim status.Done new sim'
   over-settled waits turns is between places keeps turned drained =
       let size = sized new sim' within in
       let known : is_suspect new.log.marks ≡ false = suspect_now ∙ ap is_fault is in
       record {
         ran = ran_now;
-        ends = ends_now (between.taken mark last_now) (between.effects mark last_now) turned drained (omega (arith, size, places)) (λ bad. absurd (apart known bad)) rise;
+        ends = ends_now (between.resting.taken mark last_now) (settled_calls mark.event is (between.resting.effects mark last_now)) turned drained (omega (arith, size, places)) (λ bad. absurd (apart known bad)) rise;
         ready = between-ready new sim' between;
         how = inl (refl, known);
       }
     where
       apart : is_suspect new.log.marks ≡ false → is_suspect new.log.marks ≡ true → ⊥
       apart a b = cc
+
+      settled_calls : (e : MarkEvent) → e ≡ event.Settled waits turns → CountsCalls e mark.effects (length sim'.effects) → mark.effects ≡ length sim'.effects
+      settled_calls e at h = subst (λ x. CountsCalls x mark.effects (length sim'.effects)) at h
 
       counts : (e : MarkEvent) → e ≡ event.Settled waits turns → FaultsRise 0 (c.log.marks ++ record { taken = mark.taken; effects = mark.effects; event = e } ∷ []) sim'.faults
       counts e at =
@@ -191,7 +223,7 @@ module _ (round : Round) (old : CoreState) (sim : ChipState) (since : Ran) (c : 
       rise = subst (λ (h : History). FaultsRise 0 h.marks sim'.faults) (sym log) (counts mark.event is)
 
 -- a call failed in it
-module _ (round : Round) (old : CoreState) (sim : ChipState) (since : Ran) (c : CoreState) (cchip : ChipState) (come : HasCome old sim since c cchip) (all : since.sent ≡ sent_in_round round) (restarted : HasRestarted round old.log.marks since.marks c.warm) (none : restarts_due c.warm ≡ 0) (new : CoreState) (sim' : ChipState) (e : LeavesFault c new sim') (calls : List (Call Rid)) (grown : sim'.effects ≡ cchip.effects ++ calls) (within : InSession new sim') (same : KeepsPlan c new) where
+module _ (round : Round) (old : CoreState) (sim : ChipState) (since : Ran) (c : CoreState) (cchip : ChipState) (come : HasCome old sim since c cchip) (all : since.sent ≡ sent_in_round round) (restarted : HasRestarted round old.log.marks since.marks c.warm) (none : restarts_due c.warm ≡ 0) (new : CoreState) (sim' : ChipState) (e : LeavesFault c new sim') (calls : List (Call Rid)) (grown : sim'.effects ≡ cchip.effects ++ calls) (within : InSession 1 new sim') (same : KeepsPlan c new) where
   abbrev failed : Mark
   failed = fault_mark c new cchip sim' come.within e
 

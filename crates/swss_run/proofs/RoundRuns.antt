@@ -14,7 +14,7 @@ use Rattle.sai_types.specs.declared.body.Call.{Call}
 use Rattle.sai_chip.specs.Replay.{IsReplayOf, Replayed}
 use Rattle.sai_chip.proofs.Replays.{IsReplayOf-append}
 use Rattle.switch_model.specs.History.{History, log_size, with_end, with_mark}
-use Rattle.switch_model.specs.Marks.{sent_writes}
+use Rattle.switch_model.specs.Marks.{Waiting, sent_writes}
 use Rattle.switch_model.specs.declared.mark.Mark.{Mark}
 use Rattle.switch_model.specs.declared.mark.MarkEvent.{MarkEvent}
 use Rattle.switch_model.specs.declared.mark.MarkEvent.TheVariants as event
@@ -33,7 +33,7 @@ use Rattle.round_laws.specs.Named.{keys_named}
 use Rattle.round_laws.specs.Quiet.{LeavesQuietRows}
 use Rattle.round_laws.specs.Sessions.{InSession}
 use Rattle.round_laws.specs.Turns.{IsMadeSoFar}
-use Rattle.round_laws.proofs.Between.{round-begins}
+use Rattle.round_laws.proofs.Between.{its-log, round-begins}
 use Rattle.round_laws.proofs.Drained.{round-drained}
 use Rattle.round_laws.proofs.Ending.{round-ends}
 use Rattle.round_laws.proofs.Growing.{effects-grow, marks-grow, taken-grow}
@@ -68,14 +68,15 @@ use Rattle.swss_run.specs.declared.status.Status.TheVariants as status
 use Rattle.swss_run.specs.declared.taking.Taken.TheVariants as taken
 use Rattle.swss_run.specs.declared.told.Told.{Told}
 use Rattle.swss_run.proofs.Acts.{restarts-front, restarts-made, sent-front, sent-made}
-use Rattle.swss_run.proofs.CameBack.{ends-over, ends-stopped, from-over, from-stopped}
+use Rattle.swss_run.proofs.CameBack.{ends-over, ends-stopped, from-over, from-since, from-stopped}
 use Rattle.swss_run.proofs.Counting.{HasRestarted, suspect-now, unsettled}
 use Rattle.swss_run.proofs.Given.{AreOnSwitch, on-front, on-round}
 use Rattle.swss_run.proofs.OnWay.{come-made, since_made}
 use Rattle.swss_run.proofs.CutOff.{cut-failed, cut-stopped}
-use Rattle.swss_run.proofs.Over.{IsEndedAs, IsOver, alone, drained_none, over-settled, unfailed}
+use Rattle.swss_run.proofs.Over.{IsEndedAs, IsOver, alone, cut-plain, drained_none, empty-last, over-settled, unfailed}
 use Rattle.swss_run.proofs.Settling.{IsStopped}
-use Rattle.swss_run.proofs.Tables.{HasMade, in-round, made-all, made-none, told-more}
+use Rattle.swss_run.proofs.Tables.{HasMade, in-round, made-all, made-none, told-more, unended-restarts}
+use Rattle.swss_run.proofs.Behind.{IsTurnedSince, marked-more, same-last-two, unended}
 
 -- ---- whatever a settling came to
 
@@ -130,6 +131,10 @@ few_restarts event.ApplyEnded = omega arith
 restarts_few : (marks : List Mark) → restarts_marked marks ≤ length marks
 restarts_few [] = omega arith
 restarts_few (mark ∷ marks) = let one = few_restarts mark.event in let rest = restarts_few marks in omega (arith, one, rest)
+
+-- the mark of a settling that ended is that of no restart
+unrestarted_mark : (mark : Mark) (waits : Waiting) (turns : ℕ) → mark.event ≡ event.Settled waits turns → 1 ≤ restarts_marked (mark ∷ []) → ⊥
+unrestarted_mark mark waits turns is some = let none : restarts_at mark.event ≡ 0 = ap restarts_at is in omega (arith, none, some)
 
 -- the front of a list that grew is all of it, where the whole is behind it
 front_all : (xs ys zs rest more : List Sent) → ys ≡ zs ++ rest → xs ++ zs ≡ (xs ++ ys) ++ more → ys ≡ zs
@@ -190,7 +195,7 @@ module _ (round : Round) (old : CoreState) (sim : ChipState) (replay : Replayed)
 
     -- no call was made
     turned_then : IsSinceTurned old.board.plan old.sync.capacities (mark_of old) old.log.taken sim.effects since_then
-    turned_then = record { so_far = λ none settled mark. inl refl; quiet = λ none settled mark k row e at other stood call called changes. called }
+    turned_then = record { so_far = λ none settled mark. inl refl; quiet = λ none settled mark k row e at other stood call called changes. called; behind = λ earlier ended is end. absurd (unended-restarts has-then.added earlier ended has-then.alone is end) }
 
   pub stops-wanting : IsRoundMade effects (acts_in round.sections) old taken.NoMemory mid → StopsInTurns round old sim mid sim
   stops-wanting (counts, (done, later, split, is)) = (stops_then done later split is, turned_then done later split is)
@@ -204,7 +209,7 @@ module _ (round : Round) (old : CoreState) (sim : ChipState) (replay : Replayed)
     abbrev IsFullAct : Act → Type 0
     IsFullAct a = (split : acts_in round.sections ≡ done ++ (producer, a) ∷ later) (is : mid ≡ with_made effects old (acts_made [] done)) → IsFull mid.board.plan mid.sync.capacities mid.limit round mid.log sim (since_then done ((producer, a) ∷ later) split is) (come-then done ((producer, a) ∷ later) split is).within.session
 
-    short : InSession mid sim → mid.limit < log_size mid.log (length sim.effects) + 1
+    short : InSession 1 mid sim → mid.limit < log_size mid.log (length sim.effects) + 1
     short within = let size = sized mid sim within in let count = count_is in omega (arith, full, size, count)
 
     full_act : (a : Act) → IsFullAct a
@@ -241,7 +246,7 @@ module _ (round : Round) (old : CoreState) (sim : ChipState) (replay : Replayed)
     abbrev come_all : HasCome old sim since_all mid sim
     come_all = come-then (acts_in round.sections) [] none_left is
 
-    pub in-all : InSession mid sim
+    pub in-all : InSession 1 mid sim
     in-all = come_all.within
 
     sent_all : all_sent ≡ sent_in_round round
@@ -277,19 +282,19 @@ module _ (round : Round) (old : CoreState) (sim : ChipState) (replay : Replayed)
             record { more = 0; count = omega (arith, count, none); behind = inl refl; least = omega (arith, count) }
 
     module _ (new : CoreState) (sim' : ChipState) where
-      pub follows-new : MakesMore mid in-all.session new sim' → IsReplayOf replay sim'.effects
+      pub follows-new : MakesMore 0 mid in-all.session new sim' → IsReplayOf replay sim'.effects
       follows-new more =
           let grown = effects-grow mid new sim sim' in-all more in
           subst (IsReplayOf replay) (sym grown.1) (IsReplayOf-append replay sim.effects grown.0 ready.follows)
 
       -- nor a write taken
-      pub told-new : (t : Told) → IsToldOf t old.log.taken → MakesMore mid in-all.session new sim' → IsToldOf t new.log.taken
+      pub told-new : (t : Told) → IsToldOf t old.log.taken → MakesMore 0 mid in-all.session new sim' → IsToldOf t new.log.taken
       told-new t told more =
           let grown = taken-grow mid new sim sim' in-all more in
           told-more t mid.log.taken grown.0 new.log.taken (told-more t old.log.taken since_all.sent mid.log.taken told (ap (λ (h : History). h.taken) come_all.log)) grown.1
 
       -- no mark is lost
-      pub marks-longer : MakesMore mid in-all.session new sim' → length old.log.marks ≤ length new.log.marks
+      pub marks-longer : MakesMore 0 mid in-all.session new sim' → length old.log.marks ≤ length new.log.marks
       marks-longer more =
           let grown = marks-grow mid new sim sim' in-all more in
           let same = ap (λ (h : History). length h.marks) come_all.log in
@@ -303,10 +308,10 @@ module _ (round : Round) (old : CoreState) (sim : ChipState) (replay : Replayed)
         now : mid.warm ≡ warm.Reconciled
         now = same ∙ at
 
-        alike : IsInRound old sim all_sent mid
+        alike : IsInRound 1 (mark_of old) old sim all_sent mid
         alike =
-            subst (IsInRound old sim all_sent) (sym is)
-            (in-round effects old sim [] (acts_made [] (acts_in round.sections)) old (round-begins old sim (ready.ready.between at)) none (on_then (acts_in round.sections) [] none_left is))
+            subst (IsInRound 1 (mark_of old) old sim all_sent) (sym is)
+            (in-round effects (mark_of old) old sim [] (acts_made [] (acts_in round.sections)) old (round-begins (mark_of old) old sim (ready.ready.between at).resting) none (on_then (acts_in round.sections) [] none_left is))
 
         abbrev since_plain : Ran
         since_plain = since_made [] all_sent
@@ -331,22 +336,24 @@ module _ (round : Round) (old : CoreState) (sim : ChipState) (replay : Replayed)
 
         plain-settled : SettlesWhole plain.within.session mid sim new sim' → IsOver round old sim status.Done new sim'
         plain-settled e =
-            let ends = round-ends old mid new sim sim' all_sent alike e.settles in
+            let ends = round-ends (mark_of old) old mid new sim sim' all_sent alike (omega arith) e.settles in
             let leads = e.settles.leads in
             let log = ends.log ∙ ap (λ h. with_end (with_mark h ends.mark)) (sym alike.log) in
             let due : restarts_due mid.warm ≡ 0 = ap restarts_due now in
             let may : MayEndRound ends.mark.event = subst MayEndRound (sym ends.made.event_is) tt in
             let keeps : KeepsPlan mid new = record { plan = leads.plan; capacities = leads.capacities; limit = leads.limit } in
-            over-settled round old sim since_plain mid sim plain sent_all restarted_plain due new sim' ends.mark may log ends.calls ends.effects ends.later.within keeps ends.made.waits ends.made.turns ends.made.event_is ends.later e.places e.keeps
+            over-settled round old sim since_plain mid sim plain sent_all restarted_plain due new sim' ends.mark may log ends.calls ends.effects ends.later.resting.within keeps ends.made.waits ends.made.turns ends.made.event_is ends.later e.places e.keeps
             (record {
-              whole = λ m single settled left. subst (λ x. EndsTurned old.board.plan old.sync.capacities (round_from old sim all_sent ends.calls x)) (alone [] ends.mark m single).1
-                  (record { made = ends.made; quiet = ends.quiet; drains = λ from least. round-drained old.board.plan old.sync.capacities (round_from old sim all_sent ends.calls ends.mark) ends.made from least });
+              whole = λ m single settled left. subst (λ x. EndsTurned old.board.plan old.sync.capacities (round_from (mark_of old) old sim all_sent ends.calls x)) (alone [] ends.mark m single).1
+                  (record { made = ends.made; quiet = ends.quiet; drains = λ from least. round-drained old.board.plan old.sync.capacities (round_from (mark_of old) old sim all_sent ends.calls ends.mark) ends.made from least });
               cut = λ m single bad left. absurd (unfailed ends.mark m ends.made.waits ends.made.turns ends.made.event_is (alone [] ends.mark m single).1 bad);
+              behind = λ earlier m single settled restarts. absurd (unrestarted_mark ends.mark ends.made.waits ends.made.turns ends.made.event_is restarts);
+              cut_behind = λ earlier ended m single end bad. absurd (empty-last earlier ended (same-last-two [] earlier ends.mark m ended single).0);
             })
-            (drained_none round old sim since_plain mid sim plain sent_all restarted_plain due new sim' ends.mark may log ends.calls ends.effects ends.later.within keeps refl)
+            (drained_none round old sim since_plain mid sim plain sent_all restarted_plain due new sim' ends.mark may log ends.calls ends.effects ends.later.resting.within keeps refl)
 
         plain-over : (r : Result Settled OutOfMemory) (ended : Status) → round_ended r ≡ Ok ended → Settles plain.within.session mid sim r new sim' → ArePendingInOrder new.tables.waiting → IsOver round old sim ended new sim'
-        plain-over r ended same e order = ends-over round old sim since_plain mid sim plain sent_all restarted_plain new sim' now plain-settled (λ failed calls grown none left mark. cut-failed old sim all_sent mid alike new sim' failed.0 calls grown mark) r ended same e order
+        plain-over r ended same e order = ends-over round old sim since_plain mid sim plain sent_all restarted_plain new sim' now plain-settled (λ failed calls grown. cut-plain old sim since_plain calls refl (λ mark. cut-failed (mark_of old) old sim all_sent mid alike new sim' failed.0 calls grown mark)) r ended same e order
 
         plain-stopped : (r : Result Settled OutOfMemory) (ended : Status) → round_ended r ≡ Err ended → Settles plain.within.session mid sim r new sim' → IsStopped round old sim ended new sim'
         plain-stopped r ended same e = ends-stopped round old sim since_plain mid sim plain sent_all restarted_plain new sim' now r ended same e
@@ -398,10 +405,10 @@ module _ (round : Round) (old : CoreState) (sim : ChipState) (replay : Replayed)
             omega (arith, some, longer, made, later, few, count, same)
 
         module _ (none : restarts_then (acts_in round.sections) [] none_left is ≡ 0) (same : mid.warm ≡ old.warm) (at : old.warm ≡ warm.Reconciled) where
-          begun : IsInRound old sim all_sent mid
+          begun : IsInRound 1 (mark_of old) old sim all_sent mid
           begun = alike none same at
 
-          more : MakesMore mid begun.within.session new sim'
+          more : MakesMore 0 mid begun.within.session new sim'
           more = settle_serves begun.within.session mid sim r new sim' (e begun.within.session begun.within.stands)
 
           taken_by : new.log.taken ≡ mid.log.taken ++ (taken-grow mid new sim sim' begun.within more).0
@@ -424,8 +431,8 @@ module _ (round : Round) (old : CoreState) (sim : ChipState) (replay : Replayed)
           quiet_plain : (mark : Mark) → LeavesQuietRows old.board.plan (round_at (mark_of old) old.log.taken sim.effects stops.since mark)
           quiet_plain mark =
               subst (λ l. LeavesQuietRows old.board.plan (record { before = mark_of old; taken = old.log.taken; effects = sim.effects; sent = l; calls = stops.since.calls; mark = mark })) sent_is
-              (subst (λ (b : BoardState). LeavesQuietRows b.plan (round_from old sim all_sent stops.since.calls mark)) begun.board
-              (quiet-so-far old mid new sim sim' all_sent begun more log_same stops.since.calls stops.come.calls mark))
+              (subst (λ (b : BoardState). LeavesQuietRows b.plan (round_from (mark_of old) old sim all_sent stops.since.calls mark)) begun.board
+              (quiet-so-far (mark_of old) old mid new sim sim' all_sent begun more log_same stops.since.calls stops.come.calls mark))
 
           -- no mark was made
           unmarked : (xs : List Mark) (mark : Mark) → new.log.marks ≡ xs ++ mark ∷ [] → length xs ≡ length old.log.marks → ⊥
@@ -437,18 +444,18 @@ module _ (round : Round) (old : CoreState) (sim : ChipState) (replay : Replayed)
           marks_begun : length mid.log.marks ≡ length old.log.marks
           marks_begun = ap (λ (h : History). length h.marks) begun.log
 
-          so_far_plain : (a : Result Settled OutOfMemory) → Settles begun.within.session mid sim a new sim' → (mark : Mark) → IsMadeSoFar old.board.plan old.sync.capacities (round_from old sim all_sent stops.since.calls mark)
+          so_far_plain : (a : Result Settled OutOfMemory) → Settles begun.within.session mid sim a new sim' → (mark : Mark) → IsMadeSoFar old.board.plan old.sync.capacities (round_from (mark_of old) old sim all_sent stops.since.calls mark)
           so_far_plain (Ok settled.Settled) x mark =
-              let ends = round-ends old mid new sim sim' all_sent begun x.settles in
+              let ends = round-ends (mark_of old) old mid new sim sim' all_sent begun (omega arith) x.settles in
               absurd (unmarked old.log.marks ends.mark (ap (λ (h : History). h.marks) ends.log) refl)
           so_far_plain (Ok settled.Faulted) x mark = absurd (unmarked mid.log.marks (mark_at mid (length sim'.effects) (event.Faulted sim.faults sim'.faults)) (ap (λ (h : History). h.marks) x.0.marks.log) marks_begun)
-          so_far_plain (Ok settled.LogFull) (inl x) mark = cut-stopped old sim all_sent mid begun x.then x.calls x.so sim' x.effects stops.since.calls stops.come.calls mark
-          so_far_plain (Ok settled.LogFull) (inr x) mark = cut-stopped old sim all_sent mid begun x.later.service.core x.calls x.so sim' x.effects stops.since.calls stops.come.calls mark
-          so_far_plain (Err wanting) x mark = cut-stopped old sim all_sent mid begun x.then x.calls x.so sim' x.effects stops.since.calls stops.come.calls mark
+          so_far_plain (Ok settled.LogFull) (inl x) mark = cut-stopped (mark_of old) old sim all_sent mid begun x.then x.calls x.so sim' x.effects stops.since.calls stops.come.calls mark
+          so_far_plain (Ok settled.LogFull) (inr x) mark = cut-stopped (mark_of old) old sim all_sent mid begun x.later.service.core x.calls x.so sim' x.effects stops.since.calls stops.come.calls mark
+          so_far_plain (Err wanting) x mark = cut-stopped (mark_of old) old sim all_sent mid begun x.then x.calls x.so sim' x.effects stops.since.calls stops.come.calls mark
 
           so_far_since : (mark : Mark) → IsMadeSoFar old.board.plan old.sync.capacities (round_at (mark_of old) old.log.taken sim.effects stops.since mark)
           so_far_since mark =
-              subst (λ l. IsMadeSoFar old.board.plan old.sync.capacities (round_from old sim l stops.since.calls mark)) sent_is
+              subst (λ l. IsMadeSoFar old.board.plan old.sync.capacities (round_from (mark_of old) old sim l stops.since.calls mark)) sent_is
               (so_far_plain r (settles_as_ever begun.within.session mid sim new sim' r (same ∙ at) (e begun.within.session begun.within.stands)) mark)
 
         -- by how it began
@@ -466,11 +473,39 @@ module _ (round : Round) (old : CoreState) (sim : ChipState) (replay : Replayed)
         so_far_by : (mark : Mark) → IsMadeSoFar old.board.plan old.sync.capacities (round_at (mark_of old) old.log.taken sim.effects stops.since mark)
         so_far_by mark = by_start (λ none same at. so_far_since none same at mark)
 
+      -- where an apply ended last, it restarted, or follows a fault
+      module _ (r : Result Settled OutOfMemory) (e : SettlesSo r) (stops : StopsRound round old sim new sim') (earlier : List Mark) (ended : Mark) (behind : stops.since.marks ≡ earlier ++ ended ∷ []) (end : ended.event ≡ event.ApplyEnded) where
+        module _ (x : IsInRound 1 (mark_of old) old sim all_sent mid) where
+          ends_same : mid.log.ends ≡ old.log.ends
+          ends_same = ap (λ (h : History). h.ends) x.log
+
+          none_marked : new.log ≡ mid.log → ⊥
+          none_marked same = marked-more old sim stops.since new sim' stops.come earlier ended behind (ap (λ (h : History). h.marks) (same ∙ x.log))
+
+          unbegun : (a : Result Settled OutOfMemory) → Settles x.within.session mid sim a new sim' → ⊥
+          unbegun (Ok settled.Settled) h = unended old sim stops.since new sim' stops.come mid.log.ends _ (ap (λ (l : History). l.ends) (its-log mid new sim sim' x.within h.settles)) ends_same
+          unbegun (Ok settled.Faulted) h = unended old sim stops.since new sim' stops.come mid.log.ends _ (ap (λ (l : History). l.ends) h.0.marks.log) ends_same
+          unbegun (Ok settled.LogFull) (inl h) = none_marked h.log
+          unbegun (Ok settled.LogFull) (inr h) = none_marked h.log
+          unbegun (Err wanting) h = none_marked h.log
+
+        behind_by : IsTurnedSince old sim stops.since
+        behind_by =
+            by_warm
+            (λ none same at.
+            let x = alike none same at in
+            absurd (unbegun x r (settles_as_ever x.within.session mid sim new sim' r (same ∙ at) (e x.within.session x.within.stands))))
+            (λ some out. from-since round old sim since_all mid sim come_all sent_all restarted_all new sim' refl some out stops earlier ended behind end r (e come_all.within.session come_all.within.stands))
+
       pub run-turned : (r : Result Settled OutOfMemory) → SettlesSo r → (stops : StopsRound round old sim new sim') → IsSinceTurned old.board.plan old.sync.capacities (mark_of old) old.log.taken sim.effects stops.since
-      run-turned r e stops = record { so_far = λ empty settled mark. so_far_by r e stops empty settled mark; quiet = λ empty settled mark. quiet_by r e stops empty settled mark }
+      run-turned r e stops = record {
+        so_far = λ empty settled mark. so_far_by r e stops empty settled mark;
+        quiet = λ empty settled mark. quiet_by r e stops empty settled mark;
+        behind = λ earlier ended behind end. behind_by r e stops earlier ended behind end;
+      }
 
       -- steps of the service led there
-      pub more-all : (r : Result Settled OutOfMemory) → SettlesSo r → MakesMore mid in-all.session new sim'
+      pub more-all : (r : Result Settled OutOfMemory) → SettlesSo r → MakesMore 0 mid in-all.session new sim'
       more-all r e = settle_serves in-all.session mid sim r new sim' (e in-all.session in-all.stands)
 
 -- ---- what is written

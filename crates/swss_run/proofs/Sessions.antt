@@ -42,7 +42,7 @@ use Rattle.swss_run.specs.declared.status.Status.TheVariants as status
 use Rattle.swss_run.proofs.Pieces.{Takes-trans}
 use Rattle.restart_laws.proofs.BrokenOff.{steady-breaks}
 use Rattle.swss_run.proofs.OnWay.{same-trans}
-use Rattle.swss_run.proofs.Over.{IsEndedAs}
+use Rattle.swss_run.proofs.Over.{empty-last, IsEndedAs}
 use Rattle.swss_run.proofs.Rounds.{at_marks-more, calls-more, drained-more, ends-more, ends-rise, marks-more, report-more, restarted-more, restarted-none, restarted-since, sent-more, suspect-rounds, suspect_then, taken-more, taken-since, turned-more}
 
 -- ---- what the sink took
@@ -138,7 +138,7 @@ pub record IsRunning (rounds done : List Round) (first : CoreState) (held0 : Opt
 
 -- behind the last round there is no call
 turned_none : (plan : Ports) (capacities : List ℕ) (before : Option Mark) (taken : List Sent) (effects : List (Call Rid)) → IsSinceTurned plan capacities before taken effects nothing_ran
-turned_none plan capacities before taken effects = record { so_far = λ none settled mark. inl refl; quiet = λ none settled mark k row e at other stood call called changes. called }
+turned_none plan capacities before taken effects = record { so_far = λ none settled mark. inl refl; quiet = λ none settled mark k row e at other stood call called changes. called; behind = λ earlier ended is end. absurd (empty-last earlier ended is) }
 
 none_taken : (rounds : List Round) → AreTaken [] rounds []
 none_taken [] = refl
@@ -155,8 +155,8 @@ replay-none effects r is = subst (λ x. IsReplayOf x effects) (sym is) (IsReplay
 pub running-none : (rounds : List Round) (first : CoreState) (sim : ChipState) (held : Option (List ℕ)) (replay : Replayed) → first ≡ new_core first.board.plan first.sync.capacities log_limit → sim ≡ new_chip first.sync.capacities sim.fails → IsPlan first.board.plan → IsReplayOf replay sim.effects → replay.at ≡ 0 → IsRunning rounds [] first held first sim replay held
 running-none rounds first sim held replay new chip plan follows at = record {
   ready = record {
-    ready = subst (λ c. IsReadyForRound c sim) (sym new)
-        (ready-first first.board.plan first.sync.capacities log_limit sim plan (ap (λ (c : ChipState). c.objects) chip) (ap (λ (c : ChipState). c.effects) chip) (ap (λ (c : ChipState). c.clean) chip) (ap (λ (c : ChipState). c.capacities) chip));
+    ready = subst (λ c. IsReadyForRound 1 c sim) (sym new)
+        (ready-first 1 first.board.plan first.sync.capacities log_limit sim plan (ap (λ (c : ChipState). c.objects) chip) (ap (λ (c : ChipState). c.effects) chip) (ap (λ (c : ChipState). c.clean) chip) (ap (λ (c : ChipState). c.capacities) chip));
     follows = follows;
     at_end = at ∙ sym (ap (λ (c : ChipState). length c.effects) chip);
     places = subst (λ (c : CoreState). log_size c.log (length sim.effects) ≤ c.limit) (sym new) (subst (λ n. n ≤ log_limit) (sym (ap (λ (c : ChipState). log_size no_history (length c.effects)) chip)) (omega arith));
@@ -192,12 +192,12 @@ ended-none first sim new = inl (refl, ap (λ (s : CoreState). is_suspect s.log.m
 
 -- a session, from a core and a chip within one of the service
 session-from : (rounds : List Round) (ended : Status) (first core : CoreState) (chip : ChipState) (held held' : Option (List ℕ)) (rans : List Ran) (since : Ran)
-    → (within : InSession core chip) → KeepsPlan first core → log_size core.log (length chip.effects) ≤ log_limit → FaultsRise 0 core.log.marks chip.faults → IsCutInRounds core.log chip.effects rans since → AreTaken rans rounds since.sent → AreRestarted false rans rounds since.marks → AreTurned first.board.plan first.sync.capacities None [] [] rans → IsSinceTurned first.board.plan first.sync.capacities (last_mark None (all_marks rans)) (all_sent rans) (all_calls rans) since → AreDrained first.board.plan first.sync.capacities [] rans
+    → (within : InSession 1 core chip) → KeepsPlan first core → log_size core.log (length chip.effects) ≤ log_limit → FaultsRise 0 core.log.marks chip.faults → IsCutInRounds core.log chip.effects rans since → AreTaken rans rounds since.sent → AreRestarted false rans rounds since.marks → AreTurned first.board.plan first.sync.capacities None [] [] rans → IsSinceTurned first.board.plan first.sync.capacities (last_mark None (all_marks rans)) (all_sent rans) (all_calls rans) since → AreDrained first.board.plan first.sync.capacities [] rans
     → IsReported ended first.board.plan first.sync.capacities rounds rans since core.log chip within.session held held'
     → IsSession first.board.plan first.sync.capacities rounds ended core.log chip held held'
 session-from rounds ended first core chip held held' rans since within same places faults cut writes restarts turned since_turned drained reported = record {
   run = within.session;
-  recorded = as_first (λ p c. HasRecorded p c core.log chip.effects within.session) (session-recorded core chip within);
+  recorded = as_first (λ p c. HasRecorded 1 p c core.log chip.effects within.session) (session-recorded core chip within);
   room = within.stands.always.capacities ∙ same.capacities;
   clean = within.stands.always.clean;
   objects = objects-left core chip within;

@@ -20,7 +20,7 @@ use Rattle.switch_model.specs.Room.{HasRoomForView}
 use Rattle.switch_model.specs.Sound.{is_suspect}
 use Rattle.switch_model.specs.declared.mark.MarkEvent.TheVariants as event
 use Rattle.switch_machine.specs.Next.{MustWait}
-use Rattle.machine_laws.specs.Order.{AreMarksInOrder}
+use Rattle.machine_laws.specs.Order.{AreMarksInOrder, MayEndRound}
 use Rattle.producer_table.specs.Pending.{ArePendingInOrder}
 use Rattle.restart_laws.specs.Logged.{LoggedService, last_mark}
 use Rattle.restart_laws.specs.Restored.{IsPass, IsRestored}
@@ -34,8 +34,11 @@ use Rattle.syncd_core.specs.Run.{tied_calls}
 use Rattle.session_laws.specs.Service.Built.{IsBuilt}
 use Rattle.session_laws.specs.Service.Events.{MakesMore}
 use Rattle.session_laws.specs.Service.Standing.{IsApplyingCore, written_of}
+use Rattle.session_laws.proofs.ByFirst.{by_any}
+use Rattle.session_laws.proofs.Service.ByFirst.{core-away}
 use Rattle.session_laws.proofs.Service.Joining.{one-more}
 use Rattle.session_laws.proofs.Service.Popped.{none-waits, popped-all}
+use Rattle.session_laws.proofs.Service.States.{suspect-reconciled}
 use Rattle.round_laws.specs.Awaited.{AwaitsCall}
 use Rattle.round_laws.specs.Named.{keys_named}
 use Rattle.round_laws.proofs.Awaited.{apply-awaited, call-awaited, keys-awaited, ops-few}
@@ -62,8 +65,10 @@ use Rattle.swss_run.proofs.Counting.{HasRestarted, restart-last, restarts-stoppe
 use Rattle.swss_run.proofs.Faulting.{LeavesFault, beside-two, beside-way}
 use Rattle.swss_run.proofs.OnWay.{come-stays, come-steps, since_steps}
 use Rattle.swss_run.proofs.Draining.{drains-behind}
-use Rattle.swss_run.proofs.Over.{IsCutSo, IsOver, drained_by, over-failed, over-settled, turned_none}
+use Rattle.swss_run.proofs.Over.{IsCutSo, IsOver, drained_by, over-failed, over-settled, turned_behind}
 use Rattle.orch_core.proofs.Chips.{effects_asked}
+use Rattle.swss_run.proofs.Behind.{IsBehind, ends-behind, log-behind, same-last, turned-behind}
+use Rattle.switch_model.specs.declared.mark.Mark.{Mark}
 
 -- a round that stopped with a full log
 abbrev pub IsFullStop : Round → CoreState → ChipState → CoreState → ChipState → Type 0
@@ -148,8 +153,8 @@ module _ (round : Round) (old : CoreState) (sim : ChipState) (since : Ran) (c : 
     restored = record {
       written = written_of first;
       keys = built.keys;
-      popped = popped-all first come.within.session.service.core.written full.stands.always.ahead full.popped;
-      none = none-waits first come.within.session.service.core.written full.stands.always.ahead full.popped;
+      popped = popped-all first come.within.session.service.core.written full.stands.always.ahead full.popped.waiting;
+      none = none-waits first come.within.session.service.core.written full.stands.always.ahead full.popped.waiting;
       all = built.all;
       rising = built.rising;
       waits = built.waits;
@@ -238,9 +243,10 @@ module _ (round : Round) (old : CoreState) (sim : ChipState) (since : Ran) (c : 
 
   pub fault-way : ((calls : List (Call Rid)) → IsCutSo old sim since calls) → (restarts_due c.warm ≡ 0) × FaultsOnWay (places_on_way c.warm) true come.within.session c cchip new sim' → ArePendingInOrder new.tables.waiting → IsOver round old sim status.ChipFault new sim'
   fault-way so (none, f) order =
-      let more = one-more c new sim' come.within.session f.makes in
+      let stays = core-away c new cchip sim' come.within.session f.makes.later come.within.stands f.makes.stands (λ h. suspect-reconciled (sym f.warm ∙ h)) in
+      let more = one-more 0 c new sim' come.within.session f.makes (by_any 0 come.within.session f.makes.later stays) in
       let grown = effects-grow c new cchip sim' come.within more in
-      over-failed round old sim since c cchip come all restarted none new sim' (left_way f) grown.0 grown.1 (one-on c new cchip sim' come.within f.makes).0
+      over-failed round old sim since c cchip come all restarted none new sim' (left_way f) grown.0 grown.1 (one-on c new cchip sim' come.within f.makes (stays 1)).0
       (record { plan = f.makes.plan; capacities = f.makes.capacities; limit = f.makes.limit }) (so grown.0) refl f.warm order
 
   -- ---- a settling of a core that is reconciled
@@ -249,8 +255,8 @@ module _ (round : Round) (old : CoreState) (sim : ChipState) (since : Ran) (c : 
     none_due : restarts_due c.warm ≡ 0
     none_due = ap restarts_due at
 
-    more_of : (r : Result Settled OutOfMemory) → Settles come.within.session c cchip r new sim' → MakesMore c come.within.session new sim'
-    more_of r e = settling_serves come.within.session c cchip come.within.stands r new sim' e
+    more_of : (r : Result Settled OutOfMemory) → Settles come.within.session c cchip r new sim' → MakesMore 0 c come.within.session new sim'
+    more_of r e = settling_serves 0 come.within.session c cchip come.within.stands r new sim' e
 
     same_of : (r : Result Settled OutOfMemory) → Settles come.within.session c cchip r new sim' → KeepsPlan c new
     same_of r e = let more = more_of r e in record { plan = more.plan; capacities = more.capacities; limit = more.limit }
@@ -265,20 +271,20 @@ module _ (round : Round) (old : CoreState) (sim : ChipState) (since : Ran) (c : 
     settled-faulted so e order =
         let more = more_of (Ok settled.Faulted) e in
         let grown = effects-grow c new cchip sim' come.within more in
-        over-failed round old sim since c cchip come all restarted none_due new sim' (left_faulted e.0) grown.0 grown.1 (some-on c new cchip sim' come.within more).0 (same_of (Ok settled.Faulted) e) (so grown.0 grown.1) refl e.0.marks.warm order
+        over-failed round old sim since c cchip come all restarted none_due new sim' (left_faulted e.0) grown.0 grown.1 (some-on c new cchip sim' come.within (omega arith) more).0 (same_of (Ok settled.Faulted) e) (so grown.0 grown.1) refl e.0.marks.warm order
 
-    -- it ended at its mark, behind a restart
-    pub settled-behind : 1 ≤ restarts_marked since.marks → ((v : ℕ) → v < 4 → flown_at c.board v ≡ None) → ((k : Key) (row : Row) → row_at c.board.applied k ≡ Some row → good_rows_at c.board.plan c.log.taken (length c.log.taken) k ≡ Some row) → SettlesWhole come.within.session c cchip new sim' → IsOver round old sim status.Done new sim'
-    settled-behind some free rows e =
-        let more = more_of (Ok settled.Settled) e in
-        let grown = effects-grow c new cchip sim' come.within more in
-        let between = settled-between c new cchip sim' come.within e.settles in
-        let mark = its-mark c new cchip sim' come.within e.settles in
-        let log = its-log c new cchip sim' come.within e.settles in
+    -- it ended at its mark, behind a restart and its apply
+    pub settled-behind : IsBehind old sim since c cchip come → 1 ≤ restarts_marked since.marks → ((v : ℕ) → v < 4 → flown_at c.board v ≡ None) → ((k : Key) (row : Row) → row_at c.board.applied k ≡ Some row → good_rows_at c.board.plan c.log.taken (length c.log.taken) k ≡ Some row) → SettlesWhole come.within.session c cchip new sim' → IsOver round old sim status.Done new sim'
+    settled-behind x some free rows e =
+        let y = ends-behind old sim since c cchip come x new sim' e.settles in
+        let log = log-behind old sim since c cchip come x new sim' y in
+        let its : y.mark ≡ its-mark c new cchip sim' come.within e.settles = (same-last c.log.marks c.log.marks y.mark (its-mark c new cchip sim' come.within e.settles) (ap (λ (h : History). h.marks) (sym log ∙ its-log c new cchip sim' come.within e.settles))).1 in
+        let is : y.mark.event ≡ event.Settled e.settles.settling.waits e.settles.settling.turns = ap (λ (m : Mark). m.event) its in
+        let may : MayEndRound y.mark.event = subst MayEndRound (sym is) tt in
         let same = same_of (Ok settled.Settled) e in
-        over-settled round old sim since c cchip come all restarted none_due new sim' mark tt log grown.0 grown.1 between.within same e.settles.settling.waits e.settles.settling.turns refl between e.places e.keeps
-        (turned_none round old sim since c cchip come all restarted none_due new sim' mark tt log grown.0 grown.1 between.within same some)
-        (drained_by round old sim since c cchip come all restarted none_due new sim' mark tt log grown.0 grown.1 between.within same e.settles.settling.waits e.settles.settling.turns refl
+        over-settled round old sim since c cchip come all restarted none_due new sim' y.mark may log y.calls y.effects y.later.resting.within same e.settles.settling.waits e.settles.settling.turns is y.later e.places e.keeps
+        (turned_behind round old sim since c cchip come all restarted none_due new sim' y.mark may log y.calls y.effects y.later.resting.within same some e.settles.settling.waits e.settles.settling.turns is (turned-behind old sim since c cchip come x new sim' y))
+        (drained_by round old sim since c cchip come all restarted none_due new sim' y.mark may log y.calls y.effects y.later.resting.within same e.settles.settling.waits e.settles.settling.turns is
         (drains_old (λ closed room. drains-behind c new cchip sim' come.within at e.settles free rows closed room)))
       where
         drains_old : LeavesNone e.settles.settling.waits e.settles.settling.turns c.board.plan c.sync.capacities c.log.taken → LeavesNone e.settles.settling.waits e.settles.settling.turns old.board.plan old.sync.capacities (old.log.taken ++ since.sent)
@@ -288,7 +294,7 @@ module _ (round : Round) (old : CoreState) (sim : ChipState) (since : Ran) (c : 
     full-call : StopsFull (SettlesSoFar c.board.plan c.sync.capacities) come.within.session c cchip new sim' → IsFullStop round old sim new sim'
     full-call e =
         let more = more_of (Ok settled.LogFull) (inl e) in
-        let within = (some-on c new cchip sim' come.within more).0 in
+        let within = (some-on c new cchip sim' come.within (omega arith) more).0 in
         let then = come-steps old sim since c cchip come new sim' e.keeps more within e.log in
         let now = since_steps old sim since c cchip come new sim' e.keeps (effects-grow c new cchip sim' come.within more).0 in
         let size = sized new sim' within in
@@ -301,7 +307,7 @@ module _ (round : Round) (old : CoreState) (sim : ChipState) (since : Ran) (c : 
     full-mark : StopsAtMark (SettlesSoFar c.board.plan c.sync.capacities) come.within.session c cchip new sim' → IsFullStop round old sim new sim'
     full-mark e =
         let more = more_of (Ok settled.LogFull) (inr e) in
-        let there = leads-on c new cchip sim' come.within (ap (λ (h : History). h.taken) e.log) (inl e.at_rest.warm) e.later e.leads in
+        let there = leads-on c new cchip sim' come.within (ap (λ (h : History). h.taken) e.log) (inl e.at_rest.warm) (omega arith) e.later e.leads in
         let within = there.0 in
         let then = come-steps old sim since c cchip come new sim' e.keeps more within e.log in
         let now = since_steps old sim since c cchip come new sim' e.keeps (effects-grow c new cchip sim' come.within more).0 in
@@ -322,6 +328,6 @@ module _ (round : Round) (old : CoreState) (sim : ChipState) (since : Ran) (c : 
     pub settled-short : (o : OutOfMemory) → Settles come.within.session c cchip (Err o) new sim' → StopsRound round old sim new sim'
     settled-short o e =
         let more = more_of (Err o) e in
-        let within = (some-on c new cchip sim' come.within more).0 in
+        let within = (some-on c new cchip sim' come.within (omega arith) more).0 in
         let now = since_steps old sim since c cchip come new sim' e.keeps (effects-grow c new cchip sim' come.within more).0 in
         stops_here round old sim now new sim' (come-steps old sim since c cchip come new sim' e.keeps more within e.log) all c.warm restarted

@@ -23,13 +23,15 @@ use Rattle.warm_state.specs.declared.warm.Warm.TheVariants as warm
 use Rattle.session_laws.specs.Core.{CoreState, mark_at, with_taken}
 use Rattle.session_laws.specs.Service.Events.{restarted}
 use Rattle.session_laws.specs.Service.Standing.{IsAhead, written_of}
+use Rattle.session_laws.proofs.Service.ByFirst.{board-stays, core-away}
 use Rattle.session_laws.proofs.Service.Restarting.{restart-next}
+use Rattle.session_laws.proofs.Service.States.{initialized-reconciled}
 use Rattle.session_laws.proofs.Service.Taking.{taken-next}
 use Rattle.round_laws.specs.Between.{IsInRound}
 use Rattle.round_laws.specs.Sessions.{InSession}
 use Rattle.round_laws.proofs.Between.{round-takes}
 use Rattle.round_laws.proofs.Sessions.{one-on}
-use Rattle.orch_core.specs.ComingBack.{AreOnWay, CountAll, CountsSo, restarts_marked}
+use Rattle.orch_core.specs.ComingBack.{AreOnWay, CountAll, CountsSo, restarts_at, restarts_marked}
 use Rattle.orch_core.proofs.Coming.{restarts_both, way_both}
 use Rattle.swss_run.specs.Running.{KeepsPlan}
 use Rattle.swss_run.specs.Taking.{restarts_made, writes_among, with_made}
@@ -40,12 +42,12 @@ use Rattle.swss_run.specs.Rounds.{AreFenced, IsFenced}
 
 -- ---- a round without a restart
 
-pub in-round : (effects : ℕ) (old : CoreState) (chip : ChipState) (done : List Sent) (made : List (Option Sent)) (c : CoreState) → IsInRound old chip done c → restarts_made made ≡ 0 → AreOnSwitch (writes_among made) → IsInRound old chip (done ++ writes_among made) (with_made effects c made)
-in-round effects old chip done [] c x none on = subst (λ l. IsInRound old chip l c) (sym (append-nil done)) x
-in-round effects old chip done (Some s ∷ made) c x none on =
-    subst (λ l. IsInRound old chip l (with_made effects (with_taken c s) made)) (append_assoc done (s ∷ []) (writes_among made))
-    (in-round effects old chip (done ++ s ∷ []) made (with_taken c s) (round-takes old c chip done s x on.0) none on.1)
-in-round effects old chip done (None ∷ made) c x none on = absurd (some none)
+pub in-round : (effects : ℕ) (since : Option Mark) (old : CoreState) (chip : ChipState) (done : List Sent) (made : List (Option Sent)) (c : CoreState) → IsInRound 1 since old chip done c → restarts_made made ≡ 0 → AreOnSwitch (writes_among made) → IsInRound 1 since old chip (done ++ writes_among made) (with_made effects c made)
+in-round effects since old chip done [] c x none on = subst (λ l. IsInRound 1 since old chip l c) (sym (append-nil done)) x
+in-round effects since old chip done (Some s ∷ made) c x none on =
+    subst (λ l. IsInRound 1 since old chip l (with_made effects (with_taken c s) made)) (append_assoc done (s ∷ []) (writes_among made))
+    (in-round effects since old chip (done ++ s ∷ []) made (with_taken c s) (round-takes since old c chip done s x on.0) none on.1)
+in-round effects since old chip done (None ∷ made) c x none on = absurd (some none)
   where
     some : 1 + restarts_made made ≡ 0 → ⊥
     some h = omega (arith, h)
@@ -70,19 +72,40 @@ counted-fenced from more calls (m ∷ ms) h = (by m.event h.0, counted-fenced fr
 
 -- ---- any round
 
+-- each of these marks is that of a restart
+abbrev pub AreRestarts : List Mark → Type 0
+AreRestarts [] = Unit {0}
+AreRestarts (mark ∷ marks) = (restarts_at mark.event ≡ 1) × AreRestarts marks
+
+restarts_with : (marks : List Mark) (mark : Mark) → AreRestarts marks → restarts_at mark.event ≡ 1 → AreRestarts (marks ++ mark ∷ [])
+restarts_with [] mark h one = (one, tt)
+restarts_with (m ∷ marks) mark h one = (h.0, restarts_with marks mark h.1 one)
+
+last_restart : (earlier : List Mark) (ended : Mark) → AreRestarts (earlier ++ ended ∷ []) → restarts_at ended.event ≡ 1
+last_restart [] ended h = h.0
+last_restart (m ∷ earlier) ended h = last_restart earlier ended h.1
+
+-- none of them is that of the end of an apply
+pub unended-restarts : (marks earlier : List Mark) (ended : Mark) → AreRestarts marks → marks ≡ earlier ++ ended ∷ [] → ended.event ≡ event.ApplyEnded → ⊥
+unended-restarts marks earlier ended h is end =
+    let one = last_restart earlier ended (subst AreRestarts is h) in
+    let none : restarts_at ended.event ≡ 0 = ap restarts_at end in
+    omega (arith, one, none)
+
 -- in a round that began with the old core these writes were taken, and so many restarts were made, and nothing else was done; without a restart the warm state is the same, and behind one the core is initialized
 pub record HasMade (old : CoreState) (chip : ChipState) (sent : List Sent) (restarts : ℕ) (c : CoreState) : Type 0 where
-  pub within : InSession c chip
+  pub within : InSession 1 c chip
   pub order : ArePendingInOrder c.tables.waiting
   pub added : List Mark
   pub log : c.log ≡ record { taken = old.log.taken ++ sent; marks = old.log.marks ++ added; ends = old.log.ends }
   pub way : AreOnWay added
   pub fenced : (to : ℕ) → length old.log.taken + length sent ≤ to → AreFenced (length old.log.taken) to (length chip.effects) added
   pub count : restarts_marked added ≡ restarts
+  pub alone : AreRestarts added
   pub same : KeepsPlan old c
   pub warm : ((restarts ≡ 0) × (c.warm ≡ old.warm)) ⊎ ((1 ≤ restarts) × (c.warm ≡ warm.Initialized))
 
-pub made-none : (old : CoreState) (chip : ChipState) → InSession old chip → ArePendingInOrder old.tables.waiting → HasMade old chip [] 0 old
+pub made-none : (old : CoreState) (chip : ChipState) → InSession 1 old chip → ArePendingInOrder old.tables.waiting → HasMade old chip [] 0 old
 made-none old chip within order = record {
   within = within;
   order = order;
@@ -91,6 +114,7 @@ made-none old chip within order = record {
   way = tt;
   fenced = λ to least. tt;
   count = refl;
+  alone = tt;
   same = record { plan = refl; capacities = refl; limit = refl };
   warm = inl (refl, refl);
 }
@@ -98,13 +122,16 @@ made-none old chip within order = record {
 module _ (old : CoreState) (chip : ChipState) where
   made-write : (sent : List Sent) (restarts : ℕ) (c : CoreState) (s : Sent) → HasMade old chip sent restarts c → IsOnSwitch (written_key s.write) → HasMade old chip (sent ++ s ∷ []) restarts (with_taken c s)
   made-write sent restarts c s x on = record {
-    within = (one-on c (with_taken c s) chip chip x.within (taken-next c chip x.within.session s x.within.stands on x.order)).0;
+    within =
+        let y = taken-next c chip x.within.session s x.within.stands on x.order in
+        (one-on c (with_taken c s) chip chip x.within y (board-stays c (with_taken c s) chip chip x.within.session y.later x.within.stands y.stands refl refl 1)).0;
     order = AreInOrder-after c.tables.waiting s.write x.order;
     added = x.added;
     log = ap (λ h. with_write h s) x.log ∙ ap (λ ts. record { taken = ts; marks = old.log.marks ++ x.added; ends = old.log.ends }) (append_assoc old.log.taken sent (s ∷ []));
     way = x.way;
     fenced = λ to least. x.fenced to (let longer = length-append sent (s ∷ []) in omega (arith, least, longer));
     count = x.count;
+    alone = x.alone;
     same = record { plan = x.same.plan; capacities = x.same.capacities; limit = x.same.limit };
     warm = x.warm;
   }
@@ -113,7 +140,9 @@ module _ (old : CoreState) (chip : ChipState) where
   made-restart sent restarts c x =
       let mark = mark_at c (length chip.effects) event.Restarted in
       record {
-        within = (one-on c (restarted c (length chip.effects)) chip chip x.within (restart-next c chip x.within.session x.within.stands)).0;
+        within =
+            let y = restart-next c chip x.within.session x.within.stands in
+            (one-on c (restarted c (length chip.effects)) chip chip x.within y (core-away c (restarted c (length chip.effects)) chip chip x.within.session y.later x.within.stands y.stands initialized-reconciled 1)).0;
         order = x.order;
         added = x.added ++ mark ∷ [];
         log = ap (λ h. with_mark h mark) x.log ∙ ap (λ ms. record { taken = old.log.taken ++ sent; marks = ms; ends = old.log.ends }) (append_assoc old.log.marks x.added (mark ∷ []));
@@ -122,6 +151,7 @@ module _ (old : CoreState) (chip : ChipState) where
             let taken : length c.log.taken ≡ length old.log.taken + length sent = ap (λ (h : History). length h.taken) x.log ∙ length-append old.log.taken sent in
             fenced-both (length old.log.taken) to (length chip.effects) x.added (mark ∷ []) (x.fenced to least) ((omega (arith, taken), omega (arith, taken, least), refl), tt);
         count = let both = restarts_both x.added (mark ∷ []) in let count = x.count in omega (arith, both, count);
+        alone = restarts_with x.added mark x.alone refl;
         same = record { plan = x.same.plan; capacities = x.same.capacities; limit = x.same.limit };
         warm = inr (omega arith, refl);
       }
@@ -138,7 +168,7 @@ module _ (old : CoreState) (chip : ChipState) where
 -- ---- the rows
 
 -- where no write waits the rows are the fold of the writes taken
-pub rows-told : (c : CoreState) (chip : ChipState) → InSession c chip → c.tables.waiting ≡ [] → HasRisingRows c.tables.rows → c.tables.rows ≡ rows_of (sent_writes c.log.taken)
+pub rows-told : (c : CoreState) (chip : ChipState) → InSession 1 c chip → c.tables.waiting ≡ [] → HasRisingRows c.tables.rows → c.tables.rows ≡ rows_of (sent_writes c.log.taken)
 rows-told c chip x none rising =
     same_entries key_cmp key_total key_exact c.tables.rows (rows_of (sent_writes c.log.taken)) rising (HasRisingRows-rows_of (sent_writes c.log.taken))
     (λ k. sym (told k ∙ ap (λ w. row_with_pending (fields_at c.tables.rows k) (pending_at w k)) none))
@@ -153,7 +183,7 @@ rows-told c chip x none rising =
     told k = ap (λ ws. fields_at (rows_of ws) k) ahead.taken ∙ x.stands.always.holds.safe.told k ∙ sym (ahead.whole k)
 
 -- the rows that are shown
-pub rows-shown : (c : CoreState) (chip : ChipState) (behind : Bool) (rows : Rows) → InSession c chip → AreRowsTaken c behind rows → HasRisingRows c.tables.rows → (if behind then rows else c.tables.rows) ≡ rows_of (sent_writes c.log.taken)
+pub rows-shown : (c : CoreState) (chip : ChipState) (behind : Bool) (rows : Rows) → InSession 1 c chip → AreRowsTaken c behind rows → HasRisingRows c.tables.rows → (if behind then rows else c.tables.rows) ≡ rows_of (sent_writes c.log.taken)
 rows-shown c chip false rows x taken rising = rows-told c chip x taken rising
 rows-shown c chip true rows x taken rising = taken
 

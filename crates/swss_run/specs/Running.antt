@@ -33,7 +33,7 @@ use Rattle.swss_run.specs.declared.status.Status.TheVariants as status
 
 -- a session between two rounds: the next may begin, the replay has followed the chip, the log is within its limit, and the faults that are marked are the chip's
 pub record IsRunReady (core : CoreState) (sim : ChipState) (replay : Replayed) : Type 0 where
-  pub ready : IsReadyForRound core sim
+  pub ready : IsReadyForRound 1 core sim
   pub follows : IsReplayOf replay sim.effects
   pub at_end : replay.at ≡ length sim.effects
   pub places : log_size core.log (length sim.effects) ≤ core.limit
@@ -65,7 +65,7 @@ pub record EndsRound (round : Round) (old : CoreState) (sim : ChipState) (ran : 
   pub calls : sim'.effects ≡ sim.effects ++ ran.calls
   pub turned : IsRoundTurned old.board.plan old.sync.capacities (mark_of old) old.log.taken sim.effects ran
   pub drained : DrainsBehind old.board.plan old.sync.capacities old.log.taken ran
-  pub within : InSession new sim'
+  pub within : InSession 1 new sim'
   pub same : KeepsPlan old new
   pub places : log_size new.log (length sim'.effects) ≤ new.limit
   pub fault_places : is_suspect new.log.marks ≡ true → log_size new.log sim'.before_fault + places_beside new.log.marks ≤ new.limit
@@ -77,7 +77,7 @@ pub record HasCome (old : CoreState) (chip : ChipState) (since : Ran) (new : Cor
   pub calls : chip'.effects ≡ chip.effects ++ since.calls
   pub way : AreOnWay since.marks
   pub fenced : AreFenced (length old.log.taken) (length old.log.taken + length since.sent) (length chip.effects) since.marks
-  pub within : InSession new chip'
+  pub within : InSession 1 new chip'
   pub same : KeepsPlan old new
   pub limit : IsWithinLimit new chip'
   pub faults : FaultsRise 0 new.log.marks chip'.faults

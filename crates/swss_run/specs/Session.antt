@@ -79,10 +79,10 @@ IsReported status.OutOfMemory plan capacities rounds rans since log chip run hel
     (told : List Ran) × (untold : List Ran) × (rans ≡ told ++ untold) × TookFront plan capacities told rounds held held'
 IsReported _ plan capacities rounds rans since log chip run held held' = ⊥
 
--- a session over rounds: the log and the effects are the record of one run of the service's machine, by at most four workers, from its beginning over an empty chip. Of all that was made: every chip call was legal; outside applies at most so many took effect as an operation makes for each write taken and each key listed where an apply began, and where none began, for each write; every mark is true, counts no fewer writes and calls than the mark before it and no more than there are, and stands where it may; each event found its places in the log; of each apply, what holds while it is made, and of applies that are broken off one after the other, what holds over them all; and each fault of the chip has its mark. Of the rounds: the writes taken are theirs in order and each once, the ends of rounds rise, they restarted as often as their sections say, or once more behind a fault; the calls of each round that neither follows a fault nor has one, and did not restart, are those of its turns, which leave quiet rows alone and drain where there is room, and so does each that restarted; the calls of one that a fault ended, or that did not end, are those of its turns so far, and the latter leave quiet rows alone too. And the sink took what the status says of the report
+-- a session over rounds: the log and the effects are the record of one run of the service's machine, by at most as many workers as the run has, which is one, from its beginning over an empty chip. Of all that was made: every chip call was legal; outside applies at most so many took effect as an operation makes for each write taken and each key listed where an apply began, and where none began, for each write; every mark is true, counts no fewer writes and calls than the mark before it and no more than there are, and stands where it may; each event found its places in the log; of each apply, what holds while it is made, and of applies that are broken off one after the other, what holds over them all; and each fault of the chip has its mark. Of the rounds: the writes taken are theirs in order and each once, the ends of rounds rise, they restarted as often as their sections say, or once more behind a fault; the calls of each round that ended with its settling are those of its turns, which leave quiet rows alone and drain where there is room: all of them, where it neither follows a fault nor restarted, and else those behind the end of its last apply; and where a fault cut it off there, or it did not end, they are those of its turns so far. And the sink took what the status says of the report
 pub record IsSession (plan : Ports) (capacities : List ℕ) (rounds : List Round) (ended : Status) (log : History) (chip : ChipState) (held held' : Option (List ℕ)) : Type 0 where
   pub run : LoggedService
-  pub recorded : HasRecorded plan capacities log chip.effects run
+  pub recorded : HasRecorded 1 plan capacities log chip.effects run
   pub room : chip.capacities ≡ capacities
   pub clean : chip.clean ≡ true
   pub objects : chip.objects ≡ chip_after chip.effects (length chip.effects)

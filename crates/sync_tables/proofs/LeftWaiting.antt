@@ -1,26 +1,10 @@
 -- which keys are left waiting after pops
-use Rattle.std.proofs.Common.{◌≡◌, ◌≤◌, ◌<◌, ◌+◌, ◌-◌, ℕ, List, [], ◌∷◌, drop, length, length-drop, drop-drop, arith, refl, sym, ap, ◌∙◌}
-use Rattle.std.proofs.lemmas.List.{drop_all}
+use Rattle.std.proofs.Common.{◌≡◌, ◌<◌, ◌-◌, ℕ, List, [], ◌∷◌, drop, length, length-drop, arith, refl, ap}
 use Rattle.producer_table.specs.Pending.{PendingKeys, pending_at, row_with_pending}
 use Rattle.switch_machine.specs.Written.{HasNoWrite, IsAsBefore}
 use Rattle.table_schema.specs.declared.key.Key.{Key}
 use Rattle.table_schema.specs.declared.write.Write.{Write}
-use Rattle.sync_tables.specs.Tables.{IsPoppedIn, Popped, PopsKeys, PopsSome, Stays, TablesState, TakesAtMost, written_in}
-
--- the first keys are taken off, and then more of them
-pub left-more : (old mid new : PendingKeys) (i n : ℕ) → mid ≡ drop i old → new ≡ drop n mid → new ≡ drop (i + n) old
-left-more old mid new i n first then = then ∙ ap (drop n) first ∙ drop-drop n i old
-
--- where none is left none is left after more pops
-pub left-none : (old mid new : PendingKeys) (i n : ℕ) → mid ≡ drop i old → mid ≡ [] → new ≡ drop 1 mid → i ≤ n → new ≡ drop n old
-left-none old mid new i n first none then within =
-    let gone : 0 ≡ length old - i = ap length (sym none ∙ first) ∙ length-drop i old in
-    let short : length old ≤ n = omega (arith, gone, within) in
-    then ∙ ap (drop 1) none ∙ sym (drop_all n old short)
-
--- the first keys are taken off, and then some more of them
-pub takes-more : (old mid new : PendingKeys) (i n most : ℕ) → i + n ≤ most → mid ≡ drop i old → TakesAtMost n mid new → TakesAtMost most old new
-takes-more old mid new i n most within first (m, few, then) = (i + m, omega (arith, within, few), left-more old mid new i m first then)
+use Rattle.sync_tables.specs.Tables.{IsPoppedIn, Popped, PopsKeys, PopsSome, Stays, TablesState, written_in}
 
 -- where one was popped some waited
 some-waits : (old new : TablesState) → PopsSome old new → old.waiting ≡ [] → ⊥

@@ -1,5 +1,5 @@
 -- which keys are to sync, by what is looked up
-use Rattle.std.proofs.Common.{◌≡◌, ◌⊎◌, inl, inr, Bool, true, false, ◌||◌, cond, List, [], ◌∷◌, ◌++◌, Option, Some, None, is_some, refl, sym, ap, ◌∙◌}
+use Rattle.std.proofs.Common.{◌≡◌, ◌⊎◌, inl, inr, Bool, true, false, ◌||◌, cond, List, [], ◌∷◌, ◌++◌, Option, Some, None, is_some, refl, sym, ap, subst, ◌∙◌}
 use Rattle.std.specs.BTreeMap.{is_at}
 use Rattle.std.specs.Map.{keys_of, lookup}
 use Rattle.std.proofs.lemmas.Bool.{false≢true, or_right}
@@ -10,15 +10,14 @@ use Rattle.table_schema.specs.Key.{key_cmp}
 use Rattle.table_schema.specs.declared.key.Key.{Key}
 use Rattle.table_schema.specs.declared.write.Write.{Write}
 use Rattle.table_schema.specs.declared.write.Write.TheVariants.{Set, Del}
-use Rattle.table_schema.proofs.Keys.{at_itself, key_total, tied_keys_same}
+use Rattle.table_schema.proofs.Keys.{at_itself, tied_keys_same}
 use Rattle.producer_table.specs.Pending.{is_write_of, op_of, set_of}
 use Rattle.producer_table.specs.declared.waiting.Pending.{Pending}
-use Rattle.producer_table.proofs.Found.{lookup-removed}
-use Rattle.consumer_table.specs.Ops.{Ops, AreOpsInOrder, op_at, op_with_set, ops_after, ops_after_all, ops_with, without_op}
+use Rattle.consumer_table.specs.Ops.{Ops, op_at, op_with_set, ops_after, ops_after_all, ops_with}
 use Rattle.consumer_table.specs.declared.op.Op.{Op}
 use Rattle.consumer_table.specs.declared.op.Op.TheVariants as op
 use Rattle.consumer_table.proofs.OpWrites.{op_at-after}
-use Rattle.sync_tables.specs.Tables.{IsAdded, Matters}
+use Rattle.sync_tables.specs.Tables.{IsAdded, IsKeptOrLaid, Matters}
 
 module _ {X : Type 0} where
   -- a key that is among the keys is found, and one that is found is among them
@@ -95,12 +94,7 @@ there_still q k old false at h = refl
 pub added-there : (old : Ops) (k : Key) (p : Pending) → Matters p → is_some (op_at old k) ≡ true → IsAdded old None (ops_with old (op_of (k, p)))
 added-there old k p h there = added-none old (ops_with old (op_of (k, p))) (λ q. found-with old k p q h ∙ there_still q k old (is_at (key_cmp q) k) refl there)
 
--- a key is added that was not there, and taken off again
-off_again : (q k : Key) (old : Ops) (now : Option Op) (b : Bool) → is_at (key_cmp q) k ≡ b → is_some (op_at old k) ≡ false → is_some now ≡ (b || is_some (op_at old q)) → is_some (cond b None now) ≡ is_some (op_at old q)
-off_again q k old now true at none found = sym (ap (λ x. is_some (op_at old x)) (tied_keys_same q k at) ∙ none)
-off_again q k old now false at none found = found
-
-pub added-off : (old : Ops) (k : Key) (p : Pending) → AreOpsInOrder (ops_with old (op_of (k, p))) → Matters p → is_some (op_at old k) ≡ false → IsAdded old None (without_op (ops_with old (op_of (k, p))) k)
-added-off old k p order h none =
-    let now = ops_with old (op_of (k, p)) in
-    added-none old (without_op now k) (λ q. ap is_some (lookup-removed key_cmp key_total now k q order.keys) ∙ off_again q k old (op_at now q) (is_at (key_cmp q) k) refl none (found-with old k p q h))
+-- so after want of memory no key is added
+pub added-kept : (old new : Ops) (e : Key × Pending) → Matters e.1 → IsKeptOrLaid old e new → IsAdded old None new
+added-kept old new e h (inl same) = subst (λ n. IsAdded old None n) (sym same) (added-none old old (λ q. refl))
+added-kept old new e h (inr laid) = subst (λ n. IsAdded old None n) (sym laid.1) (added-there old e.0 e.1 h (in-found e.0 old laid.0))

@@ -16,7 +16,9 @@ use Rattle.producer_table.specs.declared.waiting.Pending.{Pending}
 use Rattle.producer_table.proofs.Found.{lookup-above}
 use Rattle.switch_machine.specs.Events.{IsPop, PopsKey, SwitchState, Popped as KeyPopped, Stays as KeyStays}
 use Rattle.switch_machine.specs.Written.{HasNoWrite, IsAsBefore, IsPoppedKey, Written}
-use Rattle.sync_tables.specs.Tables.{AllMatter, IsPoppedIn, IsToSync, Matters, Popped, PopsFirst, PopsKeys, PopsNone, PopsSome, Stays, TablesState, written_in}
+use Rattle.sync_tables.proofs.Membership.{added, added-kept}
+use Rattle.sync_tables.proofs.Waits.{first-matters}
+use Rattle.sync_tables.specs.Tables.{AllMatter, IsAdded, IsPoppedIn, IsToSync, Matters, Popped, PopsFirst, PopsKeys, PopsNone, PopsSome, Stays, TablesState, written_in}
 
 -- what waits of a key changes some row
 by_fields : (d : Bool) (o : Option Pairs) → (d ≡ true) ⊎ (is_some o ≡ true) → ((row : Option Pairs) → row_with_fields (cond d None row) o ≡ row) → ⊥
@@ -55,24 +57,29 @@ module _ (old new : TablesState) (h : PopsFirst old new) (order : ArePendingInOr
         none = λ o. ap (row_with_pending o) gone;
       }
 
+  is_added : IsAdded old.ops (Some h.first.0) new.ops
+  is_added =
+      let is = subst AllMatter h.waiting all in
+      subst (λ n. IsAdded old.ops (Some h.first.0) n) (sym h.ops) (added old.ops h.first.0 h.first.1 is.0)
+
   others_stay : (k : Key) → is_at (key_cmp k) h.first.0 ≡ false → IsPoppedIn old new k
   others_stay k apart =
       let same : pending_at old.waiting k ≡ pending_at new.waiting k = ap (λ w. pending_at w k) h.waiting ∙ past-first h.first new.waiting k apart in
       let row : fields_at new.rows k ≡ fields_at old.rows k = h.rows k ∙ ap (λ b. cond b (row_with_pending (fields_at old.rows k) h.first.1) (fields_at old.rows k)) apart in
       Stays
       (λ taken. record { row = row; waiting = λ o. ap (row_with_pending o) (sym same) })
-      (λ i. elim ((h.added k).0 i) [ inl before ↦ before | inr is ↦ absurd (false≢true (sym apart ∙ at_itself k h.first.0 (same_Some k h.first.0 is))) ])
+      (λ i. elim ((is_added k).0 i) [ inl before ↦ before | inr is ↦ absurd (false≢true (sym apart ∙ at_itself k h.first.0 (same_Some k h.first.0 is))) ])
 
   -- the first key is popped: keys are popped
   pub PopsKeys-first : PopsKeys old new
   PopsKeys-first = record {
     keys = λ k.
         let popped : is_at (key_cmp k) h.first.0 ≡ true → IsPoppedIn old new k =
-        λ here. Popped (λ taken none. waited k taken here none) (λ taken. emptied k taken here) ((h.added k).1 (inr (ap Some (tied_keys_same k h.first.0 here)))) in
+        λ here. Popped (λ taken none. waited k taken here none) (λ taken. emptied k taken here) ((is_added k).1 (inr (ap Some (tied_keys_same k h.first.0 here)))) in
         let stays = others_stay k in
         let by : (b : Bool) → is_at (key_cmp k) h.first.0 ≡ b → IsPoppedIn old new k = λ b. elim b as (λ b. is_at (key_cmp k) h.first.0 ≡ b → IsPoppedIn old new k) [ true ↦ popped | false ↦ stays ] in
         by (is_at (key_cmp k) h.first.0) refl;
-    kept = λ k i. (h.added k).1 (inl i);
+    kept = λ k i. (is_added k).1 (inl i);
   }
 
   -- and one is
@@ -82,13 +89,15 @@ module _ (old new : TablesState) (h : PopsFirst old new) (order : ArePendingInOr
       (h.first.0, (λ taken none. waited h.first.0 taken here none), (λ taken. emptied h.first.0 taken here))
 
 -- nothing is popped
-pub PopsKeys-none : (old new : TablesState) → PopsNone old new → PopsKeys old new
-PopsKeys-none old new h = record {
-  keys = λ k. Stays
-      (λ taken. record { row = ap (λ r. fields_at r k) h.rows; waiting = λ o. ap (λ w. row_with_pending o (pending_at w k)) h.waiting })
-      (λ i. elim ((h.added k).0 i) [ inl before ↦ before | inr is ↦ absurd (none-some k (sym is)) ]);
-  kept = λ k i. (h.added k).1 (inl i);
-}
+pub PopsKeys-none : (old new : TablesState) → PopsNone old new → AllMatter old.waiting → PopsKeys old new
+PopsKeys-none old new h all =
+    let added = added-kept old.ops new.ops h.first (first-matters old.waiting h.first h.waits all) h.ops in
+    record {
+      keys = λ k. Stays
+          (λ taken. record { row = ap (λ r. fields_at r k) h.rows; waiting = λ o. ap (λ w. row_with_pending o (pending_at w k)) h.waiting })
+          (λ i. elim ((added k).0 i) [ inl before ↦ before | inr is ↦ absurd (none-some k (sym is)) ]);
+      kept = λ k i. (added k).1 (inl i);
+    }
 
 -- ---- pops one after the other
 

@@ -1,5 +1,5 @@
 // The tables beside the machine. Each function is a law: it does nothing, and its contract is proved.
-ghost use Rattle.std.specs.Prelude.{◌≡◌, ◌<◌, ◌++◌, ◌∷◌, [], List, Option, None, Some, length};
+ghost use Rattle.std.specs.Prelude.{◌≡◌, ◌<◌, ◌+◌, ◌++◌, ℕ, ◌∷◌, [], List, Option, None, Some, length};
 ghost use Rattle.std.specs.Map.{keys_of};
 ghost use Rattle.table_schema.specs.declared.key.Key.{Key};
 ghost use Rattle.table_schema.specs.declared.write.Write.{Write};
@@ -8,7 +8,7 @@ ghost use Rattle.producer_table.specs.Pending.{ArePendingInOrder};
 ghost use Rattle.consumer_table.specs.Ops.{Ops, AreOpsInOrder, first_in, keys_behind, without_op};
 ghost use Rattle.switch_machine.specs.Events.{HasLeft, IsPop, SwitchState, no_writes};
 ghost use Rattle.switch_machine.specs.Written.{HasNoWrite, IsAsBefore, IsPopped, IsTold, TakesWrite};
-ghost use Rattle.sync_tables.specs.Tables.{IsBehind, IsNextKey, PopsKeys, TablesState, no_tables, tables_with_write, written_in};
+ghost use Rattle.sync_tables.specs.Tables.{IsBehind, IsNextKey, PopsBatch, PopsInPart, PopsKeys, TablesState, no_tables, tables_with_write, written_in};
 
 /// A write that waits is a write taken.
 pub fn writes_are_taken()
@@ -30,6 +30,12 @@ pub fn no_tables_are_told()
 /// A pop is an event of the machine.
 pub fn pops_are_events()
     ensures { (old new : TablesState) (taken : List Write) (s t : SwitchState) → PopsKeys old new → s.written ≡ written_in taken old → s.to_sync ≡ keys_of old.ops → t ≡ record s { written = written_in taken new; to_sync = keys_of new.ops } → IsPop s t }
+{}
+
+/// A pop that was refused for want of memory and is made again comes to what it would have come to at once: what was added to
+/// an operation already is added twice, and that is as once.
+pub fn refused_pops_are_made_again()
+    ensures { (old mid new : TablesState) (most n : ℕ) → ArePendingInOrder old.waiting → (part : PopsInPart most old mid) → 0 < n → PopsBatch n mid new → PopsBatch (part.count + n) old new }
 {}
 
 /// A key of which a write waits still after a pop is as it was: its row, and what waits of it.

@@ -1,8 +1,9 @@
 // How what was popped of a key is merged into the rows, and the key comes to be one to sync.
-ghost use Rattle.std.specs.Prelude.{◌≡◌, IfOk, OnOk, OnErr, None, Some};
+ghost use Rattle.std.specs.Prelude.{◌≡◌, IfOk, OnOk, OnErr};
 ghost use Rattle.row_maps.specs.Entries.{lent_key};
 ghost use Rattle.producer_table.specs.Pending.{op_of};
-ghost use Rattle.sync_tables.specs.Tables.{IsAdded, IsMerged, Matters};
+ghost use Rattle.consumer_table.specs.Ops.{ops_with};
+ghost use Rattle.sync_tables.specs.Tables.{IsKeptOrLaid, IsMerged};
 
 use crate::read_rows::ReadRows;
 use consumer_table::ToSync;
@@ -19,31 +20,28 @@ pub(crate) fn take_first(
     key: KeyIn<'_>,
     pending: &Pending,
 ) -> Result<(), OutOfMemory>
-    requires matters { Matters pending.now }
     ensures merged { OnOk result (IsMerged rows.old (lent_key key.entry) pending.now rows.new) }
-    ensures added { OnOk result (IsAdded to_sync.old (Some (lent_key key.entry)) to_sync.new) }
+    ensures added { OnOk result (to_sync.new ≡ ops_with to_sync.old (op_of (lent_key key.entry, pending.now))) }
     ensures err { OnErr result (rows.new ≡ rows.old) }
-    ensures none { OnErr result (IsAdded to_sync.old None to_sync.new) }
+    ensures kept { OnErr result (IsKeptOrLaid to_sync.old (lent_key key.entry, pending.now) to_sync.new) }
 {
     take_in(rows, to_sync, key.key(), pending)
 }
 
-/// Takes in what waited of a key: it is merged into its row, and the key is to sync. After want of memory the rows are as they
-/// were, and so are the keys to sync.
+/// Takes in what waited of a key: it is merged into its row, and added to the key's operation. After want of memory the rows
+/// are as they were, and so are the operations, but that what waits may be added to one that was there.
 fn take_in(
     rows: &mut ReadRows,
     to_sync: &mut ToSync,
     key: &Key,
     pending: &Pending,
 ) -> Result<(), OutOfMemory>
-    requires matters { Matters pending.now }
     ensures merged { OnOk result (IsMerged rows.old key.now pending.now rows.new) }
-    ensures added { OnOk result (IsAdded to_sync.old (Some key.now) to_sync.new) }
+    ensures added { OnOk result (to_sync.new ≡ ops_with to_sync.old (op_of (key.now, pending.now))) }
     ensures err { OnErr result (rows.new ≡ rows.old) }
-    ensures none { OnErr result (IsAdded to_sync.old None to_sync.new) }
+    ensures kept { OnErr result (IsKeptOrLaid to_sync.old (key.now, pending.now) to_sync.new) }
 {
     let there = to_sync.put(op_of(key, pending)?)?;
-    let _order = to_sync.len();
     if let Err(error) = rows.merge(key, pending) {
         if !there {
             to_sync.done(key);

@@ -1,5 +1,5 @@
 // The tables.
-ghost use Rattle.std.specs.Prelude.{◌≡◌, ◌⊎◌, ◌↔◌, ◌<◌, ◌^◌, [], drop, length, Some, IsSome, IsTrue, IfOk, OnOk, OnErr, option_map};
+ghost use Rattle.std.specs.Prelude.{◌≡◌, ◌⊎◌, ◌↔◌, ◌<◌, ◌^◌, [], length, Some, IsSome, IsTrue, IfOk, OnOk, OnErr, option_map};
 ghost use Rattle.std.specs.Bool.{OnTrue, OnFalse};
 ghost use Rattle.std.specs.Map.{keys_of};
 ghost use Rattle.table_schema.specs.Rows.{fields_at};
@@ -9,7 +9,7 @@ ghost use Rattle.row_maps.specs.Entries.{lent_key};
 ghost use Rattle.switch_model.specs.Good.{good_row};
 ghost use Rattle.producer_table.specs.Pending.{ArePendingInOrder};
 ghost use Rattle.consumer_table.specs.Ops.{AreOpsInOrder, first_in, keys_behind, without_op};
-ghost use Rattle.sync_tables.specs.Tables.{IsToSync, PopsKeys, PopsSome, TakesAtMost, no_tables, tables_with_write};
+ghost use Rattle.sync_tables.specs.Tables.{IsToSync, PopsBatch, PopsInPart, PopsKeys, PopsNone, PopsSome, no_tables, tables_with_write};
 ghost use Rattle.sync_tables.specs.declared.tables.TheConstants.{BATCH};
 
 use crate::merging::take_first;
@@ -82,13 +82,14 @@ impl Tables {
     }
 
     /// Pops a batch of keys: the first `BATCH` that wait, in key order, or all where no more wait. What waited of each is
-    /// merged into its row, and it is to sync. After want of memory some of these first keys are popped, and the others wait.
+    /// merged into its row, and added to its operation. After want of memory at one of these keys those before it are popped, and
+    /// it waits with the others.
     pub fn pop(&mut self) -> Result<(), OutOfMemory>
+        ensures batch { OnOk result (PopsBatch BATCH self.old self.new) }
+        ensures part { OnErr result (PopsInPart BATCH self.old self.new) }
         ensures keys { PopsKeys self.old self.new }
         ensures some { OnOk result ((self.old.waiting ≡ []) ⊎ PopsSome self.old self.new) }
-        ensures left { OnOk result (self.new.waiting ≡ drop BATCH self.old.waiting) }
         ensures fewer { OnOk result ((self.old.waiting ≡ []) ⊎ (length self.new.waiting < length self.old.waiting)) }
-        ensures err { OnErr result (TakesAtMost BATCH self.old.waiting self.new.waiting) }
     {
         if self.pop_first()? {
             self.pop_more(BATCH - 1)?;
@@ -98,9 +99,9 @@ impl Tables {
 
     /// Pops the first keys that wait, at most so many.
     fn pop_more(&mut self, count: u64) -> Result<(), OutOfMemory>
+        ensures batch { OnOk result (PopsBatch count self.old self.new) }
+        ensures part { OnErr result (PopsInPart count self.old self.new) }
         ensures keys { PopsKeys self.old self.new }
-        ensures left { OnOk result (self.new.waiting ≡ drop count self.old.waiting) }
-        ensures err { OnErr result (TakesAtMost count self.old.waiting self.new.waiting) }
     {
         for _ in 0..count {
             if !self.pop_first()? {
@@ -112,11 +113,11 @@ impl Tables {
 
     /// Pops the first key that waits: false exactly where none does.
     fn pop_first(&mut self) -> Result<bool, OutOfMemory>
+        ensures batch { OnOk result (PopsBatch 1 self.old self.new) }
+        ensures none { OnErr result (PopsNone self.old self.new) }
         ensures keys { PopsKeys self.old self.new }
         ensures some { IfOk result (λ popped. OnTrue popped (PopsSome self.old self.new)) }
         ensures empty { IfOk result (λ popped. OnFalse popped (self.old.waiting ≡ [])) }
-        ensures left { OnOk result (self.new.waiting ≡ drop 1 self.old.waiting) }
-        ensures err { OnErr result (self.new.waiting ≡ self.old.waiting) }
     {
         let _order = self.waiting.is_empty();
         let Some((key, pending)) = self.waiting.first() else {

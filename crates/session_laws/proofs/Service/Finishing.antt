@@ -1,5 +1,5 @@
 -- the end of an apply is a step: the view is tied to the chip again
-use Rattle.std.proofs.Common.{◌≡◌, ◌++◌, ◌∙◌, true, List, [], length, None, Some, refl, sym, ap, subst}
+use Rattle.std.proofs.Common.{◌≡◌, ◌++◌, ◌∙◌, ℕ, true, List, [], length, None, Some, refl, sym, ap, subst}
 use Rattle.std.proofs.lemmas.List.{append-nil}
 use Rattle.sai_types.specs.declared.ids.Rid.{Rid}
 use Rattle.sai_types.specs.declared.ids.Vid.{Vid}
@@ -21,7 +21,7 @@ use Rattle.warm_state.specs.declared.warm.Warm.TheVariants as warm
 use Rattle.restart_laws.specs.Identified.{renamed_by}
 use Rattle.restart_laws.specs.Invariant.{with_chip}
 use Rattle.restart_laws.specs.Logged.{IsLoggedStep, LoggedService, OfService, mark_now}
-use Rattle.restart_laws.specs.Service.{OfFinish, by_ids}
+use Rattle.restart_laws.specs.Service.{Finishes, OfFinish, by_ids}
 use Rattle.restart_laws.proofs.Resolved.{from_renamed, renamed_in}
 use Rattle.registry_laws.specs.Standing.{AreRetied, StandsFor}
 use Rattle.registry_laws.proofs.Core.Renamed.{stands_over_chip}
@@ -36,6 +36,8 @@ use Rattle.apply_laws.specs.Ties.{AreTied}
 use Rattle.flight_board.specs.Board.{flown_at}
 use Rattle.session_laws.specs.Core.{CoreState, mark_at}
 use Rattle.session_laws.proofs.Faulting.{listed_same}
+use Rattle.session_laws.specs.Workers.{IsByFirst}
+use Rattle.session_laws.proofs.ByFirst.{finish_stays}
 use Rattle.session_laws.specs.Service.Events.{MakesNext}
 use Rattle.session_laws.specs.Service.Standing.{HaveNumbers, IsApplyingCore, IsServiceOf, IsUnderway}
 use Rattle.session_laws.proofs.Service.Ending.{are-tied, laid-end, tied-end}
@@ -131,8 +133,11 @@ module _ (c : CoreState) (chip : ChipState) (s : LoggedService) (is : IsServiceO
   left_none : s.service.left ≡ []
   left_none = u.left_are ∙ ap (tied_calls core.made c.sync.view) none
 
+  finishes : Finishes s.service later.service
+  finishes = record { before = is.always.warm_is ∙ at; warm = refl; none = left_none; stands = stands; into = into; back = back; laid = laid; machine = refl; written = refl; to_sync = refl; made = refl; objects = refl }
+
   makes : IsLoggedStep c.board.plan 4 c.sync.capacities s later
-  makes = OfService None (OfFinish later.service (record { before = is.always.warm_is ∙ at; warm = refl; none = left_none; stands = stands; into = into; back = back; laid = laid; machine = refl; written = refl; to_sync = refl; made = refl; objects = refl })) (sym (append-nil s.effects)) refl
+  makes = OfService None (OfFinish later.service finishes) (sym (append-nil s.effects)) refl
 
   pub finish-next : MakesNext c s (record c { log = with_mark c.log (mark_at c (length chip.effects) event.ApplyEnded); warm = warm.Reconciled }) chip
   finish-next = record {
@@ -166,3 +171,8 @@ module _ (c : CoreState) (chip : ChipState) (s : LoggedService) (is : IsServiceO
       applying = λ h. absurd (reconciled-applying h);
     };
   }
+
+  -- no operation is under way
+  pub finish-stays : (n : ℕ) → IsByFirst n s → IsByFirst n finish-next.later
+  unfolding finish-next
+  finish-stays n = finish_stays c.board.plan 4 c.sync.capacities s later is.always.holds finishes n

@@ -18,13 +18,15 @@ use Rattle.syncd_core.specs.Tied.{plan_tie}
 use Rattle.syncd_core.specs.declared.answer.ApplyStep.{ApplyStep}
 use Rattle.syncd_core.specs.declared.answer.ApplyStep.TheVariants as step
 use Rattle.session_laws.specs.Core.{CoreState, mark_at}
+use Rattle.session_laws.proofs.ByFirst.{away_stays, both_stay, by_any, one_stays}
 use Rattle.session_laws.proofs.Faulting.{IsFaultLog}
 use Rattle.apply_laws.proofs.Order.Called.{makes_renamed}
 use Rattle.session_laws.specs.Service.Events.{MakesMore, MakesNext}
 use Rattle.session_laws.specs.Service.Standing.{IsServiceOf}
 use Rattle.session_laws.proofs.Service.Applying.{applied-next, apply-fails, can-apply}
 use Rattle.session_laws.proofs.Service.Calls.{call_by}
-use Rattle.session_laws.proofs.Service.Finishing.{finish-next}
+use Rattle.session_laws.proofs.Service.Finishing.{finish-next, finish-stays}
+use Rattle.session_laws.proofs.Service.States.{applying-reconciled}
 
 -- ---- what the chip's answer says
 
@@ -106,7 +108,7 @@ module _ (c : CoreState) (chip : ChipState) (s : LoggedService) (is : IsServiceO
     made_next : (a ≡ step.Failed → ⊥) → MakesNext c s (record c { sync = y }) chip'
     made_next fine = subst (λ z. MakesNext c s (record c { sync = z }) chip') (sym (core_is fine)) (applied-next c chip s is at call cs has x.answer chip' x.answered (well fine).effect)
 
-    made_last : a ≡ step.Ended → MakesMore c s (record c { sync = y; log = with_mark c.log (mark_at c (length chip'.effects) event.ApplyEnded); warm = warm.Reconciled }) chip'
+    made_last : a ≡ step.Ended → MakesMore 0 c s (record c { sync = y; log = with_mark c.log (mark_at c (length chip'.effects) event.ApplyEnded); warm = warm.Reconciled }) chip'
     made_last ended =
         let first = made_next (λ h. ended_failed (sym ended ∙ h)) in
         let none : y.left ≡ [] = ap (λ (z : SyncState). z.left) (core_is (λ h. ended_failed (sym ended ∙ h))) ∙ ended_none x.answer cs (sym ended ∙ x.step) in
@@ -114,6 +116,7 @@ module _ (c : CoreState) (chip : ChipState) (s : LoggedService) (is : IsServiceO
         record {
           steps = first.later ∷ second.later ∷ [];
           are = (first.makes, (subst (λ l. IsLoggedStep c.board.plan 4 l first.later second.later) first.capacities second.makes, tt));
+          few = both_stay 0 s (first.later ∷ []) (second.later ∷ []) (one_stays 0 s first.later (by_any 0 s first.later (away_stays s first.later (λ h. applying-reconciled (sym at ∙ sym first.stands.always.warm_is ∙ h))))) (one_stays 0 first.later second.later (by_any 0 first.later second.later (finish-stays (record c { sync = y }) chip' first.later first.stands at none)));
           stands = second.stands;
           plan = refl;
           capacities = first.capacities;
@@ -136,15 +139,15 @@ module _ (c : CoreState) (chip : ChipState) (s : LoggedService) (is : IsServiceO
         by [] h x = absurd cc
         by (call ∷ cs) h x = made_next call cs h step.More y chip' x more_failed
 
-    pub ended-next : Applies c.sync.left c.sync chip step.Ended y chip' → MakesMore c s (record c { sync = y; log = with_mark c.log (mark_at c (length chip'.effects) event.ApplyEnded); warm = warm.Reconciled }) chip'
+    pub ended-next : Applies c.sync.left c.sync chip step.Ended y chip' → MakesMore 0 c s (record c { sync = y; log = with_mark c.log (mark_at c (length chip'.effects) event.ApplyEnded); warm = warm.Reconciled }) chip'
     ended-next = by c.sync.left refl
       where
-        by : (l : List PlanCall) → c.sync.left ≡ l → Applies l c.sync chip step.Ended y chip' → MakesMore c s (record c { sync = y; log = with_mark c.log (mark_at c (length chip'.effects) event.ApplyEnded); warm = warm.Reconciled }) chip'
+        by : (l : List PlanCall) → c.sync.left ≡ l → Applies l c.sync chip step.Ended y chip' → MakesMore 0 c s (record c { sync = y; log = with_mark c.log (mark_at c (length chip'.effects) event.ApplyEnded); warm = warm.Reconciled }) chip'
         by [] h x =
             let only = finish-next c chip s is at h in
-            subst (λ z. MakesMore c s (record c { sync = z; log = with_mark c.log (mark_at c (length chip'.effects) event.ApplyEnded); warm = warm.Reconciled }) chip') (sym x.0)
-            (subst (λ z. MakesMore c s (record c { log = with_mark c.log (mark_at c (length z.effects) event.ApplyEnded); warm = warm.Reconciled }) z) (sym x.1)
-            (record { steps = only.later ∷ []; are = (only.makes, tt); stands = only.stands; plan = refl; capacities = refl; limit = refl }))
+            subst (λ z. MakesMore 0 c s (record c { sync = z; log = with_mark c.log (mark_at c (length chip'.effects) event.ApplyEnded); warm = warm.Reconciled }) chip') (sym x.0)
+            (subst (λ z. MakesMore 0 c s (record c { log = with_mark c.log (mark_at c (length z.effects) event.ApplyEnded); warm = warm.Reconciled }) z) (sym x.1)
+            (record { steps = only.later ∷ []; are = (only.makes, tt); few = one_stays 0 s only.later (by_any 0 s only.later (finish-stays c chip s is at h)); stands = only.stands; plan = refl; capacities = refl; limit = refl }))
         by (call ∷ cs) h x = made_last call cs h step.Ended y chip' x refl
 
     pub failed-next : (log : History) → IsFaultLog c.log (mark_at c (length chip'.effects) (event.Faulted chip.faults chip'.faults)) log → Applies c.sync.left c.sync chip step.Failed y chip' → MakesNext c s (record c { sync = y; log = log; warm = warm.Suspect }) chip'

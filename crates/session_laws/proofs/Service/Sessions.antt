@@ -118,11 +118,12 @@ module _ (c c' : CoreState) (chip chip' : ChipState) (s : LoggedService) (is : I
     refl,
   )
 
-  pub steps-more : (x : MakesSome c s c' chip') → (y : MakesMore c s c' chip') × (y.steps ≡ x.steps)
+  pub steps-more : (x : MakesSome c s c' chip') → (y : MakesMore 0 c s c' chip') × (y.steps ≡ x.steps)
   steps-more x = (
     record {
       steps = x.steps;
       are = x.are;
+      few = x.few;
       stands = steps-stand x.steps x.are x.stands x.plan x.capacities;
       plan = x.plan;
       capacities = x.capacities;

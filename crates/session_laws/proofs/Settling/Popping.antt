@@ -9,6 +9,7 @@ use Rattle.session_laws.specs.Core.{CoreState}
 use Rattle.session_laws.specs.Events.{IsMachineStep, MakesOne}
 use Rattle.session_laws.specs.Standing.{IsSessionOf}
 use Rattle.session_laws.specs.Leading.{PopsTo}
+use Rattle.session_laws.proofs.ByFirst.{by_any, same_machine_stays}
 use Rattle.session_laws.proofs.Settling.Leading.{leads_more, leads_none, leads_one}
 
 popped_one : (s : SwitchState) (xs : List SwitchState) (t : SwitchState) → after_pops s (xs ++ t ∷ []) ≡ t
@@ -30,7 +31,7 @@ pops_none c chip s is = record { later = s; leads = leads_none c chip s is; pops
 pub pops_more : (c c' c'' : CoreState) (chip' chip'' : ChipState) (s : LoggedService) (x : PopsTo c s c' chip') (y : MakesOne c' x.later c'' chip'') → IsPop x.later.service.core y.later.service.core → IsMachineStep x.later None y.later → PopsTo c s c'' chip''
 pops_more c c' c'' chip' chip'' s x y pop step = record {
   later = y.later;
-  leads = leads_more c c' c'' chip' chip'' s x.later y.later x.leads (leads_one c' c'' chip'' x.later y);
+  leads = leads_more c c' c'' chip' chip'' s x.later y.later x.leads (leads_one c' c'' chip'' x.later y (by_any 0 x.later y.later (same_machine_stays x.later y.later (ap (λ (t : LoggedService). t.service.warm) step) pop.machine)));
   pops = x.pops ++ y.later.service.core ∷ [];
   are = pops_one s.service.core x.pops y.later.service.core x.are (subst (λ z. IsPop z y.later.service.core) x.core pop);
   core = sym (popped_one s.service.core x.pops y.later.service.core);

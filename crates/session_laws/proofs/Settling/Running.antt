@@ -11,6 +11,7 @@ use Rattle.session_laws.specs.Core.{CoreState}
 use Rattle.session_laws.specs.Events.{IsMachineStep, MakesOne}
 use Rattle.session_laws.specs.Standing.{IsSessionOf}
 use Rattle.session_laws.specs.Leading.{RunsTo, calls_in}
+use Rattle.session_laws.proofs.ByFirst.{answer_stays, by_any}
 use Rattle.session_laws.proofs.Settling.Leading.{grown, leads_more, leads_none, leads_one}
 
 pub answered_both : (s : SwitchState) (xs ys : List (Call Rid × SwitchState)) → after_answers s (xs ++ ys) ≡ after_answers (after_answers s xs) ys
@@ -21,13 +22,13 @@ pub answers_both : (plan : Ports) (s : SwitchState) (xs ys : List (Call Rid × S
 answers_both plan s [] ys a b = b
 answers_both plan s (x ∷ xs) ys a b = (a.0, answers_both plan x.1 xs ys a.1 b)
 
-pub runs_none : (c : CoreState) (chip : ChipState) (s : LoggedService) → IsSessionOf c chip s → RunsTo c s c chip
+abbrev pub runs_none : (c : CoreState) (chip : ChipState) (s : LoggedService) → IsSessionOf c chip s → RunsTo c s c chip
 runs_none c chip s is = record { later = s; leads = leads_none c chip s is; answers = []; are = tt; core = refl; effects = sym (append-nil s.effects); log = refl }
 
-runs_one : (c c' : CoreState) (chip' : ChipState) (s : LoggedService) (y : MakesOne c s c' chip') (e : Call Rid) → IsAnswer c.board.plan 4 e s.service.core y.later.service.core → IsMachineStep s (Some e) y.later → RunsTo c s c' chip'
+abbrev runs_one : (c c' : CoreState) (chip' : ChipState) (s : LoggedService) (y : MakesOne c s c' chip') (e : Call Rid) → IsAnswer c.board.plan 4 e s.service.core y.later.service.core → IsMachineStep s (Some e) y.later → RunsTo c s c' chip'
 runs_one c c' chip' s y e z step = record {
   later = y.later;
-  leads = leads_one c c' chip' s y;
+  leads = leads_one c c' chip' s y (by_any 0 s y.later (answer_stays s y.later (ap (λ (t : LoggedService). t.service.warm) step) c.board.plan 4 e z));
   answers = (e, y.later.service.core) ∷ [];
   are = (z, tt);
   core = refl;
@@ -35,7 +36,7 @@ runs_one c c' chip' s y e z step = record {
   log = ap (λ (t : LoggedService). t.log) step;
 }
 
-pub runs_both : (c c' c'' : CoreState) (chip' chip'' : ChipState) (s : LoggedService) (x : RunsTo c s c' chip') (y : RunsTo c' x.later c'' chip'') → RunsTo c s c'' chip''
+abbrev pub runs_both : (c c' c'' : CoreState) (chip' chip'' : ChipState) (s : LoggedService) (x : RunsTo c s c' chip') (y : RunsTo c' x.later c'' chip'') → RunsTo c s c'' chip''
 runs_both c c' c'' chip' chip'' s x y = record {
   later = y.later;
   leads = leads_more c c' c'' chip' chip'' s x.later y.later x.leads y.leads;
@@ -49,5 +50,5 @@ runs_both c c' c'' chip' chip'' s x y = record {
   log = y.log ∙ x.log;
 }
 
-pub runs_more : (c c' c'' : CoreState) (chip' chip'' : ChipState) (s : LoggedService) (x : RunsTo c s c' chip') (y : MakesOne c' x.later c'' chip'') (e : Call Rid) → IsAnswer c'.board.plan 4 e x.later.service.core y.later.service.core → IsMachineStep x.later (Some e) y.later → RunsTo c s c'' chip''
+abbrev pub runs_more : (c c' c'' : CoreState) (chip' chip'' : ChipState) (s : LoggedService) (x : RunsTo c s c' chip') (y : MakesOne c' x.later c'' chip'') (e : Call Rid) → IsAnswer c'.board.plan 4 e x.later.service.core y.later.service.core → IsMachineStep x.later (Some e) y.later → RunsTo c s c'' chip''
 runs_more c c' c'' chip' chip'' s x y e z step = runs_both c c' c'' chip' chip'' s x (runs_one c' c'' chip'' x.later y e z step)

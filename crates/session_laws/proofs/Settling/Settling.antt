@@ -25,6 +25,8 @@ use Rattle.session_laws.specs.Events.{HaveReasons, MakesOne}
 use Rattle.session_laws.proofs.Marking.{marks_told, popped}
 use Rattle.session_laws.specs.Leading.{LeadsTo, PopsTo, RunsTo, SettlesTo, switch_answered, with_calls}
 use Rattle.session_laws.specs.Turning.{IsAtRest, TurnsTo}
+use Rattle.session_laws.specs.Workers.{StaysByFirst}
+use Rattle.session_laws.proofs.ByFirst.{by_any, same_machine_stays}
 use Rattle.session_laws.proofs.Settling.Leading.{plan_led_back, leads_more, leads_one}
 use Rattle.session_laws.proofs.Settling.Popping.{machine_stays}
 use Rattle.session_laws.proofs.Settling.Turning.{free_quiet, quiet}
@@ -92,7 +94,7 @@ module _ (n : ℕ) (c c1 c2 c3 : CoreState) (chip1 chip2 chip3 : ChipState) (s :
   abbrev led : LeadsTo c s y.later c2 chip2
   led = popped_from c c1 c2 chip1 chip2 s x y
 
-  turned_from : LeadsTo c s z.later c3 chip3
+  pub turned_from : LeadsTo c s z.later c3 chip3
   turned_from = leads_more c c2 c3 chip2 chip3 s y.later z.later led z.leads
 
   log_same : c3.log ≡ s.log
@@ -115,7 +117,7 @@ module _ (n : ℕ) (c c1 c2 c3 : CoreState) (chip1 chip2 chip3 : ChipState) (s :
     abbrev marked : CoreState
     marked = record c3 { log = with_end (with_mark c3.log (mark_at c3 (length chip3.effects) settled)); listed = c3.listed + length waits }
 
-    mark : (m : MakesOne c3 z.later marked chip3) × LogsMark c3.board.plan 4 c3.sync.capacities (switch_of z.later) (switch_of m.later)
+    pub mark : (m : MakesOne c3 z.later marked chip3) × LogsMark c3.board.plan 4 c3.sync.capacities (switch_of z.later) (switch_of m.later)
     mark = marks_told c3 chip3 z.later z.leads.stands z.at_rest.warm waits n z.at_rest.popped z.at_rest.free reasons all rise
 
     abbrev later : LoggedService
@@ -130,7 +132,10 @@ module _ (n : ℕ) (c c1 c2 c3 : CoreState) (chip1 chip2 chip3 : ChipState) (s :
         ∙ ap (λ (h : History). with_end (with_mark h (mark_now h chip3.effects settled))) log_same
         ∙ ap (λ e. with_end (with_mark s.log (mark_now s.log e settled))) (sym mark.0.stands.effects)
 
-    whole : IsWholeSettling c.board.plan 4 c.sync.capacities (switch_answered s x.answers) (switch_of later)
+    pub mark_stays : StaysByFirst 0 z.later later
+    mark_stays = by_any 0 z.later later (same_machine_stays z.later later (mark.0.stands.warm_is ∙ sym z.leads.stands.warm_is) (ap (λ (t : SwitchState). t.machine) mark.1.switch))
+
+    pub whole : IsWholeSettling c.board.plan 4 c.sync.capacities (switch_answered s x.answers) (switch_of later)
     whole = record {
       pops = y.pops;
       are_pops = pops_answered c c1 c2 chip1 chip2 s x y;
@@ -155,10 +160,10 @@ module _ (n : ℕ) (c c1 c2 c3 : CoreState) (chip1 chip2 chip3 : ChipState) (s :
       log = log_now;
     }
 
-    pub settling_ends : SettlesTo c s marked chip3
+    abbrev pub settling_ends : SettlesTo c s marked chip3
     settling_ends = record {
       later = later;
-      leads = leads_more c c3 marked chip3 chip3 s z.later later turned_from (leads_one c3 marked chip3 z.later mark.0);
+      leads = leads_more c c3 marked chip3 chip3 s z.later later turned_from (leads_one c3 marked chip3 z.later mark.0 mark_stays);
       answers = x.answers;
       are = x.are;
       quiet = quiet_answered c c1 c2 chip1 chip2 s x y rest;

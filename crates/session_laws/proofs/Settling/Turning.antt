@@ -27,6 +27,7 @@ use Rattle.session_laws.specs.Events.{IsMachineStep, MakesOne}
 use Rattle.session_laws.specs.Standing.{IsSessionOf}
 use Rattle.session_laws.specs.Leading.{LeadsTo, RunsTo, calls_in}
 use Rattle.session_laws.specs.Turning.{HaveListed, IsAtRest, IsTurning}
+use Rattle.session_laws.proofs.ByFirst.{begin_stays, by_any, same_machine_stays}
 use Rattle.session_laws.proofs.Settling.Leading.{plan_led_back, grown, leads_more, leads_none, leads_one, leads_still}
 
 pub turn_begins : (c : CoreState) (chip : ChipState) (s : LoggedService) → IsSessionOf c chip s → IsAtRest c → IsTurning (keys_of c.tables.ops) c s [] (keys_of c.tables.ops) c chip
@@ -88,9 +89,9 @@ module _ (keys left rest : List Key) (k : Key) (c c' : CoreState) (chip' : ChipS
 
   pub turn_drops : (c'' : CoreState) (y : MakesOne c' x.later c'' chip') (z : IsDrop c'.board.plan core y.later.service.core) → z.key ≡ k → IsMachineStep x.later None y.later → IsAtRest c'' → keys_of c''.tables.ops ≡ left ++ rest → IsTurning keys c s left rest c'' chip'
   turn_drops c'' y z at step rests ops =
-      turn_brings c'' chip' y.later [] (leads_one c' c'' chip' x.later y) (inl (record { drop = z; is = at; none = refl })) (ap (λ (t : LoggedService). t.effects) step) (ap (λ (t : LoggedService). t.log) step) rests ops
+      turn_brings c'' chip' y.later [] (leads_one c' c'' chip' x.later y (by_any 0 x.later y.later (same_machine_stays x.later y.later (ap (λ (t : LoggedService). t.service.warm) step) z.machine))) (inl (record { drop = z; is = at; none = refl })) (ap (λ (t : LoggedService). t.effects) step) (ap (λ (t : LoggedService). t.log) step) rests ops
 
-  module _ (c'' d : CoreState) (chip'' : ChipState) (y : MakesOne c' x.later c'' chip') (z : IsBegin c'.board.plan 4 c'.sync.capacities core y.later.service.core) (at : z.flight.key ≡ k) (step : IsMachineStep x.later None y.later) (r : RunsTo c'' y.later d chip'') (rests : IsAtRest d) where
+  module _ (c'' d : CoreState) (chip'' : ChipState) (y : MakesOne c' x.later c'' chip') (z : IsBegin c'.board.plan 4 c'.sync.capacities core y.later.service.core) (at : z.flight.key ≡ k) (own : z.worker ≡ 0) (step : IsMachineStep x.later None y.later) (r : RunsTo c'' y.later d chip'') (rests : IsAtRest d) where
     runs_alone : RunsAlone c'.board.plan 4 c'.sync.capacities k core r.later.service.core (calls_in r.answers)
     runs_alone = record {
       first = y.later.service.core;
@@ -105,7 +106,7 @@ module _ (keys left rest : List Key) (k : Key) (c c' : CoreState) (chip' : ChipS
 
     pub turn_runs : keys_of d.tables.ops ≡ left ++ rest → IsTurning keys c s left rest d chip''
     turn_runs ops =
-        turn_brings d chip'' r.later (calls_in r.answers) (leads_more c' c'' d chip' chip'' x.later y.later r.later (leads_one c' c'' chip' x.later y) r.leads) (inr runs_alone)
+        turn_brings d chip'' r.later (calls_in r.answers) (leads_more c' c'' d chip' chip'' x.later y.later r.later (leads_one c' c'' chip' x.later y (begin_stays x.later y.later (ap (λ (t : LoggedService). t.service.warm) step) c'.board.plan 4 c'.sync.capacities z 0 own)) r.leads) (inr runs_alone)
         (r.effects ∙ ap (λ l. l ++ calls_in r.answers) (ap (λ (t : LoggedService). t.effects) step ∙ append-nil x.later.effects))
         (r.log ∙ ap (λ (t : LoggedService). t.log) step) rests ops
 

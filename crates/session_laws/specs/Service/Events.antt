@@ -9,6 +9,7 @@ use Rattle.flight_board.specs.Board.{new_board}
 use Rattle.warm_state.specs.declared.warm.Warm.TheVariants as warm
 use Rattle.session_laws.specs.Core.{CoreState, mark_at}
 use Rattle.session_laws.specs.Service.Standing.{IsServiceOf}
+use Rattle.session_laws.specs.Workers.{StayByFirst}
 
 -- one step of the session leads to one of the later core and chip, with the same port plan, capacities and places of the log
 pub record MakesNext (c : CoreState) (s : LoggedService) (c' : CoreState) (chip' : ChipState) : Type 0 where
@@ -19,10 +20,11 @@ pub record MakesNext (c : CoreState) (s : LoggedService) (c' : CoreState) (chip'
   pub capacities : c'.sync.capacities ≡ c.sync.capacities
   pub limit : c'.limit ≡ c.limit
 
--- so many steps do
-pub record MakesMore (c : CoreState) (s : LoggedService) (c' : CoreState) (chip' : ChipState) : Type 0 where
+-- so many steps do, and begin operations for this worker and those before it alone
+pub record MakesMore (w : ℕ) (c : CoreState) (s : LoggedService) (c' : CoreState) (chip' : ChipState) : Type 0 where
   pub steps : List LoggedService
   pub are : AreLoggedSteps c.board.plan 4 c.sync.capacities s steps
+  pub few : StayByFirst w s steps
   pub stands : IsServiceOf c' chip' (session_after s steps)
   pub plan : c'.board.plan ≡ c.board.plan
   pub capacities : c'.sync.capacities ≡ c.sync.capacities

@@ -5,10 +5,10 @@ pub returns-clause-first : goal.returns-clause-first
 returns-clause-first c = ready-first
 
 pub returns-clause-between : goal.returns-clause-between
-returns-clause-between c = between-ready
+returns-clause-between c = λ workers. between-ready {workers = workers}
 
 pub returns-clause-ended : goal.returns-clause-ended
-returns-clause-ended c = ended-ready
+returns-clause-ended c = λ workers. ended-ready {workers = workers}
 
 pub returns-clause-suspect : goal.returns-clause-suspect
-returns-clause-suspect c = suspect-ready
+returns-clause-suspect c = λ workers. suspect-ready {workers = workers}

@@ -11,4 +11,4 @@ pub returns-clause-drops : goal.returns-clause-drops
 returns-clause-drops c = λ keys left rest k core core' core'' chip' s x y z at step rests ops. turn_drops keys left rest k core core' chip' s x core'' y z at step rests ops
 
 pub returns-clause-runs : goal.returns-clause-runs
-returns-clause-runs c = λ keys left rest k core core' core'' d chip' chip'' s x y z at step r rests ops. turn_runs keys left rest k core core' chip' s x core'' d chip'' y z at step r rests ops
+returns-clause-runs c = λ keys left rest k core core' core'' d chip' chip'' s x y z at own step r rests ops. turn_runs keys left rest k core core' chip' s x core'' d chip'' y z at own step r rests ops

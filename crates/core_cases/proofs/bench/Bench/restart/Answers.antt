@@ -1,4 +1,4 @@
 use Rattle.core_cases.proofs.bench.Bench.restart.Goals as goal
 
 pub invariant_of-self : goal.invariant_of-self
-invariant_of-self c = (c.restart.ensures.sessions c.self.inside.chip c.self.invariant c.effects.ensures).within
+invariant_of-self c = (c.restart.ensures.sessions 4 c.self.inside.chip c.self.invariant c.effects.ensures).within

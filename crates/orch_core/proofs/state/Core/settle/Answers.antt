@@ -48,13 +48,13 @@ pub returns-in-LogFull-clause-goes_on : goal.returns-in-LogFull-clause-goes_on
 returns-in-LogFull-clause-goes_on g c = λ s is. settle_serves s c.args.self.now (g.C.Chip.state c.args.chip.now) (Ok settled.LogFull) c.come_back.new.self (g.C.Chip.state c.come_back.new.chip) (returns-in-LogFull-clause-settles g c s is)
 
 pub returns-in_err-come_back-clause-sessions : goal.returns-in_err-come_back-clause-sessions
-returns-in_err-come_back-clause-sessions g c = steady-on c.args.self.now c.come_back.new.self (g.C.Chip.state c.args.chip.now) (g.C.Chip.state c.come_back.new.chip) (returns-in_err-come_back-clause-goes_on g c)
+returns-in_err-come_back-clause-sessions g c = λ workers some. steady-on 0 workers some c.args.self.now c.come_back.new.self (g.C.Chip.state c.args.chip.now) (g.C.Chip.state c.come_back.new.chip) (returns-in_err-come_back-clause-goes_on g c)
 
 pub returns-in-Whole-clause-sessions : goal.returns-in-Whole-clause-sessions
-returns-in-Whole-clause-sessions g c = steady-on c.args.self.now c.settle_reconciled.new.self (g.C.Chip.state c.args.chip.now) (g.C.Chip.state c.settle_reconciled.new.chip) (returns-in-Whole-clause-goes_on g c)
+returns-in-Whole-clause-sessions g c = λ workers some. steady-on 0 workers some c.args.self.now c.settle_reconciled.new.self (g.C.Chip.state c.args.chip.now) (g.C.Chip.state c.settle_reconciled.new.chip) (returns-in-Whole-clause-goes_on g c)
 
 pub returns-in-Faulted-clause-sessions : goal.returns-in-Faulted-clause-sessions
-returns-in-Faulted-clause-sessions g c = steady-on c.args.self.now c.come_back.new.self (g.C.Chip.state c.args.chip.now) (g.C.Chip.state c.come_back.new.chip) (returns-in-Faulted-clause-goes_on g c)
+returns-in-Faulted-clause-sessions g c = λ workers some. steady-on 0 workers some c.args.self.now c.come_back.new.self (g.C.Chip.state c.args.chip.now) (g.C.Chip.state c.come_back.new.chip) (returns-in-Faulted-clause-goes_on g c)
 
 pub returns-in-LogFull-clause-sessions : goal.returns-in-LogFull-clause-sessions
-returns-in-LogFull-clause-sessions g c = steady-on c.args.self.now c.come_back.new.self (g.C.Chip.state c.args.chip.now) (g.C.Chip.state c.come_back.new.chip) (returns-in-LogFull-clause-goes_on g c)
+returns-in-LogFull-clause-sessions g c = λ workers some. steady-on 0 workers some c.args.self.now c.come_back.new.self (g.C.Chip.state c.args.chip.now) (g.C.Chip.state c.come_back.new.chip) (returns-in-LogFull-clause-goes_on g c)

@@ -18,7 +18,7 @@ returns-in_err-pop g c = λ s is.
     let some : c.args.self.now.tables.waiting ≡ [] → ⊥ = search rules in
     let t = c.pop.ensures.keys in
     steps_err s c.args.worker c.args.self.now (g.C.Chip.state c.args.chip.now) c.from_residual.result c.pop.new.self c.from_residual.ensures.0
-    (λ e. Part (none, some) refl (pops_on c.args.self.now c.args.self.now at (pops_first c.args.self.now) c.pop.new.self t.0 t.1 t.2) c.in_err-pop.ensures.err)
+    (λ e. Part (none, some) refl (pops_on c.args.self.now c.args.self.now at (pops_first c.args.self.now) c.pop.new.self t.0 t.1 t.2) c.in_err-pop.ensures.part)
 
 pub returns-then-not-is_popped : goal.returns-then-not-is_popped
 returns-then-not-is_popped g c = λ s is.
@@ -26,4 +26,4 @@ returns-then-not-is_popped g c = λ s is.
     let none : flown_at c.args.self.now.board c.args.worker ≡ None = search rules in
     let some : c.args.self.now.tables.waiting ≡ [] → ⊥ = search rules in
     let t = c.pop.ensures.keys in
-    popping_steps s c.args.worker c.args.self.now (g.C.Chip.state c.args.chip.now) is at (none, some) t.0 t.1 c.pop.new.self t.2 c.in_ok-pop.ensures.some c.in_ok-pop.ensures.left
+    popping_steps s c.args.worker c.args.self.now (g.C.Chip.state c.args.chip.now) is at (none, some) t.0 t.1 c.pop.new.self t.2 c.in_ok-pop.ensures.some c.in_ok-pop.ensures.batch

@@ -1,18 +1,27 @@
 use Rattle.std.proofs.Common.{◌-◌, inr, rules, arith}
-use Rattle.sync_tables.specs.Tables.{PopsSome, TakesAtMost}
+use Rattle.sync_tables.specs.Tables.{PopsBatch, PopsInPart, PopsSome}
 use Rattle.sync_tables.specs.declared.tables.TheConstants.{BATCH}
-use Rattle.sync_tables.proofs.LeftWaiting.{fewer-wait, left-more, takes-more}
+use Rattle.sync_tables.proofs.Batches.{batch-then, part-none, part-then}
+use Rattle.sync_tables.proofs.LeftWaiting.{fewer-wait}
 use Rattle.sync_tables.proofs.Popped.{PopsKeys-then, PopsSome-then}
 use Rattle.sync_tables.proofs.tables.Tables.pop.Goals as goal
+
+pub returns-in_err-pop_first-clause-part : goal.returns-in_err-pop_first-clause-part
+returns-in_err-pop_first-clause-part c =
+    let part : PopsInPart BATCH c.args.self.now c.pop_first.new.self = part-none c.args.self.now c.pop_first.new.self BATCH (omega arith) c.in_err-pop_first.ensures.none in
+    search rules
+
+pub returns-in_err-pop_more-clause-part : goal.returns-in_err-pop_more-clause-part
+returns-in_err-pop_more-clause-part c =
+    let part : PopsInPart BATCH c.args.self.now c.pop_more.new.self =
+    part-then c.args.self.now c.pop_first.new.self c.pop_more.new.self 1 (BATCH - 1) BATCH (omega arith) c.in_ok-pop_first.ensures.batch c.in_err-pop_more.ensures.part in
+    search rules
 
 pub returns-in_err-pop_more-clause-keys : goal.returns-in_err-pop_more-clause-keys
 returns-in_err-pop_more-clause-keys c = PopsKeys-then c.args.self.now c.pop_first.new.self c.pop_more.new.self c.pop_first.ensures.keys c.pop_more.ensures.keys
 
-pub returns-in_err-pop_more-clause-err : goal.returns-in_err-pop_more-clause-err
-returns-in_err-pop_more-clause-err c =
-    let takes : TakesAtMost BATCH c.args.self.now.waiting c.pop_more.new.self.waiting =
-    takes-more c.args.self.now.waiting c.pop_first.new.self.waiting c.pop_more.new.self.waiting 1 (BATCH - 1) BATCH (omega arith) c.in_ok-pop_first.ensures.left c.in_err-pop_more.ensures.err in
-    search rules
+pub returns-in_ok-pop_more-clause-batch : goal.returns-in_ok-pop_more-clause-batch
+returns-in_ok-pop_more-clause-batch c = batch-then c.args.self.now c.pop_first.new.self c.pop_more.new.self 1 (BATCH - 1) c.in_ok-pop_first.ensures.batch c.in_ok-pop_more.ensures.batch
 
 pub returns-in_ok-pop_more-clause-keys : goal.returns-in_ok-pop_more-clause-keys
 returns-in_ok-pop_more-clause-keys c = PopsKeys-then c.args.self.now c.pop_first.new.self c.pop_more.new.self c.pop_first.ensures.keys c.pop_more.ensures.keys
@@ -25,5 +34,5 @@ returns-in_ok-pop_more-clause-some c =
 pub returns-in_ok-pop_more-clause-fewer : goal.returns-in_ok-pop_more-clause-fewer
 returns-in_ok-pop_more-clause-fewer c =
     let some : PopsSome c.args.self.now c.pop_first.new.self = search rules in
-    let left = left-more c.args.self.now.waiting c.pop_first.new.self.waiting c.pop_more.new.self.waiting 1 (BATCH - 1) c.in_ok-pop_first.ensures.left c.in_ok-pop_more.ensures.left in
-    inr (fewer-wait c.args.self.now c.pop_more.new.self BATCH (omega arith) (PopsSome-then c.args.self.now c.pop_first.new.self c.pop_more.new.self some c.pop_more.ensures.keys) left)
+    let whole : PopsBatch BATCH c.args.self.now c.pop_more.new.self = batch-then c.args.self.now c.pop_first.new.self c.pop_more.new.self 1 (BATCH - 1) c.in_ok-pop_first.ensures.batch c.in_ok-pop_more.ensures.batch in
+    inr (fewer-wait c.args.self.now c.pop_more.new.self BATCH (omega arith) (PopsSome-then c.args.self.now c.pop_first.new.self c.pop_more.new.self some c.pop_more.ensures.keys) whole.waiting)

@@ -1,31 +1,47 @@
 use Rattle.std.proofs.Common.{◌≡◌, Some, None, slice_get, rules, refl}
 use Rattle.row_maps.specs.Entries.{lent_key}
+use Rattle.sync_tables.specs.Tables.{PopsNone}
+use Rattle.sync_tables.proofs.Batches.{batch-first, batch-none}
 use Rattle.sync_tables.proofs.Popped.{PopsKeys-first, PopsKeys-none, PopsSome-first}
-use Rattle.sync_tables.proofs.Waits.{first-gone, first-matters, no-first}
+use Rattle.sync_tables.proofs.Waits.{first-gone, no-first}
 use Rattle.sync_tables.proofs.tables.Tables.pop_first.Goals as goal
+
+pub returns-in_default-clause-batch : goal.returns-in_default-clause-batch
+returns-in_default-clause-batch c =
+    let none : slice_get c.self.inside.waiting 0 ≡ None = search rules in
+    rw (← c.self.view_is) (batch-none _ 1 (no-first c.self.inside.waiting none))
 
 pub returns-in_default-clause-empty : goal.returns-in_default-clause-empty
 returns-in_default-clause-empty c =
     let none : slice_get c.self.inside.waiting 0 ≡ None = search rules in
     rw (← c.self.view_is) (no-first c.self.inside.waiting none)
 
-pub take_first-requires : goal.take_first-requires
-take_first-requires c =
+pub returns-in_err-take_first-clause-none : goal.returns-in_err-take_first-clause-none
+returns-in_err-take_first-clause-none c =
     let first : slice_get c.self.inside.waiting 0 ≡ Some (lent_key c.in-Some.key, c.in-Some.pending.now) = search rules in
-    record { matters = first-matters c.self.inside.waiting (lent_key c.in-Some.key, c.in-Some.pending.now) first c.self.invariant }
+    let none : PopsNone (record { rows = c.self.inside.rows; waiting = c.self.inside.waiting; ops = c.self.inside.to_sync }) (record { rows = c.take_first.new.rows; waiting = c.self.inside.waiting; ops = c.take_first.new.to_sync }) =
+    record { first = (lent_key c.in-Some.key, c.in-Some.pending.now); waits = first; waiting = refl; rows = c.in_err-take_first.ensures.err; ops = c.in_err-take_first.ensures.kept } in
+    rw (← c.self.view_is) (search rules)
 
 pub returns-in_err-take_first-clause-keys : goal.returns-in_err-take_first-clause-keys
 returns-in_err-take_first-clause-keys c =
-    rw (← c.self.view_is) (PopsKeys-none _ _ (record { waiting = refl; rows = c.in_err-take_first.ensures.err; added = c.in_err-take_first.ensures.none }))
+    let first : slice_get c.self.inside.waiting 0 ≡ Some (lent_key c.in-Some.key, c.in-Some.pending.now) = search rules in
+    rw (← c.self.view_is) (PopsKeys-none _ _ (record { first = (lent_key c.in-Some.key, c.in-Some.pending.now); waits = first; waiting = refl; rows = c.in_err-take_first.ensures.err; ops = c.in_err-take_first.ensures.kept }) c.self.invariant)
+
+pub returns-clause-batch : goal.returns-clause-batch
+returns-clause-batch c =
+    let first : slice_get c.self.inside.waiting 0 ≡ Some (lent_key c.in-Some.key, c.in-Some.pending.now) = search rules in
+    let gone = first-gone c.self.inside.waiting c.pop_first.new.self (lent_key c.in-Some.key, c.in-Some.pending.now) c.pop_first.result first c.pop_first.ensures.some c.pop_first.ensures.none in
+    rw (← c.self.view_is) (batch-first _ _ (record { first = (lent_key c.in-Some.key, c.in-Some.pending.now); waiting = gone; rows = c.in_ok-take_first.ensures.merged; ops = c.in_ok-take_first.ensures.added }))
 
 pub returns-clause-keys : goal.returns-clause-keys
 returns-clause-keys c =
     let first : slice_get c.self.inside.waiting 0 ≡ Some (lent_key c.in-Some.key, c.in-Some.pending.now) = search rules in
     let gone = first-gone c.self.inside.waiting c.pop_first.new.self (lent_key c.in-Some.key, c.in-Some.pending.now) c.pop_first.result first c.pop_first.ensures.some c.pop_first.ensures.none in
-    rw (← c.self.view_is) (PopsKeys-first _ _ (record { first = (lent_key c.in-Some.key, c.in-Some.pending.now); waiting = gone; rows = c.in_ok-take_first.ensures.merged; added = c.in_ok-take_first.ensures.added }) c.is_empty-order.ensures.order c.self.invariant)
+    rw (← c.self.view_is) (PopsKeys-first _ _ (record { first = (lent_key c.in-Some.key, c.in-Some.pending.now); waiting = gone; rows = c.in_ok-take_first.ensures.merged; ops = c.in_ok-take_first.ensures.added }) c.is_empty-order.ensures.order c.self.invariant)
 
 pub returns-clause-some : goal.returns-clause-some
 returns-clause-some c =
     let first : slice_get c.self.inside.waiting 0 ≡ Some (lent_key c.in-Some.key, c.in-Some.pending.now) = search rules in
     let gone = first-gone c.self.inside.waiting c.pop_first.new.self (lent_key c.in-Some.key, c.in-Some.pending.now) c.pop_first.result first c.pop_first.ensures.some c.pop_first.ensures.none in
-    rw (← c.self.view_is) (PopsSome-first _ _ (record { first = (lent_key c.in-Some.key, c.in-Some.pending.now); waiting = gone; rows = c.in_ok-take_first.ensures.merged; added = c.in_ok-take_first.ensures.added }) c.is_empty-order.ensures.order c.self.invariant)
+    rw (← c.self.view_is) (PopsSome-first _ _ (record { first = (lent_key c.in-Some.key, c.in-Some.pending.now); waiting = gone; rows = c.in_ok-take_first.ensures.merged; ops = c.in_ok-take_first.ensures.added }) c.is_empty-order.ensures.order c.self.invariant)
