@@ -33,6 +33,7 @@ use Rattle.session_laws.proofs.Service.Building.{built-first}
 use Rattle.session_laws.proofs.Service.Giving.{given-up}
 use Rattle.session_laws.proofs.Service.Popping.{pops-stay}
 use Rattle.session_laws.proofs.Service.Restoring.{listed-waits, restored-step}
+use Rattle.round_laws.proofs.Listed.{waiting_keys}
 use Rattle.orch_core.specs.Restarting.{BeginsOut, BuildsOut, IsFullForRestore, IsFullOncePopped, PopsAll, PopsBare, PopsForRestore, RestoresOut, RestoresRows, StaysInService}
 use Rattle.orch_core.specs.declared.answer.Step.{Step}
 use Rattle.orch_core.specs.declared.answer.Step.TheVariants as step
@@ -112,10 +113,6 @@ keys_long : (ws : List (Key × Wait)) → length (keys_waiting ws ++ []) ≡ len
 keys_long [] = refl
 keys_long (w ∷ ws) = ap (λ n. suc n) (keys_long ws)
 
-keys_bare : (ws : List (Key × Wait)) → map (λ w. w.0) (waiting_of ws) ≡ keys_waiting ws
-keys_bare [] = refl
-keys_bare (w ∷ ws) = ap (λ ks. w.0 ∷ ks) (keys_bare ws)
-
 module _ (first : CoreState) (chip : ChipState) (s : LoggedService) (is : IsServiceOf first chip s) (at : first.warm ≡ warm.Restored) (popped : first.tables.waiting ≡ []) (d : CoreState) (x : IsBuilt first d []) where
   -- as many keys are to sync as wait
   ops_long : length d.tables.ops ≡ length x.waits
@@ -149,7 +146,7 @@ module _ (first : CoreState) (chip : ChipState) (s : LoggedService) (is : IsServ
       free = x.free;
       mode = m;
       waits = listing;
-      lists = ap (λ (l : Waiting). map (λ w. w.0) l) is_listing ∙ keys_bare x.waits ∙ sym (x.ops ∙ append-nil (keys_waiting x.waits));
+      lists = ap (λ (l : Waiting). map (λ w. w.0) l) is_listing ∙ waiting_keys x.waits ∙ sym (x.ops ∙ append-nil (keys_waiting x.waits));
       log = ap (λ (h : History). with_mark h (record { taken = length h.taken; effects = length chip.effects; event = event.ApplyBegan m listing })) x.beside.log;
       room = beside_room first d x.beside (length chip.effects) (1 + length listing) (subst (λ n. IsFullFor d (length chip.effects) (1 + n) → ⊥) (sym listing_long) room);
     }

@@ -67,7 +67,7 @@ module _ (plan : Ports) (is : IsPlan plan) (capacities : List ℕ) (taken : List
 
 -- ---- of a building that has come to its end
 
-waiting_keys : (ws : List (Key × Wait)) → map (λ w. w.0) (waiting_of ws) ≡ keys_waiting ws
+pub waiting_keys : (ws : List (Key × Wait)) → map (λ w. w.0) (waiting_of ws) ≡ keys_waiting ws
 waiting_keys [] = refl
 waiting_keys (w ∷ ws) = ap (λ l. w.0 ∷ l) (waiting_keys ws)
 

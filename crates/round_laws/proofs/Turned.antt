@@ -54,6 +54,11 @@ stands_as plan effects t z agrees x = record {
 
 -- ---- a settling of a core whose workers have nothing under way
 
+-- where nothing is under way no answer is given
+pub no-answers : (plan : Ports) (s : SwitchState) (answers : List (Call Rid × SwitchState)) → IsQuiet s → AreAnswers plan 4 s answers → answers ≡ []
+no-answers plan s [] quiet run = refl
+no-answers plan s (a ∷ rest) quiet run = absurd (quiet run.0.next.worker run.0.next.flight run.0.next.flying)
+
 module _ {workers : ℕ} (since : Option Mark) (old c : CoreState) (chip : ChipState) (sent : List Sent) (x : IsInRound workers since old chip sent c) where
   pub round-warm : c.warm ≡ warm.Reconciled
   round-warm = x.warm ∙ x.began.rest.warm
@@ -95,18 +100,17 @@ module _ {workers : ℕ} (since : Option Mark) (old c : CoreState) (chip : ChipS
   synced-round k i = keys_same c chip x.within.session (core-session c chip x.within round-warm round-free) k (subst (λ o. IsIn k (keys_of o)) (sym x.ops) i)
 
 module _ {workers : ℕ} (since : Option Mark) (old c c' : CoreState) (chip chip' : ChipState) (sent : List Sent) (x : IsInRound workers since old chip sent c) (y : SettlesTo c x.within.session c' chip') where
-  no_answers : (answers : List (Call Rid × SwitchState)) → AreAnswers c.board.plan 4 (before since old c chip sent x) answers → answers ≡ []
-  no_answers [] run = refl
-  no_answers (a ∷ rest) run = absurd (round-quiet since old c chip sent x run.0.next.worker run.0.next.flight run.0.next.flying)
+  none_given : y.answers ≡ []
+  none_given = no-answers c.board.plan (before since old c chip sent x) y.answers (round-quiet since old c chip sent x) y.are
 
   abbrev pub s : LoggedSwitch
   s = switch_answered x.within.session y.answers
 
   pub same-switch : s.switch ≡ before since old c chip sent x
-  same-switch = ap (after_answers (before since old c chip sent x)) (no_answers y.answers y.are)
+  same-switch = ap (after_answers (before since old c chip sent x)) none_given
 
   pub same-effects : s.effects ≡ chip.effects
-  same-effects = ap (λ answers. x.within.session.effects ++ calls_in answers) (no_answers y.answers y.are) ∙ append-nil x.within.session.effects ∙ x.within.stands.always.effects
+  same-effects = ap (λ answers. x.within.session.effects ++ calls_in answers) none_given ∙ append-nil x.within.session.effects ∙ x.within.stands.always.effects
 
   pub settling-safe : IsSafe c.board.plan 4 c.sync.capacities s.switch
   settling-safe = subst (IsSafe c.board.plan 4 c.sync.capacities) (sym same-switch) (round-safe since old c chip sent x)

@@ -11,7 +11,7 @@ use Rattle.session_laws.specs.Core.{CoreState}
 use Rattle.session_laws.specs.Service.Standing.{IsServiceOf}
 use Rattle.session_laws.specs.Workers.{AreByFirst}
 
--- steps of the service lead from its beginning to this session, and in none but the first workers, so many, has an operation under way
+-- steps of the service lead from its beginning to this session, and where one of them is reconciled none but the first workers, so many, has an operation under way
 pub record HasComeAbout (workers : ℕ) (plan : Ports) (capacities : List ℕ) (s : LoggedService) : Type 0 where
   pub steps : List LoggedService
   pub are : AreLoggedSteps plan 4 capacities new_session steps
