@@ -1,9 +1,10 @@
 -- Lists of actors, one after the other.
 use Rattle.std.specs.List.{AllByRecursion}
-use Rattle.std.proofs.Common.{◌≡◌, ℕ, zero, suc, ◌+◌, ◌<◌, List, [], ◌∷◌, ◌++◌, length, take, get_or, refl, sym, ap, subst, ◌∙◌, arith, append_assoc}
+use Rattle.std.proofs.Common.{◌≡◌, ℕ, zero, suc, ◌+◌, ◌<◌, ◌≤◌, List, [], ◌∷◌, ◌++◌, length, take, get_or, refl, sym, ap, subst, ◌∙◌, arith, append_assoc, All}
 use Rattle.swss_script.specs.declared.parts.Section.{Section}
 use Rattle.intake_queue.specs.Values.{IntakeId}
 use Rattle.round_actors.specs.declared.actor.Actor.{Actor}
+use Rattle.round_actors.specs.declared.actor.Actor.TheVariants as actor
 use Rattle.round_actors.specs.Actors.{MayRun, PairByPair, pass_of, passes_of, parts_in}
 
 pub passes_of-append : {J : Type 0} (xs ys : List (Actor J)) → passes_of (xs ++ ys) ≡ passes_of xs ++ passes_of ys
@@ -36,12 +37,20 @@ pair-at R (x ∷ xs) (y ∷ ys) h (suc i) d l = pair-at R xs ys h.1 i d (omega a
 
 -- ---- each actor
 
-abbrev pub AllMay : {J : Type 0} → IntakeId → List Section → List (Actor J) → Type 0
-AllMay intake sections xs = AllByRecursion (MayRun intake sections) xs
+abbrev pub AllMay : {J : Type 0} → IntakeId → List Section → ℕ → List (Actor J) → Type 0
+AllMay intake sections workers xs = AllByRecursion (MayRun intake sections workers) xs
 
-pub all_may : {J : Type 0} (intake : IntakeId) (sections : List Section) (xs : List (Actor J)) → ((i : ℕ) (d : Actor J) → i < length xs → MayRun intake sections (get_or xs i d)) → AllMay intake sections xs
-all_may intake sections [] h = tt
-all_may intake sections (a ∷ xs) h = (h 0 a (omega arith), all_may intake sections xs (λ i d l. h (suc i) d (omega arith)))
+pub all_may : {J : Type 0} (intake : IntakeId) (sections : List Section) (workers : ℕ) (xs : List (Actor J)) → ((i : ℕ) (d : Actor J) → i < length xs → MayRun intake sections workers (get_or xs i d)) → AllMay intake sections workers xs
+all_may intake sections workers [] h = tt
+all_may intake sections workers (a ∷ xs) h = (h 0 a (omega arith), all_may intake sections workers xs (λ i d l. h (suc i) d (omega arith)))
+
+-- who may run in a round of few workers may in one of more
+may_more : {J : Type 0} (intake : IntakeId) (sections : List Section) (workers most : ℕ) (a : Actor J) → workers ≤ most → MayRun intake sections workers a → MayRun intake sections most a
+may_more intake sections workers most (actor.Producer p) within may = may
+may_more intake sections workers most (actor.Worker w) within may = omega (arith, within, may)
+
+pub all_may_more : {J : Type 0} (intake : IntakeId) (sections : List Section) (workers most : ℕ) (xs : List (Actor J)) → workers ≤ most → All (λ a. MayRun intake sections workers a) xs → All (λ a. MayRun intake sections most a) xs
+all_may_more intake sections workers most xs within may i d l = may_more intake sections workers most (get_or xs i d) within (may i d l)
 
 pub back : {X : Type 0} (n : ℕ) (new old : List X) → n ≡ length new → take n (new ++ old) ≡ new
 back n [] old e = subst (λ m. take m old ≡ []) (sym e) refl

@@ -33,6 +33,10 @@ own_acts-few p (s ∷ ss) =
     either true = omega arith
     either false = omega arith
 
+pub number_of_acts-last : (sections : List Section) (s : Section) → number_of_acts (sections ++ s ∷ []) ≡ number_of_acts sections + length s.acts
+number_of_acts-last [] s = omega arith
+number_of_acts-last (x ∷ sections) s = let e = number_of_acts-last sections s in omega arith
+
 -- where the writes of sections were read, so were those of a producer
 pub own_acts-read : (p : ℕ) (sections : List Section) → All (λ s. AreReadWrites (acts_of s.acts)) sections → AreReadWrites (acts_of (own_acts p sections))
 own_acts-read p [] read = tt

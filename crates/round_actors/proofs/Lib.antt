@@ -5,5 +5,7 @@ pub mod Together
 pub mod Lines
 pub mod Took
 pub mod Trials
+pub mod FewItems
+pub mod FewActs
 pub mod Scripts
 pub mod Workers

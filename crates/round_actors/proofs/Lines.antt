@@ -16,7 +16,7 @@ use Rattle.round_actors.proofs.ByProducer.{own_acts-few, own_acts-read}
 -- so many producers stand in the line, and these passes are left
 pub record LinesUp {J : Type 0} (intake : IntakeId) (sections : List Section) (passes : List Sender) (parts workers : ℕ) (actors : List (Actor J)) (left : List Sender) (number now amount capacity : ℕ) : Type 0 where
   pub lined : passes_of actors ++ left ≡ passes
-  pub may : All (λ a. MayRun intake sections a) actors
+  pub may : All (λ a. MayRun intake sections workers a) actors
   pub count : length actors ≡ number
   pub many : length (passes_of actors) ≡ number
   pub own : parts_in actors ≡ number
@@ -56,7 +56,7 @@ lines-next intake sections passes parts workers actors p left number now now' am
     let room = h.room in
     let grown = length-append actors (actor.Producer p ∷ []) in record {
       lined = ap (λ l. l ++ left) line ∙ append_assoc (passes_of actors) (p.pass ∷ []) left ∙ h.lined;
-      may = All-append (λ a. MayRun intake sections a) actors (actor.Producer p ∷ []) h.may (all-one (λ a. MayRun intake sections a) (actor.Producer p) (record {
+      may = All-append (λ a. MayRun intake sections workers a) actors (actor.Producer p ∷ []) h.may (all-one (λ a. MayRun intake sections workers a) (actor.Producer p) (record {
         may = record {
           queue = ap (λ s. s.queue) (sym here) ∙ at.0;
           few = (let none = ap length nothing in omega arith);
@@ -77,12 +77,12 @@ lines-next intake sections passes parts workers actors p left number now now' am
       room = omega arith;
     }
 
-lines-worker : {J : Type 0} (intake : IntakeId) (sections : List Section) (passes : List Sender) (actors : List (Actor J)) (w : ℕ)
-    → w < 4 → passes_of actors ≡ passes → All (λ a. MayRun intake sections a) actors
-    → (passes_of (actors ++ actor.Worker w ∷ []) ≡ passes) × All (λ a. MayRun intake sections a) (actors ++ actor.Worker w ∷ []) × (parts_in (actors ++ actor.Worker w ∷ []) ≡ parts_in actors)
-lines-worker intake sections passes actors w l lined may = (
+lines-worker : {J : Type 0} (intake : IntakeId) (sections : List Section) (workers : ℕ) (passes : List Sender) (actors : List (Actor J)) (w : ℕ)
+    → w < workers → passes_of actors ≡ passes → All (λ a. MayRun intake sections workers a) actors
+    → (passes_of (actors ++ actor.Worker w ∷ []) ≡ passes) × All (λ a. MayRun intake sections workers a) (actors ++ actor.Worker w ∷ []) × (parts_in (actors ++ actor.Worker w ∷ []) ≡ parts_in actors)
+lines-worker intake sections workers passes actors w l lined may = (
   passes_of-append actors (actor.Worker w ∷ []) ∙ append-nil (passes_of actors) ∙ lined,
-  All-append (λ a. MayRun intake sections a) actors (actor.Worker w ∷ []) may (all-one (λ a. MayRun intake sections a) (actor.Worker w) l),
+  All-append (λ a. MayRun intake sections workers a) actors (actor.Worker w ∷ []) may (all-one (λ a. MayRun intake sections workers a) (actor.Worker w) l),
   (let p = parts_in-append actors (actor.Worker w ∷ []) in omega arith),
 )
 
@@ -99,8 +99,8 @@ lines-more intake sections passes parts workers actors actors' p old left number
     (lines-next intake sections passes parts workers actors p left number now now' amount amount' capacity new four of
     (subst (λ l. LinesUp intake sections passes parts workers actors l number now amount capacity) next h) num part none stop less same))
 
-pub workers-more : {J : Type 0} (intake : IntakeId) (sections : List Section) (passes : List Sender) (actors actors' : List (Actor J)) (w : ℕ)
-    → w < 4 → passes_of actors ≡ passes → All (λ a. MayRun intake sections a) actors → actors' ≡ actors ++ actor.Worker w ∷ []
-    → (passes_of actors' ≡ passes) × All (λ a. MayRun intake sections a) actors' × (parts_in actors' ≡ parts_in actors)
-workers-more intake sections passes actors actors' w l lined may grown =
-    subst (λ xs. (passes_of xs ≡ passes) × All (λ a. MayRun intake sections a) xs × (parts_in xs ≡ parts_in actors)) (sym grown) (lines-worker intake sections passes actors w l lined may)
+pub workers-more : {J : Type 0} (intake : IntakeId) (sections : List Section) (workers : ℕ) (passes : List Sender) (actors actors' : List (Actor J)) (w : ℕ)
+    → w < workers → passes_of actors ≡ passes → All (λ a. MayRun intake sections workers a) actors → actors' ≡ actors ++ actor.Worker w ∷ []
+    → (passes_of actors' ≡ passes) × All (λ a. MayRun intake sections workers a) actors' × (parts_in actors' ≡ parts_in actors)
+workers-more intake sections workers passes actors actors' w l lined may grown =
+    subst (λ xs. (passes_of xs ≡ passes) × All (λ a. MayRun intake sections workers a) xs × (parts_in xs ≡ parts_in actors)) (sym grown) (lines-worker intake sections workers passes actors w l lined may)

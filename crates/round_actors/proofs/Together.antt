@@ -87,22 +87,22 @@ pub record HaveMade {J : Type 0} (sections : List Section) (xs ys : List (Actor 
   pub few : restarts_by_all ys ≤ restarts_over sections (passes_of xs)
   pub whole : stops_by_all ys ≡ 0 → AreWhole sections (passes_of xs) (passes_of ys) × (restarts_by_all ys ≡ restarts_over sections (passes_of xs))
 
-pub have-made : {J : Type 0} (intake : IntakeId) (sections : List Section) (xs ys : List (Actor J)) → AllMay intake sections xs → HaveRun sections xs ys → HaveMade sections xs ys
-have-made intake sections [] [] m h = record { passed = tt; parts = refl; few = omega arith; whole = λ e. (tt, refl) }
-have-made intake sections [] (b ∷ ys) m h = absurd h
-have-made intake sections (a ∷ xs) [] m h = absurd h
-have-made intake sections (actor.Producer p ∷ xs) (actor.Producer q ∷ ys) m h =
-    let rest = have-made intake sections xs ys m.1 h.1 in record {
+pub have-made : {J : Type 0} (intake : IntakeId) (sections : List Section) (workers : ℕ) (xs ys : List (Actor J)) → AllMay intake sections workers xs → HaveRun sections xs ys → HaveMade sections xs ys
+have-made intake sections workers [] [] m h = record { passed = tt; parts = refl; few = omega arith; whole = λ e. (tt, refl) }
+have-made intake sections workers [] (b ∷ ys) m h = absurd h
+have-made intake sections workers (a ∷ xs) [] m h = absurd h
+have-made intake sections workers (actor.Producer p ∷ xs) (actor.Producer q ∷ ys) m h =
+    let rest = have-made intake sections workers xs ys m.1 h.1 in record {
       passed = (passed intake sections p q m.0 h.0, rest.passed);
       parts = (let one = h.0.some.1.made.parts in let more = rest.parts in omega arith);
       few = (let one = made-few intake sections p q m.0 h.0 in let more = rest.few in omega arith);
       whole = λ e. let none = neither q.stops.amount (stops_by_all ys) e in let more = rest.whole none.1 in let one = made-whole intake sections p q m.0 h.0 none.0 in
           ((sent-whole intake sections p q m.0 h.0 none.0, more.0), (let sum = more.1 in omega arith));
     }
-have-made intake sections (actor.Producer p ∷ xs) (actor.Worker v ∷ ys) m h = absurd h.0
-have-made intake sections (actor.Worker w ∷ xs) (actor.Producer q ∷ ys) m h = absurd h.0
-have-made intake sections (actor.Worker w ∷ xs) (actor.Worker v ∷ ys) m h =
-    let rest = have-made intake sections xs ys m.1 h.1 in record {
+have-made intake sections workers (actor.Producer p ∷ xs) (actor.Worker v ∷ ys) m h = absurd h.0
+have-made intake sections workers (actor.Worker w ∷ xs) (actor.Producer q ∷ ys) m h = absurd h.0
+have-made intake sections workers (actor.Worker w ∷ xs) (actor.Worker v ∷ ys) m h =
+    let rest = have-made intake sections workers xs ys m.1 h.1 in record {
       passed = rest.passed;
       parts = (let more = rest.parts in omega arith);
       few = (let more = rest.few in omega arith);

@@ -13,7 +13,7 @@ use Rattle.swss_script.specs.declared.parts.Act.TheVariants as act
 use Rattle.swss_script.specs.declared.parts.Section.{Section}
 use Rattle.round_actors.specs.Round.{AreSectionsOf, number_of_acts}
 use Rattle.round_actors.proofs.Acting.{acts_of-append, all-both, restarts_of-append}
-use Rattle.round_actors.proofs.ByProducer.{AreOwn}
+use Rattle.round_actors.proofs.ByProducer.{AreOwn, number_of_acts-last}
 use Rattle.round_actors.proofs.Lines.{all-one}
 
 -- ---- acts
@@ -36,10 +36,6 @@ pub restart-more : (count : ℕ) (acts acts' : List Act) → acts' ≡ acts ++ a
 restart-more count acts acts' is h = subst (AreTrialActs (count + 1) 1) (sym is) (act-more count 0 1 acts act.Restart tt (omega arith) h)
 
 -- ---- sections
-
-number_of_acts-last : (sections : List Section) (s : Section) → number_of_acts (sections ++ s ∷ []) ≡ number_of_acts sections + length s.acts
-number_of_acts-last [] s = omega arith
-number_of_acts-last (x ∷ sections) s = let e = number_of_acts-last sections s in omega arith
 
 restarts_in-last : (sections : List Section) (s : Section) → restarts_in (sections ++ s ∷ []) ≡ restarts_in sections + restarts_of s.acts
 restarts_in-last [] s = omega arith

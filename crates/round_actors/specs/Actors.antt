@@ -6,10 +6,10 @@ use Rattle.round_actors.specs.declared.actor.Actor.{Actor}
 use Rattle.round_actors.specs.declared.actor.Actor.TheVariants as actor
 use Rattle.round_actors.specs.Acts.{IsReadyProducer, HasProduced}
 
--- an actor at the start of a round, and what it did at its end
-abbrev pub MayRun : {J : Type 0} → IntakeId → List Section → Actor J → Type 0
-MayRun intake sections (actor.Producer p) = IsReadyProducer intake sections p
-MayRun intake sections (actor.Worker w) = w < 4
+-- an actor at the start of a round of so many workers, and what it did at its end
+abbrev pub MayRun : {J : Type 0} → IntakeId → List Section → ℕ → Actor J → Type 0
+MayRun intake sections workers (actor.Producer p) = IsReadyProducer intake sections p
+MayRun intake sections workers (actor.Worker w) = w < workers
 
 abbrev pub HasRun : {J : Type 0} → List Section → Actor J → Actor J → Type 0
 HasRun sections (actor.Producer p) (actor.Producer q) = HasProduced sections p q

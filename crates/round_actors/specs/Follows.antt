@@ -19,9 +19,10 @@ FollowsTaker opening taken received LogFull = (taken ≡ opening ++ received) �
 FollowsTaker opening taken received NoMemory = (taken ≡ opening ++ received) ⊎ LacksLast opening taken received
 
 -- the taker is of the intake, the core took what was received, the restarts that it marked since the opening are those of the book,
--- and no stop is booked where no refusal is kept
-pub record SharedKeeps (intake : IntakeId) (opening : List Sent) (before : ℕ) (taken : List Sent) (restarts : ℕ) (taker : Receiver) (total stops : ℕ) (kept : Kept) : Type 0 where
+-- no stop is booked where no refusal is kept, and the core is full where its log was refused a place
+pub record SharedKeeps (intake : IntakeId) (opening : List Sent) (before : ℕ) (taken : List Sent) (restarts : ℕ) (full : Type 0) (taker : Receiver) (total stops : ℕ) (kept : Kept) : Type 0 where
   pub here : taker.intake ≡ intake
   pub follows : FollowsTaker opening taken taker.received kept
   pub marked : restarts ≡ before + total
   pub calm : kept ≡ Nothing → stops ≡ 0
+  pub cause : kept ≡ LogFull → full

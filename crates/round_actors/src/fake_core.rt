@@ -42,11 +42,16 @@ impl FakeCore {
 }
 
 impl RoundCore for FakeCore {
+    ghost use Rattle.std.specs.Prelude.{◌+◌, ◌≤◌, length};
     ghost use Rattle.round_actors.specs.Trials.{MakesOneEvent};
+
+    ghost workers = { 4 };
 
     ghost taken = { λ c. c.taken.items };
 
     ghost restarts = { λ c. c.restarts };
+
+    ghost full = { λ c. c.places ≤ length c.taken.items + c.restarts };
 
     ghost makes = { λ old worker step new. MakesOneEvent old.events step new.events };
 

@@ -132,6 +132,8 @@ impl<J: RoundName> FakeShared<J> {
 impl<J: RoundName> RoundValue<J> for FakeShared<J> {
     ghost use Rattle.round_actors.specs.Trials.{MakesOneEvent};
 
+    ghost workers = { 4 };
+
     ghost taker = { λ f. f.taker };
 
     ghost refusal = { λ f. f.refusal };

@@ -22,7 +22,7 @@ pub use answers::{Kept, Step};
 pub use fake_core::FakeCore;
 pub use fake_shared::FakeShared;
 pub use hold::Hold;
-pub use laws::writes_of_scripts_were_read;
+pub use laws::sections_of_scripts_can_run;
 pub use name::{RoundName, Stops};
 pub use round::{Ran, run_actors};
 pub use round_core::{Opening, Refusal, RoundCore};

@@ -60,7 +60,7 @@ fn line_up<J: RoundName>(
     requires restarts { (_intake.now.producers ≤ restarts.old.parts) × (restarts.old.amount ≡ 0) }
     requires stops { (_intake.now.producers ≤ stops.old.parts) × (stops.old.amount ≡ 0) }
     ensures passes { passes_of actors.new.items ≡ passes.items }
-    ensures may { All (λ a. MayRun _intake.now _sections.now a) actors.new.items }
+    ensures may { All (λ a. MayRun _intake.now _sections.now workers a) actors.new.items }
     ensures restarts { (restarts.new.parts + parts_in actors.new.items ≡ restarts.old.parts) × (restarts.new.amount ≡ 0) }
     ensures stops { stops.new.amount ≡ 0 }
 {
@@ -97,7 +97,7 @@ fn run_each<
     actors: &mut [Actor<J>],
 )
     requires name { intake.now ≡ J.intake }
-    requires may { All (λ a. MayRun intake.now sections.now a) actors.old }
+    requires may { All (λ a. MayRun intake.now sections.now V.workers a) actors.old }
     ensures { (i : ℕ) (d : _) → i < length actors.old → HasRun sections.now (slice_index_or actors.old i d) (slice_index_or actors.new i d) }
 {
     let count = actors.len().max(1);
@@ -127,7 +127,7 @@ fn run_list<
     actors: &mut Vec<Actor<J>>,
 )
     requires name { intake.now ≡ J.intake }
-    requires may { All (λ a. MayRun intake.now sections.now a) actors.old.items }
+    requires may { All (λ a. MayRun intake.now sections.now V.workers a) actors.old.items }
     ensures { HaveRun sections.now actors.old.items actors.new.items }
 {
     run_each::<R, J, V, G>(
@@ -230,7 +230,7 @@ pub fn run_actors<
 ) -> Ran<J, V>
     requires name { intake.now ≡ J.intake }
     requires passes { AreNew intake.now passes.items }
-    requires few { (intake.now.producers ≤ 4) × (workers ≤ 4) }
+    requires few { (intake.now.producers ≤ 4) × (workers ≤ 4) × (workers ≤ V.workers) }
     requires sections { AreSectionsOf intake.now.producers sections.now }
     requires restarts { (restarts.parts ≡ J.parts) × (intake.now.producers ≤ J.parts) × (restarts.amount ≡ 0) }
     requires stops { (intake.now.producers ≤ stops.parts) × (stops.amount ≡ 0) }
@@ -274,7 +274,7 @@ fn run_with_room<
 ) -> Ran<J, V>
     requires name { intake.now ≡ J.intake }
     requires passes { AreNew intake.now passes.items }
-    requires few { (intake.now.producers ≤ 4) × (workers ≤ 4) }
+    requires few { (intake.now.producers ≤ 4) × (workers ≤ 4) × (workers ≤ V.workers) }
     requires sections { AreSectionsOf intake.now.producers sections.now }
     requires restarts { (restarts.parts ≡ J.parts) × (intake.now.producers ≤ J.parts) × (restarts.amount ≡ 0) }
     requires stops { (intake.now.producers ≤ stops.parts) × (stops.amount ≡ 0) }

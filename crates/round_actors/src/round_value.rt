@@ -21,6 +21,9 @@ pub trait RoundValue<J: RoundName> {
     ghost use Rattle.round_actors.specs.declared.answers.Kept.{Kept};
     ghost use Rattle.round_actors.specs.declared.answers.Step.{Step};
 
+    /// How many workers it has: they are numbered from 0.
+    ghost workers: { ℕ };
+
     /// Its taker: of which intake it is, and what it received.
     ghost taker: { Self → Receiver };
 
@@ -40,7 +43,7 @@ pub trait RoundValue<J: RoundName> {
     /// answered only where no message was taken.
     fn step<R: Wait>(&mut self, rt: &R, intake: &Intake, worker: u32) -> Result<Step, OutOfMemory>
         requires name { intake.now ≡ J.intake }
-        requires worker { worker < 4 }
+        requires worker { worker < workers }
         ensures keeps { result ≡ Ok steps.LogFull → refusal self.new ≡ keeps.LogFull }
         ensures full { refusal self.new ≡ keeps.LogFull → result ≡ Ok steps.LogFull }
         ensures memory { refusal self.new ≡ keeps.NoMemory → IsErr result }

@@ -1,8 +1,9 @@
 // The value of a round under its lock, over a core.
-ghost use Rattle.std.specs.Prelude.{◌≡◌, ◌≢◌, ◌+◌, ◌<◌, ◌≤◌, ◌++◌, ◌∷◌, List, [], length, Ok, IfNone, IfOk, IfSome, IsErr};
+ghost use Rattle.std.specs.Prelude.{◌≡◌, ◌≢◌, ◌+◌, ◌<◌, ◌≤◌, ◌++◌, ◌∷◌, ◌↔◌, List, [], length, Ok, IfNone, IfOk, IfSome, IsErr};
 ghost use Rattle.table_schema.specs.declared.write.Sent.{Sent};
 ghost use Rattle.round_actors.specs.declared.answers.Kept.TheVariants as keeps;
 ghost use Rattle.round_actors.specs.declared.answers.Step.TheVariants as steps;
+ghost use Rattle.round_actors.specs.declared.round_core.Refusal.TheVariants as refusals;
 ghost use Rattle.round_actors.specs.Follows.{FollowsTaker};
 
 use crate::answers::{Kept, Step};
@@ -34,12 +35,13 @@ impl<K: RoundCore, J: Opening> Model for Shared<K, J> {
 
     ghost view = { λ s. record { core = s.core; taker = s.taker; refusal = s.refusal; restarts = s.restarts.total; ended = s.ended } };
 
-    ghost invariant = { λ s. SharedKeeps J.intake J.taken J.restarts (K.taken s.core) (K.restarts s.core) s.taker s.restarts.total s.stops.total s.refusal };
+    ghost invariant = { λ s. SharedKeeps J.intake J.taken J.restarts (K.taken s.core) (K.restarts s.core) (K.full s.core) s.taker s.restarts.total s.stops.total s.refusal };
 }
 
 /// The refusal of a core, as it is kept.
 fn kept_of(refusal: Refusal) -> Kept
-    ensures { result ≢ keeps.Nothing }
+    ensures refused { result ≢ keeps.Nothing }
+    ensures full { result ≡ keeps.LogFull ↔ refusal ≡ refusals.LogFull }
 {
     match refusal {
         Refusal::LogFull => Kept::LogFull,
@@ -72,6 +74,7 @@ impl<K: RoundCore, J: Opening> Shared<K, J> {
         ensures intake { result.1.intake ≡ J.intake }
         ensures follows { FollowsTaker J.taken (K.taken result.0) result.1.received result.2 }
         ensures restarts { K.restarts result.0 ≡ J.restarts + self.restarts }
+        ensures cause { result.2 ≡ keeps.LogFull → K.full result.0 }
     {
         (self.core, self.taker, self.refusal)
     }
@@ -115,7 +118,7 @@ impl<K: RoundCore, J: Opening> Shared<K, J> {
 
     /// Makes an event of the core, and keeps that its log was full.
     fn event(&mut self, worker: u32) -> Result<Step, OutOfMemory>
-        requires worker { worker < 4 }
+        requires worker { worker < K.workers }
         requires calm { self.old.refusal ≡ keeps.Nothing }
         ensures event { IfOk result (λ step. K.makes self.old.core worker step self.new.core) }
         ensures keeps { result ≡ Ok steps.LogFull → self.new.refusal ≡ keeps.LogFull }
@@ -135,7 +138,7 @@ impl<K: RoundCore, J: Opening> Shared<K, J> {
     /// Takes a message, or makes an event of the core where there is none.
     fn go_on<R: Wait>(&mut self, rt: &R, intake: &Intake, worker: u32) -> Result<Step, OutOfMemory>
         requires name { intake.now ≡ J.intake }
-        requires worker { worker < 4 }
+        requires worker { worker < K.workers }
         requires calm { self.old.refusal ≡ keeps.Nothing }
         ensures keeps { result ≡ Ok steps.LogFull → self.new.refusal ≡ keeps.LogFull }
         ensures full { self.new.refusal ≡ keeps.LogFull → result ≡ Ok steps.LogFull }
@@ -155,6 +158,8 @@ impl<K: RoundCore, J: Opening> Shared<K, J> {
 }
 
 impl<K: RoundCore, J: Opening> RoundValue<J> for Shared<K, J> {
+    ghost workers = { K.workers };
+
     ghost taker = { λ s. s.taker };
 
     ghost refusal = { λ s. s.refusal };

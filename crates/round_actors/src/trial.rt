@@ -69,7 +69,8 @@ pub fn try_core<R: Threads + Wait + Sync, G: Gate + Sync>(
 ) -> Result<(FakeCore, Kept), OutOfMemory>
     requires few { (0 < producers) × (producers ≤ 4) × (workers ≤ 4) }
     requires sections { AreSectionsOf producers sections.now }
-    ensures { IfOk result (λ ran. CoreRan sections.now ran.1 [] ran.0.taken.items 0 ran.0.restarts) }
+    ensures ran { IfOk result (λ ran. CoreRan sections.now ran.1 [] ran.0.taken.items 0 ran.0.restarts) }
+    ensures cause { IfOk result (λ ran. ran.1 ≡ keeps.LogFull → ran.0.places ≤ length ran.0.taken.items + ran.0.restarts) }
 {
     let made = Intake::new(alloc, producers)?;
     let ran = run_core::<R, Brand, FakeCore, G>(

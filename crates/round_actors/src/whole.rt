@@ -1,6 +1,7 @@
 // A round on a core.
 ghost use Rattle.std.specs.Prelude.{◌≡◌, ◌≤◌};
 ghost use Rattle.intake_queue.specs.Values.{AreNew, new_receiver};
+ghost use Rattle.round_actors.specs.declared.answers.Kept.TheVariants as keeps;
 ghost use Rattle.round_actors.specs.Round.{AreSectionsOf, CoreRan};
 
 use crate::answers::Kept;
@@ -16,7 +17,7 @@ use std::thread::Threads;
 use swss_script::Section;
 use swss_types::Gate;
 
-/// The actors of a round on a core. It gives the core back, and the refusal that was kept.
+/// The actors of a round on a core. It gives the core back, and the refusal that was kept: LogFull only where the core is full.
 pub fn run_core<
     R: Threads + Wait + Sync,
     J: Opening + Send + Sync,
@@ -38,9 +39,10 @@ pub fn run_core<
     requires restarts { (restarts.name ≡ J.name) × (restarts.parts ≡ J.parts) × (restarts.parts ≡ 4) }
     requires stops { (stops.name ≡ J.stops_name) × (stops.parts ≡ J.stops_parts) × (stops.parts ≡ 4) }
     requires opening { (K.taken core ≡ J.taken) × (K.restarts core ≡ J.restarts) }
-    requires few { (made.intake.producers ≤ 4) × (workers ≤ 4) }
+    requires few { (made.intake.producers ≤ 4) × (workers ≤ 4) × (workers ≤ K.workers) }
     requires sections { AreSectionsOf made.intake.producers sections.now }
-    ensures { CoreRan sections.now result.1 J.taken (K.taken result.0) J.restarts (K.restarts result.0) }
+    ensures ran { CoreRan sections.now result.1 J.taken (K.taken result.0) J.restarts (K.restarts result.0) }
+    ensures cause { result.1 ≡ keeps.LogFull → K.full result.0 }
 {
     let Made {
         intake,

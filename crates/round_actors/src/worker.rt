@@ -36,7 +36,7 @@ fn step<R: Wait, J: RoundName, V: RoundValue<J>>(
     worker: u32,
 ) -> bool
     requires name { intake.now ≡ J.intake }
-    requires worker { worker < 4 }
+    requires worker { worker < V.workers }
     ensures full { V.refusal value.new ≡ keeps.LogFull → result ≡ false }
     ensures memory { V.refusal value.new ≡ keeps.NoMemory → result ≡ false }
 {
@@ -53,7 +53,7 @@ fn step_locked<R: Wait, J: RoundName, V: RoundValue<J>>(
     worker: u32,
 ) -> bool
     requires name { intake.now ≡ J.intake }
-    requires worker { worker < 4 }
+    requires worker { worker < V.workers }
 {
     let mut value = shared.lock(rt);
     step::<R, J, V>(rt, intake, &mut value, producers, worker)
@@ -69,7 +69,7 @@ fn work<R: Wait, J: RoundName, V: RoundValue<J>, G: Gate>(
     worker: u32,
 )
     requires name { intake.now ≡ J.intake }
-    requires worker { worker < 4 }
+    requires worker { worker < V.workers }
 {
     let mut number = 0u64;
     for _ in rt.forever() {
@@ -94,7 +94,7 @@ pub fn run_actor<R: Wait, J: RoundName, V: RoundValue<J>, G: Gate>(
     actor: &mut Actor<J>,
 )
     requires name { intake.now ≡ J.intake }
-    requires may { MayRun intake.now sections.now actor.old }
+    requires may { MayRun intake.now sections.now V.workers actor.old }
     ensures { HasRun sections.now actor.old actor.new }
 {
     match actor {

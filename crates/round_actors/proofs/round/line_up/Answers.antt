@@ -30,12 +30,11 @@ loop-worker-preserved g c =
     let v = c.loop-worker.invariant in
     let w = c.loop-worker.worker in
     let test = c.loop-worker-test.true in
-    let few = c.requires.few.1 in
     let items = c.push_reserved-in-loop-worker.ensures.items in
     let long = ap length {x = c.push_reserved-in-loop-worker.new.self.items} {y = c.loop-worker.actors.items ++ actor.Worker w ∷ []} items in
     let both = length-append c.loop-worker.actors.items (actor.Worker w ∷ []) in
     let room = c.push_reserved-in-loop-worker.ensures.capacity in
-    let more = workers-more c.args._intake.now c.args._sections.now c.args.passes.items c.loop-worker.actors.items c.push_reserved-in-loop-worker.new.self.items w (omega arith) v.0 v.1 items in
+    let more = workers-more c.args._intake.now c.args._sections.now c.args.workers c.args.passes.items c.loop-worker.actors.items c.push_reserved-in-loop-worker.new.self.items w (omega arith) v.0 v.1 items in
     let parts = more.2 in
     let held = v.2 in
     let before = v.5 in (more.0, more.1, omega arith, v.3, v.4, omega arith)

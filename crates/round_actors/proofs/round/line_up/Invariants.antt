@@ -10,5 +10,5 @@ invariant-loop-pass g l = LinesUp l._intake l._sections l.fn.passes.items l.fn.r
     × (l.stops.parts + l.number ≡ l.fn.stops.parts) × (l.stops.amount ≡ 0)
 
 abbrev pub invariant-loop-worker : goal.invariant-loop-worker
-invariant-loop-worker g l = (passes_of l.actors.items ≡ l.fn.passes.items) × All (λ a. MayRun l._intake l._sections a) l.actors.items
+invariant-loop-worker g l = (passes_of l.actors.items ≡ l.fn.passes.items) × All (λ a. MayRun l._intake l._sections l.workers a) l.actors.items
     × (l.restarts.parts + parts_in l.actors.items ≡ l.fn.restarts.parts) × (l.restarts.amount ≡ 0) × (l.stops.amount ≡ 0) × (length l.actors.items + l.workers ≤ vec_capacity l.actors + l.worker)

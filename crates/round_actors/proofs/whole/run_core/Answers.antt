@@ -4,8 +4,8 @@ use Rattle.round_actors.specs.Round.{CoreRan}
 use Rattle.round_actors.proofs.Took.{core-ran}
 use Rattle.round_actors.proofs.whole.run_core.Goals as goal
 
-pub returns : goal.returns
-returns g c =
+pub returns-clause-ran : goal.returns-clause-ran
+returns-clause-ran g c =
     let K = g.K.RoundCore in
     let J = g.J.Opening in
     let value = c.run_actors-value.result.value in
