@@ -1,0 +1,9 @@
+pub mod Going
+pub mod Stepping
+pub mod Rounds
+pub mod Serving
+pub mod Acts
+pub mod Parts
+pub mod Alike
+pub mod OneRound
+pub mod Scripts

@@ -1,0 +1,20 @@
+//! A round: the core and its chip under the lock that its actors share, and the settling behind them.
+#![tactic(auto)]
+
+mod alone;
+mod ending;
+mod locked;
+mod name;
+mod one_worker;
+mod rounding;
+mod served;
+mod taking;
+mod whole;
+
+pub use ending::RoundEnd;
+pub use locked::Locked;
+pub use name::Named;
+pub use one_worker::round_alone;
+pub use rounding::Rounded;
+pub use served::Served;
+pub use whole::round;
