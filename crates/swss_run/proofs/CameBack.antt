@@ -25,7 +25,7 @@ use Rattle.orch_core.proofs.Coming.{restarts_both}
 use Rattle.swss_script.specs.Sent.{sent_in_round}
 use Rattle.swss_script.specs.declared.parts.Round.{Round}
 use Rattle.swss_run.specs.Rounds.{Ran}
-use Rattle.swss_run.specs.Running.{HasCome, StopsRound, round_ended}
+use Rattle.swss_run.specs.Running.{HasCome, StopsRound, settling_ended}
 use Rattle.swss_run.specs.declared.status.Status.{Status}
 use Rattle.swss_run.specs.declared.status.Status.TheVariants as status
 use Rattle.swss_run.proofs.Counting.{HasRestarted}
@@ -52,14 +52,14 @@ least_within taken effects (x ∷ xs) mark ys h = least_within taken effects xs 
 
 module _ (P : Status → Type 0) (Q : Result Settled OutOfMemory → Type 0) where
   -- the round ended
-  by_end : (Q (Ok settled.Settled) → P status.Done) → (Q (Ok settled.Faulted) → P status.ChipFault) → (r : Result Settled OutOfMemory) (ended : Status) → round_ended r ≡ Ok ended → Q r → P ended
+  by_end : (Q (Ok settled.Settled) → P status.Done) → (Q (Ok settled.Faulted) → P status.ChipFault) → (r : Result Settled OutOfMemory) (ended : Status) → settling_ended r ≡ Ok ended → Q r → P ended
   by_end settles faults (Ok settled.Settled) ended same q = let is : status.Done ≡ ended = cc in subst P is (settles q)
   by_end settles faults (Ok settled.Faulted) ended same q = let is : status.ChipFault ≡ ended = cc in subst P is (faults q)
   by_end settles faults (Ok settled.LogFull) ended same q = cc
   by_end settles faults (Err wanting) ended same q = cc
 
   -- or it was stopped
-  by_stop : (Q (Ok settled.LogFull) → P status.LogFull) → ((wanting : OutOfMemory) → Q (Err wanting) → P status.OutOfMemory) → (r : Result Settled OutOfMemory) (ended : Status) → round_ended r ≡ Err ended → Q r → P ended
+  by_stop : (Q (Ok settled.LogFull) → P status.LogFull) → ((wanting : OutOfMemory) → Q (Err wanting) → P status.OutOfMemory) → (r : Result Settled OutOfMemory) (ended : Status) → settling_ended r ≡ Err ended → Q r → P ended
   by_stop full short (Ok settled.Settled) ended same q = cc
   by_stop full short (Ok settled.Faulted) ended same q = cc
   by_stop full short (Ok settled.LogFull) ended same q = let is : status.LogFull ≡ ended = cc in subst P is (full q)
@@ -68,12 +68,12 @@ module _ (P : Status → Type 0) (Q : Result Settled OutOfMemory → Type 0) whe
 -- ---- a core that is reconciled
 
 module _ (round : Round) (old : CoreState) (sim : ChipState) (since : Ran) (c : CoreState) (cchip : ChipState) (come : HasCome old sim since c cchip) (all : since.sent ≡ sent_in_round round) (restarted : HasRestarted round old.log.marks since.marks c.warm) (new : CoreState) (sim' : ChipState) (at : c.warm ≡ warm.Reconciled) where
-  pub ends-over : (Settles come.within.session c cchip (Ok settled.Settled) new sim' → IsOver round old sim status.Done new sim') → (Settles come.within.session c cchip (Ok settled.Faulted) new sim' → (calls : List (Call Rid)) → sim'.effects ≡ cchip.effects ++ calls → IsCutSo old sim since calls) → (r : Result Settled OutOfMemory) (ended : Status) → round_ended r ≡ Ok ended → Settles come.within.session c cchip r new sim' → ArePendingInOrder new.tables.waiting → IsOver round old sim ended new sim'
+  pub ends-over : (Settles come.within.session c cchip (Ok settled.Settled) new sim' → IsOver round old sim status.Done new sim') → (Settles come.within.session c cchip (Ok settled.Faulted) new sim' → (calls : List (Call Rid)) → sim'.effects ≡ cchip.effects ++ calls → IsCutSo old sim since calls) → (r : Result Settled OutOfMemory) (ended : Status) → settling_ended r ≡ Ok ended → Settles come.within.session c cchip r new sim' → ArePendingInOrder new.tables.waiting → IsOver round old sim ended new sim'
   ends-over whole cut r ended same e order =
       by_end (λ z. IsOver round old sim z new sim') (λ a. Settles come.within.session c cchip a new sim') whole
       (λ h. settled-faulted round old sim since c cchip come all restarted new sim' at (cut h) h order) r ended same e
 
-  pub ends-stopped : (r : Result Settled OutOfMemory) (ended : Status) → round_ended r ≡ Err ended → Settles come.within.session c cchip r new sim' → IsStopped round old sim ended new sim'
+  pub ends-stopped : (r : Result Settled OutOfMemory) (ended : Status) → settling_ended r ≡ Err ended → Settles come.within.session c cchip r new sim' → IsStopped round old sim ended new sim'
   ends-stopped r ended same e =
       by_stop (λ z. IsStopped round old sim z new sim') (λ a. Settles come.within.session c cchip a new sim')
       (λ h. inl (refl, settled-full round old sim since c cchip come all restarted new sim' at h))
@@ -211,22 +211,22 @@ module _ (round : Round) (old : CoreState) (sim : ChipState) (since : Ran) (mid 
         back_since (Ok settled.LogFull) (inr h) = since_back (Ok settled.LogFull) (inr h) h.log h.later.service.core h.calls h.so h.effects
         back_since (Err wanting) h = since_back (Err wanting) h h.log h.then h.calls h.so h.effects
 
-      back_over : (r : Result Settled OutOfMemory) (ended : Status) → round_ended r ≡ Ok ended → Settles x.later c cchip r new sim' → ArePendingInOrder new.tables.waiting → IsOver round old sim ended new sim'
+      back_over : (r : Result Settled OutOfMemory) (ended : Status) → settling_ended r ≡ Ok ended → Settles x.later c cchip r new sim' → ArePendingInOrder new.tables.waiting → IsOver round old sim ended new sim'
       back_over r ended same h order =
           ends-over round old sim (since_on c cchip x.later x.comes) c cchip (on c cchip x.later x.comes).0 all (restarted_on c cchip x.later x.comes) new sim' x.warm
           (settled-behind round old sim (since_on c cchip x.later x.comes) c cchip (on c cchip x.later x.comes).0 all (restarted_on c cchip x.later x.comes) new sim' x.warm behind_back some_back free_back rows_back)
           cut_back r ended same (as_on r h) order
 
-      back_stopped : (r : Result Settled OutOfMemory) (ended : Status) → round_ended r ≡ Err ended → Settles x.later c cchip r new sim' → IsStopped round old sim ended new sim'
+      back_stopped : (r : Result Settled OutOfMemory) (ended : Status) → settling_ended r ≡ Err ended → Settles x.later c cchip r new sim' → IsStopped round old sim ended new sim'
       back_stopped r ended same h = ends-stopped round old sim (since_on c cchip x.later x.comes) c cchip (on c cchip x.later x.comes).0 all (restarted_on c cchip x.later x.comes) new sim' x.warm r ended same (as_on r h)
 
     -- its settling
-    pub from-over : (r : Result Settled OutOfMemory) (ended : Status) → round_ended r ≡ Ok ended → SettlesFrom come.within.session mid chip r new sim' → ArePendingInOrder new.tables.waiting → IsOver round old sim ended new sim'
+    pub from-over : (r : Result Settled OutOfMemory) (ended : Status) → settling_ended r ≡ Ok ended → SettlesFrom come.within.session mid chip r new sim' → ArePendingInOrder new.tables.waiting → IsOver round old sim ended new sim'
     from-over r ended same (Back c cchip x h) order = back_over c cchip x r ended same h order
     from-over r ended same (Stopped h) order =
         by_end (λ z. IsOver round old sim z new sim') (λ a. StopsBack come.within.session mid chip a new sim') (λ none. absurd none) (λ failed. on_failed failed order) r ended same h
 
-    pub from-stopped : (r : Result Settled OutOfMemory) (ended : Status) → round_ended r ≡ Err ended → SettlesFrom come.within.session mid chip r new sim' → IsStopped round old sim ended new sim'
+    pub from-stopped : (r : Result Settled OutOfMemory) (ended : Status) → settling_ended r ≡ Err ended → SettlesFrom come.within.session mid chip r new sim' → IsStopped round old sim ended new sim'
     from-stopped r ended same (Back c cchip x h) = back_stopped c cchip x r ended same h
     from-stopped r ended same (Stopped h) =
         by_stop (λ z. IsStopped round old sim z new sim') (λ a. StopsBack come.within.session mid chip a new sim') (λ full. inl (refl, on_full full)) (λ wanting short. inr (refl, on_short wanting short)) r ended same h

@@ -15,7 +15,8 @@ use Rattle.orch_core.specs.ComingBack.{AreOnWay, restarts_at, restarts_due, rest
 use Rattle.orch_core.proofs.Coming.{restarts_both}
 use Rattle.swss_script.specs.Sent.{restarts_in}
 use Rattle.swss_script.specs.declared.parts.Round.{Round}
-use Rattle.swss_run.specs.Faults.{CountsOne, FaultsRise, faults_then, places_beside}
+use Rattle.swss_service.specs.Faults.{CountsOne, FaultsRise, faults_then}
+use Rattle.swss_run.specs.Faults.{places_beside}
 use Rattle.swss_run.specs.Restarts.{HasFewRestarts, HasRestarts, RestartsAfterFault}
 
 -- ---- the counts of faults

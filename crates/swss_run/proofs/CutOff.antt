@@ -1,5 +1,5 @@
 -- the calls of a round that did not end, or that a fault ended, are those of its turns so far
-use Rattle.std.proofs.Common.{◌≡◌, ◌⊎◌, ◌∷◌, ◌++◌, ◌∙◌, inl, inr, List, [], Option, Some, refl, sym, ap, subst}
+use Rattle.std.proofs.Common.{◌≡◌, ◌⊎◌, ◌∷◌, ◌++◌, ◌∙◌, inl, inr, List, [], Option, Some, sym, ap, subst}
 use Rattle.std.proofs.lemmas.List.{append-nil, append_assoc, append_cancel_left}
 use Rattle.table_schema.specs.declared.write.Sent.{Sent}
 use Rattle.sai_types.specs.ChipState.{ChipState}
@@ -16,8 +16,9 @@ use Rattle.session_laws.specs.Leading.{calls_in, with_calls}
 use Rattle.round_laws.specs.Between.{IsInRound, round_from}
 use Rattle.round_laws.specs.Turns.{IsMadeSoFar}
 use Rattle.round_laws.proofs.Cut.{made-so-far}
-use Rattle.round_laws.proofs.Turned.{before, round-quiet}
+use Rattle.round_laws.proofs.Turned.{before, no-answers, round-quiet}
 use Rattle.orch_core.specs.Settled.{AreByWorkers, BehindThem, InAnswers, SettlesSoFar, StopsFaulted}
+use Rattle.orch_core.proofs.Runs.{by_are}
 
 module _ (since : Option Mark) (old : CoreState) (chip : ChipState) (sent : List Sent) (c : CoreState) (x : IsInRound 1 since old chip sent c) where
   abbrev core : SwitchState
@@ -33,9 +34,8 @@ module _ (since : Option Mark) (old : CoreState) (chip : ChipState) (sent : List
       (subst (λ (y : SyncState). IsMadeSoFar c.board.plan y.capacities (round_from since old chip sent calls mark)) x.sync h)
 
   -- no worker had anything under way
-  no_answers : (answers : List (Call Rid × SwitchState)) → AreByWorkers c.board.plan 0 4 core answers → answers ≡ []
-  no_answers [] run = refl
-  no_answers (a ∷ rest) run = absurd (round-quiet since old c chip sent x run.0.next.worker run.0.next.flight run.0.next.flying)
+  none_given : (answers : List (Call Rid × SwitchState)) → AreByWorkers c.board.plan 0 4 core answers → answers ≡ []
+  none_given answers run = no-answers c.board.plan core answers (round-quiet since old c chip sent x) (by_are c.board.plan 0 4 core answers run)
 
   no_call : (call : Call Rid) (t : SwitchState) → t ≡ core → AreTried 4 t (call ∷ []) → ⊥
   no_call call t same (DueCall _ due) = round-quiet since old c chip sent x due.worker due.flight (subst (λ (z : SwitchState). z.machine.board.flights due.worker ≡ Some due.flight) same due.flying)
@@ -46,10 +46,10 @@ module _ (since : Option Mark) (old : CoreState) (chip : ChipState) (sent : List
 
   pub cut-off : (t : SwitchState) (calls failed : List (Call Rid)) → SettlesSoFar c.board.plan c.sync.capacities core t calls → AreTried 4 t failed → (mark : Mark) → MadeSo (calls ++ failed) mark
   cut-off t calls failed (InAnswers (answers, are, is, same)) tried mark =
-      let none = no_answers answers are in
+      let none = none_given answers are in
       inl (in_answers t calls failed (is ∙ ap (after_answers core) none) (same ∙ ap calls_in none) tried)
   cut-off t calls failed (BehindThem answers more are quiet cut same) tried mark =
-      let none = no_answers answers are in
+      let none = none_given answers are in
       let made = made-so-far since old c chip sent x t more (subst (λ z. IsSettlingSoFar c.board.plan 4 c.sync.capacities (with_calls z []) (with_calls t more)) (ap (after_answers core) none) cut) failed tried mark in
       subst (λ l. MadeSo (l ++ failed) mark) (sym (same ∙ ap (λ l. calls_in l ++ more) none)) (as_old (more ++ failed) mark made)
 

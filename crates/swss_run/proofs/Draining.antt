@@ -1,7 +1,6 @@
 -- behind a restart a settling leaves no key, where the good rows are closed and there is room for their things
-use Rattle.std.proofs.Common.{◌≡◌, inl, inr, ℕ, ◌<◌, ◌≤◌, Bool, true, false, List, [], ◌∷◌, ◌++◌, length, Option, Some, None, refl, sym, ap, ◌∙◌, subst, arith, if◌then◌else◌}
+use Rattle.std.proofs.Common.{◌≡◌, inl, inr, ℕ, ◌<◌, ◌≤◌, Bool, true, false, List, [], ◌∷◌, ◌++◌, length, Option, Some, None, sym, ap, ◌∙◌, subst, arith, if◌then◌else◌}
 use Rattle.std.specs.BTreeMap.{is_at}
-use Rattle.std.proofs.lemmas.Option.{same_Some}
 use Rattle.table_schema.specs.Key.{key_cmp}
 use Rattle.table_schema.specs.Plan.{Ports}
 use Rattle.table_schema.specs.Rows.{rows_of}
@@ -22,17 +21,18 @@ use Rattle.switch_model.specs.Room.{HasRoomForView, IsRoundThing}
 use Rattle.switch_model.specs.declared.mark.Mark.{Mark}
 use Rattle.switch_model.specs.declared.mark.MarkEvent.{MarkEvent}
 use Rattle.switch_model.specs.declared.mark.MarkEvent.TheVariants as event
-use Rattle.switch_machine.specs.Events.{AreAnswers, SwitchState, after_answers}
+use Rattle.switch_machine.specs.Events.{SwitchState, after_answers}
 use Rattle.flight_board.specs.Applied.{row_at}
 use Rattle.flight_board.specs.Board.{flown_at}
 use Rattle.restart_laws.specs.Logged.{last_mark}
 use Rattle.restart_laws.proofs.Logged.{HasBegun}
-use Rattle.restart_laws.proofs.Marking.{last-more}
 use Rattle.warm_state.specs.declared.warm.Warm.TheVariants as warm
 use Rattle.session_laws.specs.Core.{CoreState}
 use Rattle.session_laws.specs.Leading.{SettlesTo}
 use Rattle.round_laws.specs.Sessions.{InSession}
 use Rattle.round_laws.proofs.Awaited.{last-true}
+use Rattle.round_laws.proofs.Behind.{begun-mark}
+use Rattle.round_laws.proofs.Turned.{no-answers}
 use Rattle.round_laws.proofs.Drained.{settling-drains}
 use Rattle.round_laws.proofs.Resting.{all-good, core-quiet}
 use Rattle.round_laws.proofs.Sessions.{its_plan, marks-true, told_of}
@@ -60,7 +60,7 @@ module _ (b : CoreState) (bchip : ChipState) (x : InSession 1 b bchip) (at : b.w
   begun = (told_of b bchip x).begun (x.stands.always.warm_is ∙ at)
 
   same_mark : begun.mark ≡ mark
-  same_mark = same_Some begun.mark mark (sym begun.last ∙ ap (λ (h : History). last_mark None h.marks) x.stands.always.log ∙ ap (λ l. last_mark None l) marks ∙ last-more None earlier mark)
+  same_mark = begun-mark b bchip x at earlier mark marks
 
   true_last : IsTrueMark b.board.plan b.sync.capacities b.log.taken bchip.effects (last_mark None earlier) mark mark.event
   true_last = last-true b.board.plan b.sync.capacities b.log bchip.effects None earlier mark (subst (AreTrueMarks b.board.plan b.sync.capacities b.log.taken bchip.effects None) marks (marks-true b bchip x))
@@ -82,16 +82,15 @@ module _ (c new : CoreState) (chip chip' : ChipState) (x : InSession 1 c chip) (
   abbrev core : SwitchState
   core = x.session.service.core
 
-  none_left : (answers : List (Call Rid × SwitchState)) → AreAnswers c.board.plan 4 core answers → answers ≡ []
-  none_left [] run = refl
-  none_left (a ∷ rest) run = absurd (core-quiet c chip x at free run.0.next.worker run.0.next.flight run.0.next.flying)
+  none_left : y.answers ≡ []
+  none_left = no-answers c.board.plan core y.answers (core-quiet c chip x at free) y.are
 
   abbrev good : TypedRows
   good = good_rows c.board.plan (rows_of (sent_writes c.log.taken))
 
   applied_good : (k : Key) (row : Row) → (after_answers core y.answers).machine.board.applied k ≡ Some row → good_rows_at c.board.plan c.log.taken (length c.log.taken) k ≡ Some row
   applied_good k row there =
-      rows k row (sym ((x.stands.working at).1.rows k) ∙ ap (λ answers. (after_answers core answers).machine.board.applied k) (sym (none_left y.answers y.are)) ∙ there)
+      rows k row (sym ((x.stands.working at).1.rows k) ∙ ap (λ answers. (after_answers core answers).machine.board.applied k) (sym none_left) ∙ there)
 
   abbrev none_before : TypedRows
   none_before k = None

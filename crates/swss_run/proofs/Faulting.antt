@@ -12,7 +12,8 @@ use Rattle.session_laws.specs.Core.{CoreState, mark_at, size_beside}
 use Rattle.round_laws.specs.Sessions.{InSession}
 use Rattle.round_laws.proofs.Sessions.{warm-after}
 use Rattle.orch_core.specs.ComingBack.{places_on_way}
-use Rattle.swss_run.specs.Faults.{FaultsRise, places_beside}
+use Rattle.swss_service.specs.Faults.{FaultsRise}
+use Rattle.swss_run.specs.Faults.{places_beside}
 use Rattle.swss_run.proofs.Counting.{beside-list, beside-one, restart-last, rise-mark}
 
 -- the size that a core counts is that of its log

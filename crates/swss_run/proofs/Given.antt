@@ -20,7 +20,7 @@ use Rattle.swss_script.specs.declared.parts.Round.{Round}
 use Rattle.swss_script.specs.declared.parts.Section.{Section}
 use Rattle.swss_script.specs.declared.script.Script.{Script}
 use Rattle.swss_script.proofs.SetFields.{keys-were_read}
-use Rattle.swss_run.specs.Taking.{HaveReadKeys}
+use Rattle.swss_service.specs.Taking.{HaveReadKeys}
 
 -- ---- in each round
 

@@ -20,7 +20,7 @@ use Rattle.orch_core.proofs.Chips.{effects_asked, keeps_alike, keeps_asked}
 use Rattle.orch_core.proofs.Coming.{restarts_both, way_both}
 use Rattle.orch_core.proofs.Serving.{comes_serves}
 use Rattle.swss_script.specs.declared.parts.Round.{Round}
-use Rattle.swss_run.specs.Faults.{FaultsRise}
+use Rattle.swss_service.specs.Faults.{FaultsRise}
 use Rattle.swss_run.specs.Rounds.{Ran}
 use Rattle.swss_run.specs.Running.{HasCome, KeepsPlan}
 use Rattle.swss_run.proofs.Counting.{HasRestarted, rise-later, rise-way}

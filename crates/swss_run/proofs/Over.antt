@@ -33,7 +33,8 @@ use Rattle.orch_core.specs.ComingBack.{restarts_due, restarts_marked}
 use Rattle.orch_core.specs.Outcomes.{KeepsChip}
 use Rattle.swss_script.specs.Sent.{sent_in_round}
 use Rattle.swss_script.specs.declared.parts.Round.{Round}
-use Rattle.swss_run.specs.Faults.{FaultsRise, places_beside}
+use Rattle.swss_service.specs.Faults.{FaultsRise}
+use Rattle.swss_run.specs.Faults.{places_beside}
 use Rattle.swss_run.specs.Rounds.{Ran}
 use Rattle.swss_run.specs.Running.{EndsRound, HasCome, KeepsPlan, with_round}
 use Rattle.swss_run.specs.Turned.{DrainsBehind, EndedApply, EndsTurned, IsRoundTurned, behind_apply}

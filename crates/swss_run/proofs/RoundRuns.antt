@@ -1,7 +1,7 @@
 -- what a round comes to, from its acts and its settling
 use Rattle.std.proofs.Common.{◌≡◌, ◌⊎◌, inl, inr, ℕ, ◌+◌, ◌-◌, ◌<◌, ◌≤◌, true, List, [], ◌∷◌, ◌++◌, length, drop, Option, Result, Ok, Err, refl, sym, ap, ◌∙◌, subst, arith}
 use Rattle.std.proofs.Math.Seq.{drop-append_seam}
-use Rattle.std.proofs.lemmas.List.{append-nil, length-append, nil_from_length}
+use Rattle.std.proofs.lemmas.List.{append-nil, append_assoc, length-append, nil_from_length}
 use Rattle.swss_types.specs.declared.out_of_memory.OutOfMemory.{OutOfMemory}
 use Rattle.table_schema.specs.Plan.{Ports}
 use Rattle.table_schema.specs.Rows.{Rows, rows_of}
@@ -24,7 +24,7 @@ use Rattle.flight_board.specs.Board.{BoardState}
 use Rattle.restart_laws.specs.Logged.{LoggedService}
 use Rattle.syncd_core.specs.Synced.{SyncState}
 use Rattle.warm_state.specs.declared.warm.Warm.TheVariants as warm
-use Rattle.session_laws.specs.Core.{CoreState, IsFullFor, mark_at, size_beside}
+use Rattle.session_laws.specs.Core.{CoreState, IsFullFor, mark_at}
 use Rattle.session_laws.specs.Service.Events.{MakesMore}
 use Rattle.session_laws.specs.Service.Standing.{IsServiceOf}
 use Rattle.round_laws.specs.Between.{IsInRound, mark_of, round_from}
@@ -47,27 +47,26 @@ use Rattle.orch_core.specs.declared.answer.Settled.TheVariants as settled
 use Rattle.orch_core.proofs.Chips.{fails_asked}
 use Rattle.orch_core.proofs.Coming.{settles_as_ever}
 use Rattle.orch_core.proofs.Serving.{settle_serves}
-use Rattle.swss_script.specs.Sent.{next_sent, restarts_in, sent_in_round, writes_in}
-use Rattle.swss_script.specs.declared.parts.Act.{Act}
-use Rattle.swss_script.specs.declared.parts.Act.TheVariants as act
+use Rattle.swss_script.specs.Sent.{restarts_in, sent_in_round, writes_in}
 use Rattle.swss_script.specs.declared.parts.Round.{Round}
 use Rattle.swss_script.specs.declared.parts.Show.{Show}
-use Rattle.swss_report.specs.Ended.{Ended}
 use Rattle.swss_report.specs.Round.{IsRoundText}
-use Rattle.swss_run.specs.Faults.{FaultsRise}
+use Rattle.swss_service.specs.Faults.{FaultsRise}
+use Rattle.swss_service.specs.Made.{restarts_made, with_made, writes_among}
+use Rattle.swss_service.specs.Round.{AreAllMade, AreSomeMade, FillsUp, RoundsTo, SettlesActs as Settling}
+use Rattle.swss_service.specs.Taking.{HaveReadKeys}
+use Rattle.swss_service.specs.declared.ending.RoundEnd.{RoundEnd}
+use Rattle.swss_service.specs.declared.ending.RoundEnd.TheVariants as end
 use Rattle.swss_run.specs.Full.{IsFull}
 use Rattle.swss_run.specs.Full.IsFull.{AtRestart, AtWrite}
 use Rattle.swss_run.specs.Rounds.{Ran}
-use Rattle.swss_run.specs.Running.{HasCome, HasLines, IsRunReady, IsRoundRun, IsWritten, KeepsPlan, StopsInTurns, StopsRound, round_ended}
+use Rattle.swss_run.specs.Running.{HasCome, HasLines, IsRunReady, IsRoundRun, IsWritten, KeepsPlan, StopsInTurns, StopsRound, ended_now, round_ended, settling_ended}
 use Rattle.swss_run.specs.Running.IsWritten.{Whole, Failed, Wanting, Unwritten}
-use Rattle.swss_run.specs.Taking.{HaveReadKeys, IsRoundMade, StaysWithin, acts_in, acts_made, restarts_made, writes_among, with_made}
 use Rattle.swss_run.specs.Told.{IsToldOf}
 use Rattle.swss_run.specs.Turned.{EndsTurned, IsSinceTurned, round_at}
 use Rattle.swss_run.specs.declared.status.Status.{Status}
 use Rattle.swss_run.specs.declared.status.Status.TheVariants as status
-use Rattle.swss_run.specs.declared.taking.Taken.TheVariants as taken
 use Rattle.swss_run.specs.declared.told.Told.{Told}
-use Rattle.swss_run.proofs.Acts.{restarts-front, restarts-made, sent-front, sent-made}
 use Rattle.swss_run.proofs.CameBack.{ends-over, ends-stopped, from-over, from-since, from-stopped}
 use Rattle.swss_run.proofs.Counting.{HasRestarted, suspect-now, unsettled}
 use Rattle.swss_run.proofs.Given.{AreOnSwitch, on-front, on-round}
@@ -88,7 +87,7 @@ settled-fails mid chip s (Ok settled.LogFull) new chip' (inr e) = e.keeps.fails
 settled-fails mid chip s (Err wanting) new chip' e = e.keeps.fails
 
 -- the chip has the failing calls that it was made with
-pub from-fails : (mid : CoreState) (chip : ChipState) (s : LoggedService) (r : Result Settled OutOfMemory) (new : CoreState) (chip' : ChipState) → SettlesFrom s mid chip r new chip' → chip'.fails ≡ chip.fails
+from-fails : (mid : CoreState) (chip : ChipState) (s : LoggedService) (r : Result Settled OutOfMemory) (new : CoreState) (chip' : ChipState) → SettlesFrom s mid chip r new chip' → chip'.fails ≡ chip.fails
 from-fails mid chip s r new chip' (Back c cchip x h) = settled-fails c cchip x.later r new chip' h ∙ x.comes.keeps.fails
 from-fails mid chip s (Ok settled.Settled) new chip' (Stopped h) = absurd h
 from-fails mid chip s (Ok settled.Faulted) new chip' (Stopped h) = h.stops.1.fails ∙ h.comes.keeps.fails
@@ -114,6 +113,13 @@ text-as shows lines p p' n n' ms ms' t t' r r' c c' o o' e e' b b' ps ns mss ts 
     (subst (λ x. IsRoundText (record { plan = p; number = n; marks = ms; taken = t; rows = r; capacities = c; objects = o; effects = e }) x shows lines) bs text))))))))
 
 -- ---- a round
+
+-- writes, marks and calls are those that there were, and then some
+pub record HasGrown (old : CoreState) (sim : ChipState) (new : CoreState) (sim' : ChipState) : Type 0 where
+  pub taken : (more : List Sent) × (new.log.taken ≡ old.log.taken ++ more)
+  pub marks : (more : List Mark) × (new.log.marks ≡ old.log.marks ++ more)
+  pub calls : (more : List (Call Rid)) × (sim'.effects ≡ sim.effects ++ more)
+  pub fails : sim'.fails ≡ sim.fails
 
 -- a round that stopped with a full log, in its turns
 abbrev IsFullRun : Round → CoreState → ChipState → CoreState → ChipState → Type 0
@@ -147,113 +153,107 @@ front_all xs ys zs rest more split grown = split ∙ ap (λ l. zs ++ l) none ∙
         let then = length-append xs ys in
         nil_from_length rest (omega (arith, front, now, then))
 
-module _ (round : Round) (old : CoreState) (sim : ChipState) (replay : Replayed) (ready : IsRunReady old sim replay) (read : HaveReadKeys (writes_in round.sections)) (mid : CoreState) (effects : ℕ) (count_is : effects ≡ length sim.effects) (stays : StaysWithin effects old mid) where
-  -- the log is within its limit before the acts, and after some of them
-  within_old : size_beside old effects ≤ old.limit
-  within_old =
-      let size = sized old sim ready.ready.within in
-      let places = ready.places in
-      subst (λ n. size_beside old n ≤ old.limit) (sym count_is) (omega (arith, size, places))
+module _ (round : Round) (old : CoreState) (sim : ChipState) (replay : Replayed) (ready : IsRunReady old sim replay) (read : HaveReadKeys (writes_in round.sections)) where
+  -- the log is within its limit
+  within_old : IsWithinLimit old sim
+  within_old = let size = sized old sim ready.ready.within in let places = ready.places in omega (arith, size, places)
 
-  within_mid : IsWithinLimit mid sim
-  within_mid = subst (λ n. size_beside mid n ≤ mid.limit) count_is (stays within_old)
+  -- ---- some of its acts were made
 
-  -- after some of its acts
-  module _ (done later : List (ℕ × Act)) (split : acts_in round.sections ≡ done ++ later) (is : mid ≡ with_made effects old (acts_made [] done)) where
-    abbrev pub sent_then : List Sent
-    sent_then = writes_among (acts_made [] done)
-
-    abbrev pub restarts_then : ℕ
-    restarts_then = restarts_made (acts_made [] done)
+  module _ (mid : CoreState) (left : List Sent) (acts : AreSomeMade round.sections old sim mid left) where
+    abbrev sent_then : List Sent
+    sent_then = writes_among acts.made
 
     on_then : AreOnSwitch sent_then
-    on_then = on-front sent_then (writes_among (acts_made sent_then later)) (subst AreOnSwitch (sent-front round done later split) (on-round round read))
+    on_then = on-front sent_then left (subst AreOnSwitch (sym acts.writes) (on-round round read))
 
-    pub has-then : HasMade old sim sent_then restarts_then mid
-    has-then =
-        subst (HasMade old sim sent_then restarts_then) (sym is)
-        (subst (λ n. HasMade old sim sent_then n (with_made effects old (acts_made [] done))) (omega arith)
-        (made-all old sim effects count_is [] 0 (acts_made [] done) old (made-none old sim ready.ready.within ready.ready.order) on_then))
+    has_then : HasMade old sim sent_then (restarts_made acts.made) mid
+    has_then =
+        subst (HasMade old sim sent_then (restarts_made acts.made)) (sym acts.is)
+        (subst (λ n. HasMade old sim sent_then n (with_made (length sim.effects) old acts.made)) (omega arith)
+        (made-all old sim [] 0 acts.made old (made-none old sim ready.ready.within ready.ready.order) on_then))
 
-    abbrev pub since_then : Ran
-    since_then = since_made has-then.added sent_then
+    abbrev since_then : Ran
+    since_then = since_made has_then.added sent_then
 
-    pub come-then : HasCome old sim since_then mid sim
-    come-then = come-made old sim sent_then restarts_then mid ready.faults within_mid has-then
+    come_then : HasCome old sim since_then mid sim
+    come_then = come-made old sim sent_then (restarts_made acts.made) mid ready.faults (acts.places within_old) has_then
 
     abbrev stops_then : StopsRound round old sim mid sim
     stops_then = record {
       since = since_then;
-      rest = writes_among (acts_made sent_then later);
-      front = sent-front round done later split;
-      restarts =
-          let all = restarts-front round done later split in
-          let count = has-then.count in
-          inl (omega (arith, all, count));
-      come = come-then;
+      rest = left;
+      front = sym acts.writes;
+      restarts = let few = acts.restarts in let count = has_then.count in inl (omega (arith, few, count));
+      come = come_then;
     }
 
     -- no call was made
     turned_then : IsSinceTurned old.board.plan old.sync.capacities (mark_of old) old.log.taken sim.effects since_then
-    turned_then = record { so_far = λ none settled mark. inl refl; quiet = λ none settled mark k row e at other stood call called changes. called; behind = λ earlier ended is end. absurd (unended-restarts has-then.added earlier ended has-then.alone is end) }
+    turned_then = record { so_far = λ none settled mark. inl refl; quiet = λ none settled mark k row e at other stood call called changes. called; behind = λ earlier ended is end. absurd (unended-restarts has_then.added earlier ended has_then.alone is end) }
 
-  pub stops-wanting : IsRoundMade effects (acts_in round.sections) old taken.NoMemory mid → StopsInTurns round old sim mid sim
-  stops-wanting (counts, (done, later, split, is)) = (stops_then done later split is, turned_then done later split is)
+    abbrev stopped_then : StopsInTurns round old sim mid sim
+    stopped_then = (stops_then, turned_then)
 
-  -- what is told stays so
-  pub told-stopped : (t : Told) → IsToldOf t old.log.taken → StopsInTurns round old sim mid sim → IsToldOf t mid.log.taken
-  told-stopped t told stop = told-more t old.log.taken stop.0.since.sent mid.log.taken told (ap (λ (h : History). h.taken) stop.0.come.log)
+    -- the log and the chip grew by what was made
+    grown_then : HasGrown old sim mid sim
+    grown_then = record {
+      taken = (sent_then, ap (λ (h : History). h.taken) has_then.log);
+      marks = (has_then.added, ap (λ (h : History). h.marks) has_then.log);
+      calls = ([], sym (append-nil sim.effects));
+      fails = refl;
+    }
 
-  -- the next act has no place
-  module _ (done : List (ℕ × Act)) (producer : ℕ) (later : List (ℕ × Act)) (full : IsFullFor mid effects 1) where
-    abbrev IsFullAct : Act → Type 0
-    IsFullAct a = (split : acts_in round.sections ≡ done ++ (producer, a) ∷ later) (is : mid ≡ with_made effects old (acts_made [] done)) → IsFull mid.board.plan mid.sync.capacities mid.limit round mid.log sim (since_then done ((producer, a) ∷ later) split is) (come-then done ((producer, a) ∷ later) split is).within.session
+    -- the next act has no place
+    module _ (full : IsFullFor mid (length sim.effects) 1) where
+      short : mid.limit < log_size mid.log (length sim.effects) + 1
+      short = let size = sized mid sim has_then.within in omega (arith, full, size)
 
-    short : InSession 1 mid sim → mid.limit < log_size mid.log (length sim.effects) + 1
-    short within = let size = sized mid sim within in let count = count_is in omega (arith, full, size, count)
+      abbrev IsFullThen : Type 0
+      IsFullThen = IsFull mid.board.plan mid.sync.capacities mid.limit round mid.log sim since_then come_then.within.session
 
-    full_act : (a : Act) → IsFullAct a
-    full_act (act.Write w) split is =
-        AtWrite (next_sent (writes_among (acts_made [] done)) (producer, w)) (writes_among (acts_made (writes_among (acts_made [] done) ++ next_sent (writes_among (acts_made [] done)) (producer, w) ∷ []) later)) (sent-front round done ((producer, act.Write w) ∷ later) split)
-        (short (has-then done ((producer, act.Write w) ∷ later) split is).within)
-    full_act act.Restart split is =
-        let all = restarts-front round done ((producer, act.Restart) ∷ later) split in
-        let count = (has-then done ((producer, act.Restart) ∷ later) split is).count in
-        AtRestart (omega (arith, all, count)) (short (has-then done ((producer, act.Restart) ∷ later) split is).within)
+      full_write : (rest : List Sent) → sent_in_round round ≡ sent_then ++ rest → 1 ≤ length rest → IsFullThen
+      full_write [] split some = absurd (omega (arith, some))
+      full_write (next ∷ later) split some = AtWrite next later split short
 
-    pub full_at : (a : Act) (split : acts_in round.sections ≡ done ++ (producer, a) ∷ later) (is : mid ≡ with_made effects old (acts_made [] done)) → IsFullRun round old sim mid sim
-    full_at a split is =
-        let lack = short (has-then done ((producer, a) ∷ later) split is).within in
-        ((stops_then done ((producer, a) ∷ later) split is, turned_then done ((producer, a) ∷ later) split is), full_act a split is, omega (arith, lack))
+      full_act : (1 ≤ length left) ⊎ (restarts_made acts.made < restarts_in round.sections) → IsFullThen
+      full_act (inl some) = full_write left (sym acts.writes) some
+      full_act (inr less) = let count = has_then.count in AtRestart (omega (arith, less, count)) short
 
-  pub full-taking : IsRoundMade effects (acts_in round.sections) old taken.LogFull mid → IsFullRun round old sim mid sim
-  full-taking (counts, (done, (producer, a), later, split, is, full)) = full_at done producer later full a split is
+  full_run : (new : CoreState) → FillsUp round.sections old sim new → IsFullRun round old sim new sim
+  full_run new x =
+      let lack = short new x.left x.some x.full in
+      (stopped_then new x.left x.some, full_act new x.left x.some x.full x.due, omega (arith, lack))
 
-  -- after all of its acts
-  module _ (is : mid ≡ with_made effects old (acts_made [] (acts_in round.sections))) where
-    none_left : acts_in round.sections ≡ acts_in round.sections ++ []
-    none_left = sym (append-nil (acts_in round.sections))
+  -- ---- all of its acts were made
+
+  module _ (mid : CoreState) (acts : AreAllMade round.sections old sim mid) where
+    abbrev all_some : AreSomeMade round.sections old sim mid []
+    all_some = record { made = acts.made; later = []; order = append-nil acts.made ∙ acts.order; is = acts.is; writes = append-nil (writes_among acts.made) ∙ acts.writes; restarts = let same = acts.restarts in omega (arith, same); places = acts.places }
 
     abbrev all_sent : List Sent
-    all_sent = sent_then (acts_in round.sections) [] none_left is
+    all_sent = writes_among acts.made
+
+    abbrev all_restarts : ℕ
+    all_restarts = restarts_made acts.made
 
     abbrev since_all : Ran
-    since_all = since_then (acts_in round.sections) [] none_left is
+    since_all = since_then mid [] all_some
 
-    abbrev has_all : HasMade old sim all_sent (restarts_then (acts_in round.sections) [] none_left is) mid
-    has_all = has-then (acts_in round.sections) [] none_left is
+    abbrev has_all : HasMade old sim all_sent all_restarts mid
+    has_all = has_then mid [] all_some
 
     abbrev come_all : HasCome old sim since_all mid sim
-    come_all = come-then (acts_in round.sections) [] none_left is
+    come_all = come_then mid [] all_some
 
-    pub in-all : InSession 1 mid sim
-    in-all = come_all.within
+    in_all : InSession 1 mid sim
+    in_all = come_all.within
 
     sent_all : all_sent ≡ sent_in_round round
-    sent_all = sym (sent-made round)
+    sent_all = acts.writes
 
     count_all : restarts_marked since_all.marks ≡ restarts_in round.sections
-    count_all = has_all.count ∙ restarts-made round
+    count_all = has_all.count ∙ acts.restarts
 
     restarted_same : mid.warm ≡ old.warm → HasRestarted round old.log.marks since_all.marks mid.warm
     restarted_same same = by ready.ready.warm
@@ -274,7 +274,7 @@ module _ (round : Round) (old : CoreState) (sim : ChipState) (replay : Replayed)
     restarted_all : HasRestarted round old.log.marks since_all.marks mid.warm
     restarted_all = by has_all.warm
       where
-        by : ((restarts_then (acts_in round.sections) [] none_left is ≡ 0) × (mid.warm ≡ old.warm)) ⊎ ((1 ≤ restarts_then (acts_in round.sections) [] none_left is) × (mid.warm ≡ warm.Initialized)) → HasRestarted round old.log.marks since_all.marks mid.warm
+        by : ((all_restarts ≡ 0) × (mid.warm ≡ old.warm)) ⊎ ((1 ≤ all_restarts) × (mid.warm ≡ warm.Initialized)) → HasRestarted round old.log.marks since_all.marks mid.warm
         by (inl (none, same)) = restarted_same same
         by (inr (some, at)) =
             let none : restarts_due mid.warm ≡ 0 = ap restarts_due at in
@@ -282,36 +282,16 @@ module _ (round : Round) (old : CoreState) (sim : ChipState) (replay : Replayed)
             record { more = 0; count = omega (arith, count, none); behind = inl refl; least = omega (arith, count) }
 
     module _ (new : CoreState) (sim' : ChipState) where
-      pub follows-new : MakesMore 0 mid in-all.session new sim' → IsReplayOf replay sim'.effects
-      follows-new more =
-          let grown = effects-grow mid new sim sim' in-all more in
-          subst (IsReplayOf replay) (sym grown.1) (IsReplayOf-append replay sim.effects grown.0 ready.follows)
-
-      -- nor a write taken
-      pub told-new : (t : Told) → IsToldOf t old.log.taken → MakesMore 0 mid in-all.session new sim' → IsToldOf t new.log.taken
-      told-new t told more =
-          let grown = taken-grow mid new sim sim' in-all more in
-          told-more t mid.log.taken grown.0 new.log.taken (told-more t old.log.taken since_all.sent mid.log.taken told (ap (λ (h : History). h.taken) come_all.log)) grown.1
-
-      -- no mark is lost
-      pub marks-longer : MakesMore 0 mid in-all.session new sim' → length old.log.marks ≤ length new.log.marks
-      marks-longer more =
-          let grown = marks-grow mid new sim sim' in-all more in
-          let same = ap (λ (h : History). length h.marks) come_all.log in
-          let longer = length-append old.log.marks since_all.marks in
-          let later = length-append mid.log.marks grown.0 in
-          omega (arith, ap length grown.1, same, longer, later)
-
       -- ---- a core that is reconciled
 
-      module _ (none : restarts_then (acts_in round.sections) [] none_left is ≡ 0) (same : mid.warm ≡ old.warm) (at : old.warm ≡ warm.Reconciled) where
+      module _ (none : all_restarts ≡ 0) (same : mid.warm ≡ old.warm) (at : old.warm ≡ warm.Reconciled) where
         now : mid.warm ≡ warm.Reconciled
         now = same ∙ at
 
         alike : IsInRound 1 (mark_of old) old sim all_sent mid
         alike =
-            subst (IsInRound 1 (mark_of old) old sim all_sent) (sym is)
-            (in-round effects (mark_of old) old sim [] (acts_made [] (acts_in round.sections)) old (round-begins (mark_of old) old sim (ready.ready.between at).resting) none (on_then (acts_in round.sections) [] none_left is))
+            subst (IsInRound 1 (mark_of old) old sim all_sent) (sym acts.is)
+            (in-round (length sim.effects) (mark_of old) old sim [] acts.made old (round-begins (mark_of old) old sim (ready.ready.between at).resting) none (on_then mid [] all_some))
 
         abbrev since_plain : Ran
         since_plain = since_made [] all_sent
@@ -324,14 +304,14 @@ module _ (round : Round) (old : CoreState) (sim : ChipState) (replay : Replayed)
           fenced = tt;
           within = alike.within;
           same = record { plan = ap (λ (b : BoardState). b.plan) alike.board; capacities = ap (λ (z : SyncState). z.capacities) alike.sync; limit = has_all.same.limit };
-          limit = within_mid;
+          limit = acts.places within_old;
           faults = subst (λ (h : History). FaultsRise 0 h.marks sim.faults) (sym alike.log) ready.faults;
         }
 
         restarted_plain : HasRestarted round old.log.marks [] mid.warm
         restarted_plain =
             let due : restarts_due mid.warm ≡ 0 = ap restarts_due now in
-            let count : restarts_in round.sections ≡ 0 = sym (restarts-made round) ∙ none in
+            let count : restarts_in round.sections ≡ 0 = sym acts.restarts ∙ none in
             record { more = 0; count = omega (arith, due, count); behind = inl refl; least = omega (arith, count) }
 
         plain-settled : SettlesWhole plain.within.session mid sim new sim' → IsOver round old sim status.Done new sim'
@@ -352,36 +332,36 @@ module _ (round : Round) (old : CoreState) (sim : ChipState) (replay : Replayed)
             })
             (drained_none round old sim since_plain mid sim plain sent_all restarted_plain due new sim' ends.mark may log ends.calls ends.effects ends.later.resting.within keeps refl)
 
-        plain-over : (r : Result Settled OutOfMemory) (ended : Status) → round_ended r ≡ Ok ended → Settles plain.within.session mid sim r new sim' → ArePendingInOrder new.tables.waiting → IsOver round old sim ended new sim'
+        plain-over : (r : Result Settled OutOfMemory) (ended : Status) → settling_ended r ≡ Ok ended → Settles plain.within.session mid sim r new sim' → ArePendingInOrder new.tables.waiting → IsOver round old sim ended new sim'
         plain-over r ended same e order = ends-over round old sim since_plain mid sim plain sent_all restarted_plain new sim' now plain-settled (λ failed calls grown. cut-plain old sim since_plain calls refl (λ mark. cut-failed (mark_of old) old sim all_sent mid alike new sim' failed.0 calls grown mark)) r ended same e order
 
-        plain-stopped : (r : Result Settled OutOfMemory) (ended : Status) → round_ended r ≡ Err ended → Settles plain.within.session mid sim r new sim' → IsStopped round old sim ended new sim'
+        plain-stopped : (r : Result Settled OutOfMemory) (ended : Status) → settling_ended r ≡ Err ended → Settles plain.within.session mid sim r new sim' → IsStopped round old sim ended new sim'
         plain-stopped r ended same e = ends-stopped round old sim since_plain mid sim plain sent_all restarted_plain new sim' now r ended same e
 
       -- ---- any core
 
       -- what the core's settling comes to, for any session that core and chip stand for
-      abbrev pub SettlesSo : Result Settled OutOfMemory → Type 0
+      abbrev SettlesSo : Result Settled OutOfMemory → Type 0
       SettlesSo r = (s : LoggedService) → IsServiceOf mid sim s → SettlesFrom s mid sim r new sim'
 
-      by_warm : {P : Type 0} → ((none : restarts_then (acts_in round.sections) [] none_left is ≡ 0) → mid.warm ≡ old.warm → old.warm ≡ warm.Reconciled → P) → (1 ≤ restarts_marked since_all.marks + restarts_due mid.warm → is_unrestored mid.warm ≡ true → P) → P
+      by_warm : {P : Type 0} → ((none : all_restarts ≡ 0) → mid.warm ≡ old.warm → old.warm ≡ warm.Reconciled → P) → (1 ≤ restarts_marked since_all.marks + restarts_due mid.warm → is_unrestored mid.warm ≡ true → P) → P
       by_warm {P} reconciled other = by has_all.warm ready.ready.warm
         where
-          by : ((restarts_then (acts_in round.sections) [] none_left is ≡ 0) × (mid.warm ≡ old.warm)) ⊎ ((1 ≤ restarts_then (acts_in round.sections) [] none_left is) × (mid.warm ≡ warm.Initialized)) → (old.warm ≡ warm.Reconciled) ⊎ (old.warm ≡ warm.Suspect) → P
+          by : ((all_restarts ≡ 0) × (mid.warm ≡ old.warm)) ⊎ ((1 ≤ all_restarts) × (mid.warm ≡ warm.Initialized)) → (old.warm ≡ warm.Reconciled) ⊎ (old.warm ≡ warm.Suspect) → P
           by (inl (none, same)) (inl at) = reconciled none same at
           by (inl (none, same)) (inr at) = let one : restarts_due mid.warm ≡ 1 = ap restarts_due (same ∙ at) in other (omega (arith, one)) (ap is_unrestored (same ∙ at))
           by (inr (some, at)) warms = let count = has_all.count in other (omega (arith, some, count)) (ap is_unrestored at)
 
-      pub run-over : (r : Result Settled OutOfMemory) (ended : Status) → round_ended r ≡ Ok ended → SettlesSo r → ArePendingInOrder new.tables.waiting → IsOver round old sim ended new sim'
-      run-over r ended same e order =
+      run_over : (r : Result Settled OutOfMemory) (ended : Status) → settling_ended r ≡ Ok ended → SettlesSo r → ArePendingInOrder new.tables.waiting → IsOver round old sim ended new sim'
+      run_over r ended same e order =
           by_warm
           (λ none alike at.
           let x = plain none alike at in
           plain-over none alike at r ended same (settles_as_ever x.within.session mid sim new sim' r (alike ∙ at) (e x.within.session x.within.stands)) order)
           (λ some out. from-over round old sim since_all mid sim come_all sent_all restarted_all new sim' refl some out r ended same (e come_all.within.session come_all.within.stands) order)
 
-      pub run-stopped : (r : Result Settled OutOfMemory) (ended : Status) → round_ended r ≡ Err ended → SettlesSo r → IsStopped round old sim ended new sim'
-      run-stopped r ended same e =
+      run_stopped : (r : Result Settled OutOfMemory) (ended : Status) → settling_ended r ≡ Err ended → SettlesSo r → IsStopped round old sim ended new sim'
+      run_stopped r ended same e =
           by_warm
           (λ none alike at.
           let x = plain none alike at in
@@ -393,18 +373,18 @@ module _ (round : Round) (old : CoreState) (sim : ChipState) (replay : Replayed)
         marks_same : length new.log.marks ≡ length old.log.marks
         marks_same = ap (λ (h : History). length h.marks) stops.come.log ∙ ap (λ l. length (old.log.marks ++ l)) empty ∙ ap length (append-nil old.log.marks)
 
-        unrestarted : 1 ≤ restarts_then (acts_in round.sections) [] none_left is → ⊥
+        unrestarted : 1 ≤ all_restarts → ⊥
         unrestarted some =
             let longer = length-append old.log.marks since_all.marks in
             let made : length mid.log.marks ≡ length (old.log.marks ++ since_all.marks) = ap (λ (h : History). length h.marks) come_all.log in
-            let grown = marks-grow mid new sim sim' in-all (settle_serves in-all.session mid sim r new sim' (e in-all.session in-all.stands)) in
+            let grown = marks-grow mid new sim sim' in_all (settle_serves in_all.session mid sim r new sim' (e in_all.session in_all.stands)) in
             let later = ap length grown.1 ∙ length-append mid.log.marks grown.0 in
             let few = restarts_few since_all.marks in
             let count = has_all.count in
             let same = marks_same in
             omega (arith, some, longer, made, later, few, count, same)
 
-        module _ (none : restarts_then (acts_in round.sections) [] none_left is ≡ 0) (same : mid.warm ≡ old.warm) (at : old.warm ≡ warm.Reconciled) where
+        module _ (none : all_restarts ≡ 0) (same : mid.warm ≡ old.warm) (at : old.warm ≡ warm.Reconciled) where
           begun : IsInRound 1 (mark_of old) old sim all_sent mid
           begun = alike none same at
 
@@ -459,10 +439,10 @@ module _ (round : Round) (old : CoreState) (sim : ChipState) (replay : Replayed)
               (so_far_plain r (settles_as_ever begun.within.session mid sim new sim' r (same ∙ at) (e begun.within.session begun.within.stands)) mark)
 
         -- by how it began
-        by_start : {P : Type 0} → ((none : restarts_then (acts_in round.sections) [] none_left is ≡ 0) → mid.warm ≡ old.warm → old.warm ≡ warm.Reconciled → P) → P
+        by_start : {P : Type 0} → ((none : all_restarts ≡ 0) → mid.warm ≡ old.warm → old.warm ≡ warm.Reconciled → P) → P
         by_start {P} reconciled = by has_all.warm ready.ready.warm
           where
-            by : ((restarts_then (acts_in round.sections) [] none_left is ≡ 0) × (mid.warm ≡ old.warm)) ⊎ ((1 ≤ restarts_then (acts_in round.sections) [] none_left is) × (mid.warm ≡ warm.Initialized)) → (old.warm ≡ warm.Reconciled) ⊎ (old.warm ≡ warm.Suspect) → P
+            by : ((all_restarts ≡ 0) × (mid.warm ≡ old.warm)) ⊎ ((1 ≤ all_restarts) × (mid.warm ≡ warm.Initialized)) → (old.warm ≡ warm.Reconciled) ⊎ (old.warm ≡ warm.Suspect) → P
             by (inl (none, same)) (inl at) = reconciled none same at
             by (inl (none, same)) (inr at) = absurd (unsettled old.log.marks (suspect-now old.log.marks old.warm (warm-after old sim ready.ready.within) at) leaves)
             by (inr (some, at)) warms = absurd (unrestarted some)
@@ -497,43 +477,108 @@ module _ (round : Round) (old : CoreState) (sim : ChipState) (replay : Replayed)
             absurd (unbegun x r (settles_as_ever x.within.session mid sim new sim' r (same ∙ at) (e x.within.session x.within.stands))))
             (λ some out. from-since round old sim since_all mid sim come_all sent_all restarted_all new sim' refl some out stops earlier ended behind end r (e come_all.within.session come_all.within.stands))
 
-      pub run-turned : (r : Result Settled OutOfMemory) → SettlesSo r → (stops : StopsRound round old sim new sim') → IsSinceTurned old.board.plan old.sync.capacities (mark_of old) old.log.taken sim.effects stops.since
-      run-turned r e stops = record {
+      run_turned : (r : Result Settled OutOfMemory) → SettlesSo r → (stops : StopsRound round old sim new sim') → IsSinceTurned old.board.plan old.sync.capacities (mark_of old) old.log.taken sim.effects stops.since
+      run_turned r e stops = record {
         so_far = λ empty settled mark. so_far_by r e stops empty settled mark;
         quiet = λ empty settled mark. quiet_by r e stops empty settled mark;
         behind = λ earlier ended behind end. behind_by r e stops earlier ended behind end;
       }
 
-      -- steps of the service led there
-      pub more-all : (r : Result Settled OutOfMemory) → SettlesSo r → MakesMore 0 mid in-all.session new sim'
-      more-all r e = settle_serves in-all.session mid sim r new sim' (e in-all.session in-all.stands)
+      -- the log and the chip grew by what was made, and then by the settling
+      all_grown : (r : Result Settled OutOfMemory) → SettlesSo r → HasGrown old sim new sim'
+      all_grown r e =
+          let before = grown_then mid [] all_some in
+          let more = settle_serves in_all.session mid sim r new sim' (e in_all.session in_all.stands) in
+          let taken = taken-grow mid new sim sim' in_all more in
+          let marks = marks-grow mid new sim sim' in_all more in
+          let calls = effects-grow mid new sim sim' in_all more in
+          record {
+            taken = (before.taken.0 ++ taken.0, taken.1 ∙ ap (λ l. l ++ taken.0) before.taken.1 ∙ append_assoc old.log.taken before.taken.0 taken.0);
+            marks = (before.marks.0 ++ marks.0, marks.1 ∙ ap (λ l. l ++ marks.0) before.marks.1 ∙ append_assoc old.log.marks before.marks.0 marks.0);
+            calls = calls;
+            fails = from-fails mid sim in_all.session r new sim' (e in_all.session in_all.stands);
+          }
+
+  -- ---- a round of the service
+
+  grown : (e : RoundEnd) (new : CoreState) (sim' : ChipState) → RoundsTo round.sections old sim e new sim' → HasGrown old sim new sim'
+  grown (end.Ran r) new sim' x = all_grown x.mid x.all new sim' (Ok r) x.settles
+  grown end.LogFull new sim' (same, x) = subst (HasGrown old sim new) (sym same) (grown_then new x.left x.some)
+  grown end.NoMemory new sim' (inl (same, left, x)) = subst (HasGrown old sim new) (sym same) (grown_then new left x)
+  grown end.NoMemory new sim' (inr (wanting, x)) = all_grown x.mid x.all new sim' (Err wanting) x.settles
+
+  module _ (e : RoundEnd) (new : CoreState) (sim' : ChipState) (x : RoundsTo round.sections old sim e new sim') where
+    abbrev now_grown : HasGrown old sim new sim'
+    now_grown = grown e new sim' x
+
+    -- what was told stays so
+    pub round-told : (t : Told) → IsToldOf t old.log.taken → IsToldOf t new.log.taken
+    round-told t told = told-more t old.log.taken now_grown.taken.0 new.log.taken told now_grown.taken.1
+
+    pub round-follows : IsReplayOf replay sim'.effects
+    round-follows = subst (IsReplayOf replay) (sym now_grown.calls.1) (IsReplayOf-append replay sim.effects now_grown.calls.0 ready.follows)
+
+    -- no mark is lost
+    pub round-longer : length old.log.marks ≤ length new.log.marks
+    round-longer = let longer = ap length now_grown.marks.1 in let both = length-append old.log.marks now_grown.marks.0 in omega (arith, longer, both)
+
+    pub round-fails : sim'.fails ≡ sim.fails
+    round-fails = now_grown.fails
+
+  apart : (r : Result Status Status) (s t : Status) → r ≡ Err s → r ≡ Ok t → ⊥
+  apart r s t refused ended = cc
+
+  -- the round ended
+  pub round-over : (e : RoundEnd) (ended : Status) (new : CoreState) (sim' : ChipState) → round_ended e ≡ Ok ended → RoundsTo round.sections old sim e new sim' → ArePendingInOrder new.tables.waiting → IsOver round old sim ended new sim'
+  round-over (end.Ran r) ended new sim' same x order = run_over x.mid x.all new sim' (Ok r) ended same x.settles order
+  round-over end.LogFull ended new sim' same x order = absurd (apart (Err status.LogFull) status.LogFull ended refl same)
+  round-over end.NoMemory ended new sim' same x order = absurd (apart (Err status.OutOfMemory) status.OutOfMemory ended refl same)
+
+  -- or it did not, and nothing was written
+  module _ (number : ℕ) (held : Option (List ℕ)) (faults : ℕ) (replay' : Replayed) where
+    abbrev IsHalted : Status → CoreState → ChipState → Type 0
+    IsHalted ended new sim' = IsRoundRun number round old sim held faults ended new sim' replay' held faults
+
+    -- in its settling
+    settling_halted : (r : Result Settled OutOfMemory) (ended : Status) (new : CoreState) (sim' : ChipState) → settling_ended r ≡ Err ended → Settling round.sections old sim r new sim' → IsHalted ended new sim'
+    settling_halted r ended new sim' same x = by (run_stopped x.mid x.all new sim' r ended same x.settles)
+      where
+        turned : (stops : StopsRound round old sim new sim') → IsSinceTurned old.board.plan old.sync.capacities (mark_of old) old.log.taken sim.effects stops.since
+        turned stops = run_turned x.mid x.all new sim' r x.settles stops
+
+        by : IsStopped round old sim ended new sim' → IsHalted ended new sim'
+        by (inl (is, (stops, full, many))) = subst (λ z. IsHalted z new sim') (sym is) ((stops, turned stops), full, many, refl)
+        by (inr (is, stops)) = subst (λ z. IsHalted z new sim') (sym is) (inl ((stops, turned stops), refl))
+
+    -- before it, with a full log
+    acts_halted : (new : CoreState) (sim' : ChipState) → sim' ≡ sim → FillsUp round.sections old sim new → IsHalted status.LogFull new sim'
+    acts_halted new sim' same x = let stop = full_run new x in subst (IsHalted status.LogFull new) (sym same) (stop.0, stop.1, stop.2, refl)
+
+    pub round-halted : (e : RoundEnd) (ended : Status) (new : CoreState) (sim' : ChipState) → round_ended e ≡ Err ended → RoundsTo round.sections old sim e new sim' → IsHalted ended new sim'
+    round-halted (end.Ran r) ended new sim' same x = settling_halted (Ok r) ended new sim' same x
+    round-halted end.LogFull ended new sim' same (chip, x) = let is : status.LogFull ≡ ended = cc in subst (λ z. IsHalted z new sim') is (acts_halted new sim' chip x)
+    round-halted end.NoMemory ended new sim' same (inl (chip, left, x)) =
+        let is : status.OutOfMemory ≡ ended = cc in
+        subst (λ z. IsHalted z new sim') is (subst (IsHalted status.OutOfMemory new) (sym chip) (inl (stopped_then new left x, refl)))
+    round-halted end.NoMemory ended new sim' same (inr (wanting, x)) = settling_halted (Err wanting) ended new sim' same x
 
 -- ---- what is written
 
--- a round that did not end writes nothing
-pub run-halted : (round : Round) (old : CoreState) (sim : ChipState) (new : CoreState) (sim' : ChipState) (ended : Status) (number : ℕ) (held : Option (List ℕ)) (faults : ℕ) (replay' : Replayed) → IsStopped round old sim ended new sim' → ((stops : StopsRound round old sim new sim') → IsSinceTurned old.board.plan old.sync.capacities (mark_of old) old.log.taken sim.effects stops.since) → IsRoundRun number round old sim held faults ended new sim' replay' held faults
-run-halted round old sim new sim' ended number held faults replay' (inl (same, (stops, full, many))) turned = subst (λ x. IsRoundRun number round old sim held faults x new sim' replay' held faults) (sym same) ((stops, turned stops), full, many, refl)
-run-halted round old sim new sim' ended number held faults replay' (inr (same, stops)) turned = subst (λ x. IsRoundRun number round old sim held faults x new sim' replay' held faults) (sym same) (inl ((stops, turned stops), refl))
-
 module _ (round : Round) (old : CoreState) (sim : ChipState) (replay : Replayed) (ready : IsRunReady old sim replay) (ended : Status) (new : CoreState) (sim' : ChipState) (over : IsOver round old sim ended new sim') where
-  -- what stands when the round has ended, as its lines are asked for
-  abbrev pub ended_now : ℕ → Rows → Ended
-  ended_now number rows = record { plan = new.board.plan; number = number; marks = drop (length old.log.marks) new.log.marks; taken = length new.log.taken; rows = rows; capacities = sim'.capacities; objects = sim'.objects; effects = sim'.effects }
-
-  module _ (number : ℕ) (counted : 0 < number) (rows : Rows) (told : rows ≡ rows_of (sent_writes new.log.taken)) where
-    has-lines : (lines : List ℕ) → IsRoundText (ended_now number rows) replay.at round.shows lines → HasLines number round old sim over.ran lines
+  module _ (number : ℕ) (counted : 0 < number) where
+    has-lines : (lines : List ℕ) → IsRoundText (ended_now new sim' number (length old.log.marks)) replay.at round.shows lines → HasLines number round old sim over.ran lines
     has-lines lines text = record {
       before = number - 1;
       number_is = omega (arith, counted);
       text =
           text-as round.shows lines
-          new.board.plan old.board.plan number (number - 1 + 1) (drop (length old.log.marks) new.log.marks) over.ran.marks (length new.log.taken) (length (old.log.taken ++ over.ran.sent)) rows (rows_of (sent_writes (old.log.taken ++ over.ran.sent)))
+          new.board.plan old.board.plan number (number - 1 + 1) (drop (length old.log.marks) new.log.marks) over.ran.marks (length new.log.taken) (length (old.log.taken ++ over.ran.sent)) (rows_of (sent_writes new.log.taken)) (rows_of (sent_writes (old.log.taken ++ over.ran.sent)))
           sim'.capacities old.sync.capacities sim'.objects (chip_after (sim.effects ++ over.ran.calls) (length (sim.effects ++ over.ran.calls))) sim'.effects (sim.effects ++ over.ran.calls) replay.at (length sim.effects)
           over.ends.same.plan
           (omega (arith, counted))
           (ap (λ (h : History). drop (length old.log.marks) h.marks) over.ends.log ∙ drop-append_seam old.log.marks over.ran.marks)
           (ap (λ (h : History). length h.taken) over.ends.log)
-          (told ∙ ap (λ (h : History). rows_of (sent_writes h.taken)) over.ends.log)
+          (ap (λ (h : History). rows_of (sent_writes h.taken)) over.ends.log)
           (over.ends.within.stands.always.capacities ∙ over.ends.same.capacities)
           (objects-left new sim' over.ends.within ∙ ap (λ l. chip_after l (length l)) over.ends.calls)
           over.ends.calls
@@ -548,7 +593,7 @@ module _ (round : Round) (old : CoreState) (sim : ChipState) (replay : Replayed)
       ready_then : IsReplayOf replay' sim'.effects → replay'.at ≡ length sim'.effects → IsRunReady new sim' replay'
       ready_then follows at = record { ready = over.ready; follows = follows; at_end = at; places = over.ends.places; faults = over.ends.faults }
 
-      pub run-written : IsWritten (ended_now number rows) replay.at round.shows ended held faults result replay' held' faults' → IsRoundRun number round old sim held faults result new sim' replay' held' faults'
+      pub run-written : IsWritten (ended_now new sim' number (length old.log.marks)) replay.at round.shows ended held faults result replay' held' faults' → IsRoundRun number round old sim held faults result new sim' replay' held' faults'
       run-written (Whole lines text took follows at is) = by over.how
         where
           by : IsEndedAs ended new sim' → IsRoundRun number round old sim held faults result new sim' replay' held' faults'
@@ -557,7 +602,3 @@ module _ (round : Round) (old : CoreState) (sim : ChipState) (replay : Replayed)
       run-written (Failed lines text took rose is) = as_result status.WriteFault is (over.ran, lines, over.ends, has-lines lines text, took, rose)
       run-written (Wanting lines text took is) = as_result status.OutOfMemory is (inr (over.ran, over.ends, inr (lines, has-lines lines text, took)))
       run-written (Unwritten same is) = as_result status.OutOfMemory is (inr (over.ran, over.ends, inl same))
-
-  -- where memory was refused before its lines
-  pub run-unwritten : (number : ℕ) (held : Option (List ℕ)) (faults : ℕ) (replay' : Replayed) → IsRoundRun number round old sim held faults status.OutOfMemory new sim' replay' held faults
-  run-unwritten number held faults replay' = inr (over.ran, over.ends, inl refl)

@@ -29,7 +29,8 @@ use Rattle.round_laws.proofs.Sessions.{applies-followed, counts-within, effects-
 use Rattle.swss_script.specs.Sent.{sent_in_round}
 use Rattle.swss_script.specs.declared.parts.Round.{Round}
 use Rattle.swss_report.specs.Round.{IsRoundText}
-use Rattle.swss_run.specs.Faults.{FaultsRise, places_beside}
+use Rattle.swss_service.specs.Faults.{FaultsRise}
+use Rattle.swss_run.specs.Faults.{places_beside}
 use Rattle.swss_run.specs.Full.{IsFull}
 use Rattle.swss_run.specs.Output.{TakesFront, TakesPart}
 use Rattle.swss_run.specs.Restarts.{AreRestarted, HasFewRestarts, HasRestarts}

@@ -42,7 +42,7 @@ use Rattle.session_laws.proofs.Service.States.{suspect-reconciled}
 use Rattle.round_laws.specs.Awaited.{AwaitsCall}
 use Rattle.round_laws.specs.Named.{keys_named}
 use Rattle.round_laws.proofs.Awaited.{apply-awaited, call-awaited, keys-awaited, ops-few}
-use Rattle.round_laws.proofs.Between.{its-log, its-mark, settled-between}
+use Rattle.round_laws.proofs.Between.{its-log, its-mark}
 use Rattle.round_laws.proofs.Growing.{effects-grow}
 use Rattle.round_laws.proofs.Listed.{listed-few}
 use Rattle.round_laws.proofs.Sessions.{leads-on, log-ordered, one-on, sized, some-on, warm-after}

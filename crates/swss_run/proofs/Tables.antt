@@ -17,7 +17,6 @@ use Rattle.switch_model.specs.declared.mark.MarkEvent.TheVariants as event
 use Rattle.producer_table.specs.Pending.{ArePendingInOrder, pending_at, row_with_pending}
 use Rattle.producer_table.proofs.Found.{same_entries}
 use Rattle.producer_table.proofs.PendingWrites.{AreInOrder-after}
-use Rattle.switch_machine.specs.Written.{Written}
 use Rattle.machine_laws.specs.Reading.{IsOnSwitch}
 use Rattle.warm_state.specs.declared.warm.Warm.TheVariants as warm
 use Rattle.session_laws.specs.Core.{CoreState, mark_at, with_taken}
@@ -32,9 +31,10 @@ use Rattle.round_laws.specs.Sessions.{InSession}
 use Rattle.round_laws.proofs.Between.{round-takes}
 use Rattle.round_laws.proofs.Sessions.{one-on}
 use Rattle.orch_core.specs.ComingBack.{AreOnWay, CountAll, CountsSo, restarts_at, restarts_marked}
+use Rattle.orch_core.specs.Restarting.{IsInService}
 use Rattle.orch_core.proofs.Coming.{restarts_both, way_both}
+use Rattle.swss_service.specs.Made.{restarts_made, with_made, writes_among}
 use Rattle.swss_run.specs.Running.{KeepsPlan}
-use Rattle.swss_run.specs.Taking.{restarts_made, writes_among, with_made}
 use Rattle.swss_run.specs.Told.{AreRowsTaken, IsToldOf}
 use Rattle.swss_run.specs.declared.told.Told.{Told}
 use Rattle.swss_run.proofs.Given.{AreOnSwitch}
@@ -156,34 +156,31 @@ module _ (old : CoreState) (chip : ChipState) where
         warm = inr (omega arith, refl);
       }
 
-  pub made-all : (effects : ℕ) → effects ≡ length chip.effects → (sent : List Sent) (restarts : ℕ) (made : List (Option Sent)) (c : CoreState) → HasMade old chip sent restarts c → AreOnSwitch (writes_among made) → HasMade old chip (sent ++ writes_among made) (restarts + restarts_made made) (with_made effects c made)
-  made-all effects same sent restarts [] c x on = subst (λ l. HasMade old chip l (restarts + 0) c) (sym (append-nil sent)) (subst (λ n. HasMade old chip sent n c) (omega arith) x)
-  made-all effects same sent restarts (Some s ∷ made) c x on =
-      subst (λ l. HasMade old chip l (restarts + restarts_made made) (with_made effects (with_taken c s) made)) (append_assoc sent (s ∷ []) (writes_among made))
-      (made-all effects same (sent ++ s ∷ []) restarts made (with_taken c s) (made-write sent restarts c s x on.0) on.1)
-  made-all effects same sent restarts (None ∷ made) c x on =
-      subst (λ n. HasMade old chip (sent ++ writes_among made) n (with_made effects (restarted c effects) made)) (omega arith)
-      (made-all effects same sent (restarts + 1) made (restarted c effects) (subst (λ n. HasMade old chip sent (restarts + 1) (restarted c n)) (sym same) (made-restart sent restarts c x)) on)
+  pub made-all : (sent : List Sent) (restarts : ℕ) (made : List (Option Sent)) (c : CoreState) → HasMade old chip sent restarts c → AreOnSwitch (writes_among made) → HasMade old chip (sent ++ writes_among made) (restarts + restarts_made made) (with_made (length chip.effects) c made)
+  made-all sent restarts [] c x on = subst (λ l. HasMade old chip l (restarts + 0) c) (sym (append-nil sent)) (subst (λ n. HasMade old chip sent n c) (omega arith) x)
+  made-all sent restarts (Some s ∷ made) c x on =
+      subst (λ l. HasMade old chip l (restarts + restarts_made made) (with_made (length chip.effects) (with_taken c s) made)) (append_assoc sent (s ∷ []) (writes_among made))
+      (made-all (sent ++ s ∷ []) restarts made (with_taken c s) (made-write sent restarts c s x on.0) on.1)
+  made-all sent restarts (None ∷ made) c x on =
+      subst (λ n. HasMade old chip (sent ++ writes_among made) n (with_made (length chip.effects) (restarted c (length chip.effects)) made)) (omega arith)
+      (made-all sent (restarts + 1) made (restarted c (length chip.effects)) (made-restart sent restarts c x) on)
 
 -- ---- the rows
 
 -- where no write waits the rows are the fold of the writes taken
-pub rows-told : (c : CoreState) (chip : ChipState) → InSession 1 c chip → c.tables.waiting ≡ [] → HasRisingRows c.tables.rows → c.tables.rows ≡ rows_of (sent_writes c.log.taken)
-rows-told c chip x none rising =
+rows-told : (c : CoreState) (chip : ChipState) → IsInService c chip → c.tables.waiting ≡ [] → HasRisingRows c.tables.rows → c.tables.rows ≡ rows_of (sent_writes c.log.taken)
+rows-told c chip (s, is) none rising =
     same_entries key_cmp key_total key_exact c.tables.rows (rows_of (sent_writes c.log.taken)) rising (HasRisingRows-rows_of (sent_writes c.log.taken))
     (λ k. sym (told k ∙ ap (λ w. row_with_pending (fields_at c.tables.rows k) (pending_at w k)) none))
   where
-    s : Written
-    s = x.session.service.core.written
-
-    ahead : IsAhead s (written_of c)
-    ahead = x.stands.always.ahead
+    ahead : IsAhead s.service.core.written (written_of c)
+    ahead = is.always.ahead
 
     told : (k : Key) → fields_at (rows_of (sent_writes c.log.taken)) k ≡ row_with_pending (fields_at c.tables.rows k) (pending_at c.tables.waiting k)
-    told k = ap (λ ws. fields_at (rows_of ws) k) ahead.taken ∙ x.stands.always.holds.safe.told k ∙ sym (ahead.whole k)
+    told k = ap (λ ws. fields_at (rows_of ws) k) ahead.taken ∙ is.always.holds.safe.told k ∙ sym (ahead.whole k)
 
 -- the rows that are shown
-pub rows-shown : (c : CoreState) (chip : ChipState) (behind : Bool) (rows : Rows) → InSession 1 c chip → AreRowsTaken c behind rows → HasRisingRows c.tables.rows → (if behind then rows else c.tables.rows) ≡ rows_of (sent_writes c.log.taken)
+pub rows-shown : (c : CoreState) (chip : ChipState) (behind : Bool) (rows : Rows) → IsInService c chip → AreRowsTaken c behind rows → HasRisingRows c.tables.rows → (if behind then rows else c.tables.rows) ≡ rows_of (sent_writes c.log.taken)
 rows-shown c chip false rows x taken rising = rows-told c chip x taken rising
 rows-shown c chip true rows x taken rising = taken
 

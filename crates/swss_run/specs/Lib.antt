@@ -9,7 +9,6 @@ pub mod Run
 pub mod Running
 pub mod Session
 pub mod Status
-pub mod Taking
 pub mod Told
 pub mod Turned
 pub mod Words

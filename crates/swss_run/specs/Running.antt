@@ -1,11 +1,13 @@
 -- What running a round comes to. Own.
-use Rattle.std.specs.Prelude.{◌≡◌, ◌⊎◌, ℕ, ◌+◌, ◌<◌, ◌≤◌, true, false, List, [], ◌∷◌, ◌++◌, length, Option, Result, Ok, Err}
+use Rattle.std.specs.Prelude.{◌≡◌, ◌⊎◌, ℕ, ◌+◌, ◌<◌, ◌≤◌, true, false, List, [], ◌∷◌, ◌++◌, length, drop, Option, Result, Ok, Err}
 use Rattle.swss_types.specs.Outside.{HasRisen, Takes}
 use Rattle.swss_types.specs.declared.out_of_memory.OutOfMemory.{OutOfMemory}
+use Rattle.table_schema.specs.Rows.{rows_of}
 use Rattle.table_schema.specs.declared.write.Sent.{Sent}
 use Rattle.sai_types.specs.ChipState.{ChipState}
 use Rattle.sai_chip.specs.Replay.{IsReplayOf, Replayed}
 use Rattle.switch_model.specs.History.{History, log_size}
+use Rattle.switch_model.specs.Marks.{sent_writes}
 use Rattle.switch_model.specs.Sound.{is_suspect}
 use Rattle.switch_model.specs.declared.mark.Mark.{Mark}
 use Rattle.machine_laws.specs.Order.{MayEndRound}
@@ -22,7 +24,10 @@ use Rattle.swss_script.specs.declared.parts.Round.{Round}
 use Rattle.swss_script.specs.declared.parts.Show.{Show}
 use Rattle.swss_report.specs.Ended.{Ended}
 use Rattle.swss_report.specs.Round.{IsRoundText}
-use Rattle.swss_run.specs.Faults.{FaultsRise, places_beside}
+use Rattle.swss_service.specs.Faults.{FaultsRise}
+use Rattle.swss_service.specs.declared.ending.RoundEnd.{RoundEnd}
+use Rattle.swss_service.specs.declared.ending.RoundEnd.TheVariants as end
+use Rattle.swss_run.specs.Faults.{places_beside}
 use Rattle.swss_run.specs.Full.{IsFull}
 use Rattle.swss_run.specs.Output.{TakesFront, TakesPart}
 use Rattle.swss_run.specs.Restarts.{HasFewRestarts, HasRestarts}
@@ -95,11 +100,30 @@ abbrev pub StopsInTurns : Round → CoreState → ChipState → CoreState → Ch
 StopsInTurns round old sim new sim' = (stops : StopsRound round old sim new sim') × IsSinceTurned old.board.plan old.sync.capacities (mark_of old) old.log.taken sim.effects stops.since
 
 -- how a settling that answered so ends the round, or the run
-abbrev pub round_ended : Result Settled OutOfMemory → Result Status Status
-round_ended (Ok settled.Settled) = Ok status.Done
-round_ended (Ok settled.Faulted) = Ok status.ChipFault
-round_ended (Ok settled.LogFull) = Err status.LogFull
-round_ended (Err e) = Err status.OutOfMemory
+abbrev pub settling_ended : Result Settled OutOfMemory → Result Status Status
+settling_ended (Ok settled.Settled) = Ok status.Done
+settling_ended (Ok settled.Faulted) = Ok status.ChipFault
+settling_ended (Ok settled.LogFull) = Err status.LogFull
+settling_ended (Err e) = Err status.OutOfMemory
+
+-- and how a round that ended so does
+abbrev pub round_ended : RoundEnd → Result Status Status
+round_ended (end.Ran r) = settling_ended (Ok r)
+round_ended end.LogFull = Err status.LogFull
+round_ended end.NoMemory = Err status.OutOfMemory
+
+-- what stands when a round has ended with this core and this chip, before which there were so many marks
+abbrev pub ended_now : CoreState → ChipState → ℕ → ℕ → Ended
+ended_now core chip number before = record {
+  plan = core.board.plan;
+  number = number;
+  marks = drop before core.log.marks;
+  taken = length core.log.taken;
+  rows = rows_of (sent_writes core.log.taken);
+  capacities = chip.capacities;
+  objects = chip.objects;
+  effects = chip.effects;
+}
 
 -- the lines of a round were written, which ended with this status and before which so many calls took effect: all of them, and then the replay has followed the chip; or a part where the sink failed, and a front where it found no memory; or nothing where there was none for them
 pub data IsWritten (e : Ended) (before : ℕ) (shows : List Show) (ended : Status) (held : Option (List ℕ)) (faults : ℕ) (result : Status) (replay : Replayed) (held' : Option (List ℕ)) (faults' : ℕ) : Type 0 where

@@ -17,7 +17,8 @@ use Rattle.round_laws.specs.Sessions.{BeginNoApply}
 use Rattle.swss_script.specs.declared.parts.Round.{Round}
 use Rattle.swss_script.specs.declared.script.Script.{Script}
 use Rattle.restart_laws.specs.BrokenOff.{AreSteadyOverBreaks}
-use Rattle.swss_run.specs.Faults.{FaultsRise, places_beside}
+use Rattle.swss_service.specs.Faults.{FaultsRise}
+use Rattle.swss_run.specs.Faults.{places_beside}
 use Rattle.swss_run.specs.Full.{IsFull}
 use Rattle.swss_run.specs.Output.{TakesFront, TakesPart}
 use Rattle.swss_run.specs.Read.{WasRead}

@@ -4,11 +4,11 @@
 mod input;
 mod outcome;
 mod output;
+mod reporting;
 mod run;
 mod session;
 mod standard;
 mod status;
-mod taking;
 mod told;
 mod words;
 

@@ -6,15 +6,15 @@ ghost use Rattle.swss_types.specs.Outside.{HasRisen};
 ghost use Rattle.switch_model.specs.History.{no_history};
 ghost use Rattle.table_schema.specs.Plan.{IsPlan};
 ghost use Rattle.swss_script.specs.Sent.{writes_in};
+ghost use Rattle.swss_service.specs.Taking.{HaveReadKeys};
 ghost use Rattle.swss_run.specs.Input.{GaveFew};
 ghost use Rattle.swss_run.specs.Read.{IsScriptRead};
 ghost use Rattle.swss_run.specs.Run.{SaysOfSource, chip_fail, ends_early};
 ghost use Rattle.swss_run.specs.Session.{IsRun, TellsOfSession};
-ghost use Rattle.swss_run.specs.Taking.{HaveReadKeys};
 ghost use Rattle.swss_run.specs.Words.{is_command};
 
 use crate::input::{Input, read_all};
-use crate::session::run_rounds;
+use crate::session::{Left, run_rounds};
 use crate::words::is_run;
 use crate::{Outcome, Refused, Status, Why};
 use orch_core::Core;
@@ -130,9 +130,9 @@ fn run_script<K: Sink>(alloc: Global, script: Script, sink: &mut K) -> Outcome
     let Ok(fails) = chip_fails(alloc, &fails) else {
         return at_once(alloc, Status::OutOfMemory);
     };
-    let mut core = Core::new(alloc, plan, caps, LOG_LIMIT);
-    let mut chip = SimChip::new(alloc, caps, fails);
-    let status = run_rounds(alloc, &mut core, &mut chip, rounds, sink);
+    let core = Core::new(alloc, plan, caps, LOG_LIMIT);
+    let chip = SimChip::new(alloc, caps, fails);
+    let Left { core, chip, status } = run_rounds(alloc, core, chip, rounds, sink);
     // It failed at no more calls than the script lists.
     let _faults = chip.faults();
     Outcome {
