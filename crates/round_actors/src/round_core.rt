@@ -1,10 +1,11 @@
 // What the value of a round knows of its core.
-ghost use Rattle.std.specs.Prelude.{◌≡◌, ◌+◌, ◌<◌, [], ◌∷◌, ◌++◌, Ok, Err, IfOk, OnOk, OnErr};
+ghost use Rattle.std.specs.Prelude.{◌≡◌, ◌≢◌, ◌↔◌, ◌+◌, ◌<◌, [], ◌∷◌, ◌++◌, Ok, Err, IfOk, OnOk, OnErr};
 ghost use Rattle.intake_queue.specs.ReadWrites.{IsReadWrite};
+ghost use Rattle.round_actors.specs.declared.answers.Kept.TheVariants as keeps;
 ghost use Rattle.round_actors.specs.declared.answers.Step.TheVariants as steps;
 ghost use Rattle.round_actors.specs.declared.round_core.Refusal.TheVariants as refusals;
 
-use crate::answers::Step;
+use crate::answers::{Kept, Step};
 use crate::name::RoundName;
 use std::marker::Brand;
 use swss_types::OutOfMemory;
@@ -17,6 +18,19 @@ pub enum Refusal {
     LogFull,
     /// There is no memory.
     NoMemory,
+}
+
+impl Refusal {
+    /// The refusal, as a round's value keeps it.
+    pub fn kept(self) -> Kept
+        ensures refused { result ≢ keeps.Nothing }
+        ensures full { result ≡ keeps.LogFull ↔ self ≡ refusals.LogFull }
+    {
+        match self {
+            Refusal::LogFull => Kept::LogFull,
+            Refusal::NoMemory => Kept::NoMemory,
+        }
+    }
 }
 
 /// A core with its chip: what its log took, and how many restarts it marked. It answers LogFull only where the log is full.

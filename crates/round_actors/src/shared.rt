@@ -1,14 +1,13 @@
 // The value of a round under its lock, over a core.
-ghost use Rattle.std.specs.Prelude.{◌≡◌, ◌≢◌, ◌+◌, ◌<◌, ◌≤◌, ◌++◌, ◌∷◌, ◌↔◌, List, [], length, Ok, IfNone, IfOk, IfSome, IsErr};
+ghost use Rattle.std.specs.Prelude.{◌≡◌, ◌≢◌, ◌+◌, ◌<◌, ◌≤◌, ◌++◌, ◌∷◌, List, [], length, Ok, IfNone, IfOk, IfSome, IsErr};
 ghost use Rattle.table_schema.specs.declared.write.Sent.{Sent};
 ghost use Rattle.round_actors.specs.declared.answers.Kept.TheVariants as keeps;
 ghost use Rattle.round_actors.specs.declared.answers.Step.TheVariants as steps;
-ghost use Rattle.round_actors.specs.declared.round_core.Refusal.TheVariants as refusals;
 ghost use Rattle.round_actors.specs.Follows.{FollowsTaker};
 
 use crate::answers::{Kept, Step};
 use crate::name::Stops;
-use crate::round_core::{Opening, Refusal, RoundCore};
+use crate::round_core::{Opening, RoundCore};
 use crate::round_value::RoundValue;
 use intake_queue::{Intake, Pass, Taker};
 use std::marker::Model;
@@ -36,17 +35,6 @@ impl<K: RoundCore, J: Opening> Model for Shared<K, J> {
     ghost view = { λ s. record { core = s.core; taker = s.taker; refusal = s.refusal; restarts = s.restarts.total; ended = s.ended } };
 
     ghost invariant = { λ s. SharedKeeps J.intake J.taken J.restarts (K.taken s.core) (K.restarts s.core) (K.full s.core) s.taker s.restarts.total s.stops.total s.refusal };
-}
-
-/// The refusal of a core, as it is kept.
-fn kept_of(refusal: Refusal) -> Kept
-    ensures refused { result ≢ keeps.Nothing }
-    ensures full { result ≡ keeps.LogFull ↔ refusal ≡ refusals.LogFull }
-{
-    match refusal {
-        Refusal::LogFull => Kept::LogFull,
-        Refusal::NoMemory => Kept::NoMemory,
-    }
 }
 
 impl<K: RoundCore, J: Opening> Shared<K, J> {
@@ -93,7 +81,7 @@ impl<K: RoundCore, J: Opening> Shared<K, J> {
             Some(sent) => match self.core.take(sent) {
                 Ok(()) => Some(Kept::Nothing),
                 Err(refusal) => {
-                    let kept = kept_of(refusal);
+                    let kept = refusal.kept();
                     self.refusal = kept;
                     Some(kept)
                 }
@@ -199,7 +187,7 @@ impl<K: RoundCore, J: Opening> RoundValue<J> for Shared<K, J> {
                 Kept::Nothing
             }
             Err(refusal) => {
-                let kept = kept_of(refusal);
+                let kept = refusal.kept();
                 self.refusal = kept;
                 kept
             }
