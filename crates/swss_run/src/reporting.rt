@@ -3,7 +3,6 @@ ghost use Rattle.std.specs.Prelude.{◌≡◌, ◌≤◌, length, IfOk, if◌the
 ghost use Rattle.table_schema.specs.Rows.{HasRisingRows};
 ghost use Rattle.producer_table.specs.Pending.{ArePendingInOrder};
 ghost use Rattle.sai_chip.specs.Replay.{IsReplayOf};
-ghost use Rattle.orch_core.specs.Restarting.{IsInService};
 ghost use Rattle.swss_report.specs.Ended.{ended_round};
 ghost use Rattle.swss_run.specs.Running.{IsWritten, ended_now};
 ghost use Rattle.swss_run.specs.Told.{AreRowsTaken, IsToldOf};
@@ -17,13 +16,13 @@ use sai_chip::{Replay, SimChip};
 use std::alloc::Global;
 use swss_report::{RoundEnd, round_lines};
 use swss_script::Show;
+use swss_service::Locked;
 use swss_types::{OutOfMemory, Sink};
 
 /// Writes the lines of a round that ended with this status, before which there were so many marks.
 pub(crate) fn report<K: Sink>(
     alloc: Global,
-    core: &Core,
-    chip: &SimChip,
+    locked: &Locked<SimChip>,
     replay: &mut Replay,
     told: &mut Told,
     number: u64,
@@ -32,15 +31,17 @@ pub(crate) fn report<K: Sink>(
     ended: Status,
     sink: &mut K,
 ) -> Status
-    requires service { IsInService core.now chip.now }
-    requires follows { IsReplayOf replay.old chip.now.effects }
-    requires told { IsToldOf told.old core.now.log.taken }
-    requires marks { before ≤ length core.now.log.marks }
-    ensures told { IsToldOf told.new core.now.log.taken }
-    ensures order { ArePendingInOrder core.now.tables.waiting }
+    requires follows { IsReplayOf replay.old locked.now.chip.effects }
+    requires told { IsToldOf told.old locked.now.core.log.taken }
+    requires marks { before ≤ length locked.now.core.log.marks }
+    ensures told { IsToldOf told.new locked.now.core.log.taken }
+    ensures order { ArePendingInOrder locked.now.core.tables.waiting }
     ensures counts { K.faults sink.old ≤ K.faults sink.new }
-    ensures written { IsWritten (ended_now core.now chip.now number before) replay.old.at shows.now ended (K.holds sink.old) (K.faults sink.old) result replay.new (K.holds sink.new) (K.faults sink.new) }
+    ensures written { IsWritten (ended_now locked.now.core locked.now.chip number before) replay.old.at shows.now ended (K.holds sink.old) (K.faults sink.old) result replay.new (K.holds sink.new) (K.faults sink.new) }
 {
+    locked.stand_for_one_session();
+    let core = locked.core();
+    let chip = locked.chip();
     let Ok(behind) = is_behind(core, told) else {
         return Status::OutOfMemory;
     };

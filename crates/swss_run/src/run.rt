@@ -17,7 +17,6 @@ use crate::input::{Input, read_all};
 use crate::session::{Left, run_rounds};
 use crate::words::is_run;
 use crate::{Outcome, Refused, Status, Why};
-use orch_core::Core;
 use sai_chip::{Fail, SimChip};
 use sai_types::Chip;
 use std::alloc::Global;
@@ -25,6 +24,7 @@ use std::sync::Wait;
 use std::thread::Threads;
 use switch_model::Log;
 use swss_script::{Fails, Script};
+use swss_service::Locked;
 use swss_types::{Gate, OutOfMemory, Sink, Source};
 
 /// How many places the log has.
@@ -130,9 +130,9 @@ fn run_script<K: Sink>(alloc: Global, script: Script, sink: &mut K) -> Outcome
     let Ok(fails) = chip_fails(alloc, &fails) else {
         return at_once(alloc, Status::OutOfMemory);
     };
-    let core = Core::new(alloc, plan, caps, LOG_LIMIT);
     let chip = SimChip::new(alloc, caps, fails);
-    let Left { core, chip, status } = run_rounds(alloc, core, chip, rounds, sink);
+    let locked = Locked::begin(alloc, plan, caps, LOG_LIMIT, chip);
+    let Left { core, chip, status } = run_rounds(alloc, locked, rounds, sink);
     // It failed at no more calls than the script lists.
     let _faults = chip.faults();
     Outcome {

@@ -6,9 +6,7 @@ ghost use Rattle.sai_types.specs.ChipState.{new_chip};
 ghost use Rattle.table_schema.specs.Plan.{IsPlan};
 ghost use Rattle.session_laws.specs.Core.{new_core};
 ghost use Rattle.sai_chip.specs.Replay.{new_replay};
-ghost use Rattle.orch_core.specs.Restarting.{IsInService};
 ghost use Rattle.swss_script.specs.Sent.{writes_in};
-ghost use Rattle.swss_service.specs.Round.{RoundsTo};
 ghost use Rattle.swss_service.specs.Taking.{HaveReadKeys};
 ghost use Rattle.swss_run.specs.Run.{ends_early};
 ghost use Rattle.swss_run.specs.Running.{IsRunReady, IsRoundRun, round_ended};
@@ -22,11 +20,11 @@ use orch_core::{Core, Settled};
 use sai_chip::{Replay, SimChip};
 use std::alloc::Global;
 use std::mem::drop;
-use swss_script::{Round, RoundList, Sections};
-use swss_service::{Locked, RoundEnd, Rounded, round_alone};
+use swss_script::{Round, RoundList};
+use swss_service::{Locked, RoundEnd, round_alone};
 use swss_types::Sink;
 
-/// What a session leaves, and each of its rounds.
+/// What a session leaves.
 pub(crate) struct Left {
     /// The core.
     pub(crate) core: Core,
@@ -39,128 +37,95 @@ pub(crate) struct Left {
 /// Runs rounds one after the other on a new core and a new chip, until all have ended or one can't go on.
 pub(crate) fn run_rounds<K: Sink>(
     alloc: Global,
-    core: Core,
-    chip: SimChip,
+    locked: Locked<SimChip>,
     rounds: RoundList,
     sink: &mut K,
 ) -> Left
-    requires new { core ≡ new_core core.board.plan core.sync.capacities log_limit }
-    requires chip { chip ≡ new_chip core.sync.capacities chip.fails }
-    requires plan { IsPlan core.board.plan }
+    requires new { locked.core ≡ new_core locked.core.board.plan locked.core.sync.capacities log_limit }
+    requires chip { locked.chip ≡ new_chip locked.core.sync.capacities locked.chip.fails }
+    requires plan { IsPlan locked.core.board.plan }
     requires read { AllByRecursion (λ r. HaveReadKeys (writes_in r.sections)) rounds }
     ensures ran { ends_early result.status ≡ false }
     ensures write_fault { result.status ≡ Status.WriteFault → HasRisen (K.faults sink.old) (K.faults sink.new) }
-    ensures session { IsSession core.board.plan core.sync.capacities rounds result.status result.core.log result.chip (K.holds sink.old) (K.holds sink.new) }
-    ensures fails { result.chip.fails ≡ chip.fails }
+    ensures session { IsSession locked.core.board.plan locked.core.sync.capacities rounds result.status result.core.log result.chip (K.holds sink.old) (K.holds sink.new) }
+    ensures fails { result.chip.fails ≡ locked.chip.fails }
 {
+    let mut locked = locked;
     let mut replay = Replay::new(alloc);
     let mut told = Told::new(alloc);
-    let left = run_each(alloc, core, chip, &mut replay, &mut told, rounds, sink);
+    let status = run_each(alloc, &mut locked, &mut replay, &mut told, rounds, sink);
     drop(replay);
     drop(told);
-    left
+    let (core, chip) = locked.parts();
+    Left { core, chip, status }
 }
 
 /// The same, with what is remembered from round to round.
 fn run_each<K: Sink>(
     alloc: Global,
-    core: Core,
-    chip: SimChip,
+    locked: &mut Locked<SimChip>,
     replay: &mut Replay,
     told: &mut Told,
     rounds: RoundList,
     sink: &mut K,
-) -> Left
-    requires new { core ≡ new_core core.board.plan core.sync.capacities log_limit }
-    requires chip { chip ≡ new_chip core.sync.capacities chip.fails }
-    requires plan { IsPlan core.board.plan }
+) -> Status
+    requires new { locked.old.core ≡ new_core locked.old.core.board.plan locked.old.core.sync.capacities log_limit }
+    requires chip { locked.old.chip ≡ new_chip locked.old.core.sync.capacities locked.old.chip.fails }
+    requires plan { IsPlan locked.old.core.board.plan }
     requires read { AllByRecursion (λ r. HaveReadKeys (writes_in r.sections)) rounds }
     requires replay { replay.old ≡ new_replay }
-    requires told { IsToldOf told.old core.log.taken }
-    ensures ran { ends_early result.status ≡ false }
-    ensures write_fault { result.status ≡ Status.WriteFault → HasRisen (K.faults sink.old) (K.faults sink.new) }
-    ensures session { IsSession core.board.plan core.sync.capacities rounds result.status result.core.log result.chip (K.holds sink.old) (K.holds sink.new) }
-    ensures fails { result.chip.fails ≡ chip.fails }
+    requires told { IsToldOf told.old locked.old.core.log.taken }
+    ensures ran { ends_early result ≡ false }
+    ensures write_fault { result ≡ Status.WriteFault → HasRisen (K.faults sink.old) (K.faults sink.new) }
+    ensures session { IsSession locked.old.core.board.plan locked.old.core.sync.capacities rounds result locked.new.core.log locked.new.chip (K.holds sink.old) (K.holds sink.new) }
+    ensures fails { locked.new.chip.fails ≡ locked.old.chip.fails }
 {
-    let mut core = core;
-    let mut chip = chip;
     let mut status = Status::Done;
     let mut number = 0u64;
     for round in rounds.into_vec() {
         number += 1;
-        Left { core, chip, status } = run_round(
-            alloc, core, chip, replay, told, number, round, sink,
-        );
+        status = run_round(alloc, locked, replay, told, number, round, sink);
         match status {
             Status::Done => {}
             // The next round begins with a restart.
             Status::ChipFault => {}
-            _ => return Left { core, chip, status },
+            _ => return status,
         }
     }
-    Left { core, chip, status }
+    status
 }
 
 /// Runs a round through the service, and writes its lines.
 fn run_round<K: Sink>(
     alloc: Global,
-    core: Core,
-    chip: SimChip,
+    locked: &mut Locked<SimChip>,
     replay: &mut Replay,
     told: &mut Told,
     number: u64,
     round: Round,
     sink: &mut K,
-) -> Left
-    requires ready { IsRunReady core chip replay.old }
-    requires told { IsToldOf told.old core.log.taken }
+) -> Status
+    requires ready { IsRunReady locked.old.core locked.old.chip replay.old }
+    requires told { IsToldOf told.old locked.old.core.log.taken }
     requires counted { 0 < number }
     requires read { HaveReadKeys (writes_in round.sections) }
-    ensures told { IsToldOf told.new result.core.log.taken }
+    ensures told { IsToldOf told.new locked.new.core.log.taken }
     ensures counts { K.faults sink.old ≤ K.faults sink.new }
-    ensures fails { result.chip.fails ≡ chip.fails }
-    ensures run { IsRoundRun number round core chip (K.holds sink.old) (K.faults sink.old) result.status result.core result.chip replay.new (K.holds sink.new) (K.faults sink.new) }
+    ensures fails { locked.new.chip.fails ≡ locked.old.chip.fails }
+    ensures run { IsRoundRun number round locked.old.core locked.old.chip (K.holds sink.old) (K.faults sink.old) result locked.new.core locked.new.chip replay.new (K.holds sink.new) (K.faults sink.new) }
 {
     let Round { sections, shows } = round;
-    let before = core.log().marks().len();
-    let Served { core, chip, end } = serve(alloc, core, chip, sections);
+    let before = locked.core().log().marks().len();
+    let end = round_alone(alloc, locked, sections);
     match round_ended(end) {
         Ok(ended) => {
-            let status = report(
-                alloc,
-                &core,
-                &chip,
-                replay,
-                told,
-                number,
-                before,
-                shows.items(),
-                ended,
-                sink,
-            );
-            Left { core, chip, status }
+            let shows = shows.items();
+            report(
+                alloc, locked, replay, told, number, before, shows, ended, sink,
+            )
         }
-        Err(status) => Left { core, chip, status },
+        Err(status) => status,
     }
-}
-
-/// What a round of the service leaves.
-struct Served {
-    core: Core,
-    chip: SimChip,
-    end: RoundEnd,
-}
-
-/// Runs the sections of a round through the service, with one worker.
-fn serve(alloc: Global, core: Core, chip: SimChip, sections: Sections) -> Served
-    requires service { IsInService core chip }
-    requires read { HaveReadKeys (writes_in sections) }
-    ensures rounds { RoundsTo sections core chip result.end result.core result.chip }
-    ensures service { IsInService result.core result.chip }
-{
-    let Rounded { locked, end } = round_alone(alloc, Locked::new(core, chip), sections);
-    let (core, chip) = locked.parts();
-    Served { core, chip, end }
 }
 
 /// How a round that ended so ends, or the run.

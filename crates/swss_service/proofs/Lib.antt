@@ -7,3 +7,4 @@ pub mod Parts
 pub mod Alike
 pub mod OneRound
 pub mod Scripts
+pub mod Beginning

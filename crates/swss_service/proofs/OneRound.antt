@@ -88,12 +88,6 @@ none-made sections c chip last is =
       },
     ))
 
--- what was made since the opening
-pub begun-made : (sections : List Section) (o start mid : CoreAndChip) → start ≡ o → (k k' : Kept) → k ≡ k' → IsRoundMade (length start.chip.effects) (acts_in sections) start.core k mid.core → IsRoundMade (length o.chip.effects) (acts_in sections) o.core k' mid.core
-begun-made sections o start mid begun k k' at made =
-    subst (λ (z : CoreAndChip). IsRoundMade (length z.chip.effects) (acts_in sections) z.core k' mid.core) begun
-    (subst (λ j. IsRoundMade (length start.chip.effects) (acts_in sections) start.core j mid.core) at made)
-
 -- ---- by how it ended
 
 module _ (most : ℕ) (sections : List Section) (o : CoreAndChip) (mid : CoreAndChip) (same : mid.chip ≡ o.chip) (served : IsServed most o mid) where

@@ -2,7 +2,7 @@
 use Rattle.std.proofs.Common.{◌≡◌, ℕ, List, [], ◌∷◌, ◌++◌, Option, refl, sym, ap, ◌∙◌, subst}
 use Rattle.std.proofs.lemmas.List.{append_assoc, append-nil}
 use Rattle.table_schema.specs.declared.write.Sent.{Sent}
-use Rattle.session_laws.specs.Core.{CoreState}
+use Rattle.session_laws.specs.Core.{CoreState, IsFullFor}
 use Rattle.table_schema.specs.declared.write.Write.{Write}
 use Rattle.swss_script.specs.Sent.{writes_in}
 use Rattle.swss_script.specs.declared.parts.Act.{Act}
@@ -93,6 +93,13 @@ act-read p a left all is h = by a (subst (λ l. HaveReadKeys (writes_by p l)) is
     by : (a : Act) → HaveReadKeys (writes_by p (a ∷ left)) → HaveReadKeys (writes_by p (a ∷ [])) × HaveReadKeys (writes_by p left)
     by (act.Write w) h = ((h.0, tt), h.1)
     by act.Restart h = (tt, h)
+
+-- ---- an act that was refused
+
+pub refused-act : (effects : ℕ) (before : List Sent) (producer : ℕ) (a : Act) (old new : CoreState) (counts : Counts) (r : Kept) → (r ≡ keeps.Nothing → ⊥) → new ≡ old → (r ≡ keeps.LogFull → IsFullFor new effects 1) → IsMade effects before ((producer, a) ∷ []) old r new counts
+refused-act effects before producer a old new counts keeps.Nothing refused same full = absurd (refused refl)
+refused-act effects before producer a old new counts keeps.LogFull refused same full = ([], (producer, a), [], refl, same, full refl)
+refused-act effects before producer a old new counts keeps.NoMemory refused same full = ([], (producer, a) ∷ [], refl, same)
 
 -- ---- beside the same chip
 

@@ -129,5 +129,5 @@ pub restarts_more : (c : CoreState) (effects : ℕ) → restarts_of (restarted c
 restarts_more c effects = restarts_both c.log.marks (mark_at c effects event.Restarted ∷ [])
 
 -- whole steps led to a session that both stand for
-pub settled-in : (c d : CoreState) (chip dchip : ChipState) → IsInService c chip → ((s : LoggedService) → IsServiceOf c chip s → MakesMore 0 c s d dchip) → IsInService d dchip
-settled-in c d chip dchip x more = let y = more x.0 x.1 in (session_after x.0 y.steps, y.stands)
+pub stepped-in : (w : ℕ) (c d : CoreState) (chip dchip : ChipState) → IsInService c chip → ((s : LoggedService) → IsServiceOf c chip s → MakesMore w c s d dchip) → IsInService d dchip
+stepped-in w c d chip dchip x more = let y = more x.0 x.1 in (session_after x.0 y.steps, y.stands)

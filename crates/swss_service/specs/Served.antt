@@ -18,6 +18,10 @@ use Rattle.swss_service.specs.Going.{HasGoneOn}
 abbrev pub IsServed : ℕ → CoreAndChip → CoreAndChip → Type 0
 IsServed most opening now = (taken : List Sent) × (marks : List Mark) × HasGoneOn most opening now.core now.chip taken marks
 
+-- from whatever opening it had gone on, it has gone on still
+abbrev pub StaysServed : CoreAndChip → CoreAndChip → Type 0
+StaysServed old new = (most : ℕ) (opening : CoreAndChip) → IsServed most opening old → IsServed most opening new
+
 -- the log has fewer places left than any event can need: 2, and 1 for each key that the writes taken name
 abbrev pub LacksPlaces : CoreAndChip → Type 0
 LacksPlaces s = s.core.limit < size_beside s.core (length s.chip.effects) + 2 + length (keys_named s.core.log.taken)

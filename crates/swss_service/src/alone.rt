@@ -4,11 +4,11 @@ ghost use Rattle.table_schema.specs.declared.write.Sent.{Sent};
 ghost use Rattle.table_schema.specs.Writes.{HasReadKey};
 ghost use Rattle.swss_script.specs.Sent.{writes_in};
 ghost use Rattle.swss_script.specs.declared.parts.Act.TheVariants as act;
+ghost use Rattle.swss_service.specs.Served.{StaysServed};
 ghost use Rattle.swss_service.specs.Taking.{AreCounted, HaveReadKeys, IsMade, IsNextNumber, IsRestartMade, IsRoundMade, acts_by, acts_in, writes_by};
 
-use crate::name::Named;
-use crate::served::Served;
-use round_actors::{Kept, Refusal};
+use crate::locked::Locked;
+use round_actors::Kept;
 use sai_types::Chip;
 use std::alloc::Global;
 use std::collections::BTreeMap;
@@ -21,18 +21,19 @@ type Counts = BTreeMap<u32, u64>;
 
 /// Takes the writes of a round's sections, and makes their restarts, in order, until one is refused; the writes of each producer are
 /// numbered from 0. Tells the refusal.
-pub(crate) fn take_sections<C: Chip, J: Named>(
+pub(crate) fn take_sections<C: Chip>(
     alloc: Global,
-    served: &mut Served<C, J>,
+    locked: &mut Locked<C>,
     sections: Sections,
 ) -> Kept
     requires read { HaveReadKeys (writes_in sections) }
-    ensures made { IsRoundMade (length served.old.chip.effects) (acts_in sections) served.old.core result served.new.core }
-    ensures chip { served.new.chip ≡ served.old.chip }
+    ensures made { IsRoundMade (length locked.old.chip.effects) (acts_in sections) locked.old.core result locked.new.core }
+    ensures chip { locked.new.chip ≡ locked.old.chip }
+    ensures goes_on { StaysServed locked.old locked.new }
 {
     let mut counts = BTreeMap::new(alloc);
     for section in sections.into_vec() {
-        match take_section(served, section.producer, section.acts, &mut counts) {
+        match take_section(locked, section.producer, section.acts, &mut counts) {
             Kept::Nothing => {}
             kept => return kept,
         }
@@ -41,18 +42,19 @@ pub(crate) fn take_sections<C: Chip, J: Named>(
 }
 
 /// Takes the writes of a section, and makes its restarts.
-fn take_section<C: Chip, J: Named>(
-    served: &mut Served<C, J>,
+fn take_section<C: Chip>(
+    locked: &mut Locked<C>,
     producer: u32,
     acts: Acts,
     counts: &mut Counts,
 ) -> Kept
     requires read { HaveReadKeys (writes_by producer acts) }
-    ensures made { (before : List Sent) → AreCounted counts.old.entries before → IsMade (length served.old.chip.effects) before (acts_by producer acts) served.old.core result served.new.core counts.new.entries }
-    ensures chip { served.new.chip ≡ served.old.chip }
+    ensures made { (before : List Sent) → AreCounted counts.old.entries before → IsMade (length locked.old.chip.effects) before (acts_by producer acts) locked.old.core result locked.new.core counts.new.entries }
+    ensures chip { locked.new.chip ≡ locked.old.chip }
+    ensures goes_on { StaysServed locked.old locked.new }
 {
     for act in acts.into_vec() {
-        match take_act(served, producer, act, counts) {
+        match take_act(locked, producer, act, counts) {
             Kept::Nothing => {}
             kept => return kept,
         }
@@ -61,32 +63,29 @@ fn take_section<C: Chip, J: Named>(
 }
 
 /// Takes a write, or restarts.
-fn take_act<C: Chip, J: Named>(
-    served: &mut Served<C, J>,
-    producer: u32,
-    act: Act,
-    counts: &mut Counts,
-) -> Kept
+fn take_act<C: Chip>(locked: &mut Locked<C>, producer: u32, act: Act, counts: &mut Counts) -> Kept
     requires read { HaveReadKeys (writes_by producer (act ∷ [])) }
-    ensures made { (before : List Sent) → AreCounted counts.old.entries before → IsMade (length served.old.chip.effects) before ((producer, act) ∷ []) served.old.core result served.new.core counts.new.entries }
-    ensures chip { served.new.chip ≡ served.old.chip }
+    ensures made { (before : List Sent) → AreCounted counts.old.entries before → IsMade (length locked.old.chip.effects) before ((producer, act) ∷ []) locked.old.core result locked.new.core counts.new.entries }
+    ensures chip { locked.new.chip ≡ locked.old.chip }
+    ensures goes_on { StaysServed locked.old locked.new }
 {
     match act {
-        Act::Write(write) => take_write(served, producer, write, counts),
-        Act::Restart => restart(served),
+        Act::Write(write) => take_write(locked, producer, write, counts),
+        Act::Restart => restart(locked),
     }
 }
 
 /// Takes a write, numbered by how many of its producer came before it in the round.
-fn take_write<C: Chip, J: Named>(
-    served: &mut Served<C, J>,
+fn take_write<C: Chip>(
+    locked: &mut Locked<C>,
     producer: u32,
     write: Write,
     counts: &mut Counts,
 ) -> Kept
     requires read { HasReadKey write }
-    ensures made { (before : List Sent) → AreCounted counts.old.entries before → IsMade (length served.old.chip.effects) before ((producer, act.Write write) ∷ []) served.old.core result served.new.core counts.new.entries }
-    ensures chip { served.new.chip ≡ served.old.chip }
+    ensures made { (before : List Sent) → AreCounted counts.old.entries before → IsMade (length locked.old.chip.effects) before ((producer, act.Write write) ∷ []) locked.old.core result locked.new.core counts.new.entries }
+    ensures chip { locked.new.chip ≡ locked.old.chip }
+    ensures goes_on { StaysServed locked.old locked.new }
 {
     let Ok(number) = next_number(counts, producer) else {
         return Kept::NoMemory;
@@ -96,22 +95,21 @@ fn take_write<C: Chip, J: Named>(
         number,
         write,
     };
-    match served.put(sent) {
+    match locked.take(sent) {
         Ok(()) => Kept::Nothing,
-        Err(Refusal::LogFull) => Kept::LogFull,
-        Err(Refusal::NoMemory) => Kept::NoMemory,
+        Err(refusal) => refusal.kept(),
     }
 }
 
 /// Makes a restart.
-fn restart<C: Chip, J: Named>(served: &mut Served<C, J>) -> Kept
-    ensures made { IsRestartMade (length served.old.chip.effects) served.old.core result served.new.core }
-    ensures chip { served.new.chip ≡ served.old.chip }
+fn restart<C: Chip>(locked: &mut Locked<C>) -> Kept
+    ensures made { IsRestartMade (length locked.old.chip.effects) locked.old.core result locked.new.core }
+    ensures chip { locked.new.chip ≡ locked.old.chip }
+    ensures goes_on { StaysServed locked.old locked.new }
 {
-    match served.restart_now() {
+    match locked.restart() {
         Ok(()) => Kept::Nothing,
-        Err(Refusal::LogFull) => Kept::LogFull,
-        Err(Refusal::NoMemory) => Kept::NoMemory,
+        Err(refusal) => refusal.kept(),
     }
 }
 

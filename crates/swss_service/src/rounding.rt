@@ -1,13 +1,10 @@
 // A round with several workers, beside each other.
-ghost use Rattle.std.specs.Prelude.{◌≡◌, ◌+◌, ◌-◌, ◌<◌, ◌≤◌};
-ghost use Rattle.orch_core.specs.ComingBack.{restarts_marked};
-ghost use Rattle.orch_core.specs.Restarting.{IsInService};
-ghost use Rattle.intake_queue.specs.Values.{AreAllPasses, AreNew, IsAllTaken, IsMet, new_receiver};
-ghost use Rattle.round_actors.specs.Follows.{FollowsTaker};
+ghost use Rattle.std.specs.Prelude.{◌≡◌, ◌+◌, ◌-◌, ◌<◌, ◌≤◌, ℕ};
+ghost use Rattle.intake_queue.specs.Values.{AreNew, new_receiver};
 ghost use Rattle.round_actors.specs.Round.{AreSectionsOf};
 ghost use Rattle.round_actors.specs.declared.answers.Kept.TheVariants as keeps;
-ghost use Rattle.swss_service.specs.CoreAndChip.{beside};
-ghost use Rattle.swss_service.specs.Rounds.{HaveActed, HasTakenRest, RoundsBeside, SettlesBoth, end_of_settling, restarts_logged, writes_logged};
+ghost use Rattle.swss_service.specs.Round.{RoundsTo};
+ghost use Rattle.swss_service.specs.Rounds.{HaveActed, HasTakenRest, RoundsBeside, SettlesBoth, restarts_logged, writes_logged};
 ghost use Rattle.swss_service.specs.Served.{IsServed};
 
 use crate::ending::RoundEnd;
@@ -16,7 +13,6 @@ use crate::name::Named;
 use crate::served::Served;
 use crate::taking::take_rest;
 use intake_queue::{Intake, Made, Pass, Taker, close};
-use orch_core::{Core, Settled};
 use round_actors::{Kept, Ran, Shared, Stops, run_actors};
 use sai_types::Chip;
 use std::alloc::Global;
@@ -145,15 +141,24 @@ fn take_all<R: Wait, C: Chip, J: Named>(
 }
 
 /// Hands core and chip back with this end.
-pub(crate) fn hand_back<C: Chip, J: Named>(served: Served<C, J>, end: RoundEnd) -> Rounded<C>
+fn hand_back<C: Chip, J: Named>(served: Served<C, J>, end: RoundEnd) -> Rounded<C>
     ensures parts { result.locked ≡ served }
     ensures end { result.end ≡ end }
     ensures served { IsServed J.most J.opening served }
 {
-    let (core, chip) = served.parts();
+    let locked = served.into_locked();
+    Rounded { locked, end }
+}
+
+/// Where there was no memory to begin with, nothing was made.
+pub(crate) fn unbegun<C: Chip>(locked: Locked<C>, _sections: &[Section]) -> Rounded<C>
+    ensures one { RoundsTo _sections.now locked.core locked.chip result.end result.locked.core result.locked.chip }
+    ensures any { (most : ℕ) → RoundsBeside most _sections.now locked result.end result.locked }
+{
+    locked.stand_for_one_session();
     Rounded {
-        locked: Locked::new(core, chip),
-        end,
+        locked,
+        end: RoundEnd::NoMemory,
     }
 }
 
@@ -173,27 +178,14 @@ fn give_up<C: Chip, J: Named>(acted: Acted<C, J>, end: RoundEnd) -> Rounded<C>
     hand_back(served, end)
 }
 
-/// How a settling ends the round.
-fn end_of_settling(settled: Result<Settled, OutOfMemory>) -> RoundEnd
-    ensures { result ≡ end_of_settling settled }
-{
-    match settled {
-        Ok(settled) => RoundEnd::Ran(settled),
-        Err(OutOfMemory) => RoundEnd::NoMemory,
-    }
-}
-
 /// Settles the two.
-pub(crate) fn settle<C: Chip, J: Named>(served: Served<C, J>) -> Rounded<C>
+fn settle<C: Chip, J: Named>(served: Served<C, J>) -> Rounded<C>
     ensures settles { SettlesBoth served result.end result.locked }
     ensures served { IsServed J.most J.opening served }
 {
-    let (mut core, mut chip) = served.parts();
-    let end = end_of_settling(core.settle(&mut chip));
-    Rounded {
-        locked: Locked::new(core, chip),
-        end,
-    }
+    let mut locked = served.into_locked();
+    let end = locked.settle();
+    Rounded { locked, end }
 }
 
 /// Closes the intake, and settles.
@@ -258,8 +250,7 @@ fn round_named<
 >(
     rt: &R,
     alloc: Global,
-    core: Core,
-    chip: C,
+    locked: Locked<C>,
     made: Made,
     restarts: Blank,
     stops: Blank,
@@ -271,13 +262,12 @@ fn round_named<
     requires made { AreNew made.intake made.passes.items × (made.taker ≡ new_receiver made.intake) }
     requires restarts { (restarts.name ≡ J.name) × (restarts.parts ≡ J.parts) × (restarts.parts ≡ 4) }
     requires stops { (stops.name ≡ J.stops_name) × (stops.parts ≡ J.stops_parts) × (stops.parts ≡ 4) }
-    requires opening { (J.opening ≡ beside core (C.state chip)) × (J.taken ≡ core.log.taken) × (J.restarts ≡ restarts_marked core.log.marks) }
-    requires service { IsInService core (C.state chip) }
+    requires opening { (J.opening ≡ locked) × (J.taken ≡ writes_logged locked) × (J.restarts ≡ restarts_logged locked) }
     requires few { (made.intake.producers ≤ 4) × (0 < workers) × (workers ≤ 4) × (J.most ≡ workers - 1) }
     requires sections { AreSectionsOf made.intake.producers sections.now }
     ensures { RoundsBeside J.most sections.now J.opening result.end result.locked }
 {
-    let served = Served::<C, J>::new(core, chip);
+    let served = Served::<C, J>::new(locked);
     let acted = act::<R, C, J, G>(
         rt, alloc, served, made, restarts, stops, sections, workers, gate,
     );
@@ -290,24 +280,21 @@ fn round_named<
 pub(crate) fn round_beside<R: Threads + Wait + Sync, C: Chip + Send + Drop, G: Gate + Sync>(
     rt: &R,
     alloc: Global,
-    core: Core,
-    chip: C,
+    locked: Locked<C>,
     sections: &[Section],
     producers: u32,
     workers: u32,
     gate: &G,
 ) -> Rounded<C>
-    requires service { IsInService core (C.state chip) }
     requires few { (0 < producers) × (producers ≤ 4) × (0 < workers) × (workers ≤ 4) }
     requires sections { AreSectionsOf producers sections.now }
-    ensures { RoundsBeside (workers - 1) sections.now (beside core (C.state chip)) result.end result.locked }
+    ensures { RoundsBeside (workers - 1) sections.now locked result.end result.locked }
 {
     match Intake::new(alloc, producers) {
         Ok(made) => round_named::<R, C, Brand, G>(
             rt,
             alloc,
-            core,
-            chip,
+            locked,
             made,
             Blank::new(4),
             Blank::new(4),
@@ -315,9 +302,6 @@ pub(crate) fn round_beside<R: Threads + Wait + Sync, C: Chip + Send + Drop, G: G
             workers,
             gate,
         ),
-        Err(OutOfMemory) => Rounded {
-            locked: Locked::new(core, chip),
-            end: RoundEnd::NoMemory,
-        },
+        Err(OutOfMemory) => unbegun(locked, sections),
     }
 }

@@ -1,30 +1,18 @@
 // What the actors of a round left in the queue is taken.
-ghost use Rattle.std.specs.Prelude.{◌≡◌, ◌≢◌, ◌++◌, List};
+ghost use Rattle.std.specs.Prelude.{◌≡◌, ◌++◌, List};
 ghost use Rattle.table_schema.specs.declared.write.Sent.{Sent};
 ghost use Rattle.intake_queue.specs.Values.{AreAllPasses, IsAllTaken, IsMet};
 ghost use Rattle.round_actors.specs.Follows.{FollowsTaker};
 ghost use Rattle.round_actors.specs.declared.answers.Kept.TheVariants as keeps;
-ghost use Rattle.round_actors.specs.declared.round_core.Refusal.TheVariants as refusals;
 ghost use Rattle.swss_service.specs.Rounds.{restarts_logged, writes_logged};
 ghost use Rattle.swss_service.specs.Served.{LacksPlaces};
 
 use crate::name::Named;
 use crate::served::Served;
 use intake_queue::{Intake, Pass, Taker};
-use round_actors::{Kept, Refusal, RoundCore};
+use round_actors::{Kept, RoundCore};
 use sai_types::Chip;
 use std::sync::Wait;
-
-/// The refusal of a core, as it is kept.
-fn kept_of(refusal: Refusal) -> Kept
-    ensures refused { result ≢ keeps.Nothing }
-    ensures full { result ≡ keeps.LogFull → refusal ≡ refusals.LogFull }
-{
-    match refusal {
-        Refusal::LogFull => Kept::LogFull,
-        Refusal::NoMemory => Kept::NoMemory,
-    }
-}
 
 /// Takes all that is left in the queue, with all passes at hand, until there is none or the core refuses one.
 pub(crate) fn take_rest<R: Wait, C: Chip, J: Named>(
@@ -49,7 +37,7 @@ pub(crate) fn take_rest<R: Wait, C: Chip, J: Named>(
             None => return Kept::Nothing,
             Some(sent) => match served.take(sent) {
                 Ok(()) => {}
-                Err(refusal) => return kept_of(refusal),
+                Err(refusal) => return refusal.kept(),
             },
         }
     }

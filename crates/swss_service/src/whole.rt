@@ -1,16 +1,14 @@
 // A round.
 ghost use Rattle.std.specs.Prelude.{◌≡◌, ◌-◌, ◌<◌, ◌≤◌, IfOk};
-ghost use Rattle.orch_core.specs.Restarting.{IsInService};
 ghost use Rattle.round_actors.specs.Round.{AreSectionsOf};
-ghost use Rattle.swss_service.specs.CoreAndChip.{beside};
+ghost use Rattle.swss_script.specs.Sent.{writes_in};
 ghost use Rattle.swss_service.specs.Round.{RoundsTo};
 ghost use Rattle.swss_service.specs.Rounds.{RoundsBeside};
+ghost use Rattle.swss_service.specs.Taking.{HaveReadKeys};
 
-use crate::ending::RoundEnd;
 use crate::locked::Locked;
 use crate::one_worker::round_alone;
-use crate::rounding::{Rounded, round_beside};
-use orch_core::Core;
+use crate::rounding::{Rounded, round_beside, unbegun};
 use sai_types::Chip;
 use std::alloc::Global;
 use std::sync::Wait;
@@ -37,28 +35,26 @@ pub fn round<R: Threads + Wait + Sync, C: Chip + Send + Drop, G: Gate + Sync>(
     ensures one { workers ≡ 1 → RoundsTo sections.now locked.core locked.chip result.end result.locked.core result.locked.chip }
     ensures any { RoundsBeside (workers - 1) sections.now locked result.end result.locked }
 {
-    let (core, chip) = locked.parts();
     if workers == 1 {
-        return match copy_sections(alloc, sections) {
-            Ok(sections) => round_alone(alloc, Locked::new(core, chip), sections),
-            Err(OutOfMemory) => unbegun(core, chip, sections),
-        };
+        return round_copied(alloc, locked, sections);
     }
     // A round without producers has the intake of one.
     let producers = producers.max(1);
-    round_beside(rt, alloc, core, chip, sections, producers, workers, gate)
+    round_beside(rt, alloc, locked, sections, producers, workers, gate)
 }
 
-/// Where there was no memory to begin with, nothing was made.
-fn unbegun<C: Chip>(core: Core, chip: C, _sections: &[Section]) -> Rounded<C>
-    requires service { IsInService core (C.state chip) }
-    ensures one { RoundsTo _sections.now core (C.state chip) result.end result.locked.core result.locked.chip }
-    ensures any { RoundsBeside 0 _sections.now (beside core (C.state chip)) result.end result.locked }
+/// A round with one worker, over a copy of its sections.
+fn round_copied<C: Chip>(alloc: Global, locked: Locked<C>, sections: &[Section]) -> Rounded<C>
+    requires read { HaveReadKeys (writes_in sections.now) }
+    ensures one { RoundsTo sections.now locked.core locked.chip result.end result.locked.core result.locked.chip }
+    ensures any { RoundsBeside 0 sections.now locked result.end result.locked }
 {
-    Rounded {
-        locked: Locked::new(core, chip),
-        end: RoundEnd::NoMemory,
-    }
+    let Ok(copies) = copy_sections(alloc, sections) else {
+        return unbegun(locked, sections);
+    };
+    let mut locked = locked;
+    let end = round_alone(alloc, &mut locked, copies);
+    Rounded { locked, end }
 }
 
 /// The same sections once more.

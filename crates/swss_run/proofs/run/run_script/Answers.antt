@@ -1,13 +1,14 @@
-use Rattle.std.proofs.Common.{rules, sym, subst}
+use Rattle.std.proofs.Common.{rules, sym, ap, subst}
 use Rattle.session_laws.specs.Core.{CoreState}
 use Rattle.switch_model.specs.History.{History}
+use Rattle.swss_service.specs.CoreAndChip.{CoreAndChip}
 use Rattle.swss_run.specs.Session.{IsSession}
 use Rattle.swss_run.proofs.run.run_script.Goals as goal
 
 pub returns-clause-session : goal.returns-clause-session
 returns-clause-session g c =
     let ran = c.run_rounds-core.result in
-    let here = subst (λ (z : CoreState). IsSession z.board.plan z.sync.capacities c.args.script.rounds ran.status ran.core.log ran.chip (g.K.Sink.holds c.args.sink.now) (g.K.Sink.holds c.run_rounds-core.new.sink)) c.new-core.ensures c.run_rounds-core.ensures.session in
+    let here = subst (λ (z : CoreState). IsSession z.board.plan z.sync.capacities c.args.script.rounds ran.status ran.core.log ran.chip (g.K.Sink.holds c.args.sink.now) (g.K.Sink.holds c.run_rounds-core.new.sink)) (ap (λ (z : CoreAndChip). z.core) c.begin-locked.ensures) c.run_rounds-core.ensures.session in
     record {
       fails = search rules;
       faults = search rules;

@@ -12,4 +12,4 @@ use Rattle.swss_run.proofs.session.run_each.Given as goal
 abbrev pub invariant-loop-round : goal.invariant-loop-round
 invariant-loop-round g l =
     (done : List Round) × (l.fn.rounds ≡ done ++ l.round-iterator.rest.items) × (l.number ≡ length done) × AllByRecursion (λ (r : Round). HaveReadKeys (writes_in r.sections)) l.round-iterator.rest.items × (g.K.Sink.faults l.initial.sink ≤ g.K.Sink.faults l.sink)
-    × IsRunning l.fn.rounds done l.fn.core (g.K.Sink.holds l.initial.sink) l.core l.chip l.replay (g.K.Sink.holds l.sink) × IsEndedAs l.status l.core l.chip × (l.chip.fails ≡ l.fn.chip.fails) × IsToldOf l.told l.core.log.taken
+    × IsRunning l.fn.rounds done l.fn.locked.core (g.K.Sink.holds l.initial.sink) l.locked.core l.locked.chip l.replay (g.K.Sink.holds l.sink) × IsEndedAs l.status l.locked.core l.locked.chip × (l.locked.chip.fails ≡ l.fn.locked.chip.fails) × IsToldOf l.told l.locked.core.log.taken

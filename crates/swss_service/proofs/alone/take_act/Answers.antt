@@ -19,9 +19,9 @@ take_write-requires g c = record { read = (subst (λ a. HaveReadKeys (writes_by 
 
 pub returns-in-Write-clause-made : goal.returns-in-Write-clause-made
 returns-in-Write-clause-made g c = λ before counted.
-    subst (λ a. IsMade (length c.args.served.now.chip.effects) before ((c.args.producer, a) ∷ []) c.args.served.now.core c.take_write.result c.take_write.new.served.core c.take_write.new.counts.entries) (sym c.in-Write.is) (c.take_write.ensures.made before counted)
+    subst (λ a. IsMade (length c.args.locked.now.chip.effects) before ((c.args.producer, a) ∷ []) c.args.locked.now.core c.take_write.result c.take_write.new.locked.core c.take_write.new.counts.entries) (sym c.in-Write.is) (c.take_write.ensures.made before counted)
 
 pub returns-in-Restart-clause-made : goal.returns-in-Restart-clause-made
 returns-in-Restart-clause-made g c = λ before counted.
-    subst (λ a. IsMade (length c.args.served.now.chip.effects) before ((c.args.producer, a) ∷ []) c.args.served.now.core c.restart.result c.restart.new.served.core c.args.counts.now.entries) (sym c.in-Restart.is)
-    (restart-made (length c.args.served.now.chip.effects) before c.args.producer c.args.served.now.core c.restart.result c.restart.new.served.core c.args.counts.now.entries counted c.restart.ensures.made)
+    subst (λ a. IsMade (length c.args.locked.now.chip.effects) before ((c.args.producer, a) ∷ []) c.args.locked.now.core c.restart.result c.restart.new.locked.core c.args.counts.now.entries) (sym c.in-Restart.is)
+    (restart-made (length c.args.locked.now.chip.effects) before c.args.producer c.args.locked.now.core c.restart.result c.restart.new.locked.core c.args.counts.now.entries counted c.restart.ensures.made)
