@@ -4,7 +4,7 @@
 //! cases KIND      the cases of a kind begin
 //! ```
 //!
-//! The kinds are `texts`, `chip` and `plans` (crate `part_cases`), `core` (crate `core_cases`), `scripts` and `examples`; what
+//! The kinds are `texts`, `chip` and `plans` (crate `part_cases`), `core` (crate `core_cases`), `rounds`, `scripts` and `examples`; what
 //! the lines of a kind mean stands at the head of its file. `examples` has no lines, and stands for the scripts of the folder
 //! that the program runs in. Lines that are empty or begin with `#` are skipped. What differs is printed by the name of its
 //! case, then how many cases of each kind passed and failed, and in the last line how many of all; the exit status is 1 where
@@ -12,6 +12,7 @@
 #![tactic(auto)]
 
 mod examples;
+mod rounds;
 mod scripts;
 
 use anyhow::{Context, Result, bail, ensure};
@@ -74,6 +75,7 @@ fn run_kind<R: Files + AllocGlobal + Clone + Drop + Threads + Wait + Sync + Prin
         "chip" => chip::run(rt, alloc, kind.lines)?,
         "plans" => plans::run(rt, alloc, kind.lines)?,
         "core" => core_cases::run(rt, alloc, kind.lines)?,
+        "rounds" => rounds::run(rt, alloc, kind.lines)?,
         "scripts" => scripts::run(rt, alloc, kind.lines)?,
         "examples" if kind.lines.is_empty() => examples::run(rt, alloc, ".")?,
         _ => bail!("no kind of cases, or a line that it has not"),

@@ -162,7 +162,7 @@ pub(crate) fn unbegun<C: Chip>(locked: Locked<C>, _sections: &[Section]) -> Roun
     }
 }
 
-/// The same behind a refusal.
+/// Hands core and chip back behind a refusal, with this end.
 fn give_up<C: Chip, J: Named>(acted: Acted<C, J>, end: RoundEnd) -> Rounded<C>
     ensures parts { result.locked ≡ acted.served }
     ensures end { result.end ≡ end }
