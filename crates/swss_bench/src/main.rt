@@ -13,6 +13,9 @@
 //! keys N..             N keys that are written, popped and done
 //! reasons N..          N reasons to wait that are put and woken
 //! churn N..            N times 20,000 routes that are made and taken away again in one view
+//! full N..             N rounds in which producers send more than the queue holds, while all workers are held
+//! routes N..           N routes in one round, with one worker and up to four
+//! slow N..             the same on a chip that sleeps 100 microseconds before each call
 //! plan ROUTES GROUPS   the way from a view of so many routes and groups to one in which half of the routes moved
 //! ```
 //!
@@ -24,6 +27,7 @@ mod churn;
 mod plans;
 mod queue;
 mod rounds;
+mod service;
 mod tables;
 mod timing;
 mod words;
@@ -34,6 +38,7 @@ use churn::time_churn;
 use plans::time_plan;
 use queue::{time_alone, time_together};
 use rounds::{fields_script, rounds_script, time_script, waiting_script, writes_script};
+use service::{time_full, time_routes, time_slow};
 use std::alloc::Global;
 use std::env;
 use std::sync::Wait;
@@ -95,6 +100,9 @@ fn time(
         "keys" => time_keys(rt, alloc, number),
         "reasons" => time_reasons(rt, alloc, number),
         "churn" => time_churn(rt, alloc, number),
+        "full" => time_full(rt, alloc, number),
+        "routes" => time_routes(rt, alloc, number),
+        "slow" => time_slow(rt, alloc, number),
         _ => bail!("{name}: a number of routes and one of groups are wanted"),
     }
 }

@@ -1,6 +1,6 @@
 // What the modules share.
 use anyhow::Result;
-use std::time::{Clock, Instant};
+use std::time::{Clock, Duration, Instant};
 
 /// Prints the time of each of so many steps since a start.
 pub fn print_time(
@@ -9,8 +9,12 @@ pub fn print_time(
     number: u32,
     steps: &str,
 ) -> Result<()> {
-    let nanoseconds = start.elapsed(rt)?.as_nanos();
-    let each = nanoseconds / u128::from(number).max(1);
+    print_each(rt, start.elapsed(rt)?, number, steps)
+}
+
+/// Prints the time of each of so many steps that took so long together.
+pub fn print_each(rt: &impl Eprint, all: Duration, number: u32, steps: &str) -> Result<()> {
+    let each = all.as_nanos() / u128::from(number).max(1);
     eprintln!(rt; "{number} {steps}: {each} ns each")?;
     Ok(())
 }

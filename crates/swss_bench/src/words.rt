@@ -4,7 +4,7 @@ use std::alloc::Global;
 
 /// The names of what can be timed.
 pub const NAMES: &str =
-    "chip, rounds, writes, waiting, fields, alone, together, names, keys, reasons, churn, plan";
+    "chip, rounds, writes, waiting, fields, alone, together, names, keys, reasons, churn, full, routes, slow, plan";
 
 /// A name and the numbers behind it.
 #[derive(Drop)]
