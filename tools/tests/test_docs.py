@@ -125,3 +125,9 @@ class Dealing(unittest.TestCase):
     def test_a_long_case_is_left_out(self):
         text = "cases scripts\ncase long\n*400000 %0a\nonce\ncase large\n*400000 %0a\noutput\n|a\ncase small\n|a\noutput\n|a\n"
         self.assertEqual(module_of("quick").dealt(text, 1, False), (["cases scripts\ncase small\n|a\noutput\n|a\n\n"], 2))
+
+    def test_few_drawn_rounds_are_run(self):
+        text = "cases rounds\n# Twelve.\n" + "".join(f"{it} 10 2\n" for it in range(12)) + "\n"
+        few = "cases rounds\n" + "".join(f"{it} 10 2\n" for it in range(9)) + "\n"
+        self.assertEqual(module_of("quick").dealt(text, 1, False), ([few], 3))
+        self.assertEqual(module_of("quick").dealt(text, 1, True)[1], 0)
