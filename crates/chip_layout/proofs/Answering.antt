@@ -5,6 +5,7 @@ use Rattle.std.proofs.lemmas.Bool.{and_parts, false≢true}
 use Rattle.std.proofs.lemmas.Option.{same_Some}
 use Rattle.swss_types.specs.Address.{IsProperPrefix}
 use Rattle.swss_types.specs.declared.address.Ip.{Ip}
+use Rattle.swss_types.specs.declared.vrf.Packet.{Packet}
 use Rattle.swss_types.specs.declared.address.Mac.{Mac}
 use Rattle.swss_types.specs.declared.address.Prefix.{Prefix}
 use Rattle.swss_types.proofs.Proper.{mapped}
@@ -238,31 +239,31 @@ module _ (made : ℕ) (objects : Objects) (whole : IsWhole made objects) (have :
           only x (inr h) = elim h [ ]
       reached_by (goal.Group hops) at = λ hop h. one_mac hop (at hop h)
 
-      reached_route : (a : Ip) (o : Option (Prefix × Goal)) → best_route stand a ≡ o → HopsAreReached others (decide_route o)
+      reached_route : (a : Packet) (o : Option (Prefix × Goal)) → best_route stand a ≡ o → HopsAreReached others (decide_route o)
       reached_route a None e = tt
       reached_route a (Some r) e = reached_by r.1 (goal_of r.0 r.1 (best_in a r (subst (IsAnswer stand a) e (answer_is stand a))))
         where
-          best_in : (a : Ip) (r : Prefix × Goal) → IsBest stand a r.0 r.1 → IsIn (thing.Route r.0 r.1) stand
+          best_in : (a : Packet) (r : Prefix × Goal) → IsBest stand a r.0 r.1 → IsIn (thing.Route r.0 r.1) stand
           best_in a r best = best.here
 
-      reached_own : (a : Ip) (own : Bool) → HopsAreReached others (if own then decision.Cpu else decide_route (best_route stand a))
+      reached_own : (a : Packet) (own : Bool) → HopsAreReached others (if own then decision.Cpu else decide_route (best_route stand a))
       reached_own a true = tt
       reached_own a false = reached_route a (best_route stand a) refl
 
-      alike : (a : Ip) → DecideAlike others stand a
+      alike : (a : Packet) → DecideAlike others stand a
       alike a = record {
-        own = same.back (thing.Own a);
-        own_back = same.into (thing.Own a);
+        own = same.back (thing.Own a.to);
+        own_back = same.into (thing.Own a.to);
         routes = λ p g c h. same.back (thing.Route p g) h;
         routes_back = λ p g c h. same.into (thing.Route p g) h;
       }
 
-      -- an address is decided alike in whatever order the things are taken
-      pub decided-once : (a : Ip) → decide others a ≡ decide stand a
+      -- a packet is decided alike in whatever order the things are taken
+      pub decided-once : (a : Packet) → decide others a ≡ decide stand a
       decided-once a = decide-alike others stand a routes (alike a)
 
       -- and each hop of the answer has one Ethernet address
-      pub hops-reached : (a : Ip) → HopsAreReached others (decide others a)
+      pub hops-reached : (a : Packet) → HopsAreReached others (decide others a)
       hops-reached a = subst (HopsAreReached others) (sym (decided-once a)) (reached_own a (has_own stand a))
 
       with_mac : Hop → Option Mac → List (Hop × Option Mac) → List (Hop × Option Mac)
@@ -288,7 +289,7 @@ module _ (made : ℕ) (objects : Objects) (whole : IsWhole made objects) (have :
       forward_by (decision.Via hops) f g = ap decision.Through (macs others same hops f g)
 
       -- packets are forwarded alike in whatever order the things are taken
-      pub forwarded-once : (a : Ip) → forward others a ≡ forward stand a
+      pub forwarded-once : (a : Packet) → forward others a ≡ forward stand a
       forwarded-once a =
           let d = decided-once others same a in
           ap (forwarding_of others) d ∙ forward_by (decide stand a) (subst (HopsAreReached others) d (hops-reached others same a)) (hops-reached stand here a)

@@ -1,6 +1,6 @@
 // What calls do to the things that stand. Each function is a law: it does nothing, and its contract is proved.
 ghost use Rattle.std.specs.Prelude.{◌≡◌, ℕ, ◌+◌, true, List, ◌∷◌};
-ghost use Rattle.swss_types.specs.declared.address.Ip.{Ip};
+ghost use Rattle.swss_types.specs.declared.vrf.Packet.{Packet};
 ghost use Rattle.sai_types.specs.declared.hop.Hop.{Hop};
 ghost use Rattle.sai_types.specs.declared.ids.Rid.{Rid};
 ghost use Rattle.sai_types.specs.declared.body.Attr.{Attr};
@@ -50,9 +50,9 @@ pub fn shown_is_laid()
 /// In each state that legal calls made, where ports have lanes and prefixes are proper, an address has one answer,
 /// whatever the order of the objects, and each hop of it has exactly one Ethernet address.
 pub fn answers_once()
-    ensures decided { (made : ℕ) (objects : Objects) (others : List Thing) (a : Ip) → IsWhole made objects → HaveLanes objects → HavePrefixes objects → AreSame (those (named objects)) others → decide others a ≡ decide (those (named objects)) a }
-    ensures forwarded { (made : ℕ) (objects : Objects) (others : List Thing) (a : Ip) → IsWhole made objects → HaveLanes objects → HavePrefixes objects → AreSame (those (named objects)) others → forward others a ≡ forward (those (named objects)) a }
-    ensures reached { (made : ℕ) (objects : Objects) (others : List Thing) (a : Ip) → IsWhole made objects → HaveLanes objects → HavePrefixes objects → AreSame (those (named objects)) others → HopsAreReached others (decide others a) }
+    ensures decided { (made : ℕ) (objects : Objects) (others : List Thing) (a : Packet) → IsWhole made objects → HaveLanes objects → HavePrefixes objects → AreSame (those (named objects)) others → decide others a ≡ decide (those (named objects)) a }
+    ensures forwarded { (made : ℕ) (objects : Objects) (others : List Thing) (a : Packet) → IsWhole made objects → HaveLanes objects → HavePrefixes objects → AreSame (those (named objects)) others → forward others a ≡ forward (those (named objects)) a }
+    ensures reached { (made : ℕ) (objects : Objects) (others : List Thing) (a : Packet) → IsWhole made objects → HaveLanes objects → HavePrefixes objects → AreSame (those (named objects)) others → HopsAreReached others (decide others a) }
 {}
 
 /// A chip is alike to the things that stand, where each group has all its members.

@@ -2,7 +2,7 @@
 use Rattle.std.proofs.Common.{◌≡◌, ◌⊎◌, inl, inr, ℕ, ◌++◌, List, [], map, Some, refl, sym, ap, ◌∙◌, subst}
 use Rattle.std.proofs.lemmas.List.{append_assoc}
 use Rattle.swss_types.specs.Address.{IsProperPrefix}
-use Rattle.swss_types.specs.declared.address.Ip.{Ip}
+use Rattle.swss_types.specs.declared.vrf.Packet.{Packet}
 use Rattle.swss_types.specs.declared.address.Prefix.{Prefix}
 use Rattle.sai_types.specs.declared.ids.Rid.{Rid}
 use Rattle.sai_types.specs.declared.hop.Hop.{Hop}
@@ -140,10 +140,10 @@ module _ {hops_of : List Hop → List Hop} {old new : List Thing} {plan : List P
     before_stands : ForwardsAfter shown [] before
     before_stands = shown_stands [] plan refl first
 
-    before_forward : (a : Ip) → forward before a ≡ forward shown a
+    before_forward : (a : Packet) → forward before a ≡ forward shown a
     before_forward a = (hitless shown_named shown_named no_plan [] [] refl before before_stands a refl).0
 
-    before_decide : (a : Ip) → decide before a ≡ decide shown a
+    before_decide : (a : Packet) → decide before a ≡ decide shown a
     before_decide a = elim (either shown_named shown_named no_plan [] [] refl before before_stands a) [ inl e ↦ e | inr e ↦ e ]
 
     module _ (done due : List PlanChange) (cut : plan ≡ done ++ due) {layout : Layout Rid} {made : ℕ} {objects : Objects} (at : IsMidMoment old done layout made objects) where

@@ -1,8 +1,8 @@
--- which of some things decides an address: the own address, else the covering route of the longest prefix
+-- which of some things decides a packet: the own address, else the covering route of the longest prefix
 use Rattle.std.proofs.Common.{◌≡◌, inl, inr, ◌⊎◌, ℕ, ◌≤◌, Bool, true, false, cond, List, Option, None, Some, refl, sym, ap, ◌∙◌, subst, arith}
 use Rattle.std.proofs.lemmas.Bool.{false≢true}
 use Rattle.swss_types.specs.Address.{IsProperPrefix, covers}
-use Rattle.swss_types.specs.declared.address.Ip.{Ip}
+use Rattle.swss_types.specs.declared.vrf.Packet.{Packet}
 use Rattle.swss_types.specs.declared.address.Prefix.{Prefix}
 use Rattle.swss_types.proofs.PrefixTexts.{width-le}
 use Rattle.sai_types.specs.declared.thing.Goal.{Goal}
@@ -28,10 +28,10 @@ pub good-names : (ts : List Thing) → HaveOwnNames ts → (t : Thing) → IsIn 
 good-names ts named (thing.Route p g) i = named.proper p g i
 good-names ts named _ i = tt
 
--- what has a name decides an address where nothing stronger does
-abbrev pub Decides : Ip → ThingName → Type 0
-Decides a (name.Own ip) = ip ≡ a
-Decides a (name.Route p) = covers p a ≡ true
+-- what has a name decides a packet where nothing stronger does
+abbrev pub Decides : Packet → ThingName → Type 0
+Decides a (name.Own ip) = ip ≡ a.to
+Decides a (name.Route p) = covers p a.to ≡ true
 Decides a _ = ⊥
 
 abbrev pub strength : ThingName → ℕ
@@ -43,12 +43,12 @@ decision (thing.Own ip) = to.Cpu
 decision (thing.Route p g) = decision_of g
 decision _ = to.Drop
 
--- one name of a strength decides an address
-one-decider : (a : Ip) (k m : ThingName) → IsGood k → IsGood m → Decides a k → Decides a m → strength k ≡ strength m → k ≡ m
+-- one name of a strength decides a packet
+one-decider : (a : Packet) (k m : ThingName) → IsGood k → IsGood m → Decides a k → Decides a m → strength k ≡ strength m → k ≡ m
 one-decider a (name.Own x) (name.Own y) g h e f same = ap name.Own (e ∙ sym f)
 one-decider a (name.Own x) (name.Route q) g h e f same = let small = len_within q h in absurd (omega (arith, small, same))
 one-decider a (name.Route p) (name.Own y) g h e f same = let small = len_within p g in absurd (omega (arith, small, same))
-one-decider a (name.Route p) (name.Route q) g h e f same = ap name.Route (prefix_unique p q a g h e f same)
+one-decider a (name.Route p) (name.Route q) g h e f same = ap name.Route (prefix_unique p q a.to g h e f same)
 one-decider a (name.Own x) _ g h e f same = elim f [ ]
 one-decider a (name.Route x) _ g h e f same = elim f [ ]
 one-decider a _ _ g h e f same = elim e [ ]
@@ -57,21 +57,21 @@ pub strength-most : (k : ThingName) → IsGood k → strength k ≤ 129
 strength-most (name.Route p) g = let small = len_within p g in omega (arith, small)
 strength-most _ g = omega arith
 
--- the strongest of some things that decide the address, and none
-pub record IsStrongest (a : Ip) (now : Thing → Type 0) (t : Thing) : Type 0 where
+-- the strongest of some things that decide the packet, and none
+pub record IsStrongest (a : Packet) (now : Thing → Type 0) (t : Thing) : Type 0 where
   pub there : now t
   pub decides : Decides a (name_of t)
   pub most : (u : Thing) → now u → Decides a (name_of u) → strength (name_of u) ≤ strength (name_of t)
 
-abbrev pub NoneDecides : Ip → (Thing → Type 0) → Type 0
+abbrev pub NoneDecides : Packet → (Thing → Type 0) → Type 0
 NoneDecides a now = (u : Thing) → now u → Decides a (name_of u) → ⊥
 
-module _ (a : Ip) (ts : List Thing) (good : (t : Thing) → IsIn t ts → IsGood (name_of t)) where
+module _ (a : Packet) (ts : List Thing) (good : (t : Thing) → IsIn t ts → IsGood (name_of t)) where
   -- how the address is decided
   abbrev pub HasDecider : Type 0
   HasDecider = ((t : Thing) × IsStrongest a (λ u. IsIn u ts) t × (decide ts a ≡ decision t)) ⊎ (NoneDecides a (λ u. IsIn u ts) × (decide ts a ≡ to.Drop))
 
-  not_own : (t : Thing) → IsIn t ts → Decides a (name_of t) → has_own ts a ≡ false → (q : Prefix) × (g : Goal) × (t ≡ thing.Route q g) × (covers q a ≡ true)
+  not_own : (t : Thing) → IsIn t ts → Decides a (name_of t) → has_own ts a ≡ false → (q : Prefix) × (g : Goal) × (t ≡ thing.Route q g) × (covers q a.to ≡ true)
   not_own (thing.Own ip) i e none = absurd (false≢true (sym none ∙ in-has_own ts a (subst (λ x. IsIn (thing.Own x) ts) e i)))
   not_own (thing.Route q g) i e none = (q, g, refl, e)
   not_own _ i e none = elim e [ ]
@@ -95,7 +95,7 @@ module _ (a : Ip) (ts : List Thing) (good : (t : Thing) → IsIn t ts → IsGood
 
   by_own : (b : Bool) → has_own ts a ≡ b → HasDecider
   by_own false e = by_route (best_route ts a) e refl (answer_is ts a)
-  by_own true e = inl (thing.Own a, record { there = has_own-in ts a e; decides = refl; most = λ u i d. strength-most (name_of u) (good u i) }, ap (λ c. cond c to.Cpu (decide_route (best_route ts a))) e)
+  by_own true e = inl (thing.Own a.to, record { there = has_own-in ts a e; decides = refl; most = λ u i d. strength-most (name_of u) (good u i) }, ap (λ c. cond c to.Cpu (decide_route (best_route ts a))) e)
 
   pub decided : HasDecider
   decided = by_own (has_own ts a) refl

@@ -1,6 +1,6 @@
 -- each hop of a hitless plan is reached by its old Ethernet address or its new one, so what both views forward equally is forwarded so
 use Rattle.std.proofs.Common.{◌≡◌, inl, inr, ◌⊎◌, ◌++◌, List, [], ◌∷◌, map, Option, None, Some, refl, sym, ap, ap₂, ◌∙◌, subst}
-use Rattle.swss_types.specs.declared.address.Ip.{Ip}
+use Rattle.swss_types.specs.declared.vrf.Packet.{Packet}
 use Rattle.swss_types.specs.declared.address.Mac.{Mac}
 use Rattle.sai_types.specs.declared.hop.Hop.{Hop}
 use Rattle.sai_types.specs.declared.thing.Thing.{Thing}
@@ -111,7 +111,7 @@ module _ (old new now : List Thing) (each : (h : Hop) → (hop_mac now h ≡ hop
       (ap to.Through same.1, ap (λ l. forwarding_of now (to.Via l)) (sym same.0) ∙ ap to.Through same.1)
   forwarded _ _ h = absurd cc
 
-  pub forward-kept : (a : Ip) → (decide now a ≡ decide old a) ⊎ (decide now a ≡ decide new a) → forward old a ≡ forward new a → forward now a ≡ forward old a
+  pub forward-kept : (a : Packet) → (decide now a ≡ decide old a) ⊎ (decide now a ≡ decide new a) → forward old a ≡ forward new a → forward now a ≡ forward old a
   forward-kept a (inl is) h = ap (forwarding_of now) is ∙ (forwarded (decide old a) (decide new a) h).0
   forward-kept a (inr is) h = ap (forwarding_of now) is ∙ (forwarded (decide old a) (decide new a) h).1
 

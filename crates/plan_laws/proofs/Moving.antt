@@ -1,7 +1,7 @@
 -- a hitless plan moves an address at most once, from the old decision to the new one
 use Rattle.std.proofs.Common.{◌≡◌, inl, inr, ◌⊎◌, ◌<◌, ◌≤◌, ◌++◌, List, Some, refl, sym, ap, ◌∙◌, subst, arith}
 use Rattle.std.proofs.lemmas.List.{append_assoc}
-use Rattle.swss_types.specs.declared.address.Ip.{Ip}
+use Rattle.swss_types.specs.declared.vrf.Packet.{Packet}
 use Rattle.swss_types.proofs.Most.{most_or_more}
 use Rattle.sai_types.specs.declared.thing.Thing.{Thing}
 use Rattle.sai_types.specs.Alike.{IsIn}
@@ -15,7 +15,7 @@ use Rattle.plan_laws.specs.Views.{HaveOwnNames}
 use Rattle.plan_laws.proofs.Deciders.{Decides, IsGood, IsStrongest, NoneDecides, decided, decision, good-names, none-decides, strength, strength-most, strongest-decides}
 use Rattle.plan_laws.proofs.Following.{IsUntouched, before, done-in, done-stands, new-stands, old-new, old-stands, origin, outcome-named, outcome-new, still}
 
-decides_forwarding : (a : Ip) (k : ThingName) → Decides a k → IsForwarding k
+decides_forwarding : (a : Packet) (k : ThingName) → Decides a k → IsForwarding k
 decides_forwarding a (name.Own ip) h = tt
 decides_forwarding a (name.Route p) h = tt
 decides_forwarding a _ h = elim h [ ]
@@ -26,21 +26,21 @@ good_if _ h = tt
 
 -- ---- of what decides an address the stronger is made first and removed last
 
-make_falls : (a : Ip) (k m : ThingName) → IsGood m → Decides a k → Decides a m → strength k < strength m → make_place m < make_place k
+make_falls : (a : Packet) (k m : ThingName) → IsGood m → Decides a k → Decides a m → strength k < strength m → make_place m < make_place k
 make_falls a (name.Route p) (name.Route q) good x y less = let most = strength-most (name.Route q) good in omega (arith, less, most)
 make_falls a (name.Route p) (name.Own ip) good x y less = omega (arith, less)
 make_falls a (name.Own ip) m good x y less = let most = strength-most m good in absurd (omega (arith, less, most))
 make_falls a (name.Route p) _ good x y less = elim y [ ]
 make_falls a _ _ good x y less = elim x [ ]
 
-remove_rises : (a : Ip) (k m : ThingName) → IsGood m → Decides a k → Decides a m → strength k < strength m → remove_place k < remove_place m
+remove_rises : (a : Packet) (k m : ThingName) → IsGood m → Decides a k → Decides a m → strength k < strength m → remove_place k < remove_place m
 remove_rises a (name.Route p) (name.Route q) good x y less = omega (arith, less)
 remove_rises a (name.Route p) (name.Own ip) good x y less = omega (arith, less)
 remove_rises a (name.Own ip) m good x y less = let most = strength-most m good in absurd (omega (arith, less, most))
 remove_rises a (name.Route p) _ good x y less = elim y [ ]
 remove_rises a _ _ good x y less = elim x [ ]
 
-route_set : (a : Ip) (k m : ThingName) → IsGood m → Decides a k → strength k < strength m → set_place k ≡ 800
+route_set : (a : Packet) (k m : ThingName) → IsGood m → Decides a k → strength k < strength m → set_place k ≡ 800
 route_set a (name.Route p) m good x less = refl
 route_set a (name.Own ip) m good x less = let most = strength-most m good in absurd (omega (arith, less, most))
 route_set a _ m good x less = elim x [ ]
@@ -57,7 +57,7 @@ remove_least : (k : ThingName) → 1000 ≤ remove_place k
 remove_least (name.Route p) = omega arith
 remove_least _ = omega arith
 
-module _ (a : Ip) {old new : List Thing} (old_named : HaveOwnNames old) (new_named : HaveOwnNames new) {plan : List PlanChange} (is_plan : IsViewPlan hitless_rank old new plan) where
+module _ (a : Packet) {old new : List Thing} (old_named : HaveOwnNames old) (new_named : HaveOwnNames new) {plan : List PlanChange} (is_plan : IsViewPlan hitless_rank old new plan) where
   abbrev stood : Thing → Type 0
   stood u = IsIn u old
 

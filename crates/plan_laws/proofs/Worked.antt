@@ -1,5 +1,6 @@
 -- a route that moves to another group while a second prefix covers it, worked out by computation: nothing cites it, and it shows that the definitions say what is meant
 use Rattle.std.proofs.Common.{◌≡◌, inl, inr, ℕ, false, List, [], ◌∷◌, map, take, refl, sym, ap, ◌∙◌, subst, arith, rules}
+use Rattle.swss_types.specs.Packets.{packet_to}
 use Rattle.swss_types.specs.Address.{IsProperPrefix}
 use Rattle.swss_types.specs.declared.address.Family.TheVariants.{V4}
 use Rattle.swss_types.specs.declared.address.Ip.{Ip}
@@ -125,9 +126,9 @@ roomy = 9 ∷ 9 ∷ 9 ∷ 9 ∷ 9 ∷ 9 ∷ 9 ∷ 9 ∷ 9 ∷ 9 ∷ 9 ∷ []
 they_are_legal : AreLegal roomy 8 objects calls
 they_are_legal = (refl, (refl, (refl, (refl, (refl, (refl, (refl, tt)))))))
 
--- how an address is decided after so many of them
+-- how the packets to an address are decided after so many of them
 abbrev after : ℕ → ℕ → Decision
-after n k = decide (chip_things (after_calls 8 objects (take k calls))) (ip n)
+after n k = decide (chip_things (after_calls 8 objects (take k calls))) (packet_to (ip n))
 
 -- an address of the narrow prefix goes from the old group to the new one, in one call, and never by the wide prefix
 narrow_moves : map (after 300) (0 ∷ 1 ∷ 2 ∷ 3 ∷ 4 ∷ 5 ∷ 6 ∷ 7 ∷ []) ≡ Via old_group ∷ Via old_group ∷ Via old_group ∷ Via old_group ∷ Via new_group ∷ Via new_group ∷ Via new_group ∷ Via new_group ∷ []

@@ -1,7 +1,7 @@
 -- what the old view and all new views forward equally is forwarded so, however often applies are broken off
 use Rattle.std.proofs.Common.{◌≡◌, ◌++◌, ◌+◌, ◌∷◌, ◌∙◌, ℕ, List, [], Option, None, Some, refl, sym, ap, subst}
 use Rattle.std.proofs.lemmas.List.{append_assoc}
-use Rattle.swss_types.specs.declared.address.Ip.{Ip}
+use Rattle.swss_types.specs.declared.vrf.Packet.{Packet}
 use Rattle.table_schema.specs.Plan.{Ports, IsPlan}
 use Rattle.sai_types.specs.declared.ids.Rid.{Rid}
 use Rattle.sai_types.specs.declared.body.Call.{Call}
@@ -23,7 +23,7 @@ use Rattle.restart_laws.specs.Service.{AreServiceEvents, IsServiceEvent, OfApply
 use Rattle.restart_laws.proofs.Ended.{apart, hitless-applies}
 use Rattle.restart_laws.proofs.Holding.{holds-step}
 
-module _ (plan : Ports) (is : IsPlan plan) (workers : ℕ) (capacities : List ℕ) (a : Ip) (f : Forwarding) where
+module _ (plan : Ports) (is : IsPlan plan) (workers : ℕ) (capacities : List ℕ) (a : Packet) (f : Forwarding) where
   -- the calls so far are the first ones of a hitless plan, from a chip and to a view that both forward the address so
   record IsUnderWay (s : Service) : Type 0 where
     first : Service

@@ -1,7 +1,7 @@
 -- over a log, while applies are broken off one after the other
 use Rattle.std.proofs.Common.{◌≡◌, ◌⊎◌, ◌≤◌, ◌∷◌, ◌++◌, ◌∙◌, inl, inr, ℕ, zero, suc, List, [], refl, sym, subst, arith}
 use Rattle.swss_types.specs.Address.{IsProperIp}
-use Rattle.swss_types.specs.declared.address.Ip.{Ip}
+use Rattle.swss_types.specs.declared.vrf.Packet.{Packet}
 use Rattle.table_schema.specs.Plan.{Ports}
 use Rattle.table_schema.specs.declared.write.Sent.{Sent}
 use Rattle.sai_types.specs.declared.ids.Rid.{Rid}
@@ -25,7 +25,7 @@ le_either (suc a) (suc b) = up (le_either a b)
     up (inl h) = inl (omega (arith, h))
     up (inr h) = inr (omega (arith, h))
 
-module _ (plan : Ports) (capacities : List ℕ) (taken : List Sent) (es : List (Call Rid)) (all : List Mark) (a : Ip) (proper : IsProperIp a) where
+module _ (plan : Ports) (capacities : List ℕ) (taken : List Sent) (es : List (Call Rid)) (all : List Mark) (a : Packet) (proper : IsProperIp a.to) where
   -- what holds after so many effects is carried from each mark to the next
   module _ (Q : ℕ → Type 0) (step : (m : Mark) (to : ℕ) → IsIn m all → IsOfBroken m.event → IsFollowed plan capacities taken es m m.event to → Q m.effects → (k : ℕ) → m.effects ≤ k → k ≤ to → Q k) where
     rises : (m : Mark) (e : MarkEvent) (to : ℕ) → IsOfBroken e → IsFollowed plan capacities taken es m e to → m.effects ≤ to

@@ -2,7 +2,7 @@
 use Rattle.std.proofs.Common.{◌≡◌, ◌⊎◌, ◌+◌, ◌*◌, ◌-◌, ◌≤◌, ◌∷◌, ◌++◌, ◌∙◌, ℕ, zero, suc, List, [], length, map, refl, sym, ap, subst, arith, count_by, cond}
 use Rattle.std.proofs.lemmas.List.Sums.{sum_by-append}
 use Rattle.std.proofs.lemmas.List.{append-nil, append_assoc, length-append}
-use Rattle.swss_types.specs.declared.address.Ip.{Ip}
+use Rattle.swss_types.specs.declared.vrf.Packet.{Packet}
 use Rattle.table_schema.specs.Plan.{IsPlan, Ports}
 use Rattle.table_schema.specs.declared.key.Key.{Key}
 use Rattle.sai_types.specs.declared.ids.Rid.{Rid}
@@ -233,7 +233,7 @@ module _ (plan : Ports) (is : IsPlan plan) (workers : ℕ) (capacities : List �
           (((hitless-steady applies m.xs (m.ys ++ s.service.left) m.left).1 a old).0 ∙ ap (λ o. forward (chip_things o) a) (sym start));
     }
       where
-        stays : (a : Ip) (k l : ℕ) → from ≤ k → k ≤ l → l ≤ to → decide (things_after s.effects k) a ≡ decide V a → decide (things_after s.effects l) a ≡ decide V a
+        stays : (a : Packet) (k l : ℕ) → from ≤ k → k ≤ l → l ≤ to → decide (things_after s.effects k) a ≡ decide V a → decide (things_after s.effects l) a ≡ decide V a
         stays a k l least less most now =
             let m = moment k least (omega (arith, less, most)) in
             let sum = total in

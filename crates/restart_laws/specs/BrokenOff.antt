@@ -1,7 +1,7 @@
 -- Applies that are broken off one after the other, told by the marks of a log. Own.
 use Rattle.std.specs.Prelude.{◌≡◌, ◌⊎◌, ℕ, ◌≤◌, List, [], ◌∷◌, ◌++◌}
 use Rattle.swss_types.specs.Address.{IsProperIp}
-use Rattle.swss_types.specs.declared.address.Ip.{Ip}
+use Rattle.swss_types.specs.declared.vrf.Packet.{Packet}
 use Rattle.table_schema.specs.Plan.{Ports}
 use Rattle.table_schema.specs.declared.write.Sent.{Sent}
 use Rattle.sai_types.specs.declared.body.Call.{Call}
@@ -43,7 +43,7 @@ pub record IsViewAt (plan : Ports) (taken : List Sent) (marks : List Mark) (mark
   pub apart : HaveOwnNames view
 
 -- the view of one of the marks, with at most so many effects, decides the address so
-pub record IsDecidedByView (plan : Ports) (taken : List Sent) (marks : List Mark) (k : ℕ) (a : Ip) (d : Decision) : Type 0 where
+pub record IsDecidedByView (plan : Ports) (taken : List Sent) (marks : List Mark) (k : ℕ) (a : Packet) (d : Decision) : Type 0 where
   pub mark : Mark
   pub view : List Thing
   pub of : IsViewAt plan taken marks mark view
@@ -52,5 +52,5 @@ pub record IsDecidedByView (plan : Ports) (taken : List Sent) (marks : List Mark
 
 -- over marks of hitless applies that are broken off one after the other, by faults and restarts, each address is decided after every effect as by what stood at the first of them, or as by the view of one that had begun by then; and what stood at first and all their views forward in one way is forwarded so, up to the next other mark or the end
 pub record AreSteadyOverBreaks (plan : Ports) (taken : List Sent) (effects : List (Call Rid)) (marks : List Mark) : Type 0 where
-  pub decided : (front ms behind : List Mark) (m : Mark) (a : Ip) (k : ℕ) → marks ≡ front ++ ((m ∷ ms) ++ behind) → AreOfBroken (m ∷ ms) → IsProperIp a → m.effects ≤ k → k ≤ until_next behind effects → (decide (things_after effects k) a ≡ decide (things_after effects m.effects) a) ⊎ IsDecidedByView plan taken (m ∷ ms) k a (decide (things_after effects k) a)
-  pub forwarded : (front ms behind : List Mark) (m : Mark) (a : Ip) (f : Forwarding) (k : ℕ) → marks ≡ front ++ ((m ∷ ms) ++ behind) → AreOfBroken (m ∷ ms) → IsProperIp a → forward (things_after effects m.effects) a ≡ f → ((mark : Mark) (view : List Thing) → IsViewAt plan taken (m ∷ ms) mark view → forward view a ≡ f) → m.effects ≤ k → k ≤ until_next behind effects → forward (things_after effects k) a ≡ f
+  pub decided : (front ms behind : List Mark) (m : Mark) (a : Packet) (k : ℕ) → marks ≡ front ++ ((m ∷ ms) ++ behind) → AreOfBroken (m ∷ ms) → IsProperIp a.to → m.effects ≤ k → k ≤ until_next behind effects → (decide (things_after effects k) a ≡ decide (things_after effects m.effects) a) ⊎ IsDecidedByView plan taken (m ∷ ms) k a (decide (things_after effects k) a)
+  pub forwarded : (front ms behind : List Mark) (m : Mark) (a : Packet) (f : Forwarding) (k : ℕ) → marks ≡ front ++ ((m ∷ ms) ++ behind) → AreOfBroken (m ∷ ms) → IsProperIp a.to → forward (things_after effects m.effects) a ≡ f → ((mark : Mark) (view : List Thing) → IsViewAt plan taken (m ∷ ms) mark view → forward view a ≡ f) → m.effects ≤ k → k ≤ until_next behind effects → forward (things_after effects k) a ≡ f

@@ -1,7 +1,7 @@
 // What holds of every session, over restarts and failing calls at any event. Each function is a law: it does nothing, and its contract is proved.
 ghost use Rattle.std.specs.Prelude.{◌≡◌, ◌⊎◌, ◌++◌, ◌∷◌, ℕ, ◌+◌, ◌*◌, ◌≤◌, Bool, true, List, [], Option, None, Some, length, map, take};
 ghost use Rattle.swss_types.specs.Address.{IsProperIp};
-ghost use Rattle.swss_types.specs.declared.address.Ip.{Ip};
+ghost use Rattle.swss_types.specs.declared.vrf.Packet.{Packet};
 ghost use Rattle.table_schema.specs.Plan.{Ports, IsPlan, lanes_in_plan};
 ghost use Rattle.table_schema.specs.declared.key.Key.{Key};
 ghost use Rattle.table_schema.specs.declared.write.Sent.{Sent};
@@ -100,7 +100,7 @@ pub fn apply_ends_by_its_names()
 /// Over applies that are broken off one after the other, by failing calls and restarts, an address that the chip forwarded in one
 /// way before the first of them, and that each view forwards in this way, is forwarded so after every event.
 pub fn broken_restarts_are_steady()
-    ensures { (plan : Ports) (workers : ℕ) (capacities : List ℕ) (s : Service) (es : List (Option (Call Rid) × Service)) (run : AreServiceEvents plan workers capacities s es) (a : Ip) (f : Forwarding) → IsPlan plan → Holds plan workers capacities s → (s.warm ≡ Applying → ⊥) → forward (chip_things s.core.objects) a ≡ f → AreBroken plan workers capacities a f s es run → forward (chip_things (service_after s es).core.objects) a ≡ f }
+    ensures { (plan : Ports) (workers : ℕ) (capacities : List ℕ) (s : Service) (es : List (Option (Call Rid) × Service)) (run : AreServiceEvents plan workers capacities s es) (a : Packet) (f : Forwarding) → IsPlan plan → Holds plan workers capacities s → (s.warm ≡ Applying → ⊥) → forward (chip_things s.core.objects) a ≡ f → AreBroken plan workers capacities a f s es run → forward (chip_things (service_after s es).core.objects) a ≡ f }
 {}
 
 /// Over restarts and faults, with settlings between them, each mark of a log is true; the marks stand in their order, and no round

@@ -21,6 +21,8 @@ use Rattle.sai_types.specs.declared.body.Entry.{Entry}
 use Rattle.sai_types.specs.declared.body.Entry.TheVariants as entry
 use Rattle.sai_types.specs.declared.body.To.{To}
 use Rattle.sai_types.specs.After.{has_id}
+use Rattle.swss_types.specs.Packets.{packet_to}
+use Rattle.swss_types.specs.declared.vrf.Packet.{Packet}
 use Rattle.sai_types.specs.Forwarding.{best_route, has_own, hop_mac}
 use Rattle.sai_types.specs.Named.{both, base_on, bridge_port_at, goal_by, hop_on, hops_at, named, next_hop_at, port_at, thing_of, those, vlan_at}
 use Rattle.sai_types.specs.Objects.{Objects}
@@ -83,11 +85,11 @@ module _ {R : Type 0} (F : List Thing → R) where
       past-ids [] rest all = refl
       past-ids (e ∷ es) rest all = passed (thing_of objects (entry.Oid e.0, e.1)) (map (thing_of objects) (numbered es ++ rest)) (passes_id e.0 e.1 all.0) ∙ past-ids es rest all.1
 
-own_other : (a : Ip) (t : Thing) → is_other t ≡ true → (ts : List Thing) → has_own (t ∷ ts) a ≡ has_own ts a
+own_other : (a : Packet) (t : Thing) → is_other t ≡ true → (ts : List Thing) → has_own (t ∷ ts) a ≡ has_own ts a
 own_other a (thing.Own ip) h ts = absurd (false≢true h)
 own_other a t h ts = refl
 
-best_other : (a : Ip) (t : Thing) → is_other t ≡ true → (ts : List Thing) → best_route (t ∷ ts) a ≡ best_route ts a
+best_other : (a : Packet) (t : Thing) → is_other t ≡ true → (ts : List Thing) → best_route (t ∷ ts) a ≡ best_route ts a
 best_other a (thing.Route prefix goal) h ts = absurd (false≢true h)
 best_other a t h ts = refl
 
@@ -99,26 +101,26 @@ module _ (ids : List (Rid × Body Rid)) (ips : List Ip) (ns : List ((Rid × Ip) 
   abbrev held : Objects
   held = objects_in ids ips ns rs
 
-  own_in : (a : Ip) (objects rest : Objects) → has_own (those (map (thing_of objects) rest)) a ≡ false → (xs : List Ip) → has_own (those (map (thing_of objects) (owned xs ++ rest))) a ≡ list_any (is_at (ip_ord.ghosts.cmp a)) xs
+  own_in : (a : Ip) (objects rest : Objects) → has_own (those (map (thing_of objects) rest)) (packet_to a) ≡ false → (xs : List Ip) → has_own (those (map (thing_of objects) (owned xs ++ rest))) (packet_to a) ≡ list_any (is_at (ip_ord.ghosts.cmp a)) xs
   own_in a objects rest none [] = none
   own_in a objects rest none (x ∷ xs) = let one = equal_ip.laws-law.symm x a ∙ ordered_ip.matches_eq-law a x in let others = own_in a objects rest none xs in cc
 
   -- an own address is found by itself
-  pub own-held : (a : Ip) → list_any (is_at (ip_ord.ghosts.cmp a)) ips ≡ has_own (those (named held)) a
+  pub own-held : (a : Ip) → list_any (is_at (ip_ord.ghosts.cmp a)) ips ≡ has_own (those (named held)) (packet_to a)
   own-held a =
-      let F : List Thing → Bool = λ ts. has_own ts a in
+      let F : List Thing → Bool = λ ts. has_own ts (packet_to a) in
       sym (ap (λ l. F (those l)) (sym (map-things_among held held))
-      ∙ past-ids F held (own_other a) ids (owned ips ++ (reached ns ++ routed rs)) all
+      ∙ past-ids F held (own_other (packet_to a)) ids (owned ips ++ (reached ns ++ routed rs)) all
       ∙ own_in a held (reached ns ++ routed rs)
       (past F held _ (λ e. passes-map F (λ h. thing.Neighbor h e.1) (λ h ts. refl) (hop_on held e.0.0 e.0.1)) ns (routed rs)
       ∙ past-last F held _ (λ e. passes-map F (thing.Route e.0) (λ g ts. refl) (goal_by (hops_at held) held e.1)) rs)
       ips)
 
   -- routes alone decide where other addresses go
-  pub best-held : (a : Ip) → best_route (those (named held)) a ≡ best_of held rs a
+  pub best-held : (a : Ip) → best_route (those (named held)) (packet_to a) ≡ best_of held rs a
   best-held a =
-      let F : List Thing → Option (Prefix × Goal) = λ ts. best_route ts a in
+      let F : List Thing → Option (Prefix × Goal) = λ ts. best_route ts (packet_to a) in
       ap (λ l. F (those l)) (sym (map-things_among held held))
-      ∙ past-ids F held (best_other a) ids (owned ips ++ (reached ns ++ routed rs)) all
+      ∙ past-ids F held (best_other (packet_to a)) ids (owned ips ++ (reached ns ++ routed rs)) all
       ∙ past F held _ (λ ip ts. refl) ips (reached ns ++ routed rs)
       ∙ past F held _ (λ e. passes-map F (λ h. thing.Neighbor h e.1) (λ h ts. refl) (hop_on held e.0.0 e.0.1)) ns (routed rs)

@@ -21,6 +21,7 @@ use Rattle.sai_types.specs.declared.thing.Thing.TheVariants as thing
 use Rattle.sai_types.specs.declared.body.Body.TheVariants as body
 use Rattle.sai_types.specs.declared.body.Entry.TheVariants as entry
 use Rattle.sai_types.specs.declared.body.To.{To}
+use Rattle.swss_types.specs.Packets.{packet_to}
 use Rattle.sai_types.specs.Forwarding.{best_route, decide_route, forwarding_of, longer}
 use Rattle.sai_types.specs.Named.{both, goal_by, hop_cmp, hops_at, named, next_hop_at, thing_of, those}
 use Rattle.sai_types.specs.Objects.{Objects, body_at}
@@ -34,7 +35,7 @@ use Rattle.sai_chip.specs.declared.forward.Forward.TheVariants as forward
 use Rattle.sai_chip.specs.Bodies.{best_of, routed}
 use Rattle.sai_chip.specs.Forward.{answer_of, is_longer, more_ways, pick, sent, way_of, ways_by, ways_of, with_goal}
 
-best_by : (objects : Objects) (ip : Ip) (p : Prefix) (os : List (Option Thing)) (g : Option Goal) → best_route (those (option_map (thing.Route p) g ∷ os)) ip ≡ with_goal ip p g (best_route (those os) ip)
+best_by : (objects : Objects) (ip : Ip) (p : Prefix) (os : List (Option Thing)) (g : Option Goal) → best_route (those (option_map (thing.Route p) g ∷ os)) (packet_to ip) ≡ with_goal ip p g (best_route (those os) (packet_to ip))
 best_by objects ip p os None = refl
 best_by objects ip p os (Some g) = refl
 

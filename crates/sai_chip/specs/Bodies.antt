@@ -17,6 +17,7 @@ use Rattle.sai_types.specs.declared.body.Entry.TheVariants as entry
 use Rattle.sai_types.specs.declared.body.To.{To}
 use Rattle.sai_types.specs.declared.thing.Goal.{Goal}
 use Rattle.sai_types.specs.After.{has_id, with_attr}
+use Rattle.swss_types.specs.Packets.{packet_to}
 use Rattle.sai_types.specs.Forwarding.{best_route}
 use Rattle.sai_types.specs.Made.{AreSorted}
 use Rattle.sai_types.specs.Named.{thing_of, those}
@@ -82,4 +83,4 @@ targets_set routes p a = routes
 
 -- the best of these routes, among objects
 abbrev pub best_of : Objects → List (Prefix × To Rid) → Ip → Option (Prefix × Goal)
-best_of objects routes ip = best_route (those (map (thing_of objects) (routed routes))) ip
+best_of objects routes ip = best_route (those (map (thing_of objects) (routed routes))) (packet_to ip)

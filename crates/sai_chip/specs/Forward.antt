@@ -7,6 +7,7 @@ use Rattle.swss_types.specs.declared.address.Prefix.{Prefix}
 use Rattle.sai_types.specs.declared.hop.Hop.{Hop}
 use Rattle.sai_types.specs.declared.thing.Goal.{Goal}
 use Rattle.sai_types.specs.declared.thing.Thing.TheVariants as thing
+use Rattle.swss_types.specs.Packets.{packet_to}
 use Rattle.sai_types.specs.Forwarding.{Forwarding, decision_of, forwarding_of, hop_mac, with_route}
 use Rattle.sai_types.specs.Forwarding as forwarding
 use Rattle.sai_types.specs.Named.{hop_cmp, named, those}
@@ -61,4 +62,4 @@ pick objects (Some best) (Some r) = if nat_lt best.0 r.0.len then Some (sent obj
 -- a route to this goal beside the best of others; none where it has no goal
 abbrev pub with_goal : Ip → Prefix → Option Goal → Option (Prefix × Goal) → Option (Prefix × Goal)
 with_goal ip p None r = r
-with_goal ip p (Some goal) r = with_route ip (thing.Route p goal) r
+with_goal ip p (Some goal) r = with_route (packet_to ip) (thing.Route p goal) r

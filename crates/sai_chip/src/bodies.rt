@@ -7,6 +7,7 @@ ghost use Rattle.std.specs.Map.{lookup, remove_entry};
 ghost use Rattle.std.specs.Option.{is_some, option_map};
 ghost use Rattle.sai_types.specs.After.{after_set, entry_of, has_id};
 ghost use Rattle.sai_types.specs.ChipState.{objects_of};
+ghost use Rattle.swss_types.specs.Packets.{packet_to};
 ghost use Rattle.sai_types.specs.Forwarding.{best_route, has_own, hop_mac};
 ghost use Rattle.sai_types.specs.Made.{AreSorted, HaveOneEach};
 ghost use Rattle.sai_types.specs.Named.{hop_on, named, those};
@@ -140,7 +141,7 @@ impl Bodies {
 
     /// Whether the address is one of the switch's own.
     pub fn is_own(&self, ip: Ip) -> bool
-        ensures { result ≡ has_own (those (named self.now)) ip }
+        ensures { result ≡ has_own (those (named self.now)) (packet_to ip) }
     {
         self.own.contains(&ip)
     }
@@ -156,7 +157,7 @@ impl Bodies {
 
     /// The routes by their prefixes. No other object decides where an address goes that is not the switch's own.
     pub fn routes(&self) -> &Routes
-        ensures { (ip : Ip) → best_route (those (named self.now)) ip ≡ best_of self.now result.now ip }
+        ensures { (ip : Ip) → best_route (those (named self.now)) (packet_to ip) ≡ best_of self.now result.now ip }
     {
         &self.routes
     }

@@ -2,6 +2,7 @@
 ghost use Rattle.std.specs.Prelude.{◌≡◌, true, Option, IfOk, option_map};
 ghost use Rattle.std.specs.Option.{is_some};
 ghost use Rattle.swss_types.specs.Address.{covers};
+ghost use Rattle.swss_types.specs.Packets.{packet_to};
 ghost use Rattle.sai_types.specs.Forwarding.{best_route, forward};
 ghost use Rattle.sai_types.specs.Made.{HaveOneEach, ReferWell};
 ghost use Rattle.sai_types.specs.Named.{both, goal_by, hop_on, hops_at, named, next_hop_at, those};
@@ -29,7 +30,7 @@ type Macs = BTreeMap<Hop, Option<Mac>>;
 pub fn forward_by(alloc: Global, held: &Held, ip: Ip) -> Result<Forward, OutOfMemory>
     requires refer { ReferWell held.now }
     requires one { HaveOneEach held.now }
-    ensures { IfOk result (λ f. f ≡ answer_of (forward (those (named held.now)) ip)) }
+    ensures { IfOk result (λ f. f ≡ answer_of (forward (those (named held.now)) (packet_to ip))) }
 {
     if held.bodies().is_own(ip) {
         return Ok(Forward::Cpu);
@@ -41,7 +42,7 @@ pub fn forward_by(alloc: Global, held: &Held, ip: Ip) -> Result<Forward, OutOfMe
 fn best_route(alloc: Global, held: &Held, ip: &Ip) -> Result<Option<Forward>, OutOfMemory>
     requires refer { ReferWell held.now }
     requires one { HaveOneEach held.now }
-    ensures { IfOk result (λ best. best ≡ option_map (λ r. sent held.now r.1) (best_route (those (named held.now)) ip.now)) }
+    ensures { IfOk result (λ best. best ≡ option_map (λ r. sent held.now r.1) (best_route (those (named held.now)) (packet_to ip.now))) }
 {
     let mut best = None;
     for (prefix, to) in held.bodies().routes().iter() {

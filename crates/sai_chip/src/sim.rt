@@ -7,6 +7,7 @@ ghost use Rattle.sai_types.specs.Made.{AreSorted, HaveLanes, has_first};
 ghost use Rattle.sai_types.specs.Objects.{Objects};
 ghost use Rattle.sai_types.specs.ChipState.{IsAnswered, IsListed, new_chip, objects_of};
 ghost use Rattle.sai_types.specs.Refusal.{refusal_of};
+ghost use Rattle.swss_types.specs.Packets.{packet_to};
 ghost use Rattle.sai_types.specs.Forwarding.{forward};
 ghost use Rattle.sai_types.specs.Named.{named, those};
 ghost use Rattle.sai_chip.specs.Forward.{answer_of};
@@ -87,7 +88,7 @@ impl SimChip {
     /// Where the chip sends the packets of an address: to the switch itself where the address is its own, else where
     /// the route of the longest prefix that covers the address points, with its hops in rising order, else nowhere.
     pub fn forward(&self, alloc: Global, ip: Ip) -> Result<Forward, OutOfMemory>
-        ensures { IfOk result (λ f. f ≡ answer_of (forward (those (named self.now.objects)) ip)) }
+        ensures { IfOk result (λ f. f ≡ answer_of (forward (those (named self.now.objects)) (packet_to ip))) }
     {
         keys_are_taken_once();
         forward_by(alloc, &self.held, ip)

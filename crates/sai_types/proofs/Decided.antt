@@ -9,6 +9,7 @@ use Rattle.swss_types.specs.declared.address.Family.{Family}
 use Rattle.swss_types.specs.declared.address.Family.TheVariants.{V4, V6}
 use Rattle.swss_types.specs.declared.address.Ip.{Ip}
 use Rattle.swss_types.specs.declared.address.Prefix.{Prefix}
+use Rattle.swss_types.specs.declared.vrf.Packet.{Packet}
 use Rattle.swss_types.specs.contracts.address.IpEq.TheImpl.Laws as equal_ip
 use Rattle.sai_types.specs.declared.thing.Goal.{Goal}
 use Rattle.sai_types.specs.declared.thing.Thing.{Thing}
@@ -19,13 +20,13 @@ use Rattle.sai_types.specs.Forwarding.{is_own, has_own, longer, with_route, best
 use Rattle.sai_types.proofs.Exact.{ip-exact}
 
 -- the route of the longest prefix that covers an address, where it has this prefix and goal
-pub record IsBest (things : List Thing) (a : Ip) (p : Prefix) (g : Goal) : Type 0 where
+pub record IsBest (things : List Thing) (a : Packet) (p : Prefix) (g : Goal) : Type 0 where
   pub here : IsIn (thing.Route p g) things
-  pub covering : covers p a ≡ true
-  pub longest : (q : Prefix) (h : Goal) → covers q a ≡ true → IsIn (thing.Route q h) things → q.len ≤ p.len
+  pub covering : covers p a.to ≡ true
+  pub longest : (q : Prefix) (h : Goal) → covers q a.to ≡ true → IsIn (thing.Route q h) things → q.len ≤ p.len
 
-abbrev pub IsAnswer : List Thing → Ip → Option (Prefix × Goal) → Type 0
-IsAnswer things a None = (q : Prefix) (h : Goal) → covers q a ≡ true → IsIn (thing.Route q h) things → ⊥
+abbrev pub IsAnswer : List Thing → Packet → Option (Prefix × Goal) → Type 0
+IsAnswer things a None = (q : Prefix) (h : Goal) → covers q a.to ≡ true → IsIn (thing.Route q h) things → ⊥
 IsAnswer things a (Some r) = IsBest things a r.0 r.1
 
 route_prefix : (p q : Prefix) (g h : Goal) → thing.Route p g ≡ thing.Route q h → p ≡ q
@@ -36,7 +37,7 @@ in_tail x t ts P f g (inl e) = f e
 in_tail x t ts P f g (inr i) = g i
 
 -- a thing in front that is no route or does not cover the address
-aside : (t : Thing) (ts : List Thing) (a : Ip) (o : Option (Prefix × Goal)) → ((q : Prefix) (h : Goal) → covers q a ≡ true → thing.Route q h ≡ t → ⊥) → IsAnswer ts a o → IsAnswer (t ∷ ts) a o
+aside : (t : Thing) (ts : List Thing) (a : Packet) (o : Option (Prefix × Goal)) → ((q : Prefix) (h : Goal) → covers q a.to ≡ true → thing.Route q h ≡ t → ⊥) → IsAnswer ts a o → IsAnswer (t ∷ ts) a o
 aside t ts a None apart answer = λ q h c i. in_tail (thing.Route q h) t ts ⊥ (apart q h c) (answer q h c) i
 aside t ts a (Some r) apart answer = record {
   here = inr answer.here;
@@ -53,7 +54,7 @@ le_from_not_lt m n h = grind (arith, nat_tests)
 le_from_lt : (m n : ℕ) → nat_lt m n ≡ true → m ≤ n
 le_from_lt m n h = grind (arith, nat_tests)
 
-chosen_is_answer : (b : Bool) (p : Prefix) (g : Goal) (ts : List Thing) (a : Ip) (r : Prefix × Goal) → nat_lt p.len r.0.len ≡ b → covers p a ≡ true → IsBest ts a r.0 r.1 → IsAnswer (thing.Route p g ∷ ts) a (if b then Some r else Some (p, g))
+chosen_is_answer : (b : Bool) (p : Prefix) (g : Goal) (ts : List Thing) (a : Packet) (r : Prefix × Goal) → nat_lt p.len r.0.len ≡ b → covers p a.to ≡ true → IsBest ts a r.0 r.1 → IsAnswer (thing.Route p g ∷ ts) a (if b then Some r else Some (p, g))
 chosen_is_answer true p g ts a r lt cov best = record {
   here = inr best.here;
   covering = best.covering;
@@ -65,7 +66,7 @@ chosen_is_answer false p g ts a r lt cov best = record {
   longest = λ q h c i. in_tail (thing.Route q h) (thing.Route p g) ts (q.len ≤ p.len) (λ e. len_of p q (route_prefix q p h g e)) (λ j. let one = best.longest q h c j in let two = le_from_not_lt p.len r.0.len lt in omega arith) i;
 }
 
-longer_is : (p : Prefix) (g : Goal) (ts : List Thing) (a : Ip) (o : Option (Prefix × Goal)) → covers p a ≡ true → IsAnswer ts a o → IsAnswer (thing.Route p g ∷ ts) a (longer p g o)
+longer_is : (p : Prefix) (g : Goal) (ts : List Thing) (a : Packet) (o : Option (Prefix × Goal)) → covers p a.to ≡ true → IsAnswer ts a o → IsAnswer (thing.Route p g ∷ ts) a (longer p g o)
 longer_is p g ts a None cov answer = record {
   here = inl refl;
   covering = cov;
@@ -73,12 +74,12 @@ longer_is p g ts a None cov answer = record {
 }
 longer_is p g ts a (Some r) cov answer = chosen_is_answer (nat_lt p.len r.0.len) p g ts a r refl cov answer
 
-route_is : (b : Bool) (p : Prefix) (g : Goal) (ts : List Thing) (a : Ip) (o : Option (Prefix × Goal)) → covers p a ≡ b → IsAnswer ts a o → IsAnswer (thing.Route p g ∷ ts) a (if b then longer p g o else o)
+route_is : (b : Bool) (p : Prefix) (g : Goal) (ts : List Thing) (a : Packet) (o : Option (Prefix × Goal)) → covers p a.to ≡ b → IsAnswer ts a o → IsAnswer (thing.Route p g ∷ ts) a (if b then longer p g o else o)
 route_is true p g ts a o cov answer = longer_is p g ts a o cov answer
-route_is false p g ts a o cov answer = aside (thing.Route p g) ts a o (λ q h c e. false≢true (sym cov ∙ ap (λ x. covers x a) (sym (route_prefix q p h g e)) ∙ c)) answer
+route_is false p g ts a o cov answer = aside (thing.Route p g) ts a o (λ q h c e. false≢true (sym cov ∙ ap (λ x. covers x a.to) (sym (route_prefix q p h g e)) ∙ c)) answer
 
-answer_with_thing : (t : Thing) (ts : List Thing) (a : Ip) (o : Option (Prefix × Goal)) → IsAnswer ts a o → IsAnswer (t ∷ ts) a (with_route a t o)
-answer_with_thing (thing.Route p g) ts a o answer = route_is (covers p a) p g ts a o refl answer
+answer_with_thing : (t : Thing) (ts : List Thing) (a : Packet) (o : Option (Prefix × Goal)) → IsAnswer ts a o → IsAnswer (t ∷ ts) a (with_route a t o)
+answer_with_thing (thing.Route p g) ts a o answer = route_is (covers p a.to) p g ts a o refl answer
 answer_with_thing (thing.Port x) ts a o answer = aside (thing.Port x) ts a o (λ q h c e. cc) answer
 answer_with_thing (thing.Vlan x) ts a o answer = aside (thing.Vlan x) ts a o (λ q h c e. cc) answer
 answer_with_thing (thing.BridgePort x) ts a o answer = aside (thing.BridgePort x) ts a o (λ q h c e. cc) answer
@@ -91,7 +92,7 @@ answer_with_thing (thing.Group x) ts a o answer = aside (thing.Group x) ts a o (
 answer_with_thing (thing.GroupMember x y) ts a o answer = aside (thing.GroupMember x y) ts a o (λ q h c e. cc) answer
 
 -- the best route is one of the longest prefix that covers the address
-pub answer_is : (ts : List Thing) (a : Ip) → IsAnswer ts a (best_route ts a)
+pub answer_is : (ts : List Thing) (a : Packet) → IsAnswer ts a (best_route ts a)
 answer_is [] a = λ q h c i. i
 answer_is (t ∷ ts) a = answer_with_thing t ts a (best_route ts a) (answer_is ts a)
 
@@ -125,8 +126,8 @@ prefix_unique p q a proper_p proper_q cov_p cov_q lens =
     let rest_q : q.ip.bits % 2 ^ (width a.family - p.len) ≡ 0 = ap (λ f. q.ip.bits % 2 ^ (width f - p.len)) (sym family_q) ∙ ap (λ l. q.ip.bits % 2 ^ (width q.ip.family - l)) lens ∙ proper_q.2 in
     prefix_same p q (family_p ∙ sym family_q) (whole_multiple (2 ^ (width a.family - p.len)) p.ip.bits q.ip.bits (front_p ∙ sym front_r) rest_p rest_q) lens
 
-own_is : (a : Ip) (t : Thing) → is_own a t ≡ true → thing.Own a ≡ t
-own_is a (thing.Own ip) h = ap thing.Own (sym (ip-exact ip a h))
+own_is : (a : Packet) (t : Thing) → is_own a t ≡ true → thing.Own a.to ≡ t
+own_is a (thing.Own ip) h = ap thing.Own (sym (ip-exact ip a.to h))
 own_is a (thing.Port x) h = absurd (false≢true h)
 own_is a (thing.Vlan x) h = absurd (false≢true h)
 own_is a (thing.BridgePort x) h = absurd (false≢true h)
@@ -142,16 +143,16 @@ own_by : (b c : Bool) (P Q : Type 0) → (b ≡ true → P) → (c ≡ true → 
 own_by true c P Q f g h = inl (f refl)
 own_by false c P Q f g h = inr (g h)
 
-pub has_own-in : (ts : List Thing) (a : Ip) → has_own ts a ≡ true → IsIn (thing.Own a) ts
+pub has_own-in : (ts : List Thing) (a : Packet) → has_own ts a ≡ true → IsIn (thing.Own a.to) ts
 has_own-in [] a h = absurd (false≢true h)
-has_own-in (t ∷ ts) a h = own_by (is_own a t) (has_own ts a) (thing.Own a ≡ t) (IsIn (thing.Own a) ts) (own_is a t) (has_own-in ts a) h
+has_own-in (t ∷ ts) a h = own_by (is_own a t) (has_own ts a) (thing.Own a.to ≡ t) (IsIn (thing.Own a.to) ts) (own_is a t) (has_own-in ts a) h
 
-pub in-has_own : (ts : List Thing) (a : Ip) → IsIn (thing.Own a) ts → has_own ts a ≡ true
+pub in-has_own : (ts : List Thing) (a : Packet) → IsIn (thing.Own a.to) ts → has_own ts a ≡ true
 in-has_own [] a i = absurd i
-in-has_own (t ∷ ts) a (inl e) = let here : is_own a t ≡ true = ap (is_own a) (sym e) ∙ equal_ip.laws-law.refl a in ap (λ b. b || has_own ts a) here
+in-has_own (t ∷ ts) a (inl e) = let here : is_own a t ≡ true = ap (is_own a) (sym e) ∙ equal_ip.laws-law.refl a.to in ap (λ b. b || has_own ts a) here
 in-has_own (t ∷ ts) a (inr i) = or_right (is_own a t) (has_own ts a) (in-has_own ts a i)
 
-alike_by : (ts us : List Thing) (a : Ip) (o p : Option (Prefix × Goal)) → AreRoutes us → DecideAlike ts us a → IsAnswer ts a o → IsAnswer us a p → o ≡ p
+alike_by : (ts us : List Thing) (a : Packet) (o p : Option (Prefix × Goal)) → AreRoutes us → DecideAlike ts us a → IsAnswer ts a o → IsAnswer us a p → o ≡ p
 alike_by ts us a None None routes alike x y = refl
 alike_by ts us a None (Some r) routes alike x y = absurd (x r.0 r.1 y.covering (alike.routes_back r.0 r.1 y.covering y.here))
 alike_by ts us a (Some r) None routes alike x y = absurd (y r.0 r.1 x.covering (alike.routes r.0 r.1 x.covering x.here))
@@ -160,12 +161,12 @@ alike_by ts us a (Some r) (Some s) routes alike x y =
     let below = y.longest r.0 r.1 x.covering one in
     let above = x.longest s.0 s.1 y.covering (alike.routes_back s.0 s.1 y.covering y.here) in
     let lens : r.0.len ≡ s.0.len = omega arith in
-    let same : r.0 ≡ s.0 = prefix_unique r.0 s.0 a (routes.proper r.0 r.1 one) (routes.proper s.0 s.1 y.here) x.covering y.covering lens in
+    let same : r.0 ≡ s.0 = prefix_unique r.0 s.0 a.to (routes.proper r.0 r.1 one) (routes.proper s.0 s.1 y.here) x.covering y.covering lens in
     let goals : r.1 ≡ s.1 = routes.one s.0 r.1 s.1 (subst (λ p. IsIn (thing.Route p r.1) us) same one) y.here in
     λ i. Some (same i, goals i)
 
 -- things that hold the same routes that cover an address, and hold it as an own address alike, decide it alike
-pub decide-alike : (ts us : List Thing) (a : Ip) → AreRoutes us → DecideAlike ts us a → decide ts a ≡ decide us a
+pub decide-alike : (ts us : List Thing) (a : Packet) → AreRoutes us → DecideAlike ts us a → decide ts a ≡ decide us a
 decide-alike ts us a routes alike =
     let own : has_own ts a ≡ has_own us a = both_ways (has_own ts a) (has_own us a) (λ h. in-has_own us a (alike.own (has_own-in ts a h))) (λ h. in-has_own ts a (alike.own_back (has_own-in us a h))) in
     let best : best_route ts a ≡ best_route us a = alike_by ts us a (best_route ts a) (best_route us a) routes alike (answer_is ts a) (answer_is us a) in

@@ -1,7 +1,7 @@
 -- What a decision rests on: which routes and own addresses stand, in whatever order. Own.
 use Rattle.std.specs.Prelude.{◌≡◌, true, List}
 use Rattle.swss_types.specs.Address.{IsProperPrefix, covers}
-use Rattle.swss_types.specs.declared.address.Ip.{Ip}
+use Rattle.swss_types.specs.declared.vrf.Packet.{Packet}
 use Rattle.swss_types.specs.declared.address.Prefix.{Prefix}
 use Rattle.sai_types.specs.declared.thing.Goal.{Goal}
 use Rattle.sai_types.specs.declared.thing.Thing.{Thing}
@@ -13,9 +13,9 @@ pub record AreRoutes (things : List Thing) : Type 0 where
   pub proper : (p : Prefix) (g : Goal) → IsIn (thing.Route p g) things → IsProperPrefix p
   pub one : (p : Prefix) (g h : Goal) → IsIn (thing.Route p g) things → IsIn (thing.Route p h) things → g ≡ h
 
--- the routes that cover an address, and the address as one of the switch's own, stand in both
-pub record DecideAlike (things others : List Thing) (a : Ip) : Type 0 where
-  pub own : IsIn (thing.Own a) things → IsIn (thing.Own a) others
-  pub own_back : IsIn (thing.Own a) others → IsIn (thing.Own a) things
-  pub routes : (p : Prefix) (g : Goal) → covers p a ≡ true → IsIn (thing.Route p g) things → IsIn (thing.Route p g) others
-  pub routes_back : (p : Prefix) (g : Goal) → covers p a ≡ true → IsIn (thing.Route p g) others → IsIn (thing.Route p g) things
+-- the routes that cover a packet's address, and the address as one of the switch's own, stand in both
+pub record DecideAlike (things others : List Thing) (a : Packet) : Type 0 where
+  pub own : IsIn (thing.Own a.to) things → IsIn (thing.Own a.to) others
+  pub own_back : IsIn (thing.Own a.to) others → IsIn (thing.Own a.to) things
+  pub routes : (p : Prefix) (g : Goal) → covers p a.to ≡ true → IsIn (thing.Route p g) things → IsIn (thing.Route p g) others
+  pub routes_back : (p : Prefix) (g : Goal) → covers p a.to ≡ true → IsIn (thing.Route p g) others → IsIn (thing.Route p g) things

@@ -1,9 +1,9 @@
--- What a set of things does with the packets of an address. An own address comes before every route (own rule); a route is chosen by the longest prefix that covers the address (RFC 4632 section 5.1).
+-- What a set of things does with a packet. An own address comes before every route (own rule); a route is chosen by the longest prefix that covers the address (RFC 4632 section 5.1).
 use Rattle.std.specs.Prelude.{Bool, false, ◌||◌, nat_lt, List, [], ◌∷◌, map, Option, Some, None, if◌then◌else◌}
 use Rattle.swss_types.specs.Address.{covers}
-use Rattle.swss_types.specs.declared.address.Ip.{Ip}
 use Rattle.swss_types.specs.declared.address.Mac.{Mac}
 use Rattle.swss_types.specs.declared.address.Prefix.{Prefix}
+use Rattle.swss_types.specs.declared.vrf.Packet.{Packet}
 use Rattle.sai_types.specs.declared.hop.Base.{Base}
 use Rattle.sai_types.specs.declared.hop.Hop.{Hop}
 use Rattle.sai_types.specs.contracts.hop.HopPartialEq.TheImpl as hop_eq
@@ -13,26 +13,26 @@ use Rattle.sai_types.specs.declared.thing.Thing.{Thing}
 use Rattle.sai_types.specs.declared.thing.Thing.TheVariants as thing
 use Rattle.sai_types.specs.Refusal.{same_ip}
 
--- where an address's packets go
+-- where a packet goes
 pub data Decision : Type 0 where
   Cpu : Decision
   Drop : Decision
   Direct : Base → Decision
   Via : List Hop → Decision
 
--- where an address's packets go, with the Ethernet address of each hop where its neighbour stands
+-- where a packet goes, with the Ethernet address of each hop where its neighbour stands
 pub data Forwarding : Type 0 where
   ToCpu : Forwarding
   Dropped : Forwarding
   ToAll : Base → Forwarding
   Through : List (Hop × Option Mac) → Forwarding
 
-abbrev pub is_own : Ip → Thing → Bool
-is_own a (thing.Own ip) = same_ip ip a
+abbrev pub is_own : Packet → Thing → Bool
+is_own a (thing.Own ip) = same_ip ip a.to
 is_own a _ = false
 
--- whether the address is one of the switch's own
-abbrev pub has_own : List Thing → Ip → Bool
+-- whether it goes to one of the switch's own addresses
+abbrev pub has_own : List Thing → Packet → Bool
 has_own [] a = false
 has_own (t ∷ ts) a = is_own a t || has_own ts a
 
@@ -41,12 +41,12 @@ abbrev pub longer : Prefix → Goal → Option (Prefix × Goal) → Option (Pref
 longer p g None = Some (p, g)
 longer p g (Some best) = if nat_lt p.len best.0.len then Some best else Some (p, g)
 
-abbrev pub with_route : Ip → Thing → Option (Prefix × Goal) → Option (Prefix × Goal)
-with_route a (thing.Route p g) best = if covers p a then longer p g best else best
+abbrev pub with_route : Packet → Thing → Option (Prefix × Goal) → Option (Prefix × Goal)
+with_route a (thing.Route p g) best = if covers p a.to then longer p g best else best
 with_route a _ best = best
 
 -- the route of the longest prefix that covers the address
-abbrev pub best_route : List Thing → Ip → Option (Prefix × Goal)
+abbrev pub best_route : List Thing → Packet → Option (Prefix × Goal)
 best_route [] a = None
 best_route (t ∷ ts) a = with_route a t (best_route ts a)
 
@@ -61,8 +61,8 @@ abbrev pub decide_route : Option (Prefix × Goal) → Decision
 decide_route None = Drop
 decide_route (Some route) = decision_of route.1
 
--- where an address's packets go: to the switch itself where the address is its own, else where the route of the longest prefix points, else nowhere
-abbrev pub decide : List Thing → Ip → Decision
+-- where a packet goes: to the switch itself where its address is one of the switch's own, else where the route of the longest prefix points, else nowhere
+abbrev pub decide : List Thing → Packet → Decision
 decide things a = if has_own things a then Cpu else decide_route (best_route things a)
 
 abbrev pub same_hop : Hop → Hop → Bool
@@ -81,5 +81,5 @@ forwarding_of things (Direct base) = ToAll base
 forwarding_of things (Via hops) = Through (map (λ h. (h, hop_mac things h)) hops)
 
 -- the decision with each hop's Ethernet address
-abbrev pub forward : List Thing → Ip → Forwarding
+abbrev pub forward : List Thing → Packet → Forwarding
 forward things a = forwarding_of things (decide things a)

@@ -10,7 +10,7 @@ ghost use Rattle.sai_types.specs.declared.body.Entry.{Entry};
 ghost use Rattle.sai_types.specs.Objects.{Objects, body_at};
 ghost use Rattle.sai_types.specs.Refusal.{IsLegal};
 ghost use Rattle.sai_types.specs.After.{after_call, after_calls, entry_of, with_attr};
-ghost use Rattle.swss_types.specs.declared.address.Ip.{Ip};
+ghost use Rattle.swss_types.specs.declared.vrf.Packet.{Packet};
 ghost use Rattle.sai_types.specs.declared.thing.Thing.{Thing};
 ghost use Rattle.sai_types.specs.Decided.{AreRoutes, DecideAlike};
 ghost use Rattle.sai_types.specs.Forwarding.{decide};
@@ -76,7 +76,7 @@ pub fn keys_are_taken_once()
 /// Things decide an address alike where they hold it as an own address alike, and the same routes that cover it, in
 /// whatever order. So an address has one answer, and stays decided as it was while no route that covers it changes.
 pub fn decided_by_what_stands()
-    ensures { (things others : List Thing) (a : Ip) → AreRoutes others → DecideAlike things others a → decide things a ≡ decide others a }
+    ensures { (things others : List Thing) (a : Packet) → AreRoutes others → DecideAlike things others a → decide things a ≡ decide others a }
 {}
 
 /// Hops are ordered by what their interfaces stand on, ports before VLANs, and then by address. Things are ordered by

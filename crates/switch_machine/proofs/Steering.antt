@@ -3,7 +3,7 @@ use Rattle.std.proofs.Common.{◌≡◌, ◌⊎◌, ◌<◌, ◌≤◌, ◌∷�
 use Rattle.std.proofs.Math.Seq.{take-length}
 use Rattle.std.proofs.lemmas.Bool.{false≢true}
 use Rattle.swss_types.specs.Address.{IsProperPrefix, covers}
-use Rattle.swss_types.specs.declared.address.Ip.{Ip}
+use Rattle.swss_types.specs.declared.vrf.Packet.{Packet}
 use Rattle.swss_types.specs.declared.address.Mac.{Mac}
 use Rattle.swss_types.specs.declared.address.Prefix.{Prefix}
 use Rattle.swss_types.proofs.Proper.{mapped}
@@ -60,11 +60,11 @@ mac_from (t ∷ ts) hop m h = by (front t ts hop) (λ g. mac_from ts hop m g)
 abbrev HaveOneMac : List Thing → Type 0
 HaveOneMac ts = (hop : Hop) (m n : Mac) → IsIn (thing.Neighbor hop m) ts → IsIn (thing.Neighbor hop n) ts → m ≡ n
 
-module _ (ts us : List Thing) (a : Ip) (routes : AreRoutes us) (macs : HaveOneMac us) (same : Agree (λ u. IsIn u ts) (λ u. IsIn u us) (λ u. BearsOn a (name_of u))) where
+module _ (ts us : List Thing) (a : Packet) (routes : AreRoutes us) (macs : HaveOneMac us) (same : Agree (λ u. IsIn u ts) (λ u. IsIn u us) (λ u. BearsOn a (name_of u))) where
   decided : decide ts a ≡ decide us a
   decided = decide-alike ts us a routes (record {
-    own = same.into (thing.Own a) tt;
-    own_back = same.back (thing.Own a) tt;
+    own = same.into (thing.Own a.to) tt;
+    own_back = same.back (thing.Own a.to) tt;
     routes = λ p g covering. same.into (thing.Route p g) covering;
     routes_back = λ p g covering. same.back (thing.Route p g) covering;
   })
@@ -110,7 +110,7 @@ from_list (x ∷ xs) u (inr h) = let y = from_list xs u h in (y.0, inr y.1)
 from_standing : (m : Machine) (u : Thing) → IsIn u (standing_things m) → StandsIn m u
 from_standing m u h = from_list m.stands u h
 
-bears_on : (a : Ip) (n : ThingName) → BearsOn a n → Bears n
+bears_on : (a : Packet) (n : ThingName) → BearsOn a n → Bears n
 bears_on a (name.Route p) h = tt
 bears_on a (name.Own ip) h = tt
 bears_on a (name.Neighbor hop) h = tt
@@ -140,7 +140,7 @@ module _ (plan : Ports) (is : IsPlan plan) (workers : ℕ) (capacities : List �
       one (i, x) (j, y) = let same = (kept.laid.one i j (thing.Neighbor hop m) (thing.Neighbor hop n) x y refl).1 in cc
 
   -- a change that doesn't bear on an address leaves its packets where they go
-  step : (s t : SwitchState) (call : Call Rid) (x : IsAnswer plan workers call s t) (a : Ip) → IsSafe plan workers capacities s → (BearsOn a (changed_name x.next.change) → ⊥) → (decide (standing_things t.machine) a ≡ decide (standing_things s.machine) a) × (forward (standing_things t.machine) a ≡ forward (standing_things s.machine) a)
+  step : (s t : SwitchState) (call : Call Rid) (x : IsAnswer plan workers call s t) (a : Packet) → IsSafe plan workers capacities s → (BearsOn a (changed_name x.next.change) → ⊥) → (decide (standing_things t.machine) a ≡ decide (standing_things s.machine) a) × (forward (standing_things t.machine) a ≡ forward (standing_things s.machine) a)
   step s t call x a kept none =
       same-for (standing_things t.machine) (standing_things s.machine) a (routes_stand s kept) (macs_stand s kept) (record {
         into = λ u b h. in_standing s.machine u (stood x.next.change (StandsIn s.machine u) u (apart u b) (was u (from_standing t.machine u h)));
@@ -196,7 +196,7 @@ module _ (plan : Ports) (is : IsPlan plan) (workers : ℕ) (capacities : List �
       by (Take n) can b = goes n can.goes b
 
   -- an address that the prefix doesn't cover goes on as before
-  pub outside : (s t : SwitchState) (call : Call Rid) (x : IsAnswer plan workers call s t) (prefix : Prefix) (a : Ip) → IsSafe plan workers capacities s → x.next.flight.key ≡ key.Route prefix → covers prefix a ≡ false → (decide (standing_things t.machine) a ≡ decide (standing_things s.machine) a) × (forward (standing_things t.machine) a ≡ forward (standing_things s.machine) a)
+  pub outside : (s t : SwitchState) (call : Call Rid) (x : IsAnswer plan workers call s t) (prefix : Prefix) (a : Packet) → IsSafe plan workers capacities s → x.next.flight.key ≡ key.Route prefix → covers prefix a.to ≡ false → (decide (standing_things t.machine) a ≡ decide (standing_things s.machine) a) × (forward (standing_things t.machine) a ≡ forward (standing_things s.machine) a)
   outside s t call x prefix a kept route out = step s t call x a kept (λ b. false≢true (sym out ∙ subst (BearsOn a) (route_change s call x.next prefix kept route (bears_on a (changed_name x.next.change) b)) b))
 
   -- ---- what a run of answers does to a value that only bearing changes move
@@ -287,13 +287,13 @@ module _ (plan : Ports) (is : IsPlan plan) (workers : ℕ) (capacities : List �
       one (inl e) = inl e
       one (inr (c, e, _)) = inr (c, e)
 
-  bears_none : (s t : SwitchState) (call : Call Rid) (x : IsAnswer plan workers call s t) (a : Ip) → IsSafe plan workers capacities s → (Bears (changed_name x.next.change) → ⊥) → (decide (standing_things t.machine) a ≡ decide (standing_things s.machine) a) × (forward (standing_things t.machine) a ≡ forward (standing_things s.machine) a)
+  bears_none : (s t : SwitchState) (call : Call Rid) (x : IsAnswer plan workers call s t) (a : Packet) → IsSafe plan workers capacities s → (Bears (changed_name x.next.change) → ⊥) → (decide (standing_things t.machine) a ≡ decide (standing_things s.machine) a) × (forward (standing_things t.machine) a ≡ forward (standing_things s.machine) a)
   bears_none s t call x a kept none = step s t call x a kept (λ b. none (bears_on a (changed_name x.next.change) b))
 
-  pub decides-once : (s t : SwitchState) (x : IsBegin plan workers capacities s t) (es : List (Call Rid × SwitchState)) (run : AreAnswers plan workers t es) (used : Owner → Bool) (prefix : Prefix) (a : Ip) → IsSafe plan workers capacities s → x.flight.key ≡ key.Route prefix → IsQuiet s → IsQuiet (after_answers t es) → IsUsedByOthers plan s.machine.board.applied x.flight.key used → SwitchesOnce (λ n. decide (standing_things (after_answers t (take n es)).machine) a) (decide (standing_things s.machine) a) (decide (standing_things (after_answers t es).machine) a)
+  pub decides-once : (s t : SwitchState) (x : IsBegin plan workers capacities s t) (es : List (Call Rid × SwitchState)) (run : AreAnswers plan workers t es) (used : Owner → Bool) (prefix : Prefix) (a : Packet) → IsSafe plan workers capacities s → x.flight.key ≡ key.Route prefix → IsQuiet s → IsQuiet (after_answers t es) → IsUsedByOthers plan s.machine.board.applied x.flight.key used → SwitchesOnce (λ n. decide (standing_things (after_answers t (take n es)).machine) a) (decide (standing_things s.machine) a) (decide (standing_things (after_answers t es).machine) a)
   decides-once s t x es run used prefix a kept route quiet end by =
       route-switches (λ m. decide (standing_things m) a) (λ m later e. ap (λ ts. decide (map (λ (y : Rid × Thing). y.1) ts) a) e) (λ s t call x kept none. (bears_none s t call x a kept none).0) s t x es run used prefix kept route quiet end by
 
-  pub forwards-once : (s t : SwitchState) (x : IsBegin plan workers capacities s t) (es : List (Call Rid × SwitchState)) (run : AreAnswers plan workers t es) (used : Owner → Bool) (prefix : Prefix) (a : Ip) → IsSafe plan workers capacities s → x.flight.key ≡ key.Route prefix → IsQuiet s → IsQuiet (after_answers t es) → IsUsedByOthers plan s.machine.board.applied x.flight.key used → SwitchesOnce (λ n. forward (standing_things (after_answers t (take n es)).machine) a) (forward (standing_things s.machine) a) (forward (standing_things (after_answers t es).machine) a)
+  pub forwards-once : (s t : SwitchState) (x : IsBegin plan workers capacities s t) (es : List (Call Rid × SwitchState)) (run : AreAnswers plan workers t es) (used : Owner → Bool) (prefix : Prefix) (a : Packet) → IsSafe plan workers capacities s → x.flight.key ≡ key.Route prefix → IsQuiet s → IsQuiet (after_answers t es) → IsUsedByOthers plan s.machine.board.applied x.flight.key used → SwitchesOnce (λ n. forward (standing_things (after_answers t (take n es)).machine) a) (forward (standing_things s.machine) a) (forward (standing_things (after_answers t es).machine) a)
   forwards-once s t x es run used prefix a kept route quiet end by =
       route-switches (λ m. forward (standing_things m) a) (λ m later e. ap (λ ts. forward (map (λ (y : Rid × Thing). y.1) ts) a) e) (λ s t call x kept none. (bears_none s t call x a kept none).1) s t x es run used prefix kept route quiet end by

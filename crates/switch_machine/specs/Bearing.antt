@@ -1,7 +1,7 @@
 -- Which changes bear on where packets go: those of routes, own addresses and neighbours. Own.
 use Rattle.std.specs.Prelude.{◌≡◌, ◌⊎◌, ◌<◌, ◌≤◌, ◌∷◌, ◌++◌, ℕ, true, List, [], map}
 use Rattle.swss_types.specs.Address.{covers}
-use Rattle.swss_types.specs.declared.address.Ip.{Ip}
+use Rattle.swss_types.specs.declared.vrf.Packet.{Packet}
 use Rattle.sai_types.specs.declared.ids.Rid.{Rid}
 use Rattle.sai_types.specs.declared.thing.Thing.{Thing}
 use Rattle.sai_types.specs.Alike.{IsIn}
@@ -18,9 +18,9 @@ Bears (name.Own ip) = Unit {0}
 Bears (name.Neighbor hop) = Unit {0}
 Bears _ = ⊥
 
--- and on where those of this address go
-abbrev pub BearsOn : Ip → ThingName → Type 0
-BearsOn a (name.Route prefix) = covers prefix a ≡ true
+-- and on where this packet goes
+abbrev pub BearsOn : Packet → ThingName → Type 0
+BearsOn a (name.Route prefix) = covers prefix a.to ≡ true
 BearsOn a (name.Own ip) = Unit {0}
 BearsOn a (name.Neighbor hop) = Unit {0}
 BearsOn a _ = ⊥

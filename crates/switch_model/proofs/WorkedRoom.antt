@@ -1,7 +1,7 @@
 -- room and steadiness worked out on small tables by computation: nothing cites the examples, and they show that the definitions say what is meant
 use Rattle.std.proofs.Common.{◌≡◌, ◌⊎◌, inl, inr, ℕ, true, zero, suc, ◌+◌, ◌≤◌, List, [], ◌∷◌, length, map, refl, sym, ap, ◌∙◌, subst, arith}
 use Rattle.swss_types.specs.declared.address.Family.TheVariants.{V4}
-use Rattle.swss_types.specs.declared.address.Ip.{Ip}
+use Rattle.swss_types.specs.declared.vrf.Packet.{Packet}
 use Rattle.swss_types.specs.declared.address.Prefix.{Prefix}
 use Rattle.swss_types.specs.declared.interface.IfName.TheVariants as name
 use Rattle.table_schema.specs.declared.key.Key.TheVariants as key
@@ -175,16 +175,16 @@ old_things = first_port ∷ first_interface ∷ []
 abbrev new_things : List Thing
 new_things = first_port ∷ first_interface ∷ new_route ∷ []
 
-route_decided : (a : Ip) (k : ℕ) → (k ≡ 2) ⊎ (k ≡ 3) → (decide (things_after route_calls k) a ≡ decide old_things a) ⊎ (decide (things_after route_calls k) a ≡ decide new_things a)
+route_decided : (a : Packet) (k : ℕ) → (k ≡ 2) ⊎ (k ≡ 3) → (decide (things_after route_calls k) a ≡ decide old_things a) ⊎ (decide (things_after route_calls k) a ≡ decide new_things a)
 route_decided a k (inl is) = inl (ap (λ n. decide (things_after route_calls n) a) is)
 route_decided a k (inr is) = inr (ap (λ n. decide (things_after route_calls n) a) is)
 
-route_stays : (a : Ip) (k l : ℕ) → (k ≡ 2) ⊎ (k ≡ 3) → (l ≡ 2) ⊎ (l ≡ 3) → k ≤ l → decide (things_after route_calls k) a ≡ decide new_things a → decide (things_after route_calls l) a ≡ decide new_things a
+route_stays : (a : Packet) (k l : ℕ) → (k ≡ 2) ⊎ (k ≡ 3) → (l ≡ 2) ⊎ (l ≡ 3) → k ≤ l → decide (things_after route_calls k) a ≡ decide new_things a → decide (things_after route_calls l) a ≡ decide new_things a
 route_stays a k l (inl at) (inl late) le is = ap (λ n. decide (things_after route_calls n) a) (late ∙ sym at) ∙ is
 route_stays a k l (inr at) (inl late) le is = absurd (omega (arith, at, late, le))
 route_stays a k l at (inr late) le is = ap (λ n. decide (things_after route_calls n) a) late
 
-route_forwarded : (a : Ip) (k : ℕ) → (k ≡ 2) ⊎ (k ≡ 3) → forward old_things a ≡ forward new_things a → forward (things_after route_calls k) a ≡ forward old_things a
+route_forwarded : (a : Packet) (k : ℕ) → (k ≡ 2) ⊎ (k ≡ 3) → forward old_things a ≡ forward new_things a → forward (things_after route_calls k) a ≡ forward old_things a
 route_forwarded a k (inl is) same = ap (λ n. forward (things_after route_calls n) a) is
 route_forwarded a k (inr is) same = ap (λ n. forward (things_after route_calls n) a) is ∙ sym same
 

@@ -1,7 +1,7 @@
 -- Changes of a chip that move an address's packets at most once, from where they went to where they are to go. Own.
 use Rattle.std.specs.Prelude.{◌≡◌, ◌⊎◌, ℕ, ◌≤◌, List}
 use Rattle.swss_types.specs.Address.{IsProperIp}
-use Rattle.swss_types.specs.declared.address.Ip.{Ip}
+use Rattle.swss_types.specs.declared.vrf.Packet.{Packet}
 use Rattle.sai_types.specs.declared.ids.Rid.{Rid}
 use Rattle.sai_types.specs.declared.body.Call.{Call}
 use Rattle.sai_types.specs.declared.thing.Thing.{Thing}
@@ -15,6 +15,6 @@ things_after effects k = those (named (chip_after effects k))
 
 -- from the one number of effects to the other each address is decided as in the old view or as in the new one, and once as in the new one it stays so; an address that both views forward alike is forwarded so all along
 pub record IsSteady (old new : List Thing) (effects : List (Call Rid)) (from to : ℕ) : Type 0 where
-  pub decided : (a : Ip) (k : ℕ) → IsProperIp a → from ≤ k → k ≤ to → (decide (things_after effects k) a ≡ decide old a) ⊎ (decide (things_after effects k) a ≡ decide new a)
-  pub stays : (a : Ip) (k l : ℕ) → IsProperIp a → from ≤ k → k ≤ l → l ≤ to → decide (things_after effects k) a ≡ decide new a → decide (things_after effects l) a ≡ decide new a
-  pub forwarded : (a : Ip) (k : ℕ) → IsProperIp a → from ≤ k → k ≤ to → forward old a ≡ forward new a → forward (things_after effects k) a ≡ forward old a
+  pub decided : (a : Packet) (k : ℕ) → IsProperIp a.to → from ≤ k → k ≤ to → (decide (things_after effects k) a ≡ decide old a) ⊎ (decide (things_after effects k) a ≡ decide new a)
+  pub stays : (a : Packet) (k l : ℕ) → IsProperIp a.to → from ≤ k → k ≤ l → l ≤ to → decide (things_after effects k) a ≡ decide new a → decide (things_after effects l) a ≡ decide new a
+  pub forwarded : (a : Packet) (k : ℕ) → IsProperIp a.to → from ≤ k → k ≤ to → forward old a ≡ forward new a → forward (things_after effects k) a ≡ forward old a

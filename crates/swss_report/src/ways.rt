@@ -1,5 +1,6 @@
 // Where the packets of an address go, as the report says it.
 ghost use Rattle.std.specs.Prelude.{◌≡◌, ◌++◌, flat_map, OnOk};
+ghost use Rattle.swss_types.specs.Packets.{packet_to};
 ghost use Rattle.sai_types.specs.Forwarding.{forward};
 ghost use Rattle.sai_types.specs.Named.{named, those};
 ghost use Rattle.sai_chip.specs.Forward.{answer_of};
@@ -20,7 +21,7 @@ pub(crate) fn write_forward(
     chip: &SimChip,
     ip: &Ip,
 ) -> Result<(), OutOfMemory>
-    ensures { OnOk result (out.new.items ≡ out.old.items ++ forward_text plan.now ip.now (answer_of (forward (those (named chip.now.objects)) ip.now))) }
+    ensures { OnOk result (out.new.items ≡ out.old.items ++ forward_text plan.now ip.now (answer_of (forward (those (named chip.now.objects)) (packet_to ip.now)))) }
 {
     let answer = chip.forward(alloc, *ip)?;
     out.extend_from_slice(b"forward ")?;

@@ -13,6 +13,7 @@ pub mod NameOrder
 pub mod Number
 pub mod Outside
 pub mod OutsideMemory
+pub mod Packets
 pub mod Parts
 pub mod Prefix
 pub mod Tagging

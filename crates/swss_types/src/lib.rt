@@ -19,6 +19,7 @@ mod prefix;
 mod rising;
 mod tagging;
 mod text;
+mod vrf;
 
 pub use address::{Family, Ip, Mac, Prefix, V4_BITS, V6_BITS};
 pub use bits::Bits;
@@ -37,3 +38,4 @@ pub use prefix::{has_host_bits, read_interface_address, write_interface_address}
 pub use rising::insert_rising;
 pub use tagging::Tagging;
 pub use text::Text;
+pub use vrf::{Packet, Vrf};

@@ -1,4 +1,5 @@
 use Rattle.std.proofs.Common.{◌≡◌, option_map}
+use Rattle.swss_types.specs.Packets.{packet_to}
 use Rattle.sai_types.specs.Forwarding.{best_route}
 use Rattle.sai_types.specs.Named.{named, those}
 use Rattle.sai_chip.specs.Bodies.{best_of}
@@ -7,4 +8,4 @@ use Rattle.sai_chip.proofs.forwarding.best_route.Given as goal
 
 -- the better of the best so far and of the best that is left is the best of all
 abbrev pub invariant-loop-prefix : goal.invariant-loop-prefix
-invariant-loop-prefix l = pick l.held l.best (best_of l.held l.prefix-iterator l.ip) ≡ option_map (λ r. sent l.held r.1) (best_route (those (named l.held)) l.ip)
+invariant-loop-prefix l = pick l.held l.best (best_of l.held l.prefix-iterator l.ip) ≡ option_map (λ r. sent l.held r.1) (best_route (those (named l.held)) (packet_to l.ip))
